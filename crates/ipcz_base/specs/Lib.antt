@@ -1,0 +1,4 @@
+pub mod Devices
+pub mod Ends
+pub mod Refusals
+pub mod Sides

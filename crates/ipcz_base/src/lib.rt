@@ -1,0 +1,25 @@
+//! The types that every crate of the portal routers names: sides and ends of pairs, links, parcels and items,
+//! refusals, and devices that remember whether a call failed.
+#![tactic(auto)]
+
+mod descriptor;
+mod device;
+mod end;
+mod item;
+mod link_end;
+mod link_id;
+mod parcel;
+mod refusal;
+mod sequence;
+mod side;
+
+pub use descriptor::Descriptor;
+pub use device::Device;
+pub use end::End;
+pub use item::Item;
+pub use link_end::LinkEnd;
+pub use link_id::LinkId;
+pub use parcel::Parcel;
+pub use refusal::Refusal;
+pub use sequence::{Bytes, Ends, Sequence};
+pub use side::Side;
