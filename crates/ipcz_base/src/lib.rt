@@ -12,6 +12,8 @@ mod parcel;
 mod refusal;
 mod sequence;
 mod side;
+#[cfg(test)]
+mod tests;
 
 pub use descriptor::Descriptor;
 pub use device::Device;

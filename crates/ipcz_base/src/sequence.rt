@@ -33,7 +33,7 @@ impl<T> Sequence<T> {
     pub fn from_vec(items: Vec<T>) -> Self
         ensures { result ≡ items.items }
     {
-        Sequence { items }
+        Self { items }
     }
 
     /// The vector of the elements, in their order.

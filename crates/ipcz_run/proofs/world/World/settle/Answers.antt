@@ -1,0 +1,31 @@
+use Rattle.std.proofs.Common.{◌≡◌, ◌≤◌, ◌<◌, ◌+◌, ◌-◌, suc, zero, true, ◌∙◌, ap, sym, arith}
+use Rattle.ipcz_run.specs.Acts.{is_idle}
+use Rattle.ipcz_run.specs.Settling.{settle, is_settled}
+use Rattle.ipcz_run.proofs.Turning.{turned_settled, settle_settled, settle-zero, settle-suc}
+use Rattle.ipcz_run.proofs.world.World.settle.Goals as goal
+
+pub returns-then-is_idle-clause-settled : goal.returns-then-is_idle-clause-settled
+returns-then-is_idle-clause-settled c =
+    let done : is_settled c.loop-turn.self ≡ true = sym (c.if-is_idle.ensures ∙ ap is_idle c.in_ok-act.ensures.act) in
+    sym (ap is_settled (c.loop-turn.invariant ∙ settle_settled (c.args.limit - c.loop-turn._turn) c.loop-turn.self done) ∙ done)
+
+pub returns-then-is_idle-clause-world : goal.returns-then-is_idle-clause-world
+returns-then-is_idle-clause-world c =
+    let done : is_settled c.loop-turn.self ≡ true = sym (c.if-is_idle.ensures ∙ ap is_idle c.in_ok-act.ensures.act) in
+    c.in_ok-act.ensures.ok ∙ turned_settled c.loop-turn.self done ∙ sym (c.loop-turn.invariant ∙ settle_settled (c.args.limit - c.loop-turn._turn) c.loop-turn.self done)
+
+pub loop-turn-preserved : goal.loop-turn-preserved
+loop-turn-preserved c =
+    let left : c.args.limit - c.loop-turn._turn ≡ suc (c.args.limit - (c.loop-turn._turn + 1)) = omega arith in
+    c.loop-turn.invariant ∙ ap (λ n. settle n c.loop-turn.self) left ∙ settle-suc (c.args.limit - (c.loop-turn._turn + 1)) c.loop-turn.self
+    ∙ ap (settle (c.args.limit - (c.loop-turn._turn + 1))) (sym c.in_ok-act.ensures.ok)
+
+pub returns-clause-settled : goal.returns-clause-settled
+returns-clause-settled c =
+    let none : c.args.limit - c.loop-turn._turn ≡ zero = omega arith in
+    c.is_idle-2.ensures ∙ ap is_idle c.next.ensures.act ∙ sym (ap is_settled (c.loop-turn.invariant ∙ ap (λ n. settle n c.loop-turn.self) none ∙ settle-zero c.loop-turn.self))
+
+pub returns-clause-world : goal.returns-clause-world
+returns-clause-world c =
+    let none : c.args.limit - c.loop-turn._turn ≡ zero = omega arith in
+    sym (c.loop-turn.invariant ∙ ap (λ n. settle n c.loop-turn.self) none ∙ settle-zero c.loop-turn.self)

@@ -1,0 +1,44 @@
+-- The books: what each end has put and what it has got; and the machine over them alone.
+use Rattle.std.specs.Prelude.{◌≡◌, ℕ, Bool, true, false, cond, ◌&&◌, nat_eq, Option, Some, List, [], ◌∷◌, ◌++◌, length, slice_get}
+use Rattle.ipcz_base.specs.declared.end.End.{End}
+use Rattle.ipcz_base.specs.declared.parcel.Parcel.{Parcel}
+use Rattle.ipcz_base.specs.Ends.{opposite_end, same_end}
+use Rattle.ipcz_run.specs.Calls.{parcel_of}
+use Rattle.ipcz_run.specs.Steps.{Step, Answer, Open, Put, Get, Turn, Opened, Accepted, Got, Turned, Refused}
+
+-- for each end the parcels that it has put, and those that it has got
+pub record Books : Type 0 where
+  pub put : End → List Parcel
+  pub got : End → List Parcel
+
+-- the books at the start
+abbrev pub no_books : Books
+no_books = record { put = λ e. []; got = λ e. [] }
+
+-- the end has put a parcel more
+abbrev pub add_put : Books → End → Parcel → Books
+add_put b e p = record b { put = λ d. cond (same_end d e) (b.put e ++ p ∷ []) (b.put d) }
+
+-- the end has got a parcel more
+abbrev pub add_got : Books → End → Parcel → Books
+add_got b e p = record b { got = λ d. cond (same_end d e) (b.got e ++ p ∷ []) (b.got d) }
+
+-- the books after the answer of a step: an accepted put and a get that finds a parcel write, nothing else does
+unfoldable pub advance : Books → Step → Answer → Books
+advance b (Put at bytes) (Accepted n) = add_put b at (parcel_of bytes)
+advance b (Get at) (Got n p) = add_got b at p
+advance b step answer = b
+
+-- how many parcels of its peer an end has got
+abbrev pub read : Books → End → ℕ
+read b e = length (b.got e)
+
+-- the next parcel of its peer that an end gets
+abbrev pub next_parcel : Books → End → Option Parcel
+next_parcel b e = slice_get (b.put (opposite_end e)) (read b e)
+
+-- what the machine over books alone allows: a put gets the next number of its end, a get the next parcel of the peer
+abbrev pub Plain : Books → Step → Answer → Books → Type 0
+Plain b (Put at bytes) (Accepted n) c = (n ≡ length (b.put at)) × (c ≡ add_put b at (parcel_of bytes))
+Plain b (Get at) (Got n p) c = (n ≡ read b at) × (next_parcel b at ≡ Some p) × (c ≡ add_got b at p)
+Plain b step answer c = c ≡ b

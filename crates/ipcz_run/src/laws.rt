@@ -1,0 +1,26 @@
+//! What holds of a run, for every list of steps: theorems on the definitions that the contracts of the node and the world
+//! cite. The functions do nothing; each one's promise is a theorem.
+ghost use Rattle.ipcz_run.specs.Laws.{StartsLawful, StepKeepsLawful, AnswersPlainly, DeliversInOrder};
+
+/// The world at the start is lawful, with nothing put and nothing got (docs/PROTOCOL.md, "Nodes").
+pub fn starts_lawful()
+    ensures { StartsLawful }
+{}
+
+/// Each step keeps a world lawful, with the books written up by its answer; a turn may take any act that is possible, not only
+/// the first (docs/PROTOCOL.md, "Turns").
+pub fn step_keeps_lawful()
+    ensures { StepKeepsLawful }
+{}
+
+/// Of a lawful world each answer is one that the books alone allow: a put gets the next number of its end, and a get the
+/// next parcel of the peer (docs/PROTOCOL.md, "Parcels and items").
+pub fn answers_plainly()
+    ensures { AnswersPlainly }
+{}
+
+/// After any list of steps from the start each portal has got a prefix of what its peer put, and each accepted parcel that
+/// isn't got yet stands in exactly one queue or message (docs/PROTOCOL.md, "Gap queues").
+pub fn delivers_in_order()
+    ensures { DeliversInOrder }
+{}
