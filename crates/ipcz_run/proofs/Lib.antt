@@ -16,6 +16,7 @@ pub mod Putting
 pub mod ReadingLaws
 pub mod Replies
 pub mod Scans
+pub mod ScriptRuns
 pub mod Serials
 pub mod Steps
 pub mod Taken

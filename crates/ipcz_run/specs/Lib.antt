@@ -12,6 +12,7 @@ pub mod Node
 pub mod Places
 pub mod Reading
 pub mod Rooms
+pub mod ScriptLaws
 pub mod ScriptNames
 pub mod Scripts
 pub mod Serials

@@ -14,13 +14,13 @@ pub fn step_keeps_lawful()
 {}
 
 /// Of a lawful world each answer is one that the books alone allow: a put gets the next number of its end, and a get the
-/// next parcel of the peer (docs/PROTOCOL.md, "Parcels and items").
+/// next parcel of the peer (docs/PROTOCOL.md, "Books and the headline").
 pub fn answers_plainly()
     ensures { AnswersPlainly }
 {}
 
 /// After any list of steps from the start each portal has got a prefix of what its peer put, and each accepted parcel that
-/// isn't got yet stands in exactly one queue or message (docs/PROTOCOL.md, "Gap queues").
+/// isn't got yet stands in exactly one queue or message (docs/PROTOCOL.md, "Books and the headline").
 pub fn delivers_in_order()
     ensures { DeliversInOrder }
 {}

@@ -2,6 +2,7 @@ use Rattle.std.proofs.Common.{◌≡◌, ◌≤◌, ◌<◌, ◌+◌, length, su
 use Rattle.std.specs.Io.KnownBytes.{Appends}
 use Rattle.ipcz_run.specs.WholeIo.{AppendsFront}
 use Rattle.ipcz_run.specs.Transcript.{IsOutput}
+use Rattle.ipcz_run.proofs.ScriptRuns.{scripts_deliver}
 use Rattle.ipcz_run.proofs.run.run_script.Goals as goal
 
 pub returns-in_default-write_whole-clause-run : goal.returns-in_default-write_whole-clause-run
@@ -22,3 +23,15 @@ returns-clause-run g c = (
   subst (λ input. IsOutput input c.in-Ok.outcome c.in-Ok.text.items) c.deref.ensures.value c.in-Ok.ensures,
   subst (Appends (g.W.Write.contents c.args.writer.now.inner) (g.W.Write.contents c.write_whole.new.device.inner)) c.deref-2.ensures.value c.in-Ok-write_whole.ensures.done,
 )
+
+pub returns-in_err-input-clause-delivers : goal.returns-in_err-input-clause-delivers
+returns-in_err-input-clause-delivers g c = scripts_deliver
+
+pub returns-in_default-clause-delivers : goal.returns-in_default-clause-delivers
+returns-in_default-clause-delivers g c = scripts_deliver
+
+pub returns-in_default-write_whole-clause-delivers : goal.returns-in_default-write_whole-clause-delivers
+returns-in_default-write_whole-clause-delivers g c = scripts_deliver
+
+pub returns-clause-delivers : goal.returns-clause-delivers
+returns-clause-delivers g c = scripts_deliver

@@ -1,0 +1,10 @@
+-- What holds whatever a script asks: what its portals have got, and where its parcels stand.
+use Rattle.std.specs.Prelude.{ℕ, List}
+use Rattle.ipcz_run.specs.declared.script.command.Command.{Command}
+use Rattle.ipcz_run.specs.Books.{no_books}
+use Rattle.ipcz_run.specs.Laws.{Delivered}
+use Rattle.ipcz_run.specs.Sessions.{new_session, session_after, books_after}
+
+-- law: after any commands of a script, each portal has got a prefix of what its peer put, and each accepted parcel not yet got stands in exactly one queue or message
+abbrev pub ScriptsDeliver : Type 0
+ScriptsDeliver = (words : ℕ) (commands : List Command) → Delivered (session_after (new_session words) commands).world (books_after no_books (new_session words) commands)
