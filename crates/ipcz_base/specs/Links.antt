@@ -1,5 +1,5 @@
 -- Links, and which of them are the same.
-use Rattle.std.specs.Prelude.{ℕ, Bool, true, false, ◌&&◌, nat_eq, Option, Some, None}
+use Rattle.std.specs.Prelude.{Bool, true, false, ◌&&◌, nat_eq, Option, Some, None}
 use Rattle.ipcz_base.specs.declared.side.Side.{Side}
 use Rattle.ipcz_base.specs.Sides.{same_side}
 use Rattle.ipcz_base.specs.declared.link_id.LinkId.{LinkId}

@@ -9,7 +9,7 @@ use Rattle.ipcz_seq.specs.Queue.{Queue, IsReach, item_at, current_item, pop_fron
 use Rattle.ipcz_edge.specs.Edge.{Edge, choose, no_edge}
 use Rattle.ipcz_router.specs.Router.{Router, router_has, outward_has}
 use Rattle.ipcz_router.specs.Calls.{accept, accept_from_outward, has_place_for}
-use Rattle.ipcz_router.specs.Acts.{way_out, way_in, is_possible, next_act, apply, applied, sent_over, pop_out, rest}
+use Rattle.ipcz_router.specs.Acts.{way_out, way_in, is_possible, apply, applied, sent_over, pop_out, rest}
 use Rattle.ipcz_router.specs.declared.router_act.RouterAct.{RouterAct}
 use Rattle.ipcz_router.specs.declared.router_act.RouterAct.TheVariants.{SendOut, SendIn, Rest}
 use Rattle.ipcz_run.specs.declared.node.message.Message.{Message}

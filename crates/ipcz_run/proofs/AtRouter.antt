@@ -1,6 +1,6 @@
 -- What the calls and the acts of a node are, once the router is found.
-use Rattle.std.proofs.Common.{◌≡◌, ◌≢◌, ℕ, ◌&&◌, ◌||◌, Bool, true, false, cond, not, List, [], ◌∷◌, refl, sym, ◌∙◌, ap, subst, arith, None, Some, Option, is_some, nat_lt}
-use Rattle.std.specs.Prelude.{◌<◌, IfSome, IsSomeAnd, if◌then◌else◌, is_none, Result, Ok, Err, IfOk, OnOk}
+use Rattle.std.proofs.Common.{◌≡◌, ℕ, Bool, true, false, cond, List, [], ◌∷◌, refl, sym, ◌∙◌, ap, subst, None, Some, Option}
+use Rattle.std.specs.Prelude.{IfSome, IsSomeAnd, is_none, Result, Ok, Err, IfOk, OnOk}
 use Rattle.std.specs.Ordering.{nat_cmp}
 use Rattle.std.specs.FinMap.{FinMap, get, entries}
 use Rattle.ipcz_base.specs.declared.side.Side.{Side}
@@ -14,11 +14,10 @@ use Rattle.ipcz_router.specs.Acts.{apply, applied}
 use Rattle.ipcz_router.specs.declared.router_act.RouterAct.{RouterAct}
 use Rattle.ipcz_router.specs.declared.answer.Answer.TheVariants.{Plain}
 use Rattle.ipcz_router.specs.declared.applied.Applied.TheVariants.{Nothing, Sent}
-use Rattle.ipcz_run.specs.Node.{Node, Found, found, first_where, terminal_of, link_router, on_found, with_router, push_out}
+use Rattle.ipcz_run.specs.Node.{Node, found, first_where, terminal_of, link_router, on_found, with_router, push_out}
 use Rattle.ipcz_run.specs.Finding.{IsFound}
 use Rattle.ipcz_run.specs.Calls.{put_refusal, parcel_refusal, put_number, put_node, put_at_router, get_refusal, get_node, get_at_router, refusal_at, number_at}
 use Rattle.ipcz_run.specs.Acts.{has_place_at, deliver_item, take_in, commit_router, send, item_message}
-use Rattle.ipcz_run.specs.Steps.{Answer, get_answer, got_answer}
 
 -- what is there and passes
 pub taken : {A : Type 0} (o : Option A) (P : A → Type 0) → IsSomeAnd o P → (x : A) × (o ≡ Some x) × P x

@@ -1,11 +1,10 @@
 -- An item that its router refuses for another cause than memory has no place there.
-use Rattle.std.proofs.Common.{◌≡◌, ◌≢◌, ℕ, ◌&&◌, ◌||◌, Bool, true, false, cond, not, refl, sym, ◌∙◌, ap, arith, is_some, nat_lt}
-use Rattle.std.specs.Prelude.{nat_le, is_none, None, Some, Option, if◌then◌else◌}
+use Rattle.std.proofs.Common.{◌≡◌, ◌≢◌, ℕ, ◌&&◌, ◌||◌, Bool, true, false, cond, not, refl, arith, is_some, nat_lt}
+use Rattle.std.specs.Prelude.{is_none, None, Some, Option}
 use Rattle.std.proofs.lemmas.Bool.Decides.{nat_tests}
 use Rattle.ipcz_base.specs.declared.side.Side.{Side}
 use Rattle.ipcz_base.specs.declared.item.Item.{Item}
 use Rattle.ipcz_base.specs.declared.link_id.LinkId.{LinkId}
-use Rattle.ipcz_base.specs.declared.refusal.Refusal.{Refusal}
 use Rattle.ipcz_base.specs.declared.refusal.Refusal.TheVariants.{OutOfMemory, Passed, Occupied, Stranger}
 use Rattle.ipcz_base.specs.Limits.{no_number}
 use Rattle.ipcz_seq.specs.Queue.{Queue, push_refusal, has_place, item_at}

@@ -1,5 +1,5 @@
 -- What a step of the world is, done or refused, and what a command is replied for it.
-use Rattle.std.proofs.Common.{◌≡◌, ◌≢◌, ℕ, refl, sym, ◌∙◌, ap, None, Some, Option}
+use Rattle.std.proofs.Common.{◌≡◌, ◌≢◌, ℕ, sym, ◌∙◌, ap, None, Some, Option}
 use Rattle.std.specs.Prelude.{unwrap_or, Result, Ok, Err, IfOk, OnOk, List}
 use Rattle.std.specs.declared.alloc.AllocError.{AllocError}
 use Rattle.ipcz_base.specs.declared.refusal.Refusal.{Refusal}
@@ -13,7 +13,7 @@ use Rattle.ipcz_run.specs.Calls.{end_at, put_refusal, put_number, put_node, get_
 use Rattle.ipcz_run.specs.Node.{terminal_of}
 use Rattle.ipcz_run.specs.Bindings.{Bindings}
 use Rattle.ipcz_run.specs.Sessions.{heard, bound}
-use Rattle.ipcz_run.specs.Steps.{Outcome, Answer, Opened, Accepted, unless, refuse, open_refusal, open_world, open_step, put_step, get_step, get_answer}
+use Rattle.ipcz_run.specs.Steps.{Outcome, Opened, Accepted, unless, refuse, open_refusal, open_world, open_step, put_step, get_step, get_answer}
 
 -- the step is done where nothing refuses it
 pub unless-none : (w : World) (o : Option Refusal) (done : Outcome) → o ≡ None → unless w o done ≡ done

@@ -1,17 +1,17 @@
 -- The entries of the map, and the first of them that passes a test.
-use Rattle.std.proofs.Common.{◌≡◌, ℕ, zero, suc, ◌+◌, ◌<◌, ◌≤◌, Bool, true, false, cond, ◌&&◌, T, List, [], ◌∷◌, length, get_or, refl, sym, ◌∙◌, ap, subst, arith, None, Some, Option}
+use Rattle.std.proofs.Common.{◌≡◌, ℕ, zero, suc, ◌+◌, ◌<◌, Bool, true, false, cond, ◌&&◌, T, List, [], ◌∷◌, length, get_or, refl, sym, ◌∙◌, ap, subst, arith, None, Some}
 use Rattle.std.specs.Prelude.{IsSomeAnd}
 use Rattle.std.specs.Ordering.{nat_cmp, is_lt}
 use Rattle.std.specs.declared.cmp.Ordering.TheVariants.{Less}
 use Rattle.std.specs.Cmp.{nat_cmp_total, nat_cmp_is}
 use Rattle.std.specs.List.{position_from}
-use Rattle.std.specs.FinMap.{FinMap, get, entries, from_entries, from_sorted, get-from_entries, get-from_sorted, entries-from_sorted, same_map, nat_cmp-IsAntisymmetric, is_sorted}
+use Rattle.std.specs.FinMap.{get, entries, from_sorted, get-from_entries, get-from_sorted, entries-from_sorted, same_map, nat_cmp-IsAntisymmetric, is_sorted}
 use Rattle.std.specs.FinMap.Entries.{below_all}
 use Rattle.ipcz_router.specs.Router.{Router}
 use Rattle.ipcz_router.specs.RoomyRouters.{RoomyRouter}
 use Rattle.ipcz_run.specs.Serials.{entries_by, map_by, AreRising, key_at}
 use Rattle.ipcz_run.proofs.Serials.{get_at}
-use Rattle.ipcz_run.specs.Node.{Found, first_where}
+use Rattle.ipcz_run.specs.Node.{first_where}
 use Rattle.ipcz_run.specs.Finding.{IsFound}
 
 lt : (a b : ℕ) → a < b → T (is_lt (nat_cmp a b))

@@ -1,19 +1,17 @@
 -- Each command of a script keeps the world lawful, since it is a list of steps.
-use Rattle.std.proofs.Common.{◌≡◌, ℕ, zero, suc, ◌&&◌, ◌||◌, Bool, true, false, cond, List, [], ◌∷◌, Option, Some, None, refl, sym, ◌∙◌, ap, subst, inl}
+use Rattle.std.proofs.Common.{◌≡◌, ℕ, zero, suc, ◌&&◌, ◌||◌, Bool, true, false, cond, List, [], ◌∷◌, Option, Some, None, refl, sym, ap, subst, inl}
 use Rattle.std.specs.Prelude.{IsTrue, if◌then◌else◌}
 use Rattle.std.specs.FinMap.{get}
 use Rattle.ipcz_base.specs.declared.end.End.{End}
 use Rattle.ipcz_router.specs.Router.{Router}
 use Rattle.ipcz_router.specs.Acts.{is_possible, next_act}
-use Rattle.ipcz_router.specs.declared.router_act.RouterAct.{RouterAct}
 use Rattle.ipcz_router.specs.declared.router_act.RouterAct.TheVariants.{SendOut, SendIn, Rest}
 use Rattle.ipcz_run.specs.declared.script.command.Command.{Command}
 use Rattle.ipcz_run.specs.declared.script.command.Command.TheVariants as commands
-use Rattle.ipcz_run.specs.declared.world.act.Act.{Act}
-use Rattle.ipcz_run.specs.declared.world.act.Act.TheVariants.{Hand, Look, Post, Router as OfRouter, Idle}
-use Rattle.ipcz_run.specs.Node.{Found, router_in, flagged_router}
+use Rattle.ipcz_run.specs.declared.world.act.Act.TheVariants.{Hand, Look, Post}
+use Rattle.ipcz_run.specs.Node.{Found, flagged_router}
 use Rattle.ipcz_run.specs.World.{World}
-use Rattle.ipcz_run.specs.Acts.{is_in_hand, is_full, is_clear, has_mail, router_turn, next, is_idle, is_rest, may_take, may_act, can_take, acted}
+use Rattle.ipcz_run.specs.Acts.{is_in_hand, is_full, is_clear, has_mail, router_turn, next, is_idle, is_rest, may_take, may_act, can_take}
 use Rattle.ipcz_run.specs.Steps as steps
 use Rattle.ipcz_run.specs.Steps.{open_step, put_step, get_step}
 use Rattle.ipcz_run.specs.Settling.{turned, is_settled, settle}

@@ -1,10 +1,10 @@
 -- Entries by rising serials, as a finite map.
-use Rattle.std.proofs.Common.{◌≡◌, ◌≢◌, ◌==◌, ℕ, zero, suc, ◌+◌, ◌-◌, ◌<◌, ◌≤◌, Bool, true, false, cond, List, [], ◌∷◌, ◌++◌, length, get_or, refl, sym, ◌∙◌, ap, subst, arith, None, Some, Option, is_some, ◌⊎◌, inl, inr, MatchOption, IfSome, slice_set}
-use Rattle.std.specs.Prelude.{remove as without, slice_get}
+use Rattle.std.proofs.Common.{◌≡◌, ◌==◌, ℕ, zero, suc, ◌+◌, ◌<◌, ◌≤◌, true, false, cond, List, [], ◌∷◌, ◌++◌, length, get_or, refl, sym, ◌∙◌, ap, subst, arith, None, Some, Option, inl, inr, MatchOption, IfSome, slice_set}
+use Rattle.std.specs.Prelude.{remove as without}
 use Rattle.std.specs.Ordering.{nat_cmp, eq_by_cmp}
 use Rattle.std.specs.Cmp.{nat_cmp_total}
 use Rattle.std.specs.List.{position_from}
-use Rattle.std.specs.FinMap.{FinMap, find, get, from_entries, from_entries_push, get-from_entries, get-insert, get-remove, insert, remove, same_map, nat_cmp-IsAntisymmetric}
+use Rattle.std.specs.FinMap.{find, get, from_entries, from_entries_push, get-from_entries, get-insert, get-remove, insert, remove, same_map, nat_cmp-IsAntisymmetric}
 use Rattle.ipcz_seq.proofs.Pairs.{missing, equal, tied, apart, one_or_two}
 use Rattle.ipcz_run.specs.Serials.{entries_by, map_by, AreRising, key_at}
 

@@ -1,5 +1,5 @@
 -- A turn of a router, and what settling comes to.
-use Rattle.std.proofs.Common.{◌≡◌, ℕ, zero, suc, ◌+◌, ◌-◌, Bool, true, false, cond, refl, sym, ◌∙◌, ap, subst, arith, None, Some, Option}
+use Rattle.std.proofs.Common.{◌≡◌, ℕ, zero, suc, true, false, cond, refl, sym, ◌∙◌, ap, subst, None, Some}
 use Rattle.std.specs.Prelude.{IsSomeAnd}
 use Rattle.ipcz_router.specs.Router.{Router}
 use Rattle.ipcz_router.specs.Acts.{next_act}

@@ -1,10 +1,10 @@
 -- The books: what each end has put and what it has got; and the machine over them alone.
-use Rattle.std.specs.Prelude.{◌≡◌, ℕ, Bool, true, false, cond, ◌&&◌, nat_eq, Option, Some, List, [], ◌∷◌, ◌++◌, length, slice_get}
+use Rattle.std.specs.Prelude.{◌≡◌, ℕ, cond, Option, Some, List, [], ◌∷◌, ◌++◌, length, slice_get}
 use Rattle.ipcz_base.specs.declared.end.End.{End}
 use Rattle.ipcz_base.specs.declared.parcel.Parcel.{Parcel}
 use Rattle.ipcz_base.specs.Ends.{opposite_end, same_end}
 use Rattle.ipcz_run.specs.Calls.{parcel_of}
-use Rattle.ipcz_run.specs.Steps.{Step, Answer, Open, Put, Get, Turn, Opened, Accepted, Got, Turned, Refused}
+use Rattle.ipcz_run.specs.Steps.{Step, Answer, Put, Get, Accepted, Got}
 
 -- for each end the parcels that it has put, and those that it has got
 pub record Books : Type 0 where

@@ -1,5 +1,5 @@
 -- What opening a pair, putting a parcel and getting one do to the node.
-use Rattle.std.specs.Prelude.{ℕ, ◌+◌, Bool, not, nat_lt, nat_le, if◌then◌else◌, Option, Some, None, List, [], length}
+use Rattle.std.specs.Prelude.{ℕ, not, nat_lt, if◌then◌else◌, Option, Some, None, List, [], length}
 use Rattle.ipcz_base.specs.declared.side.Side.{Side}
 use Rattle.ipcz_base.specs.declared.side.Side.TheVariants.{A, B}
 use Rattle.ipcz_base.specs.declared.end.End.{End}

@@ -8,12 +8,11 @@ use Rattle.ipcz_base.specs.declared.item.Item.TheVariants.{Parcel}
 use Rattle.ipcz_base.specs.declared.refusal.Refusal.{Refusal}
 use Rattle.ipcz_base.specs.declared.refusal.Refusal.TheVariants as refusals
 use Rattle.ipcz_seq.specs.Queue.{current_item}
-use Rattle.ipcz_router.specs.Router.{Router}
 use Rattle.ipcz_run.specs.declared.world.act.Act.{Act}
 use Rattle.ipcz_run.specs.Node.{Found, terminal_of}
 use Rattle.ipcz_run.specs.Calls.{end_at, open_node, serials_refusal, put_refusal, put_node, put_number, get_refusal, get_node}
 use Rattle.ipcz_run.specs.World.{World, with_node}
-use Rattle.ipcz_run.specs.Acts.{next, can_take, acted}
+use Rattle.ipcz_run.specs.Acts.{can_take, acted}
 
 -- what is asked of the world
 pub data Step : Type 0 where

@@ -6,7 +6,6 @@ use Rattle.ipcz_run.specs.declared.script.command.Command.{Command}
 use Rattle.ipcz_run.specs.declared.script.Script.{Script}
 use Rattle.ipcz_run.specs.declared.script.reply.Reply.{Reply}
 use Rattle.ipcz_run.specs.declared.script.reply.Reply.TheVariants as replies
-use Rattle.ipcz_run.specs.declared.script.script_fault.ScriptFault.{ScriptFault}
 use Rattle.ipcz_run.specs.declared.script.outcome.Outcome.{Outcome}
 use Rattle.ipcz_run.specs.declared.script.outcome.Outcome.TheVariants as outcomes
 use Rattle.ipcz_run.specs.declared.script.run_fault.RunFault.{RunFault}

@@ -128,3 +128,6 @@ pub fn run_script<R: Read, W: Write>(
     };
     Ok(outcome)
 }
+
+#[cfg(test)]
+mod tests;

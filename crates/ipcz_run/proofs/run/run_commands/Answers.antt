@@ -1,4 +1,4 @@
-use Rattle.std.proofs.Common.{◌≡◌, ◌+◌, ◌++◌, ◌||◌, ◌∙◌, ◌∷◌, [], false, drop, ap, sym, append-nil}
+use Rattle.std.proofs.Common.{◌+◌, ◌++◌, ◌||◌, ◌∙◌, drop, ap, sym, append-nil}
 use Rattle.std.specs.List.{list_any}
 use Rattle.ipcz_run.specs.Transcript.{lines_from, replies_from, is_unsettled}
 use Rattle.ipcz_run.proofs.Transcripts.{next_of, past, lines_next, any_next, or_none}

@@ -1,5 +1,4 @@
-use Rattle.std.proofs.Common.{◌≡◌, ◌∙◌, ap, sym}
-use Rattle.ipcz_run.specs.declared.script.reply.Reply.TheVariants as replies
+use Rattle.std.proofs.Common.{◌∙◌, ap, sym}
 use Rattle.ipcz_run.specs.Sessions.{heard}
 use Rattle.ipcz_run.specs.Steps.{get_step}
 use Rattle.ipcz_run.proofs.Replies.{got, unless-some, heard-refused}

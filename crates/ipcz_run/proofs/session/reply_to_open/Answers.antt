@@ -1,5 +1,4 @@
-use Rattle.std.proofs.Common.{◌≡◌, ◌∙◌, ap, sym}
-use Rattle.ipcz_run.specs.declared.script.reply.Reply.TheVariants as replies
+use Rattle.std.proofs.Common.{◌∙◌, ap, sym}
 use Rattle.ipcz_run.specs.Sessions.{heard, bound}
 use Rattle.ipcz_run.specs.Steps.{open_step}
 use Rattle.ipcz_run.proofs.Replies.{opened, unless-refused, refused_reply, refused_world, refused_names}

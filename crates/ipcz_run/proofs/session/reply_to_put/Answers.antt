@@ -1,4 +1,4 @@
-use Rattle.std.proofs.Common.{◌≡◌, ◌∙◌, ap, sym}
+use Rattle.std.proofs.Common.{◌∙◌, ap, sym}
 use Rattle.ipcz_run.specs.declared.script.reply.Reply.TheVariants as replies
 use Rattle.ipcz_run.specs.Sessions.{heard}
 use Rattle.ipcz_run.specs.Steps.{put_step}

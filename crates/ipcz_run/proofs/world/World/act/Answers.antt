@@ -1,4 +1,4 @@
-use Rattle.std.proofs.Common.{◌≡◌, ◌∙◌, ap, sym, Some}
+use Rattle.std.proofs.Common.{◌∙◌, ap}
 use Rattle.ipcz_run.specs.Node.{router_in}
 use Rattle.ipcz_run.specs.World.{World, with_node}
 use Rattle.ipcz_run.specs.Acts.{commit_router}

@@ -1,4 +1,4 @@
-use Rattle.std.proofs.Common.{◌≡◌, ◌≤◌, ◌<◌, ◌+◌, ◌-◌, suc, zero, true, ◌∙◌, ap, sym, arith}
+use Rattle.std.proofs.Common.{◌≡◌, ◌+◌, ◌-◌, suc, zero, true, ◌∙◌, ap, sym, arith}
 use Rattle.ipcz_run.specs.Acts.{is_idle}
 use Rattle.ipcz_run.specs.Settling.{settle, is_settled}
 use Rattle.ipcz_run.proofs.Turning.{turned_settled, settle_settled, settle-zero, settle-suc}

@@ -1,9 +1,7 @@
-use Rattle.std.proofs.Common.{◌≡◌, ◌<◌, ◌&&◌, ap, sym, subst, ◌∙◌, refl, arith, true, false, Some, nat_lt}
-use Rattle.std.specs.Prelude.{is_none}
+use Rattle.std.proofs.Common.{◌≡◌, ◌∙◌, refl, arith, false, Some, nat_lt}
 use Rattle.std.proofs.lemmas.Bool.Decides.{nat_tests}
 use Rattle.ipcz_base.specs.Limits.{no_number}
-use Rattle.ipcz_router.specs.Router.{Router, outward_has}
-use Rattle.ipcz_router.specs.Calls.{has_place_for}
+use Rattle.ipcz_router.specs.Router.{Router}
 use Rattle.ipcz_run.specs.Node.{router_in, link_router, found}
 use Rattle.ipcz_run.proofs.AtRouter.{taken, has_place_at-found, has_place_at-none, accepted, unfit}
 use Rattle.ipcz_run.proofs.node.state.NodeState.accept.Goals as goal

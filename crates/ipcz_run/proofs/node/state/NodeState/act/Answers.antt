@@ -1,4 +1,4 @@
-use Rattle.std.proofs.Common.{◌≡◌, ap, sym, subst, Some, None, refl}
+use Rattle.std.proofs.Common.{◌≡◌, ap, sym, Some}
 use Rattle.ipcz_run.proofs.AtRouter.{commit_router-nothing, commit_router-sent}
 use Rattle.ipcz_run.proofs.node.state.NodeState.act.Goals as goal
 use Rattle.std.proofs.Common.{◌∙◌}

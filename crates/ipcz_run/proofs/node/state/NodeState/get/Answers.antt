@@ -1,4 +1,4 @@
-use Rattle.std.proofs.Common.{◌≡◌, ap, sym, subst, Some, None, refl}
+use Rattle.std.proofs.Common.{◌≡◌, ap, Some, refl}
 use Rattle.ipcz_router.specs.Router.{Router}
 use Rattle.ipcz_run.specs.Node.{router_in, terminal_of, found}
 use Rattle.ipcz_run.specs.Calls.{refusal_at}
