@@ -1,5 +1,6 @@
 ghost use Rattle.std.specs.Prelude.{◌≡◌, Some, None, IsSome, is_some, true, false, if◌then◌else◌};
-ghost use Rattle.ipcz_base.specs.Links.{has_link, is_at, same_side, same_link};
+ghost use Rattle.ipcz_base.specs.Links.{has_link, is_at, same_link};
+ghost use Rattle.ipcz_base.specs.Sides.{same_side};
 ghost use Rattle.ipcz_edge.specs.Edge.{LengthsAreOfDecay, edge_of, edge_decays, is_empty, is_short_of, has_come_to, choose, can_finish, begin_decay, set_primary, set_length_to, set_length_from, finish, edge_has};
 
 use ipcz_base::{LinkEnd, LinkId, Side};

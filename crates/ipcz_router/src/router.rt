@@ -1,4 +1,4 @@
-ghost use Rattle.std.specs.Prelude.{◌≡◌, ◌<◌, ◌≤◌, ◌-◌, ◌^◌, Some, None, true, false, IsOk, IfOk, IfErr, IfNone, OnOk, OnSome, unwrap_or};
+ghost use Rattle.std.specs.Prelude.{◌≡◌, ◌<◌, ◌≤◌, Some, None, true, false, IsOk, IfOk, IfErr, IfNone, OnOk, OnSome, unwrap_or};
 ghost use Rattle.ipcz_base.specs.Limits.{last_number, no_number};
 ghost use Rattle.ipcz_seq.specs.Queue.{current_item, has_place, push_refusal};
 ghost use Rattle.ipcz_router.specs.Router.{IsOpenTerminal, is_terminal, is_open_terminal, outward_has, inward_has, router_has, new_terminal, terminal, from_descriptor, proxy_link, roused};

@@ -1,6 +1,8 @@
 //! `ipcz_run` reads a script from standard input, runs it on one node, and writes its transcript to standard output.
 #![tactic(auto)]
 
+ghost use Rattle.std.specs.Prelude.{◌≡◌, false};
+
 pub mod laws;
 pub mod node;
 pub mod run;
@@ -12,7 +14,9 @@ use ipcz_base::Device;
 use run::run_script;
 use script::outcome::Outcome;
 use script::run_fault::RunFault;
+use std::alloc::AllocError;
 use std::env::Env;
+use std::io::{ErrorKind, Write};
 use std::process::ExitCode;
 use std::{env, io};
 
@@ -30,20 +34,30 @@ fn status_of(ending: Result<Outcome, RunFault>) -> u8 {
     }
 }
 
-fn has_arguments(rt: &(impl Env + Alloc)) -> bool {
+// One that is not UTF-8 counts; no memory to look at them is an error.
+fn has_arguments(rt: &(impl Env + Alloc)) -> Result<bool, AllocError> {
     match env::args(rt) {
-        Ok(arguments) => arguments.count() > 1,
-        Err(_) => true,
+        Ok(arguments) => Ok(arguments.count() > 1),
+        Err(why) if why.kind() == ErrorKind::OutOfMemory => Err(AllocError),
+        Err(_) => Ok(true),
+    }
+}
+
+fn write_usage(writer: &mut Device<impl Write>) -> ExitCode
+    requires { writer.old.failed ≡ false }
+{
+    match script::whole_io::write_whole(writer, USAGE) {
+        Ok(()) => ExitCode::from(2),
+        Err(_) => ExitCode::from(1),
     }
 }
 
 fn main(rt: HostRuntime) -> ExitCode {
     let mut writer = Device::new(io::writer(&rt));
-    if has_arguments(&rt) {
-        return match script::whole_io::write_whole(&mut writer, USAGE) {
-            Ok(()) => ExitCode::from(2),
-            Err(_) => ExitCode::from(1),
-        };
+    match has_arguments(&rt) {
+        Ok(false) => {}
+        Ok(true) => return write_usage(&mut writer),
+        Err(AllocError) => return ExitCode::from(3),
     }
     let mut reader = Device::new(rt.reader());
     let ending = run_script(rt.alloc(), &mut reader, &mut writer);
