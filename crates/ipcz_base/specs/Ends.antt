@@ -1,4 +1,5 @@
 -- The two ends of a pair of portals.
+-- (ipcz: the two portals of a pair.)
 use Rattle.std.specs.Prelude.{Bool, ◌&&◌, nat_eq}
 use Rattle.ipcz_base.specs.Sides.{opposite, same_side}
 use Rattle.ipcz_base.specs.declared.end.End.{End}

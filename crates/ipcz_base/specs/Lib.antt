@@ -2,6 +2,7 @@ pub mod Devices
 pub mod Ends
 pub mod Limits
 pub mod Links
+pub mod Orders
 pub mod Refusals
 pub mod Sides
 pub mod Texts

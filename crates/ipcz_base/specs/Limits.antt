@@ -1,4 +1,5 @@
 -- The limits of numbers.
+-- (This project's own.)
 use Rattle.std.specs.Prelude.{ℕ, ◌-◌, ◌^◌}
 
 -- the greatest number of an item

@@ -1,4 +1,5 @@
 -- Links, and which of them are the same.
+-- (ipcz: RouterLink, which is central or peripheral. How links are numbered is this project's own.)
 use Rattle.std.specs.Prelude.{Bool, true, false, ◌&&◌, nat_eq, Option, Some, None}
 use Rattle.ipcz_base.specs.declared.side.Side.{Side}
 use Rattle.ipcz_base.specs.Sides.{same_side}

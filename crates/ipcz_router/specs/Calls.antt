@@ -1,4 +1,5 @@
 -- What put, get, an item's coming and a move do to a router, and why they are refused.
+-- (ipcz: put and get of a portal; a parcel's coming at a router, inbound or outbound; the making of a new router's descriptor.)
 use Rattle.std.specs.Prelude.{ℕ, Bool, true, false, ◌&&◌, nat_le, nat_lt, if◌then◌else◌, Option, Some, None}
 use Rattle.ipcz_base.specs.declared.side.Side.{Side}
 use Rattle.ipcz_base.specs.declared.link_id.LinkId.{LinkId}

@@ -1,4 +1,5 @@
 -- A router: its end, its edges, its queues and its flags.
+-- (ipcz: Router, with its two edges and its inbound and outbound parcels. How its flags are cut is this project's own.)
 use Rattle.std.specs.Prelude.{◌≡◌, ℕ, Bool, true, false, not, ◌&&◌, ◌||◌, Option, None, is_none, unwrap_or}
 use Rattle.ipcz_base.specs.declared.side.Side.{Side}
 use Rattle.ipcz_base.specs.declared.side.Side.TheVariants.{A, B}

@@ -2,10 +2,12 @@ pub mod Acts
 pub mod AtRouter
 pub mod Changes
 pub mod CommandCount
+pub mod Directories
 pub mod Ends
 pub mod Fitting
 pub mod Found
 pub mod Getting
+pub mod Indexes
 pub mod JsonLists
 pub mod KnownBytes
 pub mod Maps
@@ -15,9 +17,9 @@ pub mod Places
 pub mod Putting
 pub mod ReadingLaws
 pub mod Replies
-pub mod Scans
 pub mod ScriptRuns
 pub mod Serials
+pub mod SortedSets
 pub mod Steps
 pub mod Taken
 pub mod TextKeys

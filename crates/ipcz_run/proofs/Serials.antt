@@ -1,33 +1,22 @@
 -- Entries by rising serials, as a finite map.
-use Rattle.std.proofs.Common.{◌≡◌, ◌==◌, ℕ, zero, suc, ◌+◌, ◌<◌, ◌≤◌, true, false, cond, List, [], ◌∷◌, ◌++◌, length, get_or, refl, sym, ◌∙◌, ap, subst, arith, None, Some, Option, inl, inr, MatchOption, IfSome, slice_set}
+use Rattle.std.proofs.Common.{◌≡◌, ◌≢◌, ◌==◌, Bool, ◌&&◌, T, ℕ, zero, suc, ◌+◌, ◌<◌, ◌≤◌, true, false, cond, List, [], ◌∷◌, ◌++◌, length, get_or, refl, sym, ◌∙◌, ap, subst, arith, None, Some, Option, inl, inr, MatchOption, IfSome, slice_set}
 use Rattle.std.specs.Prelude.{remove as without}
-use Rattle.std.specs.Ordering.{nat_cmp, eq_by_cmp}
-use Rattle.std.specs.Cmp.{nat_cmp_total}
-use Rattle.std.specs.List.{position_from}
-use Rattle.std.specs.FinMap.{find, get, from_entries, from_entries_push, get-from_entries, get-insert, get-remove, insert, remove, same_map, nat_cmp-IsAntisymmetric}
-use Rattle.ipcz_seq.proofs.Pairs.{missing, equal, tied, apart, one_or_two}
+use Rattle.std.specs.declared.cmp.Ordering.TheVariants.{Less, Equal, Greater}
+use Rattle.std.specs.Ordering.{nat_cmp, eq_by_cmp, ordering_index, is_lt}
+use Rattle.std.specs.Cmp.{nat_cmp_total, nat_cmp_is}
+use Rattle.std.specs.List.Sorted.{IsNonDecreasingBy, IsPartitionPoint}
+use Rattle.std.proofs.lemmas.Bool.{cases_lt}
+use Rattle.std.proofs.lemmas.Bool.Decides.{nat_tests}
+use Rattle.std.proofs.lemmas.Cmp.{ranked}
+use Rattle.std.specs.FinMap.Entries.{below_all}
+use Rattle.std.specs.FinMap.{len, len-entries, entries, from_sorted, get-from_sorted, entries-from_sorted, is_sorted, find, get, from_entries, from_entries_push, get-from_entries, get-insert, get-remove, insert, remove, same_map, nat_cmp-IsAntisymmetric}
+use Rattle.ipcz_seq.proofs.Pairs.{tied, apart, one_or_two}
 use Rattle.ipcz_run.specs.Serials.{entries_by, map_by, AreRising, key_at}
-
-pub placed : {X : Type 0} (n j : ℕ) (es : List (ℕ × X)) (i : ℕ) → position_from (λ e. e.0 == n) j es ≡ Some i → (k : ℕ) × (i ≡ j + k) × (key_at es k ≡ Some n)
-placed n j [] i h = cc
-placed {X} n j (e ∷ es) i h =
-    elim (e.0 == n) as (λ b. (e.0 == n) ≡ b → cond b (Some j) (position_from (λ d. d.0 == n) (j + 1) es) ≡ Some i → (k : ℕ) × (i ≡ j + k) × (key_at (e ∷ es) k ≡ Some n)) [
-      | true ↦ λ t g. (0, (let same : j ≡ i = cc in omega arith), ap (λ m. Some m) (equal _ _ t))
-      | false ↦ λ t g. let r = placed n (j + 1) es i g in (suc r.0, omega (arith, r.1), r.2)
-    ] refl h
-
-pub place_says : {X : Type 0} (n : ℕ) (es : List (ℕ × X)) (r : Option ℕ) → r ≡ position_from (λ e. e.0 == n) 0 es → MatchOption r (find nat_cmp n es ≡ None) (λ i. key_at es i ≡ Some n)
-place_says n es None h = missing n 0 es (sym h)
-place_says n es (Some i) h = let k = placed n 0 es i (sym h) in subst (λ j. key_at es j ≡ Some n) (let same : k.0 ≡ i = omega (arith, k.1) in same) k.2
 
 pub key_within : {X : Type 0} (n : ℕ) (es : List (ℕ × X)) (i : ℕ) → key_at es i ≡ Some n → i < length es
 key_within n [] i h = cc
 key_within n (e ∷ es) zero h = omega arith
 key_within n (e ∷ es) (suc i) h = omega (arith, key_within n es i h)
-
-pub place_within : {X : Type 0} (n : ℕ) (es : List (ℕ × X)) (r : Option ℕ) → MatchOption r (find nat_cmp n es ≡ None) (λ i. key_at es i ≡ Some n) → IfSome r (λ i. i < length es)
-place_within n es None h = tt
-place_within n es (Some i) h = key_within n es i h
 
 -- the serial at an index is from the first one on
 pub key_from : {X : Type 0} (f n s : ℕ) (es : List (ℕ × X)) (i : ℕ) → AreRising f n es → key_at es i ≡ Some s → f ≤ s
@@ -86,7 +75,7 @@ key_is s (e ∷ es) zero d h = cc
 key_is s (e ∷ es) (suc i) d h = key_is s es i d h
 
 -- an entry more
-find_above : {X V : Type 0} (g : X → V) (f n s : ℕ) (es : List (ℕ × X)) → AreRising f n es → n ≤ s → find nat_cmp s (entries_by g es) ≡ None
+pub find_above : {X V : Type 0} (g : X → V) (f n s : ℕ) (es : List (ℕ × X)) → AreRising f n es → n ≤ s → find nat_cmp s (entries_by g es) ≡ None
 find_above g f n s [] r h = refl
 find_above g f n s (e ∷ es) r h = rw (apart s e.0 (omega (arith, r.1))) (find_above g (e.0 + 1) n s es r.2 h)
 
@@ -147,3 +136,78 @@ read_key s es i e h is = ap (λ d. d.0) is ∙ key_is s es i e h
 
 pub read_value : {X V : Type 0} (g : X → V) (f n s : ℕ) (es : List (ℕ × X)) (i : ℕ) (e : ℕ × X) → AreRising f n es → key_at es i ≡ Some s → e ≡ get_or es i e → Some (g e.1) ≡ get (map_by g es) s
 read_value g f n s es i e r h is = ap (λ (d : _). Some (g d.1)) is ∙ sym (get_at g f n s es i e r h)
+
+-- serials that rise are below each higher number too
+pub rising_up : {X : Type 0} (f n m : ℕ) (es : List (ℕ × X)) → n ≤ m → AreRising f n es → AreRising f m es
+rising_up f n m [] le r = omega (arith, le, r)
+rising_up f n m (e ∷ es) le r = (r.0, omega (arith, le, r.1), rising_up (e.0 + 1) n m es le r.2)
+
+-- the map's entries are the list
+lt : (a b : ℕ) → a < b → T (is_lt (nat_cmp a b))
+lt a b h = subst (λ r. T (is_lt r)) (nat_cmp_is a b Less h) tt
+
+both_true : (a b : Bool) → T a → T b → T (a && b)
+both_true true b p q = q
+both_true false b p q = p
+
+below : {X : Type 0} (x f n : ℕ) (es : List (ℕ × X)) → x < f → AreRising f n es → T (below_all nat_cmp x es)
+below x f n [] h r = tt
+below x f n (e ∷ es) h r = both_true _ _ (lt x e.0 (omega (arith, r.0))) (below x (e.0 + 1) n es (omega (arith, r.0)) r.2)
+
+sorted : {X : Type 0} (f n : ℕ) (es : List (ℕ × X)) → AreRising f n es → T (is_sorted nat_cmp es)
+sorted f n [] r = tt
+sorted f n (e ∷ es) r = both_true _ _ (below e.0 (e.0 + 1) n es (omega arith) r.2) (sorted (e.0 + 1) n es r.2)
+
+rising_by : {X V : Type 0} (g : X → V) (f n : ℕ) (es : List (ℕ × X)) → AreRising f n es → AreRising f n (entries_by g es)
+rising_by g f n [] r = r
+rising_by g f n (e ∷ es) r = (r.0, r.1, rising_by g (e.0 + 1) n es r.2)
+
+pub entries_are : {X V : Type 0} (g : X → V) (f n : ℕ) (es : List (ℕ × X)) → AreRising f n es → entries (map_by g es) ≡ entries_by g es
+entries_are g f n es r =
+    let up : T (is_sorted nat_cmp (entries_by g es)) = sorted f n (entries_by g es) (rising_by g f n es r) in
+    ap entries (same_map nat_cmp_total nat_cmp-IsAntisymmetric (map_by g es) (from_sorted (entries_by g es)) (λ q. get-from_entries nat_cmp_total (entries_by g es) q ∙ sym (get-from_sorted nat_cmp (entries_by g es) q up)))
+    ∙ entries-from_sorted nat_cmp (entries_by g es) up
+
+-- what halving finds among rising serials
+from_first : {X : Type 0} (f n : ℕ) (es : List (ℕ × X)) (j : ℕ) (d : ℕ × X) → AreRising f n es → j < length es → f ≤ (get_or es j d).0
+from_first f n [] j d r within = absurd (omega (arith, within))
+from_first f n (e ∷ es) zero d r within = r.0
+from_first f n (e ∷ es) (suc j) d r within = omega (arith, r.0, from_first (e.0 + 1) n es j d r.2 (omega (arith, within)))
+
+serials_rise : {X : Type 0} (f n : ℕ) (es : List (ℕ × X)) (i j : ℕ) (d : ℕ × X) → AreRising f n es → i ≤ j → j < length es → (get_or es i d).0 ≤ (get_or es j d).0
+serials_rise f n [] i j d r le within = absurd (omega (arith, within))
+serials_rise f n (e ∷ es) zero zero d r le within = omega arith
+serials_rise f n (e ∷ es) zero (suc j) d r le within = omega (arith, from_first (e.0 + 1) n es j d r.2 (omega (arith, within)))
+serials_rise f n (e ∷ es) (suc i) zero d r le within = absurd (omega (arith, le))
+serials_rise f n (e ∷ es) (suc i) (suc j) d r le within = serials_rise (e.0 + 1) n es i j d r.2 (omega (arith, le)) (omega (arith, within))
+
+comparisons_rise : {X : Type 0} (f n s : ℕ) (es : List (ℕ × X)) → AreRising f n es → IsNonDecreasingBy (λ e. ordering_index (nat_cmp e.0 s)) es
+comparisons_rise f n s es r i j d le within =
+    let up : (get_or es i d).0 ≤ (get_or es j d).0 = serials_rise f n es i j d r le within in
+    grind (arith, nat_tests)
+
+pub halved_at : {X : Type 0} (s : ℕ) (es : List (ℕ × X)) (i : ℕ) → i < length es → ((d : ℕ × X) → nat_cmp (get_or es i d).0 s ≡ Equal) → key_at es i ≡ Some s
+halved_at s [] i within tie = absurd (omega (arith, within))
+halved_at s (e ∷ es) zero within tie = ap (λ k. Some k) (ranked e.0 s Equal (sym (tie e)))
+halved_at s (e ∷ es) (suc i) within tie = halved_at s es i (omega (arith, within)) tie
+
+absent_where : {X : Type 0} (s : ℕ) (es : List (ℕ × X)) → ((j : ℕ) (d : ℕ × X) → j < length es → (get_or es j d).0 ≢ s) → find nat_cmp s es ≡ None
+absent_where s [] other = refl
+absent_where s (e ∷ es) other = rw (apart s e.0 (λ same. other 0 e (omega arith) (sym same))) (absent_where s es (λ j d within. other (suc j) d (omega (arith, within))))
+
+pub halved_off : {X : Type 0} (f n s : ℕ) (es : List (ℕ × X)) (i : ℕ) → AreRising f n es → (IsNonDecreasingBy (λ e. ordering_index (nat_cmp e.0 s)) es → IsPartitionPoint (λ e. nat_cmp e.0 s ≡ Less) (λ e. nat_cmp e.0 s ≡ Greater) es i)
+    → find nat_cmp s es ≡ None
+halved_off f n s es i r parts =
+    let sides = parts (comparisons_rise f n s es r) in
+    absent_where s es (λ j d within. elim (cases_lt j i) [
+      | inl before ↦ λ same. (let less : (get_or es j d).0 < s = ranked _ s Less (sym (sides.0 j d (omega arith) before)) in omega (arith, less, same))
+      | inr behind ↦ λ same. (let more : s < (get_or es j d).0 = ranked _ s Greater (sym (sides.1 j d behind within)) in omega (arith, more, same))
+    ])
+
+-- how many there are
+pub count_is : {X V : Type 0} (g : X → V) (f n : ℕ) (es : List (ℕ × X)) → AreRising f n es → length es ≡ len (map_by g es)
+count_is g f n es r = sym (len-entries (map_by g es) ∙ ap length (entries_are g f n es r) ∙ same_length es)
+  where
+    same_length : (ds : List (ℕ × _)) → length (entries_by g ds) ≡ length ds
+    same_length [] = refl
+    same_length (d ∷ ds) = ap suc (same_length ds)

@@ -1,4 +1,5 @@
 -- The acts of the node: when each is possible, which comes first, and what it does to the world.
+-- (This project's own: ipcz's nodes send and take messages whenever a transport does.)
 use Rattle.std.specs.Prelude.{ℕ, Bool, true, false, not, ◌&&◌, ◌||◌, if◌then◌else◌, nat_eq, Option, Some, None, List, [], ◌∷◌, length}
 use Rattle.ipcz_base.specs.declared.side.Side.{Side}
 use Rattle.ipcz_base.specs.declared.link_id.LinkId.{LinkId}

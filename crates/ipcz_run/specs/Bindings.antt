@@ -1,4 +1,5 @@
 -- Which end each name of a script is bound to.
+-- (This project's own.)
 use Rattle.std.specs.Prelude.{List, map, String, string_bytes}
 use Rattle.std.specs.Global.{Global}
 use Rattle.std.specs.Ordering.{nat_cmp}

@@ -1,4 +1,5 @@
 -- The books: what each end has put and what it has got; and the machine over them alone.
+-- (This project's own: ipcz states what a portal's owner may expect, and has no such books.)
 use Rattle.std.specs.Prelude.{◌≡◌, ℕ, cond, Option, Some, List, [], ◌∷◌, ◌++◌, length, slice_get}
 use Rattle.ipcz_base.specs.declared.end.End.{End}
 use Rattle.ipcz_base.specs.declared.parcel.Parcel.{Parcel}

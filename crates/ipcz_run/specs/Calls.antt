@@ -1,4 +1,5 @@
 -- What opening a pair, putting a parcel and getting one do to the node.
+-- (ipcz: opening a pair of portals, putting and getting.)
 use Rattle.std.specs.Prelude.{ℕ, not, nat_lt, if◌then◌else◌, Option, Some, None, List, [], length}
 use Rattle.ipcz_base.specs.declared.side.Side.{Side}
 use Rattle.ipcz_base.specs.declared.side.Side.TheVariants.{A, B}

@@ -1,4 +1,5 @@
 -- What holds after any list of steps: each portal has got a prefix of what its peer put, and nothing is lost or doubled.
+-- (This project's own, for ipcz's promise that parcels come in order and are not lost.)
 use Rattle.std.specs.Prelude.{◌≡◌, ◌≤◌, ◌<◌, ℕ, true, Some, None, List, [], ◌∷◌, length, map, take, drop}
 use Rattle.ipcz_base.specs.declared.end.End.{End}
 use Rattle.ipcz_base.specs.declared.item.Item.{Item}

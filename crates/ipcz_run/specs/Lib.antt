@@ -2,8 +2,10 @@ pub mod Acts
 pub mod Bindings
 pub mod Books
 pub mod Calls
+pub mod Directories
 pub mod Faults
 pub mod Finding
+pub mod Indexes
 pub mod Laws
 pub mod Lending
 pub mod Limits
@@ -19,6 +21,7 @@ pub mod Serials
 pub mod Sessions
 pub mod Settling
 pub mod Shapes
+pub mod SortedSets
 pub mod Steps
 pub mod Transcript
 pub mod Turns

@@ -1,4 +1,5 @@
 -- The limits of parcels and serials.
+-- (This project's own.)
 use Rattle.std.specs.Prelude.{ℕ, ◌+◌, ◌-◌, ◌^◌, Bool, ◌&&◌, nat_le, List}
 use Rattle.std.specs.List.{list_all}
 

@@ -1,4 +1,5 @@
 -- One line of the transcript.
+-- (This project's own.)
 use Rattle.std.specs.Prelude.{ℕ, List, [], ◌∷◌, ◌++◌, codes}
 use Rattle.std.specs.Fmt.{decimal}
 use Rattle.ipcz_base.specs.Refusals.{name_of}

@@ -1,4 +1,5 @@
 -- The node: its routers, the messages that wait to be posted, and the messages that didn't fit.
+-- (ipcz: Node. Outboxes and strays are this project's own.)
 use Rattle.std.specs.Prelude.{ℕ, ◌+◌, Bool, ◌&&◌, if◌then◌else◌, Option, Some, None, List, [], ◌∷◌, ◌++◌}
 use Rattle.std.specs.Ordering.{nat_cmp}
 use Rattle.std.specs.FinMap.{FinMap, get, insert, empty, entries}

@@ -1,4 +1,5 @@
 -- The places where an item stands: the out queues, the in queues, the outbox, the mailbox or the hand, and the strays.
+-- (This project's own.)
 use Rattle.std.specs.Prelude.{ℕ, ◌+◌, cond, Option, Some, None, List, [], ◌∷◌}
 use Rattle.ipcz_base.specs.declared.side.Side.{Side}
 use Rattle.ipcz_base.specs.declared.end.End.{End}

@@ -1,4 +1,5 @@
 -- What holds whatever a script asks: what its portals have got, and where its parcels stand.
+-- (This project's own.)
 use Rattle.std.specs.Prelude.{ℕ, List}
 use Rattle.ipcz_run.specs.declared.script.command.Command.{Command}
 use Rattle.ipcz_run.specs.Books.{no_books}

@@ -1,4 +1,5 @@
 -- A session: the world with the names that a script has bound to ends, and what each command does to it.
+-- (This project's own.)
 use Rattle.std.specs.Prelude.{ℕ, if◌then◌else◌, Option, Some, None, List, [], ◌∷◌}
 use Rattle.std.specs.FinMap.{get, insert, empty}
 use Rattle.ipcz_base.specs.declared.end.End.{End}

@@ -1,4 +1,5 @@
 -- Settling: turns are taken until none but idle is possible, or until so many acts were taken.
+-- (This project's own.)
 use Rattle.std.specs.Prelude.{ℕ, zero, suc, Bool, if◌then◌else◌}
 use Rattle.ipcz_run.specs.World.{World}
 use Rattle.ipcz_run.specs.Acts.{next, is_idle, acted}

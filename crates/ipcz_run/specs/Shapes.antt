@@ -1,4 +1,5 @@
 -- Which command a JSON value is.
+-- (This project's own.)
 use Rattle.std.specs.Prelude.{ℕ, ◌-◌, ◌&&◌, List, [], ◌∷◌, Bool, not, nat_le, bytes_eq, codes, if◌then◌else◌, Option, Some, None, option_and_then, option_map}
 use Rattle.serde_json.specs.Data.{Data, Items, no_items, item}
 use Rattle.serde_json.specs.Find.{as_array, as_number, as_str, as_u64}

@@ -1,4 +1,5 @@
 -- What a node's routers do next.
+-- (ipcz: Router::Flush, for the routers that were touched. The order is this project's own.)
 use Rattle.std.specs.Prelude.{◌≡◌, ℕ, Option, Some, None, IsSomeAnd}
 use Rattle.ipcz_router.specs.Acts.{next_act}
 use Rattle.ipcz_router.specs.declared.router_act.RouterAct.{RouterAct}

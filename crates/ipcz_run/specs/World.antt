@@ -1,4 +1,5 @@
 -- The world of one node: the node, its mailbox, and how many link words are claimed.
+-- (This project's own: ipcz's nodes are processes, with transports between them.)
 use Rattle.std.specs.Prelude.{ℕ, Option}
 use Rattle.std.specs.FinMap.{get}
 use Rattle.ipcz_router.specs.Router.{Router}

@@ -1,5 +1,5 @@
 //! The world of one node: the node, its mailbox, and how many link words are claimed.
-ghost use Rattle.std.specs.Prelude.{◌≡◌, ◌+◌, ◌<◌, ◌≤◌, ◌-◌, Some, None, IsOk, OnOk, OnErr, IfOk, IfErr, IsSomeAnd, unwrap_or};
+ghost use Rattle.std.specs.Prelude.{◌≡◌, ◌+◌, ◌<◌, ◌-◌, Some, None, IsOk, OnOk, OnErr, IfOk, IfErr, IsSomeAnd, unwrap_or};
 ghost use Rattle.ipcz_router.specs.Router.{Router as RouterRecord};
 ghost use Rattle.ipcz_router.specs.Acts.{next_act};
 ghost use Rattle.ipcz_run.specs.Acts.{next, router_turn, acted, commit_router, deliver, handed, looked, posted};

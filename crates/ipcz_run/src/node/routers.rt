@@ -1,17 +1,10 @@
-ghost use Rattle.std.specs.Prelude.{◌≡◌, ◌==◌, ◌+◌, ◌<◌, ◌≤◌, ◌-◌, ◌^◌, ℕ, Some, None, is_some, true, OnOk, OnErr, IfSome, MatchOption, option_copied, option_map, length};
+ghost use Rattle.std.specs.Prelude.{◌≡◌, ◌+◌, ◌<◌, ◌≤◌, ◌-◌, ◌^◌, ℕ, Some, None, is_some, true, OnOk, IfSome, MatchOption, option_copied, option_map, length};
 ghost use Rattle.std.specs.Borrow.{sem};
 ghost use Rattle.std.specs.Ordering.{nat_cmp};
-ghost use Rattle.std.specs.List.{position_from};
-ghost use Rattle.std.specs.FinMap.{find, get, empty};
-ghost use Rattle.ipcz_base.specs.Sides.{same_side};
-ghost use Rattle.ipcz_base.specs.Ends.{same_end};
-ghost use Rattle.ipcz_router.specs.Router.{router_has};
-ghost use Rattle.ipcz_run.specs.Node.{is_terminal_of};
-ghost use Rattle.ipcz_run.specs.Finding.{IsFound};
+ghost use Rattle.std.specs.FinMap.{find, get, empty, len};
 ghost use Rattle.ipcz_run.specs.Rooms.{RoutersValue, added};
-ghost use Rattle.ipcz_run.specs.Serials.{key_at};
+ghost use Rattle.ipcz_run.specs.Serials.{key_at, AreRising};
 
-use ipcz_base::{End, LinkId, Side};
 use ipcz_router::Router;
 use std::alloc::{AllocError, Global};
 use std::marker::Model;
@@ -59,7 +52,8 @@ impl Routers {
 
     /// The serial that the next router gets.
     pub fn next_serial(&self) -> u64
-        ensures { result ≡ self.now.next }
+        ensures next { result ≡ self.now.next }
+        ensures free { get self.now.routers self.now.next ≡ None }
     {
         self.next
     }
@@ -92,6 +86,7 @@ impl Routers {
         ensures ok { OnOk result (more ≤ self.new.room) }
         ensures routers { self.new.routers ≡ self.old.routers }
         ensures next { self.new.next ≡ self.old.next }
+        ensures room { self.old.room ≤ self.new.room }
     {
         self.entries.reserve(more)
     }
@@ -106,89 +101,23 @@ impl Routers {
         self.next += 1;
     }
 
-    /// The flagged router of the lowest serial.
-    pub fn first_flagged(&self) -> Option<u64>
-        ensures { IsFound (λ r. r.flagged) self.now.routers result }
+    /// How many routers there are.
+    pub fn len(&self) -> usize
+        ensures count { result ≡ len self.now.routers }
+        ensures small { result < 2 ^ 63 }
     {
-        match flagged_place(&self.entries) {
-            Some(place) => Some(self.entries[place].0),
-            None => None,
-        }
+        self.entries.as_slice().len()
     }
-
-    /// The first router that has the link at the side.
-    pub fn first_on(&self, link: LinkId, side: Side) -> Option<u64>
-        ensures { IsFound (λ r. router_has r link side) self.now.routers result }
-    {
-        match link_place(&self.entries, link, side) {
-            Some(place) => Some(self.entries[place].0),
-            None => None,
-        }
-    }
-
-    /// The first open terminal of the end.
-    pub fn terminal_of(&self, end: End) -> Option<u64>
-        ensures { IsFound (is_terminal_of end) self.now.routers result }
-    {
-        match terminal_place(&self.entries, end) {
-            Some(place) => Some(self.entries[place].0),
-            None => None,
-        }
-    }
-}
-
-fn flagged_place(entries: &[(u64, Router)]) -> Option<usize>
-    ensures place { result ≡ position_from (λ e. e.1.router.flagged) 0 entries.now }
-    ensures within { IfSome result (λ i. i < length entries.now) }
-{
-    entries.iter().position(|e| e.1.is_flagged())
-}
-
-fn link_place(entries: &[(u64, Router)], link: LinkId, side: Side) -> Option<usize>
-    ensures place { result ≡ position_from (λ e. router_has e.1.router link side) 0 entries.now }
-    ensures within { IfSome result (λ i. i < length entries.now) }
-{
-    entries.iter().position(|e| e.1.stands_on(link, side))
-}
-
-fn terminal_place(entries: &[(u64, Router)], end: End) -> Option<usize>
-    ensures place { result ≡ position_from (λ e. is_terminal_of end e.1.router) 0 entries.now }
-    ensures within { IfSome result (λ i. i < length entries.now) }
-{
-    entries.iter().position(|e| is_terminal_of(&e.1, end))
-}
-
-fn is_end(one: End, other: End) -> bool
-    ensures { result ≡ same_end one other }
-{
-    one.pair == other.pair && is_side(one.side, other.side)
-}
-
-fn is_side(one: Side, other: Side) -> bool
-    ensures { result ≡ same_side one other }
-{
-    match (one, other) {
-        (Side::A, Side::A) | (Side::B, Side::B) => true,
-        (Side::A, Side::B) | (Side::B, Side::A) => false,
-    }
-}
-
-fn is_terminal_of(router: &Router, end: End) -> bool
-    ensures { result ≡ is_terminal_of end router.now.router }
-{
-    router.is_open_terminal() && is_end(router.end(), end)
 }
 
 // Where the entry of the serial stands.
 fn place_of<T>(entries: &[(u64, T)], serial: u64) -> Option<usize>
+    requires { (next : ℕ) × AreRising 0 next entries.now }
     ensures found { MatchOption result (find nat_cmp serial entries.now ≡ None) (λ i. key_at entries.now i ≡ Some serial) }
     ensures within { IfSome result (λ i. i < length entries.now) }
 {
-    position_of(entries, serial)
-}
-
-fn position_of<T>(entries: &[(u64, T)], serial: u64) -> Option<usize>
-    ensures { result ≡ position_from (λ e. e.0 == serial) 0 entries.now }
-{
-    entries.iter().position(|e| e.0 == serial)
+    match entries.binary_search_by_key(&serial, |entry| entry.0) {
+        Ok(place) => Some(place),
+        Err(_) => None,
+    }
 }

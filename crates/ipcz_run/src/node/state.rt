@@ -1,5 +1,4 @@
-ghost use Rattle.std.specs.Prelude.{◌≡◌, ◌≢◌, ◌+◌, ◌<◌, ◌≤◌, ◌-◌, ◌^◌, ◌==◌, [], ◌∷◌, length, Some, None, is_some, is_none, not, true, false, IsTrue, OnOk, OnErr, IfOk, IfErr, IfSome, IfNone, IsSomeAnd, MatchOption, unwrap_or, option_map};
-ghost use Rattle.std.specs.Option.{option_map_or};
+ghost use Rattle.std.specs.Prelude.{◌≡◌, ◌<◌, ◌-◌, ◌==◌, [], ◌∷◌, Some, None, is_some, is_none, true, false, OnOk, OnErr, IfOk, IfErr, IfSome, IfNone, IsSomeAnd, unwrap_or};
 ghost use Rattle.std.specs.FinMap.{get};
 ghost use Rattle.ipcz_base.specs.Limits.{no_number};
 ghost use Rattle.ipcz_base.specs.declared.item.Item.{Item};
@@ -7,8 +6,9 @@ ghost use Rattle.ipcz_seq.specs.Queue.{current_item};
 ghost use Rattle.ipcz_router.specs.Router.{Router as RouterRecord, IsOpenTerminal, outward_has, router_has};
 ghost use Rattle.ipcz_router.specs.Calls.{next_number, router_get_refusal, has_place_for};
 ghost use Rattle.ipcz_router.specs.Acts.{next_act, apply, applied};
+ghost use Rattle.ipcz_router.specs.declared.answer.Answer.TheVariants.{Plain};
 ghost use Rattle.ipcz_run.specs.Acts.{deliver, commit_router, has_mail, has_place_at, deliver_item, item_message, take_in};
-ghost use Rattle.ipcz_run.specs.Calls.{open_node, serials_refusal, put_refusal, put_node, put_number, get_refusal, get_node, new_end, bytes_refusal, parcel_refusal, put_at_router, get_at_router};
+ghost use Rattle.ipcz_run.specs.Calls.{open_node, serials_refusal, put_refusal, put_node, put_number, get_refusal, get_node, end_at, link_at, bytes_refusal, parcel_refusal, put_at_router, get_at_router};
 ghost use Rattle.ipcz_run.specs.Limits.{is_printable};
 ghost use Rattle.ipcz_run.specs.Node.{empty_node, router_in, link_router, terminal_of, with_outbox, add_stray, found, with_router, push_out};
 ghost use Rattle.ipcz_run.specs.Steps.{get_answer, got_answer, Got};
@@ -16,9 +16,9 @@ ghost use Rattle.ipcz_run.specs.Turns.{IsTurn};
 ghost use Rattle.ipcz_run.specs.declared.node.message.Message.{Message};
 
 use crate::node::message::Message;
-use crate::node::routers::Routers;
+use crate::node::directory::Directory;
 use ipcz_base::{Bytes, End, Ends, Item, LinkEnd, LinkId, Parcel, Refusal, Side};
-use ipcz_router::{Answer, Applied, Router, RouterAct};
+use ipcz_router::{Applied, RouterAct};
 use std::alloc::{AllocError, Global};
 use std::collections::VecDeque;
 use std::marker::Model;
@@ -29,7 +29,7 @@ const MOST_BYTES: usize = 256;
 /// (docs/PROTOCOL.md, "Nodes").
 #[derive(Drop)]
 pub struct NodeState {
-    routers: Routers,
+    routers: Directory,
     outbox: VecDeque<Message>,
     strays: Vec<Message>,
     alloc: Global,
@@ -59,7 +59,7 @@ impl NodeState {
         ensures { result.node ≡ empty_node }
     {
         NodeState {
-            routers: Routers::new(alloc),
+            routers: Directory::new(alloc),
             outbox: VecDeque::new(alloc),
             strays: Vec::new(alloc),
             alloc,
@@ -75,11 +75,11 @@ impl NodeState {
         if self.routers.next_serial() >= u64::MAX - 1 {
             return Err(Refusal::NumbersEnd);
         }
-        let Ok(()) = self.routers.reserve(2) else {
+        let Ok(()) = self.routers.reserve_pair() else {
             return Err(Refusal::OutOfMemory);
         };
-        self.routers.add(new_end(self.alloc, word, Side::A));
-        self.routers.add(new_end(self.alloc, word, Side::B));
+        self.routers.add_terminal(self.alloc, end_at(word, Side::A), link_at(word, Side::A));
+        self.routers.add_terminal(self.alloc, end_at(word, Side::B), link_at(word, Side::B));
         Ok(())
     }
 
@@ -109,7 +109,7 @@ impl NodeState {
     }
 
     // The same at an open terminal.
-    #[tactic(auto, using(crate::proofs::Written::insert_same), unfolding(crate::specs::Calls::or_else))]
+    #[tactic(auto, unfolding(crate::specs::Calls::or_else))]
     fn put_at(&mut self, serial: u64, bytes: Bytes) -> Result<u64, (Refusal, Bytes)>
         requires { IsSomeAnd (router_in self.old.node serial) IsOpenTerminal }
         ensures allowed { (r : RouterRecord) → router_in self.old.node serial ≡ Some r → OnOk result (parcel_refusal bytes r ≡ None) }
@@ -125,7 +125,7 @@ impl NodeState {
             bytes,
             ends: Ends::from_vec(Vec::new(self.alloc)),
         };
-        match self.routers.router_mut(serial).put(parcel) {
+        match self.routers.put(serial, parcel) {
             Ok(n) => Ok(n),
             Err((why, parcel)) => Err((why, parcel.bytes)),
         }
@@ -147,7 +147,6 @@ impl NodeState {
     }
 
     // The same at an open terminal.
-    #[tactic(auto, using(crate::proofs::Written::insert_same), unfolding(ipcz_router::specs::Calls::item_refusal, crate::specs::Steps::got_answer))]
     fn get_at(&mut self, serial: u64) -> Result<(u64, Parcel), Refusal>
         requires { IsSomeAnd (router_in self.old.node serial) IsOpenTerminal }
         ensures allowed { (r : RouterRecord) → router_in self.old.node serial ≡ Some r → OnOk result (router_get_refusal r ≡ None) }
@@ -156,7 +155,7 @@ impl NodeState {
         ensures why { (r : RouterRecord) → router_in self.old.node serial ≡ Some r → IfErr result (λ why. router_get_refusal r ≡ Some why) }
         ensures err { OnErr result (self.new.node ≡ self.old.node) }
     {
-        self.routers.router_mut(serial).get()
+        self.routers.get(serial)
     }
 
     /// Whether a message waits to be posted.
@@ -260,7 +259,6 @@ impl NodeState {
     }
 
     // The router of the serial takes the item, as above.
-    #[tactic(auto, using(crate::proofs::Written::insert_same))]
     fn accept_at(
         &mut self,
         serial: u64,
@@ -276,7 +274,7 @@ impl NodeState {
         ensures unfit { IfOk result (λ left. IfSome left (λ unfit. (unfit ≡ item) × (self.new.node ≡ self.old.node))) }
         ensures err { IfErr result (λ back. (back ≡ item) × (self.new.node ≡ self.old.node)) }
     {
-        let Err((why, item)) = self.routers.router_mut(serial).accept(link, side, n, item) else {
+        let Err((why, item)) = self.routers.accept(serial, link, side, n, item) else {
             return Ok(None);
         };
         if why == Refusal::OutOfMemory {
@@ -320,11 +318,11 @@ impl NodeState {
     // The router's own part of its next act.
     fn apply(&mut self, serial: u64, act: RouterAct) -> Applied
         requires { IsSomeAnd (router_in self.old.node serial) (λ r. act ≡ next_act r) }
-        ensures node { (r : RouterRecord) → router_in self.old.node serial ≡ Some r → self.new.node ≡ with_router self.old.node serial (apply r act Answer.Plain) }
+        ensures node { (r : RouterRecord) → router_in self.old.node serial ≡ Some r → self.new.node ≡ with_router self.old.node serial (apply r act Plain) }
         ensures applied { (r : RouterRecord) → router_in self.old.node serial ≡ Some r → result ≡ applied r act }
         ensures room { self.new.outbox_room ≡ self.old.outbox_room }
     {
-        self.routers.router_mut(serial).apply(act, Answer::Plain)
+        self.routers.apply(serial, act)
     }
 
     fn push_mail(&mut self, message: Message)
@@ -346,16 +344,20 @@ fn item_message(link: LinkEnd, n: u64, item: Item) -> Message
     }
 }
 
-fn new_end(alloc: Global, word: u32, side: Side) -> Router
-    ensures { result.router ≡ new_end word side }
+fn end_at(pair: u32, side: Side) -> End
+    ensures { result ≡ end_at pair side }
 {
-    let end = End { pair: word, side };
-    let link = LinkEnd {
+    End { pair, side }
+}
+
+fn link_at(word: u32, side: Side) -> LinkEnd
+    ensures { result ≡ link_at word side }
+{
+    LinkEnd {
         link: LinkId::Central(word),
         side,
         other: 0,
-    };
-    Router::terminal(alloc, end, link, 0)
+    }
 }
 
 // Why these bytes are no parcel's.

@@ -62,6 +62,13 @@ fn writes_a_line_for_each_command(rt: HostRuntime) -> Result<(), Fail> {
             Outcome::Done,
             "open x y ok\nput x 0\nput y 0\nsettled\nget y 0 [] \"\"\"\nget x 0 [] \"~ \"\n",
         ),
+        // Of two flagged routers the one that was made first acts first, though it was flagged last.
+        (
+            2,
+            r#"[["open",0,"a","b"],["open",0,"c","d"],["put","c","1"],["put","a","2"],["settle",4],["get","d"],["get","b"],["settle",7],["settle",1],["get","d"],["get","b"]]"#,
+            Outcome::Unsettled,
+            "open a b ok\nopen c d ok\nput c 0\nput a 0\nunsettled\nget d Empty\nget b 0 [] \"2\"\nunsettled\nsettled\nget d 0 [] \"1\"\nget b Empty\n",
+        ),
     ];
     for (words, commands, outcome, text) in rows {
         let script = format!(in rt.alloc();

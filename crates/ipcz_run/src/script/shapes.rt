@@ -1,5 +1,5 @@
-ghost use Rattle.std.specs.Prelude.{◌≡◌, ◌==◌, ◌-◌, ◌<◌, ◌≤◌, map, option_map, IfOk};
-ghost use Rattle.std.specs.List.{list_all, list_any};
+ghost use Rattle.std.specs.Prelude.{◌≡◌, ◌==◌, ◌-◌, ◌<◌, map, option_map, IfOk};
+ghost use Rattle.std.specs.List.{list_all};
 ghost use Rattle.std.specs.FinSet.{contains};
 ghost use Rattle.serde_json.specs.View.{view};
 ghost use Rattle.ipcz_run.specs.ScriptNames.{is_name, is_name_byte, has_angle};

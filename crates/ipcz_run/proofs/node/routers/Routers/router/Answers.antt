@@ -1,9 +1,12 @@
 use Rattle.std.proofs.Common.{◌≡◌, ap, sym, subst, ◌∙◌, Some, None}
 use Rattle.std.specs.Ordering.{nat_cmp}
 use Rattle.std.specs.FinMap.{get, find}
-use Rattle.ipcz_run.specs.Serials.{key_at}
+use Rattle.ipcz_run.specs.Serials.{key_at, AreRising}
 use Rattle.ipcz_run.proofs.Serials.{get_none, read_value}
 use Rattle.ipcz_run.proofs.node.routers.Routers.router.Goals as goal
+
+pub place_of-requires : goal.place_of-requires
+place_of-requires c = (c.self.inside.next, subst (AreRising 0 c.self.inside.next) (sym c.deref.ensures.value) c.self.invariant)
 
 pub returns-in-Some : goal.returns-in-Some
 returns-in-Some c =

@@ -2,10 +2,13 @@ use Rattle.std.proofs.Common.{◌≡◌, ap, sym, subst, ◌∙◌, Some, None, 
 use Rattle.std.specs.Prelude.{vec_capacity, vec_len, ◌-◌}
 use Rattle.std.specs.FinMap.{get, find}
 use Rattle.std.specs.Ordering.{nat_cmp}
-use Rattle.ipcz_run.specs.Serials.{key_at}
+use Rattle.ipcz_run.specs.Serials.{key_at, AreRising}
 use Rattle.ipcz_run.specs.Rooms.{put_router}
 use Rattle.ipcz_run.proofs.Serials.{get_none, map_put, rising_put, read_key, read_value}
 use Rattle.ipcz_run.proofs.node.routers.Routers.router_mut.Goals as goal
+
+pub place_of-requires : goal.place_of-requires
+place_of-requires c = (c.self.inside.next, subst (AreRising 0 c.self.inside.next) (sym c.deref.ensures.value) c.self.invariant)
 
 pub unreachable-requires : goal.unreachable-requires
 unreachable-requires c =

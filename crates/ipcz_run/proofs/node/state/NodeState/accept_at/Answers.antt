@@ -11,8 +11,6 @@ use denote.Enum.Bare.{sameb}
 
 pub returns-clause-place : goal.returns-clause-place
 returns-clause-place c = λ r here.
-    let there : Some c.router_mut.result.now.router ≡ Some r = c.router_mut.ensures.value ∙ ap (λ v. router_in v.node c.args.serial) c.self.view_is ∙ here in
-    let same : c.router_mut.result.now.router ≡ r = cc in
     let stands : router_has r c.args.link c.args.side ≡ true = subst (λ o. IsSomeAnd o (λ r. router_has r c.args.link c.args.side ≡ true)) here c.requires.stands in
     let other : c.in-Err.why ≢ OutOfMemory = λ e. (let clash : false ≡ true = c.if-eq.ensures ∙ ap (λ w. sameb the_type w OutOfMemory) e in cc) in
-    no_place_for r c.args.link c.args.side c.args.n stands (λ e. other (c.in-Err.ensures.why ∙ ap (λ q. accept_refusal q c.args.link c.args.side c.args.n) same ∙ e))
+    no_place_for r c.args.link c.args.side c.args.n stands (λ e. other (c.in-Err.ensures.why r (ap (λ v. router_in v.node c.args.serial) c.self.view_is ∙ here) ∙ e))
