@@ -7,7 +7,6 @@ use Rattle.std.specs.Ordering.{nat_cmp, eq_by_cmp, is_eq}
 use Rattle.std.specs.Cmp.{nat_cmp_total, nat_cmp_is, unsigned_tied}
 use Rattle.std.proofs.lemmas.Bool.Decides.{nat_tests}
 use Rattle.std.specs.FinMap.{FinMap, get, insert, empty, find, entries, entries_sorted, get-entries, get-insert, get-empty, len, len-entries, is_sorted, nat_cmp-IsAntisymmetric}
-use Rattle.std.specs.FinMap.Entries.{below_all}
 use Rattle.ipcz_base.specs.declared.side.Side.{Side}
 use Rattle.ipcz_base.specs.declared.end.End.{End}
 use Rattle.ipcz_base.specs.declared.link_id.LinkId.{LinkId}
@@ -278,9 +277,11 @@ more_passing p m next w old new own free is filed more s = more s ∙ split (one
     here : (b : Bool) → ((b && true) || false) ≡ b
     here true = refl
     here false = refl
+
     beside : (b c : Bool) → ((b && false) || c) ≡ c
     beside true c = refl
     beside false c = refl
+
     split : ((s ≡ next) × (eq_by_cmp nat_cmp s next ≡ true)) ⊎ ((s ≢ next) × (eq_by_cmp nat_cmp s next ≡ false)) → ((own && next == s) || old s) ≡ cond (eq_by_cmp nat_cmp s next) (p w) (passes p m s)
     split (inl t) = rw (t.1, same_test next s, t.1) (ap (λ b. (own && true) || b) (filed s ∙ ap (passes p m) t.0 ∙ passes_absent p m next free) ∙ here own ∙ sym is)
     split (inr t) = rw (t.1, same_test next s, t.1) (beside own (old s) ∙ filed s)

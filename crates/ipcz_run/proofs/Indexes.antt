@@ -1,5 +1,5 @@
 -- What the first member of an index from a key on says of the serials under that key.
-use Rattle.std.proofs.Common.{◌≡◌, ◌==◌, ◌&&◌, ◌||◌, ℕ, ◌+◌, ◌<◌, ◌≤◌, Bool, true, false, Some, None, List, true≢false, refl, sym, ◌∙◌, ap, ap₂, subst, arith}
+use Rattle.std.proofs.Common.{◌≡◌, ◌==◌, ◌&&◌, ◌||◌, ℕ, ◌≤◌, Bool, true, false, Some, None, List, true≢false, refl, sym, ◌∙◌, ap, arith}
 use Rattle.std.specs.declared.cmp.Ordering.{Ordering}
 use Rattle.std.specs.declared.cmp.Ordering.TheVariants.{Less, Equal, Greater}
 use Rattle.std.specs.Ordering.{nat_cmp, ordering_then, ordering_reverse, is_eq, is_lt}
@@ -66,6 +66,7 @@ module _ {K : Type 0} {R : K → K → Ordering} (o : IsTotalOrder R) where
           beside Less is a h = absurd (true≢false (sym (ap (λ c. is_lt (ordering_then c (nat_cmp x.1 0))) is) ∙ from))
           beside Equal is a h = absurd (true≢false a)
           beside Greater is a h = absurd (true≢false (sym (ap (λ c. is_lt (ordering_then c (nat_cmp n x.1))) (o.antisymm k x.0 ∙ ap ordering_reverse is)) ∙ least (k, n) h (from_key k n)))
+
           go : (b : Bool) → is_filed R filed k n ≡ b → is_filed R filed k n ≡ false
           go false is = is
           go true is = beside (R x.0 k) refl apart is

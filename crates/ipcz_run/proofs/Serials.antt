@@ -1,5 +1,5 @@
 -- Entries by rising serials, as a finite map.
-use Rattle.std.proofs.Common.{◌≡◌, ◌≢◌, ◌==◌, Bool, ◌&&◌, T, ℕ, zero, suc, ◌+◌, ◌<◌, ◌≤◌, true, false, cond, List, [], ◌∷◌, ◌++◌, length, get_or, refl, sym, ◌∙◌, ap, subst, arith, None, Some, Option, inl, inr, MatchOption, IfSome, slice_set}
+use Rattle.std.proofs.Common.{◌≡◌, ◌≢◌, Bool, ◌&&◌, T, ℕ, zero, suc, ◌+◌, ◌<◌, ◌≤◌, true, false, cond, List, [], ◌∷◌, ◌++◌, length, get_or, refl, sym, ◌∙◌, ap, subst, arith, None, Some, inl, inr, slice_set}
 use Rattle.std.specs.Prelude.{remove as without}
 use Rattle.std.specs.declared.cmp.Ordering.TheVariants.{Less, Equal, Greater}
 use Rattle.std.specs.Ordering.{nat_cmp, eq_by_cmp, ordering_index, is_lt}

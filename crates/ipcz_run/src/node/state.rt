@@ -15,8 +15,8 @@ ghost use Rattle.ipcz_run.specs.Steps.{get_answer, got_answer, Got};
 ghost use Rattle.ipcz_run.specs.Turns.{IsTurn};
 ghost use Rattle.ipcz_run.specs.declared.node.message.Message.{Message};
 
-use crate::node::message::Message;
 use crate::node::directory::Directory;
+use crate::node::message::Message;
 use ipcz_base::{Bytes, End, Ends, Item, LinkEnd, LinkId, Parcel, Refusal, Side};
 use ipcz_router::{Applied, RouterAct};
 use std::alloc::{AllocError, Global};
@@ -78,8 +78,10 @@ impl NodeState {
         let Ok(()) = self.routers.reserve_pair() else {
             return Err(Refusal::OutOfMemory);
         };
-        self.routers.add_terminal(self.alloc, end_at(word, Side::A), link_at(word, Side::A));
-        self.routers.add_terminal(self.alloc, end_at(word, Side::B), link_at(word, Side::B));
+        self.routers
+            .add_terminal(self.alloc, end_at(word, Side::A), link_at(word, Side::A));
+        self.routers
+            .add_terminal(self.alloc, end_at(word, Side::B), link_at(word, Side::B));
         Ok(())
     }
 

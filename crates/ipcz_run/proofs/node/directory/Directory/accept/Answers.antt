@@ -1,4 +1,4 @@
-use Rattle.std.proofs.Common.{◌≡◌, sym, ◌∙◌, refl, Some}
+use Rattle.std.proofs.Common.{◌≡◌, sym, ◌∙◌, Some}
 use Rattle.std.specs.FinMap.{get}
 use Rattle.ipcz_router.specs.Router.{outward_has}
 use Rattle.ipcz_router.specs.Calls.{accept}

@@ -1,6 +1,5 @@
-use Rattle.std.proofs.Common.{◌≡◌, sym, subst, ◌∙◌, refl, Some}
+use Rattle.std.proofs.Common.{◌≡◌, sym, subst, ◌∙◌, Some}
 use Rattle.std.specs.FinMap.{get}
-use Rattle.ipcz_router.specs.Acts.{apply}
 use Rattle.ipcz_router.specs.declared.answer.Answer.TheVariants.{Plain}
 use Rattle.ipcz_run.proofs.Directories.{IsSameStanding, apply_standing, changed, room_to_flag}
 use Rattle.ipcz_run.proofs.node.directory.Directory.apply.Goals as goal

@@ -1,4 +1,4 @@
-use Rattle.std.proofs.Common.{◌≡◌, sym, ◌∙◌, refl, Some}
+use Rattle.std.proofs.Common.{◌≡◌, sym, refl, Some}
 use Rattle.std.specs.FinMap.{get}
 use Rattle.ipcz_router.specs.Calls.{take_item}
 use Rattle.ipcz_run.proofs.Directories.{IsSameStanding, same_standing, changed_asleep, after}

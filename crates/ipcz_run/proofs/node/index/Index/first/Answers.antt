@@ -1,6 +1,5 @@
-use Rattle.std.proofs.Common.{◌≡◌, ℕ, false, sym, subst, ◌∙◌}
+use Rattle.std.proofs.Common.{sym, subst, ◌∙◌}
 use Rattle.std.specs.Prelude.{Some, None}
-use Rattle.std.specs.Ordering.{is_eq}
 use Rattle.ipcz_run.specs.Indexes.{is_filed, IsLeast}
 use Rattle.ipcz_run.proofs.Indexes.{none_from, none_under, least_under, tied}
 use Rattle.ipcz_run.proofs.node.index.Index.first.Goals as goal

@@ -1,4 +1,4 @@
-use Rattle.std.proofs.Common.{◌≡◌, ap, ◌∙◌, length}
+use Rattle.std.proofs.Common.{ap, ◌∙◌, length}
 use Rattle.std.specs.FinMap.{len}
 use Rattle.ipcz_run.proofs.Serials.{count_is}
 use Rattle.ipcz_run.proofs.node.routers.Routers.len.Goals as goal

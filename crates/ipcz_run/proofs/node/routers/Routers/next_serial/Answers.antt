@@ -1,5 +1,4 @@
 use Rattle.std.proofs.Common.{◌≡◌, None, subst, arith, ◌∙◌}
-use Rattle.std.specs.Ordering.{nat_cmp}
 use Rattle.std.specs.Cmp.{nat_cmp_total}
 use Rattle.std.specs.FinMap.{get, get-from_entries}
 use Rattle.ipcz_run.specs.Serials.{entries_by}

@@ -1,9 +1,8 @@
-use Rattle.std.proofs.Common.{◌≡◌, ◌≢◌, true, false, ap, subst, ◌∙◌, Some}
+use Rattle.std.proofs.Common.{◌≡◌, ◌≢◌, true, false, ap, subst, ◌∙◌}
 use Rattle.std.specs.Prelude.{IsSomeAnd}
 use Rattle.ipcz_base.specs.contracts.refusal.Refusal.{the_type}
 use Rattle.ipcz_base.specs.declared.refusal.Refusal.TheVariants.{OutOfMemory}
 use Rattle.ipcz_router.specs.Router.{router_has}
-use Rattle.ipcz_router.specs.Calls.{accept_refusal}
 use Rattle.ipcz_run.specs.Node.{router_in}
 use Rattle.ipcz_run.proofs.Fitting.{no_place_for}
 use Rattle.ipcz_run.proofs.node.state.NodeState.accept_at.Goals as goal
