@@ -119,11 +119,11 @@ rest_keeps w b k r law at = move_keeps w b k r (rest r) w.node.outbox w.node.str
     (λ f. omega (arith, in_rested f r))
 
 -- a terminal sends over its link, and has no way inward
-way_out_of : (w : World) (b : Books) (k : ℕ) (r : Router) → Lawful w b → router_at w k ≡ Some r → way_out r ≡ Some (link_at r.end.pair r.end.side)
+pub way_out_of : (w : World) (b : Books) (k : ℕ) (r : Router) → Lawful w b → router_at w k ≡ Some r → way_out r ≡ Some (link_at r.end.pair r.end.side)
 unfolding choose
 way_out_of w b k r law at = ap (λ e. choose e r.out_queue.current) (law.on_link k r at)
 
-no_way_in : (w : World) (b : Books) (k : ℕ) (r : Router) → Lawful w b → router_at w k ≡ Some r → way_in r ≡ None
+pub no_way_in : (w : World) (b : Books) (k : ℕ) (r : Router) → Lawful w b → router_at w k ≡ Some r → way_in r ≡ None
 unfolding choose
 no_way_in w b k r law at = go r.inward (law.terminal k r at)
   where
@@ -132,7 +132,7 @@ no_way_in w b k r law at = go r.inward (law.terminal k r at)
     go (Some i) e = cc
 
 -- what wants a way that isn't there is not possible
-stuck : (a b : Bool) → b ≡ false → ((a && b) || false) ≡ true → ⊥
+pub stuck : (a b : Bool) → b ≡ false → ((a && b) || false) ≡ true → ⊥
 stuck true true e h = cc
 stuck true false e h = cc
 stuck false b e h = cc

@@ -1,6 +1,9 @@
 pub mod Acts
+pub mod Arrivals
+pub mod Arriving
 pub mod AtRouter
 pub mod Changes
+pub mod Coming
 pub mod CommandCount
 pub mod Directories
 pub mod Ends
@@ -17,11 +20,14 @@ pub mod Places
 pub mod Putting
 pub mod ReadingLaws
 pub mod Replies
+pub mod ScriptArrivals
 pub mod ScriptRuns
 pub mod Serials
+pub mod Settling
 pub mod SortedSets
 pub mod Steps
 pub mod Taken
+pub mod Tallies
 pub mod TextKeys
 pub mod Transcripts
 pub mod Turning

@@ -23,7 +23,7 @@ use Rattle.ipcz_run.proofs.Places.{open_places, start_places}
 use Rattle.ipcz_run.proofs.Changes.{IsNumberedBy}
 
 -- what holds of both new terminals and of the older routers holds of each router
-each_opened : (P : ℕ → Router → Type 0) (w : World) → P w.node.next_router (new_end w.claimed A) → P (w.node.next_router + 1) (new_end w.claimed B) →
+pub each_opened : (P : ℕ → Router → Type 0) (w : World) → P w.node.next_router (new_end w.claimed A) → P (w.node.next_router + 1) (new_end w.claimed B) →
     ((s : ℕ) (q : Router) → router_at w s ≡ Some q → P s q) → (s : ℕ) (q : Router) → router_at (open_world w) s ≡ Some q → P s q
 each_opened P w first second older =
     each_inserted P (insert w.node.routers w.node.next_router (new_end w.claimed A)) (w.node.next_router + 1) (new_end w.claimed B) second

@@ -34,7 +34,7 @@ next_may r = go (is_possible r SendOut) (is_possible r SendIn) refl refl
     go false false e f = λ i. is_rest (if e i then SendOut else if f i then SendIn else Rest)
 
 -- the first act is possible, where it isn't idle
-first_may : (w : World) → is_idle (next w) ≡ false → IsTrue (can_take w (next w))
+pub first_may : (w : World) → is_idle (next w) ≡ false → IsTrue (can_take w (next w))
 unfolding next can_take is_idle may_act router_turn
 first_may w = go (is_in_hand w.mail) (is_full w.mail) (has_mail w.node && is_clear w.mail) (flagged_router w.node) refl refl refl refl
   where
@@ -59,7 +59,7 @@ settle_keeps (suc n) w b law = go (settle_keeps n (turned w) b) (is_settled w) r
     go later false e = later (act_keeps w b (next w) law (first_may w e))
 
 -- a command keeps the world lawful, with the books after it
-command_keeps : (s : Session) (b : Books) (c : Command) → Lawful s.world b → Lawful (replied s c).session.world (command_books b s c)
+pub command_keeps : (s : Session) (b : Books) (c : Command) → Lawful s.world b → Lawful (replied s c).session.world (command_books b s c)
 unfolding replied replied_at command_books books_at advance
 command_keeps s b (commands.Open node first second) law = step_keeps_lawful s.world (open_step s.world).world b steps.Open (open_step s.world).answer law (inl (refl, refl))
 command_keeps s b (commands.Put at text) law = go (get s.names at)

@@ -1,4 +1,5 @@
 pub mod Acts
+pub mod Arriving
 pub mod Bindings
 pub mod Books
 pub mod Calls
@@ -22,6 +23,7 @@ pub mod Sessions
 pub mod Settling
 pub mod Shapes
 pub mod SortedSets
+pub mod Statuses
 pub mod Steps
 pub mod Transcript
 pub mod Turns

@@ -1,11 +1,16 @@
--- What holds whatever a script asks: what its portals have got, and where its parcels stand.
+-- What holds whatever a script asks: what its portals have got, where its parcels stand, and that none is stuck.
 -- (This project's own.)
 use Rattle.std.specs.Prelude.{ℕ, List}
 use Rattle.ipcz_run.specs.declared.script.command.Command.{Command}
 use Rattle.ipcz_run.specs.Books.{no_books}
+use Rattle.ipcz_run.specs.Arriving.{NothingIsStuck}
 use Rattle.ipcz_run.specs.Laws.{Delivered}
 use Rattle.ipcz_run.specs.Sessions.{new_session, session_after, books_after}
 
 -- law: after any commands of a script, each portal has got a prefix of what its peer put, and each accepted parcel not yet got stands in exactly one queue or message
 abbrev pub ScriptsDeliver : Type 0
 ScriptsDeliver = (words : ℕ) (commands : List Command) → Delivered (session_after (new_session words) commands).world (books_after no_books (new_session words) commands)
+
+-- law: after any commands of a script nothing is stuck
+abbrev pub ScriptsArrive : Type 0
+ScriptsArrive = (words : ℕ) (commands : List Command) → NothingIsStuck (session_after (new_session words) commands).world (books_after no_books (new_session words) commands)

@@ -1,6 +1,8 @@
 //! What holds of a run, for every list of steps: theorems on the definitions that the contracts of the node and the world
 //! cite. The functions do nothing; each one's promise is a theorem.
 ghost use Rattle.ipcz_run.specs.Laws.{StartsLawful, StepKeepsLawful, AnswersPlainly, DeliversInOrder};
+ghost use Rattle.ipcz_run.specs.Settling.{SettlesByTurns};
+ghost use Rattle.ipcz_run.specs.Arriving.{Arrives};
 
 /// The world at the start is lawful, with nothing put and nothing got (docs/PROTOCOL.md, "Nodes").
 pub fn starts_lawful()
@@ -23,4 +25,16 @@ pub fn answers_plainly()
 /// isn't got yet stands in exactly one queue or message (docs/PROTOCOL.md, "Books and the headline").
 pub fn delivers_in_order()
     ensures { DeliversInOrder }
+{}
+
+/// A settle is a list of turns, each of the first possible act, and at most as many as its limit. It is settled only where
+/// nothing waits, and unsettled only where the limit is reached and an act is still possible (docs/PROTOCOL.md, "Turns").
+pub fn settles_by_turns()
+    ensures { SettlesByTurns }
+{}
+
+/// After any list of steps from the start no message was unfit for its router, and where nothing waits a get answers `Empty`
+/// only where all that the peer has put was got (docs/PROTOCOL.md, "Books and the headline").
+pub fn arrives()
+    ensures { Arrives }
 {}

@@ -1,7 +1,9 @@
 //! `ipcz_run` reads a script from standard input, runs it on one node, and writes its transcript to standard output.
 #![tactic(auto)]
 
-ghost use Rattle.std.specs.Prelude.{◌≡◌, false};
+ghost use Rattle.std.specs.Prelude.{◌≡◌, false, if◌then◌else◌};
+ghost use Rattle.std.specs.Io.KnownBytes.{Appends};
+ghost use Rattle.ipcz_run.specs.Statuses.{status, usage};
 
 pub mod laws;
 pub mod node;
@@ -24,7 +26,10 @@ const USAGE: &[u8] = b"usage: ipcz_run [threads]\n";
 
 // The status of a run: 0 done, 1 a read or write failed, 2 the script was refused, 3 want of memory, 4 a settle was
 // unsettled.
-fn status_of(ending: Result<Outcome, RunFault>) -> u8 {
+#[tactic(auto, unfolding(crate::specs::Statuses::status))]
+fn status_of(ending: Result<Outcome, RunFault>) -> u8
+    ensures { result ≡ status ending }
+{
     match ending {
         Ok(Outcome::Done) => 0,
         Err(RunFault::Read | RunFault::Write) => 1,
@@ -43,12 +48,15 @@ fn has_arguments(rt: &(impl Env + Alloc)) -> Result<bool, AllocError> {
     }
 }
 
-fn write_usage(writer: &mut Device<impl Write>) -> ExitCode
+// Writes the usage line, and gives the status: 2, or 1 where a write failed.
+fn write_usage<W: Write>(writer: &mut Device<W>) -> u8
     requires { writer.old.failed ≡ false }
+    ensures status { result ≡ (if writer.new.failed then 1 else 2) }
+    ensures line { writer.new.failed ≡ false → Appends (W.contents writer.old.inner) (W.contents writer.new.inner) usage }
 {
     match script::whole_io::write_whole(writer, USAGE) {
-        Ok(()) => ExitCode::from(2),
-        Err(_) => ExitCode::from(1),
+        Ok(()) => 2,
+        Err(_) => 1,
     }
 }
 
@@ -56,7 +64,7 @@ fn main(rt: HostRuntime) -> ExitCode {
     let mut writer = Device::new(io::writer(&rt));
     match has_arguments(&rt) {
         Ok(false) => {}
-        Ok(true) => return write_usage(&mut writer),
+        Ok(true) => return ExitCode::from(write_usage(&mut writer)),
         Err(AllocError) => return ExitCode::from(3),
     }
     let mut reader = Device::new(rt.reader());

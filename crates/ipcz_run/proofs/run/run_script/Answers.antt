@@ -2,6 +2,7 @@ use Rattle.std.proofs.Common.{subst, arith}
 use Rattle.std.specs.Io.KnownBytes.{Appends}
 use Rattle.ipcz_run.specs.WholeIo.{AppendsFront}
 use Rattle.ipcz_run.specs.Transcript.{IsOutput}
+use Rattle.ipcz_run.proofs.ScriptArrivals.{scripts_arrive}
 use Rattle.ipcz_run.proofs.ScriptRuns.{scripts_deliver}
 use Rattle.ipcz_run.proofs.run.run_script.Goals as goal
 
@@ -35,3 +36,15 @@ returns-in_default-write_whole-clause-delivers g c = scripts_deliver
 
 pub returns-clause-delivers : goal.returns-clause-delivers
 returns-clause-delivers g c = scripts_deliver
+
+pub returns-in_err-input-clause-arrives : goal.returns-in_err-input-clause-arrives
+returns-in_err-input-clause-arrives g c = scripts_arrive
+
+pub returns-in_default-clause-arrives : goal.returns-in_default-clause-arrives
+returns-in_default-clause-arrives g c = scripts_arrive
+
+pub returns-in_default-write_whole-clause-arrives : goal.returns-in_default-write_whole-clause-arrives
+returns-in_default-write_whole-clause-arrives g c = scripts_arrive
+
+pub returns-clause-arrives : goal.returns-clause-arrives
+returns-clause-arrives g c = scripts_arrive

@@ -1,6 +1,7 @@
 use Rattle.std.proofs.Common.{◌≡◌, ◌+◌, ◌-◌, suc, zero, true, ◌∙◌, ap, sym, arith}
 use Rattle.ipcz_run.specs.Acts.{is_idle}
 use Rattle.ipcz_run.specs.Settling.{settle, is_settled}
+use Rattle.ipcz_run.proofs.Settling.{settle_by}
 use Rattle.ipcz_run.proofs.Turning.{turned_settled, settle_settled, settle-zero, settle-suc}
 use Rattle.ipcz_run.proofs.world.World.settle.Goals as goal
 
@@ -29,3 +30,9 @@ pub returns-clause-world : goal.returns-clause-world
 returns-clause-world c =
     let none : c.args.limit - c.loop-turn._turn ≡ zero = omega arith in
     sym (c.loop-turn.invariant ∙ ap (λ n. settle n c.loop-turn.self) none ∙ settle-zero c.loop-turn.self)
+
+pub returns-then-is_idle-clause-turns : goal.returns-then-is_idle-clause-turns
+returns-then-is_idle-clause-turns c = settle_by c.args.limit c.args.self.now _ true (returns-then-is_idle-clause-world c) (returns-then-is_idle-clause-settled c)
+
+pub returns-clause-turns : goal.returns-clause-turns
+returns-clause-turns c = settle_by c.args.limit c.args.self.now _ _ (returns-clause-world c) (returns-clause-settled c)
