@@ -16,7 +16,7 @@ use Rattle.std.proofs.lemmas.List.{length-drop, take_all}
 use Rattle.ipcz_base.specs.Ends.{opposite_end, same_end}
 use Rattle.ipcz_seq.specs.Queue.{IsReach, item_at, current_item}
 use Rattle.ipcz_router.specs.Router.{Router}
-use Rattle.ipcz_router.specs.Calls.{next_number, item_refusal, router_get_refusal, router_put_refusal}
+use Rattle.ipcz_router.specs.Calls.{next_number, item_refusal, router_get_refusal, router_put_refusal, take_item}
 use Rattle.ipcz_run.specs.Node.{Found, terminal_of, on_found}
 use Rattle.ipcz_run.specs.Calls.{or_else, bytes_refusal, refusal_at, parcel_refusal, parcel_of, put_at_router, number_at, get_at_router}
 use Rattle.ipcz_run.specs.World.{World, new_world, router_at}
@@ -26,10 +26,11 @@ use Rattle.ipcz_run.specs.Books.{Books, no_books, advance, add_put, add_got, rea
 use Rattle.ipcz_run.specs.Laws.{Lawful, IsRun, unread}
 use Rattle.ipcz_run.specs.Places.{in_router, in_messages, in_places, at_end, from_number}
 use Rattle.ipcz_run.specs.Settling.{IsQuiet}
-use Rattle.ipcz_run.specs.Arriving.{Arriving, Arrives, NothingIsStuck}
+use Rattle.ipcz_run.specs.Arriving.{Arriving, Arrives, NothingIsStuck, GetsStayQuiet}
 use Rattle.ipcz_run.proofs.Ends.{opposite_end-opposite_end, same_end_itself, same_end_tells}
 use Rattle.ipcz_run.proofs.Tallies.{only, only_itself, only_other, weighs_nothing}
 use Rattle.ipcz_run.proofs.Weights.{in_clear_mail}
+use Rattle.ipcz_run.proofs.Maps.{each_inserted}
 use Rattle.ipcz_run.proofs.Found.{IsTerminalAt, terminal_there}
 use Rattle.ipcz_run.proofs.Steps.{step_keeps_lawful, starts_lawful}
 use Rattle.ipcz_run.proofs.Arriving.{act_keeps, open_keeps, put_keeps, get_keeps}
@@ -227,3 +228,20 @@ nothing_stuck w b law arriving = record {
 
 pub arrives : Arrives
 arrives words steps answers w b run = let kept = run_keeps (new_world words) w no_books b steps answers (starts_lawful words) (start words) run in nothing_stuck w b kept.0 kept.1
+
+-- a get changes no message, and no flag
+pub gets_stay_quiet : GetsStayQuiet
+unfolding refusal_at get_answer item_refusal got_answer on_found unless
+gets_stay_quiet w v e answer quiet is = subst IsQuiet (sym is.1) (go (terminal_of w.node e) refl)
+  where
+    got : (f : Found) → IsTerminalAt w.node e f → IsQuiet (record w { node = get_at_router w.node f.serial f.router })
+    got f there = record { outbox = quiet.outbox; mail = quiet.mail; routers = each_inserted (λ s q. q.flagged ≡ false) w.node.routers f.serial (take_item f.router) (quiet.routers f.serial f.router there.here) (λ s q other at. quiet.routers s q at) }
+
+    item : (f : Found) → IsTerminalAt w.node e f → (o : Option Item) →
+        IsQuiet (unless w (item_refusal o) (record { answer = got_answer f.router.in_queue.current o; world = record w { node = get_at_router w.node f.serial f.router } })).world
+    item f there None = quiet
+    item f there (Some (Parcel p)) = got f there
+
+    go : (o : Option Found) → terminal_of w.node e ≡ o → IsQuiet (unless w (refusal_at o router_get_refusal) (record { answer = get_answer o; world = record w { node = on_found w.node o (get_at_router w.node) } })).world
+    go None h = quiet
+    go (Some f) h = item f (terminal_there w.node e f h) (current_item f.router.in_queue)

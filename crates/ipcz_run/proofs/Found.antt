@@ -1,9 +1,10 @@
 -- What is found in a node: the router stands at its serial and passes the test; an end's terminal, and the router of a link.
 use Rattle.std.proofs.Common.{◌≡◌, ℕ, Bool, true, false, cond, T, Option, Some, None, List, [], ◌∷◌, arith, refl, sym, ◌∙◌, ap, subst, is_none, unwrap_or}
 use Rattle.std.specs.Prelude.{◌&&◌, ◌||◌}
-use Rattle.std.specs.Ordering.{nat_cmp, eq_by_cmp, is_lt}
-use Rattle.std.specs.FinMap.{entries, entries_sorted, get-entries, find, is_sorted}
-use Rattle.std.specs.FinMap.Entries.{below_all}
+use Rattle.std.specs.Ordering.{nat_cmp, eq_by_cmp}
+use Rattle.std.specs.Cmp.{nat_cmp_total}
+use Rattle.std.specs.FinMap.{entries, entries_sorted, get-entries, find, is_sorted, nat_cmp-IsAntisymmetric}
+use Rattle.ipcz_base.specs.Totals.{find_below, left, right}
 use Rattle.ipcz_base.specs.declared.side.Side.{Side}
 use Rattle.ipcz_base.specs.declared.end.End.{End}
 use Rattle.ipcz_base.specs.declared.link_id.LinkId.{LinkId}
@@ -23,28 +24,6 @@ pub record IsThere (n : Node) (test : Router → Bool) (f : Found) : Type 0 wher
   pub here : router_in n f.serial ≡ Some f.router
   pub passes : test f.router ≡ true
 
-left : (a b : Bool) → T (a && b) → T a
-left true b p = tt
-left false b p = p
-
-right : (a b : Bool) → T (a && b) → T b
-right true b p = p
-right false b p = absurd p
-
-is_true : (b : Bool) → T b → b ≡ true
-is_true true t = refl
-is_true false t = absurd t
-
--- a serial below all others is not among them
-not_above : (q : ℕ) (es : List (ℕ × Router)) → T (below_all nat_cmp q es) → find nat_cmp q es ≡ None
-not_above q [] h = refl
-not_above q (e ∷ es) h =
-    let apart : eq_by_cmp nat_cmp q e.0 ≡ false = lower (left _ _ h) in
-    rw apart (not_above q es (right _ _ h))
-  where
-    lower : T (is_lt (nat_cmp q e.0)) → eq_by_cmp nat_cmp q e.0 ≡ false
-    lower t = let l : is_lt (nat_cmp q e.0) ≡ true = is_true _ t in grind arith
-
 found_among : (test : Router → Bool) (es : List (ℕ × Router)) (f : Found) → T (is_sorted nat_cmp es) → first_where test es ≡ Some f → (find nat_cmp f.serial es ≡ Some f.router) × (test f.router ≡ true)
 unfolding first_where
 found_among test [] f s h = cc
@@ -52,7 +31,7 @@ found_among test (e ∷ es) f s h = go (test e.1) refl h (found_among test es f 
   where
     other : find nat_cmp f.serial es ≡ Some f.router → (b : Bool) → eq_by_cmp nat_cmp f.serial e.0 ≡ b → eq_by_cmp nat_cmp f.serial e.0 ≡ false
     other there false t = t
-    other there true t = absurd (none-some f.router (sym (not_above e.0 es (left _ _ s)) ∙ ap (λ q. find nat_cmp q es) (sym (same_key f.serial e.0 t)) ∙ there))
+    other there true t = absurd (none-some f.router (sym (find_below nat_cmp nat_cmp_total nat_cmp-IsAntisymmetric e.0 es (left _ _ s)) ∙ ap (λ q. find nat_cmp q es) (sym (same_key f.serial e.0 t)) ∙ there))
 
     go : (b : Bool) → test e.1 ≡ b → cond b (Some (record { serial = e.0; router = e.1 })) (first_where test es) ≡ Some f →
         (first_where test es ≡ Some f → (find nat_cmp f.serial es ≡ Some f.router) × (test f.router ≡ true)) → (find nat_cmp f.serial (e ∷ es) ≡ Some f.router) × (test f.router ≡ true)

@@ -38,3 +38,7 @@ pub record NothingIsStuck (w : World) (b : Books) : Type 0 where
 -- law: after any list of steps from the start nothing is stuck
 abbrev pub Arrives : Type 0
 Arrives = (words : ℕ) (steps : List Step) (answers : List Answer) (w : World) (b : Books) → IsRun (new_world words) no_books steps answers w b → NothingIsStuck w b
+
+-- law: a get leaves a quiet world quiet, so gets go on until all that the peer has put was got
+abbrev pub GetsStayQuiet : Type 0
+GetsStayQuiet = (w v : World) (e : End) (answer : Answer) → IsQuiet w → IsStep w (Get e) answer v → IsQuiet v

@@ -2,7 +2,7 @@
 //! cite. The functions do nothing; each one's promise is a theorem.
 ghost use Rattle.ipcz_run.specs.Laws.{StartsLawful, StepKeepsLawful, AnswersPlainly, DeliversInOrder};
 ghost use Rattle.ipcz_run.specs.Settling.{SettlesByTurns};
-ghost use Rattle.ipcz_run.specs.Arriving.{Arrives};
+ghost use Rattle.ipcz_run.specs.Arriving.{Arrives, GetsStayQuiet};
 
 /// The world at the start is lawful, with nothing put and nothing got (docs/PROTOCOL.md, "Nodes").
 pub fn starts_lawful()
@@ -37,4 +37,10 @@ pub fn settles_by_turns()
 /// only where all that the peer has put was got (docs/PROTOCOL.md, "Books and the headline").
 pub fn arrives()
     ensures { Arrives }
+{}
+
+/// A get leaves a world quiet in which nothing waits, so that by gets alone each portal gets all that its peer has put
+/// (docs/PROTOCOL.md, "Turns").
+pub fn gets_stay_quiet()
+    ensures { GetsStayQuiet }
 {}
