@@ -7,17 +7,17 @@ use Rattle.ipcz_base.specs.declared.item.Item.TheVariants.{Parcel}
 use Rattle.ipcz_base.specs.declared.refusal.Refusal.{Refusal}
 use Rattle.ipcz_base.specs.declared.refusal.Refusal.TheVariants.{OutOfMemory, NumbersEnd, Empty, Stranger}
 use Rattle.ipcz_base.specs.Limits.{last_number}
-use Rattle.std.specs.Prelude.{nat_le, nat_lt, is_some}
+use Rattle.std.specs.Prelude.{nat_le, nat_lt, is_some, IsSome}
 use Rattle.std.proofs.lemmas.Bool.Decides.{nat_tests}
 use Rattle.std.specs.Ordering.{nat_cmp}
-use Rattle.std.specs.FinMap.{get-empty}
+use Rattle.std.specs.FinMap.{entries, get-entries, get-empty}
 use Rattle.std.proofs.lemmas.Option.{none-some}
 use Rattle.std.proofs.lemmas.List.{length-drop, take_all}
 use Rattle.ipcz_base.specs.Ends.{opposite_end, same_end}
 use Rattle.ipcz_seq.specs.Queue.{IsReach, item_at, current_item}
-use Rattle.ipcz_router.specs.Router.{Router}
+use Rattle.ipcz_router.specs.Router.{Router, is_terminal}
 use Rattle.ipcz_router.specs.Calls.{next_number, item_refusal, router_get_refusal, router_put_refusal, take_item}
-use Rattle.ipcz_run.specs.Node.{Found, terminal_of, on_found}
+use Rattle.ipcz_run.specs.Node.{Found, is_terminal_of, terminal_of, on_found}
 use Rattle.ipcz_run.specs.Calls.{or_else, bytes_refusal, refusal_at, parcel_refusal, parcel_of, put_at_router, number_at, get_at_router}
 use Rattle.ipcz_run.specs.World.{World, new_world, router_at}
 use Rattle.ipcz_run.specs.Acts.{acted}
@@ -26,7 +26,9 @@ use Rattle.ipcz_run.specs.Books.{Books, no_books, advance, add_put, add_got, rea
 use Rattle.ipcz_run.specs.Laws.{Lawful, IsRun, unread}
 use Rattle.ipcz_run.specs.Places.{in_router, in_messages, in_places, at_end, from_number}
 use Rattle.ipcz_run.specs.Settling.{IsQuiet}
-use Rattle.ipcz_run.specs.Arriving.{Arriving, Arrives, NothingIsStuck, GetsStayQuiet}
+use Rattle.ipcz_run.proofs.Settling.{none_passes}
+use Rattle.ipcz_run.proofs.Coming.{Arriving, HasTerminal}
+use Rattle.ipcz_run.specs.Arriving.{Arrives, NothingIsStuck, GetsStayQuiet}
 use Rattle.ipcz_run.proofs.Ends.{opposite_end-opposite_end, same_end_itself, same_end_tells}
 use Rattle.ipcz_run.proofs.Tallies.{only, only_itself, only_other, weighs_nothing}
 use Rattle.ipcz_run.proofs.Weights.{in_clear_mail}
@@ -116,6 +118,7 @@ pub start : (words : ℕ) → Arriving (new_world words) no_books
 start words = record {
   no_stray = refl;
   there = λ e opened. absurd (omega (arith, opened));
+  not_closed = λ s r at. absurd (none-some r (sym (get-empty nat_cmp s) ∙ at));
   asleep = λ s r at. absurd (none-some r (sym (get-empty nat_cmp s) ∙ at));
   unsent = λ s r at. absurd (none-some r (sym (get-empty nat_cmp s) ∙ at));
   few = λ e. omega arith;
@@ -217,9 +220,20 @@ empty_at w e is = go (terminal_of w.node e) refl is
     go None h same = cc
     go (Some f) h same = item f h (current_item f.router.in_queue) refl same
 
+-- an end of a claimed word has its open terminal
+has_terminal : (w : World) (b : Books) → Lawful w b → Arriving w b → (e : End) → e.pair < w.claimed → (o : Option Found) → terminal_of w.node e ≡ o → IsSome (terminal_of w.node e)
+has_terminal w b law arriving e opened (Some f) is = ap is_some is
+has_terminal w b law arriving e opened None is =
+    let t : HasTerminal w e = arriving.there e opened in
+    let end : is_terminal t.1 ≡ true = law.terminal t.0 t.1 t.2 in
+    let own : same_end t.1.end e ≡ true = ap (λ d. same_end d e) t.3 ∙ same_end_itself e in
+    let passes : is_terminal_of e t.1 ≡ true = rw (end, arriving.not_closed t.0 t.1 t.2, own) refl in
+    absurd (true≢false (sym passes ∙ none_passes (is_terminal_of e) (entries w.node.routers) t.0 t.1 is (sym (get-entries w.node.routers t.0) ∙ t.2)))
+
 pub nothing_stuck : (w : World) (b : Books) → Lawful w b → Arriving w b → NothingIsStuck w b
 nothing_stuck w b law arriving = record {
   no_stray = arriving.no_stray;
+  held = λ e opened. has_terminal w b law arriving e opened (terminal_of w.node e) refl;
   all_got = λ quiet e v is. (
       let found = empty_at w e is.0 in
       subst (λ d. b.got d ≡ b.put (opposite_end d)) found.1.end (all_got w b law arriving quiet found.0.serial found.0.router found.1.here found.2)

@@ -35,24 +35,24 @@ use Rattle.ipcz_run.specs.Acts.{is_rest, may_take, may_act, can_take, has_place_
 use Rattle.ipcz_run.specs.Steps.{open_world}
 use Rattle.ipcz_run.specs.Books.{Books, add_put, add_got}
 use Rattle.ipcz_run.specs.Laws.{Lawful}
-use Rattle.ipcz_run.specs.Arriving.{Arriving, HasTerminal}
 use Rattle.ipcz_run.proofs.Maps.{each_inserted, get_beside, get_inserted, get_removed}
 use Rattle.ipcz_run.proofs.Places.{with_messages, changed}
 use Rattle.ipcz_run.proofs.Opening.{each_opened}
 use Rattle.ipcz_run.proofs.Putting.{next_is}
 use Rattle.ipcz_run.proofs.Acts.{way_out_of, no_way_in, stuck}
-use Rattle.ipcz_run.proofs.Coming.{no_stranger, some_router, its_router, fits}
+use Rattle.ipcz_run.proofs.Coming.{Arriving, HasTerminal, no_stranger, some_router, its_router, fits}
 
 -- messages only change their places, and none becomes a stray
 moved : (w : World) (b : Books) (outbox : List Message) (mail : Mail) → Arriving w b → Arriving (with_messages w outbox w.node.strays mail) b
-moved w b outbox mail arriving = record { no_stray = arriving.no_stray; there = arriving.there; asleep = arriving.asleep; unsent = arriving.unsent; few = arriving.few }
+moved w b outbox mail arriving = record { no_stray = arriving.no_stray; there = arriving.there; not_closed = arriving.not_closed; asleep = arriving.asleep; unsent = arriving.unsent; few = arriving.few }
 
 -- one router changes, and stays the terminal of its end
-changed_keeps : (w : World) (b c : Books) (k : ℕ) (r y : Router) (outbox : List Message) (mail : Mail) → Arriving w b → router_at w k ≡ Some r → y.end ≡ r.end
+changed_keeps : (w : World) (b c : Books) (k : ℕ) (r y : Router) (outbox : List Message) (mail : Mail) → Arriving w b → router_at w k ≡ Some r → y.end ≡ r.end → y.closed ≡ r.closed
     → (y.flagged ≡ false → current_item y.out_queue ≡ None) → IsCurrent y.out_queue → ((e : End) → length (c.put e) ≤ last_number) → Arriving (changed w k y outbox w.node.strays mail) c
-changed_keeps w b c k r y outbox mail arriving at same asleep unsent few = record {
+changed_keeps w b c k r y outbox mail arriving at same closed asleep unsent few = record {
   no_stray = arriving.no_stray;
   there = λ e opened. terminal e (arriving.there e opened);
+  not_closed = each_inserted (λ s q. q.closed ≡ false) w.node.routers k y (closed ∙ arriving.not_closed k r at) (λ s q other there. arriving.not_closed s q there);
   asleep = each_inserted (λ s q. q.flagged ≡ false → current_item q.out_queue ≡ None) w.node.routers k y asleep (λ s q other there. arriving.asleep s q there);
   unsent = each_inserted (λ s q. IsCurrent q.out_queue) w.node.routers k y unsent (λ s q other there. arriving.unsent s q there);
   few = few;
@@ -82,7 +82,7 @@ hand_keeps w b (mails.Hand (messages.Item (Central word) side n item)) law arriv
         let its = its_router w b law arriving word side n item is f e in
         subst (λ t. Arriving (record w { node = if t then take_in w.node (Central word) side n item f.serial f.router else add_stray w.node (messages.Item (Central word) side n item); mail = mails.Empty }) b) (sym (fits w b law arriving word side n item is f e))
         (subst (λ o. Arriving (changed w f.serial (accept f.router o n item) w.node.outbox w.node.strays mails.Empty) b) (sym its.1.outward)
-        (changed_keeps w b b f.serial f.router (accept_from_outward f.router n item) w.node.outbox mails.Empty arriving its.0 refl (λ down. absurd (true≢false down)) (arriving.unsent f.serial f.router its.0) arriving.few))
+        (changed_keeps w b b f.serial f.router (accept_from_outward f.router n item) w.node.outbox mails.Empty arriving its.0 refl refl (λ down. absurd (true≢false down)) (arriving.unsent f.serial f.router its.0) arriving.few))
 
 look_keeps : (w : World) (b : Books) (mail : Mail) → Arriving w b → Arriving (looked w mail) b
 unfolding looked
@@ -125,9 +125,9 @@ router_act_keeps w b k r SendOut law arriving at may = go (current_item r.out_qu
     go : (o : Option Item) → current_item r.out_queue ≡ o → ((is_some o && is_some (way_out r)) || false) ≡ true → Arriving (record w { node = send (with_router w.node k (pop_out r)) (sent_over (way_out r) r.out_queue.current o) }) b
     go None e h = cc
     go (Some item) e h = subst (λ way. Arriving (record w { node = send (with_router w.node k (pop_out r)) (sent_over way r.out_queue.current (Some item)) }) b) (sym (way_out_of w b k r law at))
-        (changed_keeps w b b k r (pop_out r) (w.node.outbox ++ item_message (link_at r.end.pair r.end.side) r.out_queue.current item ∷ []) w.mail arriving at refl (awake item e) (popped r.out_queue (arriving.unsent k r at)) arriving.few)
+        (changed_keeps w b b k r (pop_out r) (w.node.outbox ++ item_message (link_at r.end.pair r.end.side) r.out_queue.current item ∷ []) w.mail arriving at refl refl (awake item e) (popped r.out_queue (arriving.unsent k r at)) arriving.few)
 router_act_keeps w b k r SendIn law arriving at may = let none : is_some (way_in r) ≡ false = ap is_some (no_way_in w b k r law at) in absurd (stuck (is_some (current_item r.in_queue)) (is_some (way_in r)) none may)
-router_act_keeps w b k r Rest law arriving at may = changed_keeps w b b k r (rest r) w.node.outbox w.mail arriving at refl (λ down. rested w b k r law at may) (arriving.unsent k r at) arriving.few
+router_act_keeps w b k r Rest law arriving at may = changed_keeps w b b k r (rest r) w.node.outbox w.mail arriving at refl refl (λ down. rested w b k r law at may) (arriving.unsent k r at) arriving.few
 
 pub act_keeps : (w : World) (b : Books) (act : Act) → Lawful w b → Arriving w b → IsTrue (can_take w act) → Arriving (acted w act) b
 unfolding acted can_take may_act on_router
@@ -146,6 +146,7 @@ pub open_keeps : (w : World) (b : Books) → Lawful w b → Arriving w b → Arr
 open_keeps w b law arriving = record {
   no_stray = arriving.no_stray;
   there = λ e opened. terminal e opened (nat_lt e.pair w.claimed) refl;
+  not_closed = each_opened (λ s q. q.closed ≡ false) w refl refl arriving.not_closed;
   asleep = each_opened (λ s q. q.flagged ≡ false → current_item q.out_queue ≡ None) w (λ down. get-empty nat_cmp 0) (λ down. get-empty nat_cmp 0) arriving.asleep;
   unsent = each_opened (λ s q. IsCurrent q.out_queue) w (λ n some. omega arith) (λ n some. omega arith) arriving.unsent;
   few = arriving.few;
@@ -165,7 +166,7 @@ open_keeps w b law arriving = record {
 -- a put wakes its router, and there was a number for it
 pub put_keeps : (w : World) (b : Books) (k : ℕ) (r : Router) (p : parcels.Parcel) → Lawful w b → Arriving w b → router_at w k ≡ Some r → next_number r < last_number
     → Arriving (changed w k (put_item r (Parcel p)) w.node.outbox w.node.strays w.mail) (add_put b r.end p)
-put_keeps w b k r p law arriving at less = changed_keeps w b (add_put b r.end p) k r (put_item r (Parcel p)) w.node.outbox w.mail arriving at refl (λ down. absurd (true≢false down)) unsent few
+put_keeps w b k r p law arriving at less = changed_keeps w b (add_put b r.end p) k r (put_item r (Parcel p)) w.node.outbox w.mail arriving at refl refl (λ down. absurd (true≢false down)) unsent few
   where
     number : next_number r ≡ length (b.put r.end)
     number = next_is w b k r law at
@@ -185,4 +186,4 @@ put_keeps w b k r p law arriving at less = changed_keeps w b (add_put b r.end p)
 
 -- a get leaves what is to be sent
 pub get_keeps : (w : World) (b : Books) (k : ℕ) (r : Router) (p : parcels.Parcel) → Arriving w b → router_at w k ≡ Some r → Arriving (changed w k (take_item r) w.node.outbox w.node.strays w.mail) (add_got b r.end p)
-get_keeps w b k r p arriving at = changed_keeps w b (add_got b r.end p) k r (take_item r) w.node.outbox w.mail arriving at refl (arriving.asleep k r at) (arriving.unsent k r at) arriving.few
+get_keeps w b k r p arriving at = changed_keeps w b (add_got b r.end p) k r (take_item r) w.node.outbox w.mail arriving at refl refl (arriving.asleep k r at) (arriving.unsent k r at) arriving.few

@@ -1,4 +1,4 @@
--- An item in hand always has its place at a router.
+-- What keeps parcels from being stuck; and that an item in hand always has its place at a router.
 use Rattle.std.proofs.Common.{◌≡◌, ◌≤◌, ◌<◌, ℕ, ◌+◌, Bool, true, false, cond, Option, Some, None, List, [], map, length, drop, ◌-◌, true≢false, refl, sym, ◌∙◌, ap, subst, arith}
 use Rattle.std.specs.Prelude.{◌&&◌, ◌||◌, nat_le, nat_lt}
 use Rattle.std.specs.FinMap.{get-entries, entries}
@@ -12,12 +12,12 @@ use Rattle.ipcz_base.specs.declared.link_id.LinkId.TheVariants.{Central, Periphe
 use Rattle.ipcz_base.specs.declared.parcel.Parcel as parcels
 use Rattle.ipcz_base.specs.declared.item.Item.{Item}
 use Rattle.ipcz_base.specs.declared.item.Item.TheVariants.{Parcel}
-use Rattle.ipcz_base.specs.Limits.{no_number}
+use Rattle.ipcz_base.specs.Limits.{last_number, no_number}
 use Rattle.ipcz_base.specs.Sides.{opposite, same_side}
 use Rattle.ipcz_base.specs.Ends.{opposite_end, same_end}
 use Rattle.ipcz_base.specs.Links.{has_link, same_link}
 use Rattle.ipcz_base.specs.Totals.{total}
-use Rattle.ipcz_seq.specs.Queue.{item_at}
+use Rattle.ipcz_seq.specs.Queue.{item_at, IsCurrent, current_item}
 use Rattle.ipcz_edge.specs.Edge.{edge_of}
 use Rattle.ipcz_router.specs.Router.{Router, router_has, outward_has, inward_has}
 use Rattle.ipcz_router.specs.Calls.{has_place_for}
@@ -30,12 +30,30 @@ use Rattle.ipcz_run.specs.World.{World, router_at}
 use Rattle.ipcz_run.specs.Books.{Books, read}
 use Rattle.ipcz_run.specs.Places.{Weight, in_router, in_message, in_mail, in_places, source, at_end, from_number}
 use Rattle.ipcz_run.specs.Laws.{Lawful, unread}
-use Rattle.ipcz_run.specs.Arriving.{Arriving, HasTerminal}
 use Rattle.ipcz_run.proofs.Ends.{same_end_itself, opposite-opposite}
 use Rattle.ipcz_run.proofs.Found.{IsThere, found_there, IsItsLink, its_link}
 use Rattle.ipcz_run.proofs.Settling.{none_passes}
 use Rattle.ipcz_run.proofs.Weights.{in_mail-Hand}
 use Rattle.ipcz_run.proofs.Tallies.{IsOnce, once, only, only_itself, weighs_in}
+
+-- some router is a terminal of this end
+abbrev pub HasTerminal : World → End → Type 0
+HasTerminal w e = (s : ℕ) × (r : Router) × (router_at w s ≡ Some r) × (r.end ≡ e)
+
+-- what keeps parcels from being stuck
+pub record Arriving (w : World) (b : Books) : Type 0 where
+  -- no message was unfit
+  pub no_stray : w.node.strays ≡ []
+  -- each end of a claimed word has its terminal
+  pub there : (e : End) → e.pair < w.claimed → HasTerminal w e
+  -- its callers have closed none
+  pub not_closed : (s : ℕ) (r : Router) → router_at w s ≡ Some r → r.closed ≡ false
+  -- a router that isn't flagged has nothing to send
+  pub asleep : (s : ℕ) (r : Router) → router_at w s ≡ Some r → r.flagged ≡ false → current_item r.out_queue ≡ None
+  -- what was sent doesn't stand in the out queue
+  pub unsent : (s : ℕ) (r : Router) → router_at w s ≡ Some r → IsCurrent r.out_queue
+  -- there are numbers for what was put
+  pub few : (e : End) → length (b.put e) ≤ last_number
 
 -- what an end has put and its peer hasn't got weighs nothing where it has put nothing
 none_unread : (b : Books) (e : End) (n : ℕ) → b.put e ≡ [] → unread (only n) b e ≡ 0

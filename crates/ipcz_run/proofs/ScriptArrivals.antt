@@ -1,4 +1,4 @@
--- Whatever a script asks, nothing is stuck.
+-- Whatever a script asks, nothing is stuck, and each answer is plain.
 use Rattle.std.proofs.Common.{◌≡◌, ℕ, zero, suc, Bool, true, false, cond, Option, Some, None, List, [], ◌∷◌, refl, inl}
 use Rattle.std.specs.FinMap.{get}
 use Rattle.ipcz_base.specs.declared.end.End.{End}
@@ -12,11 +12,11 @@ use Rattle.ipcz_run.specs.Settling.{turned, is_settled, settle}
 use Rattle.ipcz_run.specs.Books.{Books, no_books, advance}
 use Rattle.ipcz_run.specs.Laws.{Lawful}
 use Rattle.ipcz_run.specs.Sessions.{Session, new_session, replied, replied_at, session_after, books_at, command_books, books_after}
-use Rattle.ipcz_run.specs.Arriving.{Arriving}
-use Rattle.ipcz_run.specs.ScriptLaws.{ScriptsArrive}
+use Rattle.ipcz_run.specs.ScriptLaws.{ScriptsArrive, ScriptsAnswerPlainly}
 use Rattle.ipcz_run.proofs.Acts as acts
-use Rattle.ipcz_run.proofs.Steps.{starts_lawful}
+use Rattle.ipcz_run.proofs.Steps.{starts_lawful, answers_plainly}
 use Rattle.ipcz_run.proofs.ScriptRuns.{first_may, command_keeps}
+use Rattle.ipcz_run.proofs.Coming.{Arriving}
 use Rattle.ipcz_run.proofs.Arriving.{act_keeps}
 use Rattle.ipcz_run.proofs.Arrivals.{start, step_keeps, nothing_stuck}
 
@@ -50,3 +50,8 @@ commands_arrive s b (c ∷ cs) law arriving = commands_arrive (replied s c).sess
 
 pub scripts_arrive : ScriptsArrive
 scripts_arrive words cs = let kept = commands_arrive (new_session words) no_books cs (starts_lawful words) (start words) in nothing_stuck _ _ kept.0 kept.1
+
+pub scripts_answer_plainly : ScriptsAnswerPlainly
+scripts_answer_plainly words cs step answer v is =
+    let kept = commands_arrive (new_session words) no_books cs (starts_lawful words) (start words) in
+    answers_plainly (session_after (new_session words) cs).world v (books_after no_books (new_session words) cs) step answer kept.0 is

@@ -13,7 +13,7 @@ use Rattle.ipcz_run.specs.declared.world.act.Act.TheVariants.{Hand, Look, Post}
 use Rattle.ipcz_run.specs.Node.{Found, first_where, found, flagged_router}
 use Rattle.ipcz_run.specs.World.{World}
 use Rattle.ipcz_run.specs.Acts.{next, is_idle, is_clear, is_full, is_in_hand, has_mail, router_turn}
-use Rattle.ipcz_run.specs.Settling.{turned, is_settled, settle, IsQuiet, HasAct, IsSettle}
+use Rattle.ipcz_run.specs.Settling.{turned, is_settled, settle, IsQuiet, HasAct, AreTurns, IsSettle}
 use Rattle.ipcz_run.proofs.ScriptRuns.{first_may}
 
 -- where no entry passes a test, the one of a key doesn't
@@ -74,7 +74,7 @@ settled_quiet w done = hand (is_in_hand w.mail) refl done
     hand false f h = look (is_full w.mail) f refl h
 
 -- a world with something to do
-has_act : (w : World) → is_settled w ≡ false → HasAct w
+pub has_act : (w : World) → is_settled w ≡ false → HasAct w
 has_act w busy = (busy, first_may w busy)
 
 pub settles_by_turns : (limit : ℕ) (w : World) → IsSettle limit w (settle limit w) (is_settled (settle limit w))
@@ -88,3 +88,8 @@ settles_by_turns (suc n) w = go (settles_by_turns n (turned w)) (is_settled w) r
 
 pub settle_by : (limit : ℕ) (w v : World) (settled : Bool) → v ≡ settle limit w → settled ≡ is_settled (settle limit w) → IsSettle limit w v settled
 settle_by limit w v settled there so = rw (there, so) (settles_by_turns limit w)
+
+-- one turn more
+pub more_turns : (n : ℕ) (w u v : World) → AreTurns n w u → HasAct u → v ≡ turned u → AreTurns (suc n) w v
+more_turns zero w u v is busy after = (subst HasAct is busy, after ∙ ap turned is)
+more_turns (suc n) w u v is busy after = (is.0, more_turns n (turned w) u v is.1 busy after)

@@ -78,7 +78,7 @@ unfoldable pub may_act : Option Router → RouterAct → Bool
 may_act None act = false
 may_act (Some r) act = may_take r act
 
--- whether the node may take an act, in whatever order: idle only where no other is possible
+-- whether the node may take an act, in whatever order: idle only where it is the first possible act
 unfoldable pub can_take : World → Act → Bool
 can_take w Hand = is_in_hand w.mail
 can_take w Look = is_full w.mail

@@ -5,7 +5,9 @@ use Rattle.ipcz_base.specs.declared.end.End.{End}
 use Rattle.ipcz_base.specs.declared.parcel.Parcel.{Parcel}
 use Rattle.ipcz_base.specs.Ends.{opposite_end, same_end}
 use Rattle.ipcz_run.specs.Calls.{parcel_of}
-use Rattle.ipcz_run.specs.Steps.{Step, Answer, Put, Get, Accepted, Got}
+use Rattle.ipcz_base.specs.declared.refusal.Refusal.{Refusal}
+use Rattle.ipcz_base.specs.declared.refusal.Refusal.TheVariants.{NoWord, NumbersEnd, OutOfMemory, Stranger, TooMany, BadData, Empty}
+use Rattle.ipcz_run.specs.Steps.{Step, Answer, Open, Put, Get, Turn, Opened, Accepted, Got, Turned, Refused}
 
 -- for each end the parcels that it has put, and those that it has got
 pub record Books : Type 0 where
@@ -38,8 +40,30 @@ read b e = length (b.got e)
 abbrev pub next_parcel : Books → End → Option Parcel
 next_parcel b e = slice_get (b.put (opposite_end e)) (read b e)
 
--- what the machine over books alone allows: a put gets the next number of its end, a get the next parcel of the peer
+-- the books have nothing of an end
+abbrev pub IsUnwritten : Books → End → Type 0
+IsUnwritten b e = (b.put e ≡ []) × (b.got e ≡ [])
+
+-- why a step may be refused
+abbrev pub MayRefuse : Step → Refusal → Type 0
+MayRefuse Open NoWord = Unit {0}
+MayRefuse Open NumbersEnd = Unit {0}
+MayRefuse Open OutOfMemory = Unit {0}
+MayRefuse (Put at bytes) Stranger = Unit {0}
+MayRefuse (Put at bytes) TooMany = Unit {0}
+MayRefuse (Put at bytes) BadData = Unit {0}
+MayRefuse (Put at bytes) NumbersEnd = Unit {0}
+MayRefuse (Put at bytes) OutOfMemory = Unit {0}
+MayRefuse (Get at) Stranger = Unit {0}
+MayRefuse (Get at) Empty = Unit {0}
+MayRefuse Turn OutOfMemory = Unit {0}
+MayRefuse step why = ⊥
+
+-- what the machine over books alone allows: an open gives both ends of a pair of which nothing is written, a put gets the next number of its end, a get the next parcel of the peer; a turn and a refusal write nothing
 abbrev pub Plain : Books → Step → Answer → Books → Type 0
+Plain b Open (Opened d e) c = (e ≡ opposite_end d) × IsUnwritten b d × IsUnwritten b e × (c ≡ b)
 Plain b (Put at bytes) (Accepted n) c = (n ≡ length (b.put at)) × (c ≡ add_put b at (parcel_of bytes))
 Plain b (Get at) (Got n p) c = (n ≡ read b at) × (next_parcel b at ≡ Some p) × (c ≡ add_got b at p)
-Plain b step answer c = c ≡ b
+Plain b Turn (Turned act) c = c ≡ b
+Plain b step (Refused why) c = MayRefuse step why × (c ≡ b)
+Plain b step answer c = ⊥

@@ -29,7 +29,7 @@ pub record AreFiled (routers : FinMap nat_cmp Router) (links : List ((LinkId × 
   pub by_end : (end : End) (serial : ℕ) → is_filed end_cmp terminals end serial ≡ passes (is_terminal_of end) routers serial
   pub by_flag : (serial : ℕ) → has nat_cmp flagged serial ≡ passes (λ r. r.flagged) routers serial
 
--- one for a router that isn't flagged, and so may be
+-- 1 for a router that isn't flagged, since its flag may yet be set; else 0
 abbrev pub asleep : Router → ℕ
 asleep r = if r.flagged then 0 else 1
 

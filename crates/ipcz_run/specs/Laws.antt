@@ -14,7 +14,7 @@ use Rattle.ipcz_run.specs.Steps.{Step, Answer, IsStep}
 use Rattle.ipcz_run.specs.Books.{Books, no_books, advance, read, Plain}
 use Rattle.ipcz_run.specs.Places.{in_places, at_end, from_number}
 
--- the parcels of an end that its peer hasn't got, from their first number on
+-- the weight of the parcels of an end that its peer hasn't got
 abbrev pub unread : (ℕ → Item → ℕ) → Books → End → ℕ
 unread h b e = from_number h (read b (opposite_end e)) (map Parcel (drop (read b (opposite_end e)) (b.put e)))
 
@@ -28,6 +28,7 @@ pub record Delivered (w : World) (b : Books) : Type 0 where
 -- a lawful world with its books: the sentence, with what it takes to keep it
 pub record Lawful (w : World) (b : Books) : Type 0 where
   pub delivered : Delivered w b
+  -- no end has got more than its peer has put
   pub got_put : (e : End) → read b (opposite_end e) ≤ length (b.put e)
   -- every router is a terminal on the link of its pair's word, with nothing decaying
   pub terminal : (s : ℕ) (r : Router) → router_at w s ≡ Some r → is_terminal r ≡ true
@@ -37,6 +38,7 @@ pub record Lawful (w : World) (b : Books) : Type 0 where
   pub opened : (s : ℕ) (r : Router) → router_at w s ≡ Some r → r.end.pair < w.claimed
   pub none_put : (e : End) → w.claimed ≤ e.pair → b.put e ≡ []
   pub none_got : (e : End) → w.claimed ≤ e.pair → b.got e ≡ []
+  -- serials are below the next one
   pub serials : (s : ℕ) (r : Router) → router_at w s ≡ Some r → s < w.node.next_router
   -- a terminal numbers what it puts by what its end has put, and what it gives by what its callers have got
   pub reach : (s : ℕ) (r : Router) → router_at w s ≡ Some r → IsReach r.out_queue (length (b.put r.end))

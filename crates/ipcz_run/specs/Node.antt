@@ -10,7 +10,7 @@ use Rattle.ipcz_base.specs.Ends.{same_end}
 use Rattle.ipcz_router.specs.Router.{Router, is_open_terminal, router_has}
 use Rattle.ipcz_run.specs.declared.node.message.Message.{Message}
 
--- a node as contracts see it: its routers by serial, and the serial that the next one gets
+-- a node as contracts see it: its routers by serial, the messages that wait to be posted, those that didn't fit, and the serial that the next router gets
 pub record Node : Type 0 where
   pub routers : FinMap nat_cmp Router
   pub outbox : List Message
@@ -67,11 +67,11 @@ find_router n test = first_where test (entries n.routers)
 abbrev pub is_terminal_of : End → Router → Bool
 is_terminal_of end r = is_open_terminal r && same_end r.end end
 
--- the terminal of an end
+-- the open terminal of an end, that of the lowest serial
 abbrev pub terminal_of : Node → End → Option Found
 terminal_of n end = find_router n (is_terminal_of end)
 
--- the router that has a link at a side
+-- the router that has a link at a side, that of the lowest serial
 abbrev pub link_router : Node → LinkId → Side → Option Found
 link_router n link side = find_router n (λ r. router_has r link side)
 

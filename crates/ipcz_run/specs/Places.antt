@@ -53,7 +53,7 @@ abbrev pub at_end : End → (ℕ → Item → ℕ) → Weight
 at_end e h None n item = h n item
 at_end e h (Some d) n item = cond (same_end d e) (h n item) 0
 
--- the total of a list of items, numbered from one on
+-- the total of a list of items, numbered from a first number on
 abbrev pub from_number : (ℕ → Item → ℕ) → ℕ → List Item → ℕ
 from_number h n [] = 0
 from_number h n (item ∷ items) = h n item + from_number h (n + 1) items

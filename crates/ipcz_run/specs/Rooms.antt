@@ -1,4 +1,5 @@
 -- The node with the room that it has made: how many more messages and routers it takes without memory.
+-- (This project's own.)
 use Rattle.std.specs.Prelude.{ℕ, ◌+◌, ◌-◌}
 use Rattle.std.specs.Ordering.{nat_cmp}
 use Rattle.std.specs.FinMap.{FinMap, insert}

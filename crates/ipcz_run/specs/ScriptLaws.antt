@@ -1,8 +1,10 @@
--- What holds whatever a script asks: what its portals have got, where its parcels stand, and that none is stuck.
+-- What holds whatever a script asks: what its portals have got, where its parcels stand, that none is stuck, and what it is answered.
 -- (This project's own.)
 use Rattle.std.specs.Prelude.{ℕ, List}
 use Rattle.ipcz_run.specs.declared.script.command.Command.{Command}
-use Rattle.ipcz_run.specs.Books.{no_books}
+use Rattle.ipcz_run.specs.World.{World}
+use Rattle.ipcz_run.specs.Steps.{Step, Answer, IsStep}
+use Rattle.ipcz_run.specs.Books.{no_books, advance, Plain}
 use Rattle.ipcz_run.specs.Arriving.{NothingIsStuck}
 use Rattle.ipcz_run.specs.Laws.{Delivered}
 use Rattle.ipcz_run.specs.Sessions.{new_session, session_after, books_after}
@@ -14,3 +16,9 @@ ScriptsDeliver = (words : ℕ) (commands : List Command) → Delivered (session_
 -- law: after any commands of a script nothing is stuck
 abbrev pub ScriptsArrive : Type 0
 ScriptsArrive = (words : ℕ) (commands : List Command) → NothingIsStuck (session_after (new_session words) commands).world (books_after no_books (new_session words) commands)
+
+-- law: after any commands of a script each answer is one that the books alone allow
+abbrev pub ScriptsAnswerPlainly : Type 0
+ScriptsAnswerPlainly = (words : ℕ) (commands : List Command) (step : Step) (answer : Answer) (v : World) →
+    IsStep (session_after (new_session words) commands).world step answer v →
+    Plain (books_after no_books (new_session words) commands) step answer (advance (books_after no_books (new_session words) commands) step answer)

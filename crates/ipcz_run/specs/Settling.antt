@@ -33,8 +33,13 @@ abbrev pub AreTurns : ℕ → World → World → Type 0
 AreTurns zero w v = v ≡ w
 AreTurns (suc n) w v = HasAct w × AreTurns n (turned w) v
 
+-- some turns, at most so many
+abbrev pub TookTurns : ℕ → World → World → Type 0
+TookTurns most w v = (n : ℕ) × (n ≤ most) × AreTurns n w v
+
 -- a settle: turns, at most as many as its limit; it is settled only where nothing waits, and unsettled only where its limit is reached and an act is still possible
 pub record IsSettle (limit : ℕ) (w v : World) (settled : Bool) : Type 0 where
+  -- how many turns were taken
   pub count : ℕ
   pub within : count ≤ limit
   pub turns : AreTurns count w v

@@ -14,7 +14,7 @@ use Rattle.ipcz_run.specs.declared.script.run_fault.RunFault.TheVariants as faul
 use Rattle.ipcz_run.specs.Lines.{line_of, refused_line}
 use Rattle.ipcz_run.specs.Reading.{IsScript, max_bytes}
 use Rattle.ipcz_run.specs.Sessions.{Session, new_session, replied}
-use Rattle.ipcz_run.specs.WholeIo.{AppendsFront}
+use Rattle.ipcz_run.specs.WholeIo.{AppendsFront, ConsumesAtMost}
 
 -- the lines of these commands, each with its reply
 abbrev pub lines_from : Session → List Command → List ℕ
@@ -61,5 +61,5 @@ abbrev pub ReadsAndWrites : Option (List ℕ) → Option (List ℕ) → Option (
 ReadsAndWrites before after old new (Ok outcome) = (input : List ℕ) × (text : List ℕ) × IsInput before after input × IsOutput input outcome text × Appends old new text
 ReadsAndWrites before after old new (Err faults.Write) =
     (input : List ℕ) × (outcome : Outcome) × (text : List ℕ) × IsInput before after input × IsOutput input outcome text × AppendsFront old new text
-ReadsAndWrites before after old new (Err faults.Read) = Keeps old new
-ReadsAndWrites before after old new (Err faults.OutOfMemory) = Keeps old new
+ReadsAndWrites before after old new (Err faults.Read) = ConsumesAtMost before after (max_bytes + 1) × Keeps old new
+ReadsAndWrites before after old new (Err faults.OutOfMemory) = ConsumesAtMost before after (max_bytes + 1) × Keeps old new

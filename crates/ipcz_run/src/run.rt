@@ -1,6 +1,6 @@
 ghost use Rattle.std.specs.Prelude.{◌≡◌, ◌↔◌, ◌++◌, false, IsTrue, IsErrOf, IfOk, OnOk, if◌then◌else◌};
 ghost use Rattle.std.specs.List.{list_any};
-ghost use Rattle.ipcz_run.specs.ScriptLaws.{ScriptsArrive, ScriptsDeliver};
+ghost use Rattle.ipcz_run.specs.ScriptLaws.{ScriptsAnswerPlainly, ScriptsArrive, ScriptsDeliver};
 ghost use Rattle.ipcz_run.specs.Sessions.{replied};
 ghost use Rattle.ipcz_run.specs.Lines.{line_of, refused_line};
 ghost use Rattle.ipcz_run.specs.Transcript.{transcript, ending, lines_from, replies_from, is_unsettled, IsOutput, ReadsAndWrites};
@@ -119,6 +119,7 @@ pub fn run_script<R: Read, W: Write>(
     ensures write { IsErrOf result RunFault.Write ↔ IsTrue writer.new.failed }
     ensures delivers { ScriptsDeliver }
     ensures arrives { ScriptsArrive }
+    ensures answers { ScriptsAnswerPlainly }
 {
     let input = read_up_to(alloc, reader, MOST_READ)?;
     let Ok((outcome, text)) = output(alloc, &input) else {

@@ -5,7 +5,7 @@ ghost use Rattle.ipcz_router.specs.Acts.{next_act};
 ghost use Rattle.ipcz_run.specs.Acts.{next, router_turn, acted, commit_router, deliver, handed, looked, posted};
 ghost use Rattle.ipcz_run.specs.Calls.{end_at, put_refusal, put_node, put_number, get_refusal, get_node};
 ghost use Rattle.ipcz_run.specs.Node.{terminal_of, flagged_router, router_in};
-ghost use Rattle.ipcz_run.specs.Settling.{turned, settle, is_settled, IsSettle};
+ghost use Rattle.ipcz_run.specs.Settling.{turned, settle, is_settled, IsSettle, TookTurns};
 ghost use Rattle.ipcz_run.specs.Steps.{open_refusal, open_world, get_answer, Got};
 ghost use Rattle.ipcz_run.specs.Turns.{IsReady};
 ghost use Rattle.ipcz_run.specs.World.{new_world, with_node};
@@ -229,7 +229,8 @@ impl World {
         ensures settled { IfOk result (λ settled. settled ≡ is_settled (settle limit self.old)) }
         ensures world { OnOk result (self.new ≡ settle limit self.old) }
         ensures turns { IfOk result (λ settled. IsSettle limit self.old self.new settled) }
-        ensures err { IfErr result (λ why. why ≡ Refusal.OutOfMemory) }
+        ensures why { IfErr result (λ why. why ≡ Refusal.OutOfMemory) }
+        ensures err { OnErr result (TookTurns limit self.old self.new) }
     {
         for _turn in 0..limit {
             let act = self.turn()?;

@@ -2,7 +2,7 @@ use Rattle.std.proofs.Common.{subst, arith}
 use Rattle.std.specs.Io.KnownBytes.{Appends}
 use Rattle.ipcz_run.specs.WholeIo.{AppendsFront}
 use Rattle.ipcz_run.specs.Transcript.{IsOutput}
-use Rattle.ipcz_run.proofs.ScriptArrivals.{scripts_arrive}
+use Rattle.ipcz_run.proofs.ScriptArrivals.{scripts_arrive, scripts_answer_plainly}
 use Rattle.ipcz_run.proofs.ScriptRuns.{scripts_deliver}
 use Rattle.ipcz_run.proofs.run.run_script.Goals as goal
 
@@ -48,3 +48,15 @@ returns-in_default-write_whole-clause-arrives g c = scripts_arrive
 
 pub returns-clause-arrives : goal.returns-clause-arrives
 returns-clause-arrives g c = scripts_arrive
+
+pub returns-in_err-input-clause-answers : goal.returns-in_err-input-clause-answers
+returns-in_err-input-clause-answers g c = scripts_answer_plainly
+
+pub returns-in_default-clause-answers : goal.returns-in_default-clause-answers
+returns-in_default-clause-answers g c = scripts_answer_plainly
+
+pub returns-in_default-write_whole-clause-answers : goal.returns-in_default-write_whole-clause-answers
+returns-in_default-write_whole-clause-answers g c = scripts_answer_plainly
+
+pub returns-clause-answers : goal.returns-clause-answers
+returns-clause-answers g c = scripts_answer_plainly
