@@ -15,7 +15,8 @@ use Rattle.ipcz_base.specs.Sides.{same_side}
 use Rattle.ipcz_base.specs.declared.link_end.LinkEnd.{LinkEnd}
 use Rattle.ipcz_base.specs.Orders.{side_cmp, link_cmp, end_cmp}
 use Rattle.ipcz_base.proofs.Orders.{both_tie, side_ties, link_ties, end_ties}
-use Rattle.ipcz_base.specs.Totals.{total, total_of, total-insert, total-insert_new, total-remove, total-empty, find_below, find_lower, left, right}
+use Rattle.ipcz_base.specs.Totals.{total, total_of}
+use Rattle.ipcz_base.proofs.Totals.{total-insert, total-insert_new, total-remove, total-empty, find_below, find_lower, left, right}
 use Rattle.ipcz_seq.proofs.Pairs.{one_or_two, tied, apart}
 use Rattle.ipcz_base.specs.declared.item.Item.{Item}
 use Rattle.ipcz_router.specs.Router.{Router, router_has, terminal}

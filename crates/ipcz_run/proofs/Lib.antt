@@ -22,6 +22,7 @@ pub mod ReadingLaws
 pub mod Replies
 pub mod ScriptArrivals
 pub mod ScriptRuns
+pub mod ScriptSteps
 pub mod Serials
 pub mod Settling
 pub mod SortedSets

@@ -7,7 +7,8 @@ use Rattle.ipcz_base.specs.declared.end.End.{End}
 use Rattle.ipcz_base.specs.declared.link_end.LinkEnd.{LinkEnd}
 use Rattle.ipcz_base.specs.declared.item.Item.{Item}
 use Rattle.ipcz_base.specs.Ends.{opposite_end}
-use Rattle.ipcz_base.specs.Totals.{total, total-insert, total-insert_new, total-remove, total-empty}
+use Rattle.ipcz_base.specs.Totals.{total}
+use Rattle.ipcz_base.proofs.Totals.{total-insert, total-insert_new, total-remove, total-empty}
 use Rattle.ipcz_seq.specs.Queue.{Queue, item_at, current_item, push_at, pop_front}
 use Rattle.ipcz_router.specs.Router.{Router, terminal}
 use Rattle.ipcz_router.specs.Calls.{next_number, put_item, take_item, accept_from_outward}

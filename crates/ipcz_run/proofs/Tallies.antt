@@ -6,7 +6,8 @@ use Rattle.std.specs.Cmp.{nat_cmp_total}
 use Rattle.std.specs.FinMap.{FinMap, get, find, entries, entries_sorted, get-entries, is_sorted, nat_cmp-IsAntisymmetric}
 use Rattle.std.proofs.lemmas.Bool.Decides.{nat_tests}
 use Rattle.ipcz_base.specs.declared.item.Item.{Item}
-use Rattle.ipcz_base.specs.Totals.{total, total_of, total-remove, find_below, left, right}
+use Rattle.ipcz_base.specs.Totals.{total, total_of}
+use Rattle.ipcz_base.proofs.Totals.{total-remove, find_below, left, right}
 use Rattle.ipcz_seq.proofs.Pairs.{tied, apart, one_or_two}
 use Rattle.ipcz_run.specs.Places.{from_number}
 

@@ -1,6 +1,6 @@
 ghost use Rattle.std.specs.Prelude.{◌≡◌, ◌↔◌, ◌++◌, false, IsTrue, IsErrOf, IfOk, OnOk, if◌then◌else◌};
 ghost use Rattle.std.specs.List.{list_any};
-ghost use Rattle.ipcz_run.specs.ScriptLaws.{ScriptsAnswerPlainly, ScriptsArrive, ScriptsDeliver};
+ghost use Rattle.ipcz_run.specs.ScriptLaws.{ScriptsAnswerPlainly, ScriptsAreRuns, ScriptsArrive, ScriptsDeliver};
 ghost use Rattle.ipcz_run.specs.Sessions.{replied};
 ghost use Rattle.ipcz_run.specs.Lines.{line_of, refused_line};
 ghost use Rattle.ipcz_run.specs.Transcript.{transcript, ending, lines_from, replies_from, is_unsettled, IsOutput, ReadsAndWrites};
@@ -117,6 +117,7 @@ pub fn run_script<R: Read, W: Write>(
         (W.contents writer.old.inner) (W.contents writer.new.inner) result }
     ensures read { IsErrOf result RunFault.Read ↔ IsTrue reader.new.failed }
     ensures write { IsErrOf result RunFault.Write ↔ IsTrue writer.new.failed }
+    ensures steps { ScriptsAreRuns }
     ensures delivers { ScriptsDeliver }
     ensures arrives { ScriptsArrive }
     ensures answers { ScriptsAnswerPlainly }

@@ -4,6 +4,7 @@ use Rattle.ipcz_run.specs.WholeIo.{AppendsFront}
 use Rattle.ipcz_run.specs.Transcript.{IsOutput}
 use Rattle.ipcz_run.proofs.ScriptArrivals.{scripts_arrive, scripts_answer_plainly}
 use Rattle.ipcz_run.proofs.ScriptRuns.{scripts_deliver}
+use Rattle.ipcz_run.proofs.ScriptSteps.{scripts_are_runs}
 use Rattle.ipcz_run.proofs.run.run_script.Goals as goal
 
 pub returns-in_default-write_whole-clause-run : goal.returns-in_default-write_whole-clause-run
@@ -60,3 +61,15 @@ returns-in_default-write_whole-clause-answers g c = scripts_answer_plainly
 
 pub returns-clause-answers : goal.returns-clause-answers
 returns-clause-answers g c = scripts_answer_plainly
+
+pub returns-in_err-input-clause-steps : goal.returns-in_err-input-clause-steps
+returns-in_err-input-clause-steps g c = scripts_are_runs
+
+pub returns-in_default-clause-steps : goal.returns-in_default-clause-steps
+returns-in_default-clause-steps g c = scripts_are_runs
+
+pub returns-in_default-write_whole-clause-steps : goal.returns-in_default-write_whole-clause-steps
+returns-in_default-write_whole-clause-steps g c = scripts_are_runs
+
+pub returns-clause-steps : goal.returns-clause-steps
+returns-clause-steps g c = scripts_are_runs
