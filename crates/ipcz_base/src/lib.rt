@@ -1,13 +1,15 @@
-//! The types that every crate of the portal routers names: sides and ends of pairs, links, parcels and items,
-//! refusals, and devices that remember whether a call failed.
+//! The types that every crate of the portal routers names: sides and ends of pairs, links, parcels, items and
+//! messages, refusals, and devices that remember whether a call failed.
 #![tactic(auto)]
 
 mod descriptor;
 mod device;
 mod end;
 mod item;
+mod limits;
 mod link_end;
 mod link_id;
+mod message;
 mod parcel;
 mod refusal;
 mod sequence;
@@ -19,9 +21,11 @@ pub use descriptor::Descriptor;
 pub use device::Device;
 pub use end::End;
 pub use item::Item;
+pub use limits::LAST;
 pub use link_end::LinkEnd;
 pub use link_id::LinkId;
+pub use message::Message;
 pub use parcel::Parcel;
 pub use refusal::Refusal;
-pub use sequence::{Bytes, Ends, Sequence};
+pub use sequence::{Bytes, Ends, Moves, Sequence};
 pub use side::Side;

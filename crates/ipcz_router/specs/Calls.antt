@@ -1,18 +1,19 @@
 -- What put, get, an item's coming and a move do to a router, and why they are refused.
 -- (ipcz: put and get of a portal; a parcel's coming at a router, inbound or outbound; the making of a new router's descriptor.)
-use Rattle.std.specs.Prelude.{ℕ, Bool, true, false, ◌&&◌, nat_le, nat_lt, if◌then◌else◌, Option, Some, None}
+use Rattle.std.specs.Prelude.{ℕ, Bool, true, false, ◌&&◌, ◌||◌, nat_le, nat_lt, if◌then◌else◌, Option, Some, None}
 use Rattle.ipcz_base.specs.declared.side.Side.{Side}
 use Rattle.ipcz_base.specs.declared.link_id.LinkId.{LinkId}
 use Rattle.ipcz_base.specs.declared.link_end.LinkEnd.{LinkEnd}
 use Rattle.ipcz_base.specs.declared.descriptor.Descriptor.{Descriptor}
 use Rattle.ipcz_base.specs.declared.item.Item.{Item}
-use Rattle.ipcz_base.specs.declared.item.Item.TheVariants.{Parcel}
+use Rattle.ipcz_base.specs.declared.item.Item.TheVariants.{Parcel, Mark}
 use Rattle.ipcz_base.specs.declared.refusal.Refusal.{Refusal}
-use Rattle.ipcz_base.specs.declared.refusal.Refusal.TheVariants.{Empty, NumbersEnd, Stranger}
+use Rattle.ipcz_base.specs.declared.refusal.Refusal.TheVariants.{Empty, PeerClosed, NumbersEnd, Stranger}
+use Rattle.ipcz_base.specs.Items.{is_mark}
 use Rattle.ipcz_base.specs.Limits.{last_number, no_number}
 use Rattle.ipcz_edge.specs.Edge.{edge_of}
 use Rattle.ipcz_seq.specs.Queue.{push_at, pop_front, current_item, reach, has_place, push_refusal}
-use Rattle.ipcz_router.specs.Router.{Router, outward_has, inward_has, roused}
+use Rattle.ipcz_router.specs.Router.{Router, is_terminal, outward_has, inward_has, roused}
 
 -- the number that the next item put gets
 abbrev pub next_number : Router → ℕ
@@ -24,12 +25,13 @@ put_item r item = roused (record r { out_queue = push_at r.out_queue (next_numbe
 
 -- why a put is refused, memory aside
 abbrev pub router_put_refusal : Router → Option Refusal
-router_put_refusal r = if nat_le last_number (next_number r) then Some NumbersEnd else None
+router_put_refusal r = if r.mark_seen then Some PeerClosed else if nat_le last_number (next_number r) then Some NumbersEnd else None
 
 -- why a get is refused
 unfoldable pub item_refusal : Option Item → Option Refusal
 item_refusal None = Some Empty
 item_refusal (Some (Parcel p)) = None
+item_refusal (Some Mark) = Some PeerClosed
 
 -- why a get at a terminal is refused
 abbrev pub router_get_refusal : Router → Option Refusal
@@ -43,9 +45,10 @@ take_item r = record r { in_queue = pop_front r.in_queue }
 abbrev pub has_place_for : Router → Bool → ℕ → Bool
 has_place_for r from_outward n = nat_lt n no_number && (if from_outward then has_place r.in_queue n else has_place r.out_queue n)
 
--- an item comes over a link of the outward edge
+-- an item comes over a link of the outward edge; a terminal sees the mark at once, even behind a gap
 abbrev pub accept_from_outward : Router → ℕ → Item → Router
-accept_from_outward r n item = roused (record r { in_queue = push_at r.in_queue n item })
+accept_from_outward r n item =
+    roused (record r { in_queue = push_at r.in_queue n item; mark_seen = r.mark_seen || (is_terminal r && is_mark item) })
 
 -- an item comes over a link of the inward edge
 abbrev pub accept_from_inward : Router → ℕ → Item → Router

@@ -1,5 +1,11 @@
+pub mod ActEffects
+pub mod ActTable
 pub mod Acts
+pub mod Bypass
 pub mod Calls
+pub mod Closing
 pub mod Numbers
 pub mod RoomyRouters
+pub mod Outlooks
 pub mod Router
+pub mod Filings

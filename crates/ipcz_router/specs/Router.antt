@@ -1,6 +1,6 @@
 -- A router: its end, its edges, its queues and its flags.
 -- (ipcz: Router, with its two edges and its inbound and outbound parcels. How its flags are cut is this project's own.)
-use Rattle.std.specs.Prelude.{◌≡◌, ℕ, Bool, true, false, not, ◌&&◌, ◌||◌, Option, None, is_none, unwrap_or}
+use Rattle.std.specs.Prelude.{◌≡◌, ℕ, Bool, true, false, not, ◌&&◌, ◌||◌, Option, None, is_some, is_none, option_map, unwrap_or}
 use Rattle.ipcz_base.specs.declared.side.Side.{Side}
 use Rattle.ipcz_base.specs.declared.side.Side.TheVariants.{A, B}
 use Rattle.ipcz_base.specs.declared.end.End.{End}
@@ -8,8 +8,8 @@ use Rattle.ipcz_base.specs.declared.link_id.LinkId.{LinkId}
 use Rattle.ipcz_base.specs.declared.link_end.LinkEnd.{LinkEnd}
 use Rattle.ipcz_base.specs.declared.descriptor.Descriptor.{Descriptor}
 use Rattle.ipcz_base.specs.declared.item.Item.{Item}
-use Rattle.ipcz_base.specs.Links.{is_central}
-use Rattle.ipcz_edge.specs.Edge.{Edge, edge_of, no_edge, edge_has}
+use Rattle.ipcz_base.specs.Links.{is_central, word_of}
+use Rattle.ipcz_edge.specs.Edge.{Edge, edge_of, no_edge, edge_decays, edge_has, is_empty}
 use Rattle.ipcz_seq.specs.Queue.{Queue, queue_from}
 
 -- a router as contracts see it
@@ -38,6 +38,10 @@ pub record Router : Type 0 where
   -- the other side was waiting when this side was marked
   pub wake_owed : Bool
 
+-- whether it has an inward edge
+abbrev pub is_proxy : Router → Bool
+is_proxy r = is_some r.inward
+
 -- whether it has no inward edge
 abbrev pub is_terminal : Router → Bool
 is_terminal r = is_none r.inward
@@ -50,9 +54,33 @@ is_open_terminal r = is_terminal r && not r.closed
 abbrev pub IsOpenTerminal : Router → Type 0
 IsOpenTerminal r = is_open_terminal r ≡ true
 
+-- whether it is a closed terminal
+abbrev pub is_sink : Router → Bool
+is_sink r = is_terminal r && r.closed
+
 -- the inward edge, or one without links
 abbrev pub inward_edge : Router → Edge
 inward_edge r = unwrap_or r.inward no_edge
+
+-- whether one of its edges decays
+abbrev pub decays : Router → Bool
+decays r = edge_decays r.outward || edge_decays (inward_edge r)
+
+-- whether neither edge has a link
+abbrev pub has_no_link : Router → Bool
+has_no_link r = is_empty r.outward && is_empty (inward_edge r)
+
+-- the word of its outward primary link, where that is central
+abbrev pub primary_word : Router → Option ℕ
+primary_word r = word_of r.outward.primary
+
+-- the word of its outward primary link with the side of its end, which is the side of the word that it speaks for
+abbrev pub word_side : Router → Option (ℕ × Side)
+word_side r = option_map (λ word. (word, r.end.side)) (primary_word r)
+
+-- whether its outward primary link is central
+abbrev pub is_on_central : Router → Bool
+is_on_central r = is_some (primary_word r)
 
 -- whether its outward edge has this link at this side
 abbrev pub outward_has : Router → LinkId → Side → Bool

@@ -1,12 +1,14 @@
 //! Routers: what an end's terminal does with the parcels of its callers, what a proxy passes on, and which act comes next.
 #![tactic(auto)]
 
-mod answer;
-mod applied;
+pub mod act;
+mod filing;
+mod outlook;
 mod router;
-mod router_act;
+mod sending;
 
-pub use answer::Answer;
-pub use applied::Applied;
+pub use act::{Answer, Applied, RouterAct};
+pub use filing::Filing;
+pub use outlook::Outlook;
 pub use router::Router;
-pub use router_act::RouterAct;
+pub use sending::Sending;

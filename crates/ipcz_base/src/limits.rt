@@ -1,0 +1,4 @@
+/// The greatest number that an item has, u64::MAX - 2 (docs/PROTOCOL.md, "Parcels and items").
+///
+/// A put is refused whose number would be this one, so that the mark still has one. Each length is then at most u64::MAX - 1.
+pub const LAST: u64 = u64::MAX - 2;

@@ -1,0 +1,17 @@
+pub mod AtRouter
+pub mod Directories
+pub mod FirstPairs
+pub mod Handing
+pub mod Happenings
+pub mod Held
+pub mod Holding
+pub mod Indexes
+pub mod Preparing
+pub mod Queues
+pub mod Refiling
+pub mod Serials
+pub mod SortedSets
+pub mod Standings
+pub mod Telling
+pub mod Turns
+pub mod Written

@@ -1,0 +1,68 @@
+-- What an outlook has room for, the act has.
+use Rattle.std.proofs.Common.{◌≡◌, ℕ, ◌≤◌, ◌+◌, Bool, true, false, nat_eq, if◌then◌else◌, Option, Some, None, [], List, length, refl, sym, subst, ap, arith, true≢false}
+use Rattle.std.specs.Prelude.{IfSome}
+use Rattle.ipcz_base.specs.declared.end.End.{End}
+use Rattle.ipcz_base.specs.Items.{ends_in}
+use Rattle.ipcz_router.specs.Router.{Router}
+use Rattle.ipcz_router.specs.ActEffects.{output_of}
+use Rattle.ipcz_router.specs.Outlooks.{outlook_of}
+use Rattle.ipcz_router.specs.declared.act.RouterAct.{RouterAct}
+use Rattle.ipcz_router.specs.declared.act.RouterAct.TheVariants as acts
+use Rattle.ipcz_router.specs.declared.act.Applied.{Applied}
+use Rattle.ipcz_router.specs.declared.act.Applied.TheVariants as outputs
+use Rattle.ipcz_router.specs.declared.outlook.Outlook.TheVariants as outlooks
+use Rattle.ipcz_node.specs.Node.{Node, router_in}
+use Rattle.ipcz_node.specs.Sends.{moved_ends, serials_for}
+use Rattle.ipcz_node.specs.Events.{moved_by}
+use Rattle.ipcz_node.specs.Acts.{router_act_grows, serials_at}
+use Rattle.ipcz_node.specs.RoomyNodes.{RoomyNode, IsReady, CanTell}
+use Rattle.ipcz_node.specs.Preparing.{IsReadyAs, IsReadyForItem, moved_count, outlook_at, serials_as}
+
+counted : (b : Bool) (es : List End) → length (if b then [] else es) ≡ (if b then 0 else length es)
+counted true es = refl
+counted false es = refl
+
+ready_as : (k : RoomyNode) (a : Applied) → IsReadyAs k (outlook_of a) → IsReady k a × CanTell k a
+unfolding moved_by
+ready_as k outputs.Nothing h = (tt, omega arith)
+ready_as k (outputs.Sent link n item) h =
+    let count = counted (nat_eq link.other k.node.number) (ends_in item) in
+    ((h.outbox, omega (arith, count, h.links), omega (arith, count, h.moves), omega (arith, count, h.serials)), omega (arith, count, h.event_ends))
+ready_as k (outputs.Message to m) h = (h, omega arith)
+ready_as k (outputs.Discarded n item) h = (h, omega arith)
+
+-- at the router that stands there
+pub ready_at : (k : RoomyNode) (o : Option Router) (act : RouterAct) → IsReadyAs k (outlook_at o act) → IfSome o (λ r. IsReady k (output_of r act) × CanTell k (output_of r act))
+ready_at k None act h = tt
+ready_at k (Some r) act h = ready_as k (output_of r act) h
+
+serials_of : (n : Node) (a : Applied) → serials_as n (outlook_of a) ≡ serials_for n a
+unfolding serials_for
+serials_of n outputs.Nothing = refl
+serials_of n (outputs.Sent link number item) = sym (counted (nat_eq link.other n.number) (ends_in item))
+serials_of n (outputs.Message to m) = refl
+serials_of n (outputs.Discarded number item) = refl
+
+-- and it takes as many serials
+pub serials_there : (n : Node) (o : Option Router) (act : RouterAct) → serials_as n (outlook_at o act) ≡ serials_at n o act
+unfolding serials_at
+serials_there n None act = refl
+serials_there n (Some r) act = serials_of n (output_of r act)
+
+-- where nothing grows, nothing is given
+pub gives_nothing : (o : Option Router) (act : RouterAct) → router_act_grows act ≡ false → outlook_at o act ≡ outlooks.Nothing
+unfolding router_act_grows output_of
+gives_nothing None act h = refl
+gives_nothing (Some r) acts.SendOut h = absurd (true≢false h)
+gives_nothing (Some r) acts.SendIn h = absurd (true≢false h)
+gives_nothing (Some r) acts.Discard h = absurd (true≢false h)
+gives_nothing (Some r) acts.Wake h = absurd (true≢false h)
+gives_nothing (Some r) acts.Begin h = absurd (true≢false h)
+gives_nothing (Some r) acts.FinishOut h = refl
+gives_nothing (Some r) acts.FinishIn h = refl
+gives_nothing (Some r) acts.Leave h = refl
+gives_nothing (Some r) acts.Mark h = refl
+gives_nothing (Some r) acts.Claim h = refl
+gives_nothing (Some r) acts.Lock h = refl
+gives_nothing (Some r) acts.Unlock h = refl
+gives_nothing (Some r) acts.Rest h = refl

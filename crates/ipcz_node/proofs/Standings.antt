@@ -1,0 +1,45 @@
+-- Where the events of a bypass, of a close and of a get leave a router filed.
+use Rattle.std.proofs.Common.{◌≡◌, ◌&&◌, ℕ, ◌+◌, ◌≤◌, Bool, true, false, not, Option, Some, None, refl, sym, ap, subst, arith}
+use Rattle.std.specs.Prelude.{option_map, is_none}
+use Rattle.ipcz_base.specs.declared.side.Side.{Side}
+use Rattle.ipcz_base.specs.Links.{central_end}
+use Rattle.ipcz_edge.specs.Edge.{Edge, set_length_to, set_length_from}
+use Rattle.ipcz_router.specs.Router.{Router, is_terminal, is_open_terminal, roused}
+use Rattle.ipcz_router.specs.Calls.{take_item}
+use Rattle.ipcz_router.specs.Closing.{close_router}
+use Rattle.ipcz_router.specs.Filings.{filing_of}
+use Rattle.ipcz_router.specs.Bypass.{accept_bypass, stop_proxying, proxy_will_stop}
+use Rattle.ipcz_node.proofs.Refiling.{FilesWithin, same_links, at_most_one, own_outward, own_inward, own_inward_decaying, same_standing}
+
+pub accept_bypass_standing : (r : Router) (sender : ℕ) (side : Side) (fresh length : ℕ) → FilesWithin 1 r (accept_bypass r sender side fresh length)
+accept_bypass_standing r sender side fresh length = record {
+  few = omega (arith, at_most_one (filing_of r) (Some (central_end fresh side sender)), own_outward (filing_of r), own_inward (filing_of r), own_inward_decaying (filing_of r));
+  closes = λ h. h;
+  stays = refl;
+}
+
+-- a router whose links stay
+pub rouse_standing : (r : Router) → FilesWithin 0 r (roused r)
+rouse_standing r = record { few = omega (arith, same_links (filing_of r)); closes = λ h. h; stays = refl }
+
+pub proxy_will_stop_standing : (r : Router) (in_length : ℕ) → FilesWithin 0 r (proxy_will_stop r in_length)
+proxy_will_stop_standing r in_length = record { few = omega (arith, same_links (filing_of r)); closes = λ h. h; stays = refl }
+
+pub stop_proxying_standing : (r : Router) (in_length out_length : ℕ) → FilesWithin 0 r (stop_proxying r in_length out_length)
+stop_proxying_standing r in_length out_length = stopping r.inward refl
+  where
+    stopping : (i : Option Edge) → r.inward ≡ i → FilesWithin 0 r (stop_proxying r in_length out_length)
+    stopping None is = subst (λ i. FilesWithin 0 (record r { inward = i }) (stop_proxying (record r { inward = i }) in_length out_length)) (sym is)
+        (record { few = omega (arith, same_links (filing_of (record r { inward = None }))); closes = λ h. h; stays = refl })
+    stopping (Some e) is = subst (λ i. FilesWithin 0 (record r { inward = i }) (stop_proxying (record r { inward = i }) in_length out_length)) (sym is)
+        (record { few = omega (arith, same_links (filing_of (record r { inward = Some e }))); closes = λ h. h; stays = refl })
+
+pub take_standing : (r : Router) → FilesWithin 0 r (take_item r)
+take_standing r = record { few = omega (arith, same_links (filing_of r)); closes = λ h. h; stays = refl }
+
+pub close_standing : (r : Router) → FilesWithin 0 r (close_router r)
+close_standing r = record { few = omega (arith, same_links (filing_of r)); closes = λ h. closed (is_terminal r); stays = refl }
+  where
+    closed : (b : Bool) → (b && false) ≡ false
+    closed true = refl
+    closed false = refl

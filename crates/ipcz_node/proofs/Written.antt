@@ -1,0 +1,30 @@
+-- Facts on finite maps.
+use Rattle.std.proofs.Common.{◌≡◌, ℕ, cond, refl, sym, ◌∙◌, ap, None, Some, inl, inr}
+use Rattle.std.specs.Ordering.{nat_cmp, eq_by_cmp}
+use Rattle.std.specs.Cmp.{nat_cmp_total}
+use Rattle.std.specs.FinMap.{FinMap, get, insert, get-insert, remove, get-remove, same_map, nat_cmp-IsAntisymmetric}
+use Rattle.ipcz_seq.proofs.Pairs.{one_or_two, tied}
+
+-- to write what stands there changes nothing
+pub insert_same : {V : Type 0} (m : FinMap nat_cmp V) (k : ℕ) (v : V) → get m k ≡ Some v → insert m k v ≡ m
+insert_same {V} m k v here = same_map nat_cmp_total nat_cmp-IsAntisymmetric _ _ (λ q. get-insert nat_cmp_total m k v q ∙ cases q)
+  where
+    cases : (q : ℕ) → cond (eq_by_cmp nat_cmp q k) (Some v) (get m q) ≡ get m q
+    cases q = elim (one_or_two q k) [
+      | inl t ↦ rw t.1 (sym (ap (get m) t.0 ∙ here))
+      | inr t ↦ rw t.1 refl
+    ]
+
+-- what was written stands there
+pub insert_here : {V : Type 0} (m : FinMap nat_cmp V) (k : ℕ) (v : V) → get (insert m k v) k ≡ Some v
+insert_here m k v = get-insert nat_cmp_total m k v k ∙ rw (tied k k refl) refl
+
+-- to take out what isn't there changes nothing
+pub remove_absent : {V : Type 0} (m : FinMap nat_cmp V) (k : ℕ) → get m k ≡ None → remove m k ≡ m
+remove_absent m k none = same_map nat_cmp_total nat_cmp-IsAntisymmetric _ _ (λ q. get-remove nat_cmp_total m k q ∙ cases q)
+  where
+    cases : (q : ℕ) → cond (eq_by_cmp nat_cmp q k) None (get m q) ≡ get m q
+    cases q = elim (one_or_two q k) [
+      | inl t ↦ rw t.1 (sym (ap (get m) t.0 ∙ none))
+      | inr t ↦ rw t.1 refl
+    ]

@@ -1,0 +1,17 @@
+pub mod Acts
+pub mod Calls
+pub mod Directories
+pub mod Events
+pub mod Finding
+pub mod FirstPairs
+pub mod Hands
+pub mod Indexes
+pub mod Lending
+pub mod Node
+pub mod Preparing
+pub mod Rooms
+pub mod RoomyNodes
+pub mod Sends
+pub mod Telling
+pub mod Serials
+pub mod SortedSets

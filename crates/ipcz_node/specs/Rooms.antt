@@ -1,0 +1,70 @@
+-- Routers with the room that is made for more.
+-- (This project's own.)
+use Rattle.std.specs.Prelude.{ℕ, ◌+◌, ◌-◌, ◌<◌, List, IsSomeAnd}
+use Rattle.std.specs.Ordering.{nat_cmp}
+use Rattle.std.specs.FinMap.{FinMap, get, insert, remove}
+use Rattle.ipcz_router.specs.Router.{Router}
+use Rattle.ipcz_router.specs.RoomyRouters.{RoomyRouter}
+use Rattle.ipcz_node.specs.Node.{EndSet, with_ends, without_ends}
+use Rattle.ipcz_base.specs.declared.end.End.{End}
+
+-- the routers by serial, how many items more the out queue of each takes, the serial of the next one, and the room for more
+pub record RoutersValue : Type 0 where
+  pub routers : FinMap nat_cmp Router
+  pub out_rooms : FinMap nat_cmp ℕ
+  pub next : ℕ
+  pub room : ℕ
+
+-- the routers with this one under the serial
+abbrev pub put_router : RoutersValue → ℕ → RoomyRouter → RoutersValue
+put_router v serial r = record v { routers = insert v.routers serial r.router; out_rooms = insert v.out_rooms serial r.out_room }
+
+-- the routers with one more under the next serial
+abbrev pub added : RoutersValue → RoomyRouter → RoutersValue
+added v r = record {
+  routers = insert v.routers v.next r.router;
+  out_rooms = insert v.out_rooms v.next r.out_room;
+  next = v.next + 1;
+  room = v.room - 1;
+}
+
+-- the routers of a node and the ends that its callers hold, with room for more routers and for more of their links
+pub record FiledRouters : Type 0 where
+  pub routers : FinMap nat_cmp Router
+  pub held : EndSet
+  pub next : ℕ
+  pub room : ℕ
+  pub links : ℕ
+
+-- the same, and how many items more the out queue of each router takes
+pub record RoomyDirectory : Type 0 where
+  pub filed : FiledRouters
+  pub out_rooms : FinMap nat_cmp ℕ
+
+-- the routers with this one under the serial
+abbrev pub put_filed : FiledRouters → ℕ → Router → FiledRouters
+put_filed v serial r = record v { routers = insert v.routers serial r }
+
+-- the same, with a link more
+abbrev pub link_filed : FiledRouters → ℕ → Router → FiledRouters
+link_filed v serial r = record v { routers = insert v.routers serial r; links = v.links - 1 }
+
+-- the routers with one more under the next serial
+abbrev pub add_filed : FiledRouters → Router → FiledRouters
+add_filed v r = record v { routers = insert v.routers v.next r; next = v.next + 1; room = v.room - 1 }
+
+-- the routers without that of a serial
+abbrev pub drop_filed : FiledRouters → ℕ → FiledRouters
+drop_filed v serial = record v { routers = remove v.routers serial }
+
+-- the same routers, with these ends more that callers hold
+abbrev pub hold_filed : FiledRouters → List End → FiledRouters
+hold_filed v ends = record v { held = with_ends v.held ends }
+
+-- the same routers, with these ends that callers hold no more
+abbrev pub release_filed : FiledRouters → List End → FiledRouters
+release_filed v ends = record v { held = without_ends v.held ends }
+
+-- the out queue of the router of a serial takes an item more without memory
+abbrev pub HasOutRoom : FinMap nat_cmp ℕ → ℕ → Type 0
+HasOutRoom rooms serial = IsSomeAnd (get rooms serial) (λ room. 0 < room)

@@ -1,0 +1,82 @@
+-- The node with the room that it has made.
+-- (This project's own.)
+use Rattle.std.specs.Prelude.{◌≡◌, ℕ, ◌≤◌, ◌<◌, ◌+◌, true, length, List, [], ◌∷◌, IfSome, IsSomeAnd}
+use Rattle.std.specs.Ordering.{nat_cmp}
+use Rattle.std.specs.FinMap.{FinMap, get}
+use Rattle.ipcz_base.specs.Limits.{last_number, no_number}
+use Rattle.ipcz_base.specs.Indexed.{place_at}
+use Rattle.ipcz_base.specs.Items.{ends_in}
+use Rattle.ipcz_router.specs.declared.act.Applied.{Applied}
+use Rattle.ipcz_router.specs.declared.act.Applied.TheVariants as outputs
+use Rattle.ipcz_base.specs.declared.descriptor.Descriptor.{Descriptor}
+use Rattle.ipcz_base.specs.declared.message.Message.{Message}
+use Rattle.ipcz_router.specs.ActTable.{may_take}
+use Rattle.ipcz_router.specs.ActEffects.{output_of}
+use Rattle.ipcz_node.specs.declared.act.Act.{Act}
+use Rattle.ipcz_node.specs.declared.act.Act.TheVariants as acts
+use Rattle.ipcz_node.specs.Node.{Node, EndSet, router_in, terminal_of}
+use Rattle.ipcz_node.specs.Events.{moved_by}
+use Rattle.ipcz_node.specs.Sends.{Transfer, moved_ends}
+
+-- how many messages more each outbox takes, how many routers and links of others the directory, and how many descriptors are at hand,
+-- and how many ends an event can tell
+pub record NodeRoom : Type 0 where
+  pub outboxes : List ℕ
+  pub routers : ℕ
+  pub links : ℕ
+  -- how many items more the out queue of each router takes
+  pub out_rooms : FinMap nat_cmp ℕ
+  pub moves : ℕ
+  pub pending : ℕ
+  pub event_ends : ℕ
+
+pub record RoomyNode : Type 0 where
+  pub node : Node
+  pub room : NodeRoom
+
+-- messages by destination, and the room for more of each
+pub record OutboxesValue : Type 0 where
+  pub messages : List (List Message)
+  pub room : List ℕ
+
+-- a set of ends, and the room for more
+pub record RoomyEnds : Type 0 where
+  pub ends : EndSet
+  pub room : ℕ
+
+-- a node with descriptors that are to travel
+abbrev pub transfer : Node → List Descriptor → Transfer
+transfer n moves = record { node = n; moves = moves }
+
+-- the numbers that terminals made of these descriptors begin to put at are numbers of items
+abbrev pub AreLow : List Descriptor → Type 0
+AreLow [] = Unit {0}
+AreLow (d ∷ ds) = (d.next_out ≤ last_number) × AreLow ds
+
+-- a node has the room and the serials for what an act of a router gives it
+abbrev pub IsReady : RoomyNode → Applied → Type 0
+IsReady k outputs.Nothing = Unit {0}
+IsReady k (outputs.Sent link n item) =
+    (0 < place_at 0 k.room.outboxes link.other) × (length (moved_ends k.node link item) ≤ k.room.links) × (length (moved_ends k.node link item) ≤ k.room.moves)
+    × (k.node.next_peripheral + length (moved_ends k.node link item) ≤ no_number)
+IsReady k (outputs.Message to m) = 0 < place_at 0 k.room.outboxes to
+IsReady k (outputs.Discarded n item) = length (ends_in item) ≤ k.room.pending
+
+-- a node has room to tell what an act of a router gave it
+abbrev pub CanTell : RoomyNode → Applied → Type 0
+CanTell k a = length (moved_by k.node a) ≤ k.room.event_ends
+
+-- a node is ready for an act: what a router gives has room, and so has the mark of a close
+abbrev pub IsReadyFor : RoomyNode → Act → Type 0
+IsReadyFor k (acts.Router serial act) = IfSome (router_in k.node serial) (λ r. IsReady k (output_of r act) × CanTell k (output_of r act))
+IsReadyFor k (acts.Close end) = IfSome (terminal_of k.node end) (λ f. IsSomeAnd (get k.room.out_rooms f.serial) (λ room. 0 < room))
+IsReadyFor k other = Unit {0}
+
+-- an act can be done: a router that is to act is there and may take the act
+abbrev pub IsPossibleAct : Node → Act → Type 0
+IsPossibleAct n (acts.Router serial act) = IsSomeAnd (router_in n serial) (λ r. may_take r act ≡ true)
+IsPossibleAct n other = Unit {0}
+
+-- a node has the room and the serials for a pair
+abbrev pub CanOpen : RoomyNode → Type 0
+CanOpen k = (2 ≤ k.room.routers) × (k.node.next_router + 2 ≤ no_number)

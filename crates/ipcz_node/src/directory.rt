@@ -1,0 +1,348 @@
+ghost use Rattle.std.specs.Prelude.{ℕ, ◌≡◌, ◌==◌, ◌+◌, ◌<◌, ◌≤◌, ◌-◌, ◌^◌, ◌&&◌, ◌||◌, not, Some, None, true, false, if◌then◌else◌, is_some, OnOk, OnErr, IfOk, IfErr, IsSomeAnd, option_copied, option_map, unwrap_or};
+ghost use Rattle.std.specs.Ordering.{nat_cmp};
+ghost use Rattle.std.specs.FinMap.{get, empty};
+ghost use Rattle.ipcz_base.specs.Limits.{last_number, no_number};
+ghost use Rattle.ipcz_base.specs.Links.{has_link};
+ghost use Rattle.ipcz_base.specs.Orders.{end_cmp};
+ghost use Rattle.ipcz_base.specs.Ends.{same_end};
+ghost use Rattle.ipcz_base.specs.declared.end.End.{End as EndRecord};
+ghost use Rattle.ipcz_base.specs.declared.item.Item.{Item};
+ghost use Rattle.ipcz_seq.specs.Queue.{current_item};
+ghost use Rattle.ipcz_router.specs.Router.{Router as RouterRecord, IsOpenTerminal, outward_has, router_has, proxy_link, from_descriptor};
+ghost use Rattle.ipcz_router.specs.Calls.{next_number, put_item, router_put_refusal, router_get_refusal, take_item, has_place_for, accept, accept_refusal, extend, descriptor_of};
+ghost use Rattle.ipcz_router.specs.ActTable.{may_take};
+ghost use Rattle.ipcz_router.specs.ActEffects.{IsAnswerOf, IsBelowNoNumber, apply, output_of};
+ghost use Rattle.ipcz_router.specs.Bypass.{fits_bypass_peer, bypass_peer, accept_message};
+ghost use Rattle.ipcz_router.specs.Filings.{is_under, gained_by, gained};
+ghost use Rattle.ipcz_node.specs.Node.{is_terminal_of, new_end, first_where};
+ghost use Rattle.std.specs.FinMap.{entries};
+ghost use Rattle.std.specs.Prelude.{is_none};
+ghost use Rattle.std.specs.Prelude.{[], ◌∷◌};
+ghost use Rattle.ipcz_base.specs.Ends.{end_at};
+ghost use Rattle.ipcz_node.specs.Finding.{IsFound};
+ghost use Rattle.ipcz_node.specs.Rooms.{FiledRouters, put_filed, link_filed, add_filed, drop_filed, hold_filed};
+ghost use Rattle.ipcz_node.specs.Directories.{link_end_cmp, CanRefile, AreRefiled, ends_brought, takes_inside, ends_given, ends_taken};
+ghost use Rattle.std.specs.FinSet as sets;
+ghost use Rattle.std.specs.Prelude.{length, IfSome, IfNone};
+ghost use Rattle.ipcz_base.specs.Items.{ends_in};
+ghost use Rattle.ipcz_node.specs.SortedSets.{has};
+ghost use Rattle.ipcz_node.specs.Indexes.{is_filed};
+
+mod bypass;
+mod calls;
+mod filing;
+mod room;
+
+use self::filing::refile;
+use self::room::{count_ends, ends_taken, is_outward, make_room, sum};
+use crate::held_ends::HeldEnds;
+use crate::index::Index;
+use crate::routers::Routers;
+use crate::sorted_set::SortedSet;
+use ipcz_base::{Descriptor, End, Item, LinkEnd, LinkId, Parcel, Refusal, Side};
+use ipcz_router::act::{Answer, Applied, RouterAct};
+use ipcz_router::{Filing, Router, Sending};
+use std::alloc::{AllocError, Global};
+use std::marker::Model;
+
+/// The routers of a node, each of which is found by its serial, by a link that it has, by the end whose open terminal it
+/// is, and by its flag; and the ends that callers hold (docs/PROTOCOL.md, "Nodes").
+///
+/// It has room to hold each end that waits in the in queue of a router, so that a get takes no memory, and the end of each
+/// router that there is room for: `ends` is no less than how many wait in the queues.
+#[derive(Drop)]
+pub struct Directory {
+    routers: Routers,
+    links: Index<(LinkId, Side)>,
+    terminals: Index<End>,
+    flagged: SortedSet<u64>,
+    held: HeldEnds,
+    room: usize,
+    more: usize,
+    ends: usize,
+}
+
+impl Model for Directory {
+    ghost use Rattle.std.specs.FinMap.{code};
+    ghost use Rattle.std.specs.Coded.{codes};
+    ghost use Rattle.ipcz_node.specs.Rooms.{RoomyDirectory};
+    ghost use Rattle.ipcz_node.specs.Directories.{AreFiled, HaveRoom, CanHold};
+
+    ghost Value = { RoomyDirectory };
+
+    ghost coded = { Prim.hlevel (codes, code) };
+
+    ghost view = { λ a. record {
+      filed = record {
+        routers = a.routers.routers;
+        held = a.held.ends;
+        next = a.routers.next;
+        room = a.room;
+        links = a.more;
+      };
+      out_rooms = a.routers.out_rooms;
+    } };
+
+    ghost invariant = { λ a. (AreFiled a.routers.routers a.links.members a.terminals.members a.flagged.members × HaveRoom a.routers.routers a.room a.more a.routers.room a.links.room a.terminals.room a.flagged.room)
+        × CanHold a.routers.routers a.ends a.room a.held.room };
+}
+
+impl Directory {
+    /// No routers, and serials from 0 on.
+    pub fn new(alloc: Global) -> Self
+        ensures routers { result.filed.routers ≡ empty }
+        ensures next { result.filed.next ≡ 0 }
+        ensures held { result.filed.held ≡ sets.empty }
+    {
+        Directory {
+            routers: Routers::new(alloc),
+            links: Index::new(alloc),
+            terminals: Index::new(alloc),
+            flagged: SortedSet::new(alloc),
+            held: HeldEnds::new(alloc),
+            room: 0,
+            more: 0,
+            ends: 0,
+        }
+    }
+
+    /// The serial that the next router gets.
+    pub fn next_serial(&self) -> u64
+        ensures { result ≡ self.now.filed.next }
+    {
+        self.routers.next_serial()
+    }
+
+    /// The router of a serial, to read.
+    pub fn router(&self, serial: u64) -> Option<&Router>
+        ensures { option_map (λ r. r.router) (option_copied result) ≡ get self.now.filed.routers serial }
+    {
+        self.routers.router(serial)
+    }
+
+    /// Makes room for so many routers and so many links of others more.
+    pub fn reserve(&mut self, routers: usize, links: usize) -> Result<(), AllocError>
+        requires routers { routers < 2 ^ 63 }
+        requires links { links < 2 ^ 63 }
+        ensures room { OnOk result (routers ≤ self.new.filed.room) }
+        ensures links { OnOk result (links ≤ self.new.filed.links) }
+        ensures routers { self.new.filed.routers ≡ self.old.filed.routers }
+        ensures held { self.new.filed.held ≡ self.old.filed.held }
+        ensures next { self.new.filed.next ≡ self.old.filed.next }
+        ensures out_rooms { self.new.out_rooms ≡ self.old.out_rooms }
+    {
+        self.routers.reserve(routers)?;
+        self.links.reserve(routers + links)?;
+        self.terminals.reserve(routers)?;
+        self.flagged.reserve(self.routers.len() + routers)?;
+        let Some(ends) = sum(self.ends, routers) else {
+            return Err(AllocError);
+        };
+        self.held.reserve(ends)?;
+        self.room = routers;
+        self.more = links;
+        Ok(())
+    }
+
+    /// Adds a router that isn't flagged, under the next serial.
+    pub fn add_terminal(&mut self, alloc: Global, descriptor: &Descriptor, from: u8)
+        requires room { 0 < self.old.filed.room }
+        requires serials { self.old.filed.next < 2 ^ 64 - 1 }
+        requires numbers { descriptor.now.next_out ≤ last_number }
+        ensures { self.new.filed ≡ add_filed self.old.filed (from_descriptor descriptor.now from) }
+    {
+        let serial = self.routers.next_serial();
+        self.links.add((descriptor.link, Side::B), serial);
+        self.terminals.add(descriptor.end, serial);
+        self.routers
+            .add(Router::from_descriptor(alloc, descriptor, from));
+        self.room -= 1;
+    }
+
+    /// Adds the terminal of a new pair's side under the next serial, on the link of the pair's own word and toward the node
+    /// `other`, and holds its end. It isn't flagged. It takes no memory.
+    pub fn add_end(&mut self, alloc: Global, pair: u32, side: Side, other: u8)
+        requires room { 0 < self.old.filed.room }
+        requires serials { self.old.filed.next < 2 ^ 64 - 1 }
+        ensures { self.new.filed ≡ hold_filed (add_filed self.old.filed (new_end pair side other)) (end_at pair side ∷ []) }
+    {
+        let serial = self.routers.next_serial();
+        let end = End { pair, side };
+        let link = LinkEnd {
+            link: LinkId::Central(pair),
+            side,
+            other,
+        };
+        self.links.add((link.link, side), serial);
+        self.terminals.add(end, serial);
+        self.routers.add(Router::terminal(alloc, end, link, 0));
+        self.held.insert(end);
+        self.room -= 1;
+    }
+
+    /// Takes the router of a serial out.
+    pub fn remove(&mut self, serial: u64) -> Router
+        requires { is_some (get self.old.filed.routers serial) ≡ true }
+        ensures router { Some result.router ≡ get self.old.filed.routers serial }
+        ensures routers { self.new.filed ≡ drop_filed self.old.filed serial }
+    {
+        let router = self.routers.remove(serial);
+        let was = router.filing();
+        let nowhere = Filing {
+            outward: None,
+            outward_decaying: None,
+            inward: None,
+            inward_decaying: None,
+            end: was.end,
+            is_open: false,
+            flagged: false,
+        };
+        refile(
+            &mut self.links,
+            &mut self.terminals,
+            &mut self.flagged,
+            serial,
+            &was,
+            &nowhere,
+        );
+        router
+    }
+
+    /// Makes the terminal of the serial a proxy, as `Router::extend_to`.
+    pub fn extend(&mut self, serial: u64, link: LinkId, to: u8) -> Descriptor
+        requires open { IsSomeAnd (get self.old.filed.routers serial) IsOpenTerminal }
+        requires room { 0 < self.old.filed.links }
+        ensures router { (r : RouterRecord) → get self.old.filed.routers serial ≡ Some r → self.new.filed ≡ link_filed self.old.filed serial (extend r (proxy_link link to)) }
+        ensures descriptor { (r : RouterRecord) → get self.old.filed.routers serial ≡ Some r → result ≡ descriptor_of r link }
+        ensures next_out { result.next_out ≤ last_number }
+        ensures links { self.old.filed.links ≡ self.new.filed.links + 1 }
+    {
+        let router = self.routers.router_mut(serial);
+        let was = router.filing();
+        let descriptor = router.extend_to(LinkEnd {
+            link,
+            side: Side::A,
+            other: to,
+        });
+        let is = router.filing();
+        refile(
+            &mut self.links,
+            &mut self.terminals,
+            &mut self.flagged,
+            serial,
+            &was,
+            &is,
+        );
+        self.more -= 1;
+        descriptor
+    }
+
+    /// Gives an item to the router of the serial, as `Router::accept`.
+    #[tactic(auto, using(crate::proofs::Written::insert_same))]
+    pub fn accept(
+        &mut self,
+        serial: u64,
+        link: LinkId,
+        side: Side,
+        n: u64,
+        item: Item,
+    ) -> Result<(), (Refusal, Item)>
+        requires stands { IsSomeAnd (get self.old.filed.routers serial) (λ r. router_has r link side ≡ true) }
+        requires number { n < no_number }
+        ensures place { (r : RouterRecord) → get self.old.filed.routers serial ≡ Some r → OnOk result (has_place_for r (outward_has r link side) n ≡ true) }
+        ensures ok { (r : RouterRecord) → get self.old.filed.routers serial ≡ Some r → OnOk result (self.new.filed ≡ put_filed self.old.filed serial (accept r (outward_has r link side) n item)) }
+        ensures why { (r : RouterRecord) → get self.old.filed.routers serial ≡ Some r → IfErr result (λ e. e.0 ≡ accept_refusal r link side n) }
+        ensures err { IfErr result (λ e. (e.1 ≡ item) × (self.new.filed ≡ self.old.filed)) }
+    {
+        let ends = self.ends_to_come(serial, link, side, n, &item);
+        let Some(all) = make_room(&mut self.held, self.ends, self.room, ends) else {
+            return Err((Refusal::OutOfMemory, item));
+        };
+        let router = self.routers.router_mut(serial);
+        let was = router.filing();
+        let answer = router.accept(link, side, n, item);
+        let is = router.filing();
+        refile(
+            &mut self.links,
+            &mut self.terminals,
+            &mut self.flagged,
+            serial,
+            &was,
+            &is,
+        );
+        answer?;
+        self.ends = all;
+        Ok(())
+    }
+
+    // How many ends come into the in queue of the router of the serial with an item.
+    fn ends_to_come(&self, serial: u64, link: LinkId, side: Side, n: u64, item: &Item) -> usize
+        requires { is_some (get self.now.filed.routers serial) ≡ true }
+        ensures { (r : RouterRecord) → get self.now.filed.routers serial ≡ Some r → result ≡ ends_brought r (outward_has r link side) n item.now }
+    {
+        let Some(router) = self.routers.router(serial) else {
+            unreachable!()
+        };
+        if is_outward(&router.filing(), link, side) && router.has_place_for(link, side, n) {
+            count_ends(item)
+        } else {
+            0
+        }
+    }
+
+    /// Does an act of the router of the serial, as `Router::act`; a router that leaves is taken out by `remove`.
+    pub fn act(&mut self, serial: u64, act: RouterAct, answer: Answer) -> Applied
+        requires possible { IsSomeAnd (get self.old.filed.routers serial) (λ r. may_take r act ≡ true) }
+        requires answer { IsAnswerOf act answer }
+        ensures router { (r : RouterRecord) → get self.old.filed.routers serial ≡ Some r → self.new.filed ≡ put_filed self.old.filed serial (apply r act answer) }
+        ensures output { (r : RouterRecord) → get self.old.filed.routers serial ≡ Some r → result ≡ output_of r act }
+        ensures number { IsBelowNoNumber result }
+        ensures room { (self.new.filed.room ≡ self.old.filed.room) × (self.new.filed.links ≡ self.old.filed.links) }
+    {
+        let router = self.routers.router_mut(serial);
+        let was = router.filing();
+        let applied = router.act(act, answer);
+        let is = router.filing();
+        refile(
+            &mut self.links,
+            &mut self.terminals,
+            &mut self.flagged,
+            serial,
+            &was,
+            &is,
+        );
+        self.ends = self.ends.saturating_sub(ends_taken(act, &applied));
+        applied
+    }
+
+    /// The flagged router of the lowest serial.
+    pub fn first_flagged(&self) -> Option<u64>
+        ensures { IsFound (λ r. r.flagged) self.now.filed.routers result }
+    {
+        match self.flagged.first_from(&0) {
+            Some(serial) => Some(*serial),
+            None => None,
+        }
+    }
+
+    /// Whether no router is flagged.
+    pub fn is_resting(&self) -> bool
+        ensures { result ≡ is_none (first_where (λ r. r.flagged) (entries self.now.filed.routers)) }
+    {
+        self.first_flagged().is_none()
+    }
+
+    /// The first router that has the link at the side.
+    pub fn first_on(&self, link: LinkId, side: Side) -> Option<u64>
+        ensures { IsFound (λ r. router_has r link side) self.now.filed.routers result }
+    {
+        self.links.first((link, side))
+    }
+
+    /// The first open terminal of the end.
+    pub fn terminal_of(&self, end: End) -> Option<u64>
+        ensures { IsFound (is_terminal_of end) self.now.filed.routers result }
+    {
+        self.terminals.first(end)
+    }
+}

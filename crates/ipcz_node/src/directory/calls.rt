@@ -1,0 +1,153 @@
+ghost use Rattle.std.specs.Prelude.{ℕ, ◌≡◌, ◌==◌, ◌+◌, ◌<◌, ◌≤◌, ◌-◌, ◌^◌, ◌&&◌, ◌||◌, not, Some, None, true, false, if◌then◌else◌, is_some, OnOk, OnErr, IfOk, IfErr, IsSomeAnd, option_copied, option_map, unwrap_or};
+ghost use Rattle.std.specs.Ordering.{nat_cmp};
+ghost use Rattle.std.specs.FinMap.{get, empty};
+ghost use Rattle.ipcz_base.specs.Limits.{last_number, no_number};
+ghost use Rattle.ipcz_base.specs.Links.{has_link};
+ghost use Rattle.ipcz_base.specs.Orders.{end_cmp};
+ghost use Rattle.ipcz_base.specs.Ends.{same_end};
+ghost use Rattle.ipcz_base.specs.declared.end.End.{End as EndRecord};
+ghost use Rattle.ipcz_base.specs.declared.item.Item.{Item};
+ghost use Rattle.ipcz_seq.specs.Queue.{current_item};
+ghost use Rattle.ipcz_router.specs.Router.{Router as RouterRecord, IsOpenTerminal, outward_has, router_has, proxy_link, from_descriptor};
+ghost use Rattle.ipcz_router.specs.Calls.{next_number, put_item, router_put_refusal, router_get_refusal, take_item, has_place_for, accept, accept_refusal, extend, descriptor_of};
+ghost use Rattle.ipcz_router.specs.ActTable.{may_take};
+ghost use Rattle.ipcz_router.specs.ActEffects.{IsAnswerOf, IsBelowNoNumber, apply, output_of};
+ghost use Rattle.ipcz_router.specs.Bypass.{fits_bypass_peer, bypass_peer, accept_message};
+ghost use Rattle.ipcz_router.specs.Filings.{is_under, gained_by, gained};
+ghost use Rattle.ipcz_node.specs.Node.{is_terminal_of, new_end};
+ghost use Rattle.std.specs.Prelude.{[], ◌∷◌};
+ghost use Rattle.ipcz_base.specs.Ends.{end_at};
+ghost use Rattle.ipcz_node.specs.Finding.{IsFound};
+ghost use Rattle.ipcz_node.specs.Rooms.{FiledRouters, put_filed, link_filed, add_filed, drop_filed, hold_filed, release_filed, HasOutRoom};
+ghost use Rattle.ipcz_node.specs.Directories.{link_end_cmp, CanRefile, AreRefiled, ends_brought, takes_inside, ends_given, ends_taken};
+ghost use Rattle.std.specs.FinSet as sets;
+ghost use Rattle.std.specs.Prelude.{length, IfSome, IfNone};
+ghost use Rattle.ipcz_base.specs.Items.{ends_in};
+ghost use Rattle.ipcz_node.specs.SortedSets.{has};
+ghost use Rattle.ipcz_node.specs.Indexes.{is_filed};
+ghost use Rattle.std.specs.Prelude.{IsOk};
+ghost use Rattle.ipcz_router.specs.Closing.{close_router};
+ghost use Rattle.ipcz_node.specs.Node.{word_at};
+ghost use Rattle.ipcz_node.specs.Calls.{got_from, ends_found};
+
+use super::Directory;
+use super::filing::refile;
+use ipcz_base::{End, Parcel, Refusal, Side};
+
+impl Directory {
+    /// Puts a parcel into the router of the serial, as `Router::put`.
+    #[tactic(auto, using(crate::proofs::Written::insert_same))]
+    pub fn put(&mut self, serial: u64, parcel: Parcel) -> Result<u64, (Refusal, Parcel)>
+        requires { IsSomeAnd (get self.old.filed.routers serial) IsOpenTerminal }
+        ensures allowed { (r : RouterRecord) → get self.old.filed.routers serial ≡ Some r → OnOk result (router_put_refusal r ≡ None) }
+        ensures number { (r : RouterRecord) → get self.old.filed.routers serial ≡ Some r → IfOk result (λ n. n ≡ next_number r) }
+        ensures ok { (r : RouterRecord) → get self.old.filed.routers serial ≡ Some r → OnOk result (self.new.filed ≡ put_filed self.old.filed serial (put_item r (Item.Parcel parcel))) }
+        ensures why { (r : RouterRecord) → get self.old.filed.routers serial ≡ Some r → IfErr result (λ e. e.0 ≡ unwrap_or (router_put_refusal r) Refusal.OutOfMemory) }
+        ensures full { (r : RouterRecord) → get self.old.filed.routers serial ≡ Some r → router_put_refusal r ≡ None → HasOutRoom self.old.out_rooms serial → IsOk result }
+        ensures err { IfErr result (λ e. (e.1 ≡ parcel) × (self.new.filed ≡ self.old.filed)) }
+    {
+        let router = self.routers.router_mut(serial);
+        let was = router.filing();
+        let answer = router.put(parcel);
+        let is = router.filing();
+        refile(
+            &mut self.links,
+            &mut self.terminals,
+            &mut self.flagged,
+            serial,
+            &was,
+            &is,
+        );
+        answer
+    }
+
+    /// Takes the next parcel out of the router of the serial, as `Router::get`; its ends are held from then on. It takes no
+    /// memory.
+    #[tactic(auto, using(crate::proofs::Written::insert_same), unfolding(ipcz_router::specs::Calls::item_refusal, crate::specs::Calls::item_got, crate::specs::Calls::ends_found))]
+    pub fn get(&mut self, serial: u64) -> Result<(u64, Parcel), Refusal>
+        requires { IsSomeAnd (get self.old.filed.routers serial) IsOpenTerminal }
+        ensures allowed { (r : RouterRecord) → get self.old.filed.routers serial ≡ Some r → OnOk result (router_get_refusal r ≡ None) }
+        ensures parcel { (r : RouterRecord) → get self.old.filed.routers serial ≡ Some r → IfOk result (λ g. got_from r ≡ Some g) }
+        ensures ok { (r : RouterRecord) → get self.old.filed.routers serial ≡ Some r → OnOk result (self.new.filed ≡ hold_filed (put_filed self.old.filed serial (take_item r)) (ends_found (current_item r.in_queue))) }
+        ensures why { (r : RouterRecord) → get self.old.filed.routers serial ≡ Some r → IfErr result (λ e. router_get_refusal r ≡ Some e) }
+        ensures err { OnErr result (self.new.filed ≡ self.old.filed) }
+    {
+        let router = self.routers.router_mut(serial);
+        let was = router.filing();
+        let answer = router.get();
+        let is = router.filing();
+        refile(
+            &mut self.links,
+            &mut self.terminals,
+            &mut self.flagged,
+            serial,
+            &was,
+            &is,
+        );
+        let (n, parcel) = answer?;
+        self.held.insert_all(parcel.ends.as_slice());
+        self.ends = self.ends.saturating_sub(parcel.ends.len());
+        Ok((n, parcel))
+    }
+
+    /// Closes the router of the serial, as `Router::close`.
+    #[tactic(auto, using(crate::proofs::Written::insert_same))]
+    pub fn close(&mut self, serial: u64) -> Result<u64, Refusal>
+        requires { IsSomeAnd (get self.old.filed.routers serial) IsOpenTerminal }
+        ensures number { (r : RouterRecord) → get self.old.filed.routers serial ≡ Some r → IfOk result (λ n. n ≡ next_number r) }
+        ensures ok { (r : RouterRecord) → get self.old.filed.routers serial ≡ Some r → OnOk result (self.new.filed ≡ put_filed self.old.filed serial (close_router r)) }
+        ensures full { HasOutRoom self.old.out_rooms serial → IsOk result }
+        ensures err { IfErr result (λ e. (e ≡ Refusal.OutOfMemory) × (self.new.filed ≡ self.old.filed)) }
+    {
+        let router = self.routers.router_mut(serial);
+        let was = router.filing();
+        let answer = router.close();
+        let is = router.filing();
+        refile(
+            &mut self.links,
+            &mut self.terminals,
+            &mut self.flagged,
+            serial,
+            &was,
+            &is,
+        );
+        answer
+    }
+
+    /// Makes room for one item more in the out queue of the router of the serial, so that a put or a close after it wants no
+    /// memory.
+    #[tactic(auto, using(crate::proofs::Written::insert_same, crate::proofs::Written::insert_here))]
+    pub fn reserve_out(&mut self, serial: u64) -> Result<(), Refusal>
+        requires { is_some (get self.old.filed.routers serial) ≡ true }
+        ensures ok { OnOk result (HasOutRoom self.new.out_rooms serial) }
+        ensures filed { self.new.filed ≡ self.old.filed }
+        ensures err { IfErr result (λ e. e ≡ Refusal.OutOfMemory) }
+    {
+        self.routers.router_mut(serial).reserve_close()
+    }
+
+    /// Whether callers hold the end.
+    pub fn holds(&self, end: End) -> bool
+        ensures { result ≡ sets.contains self.now.filed.held end }
+    {
+        self.held.has(end)
+    }
+
+    /// Callers hold these ends no more.
+    pub fn release(&mut self, ends: &[End])
+        ensures filed { self.new.filed ≡ release_filed self.old.filed ends.now }
+        ensures out_rooms { self.new.out_rooms ≡ self.old.out_rooms }
+    {
+        self.held.remove_all(ends);
+    }
+
+    /// The word of the outward primary link of the router of the serial, with its side.
+    pub fn word_of(&self, serial: u64) -> Option<(u32, Side)>
+        ensures { result ≡ word_at (get self.now.filed.routers serial) }
+    {
+        match self.routers.router(serial) {
+            Some(router) => router.word(),
+            None => None,
+        }
+    }
+}

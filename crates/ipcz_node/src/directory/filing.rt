@@ -1,0 +1,126 @@
+ghost use Rattle.std.specs.Prelude.{ℕ, ◌≡◌, ◌==◌, ◌+◌, ◌<◌, ◌≤◌, ◌-◌, ◌^◌, ◌&&◌, ◌||◌, not, Some, None, true, false, if◌then◌else◌, is_some, OnOk, OnErr, IfOk, IfErr, IsSomeAnd, option_copied, option_map, unwrap_or};
+ghost use Rattle.std.specs.Ordering.{nat_cmp};
+ghost use Rattle.std.specs.FinMap.{get, empty};
+ghost use Rattle.ipcz_base.specs.Limits.{last_number, no_number};
+ghost use Rattle.ipcz_base.specs.Links.{has_link};
+ghost use Rattle.ipcz_base.specs.Orders.{end_cmp};
+ghost use Rattle.ipcz_base.specs.Ends.{same_end};
+ghost use Rattle.ipcz_base.specs.declared.end.End.{End as EndRecord};
+ghost use Rattle.ipcz_base.specs.declared.item.Item.{Item};
+ghost use Rattle.ipcz_seq.specs.Queue.{current_item};
+ghost use Rattle.ipcz_router.specs.Router.{Router as RouterRecord, IsOpenTerminal, outward_has, router_has, proxy_link, from_descriptor};
+ghost use Rattle.ipcz_router.specs.Calls.{next_number, put_item, router_put_refusal, router_get_refusal, take_item, has_place_for, accept, accept_refusal, extend, descriptor_of};
+ghost use Rattle.ipcz_router.specs.ActTable.{may_take};
+ghost use Rattle.ipcz_router.specs.ActEffects.{IsAnswerOf, IsBelowNoNumber, apply, output_of};
+ghost use Rattle.ipcz_router.specs.Bypass.{fits_bypass_peer, bypass_peer, accept_message};
+ghost use Rattle.ipcz_router.specs.Filings.{is_under, gained_by, gained};
+ghost use Rattle.ipcz_node.specs.Node.{is_terminal_of};
+ghost use Rattle.ipcz_node.specs.Finding.{IsFound};
+ghost use Rattle.ipcz_node.specs.Rooms.{FiledRouters, put_filed, link_filed, add_filed, drop_filed};
+ghost use Rattle.ipcz_node.specs.Directories.{link_end_cmp, CanRefile, AreRefiled, ends_brought, takes_inside, ends_given, ends_taken};
+ghost use Rattle.std.specs.FinSet as sets;
+ghost use Rattle.std.specs.Prelude.{length, IfSome, IfNone};
+ghost use Rattle.ipcz_base.specs.Items.{ends_in};
+ghost use Rattle.ipcz_node.specs.SortedSets.{has};
+ghost use Rattle.ipcz_node.specs.Indexes.{is_filed};
+
+use crate::index::Index;
+use crate::sorted_set::SortedSet;
+use ipcz_base::{End, LinkEnd, LinkId, Side};
+use ipcz_router::Filing;
+
+// Files what was done with the router of a serial, from where it was filed to where it is to be.
+pub(super) fn refile(
+    links: &mut Index<(LinkId, Side)>,
+    terminals: &mut Index<End>,
+    flagged: &mut SortedSet<u64>,
+    serial: u64,
+    was: &Filing,
+    is: &Filing,
+)
+    requires { CanRefile links.old terminals.old flagged.old serial was.now is.now }
+    ensures { AreRefiled links.old links.new terminals.old terminals.new flagged.old flagged.new serial was.now is.now }
+{
+    relink(links, serial, was, is);
+    close_end(terminals, serial, was, is);
+    follow(flagged, serial, was.flagged, is.flagged);
+}
+
+// The terminals alone.
+fn close_end(terminals: &mut Index<End>, serial: u64, was: &Filing, is: &Filing)
+    requires filed { (end : EndRecord) → is_filed end_cmp terminals.old.members end serial ≡ (was.now.is_open && same_end was.now.end end) }
+    requires closes { was.now.is_open ≡ false → is.now.is_open ≡ false }
+    requires stays { is.now.end ≡ was.now.end }
+    ensures members { (end : EndRecord) (s : ℕ) → is_filed end_cmp terminals.new.members end s
+        ≡ (if serial == s then is.now.is_open && same_end is.now.end end else is_filed end_cmp terminals.old.members end s) }
+    ensures room { terminals.old.room ≤ terminals.new.room }
+{
+    if was.is_open && !is.is_open {
+        terminals.remove(was.end, serial);
+    }
+}
+
+// The links alone: those that are kept stay, so that room is wanted for new ones alone.
+fn relink(links: &mut Index<(LinkId, Side)>, serial: u64, was: &Filing, is: &Filing)
+    requires room { gained was.now is.now ≤ links.old.room }
+    requires filed { (link : LinkId) (side : Side) → is_filed link_end_cmp links.old.members (link, side) serial ≡ is_under was.now link side }
+    ensures members { (link : LinkId) (side : Side) (s : ℕ) → is_filed link_end_cmp links.new.members (link, side) s
+        ≡ (if serial == s then is_under is.now link side else is_filed link_end_cmp links.old.members (link, side) s) }
+    ensures room { links.old.room ≤ links.new.room + gained was.now is.now }
+{
+    drop_link(links, serial, was.outward, is);
+    drop_link(links, serial, was.outward_decaying, is);
+    drop_link(links, serial, was.inward, is);
+    drop_link(links, serial, was.inward_decaying, is);
+    file_link(links, serial, is.outward, was);
+    file_link(links, serial, is.outward_decaying, was);
+    file_link(links, serial, is.inward, was);
+    file_link(links, serial, is.inward_decaying, was);
+}
+
+// Takes a link away, where the filing hasn't it.
+fn drop_link(links: &mut Index<(LinkId, Side)>, serial: u64, old: Option<LinkEnd>, kept: &Filing)
+    ensures members { (link : LinkId) (side : Side) (s : ℕ) → is_filed link_end_cmp links.new.members (link, side) s
+        ≡ (not (not (is_under kept.now link side) && (serial == s && has_link old link side)) && is_filed link_end_cmp links.old.members (link, side) s) }
+    ensures room { links.old.room ≤ links.new.room }
+{
+    match old {
+        Some(e) => {
+            if !kept.is_under(e.link, e.side) {
+                links.remove((e.link, e.side), serial);
+            }
+        }
+        None => {}
+    }
+}
+
+// Files a link, where the filing hadn't it.
+fn file_link(links: &mut Index<(LinkId, Side)>, serial: u64, new: Option<LinkEnd>, was: &Filing)
+    requires { gained_by was.now new ≤ links.old.room }
+    ensures members { (link : LinkId) (side : Side) (s : ℕ) → is_filed link_end_cmp links.new.members (link, side) s
+        ≡ ((not (is_under was.now link side) && (serial == s && has_link new link side)) || is_filed link_end_cmp links.old.members (link, side) s) }
+    ensures room { links.old.room ≤ links.new.room + gained_by was.now new }
+{
+    match new {
+        Some(e) => {
+            if !was.is_under(e.link, e.side) {
+                links.add((e.link, e.side), serial);
+            }
+        }
+        None => {}
+    }
+}
+
+// Keeps the set of flagged serials after what was done with the router of a serial.
+fn follow(flagged: &mut SortedSet<u64>, serial: u64, was_flagged: bool, is_flagged: bool)
+    requires was { has nat_cmp flagged.old.members serial ≡ was_flagged }
+    requires room { was_flagged ≡ false → 0 < flagged.old.room }
+    ensures members { (s : ℕ) → has nat_cmp flagged.new.members s ≡ (if serial == s then is_flagged else has nat_cmp flagged.old.members s) }
+    ensures room { flagged.new.room + (if is_flagged then 1 else 0) ≡ flagged.old.room + (if was_flagged then 1 else 0) }
+{
+    match (was_flagged, is_flagged) {
+        (false, true) => flagged.insert(serial),
+        (true, false) => flagged.remove(&serial),
+        (true, true) | (false, false) => {}
+    }
+}

@@ -1,0 +1,118 @@
+ghost use Rattle.std.specs.Prelude.{ℕ, ◌≡◌, ◌==◌, ◌+◌, ◌<◌, ◌≤◌, ◌-◌, ◌^◌, ◌&&◌, ◌||◌, not, Some, None, true, false, if◌then◌else◌, is_some, OnOk, OnErr, IfOk, IfErr, IsSomeAnd, option_copied, option_map, unwrap_or};
+ghost use Rattle.std.specs.Ordering.{nat_cmp};
+ghost use Rattle.std.specs.FinMap.{get, empty};
+ghost use Rattle.ipcz_base.specs.Limits.{last_number, no_number};
+ghost use Rattle.ipcz_base.specs.Links.{has_link};
+ghost use Rattle.ipcz_base.specs.Orders.{end_cmp};
+ghost use Rattle.ipcz_base.specs.Ends.{same_end};
+ghost use Rattle.ipcz_base.specs.declared.end.End.{End as EndRecord};
+ghost use Rattle.ipcz_base.specs.declared.item.Item.{Item};
+ghost use Rattle.ipcz_seq.specs.Queue.{current_item};
+ghost use Rattle.ipcz_router.specs.Router.{Router as RouterRecord, IsOpenTerminal, outward_has, router_has, proxy_link, from_descriptor};
+ghost use Rattle.ipcz_router.specs.Calls.{next_number, put_item, router_put_refusal, router_get_refusal, take_item, has_place_for, accept, accept_refusal, extend, descriptor_of};
+ghost use Rattle.ipcz_router.specs.ActTable.{may_take};
+ghost use Rattle.ipcz_router.specs.ActEffects.{IsAnswerOf, IsBelowNoNumber, apply, output_of};
+ghost use Rattle.ipcz_router.specs.Bypass.{fits_bypass_peer, bypass_peer, accept_message};
+ghost use Rattle.ipcz_router.specs.Filings.{is_under, gained_by, gained};
+ghost use Rattle.ipcz_node.specs.Node.{is_terminal_of};
+ghost use Rattle.ipcz_node.specs.Finding.{IsFound};
+ghost use Rattle.ipcz_node.specs.Rooms.{FiledRouters, put_filed, link_filed, add_filed, drop_filed};
+ghost use Rattle.ipcz_node.specs.Directories.{link_end_cmp, CanRefile, AreRefiled, ends_brought, takes_inside, ends_given, ends_taken};
+ghost use Rattle.std.specs.FinSet as sets;
+ghost use Rattle.std.specs.Prelude.{length, IfSome, IfNone};
+ghost use Rattle.ipcz_base.specs.Items.{ends_in};
+ghost use Rattle.ipcz_node.specs.SortedSets.{has};
+ghost use Rattle.ipcz_node.specs.Indexes.{is_filed};
+
+use crate::held_ends::HeldEnds;
+use ipcz_base::{Item, LinkEnd, LinkId, Side};
+use ipcz_router::Filing;
+use ipcz_router::act::{Applied, RouterAct};
+
+// Makes room to hold so many ends more than these, and some beside, and tells how many all of the first are.
+pub(super) fn make_room(
+    held: &mut HeldEnds,
+    ends: usize,
+    beside: usize,
+    more: usize,
+) -> Option<usize>
+    requires { ends + beside ≤ held.old.room }
+    ensures some { IfSome result (λ all. (all ≡ ends + more) × (all + beside ≤ held.new.room)) }
+    ensures none { IfNone result (0 < more) }
+    ensures ends { held.new.ends ≡ held.old.ends }
+    ensures room { held.old.room ≤ held.new.room }
+{
+    if more == 0 {
+        return Some(ends);
+    }
+    let all = sum(ends, more)?;
+    match held.reserve(sum(all, beside)?) {
+        Ok(()) => Some(all),
+        Err(_) => None,
+    }
+}
+
+// The sum of two numbers, where it fits.
+pub(super) fn sum(a: usize, b: usize) -> Option<usize>
+    ensures { IfSome result (λ n. n ≡ a + b) }
+{
+    a.checked_add(b)
+}
+
+// How many ends travel with an item.
+pub(super) fn count_ends(item: &Item) -> usize
+    ensures { result ≡ length (ends_in item.now) }
+{
+    match item {
+        Item::Parcel(parcel) => parcel.ends.len(),
+        Item::Mark => 0,
+    }
+}
+
+// How many ends an act takes out of the in queue.
+pub(super) fn ends_taken(act: RouterAct, given: &Applied) -> usize
+    ensures { result ≡ ends_taken act given.now }
+{
+    if takes_inside(act) {
+        ends_given(given)
+    } else {
+        0
+    }
+}
+
+#[tactic(auto, unfolding(crate::specs::Directories::takes_inside))]
+fn takes_inside(act: RouterAct) -> bool
+    ensures { result ≡ takes_inside act }
+{
+    match act {
+        RouterAct::SendIn | RouterAct::Discard => true,
+        _ => false,
+    }
+}
+
+#[tactic(auto, unfolding(crate::specs::Directories::ends_given))]
+fn ends_given(given: &Applied) -> usize
+    ensures { result ≡ ends_given given.now }
+{
+    match given {
+        Applied::Sent(_, _, item) | Applied::Discarded(_, item) => count_ends(item),
+        Applied::Nothing | Applied::Message(_, _) => 0,
+    }
+}
+
+// Whether the outward edge has the link at the side.
+pub(super) fn is_outward(filing: &Filing, link: LinkId, side: Side) -> bool
+    ensures { result ≡ (has_link filing.now.outward link side || has_link filing.now.outward_decaying link side) }
+{
+    is_link(filing.outward, link, side) || is_link(filing.outward_decaying, link, side)
+}
+
+#[tactic(auto, unfolding(ipcz_base::specs::Links::has_link))]
+fn is_link(end: Option<LinkEnd>, link: LinkId, side: Side) -> bool
+    ensures { result ≡ has_link end link side }
+{
+    match end {
+        Some(end) => end.link == link && end.side == side,
+        None => false,
+    }
+}

@@ -1,0 +1,17 @@
+//! A node: its routers, what it has to send, and what it does with what comes.
+#![tactic(auto)]
+
+mod act;
+mod directory;
+mod happened;
+mod held_ends;
+mod index;
+mod outboxes;
+mod routers;
+mod sorted_set;
+mod spare;
+mod state;
+
+pub use act::{Act, MailSeen};
+pub use happened::{Handed, Happened};
+pub use state::{NodeState, PutRefused};

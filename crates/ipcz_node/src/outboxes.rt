@@ -1,0 +1,108 @@
+ghost use Rattle.std.specs.Prelude.{◌≡◌, ◌<◌, ◌++◌, [], ◌∷◌, not, nat_eq, length, map, replicate, OnOk, OnErr, IfOk};
+ghost use Rattle.ipcz_base.specs.Indexed.{place_at, put_place};
+ghost use Rattle.ipcz_node.specs.Acts.{first_of, rest_of, are_empty};
+
+use ipcz_base::Message;
+use std::alloc::{AllocError, Global};
+use std::collections::VecDeque;
+use std::marker::Model;
+
+/// Messages that wait to be posted, by destination: a queue for each number that a node could have.
+#[derive(Drop)]
+pub struct Outboxes {
+    queues: Vec<VecDeque<Message>>,
+}
+
+impl Model for Outboxes {
+    ghost use Rattle.std.specs.Prelude.{map, ◌-◌, ◌≡◌, length};
+    ghost use Rattle.std.specs.VecDeque.{deque_len, deque_capacity};
+    ghost use Rattle.std.specs.Coded.{codes};
+    ghost use Rattle.ipcz_node.specs.RoomyNodes.{OutboxesValue};
+
+    ghost Value = { OutboxesValue };
+
+    ghost coded = { Prim.hlevel codes };
+
+    ghost view = { λ a. record {
+      messages = map (λ q. q.items) a.queues.items;
+      room = map (λ q. deque_capacity q - deque_len q) a.queues.items;
+    } };
+
+    ghost invariant = { λ a. length a.queues.items ≡ 256 };
+}
+
+impl Outboxes {
+    /// No messages.
+    pub fn new(alloc: Global) -> Result<Outboxes, AllocError>
+        ensures { IfOk result (λ o. o.messages ≡ replicate 256 []) }
+    {
+        let mut queues = Vec::with_capacity(alloc, 256)?;
+        for _i in 0..256usize {
+            queues.push_reserved(VecDeque::new(alloc));
+        }
+        Ok(Outboxes { queues })
+    }
+
+    /// Makes room for a message more to a node.
+    pub fn reserve(&mut self, to: u8) -> Result<(), AllocError>
+        ensures ok { OnOk result (0 < place_at 0 self.new.room to) }
+        ensures messages { self.new.messages ≡ self.old.messages }
+    {
+        self.queues[usize::from(to)].reserve(1)?;
+        Ok(())
+    }
+
+    /// Adds a message to a node.
+    pub fn push(&mut self, to: u8, message: Message)
+        requires { 0 < place_at 0 self.old.room to }
+        ensures { self.new.messages ≡ put_place [] self.old.messages to (place_at [] self.old.messages to ++ message ∷ []) }
+    {
+        self.queues[usize::from(to)].push_back_reserved(message);
+    }
+
+    /// Whether a message waits for a node.
+    pub fn has_mail(&self, to: u8) -> bool
+        ensures { result ≡ not (nat_eq (length (place_at [] self.now.messages to)) 0) }
+    {
+        !self.queues[usize::from(to)].is_empty()
+    }
+
+    /// Whether no message waits.
+    pub fn are_empty(&self) -> bool
+        ensures { result ≡ are_empty self.now.messages }
+    {
+        are_empty(self.queues.as_slice())
+    }
+
+    /// Takes the first message for a node out, where there is one. What is left empty gives its room back.
+    pub fn pop(&mut self, alloc: Global, to: u8) -> Option<Message>
+        ensures messages { self.new.messages ≡ put_place [] self.old.messages to (rest_of (place_at [] self.old.messages to)) }
+        ensures message { result ≡ first_of (place_at [] self.old.messages to) }
+    {
+        pop_from(&mut self.queues[usize::from(to)], alloc)
+    }
+}
+
+// Takes the first message of a queue out, where there is one. A queue that is left empty gives its room back.
+fn pop_from(queue: &mut VecDeque<Message>, alloc: Global) -> Option<Message>
+    ensures items { queue.new.items ≡ rest_of queue.old.items }
+    ensures message { result ≡ first_of queue.old.items }
+{
+    let message = queue.pop_front();
+    if queue.is_empty() {
+        *queue = VecDeque::new(alloc);
+    }
+    message
+}
+
+// Whether no message waits in any of the queues.
+fn are_empty(queues: &[VecDeque<Message>]) -> bool
+    ensures { result ≡ are_empty (map (λ q. q.items) queues.now) }
+{
+    for queue in queues {
+        if !queue.is_empty() {
+            return false;
+        }
+    }
+    true
+}

@@ -1,0 +1,158 @@
+ghost use Rattle.std.specs.Prelude.{◌≡◌, ◌+◌, ◌<◌, ◌≤◌, ◌-◌, ◌^◌, ℕ, Some, None, is_some, true, OnOk, IfSome, MatchOption, option_copied, option_map, length};
+ghost use Rattle.std.specs.Borrow.{sem};
+ghost use Rattle.std.specs.Ordering.{nat_cmp};
+ghost use Rattle.std.specs.FinMap.{find, get, remove, empty, len};
+ghost use Rattle.ipcz_node.specs.Rooms.{RoutersValue, added};
+ghost use Rattle.ipcz_node.specs.Serials.{key_at, AreRising};
+
+use ipcz_router::Router;
+use std::alloc::{AllocError, Global};
+use std::marker::Model;
+
+/// The routers of a node, in the order of their serials (docs/PROTOCOL.md, "Nodes").
+#[derive(Drop)]
+pub struct Routers {
+    entries: Vec<(u64, Router)>,
+    next: u64,
+}
+
+impl Model for Routers {
+    ghost use Rattle.std.specs.Prelude.{◌-◌, vec_len, vec_capacity};
+    ghost use Rattle.std.specs.FinMap.{code};
+    ghost use Rattle.std.specs.Coded.{codes};
+    ghost use Rattle.ipcz_node.specs.Rooms.{RoutersValue};
+    ghost use Rattle.ipcz_node.specs.Serials.{map_by, AreRising};
+
+    ghost Value = { RoutersValue };
+
+    ghost coded = { Prim.hlevel (codes, code) };
+
+    ghost view = { λ a. record {
+      routers = map_by (λ x. x.router) a.entries.items;
+      out_rooms = map_by (λ x. x.out_room) a.entries.items;
+      next = a.next;
+      room = vec_capacity a.entries - vec_len a.entries;
+    } };
+
+    ghost invariant = { λ a. AreRising 0 a.next a.entries.items };
+}
+
+impl Routers {
+    ghost use Rattle.ipcz_node.specs.Lending.{LendsRouter};
+
+    /// No routers, and serials from 0 on.
+    pub fn new(alloc: Global) -> Self
+        ensures routers { result.routers ≡ empty }
+        ensures next { result.next ≡ 0 }
+    {
+        Routers {
+            entries: Vec::new(alloc),
+            next: 0,
+        }
+    }
+
+    /// The serial that the next router gets.
+    pub fn next_serial(&self) -> u64
+        ensures next { result ≡ self.now.next }
+        ensures free { get self.now.routers self.now.next ≡ None }
+    {
+        self.next
+    }
+
+    /// The router of a serial, to change.
+    pub fn router_mut(&mut self, serial: u64) -> &mut Router
+        requires { is_some (get self.old.routers serial) ≡ true }
+        ensures* writes_back { sem 𝓛 (LendsRouter self.entry serial result) }
+        ensures value { Some result.now.router ≡ get self.old.routers serial }
+        ensures room { Some result.now.out_room ≡ get self.old.out_rooms serial }
+    {
+        let Some(place) = place_of(&self.entries, serial) else {
+            unreachable!()
+        };
+        let entry = &mut self.entries[place];
+        &mut entry.1
+    }
+
+    /// The router of a serial, to read.
+    pub fn router(&self, serial: u64) -> Option<&Router>
+        ensures { option_map (λ r. r.router) (option_copied result) ≡ get self.now.routers serial }
+    {
+        match place_of(&self.entries, serial) {
+            Some(place) => Some(&self.entries[place].1),
+            None => None,
+        }
+    }
+
+    /// Makes room for so many more routers.
+    pub fn reserve(&mut self, more: usize) -> Result<(), AllocError>
+        ensures ok { OnOk result (more ≤ self.new.room) }
+        ensures routers { self.new.routers ≡ self.old.routers }
+        ensures out_rooms { self.new.out_rooms ≡ self.old.out_rooms }
+        ensures next { self.new.next ≡ self.old.next }
+        ensures room { self.old.room ≤ self.new.room }
+    {
+        self.entries.reserve(more)
+    }
+
+    /// Adds a router under the next serial.
+    pub fn add(&mut self, router: Router)
+        requires room { 0 < self.old.room }
+        requires serials { self.old.next < 2 ^ 64 - 1 }
+        ensures { self.new ≡ added self.old router }
+    {
+        self.entries.push_reserved((self.next, router));
+        self.next += 1;
+    }
+
+    /// Takes the router of a serial out.
+    pub fn remove(&mut self, serial: u64) -> Router
+        requires { is_some (get self.old.routers serial) ≡ true }
+        ensures router { Some result.router ≡ get self.old.routers serial }
+        ensures routers { self.new.routers ≡ remove self.old.routers serial }
+        ensures next { self.new.next ≡ self.old.next }
+        ensures room { self.new.room ≡ self.old.room + 1 }
+    {
+        let Some(place) = place_of(&self.entries, serial) else {
+            unreachable!()
+        };
+        let (_, router) = self.entries.remove(place);
+        router
+    }
+
+    /// How many routers there are.
+    pub fn len(&self) -> usize
+        ensures count { result ≡ len self.now.routers }
+        ensures small { result < 2 ^ 63 }
+    {
+        self.entries.as_slice().len()
+    }
+}
+
+// Where the entry of the serial stands.
+fn place_of<T>(entries: &[(u64, T)], serial: u64) -> Option<usize>
+    requires { (next : ℕ) × AreRising 0 next entries.now }
+    ensures found { MatchOption result (find nat_cmp serial entries.now ≡ None) (λ i. key_at entries.now i ≡ Some serial) }
+    ensures within { IfSome result (λ i. i < length entries.now) }
+{
+    if let Some(place) = likely_place(entries, serial) {
+        return Some(place);
+    }
+    match entries.binary_search_by_key(&serial, |entry| entry.0) {
+        Ok(place) => Some(place),
+        Err(_) => None,
+    }
+}
+
+// Where the entry of the serial stands, if nothing before it has left but what was first.
+fn likely_place<T>(entries: &[(u64, T)], serial: u64) -> Option<usize>
+    ensures found { IfSome result (λ i. key_at entries.now i ≡ Some serial) }
+    ensures within { IfSome result (λ i. i < length entries.now) }
+{
+    let first = entries.first()?.0;
+    let place = usize::try_from(serial.checked_sub(first)?).ok()?;
+    if entries.get(place)?.0 == serial {
+        Some(place)
+    } else {
+        None
+    }
+}

@@ -1,0 +1,139 @@
+ghost use Rattle.std.specs.Prelude.{◌≡◌, ◌+◌, ◌-◌, ◌<◌, ◌≤◌, ◌||◌, ◌&&◌, not, true, false, [], if◌then◌else◌, OnOk, IfOk, IfErr, IfSome, IfNone};
+ghost use Rattle.std.specs.Ordering.{is_eq, is_lt};
+ghost use Rattle.std.specs.List.Sorted.{IsStrictlySortedBy};
+ghost use Rattle.ipcz_node.specs.SortedSets.{has, IsPlaceOf, IsGapFor};
+
+use std::alloc::{AllocError, Global};
+use std::marker::Model;
+
+/// A set kept as a sorted vector: a search halves it, and an insert into room made before takes no memory.
+#[derive(Drop)]
+pub struct SortedSet<T: Ord> {
+    items: Vec<T>,
+}
+
+impl<T: Ord> Model for SortedSet<T> {
+    ghost use Rattle.std.specs.List.Sorted.{IsStrictlySortedBy};
+    ghost use Rattle.ipcz_node.specs.SortedSets.{RoomySet, roomy_code, room_of};
+
+    ghost Value = { RoomySet T };
+
+    ghost coded = { roomy_code T.code };
+
+    ghost view = { λ a. record { members = a.items.items; room = room_of a.items } };
+
+    ghost invariant = { λ a. IsStrictlySortedBy T.cmp a.items.items };
+}
+
+impl<T: Ord + Drop> SortedSet<T> {
+    /// An empty set.
+    pub fn new(alloc: Global) -> Self
+        ensures { result.members ≡ [] }
+    {
+        SortedSet {
+            items: Vec::new(alloc),
+        }
+    }
+
+    /// Makes room for so many more.
+    pub fn reserve(&mut self, more: usize) -> Result<(), AllocError>
+        ensures ok { OnOk result (more ≤ self.new.room) }
+        ensures members { self.new.members ≡ self.old.members }
+        ensures room { self.old.room ≤ self.new.room }
+    {
+        self.items.reserve(more)
+    }
+
+    /// Adds a value. One that is there stays.
+    pub fn insert(&mut self, value: T)
+        requires { 0 < self.old.room }
+        ensures members { (x : T) → has T.cmp self.new.members x ≡ (is_eq (T.cmp value x) || has T.cmp self.old.members x) }
+        ensures room { self.new.room ≡ (if has T.cmp self.old.members value then self.old.room else self.old.room - 1) }
+    {
+        if let Err(at) = self.place_of(&value) {
+            let Ok(()) = self.items.insert(at, value) else {
+                unreachable!()
+            };
+        }
+    }
+
+    /// Takes a value away. One that isn't there is no fault.
+    pub fn remove(&mut self, value: &T)
+        ensures members { (x : T) → has T.cmp self.new.members x ≡ (not (is_eq (T.cmp value.now x)) && has T.cmp self.old.members x) }
+        ensures room { self.new.room ≡ (if has T.cmp self.old.members value.now then self.old.room + 1 else self.old.room) }
+    {
+        if let Ok(at) = self.place_of(value) {
+            self.items.remove(at);
+        }
+    }
+
+    /// Whether a value is there.
+    pub fn has(&self, value: &T) -> bool
+        ensures { result ≡ has T.cmp self.now.members value.now }
+    {
+        match self.place_of(value) {
+            Ok(_) => true,
+            Err(_) => false,
+        }
+    }
+
+    /// The least member that is no less than the value.
+    pub fn first_from(&self, value: &T) -> Option<&T>
+        ensures member { IfSome result (λ x. (has T.cmp self.now.members x.now ≡ true) × (is_lt (T.cmp x.now value.now) ≡ false)) }
+        ensures least { IfSome result (λ x. (y : T) → has T.cmp self.now.members y ≡ true → is_lt (T.cmp y value.now) ≡ false → is_lt (T.cmp y x.now) ≡ false) }
+        ensures none { IfNone result ((y : T) → has T.cmp self.now.members y ≡ true → is_lt (T.cmp y value.now) ≡ true) }
+    {
+        let (Ok(at) | Err(at)) = self.place_of(value);
+        self.items.get(at)
+    }
+
+    // Where the value is, or where it would go.
+    fn place_of(&self, value: &T) -> Result<usize, usize>
+        ensures sorted { IsStrictlySortedBy T.cmp self.now.members }
+        ensures found { IfOk result (IsPlaceOf T.cmp self.now.members value.now) }
+        ensures absent { IfErr result (IsGapFor T.cmp self.now.members value.now) }
+    {
+        self.items.binary_search(value)
+    }
+}
+
+#[cfg(test)]
+mod tests {
+    use super::*;
+    use std::test::Fail;
+
+    #[test]
+    fn keeps_numbers_in_order(rt: HostRuntime) -> Result<(), Fail> {
+        let mut set: SortedSet<u64> = SortedSet::new(rt.alloc());
+        set.reserve(4)?;
+        set.insert(7);
+        set.insert(3);
+        set.insert(9);
+        set.insert(7);
+        assert_eq!(rt; set.first_from(&4), Some(&7));
+
+        set.remove(&7);
+        set.remove(&8);
+        assert_eq!(rt; set.first_from(&4), Some(&9));
+        assert_eq!(rt; set.first_from(&0), Some(&3));
+        assert_eq!(rt; set.first_from(&10), None);
+        Ok(())
+    }
+
+    #[test]
+    fn keeps_tuples_in_order(rt: HostRuntime) -> Result<(), Fail> {
+        let mut set: SortedSet<(u32, u8, u64)> = SortedSet::new(rt.alloc());
+        set.reserve(4)?;
+        set.insert((2, 0, 5));
+        set.insert((1, 9, 1));
+        set.insert((2, 0, 4));
+        set.insert((1, 9, 8));
+        assert_eq!(rt; set.first_from(&(1, 9, 2)), Some(&(1, 9, 8)));
+
+        set.remove(&(1, 9, 8));
+        assert_eq!(rt; set.first_from(&(1, 9, 2)), Some(&(2, 0, 4)));
+        assert_eq!(rt; set.first_from(&(2, 0, 5)), Some(&(2, 0, 5)));
+        assert_eq!(rt; set.first_from(&(2, 1, 0)), None);
+        Ok(())
+    }
+}

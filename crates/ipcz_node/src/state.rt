@@ -1,0 +1,141 @@
+ghost use Rattle.std.specs.Prelude.{ℕ, ◌≡◌, ◌<◌, ◌≤◌, ◌+◌, ◌-◌, ◌++◌, [], ◌∷◌, Some, None, is_some, true, false, length, vec_len, vec_capacity, nat_eq, OnOk, OnErr, IfOk, IfErr, IfSome, IfNone, IsSomeAnd};
+ghost use Rattle.std.specs.FinMap.{get};
+ghost use Rattle.ipcz_base.specs.Limits.{no_number, last_number, has_serials};
+ghost use Rattle.ipcz_base.specs.Indexed.{place_at};
+ghost use Rattle.ipcz_base.specs.Items.{ends_in};
+ghost use Rattle.ipcz_router.specs.Router.{Router as RouterRecord, IsOpenTerminal, outward_has, router_has};
+ghost use Rattle.ipcz_router.specs.Calls.{has_place_for};
+ghost use Rattle.ipcz_node.specs.Node.{router_in, terminal_of, link_router, found, is_named, add_stray, push_out};
+ghost use Rattle.ipcz_node.specs.Sends.{Transfer, move_end, move_ends, move_router, moved_ends, transfer_of, item_message, send_item};
+ghost use Rattle.ipcz_node.specs.RoomyNodes.{transfer, AreLow, IsReady};
+ghost use Rattle.ipcz_node.specs.Acts.{keep_or_drop, commit_router, commit};
+ghost use Rattle.ipcz_node.specs.declared.act.Act.{Act};
+ghost use Rattle.ipcz_node.specs.Node.{on_router};
+ghost use Rattle.ipcz_node.specs.Sends.{send};
+ghost use Rattle.ipcz_router.specs.ActTable.{may_take};
+ghost use Rattle.ipcz_router.specs.ActEffects.{IsAnswerOf, apply, output_of};
+ghost use Rattle.ipcz_node.specs.Hands.{has_moved, fit_moves, fits_from, fits_item, make_terminals, take_in, free_hand, fits, handle, deliver, message_lacks_serials};
+ghost use Rattle.std.specs.Prelude.{if◌then◌else◌};
+ghost use Rattle.ipcz_base.specs.declared.side.Side.TheVariants.{B};
+
+mod acts;
+mod bypass;
+mod calls;
+mod first_pairs;
+mod hands;
+mod room;
+mod sends;
+mod turn;
+
+pub use self::calls::PutRefused;
+use crate::directory::Directory;
+use crate::outboxes::Outboxes;
+use crate::spare::Spare;
+use ipcz_base::{Descriptor, End, Item, LinkEnd, LinkId, Message, Moves, Refusal, Side};
+use ipcz_router::act::{Answer, Applied, RouterAct};
+use std::alloc::{AllocError, Global};
+use std::marker::Model;
+
+/// The state of a node (docs/PROTOCOL.md, "Nodes").
+#[derive(Drop)]
+pub struct NodeState {
+    number: u8,
+    count: u8,
+    routers: Directory,
+    outboxes: Outboxes,
+    pending: Vec<End>,
+    strays: Vec<Message>,
+    hand: Option<u8>,
+    opening: Option<u32>,
+    next_peripheral: u64,
+    moves: Spare<Descriptor>,
+    event_ends: Spare<End>,
+    alloc: Global,
+}
+
+impl Model for NodeState {
+    ghost use Rattle.std.specs.Prelude.{◌-◌, vec_capacity, vec_len};
+    ghost use Rattle.std.specs.FinMap.{code};
+    ghost use Rattle.std.specs.Coded.{codes};
+    ghost use Rattle.ipcz_node.specs.RoomyNodes.{RoomyNode};
+
+    ghost Value = { RoomyNode };
+
+    ghost coded = { Prim.hlevel (codes, code) };
+
+    ghost view = { λ a. record {
+      node = record {
+        number = a.number;
+        count = a.count;
+        routers = a.routers.filed.routers;
+        outboxes = a.outboxes.messages;
+        pending = a.pending.items;
+        strays = a.strays.items;
+        held = a.routers.filed.held;
+        hand = a.hand;
+        opening = a.opening;
+        next_router = a.routers.filed.next;
+        next_peripheral = a.next_peripheral;
+      };
+      room = record {
+        outboxes = a.outboxes.room;
+        routers = a.routers.filed.room;
+        links = a.routers.filed.links;
+        out_rooms = a.routers.out_rooms;
+        moves = a.moves;
+        pending = vec_capacity a.pending - vec_len a.pending;
+        event_ends = a.event_ends;
+      };
+    } };
+}
+
+impl NodeState {
+    /// The node's number.
+    pub fn number(&self) -> u8
+        ensures { result ≡ self.now.node.number }
+    {
+        self.number
+    }
+
+    /// How many nodes there are.
+    pub fn count(&self) -> u8
+        ensures { result ≡ self.now.node.count }
+    {
+        self.count
+    }
+
+    /// The word that was claimed for an open which isn't done yet.
+    pub fn opening(&self) -> Option<u32>
+        ensures { result ≡ self.now.node.opening }
+    {
+        self.opening
+    }
+
+    // The serial of the open terminal of an end.
+    fn terminal_serial(&self, at: End) -> Option<u64>
+        ensures none { IfNone result (terminal_of self.now.node at ≡ None) }
+        ensures open { IfSome result (λ serial. IsSomeAnd (router_in self.now.node serial) IsOpenTerminal) }
+        ensures found { IfSome result (λ serial. IsSomeAnd (router_in self.now.node serial) (λ r. terminal_of self.now.node at ≡ Some (found serial r))) }
+    {
+        self.routers.terminal_of(at)
+    }
+
+    // The serial of the router that has the link at the side.
+    fn link_serial(&self, link: LinkId, side: Side) -> Option<u64>
+        ensures none { IfNone result (link_router self.now.node link side ≡ None) }
+        ensures stands { IfSome result (λ serial. IsSomeAnd (router_in self.now.node serial) (λ r. router_has r link side ≡ true)) }
+        ensures found { IfSome result (λ serial. IsSomeAnd (router_in self.now.node serial) (λ r. link_router self.now.node link side ≡ Some (found serial r))) }
+    {
+        self.routers.first_on(link, side)
+    }
+
+    // Whether a router here has the link at the side.
+    fn is_named(&self, link: LinkId, side: Side) -> bool
+        ensures { result ≡ is_named self.now.node link side }
+    {
+        match self.link_serial(link, side) {
+            Some(_) => true,
+            None => false,
+        }
+    }
+}

@@ -1,0 +1,298 @@
+ghost use Rattle.std.specs.Prelude.{ℕ, ◌≡◌, ◌<◌, ◌≤◌, ◌+◌, ◌*◌, ◌∷◌, [], ◌++◌, Some, None, true, OnOk, OnErr, IfOk, IfErr, IsSomeAnd, unwrap_or, replicate};
+ghost use Rattle.ipcz_base.specs.Ends.{has_end, end_at};
+ghost use Rattle.ipcz_base.specs.Limits.{is_printable};
+ghost use Rattle.ipcz_base.specs.declared.parcel.Parcel.{Parcel as ParcelRecord};
+ghost use Rattle.ipcz_base.specs.declared.side.Side.TheVariants.{A, B};
+ghost use Rattle.ipcz_router.specs.Router.{Router as RouterRecord, IsOpenTerminal};
+ghost use Rattle.ipcz_router.specs.Calls.{router_put_refusal};
+ghost use Rattle.ipcz_node.specs.Node.{router_in, terminal_of, found, holds_end, add_end, bare_node, word_side};
+ghost use Rattle.ipcz_node.specs.FirstPairs.{new_node, add_pairs, pairs_from, first_pairs_from, add_pair};
+ghost use Rattle.ipcz_node.specs.Calls.{serials_refusal, open_node, are_held_once, refusal_at, are_too_many, put_refusal, put_node, put_number, get_refusal, got_at, get_node, close_refusal, close_node, close_end};
+ghost use Rattle.ipcz_node.specs.Acts.{is_quiet, rest_of};
+ghost use Rattle.ipcz_node.specs.RoomyNodes.{CanOpen, IsReadyFor};
+ghost use Rattle.ipcz_node.specs.declared.act.Act.{Act};
+
+use super::NodeState;
+use crate::directory::Directory;
+use crate::outboxes::Outboxes;
+use crate::spare::Spare;
+use ipcz_base::{Bytes, End, Ends, Message, Parcel, Refusal, Side};
+use std::alloc::{AllocError, Global};
+
+/// A put that was refused: why, and what was to be put.
+#[derive(Debug, Drop)]
+pub struct PutRefused {
+    pub why: Refusal,
+    pub bytes: Bytes,
+    pub ends: Ends,
+}
+
+impl NodeState {
+    /// Makes room for a pair: for two routers, and for the ends that callers hold.
+    ///
+    /// It answers `NumbersEnd` where one of the two serials would be u64::MAX, else `OutOfMemory` where no room was found.
+    pub fn open_prepare(&mut self) -> Result<(), Refusal>
+        ensures node { self.new.node ≡ self.old.node }
+        ensures ok { OnOk result (CanOpen self.new) }
+        ensures why { IfErr result (λ e. e ≡ unwrap_or (serials_refusal self.old.node) Refusal.OutOfMemory) }
+        ensures allowed { OnOk result (serials_refusal self.old.node ≡ None) }
+    {
+        if self.routers.next_serial() > u64::MAX - 2 {
+            return Err(Refusal::NumbersEnd);
+        }
+        match self.routers.reserve(2, 0) {
+            Ok(()) => Ok(()),
+            Err(_) => Err(Refusal::OutOfMemory),
+        }
+    }
+
+    /// Opens the pair of a claimed word, for which `open_prepare` made room: the terminal of side A, and then that of side B,
+    /// both on the word's link. Callers hold both ends. It takes no memory.
+    pub fn open_commit(&mut self, word: u32) -> (End, End)
+        requires { CanOpen self.old }
+        ensures node { self.new.node ≡ open_node self.old.node word }
+        ensures ends { result ≡ (end_at word A, end_at word B) }
+    {
+        self.routers.add_end(self.alloc, word, Side::A, self.number);
+        self.routers.add_end(self.alloc, word, Side::B, self.number);
+        self.opening = None;
+        (
+            End {
+                pair: word,
+                side: Side::A,
+            },
+            End {
+                pair: word,
+                side: Side::B,
+            },
+        )
+    }
+
+    /// Puts a parcel at an end that callers of this node hold, and answers its number. Its ends are held no more.
+    ///
+    /// A refused call gives both lists back. It answers, the first of these: `Stranger` where `at` isn't held here, `TooMany`
+    /// for more than 256 bytes or 8 ends, `BadData` for a byte outside 0x20 to 0x7E, `SelfAttach` where `ends` has `at`,
+    /// `PeerAttach` where it has the other end of that pair, wherever that is, `Stranger` where it has an end that isn't held
+    /// here or one that stands twice, `PeerClosed` where the peer's mark has come, `NumbersEnd` where no number is left, and
+    /// `OutOfMemory` (docs/PROTOCOL.md, "Refusals").
+    #[tactic(auto, unfolding(crate::specs::Node::on_found, crate::specs::Calls::number_at))]
+    pub fn put(&mut self, at: End, bytes: Bytes, ends: Ends) -> Result<u64, PutRefused>
+        ensures allowed { OnOk result (put_refusal self.old.node at bytes ends ≡ None) }
+        ensures number { IfOk result (λ n. n ≡ put_number self.old.node at) }
+        ensures ok { OnOk result (self.new.node ≡ put_node self.old.node at (record { bytes = bytes; ends = ends })) }
+        ensures why { IfErr result (λ e. e.why ≡ unwrap_or (put_refusal self.old.node at bytes ends) Refusal.OutOfMemory) }
+        ensures err { IfErr result (λ e. (e.bytes ≡ bytes) × (e.ends ≡ ends) × (self.new.node ≡ self.old.node)) }
+    {
+        let serial = match self.put_serial(at, bytes.as_slice(), ends.as_slice()) {
+            Ok(serial) => serial,
+            Err(why) => return Err(PutRefused { why, bytes, ends }),
+        };
+        if self.routers.reserve_out(serial).is_err() {
+            return Err(PutRefused {
+                why: Refusal::OutOfMemory,
+                bytes,
+                ends,
+            });
+        }
+        self.routers.release(ends.as_slice());
+        let Ok(n) = self.routers.put(serial, Parcel { bytes, ends }) else {
+            unreachable!()
+        };
+        Ok(n)
+    }
+
+    // Where a parcel can be put, memory aside.
+    #[tactic(auto, unfolding(crate::specs::Calls::put_refusal))]
+    fn put_serial(&self, at: End, bytes: &[u8], ends: &[End]) -> Result<u64, Refusal>
+        ensures allowed { OnOk result (put_refusal self.now.node at bytes.now ends.now ≡ None) }
+        ensures why { IfErr result (λ e. put_refusal self.now.node at bytes.now ends.now ≡ Some e) }
+        ensures open { IfOk result (λ serial. IsSomeAnd (router_in self.now.node serial) IsOpenTerminal) }
+        ensures free { IfOk result (λ serial. IsSomeAnd (router_in self.now.node serial) (λ r. router_put_refusal r ≡ None)) }
+        ensures found { IfOk result (λ serial. IsSomeAnd (router_in self.now.node serial) (λ r. terminal_of self.now.node at ≡ Some (found serial r))) }
+    {
+        if !self.holds(at) {
+            return Err(Refusal::Stranger);
+        }
+        if are_too_many(bytes, ends) {
+            return Err(Refusal::TooMany);
+        }
+        if !is_printable(bytes) {
+            return Err(Refusal::BadData);
+        }
+        if has_end(at, ends) {
+            return Err(Refusal::SelfAttach);
+        }
+        if has_end(at.opposite(), ends) {
+            return Err(Refusal::PeerAttach);
+        }
+        if !self.are_held_once(ends) {
+            return Err(Refusal::Stranger);
+        }
+        self.free_serial(at)
+    }
+
+    // The terminal of an end, where it takes a parcel.
+    #[tactic(auto, unfolding(crate::specs::Calls::refusal_at))]
+    fn free_serial(&self, at: End) -> Result<u64, Refusal>
+        ensures allowed { OnOk result (refusal_at (terminal_of self.now.node at) router_put_refusal ≡ None) }
+        ensures why { IfErr result (λ e. refusal_at (terminal_of self.now.node at) router_put_refusal ≡ Some e) }
+        ensures open { IfOk result (λ serial. IsSomeAnd (router_in self.now.node serial) IsOpenTerminal) }
+        ensures free { IfOk result (λ serial. IsSomeAnd (router_in self.now.node serial) (λ r. router_put_refusal r ≡ None)) }
+        ensures found { IfOk result (λ serial. IsSomeAnd (router_in self.now.node serial) (λ r. terminal_of self.now.node at ≡ Some (found serial r))) }
+    {
+        let Some(serial) = self.terminal_serial(at) else {
+            return Err(Refusal::Stranger);
+        };
+        match self.put_refusal_at(serial) {
+            Some(why) => Err(why),
+            None => Ok(serial),
+        }
+    }
+
+    // Why the router of the serial takes no parcel.
+    fn put_refusal_at(&self, serial: u64) -> Option<Refusal>
+        requires { IsSomeAnd (router_in self.now.node serial) IsOpenTerminal }
+        ensures { (r : RouterRecord) → router_in self.now.node serial ≡ Some r → result ≡ router_put_refusal r }
+    {
+        match self.routers.router(serial) {
+            Some(router) => router.put_refusal(),
+            None => unreachable!(),
+        }
+    }
+
+    // Whether callers hold each of these ends, and none stands twice.
+    fn are_held_once(&self, ends: &[End]) -> bool
+        ensures { result ≡ are_held_once self.now.node ends.now }
+    {
+        match ends {
+            [] => true,
+            [end, rest @ ..] => self.holds(*end)
+                && !has_end(*end, rest)
+                && self.are_held_once(rest),
+        }
+    }
+
+    /// Takes the next parcel at an end that callers of this node hold, with its number; its ends are held here from then on.
+    /// It takes no memory.
+    ///
+    /// It answers, the first of these: `Stranger` where `at` isn't held here, `Empty` where the parcel hasn't come, whatever
+    /// stands behind it, and `PeerClosed` where the peer's mark is what comes next.
+    #[tactic(auto, unfolding(crate::specs::Calls::get_refusal, crate::specs::Calls::refusal_at, crate::specs::Calls::got_at_found, crate::specs::Node::on_found))]
+    pub fn get(&mut self, at: End) -> Result<(u64, Parcel), Refusal>
+        ensures allowed { OnOk result (get_refusal self.old.node at ≡ None) }
+        ensures parcel { IfOk result (λ g. got_at self.old.node at ≡ Some g) }
+        ensures ok { OnOk result (self.new.node ≡ get_node self.old.node at) }
+        ensures why { IfErr result (λ e. get_refusal self.old.node at ≡ Some e) }
+        ensures err { OnErr result (self.new.node ≡ self.old.node) }
+    {
+        if !self.holds(at) {
+            return Err(Refusal::Stranger);
+        }
+        let Some(serial) = self.terminal_serial(at) else {
+            return Err(Refusal::Stranger);
+        };
+        let got = self.routers.get(serial)?;
+        Ok(got)
+    }
+
+    /// Closes an end that callers of this node hold, and answers the number of the mark that its peer is to get. The end is
+    /// held no more.
+    ///
+    /// It answers `Stranger` where `at` isn't held here, else `OutOfMemory`.
+    #[tactic(auto, unfolding(crate::specs::Calls::close_refusal, crate::specs::Calls::refusal_at, crate::specs::Calls::number_at, crate::specs::Node::on_found))]
+    pub fn close(&mut self, at: End) -> Result<u64, Refusal>
+        ensures allowed { OnOk result (close_refusal self.old.node at ≡ None) }
+        ensures number { IfOk result (λ n. n ≡ put_number self.old.node at) }
+        ensures ok { OnOk result (self.new.node ≡ close_node self.old.node at) }
+        ensures why { IfErr result (λ e. e ≡ unwrap_or (close_refusal self.old.node at) Refusal.OutOfMemory) }
+        ensures err { OnErr result (self.new.node ≡ self.old.node) }
+    {
+        if !self.holds(at) {
+            return Err(Refusal::Stranger);
+        }
+        let Some(serial) = self.terminal_serial(at) else {
+            return Err(Refusal::Stranger);
+        };
+        let n = self.routers.close(serial)?;
+        self.routers.release(&[at]);
+        Ok(n)
+    }
+
+    // Closes the end that is to be closed first, for which there is room.
+    #[tactic(auto, unfolding(crate::specs::Acts::rest_of, crate::specs::Node::on_found))]
+    pub(super) fn close_first(&mut self, end: End)
+        requires { IsReadyFor self.old (Act.Close end) }
+        ensures { self.new.node ≡ close_end (record self.old.node { pending = rest_of self.old.node.pending }) end }
+    {
+        if !self.pending.is_empty() {
+            self.pending.remove(0);
+        }
+        if let Some(serial) = self.terminal_serial(end) {
+            let Ok(_) = self.routers.close(serial) else {
+                unreachable!()
+            };
+        }
+    }
+
+    /// Whether callers of this node hold the end. It takes no memory.
+    pub fn holds(&self, end: End) -> bool
+        ensures { result ≡ holds_end self.now.node end }
+    {
+        self.routers.holds(end)
+    }
+
+    /// The messages that didn't fit, in the order in which they came. It takes no memory.
+    pub fn strays(&self) -> &[Message]
+        ensures { result.now ≡ self.now.node.strays }
+    {
+        self.strays.as_slice()
+    }
+
+    /// The word of the outward primary link of the router of the serial, with its side; none where there is no such router,
+    /// or the link is not central, or there is none.
+    pub fn word_of(&self, serial: u64) -> Option<(u32, Side)>
+        ensures { result ≡ word_side self.now.node serial }
+    {
+        self.routers.word_of(serial)
+    }
+
+    /// Whether the node has nothing to do until a message comes: no message waits to be posted or is in hand, no end is to be
+    /// closed, and no router is flagged. It takes no memory.
+    #[tactic(auto, unfolding(crate::specs::Acts::is_quiet))]
+    pub fn quiet(&self) -> bool
+        ensures { result ≡ is_quiet self.now.node }
+    {
+        self.outboxes.are_empty()
+            && self.pending.is_empty()
+            && self.hand.is_none()
+            && self.routers.is_resting()
+    }
+}
+
+// Whether these are too many bytes or ends for a parcel.
+fn are_too_many(bytes: &[u8], ends: &[End]) -> bool
+    ensures { result ≡ are_too_many bytes.now ends.now }
+{
+    bytes.len() > 256 || ends.len() > 8
+}
+
+// Whether each byte is printable. It looks at all of them, without a way out in between.
+fn is_printable(bytes: &[u8]) -> bool
+    ensures { result ≡ is_printable bytes.now }
+{
+    let mut all = true;
+    for b in bytes {
+        all &= (0x20 <= *b) & (*b <= 0x7E);
+    }
+    all
+}
+
+// Whether an end stands in a list.
+fn has_end(end: End, ends: &[End]) -> bool
+    ensures { result ≡ has_end end ends.now }
+{
+    match ends {
+        [] => false,
+        [first, rest @ ..] => *first == end || has_end(end, rest),
+    }
+}

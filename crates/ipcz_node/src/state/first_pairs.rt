@@ -1,0 +1,91 @@
+ghost use Rattle.std.specs.Prelude.{ℕ, ◌≡◌, ◌<◌, ◌≤◌, ◌+◌, ◌*◌, [], ◌++◌, OnOk, IfOk, IfErr, replicate};
+ghost use Rattle.ipcz_base.specs.Limits.{no_number};
+ghost use Rattle.ipcz_node.specs.Node.{bare_node};
+ghost use Rattle.ipcz_node.specs.FirstPairs.{new_node, add_pairs, pairs_from, first_pairs_from, add_pair};
+
+use super::NodeState;
+use crate::directory::Directory;
+use crate::outboxes::Outboxes;
+use crate::spare::Spare;
+use ipcz_base::{Refusal, Side};
+use std::alloc::{AllocError, Global};
+
+impl NodeState {
+    /// The node of a number among so many, with its ends of the first pairs: one pair for each two nodes, numbered in the
+    /// order of their nodes, side A at the lower one. Callers hold them.
+    ///
+    /// `count` is 1 to 8, and `number` is below it. It answers `OutOfMemory` alone.
+    #[tactic(auto, using(crate::proofs::FirstPairs::first_row), unfolding(crate::specs::FirstPairs::new_node))]
+    pub fn new(alloc: Global, number: u8, count: u8) -> Result<Self, Refusal>
+        requires within { (number < count) × (count ≤ 8) }
+        ensures ok { IfOk result (λ s. s.node ≡ new_node number count) }
+        ensures why { IfErr result (λ e. e ≡ Refusal.OutOfMemory) }
+    {
+        let Ok(outboxes) = Outboxes::new(alloc) else {
+            return Err(Refusal::OutOfMemory);
+        };
+        let mut node = NodeState::bare(alloc, number, count, outboxes);
+        match node.add_pairs(0, 1, count - 1, count - 1, 0) {
+            Ok(()) => Ok(node),
+            Err(_) => Err(Refusal::OutOfMemory),
+        }
+    }
+
+    // A node without routers.
+    fn bare(alloc: Global, number: u8, count: u8, outboxes: Outboxes) -> Self
+        requires { outboxes.messages ≡ replicate 256 [] }
+        ensures { result.node ≡ bare_node number count }
+    {
+        NodeState {
+            number,
+            count,
+            routers: Directory::new(alloc),
+            outboxes,
+            pending: Vec::new(alloc),
+            strays: Vec::new(alloc),
+            hand: None,
+            opening: None,
+            next_peripheral: 0,
+            moves: Spare::new(alloc),
+            event_ends: Spare::new(alloc),
+            alloc,
+        }
+    }
+
+    // Adds the node's ends of the pairs of node `i` with `left` nodes from `j` on, and of the pairs among the `rows` nodes after
+    // node `i`, numbered from `pair` on.
+    #[tactic(auto, using(crate::proofs::FirstPairs::next_pair, crate::proofs::FirstPairs::next_row, crate::proofs::FirstPairs::no_pairs))]
+    fn add_pairs(&mut self, i: u8, j: u8, left: u8, rows: u8, pair: u32) -> Result<(), AllocError>
+        requires row { j + left ≤ 8 }
+        requires rows { i + 1 + rows ≤ 8 }
+        requires pairs { pair ≤ 8 * i + j }
+        requires serials { self.old.node.next_router ≤ pair }
+        ensures { OnOk result (self.new.node ≡ add_pairs self.old.node pair (pairs_from i j left ++ first_pairs_from (i + 1) rows)) }
+    {
+        if left > 0 {
+            self.add_pair(i, j, pair)?;
+            self.add_pairs(i, j + 1, left - 1, rows, pair + 1)
+        } else if rows > 0 {
+            let next = i + 1;
+            self.add_pairs(next, next + 1, rows - 1, rows - 1, pair)
+        } else {
+            Ok(())
+        }
+    }
+
+    // Adds the node's end of the first pair of two nodes, where it has one.
+    fn add_pair(&mut self, i: u8, j: u8, pair: u32) -> Result<(), AllocError>
+        requires { self.old.node.next_router < no_number }
+        ensures node { OnOk result (self.new.node ≡ add_pair self.old.node pair (i, j)) }
+        ensures serials { OnOk result (self.new.node.next_router ≤ self.old.node.next_router + 1) }
+    {
+        if i == self.number {
+            self.routers.reserve(1, 0)?;
+            self.routers.add_end(self.alloc, pair, Side::A, j);
+        } else if j == self.number {
+            self.routers.reserve(1, 0)?;
+            self.routers.add_end(self.alloc, pair, Side::B, i);
+        }
+        Ok(())
+    }
+}

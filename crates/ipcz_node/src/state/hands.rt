@@ -1,0 +1,408 @@
+ghost use Rattle.std.specs.Prelude.{ℕ, ◌≡◌, ◌<◌, ◌≤◌, ◌+◌, ◌^◌, Some, is_some, true, false, length, if◌then◌else◌, OnOk, IfOk, IfErr, IfSome, IfNone, IsSomeAnd};
+ghost use Rattle.ipcz_base.specs.Limits.{no_number, has_serials};
+ghost use Rattle.ipcz_router.specs.Router.{Router as RouterRecord, outward_has, router_has};
+ghost use Rattle.ipcz_router.specs.Calls.{has_place_for};
+ghost use Rattle.ipcz_node.specs.Node.{router_in, link_router, found, add_stray};
+ghost use Rattle.ipcz_node.specs.RoomyNodes.{AreLow};
+ghost use Rattle.ipcz_node.specs.Hands.{has_moved, fit_moves, fits_from, fits_item, make_terminals, take_in, free_hand, fits, handle, deliver, message_lacks_serials, serials_in};
+ghost use Rattle.ipcz_node.specs.Events.{hand_event};
+
+use super::NodeState;
+use crate::happened::{Happened, kind_of, link_asked, side_asked};
+use ipcz_base::{Descriptor, End, Item, LinkId, Message, Moves, Refusal, Side};
+
+impl NodeState {
+    // Whether the moves are one for each end, and each can be made a terminal here.
+    fn fit_moves(&self, ends: &[End], moves: &[Descriptor]) -> bool
+        ensures { result ≡ fit_moves self.now.node ends.now moves.now }
+    {
+        match ends {
+            [] => match moves {
+                [] => true,
+                [_first, _rest @ ..] => false,
+            },
+            [end, ends @ ..] => match moves {
+                [] => false,
+                [d, moves @ ..] => {
+                    d.end == *end
+                        && !self.is_named(d.link, Side::B)
+                        && d.next_out <= u64::MAX - 2
+                        && !has_moved(d.link, moves)
+                        && self.fit_moves(ends, moves)
+                }
+            },
+        }
+    }
+
+    // Whether an item's moves fit, as it came from a node.
+    fn fits_from(&self, sender: u8, item: &Item, moves: &Moves) -> bool
+        ensures { result ≡ fits_from self.now.node sender item.now moves.now }
+    {
+        if sender == self.number {
+            return moves.is_empty();
+        }
+        match item {
+            Item::Parcel(parcel) => self.fit_moves(parcel.ends.as_slice(), moves.as_slice()),
+            Item::Mark => moves.is_empty(),
+        }
+    }
+
+    // Makes the terminals that the moves say, in order.
+    fn make_terminals(&mut self, sender: u8, moves: &[Descriptor])
+        requires room { length moves.now ≤ self.old.room.routers }
+        requires serials { self.old.node.next_router + length moves.now ≤ no_number }
+        requires numbers { AreLow moves.now }
+        ensures { self.new.node ≡ make_terminals self.old.node sender moves.now }
+    {
+        match moves {
+            [] => {}
+            [d, rest @ ..] => {
+                self.routers.add_terminal(self.alloc, d, sender);
+                self.make_terminals(sender, rest);
+            }
+        }
+    }
+
+    fn keep_stray(&mut self, message: Message) -> Result<(), (Refusal, Message)>
+        ensures ok { OnOk result (self.new.node ≡ add_stray self.old.node message) }
+        ensures why { IfErr result (λ e. e.0 ≡ Refusal.OutOfMemory) }
+        ensures err { IfErr result (λ e. (e.1 ≡ message) × (self.new.node ≡ self.old.node)) }
+    {
+        match self.strays.push(message) {
+            Ok(()) => Ok(()),
+            Err(failed) => Err((Refusal::OutOfMemory, failed.value)),
+        }
+    }
+
+    // The hand is empty, where what was in it came from this node.
+    #[tactic(auto, unfolding(crate::specs::Hands::is_hand_of))]
+    fn free_hand(&mut self, sender: u8)
+        ensures { self.new.node ≡ free_hand self.old.node sender }
+    {
+        if let Some(from) = self.hand {
+            if from == sender {
+                self.hand = None;
+            }
+        }
+    }
+
+    // Where an item fits.
+    #[tactic(auto, unfolding(crate::specs::Hands::fits_item))]
+    fn place_for(
+        &self,
+        sender: u8,
+        link: LinkId,
+        side: Side,
+        n: u64,
+        item: &Item,
+        moves: &Moves,
+    ) -> Option<u64>
+        ensures none { IfNone result (fits_item self.now.node sender link side n item.now moves.now (link_router self.now.node link side) ≡ false) }
+        ensures some { IfSome result (λ serial. fits_item self.now.node sender link side n item.now moves.now (link_router self.now.node link side) ≡ true) }
+        ensures moves { IfSome result (λ serial. fits_from self.now.node sender item.now moves.now ≡ true) }
+        ensures stands { IfSome result (λ serial. IsSomeAnd (router_in self.now.node serial) (λ r. router_has r link side ≡ true)) }
+        ensures found { IfSome result (λ serial. IsSomeAnd (router_in self.now.node serial) (λ r. link_router self.now.node link side ≡ Some (found serial r))) }
+        ensures number { IfSome result (λ serial. n < no_number) }
+    {
+        let serial = self.link_serial(link, side)?;
+        if n < u64::MAX
+            && self.has_place_at(serial, link, side, n)
+            && self.fits_from(sender, item, moves)
+        {
+            Some(serial)
+        } else {
+            None
+        }
+    }
+
+    // Whether an item has its place at the router of the serial.
+    fn has_place_at(&self, serial: u64, link: LinkId, side: Side, n: u64) -> bool
+        requires { is_some (router_in self.now.node serial) ≡ true }
+        ensures { (r : RouterRecord) → router_in self.now.node serial ≡ Some r → result ≡ has_place_for r (outward_has r link side) n }
+    {
+        match self.routers.router(serial) {
+            Some(router) => router.has_place_for(link, side, n),
+            None => unreachable!(),
+        }
+    }
+
+    // The router of the serial takes the item, and its moves become terminals.
+    fn take_item(
+        &mut self,
+        serial: u64,
+        sender: u8,
+        link: LinkId,
+        side: Side,
+        n: u64,
+        item: Item,
+        moves: Moves,
+    ) -> Result<(), Message>
+        requires stands { IsSomeAnd (router_in self.old.node serial) (λ r. router_has r link side ≡ true) }
+        requires number { n < no_number }
+        requires numbers { AreLow moves }
+        requires serials { has_serials self.old.node.next_router (length moves) ≡ true }
+        ensures ok { (r : RouterRecord) → router_in self.old.node serial ≡ Some r → OnOk result (self.new.node ≡ take_in self.old.node sender link side n item moves serial r) }
+        ensures err { IfErr result (λ m. (m ≡ Message.Item link side n item moves) × (self.new.node ≡ self.old.node)) }
+    {
+        let count = moves.as_slice().len();
+        let Ok(()) = self.routers.reserve(count, 0) else {
+            return Err(Message::Item {
+                link,
+                side,
+                n,
+                item,
+                moves,
+            });
+        };
+        if let Err((_, item)) = self.routers.accept(serial, link, side, n, item) {
+            return Err(Message::Item {
+                link,
+                side,
+                n,
+                item,
+                moves,
+            });
+        }
+        self.make_terminals(sender, moves.as_slice());
+        Ok(())
+    }
+
+    // Whether an item fits.
+    #[tactic(auto, unfolding(crate::specs::Hands::fits))]
+    fn fits_item(
+        &self,
+        sender: u8,
+        link: LinkId,
+        side: Side,
+        n: u64,
+        item: &Item,
+        moves: &Moves,
+    ) -> bool
+        ensures { result ≡ fits self.now.node sender (Message.Item link side n item.now moves.now) }
+    {
+        self.place_for(sender, link, side, n, item, moves).is_some()
+    }
+
+    // Handles an item that fits: its router takes it, and its moves become terminals.
+    #[tactic(auto, using(crate::proofs::Handing::low_moves), unfolding(crate::specs::Hands::fits, crate::specs::Hands::handle, crate::specs::Node::on_found))]
+    fn handle_item(
+        &mut self,
+        sender: u8,
+        link: LinkId,
+        side: Side,
+        n: u64,
+        item: Item,
+        moves: Moves,
+    ) -> Result<(), Message>
+        requires fits { fits self.old.node sender (Message.Item link side n item moves) ≡ true }
+        requires serials { has_serials self.old.node.next_router (length moves) ≡ true }
+        ensures ok { OnOk result (self.new.node ≡ handle self.old.node sender (Message.Item link side n item moves)) }
+        ensures err { IfErr result (λ m. (m ≡ Message.Item link side n item moves) × (self.new.node ≡ self.old.node)) }
+    {
+        match self.place_for(sender, link, side, n, &item, &moves) {
+            Some(serial) => self.take_item(serial, sender, link, side, n, item, moves),
+            None => unreachable!(),
+        }
+    }
+}
+
+impl NodeState {
+    // Whether a message from a node fits.
+    #[tactic(auto, unfolding(crate::specs::Hands::fits))]
+    fn fits(&self, sender: u8, message: &Message) -> bool
+        ensures { result ≡ fits self.now.node sender message.now }
+    {
+        match message {
+            Message::Item {
+                link,
+                side,
+                n,
+                item,
+                moves,
+            } => { self.fits_item(sender, *link, *side, *n, item, moves) }
+            Message::BypassPeer {
+                link,
+                side,
+                old,
+                target,
+                fresh,
+            } => { self.fits_bypass_peer(sender, *link, *side, *old, *target, *fresh) }
+            Message::AcceptBypass {
+                old,
+                side,
+                fresh,
+                length,
+            } => { self.fits_accept_bypass(sender, *old, *side, *fresh, *length) }
+            Message::StopProxying {
+                old,
+                side,
+                in_length,
+                out_length,
+            } => { self.fits_stop_proxying(sender, *old, *side, *in_length, *out_length) }
+            Message::ProxyWillStop {
+                link,
+                side,
+                in_length,
+            } => { self.fits_proxy_will_stop(sender, *link, *side, *in_length) }
+            Message::Flush { .. } => true,
+        }
+    }
+
+    // Handles a message that fits, and for which there are serials.
+    #[tactic(auto, unfolding(crate::specs::Hands::serials_in))]
+    fn handle(&mut self, sender: u8, message: Message) -> Result<(), Message>
+        requires fits { fits self.old.node sender message ≡ true }
+        requires serials { has_serials self.old.node.next_router (serials_in message) ≡ true }
+        ensures ok { OnOk result (self.new.node ≡ handle self.old.node sender message) }
+        ensures err { IfErr result (λ m. (m ≡ message) × (self.new.node ≡ self.old.node)) }
+    {
+        match message {
+            Message::Item {
+                link,
+                side,
+                n,
+                item,
+                moves,
+            } => { self.handle_item(sender, link, side, n, item, moves) }
+            Message::BypassPeer {
+                link,
+                side,
+                old,
+                target,
+                fresh,
+            } => {
+                match self.handle_bypass_peer(sender, link, side, old, target, fresh) {
+                    Ok(()) => Ok(()),
+                    Err(_) => Err(Message::BypassPeer {
+                        link,
+                        side,
+                        old,
+                        target,
+                        fresh,
+                    }),
+                }
+            }
+            Message::AcceptBypass {
+                old,
+                side,
+                fresh,
+                length,
+            } => {
+                match self.handle_accept_bypass(sender, old, side, fresh, length) {
+                    Ok(()) => Ok(()),
+                    Err(_) => Err(Message::AcceptBypass {
+                        old,
+                        side,
+                        fresh,
+                        length,
+                    }),
+                }
+            }
+            Message::StopProxying {
+                old,
+                side,
+                in_length,
+                out_length,
+            } => {
+                match self.handle_stop_proxying(sender, old, side, in_length, out_length) {
+                    Ok(()) => Ok(()),
+                    Err(_) => Err(Message::StopProxying {
+                        old,
+                        side,
+                        in_length,
+                        out_length,
+                    }),
+                }
+            }
+            Message::ProxyWillStop {
+                link,
+                side,
+                in_length,
+            } => {
+                self.handle_proxy_will_stop(sender, link, side, in_length);
+                Ok(())
+            }
+            Message::Flush { link, side } => {
+                self.handle_flush(sender, link, side);
+                Ok(())
+            }
+        }
+    }
+
+    // Handles a message, or keeps it whole where it doesn't fit.
+    fn receive(&mut self, sender: u8, message: Message) -> Result<(), (Refusal, Message)>
+        ensures ok { OnOk result (self.new.node ≡ (if fits self.old.node sender message then handle self.old.node sender message else add_stray self.old.node message)) }
+        ensures allowed { OnOk result (message_lacks_serials self.old.node sender message ≡ false) }
+        ensures why { IfErr result (λ e. e.0 ≡ (if message_lacks_serials self.old.node sender message then Refusal.NumbersEnd else Refusal.OutOfMemory)) }
+        ensures err { IfErr result (λ e. (e.1 ≡ message) × (self.new.node ≡ self.old.node)) }
+    {
+        if !self.fits(sender, &message) {
+            return self.keep_stray(message);
+        }
+        let count = serials_in(&message);
+        if self.routers.next_serial() > u64::MAX - count as u64 {
+            return Err((Refusal::NumbersEnd, message));
+        }
+        match self.handle(sender, message) {
+            Ok(()) => Ok(()),
+            Err(message) => Err((Refusal::OutOfMemory, message)),
+        }
+    }
+
+    // What delivering a message from a node is seen to do.
+    #[tactic(auto, unfolding(crate::specs::Events::hand_event))]
+    fn hand_event(&self, sender: u8, message: &Message) -> Happened
+        ensures { result ≡ hand_event self.now.node sender message.now }
+    {
+        let (link, side) = (link_asked(message), side_asked(message));
+        let unfit = !(self.fits(sender, message) && self.is_named(link, side));
+        Happened::Hand {
+            kind: kind_of(message),
+            link,
+            unfit,
+        }
+    }
+
+    /// Delivers a message from the node `from`, which is below the number of nodes: a router here handles it, or it is kept
+    /// among the strays where it doesn't fit, or, a Flush that no router is named by, dropped (docs/PROTOCOL.md, "Strays").
+    /// If the message in hand was from that node, the hand is empty then.
+    ///
+    /// A refused message is handed back, and nothing has changed. It is `NumbersEnd` where the message fits and would make
+    /// more routers than serials are left for, and otherwise `OutOfMemory`.
+    #[tactic(auto, unfolding(crate::specs::Hands::deliver))]
+    pub fn deliver(&mut self, from: u8, message: Message) -> Result<Happened, (Refusal, Message)>
+        requires { from < self.old.node.count }
+        ensures ok { OnOk result (self.new.node ≡ deliver self.old.node from message) }
+        ensures event { IfOk result (λ h. h ≡ hand_event self.old.node from message) }
+        ensures allowed { OnOk result (message_lacks_serials self.old.node from message ≡ false) }
+        ensures why { IfErr result (λ e. e.0 ≡ (if message_lacks_serials self.old.node from message then Refusal.NumbersEnd else Refusal.OutOfMemory)) }
+        ensures err { IfErr result (λ e. (e.1 ≡ message) × (self.new.node ≡ self.old.node)) }
+    {
+        let event = self.hand_event(from, &message);
+        self.receive(from, message)?;
+        self.free_hand(from);
+        Ok(event)
+    }
+}
+
+// Whether one of these descriptors has the link.
+fn has_moved(link: LinkId, moves: &[Descriptor]) -> bool
+    ensures { result ≡ has_moved link moves.now }
+{
+    match moves {
+        [] => false,
+        [d, rest @ ..] => d.link == link || has_moved(link, rest),
+    }
+}
+
+// How many serials of routers a message takes.
+#[tactic(auto, unfolding(crate::specs::Hands::serials_in))]
+fn serials_in(message: &Message) -> usize
+    ensures count { result ≡ serials_in message.now }
+    ensures bound { result ≤ 2 ^ 63 }
+{
+    match message {
+        Message::Item { moves, .. } => moves.as_slice().len(),
+        _ => 0,
+    }
+}

@@ -1,0 +1,82 @@
+ghost use Rattle.std.specs.Prelude.{◌≡◌, false};
+ghost use Rattle.ipcz_base.specs.Indexed.{place_at};
+ghost use Rattle.ipcz_node.specs.Node.{flagged_router};
+ghost use Rattle.ipcz_node.specs.Acts.{next, first_sender, first_destination, has_mail_for, router_turn};
+
+use super::NodeState;
+use crate::act::{Act, MailSeen};
+
+impl NodeState {
+    /// The first act that is possible, for the mailboxes as they were seen: to handle the message in hand, to look into the
+    /// full mailbox of the lowest sender, to post to the lowest destination that has messages and an empty mailbox, to close
+    /// the first end that is still to be closed, the first act of the flagged router of the lowest serial, or none
+    /// (docs/PROTOCOL.md, "Turns").
+    ///
+    /// What was seen of a node that isn't there counts for nothing. It takes no memory.
+    #[tactic(auto, unfolding(crate::specs::Acts::next, crate::specs::Acts::node_turn, crate::specs::Acts::close_turn))]
+    pub fn next(&self, seen: &MailSeen) -> Act
+        ensures { result ≡ next self.now.node seen.now }
+    {
+        if let Some(sender) = self.hand {
+            return Act::Hand(sender);
+        }
+        if let Some(sender) = self.first_sender(seen) {
+            return Act::Look(sender);
+        }
+        if let Some(to) = self.first_destination(seen) {
+            return Act::Post(to);
+        }
+        match self.pending.as_slice() {
+            [end, _rest @ ..] => Act::Close(*end),
+            [] => self.router_turn(),
+        }
+    }
+
+    // The lowest node whose mailbox to this one was seen full.
+    fn first_sender(&self, seen: &MailSeen) -> Option<u8>
+        ensures { result ≡ first_sender self.now.node seen.now }
+    {
+        for from in 0..self.count {
+            if was_seen(&seen.full, from) {
+                return Some(from);
+            }
+        }
+        None
+    }
+
+    // The lowest node that messages wait for and whose mailbox from this one was seen empty.
+    fn first_destination(&self, seen: &MailSeen) -> Option<u8>
+        ensures { result ≡ first_destination self.now.node seen.now }
+    {
+        for to in 0..self.count {
+            if self.outboxes.has_mail(to) && was_seen(&seen.empty, to) {
+                return Some(to);
+            }
+        }
+        None
+    }
+
+    // The first act of the flagged router of the lowest serial.
+    #[tactic(auto, unfolding(crate::specs::Acts::router_turn))]
+    fn router_turn(&self) -> Act
+        ensures { result ≡ router_turn (flagged_router self.now.node) }
+    {
+        let Some(serial) = self.routers.first_flagged() else {
+            return Act::Idle;
+        };
+        match self.routers.router(serial) {
+            Some(router) => Act::Router(serial, router.first_act()),
+            None => unreachable!(),
+        }
+    }
+}
+
+// Whether the mailbox of a node was seen so.
+fn was_seen(mailboxes: &[bool; 8], node: u8) -> bool
+    ensures { result ≡ place_at false mailboxes.now node }
+{
+    match mailboxes.get(usize::from(node)) {
+        Some(seen) => *seen,
+        None => false,
+    }
+}

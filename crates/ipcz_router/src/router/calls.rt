@@ -1,0 +1,225 @@
+ghost use Rattle.std.specs.Prelude.{◌≡◌, ◌<◌, ◌≤◌, Some, None, true, IsOk, IfOk, IfErr, OnOk, OnErr, unwrap_or};
+ghost use Rattle.ipcz_base.specs.Limits.{last_number, no_number};
+ghost use Rattle.ipcz_seq.specs.Queue.{current_item, has_place, push_refusal};
+ghost use Rattle.ipcz_router.specs.Router.{IsOpenTerminal, outward_has, router_has};
+ghost use Rattle.ipcz_router.specs.RoomyRouters.{room_for, KeepsRoom, LeavesRoom, LeavesRoomBut};
+ghost use Rattle.ipcz_router.specs.Closing.{close_router};
+ghost use Rattle.ipcz_router.specs.Calls.{next_number, put_item, router_put_refusal, router_get_refusal, take_item, has_place_for};
+ghost use Rattle.ipcz_router.specs.Calls.{accept, accept_from_outward, accept_from_inward, accept_refusal, extend, descriptor_of};
+
+use super::Router;
+use ipcz_base::{Descriptor, Item, LAST, LinkEnd, LinkId, Parcel, Refusal, Side};
+use ipcz_edge::Edge;
+
+impl Router {
+    /// Why a put would be refused, memory aside: `PeerClosed` where the peer's mark has come, even behind a gap, else
+    /// `NumbersEnd` where the number would be [`LAST`] or more.
+    pub fn put_refusal(&self) -> Option<Refusal>
+        ensures { result ≡ router_put_refusal self.now.router }
+    {
+        if self.mark_seen {
+            Some(Refusal::PeerClosed)
+        } else if self.out_queue.reach() >= LAST {
+            Some(Refusal::NumbersEnd)
+        } else {
+            None
+        }
+    }
+
+    /// Puts a parcel into the out queue and answers its number, the next one at this end. The router is flagged.
+    ///
+    /// A refused call hands the parcel back. It answers `PeerClosed` where the peer's mark has come, even behind a gap, else
+    /// `NumbersEnd` where the number would be [`LAST`] or more, else `OutOfMemory` where there was no room and none was
+    /// found.
+    pub fn put(&mut self, parcel: Parcel) -> Result<u64, (Refusal, Parcel)>
+        requires { IsOpenTerminal self.old.router }
+        ensures allowed { OnOk result (router_put_refusal self.old.router ≡ None) }
+        ensures number { IfOk result (λ n. n ≡ next_number self.old.router) }
+        ensures ok { OnOk result (self.new.router ≡ put_item self.old.router (Item.Parcel parcel)) }
+        ensures why { IfErr result (λ e. e.0 ≡ unwrap_or (router_put_refusal self.old.router) Refusal.OutOfMemory) }
+        ensures err { IfErr result (λ e. (e.1 ≡ parcel) × (self.new.router ≡ self.old.router)) }
+        ensures full { 0 < self.old.out_room → router_put_refusal self.old.router ≡ None → IsOk result }
+        ensures room { LeavesRoom self.old self.new 1 0 }
+    {
+        if let Some(why) = self.put_refusal() {
+            return Err((why, parcel));
+        }
+        let n = self.out_queue.reach();
+        match self.push_out(n, Item::Parcel(parcel)) {
+            Ok(()) => Ok(n),
+            Err((why, Item::Parcel(parcel))) => Err((why, parcel)),
+            Err((_, Item::Mark)) => unreachable!(),
+        }
+    }
+
+    /// Takes the parcel of the in queue's current number out, with that number.
+    ///
+    /// It answers `Empty` where that item hasn't come, whatever stands behind it, and `PeerClosed` where it is the mark,
+    /// which stays.
+    #[tactic(auto, unfolding(crate::specs::Calls::item_refusal))]
+    pub fn get(&mut self) -> Result<(u64, Parcel), Refusal>
+        requires { IsOpenTerminal self.old.router }
+        ensures number { IfOk result (λ g. g.0 ≡ self.old.router.in_queue.current) }
+        ensures parcel { IfOk result (λ g. current_item self.old.router.in_queue ≡ Some (Item.Parcel g.1)) }
+        ensures ok { OnOk result (self.new.router ≡ take_item self.old.router) }
+        ensures why { IfErr result (λ e. router_get_refusal self.old.router ≡ Some e) }
+        ensures err { IfErr result (λ _. self.new.router ≡ self.old.router) }
+        ensures room { LeavesRoom self.old self.new 0 0 }
+    {
+        if let Some(Item::Mark) = self.in_queue.next() {
+            return Err(Refusal::PeerClosed);
+        }
+        let n = self.in_queue.current();
+        match self.pop_in() {
+            Some(Item::Parcel(parcel)) => Ok((n, parcel)),
+            Some(Item::Mark) => unreachable!(),
+            None => Err(Refusal::Empty),
+        }
+    }
+
+    /// Whether an item of this number that comes over `link`, for the router on `side` of it, has its place.
+    pub fn has_place_for(&self, link: LinkId, side: Side, n: u64) -> bool
+        ensures { result ≡ has_place_for self.now.router (outward_has self.now.router link side) n }
+    {
+        if n == u64::MAX {
+            return false;
+        }
+        if self.outward.has(link, side) {
+            self.in_queue.has_place(n)
+        } else {
+            self.out_queue.has_place(n)
+        }
+    }
+
+    /// Takes in the item with number `n` that came over `link`, for the router on `side` of it. The router is flagged.
+    ///
+    /// What comes over a link of the outward edge goes into the in queue, what comes over a link of the inward edge into
+    /// the out queue. A refused call hands the item back. It answers `Stranger` where no edge has the link at that side,
+    /// else `Passed` where `n` has left the queue, else `Occupied` where `n` is in it, else `OutOfMemory` where there was no
+    /// room and none was found.
+    #[tactic(auto, unfolding(crate::specs::Calls::accept))]
+    pub fn accept(
+        &mut self,
+        link: LinkId,
+        side: Side,
+        n: u64,
+        item: Item,
+    ) -> Result<(), (Refusal, Item)>
+        requires { n < no_number }
+        ensures stands { OnOk result (router_has self.old.router link side ≡ true) }
+        ensures place { let from_outward = outward_has self.old.router link side in
+            OnOk result (has_place_for self.old.router from_outward n ≡ true) }
+        ensures ok { let from_outward = outward_has self.old.router link side in
+            OnOk result (self.new.router ≡ accept self.old.router from_outward n item) }
+        ensures why { IfErr result (λ e. e.0 ≡ accept_refusal self.old.router link side n) }
+        ensures err { IfErr result (λ e. (e.1 ≡ item) × (self.new.router ≡ self.old.router)) }
+        ensures full { let from_outward = outward_has self.old.router link side in
+            IfErr result (λ e. e.0 ≡ Refusal.OutOfMemory → room_for self.old from_outward ≡ 0) }
+        ensures room { LeavesRoomBut self.old self.new (outward_has self.old.router link side) }
+    {
+        if self.outward.has(link, side) {
+            self.push_in(n, item)
+        } else if self.inward_has(link, side) {
+            self.push_out(n, item)
+        } else {
+            Err((Refusal::Stranger, item))
+        }
+    }
+
+    /// Makes the terminal a proxy, whose inward primary link is `link`: the new peripheral link to the moved terminal, of
+    /// which a proxy has side A. The proxy is flagged, and keeps its queues and its outward edge.
+    ///
+    /// The answer goes with the message that moves the end: the next number to put is the out queue's reach, and the next
+    /// to get the in queue's current number, since the proxy passes on what stands in its in queue. That the peer's mark has
+    /// come doesn't travel: it is seen again where it comes into the moved terminal's in queue.
+    #[tactic(auto, using(crate::proofs::Numbers::reach_keeps))]
+    pub fn extend_to(&mut self, link: LinkEnd) -> Descriptor
+        requires { IsOpenTerminal self.old.router }
+        ensures router { self.new.router ≡ extend self.old.router link }
+        ensures descriptor { result ≡ descriptor_of self.old.router link.link }
+        ensures next_out { result.next_out ≤ last_number }
+        ensures room { KeepsRoom self.old self.new }
+    {
+        let descriptor = Descriptor {
+            end: self.end,
+            link: link.link,
+            next_out: self.out_queue.reach(),
+            next_in: self.in_queue.current(),
+        };
+        self.inward = Some(Edge::of(link));
+        self.rouse();
+        descriptor
+    }
+
+    /// Puts the mark into the out queue, under the next number at this end, and makes the terminal a sink. The router is
+    /// flagged; the answer is the mark's number, which is at most [`LAST`].
+    ///
+    /// It answers `OutOfMemory` where there was no room for the mark and none was found; then nothing has changed. While the
+    /// out queue has room, as after `reserve_close`, it isn't refused.
+    #[tactic(auto, using(crate::proofs::Numbers::reach_keeps))]
+    pub fn close(&mut self) -> Result<u64, Refusal>
+        requires { IsOpenTerminal self.old.router }
+        ensures number { IfOk result (λ n. n ≡ next_number self.old.router) }
+        ensures last { IfOk result (λ n. n ≤ last_number) }
+        ensures ok { OnOk result (self.new.router ≡ close_router self.old.router) }
+        ensures err { IfErr result (λ e. (e ≡ Refusal.OutOfMemory) × (self.new.router ≡ self.old.router)) }
+        ensures full { OnErr result (self.old.out_room ≡ 0) }
+        ensures room { LeavesRoom self.old self.new 1 0 }
+    {
+        let n = self.out_queue.reach();
+        match self.out_queue.push(n, Item::Mark) {
+            Ok(()) => {
+                self.closed = true;
+                self.rouse();
+                Ok(n)
+            }
+            Err((why, _)) => Err(why),
+        }
+    }
+
+    /// Makes room in the out queue for one item more, so that a `close` after it isn't refused.
+    ///
+    /// It answers `OutOfMemory` where there is no room and none was found. The router stays as it was, refused or not.
+    pub fn reserve_close(&mut self) -> Result<(), Refusal>
+        ensures router { self.new.router ≡ self.old.router }
+        ensures ok { OnOk result (0 < self.new.out_room) }
+        ensures held { 0 < self.old.out_room → self.new ≡ self.old }
+        ensures in_room { self.new.in_room ≡ self.old.in_room }
+        ensures err { IfErr result (λ e. (e ≡ Refusal.OutOfMemory) × (self.old.out_room ≡ 0)) }
+    {
+        self.out_queue.reserve()
+    }
+
+    // An item comes into the out queue, and the router is flagged. At an open terminal it is one that its callers put.
+    fn push_out(&mut self, n: u64, item: Item) -> Result<(), (Refusal, Item)>
+        requires number { n < no_number }
+        requires put { IsOpenTerminal self.old.router → n < last_number }
+        ensures place { OnOk result (has_place self.old.router.out_queue n ≡ true) }
+        ensures ok { OnOk result (self.new.router ≡ accept_from_inward self.old.router n item) }
+        ensures why { IfErr result (λ e. e.0 ≡ push_refusal self.old.router.out_queue n) }
+        ensures err { IfErr result (λ e. (e.1 ≡ item) × (self.new.router ≡ self.old.router)) }
+        ensures full { IfErr result (λ e. e.0 ≡ Refusal.OutOfMemory → self.old.out_room ≡ 0) }
+        ensures room { LeavesRoom self.old self.new 1 0 }
+    {
+        self.out_queue.push(n, item)?;
+        self.rouse();
+        Ok(())
+    }
+
+    // An item comes into the in queue, and the router is flagged.
+    fn push_in(&mut self, n: u64, item: Item) -> Result<(), (Refusal, Item)>
+        requires { n < no_number }
+        ensures place { OnOk result (has_place self.old.router.in_queue n ≡ true) }
+        ensures ok { OnOk result (self.new.router ≡ accept_from_outward self.old.router n item) }
+        ensures why { IfErr result (λ e. e.0 ≡ push_refusal self.old.router.in_queue n) }
+        ensures err { IfErr result (λ e. (e.1 ≡ item) × (self.new.router ≡ self.old.router)) }
+        ensures full { IfErr result (λ e. e.0 ≡ Refusal.OutOfMemory → self.old.in_room ≡ 0) }
+        ensures room { LeavesRoom self.old self.new 0 1 }
+    {
+        let is_mark = item.is_mark();
+        self.in_queue.push(n, item)?;
+        self.mark_seen = self.mark_seen || (self.inward.is_none() && is_mark);
+        self.rouse();
+        Ok(())
+    }
+}

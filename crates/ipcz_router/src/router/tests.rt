@@ -1,0 +1,642 @@
+ghost use Rattle.std.specs.Prelude.{◌≡◌, ◌<◌, ◌≤◌};
+ghost use Rattle.ipcz_base.specs.Limits.{last_number, no_number};
+ghost use Rattle.ipcz_router.specs.Router.{terminal};
+ghost use Rattle.ipcz_router.specs.ActEffects.{IsAnswerOf};
+ghost use Rattle.ipcz_router.specs.declared.act.Answer.TheVariants.{Plain};
+
+use super::Router;
+use crate::act::{Answer, Applied, RouterAct};
+use crate::sending::Sending;
+use ipcz_base::{Descriptor, End, Item, LinkEnd, LinkId, Message, Parcel, Refusal, Sequence, Side};
+use ipcz_edge::Edge;
+use std::alloc::{AllocError, Global};
+use std::test::Fail;
+
+// The end of C1 at the terminal of 1A, whose peer is on node 1.
+const ACROSS: LinkEnd = LinkEnd {
+    link: LinkId::Central(1),
+    side: Side::A,
+    other: 1,
+};
+
+const INWARD: LinkId = LinkId::Peripheral { node: 0, serial: 0 };
+
+const END: End = End {
+    pair: 1,
+    side: Side::A,
+};
+
+// The terminal of 1A on C1.
+fn terminal_at(alloc: Global, first: u64) -> Router
+    requires { first ≤ last_number }
+    ensures { result.router ≡ terminal END ACROSS first }
+{
+    Router::terminal(alloc, END, ACROSS, first)
+}
+
+// A parcel of one byte and no ends.
+fn letter(alloc: Global, byte: u8) -> Result<Parcel, AllocError> {
+    Ok(Parcel {
+        bytes: Sequence::from_vec(vec![in alloc; byte]?),
+        ends: Sequence::from_vec(Vec::new(alloc)),
+    })
+}
+
+#[test]
+fn the_last_numbers_are_put_and_then_the_mark_alone(rt: HostRuntime) -> Result<(), Fail> {
+    let alloc = rt.alloc();
+    let mut router = terminal_at(alloc, 18446744073709551612);
+    assert!(rt; router.is_open_terminal());
+    assert_eq!(rt;
+        router.put(letter(alloc, b'a')?).ok(),
+        Some(18446744073709551612)
+    );
+    assert!(rt; router.is_open_terminal());
+    let Err((why, parcel)) = router.put(letter(alloc, b'b')?) else {
+        assert!(rt; false, "the second put is refused");
+        return Ok(());
+    };
+    assert_eq!(rt; why, Refusal::NumbersEnd);
+    assert_eq!(rt; parcel.bytes.as_slice(), b"b".as_slice());
+    assert!(rt; router.is_open_terminal());
+    assert_eq!(rt; router.close(), Ok(18446744073709551613));
+
+    let mut router = terminal_at(alloc, 18446744073709551613);
+    assert_eq!(rt; router.put_refusal(), Some(Refusal::NumbersEnd));
+    assert!(rt; router.is_open_terminal());
+    let refused = router.put(letter(alloc, b'a')?);
+    assert_eq!(rt; refused.map_err(|e| e.0), Err(Refusal::NumbersEnd));
+    assert!(rt; !router.is_flagged());
+    assert!(rt; router.is_open_terminal());
+    assert_eq!(rt; router.close(), Ok(18446744073709551613));
+    Ok(())
+}
+
+// An item of one byte comes over a link, for the router on side A of it.
+fn come(router: &mut Router, link: LinkId, n: u64, parcel: Parcel) -> Result<(), Refusal>
+    requires { n < no_number }
+{
+    let came = router.accept(link, Side::A, n, Item::Parcel(parcel));
+    came.map_err(|e| e.0)
+}
+
+#[test]
+fn what_is_put_is_sent_once_and_then_the_router_rests(rt: HostRuntime) -> Result<(), Fail> {
+    let mut router = terminal_at(rt.alloc(), 0);
+    assert!(rt; router.stands_on(LinkId::Central(1), Side::A));
+    assert_eq!(rt; router.put(letter(rt.alloc(), b'a')?).ok(), Some(0));
+    assert!(rt; router.is_flagged());
+    let sent = step(&mut router, RouterAct::SendOut, Answer::Plain);
+    let Some(Applied::Sent(link, n, Item::Parcel(parcel))) = sent else {
+        assert!(rt; false, "nothing was sent");
+        return Ok(());
+    };
+    assert_eq!(rt; link, ACROSS);
+    assert_eq!(rt; n, 0);
+    assert_eq!(rt; parcel.bytes.as_slice(), b"a".as_slice());
+    assert!(rt; plain(&mut router, RouterAct::Rest));
+    assert!(rt; !router.is_flagged());
+    Ok(())
+}
+
+#[test]
+fn a_moved_terminal_stands_on_side_b(rt: HostRuntime) {
+    let descriptor = Descriptor {
+        end: End {
+            pair: 5,
+            side: Side::A,
+        },
+        link: INWARD,
+        next_out: 3,
+        next_in: u64::MAX,
+    };
+    let router = Router::from_descriptor(rt.alloc(), &descriptor, 0);
+    assert!(rt; router.stands_on(INWARD, Side::B));
+    assert!(rt; !router.stands_on(INWARD, Side::A));
+    assert_eq!(rt; router.end(), descriptor.end);
+    assert!(rt; router.is_open_terminal());
+    assert!(rt; !router.is_flagged());
+}
+
+// Of four parcels that came, one is got before the move, and the proxy passes the others on.
+#[test]
+fn a_descriptor_goes_on_where_callers_stopped(rt: HostRuntime) -> Result<(), Fail> {
+    let alloc = rt.alloc();
+    let mut router = terminal_at(alloc, 0);
+    for n in 0..4 {
+        assert_eq!(rt;
+            come(&mut router, LinkId::Central(1), n, letter(alloc, b'a')?),
+            Ok(())
+        );
+    }
+    assert!(rt; router.is_open_terminal());
+    assert_eq!(rt; router.get().map(|got| got.0), Ok(0));
+    assert!(rt; router.is_open_terminal());
+    let descriptor = router.extend_to(LinkEnd {
+        link: INWARD,
+        side: Side::A,
+        other: 1,
+    });
+    let expected = Descriptor {
+        end: END,
+        link: INWARD,
+        next_out: 0,
+        next_in: 1,
+    };
+    assert_eq!(rt; descriptor, expected);
+    assert!(rt; !router.is_terminal());
+    assert!(rt; router.stands_on(INWARD, Side::A));
+    assert_eq!(rt; router.way_in().map(|link| link.other), Some(1));
+    let sent = step(&mut router, RouterAct::SendIn, Answer::Plain);
+    assert!(rt; matches!(sent, Some(Applied::Sent(_, 1, _))));
+
+    // What comes over the inward link goes out.
+    assert_eq!(rt; come(&mut router, INWARD, 0, letter(alloc, b'b')?), Ok(()));
+    assert_eq!(rt; router.first_act(), RouterAct::SendOut);
+    Ok(())
+}
+
+#[test]
+fn what_does_not_fit_is_refused(rt: HostRuntime) -> Result<(), Fail> {
+    let alloc = rt.alloc();
+    let mut router = terminal_at(alloc, 0);
+    let (link, other) = (LinkId::Central(1), LinkId::Central(2));
+    assert_eq!(rt;
+        come(&mut router, other, 0, letter(alloc, b'a')?),
+        Err(Refusal::Stranger)
+    );
+    let facing = router.accept(link, Side::B, 0, Item::Parcel(letter(alloc, b'a')?));
+    assert_eq!(rt; facing.map_err(|e| e.0), Err(Refusal::Stranger));
+    assert!(rt; router.is_open_terminal());
+    assert_eq!(rt; router.get().map(|got| got.0), Err(Refusal::Empty));
+    assert!(rt; !router.is_flagged());
+
+    assert_eq!(rt; come(&mut router, link, 0, letter(alloc, b'a')?), Ok(()));
+    assert_eq!(rt;
+        come(&mut router, link, 0, letter(alloc, b'a')?),
+        Err(Refusal::Occupied)
+    );
+    assert!(rt; router.is_open_terminal());
+    assert_eq!(rt; router.get().map(|got| got.0), Ok(0));
+    assert_eq!(rt;
+        come(&mut router, link, 0, letter(alloc, b'a')?),
+        Err(Refusal::Passed)
+    );
+    Ok(())
+}
+
+#[test]
+fn an_item_past_the_length_waits_for_a_primary_link(rt: HostRuntime) -> Result<(), Fail> {
+    let mut router = terminal_at(rt.alloc(), 5);
+    router.outward.begin_decay();
+    router.outward.set_length_to(5);
+    assert!(rt; router.is_open_terminal());
+    assert_eq!(rt; router.put(letter(rt.alloc(), b'a')?).ok(), Some(5));
+    assert_eq!(rt; router.way_out(), None);
+    assert_eq!(rt; router.first_act(), RouterAct::Rest);
+    assert!(rt; router.stands_on(LinkId::Central(1), Side::A));
+    Ok(())
+}
+
+// With ample memory both calls are done; `rt try --test --fail-alloc N` has one of them refused.
+#[test]
+fn a_refused_growth_hands_the_parcel_back(rt: HostRuntime) -> Result<(), Fail> {
+    let mut router = terminal_at(rt.alloc(), 0);
+    match router.put(letter(rt.alloc(), b'a')?) {
+        Ok(n) => assert_eq!(rt; n, 0),
+        Err((why, parcel)) => {
+            assert_eq!(rt; why, Refusal::OutOfMemory);
+            assert_eq!(rt; parcel.bytes.as_slice(), b"a".as_slice());
+            assert!(rt; !router.is_flagged());
+        }
+    }
+    let was_flagged = router.is_flagged();
+    let item = Item::Parcel(letter(rt.alloc(), b'b')?);
+    match router.accept(LinkId::Central(1), Side::A, 0, item) {
+        Ok(()) => assert!(rt; router.is_flagged()),
+        Err((why, Item::Parcel(parcel))) => {
+            assert_eq!(rt; why, Refusal::OutOfMemory);
+            assert_eq!(rt; parcel.bytes.as_slice(), b"b".as_slice());
+            assert_eq!(rt; router.is_flagged(), was_flagged);
+        }
+        Err((_, Item::Mark)) => assert!(rt; false),
+    }
+    Ok(())
+}
+
+// Does the act that is the first possible one, if it is this one.
+fn step(router: &mut Router, act: RouterAct, answer: Answer) -> Option<Applied>
+    requires { IsAnswerOf act answer }
+{
+    if router.first_act() != act {
+        return None;
+    }
+    Some(router.act(act, answer))
+}
+
+// Does an act that touches no word and gives nothing, if it is the first possible one.
+fn plain(router: &mut Router, act: RouterAct) -> bool
+    requires { IsAnswerOf act Plain }
+{
+    matches!(step(router, act, Answer::Plain), Some(Applied::Nothing))
+}
+
+// Sends by this act what is to be sent, and brings it to the router across; answers the link and the number.
+fn carry(router: &mut Router, act: RouterAct, to: &mut Router) -> Option<(LinkId, u64)>
+    requires { IsAnswerOf act Plain }
+{
+    let Some(Applied::Sent(link, n, item)) = step(router, act, Answer::Plain) else {
+        return None;
+    };
+    if n == u64::MAX {
+        return None;
+    }
+    match to.accept(link.link, link.side.opposite(), n, item) {
+        Ok(()) => Some((link.link, n)),
+        Err(_) => None,
+    }
+}
+
+// A put that is done.
+fn puts(router: &mut Router, parcel: Parcel) -> Option<u64> {
+    if !router.is_open_terminal() {
+        return None;
+    }
+    router.put(parcel).ok()
+}
+
+const OLD: LinkId = LinkId::Central(0);
+
+const FRESH: LinkId = LinkId::Central(2);
+
+const INNER: LinkId = LinkId::Peripheral { node: 1, serial: 0 };
+
+// X, the terminal of 0A on node 0, faces node 1 over C0.
+fn outer(alloc: Global) -> Router {
+    let end = End {
+        pair: 0,
+        side: Side::A,
+    };
+    let link = LinkEnd {
+        link: OLD,
+        side: Side::A,
+        other: 1,
+    };
+    Router::terminal(alloc, end, link, 0)
+}
+
+// Y, the router of 0B on node 1, whose terminal moves to node 2 by what is answered.
+fn moved(alloc: Global) -> (Router, Descriptor)
+    ensures { result.1.next_out ≤ last_number }
+{
+    let end = End {
+        pair: 0,
+        side: Side::B,
+    };
+    let link = LinkEnd {
+        link: OLD,
+        side: Side::B,
+        other: 0,
+    };
+    let mut router = Router::terminal(alloc, end, link, 0);
+    let descriptor = router.extend_to(LinkEnd {
+        link: INNER,
+        side: Side::A,
+        other: 2,
+    });
+    (router, descriptor)
+}
+
+// X on node 0, the proxy Y on node 1 and Z on node 2, to which the terminal of 0B has moved.
+#[derive(Drop)]
+struct Chain {
+    x: Router,
+    y: Router,
+    z: Router,
+}
+
+fn chain_of(alloc: Global) -> Chain {
+    let (y, descriptor) = moved(alloc);
+    Chain {
+        x: outer(alloc),
+        y,
+        z: Router::from_descriptor(alloc, &descriptor, 1),
+    }
+}
+
+// What is put at X comes to Z, over Y.
+fn comes_in(chain: &mut Chain, n: u64, parcel: Parcel) -> bool {
+    puts(&mut chain.x, parcel) == Some(n)
+        && carry(&mut chain.x, RouterAct::SendOut, &mut chain.y) == Some((OLD, n))
+        && carry(&mut chain.y, RouterAct::SendIn, &mut chain.z) == Some((INNER, n))
+}
+
+// What is put at Z comes to X, over Y.
+fn goes_out(chain: &mut Chain, n: u64, parcel: Parcel) -> bool {
+    puts(&mut chain.z, parcel) == Some(n)
+        && carry(&mut chain.z, RouterAct::SendOut, &mut chain.y) == Some((INNER, n))
+        && carry(&mut chain.y, RouterAct::SendOut, &mut chain.x) == Some((OLD, n))
+}
+
+// Y claims C2, locks C0 and begins: both its links decay with unknown lengths, and Z is told.
+fn begins(y: &mut Router) -> bool {
+    let claimed = step(y, RouterAct::Claim, Answer::Claimed(2)).is_some();
+    let locked = step(y, RouterAct::Lock, Answer::Locked(35)).is_some();
+    let Some(
+        Applied::Message(
+            2,
+            Message::BypassPeer {
+                link: INNER,
+                side: Side::B,
+                old: 0,
+                target: 0,
+                fresh: 2,
+            },
+        ),
+    ) = step(y, RouterAct::Begin, Answer::Plain)
+    else {
+        return false;
+    };
+    claimed && locked && y.word().is_none() && y.spare.is_none() && is_unmarked(y)
+}
+
+// The flags that speak of the outward primary link are down.
+fn is_unmarked(router: &Router) -> bool {
+    !router.marked && !router.tried && !router.wake_owed && !router.holds
+}
+
+// The length of the decaying link of an edge to its other end, and from it; the edge has this primary link.
+fn is_parted(edge: Edge, primary: Option<LinkEnd>, to: Option<u64>, from: Option<u64>) -> bool {
+    edge.decays()
+        && edge.primary() == primary
+        && edge.length_to() == to
+        && edge.length_from() == from
+}
+
+fn fresh_link(side: Side, other: u8) -> Option<LinkEnd> {
+    Some(LinkEnd {
+        link: FRESH,
+        side,
+        other,
+    })
+}
+
+// Z turns to C2 at its number 2; a message for another side or of a central link doesn't fit, nor does a second one.
+fn z_turns(z: &mut Router) -> bool {
+    let strange = z.bypass_peer(INNER, Side::A, 0, 0, 2).is_err()
+        && z.bypass_peer(OLD, Side::B, 0, 0, 2).is_err();
+    let Ok(
+        Some(
+            Sending {
+                to: 0,
+                message: Message::AcceptBypass {
+                    old: 0,
+                    side: Side::A,
+                    fresh: 2,
+                    length: 2,
+                },
+            },
+        ),
+    ) = z.bypass_peer(INNER, Side::B, 0, 0, 2)
+    else {
+        return false;
+    };
+    strange
+        && z.is_flagged()
+        && is_unmarked(z)
+        && is_parted(z.outward(), fresh_link(Side::B, 0), Some(2), None)
+        && z.bypass_peer(INNER, Side::B, 0, 0, 3).is_err()
+}
+
+// X turns to it at its number 5, toward the node that AcceptBypass came from.
+fn x_turns(x: &mut Router) -> bool {
+    let strange = x.marked && x.accept_bypass(2, 0, Side::B, 2, 2).is_err();
+    let Ok(
+        Some(
+            Sending {
+                to: 1,
+                message: Message::StopProxying {
+                    old: 0,
+                    side: Side::B,
+                    in_length: 5,
+                    out_length: 2,
+                },
+            },
+        ),
+    ) = x.accept_bypass(2, 0, Side::A, 2, 2)
+    else {
+        return false;
+    };
+    strange
+        && x.is_flagged()
+        && is_unmarked(x)
+        && is_parted(x.outward(), fresh_link(Side::A, 2), Some(5), Some(2))
+        && x.accept_bypass(2, 0, Side::A, 2, 2).is_err()
+}
+
+// Y learns both lengths, the inward ones the other way round.
+fn y_stops(y: &mut Router) -> bool {
+    let strange = y.stop_proxying(0, Side::A, 5, 2).is_err();
+    let Ok(
+        Some(
+            Sending {
+                to: 2,
+                message: Message::ProxyWillStop {
+                    link: INNER,
+                    side: Side::B,
+                    in_length: 5,
+                },
+            },
+        ),
+    ) = y.stop_proxying(0, Side::B, 5, 2)
+    else {
+        return false;
+    };
+    let Some(inward) = y.inward() else {
+        return false;
+    };
+    strange
+        && y.is_flagged()
+        && is_parted(y.outward(), None, Some(2), Some(5))
+        && is_parted(inward, None, Some(5), Some(2))
+        && y.stop_proxying(0, Side::B, 5, 2).is_err()
+}
+
+// Z learns the length of what comes over Y, once.
+fn z_stops(z: &mut Router) -> bool {
+    let strange = z.proxy_will_stop(INNER, Side::A, 5).is_err();
+    let fits = matches!(z.proxy_will_stop(INNER, Side::B, 5), Ok(None));
+    strange
+        && fits
+        && is_parted(z.outward(), fresh_link(Side::B, 0), Some(2), Some(5))
+        && z.proxy_will_stop(INNER, Side::B, 5).is_err()
+}
+
+// The old link goes, the own side of C2 is marked, and there is nothing more to do.
+fn settles(router: &mut Router, word: u64) -> bool {
+    plain(router, RouterAct::FinishOut)
+        && step(router, RouterAct::Mark, Answer::Marked(word, false)).is_some()
+        && router.marked
+        && plain(router, RouterAct::Rest)
+}
+
+// Four items went inward over Y and two outward before it begins, and a fifth goes inward over the links that decay.
+#[test]
+fn a_proxy_is_bypassed_step_by_step(rt: HostRuntime) -> Result<(), Fail> {
+    let alloc = rt.alloc();
+    let mut chain = chain_of(alloc);
+    for n in 0..4 {
+        assert!(rt; comes_in(&mut chain, n, letter(alloc, b'a')?));
+    }
+    for n in 0..2 {
+        assert!(rt; goes_out(&mut chain, n, letter(alloc, b'b')?));
+    }
+    assert_eq!(rt; chain.y.word(), Some((0, Side::B)));
+    assert!(rt; begins(&mut chain.y));
+    assert!(rt; comes_in(&mut chain, 4, letter(alloc, b'c')?));
+    assert!(rt; plain(&mut chain.y, RouterAct::Rest));
+    assert!(rt; z_turns(&mut chain.z));
+    assert_eq!(rt; chain.z.word(), Some((2, Side::B)));
+    assert!(rt; x_turns(&mut chain.x));
+    assert!(rt; settles(&mut chain.x, 1));
+    assert!(rt; y_stops(&mut chain.y));
+    assert!(rt; plain(&mut chain.y, RouterAct::FinishOut));
+    assert!(rt; plain(&mut chain.y, RouterAct::FinishIn));
+    assert!(rt; plain(&mut chain.y, RouterAct::Leave));
+    assert!(rt; z_stops(&mut chain.z));
+    assert!(rt; settles(&mut chain.z, 3));
+    assert_eq!(rt; puts(&mut chain.z, letter(alloc, b'd')?), Some(2));
+    assert_eq!(rt;
+        carry(&mut chain.z, RouterAct::SendOut, &mut chain.x),
+        Some((FRESH, 2))
+    );
+    Ok(())
+}
+
+// A claim that finds no word is the last one, whatever comes.
+#[test]
+fn a_proxy_without_a_word_stays_one(rt: HostRuntime) -> Result<(), Fail> {
+    let alloc = rt.alloc();
+    let (mut y, descriptor) = moved(alloc);
+    let mut z = Router::from_descriptor(alloc, &descriptor, 1);
+    let mut x = outer(alloc);
+    assert!(rt; step(&mut y, RouterAct::Claim, Answer::NoWord).is_some());
+    assert!(rt; plain(&mut y, RouterAct::Rest));
+    assert_eq!(rt; puts(&mut x, letter(alloc, b'a')?), Some(0));
+    assert_eq!(rt; carry(&mut x, RouterAct::SendOut, &mut y), Some((OLD, 0)));
+    assert!(rt; y.is_flagged());
+    assert_eq!(rt; carry(&mut y, RouterAct::SendIn, &mut z), Some((INNER, 0)));
+    assert!(rt; plain(&mut y, RouterAct::Rest));
+    y.rouse();
+    assert!(rt; y.is_flagged());
+    assert!(rt; plain(&mut y, RouterAct::Rest));
+    Ok(())
+}
+
+// A side that waits or is refused tries again when it is roused; a lock that is given back is tried for at once.
+#[test]
+fn a_try_for_the_lock_is_made_once_and_again_when_roused(rt: HostRuntime) {
+    let (mut y, _descriptor) = moved(rt.alloc());
+    assert!(rt; step(&mut y, RouterAct::Claim, Answer::Claimed(2)).is_some());
+    assert!(rt; step(&mut y, RouterAct::Lock, Answer::Waiting(10)).is_some());
+    assert!(rt; plain(&mut y, RouterAct::Rest));
+    y.rouse();
+    assert!(rt; step(&mut y, RouterAct::Lock, Answer::Refused(19)).is_some());
+    assert!(rt; plain(&mut y, RouterAct::Rest));
+    y.rouse();
+    assert!(rt; step(&mut y, RouterAct::Lock, Answer::Locked(35)).is_some());
+    assert_eq!(rt; y.first_act(), RouterAct::Begin);
+    if y.is_possible(RouterAct::Unlock) {
+        let _nothing = y.act(RouterAct::Unlock, Answer::Word(3));
+    }
+    assert!(rt; y.is_flagged());
+    assert_eq!(rt; y.first_act(), RouterAct::Lock);
+}
+
+// A terminal on the first link of a pair is marked at birth; one made from a descriptor isn't, and marks no peripheral link.
+// On a fresh link it marks its side and wakes the other one, which was waiting.
+#[test]
+fn a_side_is_marked_and_the_other_one_woken(rt: HostRuntime) {
+    let alloc = rt.alloc();
+    assert!(rt; outer(alloc).marked);
+    let (_proxy, descriptor) = moved(alloc);
+    let mut z = Router::from_descriptor(alloc, &descriptor, 1);
+    assert!(rt; !z.marked);
+    assert_eq!(rt; z.first_act(), RouterAct::Rest);
+    assert!(rt; z.bypass_peer(INNER, Side::B, 0, 0, 2).is_ok());
+    assert!(rt; z.proxy_will_stop(INNER, Side::B, 0).is_ok());
+    assert!(rt; plain(&mut z, RouterAct::FinishOut));
+    assert!(rt; step(&mut z, RouterAct::Mark, Answer::Marked(7, true)).is_some());
+    let flush = step(&mut z, RouterAct::Wake, Answer::Word(3));
+    let Some(Applied::Message(to, Message::Flush { link, side })) = flush else {
+        assert!(rt; false, "no Flush");
+        return;
+    };
+    assert_eq!(rt; (to, link, side), (0, FRESH, Side::A));
+    assert!(rt; plain(&mut z, RouterAct::Rest));
+}
+
+#[test]
+fn the_mark_is_seen_behind_a_gap_and_got_in_its_turn(rt: HostRuntime) -> Result<(), Fail> {
+    let alloc = rt.alloc();
+    let mut router = terminal_at(alloc, 0);
+    let link = LinkId::Central(1);
+    assert!(rt; router.accept(link, Side::A, 1, Item::Mark).is_ok());
+    assert!(rt; router.is_open_terminal());
+    assert_eq!(rt; router.get().map(|got| got.0), Err(Refusal::Empty));
+    assert_eq!(rt; router.put_refusal(), Some(Refusal::PeerClosed));
+    assert!(rt; router.is_open_terminal());
+    let refused = router.put(letter(alloc, b'b')?);
+    assert_eq!(rt; refused.map_err(|e| e.0), Err(Refusal::PeerClosed));
+    assert_eq!(rt; come(&mut router, link, 0, letter(alloc, b'a')?), Ok(()));
+    assert!(rt; router.is_open_terminal());
+    let Ok((n, parcel)) = router.get() else {
+        assert!(rt; false, "nothing was got");
+        return Ok(());
+    };
+    assert_eq!(rt; n, 0);
+    assert_eq!(rt; parcel.bytes.as_slice(), b"a".as_slice());
+    for _ in 0..2 {
+        assert!(rt; router.is_open_terminal());
+        assert_eq!(rt; router.get().map(|got| got.0), Err(Refusal::PeerClosed));
+    }
+    assert_eq!(rt; router.reserve_close(), Ok(()));
+    assert!(rt; router.is_open_terminal());
+    assert_eq!(rt; router.close(), Ok(0));
+    assert!(rt; router.is_flagged());
+    assert!(rt; !router.is_open_terminal());
+
+    // The sink sends its own mark and drops the peer's.
+    let sent = step(&mut router, RouterAct::SendOut, Answer::Plain);
+    assert!(rt; matches!(sent, Some(Applied::Sent(_, 0, Item::Mark))));
+    let dropped = step(&mut router, RouterAct::Discard, Answer::Plain);
+    assert!(rt; matches!(dropped, Some(Applied::Discarded(1, Item::Mark))));
+    assert!(rt; plain(&mut router, RouterAct::Rest));
+    Ok(())
+}
+
+// The peer's mark waits in the proxy's in queue; the terminal that moved away takes puts until it comes there.
+#[test]
+fn that_the_mark_has_come_does_not_travel(rt: HostRuntime) -> Result<(), Fail> {
+    let alloc = rt.alloc();
+    let mut router = terminal_at(alloc, 0);
+    assert!(rt;
+        router
+            .accept(LinkId::Central(1), Side::A, 0, Item::Mark)
+            .is_ok()
+    );
+    assert!(rt; router.is_open_terminal());
+    let descriptor = router.extend_to(LinkEnd {
+        link: INWARD,
+        side: Side::A,
+        other: 1,
+    });
+    let mut away = Router::from_descriptor(alloc, &descriptor, 0);
+    assert_eq!(rt; puts(&mut away, letter(alloc, b'a')?), Some(0));
+    assert_eq!(rt;
+        carry(&mut router, RouterAct::SendIn, &mut away),
+        Some((INWARD, 0))
+    );
+    assert_eq!(rt; away.put_refusal(), Some(Refusal::PeerClosed));
+    Ok(())
+}

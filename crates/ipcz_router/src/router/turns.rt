@@ -1,0 +1,385 @@
+ghost use Rattle.std.specs.Prelude.{◌≡◌, Some, None, true, false, option_map};
+ghost use Rattle.ipcz_base.specs.Links.{word_of};
+ghost use Rattle.ipcz_router.specs.RoomyRouters.{KeepsRoom, LeavesRoom};
+ghost use Rattle.ipcz_router.specs.Router.{is_proxy, is_sink, decays, has_no_link, primary_word, is_on_central, inward_edge};
+ghost use Rattle.ipcz_router.specs.ActTable.{is_possible, next_act, is_ready, can_begin, may_take};
+ghost use Rattle.ipcz_router.specs.ActEffects.{IsAsked, IsOutputOf, IsBelowNoNumber, apply, output_of, item_output, finish_out};
+ghost use Rattle.ipcz_router.specs.ActEffects.{finish_in, begin_bypass, begin_message, flush_message, peer_message};
+ghost use Rattle.ipcz_router.specs.Acts.{way_out, way_in, pop_in, pop_out};
+
+use super::Router;
+use crate::act::{Answer, Applied, RouterAct};
+use ipcz_base::{Item, LinkEnd, LinkId, Message};
+
+// The word of a link end's link, where there is one and it is central.
+#[tactic(auto, unfolding(ipcz_base::specs::Links::word_of))]
+fn word_of(end: Option<LinkEnd>) -> Option<u32>
+    ensures { result ≡ word_of end }
+{
+    let end = end?;
+    match end.link {
+        LinkId::Central(word) => Some(word),
+        LinkId::Peripheral { .. } => None,
+    }
+}
+
+impl Router {
+    /// The link that the current item of the out queue goes over, whether that item is there or not.
+    pub fn way_out(&self) -> Option<LinkEnd>
+        ensures { result ≡ way_out self.now.router }
+    {
+        self.outward.choose(self.out_queue.current())
+    }
+
+    /// The link that the current item of the in queue goes over, whether that item is there or not. A terminal has none.
+    #[tactic(auto, unfolding(ipcz_edge::specs::Edge::choose))]
+    pub fn way_in(&self) -> Option<LinkEnd>
+        ensures { result ≡ way_in self.now.router }
+    {
+        match &self.inward {
+            Some(inward) => inward.choose(self.in_queue.current()),
+            None => None,
+        }
+    }
+
+    fn decays(&self) -> bool
+        ensures { result ≡ decays self.now.router }
+    {
+        match &self.inward {
+            Some(inward) => self.outward.decays() || inward.decays(),
+            None => self.outward.decays(),
+        }
+    }
+
+    fn has_no_link(&self) -> bool
+        ensures { result ≡ has_no_link self.now.router }
+    {
+        match &self.inward {
+            Some(inward) => self.outward.is_empty() && inward.is_empty(),
+            None => self.outward.is_empty(),
+        }
+    }
+
+    fn is_on_central(&self) -> bool
+        ensures { result ≡ is_on_central self.now.router }
+    {
+        word_of(self.outward.primary()).is_some()
+    }
+
+    fn is_ready(&self) -> bool
+        ensures { result ≡ is_ready self.now.router }
+    {
+        self.inward.is_some()
+            && self.is_on_central()
+            && self.marked
+            && !self.decays()
+            && !self.dry
+            && !self.tried
+    }
+
+    fn can_begin(&self) -> bool
+        ensures { result ≡ can_begin self.now.router }
+    {
+        self.inward.is_some() && self.holds && self.is_on_central() && !self.decays()
+    }
+
+    #[tactic(auto, unfolding(crate::specs::ActTable::is_possible, ipcz_edge::specs::Edge::can_finish))]
+    fn can_finish_in(&self) -> bool
+        ensures { result ≡ is_possible self.now.router RouterAct.FinishIn }
+    {
+        match &self.inward {
+            Some(inward) => { inward.can_finish(self.in_queue.current(), self.out_queue.reach()) }
+            None => false,
+        }
+    }
+
+    /// Whether an act is possible, `Rest` aside: docs/PROTOCOL.md, "Turns", has the condition of each. `Unlock` is possible
+    /// where `Begin` is, in whose place it is taken.
+    #[tactic(auto, unfolding(crate::specs::ActTable::is_possible))]
+    pub fn is_possible(&self, act: RouterAct) -> bool
+        ensures { result ≡ is_possible self.now.router act }
+    {
+        match act {
+            RouterAct::SendOut => self.out_queue.next().is_some() && self.way_out().is_some(),
+            RouterAct::SendIn => self.in_queue.next().is_some() && self.way_in().is_some(),
+            RouterAct::Discard => {
+                self.inward.is_none() && self.closed && self.in_queue.next().is_some()
+            }
+            RouterAct::FinishOut => {
+                self.outward
+                    .can_finish(self.out_queue.current(), self.in_queue.reach())
+            }
+            RouterAct::FinishIn => self.can_finish_in(),
+            RouterAct::Leave => self.inward.is_some() && self.has_no_link(),
+            RouterAct::Mark => self.is_on_central() && !self.marked && !self.decays(),
+            RouterAct::Wake => self.wake_owed && self.is_on_central(),
+            RouterAct::Claim => self.is_ready() && self.spare.is_none(),
+            RouterAct::Lock => self.is_ready() && self.spare.is_some() && !self.holds,
+            RouterAct::Begin => self.can_begin(),
+            RouterAct::Unlock => self.can_begin(),
+            RouterAct::Rest => false,
+        }
+    }
+
+    /// The first possible act in the order of [`RouterAct`], `Unlock` left out, else `Rest`.
+    #[tactic(auto, unfolding(crate::specs::ActTable::next_act, crate::specs::ActTable::is_rest))]
+    pub fn first_act(&self) -> RouterAct
+        ensures first { result ≡ next_act self.now.router }
+        ensures possible { may_take self.now.router result ≡ true }
+    {
+        if self.is_possible(RouterAct::SendOut) {
+            return RouterAct::SendOut;
+        }
+        if self.is_possible(RouterAct::SendIn) {
+            return RouterAct::SendIn;
+        }
+        if self.is_possible(RouterAct::Discard) {
+            return RouterAct::Discard;
+        }
+        if self.is_possible(RouterAct::FinishOut) {
+            return RouterAct::FinishOut;
+        }
+        if self.is_possible(RouterAct::FinishIn) {
+            return RouterAct::FinishIn;
+        }
+        if self.is_possible(RouterAct::Leave) {
+            return RouterAct::Leave;
+        }
+        if self.is_possible(RouterAct::Mark) {
+            return RouterAct::Mark;
+        }
+        if self.is_possible(RouterAct::Wake) {
+            return RouterAct::Wake;
+        }
+        if self.is_possible(RouterAct::Claim) {
+            return RouterAct::Claim;
+        }
+        if self.is_possible(RouterAct::Lock) {
+            return RouterAct::Lock;
+        }
+        if self.is_possible(RouterAct::Begin) {
+            return RouterAct::Begin;
+        }
+        RouterAct::Rest
+    }
+
+    #[tactic(auto, unfolding(crate::specs::ActTable::is_possible, crate::specs::ActEffects::item_output, crate::specs::ActEffects::output_of))]
+    fn do_send_out(&mut self) -> Applied
+        requires { is_possible self.old.router RouterAct.SendOut ≡ true }
+        ensures router { self.new.router ≡ pop_out self.old.router }
+        ensures sent { result ≡ output_of self.old.router RouterAct.SendOut }
+        ensures kind { IsOutputOf RouterAct.SendOut result }
+        ensures number { IsBelowNoNumber result }
+        ensures room { LeavesRoom self.old self.new 0 0 }
+    {
+        let (link, n) = (self.way_out(), self.out_queue.current());
+        item_output(link, n, self.pop_out())
+    }
+
+    #[tactic(auto, unfolding(crate::specs::ActTable::is_possible, crate::specs::ActEffects::item_output, crate::specs::ActEffects::output_of))]
+    fn do_send_in(&mut self) -> Applied
+        requires { is_possible self.old.router RouterAct.SendIn ≡ true }
+        ensures router { self.new.router ≡ pop_in self.old.router }
+        ensures sent { result ≡ output_of self.old.router RouterAct.SendIn }
+        ensures kind { IsOutputOf RouterAct.SendIn result }
+        ensures number { IsBelowNoNumber result }
+        ensures room { LeavesRoom self.old self.new 0 0 }
+    {
+        let (link, n) = (self.way_in(), self.in_queue.current());
+        item_output(link, n, self.pop_in())
+    }
+
+    #[tactic(auto, unfolding(crate::specs::ActTable::is_possible, crate::specs::ActEffects::discard_output, crate::specs::ActEffects::output_of))]
+    fn discard(&mut self) -> Applied
+        requires { is_possible self.old.router RouterAct.Discard ≡ true }
+        ensures router { self.new.router ≡ pop_in self.old.router }
+        ensures dropped { result ≡ output_of self.old.router RouterAct.Discard }
+        ensures kind { IsOutputOf RouterAct.Discard result }
+        ensures number { IsBelowNoNumber result }
+        ensures room { LeavesRoom self.old self.new 0 0 }
+    {
+        let n = self.in_queue.current();
+        match self.pop_in() {
+            Some(item) => Applied::Discarded(n, item),
+            None => unreachable!(),
+        }
+    }
+
+    #[tactic(auto, unfolding(crate::specs::ActTable::is_possible))]
+    fn finish_out(&mut self)
+        requires { is_possible self.old.router RouterAct.FinishOut ≡ true }
+        ensures router { self.new.router ≡ finish_out self.old.router }
+        ensures room { KeepsRoom self.old self.new }
+    {
+        let _finished = self
+            .outward
+            .finish(self.out_queue.current(), self.in_queue.reach());
+    }
+
+    #[tactic(auto, unfolding(crate::specs::ActTable::is_possible, ipcz_edge::specs::Edge::can_finish))]
+    fn finish_in(&mut self)
+        requires { is_possible self.old.router RouterAct.FinishIn ≡ true }
+        ensures router { self.new.router ≡ finish_in self.old.router }
+        ensures room { KeepsRoom self.old self.new }
+    {
+        let (sent, received) = (self.in_queue.current(), self.out_queue.reach());
+        if let Some(inward) = &mut self.inward {
+            let _finished = inward.finish(sent, received);
+        }
+    }
+
+    #[tactic(auto, unfolding(crate::specs::ActEffects::begin_message, crate::specs::ActEffects::message_output, crate::specs::ActEffects::output_of))]
+    pub(super) fn begin_output(&self) -> Applied
+        ensures output { result ≡ output_of self.now.router RouterAct.Begin }
+        ensures kind { IsOutputOf RouterAct.Begin result }
+        ensures number { IsBelowNoNumber result }
+    {
+        let Some(inward) = &self.inward else {
+            return Applied::Nothing;
+        };
+        let Some(inner) = inward.primary() else {
+            return Applied::Nothing;
+        };
+        let Some(outer) = self.outward.primary() else {
+            return Applied::Nothing;
+        };
+        let Some(fresh) = self.spare else {
+            return Applied::Nothing;
+        };
+        let Some(old) = word_of(Some(outer)) else {
+            return Applied::Nothing;
+        };
+        Applied::Message(
+            inner.other,
+            Message::BypassPeer {
+                link: inner.link,
+                side: inner.side.opposite(),
+                old,
+                target: outer.other,
+                fresh,
+            },
+        )
+    }
+
+    fn begin(&mut self)
+        requires { can_begin self.old.router ≡ true }
+        ensures router { self.new.router ≡ begin_bypass self.old.router }
+        ensures room { KeepsRoom self.old self.new }
+    {
+        self.outward.begin_decay();
+        if let Some(inward) = &mut self.inward {
+            inward.begin_decay();
+        }
+        self.spare = None;
+        self.marked = false;
+        self.tried = false;
+        self.wake_owed = false;
+        self.holds = false;
+    }
+
+    #[tactic(auto, unfolding(ipcz_base::specs::Links::word_of, crate::specs::ActTable::is_possible, crate::specs::ActEffects::flush_message, crate::specs::ActEffects::message_output, crate::specs::ActEffects::output_of))]
+    fn wake_output(&self) -> Applied
+        requires { is_possible self.now.router RouterAct.Wake ≡ true }
+        ensures output { result ≡ output_of self.now.router RouterAct.Wake }
+        ensures kind { IsOutputOf RouterAct.Wake result }
+        ensures number { IsBelowNoNumber result }
+    {
+        let Some(link) = self.outward.primary() else {
+            unreachable!()
+        };
+        Applied::Message(
+            link.other,
+            Message::Flush {
+                link: link.link,
+                side: link.side.opposite(),
+            },
+        )
+    }
+
+    /// Does an act that is possible, with an answer of its kind, and answers what its node is to do with it: an item to send,
+    /// one that was dropped, a message, or nothing. A begin that nobody inward could be told of gives nothing.
+    ///
+    /// `Leave` changes nothing here: it is for the node to take the router out.
+    #[tactic(auto, unfolding(crate::specs::ActTable::is_possible, crate::specs::ActTable::is_rest, crate::specs::ActEffects::apply, crate::specs::ActEffects::output_of))]
+    pub fn act(&mut self, act: RouterAct, answer: Answer) -> Applied
+        requires { IsAsked self.old.router act answer }
+        ensures router { self.new.router ≡ apply self.old.router act answer }
+        ensures output { result ≡ output_of self.old.router act }
+        ensures kind { IsOutputOf act result }
+        ensures number { IsBelowNoNumber result }
+        ensures room { LeavesRoom self.old self.new 0 0 }
+    {
+        match (act, answer) {
+            (RouterAct::SendOut, _) => self.do_send_out(),
+            (RouterAct::SendIn, _) => self.do_send_in(),
+            (RouterAct::Discard, _) => self.discard(),
+            (RouterAct::FinishOut, _) => {
+                self.finish_out();
+                Applied::Nothing
+            }
+            (RouterAct::FinishIn, _) => {
+                self.finish_in();
+                Applied::Nothing
+            }
+            (RouterAct::Leave, _) => Applied::Nothing,
+            (RouterAct::Mark, Answer::Marked(_, was_waiting)) => {
+                self.marked = true;
+                self.wake_owed = was_waiting;
+                Applied::Nothing
+            }
+            (RouterAct::Wake, _) => {
+                let output = self.wake_output();
+                self.wake_owed = false;
+                output
+            }
+            (RouterAct::Claim, Answer::Claimed(word)) => {
+                self.spare = Some(word);
+                Applied::Nothing
+            }
+            (RouterAct::Claim, Answer::NoWord) => {
+                self.dry = true;
+                Applied::Nothing
+            }
+            (RouterAct::Lock, Answer::Locked(_)) => {
+                self.holds = true;
+                Applied::Nothing
+            }
+            (RouterAct::Lock, Answer::Waiting(_)) => {
+                self.tried = true;
+                Applied::Nothing
+            }
+            (RouterAct::Lock, Answer::Refused(_)) => {
+                self.tried = true;
+                Applied::Nothing
+            }
+            (RouterAct::Begin, _) => {
+                let output = self.begin_output();
+                self.begin();
+                output
+            }
+            (RouterAct::Unlock, _) => {
+                self.holds = false;
+                self.flagged = true;
+                Applied::Nothing
+            }
+            (RouterAct::Rest, _) => {
+                self.flagged = false;
+                Applied::Nothing
+            }
+            (RouterAct::Mark, _) => unreachable!(),
+            (RouterAct::Claim, _) => unreachable!(),
+            (RouterAct::Lock, _) => unreachable!(),
+        }
+    }
+}
+
+// An item over a link end, where there are both.
+#[tactic(auto, unfolding(crate::specs::ActEffects::item_output))]
+fn item_output(link: Option<LinkEnd>, n: u64, item: Option<Item>) -> Applied
+    ensures { result ≡ item_output link n item }
+{
+    match (link, item) {
+        (Some(link), Some(item)) => Applied::Sent(link, n, item),
+        (_, _) => Applied::Nothing,
+    }
+}

@@ -1,0 +1,120 @@
+//! Scripts and their transcripts, each the other's by docs/PROTOCOL.md.
+
+/// What a script shows, the script, and its transcript.
+pub struct Case {
+    pub shows: &'static str,
+    pub script: &'static str,
+    pub transcript: &'static str,
+    pub unsettled: bool,
+}
+
+pub const CASES: [Case; 18] = [
+    Case {
+        shows: "two parcels on one pair",
+        script: r#"{"nodes":1,"words":1,"commands":[["open",0,"x","y"],["put","x","a"],["put","x","b"],["get","y"],["settle",100],["get","y"],["get","y"],["get","y"]]}"#,
+        transcript: "open x y ok\nput x 0\nput x 1\nget y Empty\nsettled\nget y 0 [] \"a\"\nget y 1 [] \"b\"\nget y Empty\n",
+        unsettled: false,
+    },
+    Case {
+        shows: "a portal moves with what waits in it",
+        script: r#"{"nodes":2,"words":4,"commands":[["open",0,"x","y"],["put","x","a"],["put","x","b"],["put","x","c"],["put","x","d"],["settle",100],["get","y"],["put","0>1","m",["y"]],["settle",1000],["get","1>0"],["get","y"],["get","y"],["get","y"],["get","y"],["show"]]}"#,
+        transcript: "open x y ok\nput x 0\nput x 1\nput x 2\nput x 3\nsettled\nget y 0 [] \"a\"\nput 0>1 0\nsettled\nget 1>0 0 [y] \"m\"\nget y 1 [] \"b\"\nget y 2 [] \"c\"\nget y 3 [] \"d\"\nget y Empty\nwords 3 35 3\n",
+        unsettled: false,
+    },
+    Case {
+        shows: "a portal moves twice",
+        script: r#"{"nodes":3,"words":8,"commands":[["open",0,"x","y"],["put","0>1","m",["y"]],["turn",0,2],["turn",1,2],["get","1>0"],["put","1>2","n",["y"]],["settle",1000],["get","2>1"],["put","x","hi"],["settle",1000],["get","y"],["show"]]}"#,
+        transcript: "open x y ok\nput 0>1 0\nn0: r0 send out 0 C0 moves 3B\nn0: post 1\nn1: look 0\nn1: hand item 0 C0\nget 1>0 0 [y] \"m\"\nput 1>2 0\nsettled\nget 2>1 0 [y] \"n\"\nput x 0\nsettled\nget y 0 [] \"hi\"\nwords 3 3 3 35 35 3\n",
+        unsettled: false,
+    },
+    Case {
+        shows: "a portal moves out and back",
+        script: r#"{"nodes":2,"words":8,"commands":[["open",0,"x","y"],["put","0>1","m",["y"]],["turn",0,2],["turn",1,2],["get","1>0"],["put","1>0","b",["y"]],["settle",1000],["get","0>1"],["put","x","hi"],["settle",1000],["get","y"],["show"]]}"#,
+        transcript: "open x y ok\nput 0>1 0\nn0: r0 send out 0 C0 moves 1B\nn0: post 1\nn1: look 0\nn1: hand item 0 C0\nget 1>0 0 [y] \"m\"\nput 1>0 0\nsettled\nget 0>1 0 [y] \"b\"\nput x 0\nsettled\nget y 0 [] \"hi\"\nwords 3 35 35 3\n",
+        unsettled: false,
+    },
+    Case {
+        shows: "closing, and a portal in a parcel that is dropped",
+        script: r#"{"nodes":1,"words":2,"commands":[["open",0,"x","y"],["open",0,"u","v"],["put","x","c",["v"]],["settle",100],["close","y"],["put","x","late"],["settle",100],["put","x","more"],["get","x"],["get","u"],["get","v"],["close","y"]]}"#,
+        transcript: "open x y ok\nopen u v ok\nput x 0\nsettled\nclose y 0\nput x 1\nsettled\nput x PeerClosed\nget x PeerClosed\nget u PeerClosed\nget v Away\nclose y Away\n",
+        unsettled: false,
+    },
+    Case {
+        shows: "refusals in their order",
+        script: r#"{"nodes":2,"words":4,"commands":[["open",0,"x","y"],["put","x","",["x"]],["put","x","",["y"]],["put","x","",["1>0"]],["put","x","",["0>1","0>1"]],["put","0>1","",["1>0"]],["put","0>1","m",["y"]],["put","y",""],["put","x","",["y"]],["get","w"]]}"#,
+        transcript: "open x y ok\nput x SelfAttach\nput x PeerAttach\nput x Stranger\nput x Stranger\nput 0>1 PeerAttach\nput 0>1 0\nput y Away\nput x PeerAttach\nget w UnknownName\n",
+        unsettled: false,
+    },
+    Case {
+        shows: "the words are used up",
+        script: r#"{"nodes":2,"words":2,"commands":[["open",0,"x","y"],["open",0,"u","v"],["get","u"],["put","0>1","m",["y"]],["settle",1000],["get","1>0"],["put","x","hi"],["settle",1000],["get","y"],["show"]]}"#,
+        transcript: "open x y ok\nopen u v NoWord\nget u UnknownName\nput 0>1 0\nsettled\nget 1>0 0 [y] \"m\"\nput x 0\nsettled\nget y 0 [] \"hi\"\nwords 3 3\n",
+        unsettled: false,
+    },
+    Case {
+        shows: "two parcels that carry each other's targets",
+        script: r#"{"nodes":2,"words":8,"commands":[["open",0,"q","r"],["put","0>1","m",["q"]],["settle",1000],["get","1>0"],["put","0>1","1",["r"]],["put","q","2",["1>0"]],["settle",5]]}"#,
+        transcript: "open q r ok\nput 0>1 0\nsettled\nget 1>0 0 [q] \"m\"\nput 0>1 1\nput q 0\nunsettled\n",
+        unsettled: true,
+    },
+    Case {
+        shows: "a portal moves on while its edge decays",
+        script: r#"{"nodes":2,"words":4,"commands":[["open",0,"x","y"],["put","0>1","m",["y"]],["turn",0,20],["turn",1,20],["turn",0,20],["turn",1,20],["get","1>0"],["put","1>0","b",["y"]],["turn",1,20],["settle",1000],["get","0>1"],["put","x","hi"],["settle",1000],["get","y"],["show"]]}"#,
+        transcript: "open x y ok\nput 0>1 0\nn0: r0 send out 0 C0 moves 1B\nn0: post 1\nn0: r0 rest\nn0: r2 claim 2\nn0: r2 lock C1 35\nn0: r2 begin C1\nn0: r2 rest\nn0: idle\nn1: look 0\nn1: hand item 0 C0\nn1: r0 rest\nn1: idle\nn0: post 1\nn0: idle\nn1: look 0\nn1: hand BypassPeer P0.0\nn1: post 0\nn1: r1 rest\nn1: idle\nget 1>0 0 [y] \"m\"\nput 1>0 0\nn1: r0 send out 0 C0 moves 1B\nn1: r0 rest\nn1: r1 rest\nn1: idle\nsettled\nget 0>1 0 [y] \"b\"\nput x 0\nsettled\nget y 0 [] \"hi\"\nwords 3 35 35 3\n",
+        unsettled: false,
+    },
+    Case {
+        shows: "a bypass, act by act",
+        script: r#"{"nodes":2,"words":4,"commands":[["open",0,"x","y"],["put","0>1","m",["y"]],["turn",0,20],["show"],["turn",1,20],["turn",0,20],["turn",1,20],["turn",0,20],["show"],["turn",1,20],["show"],["get","1>0"],["put","y","r"],["settle",100],["get","x"]]}"#,
+        transcript: "open x y ok\nput 0>1 0\nn0: r0 send out 0 C0 moves 1B\nn0: post 1\nn0: r0 rest\nn0: r2 claim 2\nn0: r2 lock C1 35\nn0: r2 begin C1\nn0: r2 rest\nn0: idle\nwords 3 35 0\nn1: look 0\nn1: hand item 0 C0\nn1: r0 rest\nn1: idle\nn0: post 1\nn0: idle\nn1: look 0\nn1: hand BypassPeer P0.0\nn1: post 0\nn1: r1 rest\nn1: idle\nn0: look 1\nn0: hand AcceptBypass C1\nn0: post 0\nn0: look 0\nn0: hand StopProxying C1\nn0: post 1\nn0: r1 finish out C1\nn0: r1 mark C2 1\nn0: r1 rest\nn0: r2 finish out C1\nn0: r2 finish in P0.0\nn0: r2 leave\nn0: idle\nwords 3 35 1\nn1: look 0\nn1: hand ProxyWillStop P0.0\nn1: r1 finish out P0.0\nn1: r1 mark C2 3\nn1: r1 rest\nn1: idle\nwords 3 35 3\nget 1>0 0 [y] \"m\"\nput y 0\nsettled\nget x 0 [] \"r\"\n",
+        unsettled: false,
+    },
+    Case {
+        shows: "a gap between two links",
+        script: r#"{"nodes":3,"words":8,"commands":[["put","1>2","c",["1>0"]],["turn",1,20],["turn",2,20],["put","0>1","p"],["turn",0,20],["turn",1,20],["turn",2,20],["turn",0,20],["put","0>1","q"],["turn",0,20],["turn",2,20],["get","2>1"],["get","1>0"],["settle",1000],["get","1>0"],["get","1>0"],["show"]]}"#,
+        transcript: "put 1>2 0\nn1: r1 send out 0 C2 moves 0B\nn1: post 2\nn1: r0 claim 3\nn1: r0 lock C0 35\nn1: r0 begin C0\nn1: r0 rest\nn1: r1 rest\nn1: idle\nn2: look 1\nn2: hand item 0 C2\nn2: r1 rest\nn2: idle\nput 0>1 0\nn0: r0 send out 0 C0\nn0: post 1\nn0: r0 rest\nn0: idle\nn1: look 0\nn1: hand item 0 C0\nn1: post 2\nn1: r0 send in 0 P1.0\nn1: r0 rest\nn1: idle\nn2: look 1\nn2: hand BypassPeer P1.0\nn2: post 0\nn2: r2 rest\nn2: idle\nn0: look 2\nn0: hand AcceptBypass C0\nn0: post 1\nn0: r0 finish out C0\nn0: r0 mark C3 1\nn0: r0 rest\nn0: idle\nput 0>1 1\nn0: r0 send out 1 C3\nn0: post 2\nn0: r0 rest\nn0: idle\nn2: look 0\nn2: hand item 1 C3\nn2: r2 rest\nn2: idle\nget 2>1 0 [1>0] \"c\"\nget 1>0 Empty\nsettled\nget 1>0 0 [] \"p\"\nget 1>0 1 [] \"q\"\nwords 35 3 3 3\n",
+        unsettled: false,
+    },
+    Case {
+        shows: "two proxies, one lock, and a side that waits",
+        script: r#"{"nodes":2,"words":8,"commands":[["open",0,"x","y"],["put","0>1","m",["x","y"]],["turn",0,20],["turn",1,20],["turn",0,20],["turn",1,20],["turn",0,20],["turn",1,20],["turn",0,20],["settle",1000],["show"]]}"#,
+        transcript: "open x y ok\nput 0>1 0\nn0: r0 send out 0 C0 moves 1A,1B\nn0: post 1\nn0: r0 rest\nn0: r1 claim 2\nn0: r1 lock C1 19\nn0: r1 begin C1\nn0: r1 rest\nn0: r2 claim 3\nn0: r2 refused C1 19\nn0: r2 rest\nn0: idle\nn1: look 0\nn1: hand item 0 C0\nn1: r0 rest\nn1: idle\nn0: post 1\nn0: idle\nn1: look 0\nn1: hand BypassPeer P0.0\nn1: post 0\nn1: r1 rest\nn1: idle\nn0: look 1\nn0: hand AcceptBypass C1\nn0: post 0\nn0: look 0\nn0: hand StopProxying C1\nn0: post 1\nn0: r1 finish out C1\nn0: r1 finish in P0.0\nn0: r1 leave\nn0: r2 finish out C1\nn0: r2 mark C2 2\nn0: r2 wait C2 10\nn0: r2 rest\nn0: idle\nn1: look 0\nn1: hand ProxyWillStop P0.0\nn1: r1 finish out P0.0\nn1: r1 mark C2 11\nn1: r1 wake C2 3\nn1: post 0\nn1: r1 rest\nn1: idle\nn0: look 1\nn0: hand Flush C2\nn0: r2 lock C2 35\nn0: r2 begin C2\nn0: post 1\nn0: r2 rest\nn0: idle\nsettled\nwords 3 19 35 3\n",
+        unsettled: false,
+    },
+    Case {
+        shows: "data and lists of the wrong length",
+        script: r#"{"nodes":1,"words":1,"commands":[["open",0,"x","y"],["put","x",""],["put","x","aaaaaaaaaaaaaaaaaaaaaaaaaaaaaaaaaaaaaaaaaaaaaaaaaaaaaaaaaaaaaaaaaaaaaaaaaaaaaaaaaaaaaaaaaaaaaaaaaaaaaaaaaaaaaaaaaaaaaaaaaaaaaaaaaaaaaaaaaaaaaaaaaaaaaaaaaaaaaaaaaaaaaaaaaaaaaaaaaaaaaaaaaaaaaaaaaaaaaaaaaaaaaaaaaaaaaaaaaaaaaaaaaaaaaaaaaaaaaaaaaaaaaaaaaaaaaaaa"],["put","x","aaaaaaaaaaaaaaaaaaaaaaaaaaaaaaaaaaaaaaaaaaaaaaaaaaaaaaaaaaaaaaaaaaaaaaaaaaaaaaaaaaaaaaaaaaaaaaaaaaaaaaaaaaaaaaaaaaaaaaaaaaaaaaaaaaaaaaaaaaaaaaaaaaaaaaaaaaaaaaaaaaaaaaaaaaaaaaaaaaaaaaaaaaaaaaaaaaaaaaaaaaaaaaaaaaaaaaaaaaaaaaaaaaaaaaaaaaaaaaaaaaaaaaaaaaaaaaaaa"],["put","x","\t"],["put","x","",["y","y","y","y","y","y","y","y","y"]],["settle",100],["get","y"],["get","y"],["get","y"]]}"#,
+        transcript: "open x y ok\nput x 0\nput x 1\nput x TooMany\nput x BadData\nput x TooMany\nsettled\nget y 0 [] \"\"\nget y 1 [] \"aaaaaaaaaaaaaaaaaaaaaaaaaaaaaaaaaaaaaaaaaaaaaaaaaaaaaaaaaaaaaaaaaaaaaaaaaaaaaaaaaaaaaaaaaaaaaaaaaaaaaaaaaaaaaaaaaaaaaaaaaaaaaaaaaaaaaaaaaaaaaaaaaaaaaaaaaaaaaaaaaaaaaaaaaaaaaaaaaaaaaaaaaaaaaaaaaaaaaaaaaaaaaaaaaaaaaaaaaaaaaaaaaaaaaaaaaaaaaaaaaaaaaaaaaaaaaaaa\"\nget y Empty\n",
+        unsettled: false,
+    },
+    Case {
+        shows: "no command",
+        script: r#"{"nodes":1,"words":0,"commands":[]}"#,
+        transcript: "",
+        unsettled: false,
+    },
+    Case {
+        shows: "no word",
+        script: r#"{"nodes":1,"words":0,"commands":[["show"],["settle",0],["open",0,"x","y"]]}"#,
+        transcript: "words\nsettled\nopen x y NoWord\n",
+        unsettled: false,
+    },
+    Case {
+        shows: "portals in parcels of one node",
+        script: r#"{"nodes":1,"words":2,"commands":[["open",0,"x","y"],["open",0,"u","v"],["put","x","c",["v"]],["put","v","1"],["put","v","1",["zz"]],["put","x","1",["v"]],["put","u","k"],["settle",100],["put","v","1"],["get","y"],["get","v"],["put","x","",["u","v"]],["settle",100],["get","y"]]}"#,
+        transcript: "open x y ok\nopen u v ok\nput x 0\nput v Away\nput v UnknownName\nput x Stranger\nput u 0\nsettled\nput v Away\nget y 0 [v] \"c\"\nget v 0 [] \"k\"\nput x 1\nsettled\nget y 1 [u,v] \"\"\n",
+        unsettled: false,
+    },
+    Case {
+        shows: "turns end at the first idle one",
+        script: r#"{"nodes":2,"words":8,"commands":[["turn",1,5],["put","0>1","a"],["turn",0,1],["turn",0,1],["turn",0,5]]}"#,
+        transcript: "n1: idle\nput 0>1 0\nn0: r0 send out 0 C0\nn0: post 1\nn0: r0 rest\nn0: idle\n",
+        unsettled: false,
+    },
+    Case {
+        shows: "a settle that is one act short",
+        script: r#"{"nodes":1,"words":1,"commands":[["open",0,"x","y"],["put","x","a"],["put","x","b"],["get","y"],["settle",9],["get","y"],["get","y"],["get","y"]]}"#,
+        transcript: "open x y ok\nput x 0\nput x 1\nget y Empty\nunsettled\nget y 0 [] \"a\"\nget y 1 [] \"b\"\nget y Empty\n",
+        unsettled: true,
+    },
+];

@@ -1,0 +1,12 @@
+pub mod CommandCount
+pub mod EndKeys
+pub mod JsonLists
+pub mod KnownBytes
+pub mod Pairing
+pub mod ReadingLaws
+pub mod ScriptRuns
+pub mod Showing
+pub mod Stepping
+pub mod Taken
+pub mod TextKeys
+pub mod Writing

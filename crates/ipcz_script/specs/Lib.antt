@@ -1,0 +1,12 @@
+pub mod Bindings
+pub mod EventTexts
+pub mod Faults
+pub mod Lines
+pub mod Reading
+pub mod ScriptNames
+pub mod ScriptLaws
+pub mod Scripts
+pub mod Sessions
+pub mod Shapes
+pub mod Transcript
+pub mod WholeIo

@@ -1,0 +1,61 @@
+-- The transcript of what was read, and what a run may have read and written.
+-- (This project's own.)
+use Rattle.std.specs.Prelude.{ℕ, ◌+◌, ◌≡◌, ◌≤◌, Bool, true, false, ◌||◌, List, [], ◌∷◌, ◌++◌, length, Option, Result, Ok, Err}
+use Rattle.std.specs.Io.KnownBytes.{Consumes, IsAtEnd, Appends, Keeps}
+use Rattle.ipcz_script.specs.declared.command.Command.{Command}
+use Rattle.ipcz_script.specs.declared.script.Script.{Script}
+use Rattle.ipcz_script.specs.declared.said.Said.{Said}
+use Rattle.ipcz_script.specs.declared.said.Said.TheVariants.{Unsettled}
+use Rattle.ipcz_script.specs.declared.outcome.Outcome.{Outcome}
+use Rattle.ipcz_script.specs.declared.outcome.Outcome.TheVariants as outcomes
+use Rattle.ipcz_script.specs.declared.run_fault.RunFault.{RunFault}
+use Rattle.ipcz_script.specs.declared.run_fault.RunFault.TheVariants as faults
+use Rattle.ipcz_script.specs.Lines.{lines_of, refused_line}
+use Rattle.ipcz_script.specs.Reading.{IsScript, max_bytes}
+use Rattle.ipcz_script.specs.Sessions.{Session, new_session, Runs}
+use Rattle.ipcz_script.specs.WholeIo.{AppendsFront, ConsumesAtMost}
+
+-- whether an answer is that of a settle that came to its limit
+unfoldable pub is_unsettled : Said → Bool
+is_unsettled Unsettled = true
+is_unsettled other = false
+
+-- these commands, run one after the other, write this text; and whether some settle came to its limit
+abbrev pub Writes : Session → List Command → List ℕ → Bool → Session → Type 0
+Writes s [] text unsettled t = (text ≡ []) × (unsettled ≡ false) × (t ≡ s)
+Writes s (c ∷ cs) text unsettled t =
+    (answer : Said) × (u : Session) × (rest : List ℕ) × (later : Bool) × Runs s c answer u × Writes u cs rest later t
+    × (text ≡ lines_of u.titles c answer ++ rest) × (unsettled ≡ (is_unsettled answer || later))
+
+-- a transcript of a script, and whether some line of it is `unsettled`
+abbrev pub IsTranscript : Script → List ℕ → Bool → Type 0
+IsTranscript script text unsettled = (t : Session) × Writes (new_session script.nodes script.words) script.commands text unsettled t
+
+-- a transcript of a script, by how its run ends
+abbrev pub IsRunOutput : Script → Outcome → List ℕ → Type 0
+IsRunOutput script outcomes.Done text = IsTranscript script text false
+IsRunOutput script outcomes.Unsettled text = IsTranscript script text true
+IsRunOutput script (outcomes.Refused why) text = ⊥
+
+-- what is written for these bytes and how their run ends: a transcript of the script that they are, or the one line that says why they are
+-- none
+abbrev pub IsOutput : List ℕ → Outcome → List ℕ → Type 0
+IsOutput input outcomes.Done text = (script : Script) × IsScript input (Ok script) × IsTranscript script text false
+IsOutput input outcomes.Unsettled text = (script : Script) × IsScript input (Ok script) × IsTranscript script text true
+IsOutput input (outcomes.Refused why) text = IsScript input (Err why) × (text ≡ refused_line why)
+
+-- the bytes that were read: all there are, or one more than a script may have
+pub record IsInput (before after : Option (List ℕ)) (input : List ℕ) : Type 0 where
+  pub taken : Consumes before after input
+  pub most : length input ≤ max_bytes + 1
+  pub whole : length input ≤ max_bytes → IsAtEnd after
+
+-- what was read and written, by the answer of the run: the whole output, or after a failed write some front of it, and else nothing
+abbrev pub ReadsAndWrites : Option (List ℕ) → Option (List ℕ) → Option (List ℕ) → Option (List ℕ) → Result Outcome RunFault → Type 0
+ReadsAndWrites before after old new (Ok outcome) =
+    (input : List ℕ) × (text : List ℕ) × IsInput before after input × IsOutput input outcome text × Appends old new text
+ReadsAndWrites before after old new (Err faults.Write) =
+    (input : List ℕ) × (outcome : Outcome) × (text : List ℕ) × IsInput before after input × IsOutput input outcome text
+    × AppendsFront old new text
+ReadsAndWrites before after old new (Err faults.Read) = ConsumesAtMost before after (max_bytes + 1) × Keeps old new
+ReadsAndWrites before after old new (Err faults.OutOfMemory) = ConsumesAtMost before after (max_bytes + 1) × Keeps old new

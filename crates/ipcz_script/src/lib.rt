@@ -1,0 +1,33 @@
+//! Scripts: what they are made of, how they are read, and how their transcripts are written.
+#![tactic(auto)]
+
+mod command;
+mod events;
+pub mod laws;
+mod lines;
+mod names;
+mod opened_names;
+mod outcome;
+mod reading;
+mod run;
+mod run_fault;
+mod said;
+mod script;
+mod script_fault;
+mod session;
+mod shapes;
+mod text;
+mod titles;
+mod whole_io;
+
+pub use command::Command;
+pub use events::push_event;
+pub use outcome::Outcome;
+pub use reading::{one_reading, read_script};
+pub use run::run_script;
+pub use run_fault::RunFault;
+pub use said::Said;
+pub use script::Script;
+pub use script_fault::ScriptFault;
+pub use text::Text;
+pub use whole_io::write_whole;

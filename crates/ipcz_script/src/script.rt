@@ -1,0 +1,13 @@
+use crate::command::Command;
+use ipcz_base::Sequence;
+
+/// A script: how many nodes and link words its world has, and the commands in the order in which they are run
+/// (docs/PROTOCOL.md, "The script").
+///
+/// `nodes` is from 1 to 8, and `words` from the number of first pairs to 4096.
+#[derive(Debug, Drop)]
+pub struct Script {
+    pub nodes: u8,
+    pub words: u32,
+    pub commands: Sequence<Command>,
+}

@@ -1,0 +1,327 @@
+ghost use Rattle.std.specs.Prelude.{◌≡◌, ◌≤◌, ◌+◌, ◌*◌, [], false, Some, None, OnOk, IfOk};
+ghost use Rattle.std.specs.FinMap.{get};
+ghost use Rattle.ipcz_node.specs.FirstPairs.{pairs_from, first_pairs_from};
+ghost use Rattle.ipcz_world.specs.Lawful.{IsWithinLimits};
+ghost use Rattle.ipcz_world.specs.Steps.{first_step};
+ghost use Rattle.ipcz_script.specs.Sessions.{AreTurns, Is, Runs, SettlesTo, TurnsTo, bind, bind_pair, bind_pairs, ends_from, heard, is_idle_reply, is_turn, is_want, new_session, opened, replied_close, replied_get, replied_put, with_world};
+ghost use Rattle.ipcz_world.specs.Holding.{shown_words};
+
+use crate::command::Command;
+use crate::names::Names;
+use crate::said::Said;
+use crate::text::Text;
+use crate::titles::Titles;
+use ipcz_base::{Bytes, End, Ends, Refusal, Sequence, Side};
+use ipcz_node::Happened;
+use ipcz_world::{Reply, Settled, Step, World};
+use std::alloc::{AllocError, Global};
+use std::marker::Model;
+
+/// The world that a script runs in, with the ends that its names are bound to and the names that its ends have
+/// (docs/PROTOCOL.md, "The script").
+#[derive(Drop)]
+pub struct Session {
+    world: World,
+    names: Names,
+    titles: Titles,
+    alloc: Global,
+}
+
+impl Model for Session {
+    ghost use Rattle.std.specs.FinMap.{code};
+    ghost use Rattle.std.specs.Coded.{codes};
+    ghost use Rattle.ipcz_script.specs.Sessions as value;
+
+    ghost Value = { value.Session };
+
+    ghost coded = { Prim.hlevel (codes, code) };
+
+    ghost view = { λ a. record { world = a.world; names = a.names; titles = a.titles } };
+}
+
+impl Session {
+    /// The opening world of so many nodes and link words, in which the names of the first pairs are bound.
+    pub fn new(alloc: Global, nodes: u8, words: u32) -> Result<Self, AllocError>
+        requires within { IsWithinLimits nodes words }
+        ensures session { IfOk result (λ session. session ≡ new_session nodes words) }
+    {
+        let Ok(world) = World::new(alloc, nodes, words) else {
+            return Err(AllocError);
+        };
+        let mut session = Session {
+            world,
+            names: Names::new(alloc),
+            titles: Titles::new(alloc),
+            alloc,
+        };
+        session.name_first_pairs(0, 0, nodes)?;
+        Ok(session)
+    }
+
+    /// The names that ends have.
+    pub fn titles(&self) -> &Titles
+        ensures titles { result.now ≡ self.now.titles }
+    {
+        &self.titles
+    }
+
+    // Binds a name to an end.
+    fn bind(&mut self, name: &str, end: End) -> Result<(), AllocError>
+        ensures { OnOk result (self.new ≡ bind self.old name.now end) }
+    {
+        self.names.bind(name, end)?;
+        self.titles.bind(end, name)
+    }
+
+    // Binds the names of the first pair of two nodes.
+    fn name_pair(&mut self, pair: u32, i: u8, j: u8) -> Result<(), AllocError>
+        ensures { OnOk result (self.new ≡ bind_pair self.old pair i j) }
+    {
+        let first = End {
+            pair,
+            side: Side::A,
+        };
+        let second = End {
+            pair,
+            side: Side::B,
+        };
+        let there = format!(in self.alloc; "{i}>{j}")?;
+        self.bind(there.as_str(), first)?;
+        let back = format!(in self.alloc; "{j}>{i}")?;
+        self.bind(back.as_str(), second)
+    }
+
+    // Binds the names of the first pairs of one node with so many others, from one on.
+    fn name_pairs(&mut self, pair: u32, i: u8, j: u8, left: u8) -> Result<(), AllocError>
+        requires nodes { j + left ≤ 8 }
+        requires pairs { pair + left ≤ 100 }
+        ensures { OnOk result (self.new ≡ bind_pairs self.old pair (pairs_from i j left)) }
+    {
+        if left == 0 {
+            return Ok(());
+        }
+        self.name_pair(pair, i, j)?;
+        self.name_pairs(pair + 1, i, j + 1, left - 1)
+    }
+
+    // Binds the names of the first pairs among so many nodes, from one on.
+    fn name_first_pairs(&mut self, pair: u32, i: u8, left: u8) -> Result<(), AllocError>
+        requires nodes { i + left ≤ 8 }
+        requires pairs { pair + 8 * left ≤ 100 }
+        ensures { OnOk result (self.new ≡ bind_pairs self.old pair (first_pairs_from i left)) }
+    {
+        if left == 0 {
+            return Ok(());
+        }
+        let others = left - 1;
+        self.name_pairs(pair, i, i + 1, others)?;
+        self.name_first_pairs(pair + u32::from(others), i + 1, others)
+    }
+
+    // A step that is no turn; want of memory is no reply.
+    fn step(&mut self, step: Step) -> Result<Reply, AllocError>
+        requires { is_turn step ≡ false }
+        ensures reply { IfOk result (λ reply. reply ≡ (first_step self.old.world step).reply) }
+        ensures session { OnOk result (self.new ≡ with_world self.old (first_step self.old.world step).world) }
+    {
+        let reply = self.world.step(&step);
+        if is_want(&reply) {
+            return Err(AllocError);
+        }
+        Ok(reply)
+    }
+
+    // The ends that these names are bound to, or none where one of them isn't bound.
+    fn ends_of(&self, names: &[Text]) -> Result<Option<Ends>, AllocError>
+        ensures { IfOk result (λ ends. ends ≡ ends_from self.now.names [] names.now) }
+    {
+        let mut ends = Vec::new(self.alloc);
+        for name in names {
+            let Some(end) = self.names.end_of(name.as_str()) else {
+                return Ok(None);
+            };
+            ends.push(end)?;
+        }
+        Ok(Some(Ends::from_vec(ends)))
+    }
+
+    #[tactic(auto, unfolding(crate::specs::Sessions::heard, crate::specs::Sessions::name_pair))]
+    fn open(&mut self, node: u8, first: &str, second: &str) -> Result<Said, AllocError>
+        ensures { IfOk result (λ said. Is (opened self.old first.now second.now (first_step self.old.world (Step.Open node))) said self.new) }
+    {
+        let reply = self.step(Step::Open(node))?;
+        if let Reply::Opened(a, b) = reply {
+            self.bind(first, a)?;
+            self.bind(second, b)?;
+            return Ok(Said::Opened);
+        }
+        heard(self.alloc, reply)
+    }
+
+    #[tactic(auto, unfolding(crate::specs::Sessions::known, crate::specs::Sessions::held))]
+    fn put(&mut self, at: &str, data: &str, attached: &[Text]) -> Result<Said, AllocError>
+        ensures { IfOk result (λ said. Is (replied_put self.old at.now data.now attached.now) said self.new) }
+    {
+        let Some(end) = self.names.end_of(at) else {
+            return Ok(Said::UnknownName);
+        };
+        let Some(ends) = self.ends_of(attached)? else {
+            return Ok(Said::UnknownName);
+        };
+        let Some(node) = self.world.holder_of(end) else {
+            return Ok(Said::Away);
+        };
+        let bytes = Bytes::from_vec(Vec::from_slice(self.alloc, data.as_bytes())?);
+        let reply = self.step(Step::Put {
+            node,
+            at: end,
+            bytes,
+            ends,
+        })?;
+        heard(self.alloc, reply)
+    }
+
+    #[tactic(auto, unfolding(crate::specs::Sessions::known, crate::specs::Sessions::held))]
+    fn get(&mut self, at: &str) -> Result<Said, AllocError>
+        ensures { IfOk result (λ said. Is (replied_get self.old at.now) said self.new) }
+    {
+        let Some(end) = self.names.end_of(at) else {
+            return Ok(Said::UnknownName);
+        };
+        let Some(node) = self.world.holder_of(end) else {
+            return Ok(Said::Away);
+        };
+        let reply = self.step(Step::Get { node, at: end })?;
+        heard(self.alloc, reply)
+    }
+
+    #[tactic(auto, unfolding(crate::specs::Sessions::known, crate::specs::Sessions::held))]
+    fn close(&mut self, at: &str) -> Result<Said, AllocError>
+        ensures { IfOk result (λ said. Is (replied_close self.old at.now) said self.new) }
+    {
+        let Some(end) = self.names.end_of(at) else {
+            return Ok(Said::UnknownName);
+        };
+        let Some(node) = self.world.holder_of(end) else {
+            return Ok(Said::Away);
+        };
+        let reply = self.step(Step::Close { node, at: end })?;
+        heard(self.alloc, reply)
+    }
+
+    // Lets a node take so many turns, ended at the first that is idle.
+    fn turn(&mut self, node: u8, count: u32) -> Result<Said, AllocError>
+        ensures turns { IfOk result (λ said. TurnsTo count node self.old.world said self.new.world) }
+        ensures session { OnOk result (self.new ≡ with_world self.old self.new.world) }
+    {
+        let turns = take_turns(self.alloc, &mut self.world, node, count)?;
+        Ok(Said::Turned(Sequence::from_vec(turns)))
+    }
+
+    fn settle(&mut self, limit: u32) -> Result<Said, AllocError>
+        ensures settles { IfOk result (λ said. SettlesTo limit self.old.world said self.new.world) }
+        ensures session { OnOk result (self.new ≡ with_world self.old self.new.world) }
+    {
+        match self.world.settle(u64::from(limit)) {
+            Ok(Settled::Settled { .. }) => Ok(Said::Settled),
+            Ok(Settled::Unsettled) => Ok(Said::Unsettled),
+            Err(Refusal::NumbersEnd) => Ok(Said::Unsettled),
+            Err(_) => Err(AllocError),
+        }
+    }
+
+    fn show(&self) -> Result<Said, AllocError>
+        ensures { IfOk result (λ said. said ≡ Said.Words (shown_words self.now.world)) }
+    {
+        let mut words = Vec::new(self.alloc);
+        for i in 0..self.world.claimed() {
+            let Some(word) = self.world.word(i) else {
+                unreachable!()
+            };
+            words.push(word)?;
+        }
+        Ok(Said::Words(Sequence::from_vec(words)))
+    }
+
+    /// Runs a command and gives its answer. Where no memory is found the run is over, and the session is of no more use.
+    pub fn run(&mut self, command: &Command) -> Result<Said, AllocError>
+        ensures runs { IfOk result (λ said. Runs self.old command.now said self.new) }
+    {
+        match command {
+            Command::Open {
+                node,
+                first,
+                second,
+            } => self.open(*node, first.as_str(), second.as_str()),
+            Command::Put { at, data, ends } => {
+                self.put(at.as_str(), data.as_str(), ends.as_slice())
+            }
+            Command::Get { at } => self.get(at.as_str()),
+            Command::Close { at } => self.close(at.as_str()),
+            Command::Turn { node, count } => self.turn(*node, *count),
+            Command::Settle { limit } => self.settle(*limit),
+            Command::Show => self.show(),
+        }
+    }
+}
+
+// Whether a reply says that no memory was found.
+#[tactic(auto, unfolding(crate::specs::Sessions::is_want))]
+fn is_want(reply: &Reply) -> bool
+    ensures { result ≡ is_want reply.now }
+{
+    matches!(reply, Reply::Refused(Refusal::OutOfMemory))
+}
+
+// Whether a reply is that of an idle turn.
+#[tactic(auto, unfolding(crate::specs::Sessions::is_idle_reply))]
+fn is_idle(reply: &Reply) -> bool
+    ensures { result ≡ is_idle_reply reply.now }
+{
+    matches!(reply, Reply::Turned(Happened::Idle))
+}
+
+// What a command is answered where a step of the world replies this.
+#[tactic(auto, unfolding(crate::specs::Sessions::heard))]
+fn heard(alloc: Global, reply: Reply) -> Result<Said, AllocError>
+    ensures { IfOk result (λ said. said ≡ heard reply) }
+{
+    match reply {
+        Reply::Opened(_, _) => Ok(Said::Opened),
+        Reply::Put(number) => Ok(Said::Put(number)),
+        Reply::Got(number, parcel) => Ok(Said::Got(number, parcel)),
+        Reply::Closed(number) => Ok(Said::Closed(number)),
+        Reply::Turned(event) => {
+            let mut turns = Vec::new(alloc);
+            turns.push(Reply::Turned(event))?;
+            Ok(Said::Turned(Sequence::from_vec(turns)))
+        }
+        Reply::Refused(why) => Ok(Said::Refused(why)),
+    }
+}
+
+// Lets a node take so many turns, ended at the first that is idle, and gives the replies.
+fn take_turns(
+    alloc: Global,
+    world: &mut World,
+    node: u8,
+    count: u32,
+) -> Result<Vec<Reply>, AllocError>
+    ensures { IfOk result (λ turns. AreTurns count node world.old turns.items world.new) }
+{
+    let mut turns = Vec::new(alloc);
+    let mut left = count;
+    while left > 0 {
+        let reply = world.step(&Step::Turn(node));
+        if is_want(&reply) {
+            return Err(AllocError);
+        }
+        let idle = is_idle(&reply);
+        turns.push(reply)?;
+        if idle {
+            return Ok(turns);
+        }
+        left -= 1;
+    }
+    Ok(turns)
+}

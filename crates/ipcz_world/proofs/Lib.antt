@@ -1,0 +1,15 @@
+pub mod Whole
+pub mod acts
+pub mod begins
+pub mod calls
+pub mod code
+pub mod facts
+pub mod flows
+pub mod frames
+pub mod hands
+pub mod lawful
+pub mod routes
+pub mod runs
+pub mod sends
+pub mod views
+pub mod weights

@@ -1,0 +1,169 @@
+-- The laws of worlds and their runs.
+use Rattle.ipcz_world.specs.Steps.{claim_for_open}
+use Rattle.ipcz_world.specs.Remembering.{opening_records}
+use Rattle.std.proofs.Common.{◌∙◌}
+use Rattle.ipcz_world.specs.declared.step.Step.TheVariants as steps
+use Rattle.ipcz_world.specs.Steps.{AnyAct}
+use Rattle.std.specs.Prelude.{◌≡◌, Bool, true, false, ◌&&◌, nat_eq, refl}
+use Rattle.std.proofs.Common.{arith, ap, subst, sym}
+use Rattle.std.proofs.lemmas.Bool.Decides.{nat_tests}
+use Rattle.ipcz_world.specs.World.{new_world}
+use Rattle.ipcz_world.specs.Books.{no_books}
+use Rattle.ipcz_world.specs.Routes.{first_routes}
+use Rattle.ipcz_world.specs.WorldLaws.{LawfulGivesHeadline, LawfulStraysNothing, LawfulOwes, TerminalsKeepBooks, EndsStandOnce}
+use Rattle.ipcz_world.specs.WorldLaws.{ListsHaveLengths, NodesAreSound, SettlesByTurns, RefusedSettleStands, QuietDelivers, OneNodeIsDirect}
+use Rattle.ipcz_world.specs.WorldLaws.{StartsLawful, StepKeepsLawful, FirstIsPossible, ClaimKeepsLawful, RepliesPlainly, BeginsLocked}
+use Rattle.ipcz_world.specs.WorldLaws.{LinksStay, HeadlineHolds, ItemsStandOnce, NothingStrays}
+use Rattle.ipcz_world.proofs.calls.CallReplies.{reply-open, reply-put, reply-get, reply-close}
+use Rattle.ipcz_world.proofs.runs.TurnReplies.{reply-turn, begins_locked}
+use Rattle.ipcz_world.proofs.runs.Starting.{starts}
+use Rattle.ipcz_world.proofs.calls.CallTurns.{claim-kept}
+use Rattle.ipcz_world.proofs.runs.Running.{StartsKept, starts_lawful, lawful_by, step_keeps_lawful, links_stay_by, headline_by}
+use Rattle.ipcz_world.proofs.runs.Running.{headline_holds, nothing_strays}
+use Rattle.ipcz_world.proofs.runs.Keeping.{steps_keep}
+use Rattle.ipcz_world.proofs.runs.Running.{reached_lawful, run_keeps}
+use Rattle.ipcz_world.proofs.lawful.OneNode.{IsAlone, HasNone, alone-kept, alone-new, direct}
+use Rattle.ipcz_world.proofs.lawful.Quiet.{quiet_delivers}
+use Rattle.ipcz_world.proofs.lawful.Settles.{refused_settle_stands}
+use Rattle.ipcz_world.proofs.lawful.SettleLaws.{settles}
+use Rattle.ipcz_world.proofs.runs.BoundedSteps.{bounded-claim_for_open}
+use Rattle.ipcz_world.proofs.runs.FlaggedSteps.{flagged-claim_for_open}
+use Rattle.ipcz_world.proofs.runs.FlagsAgree.{agreed-claim_for_open}
+use Rattle.ipcz_world.proofs.lawful.OwedLaws as owed
+use Rattle.ipcz_world.proofs.lawful.LengthLaws.{length_law}
+use Rattle.ipcz_world.proofs.lawful.StrayLaws.{stray_law}
+use Rattle.ipcz_world.specs.Laws.{EndLaw}
+use Rattle.ipcz_world.specs.WorldLaws.{HandsFit}
+use Rattle.ipcz_world.proofs.lawful.FittingHands.{hands_fit}
+use Rattle.ipcz_world.proofs.lawful.EndLaws.{end_law}
+use Rattle.ipcz_world.proofs.lawful.Soundness.{node_is_sound}
+use Rattle.ipcz_world.proofs.runs.Choosing.{first_is_possible}
+use Rattle.ipcz_world.proofs.lawful.EachOnce.{items_stand_once}
+
+starts_kept : StartsKept
+starts_kept nodes words limits = let t = starts nodes words limits in record { records = t.0; inv = t.2; routes = t.1 }
+
+-- the world at the start is lawful
+pub world_starts_lawful : StartsLawful
+world_starts_lawful = starts_lawful starts_kept
+
+-- each step keeps a world lawful, whichever possible act a turn takes
+pub each_step_keeps_lawful : StepKeepsLawful
+each_step_keeps_lawful = step_keeps_lawful steps_keep
+
+-- a step in which a turn takes the first act is one in which it takes a possible act
+pub first_acts_are_possible : FirstIsPossible
+first_acts_are_possible = first_is_possible
+
+-- the first half of an open keeps a world lawful
+pub claim_keeps_lawful : ClaimKeepsLawful
+claim_keeps_lawful w b g n law l room none = let t = claim-kept w b law.records n law.inv room none in
+    lawful_by (claim_for_open w n) b (opening_records law.records n w.claimed) g t.0 (t.1 ∙ law.routes)
+    (flagged-claim_for_open w n law.flagged) (agreed-claim_for_open w n law.agreed)
+    (bounded-claim_for_open w b law.records law.inv law.bounded n l)
+
+-- the word of a link stays that for good, and of the same pair
+pub links_stay : LinksStay
+links_stay = links_stay_by steps_keep
+
+-- the sentence holds after every list of steps from the start
+pub the_headline_holds : HeadlineHolds
+the_headline_holds = headline_holds world_starts_lawful each_step_keeps_lawful
+
+-- where it holds, each item that the peer hasn't read stands in one place, and no other item in any
+pub each_item_stands_once : ItemsStandOnce
+each_item_stands_once = items_stand_once
+
+-- after every list of steps from the start no message but a Flush finds its router gone
+pub nothing_ever_strays : NothingStrays
+nothing_ever_strays = nothing_strays world_starts_lawful each_step_keeps_lawful
+
+-- each reply is one that the machine over the books alone allows
+pub replies_plainly : RepliesPlainly
+replies_plainly w v b g (steps.Open n) reply law s = reply-open AnyAct w b law.records n reply v law.inv s
+replies_plainly w v b g (steps.Put n at bytes ends) reply law s = reply-put AnyAct w b law.records n at bytes ends reply v law.inv s
+replies_plainly w v b g (steps.Get n at) reply law s = reply-get AnyAct w b law.records n at reply v law.inv s
+replies_plainly w v b g (steps.Close n at) reply law s = reply-close AnyAct w b law.records n at reply v law.inv s
+replies_plainly w v b g (steps.Turn n) reply law s = reply-turn w b law.records law.inv v n reply s
+
+-- each bypass begins only under the lock of its own side
+pub each_begins_locked : BeginsLocked
+each_begins_locked = begins_locked
+
+-- where nothing waits, a get on a direct pair is Empty only where all that the peer has put was got
+pub each_quiet_delivers : QuietDelivers
+each_quiet_delivers = quiet_delivers
+
+both : (a c : Bool) → (a && c) ≡ true → (a ≡ true) × (c ≡ true)
+both true c e = (refl, e)
+both false c e = cc
+
+-- on one node each open pair is direct
+pub one_node_is_direct : OneNodeIsDirect
+one_node_is_direct words w b g pair is tells =
+    let law = reached_lawful world_starts_lawful each_step_keeps_lawful 1 words w b g is in
+    let alone = run_keeps IsAlone HasNone alone-kept each_step_keeps_lawful (new_world 1 words) no_books (first_routes 1) is.steps
+    is.replies w b g (world_starts_lawful 1 words is.limits) (alone-new words) is.run in
+    let t = both (g.is_link pair) (nat_eq (g.pair pair) pair) tells in
+    let own : g.pair pair ≡ pair = grind (arith, nat_tests, t.1) in
+    direct w b law.records law.inv alone pair (ap (λ z. z.is_link pair) law.routes ∙ t.0) (ap (λ z. z.pair pair) law.routes ∙ own)
+
+-- where settling is refused, the turns before the refused one stand
+pub each_refused_settle_stands : RefusedSettleStands
+each_refused_settle_stands = refused_settle_stands
+
+-- settling is turns in passes over the nodes
+pub each_settles_by_turns : SettlesByTurns
+each_settles_by_turns = settles each_step_keeps_lawful first_acts_are_possible
+
+-- the sentence holds of every lawful world
+pub lawful_worlds_give_the_headline : LawfulGivesHeadline
+lawful_worlds_give_the_headline = headline_by
+
+-- in a lawful world lengths agree and nothing strays
+pub lawful_worlds_stray_nothing : LawfulStraysNothing
+lawful_worlds_stray_nothing w b g law = (length_law w b law.records law.inv, stray_law w b law.records law.inv)
+
+-- what is owed so far
+pub lawful_worlds_owe : LawfulOwes
+lawful_worlds_owe w b g law = record {
+  flagged = law.flagged;
+  agreed = law.agreed;
+  length_to = owed.length_to w b law.records law.inv;
+  length_from = owed.length_from w b law.records law.inv;
+}
+
+-- a terminal's numbers are those of its end's books
+pub terminals_keep_books : TerminalsKeepBooks
+terminals_keep_books w b g law = record {
+  next = law.conserved.reach;
+  current = law.conserved.current;
+  sink = law.conserved.sink;
+  open_drops_nothing = λ k r here is open_. law.conserved.gone_closed r.end (sym (law.conserved.sink k r here is) ∙ open_);
+  moving_next = law.conserved.move_out;
+  moving_current = law.conserved.move_in;
+  moving_open = law.conserved.move_open;
+  gone_closed = law.conserved.gone_closed;
+}
+
+-- a lawful world's lists are as long as its numbers say
+pub lists_have_lengths : ListsHaveLengths
+lists_have_lengths w b g law = record {
+  nodes = law.bounded.nodes;
+  words = law.bounded.words;
+  mail = law.bounded.mailboxes;
+  claimed = law.inv.counts.claimed;
+  few = law.bounded.few;
+}
+
+-- each node of a lawful world is sound
+pub nodes_are_sound : NodesAreSound
+nodes_are_sound w b g n law l = node_is_sound w b law.records law.inv n l
+
+-- each end of an open pair is in one place
+pub ends_stand_once : EndsStandOnce
+ends_stand_once w b g law = subst (EndLaw w b) law.routes (end_law w b law.records law.inv)
+
+-- each message in hand fits, but a Flush may find its router gone
+pub messages_in_hand_fit : HandsFit
+messages_in_hand_fit = hands_fit each_step_keeps_lawful

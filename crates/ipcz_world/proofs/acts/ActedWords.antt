@@ -1,0 +1,52 @@
+-- A node's acts on words, its claims and its rests in the world are the updates.
+use Rattle.std.specs.Prelude.{◌≡◌, ◌<◌, ◌≤◌, ℕ, true, false, nat_lt, Some, refl}
+use Rattle.std.proofs.Common.{arith}
+use Rattle.std.proofs.lemmas.Bool.Decides.{nat_tests}
+use Rattle.ipcz_word.specs.Word.{Plan, Locks, Waits, Refuses, plan_of, planned}
+use Rattle.ipcz_router.specs.Router.{Router, primary_word}
+use Rattle.ipcz_router.specs.ActEffects.{apply, output_of}
+use Rattle.ipcz_router.specs.declared.act.RouterAct.TheVariants as acts
+use Rattle.ipcz_node.specs.declared.act.Act.TheVariants.{Router as OfRouter}
+use Rattle.ipcz_node.specs.Node.{on_router, router_in}
+use Rattle.ipcz_node.specs.Sends.{send}
+use Rattle.ipcz_node.specs.Acts.{commit, commit_router, keep_or_drop}
+use Rattle.ipcz_world.specs.World.{World, node_at, word_at, router_at, set_node, set_word, set_claimed}
+use Rattle.ipcz_world.specs.Turns.{after_act, after_router_act}
+use Rattle.ipcz_world.specs.WordAnswers.{touch, touch_word, word_after, answer_of, link_answer, word_answer, try_answer}
+use Rattle.ipcz_world.specs.Acts.{lock_act, unlock_act, claim_act, dry_act, rest_act}
+
+pub acted-rest : (w : World) (n s : ℕ) (r : Router) → router_at w (record { node = n; serial = s }) ≡ Some r →
+    after_act w n (OfRouter s acts.Rest) ≡ rest_act w (record { node = n; serial = s }) r
+unfolding after_act after_router_act touch commit on_router commit_router keep_or_drop apply output_of send router_at
+acted-rest w n s r here = let inside : router_in (node_at w n) s ≡ Some r = here in rw (here, inside) refl
+
+pub acted-unlock : (w : World) (n s i : ℕ) (r : Router) → router_at w (record { node = n; serial = s }) ≡ Some r → primary_word r ≡ Some i →
+    after_act w n (OfRouter s acts.Unlock) ≡ unlock_act w (record { node = n; serial = s }) r i
+unfolding after_act after_router_act touch touch_word word_after answer_of link_answer word_answer commit on_router commit_router
+    keep_or_drop apply output_of send router_at set_word set_node
+acted-unlock w n s i r here word = let inside : router_in (node_at w n) s ≡ Some r = here in rw (here, inside, word) refl
+
+pub acted-lock : (w : World) (n s i : ℕ) (r : Router) (plan : Plan) → router_at w (record { node = n; serial = s }) ≡ Some r →
+    primary_word r ≡ Some i → plan_of (word_at w i) r.end.side ≡ plan →
+    after_act w n (OfRouter s acts.Lock) ≡ lock_act w (record { node = n; serial = s }) r i plan
+unfolding after_act after_router_act touch touch_word word_after answer_of link_answer word_answer try_answer planned commit on_router
+    commit_router keep_or_drop apply output_of send router_at set_word set_node
+acted-lock w n s i r Locks here word is = let inside : router_in (node_at w n) s ≡ Some r = here in rw (here, inside, word, is) refl
+acted-lock w n s i r Waits here word is = let inside : router_in (node_at w n) s ≡ Some r = here in rw (here, inside, word, is) refl
+acted-lock w n s i r Refuses here word is = let inside : router_in (node_at w n) s ≡ Some r = here in rw (here, inside, word, is) refl
+
+pub acted-claim : (w : World) (n s : ℕ) (r : Router) → router_at w (record { node = n; serial = s }) ≡ Some r → w.claimed < w.size →
+    after_act w n (OfRouter s acts.Claim) ≡ claim_act w (record { node = n; serial = s }) r
+unfolding after_act after_router_act touch answer_of commit on_router commit_router keep_or_drop apply output_of send router_at set_claimed
+    set_node
+acted-claim w n s r here left =
+    let inside : router_in (node_at w n) s ≡ Some r = here in let some : nat_lt w.claimed w.size ≡ true = grind (arith, left, nat_tests) in
+    rw (here, inside, some) refl
+
+pub acted-dry : (w : World) (n s : ℕ) (r : Router) → router_at w (record { node = n; serial = s }) ≡ Some r → w.size ≤ w.claimed →
+    after_act w n (OfRouter s acts.Claim) ≡ dry_act w (record { node = n; serial = s }) r
+unfolding after_act after_router_act touch answer_of commit on_router commit_router keep_or_drop apply output_of send router_at set_claimed
+    set_node
+acted-dry w n s r here left =
+    let inside : router_in (node_at w n) s ≡ Some r = here in let none : nat_lt w.claimed w.size ≡ false = grind (arith, left, nat_tests) in
+    rw (here, inside, none) refl

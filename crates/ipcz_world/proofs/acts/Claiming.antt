@@ -1,0 +1,251 @@
+-- A proxy claims a word: the invariant is kept.
+use Rattle.ipcz_world.specs.Routes.{source as source'}
+use Rattle.std.specs.Prelude.{◌≡◌, ◌≢◌, ◌⊎◌, ◌<◌, ◌+◌, ◌*◌, ℕ, Bool, true, false, cond, not, nat_eq, Option, Some, None, is_some, refl}
+use Rattle.std.proofs.Common.{arith, sym, ◌∙◌, ap, inl, inr}
+use Rattle.std.proofs.lemmas.Bool.Decides.{nat_tests}
+use Rattle.ipcz_base.specs.declared.link_id.LinkId.TheVariants.{Central}
+use Rattle.ipcz_base.specs.declared.link_id.LinkId.{LinkId}
+use Rattle.ipcz_base.specs.declared.link_end.LinkEnd.{LinkEnd}
+use Rattle.ipcz_word.specs.SideSets.{has}
+use Rattle.ipcz_router.specs.Router.{Router}
+use Rattle.ipcz_router.specs.ActTable.{is_possible}
+use Rattle.ipcz_router.specs.ActEffects.{claim_word}
+use Rattle.ipcz_router.specs.declared.act.RouterAct.TheVariants as acts
+use Rattle.ipcz_base.specs.Links.{word_of}
+use Rattle.ipcz_world.specs.World.{World, Key, same_key, word_at, mail_at, way, router_at, set_router}
+use Rattle.ipcz_world.proofs.frames.Frames.{frames, same_key_tells, same_key-itself}
+use Rattle.ipcz_world.specs.Books.{Books}
+use Rattle.ipcz_world.specs.Records.{Records, Owner, Unclaimed, Spare, Fresh, Linked, Opening, is_linked, is_unclaimed, is_recorded}
+use Rattle.ipcz_world.specs.Records.{side_router, side_node}
+use Rattle.ipcz_world.specs.Remembering.{claim_records}
+use Rattle.ipcz_world.specs.Places.{Weight, names_end}
+use Rattle.ipcz_world.proofs.weights.OfRecords.{in_places}
+use Rattle.ipcz_world.specs.Standing.{key_passes, spare_of}
+use Rattle.ipcz_world.proofs.frames.StandingRules.{standing_rules}
+use Rattle.ipcz_world.specs.Acts.{CanAct, claim_act}
+use Rattle.ipcz_world.specs.Inv.{Inv}
+use Rattle.ipcz_world.proofs.frames.OneRouter.{SameButRouter, set-router, set-claimed}
+use Rattle.ipcz_world.proofs.flows.SameMessages.{recorded-same, told-same, moves-same}
+use Rattle.ipcz_world.proofs.frames.GivingUp.{was, Gives, same-messages, ordered-gives, links-gives, positions-gives}
+use Rattle.ipcz_world.proofs.frames.GivenUp.{Settled, stays}
+use Rattle.ipcz_world.proofs.frames.GivingUp.{stands-gives}
+use Rattle.ipcz_world.proofs.frames.GivenUp.{stages-flags, terminals-gives, end_places-gives, books-gives, items-gives}
+use Rattle.ipcz_world.proofs.frames.GivenUp.{order-gives, proxy_numbers-gives, fresh_numbers-gives, conserved-gives, held_once-gives}
+use Rattle.ipcz_world.proofs.acts.Flags.{IsFlagged, flagged-part, flagged-settled}
+use Rattle.ipcz_world.proofs.begins.BegunNumbers.{places-sources}
+use Rattle.ipcz_world.proofs.frames.Owners.{linked-owned, recorded-owned, links-owned, positions-owned, stands-owned, stages-owned}
+use Rattle.ipcz_world.proofs.frames.Owners.{moves-owned, told-owned, terminals-owned, items-owned, order-owned, proxy_numbers-owned}
+use Rattle.ipcz_world.proofs.frames.Owners.{fresh_numbers-owned}
+
+unclaimed-is : (x : Owner) → is_unclaimed x ≡ true → x ≡ Unclaimed
+unfolding is_unclaimed
+unclaimed-is Unclaimed e = refl
+unclaimed-is (Spare k) e = absurd (grind (arith, e))
+unclaimed-is (Opening n) e = absurd (grind (arith, e))
+unclaimed-is (Fresh o) e = absurd (grind (arith, e))
+unclaimed-is Linked e = absurd (grind (arith, e))
+
+pub inv-claim : (w : World) (b : Books) (g : Records) (k : Key) (r : Router) → Inv w b g → CanAct w k r acts.Claim → w.claimed < w.size →
+    Inv (claim_act w k r) b (claim_records g k w.claimed)
+unfolding is_possible is_unclaimed is_linked spare_of source' word_of side_router side_node
+inv-claim w b g k r law can left = record {
+  counts = record {
+    node = λ n e. grind (arith, (one.nodes n).node, one.count, law.counts.node n, e);
+    nodes = λ n e. grind (arith, (one.nodes n).nodes, one.count, law.counts.nodes n, e);
+    claimed = grind (arith, frames, left);
+    unclaimed = λ j. grind (arith, frames, law.counts.unclaimed j, nat_tests);
+    on_node = λ q z at. let o = was gives q z at in grind (arith, one.count, law.counts.on_node q o.router o.at);
+    serial = λ q z at. let o = was gives q z at in grind (arith, (one.nodes q.node).next_router, law.counts.serial q o.router o.at);
+    side_serial = λ l s q a e. grind (arith, (one.nodes q.node).next_router, law.counts.side_serial l s q (sym (recorded l) ∙ a) e);
+    side_on_node = λ l s a. grind (arith, one.count, law.counts.side_on_node l s (sym (recorded l) ∙ a));
+    hand = λ n from a e. grind (arith, one.count, mail n from, (one.nodes n).hand, law.counts.hand n from, a, e);
+    hand_from = λ n from a e. grind (arith, one.count, (one.nodes n).hand, law.counts.hand_from n from, a, e);
+    in_hand = λ n from a d e. grind (arith, one.count, mail n from, (one.nodes n).hand, law.counts.in_hand n from, a, d, e);
+  };
+  ordered = ordered-gives w v k r (Some y) gives law.ordered;
+  shape = record {
+    role = λ q z at. grind (arith, one.routers q, same_key_tells q k, law.shape.role q z, law.shape.role k r can.here);
+    marked_central = λ q z at m. grind (
+      arith,
+      one.routers q,
+      same_key_tells q k,
+      law.shape.marked_central q z,
+      law.shape.marked_central k r can.here,
+    );
+    marked_still = λ q z at m. grind (
+      arith,
+      one.routers q,
+      same_key_tells q k,
+      law.shape.marked_still q z,
+      law.shape.marked_still k r can.here,
+    );
+    holds_marked = λ q z at m. grind (
+      arith,
+      one.routers q,
+      same_key_tells q k,
+      law.shape.holds_marked q z,
+      law.shape.holds_marked k r can.here,
+    );
+    holds_proxy = λ q z at m. grind (
+      arith,
+      one.routers q,
+      same_key_tells q k,
+      law.shape.holds_proxy q z,
+      law.shape.holds_proxy k r can.here,
+    );
+    holds_spare = λ q z at m. grind (arith, one.routers q, same_key_tells q k, law.shape.holds_spare q z);
+    spare_proxy = λ q z j at m. grind (arith, one.routers q, same_key_tells q k, law.shape.spare_proxy q z j, can.possible);
+    spare_primary = λ q z j at m. grind (arith, one.routers q, same_key_tells q k, law.shape.spare_primary q z j, primary);
+  };
+  links = links-owned v b g i (Spare k) unlinked refl (links-gives w v g k r (Some y) gives law.links);
+  positions = positions-owned v b g i (Spare k) unlinked refl (positions-gives w v g k r (Some y) gives law.positions);
+  stands = stands-owned v b g i (Spare k) unlinked refl (stands-gives w v g k r (Some y) gives law.stands);
+  words = record {
+    unused = λ j a. grind (arith, frames, law.words.unused j, linked j, a);
+    begun_stable = λ j s a. grind (arith, frames, law.words.begun_stable j s, a);
+    begun_holder = λ j s a. grind (arith, frames, law.words.begun_holder j s, a);
+    stable = λ j s l a. ap (λ x. has x.stable s) (word j) ∙ law.words.stable j s (sym (linked j) ∙ l) a ∙ sym
+        (flag (λ z. z.marked) refl (side_router g (Central j) s));
+    holder = λ j s l a. ap (λ x. has x.holder s) (word j) ∙ law.words.holder j s (sym (linked j) ∙ l) a ∙ sym
+        (flag (λ z. z.holds) refl (side_router g (Central j) s));
+    held_stable = λ j s t a. grind (arith, frames, law.words.held_stable j s t, a);
+    one_holder = λ j s t a d. grind (arith, frames, law.words.one_holder j s t, a, d);
+  };
+  spares = record {
+    spare = λ q z j at e. grind (arith, one.routers q, same_key_tells q k, law.spares.spare q z j, mine, e, at, nat_tests);
+    spare_back = λ q j e. back q j e (nat_eq j i) refl;
+    opening = λ n j e. grind (arith, (one.nodes n).opening, law.spares.opening n j, mine, e, nat_tests);
+    opening_back = λ n j e. grind (arith, (one.nodes n).opening, law.spares.opening_back n j, e, nat_tests);
+    fresh = λ o j e. grind (arith, law.spares.fresh o j, e, nat_tests);
+    fresh_back = λ o j e. grind (arith, law.spares.fresh_back o j, e, nat_tests);
+  };
+  bypasses = record {
+    stage = law.bypasses.stage;
+    old = λ j a. linked j ∙ law.bypasses.old j a;
+    inner = λ j a. recorded _ ∙ law.bypasses.inner j a;
+    inner_by = law.bypasses.inner_by;
+    pair = law.bypasses.pair;
+    proxy_old = law.bypasses.proxy_old;
+    proxy_inner = law.bypasses.proxy_inner;
+    across = law.bypasses.across;
+    fresh = λ j a. owner (g.bypass j).fresh (Fresh j) (law.bypasses.fresh j a) (λ e. grind (arith, e, mine));
+    fresh_linked = λ j a. owner (g.bypass j).fresh Linked (law.bypasses.fresh_linked j a) (λ e. grind (arith, e, mine));
+    fresh_born = law.bypasses.fresh_born;
+    fresh_pair = law.bypasses.fresh_pair;
+    inner_known = law.bypasses.inner_known;
+    fresh_inner = law.bypasses.fresh_inner;
+    fresh_inner_node = law.bypasses.fresh_inner_node;
+    fresh_across_node = law.bypasses.fresh_across_node;
+    fresh_awaited = law.bypasses.fresh_awaited;
+    fresh_across = law.bypasses.fresh_across;
+    born_fresh = λ j o l e. law.bypasses.born_fresh j o (sym (linked j) ∙ l) e;
+    born_stage = λ j o l e. law.bypasses.born_stage j o (sym (linked j) ∙ l) e;
+  };
+  stages = stages-owned v b g i (Spare k) unlinked refl (stages-flags w v g k r (Some y) gives settled law.stages
+      (λ o a d. flag (λ z. z.marked) refl _ ∙ law.stages.across_marked o a d)
+      (λ o a d. flag (λ z. not z.holds) refl _ ∙ law.stages.across_free o a d));
+  told = told-owned v b g i (Spare k) unlinked refl (told-same w v g (same-messages one) law.told);
+  moves = moves-owned v b g i (Spare k) unlinked refl (moves-same w v g (same-messages one) law.moves);
+  terminals = terminals-owned v b g i (Spare k) unlinked refl (terminals-gives w v g k r (Some y) gives law.terminals);
+  end_places = let e = end_places-gives w v g k r (Some y) gives law.end_places in
+      record { held = e.held; pending = e.pending; out = e.out; inn = e.inn; within = e.within };
+  books_kept = let e = books-gives w v b g k r (Some y) gives law.books_kept in
+      record { own_pair = e.own_pair; mark_last = e.mark_last; numbers = e.numbers; mark_seen = e.mark_seen };
+  items = items-owned v b g i (Spare k) unlinked refl (items-gives w v g k r (Some y) gives settled law.items);
+  order = order-owned v b g i (Spare k) unlinked refl (order-gives w v g k r (Some y) gives law.order);
+  proxy_numbers = proxy_numbers-owned v b g i (Spare k) unlinked refl
+      (proxy_numbers-gives w v g k r (Some y) gives settled law.proxy_numbers);
+  fresh_numbers = fresh_numbers-owned v b g i (Spare k) unlinked refl (fresh_numbers-gives w v g k r (Some y) gives law.fresh_numbers);
+  conserved = let e = conserved-gives w v b g k r (Some y) gives (law.counts.on_node k r gives.here) law.conserved in record {
+    exact = λ d f. places _ ∙ e.exact d f;
+    read_put = e.read_put;
+    prefix = e.prefix;
+    gone_closed = e.gone_closed;
+    reach = e.reach;
+    current = e.current;
+    sink = e.sink;
+    move_out = e.move_out;
+    move_in = e.move_in;
+    move_open = e.move_open;
+    unopened_put = e.unopened_put;
+    unopened_got = e.unopened_got;
+  };
+  held_once = let e = held_once-gives w v b g k r (Some y) gives (law.counts.on_node k r gives.here) law.held_once in
+      record { once = λ d. omega (arith, e.once d, places (names_end d)); moves_in_parcel = e.moves_in_parcel };
+  no_strays = λ n. (one.nodes n).strays ∙ law.no_strays n;
+}
+  where
+    i : ℕ
+    i = w.claimed
+
+    y : Router
+    y = claim_word r i
+
+    v : World
+    v = claim_act w k r
+
+    one : SameButRouter w v k (Some y)
+    one = set-claimed w (set_router w k y) k (Some y) (i + 1) (set-router w k y)
+
+    mine : g.owner i ≡ Unclaimed
+    mine = unclaimed-is (g.owner i) (law.counts.unclaimed i ∙ grind (arith, nat_tests))
+
+    unlinked : is_linked (g.owner i) ≡ false
+    unlinked = ap is_linked mine
+
+    linked : (j : ℕ) → is_linked ((claim_records g k i).owner j) ≡ is_linked (g.owner j)
+    linked j = linked-owned v b g i (Spare k) unlinked refl j
+
+    same : IsFlagged r y
+    same = record { end = refl; outward = refl; inward = refl; out_queue = refl; in_queue = refl; closed = refl; mark_seen = refl }
+
+    gives : Gives w v k r (Some y)
+    gives = stays w v k r y one can.here (flagged-part r y same)
+
+    settled : Settled w v g k r (Some y)
+    settled = flagged-settled w v b g k r y law can.here same
+
+    recorded : (l : LinkId) → is_recorded v (claim_records g k i) l ≡ is_recorded w g l
+    recorded l = recorded-owned v b g i (Spare k) unlinked refl l ∙ recorded-same w v g l (same-messages one)
+
+    word : (j : ℕ) → word_at v j ≡ word_at w j
+    word j = grind (arith, frames)
+
+    primary : is_some r.outward.primary ≡ true
+    primary = go r.outward.primary refl
+      where
+        go : (e : Option LinkEnd) → r.outward.primary ≡ e → is_some r.outward.primary ≡ true
+        go None e = absurd (grind (arith, can.possible, e))
+        go (Some x) e = ap is_some e
+
+    mail : (n from : ℕ) → mail_at v (way v from n) ≡ mail_at w (way w from n)
+    mail n from = one.mail (way v from n) ∙ ap (λ j. mail_at w (from * j + n)) one.count
+
+    flag : (test : Router → Bool) → test y ≡ test r → (q : Option Key) → key_passes v q test ≡ key_passes w q test
+    flag test e None = grind (arith, standing_rules)
+    flag test e (Some q) = grind (arith, standing_rules, one.routers q, can.here, same_key_tells q k, e)
+
+    owner : (j : ℕ) (x : Owner) → g.owner j ≡ x → (g.owner i ≡ x → ⊥) → (claim_records g k i).owner j ≡ x
+    owner j x e apart = go (nat_eq j i) refl
+      where
+        go : (t : Bool) → nat_eq j i ≡ t → (claim_records g k i).owner j ≡ x
+        go true n = absurd (apart (let f : i ≡ j = grind (arith, n, nat_tests) in ap g.owner f ∙ e))
+        go false n = grind (arith, n, e)
+
+    spare_same : (p q : Key) → Spare p ≡ Spare q → p ≡ q
+    spare_same p q e = cc
+
+    back : (q : Key) (j : ℕ) → (claim_records g k i).owner j ≡ Spare q → (t : Bool) → nat_eq j i ≡ t → spare_of (router_at v q) ≡ Some j
+    back q j h true n = let f : j ≡ i = grind (arith, n, nat_tests) in let e : k ≡ q =
+        spare_same k q (sym (ap (λ t. cond t (Spare k) (g.owner j)) n) ∙ h) in grind (arith, one.routers q, e, same_key-itself q, f)
+    back q j h false n = go (same_key_tells q k)
+      where
+        e : spare_of (router_at w q) ≡ Some j
+        e = law.spares.spare_back q j (grind (arith, h, n))
+
+        go : ((same_key q k ≡ true) × (q ≡ k)) ⊎ ((same_key q k ≡ false) × (q ≢ k)) → spare_of (router_at v q) ≡ Some j
+        go (inl a) = absurd (grind (arith, e, a, can.here, can.possible))
+        go (inr a) = grind (arith, e, a, one.routers q)
+
+    places : (f : Weight) → in_places f (claim_records g k i) v ≡ in_places f g v
+    places f = places-sources f g (claim_records g k i) v (λ l s. refl)

@@ -1,0 +1,676 @@
+-- A bypass begins: what is said of messages, items and numbers is kept.
+use Rattle.ipcz_world.proofs.weights.OfRecords.{holds, held_times}
+use Rattle.ipcz_world.specs.Places.{in_message as in_message', in_node as in_node', in_places as in_places'}
+use Rattle.std.specs.Prelude.{◌≡◌, ◌≢◌, ◌⊎◌, ◌≤◌, ◌<◌, ℕ, zero, suc, ◌+◌, Bool, true, false, cond, nat_eq, Option, Some, None, is_some}
+use Rattle.std.specs.Prelude.{List, [], ◌∷◌, slice_get, refl}
+use Rattle.std.proofs.Common.{arith, sym, ◌∙◌, ap, subst, inl, inr}
+use Rattle.std.proofs.lemmas.Bool.Decides.{nat_tests}
+use Rattle.std.proofs.lemmas.Option.{same_Some, none-some}
+use Rattle.ipcz_base.specs.declared.side.Side.{Side}
+use Rattle.ipcz_base.specs.declared.side.Side.TheVariants.{A, B}
+use Rattle.ipcz_base.specs.declared.end.End.{End}
+use Rattle.ipcz_base.specs.declared.link_id.LinkId.{LinkId}
+use Rattle.ipcz_base.specs.declared.link_id.LinkId.TheVariants.{Central, Peripheral}
+use Rattle.ipcz_base.specs.declared.link_end.LinkEnd.{LinkEnd}
+use Rattle.ipcz_base.specs.declared.descriptor.Descriptor.{Descriptor}
+use Rattle.ipcz_base.specs.declared.item.Item.{Item}
+use Rattle.ipcz_base.specs.declared.message.Message.{Message}
+use Rattle.ipcz_base.specs.declared.message.Message.TheVariants as messages
+use Rattle.ipcz_base.specs.Sides.{opposite}
+use Rattle.ipcz_base.specs.Ends.{same_end, has_end, opposite_end}
+use Rattle.ipcz_base.specs.Links.{has_link, same_link}
+use Rattle.ipcz_router.specs.Router.{Router}
+use Rattle.ipcz_node.specs.Hands.{has_moved}
+use Rattle.ipcz_world.specs.World.{World, Key, same_key, node_at, router_at, flow}
+use Rattle.ipcz_world.proofs.frames.Frames.{same_key_tells}
+use Rattle.ipcz_world.specs.Books.{Books, is_closed}
+use Rattle.ipcz_world.specs.Records.{Records, Bypass, Terminal, Nowhere, Moving, Retired, terminal_descriptor, key_at, At, is_linked}
+use Rattle.ipcz_world.specs.Records.{is_begun, is_recorded, is_nowhere, inner_link, bypass_of, side_router, side_node, side_length}
+use Rattle.ipcz_world.specs.Records.{proxy_side, across_side}
+use Rattle.ipcz_world.proofs.frames.RecordRules.{side_router-inner, side_router-proxy, side_node-proxy, is_recorded-central}
+use Rattle.ipcz_world.proofs.weights.OfRecords.{source}
+use Rattle.ipcz_world.specs.Remembering.{begin_records}
+use Rattle.ipcz_world.specs.Flows.{IsUnderWay, makes, is_made_by, is_made_before, under_way, of_end, moves_of}
+use Rattle.ipcz_world.specs.Places.{Weight, in_router, at_end, names_end, times}
+use Rattle.ipcz_base.specs.Totals.{total_below, total_list}
+use Rattle.ipcz_world.proofs.weights.OfRecords.{in_message, in_node, in_places}
+use Rattle.ipcz_world.specs.Standing.{Standing, view, view_by, router_view, is_attached, sending_queue, fed_queue, next_sent, taking_queue}
+use Rattle.ipcz_world.specs.Standing.{may_have_sent, is_gone, is_awaited}
+use Rattle.ipcz_world.specs.Structure.{Ordered}
+use Rattle.ipcz_world.specs.Bypasses.{Told, Moves, inner_of, of_bypass, control_weight, move_weight, moving_link}
+use Rattle.ipcz_world.specs.Whereabouts.{Terminals, EndPlaces, BooksKept, Conserved, HeldOnce, times_held}
+use Rattle.ipcz_world.specs.Numbers.{Items, Order, ProxyNumbers, FreshNumbers, IsItemUnderWay, has_passed, standing_router}
+use Rattle.ipcz_world.specs.Inv.{Inv}
+use Rattle.ipcz_world.proofs.weights.Sums.{total_below-same}
+use Rattle.ipcz_world.proofs.weights.Weights.{in_option}
+use Rattle.ipcz_world.proofs.facts.LinkTests.{same_link-itself, same_link-tells}
+use Rattle.ipcz_world.proofs.views.Views.{Stood, view_rules}
+use Rattle.ipcz_world.proofs.flows.Flowing.{total_list-found, CameFrom, IsLast, came_pushed, under_way-pushed, found, made_within}
+use Rattle.ipcz_world.proofs.flows.Flowing.{made_last}
+use Rattle.ipcz_world.proofs.begins.Beginning.{Begins}
+use Rattle.ipcz_world.proofs.begins.BegunRecords.{linked-begun, end_at, inner_router, router-begun, node-begun, end-begun, source-begun}
+use Rattle.ipcz_world.proofs.begins.BegunRecords.{view-begun, length-begun, begun-here, begun-else, side-begun}
+use Rattle.ipcz_world.proofs.begins.BegunWorld.{Sends}
+use Rattle.ipcz_world.proofs.begins.BegunLinks.{IsBegunFrom, still-by, before, rec-begun, passes-begun, side-here}
+
+-- totals of functions that agree
+pub total_list-same : {X : Type 0} (f h : X → ℕ) (xs : List X) → ((x : X) → f x ≡ h x) → total_list f xs ≡ total_list h xs
+total_list-same f h [] e = refl
+total_list-same f h (x ∷ xs) e = omega (arith, e x, total_list-same f h xs e)
+
+total_list-agrees : {X : Type 0} (f h : X → ℕ) (xs : List X) → ((i : ℕ) (x : X) → slice_get xs i ≡ Some x → f x ≡ h x) →
+    total_list f xs ≡ total_list h xs
+total_list-agrees f h [] e = refl
+total_list-agrees f h (x ∷ xs) e = omega (arith, e 0 x refl, total_list-agrees f h xs (λ i y. e (suc i) y))
+
+total_below-agrees : (n : ℕ) (f h : ℕ → ℕ) → ((i : ℕ) → i < n → f i ≡ h i) → total_below n f ≡ total_below n h
+total_below-agrees zero f h e = refl
+total_below-agrees (suc n) f h e = omega (arith, e n (omega arith), total_below-agrees n f h (λ i l. e i (omega arith)))
+
+-- what is under way weighs the same by functions that agree on it
+pub under_way-agrees : (f h : ℕ → ℕ → Message → ℕ) (w : World) → ((from to i : ℕ) (m : Message) → IsUnderWay w from to i m →
+    f from to m ≡ h from to m) → under_way f w ≡ under_way h w
+unfolding under_way
+under_way-agrees f h w e = total_below-agrees w.count _ _ (λ from a. total_below-agrees w.count _ _
+    (λ to b. total_list-agrees (f from to) (h from to) (flow w from to)
+    (λ i m p. e from to i m (record { sender = a; receiver = b; place = p }))))
+
+message-sources : (f : Weight) (g h : Records) → ((l : LinkId) (s : Side) → source h l s ≡ source g l s) → (m : Message) →
+    in_message f h m ≡ in_message f g m
+unfolding in_message'
+message-sources f g h same (messages.Item l s n item moves) = ap (λ e. f e n item) (same l s)
+message-sources f g h same (messages.BypassPeer l s o t n) = refl
+message-sources f g h same (messages.AcceptBypass o s n t) = refl
+message-sources f g h same (messages.StopProxying o s n t) = refl
+message-sources f g h same (messages.ProxyWillStop l s n) = refl
+message-sources f g h same (messages.Flush l s) = refl
+
+-- places weigh the same by records that tell the same sources
+pub places-sources : (f : Weight) (g h : Records) (v : World) → ((l : LinkId) (s : Side) → source h l s ≡ source g l s) →
+    in_places f h v ≡ in_places f g v
+unfolding in_places' in_node'
+places-sources f g h v same = omega (
+  arith,
+  total_below-same v.count (λ n. in_node f h (node_at v n)) (λ n. in_node f g (node_at v n))
+      (λ n. omega (arith, total_list-same (in_message f h) (in_message f g) (node_at v n).strays message)),
+  under_way-agrees (λ from to m. in_message f h m) (λ from to m. in_message f g m) v (λ from to i m u. message m),
+)
+  where
+    message : (m : Message) → in_message f h m ≡ in_message f g m
+    message m = message-sources f g h same m
+
+-- who carries a descriptor makes its link's router
+moved : (l : LinkId) (ds : List Descriptor) (i : ℕ) (d : Descriptor) → slice_get ds i ≡ Some d → d.link ≡ l → has_moved l ds ≡ true
+moved l [] i d e f = cc
+moved l (x ∷ ds) zero d e f = let a : x.link ≡ l = ap (λ t. t.link) (same_Some x d e) ∙ f in grind (arith, a, same_link-itself l)
+moved l (x ∷ ds) (suc i) d e f = grind (arith, moved l ds i d e f)
+
+of_link : (e : End) (l : LinkId) (d : Descriptor) → 1 ≤ of_end e (λ x. cond (same_link x.link l) 1 0) d → d.link ≡ l
+of_link e l d h = go (same_end d.end e) (same_link d.link l) refl refl
+  where
+    go : (s t : Bool) → same_end d.end e ≡ s → same_link d.link l ≡ t → d.link ≡ l
+    go true true p q = same_link-tells d.link l q
+    go true false p q = absurd (grind (arith, h, p, q))
+    go false t p q = absurd (grind (arith, h, p))
+
+carries : (l : LinkId) (m : Message) (j : ℕ) (d : Descriptor) → slice_get (moves_of m) j ≡ Some d → d.link ≡ l → makes l B m ≡ true
+unfolding moves_of makes
+carries l (messages.Item k s n item moves) j d e f = moved l moves j d e f
+carries l (messages.BypassPeer k s o t n) j d e f = absurd (none-some d e)
+carries l (messages.AcceptBypass o s n t) j d e f = absurd (none-some d e)
+carries l (messages.StopProxying o s n t) j d e f = absurd (none-some d e)
+carries l (messages.ProxyWillStop k s n) j d e f = absurd (none-some d e)
+carries l (messages.Flush k s) j d e f = absurd (none-some d e)
+
+-- the message of a begin
+abbrev pub begin_message : LinkEnd → LinkEnd → ℕ → ℕ → Message
+begin_message into out o fresh = messages.BypassPeer into.link (opposite into.side) o out.other fresh
+
+module _ (w v : World) (b : Books) (g : Records) (k : Key) (r y : Router) (p : Key) (into out : LinkEnd) (o fresh : ℕ) (law : Inv w b g)
+    (is : Begins w g k r p into out o fresh) (c : Sends w v k y into.other (begin_message into out o fresh))
+    (new : IsBegunFrom r y into out) where
+  -- the records after the begin
+  abbrev after : Records
+  after = begin_records g k o fresh p
+
+  was_there : (q : Key) (z : Router) → router_at v q ≡ Some z → ((router_at w q ≡ Some z) × (q ≢ k)) ⊎ ((q ≡ k) × (z ≡ y))
+  was_there = before w v b g k r y p into out o fresh into.other (begin_message into out o fresh) law is c new
+
+  rec : (l : LinkId) → is_recorded v after l ≡ is_recorded w g l
+  rec = rec-begun w v b g k r y p into out o fresh into.other (begin_message into out o fresh) law is c new
+
+  -- a message was under way, or is the one of the begin
+  came : (from to i : ℕ) (m : Message) → IsUnderWay v from to i m →
+      CameFrom w v from to i m ⊎ IsLast w k.node into.other (begin_message into out o fresh) from to i m
+  came from to i m u = came_pushed w v k.node into.other (begin_message into out o fresh) c.pushed from to i m u
+
+  pub ordered-begun : Ordered v
+  ordered-begun = record {
+    out = λ q z n item at i. elim (was_there q z at) [
+      | inl a ↦ law.ordered.out q z n item a.0 i
+      | inr a ↦ grind
+          (arith, a.1, new.out_queue, law.ordered.out k r n item is.here, i)
+    ];
+    inn = λ q z n item at i. elim (was_there q z at) [
+      | inl a ↦ law.ordered.inn q z n item a.0 i
+      | inr a ↦ grind
+          (arith, a.1, new.in_queue, law.ordered.inn k r n item is.here, i)
+    ];
+  }
+
+  -- an item, or a message with descriptors, is no begin
+  item-came : {X : Type 0} (from to i : ℕ) (l : LinkId) (s : Side) (n : ℕ) (item : Item) (moves : List Descriptor) →
+      IsItemUnderWay v from to i l s n item moves → (CameFrom w v from to i (messages.Item l s n item moves) → X) → X
+  item-came from to i l s n item moves u old = elim (came from to i _ u) [ inl e ↦ old e | inr e ↦ absurd (grind (arith, e.message)) ]
+
+  move-came : {X : Type 0} (from to i j : ℕ) (m : Message) (d : Descriptor) → IsUnderWay v from to i m → slice_get (moves_of m) j ≡ Some d →
+      (CameFrom w v from to i m → X) → X
+  unfolding moves_of
+  move-came from to i j m d u e old = elim (came from to i m u) [
+    | inl a ↦ old a
+    | inr a ↦ absurd
+        (none-some d (ap (λ t. slice_get (moves_of t) j) (sym a.message) ∙ e))
+  ]
+
+  pub moves-begun : Moves v after
+  unfolding moves_of
+  moves-begun = record {
+    ends = λ from to i l s n item moves u. item-came from to i l s n item moves u (λ e. law.moves.ends from to e.at l s n item moves e.was);
+    within = λ n i l s number item moves u. item-came n n i l s number item moves u
+        (λ e. law.moves.within n e.at l s number item moves e.was);
+    recorded = λ from to i j m d u f. move-came from to i j m d u f (λ e. rec d.link ∙ law.moves.recorded from to e.at j m d e.was f);
+    peripheral = λ from to i j m d u f. move-came from to i j m d u f (λ e. law.moves.peripheral from to e.at j m d e.was f);
+    sender = λ from to i j m d u f. move-came from to i j m d u f
+        (λ e. node-begun g k o fresh p d.link A ∙ law.moves.sender from to e.at j m d e.was f);
+    receiver = λ from to i j m d u f. move-came from to i j m d u f
+        (λ e. node-begun g k o fresh p d.link B ∙ law.moves.receiver from to e.at j m d e.was f);
+    awaited = λ from to i j m d u f. move-came from to i j m d u f
+        (λ e. router-begun g k o fresh p d.link B ∙ law.moves.awaited from to e.at j m d e.was f);
+    end = λ from to i j m d u f. move-came from to i j m d u f (λ e. end-begun g k o fresh p d.link B ∙ law.moves.end from to e.at j m d
+        e.was f);
+    one = λ e f. omega (
+      arith,
+      under_way-pushed (λ from to m. total_list (of_end e f) (moves_of m)) w v k.node into.other
+          (begin_message into out o fresh) c.pushed,
+      law.moves.one e f,
+    );
+    moving = λ q a f. ap (λ t. moving_link (g.terminal t)) (end_at g k o fresh p q) ∙ law.moves.moving q (sym (rec (inner_link q)) ∙ a)
+        (sym (inner_router g k o fresh p q) ∙ f);
+  }
+
+  pub terminals-begun : Terminals v after
+  terminals-begun = record {
+    terminal = λ q z at t. elim (was_there q z at) [
+      | inl a ↦ law.terminals.terminal q z a.0 t
+      | inr a ↦ absurd
+          (grind (arith, a.1, new.terminal, t))
+    ];
+    stands = λ e q t. passes-begun w v b g k r y p into out o fresh into.other (begin_message into out o fresh) law is c new _ (Some q)
+        (law.terminals.stands e q t) (λ u f. absurd (grind (arith, is.proxy, f)));
+    opened = λ q z at. elim (was_there q z at) [
+      | inl a ↦ law.terminals.opened q z a.0
+      | inr a ↦ ap (λ t. is_nowhere (g.terminal t.end)) a.1
+          ∙ ap (λ t. is_nowhere (g.terminal t)) new.end ∙ law.terminals.opened k r is.here
+    ];
+    link_opened = λ l s a. ap (λ t. is_nowhere (g.terminal t)) (end-begun g k o fresh p l s) ∙ law.terminals.link_opened l s
+        (sym (rec l) ∙ a);
+    both = law.terminals.both;
+    unopened = λ e a. law.terminals.unopened e (sym (linked-begun g k o fresh p e.pair is.owner) ∙ a);
+    other_pair = λ e a n. law.terminals.other_pair e (sym (linked-begun g k o fresh p e.pair is.owner) ∙ a) n;
+  }
+
+  pub end_places-begun : EndPlaces v after
+  end_places-begun = record {
+    held = λ n e a. law.end_places.held n e (sym (ap (holds e) (c.nodes n).held) ∙ a);
+    pending = λ n e a. law.end_places.pending n e (sym (ap (has_end e) (c.nodes n).pending) ∙ a);
+    out = λ q z n item e at i d. elim (was_there q z at) [
+      | inl a ↦ law.end_places.out q z n item e a.0 i d
+      | inr a ↦ grind
+          (arith, a, new.out_queue, law.end_places.out k r n item e is.here, i, d)
+    ];
+    inn = λ q z n item e at i d. elim (was_there q z at) [
+      | inl a ↦ law.end_places.inn q z n item e a.0 i d
+      | inr a ↦ grind
+          (arith, a, new.in_queue, law.end_places.inn k r n item e is.here, i, d)
+    ];
+    within = λ n i l s number item moves e u d. item-came n n i l s number item moves u
+        (λ f. law.end_places.within n f.at l s number item moves e f.was d);
+  }
+
+  pub books-begun : BooksKept v b after
+  books-begun = record {
+    own_pair = law.books_kept.own_pair;
+    mark_last = law.books_kept.mark_last;
+    numbers = law.books_kept.numbers;
+    mark_seen = λ q z at e. elim (was_there q z at) [
+      | inl a ↦ law.books_kept.mark_seen q z a.0 e
+      | inr a ↦ ap
+          (λ t. is_closed b (opposite_end t.end)) a.1 ∙ ap (λ t. is_closed b (opposite_end t)) new.end ∙ law.books_kept.mark_seen k r
+          is.here
+          (sym (ap (λ t. t.mark_seen) a.1 ∙ new.mark_seen) ∙ e)
+    ];
+  }
+
+  -- its links are the same, in other positions
+  attached-same : (l : LinkId) (s : Side) → is_attached l s y ≡ is_attached l s r
+  unfolding is_attached has_link
+  attached-same (Central i) s = grind (arith, new.primary, new.decaying, is.outer, is.still)
+  attached-same (Peripheral n x) A = grind (arith, new.inward_primary, new.inward_decaying, is.inner, is.inward_still)
+  attached-same (Peripheral n x) B = grind (arith, new.primary, new.decaying, is.outer, is.still)
+
+  -- a side is seen as before, or with the router after its begin
+  abbrev Sees : LinkId → Side → Type 0
+  Sees l s = (view v after l s ≡ view w g l s) ⊎ ((view w g l s ≡ Standing r) × (view v after l s ≡ Standing y))
+
+  sees : (l : LinkId) (s : Side) → Sees l s
+  unfolding view_by router_view
+  sees l s = subst (λ a. (a ≡ view w g l s) ⊎ ((view w g l s ≡ Standing r) × (a ≡ Standing y))) (sym (view-begun v g k o fresh p l s))
+      (go (side_router g l s))
+    where
+      at : (q : Key) → ((same_key q k ≡ true) × (q ≡ k)) ⊎ ((same_key q k ≡ false) × (q ≢ k)) →
+          (router_view l s (router_at v q) ≡ router_view l s (router_at w q)) ⊎
+          ((router_view l s (router_at w q) ≡ Standing r) × (router_view l s (router_at v q) ≡ Standing y))
+      at q (inr e) = inl (let f : router_at v q ≡ router_at w q = grind (arith, e, c.routers q) in ap (router_view l s) f)
+      at q (inl e) = has (is_attached l s r) refl
+        where
+          old : router_at w q ≡ Some r
+          old = ap (router_at w) e.1 ∙ is.here
+
+          now : router_at v q ≡ Some y
+          now = grind (arith, e, c.routers q)
+
+          has : (t : Bool) → is_attached l s r ≡ t → (router_view l s (router_at v q) ≡ router_view l s (router_at w q)) ⊎
+              ((router_view l s (router_at w q) ≡ Standing r) × (router_view l s (router_at v q) ≡ Standing y))
+          has true f = inr (grind (arith, old, f), grind (arith, now, attached-same l s, f))
+          has false f = inl (grind (arith, old, now, attached-same l s, f))
+
+      go : (q : Option Key) → (view_by v g l s q ≡ view_by w g l s q) ⊎
+          ((view_by w g l s q ≡ Standing r) × (view_by v g l s q ≡ Standing y))
+      go None = inl refl
+      go (Some q) = at q (same_key_tells q k)
+
+  sending-same : (l : LinkId) (s : Side) → sending_queue l s y ≡ sending_queue l s r
+  unfolding sending_queue
+  sending-same (Central i) s = new.out_queue
+  sending-same (Peripheral n x) A = new.in_queue
+  sending-same (Peripheral n x) B = new.out_queue
+
+  fed-same : (l : LinkId) (s : Side) → fed_queue l s y ≡ fed_queue l s r
+  unfolding fed_queue
+  fed-same (Central i) s = new.in_queue
+  fed-same (Peripheral n x) A = new.out_queue
+  fed-same (Peripheral n x) B = new.in_queue
+
+  next-same : (l : LinkId) (s : Side) → next_sent l s (view v after l s) ≡ next_sent l s (view w g l s)
+  next-same l s = elim (sees l s) [ inl e ↦ ap (next_sent l s) e | inr e ↦ grind (arith, view_rules, e, sending-same l s) ]
+
+  taking-same : (l : LinkId) (s : Side) → taking_queue l s (view v after l s) ≡ taking_queue l s (view w g l s)
+  taking-same l s = elim (sees l s) [ inl e ↦ ap (taking_queue l s) e | inr e ↦ grind (arith, view_rules, e, fed-same l s) ]
+
+  sent-same : (l : LinkId) (s : Side) → may_have_sent (view v after l s) ≡ may_have_sent (view w g l s)
+  sent-same l s = elim (sees l s) [ inl e ↦ ap may_have_sent e | inr e ↦ grind (arith, view_rules, e) ]
+
+  gone-same : (l : LinkId) (s : Side) → is_gone (view v after l s) ≡ is_gone (view w g l s)
+  gone-same l s = elim (sees l s) [ inl e ↦ ap is_gone e | inr e ↦ grind (arith, view_rules, e) ]
+
+  awaited-same : (l : LinkId) (s : Side) → is_awaited (view v after l s) ≡ is_awaited (view w g l s)
+  awaited-same l s = elim (sees l s) [ inl e ↦ ap is_awaited e | inr e ↦ grind (arith, view_rules, e) ]
+
+  stood : (l : LinkId) (s : Side) (q : Router) → standing_router (view v after l s) ≡ Some q → Stood (view w g l s) q
+  stood l s q h = elim (sees l s) [
+    | inl e ↦ record { router = q; stood = sym (ap standing_router e) ∙ h; out_queue = refl }
+    | inr e ↦ record { router = r; stood = grind (arith, view_rules, e); out_queue = grind (arith, view_rules, e, new.out_queue, h) }
+  ]
+
+  len : (l : LinkId) (s : Side) → side_length after l s ≡ side_length g l s
+  len l s = length-begun g k o fresh p l s is.inner_free is.live law.stands.by_begun
+
+  pub items-begun : Items v after
+  items-begun = record {
+    recorded = λ from to i l s n item moves u. item-came from to i l s n item moves u
+        (λ e. rec l ∙ law.items.recorded from to e.at l s n item moves e.was);
+    sender = λ from to i l s n item moves u. item-came from to i l s n item moves u
+        (λ e. law.items.sender from to e.at l s n item moves e.was ∙ sym (node-begun g k o fresh p l (opposite s)));
+    receiver = λ from to i l s n item moves u. item-came from to i l s n item moves u
+        (λ e. law.items.receiver from to e.at l s n item moves e.was ∙ sym (node-begun g k o fresh p l s));
+    below_length = λ from to i l s n item moves length u f. item-came from to i l s n item moves u
+        (λ e. law.items.below_length from to e.at l s n item moves length e.was (sym (len l (opposite s)) ∙ f));
+    was_sent = λ from to i l s n item moves a u f. item-came from to i l s n item moves u
+        (λ e. law.items.was_sent from to e.at l s n item moves a e.was (sym (next-same l (opposite s)) ∙ f));
+    by_sender = λ from to i l s n item moves u. item-came from to i l s n item moves u
+        (λ e. sent-same l (opposite s) ∙ law.items.by_sender from to e.at l s n item moves e.was);
+    sender_gone = λ from to i l s n item moves u f. item-came from to i l s n item moves u
+        (λ e. ap is_some (len l (opposite s)) ∙ law.items.sender_gone from to e.at l s n item moves e.was
+        (sym (gone-same l (opposite s)) ∙ f));
+    not_passed = λ from to i l s n item moves q u f. item-came from to i l s n item moves u
+        (λ e. law.items.not_passed from to e.at l s n item moves q e.was (sym (taking-same l s) ∙ f));
+    behind = λ from to i l s n item moves u f. item-came from to i l s n item moves u
+        (λ e. e.made l s (law.items.behind from to e.at l s n item moves e.was (sym (awaited-same l s) ∙ f)));
+    not_awaited_low = λ from to i j s n item moves a u f d. item-came from to i (Central j) s n item moves u
+        (λ e. born from to e.at j s n item moves a e.was f d);
+    receiver_there = λ from to i l s n item moves u. item-came from to i l s n item moves u
+        (λ e. gone-same l s ∙ law.items.receiver_there from to e.at l s n item moves e.was);
+  }
+    where
+      born : (from to i j : ℕ) (s : Side) (n : ℕ) (item : Item) (moves : List Descriptor) (a : ℕ) →
+          IsItemUnderWay w from to i (Central j) s n item moves → (g.central j).router s ≡ None → (g.central j).born ≡ Some a →
+          (after.bypass a).taken_at ≤ n
+      born from to i j s n item moves a u f d =
+          let l : is_linked (g.owner j) ≡ true = sym (is_recorded-central w g j) ∙ law.items.recorded from to i (Central j) s n item moves u
+          in
+          let t : 2 ≤ (g.bypass a).stage = law.bypasses.born_stage j a l d in
+          let e : nat_eq a o ≡ false = apart a t (nat_eq a o) refl in
+          subst (λ z. z.taken_at ≤ n) (sym (begun-else g k o fresh p a e)) (law.items.not_awaited_low from to i j s n item moves a u f d)
+        where
+          apart : (a : ℕ) → 2 ≤ (g.bypass a).stage → (t : Bool) → nat_eq a o ≡ t → nat_eq a o ≡ false
+          apart a t true e = absurd (let f : a ≡ o = grind (arith, e, nat_tests) in grind (arith, t, f, is.live, nat_tests))
+          apart a t false e = e
+
+  pub order-begun : Order v after
+  order-begun = record {
+    current = λ l s u q a d e f. law.order.current l s u q (sym (rec l) ∙ a) (sym (next-same l (opposite s)) ∙ d)
+        (sym (taking-same l s) ∙ e) (sym (ap (λ t. has_passed t u) (len l (opposite s))) ∙ f);
+    stored = λ l s u q n item a d e i f. law.order.stored l s u q n item (sym (rec l) ∙ a) (sym (next-same l (opposite s)) ∙ d)
+        (sym (taking-same l s) ∙ e) i (sym (ap (λ t. has_passed t n) (len l (opposite s))) ∙ f);
+  }
+
+  pub fresh_numbers-begun : FreshNumbers v after
+  fresh_numbers-begun = record {
+    own = λ q z i d n at a e f. elim (was_there q z at) [
+      | inl x ↦ law.fresh_numbers.own q z i d n x.0 a e f
+      | inr x ↦ absurd
+          (none-some i (sym (ap (λ t. t.outward.primary) x.1 ∙ new.primary) ∙ a))
+    ];
+    comes = λ q z i d length from to j n item moves at a e f u. elim (was_there q z at) [
+      | inl x ↦ item-came from to j i.link i.side n item moves u (λ t. law.fresh_numbers.comes q z i d length from to t.at n item moves x.0
+          a e (sym (len d.link (opposite d.side)) ∙ f) t.was)
+      | inr x ↦ absurd (none-some i (sym (ap (λ t. t.outward.primary) x.1 ∙ new.primary) ∙ a))
+    ];
+    other = λ q z x i d n at a e f t. elim (was_there q z at) [
+      | inl j ↦ let s = stood i.link (opposite i.side) x t in grind
+          (arith, s.out_queue, law.fresh_numbers.other q z s.router i d n j.0 a e (sym (len d.link (opposite d.side)) ∙ f) s.stood)
+      | inr j ↦ absurd (none-some i (sym (ap (λ t. t.outward.primary) j.1 ∙ new.primary) ∙ a))
+    ];
+  }
+
+  proxy-then : (j : ℕ) (z : Router) → is_begun (g.bypass j) ≡ true → nat_eq j o ≡ false → router_at v (after.bypass j).proxy ≡ Some z →
+      router_at w (g.bypass j).proxy ≡ Some z
+  proxy-then j z a n at = elim (was_there (g.bypass j).proxy z (ap (λ t. router_at v t.proxy) (sym (begun-else g k o fresh p j n)) ∙ at))
+      [ inl e ↦ e.0 | inr e ↦ absurd (is.unbegun j a e.0) ]
+
+  -- a bypass of a later stage is another, and as it was
+  later : (j n : ℕ) → 2 ≤ n → n ≤ (after.bypass j).stage → nat_eq j o ≡ false
+  later j n a d = go (nat_eq j o) refl
+    where
+      go : (t : Bool) → nat_eq j o ≡ t → nat_eq j o ≡ false
+      go true e = absurd (let f : j ≡ o = grind (arith, e, nat_tests) in let u : (after.bypass j).stage ≡ 1 =
+          ap (λ t. (after.bypass t).stage) f ∙ ap (λ t. t.stage) (begun-here g k o fresh p) in omega (arith, u, a, d))
+      go false e = e
+
+  late : (j n : ℕ) → nat_eq j o ≡ false → n ≤ (after.bypass j).stage → n ≤ (g.bypass j).stage
+  late j n e d = subst (λ t. n ≤ t.stage) (begun-else g k o fresh p j e) d
+
+  -- the proxy of a later bypass, before
+  earlier : (j n : ℕ) (z : Router) → 2 ≤ n → n ≤ (after.bypass j).stage → router_at v (after.bypass j).proxy ≡ Some z →
+      router_at w (g.bypass j).proxy ≡ Some z
+  earlier j n z a d at = let e = later j n a d in proxy-then j z (let f : n ≤ (g.bypass j).stage = late j n e d in
+      grind (arith, f, a, nat_tests)) e at
+
+  pub proxy_numbers-begun : ProxyNumbers v after
+  proxy_numbers-begun = record {
+    out_current = λ j z at a. let e = later j 2 (omega arith) a in
+        subst (λ t. z.out_queue.current ≤ t.taken_at) (sym (begun-else g k o fresh p j e))
+        (law.proxy_numbers.out_current j z (earlier j 2 z (omega arith) a at) (late j 2 e a));
+    out_items = λ j z n item at a i. let e = later j 2 (omega arith) a in
+        subst (λ t. n < t.taken_at) (sym (begun-else g k o fresh p j e))
+        (law.proxy_numbers.out_items j z n item (earlier j 2 z (omega arith) a at) (late j 2 e a) i);
+    in_current = λ j z at a. let e = later j 3 (omega arith) a in
+        subst (λ t. z.in_queue.current ≤ t.accepted_at) (sym (begun-else g k o fresh p j e))
+        (law.proxy_numbers.in_current j z (earlier j 3 z (omega arith) a at) (late j 3 e a));
+    in_items = λ j z n item at a i. let e = later j 3 (omega arith) a in
+        subst (λ t. n < t.accepted_at) (sym (begun-else g k o fresh p j e))
+        (law.proxy_numbers.in_items j z n item (earlier j 3 z (omega arith) a at) (late j 3 e a) i);
+    across_gone = λ j z at a f. let e = later j 3 (omega arith) a in
+        subst (λ t. t.taken_at ≤ z.out_queue.current) (sym (begun-else g k o fresh p j e))
+        (law.proxy_numbers.across_gone j z (earlier j 3 z (omega arith) a at) (late j 3 e a)
+        (ap (λ t. is_gone (view w g (Central j) (opposite t))) (sym (side-begun g k o fresh p j e)) ∙ sym
+        (gone-same (Central j) (across_side after j)) ∙ f));
+    inner_gone = λ j z at a f. let e = later j 5 (omega arith) (omega (arith, a)) in
+        subst (λ t. t.accepted_at ≤ z.in_queue.current) (sym (begun-else g k o fresh p j e))
+        (law.proxy_numbers.inner_gone j z (earlier j 5 z (omega arith) (omega (arith, a)) at)
+        (sym (ap (λ t. t.stage) (begun-else g k o fresh p j e)) ∙ a)
+        (ap (λ t. is_gone (view w g (inner_link t.inner) B)) (sym (begun-else g k o fresh p j e)) ∙ sym (gone-same (inner_of after j) B) ∙
+        f));
+    out_finished = λ j z at a f. let e = later j 4 (omega arith) a in
+        subst (λ t. t.taken_at ≤ z.out_queue.current) (sym (begun-else g k o fresh p j e))
+        (law.proxy_numbers.out_finished j z (earlier j 4 z (omega arith) a at) (late j 4 e a) f);
+    in_finished = λ j z at a f. let e = later j 4 (omega arith) a in
+        subst (λ t. t.accepted_at ≤ z.in_queue.current) (sym (begun-else g k o fresh p j e))
+        (law.proxy_numbers.in_finished j z (earlier j 4 z (omega arith) a at) (late j 4 e a) f);
+  }
+
+  -- nothing is lost or made
+  places-begun : (f : Weight) → in_places f after v ≡ in_places f g w
+  unfolding in_router in_message'
+  places-begun f = places-sources f g after v (source-begun g k o fresh p) ∙ omega (arith, c.places f g, ap (in_option f) is.here, same)
+    where
+      same : in_router f y ≡ in_router f r
+      same = grind (arith, new.end, new.out_queue, new.in_queue)
+
+  pub conserved-begun : Conserved v b after
+  conserved-begun = record {
+    exact = λ e f. places-begun (at_end e f) ∙ law.conserved.exact e f;
+    read_put = law.conserved.read_put;
+    prefix = law.conserved.prefix;
+    gone_closed = law.conserved.gone_closed;
+    reach = λ q z at t. elim (was_there q z at) [
+      | inl a ↦ law.conserved.reach q z a.0 t
+      | inr a ↦ absurd
+          (grind (arith, a.1, new.terminal, t))
+    ];
+    current = λ q z at t. elim (was_there q z at) [
+      | inl a ↦ law.conserved.current q z a.0 t
+      | inr a ↦ absurd
+          (grind (arith, a.1, new.terminal, t))
+    ];
+    sink = λ q z at t. elim (was_there q z at) [
+      | inl a ↦ law.conserved.sink q z a.0 t
+      | inr a ↦ absurd (grind (arith, a.1, new.terminal, t))
+    ];
+    move_out = λ from to i j m d u f. move-came from to i j m d u f (λ e. law.conserved.move_out from to e.at j m d e.was f);
+    move_in = λ from to i j m d u f. move-came from to i j m d u f (λ e. law.conserved.move_in from to e.at j m d e.was f);
+    move_open = λ from to i j m d u f. move-came from to i j m d u f (λ e. law.conserved.move_open from to e.at j m d e.was f);
+    unopened_put = law.conserved.unopened_put;
+    unopened_got = law.conserved.unopened_got;
+  }
+
+  pub held_once-begun : HeldOnce v b after
+  held_once-begun = record {
+    once = λ e. omega (arith, law.held_once.once e, places-begun (names_end e), held e);
+    moves_in_parcel = λ from to i l s n item moves j d u f. item-came from to i l s n item moves u
+        (λ e. law.held_once.moves_in_parcel from to e.at l s n item moves j d e.was f);
+  }
+    where
+      held : (e : End) → times_held v e ≡ times_held w e
+      held e = ap (λ n. total_below n (λ i. held_times e (node_at v i).held + times e (node_at v i).pending)) c.count
+          ∙ total_below-same w.count _ _ (λ i. omega (arith, ap (held_times e) (c.nodes i).held, ap (times e) (c.nodes i).pending))
+
+  -- a flush or an end's message is no begin
+  pub told-begun : Told v after
+  unfolding of_bypass control_weight terminal_descriptor move_weight
+  told-begun = record {
+    control = λ j f. under_way-pushed (λ from to. of_bypass after j (f from to)) w v k.node into.other (begin_message into out o fresh)
+        c.pushed ∙ control j f (nat_eq j o) refl;
+    will_stop = λ from to i l s n u. elim (came from to i _ u) [
+      | inl e ↦ let t = law.told.will_stop from to e.at l s n e.was in
+          ap is_some (still-by w v b g k r y p into out o fresh into.other (begin_message into out o fresh) law is c new l t) ∙ t
+      | inr e ↦
+          absurd (grind (arith, e.message))
+    ];
+    behind = λ from to i l s old target n u f. elim (came from to i _ u) [
+      | inl e ↦ e.made l s (law.told.behind from to e.at l s old target n e.was (sym (router-begun g k o fresh p l s) ∙ f))
+      | inr e ↦ last from to i l s old target n e (sym (router-begun g k o fresh p l s) ∙ f)
+    ];
+    flush_central = λ from to i l s u. elim (came from to i _ u) [
+      | inl e ↦ law.told.flush_central from to e.at l s e.was
+      | inr e ↦ absurd
+          (grind (arith, e.message))
+    ];
+    flush_recorded = λ from to i l s u. elim (came from to i _ u)
+        [ inl e ↦ rec l ∙ law.told.flush_recorded from to e.at l s e.was | inr e ↦ absurd (grind (arith, e.message)) ];
+    flush_to = λ from to i l s u. elim (came from to i _ u) [
+      | inl e ↦ law.told.flush_to from to e.at l s e.was ∙ sym
+          (node-begun g k o fresh p l s)
+      | inr e ↦ absurd (grind (arith, e.message))
+    ];
+    flush_from = λ from to i l s u. elim (came from to i _ u) [
+      | inl e ↦ law.told.flush_from from to e.at l s e.was ∙ sym
+          (node-begun g k o fresh p l (opposite s))
+      | inr e ↦ absurd (grind (arith, e.message))
+    ];
+  }
+    where
+      -- what is under way is of_bypass a bypass as before
+      about-same : (j : ℕ) (f : Message → ℕ) (m : Message) → ((l : LinkId) (t : Side) (n : ℕ) → m ≡ messages.ProxyWillStop l t n →
+          is_some (bypass_of g l) ≡ true) → of_bypass after j f m ≡ of_bypass g j f m
+      about-same j f (messages.Item l t n item moves) a = refl
+      about-same j f (messages.BypassPeer l t old target n) a = refl
+      about-same j f (messages.AcceptBypass old t n d) a = refl
+      about-same j f (messages.StopProxying old t n d) a = refl
+      about-same j f (messages.ProxyWillStop l t n) a = grind (
+        arith,
+        still-by w v b g k r y p into out o fresh into.other (begin_message into out o fresh) law is c new l (a l t n refl),
+      )
+      about-same j f (messages.Flush l t) a = refl
+
+      under-same : (j : ℕ) (f : ℕ → ℕ → Message → ℕ) → under_way (λ from to. of_bypass after j (f from to)) w ≡ control_weight g f j
+      under-same j f = under_way-agrees _ _ w (λ from to i m u. about-same j (f from to) m
+          (λ l t n e. law.told.will_stop from to i l t n (subst (IsUnderWay w from to i) e u))) ∙ law.told.control j f
+
+      -- what is control_weight, from what a record says
+      awaits : (ℕ → ℕ → Message → ℕ) → ℕ → Bypass → ℕ → ℕ → Side → ℕ
+      awaits f j x inner across side =
+          cond (nat_eq x.stage 1) (f x.proxy.node inner (messages.BypassPeer (inner_link x.inner) B j across x.fresh))
+          (cond (nat_eq x.stage 2) (f inner across (messages.AcceptBypass j (opposite side) x.fresh x.taken_at))
+          (cond (nat_eq x.stage 3) (f across x.proxy.node (messages.StopProxying j side x.accepted_at x.taken_at))
+          (cond (nat_eq x.stage 4) (f x.proxy.node inner (messages.ProxyWillStop (inner_link x.inner) B x.accepted_at)) 0)))
+
+      inner-node : (j : ℕ) (x : Bypass) → after.bypass j ≡ x → side_node after (inner_of after j) B ≡ side_node g (inner_link x.inner) B
+      inner-node j x e = node-begun g k o fresh p _ B ∙ ap (λ t. side_node g (inner_link t.inner) B) e
+
+      across-node : (j : ℕ) (t : Side) → proxy_side after j ≡ t →
+          side_node after (Central j) (across_side after j) ≡ side_node g (Central j) (opposite t)
+      across-node j t e = node-begun g k o fresh p (Central j) _ ∙ ap (λ u. side_node g (Central j) (opposite u)) e
+
+      expects : (j : ℕ) (f : ℕ → ℕ → Message → ℕ) (x : Bypass) (t : Side) → after.bypass j ≡ x → proxy_side after j ≡ t →
+          control_weight after f j ≡ awaits f j x (side_node g (inner_link x.inner) B) (side_node g (Central j) (opposite t)) t
+      expects j f x t e a =
+          ap (λ n. awaits f j (after.bypass j) n (side_node after (Central j) (across_side after j)) (proxy_side after j))
+          (inner-node j x e)
+          ∙ ap (λ n. awaits f j (after.bypass j) (side_node g (inner_link x.inner) B) n (proxy_side after j)) (across-node j t a)
+          ∙ ap (λ z. awaits f j z (side_node g (inner_link x.inner) B) (side_node g (Central j) (opposite t)) (proxy_side after j)) e
+          ∙ ap (λ z. awaits f j x (side_node g (inner_link x.inner) B) (side_node g (Central j) (opposite t)) z) a
+
+      no-stage : (g.bypass o).stage ≡ 0
+      no-stage = grind (arith, is.live, nat_tests)
+
+      nothing-yet : (f : ℕ → ℕ → Message → ℕ) → control_weight g f o ≡ 0
+      nothing-yet f = grind (arith, no-stage)
+
+      sent : begin_message into out o fresh ≡ messages.BypassPeer (inner_link p) B o (side_node g (Central o) (opposite r.end.side)) fresh
+      sent = ap (λ l. messages.BypassPeer l (opposite into.side) o out.other fresh) is.inner_at ∙ ap
+          (λ t. messages.BypassPeer (inner_link p) (opposite t) o out.other fresh) is.inner_side ∙ ap
+          (λ n. messages.BypassPeer (inner_link p) B o n fresh) is.outer_other
+
+      control : (j : ℕ) (f : ℕ → ℕ → Message → ℕ) (t : Bool) → nat_eq j o ≡ t →
+          under_way (λ from to. of_bypass after j (f from to)) w + of_bypass after j (f k.node into.other) (begin_message into out o fresh)
+          ≡ control_weight after f j
+      control j f false e =
+          let z : nat_eq o j ≡ false = grind (arith, e, nat_tests) in
+          let n : of_bypass after j (f k.node into.other) (begin_message into out o fresh) ≡ 0 =
+          ap (λ t. cond t (f k.node into.other (begin_message into out o fresh)) 0) z in
+          let x : control_weight after f j ≡ control_weight g f j =
+          expects j f (g.bypass j) (proxy_side g j) (begun-else g k o fresh p j e) (side-begun g k o fresh p j e) in
+          omega (arith, under-same j f, n, x)
+      control j f true e = let z : j ≡ o = grind (arith, e, nat_tests) in
+          subst (λ i. under_way (λ from to. of_bypass after i (f from to)) w + of_bypass after i (f k.node into.other)
+          (begin_message into out o fresh) ≡ control_weight after f i) (sym z) here
+        where
+          here : under_way (λ from to. of_bypass after o (f from to)) w + of_bypass after o (f k.node into.other)
+              (begin_message into out o fresh) ≡ control_weight after f o
+          here =
+              let n : nat_eq o o ≡ true = grind (arith, nat_tests) in
+              let d : of_bypass after o (f k.node into.other) (begin_message into out o fresh) ≡ f k.node into.other
+              (begin_message into out o fresh) = ap (λ t. cond t (f k.node into.other (begin_message into out o fresh)) 0) n in
+              let x : control_weight after f o ≡ f k.node (side_node g (inner_link p) B)
+              (messages.BypassPeer (inner_link p) B o (side_node g (Central o) (opposite r.end.side)) fresh)
+              = expects o f _ r.end.side (begun-here g k o fresh p)
+              (side-here w v b g k r y p into out o fresh into.other (begin_message into out o fresh) law is c new) in
+              let y : f k.node into.other (begin_message into out o fresh) ≡ f k.node (side_node g (inner_link p) B)
+              (messages.BypassPeer (inner_link p) B o (side_node g (Central o) (opposite r.end.side)) fresh)
+              = ap (λ z. f k.node z (begin_message into out o fresh)) is.inner_other ∙ ap (f k.node (side_node g (inner_link p) B)) sent in
+              omega (arith, under-same o f, nothing-yet f, d, x, y)
+
+      last : (from to i : ℕ) (l : LinkId) (s : Side) (old target n : ℕ) →
+          IsLast w k.node into.other (begin_message into out o fresh) from to i (messages.BypassPeer l s old target n) →
+          side_router g l s ≡ None → is_made_before v from to i l s ≡ true
+      last from to i l s old target n e f =
+          let same : messages.BypassPeer l s old target n ≡ messages.BypassPeer (inner_link p) B o
+          (side_node g (Central o) (opposite r.end.side)) fresh = e.message ∙ sent in
+          let a : l ≡ inner_link p = cc in let d : s ≡ B = cc in
+          let known : side_router g (inner_link p) B ≡ None = ap (λ t. side_router g t B) (sym a) ∙ ap (side_router g l) (sym d) ∙ f in
+          grind (
+            arith,
+            e.sender,
+            e.receiver,
+            e.at,
+            a,
+            d,
+            made_last w v k.node into.other (begin_message into out o fresh) c.pushed
+                (inner_link p) B (making known),
+          )
+        where
+          making : side_router g (inner_link p) B ≡ None → is_made_by (inner_link p) B (flow w k.node into.other) ≡ true
+          making known = descriptor (g.terminal (g.peripheral p).end) refl
+            where
+              none : (g.peripheral p).router ≡ None
+              none = nobody (g.peripheral p).router (sym (side_router-inner g p) ∙ known)
+                where
+                  nobody : (q : Option ℕ) → key_at (g.peripheral p).node q ≡ None → q ≡ None
+                  nobody None a = refl
+                  nobody (Some x) a = absurd (none-some _ (sym a))
+
+              moving : moving_link (g.terminal (g.peripheral p).end) ≡ Some (inner_link p)
+              moving = law.moves.moving p is.inner_recorded none
+
+              weigh : Descriptor → ℕ
+              weigh d = cond (same_link d.link (inner_link p)) 1 0
+
+              descriptor : (t : Terminal) → g.terminal (g.peripheral p).end ≡ t →
+                  is_made_by (inner_link p) B (flow w k.node into.other) ≡ true
+              descriptor Nowhere e = absurd (none-some (inner_link p) (ap moving_link (sym e) ∙ moving))
+              descriptor (At q) e = absurd (none-some (inner_link p) (ap moving_link (sym e) ∙ moving))
+              descriptor Retired e = absurd (none-some (inner_link p) (ap moving_link (sym e) ∙ moving))
+              descriptor (Moving d) e = carried (found (λ from to m. total_list (of_end (g.peripheral p).end weigh) (moves_of m)) w
+                  (omega (arith, law.moves.one (g.peripheral p).end weigh, ap (move_weight weigh) e, weighs)))
+                where
+                  weighs : weigh d ≡ 1
+                  weighs = let l : d.link ≡ inner_link p = same_Some d.link (inner_link p) (ap moving_link (sym e) ∙ moving) in
+                      ap (λ t. cond t 1 0) (ap (λ t. same_link t (inner_link p)) l ∙ same_link-itself (inner_link p))
+
+                  carried : (from : ℕ) × (to : ℕ) × (i : ℕ) × (m : Message) × IsUnderWay w from to i m ×
+                      (1 ≤ total_list (of_end (g.peripheral p).end weigh) (moves_of m)) →
+                      is_made_by (inner_link p) B (flow w k.node into.other) ≡ true
+                  carried x = at (total_list-found (of_end (g.peripheral p).end weigh) (moves_of x.3) x.5)
+                    where
+                      at : (j : ℕ) × (d : Descriptor) × (slice_get (moves_of x.3) j ≡ Some d) × (1 ≤ of_end (g.peripheral p).end weigh d) →
+                          is_made_by (inner_link p) B (flow w k.node into.other) ≡ true
+                      at y =
+                          let l : y.1.link ≡ inner_link p = of_link (g.peripheral p).end (inner_link p) y.1 y.3 in
+                          let a : x.0 ≡ k.node = sym (law.moves.sender x.0 x.1 x.2 y.0 x.3 y.1 x.4 y.2) ∙ ap (λ t. side_node g t A) l ∙
+                          side_node-proxy g p ∙ ap (λ q. q.node) (same_Some _ k (sym (side_router-proxy g p) ∙ is.inner_known)) in
+                          let t : x.1 ≡ into.other = sym (law.moves.receiver x.0 x.1 x.2 y.0 x.3 y.1 x.4 y.2) ∙ ap (λ t. side_node g t B) l
+                          ∙ sym is.inner_other in
+                          subst (λ n. is_made_by (inner_link p) B (flow w k.node n) ≡ true) t
+                          (subst (λ n. is_made_by (inner_link p) B (flow w n x.1) ≡ true) a
+                          (made_within (inner_link p) B (flow w x.0 x.1) x.2 x.3 x.4.place (carries (inner_link p) x.3 y.0 y.1 y.2 l)))

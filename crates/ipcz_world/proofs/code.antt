@@ -1,0 +1,14 @@
+pub mod Beginning
+pub mod Calling
+pub mod FirstTurns
+pub mod Kept
+pub mod Regular
+pub mod RouterActs
+pub mod Running
+pub mod SeenMail
+pub mod Slots
+pub mod StatesOfNodes
+pub mod Tables
+pub mod Taken
+pub mod Visiting
+pub mod WordNumbers

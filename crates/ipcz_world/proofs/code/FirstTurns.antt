@@ -1,0 +1,71 @@
+-- A turn that has taken the first act, or what stands in for it, or was refused it, is a step.
+use Rattle.std.specs.Prelude.{◌≡◌, ◌⊎◌, ◌<◌, ℕ, Bool, true, false, nat_lt, if◌then◌else◌, Ok, Err}
+use Rattle.std.proofs.Common.{arith, ap, sym, refl, inl, inr, ◌∙◌}
+use Rattle.std.proofs.lemmas.Bool.Decides.{nat_tests}
+use Rattle.ipcz_base.specs.declared.refusal.Refusal.{Refusal}
+use Rattle.ipcz_base.specs.declared.refusal.Refusal.TheVariants.{NumbersEnd, OutOfMemory}
+use Rattle.ipcz_router.specs.declared.act.RouterAct.TheVariants as acts
+use Rattle.ipcz_node.specs.declared.act.Act.{Act}
+use Rattle.ipcz_node.specs.declared.act.Act.TheVariants.{Hand, Look, Post, Close, Router as OfRouter, Idle}
+use Rattle.ipcz_node.specs.declared.happened.Happened.{Happened}
+use Rattle.ipcz_node.specs.Acts.{stand_in, act_grows}
+use Rattle.ipcz_world.specs.declared.step.Step.TheVariants.{Turn}
+use Rattle.ipcz_world.specs.declared.step.Reply.TheVariants.{Turned, Refused}
+use Rattle.ipcz_world.specs.World.{World}
+use Rattle.ipcz_world.specs.Turns.{turn_event, turn_lacks_serials, after_act}
+use Rattle.ipcz_world.specs.Steps.{Effect, refuse, unless, turn_step, is_refused, FirstAct, StepFirst}
+use Rattle.ipcz_world.specs.Taking.{IsTaken}
+
+module _ (w : World) (n : ℕ) (act : Act) (here : n < w.count) where
+  done : Effect
+  done = record { reply = Turned (turn_event w n act); world = after_act w n act }
+
+  effect : (c : Bool) → turn_lacks_serials w n act ≡ c → turn_step w n act ≡ (if c then refuse w NumbersEnd else record { reply = Turned (turn_event w n act); world = after_act w n act })
+  unfolding unless
+  effect true e = let h : nat_lt n w.count ≡ true = grind (arith, here, nat_tests) in rw (h, e) refl
+  effect false e = let h : nat_lt n w.count ≡ true = grind (arith, here, nat_tests) in rw (h, e) refl
+
+  -- an act that was taken
+  pub step-taken : (v : World) (event : Happened) → FirstAct w n act → IsTaken w n act (Ok event) v → StepFirst w (Turn n) (Turned event) v
+  step-taken v event first is =
+      let e = effect false is.allowed in
+      (act, first, inl (ap Turned is.event ∙ ap (λ (x : Effect). x.reply) (sym e), is.done ∙ ap (λ (x : Effect). x.world) (sym e)))
+
+  -- an act that was refused, and for which nothing stands in
+  pub step-refused : (v : World) (why : Refusal) → FirstAct w n act → (act ≡ stand_in act) ⊎ (why ≡ NumbersEnd) → IsTaken w n act (Err why) v → StepFirst w (Turn n) (Refused why) v
+  unfolding is_refused
+  step-refused v why first alone is = go (turn_lacks_serials w n act) (act_grows act) refl refl alone
+    where
+      go : (c g : Bool) → turn_lacks_serials w n act ≡ c → act_grows act ≡ g → (act ≡ stand_in act) ⊎ (why ≡ NumbersEnd) → StepFirst w (Turn n) (Refused why) v
+      go true g e k alone =
+          let z = effect true e in
+          let because : why ≡ NumbersEnd = is.why ∙ ap (λ c. if c then NumbersEnd else OutOfMemory) e in
+          (act, first, inl (ap Refused because ∙ ap (λ (x : Effect). x.reply) (sym z), is.left ∙ ap (λ (x : Effect). x.world) (sym z)))
+      go false false e k alone = absurd (let no : false ≡ true = is.grows k e in cc)
+      go false true e k (inr x) = absurd (let because : why ≡ OutOfMemory = is.why ∙ ap (λ c. if c then NumbersEnd else OutOfMemory) e in cc)
+      go false true e k (inl x) =
+          let z = effect false e in
+          let because : why ≡ OutOfMemory = is.why ∙ ap (λ c. if c then NumbersEnd else OutOfMemory) e in
+          (act, first, inr (k, x, ap (λ (x : Effect). is_refused x.reply) z, (ap Refused because, is.left)))
+
+-- nothing stands in for what stands in
+pub stands-alone : (act : Act) → stand_in act ≡ stand_in (stand_in act)
+unfolding stand_in
+stands-alone (Hand from) = refl
+stands-alone (Look from) = refl
+stands-alone (Post to) = refl
+stands-alone (Close e) = refl
+stands-alone Idle = refl
+stands-alone (OfRouter s acts.SendOut) = refl
+stands-alone (OfRouter s acts.SendIn) = refl
+stands-alone (OfRouter s acts.Discard) = refl
+stands-alone (OfRouter s acts.FinishOut) = refl
+stands-alone (OfRouter s acts.FinishIn) = refl
+stands-alone (OfRouter s acts.Leave) = refl
+stands-alone (OfRouter s acts.Mark) = refl
+stands-alone (OfRouter s acts.Wake) = refl
+stands-alone (OfRouter s acts.Claim) = refl
+stands-alone (OfRouter s acts.Lock) = refl
+stands-alone (OfRouter s acts.Begin) = refl
+stands-alone (OfRouter s acts.Unlock) = refl
+stands-alone (OfRouter s acts.Rest) = refl

@@ -1,0 +1,24 @@
+-- A step of a lawful world: what it leads to is lawful, and its reply is one that the books allow.
+use Rattle.ipcz_world.specs.declared.step.Step.{Step}
+use Rattle.ipcz_world.specs.declared.step.Reply.{Reply}
+use Rattle.ipcz_world.specs.World.{World}
+use Rattle.ipcz_world.specs.Steps.{StepFirst}
+use Rattle.ipcz_world.specs.Books.{Books, advance}
+use Rattle.ipcz_world.specs.Routes.{Routes, routes_after}
+use Rattle.ipcz_world.specs.Lawful.{Lawful}
+use Rattle.ipcz_world.specs.Lawfulness.{IsLawful}
+use Rattle.ipcz_world.specs.Plain.{Plain}
+use Rattle.ipcz_world.proofs.Whole.{each_step_keeps_lawful, first_acts_are_possible, replies_plainly}
+
+module _ (w v : World) (step : Step) (reply : Reply) (is : StepFirst w step reply v) where
+  -- it is lawful with the books and the routes after it
+  pub keeps : (b : Books) (g : Routes) → Lawful w b g → Lawful v (advance w b step reply) (routes_after w g step reply)
+  keeps b g law = each_step_keeps_lawful w v b g step reply law (first_acts_are_possible w v b g step reply law is)
+
+  -- the books allow its reply
+  pub plainly : (b : Books) (g : Routes) → Lawful w b g → Plain b step reply (advance w b step reply)
+  plainly b g law = replies_plainly w v b g step reply law (first_acts_are_possible w v b g step reply law is)
+
+  -- so there are books and routes after it
+  pub still-lawful : IsLawful w → IsLawful v
+  still-lawful law = record { books = advance w law.books step reply; routes = routes_after w law.routes step reply; lawful = keeps law.books law.routes law.lawful }

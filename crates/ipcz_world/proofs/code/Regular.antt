@@ -1,0 +1,35 @@
+-- What the code needs of a world holds of each lawful one; and a step for a node that isn't there is refused.
+use Rattle.std.specs.Prelude.{◌≡◌, ◌≤◌, ℕ, false, nat_lt}
+use Rattle.std.proofs.Common.{arith, refl, inl}
+use Rattle.std.proofs.lemmas.Bool.Decides.{nat_tests}
+use Rattle.ipcz_base.specs.declared.refusal.Refusal.TheVariants.{Stranger}
+use Rattle.ipcz_world.specs.declared.step.Step.{Step}
+use Rattle.ipcz_world.specs.declared.step.Step.TheVariants.{Open, Put, Get, Close, Turn}
+use Rattle.ipcz_world.specs.declared.step.Reply.TheVariants.{Refused}
+use Rattle.ipcz_world.specs.World.{World}
+use Rattle.ipcz_world.specs.Turns.{next_at}
+use Rattle.ipcz_world.specs.Steps.{Effect, refuse, at_node, StepFirst}
+use Rattle.ipcz_world.specs.Lawfulness.{IsLawful}
+use Rattle.ipcz_world.specs.Taking.{IsRegular, node_of}
+use Rattle.ipcz_world.proofs.Whole.{lists_have_lengths, nodes_are_sound}
+use Rattle.ipcz_world.proofs.runs.Choosing.{first_taken}
+
+-- a lawful world is regular
+pub lawful-regular : (w : World) → IsLawful w → IsRegular w
+lawful-regular w law = record {
+  lengths = lists_have_lengths w law.books law.routes law.lawful;
+  sound = λ n l. nodes_are_sound w law.books law.routes n law.lawful l;
+  possible = λ n act l first. first_taken w law.books law.lawful.records law.lawful.inv n l act first;
+}
+
+far : (w : World) (n : ℕ) (done : Effect) → w.count ≤ n → at_node w n done ≡ refuse w Stranger
+far w n done l = let h : nat_lt n w.count ≡ false = grind (arith, l, nat_tests) in rw h refl
+
+-- a node that isn't there is a stranger
+pub stranger : (w : World) (step : Step) → w.count ≤ node_of step → StepFirst w step (Refused Stranger) w
+unfolding node_of
+stranger w (Open n) l = rw (far w n _ l) (inl (refl, refl))
+stranger w (Put n at bytes ends) l = rw (far w n _ l) (inl (refl, refl))
+stranger w (Get n at) l = rw (far w n _ l) (refl, refl)
+stranger w (Close n at) l = rw (far w n _ l) (inl (refl, refl))
+stranger w (Turn n) l = (next_at w n, inl refl, rw (far w n _ l) (inl (refl, refl)))

@@ -1,0 +1,339 @@
+-- What the parts of a world come to after a turn, as the world that the turn leads to.
+use Rattle.std.specs.Prelude.{◌≡◌, ◌<◌, ℕ, Bool, true, false, ◌&&◌, not, nat_eq, nat_lt, if◌then◌else◌, Option, Some, None, is_some, is_none, IfSome, Result, Ok, Err, length, List, [], ◌∷◌}
+use Rattle.std.proofs.Common.{arith, ap, sym, subst, refl, ◌∙◌}
+use Rattle.std.proofs.lemmas.Bool.Decides.{nat_tests}
+use Rattle.ipcz_base.specs.declared.end.End.{End}
+use Rattle.ipcz_base.specs.declared.message.Message.{Message}
+use Rattle.ipcz_base.specs.declared.refusal.Refusal.{Refusal}
+use Rattle.ipcz_base.specs.declared.refusal.Refusal.TheVariants.{NumbersEnd, OutOfMemory}
+use Rattle.ipcz_base.specs.Indexed.{place_at, put_place}
+use Rattle.ipcz_base.specs.declared.side.Side.{Side}
+use Rattle.ipcz_router.specs.Router.{Router, primary_word}
+use Rattle.ipcz_router.specs.ActTable.{may_take}
+use Rattle.ipcz_router.specs.ActEffects.{IsAnswerOf}
+use Rattle.ipcz_router.specs.declared.act.RouterAct.{RouterAct}
+use Rattle.ipcz_router.specs.declared.act.Answer.{Answer}
+use Rattle.ipcz_router.specs.declared.act.Answer.TheVariants.{Plain}
+use Rattle.ipcz_node.specs.declared.act.Act.{Act}
+use Rattle.ipcz_node.specs.declared.act.Act.TheVariants.{Hand as OfHand, Look, Post, Close, Router as OfRouter, Idle}
+use Rattle.ipcz_node.specs.declared.happened.Happened.{Happened}
+use Rattle.ipcz_node.specs.declared.happened.Happened.TheVariants as events
+use Rattle.ipcz_node.specs.Hands.{is_hand_of, deliver, message_lacks_serials}
+use Rattle.ipcz_node.specs.Node.{Node, bare_node, outbox, router_in}
+use Rattle.ipcz_node.specs.Acts.{has_mail_for, first_of, commit, post_of, act_lacks_serials, act_grows, Answers}
+use Rattle.ipcz_node.specs.RoomyNodes.{IsPossibleAct}
+use Rattle.ipcz_node.specs.Node.{word_side}
+use Rattle.ipcz_node.specs.Events.{event_of, hand_event}
+use Rattle.ipcz_world.specs.declared.mail.Mail.{Mail}
+use Rattle.ipcz_world.specs.declared.mail.Mail.TheVariants.{Empty, Full, Hand as InHand}
+use Rattle.ipcz_world.specs.World.{World, node_at, mail_at, way, router_at, set_node, set_mail}
+use Rattle.ipcz_world.specs.Turns.{hand_message, hand_seen, hand_lacks_serials, after_hand, router_seen, after_router_act, may_act, is_full, is_clear, full_message, commit_at, after_look, after_post, after_act, turn_event, turn_lacks_serials, can_take}
+use Rattle.ipcz_world.specs.Mailing.{taken_up, put_down}
+use Rattle.ipcz_world.specs.Soundness.{HasLengths}
+use Rattle.ipcz_world.specs.Coding.{WordTable, table_answer, table_after, table_of}
+use Rattle.ipcz_world.specs.WordAnswers.{answer_of, touch}
+use Rattle.ipcz_world.specs.Taking.{IsRegular, IsTaken, IsCommitted}
+use Rattle.ipcz_world.proofs.code.RouterActs.{link_of, retabled, answers-as, touches-as, answers-kind}
+use Rattle.ipcz_world.proofs.code.Slots.{put-same, put-again, length-put}
+
+both : (a b : Bool) → (a && b) ≡ true → (a ≡ true) × (b ≡ true)
+both true b e = (refl, e)
+both false b e = cc
+
+-- the world with this node in the place of its number
+abbrev pub with_node : World → ℕ → Node → World
+with_node w n x = record w { nodes = put_place (bare_node 0 0) w.nodes n x }
+
+-- a node that is written back as it was leaves the world
+pub unchanged : (w : World) (n : ℕ) (x : Node) → HasLengths w → n < w.count → x ≡ node_at w n → with_node w n x ≡ w
+unfolding node_at
+unchanged w n x has l e = λ j. record w {
+  nodes = (ap (put_place (bare_node 0 0) w.nodes n) e ∙ put-same (bare_node 0 0) w.nodes n (omega (arith, l, has.nodes))) j;
+}
+
+-- a refused act leaves the world
+pub refused-committed : (w : World) (n : ℕ) (act : Act) (old x : Node) (why : Refusal) → HasLengths w → n < w.count → old ≡ node_at w n → x ≡ old →
+    why ≡ (if act_lacks_serials old act then NumbersEnd else OutOfMemory) →
+    (act_grows act ≡ false → act_lacks_serials old act ≡ false → false ≡ true) → IsCommitted w n act (Err why) (with_node w n x)
+refused-committed w n act old x why has l e same because grows = record {
+  event = tt;
+  message = tt;
+  done = tt;
+  allowed = tt;
+  why = subst (λ y. why ≡ (if act_lacks_serials y act then NumbersEnd else OutOfMemory)) e because;
+  grows = λ g k. grows g (ap (λ y. act_lacks_serials y act) e ∙ k);
+  left = unchanged w n x has l (same ∙ e);
+}
+
+-- an act that touches no word changes the node alone
+pub done-committed : (w : World) (n : ℕ) (act : Act) (old x : Node) (r : Happened × Option Message) → old ≡ node_at w n →
+    x ≡ commit old act Plain → r.0 ≡ event_of old act Plain → r.1 ≡ post_of old act → act_lacks_serials old act ≡ false →
+    IsCommitted w n act (Ok r) (with_node w n x)
+unfolding set_node
+done-committed w n act old x r e is event message k = record {
+  event = event ∙ ap (λ y. event_of y act Plain) e;
+  message = message ∙ ap (λ y. post_of y act) e;
+  done = ap (with_node w n) (is ∙ ap (λ y. commit y act Plain) e);
+  allowed = sym (ap (λ y. act_lacks_serials y act) e) ∙ k;
+  why = tt;
+  grows = λ g z. refl;
+  left = tt;
+}
+
+-- an act that touches no word and isn't done isn't done in the world
+pub refused-close : (w v : World) (n : ℕ) (end : End) (why : Refusal) → IsCommitted w n (Close end) (Err why) v → IsTaken w n (Close end) (Err why) v
+unfolding turn_lacks_serials
+refused-close w v n end why done = record { event = tt; done = tt; allowed = tt; why = done.why; grows = done.grows; left = done.left }
+
+pub refused-look : (w v : World) (n from : ℕ) (why : Refusal) → IsCommitted w n (Look from) (Err why) v → IsTaken w n (Look from) (Err why) v
+unfolding turn_lacks_serials
+refused-look w v n from why done = record { event = tt; done = tt; allowed = tt; why = done.why; grows = done.grows; left = done.left }
+
+pub refused-post : (w v : World) (n to : ℕ) (why : Refusal) → IsCommitted w n (Post to) (Err why) v → IsTaken w n (Post to) (Err why) v
+unfolding turn_lacks_serials
+refused-post w v n to why done = record { event = tt; done = tt; allowed = tt; why = done.why; grows = done.grows; left = done.left }
+
+-- a pending close is done by the node alone
+pub done-close : (w v : World) (n : ℕ) (end : End) (r : Happened × Option Message) → IsCommitted w n (Close end) (Ok r) v →
+    IsTaken w n (Close end) (Ok r.0) v
+unfolding turn_event after_act turn_lacks_serials
+done-close w v n end r done = record { event = done.event; done = done.done; allowed = done.allowed; why = tt; grows = λ g k. refl; left = tt }
+
+-- the world with another mailbox
+abbrev pub with_mail : World → ℕ → Mail → World
+with_mail w k m = record w { mail = put_place Empty w.mail k m }
+
+-- a mailbox that is looked into is full
+looks-full : (w : World) (n from : ℕ) → can_take w n (Look from) ≡ true → is_full (mail_at w (way w from n)) ≡ true
+unfolding can_take
+looks-full w n from h =
+    (both (is_none (node_at w n).hand) (is_full (mail_at w (way w from n))) (both (nat_lt from w.count) (is_none (node_at w n).hand && is_full (mail_at w (way w from n))) h).1).1
+
+looked : (w : World) (n from k : ℕ) (m : Mail) → mail_at w k ≡ m → is_full (mail_at w k) ≡ true → k ≡ way w from n →
+    with_mail (commit_at w w n (Look from) Plain) k (taken_up (place_at Empty (commit_at w w n (Look from) Plain).mail k)) ≡ after_look w n from (full_message (mail_at w k))
+unfolding set_node mail_at set_mail is_full full_message taken_up after_look
+looked w n from k Empty e h is = absurd (let no : false ≡ true = ap is_full (sym e) ∙ h in cc)
+looked w n from k (Full m) e h is = rw (e, is) refl
+looked w n from k (InHand m) e h is = absurd (let no : false ≡ true = ap is_full (sym e) ∙ h in cc)
+
+-- a look takes the message of the mailbox up
+pub done-look : (w u : World) (n from : ℕ) (r : Happened × Option Message) → IsCommitted w n (Look from) (Ok r) u → can_take w n (Look from) ≡ true →
+    IsTaken w n (Look from) (Ok r.0) (with_mail u (way w from n) (taken_up (place_at Empty u.mail (way w from n))))
+unfolding turn_event after_act turn_lacks_serials
+done-look w u n from r done may = record {
+  event = done.event;
+  done = subst (λ (u : World). with_mail u (way w from n) (taken_up (place_at Empty u.mail (way w from n))) ≡ after_look w n from (full_message (mail_at w (way w from n)))) (sym done.done)
+      (looked w n from (way w from n) (mail_at w (way w from n)) refl (looks-full w n from may) refl);
+  allowed = done.allowed;
+  why = tt;
+  grows = λ g z. refl;
+  left = tt;
+}
+
+-- a post leaves its message in the mailbox
+pub done-post : (w u : World) (n to : ℕ) (event : Happened) (m : Message) → IsCommitted w n (Post to) (Ok (event, Some m)) u →
+    IsTaken w n (Post to) (Ok event) (with_mail u (way w n to) (Full m))
+unfolding turn_event after_act turn_lacks_serials set_node set_mail after_post
+done-post w u n to event m done = record {
+  event = done.event;
+  done = subst (λ u. with_mail u (way w n to) (Full m) ≡ after_post w n to (post_of (node_at w n) (Post to))) (sym done.done) (rw (← done.message) refl);
+  allowed = done.allowed;
+  why = tt;
+  grows = λ g z. refl;
+  left = tt;
+}
+
+has_first : (n : Node) (to : ℕ) (ms : List Message) → outbox n to ≡ ms → has_mail_for n to ≡ true → first_of (outbox n to) ≡ None → ⊥
+unfolding first_of
+has_first n to [] e has none = let no : false ≡ true = ap (λ (ms : List Message). not (nat_eq (length ms) 0)) (sym e) ∙ has in cc
+has_first n to (m ∷ ms) e has none = let no : Some m ≡ None = ap first_of (sym e) ∙ none in cc
+
+-- a post has a message
+pub posts : (w : World) (n to : ℕ) → can_take w n (Post to) ≡ true → post_of (node_at w n) (Post to) ≡ None → ⊥
+unfolding can_take post_of
+posts w n to h none = has_first (node_at w n) to (outbox (node_at w n) to) refl
+    (both (has_mail_for (node_at w n) to) (is_clear (mail_at w (way w n to))) (both (nat_lt to w.count) (has_mail_for (node_at w n) to && is_clear (mail_at w (way w n to))) h).1).0 none
+
+-- whom a node looks to, and whom it posts to, is one of the world
+pub looks-to-node : (w : World) (n from : ℕ) → can_take w n (Look from) ≡ true → from < w.count
+unfolding can_take
+looks-to-node w n from h =
+    let t = (both (nat_lt from w.count) (is_none (node_at w n).hand && is_full (mail_at w (way w from n))) h).0 in grind (arith, t, nat_tests)
+
+pub posts-to-node : (w : World) (n to : ℕ) → can_take w n (Post to) ≡ true → to < w.count
+unfolding can_take
+posts-to-node w n to h =
+    let t = (both (nat_lt to w.count) (has_mail_for (node_at w n) to && is_clear (mail_at w (way w n to))) h).0 in grind (arith, t, nat_tests)
+
+-- an act that touches no word leaves the mailboxes
+pub mail-stays : (w u : World) (n : ℕ) (act : Act) (r : Happened × Option Message) (k : ℕ) → IsCommitted w n act (Ok r) u → k < length w.mail → k < length u.mail
+unfolding set_node
+mail-stays w u n act r k done l = subst (λ (v : World). k < length v.mail) (sym done.done) l
+
+-- the same of an equal world, and of an equal message
+pub moved : (w u v : World) (n : ℕ) (act : Act) (r : Result (Happened × Option Message) Refusal) → v ≡ u → IsCommitted w n act r u → IsCommitted w n act r v
+moved w u v n act r e done = subst (IsCommitted w n act r) (sym e) done
+
+pub given : (w u : World) (n : ℕ) (act : Act) (event : Happened) (o : Option Message) (m : Message) → o ≡ Some m → IsCommitted w n act (Ok (event, o)) u →
+    IsCommitted w n act (Ok (event, Some m)) u
+given w u n act event o m e done = subst (λ o. IsCommitted w n act (Ok (event, o)) u) e done
+
+-- a message in hand is there, and of a node of the world
+pub has-in-hand : (w : World) (n from : ℕ) → can_take w n (OfHand from) ≡ true → hand_message (mail_at w (way w from n)) ≡ None → ⊥
+unfolding can_take
+has-in-hand w n from h none =
+    let some = (both (is_hand_of (node_at w n).hand from) (is_some (hand_message (mail_at w (way w from n)))) h).1 in
+    let no : false ≡ true = ap is_some (sym none) ∙ some in cc
+
+hand-from : (o : Option ℕ) (from : ℕ) → is_hand_of o from ≡ true → o ≡ Some from
+unfolding is_hand_of
+hand-from None from h = cc
+hand-from (Some s) from h = let e : s ≡ from = grind (arith, h, nat_tests) in ap Some e
+
+pub sender-is-node : (w : World) (n from : ℕ) → IsRegular w → n < w.count → can_take w n (OfHand from) ≡ true → from < w.count
+unfolding can_take
+sender-is-node w n from is l h =
+    (is.sound n l).hand from (hand-from (node_at w n).hand from (both (is_hand_of (node_at w n).hand from) (is_some (hand_message (mail_at w (way w from n)))) h).0)
+
+taken-down : (k : Mail) (m : Message) → hand_message k ≡ Some m → k ≡ InHand m
+unfolding hand_message
+taken-down Empty m e = cc
+taken-down (Full x) m e = cc
+taken-down (InHand x) m e = ap InHand (some-same e)
+  where
+    some-same : Some x ≡ Some m → x ≡ m
+    some-same e = cc
+
+-- a message in hand is handled
+pub done-hand : (w : World) (n from : ℕ) (m : Message) (event : Happened) (old x : Node) (mail : List Mail) → old ≡ node_at w n →
+    hand_message (mail_at w (way w from n)) ≡ Some m → x ≡ deliver old from m → event ≡ hand_event old from m → message_lacks_serials old from m ≡ false →
+    mail ≡ put_place Empty w.mail (way w from n) (put_down (mail_at w (way w from n))) →
+    IsTaken w n (OfHand from) (Ok event) (record (with_node w n x) { mail = mail })
+unfolding turn_event after_act turn_lacks_serials hand_seen after_hand hand_lacks_serials set_node set_mail put_down
+done-hand w n from m event old x mail e has is seen low kept = record {
+  event = rw has (seen ∙ ap (λ y. hand_event y from m) e);
+  done = rw has (λ j. record w {
+    nodes = put_place (bare_node 0 0) w.nodes n ((is ∙ ap (λ y. deliver y from m) e) j);
+    mail = (kept ∙ ap (λ k. put_place Empty w.mail (way w from n) (put_down k)) (taken-down (mail_at w (way w from n)) m has)) j;
+  });
+  allowed = rw has (sym (ap (λ y. message_lacks_serials y from m) e) ∙ low);
+  why = tt;
+  grows = λ g k. refl;
+  left = tt;
+}
+
+-- a message that can't be handled stays in hand
+pub refused-hand : (w : World) (n from : ℕ) (m : Message) (why : Refusal) (old x : Node) (mail : List Mail) → HasLengths w → n < w.count → way w from n < length w.mail → old ≡ node_at w n →
+    hand_message (mail_at w (way w from n)) ≡ Some m → x ≡ old → why ≡ (if message_lacks_serials old from m then NumbersEnd else OutOfMemory) →
+    mail ≡ put_place Empty (put_place Empty w.mail (way w from n) (put_down (mail_at w (way w from n)))) (way w from n) (InHand m) →
+    IsTaken w n (OfHand from) (Err why) (record (with_node w n x) { mail = mail })
+unfolding turn_lacks_serials hand_lacks_serials act_grows mail_at node_at
+refused-hand w n from m why old x mail has l within e is same because kept = record {
+  event = tt;
+  done = tt;
+  allowed = tt;
+  why = rw is (because ∙ ap (λ y. if message_lacks_serials y from m then NumbersEnd else OutOfMemory) e);
+  grows = λ g k. absurd (let no : true ≡ false = g in cc);
+  left = λ j. record w {
+    nodes = (ap (put_place (bare_node 0 0) w.nodes n) (same ∙ e) ∙ put-same (bare_node 0 0) w.nodes n (omega (arith, l, has.nodes))) j;
+    mail = (kept ∙ put-again Empty w.mail (way w from n) _ (InHand m) ∙ ap (put_place Empty w.mail (way w from n)) (sym (taken-down (mail_at w (way w from n)) m is)) ∙ put-same Empty w.mail (way w from n) within) j;
+  };
+}
+
+-- nothing is done
+pub done-idle : (w : World) (n : ℕ) → IsTaken w n Idle (Ok events.Idle) w
+unfolding turn_event after_act turn_lacks_serials event_of act_lacks_serials
+done-idle w n = record { event = refl; done = refl; allowed = refl; why = tt; grows = λ g k. refl; left = tt }
+
+module _ (w : World) (n serial : ℕ) (act : RouterAct) (is : IsRegular w) (l : n < w.count) where
+  stands : (o : Option Router) → may_act o act ≡ true → (r : Router) × (o ≡ Some r) × (may_take r act ≡ true)
+  unfolding may_act
+  stands None h = cc
+  stands (Some r) h = (r, refl, h)
+
+  -- the router that is to act
+  abbrev link : Option (ℕ × Side)
+  link = word_side (node_at w n) serial
+
+  pub router-stands : can_take w n (OfRouter serial act) ≡ true → (r : Router) × (router_in (node_at w n) serial ≡ Some r) × (may_take r act ≡ true)
+  unfolding can_take router_at
+  router-stands h = stands (router_in (node_at w n) serial) h
+
+  link-is : (r : Router) → router_in (node_at w n) serial ≡ Some r → link ≡ link_of r (primary_word r)
+  link-is r e = rw e refl
+
+  bounded : (r : Router) → router_in (node_at w n) serial ≡ Some r → (p : Option ℕ) → primary_word r ≡ p → IfSome p (λ i. i < w.size)
+  bounded r e None h = tt
+  bounded r e (Some i) h = (is.sound n l).primary serial r i e h
+
+  linked : (r : Router) (p : Option ℕ) → IfSome p (λ i. i < w.size) → IfSome (link_of r p) (λ x. x.0 < length w.words)
+  linked r None h = tt
+  linked r (Some i) h = omega (arith, h, is.lengths.words)
+
+  -- its word is there
+  pub link-within : can_take w n (OfRouter serial act) ≡ true → IfSome link (λ x. x.0 < length w.words)
+  link-within h = let t = router-stands h in
+      subst (λ o. IfSome o (λ x. x.0 < length w.words)) (sym (link-is t.0 t.1)) (linked t.0 (primary_word t.0) (bounded t.0 t.1 (primary_word t.0) refl))
+
+  -- it may take the act
+  pub router-may : can_take w n (OfRouter serial act) ≡ true → IsPossibleAct (node_at w n) (OfRouter serial act)
+  router-may h = let t = router-stands h in rw t.1 t.2
+
+  -- the answer is of the act's kind
+  pub answer-kind : can_take w n (OfRouter serial act) ≡ true → (a : Answer) → a ≡ table_answer (table_of w) act link → Answers (OfRouter serial act) a
+  answer-kind h a e = let t = router-stands h in
+      subst (IsAnswerOf act) (sym (e ∙ ap (table_answer (table_of w) act) (link-is t.0 t.1))) (answers-kind (table_of w) t.0 act t.2)
+
+  -- a router's act changes its node and the words
+  pub done-router : can_take w n (OfRouter serial act) ≡ true → (old x : Node) (event : Happened) (a : Answer) (t : WordTable) → old ≡ node_at w n →
+      a ≡ table_answer (table_of w) act link → t ≡ table_after (table_of w) act link → x ≡ commit old (OfRouter serial act) a → event ≡ event_of old (OfRouter serial act) a →
+      act_lacks_serials old (OfRouter serial act) ≡ false →
+      IsTaken w n (OfRouter serial act) (Ok event) (record (retabled w t) { nodes = put_place (bare_node 0 0) w.nodes n x })
+  unfolding turn_event after_act turn_lacks_serials router_seen after_router_act router_at set_node
+  done-router h old x event a t e is-a is-t is-x seen low =
+      let s = router-stands h in
+      let answer : a ≡ answer_of w s.0 act = is-a ∙ ap (table_answer (table_of w) act) (link-is s.0 s.1) ∙ sym (answers-as w s.0 act is.lengths) in
+      let words : retabled w t ≡ touch w s.0 act =
+      ap (retabled w) (is-t ∙ ap (table_after (table_of w) act) (link-is s.0 s.1)) ∙ sym (touches-as w s.0 act is.lengths (bounded s.0 s.1 (primary_word s.0) refl)) in
+      let made : x ≡ commit (node_at w n) (OfRouter serial act) (answer_of w s.0 act) =
+      is-x ∙ ap (λ y. commit y (OfRouter serial act) a) e ∙ ap (commit (node_at w n) (OfRouter serial act)) answer in
+      let same : w.nodes ≡ (touch w s.0 act).nodes = ap (λ (v : World). v.nodes) words in
+      record {
+        event = rw s.1 (seen ∙ ap (λ y. event_of y (OfRouter serial act) a) e ∙ ap (event_of (node_at w n) (OfRouter serial act)) answer);
+        done = rw s.1 (λ j. record (words j) { nodes = put_place (bare_node 0 0) (same j) n (made j) });
+        allowed = sym (ap (λ y. act_lacks_serials y (OfRouter serial act)) e) ∙ low;
+        why = tt;
+        grows = λ g k. refl;
+        left = tt;
+      }
+
+  -- a refused act of a router leaves the world
+  pub refused-router : (old x : Node) (why : Refusal) → old ≡ node_at w n → x ≡ old →
+      why ≡ (if act_lacks_serials old (OfRouter serial act) then NumbersEnd else OutOfMemory) →
+      (act_grows (OfRouter serial act) ≡ false → act_lacks_serials old (OfRouter serial act) ≡ false → false ≡ true) →
+      IsTaken w n (OfRouter serial act) (Err why) (with_node w n x)
+  unfolding turn_lacks_serials
+  refused-router old x why e same because grows = let k = refused-committed w n (OfRouter serial act) old x why is.lengths l e same because grows in
+      record { event = tt; done = tt; allowed = tt; why = k.why; grows = k.grows; left = k.left }
+
+-- what a node is asked to do, of an equal world
+pub record IsAsked (w : World) (n : ℕ) (act : Act) : Type 0 where
+  pub regular : IsRegular w
+  pub here : n < w.count
+  pub may : can_take w n act ≡ true
+
+pub asked : (w v : World) (n : ℕ) (act : Act) → v ≡ w → IsRegular w → n < w.count → can_take w n act ≡ true → IsAsked v n act
+asked w v n act e is l h = subst (λ w. IsAsked w n act) (sym e) (record { regular = is; here = l; may = h })
+
+-- the message in hand, as it is found
+pub hand-seen : (w : World) (k from n : ℕ) (o : Option Message) → k ≡ way w from n → o ≡ hand_message (place_at Empty w.mail k) → o ≡ hand_message (mail_at w (way w from n))
+unfolding mail_at
+hand-seen w k from n o e is = is ∙ ap (λ k. hand_message (place_at Empty w.mail k)) e
+
+-- a node knows how many there are
+pub counted : (w : World) (n from : ℕ) (old : Node) → IsRegular w → n < w.count → old ≡ node_at w n → from < w.count → from < old.count
+counted w n from old is l e f = let k : old.count ≡ w.count = ap (λ (y : Node). y.count) e ∙ (is.sound n l).count_is in omega (arith, f, k)
+
+-- a mailbox is still there after a write
+pub put-within : (mail new : List Mail) (k i : ℕ) (y : Mail) → new ≡ put_place Empty mail k y → k < length mail → k < length new
+put-within mail new k i y e l = omega (arith, ap length e, length-put Empty mail k y l, l)

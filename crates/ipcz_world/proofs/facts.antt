@@ -1,0 +1,7 @@
+-- Small facts: what tests of links and sides tell, lengths, queues, and routers that are found in a node.
+pub mod BegunLengths
+pub mod Finding
+pub mod Lengths
+pub mod LinkTests
+pub mod Queues
+pub mod Reaching

@@ -1,0 +1,55 @@
+-- The lengths of bypassed links, by side and stage.
+use Rattle.std.specs.Prelude.{◌≡◌, ◌≤◌, ℕ, true, Some, is_some}
+use Rattle.std.proofs.Common.{arith, ◌∙◌, ap}
+use Rattle.std.proofs.lemmas.Bool.Decides.{nat_tests}
+use Rattle.ipcz_base.specs.declared.side.Side.{Side}
+use Rattle.ipcz_base.specs.declared.side.Side.TheVariants.{A, B}
+use Rattle.ipcz_base.specs.declared.link_id.LinkId.{LinkId}
+use Rattle.ipcz_base.specs.declared.link_id.LinkId.TheVariants.{Central}
+use Rattle.ipcz_world.specs.World.{Key}
+use Rattle.ipcz_world.specs.Records.{Records, inner_link, bypass_of, bypass_length, length_by, side_length, is_begun, proxy_side}
+use Rattle.ipcz_world.specs.Records.{across_side}
+use Rattle.ipcz_world.proofs.facts.LinkTests.{same_side-opposite, known_from-since}
+use Rattle.ipcz_world.proofs.facts.Lengths.{same_side-itself}
+
+pub bypass_of-begun : (g : Records) (o : ℕ) → is_begun (g.bypass o) ≡ true → bypass_of g (Central o) ≡ Some o
+unfolding bypass_of
+bypass_of-begun g o e = grind (arith, e)
+
+pub begun-bypass_of : (g : Records) (o : ℕ) → is_some (bypass_of g (Central o)) ≡ true → is_begun (g.bypass o) ≡ true
+unfolding bypass_of
+begun-bypass_of g o e = grind (arith, e)
+
+pub begun-since : (g : Records) (o n : ℕ) → 1 ≤ n → n ≤ (g.bypass o).stage → is_begun (g.bypass o) ≡ true
+begun-since g o n a b = grind (arith, a, b, nat_tests)
+
+length-by : (g : Records) (l : LinkId) (s : Side) (o : ℕ) → bypass_of g l ≡ Some o → side_length g l s ≡ bypass_length g o l s
+unfolding length_by
+length-by g l s o e = ap (length_by g l s) e
+
+-- over the old link, from the proxy
+pub length-proxy : (g : Records) (o : ℕ) → 3 ≤ (g.bypass o).stage → side_length g (Central o) (proxy_side g o) ≡ Some (g.bypass o).taken_at
+unfolding bypass_length
+length-proxy g o h =
+    length-by g (Central o) (proxy_side g o) o (bypass_of-begun g o (begun-since g o 3 (omega arith) h)) ∙ grind
+    (arith, same_side-itself (proxy_side g o), known_from-since 3 (g.bypass o).stage (g.bypass o).taken_at h)
+
+-- over the old link, from the router across
+pub length-across : (g : Records) (o : ℕ) → 3 ≤ (g.bypass o).stage →
+    side_length g (Central o) (across_side g o) ≡ Some (g.bypass o).accepted_at
+unfolding bypass_length
+length-across g o h =
+    length-by g (Central o) (across_side g o) o (bypass_of-begun g o (begun-since g o 3 (omega arith) h)) ∙ grind
+    (arith, same_side-opposite (proxy_side g o), known_from-since 3 (g.bypass o).stage (g.bypass o).accepted_at h)
+
+-- over the inner link, from the proxy
+pub length-inward : (g : Records) (p : Key) (o : ℕ) → (g.peripheral p).by ≡ Some o → 3 ≤ (g.bypass o).stage →
+    side_length g (inner_link p) A ≡ Some (g.bypass o).accepted_at
+unfolding bypass_length bypass_of
+length-inward g p o e h = length-by g (inner_link p) A o e ∙ known_from-since 3 (g.bypass o).stage (g.bypass o).accepted_at h
+
+-- over the inner link, from the router inward
+pub length-inner : (g : Records) (p : Key) (o : ℕ) → (g.peripheral p).by ≡ Some o → 2 ≤ (g.bypass o).stage →
+    side_length g (inner_link p) B ≡ Some (g.bypass o).taken_at
+unfolding bypass_length bypass_of
+length-inner g p o e h = length-by g (inner_link p) B o e ∙ known_from-since 2 (g.bypass o).stage (g.bypass o).taken_at h

@@ -1,0 +1,616 @@
+-- Messages alone move: where routers and words are the same, and nothing is under way but what was and Flushes, the invariant is kept.
+use Rattle.ipcz_world.proofs.weights.OfRecords.{holds, held_times}
+use Rattle.ipcz_world.specs.Places.{in_message as in_message', in_node as in_node'}
+use Rattle.std.specs.Prelude.{◌≡◌, ◌⊎◌, ◌<◌, ℕ, ◌+◌, ◌*◌, Bool, true, false, Option, Some, None, is_some, List, [], take, slice_get, refl}
+use Rattle.std.specs.FinMap.{get}
+use Rattle.std.proofs.Common.{arith, sym, ◌∙◌, ap, inl, inr}
+use Rattle.std.proofs.lemmas.Bool.Decides.{nat_tests}
+use Rattle.ipcz_base.specs.declared.side.Side.{Side}
+use Rattle.ipcz_base.specs.declared.side.Side.TheVariants.{A, B}
+use Rattle.ipcz_base.specs.declared.end.End.{End}
+use Rattle.ipcz_base.specs.declared.link_id.LinkId.{LinkId}
+use Rattle.ipcz_base.specs.declared.link_id.LinkId.TheVariants.{Central, Peripheral}
+use Rattle.ipcz_base.specs.declared.link_end.LinkEnd.{LinkEnd}
+use Rattle.ipcz_base.specs.declared.descriptor.Descriptor.{Descriptor}
+use Rattle.ipcz_base.specs.declared.item.Item.{Item}
+use Rattle.ipcz_base.specs.declared.message.Message.{Message}
+use Rattle.ipcz_base.specs.declared.message.Message.TheVariants as messages
+use Rattle.ipcz_base.specs.Sides.{opposite}
+use Rattle.ipcz_word.specs.SideSets.{has}
+use Rattle.ipcz_base.specs.Ends.{has_end}
+use Rattle.ipcz_base.specs.Links.{is_central}
+use Rattle.ipcz_router.specs.Router.{Router}
+use Rattle.ipcz_node.specs.Node.{Node}
+use Rattle.ipcz_node.specs.Hands.{link_asked, side_asked}
+use Rattle.ipcz_world.specs.World.{World, Key, node_at, word_at, mail_at, way, router_at, flow, set_node}
+use Rattle.ipcz_world.proofs.frames.Frames.{frames}
+use Rattle.ipcz_world.specs.Turns.{hand_message}
+use Rattle.ipcz_world.specs.Books.{Books}
+use Rattle.ipcz_world.specs.Records.{Records, is_recorded, inner_link, side_node, side_router, across_side}
+use Rattle.ipcz_world.specs.Places.{Weight, at_end, names_end, times}
+use Rattle.ipcz_world.specs.Flows.{IsUnderWay, makes, is_made_by, under_way, of_end, moves_of}
+use Rattle.ipcz_base.specs.Totals.{total_below, total_list}
+use Rattle.ipcz_world.proofs.weights.OfRecords.{in_node, in_message, in_places}
+use Rattle.ipcz_world.specs.Standing.{view, view_by, router_view, passes, key_passes, spare_of, next_sent, taking_queue, may_have_sent}
+use Rattle.ipcz_world.specs.Standing.{is_gone, is_awaited}
+use Rattle.ipcz_world.specs.Structure.{Counts, Ordered, Shape, Links, IsRecorded, Positions, Stands, Words, Spares}
+use Rattle.ipcz_world.specs.Bypasses.{BypassRecords, Stages, Told, Moves, of_bypass, inner_of}
+use Rattle.ipcz_world.specs.Whereabouts.{Terminals, EndPlaces, BooksKept, Conserved, HeldOnce, times_held}
+use Rattle.ipcz_world.specs.Numbers.{Items, Order, ProxyNumbers, FreshNumbers, IsItemUnderWay, standing_router}
+use Rattle.ipcz_world.specs.Inv.{Inv}
+use Rattle.ipcz_world.proofs.flows.Flowing.{IsPushed, IsTaken, CameFrom, came_pushed, came_taken, under_way-pushed, under_way-taken}
+use Rattle.ipcz_world.proofs.flows.Flowing.{total_below-same}
+use Rattle.ipcz_world.proofs.weights.Weighing.{in_places-is}
+
+under_way-is : (h : ℕ → ℕ → Message → ℕ) (w : World) → under_way h w ≡ total_below w.count
+    (λ from. total_below w.count (λ to. total_list (h from to) (flow w from to)))
+unfolding under_way
+under_way-is h w = refl
+
+-- two nodes that differ in outboxes and in what is in hand alone
+pub record SameButPost (n m : Node) : Type 0 where
+  pub node : m.number ≡ n.number
+  pub nodes : m.count ≡ n.count
+  pub routers : m.routers ≡ n.routers
+  pub pending : m.pending ≡ n.pending
+  pub strays : m.strays ≡ n.strays
+  pub held : m.held ≡ n.held
+  pub opening : m.opening ≡ n.opening
+  pub next_router : m.next_router ≡ n.next_router
+  pub next_peripheral : m.next_peripheral ≡ n.next_peripheral
+
+-- a Flush between the nodes of a central link's sides
+pub record IsFlush (w : World) (g : Records) (from to : ℕ) (m : Message) : Type 0 where
+  pub link : LinkId
+  pub side : Side
+  pub is : m ≡ messages.Flush link side
+  pub central : is_central link ≡ true
+  pub recorded : is_recorded w g link ≡ true
+  pub receiver : to ≡ side_node g link side
+  pub sender : from ≡ side_node g link (opposite side)
+
+-- two worlds that differ in messages alone: those under way were so before, or are Flushes
+pub record Passes (w v : World) (g : Records) : Type 0 where
+  pub nodes : (n : ℕ) → SameButPost (node_at w n) (node_at v n)
+  pub words : (i : ℕ) → word_at v i ≡ word_at w i
+  pub claimed : v.claimed ≡ w.claimed
+  pub size : v.size ≡ w.size
+  pub count : v.count ≡ w.count
+  pub came : (from to i : ℕ) (m : Message) → IsUnderWay v from to i m → CameFrom w v from to i m ⊎ IsFlush w g from to m
+  pub totals : (h : ℕ → ℕ → Message → ℕ) → ((from to : ℕ) (l : LinkId) (s : Side) → h from to (messages.Flush l s) ≡ 0) →
+      under_way h v ≡ under_way h w
+
+-- a message is in hand where the node says so, and only there
+pub record HasHands (v : World) : Type 0 where
+  pub hand : (n from : ℕ) → n < v.count → (node_at v n).hand ≡ Some from → is_some (hand_message (mail_at v (way v from n))) ≡ true
+  pub hand_from : (n from : ℕ) → n < v.count → (node_at v n).hand ≡ Some from → from < v.count
+  pub in_hand : (n from : ℕ) → n < v.count → from < v.count → is_some (hand_message (mail_at v (way v from n))) ≡ true →
+      (node_at v n).hand ≡ Some from
+
+-- one node with other post
+pub post_is : (w : World) (n j : ℕ) (x : Node) → SameButPost (node_at w n) x → SameButPost (node_at w j) (node_at (set_node w n x) j)
+post_is w n j x s = record {
+  node = grind (arith, frames, s.node, nat_tests);
+  nodes = grind (arith, frames, s.nodes, nat_tests);
+  routers = grind (arith, frames, s.routers, nat_tests);
+  pending = grind (arith, frames, s.pending, nat_tests);
+  strays = grind (arith, frames, s.strays, nat_tests);
+  held = grind (arith, frames, s.held, nat_tests);
+  opening = grind (arith, frames, s.opening, nat_tests);
+  next_router = grind (arith, frames, s.next_router, nat_tests);
+  next_peripheral = grind (arith, frames, s.next_peripheral, nat_tests);
+}
+
+-- the same messages are in hand
+pub hands-same : (w v : World) (g : Records) → Counts w g → ((n : ℕ) → (node_at v n).hand ≡ (node_at w n).hand) →
+    ((j : ℕ) → hand_message (mail_at v j) ≡ hand_message (mail_at w j)) → v.count ≡ w.count → HasHands v
+hands-same w v g law hands mail count = record {
+  hand = λ n from l e. seen n from ∙ law.hand n from (below n l) (sym (hands n) ∙ e);
+  hand_from = λ n from l e. grind (arith, count, law.hand_from n from (below n l) (sym (hands n) ∙ e));
+  in_hand = λ n from l k e. hands n ∙ law.in_hand n from (below n l) (below from k) (sym (seen n from) ∙ e);
+}
+  where
+    below : (n : ℕ) → n < v.count → n < w.count
+    below n l = grind (arith, count, l)
+
+    seen : (n from : ℕ) → is_some (hand_message (mail_at v (way v from n))) ≡ is_some (hand_message (mail_at w (way w from n)))
+    seen n from = ap is_some (mail (way v from n)) ∙ ap (λ c. is_some (hand_message (mail_at w (from * c + n)))) count
+
+-- the same messages are under way, in the same places
+pub passes-flows : (w v : World) (g : Records) → ((n : ℕ) → SameButPost (node_at w n) (node_at v n)) →
+    ((i : ℕ) → word_at v i ≡ word_at w i) → v.claimed ≡ w.claimed → v.size ≡ w.size → v.count ≡ w.count →
+    ((from to : ℕ) → from < w.count → to < w.count → flow v from to ≡ flow w from to) → Passes w v g
+passes-flows w v g nodes words claimed size count flows = record {
+  nodes = nodes;
+  words = words;
+  claimed = claimed;
+  size = size;
+  count = count;
+  came = λ from to i m u. let same = flows from to (grind (arith, count, u.sender)) (grind (arith, count, u.receiver)) in inl (record {
+    at = i;
+    was = record {
+      sender = grind (arith, count, u.sender);
+      receiver = grind (arith, count, u.receiver);
+      place =
+          ap (λ ms. slice_get ms i) (sym same) ∙ u.place;
+    };
+    made = λ l s e. ap (λ ms. is_made_by l s (take i ms)) same ∙ e;
+  });
+  totals = λ h zero. totals h;
+}
+  where
+    totals : (h : ℕ → ℕ → Message → ℕ) → under_way h v ≡ under_way h w
+    totals h = under_way-is h v ∙ ap (λ c. total_below c (λ from. total_below c (λ to. total_list (h from to) (flow v from to)))) count
+        ∙ total_below-same w.count _ _ (λ from l. total_below-same w.count _ _ (λ to k. ap (total_list (h from to)) (flows from to l k))) ∙
+        sym (under_way-is h w)
+
+-- a Flush more is under way
+pub passes-pushed : (w v : World) (g : Records) (from to : ℕ) (m : Message) → ((n : ℕ) → SameButPost (node_at w n) (node_at v n)) →
+    ((i : ℕ) → word_at v i ≡ word_at w i) → v.claimed ≡ w.claimed → v.size ≡ w.size →
+    IsPushed w v from to m → IsFlush w g from to m → Passes w v g
+passes-pushed w v g from to m nodes words claimed size pushed fits = record {
+  nodes = nodes;
+  words = words;
+  claimed = claimed;
+  size = size;
+  count = pushed.count;
+  came = λ a b i n u. elim (came_pushed w v from to m pushed a b i n u) [
+    | inl c ↦ inl c
+    | inr last ↦ inr (record {
+      link = fits.link;
+      side = fits.side;
+      is = last.message ∙ fits.is;
+      central = fits.central;
+      recorded =
+          fits.recorded;
+      receiver = last.receiver ∙ fits.receiver;
+      sender = last.sender ∙ fits.sender;
+    })
+  ];
+  totals = λ h zero. omega (arith, under_way-pushed h w v from to m pushed, ap (h from to) fits.is, zero from to fits.link fits.side);
+}
+
+-- the first message is gone, and was a Flush
+pub passes-taken : (w v : World) (g : Records) (from to : ℕ) (l : LinkId) (s : Side) → ((n : ℕ) → SameButPost (node_at w n) (node_at v n)) →
+    ((i : ℕ) → word_at v i ≡ word_at w i) → v.claimed ≡ w.claimed → v.size ≡ w.size →
+    IsTaken w v from to (messages.Flush l s) → Passes w v g
+unfolding makes
+passes-taken w v g from to l s nodes words claimed size taken = record {
+  nodes = nodes;
+  words = words;
+  claimed = claimed;
+  size = size;
+  count = taken.count;
+  came = λ a b i n u. inl (came_taken w v from to (messages.Flush l s) taken (λ k t. refl) a b i n u);
+  totals = λ h zero. omega (arith, under_way-taken h w v from to (messages.Flush l s) taken, zero from to l s);
+}
+
+-- whether a message is an item
+abbrev is_item : Message → Bool
+is_item (messages.Item l s n item moves) = true
+is_item other = false
+
+-- whether it says that a proxy will stop
+abbrev is_will_stop : Message → Bool
+is_will_stop (messages.ProxyWillStop l s n) = true
+is_will_stop other = false
+
+-- whether it says that a bypass begins
+abbrev is_peer : Message → Bool
+is_peer (messages.BypassPeer l s old target fresh) = true
+is_peer other = false
+
+moves-flush : (l : LinkId) (s : Side) → moves_of (messages.Flush l s) ≡ []
+unfolding moves_of
+moves-flush l s = refl
+
+about-flush : (g : Records) (o : ℕ) (h : Message → ℕ) (l : LinkId) (s : Side) → of_bypass g o h (messages.Flush l s) ≡ 0
+unfolding of_bypass
+about-flush g o h l s = refl
+
+weight-flush : (f : Weight) (g : Records) (l : LinkId) (s : Side) → in_message f g (messages.Flush l s) ≡ 0
+unfolding in_message'
+weight-flush f g l s = refl
+
+link-flush : (l : LinkId) (s : Side) → link_asked (messages.Flush l s) ≡ l
+unfolding link_asked
+link-flush l s = refl
+
+side-flush : (l : LinkId) (s : Side) → side_asked (messages.Flush l s) ≡ s
+unfolding side_asked
+side-flush l s = refl
+
+module _ (w v : World) (g : Records) (p : Passes w v g) where
+  router : (q : Key) → router_at v q ≡ router_at w q
+  unfolding router_at
+  router q = ap (λ m. get m q.serial) (p.nodes q.node).routers
+
+  back : (q : Key) (r : Router) → router_at v q ≡ Some r → router_at w q ≡ Some r
+  back q r e = sym (router q) ∙ e
+
+  recorded : (l : LinkId) → is_recorded v g l ≡ is_recorded w g l
+  unfolding is_recorded
+  recorded (Central i) = refl
+  recorded (Peripheral n x) = rw ((p.nodes n).next_peripheral, p.count) refl
+
+  was_recorded : (l : LinkId) → is_recorded v g l ≡ true → is_recorded w g l ≡ true
+  was_recorded l e = sym (recorded l) ∙ e
+
+  known : (o : Option Key) (test : Router → Bool) → key_passes v o test ≡ key_passes w o test
+  unfolding key_passes
+  known None test = refl
+  known (Some q) test = ap (λ x. passes x test) (router q)
+
+  seen : (l : LinkId) (s : Side) → view v g l s ≡ view w g l s
+  unfolding view_by
+  seen l s = go (side_router g l s)
+    where
+      go : (o : Option Key) → view_by v g l s o ≡ view_by w g l s o
+      go None = refl
+      go (Some q) = ap (router_view l s) (router q)
+
+  -- what isn't a Flush was under way
+  item : (from to i : ℕ) (l : LinkId) (s : Side) (n : ℕ) (x : Item) (moves : List Descriptor) → IsItemUnderWay v from to i l s n x moves →
+      CameFrom w v from to i (messages.Item l s n x moves)
+  item from to i l s n x moves u = elim (p.came from to i _ u) [ inl c ↦ c | inr f ↦ absurd (grind (arith, ap is_item f.is)) ]
+
+  moved : (from to i j : ℕ) (m : Message) (d : Descriptor) → IsUnderWay v from to i m → slice_get (moves_of m) j ≡ Some d →
+      CameFrom w v from to i m
+  moved from to i j m d u e = elim (p.came from to i m u) [
+    | inl c ↦ c
+    | inr f ↦ absurd
+        (grind (arith, ap moves_of f.is, moves-flush f.link f.side, e))
+  ]
+
+  will_stop : (from to i : ℕ) (l : LinkId) (s : Side) (n : ℕ) → IsUnderWay v from to i (messages.ProxyWillStop l s n) →
+      CameFrom w v from to i (messages.ProxyWillStop l s n)
+  will_stop from to i l s n u = elim (p.came from to i _ u) [ inl c ↦ c | inr f ↦ absurd (grind (arith, ap is_will_stop f.is)) ]
+
+  peer : (from to i : ℕ) (l : LinkId) (s : Side) (old target fresh : ℕ) →
+      IsUnderWay v from to i (messages.BypassPeer l s old target fresh) → CameFrom w v from to i (messages.BypassPeer l s old target fresh)
+  peer from to i l s old target fresh u = elim (p.came from to i _ u) [ inl c ↦ c | inr f ↦ absurd (grind (arith, ap is_peer f.is)) ]
+
+  -- a Flush is right
+  flush : Told w g → (from to i : ℕ) (l : LinkId) (s : Side) → IsUnderWay v from to i (messages.Flush l s) →
+      IsFlush w g from to (messages.Flush l s)
+  flush law from to i l s u = elim (p.came from to i _ u) [
+    | inl c ↦ record {
+      link = l;
+      side = s;
+      is = refl;
+      central = law.flush_central from to c.at l s c.was;
+      recorded = law.flush_recorded from to c.at l s c.was;
+      receiver = law.flush_to from to c.at l s c.was;
+      sender = law.flush_from from to c.at l s c.was;
+    }
+    | inr f ↦ f
+  ]
+
+  same_link_in : (from to : ℕ) (l : LinkId) (s : Side) (f : IsFlush w g from to (messages.Flush l s)) → l ≡ f.link
+  same_link_in from to l s f = sym (link-flush l s) ∙ ap link_asked f.is ∙ link-flush f.link f.side
+
+  same_side_in : (from to : ℕ) (l : LinkId) (s : Side) (f : IsFlush w g from to (messages.Flush l s)) → s ≡ f.side
+  same_side_in from to l s f = sym (side-flush l s) ∙ ap side_asked f.is ∙ side-flush f.link f.side
+
+  node_weighs : (f : Weight) (n : ℕ) → in_node f g (node_at v n) ≡ in_node f g (node_at w n)
+  unfolding in_node'
+  node_weighs f n = rw ((p.nodes n).routers, (p.nodes n).strays) refl
+
+  weighs : (f : Weight) → in_places f g v ≡ in_places f g w
+  weighs f = in_places-is f g v ∙ grind (arith, nodes_weigh, p.totals (λ from to m. in_message f g m) (λ from to l s. weight-flush f g l s))
+      ∙ sym (in_places-is f g w)
+    where
+      nodes_weigh : total_below v.count (λ n. in_node f g (node_at v n)) ≡ total_below w.count (λ n. in_node f g (node_at w n))
+      nodes_weigh = ap (λ c. total_below c (λ n. in_node f g (node_at v n))) p.count ∙ total_below-same w.count _ _ (λ n l. node_weighs f n)
+
+  counts-passes : HasHands v → Counts w g → Counts v g
+  counts-passes hands law = record {
+    node = λ n h. grind (arith, (p.nodes n).node, p.count, law.node n, h);
+    nodes = λ n h. grind (arith, (p.nodes n).nodes, p.count, law.nodes n, h);
+    claimed = grind (arith, p.claimed, p.size, law.claimed);
+    unclaimed = λ i. grind (arith, p.claimed, law.unclaimed i);
+    on_node = λ q r at. grind (arith, p.count, law.on_node q r (back q r at));
+    serial = λ q r at. grind (arith, (p.nodes q.node).next_router, law.serial q r (back q r at));
+    side_serial = λ l s q a e. grind (arith, (p.nodes q.node).next_router, law.side_serial l s q (was_recorded l a) e);
+    side_on_node = λ l s a. grind (arith, p.count, law.side_on_node l s (was_recorded l a));
+    hand = hands.hand;
+    hand_from = hands.hand_from;
+    in_hand = hands.in_hand;
+  }
+
+  ordered-passes : Ordered w → Ordered v
+  ordered-passes law = record { out = λ q r n x at. law.out q r n x (back q r at); inn = λ q r n x at. law.inn q r n x (back q r at) }
+
+  shape-passes : Shape w → Shape v
+  shape-passes law = record {
+    role = λ q r at. law.role q r (back q r at);
+    marked_central = λ q r at. law.marked_central q r (back q r at);
+    marked_still = λ q r at. law.marked_still q r (back q r at);
+    holds_marked = λ q r at. law.holds_marked q r (back q r at);
+    holds_proxy = λ q r at. law.holds_proxy q r (back q r at);
+    holds_spare = λ q r at. law.holds_spare q r (back q r at);
+    spare_proxy = λ q r i at. law.spare_proxy q r i (back q r at);
+    spare_primary = λ q r i at. law.spare_primary q r i (back q r at);
+  }
+
+  still_recorded : (q : Key) (r : Router) (e : LinkEnd) → IsRecorded w g q r e → IsRecorded v g q r e
+  still_recorded q r e is = record { recorded = recorded e.link ∙ is.recorded; other = is.other; router = is.router; end = is.end }
+
+  links-passes : Links w g → Links v g
+  links-passes law = record {
+    primary = λ q r e at h. still_recorded q r e (law.primary q r e (back q r at) h);
+    decaying = λ q r e at h. still_recorded q r e (law.decaying q r e (back q r at) h);
+    inward_primary = λ q r e at h. still_recorded q r e (law.inward_primary q r e (back q r at) h);
+    inward_decaying = λ q r e at h. still_recorded q r e (law.inward_decaying q r e (back q r at) h);
+    primary_outward = λ q r e at. law.primary_outward q r e (back q r at);
+    decaying_outward = λ q r e at. law.decaying_outward q r e (back q r at);
+    inward_primary_inward = λ q r e at. law.inward_primary_inward q r e (back q r at);
+    inward_decaying_inward = λ q r e at. law.inward_decaying_inward q r e (back q r at);
+  }
+
+  positions-passes : Positions w g → Positions v g
+  positions-passes law = record {
+    inward_primary = λ q r e at. law.inward_primary q r e (back q r at);
+    inward_decaying = λ q r e at. law.inward_decaying q r e (back q r at);
+    inward_to = λ q r e o at. law.inward_to q r e o (back q r at);
+    inward_from = λ q r e o at. law.inward_from q r e o (back q r at);
+    primary_old = λ q r e o at. law.primary_old q r e o (back q r at);
+    primary_across = λ q r e o at. law.primary_across q r e o (back q r at);
+    primary_inner = λ q r e k o at. law.primary_inner q r e k o (back q r at);
+    decaying = λ q r e at. law.decaying q r e (back q r at);
+    inner_stage = λ q r e k o at. law.inner_stage q r e k o (back q r at);
+    inner_to = λ q r e k o at. law.inner_to q r e k o (back q r at);
+    inner_from = λ q r e k o at. law.inner_from q r e k o (back q r at);
+    inner_fresh = λ q r e k o at. law.inner_fresh q r e k o (back q r at);
+    own_proxy = λ q r e o at. law.own_proxy q r e o (back q r at);
+    own_alone = λ q r e o at. law.own_alone q r e o (back q r at);
+    own_to = λ q r e o at. law.own_to q r e o (back q r at);
+    own_from = λ q r e o at. law.own_from q r e o (back q r at);
+    across_stage = λ q r e o at. law.across_stage q r e o (back q r at);
+    across_to = λ q r e o at. law.across_to q r e o (back q r at);
+    across_from = λ q r e o at. law.across_from q r e o (back q r at);
+    across_fresh = λ q r e o at. law.across_fresh q r e o (back q r at);
+    begun = λ q r at. law.begun q r (back q r at);
+    begun_proxy = law.begun_proxy;
+    begun_stage = law.begun_stage;
+    proxy_begun = law.proxy_begun;
+  }
+
+  stands-passes : Stands w g → Stands v g
+  stands-passes law = record {
+    central = λ i s q a b e. known (Some q) _ ∙ law.central i s q a b e;
+    awaited = law.awaited;
+    awaited_stage = law.awaited_stage;
+    awaited_side = law.awaited_side;
+    proxy = λ q a b. known (side_router g (inner_link q) A) _ ∙ law.proxy q (was_recorded _ a) b;
+    inner = λ q k a b e. known (Some k) _ ∙ law.inner q k (was_recorded _ a) b e;
+    by_begun = law.by_begun;
+    by_inner = law.by_inner;
+  }
+
+  words-passes : Words w g → Words v g
+  words-passes law = record {
+    unused = λ i h. p.words i ∙ law.unused i h;
+    begun_stable = λ i s h. ap (λ z. has z.stable s) (p.words i) ∙ law.begun_stable i s h;
+    begun_holder = λ i s h. ap (λ z. has z.holder s) (p.words i) ∙ law.begun_holder i s h;
+    stable = λ i s a b. ap (λ z. has z.stable s) (p.words i) ∙ law.stable i s a b ∙ sym (known (side_router g (Central i) s) _);
+    holder = λ i s a b. ap (λ z. has z.holder s) (p.words i) ∙ law.holder i s a b ∙ sym (known (side_router g (Central i) s) _);
+    held_stable = λ i s t h. ap (λ z. has z.stable t) (p.words i) ∙ law.held_stable i s t (sym (ap (λ z. has z.holder s) (p.words i)) ∙ h);
+    one_holder = λ i s t a b. law.one_holder i s t (sym (ap (λ z. has z.holder s) (p.words i)) ∙ a)
+        (sym (ap (λ z. has z.holder t) (p.words i)) ∙ b);
+  }
+
+  spares-passes : Spares w g → Spares v g
+  spares-passes law = record {
+    spare = λ q r i at. law.spare q r i (back q r at);
+    spare_back = λ q i h. ap spare_of (router q) ∙ law.spare_back q i h;
+    opening = λ n i h. law.opening n i (sym (p.nodes n).opening ∙ h);
+    opening_back = λ n i h. (p.nodes n).opening ∙ law.opening_back n i h;
+    fresh = law.fresh;
+    fresh_back = law.fresh_back;
+  }
+
+  bypasses-passes : BypassRecords w g → BypassRecords v g
+  bypasses-passes law = record {
+    stage = law.stage;
+    old = law.old;
+    inner = λ o a. recorded _ ∙ law.inner o a;
+    inner_by = law.inner_by;
+    pair = law.pair;
+    proxy_old = law.proxy_old;
+    proxy_inner = law.proxy_inner;
+    across = law.across;
+    fresh = law.fresh;
+    fresh_linked = law.fresh_linked;
+    fresh_born = law.fresh_born;
+    fresh_pair = law.fresh_pair;
+    inner_known = law.inner_known;
+    fresh_inner = law.fresh_inner;
+    fresh_inner_node = law.fresh_inner_node;
+    fresh_across_node = law.fresh_across_node;
+    fresh_awaited = law.fresh_awaited;
+    fresh_across = law.fresh_across;
+    born_fresh = law.born_fresh;
+    born_stage = law.born_stage;
+  }
+
+  stages-passes : Stages w g → Stages v g
+  stages-passes law = record {
+    proxy_old = λ o a b. known _ _ ∙ law.proxy_old o a b;
+    proxy_inner = λ o a b. known _ _ ∙ law.proxy_inner o a b;
+    proxy_begun = λ o r a at. law.proxy_begun o r a (back _ r at);
+    proxy_end = λ o r a at. law.proxy_end o r a (back _ r at);
+    across_old = λ o a b. known _ _ ∙ law.across_old o a b;
+    across_marked = λ o a b. known _ _ ∙ law.across_marked o a b;
+    across_free = λ o a b. known _ _ ∙ law.across_free o a b;
+    across_fresh = λ o a b. known _ _ ∙ law.across_fresh o a b;
+    inner_primary = λ o q a e. known _ _ ∙ law.inner_primary o q a e;
+    inner_decaying = λ o a b. known _ _ ∙ law.inner_decaying o a b;
+  }
+
+  told-passes : Told w g → Told v g
+  told-passes law = record {
+    control = λ o h. p.totals (λ from to. of_bypass g o (h from to)) (λ from to l s. about-flush g o (h from to) l s) ∙ law.control o h;
+    will_stop = λ from to i l s n u. let c = will_stop from to i l s n u in law.will_stop from to c.at l s n c.was;
+    behind = λ from to i l s old target fresh u e. let c = peer from to i l s old target fresh u in
+        c.made l s (law.behind from to c.at l s old target fresh c.was e);
+    flush_central = λ from to i l s u. let f = flush law from to i l s u in ap is_central (same_link_in from to l s f) ∙ f.central;
+    flush_recorded = λ from to i l s u. let f = flush law from to i l s u in
+        recorded l ∙ ap (is_recorded w g) (same_link_in from to l s f) ∙ f.recorded;
+    flush_to = λ from to i l s u. let f = flush law from to i l s u in
+        f.receiver ∙ ap (λ k. side_node g k f.side) (sym (same_link_in from to l s f)) ∙ ap (side_node g l)
+        (sym (same_side_in from to l s f));
+    flush_from = λ from to i l s u. let f = flush law from to i l s u in
+        f.sender ∙ ap (λ k. side_node g k (opposite f.side)) (sym (same_link_in from to l s f)) ∙ ap (λ t. side_node g l (opposite t))
+        (sym (same_side_in from to l s f));
+  }
+
+  moves-passes : Moves w g → Moves v g
+  moves-passes law = record {
+    ends = λ from to i l s n x moves u. let c = item from to i l s n x moves u in law.ends from to c.at l s n x moves c.was;
+    within = λ n i l s number x moves u. let c = item n n i l s number x moves u in law.within n c.at l s number x moves c.was;
+    recorded = λ from to i j m d u e. let c = moved from to i j m d u e in recorded d.link ∙ law.recorded from to c.at j m d c.was e;
+    peripheral = λ from to i j m d u e. let c = moved from to i j m d u e in law.peripheral from to c.at j m d c.was e;
+    sender = λ from to i j m d u e. let c = moved from to i j m d u e in law.sender from to c.at j m d c.was e;
+    receiver = λ from to i j m d u e. let c = moved from to i j m d u e in law.receiver from to c.at j m d c.was e;
+    awaited = λ from to i j m d u e. let c = moved from to i j m d u e in law.awaited from to c.at j m d c.was e;
+    end = λ from to i j m d u e. let c = moved from to i j m d u e in law.end from to c.at j m d c.was e;
+    one = λ e h. p.totals (λ from to m. total_list (of_end e h) (moves_of m))
+        (λ from to l s. ap (total_list (of_end e h)) (moves-flush l s)) ∙ law.one e h;
+    moving = λ q a. law.moving q (was_recorded _ a);
+  }
+
+  terminals-passes : Terminals w g → Terminals v g
+  terminals-passes law = record {
+    terminal = λ q r at. law.terminal q r (back q r at);
+    stands = λ e q h. known (Some q) _ ∙ law.stands e q h;
+    opened = λ q r at. law.opened q r (back q r at);
+    link_opened = λ l s a. law.link_opened l s (was_recorded l a);
+    both = law.both;
+    unopened = law.unopened;
+    other_pair = law.other_pair;
+  }
+
+  end_places-passes : EndPlaces w g → EndPlaces v g
+  end_places-passes law = record {
+    held = λ n e h. law.held n e (sym (ap (holds e) (p.nodes n).held) ∙ h);
+    pending = λ n e h. law.pending n e (sym (ap (has_end e) (p.nodes n).pending) ∙ h);
+    out = λ q r n x e at. law.out q r n x e (back q r at);
+    inn = λ q r n x e at. law.inn q r n x e (back q r at);
+    within = λ n i l s number x moves e u. let c = item n n i l s number x moves u in law.within n c.at l s number x moves e c.was;
+  }
+
+  books-passes : (b : Books) → BooksKept w b g → BooksKept v b g
+  books-passes b law = record {
+    own_pair = law.own_pair;
+    mark_last = law.mark_last;
+    numbers = law.numbers;
+    mark_seen =
+        λ q r at. law.mark_seen q r (back q r at);
+  }
+
+  items-passes : Items w g → Items v g
+  items-passes law = record {
+    recorded = λ from to i l s n x moves u. let c = item from to i l s n x moves u in
+        recorded l ∙ law.recorded from to c.at l s n x moves c.was;
+    sender = λ from to i l s n x moves u. let c = item from to i l s n x moves u in law.sender from to c.at l s n x moves c.was;
+    receiver = λ from to i l s n x moves u. let c = item from to i l s n x moves u in law.receiver from to c.at l s n x moves c.was;
+    below_length = λ from to i l s n x moves length u. let c = item from to i l s n x moves u in
+        law.below_length from to c.at l s n x moves length c.was;
+    was_sent = λ from to i l s n x moves m u h. let c = item from to i l s n x moves u in
+        law.was_sent from to c.at l s n x moves m c.was (sym (ap (next_sent l (opposite s)) (seen l (opposite s))) ∙ h);
+    by_sender = λ from to i l s n x moves u. let c = item from to i l s n x moves u in
+        ap may_have_sent (seen l (opposite s)) ∙ law.by_sender from to c.at l s n x moves c.was;
+    sender_gone = λ from to i l s n x moves u h. let c = item from to i l s n x moves u in
+        law.sender_gone from to c.at l s n x moves c.was (sym (ap is_gone (seen l (opposite s))) ∙ h);
+    not_passed = λ from to i l s n x moves q u h. let c = item from to i l s n x moves u in
+        law.not_passed from to c.at l s n x moves q c.was (sym (ap (taking_queue l s) (seen l s)) ∙ h);
+    behind = λ from to i l s n x moves u h. let c = item from to i l s n x moves u in
+        c.made l s (law.behind from to c.at l s n x moves c.was (sym (ap is_awaited (seen l s)) ∙ h));
+    not_awaited_low = λ from to i j s n x moves o u. let c = item from to i (Central j) s n x moves u in
+        law.not_awaited_low from to c.at j s n x moves o c.was;
+    receiver_there = λ from to i l s n x moves u. let c = item from to i l s n x moves u in
+        ap is_gone (seen l s) ∙ law.receiver_there from to c.at l s n x moves c.was;
+  }
+
+  order-passes : Order w g → Order v g
+  order-passes law = record {
+    current = λ l s u q a b d. law.current l s u q (was_recorded l a) (sym (ap (next_sent l (opposite s)) (seen l (opposite s))) ∙ b)
+        (sym (ap (taking_queue l s) (seen l s)) ∙ d);
+    stored = λ l s u q n x a b d. law.stored l s u q n x (was_recorded l a) (sym (ap (next_sent l (opposite s)) (seen l (opposite s))) ∙ b)
+        (sym (ap (taking_queue l s) (seen l s)) ∙ d);
+  }
+
+  proxy_numbers-passes : ProxyNumbers w g → ProxyNumbers v g
+  proxy_numbers-passes law = record {
+    out_current = λ o r at. law.out_current o r (back _ r at);
+    out_items = λ o r n x at. law.out_items o r n x (back _ r at);
+    in_current = λ o r at. law.in_current o r (back _ r at);
+    in_items = λ o r n x at. law.in_items o r n x (back _ r at);
+    across_gone = λ o r at a h. law.across_gone o r (back _ r at) a (sym (ap is_gone (seen (Central o) (across_side g o))) ∙ h);
+    inner_gone = λ o r at a h. law.inner_gone o r (back _ r at) a (sym (ap is_gone (seen (inner_of g o) B)) ∙ h);
+    out_finished = λ o r at. law.out_finished o r (back _ r at);
+    in_finished = λ o r at. law.in_finished o r (back _ r at);
+  }
+
+  fresh_numbers-passes : FreshNumbers w g → FreshNumbers v g
+  fresh_numbers-passes law = record {
+    own = λ q r e d n at. law.own q r e d n (back q r at);
+    comes = λ q r e d length from to i n x moves at a b f u. let c = item from to i e.link e.side n x moves u in
+        law.comes q r e d length from to c.at n x moves (back q r at) a b f c.was;
+    other = λ q r z e d n at a b f h. law.other q r z e d n (back q r at) a b f
+        (sym (ap standing_router (seen e.link (opposite e.side))) ∙ h);
+  }
+
+  conserved-passes : (b : Books) → Conserved w b g → Conserved v b g
+  conserved-passes b law = record {
+    exact = λ e h. weighs (at_end e h) ∙ law.exact e h;
+    read_put = law.read_put;
+    prefix = law.prefix;
+    gone_closed = law.gone_closed;
+    reach = λ q r at. law.reach q r (back q r at);
+    current = λ q r at. law.current q r (back q r at);
+    sink = λ q r at. law.sink q r (back q r at);
+    move_out = λ from to i j m d u e. let c = moved from to i j m d u e in law.move_out from to c.at j m d c.was e;
+    move_in = λ from to i j m d u e. let c = moved from to i j m d u e in law.move_in from to c.at j m d c.was e;
+    move_open = λ from to i j m d u e. let c = moved from to i j m d u e in law.move_open from to c.at j m d c.was e;
+    unopened_put = law.unopened_put;
+    unopened_got = law.unopened_got;
+  }
+
+  held_once-passes : (b : Books) → HeldOnce w b g → HeldOnce v b g
+  held_once-passes b law = record {
+    once = λ e. omega (arith, law.once e, weighs (names_end e), held e);
+    moves_in_parcel = λ from to i l s n x moves j d u. let c = item from to i l s n x moves u in
+        law.moves_in_parcel from to c.at l s n x moves j d c.was;
+  }
+    where
+      held : (e : End) → times_held v e ≡ times_held w e
+      held e = ap (λ n. total_below n (λ i. held_times e (node_at v i).held + times e (node_at v i).pending)) p.count
+          ∙ total_below-same w.count _ _ (λ i l. omega (arith, ap (held_times e) (p.nodes i).held, ap (times e) (p.nodes i).pending))
+
+  pub inv-passes : (b : Books) → HasHands v → Inv w b g → Inv v b g
+  inv-passes b hands law = record {
+    counts = counts-passes hands law.counts;
+    ordered = ordered-passes law.ordered;
+    shape = shape-passes law.shape;
+    links = links-passes law.links;
+    positions = positions-passes law.positions;
+    stands = stands-passes law.stands;
+    words = words-passes law.words;
+    spares = spares-passes law.spares;
+    bypasses = bypasses-passes law.bypasses;
+    stages = stages-passes law.stages;
+    told = told-passes law.told;
+    moves = moves-passes law.moves;
+    terminals = terminals-passes law.terminals;
+    end_places = end_places-passes law.end_places;
+    books_kept = books-passes b law.books_kept;
+    items = items-passes law.items;
+    order = order-passes law.order;
+    proxy_numbers = proxy_numbers-passes law.proxy_numbers;
+    fresh_numbers = fresh_numbers-passes law.fresh_numbers;
+    conserved = conserved-passes b law.conserved;
+    held_once = held_once-passes b law.held_once;
+    no_strays = λ n. (p.nodes n).strays ∙ law.no_strays n;
+  }

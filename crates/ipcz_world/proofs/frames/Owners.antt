@@ -1,0 +1,195 @@
+-- A word that is no link's gets another owner: what is said of all else is kept.
+use Rattle.std.specs.Prelude.{◌≡◌, ℕ, Bool, true, false, cond, nat_eq, refl}
+use Rattle.std.proofs.Common.{arith, sym, ◌∙◌, ap}
+use Rattle.std.proofs.lemmas.Bool.Decides.{nat_tests}
+use Rattle.ipcz_base.specs.declared.side.Side.{Side}
+use Rattle.ipcz_base.specs.declared.link_id.LinkId.{LinkId}
+use Rattle.ipcz_base.specs.declared.link_id.LinkId.TheVariants.{Central, Peripheral}
+use Rattle.ipcz_base.specs.declared.link_end.LinkEnd.{LinkEnd}
+use Rattle.ipcz_router.specs.Router.{Router}
+use Rattle.ipcz_world.specs.World.{World, Key}
+use Rattle.ipcz_world.specs.Books.{Books}
+use Rattle.ipcz_world.specs.Records.{Records, Owner, is_linked, is_recorded, inner_link, bypass_of, bypass_length, length_by, side_length}
+use Rattle.ipcz_world.specs.Records.{side_router, side_node, side_end, set_owner}
+use Rattle.ipcz_world.specs.Standing.{view, view_by}
+use Rattle.ipcz_world.specs.Structure.{Links, IsRecorded, Positions, Stands}
+use Rattle.ipcz_world.specs.Bypasses.{Stages, Told, Moves, of_bypass, control_weight}
+use Rattle.ipcz_world.specs.Whereabouts.{Terminals}
+use Rattle.ipcz_world.specs.Numbers.{Items, Order, ProxyNumbers, FreshNumbers}
+
+module _ (v : World) (b : Books) (g : Records) (i : ℕ) (x : Owner) (free : is_linked (g.owner i) ≡ false) (other : is_linked x ≡ false)
+  where
+    abbrev pub owned : Records
+    owned = set_owner g i x
+
+    pub linked-owned : (j : ℕ) → is_linked (owned.owner j) ≡ is_linked (g.owner j)
+    linked-owned j = go (nat_eq j i) refl
+      where
+        go : (t : Bool) → nat_eq j i ≡ t → is_linked (cond t x (g.owner j)) ≡ is_linked (g.owner j)
+        go true e = let f : j ≡ i = grind (arith, e, nat_tests) in other ∙ sym (ap (λ n. is_linked (g.owner n)) f ∙ free)
+        go false e = refl
+
+    pub recorded-owned : (l : LinkId) → is_recorded v owned l ≡ is_recorded v g l
+    unfolding is_recorded
+    recorded-owned (Central j) = linked-owned j
+    recorded-owned (Peripheral n s) = refl
+
+    view-owned : (l : LinkId) (s : Side) → view v owned l s ≡ view v g l s
+    unfolding view_by side_router side_end
+    view-owned l s = refl
+
+    length-owned : (l : LinkId) (s : Side) → side_length owned l s ≡ side_length g l s
+    unfolding length_by bypass_of bypass_length
+    length-owned l s = refl
+
+    pub links-owned : Links v g → Links v owned
+    unfolding side_router side_node side_end
+    links-owned law = record {
+      primary = λ q z e at d. same q z e (law.primary q z e at d);
+      decaying = λ q z e at d. same q z e (law.decaying q z e at d);
+      inward_primary = λ q z e at d. same q z e (law.inward_primary q z e at d);
+      inward_decaying = λ q z e at d. same q z e (law.inward_decaying q z e at d);
+      primary_outward = law.primary_outward;
+      decaying_outward = law.decaying_outward;
+      inward_primary_inward = law.inward_primary_inward;
+      inward_decaying_inward = law.inward_decaying_inward;
+    }
+      where
+        same : (q : Key) (z : Router) (e : LinkEnd) → IsRecorded v g q z e → IsRecorded v owned q z e
+        same q z e is = record { recorded = recorded-owned e.link ∙ is.recorded; other = is.other; router = is.router; end = is.end }
+
+    pub positions-owned : Positions v g → Positions v owned
+    unfolding bypass_of
+    positions-owned law = record {
+      inward_primary = law.inward_primary;
+      inward_decaying = law.inward_decaying;
+      inward_to = law.inward_to;
+      inward_from = law.inward_from;
+      primary_old = law.primary_old;
+      primary_across = law.primary_across;
+      primary_inner = law.primary_inner;
+      decaying = law.decaying;
+      inner_stage = law.inner_stage;
+      inner_to = law.inner_to;
+      inner_from = law.inner_from;
+      inner_fresh = law.inner_fresh;
+      own_proxy = law.own_proxy;
+      own_alone = law.own_alone;
+      own_to = law.own_to;
+      own_from = law.own_from;
+      across_stage = law.across_stage;
+      across_to = law.across_to;
+      across_from = law.across_from;
+      across_fresh = law.across_fresh;
+      begun = law.begun;
+      begun_proxy = law.begun_proxy;
+      begun_stage = law.begun_stage;
+      proxy_begun = law.proxy_begun;
+    }
+
+    pub stands-owned : Stands v g → Stands v owned
+    unfolding side_router
+    stands-owned law = record {
+      central = λ j s q a d e. law.central j s q (sym (linked-owned j) ∙ a) d e;
+      awaited = λ j s a e. law.awaited j s (sym (linked-owned j) ∙ a) e;
+      awaited_stage = λ j s o a e d. law.awaited_stage j s o (sym (linked-owned j) ∙ a) e d;
+      awaited_side = λ j s o a e d. law.awaited_side j s o (sym (linked-owned j) ∙ a) e d;
+      proxy = λ p a e. law.proxy p (sym (recorded-owned (inner_link p)) ∙ a) e;
+      inner = λ p q a e d. law.inner p q (sym (recorded-owned (inner_link p)) ∙ a) e d;
+      by_begun = law.by_begun;
+      by_inner = law.by_inner;
+    }
+
+    pub stages-owned : Stages v g → Stages v owned
+    unfolding side_router side_end
+    stages-owned law = record {
+      proxy_old = law.proxy_old;
+      proxy_inner = law.proxy_inner;
+      proxy_begun = law.proxy_begun;
+      proxy_end = law.proxy_end;
+      across_old = law.across_old;
+      across_marked = law.across_marked;
+      across_free = law.across_free;
+      across_fresh = law.across_fresh;
+      inner_primary = law.inner_primary;
+      inner_decaying = law.inner_decaying;
+    }
+
+    pub moves-owned : Moves v g → Moves v owned
+    unfolding side_router side_node side_end
+    moves-owned law = record {
+      ends = law.ends;
+      within = law.within;
+      recorded = λ from to j n m d u e. recorded-owned d.link ∙ law.recorded from to j n m d u e;
+      peripheral = law.peripheral;
+      sender = law.sender;
+      receiver = law.receiver;
+      awaited = law.awaited;
+      end = law.end;
+      one = law.one;
+      moving = λ p a e. law.moving p (sym (recorded-owned (inner_link p)) ∙ a) e;
+    }
+
+    pub told-owned : Told v g → Told v owned
+    unfolding side_router side_node bypass_of of_bypass control_weight
+    told-owned law = record {
+      control = law.control;
+      will_stop = law.will_stop;
+      behind = law.behind;
+      flush_central = law.flush_central;
+      flush_recorded = λ from to j l s u. recorded-owned l ∙ law.flush_recorded from to j l s u;
+      flush_to = law.flush_to;
+      flush_from = law.flush_from;
+    }
+
+    pub terminals-owned : Terminals v g → Terminals v owned
+    unfolding side_end
+    terminals-owned law = record {
+      terminal = law.terminal;
+      stands = law.stands;
+      opened = law.opened;
+      link_opened = λ l s a. law.link_opened l s (sym (recorded-owned l) ∙ a);
+      both = law.both;
+      unopened = λ e a. law.unopened e (sym (linked-owned e.pair) ∙ a);
+      other_pair = λ e a f. law.other_pair e (sym (linked-owned e.pair) ∙ a) f;
+    }
+
+    pub items-owned : Items v g → Items v owned
+    unfolding side_node side_router side_end view_by length_by bypass_of bypass_length
+    items-owned law = record {
+      recorded = λ from to j l s n item moves u. recorded-owned l ∙ law.recorded from to j l s n item moves u;
+      sender = law.sender;
+      receiver = law.receiver;
+      below_length = law.below_length;
+      was_sent = law.was_sent;
+      by_sender = law.by_sender;
+      sender_gone = law.sender_gone;
+      not_passed = law.not_passed;
+      behind = law.behind;
+      not_awaited_low = law.not_awaited_low;
+      receiver_there = law.receiver_there;
+    }
+
+    pub order-owned : Order v g → Order v owned
+    unfolding side_router side_end view_by length_by bypass_of bypass_length
+    order-owned law = record {
+      current = λ l s u q a. law.current l s u q (sym (recorded-owned l) ∙ a);
+      stored = λ l s u q n item a. law.stored l s u q n item (sym (recorded-owned l) ∙ a);
+    }
+
+    pub proxy_numbers-owned : ProxyNumbers v g → ProxyNumbers v owned
+    unfolding side_router side_end view_by
+    proxy_numbers-owned law = record {
+      out_current = law.out_current;
+      out_items = law.out_items;
+      in_current = law.in_current;
+      in_items = law.in_items;
+      across_gone = law.across_gone;
+      inner_gone = law.inner_gone;
+      out_finished = law.out_finished;
+      in_finished = law.in_finished;
+    }
+
+    pub fresh_numbers-owned : FreshNumbers v g → FreshNumbers v owned
+    unfolding side_router side_end view_by length_by bypass_of bypass_length
+    fresh_numbers-owned law = record { own = law.own; comes = law.comes; other = law.other }

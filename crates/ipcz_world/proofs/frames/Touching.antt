@@ -1,0 +1,390 @@
+-- One router changes in what its links, its spare and its lock don't show: what is said of those is kept.
+use Rattle.std.specs.Prelude.{◌≡◌, ◌<◌, ℕ, Bool, true, false, cond, Option, Some, None, is_some, refl}
+use Rattle.std.proofs.Common.{arith, ◌∙◌, sym}
+use Rattle.ipcz_base.specs.declared.side.Side.TheVariants.{A, B}
+use Rattle.ipcz_base.specs.declared.link_id.LinkId.{LinkId}
+use Rattle.ipcz_base.specs.declared.link_id.LinkId.TheVariants.{Central, Peripheral}
+use Rattle.ipcz_base.specs.declared.link_end.LinkEnd.{LinkEnd}
+use Rattle.ipcz_router.specs.Router.{Router}
+use Rattle.ipcz_world.specs.World.{World, Key, same_key, node_at, word_at, mail_at, way, router_at}
+use Rattle.ipcz_world.proofs.frames.Frames.{same_key_tells}
+use Rattle.ipcz_world.specs.Turns.{hand_message}
+use Rattle.ipcz_world.specs.Records.{Records, is_recorded, inner_link, side_router, across_side}
+use Rattle.ipcz_world.specs.Standing.{key_passes, spare_of}
+use Rattle.ipcz_world.proofs.frames.StandingRules.{standing_rules}
+use Rattle.ipcz_world.specs.Structure.{Counts, Shape, Links, IsRecorded, Positions, Stands, Words, Spares}
+use Rattle.ipcz_world.specs.Bypasses.{BypassRecords, Stages, inner_of, fresh_of}
+use Rattle.ipcz_world.specs.Whereabouts.{Terminals}
+
+-- two routers with the same end, links and flags of bypasses
+pub record IsAlike (r y : Router) : Type 0 where
+  pub end : y.end ≡ r.end
+  pub outward : y.outward ≡ r.outward
+  pub inward : y.inward ≡ r.inward
+  pub spare : y.spare ≡ r.spare
+  pub marked : y.marked ≡ r.marked
+  pub holds : y.holds ≡ r.holds
+
+-- the worlds differ in the router of one key, in flows and in hands
+pub record IsTouched (w v : World) (k : Key) (r y : Router) : Type 0 where
+  pub here : router_at w k ≡ Some r
+  pub router : (q : Key) → router_at v q ≡ cond (same_key q k) (Some y) (router_at w q)
+  pub word : (i : ℕ) → word_at v i ≡ word_at w i
+  pub claimed : v.claimed ≡ w.claimed
+  pub size : v.size ≡ w.size
+  pub count : v.count ≡ w.count
+  pub node : (n : ℕ) → (node_at v n).number ≡ (node_at w n).number
+  pub nodes : (n : ℕ) → (node_at v n).count ≡ (node_at w n).count
+  pub opening : (n : ℕ) → (node_at v n).opening ≡ (node_at w n).opening
+  pub next_router : (n : ℕ) → (node_at v n).next_router ≡ (node_at w n).next_router
+  pub next_peripheral : (n : ℕ) → (node_at v n).next_peripheral ≡ (node_at w n).next_peripheral
+  pub strays : (n : ℕ) → (node_at v n).strays ≡ (node_at w n).strays
+
+-- hands and mailboxes are as before
+pub record HasSameHands (w v : World) : Type 0 where
+  pub hand : (n : ℕ) → (node_at v n).hand ≡ (node_at w n).hand
+  pub mail : (i : ℕ) → mail_at v i ≡ mail_at w i
+
+-- what callers hold and what is pending is as before
+pub record HasSameEnds (w v : World) : Type 0 where
+  pub count : v.count ≡ w.count
+  pub held : (n : ℕ) → (node_at v n).held ≡ (node_at w n).held
+  pub pending : (n : ℕ) → (node_at v n).pending ≡ (node_at w n).pending
+
+-- each hand has what its mailbox has
+pub record Hands (w : World) : Type 0 where
+  pub hand : (n from : ℕ) → n < w.count → (node_at w n).hand ≡ Some from → is_some (hand_message (mail_at w (way w from n))) ≡ true
+  pub hand_from : (n from : ℕ) → n < w.count → (node_at w n).hand ≡ Some from → from < w.count
+  pub in_hand : (n from : ℕ) → n < w.count → from < w.count → is_some (hand_message (mail_at w (way w from n))) ≡ true →
+      (node_at w n).hand ≡ Some from
+
+pub hands-same : (w v : World) (g : Records) → Counts w g → v.count ≡ w.count → HasSameHands w v → Hands v
+hands-same w v g law count same = record {
+  hand = λ n from h a. grind (arith, count, same.hand n, same.mail (way v from n), law.hand n from);
+  hand_from = λ n from h a. grind (arith, count, same.hand n, law.hand_from n from);
+  in_hand = λ n from h l a. grind (arith, count, same.hand n, same.mail (way v from n), law.in_hand n from);
+}
+
+pub recorded_same : (w v : World) (k : Key) (r y : Router) (g : Records) → IsTouched w v k r y → (link : LinkId) →
+    is_recorded v g link ≡ is_recorded w g link
+unfolding is_recorded
+recorded_same w v k r y g t (Central i) = refl
+recorded_same w v k r y g t (Peripheral n s) = grind (arith, t.count, t.next_peripheral n)
+
+-- a test that tells the two routers not apart passes as before
+pub passes_same : (w v : World) (k : Key) (r y : Router) → IsTouched w v k r y → (test : Router → Bool) → test y ≡ test r →
+    (o : Option Key) → key_passes v o test ≡ key_passes w o test
+passes_same w v k r y t test same None = grind (arith, standing_rules)
+passes_same w v k r y t test same (Some q) = grind (arith, standing_rules, t.router q, t.here, same_key_tells q k, same)
+
+module _ (w v : World) (k : Key) (r y : Router) (g : Records) (t : IsTouched w v k r y) (a : IsAlike r y) where
+  pub counts-touched : Counts w g → Hands v → Counts v g
+  counts-touched law hands = record {
+    node = λ n h. grind (arith, t.node n, t.count, law.node n);
+    nodes = λ n h. grind (arith, t.nodes n, t.count, law.nodes n);
+    claimed = grind (arith, t.claimed, t.size, law.claimed);
+    unclaimed = λ i. grind (arith, t.claimed, law.unclaimed i);
+    on_node = λ q x at. grind (arith, t.router q, same_key_tells q k, t.here, t.count, law.on_node q x, law.on_node k r);
+    serial = λ q x at. grind (arith, t.router q, same_key_tells q k, t.here, t.next_router q.node, law.serial q x, law.serial k r);
+    side_serial = λ link s q h e. grind (arith, recorded_same w v k r y g t link, t.next_router q.node, law.side_serial link s q);
+    side_on_node = λ link s h. grind (arith, recorded_same w v k r y g t link, t.count, law.side_on_node link s);
+    hand = hands.hand;
+    hand_from = hands.hand_from;
+    in_hand = hands.in_hand;
+  }
+
+  pub shape-touched : Shape w → Shape v
+  shape-touched law = record {
+    role = λ q x at. grind (arith, t.router q, same_key_tells q k, t.here, law.role q x, law.role k r);
+    marked_central = λ q x at m. grind (arith, t.router q, same_key_tells q k, t.here, law.marked_central q x, law.marked_central k r);
+    marked_still = λ q x at m. grind (arith, t.router q, same_key_tells q k, t.here, law.marked_still q x, law.marked_still k r);
+    holds_marked = λ q x at m. grind (arith, t.router q, same_key_tells q k, t.here, law.holds_marked q x, law.holds_marked k r);
+    holds_proxy = λ q x at m. grind (arith, t.router q, same_key_tells q k, t.here, law.holds_proxy q x, law.holds_proxy k r);
+    holds_spare = λ q x at m. grind (arith, t.router q, same_key_tells q k, t.here, law.holds_spare q x, law.holds_spare k r);
+    spare_proxy = λ q x j at m. grind (arith, t.router q, same_key_tells q k, t.here, law.spare_proxy q x j, law.spare_proxy k r j);
+    spare_primary = λ q x j at m. grind (arith, t.router q, same_key_tells q k, t.here, law.spare_primary q x j, law.spare_primary k r j);
+  }
+
+  -- what stood there before, alike
+  pub before : (q : Key) (x : Router) → router_at v q ≡ Some x → (z : Router) × (router_at w q ≡ Some z) × IsAlike z x
+  before q x at = go (same_key q k) refl
+    where
+      go : (b : Bool) → same_key q k ≡ b → (z : Router) × (router_at w q ≡ Some z) × IsAlike z x
+      go true e = (
+        r,
+        grind (arith, t.here, same_key_tells q k, e),
+        record {
+          end = grind (arith, t.router q, e, at, a.end);
+          outward = grind (arith, t.router q, e, at, a.outward);
+          inward = grind (arith, t.router q, e, at, a.inward);
+          spare = grind (arith, t.router q, e, at, a.spare);
+          marked = grind (arith, t.router q, e, at, a.marked);
+          holds = grind (arith, t.router q, e, at, a.holds);
+        },
+      )
+      go false e = (
+        x,
+        grind (arith, t.router q, e, at),
+        record {
+          end = refl;
+          outward = refl;
+          inward = refl;
+          spare = refl;
+          marked = refl;
+          holds = refl;
+        },
+      )
+
+  is_recorded-touched : (q : Key) (z x : Router) (e : LinkEnd) → IsAlike z x → IsRecorded w g q z e → IsRecorded v g q x e
+  is_recorded-touched q z x e same is = record {
+    recorded = recorded_same w v k r y g t e.link ∙ is.recorded;
+    other = is.other;
+    router = is.router;
+    end = same.end ∙ is.end;
+  }
+
+  pub links-touched : Links w g → Links v g
+  links-touched law = record {
+    primary = λ q x e at is. let z = before q x at in is_recorded-touched q z.0 x e z.2
+        (law.primary q z.0 e z.1 (grind (arith, z.2.outward, is)));
+    decaying = λ q x e at is. let z = before q x at in is_recorded-touched q z.0 x e z.2
+        (law.decaying q z.0 e z.1 (grind (arith, z.2.outward, is)));
+    inward_primary = λ q x e at is. let z = before q x at in is_recorded-touched q z.0 x e z.2
+        (law.inward_primary q z.0 e z.1 (grind (arith, z.2.inward, is)));
+    inward_decaying = λ q x e at is. let z = before q x at in is_recorded-touched q z.0 x e z.2
+        (law.inward_decaying q z.0 e z.1 (grind (arith, z.2.inward, is)));
+    primary_outward = λ q x e at is. let z = before q x at in law.primary_outward q z.0 e z.1 (grind (arith, z.2.outward, is));
+    decaying_outward = λ q x e at is. let z = before q x at in law.decaying_outward q z.0 e z.1 (grind (arith, z.2.outward, is));
+    inward_primary_inward = λ q x e at is. let z = before q x at in law.inward_primary_inward q z.0 e z.1 (grind (arith, z.2.inward, is));
+    inward_decaying_inward = λ q x e at is. let z = before q x at in law.inward_decaying_inward q z.0 e z.1 (grind (arith, z.2.inward, is));
+  }
+
+  pub positions-touched : Positions w g → Positions v g
+  positions-touched law = record {
+    inward_primary = λ q x e at is. grind (
+      arith,
+      t.router q,
+      same_key_tells q k,
+      t.here,
+      law.inward_primary q x e,
+      law.inward_primary k r e,
+    );
+    inward_decaying = λ q x e at is. grind (
+      arith,
+      t.router q,
+      same_key_tells q k,
+      t.here,
+      law.inward_decaying q x e,
+      law.inward_decaying k r e,
+    );
+    inward_to = λ q x e o at is b. grind (arith, t.router q, same_key_tells q k, t.here, law.inward_to q x e o, law.inward_to k r e o);
+    inward_from = λ q x e o at is b. grind (
+      arith,
+      t.router q,
+      same_key_tells q k,
+      t.here,
+      law.inward_from q x e o,
+      law.inward_from k r e o,
+    );
+    primary_old = λ q x e o at is l b. grind (
+      arith,
+      t.router q,
+      same_key_tells q k,
+      t.here,
+      law.primary_old q x e o,
+      law.primary_old k r e o,
+    );
+    primary_across = λ q x e o at is l b. grind (
+      arith,
+      t.router q,
+      same_key_tells q k,
+      t.here,
+      law.primary_across q x e o,
+      law.primary_across k r e o,
+    );
+    primary_inner = λ q x e p o at is l b. grind (
+      arith,
+      t.router q,
+      same_key_tells q k,
+      t.here,
+      law.primary_inner q x e p o,
+      law.primary_inner k r e p o,
+    );
+    decaying = λ q x e at is. grind (arith, t.router q, same_key_tells q k, t.here, law.decaying q x e, law.decaying k r e);
+    inner_stage = λ q x e p o at is l b. grind (
+      arith,
+      t.router q,
+      same_key_tells q k,
+      t.here,
+      law.inner_stage q x e p o,
+      law.inner_stage k r e p o,
+    );
+    inner_to = λ q x e p o at is l b. grind (arith, t.router q, same_key_tells q k, t.here, law.inner_to q x e p o, law.inner_to k r e p o);
+    inner_from = λ q x e p o at is l b. grind (
+      arith,
+      t.router q,
+      same_key_tells q k,
+      t.here,
+      law.inner_from q x e p o,
+      law.inner_from k r e p o,
+    );
+    inner_fresh = λ q x e p o at is l b. grind (
+      arith,
+      t.router q,
+      same_key_tells q k,
+      t.here,
+      law.inner_fresh q x e p o,
+      law.inner_fresh k r e p o,
+    );
+    own_proxy = λ q x e o at is l s. grind (arith, t.router q, same_key_tells q k, t.here, law.own_proxy q x e o, law.own_proxy k r e o);
+    own_alone = λ q x e o at is l s. grind (arith, t.router q, same_key_tells q k, t.here, law.own_alone q x e o, law.own_alone k r e o);
+    own_to = λ q x e o at is l s. grind (arith, t.router q, same_key_tells q k, t.here, law.own_to q x e o, law.own_to k r e o);
+    own_from = λ q x e o at is l s. grind (arith, t.router q, same_key_tells q k, t.here, law.own_from q x e o, law.own_from k r e o);
+    across_stage = λ q x e o at is l s. grind (
+      arith,
+      t.router q,
+      same_key_tells q k,
+      t.here,
+      law.across_stage q x e o,
+      law.across_stage k r e o,
+    );
+    across_to = λ q x e o at is l s. grind (arith, t.router q, same_key_tells q k, t.here, law.across_to q x e o, law.across_to k r e o);
+    across_from = λ q x e o at is l s. grind (
+      arith,
+      t.router q,
+      same_key_tells q k,
+      t.here,
+      law.across_from q x e o,
+      law.across_from k r e o,
+    );
+    across_fresh = λ q x e o at is l s. grind (
+      arith,
+      t.router q,
+      same_key_tells q k,
+      t.here,
+      law.across_fresh q x e o,
+      law.across_fresh k r e o,
+    );
+    begun = λ q x at is. grind (arith, t.router q, same_key_tells q k, t.here, law.begun q x, law.begun k r);
+    begun_proxy = law.begun_proxy;
+    begun_stage = law.begun_stage;
+    proxy_begun = law.proxy_begun;
+  }
+
+  pub stands-touched : Stands w g → Stands v g
+  stands-touched law = record {
+    central = λ i s q l b is. passes_same w v k r y t _ (grind (arith, a.outward)) (Some q) ∙ law.central i s q l b is;
+    awaited = law.awaited;
+    awaited_stage = law.awaited_stage;
+    awaited_side = law.awaited_side;
+    proxy = λ p h b. passes_same w v k r y t _ (grind (arith, a.inward)) (side_router g (inner_link p) A) ∙ law.proxy p
+        (sym (recorded_same w v k r y g t (inner_link p)) ∙ h) b;
+    inner = λ p q h b is. passes_same w v k r y t _ (grind (arith, a.outward)) (Some q) ∙ law.inner p q
+        (sym (recorded_same w v k r y g t (inner_link p)) ∙ h) b is;
+    by_begun = law.by_begun;
+    by_inner = law.by_inner;
+  }
+
+  pub words-touched : Words w g → Words v g
+  words-touched law = record {
+    unused = λ i h. t.word i ∙ law.unused i h;
+    begun_stable = λ i s h. grind (arith, t.word i, law.begun_stable i s);
+    begun_holder = λ i s h. grind (arith, t.word i, law.begun_holder i s);
+    stable = λ i s l h. grind (
+      arith,
+      t.word i,
+      law.stable i s,
+      passes_same w v k r y t (λ x. x.marked) a.marked
+          (side_router g (Central i) s),
+    );
+    holder = λ i s l h. grind (
+      arith,
+      t.word i,
+      law.holder i s,
+      passes_same w v k r y t (λ x. x.holds) a.holds
+          (side_router g (Central i) s),
+    );
+    held_stable = λ i s u h. grind (arith, t.word i, law.held_stable i s u);
+    one_holder = λ i s u h j. grind (arith, t.word i, law.one_holder i s u);
+  }
+
+  spare_same : (q : Key) → spare_of (router_at v q) ≡ spare_of (router_at w q)
+  unfolding spare_of
+  spare_same q = grind (arith, t.router q, same_key_tells q k, t.here, a.spare)
+
+  pub spares-touched : Spares w g → Spares v g
+  spares-touched law = record {
+    spare = λ q x i at is. grind (arith, t.router q, same_key_tells q k, t.here, law.spare q x i, law.spare k r i);
+    spare_back = λ q i is. spare_same q ∙ law.spare_back q i is;
+    opening = λ n i is. grind (arith, t.opening n, law.opening n i);
+    opening_back = λ n i is. grind (arith, t.opening n, law.opening_back n i);
+    fresh = law.fresh;
+    fresh_back = law.fresh_back;
+  }
+
+  pub bypasses-touched : BypassRecords w g → BypassRecords v g
+  bypasses-touched law = record {
+    stage = law.stage;
+    old = law.old;
+    inner = λ o h. recorded_same w v k r y g t (inner_of g o) ∙ law.inner o h;
+    inner_by = law.inner_by;
+    pair = law.pair;
+    proxy_old = law.proxy_old;
+    proxy_inner = law.proxy_inner;
+    across = law.across;
+    fresh = law.fresh;
+    fresh_linked = law.fresh_linked;
+    fresh_born = law.fresh_born;
+    fresh_pair = law.fresh_pair;
+    inner_known = law.inner_known;
+    fresh_inner = law.fresh_inner;
+    fresh_inner_node = law.fresh_inner_node;
+    fresh_across_node = law.fresh_across_node;
+    fresh_awaited = law.fresh_awaited;
+    fresh_across = law.fresh_across;
+    born_fresh = law.born_fresh;
+    born_stage = law.born_stage;
+  }
+
+  pub stages-touched : Stages w g → Stages v g
+  stages-touched law = record {
+    proxy_old = λ o h s. passes_same w v k r y t _ (grind (arith, a.outward)) (Some (g.bypass o).proxy) ∙ law.proxy_old o h s;
+    proxy_inner = λ o h s. passes_same w v k r y t _ (grind (arith, a.inward)) (Some (g.bypass o).proxy) ∙ law.proxy_inner o h s;
+    proxy_begun = λ o x h at. grind (
+      arith,
+      t.router (g.bypass o).proxy,
+      same_key_tells (g.bypass o).proxy k,
+      t.here,
+      law.proxy_begun o x,
+      law.proxy_begun o r,
+    );
+    proxy_end = λ o x h at. grind (
+      arith,
+      t.router (g.bypass o).proxy,
+      same_key_tells (g.bypass o).proxy k,
+      t.here,
+      law.proxy_end o x,
+      law.proxy_end o r,
+    );
+    across_old = λ o h s. passes_same w v k r y t _ (grind (arith, a.outward)) (side_router g (Central o) (across_side g o)) ∙
+        law.across_old o h s;
+    across_marked = λ o h s. passes_same w v k r y t _ a.marked (side_router g (Central o) (across_side g o)) ∙ law.across_marked o h s;
+    across_free = λ o h s. passes_same w v k r y t _ (grind (arith, a.holds)) (side_router g (Central o) (across_side g o)) ∙
+        law.across_free o h s;
+    across_fresh = λ o h s. passes_same w v k r y t _ (grind (arith, a.outward)) (side_router g (fresh_of g o) (across_side g o)) ∙
+        law.across_fresh o h s;
+    inner_primary = λ o q h is. passes_same w v k r y t _ (grind (arith, a.outward)) (Some q) ∙ law.inner_primary o q h is;
+    inner_decaying = λ o h s. passes_same w v k r y t _ (grind (arith, a.outward)) (side_router g (inner_of g o) B) ∙ law.inner_decaying o h
+        s;
+  }
+
+  pub terminals-touched : Terminals w g → Terminals v g
+  terminals-touched law = record {
+    terminal = λ q x at is. grind (arith, t.router q, same_key_tells q k, t.here, law.terminal q x, law.terminal k r);
+    stands = λ e q is. passes_same w v k r y t _ (grind (arith, a.inward, a.end)) (Some q) ∙ law.stands e q is;
+    opened = λ q x at. grind (arith, t.router q, same_key_tells q k, t.here, law.opened q x, law.opened k r);
+    link_opened = λ link s h. law.link_opened link s (sym (recorded_same w v k r y g t link) ∙ h);
+    both = law.both;
+    unopened = law.unopened;
+    other_pair = law.other_pair;
+  }

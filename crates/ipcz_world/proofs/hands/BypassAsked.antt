@@ -1,0 +1,249 @@
+-- What the message in hand of a bypass tells of its record, and which router is asked.
+use Rattle.std.specs.Prelude.{◌≡◌, ◌⊎◌, ◌<◌, ◌≤◌, ℕ, Bool, true, false, cond, ◌&&◌, nat_eq, Option, Some, refl}
+use Rattle.std.proofs.Common.{arith, sym, inl, inr}
+use Rattle.std.proofs.lemmas.Bool.Decides.{nat_tests}
+use Rattle.ipcz_base.specs.declared.side.Side.{Side}
+use Rattle.ipcz_base.specs.declared.side.Side.TheVariants.{B}
+use Rattle.ipcz_base.specs.declared.link_id.LinkId.{LinkId}
+use Rattle.ipcz_base.specs.declared.link_id.LinkId.TheVariants.{Central}
+use Rattle.ipcz_base.specs.declared.link_end.LinkEnd.{LinkEnd}
+use Rattle.ipcz_base.specs.declared.message.Message.{Message}
+use Rattle.ipcz_base.specs.declared.message.Message.TheVariants as messages
+use Rattle.ipcz_base.specs.Sides.{same_side}
+use Rattle.ipcz_base.specs.Links.{has_link, same_link}
+use Rattle.ipcz_router.specs.Router.{Router, router_has, outward_has, inward_has, inward_edge}
+use Rattle.ipcz_world.specs.declared.mail.Mail.TheVariants as mails
+use Rattle.ipcz_world.specs.World.{World, Key, mail_at, way, router_at}
+use Rattle.ipcz_world.specs.Records.{Records, is_recorded, side_node, side_router, bypass_of, proxy_side, across_side}
+use Rattle.ipcz_world.specs.Structure.{Links, IsRecorded}
+use Rattle.ipcz_world.specs.Bypasses.{Told, of_bypass, control_weight, peer_of, stop_of, will_stop_of, inner_of}
+use Rattle.ipcz_world.proofs.hands.AcceptBypass.{in_hand-under_way}
+use Rattle.ipcz_world.proofs.facts.Lengths.{same_side-itself, same_side-tells, same_link-itself, same_link-tells, has_link-tells, HasEnd}
+use Rattle.ipcz_world.proofs.facts.Lengths.{either}
+use Rattle.ipcz_world.proofs.views.Telling.{both_hold, is_same, itself, never, one_holds}
+
+-- a router has a link: the records tell it so
+recorded_at : (w : World) (g : Records) (k : Key) (r : Router) (t : Option LinkEnd) (link : LinkId) (s : Side) → has_link t link s ≡ true →
+    ((d : LinkEnd) → t ≡ Some d → IsRecorded w g k r d) → side_router g link s ≡ Some k
+recorded_at w g k r t link s h rec = let at : HasEnd t link s = has_link-tells t link s h in
+    rw (at.on_link, at.at_side) at ((rec at.end at.there).router)
+
+pub asked_router : (w : World) (g : Records) (k : Key) (r : Router) (link : LinkId) (s : Side) → Links w g → router_at w k ≡ Some r →
+    router_has r link s ≡ true → side_router g link s ≡ Some k
+asked_router w g k r link s law here has = go (either _ _ has)
+  where
+    outer : (has_link r.outward.primary link s ≡ true) ⊎ (has_link r.outward.decaying link s ≡ true) → side_router g link s ≡ Some k
+    outer (inl t) = recorded_at w g k r r.outward.primary link s t (λ d. law.primary k r d here)
+    outer (inr t) = recorded_at w g k r r.outward.decaying link s t (λ d. law.decaying k r d here)
+
+    inner : (has_link (inward_edge r).primary link s ≡ true) ⊎ (has_link (inward_edge r).decaying link s ≡ true) →
+        side_router g link s ≡ Some k
+    inner (inl t) = recorded_at w g k r (inward_edge r).primary link s t (λ d. law.inward_primary k r d here)
+    inner (inr t) = recorded_at w g k r (inward_edge r).decaying link s t (λ d. law.inward_decaying k r d here)
+
+    go : (outward_has r link s ≡ true) ⊎ (inward_has r link s ≡ true) → side_router g link s ≡ Some k
+    go (inl t) = outer (either _ _ t)
+    go (inr t) = inner (either _ _ t)
+
+-- and the link has a record
+recorded_by : (w : World) (g : Records) (k : Key) (r : Router) (t : Option LinkEnd) (link : LinkId) (s : Side) → has_link t link s ≡ true →
+    ((d : LinkEnd) → t ≡ Some d → IsRecorded w g k r d) → is_recorded w g link ≡ true
+recorded_by w g k r t link s h rec = let at : HasEnd t link s = has_link-tells t link s h in
+    rw (at.on_link) at ((rec at.end at.there).recorded)
+
+pub asked_recorded : (w : World) (g : Records) (k : Key) (r : Router) (link : LinkId) (s : Side) → Links w g → router_at w k ≡ Some r →
+    router_has r link s ≡ true → is_recorded w g link ≡ true
+asked_recorded w g k r link s law here has = go (either _ _ has)
+  where
+    outer : (has_link r.outward.primary link s ≡ true) ⊎ (has_link r.outward.decaying link s ≡ true) → is_recorded w g link ≡ true
+    outer (inl t) = recorded_by w g k r r.outward.primary link s t (λ d. law.primary k r d here)
+    outer (inr t) = recorded_by w g k r r.outward.decaying link s t (λ d. law.decaying k r d here)
+
+    inner : (has_link (inward_edge r).primary link s ≡ true) ⊎ (has_link (inward_edge r).decaying link s ≡ true) →
+        is_recorded w g link ≡ true
+    inner (inl t) = recorded_by w g k r (inward_edge r).primary link s t (λ d. law.inward_primary k r d here)
+    inner (inr t) = recorded_by w g k r (inward_edge r).decaying link s t (λ d. law.inward_decaying k r d here)
+
+    go : (outward_has r link s ≡ true) ⊎ (inward_has r link s ≡ true) → is_recorded w g link ≡ true
+    go (inl t) = outer (either _ _ t)
+    go (inr t) = inner (either _ _ t)
+
+-- of four stages it is the third, or the fourth
+third : (s a b c d : ℕ) → 1 ≤ cond (nat_eq s 1) a (cond (nat_eq s 2) b (cond (nat_eq s 3) c (cond (nat_eq s 4) d 0))) → a ≡ 0 → b ≡ 0 →
+    d ≡ 0 → (s ≡ 3) × (1 ≤ c)
+third s a b c d h e f i = grind (arith, h, nat_tests)
+
+fourth : (s a b c d : ℕ) → 1 ≤ cond (nat_eq s 1) a (cond (nat_eq s 2) b (cond (nat_eq s 3) c (cond (nat_eq s 4) d 0))) → a ≡ 0 → b ≡ 0 →
+    c ≡ 0 → (s ≡ 4) × (1 ≤ d)
+fourth s a b c d h e f i = grind (arith, h, nat_tests)
+
+-- whether a message is this one
+unfoldable is_stop : ℕ → Side → ℕ → ℕ → Message → Bool
+is_stop o side in_length out_length (messages.Item link s n item moves) = false
+is_stop o side in_length out_length (messages.BypassPeer link s old target new) = false
+is_stop o side in_length out_length (messages.AcceptBypass old s new n) = false
+is_stop o side in_length out_length (messages.StopProxying old s i u) = same_side s side && (nat_eq i in_length && nat_eq u out_length)
+is_stop o side in_length out_length (messages.ProxyWillStop link s i) = false
+is_stop o side in_length out_length (messages.Flush link s) = false
+
+unfoldable is_will_stop : LinkId → Side → ℕ → Message → Bool
+is_will_stop link side in_length (messages.Item l s n item moves) = false
+is_will_stop link side in_length (messages.BypassPeer l s old target new) = false
+is_will_stop link side in_length (messages.AcceptBypass old s new n) = false
+is_will_stop link side in_length (messages.StopProxying old s i u) = false
+is_will_stop link side in_length (messages.ProxyWillStop l s i) = same_link l link && (same_side s side && nat_eq i in_length)
+is_will_stop link side in_length (messages.Flush l s) = false
+
+-- what StopProxying tells of the bypass's record
+pub record IsStopped (g : Records) (from : ℕ) (k : Key) (o : ℕ) (side : Side) (in_length out_length : ℕ) : Type 0 where
+  pub stage : (g.bypass o).stage ≡ 3
+  pub sender : from ≡ side_node g (Central o) (across_side g o)
+  pub receiver : k.node ≡ (g.bypass o).proxy.node
+  pub at_side : side ≡ proxy_side g o
+  pub accepted : in_length ≡ (g.bypass o).accepted_at
+  pub taken : out_length ≡ (g.bypass o).taken_at
+
+pub stopped : (w : World) (g : Records) (from : ℕ) (k : Key) (o : ℕ) (side : Side) (in_length out_length : ℕ) → Told w g → from < w.count →
+    k.node < w.count →
+    mail_at w (way w from k.node) ≡ mails.Hand (messages.StopProxying o side in_length out_length) →
+    IsStopped g from k o side in_length out_length
+unfolding control_weight of_bypass is_stop
+stopped w g from k o side in_length out_length law hf hk e = record {
+  stage = told.0;
+  sender = is_same _ _ (both_hold _ _ all.0).0;
+  receiver = is_same _ _ (both_hold _ _ all.0).1;
+  at_side = sym (same_side-tells (proxy_side g o) side (both_hold _ _ all.1).0);
+  accepted = is_same _ _ (both_hold _ _ (both_hold _ _ all.1).1).0;
+  taken = is_same _ _ (both_hold _ _ (both_hold _ _ all.1).1).1;
+}
+  where
+    h : ℕ → ℕ → Message → ℕ
+    h a b m = cond ((nat_eq a from && nat_eq b k.node) && is_stop o side in_length out_length m) 1 0
+
+    one : of_bypass g o (h from k.node) (messages.StopProxying o side in_length out_length) ≡ 1
+    one = rw (itself o, itself from, itself k.node, itself in_length, itself out_length, same_side-itself side) refl
+
+    found : 1 ≤ control_weight g h o
+    found = omega (
+      arith,
+      one,
+      in_hand-under_way (λ a b. of_bypass g o (h a b)) w from k.node
+          (messages.StopProxying o side in_length out_length) hf hk e,
+      law.control o h,
+    )
+
+    told : ((g.bypass o).stage ≡ 3) × (1 ≤ h (side_node g (Central o) (across_side g o)) (g.bypass o).proxy.node (stop_of g o))
+    told = third (g.bypass o).stage _ _ _ _ found (never _) (never _) (never _)
+
+    all : ((nat_eq (side_node g (Central o) (across_side g o)) from && nat_eq (g.bypass o).proxy.node k.node) ≡ true) ×
+        ((same_side (proxy_side g o) side && (nat_eq (g.bypass o).accepted_at in_length && nat_eq (g.bypass o).taken_at out_length)) ≡ true)
+    all = both_hold _ _ (one_holds _ told.1)
+
+-- what ProxyWillStop tells of the record of the bypass that takes its link away
+pub record IsEnded (g : Records) (from : ℕ) (k : Key) (o : ℕ) (link : LinkId) (side : Side) (in_length : ℕ) : Type 0 where
+  pub stage : (g.bypass o).stage ≡ 4
+  pub sender : from ≡ (g.bypass o).proxy.node
+  pub receiver : k.node ≡ side_node g (inner_of g o) B
+  pub on_link : link ≡ inner_of g o
+  pub at_side : side ≡ B
+  pub accepted : in_length ≡ (g.bypass o).accepted_at
+
+pub ended : (w : World) (g : Records) (from : ℕ) (k : Key) (o : ℕ) (link : LinkId) (side : Side) (in_length : ℕ) → Told w g →
+    from < w.count → k.node < w.count → bypass_of g link ≡ Some o →
+    mail_at w (way w from k.node) ≡ mails.Hand (messages.ProxyWillStop link side in_length) → IsEnded g from k o link side in_length
+unfolding control_weight of_bypass is_will_stop
+ended w g from k o link side in_length law hf hk by e = record {
+  stage = told.0;
+  sender = is_same _ _ (both_hold _ _ all.0).0;
+  receiver = is_same _ _ (both_hold _ _ all.0).1;
+  on_link = sym (same_link-tells (inner_of g o) link (both_hold _ _ all.1).0);
+  at_side = sym (same_side-tells B side (both_hold _ _ (both_hold _ _ all.1).1).0);
+  accepted = is_same _ _ (both_hold _ _ (both_hold _ _ all.1).1).1;
+}
+  where
+    h : ℕ → ℕ → Message → ℕ
+    h a b m = cond ((nat_eq a from && nat_eq b k.node) && is_will_stop link side in_length m) 1 0
+
+    one : of_bypass g o (h from k.node) (messages.ProxyWillStop link side in_length) ≡ 1
+    one = rw (by, itself o, itself from, itself k.node, itself in_length, same_link-itself link, same_side-itself side) refl
+
+    found : 1 ≤ control_weight g h o
+    found = omega (
+      arith,
+      one,
+      in_hand-under_way (λ a b. of_bypass g o (h a b)) w from k.node (messages.ProxyWillStop link side in_length)
+          hf hk e,
+      law.control o h,
+    )
+
+    told : ((g.bypass o).stage ≡ 4) × (1 ≤ h (g.bypass o).proxy.node (side_node g (inner_of g o) B) (will_stop_of g o))
+    told = fourth (g.bypass o).stage _ _ _ _ found (never _) (never _) (never _)
+
+    all : ((nat_eq (g.bypass o).proxy.node from && nat_eq (side_node g (inner_of g o) B) k.node) ≡ true) ×
+        ((same_link (inner_of g o) link && (same_side B side && nat_eq (g.bypass o).accepted_at in_length)) ≡ true)
+    all = both_hold _ _ (one_holds _ told.1)
+
+first : (s a b c d : ℕ) → 1 ≤ cond (nat_eq s 1) a (cond (nat_eq s 2) b (cond (nat_eq s 3) c (cond (nat_eq s 4) d 0))) → b ≡ 0 → c ≡ 0 →
+    d ≡ 0 → (s ≡ 1) × (1 ≤ a)
+first s a b c d h e f i = grind (arith, h, nat_tests)
+
+unfoldable is_peer : LinkId → Side → ℕ → ℕ → Message → Bool
+is_peer link side target fresh (messages.Item l s n item moves) = false
+is_peer link side target fresh (messages.BypassPeer l s old t f) =
+    same_link l link && (same_side s side && (nat_eq t target && nat_eq f fresh))
+is_peer link side target fresh (messages.AcceptBypass old s new n) = false
+is_peer link side target fresh (messages.StopProxying old s i u) = false
+is_peer link side target fresh (messages.ProxyWillStop l s i) = false
+is_peer link side target fresh (messages.Flush l s) = false
+
+-- what BypassPeer tells of the bypass's record
+pub record IsPeered (g : Records) (from : ℕ) (k : Key) (o : ℕ) (link : LinkId) (side : Side) (target fresh : ℕ) : Type 0 where
+  pub stage : (g.bypass o).stage ≡ 1
+  pub sender : from ≡ (g.bypass o).proxy.node
+  pub receiver : k.node ≡ side_node g (inner_of g o) B
+  pub on_link : link ≡ inner_of g o
+  pub at_side : side ≡ B
+  pub beyond : target ≡ side_node g (Central o) (across_side g o)
+  pub on_word : fresh ≡ (g.bypass o).fresh
+
+pub peered : (w : World) (g : Records) (from : ℕ) (k : Key) (o : ℕ) (link : LinkId) (side : Side) (target fresh : ℕ) → Told w g →
+    from < w.count → k.node < w.count →
+    mail_at w (way w from k.node) ≡ mails.Hand (messages.BypassPeer link side o target fresh) → IsPeered g from k o link side target fresh
+unfolding control_weight of_bypass is_peer
+peered w g from k o link side target fresh law hf hk e = record {
+  stage = told.0;
+  sender = is_same _ _ (both_hold _ _ all.0).0;
+  receiver = is_same _ _ (both_hold _ _ all.0).1;
+  on_link = sym (same_link-tells (inner_of g o) link (both_hold _ _ all.1).0);
+  at_side = sym (same_side-tells B side (both_hold _ _ (both_hold _ _ all.1).1).0);
+  beyond = is_same _ _ (both_hold _ _ rest).0;
+  on_word = is_same _ _ (both_hold _ _ rest).1;
+}
+  where
+    h : ℕ → ℕ → Message → ℕ
+    h a b m = cond ((nat_eq a from && nat_eq b k.node) && is_peer link side target fresh m) 1 0
+
+    one : of_bypass g o (h from k.node) (messages.BypassPeer link side o target fresh) ≡ 1
+    one = rw (itself o, itself from, itself k.node, itself target, itself fresh, same_link-itself link, same_side-itself side) refl
+
+    found : 1 ≤ control_weight g h o
+    found = omega (
+      arith,
+      one,
+      in_hand-under_way (λ a b. of_bypass g o (h a b)) w from k.node (messages.BypassPeer link side o target fresh)
+          hf hk e,
+      law.control o h,
+    )
+
+    told : ((g.bypass o).stage ≡ 1) × (1 ≤ h (g.bypass o).proxy.node (side_node g (inner_of g o) B) (peer_of g o))
+    told = first (g.bypass o).stage _ _ _ _ found (never _) (never _) (never _)
+
+    all : ((nat_eq (g.bypass o).proxy.node from && nat_eq (side_node g (inner_of g o) B) k.node) ≡ true) ×
+        ((same_link (inner_of g o) link && (same_side B side && (nat_eq (side_node g (Central o) (across_side g o)) target && nat_eq
+        (g.bypass o).fresh fresh))) ≡ true)
+    all = both_hold _ _ (one_holds _ told.1)
+
+    rest : (nat_eq (side_node g (Central o) (across_side g o)) target && nat_eq (g.bypass o).fresh fresh) ≡ true
+    rest = (both_hold (same_side B side) (nat_eq (side_node g (Central o) (across_side g o)) target && nat_eq (g.bypass o).fresh fresh)
+        (both_hold (same_link (inner_of g o) link) (same_side B side &&
+        (nat_eq (side_node g (Central o) (across_side g o)) target && nat_eq (g.bypass o).fresh fresh)) all.1).1).1

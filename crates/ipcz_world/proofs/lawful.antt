@@ -1,0 +1,15 @@
+-- What follows of each lawful world.
+pub mod EachOnce
+pub mod EndLaws
+pub mod FittingHands
+pub mod Idling
+pub mod LengthLaws
+pub mod LinkLaws
+pub mod OneNode
+pub mod OwedLaws
+pub mod Quiet
+pub mod SettleLaws
+pub mod Settles
+pub mod Soundness
+pub mod StrayLaws
+pub mod WordLaws

@@ -1,0 +1,188 @@
+-- The laws of links and of bypasses, from the invariant.
+use Rattle.std.proofs.Common.{true≢false}
+use Rattle.ipcz_world.proofs.weights.OfRecords.{none_stable}
+use Rattle.std.specs.Prelude.{◌≡◌, ◌≤◌, ℕ, Bool, true, false, not, Option, Some, None, is_some, refl}
+use Rattle.std.proofs.Common.{arith, ap, ◌∙◌, sym}
+use Rattle.std.proofs.lemmas.Option.{same_Some}
+use Rattle.ipcz_base.specs.declared.side.Side.{Side}
+use Rattle.ipcz_base.specs.declared.side.Side.TheVariants.{A, B}
+use Rattle.ipcz_base.specs.declared.link_id.LinkId.TheVariants.{Central}
+use Rattle.ipcz_base.specs.declared.link_end.LinkEnd.{LinkEnd}
+use Rattle.ipcz_word.specs.SideSets.{has}
+use Rattle.ipcz_base.specs.Sides.{opposite, same_side}
+use Rattle.ipcz_word.specs.Word.{is_free}
+use Rattle.ipcz_router.specs.Router.{Router}
+use Rattle.ipcz_world.specs.World.{World, Key, word_at, router_at}
+use Rattle.ipcz_world.specs.Books.{Books}
+use Rattle.ipcz_world.specs.Records.{Records, is_linked, is_begun, side_router, proxy_side, across_side, bypass_of}
+use Rattle.ipcz_world.proofs.frames.RecordRules.{bypass_of-central, record_rules}
+use Rattle.ipcz_world.specs.Standing.{passes, key_passes, has_primary}
+use Rattle.ipcz_world.specs.Structure.{IsRecorded, is_outward}
+use Rattle.ipcz_world.specs.Inv.{Inv}
+use Rattle.ipcz_world.specs.Laws.{There, LinkLaw, IsBypassed, BypassLaw}
+use Rattle.ipcz_world.proofs.facts.LinkTests.{IsLinkEnd, has_link-tells, same_side-opposite}
+use Rattle.ipcz_world.proofs.facts.Lengths.{same_side-itself}
+use Rattle.ipcz_world.proofs.views.Telling.{old_begun}
+
+-- a router is known, stands, and passes a test
+pub record Passes (w : World) (o : Option Key) (test : Router → Bool) : Type 0 where
+  pub key : Key
+  pub router : Router
+  pub known : o ≡ Some key
+  pub here : router_at w key ≡ Some router
+  pub passed : test router ≡ true
+
+pub passes-tells : (w : World) (o : Option Key) (test : Router → Bool) → key_passes w o test ≡ true → Passes w o test
+unfolding key_passes passes
+passes-tells w None test h = absurd (grind (arith, h))
+passes-tells w (Some k) test h = go (router_at w k) refl h
+  where
+    go : (o : Option Router) → router_at w k ≡ o → passes o test ≡ true → Passes w (Some k) test
+    go None e h = absurd (grind (arith, h))
+    go (Some r) e h = record { key = k; router = r; known = refl; here = e; passed = h }
+
+-- a test at a known router that stands
+pub passes-at : (w : World) (o : Option Key) (k : Key) (r : Router) (test : Router → Bool) → o ≡ Some k → router_at w k ≡ Some r →
+    key_passes w o test ≡ test r
+unfolding key_passes passes
+passes-at w o k r test e f = rw (e, f) refl
+
+-- a router whose outward primary link is the word's
+pub record IsOn (w : World) (g : Records) (k : Key) (r : Router) (i : ℕ) (s : Side) : Type 0 where
+  pub end : LinkEnd
+  pub is : r.outward.primary ≡ Some end
+  pub link : end.link ≡ Central i
+  pub side : end.side ≡ s
+  pub linked : is_linked (g.owner i) ≡ true
+  pub router : side_router g (Central i) s ≡ Some k
+
+pub on_tells : (w : World) (b : Books) (g : Records) (k : Key) (r : Router) (i : ℕ) (s : Side) → Inv w b g → router_at w k ≡ Some r →
+    has_primary (Central i) s r ≡ true → IsOn w g k r i s
+on_tells w b g k r i s law here on =
+    let e : IsLinkEnd r.outward.primary (Central i) s = has_link-tells r.outward.primary (Central i) s on in
+    let rec : IsRecorded w g k r e.end = law.links.primary k r e.end here e.is in
+    record {
+      end = e.end;
+      is = e.is;
+      link = e.link;
+      side = e.side;
+      linked = grind (arith, record_rules, rec.recorded, e.link);
+      router = rw (e.link, e.side) at rec.router;
+    }
+
+-- whose side is marked and unheld where its link is being bypassed
+across_there : (w : World) (b : Books) (g : Records) (k : Key) (r : Router) (i : ℕ) (s : Side) → Inv w b g → router_at w k ≡ Some r →
+    IsOn w g k r i s → is_begun (g.bypass i) ≡ true → (s ≡ across_side g i) × (r.marked ≡ true) × (r.holds ≡ false)
+across_there w b g k r i s law here on begun =
+    let side : s ≡ across_side g i = sym on.side ∙ law.positions.primary_across k r on.end i here on.is on.link begun in
+    let early : (g.bypass i).stage ≤ 2 = law.positions.primary_old k r on.end i here on.is on.link begun in
+    let known : side_router g (Central i) (across_side g i) ≡ Some k = rw side at on.router in
+    let marked : r.marked ≡ true = sym (passes-at w _ k r (λ x. x.marked) known here) ∙ law.stages.across_marked i begun early in
+    let unheld : not r.holds ≡ true = sym (passes-at w _ k r (λ x. not x.holds) known here) ∙ law.stages.across_free i begun early in
+    (side, marked, grind (arith, unheld))
+
+pub stable_is : (w : World) (b : Books) (g : Records) (k : Key) (r : Router) (i : ℕ) (s : Side) → Inv w b g → router_at w k ≡ Some r →
+    IsOn w g k r i s → r.marked ≡ has (word_at w i).stable s
+stable_is w b g k r i s law here on = go (is_begun (g.bypass i)) refl
+  where
+    go : (c : Bool) → is_begun (g.bypass i) ≡ c → r.marked ≡ has (word_at w i).stable s
+    go true e = let across = across_there w b g k r i s law here on e in across.1 ∙ sym (law.words.begun_stable i s e)
+    go false e = sym (law.words.stable i s on.linked e ∙ passes-at w _ k r (λ x. x.marked) on.router here)
+
+pub holder_is : (w : World) (b : Books) (g : Records) (k : Key) (r : Router) (i : ℕ) (s : Side) → Inv w b g → router_at w k ≡ Some r →
+    IsOn w g k r i s → r.holds ≡ has (word_at w i).holder s
+holder_is w b g k r i s law here on = go (is_begun (g.bypass i)) refl
+  where
+    go : (c : Bool) → is_begun (g.bypass i) ≡ c → r.holds ≡ has (word_at w i).holder s
+    go true e = let across = across_there w b g k r i s law here on e in
+        across.2 ∙ sym (law.words.begun_holder i s e ∙ ap (λ t. same_side t (proxy_side g i)) across.0 ∙ same_side-opposite
+        (proxy_side g i))
+    go false e = sym (law.words.holder i s on.linked e ∙ passes-at w _ k r (λ x. x.holds) on.router here)
+
+-- what a free word says
+record IsFree (w : World) (i : ℕ) : Type 0 where
+  pub stable : (s : Side) → has (word_at w i).stable s ≡ true
+  pub unheld : (s : Side) → has (word_at w i).holder s ≡ false
+
+free_tells : (w : World) (i : ℕ) → is_free (word_at w i) ≡ true → IsFree w i
+free_tells w i h = record { stable = stable; unheld = unheld }
+  where
+    stable : (s : Side) → has (word_at w i).stable s ≡ true
+    stable A = grind (arith, h)
+    stable B = grind (arith, h)
+
+    unheld : (s : Side) → has (word_at w i).holder s ≡ false
+    unheld A = grind (arith, h)
+    unheld B = grind (arith, h)
+
+free_there : (w : World) (b : Books) (g : Records) (i : ℕ) (s : Side) → Inv w b g → is_free (word_at w i) ≡ true → There w i s
+free_there w b g i s law h = go (is_linked (g.owner i)) (is_begun (g.bypass i)) refl refl
+  where
+    free : IsFree w i
+    free = free_tells w i h
+
+    at : is_linked (g.owner i) ≡ true → is_begun (g.bypass i) ≡ false → There w i s
+    at l n =
+        let p : Passes w (side_router g (Central i) s) (λ r. r.marked) =
+        passes-tells w _ _ (sym (law.words.stable i s l n) ∙ free.stable s) in
+        record {
+          key = p.key;
+          router = p.router;
+          here = p.here;
+          on = sym (passes-at w (Some p.key) p.key p.router (has_primary (Central i) s) refl p.here) ∙ law.stands.central i s p.key l n
+              p.known;
+          still = law.shape.marked_still p.key p.router p.here p.passed;
+        }
+
+    go : (c d : Bool) → is_linked (g.owner i) ≡ c → is_begun (g.bypass i) ≡ d → There w i s
+    go false d l n = absurd (true≢false (sym (free.stable A) ∙ ap (λ x. has x.stable A) (law.words.unused i l) ∙ none_stable A))
+    go true true l n = absurd (grind (
+      arith,
+      law.words.begun_holder i (proxy_side g i) n,
+      same_side-itself (proxy_side g i),
+      free.unheld (proxy_side g i),
+    ))
+    go true false l n = at l n
+
+pub link_law : (w : World) (b : Books) (g : Records) → Inv w b g → LinkLaw w
+link_law w b g law = record {
+  one_holder = law.words.one_holder;
+  held_stable = law.words.held_stable;
+  marked = λ k r i s here on. stable_is w b g k r i s law here (on_tells w b g k r i s law here on);
+  holds = λ k r i s here on. holder_is w b g k r i s law here (on_tells w b g k r i s law here on);
+  free = λ i s h. free_there w b g i s law h;
+  one_each = λ j k q r i s at here on_q on_r. same_Some j k (sym (on_tells w b g j q i s law at on_q).router ∙
+      (on_tells w b g k r i s law here on_r).router);
+}
+
+-- a word whose bypass has begun is held by the proxy's side, which has left it
+pub begun_bypassed : (w : World) (b : Books) (g : Records) (i : ℕ) → Inv w b g → is_begun (g.bypass i) ≡ true → IsBypassed w i
+begun_bypassed w b g i law begun = record {
+  side = proxy_side g i;
+  held = law.words.begun_holder i (proxy_side g i) begun ∙ same_side-itself (proxy_side g i);
+  left = λ k r here. go k r here (has_primary (Central i) (proxy_side g i) r) refl;
+}
+  where
+    apart : (s : Side) → s ≡ opposite s → ⊥
+    apart A e = cc
+    apart B e = cc
+
+    go : (k : Key) (r : Router) → router_at w k ≡ Some r → (c : Bool) → has_primary (Central i) (proxy_side g i) r ≡ c → c ≡ false
+    go k r here true e = absurd (apart (proxy_side g i) (across_there w b g k r i (proxy_side g i) law here
+        (on_tells w b g k r i (proxy_side g i) law here e) begun).0)
+    go k r here false e = refl
+
+pub bypass_law : (w : World) (b : Books) (g : Records) → Inv w b g → BypassLaw w
+unfolding is_outward
+bypass_law w b g law = record {
+  outward = λ k r e i here off on. begun_bypassed w b g i law (begun i (rw on at (law.positions.decaying k r e here off)));
+  inward = λ k r e i here off on. absurd (grind (arith, law.links.inward_decaying_inward k r e here off, on));
+  message = λ from to i m o u names. begun_bypassed w b g o law (old_begun w g from to i m o law.told u names);
+}
+  where
+    begun : (i : ℕ) → is_some (bypass_of g (Central i)) ≡ true → is_begun (g.bypass i) ≡ true
+    begun i h = go (is_begun (g.bypass i)) refl
+      where
+        go : (c : Bool) → is_begun (g.bypass i) ≡ c → is_begun (g.bypass i) ≡ true
+        go true e = e
+        go false e = absurd (grind (arith, h, e, bypass_of-central g i))

@@ -1,0 +1,51 @@
+-- The words that a node names are words of the world, and so each of its nodes is sound.
+use Rattle.std.specs.Prelude.{◌≡◌, ◌<◌, ℕ, true, false, Some, refl}
+use Rattle.std.proofs.Common.{arith, ap}
+use Rattle.std.proofs.lemmas.Bool.Decides.{nat_tests}
+use Rattle.ipcz_router.specs.Router.{Router, primary_word}
+use Rattle.ipcz_world.specs.World.{World, Key, node_at, router_at}
+use Rattle.ipcz_world.specs.Records.{Records, Owner, Unclaimed, Spare, Opening, Fresh, Linked, is_linked, is_unclaimed}
+use Rattle.ipcz_world.specs.Books.{Books}
+use Rattle.ipcz_world.specs.Inv.{Inv}
+use Rattle.ipcz_world.specs.Soundness.{IsSound}
+use Rattle.ipcz_world.proofs.acts.Flags.{on-word}
+
+-- a linked word was claimed
+linked_claimed : (o : Owner) → is_linked o ≡ true → is_unclaimed o ≡ false
+unfolding is_linked is_unclaimed
+linked_claimed Unclaimed e = cc
+linked_claimed (Spare k) e = refl
+linked_claimed (Opening n) e = refl
+linked_claimed (Fresh o) e = refl
+linked_claimed Linked e = refl
+
+module _ (w : World) (b : Books) (g : Records) (law : Inv w b g) where
+  -- a word that was claimed is one of the world's
+  pub claimed_below : (i : ℕ) → is_unclaimed (g.owner i) ≡ false → i < w.size
+  claimed_below i e = let l : i < w.claimed = grind (arith, law.counts.unclaimed i, e, nat_tests) in omega (arith, l, law.counts.claimed)
+
+  -- the word of a router's outward primary link
+  pub primary_below : (k : Key) (r : Router) (i : ℕ) → router_at w k ≡ Some r → primary_word r ≡ Some i → i < w.size
+  primary_below k r i here on = claimed_below i (linked_claimed (g.owner i) (on-word w b g k r i law here on).linked)
+
+  -- the spare of a router
+  pub spare_below : (k : Key) (r : Router) (i : ℕ) → router_at w k ≡ Some r → r.spare ≡ Some i → i < w.size
+  unfolding is_unclaimed
+  spare_below k r i here has = claimed_below i (ap is_unclaimed (law.spares.spare k r i here has))
+
+  -- the word of an open under way
+  pub opening_below : (n i : ℕ) → (node_at w n).opening ≡ Some i → i < w.size
+  unfolding is_unclaimed
+  opening_below n i has = claimed_below i (ap is_unclaimed (law.spares.opening n i has))
+
+  -- each node of the world is sound
+  pub node_is_sound : (n : ℕ) → n < w.count → IsSound w.count w.size n (node_at w n)
+  unfolding router_at
+  node_is_sound n l = record {
+    number_is = law.counts.node n l;
+    count_is = law.counts.nodes n l;
+    primary = λ s r i here on. primary_below (record { node = n; serial = s }) r i here on;
+    spare = λ s r i here has. spare_below (record { node = n; serial = s }) r i here has;
+    opening = λ i has. opening_below n i has;
+    hand = λ from has. law.counts.hand_from n from l has;
+  }

@@ -1,0 +1,224 @@
+-- The law of words, from the invariant.
+use Rattle.ipcz_world.specs.Records.{routes_of}
+use Rattle.std.specs.Prelude.{◌≡◌, ◌⊎◌, ◌<◌, ℕ, zero, suc, Bool, true, false, cond, ◌||◌, nat_eq, Option, Some, None, List, [], ◌∷◌}
+use Rattle.std.specs.Prelude.{slice_get, refl}
+use Rattle.std.proofs.Common.{arith, ap, subst, ◌∙◌, sym, inl, inr}
+use Rattle.std.proofs.lemmas.Bool.Decides.{nat_tests}
+use Rattle.std.proofs.lemmas.Option.{same_Some}
+use Rattle.ipcz_base.specs.declared.side.Side.{Side}
+use Rattle.ipcz_base.specs.declared.side.Side.TheVariants.{A, B}
+use Rattle.ipcz_base.specs.declared.link_id.LinkId.{LinkId}
+use Rattle.ipcz_base.specs.declared.link_id.LinkId.TheVariants.{Central, Peripheral}
+use Rattle.ipcz_base.specs.declared.link_end.LinkEnd.{LinkEnd}
+use Rattle.ipcz_base.specs.declared.message.Message.{Message}
+use Rattle.ipcz_base.specs.declared.message.Message.TheVariants as messages
+use Rattle.ipcz_word.specs.SideSets.{has}
+use Rattle.ipcz_base.specs.Links.{same_link, has_link}
+use Rattle.ipcz_router.specs.Router.{Router, router_has, outward_has, inward_has, inward_edge}
+use Rattle.ipcz_world.specs.World.{World, Key, word_at, router_at, flow}
+use Rattle.ipcz_world.specs.Books.{Books}
+use Rattle.ipcz_world.specs.Records.{Records, Owner, Unclaimed, Spare, Opening, Fresh, Linked, is_linked, is_unclaimed, is_begun}
+use Rattle.ipcz_world.specs.Records.{is_recorded, side_router, side_end, across_side}
+use Rattle.ipcz_world.proofs.frames.RecordRules.{record_rules}
+use Rattle.ipcz_world.specs.Flows.{IsUnderWay, under_way}
+use Rattle.ipcz_base.specs.Totals.{total_below, total_list}
+use Rattle.ipcz_world.specs.Standing.{has_primary}
+use Rattle.ipcz_world.specs.Structure.{IsRecorded, Links}
+use Rattle.ipcz_world.specs.Bypasses.{of_bypass, control_weight}
+use Rattle.ipcz_world.specs.Inv.{Inv}
+use Rattle.ipcz_world.specs.Laws.{fresh_count, IsOnLink, names_link, WordLaw}
+use Rattle.ipcz_world.proofs.facts.LinkTests.{IsLinkEnd, has_link-tells}
+use Rattle.ipcz_world.proofs.views.Telling.{IsPeer, peer_told, accept_told, stop_told, will_stop_told}
+use Rattle.ipcz_world.proofs.lawful.LinkLaws.{Passes, passes-tells}
+use Rattle.ipcz_world.proofs.facts.Lengths.{either}
+
+-- what a router's having a link tells
+pub record HasAt (w : World) (g : Records) (k : Key) (r : Router) (link : LinkId) (s : Side) : Type 0 where
+  pub recorded : is_recorded w g link ≡ true
+  pub router : side_router g link s ≡ Some k
+  pub end : r.end ≡ side_end g link s
+
+of_end : (w : World) (g : Records) (k : Key) (r : Router) (t : Option LinkEnd) (link : LinkId) (s : Side) → has_link t link s ≡ true →
+    ((d : LinkEnd) → t ≡ Some d → IsRecorded w g k r d) → HasAt w g k r link s
+of_end w g k r t link s h rec =
+    let e : IsLinkEnd t link s = has_link-tells t link s h in
+    let d : IsRecorded w g k r e.end = rec e.end e.is in
+    record { recorded = rw (e.link) at d.recorded; router = rw (e.link, e.side) at d.router; end = rw (e.link, e.side) at d.end }
+
+pub has_at : (w : World) (g : Records) (k : Key) (r : Router) (link : LinkId) (s : Side) → Links w g → router_at w k ≡ Some r →
+    router_has r link s ≡ true → HasAt w g k r link s
+has_at w g k r link s law here has = go (either _ _ has)
+  where
+    outer : (has_link r.outward.primary link s ≡ true) ⊎ (has_link r.outward.decaying link s ≡ true) → HasAt w g k r link s
+    outer (inl t) = of_end w g k r r.outward.primary link s t (λ d. law.primary k r d here)
+    outer (inr t) = of_end w g k r r.outward.decaying link s t (λ d. law.decaying k r d here)
+
+    inner : (has_link (inward_edge r).primary link s ≡ true) ⊎ (has_link (inward_edge r).decaying link s ≡ true) → HasAt w g k r link s
+    inner (inl t) = of_end w g k r (inward_edge r).primary link s t (λ d. law.inward_primary k r d here)
+    inner (inr t) = of_end w g k r (inward_edge r).decaying link s t (λ d. law.inward_decaying k r d here)
+
+    go : (outward_has r link s ≡ true) ⊎ (inward_has r link s ≡ true) → HasAt w g k r link s
+    go (inl t) = outer (either _ _ t)
+    go (inr t) = inner (either _ _ t)
+
+pub is_link : (o : Owner) → is_linked o ≡ true → o ≡ Linked
+unfolding is_linked
+is_link Unclaimed e = cc
+is_link (Spare k) e = cc
+is_link (Opening n) e = cc
+is_link (Fresh o) e = cc
+is_link Linked e = refl
+
+pub is_none_claimed : (o : Owner) → is_unclaimed o ≡ true → o ≡ Unclaimed
+unfolding is_unclaimed
+is_none_claimed Unclaimed e = refl
+is_none_claimed (Spare k) e = cc
+is_none_claimed (Opening n) e = cc
+is_none_claimed (Fresh o) e = cc
+is_none_claimed Linked e = cc
+
+-- totals of functions that agree on what is there
+total_list-agree : {X : Type 0} (f h : X → ℕ) (xs : List X) → ((i : ℕ) (x : X) → slice_get xs i ≡ Some x → f x ≡ h x) →
+    total_list f xs ≡ total_list h xs
+total_list-agree f h [] e = refl
+total_list-agree f h (x ∷ xs) e = omega (arith, e zero x refl, total_list-agree f h xs (λ i y g. e (suc i) y g))
+
+total_below-agree : (c : ℕ) (f h : ℕ → ℕ) → ((i : ℕ) → i < c → f i ≡ h i) → total_below c f ≡ total_below c h
+total_below-agree zero f h e = refl
+total_below-agree (suc c) f h e = omega (arith, e c (omega arith), total_below-agree c f h (λ i l. e i (omega arith)))
+
+pub under_way-agree : (w : World) (f h : ℕ → ℕ → Message → ℕ) → ((from to i : ℕ) (m : Message) → IsUnderWay w from to i m →
+    f from to m ≡ h from to m) → under_way f w ≡ under_way h w
+unfolding under_way
+under_way-agree w f h e = total_below-agree w.count _ _ (λ from l. total_below-agree w.count _ _
+    (λ to n. total_list-agree (f from to) (h from to) (flow w from to)
+    (λ i m p. e from to i m (record { sender = l; receiver = n; place = p }))))
+
+module _ (w : World) (b : Books) (g : Records) (law : Inv w b g) where
+  -- one BypassPeer names a fresh word
+  fresh_once : (old i : ℕ) → g.owner i ≡ Fresh old → under_way (λ from to m. fresh_count i m) w ≡ 1
+  unfolding fresh_count of_bypass control_weight
+  fresh_once old i own = under_way-agree w (λ from to m. fresh_count i m) (λ from to m. of_bypass g old (fresh_count i) m) same ∙
+      law.told.control old (λ from to m. fresh_count i m) ∙ one
+    where
+      stage : (g.bypass old).stage ≡ 1
+      stage = law.spares.fresh old i own
+
+      is_fresh : (g.bypass old).fresh ≡ i
+      is_fresh = law.spares.fresh_back old i own
+
+      one : control_weight g (λ from to m. fresh_count i m) old ≡ 1
+      one = grind (arith, stage, is_fresh, nat_tests)
+
+      named : (o : ℕ) → (g.bypass o).stage ≡ 1 → (g.bypass o).fresh ≡ i → o ≡ old
+      named o st f = let back : g.owner i ≡ Fresh o = rw f at (law.bypasses.fresh o st) in grind (arith, back, own)
+
+      same : (from to j : ℕ) (m : Message) → IsUnderWay w from to j m → fresh_count i m ≡ of_bypass g old (fresh_count i) m
+      same from to j (messages.Item link s n item moves) u = refl
+      same from to j (messages.BypassPeer link s o target fresh) u =
+          let at : IsPeer g from to o link s target fresh = peer_told w g from to j o link s target fresh law.told u in
+          go (nat_eq fresh i) (nat_eq o old) refl refl at
+        where
+          go : (p q : Bool) → nat_eq fresh i ≡ p → nat_eq o old ≡ q → IsPeer g from to o link s target fresh →
+              ◌≡◌ {A = ℕ} (cond (nat_eq fresh i) 1 0) (cond (nat_eq o old) (cond (nat_eq fresh i) 1 0) 0)
+          go p true e f at = grind (arith, f)
+          go false false e f at = grind (arith, e, f)
+          go true false e f at = let is : o ≡ old = named o at.stage (sym at.onto ∙ grind (arith, e, nat_tests)) in
+              absurd (grind (arith, f, is, nat_tests))
+      same from to j (messages.AcceptBypass o s fresh length) u = grind arith
+      same from to j (messages.StopProxying o s in_length out_length) u = grind arith
+      same from to j (messages.ProxyWillStop link s in_length) u = grind arith
+      same from to j (messages.Flush link s) u = refl
+
+  linked_of : (i : ℕ) → is_recorded w g (Central i) ≡ true → g.owner i ≡ Linked
+  linked_of i h = is_link (g.owner i) (grind (arith, record_rules, h))
+
+  not_peripheral : (i n s : ℕ) (link : LinkId) → link ≡ Peripheral n s → same_link link (Central i) ≡ false
+  not_peripheral i n s link e = rw e refl
+
+  same_central : (i : ℕ) (link : LinkId) → same_link link (Central i) ≡ true → link ≡ Central i
+  same_central i (Central j) h = ap Central (grind (arith, h, nat_tests))
+  same_central i (Peripheral n s) h = cc
+
+  named : (from to j : ℕ) (m : Message) (i : ℕ) → IsUnderWay w from to j m → names_link i m ≡ true → g.owner i ≡ Linked
+  unfolding names_link
+  named from to j (messages.Item link s n item moves) i u h = linked_of i
+      (subst (λ l. is_recorded w g l ≡ true) (same_central i link h) (law.items.recorded from to j link s n item moves u))
+  named from to j (messages.BypassPeer link s o target fresh) i u h =
+      let at = peer_told w g from to j o link s target fresh law.told u in
+      let away = not_peripheral i _ _ link at.on_link in
+      let is : o ≡ i = grind (arith, h, away, nat_tests) in
+      is_link (g.owner i) (subst (λ x. is_linked (g.owner x) ≡ true) is (law.bypasses.old o (grind (arith, at.stage, nat_tests))))
+  named from to j (messages.AcceptBypass o s fresh length) i u h =
+      let at = accept_told w g from to j o s fresh length law.told u in
+      go (either _ _ h) (grind (arith, at.stage, nat_tests)) (law.bypasses.fresh_linked o (omega (arith, at.stage))) at.onto
+    where
+      go : (nat_eq o i ≡ true) ⊎ (nat_eq fresh i ≡ true) → is_begun (g.bypass o) ≡ true → g.owner (g.bypass o).fresh ≡ Linked →
+          fresh ≡ (g.bypass o).fresh → g.owner i ≡ Linked
+      go (inl e) begun new onto = let is : o ≡ i = grind (arith, e, nat_tests) in
+          is_link (g.owner i) (subst (λ x. is_linked (g.owner x) ≡ true) is (law.bypasses.old o begun))
+      go (inr e) begun new onto = let is : fresh ≡ i = grind (arith, e, nat_tests) in ap g.owner (sym is ∙ onto) ∙ new
+  named from to j (messages.StopProxying o s in_length out_length) i u h =
+      let at = stop_told w g from to j o s in_length out_length law.told u in
+      let is : o ≡ i = grind (arith, h, nat_tests) in
+      is_link (g.owner i) (subst (λ x. is_linked (g.owner x) ≡ true) is (law.bypasses.old o (grind (arith, at.stage, nat_tests))))
+  named from to j (messages.ProxyWillStop link s in_length) i u h =
+      let at = will_stop_told w g from to j link s in_length law.told u in
+      absurd (grind (arith, h, not_peripheral i _ _ link at.2.on_link))
+  named from to j (messages.Flush link s) i u h = linked_of i (subst (λ l. is_recorded w g l ≡ true) (same_central i link h)
+      (law.told.flush_recorded from to j link s u))
+
+  -- a link's word isn't 0, or a router has it
+  used : (i : ℕ) → g.owner i ≡ Linked → (has (word_at w i).stable A ≡ true) ⊎ IsOnLink w i
+  unfolding is_linked side_router
+  used i own = go (is_begun (g.bypass i)) refl
+    where
+      linked : is_linked (g.owner i) ≡ true
+      linked = rw own refl
+
+      stands : (s : Side) (k : Key) → is_begun (g.bypass i) ≡ false → side_router g (Central i) s ≡ Some k → IsOnLink w i
+      stands s k n e =
+          let p : Passes w (Some k) (has_primary (Central i) s) = passes-tells w (Some k) _ (law.stands.central i s k linked n e) in
+          record { key = p.key; router = p.router; side = s; here = p.here; on = grind (arith, p.passed) }
+
+      -- not both sides are awaited
+      awaited : is_begun (g.bypass i) ≡ false → (o : Option ℕ) → (g.central i).born ≡ o → (g.central i).router A ≡ None →
+          (g.central i).router B ≡ None → ⊥
+      awaited n None e a c = absurd (grind (arith, e, law.stands.awaited i A linked a))
+      awaited n (Some o) e a c = apart (across_side g o) (law.stands.awaited_side i A o linked a e)
+          (law.stands.awaited_side i B o linked c e)
+        where
+          apart : (t : Side) → A ≡ t → B ≡ t → ⊥
+          apart t x y = cc
+
+      some : (n : is_begun (g.bypass i) ≡ false) (p q : Option ℕ) → (g.central i).router A ≡ p → (g.central i).router B ≡ q → IsOnLink w i
+      some n (Some x) q e f = stands A (record { node = (g.central i).node A; serial = x }) n (rw e refl)
+      some n None (Some x) e f = stands B (record { node = (g.central i).node B; serial = x }) n (rw f refl)
+      some n None None e f = absurd (awaited n (g.central i).born refl e f)
+
+      go : (c : Bool) → is_begun (g.bypass i) ≡ c → (has (word_at w i).stable A ≡ true) ⊎ IsOnLink w i
+      go true e = inl (law.words.begun_stable i A e)
+      go false e = inr (some e ((g.central i).router A) ((g.central i).router B) refl refl)
+
+  pub word_law : WordLaw w (routes_of g)
+  unfolding is_linked side_end
+  word_law = record {
+    owner = g.owner;
+    is_link = λ i. refl;
+    unclaimed = λ i l. is_none_claimed (g.owner i) (grind (arith, law.counts.unclaimed i, l, nat_tests));
+    claimed = λ i l. grind (arith, law.counts.unclaimed i, l, nat_tests);
+    unused = law.words.unused;
+    spare = law.spares.spare;
+    spare_back = law.spares.spare_back;
+    opening = law.spares.opening;
+    opening_back = law.spares.opening_back;
+    fresh = λ from to j link s old target i u. let at = peer_told w g from to j old link s target i law.told u in
+        ap g.owner at.onto ∙ law.bypasses.fresh old at.stage;
+    fresh_back = fresh_once;
+    linked = λ k r i s here has. linked_of i (has_at w g k r (Central i) s law.links here has).recorded;
+    linked_back = used;
+    named = named;
+    of_pair = λ k r i s here has. ap (λ e. e.pair) (has_at w g k r (Central i) s law.links here has).end;
+    one_each = λ j k q r i s at here on_q on_r. same_Some j k (sym (has_at w g j q (Central i) s law.links at on_q).router ∙
+        (has_at w g k r (Central i) s law.links here on_r).router);
+  }

@@ -1,0 +1,14 @@
+-- The opening world, the cases over all steps, and what holds after every run.
+pub mod Bare
+pub mod BoundedSteps
+pub mod Bounds
+pub mod Choosing
+pub mod FirstNodes
+pub mod FlaggedSteps
+pub mod Flagging
+pub mod FlagsAgree
+pub mod Keeping
+pub mod NodeSteps
+pub mod Running
+pub mod Starting
+pub mod TurnReplies

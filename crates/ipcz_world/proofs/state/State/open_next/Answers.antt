@@ -1,0 +1,48 @@
+use Rattle.std.proofs.Common.{◌≡◌, ◌<◌, ◌+◌, true, false, nat_lt, arith, subst, sym, ap, ◌∙◌, refl}
+use Rattle.std.proofs.lemmas.Bool.Decides.{nat_tests}
+use Rattle.ipcz_base.specs.declared.end.End.{End}
+use Rattle.ipcz_base.specs.declared.side.Side.TheVariants.{A, B}
+use Rattle.ipcz_base.specs.Ends.{end_at}
+use Rattle.ipcz_word.specs.Word.{open_word}
+use Rattle.ipcz_world.specs.Coding.{put_word, claim_one}
+use Rattle.ipcz_node.specs.Calls.{serials_refusal, open_node}
+use Rattle.ipcz_world.specs.declared.step.Reply.TheVariants.{Opened}
+use Rattle.ipcz_world.specs.World.{World, node_at, set_claimed}
+use Rattle.ipcz_world.specs.Steps.{GivesOrNoMemory, open_with}
+use Rattle.ipcz_world.specs.Soundness.{HasLengths}
+use Rattle.ipcz_world.specs.contracts.state.State.{the_view}
+use Rattle.ipcz_world.proofs.code.Calling.{open-done, open-refused, open-world, next-word, no-word}
+use Rattle.ipcz_world.proofs.state.State.open_next.Goals as goal
+
+pub returns-then-not-has_unclaimed : goal.returns-then-not-has_unclaimed
+returns-then-not-has_unclaimed c =
+    let none : c.has_unclaimed.result ≡ false = grind arith in
+    rw (← c.self.view_is) (no-word (the_view c.self.inside) c.args.n (sym c.has_unclaimed.ensures ∙ none))
+
+pub returns-in-Err : goal.returns-in-Err
+unfolding node_at
+returns-in-Err c =
+    let w : World = the_view c.self.inside in
+    let some : c.has_unclaimed.result ≡ true = grind arith in
+    let has = subst HasLengths (sym c.self.view_is) c.requires.regular.lengths in
+    let here = subst (λ (w : World). c.args.n < w.count) (sym c.self.view_is) c.requires.node in
+    rw (← c.self.view_is, next-word w c.args.n (sym c.has_unclaimed.ensures ∙ some))
+    (open-refused _ _ c.args.n _ c.node_mut-node.result.now.node c.open_prepare.new.self.node c.in-Err.why _ has here c.node_mut-node.ensures.value c.in-Err.ensures.why c.in-Err.ensures.node refl)
+
+pub returns : goal.returns
+unfolding node_at set_claimed
+returns c =
+    let w : World = the_view c.self.inside in
+    let some : c.has_unclaimed.result ≡ true = grind arith in
+    let next = next-word w c.args.n (sym c.has_unclaimed.ensures ∙ some) in
+    let has = subst HasLengths (sym c.self.view_is) c.requires.regular.lengths in
+    let low : nat_lt w.claimed w.size ≡ true = sym c.has_unclaimed.ensures ∙ some in
+    let within : w.claimed < w.size = grind (arith, low, nat_tests) in
+    let opened = c.open.ensures ∙ ap (λ t. put_word t c.claim-word.result open_word) c.claim-word.ensures.table ∙ ap (λ i. put_word (claim_one c.self.inside.words) i open_word) c.claim-word.ensures.word in
+    let made = c.open_commit.ensures.node ∙ ap (open_node c.open_prepare.new.self.node) c.claim-word.ensures.word in
+    let reply = ap (λ (p : End × End). Opened p.0 p.1) c.open_commit.ensures.ends ∙ ap (λ i. Opened (end_at i A) (end_at i B)) c.claim-word.ensures.word in
+    rw (← c.self.view_is, next)
+    (subst (λ v. GivesOrNoMemory w (open_with w (set_claimed w (w.claimed + 1)) c.args.n w.claimed) (Opened c.open_commit.result.0 c.open_commit.result.1) v)
+    (sym (open-world w c.args.n w.claimed (w.claimed + 1) c.open_commit.new.self.node c.open.new.self has within opened))
+    (open-done w (set_claimed w (w.claimed + 1)) c.args.n w.claimed c.open_prepare.new.self.node c.open_commit.new.self.node _ (c.in_default.ensures.node ∙ c.node_mut-node.ensures.value)
+    (ap serials_refusal c.in_default.ensures.node ∙ c.in_default.ensures.allowed) made reply))

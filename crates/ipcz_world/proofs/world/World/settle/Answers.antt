@@ -1,0 +1,57 @@
+use Rattle.std.proofs.Common.{◌≡◌, ◌≤◌, ◌<◌, ◌∙◌, IfOk, true, false, sym, ap, subst, arith, inl, inr}
+use Rattle.ipcz_world.specs.declared.step.Step.TheVariants.{Turn}
+use Rattle.ipcz_world.specs.Lawfulness.{IsLawful}
+use Rattle.ipcz_world.specs.Steps.{StepFirst}
+use Rattle.ipcz_world.specs.Settling.{IsSettle, next_node}
+use Rattle.ipcz_world.specs.Visiting.{AreIdle, IsNextBusy}
+use Rattle.ipcz_world.proofs.code.Regular.{lawful-regular}
+use Rattle.ipcz_world.proofs.code.Visiting.{OnWay, on_way-turn, settled, unsettled, refused, answers_turn, no-other}
+use Rattle.ipcz_world.proofs.world.World.settle.Goals.{in-None, in-Some-next_busy}
+use Rattle.ipcz_world.proofs.world.World.settle.Goals as goal
+
+pub next_busy-requires-clause-regular : goal.next_busy-requires-clause-regular
+next_busy-requires-clause-regular c = lawful-regular _ c.self.invariant
+
+pub next_busy-requires-2-clause-regular : goal.next_busy-requires-2-clause-regular
+next_busy-requires-2-clause-regular c = lawful-regular _ c.self-2.invariant
+
+pub returns-in_default-clause-settles : goal.returns-in_default-clause-settles
+returns-in_default-clause-settles c =
+    settled c.args.limit c.loop-acts.acts c.loop-acts.from c.args.self.now c.loop-acts.self c.loop-acts.invariant (omega (arith, c.loop-acts-test.true))
+    (subst IsLawful c.self.view_is c.self.invariant) (subst (λ v. AreIdle v 0 v.count) c.self.view_is c.in_default.ensures.none)
+
+pub returns-in-Refused-clause-refused : goal.returns-in-Refused-clause-refused
+returns-in-Refused-clause-refused c =
+    refused c.args.limit c.loop-acts.acts c.loop-acts.from c.in-Some.node c.args.self.now c.loop-acts.self c.step.new.self c.in-Refused.why c.loop-acts.invariant
+    (omega (arith, c.loop-acts-test.true))
+    (subst (λ r. StepFirst c.loop-acts.self (Turn c.in-Some.node) r c.step.new.self) c.in-Refused.is c.step.ensures.step)
+
+pub unreachable-requires : goal.unreachable-requires
+unreachable-requires c =
+    let fine = no-other c.loop-acts.self c.step.new.self c.in-Some.node c.step.result c.step.ensures.step in
+    elim c.in-Opened.is [
+      | inl o ↦ let no : false ≡ true = sym (ap answers_turn o.2) ∙ fine in cc
+      | inr (inl p) ↦ let no : false ≡ true = sym (ap answers_turn p.1) ∙ fine in cc
+      | inr (inr (inl g)) ↦ let no : false ≡ true = sym (ap answers_turn g.2) ∙ fine in cc
+      | inr (inr (inr k)) ↦ let no : false ≡ true = sym (ap answers_turn k.1) ∙ fine in cc
+    ]
+
+pub loop-acts-preserved : goal.loop-acts-preserved
+loop-acts-preserved c =
+    on_way-turn c.args.self.now c.loop-acts.self c.step.new.self c.loop-acts.acts c.loop-acts.from c.in-Some.node c.next_node-from.result c.in-Turned.field-0
+    c.loop-acts.invariant (subst (λ v. IsNextBusy v c.loop-acts.from c.in-Some.node) c.self.view_is c.in-Some.ensures.some)
+    (c.next_node-from.ensures ∙ ap (λ v. next_node v c.in-Some.node) c.self.view_is)
+    (subst (λ r. StepFirst c.loop-acts.self (Turn c.in-Some.node) r c.step.new.self) c.in-Turned.is c.step.ensures.step)
+
+pub returns-clause-settles : goal.returns-clause-settles
+returns-clause-settles c =
+    let all : c.loop-acts.acts ≡ c.args.limit = omega (arith, c.loop-acts.auto.acts-end, c.loop-acts-test.false) in
+    elim c.match-next_busy-2.branch [
+      | in-None w ↦ subst (λ r. IfOk r (λ answer. IsSettle c.args.limit c.args.self.now c.loop-acts.self answer)) (sym w.result-is)
+          (settled c.args.limit c.args.limit c.loop-acts.from c.args.self.now c.loop-acts.self
+          (subst (λ k. OnWay c.args.self.now k c.loop-acts.self c.loop-acts.from) all c.loop-acts.invariant) (omega arith)
+          (subst IsLawful c.self-2.view_is c.self-2.invariant) (subst (λ v. AreIdle v 0 v.count) c.self-2.view_is w.in-None.ensures.none))
+      | in-Some-next_busy w ↦ subst (λ r. IfOk r (λ answer. IsSettle c.args.limit c.args.self.now c.loop-acts.self answer)) (sym w.result-is)
+          (unsettled c.args.limit c.loop-acts.acts c.loop-acts.from w.in-Some-next_busy.field-0 c.args.self.now c.loop-acts.self c.loop-acts.invariant all
+          (subst (λ v. IsNextBusy v c.loop-acts.from w.in-Some-next_busy.field-0) c.self-2.view_is w.in-Some-next_busy.ensures.some))
+    ]

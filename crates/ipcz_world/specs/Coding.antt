@@ -1,0 +1,73 @@
+-- What the code of the world keeps, as the definitions of worlds name it: the link words with their claim count, apart from the nodes.
+-- (This project's own.)
+use Rattle.std.specs.Prelude.{◌≤◌, ℕ, ◌+◌, Bool, true, false, nat_lt, if◌then◌else◌, Option, Some, None, List, length}
+use Rattle.std.specs.List.{All}
+use Rattle.ipcz_base.specs.declared.side.Side.{Side}
+use Rattle.ipcz_base.specs.Indexed.{place_at, put_place}
+use Rattle.ipcz_word.specs.Layout.{IsWord, bits_of}
+use Rattle.ipcz_word.specs.Word.{Word, empty_word}
+use Rattle.ipcz_router.specs.declared.act.RouterAct.{RouterAct}
+use Rattle.ipcz_router.specs.declared.act.RouterAct.TheVariants.{Claim}
+use Rattle.ipcz_router.specs.declared.act.Answer.{Answer}
+use Rattle.ipcz_router.specs.declared.act.Answer.TheVariants as answers
+use Rattle.ipcz_world.specs.World.{word_limit, World}
+use Rattle.ipcz_world.specs.WordAnswers.{word_answer, word_after}
+
+-- the link words, and how many of them were claimed
+pub record WordTable : Type 0 where
+  pub words : List Word
+  pub claimed : ℕ
+
+-- numbers and a claim count that make a table: each number is a link word, and there are enough of them, but not too many
+pub record IsTable (bits : List ℕ) (count : ℕ) : Type 0 where
+  pub words : All IsWord bits
+  pub claimed : count ≤ length bits
+  pub few : length bits ≤ word_limit
+
+-- the number of a claimed word
+abbrev pub claimed_word : WordTable → ℕ → Option ℕ
+claimed_word t i = if nat_lt i t.claimed then Some (bits_of (place_at empty_word t.words i)) else None
+
+-- whether a word is left to claim
+abbrev pub has_unclaimed : WordTable → Bool
+has_unclaimed t = nat_lt t.claimed (length t.words)
+
+-- the table with a word more claimed
+abbrev pub claim_one : WordTable → WordTable
+claim_one t = record t { claimed = t.claimed + 1 }
+
+-- the table with another word of this number
+abbrev pub put_word : WordTable → ℕ → Word → WordTable
+put_word t i x = record t { words = put_place empty_word t.words i x }
+
+-- whether an act claims a word
+unfoldable pub is_claim : RouterAct → Bool
+is_claim Claim = true
+is_claim other = false
+
+-- what an act on the word of a link is answered, the link being given by its word and the side; without such a word nothing
+unfoldable pub side_answer : WordTable → RouterAct → Option (ℕ × Side) → Answer
+side_answer t act None = answers.Plain
+side_answer t act (Some l) = word_answer (place_at empty_word t.words l.0) l.1 act
+
+-- the table after an act on the word of a link
+unfoldable pub side_after : WordTable → RouterAct → Option (ℕ × Side) → WordTable
+side_after t act None = t
+side_after t act (Some l) = put_word t l.0 (word_after (place_at empty_word t.words l.0) l.1 act)
+
+-- what an act of a router is answered by the table
+abbrev pub table_answer : WordTable → RouterAct → Option (ℕ × Side) → Answer
+table_answer t act link =
+    if is_claim act then (if has_unclaimed t then answers.Claimed t.claimed else answers.NoWord) else side_answer t act link
+
+-- the table after an act of a router
+abbrev pub table_after : WordTable → RouterAct → Option (ℕ × Side) → WordTable
+table_after t act link = if is_claim act then (if has_unclaimed t then claim_one t else t) else side_after t act link
+
+-- the link words of a world
+abbrev pub table_of : World → WordTable
+table_of w = record { words = w.words; claimed = w.claimed }
+
+-- the world with other link words, as many as before
+abbrev pub with_table : World → WordTable → World
+with_table w t = record w { words = t.words; claimed = t.claimed }

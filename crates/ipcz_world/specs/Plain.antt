@@ -1,0 +1,75 @@
+-- The machine over the books alone: which replies it allows, and what they write.
+-- (This project's own.)
+use Rattle.std.specs.Prelude.{◌≡◌, ◌<◌, ℕ, true, Some, [], length}
+use Rattle.ipcz_base.specs.declared.end.End.{End}
+use Rattle.ipcz_base.specs.declared.item.Item.TheVariants.{Parcel, Mark}
+use Rattle.ipcz_base.specs.declared.refusal.Refusal.{Refusal}
+use Rattle.ipcz_base.specs.declared.refusal.Refusal.TheVariants.{OutOfMemory, Empty, PeerClosed, NoWord, SelfAttach, PeerAttach, Stranger}
+use Rattle.ipcz_base.specs.declared.refusal.Refusal.TheVariants.{NumbersEnd, BadData, TooMany}
+use Rattle.ipcz_base.specs.Ends.{opposite_end}
+use Rattle.ipcz_node.specs.declared.happened.Happened.{Happened}
+use Rattle.ipcz_node.specs.declared.happened.Happened.TheVariants as events
+use Rattle.ipcz_world.specs.declared.step.Step.{Step}
+use Rattle.ipcz_world.specs.declared.step.Step.TheVariants.{Open, Put, Get, Close, Turn}
+use Rattle.ipcz_world.specs.declared.step.Reply.{Reply}
+use Rattle.ipcz_world.specs.declared.step.Reply.TheVariants as replies
+use Rattle.ipcz_world.specs.Books.{Books, read, next_item, is_closed, add_put, add_got, add_gone}
+
+-- the books have nothing of an end
+pub record IsUnwritten (b : Books) (e : End) : Type 0 where
+  pub put : b.put e ≡ []
+  pub got : b.got e ≡ []
+  pub gone : b.gone e ≡ 0
+
+-- why a step may be refused, by the books: a put at a closed peer's portal, and a get whose next item is the mark, find that the peer has
+-- closed
+abbrev pub MayRefuse : Books → Step → Refusal → Type 0
+MayRefuse b (Open n) Stranger = Unit {0}
+MayRefuse b (Open n) NoWord = Unit {0}
+MayRefuse b (Open n) NumbersEnd = Unit {0}
+MayRefuse b (Open n) OutOfMemory = Unit {0}
+MayRefuse b (Put n at bytes ends) Stranger = Unit {0}
+MayRefuse b (Put n at bytes ends) TooMany = Unit {0}
+MayRefuse b (Put n at bytes ends) BadData = Unit {0}
+MayRefuse b (Put n at bytes ends) SelfAttach = Unit {0}
+MayRefuse b (Put n at bytes ends) PeerAttach = Unit {0}
+MayRefuse b (Put n at bytes ends) PeerClosed = is_closed b (opposite_end at) ≡ true
+MayRefuse b (Put n at bytes ends) NumbersEnd = Unit {0}
+MayRefuse b (Put n at bytes ends) OutOfMemory = Unit {0}
+MayRefuse b (Get n at) Stranger = Unit {0}
+MayRefuse b (Get n at) Empty = Unit {0}
+MayRefuse b (Get n at) PeerClosed = next_item b at ≡ Some Mark
+MayRefuse b (Close n at) Stranger = Unit {0}
+MayRefuse b (Close n at) OutOfMemory = Unit {0}
+MayRefuse b (Turn n) Stranger = Unit {0}
+MayRefuse b (Turn n) NumbersEnd = Unit {0}
+MayRefuse b (Turn n) OutOfMemory = Unit {0}
+MayRefuse b step why = ⊥
+
+-- the sink of a closed end drops the next item of its peer
+pub record Discards (b : Books) (number : ℕ) (c : Books) : Type 0 where
+  pub end : End
+  pub closed : is_closed b end ≡ true
+  pub next : number ≡ read b end
+  pub put : read b end < length (b.put (opposite_end end))
+  pub books : c ≡ add_gone b end
+
+-- what a turn may be seen to do, and what that writes: a pending close writes the mark, a discard that an item is gone, and nothing else is
+-- written
+abbrev pub PlainTurn : Books → Happened → Books → Type 0
+PlainTurn b (events.Close e) c = c ≡ add_put b e Mark
+PlainTurn b (events.Discard serial number) c = Discards b number c
+PlainTurn b other c = c ≡ b
+
+-- what the machine over books alone allows: an open gives both ends of a pair of which nothing is written; a put or a close gets the next
+-- number of its end, and a get the next parcel of the peer; a refusal writes nothing. That no pair is opened twice the books alone can't
+-- tell: it is in the relation of steps
+abbrev pub Plain : Books → Step → Reply → Books → Type 0
+Plain b (Open n) (replies.Opened d e) c = (e ≡ opposite_end d) × IsUnwritten b d × IsUnwritten b e × (c ≡ b)
+Plain b (Put n at bytes ends) (replies.Put number) c =
+    (number ≡ length (b.put at)) × (c ≡ add_put b at (Parcel (record { bytes = bytes; ends = ends })))
+Plain b (Get n at) (replies.Got number p) c = (number ≡ read b at) × (next_item b at ≡ Some (Parcel p)) × (c ≡ add_got b at p)
+Plain b (Close n at) (replies.Closed number) c = (number ≡ length (b.put at)) × (c ≡ add_put b at Mark)
+Plain b (Turn n) (replies.Turned event) c = PlainTurn b event c
+Plain b step (replies.Refused why) c = MayRefuse b step why × (c ≡ b)
+Plain b step reply c = ⊥

@@ -1,0 +1,112 @@
+-- Settling: passes over the nodes in which each takes an act where it has one, until a pass is without an act or so many acts were taken.
+-- (This project's own.)
+use Rattle.std.specs.Prelude.{◌≡◌, ◌≤◌, ◌<◌, ℕ, zero, suc, ◌+◌, Bool, true, false, ◌||◌, nat_eq, nat_lt, if◌then◌else◌, List, [], ◌∷◌}
+use Rattle.std.specs.Prelude.{length, ◌*◌}
+use Rattle.ipcz_base.specs.declared.refusal.Refusal.{Refusal}
+use Rattle.ipcz_node.specs.declared.happened.Happened.{Happened}
+use Rattle.ipcz_node.specs.Acts.{is_quiet}
+use Rattle.ipcz_world.specs.declared.step.Settled.{Settled}
+use Rattle.ipcz_world.specs.declared.step.Settled.TheVariants as ends
+use Rattle.ipcz_world.specs.declared.step.Step.TheVariants.{Turn}
+use Rattle.ipcz_world.specs.declared.step.Reply.TheVariants as replies
+use Rattle.ipcz_node.specs.Node.{outbox}
+use Rattle.ipcz_world.specs.declared.mail.Mail.TheVariants as mails
+use Rattle.ipcz_world.specs.World.{node_limit, World, node_at, mail_at, way, numbers_from}
+use Rattle.ipcz_world.specs.Turns.{next_at, is_idle, is_clear, turn_lacks_serials, after_act}
+use Rattle.ipcz_world.specs.Steps.{StepFirst}
+
+-- a world on the way, with how many acts were taken, whether the next had to stop, and whether that was for want of serials
+pub record Passage : Type 0 where
+  pub world : World
+  pub acts : ℕ
+  pub stopped : Bool
+  pub refused : Bool
+
+-- one node's part of a pass: it takes its first act, where it has one and nothing stops it
+unfoldable pub visit : ℕ → Passage → ℕ → Passage
+visit limit p n =
+    if p.stopped || is_idle (next_at p.world n) then p
+    else if nat_eq p.acts limit then record p { stopped = true }
+    else if turn_lacks_serials p.world n (next_at p.world n) then record p { stopped = true; refused = true }
+    else record p { world = after_act p.world n (next_at p.world n); acts = p.acts + 1 }
+
+-- a pass over these nodes
+abbrev pub pass : ℕ → List ℕ → Passage → Passage
+pass limit [] p = p
+pass limit (n ∷ ns) p = pass limit ns (visit limit p n)
+
+-- passes until one is without an act, and so many at most
+abbrev pub passes : ℕ → ℕ → Passage → Passage
+passes limit zero p = p
+passes limit (suc left) p =
+    let q = pass limit (numbers_from 0 p.world.count) p in
+    if nat_eq q.acts p.acts then q else passes limit left q
+
+-- what settling comes to with ample memory; after a turn that is refused the turns before it stand
+unfoldable pub settle : ℕ → World → Passage
+settle limit w = passes limit (suc limit) (record { world = w; acts = 0; stopped = false; refused = false })
+
+-- the answer of settling, where no turn was refused
+unfoldable pub settle_answer : Passage → Settled
+settle_answer p = if p.stopped then ends.Unsettled else ends.Settled p.acts
+
+-- nothing waits: no node has a message, a pending close or a flagged router, and no mailbox has a message
+pub record IsQuiet (w : World) : Type 0 where
+  pub nodes : (n : ℕ) → n < w.count → is_quiet (node_at w n) ≡ true
+  pub mail : (k : ℕ) → is_clear (mail_at w k) ≡ true
+
+-- the world has a node for each number below its count, a word for each below its size and a mailbox for each two nodes; nothing lies
+-- beyond
+-- its nodes, and there are so few that each sees all mailboxes to and from it
+pub record IsBounded (w : World) : Type 0 where
+  pub nodes : length w.nodes ≡ w.count
+  pub words : length w.words ≡ w.size
+  pub mailboxes : length w.mail ≡ w.count * w.count
+  pub few : w.count ≤ node_limit
+  pub box : (n to : ℕ) → n < w.count → w.count ≤ to → outbox (node_at w n) to ≡ []
+  pub mail : (k : ℕ) → ((from to : ℕ) → from < w.count → to < w.count → k ≡ way w from to → ⊥) → mail_at w k ≡ mails.Empty
+
+-- the node has an act but idle
+abbrev pub HasAct : World → ℕ → Type 0
+HasAct w n = (n < w.count) × (is_idle (next_at w n) ≡ false)
+
+-- the node takes its first act, or what stands in for it
+abbrev pub TakesTurn : World → ℕ → World → Type 0
+TakesTurn w n v = (event : Happened) × StepFirst w (Turn n) (replies.Turned event) v
+
+-- the node after this one in a pass, or the first one of the next pass
+abbrev pub next_node : World → ℕ → ℕ
+next_node w n = if nat_lt (n + 1) w.count then n + 1 else 0
+
+-- visits from a node on, one node after the other, pass after pass; each says whether the node took an act, and a node takes one wherever
+-- it has one
+abbrev pub AreVisits : ℕ → List Bool → World → World → Type 0
+AreVisits n [] w v = v ≡ w
+AreVisits n (true ∷ visits) w v = HasAct w n × ((u : World) × TakesTurn w n u × AreVisits (next_node w n) visits u v)
+AreVisits n (false ∷ visits) w v = (is_idle (next_at w n) ≡ true) × AreVisits (next_node w n) visits w v
+
+-- how many of the visits took an act
+abbrev pub act_count : List Bool → ℕ
+act_count [] = 0
+act_count (acts ∷ visits) = if acts then act_count visits + 1 else act_count visits
+
+-- the answer fits the turns taken: settled only where nothing waits, after so many acts; unsettled only where the limit is reached and an
+-- act is still possible
+abbrev pub FitsAnswer : ℕ → ℕ → World → Settled → Type 0
+FitsAnswer limit acts v (ends.Settled after) = (after ≡ acts) × IsQuiet v
+FitsAnswer limit acts v ends.Unsettled = (acts ≡ limit) × ((n : ℕ) × HasAct v n)
+
+-- a settle: turns in passes over the nodes, at most as many as its limit, and an answer that fits them
+pub record IsSettle (limit : ℕ) (w v : World) (answer : Settled) : Type 0 where
+  pub visits : List Bool
+  pub turns : AreVisits 0 visits w v
+  pub within : act_count visits ≤ limit
+  pub answers : FitsAnswer limit (act_count visits) v answer
+
+-- a settle that is refused: turns in passes over the nodes, fewer than its limit, and then a turn that is refused
+pub record IsRefusedSettle (limit : ℕ) (w v : World) (why : Refusal) : Type 0 where
+  pub visits : List Bool
+  pub turns : AreVisits 0 visits w v
+  pub below : act_count visits < limit
+  pub node : ℕ
+  pub refused : StepFirst v (Turn node) (replies.Refused why) v

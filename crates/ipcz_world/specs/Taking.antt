@@ -1,0 +1,50 @@
+-- What the code needs to know of a world to take a step of it, and what a turn that takes a certain act comes to.
+-- (This project's own.)
+use Rattle.std.specs.Prelude.{◌≡◌, ◌<◌, ℕ, true, false, if◌then◌else◌, Option, Result, IsOk, OnOk, OnErr, IfOk, IfErr}
+use Rattle.ipcz_base.specs.declared.refusal.Refusal.{Refusal}
+use Rattle.ipcz_base.specs.declared.refusal.Refusal.TheVariants.{NumbersEnd, OutOfMemory}
+use Rattle.ipcz_node.specs.declared.act.Act.{Act}
+use Rattle.ipcz_node.specs.declared.happened.Happened.{Happened}
+use Rattle.ipcz_node.specs.Acts.{post_of, act_lacks_serials, act_grows}
+use Rattle.ipcz_node.specs.Events.{event_of}
+use Rattle.ipcz_router.specs.declared.act.Answer.TheVariants.{Plain}
+use Rattle.ipcz_base.specs.declared.message.Message.{Message}
+use Rattle.ipcz_world.specs.declared.step.Step.{Step}
+use Rattle.ipcz_world.specs.declared.step.Step.TheVariants.{Open, Put, Get, Close, Turn}
+use Rattle.ipcz_world.specs.World.{World, node_at}
+use Rattle.ipcz_world.specs.Turns.{turn_event, turn_lacks_serials, commit_at, after_act, can_take}
+use Rattle.ipcz_world.specs.Steps.{FirstAct}
+use Rattle.ipcz_world.specs.Soundness.{HasLengths, IsSound}
+
+-- the lists of a world have their lengths, its nodes name only what there is, and the first act of each of them is possible, and so is what stands in for it
+pub record IsRegular (w : World) : Type 0 where
+  pub lengths : HasLengths w
+  pub sound : (n : ℕ) → n < w.count → IsSound w.count w.size n (node_at w n)
+  pub possible : (n : ℕ) (act : Act) → n < w.count → FirstAct w n act → can_take w n act ≡ true
+
+-- a node has taken an act, or was refused it: for want of serials, or of memory where the act makes something grow
+pub record IsTaken (w : World) (n : ℕ) (act : Act) (result : Result Happened Refusal) (v : World) : Type 0 where
+  pub event : IfOk result (λ e. e ≡ turn_event w n act)
+  pub done : OnOk result (v ≡ after_act w n act)
+  pub allowed : OnOk result (turn_lacks_serials w n act ≡ false)
+  pub why : IfErr result (λ e. e ≡ (if turn_lacks_serials w n act then NumbersEnd else OutOfMemory))
+  pub grows : act_grows act ≡ false → turn_lacks_serials w n act ≡ false → IsOk result
+  pub left : OnErr result (v ≡ w)
+
+-- a node has done its own part of an act that touches no word, or was refused it
+pub record IsCommitted (w : World) (n : ℕ) (act : Act) (result : Result (Happened × Option Message) Refusal) (v : World) : Type 0 where
+  pub event : IfOk result (λ r. r.0 ≡ event_of (node_at w n) act Plain)
+  pub message : IfOk result (λ r. r.1 ≡ post_of (node_at w n) act)
+  pub done : OnOk result (v ≡ commit_at w w n act Plain)
+  pub allowed : OnOk result (act_lacks_serials (node_at w n) act ≡ false)
+  pub why : IfErr result (λ e. e ≡ (if act_lacks_serials (node_at w n) act then NumbersEnd else OutOfMemory))
+  pub grows : act_grows act ≡ false → act_lacks_serials (node_at w n) act ≡ false → IsOk result
+  pub left : OnErr result (v ≡ w)
+
+-- the node that a step is for
+unfoldable pub node_of : Step → ℕ
+node_of (Open n) = n
+node_of (Put n at bytes ends) = n
+node_of (Get n at) = n
+node_of (Close n at) = n
+node_of (Turn n) = n

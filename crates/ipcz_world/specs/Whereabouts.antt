@@ -1,0 +1,89 @@
+-- Where each end, each accepted item and each item's ends are.
+-- (This project's own.)
+use Rattle.std.specs.Prelude.{◌≡◌, ◌≢◌, ◌≤◌, ℕ, suc, ◌+◌, true, false, cond, ◌&&◌, nat_eq, Some, List, [], length, take, map, slice_get}
+use Rattle.ipcz_base.specs.declared.side.Side.{Side}
+use Rattle.ipcz_base.specs.declared.end.End.{End}
+use Rattle.ipcz_base.specs.declared.link_id.LinkId.{LinkId}
+use Rattle.ipcz_base.specs.declared.descriptor.Descriptor.{Descriptor}
+use Rattle.ipcz_base.specs.declared.item.Item.{Item}
+use Rattle.ipcz_base.specs.declared.item.Item.TheVariants.{Parcel, Mark}
+use Rattle.ipcz_base.specs.declared.message.Message.{Message}
+use Rattle.ipcz_base.specs.declared.message.Message.TheVariants as messages
+use Rattle.ipcz_base.specs.Ends.{opposite_end, same_end, has_end}
+use Rattle.ipcz_base.specs.Limits.{last_number}
+use Rattle.ipcz_seq.specs.Queue.{item_at}
+use Rattle.ipcz_router.specs.Router.{Router, is_terminal}
+use Rattle.ipcz_router.specs.Calls.{next_number}
+use Rattle.ipcz_base.specs.Items.{ends_in}
+use Rattle.ipcz_node.specs.Node.{holds_end}
+use Rattle.ipcz_world.specs.World.{World, Key, node_at, router_at}
+use Rattle.ipcz_world.specs.Books.{Books, read, is_closed}
+use Rattle.ipcz_world.specs.Records.{Records, At, routes_of, is_linked, is_recorded, side_end, terminal_node, is_nowhere}
+use Rattle.ipcz_base.specs.Totals.{total_below}
+use Rattle.ipcz_world.specs.Flows.{IsUnderWay, moves_of}
+use Rattle.ipcz_world.specs.Places.{in_places, at_end, names_end, times, unread_weight}
+use Rattle.ipcz_world.specs.Standing.{key_passes}
+
+-- each end of an opened pair has one terminal, or one that is to be made
+pub record Terminals (w : World) (g : Records) : Type 0 where
+  pub terminal : (k : Key) (r : Router) → router_at w k ≡ Some r → is_terminal r ≡ true → g.terminal r.end ≡ At k
+  pub stands : (e : End) (k : Key) → g.terminal e ≡ At k → key_passes w (Some k) (λ r. is_terminal r && same_end r.end e) ≡ true
+  pub opened : (k : Key) (r : Router) → router_at w k ≡ Some r → is_nowhere (g.terminal r.end) ≡ false
+  pub link_opened : (link : LinkId) (s : Side) → is_recorded w g link ≡ true → is_nowhere (g.terminal (side_end g link s)) ≡ false
+  pub unopened : (e : End) → is_linked (g.owner e.pair) ≡ false → is_nowhere (g.terminal e) ≡ true
+  pub other_pair : (e : End) → is_linked (g.owner e.pair) ≡ true → nat_eq (g.central e.pair).pair e.pair ≡ false →
+      is_nowhere (g.terminal e) ≡ true
+  pub both : (e : End) → is_nowhere (g.terminal (opposite_end e)) ≡ is_nowhere (g.terminal e)
+
+-- an end that is held, pending, in a queue of a node, or under way within a node has its terminal at this node
+pub record EndPlaces (w : World) (g : Records) : Type 0 where
+  pub held : (n : ℕ) (e : End) → holds_end (node_at w n) e ≡ true → terminal_node (g.terminal e) ≡ Some n
+  pub pending : (n : ℕ) (e : End) → has_end e (node_at w n).pending ≡ true → terminal_node (g.terminal e) ≡ Some n
+  pub out : (k : Key) (r : Router) (n : ℕ) (item : Item) (e : End) → router_at w k ≡ Some r → item_at r.out_queue n ≡ Some item →
+      has_end e (ends_in item) ≡ true → terminal_node (g.terminal e) ≡ Some k.node
+  pub inn : (k : Key) (r : Router) (n : ℕ) (item : Item) (e : End) → router_at w k ≡ Some r → item_at r.in_queue n ≡ Some item →
+      has_end e (ends_in item) ≡ true → terminal_node (g.terminal e) ≡ Some k.node
+  pub within : (n i : ℕ) (link : LinkId) (s : Side) (number : ℕ) (item : Item) (moves : List Descriptor) (e : End) →
+      IsUnderWay w n n i (messages.Item link s number item moves) → has_end e (ends_in item) ≡ true →
+      terminal_node (g.terminal e) ≡ Some n
+
+-- what the books have to do with each other and with the routers' flags
+pub record BooksKept (w : World) (b : Books) (g : Records) : Type 0 where
+  pub own_pair : (e d : End) (n : ℕ) (item : Item) → slice_get (b.put e) n ≡ Some item → has_end d (ends_in item) ≡ true → d.pair ≢ e.pair
+  pub mark_last : (e : End) (n : ℕ) → slice_get (b.put e) n ≡ Some Mark → suc n ≡ length (b.put e)
+  pub numbers : (e : End) → length (b.put e) ≤ last_number + cond (is_closed b e) 1 0
+  pub mark_seen : (k : Key) (r : Router) → router_at w k ≡ Some r → r.mark_seen ≡ true → is_closed b (opposite_end r.end) ≡ true
+
+-- each accepted item that is neither got nor discarded stands in exactly one place, and what was got is a prefix of what was put
+pub record Conserved (w : World) (b : Books) (g : Records) : Type 0 where
+  pub exact : (e : End) (h : ℕ → Item → ℕ) → in_places (at_end e h) (routes_of g) w ≡ unread_weight h b e
+  pub read_put : (e : End) → read b (opposite_end e) ≤ length (b.put e)
+  pub prefix : (e : End) → take (length (b.got (opposite_end e))) (b.put e) ≡ map Parcel (b.got (opposite_end e))
+  pub gone_closed : (e : End) → is_closed b e ≡ false → b.gone e ≡ 0
+  pub reach : (k : Key) (r : Router) → router_at w k ≡ Some r → is_terminal r ≡ true → next_number r ≡ length (b.put r.end)
+  pub current : (k : Key) (r : Router) → router_at w k ≡ Some r → is_terminal r ≡ true → r.in_queue.current ≡ read b r.end
+  pub sink : (k : Key) (r : Router) → router_at w k ≡ Some r → is_terminal r ≡ true → r.closed ≡ is_closed b r.end
+  pub move_out : (from to i j : ℕ) (m : Message) (d : Descriptor) → IsUnderWay w from to i m → slice_get (moves_of m) j ≡ Some d →
+      d.next_out ≡ length (b.put d.end)
+  pub move_in : (from to i j : ℕ) (m : Message) (d : Descriptor) → IsUnderWay w from to i m → slice_get (moves_of m) j ≡ Some d →
+      d.next_in ≡ read b d.end
+  pub move_open : (from to i j : ℕ) (m : Message) (d : Descriptor) → IsUnderWay w from to i m → slice_get (moves_of m) j ≡ Some d →
+      is_closed b d.end ≡ false
+  pub unopened_put : (e : End) → is_nowhere (g.terminal e) ≡ true → b.put e ≡ []
+  pub unopened_got : (e : End) → is_nowhere (g.terminal e) ≡ true → b.got e ≡ []
+
+-- how often callers hold an end, and how often it is pending
+abbrev pub times_held : World → End → ℕ
+times_held w e = total_below w.count (λ n. cond (holds_end (node_at w n) e) 1 0 + times e (node_at w n).pending)
+
+-- once, where an end was closed
+abbrev pub times_closed : Books → End → ℕ
+times_closed b e = cond (is_closed b e) 1 0
+
+-- each end of an opened pair is held by callers, in a parcel, pending or closed: one of these, once
+pub record HeldOnce (w : World) (b : Books) (g : Records) : Type 0 where
+  pub once : (e : End) →
+      in_places (names_end e) (routes_of g) w + (times_held w e + times_closed b e) ≡ cond (is_nowhere (g.terminal e)) 0 1
+  pub moves_in_parcel : (from to i : ℕ) (link : LinkId) (s : Side) (n : ℕ) (item : Item) (moves : List Descriptor) (j : ℕ) (d : Descriptor)
+      → IsUnderWay w from to i (messages.Item link s n item moves) →
+      slice_get moves j ≡ Some d → has_end d.end (ends_in item) ≡ true

@@ -1,0 +1,136 @@
+//! The laws of worlds and of their runs. Each function does nothing: its contract is the law. What a law speaks of is defined in specs/:
+//! `Lawful`, `Headline` and runs in Lawful, steps in Steps, books in Books, settling in Settling (docs/LAW.md).
+
+ghost use Rattle.ipcz_world.specs.WorldLaws.{StartsLawful, StepKeepsLawful, FirstIsPossible, ClaimKeepsLawful, RepliesPlainly};
+ghost use Rattle.ipcz_world.specs.WorldLaws.{BeginsLocked, LinksStay, LawfulGivesHeadline, HeadlineHolds, ItemsStandOnce};
+ghost use Rattle.ipcz_world.specs.WorldLaws.{LawfulStraysNothing, NothingStrays, LawfulOwes, TerminalsKeepBooks, ListsHaveLengths};
+ghost use Rattle.ipcz_world.specs.WorldLaws.{EndsStandOnce, HandsFit};
+ghost use Rattle.ipcz_world.specs.WorldLaws.{NodesAreSound, SettlesByTurns, RefusedSettleStands, QuietDelivers, OneNodeIsDirect};
+
+/// The world at the start, with 1 to 8 nodes and words enough for the first pairs (4096 at most), is lawful with empty books and the
+/// routes of the first pairs.
+pub fn the_world_at_the_start_is_lawful()
+    ensures { StartsLawful }
+{}
+
+/// Each step keeps a world lawful, with the books and routes that the step writes: an open, a put, a get, a close, or a turn that takes
+/// any possible act, not only the first one. A refused step is one of these.
+pub fn each_step_keeps_a_world_lawful()
+    ensures { StepKeepsLawful }
+{}
+
+/// A step in which a turn takes the first act of the tables, or the unlock that stands in for a begin, is one in which it takes a
+/// possible act: so what is said of any possible act is said of what the code does.
+pub fn first_acts_are_possible()
+    ensures { FirstIsPossible }
+{}
+
+/// The first half of an open, in which a word is claimed and its pair isn't made yet, keeps a world lawful with the same books and
+/// routes.
+pub fn claiming_for_an_open_keeps_a_world_lawful()
+    ensures { ClaimKeepsLawful }
+{}
+
+/// Each reply, and what it writes into the books, is one that the machine over the books alone allows: a put is numbered by how many the
+/// end has put, a get gives the next parcel that the peer put, and a refusal writes nothing.
+pub fn each_reply_is_plain()
+    ensures { RepliesPlainly }
+{}
+
+/// A turn that is seen to begin the bypass of a link finds that link's word locked by the side of its own router.
+pub fn a_bypass_begins_only_under_its_lock()
+    ensures { BeginsLocked }
+{}
+
+/// The word of a link stays the word of a link for good, and of the same pair.
+pub fn a_links_word_stays_with_its_pair()
+    ensures { LinksStay }
+{}
+
+/// In a lawful world each link is locked by at most one side and only while both are stable, what is being bypassed is locked by the side
+/// that left it, a stable link that is free joins two routers without decaying links, each portal has got a prefix of what its peer put,
+/// and each accepted item neither got nor dropped stands in one queue or message.
+pub fn a_lawful_world_gives_the_headline()
+    ensures { LawfulGivesHeadline }
+{}
+
+/// The same after every list of steps from the start, whichever possible act each turn takes.
+pub fn the_headline_holds_after_every_run()
+    ensures { HeadlineHolds }
+{}
+
+/// What the headline's weights come to for one item: where the peer hasn't read it it stands in one place, under its number; and what
+/// stands anywhere is such an item.
+pub fn each_item_stands_once()
+    ensures { ItemsStandOnce }
+{}
+
+/// In a lawful world all that know a link's length know the same, items under way are below it and not passed at their receiver, no node
+/// has a stray, and each message under way but a Flush finds its router or follows the message that makes it.
+pub fn nothing_strays_in_a_lawful_world()
+    ensures { LawfulStraysNothing }
+{}
+
+/// The same after every list of steps from the start.
+pub fn nothing_strays_after_any_run()
+    ensures { NothingStrays }
+{}
+
+/// In a lawful world each message in a node's hand fits there, so that no turn is seen to keep a stray; only a Flush may find its router
+/// gone.
+pub fn each_message_in_hand_fits()
+    ensures { HandsFit }
+{}
+
+/// In a lawful world a router with a possible act is flagged, a router's flags agree, and where a decaying link's length isn't known a
+/// message of its bypass is under way.
+pub fn a_lawful_world_owes_what_waits()
+    ensures { LawfulOwes }
+{}
+
+/// In a lawful world a terminal's next number is how many items its end has put, the current number of its in queue how many its end has
+/// read; it is a sink exactly where its end was closed, and an open one has dropped nothing. The same holds of a descriptor that will
+/// make one.
+pub fn terminals_keep_their_books()
+    ensures { TerminalsKeepBooks }
+{}
+
+/// In a lawful world each end of an open pair is held by the callers of one node, in the list of one parcel, among the closes that are
+/// pending, or closed: one of these, once. Another end is in none of these, and of it nothing is written.
+pub fn each_end_is_in_one_place()
+    ensures { EndsStandOnce }
+{}
+
+/// A lawful world has a node for each number below its count, a word for each below its size, a mailbox for each two nodes, at most 8
+/// nodes, and no more words claimed than there are.
+pub fn lists_have_their_lengths()
+    ensures { ListsHaveLengths }
+{}
+
+/// Each node of a lawful world knows its number and how many nodes there are; the words that its routers and its open under way name are
+/// words of the world, and the message in its hand comes from a node of the world.
+pub fn each_node_is_sound()
+    ensures { NodesAreSound }
+{}
+
+/// Settling is turns in passes over the nodes, each the first act where its node has one: settled, after so many acts, only where nothing
+/// waits; unsettled only where its limit was reached and an act is still possible.
+pub fn settling_is_turns_in_passes()
+    ensures { SettlesByTurns }
+{}
+
+/// Where settling is refused for want of numbers, the turns before the refused one stand.
+pub fn a_refused_settle_keeps_its_turns()
+    ensures { RefusedSettleStands }
+{}
+
+/// In a lawful world where nothing waits, a get on a pair whose two terminals share one link is Empty only where all that the peer put
+/// was got.
+pub fn a_quiet_direct_pair_has_delivered()
+    ensures { QuietDelivers }
+{}
+
+/// After every list of steps of a world of one node, the two terminals of each open pair share one link.
+pub fn on_one_node_each_pair_is_direct()
+    ensures { OneNodeIsDirect }
+{}

@@ -1,0 +1,167 @@
+ghost use Rattle.std.specs.Prelude.{◌≡◌, ◌<◌, ◌≤◌, ◌++◌, ◌-◌, Some, None, IfSome, IfOk, length, replicate, if◌then◌else◌};
+ghost use Rattle.ipcz_word.specs.Word.{empty_word, open_word};
+ghost use Rattle.ipcz_world.specs.Coding.{claimed_word, has_unclaimed, claim_one, put_word, is_claim, side_answer, side_after, table_answer, table_after};
+
+use crate::word_answers::answer_act;
+use ipcz_base::Side;
+use ipcz_router::act::{Answer, RouterAct};
+use ipcz_word::{EMPTY_WORD, OPEN_WORD};
+use std::alloc::{AllocError, Global};
+use std::marker::Model;
+
+/// The link words that the nodes share, and how many of them were claimed (docs/PROTOCOL.md, "Link words").
+#[derive(Drop)]
+pub(crate) struct LinkWords {
+    bits: Vec<u64>,
+    claimed: u32,
+}
+
+impl Model for LinkWords {
+    ghost use Rattle.std.specs.Prelude.{map};
+    ghost use Rattle.std.specs.FinMap.{code};
+    ghost use Rattle.std.specs.Coded.{codes};
+    ghost use Rattle.ipcz_word.specs.Layout.{word_of_bits};
+    ghost use Rattle.ipcz_world.specs.Coding.{WordTable, IsTable};
+
+    ghost Value = { WordTable };
+
+    ghost coded = { Prim.hlevel (codes, code) };
+
+    ghost view = { λ a. record { words = map word_of_bits a.bits.items; claimed = a.claimed } };
+
+    ghost invariant = { λ a. IsTable a.bits.items a.claimed };
+}
+
+impl LinkWords {
+    /// So many link words, 4096 at most. The first ones are those of pairs' first links, and claimed; the others are empty.
+    pub(crate) fn new(alloc: Global, pairs: u32, words: u32) -> Result<LinkWords, AllocError>
+        requires pairs { pairs ≤ words }
+        requires words { words ≤ 4096 }
+        ensures words { IfOk result (λ t. t.words ≡ replicate pairs open_word ++ replicate (words - pairs) empty_word) }
+        ensures claimed { IfOk result (λ t. t.claimed ≡ pairs) }
+    {
+        let mut bits = vec![in alloc; OPEN_WORD; pairs as usize]?;
+        bits.resize(words as usize, EMPTY_WORD)?;
+        Ok(LinkWords {
+            bits,
+            claimed: pairs,
+        })
+    }
+
+    /// How many words were claimed.
+    pub(crate) fn claimed(&self) -> u32
+        ensures { result ≡ self.now.claimed }
+    {
+        self.claimed
+    }
+
+    /// The number of a claimed word.
+    pub(crate) fn word(&self, i: u32) -> Option<u64>
+        ensures { result ≡ claimed_word self.now i }
+    {
+        if i < self.claimed {
+            Some(self.bits[i as usize])
+        } else {
+            None
+        }
+    }
+
+    /// Whether a word is left to claim.
+    pub(crate) fn has_unclaimed(&self) -> bool
+        ensures { result ≡ has_unclaimed self.now }
+    {
+        (self.claimed as usize) < self.bits.as_slice().len()
+    }
+
+    /// Claims the next word and gives its number.
+    pub(crate) fn claim(&mut self) -> u32
+        requires { self.old.claimed < length self.old.words }
+        ensures word { result ≡ self.old.claimed }
+        ensures table { self.new ≡ claim_one self.old }
+    {
+        let word = self.claimed;
+        self.claimed += 1;
+        word
+    }
+
+    /// Makes a word that of a pair's first link.
+    pub(crate) fn open(&mut self, i: u32)
+        requires { i < length self.old.words }
+        ensures { self.new ≡ put_word self.old i open_word }
+    {
+        self.bits[i as usize] = OPEN_WORD;
+    }
+
+    /// Answers an act of a router whose outward primary link has this word and side, where it is central, and makes of the word what the
+    /// act does.
+    pub(crate) fn answer(&mut self, act: RouterAct, link: Option<(u32, Side)>) -> Answer
+        requires { IfSome link (λ l. l.0 < length self.old.words) }
+        ensures answer { result ≡ table_answer self.old act link }
+        ensures table { self.new ≡ table_after self.old act link }
+    {
+        if is_claim(act) {
+            self.answer_claim()
+        } else {
+            self.answer_link(act, link)
+        }
+    }
+
+    // Claims a word, where one is left.
+    fn answer_claim(&mut self) -> Answer
+        ensures answer { result ≡ (if has_unclaimed self.old then Answer.Claimed self.old.claimed else Answer.NoWord) }
+        ensures table { self.new ≡ (if has_unclaimed self.old then claim_one self.old else self.old) }
+    {
+        if self.has_unclaimed() {
+            Answer::Claimed(self.claim())
+        } else {
+            Answer::NoWord
+        }
+    }
+
+    // Answers an act on the word of a link.
+    #[tactic(auto, unfolding(crate::specs::Coding::side_answer, crate::specs::Coding::side_after))]
+    fn answer_link(&mut self, act: RouterAct, link: Option<(u32, Side)>) -> Answer
+        requires { IfSome link (λ l. l.0 < length self.old.words) }
+        ensures answer { result ≡ side_answer self.old act link }
+        ensures table { self.new ≡ side_after self.old act link }
+    {
+        match link {
+            Some((i, side)) => self.answer_word(act, i, side),
+            None => Answer::Plain,
+        }
+    }
+
+    // Answers an act on a word.
+    #[tactic(auto, unfolding(crate::specs::Coding::side_answer, crate::specs::Coding::side_after))]
+    fn answer_word(&mut self, act: RouterAct, i: u32, side: Side) -> Answer
+        requires { i < length self.old.words }
+        ensures answer { result ≡ side_answer self.old act (Some (i, side)) }
+        ensures table { self.new ≡ side_after self.old act (Some (i, side)) }
+    {
+        let answered = answer_act(self.bits[i as usize], side, act);
+        self.bits[i as usize] = answered.word;
+        answered.answer
+    }
+}
+
+// Whether an act claims a word.
+#[tactic(auto, unfolding(crate::specs::Coding::is_claim))]
+fn is_claim(act: RouterAct) -> bool
+    ensures { result ≡ is_claim act }
+{
+    match act {
+        RouterAct::Claim => true,
+        RouterAct::SendOut
+        | RouterAct::SendIn
+        | RouterAct::Discard
+        | RouterAct::FinishOut
+        | RouterAct::FinishIn
+        | RouterAct::Leave
+        | RouterAct::Mark
+        | RouterAct::Wake
+        | RouterAct::Lock
+        | RouterAct::Begin
+        | RouterAct::Unlock
+        | RouterAct::Rest => false,
+    }
+}

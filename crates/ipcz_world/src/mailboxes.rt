@@ -1,0 +1,140 @@
+ghost use Rattle.std.specs.Prelude.{◌≡◌, ◌<◌, Some, None, IfOk, IfSome, IfNone, length, replicate, List};
+ghost use Rattle.ipcz_base.specs.Indexed.{place_at, put_place};
+ghost use Rattle.ipcz_world.specs.Turns.{is_full, is_clear, hand_message};
+ghost use Rattle.ipcz_world.specs.Mailing.{taken_up, put_down};
+
+use crate::mail::Mail;
+use ipcz_base::Message;
+use std::alloc::{AllocError, Global};
+use std::marker::Model;
+use std::mem;
+
+/// The mailboxes between the nodes, one for each ordered pair of nodes, by number.
+#[derive(Drop)]
+pub(crate) struct Mailboxes {
+    boxes: Vec<Mail>,
+}
+
+impl Model for Mailboxes {
+    ghost use Rattle.std.specs.Prelude.{List};
+    ghost use Rattle.std.specs.Coded.{codes};
+    ghost use Rattle.ipcz_world.specs.declared.mail.Mail.{Mail};
+
+    ghost Value = { List Mail };
+
+    ghost coded = { Prim.hlevel codes };
+
+    ghost view = { λ a. a.boxes.items };
+}
+
+impl Mailboxes {
+    /// So many mailboxes, each empty.
+    pub(crate) fn new(alloc: Global, count: usize) -> Result<Mailboxes, AllocError>
+        ensures { IfOk result (λ mail. mail ≡ replicate count Mail.Empty) }
+    {
+        let mut boxes = Vec::new(alloc);
+        for _k in 0..count {
+            boxes.push(Mail::Empty)?;
+        }
+        Ok(Mailboxes { boxes })
+    }
+
+    /// Whether a mailbox is full.
+    #[tactic(auto, using(crate::proofs::code::Slots::place_read))]
+    pub(crate) fn is_full(&self, k: usize) -> bool
+        requires { k < length self.now }
+        ensures { result ≡ is_full (place_at Mail.Empty self.now k) }
+    {
+        is_full(&self.boxes[k])
+    }
+
+    /// Whether a mailbox is empty.
+    #[tactic(auto, using(crate::proofs::code::Slots::place_read))]
+    pub(crate) fn is_clear(&self, k: usize) -> bool
+        requires { k < length self.now }
+        ensures { result ≡ is_clear (place_at Mail.Empty self.now k) }
+    {
+        is_clear(&self.boxes[k])
+    }
+
+    /// Leaves this in a mailbox.
+    #[tactic(auto, using(crate::proofs::code::Slots::place_written))]
+    pub(crate) fn put(&mut self, k: usize, mail: Mail)
+        requires { k < length self.old }
+        ensures { self.new ≡ put_place Mail.Empty self.old k mail }
+    {
+        self.boxes[k] = mail;
+    }
+
+    /// Takes the message of a full mailbox into the hand.
+    #[tactic(auto, using(crate::proofs::code::Slots::place_read, crate::proofs::code::Slots::place_written))]
+    pub(crate) fn take_up(&mut self, k: usize)
+        requires { k < length self.old }
+        ensures { self.new ≡ put_place Mail.Empty self.old k (taken_up (place_at Mail.Empty self.old k)) }
+    {
+        let place = &mut self.boxes[k];
+        let mail = mem::replace(place, Mail::Empty);
+        *place = take_up(mail);
+    }
+
+    /// Takes the message in hand out of its mailbox, which is empty then; a mailbox without one stays as it is.
+    #[tactic(auto, using(crate::proofs::code::Slots::place_read, crate::proofs::code::Slots::place_written))]
+    pub(crate) fn take_hand(&mut self, k: usize) -> Option<Message>
+        requires { k < length self.old }
+        ensures message { result ≡ hand_message (place_at Mail.Empty self.old k) }
+        ensures mail { self.new ≡ put_place Mail.Empty self.old k (put_down (place_at Mail.Empty self.old k)) }
+    {
+        let place = &mut self.boxes[k];
+        let mail = mem::replace(place, Mail::Empty);
+        let (message, left) = put_down(mail);
+        *place = left;
+        message
+    }
+}
+
+// Whether it is full.
+#[tactic(auto, unfolding(crate::specs::Turns::is_full))]
+fn is_full(mail: &Mail) -> bool
+    ensures { result ≡ is_full mail.now }
+{
+    match mail {
+        Mail::Full(_) => true,
+        Mail::Empty | Mail::Hand(_) => false,
+    }
+}
+
+// Whether it is empty.
+#[tactic(auto, unfolding(crate::specs::Turns::is_clear))]
+fn is_clear(mail: &Mail) -> bool
+    ensures { result ≡ is_clear mail.now }
+{
+    match mail {
+        Mail::Empty => true,
+        Mail::Full(_) | Mail::Hand(_) => false,
+    }
+}
+
+// What was in the hand, and what is left of it.
+#[tactic(auto, unfolding(crate::specs::Mailing::put_down, crate::specs::Turns::hand_message))]
+fn put_down(mail: Mail) -> (Option<Message>, Mail)
+    ensures message { result.0 ≡ hand_message mail }
+    ensures left { result.1 ≡ put_down mail }
+{
+    match mail {
+        Mail::Empty => (None, Mail::Empty),
+        Mail::Full(message) => (None, Mail::Full(message)),
+        Mail::Hand(message) => (Some(message), Mail::Empty),
+    }
+}
+
+// What was full is in the hand.
+#[tactic(auto, unfolding(crate::specs::Mailing::taken_up))]
+fn take_up(mail: Mail) -> Mail
+    ensures { result ≡ taken_up mail }
+{
+    match mail {
+        Mail::Empty => Mail::Empty,
+        Mail::Full(message) => Mail::Hand(message),
+        Mail::Hand(message) => Mail::Hand(message),
+    }
+}

@@ -1,0 +1,66 @@
+ghost use Rattle.std.specs.Prelude.{◌≡◌, ◌<◌, ◌≤◌, IfOk, IfErr, length};
+ghost use Rattle.std.specs.Borrow.{sem};
+ghost use Rattle.ipcz_base.specs.Indexed.{place_at};
+ghost use Rattle.ipcz_node.specs.Node.{bare_node};
+ghost use Rattle.ipcz_world.specs.World.{new_nodes, numbers_from};
+
+use ipcz_base::Refusal;
+use ipcz_node::NodeState;
+use std::alloc::Global;
+use std::marker::Model;
+
+/// The nodes of the world, by number.
+#[derive(Drop)]
+pub(crate) struct Nodes {
+    states: Vec<NodeState>,
+}
+
+impl Model for Nodes {
+    ghost use Rattle.std.specs.Prelude.{List, map};
+    ghost use Rattle.std.specs.FinMap.{code};
+    ghost use Rattle.std.specs.Coded.{codes};
+    ghost use Rattle.ipcz_node.specs.Node.{Node};
+
+    ghost Value = { List Node };
+
+    ghost coded = { Prim.hlevel (codes, code) };
+
+    ghost view = { λ a. map (λ k. k.node) a.states.items };
+}
+
+impl Nodes {
+    ghost use Rattle.ipcz_world.specs.Lending.{LendsNode};
+
+    /// So many nodes, 8 at most, with their first pairs. It answers `OutOfMemory` alone.
+    pub(crate) fn new(alloc: Global, count: u8) -> Result<Nodes, Refusal>
+        requires { count ≤ 8 }
+        ensures nodes { IfOk result (λ s. s ≡ new_nodes count (numbers_from 0 count)) }
+        ensures why { IfErr result (λ e. e ≡ Refusal.OutOfMemory) }
+    {
+        let mut states = Vec::new(alloc);
+        for number in 0..count {
+            let state = NodeState::new(alloc, number, count)?;
+            let Ok(()) = states.push(state) else {
+                return Err(Refusal::OutOfMemory);
+            };
+        }
+        Ok(Nodes { states })
+    }
+
+    /// The node of a number, to read.
+    pub(crate) fn node(&self, n: u8) -> &NodeState
+        requires { n < length self.now }
+        ensures { result.now.node ≡ place_at (bare_node 0 0) self.now n }
+    {
+        &self.states[n as usize]
+    }
+
+    /// The node of a number, to change.
+    pub(crate) fn node_mut(&mut self, n: u8) -> &mut NodeState
+        requires { n < length self.old }
+        ensures* writes_back { sem 𝓛 (LendsNode self.entry n result) }
+        ensures value { result.now.node ≡ place_at (bare_node 0 0) self.old n }
+    {
+        &mut self.states[n as usize]
+    }
+}

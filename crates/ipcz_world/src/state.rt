@@ -1,0 +1,174 @@
+ghost use Rattle.std.specs.Prelude.{◌≡◌, ◌<◌, ◌≤◌, IfOk, IfErr, length};
+ghost use Rattle.ipcz_node.specs.FirstPairs.{first_pairs};
+ghost use Rattle.ipcz_world.specs.Coding.{claimed_word, table_of};
+ghost use Rattle.ipcz_world.specs.Holding.{holder_of};
+ghost use Rattle.ipcz_world.specs.Lawful.{IsWithinLimits};
+ghost use Rattle.ipcz_world.specs.Steps.{StepFirst};
+ghost use Rattle.ipcz_world.specs.Taking.{IsRegular, node_of};
+ghost use Rattle.ipcz_world.specs.World.{new_world};
+
+pub(crate) mod calls;
+pub(crate) mod settling;
+pub(crate) mod turns;
+
+use crate::link_words::LinkWords;
+use crate::mailboxes::Mailboxes;
+use crate::nodes::Nodes;
+use crate::step::{Reply, Step};
+use ipcz_base::{End, Refusal};
+use std::alloc::Global;
+use std::marker::Model;
+
+/// The parts of a world: its nodes, the link words and the mailboxes. A `World` keeps that they are lawful; here each call says what it
+/// needs of them.
+#[derive(Drop)]
+pub(crate) struct State {
+    nodes: Nodes,
+    words: LinkWords,
+    mail: Mailboxes,
+    count: u8,
+    alloc: Global,
+}
+
+impl Model for State {
+    ghost use Rattle.std.specs.Prelude.{length};
+    ghost use Rattle.std.specs.FinMap.{code};
+    ghost use Rattle.std.specs.Coded.{codes};
+    ghost use Rattle.ipcz_world.specs.World.{World};
+
+    ghost Value = { World };
+
+    ghost coded = { Prim.hlevel (codes, code) };
+
+    ghost view = { λ a. record {
+      nodes = a.nodes;
+      words = a.words.words;
+      claimed = a.words.claimed;
+      size = length a.words.words;
+      count = a.count;
+      mail = a.mail;
+    } };
+}
+
+impl State {
+    /// The world of so many nodes and words at the start.
+    #[tactic(auto, unfolding(crate::specs::World::new_world))]
+    pub(crate) fn new(alloc: Global, nodes: u8, words: u32) -> Result<State, Refusal>
+        requires { IsWithinLimits nodes words }
+        ensures world { IfOk result (λ w. w ≡ new_world nodes words) }
+        ensures why { IfErr result (λ e. e ≡ Refusal.OutOfMemory) }
+    {
+        let boxes = usize::from(nodes) * usize::from(nodes);
+        let Ok(words) = LinkWords::new(alloc, first_pair_count(nodes), words) else {
+            return Err(Refusal::OutOfMemory);
+        };
+        let Ok(mail) = Mailboxes::new(alloc, boxes) else {
+            return Err(Refusal::OutOfMemory);
+        };
+        Ok(State {
+            nodes: Nodes::new(alloc, nodes)?,
+            words,
+            mail,
+            count: nodes,
+            alloc,
+        })
+    }
+
+    /// How many words were claimed.
+    pub(crate) fn claimed(&self) -> u32
+        ensures { result ≡ self.now.claimed }
+    {
+        self.words.claimed()
+    }
+
+    /// The number of a claimed word.
+    pub(crate) fn word(&self, i: u32) -> Option<u64>
+        ensures { result ≡ claimed_word (table_of self.now) i }
+    {
+        self.words.word(i)
+    }
+
+    /// The first node whose callers hold the end, where some do.
+    #[tactic(auto, unfolding(crate::specs::World::node_at))]
+    pub(crate) fn holder_of(&self, end: End) -> Option<u8>
+        requires { IsRegular self.now }
+        ensures { result ≡ holder_of self.now end }
+    {
+        for n in 0..self.count {
+            if self.nodes.node(n).holds(end) {
+                return Some(n);
+            }
+        }
+        None
+    }
+
+    /// Takes a step; one for a node that isn't there is refused.
+    pub(crate) fn step(&mut self, step: &Step) -> Reply
+        requires { IsRegular self.old }
+        ensures { StepFirst self.old step.now result self.new }
+    {
+        if node_of(step) >= self.count {
+            return Reply::Refused(Refusal::Stranger);
+        }
+        self.step_here(step)
+    }
+
+    // Takes a step for a node that is there.
+    #[tactic(auto, unfolding(crate::specs::Taking::node_of))]
+    fn step_here(&mut self, step: &Step) -> Reply
+        requires regular { IsRegular self.old }
+        requires node { node_of step.now < self.old.count }
+        ensures { StepFirst self.old step.now result self.new }
+    {
+        match step {
+            Step::Open(node) => self.open(*node),
+            Step::Put {
+                node,
+                at,
+                bytes,
+                ends,
+            } => self.put(*node, *at, bytes, ends),
+            Step::Get { node, at } => self.get(*node, *at),
+            Step::Close { node, at } => self.close(*node, *at),
+            Step::Turn(node) => self.turn(*node),
+        }
+    }
+
+    // Takes the turn of a node that is there.
+    fn turn(&mut self, n: u8) -> Reply
+        requires regular { IsRegular self.old }
+        requires node { n < self.old.count }
+        ensures { StepFirst self.old (Step.Turn n) result self.new }
+    {
+        let act = self.next(n);
+        self.take_first(n, act)
+    }
+}
+
+// The node that a step is for.
+#[tactic(auto, unfolding(crate::specs::Taking::node_of))]
+fn node_of(step: &Step) -> u8
+    ensures { result ≡ node_of step.now }
+{
+    match step {
+        Step::Open(node) | Step::Turn(node) => *node,
+        Step::Put { node, .. } | Step::Get { node, .. } | Step::Close { node, .. } => *node,
+    }
+}
+
+// How many first pairs so many nodes have: each node has one with each of those behind it.
+fn first_pair_count(nodes: u8) -> u32
+    requires { nodes ≤ 8 }
+    ensures { result ≡ length (first_pairs nodes) }
+{
+    match nodes {
+        0 | 1 => 0,
+        2 => 1,
+        3 => 3,
+        4 => 6,
+        5 => 10,
+        6 => 15,
+        7 => 21,
+        _ => 28,
+    }
+}

@@ -1,0 +1,120 @@
+//! What callers do at a node of the world: open, put, get and close.
+
+ghost use Rattle.std.specs.Prelude.{◌≡◌, ◌<◌, ◌≤◌, ◌+◌, Some, None, IfOk, length};
+ghost use Rattle.ipcz_world.specs.World.{node_at, set_claimed};
+ghost use Rattle.ipcz_world.specs.Steps.{open_with, open_on, put_step, get_step, close_step, Gives, GivesOrNoMemory, PutGives};
+ghost use Rattle.ipcz_world.specs.Taking.{IsRegular};
+
+use crate::state::State;
+use crate::step::Reply;
+use ipcz_base::{Bytes, End, Ends, Refusal};
+use std::alloc::{AllocError, Global};
+
+impl State {
+    /// Opens a pair on a node.
+    pub(crate) fn open(&mut self, n: u8) -> Reply
+        requires regular { IsRegular self.old }
+        requires node { n < self.old.count }
+        ensures { GivesOrNoMemory self.old (open_on self.old n (node_at self.old n).opening) result self.new }
+    {
+        match self.nodes.node(n).opening() {
+            Some(word) => self.open_claimed(n, word),
+            None => self.open_next(n),
+        }
+    }
+
+    // Opens a pair on a word that is claimed.
+    fn open_claimed(&mut self, n: u8, word: u32) -> Reply
+        requires regular { IsRegular self.old }
+        requires node { n < self.old.count }
+        requires word { word < self.old.size }
+        ensures { GivesOrNoMemory self.old (open_with self.old self.old n word) result self.new }
+    {
+        let node = self.nodes.node_mut(n);
+        if let Err(why) = node.open_prepare() {
+            return Reply::Refused(why);
+        }
+        self.words.open(word);
+        let (first, second) = node.open_commit(word);
+        Reply::Opened(first, second)
+    }
+
+    // Opens a pair on the next word, where one is left.
+    fn open_next(&mut self, n: u8) -> Reply
+        requires regular { IsRegular self.old }
+        requires node { n < self.old.count }
+        ensures { GivesOrNoMemory self.old (open_on self.old n None) result self.new }
+    {
+        if !self.words.has_unclaimed() {
+            return Reply::Refused(Refusal::NoWord);
+        }
+        let node = self.nodes.node_mut(n);
+        if let Err(why) = node.open_prepare() {
+            return Reply::Refused(why);
+        }
+        let word = self.words.claim();
+        self.words.open(word);
+        let (first, second) = node.open_commit(word);
+        Reply::Opened(first, second)
+    }
+
+    /// Puts a copy of a parcel at an end. Room for its lists is taken first.
+    pub(crate) fn put(&mut self, n: u8, at: End, bytes: &Bytes, ends: &Ends) -> Reply
+        requires regular { IsRegular self.old }
+        requires node { n < self.old.count }
+        ensures { PutGives self.old n (put_step self.old n at (record { bytes = bytes.now; ends = ends.now })) result self.new }
+    {
+        let Ok(bytes) = copy_bytes(self.alloc, bytes) else {
+            return Reply::Refused(Refusal::OutOfMemory);
+        };
+        let Ok(ends) = copy_ends(self.alloc, ends) else {
+            return Reply::Refused(Refusal::OutOfMemory);
+        };
+        match self.nodes.node_mut(n).put(at, bytes, ends) {
+            Ok(number) => Reply::Put(number),
+            Err(refused) => Reply::Refused(refused.why),
+        }
+    }
+
+    /// Gets the next parcel at an end.
+    pub(crate) fn get(&mut self, n: u8, at: End) -> Reply
+        requires regular { IsRegular self.old }
+        requires node { n < self.old.count }
+        ensures { Gives (get_step self.old n at) result self.new }
+    {
+        match self.nodes.node_mut(n).get(at) {
+            Ok((number, parcel)) => Reply::Got(number, parcel),
+            Err(why) => Reply::Refused(why),
+        }
+    }
+
+    /// Closes an end.
+    pub(crate) fn close(&mut self, n: u8, at: End) -> Reply
+        requires regular { IsRegular self.old }
+        requires node { n < self.old.count }
+        ensures { GivesOrNoMemory self.old (close_step self.old n at) result self.new }
+    {
+        match self.nodes.node_mut(n).close(at) {
+            Ok(number) => Reply::Closed(number),
+            Err(why) => Reply::Refused(why),
+        }
+    }
+}
+
+// A copy of bytes.
+fn copy_bytes(alloc: Global, bytes: &Bytes) -> Result<Bytes, AllocError>
+    ensures { IfOk result (λ copy. copy ≡ bytes.now) }
+{
+    let mut copy = Vec::new(alloc);
+    copy.extend_from_slice(bytes.as_slice())?;
+    Ok(Bytes::from_vec(copy))
+}
+
+// A copy of a list of ends.
+fn copy_ends(alloc: Global, ends: &Ends) -> Result<Ends, AllocError>
+    ensures { IfOk result (λ copy. copy ≡ ends.now) }
+{
+    let mut copy = Vec::new(alloc);
+    copy.extend_from_slice(ends.as_slice())?;
+    Ok(Ends::from_vec(copy))
+}

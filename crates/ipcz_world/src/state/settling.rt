@@ -1,0 +1,62 @@
+//! Settling: which node takes the next act in passes over the nodes.
+
+ghost use Rattle.std.specs.Prelude.{◌≡◌, ◌<◌, ◌≤◌, IfSome, IfNone};
+ghost use Rattle.ipcz_world.specs.Settling.{next_node};
+ghost use Rattle.ipcz_world.specs.Taking.{IsRegular};
+ghost use Rattle.ipcz_world.specs.Turns.{next_at, is_idle};
+ghost use Rattle.ipcz_world.specs.Visiting.{AreIdle, IsFirstBusy, IsNextBusy};
+
+use crate::state::State;
+use ipcz_node::Act;
+
+impl State {
+    /// The next node that has an act, in passes over the nodes from this one on; none where each node is idle.
+    pub(crate) fn next_busy(&self, n: u8) -> Option<u8>
+        requires regular { IsRegular self.now }
+        requires place { n ≤ self.now.count }
+        ensures some { IfSome result (λ node. IsNextBusy self.now n node) }
+        ensures none { IfNone result (AreIdle self.now 0 self.now.count) }
+    {
+        match self.first_busy(n, self.count) {
+            Some(node) => Some(node),
+            None => self.first_busy(0, n),
+        }
+    }
+
+    /// The node after this one in a pass, or the first one of the next pass.
+    pub(crate) fn next_node(&self, n: u8) -> u8
+        requires node { n < self.now.count }
+        ensures { result ≡ next_node self.now n }
+    {
+        let count = self.count;
+        if n + 1 < count { n + 1 } else { 0 }
+    }
+
+    // The first node from one number up to another that has an act, where one has.
+    fn first_busy(&self, from: u8, to: u8) -> Option<u8>
+        requires regular { IsRegular self.now }
+        requires nodes { to ≤ self.now.count }
+        ensures some { IfSome result (λ n. IsFirstBusy self.now from to n) }
+        ensures none { IfNone result (AreIdle self.now from to) }
+    {
+        for n in from..to {
+            if !self.is_idle(n) {
+                return Some(n);
+            }
+        }
+        None
+    }
+
+    // Whether the first possible act of a node is idle.
+    #[tactic(auto, unfolding(crate::specs::Turns::is_idle))]
+    fn is_idle(&self, n: u8) -> bool
+        requires regular { IsRegular self.now }
+        requires node { n < self.now.count }
+        ensures { result ≡ is_idle (next_at self.now n) }
+    {
+        match self.next(n) {
+            Act::Idle => true,
+            Act::Hand(_) | Act::Look(_) | Act::Post(_) | Act::Close(_) | Act::Router(_, _) => false,
+        }
+    }
+}

@@ -1,0 +1,136 @@
+ghost use Rattle.std.specs.Prelude.{◌≡◌, ◌<◌, IfOk, IfErr, OnErr};
+ghost use Rattle.ipcz_world.specs.Books.{Books, advance, no_books};
+ghost use Rattle.ipcz_world.specs.Holding.{holder_of, shown_word};
+ghost use Rattle.ipcz_world.specs.Lawful.{IsWithinLimits, Lawful};
+ghost use Rattle.ipcz_world.specs.Plain.{Plain};
+ghost use Rattle.ipcz_world.specs.Routes.{Routes, first_routes, routes_after};
+ghost use Rattle.ipcz_world.specs.Steps.{StepFirst};
+ghost use Rattle.ipcz_world.specs.FirstRuns.{IsRun};
+ghost use Rattle.ipcz_world.specs.World.{new_world};
+ghost use Rattle.ipcz_world.specs.Settling.{IsSettle, IsRefusedSettle};
+
+use crate::state::State;
+use crate::step::{Reply, Settled, Step};
+use ipcz_base::{End, Refusal};
+use std::alloc::Global;
+use std::marker::Model;
+
+/// Nodes with the link words that they share and the mailboxes between them (docs/PROTOCOL.md, "Nodes" and "Turns").
+///
+/// The type keeps that there are books and routes with which the world is lawful: no caller ever has to show it.
+#[derive(Drop)]
+pub struct World {
+    state: State,
+}
+
+impl Model for World {
+    ghost use Rattle.std.specs.FinMap.{code};
+    ghost use Rattle.std.specs.Coded.{codes};
+    ghost use Rattle.ipcz_world.specs.World as value;
+    ghost use Rattle.ipcz_world.specs.Lawfulness.{IsLawful};
+
+    ghost Value = { value.World };
+
+    ghost coded = { Prim.hlevel (codes, code) };
+
+    ghost view = { λ a. a.state };
+
+    ghost invariant = { λ a. IsLawful a.state };
+}
+
+impl World {
+    /// The world of so many nodes and link words at the start (docs/PROTOCOL.md, "Nodes"): each two nodes have their first pair, numbered
+    /// in the order of their nodes, whose two terminals share one link; its word is open and claimed, the other words are empty. Each
+    /// mailbox is empty.
+    ///
+    /// `nodes` is 1 to 8; `words` is from the number of first pairs, `nodes * (nodes - 1) / 2`, to 4096. It answers `OutOfMemory` alone.
+    pub fn new(alloc: Global, nodes: u8, words: u32) -> Result<World, Refusal>
+        requires limits { IsWithinLimits nodes words }
+        ensures world { IfOk result (λ w. w ≡ new_world nodes words) }
+        ensures lawful { IfOk result (λ w. Lawful w no_books (first_routes nodes)) }
+        ensures why { IfErr result (λ e. e ≡ Refusal.OutOfMemory) }
+    {
+        let state = State::new(alloc, nodes, words)?;
+        Ok(World { state })
+    }
+
+    /// How many link words were claimed.
+    pub fn claimed(&self) -> u32
+        ensures { result ≡ self.now.claimed }
+    {
+        self.state.claimed()
+    }
+
+    /// The number of a link word, from 0 to 63 (docs/PROTOCOL.md, "Link words"); none exactly from the claim count on.
+    #[tactic(auto, unfolding(crate::specs::World::word_at))]
+    pub fn word(&self, i: u32) -> Option<u64>
+        ensures { result ≡ shown_word self.now i }
+    {
+        self.state.word(i)
+    }
+
+    /// The node whose callers hold the end, where some do. In a world of trusted nodes there is one at most.
+    pub fn holder_of(&self, end: End) -> Option<u8>
+        ensures { result ≡ holder_of self.now end }
+    {
+        self.state.holder_of(end)
+    }
+
+    /// Takes a step and answers it (docs/PROTOCOL.md, "Turns"). A turn takes the node's first possible act.
+    ///
+    /// Refused `Stranger` where the node isn't one of the world's; a put is refused `OutOfMemory` next, where its lists find no room; then
+    /// as the node refuses the call; an open is refused `NoWord` where each word is claimed, before `NumbersEnd` and `OutOfMemory`. A
+    /// turn is refused `NumbersEnd` or `OutOfMemory`, but a bypass that finds no memory to begin gives its lock back instead. A refusal
+    /// changes nothing.
+    pub fn step(&mut self, step: &Step) -> Reply
+        ensures step { StepFirst self.old step.now result self.new }
+        ensures lawful { (b : Books) → (g : Routes) → Lawful self.old b g → Lawful self.new (advance self.old b step.now result) (routes_after self.old g step.now result) }
+        ensures plain { (b : Books) → (g : Routes) → Lawful self.old b g → Plain b step.now result (advance self.old b step.now result) }
+    {
+        self.state.step(step)
+    }
+
+    /// Takes each of these steps, in their order, and gives their replies. Refused `OutOfMemory` where there is no room for the replies:
+    /// then no step is taken. A step that is refused is a reply like any other, and the steps after it are taken.
+    pub fn run(&mut self, alloc: Global, steps: &[Step]) -> Result<Vec<Reply>, Refusal>
+        ensures run { IfOk result (λ replies. IsRun self.old steps.now replies.items self.new) }
+        ensures why { IfErr result (λ e. e ≡ Refusal.OutOfMemory) }
+        ensures err { OnErr result (self.new ≡ self.old) }
+    {
+        let Ok(mut replies) = Vec::with_capacity(alloc, steps.len()) else {
+            return Err(Refusal::OutOfMemory);
+        };
+        for step in steps {
+            replies.push_reserved(self.step(step));
+        }
+        Ok(replies)
+    }
+    /// Lets the nodes take turns, one node after the other in passes over them, until no node has an act; at most `limit` acts are taken.
+    /// Settled, with how many acts were taken, where nothing waits any more; `Unsettled` where `limit` acts were taken and a node still has
+    /// one. A node that is idle takes no turn.
+    ///
+    /// Refused `NumbersEnd` or `OutOfMemory` as the first turn that is refused: the turns before it stand.
+    pub fn settle(&mut self, limit: u64) -> Result<Settled, Refusal>
+        ensures settles { IfOk result (λ answer. IsSettle limit self.old self.new answer) }
+        ensures refused { IfErr result (λ why. IsRefusedSettle limit self.old self.new why) }
+    {
+        let mut from = 0;
+        for acts in 0..limit {
+            let Some(node) = self.state.next_busy(from) else {
+                return Ok(Settled::Settled { after: acts });
+            };
+            from = self.state.next_node(node);
+            match self.step(&Step::Turn(node)) {
+                Reply::Turned(_) => {}
+                Reply::Refused(why) => return Err(why),
+                Reply::Opened(_, _) | Reply::Put(_) | Reply::Got(_, _) | Reply::Closed(_) => {
+                    unreachable!()
+                }
+            }
+        }
+        match self.state.next_busy(from) {
+            None => Ok(Settled::Settled { after: limit }),
+            Some(_) => Ok(Settled::Unsettled),
+        }
+    }
+}
