@@ -5,6 +5,7 @@ pub mod KnownBytes
 pub mod Pairing
 pub mod ReadingLaws
 pub mod ScriptRuns
+pub mod ScriptSaid
 pub mod Showing
 pub mod Stepping
 pub mod Taken

@@ -40,7 +40,13 @@ pub writes-next : (s u x : Session) (all left cs : List Command) (c : Command) (
     GoesOn s all u left text unsettled → left ≡ c ∷ cs → Runs u c answer x → new ≡ text ++ lines_of x.titles c answer →
     more ≡ (unsettled || is_unsettled answer) → GoesOn s all x cs new more
 writes-next s u x all left cs c answer text new unsettled more on front runs written stopped rest later t is =
-    let step : Writes u (c ∷ cs) (lines_of x.titles c answer ++ rest) (is_unsettled answer || later) t = (answer, x, rest, later, runs, is, refl, refl) in
+    let step : Writes u (c ∷ cs) (lines_of x.titles c answer ++ rest) (is_unsettled answer || later) t =
+    (
+      record { before = u; command = c; said = answer; after = x } ∷ is.0,
+      (refl, refl, runs, is.1),
+      ap (λ l. lines_of x.titles c answer ++ l) is.2,
+      ap (λ b. is_unsettled answer || b) is.3,
+    ) in
     let whole = on (lines_of x.titles c answer ++ rest) (is_unsettled answer || later) t (subst (λ l. Writes u l (lines_of x.titles c answer ++ rest) (is_unsettled answer || later) t) (sym front) step) in
     let texts : text ++ (lines_of x.titles c answer ++ rest) ≡ new ++ rest =
     sym (append_assoc text (lines_of x.titles c answer) rest) ∙ ap (λ l. l ++ rest) (sym written) in
@@ -51,5 +57,5 @@ writes-next s u x all left cs c answer text new unsettled more on front runs wri
 pub writes-end : (s u : Session) (all left : List Command) (text : List ℕ) (unsettled : Bool) → GoesOn s all u left text unsettled → left ≡ [] →
     Writes s all text unsettled u
 writes-end s u all left text unsettled on none =
-    let last : Writes u left [] false u = subst (λ cs. Writes u cs [] false u) (sym none) (refl, refl, refl) in
+    let last : Writes u left [] false u = subst (λ cs. Writes u cs [] false u) (sym none) ([], refl, refl, refl) in
     subst (λ l. Writes s all l unsettled u) (append-nil text) (subst (λ b. Writes s all (text ++ []) b u) (or_none unsettled) (on [] false u last))

@@ -3,8 +3,9 @@ pub mod EventTexts
 pub mod Faults
 pub mod Lines
 pub mod Reading
-pub mod ScriptNames
+pub mod ScriptBooks
 pub mod ScriptLaws
+pub mod ScriptNames
 pub mod Scripts
 pub mod Sessions
 pub mod Shapes

@@ -20,12 +20,33 @@ unfoldable pub is_unsettled : Said → Bool
 is_unsettled Unsettled = true
 is_unsettled other = false
 
--- these commands, run one after the other, write this text; and whether some settle came to its limit
+-- a command that was run: what it was answered, and the sessions before and after it
+pub record Answered : Type 0 where
+  pub before : Session
+  pub command : Command
+  pub said : Said
+  pub after : Session
+
+-- these commands, run one after the other, are answered so
+abbrev pub AreAnswered : Session → List Command → List Answered → Session → Type 0
+AreAnswered s [] [] t = t ≡ s
+AreAnswered s [] (a ∷ rest) t = ⊥
+AreAnswered s (c ∷ cs) [] t = ⊥
+AreAnswered s (c ∷ cs) (a ∷ rest) t = (a.before ≡ s) × (a.command ≡ c) × Runs s c a.said a.after × AreAnswered a.after cs rest t
+
+-- the lines of these commands
+abbrev pub lines_in : List Answered → List ℕ
+lines_in [] = []
+lines_in (a ∷ rest) = lines_of a.after.titles a.command a.said ++ lines_in rest
+
+-- whether some settle among them came to its limit
+abbrev pub is_some_unsettled : List Answered → Bool
+is_some_unsettled [] = false
+is_some_unsettled (a ∷ rest) = is_unsettled a.said || is_some_unsettled rest
+
+-- these commands, run one after the other, write this text: the lines of what they are answered; and whether some settle came to its limit
 abbrev pub Writes : Session → List Command → List ℕ → Bool → Session → Type 0
-Writes s [] text unsettled t = (text ≡ []) × (unsettled ≡ false) × (t ≡ s)
-Writes s (c ∷ cs) text unsettled t =
-    (answer : Said) × (u : Session) × (rest : List ℕ) × (later : Bool) × Runs s c answer u × Writes u cs rest later t
-    × (text ≡ lines_of u.titles c answer ++ rest) × (unsettled ≡ (is_unsettled answer || later))
+Writes s cs text unsettled t = (log : List Answered) × AreAnswered s cs log t × (text ≡ lines_in log) × (unsettled ≡ is_some_unsettled log)
 
 -- a transcript of a script, and whether some line of it is `unsettled`
 abbrev pub IsTranscript : Script → List ℕ → Bool → Type 0

@@ -1,16 +1,48 @@
-//! What holds of every script, as contracts of functions that do nothing.
+//! What holds of every script, as contracts of functions that do nothing (docs/LAW.md, "Of scripts").
+//!
+//! A transcript is by its definition the lines of some answers to the commands. These laws are about those answers, and `run_script` is
+//! what writes their lines.
 
-ghost use Rattle.ipcz_script.specs.ScriptLaws.{ScriptsAreRuns, ScriptsDeliver};
+ghost use Rattle.ipcz_script.specs.ScriptLaws.{GetsFollowPuts, NumbersCountUp, ScriptsAreRuns, ScriptsDeliver, ScriptsArrive};
+ghost use Rattle.ipcz_script.specs.ScriptLaws.{ScriptsAnswerPlainly};
 
-/// The worlds that a script comes to are worlds that lists of steps lead to, so that the laws of `ipcz_world` hold of them.
+/// By the answers to a script, a portal has got a prefix of the parcels that its peer has put: the same bytes and the same ends, in
+/// order, whatever nodes both were on.
+#[tactic(auto, using(crate::proofs::ScriptRuns::gets_follow_puts))]
+pub fn gets_follow_puts()
+    ensures { GetsFollowPuts }
+{}
+
+/// By the answers to a script, each parcel that a portal puts is numbered by how many it has put before, each that it gets by how many it
+/// has got before, and the mark of a close by how many it has put.
+#[tactic(auto, using(crate::proofs::ScriptRuns::numbers_count_up))]
+pub fn numbers_count_up()
+    ensures { NumbersCountUp }
+{}
+
+/// The world after a script is one that some list of steps leads to, so that the laws of `ipcz_world` hold of it, with books in which each
+/// end has put and got just the parcels that the answers say.
 #[tactic(auto, using(crate::proofs::ScriptRuns::scripts_are_runs))]
 pub fn scripts_are_runs()
     ensures { ScriptsAreRuns }
 {}
 
-/// Whatever the commands of a script were, the headline of `ipcz_world` holds of the world after them: each portal has got
-/// a prefix of what its peer put, and each accepted item neither got nor dropped stands in exactly one place.
+/// After every script the headline of `ipcz_world` holds, of such books: each portal has got a prefix of what its peer put, and each
+/// accepted item neither got nor dropped stands in exactly one place.
 #[tactic(auto, using(crate::proofs::ScriptRuns::scripts_deliver))]
 pub fn scripts_deliver()
     ensures { ScriptsDeliver }
+{}
+
+/// After every script nothing is stuck, by such books: no node has a stray, each end is in one place and a held one has its terminal, and
+/// where nothing waits a get on a pair without proxies is Empty only where all that the peer put was got; of one node each pair is such.
+#[tactic(auto, using(crate::proofs::ScriptRuns::scripts_arrive))]
+pub fn scripts_arrive()
+    ensures { ScriptsArrive }
+{}
+
+/// After every script each reply to a step is one that the machine over such books alone allows.
+#[tactic(auto, using(crate::proofs::ScriptRuns::scripts_answer_plainly))]
+pub fn scripts_answer_plainly()
+    ensures { ScriptsAnswerPlainly }
 {}

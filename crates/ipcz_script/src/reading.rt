@@ -206,7 +206,15 @@ mod tests {
                 ScriptFault::BadShape(0),
             ),
             (
-                r#"{"nodes":2,"words":1,"commands":[]}"#,
+                r#"{"nodes":9,"words":36,"commands":[]}"#,
+                ScriptFault::BadShape(0),
+            ),
+            (
+                r#"{"nodes":2,"words":0,"commands":[]}"#,
+                ScriptFault::BadShape(0),
+            ),
+            (
+                r#"{"nodes":8,"words":27,"commands":[]}"#,
                 ScriptFault::BadShape(0),
             ),
             (
@@ -225,8 +233,10 @@ mod tests {
                 "{text}"
             );
         }
-        let words = refusal_of(rt.alloc(), br#"{"nodes":1,"words":4096,"commands":[]}"#);
-        assert_eq!(rt; words, None);
+        let most_words = refusal_of(rt.alloc(), br#"{"nodes":1,"words":4096,"commands":[]}"#);
+        assert_eq!(rt; most_words, None);
+        let most_nodes = refusal_of(rt.alloc(), br#"{"nodes":8,"words":28,"commands":[]}"#);
+        assert_eq!(rt; most_nodes, None);
         Ok(())
     }
 
@@ -262,11 +272,20 @@ mod tests {
             (r#"[["get","abcdefghijklmnopq"]]"#, Some(1)),
             (r#"[["get",""]]"#, Some(1)),
             (r#"[["get","é"]]"#, Some(1)),
-            (r#"[["put","x","a",["y"]]]"#, Some(1)),
-            (r#"[["put","x","a",[]]]"#, Some(1)),
-            (r#"[["turn",0,1]]"#, Some(1)),
-            (r#"[["show"]]"#, Some(1)),
-            (r#"[["close","x"]]"#, Some(1)),
+            (r#"[["put","x","a",["y","0>1"]]]"#, None),
+            (r#"[["put","x","a",[]]]"#, None),
+            (r#"[["put","x","a",["y","é"]]]"#, Some(1)),
+            (r#"[["put","x","a","y"]]"#, Some(1)),
+            (r#"[["put","x",1]]"#, Some(1)),
+            (r#"[["turn",0,1],["turn",0,1000000]]"#, None),
+            (r#"[["turn",0,1],["turn",0,1000001]]"#, Some(2)),
+            (r#"[["turn",0,0]]"#, Some(1)),
+            (r#"[["turn",1,1]]"#, Some(1)),
+            (r#"[["turn",0]]"#, Some(1)),
+            (r#"[["show"]]"#, None),
+            (r#"[["show",0]]"#, Some(1)),
+            (r#"[["close","x"]]"#, None),
+            (r#"[["close"]]"#, Some(1)),
             (r#"["get"]"#, Some(1)),
         ];
         for (commands, bad) in rows {

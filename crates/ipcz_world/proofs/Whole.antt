@@ -13,7 +13,20 @@ use Rattle.ipcz_world.specs.Routes.{first_routes}
 use Rattle.ipcz_world.specs.WorldLaws.{LawfulGivesHeadline, LawfulStraysNothing, LawfulOwes, TerminalsKeepBooks, EndsStandOnce}
 use Rattle.ipcz_world.specs.WorldLaws.{ListsHaveLengths, NodesAreSound, SettlesByTurns, RefusedSettleStands, QuietDelivers, OneNodeIsDirect}
 use Rattle.ipcz_world.specs.WorldLaws.{StartsLawful, StepKeepsLawful, FirstIsPossible, ClaimKeepsLawful, RepliesPlainly, BeginsLocked}
-use Rattle.ipcz_world.specs.WorldLaws.{LinksStay, HeadlineHolds, ItemsStandOnce, NothingStrays}
+use Rattle.ipcz_world.specs.WorldLaws.{LinksStay, HeadlineHolds, ItemsStandOnce, NothingStrays, GetsStayQuiet, HeldHaveTerminals}
+use Rattle.std.specs.Prelude.{is_some}
+use Rattle.std.specs.Prelude.{ℕ, ◌<◌}
+use Rattle.ipcz_base.specs.declared.end.End.{End}
+use Rattle.ipcz_node.specs.Node.{holds_end}
+use Rattle.ipcz_world.specs.World.{World, node_at}
+use Rattle.ipcz_world.specs.Books.{Books, is_closed}
+use Rattle.ipcz_world.specs.Routes.{Routes}
+use Rattle.ipcz_world.specs.Lawful.{Lawful}
+use Rattle.ipcz_world.proofs.calls.Puts.{terminal_there}
+use Rattle.ipcz_world.proofs.frames.Calling.{held_unclosed}
+use Rattle.ipcz_world.proofs.lawful.QuietGets.{gets_stay_quiet}
+use Rattle.ipcz_world.proofs.weights.Holding.{times_held-at}
+use Rattle.ipcz_world.proofs.weights.OfRecords.{holds_times}
 use Rattle.ipcz_world.proofs.calls.CallReplies.{reply-open, reply-put, reply-get, reply-close}
 use Rattle.ipcz_world.proofs.runs.TurnReplies.{reply-turn, begins_locked}
 use Rattle.ipcz_world.proofs.runs.Starting.{starts}
@@ -98,6 +111,10 @@ both : (a c : Bool) → (a && c) ≡ true → (a ≡ true) × (c ≡ true)
 both true c e = (refl, e)
 both false c e = cc
 
+-- a get leaves a quiet world quiet
+pub each_get_stays_quiet : GetsStayQuiet
+each_get_stays_quiet = gets_stay_quiet
+
 -- on one node each open pair is direct
 pub one_node_is_direct : OneNodeIsDirect
 one_node_is_direct words w b g pair is tells =
@@ -163,6 +180,17 @@ nodes_are_sound w b g n law l = node_is_sound w b law.records law.inv n l
 -- each end of an open pair is in one place
 pub ends_stand_once : EndsStandOnce
 ends_stand_once w b g law = subst (EndLaw w b) law.routes (end_law w b law.records law.inv)
+
+-- an end that callers hold isn't closed
+pub held_are_open : (w : World) (b : Books) (g : Routes) (n : ℕ) (e : End) → Lawful w b g → n < w.count → holds_end (node_at w n) e ≡ true →
+    is_closed b e ≡ false
+held_are_open w b g n e law l held =
+    held_unclosed w b law.records e law.held_once (omega (arith, holds_times e (node_at w n).held held, times_held-at w n e l))
+
+-- and has its terminal there
+pub held_have_terminals : HeldHaveTerminals
+held_have_terminals w b g n e law l held =
+    ap is_some (terminal_there w b law.records n e law.inv (law.inv.end_places.held n e held) (held_are_open w b g n e law l held)).1
 
 -- each message in hand fits, but a Flush may find its router gone
 pub messages_in_hand_fit : HandsFit

@@ -8,6 +8,7 @@ pub mod LinkLaws
 pub mod OneNode
 pub mod OwedLaws
 pub mod Quiet
+pub mod QuietGets
 pub mod SettleLaws
 pub mod Settles
 pub mod Soundness

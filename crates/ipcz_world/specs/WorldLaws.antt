@@ -1,6 +1,6 @@
 -- The laws of worlds and their runs, as functions promise them.
 -- (This project's own.)
-use Rattle.std.specs.Prelude.{◌≡◌, ◌<◌, ℕ, true, false, Some, None, map}
+use Rattle.std.specs.Prelude.{◌≡◌, ◌<◌, ℕ, true, false, Some, None, IsSome, map}
 use Rattle.ipcz_base.specs.declared.end.End.{End}
 use Rattle.ipcz_base.specs.declared.item.Item.TheVariants.{Parcel}
 use Rattle.ipcz_base.specs.declared.link_id.LinkId.TheVariants.{Central}
@@ -8,6 +8,7 @@ use Rattle.ipcz_base.specs.declared.refusal.Refusal.TheVariants.{Empty, NumbersE
 use Rattle.ipcz_base.specs.declared.message.Message.{Message}
 use Rattle.ipcz_base.specs.Ends.{opposite_end}
 use Rattle.ipcz_node.specs.Hands.{is_unfit}
+use Rattle.ipcz_node.specs.Node.{holds_end, terminal_of}
 use Rattle.ipcz_word.specs.SideSets.{has}
 use Rattle.ipcz_router.specs.Router.{Router}
 use Rattle.ipcz_node.specs.declared.happened.Happened.TheVariants as events
@@ -100,6 +101,10 @@ QuietDelivers =
     StepAny w (Get n e) (Refused Empty) v →
     map Parcel (b.got e) ≡ b.put (opposite_end e)
 
+-- law: a get leaves a quiet world quiet, so that gets go on until all that the peer has put was got
+abbrev pub GetsStayQuiet : Type 0
+GetsStayQuiet = (w v : World) (n : ℕ) (e : End) (reply : Reply) → IsQuiet w → StepAny w (Get n e) reply v → IsQuiet v
+
 -- law: after every list of steps of a world of one node each open pair is direct
 abbrev pub OneNodeIsDirect : Type 0
 OneNodeIsDirect =
@@ -134,6 +139,12 @@ HandsFit =
 -- law: in a lawful world each end of an open pair is in one place, and other ends are nowhere
 abbrev pub EndsStandOnce : Type 0
 EndsStandOnce = (w : World) (b : Books) (g : Routes) → Lawful w b g → EndLaw w b g
+
+-- law: in a lawful world an end that callers of a node hold has its terminal there
+abbrev pub HeldHaveTerminals : Type 0
+HeldHaveTerminals =
+    (w : World) (b : Books) (g : Routes) (n : ℕ) (e : End) → Lawful w b g → n < w.count → holds_end (node_at w n) e ≡ true →
+    IsSome (terminal_of (node_at w n) e)
 
 -- law: a lawful world's lists are as long as its numbers say
 abbrev pub ListsHaveLengths : Type 0

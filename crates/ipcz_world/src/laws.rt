@@ -6,6 +6,7 @@ ghost use Rattle.ipcz_world.specs.WorldLaws.{BeginsLocked, LinksStay, LawfulGive
 ghost use Rattle.ipcz_world.specs.WorldLaws.{LawfulStraysNothing, NothingStrays, LawfulOwes, TerminalsKeepBooks, ListsHaveLengths};
 ghost use Rattle.ipcz_world.specs.WorldLaws.{EndsStandOnce, HandsFit};
 ghost use Rattle.ipcz_world.specs.WorldLaws.{NodesAreSound, SettlesByTurns, RefusedSettleStands, QuietDelivers, OneNodeIsDirect};
+ghost use Rattle.ipcz_world.specs.WorldLaws.{GetsStayQuiet, HeldHaveTerminals};
 
 /// The world at the start, with 1 to 8 nodes and words enough for the first pairs (4096 at most), is lawful with empty books and the
 /// routes of the first pairs.
@@ -101,6 +102,11 @@ pub fn each_end_is_in_one_place()
     ensures { EndsStandOnce }
 {}
 
+/// In a lawful world an end that callers of a node hold has its terminal at that node, so that no call at it is a Stranger's.
+pub fn each_held_end_has_its_terminal()
+    ensures { HeldHaveTerminals }
+{}
+
 /// A lawful world has a node for each number below its count, a word for each below its size, a mailbox for each two nodes, at most 8
 /// nodes, and no more words claimed than there are.
 pub fn lists_have_their_lengths()
@@ -128,6 +134,12 @@ pub fn a_refused_settle_keeps_its_turns()
 /// was got.
 pub fn a_quiet_direct_pair_has_delivered()
     ensures { QuietDelivers }
+{}
+
+/// A get leaves a quiet world quiet, so that by gets alone a portal on a pair whose two terminals share one link gets all that its peer
+/// has put.
+pub fn a_get_leaves_a_quiet_world_quiet()
+    ensures { GetsStayQuiet }
 {}
 
 /// After every list of steps of a world of one node, the two terminals of each open pair share one link.

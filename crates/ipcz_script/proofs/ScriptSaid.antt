@@ -1,0 +1,182 @@
+-- What each step adds to the books is what the answer to its command says.
+use Rattle.std.proofs.Common.{◌≡◌, ◌∙◌, ap, sym, refl, subst, append_assoc, append-nil, arith, ℕ, suc, zero, ◌+◌, Bool, true, false, cond, List, [], ◌∷◌, ◌++◌, length, map, Option, Some, None}
+use Rattle.std.proofs.lemmas.Option.{same_Some}
+use Rattle.std.specs.Prelude.{take, unwrap_or, ◌||◌}
+use Rattle.std.specs.FinMap.{get}
+use Rattle.std.specs.Option.{option_map_or}
+use Rattle.ipcz_base.specs.declared.end.End.{End}
+use Rattle.ipcz_base.specs.declared.parcel.Parcel as parcels
+use Rattle.ipcz_base.specs.declared.item.Item.{Item}
+use Rattle.ipcz_base.specs.declared.item.Item.TheVariants.{Parcel, Mark}
+use Rattle.ipcz_base.specs.Ends.{same_end}
+use Rattle.ipcz_router.specs.Router.{Router}
+use Rattle.ipcz_node.specs.declared.happened.Happened.{Happened}
+use Rattle.ipcz_node.specs.declared.happened.Happened.TheVariants as events
+use Rattle.ipcz_world.specs.declared.step.Step.TheVariants as steps
+use Rattle.ipcz_world.specs.declared.step.Reply.{Reply}
+use Rattle.ipcz_world.specs.declared.step.Reply.TheVariants as replies
+use Rattle.ipcz_world.specs.World.{World}
+use Rattle.ipcz_world.specs.Turns.{router_of}
+use Rattle.ipcz_world.specs.Books.{Books, add_put, add_got, add_gone, advance, after_discard, after_turn, has_mark}
+use Rattle.ipcz_world.proofs.weights.Booking.{same_end-is}
+use Rattle.ipcz_script.specs.declared.command.Command.TheVariants as commands
+use Rattle.ipcz_script.specs.declared.said.Said.TheVariants as said
+use Rattle.ipcz_script.specs.Bindings.{Bindings}
+use Rattle.ipcz_script.specs.Sessions.{ends_from, heard}
+use Rattle.ipcz_script.specs.ScriptBooks.{got_said, is_bound, parcel_of, parcels_in, put_said}
+
+-- ---- parcels among items
+
+parcels-more : (items : List Item) (p : parcels.Parcel) → parcels_in (items ++ Parcel p ∷ []) ≡ parcels_in items ++ p ∷ []
+parcels-more [] p = refl
+parcels-more (Parcel q ∷ items) p = ap (λ l. q ∷ l) (parcels-more items p)
+parcels-more (Mark ∷ items) p = parcels-more items p
+
+parcels-mark : (items : List Item) → parcels_in (items ++ Mark ∷ []) ≡ parcels_in items
+parcels-mark [] = refl
+parcels-mark (Parcel q ∷ items) = ap (λ l. q ∷ l) (parcels-mark items)
+parcels-mark (Mark ∷ items) = parcels-mark items
+
+-- without a mark all items are parcels
+pub unmarked-length : (items : List Item) → has_mark items ≡ false → length items ≡ length (parcels_in items)
+unmarked-length [] h = refl
+unmarked-length (Parcel q ∷ items) h = ap suc (unmarked-length items h)
+unmarked-length (Mark ∷ items) h = cc
+
+-- a prefix of parcels among items is one of their parcels
+pub parcels-follow : (ps : List parcels.Parcel) (items : List Item) → take (length ps) items ≡ map Parcel ps → take (length ps) (parcels_in items) ≡ ps
+parcels-follow [] items h = refl
+parcels-follow (p ∷ ps) [] h = cc
+parcels-follow (p ∷ ps) (Mark ∷ items) h = cc
+parcels-follow (p ∷ ps) (Parcel q ∷ items) h =
+    let same : q ≡ p = cc in
+    let more : take (length ps) items ≡ map Parcel ps = cc in
+    λ i. same i ∷ parcels-follow ps items more i
+
+-- ---- what a step adds
+
+-- the second books have these parcels more than the first
+pub record Adds (b c : Books) (puts gots : End → List parcels.Parcel) : Type 0 where
+  pub put : (e : End) → parcels_in (c.put e) ≡ parcels_in (b.put e) ++ puts e
+  pub got : (e : End) → c.got e ≡ b.got e ++ gots e
+
+abbrev pub none : End → List parcels.Parcel
+none e = []
+
+-- a parcel at one end
+abbrev pub at_end : End → parcels.Parcel → End → List parcels.Parcel
+at_end at p e = cond (same_end e at) (p ∷ []) []
+
+nothing-more : (b : Books) → Adds b b none none
+nothing-more b = record { put = λ e. sym (append-nil (parcels_in (b.put e))); got = λ e. sym (append-nil (b.got e)) }
+
+put-more : (b : Books) (at : End) (p : parcels.Parcel) → Adds b (add_put b at (Parcel p)) (at_end at p) none
+put-more b at p = record { put = λ e. go e (same_end e at) refl; got = λ e. sym (append-nil (b.got e)) }
+  where
+    go : (e : End) (c : Bool) → same_end e at ≡ c →
+        parcels_in (cond c (b.put at ++ Parcel p ∷ []) (b.put e)) ≡ parcels_in (b.put e) ++ cond c (p ∷ []) []
+    go e true h = parcels-more (b.put at) p ∙ ap (λ d. parcels_in (b.put d) ++ p ∷ []) (sym (same_end-is e at h))
+    go e false h = sym (append-nil (parcels_in (b.put e)))
+
+got-more : (b : Books) (at : End) (p : parcels.Parcel) → Adds b (add_got b at p) none (at_end at p)
+got-more b at p = record { put = λ e. sym (append-nil (parcels_in (b.put e))); got = λ e. go e (same_end e at) refl }
+  where
+    go : (e : End) (c : Bool) → same_end e at ≡ c → cond c (b.got at ++ p ∷ []) (b.got e) ≡ b.got e ++ cond c (p ∷ []) []
+    go e true h = ap (λ d. b.got d ++ p ∷ []) (sym (same_end-is e at h))
+    go e false h = sym (append-nil (b.got e))
+
+mark-more : (b : Books) (at : End) → Adds b (add_put b at Mark) none none
+mark-more b at = record { put = λ e. go e (same_end e at) refl ∙ sym (append-nil (parcels_in (b.put e))); got = λ e. sym (append-nil (b.got e)) }
+  where
+    go : (e : End) (c : Bool) → same_end e at ≡ c → parcels_in (cond c (b.put at ++ Mark ∷ []) (b.put e)) ≡ parcels_in (b.put e)
+    go e true h = parcels-mark (b.put at) ∙ ap (λ d. parcels_in (b.put d)) (sym (same_end-is e at h))
+    go e false h = refl
+
+discard-more : (b : Books) (o : Option Router) → Adds b (after_discard b o) none none
+unfolding after_discard
+discard-more b None = nothing-more b
+discard-more b (Some r) = record { put = λ e. sym (append-nil (parcels_in (b.put e))); got = λ e. sym (append-nil (b.got e)) }
+
+-- a turn adds no parcel
+event-more : (w : World) (b : Books) (n : ℕ) (event : Happened) → Adds b (after_turn w b n event) none none
+unfolding after_turn
+event-more w b n (events.Close e) = mark-more b e
+event-more w b n (events.Discard serial number) = discard-more b (router_of w n serial)
+event-more w b n (events.Hand kind link unfit) = nothing-more b
+event-more w b n (events.Look from) = nothing-more b
+event-more w b n (events.Post to) = nothing-more b
+event-more w b n (events.SendOut serial k link moved) = nothing-more b
+event-more w b n (events.SendIn serial k link moved) = nothing-more b
+event-more w b n (events.FinishOut serial link) = nothing-more b
+event-more w b n (events.FinishIn serial link) = nothing-more b
+event-more w b n (events.Leave serial) = nothing-more b
+event-more w b n (events.Mark serial link word) = nothing-more b
+event-more w b n (events.Wake serial link word) = nothing-more b
+event-more w b n (events.Claim serial word) = nothing-more b
+event-more w b n (events.ClaimNoWord serial) = nothing-more b
+event-more w b n (events.Lock serial link word) = nothing-more b
+event-more w b n (events.Wait serial link word) = nothing-more b
+event-more w b n (events.Refused serial link word) = nothing-more b
+event-more w b n (events.Begin serial link) = nothing-more b
+event-more w b n (events.Unlock serial link word) = nothing-more b
+event-more w b n (events.Rest serial) = nothing-more b
+event-more w b n events.Idle = nothing-more b
+
+pub turn-more : (w : World) (b : Books) (n : ℕ) (reply : Reply) → Adds b (advance w b (steps.Turn n) reply) none none
+unfolding advance
+turn-more w b n (replies.Turned event) = event-more w b n event
+turn-more w b n (replies.Opened d e) = nothing-more b
+turn-more w b n (replies.Put k) = nothing-more b
+turn-more w b n (replies.Got k p) = nothing-more b
+turn-more w b n (replies.Closed k) = nothing-more b
+turn-more w b n (replies.Refused why) = nothing-more b
+
+-- ---- what a call adds is what its answer says
+
+pub open-said : (w : World) (b : Books) (n : ℕ) (names : Bindings) (first second : List ℕ) (reply : Reply) →
+    Adds b (advance w b (steps.Open n) reply) (put_said names (commands.Open n first second) (heard reply))
+    (got_said names (commands.Open n first second) (heard reply))
+unfolding advance put_said got_said heard
+open-said w b n names first second (replies.Opened d e) = nothing-more b
+open-said w b n names first second (replies.Put k) = nothing-more b
+open-said w b n names first second (replies.Got k p) = nothing-more b
+open-said w b n names first second (replies.Closed k) = nothing-more b
+open-said w b n names first second (replies.Turned event) = nothing-more b
+open-said w b n names first second (replies.Refused why) = nothing-more b
+
+pub put-said : (w : World) (b : Books) (n : ℕ) (names : Bindings) (at text : List ℕ) (attached : List (List ℕ)) (end : End) (ends : List End)
+    (reply : Reply) → get names at ≡ Some end → ends_from names [] attached ≡ Some ends →
+    Adds b (advance w b (steps.Put n end text ends) reply) (put_said names (commands.Put at text attached) (heard reply))
+    (got_said names (commands.Put at text attached) (heard reply))
+unfolding advance put_said got_said heard
+put-said w b n names at text attached end ends (replies.Opened d e) bound known = nothing-more b
+put-said w b n names at text attached end ends (replies.Put k) bound known =
+    subst (λ o. Adds b (add_put b end (Parcel (record { bytes = text; ends = ends })))
+    (λ e. cond (option_map_or (same_end e) o false) (parcel_of names text attached ∷ []) []) none) (sym bound)
+    (subst (λ o. Adds b (add_put b end (Parcel (record { bytes = text; ends = ends })))
+    (at_end end (record { bytes = text; ends = unwrap_or o [] })) none) (sym known) (put-more b end (record { bytes = text; ends = ends })))
+put-said w b n names at text attached end ends (replies.Got k p) bound known = nothing-more b
+put-said w b n names at text attached end ends (replies.Closed k) bound known = nothing-more b
+put-said w b n names at text attached end ends (replies.Turned event) bound known = nothing-more b
+put-said w b n names at text attached end ends (replies.Refused why) bound known = nothing-more b
+
+pub got-said : (w : World) (b : Books) (n : ℕ) (names : Bindings) (at : List ℕ) (end : End) (reply : Reply) → get names at ≡ Some end →
+    Adds b (advance w b (steps.Get n end) reply) (put_said names (commands.Get at) (heard reply)) (got_said names (commands.Get at) (heard reply))
+unfolding advance put_said got_said heard
+got-said w b n names at end (replies.Opened d e) bound = nothing-more b
+got-said w b n names at end (replies.Put k) bound = nothing-more b
+got-said w b n names at end (replies.Got k p) bound =
+    subst (λ o. Adds b (add_got b end p) none (λ e. cond (option_map_or (same_end e) o false) (p ∷ []) [])) (sym bound) (got-more b end p)
+got-said w b n names at end (replies.Closed k) bound = nothing-more b
+got-said w b n names at end (replies.Turned event) bound = nothing-more b
+got-said w b n names at end (replies.Refused why) bound = nothing-more b
+
+pub close-said : (w : World) (b : Books) (n : ℕ) (names : Bindings) (at : List ℕ) (end : End) (reply : Reply) →
+    Adds b (advance w b (steps.Close n end) reply) (put_said names (commands.Close at) (heard reply)) (got_said names (commands.Close at) (heard reply))
+unfolding advance put_said got_said heard
+close-said w b n names at end (replies.Opened d e) = nothing-more b
+close-said w b n names at end (replies.Put k) = nothing-more b
+close-said w b n names at end (replies.Got k p) = nothing-more b
+close-said w b n names at end (replies.Closed k) = mark-more b end
+close-said w b n names at end (replies.Turned event) = nothing-more b
+close-said w b n names at end (replies.Refused why) = nothing-more b
