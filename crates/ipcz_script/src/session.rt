@@ -159,8 +159,8 @@ impl Session {
     }
 
     #[tactic(auto, unfolding(crate::specs::Sessions::known, crate::specs::Sessions::held))]
-    fn put(&mut self, at: &str, data: &str, attached: &[Text]) -> Result<Said, AllocError>
-        ensures { IfOk result (λ said. Is (replied_put self.old at.now data.now attached.now) said self.new) }
+    fn put(&mut self, at: &str, text: &str, attached: &[Text]) -> Result<Said, AllocError>
+        ensures { IfOk result (λ said. Is (replied_put self.old at.now text.now attached.now) said self.new) }
     {
         let Some(end) = self.names.end_of(at) else {
             return Ok(Said::UnknownName);
@@ -171,7 +171,7 @@ impl Session {
         let Some(node) = self.world.holder_of(end) else {
             return Ok(Said::Away);
         };
-        let bytes = Bytes::from_vec(Vec::from_slice(self.alloc, data.as_bytes())?);
+        let bytes = Bytes::from_vec(Vec::from_slice(self.alloc, text.as_bytes())?);
         let reply = self.step(Step::Put {
             node,
             at: end,
