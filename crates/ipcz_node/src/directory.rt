@@ -290,7 +290,7 @@ impl Directory {
         }
     }
 
-    /// Does an act of the router of the serial, as `Router::act`; a router that leaves is taken out by `remove`.
+    /// Does an act of the router of the serial, as `Router::apply`; a router that leaves is taken out by `remove`.
     pub fn act(&mut self, serial: u64, act: RouterAct, answer: Answer) -> Applied
         requires possible { IsSomeAnd (get self.old.filed.routers serial) (λ r. may_take r act ≡ true) }
         requires answer { IsAnswerOf act answer }
@@ -301,7 +301,7 @@ impl Directory {
     {
         let router = self.routers.router_mut(serial);
         let was = router.filing();
-        let applied = router.act(act, answer);
+        let applied = router.apply(act, answer);
         let is = router.filing();
         refile(
             &mut self.links,

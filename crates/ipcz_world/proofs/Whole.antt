@@ -11,7 +11,7 @@ use Rattle.ipcz_world.specs.World.{new_world}
 use Rattle.ipcz_world.specs.Books.{no_books}
 use Rattle.ipcz_world.specs.Routes.{first_routes}
 use Rattle.ipcz_world.specs.WorldLaws.{LawfulGivesHeadline, LawfulStraysNothing, LawfulOwes, TerminalsKeepBooks, EndsStandOnce}
-use Rattle.ipcz_world.specs.WorldLaws.{ListsHaveLengths, NodesAreSound, SettlesByTurns, RefusedSettleStands, QuietDelivers, OneNodeIsDirect}
+use Rattle.ipcz_world.specs.WorldLaws.{ListsHaveLengths, NodesAreSound, QuietDelivers, OneNodeIsDirect}
 use Rattle.ipcz_world.specs.WorldLaws.{StartsLawful, StepKeepsLawful, FirstIsPossible, ClaimKeepsLawful, RepliesPlainly, BeginsLocked}
 use Rattle.ipcz_world.specs.WorldLaws.{LinksStay, HeadlineHolds, ItemsStandOnce, NothingStrays, GetsStayQuiet, HeldHaveTerminals}
 use Rattle.std.specs.Prelude.{is_some}
@@ -37,8 +37,6 @@ use Rattle.ipcz_world.proofs.runs.Keeping.{steps_keep}
 use Rattle.ipcz_world.proofs.runs.Running.{reached_lawful, run_keeps}
 use Rattle.ipcz_world.proofs.lawful.OneNode.{IsAlone, HasNone, alone-kept, alone-new, direct}
 use Rattle.ipcz_world.proofs.lawful.Quiet.{quiet_delivers}
-use Rattle.ipcz_world.proofs.lawful.Settles.{refused_settle_stands}
-use Rattle.ipcz_world.proofs.lawful.SettleLaws.{settles}
 use Rattle.ipcz_world.proofs.runs.BoundedSteps.{bounded-claim_for_open}
 use Rattle.ipcz_world.proofs.runs.FlaggedSteps.{flagged-claim_for_open}
 use Rattle.ipcz_world.proofs.runs.FlagsAgree.{agreed-claim_for_open}
@@ -124,14 +122,6 @@ one_node_is_direct words w b g pair is tells =
     let t = both (g.is_link pair) (nat_eq (g.pair pair) pair) tells in
     let own : g.pair pair ≡ pair = grind (arith, nat_tests, t.1) in
     direct w b law.records law.inv alone pair (ap (λ z. z.is_link pair) law.routes ∙ t.0) (ap (λ z. z.pair pair) law.routes ∙ own)
-
--- where settling is refused, the turns before the refused one stand
-pub each_refused_settle_stands : RefusedSettleStands
-each_refused_settle_stands = refused_settle_stands
-
--- settling is turns in passes over the nodes
-pub each_settles_by_turns : SettlesByTurns
-each_settles_by_turns = settles each_step_keeps_lawful first_acts_are_possible
 
 -- the sentence holds of every lawful world
 pub lawful_worlds_give_the_headline : LawfulGivesHeadline

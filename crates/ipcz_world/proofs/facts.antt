@@ -3,5 +3,7 @@ pub mod BegunLengths
 pub mod Finding
 pub mod Lengths
 pub mod LinkTests
+pub mod NodeCount
 pub mod Queues
 pub mod Reaching
+pub mod Tests

@@ -9,8 +9,6 @@ pub mod OneNode
 pub mod OwedLaws
 pub mod Quiet
 pub mod QuietGets
-pub mod SettleLaws
-pub mod Settles
 pub mod Soundness
 pub mod StrayLaws
 pub mod WordLaws

@@ -12,7 +12,7 @@ use Rattle.ipcz_node.specs.FirstPairs.{first_pairs}
 use Rattle.ipcz_world.specs.declared.step.Step.{Step}
 use Rattle.ipcz_world.specs.declared.step.Reply.{Reply}
 use Rattle.ipcz_world.specs.World.{node_limit, word_limit, World, word_at, new_world}
-use Rattle.ipcz_world.specs.Steps.{Scheduler, AnyAct, FirstAct, StepBy}
+use Rattle.ipcz_world.specs.Steps.{Scheduler, AnyAct, StepBy}
 use Rattle.ipcz_world.specs.Books.{Books, no_books, advance, read}
 use Rattle.ipcz_world.specs.Routes.{Routes, first_routes, routes_after}
 use Rattle.ipcz_world.specs.Places.{in_places, at_end, times_at, unread_weight}
@@ -73,10 +73,6 @@ RunBy May w b g (step ∷ steps) (reply ∷ replies) v c h =
 -- a run in which a turn takes any possible act
 abbrev pub RunAny : World → Books → Routes → List Step → List Reply → World → Books → Routes → Type 0
 RunAny = RunBy AnyAct
-
--- a run in which a turn takes the first possible act
-abbrev pub RunFirst : World → Books → Routes → List Step → List Reply → World → Books → Routes → Type 0
-RunFirst = RunBy FirstAct
 
 -- how many nodes and words a world may have
 pub record IsWithinLimits (count size : ℕ) : Type 0 where

@@ -1,4 +1,4 @@
--- Settling: passes over the nodes in which each takes an act where it has one, until a pass is without an act or so many acts were taken.
+-- Settling: visits to the nodes in their order, again and again, in which each takes an act where it has one.
 -- (This project's own.)
 use Rattle.std.specs.Prelude.{◌≡◌, ◌≤◌, ◌<◌, ℕ, zero, suc, ◌+◌, Bool, true, false, ◌||◌, nat_eq, nat_lt, if◌then◌else◌, List, [], ◌∷◌}
 use Rattle.std.specs.Prelude.{length, ◌*◌}
@@ -15,49 +15,13 @@ use Rattle.ipcz_world.specs.World.{node_limit, World, node_at, mail_at, way, num
 use Rattle.ipcz_world.specs.Turns.{next_at, is_idle, is_clear, turn_lacks_serials, after_act}
 use Rattle.ipcz_world.specs.Steps.{StepFirst}
 
--- a world on the way, with how many acts were taken, whether the next had to stop, and whether that was for want of serials
-pub record Passage : Type 0 where
-  pub world : World
-  pub acts : ℕ
-  pub stopped : Bool
-  pub refused : Bool
-
--- one node's part of a pass: it takes its first act, where it has one and nothing stops it
-unfoldable pub visit : ℕ → Passage → ℕ → Passage
-visit limit p n =
-    if p.stopped || is_idle (next_at p.world n) then p
-    else if nat_eq p.acts limit then record p { stopped = true }
-    else if turn_lacks_serials p.world n (next_at p.world n) then record p { stopped = true; refused = true }
-    else record p { world = after_act p.world n (next_at p.world n); acts = p.acts + 1 }
-
--- a pass over these nodes
-abbrev pub pass : ℕ → List ℕ → Passage → Passage
-pass limit [] p = p
-pass limit (n ∷ ns) p = pass limit ns (visit limit p n)
-
--- passes until one is without an act, and so many at most
-abbrev pub passes : ℕ → ℕ → Passage → Passage
-passes limit zero p = p
-passes limit (suc left) p =
-    let q = pass limit (numbers_from 0 p.world.count) p in
-    if nat_eq q.acts p.acts then q else passes limit left q
-
--- what settling comes to with ample memory; after a turn that is refused the turns before it stand
-unfoldable pub settle : ℕ → World → Passage
-settle limit w = passes limit (suc limit) (record { world = w; acts = 0; stopped = false; refused = false })
-
--- the answer of settling, where no turn was refused
-unfoldable pub settle_answer : Passage → Settled
-settle_answer p = if p.stopped then ends.Unsettled else ends.Settled p.acts
-
 -- nothing waits: no node has a message, a pending close or a flagged router, and no mailbox has a message
 pub record IsQuiet (w : World) : Type 0 where
   pub nodes : (n : ℕ) → n < w.count → is_quiet (node_at w n) ≡ true
   pub mail : (k : ℕ) → is_clear (mail_at w k) ≡ true
 
 -- the world has a node for each number below its count, a word for each below its size and a mailbox for each two nodes; nothing lies
--- beyond
--- its nodes, and there are so few that each sees all mailboxes to and from it
+-- beyond its nodes, and there are so few that each sees all mailboxes to and from it
 pub record IsBounded (w : World) : Type 0 where
   pub nodes : length w.nodes ≡ w.count
   pub words : length w.words ≡ w.size
@@ -103,10 +67,15 @@ pub record IsSettle (limit : ℕ) (w v : World) (answer : Settled) : Type 0 wher
   pub within : act_count visits ≤ limit
   pub answers : FitsAnswer limit (act_count visits) v answer
 
--- a settle that is refused: turns in passes over the nodes, fewer than its limit, and then a turn that is refused
+-- the node that is visited behind these visits from a node on, where there are so many
+abbrev pub node_behind : ℕ → ℕ → List Bool → ℕ
+node_behind count n [] = n
+node_behind count n (acts ∷ visits) = node_behind count (if nat_lt (n + 1) count then n + 1 else 0) visits
+
+-- a settle that is refused: turns in passes over the nodes, fewer than its limit, and then the next node has an act and its turn is refused
 pub record IsRefusedSettle (limit : ℕ) (w v : World) (why : Refusal) : Type 0 where
   pub visits : List Bool
   pub turns : AreVisits 0 visits w v
   pub below : act_count visits < limit
-  pub node : ℕ
-  pub refused : StepFirst v (Turn node) (replies.Refused why) v
+  pub busy : HasAct v (node_behind w.count 0 visits)
+  pub refused : StepFirst v (Turn (node_behind w.count 0 visits)) (replies.Refused why) v

@@ -4,7 +4,7 @@ use Rattle.std.specs.Prelude.{◌≡◌, ◌<◌, ℕ, true, false, Some, None, 
 use Rattle.ipcz_base.specs.declared.end.End.{End}
 use Rattle.ipcz_base.specs.declared.item.Item.TheVariants.{Parcel}
 use Rattle.ipcz_base.specs.declared.link_id.LinkId.TheVariants.{Central}
-use Rattle.ipcz_base.specs.declared.refusal.Refusal.TheVariants.{Empty, NumbersEnd}
+use Rattle.ipcz_base.specs.declared.refusal.Refusal.TheVariants.{Empty}
 use Rattle.ipcz_base.specs.declared.message.Message.{Message}
 use Rattle.ipcz_base.specs.Ends.{opposite_end}
 use Rattle.ipcz_node.specs.Hands.{is_unfit}
@@ -19,7 +19,7 @@ use Rattle.ipcz_world.specs.declared.step.Reply.TheVariants.{Turned, Refused}
 use Rattle.ipcz_world.specs.World.{World, node_at, word_at, new_world}
 use Rattle.ipcz_world.specs.Turns.{router_of, message_in_hand}
 use Rattle.ipcz_world.specs.Steps.{StepAny, StepFirst, claim_for_open}
-use Rattle.ipcz_world.specs.Settling.{settle, settle_answer, IsQuiet, IsSettle, IsRefusedSettle}
+use Rattle.ipcz_world.specs.Settling.{IsQuiet}
 use Rattle.ipcz_world.specs.Books.{Books, no_books, advance}
 use Rattle.ipcz_world.specs.Plain.{Plain}
 use Rattle.ipcz_world.specs.Routes.{Routes, first_routes, routes_after, is_opened}
@@ -80,19 +80,6 @@ HeadlineHolds = (nodes words : ℕ) (w : World) (b : Books) (g : Routes) → IsR
 -- law: where the sentence holds, each item that the peer hasn't read stands in one place, and no other item in any
 abbrev pub ItemsStandOnce : Type 0
 ItemsStandOnce = (w : World) (b : Books) (g : Routes) → Headline w b g → EachOnce w b g
-
--- law: settling is turns in passes over the nodes; it is settled only where nothing waits, and unsettled only where its limit is reached
--- and an act is still possible
-abbrev pub SettlesByTurns : Type 0
-SettlesByTurns =
-    (limit : ℕ) (w : World) (b : Books) (g : Routes) → Lawful w b g → (settle limit w).refused ≡ false →
-    IsSettle limit w (settle limit w).world (settle_answer (settle limit w))
-
--- law: where settling is refused, the turns before the refused one stand
-abbrev pub RefusedSettleStands : Type 0
-RefusedSettleStands =
-    (limit : ℕ) (w : World) (b : Books) (g : Routes) → Lawful w b g → (settle limit w).refused ≡ true →
-    IsRefusedSettle limit w (settle limit w).world NumbersEnd
 
 -- law: where nothing waits, a get on a direct pair is Empty only where all that the peer has put was got
 abbrev pub QuietDelivers : Type 0

@@ -1,11 +1,11 @@
 //! The laws of worlds and of their runs. Each function does nothing: its contract is the law. What a law speaks of is defined in specs/:
-//! `Lawful`, `Headline` and runs in Lawful, steps in Steps, books in Books, settling in Settling (docs/LAW.md).
+//! `Lawful`, `Headline` and runs in Lawful, steps in Steps, books in Books, quiet in Settling (docs/LAW.md).
 
 ghost use Rattle.ipcz_world.specs.WorldLaws.{StartsLawful, StepKeepsLawful, FirstIsPossible, ClaimKeepsLawful, RepliesPlainly};
 ghost use Rattle.ipcz_world.specs.WorldLaws.{BeginsLocked, LinksStay, LawfulGivesHeadline, HeadlineHolds, ItemsStandOnce};
 ghost use Rattle.ipcz_world.specs.WorldLaws.{LawfulStraysNothing, NothingStrays, LawfulOwes, TerminalsKeepBooks, ListsHaveLengths};
 ghost use Rattle.ipcz_world.specs.WorldLaws.{EndsStandOnce, HandsFit};
-ghost use Rattle.ipcz_world.specs.WorldLaws.{NodesAreSound, SettlesByTurns, RefusedSettleStands, QuietDelivers, OneNodeIsDirect};
+ghost use Rattle.ipcz_world.specs.WorldLaws.{NodesAreSound, QuietDelivers, OneNodeIsDirect};
 ghost use Rattle.ipcz_world.specs.WorldLaws.{GetsStayQuiet, HeldHaveTerminals};
 
 /// The world at the start, with 1 to 8 nodes and words enough for the first pairs (4096 at most), is lawful with empty books and the
@@ -117,17 +117,6 @@ pub fn lists_have_their_lengths()
 /// words of the world, and the message in its hand comes from a node of the world.
 pub fn each_node_is_sound()
     ensures { NodesAreSound }
-{}
-
-/// Settling is turns in passes over the nodes, each the first act where its node has one: settled, after so many acts, only where nothing
-/// waits; unsettled only where its limit was reached and an act is still possible.
-pub fn settling_is_turns_in_passes()
-    ensures { SettlesByTurns }
-{}
-
-/// Where settling is refused for want of numbers, the turns before the refused one stand.
-pub fn a_refused_settle_keeps_its_turns()
-    ensures { RefusedSettleStands }
 {}
 
 /// In a lawful world where nothing waits, a get on a pair whose two terminals share one link is Empty only where all that the peer put

@@ -2,10 +2,11 @@ ghost use Rattle.std.specs.Prelude.{◌≡◌, ◌<◌, IfOk, IfErr, OnErr};
 ghost use Rattle.ipcz_world.specs.Books.{Books, advance, no_books};
 ghost use Rattle.ipcz_world.specs.Holding.{holder_of, shown_word};
 ghost use Rattle.ipcz_world.specs.Lawful.{IsWithinLimits, Lawful};
+ghost use Rattle.ipcz_world.specs.Lawfulness.{IsLawful};
 ghost use Rattle.ipcz_world.specs.Plain.{Plain};
 ghost use Rattle.ipcz_world.specs.Routes.{Routes, first_routes, routes_after};
 ghost use Rattle.ipcz_world.specs.Steps.{StepFirst};
-ghost use Rattle.ipcz_world.specs.FirstRuns.{IsRun};
+ghost use Rattle.ipcz_world.specs.FirstRuns.{AreSteps, KeepsLaw, KeepsLawByTurns};
 ghost use Rattle.ipcz_world.specs.World.{new_world};
 ghost use Rattle.ipcz_world.specs.Settling.{IsSettle, IsRefusedSettle};
 
@@ -54,6 +55,12 @@ impl World {
         Ok(World { state })
     }
 
+    /// What the type keeps: there are books and routes with which the world is lawful (docs/LAW.md). It does nothing, and is there for
+    /// what a caller has to prove.
+    pub fn keeps_the_law(&self)
+        ensures { IsLawful self.now }
+    {}
+
     /// How many link words were claimed.
     pub fn claimed(&self) -> u32
         ensures { result ≡ self.now.claimed }
@@ -93,7 +100,8 @@ impl World {
     /// Takes each of these steps, in their order, and gives their replies. Refused `OutOfMemory` where there is no room for the replies:
     /// then no step is taken. A step that is refused is a reply like any other, and the steps after it are taken.
     pub fn run(&mut self, alloc: Global, steps: &[Step]) -> Result<Vec<Reply>, Refusal>
-        ensures run { IfOk result (λ replies. IsRun self.old steps.now replies.items self.new) }
+        ensures run { IfOk result (λ replies. AreSteps self.old steps.now replies.items self.new) }
+        ensures lawful { IfOk result (λ replies. KeepsLaw self.old steps.now replies.items self.new) }
         ensures why { IfErr result (λ e. e ≡ Refusal.OutOfMemory) }
         ensures err { OnErr result (self.new ≡ self.old) }
     {
@@ -105,14 +113,17 @@ impl World {
         }
         Ok(replies)
     }
+
     /// Lets the nodes take turns, one node after the other in passes over them, until no node has an act; at most `limit` acts are taken.
     /// Settled, with how many acts were taken, where nothing waits any more; `Unsettled` where `limit` acts were taken and a node still has
     /// one. A node that is idle takes no turn.
     ///
-    /// Refused `NumbersEnd` or `OutOfMemory` as the first turn that is refused: the turns before it stand.
+    /// Refused `NumbersEnd` or `OutOfMemory` as the first turn that is refused, of the next node that has an act: the turns before it
+    /// stand, and that one changes nothing.
     pub fn settle(&mut self, limit: u64) -> Result<Settled, Refusal>
         ensures settles { IfOk result (λ answer. IsSettle limit self.old self.new answer) }
         ensures refused { IfErr result (λ why. IsRefusedSettle limit self.old self.new why) }
+        ensures lawful { KeepsLawByTurns self.old self.new }
     {
         let mut from = 0;
         for acts in 0..limit {

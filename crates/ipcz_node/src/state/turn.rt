@@ -65,7 +65,7 @@ impl NodeState {
             return Act::Idle;
         };
         match self.routers.router(serial) {
-            Some(router) => Act::Router(serial, router.first_act()),
+            Some(router) => Act::Router(serial, router.next_act()),
             None => unreachable!(),
         }
     }

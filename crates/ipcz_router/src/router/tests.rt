@@ -152,7 +152,7 @@ fn a_descriptor_goes_on_where_callers_stopped(rt: HostRuntime) -> Result<(), Fai
 
     // What comes over the inward link goes out.
     assert_eq!(rt; come(&mut router, INWARD, 0, letter(alloc, b'b')?), Ok(()));
-    assert_eq!(rt; router.first_act(), RouterAct::SendOut);
+    assert_eq!(rt; router.next_act(), RouterAct::SendOut);
     Ok(())
 }
 
@@ -193,7 +193,7 @@ fn an_item_past_the_length_waits_for_a_primary_link(rt: HostRuntime) -> Result<(
     assert!(rt; router.is_open_terminal());
     assert_eq!(rt; router.put(letter(rt.alloc(), b'a')?).ok(), Some(5));
     assert_eq!(rt; router.way_out(), None);
-    assert_eq!(rt; router.first_act(), RouterAct::Rest);
+    assert_eq!(rt; router.next_act(), RouterAct::Rest);
     assert!(rt; router.stands_on(LinkId::Central(1), Side::A));
     Ok(())
 }
@@ -228,10 +228,10 @@ fn a_refused_growth_hands_the_parcel_back(rt: HostRuntime) -> Result<(), Fail> {
 fn step(router: &mut Router, act: RouterAct, answer: Answer) -> Option<Applied>
     requires { IsAnswerOf act answer }
 {
-    if router.first_act() != act {
+    if router.next_act() != act {
         return None;
     }
-    Some(router.act(act, answer))
+    Some(router.apply(act, answer))
 }
 
 // Does an act that touches no word and gives nothing, if it is the first possible one.
@@ -545,12 +545,12 @@ fn a_try_for_the_lock_is_made_once_and_again_when_roused(rt: HostRuntime) {
     assert!(rt; plain(&mut y, RouterAct::Rest));
     y.rouse();
     assert!(rt; step(&mut y, RouterAct::Lock, Answer::Locked(35)).is_some());
-    assert_eq!(rt; y.first_act(), RouterAct::Begin);
+    assert_eq!(rt; y.next_act(), RouterAct::Begin);
     if y.is_possible(RouterAct::Unlock) {
-        let _nothing = y.act(RouterAct::Unlock, Answer::Word(3));
+        let _nothing = y.apply(RouterAct::Unlock, Answer::Word(3));
     }
     assert!(rt; y.is_flagged());
-    assert_eq!(rt; y.first_act(), RouterAct::Lock);
+    assert_eq!(rt; y.next_act(), RouterAct::Lock);
 }
 
 // A terminal on the first link of a pair is marked at birth; one made from a descriptor isn't, and marks no peripheral link.
@@ -562,7 +562,7 @@ fn a_side_is_marked_and_the_other_one_woken(rt: HostRuntime) {
     let (_proxy, descriptor) = moved(alloc);
     let mut z = Router::from_descriptor(alloc, &descriptor, 1);
     assert!(rt; !z.marked);
-    assert_eq!(rt; z.first_act(), RouterAct::Rest);
+    assert_eq!(rt; z.next_act(), RouterAct::Rest);
     assert!(rt; z.bypass_peer(INNER, Side::B, 0, 0, 2).is_ok());
     assert!(rt; z.proxy_will_stop(INNER, Side::B, 0).is_ok());
     assert!(rt; plain(&mut z, RouterAct::FinishOut));

@@ -123,7 +123,7 @@ impl Router {
 
     /// The first possible act in the order of [`RouterAct`], `Unlock` left out, else `Rest`.
     #[tactic(auto, unfolding(crate::specs::ActTable::next_act, crate::specs::ActTable::is_rest))]
-    pub fn first_act(&self) -> RouterAct
+    pub fn next_act(&self) -> RouterAct
         ensures first { result ≡ next_act self.now.router }
         ensures possible { may_take self.now.router result ≡ true }
     {
@@ -301,7 +301,7 @@ impl Router {
     ///
     /// `Leave` changes nothing here: it is for the node to take the router out.
     #[tactic(auto, unfolding(crate::specs::ActTable::is_possible, crate::specs::ActTable::is_rest, crate::specs::ActEffects::apply, crate::specs::ActEffects::output_of))]
-    pub fn act(&mut self, act: RouterAct, answer: Answer) -> Applied
+    pub fn apply(&mut self, act: RouterAct, answer: Answer) -> Applied
         requires { IsAsked self.old.router act answer }
         ensures router { self.new.router ≡ apply self.old.router act answer }
         ensures output { result ≡ output_of self.old.router act }

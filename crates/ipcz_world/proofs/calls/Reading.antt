@@ -36,7 +36,7 @@ use Rattle.ipcz_world.proofs.views.Known.{not_there_yet, twice}
 use Rattle.ipcz_world.proofs.flows.SameMessages.{SameMessages, under-same, made-same, told-same, moves-same}
 use Rattle.ipcz_world.proofs.weights.Booking.{flag, end_tells, same_end-is, more_same, more_here, total-has, in_router-within, not_moving}
 use Rattle.ipcz_world.proofs.weights.Booking.{and_first, and_second}
-use Rattle.ipcz_world.proofs.lawful.Settles.{nat_eq-itself}
+use Rattle.ipcz_world.proofs.facts.Tests.{nat_eq-itself}
 
 -- whether two lists are the same
 abbrev same_list : {X : Type 0} → (X → X → Bool) → List X → List X → Bool

@@ -15,9 +15,11 @@ use Rattle.ipcz_world.specs.World.{World}
 use Rattle.ipcz_world.specs.Turns.{next_at, is_idle, turn_event, turn_lacks_serials, after_act}
 use Rattle.ipcz_world.specs.Steps.{Effect, refuse, unless, turn_step, Gives, StepFirst}
 use Rattle.ipcz_world.specs.Lawfulness.{IsLawful}
-use Rattle.ipcz_world.specs.Settling.{IsQuiet, HasAct, AreVisits, next_node, act_count, FitsAnswer, IsSettle, IsRefusedSettle}
+use Rattle.ipcz_world.specs.Settling.{IsQuiet, HasAct, AreVisits, next_node, node_behind, act_count, FitsAnswer, IsSettle, IsRefusedSettle}
+use Rattle.ipcz_world.specs.FirstRuns.{KeepsLawByTurns}
 use Rattle.ipcz_world.specs.Visiting.{AreIdle, IsFirstBusy, IsNextBusy, IsPlace}
-use Rattle.ipcz_world.proofs.lawful.Settles.{count-after_act}
+use Rattle.ipcz_world.proofs.facts.NodeCount.{count-after_act}
+use Rattle.ipcz_world.proofs.code.Running.{visits-lead}
 use Rattle.ipcz_world.proofs.lawful.Idling.{quiet_from_idle}
 
 -- where each node is idle nothing waits
@@ -50,15 +52,17 @@ turned : (w : World) (n : ℕ) (reply : Reply) (v : World) → StepFirst w (Turn
 turned w n reply v (act, first, inl is) = given w n act reply v is
 turned w n reply v (act, first, inr want) = Refuses _ want.3.0 want.3.1
 
--- so many acts were taken on the way from one world to another
-pub record Walk (w v : World) (acts : ℕ) : Type 0 where
+-- so many acts were taken on the way from one world to another, and this node is visited next
+pub record Walk (w v : World) (acts n : ℕ) : Type 0 where
   pub visits : List Bool
   pub turns : AreVisits 0 visits w v
   pub taken : act_count visits ≡ acts
+  pub next : node_behind w.count 0 visits ≡ n
 
 -- whatever visits lead on from here lead on from the start
 abbrev pub GoesOn : World → ℕ → World → ℕ → Type 0
-GoesOn w acts u n = (visits : List Bool) (v : World) → AreVisits n visits u v → Walk w v (acts + act_count visits)
+GoesOn w acts u n =
+    (visits : List Bool) (v : World) → AreVisits n visits u v → Walk w v (acts + act_count visits) (node_behind u.count n visits)
 
 -- a node that is idle
 goes_on-idle : (w u : World) (acts n : ℕ) → GoesOn w acts u n → is_idle (next_at u n) ≡ true → GoesOn w acts u (next_node u n)
@@ -132,8 +136,10 @@ pub record OnWay (w : World) (acts : ℕ) (u : World) (n : ℕ) : Type 0 where
 pub on_way-turn : (w u x : World) (acts n m next : ℕ) (event : Happened) → OnWay w acts u n → IsNextBusy u n m → next ≡ next_node u m →
     StepFirst u (Turn m) (replies.Turned event) x → OnWay w (acts + 1) x next
 on_way-turn w u x acts n m next event on busy is step = subst (OnWay w (acts + 1) x) (sym is) (record {
-  goes_on = λ visits v turns. subst (Walk w v) (omega arith) (here (true ∷ visits) v (has, (x, (event, step), turns)));
-  place = next-place u x m (turn-count (turned u m (replies.Turned event) x step));
+  goes_on = λ visits v turns. subst (λ k. Walk w v k (node_behind x.count (next_node u m) visits)) (omega arith)
+      (subst (λ c. Walk w v (acts + act_count (true ∷ visits)) (node_behind c (next_node u m) visits)) (sym same)
+      (here (true ∷ visits) v (has, (x, (event, step), turns))));
+  place = next-place u x m same;
 })
   where
     here : GoesOn w acts u m
@@ -146,12 +152,19 @@ on_way-turn w u x acts n m next event on busy is step = subst (OnWay w (acts + 1
     turn-count (Turns e r c) = c
     turn-count (Refuses why r same) = ap (λ (v : World). v.count) same
 
--- the visits up to here
-reached : (w u : World) (acts n : ℕ) → OnWay w acts u n → Walk w u acts
-reached w u acts n on = subst (Walk w u) (omega arith) (on.goes_on [] u refl)
+    same : x.count ≡ u.count
+    same = turn-count (turned u m (replies.Turned event) x step)
 
-ended : (limit acts : ℕ) (w u : World) (answer : Settled) → Walk w u acts → acts ≤ limit → FitsAnswer limit acts u answer → IsSettle limit w u answer
-ended limit acts w u answer walk l fits = record {
+-- the visits up to here
+reached : (w u : World) (acts n : ℕ) → GoesOn w acts u n → Walk w u acts n
+reached w u acts n on = subst (λ k. Walk w u k n) (omega arith) (on [] u refl)
+
+-- which are turns
+pub turned-on : (w u : World) (acts n : ℕ) → OnWay w acts u n → KeepsLawByTurns w u
+turned-on w u acts n on = let walk = reached w u acts n on.goes_on in visits-lead 0 walk.visits w u walk.turns
+
+ended : (limit acts n : ℕ) (w u : World) (answer : Settled) → Walk w u acts n → acts ≤ limit → FitsAnswer limit acts u answer → IsSettle limit w u answer
+ended limit acts n w u answer walk l fits = record {
   visits = walk.visits;
   turns = walk.turns;
   within = omega (arith, walk.taken, l);
@@ -160,33 +173,38 @@ ended limit acts w u answer walk l fits = record {
 
 -- each node is idle
 pub settled : (limit acts n : ℕ) (w u : World) → OnWay w acts u n → acts ≤ limit → IsLawful u → AreIdle u 0 u.count → IsSettle limit w u (ends.Settled acts)
-settled limit acts n w u on l law idle = ended limit acts w u (ends.Settled acts) (reached w u acts n on) l (refl, quiet u law idle)
+settled limit acts n w u on l law idle = ended limit acts n w u (ends.Settled acts) (reached w u acts n on.goes_on) l (refl, quiet u law idle)
 
 -- the limit is reached, and a node has an act
 pub unsettled : (limit acts n m : ℕ) (w u : World) → OnWay w acts u n → acts ≡ limit → IsNextBusy u n m → IsSettle limit w u ends.Unsettled
 unsettled limit acts n m w u on e busy =
-    ended limit acts w u ends.Unsettled (reached w u acts n on) (omega (arith, e)) (e, (m, busy-acts u n m (place-within u n on.place) busy))
+    ended limit acts n w u ends.Unsettled (reached w u acts n on.goes_on) (omega (arith, e)) (e, (m, busy-acts u n m (place-within u n on.place) busy))
 
--- a turn is refused
-pub refused : (limit acts n m : ℕ) (w u x : World) (why : Refusal) → OnWay w acts u n → acts < limit → StepFirst u (Turn m) (replies.Refused why) x →
-    IsRefusedSettle limit w x why
-refused limit acts n m w u x why on l step = subst (λ v. IsRefusedSettle limit w v why) (sym same) (record {
+-- a turn that is refused leaves the world
+pub left-by : (u x : World) (m : ℕ) (why : Refusal) → StepFirst u (Turn m) (replies.Refused why) x → x ≡ u
+left-by u x m why step = go (turned u m (replies.Refused why) x step)
+  where
+    go : IsTurnReply u (replies.Refused why) x → x ≡ u
+    go (Turns e r c) = cc
+    go (Refuses y r s) = s
+
+-- the turn of the next node that has an act is refused
+pub refused : (limit acts n m : ℕ) (w u x : World) (why : Refusal) → OnWay w acts u n → acts < limit → IsNextBusy u n m →
+    StepFirst u (Turn m) (replies.Refused why) x → IsRefusedSettle limit w x why
+refused limit acts n m w u x why on l busy step = subst (λ v. IsRefusedSettle limit w v why) (sym same) (record {
   visits = walk.visits;
   turns = walk.turns;
   below = omega (arith, walk.taken, l);
-  node = m;
-  refused = subst (λ v. StepFirst u (Turn m) (replies.Refused why) v) same step;
+  busy = subst (HasAct u) (sym walk.next) (busy-acts u n m (place-within u n on.place) busy);
+  refused = subst (λ k. StepFirst u (Turn k) (replies.Refused why) u) (sym walk.next)
+      (subst (λ v. StepFirst u (Turn m) (replies.Refused why) v) same step);
 })
   where
-    walk : Walk w u acts
-    walk = reached w u acts n on
-
-    left : IsTurnReply u (replies.Refused why) x → x ≡ u
-    left (Turns e r c) = cc
-    left (Refuses y r s) = s
+    walk : Walk w u acts m
+    walk = reached w u acts m (goes_on-busy w u acts n m on.place on.goes_on busy)
 
     same : x ≡ u
-    same = left (turned u m (replies.Refused why) x step)
+    same = left-by u x m why step
 
 -- whether a reply is one to a turn
 abbrev pub answers_turn : Reply → Bool

@@ -47,7 +47,7 @@ use Rattle.ipcz_world.proofs.flows.Flowing.{under_way-congr}
 use Rattle.ipcz_world.proofs.weights.Weighing.{same_end-itself}
 use Rattle.ipcz_world.proofs.flows.SameMessages.{SameMessages, under-same, made-same, under_way-same}
 use Rattle.ipcz_world.proofs.frames.FreshPairs.{fresh_at, end_of, IsNew, IsGrown, empty_item, is_nowhere-at, has_fresh}
-use Rattle.ipcz_world.proofs.lawful.Settles.{not_both}
+use Rattle.ipcz_world.proofs.facts.Tests.{not_both}
 use Rattle.ipcz_world.proofs.frames.FreshPairs.{fresh_central, central_outward, fresh_marked, central_one, about_same, expected_alike}
 use Rattle.ipcz_world.proofs.frames.FreshPairs.{expected_none, move_none, move_at, known_somewhere, inner_end, attached_fresh}
 use Rattle.ipcz_world.proofs.frames.FreshPairs.{central_queues, reach_empty}

@@ -36,7 +36,7 @@ use Rattle.ipcz_world.specs.Bypasses.{inner_of, of_bypass, control_weight, move_
 use Rattle.ipcz_world.specs.Whereabouts.{times_held}
 use Rattle.ipcz_world.proofs.frames.Touching.{HasSameHands}
 use Rattle.ipcz_world.proofs.facts.Reaching.{is_reach, reach_one}
-use Rattle.ipcz_world.proofs.lawful.Settles.{not_both}
+use Rattle.ipcz_world.proofs.facts.Tests.{not_both}
 use Rattle.ipcz_world.proofs.facts.Lengths.{same_side-itself}
 
 -- the terminal of a pair's side, whose sides are at these keys

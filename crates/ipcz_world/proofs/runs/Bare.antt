@@ -41,7 +41,7 @@ use Rattle.ipcz_base.specs.Orders.{end_cmp}
 use Rattle.ipcz_world.proofs.weights.OfRecords.{holds, held_times, none_holder}
 use Rattle.ipcz_world.proofs.weights.Booking.{flag}
 use Rattle.ipcz_world.proofs.frames.Changing.{flow_is}
-use Rattle.ipcz_world.proofs.lawful.Settles.{not_both}
+use Rattle.ipcz_world.proofs.facts.Tests.{not_both}
 
 -- nothing stands in the world
 pub record IsBare (w : World) : Type 0 where

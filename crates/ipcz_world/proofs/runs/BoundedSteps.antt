@@ -38,7 +38,7 @@ use Rattle.ipcz_world.specs.Records.{Records}
 use Rattle.ipcz_world.specs.Inv.{Inv}
 use Rattle.ipcz_world.proofs.frames.Frames.{node-set_node, mail-set_mail, count-set_node, count-set_claimed, size-set_node}
 use Rattle.ipcz_world.proofs.frames.Frames.{size-set_claimed}
-use Rattle.ipcz_world.proofs.lawful.Settles.{count-touch}
+use Rattle.ipcz_world.proofs.facts.NodeCount.{count-touch}
 use Rattle.ipcz_world.specs.Settling.{IsBounded}
 use Rattle.ipcz_world.proofs.lawful.Soundness.{primary_below, opening_below}
 use Rattle.ipcz_world.proofs.runs.Bounds.{IsBoxed, boxed-with, boxed-found, boxed-router, boxed-deliver}

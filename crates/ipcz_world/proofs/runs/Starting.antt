@@ -45,7 +45,7 @@ use Rattle.ipcz_world.proofs.runs.Bare.{IsBare, IsUnnoted, inv-bare}
 use Rattle.ipcz_world.proofs.runs.FirstNodes.{add_one, add_last, IsStart, empty_boxes, bare_start, all_start, start_nodes, start}
 use Rattle.ipcz_world.proofs.runs.FirstNodes.{start_node, start_mail, start_word, length_last, total_none, total_plus, total_one}
 use Rattle.ipcz_world.proofs.runs.FirstNodes.{not_linked, not_spare, not_fresh, linked_no_spare, linked_no_fresh, not_opening}
-use Rattle.ipcz_world.proofs.lawful.Settles.{not_both}
+use Rattle.ipcz_world.proofs.facts.Tests.{not_both}
 use Rattle.ipcz_world.proofs.runs.FirstNodes.{unclaimed_is, append_none, append_one, weight, Good}
 
 module _ (nodes words : ℕ) where

@@ -1,6 +1,6 @@
 use Rattle.std.proofs.Common.{◌≤◌, length, subst, arith}
 use Rattle.std.proofs.lemmas.List.{take_all}
-use Rattle.ipcz_world.specs.FirstRuns.{IsRun}
+use Rattle.ipcz_world.specs.FirstRuns.{AreSteps, KeepsLaw}
 use Rattle.ipcz_world.proofs.code.Running.{run-next}
 use Rattle.ipcz_world.proofs.world.World.run.Goals as goal
 
@@ -15,4 +15,11 @@ loop-step-preserved c = record {
 pub returns-clause-run : goal.returns-clause-run
 returns-clause-run c =
     let all : length c.args.steps.now ≤ c.loop-step.step-index = omega (arith, c.loop-step-test.false) in
-    subst (λ steps. IsRun c.args.self.now steps c.loop-step.replies.items c.loop-step.self) (take_all c.loop-step.step-index c.args.steps.now all) c.loop-step.invariant.run
+    subst (λ steps. AreSteps c.args.self.now steps c.loop-step.replies.items c.loop-step.self) (take_all c.loop-step.step-index c.args.steps.now all)
+    c.loop-step.invariant.run.are
+
+pub returns-clause-lawful : goal.returns-clause-lawful
+returns-clause-lawful c =
+    let all : length c.args.steps.now ≤ c.loop-step.step-index = omega (arith, c.loop-step-test.false) in
+    subst (λ steps. KeepsLaw c.args.self.now steps c.loop-step.replies.items c.loop-step.self) (take_all c.loop-step.step-index c.args.steps.now all)
+    c.loop-step.invariant.run.law

@@ -1,5 +1,5 @@
 use Rattle.std.proofs.Common.{◌≡◌, ◌≤◌, length, take, vec_len, vec_capacity}
-use Rattle.ipcz_world.specs.FirstRuns.{IsRun}
+use Rattle.ipcz_world.proofs.code.Running.{IsRun}
 use Rattle.ipcz_world.proofs.world.World.run.Given as goal
 
 abbrev pub invariant-loop-step : goal.invariant-loop-step

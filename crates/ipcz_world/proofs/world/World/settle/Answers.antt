@@ -1,11 +1,12 @@
 use Rattle.std.proofs.Common.{◌≡◌, ◌≤◌, ◌<◌, ◌∙◌, IfOk, true, false, sym, ap, subst, arith, inl, inr}
 use Rattle.ipcz_world.specs.declared.step.Step.TheVariants.{Turn}
 use Rattle.ipcz_world.specs.Lawfulness.{IsLawful}
+use Rattle.ipcz_world.specs.FirstRuns.{KeepsLawByTurns}
 use Rattle.ipcz_world.specs.Steps.{StepFirst}
 use Rattle.ipcz_world.specs.Settling.{IsSettle, next_node}
 use Rattle.ipcz_world.specs.Visiting.{AreIdle, IsNextBusy}
 use Rattle.ipcz_world.proofs.code.Regular.{lawful-regular}
-use Rattle.ipcz_world.proofs.code.Visiting.{OnWay, on_way-turn, settled, unsettled, refused, answers_turn, no-other}
+use Rattle.ipcz_world.proofs.code.Visiting.{OnWay, left-by, on_way-turn, settled, unsettled, refused, answers_turn, no-other, turned-on}
 use Rattle.ipcz_world.proofs.world.World.settle.Goals.{in-None, in-Some-next_busy}
 use Rattle.ipcz_world.proofs.world.World.settle.Goals as goal
 
@@ -23,7 +24,7 @@ returns-in_default-clause-settles c =
 pub returns-in-Refused-clause-refused : goal.returns-in-Refused-clause-refused
 returns-in-Refused-clause-refused c =
     refused c.args.limit c.loop-acts.acts c.loop-acts.from c.in-Some.node c.args.self.now c.loop-acts.self c.step.new.self c.in-Refused.why c.loop-acts.invariant
-    (omega (arith, c.loop-acts-test.true))
+    (omega (arith, c.loop-acts-test.true)) (subst (λ v. IsNextBusy v c.loop-acts.from c.in-Some.node) c.self.view_is c.in-Some.ensures.some)
     (subst (λ r. StepFirst c.loop-acts.self (Turn c.in-Some.node) r c.step.new.self) c.in-Refused.is c.step.ensures.step)
 
 pub unreachable-requires : goal.unreachable-requires
@@ -55,3 +56,16 @@ returns-clause-settles c =
           (unsettled c.args.limit c.loop-acts.acts c.loop-acts.from w.in-Some-next_busy.field-0 c.args.self.now c.loop-acts.self c.loop-acts.invariant all
           (subst (λ v. IsNextBusy v c.loop-acts.from w.in-Some-next_busy.field-0) c.self-2.view_is w.in-Some-next_busy.ensures.some))
     ]
+
+pub returns-in_default-clause-lawful : goal.returns-in_default-clause-lawful
+returns-in_default-clause-lawful c = turned-on c.args.self.now c.loop-acts.self c.loop-acts.acts c.loop-acts.from c.loop-acts.invariant
+
+pub returns-in-Refused-clause-lawful : goal.returns-in-Refused-clause-lawful
+returns-in-Refused-clause-lawful c =
+    let same = left-by c.loop-acts.self c.step.new.self c.in-Some.node c.in-Refused.why
+    (subst (λ r. StepFirst c.loop-acts.self (Turn c.in-Some.node) r c.step.new.self) c.in-Refused.is c.step.ensures.step) in
+    subst (KeepsLawByTurns c.args.self.now) (sym same)
+    (turned-on c.args.self.now c.loop-acts.self c.loop-acts.acts c.loop-acts.from c.loop-acts.invariant)
+
+pub returns-clause-lawful : goal.returns-clause-lawful
+returns-clause-lawful c = turned-on c.args.self.now c.loop-acts.self c.loop-acts.acts c.loop-acts.from c.loop-acts.invariant
