@@ -14,7 +14,7 @@ use Rattle.ipcz_base.specs.Ends.{has_end}
 use Rattle.ipcz_base.specs.Items.{ends_in}
 use Rattle.ipcz_base.specs.Sides.{opposite}
 use Rattle.ipcz_word.specs.SideSets.{has}
-use Rattle.ipcz_base.specs.Links.{same_link}
+use Rattle.ipcz_base.specs.Links.{is_central, same_link}
 use Rattle.ipcz_word.specs.Word.{empty_word, is_free}
 use Rattle.ipcz_base.specs.declared.end.End.{End}
 use Rattle.ipcz_router.specs.Router.{Router, decays, inward_edge, router_has, is_terminal}
@@ -29,7 +29,7 @@ use Rattle.ipcz_world.specs.Places.{in_places, names_end}
 use Rattle.ipcz_world.specs.Whereabouts.{times_held, times_closed}
 use Rattle.ipcz_world.specs.Records.{Owner, Unclaimed, Spare, Opening, Fresh, Linked, is_linked, is_unclaimed}
 use Rattle.ipcz_world.specs.Flows.{IsUnderWay, is_made_before, under_way, moves_of}
-use Rattle.ipcz_world.specs.Standing.{has_primary, is_attached, spare_of, sending_queue, fed_queue}
+use Rattle.ipcz_world.specs.Standing.{has_primary, has_inward_primary, is_attached, spare_of, sending_queue, fed_queue}
 use Rattle.ipcz_world.specs.Inv.{HasNoStrays}
 
 -- a router has the word's link as outward primary at this side, and none of its edges decays
@@ -53,11 +53,12 @@ pub record LinkLaw (w : World) : Type 0 where
   pub one_each : (j k : Key) (q r : Router) (i : ℕ) (s : Side) → router_at w j ≡ Some q → router_at w k ≡ Some r →
       has_primary (Central i) s q ≡ true → has_primary (Central i) s r ≡ true → j ≡ k
 
--- a word has a holder at whose side no router has it as primary any more
+-- a word has a holder at whose side no router has it as primary any more, outward or inward
 pub record IsBypassed (w : World) (i : ℕ) : Type 0 where
   pub side : Side
   pub held : has (word_at w i).holder side ≡ true
   pub left : (k : Key) (r : Router) → router_at w k ≡ Some r → has_primary (Central i) side r ≡ false
+  pub left_inward : (k : Key) (r : Router) → router_at w k ≡ Some r → has_inward_primary (Central i) side r ≡ false
 
 -- whether a message names this word as the old one of its bypass
 unfoldable pub names_old : ℕ → Message → Bool
@@ -117,6 +118,9 @@ pub record WordLaw (w : World) (g : Routes) : Type 0 where
   pub linked_back : (i : ℕ) → owner i ≡ Linked → (has (word_at w i).stable A ≡ true) ⊎ IsOnLink w i
   pub linked : (k : Key) (r : Router) (i : ℕ) (s : Side) → router_at w k ≡ Some r → router_has r (Central i) s ≡ true → owner i ≡ Linked
   pub named : (from to j : ℕ) (m : Message) (i : ℕ) → IsUnderWay w from to j m → names_link i m ≡ true → owner i ≡ Linked
+  -- what moves with a parcel names no word
+  pub moving : (from to i j : ℕ) (m : Message) (d : Descriptor) → IsUnderWay w from to i m → slice_get (moves_of m) j ≡ Some d →
+      is_central d.link ≡ false
   pub of_pair : (k : Key) (r : Router) (i : ℕ) (s : Side) → router_at w k ≡ Some r → router_has r (Central i) s ≡ true →
       r.end.pair ≡ g.pair i
   pub one_each : (j k : Key) (q r : Router) (i : ℕ) (s : Side) → router_at w j ≡ Some q → router_at w k ≡ Some r →

@@ -59,7 +59,9 @@ impl World {
     /// what a caller has to prove.
     pub fn keeps_the_law(&self)
         ensures { IsLawful self.now }
-    {}
+    {
+        let _state = &self.state;
+    }
 
     /// How many link words were claimed.
     pub fn claimed(&self) -> u32

@@ -2,7 +2,7 @@
 use Rattle.std.proofs.Common.{true≢false}
 use Rattle.ipcz_world.proofs.weights.OfRecords.{none_stable}
 use Rattle.std.specs.Prelude.{◌≡◌, ◌≤◌, ℕ, Bool, true, false, not, Option, Some, None, is_some, refl}
-use Rattle.std.proofs.Common.{arith, ap, ◌∙◌, sym}
+use Rattle.std.proofs.Common.{arith, ap, subst, ◌∙◌, sym}
 use Rattle.std.proofs.lemmas.Option.{same_Some}
 use Rattle.ipcz_base.specs.declared.side.Side.{Side}
 use Rattle.ipcz_base.specs.declared.side.Side.TheVariants.{A, B}
@@ -11,12 +11,12 @@ use Rattle.ipcz_base.specs.declared.link_end.LinkEnd.{LinkEnd}
 use Rattle.ipcz_word.specs.SideSets.{has}
 use Rattle.ipcz_base.specs.Sides.{opposite, same_side}
 use Rattle.ipcz_word.specs.Word.{is_free}
-use Rattle.ipcz_router.specs.Router.{Router}
+use Rattle.ipcz_router.specs.Router.{Router, inward_edge}
 use Rattle.ipcz_world.specs.World.{World, Key, word_at, router_at}
 use Rattle.ipcz_world.specs.Books.{Books}
 use Rattle.ipcz_world.specs.Records.{Records, is_linked, is_begun, side_router, proxy_side, across_side, bypass_of}
 use Rattle.ipcz_world.proofs.frames.RecordRules.{bypass_of-central, record_rules}
-use Rattle.ipcz_world.specs.Standing.{passes, key_passes, has_primary}
+use Rattle.ipcz_world.specs.Standing.{passes, key_passes, has_primary, has_inward_primary}
 use Rattle.ipcz_world.specs.Structure.{IsRecorded, is_outward}
 use Rattle.ipcz_world.specs.Inv.{Inv}
 use Rattle.ipcz_world.specs.Laws.{There, LinkLaw, IsBypassed, BypassLaw}
@@ -157,12 +157,23 @@ link_law w b g law = record {
 
 -- a word whose bypass has begun is held by the proxy's side, which has left it
 pub begun_bypassed : (w : World) (b : Books) (g : Records) (i : ℕ) → Inv w b g → is_begun (g.bypass i) ≡ true → IsBypassed w i
+unfolding is_outward
 begun_bypassed w b g i law begun = record {
   side = proxy_side g i;
   held = law.words.begun_holder i (proxy_side g i) begun ∙ same_side-itself (proxy_side g i);
   left = λ k r here. go k r here (has_primary (Central i) (proxy_side g i) r) refl;
+  left_inward = λ k r here. inward k r here (has_inward_primary (Central i) (proxy_side g i) r) refl;
 }
   where
+    not_inward : (e : LinkEnd) → is_outward e.link e.side ≡ false → e.link ≡ Central i → ⊥
+    not_inward e h on = let outward : is_outward (Central i) e.side ≡ false = subst (λ l. is_outward l e.side ≡ false) on h in cc
+
+    inward : (k : Key) (r : Router) → router_at w k ≡ Some r → (c : Bool) → has_inward_primary (Central i) (proxy_side g i) r ≡ c → c ≡ false
+    inward k r here true e =
+        let t : IsLinkEnd (inward_edge r).primary (Central i) (proxy_side g i) = has_link-tells _ _ _ e in
+        absurd (not_inward t.end (law.links.inward_primary_inward k r t.end here t.is) t.link)
+    inward k r here false e = refl
+
     apart : (s : Side) → s ≡ opposite s → ⊥
     apart A e = cc
     apart B e = cc

@@ -218,6 +218,7 @@ module _ (w : World) (b : Books) (g : Records) (law : Inv w b g) where
     linked = λ k r i s here has. linked_of i (has_at w g k r (Central i) s law.links here has).recorded;
     linked_back = used;
     named = named;
+    moving = law.moves.peripheral;
     of_pair = λ k r i s here has. ap (λ e. e.pair) (has_at w g k r (Central i) s law.links here has).end;
     one_each = λ j k q r i s at here on_q on_r. same_Some j k (sym (has_at w g j q (Central i) s law.links at on_q).router ∙
         (has_at w g k r (Central i) s law.links here on_r).router);
