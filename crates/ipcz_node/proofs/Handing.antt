@@ -9,9 +9,11 @@ use Rattle.ipcz_base.specs.Items.{ends_in}
 use Rattle.ipcz_base.specs.Limits.{last_number}
 use Rattle.ipcz_base.specs.declared.side.Side.TheVariants.{B}
 use Rattle.ipcz_node.specs.Node.{Node, is_named}
-use Rattle.ipcz_node.specs.Hands.{fit_moves, fits_from, is_new_move, has_moved}
+use Rattle.ipcz_node.specs.Hands.{fit_moves, fits_from, is_new_move, has_moved, grows_where_it_fits, serials_in}
+use Rattle.ipcz_base.specs.declared.message.Message.{Message}
+use Rattle.ipcz_base.specs.declared.message.Message.TheVariants as messages
 use Rattle.ipcz_node.specs.RoomyNodes.{AreLow, IsReady, CanTell, RoomyNode, NodeRoom}
-use Rattle.std.proofs.Common.{subst, ap, ◌<◌}
+use Rattle.std.proofs.Common.{subst, ap, ◌<◌, refl}
 use Rattle.ipcz_base.specs.Indexed.{place_at}
 use Rattle.ipcz_node.specs.Sends.{moved_ends}
 use Rattle.ipcz_node.specs.Events.{moved_by}
@@ -40,6 +42,16 @@ low_moves n sender item ds h = go (nat_eq sender n.number) h
     go : (b : Bool) → (if b then nat_eq (length ds) 0 else fit_moves n (ends_in item) ds) ≡ true → AreLow ds
     go true h = low_none ds h
     go false h = low_fit n (ends_in item) ds h
+
+-- a message that makes nothing grow takes no serials
+pub takes_no_serials : (m : Message) → grows_where_it_fits m ≡ false → serials_in m ≡ 0
+unfolding grows_where_it_fits serials_in
+takes_no_serials (messages.Item link side number item moves) h = absurd (true≢false h)
+takes_no_serials (messages.BypassPeer link side old target fresh) h = refl
+takes_no_serials (messages.AcceptBypass old side fresh length) h = refl
+takes_no_serials (messages.StopProxying old side in_length out_length) h = refl
+takes_no_serials (messages.ProxyWillStop link side in_length) h = refl
+takes_no_serials (messages.Flush link side) h = refl
 
 -- what a node is ready for, it is ready for after a change of its routers alone
 pub still_ready : (k j : RoomyNode) (a : Applied) → j.room.outboxes ≡ k.room.outboxes → j.room.links ≡ k.room.links → j.room.moves ≡ k.room.moves → j.room.pending ≡ k.room.pending

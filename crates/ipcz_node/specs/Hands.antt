@@ -119,6 +119,17 @@ serials_in other = 0
 abbrev pub message_lacks_serials : Node → ℕ → Message → Bool
 message_lacks_serials n sender m = fits n sender m && not (has_serials n.next_router (serials_in m))
 
+-- whether a message that fits makes something grow: it brings an item, or makes a router send; a ProxyWillStop only tells a length, and a
+-- Flush only rouses
+unfoldable pub grows_where_it_fits : Message → Bool
+grows_where_it_fits (messages.ProxyWillStop link side in_length) = false
+grows_where_it_fits (messages.Flush link side) = false
+grows_where_it_fits other = true
+
+-- whether delivering a message makes something grow, and so may want memory: one that doesn't fit is kept among the strays
+abbrev pub message_grows : Node → ℕ → Message → Bool
+message_grows n sender m = not (fits n sender m) || grows_where_it_fits m
+
 -- whether the message in hand is of this sender
 unfoldable pub is_hand_of : Option ℕ → ℕ → Bool
 is_hand_of None sender = false

@@ -1,6 +1,6 @@
 -- The node with the room that it has made.
 -- (This project's own.)
-use Rattle.std.specs.Prelude.{◌≡◌, ℕ, ◌≤◌, ◌<◌, ◌+◌, true, length, List, [], ◌∷◌, IfSome, IsSomeAnd}
+use Rattle.std.specs.Prelude.{◌≡◌, ℕ, ◌≤◌, ◌<◌, ◌+◌, true, length, Some, None, List, [], ◌∷◌, IfSome, IsSomeAnd}
 use Rattle.std.specs.Ordering.{nat_cmp}
 use Rattle.std.specs.FinMap.{FinMap, get}
 use Rattle.ipcz_base.specs.Limits.{last_number, no_number}
@@ -15,6 +15,7 @@ use Rattle.ipcz_router.specs.ActEffects.{output_of}
 use Rattle.ipcz_node.specs.declared.act.Act.{Act}
 use Rattle.ipcz_node.specs.declared.act.Act.TheVariants as acts
 use Rattle.ipcz_node.specs.Node.{Node, EndSet, router_in, terminal_of}
+use Rattle.ipcz_node.specs.Acts.{first_of, has_mail_for}
 use Rattle.ipcz_node.specs.Events.{moved_by}
 use Rattle.ipcz_node.specs.Sends.{Transfer, moved_ends}
 
@@ -72,10 +73,15 @@ IsReadyFor k (acts.Router serial act) = IfSome (router_in k.node serial) (λ r. 
 IsReadyFor k (acts.Close end) = IfSome (terminal_of k.node end) (λ f. IsSomeAnd (get k.room.out_rooms f.serial) (λ room. 0 < room))
 IsReadyFor k other = Unit {0}
 
--- an act can be done: a router that is to act is there and may take the act
+-- an act can be done: what is to be handled is in hand, the hand is empty for a look, mail waits for the node that is posted to, the end that
+-- is to be closed is the first pending one, and a router that is to act is there and may take the act
 abbrev pub IsPossibleAct : Node → Act → Type 0
+IsPossibleAct n (acts.Hand sender) = n.hand ≡ Some sender
+IsPossibleAct n (acts.Look sender) = n.hand ≡ None
+IsPossibleAct n (acts.Post to) = has_mail_for n to ≡ true
+IsPossibleAct n (acts.Close end) = first_of n.pending ≡ Some end
 IsPossibleAct n (acts.Router serial act) = IsSomeAnd (router_in n serial) (λ r. may_take r act ≡ true)
-IsPossibleAct n other = Unit {0}
+IsPossibleAct n acts.Idle = Unit {0}
 
 -- a node has the room and the serials for a pair
 abbrev pub CanOpen : RoomyNode → Type 0

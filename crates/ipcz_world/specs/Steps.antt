@@ -15,13 +15,13 @@ use Rattle.ipcz_node.specs.declared.act.Act.{Act}
 use Rattle.ipcz_node.specs.Node.{Found, terminal_of}
 use Rattle.ipcz_node.specs.Calls.{put_refusal, put_node, put_number, get_refusal, get_node, close_refusal, close_node, serials_refusal}
 use Rattle.ipcz_node.specs.Calls.{open_node}
-use Rattle.ipcz_node.specs.Acts.{stand_in, act_grows}
+use Rattle.ipcz_node.specs.Acts.{stand_in}
 use Rattle.ipcz_world.specs.declared.step.Step.{Step}
 use Rattle.ipcz_world.specs.declared.step.Step.TheVariants.{Open, Put, Get, Close, Turn}
 use Rattle.ipcz_world.specs.declared.step.Reply.{Reply}
 use Rattle.ipcz_world.specs.declared.step.Reply.TheVariants as replies
 use Rattle.ipcz_world.specs.World.{World, node_at, set_node, set_word, set_claimed}
-use Rattle.ipcz_world.specs.Turns.{next_at, after_act, turn_event, turn_lacks_serials, can_take}
+use Rattle.ipcz_world.specs.Turns.{next_at, after_act, turn_event, turn_lacks_serials, turn_grows, can_take}
 
 -- a reply with the world after it
 pub record Effect : Type 0 where
@@ -142,9 +142,9 @@ abbrev pub PutGives : World → ℕ → Effect → Reply → World → Type 0
 PutGives w n done reply v = Gives done reply v ⊎ ((n < w.count) × FindsNoMemory w reply v)
 
 -- the effect of an act, or want of memory where the act makes something grow and nothing else refuses; a begin that finds none is an unlock
-abbrev pub ActGives : World → Act → Effect → Reply → World → Type 0
-ActGives w act done reply v =
-    Gives done reply v ⊎ ((act_grows act ≡ true) × (act ≡ stand_in act) × (is_refused done.reply ≡ false) × FindsNoMemory w reply v)
+abbrev pub ActGives : World → ℕ → Act → Effect → Reply → World → Type 0
+ActGives w n act done reply v =
+    Gives done reply v ⊎ ((turn_grows w n act ≡ true) × (act ≡ stand_in act) × (is_refused done.reply ≡ false) × FindsNoMemory w reply v)
 
 -- which reply and which world may follow a step, where a turn takes an act that the scheduler allows
 abbrev pub StepBy : Scheduler → World → Step → Reply → World → Type 0
@@ -152,7 +152,7 @@ StepBy May w (Open n) reply v = GivesOrNoMemory w (open_step w n) reply v
 StepBy May w (Put n at bytes ends) reply v = PutGives w n (put_step w n at (record { bytes = bytes; ends = ends })) reply v
 StepBy May w (Get n at) reply v = Gives (get_step w n at) reply v
 StepBy May w (Close n at) reply v = GivesOrNoMemory w (close_step w n at) reply v
-StepBy May w (Turn n) reply v = (act : Act) × May w n act × ActGives w act (turn_step w n act) reply v
+StepBy May w (Turn n) reply v = (act : Act) × May w n act × ActGives w n act (turn_step w n act) reply v
 
 -- a step in which a turn takes any possible act: what the laws speak of
 abbrev pub StepAny : World → Step → Reply → World → Type 0

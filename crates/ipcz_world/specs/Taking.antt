@@ -12,7 +12,7 @@ use Rattle.ipcz_base.specs.declared.message.Message.{Message}
 use Rattle.ipcz_world.specs.declared.step.Step.{Step}
 use Rattle.ipcz_world.specs.declared.step.Step.TheVariants.{Open, Put, Get, Close, Turn}
 use Rattle.ipcz_world.specs.World.{World, node_at}
-use Rattle.ipcz_world.specs.Turns.{turn_event, turn_lacks_serials, commit_at, after_act, can_take}
+use Rattle.ipcz_world.specs.Turns.{turn_event, turn_lacks_serials, turn_grows, commit_at, after_act, can_take}
 use Rattle.ipcz_world.specs.Steps.{FirstAct}
 use Rattle.ipcz_world.specs.Soundness.{HasLengths, IsSound}
 
@@ -28,7 +28,7 @@ pub record IsTaken (w : World) (n : ℕ) (act : Act) (result : Result Happened R
   pub done : OnOk result (v ≡ after_act w n act)
   pub allowed : OnOk result (turn_lacks_serials w n act ≡ false)
   pub why : IfErr result (λ e. e ≡ (if turn_lacks_serials w n act then NumbersEnd else OutOfMemory))
-  pub grows : act_grows act ≡ false → turn_lacks_serials w n act ≡ false → IsOk result
+  pub grows : turn_grows w n act ≡ false → turn_lacks_serials w n act ≡ false → IsOk result
   pub left : OnErr result (v ≡ w)
 
 -- a node has done its own part of an act that touches no word, or was refused it

@@ -151,7 +151,8 @@ impl NodeState {
         self.commit_act(serial, act, answer)
     }
 
-    /// Does the act that `next` gave and `prepare` made room for, with an answer of its kind. It takes no memory.
+    /// Does a possible act, as the one that `next` gave, for which `prepare` made room, with an answer of its kind. It takes no
+    /// memory.
     ///
     /// It gives what happened, and the message of a post, which has left its outbox. A look notes the sender whose message
     /// is in hand from now on; the message in hand itself is not handled by a commit, but delivered (docs/PROTOCOL.md,

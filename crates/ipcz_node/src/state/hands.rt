@@ -1,10 +1,10 @@
-ghost use Rattle.std.specs.Prelude.{ℕ, ◌≡◌, ◌<◌, ◌≤◌, ◌+◌, ◌^◌, Some, is_some, true, false, length, if◌then◌else◌, OnOk, IfOk, IfErr, IfSome, IfNone, IsSomeAnd};
+ghost use Rattle.std.specs.Prelude.{ℕ, ◌≡◌, ◌<◌, ◌≤◌, ◌+◌, ◌^◌, Some, is_some, true, false, length, if◌then◌else◌, IsOk, OnOk, IfOk, IfErr, IfSome, IfNone, IsSomeAnd};
 ghost use Rattle.ipcz_base.specs.Limits.{no_number, has_serials};
 ghost use Rattle.ipcz_router.specs.Router.{Router as RouterRecord, outward_has, router_has};
 ghost use Rattle.ipcz_router.specs.Calls.{has_place_for};
 ghost use Rattle.ipcz_node.specs.Node.{router_in, link_router, found, add_stray};
 ghost use Rattle.ipcz_node.specs.RoomyNodes.{AreLow};
-ghost use Rattle.ipcz_node.specs.Hands.{has_moved, fit_moves, fits_from, fits_item, make_terminals, take_in, free_hand, fits, handle, deliver, message_lacks_serials, serials_in};
+ghost use Rattle.ipcz_node.specs.Hands.{has_moved, fit_moves, fits_from, fits_item, make_terminals, take_in, free_hand, fits, handle, deliver, message_lacks_serials, message_grows, grows_where_it_fits, serials_in};
 ghost use Rattle.ipcz_node.specs.Events.{hand_event};
 
 use super::NodeState;
@@ -249,11 +249,12 @@ impl NodeState {
     }
 
     // Handles a message that fits, and for which there are serials.
-    #[tactic(auto, unfolding(crate::specs::Hands::serials_in))]
+    #[tactic(auto, unfolding(crate::specs::Hands::serials_in, crate::specs::Hands::grows_where_it_fits))]
     fn handle(&mut self, sender: u8, message: Message) -> Result<(), Message>
         requires fits { fits self.old.node sender message ≡ true }
         requires serials { has_serials self.old.node.next_router (serials_in message) ≡ true }
         ensures ok { OnOk result (self.new.node ≡ handle self.old.node sender message) }
+        ensures grows { grows_where_it_fits message ≡ false → IsOk result }
         ensures err { IfErr result (λ m. (m ≡ message) × (self.new.node ≡ self.old.node)) }
     {
         match message {
@@ -330,10 +331,12 @@ impl NodeState {
     }
 
     // Handles a message, or keeps it whole where it doesn't fit.
+    #[tactic(auto, using(crate::proofs::Handing::takes_no_serials))]
     fn receive(&mut self, sender: u8, message: Message) -> Result<(), (Refusal, Message)>
         ensures ok { OnOk result (self.new.node ≡ (if fits self.old.node sender message then handle self.old.node sender message else add_stray self.old.node message)) }
         ensures allowed { OnOk result (message_lacks_serials self.old.node sender message ≡ false) }
         ensures why { IfErr result (λ e. e.0 ≡ (if message_lacks_serials self.old.node sender message then Refusal.NumbersEnd else Refusal.OutOfMemory)) }
+        ensures grows { message_grows self.old.node sender message ≡ false → IsOk result }
         ensures err { IfErr result (λ e. (e.1 ≡ message) × (self.new.node ≡ self.old.node)) }
     {
         if !self.fits(sender, &message) {
@@ -368,7 +371,8 @@ impl NodeState {
     /// If the message in hand was from that node, the hand is empty then.
     ///
     /// A refused message is handed back, and nothing has changed. It is `NumbersEnd` where the message fits and would make
-    /// more routers than serials are left for, and otherwise `OutOfMemory`.
+    /// more routers than serials are left for, and otherwise `OutOfMemory`. A message that makes nothing grow, as a Flush or a
+    /// ProxyWillStop that fits, is never refused.
     #[tactic(auto, unfolding(crate::specs::Hands::deliver))]
     pub fn deliver(&mut self, from: u8, message: Message) -> Result<Happened, (Refusal, Message)>
         requires { from < self.old.node.count }
@@ -376,6 +380,7 @@ impl NodeState {
         ensures event { IfOk result (λ h. h ≡ hand_event self.old.node from message) }
         ensures allowed { OnOk result (message_lacks_serials self.old.node from message ≡ false) }
         ensures why { IfErr result (λ e. e.0 ≡ (if message_lacks_serials self.old.node from message then Refusal.NumbersEnd else Refusal.OutOfMemory)) }
+        ensures grows { message_grows self.old.node from message ≡ false → IsOk result }
         ensures err { IfErr result (λ e. (e.1 ≡ message) × (self.new.node ≡ self.old.node)) }
     {
         let event = self.hand_event(from, &message);

@@ -8,11 +8,11 @@ use Rattle.ipcz_router.specs.declared.act.RouterAct.TheVariants as acts
 use Rattle.ipcz_node.specs.declared.act.Act.{Act}
 use Rattle.ipcz_node.specs.declared.act.Act.TheVariants.{Hand, Look, Post, Close, Router as OfRouter, Idle}
 use Rattle.ipcz_node.specs.declared.happened.Happened.{Happened}
-use Rattle.ipcz_node.specs.Acts.{stand_in, act_grows}
+use Rattle.ipcz_node.specs.Acts.{stand_in}
 use Rattle.ipcz_world.specs.declared.step.Step.TheVariants.{Turn}
 use Rattle.ipcz_world.specs.declared.step.Reply.TheVariants.{Turned, Refused}
 use Rattle.ipcz_world.specs.World.{World}
-use Rattle.ipcz_world.specs.Turns.{turn_event, turn_lacks_serials, after_act}
+use Rattle.ipcz_world.specs.Turns.{turn_event, turn_lacks_serials, turn_grows, after_act}
 use Rattle.ipcz_world.specs.Steps.{Effect, refuse, unless, turn_step, is_refused, FirstAct, StepFirst}
 use Rattle.ipcz_world.specs.Taking.{IsTaken}
 
@@ -34,9 +34,9 @@ module _ (w : World) (n : ℕ) (act : Act) (here : n < w.count) where
   -- an act that was refused, and for which nothing stands in
   pub step-refused : (v : World) (why : Refusal) → FirstAct w n act → (act ≡ stand_in act) ⊎ (why ≡ NumbersEnd) → IsTaken w n act (Err why) v → StepFirst w (Turn n) (Refused why) v
   unfolding is_refused
-  step-refused v why first alone is = go (turn_lacks_serials w n act) (act_grows act) refl refl alone
+  step-refused v why first alone is = go (turn_lacks_serials w n act) (turn_grows w n act) refl refl alone
     where
-      go : (c g : Bool) → turn_lacks_serials w n act ≡ c → act_grows act ≡ g → (act ≡ stand_in act) ⊎ (why ≡ NumbersEnd) → StepFirst w (Turn n) (Refused why) v
+      go : (c g : Bool) → turn_lacks_serials w n act ≡ c → turn_grows w n act ≡ g → (act ≡ stand_in act) ⊎ (why ≡ NumbersEnd) → StepFirst w (Turn n) (Refused why) v
       go true g e k alone =
           let z = effect true e in
           let because : why ≡ NumbersEnd = is.why ∙ ap (λ c. if c then NumbersEnd else OutOfMemory) e in

@@ -18,7 +18,7 @@ use Rattle.ipcz_node.specs.declared.act.Act.{Act}
 use Rattle.ipcz_node.specs.declared.act.Act.TheVariants.{Hand as OfHand, Look, Post, Close, Router as OfRouter, Idle}
 use Rattle.ipcz_node.specs.declared.happened.Happened.{Happened}
 use Rattle.ipcz_node.specs.declared.happened.Happened.TheVariants as events
-use Rattle.ipcz_node.specs.Hands.{is_hand_of, deliver, message_lacks_serials}
+use Rattle.ipcz_node.specs.Hands.{is_hand_of, deliver, message_lacks_serials, message_grows}
 use Rattle.ipcz_node.specs.Node.{Node, bare_node, outbox, router_in}
 use Rattle.ipcz_node.specs.Acts.{has_mail_for, first_of, commit, post_of, act_lacks_serials, act_grows, Answers}
 use Rattle.ipcz_node.specs.RoomyNodes.{IsPossibleAct}
@@ -27,13 +27,14 @@ use Rattle.ipcz_node.specs.Events.{event_of, hand_event}
 use Rattle.ipcz_world.specs.declared.mail.Mail.{Mail}
 use Rattle.ipcz_world.specs.declared.mail.Mail.TheVariants.{Empty, Full, Hand as InHand}
 use Rattle.ipcz_world.specs.World.{World, node_at, mail_at, way, router_at, set_node, set_mail}
-use Rattle.ipcz_world.specs.Turns.{hand_message, hand_seen, hand_lacks_serials, after_hand, router_seen, after_router_act, may_act, is_full, is_clear, full_message, commit_at, after_look, after_post, after_act, turn_event, turn_lacks_serials, can_take}
+use Rattle.ipcz_world.specs.Turns.{hand_message, hand_seen, hand_lacks_serials, hand_grows, after_hand, router_seen, after_router_act, may_act, is_full, is_clear, full_message, commit_at, after_look, after_post, after_act, turn_event, turn_lacks_serials, turn_grows, can_take, is_first_pending}
 use Rattle.ipcz_world.specs.Mailing.{taken_up, put_down}
 use Rattle.ipcz_world.specs.Soundness.{HasLengths}
 use Rattle.ipcz_world.specs.Coding.{WordTable, table_answer, table_after, table_of}
 use Rattle.ipcz_world.specs.WordAnswers.{answer_of, touch}
 use Rattle.ipcz_world.specs.Taking.{IsRegular, IsTaken, IsCommitted}
 use Rattle.ipcz_world.proofs.code.RouterActs.{link_of, retabled, answers-as, touches-as, answers-kind}
+use Rattle.ipcz_world.proofs.weights.Booking.{same_end-is}
 use Rattle.ipcz_world.proofs.code.Slots.{put-same, put-again, length-put}
 
 both : (a b : Bool) → (a && b) ≡ true → (a ≡ true) × (b ≡ true)
@@ -82,15 +83,15 @@ done-committed w n act old x r e is event message k = record {
 
 -- an act that touches no word and isn't done isn't done in the world
 pub refused-close : (w v : World) (n : ℕ) (end : End) (why : Refusal) → IsCommitted w n (Close end) (Err why) v → IsTaken w n (Close end) (Err why) v
-unfolding turn_lacks_serials
+unfolding turn_lacks_serials turn_grows
 refused-close w v n end why done = record { event = tt; done = tt; allowed = tt; why = done.why; grows = done.grows; left = done.left }
 
 pub refused-look : (w v : World) (n from : ℕ) (why : Refusal) → IsCommitted w n (Look from) (Err why) v → IsTaken w n (Look from) (Err why) v
-unfolding turn_lacks_serials
+unfolding turn_lacks_serials turn_grows
 refused-look w v n from why done = record { event = tt; done = tt; allowed = tt; why = done.why; grows = done.grows; left = done.left }
 
 pub refused-post : (w v : World) (n to : ℕ) (why : Refusal) → IsCommitted w n (Post to) (Err why) v → IsTaken w n (Post to) (Err why) v
-unfolding turn_lacks_serials
+unfolding turn_lacks_serials turn_grows
 refused-post w v n to why done = record { event = tt; done = tt; allowed = tt; why = done.why; grows = done.grows; left = done.left }
 
 -- a pending close is done by the node alone
@@ -178,6 +179,30 @@ pub given : (w u : World) (n : ℕ) (act : Act) (event : Happened) (o : Option M
     IsCommitted w n act (Ok (event, Some m)) u
 given w u n act event o m e done = subst (λ o. IsCommitted w n act (Ok (event, o)) u) e done
 
+-- what a node of the world may take, it can do
+pub look-may : (w : World) (n from : ℕ) → can_take w n (Look from) ≡ true → IsPossibleAct (node_at w n) (Look from)
+unfolding can_take
+look-may w n from h =
+    empty_hand (node_at w n).hand
+    (both (is_none (node_at w n).hand) (is_full (mail_at w (way w from n))) (both (nat_lt from w.count) (is_none (node_at w n).hand && is_full (mail_at w (way w from n))) h).1).0
+  where
+    empty_hand : (hand : Option ℕ) → is_none hand ≡ true → hand ≡ None
+    empty_hand None e = refl
+    empty_hand (Some from) e = cc
+
+pub post-may : (w : World) (n to : ℕ) → can_take w n (Post to) ≡ true → IsPossibleAct (node_at w n) (Post to)
+unfolding can_take
+post-may w n to h =
+    (both (has_mail_for (node_at w n) to) (is_clear (mail_at w (way w n to))) (both (nat_lt to w.count) (has_mail_for (node_at w n) to && is_clear (mail_at w (way w n to))) h).1).0
+
+pub close-may : (w : World) (n : ℕ) (end : End) → can_take w n (Close end) ≡ true → IsPossibleAct (node_at w n) (Close end)
+unfolding can_take is_first_pending first_of
+close-may w n end h = first (node_at w n).pending h
+  where
+    first : (pending : List End) → is_first_pending pending end ≡ true → first_of pending ≡ Some end
+    first [] e = cc
+    first (x ∷ xs) e = ap Some (same_end-is x end e)
+
 -- a message in hand is there, and of a node of the world
 pub has-in-hand : (w : World) (n from : ℕ) → can_take w n (OfHand from) ≡ true → hand_message (mail_at w (way w from n)) ≡ None → ⊥
 unfolding can_take
@@ -225,15 +250,16 @@ done-hand w n from m event old x mail e has is seen low kept = record {
 -- a message that can't be handled stays in hand
 pub refused-hand : (w : World) (n from : ℕ) (m : Message) (why : Refusal) (old x : Node) (mail : List Mail) → HasLengths w → n < w.count → way w from n < length w.mail → old ≡ node_at w n →
     hand_message (mail_at w (way w from n)) ≡ Some m → x ≡ old → why ≡ (if message_lacks_serials old from m then NumbersEnd else OutOfMemory) →
+    (message_grows old from m ≡ false → false ≡ true) →
     mail ≡ put_place Empty (put_place Empty w.mail (way w from n) (put_down (mail_at w (way w from n)))) (way w from n) (InHand m) →
     IsTaken w n (OfHand from) (Err why) (record (with_node w n x) { mail = mail })
-unfolding turn_lacks_serials hand_lacks_serials act_grows mail_at node_at
-refused-hand w n from m why old x mail has l within e is same because kept = record {
+unfolding turn_lacks_serials hand_lacks_serials turn_grows hand_grows mail_at node_at
+refused-hand w n from m why old x mail has l within e is same because grows kept = record {
   event = tt;
   done = tt;
   allowed = tt;
   why = rw is (because ∙ ap (λ y. if message_lacks_serials y from m then NumbersEnd else OutOfMemory) e);
-  grows = λ g k. absurd (let no : true ≡ false = g in cc);
+  grows = rw is (λ g k. grows (ap (λ y. message_grows y from m) e ∙ g));
   left = λ j. record w {
     nodes = (ap (put_place (bare_node 0 0) w.nodes n) (same ∙ e) ∙ put-same (bare_node 0 0) w.nodes n (omega (arith, l, has.nodes))) j;
     mail = (kept ∙ put-again Empty w.mail (way w from n) _ (InHand m) ∙ ap (put_place Empty w.mail (way w from n)) (sym (taken-down (mail_at w (way w from n)) m is)) ∙ put-same Empty w.mail (way w from n) within) j;
@@ -312,7 +338,7 @@ module _ (w : World) (n serial : ℕ) (act : RouterAct) (is : IsRegular w) (l : 
       why ≡ (if act_lacks_serials old (OfRouter serial act) then NumbersEnd else OutOfMemory) →
       (act_grows (OfRouter serial act) ≡ false → act_lacks_serials old (OfRouter serial act) ≡ false → false ≡ true) →
       IsTaken w n (OfRouter serial act) (Err why) (with_node w n x)
-  unfolding turn_lacks_serials
+  unfolding turn_lacks_serials turn_grows
   refused-router old x why e same because grows = let k = refused-committed w n (OfRouter serial act) old x why is.lengths l e same because grows in
       record { event = tt; done = tt; allowed = tt; why = k.why; grows = k.grows; left = k.left }
 

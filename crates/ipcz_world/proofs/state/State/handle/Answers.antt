@@ -50,4 +50,4 @@ returns-in-Err c =
     ∙ ap (λ k. put_place Empty (put_place Empty c.self.inside.mail k (put_down (place_at Empty c.self.inside.mail k))) k (InHand c.in-Some.message)) place in
     rw (← c.self.view_is)
     (refused-hand _ c.args.n c.args.from c.in-Some.message c.in-Err.why c.node_mut.result.now.node c.deliver.new.self.node c.put.new.self
-    a.regular.lengths a.here (subst (λ k. k < length c.self.inside.mail) place l) c.node_mut.ensures.value has c.in-Err.ensures.err.1 c.in-Err.ensures.why kept)
+    a.regular.lengths a.here (subst (λ k. k < length c.self.inside.mail) place l) c.node_mut.ensures.value has c.in-Err.ensures.err.1 c.in-Err.ensures.why c.in-Err.ensures.grows kept)

@@ -3,11 +3,14 @@ use Rattle.std.proofs.lemmas.Result.{err_from_is_err_and}
 use Rattle.ipcz_base.specs.Indexed.{place_at, put_place}
 use Rattle.ipcz_world.specs.declared.mail.Mail.TheVariants.{Empty}
 use Rattle.ipcz_world.specs.Mailing.{taken_up}
-use Rattle.ipcz_world.proofs.code.Taken.{refused-look, done-look, looks-to-node, mail-stays, moved}
+use Rattle.ipcz_world.proofs.code.Taken.{look-may, refused-look, done-look, looks-to-node, mail-stays, moved}
 use Rattle.ipcz_world.proofs.state.State.look.Goals as goal
 
 pub way-place-requires-clause-from : goal.way-place-requires-clause-from
 way-place-requires-clause-from c = looks-to-node c.args.self.now c.args.n c.args.from c.requires.possible
+
+pub take_wordless-requires-clause-possible : goal.take_wordless-requires-clause-possible
+take_wordless-requires-clause-possible c = look-may c.args.self.now c.args.n c.args.from c.requires.possible
 
 pub returns-in_err-event : goal.returns-in_err-event
 returns-in_err-event c =

@@ -2,11 +2,14 @@ use Rattle.std.proofs.Common.{sym, ap, ◌∙◌}
 use Rattle.std.proofs.lemmas.Result.{err_from_is_err_and}
 use Rattle.ipcz_base.specs.Indexed.{put_place}
 use Rattle.ipcz_world.specs.declared.mail.Mail.TheVariants.{Empty, Full}
-use Rattle.ipcz_world.proofs.code.Taken.{refused-post, done-post, posts, posts-to-node, mail-stays, moved, given}
+use Rattle.ipcz_world.proofs.code.Taken.{post-may, refused-post, done-post, posts, posts-to-node, mail-stays, moved, given}
 use Rattle.ipcz_world.proofs.state.State.post.Goals as goal
 
 pub way-place-requires-clause-to : goal.way-place-requires-clause-to
 way-place-requires-clause-to c = posts-to-node c.args.self.now c.args.n c.args.to c.requires.possible
+
+pub take_wordless-requires-clause-possible : goal.take_wordless-requires-clause-possible
+take_wordless-requires-clause-possible c = post-may c.args.self.now c.args.n c.args.to c.requires.possible
 
 pub returns-in_err-event : goal.returns-in_err-event
 returns-in_err-event c =
