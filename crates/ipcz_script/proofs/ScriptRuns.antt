@@ -31,7 +31,7 @@ use Rattle.ipcz_script.specs.declared.command.Command.TheVariants as commands
 use Rattle.ipcz_script.specs.declared.said.Said.{Said}
 use Rattle.ipcz_script.specs.declared.said.Said.TheVariants as said
 use Rattle.ipcz_script.specs.Bindings.{Bindings}
-use Rattle.ipcz_script.specs.Sessions.{Session, Replied, Runs, SettlesTo, TurnsTo, AreTurns, bind_pair, bind_pairs, ends_from, heard, held, is_idle_reply, is_turn, known, name_pair, nameless, new_session, opened, replied_at, stepped, with_world}
+use Rattle.ipcz_script.specs.Sessions.{Session, Replied, Runs, SettlesTo, TurnsTo, AreTurns, bind_pair, bind_pairs, ends_from, answer_to, if_held, if_known, is_idle_reply, is_turn, name_pair, nameless, new_session, replied_at, replied_open, replied_step, with_world}
 use Rattle.ipcz_script.specs.Transcript.{Answered, AreAnswered}
 use Rattle.ipcz_script.specs.ScriptBooks.{AreSaid, IsCount, got_said, gots_in, parcels_in, put_said, puts_in}
 use Rattle.ipcz_script.specs.ScriptLaws.{AfterScripts, GetsFollowPuts, NumbersCountUp, ScriptsAnswerPlainly, ScriptsAreRuns, ScriptsArrive, ScriptsDeliver}
@@ -171,22 +171,22 @@ module _ (nodes words : ℕ) (s : Session) (puts gots : Parcels) (at : Kept node
 
   -- a call leaves what each of its cases does
   at-known : {X : Type 0} (c : Command) (o : Option X) (call : X → Replied) → Leaves c said.UnknownName s.world →
-      ((x : X) → o ≡ Some x → Leaves c (call x).said (call x).session.world) → Leaves c (known s o call).said (known s o call).session.world
-  unfolding known
+      ((x : X) → o ≡ Some x → Leaves c (call x).said (call x).session.world) → Leaves c (if_known s o call).said (if_known s o call).session.world
+  unfolding if_known
   at-known c None call unknown each = unknown
   at-known c (Some x) call unknown each = each x refl
 
   at-held : (c : Command) (o : Option ℕ) (call : ℕ → Replied) → Leaves c said.Away s.world →
-      ((n : ℕ) → o ≡ Some n → Leaves c (call n).said (call n).session.world) → Leaves c (held s o call).said (held s o call).session.world
-  unfolding held
+      ((n : ℕ) → o ≡ Some n → Leaves c (call n).said (call n).session.world) → Leaves c (if_held s o call).said (if_held s o call).session.world
+  unfolding if_held
   at-held c None call away each = away
   at-held c (Some n) call away each = each n refl
 
   -- a step that is no turn
   at-step : (c : Command) (x : Step) → is_turn x ≡ false →
-      ((b : Books) → Adds b (advance s.world b x (first_step s.world x).reply) (put_said s.names c (heard (first_step s.world x).reply))
-      (got_said s.names c (heard (first_step s.world x).reply))) →
-      Leaves c (heard (first_step s.world x).reply) (first_step s.world x).world
+      ((b : Books) → Adds b (advance s.world b x (first_step s.world x).reply) (put_said s.names c (answer_to (first_step s.world x).reply))
+      (got_said s.names c (answer_to (first_step s.world x).reply))) →
+      Leaves c (answer_to (first_step s.world x).reply) (first_step s.world x).world
   at-step c x no_turn adds =
       kept-step nodes words s.world (first_step s.world x).world puts gots _ _ x (first_step s.world x).reply at (first-step s.world x no_turn) adds
 
@@ -229,8 +229,8 @@ module _ (nodes words : ℕ) (s : Session) (puts gots : Parcels) (at : Kept node
   kept-command : (c : Command) (answer : Said) (t : Session) → Runs s c answer t → Leaves c answer t.world
   unfolding put_said got_said
   kept-command (commands.Open node first second) answer t is =
-      given (commands.Open node first second) (opened s first second (first_step s.world (steps.Open node))) answer t is.0 is.1
-      (subst (Leaves (commands.Open node first second) (heard (first_step s.world (steps.Open node)).reply))
+      given (commands.Open node first second) (replied_open s first second (first_step s.world (steps.Open node))) answer t is.0 is.1
+      (subst (Leaves (commands.Open node first second) (answer_to (first_step s.world (steps.Open node)).reply))
       (sym (name_pair-world (with_world s (first_step s.world (steps.Open node)).world) first second (first_step s.world (steps.Open node)).reply))
       (at-step (commands.Open node first second) (steps.Open node) refl
       (λ b. open-said s.world b node s.names first second (first_step s.world (steps.Open node)).reply)))
@@ -371,14 +371,14 @@ module _ (nodes words : ℕ) (s : Session) (earlier : List Answered) (at : Kept 
       (first_acts_are_possible s.world (first_step s.world x).world at.books at.routes x (first_step s.world x).reply law (first-step s.world x no_turn))
 
   count-known : {X : Type 0} (c : Command) (o : Option X) (call : X → Replied) → IsCount earlier s.names c said.UnknownName →
-      ((x : X) → o ≡ Some x → IsCount earlier s.names c (call x).said) → IsCount earlier s.names c (known s o call).said
-  unfolding known
+      ((x : X) → o ≡ Some x → IsCount earlier s.names c (call x).said) → IsCount earlier s.names c (if_known s o call).said
+  unfolding if_known
   count-known c None call unknown each = unknown
   count-known c (Some x) call unknown each = each x refl
 
   count-held : (c : Command) (o : Option ℕ) (call : ℕ → Replied) → IsCount earlier s.names c said.Away →
-      ((n : ℕ) → o ≡ Some n → IsCount earlier s.names c (call n).said) → IsCount earlier s.names c (held s o call).said
-  unfolding held
+      ((n : ℕ) → o ≡ Some n → IsCount earlier s.names c (call n).said) → IsCount earlier s.names c (if_held s o call).said
+  unfolding if_held
   count-held c None call away each = away
   count-held c (Some n) call away each = each n refl
 
@@ -389,8 +389,8 @@ module _ (nodes words : ℕ) (s : Session) (earlier : List Answered) (at : Kept 
 
   count-put : (name text : List ℕ) (attached : List (List ℕ)) (end : End) (ends : List End) (n : ℕ) (reply : Reply) (c : Books) →
       get s.names name ≡ Some end → holder_of s.world end ≡ Some n → Plain at.books (steps.Put n end text ends) reply c →
-      IsCount earlier s.names (commands.Put name text attached) (heard reply)
-  unfolding IsCount heard
+      IsCount earlier s.names (commands.Put name text attached) (answer_to reply)
+  unfolding IsCount answer_to
   count-put name text attached end ends n (replies.Put k) c bound there p =
       one-end name end (λ e. length (puts_in earlier e)) k bound (p.0 ∙ put-count end n there)
   count-put name text attached end ends n (replies.Opened d e) c bound there p = tt
@@ -400,8 +400,8 @@ module _ (nodes words : ℕ) (s : Session) (earlier : List Answered) (at : Kept 
   count-put name text attached end ends n (replies.Refused why) c bound there p = tt
 
   count-got : (name : List ℕ) (end : End) (n : ℕ) (reply : Reply) (c : Books) → get s.names name ≡ Some end → holder_of s.world end ≡ Some n →
-      Plain at.books (steps.Get n end) reply c → IsCount earlier s.names (commands.Get name) (heard reply)
-  unfolding IsCount heard
+      Plain at.books (steps.Get n end) reply c → IsCount earlier s.names (commands.Get name) (answer_to reply)
+  unfolding IsCount answer_to
   count-got name end n (replies.Got k q) c bound there p =
       one-end name end (λ e. length (gots_in earlier e)) k bound (p.0 ∙ got-count end n there)
   count-got name end n (replies.Opened d e) c bound there p = tt
@@ -411,8 +411,8 @@ module _ (nodes words : ℕ) (s : Session) (earlier : List Answered) (at : Kept 
   count-got name end n (replies.Refused why) c bound there p = tt
 
   count-close : (name : List ℕ) (end : End) (n : ℕ) (reply : Reply) (c : Books) → get s.names name ≡ Some end →
-      holder_of s.world end ≡ Some n → Plain at.books (steps.Close n end) reply c → IsCount earlier s.names (commands.Close name) (heard reply)
-  unfolding IsCount heard
+      holder_of s.world end ≡ Some n → Plain at.books (steps.Close n end) reply c → IsCount earlier s.names (commands.Close name) (answer_to reply)
+  unfolding IsCount answer_to
   count-close name end n (replies.Closed k) c bound there p =
       one-end name end (λ e. length (puts_in earlier e)) k bound (p.0 ∙ put-count end n there)
   count-close name end n (replies.Opened d e) c bound there p = tt

@@ -22,7 +22,7 @@ use Rattle.ipcz_world.proofs.weights.Booking.{same_end-is}
 use Rattle.ipcz_script.specs.declared.command.Command.TheVariants as commands
 use Rattle.ipcz_script.specs.declared.said.Said.TheVariants as said
 use Rattle.ipcz_script.specs.Bindings.{Bindings}
-use Rattle.ipcz_script.specs.Sessions.{ends_from, heard}
+use Rattle.ipcz_script.specs.Sessions.{ends_from, answer_to}
 use Rattle.ipcz_script.specs.ScriptBooks.{got_said, is_bound, parcel_of, parcels_in, put_said}
 
 -- ---- parcels among items
@@ -134,9 +134,9 @@ turn-more w b n (replies.Refused why) = nothing-more b
 -- ---- what a call adds is what its answer says
 
 pub open-said : (w : World) (b : Books) (n : ℕ) (names : Bindings) (first second : List ℕ) (reply : Reply) →
-    Adds b (advance w b (steps.Open n) reply) (put_said names (commands.Open n first second) (heard reply))
-    (got_said names (commands.Open n first second) (heard reply))
-unfolding advance put_said got_said heard
+    Adds b (advance w b (steps.Open n) reply) (put_said names (commands.Open n first second) (answer_to reply))
+    (got_said names (commands.Open n first second) (answer_to reply))
+unfolding advance put_said got_said answer_to
 open-said w b n names first second (replies.Opened d e) = nothing-more b
 open-said w b n names first second (replies.Put k) = nothing-more b
 open-said w b n names first second (replies.Got k p) = nothing-more b
@@ -146,9 +146,9 @@ open-said w b n names first second (replies.Refused why) = nothing-more b
 
 pub put-said : (w : World) (b : Books) (n : ℕ) (names : Bindings) (at text : List ℕ) (attached : List (List ℕ)) (end : End) (ends : List End)
     (reply : Reply) → get names at ≡ Some end → ends_from names [] attached ≡ Some ends →
-    Adds b (advance w b (steps.Put n end text ends) reply) (put_said names (commands.Put at text attached) (heard reply))
-    (got_said names (commands.Put at text attached) (heard reply))
-unfolding advance put_said got_said heard
+    Adds b (advance w b (steps.Put n end text ends) reply) (put_said names (commands.Put at text attached) (answer_to reply))
+    (got_said names (commands.Put at text attached) (answer_to reply))
+unfolding advance put_said got_said answer_to
 put-said w b n names at text attached end ends (replies.Opened d e) bound known = nothing-more b
 put-said w b n names at text attached end ends (replies.Put k) bound known =
     subst (λ o. Adds b (add_put b end (Parcel (record { bytes = text; ends = ends })))
@@ -161,8 +161,8 @@ put-said w b n names at text attached end ends (replies.Turned event) bound know
 put-said w b n names at text attached end ends (replies.Refused why) bound known = nothing-more b
 
 pub got-said : (w : World) (b : Books) (n : ℕ) (names : Bindings) (at : List ℕ) (end : End) (reply : Reply) → get names at ≡ Some end →
-    Adds b (advance w b (steps.Get n end) reply) (put_said names (commands.Get at) (heard reply)) (got_said names (commands.Get at) (heard reply))
-unfolding advance put_said got_said heard
+    Adds b (advance w b (steps.Get n end) reply) (put_said names (commands.Get at) (answer_to reply)) (got_said names (commands.Get at) (answer_to reply))
+unfolding advance put_said got_said answer_to
 got-said w b n names at end (replies.Opened d e) bound = nothing-more b
 got-said w b n names at end (replies.Put k) bound = nothing-more b
 got-said w b n names at end (replies.Got k p) bound =
@@ -172,8 +172,8 @@ got-said w b n names at end (replies.Turned event) bound = nothing-more b
 got-said w b n names at end (replies.Refused why) bound = nothing-more b
 
 pub close-said : (w : World) (b : Books) (n : ℕ) (names : Bindings) (at : List ℕ) (end : End) (reply : Reply) →
-    Adds b (advance w b (steps.Close n end) reply) (put_said names (commands.Close at) (heard reply)) (got_said names (commands.Close at) (heard reply))
-unfolding advance put_said got_said heard
+    Adds b (advance w b (steps.Close n end) reply) (put_said names (commands.Close at) (answer_to reply)) (got_said names (commands.Close at) (answer_to reply))
+unfolding advance put_said got_said answer_to
 close-said w b n names at end (replies.Opened d e) = nothing-more b
 close-said w b n names at end (replies.Put k) = nothing-more b
 close-said w b n names at end (replies.Got k p) = nothing-more b

@@ -67,13 +67,13 @@ pub record Replied : Type 0 where
   pub session : Session
 
 -- what a command is answered where a step of the world replies this
-unfoldable pub heard : Reply → Said
-heard (replies.Opened a b) = said.Opened
-heard (replies.Put n) = said.Put n
-heard (replies.Got n parcel) = said.Got n parcel
-heard (replies.Closed n) = said.Closed n
-heard (replies.Turned event) = said.Turned (replies.Turned event ∷ [])
-heard (replies.Refused why) = said.Refused why
+unfoldable pub answer_to : Reply → Said
+answer_to (replies.Opened a b) = said.Opened
+answer_to (replies.Put n) = said.Put n
+answer_to (replies.Got n parcel) = said.Got n parcel
+answer_to (replies.Closed n) = said.Closed n
+answer_to (replies.Turned event) = said.Turned (replies.Turned event ∷ [])
+answer_to (replies.Refused why) = said.Refused why
 
 -- the session once an open has answered: one that succeeds binds its two names
 unfoldable pub name_pair : Session → List ℕ → List ℕ → Reply → Session
@@ -81,22 +81,22 @@ name_pair s first second (replies.Opened a b) = bind (bind s first a) second b
 name_pair s first second other = s
 
 -- a step of the world
-abbrev pub stepped : Session → Effect → Replied
-stepped s done = record { said = heard done.reply; session = with_world s done.world }
+abbrev pub replied_step : Session → Effect → Replied
+replied_step s done = record { said = answer_to done.reply; session = with_world s done.world }
 
 -- an open
-abbrev pub opened : Session → List ℕ → List ℕ → Effect → Replied
-opened s first second done = record { said = heard done.reply; session = name_pair (with_world s done.world) first second done.reply }
+abbrev pub replied_open : Session → List ℕ → List ℕ → Effect → Replied
+replied_open s first second done = record { said = answer_to done.reply; session = name_pair (with_world s done.world) first second done.reply }
 
 -- a call with what names are bound to, where they are bound
-unfoldable pub known : {X : Type 0} → Session → Option X → (X → Replied) → Replied
-known s None call = record { said = said.UnknownName; session = s }
-known s (Some x) call = call x
+unfoldable pub if_known : {X : Type 0} → Session → Option X → (X → Replied) → Replied
+if_known s None call = record { said = said.UnknownName; session = s }
+if_known s (Some x) call = call x
 
 -- a call at the node whose callers hold the end, where some do
-unfoldable pub held : Session → Option ℕ → (ℕ → Replied) → Replied
-held s None call = record { said = said.Away; session = s }
-held s (Some node) call = call node
+unfoldable pub if_held : Session → Option ℕ → (ℕ → Replied) → Replied
+if_held s None call = record { said = said.Away; session = s }
+if_held s (Some node) call = call node
 
 -- the ends that these names are bound to, behind those so far, where each is bound
 abbrev pub ends_from : Bindings → List End → List (List ℕ) → Option (List End)
@@ -105,20 +105,20 @@ ends_from names before (n ∷ ns) = option_map_or (λ end. ends_from names (befo
 
 -- a step at the node whose callers hold the end
 abbrev pub replied_at : Session → End → (ℕ → Step) → Replied
-replied_at s end step = held s (holder_of s.world end) (λ node. stepped s (first_step s.world (step node)))
+replied_at s end step = if_held s (holder_of s.world end) (λ node. replied_step s (first_step s.world (step node)))
 
 -- a put
 abbrev pub replied_put : Session → List ℕ → List ℕ → List (List ℕ) → Replied
 replied_put s at text attached =
-    known s (get s.names at) (λ end. known s (ends_from s.names [] attached) (λ ends. replied_at s end (λ node. steps.Put node end text ends)))
+    if_known s (get s.names at) (λ end. if_known s (ends_from s.names [] attached) (λ ends. replied_at s end (λ node. steps.Put node end text ends)))
 
 -- a get
 abbrev pub replied_get : Session → List ℕ → Replied
-replied_get s at = known s (get s.names at) (λ end. replied_at s end (λ node. steps.Get node end))
+replied_get s at = if_known s (get s.names at) (λ end. replied_at s end (λ node. steps.Get node end))
 
 -- a close
 abbrev pub replied_close : Session → List ℕ → Replied
-replied_close s at = known s (get s.names at) (λ end. replied_at s end (λ node. steps.Close node end))
+replied_close s at = if_known s (get s.names at) (λ end. replied_at s end (λ node. steps.Close node end))
 
 -- whether a step is a turn
 abbrev pub is_turn : Step → Bool
@@ -161,7 +161,7 @@ Is done answer t = (answer ≡ done.said) × (t ≡ done.session)
 
 -- what a command may be answered, and the session after it
 abbrev pub Runs : Session → Command → Said → Session → Type 0
-Runs s (commands.Open node first second) answer t = Is (opened s first second (first_step s.world (steps.Open node))) answer t
+Runs s (commands.Open node first second) answer t = Is (replied_open s first second (first_step s.world (steps.Open node))) answer t
 Runs s (commands.Put at text attached) answer t = Is (replied_put s at text attached) answer t
 Runs s (commands.Get at) answer t = Is (replied_get s at) answer t
 Runs s (commands.Close at) answer t = Is (replied_close s at) answer t

@@ -96,8 +96,8 @@ show_in ds = None
 -- ---- whole commands
 
 -- the first word says which command it is
-abbrev pub worded : ℕ → (List ℕ → Bool) → List ℕ → List Data → Option Command
-worded nodes taken word ds =
+abbrev pub command_named : ℕ → (List ℕ → Bool) → List ℕ → List Data → Option Command
+command_named nodes taken word ds =
     if bytes_eq word (codes "open") then open_in nodes taken ds
     else if bytes_eq word (codes "put") then put_in ds
     else if bytes_eq word (codes "get") then get_in ds
@@ -108,10 +108,10 @@ worded nodes taken word ds =
     else None
 
 -- a command is a list that begins with a text
-abbrev pub shaped : ℕ → (List ℕ → Bool) → List Data → Option Command
-shaped nodes taken [] = None
-shaped nodes taken (word ∷ ds) = option_and_then (λ w. worded nodes taken w ds) (as_str word)
+abbrev pub command_in : ℕ → (List ℕ → Bool) → List Data → Option Command
+command_in nodes taken [] = None
+command_in nodes taken (word ∷ ds) = option_and_then (λ w. command_named nodes taken w ds) (as_str word)
 
 -- the command that a value is, where there are so many nodes and `taken` says which names are taken
 abbrev pub command_of : ℕ → (List ℕ → Bool) → Data → Option Command
-command_of nodes taken d = option_and_then (shaped nodes taken) (values_of d)
+command_of nodes taken d = option_and_then (command_in nodes taken) (values_of d)

@@ -15,7 +15,7 @@ use crate::command::Command;
 use crate::opened_names::OpenedNames;
 use crate::script::Script;
 use crate::script_fault::ScriptFault;
-use crate::shapes::{number_within, shaped, values_of};
+use crate::shapes::{command_in, number_within, values_of};
 use ipcz_base::Sequence;
 use serde_json::Value;
 use std::alloc::{AllocError, Global};
@@ -40,7 +40,7 @@ fn command_of(
     let Some(values) = values_of(value) else {
         return Ok(None);
     };
-    shaped(alloc, nodes, opened, values)
+    command_in(alloc, nodes, opened, values)
 }
 
 fn commands_of(alloc: Global, nodes: u8, values: &[Value]) -> Result<Sequence<Command>, ScriptFault>

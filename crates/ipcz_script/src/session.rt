@@ -3,7 +3,7 @@ ghost use Rattle.std.specs.FinMap.{get};
 ghost use Rattle.ipcz_node.specs.FirstPairs.{pairs_from, first_pairs_from};
 ghost use Rattle.ipcz_world.specs.Lawful.{IsWithinLimits};
 ghost use Rattle.ipcz_world.specs.Steps.{first_step};
-ghost use Rattle.ipcz_script.specs.Sessions.{AreTurns, Is, Runs, SettlesTo, TurnsTo, bind, bind_pair, bind_pairs, ends_from, heard, is_idle_reply, is_turn, is_want, new_session, opened, replied_close, replied_get, replied_put, with_world};
+ghost use Rattle.ipcz_script.specs.Sessions.{AreTurns, Is, Runs, SettlesTo, TurnsTo, bind, bind_pair, bind_pairs, ends_from, answer_to, is_idle_reply, is_turn, is_want, new_session, replied_close, replied_get, replied_open, replied_put, with_world};
 ghost use Rattle.ipcz_world.specs.Holding.{shown_words};
 
 use crate::command::Command;
@@ -145,9 +145,9 @@ impl Session {
         Ok(Some(Ends::from_vec(ends)))
     }
 
-    #[tactic(auto, unfolding(crate::specs::Sessions::heard, crate::specs::Sessions::name_pair))]
+    #[tactic(auto, unfolding(crate::specs::Sessions::answer_to, crate::specs::Sessions::name_pair))]
     fn open(&mut self, node: u8, first: &str, second: &str) -> Result<Said, AllocError>
-        ensures { IfOk result (λ said. Is (opened self.old first.now second.now (first_step self.old.world (Step.Open node))) said self.new) }
+        ensures { IfOk result (λ said. Is (replied_open self.old first.now second.now (first_step self.old.world (Step.Open node))) said self.new) }
     {
         let reply = self.step(Step::Open(node))?;
         if let Reply::Opened(a, b) = reply {
@@ -155,10 +155,10 @@ impl Session {
             self.bind(second, b)?;
             return Ok(Said::Opened);
         }
-        heard(self.alloc, reply)
+        answer_to(self.alloc, reply)
     }
 
-    #[tactic(auto, unfolding(crate::specs::Sessions::known, crate::specs::Sessions::held))]
+    #[tactic(auto, unfolding(crate::specs::Sessions::if_known, crate::specs::Sessions::if_held))]
     fn put(&mut self, at: &str, text: &str, attached: &[Text]) -> Result<Said, AllocError>
         ensures { IfOk result (λ said. Is (replied_put self.old at.now text.now attached.now) said self.new) }
     {
@@ -178,10 +178,10 @@ impl Session {
             bytes,
             ends,
         })?;
-        heard(self.alloc, reply)
+        answer_to(self.alloc, reply)
     }
 
-    #[tactic(auto, unfolding(crate::specs::Sessions::known, crate::specs::Sessions::held))]
+    #[tactic(auto, unfolding(crate::specs::Sessions::if_known, crate::specs::Sessions::if_held))]
     fn get(&mut self, at: &str) -> Result<Said, AllocError>
         ensures { IfOk result (λ said. Is (replied_get self.old at.now) said self.new) }
     {
@@ -192,10 +192,10 @@ impl Session {
             return Ok(Said::Away);
         };
         let reply = self.step(Step::Get { node, at: end })?;
-        heard(self.alloc, reply)
+        answer_to(self.alloc, reply)
     }
 
-    #[tactic(auto, unfolding(crate::specs::Sessions::known, crate::specs::Sessions::held))]
+    #[tactic(auto, unfolding(crate::specs::Sessions::if_known, crate::specs::Sessions::if_held))]
     fn close(&mut self, at: &str) -> Result<Said, AllocError>
         ensures { IfOk result (λ said. Is (replied_close self.old at.now) said self.new) }
     {
@@ -206,7 +206,7 @@ impl Session {
             return Ok(Said::Away);
         };
         let reply = self.step(Step::Close { node, at: end })?;
-        heard(self.alloc, reply)
+        answer_to(self.alloc, reply)
     }
 
     // Lets a node take so many turns, ended at the first that is idle.
@@ -282,9 +282,9 @@ fn is_idle(reply: &Reply) -> bool
 }
 
 // What a command is answered where a step of the world replies this.
-#[tactic(auto, unfolding(crate::specs::Sessions::heard))]
-fn heard(alloc: Global, reply: Reply) -> Result<Said, AllocError>
-    ensures { IfOk result (λ said. said ≡ heard reply) }
+#[tactic(auto, unfolding(crate::specs::Sessions::answer_to))]
+fn answer_to(alloc: Global, reply: Reply) -> Result<Said, AllocError>
+    ensures { IfOk result (λ said. said ≡ answer_to reply) }
 {
     match reply {
         Reply::Opened(_, _) => Ok(Said::Opened),

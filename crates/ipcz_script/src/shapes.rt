@@ -4,7 +4,7 @@ ghost use Rattle.std.specs.FinSet.{contains};
 ghost use Rattle.serde_json.specs.View.{view};
 ghost use Rattle.serde_json.specs.Find.{as_str};
 ghost use Rattle.ipcz_script.specs.ScriptNames.{is_name, is_name_byte, has_angle};
-ghost use Rattle.ipcz_script.specs.Shapes.{values_of, number_within, name_in, new_name_in, names_from, names_in, open_in, put_of, put_in, get_in, close_in, turn_in, settle_in, show_in, worded, shaped};
+ghost use Rattle.ipcz_script.specs.Shapes.{values_of, number_within, name_in, new_name_in, names_from, names_in, open_in, put_of, put_in, get_in, close_in, turn_in, settle_in, show_in, command_named, command_in};
 
 use crate::command::Command;
 use crate::opened_names::OpenedNames;
@@ -231,7 +231,7 @@ fn show_in(args: &[Value]) -> Option<Command>
 
 // ---- whole commands
 
-fn worded(
+fn command_named(
     alloc: Global,
     nodes: u8,
     opened: &OpenedNames,
@@ -240,7 +240,7 @@ fn worded(
 ) -> Result<Option<Command>, AllocError>
     requires { 0 < nodes }
     ensures { IfOk result (λ command.
-        command ≡ worded nodes (contains opened.now) word.now (map view args.now)) }
+        command ≡ command_named nodes (contains opened.now) word.now (map view args.now)) }
 {
     if word == "open" {
         open_in(alloc, nodes, opened, args)
@@ -262,7 +262,7 @@ fn worded(
 }
 
 /// The command that a list of JSON values is, where there are so many nodes and these names were opened before it.
-pub fn shaped(
+pub fn command_in(
     alloc: Global,
     nodes: u8,
     opened: &OpenedNames,
@@ -270,7 +270,7 @@ pub fn shaped(
 ) -> Result<Option<Command>, AllocError>
     requires some_node { 0 < nodes }
     ensures command { IfOk result (λ command.
-        command ≡ shaped nodes (contains opened.now) (map view values.now)) }
+        command ≡ command_in nodes (contains opened.now) (map view values.now)) }
 {
     let [word, args @ ..] = values else {
         return Ok(None);
@@ -278,5 +278,5 @@ pub fn shaped(
     let Some(word) = word.as_str() else {
         return Ok(None);
     };
-    worded(alloc, nodes, opened, word, args)
+    command_named(alloc, nodes, opened, word, args)
 }
