@@ -11,7 +11,7 @@ use Rattle.ipcz_base.specs.declared.link_end.LinkEnd.{LinkEnd}
 use Rattle.ipcz_base.specs.Links.{same_link, is_at, has_link}
 use Rattle.ipcz_base.specs.Sides.{same_side}
 use Rattle.ipcz_router.specs.declared.filing.Filing.{Filing}
-use Rattle.ipcz_router.specs.Filings.{is_under, gained_by, gained}
+use Rattle.ipcz_router.specs.Filings.{is_under, gained_by, link_gain}
 use Rattle.std.proofs.Common.{◌⊎◌, inl, inr, Result, Ok, Err, subst}
 use Rattle.std.specs.Prelude.{OnOk, OnErr, IfErr}
 use Rattle.std.specs.Ordering.{nat_cmp}
@@ -188,7 +188,7 @@ at_serial P b serial s is same = ap P (sym (number_is serial s same)) ∙ is
 
 -- a router that is filed under at most so many links more than it was, and is no terminal that it wasn't
 pub record FilesWithin (more : ℕ) (r w : Router) : Type 0 where
-  pub few : gained (filing_of r) (filing_of w) ≤ more
+  pub few : link_gain (filing_of r) (filing_of w) ≤ more
   pub closes : is_open_terminal r ≡ false → is_open_terminal w ≡ false
   pub stays : w.end ≡ r.end
 
@@ -248,7 +248,7 @@ at_most_one f (Some e) = go (is_under f e.link e.side)
     go true = omega arith
     go false = omega arith
 
-pub same_links : (f : Filing) → gained f f ≡ 0
+pub same_links : (f : Filing) → link_gain f f ≡ 0
 same_links f = omega (arith, own_outward f, own_outward_decaying f, own_inward f, own_inward_decaying f)
 
 -- a router whose edges, end, inward edge and closing stay
@@ -344,8 +344,8 @@ left_after P Q (Err e) h = h.1
 module _ (m : FinMap nat_cmp Router) (s : ℕ) (r w : Router) (was is : Filing) (taken : ℕ) (fits : FilesWithin taken r w) (links to_links : RoomySet ((LinkId × Side) × ℕ)) (terminals to_terminals : RoomySet (End × ℕ)) (flagged to_flagged : RoomySet ℕ)
     (room more less in_routers : ℕ) (here : get m s ≡ Some r) (was_is : was ≡ filing_of r) (is_is : is ≡ filing_of w) (enough : less + taken ≤ more)
     (held : AreFiled m links.members terminals.members flagged.members × HaveRoom m room more in_routers links.room terminals.room flagged.room) where
-  few_links : gained was is ≤ taken
-  few_links = subst (λ f. gained f is ≤ taken) (sym was_is) (subst (λ f. gained (filing_of r) f ≤ taken) (sym is_is) fits.few)
+  few_links : link_gain was is ≤ taken
+  few_links = subst (λ f. link_gain f is ≤ taken) (sym was_is) (subst (λ f. link_gain (filing_of r) f ≤ taken) (sym is_is) fits.few)
 
   -- the router can be filed anew
   pub can_change : CanRefile links terminals flagged s was is

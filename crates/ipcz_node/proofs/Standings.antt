@@ -4,7 +4,7 @@ use Rattle.std.specs.Prelude.{option_map, is_none}
 use Rattle.ipcz_base.specs.declared.side.Side.{Side}
 use Rattle.ipcz_base.specs.Links.{central_end}
 use Rattle.ipcz_edge.specs.Edge.{Edge, set_length_to, set_length_from}
-use Rattle.ipcz_router.specs.Router.{Router, is_terminal, is_open_terminal, roused}
+use Rattle.ipcz_router.specs.Router.{Router, is_terminal, is_open_terminal, rouse}
 use Rattle.ipcz_router.specs.Calls.{take_item}
 use Rattle.ipcz_router.specs.Closing.{close_router}
 use Rattle.ipcz_router.specs.Filings.{filing_of}
@@ -19,7 +19,7 @@ accept_bypass_standing r sender side fresh length = record {
 }
 
 -- a router whose links stay
-pub rouse_standing : (r : Router) → FilesWithin 0 r (roused r)
+pub rouse_standing : (r : Router) → FilesWithin 0 r (rouse r)
 rouse_standing r = record { few = omega (arith, same_links (filing_of r)); closes = λ h. h; stays = refl }
 
 pub proxy_will_stop_standing : (r : Router) (in_length : ℕ) → FilesWithin 0 r (proxy_will_stop r in_length)

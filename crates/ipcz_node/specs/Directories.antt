@@ -21,7 +21,7 @@ use Rattle.ipcz_router.specs.Router.{Router, router_has}
 use Rattle.ipcz_node.specs.Node.{is_terminal_of}
 use Rattle.ipcz_base.specs.Ends.{same_end}
 use Rattle.ipcz_router.specs.declared.filing.Filing.{Filing}
-use Rattle.ipcz_router.specs.Filings.{is_under, gained}
+use Rattle.ipcz_router.specs.Filings.{is_under, link_gain}
 use Rattle.ipcz_node.specs.SortedSets.{RoomySet, has}
 use Rattle.ipcz_node.specs.Indexes.{is_filed}
 
@@ -85,7 +85,7 @@ pub record CanRefile (links : RoomySet ((LinkId × Side) × ℕ)) (terminals : R
   pub by_link : (link : LinkId) (side : Side) → is_filed link_end_cmp links.members (link, side) serial ≡ is_under was link side
   pub by_end : (end : End) → is_filed end_cmp terminals.members end serial ≡ (was.is_open && same_end was.end end)
   pub by_flag : has nat_cmp flagged.members serial ≡ was.flagged
-  pub link_room : gained was is ≤ links.room
+  pub link_room : link_gain was is ≤ links.room
   pub flag_room : was.flagged ≡ false → 0 < flagged.room
   pub closes : was.is_open ≡ false → is.is_open ≡ false
   pub stays : is.end ≡ was.end
@@ -95,6 +95,6 @@ pub record AreRefiled (links new_links : RoomySet ((LinkId × Side) × ℕ)) (te
   pub by_link : (link : LinkId) (side : Side) (s : ℕ) → is_filed link_end_cmp new_links.members (link, side) s ≡ (if serial == s then is_under is link side else is_filed link_end_cmp links.members (link, side) s)
   pub by_end : (end : End) (s : ℕ) → is_filed end_cmp new_terminals.members end s ≡ (if serial == s then is.is_open && same_end is.end end else is_filed end_cmp terminals.members end s)
   pub by_flag : (s : ℕ) → has nat_cmp new_flagged.members s ≡ (if serial == s then is.flagged else has nat_cmp flagged.members s)
-  pub link_room : links.room ≤ new_links.room + gained was is
+  pub link_room : links.room ≤ new_links.room + link_gain was is
   pub end_room : terminals.room ≤ new_terminals.room
   pub flag_room : new_flagged.room + (if is.flagged then 1 else 0) ≡ flagged.room + (if was.flagged then 1 else 0)

@@ -15,7 +15,7 @@ use Rattle.ipcz_base.specs.Items.{ends_in}
 use Rattle.ipcz_base.specs.Limits.{last_number, has_serials}
 use Rattle.ipcz_base.specs.Links.{same_link}
 use Rattle.ipcz_router.specs.declared.sending.Sending.{Sending}
-use Rattle.ipcz_router.specs.Router.{Router, outward_has, inward_edge, from_descriptor, roused}
+use Rattle.ipcz_router.specs.Router.{Router, outward_has, inward_edge, from_descriptor, rouse}
 use Rattle.ipcz_router.specs.Calls.{has_place_for, accept}
 use Rattle.ipcz_router.specs.Bypass.{fits_bypass_peer, bypass_peer, accept_message, fits_accept_bypass, accept_bypass, stop_message, fits_stop_proxying, stop_proxying, will_stop_message, fits_proxy_will_stop, proxy_will_stop}
 use Rattle.ipcz_node.specs.Node.{Node, Found, link_router, is_named, on_found, with_router, add_router, push_out, add_stray}
@@ -108,7 +108,7 @@ handle n sender (messages.StopProxying old side in_length out_length) =
     on_found n (link_router n (Central old) side) (λ s r. tell (with_router n s (stop_proxying r in_length out_length)) (will_stop_message (inward_edge r).decaying in_length))
 handle n sender (messages.ProxyWillStop link side in_length) =
     on_found n (link_router n link side) (λ s r. with_router n s (proxy_will_stop r in_length))
-handle n sender (messages.Flush link side) = on_found n (link_router n link side) (λ s r. with_router n s (roused r))
+handle n sender (messages.Flush link side) = on_found n (link_router n link side) (λ s r. with_router n s (rouse r))
 
 -- how many serials of routers a message takes
 unfoldable pub serials_in : Message → ℕ

@@ -20,8 +20,8 @@ abbrev pub put_router : RoutersValue → ℕ → RoomyRouter → RoutersValue
 put_router v serial r = record v { routers = insert v.routers serial r.router; out_rooms = insert v.out_rooms serial r.out_room }
 
 -- the routers with one more under the next serial
-abbrev pub added : RoutersValue → RoomyRouter → RoutersValue
-added v r = record {
+abbrev pub routers_with : RoutersValue → RoomyRouter → RoutersValue
+routers_with v r = record {
   routers = insert v.routers v.next r.router;
   out_rooms = insert v.out_rooms v.next r.out_room;
   next = v.next + 1;

@@ -2,7 +2,7 @@ ghost use Rattle.std.specs.Prelude.{◌≡◌, ◌+◌, ◌<◌, ◌≤◌, ◌-
 ghost use Rattle.std.specs.Borrow.{sem};
 ghost use Rattle.std.specs.Ordering.{nat_cmp};
 ghost use Rattle.std.specs.FinMap.{find, get, remove, empty, len};
-ghost use Rattle.ipcz_node.specs.Rooms.{RoutersValue, added};
+ghost use Rattle.ipcz_node.specs.Rooms.{RoutersValue, routers_with};
 ghost use Rattle.ipcz_node.specs.Serials.{key_at, AreRising};
 
 use ipcz_router::Router;
@@ -98,7 +98,7 @@ impl Routers {
     pub fn add(&mut self, router: Router)
         requires room { 0 < self.old.room }
         requires serials { self.old.next < 2 ^ 64 - 1 }
-        ensures { self.new ≡ added self.old router }
+        ensures { self.new ≡ routers_with self.old router }
     {
         self.entries.push_reserved((self.next, router));
         self.next += 1;

@@ -10,7 +10,7 @@ use Rattle.ipcz_base.specs.Sides.{opposite}
 use Rattle.ipcz_base.specs.Links.{has_link, is_central, central_end}
 use Rattle.ipcz_edge.specs.Edge.{Edge, edge_decays, begin_decay, set_primary, set_length_to, set_length_from}
 use Rattle.ipcz_router.specs.declared.sending.Sending.{Sending}
-use Rattle.ipcz_router.specs.Router.{Router, inward_edge, roused}
+use Rattle.ipcz_router.specs.Router.{Router, inward_edge, rouse}
 
 -- the router with another outward edge, whose primary link is another
 abbrev pub relink : Router → Edge → Router
@@ -60,7 +60,7 @@ fits_stop_proxying r old side =
 -- the proxy learns its lengths
 abbrev pub stop_proxying : Router → ℕ → ℕ → Router
 stop_proxying r in_length out_length =
-    roused (record r {
+    rouse (record r {
       outward = set_length_from (set_length_to r.outward out_length) in_length;
       inward = option_map (λ e. set_length_from (set_length_to e in_length) out_length) r.inward;
     })
@@ -76,4 +76,4 @@ fits_proxy_will_stop r link side = has_link r.outward.decaying link side && is_n
 
 -- the router inward learns its length
 abbrev pub proxy_will_stop : Router → ℕ → Router
-proxy_will_stop r in_length = roused (record r { outward = set_length_from r.outward in_length })
+proxy_will_stop r in_length = rouse (record r { outward = set_length_from r.outward in_length })

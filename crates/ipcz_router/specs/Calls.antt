@@ -13,7 +13,7 @@ use Rattle.ipcz_base.specs.Items.{is_mark}
 use Rattle.ipcz_base.specs.Limits.{last_number, no_number}
 use Rattle.ipcz_edge.specs.Edge.{edge_of}
 use Rattle.ipcz_seq.specs.Queue.{push_at, pop_front, current_item, reach, has_place, push_refusal}
-use Rattle.ipcz_router.specs.Router.{Router, is_terminal, outward_has, inward_has, roused}
+use Rattle.ipcz_router.specs.Router.{Router, is_terminal, outward_has, inward_has, rouse}
 
 -- the number that the next item put gets
 abbrev pub next_number : Router → ℕ
@@ -21,7 +21,7 @@ next_number r = reach r.out_queue
 
 -- the item is put into the out queue
 abbrev pub put_item : Router → Item → Router
-put_item r item = roused (record r { out_queue = push_at r.out_queue (next_number r) item })
+put_item r item = rouse (record r { out_queue = push_at r.out_queue (next_number r) item })
 
 -- why a put is refused, memory aside
 abbrev pub router_put_refusal : Router → Option Refusal
@@ -48,11 +48,11 @@ has_place_for r from_outward n = nat_lt n no_number && (if from_outward then has
 -- an item comes over a link of the outward edge; a terminal sees the mark at once, even behind a gap
 abbrev pub accept_from_outward : Router → ℕ → Item → Router
 accept_from_outward r n item =
-    roused (record r { in_queue = push_at r.in_queue n item; mark_seen = r.mark_seen || (is_terminal r && is_mark item) })
+    rouse (record r { in_queue = push_at r.in_queue n item; mark_seen = r.mark_seen || (is_terminal r && is_mark item) })
 
 -- an item comes over a link of the inward edge
 abbrev pub accept_from_inward : Router → ℕ → Item → Router
-accept_from_inward r n item = roused (record r { out_queue = push_at r.out_queue n item })
+accept_from_inward r n item = rouse (record r { out_queue = push_at r.out_queue n item })
 
 -- an item comes
 unfoldable pub accept : Router → Bool → ℕ → Item → Router
@@ -68,7 +68,7 @@ accept_refusal r link side n =
 
 -- the terminal becomes a proxy
 abbrev pub extend : Router → LinkEnd → Router
-extend r link = roused (record r { inward = Some (edge_of link) })
+extend r link = rouse (record r { inward = Some (edge_of link) })
 
 -- what goes with the item that moves the terminal
 abbrev pub descriptor_of : Router → LinkId → Descriptor

@@ -130,5 +130,5 @@ abbrev pub from_descriptor : Descriptor → ℕ → Router
 from_descriptor d sender = new_terminal d.end (moved_link d sender) d.next_out d.next_in false
 
 -- the router is to be looked at, and may try again
-abbrev pub roused : Router → Router
-roused r = record r { flagged = true; tried = false }
+abbrev pub rouse : Router → Router
+rouse r = record r { flagged = true; tried = false }

@@ -2,7 +2,7 @@ ghost use Rattle.std.specs.Prelude.{◌≡◌, ◌<◌, ◌≤◌, true, false, 
 ghost use Rattle.ipcz_base.specs.Limits.{last_number, no_number};
 ghost use Rattle.ipcz_seq.specs.Queue.{current_item};
 ghost use Rattle.ipcz_router.specs.Router.{is_terminal, is_open_terminal, inward_has, router_has, new_terminal, terminal};
-ghost use Rattle.ipcz_router.specs.Router.{from_descriptor, roused, word_side};
+ghost use Rattle.ipcz_router.specs.Router.{from_descriptor, rouse, word_side};
 ghost use Rattle.ipcz_router.specs.RoomyRouters.{KeepsRoom, LeavesRoom};
 ghost use Rattle.ipcz_router.specs.Filings.{filing_of};
 ghost use Rattle.ipcz_router.specs.Acts.{pop_out, pop_in};
@@ -251,7 +251,7 @@ impl Router {
 
     /// Has it looked at again, as a Flush asks, and lets it try for the lock of its link again.
     pub fn rouse(&mut self)
-        ensures router { self.new.router ≡ roused self.old.router }
+        ensures router { self.new.router ≡ rouse self.old.router }
         ensures room { KeepsRoom self.old self.new }
     {
         self.flagged = true;

@@ -10,7 +10,7 @@ use Rattle.ipcz_base.specs.declared.message.Message.TheVariants as messages
 use Rattle.ipcz_base.specs.Sides.{opposite}
 use Rattle.ipcz_word.specs.SideSets.{has}
 use Rattle.ipcz_word.specs.Word.{Plan, Locks, Waits, Refuses, mark, wake, lock, wait, unlock}
-use Rattle.ipcz_router.specs.Router.{Router, primary_word, roused}
+use Rattle.ipcz_router.specs.Router.{Router, primary_word, rouse}
 use Rattle.ipcz_router.specs.Bypass.{bypass_peer, accept_message, accept_bypass, stop_proxying, proxy_will_stop}
 use Rattle.ipcz_router.specs.Acts.{pop_in, rest}
 use Rattle.ipcz_router.specs.ActEffects.{mark_side, wake_other, take_lock, fail_lock, drop_lock, claim_word, run_dry, begin_bypass}
@@ -121,4 +121,4 @@ will_stop_act w from k r in_length = free (set_router w k (proxy_will_stop r in_
 
 -- a router needn't wait any longer
 abbrev pub flush_act : World → ℕ → Key → Router → World
-flush_act w from k r = free (set_router w k (roused r)) from k.node
+flush_act w from k r = free (set_router w k (rouse r)) from k.node

@@ -4,7 +4,7 @@ ghost use Rattle.std.specs.Prelude.{◌≡◌};
 ghost use Rattle.ipcz_base.specs.Sides.{opposite};
 ghost use Rattle.ipcz_word.specs.Layout.{IsWord, word_of_bits, bits_of};
 ghost use Rattle.ipcz_word.specs.SideSets.{has};
-ghost use Rattle.ipcz_word.specs.Word.{mark, wake, unlock, plan_of, planned};
+ghost use Rattle.ipcz_word.specs.Word.{mark, wake, unlock, plan_of, word_by_plan};
 ghost use Rattle.ipcz_world.specs.WordAnswers.{word_answer, word_after, try_answer};
 
 use ipcz_base::Side;
@@ -101,11 +101,11 @@ fn answer_unlock(word: u64, side: Side) -> Answered
 }
 
 // The side tries for the lock.
-#[tactic(auto, unfolding(crate::specs::WordAnswers::try_answer, ipcz_word::specs::Word::planned, ipcz_word::specs::Layout::plan_bits, ipcz_word::specs::Word::plan_of), using(crate::proofs::code::WordNumbers::spelled))]
+#[tactic(auto, unfolding(crate::specs::WordAnswers::try_answer, ipcz_word::specs::Word::word_by_plan, ipcz_word::specs::Layout::plan_bits, ipcz_word::specs::Word::plan_of), using(crate::proofs::code::WordNumbers::spelled))]
 fn answer_lock(word: u64, side: Side) -> Answered
     requires { IsWord word }
     ensures answer { result.answer ≡ try_answer (word_of_bits word) side (plan_of (word_of_bits word) side) }
-    ensures word { word_of_bits result.word ≡ planned (word_of_bits word) side (plan_of (word_of_bits word) side) }
+    ensures word { word_of_bits result.word ≡ word_by_plan (word_of_bits word) side (plan_of (word_of_bits word) side) }
     ensures valid { IsWord result.word }
 {
     match ipcz_word::try_lock(word, side) {

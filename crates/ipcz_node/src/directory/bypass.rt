@@ -13,8 +13,8 @@ ghost use Rattle.ipcz_router.specs.Calls.{next_number, put_item, router_put_refu
 ghost use Rattle.ipcz_router.specs.ActTable.{may_take};
 ghost use Rattle.ipcz_router.specs.ActEffects.{IsAnswerOf, IsBelowNoNumber, apply, output_of};
 ghost use Rattle.ipcz_router.specs.Bypass.{fits_bypass_peer, bypass_peer, accept_message, fits_accept_bypass, accept_bypass, stop_message, fits_stop_proxying, stop_proxying, will_stop_message, fits_proxy_will_stop, proxy_will_stop};
-ghost use Rattle.ipcz_router.specs.Router.{inward_edge, roused};
-ghost use Rattle.ipcz_router.specs.Filings.{is_under, gained_by, gained};
+ghost use Rattle.ipcz_router.specs.Router.{inward_edge, rouse};
+ghost use Rattle.ipcz_router.specs.Filings.{is_under, gained_by, link_gain};
 ghost use Rattle.ipcz_node.specs.Node.{is_terminal_of};
 ghost use Rattle.ipcz_node.specs.Finding.{IsFound};
 ghost use Rattle.ipcz_node.specs.Rooms.{FiledRouters, put_filed, link_filed, add_filed, drop_filed};
@@ -143,7 +143,7 @@ impl Directory {
     /// Has the router of the serial looked at again, as `Router::rouse`.
     pub fn rouse(&mut self, serial: u64)
         requires { is_some (get self.old.filed.routers serial) ≡ true }
-        ensures router { (r : RouterRecord) → get self.old.filed.routers serial ≡ Some r → self.new.filed ≡ put_filed self.old.filed serial (roused r) }
+        ensures router { (r : RouterRecord) → get self.old.filed.routers serial ≡ Some r → self.new.filed ≡ put_filed self.old.filed serial (rouse r) }
     {
         let router = self.routers.router_mut(serial);
         let was = router.filing();

@@ -13,7 +13,7 @@ ghost use Rattle.ipcz_router.specs.Calls.{next_number, put_item, router_put_refu
 ghost use Rattle.ipcz_router.specs.ActTable.{may_take};
 ghost use Rattle.ipcz_router.specs.ActEffects.{IsAnswerOf, IsBelowNoNumber, apply, output_of};
 ghost use Rattle.ipcz_router.specs.Bypass.{fits_bypass_peer, bypass_peer, accept_message};
-ghost use Rattle.ipcz_router.specs.Filings.{is_under, gained_by, gained};
+ghost use Rattle.ipcz_router.specs.Filings.{is_under, gained_by, link_gain};
 ghost use Rattle.ipcz_node.specs.Node.{is_terminal_of, new_end};
 ghost use Rattle.std.specs.Prelude.{[], ◌∷◌};
 ghost use Rattle.ipcz_base.specs.Ends.{end_at};

@@ -13,7 +13,7 @@ ghost use Rattle.ipcz_router.specs.Calls.{next_number, put_item, router_put_refu
 ghost use Rattle.ipcz_router.specs.ActTable.{may_take};
 ghost use Rattle.ipcz_router.specs.ActEffects.{IsAnswerOf, IsBelowNoNumber, apply, output_of};
 ghost use Rattle.ipcz_router.specs.Bypass.{fits_bypass_peer, bypass_peer, accept_message};
-ghost use Rattle.ipcz_router.specs.Filings.{is_under, gained_by, gained};
+ghost use Rattle.ipcz_router.specs.Filings.{is_under, gained_by, link_gain};
 ghost use Rattle.ipcz_node.specs.Node.{is_terminal_of};
 ghost use Rattle.ipcz_node.specs.Finding.{IsFound};
 ghost use Rattle.ipcz_node.specs.Rooms.{FiledRouters, put_filed, link_filed, add_filed, drop_filed};
@@ -62,11 +62,11 @@ fn close_end(terminals: &mut Index<End>, serial: u64, was: &Filing, is: &Filing)
 
 // The links alone: those that are kept stay, so that room is wanted for new ones alone.
 fn relink(links: &mut Index<(LinkId, Side)>, serial: u64, was: &Filing, is: &Filing)
-    requires room { gained was.now is.now ≤ links.old.room }
+    requires room { link_gain was.now is.now ≤ links.old.room }
     requires filed { (link : LinkId) (side : Side) → is_filed link_end_cmp links.old.members (link, side) serial ≡ is_under was.now link side }
     ensures members { (link : LinkId) (side : Side) (s : ℕ) → is_filed link_end_cmp links.new.members (link, side) s
         ≡ (if serial == s then is_under is.now link side else is_filed link_end_cmp links.old.members (link, side) s) }
-    ensures room { links.old.room ≤ links.new.room + gained was.now is.now }
+    ensures room { links.old.room ≤ links.new.room + link_gain was.now is.now }
 {
     drop_link(links, serial, was.outward, is);
     drop_link(links, serial, was.outward_decaying, is);

@@ -1,7 +1,7 @@
 ghost use Rattle.std.specs.Prelude.{◌≡◌, ◌<◌, ◌&&◌, not, nat_lt, true, Some, is_some, OnOk, OnErr, IsSomeAnd};
 ghost use Rattle.ipcz_base.specs.Indexed.{place_at};
 ghost use Rattle.ipcz_base.specs.declared.link_id.LinkId.TheVariants.{Central};
-ghost use Rattle.ipcz_router.specs.Router.{Router as RouterRecord, inward_edge, roused};
+ghost use Rattle.ipcz_router.specs.Router.{Router as RouterRecord, inward_edge, rouse};
 ghost use Rattle.ipcz_router.specs.Bypass.{accept_bypass, accept_message, bypass_peer, fits_accept_bypass, fits_bypass_peer, fits_proxy_will_stop, fits_stop_proxying, proxy_will_stop, stop_message, stop_proxying, will_stop_message};
 ghost use Rattle.ipcz_node.specs.Node.{is_named, router_in, with_router};
 ghost use Rattle.ipcz_node.specs.Hands.{fits, handle, tell};

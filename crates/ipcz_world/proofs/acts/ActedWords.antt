@@ -2,7 +2,7 @@
 use Rattle.std.specs.Prelude.{◌≡◌, ◌<◌, ◌≤◌, ℕ, true, false, nat_lt, Some, refl}
 use Rattle.std.proofs.Common.{arith}
 use Rattle.std.proofs.lemmas.Bool.Decides.{nat_tests}
-use Rattle.ipcz_word.specs.Word.{Plan, Locks, Waits, Refuses, plan_of, planned}
+use Rattle.ipcz_word.specs.Word.{Plan, Locks, Waits, Refuses, plan_of, word_by_plan}
 use Rattle.ipcz_router.specs.Router.{Router, primary_word}
 use Rattle.ipcz_router.specs.ActEffects.{apply, output_of}
 use Rattle.ipcz_router.specs.declared.act.RouterAct.TheVariants as acts
@@ -29,7 +29,7 @@ acted-unlock w n s i r here word = let inside : router_in (node_at w n) s ≡ So
 pub acted-lock : (w : World) (n s i : ℕ) (r : Router) (plan : Plan) → router_at w (record { node = n; serial = s }) ≡ Some r →
     primary_word r ≡ Some i → plan_of (word_at w i) r.end.side ≡ plan →
     after_act w n (OfRouter s acts.Lock) ≡ lock_act w (record { node = n; serial = s }) r i plan
-unfolding after_act after_router_act touch touch_word word_after answer_of link_answer word_answer try_answer planned commit on_router
+unfolding after_act after_router_act touch touch_word word_after answer_of link_answer word_answer try_answer word_by_plan commit on_router
     commit_router keep_or_drop apply output_of send router_at set_word set_node
 acted-lock w n s i r Locks here word is = let inside : router_in (node_at w n) s ≡ Some r = here in rw (here, inside, word, is) refl
 acted-lock w n s i r Waits here word is = let inside : router_in (node_at w n) s ≡ Some r = here in rw (here, inside, word, is) refl

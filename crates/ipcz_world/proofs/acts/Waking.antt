@@ -14,7 +14,7 @@ use Rattle.ipcz_base.specs.Sides.{opposite}
 use Rattle.ipcz_word.specs.SideSets.{has}
 use Rattle.ipcz_base.specs.Links.{is_central, word_of}
 use Rattle.ipcz_word.specs.Word.{Word, wake}
-use Rattle.ipcz_router.specs.Router.{Router, primary_word, roused}
+use Rattle.ipcz_router.specs.Router.{Router, primary_word, rouse}
 use Rattle.ipcz_router.specs.ActTable.{is_possible}
 use Rattle.ipcz_router.specs.ActEffects.{wake_other, output_of, apply, message_output, flush_message}
 use Rattle.ipcz_router.specs.declared.act.Applied.TheVariants as sends
@@ -361,7 +361,7 @@ inv-flush w b g from k r l s law can = inv-flush_lost u b g from k.node l s rous
     (((set-router w k y).nodes k.node).hand ∙ can.hand)
   where
     y : Router
-    y = roused r
+    y = rouse r
 
     u : World
     u = set_router w k y
@@ -376,7 +376,7 @@ inv-flush w b g from k r l s law can = inv-flush_lost u b g from k.node l s rous
 
 -- a node's hand of a Flush that finds a router
 found-flush : (n : Node) (from : ℕ) (l : LinkId) (s : Side) (f : Found) → n.hand ≡ Some from → link_router n l s ≡ Some f →
-    deliver n from (messages.Flush l s) ≡ record (with_router n f.serial (roused f.router)) { hand = None }
+    deliver n from (messages.Flush l s) ≡ record (with_router n f.serial (rouse f.router)) { hand = None }
 unfolding deliver handle fits on_found is_hand_of
 found-flush n from l s f hand found = let same : nat_eq from from ≡ true = grind (arith, nat_tests) in rw (found, hand, same) refl
 
@@ -407,7 +407,7 @@ pub acted-flush : (w : World) (n from : ℕ) (l : LinkId) (s : Side) (f : Found)
 acted-flush w n from l s f in_hand hand found =
     handed-is w n from (messages.Flush l s) in_hand ∙ ap (λ x. set_mail (set_node w n x) (way w from n) mails.Empty)
     (found-flush (node_at w n) from l s f hand found) ∙ sym (free-set_node w n from
-    (with_router (node_at w n) f.serial (roused f.router)))
+    (with_router (node_at w n) f.serial (rouse f.router)))
 
 pub acted-flush_lost : (w : World) (n from : ℕ) (l : LinkId) (s : Side) → mail_at w (way w from n) ≡ mails.Hand (messages.Flush l s) →
     (node_at w n).hand ≡ Some from → link_router (node_at w n) l s ≡ None → after_act w n (Hand from) ≡ free w from n

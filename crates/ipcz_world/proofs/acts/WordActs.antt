@@ -7,7 +7,7 @@ use Rattle.ipcz_base.specs.declared.side.Side.TheVariants.{A, B}
 use Rattle.ipcz_base.specs.declared.link_id.LinkId.TheVariants.{Central}
 use Rattle.ipcz_base.specs.Sides.{opposite}
 use Rattle.ipcz_word.specs.SideSets.{has, with, without, sides}
-use Rattle.ipcz_word.specs.Word.{Word, Plan, Locks, Waits, Refuses, plan_of, planned, is_held, mark, lock, wait, unlock}
+use Rattle.ipcz_word.specs.Word.{Word, Plan, Locks, Waits, Refuses, plan_of, is_held, mark, lock, wait, unlock}
 use Rattle.ipcz_router.specs.Router.{Router}
 use Rattle.ipcz_router.specs.ActTable.{is_possible}
 use Rattle.ipcz_router.specs.ActEffects.{mark_side, take_lock, fail_lock, drop_lock}

@@ -13,7 +13,7 @@ use Rattle.ipcz_base.specs.declared.message.Message.TheVariants as messages
 use Rattle.ipcz_base.specs.Sides.{opposite}
 use Rattle.ipcz_base.specs.Links.{has_link, is_central}
 use Rattle.ipcz_edge.specs.Edge.{edge_decays}
-use Rattle.ipcz_router.specs.Router.{Router, router_has, inward_edge, roused}
+use Rattle.ipcz_router.specs.Router.{Router, router_has, inward_edge, rouse}
 use Rattle.ipcz_router.specs.Bypass.{bypass_peer, accept_message, accept_bypass, stop_message, stop_proxying, will_stop_message}
 use Rattle.ipcz_router.specs.Bypass.{proxy_will_stop, decays_unknown}
 use Rattle.ipcz_node.specs.Node.{Found, link_router, is_named, on_found, with_router, push_out}
@@ -350,7 +350,7 @@ module _ (w : World) (b : Books) (g : Records) (law : Inv w b g) where
       after_hand w n from (Some (messages.Flush link side)) ≡ flush_act w from (record { node = n; serial = a.found.serial }) a.found.router
   unfolding handle on_found fits
   flush_is n from link side is a = handed-is w n from (messages.Flush link side)
-      (with_router (node_at w n) a.found.serial (roused a.found.router)) refl (rw (a.is_found) refl) is.hand
+      (with_router (node_at w n) a.found.serial (rouse a.found.router)) refl (rw (a.is_found) refl) is.hand
 
   pub dropped_is : (n from : ℕ) (link : LinkId) (side : Side) → IsInHand w n from (messages.Flush link side) →
       link_router (node_at w n) link side ≡ None → after_hand w n from (Some (messages.Flush link side)) ≡ free w from n

@@ -20,7 +20,7 @@ use Rattle.ipcz_base.specs.Ends.{end_at}
 use Rattle.ipcz_base.specs.Items.{ends_in}
 use Rattle.ipcz_base.specs.Sides.{opposite}
 use Rattle.ipcz_edge.specs.Edge.{Edge, choose, is_short_of, edge_decays}
-use Rattle.ipcz_router.specs.Router.{Router, is_terminal, inward_edge, roused, from_descriptor}
+use Rattle.ipcz_router.specs.Router.{Router, is_terminal, inward_edge, rouse, from_descriptor}
 use Rattle.ipcz_router.specs.declared.sending.Sending.{Sending}
 use Rattle.ipcz_router.specs.Bypass.{bypass_peer, accept_message, accept_bypass, stop_proxying, proxy_will_stop, stop_message, will_stop_message}
 use Rattle.ipcz_router.specs.Acts.{way_out, way_in}
@@ -225,7 +225,7 @@ handle-serial n sender (messages.ProxyWillStop link side in_length) law = go (li
     go (Some f) = law
 handle-serial n sender (messages.Flush link side) law = go (link_router n link side)
   where
-    go : (o : Option Found) → HasNone (on_found n o (λ s r. with_router n s (roused r)))
+    go : (o : Option Found) → HasNone (on_found n o (λ s r. with_router n s (rouse r)))
     go None = law
     go (Some f) = law
 

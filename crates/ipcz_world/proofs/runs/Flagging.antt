@@ -22,7 +22,7 @@ use Rattle.ipcz_base.specs.declared.message.Message.TheVariants as messages
 use Rattle.ipcz_base.specs.Links.{is_central, word_of}
 use Rattle.ipcz_edge.specs.Edge.{Edge, choose, can_finish}
 use Rattle.ipcz_seq.specs.Queue.{current_item}
-use Rattle.ipcz_router.specs.Router.{Router, is_terminal, inward_edge, outward_has, new_terminal, moved_link, from_descriptor, roused}
+use Rattle.ipcz_router.specs.Router.{Router, is_terminal, inward_edge, outward_has, new_terminal, moved_link, from_descriptor, rouse}
 use Rattle.ipcz_router.specs.Calls.{accept}
 use Rattle.ipcz_router.specs.Closing.{close_router}
 use Rattle.ipcz_router.specs.Calls.{take_item, put_item, item_refusal}
@@ -460,7 +460,7 @@ awake-handle n sender (messages.ProxyWillStop link side in_length) law is = go (
     go (Some f) = awake-with n f.serial _ law (awake-flagged _ refl)
 awake-handle n sender (messages.Flush link side) law is = go (link_router n link side)
   where
-    go : (o : Option Found) → AreAwake (on_found n o (λ s r. with_router n s (roused r)))
+    go : (o : Option Found) → AreAwake (on_found n o (λ s r. with_router n s (rouse r)))
     go None = law
     go (Some f) = awake-with n f.serial _ law (awake-flagged _ refl)
 

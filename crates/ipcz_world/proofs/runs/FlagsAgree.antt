@@ -19,7 +19,7 @@ use Rattle.ipcz_base.specs.declared.message.Message.{Message}
 use Rattle.ipcz_base.specs.declared.message.Message.TheVariants as messages
 use Rattle.ipcz_base.specs.Indexed.{place_at}
 use Rattle.ipcz_word.specs.Word.{Plan, Locks, Waits, Refuses, plan_of}
-use Rattle.ipcz_router.specs.Router.{Router, inward_edge, outward_has, primary_word, from_descriptor, roused}
+use Rattle.ipcz_router.specs.Router.{Router, inward_edge, outward_has, primary_word, from_descriptor, rouse}
 use Rattle.ipcz_router.specs.Calls.{accept}
 use Rattle.ipcz_router.specs.Closing.{close_router}
 use Rattle.ipcz_router.specs.Calls.{take_item, put_item}
@@ -309,9 +309,9 @@ agreed-handle n sender (messages.ProxyWillStop link side in_length) law = go (li
         (agreed-roused (law f.serial f.router (found_tells n _ f h).0))
 agreed-handle n sender (messages.Flush link side) law = go (link_router n link side) refl
   where
-    go : (o : Option Found) → link_router n link side ≡ o → AreAgreed (on_found n o (λ s r. with_router n s (roused r)))
+    go : (o : Option Found) → link_router n link side ≡ o → AreAgreed (on_found n o (λ s r. with_router n s (rouse r)))
     go None h = law
-    go (Some f) h = agreed-with n f.serial (roused f.router) law (agreed-roused (law f.serial f.router (found_tells n _ f h).0))
+    go (Some f) h = agreed-with n f.serial (rouse f.router) law (agreed-roused (law f.serial f.router (found_tells n _ f h).0))
 
 agreed-deliver : (n : Node) (sender : ℕ) (m : Message) → AreAgreed n → AreAgreed (deliver n sender m)
 unfolding deliver

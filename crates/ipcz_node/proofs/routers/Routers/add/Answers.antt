@@ -1,7 +1,7 @@
 use Rattle.std.proofs.Common.{◌≡◌, ◌+◌, ◌-◌, ap, sym, subst, ◌∙◌, arith}
 use Rattle.std.specs.Prelude.{vec_capacity, vec_len}
 use Rattle.ipcz_node.specs.Serials.{AreRising, map_by}
-use Rattle.ipcz_node.specs.Rooms.{added}
+use Rattle.ipcz_node.specs.Rooms.{routers_with}
 use Rattle.ipcz_node.proofs.Serials.{map_push, rising_push}
 use Rattle.ipcz_node.proofs.routers.Routers.add.Goals as goal
 
@@ -17,4 +17,4 @@ returns c =
       next = c.self.inside.next + 1;
       room = left j;
     })
-    ∙ ap (λ v. added v c.args.router) c.self.view_is
+    ∙ ap (λ v. routers_with v c.args.router) c.self.view_is
