@@ -8,6 +8,8 @@ mod mailboxes;
 mod nodes;
 mod state;
 mod step;
+#[cfg(test)]
+mod tests;
 mod word_answers;
 mod world;
 

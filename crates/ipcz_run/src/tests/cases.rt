@@ -8,7 +8,7 @@ pub struct Case {
     pub unsettled: bool,
 }
 
-pub const CASES: [Case; 18] = [
+pub const CASES: [Case; 23] = [
     Case {
         shows: "two parcels on one pair",
         script: r#"{"nodes":1,"words":1,"commands":[["open",0,"x","y"],["put","x","a"],["put","x","b"],["get","y"],["settle",100],["get","y"],["get","y"],["get","y"]]}"#,
@@ -116,5 +116,35 @@ pub const CASES: [Case; 18] = [
         script: r#"{"nodes":1,"words":1,"commands":[["open",0,"x","y"],["put","x","a"],["put","x","b"],["get","y"],["settle",9],["get","y"],["get","y"],["get","y"]]}"#,
         transcript: "open x y ok\nput x 0\nput x 1\nget y Empty\nunsettled\nget y 0 [] \"a\"\nget y 1 [] \"b\"\nget y Empty\n",
         unsettled: true,
+    },
+    Case {
+        shows: "a sink drops a parcel, and closes the portals in it",
+        script: r#"{"nodes":1,"words":3,"commands":[["open",0,"x","y"],["open",0,"u","v"],["open",0,"p","q"],["put","x","c",["v","p"]],["close","y"],["turn",0,40],["put","q","z"],["settle",100],["get","u"],["get","q"],["get","v"]]}"#,
+        transcript: "open x y ok\nopen u v ok\nopen p q ok\nput x 0\nclose y 0\nn0: r0 send out 0 C0\nn0: post 0\nn0: look 0\nn0: hand item 0 C0\nn0: r0 rest\nn0: r1 send out 0 C0\nn0: post 0\nn0: look 0\nn0: hand item 0 C0\nn0: r0 rest\nn0: r1 discard 0\nn0: close 1B\nn0: close 2A\nn0: r1 rest\nn0: r3 send out 0 C1\nn0: post 0\nn0: look 0\nn0: hand item 0 C1\nn0: r2 rest\nn0: r3 rest\nn0: r4 send out 0 C2\nn0: post 0\nn0: look 0\nn0: hand item 0 C2\nn0: r4 rest\nn0: r5 rest\nn0: idle\nput q PeerClosed\nsettled\nget u PeerClosed\nget q PeerClosed\nget v Away\n",
+        unsettled: false,
+    },
+    Case {
+        shows: "proxies that found no word pass everything on",
+        script: r#"{"nodes":2,"words":3,"commands":[["open",0,"x","y"],["open",0,"u","v"],["put","0>1","m",["y"]],["turn",0,20],["turn",1,20],["put","x","c",["v"]],["turn",0,20],["turn",1,20],["get","1>0"],["get","y"],["put","u","k"],["turn",0,20],["turn",1,20],["get","v"],["put","v","w"],["turn",1,20],["turn",0,20],["get","u"],["show"]]}"#,
+        transcript: "open x y ok\nopen u v ok\nput 0>1 0\nn0: r0 send out 0 C0 moves 1B\nn0: post 1\nn0: r0 rest\nn0: r2 claim NoWord\nn0: r2 rest\nn0: idle\nn1: look 0\nn1: hand item 0 C0\nn1: r0 rest\nn1: idle\nput x 0\nn0: r1 send out 0 C1\nn0: post 0\nn0: look 0\nn0: hand item 0 C1\nn0: r1 rest\nn0: r2 send in 0 P0.0 moves 2B\nn0: post 1\nn0: r2 rest\nn0: r4 claim NoWord\nn0: r4 rest\nn0: idle\nn1: look 0\nn1: hand item 0 P0.0\nn1: r1 rest\nn1: idle\nget 1>0 0 [y] \"m\"\nget y 0 [v] \"c\"\nput u 0\nn0: r3 send out 0 C2\nn0: post 0\nn0: look 0\nn0: hand item 0 C2\nn0: r3 rest\nn0: r4 send in 0 P0.1\nn0: post 1\nn0: r4 rest\nn0: idle\nn1: look 0\nn1: hand item 0 P0.1\nn1: r2 rest\nn1: idle\nget v 0 [] \"k\"\nput v 0\nn1: r2 send out 0 P0.1\nn1: post 0\nn1: r2 rest\nn1: idle\nn0: look 1\nn0: hand item 0 P0.1\nn0: r4 send out 0 C2\nn0: post 0\nn0: look 0\nn0: hand item 0 C2\nn0: r3 rest\nn0: r4 rest\nn0: idle\nget u 0 [] \"w\"\nwords 3 3 3\n",
+        unsettled: false,
+    },
+    Case {
+        shows: "a wake finds its router gone from the link",
+        script: r#"{"nodes":3,"words":8,"commands":[["open",0,"x","y"],["put","0>2","m",["x","y"]],["turn",0,20],["turn",2,20],["turn",0,20],["get","2>0"],["turn",2,20],["put","2>1","n",["x"]],["turn",2,20],["turn",1,20],["turn",0,20],["put","2>0","z"],["turn",2,20],["turn",1,20],["turn",0,20],["turn",2,20],["turn",0,20],["settle",1000],["get","1>2"],["put","x","hi"],["settle",1000],["get","y"],["get","0>2"],["show"]]}"#,
+        transcript: "open x y ok\nput 0>2 0\nn0: r1 send out 0 C1 moves 3A,3B\nn0: post 2\nn0: r1 rest\nn0: r2 claim 4\nn0: r2 lock C3 19\nn0: r2 begin C3\nn0: r2 rest\nn0: r3 claim 5\nn0: r3 refused C3 19\nn0: r3 rest\nn0: idle\nn2: look 0\nn2: hand item 0 C1\nn2: r0 rest\nn2: idle\nn0: post 2\nn0: idle\nget 2>0 0 [x,y] \"m\"\nn2: look 0\nn2: hand BypassPeer P0.0\nn2: post 0\nn2: r2 rest\nn2: idle\nput 2>1 0\nn2: r1 send out 0 C2 moves 3A\nn2: post 1\nn2: r1 rest\nn2: r2 rest\nn2: idle\nn1: look 2\nn1: hand item 0 C2\nn1: r1 rest\nn1: idle\nn0: look 2\nn0: hand AcceptBypass C3\nn0: post 0\nn0: look 0\nn0: hand StopProxying C3\nn0: post 2\nn0: r2 finish out C3\nn0: r2 finish in P0.0\nn0: r2 leave\nn0: r3 finish out C3\nn0: r3 mark C4 2\nn0: r3 wait C4 10\nn0: r3 rest\nn0: idle\nput 2>0 0\nn2: look 0\nn2: hand ProxyWillStop P0.0\nn2: r0 send out 0 C1\nn2: post 0\nn2: r0 rest\nn2: r2 finish out P0.0\nn2: r2 mark C4 11\nn2: r2 wake C4 3\nn2: r2 claim 6\nn2: r2 lock C4 19\nn2: r2 begin C4\nn2: post 1\nn2: r2 rest\nn2: idle\nn1: look 2\nn1: hand BypassPeer P2.0\nn1: post 0\nn1: r2 rest\nn1: idle\nn0: look 1\nn0: hand AcceptBypass C4\nn0: look 2\nn0: hand item 0 C1\nn0: post 2\nn0: r1 rest\nn0: r3 finish out C4\nn0: r3 mark C6 2\nn0: r3 wait C6 10\nn0: r3 rest\nn0: idle\nn2: look 0\nn2: hand StopProxying C4\nn2: post 0\nn2: post 1\nn2: r2 finish out C4\nn2: r2 finish in P2.0\nn2: r2 leave\nn2: idle\nn0: look 2\nn0: hand Flush C4 dropped\nn0: idle\nsettled\nget 1>2 0 [x] \"n\"\nput x 0\nsettled\nget y 0 [] \"hi\"\nget 0>2 0 [] \"z\"\nwords 3 3 3 19 19 3 35\n",
+        unsettled: false,
+    },
+    Case {
+        shows: "a portal is closed after a move",
+        script: r#"{"nodes":2,"words":4,"commands":[["open",0,"x","y"],["put","y","a"],["settle",100],["put","0>1","m",["y"]],["settle",1000],["get","1>0"],["close","y"],["get","x"],["settle",100],["get","x"],["put","x","b"],["close","x"],["settle",100],["get","x"],["close","y"],["show"]]}"#,
+        transcript: "open x y ok\nput y 0\nsettled\nput 0>1 0\nsettled\nget 1>0 0 [y] \"m\"\nclose y 1\nget x 0 [] \"a\"\nsettled\nget x PeerClosed\nput x PeerClosed\nclose x 0\nsettled\nget x Away\nclose y Away\nwords 3 35 3\n",
+        unsettled: false,
+    },
+    Case {
+        shows: "a moved portal takes puts until the mark has come to it again",
+        script: r#"{"nodes":2,"words":4,"commands":[["open",0,"x","y"],["close","x"],["put","y","a"],["settle",100],["put","y","b"],["get","y"],["put","0>1","m",["y"]],["turn",0,2],["turn",1,2],["get","1>0"],["get","y"],["put","y","c"],["settle",1000],["put","y","d"],["get","y"],["show"]]}"#,
+        transcript: "open x y ok\nclose x 0\nput y 0\nsettled\nput y PeerClosed\nget y PeerClosed\nput 0>1 0\nn0: r0 send out 0 C0 moves 1B\nn0: post 1\nn1: look 0\nn1: hand item 0 C0\nget 1>0 0 [y] \"m\"\nget y Empty\nput y 1\nsettled\nput y PeerClosed\nget y PeerClosed\nwords 3 35 3\n",
+        unsettled: false,
     },
 ];
