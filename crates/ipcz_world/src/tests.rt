@@ -107,6 +107,35 @@ fn steps_give_what_their_run_gives(rt: HostRuntime) -> Result<(), Fail> {
     Ok(())
 }
 
+// The caller that the README shows.
+#[test]
+fn carries_hello_from_node_to_node(rt: HostRuntime) -> Result<(), Fail> {
+    let alloc = rt.alloc();
+    let left = End {
+        pair: 0,
+        side: Side::A,
+    };
+    let right = End {
+        pair: 0,
+        side: Side::B,
+    };
+    let mut world = World::new(alloc, 2, 4)?;
+    let put = world.step(&Step::Put {
+        node: 0,
+        at: left,
+        bytes: Sequence::from_vec(Vec::from_slice(alloc, b"hello")?),
+        ends: Sequence::from_vec(Vec::new(alloc)),
+    });
+    assert!(rt; is_put(&put, 0));
+    world.settle(100)?;
+    let got = world.step(&Step::Get {
+        node: 1,
+        at: right,
+    });
+    assert!(rt; is_got(&got, 0, b"hello", &[]));
+    Ok(())
+}
+
 // Two sends, a post, a look and a hand for each message, and a rest of each router.
 #[test]
 fn settles_after_ten_acts(rt: HostRuntime) -> Result<(), Fail> {
