@@ -40,8 +40,7 @@ pub writes-next : (s u x : Session) (all left cs : List Command) (c : Command) (
     GoesOn s all u left text unsettled → left ≡ c ∷ cs → Runs u c answer x → new ≡ text ++ lines_of x.titles c answer →
     more ≡ (unsettled || is_unsettled answer) → GoesOn s all x cs new more
 writes-next s u x all left cs c answer text new unsettled more on front runs written stopped rest later t is =
-    let step : Writes u (c ∷ cs) (lines_of x.titles c answer ++ rest) (is_unsettled answer || later) t =
-    (
+    let step : Writes u (c ∷ cs) (lines_of x.titles c answer ++ rest) (is_unsettled answer || later) t = (
       record { before = u; command = c; said = answer; after = x } ∷ is.0,
       (refl, refl, runs, is.1),
       ap (λ l. lines_of x.titles c answer ++ l) is.2,
