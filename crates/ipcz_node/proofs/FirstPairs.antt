@@ -1,5 +1,5 @@
 -- The first pairs, one after another.
-use Rattle.std.proofs.Common.{◌≡◌, ℕ, zero, suc, ◌+◌, ◌-◌, ◌<◌, ◌≤◌, List, [], ◌∷◌, ◌++◌, refl, sym, ap, arith}
+use Rattle.std.proofs.Common.{◌≡◌, ℕ, zero, suc, ◌+◌, ◌-◌, ◌<◌, ◌++◌, refl, ap, arith}
 use Rattle.ipcz_node.specs.Node.{Node}
 use Rattle.ipcz_node.specs.FirstPairs.{pairs_from, first_pairs_from, first_pairs, add_pair, add_pairs}
 

@@ -12,7 +12,7 @@ use Rattle.ipcz_node.specs.Node.{Node, is_named}
 use Rattle.ipcz_node.specs.Hands.{fit_moves, fits_from, is_new_move, has_moved, grows_where_it_fits, serials_in}
 use Rattle.ipcz_base.specs.declared.message.Message.{Message}
 use Rattle.ipcz_base.specs.declared.message.Message.TheVariants as messages
-use Rattle.ipcz_node.specs.RoomyNodes.{AreLow, IsReady, CanTell, RoomyNode, NodeRoom}
+use Rattle.ipcz_node.specs.RoomyNodes.{AreLow, IsReady, CanTell, RoomyNode}
 use Rattle.std.proofs.Common.{subst, ap, ◌<◌, refl}
 use Rattle.ipcz_base.specs.Indexed.{place_at}
 use Rattle.ipcz_node.specs.Sends.{moved_ends}

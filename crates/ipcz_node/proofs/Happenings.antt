@@ -1,12 +1,11 @@
 -- What an act of a router is seen to do, told from what it gave.
-use Rattle.std.proofs.Common.{◌≡◌, ℕ, Bool, true, false, ◌&&◌, ◌||◌, Option, Some, None, is_some, nat_eq, if◌then◌else◌, [], length, refl, sym, ap, true≢false}
+use Rattle.std.proofs.Common.{◌≡◌, ℕ, Bool, true, false, ◌&&◌, ◌||◌, Option, Some, None, is_some, nat_eq, if◌then◌else◌, [], refl, sym, ap, true≢false}
 use Rattle.ipcz_base.specs.declared.item.Item.{Item}
 use Rattle.ipcz_base.specs.Items.{ends_in}
 use Rattle.ipcz_seq.specs.Queue.{current_item}
 use Rattle.ipcz_router.specs.Router.{Router, is_sink}
-use Rattle.ipcz_router.specs.Acts.{way_out, way_in}
 use Rattle.ipcz_router.specs.ActTable.{is_possible, may_take, is_rest, next_act}
-use Rattle.ipcz_router.specs.ActEffects.{output_of, item_output, discard_output}
+use Rattle.ipcz_router.specs.ActEffects.{output_of, discard_output}
 use Rattle.ipcz_router.specs.declared.act.Answer.{Answer}
 use Rattle.ipcz_router.specs.declared.act.RouterAct.{RouterAct}
 use Rattle.ipcz_router.specs.declared.act.RouterAct.TheVariants as acts

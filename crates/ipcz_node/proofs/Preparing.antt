@@ -1,5 +1,5 @@
 -- What an outlook has room for, the act has.
-use Rattle.std.proofs.Common.{◌≡◌, ℕ, ◌≤◌, ◌+◌, Bool, true, false, nat_eq, if◌then◌else◌, Option, Some, None, [], List, length, refl, sym, subst, ap, arith, true≢false}
+use Rattle.std.proofs.Common.{◌≡◌, Bool, true, false, nat_eq, if◌then◌else◌, Option, Some, None, [], List, length, refl, sym, arith, true≢false}
 use Rattle.std.specs.Prelude.{IfSome}
 use Rattle.ipcz_base.specs.declared.end.End.{End}
 use Rattle.ipcz_base.specs.Items.{ends_in}
@@ -11,12 +11,12 @@ use Rattle.ipcz_router.specs.declared.act.RouterAct.TheVariants as acts
 use Rattle.ipcz_router.specs.declared.act.Applied.{Applied}
 use Rattle.ipcz_router.specs.declared.act.Applied.TheVariants as outputs
 use Rattle.ipcz_router.specs.declared.outlook.Outlook.TheVariants as outlooks
-use Rattle.ipcz_node.specs.Node.{Node, router_in}
-use Rattle.ipcz_node.specs.Sends.{moved_ends, serials_for}
+use Rattle.ipcz_node.specs.Node.{Node}
+use Rattle.ipcz_node.specs.Sends.{serials_for}
 use Rattle.ipcz_node.specs.Events.{moved_by}
 use Rattle.ipcz_node.specs.Acts.{router_act_grows, serials_at}
 use Rattle.ipcz_node.specs.RoomyNodes.{RoomyNode, IsReady, CanTell}
-use Rattle.ipcz_node.specs.Preparing.{IsReadyAs, IsReadyForItem, moved_count, outlook_at, serials_as}
+use Rattle.ipcz_node.specs.Preparing.{IsReadyAs, outlook_at, serials_as}
 
 counted : (b : Bool) (es : List End) → length (if b then [] else es) ≡ (if b then 0 else length es)
 counted true es = refl

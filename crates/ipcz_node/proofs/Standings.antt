@@ -1,15 +1,14 @@
 -- Where the events of a bypass, of a close and of a get leave a router filed.
-use Rattle.std.proofs.Common.{◌≡◌, ◌&&◌, ℕ, ◌+◌, ◌≤◌, Bool, true, false, not, Option, Some, None, refl, sym, ap, subst, arith}
-use Rattle.std.specs.Prelude.{option_map, is_none}
+use Rattle.std.proofs.Common.{◌≡◌, ◌&&◌, ℕ, Bool, true, false, Option, Some, None, refl, sym, subst, arith}
 use Rattle.ipcz_base.specs.declared.side.Side.{Side}
 use Rattle.ipcz_base.specs.Links.{central_end}
-use Rattle.ipcz_edge.specs.Edge.{Edge, set_length_to, set_length_from}
-use Rattle.ipcz_router.specs.Router.{Router, is_terminal, is_open_terminal, rouse}
+use Rattle.ipcz_edge.specs.Edge.{Edge}
+use Rattle.ipcz_router.specs.Router.{Router, is_terminal, rouse}
 use Rattle.ipcz_router.specs.Calls.{take_item}
 use Rattle.ipcz_router.specs.Closing.{close_router}
 use Rattle.ipcz_router.specs.Filings.{filing_of}
 use Rattle.ipcz_router.specs.Bypass.{accept_bypass, stop_proxying, proxy_will_stop}
-use Rattle.ipcz_node.proofs.Refiling.{FilesWithin, same_links, at_most_one, own_outward, own_inward, own_inward_decaying, same_standing}
+use Rattle.ipcz_node.proofs.Refiling.{FilesWithin, same_links, at_most_one, own_outward, own_inward, own_inward_decaying}
 
 pub accept_bypass_standing : (r : Router) (sender : ℕ) (side : Side) (fresh length : ℕ) → FilesWithin 1 r (accept_bypass r sender side fresh length)
 accept_bypass_standing r sender side fresh length = record {

@@ -1,5 +1,5 @@
 -- Searches among the nodes, and in lists by an index that may lie beyond the end.
-use Rattle.std.proofs.Common.{◌≡◌, ℕ, zero, suc, ◌+◌, ◌-◌, ◌<◌, ◌≤◌, Bool, true, false, if◌then◌else◌, Option, Some, List, [], ◌∷◌, length, get_or, refl, sym, ◌∙◌, ap, arith}
+use Rattle.std.proofs.Common.{◌≡◌, ℕ, zero, suc, ◌+◌, ◌-◌, ◌<◌, ◌≤◌, Bool, false, if◌then◌else◌, Option, Some, List, [], ◌∷◌, length, get_or, refl, sym, ◌∙◌, ap, arith}
 use native.Mathlib.Numerals.{unary_clauses}
 use Rattle.ipcz_base.specs.Indexed.{place_at}
 use Rattle.ipcz_node.specs.Acts.{first_number}

@@ -1,5 +1,5 @@
 -- The names of first pairs, one node after the other.
-use Rattle.std.proofs.Common.{◌≡◌, ◌∙◌, ◌++◌, ◌+◌, ◌-◌, ◌≢◌, ap, sym, refl, ℕ, zero, suc, List, [], ◌∷◌, length, arith}
+use Rattle.std.proofs.Common.{◌≡◌, ◌∙◌, ◌++◌, ◌+◌, ◌-◌, ap, sym, refl, ℕ, zero, suc, List, [], ◌∷◌, length, arith}
 use Rattle.ipcz_node.specs.FirstPairs.{pairs_from, first_pairs_from}
 use Rattle.ipcz_script.specs.Sessions.{Session, bind_pair, bind_pairs}
 

@@ -1,23 +1,21 @@
 -- The worlds that a script comes to are worlds that lists of steps lead to, with books of which its answers tell.
-use Rattle.std.proofs.Common.{◌≡◌, ◌∙◌, ◌++◌, ◌+◌, ◌≤◌, ◌<◌, ap, sym, refl, subst, inl, inr, arith, append_assoc, append-nil, length, take, ℕ, zero, suc, Bool, true, false, cond, List, [], ◌∷◌, Option, Some, None}
+use Rattle.std.proofs.Common.{◌≡◌, ◌∙◌, ◌++◌, ◌+◌, ◌<◌, ap, sym, refl, subst, inl, inr, arith, append_assoc, append-nil, length, take, ℕ, zero, suc, Bool, true, false, List, [], ◌∷◌, Option, Some, None}
 use Rattle.std.specs.Prelude.{MatchBool, if◌then◌else◌}
 use Rattle.std.specs.FinMap.{get}
 use Rattle.std.proofs.lemmas.Option.{same_Some}
 use Rattle.ipcz_base.specs.declared.end.End.{End}
 use Rattle.ipcz_base.specs.declared.parcel.Parcel as parcels
-use Rattle.ipcz_base.specs.declared.refusal.Refusal.TheVariants.{NumbersEnd}
 use Rattle.ipcz_base.specs.Ends.{opposite_end}
 use Rattle.ipcz_world.specs.declared.step.Step.{Step}
 use Rattle.ipcz_world.specs.declared.step.Step.TheVariants as steps
 use Rattle.ipcz_world.specs.declared.step.Reply.{Reply}
 use Rattle.ipcz_world.specs.declared.step.Reply.TheVariants as replies
-use Rattle.ipcz_world.specs.declared.step.Settled.TheVariants as ends
 use Rattle.ipcz_world.specs.World.{World, new_world, node_at}
 use Rattle.ipcz_world.specs.Books.{Books, no_books, advance, is_closed, read}
 use Rattle.ipcz_world.specs.Plain.{Plain}
 use Rattle.ipcz_world.specs.Routes.{Routes, first_routes, routes_after}
-use Rattle.ipcz_world.specs.Steps.{StepAny, StepFirst, Effect, first_step}
-use Rattle.ipcz_world.specs.Settling.{AreVisits, IsSettle, IsRefusedSettle, next_node}
+use Rattle.ipcz_world.specs.Steps.{StepAny, StepFirst, first_step}
+use Rattle.ipcz_world.specs.Settling.{AreVisits, next_node}
 use Rattle.ipcz_world.specs.Holding.{holder_of}
 use Rattle.ipcz_world.specs.Lawful.{Headline, IsReached, IsWithinLimits, Lawful, RunAny}
 use Rattle.ipcz_world.proofs.Whole.{world_starts_lawful, each_step_keeps_lawful, first_acts_are_possible, the_headline_holds, each_quiet_delivers}
@@ -30,10 +28,9 @@ use Rattle.ipcz_script.specs.declared.command.Command.{Command}
 use Rattle.ipcz_script.specs.declared.command.Command.TheVariants as commands
 use Rattle.ipcz_script.specs.declared.said.Said.{Said}
 use Rattle.ipcz_script.specs.declared.said.Said.TheVariants as said
-use Rattle.ipcz_script.specs.Bindings.{Bindings}
-use Rattle.ipcz_script.specs.Sessions.{Session, Replied, Runs, SettlesTo, TurnsTo, AreTurns, bind_pair, bind_pairs, ends_from, answer_to, if_held, if_known, is_idle_reply, is_turn, name_pair, nameless, new_session, replied_at, replied_open, replied_step, with_world}
+use Rattle.ipcz_script.specs.Sessions.{Session, Replied, Runs, SettlesTo, TurnsTo, AreTurns, bind_pair, bind_pairs, ends_from, answer_to, if_held, if_known, is_idle_reply, is_turn, name_pair, nameless, new_session, replied_open, with_world}
 use Rattle.ipcz_script.specs.Transcript.{Answered, AreAnswered}
-use Rattle.ipcz_script.specs.ScriptBooks.{AreSaid, IsCount, got_said, gots_in, parcels_in, put_said, puts_in}
+use Rattle.ipcz_script.specs.ScriptBooks.{IsCount, got_said, gots_in, parcels_in, put_said, puts_in}
 use Rattle.ipcz_script.specs.ScriptLaws.{AfterScripts, GetsFollowPuts, NumbersCountUp, ScriptsAnswerPlainly, ScriptsAreRuns, ScriptsArrive, ScriptsDeliver}
 use Rattle.ipcz_script.proofs.ScriptSaid.{Adds, none, close-said, got-said, open-said, parcels-follow, put-said, turn-more, unmarked-length}
 

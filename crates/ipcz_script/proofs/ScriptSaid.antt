@@ -1,7 +1,6 @@
 -- What each step adds to the books is what the answer to its command says.
-use Rattle.std.proofs.Common.{◌≡◌, ◌∙◌, ap, sym, refl, subst, append_assoc, append-nil, arith, ℕ, suc, zero, ◌+◌, Bool, true, false, cond, List, [], ◌∷◌, ◌++◌, length, map, Option, Some, None}
-use Rattle.std.proofs.lemmas.Option.{same_Some}
-use Rattle.std.specs.Prelude.{take, unwrap_or, ◌||◌}
+use Rattle.std.proofs.Common.{◌≡◌, ◌∙◌, ap, sym, refl, subst, append-nil, ℕ, suc, Bool, true, false, cond, List, [], ◌∷◌, ◌++◌, length, map, Option, Some, None}
+use Rattle.std.specs.Prelude.{take, unwrap_or}
 use Rattle.std.specs.FinMap.{get}
 use Rattle.std.specs.Option.{option_map_or}
 use Rattle.ipcz_base.specs.declared.end.End.{End}
@@ -17,13 +16,12 @@ use Rattle.ipcz_world.specs.declared.step.Reply.{Reply}
 use Rattle.ipcz_world.specs.declared.step.Reply.TheVariants as replies
 use Rattle.ipcz_world.specs.World.{World}
 use Rattle.ipcz_world.specs.Turns.{router_of}
-use Rattle.ipcz_world.specs.Books.{Books, add_put, add_got, add_gone, advance, after_discard, after_turn, has_mark}
+use Rattle.ipcz_world.specs.Books.{Books, add_put, add_got, advance, after_discard, after_turn, has_mark}
 use Rattle.ipcz_world.proofs.weights.Booking.{same_end-is}
 use Rattle.ipcz_script.specs.declared.command.Command.TheVariants as commands
-use Rattle.ipcz_script.specs.declared.said.Said.TheVariants as said
 use Rattle.ipcz_script.specs.Bindings.{Bindings}
 use Rattle.ipcz_script.specs.Sessions.{ends_from, answer_to}
-use Rattle.ipcz_script.specs.ScriptBooks.{got_said, is_bound, parcel_of, parcels_in, put_said}
+use Rattle.ipcz_script.specs.ScriptBooks.{got_said, parcel_of, parcels_in, put_said}
 
 -- ---- parcels among items
 

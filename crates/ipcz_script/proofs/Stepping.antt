@@ -1,5 +1,5 @@
 -- What a step that is no turn comes to, and turns one after the other.
-use Rattle.std.proofs.Common.{◌≡◌, ◌∙◌, ◌++◌, ◌+◌, ap, sym, refl, subst, inl, inr, ℕ, zero, suc, Bool, true, false, List, [], ◌∷◌, append_assoc, append-nil}
+use Rattle.std.proofs.Common.{◌≡◌, ◌∙◌, ◌++◌, ap, sym, refl, subst, inl, inr, ℕ, zero, suc, true, false, List, [], ◌∷◌, append_assoc, append-nil}
 use Rattle.std.specs.Prelude.{MatchBool}
 use Rattle.ipcz_base.specs.declared.refusal.Refusal.TheVariants.{OutOfMemory}
 use Rattle.ipcz_world.specs.declared.step.Step.{Step}

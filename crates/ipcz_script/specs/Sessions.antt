@@ -9,7 +9,6 @@ use Rattle.std.specs.Option.{option_map_or}
 use Rattle.ipcz_base.specs.declared.refusal.Refusal.TheVariants.{OutOfMemory, NumbersEnd}
 use Rattle.ipcz_base.specs.Ends.{end_at}
 use Rattle.ipcz_node.specs.FirstPairs.{first_pairs}
-use Rattle.ipcz_node.specs.declared.happened.Happened.{Happened}
 use Rattle.ipcz_node.specs.declared.happened.Happened.TheVariants.{Idle}
 use Rattle.ipcz_world.specs.declared.step.Step.{Step}
 use Rattle.ipcz_world.specs.declared.step.Step.TheVariants as steps

@@ -1,6 +1,6 @@
 -- Settling: visits to the nodes in their order, again and again, in which each takes an act where it has one.
 -- (This project's own.)
-use Rattle.std.specs.Prelude.{◌≡◌, ◌≤◌, ◌<◌, ℕ, zero, suc, ◌+◌, Bool, true, false, ◌||◌, nat_eq, nat_lt, if◌then◌else◌, List, [], ◌∷◌}
+use Rattle.std.specs.Prelude.{◌≡◌, ◌≤◌, ◌<◌, ℕ, ◌+◌, Bool, true, false, nat_lt, if◌then◌else◌, List, [], ◌∷◌}
 use Rattle.std.specs.Prelude.{length, ◌*◌}
 use Rattle.ipcz_base.specs.declared.refusal.Refusal.{Refusal}
 use Rattle.ipcz_node.specs.declared.happened.Happened.{Happened}
@@ -11,8 +11,8 @@ use Rattle.ipcz_world.specs.declared.step.Step.TheVariants.{Turn}
 use Rattle.ipcz_world.specs.declared.step.Reply.TheVariants as replies
 use Rattle.ipcz_node.specs.Node.{outbox}
 use Rattle.ipcz_world.specs.declared.mail.Mail.TheVariants as mails
-use Rattle.ipcz_world.specs.World.{node_limit, World, node_at, mail_at, way, numbers_from}
-use Rattle.ipcz_world.specs.Turns.{next_at, is_idle, is_clear, turn_lacks_serials, after_act}
+use Rattle.ipcz_world.specs.World.{node_limit, World, node_at, mail_at, way}
+use Rattle.ipcz_world.specs.Turns.{next_at, is_idle, is_clear}
 use Rattle.ipcz_world.specs.Steps.{StepFirst}
 
 -- nothing waits: no node has a message, a pending close or a flagged router, and no mailbox has a message

@@ -23,14 +23,6 @@ use Rattle.ipcz_router.specs.Router.{Router, is_proxy, is_terminal, inward_edge}
 use Rattle.ipcz_router.specs.ActTable.{is_possible}
 use Rattle.ipcz_router.specs.ActEffects.{finish_out, finish_in}
 use Rattle.ipcz_router.specs.declared.act.RouterAct.TheVariants as acts
-use Rattle.ipcz_router.specs.ActEffects.{apply, output_of}
-use Rattle.ipcz_node.specs.declared.act.Act.TheVariants.{Router as OfRouter}
-use Rattle.ipcz_node.specs.Node.{on_router, router_in}
-use Rattle.ipcz_node.specs.Sends.{send}
-use Rattle.ipcz_node.specs.Acts.{commit, commit_router, keep_or_drop}
-use Rattle.ipcz_world.specs.Turns.{after_act, after_router_act}
-use Rattle.ipcz_world.specs.WordAnswers.{touch}
-use Rattle.ipcz_world.specs.World.{node_at}
 use Rattle.ipcz_world.specs.World.{World, Key, router_at}
 use Rattle.ipcz_world.specs.Books.{Books, read}
 use Rattle.ipcz_world.specs.Records.{Records, inner_link, is_begun, is_recorded, proxy_side, across_side, side_end, side_length}
@@ -56,7 +48,6 @@ use Rattle.ipcz_world.proofs.views.Views.{IsPart, taking_queue-standing, next_se
 use Rattle.ipcz_world.proofs.views.Bypassed.{Names, IsBypassed, proxy-begun, proxy-outward, proxy-inward, proxy-seen, proxy-seen_inward}
 use Rattle.ipcz_world.proofs.views.Bypassed.{proxy-late, proxy-late_inward}
 use Rattle.ipcz_world.proofs.frames.GivenUp.{stays, keeps_all, Settled, inv-gives}
-use Rattle.ipcz_world.proofs.acts.Updating.{acted-finish_in, acted-finish_out}
 
 -- an edge's decaying link is done with
 pub record IsDone (e : Edge) (sent received : ℕ) : Type 0 where

@@ -13,14 +13,6 @@ use Rattle.ipcz_seq.specs.Queue.{item_at}
 use Rattle.ipcz_router.specs.Router.{Router, is_proxy, inward_edge}
 use Rattle.ipcz_router.specs.ActTable.{is_possible}
 use Rattle.ipcz_router.specs.declared.act.RouterAct.TheVariants as acts
-use Rattle.ipcz_router.specs.ActEffects.{apply, output_of}
-use Rattle.ipcz_node.specs.declared.act.Act.TheVariants.{Router as OfRouter}
-use Rattle.ipcz_node.specs.Node.{on_router, router_in}
-use Rattle.ipcz_node.specs.Sends.{send}
-use Rattle.ipcz_node.specs.Acts.{commit, commit_router, keep_or_drop}
-use Rattle.ipcz_world.specs.Turns.{after_act, after_router_act}
-use Rattle.ipcz_world.specs.WordAnswers.{touch}
-use Rattle.ipcz_world.specs.World.{node_at}
 use Rattle.ipcz_world.specs.World.{World, Key, router_at}
 use Rattle.ipcz_world.specs.Books.{Books}
 use Rattle.ipcz_world.specs.Records.{Records, proxy_side, across_side}
@@ -34,7 +26,6 @@ use Rattle.ipcz_world.proofs.facts.Queues.{total-none}
 use Rattle.ipcz_world.proofs.frames.OneRouter.{remove-router, words-remove_router}
 use Rattle.ipcz_world.proofs.frames.GivingUp.{Keeps, Gives}
 use Rattle.ipcz_world.proofs.frames.GivenUp.{Settled, inv-gives, has_some}
-use Rattle.ipcz_world.proofs.acts.Updating.{acted-leave}
 
 is_nothing : {X : Type 0} (o : Option X) → is_none o ≡ true → o ≡ None
 is_nothing None e = refl

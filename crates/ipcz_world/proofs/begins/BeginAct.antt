@@ -1,8 +1,7 @@
 -- A bypass begins: the invariant is kept, every begin that is possible is one of these, and a node's begin is this update.
-use Rattle.std.specs.Prelude.{◌≡◌, ◌<◌, ℕ, zero, suc, Option, Some, None, List, [], ◌∷◌, refl}
+use Rattle.std.specs.Prelude.{◌≡◌, ◌<◌, ℕ, Option, Some, None, refl}
 use Rattle.std.proofs.lemmas.Bool.Decides.{nat_tests}
 use Rattle.ipcz_base.specs.declared.message.Message.{Message}
-use Rattle.ipcz_base.specs.Indexed.{put_place}
 use Rattle.std.proofs.Common.{arith, sym, ◌∙◌, ap, subst}
 use Rattle.ipcz_base.specs.declared.side.Side.TheVariants.{B}
 use Rattle.ipcz_base.specs.declared.link_id.LinkId.{LinkId}
@@ -15,7 +14,7 @@ use Rattle.ipcz_router.specs.ActEffects.{begin_bypass, begin_message as begin_se
 use Rattle.ipcz_router.specs.declared.act.RouterAct.TheVariants as acts
 use Rattle.ipcz_router.specs.declared.act.Applied.TheVariants as sends
 use Rattle.ipcz_node.specs.declared.act.Act.TheVariants.{Router as OfRouter}
-use Rattle.ipcz_node.specs.Node.{Node, bare_node, with_router, push_out, on_router, router_in}
+use Rattle.ipcz_node.specs.Node.{Node, with_router, push_out, on_router, router_in}
 use Rattle.ipcz_node.specs.Sends.{send}
 use Rattle.ipcz_node.specs.Acts.{commit, commit_router, keep_or_drop}
 use Rattle.ipcz_world.specs.World.{World, Key, node_at, router_at, set_node, push_message}
@@ -35,7 +34,7 @@ use Rattle.ipcz_world.proofs.begins.BegunLinks.{stands-begun, words-begun, spare
 use Rattle.ipcz_world.proofs.begins.BegunNumbers.{begin_message, ordered-begun, told-begun, moves-begun, terminals-begun, end_places-begun}
 use Rattle.ipcz_world.proofs.begins.BegunNumbers.{books-begun, items-begun, order-begun, proxy_numbers-begun, fresh_numbers-begun}
 use Rattle.ipcz_world.proofs.begins.BegunNumbers.{conserved-begun, held_once-begun}
-use Rattle.ipcz_world.proofs.acts.Updating.{put-twice, set-twice}
+use Rattle.ipcz_world.proofs.acts.Updating.{set-twice}
 
 pub inv-begin : (w : World) (b : Books) (g : Records) (k : Key) (r : Router) (p : Key) (into out : LinkEnd) (o fresh : ℕ) → Inv w b g →
     CanBegin w k r p into out o fresh → Inv (begin_act w k r into out o fresh) b (begin_records g k o fresh p)

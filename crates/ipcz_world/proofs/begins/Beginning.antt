@@ -1,5 +1,5 @@
 -- A bypass begins: what it rests on, and what the records say after it.
-use Rattle.std.specs.Prelude.{◌≡◌, ◌⊎◌, ℕ, Bool, true, false, Option, Some, None, is_some, refl}
+use Rattle.std.specs.Prelude.{◌≡◌, ◌⊎◌, ℕ, true, false, Option, Some, None, is_some, refl}
 use Rattle.std.proofs.Common.{arith, sym, ◌∙◌, ap, inl, inr}
 use Rattle.std.proofs.lemmas.Option.{same_Some}
 use Rattle.ipcz_base.specs.declared.side.Side.{Side}

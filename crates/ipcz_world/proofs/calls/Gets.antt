@@ -1,6 +1,6 @@
 -- A caller's get and a sink's discard keep the invariant with the books after them.
 use Rattle.ipcz_world.proofs.weights.OfRecords.{holds, held_times, holds_times}
-use Rattle.std.specs.Prelude.{◌≡◌, ◌⊎◌, ◌≤◌, ◌<◌, ◌+◌, ℕ, zero, suc, Bool, true, false, cond, not, ◌&&◌, Option, Some, None, is_some, List}
+use Rattle.std.specs.Prelude.{◌≡◌, ◌⊎◌, ◌≤◌, ◌<◌, ◌+◌, ℕ, zero, suc, Bool, true, false, cond, not, Option, Some, None, is_some, List}
 use Rattle.std.specs.Prelude.{[], ◌∷◌, ◌++◌, length, take, map, slice_get, refl}
 use Rattle.std.proofs.Common.{arith, ap, subst, ◌∙◌, sym, inl, inr}
 use Rattle.ipcz_base.specs.declared.end.End.{End}

@@ -42,7 +42,6 @@ use Rattle.ipcz_world.proofs.frames.Changing.{flow_is, same_routers}
 use Rattle.ipcz_world.proofs.flows.Flowing.{total_below-same, under_way-congr}
 use Rattle.ipcz_world.proofs.weights.Weighing.{in_places-is, in_router-is, under_way-same}
 use Rattle.ipcz_world.proofs.frames.FirstLink.{inv-grown}
-use Rattle.ipcz_world.proofs.frames.Calling.{missing}
 
 unclaimed_is : (x : Owner) → is_unclaimed x ≡ true → x ≡ Unclaimed
 unfolding is_unclaimed

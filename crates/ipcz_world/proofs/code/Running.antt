@@ -10,9 +10,8 @@ use Rattle.ipcz_world.specs.World.{World}
 use Rattle.ipcz_world.specs.Steps.{StepFirst}
 use Rattle.ipcz_world.specs.Books.{Books, advance}
 use Rattle.ipcz_world.specs.Routes.{Routes, routes_after}
-use Rattle.ipcz_world.specs.Lawful.{Lawful}
 use Rattle.ipcz_world.specs.Settling.{AreVisits, next_node}
-use Rattle.ipcz_world.specs.FirstRuns.{AreSteps, KeepsLaw, KeepsLawByTurns, Leads, are_turns}
+use Rattle.ipcz_world.specs.FirstRuns.{AreSteps, KeepsLaw, KeepsLawByTurns, Leads}
 use Rattle.ipcz_world.proofs.code.Kept.{keeps, plainly}
 
 -- no step

@@ -2,7 +2,7 @@
 use Rattle.ipcz_node.specs.Node.{is_terminal_of}
 use Rattle.ipcz_router.specs.Router.{is_open_terminal}
 use Rattle.std.specs.Prelude.{not}
-use Rattle.std.specs.Prelude.{◌≡◌, ◌<◌, ℕ, Bool, true, false, cond, ◌&&◌, T, Some, List, [], ◌∷◌, refl}
+use Rattle.std.specs.Prelude.{◌≡◌, ◌<◌, ℕ, Bool, true, false, cond, T, Some, List, [], ◌∷◌, refl}
 use Rattle.std.proofs.Common.{arith, sym, ◌∙◌, ap}
 use Rattle.std.proofs.lemmas.Bool.Decides.{nat_tests}
 use Rattle.std.specs.Ordering.{nat_cmp, eq_by_cmp, is_lt, is_eq}
@@ -14,7 +14,7 @@ use Rattle.ipcz_base.specs.Ends.{same_end}
 use Rattle.ipcz_router.specs.Router.{Router, is_terminal}
 use Rattle.ipcz_node.specs.Node.{Node, Found, first_where, find_router, terminal_of}
 use Rattle.ipcz_world.proofs.weights.Booking.{same_end-is, and_first, and_second}
-use Rattle.ipcz_world.proofs.facts.Reaching.{is_true, left, less, right}
+use Rattle.ipcz_world.proofs.facts.Reaching.{left, less, right}
 
 -- what is found in a list whose keys are above is above
 find_above : (x m : ℕ) (v : Router) (es : List (ℕ × Router)) → T (below_all nat_cmp x es) → find nat_cmp m es ≡ Some v → x < m

@@ -15,7 +15,7 @@ use Rattle.ipcz_base.specs.declared.descriptor.Descriptor.{Descriptor}
 use Rattle.ipcz_base.specs.declared.item.Item.{Item}
 use Rattle.ipcz_base.specs.declared.message.Message.{Message}
 use Rattle.ipcz_base.specs.declared.message.Message.TheVariants as messages
-use Rattle.ipcz_base.specs.Sides.{opposite, same_side}
+use Rattle.ipcz_base.specs.Sides.{opposite}
 use Rattle.ipcz_base.specs.Ends.{opposite_end}
 use Rattle.ipcz_base.specs.Links.{has_link, word_of, is_central}
 use Rattle.ipcz_seq.specs.Queue.{item_at, queue_from, reach}
@@ -36,7 +36,6 @@ use Rattle.ipcz_world.specs.Bypasses.{inner_of, of_bypass, control_weight, move_
 use Rattle.ipcz_world.specs.Whereabouts.{times_held}
 use Rattle.ipcz_world.proofs.frames.Touching.{HasSameHands}
 use Rattle.ipcz_world.proofs.facts.Reaching.{is_reach, reach_one}
-use Rattle.ipcz_world.proofs.facts.Tests.{not_both}
 use Rattle.ipcz_world.proofs.facts.Lengths.{same_side-itself}
 
 -- the terminal of a pair's side, whose sides are at these keys

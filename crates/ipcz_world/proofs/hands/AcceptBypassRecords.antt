@@ -3,13 +3,11 @@ use Rattle.std.specs.Prelude.{◌≡◌, ◌⊎◌, ◌≤◌, ℕ, Bool, true, 
 use Rattle.std.proofs.Common.{arith, inl, inr}
 use Rattle.std.proofs.lemmas.Bool.Decides.{nat_tests}
 use Rattle.ipcz_base.specs.declared.side.Side.{Side}
-use Rattle.ipcz_base.specs.declared.side.Side.TheVariants.{A, B}
 use Rattle.ipcz_base.specs.declared.link_id.LinkId.TheVariants.{Central}
 use Rattle.ipcz_base.specs.declared.link_end.LinkEnd.{LinkEnd}
 use Rattle.ipcz_router.specs.Router.{Router}
 use Rattle.ipcz_world.specs.World.{World, Key, node_at, router_at}
 use Rattle.ipcz_world.proofs.frames.Frames.{frames, same_key_tells}
-use Rattle.ipcz_base.specs.Sides.{opposite, same_side}
 use Rattle.ipcz_world.specs.Records.{Records, is_begun, side_router, proxy_side, across_side}
 use Rattle.ipcz_world.proofs.frames.RecordRules.{record_rules}
 use Rattle.ipcz_world.specs.Remembering.{accepted_records}

@@ -24,7 +24,7 @@ use Rattle.ipcz_router.specs.Router.{Router, is_terminal, inward_edge, from_desc
 use Rattle.ipcz_world.specs.World.{World, Key, same_key, node_at, word_at, router_at}
 use Rattle.ipcz_world.proofs.frames.Frames.{same_key_tells, same_key-itself}
 use Rattle.ipcz_world.specs.Books.{Books}
-use Rattle.ipcz_world.specs.Records.{Records, PeripheralRecord, At, Moving, set_terminal, set_peripheral, is_recorded, is_begun, bypass_of}
+use Rattle.ipcz_world.specs.Records.{Records, PeripheralRecord, At, set_terminal, set_peripheral, is_recorded, is_begun, bypass_of}
 use Rattle.ipcz_world.specs.Records.{inner_link, side_node, side_router, side_end, proxy_side, across_side, is_nowhere, terminal_descriptor}
 use Rattle.ipcz_world.specs.Records.{key_at}
 use Rattle.ipcz_world.proofs.frames.RecordRules.{is_recorded-central, side_router-inner, side_node-inner}

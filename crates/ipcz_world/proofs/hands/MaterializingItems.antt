@@ -1,8 +1,6 @@
 -- A descriptor becomes a terminal, and the message that carried it has it no more: what is said of items and numbers is kept.
 use Rattle.std.specs.Prelude.{◌≡◌, ◌⊎◌, ◌≤◌, ℕ, zero, suc, Bool, true, false, cond, ◌&&◌, nat_eq, Option, Some, None, is_some}
 use Rattle.std.specs.Prelude.{refl, List, [], ◌∷◌, slice_get}
-use Rattle.std.specs.Ordering.{nat_cmp}
-use Rattle.std.specs.FinMap.{get-empty}
 use Rattle.std.proofs.Common.{arith, ap, ◌∙◌, sym, inl, inr}
 use Rattle.std.proofs.lemmas.Bool.Decides.{nat_tests}
 use Rattle.ipcz_base.specs.declared.side.Side.{Side}
@@ -17,7 +15,7 @@ use Rattle.ipcz_base.specs.declared.message.Message.TheVariants as messages
 use Rattle.ipcz_base.specs.Sides.{opposite, same_side}
 use Rattle.ipcz_base.specs.Links.{same_link, has_link}
 use Rattle.ipcz_base.specs.Ends.{same_end}
-use Rattle.ipcz_seq.specs.Queue.{item_at, queue_from, reach}
+use Rattle.ipcz_seq.specs.Queue.{queue_from, reach}
 use Rattle.ipcz_router.specs.Router.{Router}
 use Rattle.ipcz_router.specs.Router.{from_descriptor}
 use Rattle.ipcz_world.specs.World.{World, Key, flow}
@@ -44,12 +42,11 @@ use Rattle.ipcz_world.proofs.sends.SendingOut.{has_link-end}
 use Rattle.ipcz_world.proofs.flows.Awaited.{no_router, moving_known}
 use Rattle.ipcz_world.proofs.facts.Reaching.{is_reach, reach_one}
 use Rattle.ipcz_world.proofs.sends.Extending.{inner_end_is, same_end-tells}
-use Rattle.ipcz_world.proofs.sends.ExtendingItems.{next_sent-waiting, taking_queue-waiting, awaited-central, blank_at, same_item}
+use Rattle.ipcz_world.proofs.sends.ExtendingItems.{next_sent-waiting, taking_queue-waiting, awaited-central, blank_at}
 use Rattle.ipcz_world.proofs.hands.Materializing.{made_key_records, IsMade, IsMaterial, unmade, waits, end_is, node_same, same_some}
 use Rattle.ipcz_world.proofs.hands.Materializing.{end_same, bypass_same, side_same, recorded_same, router_new, router_same}
 use Rattle.ipcz_world.proofs.hands.Materializing.{side_new, proxy_was}
 use Rattle.ipcz_world.proofs.facts.Lengths.{same_link-itself}
-use Rattle.ipcz_world.proofs.sends.ExtendingItems.{same_link-turned}
 
 -- weighs the descriptors of the same numbers
 abbrev of_numbers : Descriptor → Descriptor → ℕ

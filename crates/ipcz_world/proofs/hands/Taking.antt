@@ -17,8 +17,7 @@ use Rattle.ipcz_base.specs.declared.message.Message.{Message}
 use Rattle.ipcz_base.specs.declared.message.Message.TheVariants as messages
 use Rattle.ipcz_base.specs.Sides.{opposite}
 use Rattle.ipcz_base.specs.Ends.{has_end, opposite_end}
-use Rattle.ipcz_base.specs.Links.{has_link}
-use Rattle.ipcz_edge.specs.Edge.{Edge, edge_has, no_edge}
+use Rattle.ipcz_edge.specs.Edge.{Edge, edge_has}
 use Rattle.ipcz_seq.specs.Queue.{Queue, item_at, push_at}
 use Rattle.ipcz_router.specs.Router.{Router, is_terminal, inward_edge}
 use Rattle.ipcz_router.specs.Calls.{accept}
@@ -61,7 +60,6 @@ use Rattle.ipcz_world.proofs.frames.FillingNumbers.{order-filled, ordered-filled
 use Rattle.ipcz_world.proofs.sends.Sending.{times_same, about-item, moves-item}
 use Rattle.ipcz_world.proofs.frames.Calling.{router_here}
 use Rattle.ipcz_world.proofs.calls.Putting.{no_link}
-use Rattle.ipcz_world.proofs.frames.FillingNumbers.{same_some}
 
 -- the item of the message in hand is taken by the router
 abbrev pub take_act : World → ℕ → Key → Router → World

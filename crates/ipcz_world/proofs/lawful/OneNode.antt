@@ -41,7 +41,7 @@ use Rattle.ipcz_node.specs.Acts.{commit, commit_router, keep_or_drop}
 use Rattle.ipcz_world.specs.World.{World, Key, node_at, router_at, new_world, new_nodes, numbers_from}
 use Rattle.ipcz_world.specs.WordAnswers.{answer_of}
 use Rattle.ipcz_world.specs.Books.{Books}
-use Rattle.ipcz_world.specs.Records.{Records, Terminal, Nowhere, At, Moving, Retired, is_linked, is_recorded, bypass_of, is_begun}
+use Rattle.ipcz_world.specs.Records.{Records, is_linked, is_recorded, bypass_of, is_begun}
 use Rattle.ipcz_world.specs.Records.{side_router, side_end}
 use Rattle.ipcz_world.specs.Standing.{has_primary}
 use Rattle.ipcz_world.specs.Structure.{IsRecorded, is_outward}

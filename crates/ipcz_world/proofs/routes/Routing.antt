@@ -19,8 +19,8 @@ use Rattle.ipcz_node.specs.Sends.{Transfer, move_found, move_router, moved_ends}
 use Rattle.ipcz_world.specs.World.{World, Key, same_key, node_at, router_at}
 use Rattle.ipcz_world.specs.Books.{Books}
 use Rattle.ipcz_world.specs.Routes.{Routes, add_link, add_peripheral, add_peripherals}
-use Rattle.ipcz_world.specs.Records.{Records, Owner, Unclaimed, Spare, Opening, Fresh, Linked, CentralRecord, PeripheralRecord, is_linked}
-use Rattle.ipcz_world.specs.Records.{is_unclaimed, set_owner, set_central, set_peripheral, set_bypass, routes_of}
+use Rattle.ipcz_world.specs.Records.{Records, Owner, Spare, Opening, Fresh, Linked, CentralRecord, PeripheralRecord, is_linked}
+use Rattle.ipcz_world.specs.Records.{set_owner, set_central, set_peripheral, set_bypass, routes_of}
 use Rattle.ipcz_world.specs.Remembering.{open_records, opening_records, claim_records, begin_records, taken_records, accepted_records}
 use Rattle.ipcz_world.specs.Remembering.{told_records, ended_records, move_records, found_records, moves_records, made_at, made_records}
 use Rattle.ipcz_world.specs.Inv.{Inv}

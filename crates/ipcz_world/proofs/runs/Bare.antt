@@ -1,6 +1,6 @@
 -- A world without routers, words, messages and books is lawful.
 use Rattle.ipcz_world.specs.Places.{in_node as in_node', in_places as in_places'}
-use Rattle.std.specs.Prelude.{◌≡◌, ◌<◌, ◌+◌, ℕ, zero, suc, Bool, true, false, cond, nat_le, Some, None, is_some, refl, List, [], ◌++◌}
+use Rattle.std.specs.Prelude.{◌≡◌, ◌<◌, ◌+◌, ℕ, zero, suc, Bool, true, cond, nat_le, Some, None, is_some, refl, List, [], ◌++◌}
 use Rattle.std.specs.Prelude.{slice_get}
 use Rattle.std.specs.Ordering.{nat_cmp}
 use Rattle.std.specs.FinMap.{get, empty, get-empty}

@@ -1,5 +1,5 @@
 -- Each step keeps a world bounded: nothing comes to lie beyond its nodes.
-use Rattle.std.specs.Prelude.{◌≡◌, ◌≤◌, ◌<◌, ℕ, suc, ◌+◌, ◌*◌, ◌-◌, Bool, true, false, cond, ◌&&◌, nat_eq, nat_lt, if◌then◌else◌, Option}
+use Rattle.std.specs.Prelude.{◌≡◌, ◌≤◌, ◌<◌, ℕ, suc, ◌+◌, ◌*◌, ◌-◌, Bool, true, false, cond, nat_eq, nat_lt, if◌then◌else◌, Option}
 use Rattle.std.specs.Prelude.{Some, None, refl, [], ◌∷◌}
 use Rattle.std.proofs.Common.{arith, ap, subst, ◌∙◌, sym, inl, inr}
 use Rattle.std.proofs.lemmas.Bool.Decides.{nat_tests}
@@ -19,7 +19,7 @@ use Rattle.ipcz_node.specs.declared.act.Act.TheVariants.{Hand, Look, Post, Close
 use Rattle.ipcz_node.specs.Node.{Node, bare_node, terminal_of, router_in, on_router, outbox, with_outbox, without_ends}
 use Rattle.ipcz_node.specs.Calls.{put_at_router, put_node, put_refusal, get_at_router, get_node, get_refusal, close_at_router, close_end}
 use Rattle.ipcz_node.specs.Calls.{close_refusal, open_node, serials_refusal}
-use Rattle.ipcz_node.specs.Hands.{is_hand_of, deliver}
+use Rattle.ipcz_node.specs.Hands.{deliver}
 use Rattle.ipcz_node.specs.Acts.{commit, commit_router, post_of, rest_of}
 use Rattle.ipcz_world.specs.declared.mail.Mail.{Mail}
 use Rattle.ipcz_world.specs.declared.mail.Mail.TheVariants as mails

@@ -27,7 +27,6 @@ use Rattle.ipcz_world.specs.Places.{Weight, in_router}
 use Rattle.ipcz_base.specs.Totals.{total_below}
 use Rattle.ipcz_world.specs.Inv.{Inv}
 use Rattle.ipcz_world.proofs.weights.Weighing.{in_router-is}
-use Rattle.ipcz_world.proofs.facts.Tests.{not_both}
 
 -- a node with its end of one pair more
 abbrev pub add_one : Node → ℕ → (ℕ × ℕ) → Node

@@ -1,5 +1,5 @@
 -- A terminal becomes a proxy, and the item under way carries its descriptor: what is said of items, ends and numbers is kept.
-use Rattle.std.specs.Prelude.{◌≡◌, ◌⊎◌, ◌≤◌, ◌<◌, ◌+◌, ℕ, Bool, true, false, cond, nat_eq, nat_le, nat_lt, Option, Some}
+use Rattle.std.specs.Prelude.{◌≡◌, ◌⊎◌, ◌≤◌, ◌<◌, ◌+◌, ℕ, Bool, true, false, cond, nat_eq, nat_lt, Option, Some}
 use Rattle.std.specs.Prelude.{None, is_some, refl, List, [], ◌∷◌, ◌++◌, length, drop}
 use Rattle.std.specs.Ordering.{nat_cmp}
 use Rattle.std.specs.Cmp.{nat_cmp_total}
@@ -44,7 +44,7 @@ use Rattle.ipcz_base.proofs.Totals.{total-remove}
 use Rattle.ipcz_world.proofs.sends.SendingOut.{has_link-end, bypass_of-central_is}
 use Rattle.ipcz_world.proofs.flows.Awaited.{no_router}
 use Rattle.ipcz_world.proofs.facts.Reaching.{is_reach}
-use Rattle.ipcz_world.proofs.sends.Extending.{next_key, extended, extended_records, IsGrown, IsExtend, other_link, one_begun}
+use Rattle.ipcz_world.proofs.sends.Extending.{next_key, extended, extended_records, IsGrown, IsExtend, other_link}
 use Rattle.ipcz_world.proofs.sends.Extending.{recorded_more, recorded_back, router_same, node_same, end_same}
 use Rattle.ipcz_world.proofs.sends.Extending.{bypass_same, side_same, stood, same_end-tells, no_inward, no_by, inner_end_is, not_begun}
 use Rattle.ipcz_world.proofs.sends.Extending.{stage_begun}

@@ -1,5 +1,5 @@
 -- Each end of an item that is sent to another node has its terminal there, so a send that moves terminals keeps all that holds.
-use Rattle.std.specs.Prelude.{◌||◌, ◌+◌, not, ◌≡◌, ◌≢◌, ◌≤◌, ℕ, Bool, true, false, cond, ◌&&◌, nat_eq, Option, Some, None, refl, List, []}
+use Rattle.std.specs.Prelude.{◌+◌, not, ◌≡◌, ◌≢◌, ◌≤◌, ℕ, Bool, true, false, cond, ◌&&◌, nat_eq, Option, Some, None, refl, List, []}
 use Rattle.std.specs.Prelude.{◌∷◌, ◌++◌, map}
 use Rattle.std.specs.Cmp.{nat_cmp_total}
 use Rattle.std.specs.FinMap.{get, insert, get-insert}

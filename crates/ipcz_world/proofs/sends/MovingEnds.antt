@@ -1,5 +1,5 @@
 -- A send moves the terminals of its item's ends, one after the other: each step keeps all but that the item has a descriptor for each end.
-use Rattle.std.specs.Prelude.{◌≡◌, ◌≢◌, ◌<◌, ℕ, zero, suc, Bool, true, false, cond, nat_eq, Option, Some, None, refl, List, [], ◌∷◌, ◌++◌}
+use Rattle.std.specs.Prelude.{◌≡◌, ◌≢◌, ◌<◌, ℕ, Bool, true, false, cond, nat_eq, Option, Some, None, refl, List, [], ◌∷◌, ◌++◌}
 use Rattle.std.specs.FinMap.{get}
 use Rattle.std.proofs.Common.{arith, ap, subst, ◌∙◌, sym}
 use Rattle.std.proofs.lemmas.Bool.Decides.{nat_tests}
@@ -10,7 +10,6 @@ use Rattle.ipcz_base.specs.declared.item.Item.{Item}
 use Rattle.ipcz_base.specs.declared.message.Message.{Message}
 use Rattle.ipcz_base.specs.declared.message.Message.TheVariants as messages
 use Rattle.ipcz_base.specs.Ends.{has_end, same_end}
-use Rattle.ipcz_base.specs.Indexed.{put_place}
 use Rattle.ipcz_base.proofs.Indexed.{place_at-put_place}
 use Rattle.ipcz_router.specs.Calls.{descriptor_of}
 use Rattle.ipcz_node.specs.Node.{Node, Found, outbox, push_out, terminal_of}

@@ -1,7 +1,6 @@
 -- A router sends the current item of a queue, without ends that move: all that holds is kept.
 use Rattle.ipcz_world.proofs.weights.OfRecords.{holds, held_times}
 use Rattle.std.specs.Prelude.{◌≡◌, ◌⊎◌, ◌≤◌, ◌<◌, ◌+◌, ℕ, zero, suc, true, false, Option, Some, None, refl, List, [], length, slice_get}
-use Rattle.std.specs.FinMap.{get}
 use Rattle.std.proofs.Common.{arith, ap, subst, ◌∙◌, sym, inl, inr}
 use Rattle.std.proofs.lemmas.Bool.Decides.{nat_tests}
 use Rattle.ipcz_base.specs.declared.side.Side.{Side}

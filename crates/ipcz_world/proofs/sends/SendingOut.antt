@@ -8,8 +8,8 @@ use Rattle.ipcz_base.specs.declared.link_id.LinkId.{LinkId}
 use Rattle.ipcz_base.specs.declared.link_id.LinkId.TheVariants.{Central, Peripheral}
 use Rattle.ipcz_base.specs.declared.link_end.LinkEnd.{LinkEnd}
 use Rattle.ipcz_base.specs.declared.item.Item.{Item}
-use Rattle.ipcz_base.specs.Sides.{opposite, same_side}
-use Rattle.ipcz_base.specs.Links.{has_link, same_link}
+use Rattle.ipcz_base.specs.Sides.{opposite}
+use Rattle.ipcz_base.specs.Links.{has_link}
 use Rattle.ipcz_edge.specs.Edge.{Edge, choose, is_short_of, edge_decays}
 use Rattle.ipcz_seq.specs.Queue.{item_at}
 use Rattle.ipcz_router.specs.Router.{Router}

@@ -1,4 +1,4 @@
-use Rattle.std.proofs.Common.{◌≡◌, ◌+◌, ◌≤◌, ap, sym, subst, arith}
+use Rattle.std.proofs.Common.{◌+◌, ◌≤◌, ap, sym, subst, arith}
 use Rattle.ipcz_node.specs.Directories.{ends_inside, ends_taken}
 use Rattle.ipcz_node.proofs.Holding.{hold_spent, act_inside}
 use Rattle.ipcz_node.proofs.Refiling.{FilesWithin, can_change, changed, act_standing}

@@ -1,9 +1,8 @@
-use Rattle.std.proofs.Common.{◌≡◌, ◌+◌, refl, sym, ap, ◌∙◌, arith}
+use Rattle.std.proofs.Common.{◌≡◌, ◌+◌, sym, ap, arith}
 use Rattle.std.specs.Prelude.{OnErr}
 use Rattle.ipcz_node.specs.Directories.{ends_inside}
-use Rattle.ipcz_node.proofs.Refiling.{FilesWithin, can_change, changed, same_standing, after, left_after}
-use Rattle.std.proofs.Common.{subst, ◌≤◌, ◌-◌, length}
-use Rattle.ipcz_base.specs.Items.{ends_in}
+use Rattle.ipcz_node.proofs.Refiling.{FilesWithin, can_change, changed, same_standing, after}
+use Rattle.std.proofs.Common.{subst, ◌≤◌, length}
 use Rattle.ipcz_base.specs.declared.item.Item.TheVariants.{Parcel}
 use Rattle.ipcz_router.specs.Calls.{take_item}
 use Rattle.ipcz_node.proofs.Standings.{take_standing}

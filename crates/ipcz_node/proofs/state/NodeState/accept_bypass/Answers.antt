@@ -1,4 +1,4 @@
-use Rattle.std.proofs.Common.{◌≡◌, ◌<◌, Option, sym, subst, ap, ◌∙◌}
+use Rattle.std.proofs.Common.{◌<◌, Option, sym, subst, ap, ◌∙◌}
 use Rattle.std.specs.Prelude.{IfSome}
 use Rattle.std.specs.FinMap.{get}
 use Rattle.ipcz_base.specs.Indexed.{place_at}

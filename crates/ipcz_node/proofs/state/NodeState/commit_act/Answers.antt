@@ -1,7 +1,6 @@
 use Rattle.std.proofs.Common.{◌≡◌, true, sym, subst, ap, ◌∙◌}
 use Rattle.ipcz_router.specs.Router.{Router}
 use Rattle.ipcz_router.specs.ActTable.{may_take}
-use Rattle.ipcz_router.specs.ActEffects.{output_of}
 use Rattle.ipcz_node.specs.Node.{router_in}
 use Rattle.ipcz_node.specs.RoomyNodes.{IsReady, CanTell}
 use Rattle.ipcz_node.specs.Events.{act_event, link_acted, moved_by}

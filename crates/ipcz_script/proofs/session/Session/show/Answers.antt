@@ -1,6 +1,6 @@
 use Rattle.std.proofs.Common.{◌≡◌, ◌∙◌, ◌<◌, ap, sym, arith}
 use Rattle.ipcz_world.specs.Holding.{shown_word}
-use Rattle.ipcz_script.proofs.Showing.{shown-more, shown-all}
+use Rattle.ipcz_script.proofs.Showing.{shown-more}
 use Rattle.ipcz_script.proofs.session.Session.show.Goals as goal
 
 pub loop-i-preserved : goal.loop-i-preserved

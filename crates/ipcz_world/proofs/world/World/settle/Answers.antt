@@ -1,4 +1,4 @@
-use Rattle.std.proofs.Common.{◌≡◌, ◌≤◌, ◌<◌, ◌∙◌, IfOk, true, false, sym, ap, subst, arith, inl, inr}
+use Rattle.std.proofs.Common.{◌≡◌, ◌∙◌, IfOk, true, false, sym, ap, subst, arith, inl, inr}
 use Rattle.ipcz_world.specs.declared.step.Step.TheVariants.{Turn}
 use Rattle.ipcz_world.specs.Lawfulness.{IsLawful}
 use Rattle.ipcz_world.specs.FirstRuns.{KeepsLawByTurns}
