@@ -1,0 +1,282 @@
+"""What `ipcz_run` takes, by the size of its script.
+
+    python3 tools/benchmark.py crates/ipcz_run/out/ipcz_run [WORKLOAD ..]
+    python3 tools/benchmark.py crates/ipcz_run/out/ipcz_run pairs
+    python3 tools/benchmark.py crates/ipcz_run/out/ipcz_run waiting
+
+Each workload is made for a quarter, a half and the whole of 1,048,576 bytes, which is the longest script.
+The table has the `user` time in milliseconds (the least of five runs where a run is short) and the peak
+memory in MiB, as GNU time (/usr/bin/time) tells it; the factors are those from 1/4 to 1/2 and from 1/2
+to 1. `lines` are those of the transcript. The status is the program's: 0, or 4 where a settle came to its
+limit of 1,000,000 acts. Nothing is kept.
+
+`pairs` compares what one parcel costs on one node, put, settled and got: where there is one pair, on the last of
+4,000 pairs, and one on each of 1,000 pairs; the time of the opens alone is subtracted. `waiting` compares what one
+parcel costs where 1, 10, 100 and 1,000 parcels wait before it.
+"""
+import os
+import resource
+import subprocess
+import sys
+import tempfile
+
+WHOLE = 1048576
+SETTLE = '["settle",1000000]'
+
+
+def script(nodes, words, before, block, after, size):
+    """A script of at most `size` bytes: as many blocks (block(i) is a list of commands) as fit."""
+    commands = list(before)
+    room = size - len('{"nodes":%d,"words":%d,"commands":[]}' % (nodes, words))
+    room -= sum(len(c) + 1 for c in before) + sum(len(c) + 1 for c in after)
+    i = 0
+    while True:
+        more = block(i)
+        room -= sum(len(c) + 1 for c in more)
+        if room < 0:
+            break
+        commands += more
+        i += 1
+    commands += after
+    return '{"nodes":%d,"words":%d,"commands":[%s]}' % (nodes, words, ",".join(commands))
+
+
+def one_pair(size):
+    """put, settle, get in turn, on the first pair of two nodes."""
+    return script(2, 1, [], lambda i: ['["put","0>1","a"]', SETTLE, '["get","1>0"]'], [], size)
+
+
+def one_pair_at_once(size):
+    """All puts, one settle, all gets, on the first pair of two nodes."""
+    block = ['["put","0>1","a"]', '["get","1>0"]']
+    both = len(block[0]) + len(block[1]) + 2
+    n = (size - 100) // both
+    commands = [block[0]] * n + [SETTLE] + [block[1]] * n
+    return '{"nodes":2,"words":1,"commands":[%s]}' % ",".join(commands)
+
+
+def first_pairs(size):
+    """put, settle, get in turn, over the 28 first pairs of eight nodes."""
+    pairs = [(i, j) for i in range(8) for j in range(i + 1, 8)]
+
+    def block(i):
+        a, b = pairs[i % 28]
+        return ['["put","%d>%d","a"]' % (a, b), SETTLE, '["get","%d>%d"]' % (b, a)]
+    return script(8, 28, [], block, [], size)
+
+
+def first_pairs_at_once(size):
+    """A put on each of the 28 first pairs of eight nodes, a settle, a get on each, and again."""
+    pairs = [(i, j) for i in range(8) for j in range(i + 1, 8)]
+    block = ['["put","%d>%d","a"]' % p for p in pairs] + [SETTLE] + ['["get","%d>%d"]' % (b, a) for a, b in pairs]
+    return script(8, 28, [], lambda i: block, [], size)
+
+
+def there(i):
+    """The two names of the first pair, as a portal goes from node i % 2 to the other."""
+    return ("0>1", "1>0") if i % 2 == 0 else ("1>0", "0>1")
+
+
+def to_and_fro(size):
+    """A portal to and fro between two nodes, with a parcel after each move; words to spare.
+
+    The data fills each move up to 265 bytes, so that the whole script makes fewer than 4,094 moves."""
+    def block(i):
+        a, b = there(i)
+        return ['["put","%s","%s",["y"]]' % (a, "m" * 90), SETTLE, '["get","%s"]' % b,
+                '["put","x","%s"]' % ("d" * 81), SETTLE, '["get","y"]']
+    return script(2, 4096, ['["open",0,"x","y"]'], block, [], size)
+
+
+def to_and_fro_dry(size):
+    """A portal to and fro without a word to spare, so that each move leaves a proxy; one parcel at the end."""
+    def block(i):
+        a, b = there(i)
+        return ['["put","%s","m",["y"]]' % a, SETTLE, '["get","%s"]' % b]
+    return script(2, 2, ['["open",0,"x","y"]'], block, ['["put","x","d"]', SETTLE, '["get","y"]'], size)
+
+
+def to_and_fro_dry_parcels(size):
+    """The same with a parcel after each move: each parcel passes all proxies."""
+    def block(i):
+        a, b = there(i)
+        return ['["put","%s","%s",["y"]]' % (a, "m" * 90), SETTLE, '["get","%s"]' % b,
+                '["put","x","%s"]' % ("d" * 81), SETTLE, '["get","y"]']
+    return script(2, 2, ['["open",0,"x","y"]'], block, [], size)
+
+
+def chain(size):
+    """A backlog waits at a portal that then makes eight moves round eight nodes; then settles."""
+    moves = []
+    for i in range(8):
+        here, next_ = i, (i + 1) % 8
+        moves += ['["put","%d>%d","m",["y"]]' % (here, next_), '["turn",%d,3]' % here, '["turn",%d,2]' % next_,
+                  '["get","%d>%d"]' % (next_, here)]
+    n = (size - 1400) // 27
+    commands = (['["open",0,"x","y"]'] + ['["put","x",""]'] * n + [SETTLE] + moves + [SETTLE] * 4
+                + ['["get","y"]'] * n)
+    return '{"nodes":8,"words":4096,"commands":[%s]}' % ",".join(commands)
+
+
+def turns(size):
+    """A put and four turns, each a command that prints its line."""
+    t = ['["turn",0,1]', '["turn",0,1]', '["turn",1,1]', '["turn",1,1]']
+    return script(2, 1, [], lambda i: ['["put","0>1",""]'] + t, [], size)
+
+
+def idle_turns(size):
+    """Turns of an idle node."""
+    return script(1, 0, [], lambda i: ['["turn",0,1]'], [], size)
+
+
+def turns_at_once(size):
+    """All puts, then one turn command that prints all of it."""
+    return script(1, 1, ['["open",0,"x","y"]'], lambda i: ['["put","x",""]'], ['["turn",0,1000000]'], size)
+
+
+def backlog(size):
+    """Puts of no data on one pair of one node, then one settle."""
+    return script(1, 1, ['["open",0,"x","y"]'], lambda i: ['["put","x",""]'], [SETTLE], size)
+
+
+def backlog_over(size):
+    """Puts of no data on the first pair of two nodes, then one settle."""
+    return script(2, 1, [], lambda i: ['["put","0>1",""]'], [SETTLE], size)
+
+
+def opens_in_turn(size):
+    """open, put, settle, get on each of up to 4,096 pairs; the data fills the script up."""
+    return script(1, 4096, [], lambda i: ['["open",0,"a%04d","b%04d"]' % (i, i), '["put","a%04d","%s"]' % (i, "d" * 173),
+                                          SETTLE, '["get","b%04d"]' % i], [], size)
+
+
+def opens_at_once(size):
+    """All opens (up to 4,096), a put on each, one settle, a get on each; the data fills the script up."""
+    n = size // 256
+    commands = (['["open",0,"a%04d","b%04d"]' % (i, i) for i in range(n)]
+                + ['["put","a%04d","%s"]' % (i, "d" * 190) for i in range(n)] + [SETTLE]
+                + ['["get","b%04d"]' % i for i in range(n)])
+    return '{"nodes":1,"words":4096,"commands":[%s]}' % ",".join(commands)
+
+
+def circle(size):
+    """Two parcels that carry each other's targets, without words: one settle of up to 1,000,000 acts."""
+    limit = 1000000 * size // WHOLE
+    return ('{"nodes":2,"words":3,"commands":[["open",0,"q","r"],["put","0>1","m",["q"]],["settle",1000],'
+            '["get","1>0"],["put","0>1","1",["r"]],["put","q","2",["1>0"]],["settle",%d]]}' % limit)
+
+
+WORKLOADS = [
+    one_pair, one_pair_at_once, first_pairs, first_pairs_at_once,
+    to_and_fro, to_and_fro_dry, to_and_fro_dry_parcels, chain,
+    turns, idle_turns, turns_at_once, backlog, backlog_over, opens_in_turn, opens_at_once, circle,
+]
+
+
+def user_time(program, path):
+    """The user time in milliseconds of one run."""
+    before = resource.getrusage(resource.RUSAGE_CHILDREN).ru_utime
+    with open(path) as source:
+        subprocess.run([program], stdin=source, stdout=subprocess.DEVNULL)
+    return (resource.getrusage(resource.RUSAGE_CHILDREN).ru_utime - before) * 1000
+
+
+def peak_memory(program, path):
+    """(peak MiB, status, lines) of one run."""
+    out = path + ".out"
+    with open(path) as source, open(out, "w") as target:
+        done = subprocess.run(["/usr/bin/time", "-q", "-f", "%M", program], stdin=source, stdout=target,
+                              stderr=subprocess.PIPE, text=True)
+    with open(out, "rb") as f:
+        lines = f.read().count(b"\n")
+    os.remove(out)
+    return int(done.stderr.split()[-1]) / 1024, done.returncode, lines
+
+
+def least(program, path):
+    """The least user time of five runs, or of one that takes long."""
+    first = user_time(program, path)
+    return first if first > 3000 else min([first] + [user_time(program, path) for _ in range(4)])
+
+
+def on_pairs(pairs, at, rounds):
+    """So many opens on one node, and then so many rounds of a put, a settle and a get for each of these pairs."""
+    opens = ['["open",0,"a%04d","b%04d"]' % (i, i) for i in range(pairs)]
+    block = ['["put","a%04d",""]' % i for i in at] + [SETTLE] + ['["get","b%04d"]' % i for i in at]
+    return '{"nodes":1,"words":4096,"commands":[%s]}' % ",".join(opens + block * rounds)
+
+
+def per_parcel(program, path, pairs, at, rounds):
+    """The microseconds of one parcel."""
+    times = []
+    for count in (0, rounds):
+        with open(path, "w") as f:
+            f.write(on_pairs(pairs, at, count))
+        times.append(least(program, path))
+    return (times[1] - times[0]) * 1000 / (rounds * len(at))
+
+
+def waiting(before, rounds):
+    """So many parcels put and settled, and then so many rounds of a put, a settle and a get."""
+    commands = ['["put","0>1",""]'] * before + [SETTLE] + ['["put","0>1",""]', SETTLE, '["get","1>0"]'] * rounds
+    return '{"nodes":2,"words":1,"commands":[%s]}' % ",".join(commands)
+
+
+def compare_waiting(program):
+    with tempfile.TemporaryDirectory() as folder:
+        path, first = os.path.join(folder, "script"), None
+        for before in (1, 10, 100, 1000):
+            times = []
+            for rounds in (0, 18000):
+                with open(path, "w") as f:
+                    f.write(waiting(before, rounds))
+                times.append(least(program, path))
+            cost = (times[1] - times[0]) * 1000 / 18000
+            first = first or cost
+            print("%5d waiting %6.2f microseconds a parcel, %4.2f times" % (before, cost, cost / first))
+
+
+def compare_pairs(program):
+    with tempfile.TemporaryDirectory() as folder:
+        path = os.path.join(folder, "script")
+        one = per_parcel(program, path, 1, [0], 14000)
+        for title, cost in [
+            ("one pair", one),
+            ("the last of 4,000 pairs", per_parcel(program, path, 4000, [3999], 14000)),
+            ("one on each of 1,000 pairs", per_parcel(program, path, 1000, range(1000), 25)),
+        ]:
+            print("%-28s %6.2f microseconds a parcel, %4.2f times" % (title, cost, cost / one))
+
+
+def main():
+    program = os.path.abspath(sys.argv[1])
+    wanted = sys.argv[2:]
+    if wanted == ["pairs"]:
+        return compare_pairs(program)
+    if wanted == ["waiting"]:
+        return compare_waiting(program)
+    form = "%-22s %8s %7s %6s %9s %6s %7s %6s  %s"
+    print(form % ("", "bytes", "lines", "status", "user ms", "factor", "MiB", "factor", ""))
+    with tempfile.TemporaryDirectory() as folder:
+        path = os.path.join(folder, "script")
+        for make in WORKLOADS:
+            name = make.__name__
+            if wanted and name not in wanted:
+                continue
+            before = None
+            title = " ".join(make.__doc__.split("\n\n")[0].split())
+            for part in (4, 2, 1):
+                text = make(WHOLE // part)
+                assert len(text) <= WHOLE // part
+                with open(path, "w") as f:
+                    f.write(text)
+                peak, status, lines = peak_memory(program, path)
+                user = least(program, path)
+                more = ("", "") if before is None else ("%.1f" % (user / before[0]), "%.1f" % (peak / before[1]))
+                print(form % (name, len(text), lines, status, "%.1f" % user, more[0], "%.1f" % peak, more[1], title),
+                      flush=True)
+                name, title, before = "", "", (user, peak)
+
+
+if __name__ == "__main__":
+    main()
