@@ -1,4 +1,6 @@
 //! One node by itself, whose mail is carried by hand.
+mod acts;
+mod refusals;
 mod strays;
 
 use super::NodeState;
