@@ -25,6 +25,8 @@ mod first_pairs;
 mod hands;
 mod room;
 mod sends;
+#[cfg(test)]
+mod tests;
 mod turn;
 
 pub use self::calls::PutRefused;

@@ -151,7 +151,7 @@ mod tests {
         }
     }
 
-    // Trusted nodes make no strays, and an unlock wants a begin that finds no memory: no script shows these.
+    // Trusted nodes make no strays, and an unlock wants a begin that finds no memory: a script can show the dropped Flush alone.
     #[test]
     fn prints_what_no_script_shows(rt: HostRuntime) -> Result<(), Fail> {
         let rows = [
