@@ -128,10 +128,7 @@ fn carries_hello_from_node_to_node(rt: HostRuntime) -> Result<(), Fail> {
     });
     assert!(rt; is_put(&put, 0));
     world.settle(100)?;
-    let got = world.step(&Step::Get {
-        node: 1,
-        at: right,
-    });
+    let got = world.step(&Step::Get { node: 1, at: right });
     assert!(rt; is_got(&got, 0, b"hello", &[]));
     Ok(())
 }

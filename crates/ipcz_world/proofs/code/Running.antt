@@ -64,9 +64,12 @@ visits-lead n (true ∷ visits) w v (has, (u, (event, s), rest)) =
       replies = replies.Turned event ∷ more.replies;
       turns = more.turns;
       leads = λ b g law. (
-          u, s, law, plainly w u (Turn n) (replies.Turned event) s b g law,
-          more.leads (advance w b (Turn n) (replies.Turned event)) (routes_after w g (Turn n) (replies.Turned event))
-          (keeps w u (Turn n) (replies.Turned event) s b g law)
+        u,
+        s,
+        law,
+        plainly w u (Turn n) (replies.Turned event) s b g law,
+        more.leads (advance w b (Turn n) (replies.Turned event)) (routes_after w g (Turn n) (replies.Turned event))
+            (keeps w u (Turn n) (replies.Turned event) s b g law),
       );
     }
 visits-lead n (false ∷ visits) w v (idle, rest) = visits-lead (next_node w n) visits w v rest
