@@ -1,5 +1,4 @@
 -- What an act is seen to do, as the transcript prints it.
--- (This project's own.)
 use Rattle.std.specs.Prelude.{ℕ, Option, Some, None, List, []}
 use Rattle.ipcz_base.specs.declared.end.End.{End}
 use Rattle.ipcz_base.specs.declared.link_id.LinkId.{LinkId}

@@ -1,5 +1,4 @@
 -- What becomes of the routers when one of them was lent.
--- (This project's own.)
 use Rattle.std.specs.Prelude.{ℕ}
 use Rattle.std.specs.Borrow.{Lends, MutBor, Fml}
 use Rattle.ipcz_router.specs.RoomyRouters.{RoomyRouter}

@@ -1,5 +1,4 @@
 -- The room that an act of a router wants at its node, told from the outlook of the act.
--- (This project's own.)
 use Rattle.std.specs.Prelude.{ℕ, ◌≤◌, ◌<◌, ◌+◌, nat_eq, if◌then◌else◌, Option, Some, None}
 use Rattle.ipcz_base.specs.Limits.{no_number}
 use Rattle.ipcz_base.specs.Indexed.{place_at}

@@ -1,5 +1,4 @@
 -- The room that a node wants for what it tells other nodes.
--- (This project's own.)
 use Rattle.std.specs.Prelude.{◌<◌, Option, IfSome}
 use Rattle.ipcz_base.specs.declared.link_end.LinkEnd.{LinkEnd}
 use Rattle.ipcz_base.specs.Indexed.{place_at}

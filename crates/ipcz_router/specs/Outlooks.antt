@@ -1,5 +1,4 @@
 -- What an act of a router is about to give its node, as far as the node needs room for it.
--- (This project's own.)
 use Rattle.std.specs.Prelude.{Option, Some, None, length}
 use Rattle.ipcz_base.specs.declared.link_end.LinkEnd.{LinkEnd}
 use Rattle.ipcz_base.specs.declared.item.Item.{Item}

@@ -1,5 +1,4 @@
 -- The status that the program ends with, its usage line, and what it has read and written by then.
--- (This project's own.)
 use Rattle.std.specs.Prelude.{◌≡◌, ◌↔◌, ℕ, Bool, true, false, IsTrue, IsErrOf, List, Option, Result, Ok, Err, codes}
 use Rattle.std.specs.Io.KnownBytes.{Appends}
 use Rattle.ipcz_script.specs.declared.outcome.Outcome.{Outcome}

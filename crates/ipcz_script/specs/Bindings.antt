@@ -1,5 +1,4 @@
 -- Which end each name of a script is bound to, and which name each end has.
--- (This project's own.)
 use Rattle.std.specs.Prelude.{ℕ, List, map, String, string_bytes}
 use Rattle.std.specs.Global.{Global}
 use Rattle.std.specs.Ordering.{nat_cmp}

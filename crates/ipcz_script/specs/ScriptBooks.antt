@@ -1,5 +1,4 @@
 -- What the answers to a script's commands say that each end has put and got.
--- (This project's own.)
 use Rattle.std.specs.Prelude.{◌≡◌, ℕ, Bool, false, cond, unwrap_or, List, [], ◌∷◌, ◌++◌, length, Some}
 use Rattle.std.specs.Option.{option_map_or}
 use Rattle.std.specs.FinMap.{get}

@@ -1,5 +1,4 @@
 -- What holds of every script, as functions promise it.
--- (This project's own.)
 use Rattle.std.specs.Prelude.{◌≡◌, ◌<◌, ℕ, true, IsSome, List, ◌∷◌, ◌++◌, length, map, take}
 use Rattle.ipcz_base.specs.declared.end.End.{End}
 use Rattle.ipcz_base.specs.declared.item.Item.TheVariants.{Parcel}

@@ -1,5 +1,4 @@
 -- The transcript of what was read, and what a run may have read and written.
--- (This project's own.)
 use Rattle.std.specs.Prelude.{ℕ, ◌+◌, ◌≡◌, ◌≤◌, Bool, true, false, ◌||◌, List, [], ◌∷◌, ◌++◌, length, Option, Result, Ok, Err}
 use Rattle.std.specs.Io.KnownBytes.{Consumes, IsAtEnd, Appends, Keeps}
 use Rattle.ipcz_script.specs.declared.command.Command.{Command}

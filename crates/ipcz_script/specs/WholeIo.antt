@@ -1,5 +1,4 @@
 -- What a device gave and was given, as a whole.
--- (This project's own.)
 use Rattle.std.specs.Prelude.{ℕ, ◌≤◌, List, Option, length, take}
 use Rattle.std.specs.Io.KnownBytes.{Appends, Consumes}
 

@@ -1,6 +1,5 @@
 -- The acts of routers as updates of the world, with the router, the word and the links as arguments: the form that preservation is shown
 -- for.
--- (This project's own.)
 use Rattle.std.specs.Prelude.{◌≡◌, ◌+◌, ◌++◌, ℕ, true, Some, None}
 use Rattle.ipcz_base.specs.declared.side.Side.{Side}
 use Rattle.ipcz_base.specs.declared.link_end.LinkEnd.{LinkEnd}

@@ -1,5 +1,4 @@
 -- What always holds of bypasses under way and of the messages that carry them.
--- (This project's own.)
 use Rattle.std.specs.Prelude.{◌≡◌, ◌≢◌, ◌≤◌, ℕ, Bool, true, false, cond, not, nat_eq, Option, Some, None, is_some, option_map, map, List}
 use Rattle.std.specs.Prelude.{[], slice_get}
 use Rattle.ipcz_base.specs.declared.side.Side.{Side}

@@ -1,5 +1,4 @@
 -- What the code of the world keeps, as the definitions of worlds name it: the link words with their claim count, apart from the nodes.
--- (This project's own.)
 use Rattle.std.specs.Prelude.{◌≤◌, ℕ, ◌+◌, Bool, true, false, nat_lt, if◌then◌else◌, Option, Some, None, List, length}
 use Rattle.std.specs.List.{All}
 use Rattle.ipcz_base.specs.declared.side.Side.{Side}

@@ -1,5 +1,4 @@
 -- Runs of steps: which replies they get, and what they keep, whatever the books and the routes are.
--- (This project's own.)
 use Rattle.std.specs.Prelude.{◌≡◌, Bool, true, false, List, [], ◌∷◌}
 use Rattle.ipcz_world.specs.declared.step.Step.{Step}
 use Rattle.ipcz_world.specs.declared.step.Step.TheVariants.{Turn}

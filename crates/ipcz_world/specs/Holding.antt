@@ -1,5 +1,4 @@
 -- Which node's callers hold an end, and what a link word shows.
--- (This project's own.)
 use Rattle.std.specs.Prelude.{ℕ, nat_lt, if◌then◌else◌, Option, Some, None, List, map}
 use Rattle.ipcz_base.specs.declared.end.End.{End}
 use Rattle.ipcz_word.specs.Layout.{bits_of}

@@ -1,5 +1,4 @@
 -- A world that is lawful with some books and routes.
--- (This project's own.)
 use Rattle.ipcz_world.specs.World.{World}
 use Rattle.ipcz_world.specs.Books.{Books}
 use Rattle.ipcz_world.specs.Routes.{Routes}

@@ -1,5 +1,4 @@
 -- What becomes of the nodes when one of them was lent.
--- (This project's own.)
 use Rattle.std.specs.Prelude.{ℕ, List}
 use Rattle.std.specs.Borrow.{Lends, MutBor, Fml}
 use Rattle.ipcz_base.specs.Indexed.{put_place}

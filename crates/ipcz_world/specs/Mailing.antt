@@ -1,5 +1,4 @@
 -- What the mailboxes of the world do with a message, as the code names it.
--- (This project's own.)
 use Rattle.ipcz_world.specs.declared.mail.Mail.{Mail}
 use Rattle.ipcz_world.specs.declared.mail.Mail.TheVariants.{Empty, Full, Hand}
 

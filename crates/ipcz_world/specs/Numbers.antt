@@ -1,5 +1,4 @@
 -- What always holds of the numbers of items: on each link they lie between the receiver's and the sender's, and below the link's length.
--- (This project's own.)
 use Rattle.std.specs.Prelude.{◌≡◌, ◌<◌, ◌≤◌, ℕ, Bool, true, false, nat_le, Option, Some, None, is_some, List}
 use Rattle.ipcz_base.specs.declared.side.Side.{Side}
 use Rattle.ipcz_base.specs.declared.side.Side.TheVariants.{B}

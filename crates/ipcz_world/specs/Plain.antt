@@ -1,5 +1,4 @@
 -- The machine over the books alone: which replies it allows, and what they write.
--- (This project's own.)
 use Rattle.std.specs.Prelude.{◌≡◌, ◌<◌, ℕ, true, Some, [], length}
 use Rattle.ipcz_base.specs.declared.end.End.{End}
 use Rattle.ipcz_base.specs.declared.item.Item.TheVariants.{Parcel, Mark}

@@ -1,5 +1,4 @@
 -- The records at the start and after each step: one function for each kind of step.
--- (This project's own.)
 use Rattle.std.specs.Prelude.{ℕ, zero, suc, ◌+◌, Bool, true, false, ◌||◌, nat_eq, nat_lt, if◌then◌else◌, Option, Some, None, List, [], ◌∷◌}
 use Rattle.std.specs.Prelude.{length}
 use Rattle.ipcz_base.specs.declared.side.Side.{Side}

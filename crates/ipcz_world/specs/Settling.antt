@@ -1,5 +1,4 @@
 -- Settling: visits to the nodes in their order, again and again, in which each takes an act where it has one.
--- (This project's own.)
 use Rattle.std.specs.Prelude.{◌≡◌, ◌≤◌, ◌<◌, ℕ, ◌+◌, Bool, true, false, nat_lt, if◌then◌else◌, List, [], ◌∷◌}
 use Rattle.std.specs.Prelude.{length, ◌*◌}
 use Rattle.ipcz_base.specs.declared.refusal.Refusal.{Refusal}

@@ -1,5 +1,4 @@
 -- What a lawful world and each of its nodes keep so that code can index by them: lengths, and the words and senders that are named.
--- (This project's own.)
 use Rattle.std.specs.Prelude.{◌≡◌, ◌≤◌, ◌<◌, ◌*◌, ℕ, Some, length}
 use Rattle.ipcz_router.specs.Router.{Router, primary_word}
 use Rattle.ipcz_node.specs.Node.{Node, router_in}

@@ -1,5 +1,4 @@
 -- The steps of the world: open, put, get, close and turn, each with its reply and the world after it.
--- (This project's own.)
 use Rattle.std.specs.Prelude.{◌≡◌, ◌⊎◌, ◌<◌, ℕ, ◌+◌, Bool, true, false, nat_lt, if◌then◌else◌, IsTrue, Option, Some, None}
 use Rattle.ipcz_base.specs.declared.side.Side.TheVariants.{A, B}
 use Rattle.ipcz_base.specs.declared.end.End.{End}

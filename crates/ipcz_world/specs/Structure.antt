@@ -1,5 +1,4 @@
 -- What always holds of counters, routers, links and words.
--- (This project's own.)
 use Rattle.std.specs.Prelude.{◌≡◌, ◌<◌, ◌≤◌, ℕ, Bool, true, false, ◌&&◌, nat_le, if◌then◌else◌, Option, Some, None, is_some, is_none}
 use Rattle.std.specs.Prelude.{option_map}
 use Rattle.ipcz_base.specs.declared.side.Side.{Side}

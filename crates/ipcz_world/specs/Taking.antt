@@ -1,5 +1,4 @@
 -- What the code needs to know of a world to take a step of it, and what a turn that takes a certain act comes to.
--- (This project's own.)
 use Rattle.std.specs.Prelude.{◌≡◌, ◌<◌, ℕ, true, false, if◌then◌else◌, Option, Result, IsOk, OnOk, OnErr, IfOk, IfErr}
 use Rattle.ipcz_base.specs.declared.refusal.Refusal.{Refusal}
 use Rattle.ipcz_base.specs.declared.refusal.Refusal.TheVariants.{NumbersEnd, OutOfMemory}

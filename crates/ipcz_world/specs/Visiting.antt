@@ -1,5 +1,4 @@
 -- Which node takes the next act in passes over the nodes.
--- (This project's own.)
 use Rattle.std.specs.Prelude.{◌≡◌, ◌⊎◌, ◌≤◌, ◌<◌, ℕ, true, false}
 use Rattle.ipcz_world.specs.World.{World}
 use Rattle.ipcz_world.specs.Turns.{next_at, is_idle}

@@ -1,5 +1,4 @@
 -- Where each end, each accepted item and each item's ends are.
--- (This project's own.)
 use Rattle.std.specs.Prelude.{◌≡◌, ◌≢◌, ◌≤◌, ℕ, suc, ◌+◌, true, false, cond, ◌&&◌, nat_eq, Some, List, [], length, take, map, slice_get}
 use Rattle.ipcz_base.specs.declared.side.Side.{Side}
 use Rattle.ipcz_base.specs.declared.end.End.{End}
