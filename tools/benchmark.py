@@ -77,15 +77,20 @@ def there(i):
     return ("0>1", "1>0") if i % 2 == 0 else ("1>0", "0>1")
 
 
-def to_and_fro(size):
-    """A portal to and fro between two nodes, with a parcel after each move; words to spare.
+def moves_with_parcels(words, size):
+    """A portal to and fro between two nodes, with a parcel after each move.
 
     The data fills each move up to 265 bytes, so that the whole script makes fewer than 4,094 moves."""
     def block(i):
         a, b = there(i)
         return ['["put","%s","%s",["y"]]' % (a, "m" * 90), SETTLE, '["get","%s"]' % b,
                 '["put","x","%s"]' % ("d" * 81), SETTLE, '["get","y"]']
-    return script(2, 4096, ['["open",0,"x","y"]'], block, [], size)
+    return script(2, words, ['["open",0,"x","y"]'], block, [], size)
+
+
+def to_and_fro(size):
+    """A portal to and fro between two nodes, with a parcel after each move; words to spare."""
+    return moves_with_parcels(4096, size)
 
 
 def to_and_fro_dry(size):
@@ -98,11 +103,7 @@ def to_and_fro_dry(size):
 
 def to_and_fro_dry_parcels(size):
     """The same with a parcel after each move: each parcel passes all proxies."""
-    def block(i):
-        a, b = there(i)
-        return ['["put","%s","%s",["y"]]' % (a, "m" * 90), SETTLE, '["get","%s"]' % b,
-                '["put","x","%s"]' % ("d" * 81), SETTLE, '["get","y"]']
-    return script(2, 2, ['["open",0,"x","y"]'], block, [], size)
+    return moves_with_parcels(2, size)
 
 
 def chain(size):
