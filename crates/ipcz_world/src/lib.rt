@@ -8,8 +8,6 @@ mod mailboxes;
 mod nodes;
 mod state;
 mod step;
-#[cfg(test)]
-mod tests;
 mod word_answers;
 mod world;
 

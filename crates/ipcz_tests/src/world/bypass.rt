@@ -1,7 +1,7 @@
 //! One bypass, each turn of it with what it is seen to do.
 
 use super::{a, b, get, is_got, is_put, put};
-use crate::{Settled, Step, World};
+use ipcz_world::{Settled, Step, World};
 use std::alloc::Global;
 use std::test::Fail;
 

@@ -1,7 +1,7 @@
 //! Worlds stepped and run, and what they answer, by docs/PROTOCOL.md.
 mod bypass;
 
-use crate::{Reply, Settled, Step, World};
+use ipcz_world::{Reply, Settled, Step, World};
 use ipcz_base::{End, Refusal, Sequence, Side};
 use ipcz_node::Happened;
 use std::alloc::{AllocError, Global};
