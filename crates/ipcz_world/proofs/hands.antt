@@ -1,8 +1,19 @@
 -- A node handles the message in its hand: an item, and the messages of a bypass.
 pub mod AcceptBypass
+pub mod AcceptBypassAround
+pub mod AcceptBypassLinks
+pub mod AcceptBypassNumbers
 pub mod AcceptBypassRecords
+pub mod AcceptBypassStages
+pub mod AcceptBypassViews
 pub mod BypassAsked
 pub mod BypassPeer
+pub mod BypassPeerAround
+pub mod BypassPeerLinks
+pub mod BypassPeerMessages
+pub mod BypassPeerNumbers
+pub mod BypassPeerRecords
+pub mod BypassPeerStages
 pub mod HandingItems
 pub mod Handling
 pub mod ItemAsked
