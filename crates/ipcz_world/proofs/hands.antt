@@ -19,10 +19,12 @@ pub mod Handling
 pub mod ItemAsked
 pub mod MadeNodes
 pub mod MakingEnds
-pub mod Materializing
+pub mod MaterializingAround
 pub mod MaterializingItems
+pub mod MaterializingLinks
 pub mod MaterializingNodes
 pub mod MaterializingPlaces
+pub mod MaterializingStages
 pub mod ProxyWillStop
 pub mod StopProxying
 pub mod Taking

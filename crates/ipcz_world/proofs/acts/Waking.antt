@@ -49,7 +49,7 @@ use Rattle.ipcz_world.proofs.acts.Flags.{IsFlagged, IsShaped, OnWord, on-word, f
 use Rattle.ipcz_world.proofs.begins.BeginAct.{push-set_node}
 use Rattle.ipcz_world.proofs.acts.Updating.{set-twice}
 use Rattle.ipcz_world.proofs.facts.Finding.{found_tells}
-use Rattle.ipcz_world.proofs.flows.MessagesAlone.{SameButPost, IsFlush, HasHands, post_is, hands-same, passes-pushed, passes-taken}
+use Rattle.ipcz_world.proofs.flows.MessagesPassing.{SameButPost, IsFlush, HasHands, post_is, hands-same, passes-pushed, passes-taken}
 use Rattle.ipcz_world.proofs.flows.MessagesAlone.{inv-passes}
 
 -- a word of a link changes in what its sides wait for alone

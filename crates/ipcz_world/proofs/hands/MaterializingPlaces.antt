@@ -41,14 +41,19 @@ use Rattle.ipcz_world.proofs.views.Known.{same_link-tells, same_side-tells, fres
 use Rattle.ipcz_world.proofs.weights.Weighing.{same_end-itself, in_places-is, in_message-item}
 use Rattle.ipcz_world.proofs.sends.Sending.{about-item, moves-item, times_same}
 use Rattle.ipcz_world.proofs.flows.Awaited.{awaited_none}
-use Rattle.ipcz_world.proofs.sends.Extending.{inner_end_is, same_end-tells}
-use Rattle.ipcz_world.proofs.sends.ExtendingPlaces.{about-same, in_node-same, in_message-same}
-use Rattle.ipcz_world.proofs.sends.ExtendingPlaces.{same_end-turned, expected-alike}
-use Rattle.ipcz_world.proofs.hands.Materializing.{made_key_records, IsMade, IsMaterial, end_is, peripheral_same, node_same, no_central}
-use Rattle.ipcz_world.proofs.hands.Materializing.{end_same, source_same, bypass_same, side_same, recorded_same, router_new, router_same}
-use Rattle.ipcz_world.proofs.hands.Materializing.{was_there, nowhere_same, counts-made, ordered-made, shape-made}
-use Rattle.ipcz_world.proofs.hands.Materializing.{links-made, positions-made, stands-made, words-made, spares-made, bypasses-made}
-use Rattle.ipcz_world.proofs.hands.Materializing.{stages-made, terminals-made}
+use Rattle.ipcz_world.proofs.sends.ExtendingAround.{inner_end_is, same_end-tells}
+use Rattle.ipcz_world.proofs.sends.ExtendingFacts.{about-same, in_node-same, in_message-same}
+use Rattle.ipcz_world.proofs.sends.ExtendingFacts.{same_end-turned, expected-alike}
+use Rattle.ipcz_world.proofs.hands.MaterializingAround.{made_key_records, IsMade, IsMaterial, end_is, peripheral_same, node_same}
+use Rattle.ipcz_world.proofs.hands.MaterializingAround.{no_central}
+use Rattle.ipcz_world.proofs.hands.MaterializingAround.{end_same, source_same, bypass_same, side_same, recorded_same, router_new}
+use Rattle.ipcz_world.proofs.hands.MaterializingAround.{router_same}
+use Rattle.ipcz_world.proofs.hands.MaterializingAround.{was_there}
+use Rattle.ipcz_world.proofs.hands.MaterializingStages.{nowhere_same}
+use Rattle.ipcz_world.proofs.hands.MaterializingLinks.{counts-made, ordered-made, shape-made}
+use Rattle.ipcz_world.proofs.hands.MaterializingLinks.{links-made, positions-made}
+use Rattle.ipcz_world.proofs.hands.MaterializingStages.{stands-made, words-made, spares-made, bypasses-made}
+use Rattle.ipcz_world.proofs.hands.MaterializingStages.{stages-made, terminals-made}
 use Rattle.ipcz_world.proofs.hands.MaterializingItems.{expected_move-moving, expected_move-at, total_list-at, none_of_end, no_weight}
 use Rattle.ipcz_world.proofs.hands.MaterializingItems.{makes-less, reach-blank, d0, moving}
 use Rattle.ipcz_world.proofs.sends.ExtendingItems.{same_link-turned}
@@ -95,7 +100,7 @@ module _ (w v : World) (b : Books) (g : Records) (a : ℕ) (q p : Key) (d : Desc
       go false c = c
       go true c = let x : link ≡ inner_link p = same_link-tells link (inner_link p) (grind (arith, c)) in let y : u ≡ B =
           same_side-tells u B (grind (arith, c)) in
-          absurd (none_some (sym none ∙ ap (λ l. side_router h2 l u) x ∙ ap (side_router h2 (inner_link p)) y ∙ router_new w v b g a q p d
+          absurd (none_some (sym none ∙ ap (λ l. side_router h2 l u) x ∙ ap (side_router h2 (inner_link p)) y ∙ router_new
           law is t))
 
   still : (from to i : ℕ) (x : Message) → IsUnderWay v from to i x → (link : LinkId) (u : Side) → side_router h2 link u ≡ None →
@@ -127,7 +132,7 @@ module _ (w v : World) (b : Books) (g : Records) (a : ℕ) (q p : Key) (d : Desc
     control = λ o f. let u = under_way-rewritten (λ from to. of_bypass h2 o (f from to)) w v a q.node pre post m0 m1 r in
         let same : under_way (λ from to. of_bypass h2 o (f from to)) w ≡ under_way (λ from to. of_bypass g o (f from to)) w =
         under_way-congr (λ from to. of_bypass h2 o (f from to)) (λ from to. of_bypass g o (f from to)) w
-        (λ from to i m c. about-same g h2 o (f from to) m (bypass_same w v b g a q p d law is t)) in
+        (λ from to i m c. about-same g h2 o (f from to) m (bypass_same law is t)) in
         omega (
           arith,
           u,
@@ -135,21 +140,21 @@ module _ (w v : World) (b : Books) (g : Records) (a : ℕ) (q p : Key) (d : Desc
           law.told.control o f,
           about-item h2 o (f a q.node) l s n item (d ∷ moves),
           about-item h2 o (f a q.node) l s n item moves,
-          expected-alike g h2 f o refl (node_same w v b g a q p d law is t (inner_of g o) B) (side_same w v b g a q p d law is t o)
-              (λ z. node_same w v b g a q p d law is t (Central o) z),
+          expected-alike g h2 f o refl (node_same law is t (inner_of g o) B) (side_same law is t o)
+              (λ z. node_same law is t (Central o) z),
         );
-    will_stop = λ from to i x u m c. ap is_some (bypass_same w v b g a q p d law is t x) ∙ law.told.will_stop from to i x u m
+    will_stop = λ from to i x u m c. ap is_some (bypass_same law is t x) ∙ law.told.will_stop from to i x u m
         (plain_came from to i (messages.ProxyWillStop x u m) c (λ e. grind (arith, e)));
     behind = λ from to i x u old target fresh c e. let o = plain_came from to i (messages.BypassPeer x u old target fresh) c
         (λ e. grind (arith, e)) in
         still from to i (messages.BypassPeer x u old target fresh) c x u e
-        (law.told.behind from to i x u old target fresh o (sym (router_same w v b g a q p d law is t x u (still_waits x u e)) ∙ e));
+        (law.told.behind from to i x u old target fresh o (sym (router_same law is t x u (still_waits x u e)) ∙ e));
     flush_central = λ from to i x u c. law.told.flush_central from to i x u (flush from to i x u c);
-    flush_recorded = λ from to i x u c. recorded_same w v b g a q p d law is t x ∙ law.told.flush_recorded from to i x u
+    flush_recorded = λ from to i x u c. recorded_same law is t x ∙ law.told.flush_recorded from to i x u
         (flush from to i x u c);
-    flush_to = λ from to i x u c. law.told.flush_to from to i x u (flush from to i x u c) ∙ sym (node_same w v b g a q p d law is t x u);
+    flush_to = λ from to i x u c. law.told.flush_to from to i x u (flush from to i x u c) ∙ sym (node_same law is t x u);
     flush_from = λ from to i x u c. law.told.flush_from from to i x u (flush from to i x u c) ∙ sym
-        (node_same w v b g a q p d law is t x (opposite u));
+        (node_same law is t x (opposite u));
   }
     where
       flush : (from to i : ℕ) (x : LinkId) (u : Side) → IsUnderWay v from to i (messages.Flush x u) →
@@ -217,19 +222,19 @@ module _ (w v : World) (b : Books) (g : Records) (a : ℕ) (q p : Key) (d : Desc
       | inr o ↦ absurd (away (sym o.1 ∙ o.2))
     ];
     recorded = λ from to i j m c u e. let o = descriptor_came from to i j m c u e in
-        recorded_same w v b g a q p d law is t c.link ∙ law.moves.recorded from to i o.2.0 o.0 c o.1 o.2.1;
+        recorded_same law is t c.link ∙ law.moves.recorded from to i o.2.0 o.0 c o.1 o.2.1;
     peripheral = λ from to i j m c u e. let o = descriptor_came from to i j m c u e in law.moves.peripheral from to i o.2.0 o.0 c o.1 o.2.1;
     sender = λ from to i j m c u e. let o = descriptor_came from to i j m c u e in
-        node_same w v b g a q p d law is t c.link A ∙ law.moves.sender from to i o.2.0 o.0 c o.1 o.2.1;
+        node_same law is t c.link A ∙ law.moves.sender from to i o.2.0 o.0 c o.1 o.2.1;
     receiver = λ from to i j m c u e. let o = descriptor_came from to i j m c u e in
-        node_same w v b g a q p d law is t c.link B ∙ law.moves.receiver from to i o.2.0 o.0 c o.1 o.2.1;
+        node_same law is t c.link B ∙ law.moves.receiver from to i o.2.0 o.0 c o.1 o.2.1;
     awaited = λ from to i j m c u e. let o = descriptor_came from to i j m c u e in
-        router_same w v b g a q p d law is t c.link B (other_link c (gone_end from to i j m c u e)
+        router_same law is t c.link B (other_link c (gone_end from to i j m c u e)
         (law.moves.end from to i o.2.0 o.0 c o.1 o.2.1)) ∙ law.moves.awaited from to i o.2.0 o.0 c o.1 o.2.1;
     end = λ from to i j m c u e. let o = descriptor_came from to i j m c u e in
-        end_same w v b g a q p d law is t c.link B ∙ law.moves.end from to i o.2.0 o.0 c o.1 o.2.1;
+        end_same law is t c.link B ∙ law.moves.end from to i o.2.0 o.0 c o.1 o.2.1;
     one = λ e f. weigh e f (same_end e d.end) refl;
-    moving = λ k rec none. waiting k (sym (recorded_same w v b g a q p d law is t (inner_link k)) ∙ rec) none (same_key k p) refl;
+    moving = λ k rec none. waiting k (sym (recorded_same law is t (inner_link k)) ∙ rec) none (same_key k p) refl;
   }
     where
       other_link : (c : Descriptor) → same_end c.end d.end ≡ false → side_end g c.link B ≡ c.end →
@@ -239,7 +244,7 @@ module _ (w v : World) (b : Books) (g : Records) (a : ℕ) (q p : Key) (d : Desc
           go : (e : Bool) → same_link c.link (inner_link p) ≡ e → (same_link c.link (inner_link p) && same_side B B) ≡ false
           go false e = grind (arith, e)
           go true e = let x : c.end ≡ d.end = sym end ∙ ap (λ l. side_end g l B) (same_link-tells c.link (inner_link p) e) ∙ inner_end_is g
-              p B ∙ end_is w v b g a q p d law is t in absurd (grind (arith, apart, x, same_end-itself d.end))
+              p B ∙ end_is law is t in absurd (grind (arith, apart, x, same_end-itself d.end))
 
       none_left : (f : Descriptor → ℕ) → under_way (λ from to m. total_list (of_end d.end f) (moves_of m)) v ≡ 0
       none_left f = under_way-congr (λ from to m. total_list (of_end d.end f) (moves_of m)) (λ from to m. 0) v
@@ -267,7 +272,7 @@ module _ (w v : World) (b : Books) (g : Records) (a : ℕ) (q p : Key) (d : Desc
           made_router c = grind (arith, c)
       waiting k rec none false c =
           let old : (g.peripheral k).router ≡ None = grind (arith, c, none) in
-          ap (λ e. moving_link (h2.terminal e)) (peripheral_same w v b g a q p d law is t (λ z. z.end) (λ z o. refl) k) ∙ ap moving_link
+          ap (λ e. moving_link (h2.terminal e)) (peripheral_same law is t (λ z. z.end) (λ z o. refl) k) ∙ ap moving_link
           (other_terminal w v b g a q p d law is t k rec old (apart_link k c)) ∙ law.moves.moving k rec old
         where
           apart_link : (k : Key) → same_key k p ≡ false → same_link (inner_link k) (inner_link p) ≡ false
@@ -284,7 +289,7 @@ module _ (w v : World) (b : Books) (g : Records) (a : ℕ) (q p : Key) (d : Desc
   }
     where
       old : (x : Key) (z : Router) (f : LinkEnd) → router_at v x ≡ Some z → z.outward.decaying ≡ Some f → router_at w x ≡ Some z
-      old x z f at off = elim (was_there w v b g a q p d law is t x z at) [ inl o ↦ o.0 | inr o ↦ absurd (grind (arith, o.0, off)) ]
+      old x z f at off = elim (was_there law is t x z at) [ inl o ↦ o.0 | inr o ↦ absurd (grind (arith, o.0, off)) ]
 
       standing_came : (x : Key) (z c : Router) (e f : LinkEnd) → router_at w x ≡ Some z → z.outward.primary ≡ Some e →
           z.outward.decaying ≡ Some f → standing_router (view v h2 e.link (opposite e.side)) ≡ Some c →
@@ -307,12 +312,12 @@ module _ (w v : World) (b : Books) (g : Records) (a : ℕ) (q p : Key) (d : Desc
   end_places-made = record {
     held = λ m e has. term_kept e m (law.end_places.held m e (subst (λ c. holds e c ≡ true) (ends.held m) has));
     pending = λ m e has. term_kept e m (law.end_places.pending m e (subst (λ c. has_end e c ≡ true) (ends.pending m) has));
-    out = λ x z m i e at f has. elim (was_there w v b g a q p d law is t x z at) [
+    out = λ x z m i e at f has. elim (was_there law is t x z at) [
       | inl o ↦ term_kept e x.node (law.end_places.out x z m i e o.0 f has)
       | inr o ↦ absurd
           (none_some (sym (blank_at d.next_out m) ∙ ap (λ z. item_at z.out_queue m) (sym o.0) ∙ f))
     ];
-    inn = λ x z m i e at f has. elim (was_there w v b g a q p d law is t x z at) [
+    inn = λ x z m i e at f has. elim (was_there law is t x z at) [
       | inl o ↦ term_kept e x.node (law.end_places.inn x z m i e o.0 f has)
       | inr o ↦ absurd
           (none_some (sym (blank_at d.next_in m) ∙ ap (λ z. item_at z.in_queue m) (sym o.0) ∙ f))
@@ -326,7 +331,7 @@ module _ (w v : World) (b : Books) (g : Records) (a : ℕ) (q p : Key) (d : Desc
     own_pair = law.books_kept.own_pair;
     mark_last = law.books_kept.mark_last;
     numbers = law.books_kept.numbers;
-    mark_seen = λ x z at e. elim (was_there w v b g a q p d law is t x z at)
+    mark_seen = λ x z at e. elim (was_there law is t x z at)
         [ inl o ↦ law.books_kept.mark_seen x z o.0 e | inr o ↦ absurd (grind (arith, o.0, e)) ];
   }
 
@@ -337,7 +342,7 @@ module _ (w v : World) (b : Books) (g : Records) (a : ℕ) (q p : Key) (d : Desc
         let msgs = under_way-rewritten (λ from to m. in_message f h2 m) w v a q.node pre post m0 m1 r in
         let same : under_way (λ from to m. in_message f h2 m) w ≡ under_way (λ from to m. in_message f g m) w =
         under_way-congr (λ from to m. in_message f h2 m) (λ from to m. in_message f g m) w
-        (λ from to i m u. in_message-same f g h2 m (λ x c j z ds e. source_same w v b g a q p d law is t x c)) in
+        (λ from to i m u. in_message-same f g h2 m (λ x c j z ds e. source_same law is t x c)) in
         let stood_still : total_below w.count (λ j. in_node f h2 (node_at w j)) ≡ total_below w.count (λ j. in_node f g (node_at w j)) =
         total_below-same w.count (λ j. in_node f h2 (node_at w j)) (λ j. in_node f g (node_at w j))
         (λ j less. in_node-same f g h2 (node_at w j) (law.no_strays j)) in
@@ -359,17 +364,17 @@ module _ (w v : World) (b : Books) (g : Records) (a : ℕ) (q p : Key) (d : Desc
       read_put = law.conserved.read_put;
       prefix = law.conserved.prefix;
       gone_closed = law.conserved.gone_closed;
-      reach = λ x z at e. elim (was_there w v b g a q p d law is t x z at) [
+      reach = λ x z at e. elim (was_there law is t x z at) [
         | inl o ↦ law.conserved.reach x z o.0 e
         | inr o ↦ subst (λ z. reach z.out_queue ≡ length (b.put z.end)) (sym o.0)
             (reach-blank d.next_out ∙ law.conserved.move_out a q.node is.index is.place is.message d is.under_way is.descriptor)
       ];
-      current = λ x z at e. elim (was_there w v b g a q p d law is t x z at) [
+      current = λ x z at e. elim (was_there law is t x z at) [
         | inl o ↦ law.conserved.current x z o.0 e
         | inr o ↦ subst (λ z. z.in_queue.current ≡ read b z.end) (sym o.0)
             (law.conserved.move_in a q.node is.index is.place is.message d is.under_way is.descriptor)
       ];
-      sink = λ x z at e. elim (was_there w v b g a q p d law is t x z at) [
+      sink = λ x z at e. elim (was_there law is t x z at) [
         | inl o ↦ law.conserved.sink x z o.0 e
         | inr o ↦ subst (λ z. z.closed ≡ is_closed b z.end) (sym o.0)
             (sym (law.conserved.move_open a q.node is.index is.place is.message d is.under_way is.descriptor))
@@ -379,8 +384,8 @@ module _ (w v : World) (b : Books) (g : Records) (a : ℕ) (q p : Key) (d : Desc
       move_in = λ from to i j m c u e. let o = descriptor_came from to i j m c u e in law.conserved.move_in from to i o.2.0 o.0 c o.1 o.2.1;
       move_open = λ from to i j m c u e. let o = descriptor_came from to i j m c u e in
           law.conserved.move_open from to i o.2.0 o.0 c o.1 o.2.1;
-      unopened_put = λ e f. law.conserved.unopened_put e (sym (nowhere_same w v b g a q p d law is t e) ∙ f);
-      unopened_got = λ e f. law.conserved.unopened_got e (sym (nowhere_same w v b g a q p d law is t e) ∙ f);
+      unopened_put = λ e f. law.conserved.unopened_put e (sym (nowhere_same law is t e) ∙ f);
+      unopened_got = λ e f. law.conserved.unopened_got e (sym (nowhere_same law is t e) ∙ f);
     }
 
     pub held_once-made : HeldOnce v b h2
@@ -390,7 +395,7 @@ module _ (w v : World) (b : Books) (g : Records) (a : ℕ) (q p : Key) (d : Desc
         places (names_end e),
         times_same w v ends e,
         law.held_once.once e,
-        ap {B = ℕ} (λ c. cond c 0 1) (nowhere_same w v b g a q p d law is t e),
+        ap {B = ℕ} (λ c. cond c 0 1) (nowhere_same law is t e),
       );
       moves_in_parcel = λ from to i x u m z ds j c o e. in_parcel from to i x u m z ds j c o e
           (came from to i (messages.Item x u m z ds) o);
@@ -410,19 +415,19 @@ module _ (w v : World) (b : Books) (g : Records) (a : ℕ) (q p : Key) (d : Desc
     -- all together
     pub inv-made : Hands v → OpenInv v b h2
     inv-made hands = record {
-      counts = counts-made w v b g a q p d law is t hands;
-      ordered = ordered-made w v b g a q p d law is t;
-      shape = shape-made w v b g a q p d law is t;
-      links = links-made w v b g a q p d law is t;
-      positions = positions-made w v b g a q p d law is t;
-      stands = stands-made w v b g a q p d law is t;
-      words = words-made w v b g a q p d law is t;
-      spares = spares-made w v b g a q p d law is t;
-      bypasses = bypasses-made w v b g a q p d law is t;
-      stages = stages-made w v b g a q p d law is t;
+      counts = counts-made law is t hands;
+      ordered = ordered-made law is t;
+      shape = shape-made law is t;
+      links = links-made law is t;
+      positions = positions-made law is t;
+      stands = stands-made law is t;
+      words = words-made law is t;
+      spares = spares-made law is t;
+      bypasses = bypasses-made law is t;
+      stages = stages-made law is t;
       told = told-made;
       moves = moves-made;
-      terminals = terminals-made w v b g a q p d law is t;
+      terminals = terminals-made law is t;
       end_places = end_places-made;
       books_kept = books_kept-made;
       items = items-made;
