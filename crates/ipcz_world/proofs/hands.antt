@@ -19,6 +19,7 @@ pub mod Handling
 pub mod ItemAsked
 pub mod MadeNodes
 pub mod MakingEnds
+pub mod Materializing
 pub mod MaterializingAround
 pub mod MaterializingItems
 pub mod MaterializingLinks

@@ -35,7 +35,7 @@ use Rattle.ipcz_world.proofs.flows.Flowing.{IsRewritten}
 use Rattle.ipcz_world.proofs.weights.Weighing.{in_nodes-changed, in_router-is}
 use Rattle.ipcz_world.proofs.frames.Opened.{OpenInv}
 use Rattle.ipcz_world.proofs.hands.MaterializingAround.{made_key_records, IsMade, IsMaterial}
-use Rattle.ipcz_world.proofs.hands.MaterializingPlaces.{inv-made}
+use Rattle.ipcz_world.proofs.hands.Materializing.{inv-made}
 
 -- the world after the making of one terminal, with what is left of the message in hand
 abbrev pub make_act : World → ℕ → ℕ → Descriptor → Message → World

@@ -1,7 +1,6 @@
--- A descriptor becomes a terminal, and the message that carried it has it no more: what is said of messages, bypasses and places is kept.
+-- A descriptor becomes a terminal, and the message that had it has it no more: the messages, and the place of each end.
 use Rattle.ipcz_world.proofs.weights.OfRecords.{holds}
-use Rattle.std.specs.Prelude.{◌≡◌, ◌≢◌, ◌⊎◌, ◌+◌, ℕ, suc, Bool, true, false, cond, ◌&&◌, Some, None, is_some}
-use Rattle.std.specs.Prelude.{refl, List, ◌∷◌, length, slice_get}
+use Rattle.std.specs.Prelude.{◌≡◌, ◌≢◌, ◌⊎◌, ◌+◌, ℕ, suc, Bool, true, false, ◌&&◌, Some, None, is_some, refl, List, ◌∷◌, slice_get}
 use Rattle.std.proofs.Common.{arith, ap, subst, ◌∙◌, sym, inl, inr}
 use Rattle.ipcz_base.specs.declared.side.Side.{Side}
 use Rattle.ipcz_base.specs.declared.side.Side.TheVariants.{A, B}
@@ -16,51 +15,33 @@ use Rattle.ipcz_base.specs.declared.message.Message.TheVariants as messages
 use Rattle.ipcz_base.specs.Sides.{opposite, same_side}
 use Rattle.ipcz_base.specs.Links.{same_link}
 use Rattle.ipcz_base.specs.Ends.{same_end, has_end}
-use Rattle.ipcz_seq.specs.Queue.{item_at, reach}
-use Rattle.ipcz_router.specs.Router.{Router}
-use Rattle.ipcz_router.specs.Router.{from_descriptor}
-use Rattle.ipcz_base.specs.Items.{ends_in}
-use Rattle.ipcz_world.specs.World.{World, Key, same_key, node_at, router_at}
-use Rattle.ipcz_world.specs.Books.{Books, read, is_closed}
-use Rattle.ipcz_world.specs.Records.{Records, At, Moving, is_recorded, inner_link, side_router, side_end}
-use Rattle.ipcz_world.specs.Records.{terminal_node}
+use Rattle.ipcz_seq.specs.Queue.{item_at}
+use Rattle.ipcz_router.specs.Router.{Router, from_descriptor}
+use Rattle.ipcz_world.specs.World.{World, Key, same_key, router_at}
+use Rattle.ipcz_world.specs.Books.{Books}
+use Rattle.ipcz_world.specs.Records.{Records, At, Moving, is_recorded, inner_link, side_router, side_end, terminal_node}
 use Rattle.ipcz_world.specs.Standing.{view}
 use Rattle.ipcz_world.specs.Flows.{IsUnderWay, is_made_before, under_way, of_end, moves_of}
-use Rattle.ipcz_world.specs.Places.{Weight, at_end, names_end}
-use Rattle.ipcz_world.proofs.weights.OfRecords.{in_message, in_node, in_places}
-use Rattle.ipcz_base.specs.Totals.{total_list, total_below}
+use Rattle.ipcz_base.specs.Totals.{total_list}
 use Rattle.ipcz_world.specs.Bypasses.{Told, of_bypass, inner_of, move_weight, moving_link}
-use Rattle.ipcz_world.specs.Whereabouts.{EndPlaces, BooksKept, Conserved, HeldOnce}
+use Rattle.ipcz_world.specs.Whereabouts.{EndPlaces, BooksKept}
 use Rattle.ipcz_world.specs.Numbers.{Items, FreshNumbers, IsItemUnderWay, standing_router}
-use Rattle.ipcz_world.proofs.frames.Touching.{HasSameEnds, Hands}
+use Rattle.ipcz_world.proofs.frames.Touching.{HasSameEnds}
 use Rattle.ipcz_world.proofs.flows.Fitting.{fits_of, items_by}
 use Rattle.ipcz_world.proofs.flows.Flowing.{IsRewritten, came_rewritten, made_still, under_way-rewritten, under_way-congr, weighed}
-use Rattle.ipcz_world.proofs.flows.Flowing.{total_below-same}
 use Rattle.ipcz_world.proofs.frames.Opened.{OpenInv, OpenMoves}
 use Rattle.ipcz_world.proofs.views.Known.{same_link-tells, same_side-tells, fresh_central}
-use Rattle.ipcz_world.proofs.weights.Weighing.{same_end-itself, in_places-is, in_message-item}
-use Rattle.ipcz_world.proofs.sends.Sending.{about-item, moves-item, times_same}
+use Rattle.ipcz_world.proofs.weights.Weighing.{same_end-itself}
+use Rattle.ipcz_world.proofs.sends.Sending.{about-item, moves-item}
 use Rattle.ipcz_world.proofs.flows.Awaited.{awaited_none}
 use Rattle.ipcz_world.proofs.sends.ExtendingAround.{inner_end_is, same_end-tells}
-use Rattle.ipcz_world.proofs.sends.ExtendingFacts.{about-same, in_node-same, in_message-same}
-use Rattle.ipcz_world.proofs.sends.ExtendingFacts.{same_end-turned, expected-alike}
+use Rattle.ipcz_world.proofs.sends.ExtendingFacts.{about-same, same_end-turned, expected-alike}
 use Rattle.ipcz_world.proofs.hands.MaterializingAround.{made_key_records, IsMade, IsMaterial, end_is, peripheral_same, node_same}
-use Rattle.ipcz_world.proofs.hands.MaterializingAround.{no_central}
-use Rattle.ipcz_world.proofs.hands.MaterializingAround.{end_same, source_same, bypass_same, side_same, recorded_same, router_new}
-use Rattle.ipcz_world.proofs.hands.MaterializingAround.{router_same}
-use Rattle.ipcz_world.proofs.hands.MaterializingAround.{was_there}
-use Rattle.ipcz_world.proofs.hands.MaterializingStages.{nowhere_same}
-use Rattle.ipcz_world.proofs.hands.MaterializingLinks.{counts-made, ordered-made, shape-made}
-use Rattle.ipcz_world.proofs.hands.MaterializingLinks.{links-made, positions-made}
-use Rattle.ipcz_world.proofs.hands.MaterializingStages.{stands-made, words-made, spares-made, bypasses-made}
-use Rattle.ipcz_world.proofs.hands.MaterializingStages.{stages-made, terminals-made}
+use Rattle.ipcz_world.proofs.hands.MaterializingAround.{no_central, end_same, bypass_same, side_same, recorded_same, router_new}
+use Rattle.ipcz_world.proofs.hands.MaterializingAround.{router_same, was_there}
 use Rattle.ipcz_world.proofs.hands.MaterializingItems.{expected_move-moving, expected_move-at, total_list-at, none_of_end, no_weight}
-use Rattle.ipcz_world.proofs.hands.MaterializingItems.{makes-less, reach-blank, d0, moving}
-use Rattle.ipcz_world.proofs.sends.ExtendingItems.{same_link-turned}
-use Rattle.ipcz_world.proofs.sends.ExtendingItems.{same_item}
-use Rattle.ipcz_world.proofs.sends.ExtendingItems.{blank_at}
-use Rattle.ipcz_world.proofs.hands.MaterializingItems.{other_terminal, seen_made, length_same, fits-made, order-made}
-use Rattle.ipcz_world.proofs.hands.MaterializingItems.{proxy_numbers-made}
+use Rattle.ipcz_world.proofs.hands.MaterializingItems.{makes-less, d0, moving, other_terminal, seen_made, length_same, fits-made}
+use Rattle.ipcz_world.proofs.sends.ExtendingItems.{same_link-turned, same_item, blank_at}
 
 none_some : {X : Type 0} {x : X} → None ≡ Some x → ⊥
 none_some e = cc
@@ -74,9 +55,9 @@ unfolding same_key
 same_key-link k p c = c
 
 -- with the message that had the descriptor
-module _ (w v : World) (b : Books) (g : Records) (a : ℕ) (q p : Key) (d : Descriptor) (law : OpenInv w b g) (is : IsMaterial w g a q p d)
-    (t : IsMade w v q (from_descriptor d a)) (l : LinkId) (s : Side) (n : ℕ) (item : Item) (moves : List Descriptor)
-    (pre post : List Message)
+module _ {w v : World} {b : Books} {g : Records} {a : ℕ} {q p : Key} {d : Descriptor} (law : OpenInv w b g) (is : IsMaterial w g a q p d)
+    (t : IsMade w v q (from_descriptor d a)) {l : LinkId} {s : Side} {n : ℕ} {item : Item} {moves : List Descriptor}
+    {pre post : List Message}
     (r : IsRewritten w v a q.node pre post (messages.Item l s n item (d ∷ moves)) (messages.Item l s n item moves)) (away : a ≢ q.node)
     (ends : HasSameEnds w v) where
   abbrev h2 : Records
@@ -88,7 +69,7 @@ module _ (w v : World) (b : Books) (g : Records) (a : ℕ) (q p : Key) (d : Desc
   abbrev m1 : Message
   m1 = messages.Item l s n item moves
 
-  came : (from to i : ℕ) (x : Message) → IsUnderWay v from to i x →
+  pub came : (from to i : ℕ) (x : Message) → IsUnderWay v from to i x →
       (IsUnderWay w from to i x) ⊎ ((x ≡ m1) × (from ≡ a) × (to ≡ q.node) × IsUnderWay w from to i m0)
   came = came_rewritten w v a q.node pre post m0 m1 r
 
@@ -162,7 +143,7 @@ module _ (w v : World) (b : Books) (g : Records) (a : ℕ) (q p : Key) (d : Desc
       flush from to i x u c = plain_came from to i (messages.Flush x u) c (λ e. grind (arith, e))
 
   -- a descriptor under way was so before
-  descriptor_came : (from to i j : ℕ) (x : Message) (c : Descriptor) → IsUnderWay v from to i x → slice_get (moves_of x) j ≡ Some c →
+  pub descriptor_came : (from to i j : ℕ) (x : Message) (c : Descriptor) → IsUnderWay v from to i x → slice_get (moves_of x) j ≡ Some c →
       (z : Message) × IsUnderWay w from to i z × ((k : ℕ) × (slice_get (moves_of z) k ≡ Some c))
   descriptor_came from to i j x c u f = elim (came from to i x u) [
     | inl o ↦ (x, o, (j, f))
@@ -334,107 +315,3 @@ module _ (w v : World) (b : Books) (g : Records) (a : ℕ) (q p : Key) (d : Desc
     mark_seen = λ x z at e. elim (was_there law is t x z at)
         [ inl o ↦ law.books_kept.mark_seen x z o.0 e | inr o ↦ absurd (grind (arith, o.0, e)) ];
   }
-
-  module _ (nodes : (f : Weight) → total_below v.count (λ j. in_node f h2 (node_at v j)) ≡ total_below w.count
-      (λ j. in_node f h2 (node_at w j))) where
-    places : (f : Weight) → in_places f h2 v ≡ in_places f g w
-    places f =
-        let msgs = under_way-rewritten (λ from to m. in_message f h2 m) w v a q.node pre post m0 m1 r in
-        let same : under_way (λ from to m. in_message f h2 m) w ≡ under_way (λ from to m. in_message f g m) w =
-        under_way-congr (λ from to m. in_message f h2 m) (λ from to m. in_message f g m) w
-        (λ from to i m u. in_message-same f g h2 m (λ x c j z ds e. source_same law is t x c)) in
-        let stood_still : total_below w.count (λ j. in_node f h2 (node_at w j)) ≡ total_below w.count (λ j. in_node f g (node_at w j)) =
-        total_below-same w.count (λ j. in_node f h2 (node_at w j)) (λ j. in_node f g (node_at w j))
-        (λ j less. in_node-same f g h2 (node_at w j) (law.no_strays j)) in
-        omega (
-          arith,
-          in_places-is f h2 v,
-          in_places-is f g w,
-          msgs,
-          same,
-          stood_still,
-          nodes f,
-          in_message-item f h2 l s n item (d ∷ moves),
-          in_message-item f h2 l s n item moves,
-        )
-
-    pub conserved-made : Conserved v b h2
-    conserved-made = record {
-      exact = λ e f. places (at_end e f) ∙ law.conserved.exact e f;
-      read_put = law.conserved.read_put;
-      prefix = law.conserved.prefix;
-      gone_closed = law.conserved.gone_closed;
-      reach = λ x z at e. elim (was_there law is t x z at) [
-        | inl o ↦ law.conserved.reach x z o.0 e
-        | inr o ↦ subst (λ z. reach z.out_queue ≡ length (b.put z.end)) (sym o.0)
-            (reach-blank d.next_out ∙ law.conserved.move_out a q.node is.index is.place is.message d is.under_way is.descriptor)
-      ];
-      current = λ x z at e. elim (was_there law is t x z at) [
-        | inl o ↦ law.conserved.current x z o.0 e
-        | inr o ↦ subst (λ z. z.in_queue.current ≡ read b z.end) (sym o.0)
-            (law.conserved.move_in a q.node is.index is.place is.message d is.under_way is.descriptor)
-      ];
-      sink = λ x z at e. elim (was_there law is t x z at) [
-        | inl o ↦ law.conserved.sink x z o.0 e
-        | inr o ↦ subst (λ z. z.closed ≡ is_closed b z.end) (sym o.0)
-            (sym (law.conserved.move_open a q.node is.index is.place is.message d is.under_way is.descriptor))
-      ];
-      move_out = λ from to i j m c u e. let o = descriptor_came from to i j m c u e in
-          law.conserved.move_out from to i o.2.0 o.0 c o.1 o.2.1;
-      move_in = λ from to i j m c u e. let o = descriptor_came from to i j m c u e in law.conserved.move_in from to i o.2.0 o.0 c o.1 o.2.1;
-      move_open = λ from to i j m c u e. let o = descriptor_came from to i j m c u e in
-          law.conserved.move_open from to i o.2.0 o.0 c o.1 o.2.1;
-      unopened_put = λ e f. law.conserved.unopened_put e (sym (nowhere_same law is t e) ∙ f);
-      unopened_got = λ e f. law.conserved.unopened_got e (sym (nowhere_same law is t e) ∙ f);
-    }
-
-    pub held_once-made : HeldOnce v b h2
-    held_once-made = record {
-      once = λ e. omega (
-        arith,
-        places (names_end e),
-        times_same w v ends e,
-        law.held_once.once e,
-        ap {B = ℕ} (λ c. cond c 0 1) (nowhere_same law is t e),
-      );
-      moves_in_parcel = λ from to i x u m z ds j c o e. in_parcel from to i x u m z ds j c o e
-          (came from to i (messages.Item x u m z ds) o);
-    }
-      where
-        in_parcel : (from to i : ℕ) (x : LinkId) (u : Side) (m : ℕ) (z : Item) (ds : List Descriptor) (j : ℕ) (c : Descriptor) →
-            IsUnderWay v from to i (messages.Item x u m z ds) → slice_get ds j ≡ Some c →
-            ((IsUnderWay w from to i (messages.Item x u m z ds)) ⊎
-            ((messages.Item x u m z ds ≡ m1) × (from ≡ a) × (to ≡ q.node) × IsUnderWay w from to i m0)) →
-            has_end c.end (ends_in z) ≡ true
-        in_parcel from to i x u m z ds j c o e (inl f) = law.held_once.moves_in_parcel from to i x u m z ds j c f e
-        in_parcel from to i x u m z ds j c o e (inr f) =
-            let item_is : z ≡ item = grind (arith, f.0) in let list_is : ds ≡ moves = grind (arith, f.0) in
-            ap (λ i. has_end c.end (ends_in i)) item_is ∙ law.held_once.moves_in_parcel from to i l s n item (d ∷ moves) (suc j) c f.3
-            (ap (λ ms. slice_get ms j) (sym list_is) ∙ e)
-
-    -- all together
-    pub inv-made : Hands v → OpenInv v b h2
-    inv-made hands = record {
-      counts = counts-made law is t hands;
-      ordered = ordered-made law is t;
-      shape = shape-made law is t;
-      links = links-made law is t;
-      positions = positions-made law is t;
-      stands = stands-made law is t;
-      words = words-made law is t;
-      spares = spares-made law is t;
-      bypasses = bypasses-made law is t;
-      stages = stages-made law is t;
-      told = told-made;
-      moves = moves-made;
-      terminals = terminals-made law is t;
-      end_places = end_places-made;
-      books_kept = books_kept-made;
-      items = items-made;
-      order = order-made w v b g a q p d law is t;
-      proxy_numbers = proxy_numbers-made w v b g a q p d law is t;
-      fresh_numbers = fresh_numbers-made;
-      conserved = conserved-made;
-      held_once = held_once-made;
-      no_strays = λ j. t.strays j ∙ law.no_strays j;
-    }
