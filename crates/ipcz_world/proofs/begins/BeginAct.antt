@@ -32,10 +32,10 @@ use Rattle.ipcz_world.proofs.begins.BegunWorld.{Sends, sends-push}
 use Rattle.ipcz_world.proofs.begins.BegunAround.{IsBegunFrom, begun-from}
 use Rattle.ipcz_world.proofs.begins.BegunLinks.{counts-begun, shape-begun, links-begun, positions-begun}
 use Rattle.ipcz_world.proofs.begins.BegunStages.{stands-begun, words-begun, spares-begun, bypasses-begun, stages-begun}
-use Rattle.ipcz_world.proofs.begins.BegunNumbers.{begin_message, ordered-begun, moves-begun, terminals-begun, end_places-begun}
+use Rattle.ipcz_world.proofs.begins.BegunNumbers.{begin_message, ordered-begun, moves-begun, terminals-begun, end_places-begun, books-begun}
+use Rattle.ipcz_world.proofs.begins.BegunNumbers.{items-begun, order-begun, proxy_numbers-begun, fresh_numbers-begun, conserved-begun}
+use Rattle.ipcz_world.proofs.begins.BegunNumbers.{held_once-begun}
 use Rattle.ipcz_world.proofs.begins.BegunMessages.{told-begun}
-use Rattle.ipcz_world.proofs.begins.BegunNumbers.{books-begun, items-begun, order-begun, proxy_numbers-begun, fresh_numbers-begun}
-use Rattle.ipcz_world.proofs.begins.BegunNumbers.{conserved-begun, held_once-begun}
 use Rattle.ipcz_world.proofs.acts.Updating.{set-twice}
 
 pub inv-begin : (w : World) (b : Books) (g : Records) (k : Key) (r : Router) (p : Key) (into out : LinkEnd) (o fresh : ℕ) → Inv w b g →

@@ -10,7 +10,6 @@ use Rattle.ipcz_base.specs.declared.link_id.LinkId.TheVariants.{Central, Periphe
 use Rattle.ipcz_base.specs.declared.link_end.LinkEnd.{LinkEnd}
 use Rattle.ipcz_base.specs.declared.message.Message.{Message}
 use Rattle.ipcz_base.specs.Sides.{opposite}
-use Rattle.ipcz_word.specs.SideSets.{has}
 use Rattle.ipcz_edge.specs.Edge.{Edge}
 use Rattle.ipcz_router.specs.Router.{Router, is_proxy, is_terminal, inward_edge}
 use Rattle.ipcz_router.specs.ActEffects.{begin_bypass}

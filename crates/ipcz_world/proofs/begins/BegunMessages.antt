@@ -29,7 +29,7 @@ use Rattle.ipcz_world.proofs.flows.Flowing.{total_list-found, IsLast, under_way-
 use Rattle.ipcz_world.proofs.begins.Beginning.{Begins}
 use Rattle.ipcz_world.proofs.begins.BegunRecords.{router-begun, node-begun, begun-here, begun-else, side-begun}
 use Rattle.ipcz_world.proofs.begins.BegunWorld.{Sends}
-use Rattle.ipcz_world.proofs.begins.BegunAround.{IsBegunFrom, still-by, before, side-here}
+use Rattle.ipcz_world.proofs.begins.BegunAround.{IsBegunFrom, still-by, side-here}
 use Rattle.ipcz_world.proofs.begins.BegunNumbers.{under_way-agrees, of_link, carries, begin_message, rec, came}
 
 module _ {w v : World} {b : Books} {g : Records} {k : Key} {r y : Router} {p : Key} {into out : LinkEnd} {o fresh : ℕ} (law : Inv w b g)

@@ -18,7 +18,7 @@ use Rattle.ipcz_world.specs.Records.{Records}
 use Rattle.ipcz_world.specs.Remembering.{opening_records, open_records}
 use Rattle.ipcz_world.specs.Inv.{Inv}
 use Rattle.ipcz_world.proofs.calls.OpenedNodes.{inv-claim_for_open}
-use Rattle.ipcz_world.proofs.calls.OpeningPair.{x, v, nodes, words, room, pair, inv-opened}
+use Rattle.ipcz_world.proofs.calls.OpeningPair.{x, v, room, inv-opened}
 
 pub put_twice : {X : Type 0} (d : X) (xs : List X) (i : ℕ) (y z : X) → put_place d (put_place d xs i y) i z ≡ put_place d xs i z
 unfolding put_place

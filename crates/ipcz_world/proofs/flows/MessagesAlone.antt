@@ -20,7 +20,7 @@ use Rattle.ipcz_base.specs.Ends.{has_end}
 use Rattle.ipcz_base.specs.Links.{is_central}
 use Rattle.ipcz_router.specs.Router.{Router}
 use Rattle.ipcz_node.specs.Hands.{link_asked, side_asked}
-use Rattle.ipcz_world.specs.World.{World, Key, node_at, way, router_at}
+use Rattle.ipcz_world.specs.World.{World, Key, node_at, router_at}
 use Rattle.ipcz_world.specs.Books.{Books}
 use Rattle.ipcz_world.specs.Records.{Records, is_recorded, inner_link, side_node, side_router, across_side}
 use Rattle.ipcz_world.specs.Flows.{IsUnderWay, of_end, moves_of}

@@ -8,7 +8,6 @@ use Rattle.ipcz_base.specs.declared.end.End.{End}
 use Rattle.ipcz_base.specs.declared.link_id.LinkId.{LinkId}
 use Rattle.ipcz_base.specs.declared.link_id.LinkId.TheVariants.{Central, Peripheral}
 use Rattle.ipcz_base.specs.declared.link_end.LinkEnd.{LinkEnd}
-use Rattle.ipcz_word.specs.SideSets.{has}
 use Rattle.ipcz_base.specs.Sides.{opposite}
 use Rattle.ipcz_router.specs.Router.{Router}
 use Rattle.ipcz_world.specs.World.{World, Key, router_at}

@@ -6,7 +6,6 @@ use Rattle.ipcz_base.specs.declared.side.Side.TheVariants.{B}
 use Rattle.ipcz_base.specs.declared.link_id.LinkId.TheVariants.{Central}
 use Rattle.ipcz_base.specs.declared.link_end.LinkEnd.{LinkEnd}
 use Rattle.ipcz_base.specs.declared.item.Item.{Item}
-use Rattle.ipcz_word.specs.SideSets.{has}
 use Rattle.ipcz_base.specs.Sides.{opposite}
 use Rattle.ipcz_seq.specs.Queue.{Queue, item_at}
 use Rattle.ipcz_router.specs.Router.{Router, inward_edge}

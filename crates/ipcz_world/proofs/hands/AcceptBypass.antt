@@ -10,7 +10,6 @@ use Rattle.ipcz_router.specs.Router.{Router}
 use Rattle.ipcz_world.specs.World.{World, Key}
 use Rattle.ipcz_world.specs.Books.{Books}
 use Rattle.ipcz_world.specs.Records.{Records}
-use Rattle.ipcz_world.specs.Flows.{makes}
 use Rattle.ipcz_world.specs.Acts.{accept_act}
 use Rattle.ipcz_router.specs.Bypass.{accept_bypass}
 use Rattle.ipcz_world.specs.Remembering.{accepted_records}
@@ -21,7 +20,7 @@ use Rattle.ipcz_world.proofs.hands.AcceptBypassRecords.{shape-accept, bypasses-a
 use Rattle.ipcz_world.specs.Inv.{Inv}
 use Rattle.ipcz_world.proofs.frames.Sealing.{ordered_of, spares_of, moves_of as moves_law, terminals_of, end_places_of, books_kept_of}
 use Rattle.ipcz_world.proofs.frames.Sealing.{conserved_of, held_once_of, no_strays_of, Sealed, Closed, shape_of, bypasses_of}
-use Rattle.ipcz_world.proofs.hands.AcceptBypassAround.{CanAccept, here, on, is, known_across, ordered}
+use Rattle.ipcz_world.proofs.hands.AcceptBypassAround.{CanAccept, here, on, is, known_across}
 use Rattle.ipcz_world.proofs.hands.AcceptBypassViews.{at_o, like, changed, agree, carried, places}
 use Rattle.ipcz_world.proofs.hands.AcceptBypassNumbers.{items-accept, order-accept, proxy_numbers-accept, fresh_numbers-accept}
 use Rattle.ipcz_world.proofs.hands.AcceptBypassLinks.{counts-accept, links-accept, positions-accept}

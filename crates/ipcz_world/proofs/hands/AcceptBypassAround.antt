@@ -25,7 +25,7 @@ use Rattle.ipcz_world.specs.Records.{across_side, side_length}
 use Rattle.ipcz_world.proofs.frames.RecordRules.{is_recorded-central}
 use Rattle.ipcz_world.specs.Standing.{Awaited, Standing, view, next_sent, taking_queue, sending_queue, fed_queue, has_primary, has_decaying}
 use Rattle.ipcz_world.specs.Standing.{has_inward_decaying, key_passes}
-use Rattle.ipcz_world.specs.Flows.{makes, under_way}
+use Rattle.ipcz_world.specs.Flows.{under_way}
 use Rattle.ipcz_base.specs.Totals.{total_below, total_list}
 use Rattle.ipcz_world.specs.Structure.{IsRecorded, link_in}
 use Rattle.ipcz_world.specs.Bypasses.{Told, of_bypass, control_weight, accept_of, inner_of}

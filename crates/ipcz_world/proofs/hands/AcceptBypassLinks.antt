@@ -10,7 +10,6 @@ use Rattle.ipcz_base.specs.declared.link_id.LinkId.TheVariants.{Central}
 use Rattle.ipcz_base.specs.declared.link_end.LinkEnd.{LinkEnd}
 use Rattle.ipcz_base.specs.declared.message.Message.{Message}
 use Rattle.ipcz_base.specs.declared.message.Message.TheVariants as messages
-use Rattle.ipcz_word.specs.SideSets.{has}
 use Rattle.ipcz_base.specs.Sides.{opposite, same_side}
 use Rattle.ipcz_router.specs.Router.{Router}
 use Rattle.ipcz_world.specs.declared.mail.Mail.TheVariants as mails
@@ -21,7 +20,6 @@ use Rattle.ipcz_world.specs.Turns.{hand_message}
 use Rattle.ipcz_world.specs.Records.{Records, is_begun, is_recorded, inner_link, side_router, side_end, bypass_of, proxy_side, across_side}
 use Rattle.ipcz_world.specs.Records.{known_from}
 use Rattle.ipcz_world.proofs.frames.RecordRules.{is_recorded-central, record_rules}
-use Rattle.ipcz_world.specs.Flows.{makes}
 use Rattle.ipcz_world.specs.Structure.{Counts, Links, IsRecorded, Positions, link_in, is_outward}
 use Rattle.ipcz_edge.specs.Edge.{no_edge}
 use Rattle.ipcz_router.specs.Bypass.{accept_bypass}
@@ -30,8 +28,8 @@ use Rattle.ipcz_world.proofs.frames.Unmoved.{side_node-agree, side_end-agree, by
 use Rattle.ipcz_world.proofs.flows.Handing.{handed_on, hand-handed_on, mail-handed_on, way_tells}
 use Rattle.ipcz_world.proofs.facts.Lengths.{same_side-itself, same_side-opposite, known_from-no}
 use Rattle.ipcz_world.proofs.frames.Sealing.{Sealed, Closed, counts_of, links_of, positions_of, bypasses_of}
-use Rattle.ipcz_world.proofs.hands.AcceptBypassAround.{CanAccept, here, in_hand, in_its_hand, on, on_node, is, begun, two, proxy_is, known}
-use Rattle.ipcz_world.proofs.hands.AcceptBypassAround.{on_old, at_side, fresh_linked, fresh_awaited, fresh_live}
+use Rattle.ipcz_world.proofs.hands.AcceptBypassAround.{CanAccept, here, in_its_hand, on, on_node, is, begun, two, proxy_is, known, on_old}
+use Rattle.ipcz_world.proofs.hands.AcceptBypassAround.{at_side, fresh_linked, fresh_awaited, fresh_live}
 use Rattle.ipcz_world.proofs.hands.AcceptBypassViews.{at_o, changed, agree, is_new, is_new-tells, router_of, stage_after, accepted_after}
 use Rattle.ipcz_world.proofs.hands.AcceptBypassViews.{taken_after, proxy_is_after, is_new-here}
 use Rattle.ipcz_world.proofs.hands.AcceptBypassNumbers.{router_j, Was, was_router, across_side-after}

@@ -12,7 +12,6 @@ use Rattle.ipcz_base.specs.declared.link_end.LinkEnd.{LinkEnd}
 use Rattle.ipcz_base.specs.declared.item.Item.{Item}
 use Rattle.ipcz_base.specs.declared.message.Message.{Message}
 use Rattle.ipcz_base.specs.declared.message.Message.TheVariants as messages
-use Rattle.ipcz_word.specs.SideSets.{has}
 use Rattle.ipcz_base.specs.Sides.{opposite, same_side}
 use Rattle.ipcz_seq.specs.Queue.{Queue, item_at}
 use Rattle.ipcz_router.specs.Router.{Router, inward_edge}
@@ -21,7 +20,7 @@ use Rattle.ipcz_world.proofs.frames.Frames.{same_key_tells}
 use Rattle.ipcz_world.specs.Books.{Books}
 use Rattle.ipcz_world.specs.Records.{Records, is_begun, is_recorded, side_router, across_side, side_length}
 use Rattle.ipcz_world.specs.Standing.{is_gone, is_awaited, view, next_sent, taking_queue, sending_queue, fed_queue}
-use Rattle.ipcz_world.specs.Flows.{IsUnderWay, makes, is_made_before}
+use Rattle.ipcz_world.specs.Flows.{IsUnderWay, is_made_before}
 use Rattle.ipcz_world.specs.Bypasses.{inner_of}
 use Rattle.ipcz_world.specs.Numbers.{Items, Order, ProxyNumbers, FreshNumbers, has_passed, standing_router}
 use Rattle.ipcz_edge.specs.Edge.{no_edge}
@@ -35,8 +34,8 @@ use Rattle.ipcz_world.proofs.facts.Lengths.{opposite-twice, side_is}
 use Rattle.ipcz_world.proofs.frames.Sealing.{Sealed, Closed, links_of, positions_of, order_of, items_of, proxy_numbers_of, fresh_numbers_of}
 use Rattle.ipcz_world.proofs.hands.AcceptBypassAround.{from_some, CanAccept, here, in_hand, on, on_node, is, begun, proxy_is, on_old}
 use Rattle.ipcz_world.proofs.hands.AcceptBypassAround.{at_side, y_stood, y_here, z_known_some, z_known, z_stood, z_here, z_end, fresh_born}
-use Rattle.ipcz_world.proofs.hands.AcceptBypassAround.{fresh_awaited, fresh_known, view_x, view_z, sends, stored, y_out, x_in, x_items}
-use Rattle.ipcz_world.proofs.hands.AcceptBypassAround.{y_in, y_items, z_in, z_items, z_fresh, z_out}
+use Rattle.ipcz_world.proofs.hands.AcceptBypassAround.{fresh_awaited, fresh_known, view_x, view_z, sends, y_out, x_in, x_items, y_in}
+use Rattle.ipcz_world.proofs.hands.AcceptBypassAround.{y_items, z_in, z_items, z_fresh, z_out}
 use Rattle.ipcz_world.proofs.hands.AcceptBypassViews.{at_o, like, changed, agree, was, is_new, same_view_at, Grown, Same, FromProxy}
 use Rattle.ipcz_world.proofs.hands.AcceptBypassViews.{FromAcross, Inward, taken_after, same_bypass, grown, is_new-here, new_at, view_new}
 use Rattle.ipcz_world.proofs.hands.AcceptBypassViews.{makes_new, not_from_new, limit, some_grown, opposite-same, not_passed_before}

@@ -22,7 +22,7 @@ use Rattle.ipcz_world.specs.Books.{Books}
 use Rattle.ipcz_world.specs.Records.{Records, is_begun, is_linked, inner_link, side_node, side_router, side_end, proxy_side, across_side}
 use Rattle.ipcz_world.specs.Standing.{has_primary, has_decaying, has_inward_primary, has_inward_decaying, passes, key_passes}
 use Rattle.ipcz_world.proofs.frames.StandingRules.{key_passes-none, standing_rules}
-use Rattle.ipcz_world.specs.Flows.{IsUnderWay, of_end, moves_of, makes, is_made_before, under_way}
+use Rattle.ipcz_world.specs.Flows.{IsUnderWay, of_end, moves_of, is_made_before, under_way}
 use Rattle.ipcz_base.specs.Totals.{total_list}
 use Rattle.ipcz_world.specs.Structure.{Words, Stands}
 use Rattle.ipcz_world.specs.Bypasses.{Stages, Told, of_bypass, control_weight, inner_of, fresh_of}

@@ -15,7 +15,7 @@ use Rattle.ipcz_base.specs.declared.message.Message.TheVariants as messages
 use Rattle.ipcz_base.specs.Sides.{opposite, same_side}
 use Rattle.ipcz_base.specs.Links.{has_link, same_link}
 use Rattle.ipcz_router.specs.Router.{Router}
-use Rattle.ipcz_world.specs.World.{World, Key, way, router_at}
+use Rattle.ipcz_world.specs.World.{World, Key, router_at}
 use Rattle.ipcz_world.proofs.frames.Frames.{same_key-itself}
 use Rattle.ipcz_world.specs.Books.{Books}
 use Rattle.ipcz_world.specs.Records.{Records, is_begun, inner_link, side_node, side_router, proxy_side, known_from, side_length}

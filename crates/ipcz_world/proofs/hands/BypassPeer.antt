@@ -12,7 +12,6 @@ use Rattle.ipcz_world.specs.World.{World, Key}
 use Rattle.ipcz_world.specs.Books.{Books}
 use Rattle.ipcz_world.specs.Records.{Records}
 use Rattle.ipcz_world.specs.Places.{at_end, names_end}
-use Rattle.ipcz_world.specs.Flows.{makes}
 use Rattle.ipcz_world.specs.Acts.{peer_act}
 use Rattle.ipcz_router.specs.Bypass.{bypass_peer}
 use Rattle.ipcz_world.specs.Remembering.{taken_records}

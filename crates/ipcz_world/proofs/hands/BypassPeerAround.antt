@@ -25,7 +25,6 @@ use Rattle.ipcz_world.specs.Records.{bypass_of, proxy_side, across_side}
 use Rattle.ipcz_world.proofs.weights.OfRecords.{source}
 use Rattle.ipcz_world.proofs.frames.RecordRules.{side_node-central, bypass_of-inner, is_recorded-central}
 use Rattle.ipcz_world.specs.Standing.{Awaited, Standing, is_attached, view, has_primary}
-use Rattle.ipcz_world.specs.Flows.{makes}
 use Rattle.ipcz_base.specs.Totals.{total_list}
 use Rattle.ipcz_world.specs.Structure.{IsRecorded, link_in}
 use Rattle.ipcz_world.specs.Bypasses.{inner_of}

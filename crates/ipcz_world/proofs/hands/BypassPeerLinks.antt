@@ -9,7 +9,6 @@ use Rattle.ipcz_base.specs.declared.link_id.LinkId.TheVariants.{Central}
 use Rattle.ipcz_base.specs.declared.link_end.LinkEnd.{LinkEnd}
 use Rattle.ipcz_base.specs.declared.message.Message.{Message}
 use Rattle.ipcz_base.specs.declared.message.Message.TheVariants as messages
-use Rattle.ipcz_word.specs.SideSets.{has, none}
 use Rattle.ipcz_base.specs.Sides.{opposite}
 use Rattle.ipcz_base.specs.Links.{word_of}
 use Rattle.ipcz_router.specs.Router.{Router}
@@ -18,7 +17,6 @@ use Rattle.ipcz_world.proofs.frames.Frames.{same_key-itself}
 use Rattle.ipcz_world.specs.Books.{Books}
 use Rattle.ipcz_world.specs.Records.{Records, is_begun, inner_link, side_router, bypass_of, across_side, known_from}
 use Rattle.ipcz_world.proofs.frames.RecordRules.{bypass_of-inner}
-use Rattle.ipcz_world.specs.Flows.{makes}
 use Rattle.ipcz_world.specs.Structure.{Shape, Links, IsRecorded, Positions, link_in, is_outward}
 use Rattle.ipcz_world.specs.Bypasses.{inner_of}
 use Rattle.ipcz_edge.specs.Edge.{no_edge}
@@ -27,10 +25,10 @@ use Rattle.ipcz_world.specs.Remembering.{taken_records}
 use Rattle.ipcz_world.proofs.flows.Handing.{handed_on}
 use Rattle.ipcz_world.proofs.facts.Lengths.{same_side-tells, known_from-no}
 use Rattle.ipcz_world.proofs.frames.Sealing.{Sealed, Closed, stands_of, shape_of, links_of, positions_of}
-use Rattle.ipcz_world.proofs.hands.BypassPeerAround.{inner_word, CanPeer, here, is, itself, begun, known, z_end, on, by_o}
-use Rattle.ipcz_world.proofs.hands.BypassPeerAround.{central_not_inner, fresh_live, at_o, stage_at, is_begun_same, proxy_same, fresh_same}
-use Rattle.ipcz_world.proofs.hands.BypassPeerAround.{accepted_same, proxy_side_same, across_side_same, same_bypass, bypass_same, split, Was}
-use Rattle.ipcz_world.proofs.hands.BypassPeerAround.{was_router, rec_kept, new_recorded}
+use Rattle.ipcz_world.proofs.hands.BypassPeerAround.{inner_word, CanPeer, here, is, itself, known, z_end, on, by_o, central_not_inner}
+use Rattle.ipcz_world.proofs.hands.BypassPeerAround.{fresh_live, at_o, stage_at, is_begun_same, proxy_same, fresh_same, accepted_same}
+use Rattle.ipcz_world.proofs.hands.BypassPeerAround.{proxy_side_same, across_side_same, same_bypass, bypass_same, split, Was, was_router}
+use Rattle.ipcz_world.proofs.hands.BypassPeerAround.{rec_kept, new_recorded}
 
 module _ {w : World} {b : Books} {g : Records} {from : ℕ} {k : Key} {r : Router} {o : ℕ} {link : LinkId} {side : Side}
     {target fresh : ℕ} (law : Sealed w b g) (can : Closed (CanPeer w from k r o link side target fresh)) where

@@ -14,11 +14,11 @@ use Rattle.ipcz_base.specs.Sides.{opposite}
 use Rattle.ipcz_base.specs.Links.{is_central, same_link}
 use Rattle.ipcz_base.specs.Totals.{total, total_below, total_list}
 use Rattle.ipcz_router.specs.Router.{Router}
-use Rattle.ipcz_world.specs.World.{World, Key, node_at, way, flow}
+use Rattle.ipcz_world.specs.World.{World, Key, node_at, flow}
 use Rattle.ipcz_world.specs.Books.{Books}
 use Rattle.ipcz_world.specs.Records.{Records, is_begun, is_recorded, inner_link, side_node, proxy_side, across_side}
 use Rattle.ipcz_world.proofs.weights.OfRecords.{in_node, in_places, in_message}
-use Rattle.ipcz_world.specs.Flows.{IsUnderWay, of_end, moves_of, makes, under_way}
+use Rattle.ipcz_world.specs.Flows.{IsUnderWay, of_end, moves_of, under_way}
 use Rattle.ipcz_world.specs.Bypasses.{Moves, Told, of_bypass, control_weight, is_by, inner_of}
 use Rattle.ipcz_router.specs.Bypass.{bypass_peer}
 use Rattle.ipcz_base.specs.declared.descriptor.Descriptor.{Descriptor}

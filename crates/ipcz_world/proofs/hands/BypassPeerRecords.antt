@@ -16,7 +16,6 @@ use Rattle.ipcz_world.specs.Books.{Books}
 use Rattle.ipcz_world.specs.Records.{Records, is_unclaimed, Fresh, Linked, is_begun, is_linked, is_recorded, inner_link, side_node}
 use Rattle.ipcz_world.specs.Records.{side_router, proxy_side, across_side}
 use Rattle.ipcz_world.proofs.frames.RecordRules.{is_recorded-central}
-use Rattle.ipcz_world.specs.Flows.{makes}
 use Rattle.ipcz_world.specs.Structure.{Counts}
 use Rattle.ipcz_world.specs.Bypasses.{BypassRecords, inner_of, fresh_of}
 use Rattle.ipcz_router.specs.Bypass.{bypass_peer}

@@ -26,7 +26,6 @@ use Rattle.ipcz_world.specs.Records.{Records, is_nowhere, Fresh, Spare, Opening,
 use Rattle.ipcz_world.specs.Records.{side_router, side_end, proxy_side, across_side}
 use Rattle.ipcz_world.specs.Standing.{spare_of, has_primary, has_decaying, has_inward_primary, has_inward_decaying, passes, key_passes}
 use Rattle.ipcz_world.proofs.frames.StandingRules.{key_passes-none, standing_rules}
-use Rattle.ipcz_world.specs.Flows.{makes}
 use Rattle.ipcz_world.specs.Structure.{Words, Spares, Stands}
 use Rattle.ipcz_world.specs.Bypasses.{Stages, inner_of, fresh_of}
 use Rattle.ipcz_edge.specs.Edge.{no_edge}
@@ -34,7 +33,7 @@ use Rattle.ipcz_router.specs.Bypass.{bypass_peer}
 use Rattle.ipcz_world.specs.Remembering.{taken_records}
 use Rattle.ipcz_world.proofs.flows.Handing.{handed_on, word-handed_on}
 use Rattle.ipcz_world.proofs.facts.Lengths.{side_is, has_link-tells, has_link-none, HasEnd, passed}
-use Rattle.ipcz_world.proofs.frames.Sealing.{spares_of, Sealed, Closed, opened, stands_of, words_of, shape_of, stages_of, bypasses_of}
+use Rattle.ipcz_world.proofs.frames.Sealing.{spares_of, Sealed, Closed, stands_of, words_of, shape_of, stages_of, bypasses_of}
 use Rattle.ipcz_world.proofs.hands.BypassPeerAround.{CanPeer, here, is, itself, known, z_inner, z_end, on, by_o, r_side, central_not_inner}
 use Rattle.ipcz_world.proofs.hands.BypassPeerAround.{still, fresh_owner, not_linked, changed, at_o, at_fresh, stage_at, is_begun_same}
 use Rattle.ipcz_world.proofs.hands.BypassPeerAround.{proxy_same, inner_same, fresh_same, proxy_side_same, across_side_same, central_same}

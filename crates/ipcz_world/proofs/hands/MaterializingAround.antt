@@ -14,7 +14,6 @@ use Rattle.ipcz_base.specs.declared.descriptor.Descriptor.{Descriptor}
 use Rattle.ipcz_base.specs.declared.item.Item.{Item}
 use Rattle.ipcz_base.specs.declared.message.Message.{Message}
 use Rattle.ipcz_base.specs.Sides.{same_side}
-use Rattle.ipcz_word.specs.SideSets.{has}
 use Rattle.ipcz_base.specs.Links.{same_link}
 use Rattle.ipcz_base.specs.Ends.{opposite_end}
 use Rattle.ipcz_seq.specs.Queue.{item_at, queue_from}

@@ -1,6 +1,6 @@
 -- A descriptor becomes a terminal, and the message that carried it has it no more: what is said of items and numbers is kept.
-use Rattle.std.specs.Prelude.{◌≡◌, ◌⊎◌, ◌≤◌, ℕ, zero, suc, Bool, true, false, cond, ◌&&◌, nat_eq, Option, Some, None, is_some}
-use Rattle.std.specs.Prelude.{refl, List, [], ◌∷◌, slice_get}
+use Rattle.std.specs.Prelude.{◌≡◌, ◌⊎◌, ◌≤◌, ℕ, zero, suc, Bool, true, false, cond, ◌&&◌, nat_eq, Option, Some, None, is_some, refl, List}
+use Rattle.std.specs.Prelude.{[], ◌∷◌, slice_get}
 use Rattle.std.proofs.Common.{arith, ap, ◌∙◌, sym, inl, inr}
 use Rattle.std.proofs.lemmas.Bool.Decides.{nat_tests}
 use Rattle.ipcz_base.specs.declared.side.Side.{Side}
@@ -16,8 +16,7 @@ use Rattle.ipcz_base.specs.Sides.{opposite, same_side}
 use Rattle.ipcz_base.specs.Links.{same_link, has_link}
 use Rattle.ipcz_base.specs.Ends.{same_end}
 use Rattle.ipcz_seq.specs.Queue.{queue_from, reach}
-use Rattle.ipcz_router.specs.Router.{Router}
-use Rattle.ipcz_router.specs.Router.{from_descriptor}
+use Rattle.ipcz_router.specs.Router.{Router, from_descriptor}
 use Rattle.ipcz_world.specs.World.{World, Key, flow}
 use Rattle.ipcz_world.proofs.frames.Frames.{same_key-itself}
 use Rattle.ipcz_world.specs.Books.{Books}
@@ -33,8 +32,7 @@ use Rattle.ipcz_world.specs.Numbers.{Order, ProxyNumbers, has_passed}
 use Rattle.ipcz_world.proofs.views.Seen.{stands_at, view_by-known, view_by-unknown}
 use Rattle.ipcz_world.proofs.frames.Draining.{next_sent-standing, taking_queue-standing, view_rules}
 use Rattle.ipcz_world.proofs.flows.Fitting.{ItemFits}
-use Rattle.ipcz_world.proofs.flows.Flowing.{weighed}
-use Rattle.ipcz_world.proofs.flows.Flowing.{total_list-has}
+use Rattle.ipcz_world.proofs.flows.Flowing.{weighed, total_list-has}
 use Rattle.ipcz_world.proofs.frames.Opened.{OpenInv}
 use Rattle.ipcz_world.proofs.views.Known.{same_link-tells, same_side-tells}
 use Rattle.ipcz_world.proofs.weights.Weighing.{same_end-itself}
@@ -44,8 +42,7 @@ use Rattle.ipcz_world.proofs.facts.Reaching.{is_reach, reach_one}
 use Rattle.ipcz_world.proofs.sends.ExtendingAround.{inner_end_is, same_end-tells}
 use Rattle.ipcz_world.proofs.sends.ExtendingItems.{next_sent-waiting, taking_queue-waiting, awaited-central, blank_at}
 use Rattle.ipcz_world.proofs.hands.MaterializingAround.{made_key_records, IsMade, IsMaterial, unmade, waits, end_is, node_same, same_some}
-use Rattle.ipcz_world.proofs.hands.MaterializingAround.{end_same, bypass_same, side_same, recorded_same, router_new, router_same}
-use Rattle.ipcz_world.proofs.hands.MaterializingAround.{side_new}
+use Rattle.ipcz_world.proofs.hands.MaterializingAround.{end_same, bypass_same, side_same, recorded_same, router_new, router_same, side_new}
 use Rattle.ipcz_world.proofs.hands.MaterializingStages.{proxy_was}
 use Rattle.ipcz_world.proofs.facts.Lengths.{same_link-itself}
 

@@ -1,5 +1,5 @@
 -- The router inward learns its length: the last message of a bypass.
-use Rattle.ipcz_world.specs.Places.{in_message as in_message'}
+use Rattle.ipcz_world.specs.Places.{in_message as in_message', Weight, in_router}
 use Rattle.std.specs.Prelude.{◌≡◌, ◌≢◌, ◌⊎◌, ◌<◌, ◌≤◌, ℕ, ◌+◌, true, false, nat_eq, is_some, Some, refl}
 use Rattle.std.proofs.Common.{arith, ap, ◌∙◌, sym, inl, inr}
 use Rattle.std.proofs.lemmas.Bool.Decides.{nat_tests}
@@ -25,7 +25,6 @@ use Rattle.ipcz_world.specs.Records.{Records, is_begun, inner_link, side_router,
 use Rattle.ipcz_world.specs.Remembering.{ended_records}
 use Rattle.ipcz_world.specs.Standing.{Standing, is_gone, view, has_decaying}
 use Rattle.ipcz_world.specs.Flows.{IsUnderWay, makes, is_made_before, under_way, moves_of, of_end}
-use Rattle.ipcz_world.specs.Places.{Weight, in_router}
 use Rattle.ipcz_world.proofs.weights.OfRecords.{in_places}
 use Rattle.ipcz_base.specs.Totals.{total_list}
 use Rattle.ipcz_world.specs.Structure.{is_outward}
@@ -46,7 +45,7 @@ use Rattle.ipcz_world.proofs.facts.Lengths.{known_from-yes}
 use Rattle.ipcz_world.proofs.hands.BypassAsked.{IsEnded, ended, asked_router}
 use Rattle.ipcz_world.proofs.frames.StageFurther as further
 use Rattle.ipcz_world.proofs.frames.StageFurtherNumbers as numbers
-use Rattle.ipcz_world.proofs.frames.StageFurther.{IsLinkedLike, StillMade}
+use Rattle.ipcz_world.proofs.frames.StageFurther.{IsLinkedLike}
 use Rattle.ipcz_world.proofs.frames.Sealing.{Sealed, Closed, opened, counts_of, links_of, positions_of, stands_of, bypasses_of, stages_of}
 use Rattle.ipcz_world.proofs.frames.Sealing.{told_of, proxy_numbers_of, fresh_numbers_of, ordered_of, spares_of, moves_of as moves_law}
 use Rattle.ipcz_world.proofs.frames.Sealing.{terminals_of, end_places_of, books_kept_of, conserved_of, held_once_of, no_strays_of}

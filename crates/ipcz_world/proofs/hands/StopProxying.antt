@@ -1,5 +1,5 @@
 -- The proxy learns its lengths, and tells the router inward.
-use Rattle.ipcz_world.specs.Places.{in_message as in_message'}
+use Rattle.ipcz_world.specs.Places.{in_message as in_message', Weight, in_router}
 use Rattle.std.specs.Prelude.{◌≡◌, ◌≢◌, ◌⊎◌, ◌<◌, ◌≤◌, ℕ, ◌+◌, true, false, nat_eq, is_some, is_none, option_map, unwrap_or, Option, Some}
 use Rattle.std.specs.Prelude.{None, List, refl}
 use Rattle.std.proofs.Common.{arith, ap, ◌∙◌, sym, inl, inr}
@@ -29,7 +29,6 @@ use Rattle.ipcz_world.proofs.frames.RecordRules.{bypass_of-inner}
 use Rattle.ipcz_world.specs.Remembering.{told_records}
 use Rattle.ipcz_world.specs.Standing.{has_decaying, has_inward_decaying}
 use Rattle.ipcz_world.specs.Flows.{IsUnderWay, makes, is_made_before, under_way, moves_of, of_end}
-use Rattle.ipcz_world.specs.Places.{Weight, in_router}
 use Rattle.ipcz_world.proofs.weights.OfRecords.{in_places}
 use Rattle.ipcz_base.specs.Totals.{total_list}
 use Rattle.ipcz_world.specs.Bypasses.{Told, of_bypass, control_weight, inner_of}
@@ -48,7 +47,7 @@ use Rattle.ipcz_world.proofs.facts.Lengths.{HasEnd, has_link-tells, passed, know
 use Rattle.ipcz_world.proofs.hands.BypassAsked.{IsStopped, stopped, asked_router}
 use Rattle.ipcz_world.proofs.frames.StageFurther as further
 use Rattle.ipcz_world.proofs.frames.StageFurtherNumbers as numbers
-use Rattle.ipcz_world.proofs.frames.StageFurther.{IsLinkedLike, StillMade}
+use Rattle.ipcz_world.proofs.frames.StageFurther.{IsLinkedLike}
 use Rattle.ipcz_world.proofs.frames.Sealing.{Sealed, Closed, opened, counts_of, links_of, positions_of, bypasses_of, stages_of, told_of}
 use Rattle.ipcz_world.proofs.frames.Sealing.{ordered_of, spares_of, moves_of as moves_law, terminals_of, end_places_of, books_kept_of}
 use Rattle.ipcz_world.proofs.frames.Sealing.{conserved_of, held_once_of, no_strays_of}

@@ -1,6 +1,6 @@
 -- A terminal becomes a proxy, and the item under way carries its descriptor: what is said of items, ends and numbers is kept.
-use Rattle.std.specs.Prelude.{◌≡◌, ◌⊎◌, ◌≤◌, ◌<◌, ◌+◌, ℕ, Bool, true, false, cond, nat_eq, nat_lt, Option, Some}
-use Rattle.std.specs.Prelude.{None, is_some, refl, List, [], ◌∷◌, ◌++◌, length, drop}
+use Rattle.std.specs.Prelude.{◌≡◌, ◌⊎◌, ◌≤◌, ◌<◌, ◌+◌, ℕ, Bool, true, false, cond, nat_eq, nat_lt, Option, Some, None, is_some, refl, List}
+use Rattle.std.specs.Prelude.{[], ◌∷◌, ◌++◌, length, drop}
 use Rattle.std.specs.Ordering.{nat_cmp}
 use Rattle.std.specs.Cmp.{nat_cmp_total}
 use Rattle.std.specs.FinMap.{remove, nat_cmp-IsAntisymmetric, get-empty}
@@ -24,9 +24,8 @@ use Rattle.ipcz_node.specs.Hands.{has_moved}
 use Rattle.ipcz_world.specs.World.{World, Key, same_key, router_at}
 use Rattle.ipcz_world.proofs.frames.Frames.{same_key_tells, same_key-itself}
 use Rattle.ipcz_world.specs.Books.{Books, read}
-use Rattle.ipcz_world.specs.Records.{Records, At, Moving, is_recorded, is_begun, bypass_of, known_from, inner_link}
-use Rattle.ipcz_world.specs.Records.{side_router, side_end, side_length, length_by, bypass_length, across_side}
-use Rattle.ipcz_world.specs.Records.{terminal_descriptor}
+use Rattle.ipcz_world.specs.Records.{Records, At, Moving, is_recorded, is_begun, bypass_of, known_from, inner_link, side_router, side_end}
+use Rattle.ipcz_world.specs.Records.{side_length, length_by, bypass_length, across_side, terminal_descriptor}
 use Rattle.ipcz_world.proofs.frames.RecordRules.{is_recorded-central, record_rules, bypass_of-inner, side_router-proxy, side_router-inner}
 use Rattle.ipcz_world.specs.Standing.{View, Waiting, Standing, view, view_by, router_view, awaited_view, next_sent, taking_queue}
 use Rattle.ipcz_world.specs.Standing.{may_have_sent, is_gone, is_awaited, is_attached, sending_queue, fed_queue}
@@ -44,11 +43,10 @@ use Rattle.ipcz_base.proofs.Totals.{total-remove}
 use Rattle.ipcz_world.proofs.sends.SendingOut.{has_link-end, bypass_of-central_is}
 use Rattle.ipcz_world.proofs.flows.Awaited.{no_router}
 use Rattle.ipcz_world.proofs.facts.Reaching.{is_reach}
-use Rattle.ipcz_world.proofs.sends.ExtendingAround.{next_key, extended, extended_records, IsGrown, IsExtend, other_link}
-use Rattle.ipcz_world.proofs.sends.ExtendingAround.{recorded_more, recorded_back, router_same, node_same, end_same}
-use Rattle.ipcz_world.proofs.sends.ExtendingAround.{bypass_same, side_same, stood, same_end-tells, no_inward, no_by, inner_end_is}
+use Rattle.ipcz_world.proofs.sends.ExtendingAround.{next_key, extended, extended_records, IsGrown, IsExtend, other_link, recorded_more}
+use Rattle.ipcz_world.proofs.sends.ExtendingAround.{recorded_back, router_same, node_same, end_same, bypass_same, side_same, stood}
+use Rattle.ipcz_world.proofs.sends.ExtendingAround.{same_end-tells, no_inward, no_by, inner_end_is, stage_begun}
 use Rattle.ipcz_world.proofs.sends.ExtendingStages.{not_begun}
-use Rattle.ipcz_world.proofs.sends.ExtendingAround.{stage_begun}
 use Rattle.ipcz_world.proofs.hands.MaterializingAround.{at_waits, same_some}
 
 pub same_link-turned : (l m : LinkId) → same_link m l ≡ same_link l m
