@@ -15,7 +15,8 @@ length-pairs : (i j left : ℕ) → length (pairs_from i j left) ≡ left
 length-pairs i j zero = refl
 length-pairs i j (suc left) = ap suc (length-pairs i (j + 1) left)
 
-bind_pairs-append : (s : Session) (pair : ℕ) (xs ys : List (ℕ × ℕ)) → bind_pairs s pair (xs ++ ys) ≡ bind_pairs (bind_pairs s pair xs) (pair + length xs) ys
+bind_pairs-append : (s : Session) (pair : ℕ) (xs ys : List (ℕ × ℕ)) →
+    bind_pairs s pair (xs ++ ys) ≡ bind_pairs (bind_pairs s pair xs) (pair + length xs) ys
 bind_pairs-append s pair [] ys = let none : pair + 0 ≡ pair = omega arith in ap (λ n. bind_pairs s n ys) (sym none)
 bind_pairs-append s pair (x ∷ xs) ys =
     let more : pair + 1 + length xs ≡ pair + length (x ∷ xs) = omega arith in
@@ -27,10 +28,12 @@ pub first-none : (s : Session) (pair i left : ℕ) → left ≡ 0 → bind_pairs
 first-none s pair i left e = ap (λ n. bind_pairs s pair (first_pairs_from i n)) e
 
 pub first-some : (s : Session) (pair i left : ℕ) → (left ≡ 0 → ⊥) →
-    bind_pairs s pair (first_pairs_from i left) ≡ bind_pairs (bind_pairs s pair (pairs_from i (i + 1) (left - 1))) (pair + (left - 1)) (first_pairs_from (i + 1) (left - 1))
+    bind_pairs s pair (first_pairs_from i left) ≡ bind_pairs (bind_pairs s pair (pairs_from i (i + 1) (left - 1))) (pair + (left - 1))
+    (first_pairs_from (i + 1) (left - 1))
 first-some s pair i zero some = absurd (some refl)
 first-some s pair i (suc left) some =
     let one : suc left - 1 ≡ left = omega arith in
     bind_pairs-append s pair (pairs_from i (i + 1) left) (first_pairs_from (i + 1) left)
-    ∙ ap (λ n. bind_pairs (bind_pairs s pair (pairs_from i (i + 1) left)) (pair + n) (first_pairs_from (i + 1) left)) (length-pairs i (i + 1) left)
+    ∙ ap (λ n. bind_pairs (bind_pairs s pair (pairs_from i (i + 1) left)) (pair + n) (first_pairs_from (i + 1) left))
+    (length-pairs i (i + 1) left)
     ∙ ap (λ n. bind_pairs (bind_pairs s pair (pairs_from i (i + 1) n)) (pair + n) (first_pairs_from (i + 1) n)) (sym one)

@@ -11,7 +11,8 @@ use Rattle.ipcz_script.specs.Reading.{IsAnswer, IsScript, IsJson, script_from, m
 use Rattle.ipcz_script.specs.Scripts.{script_of}
 
 -- what is read of the bytes' JSON value is what the bytes are
-pub answer-value : (bytes : List ℕ) (d : Data) (r : Result Script ScriptFault) → length bytes ≤ max_bytes → IsUtf8 bytes → read bytes ≡ Some d → Gives r (script_of d) → IsAnswer bytes r
+pub answer-value : (bytes : List ℕ) (d : Data) (r : Result Script ScriptFault) → length bytes ≤ max_bytes → IsUtf8 bytes →
+    read bytes ≡ Some d → Gives r (script_of d) → IsAnswer bytes r
 answer-value bytes d (Ok s) few text is h = inr (few, Some d, (text, is), sym h)
 answer-value bytes d (Err NotJson) few text is h = inr (few, Some d, (text, is), sym h)
 answer-value bytes d (Err (BadShape n)) few text is h = inr (few, Some d, (text, is), sym h)

@@ -1,5 +1,6 @@
 -- The worlds that a script comes to are worlds that lists of steps lead to, with books of which its answers tell.
-use Rattle.std.proofs.Common.{◌≡◌, ◌∙◌, ◌++◌, ◌+◌, ◌<◌, ap, sym, refl, subst, inl, inr, arith, append_assoc, append-nil, length, take, ℕ, zero, suc, Bool, true, false, List, [], ◌∷◌, Option, Some, None}
+use Rattle.std.proofs.Common.{◌≡◌, ◌∙◌, ◌++◌, ◌+◌, ◌<◌, ap, sym, refl, subst, inl, inr, arith, append_assoc, append-nil, length, take, ℕ}
+use Rattle.std.proofs.Common.{zero, suc, Bool, true, false, List, [], ◌∷◌, Option, Some, None}
 use Rattle.std.specs.Prelude.{MatchBool, if◌then◌else◌}
 use Rattle.std.specs.FinMap.{get}
 use Rattle.std.proofs.lemmas.Option.{same_Some}
@@ -18,8 +19,10 @@ use Rattle.ipcz_world.specs.Steps.{StepAny, StepFirst, first_step}
 use Rattle.ipcz_world.specs.Settling.{AreVisits, next_node}
 use Rattle.ipcz_world.specs.Holding.{holder_of}
 use Rattle.ipcz_world.specs.Lawful.{Headline, IsReached, IsWithinLimits, Lawful, RunAny}
-use Rattle.ipcz_world.proofs.Whole.{world_starts_lawful, each_step_keeps_lawful, first_acts_are_possible, the_headline_holds, each_quiet_delivers}
-use Rattle.ipcz_world.proofs.Whole.{ends_stand_once, held_have_terminals, held_are_open, lawful_worlds_stray_nothing, one_node_is_direct, replies_plainly, terminals_keep_books}
+use Rattle.ipcz_world.proofs.Whole.{world_starts_lawful, each_step_keeps_lawful, first_acts_are_possible, the_headline_holds}
+use Rattle.ipcz_world.proofs.Whole.{each_quiet_delivers}
+use Rattle.ipcz_world.proofs.Whole.{ends_stand_once, held_have_terminals, held_are_open, lawful_worlds_stray_nothing, one_node_is_direct}
+use Rattle.ipcz_world.proofs.Whole.{replies_plainly, terminals_keep_books}
 use Rattle.ipcz_world.proofs.runs.Running.{reached_lawful}
 use Rattle.ipcz_node.specs.FirstPairs.{first_pairs}
 use Rattle.ipcz_node.specs.Node.{holds_end}
@@ -28,10 +31,13 @@ use Rattle.ipcz_script.specs.declared.command.Command.{Command}
 use Rattle.ipcz_script.specs.declared.command.Command.TheVariants as commands
 use Rattle.ipcz_script.specs.declared.said.Said.{Said}
 use Rattle.ipcz_script.specs.declared.said.Said.TheVariants as said
-use Rattle.ipcz_script.specs.Sessions.{Session, Replied, Runs, SettlesTo, TurnsTo, AreTurns, bind_pair, bind_pairs, ends_from, answer_to, if_held, if_known, is_idle_reply, is_turn, name_pair, nameless, new_session, replied_open, with_world}
+use Rattle.ipcz_script.specs.Sessions.{Session, Replied, Runs, SettlesTo, TurnsTo, AreTurns, bind_pair, bind_pairs, ends_from, answer_to}
+use Rattle.ipcz_script.specs.Sessions.{if_held, if_known, is_idle_reply, is_turn, name_pair, nameless, new_session, replied_open}
+use Rattle.ipcz_script.specs.Sessions.{with_world}
 use Rattle.ipcz_script.specs.Transcript.{Answered, AreAnswered}
 use Rattle.ipcz_script.specs.ScriptBooks.{IsCount, got_said, gots_in, parcels_in, put_said, puts_in}
-use Rattle.ipcz_script.specs.ScriptLaws.{AfterScripts, GetsFollowPuts, NumbersCountUp, ScriptsAnswerPlainly, ScriptsAreRuns, ScriptsArrive, ScriptsDeliver}
+use Rattle.ipcz_script.specs.ScriptLaws.{AfterScripts, GetsFollowPuts, NumbersCountUp, ScriptsAnswerPlainly, ScriptsAreRuns, ScriptsArrive}
+use Rattle.ipcz_script.specs.ScriptLaws.{ScriptsDeliver}
 use Rattle.ipcz_script.proofs.ScriptSaid.{Adds, none, close-said, got-said, open-said, parcels-follow, put-said, turn-more, unmarked-length}
 
 -- a world that some list of steps leads to, with books whose parcels are these
@@ -61,7 +67,8 @@ kept-as nodes words w puts gots ps gs at same_puts same_gots = record {
   got = λ e. at.got e ∙ same_gots e;
 }
 
-no_more : (nodes words : ℕ) (w : World) (puts gots : Parcels) → Kept nodes words w puts gots → Kept nodes words w (more puts none) (more gots none)
+no_more : (nodes words : ℕ) (w : World) (puts gots : Parcels) → Kept nodes words w puts gots →
+    Kept nodes words w (more puts none) (more gots none)
 no_more nodes words w puts gots at =
     kept-as nodes words w puts gots (more puts none) (more gots none) at (λ e. sym (append-nil (puts e))) (λ e. sym (append-nil (gots e)))
 
@@ -82,7 +89,8 @@ run-more w b g (x ∷ xs) (y ∷ ys) u c h is s r v step =
 
 -- a step in which a turn takes the first act leads on, with what it adds
 kept-step : (nodes words : ℕ) (w v : World) (puts gots new_puts new_gots : Parcels) (s : Step) (r : Reply) → Kept nodes words w puts gots →
-    StepFirst w s r v → ((b : Books) → Adds b (advance w b s r) new_puts new_gots) → Kept nodes words v (more puts new_puts) (more gots new_gots)
+    StepFirst w s r v → ((b : Books) → Adds b (advance w b s r) new_puts new_gots) →
+    Kept nodes words v (more puts new_puts) (more gots new_gots)
 kept-step nodes words w v puts gots new_puts new_gots s r at step adds =
     let law = reached_lawful world_starts_lawful each_step_keeps_lawful nodes words w at.books at.routes at.reached in
     let new = adds at.books in
@@ -118,7 +126,8 @@ kept-visits nodes words n (true ∷ visits) w v puts gots at is =
 kept-visits nodes words n (false ∷ visits) w v puts gots at is = kept-visits nodes words (next_node w n) visits w v puts gots at is.1
 
 -- turns of one node lead on
-kept-turns : (nodes words count node : ℕ) (w : World) (turns : List Reply) (v : World) (puts gots : Parcels) → Kept nodes words w puts gots →
+kept-turns : (nodes words count node : ℕ) (w : World) (turns : List Reply) (v : World) (puts gots : Parcels) →
+    Kept nodes words w puts gots →
     AreTurns count node w turns v → Kept nodes words v puts gots
 kept-turns nodes words zero node w [] v puts gots at is = kept-in nodes words w v puts gots is at
 kept-turns nodes words zero node w (r ∷ rs) v puts gots at is = absurd is
@@ -168,13 +177,15 @@ module _ (nodes words : ℕ) (s : Session) (puts gots : Parcels) (at : Kept node
 
   -- a call leaves what each of its cases does
   at-known : {X : Type 0} (c : Command) (o : Option X) (call : X → Replied) → Leaves c said.UnknownName s.world →
-      ((x : X) → o ≡ Some x → Leaves c (call x).said (call x).session.world) → Leaves c (if_known s o call).said (if_known s o call).session.world
+      ((x : X) → o ≡ Some x → Leaves c (call x).said (call x).session.world) →
+      Leaves c (if_known s o call).said (if_known s o call).session.world
   unfolding if_known
   at-known c None call unknown each = unknown
   at-known c (Some x) call unknown each = each x refl
 
   at-held : (c : Command) (o : Option ℕ) (call : ℕ → Replied) → Leaves c said.Away s.world →
-      ((n : ℕ) → o ≡ Some n → Leaves c (call n).said (call n).session.world) → Leaves c (if_held s o call).said (if_held s o call).session.world
+      ((n : ℕ) → o ≡ Some n → Leaves c (call n).said (call n).session.world) →
+      Leaves c (if_held s o call).said (if_held s o call).session.world
   unfolding if_held
   at-held c None call away each = away
   at-held c (Some n) call away each = each n refl
@@ -185,13 +196,18 @@ module _ (nodes words : ℕ) (s : Session) (puts gots : Parcels) (at : Kept node
       (got_said s.names c (answer_to (first_step s.world x).reply))) →
       Leaves c (answer_to (first_step s.world x).reply) (first_step s.world x).world
   at-step c x no_turn adds =
-      kept-step nodes words s.world (first_step s.world x).world puts gots _ _ x (first_step s.world x).reply at (first-step s.world x no_turn) adds
+      kept-step nodes words s.world (first_step s.world x).world puts gots _ _ x (first_step s.world x).reply at
+      (first-step s.world x no_turn) adds
 
   -- a settle
   at-settle : (limit : ℕ) (answer : Said) (v : World) → SettlesTo limit s.world answer v → Kept nodes words v puts gots
   at-settle limit said.Settled v is = kept-visits nodes words 0 is.1.visits s.world v puts gots at is.1.turns
   at-settle limit said.Unsettled v is =
-      elim is [ inl h ↦ kept-visits nodes words 0 h.visits s.world v puts gots at h.turns | inr h ↦ kept-visits nodes words 0 h.visits s.world v puts gots at h.turns ]
+      elim is [
+        | inl h ↦ kept-visits nodes words 0 h.visits s.world v puts gots at h.turns
+        | inr h ↦ kept-visits nodes words 0 h.visits
+            s.world v puts gots at h.turns
+      ]
   at-settle limit said.Opened v is = absurd is
   at-settle limit (said.Put n) v is = absurd is
   at-settle limit (said.Got n p) v is = absurd is
@@ -228,7 +244,8 @@ module _ (nodes words : ℕ) (s : Session) (puts gots : Parcels) (at : Kept node
   kept-command (commands.Open node first second) answer t is =
       given (commands.Open node first second) (replied_open s first second (first_step s.world (steps.Open node))) answer t is.0 is.1
       (subst (Leaves (commands.Open node first second) (answer_to (first_step s.world (steps.Open node)).reply))
-      (sym (name_pair-world (with_world s (first_step s.world (steps.Open node)).world) first second (first_step s.world (steps.Open node)).reply))
+      (sym (name_pair-world (with_world s (first_step s.world (steps.Open node)).world) first second
+      (first_step s.world (steps.Open node)).reply))
       (at-step (commands.Open node first second) (steps.Open node) refl
       (λ b. open-said s.world b node s.names first second (first_step s.world (steps.Open node)).reply)))
   kept-command (commands.Put name text attached) answer t is =
@@ -236,7 +253,8 @@ module _ (nodes words : ℕ) (s : Session) (puts gots : Parcels) (at : Kept node
       (at-known (commands.Put name text attached) (get s.names name) _ (still (commands.Put name text attached) said.UnknownName refl refl)
       (λ end bound. at-known (commands.Put name text attached) (ends_from s.names [] attached) _
       (still (commands.Put name text attached) said.UnknownName refl refl)
-      (λ ends known. at-held (commands.Put name text attached) (holder_of s.world end) _ (still (commands.Put name text attached) said.Away refl refl)
+      (λ ends known. at-held (commands.Put name text attached) (holder_of s.world end) _
+      (still (commands.Put name text attached) said.Away refl refl)
       (λ n there. at-step (commands.Put name text attached) (steps.Put n end text ends) refl
       (λ b. put-said s.world b n s.names name text attached end ends (first_step s.world (steps.Put n end text ends)).reply bound known)))))
   kept-command (commands.Get name) answer t is =
@@ -253,22 +271,27 @@ module _ (nodes words : ℕ) (s : Session) (puts gots : Parcels) (at : Kept node
       (λ b. close-said s.world b n s.names name end (first_step s.world (steps.Close n end)).reply))))
   kept-command (commands.Turn node count) answer t is = no_more nodes words t.world puts gots (at-turns count node answer t.world is.0)
   kept-command (commands.Settle limit) answer t is = no_more nodes words t.world puts gots (at-settle limit answer t.world is.0)
-  kept-command commands.Show answer t is = kept-in nodes words s.world t.world _ _ (ap (λ x. x.world) is.1) (no_more nodes words s.world puts gots at)
+  kept-command commands.Show answer t is = kept-in nodes words s.world t.world _ _ (ap (λ x. x.world) is.1)
+      (no_more nodes words s.world puts gots at)
 
 -- ---- all commands
 
 kept-commands : (nodes words : ℕ) (s : Session) (cs : List Command) (log : List Answered) (t : Session) (puts gots : Parcels) →
-    Kept nodes words s.world puts gots → AreAnswered s cs log t → Kept nodes words t.world (more puts (puts_in log)) (more gots (gots_in log))
-kept-commands nodes words s [] [] t puts gots at is = kept-in nodes words s.world t.world _ _ (ap (λ x. x.world) is) (no_more nodes words s.world puts gots at)
+    Kept nodes words s.world puts gots → AreAnswered s cs log t →
+    Kept nodes words t.world (more puts (puts_in log)) (more gots (gots_in log))
+kept-commands nodes words s [] [] t puts gots at is = kept-in nodes words s.world t.world _ _ (ap (λ x. x.world) is)
+    (no_more nodes words s.world puts gots at)
 kept-commands nodes words s [] (a ∷ log) t puts gots at is = absurd is
 kept-commands nodes words s (c ∷ cs) [] t puts gots at is = absurd is
 kept-commands nodes words s (c ∷ cs) (a ∷ log) t puts gots at is =
-    let first = subst (λ x. Kept nodes words a.after.world (more puts (put_said x.names a.command a.said)) (more gots (got_said x.names a.command a.said)))
+    let first = subst (λ x. Kept nodes words a.after.world (more puts (put_said x.names a.command a.said))
+    (more gots (got_said x.names a.command a.said)))
     (sym is.0)
     (subst (λ x. Kept nodes words a.after.world (more puts (put_said s.names x a.said)) (more gots (got_said s.names x a.said))) (sym is.1)
     (kept-command nodes words s puts gots at c a.said a.after is.2)) in
     kept-as nodes words t.world _ _ _ _
-    (kept-commands nodes words a.after cs log t (more puts (put_said a.before.names a.command a.said)) (more gots (got_said a.before.names a.command a.said))
+    (kept-commands nodes words a.after cs log t (more puts (put_said a.before.names a.command a.said))
+    (more gots (got_said a.before.names a.command a.said))
     first is.3)
     (λ e. append_assoc (puts e) (put_said a.before.names a.command a.said e) (puts_in log e))
     (λ e. append_assoc (gots e) (got_said a.before.names a.command a.said e) (gots_in log e))
@@ -362,10 +385,12 @@ module _ (nodes words : ℕ) (s : Session) (earlier : List Answered) (at : Kept 
     ap length (at.got e),
   )
 
-  plain : (x : Step) → is_turn x ≡ false → Plain at.books x (first_step s.world x).reply (advance s.world at.books x (first_step s.world x).reply)
+  plain : (x : Step) → is_turn x ≡ false →
+      Plain at.books x (first_step s.world x).reply (advance s.world at.books x (first_step s.world x).reply)
   plain x no_turn =
       replies_plainly s.world (first_step s.world x).world at.books at.routes x (first_step s.world x).reply law
-      (first_acts_are_possible s.world (first_step s.world x).world at.books at.routes x (first_step s.world x).reply law (first-step s.world x no_turn))
+      (first_acts_are_possible s.world (first_step s.world x).world at.books at.routes x (first_step s.world x).reply law
+      (first-step s.world x no_turn))
 
   count-known : {X : Type 0} (c : Command) (o : Option X) (call : X → Replied) → IsCount earlier s.names c said.UnknownName →
       ((x : X) → o ≡ Some x → IsCount earlier s.names c (call x).said) → IsCount earlier s.names c (if_known s o call).said
@@ -396,7 +421,8 @@ module _ (nodes words : ℕ) (s : Session) (earlier : List Answered) (at : Kept 
   count-put name text attached end ends n (replies.Turned event) c bound there p = tt
   count-put name text attached end ends n (replies.Refused why) c bound there p = tt
 
-  count-got : (name : List ℕ) (end : End) (n : ℕ) (reply : Reply) (c : Books) → get s.names name ≡ Some end → holder_of s.world end ≡ Some n →
+  count-got : (name : List ℕ) (end : End) (n : ℕ) (reply : Reply) (c : Books) → get s.names name ≡ Some end →
+      holder_of s.world end ≡ Some n →
       Plain at.books (steps.Get n end) reply c → IsCount earlier s.names (commands.Get name) (answer_to reply)
   unfolding IsCount answer_to
   count-got name end n (replies.Got k q) c bound there p =
@@ -408,7 +434,8 @@ module _ (nodes words : ℕ) (s : Session) (earlier : List Answered) (at : Kept 
   count-got name end n (replies.Refused why) c bound there p = tt
 
   count-close : (name : List ℕ) (end : End) (n : ℕ) (reply : Reply) (c : Books) → get s.names name ≡ Some end →
-      holder_of s.world end ≡ Some n → Plain at.books (steps.Close n end) reply c → IsCount earlier s.names (commands.Close name) (answer_to reply)
+      holder_of s.world end ≡ Some n → Plain at.books (steps.Close n end) reply c →
+      IsCount earlier s.names (commands.Close name) (answer_to reply)
   unfolding IsCount answer_to
   count-close name end n (replies.Closed k) c bound there p =
       one-end name end (λ e. length (puts_in earlier e)) k bound (p.0 ∙ put-count end n there)
@@ -444,7 +471,8 @@ module _ (nodes words : ℕ) (s : Session) (earlier : List Answered) (at : Kept 
 
 -- a command within a script, and those before it
 split : (s : Session) (cs : List Command) (earlier : List Answered) (a : Answered) (later : List Answered) (t : Session) →
-    AreAnswered s cs (earlier ++ a ∷ later) t → (front : List Command) × AreAnswered s front earlier a.before × Runs a.before a.command a.said a.after
+    AreAnswered s cs (earlier ++ a ∷ later) t → (front : List Command) × AreAnswered s front earlier a.before ×
+    Runs a.before a.command a.said a.after
 split s [] [] a later t is = absurd is
 split s [] (x ∷ earlier) a later t is = absurd is
 split s (c ∷ cs) [] a later t is =
@@ -456,4 +484,5 @@ split s (c ∷ cs) (x ∷ earlier) a later t is =
 pub numbers_count_up : NumbersCountUp
 numbers_count_up nodes words cs earlier a later t limits is =
     let parts = split (new_session nodes words) cs earlier a later t is in
-    count-command nodes words a.before earlier (kept-script nodes words parts.0 earlier a.before limits parts.1) a.command a.said a.after parts.2
+    count-command nodes words a.before earlier (kept-script nodes words parts.0 earlier a.before limits parts.1)
+    a.command a.said a.after parts.2

@@ -1,5 +1,6 @@
 -- What each step adds to the books is what the answer to its command says.
-use Rattle.std.proofs.Common.{◌≡◌, ◌∙◌, ap, sym, refl, subst, append-nil, ℕ, suc, Bool, true, false, cond, List, [], ◌∷◌, ◌++◌, length, map, Option, Some, None}
+use Rattle.std.proofs.Common.{◌≡◌, ◌∙◌, ap, sym, refl, subst, append-nil, ℕ, suc, Bool, true, false, cond, List, [], ◌∷◌, ◌++◌, length, map}
+use Rattle.std.proofs.Common.{Option, Some, None}
 use Rattle.std.specs.Prelude.{take, unwrap_or}
 use Rattle.std.specs.FinMap.{get}
 use Rattle.std.specs.Option.{option_map_or}
@@ -42,7 +43,8 @@ unmarked-length (Parcel q ∷ items) h = ap suc (unmarked-length items h)
 unmarked-length (Mark ∷ items) h = cc
 
 -- a prefix of parcels among items is one of their parcels
-pub parcels-follow : (ps : List parcels.Parcel) (items : List Item) → take (length ps) items ≡ map Parcel ps → take (length ps) (parcels_in items) ≡ ps
+pub parcels-follow : (ps : List parcels.Parcel) (items : List Item) → take (length ps) items ≡ map Parcel ps →
+    take (length ps) (parcels_in items) ≡ ps
 parcels-follow [] items h = refl
 parcels-follow (p ∷ ps) [] h = cc
 parcels-follow (p ∷ ps) (Mark ∷ items) h = cc
@@ -84,7 +86,10 @@ got-more b at p = record { put = λ e. sym (append-nil (parcels_in (b.put e))); 
     go e false h = sym (append-nil (b.got e))
 
 mark-more : (b : Books) (at : End) → Adds b (add_put b at Mark) none none
-mark-more b at = record { put = λ e. go e (same_end e at) refl ∙ sym (append-nil (parcels_in (b.put e))); got = λ e. sym (append-nil (b.got e)) }
+mark-more b at = record {
+  put = λ e. go e (same_end e at) refl ∙ sym (append-nil (parcels_in (b.put e)));
+  got = λ e. sym (append-nil (b.got e));
+}
   where
     go : (e : End) (c : Bool) → same_end e at ≡ c → parcels_in (cond c (b.put at ++ Mark ∷ []) (b.put e)) ≡ parcels_in (b.put e)
     go e true h = parcels-mark (b.put at) ∙ ap (λ d. parcels_in (b.put d)) (sym (same_end-is e at h))
@@ -142,7 +147,8 @@ open-said w b n names first second (replies.Closed k) = nothing-more b
 open-said w b n names first second (replies.Turned event) = nothing-more b
 open-said w b n names first second (replies.Refused why) = nothing-more b
 
-pub put-said : (w : World) (b : Books) (n : ℕ) (names : Bindings) (at text : List ℕ) (attached : List (List ℕ)) (end : End) (ends : List End)
+pub put-said : (w : World) (b : Books) (n : ℕ) (names : Bindings) (at text : List ℕ) (attached : List (List ℕ)) (end : End)
+    (ends : List End)
     (reply : Reply) → get names at ≡ Some end → ends_from names [] attached ≡ Some ends →
     Adds b (advance w b (steps.Put n end text ends) reply) (put_said names (commands.Put at text attached) (answer_to reply))
     (got_said names (commands.Put at text attached) (answer_to reply))
@@ -159,7 +165,8 @@ put-said w b n names at text attached end ends (replies.Turned event) bound know
 put-said w b n names at text attached end ends (replies.Refused why) bound known = nothing-more b
 
 pub got-said : (w : World) (b : Books) (n : ℕ) (names : Bindings) (at : List ℕ) (end : End) (reply : Reply) → get names at ≡ Some end →
-    Adds b (advance w b (steps.Get n end) reply) (put_said names (commands.Get at) (answer_to reply)) (got_said names (commands.Get at) (answer_to reply))
+    Adds b (advance w b (steps.Get n end) reply) (put_said names (commands.Get at) (answer_to reply))
+    (got_said names (commands.Get at) (answer_to reply))
 unfolding advance put_said got_said answer_to
 got-said w b n names at end (replies.Opened d e) bound = nothing-more b
 got-said w b n names at end (replies.Put k) bound = nothing-more b
@@ -170,7 +177,8 @@ got-said w b n names at end (replies.Turned event) bound = nothing-more b
 got-said w b n names at end (replies.Refused why) bound = nothing-more b
 
 pub close-said : (w : World) (b : Books) (n : ℕ) (names : Bindings) (at : List ℕ) (end : End) (reply : Reply) →
-    Adds b (advance w b (steps.Close n end) reply) (put_said names (commands.Close at) (answer_to reply)) (got_said names (commands.Close at) (answer_to reply))
+    Adds b (advance w b (steps.Close n end) reply) (put_said names (commands.Close at) (answer_to reply))
+    (got_said names (commands.Close at) (answer_to reply))
 unfolding advance put_said got_said answer_to
 close-said w b n names at end (replies.Opened d e) = nothing-more b
 close-said w b n names at end (replies.Put k) = nothing-more b

@@ -1,5 +1,6 @@
 -- The claimed words, one after the other.
-use Rattle.std.proofs.Common.{◌≡◌, ◌∙◌, ◌++◌, ◌+◌, ◌-◌, ◌<◌, ◌≤◌, ap, sym, refl, ℕ, suc, List, [], ◌∷◌, map, Some, arith, append_assoc, append-nil, nat_lt, true}
+use Rattle.std.proofs.Common.{◌≡◌, ◌∙◌, ◌++◌, ◌+◌, ◌-◌, ◌<◌, ◌≤◌, ap, sym, refl, ℕ, suc, List, [], ◌∷◌, map, Some, arith, append_assoc}
+use Rattle.std.proofs.Common.{append-nil, nat_lt, true}
 use Rattle.std.proofs.lemmas.Bool.Decides.{nat_tests}
 use Rattle.ipcz_word.specs.Layout.{bits_of}
 use Rattle.ipcz_world.specs.World.{World, word_at, numbers_from}

@@ -1,5 +1,6 @@
 -- What a step that is no turn comes to, and turns one after the other.
-use Rattle.std.proofs.Common.{◌≡◌, ◌∙◌, ◌++◌, ap, sym, refl, subst, inl, inr, ℕ, zero, suc, true, false, List, [], ◌∷◌, append_assoc, append-nil}
+use Rattle.std.proofs.Common.{◌≡◌, ◌∙◌, ◌++◌, ap, sym, refl, subst, inl, inr, ℕ, zero, suc, true, false, List, [], ◌∷◌, append_assoc}
+use Rattle.std.proofs.Common.{append-nil}
 use Rattle.std.specs.Prelude.{MatchBool}
 use Rattle.ipcz_base.specs.declared.refusal.Refusal.TheVariants.{OutOfMemory}
 use Rattle.ipcz_world.specs.declared.step.Step.{Step}
@@ -37,7 +38,8 @@ goes_on-start count node w u turns same none more v is = rw none (subst (λ x. A
 pub goes_on-turn : (count left node : ℕ) (w u x : World) (turns new : List Reply) (r : Reply) → GoesOn count (suc left) node w u turns →
     new ≡ turns ++ r ∷ [] → StepFirst u (steps.Turn node) r x → is_want r ≡ false → is_idle_reply r ≡ false → GoesOn count left node w x new
 goes_on-turn count left node w u x turns new r on is step fine busy more v rest =
-    let next : AreTurns (suc left) node u (r ∷ more) v = (x, step, fine, subst (λ b. MatchBool b ((more ≡ []) × (v ≡ x)) (AreTurns left node x more v)) (sym busy) rest) in
+    let next : AreTurns (suc left) node u (r ∷ more) v =
+    (x, step, fine, subst (λ b. MatchBool b ((more ≡ []) × (v ≡ x)) (AreTurns left node x more v)) (sym busy) rest) in
     subst (λ l. AreTurns count node w l v) (sym (ap (λ l. l ++ more) is ∙ append_assoc turns (r ∷ []) more)) (on (r ∷ more) v next)
 
 -- no turn is left
@@ -49,5 +51,6 @@ pub goes_on-idle : (count left node : ℕ) (w u x : World) (turns new : List Rep
     new ≡ turns ++ r ∷ [] → StepFirst u (steps.Turn node) r x → is_want r ≡ false → is_idle_reply r ≡ true → AreTurns count node w new x
 goes_on-idle count left node w u x turns new r on is step fine idle =
     let ended : List Reply = [] in
-    let last : AreTurns (suc left) node u (r ∷ []) x = (x, step, fine, subst (λ b. MatchBool b ((ended ≡ []) × (x ≡ x)) (AreTurns left node x [] x)) (sym idle) (refl, refl)) in
+    let last : AreTurns (suc left) node u (r ∷ []) x =
+    (x, step, fine, subst (λ b. MatchBool b ((ended ≡ []) × (x ≡ x)) (AreTurns left node x [] x)) (sym idle) (refl, refl)) in
     subst (λ l. AreTurns count node w l x) (sym is) (on (r ∷ []) x last)

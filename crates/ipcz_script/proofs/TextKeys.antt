@@ -1,5 +1,6 @@
 -- Trees whose keys are texts, as finite maps and finite sets of the texts' bytes.
-use Rattle.std.proofs.Common.{◌≡◌, ◌∙◌, ◌||◌, ap, sym, refl, Bool, true, false, cond, ℕ, List, [], ◌∷◌, map, Some, String, Global, string_bytes}
+use Rattle.std.proofs.Common.{◌≡◌, ◌∙◌, ◌||◌, ap, sym, refl, Bool, true, false, cond, ℕ, List, [], ◌∷◌, map, Some, String, Global}
+use Rattle.std.proofs.Common.{string_bytes}
 use Rattle.std.specs.List.{list_any}
 use Rattle.std.specs.Map.{lookup}
 use Rattle.std.specs.Ordering.{nat_cmp, eq_by_cmp}
@@ -21,7 +22,9 @@ tied q k = sym (is_eq-slice_cmp k q) ∙ (eq_by_cmp_equiv nat_list_cmp_total).sy
 
 -- ---- maps
 
-find-bytes : {X : Type 0} (q : List ℕ) (es : List (String Global × X)) → finite.find (slice_cmp nat_cmp) q (map (λ e. (string_bytes e.0, e.1)) es) ≡ lookup (tree.is_at (λ k. slice_cmp nat_cmp q (string_bytes k))) es
+find-bytes : {X : Type 0} (q : List ℕ) (es : List (String Global × X)) →
+    finite.find (slice_cmp nat_cmp) q (map (λ e. (string_bytes e.0, e.1)) es) ≡
+    lookup (tree.is_at (λ k. slice_cmp nat_cmp q (string_bytes k))) es
 find-bytes q [] = refl
 find-bytes q (e ∷ es) = ap (cond (eq_by_cmp (slice_cmp nat_cmp) q (string_bytes e.0)) (Some e.1)) (find-bytes q es)
 
@@ -30,8 +33,10 @@ pub get-bindings_of : (m : tree.BTreeMap (String Global) End) (q : List ℕ) →
 get-bindings_of m q = finite.get-from_entries nat_list_cmp_total _ q ∙ find-bytes q m.entries
 
 -- to insert a text into the tree is to bind its bytes
-pub bindings_of-insert : (m n : tree.BTreeMap (String Global) End) (k : String Global) (v : End) → tree.Updates string_cmp m n k (Some v) → bindings_of n.entries ≡ finite.insert (bindings_of m.entries) (string_bytes k) v
-bindings_of-insert m n k v is = finite.same_map nat_list_cmp_total (finite.slice_cmp-IsAntisymmetric finite.nat_cmp-IsAntisymmetric) _ _ (λ q.
+pub bindings_of-insert : (m n : tree.BTreeMap (String Global) End) (k : String Global) (v : End) → tree.Updates string_cmp m n k (Some v) →
+    bindings_of n.entries ≡ finite.insert (bindings_of m.entries) (string_bytes k) v
+bindings_of-insert m n k v is = finite.same_map nat_list_cmp_total (finite.slice_cmp-IsAntisymmetric finite.nat_cmp-IsAntisymmetric) _ _
+    (λ q.
     get-bindings_of n q
     ∙ btree_map_updates_text (string_bytes k) m n (Some v) is q
     ∙ ap (λ b. cond b (Some v) (tree.get_by_text m q)) (tied q (string_bytes k))
@@ -40,12 +45,14 @@ bindings_of-insert m n k v is = finite.same_map nat_list_cmp_total (finite.slice
 
 -- ---- sets
 
-any-bytes : (q : List ℕ) (ks : List (String Global)) → list_any (eq_by_cmp (slice_cmp nat_cmp) q) (map string_bytes ks) ≡ list_any (tree.is_at (λ k. slice_cmp nat_cmp q (string_bytes k))) ks
+any-bytes : (q : List ℕ) (ks : List (String Global)) → list_any (eq_by_cmp (slice_cmp nat_cmp) q) (map string_bytes ks) ≡
+    list_any (tree.is_at (λ k. slice_cmp nat_cmp q (string_bytes k))) ks
 any-bytes q [] = refl
 any-bytes q (k ∷ ks) = ap (λ b. eq_by_cmp (slice_cmp nat_cmp) q (string_bytes k) || b) (any-bytes q ks)
 
 -- the set has the texts that the tree has
-pub contains-bytes : (s : sorted.BTreeSet (String Global)) (q : List ℕ) → set.contains (set.from_list {R = slice_cmp nat_cmp} (map string_bytes s.keys)) q ≡ sorted.contains_text s q
+pub contains-bytes : (s : sorted.BTreeSet (String Global)) (q : List ℕ) →
+    set.contains (set.from_list {R = slice_cmp nat_cmp} (map string_bytes s.keys)) q ≡ sorted.contains_text s q
 contains-bytes s q = set.contains-from_list nat_list_cmp_total _ q ∙ any-bytes q s.keys
 
 true_or : (a b : Bool) → cond a true b ≡ (a || b)
@@ -53,7 +60,8 @@ true_or true b = refl
 true_or false b = refl
 
 -- to insert a text into the tree is to insert its bytes into the set
-pub from_list-insert : (s n : sorted.BTreeSet (String Global)) (k : String Global) → sorted.Updates string_cmp s n k true → set.from_list {R = slice_cmp nat_cmp} (map string_bytes n.keys) ≡ set.insert (set.from_list (map string_bytes s.keys)) (string_bytes k)
+pub from_list-insert : (s n : sorted.BTreeSet (String Global)) (k : String Global) → sorted.Updates string_cmp s n k true →
+    set.from_list {R = slice_cmp nat_cmp} (map string_bytes n.keys) ≡ set.insert (set.from_list (map string_bytes s.keys)) (string_bytes k)
 from_list-insert s n k is = set.same_set nat_list_cmp_total (finite.slice_cmp-IsAntisymmetric finite.nat_cmp-IsAntisymmetric) _ _ (λ q.
     contains-bytes n q
     ∙ btree_set_updates_text (string_bytes k) s n true is q
@@ -73,7 +81,8 @@ swapped false false true = refl
 swapped false false false = refl
 
 -- the set after two texts more
-pub contains-insert_two : (s : set.FinSet (slice_cmp nat_cmp)) (a b q : List ℕ) → set.contains (set.insert (set.insert s a) b) q ≡ (set.contains s q || (bytes_eq a q || bytes_eq b q))
+pub contains-insert_two : (s : set.FinSet (slice_cmp nat_cmp)) (a b q : List ℕ) →
+    set.contains (set.insert (set.insert s a) b) q ≡ (set.contains s q || (bytes_eq a q || bytes_eq b q))
 contains-insert_two s a b q =
     set.contains-insert nat_list_cmp_total (set.insert s a) b q
     ∙ ap (λ t. eq_by_cmp (slice_cmp nat_cmp) q b || t) (set.contains-insert nat_list_cmp_total s a q)

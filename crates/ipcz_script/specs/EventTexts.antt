@@ -39,11 +39,13 @@ link_event serial verb link = codes "r" ++ decimal serial ++ codes " " ++ verb +
 
 -- what a router did to the word of a link, with the word after it
 abbrev pub word_text : ℕ → List ℕ → LinkId → ℕ → List ℕ
-word_text serial verb link word = codes "r" ++ decimal serial ++ codes " " ++ verb ++ codes " " ++ link_text link ++ codes " " ++ decimal word
+word_text serial verb link word = codes "r" ++ decimal serial ++ codes " " ++ verb ++ codes " " ++ link_text link ++ codes " " ++
+    decimal word
 
 -- an item that was sent
 abbrev pub sent_text : ℕ → List ℕ → ℕ → LinkId → List End → List ℕ
-sent_text serial way n link moved = codes "r" ++ decimal serial ++ codes " send " ++ way ++ codes " " ++ decimal n ++ codes " " ++ link_text link ++ moved_text moved
+sent_text serial way n link moved = codes "r" ++ decimal serial ++ codes " send " ++ way ++ codes " " ++ decimal n ++ codes " " ++
+    link_text link ++ moved_text moved
 
 -- a message that was handled
 abbrev pub hand_text : Handed → LinkId → Bool → List ℕ

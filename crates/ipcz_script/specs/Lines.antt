@@ -36,7 +36,8 @@ titles_text titles (e ∷ es) = title_of titles e ++ more_titles titles es
 
 -- a parcel that was got: its number, the names of its ends, and its bytes as they are
 abbrev pub parcel_text : Titles → ℕ → Parcel → List ℕ
-parcel_text titles number parcel = decimal number ++ codes " [" ++ titles_text titles parcel.ends ++ codes "] \"" ++ parcel.bytes ++ codes "\""
+parcel_text titles number parcel = decimal number ++ codes " [" ++ titles_text titles parcel.ends ++ codes "] \"" ++ parcel.bytes ++
+    codes "\""
 
 -- the claimed words, each behind a space
 abbrev pub words_text : List ℕ → List ℕ

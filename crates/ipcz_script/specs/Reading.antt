@@ -23,7 +23,8 @@ script_from (Some d) = script_of d
 
 -- the script that the bytes are, or why they are none: their length comes before all else
 abbrev pub IsScript : List ℕ → Result Script ScriptFault → Type 0
-IsScript bytes script = ((max_bytes < length bytes) × (script ≡ Err TooLong)) ⊎ ((length bytes ≤ max_bytes) × (json : Option Data) × IsJson bytes json × (script ≡ script_from json))
+IsScript bytes script = ((max_bytes < length bytes) × (script ≡ Err TooLong)) ⊎
+    ((length bytes ≤ max_bytes) × (json : Option Data) × IsJson bytes json × (script ≡ script_from json))
 
 -- what reading the bytes may answer: what they are, or that no memory was found
 abbrev pub IsAnswer : List ℕ → Result Script ScriptFault → Type 0

@@ -71,4 +71,5 @@ ScriptsArrive = AfterScripts NothingIsStuck
 -- law: after every script each reply is one that the books alone allow
 abbrev pub ScriptsAnswerPlainly : Type 0
 ScriptsAnswerPlainly =
-    AfterScripts (λ nodes words w b g. (step : Step) (reply : Reply) (v : World) → StepAny w step reply v → Plain b step reply (advance w b step reply))
+    AfterScripts (λ nodes words w b g. (step : Step) (reply : Reply) (v : World) → StepAny w step reply v →
+    Plain b step reply (advance w b step reply))

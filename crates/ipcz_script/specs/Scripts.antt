@@ -1,5 +1,6 @@
 -- Which script a JSON value is.
-use Rattle.std.specs.Prelude.{ℕ, ◌+◌, ◌==◌, List, [], ◌∷◌, ◌++◌, length, codes, Bool, false, if◌then◌else◌, Option, Some, option_and_then, Result, Ok, Err}
+use Rattle.std.specs.Prelude.{ℕ, ◌+◌, ◌==◌, List, [], ◌∷◌, ◌++◌, length, codes, Bool, false, if◌then◌else◌, Option, Some, option_and_then}
+use Rattle.std.specs.Prelude.{Result, Ok, Err}
 use Rattle.std.specs.Option.{option_map_or}
 use Rattle.serde_json.specs.Data.{Data}
 use Rattle.serde_json.specs.Events.{members_len}
@@ -15,7 +16,8 @@ use Rattle.ipcz_script.specs.Shapes.{values_of, number_within, command_of}
 -- the commands that these values are, behind those so far, or the number of the first value that is none, counted from 1
 abbrev pub commands_from : ℕ → List Command → List Data → Result (List Command) ScriptFault
 commands_from nodes before [] = Ok before
-commands_from nodes before (d ∷ ds) = option_map_or (λ command. commands_from nodes (before ++ command ∷ []) ds) (command_of nodes (is_taken before) d) (Err (BadShape (length before + 1)))
+commands_from nodes before (d ∷ ds) = option_map_or (λ command. commands_from nodes (before ++ command ∷ []) ds)
+    (command_of nodes (is_taken before) d) (Err (BadShape (length before + 1)))
 
 -- ---- the members
 
@@ -53,4 +55,5 @@ with_members _ _ _ = Err (BadShape 0)
 
 -- the script that a value is, or why it is none
 abbrev pub script_of : Data → Result Script ScriptFault
-script_of d = if has_three_members d then with_members (nodes_in d) (option_and_then (words_in d) (nodes_in d)) (values_in d) else Err (BadShape 0)
+script_of d = if has_three_members d then with_members (nodes_in d) (option_and_then (words_in d) (nodes_in d)) (values_in d) else Err
+    (BadShape 0)

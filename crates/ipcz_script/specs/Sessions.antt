@@ -84,7 +84,8 @@ replied_step s done = record { said = answer_to done.reply; session = with_world
 
 -- an open
 abbrev pub replied_open : Session → List ℕ → List ℕ → Effect → Replied
-replied_open s first second done = record { said = answer_to done.reply; session = name_pair (with_world s done.world) first second done.reply }
+replied_open s first second done =
+    record { said = answer_to done.reply; session = name_pair (with_world s done.world) first second done.reply }
 
 -- a call with what names are bound to, where they are bound
 unfoldable pub if_known : {X : Type 0} → Session → Option X → (X → Replied) → Replied
@@ -108,7 +109,8 @@ replied_at s end step = if_held s (holder_of s.world end) (λ node. replied_step
 -- a put
 abbrev pub replied_put : Session → List ℕ → List ℕ → List (List ℕ) → Replied
 replied_put s at text attached =
-    if_known s (get s.names at) (λ end. if_known s (ends_from s.names [] attached) (λ ends. replied_at s end (λ node. steps.Put node end text ends)))
+    if_known s (get s.names at)
+    (λ end. if_known s (ends_from s.names [] attached) (λ ends. replied_at s end (λ node. steps.Put node end text ends)))
 
 -- a get
 abbrev pub replied_get : Session → List ℕ → Replied

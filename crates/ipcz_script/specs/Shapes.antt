@@ -1,5 +1,6 @@
 -- Which command a JSON value is.
-use Rattle.std.specs.Prelude.{ℕ, ◌-◌, ◌&&◌, List, [], ◌∷◌, ◌++◌, Bool, not, nat_le, bytes_eq, codes, if◌then◌else◌, Option, Some, None, option_and_then, option_map}
+use Rattle.std.specs.Prelude.{ℕ, ◌-◌, ◌&&◌, List, [], ◌∷◌, ◌++◌, Bool, not, nat_le, bytes_eq, codes, if◌then◌else◌, Option, Some, None}
+use Rattle.std.specs.Prelude.{option_and_then, option_map}
 use Rattle.std.specs.Option.{option_map_or}
 use Rattle.serde_json.specs.Data.{Data, Items, no_items, item}
 use Rattle.serde_json.specs.Find.{as_array, as_number, as_str, as_u64}
@@ -20,7 +21,8 @@ values_of d = option_map list_of (as_array d)
 
 -- a number of this range, where the value is a whole number that fits 64 bits and was written without sign, fraction and exponent
 abbrev pub number_within : ℕ → ℕ → Data → Option ℕ
-number_within low high d = option_and_then (λ n. if nat_le low n && nat_le n high then Some n else None) (option_and_then as_u64 (as_number d))
+number_within low high d = option_and_then (λ n. if nat_le low n && nat_le n high then Some n else None)
+    (option_and_then as_u64 (as_number d))
 
 -- the name that a value is
 abbrev pub name_in : Data → Option (List ℕ)
@@ -58,7 +60,8 @@ turn_of _ _ = None
 
 -- a node, which is below the number of nodes, and two names that are new
 abbrev pub open_in : ℕ → (List ℕ → Bool) → List Data → Option Command
-open_in nodes taken (node ∷ first ∷ second ∷ []) = open_of (number_within 0 (nodes - 1) node) (new_name_in taken first) (new_name_in taken second)
+open_in nodes taken (node ∷ first ∷ second ∷ []) = open_of (number_within 0 (nodes - 1) node) (new_name_in taken first)
+    (new_name_in taken second)
 open_in nodes taken ds = None
 
 -- a name, the data, which may be any text, and where portals are attached a list of names

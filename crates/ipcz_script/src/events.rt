@@ -1,7 +1,8 @@
 //! How what a turn did prints (docs/PROTOCOL.md, "Events").
 
 ghost use Rattle.std.specs.Prelude.{◌≡◌, ◌++◌, OnOk, codes};
-ghost use Rattle.ipcz_script.specs.EventTexts.{event_text, hand_text, kind_text, link_event, more_ends, moved_text, sent_text, unfit_text, word_text};
+ghost use Rattle.ipcz_script.specs.EventTexts.{event_text, hand_text, kind_text, link_event, more_ends, moved_text, sent_text, unfit_text};
+ghost use Rattle.ipcz_script.specs.EventTexts.{word_text};
 
 use ipcz_base::{End, LinkId};
 use ipcz_node::{Handed, Happened};

@@ -2,7 +2,8 @@
 
 ghost use Rattle.std.specs.Prelude.{◌≡◌, ◌++◌, OnOk, codes};
 ghost use Rattle.std.specs.Fmt.{decimal};
-ghost use Rattle.ipcz_script.specs.Lines.{head_of, line, lines_of, lines_of_turns, more_titles, parcel_text, refused_line, tail_of, title_of, titles_text, turn_lines, turn_text, words_text};
+ghost use Rattle.ipcz_script.specs.Lines.{head_of, line, lines_of, lines_of_turns, more_titles, parcel_text, refused_line, tail_of};
+ghost use Rattle.ipcz_script.specs.Lines.{title_of, titles_text, turn_lines, turn_text, words_text};
 
 use crate::command::Command;
 use crate::events::push_event;

@@ -3,7 +3,9 @@ ghost use Rattle.std.specs.FinMap.{get};
 ghost use Rattle.ipcz_node.specs.FirstPairs.{pairs_from, first_pairs_from};
 ghost use Rattle.ipcz_world.specs.Lawful.{IsWithinLimits};
 ghost use Rattle.ipcz_world.specs.Steps.{first_step};
-ghost use Rattle.ipcz_script.specs.Sessions.{AreTurns, Is, Runs, SettlesTo, TurnsTo, bind, bind_pair, bind_pairs, ends_from, answer_to, is_idle_reply, is_turn, is_want, new_session, replied_close, replied_get, replied_open, replied_put, with_world};
+ghost use Rattle.ipcz_script.specs.Sessions.{AreTurns, Is, Runs, SettlesTo, TurnsTo, bind, bind_pair, bind_pairs, ends_from, answer_to};
+ghost use Rattle.ipcz_script.specs.Sessions.{is_idle_reply, is_turn, is_want, new_session, replied_close, replied_get, replied_open};
+ghost use Rattle.ipcz_script.specs.Sessions.{replied_put, with_world};
 ghost use Rattle.ipcz_world.specs.Holding.{shown_words};
 
 use crate::command::Command;
@@ -147,7 +149,8 @@ impl Session {
 
     #[tactic(auto, unfolding(crate::specs::Sessions::answer_to, crate::specs::Sessions::name_pair))]
     fn open(&mut self, node: u8, first: &str, second: &str) -> Result<Said, AllocError>
-        ensures { IfOk result (λ said. Is (replied_open self.old first.now second.now (first_step self.old.world (Step.Open node))) said self.new) }
+        ensures { IfOk result (λ said. Is (replied_open self.old first.now second.now (first_step self.old.world (Step.Open node)))
+            said self.new) }
     {
         let reply = self.step(Step::Open(node))?;
         if let Reply::Opened(a, b) = reply {

@@ -4,7 +4,8 @@ ghost use Rattle.std.specs.FinSet.{contains};
 ghost use Rattle.serde_json.specs.View.{view};
 ghost use Rattle.serde_json.specs.Find.{as_str};
 ghost use Rattle.ipcz_script.specs.ScriptNames.{is_name, is_name_byte, has_angle};
-ghost use Rattle.ipcz_script.specs.Shapes.{values_of, number_within, name_in, new_name_in, names_from, names_in, open_in, put_of, put_in, get_in, close_in, turn_in, settle_in, show_in, command_named, command_in};
+ghost use Rattle.ipcz_script.specs.Shapes.{values_of, number_within, name_in, new_name_in, names_from, names_in, open_in, put_of, put_in};
+ghost use Rattle.ipcz_script.specs.Shapes.{get_in, close_in, turn_in, settle_in, show_in, command_named, command_in};
 
 use crate::command::Command;
 use crate::opened_names::OpenedNames;

@@ -5,6 +5,7 @@ pub mod CallTurns
 pub mod Gets
 pub mod OpenedNodes
 pub mod Opening
+pub mod OpeningPair
 pub mod Puts
 pub mod Putting
 pub mod Reading

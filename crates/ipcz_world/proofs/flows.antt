@@ -4,4 +4,5 @@ pub mod Fitting
 pub mod Flowing
 pub mod Handing
 pub mod MessagesAlone
+pub mod MessagesPassing
 pub mod SameMessages

@@ -7,6 +7,10 @@ pub mod Draining
 pub mod Filling
 pub mod FillingNumbers
 pub mod FirstLink
+pub mod FirstLinkAround
+pub mod FirstLinkItems
+pub mod FirstLinkLinks
+pub mod FirstLinkStages
 pub mod Frames
 pub mod FreshPairs
 pub mod GivenUp
@@ -17,6 +21,7 @@ pub mod Owners
 pub mod RecordRules
 pub mod Sealing
 pub mod StageFurther
+pub mod StageFurtherNumbers
 pub mod StandingRules
 pub mod Touching
 pub mod Unmoved

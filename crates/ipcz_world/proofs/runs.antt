@@ -11,4 +11,5 @@ pub mod Keeping
 pub mod NodeSteps
 pub mod Running
 pub mod Starting
+pub mod StartingPairs
 pub mod TurnReplies

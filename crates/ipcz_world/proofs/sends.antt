@@ -1,8 +1,12 @@
 -- A router sends an item, with the terminals of its ends where it goes to another node.
 pub mod Extending
+pub mod ExtendingAround
+pub mod ExtendingFacts
 pub mod ExtendingItems
+pub mod ExtendingLinks
 pub mod ExtendingNodes
 pub mod ExtendingPlaces
+pub mod ExtendingStages
 pub mod Moved
 pub mod MovingEnds
 pub mod Sending

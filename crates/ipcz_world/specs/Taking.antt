@@ -15,7 +15,8 @@ use Rattle.ipcz_world.specs.Turns.{turn_event, turn_lacks_serials, turn_grows, c
 use Rattle.ipcz_world.specs.Steps.{FirstAct}
 use Rattle.ipcz_world.specs.Soundness.{HasLengths, IsSound}
 
--- the lists of a world have their lengths, its nodes name only what there is, and the first act of each of them is possible, and so is what stands in for it
+-- the lists of a world have their lengths, its nodes name only what there is, and the first act of each of them is possible, and so is what
+-- stands in for it
 pub record IsRegular (w : World) : Type 0 where
   pub lengths : HasLengths w
   pub sound : (n : ℕ) → n < w.count → IsSound w.count w.size n (node_at w n)

@@ -1,6 +1,7 @@
 ghost use Rattle.std.specs.Prelude.{◌≡◌, ◌<◌, ◌≤◌, ◌++◌, ◌-◌, Some, None, IfSome, IfOk, length, replicate, if◌then◌else◌};
 ghost use Rattle.ipcz_word.specs.Word.{empty_word, open_word};
-ghost use Rattle.ipcz_world.specs.Coding.{claimed_word, has_unclaimed, claim_one, put_word, is_claim, side_answer, side_after, table_answer, table_after};
+ghost use Rattle.ipcz_world.specs.Coding.{claimed_word, has_unclaimed, claim_one, put_word, is_claim, side_answer, side_after};
+ghost use Rattle.ipcz_world.specs.Coding.{table_answer, table_after};
 
 use crate::word_answers::answer_act;
 use ipcz_base::Side;

@@ -93,7 +93,8 @@ impl World {
     /// changes nothing.
     pub fn step(&mut self, step: &Step) -> Reply
         ensures step { StepFirst self.old step.now result self.new }
-        ensures lawful { (b : Books) → (g : Routes) → Lawful self.old b g → Lawful self.new (advance self.old b step.now result) (routes_after self.old g step.now result) }
+        ensures lawful { (b : Books) → (g : Routes) → Lawful self.old b g →
+            Lawful self.new (advance self.old b step.now result) (routes_after self.old g step.now result) }
         ensures plain { (b : Books) → (g : Routes) → Lawful self.old b g → Plain b step.now result (advance self.old b step.now result) }
     {
         self.state.step(step)

@@ -20,7 +20,8 @@ use Rattle.ipcz_world.specs.Records.{Records}
 use Rattle.ipcz_world.specs.Inv.{Inv}
 use Rattle.ipcz_world.proofs.flows.Flowing.{way_tells, same_way}
 use Rattle.ipcz_world.proofs.frames.Changing.{flow_is, way_apart}
-use Rattle.ipcz_world.proofs.flows.MessagesAlone.{SameButPost, Passes, HasHands, post_is, hands-same, passes-flows, inv-passes}
+use Rattle.ipcz_world.proofs.flows.MessagesPassing.{SameButPost, Passes, HasHands, post_is, hands-same, passes-flows}
+use Rattle.ipcz_world.proofs.flows.MessagesAlone.{inv-passes}
 
 -- the message is in the hand
 abbrev pub look_act : World → ℕ → ℕ → Message → World

@@ -41,15 +41,13 @@ use Rattle.ipcz_world.specs.Inv.{Inv}
 use Rattle.ipcz_world.proofs.flows.Flowing.{IsPushed, IsTaken, way_tells, same_way}
 use Rattle.ipcz_world.proofs.frames.Changing.{IsNodeChanged, pushed_by, taken_by, way_apart}
 use Rattle.ipcz_world.proofs.frames.OneRouter.{SameButRouter, set-router, set-word, words-set_router}
-use Rattle.ipcz_world.proofs.frames.GivingUp.{Gives, HasSameFlags, counts-gives}
-use Rattle.ipcz_world.proofs.frames.GivenUp.{Settled, stays, keeps_all, words-gives, spares-gives}
-use Rattle.ipcz_world.proofs.frames.GivingUp.{passes-still}
-use Rattle.ipcz_world.proofs.frames.GivenUp.{stages-flags, inv-flags}
+use Rattle.ipcz_world.proofs.frames.GivingUp.{Gives, HasSameFlags, counts-gives, passes-still}
+use Rattle.ipcz_world.proofs.frames.GivenUp.{Settled, stays, keeps_all, words-gives, spares-gives, stages-flags, inv-flags}
 use Rattle.ipcz_world.proofs.acts.Flags.{IsFlagged, IsShaped, OnWord, on-word, flagged-part, flagged-settled, shape-touched, inv-flagged}
 use Rattle.ipcz_world.proofs.begins.BeginAct.{push-set_node}
 use Rattle.ipcz_world.proofs.acts.Updating.{set-twice}
 use Rattle.ipcz_world.proofs.facts.Finding.{found_tells}
-use Rattle.ipcz_world.proofs.flows.MessagesAlone.{SameButPost, IsFlush, HasHands, post_is, hands-same, passes-pushed, passes-taken}
+use Rattle.ipcz_world.proofs.flows.MessagesPassing.{SameButPost, IsFlush, HasHands, post_is, hands-same, passes-pushed, passes-taken}
 use Rattle.ipcz_world.proofs.flows.MessagesAlone.{inv-passes}
 
 -- a word of a link changes in what its sides wait for alone

@@ -29,37 +29,39 @@ use Rattle.ipcz_world.specs.Acts.{CanAct, begin_act}
 use Rattle.ipcz_world.specs.Inv.{Inv}
 use Rattle.ipcz_world.proofs.begins.Beginning.{CanBegin, Begins, begins-of}
 use Rattle.ipcz_world.proofs.begins.BegunWorld.{Sends, sends-push}
-use Rattle.ipcz_world.proofs.begins.BegunLinks.{IsBegunFrom, begun-from, counts-begun, shape-begun, links-begun, positions-begun}
-use Rattle.ipcz_world.proofs.begins.BegunLinks.{stands-begun, words-begun, spares-begun, bypasses-begun, stages-begun}
-use Rattle.ipcz_world.proofs.begins.BegunNumbers.{begin_message, ordered-begun, told-begun, moves-begun, terminals-begun, end_places-begun}
-use Rattle.ipcz_world.proofs.begins.BegunNumbers.{books-begun, items-begun, order-begun, proxy_numbers-begun, fresh_numbers-begun}
-use Rattle.ipcz_world.proofs.begins.BegunNumbers.{conserved-begun, held_once-begun}
+use Rattle.ipcz_world.proofs.begins.BegunAround.{IsBegunFrom, begun-from}
+use Rattle.ipcz_world.proofs.begins.BegunLinks.{counts-begun, shape-begun, links-begun, positions-begun}
+use Rattle.ipcz_world.proofs.begins.BegunStages.{stands-begun, words-begun, spares-begun, bypasses-begun, stages-begun}
+use Rattle.ipcz_world.proofs.begins.BegunNumbers.{begin_message, ordered-begun, moves-begun, terminals-begun, end_places-begun, books-begun}
+use Rattle.ipcz_world.proofs.begins.BegunNumbers.{items-begun, order-begun, proxy_numbers-begun, fresh_numbers-begun, conserved-begun}
+use Rattle.ipcz_world.proofs.begins.BegunNumbers.{held_once-begun}
+use Rattle.ipcz_world.proofs.begins.BegunMessages.{told-begun}
 use Rattle.ipcz_world.proofs.acts.Updating.{set-twice}
 
 pub inv-begin : (w : World) (b : Books) (g : Records) (k : Key) (r : Router) (p : Key) (into out : LinkEnd) (o fresh : ℕ) → Inv w b g →
     CanBegin w k r p into out o fresh → Inv (begin_act w k r into out o fresh) b (begin_records g k o fresh p)
 inv-begin w b g k r p into out o fresh law can = record {
-  counts = counts-begun w v b g k r y p into out o fresh into.other (begin_message into out o fresh) law is c new;
-  ordered = ordered-begun w v b g k r y p into out o fresh law is c new;
-  shape = shape-begun w v b g k r y p into out o fresh into.other (begin_message into out o fresh) law is c new;
-  links = links-begun w v b g k r y p into out o fresh into.other (begin_message into out o fresh) law is c new;
-  positions = positions-begun w v b g k r y p into out o fresh into.other (begin_message into out o fresh) law is c new;
-  stands = stands-begun w v b g k r y p into out o fresh into.other (begin_message into out o fresh) law is c new;
-  words = words-begun w v b g k r y p into out o fresh into.other (begin_message into out o fresh) law is c new;
-  spares = spares-begun w v b g k r y p into out o fresh into.other (begin_message into out o fresh) law is c new;
-  bypasses = bypasses-begun w v b g k r y p into out o fresh into.other (begin_message into out o fresh) law is c new;
-  stages = stages-begun w v b g k r y p into out o fresh into.other (begin_message into out o fresh) law is c new;
-  told = told-begun w v b g k r y p into out o fresh law is c new;
-  moves = moves-begun w v b g k r y p into out o fresh law is c new;
-  terminals = terminals-begun w v b g k r y p into out o fresh law is c new;
-  end_places = end_places-begun w v b g k r y p into out o fresh law is c new;
-  books_kept = books-begun w v b g k r y p into out o fresh law is c new;
-  items = items-begun w v b g k r y p into out o fresh law is c new;
-  order = order-begun w v b g k r y p into out o fresh law is c new;
-  proxy_numbers = proxy_numbers-begun w v b g k r y p into out o fresh law is c new;
-  fresh_numbers = fresh_numbers-begun w v b g k r y p into out o fresh law is c new;
-  conserved = conserved-begun w v b g k r y p into out o fresh law is c new;
-  held_once = held_once-begun w v b g k r y p into out o fresh law is c new;
+  counts = counts-begun law is c new;
+  ordered = ordered-begun law is c new;
+  shape = shape-begun law is c new;
+  links = links-begun law is c new;
+  positions = positions-begun law is c new;
+  stands = stands-begun law is c new;
+  words = words-begun law is c new;
+  spares = spares-begun law is c new;
+  bypasses = bypasses-begun law is c new;
+  stages = stages-begun law is c new;
+  told = told-begun law is c new;
+  moves = moves-begun law is c new;
+  terminals = terminals-begun law is c new;
+  end_places = end_places-begun law is c new;
+  books_kept = books-begun law is c new;
+  items = items-begun law is c new;
+  order = order-begun law is c new;
+  proxy_numbers = proxy_numbers-begun law is c new;
+  fresh_numbers = fresh_numbers-begun law is c new;
+  conserved = conserved-begun law is c new;
+  held_once = held_once-begun law is c new;
   no_strays = λ n. (c.nodes n).strays ∙ law.no_strays n;
 }
   where

@@ -27,7 +27,8 @@ use Rattle.ipcz_world.specs.Remembering.{opening_records, open_records, records_
 use Rattle.ipcz_world.specs.Inv.{Inv}
 use Rattle.ipcz_world.proofs.calls.Puts.{inv-put, inv-close}
 use Rattle.ipcz_world.proofs.calls.Gets.{get_tells, inv-get}
-use Rattle.ipcz_world.proofs.calls.Opening.{inv-opened, inv-open}
+use Rattle.ipcz_world.proofs.calls.OpeningPair.{inv-opened}
+use Rattle.ipcz_world.proofs.calls.Opening.{inv-open}
 
 -- what a step leads to: the invariant with the books and records after it, whose routes are those that the run writes
 pub record Follows (w v : World) (b : Books) (g : Records) (step : Step) (reply : Reply) : Type 0 where

@@ -59,7 +59,8 @@ pub filled : (pairs words len : ℕ) (bits new : List ℕ) → pairs ≤ words �
     new ≡ take words bits ++ replicate (words - len) 0 → new ≡ replicate pairs 3 ++ replicate (words - pairs) 0
 filled pairs words len bits new few many is all =
     let l : length bits ≤ words = omega (arith, few, ap length is, length-replicate {A = ℕ} pairs 3) in
-    all ∙ ap (λ n. take words bits ++ replicate (words - n) 0) many ∙ ap (λ xs. xs ++ replicate (words - pairs) 0) (take_all words bits l ∙ is)
+    all ∙ ap (λ n. take words bits ++ replicate (words - n) 0) many ∙
+    ap (λ xs. xs ++ replicate (words - pairs) 0) (take_all words bits l ∙ is)
 
 -- they stand for the words at the start
 pub first_words : (pairs rest : ℕ) (bits : List ℕ) → bits ≡ replicate pairs 3 ++ replicate rest 0 →

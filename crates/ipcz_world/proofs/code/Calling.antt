@@ -16,31 +16,36 @@ use Rattle.ipcz_base.specs.Indexed.{put_place}
 use Rattle.ipcz_seq.specs.Queue.{current_item}
 use Rattle.ipcz_word.specs.Word.{empty_word, open_word}
 use Rattle.ipcz_node.specs.Node.{Node, Found, bare_node, terminal_of}
-use Rattle.ipcz_node.specs.Calls.{put_refusal, put_node, put_number, get_refusal, get_node, got_at, got_at_found, item_got, close_refusal, close_node, serials_refusal, open_node}
+use Rattle.ipcz_node.specs.Calls.{put_refusal, put_node, put_number, get_refusal, get_node, got_at, got_at_found, item_got, close_refusal}
+use Rattle.ipcz_node.specs.Calls.{close_node, serials_refusal, open_node}
 use Rattle.ipcz_world.specs.World.{World, node_at, set_node, set_word, set_claimed}
 use Rattle.ipcz_world.specs.Soundness.{HasLengths}
 use Rattle.ipcz_world.specs.Coding.{WordTable, put_word}
 use Rattle.ipcz_world.proofs.code.RouterActs.{retabled}
 use Rattle.ipcz_world.proofs.code.Slots.{length-put}
 use Rattle.ipcz_world.proofs.code.Taken.{with_node, unchanged}
-use Rattle.ipcz_world.specs.Steps.{Effect, unless, at_node, is_refused, Gives, GivesOrNoMemory, PutGives, got_reply, get_reply, open_with, open_on, put_step, get_step, close_step}
+use Rattle.ipcz_world.specs.Steps.{Effect, unless, at_node, is_refused, Gives, GivesOrNoMemory, PutGives, got_reply, get_reply, open_with}
+use Rattle.ipcz_world.specs.Steps.{open_on, put_step, get_step, close_step}
 
 -- what is done at a node of the world
 pub here-node : (w : World) (n : ℕ) (done : Effect) → n < w.count → at_node w n done ≡ done
 here-node w n done l = let h : nat_lt n w.count ≡ true = grind (arith, l, nat_tests) in rw h refl
 
 -- nothing refuses it
-pub gives-done : (w v : World) (why : Option Refusal) (done : Effect) (reply : Reply) → why ≡ None → reply ≡ done.reply → v ≡ done.world → Gives (unless w why done) reply v
+pub gives-done : (w v : World) (why : Option Refusal) (done : Effect) (reply : Reply) → why ≡ None → reply ≡ done.reply → v ≡ done.world →
+    Gives (unless w why done) reply v
 unfolding unless
 gives-done w v why done reply none r e = rw none (r, e)
 
 -- it is refused
-pub gives-refused : (w v : World) (o : Option Refusal) (why : Refusal) (done : Effect) (reply : Reply) → o ≡ Some why → reply ≡ Refused why → v ≡ w → Gives (unless w o done) reply v
+pub gives-refused : (w v : World) (o : Option Refusal) (why : Refusal) (done : Effect) (reply : Reply) → o ≡ Some why →
+    reply ≡ Refused why → v ≡ w → Gives (unless w o done) reply v
 unfolding unless
 gives-refused w v o why done reply is r e = rw is (r, e)
 
 -- it is refused, or finds no memory
-pub gives-or-refused : (w v : World) (o : Option Refusal) (why : Refusal) (done : Effect) (reply : Reply) → is_refused done.reply ≡ false → why ≡ unwrap_or o OutOfMemory → reply ≡ Refused why → v ≡ w →
+pub gives-or-refused : (w v : World) (o : Option Refusal) (why : Refusal) (done : Effect) (reply : Reply) → is_refused done.reply ≡ false →
+    why ≡ unwrap_or o OutOfMemory → reply ≡ Refused why → v ≡ w →
     GivesOrNoMemory w (unless w o done) reply v
 unfolding unless
 gives-or-refused w v None why done reply plain is r e = inr (plain, (r ∙ ap Refused is, e))
@@ -57,39 +62,52 @@ abbrev getting : World → ℕ → End → Effect
 getting w n at = record { reply = get_reply (terminal_of (node_at w n) at); world = set_node w n (get_node (node_at w n) at) }
 
 abbrev opening : World → World → ℕ → ℕ → Effect
-opening w counted n i = record { reply = Opened (end_at i A) (end_at i B); world = set_word (set_node counted n (open_node (node_at w n) i)) i open_word }
+opening w counted n i =
+    record { reply = Opened (end_at i A) (end_at i B); world = set_word (set_node counted n (open_node (node_at w n) i)) i open_word }
 
 -- a close
-pub close-done : (w : World) (n : ℕ) (at : End) (old x : Node) (number : ℕ) (reply : Reply) → n < w.count → old ≡ node_at w n → close_refusal old at ≡ None → number ≡ put_number old at →
+pub close-done : (w : World) (n : ℕ) (at : End) (old x : Node) (number : ℕ) (reply : Reply) → n < w.count → old ≡ node_at w n →
+    close_refusal old at ≡ None → number ≡ put_number old at →
     x ≡ close_node old at → reply ≡ Closed number → GivesOrNoMemory w (close_step w n at) reply (with_node w n x)
 unfolding set_node
 close-done w n at old x number reply l e none is made r =
-    let P : Node → Type 0 = λ old. close_refusal old at ≡ None → number ≡ put_number old at → x ≡ close_node old at → GivesOrNoMemory w (close_step w n at) reply (with_node w n x) in
-    subst P (sym e) (λ none is made. subst (λ d. GivesOrNoMemory w d reply (with_node w n x)) (sym (here-node w n _ l)) (inl (gives-done w _ _ _ reply none (r ∙ ap Closed is) (ap (with_node w n) made)))) none is made
+    let P : Node → Type 0 = λ old. close_refusal old at ≡ None → number ≡ put_number old at → x ≡ close_node old at →
+    GivesOrNoMemory w (close_step w n at) reply (with_node w n x) in
+    subst P (sym e) (λ none is made. subst (λ d. GivesOrNoMemory w d reply (with_node w n x)) (sym (here-node w n _ l))
+    (inl (gives-done w _ _ _ reply none (r ∙ ap Closed is) (ap (with_node w n) made)))) none is made
 
-pub close-refused : (w : World) (n : ℕ) (at : End) (old x : Node) (why : Refusal) (reply : Reply) → HasLengths w → n < w.count → old ≡ node_at w n → why ≡ unwrap_or (close_refusal old at) OutOfMemory →
+pub close-refused : (w : World) (n : ℕ) (at : End) (old x : Node) (why : Refusal) (reply : Reply) → HasLengths w → n < w.count →
+    old ≡ node_at w n → why ≡ unwrap_or (close_refusal old at) OutOfMemory →
     x ≡ old → reply ≡ Refused why → GivesOrNoMemory w (close_step w n at) reply (with_node w n x)
 unfolding is_refused
 close-refused w n at old x why reply has l e is same r =
     subst (λ d. GivesOrNoMemory w d reply (with_node w n x)) (sym (here-node w n _ l))
-    (gives-or-refused w (with_node w n x) (close_refusal (node_at w n) at) why (closing w n at) reply refl (is ∙ ap (λ y. unwrap_or (close_refusal y at) OutOfMemory) e) r (unchanged w n x has l (same ∙ e)))
+    (gives-or-refused w (with_node w n x) (close_refusal (node_at w n) at) why (closing w n at) reply refl
+    (is ∙ ap (λ y. unwrap_or (close_refusal y at) OutOfMemory) e) r (unchanged w n x has l (same ∙ e)))
 
 -- a put
-pub put-done : (w : World) (n : ℕ) (at : End) (p : parcels.Parcel) (old x : Node) (number : ℕ) (reply : Reply) → n < w.count → old ≡ node_at w n → put_refusal old at p.bytes p.ends ≡ None → number ≡ put_number old at →
+pub put-done : (w : World) (n : ℕ) (at : End) (p : parcels.Parcel) (old x : Node) (number : ℕ) (reply : Reply) → n < w.count →
+    old ≡ node_at w n → put_refusal old at p.bytes p.ends ≡ None → number ≡ put_number old at →
     x ≡ put_node old at p → reply ≡ Put number → PutGives w n (put_step w n at p) reply (with_node w n x)
 unfolding set_node
 put-done w n at p old x number reply l e none is made r =
-    let P : Node → Type 0 = λ old. put_refusal old at p.bytes p.ends ≡ None → number ≡ put_number old at → x ≡ put_node old at p → PutGives w n (put_step w n at p) reply (with_node w n x) in
-    subst P (sym e) (λ none is made. subst (λ d. PutGives w n d reply (with_node w n x)) (sym (here-node w n _ l)) (inl (gives-done w _ _ _ reply none (r ∙ ap Put is) (ap (with_node w n) made)))) none is made
+    let P : Node → Type 0 = λ old. put_refusal old at p.bytes p.ends ≡ None → number ≡ put_number old at → x ≡ put_node old at p →
+    PutGives w n (put_step w n at p) reply (with_node w n x) in
+    subst P (sym e) (λ none is made. subst (λ d. PutGives w n d reply (with_node w n x)) (sym (here-node w n _ l))
+    (inl (gives-done w _ _ _ reply none (r ∙ ap Put is) (ap (with_node w n) made)))) none is made
 
-pub put-refused : (w : World) (n : ℕ) (at : End) (p : parcels.Parcel) (old x : Node) (why : Refusal) (reply : Reply) → HasLengths w → n < w.count → old ≡ node_at w n →
-    why ≡ unwrap_or (put_refusal old at p.bytes p.ends) OutOfMemory → x ≡ old → reply ≡ Refused why → PutGives w n (put_step w n at p) reply (with_node w n x)
+pub put-refused : (w : World) (n : ℕ) (at : End) (p : parcels.Parcel) (old x : Node) (why : Refusal) (reply : Reply) → HasLengths w →
+    n < w.count → old ≡ node_at w n →
+    why ≡ unwrap_or (put_refusal old at p.bytes p.ends) OutOfMemory → x ≡ old → reply ≡ Refused why →
+    PutGives w n (put_step w n at p) reply (with_node w n x)
 unfolding is_refused
 put-refused w n at p old x why reply has l e is same r =
     subst (λ d. PutGives w n d reply (with_node w n x)) (sym (here-node w n _ l))
-    (here (gives-or-refused w (with_node w n x) (put_refusal (node_at w n) at p.bytes p.ends) why (putting w n at p) reply refl (is ∙ ap (λ y. unwrap_or (put_refusal y at p.bytes p.ends) OutOfMemory) e) r (unchanged w n x has l (same ∙ e))))
+    (here (gives-or-refused w (with_node w n x) (put_refusal (node_at w n) at p.bytes p.ends) why (putting w n at p) reply refl
+    (is ∙ ap (λ y. unwrap_or (put_refusal y at p.bytes p.ends) OutOfMemory) e) r (unchanged w n x has l (same ∙ e))))
   where
-    here : GivesOrNoMemory w (unless w (put_refusal (node_at w n) at p.bytes p.ends) (putting w n at p)) reply (with_node w n x) → PutGives w n (unless w (put_refusal (node_at w n) at p.bytes p.ends) (putting w n at p)) reply (with_node w n x)
+    here : GivesOrNoMemory w (unless w (put_refusal (node_at w n) at p.bytes p.ends) (putting w n at p)) reply (with_node w n x) →
+        PutGives w n (unless w (put_refusal (node_at w n) at p.bytes p.ends) (putting w n at p)) reply (with_node w n x)
     here (inl gives) = inl gives
     here (inr none) = inr (l, none.1)
 
@@ -97,14 +115,16 @@ put-refused w n at p old x why reply has l e is same r =
 pub put-starved : (w : World) (n : ℕ) (done : Effect) → n < w.count → PutGives w n done (Refused OutOfMemory) w
 put-starved w n done l = inr (l, (refl, refl))
 
-got-is : (number k : ℕ) (p q : parcels.Parcel) → ◌≡◌ {A = Option (ℕ × parcels.Parcel)} (Some (k, q)) (Some (number, p)) → Got k q ≡ Got number p
+got-is : (number k : ℕ) (p q : parcels.Parcel) → ◌≡◌ {A = Option (ℕ × parcels.Parcel)} (Some (k, q)) (Some (number, p)) →
+    Got k q ≡ Got number p
 got-is number k p q e = ap (λ (o : Option (ℕ × parcels.Parcel)). got_of o) e
   where
     got_of : Option (ℕ × parcels.Parcel) → Reply
     got_of None = Refused OutOfMemory
     got_of (Some x) = Got x.0 x.1
 
-item-replies : (item : Option Item) (k number : ℕ) (p : parcels.Parcel) → item_got k item ≡ Some (number, p) → got_reply k item ≡ Got number p
+item-replies : (item : Option Item) (k number : ℕ) (p : parcels.Parcel) → item_got k item ≡ Some (number, p) →
+    got_reply k item ≡ Got number p
 unfolding item_got got_reply
 item-replies None k number p is = cc
 item-replies (Some (OfParcel q)) k number p is = got-is number k p q is
@@ -116,37 +136,54 @@ found-replies None number p is = cc
 found-replies (Some f) number p is = item-replies (current_item f.router.in_queue) f.router.in_queue.current number p is
 
 -- a get
-pub get-done : (w : World) (n : ℕ) (at : End) (old x : Node) (number : ℕ) (p : parcels.Parcel) (reply : Reply) → n < w.count → old ≡ node_at w n → get_refusal old at ≡ None → got_at old at ≡ Some (number, p) →
+pub get-done : (w : World) (n : ℕ) (at : End) (old x : Node) (number : ℕ) (p : parcels.Parcel) (reply : Reply) → n < w.count →
+    old ≡ node_at w n → get_refusal old at ≡ None → got_at old at ≡ Some (number, p) →
     x ≡ get_node old at → reply ≡ Got number p → Gives (get_step w n at) reply (with_node w n x)
 unfolding set_node
 get-done w n at old x number p reply l e none is made r =
-    let P : Node → Type 0 = λ old. get_refusal old at ≡ None → got_at old at ≡ Some (number, p) → x ≡ get_node old at → Gives (get_step w n at) reply (with_node w n x) in
-    subst P (sym e) (λ none is made. subst (λ d. Gives d reply (with_node w n x)) (sym (here-node w n _ l)) (gives-done w _ _ _ reply none (r ∙ sym (found-replies (terminal_of (node_at w n) at) number p is)) (ap (with_node w n) made))) none is made
+    let P : Node → Type 0 = λ old. get_refusal old at ≡ None → got_at old at ≡ Some (number, p) → x ≡ get_node old at →
+    Gives (get_step w n at) reply (with_node w n x) in
+    subst P (sym e) (λ none is made. subst (λ d. Gives d reply (with_node w n x)) (sym (here-node w n _ l))
+    (gives-done w _ _ _ reply none (r ∙ sym (found-replies (terminal_of (node_at w n) at) number p is)) (ap (with_node w n) made)))
+    none is made
 
-pub get-refused : (w : World) (n : ℕ) (at : End) (old x : Node) (why : Refusal) (reply : Reply) → HasLengths w → n < w.count → old ≡ node_at w n → get_refusal old at ≡ Some why →
+pub get-refused : (w : World) (n : ℕ) (at : End) (old x : Node) (why : Refusal) (reply : Reply) → HasLengths w → n < w.count →
+    old ≡ node_at w n → get_refusal old at ≡ Some why →
     x ≡ old → reply ≡ Refused why → Gives (get_step w n at) reply (with_node w n x)
 get-refused w n at old x why reply has l e is same r =
     subst (λ d. Gives d reply (with_node w n x)) (sym (here-node w n _ l))
-    (gives-refused w (with_node w n x) (get_refusal (node_at w n) at) why (getting w n at) reply (sym (ap (λ y. get_refusal y at) e) ∙ is) r (unchanged w n x has l (same ∙ e)))
+    (gives-refused w (with_node w n x) (get_refusal (node_at w n) at) why (getting w n at) reply (sym (ap (λ y. get_refusal y at) e) ∙ is) r
+    (unchanged w n x has l (same ∙ e)))
 
 -- an open on a word, over a table in which it is claimed
-pub open-done : (w counted : World) (n i : ℕ) (old x : Node) (reply : Reply) → old ≡ node_at w n → serials_refusal old ≡ None → x ≡ open_node old i →
+pub open-done : (w counted : World) (n i : ℕ) (old x : Node) (reply : Reply) → old ≡ node_at w n → serials_refusal old ≡ None →
+    x ≡ open_node old i →
     reply ≡ Opened (end_at i A) (end_at i B) →
-    GivesOrNoMemory w (open_with w counted n i) reply (record counted { nodes = put_place (bare_node 0 0) counted.nodes n x; words = put_place empty_word counted.words i open_word })
+    GivesOrNoMemory w (open_with w counted n i) reply
+    (record counted { nodes = put_place (bare_node 0 0) counted.nodes n x; words = put_place empty_word counted.words i open_word })
 unfolding set_node set_word
 open-done w counted n i old x reply e none made r =
     let P : Node → Type 0 = λ old. serials_refusal old ≡ None → x ≡ open_node old i →
-    GivesOrNoMemory w (open_with w counted n i) reply (record counted { nodes = put_place (bare_node 0 0) counted.nodes n x; words = put_place empty_word counted.words i open_word }) in
-    subst P (sym e) (λ none made. inl (gives-done w _ _ _ reply none r (ap (λ y. record counted { nodes = put_place (bare_node 0 0) counted.nodes n y; words = put_place empty_word counted.words i open_word }) made))) none made
+    GivesOrNoMemory w (open_with w counted n i) reply
+    (record counted { nodes = put_place (bare_node 0 0) counted.nodes n x; words = put_place empty_word counted.words i open_word }) in
+    subst P (sym e) (λ none made.
+    inl (gives-done w _ _ _ reply none r
+    (ap (λ y. record counted {
+      nodes = put_place (bare_node 0 0) counted.nodes n y;
+      words = put_place empty_word counted.words i open_word;
+    }) made))) none made
 
-pub open-refused : (w counted : World) (n i : ℕ) (old x : Node) (why : Refusal) (reply : Reply) → HasLengths w → n < w.count → old ≡ node_at w n → why ≡ unwrap_or (serials_refusal old) OutOfMemory →
+pub open-refused : (w counted : World) (n i : ℕ) (old x : Node) (why : Refusal) (reply : Reply) → HasLengths w → n < w.count →
+    old ≡ node_at w n → why ≡ unwrap_or (serials_refusal old) OutOfMemory →
     x ≡ old → reply ≡ Refused why → GivesOrNoMemory w (open_with w counted n i) reply (with_node w n x)
 unfolding is_refused
 open-refused w counted n i old x why reply has l e is same r =
-    gives-or-refused w (with_node w n x) (serials_refusal (node_at w n)) why (opening w counted n i) reply refl (is ∙ ap (λ y. unwrap_or (serials_refusal y) OutOfMemory) e) r (unchanged w n x has l (same ∙ e))
+    gives-or-refused w (with_node w n x) (serials_refusal (node_at w n)) why (opening w counted n i) reply refl
+    (is ∙ ap (λ y. unwrap_or (serials_refusal y) OutOfMemory) e) r (unchanged w n x has l (same ∙ e))
 
 -- the parts of a world in which a word was opened
-pub open-world : (w : World) (n i c : ℕ) (x : Node) (t : WordTable) → HasLengths w → i < w.size → t ≡ put_word (record { words = w.words; claimed = c }) i open_word →
+pub open-world : (w : World) (n i c : ℕ) (x : Node) (t : WordTable) → HasLengths w → i < w.size →
+    t ≡ put_word (record { words = w.words; claimed = c }) i open_word →
     record (retabled w t) { nodes = put_place (bare_node 0 0) w.nodes n x }
     ≡ record w { nodes = put_place (bare_node 0 0) w.nodes n x; words = put_place empty_word w.words i open_word; claimed = c }
 open-world w n i c x t has l e = λ j. record w {
@@ -157,7 +194,8 @@ open-world w n i c x t has l e = λ j. record w {
 }
 
 -- an open on the next word, where one is left, and where none is
-pub next-word : (w : World) (n : ℕ) → nat_lt w.claimed w.size ≡ true → open_on w n None ≡ open_with w (set_claimed w (w.claimed + 1)) n w.claimed
+pub next-word : (w : World) (n : ℕ) → nat_lt w.claimed w.size ≡ true →
+    open_on w n None ≡ open_with w (set_claimed w (w.claimed + 1)) n w.claimed
 unfolding open_on
 next-word w n e = rw e refl
 

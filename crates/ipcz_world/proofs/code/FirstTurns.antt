@@ -20,7 +20,8 @@ module _ (w : World) (n : ℕ) (act : Act) (here : n < w.count) where
   done : Effect
   done = record { reply = Turned (turn_event w n act); world = after_act w n act }
 
-  effect : (c : Bool) → turn_lacks_serials w n act ≡ c → turn_step w n act ≡ (if c then refuse w NumbersEnd else record { reply = Turned (turn_event w n act); world = after_act w n act })
+  effect : (c : Bool) → turn_lacks_serials w n act ≡ c → turn_step w n act ≡
+      (if c then refuse w NumbersEnd else record { reply = Turned (turn_event w n act); world = after_act w n act })
   unfolding unless
   effect true e = let h : nat_lt n w.count ≡ true = grind (arith, here, nat_tests) in rw (h, e) refl
   effect false e = let h : nat_lt n w.count ≡ true = grind (arith, here, nat_tests) in rw (h, e) refl
@@ -32,17 +33,20 @@ module _ (w : World) (n : ℕ) (act : Act) (here : n < w.count) where
       (act, first, inl (ap Turned is.event ∙ ap (λ (x : Effect). x.reply) (sym e), is.done ∙ ap (λ (x : Effect). x.world) (sym e)))
 
   -- an act that was refused, and for which nothing stands in
-  pub step-refused : (v : World) (why : Refusal) → FirstAct w n act → (act ≡ stand_in act) ⊎ (why ≡ NumbersEnd) → IsTaken w n act (Err why) v → StepFirst w (Turn n) (Refused why) v
+  pub step-refused : (v : World) (why : Refusal) → FirstAct w n act → (act ≡ stand_in act) ⊎ (why ≡ NumbersEnd) →
+      IsTaken w n act (Err why) v → StepFirst w (Turn n) (Refused why) v
   unfolding is_refused
   step-refused v why first alone is = go (turn_lacks_serials w n act) (turn_grows w n act) refl refl alone
     where
-      go : (c g : Bool) → turn_lacks_serials w n act ≡ c → turn_grows w n act ≡ g → (act ≡ stand_in act) ⊎ (why ≡ NumbersEnd) → StepFirst w (Turn n) (Refused why) v
+      go : (c g : Bool) → turn_lacks_serials w n act ≡ c → turn_grows w n act ≡ g → (act ≡ stand_in act) ⊎ (why ≡ NumbersEnd) →
+          StepFirst w (Turn n) (Refused why) v
       go true g e k alone =
           let z = effect true e in
           let because : why ≡ NumbersEnd = is.why ∙ ap (λ c. if c then NumbersEnd else OutOfMemory) e in
           (act, first, inl (ap Refused because ∙ ap (λ (x : Effect). x.reply) (sym z), is.left ∙ ap (λ (x : Effect). x.world) (sym z)))
       go false false e k alone = absurd (let no : false ≡ true = is.grows k e in cc)
-      go false true e k (inr x) = absurd (let because : why ≡ OutOfMemory = is.why ∙ ap (λ c. if c then NumbersEnd else OutOfMemory) e in cc)
+      go false true e k (inr x) = absurd (let because : why ≡ OutOfMemory = is.why ∙ ap (λ c. if c then NumbersEnd else OutOfMemory) e in
+          cc)
       go false true e k (inl x) =
           let z = effect false e in
           let because : why ≡ OutOfMemory = is.why ∙ ap (λ c. if c then NumbersEnd else OutOfMemory) e in

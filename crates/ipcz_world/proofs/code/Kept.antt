@@ -21,4 +21,8 @@ module _ (w v : World) (step : Step) (reply : Reply) (is : StepFirst w step repl
 
   -- so there are books and routes after it
   pub still-lawful : IsLawful w → IsLawful v
-  still-lawful law = record { books = advance w law.books step reply; routes = routes_after w law.routes step reply; lawful = keeps law.books law.routes law.lawful }
+  still-lawful law = record {
+    books = advance w law.books step reply;
+    routes = routes_after w law.routes step reply;
+    lawful = keeps law.books law.routes law.lawful;
+  }

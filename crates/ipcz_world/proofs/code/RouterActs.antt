@@ -1,5 +1,6 @@
 -- What the table of link words answers to an act of a router, and what the act makes of the world.
-use Rattle.std.specs.Prelude.{◌≡◌, ◌<◌, ◌+◌, ℕ, Bool, true, false, ◌&&◌, ◌||◌, nat_lt, if◌then◌else◌, Option, Some, None, is_some, option_map, IfSome, length}
+use Rattle.std.specs.Prelude.{◌≡◌, ◌<◌, ◌+◌, ℕ, Bool, true, false, ◌&&◌, ◌||◌, nat_lt, if◌then◌else◌, Option, Some, None, is_some}
+use Rattle.std.specs.Prelude.{option_map, IfSome, length}
 use Rattle.std.proofs.Common.{arith, ap, sym, subst, refl, ◌∙◌}
 use Rattle.ipcz_base.specs.declared.side.Side.{Side}
 use Rattle.ipcz_base.specs.Indexed.{place_at, put_place}
@@ -12,8 +13,10 @@ use Rattle.ipcz_router.specs.declared.act.RouterAct.{RouterAct}
 use Rattle.ipcz_router.specs.declared.act.RouterAct.TheVariants as acts
 use Rattle.ipcz_router.specs.declared.act.Answer.TheVariants as answers
 use Rattle.ipcz_world.specs.World.{World, word_at, set_word, set_claimed}
-use Rattle.ipcz_world.specs.WordAnswers.{try_answer, word_answer, word_after, claim_answer, link_answer, answer_of, touch_word, claim_next, touch}
-use Rattle.ipcz_world.specs.Coding.{WordTable, has_unclaimed, claim_one, is_claim, side_answer, side_after, table_answer, table_after, table_of}
+use Rattle.ipcz_world.specs.WordAnswers.{try_answer, word_answer, word_after, claim_answer, link_answer, answer_of, touch_word, claim_next}
+use Rattle.ipcz_world.specs.WordAnswers.{touch}
+use Rattle.ipcz_world.specs.Coding.{WordTable, has_unclaimed, claim_one, is_claim, side_answer, side_after, table_answer, table_after}
+use Rattle.ipcz_world.specs.Coding.{table_of}
 use Rattle.ipcz_world.specs.Soundness.{HasLengths}
 use Rattle.ipcz_world.proofs.code.Slots.{put-same, length-put}
 
@@ -60,7 +63,8 @@ module _ (w : World) (r : Router) where
   touched act None has l = same_table has
   touched act (Some i) has l = λ j. record w {
     words = put_place empty_word w.words i (word_after (place_at empty_word w.words i) r.end.side act);
-    size = sym (length-put empty_word w.words i (word_after (place_at empty_word w.words i) r.end.side act) (omega (arith, l, has.words)) ∙ has.words) j;
+    size = sym (length-put empty_word w.words i (word_after (place_at empty_word w.words i) r.end.side act) (omega (arith, l, has.words)) ∙
+        has.words) j;
   }
 
   still : (act : RouterAct) (p : Option ℕ) → HasLengths w → IfSome p (λ i. i < w.size) → ((x : Word) → word_after x r.end.side act ≡ x) →
@@ -69,12 +73,14 @@ module _ (w : World) (r : Router) where
   still act None has l keeps = same_table has
   still act (Some i) has l keeps =
       let e : put_place empty_word w.words i (word_after (place_at empty_word w.words i) r.end.side act) ≡ w.words =
-      ap (put_place empty_word w.words i) (keeps (place_at empty_word w.words i)) ∙ put-same empty_word w.words i (omega (arith, l, has.words))
+      ap (put_place empty_word w.words i) (keeps (place_at empty_word w.words i)) ∙
+      put-same empty_word w.words i (omega (arith, l, has.words))
       in λ j. record w { words = sym e j; size = (sym has.words ∙ ap length (sym e)) j }
 
   claims : HasLengths w → claim_next w ≡ retabled w (if has_unclaimed (table_of w) then claim_one (table_of w) else table_of w)
   unfolding set_claimed
-  claims has = ap (λ s. if nat_lt w.claimed s then set_claimed w (w.claimed + 1) else w) (sym has.words) ∙ go (nat_lt w.claimed (length w.words))
+  claims has = ap (λ s. if nat_lt w.claimed s then set_claimed w (w.claimed + 1) else w) (sym has.words) ∙
+      go (nat_lt w.claimed (length w.words))
     where
       go : (c : Bool) → (if c then set_claimed w (w.claimed + 1) else w) ≡ retabled w (if c then claim_one (table_of w) else table_of w)
       go true = λ j. record w { claimed = w.claimed + 1; size = sym has.words j }
@@ -117,12 +123,14 @@ try_is x s Waits = tt
 try_is x s Refuses = tt
 
 module _ (t : WordTable) (r : Router) where
-  central : (act : RouterAct) (p : Option ℕ) → is_some p ≡ true → ((x : Word) → IsAnswerOf act (word_answer x r.end.side act)) → IsAnswerOf act (side_answer t act (link_of r p))
+  central : (act : RouterAct) (p : Option ℕ) → is_some p ≡ true → ((x : Word) → IsAnswerOf act (word_answer x r.end.side act)) →
+      IsAnswerOf act (side_answer t act (link_of r p))
   unfolding side_answer
   central act None some is = cc
   central act (Some i) some is = is (place_at empty_word t.words i)
 
-  plain : (act : RouterAct) (p : Option ℕ) → IsAnswerOf act answers.Plain → ((x : Word) → word_answer x r.end.side act ≡ answers.Plain) → IsAnswerOf act (side_answer t act (link_of r p))
+  plain : (act : RouterAct) (p : Option ℕ) → IsAnswerOf act answers.Plain → ((x : Word) → word_answer x r.end.side act ≡ answers.Plain) →
+      IsAnswerOf act (side_answer t act (link_of r p))
   unfolding side_answer
   plain act None is same = is
   plain act (Some i) is same = subst (IsAnswerOf act) (sym (same (place_at empty_word t.words i))) is
@@ -143,7 +151,8 @@ module _ (t : WordTable) (r : Router) where
   answers-kind acts.Mark may = central acts.Mark (primary_word r) (first _ _ (or_left _ _ refl may)) (λ x. tt)
   answers-kind acts.Wake may = central acts.Wake (primary_word r) (second _ _ (or_left _ _ refl may)) (λ x. tt)
   answers-kind acts.Claim may = claim_is (has_unclaimed t)
-  answers-kind acts.Lock may = central acts.Lock (primary_word r) (first _ _ (second _ _ (first _ _ (or_left _ _ refl may)))) (λ x. try_is x r.end.side (plan_of x r.end.side))
+  answers-kind acts.Lock may = central acts.Lock (primary_word r) (first _ _ (second _ _ (first _ _ (or_left _ _ refl may))))
+      (λ x. try_is x r.end.side (plan_of x r.end.side))
   answers-kind acts.Begin may = plain acts.Begin (primary_word r) tt (λ x. refl)
   answers-kind acts.Unlock may = central acts.Unlock (primary_word r) (first _ _ (second _ _ (second _ _ (or_left _ _ refl may)))) (λ x. tt)
   answers-kind acts.Rest may = plain acts.Rest (primary_word r) tt (λ x. refl)

@@ -45,8 +45,10 @@ pub no-run : (w : World) → IsRun w [] [] w
 no-run w = record { are = refl; law = run-none w }
 
 -- the same of the steps as a loop goes over them
-pub run-next : (w v u : World) (all : List Step) (i : ℕ) (replies more : List Reply) (step : Step) (reply : Reply) → step ≡ get_or all i step →
-    i < length all → IsRun w (take i all) replies v → StepFirst v step reply u → more ≡ replies ++ reply ∷ [] → IsRun w (take (i + 1) all) more u
+pub run-next : (w v u : World) (all : List Step) (i : ℕ) (replies more : List Reply) (step : Step) (reply : Reply) →
+    step ≡ get_or all i step →
+    i < length all → IsRun w (take i all) replies v → StepFirst v step reply u → more ≡ replies ++ reply ∷ [] →
+    IsRun w (take (i + 1) all) more u
 run-next w v u all i replies more step reply e l run s grown =
     let front : take (i + 1) all ≡ take i all ++ step ∷ [] = take_more all i step l ∙ ap (λ x. take i all ++ x ∷ []) (sym e) in
     rw (front, grown) (record {

@@ -40,7 +40,8 @@ length-put d (x ∷ xs) zero y l = refl
 length-put d (x ∷ xs) (suc i) y l = ap suc (length-put d xs i y (omega arith))
 
 -- an element of a list of images
-pub map-place : {X Y : Type 0} (f : X → Y) (d : X) (e : Y) (xs : List X) (i : ℕ) → i < length xs → place_at e (map f xs) i ≡ f (place_at d xs i)
+pub map-place : {X Y : Type 0} (f : X → Y) (d : X) (e : Y) (xs : List X) (i : ℕ) → i < length xs →
+    place_at e (map f xs) i ≡ f (place_at d xs i)
 unfolding place_at
 map-place f d e [] i l = absurd (omega arith)
 map-place f d e (x ∷ xs) zero l = refl

@@ -19,10 +19,12 @@ table bits count = record { words = map word_of_bits bits; claimed = count }
 
 -- what is within the table is within the numbers
 pub within : (bits : List ℕ) (count i : ℕ) (t : WordTable) → table bits count ≡ t → i < length t.words → i < length bits
-within bits count i t e l = let h : i < length (map word_of_bits bits) = subst (λ (t : WordTable). i < length t.words) (sym e) l in omega (arith, h, length-map bits word_of_bits)
+within bits count i t e l = let h : i < length (map word_of_bits bits) = subst (λ (t : WordTable). i < length t.words) (sym e) l in
+    omega (arith, h, length-map bits word_of_bits)
 
 -- a number that is read stands for the word of the table
-pub read_word : (bits : List ℕ) (i n : ℕ) → i < length bits → n ≡ get_or bits i n → word_of_bits n ≡ place_at empty_word (map word_of_bits bits) i
+pub read_word : (bits : List ℕ) (i n : ℕ) → i < length bits → n ≡ get_or bits i n →
+    word_of_bits n ≡ place_at empty_word (map word_of_bits bits) i
 read_word bits i n l e =
     ap word_of_bits e ∙ sym (get_or-map word_of_bits bits i n empty_word l)
     ∙ get-place empty_word empty_word (map word_of_bits bits) i (omega (arith, length-map bits word_of_bits, l))
@@ -32,7 +34,8 @@ pub valid_word : (bits : List ℕ) (count i n : ℕ) → IsTable bits count → 
 valid_word bits count i n is l e = subst IsWord (sym e) (All-get_or IsWord bits i n l is.words)
 
 -- a claimed word's number is read
-pub read_claimed : (bits : List ℕ) (count i n : ℕ) → IsTable bits count → i < count → n ≡ get_or bits i n → Some n ≡ claimed_word (table bits count) i
+pub read_claimed : (bits : List ℕ) (count i n : ℕ) → IsTable bits count → i < count → n ≡ get_or bits i n →
+    Some n ≡ claimed_word (table bits count) i
 read_claimed bits count i n is below e =
     let l : i < length bits = omega (arith, below, is.claimed) in
     let yes : nat_lt i count ≡ true = grind (arith, below, nat_tests) in
@@ -44,7 +47,8 @@ read_claimed bits count i n is below e =
 pub write_word : (bits : List ℕ) (count i n : ℕ) (x : Word) → i < length bits → word_of_bits n ≡ x →
     table (set bits i n) count ≡ put_word (table bits count) i x
 write_word bits count i n x l e = λ j. record {
-  words = (map-set word_of_bits bits i n ∙ set-place empty_word (map word_of_bits bits) i (word_of_bits n) (omega (arith, length-map bits word_of_bits, l))
+  words = (map-set word_of_bits bits i n ∙ set-place empty_word (map word_of_bits bits) i (word_of_bits n)
+      (omega (arith, length-map bits word_of_bits, l))
       ∙ ap (λ y. put_place empty_word (map word_of_bits bits) i y) e) j;
   claimed = count;
 }

@@ -1,5 +1,6 @@
 -- What the parts of a world come to after a turn, as the world that the turn leads to.
-use Rattle.std.specs.Prelude.{◌≡◌, ◌<◌, ℕ, Bool, true, false, ◌&&◌, not, nat_eq, nat_lt, if◌then◌else◌, Option, Some, None, is_some, is_none, IfSome, Result, Ok, Err, length, List, [], ◌∷◌}
+use Rattle.std.specs.Prelude.{◌≡◌, ◌<◌, ℕ, Bool, true, false, ◌&&◌, not, nat_eq, nat_lt, if◌then◌else◌, Option, Some, None, is_some}
+use Rattle.std.specs.Prelude.{is_none, IfSome, Result, Ok, Err, length, List, [], ◌∷◌}
 use Rattle.std.proofs.Common.{arith, ap, sym, subst, refl, ◌∙◌}
 use Rattle.std.proofs.lemmas.Bool.Decides.{nat_tests}
 use Rattle.ipcz_base.specs.declared.end.End.{End}
@@ -27,7 +28,9 @@ use Rattle.ipcz_node.specs.Events.{event_of, hand_event}
 use Rattle.ipcz_world.specs.declared.mail.Mail.{Mail}
 use Rattle.ipcz_world.specs.declared.mail.Mail.TheVariants.{Empty, Full, Hand as InHand}
 use Rattle.ipcz_world.specs.World.{World, node_at, mail_at, way, router_at, set_node, set_mail}
-use Rattle.ipcz_world.specs.Turns.{hand_message, hand_seen, hand_lacks_serials, hand_grows, after_hand, router_seen, after_router_act, may_act, is_full, is_clear, full_message, commit_at, after_look, after_post, after_act, turn_event, turn_lacks_serials, turn_grows, can_take, is_first_pending}
+use Rattle.ipcz_world.specs.Turns.{hand_message, hand_seen, hand_lacks_serials, hand_grows, after_hand, router_seen, after_router_act}
+use Rattle.ipcz_world.specs.Turns.{may_act, is_full, is_clear, full_message, commit_at, after_look, after_post, after_act, turn_event}
+use Rattle.ipcz_world.specs.Turns.{turn_lacks_serials, turn_grows, can_take, is_first_pending}
 use Rattle.ipcz_world.specs.Mailing.{taken_up, put_down}
 use Rattle.ipcz_world.specs.Soundness.{HasLengths}
 use Rattle.ipcz_world.specs.Coding.{WordTable, table_answer, table_after, table_of}
@@ -53,7 +56,8 @@ unchanged w n x has l e = λ j. record w {
 }
 
 -- a refused act leaves the world
-pub refused-committed : (w : World) (n : ℕ) (act : Act) (old x : Node) (why : Refusal) → HasLengths w → n < w.count → old ≡ node_at w n → x ≡ old →
+pub refused-committed : (w : World) (n : ℕ) (act : Act) (old x : Node) (why : Refusal) → HasLengths w → n < w.count → old ≡ node_at w n →
+    x ≡ old →
     why ≡ (if act_lacks_serials old act then NumbersEnd else OutOfMemory) →
     (act_grows act ≡ false → act_lacks_serials old act ≡ false → false ≡ true) → IsCommitted w n act (Err why) (with_node w n x)
 refused-committed w n act old x why has l e same because grows = record {
@@ -82,11 +86,13 @@ done-committed w n act old x r e is event message k = record {
 }
 
 -- an act that touches no word and isn't done isn't done in the world
-pub refused-close : (w v : World) (n : ℕ) (end : End) (why : Refusal) → IsCommitted w n (Close end) (Err why) v → IsTaken w n (Close end) (Err why) v
+pub refused-close : (w v : World) (n : ℕ) (end : End) (why : Refusal) → IsCommitted w n (Close end) (Err why) v →
+    IsTaken w n (Close end) (Err why) v
 unfolding turn_lacks_serials turn_grows
 refused-close w v n end why done = record { event = tt; done = tt; allowed = tt; why = done.why; grows = done.grows; left = done.left }
 
-pub refused-look : (w v : World) (n from : ℕ) (why : Refusal) → IsCommitted w n (Look from) (Err why) v → IsTaken w n (Look from) (Err why) v
+pub refused-look : (w v : World) (n from : ℕ) (why : Refusal) → IsCommitted w n (Look from) (Err why) v →
+    IsTaken w n (Look from) (Err why) v
 unfolding turn_lacks_serials turn_grows
 refused-look w v n from why done = record { event = tt; done = tt; allowed = tt; why = done.why; grows = done.grows; left = done.left }
 
@@ -98,7 +104,8 @@ refused-post w v n to why done = record { event = tt; done = tt; allowed = tt; w
 pub done-close : (w v : World) (n : ℕ) (end : End) (r : Happened × Option Message) → IsCommitted w n (Close end) (Ok r) v →
     IsTaken w n (Close end) (Ok r.0) v
 unfolding turn_event after_act turn_lacks_serials
-done-close w v n end r done = record { event = done.event; done = done.done; allowed = done.allowed; why = tt; grows = λ g k. refl; left = tt }
+done-close w v n end r done =
+    record { event = done.event; done = done.done; allowed = done.allowed; why = tt; grows = λ g k. refl; left = tt }
 
 -- the world with another mailbox
 abbrev pub with_mail : World → ℕ → Mail → World
@@ -108,22 +115,26 @@ with_mail w k m = record w { mail = put_place Empty w.mail k m }
 looks-full : (w : World) (n from : ℕ) → can_take w n (Look from) ≡ true → is_full (mail_at w (way w from n)) ≡ true
 unfolding can_take
 looks-full w n from h =
-    (both (is_none (node_at w n).hand) (is_full (mail_at w (way w from n))) (both (nat_lt from w.count) (is_none (node_at w n).hand && is_full (mail_at w (way w from n))) h).1).1
+    (both (is_none (node_at w n).hand) (is_full (mail_at w (way w from n)))
+    (both (nat_lt from w.count) (is_none (node_at w n).hand && is_full (mail_at w (way w from n))) h).1).1
 
 looked : (w : World) (n from k : ℕ) (m : Mail) → mail_at w k ≡ m → is_full (mail_at w k) ≡ true → k ≡ way w from n →
-    with_mail (commit_at w w n (Look from) Plain) k (taken_up (place_at Empty (commit_at w w n (Look from) Plain).mail k)) ≡ after_look w n from (full_message (mail_at w k))
+    with_mail (commit_at w w n (Look from) Plain) k (taken_up (place_at Empty (commit_at w w n (Look from) Plain).mail k)) ≡
+    after_look w n from (full_message (mail_at w k))
 unfolding set_node mail_at set_mail is_full full_message taken_up after_look
 looked w n from k Empty e h is = absurd (let no : false ≡ true = ap is_full (sym e) ∙ h in cc)
 looked w n from k (Full m) e h is = rw (e, is) refl
 looked w n from k (InHand m) e h is = absurd (let no : false ≡ true = ap is_full (sym e) ∙ h in cc)
 
 -- a look takes the message of the mailbox up
-pub done-look : (w u : World) (n from : ℕ) (r : Happened × Option Message) → IsCommitted w n (Look from) (Ok r) u → can_take w n (Look from) ≡ true →
+pub done-look : (w u : World) (n from : ℕ) (r : Happened × Option Message) → IsCommitted w n (Look from) (Ok r) u →
+    can_take w n (Look from) ≡ true →
     IsTaken w n (Look from) (Ok r.0) (with_mail u (way w from n) (taken_up (place_at Empty u.mail (way w from n))))
 unfolding turn_event after_act turn_lacks_serials
 done-look w u n from r done may = record {
   event = done.event;
-  done = subst (λ (u : World). with_mail u (way w from n) (taken_up (place_at Empty u.mail (way w from n))) ≡ after_look w n from (full_message (mail_at w (way w from n)))) (sym done.done)
+  done = subst (λ (u : World). with_mail u (way w from n) (taken_up (place_at Empty u.mail (way w from n))) ≡
+      after_look w n from (full_message (mail_at w (way w from n)))) (sym done.done)
       (looked w n from (way w from n) (mail_at w (way w from n)) refl (looks-full w n from may) refl);
   allowed = done.allowed;
   why = tt;
@@ -137,7 +148,8 @@ pub done-post : (w u : World) (n to : ℕ) (event : Happened) (m : Message) → 
 unfolding turn_event after_act turn_lacks_serials set_node set_mail after_post
 done-post w u n to event m done = record {
   event = done.event;
-  done = subst (λ u. with_mail u (way w n to) (Full m) ≡ after_post w n to (post_of (node_at w n) (Post to))) (sym done.done) (rw (← done.message) refl);
+  done = subst (λ u. with_mail u (way w n to) (Full m) ≡ after_post w n to (post_of (node_at w n) (Post to))) (sym done.done)
+      (rw (← done.message) refl);
   allowed = done.allowed;
   why = tt;
   grows = λ g z. refl;
@@ -153,29 +165,35 @@ has_first n to (m ∷ ms) e has none = let no : Some m ≡ None = ap first_of (s
 pub posts : (w : World) (n to : ℕ) → can_take w n (Post to) ≡ true → post_of (node_at w n) (Post to) ≡ None → ⊥
 unfolding can_take post_of
 posts w n to h none = has_first (node_at w n) to (outbox (node_at w n) to) refl
-    (both (has_mail_for (node_at w n) to) (is_clear (mail_at w (way w n to))) (both (nat_lt to w.count) (has_mail_for (node_at w n) to && is_clear (mail_at w (way w n to))) h).1).0 none
+    (both (has_mail_for (node_at w n) to) (is_clear (mail_at w (way w n to)))
+    (both (nat_lt to w.count) (has_mail_for (node_at w n) to && is_clear (mail_at w (way w n to))) h).1).0 none
 
 -- whom a node looks to, and whom it posts to, is one of the world
 pub looks-to-node : (w : World) (n from : ℕ) → can_take w n (Look from) ≡ true → from < w.count
 unfolding can_take
 looks-to-node w n from h =
-    let t = (both (nat_lt from w.count) (is_none (node_at w n).hand && is_full (mail_at w (way w from n))) h).0 in grind (arith, t, nat_tests)
+    let t = (both (nat_lt from w.count) (is_none (node_at w n).hand && is_full (mail_at w (way w from n))) h).0 in
+    grind (arith, t, nat_tests)
 
 pub posts-to-node : (w : World) (n to : ℕ) → can_take w n (Post to) ≡ true → to < w.count
 unfolding can_take
 posts-to-node w n to h =
-    let t = (both (nat_lt to w.count) (has_mail_for (node_at w n) to && is_clear (mail_at w (way w n to))) h).0 in grind (arith, t, nat_tests)
+    let t = (both (nat_lt to w.count) (has_mail_for (node_at w n) to && is_clear (mail_at w (way w n to))) h).0 in
+    grind (arith, t, nat_tests)
 
 -- an act that touches no word leaves the mailboxes
-pub mail-stays : (w u : World) (n : ℕ) (act : Act) (r : Happened × Option Message) (k : ℕ) → IsCommitted w n act (Ok r) u → k < length w.mail → k < length u.mail
+pub mail-stays : (w u : World) (n : ℕ) (act : Act) (r : Happened × Option Message) (k : ℕ) → IsCommitted w n act (Ok r) u →
+    k < length w.mail → k < length u.mail
 unfolding set_node
 mail-stays w u n act r k done l = subst (λ (v : World). k < length v.mail) (sym done.done) l
 
 -- the same of an equal world, and of an equal message
-pub moved : (w u v : World) (n : ℕ) (act : Act) (r : Result (Happened × Option Message) Refusal) → v ≡ u → IsCommitted w n act r u → IsCommitted w n act r v
+pub moved : (w u v : World) (n : ℕ) (act : Act) (r : Result (Happened × Option Message) Refusal) → v ≡ u → IsCommitted w n act r u →
+    IsCommitted w n act r v
 moved w u v n act r e done = subst (IsCommitted w n act r) (sym e) done
 
-pub given : (w u : World) (n : ℕ) (act : Act) (event : Happened) (o : Option Message) (m : Message) → o ≡ Some m → IsCommitted w n act (Ok (event, o)) u →
+pub given : (w u : World) (n : ℕ) (act : Act) (event : Happened) (o : Option Message) (m : Message) → o ≡ Some m →
+    IsCommitted w n act (Ok (event, o)) u →
     IsCommitted w n act (Ok (event, Some m)) u
 given w u n act event o m e done = subst (λ o. IsCommitted w n act (Ok (event, o)) u) e done
 
@@ -184,7 +202,8 @@ pub look-may : (w : World) (n from : ℕ) → can_take w n (Look from) ≡ true 
 unfolding can_take
 look-may w n from h =
     empty_hand (node_at w n).hand
-    (both (is_none (node_at w n).hand) (is_full (mail_at w (way w from n))) (both (nat_lt from w.count) (is_none (node_at w n).hand && is_full (mail_at w (way w from n))) h).1).0
+    (both (is_none (node_at w n).hand) (is_full (mail_at w (way w from n)))
+    (both (nat_lt from w.count) (is_none (node_at w n).hand && is_full (mail_at w (way w from n))) h).1).0
   where
     empty_hand : (hand : Option ℕ) → is_none hand ≡ true → hand ≡ None
     empty_hand None e = refl
@@ -193,7 +212,8 @@ look-may w n from h =
 pub post-may : (w : World) (n to : ℕ) → can_take w n (Post to) ≡ true → IsPossibleAct (node_at w n) (Post to)
 unfolding can_take
 post-may w n to h =
-    (both (has_mail_for (node_at w n) to) (is_clear (mail_at w (way w n to))) (both (nat_lt to w.count) (has_mail_for (node_at w n) to && is_clear (mail_at w (way w n to))) h).1).0
+    (both (has_mail_for (node_at w n) to) (is_clear (mail_at w (way w n to)))
+    (both (nat_lt to w.count) (has_mail_for (node_at w n) to && is_clear (mail_at w (way w n to))) h).1).0
 
 pub close-may : (w : World) (n : ℕ) (end : End) → can_take w n (Close end) ≡ true → IsPossibleAct (node_at w n) (Close end)
 unfolding can_take is_first_pending first_of
@@ -218,7 +238,9 @@ hand-from (Some s) from h = let e : s ≡ from = grind (arith, h, nat_tests) in 
 pub sender-is-node : (w : World) (n from : ℕ) → IsRegular w → n < w.count → can_take w n (OfHand from) ≡ true → from < w.count
 unfolding can_take
 sender-is-node w n from is l h =
-    (is.sound n l).hand from (hand-from (node_at w n).hand from (both (is_hand_of (node_at w n).hand from) (is_some (hand_message (mail_at w (way w from n)))) h).0)
+    (is.sound n l).hand from
+    (hand-from (node_at w n).hand from (both (is_hand_of (node_at w n).hand from) (is_some (hand_message (mail_at w (way w from n))))
+    h).0)
 
 taken-down : (k : Mail) (m : Message) → hand_message k ≡ Some m → k ≡ InHand m
 unfolding hand_message
@@ -231,7 +253,8 @@ taken-down (InHand x) m e = ap InHand (some-same e)
 
 -- a message in hand is handled
 pub done-hand : (w : World) (n from : ℕ) (m : Message) (event : Happened) (old x : Node) (mail : List Mail) → old ≡ node_at w n →
-    hand_message (mail_at w (way w from n)) ≡ Some m → x ≡ deliver old from m → event ≡ hand_event old from m → message_lacks_serials old from m ≡ false →
+    hand_message (mail_at w (way w from n)) ≡ Some m → x ≡ deliver old from m → event ≡ hand_event old from m →
+    message_lacks_serials old from m ≡ false →
     mail ≡ put_place Empty w.mail (way w from n) (put_down (mail_at w (way w from n))) →
     IsTaken w n (OfHand from) (Ok event) (record (with_node w n x) { mail = mail })
 unfolding turn_event after_act turn_lacks_serials hand_seen after_hand hand_lacks_serials set_node set_mail put_down
@@ -248,8 +271,10 @@ done-hand w n from m event old x mail e has is seen low kept = record {
 }
 
 -- a message that can't be handled stays in hand
-pub refused-hand : (w : World) (n from : ℕ) (m : Message) (why : Refusal) (old x : Node) (mail : List Mail) → HasLengths w → n < w.count → way w from n < length w.mail → old ≡ node_at w n →
-    hand_message (mail_at w (way w from n)) ≡ Some m → x ≡ old → why ≡ (if message_lacks_serials old from m then NumbersEnd else OutOfMemory) →
+pub refused-hand : (w : World) (n from : ℕ) (m : Message) (why : Refusal) (old x : Node) (mail : List Mail) → HasLengths w → n < w.count →
+    way w from n < length w.mail → old ≡ node_at w n →
+    hand_message (mail_at w (way w from n)) ≡ Some m → x ≡ old →
+    why ≡ (if message_lacks_serials old from m then NumbersEnd else OutOfMemory) →
     (message_grows old from m ≡ false → false ≡ true) →
     mail ≡ put_place Empty (put_place Empty w.mail (way w from n) (put_down (mail_at w (way w from n)))) (way w from n) (InHand m) →
     IsTaken w n (OfHand from) (Err why) (record (with_node w n x) { mail = mail })
@@ -262,7 +287,9 @@ refused-hand w n from m why old x mail has l within e is same because grows kept
   grows = rw is (λ g k. grows (ap (λ y. message_grows y from m) e ∙ g));
   left = λ j. record w {
     nodes = (ap (put_place (bare_node 0 0) w.nodes n) (same ∙ e) ∙ put-same (bare_node 0 0) w.nodes n (omega (arith, l, has.nodes))) j;
-    mail = (kept ∙ put-again Empty w.mail (way w from n) _ (InHand m) ∙ ap (put_place Empty w.mail (way w from n)) (sym (taken-down (mail_at w (way w from n)) m is)) ∙ put-same Empty w.mail (way w from n) within) j;
+    mail = (kept ∙ put-again Empty w.mail (way w from n) _ (InHand m) ∙
+        ap (put_place Empty w.mail (way w from n)) (sym (taken-down (mail_at w (way w from n)) m is)) ∙
+        put-same Empty w.mail (way w from n) within) j;
   };
 }
 
@@ -281,7 +308,8 @@ module _ (w : World) (n serial : ℕ) (act : RouterAct) (is : IsRegular w) (l : 
   abbrev link : Option (ℕ × Side)
   link = word_side (node_at w n) serial
 
-  pub router-stands : can_take w n (OfRouter serial act) ≡ true → (r : Router) × (router_in (node_at w n) serial ≡ Some r) × (may_take r act ≡ true)
+  pub router-stands : can_take w n (OfRouter serial act) ≡ true → (r : Router) × (router_in (node_at w n) serial ≡ Some r) ×
+      (may_take r act ≡ true)
   unfolding can_take router_at
   router-stands h = stands (router_in (node_at w n) serial) h
 
@@ -299,28 +327,34 @@ module _ (w : World) (n serial : ℕ) (act : RouterAct) (is : IsRegular w) (l : 
   -- its word is there
   pub link-within : can_take w n (OfRouter serial act) ≡ true → IfSome link (λ x. x.0 < length w.words)
   link-within h = let t = router-stands h in
-      subst (λ o. IfSome o (λ x. x.0 < length w.words)) (sym (link-is t.0 t.1)) (linked t.0 (primary_word t.0) (bounded t.0 t.1 (primary_word t.0) refl))
+      subst (λ o. IfSome o (λ x. x.0 < length w.words)) (sym (link-is t.0 t.1))
+      (linked t.0 (primary_word t.0) (bounded t.0 t.1 (primary_word t.0) refl))
 
   -- it may take the act
   pub router-may : can_take w n (OfRouter serial act) ≡ true → IsPossibleAct (node_at w n) (OfRouter serial act)
   router-may h = let t = router-stands h in rw t.1 t.2
 
   -- the answer is of the act's kind
-  pub answer-kind : can_take w n (OfRouter serial act) ≡ true → (a : Answer) → a ≡ table_answer (table_of w) act link → Answers (OfRouter serial act) a
+  pub answer-kind : can_take w n (OfRouter serial act) ≡ true → (a : Answer) → a ≡ table_answer (table_of w) act link →
+      Answers (OfRouter serial act) a
   answer-kind h a e = let t = router-stands h in
       subst (IsAnswerOf act) (sym (e ∙ ap (table_answer (table_of w) act) (link-is t.0 t.1))) (answers-kind (table_of w) t.0 act t.2)
 
   -- a router's act changes its node and the words
-  pub done-router : can_take w n (OfRouter serial act) ≡ true → (old x : Node) (event : Happened) (a : Answer) (t : WordTable) → old ≡ node_at w n →
-      a ≡ table_answer (table_of w) act link → t ≡ table_after (table_of w) act link → x ≡ commit old (OfRouter serial act) a → event ≡ event_of old (OfRouter serial act) a →
+  pub done-router : can_take w n (OfRouter serial act) ≡ true → (old x : Node) (event : Happened) (a : Answer) (t : WordTable) →
+      old ≡ node_at w n →
+      a ≡ table_answer (table_of w) act link → t ≡ table_after (table_of w) act link → x ≡ commit old (OfRouter serial act) a →
+      event ≡ event_of old (OfRouter serial act) a →
       act_lacks_serials old (OfRouter serial act) ≡ false →
       IsTaken w n (OfRouter serial act) (Ok event) (record (retabled w t) { nodes = put_place (bare_node 0 0) w.nodes n x })
   unfolding turn_event after_act turn_lacks_serials router_seen after_router_act router_at set_node
   done-router h old x event a t e is-a is-t is-x seen low =
       let s = router-stands h in
-      let answer : a ≡ answer_of w s.0 act = is-a ∙ ap (table_answer (table_of w) act) (link-is s.0 s.1) ∙ sym (answers-as w s.0 act is.lengths) in
+      let answer : a ≡ answer_of w s.0 act = is-a ∙ ap (table_answer (table_of w) act) (link-is s.0 s.1) ∙
+      sym (answers-as w s.0 act is.lengths) in
       let words : retabled w t ≡ touch w s.0 act =
-      ap (retabled w) (is-t ∙ ap (table_after (table_of w) act) (link-is s.0 s.1)) ∙ sym (touches-as w s.0 act is.lengths (bounded s.0 s.1 (primary_word s.0) refl)) in
+      ap (retabled w) (is-t ∙ ap (table_after (table_of w) act) (link-is s.0 s.1)) ∙
+      sym (touches-as w s.0 act is.lengths (bounded s.0 s.1 (primary_word s.0) refl)) in
       let made : x ≡ commit (node_at w n) (OfRouter serial act) (answer_of w s.0 act) =
       is-x ∙ ap (λ y. commit y (OfRouter serial act) a) e ∙ ap (commit (node_at w n) (OfRouter serial act)) answer in
       let same : w.nodes ≡ (touch w s.0 act).nodes = ap (λ (v : World). v.nodes) words in
@@ -339,7 +373,8 @@ module _ (w : World) (n serial : ℕ) (act : RouterAct) (is : IsRegular w) (l : 
       (act_grows (OfRouter serial act) ≡ false → act_lacks_serials old (OfRouter serial act) ≡ false → false ≡ true) →
       IsTaken w n (OfRouter serial act) (Err why) (with_node w n x)
   unfolding turn_lacks_serials turn_grows
-  refused-router old x why e same because grows = let k = refused-committed w n (OfRouter serial act) old x why is.lengths l e same because grows in
+  refused-router old x why e same because grows = let k = refused-committed w n (OfRouter serial act)
+      old x why is.lengths l e same because grows in
       record { event = tt; done = tt; allowed = tt; why = k.why; grows = k.grows; left = k.left }
 
 -- what a node is asked to do, of an equal world
@@ -352,7 +387,8 @@ pub asked : (w v : World) (n : ℕ) (act : Act) → v ≡ w → IsRegular w → 
 asked w v n act e is l h = subst (λ w. IsAsked w n act) (sym e) (record { regular = is; here = l; may = h })
 
 -- the message in hand, as it is found
-pub hand-seen : (w : World) (k from n : ℕ) (o : Option Message) → k ≡ way w from n → o ≡ hand_message (place_at Empty w.mail k) → o ≡ hand_message (mail_at w (way w from n))
+pub hand-seen : (w : World) (k from n : ℕ) (o : Option Message) → k ≡ way w from n → o ≡ hand_message (place_at Empty w.mail k) →
+    o ≡ hand_message (mail_at w (way w from n))
 unfolding mail_at
 hand-seen w k from n o e is = is ∙ ap (λ k. hand_message (place_at Empty w.mail k)) e
 

@@ -163,7 +163,8 @@ reached w u acts n on = subst (λ k. Walk w u k n) (omega arith) (on [] u refl)
 pub turned-on : (w u : World) (acts n : ℕ) → OnWay w acts u n → KeepsLawByTurns w u
 turned-on w u acts n on = let walk = reached w u acts n on.goes_on in visits-lead 0 walk.visits w u walk.turns
 
-ended : (limit acts n : ℕ) (w u : World) (answer : Settled) → Walk w u acts n → acts ≤ limit → FitsAnswer limit acts u answer → IsSettle limit w u answer
+ended : (limit acts n : ℕ) (w u : World) (answer : Settled) → Walk w u acts n → acts ≤ limit → FitsAnswer limit acts u answer →
+    IsSettle limit w u answer
 ended limit acts n w u answer walk l fits = record {
   visits = walk.visits;
   turns = walk.turns;
@@ -172,13 +173,16 @@ ended limit acts n w u answer walk l fits = record {
 }
 
 -- each node is idle
-pub settled : (limit acts n : ℕ) (w u : World) → OnWay w acts u n → acts ≤ limit → IsLawful u → AreIdle u 0 u.count → IsSettle limit w u (ends.Settled acts)
-settled limit acts n w u on l law idle = ended limit acts n w u (ends.Settled acts) (reached w u acts n on.goes_on) l (refl, quiet u law idle)
+pub settled : (limit acts n : ℕ) (w u : World) → OnWay w acts u n → acts ≤ limit → IsLawful u → AreIdle u 0 u.count →
+    IsSettle limit w u (ends.Settled acts)
+settled limit acts n w u on l law idle = ended limit acts n w u (ends.Settled acts) (reached w u acts n on.goes_on) l
+    (refl, quiet u law idle)
 
 -- the limit is reached, and a node has an act
 pub unsettled : (limit acts n m : ℕ) (w u : World) → OnWay w acts u n → acts ≡ limit → IsNextBusy u n m → IsSettle limit w u ends.Unsettled
 unsettled limit acts n m w u on e busy =
-    ended limit acts n w u ends.Unsettled (reached w u acts n on.goes_on) (omega (arith, e)) (e, (m, busy-acts u n m (place-within u n on.place) busy))
+    ended limit acts n w u ends.Unsettled (reached w u acts n on.goes_on) (omega (arith, e))
+    (e, (m, busy-acts u n m (place-within u n on.place) busy))
 
 -- a turn that is refused leaves the world
 pub left-by : (u x : World) (m : ℕ) (why : Refusal) → StepFirst u (Turn m) (replies.Refused why) x → x ≡ u

@@ -37,7 +37,8 @@ waits-changes n woken s is next e = go (has (word_of_bits n).waiting (opposite s
     go true false h k = h ∙ ap not (sym k)
     go false true h k = h ∙ ap not (sym k)
     go false false h k = absurd (
-        let stays : wake (word_of_bits n) s ≡ word_of_bits n = λ j. record (word_of_bits n) { waiting = without_absent (word_of_bits n).waiting (opposite s) h j } in
+        let stays : wake (word_of_bits n) s ≡ word_of_bits n = λ j.
+        record (word_of_bits n) { waiting = without_absent (word_of_bits n).waiting (opposite s) h j } in
         let same : woken ≡ n = sym (spelled (word_of_bits n) woken (e ∙ stays) next) ∙ spelled (word_of_bits n) n refl is in
         let found : nat_eq woken n ≡ true = grind (arith, same, nat_tests) in cc
         )

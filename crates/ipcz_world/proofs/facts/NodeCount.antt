@@ -10,7 +10,8 @@ use Rattle.ipcz_node.specs.declared.act.Act.TheVariants.{Hand, Look, Post, Close
 use Rattle.ipcz_node.specs.Acts.{post_of}
 use Rattle.ipcz_world.specs.World.{World, node_at, mail_at, way, set_node, set_word, set_claimed, set_mail}
 use Rattle.ipcz_world.specs.WordAnswers.{claim_next, touch_word, touch}
-use Rattle.ipcz_world.specs.Turns.{message_in_hand, full_message, router_of, after_router_act, after_hand, after_look, after_post, after_act}
+use Rattle.ipcz_world.specs.Turns.{message_in_hand, full_message, router_of, after_router_act, after_hand, after_look, after_post}
+use Rattle.ipcz_world.specs.Turns.{after_act}
 
 count-touch_word : (w : World) (s : Side) (a : RouterAct) (o : Option ℕ) → (touch_word w s a o).count ≡ w.count
 unfolding touch_word set_word

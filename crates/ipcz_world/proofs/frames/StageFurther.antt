@@ -1,9 +1,8 @@
--- A bypass that has been accepted goes a stage further: nobody takes or gives up a link, and a router learns lengths.
-use Rattle.std.specs.Prelude.{◌≡◌, ◌≢◌, ◌⊎◌, ◌≤◌, ℕ, suc, Bool, true, false, cond, nat_eq, is_some, is_none, not, Option, Some, None}
-use Rattle.std.specs.Prelude.{option_map, List, refl}
+-- The record of a bypass goes a stage further, from 3 or 4: links, words and stages are as before.
+use Rattle.std.specs.Prelude.{◌≡◌, ◌≢◌, ◌⊎◌, ◌≤◌, ℕ, suc, Bool, true, false, cond, nat_eq, is_some, is_none, not, Option, Some, None, List}
+use Rattle.std.specs.Prelude.{refl}
 use Rattle.std.proofs.Common.{arith, ap, ◌∙◌, sym, inl, inr}
 use Rattle.std.proofs.lemmas.Bool.Decides.{nat_tests}
-use Rattle.std.proofs.lemmas.Option.{none-some, same_Some}
 use Rattle.ipcz_base.specs.declared.side.Side.{Side}
 use Rattle.ipcz_base.specs.declared.side.Side.TheVariants.{A, B}
 use Rattle.ipcz_base.specs.declared.link_id.LinkId.{LinkId}
@@ -15,25 +14,21 @@ use Rattle.ipcz_base.specs.declared.message.Message.TheVariants as messages
 use Rattle.ipcz_word.specs.SideSets.{has}
 use Rattle.ipcz_base.specs.Sides.{opposite, same_side}
 use Rattle.ipcz_base.specs.Links.{has_link, word_of}
-use Rattle.ipcz_seq.specs.Queue.{Queue, item_at}
 use Rattle.ipcz_router.specs.Router.{Router, is_proxy, inward_edge, decays}
 use Rattle.ipcz_world.specs.World.{World, Key, same_key, word_at, router_at}
 use Rattle.ipcz_world.proofs.frames.Frames.{same_key_tells}
 use Rattle.ipcz_world.specs.Books.{Books}
 use Rattle.ipcz_world.specs.Records.{Records, is_recorded, inner_link, side_node, side_router, side_end, proxy_side, across_side}
 use Rattle.ipcz_world.specs.Records.{known_from, side_length, set_bypass}
-use Rattle.ipcz_world.specs.Standing.{is_attached, view, is_gone, has_primary, has_decaying, has_inward_primary, has_inward_decaying}
-use Rattle.ipcz_world.specs.Standing.{key_passes}
+use Rattle.ipcz_world.specs.Standing.{is_attached, view, has_primary, has_decaying, has_inward_primary, has_inward_decaying, key_passes}
 use Rattle.ipcz_world.specs.Flows.{IsUnderWay, is_made_before}
-use Rattle.ipcz_world.specs.Structure.{Shape, Links, IsRecorded, Positions, link_in, Stands, Words, is_begun_router, has_role}
+use Rattle.ipcz_world.specs.Structure.{Shape, Links, IsRecorded, Stands, Words, is_begun_router, has_role}
 use Rattle.ipcz_world.specs.Bypasses.{BypassRecords, Stages, inner_of, fresh_of}
-use Rattle.ipcz_world.specs.Numbers.{Items, Order, ProxyNumbers, FreshNumbers, has_passed, standing_router}
-use Rattle.ipcz_world.proofs.frames.Unmoved.{IsLike, Changed, Carried, Agree, side_node-agree, side_end-agree, bypass_of-agree}
-use Rattle.ipcz_world.proofs.frames.Unmoved.{proxy_side-agree, is_recorded-kept, key_passes-kept}
+use Rattle.ipcz_world.proofs.frames.Unmoved.{IsLike, Changed, Carried, Agree, side_node-agree, side_end-agree, proxy_side-agree}
+use Rattle.ipcz_world.proofs.frames.Unmoved.{is_recorded-kept, key_passes-kept}
 use Rattle.ipcz_world.proofs.views.Viewing.{IsSameView, view-kept}
 use Rattle.ipcz_world.proofs.facts.Lengths.{length-old, length-proxy, length-inner, length-live, length-none, known_from-yes}
-use Rattle.ipcz_world.proofs.frames.Sealing.{Sealed, shape_of, links_of, positions_of, stands_of, words_of, bypasses_of, stages_of}
-use Rattle.ipcz_world.proofs.frames.Sealing.{items_of, order_of, proxy_numbers_of, fresh_numbers_of}
+use Rattle.ipcz_world.proofs.frames.Sealing.{Sealed, shape_of, links_of, stands_of, words_of, bypasses_of, stages_of}
 
 -- two routers with the same links, marked alike
 pub record IsLinkedLike (r x : Router) : Type 0 where
@@ -63,573 +58,298 @@ role_like r x like linked = rw (like.terminal, linked.primary, linked.inward_pri
 decays_like : (r x : Router) → IsLinkedLike r x → decays x ≡ decays r
 decays_like r x linked = rw (linked.decaying, linked.inward_decaying) refl
 
-begun_like : (r x : Router) → IsLike r x → IsLinkedLike r x → is_begun_router x ≡ is_begun_router r
+pub begun_like : (r x : Router) → IsLike r x → IsLinkedLike r x → is_begun_router x ≡ is_begun_router r
 begun_like r x like linked = rw (proxy_like r x like, linked.inward_primary) refl
 
-module _ (w v : World) (b : Books) (g : Records) (k : Key) (r x : Router) (o s : ℕ) (law : Sealed w b g) (c : Changed w v k r x)
-    (like : IsLike r x) (linked : IsLinkedLike r x) (carried : Carried w v) (at : (g.bypass o).stage ≡ s) (late : 3 ≤ s) (early : s ≤ 4)
-  where
-    abbrev pub h : Records
-    h = set_bypass g o (record (g.bypass o) { stage = suc s })
+module _ {w v : World} {b : Books} {g : Records} {k : Key} {r x : Router} {o s : ℕ} (law : Sealed w b g) (c : Changed w v k r x)
+    (like : IsLike r x) (linked : IsLinkedLike r x) (carried : Carried w v) (at : (g.bypass o).stage ≡ s) (late : 3 ≤ s)
+    (early : s ≤ 4) where
+  abbrev pub h : Records
+  h = set_bypass g o (record (g.bypass o) { stage = suc s })
 
-    at_o : (j : ℕ) → ((nat_eq j o ≡ true) × (j ≡ o)) ⊎ ((nat_eq j o ≡ false) × (j ≢ o))
-    at_o j = grind (arith, nat_tests)
+  pub at_o : (j : ℕ) → ((nat_eq j o ≡ true) × (j ≡ o)) ⊎ ((nat_eq j o ≡ false) × (j ≢ o))
+  at_o j = grind (arith, nat_tests)
 
-    pub stage_at : (j : ℕ) → (h.bypass j).stage ≡ cond (nat_eq j o) (suc s) (g.bypass j).stage
-    stage_at j = grind (arith, at_o j)
+  pub stage_at : (j : ℕ) → (h.bypass j).stage ≡ cond (nat_eq j o) (suc s) (g.bypass j).stage
+  stage_at j = grind (arith, at_o j)
 
-    pub agree : Agree g h
-    agree = record {
-      owner = λ i. refl;
-      pair = λ i. refl;
-      node = λ i t. refl;
-      born = λ i. refl;
-      peripheral = λ p. refl;
-      terminal = λ t. refl;
-      begun = λ q. refl;
-      proxy = λ j. grind (arith, at_o j);
-      inner = λ j. grind (arith, at_o j);
-      fresh = λ j. grind (arith, at_o j);
-      is_begun = λ j. grind (arith, at_o j, at, late, nat_tests);
-    }
+  pub agree : Agree g h
+  agree = record {
+    owner = λ i. refl;
+    pair = λ i. refl;
+    node = λ i t. refl;
+    born = λ i. refl;
+    peripheral = λ p. refl;
+    terminal = λ t. refl;
+    begun = λ q. refl;
+    proxy = λ j. grind (arith, at_o j);
+    inner = λ j. grind (arith, at_o j);
+    fresh = λ j. grind (arith, at_o j);
+    is_begun = λ j. grind (arith, at_o j, at, late, nat_tests);
+  }
 
-    pub taken_same : (j : ℕ) → (h.bypass j).taken_at ≡ (g.bypass j).taken_at
-    taken_same j = grind (arith, at_o j)
+  pub taken_same : (j : ℕ) → (h.bypass j).taken_at ≡ (g.bypass j).taken_at
+  taken_same j = grind (arith, at_o j)
 
-    pub accepted_same : (j : ℕ) → (h.bypass j).accepted_at ≡ (g.bypass j).accepted_at
-    accepted_same j = grind (arith, at_o j)
+  pub accepted_same : (j : ℕ) → (h.bypass j).accepted_at ≡ (g.bypass j).accepted_at
+  accepted_same j = grind (arith, at_o j)
 
-    at_least : (j n : ℕ) → n ≤ 3 → n ≤ (h.bypass j).stage → n ≤ (g.bypass j).stage
-    at_least j n l p = grind (arith, at_o j, at, late, l, p)
+  pub at_least : (j n : ℕ) → n ≤ 3 → n ≤ (h.bypass j).stage → n ≤ (g.bypass j).stage
+  at_least j n l p = grind (arith, at_o j, at, late, l, p)
 
-    at_most : (j n : ℕ) → (h.bypass j).stage ≤ n → (g.bypass j).stage ≤ n
-    at_most j n p = grind (arith, at_o j, at, p)
+  at_most : (j n : ℕ) → (h.bypass j).stage ≤ n → (g.bypass j).stage ≤ n
+  at_most j n p = grind (arith, at_o j, at, p)
 
-    just : (j n : ℕ) → n ≤ 3 → (h.bypass j).stage ≡ n → (g.bypass j).stage ≡ n
-    just j n l p = grind (arith, at_o j, at, late, l, p)
+  just : (j n : ℕ) → n ≤ 3 → (h.bypass j).stage ≡ n → (g.bypass j).stage ≡ n
+  just j n l p = grind (arith, at_o j, at, late, l, p)
 
-    known_same : (j first n : ℕ) → first ≤ 3 → known_from first (h.bypass j).stage n ≡ known_from first (g.bypass j).stage n
-    known_same j first n l = grind (arith, at_o j, at, late, l, known_from-yes first (suc s) n, known_from-yes first s n)
+  known_same : (j first n : ℕ) → first ≤ 3 → known_from first (h.bypass j).stage n ≡ known_from first (g.bypass j).stage n
+  known_same j first n l = grind (arith, at_o j, at, late, l, known_from-yes first (suc s) n, known_from-yes first s n)
 
-    pub router_same : (link : LinkId) (t : Side) → side_router h link t ≡ side_router g link t
-    unfolding side_router
-    router_same (Central i) t = refl
-    router_same (Peripheral n p) A = refl
-    router_same (Peripheral n p) B = refl
+  pub router_same : (link : LinkId) (t : Side) → side_router h link t ≡ side_router g link t
+  unfolding side_router
+  router_same (Central i) t = refl
+  router_same (Peripheral n p) A = refl
+  router_same (Peripheral n p) B = refl
 
-    proxy_side_same : (j : ℕ) → proxy_side h j ≡ proxy_side g j
-    proxy_side_same j = proxy_side-agree g h agree j
+  pub proxy_side_same : (j : ℕ) → proxy_side h j ≡ proxy_side g j
+  proxy_side_same j = proxy_side-agree g h agree j
 
-    across_side_same : (j : ℕ) → across_side h j ≡ across_side g j
-    across_side_same j = ap opposite (proxy_side_same j)
+  pub across_side_same : (j : ℕ) → across_side h j ≡ across_side g j
+  across_side_same j = ap opposite (proxy_side_same j)
 
-    length_same : (link : LinkId) (t : Side) → side_length h link t ≡ side_length g link t
-    length_same (Central i) t = grind (
-      arith,
-      length-old h i t,
-      length-old g i t,
-      length-live h i t,
-      length-live g i t,
-      agree.is_begun i,
-      proxy_side_same i,
-      known_same i 3 (g.bypass i).taken_at,
-      known_same i 3 (g.bypass i).accepted_at,
-      taken_same i,
-      accepted_same i,
-    )
-    length_same (Peripheral n p) A = go (g.peripheral (record { node = n; serial = p })).by refl
-      where
-        go : (t : Option ℕ) → (g.peripheral (record { node = n; serial = p })).by ≡ t →
-            side_length h (Peripheral n p) A ≡ side_length g (Peripheral n p) A
-        go None e = length-none h (record { node = n; serial = p }) A e ∙ sym (length-none g (record { node = n; serial = p }) A e)
-        go (Some j) e = length-proxy h (record { node = n; serial = p }) j e ∙ ap (known_from 3 (h.bypass j).stage) (accepted_same j) ∙
-            known_same j 3 (g.bypass j).accepted_at (omega arith) ∙ sym (length-proxy g (record { node = n; serial = p }) j e)
-    length_same (Peripheral n p) B = go (g.peripheral (record { node = n; serial = p })).by refl
-      where
-        go : (t : Option ℕ) → (g.peripheral (record { node = n; serial = p })).by ≡ t →
-            side_length h (Peripheral n p) B ≡ side_length g (Peripheral n p) B
-        go None e = length-none h (record { node = n; serial = p }) B e ∙ sym (length-none g (record { node = n; serial = p }) B e)
-        go (Some j) e = length-inner h (record { node = n; serial = p }) j e ∙ ap (known_from 2 (h.bypass j).stage) (taken_same j) ∙
-            known_same j 2 (g.bypass j).taken_at (omega arith) ∙ sym (length-inner g (record { node = n; serial = p }) j e)
+  pub length_same : (link : LinkId) (t : Side) → side_length h link t ≡ side_length g link t
+  length_same (Central i) t = grind (
+    arith,
+    length-old h i t,
+    length-old g i t,
+    length-live h i t,
+    length-live g i t,
+    agree.is_begun i,
+    proxy_side_same i,
+    known_same i 3 (g.bypass i).taken_at,
+    known_same i 3 (g.bypass i).accepted_at,
+    taken_same i,
+    accepted_same i,
+  )
+  length_same (Peripheral n p) A = go (g.peripheral (record { node = n; serial = p })).by refl
+    where
+      go : (t : Option ℕ) → (g.peripheral (record { node = n; serial = p })).by ≡ t →
+          side_length h (Peripheral n p) A ≡ side_length g (Peripheral n p) A
+      go None e = length-none h (record { node = n; serial = p }) A e ∙ sym (length-none g (record { node = n; serial = p }) A e)
+      go (Some j) e = length-proxy h (record { node = n; serial = p }) j e ∙ ap (known_from 3 (h.bypass j).stage) (accepted_same j) ∙
+          known_same j 3 (g.bypass j).accepted_at (omega arith) ∙ sym (length-proxy g (record { node = n; serial = p }) j e)
+  length_same (Peripheral n p) B = go (g.peripheral (record { node = n; serial = p })).by refl
+    where
+      go : (t : Option ℕ) → (g.peripheral (record { node = n; serial = p })).by ≡ t →
+          side_length h (Peripheral n p) B ≡ side_length g (Peripheral n p) B
+      go None e = length-none h (record { node = n; serial = p }) B e ∙ sym (length-none g (record { node = n; serial = p }) B e)
+      go (Some j) e = length-inner h (record { node = n; serial = p }) j e ∙ ap (known_from 2 (h.bypass j).stage) (taken_same j) ∙
+          known_same j 2 (g.bypass j).taken_at (omega arith) ∙ sym (length-inner g (record { node = n; serial = p }) j e)
 
-    attached : (link : LinkId) (t : Side) → is_attached link t x ≡ is_attached link t r
-    unfolding is_attached
-    attached (Central i) t = rw (linked.primary, linked.decaying) refl
-    attached (Peripheral n p) A = rw (linked.inward_primary, linked.inward_decaying) refl
-    attached (Peripheral n p) B = rw (linked.primary, linked.decaying) refl
+  attached : (link : LinkId) (t : Side) → is_attached link t x ≡ is_attached link t r
+  unfolding is_attached
+  attached (Central i) t = rw (linked.primary, linked.decaying) refl
+  attached (Peripheral n p) A = rw (linked.inward_primary, linked.inward_decaying) refl
+  attached (Peripheral n p) B = rw (linked.primary, linked.decaying) refl
 
-    pub view_same : (link : LinkId) (t : Side) → IsSameView link t (view v h link t) (view w g link t)
-    view_same link t = view-kept w v g h k r x c agree like link t (router_same link t) (λ m. attached link t)
+  pub view_same : (link : LinkId) (t : Side) → IsSameView link t (view v h link t) (view w g link t)
+  view_same link t = view-kept w v g h k r x c agree like link t (router_same link t) (λ m. attached link t)
 
-    pub recorded_same : (link : LinkId) → is_recorded v h link ≡ is_recorded w g link
-    recorded_same = is_recorded-kept w v g h k r x c agree
+  pub recorded_same : (link : LinkId) → is_recorded v h link ≡ is_recorded w g link
+  recorded_same = is_recorded-kept w v g h k r x c agree
 
-    node_same : (link : LinkId) (t : Side) → side_node h link t ≡ side_node g link t
-    node_same = side_node-agree g h agree
+  pub node_same : (link : LinkId) (t : Side) → side_node h link t ≡ side_node g link t
+  node_same = side_node-agree g h agree
 
-    passes_same : (link : LinkId) (t : Side) (test : Router → Bool) → test x ≡ test r →
-        key_passes v (side_router h link t) test ≡ key_passes w (side_router g link t) test
-    passes_same link t test e = ap (λ q. key_passes v q test) (router_same link t) ∙ key_passes-kept w v g h k r x c agree
-        (side_router g link t) test e
+  passes_same : (link : LinkId) (t : Side) (test : Router → Bool) → test x ≡ test r →
+      key_passes v (side_router h link t) test ≡ key_passes w (side_router g link t) test
+  passes_same link t test e = ap (λ q. key_passes v q test) (router_same link t) ∙ key_passes-kept w v g h k r x c agree
+      (side_router g link t) test e
 
-    -- what a router was before
-    pub record Was (q : Key) (t : Router) : Type 0 where
-      pub router : Router
-      pub here_before : router_at w q ≡ Some router
-      pub alike : IsLike router t
-      pub linked_alike : IsLinkedLike router t
+  -- what a router was before
+  pub record Was (q : Key) (t : Router) : Type 0 where
+    pub router : Router
+    pub here_before : router_at w q ≡ Some router
+    pub alike : IsLike router t
+    pub linked_alike : IsLinkedLike router t
 
-    pub was_router : (q : Key) (t : Router) → router_at v q ≡ Some t → Was q t
-    was_router q t e = go (same_key_tells q k)
-      where
-        go : ((same_key q k ≡ true) × (q ≡ k)) ⊎ ((same_key q k ≡ false) × (q ≢ k)) → Was q t
-        go (inl m) = let same : x ≡ t = grind (arith, c.router q, e, m.0) in
-            record { router = r; here_before = rw m.1 c.here; alike = rw (← same) like; linked_alike = rw (← same) linked }
-        go (inr m) = record {
-          router = t;
-          here_before = grind (arith, c.router q, e, m.0);
-          alike = record { end = refl; out_queue = refl; in_queue = refl; terminal = refl; closed = refl; mark_seen = refl; spare = refl };
-          linked_alike = record {
-            primary = refl;
-            decaying = refl;
-            inward_primary = refl;
-            inward_decaying = refl;
-            marked = refl;
-            holds =
-                refl;
-          };
-        }
+  pub was_router : (q : Key) (t : Router) → router_at v q ≡ Some t → Was q t
+  was_router q t e = go (same_key_tells q k)
+    where
+      go : ((same_key q k ≡ true) × (q ≡ k)) ⊎ ((same_key q k ≡ false) × (q ≢ k)) → Was q t
+      go (inl m) = let same : x ≡ t = grind (arith, c.router q, e, m.0) in
+          record { router = r; here_before = rw m.1 c.here; alike = rw (← same) like; linked_alike = rw (← same) linked }
+      go (inr m) = record {
+        router = t;
+        here_before = grind (arith, c.router q, e, m.0);
+        alike = record { end = refl; out_queue = refl; in_queue = refl; terminal = refl; closed = refl; mark_seen = refl; spare = refl };
+        linked_alike = record {
+          primary = refl;
+          decaying = refl;
+          inward_primary = refl;
+          inward_decaying = refl;
+          marked = refl;
+          holds =
+              refl;
+        };
+      }
 
-    pub shape-further : Shape v
-    shape-further = record {
-      role = λ q t e. let z : Was q t = was_router q t e in role_like z.router t z.alike z.linked_alike ∙ (shape_of law).role q z.router
-          z.here_before;
-      marked_central = λ q t e m. let z : Was q t = was_router q t e in
-          ap (λ u. is_some (word_of u)) z.linked_alike.primary ∙ (shape_of law).marked_central q z.router z.here_before
-          (sym z.linked_alike.marked ∙ m);
-      marked_still = λ q t e m. let z : Was q t = was_router q t e in
-          decays_like z.router t z.linked_alike ∙ (shape_of law).marked_still q z.router z.here_before (sym z.linked_alike.marked ∙ m);
-      holds_marked = λ q t e m. let z : Was q t = was_router q t e in
-          z.linked_alike.marked ∙ (shape_of law).holds_marked q z.router z.here_before (sym z.linked_alike.holds ∙ m);
-      holds_proxy = λ q t e m. let z : Was q t = was_router q t e in
-          proxy_like z.router t z.alike ∙ (shape_of law).holds_proxy q z.router z.here_before (sym z.linked_alike.holds ∙ m);
-      holds_spare = λ q t e m. let z : Was q t = was_router q t e in
-          ap is_some z.alike.spare ∙ (shape_of law).holds_spare q z.router z.here_before (sym z.linked_alike.holds ∙ m);
-      spare_proxy = λ q t i e m. let z : Was q t = was_router q t e in
-          proxy_like z.router t z.alike ∙ (shape_of law).spare_proxy q z.router i z.here_before (sym z.alike.spare ∙ m);
-      spare_primary = λ q t i e m. let z : Was q t = was_router q t e in
-          ap is_some z.linked_alike.primary ∙ (shape_of law).spare_primary q z.router i z.here_before (sym z.alike.spare ∙ m);
-    }
+  pub shape-further : Shape v
+  shape-further = record {
+    role = λ q t e. let z : Was q t = was_router q t e in role_like z.router t z.alike z.linked_alike ∙ (shape_of law).role q z.router
+        z.here_before;
+    marked_central = λ q t e m. let z : Was q t = was_router q t e in
+        ap (λ u. is_some (word_of u)) z.linked_alike.primary ∙ (shape_of law).marked_central q z.router z.here_before
+        (sym z.linked_alike.marked ∙ m);
+    marked_still = λ q t e m. let z : Was q t = was_router q t e in
+        decays_like z.router t z.linked_alike ∙ (shape_of law).marked_still q z.router z.here_before (sym z.linked_alike.marked ∙ m);
+    holds_marked = λ q t e m. let z : Was q t = was_router q t e in
+        z.linked_alike.marked ∙ (shape_of law).holds_marked q z.router z.here_before (sym z.linked_alike.holds ∙ m);
+    holds_proxy = λ q t e m. let z : Was q t = was_router q t e in
+        proxy_like z.router t z.alike ∙ (shape_of law).holds_proxy q z.router z.here_before (sym z.linked_alike.holds ∙ m);
+    holds_spare = λ q t e m. let z : Was q t = was_router q t e in
+        ap is_some z.alike.spare ∙ (shape_of law).holds_spare q z.router z.here_before (sym z.linked_alike.holds ∙ m);
+    spare_proxy = λ q t i e m. let z : Was q t = was_router q t e in
+        proxy_like z.router t z.alike ∙ (shape_of law).spare_proxy q z.router i z.here_before (sym z.alike.spare ∙ m);
+    spare_primary = λ q t i e m. let z : Was q t = was_router q t e in
+        ap is_some z.linked_alike.primary ∙ (shape_of law).spare_primary q z.router i z.here_before (sym z.alike.spare ∙ m);
+  }
 
-    rec_same : (q : Key) (t t' : Router) (d : LinkEnd) → t'.end ≡ t.end → IsRecorded w g q t d → IsRecorded v h q t' d
-    rec_same q t t' d e rec = record {
-      recorded = recorded_same d.link ∙ rec.recorded;
-      other = rec.other ∙ sym (node_same d.link (opposite d.side));
-      router = router_same d.link d.side ∙ rec.router;
-      end = e ∙ rec.end ∙ sym (side_end-agree g h agree d.link d.side);
-    }
+  rec_same : (q : Key) (t t' : Router) (d : LinkEnd) → t'.end ≡ t.end → IsRecorded w g q t d → IsRecorded v h q t' d
+  rec_same q t t' d e rec = record {
+    recorded = recorded_same d.link ∙ rec.recorded;
+    other = rec.other ∙ sym (node_same d.link (opposite d.side));
+    router = router_same d.link d.side ∙ rec.router;
+    end = e ∙ rec.end ∙ sym (side_end-agree g h agree d.link d.side);
+  }
 
-    pub links-further : Links v h
-    links-further = record {
-      primary = λ q t d e p. let z : Was q t = was_router q t e in rec_same q z.router t d z.alike.end
-          ((links_of law).primary q z.router d z.here_before (sym z.linked_alike.primary ∙ p));
-      decaying = λ q t d e p. let z : Was q t = was_router q t e in
-          rec_same q z.router t d z.alike.end ((links_of law).decaying q z.router d z.here_before (sym z.linked_alike.decaying ∙ p));
-      inward_primary = λ q t d e p. let z : Was q t = was_router q t e in
-          rec_same q z.router t d z.alike.end ((links_of law).inward_primary q z.router d z.here_before
-          (sym z.linked_alike.inward_primary ∙ p));
-      inward_decaying = λ q t d e p. let z : Was q t = was_router q t e in
-          rec_same q z.router t d z.alike.end ((links_of law).inward_decaying q z.router d z.here_before
-          (sym z.linked_alike.inward_decaying ∙ p));
-      primary_outward = λ q t d e p. let z : Was q t = was_router q t e in
-          (links_of law).primary_outward q z.router d z.here_before (sym z.linked_alike.primary ∙ p);
-      decaying_outward = λ q t d e p. let z : Was q t = was_router q t e in
-          (links_of law).decaying_outward q z.router d z.here_before (sym z.linked_alike.decaying ∙ p);
-      inward_primary_inward = λ q t d e p. let z : Was q t = was_router q t e in
-          (links_of law).inward_primary_inward q z.router d z.here_before (sym z.linked_alike.inward_primary ∙ p);
-      inward_decaying_inward = λ q t d e p. let z : Was q t = was_router q t e in
-          (links_of law).inward_decaying_inward q z.router d z.here_before (sym z.linked_alike.inward_decaying ∙ p);
-    }
+  pub links-further : Links v h
+  links-further = record {
+    primary = λ q t d e p. let z : Was q t = was_router q t e in rec_same q z.router t d z.alike.end
+        ((links_of law).primary q z.router d z.here_before (sym z.linked_alike.primary ∙ p));
+    decaying = λ q t d e p. let z : Was q t = was_router q t e in
+        rec_same q z.router t d z.alike.end ((links_of law).decaying q z.router d z.here_before (sym z.linked_alike.decaying ∙ p));
+    inward_primary = λ q t d e p. let z : Was q t = was_router q t e in
+        rec_same q z.router t d z.alike.end ((links_of law).inward_primary q z.router d z.here_before
+        (sym z.linked_alike.inward_primary ∙ p));
+    inward_decaying = λ q t d e p. let z : Was q t = was_router q t e in
+        rec_same q z.router t d z.alike.end ((links_of law).inward_decaying q z.router d z.here_before
+        (sym z.linked_alike.inward_decaying ∙ p));
+    primary_outward = λ q t d e p. let z : Was q t = was_router q t e in
+        (links_of law).primary_outward q z.router d z.here_before (sym z.linked_alike.primary ∙ p);
+    decaying_outward = λ q t d e p. let z : Was q t = was_router q t e in
+        (links_of law).decaying_outward q z.router d z.here_before (sym z.linked_alike.decaying ∙ p);
+    inward_primary_inward = λ q t d e p. let z : Was q t = was_router q t e in
+        (links_of law).inward_primary_inward q z.router d z.here_before (sym z.linked_alike.inward_primary ∙ p);
+    inward_decaying_inward = λ q t d e p. let z : Was q t = was_router q t e in
+        (links_of law).inward_decaying_inward q z.router d z.here_before (sym z.linked_alike.inward_decaying ∙ p);
+  }
 
-    pub stands-further : Stands v h
-    stands-further = record {
-      central = λ i t q l n m. key_passes-kept w v g h k r x c agree (Some q) (has_primary (Central i) t)
-          (ap (λ u. has_link u (Central i) t) linked.primary) ∙ (stands_of law).central i t q l (sym (agree.is_begun i) ∙ n)
-          (sym (router_same (Central i) t) ∙ m);
-      awaited = λ i t l n. (stands_of law).awaited i t l n;
-      awaited_stage = λ i t j l n m. let e : (g.bypass j).stage ≡ 2 = (stands_of law).awaited_stage i t j l n m in
-          grind (arith, at_o j, e, at, late);
-      awaited_side = λ i t j l n m. (stands_of law).awaited_side i t j l n m ∙ sym (across_side_same j);
-      proxy = λ p l n. passes_same (inner_link p) A (has_inward_primary (inner_link p) A)
-          (ap (λ u. has_link u (inner_link p) A) linked.inward_primary) ∙ (stands_of law).proxy p
-          (sym (recorded_same (inner_link p)) ∙ l) n;
-      inner = λ p q l n m. key_passes-kept w v g h k r x c agree (Some q) (has_primary (inner_link p) B)
-          (ap (λ u. has_link u (inner_link p) B) linked.primary) ∙ (stands_of law).inner p q (sym (recorded_same (inner_link p)) ∙ l) n
-          (sym (router_same (inner_link p) B) ∙ m);
-      by_begun = λ p j n. agree.is_begun j ∙ (stands_of law).by_begun p j n;
-      by_inner = λ p j n. agree.inner j ∙ (stands_of law).by_inner p j n;
-    }
+  pub stands-further : Stands v h
+  stands-further = record {
+    central = λ i t q l n m. key_passes-kept w v g h k r x c agree (Some q) (has_primary (Central i) t)
+        (ap (λ u. has_link u (Central i) t) linked.primary) ∙ (stands_of law).central i t q l (sym (agree.is_begun i) ∙ n)
+        (sym (router_same (Central i) t) ∙ m);
+    awaited = λ i t l n. (stands_of law).awaited i t l n;
+    awaited_stage = λ i t j l n m. let e : (g.bypass j).stage ≡ 2 = (stands_of law).awaited_stage i t j l n m in
+        grind (arith, at_o j, e, at, late);
+    awaited_side = λ i t j l n m. (stands_of law).awaited_side i t j l n m ∙ sym (across_side_same j);
+    proxy = λ p l n. passes_same (inner_link p) A (has_inward_primary (inner_link p) A)
+        (ap (λ u. has_link u (inner_link p) A) linked.inward_primary) ∙ (stands_of law).proxy p
+        (sym (recorded_same (inner_link p)) ∙ l) n;
+    inner = λ p q l n m. key_passes-kept w v g h k r x c agree (Some q) (has_primary (inner_link p) B)
+        (ap (λ u. has_link u (inner_link p) B) linked.primary) ∙ (stands_of law).inner p q (sym (recorded_same (inner_link p)) ∙ l) n
+        (sym (router_same (inner_link p) B) ∙ m);
+    by_begun = λ p j n. agree.is_begun j ∙ (stands_of law).by_begun p j n;
+    by_inner = λ p j n. agree.inner j ∙ (stands_of law).by_inner p j n;
+  }
 
-    pub words-further : ((i : ℕ) → word_at v i ≡ word_at w i) → Words v h
-    words-further same = record {
-      unused = λ i l. same i ∙ (words_of law).unused i l;
-      begun_stable = λ i t n. ap (λ u. has u.stable t) (same i) ∙ (words_of law).begun_stable i t (sym (agree.is_begun i) ∙ n);
-      begun_holder = λ i t n. ap (λ u. has u.holder t) (same i) ∙ (words_of law).begun_holder i t (sym (agree.is_begun i) ∙ n) ∙ ap
-          (same_side t) (sym (proxy_side_same i));
-      stable = λ i t l n. ap (λ u. has u.stable t) (same i) ∙ (words_of law).stable i t l (sym (agree.is_begun i) ∙ n) ∙ sym
-          (passes_same (Central i) t (λ y. y.marked) linked.marked);
-      holder = λ i t l n. ap (λ u. has u.holder t) (same i) ∙ (words_of law).holder i t l (sym (agree.is_begun i) ∙ n) ∙ sym
-          (passes_same (Central i) t (λ y. y.holds) linked.holds);
-      held_stable = λ i t u a. ap (λ z. has z.stable u) (same i) ∙ (words_of law).held_stable i t u
-          (ap (λ z. has z.holder t) (sym (same i)) ∙ a);
-      one_holder = λ i t u a d. (words_of law).one_holder i t u (ap (λ z. has z.holder t) (sym (same i)) ∙ a)
-          (ap (λ z. has z.holder u) (sym (same i)) ∙ d);
-    }
+  pub words-further : ((i : ℕ) → word_at v i ≡ word_at w i) → Words v h
+  words-further same = record {
+    unused = λ i l. same i ∙ (words_of law).unused i l;
+    begun_stable = λ i t n. ap (λ u. has u.stable t) (same i) ∙ (words_of law).begun_stable i t (sym (agree.is_begun i) ∙ n);
+    begun_holder = λ i t n. ap (λ u. has u.holder t) (same i) ∙ (words_of law).begun_holder i t (sym (agree.is_begun i) ∙ n) ∙ ap
+        (same_side t) (sym (proxy_side_same i));
+    stable = λ i t l n. ap (λ u. has u.stable t) (same i) ∙ (words_of law).stable i t l (sym (agree.is_begun i) ∙ n) ∙ sym
+        (passes_same (Central i) t (λ y. y.marked) linked.marked);
+    holder = λ i t l n. ap (λ u. has u.holder t) (same i) ∙ (words_of law).holder i t l (sym (agree.is_begun i) ∙ n) ∙ sym
+        (passes_same (Central i) t (λ y. y.holds) linked.holds);
+    held_stable = λ i t u a. ap (λ z. has z.stable u) (same i) ∙ (words_of law).held_stable i t u
+        (ap (λ z. has z.holder t) (sym (same i)) ∙ a);
+    one_holder = λ i t u a d. (words_of law).one_holder i t u (ap (λ z. has z.holder t) (sym (same i)) ∙ a)
+        (ap (λ z. has z.holder u) (sym (same i)) ∙ d);
+  }
 
-    pub stages-further : Stages v h
-    stages-further = record {
-      proxy_old = λ j n l. rw (agree.proxy j, proxy_side_same j) (key_passes-kept w v g h k r x c agree (Some (g.bypass j).proxy)
-          (has_decaying (Central j) (proxy_side g j)) (ap (λ u. has_link u (Central j) (proxy_side g j)) linked.decaying)
-          ∙ (stages_of law).proxy_old j (sym (agree.is_begun j) ∙ n) (at_most j 3 l));
-      proxy_inner = λ j n l. rw (agree.proxy j, agree.inner j) (key_passes-kept w v g h k r x c agree (Some (g.bypass j).proxy)
-          (has_inward_decaying (inner_of g j) A) (ap (λ u. has_link u (inner_of g j) A) linked.inward_decaying)
-          ∙ (stages_of law).proxy_inner j (sym (agree.is_begun j) ∙ n) (at_most j 3 l));
-      proxy_begun = λ j t n e. let z : Was (g.bypass j).proxy t =
-          was_router (g.bypass j).proxy t (ap (router_at v) (sym (agree.proxy j)) ∙ e)
-          in
-          begun_like z.router t z.alike z.linked_alike ∙ (stages_of law).proxy_begun j z.router (sym (agree.is_begun j) ∙ n) z.here_before;
-      proxy_end = λ j t n e. let z : Was (g.bypass j).proxy t = was_router (g.bypass j).proxy t (ap (router_at v) (sym (agree.proxy j)) ∙ e)
-          in
-          z.alike.end ∙ (stages_of law).proxy_end j z.router (sym (agree.is_begun j) ∙ n) z.here_before ∙ sym
-          (ap (λ p. side_end h (inner_link p) A) (agree.inner j) ∙ side_end-agree g h agree (inner_of g j) A);
-      across_old = λ j n l. rw (across_side_same j) (passes_same (Central j) (across_side g j) (has_primary (Central j) (across_side g j))
-          (ap (λ u. has_link u (Central j) (across_side g j)) linked.primary) ∙ (stages_of law).across_old j (sym (agree.is_begun j) ∙ n)
-          (at_most j 2 l));
-      across_marked = λ j n l. rw (across_side_same j) (passes_same (Central j) (across_side g j) (λ y. y.marked) linked.marked ∙
-          (stages_of law).across_marked j (sym (agree.is_begun j) ∙ n) (at_most j 2 l));
-      across_free = λ j n l. rw (across_side_same j) (passes_same (Central j) (across_side g j) (λ y. not y.holds) (ap not linked.holds) ∙
-          (stages_of law).across_free j (sym (agree.is_begun j) ∙ n) (at_most j 2 l));
-      across_fresh = λ j l m. rw (agree.fresh j, across_side_same j)
-          (passes_same (fresh_of g j) (across_side g j) (has_primary (fresh_of g j) (across_side g j))
-          (ap (λ u. has_link u (fresh_of g j) (across_side g j)) linked.primary) ∙ (stages_of law).across_fresh j
-          (at_least j 3 (omega arith) l) (at_most j 4 m));
-      inner_primary = λ j q l m. rw (agree.inner j) (key_passes-kept w v g h k r x c agree (Some q) (has_primary (inner_of g j) B)
-          (ap (λ u. has_link u (inner_of g j) B) linked.primary)
-          ∙ (stages_of law).inner_primary j q (just j 1 (omega arith) l)
-          (sym (router_same (inner_of g j) B) ∙ ap (λ p. side_router h (inner_link p) B) (sym (agree.inner j)) ∙ m));
-      inner_decaying = λ j l m. rw (agree.inner j) (passes_same (inner_of g j) B (has_decaying (inner_of g j) B)
-          (ap (λ u. has_link u (inner_of g j) B) linked.decaying) ∙ (stages_of law).inner_decaying j (at_least j 2 (omega arith) l)
-          (at_most j 4 m));
-    }
+  pub stages-further : Stages v h
+  stages-further = record {
+    proxy_old = λ j n l. rw (agree.proxy j, proxy_side_same j) (key_passes-kept w v g h k r x c agree (Some (g.bypass j).proxy)
+        (has_decaying (Central j) (proxy_side g j)) (ap (λ u. has_link u (Central j) (proxy_side g j)) linked.decaying)
+        ∙ (stages_of law).proxy_old j (sym (agree.is_begun j) ∙ n) (at_most j 3 l));
+    proxy_inner = λ j n l. rw (agree.proxy j, agree.inner j) (key_passes-kept w v g h k r x c agree (Some (g.bypass j).proxy)
+        (has_inward_decaying (inner_of g j) A) (ap (λ u. has_link u (inner_of g j) A) linked.inward_decaying)
+        ∙ (stages_of law).proxy_inner j (sym (agree.is_begun j) ∙ n) (at_most j 3 l));
+    proxy_begun = λ j t n e. let z : Was (g.bypass j).proxy t =
+        was_router (g.bypass j).proxy t (ap (router_at v) (sym (agree.proxy j)) ∙ e)
+        in
+        begun_like z.router t z.alike z.linked_alike ∙ (stages_of law).proxy_begun j z.router (sym (agree.is_begun j) ∙ n) z.here_before;
+    proxy_end = λ j t n e. let z : Was (g.bypass j).proxy t = was_router (g.bypass j).proxy t (ap (router_at v) (sym (agree.proxy j)) ∙ e)
+        in
+        z.alike.end ∙ (stages_of law).proxy_end j z.router (sym (agree.is_begun j) ∙ n) z.here_before ∙ sym
+        (ap (λ p. side_end h (inner_link p) A) (agree.inner j) ∙ side_end-agree g h agree (inner_of g j) A);
+    across_old = λ j n l. rw (across_side_same j) (passes_same (Central j) (across_side g j) (has_primary (Central j) (across_side g j))
+        (ap (λ u. has_link u (Central j) (across_side g j)) linked.primary) ∙ (stages_of law).across_old j (sym (agree.is_begun j) ∙ n)
+        (at_most j 2 l));
+    across_marked = λ j n l. rw (across_side_same j) (passes_same (Central j) (across_side g j) (λ y. y.marked) linked.marked ∙
+        (stages_of law).across_marked j (sym (agree.is_begun j) ∙ n) (at_most j 2 l));
+    across_free = λ j n l. rw (across_side_same j) (passes_same (Central j) (across_side g j) (λ y. not y.holds) (ap not linked.holds) ∙
+        (stages_of law).across_free j (sym (agree.is_begun j) ∙ n) (at_most j 2 l));
+    across_fresh = λ j l m. rw (agree.fresh j, across_side_same j)
+        (passes_same (fresh_of g j) (across_side g j) (has_primary (fresh_of g j) (across_side g j))
+        (ap (λ u. has_link u (fresh_of g j) (across_side g j)) linked.primary) ∙ (stages_of law).across_fresh j
+        (at_least j 3 (omega arith) l) (at_most j 4 m));
+    inner_primary = λ j q l m. rw (agree.inner j) (key_passes-kept w v g h k r x c agree (Some q) (has_primary (inner_of g j) B)
+        (ap (λ u. has_link u (inner_of g j) B) linked.primary)
+        ∙ (stages_of law).inner_primary j q (just j 1 (omega arith) l)
+        (sym (router_same (inner_of g j) B) ∙ ap (λ p. side_router h (inner_link p) B) (sym (agree.inner j)) ∙ m));
+    inner_decaying = λ j l m. rw (agree.inner j) (passes_same (inner_of g j) B (has_decaying (inner_of g j) B)
+        (ap (λ u. has_link u (inner_of g j) B) linked.decaying) ∙ (stages_of law).inner_decaying j (at_least j 2 (omega arith) l)
+        (at_most j 4 m));
+  }
 
-    pub bypasses-further : BypassRecords v h
-    bypasses-further = record {
-      stage = λ j. grind (arith, stage_at j, (bypasses_of law).stage j, early);
-      old = λ j n. (bypasses_of law).old j (sym (agree.is_begun j) ∙ n);
-      inner = λ j n. ap (λ p. is_recorded v h (inner_link p)) (agree.inner j) ∙ recorded_same (inner_of g j) ∙ (bypasses_of law).inner j
-          (sym (agree.is_begun j) ∙ n);
-      inner_by = λ j n. ap (λ p. (g.peripheral p).by) (agree.inner j) ∙ (bypasses_of law).inner_by j (sym (agree.is_begun j) ∙ n);
-      pair = λ j n. ap (λ p. (g.peripheral p).end.pair) (agree.inner j) ∙ (bypasses_of law).pair j (sym (agree.is_begun j) ∙ n);
-      proxy_old = λ j n. router_same (Central j) (proxy_side h j) ∙ ap (side_router g (Central j)) (proxy_side_same j) ∙
-          (bypasses_of law).proxy_old j (sym (agree.is_begun j) ∙ n) ∙ ap Some (sym (agree.proxy j));
-      proxy_inner = λ j n. ap (λ p. side_router h (inner_link p) A) (agree.inner j) ∙ router_same (inner_of g j) A ∙
-          (bypasses_of law).proxy_inner j (sym (agree.is_begun j) ∙ n) ∙ ap Some (sym (agree.proxy j));
-      across = λ j n. ap is_some (router_same (Central j) (across_side h j) ∙ ap (side_router g (Central j)) (across_side_same j)) ∙
-          (bypasses_of law).across j (sym (agree.is_begun j) ∙ n);
-      fresh = λ j n. grind (arith, (bypasses_of law).fresh j (just j 1 (omega arith) n), at_o j, at, late);
-      fresh_linked = λ j n. ap g.owner (agree.fresh j) ∙ (bypasses_of law).fresh_linked j (at_least j 2 (omega arith) n);
-      fresh_born = λ j n. ap (λ i. (g.central i).born) (agree.fresh j) ∙ (bypasses_of law).fresh_born j (at_least j 2 (omega arith) n);
-      fresh_pair = λ j n. ap (λ i. (g.central i).pair) (agree.fresh j) ∙ (bypasses_of law).fresh_pair j (at_least j 2 (omega arith) n);
-      inner_known = λ j n. ap is_some (ap (λ p. side_router h (inner_link p) B) (agree.inner j) ∙ router_same (inner_of g j) B) ∙
-          (bypasses_of law).inner_known j (at_least j 2 (omega arith) n);
-      fresh_inner = λ j n. rw (agree.fresh j, proxy_side_same j, agree.inner j)
-          (router_same (fresh_of g j) (proxy_side g j) ∙ (bypasses_of law).fresh_inner j (at_least j 2 (omega arith) n) ∙ sym
-          (router_same (inner_of g j) B));
-      fresh_inner_node = λ j n. rw (agree.fresh j, proxy_side_same j, agree.inner j)
-          (node_same (fresh_of g j) (proxy_side g j) ∙ (bypasses_of law).fresh_inner_node j (at_least j 2 (omega arith) n) ∙ sym
-          (node_same (inner_of g j) B));
-      fresh_across_node = λ j n. rw (agree.fresh j, across_side_same j)
-          (node_same (fresh_of g j) (across_side g j) ∙ (bypasses_of law).fresh_across_node j (at_least j 2 (omega arith) n) ∙ sym
-          (node_same (Central j) (across_side g j)));
-      fresh_awaited = λ j n. rw (agree.fresh j, across_side_same j)
-          (router_same (fresh_of g j) (across_side g j) ∙ (bypasses_of law).fresh_awaited j (just j 2 (omega arith) n));
-      fresh_across = λ j n. rw (agree.fresh j, across_side_same j) (router_same (fresh_of g j) (across_side g j) ∙
-          (bypasses_of law).fresh_across j (at_least j 3 (omega arith) n) ∙ sym (router_same (Central j) (across_side g j)));
-      born_fresh = λ i j l n. agree.fresh j ∙ (bypasses_of law).born_fresh i j l n;
-      born_stage = λ i j l n. grind (arith, (bypasses_of law).born_stage i j l n, at_o j, at, late);
-    }
-
-    pub items-further : StillMade w v carried → Items v h
-    items-further still = record {
-      recorded = λ a d i l t n m ms u. recorded_same l ∙ (items_of law).recorded a d (carried.place a d i) l t n m ms
-          (carried.was a d i l t n m ms u);
-      sender = λ a d i l t n m ms u. (items_of law).sender a d (carried.place a d i) l t n m ms (carried.was a d i l t n m ms u) ∙ sym
-          (node_same l (opposite t));
-      receiver = λ a d i l t n m ms u. (items_of law).receiver a d (carried.place a d i) l t n m ms (carried.was a d i l t n m ms u) ∙ sym
-          (node_same l t);
-      below_length = λ a d i l t n m ms len u e. (items_of law).below_length a d (carried.place a d i) l t n m ms len
-          (carried.was a d i l t n m ms u) (sym (length_same l (opposite t)) ∙ e);
-      was_sent = λ a d i l t n m ms p u e. (items_of law).was_sent a d (carried.place a d i) l t n m ms p (carried.was a d i l t n m ms u)
-          (sym (view_same l (opposite t)).next ∙ e);
-      by_sender = λ a d i l t n m ms u. (view_same l (opposite t)).sent ∙ (items_of law).by_sender a d (carried.place a d i) l t n m ms
-          (carried.was a d i l t n m ms u);
-      sender_gone = λ a d i l t n m ms u e. ap is_some (length_same l (opposite t)) ∙ (items_of law).sender_gone a d
-          (carried.place a d i) l t
-          n m ms (carried.was a d i l t n m ms u) (sym (view_same l (opposite t)).gone ∙ e);
-      not_passed = λ a d i l t n m ms q u e. (items_of law).not_passed a d (carried.place a d i) l t n m ms q
-          (carried.was a d i l t n m ms u)
-          (sym (view_same l t).taking ∙ e);
-      behind = λ a d i l t n m ms u e. still.made a d i l t n m ms u
-          ((items_of law).behind a d (carried.place a d i) l t n m ms (carried.was a d i l t n m ms u) (sym (view_same l t).awaited ∙ e));
-      not_awaited_low = λ a d i f t n m ms j u none born. rw (taken_same j)
-          ((items_of law).not_awaited_low a d (carried.place a d i) f t n m ms j (carried.was a d i (Central f) t n m ms u) none born);
-      receiver_there = λ a d i l t n m ms u. (view_same l t).gone ∙ (items_of law).receiver_there a d (carried.place a d i) l t n m ms
-          (carried.was a d i l t n m ms u);
-    }
-
-    pub order-further : Order v h
-    order-further = record {
-      current = λ l t u q rec e f p. (order_of law).current l t u q (sym (recorded_same l) ∙ rec) (sym (view_same l (opposite t)).next ∙ e)
-          (sym (view_same l t).taking ∙ f) (ap (λ z. has_passed z u) (sym (length_same l (opposite t))) ∙ p);
-      stored = λ l t u q n m rec e f i p. (order_of law).stored l t u q n m (sym (recorded_same l) ∙ rec)
-          (sym (view_same l (opposite t)).next ∙ e) (sym (view_same l t).taking ∙ f) i
-          (ap (λ z. has_passed z n) (sym (length_same l (opposite t))) ∙ p);
-    }
-
-    was_proxy : (j : ℕ) (t : Router) → router_at v (h.bypass j).proxy ≡ Some t → Was (g.bypass j).proxy t
-    was_proxy j t e = was_router (g.bypass j).proxy t (ap (router_at v) (sym (agree.proxy j)) ∙ e)
-
-    cur : {p q : Queue Item} → p ≡ q → p.current ≡ q.current
-    cur e = ap (λ z. z.current) e
-
-    -- what the proxy's numbers owe where it is this bypass that has come to the stage
-    pub record ProxyOwes : Type 0 where
-      pub out_finished : (t : Router) → router_at w (g.bypass o).proxy ≡ Some t → t.outward.decaying ≡ None →
-          (g.bypass o).taken_at ≤ t.out_queue.current
-      pub in_finished : (t : Router) → router_at w (g.bypass o).proxy ≡ Some t → (inward_edge t).decaying ≡ None →
-          (g.bypass o).accepted_at ≤ t.in_queue.current
-      pub inner_there : s ≡ 4 → is_gone (view w g (inner_of g o) B) ≡ false
-
-    pub proxy_numbers-further : ProxyOwes → ProxyNumbers v h
-    proxy_numbers-further owes = record {
-      out_current = λ j t e l. let z : Was (g.bypass j).proxy t = was_proxy j t e in
-          omega (
-            arith,
-            (proxy_numbers_of law).out_current j z.router z.here_before (at_least j 2 (omega arith) l),
-            cur z.alike.out_queue,
-            taken_same j,
-          );
-      out_items = λ j t n m e l i. let z : Was (g.bypass j).proxy t = was_proxy j t e in
-          omega (
-            arith,
-            (proxy_numbers_of law).out_items j z.router n m z.here_before (at_least j 2 (omega arith) l)
-                (ap (λ q. item_at q n) (sym z.alike.out_queue) ∙ i),
-            taken_same j,
-          );
-      in_current = λ j t e l. let z : Was (g.bypass j).proxy t = was_proxy j t e in
-          omega (
-            arith,
-            (proxy_numbers_of law).in_current j z.router z.here_before (at_least j 3 (omega arith) l),
-            cur z.alike.in_queue,
-            accepted_same j,
-          );
-      in_items = λ j t n m e l i. let z : Was (g.bypass j).proxy t = was_proxy j t e in
-          omega (
-            arith,
-            (proxy_numbers_of law).in_items j z.router n m z.here_before (at_least j 3 (omega arith) l)
-                (ap (λ q. item_at q n) (sym z.alike.in_queue) ∙ i),
-            accepted_same j,
-          );
-      across_gone = λ j t e l n. let z : Was (g.bypass j).proxy t = was_proxy j t e in
-          let n' : is_gone (view v h (Central j) (across_side g j)) ≡ true = rw (across_side_same j) at n in
-          omega (
-            arith,
-            (proxy_numbers_of law).across_gone j z.router z.here_before (at_least j 3 (omega arith) l)
-                (sym (view_same (Central j) (across_side g j)).gone ∙ n'),
-            cur z.alike.out_queue,
-            taken_same j,
-          );
-      inner_gone = λ j t e l n. let z : Was (g.bypass j).proxy t = was_proxy j t e in let n' : is_gone (view v h (inner_of g j) B) ≡ true =
-          rw (agree.inner j) at n in
-          omega (
-            arith,
-            inner_gone_at j z.router z.here_before l (sym (view_same (inner_of g j) B).gone ∙ n') (at_o j),
-            cur z.alike.in_queue,
-            accepted_same j,
-          );
-      out_finished = λ j t e l n. let z : Was (g.bypass j).proxy t = was_proxy j t e in
-          omega (
-            arith,
-            out_finished_at j z.router z.here_before l (sym z.linked_alike.decaying ∙ n) (at_o j),
-            cur z.alike.out_queue,
-            taken_same j,
-          );
-      in_finished = λ j t e l n. let z : Was (g.bypass j).proxy t = was_proxy j t e in
-          omega (
-            arith,
-            in_finished_at j z.router z.here_before l (sym z.linked_alike.inward_decaying ∙ n) (at_o j),
-            cur z.alike.in_queue,
-            accepted_same j,
-          );
-    }
-      where
-        inner_gone_at : (j : ℕ) (t : Router) → router_at w (g.bypass j).proxy ≡ Some t → (h.bypass j).stage ≡ 5 →
-            is_gone (view w g (inner_of g j) B) ≡ true → ((nat_eq j o ≡ true) × (j ≡ o)) ⊎ ((nat_eq j o ≡ false) × (j ≢ o)) →
-            (g.bypass j).accepted_at ≤ t.in_queue.current
-        inner_gone_at j t e l n (inl m) = let n' : is_gone (view w g (inner_of g o) B) ≡ true = rw m.1 at n in
-            absurd (grind (arith, n', owes.inner_there (grind (arith, l, m.0))))
-        inner_gone_at j t e l n (inr m) = (proxy_numbers_of law).inner_gone j t e (grind (arith, l, m.0)) n
-
-        out_finished_at : (j : ℕ) (t : Router) → router_at w (g.bypass j).proxy ≡ Some t → 4 ≤ (h.bypass j).stage →
-            t.outward.decaying ≡ None → ((nat_eq j o ≡ true) × (j ≡ o)) ⊎ ((nat_eq j o ≡ false) × (j ≢ o)) →
-            (g.bypass j).taken_at ≤ t.out_queue.current
-        out_finished_at j t e l n (inl m) = rw m.1 (owes.out_finished t (rw m.1 at e) n)
-        out_finished_at j t e l n (inr m) = (proxy_numbers_of law).out_finished j t e (grind (arith, l, m.0)) n
-
-        in_finished_at : (j : ℕ) (t : Router) → router_at w (g.bypass j).proxy ≡ Some t → 4 ≤ (h.bypass j).stage →
-            (inward_edge t).decaying ≡ None → ((nat_eq j o ≡ true) × (j ≡ o)) ⊎ ((nat_eq j o ≡ false) × (j ≢ o)) →
-            (g.bypass j).accepted_at ≤ t.in_queue.current
-        in_finished_at j t e l n (inl m) = rw m.1 (owes.in_finished t (rw m.1 at e) n)
-        in_finished_at j t e l n (inr m) = (proxy_numbers_of law).in_finished j t e (grind (arith, l, m.0)) n
-
-    record Mapped (m : Option Router) (q : Queue Item) : Type 0 where
-      router : Router
-      there : m ≡ Some router
-      queue : router.out_queue ≡ q
-
-    mapped : (m : Option Router) (q : Queue Item) → option_map (λ u. u.out_queue) m ≡ Some q → Mapped m q
-    mapped None q e = absurd (none-some q e)
-    mapped (Some u) q e = record { router = u; there = refl; queue = same_Some _ _ e }
-
-    pub fresh_numbers-further : ((p d : LinkEnd) (len : ℕ) → x.outward.primary ≡ Some p → x.outward.decaying ≡ Some d →
-        x.outward.length_to ≡ Some len → len ≤ r.out_queue.current) → FreshNumbers v h
-    fresh_numbers-further own = record {
-      own = λ q t p d len e prim dec l. own_at q t p d len e prim dec l (same_key_tells q k);
-      comes = λ q t p d len a f i n m ms e prim dec l u. let z : Was q t = was_router q t e in
-          (fresh_numbers_of law).comes q z.router p d len a f (carried.place a f i) n m ms z.here_before (sym z.linked_alike.primary ∙ prim)
-          (sym z.linked_alike.decaying ∙ dec) (sym (length_same d.link (opposite d.side)) ∙ l) (carried.was a f i p.link p.side n m ms u);
-      other = λ q t t' p d len e prim dec l there. let z : Was q t = was_router q t e in
-          let found : Mapped (standing_router (view w g p.link (opposite p.side))) t'.out_queue =
-          mapped _ _ (sym (view_same p.link (opposite p.side)).out_queue ∙ ap (option_map (λ u. u.out_queue)) there) in
-          omega (
-            arith,
-            (fresh_numbers_of law).other q z.router found.router p d len z.here_before (sym z.linked_alike.primary ∙ prim)
-                (sym z.linked_alike.decaying ∙ dec) (sym (length_same d.link (opposite d.side)) ∙ l) found.there,
-            cur found.queue,
-          );
-    }
-      where
-        own_at : (q : Key) (t : Router) (p d : LinkEnd) (len : ℕ) → router_at v q ≡ Some t → t.outward.primary ≡ Some p →
-            t.outward.decaying ≡ Some d → t.outward.length_to ≡ Some len →
-            ((same_key q k ≡ true) × (q ≡ k)) ⊎ ((same_key q k ≡ false) × (q ≢ k)) → len ≤ t.out_queue.current
-        own_at q t p d len e prim dec l (inl m) = let same : x ≡ t = same_Some x t (sym (rw m.0 at (c.router q)) ∙ e) in
-            omega (
-              arith,
-              own p d len (ap (λ u. u.outward.primary) same ∙ prim) (ap (λ u. u.outward.decaying) same ∙ dec)
-                  (ap (λ u. u.outward.length_to) same ∙ l),
-              cur (ap (λ u. u.out_queue) (sym same) ∙ like.out_queue),
-            )
-        own_at q t p d len e prim dec l (inr m) = (fresh_numbers_of law).own q t p d len (sym (rw m.0 at (c.router q)) ∙ e) prim dec l
-
-    -- what the lengths owe that a router has for its decaying links
-    pub record LengthsOwe : Type 0 where
-      pub inward_to : (q : Key) (t : Router) (d : LinkEnd) (j : ℕ) → router_at v q ≡ Some t → (inward_edge t).decaying ≡ Some d →
-          g.begun q ≡ Some j → (inward_edge t).length_to ≡ known_from 4 (h.bypass j).stage (g.bypass j).accepted_at
-      pub inward_from : (q : Key) (t : Router) (d : LinkEnd) (j : ℕ) → router_at v q ≡ Some t → (inward_edge t).decaying ≡ Some d →
-          g.begun q ≡ Some j → (inward_edge t).length_from ≡ known_from 4 (h.bypass j).stage (g.bypass j).taken_at
-      pub inner_to : (q : Key) (t : Router) (d : LinkEnd) (p : Key) (j : ℕ) → router_at v q ≡ Some t → t.outward.decaying ≡ Some d →
-          d.link ≡ inner_link p → (g.peripheral p).by ≡ Some j → t.outward.length_to ≡ Some (g.bypass j).taken_at
-      pub inner_from : (q : Key) (t : Router) (d : LinkEnd) (p : Key) (j : ℕ) → router_at v q ≡ Some t → t.outward.decaying ≡ Some d →
-          d.link ≡ inner_link p → (g.peripheral p).by ≡ Some j → t.outward.length_from ≡ known_from 5 (h.bypass j).stage
-          (g.bypass j).accepted_at
-      pub own_to : (q : Key) (t : Router) (d : LinkEnd) (j : ℕ) → router_at v q ≡ Some t → t.outward.decaying ≡ Some d →
-          d.link ≡ Central j →
-          d.side ≡ proxy_side g j → t.outward.length_to ≡ known_from 4 (h.bypass j).stage (g.bypass j).taken_at
-      pub own_from : (q : Key) (t : Router) (d : LinkEnd) (j : ℕ) → router_at v q ≡ Some t → t.outward.decaying ≡ Some d →
-          d.link ≡ Central j → d.side ≡ proxy_side g j → t.outward.length_from ≡ known_from 4 (h.bypass j).stage (g.bypass j).accepted_at
-      pub across_to : (q : Key) (t : Router) (d : LinkEnd) (j : ℕ) → router_at v q ≡ Some t → t.outward.decaying ≡ Some d →
-          d.link ≡ Central j → d.side ≡ across_side g j → t.outward.length_to ≡ Some (g.bypass j).accepted_at
-      pub across_from : (q : Key) (t : Router) (d : LinkEnd) (j : ℕ) → router_at v q ≡ Some t → t.outward.decaying ≡ Some d →
-          d.link ≡ Central j → d.side ≡ across_side g j → t.outward.length_from ≡ Some (g.bypass j).taken_at
-
-    pub positions-further : LengthsOwe → Positions v h
-    positions-further owes = record {
-      inward_primary = λ q t d e p. let z : Was q t = was_router q t e in
-          bypass_of-agree g h agree d.link ∙ (positions_of law).inward_primary q z.router d z.here_before
-          (sym z.linked_alike.inward_primary ∙ p);
-      inward_decaying = λ q t d e p. let z : Was q t = was_router q t e in
-          bypass_of-agree g h agree d.link ∙ (positions_of law).inward_decaying q z.router d z.here_before
-          (sym z.linked_alike.inward_decaying ∙ p);
-      inward_to = λ q t d j e p n. owes.inward_to q t d j e p n ∙ ap (known_from 4 (h.bypass j).stage) (sym (accepted_same j));
-      inward_from = λ q t d j e p n. owes.inward_from q t d j e p n ∙ ap (known_from 4 (h.bypass j).stage) (sym (taken_same j));
-      primary_old = λ q t d j e p l n. let z : Was q t = was_router q t e in
-          grind (
-            arith,
-            at_o j,
-            at,
-            late,
-            (positions_of law).primary_old q z.router d j z.here_before (sym z.linked_alike.primary ∙ p) l
-                (sym (agree.is_begun j) ∙ n),
-          );
-      primary_across = λ q t d j e p l n. let z : Was q t = was_router q t e in
-          (positions_of law).primary_across q z.router d j z.here_before (sym z.linked_alike.primary ∙ p) l (sym (agree.is_begun j) ∙ n)
-          ∙ sym
-          (across_side_same j);
-      primary_inner = λ q t d p j e m l n. let z : Was q t = was_router q t e in
-          grind (
-            arith,
-            at_o j,
-            at,
-            late,
-            (positions_of law).primary_inner q z.router d p j z.here_before (sym z.linked_alike.primary ∙ m) l
-                n,
-          );
-      decaying = λ q t d e p. let z : Was q t = was_router q t e in
-          ap is_some (bypass_of-agree g h agree d.link) ∙ (positions_of law).decaying q z.router d z.here_before
-          (sym z.linked_alike.decaying ∙ p);
-      inner_stage = λ q t d p j e m l n. let z : Was q t = was_router q t e in
-          grind (
-            arith,
-            at_o j,
-            at,
-            late,
-            (positions_of law).inner_stage q z.router d p j z.here_before (sym z.linked_alike.decaying ∙ m) l
-                n,
-          );
-      inner_to = λ q t d p j e m l n. owes.inner_to q t d p j e m l n ∙ ap Some (sym (taken_same j));
-      inner_from = λ q t d p j e m l n. owes.inner_from q t d p j e m l n ∙ ap (known_from 5 (h.bypass j).stage) (sym (accepted_same j));
-      inner_fresh = λ q t d p j e m l n. let z : Was q t = was_router q t e in
-          ap link_in z.linked_alike.primary ∙ (positions_of law).inner_fresh q z.router d p j z.here_before
-          (sym z.linked_alike.decaying ∙ m)
-          l n ∙ ap (λ i. Some (Central i)) (sym (agree.fresh j));
-      own_proxy = λ q t d j e m l n. let z : Was q t = was_router q t e in
-          agree.proxy j ∙ (positions_of law).own_proxy q z.router d j z.here_before (sym z.linked_alike.decaying ∙ m) l
-          (n ∙ proxy_side_same j);
-      own_alone = λ q t d j e m l n. let z : Was q t = was_router q t e in
-          z.linked_alike.primary ∙ (positions_of law).own_alone q z.router d j z.here_before (sym z.linked_alike.decaying ∙ m) l
-          (n ∙ proxy_side_same j);
-      own_to = λ q t d j e m l n. owes.own_to q t d j e m l (n ∙ proxy_side_same j) ∙ ap (known_from 4 (h.bypass j).stage)
-          (sym (taken_same j));
-      own_from = λ q t d j e m l n. owes.own_from q t d j e m l (n ∙ proxy_side_same j) ∙ ap (known_from 4 (h.bypass j).stage)
-          (sym (accepted_same j));
-      across_stage = λ q t d j e m l n. let z : Was q t = was_router q t e in
-          grind (
-            arith,
-            at_o j,
-            at,
-            late,
-            (positions_of law).across_stage q z.router d j z.here_before (sym z.linked_alike.decaying ∙ m) l
-                (n ∙ across_side_same j),
-          );
-      across_to = λ q t d j e m l n. owes.across_to q t d j e m l (n ∙ across_side_same j) ∙ ap Some (sym (accepted_same j));
-      across_from = λ q t d j e m l n. owes.across_from q t d j e m l (n ∙ across_side_same j) ∙ ap Some (sym (taken_same j));
-      across_fresh = λ q t d j e m l n. let z : Was q t = was_router q t e in
-          ap link_in z.linked_alike.primary ∙ (positions_of law).across_fresh q z.router d j z.here_before
-          (sym z.linked_alike.decaying ∙ m) l
-          (n ∙ across_side_same j) ∙ ap (λ i. Some (Central i)) (sym (agree.fresh j));
-      begun = λ q t e n. let z : Was q t = was_router q t e in (positions_of law).begun q z.router z.here_before
-          (sym (begun_like z.router t z.alike z.linked_alike) ∙ n);
-      begun_proxy = λ q j n. agree.proxy j ∙ (positions_of law).begun_proxy q j n;
-      begun_stage = λ q j n. agree.is_begun j ∙ (positions_of law).begun_stage q j n;
-      proxy_begun = λ j n. ap g.begun (agree.proxy j) ∙ (positions_of law).proxy_begun j (sym (agree.is_begun j) ∙ n);
-    }
+  pub bypasses-further : BypassRecords v h
+  bypasses-further = record {
+    stage = λ j. grind (arith, stage_at j, (bypasses_of law).stage j, early);
+    old = λ j n. (bypasses_of law).old j (sym (agree.is_begun j) ∙ n);
+    inner = λ j n. ap (λ p. is_recorded v h (inner_link p)) (agree.inner j) ∙ recorded_same (inner_of g j) ∙ (bypasses_of law).inner j
+        (sym (agree.is_begun j) ∙ n);
+    inner_by = λ j n. ap (λ p. (g.peripheral p).by) (agree.inner j) ∙ (bypasses_of law).inner_by j (sym (agree.is_begun j) ∙ n);
+    pair = λ j n. ap (λ p. (g.peripheral p).end.pair) (agree.inner j) ∙ (bypasses_of law).pair j (sym (agree.is_begun j) ∙ n);
+    proxy_old = λ j n. router_same (Central j) (proxy_side h j) ∙ ap (side_router g (Central j)) (proxy_side_same j) ∙
+        (bypasses_of law).proxy_old j (sym (agree.is_begun j) ∙ n) ∙ ap Some (sym (agree.proxy j));
+    proxy_inner = λ j n. ap (λ p. side_router h (inner_link p) A) (agree.inner j) ∙ router_same (inner_of g j) A ∙
+        (bypasses_of law).proxy_inner j (sym (agree.is_begun j) ∙ n) ∙ ap Some (sym (agree.proxy j));
+    across = λ j n. ap is_some (router_same (Central j) (across_side h j) ∙ ap (side_router g (Central j)) (across_side_same j)) ∙
+        (bypasses_of law).across j (sym (agree.is_begun j) ∙ n);
+    fresh = λ j n. grind (arith, (bypasses_of law).fresh j (just j 1 (omega arith) n), at_o j, at, late);
+    fresh_linked = λ j n. ap g.owner (agree.fresh j) ∙ (bypasses_of law).fresh_linked j (at_least j 2 (omega arith) n);
+    fresh_born = λ j n. ap (λ i. (g.central i).born) (agree.fresh j) ∙ (bypasses_of law).fresh_born j (at_least j 2 (omega arith) n);
+    fresh_pair = λ j n. ap (λ i. (g.central i).pair) (agree.fresh j) ∙ (bypasses_of law).fresh_pair j (at_least j 2 (omega arith) n);
+    inner_known = λ j n. ap is_some (ap (λ p. side_router h (inner_link p) B) (agree.inner j) ∙ router_same (inner_of g j) B) ∙
+        (bypasses_of law).inner_known j (at_least j 2 (omega arith) n);
+    fresh_inner = λ j n. rw (agree.fresh j, proxy_side_same j, agree.inner j)
+        (router_same (fresh_of g j) (proxy_side g j) ∙ (bypasses_of law).fresh_inner j (at_least j 2 (omega arith) n) ∙ sym
+        (router_same (inner_of g j) B));
+    fresh_inner_node = λ j n. rw (agree.fresh j, proxy_side_same j, agree.inner j)
+        (node_same (fresh_of g j) (proxy_side g j) ∙ (bypasses_of law).fresh_inner_node j (at_least j 2 (omega arith) n) ∙ sym
+        (node_same (inner_of g j) B));
+    fresh_across_node = λ j n. rw (agree.fresh j, across_side_same j)
+        (node_same (fresh_of g j) (across_side g j) ∙ (bypasses_of law).fresh_across_node j (at_least j 2 (omega arith) n) ∙ sym
+        (node_same (Central j) (across_side g j)));
+    fresh_awaited = λ j n. rw (agree.fresh j, across_side_same j)
+        (router_same (fresh_of g j) (across_side g j) ∙ (bypasses_of law).fresh_awaited j (just j 2 (omega arith) n));
+    fresh_across = λ j n. rw (agree.fresh j, across_side_same j) (router_same (fresh_of g j) (across_side g j) ∙
+        (bypasses_of law).fresh_across j (at_least j 3 (omega arith) n) ∙ sym (router_same (Central j) (across_side g j)));
+    born_fresh = λ i j l n. agree.fresh j ∙ (bypasses_of law).born_fresh i j l n;
+    born_stage = λ i j l n. grind (arith, (bypasses_of law).born_stage i j l n, at_o j, at, late);
+  }

@@ -17,7 +17,7 @@ use Rattle.ipcz_world.specs.World.{World, Key, mail_at, way, router_at}
 use Rattle.ipcz_world.specs.Records.{Records, is_recorded, side_node, side_router, bypass_of, proxy_side, across_side}
 use Rattle.ipcz_world.specs.Structure.{Links, IsRecorded}
 use Rattle.ipcz_world.specs.Bypasses.{Told, of_bypass, control_weight, peer_of, stop_of, will_stop_of, inner_of}
-use Rattle.ipcz_world.proofs.hands.AcceptBypass.{in_hand-under_way}
+use Rattle.ipcz_world.proofs.hands.AcceptBypassAround.{in_hand-under_way}
 use Rattle.ipcz_world.proofs.facts.Lengths.{same_side-itself, same_side-tells, same_link-itself, same_link-tells, has_link-tells, HasEnd}
 use Rattle.ipcz_world.proofs.facts.Lengths.{either}
 use Rattle.ipcz_world.proofs.views.Telling.{both_hold, is_same, itself, never, one_holds}

@@ -39,7 +39,7 @@ use Rattle.ipcz_world.proofs.sends.Sending.{moves-item}
 use Rattle.ipcz_world.proofs.lawful.WordLaws.{has_at}
 use Rattle.ipcz_world.proofs.hands.Taking.{take_act, IsTake, inv-taken, closed-taken}
 use Rattle.ipcz_world.proofs.calls.Opening.{put_twice}
-use Rattle.ipcz_world.proofs.hands.Materializing.{made_key_records, IsMaterial}
+use Rattle.ipcz_world.proofs.hands.MaterializingAround.{made_key_records, IsMaterial}
 use Rattle.ipcz_world.proofs.hands.MaterializingNodes.{inv-make}
 use Rattle.ipcz_world.proofs.hands.MakingEnds.{handed_world, inv-makes}
 use Rattle.ipcz_world.proofs.hands.MadeNodes.{made_hand, made_boxes, made_router, made_with}

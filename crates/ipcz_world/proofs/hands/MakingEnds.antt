@@ -26,7 +26,7 @@ use Rattle.ipcz_world.proofs.frames.Changing.{flow_is, in_mail-hand}
 use Rattle.ipcz_world.proofs.frames.Opened.{OpenInv}
 use Rattle.ipcz_world.proofs.sends.Sending.{moves-item}
 use Rattle.ipcz_world.proofs.calls.Opening.{put_twice}
-use Rattle.ipcz_world.proofs.hands.Materializing.{made_key_records, IsMaterial}
+use Rattle.ipcz_world.proofs.hands.MaterializingAround.{made_key_records, IsMaterial}
 use Rattle.ipcz_world.proofs.hands.MaterializingNodes.{inv-make}
 
 -- the world where a node is as it is after some terminals were made, and what is left of the message is in hand

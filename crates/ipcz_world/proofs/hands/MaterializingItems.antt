@@ -1,6 +1,6 @@
 -- A descriptor becomes a terminal, and the message that carried it has it no more: what is said of items and numbers is kept.
-use Rattle.std.specs.Prelude.{◌≡◌, ◌⊎◌, ◌≤◌, ℕ, zero, suc, Bool, true, false, cond, ◌&&◌, nat_eq, Option, Some, None, is_some}
-use Rattle.std.specs.Prelude.{refl, List, [], ◌∷◌, slice_get}
+use Rattle.std.specs.Prelude.{◌≡◌, ◌⊎◌, ◌≤◌, ℕ, zero, suc, Bool, true, false, cond, ◌&&◌, nat_eq, Option, Some, None, is_some, refl, List}
+use Rattle.std.specs.Prelude.{[], ◌∷◌, slice_get}
 use Rattle.std.proofs.Common.{arith, ap, ◌∙◌, sym, inl, inr}
 use Rattle.std.proofs.lemmas.Bool.Decides.{nat_tests}
 use Rattle.ipcz_base.specs.declared.side.Side.{Side}
@@ -16,8 +16,7 @@ use Rattle.ipcz_base.specs.Sides.{opposite, same_side}
 use Rattle.ipcz_base.specs.Links.{same_link, has_link}
 use Rattle.ipcz_base.specs.Ends.{same_end}
 use Rattle.ipcz_seq.specs.Queue.{queue_from, reach}
-use Rattle.ipcz_router.specs.Router.{Router}
-use Rattle.ipcz_router.specs.Router.{from_descriptor}
+use Rattle.ipcz_router.specs.Router.{Router, from_descriptor}
 use Rattle.ipcz_world.specs.World.{World, Key, flow}
 use Rattle.ipcz_world.proofs.frames.Frames.{same_key-itself}
 use Rattle.ipcz_world.specs.Books.{Books}
@@ -33,19 +32,18 @@ use Rattle.ipcz_world.specs.Numbers.{Order, ProxyNumbers, has_passed}
 use Rattle.ipcz_world.proofs.views.Seen.{stands_at, view_by-known, view_by-unknown}
 use Rattle.ipcz_world.proofs.frames.Draining.{next_sent-standing, taking_queue-standing, view_rules}
 use Rattle.ipcz_world.proofs.flows.Fitting.{ItemFits}
-use Rattle.ipcz_world.proofs.flows.Flowing.{weighed}
-use Rattle.ipcz_world.proofs.flows.Flowing.{total_list-has}
+use Rattle.ipcz_world.proofs.flows.Flowing.{weighed, total_list-has}
 use Rattle.ipcz_world.proofs.frames.Opened.{OpenInv}
 use Rattle.ipcz_world.proofs.views.Known.{same_link-tells, same_side-tells}
 use Rattle.ipcz_world.proofs.weights.Weighing.{same_end-itself}
 use Rattle.ipcz_world.proofs.sends.SendingOut.{has_link-end}
 use Rattle.ipcz_world.proofs.flows.Awaited.{no_router, moving_known}
 use Rattle.ipcz_world.proofs.facts.Reaching.{is_reach, reach_one}
-use Rattle.ipcz_world.proofs.sends.Extending.{inner_end_is, same_end-tells}
+use Rattle.ipcz_world.proofs.sends.ExtendingAround.{inner_end_is, same_end-tells}
 use Rattle.ipcz_world.proofs.sends.ExtendingItems.{next_sent-waiting, taking_queue-waiting, awaited-central, blank_at}
-use Rattle.ipcz_world.proofs.hands.Materializing.{made_key_records, IsMade, IsMaterial, unmade, waits, end_is, node_same, same_some}
-use Rattle.ipcz_world.proofs.hands.Materializing.{end_same, bypass_same, side_same, recorded_same, router_new, router_same}
-use Rattle.ipcz_world.proofs.hands.Materializing.{side_new, proxy_was}
+use Rattle.ipcz_world.proofs.hands.MaterializingAround.{made_key_records, IsMade, IsMaterial, unmade, waits, end_is, node_same, same_some}
+use Rattle.ipcz_world.proofs.hands.MaterializingAround.{end_same, bypass_same, side_same, recorded_same, router_new, router_same, side_new}
+use Rattle.ipcz_world.proofs.hands.MaterializingStages.{proxy_was}
 use Rattle.ipcz_world.proofs.facts.Lengths.{same_link-itself}
 
 -- weighs the descriptors of the same numbers
@@ -129,7 +127,7 @@ unfolding length_by bypass_length
 length_by-made w v b g a q p d law is t link s None = refl
 length_by-made w v b g a q p d law is t (Central i) s (Some o) = ap
     (λ z. cond (same_side s z) (known_from 3 (g.bypass o).stage (g.bypass o).taken_at)
-    (known_from 3 (g.bypass o).stage (g.bypass o).accepted_at)) (side_same w v b g a q p d law is t o)
+    (known_from 3 (g.bypass o).stage (g.bypass o).accepted_at)) (side_same law is t o)
 length_by-made w v b g a q p d law is t (Peripheral n x) A (Some o) = refl
 length_by-made w v b g a q p d law is t (Peripheral n x) B (Some o) = refl
 
@@ -142,10 +140,10 @@ module _ (w v : World) (b : Books) (g : Records) (a : ℕ) (q p : Key) (d : Desc
   y = from_descriptor d a
 
   abbrev pub d0 : Descriptor
-  d0 = (moving_known (g.terminal d.end) (inner_link p) (waits w v b g a q p d law is t)).0
+  d0 = (moving_known (g.terminal d.end) (inner_link p) (waits law is t)).0
 
   pub moving : g.terminal d.end ≡ Moving d0
-  moving = (moving_known (g.terminal d.end) (inner_link p) (waits w v b g a q p d law is t)).1
+  moving = (moving_known (g.terminal d.end) (inner_link p) (waits law is t)).1
 
   -- the terminal waits for these very numbers
   pub numbers : (d0.next_out ≡ d.next_out) × (d0.next_in ≡ d.next_in)
@@ -171,7 +169,7 @@ module _ (w v : World) (b : Books) (g : Records) (a : ℕ) (q p : Key) (d : Desc
       go false c = grind (arith, c)
       go true c = let s : (g.peripheral k).end ≡ d.end = same_end-tells (g.peripheral k).end d.end c in
           let l : inner_link k ≡ inner_link p = same_some (sym (law.moves.moving k rec none) ∙ ap (λ e. moving_link (g.terminal e)) s ∙
-          waits w v b g a q p d law is t) in absurd (grind (arith, apart, l, same_link-itself (inner_link p)))
+          waits law is t) in absurd (grind (arith, apart, l, same_link-itself (inner_link p)))
 
   awaited_same : (link : LinkId) (s : Side) → is_recorded w g link ≡ true → side_router g link s ≡ None →
       (same_link link (inner_link p) && same_side s B) ≡ false →
@@ -184,7 +182,7 @@ module _ (w v : World) (b : Books) (g : Records) (a : ℕ) (q p : Key) (d : Desc
       let f = other_terminal k rec (no_router (g.peripheral k).node (g.peripheral k).router (sym (side_router-inner g k) ∙ none))
       (grind (arith, apart)) in
       ap (λ z. awaited_view (inner_link k) (terminal_descriptor z))
-      (ap h.terminal (end_same w v b g a q p d law is t (inner_link k) B ∙ inner_end_is g k B) ∙ f ∙ ap g.terminal
+      (ap h.terminal (end_same law is t (inner_link k) B ∙ inner_end_is g k B) ∙ f ∙ ap g.terminal
       (sym (inner_end_is g k B)))
 
   -- the side that waited for the terminal
@@ -195,12 +193,12 @@ module _ (w v : World) (b : Books) (g : Records) (a : ℕ) (q p : Key) (d : Desc
     pub new : view v h link s ≡ Standing y
 
   new_view : view v h (inner_link p) B ≡ Standing y
-  new_view = stands_at v h (inner_link p) B q y (router_new w v b g a q p d law is t) (t.router q ∙ grind (arith, same_key-itself q))
+  new_view = stands_at v h (inner_link p) B q y (router_new law is t) (t.router q ∙ grind (arith, same_key-itself q))
       (attached-B p d a is.link)
 
   old_view : view w g (inner_link p) B ≡ Waiting d0
-  old_view = ap (view_by w g (inner_link p) B) (unmade w v b g a q p d law is t) ∙ view_by-unknown w g (inner_link p) B ∙
-      ap (λ e. awaited_view (inner_link p) (terminal_descriptor (g.terminal e))) (inner_end_is g p B ∙ end_is w v b g a q p d law is t) ∙ ap
+  old_view = ap (view_by w g (inner_link p) B) (unmade law is t) ∙ view_by-unknown w g (inner_link p) B ∙
+      ap (λ e. awaited_view (inner_link p) (terminal_descriptor (g.terminal e))) (inner_end_is g p B ∙ end_is law is t) ∙ ap
       (λ z. awaited_view (inner_link p) (terminal_descriptor z)) moving ∙ awaited-moving p d0
 
   pub seen_made : (link : LinkId) (s : Side) → is_recorded w g link ≡ true → (view v h link s ≡ view w g link s) ⊎ IsArrived link s
@@ -208,10 +206,10 @@ module _ (w v : World) (b : Books) (g : Records) (a : ℕ) (q p : Key) (d : Desc
     where
       there : (o : Option Key) → side_router g link s ≡ o → (same_link link (inner_link p) && same_side s B) ≡ false →
           view v h link s ≡ view w g link s
-      there None e c = ap (view_by v h link s) (router_same w v b g a q p d law is t link s c ∙ e) ∙ view_by-unknown v h link s ∙
+      there None e c = ap (view_by v h link s) (router_same law is t link s c ∙ e) ∙ view_by-unknown v h link s ∙
           awaited_same link s rec e c ∙ sym (ap (view_by w g link s) e ∙ view_by-unknown w g link s)
-      there (Some x) e c = ap (view_by v h link s) (router_same w v b g a q p d law is t link s c ∙ e) ∙ view_by-known v h link s x ∙ ap
-          (router_view link s) (t.router x ∙ grind (arith, side_new w v b g a q p d law is t link s x rec e)) ∙ sym
+      there (Some x) e c = ap (view_by v h link s) (router_same law is t link s c ∙ e) ∙ view_by-known v h link s x ∙ ap
+          (router_view link s) (t.router x ∙ grind (arith, side_new law is t link s x rec e)) ∙ sym
           (ap (view_by w g link s) e ∙ view_by-known w g link s x)
 
       go : (c : Bool) → (same_link link (inner_link p) && same_side s B) ≡ c → (view v h link s ≡ view w g link s) ⊎ IsArrived link s
@@ -268,7 +266,7 @@ module _ (w v : World) (b : Books) (g : Records) (a : ℕ) (q p : Key) (d : Desc
   ]
 
   pub length_same : (link : LinkId) (s : Side) → side_length h link s ≡ side_length g link s
-  length_same link s = ap (length_by h link s) (bypass_same w v b g a q p d law is t link) ∙ by_option link s (bypass_of g link)
+  length_same link s = ap (length_by h link s) (bypass_same law is t link) ∙ by_option link s (bypass_of g link)
     where
       by_option : (link : LinkId) (s : Side) (o : Option ℕ) → length_by h link s o ≡ length_by g link s o
       by_option link s o = length_by-made w v b g a q p d law is t link s o
@@ -277,9 +275,9 @@ module _ (w v : World) (b : Books) (g : Records) (a : ℕ) (q p : Key) (d : Desc
       (is_awaited (view v h link s) ≡ true → is_made_before w from to i link s ≡ true → is_made_before v from to i link s ≡ true) →
       ItemFits v h from to i link s n
   fits-made from to i link s n fit made = record {
-    recorded = recorded_same w v b g a q p d law is t link ∙ fit.recorded;
-    sender = fit.sender ∙ sym (node_same w v b g a q p d law is t link (opposite s));
-    receiver = fit.receiver ∙ sym (node_same w v b g a q p d law is t link s);
+    recorded = recorded_same law is t link ∙ fit.recorded;
+    sender = fit.sender ∙ sym (node_same law is t link (opposite s));
+    receiver = fit.receiver ∙ sym (node_same law is t link s);
     below_length = λ len e. fit.below_length len (sym (length_same link (opposite s)) ∙ e);
     was_sent = λ u e. fit.was_sent u (sym (sent_same link (opposite s) fit.recorded) ∙ e);
     by_sender = may_still link (opposite s) fit.recorded fit.by_sender;
@@ -292,10 +290,10 @@ module _ (w v : World) (b : Books) (g : Records) (a : ℕ) (q p : Key) (d : Desc
 
   pub order-made : Order v h
   order-made = record {
-    current = λ link s u z rec sent taken short. let o = sym (recorded_same w v b g a q p d law is t link) ∙ rec in
+    current = λ link s u z rec sent taken short. let o = sym (recorded_same law is t link) ∙ rec in
         law.order.current link s u z o (sym (sent_same link (opposite s) o) ∙ sent) (sym (taken_same link s o) ∙ taken)
         (ap (λ x. has_passed x u) (sym (length_same link (opposite s))) ∙ short);
-    stored = λ link s u z m x rec sent taken at short. let o = sym (recorded_same w v b g a q p d law is t link) ∙ rec in
+    stored = λ link s u z m x rec sent taken at short. let o = sym (recorded_same law is t link) ∙ rec in
         law.order.stored link s u z m x o (sym (sent_same link (opposite s) o) ∙ sent) (sym (taken_same link s o) ∙ taken) at
         (ap (λ x. has_passed x m) (sym (length_same link (opposite s))) ∙ short);
   }
@@ -308,23 +306,23 @@ module _ (w v : World) (b : Books) (g : Records) (a : ℕ) (q p : Key) (d : Desc
 
   pub proxy_numbers-made : ProxyNumbers v h
   proxy_numbers-made = record {
-    out_current = λ o z at s. law.proxy_numbers.out_current o z (proxy_was w v b g a q p d law is t o z (begun_from o 2 (omega arith) s) at)
+    out_current = λ o z at s. law.proxy_numbers.out_current o z (proxy_was law is t o z (begun_from o 2 (omega arith) s) at)
         s;
     out_items = λ o z m x at s e. law.proxy_numbers.out_items o z m x
-        (proxy_was w v b g a q p d law is t o z (begun_from o 2 (omega arith) s) at) s e;
-    in_current = λ o z at s. law.proxy_numbers.in_current o z (proxy_was w v b g a q p d law is t o z (begun_from o 3 (omega arith) s) at)
+        (proxy_was law is t o z (begun_from o 2 (omega arith) s) at) s e;
+    in_current = λ o z at s. law.proxy_numbers.in_current o z (proxy_was law is t o z (begun_from o 3 (omega arith) s) at)
         s;
     in_items = λ o z m x at s e. law.proxy_numbers.in_items o z m x
-        (proxy_was w v b g a q p d law is t o z (begun_from o 3 (omega arith) s) at) s e;
+        (proxy_was law is t o z (begun_from o 3 (omega arith) s) at) s e;
     across_gone = λ o z at s e. law.proxy_numbers.across_gone o z
-        (proxy_was w v b g a q p d law is t o z (begun_from o 3 (omega arith) s) at) s
+        (proxy_was law is t o z (begun_from o 3 (omega arith) s) at) s
         (sym (gone_same (Central o) (across_side g o) (old_recorded o 3 (omega arith) s)) ∙
-        ap (λ k. is_gone (view v h (Central o) (opposite k))) (sym (side_same w v b g a q p d law is t o)) ∙ e);
+        ap (λ k. is_gone (view v h (Central o) (opposite k))) (sym (side_same law is t o)) ∙ e);
     inner_gone = λ o z at s e. let c = begun_from o 5 (omega arith) (omega (arith, s)) in
-        law.proxy_numbers.inner_gone o z (proxy_was w v b g a q p d law is t o z c at) s
+        law.proxy_numbers.inner_gone o z (proxy_was law is t o z c at) s
         (sym (gone_same (inner_of g o) B (law.bypasses.inner o c)) ∙ e);
     out_finished = λ o z at s e. law.proxy_numbers.out_finished o z
-        (proxy_was w v b g a q p d law is t o z (begun_from o 4 (omega arith) s) at) s e;
+        (proxy_was law is t o z (begun_from o 4 (omega arith) s) at) s e;
     in_finished = λ o z at s e. law.proxy_numbers.in_finished o z
-        (proxy_was w v b g a q p d law is t o z (begun_from o 4 (omega arith) s) at) s e;
+        (proxy_was law is t o z (begun_from o 4 (omega arith) s) at) s e;
   }

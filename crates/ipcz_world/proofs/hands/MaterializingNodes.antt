@@ -1,5 +1,5 @@
 -- The making of one terminal as an update of its node and of the mailbox in whose message its descriptor came.
-use Rattle.ipcz_world.specs.Places.{in_node as in_node'}
+use Rattle.ipcz_world.specs.Places.{in_node as in_node', Weight, in_router}
 use Rattle.std.specs.Prelude.{◌≡◌, ◌≢◌, ◌<◌, ◌+◌, ◌*◌, ℕ, Bool, true, false, cond, nat_eq, Option, Some, None, is_some, refl, List, [], ◌∷◌}
 use Rattle.std.specs.Prelude.{◌++◌}
 use Rattle.std.specs.Ordering.{nat_cmp}
@@ -14,7 +14,7 @@ use Rattle.ipcz_base.specs.declared.item.Item.{Item}
 use Rattle.ipcz_base.specs.declared.message.Message.{Message}
 use Rattle.ipcz_base.specs.declared.message.Message.TheVariants as messages
 use Rattle.ipcz_base.specs.Ends.{opposite_end}
-use Rattle.ipcz_base.specs.Totals.{total}
+use Rattle.ipcz_base.specs.Totals.{total, total_below, total_list}
 use Rattle.ipcz_base.proofs.Totals.{total-insert_new, total-empty}
 use Rattle.ipcz_router.specs.Router.{Router, from_descriptor}
 use Rattle.ipcz_node.specs.Node.{Node, outbox, add_router}
@@ -26,16 +26,14 @@ use Rattle.ipcz_world.proofs.frames.Frames.{size-set_mail, count-set_mail}
 use Rattle.ipcz_world.specs.Turns.{hand_message}
 use Rattle.ipcz_world.specs.Books.{Books}
 use Rattle.ipcz_world.specs.Records.{Records}
-use Rattle.ipcz_world.specs.Places.{Weight, in_router}
 use Rattle.ipcz_world.proofs.weights.OfRecords.{in_message, in_node}
-use Rattle.ipcz_base.specs.Totals.{total_below, total_list}
 use Rattle.ipcz_world.proofs.frames.Touching.{HasSameEnds, Hands}
 use Rattle.ipcz_world.proofs.frames.Changing.{IsNodeChanged, same_routers, flow_is, in_mail-hand, way_apart}
 use Rattle.ipcz_world.proofs.flows.Flowing.{IsRewritten}
 use Rattle.ipcz_world.proofs.weights.Weighing.{in_nodes-changed, in_router-is}
 use Rattle.ipcz_world.proofs.frames.Opened.{OpenInv}
-use Rattle.ipcz_world.proofs.hands.Materializing.{made_key_records, IsMade, IsMaterial}
-use Rattle.ipcz_world.proofs.hands.MaterializingPlaces.{inv-made}
+use Rattle.ipcz_world.proofs.hands.MaterializingAround.{made_key_records, IsMade, IsMaterial}
+use Rattle.ipcz_world.proofs.hands.Materializing.{inv-made}
 
 -- the world after the making of one terminal, with what is left of the message in hand
 abbrev pub make_act : World → ℕ → ℕ → Descriptor → Message → World

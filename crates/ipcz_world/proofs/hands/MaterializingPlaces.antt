@@ -1,7 +1,6 @@
--- A descriptor becomes a terminal, and the message that carried it has it no more: what is said of messages, bypasses and places is kept.
+-- A descriptor becomes a terminal, and the message that had it has it no more: the messages, and the place of each end.
 use Rattle.ipcz_world.proofs.weights.OfRecords.{holds}
-use Rattle.std.specs.Prelude.{◌≡◌, ◌≢◌, ◌⊎◌, ◌+◌, ℕ, suc, Bool, true, false, cond, ◌&&◌, Some, None, is_some}
-use Rattle.std.specs.Prelude.{refl, List, ◌∷◌, length, slice_get}
+use Rattle.std.specs.Prelude.{◌≡◌, ◌≢◌, ◌⊎◌, ◌+◌, ℕ, suc, Bool, true, false, ◌&&◌, Some, None, is_some, refl, List, ◌∷◌, slice_get}
 use Rattle.std.proofs.Common.{arith, ap, subst, ◌∙◌, sym, inl, inr}
 use Rattle.ipcz_base.specs.declared.side.Side.{Side}
 use Rattle.ipcz_base.specs.declared.side.Side.TheVariants.{A, B}
@@ -16,46 +15,33 @@ use Rattle.ipcz_base.specs.declared.message.Message.TheVariants as messages
 use Rattle.ipcz_base.specs.Sides.{opposite, same_side}
 use Rattle.ipcz_base.specs.Links.{same_link}
 use Rattle.ipcz_base.specs.Ends.{same_end, has_end}
-use Rattle.ipcz_seq.specs.Queue.{item_at, reach}
-use Rattle.ipcz_router.specs.Router.{Router}
-use Rattle.ipcz_router.specs.Router.{from_descriptor}
-use Rattle.ipcz_base.specs.Items.{ends_in}
-use Rattle.ipcz_world.specs.World.{World, Key, same_key, node_at, router_at}
-use Rattle.ipcz_world.specs.Books.{Books, read, is_closed}
-use Rattle.ipcz_world.specs.Records.{Records, At, Moving, is_recorded, inner_link, side_router, side_end}
-use Rattle.ipcz_world.specs.Records.{terminal_node}
+use Rattle.ipcz_seq.specs.Queue.{item_at}
+use Rattle.ipcz_router.specs.Router.{Router, from_descriptor}
+use Rattle.ipcz_world.specs.World.{World, Key, same_key, router_at}
+use Rattle.ipcz_world.specs.Books.{Books}
+use Rattle.ipcz_world.specs.Records.{Records, At, Moving, is_recorded, inner_link, side_router, side_end, terminal_node}
 use Rattle.ipcz_world.specs.Standing.{view}
 use Rattle.ipcz_world.specs.Flows.{IsUnderWay, is_made_before, under_way, of_end, moves_of}
-use Rattle.ipcz_world.specs.Places.{Weight, at_end, names_end}
-use Rattle.ipcz_world.proofs.weights.OfRecords.{in_message, in_node, in_places}
-use Rattle.ipcz_base.specs.Totals.{total_list, total_below}
+use Rattle.ipcz_base.specs.Totals.{total_list}
 use Rattle.ipcz_world.specs.Bypasses.{Told, of_bypass, inner_of, move_weight, moving_link}
-use Rattle.ipcz_world.specs.Whereabouts.{EndPlaces, BooksKept, Conserved, HeldOnce}
+use Rattle.ipcz_world.specs.Whereabouts.{EndPlaces, BooksKept}
 use Rattle.ipcz_world.specs.Numbers.{Items, FreshNumbers, IsItemUnderWay, standing_router}
-use Rattle.ipcz_world.proofs.frames.Touching.{HasSameEnds, Hands}
+use Rattle.ipcz_world.proofs.frames.Touching.{HasSameEnds}
 use Rattle.ipcz_world.proofs.flows.Fitting.{fits_of, items_by}
 use Rattle.ipcz_world.proofs.flows.Flowing.{IsRewritten, came_rewritten, made_still, under_way-rewritten, under_way-congr, weighed}
-use Rattle.ipcz_world.proofs.flows.Flowing.{total_below-same}
 use Rattle.ipcz_world.proofs.frames.Opened.{OpenInv, OpenMoves}
 use Rattle.ipcz_world.proofs.views.Known.{same_link-tells, same_side-tells, fresh_central}
-use Rattle.ipcz_world.proofs.weights.Weighing.{same_end-itself, in_places-is, in_message-item}
-use Rattle.ipcz_world.proofs.sends.Sending.{about-item, moves-item, times_same}
+use Rattle.ipcz_world.proofs.weights.Weighing.{same_end-itself}
+use Rattle.ipcz_world.proofs.sends.Sending.{about-item, moves-item}
 use Rattle.ipcz_world.proofs.flows.Awaited.{awaited_none}
-use Rattle.ipcz_world.proofs.sends.Extending.{inner_end_is, same_end-tells}
-use Rattle.ipcz_world.proofs.sends.ExtendingPlaces.{about-same, in_node-same, in_message-same}
-use Rattle.ipcz_world.proofs.sends.ExtendingPlaces.{same_end-turned, expected-alike}
-use Rattle.ipcz_world.proofs.hands.Materializing.{made_key_records, IsMade, IsMaterial, end_is, peripheral_same, node_same, no_central}
-use Rattle.ipcz_world.proofs.hands.Materializing.{end_same, source_same, bypass_same, side_same, recorded_same, router_new, router_same}
-use Rattle.ipcz_world.proofs.hands.Materializing.{was_there, nowhere_same, counts-made, ordered-made, shape-made}
-use Rattle.ipcz_world.proofs.hands.Materializing.{links-made, positions-made, stands-made, words-made, spares-made, bypasses-made}
-use Rattle.ipcz_world.proofs.hands.Materializing.{stages-made, terminals-made}
+use Rattle.ipcz_world.proofs.sends.ExtendingAround.{inner_end_is, same_end-tells}
+use Rattle.ipcz_world.proofs.sends.ExtendingFacts.{about-same, same_end-turned, expected-alike}
+use Rattle.ipcz_world.proofs.hands.MaterializingAround.{made_key_records, IsMade, IsMaterial, end_is, peripheral_same, node_same}
+use Rattle.ipcz_world.proofs.hands.MaterializingAround.{no_central, end_same, bypass_same, side_same, recorded_same, router_new}
+use Rattle.ipcz_world.proofs.hands.MaterializingAround.{router_same, was_there}
 use Rattle.ipcz_world.proofs.hands.MaterializingItems.{expected_move-moving, expected_move-at, total_list-at, none_of_end, no_weight}
-use Rattle.ipcz_world.proofs.hands.MaterializingItems.{makes-less, reach-blank, d0, moving}
-use Rattle.ipcz_world.proofs.sends.ExtendingItems.{same_link-turned}
-use Rattle.ipcz_world.proofs.sends.ExtendingItems.{same_item}
-use Rattle.ipcz_world.proofs.sends.ExtendingItems.{blank_at}
-use Rattle.ipcz_world.proofs.hands.MaterializingItems.{other_terminal, seen_made, length_same, fits-made, order-made}
-use Rattle.ipcz_world.proofs.hands.MaterializingItems.{proxy_numbers-made}
+use Rattle.ipcz_world.proofs.hands.MaterializingItems.{makes-less, d0, moving, other_terminal, seen_made, length_same, fits-made}
+use Rattle.ipcz_world.proofs.sends.ExtendingItems.{same_link-turned, same_item, blank_at}
 
 none_some : {X : Type 0} {x : X} → None ≡ Some x → ⊥
 none_some e = cc
@@ -69,9 +55,9 @@ unfolding same_key
 same_key-link k p c = c
 
 -- with the message that had the descriptor
-module _ (w v : World) (b : Books) (g : Records) (a : ℕ) (q p : Key) (d : Descriptor) (law : OpenInv w b g) (is : IsMaterial w g a q p d)
-    (t : IsMade w v q (from_descriptor d a)) (l : LinkId) (s : Side) (n : ℕ) (item : Item) (moves : List Descriptor)
-    (pre post : List Message)
+module _ {w v : World} {b : Books} {g : Records} {a : ℕ} {q p : Key} {d : Descriptor} (law : OpenInv w b g) (is : IsMaterial w g a q p d)
+    (t : IsMade w v q (from_descriptor d a)) {l : LinkId} {s : Side} {n : ℕ} {item : Item} {moves : List Descriptor}
+    {pre post : List Message}
     (r : IsRewritten w v a q.node pre post (messages.Item l s n item (d ∷ moves)) (messages.Item l s n item moves)) (away : a ≢ q.node)
     (ends : HasSameEnds w v) where
   abbrev h2 : Records
@@ -83,7 +69,7 @@ module _ (w v : World) (b : Books) (g : Records) (a : ℕ) (q p : Key) (d : Desc
   abbrev m1 : Message
   m1 = messages.Item l s n item moves
 
-  came : (from to i : ℕ) (x : Message) → IsUnderWay v from to i x →
+  pub came : (from to i : ℕ) (x : Message) → IsUnderWay v from to i x →
       (IsUnderWay w from to i x) ⊎ ((x ≡ m1) × (from ≡ a) × (to ≡ q.node) × IsUnderWay w from to i m0)
   came = came_rewritten w v a q.node pre post m0 m1 r
 
@@ -95,7 +81,7 @@ module _ (w v : World) (b : Books) (g : Records) (a : ℕ) (q p : Key) (d : Desc
       go false c = c
       go true c = let x : link ≡ inner_link p = same_link-tells link (inner_link p) (grind (arith, c)) in let y : u ≡ B =
           same_side-tells u B (grind (arith, c)) in
-          absurd (none_some (sym none ∙ ap (λ l. side_router h2 l u) x ∙ ap (side_router h2 (inner_link p)) y ∙ router_new w v b g a q p d
+          absurd (none_some (sym none ∙ ap (λ l. side_router h2 l u) x ∙ ap (side_router h2 (inner_link p)) y ∙ router_new
           law is t))
 
   still : (from to i : ℕ) (x : Message) → IsUnderWay v from to i x → (link : LinkId) (u : Side) → side_router h2 link u ≡ None →
@@ -127,7 +113,7 @@ module _ (w v : World) (b : Books) (g : Records) (a : ℕ) (q p : Key) (d : Desc
     control = λ o f. let u = under_way-rewritten (λ from to. of_bypass h2 o (f from to)) w v a q.node pre post m0 m1 r in
         let same : under_way (λ from to. of_bypass h2 o (f from to)) w ≡ under_way (λ from to. of_bypass g o (f from to)) w =
         under_way-congr (λ from to. of_bypass h2 o (f from to)) (λ from to. of_bypass g o (f from to)) w
-        (λ from to i m c. about-same g h2 o (f from to) m (bypass_same w v b g a q p d law is t)) in
+        (λ from to i m c. about-same g h2 o (f from to) m (bypass_same law is t)) in
         omega (
           arith,
           u,
@@ -135,21 +121,21 @@ module _ (w v : World) (b : Books) (g : Records) (a : ℕ) (q p : Key) (d : Desc
           law.told.control o f,
           about-item h2 o (f a q.node) l s n item (d ∷ moves),
           about-item h2 o (f a q.node) l s n item moves,
-          expected-alike g h2 f o refl (node_same w v b g a q p d law is t (inner_of g o) B) (side_same w v b g a q p d law is t o)
-              (λ z. node_same w v b g a q p d law is t (Central o) z),
+          expected-alike g h2 f o refl (node_same law is t (inner_of g o) B) (side_same law is t o)
+              (λ z. node_same law is t (Central o) z),
         );
-    will_stop = λ from to i x u m c. ap is_some (bypass_same w v b g a q p d law is t x) ∙ law.told.will_stop from to i x u m
+    will_stop = λ from to i x u m c. ap is_some (bypass_same law is t x) ∙ law.told.will_stop from to i x u m
         (plain_came from to i (messages.ProxyWillStop x u m) c (λ e. grind (arith, e)));
     behind = λ from to i x u old target fresh c e. let o = plain_came from to i (messages.BypassPeer x u old target fresh) c
         (λ e. grind (arith, e)) in
         still from to i (messages.BypassPeer x u old target fresh) c x u e
-        (law.told.behind from to i x u old target fresh o (sym (router_same w v b g a q p d law is t x u (still_waits x u e)) ∙ e));
+        (law.told.behind from to i x u old target fresh o (sym (router_same law is t x u (still_waits x u e)) ∙ e));
     flush_central = λ from to i x u c. law.told.flush_central from to i x u (flush from to i x u c);
-    flush_recorded = λ from to i x u c. recorded_same w v b g a q p d law is t x ∙ law.told.flush_recorded from to i x u
+    flush_recorded = λ from to i x u c. recorded_same law is t x ∙ law.told.flush_recorded from to i x u
         (flush from to i x u c);
-    flush_to = λ from to i x u c. law.told.flush_to from to i x u (flush from to i x u c) ∙ sym (node_same w v b g a q p d law is t x u);
+    flush_to = λ from to i x u c. law.told.flush_to from to i x u (flush from to i x u c) ∙ sym (node_same law is t x u);
     flush_from = λ from to i x u c. law.told.flush_from from to i x u (flush from to i x u c) ∙ sym
-        (node_same w v b g a q p d law is t x (opposite u));
+        (node_same law is t x (opposite u));
   }
     where
       flush : (from to i : ℕ) (x : LinkId) (u : Side) → IsUnderWay v from to i (messages.Flush x u) →
@@ -157,7 +143,7 @@ module _ (w v : World) (b : Books) (g : Records) (a : ℕ) (q p : Key) (d : Desc
       flush from to i x u c = plain_came from to i (messages.Flush x u) c (λ e. grind (arith, e))
 
   -- a descriptor under way was so before
-  descriptor_came : (from to i j : ℕ) (x : Message) (c : Descriptor) → IsUnderWay v from to i x → slice_get (moves_of x) j ≡ Some c →
+  pub descriptor_came : (from to i j : ℕ) (x : Message) (c : Descriptor) → IsUnderWay v from to i x → slice_get (moves_of x) j ≡ Some c →
       (z : Message) × IsUnderWay w from to i z × ((k : ℕ) × (slice_get (moves_of z) k ≡ Some c))
   descriptor_came from to i j x c u f = elim (came from to i x u) [
     | inl o ↦ (x, o, (j, f))
@@ -217,19 +203,19 @@ module _ (w v : World) (b : Books) (g : Records) (a : ℕ) (q p : Key) (d : Desc
       | inr o ↦ absurd (away (sym o.1 ∙ o.2))
     ];
     recorded = λ from to i j m c u e. let o = descriptor_came from to i j m c u e in
-        recorded_same w v b g a q p d law is t c.link ∙ law.moves.recorded from to i o.2.0 o.0 c o.1 o.2.1;
+        recorded_same law is t c.link ∙ law.moves.recorded from to i o.2.0 o.0 c o.1 o.2.1;
     peripheral = λ from to i j m c u e. let o = descriptor_came from to i j m c u e in law.moves.peripheral from to i o.2.0 o.0 c o.1 o.2.1;
     sender = λ from to i j m c u e. let o = descriptor_came from to i j m c u e in
-        node_same w v b g a q p d law is t c.link A ∙ law.moves.sender from to i o.2.0 o.0 c o.1 o.2.1;
+        node_same law is t c.link A ∙ law.moves.sender from to i o.2.0 o.0 c o.1 o.2.1;
     receiver = λ from to i j m c u e. let o = descriptor_came from to i j m c u e in
-        node_same w v b g a q p d law is t c.link B ∙ law.moves.receiver from to i o.2.0 o.0 c o.1 o.2.1;
+        node_same law is t c.link B ∙ law.moves.receiver from to i o.2.0 o.0 c o.1 o.2.1;
     awaited = λ from to i j m c u e. let o = descriptor_came from to i j m c u e in
-        router_same w v b g a q p d law is t c.link B (other_link c (gone_end from to i j m c u e)
+        router_same law is t c.link B (other_link c (gone_end from to i j m c u e)
         (law.moves.end from to i o.2.0 o.0 c o.1 o.2.1)) ∙ law.moves.awaited from to i o.2.0 o.0 c o.1 o.2.1;
     end = λ from to i j m c u e. let o = descriptor_came from to i j m c u e in
-        end_same w v b g a q p d law is t c.link B ∙ law.moves.end from to i o.2.0 o.0 c o.1 o.2.1;
+        end_same law is t c.link B ∙ law.moves.end from to i o.2.0 o.0 c o.1 o.2.1;
     one = λ e f. weigh e f (same_end e d.end) refl;
-    moving = λ k rec none. waiting k (sym (recorded_same w v b g a q p d law is t (inner_link k)) ∙ rec) none (same_key k p) refl;
+    moving = λ k rec none. waiting k (sym (recorded_same law is t (inner_link k)) ∙ rec) none (same_key k p) refl;
   }
     where
       other_link : (c : Descriptor) → same_end c.end d.end ≡ false → side_end g c.link B ≡ c.end →
@@ -239,7 +225,7 @@ module _ (w v : World) (b : Books) (g : Records) (a : ℕ) (q p : Key) (d : Desc
           go : (e : Bool) → same_link c.link (inner_link p) ≡ e → (same_link c.link (inner_link p) && same_side B B) ≡ false
           go false e = grind (arith, e)
           go true e = let x : c.end ≡ d.end = sym end ∙ ap (λ l. side_end g l B) (same_link-tells c.link (inner_link p) e) ∙ inner_end_is g
-              p B ∙ end_is w v b g a q p d law is t in absurd (grind (arith, apart, x, same_end-itself d.end))
+              p B ∙ end_is law is t in absurd (grind (arith, apart, x, same_end-itself d.end))
 
       none_left : (f : Descriptor → ℕ) → under_way (λ from to m. total_list (of_end d.end f) (moves_of m)) v ≡ 0
       none_left f = under_way-congr (λ from to m. total_list (of_end d.end f) (moves_of m)) (λ from to m. 0) v
@@ -267,7 +253,7 @@ module _ (w v : World) (b : Books) (g : Records) (a : ℕ) (q p : Key) (d : Desc
           made_router c = grind (arith, c)
       waiting k rec none false c =
           let old : (g.peripheral k).router ≡ None = grind (arith, c, none) in
-          ap (λ e. moving_link (h2.terminal e)) (peripheral_same w v b g a q p d law is t (λ z. z.end) (λ z o. refl) k) ∙ ap moving_link
+          ap (λ e. moving_link (h2.terminal e)) (peripheral_same law is t (λ z. z.end) (λ z o. refl) k) ∙ ap moving_link
           (other_terminal w v b g a q p d law is t k rec old (apart_link k c)) ∙ law.moves.moving k rec old
         where
           apart_link : (k : Key) → same_key k p ≡ false → same_link (inner_link k) (inner_link p) ≡ false
@@ -284,7 +270,7 @@ module _ (w v : World) (b : Books) (g : Records) (a : ℕ) (q p : Key) (d : Desc
   }
     where
       old : (x : Key) (z : Router) (f : LinkEnd) → router_at v x ≡ Some z → z.outward.decaying ≡ Some f → router_at w x ≡ Some z
-      old x z f at off = elim (was_there w v b g a q p d law is t x z at) [ inl o ↦ o.0 | inr o ↦ absurd (grind (arith, o.0, off)) ]
+      old x z f at off = elim (was_there law is t x z at) [ inl o ↦ o.0 | inr o ↦ absurd (grind (arith, o.0, off)) ]
 
       standing_came : (x : Key) (z c : Router) (e f : LinkEnd) → router_at w x ≡ Some z → z.outward.primary ≡ Some e →
           z.outward.decaying ≡ Some f → standing_router (view v h2 e.link (opposite e.side)) ≡ Some c →
@@ -307,12 +293,12 @@ module _ (w v : World) (b : Books) (g : Records) (a : ℕ) (q p : Key) (d : Desc
   end_places-made = record {
     held = λ m e has. term_kept e m (law.end_places.held m e (subst (λ c. holds e c ≡ true) (ends.held m) has));
     pending = λ m e has. term_kept e m (law.end_places.pending m e (subst (λ c. has_end e c ≡ true) (ends.pending m) has));
-    out = λ x z m i e at f has. elim (was_there w v b g a q p d law is t x z at) [
+    out = λ x z m i e at f has. elim (was_there law is t x z at) [
       | inl o ↦ term_kept e x.node (law.end_places.out x z m i e o.0 f has)
       | inr o ↦ absurd
           (none_some (sym (blank_at d.next_out m) ∙ ap (λ z. item_at z.out_queue m) (sym o.0) ∙ f))
     ];
-    inn = λ x z m i e at f has. elim (was_there w v b g a q p d law is t x z at) [
+    inn = λ x z m i e at f has. elim (was_there law is t x z at) [
       | inl o ↦ term_kept e x.node (law.end_places.inn x z m i e o.0 f has)
       | inr o ↦ absurd
           (none_some (sym (blank_at d.next_in m) ∙ ap (λ z. item_at z.in_queue m) (sym o.0) ∙ f))
@@ -326,110 +312,6 @@ module _ (w v : World) (b : Books) (g : Records) (a : ℕ) (q p : Key) (d : Desc
     own_pair = law.books_kept.own_pair;
     mark_last = law.books_kept.mark_last;
     numbers = law.books_kept.numbers;
-    mark_seen = λ x z at e. elim (was_there w v b g a q p d law is t x z at)
+    mark_seen = λ x z at e. elim (was_there law is t x z at)
         [ inl o ↦ law.books_kept.mark_seen x z o.0 e | inr o ↦ absurd (grind (arith, o.0, e)) ];
   }
-
-  module _ (nodes : (f : Weight) → total_below v.count (λ j. in_node f h2 (node_at v j)) ≡ total_below w.count
-      (λ j. in_node f h2 (node_at w j))) where
-    places : (f : Weight) → in_places f h2 v ≡ in_places f g w
-    places f =
-        let msgs = under_way-rewritten (λ from to m. in_message f h2 m) w v a q.node pre post m0 m1 r in
-        let same : under_way (λ from to m. in_message f h2 m) w ≡ under_way (λ from to m. in_message f g m) w =
-        under_way-congr (λ from to m. in_message f h2 m) (λ from to m. in_message f g m) w
-        (λ from to i m u. in_message-same f g h2 m (λ x c j z ds e. source_same w v b g a q p d law is t x c)) in
-        let stood_still : total_below w.count (λ j. in_node f h2 (node_at w j)) ≡ total_below w.count (λ j. in_node f g (node_at w j)) =
-        total_below-same w.count (λ j. in_node f h2 (node_at w j)) (λ j. in_node f g (node_at w j))
-        (λ j less. in_node-same f g h2 (node_at w j) (law.no_strays j)) in
-        omega (
-          arith,
-          in_places-is f h2 v,
-          in_places-is f g w,
-          msgs,
-          same,
-          stood_still,
-          nodes f,
-          in_message-item f h2 l s n item (d ∷ moves),
-          in_message-item f h2 l s n item moves,
-        )
-
-    pub conserved-made : Conserved v b h2
-    conserved-made = record {
-      exact = λ e f. places (at_end e f) ∙ law.conserved.exact e f;
-      read_put = law.conserved.read_put;
-      prefix = law.conserved.prefix;
-      gone_closed = law.conserved.gone_closed;
-      reach = λ x z at e. elim (was_there w v b g a q p d law is t x z at) [
-        | inl o ↦ law.conserved.reach x z o.0 e
-        | inr o ↦ subst (λ z. reach z.out_queue ≡ length (b.put z.end)) (sym o.0)
-            (reach-blank d.next_out ∙ law.conserved.move_out a q.node is.index is.place is.message d is.under_way is.descriptor)
-      ];
-      current = λ x z at e. elim (was_there w v b g a q p d law is t x z at) [
-        | inl o ↦ law.conserved.current x z o.0 e
-        | inr o ↦ subst (λ z. z.in_queue.current ≡ read b z.end) (sym o.0)
-            (law.conserved.move_in a q.node is.index is.place is.message d is.under_way is.descriptor)
-      ];
-      sink = λ x z at e. elim (was_there w v b g a q p d law is t x z at) [
-        | inl o ↦ law.conserved.sink x z o.0 e
-        | inr o ↦ subst (λ z. z.closed ≡ is_closed b z.end) (sym o.0)
-            (sym (law.conserved.move_open a q.node is.index is.place is.message d is.under_way is.descriptor))
-      ];
-      move_out = λ from to i j m c u e. let o = descriptor_came from to i j m c u e in
-          law.conserved.move_out from to i o.2.0 o.0 c o.1 o.2.1;
-      move_in = λ from to i j m c u e. let o = descriptor_came from to i j m c u e in law.conserved.move_in from to i o.2.0 o.0 c o.1 o.2.1;
-      move_open = λ from to i j m c u e. let o = descriptor_came from to i j m c u e in
-          law.conserved.move_open from to i o.2.0 o.0 c o.1 o.2.1;
-      unopened_put = λ e f. law.conserved.unopened_put e (sym (nowhere_same w v b g a q p d law is t e) ∙ f);
-      unopened_got = λ e f. law.conserved.unopened_got e (sym (nowhere_same w v b g a q p d law is t e) ∙ f);
-    }
-
-    pub held_once-made : HeldOnce v b h2
-    held_once-made = record {
-      once = λ e. omega (
-        arith,
-        places (names_end e),
-        times_same w v ends e,
-        law.held_once.once e,
-        ap {B = ℕ} (λ c. cond c 0 1) (nowhere_same w v b g a q p d law is t e),
-      );
-      moves_in_parcel = λ from to i x u m z ds j c o e. in_parcel from to i x u m z ds j c o e
-          (came from to i (messages.Item x u m z ds) o);
-    }
-      where
-        in_parcel : (from to i : ℕ) (x : LinkId) (u : Side) (m : ℕ) (z : Item) (ds : List Descriptor) (j : ℕ) (c : Descriptor) →
-            IsUnderWay v from to i (messages.Item x u m z ds) → slice_get ds j ≡ Some c →
-            ((IsUnderWay w from to i (messages.Item x u m z ds)) ⊎
-            ((messages.Item x u m z ds ≡ m1) × (from ≡ a) × (to ≡ q.node) × IsUnderWay w from to i m0)) →
-            has_end c.end (ends_in z) ≡ true
-        in_parcel from to i x u m z ds j c o e (inl f) = law.held_once.moves_in_parcel from to i x u m z ds j c f e
-        in_parcel from to i x u m z ds j c o e (inr f) =
-            let item_is : z ≡ item = grind (arith, f.0) in let list_is : ds ≡ moves = grind (arith, f.0) in
-            ap (λ i. has_end c.end (ends_in i)) item_is ∙ law.held_once.moves_in_parcel from to i l s n item (d ∷ moves) (suc j) c f.3
-            (ap (λ ms. slice_get ms j) (sym list_is) ∙ e)
-
-    -- all together
-    pub inv-made : Hands v → OpenInv v b h2
-    inv-made hands = record {
-      counts = counts-made w v b g a q p d law is t hands;
-      ordered = ordered-made w v b g a q p d law is t;
-      shape = shape-made w v b g a q p d law is t;
-      links = links-made w v b g a q p d law is t;
-      positions = positions-made w v b g a q p d law is t;
-      stands = stands-made w v b g a q p d law is t;
-      words = words-made w v b g a q p d law is t;
-      spares = spares-made w v b g a q p d law is t;
-      bypasses = bypasses-made w v b g a q p d law is t;
-      stages = stages-made w v b g a q p d law is t;
-      told = told-made;
-      moves = moves-made;
-      terminals = terminals-made w v b g a q p d law is t;
-      end_places = end_places-made;
-      books_kept = books_kept-made;
-      items = items-made;
-      order = order-made w v b g a q p d law is t;
-      proxy_numbers = proxy_numbers-made w v b g a q p d law is t;
-      fresh_numbers = fresh_numbers-made;
-      conserved = conserved-made;
-      held_once = held_once-made;
-      no_strays = λ j. t.strays j ∙ law.no_strays j;
-    }

@@ -1,5 +1,5 @@
 -- The router inward learns its length: the last message of a bypass.
-use Rattle.ipcz_world.specs.Places.{in_message as in_message'}
+use Rattle.ipcz_world.specs.Places.{in_message as in_message', Weight, in_router}
 use Rattle.std.specs.Prelude.{◌≡◌, ◌≢◌, ◌⊎◌, ◌<◌, ◌≤◌, ℕ, ◌+◌, true, false, nat_eq, is_some, Some, refl}
 use Rattle.std.proofs.Common.{arith, ap, ◌∙◌, sym, inl, inr}
 use Rattle.std.proofs.lemmas.Bool.Decides.{nat_tests}
@@ -25,7 +25,6 @@ use Rattle.ipcz_world.specs.Records.{Records, is_begun, inner_link, side_router,
 use Rattle.ipcz_world.specs.Remembering.{ended_records}
 use Rattle.ipcz_world.specs.Standing.{Standing, is_gone, view, has_decaying}
 use Rattle.ipcz_world.specs.Flows.{IsUnderWay, makes, is_made_before, under_way, moves_of, of_end}
-use Rattle.ipcz_world.specs.Places.{Weight, in_router}
 use Rattle.ipcz_world.proofs.weights.OfRecords.{in_places}
 use Rattle.ipcz_base.specs.Totals.{total_list}
 use Rattle.ipcz_world.specs.Structure.{is_outward}
@@ -45,7 +44,8 @@ use Rattle.ipcz_world.proofs.facts.Lengths.{same_side-tells, HasEnd, has_link-te
 use Rattle.ipcz_world.proofs.facts.Lengths.{known_from-yes}
 use Rattle.ipcz_world.proofs.hands.BypassAsked.{IsEnded, ended, asked_router}
 use Rattle.ipcz_world.proofs.frames.StageFurther as further
-use Rattle.ipcz_world.proofs.frames.StageFurther.{IsLinkedLike, StillMade}
+use Rattle.ipcz_world.proofs.frames.StageFurtherNumbers as numbers
+use Rattle.ipcz_world.proofs.frames.StageFurther.{IsLinkedLike}
 use Rattle.ipcz_world.proofs.frames.Sealing.{Sealed, Closed, opened, counts_of, links_of, positions_of, stands_of, bypasses_of, stages_of}
 use Rattle.ipcz_world.proofs.frames.Sealing.{told_of, proxy_numbers_of, fresh_numbers_of, ordered_of, spares_of, moves_of as moves_law}
 use Rattle.ipcz_world.proofs.frames.Sealing.{terminals_of, end_places_of, books_kept_of, conserved_of, held_once_of, no_strays_of}
@@ -138,10 +138,10 @@ module _ (w : World) (b : Books) (g : Records) (from : ℕ) (k : Key) (r : Route
   early = omega arith
 
   abbrev h : Records
-  h = further.h w v b g k r x o 4 law changed like linked carried is.stage late early
+  h = further.h law changed like linked carried is.stage late early
 
   agree : Agree g h
-  agree = further.agree w v b g k r x o 4 law changed like linked carried is.stage late early
+  agree = further.agree law changed like linked carried is.stage late early
 
   itself : (n : ℕ) → nat_eq n n ≡ true
   itself n = grind (arith, nat_tests)
@@ -179,10 +179,10 @@ module _ (w : World) (b : Books) (g : Records) (from : ℕ) (k : Key) (r : Route
       let known' : side_router g (inner_of g o) B ≡ Some q = rw (l, s) at (((links_of law).decaying q t d at m).router) in
       let same : q ≡ k = same_Some q k (sym known' ∙ known) in grind (arith, apart, same, same_key-itself k)
 
-  owes : further.LengthsOwe w v b g k r x o 4 law changed like linked carried is.stage late early
+  owes : numbers.LengthsOwe law changed like linked carried is.stage late early
   owes = record {
-    inward_to = λ q t d j e p n. let z : further.Was w v b g k r x o 4 law changed like linked carried is.stage late early q t =
-        further.was_router w v b g k r x o 4 law changed like linked carried is.stage late early q t e in
+    inward_to = λ q t d j e p n. let z : further.Was law changed like linked carried is.stage late early q t =
+        further.was_router law changed like linked carried is.stage late early q t e in
         inward_to_at q t d j p n (split q t e) ∙ sym (known4 j (g.bypass j).accepted_at);
     inward_from = λ q t d j e p n. inward_from_at q t d j p n (split q t e) ∙ sym (known4 j (g.bypass j).taken_at);
     inner_to = λ q t d p j e m l n. inner_to_at q t d p j m l n (split q t e);
@@ -256,7 +256,7 @@ module _ (w : World) (b : Books) (g : Records) (from : ℕ) (k : Key) (r : Route
   view_z : view w g (inner_of g o) B ≡ Standing r
   view_z = view-standing w g (inner_of g o) B k r known here (grind (arith, is_attached-inner (g.bypass o).inner r, z_inner))
 
-  proxy_owes : further.ProxyOwes w v b g k r x o 4 law changed like linked carried is.stage late early
+  proxy_owes : numbers.ProxyOwes law changed like linked carried is.stage late early
   unfolding is_gone
   proxy_owes = record {
     out_finished = λ t e n. (proxy_numbers_of law).out_finished o t e (omega (arith, is.stage)) n;
@@ -288,9 +288,9 @@ module _ (w : World) (b : Books) (g : Records) (from : ℕ) (k : Key) (r : Route
         n (was a c i (messages.ProxyWillStop l s n) u);
     behind = λ a c i l s old target new u none. made a c i l s (messages.BypassPeer l s old target new) u
         ((told_of law).behind a c (place_before from k.node a c i) l s old target new (was a c i (messages.BypassPeer l s old target new) u)
-        (sym (further.router_same w v b g k r x o 4 law changed like linked carried is.stage late early l s) ∙ none));
+        (sym (further.router_same law changed like linked carried is.stage late early l s) ∙ none));
     flush_central = λ a c i l s u. (told_of law).flush_central a c (place_before from k.node a c i) l s (was a c i (messages.Flush l s) u);
-    flush_recorded = λ a c i l s u. further.recorded_same w v b g k r x o 4 law changed like linked carried is.stage late early l ∙
+    flush_recorded = λ a c i l s u. further.recorded_same law changed like linked carried is.stage late early l ∙
         (told_of law).flush_recorded a c (place_before from k.node a c i) l s (was a c i (messages.Flush l s) u);
     flush_to = λ a c i l s u. (told_of law).flush_to a c (place_before from k.node a c i) l s (was a c i (messages.Flush l s) u) ∙ sym
         (side_node-agree g h agree l s);
@@ -340,30 +340,30 @@ module _ (w : World) (b : Books) (g : Records) (from : ℕ) (k : Key) (r : Route
   inv-will_stop = record {
     counts = counts-received w v g h from k r x changed received (counts_of law) (opened can).hand.hand (λ i. refl)
         (λ l s q rec m. inl (
-          sym (further.recorded_same w v b g k r x o 4 law changed like linked carried is.stage late early l) ∙ rec,
-          sym (further.router_same w v b g k r x o 4 law changed like linked carried is.stage late early l s) ∙ m,
+          sym (further.recorded_same law changed like linked carried is.stage late early l) ∙ rec,
+          sym (further.router_same law changed like linked carried is.stage late early l s) ∙ m,
         ))
         (λ l s rec. rw (side_node-agree g h agree l s) ((counts_of law).side_on_node l s
-        (sym (further.recorded_same w v b g k r x o 4 law changed like linked carried is.stage late early l) ∙ rec)));
+        (sym (further.recorded_same law changed like linked carried is.stage late early l) ∙ rec)));
     ordered = ordered-kept w v g h k r x changed agree like (ordered_of law);
-    shape = further.shape-further w v b g k r x o 4 law changed like linked carried is.stage late early;
-    links = further.links-further w v b g k r x o 4 law changed like linked carried is.stage late early;
-    positions = further.positions-further w v b g k r x o 4 law changed like linked carried is.stage late early owes;
-    stands = further.stands-further w v b g k r x o 4 law changed like linked carried is.stage late early;
-    words = further.words-further w v b g k r x o 4 law changed like linked carried is.stage late early (word-handed w from k x);
+    shape = further.shape-further law changed like linked carried is.stage late early;
+    links = further.links-further law changed like linked carried is.stage late early;
+    positions = numbers.positions-further law changed like linked carried is.stage late early owes;
+    stands = further.stands-further law changed like linked carried is.stage late early;
+    words = further.words-further law changed like linked carried is.stage late early (word-handed w from k x);
     spares = spares-kept w v g h k r x changed agree like (λ i. refl) (λ j st. grind (arith, st, at_o j, is.stage)) (spares_of law);
-    bypasses = further.bypasses-further w v b g k r x o 4 law changed like linked carried is.stage late early;
-    stages = further.stages-further w v b g k r x o 4 law changed like linked carried is.stage late early;
+    bypasses = further.bypasses-further law changed like linked carried is.stage late early;
+    stages = further.stages-further law changed like linked carried is.stage late early;
     told = told-end;
     moves = moves-kept w v g h k r x changed agree carried descriptors (moves_law law);
     terminals = terminals-kept w v g h k r x changed agree like (terminals_of law);
     end_places = end_places-kept w v g h k r x changed agree like carried (end_places_of law);
     books_kept = books_kept-kept w v g h k r x changed agree b like (books_kept_of law);
-    items = further.items-further w v b g k r x o 4 law changed like linked carried is.stage late early
+    items = numbers.items-further law changed like linked carried is.stage late early
         (record { made = λ a c i l s n item moves u. made a c i l s (messages.Item l s n item moves) u });
-    order = further.order-further w v b g k r x o 4 law changed like linked carried is.stage late early;
-    proxy_numbers = further.proxy_numbers-further w v b g k r x o 4 law changed like linked carried is.stage late early proxy_owes;
-    fresh_numbers = further.fresh_numbers-further w v b g k r x o 4 law changed like linked carried is.stage late early
+    order = numbers.order-further law changed like linked carried is.stage late early;
+    proxy_numbers = numbers.proxy_numbers-further law changed like linked carried is.stage late early proxy_owes;
+    fresh_numbers = numbers.fresh_numbers-further law changed like linked carried is.stage late early
         (λ p d len prim dec l. (fresh_numbers_of law).own k r p d len here prim dec l);
     conserved = conserved-kept w v g h k r x changed agree b like carried places (conserved_of law);
     held_once = held_once-kept w v g h k r x changed agree b carried places (held_once_of law);

@@ -1,5 +1,5 @@
 -- The proxy learns its lengths, and tells the router inward.
-use Rattle.ipcz_world.specs.Places.{in_message as in_message'}
+use Rattle.ipcz_world.specs.Places.{in_message as in_message', Weight, in_router}
 use Rattle.std.specs.Prelude.{◌≡◌, ◌≢◌, ◌⊎◌, ◌<◌, ◌≤◌, ℕ, ◌+◌, true, false, nat_eq, is_some, is_none, option_map, unwrap_or, Option, Some}
 use Rattle.std.specs.Prelude.{None, List, refl}
 use Rattle.std.proofs.Common.{arith, ap, ◌∙◌, sym, inl, inr}
@@ -29,7 +29,6 @@ use Rattle.ipcz_world.proofs.frames.RecordRules.{bypass_of-inner}
 use Rattle.ipcz_world.specs.Remembering.{told_records}
 use Rattle.ipcz_world.specs.Standing.{has_decaying, has_inward_decaying}
 use Rattle.ipcz_world.specs.Flows.{IsUnderWay, makes, is_made_before, under_way, moves_of, of_end}
-use Rattle.ipcz_world.specs.Places.{Weight, in_router}
 use Rattle.ipcz_world.proofs.weights.OfRecords.{in_places}
 use Rattle.ipcz_base.specs.Totals.{total_list}
 use Rattle.ipcz_world.specs.Bypasses.{Told, of_bypass, control_weight, inner_of}
@@ -47,7 +46,8 @@ use Rattle.ipcz_world.proofs.frames.Counting.{IsReceived, counts-received}
 use Rattle.ipcz_world.proofs.facts.Lengths.{HasEnd, has_link-tells, passed, known_from-yes, known_from-no}
 use Rattle.ipcz_world.proofs.hands.BypassAsked.{IsStopped, stopped, asked_router}
 use Rattle.ipcz_world.proofs.frames.StageFurther as further
-use Rattle.ipcz_world.proofs.frames.StageFurther.{IsLinkedLike, StillMade}
+use Rattle.ipcz_world.proofs.frames.StageFurtherNumbers as numbers
+use Rattle.ipcz_world.proofs.frames.StageFurther.{IsLinkedLike}
 use Rattle.ipcz_world.proofs.frames.Sealing.{Sealed, Closed, opened, counts_of, links_of, positions_of, bypasses_of, stages_of, told_of}
 use Rattle.ipcz_world.proofs.frames.Sealing.{ordered_of, spares_of, moves_of as moves_law, terminals_of, end_places_of, books_kept_of}
 use Rattle.ipcz_world.proofs.frames.Sealing.{conserved_of, held_once_of, no_strays_of}
@@ -220,10 +220,10 @@ module _ (w : World) (b : Books) (g : Records) (from : ℕ) (k : Key) (r : Route
   early = omega arith
 
   abbrev h : Records
-  h = further.h w v b g k r x o 3 law changed like linked carried is.stage late early
+  h = further.h law changed like linked carried is.stage late early
 
   agree : Agree g h
-  agree = further.agree w v b g k r x o 3 law changed like linked carried is.stage late early
+  agree = further.agree law changed like linked carried is.stage late early
 
   itself : (n : ℕ) → nat_eq n n ≡ true
   itself n = grind (arith, nat_tests)
@@ -279,7 +279,7 @@ module _ (w : World) (b : Books) (g : Records) (from : ℕ) (k : Key) (r : Route
   begun_apart : (q : Key) (j : ℕ) → same_key q k ≡ false → g.begun q ≡ Some j → nat_eq j o ≡ true → j ≡ o → ⊥
   begun_apart q j m n t p = not_k q m (sym ((positions_of law).begun_proxy q o (n ∙ ap Some p)) ∙ proxy_is)
 
-  owes : further.LengthsOwe w v b g k r x o 3 law changed like linked carried is.stage late early
+  owes : numbers.LengthsOwe law changed like linked carried is.stage late early
   owes = record {
     inward_to = λ q t d j m p n. inward_to_at q t d j p n (split q t m) (at_o j);
     inward_from = λ q t d j m p n. inward_from_at q t d j p n (split q t m) (at_o j);
@@ -343,7 +343,7 @@ module _ (w : World) (b : Books) (g : Records) (from : ℕ) (k : Key) (r : Route
   y_is : (t : Router) → router_at w (g.bypass o).proxy ≡ Some t → r ≡ t
   y_is t m = same_Some r t (sym here ∙ ap (router_at w) (sym proxy_is) ∙ m)
 
-  proxy_owes : further.ProxyOwes w v b g k r x o 3 law changed like linked carried is.stage late early
+  proxy_owes : numbers.ProxyOwes law changed like linked carried is.stage late early
   proxy_owes = record {
     out_finished = λ t m n. absurd (none-some y_end.end (sym (ap (λ u. u.outward.decaying) (y_is t m) ∙ n) ∙ y_end.there));
     in_finished = λ t m n. absurd (none-some e (sym (ap (λ u. (inward_edge u).decaying) (y_is t m) ∙ n) ∙ on));
@@ -382,7 +382,7 @@ module _ (w : World) (b : Books) (g : Records) (from : ℕ) (k : Key) (r : Route
       b_side = ap opposite (sym at_a)
 
       accepted : (h.bypass o).accepted_at ≡ in_length
-      accepted = further.accepted_same w v b g k r x o 3 law changed like linked carried is.stage late early o ∙ sym is.accepted
+      accepted = further.accepted_same law changed like linked carried is.stage late early o ∙ sym is.accepted
 
   about_came : (t : Message → ℕ) → of_bypass g o t came ≡ t came
   unfolding of_bypass
@@ -404,10 +404,10 @@ module _ (w : World) (b : Books) (g : Records) (from : ℕ) (k : Key) (r : Route
     behind = λ a c i l s old target new u none. let u' : IsUnderWay w a c (place_before from k.node a c i)
         (messages.BypassPeer l s old target new) = was a c i (messages.BypassPeer l s old target new) (λ m. grind (arith, m)) u in
         made a c i l s u'.receiver ((told_of law).behind a c (place_before from k.node a c i) l s old target new u'
-        (sym (further.router_same w v b g k r x o 3 law changed like linked carried is.stage late early l s) ∙ none));
+        (sym (further.router_same law changed like linked carried is.stage late early l s) ∙ none));
     flush_central = λ a c i l s u. (told_of law).flush_central a c (place_before from k.node a c i) l s
         (was a c i (messages.Flush l s) (λ m. grind (arith, m)) u);
-    flush_recorded = λ a c i l s u. further.recorded_same w v b g k r x o 3 law changed like linked carried is.stage late early l ∙
+    flush_recorded = λ a c i l s u. further.recorded_same law changed like linked carried is.stage late early l ∙
         (told_of law).flush_recorded a c (place_before from k.node a c i) l s (was a c i (messages.Flush l s) (λ m. grind (arith, m)) u);
     flush_to = λ a c i l s u. (told_of law).flush_to a c (place_before from k.node a c i) l s
         (was a c i (messages.Flush l s) (λ m. grind (arith, m)) u) ∙ sym (side_node-agree g h agree l s);
@@ -480,31 +480,31 @@ module _ (w : World) (b : Books) (g : Records) (from : ℕ) (k : Key) (r : Route
   inv-stop = record {
     counts = counts-received w v g h from k r x changed received (counts_of law) (opened can).hand.hand (λ i. refl)
         (λ l s q rec m. inl (
-          sym (further.recorded_same w v b g k r x o 3 law changed like linked carried is.stage late early l) ∙ rec,
-          sym (further.router_same w v b g k r x o 3 law changed like linked carried is.stage late early l s) ∙ m,
+          sym (further.recorded_same law changed like linked carried is.stage late early l) ∙ rec,
+          sym (further.router_same law changed like linked carried is.stage late early l s) ∙ m,
         ))
         (λ l s rec. rw (side_node-agree g h agree l s) ((counts_of law).side_on_node l s
-        (sym (further.recorded_same w v b g k r x o 3 law changed like linked carried is.stage late early l) ∙ rec)));
+        (sym (further.recorded_same law changed like linked carried is.stage late early l) ∙ rec)));
     ordered = ordered-kept w v g h k r x changed agree like (ordered_of law);
-    shape = further.shape-further w v b g k r x o 3 law changed like linked carried is.stage late early;
-    links = further.links-further w v b g k r x o 3 law changed like linked carried is.stage late early;
-    positions = further.positions-further w v b g k r x o 3 law changed like linked carried is.stage late early owes;
-    stands = further.stands-further w v b g k r x o 3 law changed like linked carried is.stage late early;
-    words = further.words-further w v b g k r x o 3 law changed like linked carried is.stage late early
+    shape = further.shape-further law changed like linked carried is.stage late early;
+    links = further.links-further law changed like linked carried is.stage late early;
+    positions = numbers.positions-further law changed like linked carried is.stage late early owes;
+    stands = further.stands-further law changed like linked carried is.stage late early;
+    words = further.words-further law changed like linked carried is.stage late early
         (word-handed_on w from k x e.other sent);
     spares = spares-kept w v g h k r x changed agree like (λ i. refl) (λ j st. grind (arith, st, at_o j, is.stage)) (spares_of law);
-    bypasses = further.bypasses-further w v b g k r x o 3 law changed like linked carried is.stage late early;
-    stages = further.stages-further w v b g k r x o 3 law changed like linked carried is.stage late early;
+    bypasses = further.bypasses-further law changed like linked carried is.stage late early;
+    stages = further.stages-further law changed like linked carried is.stage late early;
     told = told-stop;
     moves = moves-kept w v g h k r x changed agree carried descriptors (moves_law law);
     terminals = terminals-kept w v g h k r x changed agree like (terminals_of law);
     end_places = end_places-kept w v g h k r x changed agree like carried (end_places_of law);
     books_kept = books_kept-kept w v g h k r x changed agree b like (books_kept_of law);
-    items = further.items-further w v b g k r x o 3 law changed like linked carried is.stage late early
+    items = numbers.items-further law changed like linked carried is.stage late early
         (record { made = λ a c i l s n item moves u. made a c i l s (carried.was a c i l s n item moves u).receiver });
-    order = further.order-further w v b g k r x o 3 law changed like linked carried is.stage late early;
-    proxy_numbers = further.proxy_numbers-further w v b g k r x o 3 law changed like linked carried is.stage late early proxy_owes;
-    fresh_numbers = further.fresh_numbers-further w v b g k r x o 3 law changed like linked carried is.stage late early
+    order = numbers.order-further law changed like linked carried is.stage late early;
+    proxy_numbers = numbers.proxy_numbers-further law changed like linked carried is.stage late early proxy_owes;
+    fresh_numbers = numbers.fresh_numbers-further law changed like linked carried is.stage late early
         (λ p d len prim dec l. absurd (none-some p (sym alone ∙ prim)));
     conserved = conserved-kept w v g h k r x changed agree b like carried places (conserved_of law);
     held_once = held_once-kept w v g h k r x changed agree b carried places (held_once_of law);

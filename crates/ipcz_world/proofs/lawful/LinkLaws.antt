@@ -168,7 +168,8 @@ begun_bypassed w b g i law begun = record {
     not_inward : (e : LinkEnd) → is_outward e.link e.side ≡ false → e.link ≡ Central i → ⊥
     not_inward e h on = let outward : is_outward (Central i) e.side ≡ false = subst (λ l. is_outward l e.side ≡ false) on h in cc
 
-    inward : (k : Key) (r : Router) → router_at w k ≡ Some r → (c : Bool) → has_inward_primary (Central i) (proxy_side g i) r ≡ c → c ≡ false
+    inward : (k : Key) (r : Router) → router_at w k ≡ Some r → (c : Bool) → has_inward_primary (Central i) (proxy_side g i) r ≡ c →
+        c ≡ false
     inward k r here true e =
         let t : IsLinkEnd (inward_edge r).primary (Central i) (proxy_side g i) = has_link-tells _ _ _ e in
         absurd (not_inward t.end (law.links.inward_primary_inward k r t.end here t.is) t.link)

@@ -22,7 +22,8 @@ use Rattle.ipcz_base.specs.Sides.{opposite}
 use Rattle.ipcz_edge.specs.Edge.{Edge, choose, is_short_of, edge_decays}
 use Rattle.ipcz_router.specs.Router.{Router, is_terminal, inward_edge, rouse, from_descriptor}
 use Rattle.ipcz_router.specs.declared.sending.Sending.{Sending}
-use Rattle.ipcz_router.specs.Bypass.{bypass_peer, accept_message, accept_bypass, stop_proxying, proxy_will_stop, stop_message, will_stop_message}
+use Rattle.ipcz_router.specs.Bypass.{bypass_peer, accept_message, accept_bypass, stop_proxying, proxy_will_stop, stop_message}
+use Rattle.ipcz_router.specs.Bypass.{will_stop_message}
 use Rattle.ipcz_router.specs.Acts.{way_out, way_in}
 use Rattle.ipcz_router.specs.ActEffects.{apply, output_of, item_output, message_output, discard_output}
 use Rattle.ipcz_router.specs.declared.act.RouterAct.{RouterAct}

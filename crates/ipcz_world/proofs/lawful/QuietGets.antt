@@ -28,7 +28,8 @@ flags-taken n s r here none = go (flagged_router (with_router n s (take_item r))
     nobody : (k : ℕ) (q : Router) → get n.routers k ≡ Some q → q.flagged ≡ true → ⊥
     nobody k q at h = let t = found_there n (λ x. x.flagged) k q at h in none-some t.0 (sym none ∙ t.1)
 
-    at_serial : (f : Found) → (c : Bool) → get (insert n.routers s (take_item r)) f.serial ≡ cond c (Some (take_item r)) (get n.routers f.serial) →
+    at_serial : (f : Found) → (c : Bool) → get (insert n.routers s (take_item r)) f.serial ≡
+        cond c (Some (take_item r)) (get n.routers f.serial) →
         get (insert n.routers s (take_item r)) f.serial ≡ Some f.router → f.router.flagged ≡ true → ⊥
     at_serial f true e is h = nobody s r here (ap (λ x. x.flagged) (same_Some (take_item r) f.router (sym e ∙ is)) ∙ h)
     at_serial f false e is h = nobody f.serial f.router (sym e ∙ is) h
@@ -86,7 +87,8 @@ gets_stay_quiet w v n e reply quiet step = subst IsQuiet (sym step.1) (at_node (
     unrefused None done h = h
     unrefused (Some why) done h = quiet
 
-    at_node : (c : Bool) → nat_lt n w.count ≡ c → IsQuiet (cond c (unless w (get_refusal (node_at w n) e) (got_by w n e)) (refuse w Stranger)).world
+    at_node : (c : Bool) → nat_lt n w.count ≡ c →
+        IsQuiet (cond c (unless w (get_refusal (node_at w n) e) (got_by w n e)) (refuse w Stranger)).world
     at_node true l = unrefused (get_refusal (node_at w n) e) (got_by w n e) (quiet-set w n (get_node (node_at w n) e) quiet
         (quiet-got (node_at w n) e (quiet.nodes n (grind (arith, l, nat_tests)))))
     at_node false l = quiet

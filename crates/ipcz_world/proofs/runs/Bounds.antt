@@ -25,7 +25,8 @@ use Rattle.ipcz_router.specs.Acts.{way_out, way_in}
 use Rattle.ipcz_router.specs.Calls.{accept}
 use Rattle.ipcz_router.specs.declared.sending.Sending.{Sending}
 use Rattle.ipcz_router.specs.Bypass.{fits_bypass_peer, bypass_peer, accept_message, stop_message, will_stop_message}
-use Rattle.ipcz_router.specs.ActEffects.{apply, peer_message, begin_message, flush_message, item_output, message_output, discard_output, output_of}
+use Rattle.ipcz_router.specs.ActEffects.{apply, peer_message, begin_message, flush_message, item_output, message_output, discard_output}
+use Rattle.ipcz_router.specs.ActEffects.{output_of}
 use Rattle.ipcz_router.specs.declared.act.RouterAct.{RouterAct}
 use Rattle.ipcz_router.specs.declared.act.RouterAct.TheVariants as acts
 use Rattle.ipcz_router.specs.declared.act.Answer.{Answer}

@@ -27,7 +27,8 @@ use Rattle.ipcz_router.specs.Calls.{accept}
 use Rattle.ipcz_router.specs.Closing.{close_router}
 use Rattle.ipcz_router.specs.Calls.{take_item, put_item, item_refusal}
 use Rattle.ipcz_router.specs.declared.sending.Sending.{Sending}
-use Rattle.ipcz_router.specs.Bypass.{bypass_peer, accept_message, accept_bypass, stop_proxying, proxy_will_stop, stop_message, will_stop_message}
+use Rattle.ipcz_router.specs.Bypass.{bypass_peer, accept_message, accept_bypass, stop_proxying, proxy_will_stop, stop_message}
+use Rattle.ipcz_router.specs.Bypass.{will_stop_message}
 use Rattle.ipcz_router.specs.ActTable.{is_possible, table, first_possible, next_act, is_rest, may_take}
 use Rattle.ipcz_router.specs.ActEffects.{apply, output_of}
 use Rattle.ipcz_router.specs.Acts.{rest}

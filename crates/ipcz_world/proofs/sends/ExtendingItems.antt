@@ -1,6 +1,6 @@
 -- A terminal becomes a proxy, and the item under way carries its descriptor: what is said of items, ends and numbers is kept.
-use Rattle.std.specs.Prelude.{◌≡◌, ◌⊎◌, ◌≤◌, ◌<◌, ◌+◌, ℕ, Bool, true, false, cond, nat_eq, nat_lt, Option, Some}
-use Rattle.std.specs.Prelude.{None, is_some, refl, List, [], ◌∷◌, ◌++◌, length, drop}
+use Rattle.std.specs.Prelude.{◌≡◌, ◌⊎◌, ◌≤◌, ◌<◌, ◌+◌, ℕ, Bool, true, false, cond, nat_eq, nat_lt, Option, Some, None, is_some, refl, List}
+use Rattle.std.specs.Prelude.{[], ◌∷◌, ◌++◌, length, drop}
 use Rattle.std.specs.Ordering.{nat_cmp}
 use Rattle.std.specs.Cmp.{nat_cmp_total}
 use Rattle.std.specs.FinMap.{remove, nat_cmp-IsAntisymmetric, get-empty}
@@ -24,9 +24,8 @@ use Rattle.ipcz_node.specs.Hands.{has_moved}
 use Rattle.ipcz_world.specs.World.{World, Key, same_key, router_at}
 use Rattle.ipcz_world.proofs.frames.Frames.{same_key_tells, same_key-itself}
 use Rattle.ipcz_world.specs.Books.{Books, read}
-use Rattle.ipcz_world.specs.Records.{Records, At, Moving, is_recorded, is_begun, bypass_of, known_from, inner_link}
-use Rattle.ipcz_world.specs.Records.{side_router, side_end, side_length, length_by, bypass_length, across_side}
-use Rattle.ipcz_world.specs.Records.{terminal_descriptor}
+use Rattle.ipcz_world.specs.Records.{Records, At, Moving, is_recorded, is_begun, bypass_of, known_from, inner_link, side_router, side_end}
+use Rattle.ipcz_world.specs.Records.{side_length, length_by, bypass_length, across_side, terminal_descriptor}
 use Rattle.ipcz_world.proofs.frames.RecordRules.{is_recorded-central, record_rules, bypass_of-inner, side_router-proxy, side_router-inner}
 use Rattle.ipcz_world.specs.Standing.{View, Waiting, Standing, view, view_by, router_view, awaited_view, next_sent, taking_queue}
 use Rattle.ipcz_world.specs.Standing.{may_have_sent, is_gone, is_awaited, is_attached, sending_queue, fed_queue}
@@ -44,11 +43,11 @@ use Rattle.ipcz_base.proofs.Totals.{total-remove}
 use Rattle.ipcz_world.proofs.sends.SendingOut.{has_link-end, bypass_of-central_is}
 use Rattle.ipcz_world.proofs.flows.Awaited.{no_router}
 use Rattle.ipcz_world.proofs.facts.Reaching.{is_reach}
-use Rattle.ipcz_world.proofs.sends.Extending.{next_key, extended, extended_records, IsGrown, IsExtend, other_link}
-use Rattle.ipcz_world.proofs.sends.Extending.{recorded_more, recorded_back, router_same, node_same, end_same}
-use Rattle.ipcz_world.proofs.sends.Extending.{bypass_same, side_same, stood, same_end-tells, no_inward, no_by, inner_end_is, not_begun}
-use Rattle.ipcz_world.proofs.sends.Extending.{stage_begun}
-use Rattle.ipcz_world.proofs.hands.Materializing.{at_waits, same_some}
+use Rattle.ipcz_world.proofs.sends.ExtendingAround.{next_key, extended, extended_records, IsGrown, IsExtend, other_link, recorded_more}
+use Rattle.ipcz_world.proofs.sends.ExtendingAround.{recorded_back, router_same, node_same, end_same, bypass_same, side_same, stood}
+use Rattle.ipcz_world.proofs.sends.ExtendingAround.{same_end-tells, no_inward, no_by, inner_end_is, stage_begun}
+use Rattle.ipcz_world.proofs.sends.ExtendingStages.{not_begun}
+use Rattle.ipcz_world.proofs.hands.MaterializingAround.{at_waits, same_some}
 
 pub same_link-turned : (l m : LinkId) → same_link m l ≡ same_link l m
 same_link-turned (Central i) (Central j) = grind (arith, nat_tests)
@@ -107,7 +106,7 @@ length_by-same w v b g q r a law is t link s None e = refl
 length_by-same w v b g q r a law is t (Central i) s (Some o) e = let f = bypass_of-central_is g i o e in
     ap (λ z. cond (same_side s z) (known_from 3 (g.bypass o).stage (g.bypass o).taken_at)
     (known_from 3 (g.bypass o).stage (g.bypass o).accepted_at))
-    (side_same w v b g q r a law is t o (ap (λ z. is_begun (g.bypass z)) f.0 ∙ f.1))
+    (side_same law is t o (ap (λ z. is_begun (g.bypass z)) f.0 ∙ f.1))
 length_by-same w v b g q r a law is t (Peripheral n x) A (Some o) e = refl
 length_by-same w v b g q r a law is t (Peripheral n x) B (Some o) e = refl
 
@@ -115,7 +114,7 @@ unbypassed : (w v : World) (b : Books) (g : Records) (q : Key) (r : Router) (a :
     (t : IsGrown w v q (extended w q r a)) (s : Side) → side_length g (inner_link (next_key w q.node)) s ≡ None
 unfolding length_by
 unbypassed w v b g q r a law is t s = ap (length_by g (inner_link (next_key w q.node)) s)
-    (bypass_of-inner g (next_key w q.node) ∙ no_by w v b g q r a law is t)
+    (bypass_of-inner g (next_key w q.node) ∙ no_by law is t)
 
 pub next_sent-waiting : (l : LinkId) (s : Side) (d : Descriptor) → next_sent l s (Waiting d) ≡ Some d.next_out
 unfolding next_sent
@@ -228,7 +227,7 @@ module _ (w v : World) (b : Books) (g : Records) (q : Key) (r : Router) (a : ℕ
   d = descriptor_of r (inner_link p)
 
   pub lone : r.inward ≡ None
-  lone = no_inward w v b g q r a law is t
+  lone = no_inward law is t
 
   pub at_end_is : g.terminal r.end ≡ At q
   at_end_is = law.terminals.terminal q r is.here is.lone
@@ -259,7 +258,7 @@ module _ (w v : World) (b : Books) (g : Records) (q : Key) (r : Router) (a : ℕ
   awaited_same (Peripheral n x) A rec none = absurd (grind (arith, none, side_router-proxy g (record { node = n; serial = x })))
   awaited_same (Peripheral n x) B rec none = let k : Key = record { node = n; serial = x } in
       ap (λ z. awaited_view (inner_link k) (terminal_descriptor z))
-      (ap h.terminal (end_same w v b g q r a law is t (inner_link k) B (other_link w v b g q r a law is t (inner_link k) rec)) ∙
+      (ap h.terminal (end_same law is t (inner_link k) B (other_link law is t (inner_link k) rec)) ∙
       other_terminal k rec none)
 
   pub seen_extended : (link : LinkId) (s : Side) → is_recorded w g link ≡ true →
@@ -267,10 +266,10 @@ module _ (w v : World) (b : Books) (g : Records) (q : Key) (r : Router) (a : ℕ
   seen_extended link s rec = go (side_router g link s) refl
     where
       apart : same_link link (inner_link p) ≡ false
-      apart = other_link w v b g q r a law is t link rec
+      apart = other_link law is t link rec
 
       known : side_router h link s ≡ side_router g link s
-      known = router_same w v b g q r a law is t link s apart
+      known = router_same law is t link s apart
 
       same_att : is_attached link s y ≡ is_attached link s r
       same_att = attached_extended w q r a link s lone apart
@@ -315,7 +314,7 @@ module _ (w v : World) (b : Books) (g : Records) (q : Key) (r : Router) (a : ℕ
   gone_same link s rec = read_same is_gone link s rec (grind (arith, view_rules))
 
   pub length_same : (link : LinkId) (s : Side) → side_length h link s ≡ side_length g link s
-  length_same link s = ap (length_by h link s) (bypass_same w v b g q r a law is t link) ∙ by_option (bypass_of g link) refl
+  length_same link s = ap (length_by h link s) (bypass_same law is t link) ∙ by_option (bypass_of g link) refl
     where
       by_option : (o : Option ℕ) → bypass_of g link ≡ o → length_by h link s o ≡ length_by g link s o
       by_option o e = length_by-same w v b g q r a law is t link s o e
@@ -323,9 +322,9 @@ module _ (w v : World) (b : Books) (g : Records) (q : Key) (r : Router) (a : ℕ
   pub fits-extended : (from to i : ℕ) (link : LinkId) (s : Side) (n : ℕ) → ItemFits w g from to i link s n →
       (is_made_before w from to i link s ≡ true → is_made_before v from to i link s ≡ true) → ItemFits v h from to i link s n
   fits-extended from to i link s n fit made = record {
-    recorded = recorded_more w v b g q r a law is t link fit.recorded;
-    sender = fit.sender ∙ sym (node_same w v b g q r a law is t link (opposite s) (other_link w v b g q r a law is t link fit.recorded));
-    receiver = fit.receiver ∙ sym (node_same w v b g q r a law is t link s (other_link w v b g q r a law is t link fit.recorded));
+    recorded = recorded_more law is t link fit.recorded;
+    sender = fit.sender ∙ sym (node_same law is t link (opposite s) (other_link law is t link fit.recorded));
+    receiver = fit.receiver ∙ sym (node_same law is t link s (other_link law is t link fit.recorded));
     below_length = λ len e. fit.below_length len (sym (length_same link (opposite s)) ∙ e);
     was_sent = λ u e. fit.was_sent u (sym (sent_same link (opposite s) fit.recorded) ∙ e);
     by_sender = read_same may_have_sent link (opposite s) fit.recorded (grind (arith, view_rules)) ∙ fit.by_sender;
@@ -355,13 +354,13 @@ module _ (w v : World) (b : Books) (g : Records) (q : Key) (r : Router) (a : ℕ
 
   pub order-extended : Order v h
   order-extended = record {
-    current = λ link s u z rec sent taken short. elim (recorded_back w v b g q r a law is t link rec) [
+    current = λ link s u z rec sent taken short. elim (recorded_back law is t link rec) [
       | inl o ↦ law.order.current link s u z o (sym (sent_same link (opposite s) o) ∙ sent) (sym (taken_same link s o) ∙ taken)
           (ap (λ x. has_passed x u) (sym (length_same link (opposite s))) ∙ short)
       | inr n ↦ new_current s u z (subst (λ l. next_sent l (opposite s) (view v h l (opposite s)) ≡ Some u) n sent)
           (subst (λ l. taking_queue l s (view v h l s) ≡ Some z) n taken)
     ];
-    stored = λ link s u z m x rec sent taken at short. elim (recorded_back w v b g q r a law is t link rec) [
+    stored = λ link s u z m x rec sent taken at short. elim (recorded_back law is t link rec) [
       | inl o ↦ law.order.stored link s u z m x o (sym (sent_same link (opposite s) o) ∙ sent) (sym (taken_same link s o) ∙ taken) at
           (ap (λ x. has_passed x m) (sym (length_same link (opposite s))) ∙ short)
       | inr n ↦ new_stored s u z m x (subst (λ l. next_sent l (opposite s) (view v h l (opposite s)) ≡ Some u) n sent)
@@ -401,12 +400,12 @@ module _ (w v : World) (b : Books) (g : Records) (q : Key) (r : Router) (a : ℕ
           absurd (grind (arith, at, ap (λ q. item_at q m) (same_some f), blank_at d.next_in m))
 
   begun_router : (o : ℕ) → 1 ≤ (g.bypass o).stage → (g.bypass o).proxy ≡ q → ⊥
-  begun_router o le e = not_begun w v b g q r a law is t (law.stages.proxy_begun o r (stage_begun (g.bypass o).stage 1 (omega arith) le)
+  begun_router o le e = not_begun law is t (law.stages.proxy_begun o r (stage_begun (g.bypass o).stage 1 (omega arith) le)
       (ap (router_at w) e ∙ is.here))
 
   bypassed : (o n : ℕ) (z : Router) → 1 ≤ n → n ≤ (g.bypass o).stage → router_at v (g.bypass o).proxy ≡ Some z →
       router_at w (g.bypass o).proxy ≡ Some z
-  bypassed o n z one le at = elim (stood w v b g q r a law is t (g.bypass o).proxy z at)
+  bypassed o n z one le at = elim (stood law is t (g.bypass o).proxy z at)
       [ inl f ↦ f.0 | inr f ↦ absurd (begun_router o (omega (arith, one, le)) f.1) ]
 
   pub proxy_numbers-extended : ProxyNumbers v h
@@ -418,7 +417,7 @@ module _ (w v : World) (b : Books) (g : Records) (q : Key) (r : Router) (a : ℕ
     across_gone = λ o z at s e. law.proxy_numbers.across_gone o z (bypassed o 3 z (omega arith) s at) s
         (sym (gone_same (Central o) (across_side g o) (old_recorded o 3 (omega arith) s)) ∙
         ap (λ k. is_gone (view v h (Central o) (opposite k))) (sym
-        (side_same w v b g q r a law is t o (stage_begun (g.bypass o).stage 3 (omega arith) s))) ∙ e);
+        (side_same law is t o (stage_begun (g.bypass o).stage 3 (omega arith) s))) ∙ e);
     inner_gone = λ o z at s e. law.proxy_numbers.inner_gone o z (bypassed o 5 z (omega arith) (omega (arith, s)) at) s
         (sym (gone_same (inner_of g o) B (law.bypasses.inner o (stage_begun (g.bypass o).stage 5 (omega arith) (omega (arith, s))))) ∙ e);
     out_finished = λ o z at s e. law.proxy_numbers.out_finished o z (bypassed o 4 z (omega arith) s at) s e;

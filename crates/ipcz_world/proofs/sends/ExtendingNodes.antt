@@ -30,8 +30,8 @@ use Rattle.ipcz_world.proofs.flows.Flowing.{IsRewritten, same_way}
 use Rattle.ipcz_world.proofs.weights.Weighing.{in_nodes-changed, in_node-changed, in_router-is}
 use Rattle.ipcz_world.proofs.frames.Calling.{router_here}
 use Rattle.ipcz_world.proofs.frames.Opened.{OpenInv}
-use Rattle.ipcz_world.proofs.sends.Extending.{next_key, extended, extended_records, IsGrown, IsExtend}
-use Rattle.ipcz_world.proofs.sends.ExtendingPlaces.{inv-extended}
+use Rattle.ipcz_world.proofs.sends.ExtendingAround.{next_key, extended, extended_records, IsGrown, IsExtend}
+use Rattle.ipcz_world.proofs.sends.Extending.{inv-extended}
 
 -- the node after the move
 abbrev pub extended_node : World → Key → Router → ℕ → List Message → Node

@@ -1,13 +1,8 @@
--- A terminal becomes a proxy, and the item under way carries its descriptor: what is said of messages, bypasses and places is kept.
-use Rattle.ipcz_world.proofs.weights.OfRecords.{holds, held_times, holds_times}
-use Rattle.ipcz_world.specs.Places.{in_message as in_message', in_node as in_node'}
-use Rattle.std.specs.Prelude.{◌≡◌, ◌≢◌, ◌⊎◌, ◌≤◌, ◌<◌, ◌+◌, ℕ, zero, suc, Bool, true, false, cond, nat_eq, Some}
-use Rattle.std.specs.Prelude.{None, is_some, refl, List, [], ◌∷◌, ◌++◌, length, slice_get}
-use Rattle.std.specs.Ordering.{nat_cmp}
-use Rattle.std.specs.Cmp.{nat_cmp_total}
-use Rattle.std.specs.FinMap.{remove, nat_cmp-IsAntisymmetric}
+-- A terminal becomes a proxy, and the message that takes its end along gets the descriptor: the messages, and the place of each end.
+use Rattle.ipcz_world.proofs.weights.OfRecords.{holds, held_times, holds_times, in_message, in_places}
+use Rattle.std.specs.Prelude.{◌≡◌, ◌≢◌, ◌⊎◌, ◌≤◌, ◌<◌, ◌+◌, ℕ, zero, Bool, true, false, cond, Some, None, is_some, refl, List, [], ◌∷◌}
+use Rattle.std.specs.Prelude.{◌++◌, length, slice_get}
 use Rattle.std.proofs.Common.{arith, ap, subst, ◌∙◌, sym, inl, inr}
-use Rattle.std.proofs.lemmas.Bool.Decides.{nat_tests}
 use Rattle.ipcz_base.specs.declared.side.Side.{Side}
 use Rattle.ipcz_base.specs.declared.side.Side.TheVariants.{A, B}
 use Rattle.ipcz_base.specs.declared.end.End.{End}
@@ -17,179 +12,48 @@ use Rattle.ipcz_base.specs.declared.descriptor.Descriptor.{Descriptor}
 use Rattle.ipcz_base.specs.declared.item.Item.{Item}
 use Rattle.ipcz_base.specs.declared.message.Message.{Message}
 use Rattle.ipcz_base.specs.declared.message.Message.TheVariants as messages
-use Rattle.ipcz_base.specs.Sides.{opposite, same_side}
+use Rattle.ipcz_base.specs.Sides.{opposite}
 use Rattle.ipcz_base.specs.Links.{same_link, is_central}
-use Rattle.ipcz_base.specs.Ends.{same_end, has_end, opposite_end}
+use Rattle.ipcz_base.specs.Ends.{same_end, has_end}
 use Rattle.ipcz_seq.specs.Queue.{item_at}
 use Rattle.ipcz_router.specs.Router.{Router}
 use Rattle.ipcz_router.specs.Calls.{descriptor_of}
 use Rattle.ipcz_base.specs.Items.{ends_in}
-use Rattle.ipcz_world.specs.World.{World, Key, node_at, router_at, set_router}
-use Rattle.ipcz_node.specs.Node.{Node}
+use Rattle.ipcz_world.specs.World.{World, Key, node_at, router_at}
 use Rattle.ipcz_world.proofs.frames.Frames.{same_key_tells, same_key-itself}
-use Rattle.ipcz_world.specs.Books.{Books, read, is_closed}
-use Rattle.ipcz_world.specs.Records.{Records, PeripheralRecord, At, Moving, is_recorded, is_begun, bypass_of, inner_link}
-use Rattle.ipcz_world.specs.Records.{side_node, side_router, side_end, proxy_side, across_side}
-use Rattle.ipcz_world.specs.Records.{is_nowhere, terminal_node, terminal_descriptor, key_at}
-use Rattle.ipcz_world.proofs.frames.RecordRules.{side_router-inner}
-use Rattle.ipcz_world.proofs.frames.RecordRules.{side_node-proxy, side_node-inner}
-use Rattle.ipcz_world.proofs.weights.OfRecords.{source}
+use Rattle.ipcz_world.specs.Books.{Books, is_closed}
+use Rattle.ipcz_world.specs.Records.{Records, PeripheralRecord, Moving, is_recorded, is_begun, inner_link, side_node, side_router, side_end}
+use Rattle.ipcz_world.specs.Records.{is_nowhere, terminal_node, key_at}
+use Rattle.ipcz_world.proofs.frames.RecordRules.{side_router-inner, side_node-proxy, side_node-inner}
 use Rattle.ipcz_world.specs.Standing.{view}
 use Rattle.ipcz_world.specs.Flows.{IsUnderWay, makes, is_made_before, under_way, of_end, moves_of}
-use Rattle.ipcz_world.specs.Places.{Weight, at_end, names_end, times}
-use Rattle.ipcz_world.proofs.weights.OfRecords.{in_message, in_node, in_places}
-use Rattle.ipcz_base.specs.Totals.{total_list, total_below}
+use Rattle.ipcz_world.specs.Places.{names_end, times}
+use Rattle.ipcz_base.specs.Totals.{total_list}
 use Rattle.ipcz_world.specs.Bypasses.{Told, of_bypass, control_weight, inner_of, move_weight, moving_link}
-use Rattle.ipcz_world.specs.Whereabouts.{EndPlaces, BooksKept, Conserved, HeldOnce, times_held, times_closed}
+use Rattle.ipcz_world.specs.Whereabouts.{EndPlaces, BooksKept, times_held, times_closed}
 use Rattle.ipcz_world.specs.Numbers.{Items, FreshNumbers, IsItemUnderWay, standing_router}
-use Rattle.ipcz_world.proofs.frames.Touching.{HasSameEnds, Hands}
+use Rattle.ipcz_world.proofs.frames.Touching.{HasSameEnds}
 use Rattle.ipcz_world.proofs.frames.Draining.{standing-standing}
 use Rattle.ipcz_world.proofs.flows.Fitting.{fits_of, items_by}
-use Rattle.ipcz_world.proofs.flows.Flowing.{IsRewritten, same_way, came_rewritten, made_still, under_way-rewritten, under_way-congr}
-use Rattle.ipcz_world.proofs.flows.Flowing.{weighed, weighed-two, total_below-has, total_below-same}
+use Rattle.ipcz_world.proofs.flows.Flowing.{IsRewritten, came_rewritten, made_still, under_way-rewritten, under_way-congr, weighed}
+use Rattle.ipcz_world.proofs.flows.Flowing.{weighed-two, total_below-has}
 use Rattle.ipcz_world.proofs.frames.Opened.{OpenInv, OpenMoves}
-use Rattle.ipcz_world.proofs.weights.Weighing.{in_router-is, same_end-itself, in_places-set_router, in_places-is, in_places-has}
-use Rattle.ipcz_world.proofs.weights.Weighing.{in_message-item, still_under_way}
-use Rattle.ipcz_base.proofs.Totals.{total-remove}
-use Rattle.ipcz_world.proofs.sends.Sending.{about-item, moves-item, times_same}
-use Rattle.ipcz_world.proofs.sends.Extending.{next_key, extended, extended_records, IsGrown, IsExtend, other_link, other_key, inner_one}
-use Rattle.ipcz_world.proofs.sends.Extending.{recorded_more, recorded_new, recorded_back, router_same, node_same, end_same, source_same}
-use Rattle.ipcz_world.proofs.sends.Extending.{bypass_same, side_same, stood, same_end-tells, inner_end_is}
-use Rattle.ipcz_world.proofs.sends.Extending.{nowhere_same, counts-extended, ordered-extended, shape-extended, links-extended}
-use Rattle.ipcz_world.proofs.sends.Extending.{positions-extended, stands-extended, words-extended, spares-extended, bypasses-extended}
-use Rattle.ipcz_world.proofs.sends.Extending.{stages-extended, terminals-extended}
-use Rattle.ipcz_world.proofs.sends.ExtendingItems.{makes-more, same_item, of_peer, about-peer, expected-peer, h}
-use Rattle.ipcz_world.proofs.hands.Materializing.{same_some}
-use Rattle.ipcz_world.proofs.sends.Extending.{one_begun}
-use Rattle.ipcz_world.proofs.sends.ExtendingItems.{d, at_end_is, other_terminal, seen_extended, length_same, fits-extended}
-use Rattle.ipcz_world.proofs.sends.ExtendingItems.{order-extended, proxy_numbers-extended}
+use Rattle.ipcz_world.proofs.weights.Weighing.{same_end-itself, in_places-is, in_places-has, in_message-item}
+use Rattle.ipcz_world.proofs.sends.Sending.{about-item, moves-item}
+use Rattle.ipcz_world.proofs.sends.ExtendingAround.{next_key, extended, extended_records, IsGrown, IsExtend, other_link, other_key}
+use Rattle.ipcz_world.proofs.sends.ExtendingAround.{inner_one, recorded_more, recorded_new, recorded_back, router_same, node_same, end_same}
+use Rattle.ipcz_world.proofs.sends.ExtendingAround.{bypass_same, side_same, stood, same_end-tells, inner_end_is, one_begun}
+use Rattle.ipcz_world.proofs.sends.ExtendingItems.{makes-more, same_item, of_peer, about-peer, expected-peer, d, at_end_is, other_terminal}
+use Rattle.ipcz_world.proofs.sends.ExtendingItems.{seen_extended, length_same, fits-extended}
+use Rattle.ipcz_world.proofs.hands.MaterializingAround.{same_some}
 use Rattle.ipcz_world.proofs.hands.MaterializingItems.{expected_move-at, expected_move-moving}
-
-pub about-same : (g h : Records) (o : ℕ) (f : Message → ℕ) (m : Message) → ((l : LinkId) → bypass_of h l ≡ bypass_of g l) →
-    of_bypass h o f m ≡ of_bypass g o f m
-unfolding of_bypass
-about-same g h o f (messages.Item l s n x ms) e = refl
-about-same g h o f (messages.BypassPeer l s old t c) e = refl
-about-same g h o f (messages.AcceptBypass old s c len) e = refl
-about-same g h o f (messages.StopProxying old s a b) e = refl
-about-same g h o f (messages.ProxyWillStop l s a) e = grind (arith, e l)
-about-same g h o f (messages.Flush l s) e = refl
-
-pub expected-alike : (g h : Records) (f : ℕ → ℕ → Message → ℕ) (o : ℕ) → h.bypass o ≡ g.bypass o →
-    side_node h (inner_of g o) B ≡ side_node g (inner_of g o) B → proxy_side h o ≡ proxy_side g o →
-    ((z : Side) → side_node h (Central o) z ≡ side_node g (Central o) z) → control_weight h f o ≡ control_weight g f o
-unfolding control_weight
-expected-alike g h f o same node side old = grind (arith, same, node, side, old (across_side g o))
-
-pub expected-none : (g : Records) (f : ℕ → ℕ → Message → ℕ) (o : ℕ) → is_begun (g.bypass o) ≡ false → control_weight g f o ≡ 0
-unfolding control_weight
-expected-none g f o e = grind (arith, e, nat_tests)
-
-last_of : (ds : List Descriptor) (d c : Descriptor) (j : ℕ) → slice_get (ds ++ d ∷ []) j ≡ Some c → (slice_get ds j ≡ Some c) ⊎ (c ≡ d)
-last_of [] d c zero e = inr (grind (arith, e))
-last_of [] d c (suc j) e = cc
-last_of (x ∷ ds) d c zero e = inl e
-last_of (x ∷ ds) d c (suc j) e = last_of ds d c j e
-
-total-append : (f : Descriptor → ℕ) (ds : List Descriptor) (d : Descriptor) → total_list f (ds ++ d ∷ []) ≡ total_list f ds + f d
-total-append f [] d = omega arith
-total-append f (x ∷ ds) d = omega (arith, total-append f ds d)
-
-central-inner : (k : Key) → is_central (inner_link k) ≡ false
-unfolding is_central
-central-inner k = refl
-
-pub key_at-none : (n : ℕ) → key_at n None ≡ None
-key_at-none n = refl
-
-moving_link-moving : (d : Descriptor) → moving_link (Moving d) ≡ Some d.link
-unfolding terminal_descriptor
-moving_link-moving d = refl
-
-pub same_end-turned : (d e : End) → same_end e d ≡ same_end d e
-same_end-turned d e = grind (arith, nat_tests, side-turned d.side e.side)
-  where
-    side-turned : (s t : Side) → same_side t s ≡ same_side s t
-    side-turned A A = refl
-    side-turned A B = refl
-    side-turned B A = refl
-    side-turned B B = refl
-
-in_middle : (pre post : List Message) (m : Message) → slice_get (pre ++ m ∷ post) (length pre) ≡ Some m
-in_middle [] post m = refl
-in_middle (x ∷ pre) post m = in_middle pre post m
-
-pub has_times : (e : End) (ds : List End) → has_end e ds ≡ true → 1 ≤ times e ds
-has_times e [] h = cc
-has_times e (d ∷ ds) h = go (same_end d e) refl (λ f. has_times e ds f)
-  where
-    go : (c : Bool) → same_end d e ≡ c → (has_end e ds ≡ true → 1 ≤ times e ds) → 1 ≤ cond (same_end d e) 1 0 + times e ds
-    go true c again = grind (arith, c)
-    go false c again = let f = again (grind (arith, c, h)) in omega (arith, f)
-
-one_or_none : (c : Bool) (n : ℕ) → n ≡ cond c 0 1 → n ≤ 1
-one_or_none true n e = omega (arith, e)
-one_or_none false n e = omega (arith, e)
-
-pub terminal_node-at : (q : Key) → terminal_node (At q) ≡ Some q.node
-unfolding terminal_node
-terminal_node-at q = refl
-
-two_ways : (m a b : ℕ) → a ≢ b → same_way m m a b ≡ false
-two_ways m a b ne = go (nat_eq m a) (nat_eq m b) refl refl
-  where
-    go : (c d : Bool) → nat_eq m a ≡ c → nat_eq m b ≡ d → same_way m m a b ≡ false
-    go true true e f = absurd (ne (grind (arith, e, f, nat_tests)))
-    go true false e f = grind (arith, e, f)
-    go false d e f = grind (arith, e)
-
-pub in_node-same : (f : Weight) (g h : Records) (n : Node) → n.strays ≡ [] → in_node f h n ≡ in_node f g n
-unfolding in_node'
-in_node-same f g h n e = omega (arith, ap (total_list (in_message f h)) e, ap (total_list (in_message f g)) e)
-
-pub in_message-same : (f : Weight) (g h : Records) (m : Message) →
-    ((x : LinkId) (c : Side) (j : ℕ) (z : Item) (ds : List Descriptor) → m ≡ messages.Item x c j z ds → source h x c ≡ source g x c) →
-    in_message f h m ≡ in_message f g m
-unfolding in_message'
-in_message-same f g h (messages.Item l s n x ms) e = ap (λ d. f d n x) (e l s n x ms refl)
-in_message-same f g h (messages.BypassPeer l s old t c) e = refl
-in_message-same f g h (messages.AcceptBypass old s c len) e = refl
-in_message-same f g h (messages.StopProxying old s a b) e = refl
-in_message-same f g h (messages.ProxyWillStop l s a) e = refl
-in_message-same f g h (messages.Flush l s) e = refl
-
--- an item in a queue and a message under way weigh together
-in_two_out : (w : World) (g : Records) (f : Weight) (x : Key) (z : Router) (from to i : ℕ) (m : Message) (n : ℕ) (item : Item) →
-    x.node < w.count → router_at w x ≡ Some z → IsUnderWay w from to i m → item_at z.out_queue n ≡ Some item →
-    f z.end n item + in_message f g m ≤ in_places f g w
-in_two_out w g f x z from to i m n item lt here u at = let y : Router =
-    record z { out_queue = record z.out_queue { items = remove z.out_queue.items n } } in
-    omega (
-      arith,
-      in_places-has f g (set_router w x y) from to i m (still_under_way w x y from to i m u),
-      in_places-set_router f g w x z y lt here,
-      in_router-is f z,
-      in_router-is f y,
-      total-remove nat_cmp nat_cmp_total nat_cmp-IsAntisymmetric (f z.end) z.out_queue.items n item at,
-    )
-
-in_two_in : (w : World) (g : Records) (f : Weight) (x : Key) (z : Router) (from to i : ℕ) (m : Message) (n : ℕ) (item : Item) →
-    x.node < w.count → router_at w x ≡ Some z → IsUnderWay w from to i m → item_at z.in_queue n ≡ Some item →
-    f (opposite_end z.end) n item + in_message f g m ≤ in_places f g w
-in_two_in w g f x z from to i m n item lt here u at = let y : Router =
-    record z { in_queue = record z.in_queue { items = remove z.in_queue.items n } } in
-    omega (
-      arith,
-      in_places-has f g (set_router w x y) from to i m (still_under_way w x y from to i m u),
-      in_places-set_router f g w x z y lt here,
-      in_router-is f z,
-      in_router-is f y,
-      total-remove nat_cmp nat_cmp_total nat_cmp-IsAntisymmetric (f (opposite_end z.end)) z.in_queue.items n item at,
-    )
+use Rattle.ipcz_world.proofs.sends.ExtendingFacts.{about-same, expected-alike, expected-none, last_of, total-append, central-inner}
+use Rattle.ipcz_world.proofs.sends.ExtendingFacts.{key_at-none, moving_link-moving, same_end-turned, in_middle, has_times, one_or_none}
+use Rattle.ipcz_world.proofs.sends.ExtendingFacts.{terminal_node-at, two_ways, in_two_out, in_two_in}
 
 -- with the message that gets the descriptor
-module _ (w v : World) (b : Books) (g : Records) (q : Key) (r : Router) (a : ℕ) (law : OpenInv w b g) (is : IsExtend w q r a)
-    (t : IsGrown w v q (extended w q r a)) (l : LinkId) (s : Side) (n : ℕ) (item : Item) (moves : List Descriptor) (pre post : List Message)
+module _ {w v : World} {b : Books} {g : Records} {q : Key} {r : Router} {a : ℕ} (law : OpenInv w b g) (is : IsExtend w q r a)
+    (t : IsGrown w v q (extended w q r a)) {l : LinkId} {s : Side} {n : ℕ} {item : Item} {moves : List Descriptor} {pre post : List Message}
     (p : IsRewritten w v q.node a pre post (messages.Item l s n item moves)
     (messages.Item l s n item (moves ++ descriptor_of r (inner_link (next_key w q.node)) ∷ []))) (away : q.node ≢ a)
     (named : has_end r.end (ends_in item) ≡ true) (ends : HasSameEnds w v) where
@@ -208,7 +72,7 @@ module _ (w v : World) (b : Books) (g : Records) (q : Key) (r : Router) (a : ℕ
   abbrev m1 : Message
   m1 = messages.Item l s n item (moves ++ e2 ∷ [])
 
-  came : (from to i : ℕ) (x : Message) → IsUnderWay v from to i x →
+  pub came : (from to i : ℕ) (x : Message) → IsUnderWay v from to i x →
       (IsUnderWay w from to i x) ⊎ ((x ≡ m1) × (from ≡ q.node) × (to ≡ a) × IsUnderWay w from to i m0)
   came = came_rewritten w v q.node a pre post m0 m1 p
 
@@ -248,7 +112,7 @@ module _ (w v : World) (b : Books) (g : Records) (q : Key) (r : Router) (a : ℕ
           let one : of_bypass g old (of_peer (inner_link k)) (messages.BypassPeer x u old target fresh) ≡ 1 =
           about-peer g old (inner_link k) x u target fresh e in
           let zero : control_weight g (λ from to. of_peer (inner_link k)) old ≡ 0 =
-          expected-peer g (inner_link k) old (λ st. other_link w v b g q r a law is t (inner_of g old)
+          expected-peer g (inner_link k) old (λ st. other_link law is t (inner_of g old)
           (law.bypasses.inner old (one_begun (g.bypass old).stage st))) in
           absurd (omega (arith, f, one, law.told.control old (λ from to. of_peer (inner_link k)), zero))
 
@@ -257,7 +121,7 @@ module _ (w v : World) (b : Books) (g : Records) (q : Key) (r : Router) (a : ℕ
     control = λ o f. let u = under_way-rewritten (λ from to. of_bypass h2 o (f from to)) w v q.node a pre post m0 m1 p in
         let same : under_way (λ from to. of_bypass h2 o (f from to)) w ≡ under_way (λ from to. of_bypass g o (f from to)) w =
         under_way-congr (λ from to. of_bypass h2 o (f from to)) (λ from to. of_bypass g o (f from to)) w
-        (λ from to i m c. about-same g h2 o (f from to) m (bypass_same w v b g q r a law is t)) in
+        (λ from to i m c. about-same g h2 o (f from to) m (bypass_same law is t)) in
         omega (
           arith,
           u,
@@ -267,21 +131,21 @@ module _ (w v : World) (b : Books) (g : Records) (q : Key) (r : Router) (a : ℕ
           about-item h2 o (f q.node a) l s n item (moves ++ e2 ∷ []),
           expected_same f o,
         );
-    will_stop = λ from to i x u m c. ap is_some (bypass_same w v b g q r a law is t x) ∙ law.told.will_stop from to i x u m
+    will_stop = λ from to i x u m c. ap is_some (bypass_same law is t x) ∙ law.told.will_stop from to i x u m
         (plain_came from to i (messages.ProxyWillStop x u m) c (λ e. grind (arith, e)));
     behind = λ from to i x u old target fresh c e. let o = plain_came from to i (messages.BypassPeer x u old target fresh) c
         (λ e. grind (arith, e)) in
         still from to i (messages.BypassPeer x u old target fresh) c x u
         (law.told.behind from to i x u old target fresh o (sym
-        (router_same w v b g q r a law is t x u (peer_recorded from to i x u old target fresh o)) ∙ e));
+        (router_same law is t x u (peer_recorded from to i x u old target fresh o)) ∙ e));
     flush_central = λ from to i x u c. law.told.flush_central from to i x u (flush from to i x u c);
-    flush_recorded = λ from to i x u c. recorded_more w v b g q r a law is t x
+    flush_recorded = λ from to i x u c. recorded_more law is t x
         (law.told.flush_recorded from to i x u (flush from to i x u c));
     flush_to = λ from to i x u c. law.told.flush_to from to i x u (flush from to i x u c) ∙ sym
-        (node_same w v b g q r a law is t x u (other_link w v b g q r a law is t x
+        (node_same law is t x u (other_link law is t x
         (law.told.flush_recorded from to i x u (flush from to i x u c))));
     flush_from = λ from to i x u c. law.told.flush_from from to i x u (flush from to i x u c) ∙ sym
-        (node_same w v b g q r a law is t x (opposite u) (other_link w v b g q r a law is t x
+        (node_same law is t x (opposite u) (other_link law is t x
         (law.told.flush_recorded from to i x u (flush from to i x u c))));
   }
     where
@@ -293,14 +157,14 @@ module _ (w v : World) (b : Books) (g : Records) (q : Key) (r : Router) (a : ℕ
       expected_same f o = go (is_begun (g.bypass o)) refl
         where
           go : (c : Bool) → is_begun (g.bypass o) ≡ c → control_weight h2 f o ≡ control_weight g f o
-          go true e = let n1 = node_same w v b g q r a law is t (inner_of g o) B
-              (other_link w v b g q r a law is t (inner_of g o) (law.bypasses.inner o e)) in let sd =
-              side_same w v b g q r a law is t o e in expected-alike g h2 f o refl n1 sd
-              (λ z. node_same w v b g q r a law is t (Central o) z refl)
+          go true e = let n1 = node_same law is t (inner_of g o) B
+              (other_link law is t (inner_of g o) (law.bypasses.inner o e)) in let sd =
+              side_same law is t o e in expected-alike g h2 f o refl n1 sd
+              (λ z. node_same law is t (Central o) z refl)
           go false e = expected-none h2 f o e ∙ sym (expected-none g f o e)
 
   -- a descriptor is one of before, or the new one
-  descriptor_came : (from to i j : ℕ) (x : Message) (c : Descriptor) → IsUnderWay v from to i x → slice_get (moves_of x) j ≡ Some c →
+  pub descriptor_came : (from to i j : ℕ) (x : Message) (c : Descriptor) → IsUnderWay v from to i x → slice_get (moves_of x) j ≡ Some c →
       ((z : Message) × IsUnderWay w from to i z × (slice_get (moves_of z) j ≡ Some c)) ⊎ ((c ≡ e2) × (from ≡ q.node) × (to ≡ a))
   descriptor_came from to i j x c u f = elim (came from to i x u) [
     | inl o ↦ inl (x, o, f)
@@ -318,29 +182,29 @@ module _ (w v : World) (b : Books) (g : Records) (q : Key) (r : Router) (a : ℕ
       | inr o ↦ absurd (away (sym o.1 ∙ o.2))
     ];
     recorded = λ from to i j m c u e. elim (descriptor_came from to i j m c u e) [
-      | inl o ↦ recorded_more w v b g q r a law is t c.link (law.moves.recorded from to i j o.0 c o.1 o.2)
+      | inl o ↦ recorded_more law is t c.link (law.moves.recorded from to i j o.0 c o.1 o.2)
       | inr o ↦ ap
-          (λ z. is_recorded v h2 z.link) o.0 ∙ recorded_new w v b g q r a law is t
+          (λ z. is_recorded v h2 z.link) o.0 ∙ recorded_new law is t
     ];
     peripheral = λ from to i j m c u e. elim (descriptor_came from to i j m c u e)
         [ inl o ↦ law.moves.peripheral from to i j o.0 c o.1 o.2 | inr o ↦ ap (λ z. is_central z.link) o.0 ∙ central-inner k ];
     sender = λ from to i j m c u e. elim (descriptor_came from to i j m c u e) [
-      | inl o ↦ node_same w v b g q r a law is t c.link A (other_link w v b g q r a law is t c.link
+      | inl o ↦ node_same law is t c.link A (other_link law is t c.link
           (law.moves.recorded from to i j o.0 c o.1 o.2)) ∙ law.moves.sender from to i j o.0 c o.1 o.2
       | inr o ↦ ap (λ z. side_node h2 z.link A) o.0 ∙ side_node-proxy h2 k ∙ sym o.1
     ];
     receiver = λ from to i j m c u e. elim (descriptor_came from to i j m c u e) [
-      | inl o ↦ node_same w v b g q r a law is t c.link B (other_link w v b g q r a law is t c.link
+      | inl o ↦ node_same law is t c.link B (other_link law is t c.link
           (law.moves.recorded from to i j o.0 c o.1 o.2)) ∙ law.moves.receiver from to i j o.0 c o.1 o.2
       | inr o ↦ ap (λ z. side_node h2 z.link B) o.0 ∙ side_node-inner h2 k ∙ new_peripheral (λ z. z.node) ∙ sym o.2
     ];
     awaited = λ from to i j m c u e. elim (descriptor_came from to i j m c u e) [
-      | inl o ↦ router_same w v b g q r a law is t c.link B (other_link w v b g q r a law is t c.link
+      | inl o ↦ router_same law is t c.link B (other_link law is t c.link
           (law.moves.recorded from to i j o.0 c o.1 o.2)) ∙ law.moves.awaited from to i j o.0 c o.1 o.2
       | inr o ↦ ap (λ z. side_router h2 z.link B) o.0 ∙ side_router-inner h2 k ∙ new_peripheral (λ z. key_at z.node z.router)
     ];
     end = λ from to i j m c u e. elim (descriptor_came from to i j m c u e) [
-      | inl o ↦ end_same w v b g q r a law is t c.link B (other_link w v b g q r a law is t c.link
+      | inl o ↦ end_same law is t c.link B (other_link law is t c.link
           (law.moves.recorded from to i j o.0 c o.1 o.2)) ∙ law.moves.end from to i j o.0 c o.1 o.2
       | inr o ↦ ap (λ z. side_end h2 z.link B) o.0 ∙ inner_end_is h2 k B ∙ new_peripheral (λ z. z.end) ∙ ap (λ z. z.end) (sym o.0)
     ];
@@ -349,9 +213,9 @@ module _ (w v : World) (b : Books) (g : Records) (q : Key) (r : Router) (a : ℕ
         ap (total_list (of_end e f)) (moves-item l s n item (moves ++ e2 ∷ [])) ∙ total-append (of_end e f) moves e2 ∙ ap
         (λ z. total_list (of_end e f) z + of_end e f e2) (sym (moves-item l s n item moves)) in
         weigh e f (same_end e r.end) refl (omega (arith, u, sum, law.moves.one e f));
-    moving = λ x rec none. elim (recorded_back w v b g q r a law is t (inner_link x) rec) [
-      | inl o ↦ let f = other_link w v b g q r a law is t (inner_link x) o in
-          let same : h2.peripheral x ≡ g.peripheral x = grind (arith, other_key w v b g q r a law is t x o) in
+    moving = λ x rec none. elim (recorded_back law is t (inner_link x) rec) [
+      | inl o ↦ let f = other_link law is t (inner_link x) o in
+          let same : h2.peripheral x ≡ g.peripheral x = grind (arith, other_key law is t x o) in
           let none2 : (g.peripheral x).router ≡ None = ap (λ z. z.router) (sym same) ∙ none in
           ap (λ z. moving_link (h2.terminal z.end)) same ∙ ap moving_link
           (ap h2.terminal (sym (inner_end_is g x B)) ∙ other_terminal w v b g q r a law is t x o
@@ -402,7 +266,7 @@ module _ (w v : World) (b : Books) (g : Records) (q : Key) (r : Router) (a : ℕ
     where
       was_both : (x : Key) (z : Router) → router_at v x ≡ Some z →
           (u : Router) × (router_at w x ≡ Some u) × (z.outward ≡ u.outward) × (z.out_queue.current ≡ u.out_queue.current)
-      was_both x z at = elim (stood w v b g q r a law is t x z at) [
+      was_both x z at = elim (stood law is t x z at) [
         | inl o ↦ (z, o.0, refl, refl)
         | inr n ↦ (
           r,
@@ -454,7 +318,7 @@ module _ (w v : World) (b : Books) (g : Records) (q : Key) (r : Router) (a : ℕ
         (λ j. held_times r.end (node_at w j).held + times r.end (node_at w j).pending) (here_node m e),
   )
 
-  not_closed : is_closed b r.end ≡ false
+  pub not_closed : is_closed b r.end ≡ false
   not_closed = go (is_closed b r.end) refl
     where
       go : (c : Bool) → is_closed b r.end ≡ c → is_closed b r.end ≡ false
@@ -519,7 +383,7 @@ module _ (w v : World) (b : Books) (g : Records) (q : Key) (r : Router) (a : ℕ
     where
       same_queues : (x : Key) (z : Router) → router_at v x ≡ Some z →
           (u : Router) × (router_at w x ≡ Some u) × (z.out_queue ≡ u.out_queue) × (z.in_queue ≡ u.in_queue)
-      same_queues x z at = elim (stood w v b g q r a law is t x z at) [
+      same_queues x z at = elim (stood law is t x z at) [
         | inl o ↦ (z, o.0, refl, refl)
         | inr f ↦ (r, ap (router_at w) f.1 ∙ is.here, ap (λ z. z.out_queue) f.0, ap (λ z. z.in_queue) f.0)
       ]
@@ -538,112 +402,3 @@ module _ (w v : World) (b : Books) (g : Records) (q : Key) (r : Router) (a : ℕ
       law.books_kept.mark_seen q r,
     );
   }
-
-  module _ (nodes : (f : Weight) → total_below v.count (λ j. in_node f h2 (node_at v j)) ≡ total_below w.count
-      (λ j. in_node f h2 (node_at w j))) where
-    places : (f : Weight) → in_places f h2 v ≡ in_places f g w
-    places f =
-        let msgs = under_way-rewritten (λ from to m. in_message f h2 m) w v q.node a pre post m0 m1 p in
-        let same : under_way (λ from to m. in_message f h2 m) w ≡ under_way (λ from to m. in_message f g m) w =
-        under_way-congr (λ from to m. in_message f h2 m) (λ from to m. in_message f g m) w (λ from to i m u. weigh f from to i m u) in
-        let stood_still : total_below w.count (λ j. in_node f h2 (node_at w j)) ≡ total_below w.count (λ j. in_node f g (node_at w j)) =
-        total_below-same w.count (λ j. in_node f h2 (node_at w j)) (λ j. in_node f g (node_at w j))
-        (λ j less. in_node-same f g h2 (node_at w j) (law.no_strays j)) in
-        omega (
-          arith,
-          in_places-is f h2 v,
-          in_places-is f g w,
-          msgs,
-          same,
-          stood_still,
-          nodes f,
-          in_message-item f h2 l s n item moves,
-          in_message-item f h2 l s n item (moves ++ e2 ∷ []),
-        )
-      where
-        weigh : (f : Weight) (from to i : ℕ) (m : Message) → IsUnderWay w from to i m → in_message f h2 m ≡ in_message f g m
-        weigh f from to i m u = in_message-same f g h2 m (λ x c j z ds e. source_same w v b g q r a law is t x c
-            (other_link w v b g q r a law is t x (law.items.recorded from to i x c j z ds (subst (λ m. IsUnderWay w from to i m) e u))))
-
-    pub conserved-extended : Conserved v b h2
-    conserved-extended = record {
-      exact = λ e f. places (at_end e f) ∙ law.conserved.exact e f;
-      read_put = law.conserved.read_put;
-      prefix = law.conserved.prefix;
-      gone_closed = law.conserved.gone_closed;
-      reach = λ x z at e. elim (stood w v b g q r a law is t x z at)
-          [ inl o ↦ law.conserved.reach x z o.0 e | inr o ↦ absurd (grind (arith, o.0, e)) ];
-      current = λ x z at e. elim (stood w v b g q r a law is t x z at)
-          [ inl o ↦ law.conserved.current x z o.0 e | inr o ↦ absurd (grind (arith, o.0, e)) ];
-      sink = λ x z at e. elim (stood w v b g q r a law is t x z at)
-          [ inl o ↦ law.conserved.sink x z o.0 e | inr o ↦ absurd (grind (arith, o.0, e)) ];
-      move_out = λ from to i j m c u e. elim (descriptor_came from to i j m c u e) [
-        | inl o ↦ law.conserved.move_out from to i j o.0 c o.1 o.2
-        | inr o ↦ subst (λ d. d.next_out ≡ length (b.put d.end)) (sym o.0)
-            (law.conserved.reach q r is.here is.lone)
-      ];
-      move_in = λ from to i j m c u e. elim (descriptor_came from to i j m c u e) [
-        | inl o ↦ law.conserved.move_in from to i j o.0 c o.1 o.2
-        | inr o ↦ subst (λ d. d.next_in ≡ read b d.end) (sym o.0)
-            (law.conserved.current q r is.here is.lone)
-      ];
-      move_open = λ from to i j m c u e. elim (descriptor_came from to i j m c u e) [
-        | inl o ↦ law.conserved.move_open from to i j o.0 c o.1 o.2
-        | inr o ↦ subst (λ d. is_closed b d.end ≡ false) (sym o.0) not_closed
-      ];
-      unopened_put = λ e f. law.conserved.unopened_put e (sym (nowhere_same w v b g q r a law is t e) ∙ f);
-      unopened_got = λ e f. law.conserved.unopened_got e (sym (nowhere_same w v b g q r a law is t e) ∙ f);
-    }
-
-    pub held_once-extended : HeldOnce v b h2
-    held_once-extended = record {
-      once = λ e. omega (
-        arith,
-        places (names_end e),
-        times_same w v ends e,
-        law.held_once.once e,
-        ap {B = ℕ} (λ c. cond c 0 1) (nowhere_same w v b g q r a law is t e),
-      );
-      moves_in_parcel = λ from to i x u m z ds j c o e. in_parcel from to i x u m z ds j c o e
-          (came from to i (messages.Item x u m z ds) o);
-    }
-      where
-        in_parcel : (from to i : ℕ) (x : LinkId) (u : Side) (m : ℕ) (z : Item) (ds : List Descriptor) (j : ℕ) (c : Descriptor) →
-            IsUnderWay v from to i (messages.Item x u m z ds) → slice_get ds j ≡ Some c →
-            ((IsUnderWay w from to i (messages.Item x u m z ds)) ⊎
-            ((messages.Item x u m z ds ≡ m1) × (from ≡ q.node) × (to ≡ a) × IsUnderWay w from to i m0)) →
-            has_end c.end (ends_in z) ≡ true
-        in_parcel from to i x u m z ds j c o e (inl f) = law.held_once.moves_in_parcel from to i x u m z ds j c f e
-        in_parcel from to i x u m z ds j c o e (inr f) =
-            let item_is : z ≡ item = grind (arith, f.0) in let list_is : ds ≡ moves ++ e2 ∷ [] = grind (arith, f.0) in
-            ap (λ i. has_end c.end (ends_in i)) item_is ∙ elim (last_of moves e2 c j (ap (λ ms. slice_get ms j) (sym list_is) ∙ e)) [
-              | inl old ↦ law.held_once.moves_in_parcel from to i l s n item moves j c f.3 old
-              | inr new ↦ ap (λ d. has_end d.end (ends_in item)) new ∙ named
-            ]
-
-    -- all together
-    pub inv-extended : Hands v → OpenInv v b h2
-    inv-extended hands = record {
-      counts = counts-extended w v b g q r a law is t hands;
-      ordered = ordered-extended w v b g q r a law is t;
-      shape = shape-extended w v b g q r a law is t;
-      links = links-extended w v b g q r a law is t;
-      positions = positions-extended w v b g q r a law is t;
-      stands = stands-extended w v b g q r a law is t;
-      words = words-extended w v b g q r a law is t;
-      spares = spares-extended w v b g q r a law is t;
-      bypasses = bypasses-extended w v b g q r a law is t;
-      stages = stages-extended w v b g q r a law is t;
-      told = told-extended;
-      moves = moves-extended;
-      terminals = terminals-extended w v b g q r a law is t;
-      end_places = end_places-extended;
-      books_kept = books_kept-extended;
-      items = items-extended;
-      order = order-extended w v b g q r a law is t;
-      proxy_numbers = proxy_numbers-extended w v b g q r a law is t;
-      fresh_numbers = fresh_numbers-extended;
-      conserved = conserved-extended;
-      held_once = held_once-extended;
-      no_strays = λ j. t.strays j ∙ law.no_strays j;
-    }

@@ -23,7 +23,7 @@ use Rattle.ipcz_world.specs.Remembering.{found_records, moves_records, move_reco
 use Rattle.ipcz_world.proofs.frames.Opened.{OpenInv}
 use Rattle.ipcz_world.proofs.facts.Finding.{terminal_tells}
 use Rattle.ipcz_world.proofs.weights.Weighing.{same_end-itself}
-use Rattle.ipcz_world.proofs.sends.Extending.{next_key, extended_records, IsExtend}
+use Rattle.ipcz_world.proofs.sends.ExtendingAround.{next_key, extended_records, IsExtend}
 use Rattle.ipcz_world.proofs.sends.ExtendingNodes.{extend_act, extended_node, inv-extend}
 use Rattle.ipcz_world.proofs.calls.Opening.{put_twice}
 

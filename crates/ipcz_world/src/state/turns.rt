@@ -1,6 +1,7 @@
 //! The turns of the nodes: which act comes first, and what each act does to the world.
 
-ghost use Rattle.std.specs.Prelude.{◌≡◌, ◌<◌, ◌≤◌, ◌+◌, ◌*◌, ◌&&◌, ℕ, Bool, true, false, nat_lt, map, List, length, slice_index, IfSome, IfNone, Err};
+ghost use Rattle.std.specs.Prelude.{◌≡◌, ◌<◌, ◌≤◌, ◌+◌, ◌*◌, ◌&&◌, ℕ, Bool, true, false, nat_lt, map, List, length, slice_index, IfSome};
+ghost use Rattle.std.specs.Prelude.{IfNone, Err};
 ghost use Rattle.ipcz_world.specs.World.{node_at, way, mail_at, numbers_from};
 ghost use Rattle.ipcz_node.specs.Acts.{Answers, stand_in};
 ghost use Rattle.ipcz_node.specs.RoomyNodes.{IsPossibleAct};

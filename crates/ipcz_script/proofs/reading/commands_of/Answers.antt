@@ -19,10 +19,13 @@ loop-value-preserved c =
     let i = c.loop-value.value-index in
     let rest = map view (drop (i + 1) c.args.values.now) in
     let command : command_of c.args.nodes (is_taken before) (view c.value-item.result) ≡ Some c.in-Some.command =
-    ap (λ taken. command_of c.args.nodes taken (view c.value-item.result)) (sym c.loop-value.invariant.1) ∙ sym c.in_ok-command.ensures ∙ c.in-Some.is in (
+    ap (λ taken. command_of c.args.nodes taken (view c.value-item.result)) (sym c.loop-value.invariant.1) ∙ sym c.in_ok-command.ensures ∙
+    c.in-Some.is in (
       ap (λ commands. commands_from c.args.nodes commands rest) c.in_ok-push.ensures.items
-          ∙ sym (command_more c.args.nodes before _ (view c.value-item.result) rest c.in-Some.command (map-drop view c.args.values.now i c.value-item.result c.loop-value-test.true c.value-item.is) command)
+          ∙ sym (command_more c.args.nodes before _ (view c.value-item.result) rest c.in-Some.command
+          (map-drop view c.args.values.now i c.value-item.result c.loop-value-test.true c.value-item.is) command)
           ∙ c.loop-value.invariant.0,
-      taken_after c.loop-value.opened c.note.new.self before c.push.new.self.items c.in-Some.command c.loop-value.invariant.1 c.in_ok-note.ensures.ok c.in_ok-push.ensures.items,
+      taken_after c.loop-value.opened c.note.new.self before c.push.new.self.items c.in-Some.command c.loop-value.invariant.1
+          c.in_ok-note.ensures.ok c.in_ok-push.ensures.items,
       omega (arith, ap length c.in_ok-push.ensures.items, length-append before (c.in-Some.command ∷ []), c.loop-value.invariant.2),
     )

@@ -7,7 +7,8 @@ use Rattle.ipcz_script.specs.Transcript.{IsTranscript, Writes}
 use Rattle.ipcz_script.proofs.run.transcript.Goals as goal
 
 -- a run of the script's commands from its first session is its transcript
-from-the-start : (script : Script) (s t : Session) (commands : List Command) (text : List ℕ) (unsettled : Bool) → s ≡ new_session script.nodes script.words →
+from-the-start : (script : Script) (s t : Session) (commands : List Command) (text : List ℕ) (unsettled : Bool) →
+    s ≡ new_session script.nodes script.words →
     commands ≡ script.commands → Writes s commands text unsettled t → IsTranscript script text unsettled
 from-the-start script s t commands text unsettled first all writes =
     (t, subst (λ x. Writes x script.commands text unsettled t) first (subst (λ xs. Writes s xs text unsettled t) all writes))

@@ -3,4 +3,5 @@ use Rattle.ipcz_world.proofs.code.WordNumbers.{waits-changes}
 use Rattle.ipcz_world.proofs.word_answers.other_waits.Goals as goal
 
 pub returns : goal.returns
-returns c = sym (waits-changes c.args.word c.take_waiting.result c.args.side c.requires c.take_waiting.ensures.valid c.take_waiting.ensures.moved)
+returns c = sym (waits-changes c.args.word c.take_waiting.result c.args.side c.requires c.take_waiting.ensures.valid
+    c.take_waiting.ensures.moved)

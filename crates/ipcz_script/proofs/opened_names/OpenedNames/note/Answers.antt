@@ -10,5 +10,7 @@ returns-in_ok-insert-2 c = record {
   ok = λ name.
       ap (λ s. contains s name) (c.in_ok-insert-2.ensures.ok ∙ ap (λ s. insert s c.as_str-in-Open.result.now) c.in_ok-insert.ensures.ok)
       ∙ contains-insert_two c.args.self.now c.as_str.result.now c.as_str-in-Open.result.now name
-      ∙ ap (λ b. contains c.args.self.now name || b) ((λ i. bytes_eq (c.as_str.ensures.same i) name || bytes_eq (c.as_str-in-Open.ensures.same i) name) ∙ ap (opens name) (sym c.in-Open.is));
+      ∙ ap (λ b. contains c.args.self.now name || b)
+      ((λ i. bytes_eq (c.as_str.ensures.same i) name || bytes_eq (c.as_str-in-Open.ensures.same i) name) ∙
+      ap (opens name) (sym c.in-Open.is));
 }

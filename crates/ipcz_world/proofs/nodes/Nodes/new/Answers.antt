@@ -7,4 +7,5 @@ loop-number-preserved c =
     c.in_ok-state.ensures.ok c.in-Ok.ensures.items c.loop-number.invariant
 
 pub returns-clause-nodes : goal.returns-clause-nodes
-returns-clause-nodes c = made-all c.args.count c.loop-number.number c.loop-number.states.items c.loop-number-test.false c.loop-number.invariant
+returns-clause-nodes c =
+    made-all c.args.count c.loop-number.number c.loop-number.states.items c.loop-number-test.false c.loop-number.invariant

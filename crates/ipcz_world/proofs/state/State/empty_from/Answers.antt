@@ -15,7 +15,8 @@ loop-to-preserved c =
     let seen = c.is_clear.ensures ∙ ap (λ k. is_clear (place_at Empty c.self.inside.mail k)) c.way.ensures.way
     ∙ ap (λ (w : World). is_clear (place_at Empty w.mail (way c.args.self.now c.args.n c.loop-to.to))) c.self.view_is in
     let many : c.self.inside.count ≡ c.args.self.now.count = ap (λ (w : World). w.count) c.self.view_is in
-    gathered-more (λ to. is_clear (mail_at c.args.self.now (way c.args.self.now c.args.n to))) c.loop-to.to c.loop-to.empty c.is_clear.result seen
+    gathered-more (λ to. is_clear (mail_at c.args.self.now (way c.args.self.now c.args.n to)))
+    c.loop-to.to c.loop-to.empty c.is_clear.result seen
     (omega (arith, many, c.loop-to-test.true, c.requires.regular.lengths.few)) c.loop-to.invariant
 
 pub returns : goal.returns

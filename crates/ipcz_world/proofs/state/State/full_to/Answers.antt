@@ -15,7 +15,8 @@ loop-from-preserved c =
     let seen = c.is_full.ensures ∙ ap (λ k. is_full (place_at Empty c.self.inside.mail k)) c.way.ensures.way
     ∙ ap (λ (w : World). is_full (place_at Empty w.mail (way c.args.self.now c.loop-from.from c.args.n))) c.self.view_is in
     let many : c.self.inside.count ≡ c.args.self.now.count = ap (λ (w : World). w.count) c.self.view_is in
-    gathered-more (λ from. is_full (mail_at c.args.self.now (way c.args.self.now from c.args.n))) c.loop-from.from c.loop-from.full c.is_full.result seen
+    gathered-more (λ from. is_full (mail_at c.args.self.now (way c.args.self.now from c.args.n)))
+    c.loop-from.from c.loop-from.full c.is_full.result seen
     (omega (arith, many, c.loop-from-test.true, c.requires.regular.lengths.few)) c.loop-from.invariant
 
 pub returns : goal.returns

@@ -11,6 +11,8 @@ returns c =
     let has = subst HasLengths (sym c.self.view_is) c.requires.regular.lengths in
     let here = subst (λ (w : World). c.args.n < w.count) (sym c.self.view_is) c.requires.node in
     rw (← c.self.view_is) (elim c.match-get.branch [
-      | in-Ok w ↦ get-done _ c.args.n c.args.at c.node_mut.result.now.node c.get.new.self.node w.in-Ok.number w.in-Ok.parcel _ here c.node_mut.ensures.value w.in-Ok.ensures.allowed w.in-Ok.ensures.parcel w.in-Ok.ensures.ok w.result-is
-      | in-Err w ↦ get-refused _ c.args.n c.args.at c.node_mut.result.now.node c.get.new.self.node w.in-Err.why _ has here c.node_mut.ensures.value w.in-Err.ensures.why w.in-Err.ensures.err w.result-is
+      | in-Ok w ↦ get-done _ c.args.n c.args.at c.node_mut.result.now.node c.get.new.self.node w.in-Ok.number w.in-Ok.parcel _ here
+          c.node_mut.ensures.value w.in-Ok.ensures.allowed w.in-Ok.ensures.parcel w.in-Ok.ensures.ok w.result-is
+      | in-Err w ↦ get-refused _ c.args.n c.args.at c.node_mut.result.now.node c.get.new.self.node w.in-Err.why _ has here
+          c.node_mut.ensures.value w.in-Err.ensures.why w.in-Err.ensures.err w.result-is
     ])

@@ -10,5 +10,6 @@ unfolding node_at
 loop-n-preserved c =
     let e = ap (λ (w : World). w.nodes) (sym c.self.view_is) in
     passed _ c.loop-n.n _ _ c.loop-n-test.true
-    (ap (λ xs. holds_end (place_at (bare_node 0 0) xs c.loop-n.n) c.args.end) e ∙ ap (λ x. holds_end x c.args.end) (sym c.node.ensures) ∙ sym c.holds.ensures ∙ c.if-holds.false)
+    (ap (λ xs. holds_end (place_at (bare_node 0 0) xs c.loop-n.n) c.args.end) e ∙ ap (λ x. holds_end x c.args.end) (sym c.node.ensures) ∙
+    sym c.holds.ensures ∙ c.if-holds.false)
     c.loop-n.invariant

@@ -25,5 +25,6 @@ take_up-requires c =
 pub returns : goal.returns
 returns c =
     let done = moved _ _ _ _ _ _ c.self.view_is c.in_ok-event.ensures in
-    let e = c.take_up.ensures ∙ ap (λ k. put_place Empty c.self.inside.mail k (taken_up (place_at Empty c.self.inside.mail k))) c.way-place.ensures.way in
+    let e = c.take_up.ensures ∙ ap (λ k. put_place Empty c.self.inside.mail k (taken_up (place_at Empty c.self.inside.mail k)))
+    c.way-place.ensures.way in
     rw e (done-look c.args.self.now _ c.args.n c.args.from _ done c.requires.possible)

@@ -8,7 +8,8 @@ pub open_claimed-requires-clause-word : goal.open_claimed-requires-clause-word
 unfolding node_at
 open_claimed-requires-clause-word c =
     let is = sym (c.opening.ensures ∙ ap (λ (y : Node). y.opening) (c.node.ensures)) ∙ c.in-Some.is in
-    (c.requires.regular.sound c.args.n c.requires.node).opening c.in-Some.word (subst (λ w. (node_at w c.args.n).opening ≡ Some c.in-Some.word) c.self.view_is is)
+    (c.requires.regular.sound c.args.n c.requires.node).opening c.in-Some.word
+    (subst (λ w. (node_at w c.args.n).opening ≡ Some c.in-Some.word) c.self.view_is is)
 
 pub returns-in-Some : goal.returns-in-Some
 unfolding node_at open_on

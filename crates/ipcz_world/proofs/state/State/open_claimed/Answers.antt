@@ -15,7 +15,8 @@ returns-in-Err c =
     let has = subst HasLengths (sym c.self.view_is) c.requires.regular.lengths in
     let here = subst (λ (w : World). c.args.n < w.count) (sym c.self.view_is) c.requires.node in
     rw (← c.self.view_is)
-    (open-refused _ _ c.args.n c.args.word c.node_mut-node.result.now.node c.open_prepare.new.self.node c.in-Err.why _ has here c.node_mut-node.ensures.value c.in-Err.ensures.why c.in-Err.ensures.node refl)
+    (open-refused _ _ c.args.n c.args.word c.node_mut-node.result.now.node c.open_prepare.new.self.node c.in-Err.why _ has here
+    c.node_mut-node.ensures.value c.in-Err.ensures.why c.in-Err.ensures.node refl)
 
 pub returns : goal.returns
 unfolding node_at
@@ -27,5 +28,6 @@ returns c =
     rw (← c.self.view_is)
     (subst (λ v. GivesOrNoMemory w (open_with w w c.args.n c.args.word) (Opened c.open_commit.result.0 c.open_commit.result.1) v)
     (sym (open-world w c.args.n c.args.word w.claimed c.open_commit.new.self.node c.open.new.self has within c.open.ensures))
-    (open-done w w c.args.n c.args.word c.open_prepare.new.self.node c.open_commit.new.self.node _ (c.in_default.ensures.node ∙ c.node_mut-node.ensures.value)
+    (open-done w w c.args.n c.args.word c.open_prepare.new.self.node c.open_commit.new.self.node _
+    (c.in_default.ensures.node ∙ c.node_mut-node.ensures.value)
     (ap serials_refusal c.in_default.ensures.node ∙ c.in_default.ensures.allowed) c.open_commit.ensures.node reply))

@@ -27,7 +27,8 @@ returns-in-Err c =
     let has = subst HasLengths (sym c.self.view_is) c.requires.regular.lengths in
     let here = subst (λ (w : World). c.args.n < w.count) (sym c.self.view_is) c.requires.node in
     rw (← c.self.view_is, next-word w c.args.n (sym c.has_unclaimed.ensures ∙ some))
-    (open-refused _ _ c.args.n _ c.node_mut-node.result.now.node c.open_prepare.new.self.node c.in-Err.why _ has here c.node_mut-node.ensures.value c.in-Err.ensures.why c.in-Err.ensures.node refl)
+    (open-refused _ _ c.args.n _ c.node_mut-node.result.now.node c.open_prepare.new.self.node c.in-Err.why _ has here
+    c.node_mut-node.ensures.value c.in-Err.ensures.why c.in-Err.ensures.node refl)
 
 pub returns : goal.returns
 unfolding node_at set_claimed
@@ -38,11 +39,15 @@ returns c =
     let has = subst HasLengths (sym c.self.view_is) c.requires.regular.lengths in
     let low : nat_lt w.claimed w.size ≡ true = sym c.has_unclaimed.ensures ∙ some in
     let within : w.claimed < w.size = grind (arith, low, nat_tests) in
-    let opened = c.open.ensures ∙ ap (λ t. put_word t c.claim-word.result open_word) c.claim-word.ensures.table ∙ ap (λ i. put_word (claim_one c.self.inside.words) i open_word) c.claim-word.ensures.word in
+    let opened = c.open.ensures ∙ ap (λ t. put_word t c.claim-word.result open_word) c.claim-word.ensures.table ∙
+    ap (λ i. put_word (claim_one c.self.inside.words) i open_word) c.claim-word.ensures.word in
     let made = c.open_commit.ensures.node ∙ ap (open_node c.open_prepare.new.self.node) c.claim-word.ensures.word in
-    let reply = ap (λ (p : End × End). Opened p.0 p.1) c.open_commit.ensures.ends ∙ ap (λ i. Opened (end_at i A) (end_at i B)) c.claim-word.ensures.word in
+    let reply = ap (λ (p : End × End). Opened p.0 p.1) c.open_commit.ensures.ends ∙
+    ap (λ i. Opened (end_at i A) (end_at i B)) c.claim-word.ensures.word in
     rw (← c.self.view_is, next)
-    (subst (λ v. GivesOrNoMemory w (open_with w (set_claimed w (w.claimed + 1)) c.args.n w.claimed) (Opened c.open_commit.result.0 c.open_commit.result.1) v)
+    (subst (λ v. GivesOrNoMemory w (open_with w (set_claimed w (w.claimed + 1)) c.args.n w.claimed)
+    (Opened c.open_commit.result.0 c.open_commit.result.1) v)
     (sym (open-world w c.args.n w.claimed (w.claimed + 1) c.open_commit.new.self.node c.open.new.self has within opened))
-    (open-done w (set_claimed w (w.claimed + 1)) c.args.n w.claimed c.open_prepare.new.self.node c.open_commit.new.self.node _ (c.in_default.ensures.node ∙ c.node_mut-node.ensures.value)
+    (open-done w (set_claimed w (w.claimed + 1)) c.args.n w.claimed c.open_prepare.new.self.node c.open_commit.new.self.node _
+    (c.in_default.ensures.node ∙ c.node_mut-node.ensures.value)
     (ap serials_refusal c.in_default.ensures.node ∙ c.in_default.ensures.allowed) made reply))

@@ -15,8 +15,13 @@ returns c =
     let has = subst HasLengths (sym c.self.view_is) c.requires.regular.lengths in
     let here = subst (λ (w : World). c.args.n < w.count) (sym c.self.view_is) c.requires.node in
     let p : parcels.Parcel = record { bytes = c.in-Ok.bytes; ends = c.in-Ok-copy_ends.ends } in
-    let same : p ≡ record { bytes = c.args.bytes.now; ends = c.args.ends.now } = λ j. record { bytes = c.in-Ok.ensures j; ends = c.in-Ok-copy_ends.ensures j } in
-    rw (← c.self.view_is) (subst (λ q. PutGives (the_view c.self.inside) c.args.n (put_step (the_view c.self.inside) c.args.n c.args.at q) c.match-put.result (with_node (the_view c.self.inside) c.args.n c.put.new.self.node)) same (elim c.match-put.branch [
-      | in-Ok-put w ↦ put-done _ c.args.n c.args.at p c.node_mut.result.now.node c.put.new.self.node w.in-Ok-put.number _ here c.node_mut.ensures.value w.in-Ok-put.ensures.allowed w.in-Ok-put.ensures.number w.in-Ok-put.ensures.ok w.result-is
-      | in-Err w ↦ put-refused _ c.args.n c.args.at p c.node_mut.result.now.node c.put.new.self.node w.in-Err.refused.why _ has here c.node_mut.ensures.value w.in-Err.ensures.why w.in-Err.ensures.err.2 w.result-is
+    let same : p ≡ record { bytes = c.args.bytes.now; ends = c.args.ends.now } =
+    λ j. record { bytes = c.in-Ok.ensures j; ends = c.in-Ok-copy_ends.ensures j } in
+    rw (← c.self.view_is)
+    (subst (λ q. PutGives (the_view c.self.inside) c.args.n (put_step (the_view c.self.inside) c.args.n c.args.at q) c.match-put.result
+    (with_node (the_view c.self.inside) c.args.n c.put.new.self.node)) same (elim c.match-put.branch [
+      | in-Ok-put w ↦ put-done _ c.args.n c.args.at p c.node_mut.result.now.node c.put.new.self.node w.in-Ok-put.number _ here
+          c.node_mut.ensures.value w.in-Ok-put.ensures.allowed w.in-Ok-put.ensures.number w.in-Ok-put.ensures.ok w.result-is
+      | in-Err w ↦ put-refused _ c.args.n c.args.at p c.node_mut.result.now.node c.put.new.self.node w.in-Err.refused.why _ has here
+          c.node_mut.ensures.value w.in-Err.ensures.why w.in-Err.ensures.err.2 w.result-is
     ]))

@@ -16,7 +16,8 @@ returns-in_err-prepare c =
     let a = asked _ _ c.args.n (Router c.args.serial c.args.act) c.self.view_is c.requires.regular c.requires.node c.requires.possible in
     let p = err_from_is_err_and c.from_residual.result c.from_residual.ensures.1 in
     rw (p.1, p.2, ← c.self.view_is)
-    (refused-router _ c.args.n c.args.serial c.args.act a.regular a.here c.node_mut-node.result.now.node c.prepare.new.self.node _ c.node_mut-node.ensures.value
+    (refused-router _ c.args.n c.args.serial c.args.act a.regular a.here c.node_mut-node.result.now.node c.prepare.new.self.node _
+    c.node_mut-node.ensures.value
     c.in_err-prepare.ensures.node c.in_err-prepare.ensures.why (λ grows _. c.in_err-prepare.ensures.grows grows))
 
 pub answer-answer-requires : goal.answer-answer-requires
@@ -24,7 +25,8 @@ unfolding node_at
 answer-answer-requires c =
     let a = asked _ _ c.args.n (Router c.args.serial c.args.act) c.self.view_is c.requires.regular c.requires.node c.requires.possible in
     let is = c.word_of.ensures ∙ ap (λ y. word_side y c.args.serial) (c.in_ok-prepare.ensures.node ∙ c.node_mut-node.ensures.value) in
-    subst (λ o. IfSome o (λ x. x.0 < length c.self.inside.words.words)) (sym is) (link-within _ c.args.n c.args.serial c.args.act a.regular a.here a.may)
+    subst (λ o. IfSome o (λ x. x.0 < length c.self.inside.words.words)) (sym is)
+    (link-within _ c.args.n c.args.serial c.args.act a.regular a.here a.may)
 
 pub commit-event-requires-clause-possible : goal.commit-event-requires-clause-possible
 unfolding node_at
@@ -38,7 +40,8 @@ unfolding node_at
 commit-event-requires-clause-answer c =
     let a = asked _ _ c.args.n (Router c.args.serial c.args.act) c.self.view_is c.requires.regular c.requires.node c.requires.possible in
     let is = c.word_of.ensures ∙ ap (λ y. word_side y c.args.serial) (c.in_ok-prepare.ensures.node ∙ c.node_mut-node.ensures.value) in
-    answer-kind _ c.args.n c.args.serial c.args.act a.regular a.here a.may c.answer-answer.result (c.answer-answer.ensures.answer ∙ ap (table_answer c.self.inside.words c.args.act) is)
+    answer-kind _ c.args.n c.args.serial c.args.act a.regular a.here a.may c.answer-answer.result
+    (c.answer-answer.ensures.answer ∙ ap (table_answer c.self.inside.words c.args.act) is)
 
 pub returns : goal.returns
 unfolding node_at
@@ -47,7 +50,9 @@ returns c =
     let here = c.in_ok-prepare.ensures.node ∙ c.node_mut-node.ensures.value in
     let is = c.word_of.ensures ∙ ap (λ y. word_side y c.args.serial) here in
     rw (← c.self.view_is)
-    (done-router _ c.args.n c.args.serial c.args.act a.regular a.here a.may c.prepare.new.self.node c.commit-event.new.self.node c.commit-event.result.0 c.answer-answer.result
+    (done-router _ c.args.n c.args.serial c.args.act a.regular a.here a.may c.prepare.new.self.node c.commit-event.new.self.node
+    c.commit-event.result.0 c.answer-answer.result
     c.answer-answer.new.self here (c.answer-answer.ensures.answer ∙ ap (table_answer c.self.inside.words c.args.act) is)
-    (c.answer-answer.ensures.table ∙ ap (table_after c.self.inside.words c.args.act) is) c.commit-event.ensures.node c.commit-event.ensures.event
+    (c.answer-answer.ensures.table ∙ ap (table_after c.self.inside.words c.args.act) is) c.commit-event.ensures.node
+    c.commit-event.ensures.event
     (ap (λ y. act_lacks_serials y (Router c.args.serial c.args.act)) c.in_ok-prepare.ensures.node ∙ c.in_ok-prepare.ensures.allowed))

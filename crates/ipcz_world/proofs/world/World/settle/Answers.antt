@@ -18,12 +18,14 @@ next_busy-requires-2-clause-regular c = lawful-regular _ c.self-2.invariant
 
 pub returns-in_default-clause-settles : goal.returns-in_default-clause-settles
 returns-in_default-clause-settles c =
-    settled c.args.limit c.loop-acts.acts c.loop-acts.from c.args.self.now c.loop-acts.self c.loop-acts.invariant (omega (arith, c.loop-acts-test.true))
+    settled c.args.limit c.loop-acts.acts c.loop-acts.from c.args.self.now c.loop-acts.self c.loop-acts.invariant
+    (omega (arith, c.loop-acts-test.true))
     (subst IsLawful c.self.view_is c.self.invariant) (subst (λ v. AreIdle v 0 v.count) c.self.view_is c.in_default.ensures.none)
 
 pub returns-in-Refused-clause-refused : goal.returns-in-Refused-clause-refused
 returns-in-Refused-clause-refused c =
-    refused c.args.limit c.loop-acts.acts c.loop-acts.from c.in-Some.node c.args.self.now c.loop-acts.self c.step.new.self c.in-Refused.why c.loop-acts.invariant
+    refused c.args.limit c.loop-acts.acts c.loop-acts.from c.in-Some.node c.args.self.now c.loop-acts.self c.step.new.self c.in-Refused.why
+    c.loop-acts.invariant
     (omega (arith, c.loop-acts-test.true)) (subst (λ v. IsNextBusy v c.loop-acts.from c.in-Some.node) c.self.view_is c.in-Some.ensures.some)
     (subst (λ r. StepFirst c.loop-acts.self (Turn c.in-Some.node) r c.step.new.self) c.in-Refused.is c.step.ensures.step)
 
@@ -39,7 +41,8 @@ unreachable-requires c =
 
 pub loop-acts-preserved : goal.loop-acts-preserved
 loop-acts-preserved c =
-    on_way-turn c.args.self.now c.loop-acts.self c.step.new.self c.loop-acts.acts c.loop-acts.from c.in-Some.node c.next_node-from.result c.in-Turned.field-0
+    on_way-turn c.args.self.now c.loop-acts.self c.step.new.self c.loop-acts.acts c.loop-acts.from c.in-Some.node c.next_node-from.result
+    c.in-Turned.field-0
     c.loop-acts.invariant (subst (λ v. IsNextBusy v c.loop-acts.from c.in-Some.node) c.self.view_is c.in-Some.ensures.some)
     (c.next_node-from.ensures ∙ ap (λ v. next_node v c.in-Some.node) c.self.view_is)
     (subst (λ r. StepFirst c.loop-acts.self (Turn c.in-Some.node) r c.step.new.self) c.in-Turned.is c.step.ensures.step)
@@ -52,8 +55,10 @@ returns-clause-settles c =
           (settled c.args.limit c.args.limit c.loop-acts.from c.args.self.now c.loop-acts.self
           (subst (λ k. OnWay c.args.self.now k c.loop-acts.self c.loop-acts.from) all c.loop-acts.invariant) (omega arith)
           (subst IsLawful c.self-2.view_is c.self-2.invariant) (subst (λ v. AreIdle v 0 v.count) c.self-2.view_is w.in-None.ensures.none))
-      | in-Some-next_busy w ↦ subst (λ r. IfOk r (λ answer. IsSettle c.args.limit c.args.self.now c.loop-acts.self answer)) (sym w.result-is)
-          (unsettled c.args.limit c.loop-acts.acts c.loop-acts.from w.in-Some-next_busy.field-0 c.args.self.now c.loop-acts.self c.loop-acts.invariant all
+      | in-Some-next_busy w ↦ subst (λ r. IfOk r (λ answer. IsSettle c.args.limit c.args.self.now c.loop-acts.self answer))
+          (sym w.result-is)
+          (unsettled c.args.limit c.loop-acts.acts c.loop-acts.from w.in-Some-next_busy.field-0 c.args.self.now c.loop-acts.self
+          c.loop-acts.invariant all
           (subst (λ v. IsNextBusy v c.loop-acts.from w.in-Some-next_busy.field-0) c.self-2.view_is w.in-Some-next_busy.ensures.some))
     ]
 

@@ -1,0 +1,491 @@
+-- A proxy begins: who stands where, the words, and the bypass at its first stage.
+use Rattle.std.specs.Prelude.{◌≡◌, ◌≢◌, ◌⊎◌, ◌≤◌, ℕ, Bool, true, false, cond, not, nat_eq, Option, Some, None, is_some, refl}
+use Rattle.std.proofs.Common.{arith, sym, ◌∙◌, ap, subst, inl, inr}
+use Rattle.std.proofs.lemmas.Bool.Decides.{nat_tests}
+use Rattle.std.proofs.lemmas.Option.{same_Some, none-some}
+use Rattle.ipcz_base.specs.declared.side.Side.{Side}
+use Rattle.ipcz_base.specs.declared.side.Side.TheVariants.{A, B}
+use Rattle.ipcz_base.specs.declared.link_id.LinkId.{LinkId}
+use Rattle.ipcz_base.specs.declared.link_id.LinkId.TheVariants.{Central}
+use Rattle.ipcz_base.specs.declared.link_end.LinkEnd.{LinkEnd}
+use Rattle.ipcz_base.specs.declared.message.Message.{Message}
+use Rattle.ipcz_base.specs.Sides.{opposite, same_side}
+use Rattle.ipcz_word.specs.SideSets.{has}
+use Rattle.ipcz_word.specs.Word.{Word}
+use Rattle.ipcz_router.specs.Router.{Router, inward_edge}
+use Rattle.ipcz_world.specs.World.{World, Key, same_key, word_at, router_at}
+use Rattle.ipcz_world.proofs.frames.Frames.{same_key_tells, same_key-itself}
+use Rattle.ipcz_world.specs.Books.{Books}
+use Rattle.ipcz_world.specs.Records.{Records, Owner, Spare, Fresh, Linked, Opening, is_linked, is_begun, is_recorded, inner_link}
+use Rattle.ipcz_world.specs.Records.{side_router, side_node, side_end, proxy_side, across_side}
+use Rattle.ipcz_world.specs.Remembering.{begin_records}
+use Rattle.ipcz_world.specs.Standing.{key_passes, has_primary, has_decaying, has_inward_primary, has_inward_decaying, spare_of}
+use Rattle.ipcz_world.proofs.frames.StandingRules.{standing_rules}
+use Rattle.ipcz_world.specs.Structure.{Stands, Words, Spares, is_begun_router}
+use Rattle.ipcz_world.specs.Bypasses.{BypassRecords, Stages, inner_of, fresh_of}
+use Rattle.ipcz_world.specs.Inv.{Inv}
+use Rattle.ipcz_world.proofs.facts.LinkTests.{IsLinkEnd, has_link-tells, has_link-is}
+use Rattle.ipcz_world.proofs.begins.Beginning.{Begins}
+use Rattle.ipcz_world.proofs.begins.BegunRecords.{router-begun, node-begun, end-begun, linked-begun, begun-here, begun-else, by_word}
+use Rattle.ipcz_world.proofs.begins.BegunRecords.{side-begun, by-inner, end_at}
+use Rattle.ipcz_world.proofs.begins.BegunWorld.{Sends}
+use Rattle.ipcz_world.proofs.begins.BegunAround.{IsBegunFrom, rec-begun, not-begun, not-inner, word_same, key_same, side-here}
+
+module _ {w v : World} {b : Books} {g : Records} {k : Key} {r y : Router} {p : Key} {into out : LinkEnd} {o fresh to : ℕ} {m : Message}
+    (law : Inv w b g) (is : Begins w g k r p into out o fresh) (c : Sends w v k y to m) (new : IsBegunFrom r y into out) where
+  -- the records after the begin
+  abbrev pub after : Records
+  after = begin_records g k o fresh p
+
+  -- a router stood there before, or is the one that has begun
+  before : (q : Key) (z : Router) → router_at v q ≡ Some z → ((router_at w q ≡ Some z) × (q ≢ k)) ⊎ ((q ≡ k) × (z ≡ y))
+  before q z at = go (same_key_tells q k)
+    where
+      go : ((same_key q k ≡ true) × (q ≡ k)) ⊎ ((same_key q k ≡ false) × (q ≢ k)) →
+          ((router_at w q ≡ Some z) × (q ≢ k)) ⊎ ((q ≡ k) × (z ≡ y))
+      go (inl e) = inr (e.1, grind (arith, e, c.routers q, at))
+      go (inr e) = inl (grind (arith, e, c.routers q, at), e.1)
+
+  -- what a known router passed it still passes
+  pub passes-begun : (test : Router → Bool) (q : Option Key) → key_passes w q test ≡ true → (q ≡ Some k → test r ≡ true → test y ≡ true) →
+      key_passes v q test ≡ true
+  passes-begun test None h still = absurd (grind (arith, standing_rules, h))
+  passes-begun test (Some q) h still = go (same_key_tells q k)
+    where
+      go : ((same_key q k ≡ true) × (q ≡ k)) ⊎ ((same_key q k ≡ false) × (q ≢ k)) → key_passes v (Some q) test ≡ true
+      go (inl e) = let t : test r ≡ true = grind (arith, standing_rules, e, h, is.here) in
+          grind (arith, standing_rules, e, c.routers q, still (ap Some e.1) t)
+      go (inr e) = grind (arith, standing_rules, e, h, c.routers q)
+
+  pub passes-else : (test : Router → Bool) (q : Option Key) → (q ≡ Some k → ⊥) → key_passes v q test ≡ key_passes w q test
+  passes-else test None apart = grind (arith, standing_rules)
+  passes-else test (Some q) apart = go (same_key_tells q k)
+    where
+      go : ((same_key q k ≡ true) × (q ≡ k)) ⊎ ((same_key q k ≡ false) × (q ≢ k)) → key_passes v (Some q) test ≡ key_passes w (Some q) test
+      go (inl e) = absurd (apart (ap Some e.1))
+      go (inr e) = grind (arith, standing_rules, e, c.routers q)
+
+  -- its primary links are the old and the inner one
+  had-primary : (l : LinkId) (s : Side) → has_primary l s r ≡ true → l ≡ Central o
+  had-primary l s h = let t : IsLinkEnd r.outward.primary l s = has_link-tells r.outward.primary l s h in
+      sym t.link ∙ ap (λ e. e.link) (same_Some t.end out (sym t.is ∙ is.outer)) ∙ is.outer_at
+
+  had-inward : (l : LinkId) (s : Side) → has_inward_primary l s r ≡ true → l ≡ inner_link p
+  had-inward l s h = let t : IsLinkEnd (inward_edge r).primary l s = has_link-tells (inward_edge r).primary l s h in
+      sym t.link ∙ ap (λ e. e.link) (same_Some t.end into (sym t.is ∙ is.inner)) ∙ is.inner_at
+
+  word-not : (i : ℕ) → is_begun (after.bypass i) ≡ false → nat_eq i o ≡ false
+  word-not i a = go (nat_eq i o) refl
+    where
+      go : (t : Bool) → nat_eq i o ≡ t → nat_eq i o ≡ false
+      go true e = absurd (let f : i ≡ o = grind (arith, e, nat_tests) in grind (arith, a, f, begun-here g k o fresh p))
+      go false e = e
+
+  -- this router's side of a live link is the old one's, which is live no more
+  not-here : (i : ℕ) (s : Side) → is_linked (g.owner i) ≡ true → is_begun (g.bypass i) ≡ false → nat_eq i o ≡ false →
+      side_router g (Central i) s ≡ Some k → ⊥
+  not-here i s l a n e = let f : Central i ≡ Central o = had-primary (Central i) s
+      (grind (arith, standing_rules, law.stands.central i s k l a e, is.here)) in grind (arith, word_same law is c new i o f, n, nat_tests)
+
+  pub stands-begun : Stands v after
+  stands-begun = record {
+    central = λ i s q a f e. let n : nat_eq i o ≡ false = word-not i f in let l : is_linked (g.owner i) ≡ true =
+        sym (linked-begun g k o fresh p i is.owner) ∙ a in let t : is_begun (g.bypass i) ≡ false =
+        ap is_begun (sym (begun-else g k o fresh p i n)) ∙ f in
+        let x : side_router g (Central i) s ≡ Some q = sym (router-begun g k o fresh p (Central i) s) ∙ e in
+        passes-begun _ (Some q) (law.stands.central i s q l t x) (λ u h. absurd (not-here i s l t n (x ∙ u)));
+    awaited = λ i s a e. law.stands.awaited i s (sym (linked-begun g k o fresh p i is.owner) ∙ a) e;
+    awaited_stage = λ i s j a e d. let t : (g.bypass j).stage ≡ 2 =
+        law.stands.awaited_stage i s j (sym (linked-begun g k o fresh p i is.owner) ∙ a) e d in
+        ap (λ z. z.stage) (begun-else g k o fresh p j (not-begun law is c new j (grind (arith, t, nat_tests)))) ∙ t;
+    awaited_side = λ i s j a e d. let l : is_linked (g.owner i) ≡ true = sym (linked-begun g k o fresh p i is.owner) ∙ a in
+        let t : (g.bypass j).stage ≡ 2 = law.stands.awaited_stage i s j l e d in
+        law.stands.awaited_side i s j l e d ∙
+        ap opposite (sym (side-begun g k o fresh p j (not-begun law is c new j (grind (arith, t, nat_tests)))));
+    proxy = λ i a f. proxy i a f (same_key_tells i p);
+    inner = λ i q a f e. let x : side_router g (inner_link i) B ≡ Some q = sym (router-begun g k o fresh p (inner_link i) B) ∙ e in
+        passes-begun _ (Some q) (law.stands.inner i q (sym (rec-begun law is c new (inner_link i)) ∙ a) (old-free i f) x)
+        (λ u h. absurd (other-kind i (had-primary (inner_link i) B h)));
+    by_begun = λ i j e. by i j e (same_key_tells i p);
+    by_inner = λ i j e. inner i j e (same_key_tells i p);
+  }
+    where
+      other-kind : (i : Key) → inner_link i ≡ Central o → ⊥
+      other-kind i e = cc
+
+      old-free : (i : Key) → (after.peripheral i).by ≡ None → (g.peripheral i).by ≡ None
+      old-free i f = go (same_key_tells i p)
+        where
+          go : ((same_key i p ≡ true) × (i ≡ p)) ⊎ ((same_key i p ≡ false) × (i ≢ p)) → (g.peripheral i).by ≡ None
+          go (inl a) = absurd (grind (arith, f, by-inner g k o fresh p i, a))
+          go (inr a) = grind (arith, f, by-inner g k o fresh p i, a)
+
+      proxy : (i : Key) → is_recorded v after (inner_link i) ≡ true → (after.peripheral i).by ≡ None →
+          ((same_key i p ≡ true) × (i ≡ p)) ⊎ ((same_key i p ≡ false) × (i ≢ p)) →
+          key_passes v (side_router after (inner_link i) A) (has_inward_primary (inner_link i) A) ≡ true
+      proxy i a f (inl e) = absurd (grind (arith, f, by-inner g k o fresh p i, e))
+      proxy i a f (inr e) = ap (λ t. key_passes v t (has_inward_primary (inner_link i) A)) (router-begun g k o fresh p (inner_link i) A)
+          ∙ passes-begun _ (side_router g (inner_link i) A) (law.stands.proxy i (sym (rec-begun law is c new (inner_link i)) ∙ a)
+          (old-free i f))
+          (λ u h. absurd (e.1 (key_same law is c new i p (had-inward (inner_link i) A h))))
+
+      by : (i : Key) (j : ℕ) → (after.peripheral i).by ≡ Some j → ((same_key i p ≡ true) × (i ≡ p)) ⊎ ((same_key i p ≡ false) × (i ≢ p)) →
+          is_begun (after.bypass j) ≡ true
+      by i j e (inl a) = let n : j ≡ o = grind (arith, e, by-inner g k o fresh p i, a) in grind (arith, n, begun-here g k o fresh p)
+      by i j e (inr a) = let n : is_begun (g.bypass j) ≡ true = law.stands.by_begun i j (grind (arith, e, by-inner g k o fresh p i, a)) in
+          ap is_begun (begun-else g k o fresh p j (not-begun law is c new j n)) ∙ n
+
+      inner : (i : Key) (j : ℕ) → (after.peripheral i).by ≡ Some j →
+          ((same_key i p ≡ true) × (i ≡ p)) ⊎ ((same_key i p ≡ false) × (i ≢ p)) → (after.bypass j).inner ≡ i
+      inner i j e (inl a) = let n : j ≡ o = grind (arith, e, by-inner g k o fresh p i, a) in
+          ap (λ t. (after.bypass t).inner) n ∙ ap (λ t. t.inner) (begun-here g k o fresh p) ∙ sym a.1
+      inner i j e (inr a) = let f : (g.peripheral i).by ≡ Some j = grind (arith, e, by-inner g k o fresh p i, a) in
+          ap (λ t. t.inner) (begun-else g k o fresh p j (not-begun law is c new j (law.stands.by_begun i j f))) ∙ law.stands.by_inner i j f
+
+  pub words-begun : Words v after
+  words-begun = record {
+    unused = λ i h. c.words i ∙ law.words.unused i (sym (linked-begun g k o fresh p i is.owner) ∙ h);
+    begun_stable = by_word o {P = λ i. (s : Side) → is_begun (after.bypass i) ≡ true → has (word_at v i).stable s ≡ true}
+        (λ s a. ap (λ z. has z.stable s) (c.words o) ∙ is.stable s)
+        (λ i n s a. ap (λ z. has z.stable s) (c.words i) ∙ law.words.begun_stable i s
+        (ap is_begun (sym (begun-else g k o fresh p i n)) ∙ a));
+    begun_holder = by_word o {P = λ i. (s : Side) → is_begun (after.bypass i) ≡ true →
+        has (word_at v i).holder s ≡ same_side s (proxy_side after i)}
+        (λ s a. ap (λ z. has z.holder s) (c.words o) ∙ is.holder s ∙ ap (same_side s) (sym (side-here law is c new)))
+        (λ i n s a. ap (λ z. has z.holder s) (c.words i) ∙ law.words.begun_holder i s (ap is_begun (sym (begun-else g k o fresh p i n)) ∙ a)
+        ∙ ap (same_side s) (sym (side-begun g k o fresh p i n)));
+    stable = λ i s a f. flag (λ z. has z.stable s) (λ z. z.marked) i s a f (law.words.stable i s);
+    holder = λ i s a f. flag (λ z. has z.holder s) (λ z. z.holds) i s a f (law.words.holder i s);
+    held_stable = λ i s t h. ap (λ z. has z.stable t) (c.words i) ∙ law.words.held_stable i s t
+        (sym (ap (λ z. has z.holder s) (c.words i)) ∙ h);
+    one_holder = λ i s t a d. law.words.one_holder i s t (sym (ap (λ z. has z.holder s) (c.words i)) ∙ a)
+        (sym (ap (λ z. has z.holder t) (c.words i)) ∙ d);
+  }
+    where
+      flag : (bit : Word → Bool) (test : Router → Bool) (i : ℕ) (s : Side) → is_linked (after.owner i) ≡ true →
+          is_begun (after.bypass i) ≡ false →
+          (is_linked (g.owner i) ≡ true → is_begun (g.bypass i) ≡ false →
+          bit (word_at w i) ≡ key_passes w (side_router g (Central i) s) test) →
+          bit (word_at v i) ≡ key_passes v (side_router after (Central i) s) test
+      flag bit test i s a f old =
+          let n : nat_eq i o ≡ false = word-not i f in let l : is_linked (g.owner i) ≡ true =
+          sym (linked-begun g k o fresh p i is.owner) ∙ a in let t : is_begun (g.bypass i) ≡ false =
+          ap is_begun (sym (begun-else g k o fresh p i n)) ∙ f in
+          ap bit (c.words i) ∙ old l t ∙ sym (ap (λ q. key_passes v q test) (router-begun g k o fresh p (Central i) s) ∙ passes-else test
+          (side_router g (Central i) s) (not-here i s l t n))
+
+  pub spares-begun : Spares v after
+  unfolding spare_of
+  spares-begun = record {
+    spare = λ q z i at d. elim (before q z at) [
+      | inl a ↦ let e : g.owner i ≡ Spare q = law.spares.spare q z i a.0 d in
+          owner i (Spare q) e (λ f. a.1 (spare_same q k (sym f ∙ is.owner)))
+      | inr a ↦ absurd
+          (none-some i (sym (ap (λ t. t.spare) a.1 ∙ new.spare) ∙ d))
+    ];
+    spare_back = λ q i h. back q i h (nat_eq i fresh) refl;
+    opening = λ n i e. let f : g.owner i ≡ Opening n = law.spares.opening n i (sym (c.nodes n).opening ∙ e) in
+        owner i (Opening n) f (λ t. grind (arith, t, is.owner));
+    opening_back = λ n i e. (c.nodes n).opening ∙ law.spares.opening_back n i (grind (arith, e, nat_tests));
+    fresh = λ j i e. stage j i e (nat_eq i fresh) refl;
+    fresh_back = λ j i e. named j i e (nat_eq i fresh) refl;
+  }
+    where
+      spare_same : (i j : Key) → Spare i ≡ Spare j → i ≡ j
+      spare_same i j e = cc
+
+      owner : (i : ℕ) (x : Owner) → g.owner i ≡ x → (g.owner fresh ≡ x → ⊥) → after.owner i ≡ x
+      owner i x e apart = go (nat_eq i fresh) refl
+        where
+          go : (t : Bool) → nat_eq i fresh ≡ t → after.owner i ≡ x
+          go true n = absurd (apart (let f : fresh ≡ i = grind (arith, n, nat_tests) in ap g.owner f ∙ e))
+          go false n = grind (arith, n, e)
+
+      back : (q : Key) (i : ℕ) → after.owner i ≡ Spare q → (t : Bool) → nat_eq i fresh ≡ t → spare_of (router_at v q) ≡ Some i
+      back q i h true n = absurd (grind (arith, h, n))
+      back q i h false n = go (same_key_tells q k)
+        where
+          e : spare_of (router_at w q) ≡ Some i
+          e = law.spares.spare_back q i (grind (arith, h, n))
+
+          go : ((same_key q k ≡ true) × (q ≡ k)) ⊎ ((same_key q k ≡ false) × (q ≢ k)) → spare_of (router_at v q) ≡ Some i
+          go (inl a) = absurd (grind (arith, e, a, is.here, is.spare, n, nat_tests))
+          go (inr a) = grind (arith, e, a, c.routers q)
+
+      stage : (j i : ℕ) → after.owner i ≡ Fresh j → (t : Bool) → nat_eq i fresh ≡ t → (after.bypass j).stage ≡ 1
+      stage j i e true n = let f : j ≡ o = grind (arith, e, n) in
+          ap (λ t. (after.bypass t).stage) f ∙ ap (λ t. t.stage) (begun-here g k o fresh p)
+      stage j i e false n = let f : (g.bypass j).stage ≡ 1 = law.spares.fresh j i (grind (arith, e, n)) in
+          ap (λ t. t.stage) (begun-else g k o fresh p j (not-begun law is c new j (grind (arith, f, nat_tests)))) ∙ f
+
+      named : (j i : ℕ) → after.owner i ≡ Fresh j → (t : Bool) → nat_eq i fresh ≡ t → (after.bypass j).fresh ≡ i
+      named j i e true n = let f : j ≡ o = grind (arith, e, n) in
+          ap (λ t. (after.bypass t).fresh) f ∙ ap (λ t. t.fresh) (begun-here g k o fresh p) ∙ grind (arith, n, nat_tests)
+      named j i e false n = let x : g.owner i ≡ Fresh j = grind (arith, e, n) in let f : (g.bypass j).stage ≡ 1 = law.spares.fresh j i x in
+          ap (λ t. t.fresh) (begun-else g k o fresh p j (not-begun law is c new j (grind (arith, f, nat_tests)))) ∙
+          law.spares.fresh_back j i x
+
+  late-else : (j : ℕ) → 2 ≤ (after.bypass j).stage → nat_eq j o ≡ false
+  late-else j a = go (nat_eq j o) refl
+    where
+      go : (t : Bool) → nat_eq j o ≡ t → nat_eq j o ≡ false
+      go true e = absurd (let f : j ≡ o = grind (arith, e, nat_tests) in grind (arith, a, f, begun-here g k o fresh p))
+      go false e = e
+
+  late-old : (j n : ℕ) → 2 ≤ n → n ≤ (after.bypass j).stage → n ≤ (g.bypass j).stage
+  late-old j n a d = subst (λ t. n ≤ t.stage) (begun-else g k o fresh p j (late-else j (omega (arith, a, d)))) d
+
+  -- the inner link of another bypass
+  inner-else : (j : ℕ) → is_begun (g.bypass j) ≡ true → same_key (g.bypass j).inner p ≡ false
+  inner-else j a = not-inner law is c new (g.bypass j).inner (ap is_some (law.bypasses.inner_by j a))
+
+  pub bypasses-begun : BypassRecords v after
+  bypasses-begun = record {
+    stage = by_word o {P = λ j. (after.bypass j).stage ≤ 5} (grind (arith, begun-here g k o fresh p))
+        (λ j n. grind (arith, begun-else g k o fresh p j n, law.bypasses.stage j));
+    old = by_word o {P = λ j. is_begun (after.bypass j) ≡ true → is_linked (after.owner j) ≡ true}
+        (λ a. linked-begun g k o fresh p o is.owner ∙ is.linked) (λ j n a. linked-begun g k o fresh p j is.owner ∙ law.bypasses.old j
+        (was j n a));
+    inner = by_word o {P = λ j. is_begun (after.bypass j) ≡ true → is_recorded v after (inner_of after j) ≡ true}
+        (λ a. ap (λ t. is_recorded v after (inner_link t.inner)) (begun-here g k o fresh p) ∙ rec-begun law is c new (inner_link p) ∙
+        is.inner_recorded)
+        (λ j n a. ap (λ t. is_recorded v after (inner_link t.inner)) (begun-else g k o fresh p j n) ∙
+        rec-begun law is c new (inner_of g j) ∙
+        law.bypasses.inner j (was j n a));
+    inner_by = by_word o {P = λ j. is_begun (after.bypass j) ≡ true → (after.peripheral (after.bypass j).inner).by ≡ Some j}
+        (λ a. ap (λ t. (after.peripheral t.inner).by) (begun-here g k o fresh p) ∙ by-inner g k o fresh p p ∙ ap
+        (λ t. cond t (Some o) (g.peripheral p).by) (same_key-itself p))
+        (λ j n a. ap (λ t. (after.peripheral t.inner).by) (begun-else g k o fresh p j n) ∙ by-inner g k o fresh p (g.bypass j).inner ∙ ap
+        (λ t. cond t (Some o) (g.peripheral (g.bypass j).inner).by) (inner-else j (was j n a)) ∙ law.bypasses.inner_by j (was j n a));
+    pair = by_word o {P = λ j. is_begun (after.bypass j) ≡ true → (after.peripheral (after.bypass j).inner).end.pair ≡ (g.central j).pair}
+        (λ a. ap (λ t. (after.peripheral t.inner).end.pair) (begun-here g k o fresh p) ∙ ap (λ t. t.pair)
+        (end_at g k o fresh p p ∙ is.inner_end) ∙ sym is.pair)
+        (λ j n a. ap (λ t. (after.peripheral t.inner).end.pair) (begun-else g k o fresh p j n) ∙ ap (λ t. t.pair)
+        (end_at g k o fresh p (g.bypass j).inner) ∙ law.bypasses.pair j (was j n a));
+    proxy_old = by_word o {P = λ j. is_begun (after.bypass j) ≡ true →
+        side_router after (Central j) (proxy_side after j) ≡ Some (after.bypass j).proxy}
+        (λ a. router-begun g k o fresh p (Central o) _ ∙ ap (side_router g (Central o)) (side-here law is c new) ∙ is.known ∙
+        ap (λ t. Some t.proxy)
+        (sym (begun-here g k o fresh p)))
+        (λ j n a. router-begun g k o fresh p (Central j) _ ∙ ap (side_router g (Central j)) (side-begun g k o fresh p j n) ∙
+        law.bypasses.proxy_old j (was j n a) ∙ ap (λ t. Some t.proxy) (sym (begun-else g k o fresh p j n)));
+    proxy_inner = by_word o {P = λ j. is_begun (after.bypass j) ≡ true →
+        side_router after (inner_of after j) A ≡ Some (after.bypass j).proxy}
+        (λ a. router-begun g k o fresh p _ A ∙ ap (λ t. side_router g (inner_link t.inner) A) (begun-here g k o fresh p) ∙ is.inner_known ∙
+        ap (λ t. Some t.proxy) (sym (begun-here g k o fresh p)))
+        (λ j n a. router-begun g k o fresh p _ A ∙ ap (λ t. side_router g (inner_link t.inner) A) (begun-else g k o fresh p j n) ∙
+        law.bypasses.proxy_inner j (was j n a) ∙ ap (λ t. Some t.proxy) (sym (begun-else g k o fresh p j n)));
+    across = by_word o {P = λ j. is_begun (after.bypass j) ≡ true → is_some (side_router after (Central j) (across_side after j)) ≡ true}
+        (λ a. ap is_some (router-begun g k o fresh p (Central o) _ ∙
+        ap (λ t. side_router g (Central o) (opposite t)) (side-here law is c new) ∙
+        is.across.known))
+        (λ j n a. ap is_some (router-begun g k o fresh p (Central j) _ ∙ ap (λ t. side_router g (Central j) (opposite t))
+        (side-begun g k o fresh p j n)) ∙ law.bypasses.across j (was j n a));
+    fresh = by_word o {P = λ j. (after.bypass j).stage ≡ 1 → after.owner (after.bypass j).fresh ≡ Fresh j}
+        (λ a. ap (λ t. after.owner t.fresh) (begun-here g k o fresh p) ∙ grind (arith, nat_tests))
+        (λ j n a. ap (λ t. after.owner t.fresh) (begun-else g k o fresh p j n) ∙ other (g.bypass j).fresh (Fresh j)
+        (law.bypasses.fresh j (sym (ap (λ t. t.stage) (begun-else g k o fresh p j n)) ∙ a)) (λ e. grind (arith, e, is.owner)));
+    fresh_linked = λ j a. let n = late-else j a in ap (λ t. after.owner t.fresh) (begun-else g k o fresh p j n) ∙ other (g.bypass j).fresh
+        Linked (law.bypasses.fresh_linked j (late-old j 2 (omega arith) a)) (λ e. grind (arith, e, is.owner));
+    fresh_born = λ j a. let n = late-else j a in ap (λ t. (g.central t.fresh).born) (begun-else g k o fresh p j n) ∙ law.bypasses.fresh_born
+        j (late-old j 2 (omega arith) a);
+    fresh_pair = λ j a. let n = late-else j a in ap (λ t. (g.central t.fresh).pair) (begun-else g k o fresh p j n) ∙ law.bypasses.fresh_pair
+        j (late-old j 2 (omega arith) a);
+    inner_known = λ j a. let n = late-else j a in ap is_some (router-begun g k o fresh p _ B ∙ ap
+        (λ t. side_router g (inner_link t.inner) B) (begun-else g k o fresh p j n)) ∙ law.bypasses.inner_known j
+        (late-old j 2 (omega arith) a);
+    fresh_inner = λ j a. let n = late-else j a in router-begun g k o fresh p _ _ ∙ ap
+        (λ t. side_router g (Central t.fresh) (proxy_side after j)) (begun-else g k o fresh p j n) ∙ ap (side_router g (fresh_of g j))
+        (side-begun g k o fresh p j n)
+        ∙ law.bypasses.fresh_inner j (late-old j 2 (omega arith) a) ∙ sym
+        (router-begun g k o fresh p _ B ∙ ap (λ t. side_router g (inner_link t.inner) B) (begun-else g k o fresh p j n));
+    fresh_inner_node = λ j a. let n = late-else j a in node-begun g k o fresh p _ _ ∙ ap
+        (λ t. side_node g (Central t.fresh) (proxy_side after j)) (begun-else g k o fresh p j n) ∙ ap (side_node g (fresh_of g j))
+        (side-begun g k o fresh p j n)
+        ∙ law.bypasses.fresh_inner_node j (late-old j 2 (omega arith) a) ∙ sym
+        (node-begun g k o fresh p _ B ∙ ap (λ t. side_node g (inner_link t.inner) B) (begun-else g k o fresh p j n));
+    fresh_across_node = λ j a. let n = late-else j a in node-begun g k o fresh p _ _ ∙ ap
+        (λ t. side_node g (Central t.fresh) (across_side after j)) (begun-else g k o fresh p j n) ∙ ap
+        (λ t. side_node g (fresh_of g j) (opposite t)) (side-begun g k o fresh p j n)
+        ∙ law.bypasses.fresh_across_node j (late-old j 2 (omega arith) a) ∙ sym
+        (node-begun g k o fresh p (Central j) _ ∙ ap (λ t. side_node g (Central j) (opposite t)) (side-begun g k o fresh p j n));
+    fresh_awaited = λ j a. let n = late-else j (omega (arith, a)) in
+        router-begun g k o fresh p _ _ ∙ ap (λ t. side_router g (Central t.fresh) (across_side after j)) (begun-else g k o fresh p j n) ∙ ap
+        (λ t. side_router g (fresh_of g j) (opposite t)) (side-begun g k o fresh p j n)
+        ∙ law.bypasses.fresh_awaited j (sym (ap (λ t. t.stage) (begun-else g k o fresh p j n)) ∙ a);
+    fresh_across = λ j a. let n = late-else j (omega (arith, a)) in
+        router-begun g k o fresh p _ _ ∙ ap (λ t. side_router g (Central t.fresh) (across_side after j)) (begun-else g k o fresh p j n) ∙ ap
+        (λ t. side_router g (fresh_of g j) (opposite t)) (side-begun g k o fresh p j n)
+        ∙ law.bypasses.fresh_across j (late-old j 3 (omega arith) a) ∙ sym
+        (router-begun g k o fresh p (Central j) _ ∙ ap (λ t. side_router g (Central j) (opposite t)) (side-begun g k o fresh p j n));
+    born_fresh = λ i j l e. let a : is_linked (g.owner i) ≡ true = sym (linked-begun g k o fresh p i is.owner) ∙ l in
+        ap (λ t. t.fresh) (begun-else g k o fresh p j (born i j a e)) ∙ law.bypasses.born_fresh i j a e;
+    born_stage = λ i j l e. let a : is_linked (g.owner i) ≡ true = sym (linked-begun g k o fresh p i is.owner) ∙ l in
+        subst (λ t. 2 ≤ t.stage) (sym (begun-else g k o fresh p j (born i j a e))) (law.bypasses.born_stage i j a e);
+  }
+    where
+      was : (j : ℕ) → nat_eq j o ≡ false → is_begun (after.bypass j) ≡ true → is_begun (g.bypass j) ≡ true
+      was j n a = ap is_begun (sym (begun-else g k o fresh p j n)) ∙ a
+
+      born : (i j : ℕ) → is_linked (g.owner i) ≡ true → (g.central i).born ≡ Some j → nat_eq j o ≡ false
+      born i j a e = not-begun law is c new j (grind (arith, law.bypasses.born_stage i j a e, nat_tests))
+
+      other : (i : ℕ) (x : Owner) → g.owner i ≡ x → (g.owner fresh ≡ x → ⊥) → after.owner i ≡ x
+      other i x e apart = go (nat_eq i fresh) refl
+        where
+          go : (t : Bool) → nat_eq i fresh ≡ t → after.owner i ≡ x
+          go true n = absurd (apart (let f : fresh ≡ i = grind (arith, n, nat_tests) in ap g.owner f ∙ e))
+          go false n = grind (arith, n, e)
+
+  pub stages-begun : Stages v after
+  stages-begun = record {
+    proxy_old = by_word o {P = λ j. is_begun (after.bypass j) ≡ true → (after.bypass j).stage ≤ 3 →
+        key_passes v (Some (after.bypass j).proxy) (has_decaying (Central j) (proxy_side after j)) ≡ true}
+        (λ a d. ap (λ t. key_passes v (Some t.proxy) (has_decaying (Central o) (proxy_side after o))) (begun-here g k o fresh p)
+        ∙ here (has_decaying (Central o) (proxy_side after o)) (has_link-is y.outward.decaying out (Central o) _ new.decaying is.outer_at
+        (is.outer_side ∙ sym (side-here law is c new))))
+        (λ j n a d. ap (λ t. key_passes v (Some t.proxy) (has_decaying (Central j) (proxy_side after j))) (begun-else g k o fresh p j n) ∙
+        ap (λ t. key_passes v (Some (g.bypass j).proxy) (has_decaying (Central j) t)) (side-begun g k o fresh p j n)
+        ∙ passes-else _ (Some (g.bypass j).proxy) (apart j n a) ∙ law.stages.proxy_old j (was j n a) (early j 3 n d));
+    proxy_inner = by_word o {P = λ j. is_begun (after.bypass j) ≡ true → (after.bypass j).stage ≤ 3 →
+        key_passes v (Some (after.bypass j).proxy) (has_inward_decaying (inner_of after j) A) ≡ true}
+        (λ a d. ap (λ t. key_passes v (Some t.proxy) (has_inward_decaying (inner_link t.inner) A)) (begun-here g k o fresh p) ∙ here
+        (has_inward_decaying (inner_link p) A) (has_link-is (inward_edge y).decaying into (inner_link p) A new.inward_decaying
+        is.inner_at is.inner_side))
+        (λ j n a d. ap (λ t. key_passes v (Some t.proxy) (has_inward_decaying (inner_link t.inner) A)) (begun-else g k o fresh p j n) ∙
+        passes-else _ (Some (g.bypass j).proxy) (apart j n a) ∙ law.stages.proxy_inner j (was j n a) (early j 3 n d));
+    proxy_begun = λ j z a at. begun j z a at (nat_eq j o) refl;
+    proxy_end = λ j z a at. ends j z a at (nat_eq j o) refl;
+    across_old = by_word o {P = λ j. is_begun (after.bypass j) ≡ true → (after.bypass j).stage ≤ 2 →
+        key_passes v (side_router after (Central j) (across_side after j)) (has_primary (Central j) (across_side after j)) ≡ true}
+        (λ a d. ap (λ t. key_passes v t (has_primary (Central o) (across_side after o))) across-now ∙ other-router
+        (has_primary (Central o) (across_side after o)) (ap (λ t. has_primary (Central o) (opposite t) is.across.router)
+        (side-here law is c new) ∙
+        is.across.primary))
+        (λ j n a d. ap (λ t. key_passes v t (has_primary (Central j) (across_side after j))) (across-then j n) ∙ ap
+        (λ t. key_passes v (side_router g (Central j) (across_side g j)) (has_primary (Central j) (opposite t)))
+        (side-begun g k o fresh p j n)
+        ∙ passes-else _ _ (not-k j n a d) ∙ law.stages.across_old j (was j n a) (early j 2 n d));
+    across_marked = by_word o {P = λ j. is_begun (after.bypass j) ≡ true → (after.bypass j).stage ≤ 2 →
+        key_passes v (side_router after (Central j) (across_side after j)) (λ z. z.marked) ≡ true}
+        (λ a d. ap (λ t. key_passes v t (λ z. z.marked)) across-now ∙ other-router (λ z. z.marked) is.across.marked)
+        (λ j n a d. ap (λ t. key_passes v t (λ z. z.marked)) (across-then j n) ∙ passes-else _ _ (not-k j n a d) ∙ law.stages.across_marked
+        j (was j n a) (early j 2 n d));
+    across_free = by_word o {P = λ j. is_begun (after.bypass j) ≡ true → (after.bypass j).stage ≤ 2 →
+        key_passes v (side_router after (Central j) (across_side after j)) (λ z. not z.holds) ≡ true}
+        (λ a d. ap (λ t. key_passes v t (λ z. not z.holds)) across-now ∙ other-router (λ z. not z.holds) (ap not is.across.free))
+        (λ j n a d. ap (λ t. key_passes v t (λ z. not z.holds)) (across-then j n) ∙ passes-else _ _ (not-k j n a d) ∙ law.stages.across_free
+        j (was j n a) (early j 2 n d));
+    across_fresh = λ j a d. let n = late-else j (omega (arith, a)) in
+        ap (λ t. key_passes v t (has_primary (fresh_of after j) (across_side after j))) (router-begun g k o fresh p _ _)
+        ∙ ap (λ t. key_passes v (side_router g (Central t.fresh) (across_side after j))
+        (has_primary (Central t.fresh) (across_side after j))) (begun-else g k o fresh p j n)
+        ∙ ap (λ t. key_passes v (side_router g (fresh_of g j) (opposite t)) (has_primary (fresh_of g j) (opposite t)))
+        (side-begun g k o fresh p j n)
+        ∙ passes-begun _ (side_router g (fresh_of g j) (across_side g j))
+        (law.stages.across_fresh j (late-old j 3 (omega arith) a) (early j 4 n d))
+        (λ u h. absurd (fresh-not j n a d (had-primary (fresh_of g j) (across_side g j) h)));
+    inner_primary = by_word o {P = λ j. (q : Key) → (after.bypass j).stage ≡ 1 → side_router after (inner_of after j) B ≡ Some q →
+        key_passes v (Some q) (has_primary (inner_of after j) B) ≡ true}
+        (λ q a e. ap (λ t. key_passes v (Some q) (has_primary (inner_link t.inner) B)) (begun-here g k o fresh p)
+        ∙ passes-begun _ (Some q) (law.stands.inner p q is.inner_recorded is.inner_free
+        (sym (router-begun g k o fresh p (inner_link p) B) ∙ ap (λ t. side_router after (inner_link t.inner) B)
+        (sym (begun-here g k o fresh p)) ∙ e)) (λ u h. absurd (kinds p (had-primary (inner_link p) B h))))
+        (λ j n q a e. ap (λ t. key_passes v (Some q) (has_primary (inner_link t.inner) B)) (begun-else g k o fresh p j n)
+        ∙ passes-begun _ (Some q) (law.stages.inner_primary j q (sym (ap (λ t. t.stage) (begun-else g k o fresh p j n)) ∙ a)
+        (sym (router-begun g k o fresh p (inner_of g j) B) ∙ ap (λ t. side_router after (inner_link t.inner) B)
+        (sym (begun-else g k o fresh p j n)) ∙ e)) (λ u h. absurd (kinds (g.bypass j).inner (had-primary (inner_of g j) B h))));
+    inner_decaying = λ j a d. let n = late-else j a in
+        ap (λ t. key_passes v t (has_decaying (inner_of after j) B)) (router-begun g k o fresh p _ B) ∙ ap
+        (λ t. key_passes v (side_router g (inner_link t.inner) B) (has_decaying (inner_link t.inner) B)) (begun-else g k o fresh p j n)
+        ∙ passes-begun _ (side_router g (inner_of g j) B) (law.stages.inner_decaying j (late-old j 2 (omega arith) a) (early j 4 n d))
+        (λ u h. absurd (still (inner_of g j) B h));
+  }
+    where
+      was : (j : ℕ) → nat_eq j o ≡ false → is_begun (after.bypass j) ≡ true → is_begun (g.bypass j) ≡ true
+      was j n a = ap is_begun (sym (begun-else g k o fresh p j n)) ∙ a
+
+      early : (j i : ℕ) → nat_eq j o ≡ false → (after.bypass j).stage ≤ i → (g.bypass j).stage ≤ i
+      early j i n a = subst (λ t. t.stage ≤ i) (begun-else g k o fresh p j n) a
+
+      kinds : (i : Key) → inner_link i ≡ Central o → ⊥
+      kinds i e = cc
+
+      here : (test : Router → Bool) → test y ≡ true → key_passes v (Some k) test ≡ true
+      here test t = grind (arith, standing_rules, c.routers k, same_key-itself k, t)
+
+      apart : (j : ℕ) → nat_eq j o ≡ false → is_begun (after.bypass j) ≡ true → Some (g.bypass j).proxy ≡ Some k → ⊥
+      apart j n a e = is.unbegun j (was j n a) (same_Some _ _ e)
+
+      across-now : side_router after (Central o) (across_side after o) ≡ Some is.across.key
+      across-now = router-begun g k o fresh p (Central o) _ ∙ ap (λ t. side_router g (Central o) (opposite t)) (side-here law is c new) ∙
+          is.across.known
+
+      across-then : (j : ℕ) → nat_eq j o ≡ false → side_router after (Central j) (across_side after j) ≡ side_router g (Central j)
+          (across_side g j)
+      across-then j n = router-begun g k o fresh p (Central j) _ ∙ ap (λ t. side_router g (Central j) (opposite t))
+          (side-begun g k o fresh p j n)
+
+      -- the router across isn't this one: it doesn't hold
+      other-router : (test : Router → Bool) → test is.across.router ≡ true → key_passes v (Some is.across.key) test ≡ true
+      other-router test t = passes-else test (Some is.across.key)
+          (λ e. grind (arith, same_Some is.across.key k e, is.across.at, is.here, is.across.free, is.holds)) ∙ grind
+          (arith, standing_rules, is.across.at, t)
+
+      not-k : (j : ℕ) → nat_eq j o ≡ false → is_begun (after.bypass j) ≡ true → (after.bypass j).stage ≤ 2 →
+          side_router g (Central j) (across_side g j) ≡ Some k → ⊥
+      not-k j n a d e =
+          let f : Central j ≡ Central o = had-primary (Central j) (across_side g j)
+          (grind (arith, standing_rules, law.stages.across_old j (was j n a) (early j 2 n d), e, is.here)) in
+          grind (arith, word_same law is c new j o f, n, nat_tests)
+
+      -- a marked router has nothing that decays
+      unmarked : (q : Option Key) (l : LinkId) (s : Side) → key_passes w q (λ z. z.marked) ≡ true →
+          key_passes w q (has_decaying l s) ≡ true → ⊥
+      unmarked None l s a d = grind (arith, standing_rules, a)
+      unmarked (Some q) l s a d = go (router_at w q) refl
+        where
+          go : (x : Option Router) → router_at w q ≡ x → ⊥
+          go None e = grind (arith, standing_rules, a, e)
+          go (Some z) e =
+              let t : IsLinkEnd z.outward.decaying l s = has_link-tells z.outward.decaying l s (grind (arith, standing_rules, d, e)) in
+              grind (arith, law.shape.marked_still q z e (grind (arith, standing_rules, a, e)), t.is)
+
+      fresh-not : (j : ℕ) → nat_eq j o ≡ false → 3 ≤ (after.bypass j).stage → (after.bypass j).stage ≤ 4 → fresh_of g j ≡ Central o → ⊥
+      fresh-not j n a d e = unmarked (side_router g (inner_of g j) B) (inner_of g j) B
+          (ap (λ q. key_passes w q (λ z. z.marked)) (sym (ap (λ l. side_router g l (proxy_side g j)) (sym e) ∙ law.bypasses.fresh_inner j
+          (late-old j 2 (omega arith) (omega (arith, a))))) ∙ sym (law.words.stable o (proxy_side g j) is.linked is.live) ∙ is.stable
+          (proxy_side g j))
+          (law.stages.inner_decaying j (late-old j 2 (omega arith) (omega (arith, a))) (early j 4 n d))
+
+      still : {X : Type 0} (l : LinkId) (s : Side) → has_decaying l s r ≡ true → X
+      still l s h = let t : IsLinkEnd r.outward.decaying l s = has_link-tells r.outward.decaying l s h in
+          absurd (none-some t.end (sym is.still ∙ t.is))
+
+      inner-end : side_end g (inner_link p) A ≡ r.end
+      inner-end = ap (λ l. side_end g l A) (sym is.inner_at) ∙ ap (side_end g into.link) (sym is.inner_side) ∙ sym
+          (law.links.inward_primary k r into is.here is.inner).end
+
+      old : (j : ℕ) (z : Router) → nat_eq j o ≡ false → is_begun (after.bypass j) ≡ true → router_at v (after.bypass j).proxy ≡ Some z →
+          router_at w (g.bypass j).proxy ≡ Some z
+      old j z n a at = elim (before (g.bypass j).proxy z (ap (λ t. router_at v t.proxy) (sym (begun-else g k o fresh p j n)) ∙ at))
+          [ inl e ↦ e.0 | inr e ↦ absurd (is.unbegun j (was j n a) e.0) ]
+
+      begun : (j : ℕ) (z : Router) → is_begun (after.bypass j) ≡ true → router_at v (after.bypass j).proxy ≡ Some z → (t : Bool) →
+          nat_eq j o ≡ t → is_begun_router z ≡ true
+      begun j z a at true n = let f : j ≡ o = grind (arith, n, nat_tests) in
+          let d : router_at v k ≡ Some z = ap (router_at v) (sym (ap (λ t. (after.bypass t).proxy) f ∙ ap (λ t. t.proxy)
+          (begun-here g k o fresh p))) ∙ at in
+          let e : z ≡ y = grind (arith, c.routers k, same_key-itself k, d) in grind (arith, e, new.proxy, new.inward_primary)
+      begun j z a at false n = law.stages.proxy_begun j z (was j n a) (old j z n a at)
+
+      ends : (j : ℕ) (z : Router) → is_begun (after.bypass j) ≡ true → router_at v (after.bypass j).proxy ≡ Some z → (t : Bool) →
+          nat_eq j o ≡ t → z.end ≡ side_end after (inner_of after j) A
+      ends j z a at true n = let f : j ≡ o = grind (arith, n, nat_tests) in
+          let d : router_at v k ≡ Some z = ap (router_at v) (sym (ap (λ t. (after.bypass t).proxy) f ∙ ap (λ t. t.proxy)
+          (begun-here g k o fresh p))) ∙ at in
+          let e : z ≡ y = grind (arith, c.routers k, same_key-itself k, d) in
+          ap (λ t. t.end) e ∙ new.end ∙ sym (end-begun g k o fresh p _ A ∙ ap (λ t. side_end g (inner_link (after.bypass t).inner) A) f ∙ ap
+          (λ t. side_end g (inner_link t.inner) A) (begun-here g k o fresh p) ∙ inner-end)
+      ends j z a at false n = law.stages.proxy_end j z (was j n a) (old j z n a at) ∙ sym
+          (end-begun g k o fresh p _ A ∙ ap (λ t. side_end g (inner_link t.inner) A) (begun-else g k o fresh p j n))

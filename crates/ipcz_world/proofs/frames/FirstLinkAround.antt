@@ -1,0 +1,198 @@
+-- A word becomes a pair's first link: what the records say of the links and bypasses that were there, and of the new link.
+use Rattle.std.specs.Prelude.{◌≡◌, ◌≢◌, ◌⊎◌, ◌≤◌, ℕ, Bool, true, false, nat_eq, Option, Some, None, refl}
+use Rattle.std.proofs.Common.{arith, ap, ◌∙◌, sym, inl, inr}
+use Rattle.std.proofs.lemmas.Bool.Decides.{nat_tests}
+use Rattle.ipcz_base.specs.declared.side.Side.{Side}
+use Rattle.ipcz_base.specs.declared.side.Side.TheVariants.{A, B}
+use Rattle.ipcz_base.specs.declared.end.End.{End}
+use Rattle.ipcz_base.specs.declared.link_id.LinkId.{LinkId}
+use Rattle.ipcz_base.specs.declared.link_id.LinkId.TheVariants.{Central, Peripheral}
+use Rattle.ipcz_base.specs.declared.link_end.LinkEnd.{LinkEnd}
+use Rattle.ipcz_base.specs.Sides.{opposite}
+use Rattle.ipcz_router.specs.Router.{Router}
+use Rattle.ipcz_world.specs.World.{World, Key, router_at}
+use Rattle.ipcz_world.specs.Books.{Books}
+use Rattle.ipcz_world.specs.Records.{Records, Owner, CentralRecord, Terminal, is_linked, is_begun, is_recorded, key_at, inner_link}
+use Rattle.ipcz_world.specs.Records.{bypass_of, side_router, side_node, side_end, side_length, length_by, bypass_length}
+use Rattle.ipcz_world.specs.Records.{terminal_descriptor, is_nowhere, proxy_side}
+use Rattle.ipcz_world.specs.Standing.{view, view_by, awaited_view, router_view, key_passes}
+use Rattle.ipcz_world.proofs.frames.StandingRules.{standing_rules}
+use Rattle.ipcz_world.specs.Inv.{Inv}
+use Rattle.ipcz_world.proofs.flows.SameMessages.{SameMessages}
+use Rattle.ipcz_world.proofs.frames.FreshPairs.{fresh_at, end_of, IsGrown, is_nowhere-at, central_one}
+use Rattle.ipcz_world.proofs.facts.Tests.{not_both}
+
+module _ {w v : World} {b : Books} {g : Records} {owner' : ℕ → Owner} {central' : ℕ → CentralRecord} {terminal' : End → Terminal} {i : ℕ}
+    {at : Side → Key} (law : Inv w b g) (is : IsGrown w v g owner' central' terminal' i at) where
+  abbrev h : Records
+  h = record g { owner = owner'; central = central'; terminal = terminal' }
+
+  -- a word of a link is another
+  not_here : (j : ℕ) → is_linked (g.owner j) ≡ true → j ≢ i
+  not_here j l e = not_both (is_linked (g.owner i)) (ap (λ j. is_linked (g.owner j)) (sym e) ∙ l) is.free
+
+  pub begun_apart : (o : ℕ) → is_begun (g.bypass o) ≡ true → o ≢ i
+  begun_apart o s = not_here o (law.bypasses.old o s)
+
+  pub linked_kept : (j : ℕ) → is_linked (g.owner j) ≡ true → is_linked (owner' j) ≡ true
+  linked_kept j l = ap is_linked (is.owner j (not_here j l)) ∙ l
+
+  linked_was : (j : ℕ) → j ≢ i → is_linked (owner' j) ≡ true → is_linked (g.owner j) ≡ true
+  linked_was j ne l = ap is_linked (sym (is.owner j ne)) ∙ l
+
+  pub recorded_apart : (l : LinkId) → is_recorded w g l ≡ true → l ≢ Central i
+  unfolding is_recorded
+  recorded_apart (Central j) r e = not_here j r (central_one j i e)
+  recorded_apart (Peripheral n s) r e = grind (arith, e)
+
+  pub recorded_kept : (l : LinkId) → is_recorded w g l ≡ true → is_recorded v h l ≡ true
+  unfolding is_recorded
+  recorded_kept (Central j) r = linked_kept j r
+  recorded_kept (Peripheral n s) r = grind (arith, is.count, is.next_peripheral n, r)
+
+  pub recorded_inner : (p : Key) → is_recorded v h (inner_link p) ≡ true → is_recorded w g (inner_link p) ≡ true
+  unfolding is_recorded
+  recorded_inner p r = grind (arith, is.count, is.next_peripheral p.node, r)
+
+  pub recorded_was : (l : LinkId) → is_recorded v h l ≡ true → (is_recorded w g l ≡ true) ⊎
+      ((l ≡ Central i) × (is_linked (owner' i) ≡ true))
+  unfolding is_recorded
+  recorded_was (Central j) r = go (nat_eq j i) refl
+    where
+      go : (c : Bool) → nat_eq j i ≡ c → (is_linked (g.owner j) ≡ true) ⊎ ((Central j ≡ Central i) × (is_linked (owner' i) ≡ true))
+      go true e = let s : j ≡ i = grind (arith, e, nat_tests) in inr (ap Central s, ap (λ j. is_linked (owner' j)) (sym s) ∙ r)
+      go false e = inl (linked_was j (λ s. grind (arith, e, s, nat_tests)) r)
+  recorded_was (Peripheral n s) r = inl (grind (arith, is.count, is.next_peripheral n, r))
+
+  pub router_kept : (l : LinkId) (s : Side) → l ≢ Central i → side_router h l s ≡ side_router g l s
+  unfolding side_router
+  router_kept (Central j) s ne = ap (λ (c : CentralRecord). key_at (c.node s) (c.router s)) (is.central j (λ e. ne (ap Central e)))
+  router_kept (Peripheral n x) A ne = refl
+  router_kept (Peripheral n x) B ne = refl
+
+  pub node_kept : (l : LinkId) (s : Side) → l ≢ Central i → side_node h l s ≡ side_node g l s
+  unfolding side_node
+  node_kept (Central j) s ne = ap (λ (c : CentralRecord). c.node s) (is.central j (λ e. ne (ap Central e)))
+  node_kept (Peripheral n x) A ne = refl
+  node_kept (Peripheral n x) B ne = refl
+
+  pub end_kept : (l : LinkId) (s : Side) → l ≢ Central i → side_end h l s ≡ side_end g l s
+  unfolding side_end
+  end_kept (Central j) s ne = ap (λ (c : CentralRecord). record { pair = c.pair; side = s }) (is.central j (λ e. ne (ap Central e)))
+  end_kept (Peripheral n x) s ne = refl
+
+  pub length_kept : (l : LinkId) (s : Side) → side_length h l s ≡ side_length g l s
+  unfolding length_by bypass_of bypass_length
+  length_kept l s = refl
+
+  pub bypass_kept : (l : LinkId) → bypass_of h l ≡ bypass_of g l
+  unfolding bypass_of
+  bypass_kept (Central j) = refl
+  bypass_kept (Peripheral n x) = refl
+
+  -- an end of an opened pair has its terminal where it was
+  pub terminal_kept : (e : End) → is_nowhere (g.terminal e) ≡ false → terminal' e ≡ g.terminal e
+  terminal_kept e n = elim (is.terminal e) [
+    | inl s ↦ s
+    | inr s ↦ absurd (not_both (is_nowhere (g.terminal e)) (law.terminals.unopened e (ap (λ j. is_linked (g.owner j)) s.0 ∙ is.free)) n)
+  ]
+
+  pub nowhere_was : (e : End) → is_nowhere (terminal' e) ≡ true → is_nowhere (g.terminal e) ≡ true
+  nowhere_was e n = elim (is.terminal e) [
+    | inl s ↦ ap is_nowhere (sym s) ∙ n
+    | inr s ↦ absurd (not_both (is_nowhere (terminal' e)) n (ap is_nowhere s.1 ∙ is_nowhere-at (at e.side)))
+  ]
+
+  -- who is known stands as before
+  known_same : (l : LinkId) (s : Side) (q : Key) → is_recorded w g l ≡ true → side_router g l s ≡ Some q → router_at v q ≡ router_at w q
+  known_same l s q r e = is.old q (law.counts.side_serial l s q r e)
+
+  pub kept : (q : Key) (x : Router) → router_at w q ≡ Some x → router_at v q ≡ Some x
+  kept q x e = is.old q (law.counts.serial q x e) ∙ e
+
+  pub passes_kept : (o : Option Key) (test : Router → Bool) → key_passes w o test ≡ true → key_passes v o test ≡ true
+  passes_kept None test p = grind (arith, standing_rules, p)
+  passes_kept (Some q) test p = go (router_at w q) refl
+    where
+      go : (o : Option Router) → router_at w q ≡ o → key_passes v (Some q) test ≡ true
+      go None e = absurd (grind (arith, standing_rules, p, e))
+      go (Some x) e = let f = kept q x e in grind (arith, standing_rules, p, e, f)
+
+  pub passes_same : (l : LinkId) (s : Side) (test : Router → Bool) → is_recorded w g l ≡ true →
+      key_passes v (side_router h l s) test ≡ key_passes w (side_router g l s) test
+  passes_same l s test r = ap (λ o. key_passes v o test) (router_kept l s (recorded_apart l r)) ∙ go (side_router g l s) refl
+    where
+      go : (o : Option Key) → side_router g l s ≡ o → key_passes v o test ≡ key_passes w o test
+      go None e = grind (arith, standing_rules)
+      go (Some q) e = let f = known_same l s q r e in grind (arith, standing_rules, f)
+
+  pub view_kept : (l : LinkId) (s : Side) → is_recorded w g l ≡ true → view v h l s ≡ view w g l s
+  unfolding view_by
+  view_kept l s r = ap (view_by v h l s) (router_kept l s (recorded_apart l r)) ∙ go (side_router g l s) refl
+    where
+      go : (o : Option Key) → side_router g l s ≡ o → view_by v h l s o ≡ view_by w g l s o
+      go None e = ap (λ t. awaited_view l (terminal_descriptor t))
+          (ap terminal' (end_kept l s (recorded_apart l r)) ∙ terminal_kept (side_end g l s) (law.terminals.link_opened l s r))
+      go (Some q) e = ap (router_view l s) (known_same l s q r e)
+
+  -- the new link's sides
+  pub new_router : is_linked (owner' i) ≡ true → (s : Side) → side_router h (Central i) s ≡ Some (at s)
+  unfolding side_router
+  new_router l s = let p = is.linked l in ap (λ n. key_at n ((central' i).router s)) (p.node s) ∙ ap (key_at (at s).node) (p.router s)
+
+  pub new_node : is_linked (owner' i) ≡ true → (s : Side) → side_node h (Central i) s ≡ (at s).node
+  unfolding side_node
+  new_node l s = (is.linked l).node s
+
+  pub grown_end : is_linked (owner' i) ≡ true → (s : Side) → side_end h (Central i) s ≡ end_of i s
+  unfolding side_end
+  grown_end l s = ap (λ p. end_of p s) (is.linked l).pair
+
+  pub new_recorded : is_linked (owner' i) ≡ true → is_recorded v h (Central i) ≡ true
+  unfolding is_recorded
+  new_recorded l = l
+
+  pub not_inner : (p : Key) → inner_link p ≢ Central i
+  not_inner p e = grind (arith, e)
+
+  pub begun_link : (o : ℕ) → is_begun (g.bypass o) ≡ true → Central o ≢ Central i
+  begun_link o s e = begun_apart o s (central_one o i e)
+
+  fresh_end : Side → LinkEnd
+  fresh_end s = record { link = Central i; side = s; other = (at (opposite s)).node }
+
+  pub no_end : (o : Option LinkEnd) (e : LinkEnd) → o ≡ None → o ≡ Some e → ⊥
+  no_end o e a c = cc
+
+  -- a word of a link, before or new
+  pub by_word : (j : ℕ) → is_linked (owner' j) ≡ true → ((j ≢ i) × (is_linked (g.owner j) ≡ true)) ⊎
+      ((j ≡ i) × (is_linked (owner' i) ≡ true))
+  by_word j l = go (nat_eq j i) refl
+    where
+      go : (c : Bool) → nat_eq j i ≡ c → ((j ≢ i) × (is_linked (g.owner j) ≡ true)) ⊎ ((j ≡ i) × (is_linked (owner' i) ≡ true))
+      go true e = let s : j ≡ i = grind (arith, e, nat_tests) in inr (s, ap (λ j. is_linked (owner' j)) (sym s) ∙ l)
+      go false e = let ne : j ≢ i = λ s. grind (arith, e, s, nat_tests) in inl (ne, linked_was j ne l)
+
+  pub central_apart : (j : ℕ) → j ≢ i → Central j ≢ Central i
+  central_apart j ne e = ne (central_one j i e)
+
+  pub central_recorded : (j : ℕ) → is_linked (g.owner j) ≡ true → is_recorded w g (Central j) ≡ true
+  unfolding is_recorded
+  central_recorded j l = l
+
+  -- a new terminal passes
+  pub new_passes : is_linked (owner' i) ≡ true → (s : Side) (test : Router → Bool) →
+      key_passes v (Some (at s)) test ≡ test (fresh_at i at s)
+  new_passes l s test = let e = (is.linked l).here s in grind (arith, standing_rules, e)
+
+  pub fresh_link : (o : ℕ) → 2 ≤ (g.bypass o).stage → (g.bypass o).fresh ≢ i
+  unfolding is_linked
+  fresh_link o s = not_here (g.bypass o).fresh (ap is_linked (law.bypasses.fresh_linked o s))
+
+  -- the proxy of a bypass stands as before
+  pub proxy_same : (o : ℕ) → is_begun (g.bypass o) ≡ true → router_at v (g.bypass o).proxy ≡ router_at w (g.bypass o).proxy
+  proxy_same o s = known_same (Central o) (proxy_side g o) (g.bypass o).proxy (central_recorded o (law.bypasses.old o s))
+      (law.bypasses.proxy_old o s)
+
+  pub same : SameMessages w v
+  same = record { count = is.count; flows = is.flows; peripheral = is.next_peripheral }

@@ -1,0 +1,270 @@
+-- A word becomes a pair's first link: who stands where, the words, the bypasses and their messages.
+use Rattle.std.specs.Prelude.{◌≡◌, ◌≢◌, ◌⊎◌, ◌≤◌, ℕ, Bool, true, false, nat_eq, Option, Some, None, is_some, refl}
+use Rattle.std.proofs.Common.{arith, ap, ◌∙◌, sym, inl, inr}
+use Rattle.std.proofs.lemmas.Bool.Decides.{nat_tests}
+use Rattle.ipcz_base.specs.declared.side.Side.{Side}
+use Rattle.ipcz_base.specs.declared.side.Side.TheVariants.{A, B}
+use Rattle.ipcz_base.specs.declared.end.End.{End}
+use Rattle.ipcz_base.specs.declared.link_id.LinkId.{LinkId}
+use Rattle.ipcz_base.specs.declared.link_id.LinkId.TheVariants.{Central, Peripheral}
+use Rattle.ipcz_base.specs.declared.message.Message.{Message}
+use Rattle.ipcz_base.specs.declared.message.Message.TheVariants as messages
+use Rattle.ipcz_word.specs.SideSets.{has, has-both, has-none}
+use Rattle.ipcz_base.specs.Sides.{opposite}
+use Rattle.ipcz_word.specs.Word.{Word, empty_word, open_word}
+use Rattle.ipcz_router.specs.Router.{Router}
+use Rattle.ipcz_world.specs.World.{World, Key, word_at, router_at}
+use Rattle.ipcz_world.specs.Books.{Books}
+use Rattle.ipcz_world.specs.Records.{Records, Owner, CentralRecord, Terminal, is_linked, is_begun, is_recorded, key_at, inner_link}
+use Rattle.ipcz_world.specs.Records.{side_router, proxy_side, across_side}
+use Rattle.ipcz_world.specs.Standing.{key_passes, spare_of, has_primary, has_inward_primary}
+use Rattle.ipcz_world.specs.Flows.{IsUnderWay}
+use Rattle.ipcz_world.specs.Structure.{Stands, Words, Spares}
+use Rattle.ipcz_world.specs.Bypasses.{BypassRecords, Stages, Told, inner_of, fresh_of, of_bypass, control_weight}
+use Rattle.ipcz_world.specs.Inv.{Inv}
+use Rattle.ipcz_world.proofs.flows.Flowing.{under_way-congr}
+use Rattle.ipcz_world.proofs.flows.SameMessages.{under-same, made-same, under_way-same}
+use Rattle.ipcz_world.proofs.frames.FreshPairs.{IsGrown, has_fresh, fresh_marked, about_same, expected_alike, expected_none}
+use Rattle.ipcz_world.proofs.facts.Tests.{not_both}
+use Rattle.ipcz_world.proofs.frames.FirstLinkAround.{begun_apart, linked_kept, recorded_apart, recorded_kept, recorded_inner, router_kept}
+use Rattle.ipcz_world.proofs.frames.FirstLinkAround.{node_kept, end_kept, bypass_kept, kept, passes_kept, passes_same, new_router}
+use Rattle.ipcz_world.proofs.frames.FirstLinkAround.{not_inner, begun_link, by_word, central_apart, central_recorded, new_passes}
+use Rattle.ipcz_world.proofs.frames.FirstLinkAround.{fresh_link, proxy_same, same}
+
+module _ {w v : World} {b : Books} {g : Records} {owner' : ℕ → Owner} {central' : ℕ → CentralRecord} {terminal' : End → Terminal} {i : ℕ}
+    {at : Side → Key} (law : Inv w b g) (is : IsGrown w v g owner' central' terminal' i at) where
+  abbrev h : Records
+  h = record g { owner = owner'; central = central'; terminal = terminal' }
+
+  pub stands-grown : Stands v h
+  stands-grown = record {
+    central = λ j s q l nb e. elim (by_word law is j l) [
+      | inl o ↦ passes_kept law is (Some q) (has_primary (Central j) s) (law.stands.central j s q o.1 nb
+          (sym (router_kept law is (Central j) s (central_apart law is j o.0)) ∙ e))
+      | inr o ↦ ap (λ j. key_passes v (Some q) (has_primary (Central j) s)) o.0 ∙ ap (λ k. key_passes v k (has_primary (Central i) s))
+          (sym e ∙ ap (λ j. side_router h (Central j) s) o.0 ∙ new_router law is o.1 s) ∙
+          new_passes law is o.1 s (has_primary (Central i) s) ∙ has_fresh
+          i at s
+    ];
+    awaited = λ j s l e. elim (by_word law is j l) [
+      | inl o ↦ ap (λ (c : CentralRecord). is_some c.born) (is.central j o.0) ∙ law.stands.awaited j s o.1
+          (ap (λ (c : CentralRecord). c.router s) (sym (is.central j o.0)) ∙ e)
+      | inr o ↦ absurd (known j s o e)
+    ];
+    awaited_stage = λ j s n l e born. elim (by_word law is j l) [
+      | inl o ↦ law.stands.awaited_stage j s n o.1 (ap (λ (c : CentralRecord). c.router s) (sym (is.central j o.0)) ∙ e)
+          (ap (λ (c : CentralRecord). c.born) (sym (is.central j o.0)) ∙ born)
+      | inr o ↦ absurd (known j s o e)
+    ];
+    awaited_side = λ j s n l e born. elim (by_word law is j l) [
+      | inl o ↦ law.stands.awaited_side j s n o.1 (ap (λ (c : CentralRecord). c.router s) (sym (is.central j o.0)) ∙ e)
+          (ap (λ (c : CentralRecord). c.born) (sym (is.central j o.0)) ∙ born)
+      | inr o ↦ absurd (known j s o e)
+    ];
+    proxy = λ p r nb. ap (λ o. key_passes v o (has_inward_primary (inner_link p) A))
+        (router_kept law is (inner_link p) A (not_inner law is p)) ∙
+        passes_kept law is (side_router g (inner_link p) A) (has_inward_primary (inner_link p) A)
+        (law.stands.proxy p (recorded_inner law is p r) nb);
+    inner = λ p q r nb e. passes_kept law is (Some q) (has_primary (inner_link p) B)
+        (law.stands.inner p q (recorded_inner law is p r) nb (sym (router_kept law is (inner_link p) B (not_inner law is p)) ∙ e));
+    by_begun = law.stands.by_begun;
+    by_inner = law.stands.by_inner;
+  }
+    where
+      known : (j : ℕ) (s : Side) → (j ≡ i) × (is_linked (owner' i) ≡ true) → (central' j).router s ≡ None → ⊥
+      known j s o e = let r = (is.linked o.1).router s in let two : Some (at s).serial ≡ None =
+          sym r ∙ ap (λ j. (central' j).router s) (sym o.0) ∙ e in cc
+
+  pub words-grown : Words v h
+  unfolding empty_word open_word
+  words-grown = record {
+    unused = λ j l. elim (same_number j) [
+      | inl s ↦ ap (word_at v) s ∙ is.unlinked (ap (λ j. is_linked (owner' j)) (sym s) ∙ l)
+      | inr ne ↦ is.word j ne ∙ law.words.unused j (ap is_linked (sym (is.owner j ne)) ∙ l)
+    ];
+    begun_stable = λ j s c. ap (λ (x : Word). has x.stable s) (is.word j (begun_apart law is j c)) ∙ law.words.begun_stable j s c;
+    begun_holder = λ j s c. ap (λ (x : Word). has x.holder s) (is.word j (begun_apart law is j c)) ∙ law.words.begun_holder j s c;
+    stable = λ j s l nb. elim (by_word law is j l) [
+      | inl o ↦ ap (λ (x : Word). has x.stable s) (is.word j o.0) ∙ law.words.stable j s o.1 nb ∙ sym
+          (passes_same law is (Central j) s (λ r. r.marked) (central_recorded law is j o.1))
+      | inr o ↦ ap (λ j. has (word_at v j).stable s) o.0 ∙ ap (λ (x : Word). has x.stable s) (is.linked o.1).word ∙ has-both s ∙ sym
+          (ap (λ j. key_passes v (side_router h (Central j) s) (λ r. r.marked)) o.0 ∙ ap (λ k. key_passes v k (λ r. r.marked))
+          (new_router law is o.1 s) ∙ new_passes law is o.1 s (λ r. r.marked) ∙ fresh_marked i at s)
+    ];
+    holder = λ j s l nb. elim (by_word law is j l) [
+      | inl o ↦ ap (λ (x : Word). has x.holder s) (is.word j o.0) ∙ law.words.holder j s o.1 nb ∙ sym
+          (passes_same law is (Central j) s (λ r. r.holds) (central_recorded law is j o.1))
+      | inr o ↦ ap (λ j. has (word_at v j).holder s) o.0 ∙ ap (λ (x : Word). has x.holder s) (is.linked o.1).word ∙ has-none s ∙ sym
+          (ap (λ j. key_passes v (side_router h (Central j) s) (λ r. r.holds)) o.0 ∙ ap (λ k. key_passes v k (λ r. r.holds))
+          (new_router law is o.1 s) ∙ new_passes law is o.1 s (λ r. r.holds))
+    ];
+    held_stable = λ j s t a. elim (same_number j) [
+      | inl e ↦ absurd (not_both (has (word_at v i).holder s) (ap (λ j. has (word_at v j).holder s) (sym e) ∙ a)
+          (none_held s (is_linked (owner' i)) refl))
+      | inr ne ↦ ap (λ (x : Word). has x.stable t) (is.word j ne) ∙ law.words.held_stable j s t
+          (ap (λ (x : Word). has x.holder s) (sym (is.word j ne)) ∙ a)
+    ];
+    one_holder = λ j s t a c. elim (same_number j) [
+      | inl e ↦ absurd (not_both (has (word_at v i).holder s) (ap (λ j. has (word_at v j).holder s) (sym e) ∙ a)
+          (none_held s (is_linked (owner' i)) refl))
+      | inr ne ↦ law.words.one_holder j s t (ap (λ (x : Word). has x.holder s) (sym (is.word j ne)) ∙ a)
+          (ap (λ (x : Word). has x.holder t) (sym (is.word j ne)) ∙ c)
+    ];
+  }
+    where
+      same_number : (j : ℕ) → (j ≡ i) ⊎ (j ≢ i)
+      same_number j = go (nat_eq j i) refl
+        where
+          go : (c : Bool) → nat_eq j i ≡ c → (j ≡ i) ⊎ (j ≢ i)
+          go true e = inl (grind (arith, e, nat_tests))
+          go false e = inr (λ s. grind (arith, e, s, nat_tests))
+
+      none_held : (s : Side) (c : Bool) → is_linked (owner' i) ≡ c → has (word_at v i).holder s ≡ false
+      none_held s true l = ap (λ (x : Word). has x.holder s) (is.linked l).word ∙ has-none s
+      none_held s false l = ap (λ (x : Word). has x.holder s) (is.unlinked l) ∙ has-none s
+
+  pub spares-grown : Spares v h
+  unfolding spare_of
+  spares-grown = record {
+    spare = λ q x j e a. elim (is.was q x e) [
+      | inl o ↦ let s = law.spares.spare q x j o a in is.owner j (λ f. is.no_spare q (ap g.owner (sym f) ∙ s)) ∙ s
+      | inr o ↦ absurd (not_some j (sym (ap (λ (x : Router). x.spare) o.0.is) ∙ a))
+    ];
+    spare_back = λ q j e. let ne : j ≢ i = λ f. is.not_spare q (ap owner' (sym f) ∙ e) in
+        back q j (law.spares.spare_back q j (sym (is.owner j ne) ∙ e)) (router_at w q) refl;
+    opening = is.opening;
+    opening_back = is.opening_back;
+    fresh = λ o j e. law.spares.fresh o j (sym (is.owner j (λ f. is.not_fresh o (ap owner' (sym f) ∙ e))) ∙ e);
+    fresh_back = λ o j e. law.spares.fresh_back o j (sym (is.owner j (λ f. is.not_fresh o (ap owner' (sym f) ∙ e))) ∙ e);
+  }
+    where
+      not_some : (j : ℕ) → None ≡ Some j → ⊥
+      not_some j e = cc
+
+      back : (q : Key) (j : ℕ) → spare_of (router_at w q) ≡ Some j → (o : Option Router) → router_at w q ≡ o →
+          spare_of (router_at v q) ≡ Some j
+      back q j s None e = absurd (not_some j (ap spare_of (sym e) ∙ s))
+      back q j s (Some x) e = ap spare_of (kept law is q x e ∙ sym e) ∙ s
+
+  pub bypasses-grown : BypassRecords v h
+  bypasses-grown = record {
+    stage = law.bypasses.stage;
+    old = λ o s. linked_kept law is o (law.bypasses.old o s);
+    inner = λ o s. recorded_kept law is (inner_of g o) (law.bypasses.inner o s);
+    inner_by = law.bypasses.inner_by;
+    pair = λ o s. law.bypasses.pair o s ∙ ap (λ (c : CentralRecord). c.pair) (sym (is.central o (begun_apart law is o s)));
+    proxy_old = λ o s. router_kept law is (Central o) (proxy_side g o) (begun_link law is o s) ∙ law.bypasses.proxy_old o s;
+    proxy_inner = λ o s. router_kept law is (inner_of g o) A (not_inner law is (g.bypass o).inner) ∙ law.bypasses.proxy_inner o s;
+    across = λ o s. ap is_some (router_kept law is (Central o) (across_side g o) (begun_link law is o s)) ∙ law.bypasses.across o s;
+    fresh = λ o s. let e = law.bypasses.fresh o s in is.owner (g.bypass o).fresh (λ f. is.no_fresh o (ap g.owner (sym f) ∙ e)) ∙ e;
+    fresh_linked = λ o s. is.owner (g.bypass o).fresh (fresh_link law is o s) ∙ law.bypasses.fresh_linked o s;
+    fresh_born = λ o s. ap (λ (c : CentralRecord). c.born) (is.central (g.bypass o).fresh (fresh_link law is o s)) ∙
+        law.bypasses.fresh_born o s;
+    fresh_pair = λ o s. ap (λ (c : CentralRecord). c.pair) (is.central (g.bypass o).fresh (fresh_link law is o s)) ∙
+        law.bypasses.fresh_pair o s ∙
+        ap (λ (c : CentralRecord). c.pair) (sym (is.central o (begun_apart law is o (begun o s))));
+    inner_known = λ o s. ap is_some (router_kept law is (inner_of g o) B (not_inner law is (g.bypass o).inner)) ∙
+        law.bypasses.inner_known o s;
+    fresh_inner = λ o s. router_kept law is (fresh_of g o) (proxy_side g o)
+        (central_apart law is (g.bypass o).fresh (fresh_link law is o s)) ∙
+        law.bypasses.fresh_inner o s ∙ sym (router_kept law is (inner_of g o) B (not_inner law is (g.bypass o).inner));
+    fresh_inner_node = λ o s. node_kept law is (fresh_of g o) (proxy_side g o)
+        (central_apart law is (g.bypass o).fresh (fresh_link law is o s)) ∙
+        law.bypasses.fresh_inner_node o s ∙ sym (node_kept law is (inner_of g o) B (not_inner law is (g.bypass o).inner));
+    fresh_across_node = λ o s. node_kept law is (fresh_of g o) (across_side g o)
+        (central_apart law is (g.bypass o).fresh (fresh_link law is o s)) ∙
+        law.bypasses.fresh_across_node o s ∙ sym (node_kept law is (Central o) (across_side g o) (begun_link law is o (begun o s)));
+    fresh_awaited = λ o s. router_kept law is (fresh_of g o) (across_side g o)
+        (central_apart law is (g.bypass o).fresh (fresh_link law is o (omega (arith, s))))
+        ∙ law.bypasses.fresh_awaited o s;
+    fresh_across = λ o s. router_kept law is (fresh_of g o) (across_side g o)
+        (central_apart law is (g.bypass o).fresh (fresh_link law is o (omega (arith, s))))
+        ∙ law.bypasses.fresh_across o s ∙
+        sym (router_kept law is (Central o) (across_side g o) (begun_link law is o (begun o (omega (arith, s)))));
+    born_fresh = λ j o l e. elim (by_word law is j l) [
+      | inl f ↦ law.bypasses.born_fresh j o f.1
+          (ap (λ (c : CentralRecord). c.born) (sym (is.central j f.0)) ∙ e)
+      | inr f ↦ absurd (unborn j o f e)
+    ];
+    born_stage = λ j o l e. elim (by_word law is j l) [
+      | inl f ↦ law.bypasses.born_stage j o f.1
+          (ap (λ (c : CentralRecord). c.born) (sym (is.central j f.0)) ∙ e)
+      | inr f ↦ absurd (unborn j o f e)
+    ];
+  }
+    where
+      begun : (o : ℕ) → 2 ≤ (g.bypass o).stage → is_begun (g.bypass o) ≡ true
+      begun o s = grind (arith, s, nat_tests)
+
+      unborn : (j o : ℕ) → (j ≡ i) × (is_linked (owner' i) ≡ true) → (central' j).born ≡ Some o → ⊥
+      unborn j o f e = let two : None ≡ Some o = sym (is.linked f.1).born ∙ ap (λ j. (central' j).born) (sym f.0) ∙ e in cc
+
+  passes_by : (a c : Option Key) (test : Router → Bool) → a ≡ c → key_passes w c test ≡ true → key_passes v a test ≡ true
+  passes_by a c test e p = ap (λ o. key_passes v o test) e ∙ passes_kept law is c test p
+
+  pub stages-grown : Stages v h
+  stages-grown = record {
+    proxy_old = λ o s n. passes_kept law is (Some (g.bypass o).proxy) _ (law.stages.proxy_old o s n);
+    proxy_inner = λ o s n. passes_kept law is (Some (g.bypass o).proxy) _ (law.stages.proxy_inner o s n);
+    proxy_begun = λ o r s e. law.stages.proxy_begun o r s (sym (proxy_same law is o s) ∙ e);
+    proxy_end = λ o r s e. law.stages.proxy_end o r s (sym (proxy_same law is o s) ∙ e) ∙ sym
+        (end_kept law is (inner_of g o) A (not_inner law is (g.bypass o).inner));
+    across_old = λ o s n. passes_by _ _ _ (router_kept law is (Central o) (across_side g o) (begun_link law is o s))
+        (law.stages.across_old o s n);
+    across_marked = λ o s n. passes_by _ _ _ (router_kept law is (Central o) (across_side g o) (begun_link law is o s))
+        (law.stages.across_marked o s n);
+    across_free = λ o s n. passes_by _ _ _ (router_kept law is (Central o) (across_side g o) (begun_link law is o s))
+        (law.stages.across_free o s n);
+    across_fresh = λ o s n. passes_by _ _ _ (router_kept law is (fresh_of g o) (across_side g o)
+        (central_apart law is (g.bypass o).fresh (fresh_link law is o (omega (arith, s))))) (law.stages.across_fresh o s n);
+    inner_primary = λ o q s e. passes_kept law is (Some q) _ (law.stages.inner_primary o q s
+        (sym (router_kept law is (inner_of g o) B (not_inner law is (g.bypass o).inner)) ∙ e));
+    inner_decaying = λ o s n. passes_by _ _ _ (router_kept law is (inner_of g o) B (not_inner law is (g.bypass o).inner))
+        (law.stages.inner_decaying o s n);
+  }
+
+  -- a side without a router had none
+  router_back : (l : LinkId) (s : Side) → side_router h l s ≡ None → side_router g l s ≡ None
+  unfolding side_router
+  router_back (Peripheral n x) A e = cc
+  router_back (Peripheral n x) B e = e
+  router_back (Central j) s e = go (nat_eq j i) refl (is_linked (owner' i)) refl
+    where
+      other : central' j ≡ g.central j → side_router g (Central j) s ≡ None
+      other f = ap (λ (c : CentralRecord). key_at (c.node s) (c.router s)) (sym f) ∙ e
+
+      go : (c : Bool) → nat_eq j i ≡ c → (d : Bool) → is_linked (owner' i) ≡ d → side_router g (Central j) s ≡ None
+      go false q d l = other (is.central j (λ f. grind (arith, q, f, nat_tests)))
+      go true q false l = let f : j ≡ i = grind (arith, q, nat_tests) in other (ap central' f ∙ is.still l ∙ ap g.central (sym f))
+      go true q true l = let f : j ≡ i = grind (arith, q, nat_tests) in let two : Some (at s) ≡ None =
+          sym (new_router law is l s) ∙ ap (λ j. side_router h (Central j) s) (sym f) ∙ e in cc
+
+  control_kept : (f : ℕ → ℕ → Message → ℕ) (o : ℕ) → control_weight h f o ≡ control_weight g f o
+  control_kept f o = go (is_begun (g.bypass o)) refl
+    where
+      go : (c : Bool) → is_begun (g.bypass o) ≡ c → control_weight h f o ≡ control_weight g f o
+      go true e = expected_alike g h f o refl (node_kept law is (inner_of g o) B (not_inner law is (g.bypass o).inner)) refl
+          (λ z. node_kept law is (Central o) z (begun_link law is o e))
+      go false e = expected_none h f o e ∙ sym (expected_none g f o e)
+
+  pub told-grown : Told v h
+  told-grown = record {
+    control = λ o f. under_way-congr (λ from to. of_bypass h o (f from to)) (λ from to. of_bypass g o (f from to)) v
+        (λ from to j m u. about_same g h o (f from to) m (bypass_kept law is)) ∙
+        under_way-same w v (λ from to. of_bypass g o (f from to)) (same law is) ∙
+        law.told.control o f ∙ sym (control_kept f o);
+    will_stop = λ from to j l s n u. ap is_some (bypass_kept law is l) ∙ law.told.will_stop from to j l s n
+        (under-same w v from to j (messages.ProxyWillStop l s n) (same law is) u);
+    behind = λ from to j l s old target fresh u e. made-same w v from to j l s (same law is) ∙
+        law.told.behind from to j l s old target fresh
+        (under-same w v from to j (messages.BypassPeer l s old target fresh) (same law is) u) (router_back l s e);
+    flush_central = λ from to j l s u. law.told.flush_central from to j l s (under-same w v from to j (messages.Flush l s) (same law is) u);
+    flush_recorded = λ from to j l s u. recorded_kept law is l (flushed from to j l s u);
+    flush_to = λ from to j l s u. law.told.flush_to from to j l s (under-same w v from to j (messages.Flush l s) (same law is) u) ∙ sym
+        (node_kept law is l s (recorded_apart law is l (flushed from to j l s u)));
+    flush_from = λ from to j l s u. law.told.flush_from from to j l s (under-same w v from to j (messages.Flush l s) (same law is) u) ∙ sym
+        (node_kept law is l (opposite s) (recorded_apart law is l (flushed from to j l s u)));
+  }
+    where
+      flushed : (from to j : ℕ) (l : LinkId) (s : Side) → IsUnderWay v from to j (messages.Flush l s) → is_recorded w g l ≡ true
+      flushed from to j l s u = law.told.flush_recorded from to j l s (under-same w v from to j (messages.Flush l s) (same law is) u)

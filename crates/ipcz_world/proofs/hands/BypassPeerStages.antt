@@ -1,0 +1,410 @@
+-- The router inward takes the fresh link: who stands where, the words, and where the terminals are.
+use Rattle.ipcz_world.proofs.weights.OfRecords.{none_stable, none_holder}
+use Rattle.std.specs.Prelude.{◌≡◌, ◌≢◌, ◌⊎◌, ◌≤◌, ℕ, Bool, true, false, cond, ◌&&◌, nat_eq, is_some, is_none, not, Option, Some, None}
+use Rattle.std.specs.Prelude.{unwrap_or, refl}
+use Rattle.std.proofs.Common.{arith, ap, ◌∙◌, sym, inl, inr}
+use Rattle.std.proofs.lemmas.Bool.Decides.{nat_tests}
+use Rattle.std.proofs.lemmas.Option.{none-some, same_Some}
+use Rattle.ipcz_base.specs.declared.side.Side.{Side}
+use Rattle.ipcz_base.specs.declared.side.Side.TheVariants.{A, B}
+use Rattle.ipcz_base.specs.declared.end.End.{End}
+use Rattle.ipcz_base.specs.declared.link_id.LinkId.{LinkId}
+use Rattle.ipcz_base.specs.declared.link_id.LinkId.TheVariants.{Central}
+use Rattle.ipcz_base.specs.declared.link_end.LinkEnd.{LinkEnd}
+use Rattle.ipcz_base.specs.declared.message.Message.{Message}
+use Rattle.ipcz_base.specs.declared.message.Message.TheVariants as messages
+use Rattle.ipcz_word.specs.SideSets.{has}
+use Rattle.ipcz_base.specs.Sides.{opposite, same_side}
+use Rattle.ipcz_word.specs.Word.{empty_word}
+use Rattle.ipcz_base.specs.Ends.{same_end}
+use Rattle.ipcz_world.specs.Whereabouts.{Terminals}
+use Rattle.ipcz_router.specs.Router.{is_terminal, Router}
+use Rattle.ipcz_world.specs.World.{World, Key, same_key, word_at, router_at}
+use Rattle.ipcz_world.proofs.frames.Frames.{same_key_tells}
+use Rattle.ipcz_world.specs.Books.{Books}
+use Rattle.ipcz_world.specs.Records.{Records, is_nowhere, Fresh, Spare, Opening, Linked, is_begun, is_linked, is_recorded, inner_link}
+use Rattle.ipcz_world.specs.Records.{side_router, side_end, proxy_side, across_side}
+use Rattle.ipcz_world.specs.Standing.{spare_of, has_primary, has_decaying, has_inward_primary, has_inward_decaying, passes, key_passes}
+use Rattle.ipcz_world.proofs.frames.StandingRules.{key_passes-none, standing_rules}
+use Rattle.ipcz_world.specs.Structure.{Words, Spares, Stands}
+use Rattle.ipcz_world.specs.Bypasses.{Stages, inner_of, fresh_of}
+use Rattle.ipcz_edge.specs.Edge.{no_edge}
+use Rattle.ipcz_router.specs.Bypass.{bypass_peer}
+use Rattle.ipcz_world.specs.Remembering.{taken_records}
+use Rattle.ipcz_world.proofs.flows.Handing.{handed_on, word-handed_on}
+use Rattle.ipcz_world.proofs.facts.Lengths.{side_is, has_link-tells, has_link-none, HasEnd, passed}
+use Rattle.ipcz_world.proofs.frames.Sealing.{spares_of, Sealed, Closed, stands_of, words_of, shape_of, stages_of, bypasses_of}
+use Rattle.ipcz_world.proofs.hands.BypassPeerAround.{CanPeer, here, is, itself, known, z_inner, z_end, on, by_o, r_side, central_not_inner}
+use Rattle.ipcz_world.proofs.hands.BypassPeerAround.{still, fresh_owner, not_linked, changed, at_o, at_fresh, stage_at, is_begun_same}
+use Rattle.ipcz_world.proofs.hands.BypassPeerAround.{proxy_same, inner_same, fresh_same, proxy_side_same, across_side_same, central_same}
+use Rattle.ipcz_world.proofs.hands.BypassPeerAround.{owner_same, two, begun_apart, fresh_apart, apart, router_same, end_same, recorded_back}
+use Rattle.ipcz_world.proofs.hands.BypassPeerAround.{linked_back, new_end, x_known, beyond_none, x_on_fresh, router_j, at_k, Was}
+use Rattle.ipcz_world.proofs.hands.BypassPeerAround.{was_router}
+use Rattle.ipcz_world.proofs.hands.BypassPeerLinks.{inner_is}
+
+module _ {w : World} {b : Books} {g : Records} {from : ℕ} {k : Key} {r : Router} {o : ℕ} {link : LinkId} {side : Side}
+    {target fresh : ℕ} (law : Sealed w b g) (can : Closed (CanPeer w from k r o link side target fresh)) where
+  abbrev e : LinkEnd
+  e = (z_end law can).end
+
+  -- what the hand makes of the router, the world and the records
+  abbrev x : Router
+  x = bypass_peer r target fresh
+
+  abbrev sent : Message
+  sent = messages.AcceptBypass o (opposite r.end.side) fresh r.out_queue.current
+
+  abbrev v : World
+  v = handed_on w from k x target sent
+
+  abbrev h : Records
+  h = taken_records g k r o fresh target
+
+  -- who passes a test passes it still, if the changed router does
+  keep : (q : Option Key) (test : Router → Bool) → key_passes w q test ≡ true → (q ≡ Some k → test r ≡ true → test x ≡ true) →
+      key_passes v q test ≡ true
+  unfolding key_passes passes
+  keep None test p more = absurd (grind (arith, p))
+  keep (Some q) test p more = go (same_key_tells q k)
+    where
+      go : ((same_key q k ≡ true) × (q ≡ k)) ⊎ ((same_key q k ≡ false) × (q ≢ k)) → key_passes v (Some q) test ≡ true
+      go (inl m) = let a : test r ≡ true = sym (passed w k r test (here law can)) ∙ rw m.1 at p in
+          passed v q x test (router_j law can q ∙ ap (λ c. cond c (Some x) (router_at w q)) m.0) ∙ more (ap Some m.1) a
+      go (inr m) = ap (λ c. passes c test) (router_j law can q ∙ ap (λ c. cond c (Some x) (router_at w q)) m.0) ∙ p
+
+  -- the router inward has no primary link but the inner one
+  only_inner : (l : LinkId) (s : Side) → has_primary l s r ≡ true → (l ≡ inner_of g o) × (s ≡ B)
+  only_inner l s p = let at : HasEnd r.outward.primary l s = has_link-tells r.outward.primary l s p in let same : at.end ≡ e =
+      same_Some at.end e (sym at.there ∙ on law can) in
+      (sym at.on_link ∙ ap (λ c. c.link) same ∙ (z_end law can).on_link, sym at.at_side ∙ ap (λ c. c.side) same ∙ (z_end law can).at_side)
+
+  not_central : (i : ℕ) (s : Side) → has_primary (Central i) s r ≡ true → ⊥
+  not_central i s p = central_not_inner law can i (g.bypass o).inner (only_inner (Central i) s p).0
+
+  no_decay : (l : LinkId) (s : Side) → has_decaying l s r ≡ true → ⊥
+  no_decay l s p = grind (arith, p, still law can, has_link-none l s)
+
+  abbrev New : ℕ → Type 0
+  New i = ((nat_eq i fresh ≡ true) × (i ≡ fresh)) ⊎ ((nat_eq i fresh ≡ false) × (i ≢ fresh))
+
+  pub stands-peer : Stands v h
+  stands-peer = record {
+    central = λ i s q l n m. central_at i s q l (sym (is_begun_same law can i) ∙ n) m (at_fresh law can i);
+    awaited = λ i s l n. awaited_at i s l n (at_fresh law can i);
+    awaited_stage = λ i s j l n m. awaited_stage_at i s j l n m (at_fresh law can i);
+    awaited_side = λ i s j l n m. awaited_side_at i s j l n m (at_fresh law can i);
+    proxy = λ p rec by. keep (side_router h (inner_link p) A) (has_inward_primary (inner_link p) A)
+        (ap (λ q. key_passes w q (has_inward_primary (inner_link p) A)) (router_same law can (inner_link p) A refl) ∙
+        (stands_of law).proxy p
+        (back p rec) by) (λ m t. t);
+    inner = λ p q rec by m. keep (Some q) (has_primary (inner_link p) B)
+        ((stands_of law).inner p q (back p rec) by (sym (router_same law can (inner_link p) B refl) ∙ m))
+        (λ n t. absurd (none-some o (sym by ∙ ap (λ i. (g.peripheral i).by)
+        (inner_is law can p (g.bypass o).inner (only_inner (inner_link p) B t).0) ∙ by_o law can)));
+    by_begun = λ p j n. is_begun_same law can j ∙ (stands_of law).by_begun p j n;
+    by_inner = λ p j n. inner_same law can j ∙ (stands_of law).by_inner p j n;
+  }
+    where
+      back : (p : Key) → is_recorded v h (inner_link p) ≡ true → is_recorded w g (inner_link p) ≡ true
+      back p rec = go (recorded_back law can (inner_link p) rec)
+        where
+          go : (is_recorded w g (inner_link p) ≡ true) ⊎ (inner_link p ≡ Central fresh) → is_recorded w g (inner_link p) ≡ true
+          go (inl t) = t
+          go (inr t) = absurd (central_not_inner law can fresh p (sym t))
+
+      central_at : (i : ℕ) (s : Side) (q : Key) → is_linked (h.owner i) ≡ true → is_begun (g.bypass i) ≡ false →
+          side_router h (Central i) s ≡ Some q → New i → key_passes v (Some q) (has_primary (Central i) s) ≡ true
+      central_at i s q l n m (inl t) = new_at s q (ap (λ c. side_router h (Central c) s) (sym t.1) ∙ m) (side_is s r.end.side)
+        where
+          new_at : (s : Side) (q : Key) → side_router h (Central fresh) s ≡ Some q →
+              ((same_side s r.end.side ≡ true) × (s ≡ r.end.side)) ⊎ ((same_side s r.end.side ≡ false) × (s ≡ opposite r.end.side)) →
+              key_passes v (Some q) (has_primary (Central i) s) ≡ true
+          new_at s q m (inl a) = let same : k ≡ q = same_Some k q (sym (ap (side_router h (Central fresh)) a.1 ∙ x_known law can) ∙ m) in
+              rw (t.1, a.1, ← same) (passed v k x (has_primary (Central fresh) r.end.side) (at_k law can) ∙ x_on_fresh law can)
+          new_at s q m (inr a) = absurd (none-some q (sym (ap (side_router h (Central fresh)) a.1 ∙ beyond_none law can) ∙ m))
+      central_at i s q l n m (inr t) = keep (Some q) (has_primary (Central i) s)
+          ((stands_of law).central i s q (linked_back law can i l t.0) n (sym (router_same law can (Central i) s t.0) ∙ m))
+          (λ c p. absurd (not_central i s p))
+
+      router_before : (i : ℕ) (s : Side) → nat_eq i fresh ≡ false → (h.central i).router s ≡ None → (g.central i).router s ≡ None
+      router_before i s t n = ap (λ c. c.router s) (sym (central_same law can i t)) ∙ n
+
+      born_before : (i j : ℕ) → nat_eq i fresh ≡ false → (h.central i).born ≡ Some j → (g.central i).born ≡ Some j
+      born_before i j t n = ap (λ c. c.born) (sym (central_same law can i t)) ∙ n
+
+      awaited_at : (i : ℕ) (s : Side) → is_linked (h.owner i) ≡ true → (h.central i).router s ≡ None → New i →
+          is_some (h.central i).born ≡ true
+      awaited_at i s l n (inl t) = rw t.0 refl
+      awaited_at i s l n (inr t) = ap (λ c. is_some c.born) (central_same law can i t.0) ∙
+          (stands_of law).awaited i s (linked_back law can i l t.0)
+          (router_before i s t.0 n)
+
+      awaited_stage_at : (i : ℕ) (s : Side) (j : ℕ) → is_linked (h.owner i) ≡ true → (h.central i).router s ≡ None →
+          (h.central i).born ≡ Some j → New i → (h.bypass j).stage ≡ 2
+      awaited_stage_at i s j l n m (inl t) = let same : o ≡ j = same_Some o j (rw t.0 at m) in
+          grind (arith, stage_at law can j, same, itself law can o)
+      awaited_stage_at i s j l n m (inr t) = grind (
+        arith,
+        stage_at law can j,
+        (stands_of law).awaited_stage i s j (linked_back law can i l t.0) (router_before i s t.0 n) (born_before i j t.0 m),
+      )
+
+      awaited_side_at : (i : ℕ) (s : Side) (j : ℕ) → is_linked (h.owner i) ≡ true → (h.central i).router s ≡ None →
+          (h.central i).born ≡ Some j → New i → s ≡ across_side h j
+      awaited_side_at i s j l n m (inl t) = let same : o ≡ j = same_Some o j (rw t.0 at m) in
+          let n' : cond (same_side s r.end.side) (Some k.serial) None ≡ None = rw t.0 at n in
+          other_side s n' (side_is s r.end.side) ∙ sym (across_side_same law can j ∙ ap (across_side g) (sym same) ∙
+          ap opposite (sym (r_side law can)))
+        where
+          other_side : (s : Side) → cond (same_side s r.end.side) (Some k.serial) None ≡ None →
+              ((same_side s r.end.side ≡ true) × (s ≡ r.end.side)) ⊎ ((same_side s r.end.side ≡ false) × (s ≡ opposite r.end.side)) →
+              s ≡ opposite r.end.side
+          other_side s n (inl a) = absurd (none-some k.serial (sym (rw a.0 at n)))
+          other_side s n (inr a) = a.1
+      awaited_side_at i s j l n m (inr t) = (stands_of law).awaited_side i s j (linked_back law can i l t.0) (router_before i s t.0 n)
+          (born_before i j t.0 m) ∙ sym (across_side_same law can j)
+
+  word_same : (i : ℕ) → word_at v i ≡ word_at w i
+  word_same = word-handed_on w from k x target sent
+
+  at_x : (test : Router → Bool) → key_passes v (Some k) test ≡ test x
+  at_x test = passed v k x test (at_k law can)
+
+  pub words-peer : Words v h
+  unfolding is_linked
+  words-peer = record {
+    unused = λ i l. word_same i ∙ unused_at i l (at_fresh law can i);
+    begun_stable = λ i s n. ap (λ c. has c.stable s) (word_same i) ∙ (words_of law).begun_stable i s (sym (is_begun_same law can i) ∙ n);
+    begun_holder = λ i s n. ap (λ c. has c.holder s) (word_same i) ∙ (words_of law).begun_holder i s (sym (is_begun_same law can i) ∙ n) ∙
+        ap
+        (same_side s) (sym (proxy_side_same law can i));
+    stable = λ i s l n. ap (λ c. has c.stable s) (word_same i) ∙ stable_at i s l (sym (is_begun_same law can i) ∙ n) (at_fresh law can i);
+    holder = λ i s l n. ap (λ c. has c.holder s) (word_same i) ∙ holder_at i s l (sym (is_begun_same law can i) ∙ n) (at_fresh law can i);
+    held_stable = λ i s t a. ap (λ c. has c.stable t) (word_same i) ∙ (words_of law).held_stable i s t
+        (ap (λ c. has c.holder s) (sym (word_same i)) ∙ a);
+    one_holder = λ i s t a d. (words_of law).one_holder i s t (ap (λ c. has c.holder s) (sym (word_same i)) ∙ a)
+        (ap (λ c. has c.holder t) (sym (word_same i)) ∙ d);
+  }
+    where
+      unused_at : (i : ℕ) → is_linked (h.owner i) ≡ false → New i → word_at w i ≡ empty_word
+      unused_at i l (inl t) = (words_of law).unused i (ap (λ j. is_linked (g.owner j)) t.1 ∙ not_linked law can)
+      unused_at i l (inr t) = (words_of law).unused i (ap is_linked (sym (owner_same law can i t.0)) ∙ l)
+
+      new_test : (s : Side) (test : Router → Bool) → test x ≡ false →
+          ((same_side s r.end.side ≡ true) × (s ≡ r.end.side)) ⊎ ((same_side s r.end.side ≡ false) × (s ≡ opposite r.end.side)) →
+          key_passes v (side_router h (Central fresh) s) test ≡ false
+      new_test s test off (inl a) = ap (λ q. key_passes v q test) (ap (side_router h (Central fresh)) a.1 ∙ x_known law can) ∙ at_x test ∙
+          off
+      new_test s test off (inr a) = ap (λ q. key_passes v q test) (ap (side_router h (Central fresh)) a.1 ∙ beyond_none law can) ∙
+          key_passes-none v
+          test
+
+      old_test : (i : ℕ) (s : Side) (test : Router → Bool) (q : Option Key) → side_router g (Central i) s ≡ q →
+          is_linked (g.owner i) ≡ true → is_begun (g.bypass i) ≡ false → key_passes w q test ≡ key_passes v q test
+      old_test i s test None m l n = grind (arith, standing_rules)
+      old_test i s test (Some q) m l n = go (same_key_tells q k)
+        where
+          go : ((same_key q k ≡ true) × (q ≡ k)) ⊎ ((same_key q k ≡ false) × (q ≢ k)) →
+              key_passes w (Some q) test ≡ key_passes v (Some q) test
+          go (inl c) = absurd (not_central i s (sym (passed w k r (has_primary (Central i) s) (here law can)) ∙
+              (stands_of law).central i s k l n
+              (m ∙ ap Some c.1)))
+          go (inr c) = grind (arith, standing_rules, router_j law can q, c.0)
+
+      empty_at : word_at w fresh ≡ empty_word
+      empty_at = (words_of law).unused fresh (not_linked law can)
+
+      stable_at : (i : ℕ) (s : Side) → is_linked (h.owner i) ≡ true → is_begun (g.bypass i) ≡ false → New i →
+          has (word_at w i).stable s ≡ key_passes v (side_router h (Central i) s) (λ y. y.marked)
+      stable_at i s l n (inl t) = ap (λ j. has (word_at w j).stable s) t.1 ∙ ap (λ c. has c.stable s) empty_at ∙ none_stable s ∙ sym
+          (ap (λ j. key_passes v (side_router h (Central j) s) (λ y. y.marked)) t.1 ∙ new_test s (λ y. y.marked) refl
+          (side_is s r.end.side))
+      stable_at i s l n (inr t) = (words_of law).stable i s (linked_back law can i l t.0) n ∙ old_test i s (λ y. y.marked)
+          (side_router g (Central i) s) refl (linked_back law can i l t.0) n ∙ ap (λ q. key_passes v q (λ y. y.marked))
+          (sym (router_same law can (Central i) s t.0))
+
+      holder_at : (i : ℕ) (s : Side) → is_linked (h.owner i) ≡ true → is_begun (g.bypass i) ≡ false → New i →
+          has (word_at w i).holder s ≡ key_passes v (side_router h (Central i) s) (λ y. y.holds)
+      holder_at i s l n (inl t) = ap (λ j. has (word_at w j).holder s) t.1 ∙ ap (λ c. has c.holder s) empty_at ∙ none_holder s ∙ sym
+          (ap (λ j. key_passes v (side_router h (Central j) s) (λ y. y.holds)) t.1 ∙ new_test s (λ y. y.holds) refl (side_is s r.end.side))
+      holder_at i s l n (inr t) = (words_of law).holder i s (linked_back law can i l t.0) n ∙ old_test i s (λ y. y.holds)
+          (side_router g (Central i) s) refl (linked_back law can i l t.0) n ∙ ap (λ q. key_passes v q (λ y. y.holds))
+          (sym (router_same law can (Central i) s t.0))
+
+  pub spares-peer : Spares v h
+  unfolding spare_of
+  spares-peer = record {
+    spare = λ q t i a m. let c : Was law can q t = was_router law can q t a in let s : g.owner i ≡ Spare q =
+        (spares_of law).spare q c.router i c.here_before (sym c.alike.spare ∙ m) in kept_spare i q s (at_fresh law can i);
+    spare_back = λ q i m. spare_same q ∙ (spares_of law).spare_back q i (from_spare i q m (at_fresh law can i));
+    opening = λ n i m. kept_opening i n ((spares_of law).opening n i (sym ((changed law can).opening n) ∙ m)) (at_fresh law can i);
+    opening_back = λ n i m. (changed law can).opening n ∙ (spares_of law).opening_back n i (from_opening i n m (at_fresh law can i));
+    fresh = λ j i m. fresh_stage j i (from_fresh i j m (at_fresh law can i)) (at_o law can j);
+    fresh_back = λ j i m. fresh_same law can j ∙ (spares_of law).fresh_back j i (from_fresh i j m (at_fresh law can i)).0;
+  }
+    where
+      spare_same : (q : Key) → spare_of (router_at v q) ≡ spare_of (router_at w q)
+      spare_same q = grind (arith, router_j law can q, same_key_tells q k, here law can)
+
+      kept_spare : (i : ℕ) (q : Key) → g.owner i ≡ Spare q → New i → h.owner i ≡ Spare q
+      kept_spare i q m (inl t) = absurd (grind (arith, sym m ∙ ap g.owner t.1 ∙ fresh_owner law can))
+      kept_spare i q m (inr t) = owner_same law can i t.0 ∙ m
+
+      new_owner : (i : ℕ) → nat_eq i fresh ≡ true → h.owner i ≡ Linked
+      new_owner i t = rw t refl
+
+      from_spare : (i : ℕ) (q : Key) → h.owner i ≡ Spare q → New i → g.owner i ≡ Spare q
+      from_spare i q m (inl t) = absurd (grind (arith, sym (new_owner i t.0) ∙ m))
+      from_spare i q m (inr t) = sym (owner_same law can i t.0) ∙ m
+
+      kept_opening : (i n : ℕ) → g.owner i ≡ Opening n → New i → h.owner i ≡ Opening n
+      kept_opening i n m (inl t) = absurd (grind (arith, sym m ∙ ap g.owner t.1 ∙ fresh_owner law can))
+      kept_opening i n m (inr t) = owner_same law can i t.0 ∙ m
+
+      from_opening : (i n : ℕ) → h.owner i ≡ Opening n → New i → g.owner i ≡ Opening n
+      from_opening i n m (inl t) = absurd (grind (arith, sym (new_owner i t.0) ∙ m))
+      from_opening i n m (inr t) = sym (owner_same law can i t.0) ∙ m
+
+      from_fresh : (i j : ℕ) → h.owner i ≡ Fresh j → New i → (g.owner i ≡ Fresh j) × (i ≢ fresh)
+      from_fresh i j m (inl t) = absurd (grind (arith, sym (new_owner i t.0) ∙ m))
+      from_fresh i j m (inr t) = (sym (owner_same law can i t.0) ∙ m, t.1)
+
+      fresh_stage : (j i : ℕ) → (g.owner i ≡ Fresh j) × (i ≢ fresh) → ((nat_eq j o ≡ true) × (j ≡ o)) ⊎ ((nat_eq j o ≡ false) × (j ≢ o)) →
+          (h.bypass j).stage ≡ 1
+      fresh_stage j i m (inl t) = absurd (m.1 (sym ((spares_of law).fresh_back j i m.0) ∙ ap (λ c. (g.bypass c).fresh) t.1 ∙ sym
+          (is law can).on_word))
+      fresh_stage j i m (inr t) = two law can j t.0 ∙ (spares_of law).fresh j i m.0
+
+  -- the router inward is no bypass's proxy
+  not_proxy : (j : ℕ) → is_begun (g.bypass j) ≡ true → (g.bypass j).proxy ≡ k → ⊥
+  not_proxy j n m = grind (
+    arith,
+    (stages_of law).proxy_begun j r n (ap (router_at w) m ∙ here law can),
+    (shape_of law).role k r (here law can),
+    on law can,
+  )
+
+  not_across : (j : ℕ) → is_begun (g.bypass j) ≡ true → (g.bypass j).stage ≤ 2 → side_router g (Central j) (across_side g j) ≡ Some k → ⊥
+  not_across j n l m =
+      not_central j (across_side g j) (sym (passed w k r (has_primary (Central j) (across_side g j)) (here law can)) ∙ rw m at
+      ((stages_of law).across_old j n l))
+
+  pub stages-peer : Stages v h
+  stages-peer = record {
+    proxy_old = λ j n l. proxy_old_at j (sym (is_begun_same law can j) ∙ n) l;
+    proxy_inner = λ j n l. proxy_inner_at j (sym (is_begun_same law can j) ∙ n) l;
+    proxy_begun = λ j t n a. let c : Was law can (g.bypass j).proxy t =
+        was_router law can (g.bypass j).proxy t (ap (router_at v) (sym (proxy_same law can j)) ∙ a)
+        in ap (λ u. is_some u && is_none (unwrap_or u no_edge).primary) c.inward ∙ (stages_of law).proxy_begun j c.router
+        (sym (is_begun_same law can j) ∙ n) c.here_before;
+    proxy_end = λ j t n a. let c : Was law can (g.bypass j).proxy t =
+        was_router law can (g.bypass j).proxy t (ap (router_at v) (sym (proxy_same law can j)) ∙ a) in
+        c.alike.end ∙ (stages_of law).proxy_end j c.router (sym (is_begun_same law can j) ∙ n) c.here_before ∙ sym
+        (ap (λ p. side_end h (inner_link p) A) (inner_same law can j) ∙ end_same law can (inner_of g j) A refl);
+    across_old = λ j n l. across_at j (sym (is_begun_same law can j) ∙ n) l (λ i s. has_primary (Central i) s)
+        (λ b2 st2. (stages_of law).across_old j b2 st2);
+    across_marked = λ j n l. across_at j (sym (is_begun_same law can j) ∙ n) l (λ i s y. y.marked)
+        (λ b2 st2. (stages_of law).across_marked j b2 st2);
+    across_free = λ j n l. across_at j (sym (is_begun_same law can j) ∙ n) l (λ i s y. not y.holds)
+        (λ b2 st2. (stages_of law).across_free j b2 st2);
+    across_fresh = λ j lo hi. across_fresh_at j lo hi (at_o law can j);
+    inner_primary = λ j q st m. inner_primary_at j q st m (at_o law can j);
+    inner_decaying = λ j lo hi. inner_decaying_at j lo hi (at_o law can j);
+  }
+    where
+      proxy_old_at : (j : ℕ) → is_begun (g.bypass j) ≡ true → (h.bypass j).stage ≤ 3 →
+          key_passes v (Some (h.bypass j).proxy) (has_decaying (Central j) (proxy_side h j)) ≡ true
+      proxy_old_at j n l =
+          rw (proxy_same law can j, proxy_side_same law can j) (keep (Some (g.bypass j).proxy) (has_decaying (Central j) (proxy_side g j))
+          ((stages_of law).proxy_old j n (grind (arith, l, at_o law can j, (is law can).stage)))
+          (λ m t. absurd (not_proxy j n (same_Some _ _ m))))
+
+      proxy_inner_at : (j : ℕ) → is_begun (g.bypass j) ≡ true → (h.bypass j).stage ≤ 3 →
+          key_passes v (Some (h.bypass j).proxy) (has_inward_decaying (inner_of h j) A) ≡ true
+      proxy_inner_at j n l =
+          rw (proxy_same law can j, inner_same law can j) (keep (Some (g.bypass j).proxy) (has_inward_decaying (inner_of g j) A)
+          ((stages_of law).proxy_inner j n (grind (arith, l, at_o law can j, (is law can).stage)))
+          (λ m t. absurd (not_proxy j n (same_Some _ _ m))))
+
+      across_at : (j : ℕ) → is_begun (g.bypass j) ≡ true → (h.bypass j).stage ≤ 2 → (test : ℕ → Side → Router → Bool) →
+          (is_begun (g.bypass j) ≡ true → (g.bypass j).stage ≤ 2 →
+          key_passes w (side_router g (Central j) (across_side g j)) (test j (across_side g j)) ≡ true) →
+          key_passes v (side_router h (Central j) (across_side h j)) (test j (across_side h j)) ≡ true
+      across_at j n l test old = let l' : (g.bypass j).stage ≤ 2 = grind (arith, l, at_o law can j, (is law can).stage) in
+          rw (across_side_same law can j, router_same law can (Central j) (across_side g j) (begun_apart law can j n))
+          (keep (side_router g (Central j) (across_side g j)) (test j (across_side g j)) (old n l')
+          (λ m t. absurd (not_across j n l' m)))
+
+      across_fresh_at : (j : ℕ) → 3 ≤ (h.bypass j).stage → (h.bypass j).stage ≤ 4 →
+          ((nat_eq j o ≡ true) × (j ≡ o)) ⊎ ((nat_eq j o ≡ false) × (j ≢ o)) →
+          key_passes v (side_router h (fresh_of h j) (across_side h j)) (has_primary (fresh_of h j) (across_side h j)) ≡ true
+      across_fresh_at j lo hi (inl c) = absurd (grind (arith, lo, c.0))
+      across_fresh_at j lo hi (inr c) = let lo' : 3 ≤ (g.bypass j).stage = rw c.0 at lo in let hi' : (g.bypass j).stage ≤ 4 =
+          rw c.0 at hi in
+          rw (
+            fresh_same law can j,
+            across_side_same law can j,
+            router_same law can (fresh_of g j) (across_side g j) (fresh_apart law can j (omega (arith, lo'))),
+          )
+          (keep (side_router g (fresh_of g j) (across_side g j)) (has_primary (fresh_of g j) (across_side g j))
+          ((stages_of law).across_fresh j lo' hi') (λ m t. absurd (not_central (g.bypass j).fresh (across_side g j) t)))
+
+      inner_primary_at : (j : ℕ) (q : Key) → (h.bypass j).stage ≡ 1 → side_router h (inner_of h j) B ≡ Some q →
+          ((nat_eq j o ≡ true) × (j ≡ o)) ⊎ ((nat_eq j o ≡ false) × (j ≢ o)) → key_passes v (Some q) (has_primary (inner_of h j) B) ≡ true
+      inner_primary_at j q st m (inl c) = absurd (grind (arith, st, c.0))
+      inner_primary_at j q st m (inr c) = let st' : (g.bypass j).stage ≡ 1 = rw c.0 at st in let b' : is_begun (g.bypass j) ≡ true =
+          grind (arith, st', nat_tests) in
+          rw (inner_same law can j) (keep (Some q) (has_primary (inner_of g j) B)
+          ((stages_of law).inner_primary j q st' (sym (router_same law can (inner_of g j) B refl) ∙ ap (λ p. side_router h (inner_link p) B)
+          (sym (inner_same law can j)) ∙ m))
+          (λ n t. absurd (c.1 (same_Some j o (sym ((bypasses_of law).inner_by j b') ∙ ap (λ p. (g.peripheral p).by)
+          (inner_is law can (g.bypass j).inner (g.bypass o).inner (only_inner (inner_of g j) B t).0) ∙ by_o law can)))))
+
+      inner_decaying_at : (j : ℕ) → 2 ≤ (h.bypass j).stage → (h.bypass j).stage ≤ 4 →
+          ((nat_eq j o ≡ true) × (j ≡ o)) ⊎ ((nat_eq j o ≡ false) × (j ≢ o)) →
+          key_passes v (side_router h (inner_of h j) B) (has_decaying (inner_of h j) B) ≡ true
+      inner_decaying_at j lo hi (inl c) = let same : (h.bypass j).inner ≡ (g.bypass o).inner =
+          inner_same law can j ∙ ap (λ i. (g.bypass i).inner) c.1 in
+          rw same (ap (λ q. key_passes v q (has_decaying (inner_of g o) B)) (router_same law can (inner_of g o) B refl ∙ known law can) ∙
+          at_x
+          (has_decaying (inner_of g o) B) ∙ z_inner law can)
+      inner_decaying_at j lo hi (inr c) = rw (inner_same law can j, router_same law can (inner_of g j) B refl)
+          (keep (side_router g (inner_of g j) B) (has_decaying (inner_of g j) B)
+          ((stages_of law).inner_decaying j (rw c.0 at lo) (rw c.0 at hi)) (λ m t. absurd (no_decay (inner_of g j) B t)))
+
+  pub terminals-peer : Terminals w g → Terminals v h
+  terminals-peer terms = record {
+    terminal = λ q t a m. let c : Was law can q t = was_router law can q t a in ap g.terminal c.alike.end ∙
+        terms.terminal q c.router c.here_before
+        (sym c.alike.terminal ∙ m);
+    stands = λ d q m. keep (Some q) (λ y. is_terminal y && same_end y.end d) (terms.stands d q m) (λ n t. t);
+    opened = λ q t a. let c : Was law can q t = was_router law can q t a in ap (λ d. is_nowhere (g.terminal d)) c.alike.end ∙
+        terms.opened q c.router
+        c.here_before;
+    link_opened = λ l s rec. link_opened_at l s (recorded_back law can l rec);
+    both = terms.both;
+    unopened = λ d m. terms.unopened d (unlinked d.pair m (at_fresh law can d.pair));
+    other_pair = λ d m n. other d m n (at_fresh law can d.pair);
+  }
+    where
+      other : (d : End) → is_linked (h.owner d.pair) ≡ true → nat_eq (h.central d.pair).pair d.pair ≡ false → New d.pair →
+          is_nowhere (g.terminal d) ≡ true
+      other d m n (inl t) = terms.unopened d (ap (λ j. is_linked (g.owner j)) t.1 ∙ not_linked law can)
+      other d m n (inr t) = terms.other_pair d (ap is_linked (sym (owner_same law can d.pair t.0)) ∙ m)
+          (ap (λ c. nat_eq c.pair d.pair) (sym (central_same law can d.pair t.0)) ∙ n)
+
+      unlinked : (i : ℕ) → is_linked (h.owner i) ≡ false → New i → is_linked (g.owner i) ≡ false
+      unlinked i m (inl t) = ap (λ j. is_linked (g.owner j)) t.1 ∙ not_linked law can
+      unlinked i m (inr t) = ap is_linked (sym (owner_same law can i t.0)) ∙ m
+
+      link_opened_at : (l : LinkId) (s : Side) → (is_recorded w g l ≡ true) ⊎ (l ≡ Central fresh) →
+          is_nowhere (g.terminal (side_end h l s)) ≡ false
+      link_opened_at l s (inl rec) = ap (λ d. is_nowhere (g.terminal d)) (end_same law can l s (apart law can l rec)) ∙
+          terms.link_opened l s rec
+      link_opened_at l s (inr t) = ap (λ d. is_nowhere (g.terminal d)) (ap (λ c. side_end h c s) t ∙ new_end law can s) ∙ ends
+          (side_is s r.end.side)
+        where
+          ends : ((same_side s r.end.side ≡ true) × (s ≡ r.end.side)) ⊎ ((same_side s r.end.side ≡ false) × (s ≡ opposite r.end.side)) →
+              is_nowhere (g.terminal (record { pair = r.end.pair; side = s })) ≡ false
+          ends (inl a) = rw a.1 (terms.opened k r (here law can))
+          ends (inr a) = rw a.1 (terms.both r.end ∙ terms.opened k r (here law can))

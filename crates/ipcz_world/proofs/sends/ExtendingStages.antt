@@ -1,0 +1,303 @@
+-- A terminal that moves becomes a proxy: who stands where, the words, the bypasses, and where the terminals are.
+use Rattle.std.specs.Prelude.{◌≡◌, ◌≤◌, ℕ, Bool, true, false, not, cond, ◌&&◌, Some, None, is_some, refl}
+use Rattle.std.proofs.Common.{arith, ap, subst, ◌∙◌, sym, inl, inr}
+use Rattle.ipcz_base.specs.declared.side.Side.{Side}
+use Rattle.ipcz_base.specs.declared.side.Side.TheVariants.{A, B}
+use Rattle.ipcz_base.specs.declared.end.End.{End}
+use Rattle.ipcz_base.specs.declared.link_id.LinkId.TheVariants.{Central}
+use Rattle.ipcz_base.specs.Sides.{opposite, same_side}
+use Rattle.ipcz_word.specs.SideSets.{has}
+use Rattle.ipcz_base.specs.Links.{same_link}
+use Rattle.ipcz_base.specs.Ends.{same_end, opposite_end}
+use Rattle.ipcz_router.specs.Router.{Router, is_terminal, inward_edge}
+use Rattle.ipcz_router.specs.Calls.{descriptor_of}
+use Rattle.ipcz_world.specs.World.{World, Key, same_key, router_at}
+use Rattle.ipcz_world.proofs.frames.Frames.{same_key_tells, same_key-itself}
+use Rattle.ipcz_world.specs.Books.{Books}
+use Rattle.ipcz_world.specs.Records.{Records, At, Moving, is_linked, is_begun, inner_link, side_node, side_router, side_end, proxy_side}
+use Rattle.ipcz_world.specs.Records.{across_side, is_nowhere}
+use Rattle.ipcz_world.proofs.frames.RecordRules.{side_router-proxy, side_router-inner}
+use Rattle.ipcz_world.specs.Standing.{key_passes, spare_of, has_primary, has_decaying, has_inward_primary, has_inward_decaying}
+use Rattle.ipcz_world.proofs.frames.StandingRules.{standing_rules}
+use Rattle.ipcz_world.specs.Structure.{Ordered, Stands, Words, Spares, is_begun_router}
+use Rattle.ipcz_world.specs.Bypasses.{BypassRecords, Stages, inner_of, fresh_of}
+use Rattle.ipcz_world.specs.Whereabouts.{Terminals}
+use Rattle.ipcz_world.proofs.frames.Opened.{OpenInv}
+use Rattle.ipcz_world.proofs.weights.Weighing.{same_end-itself}
+use Rattle.ipcz_world.proofs.sends.SendingOut.{has_link-end}
+use Rattle.ipcz_world.proofs.sends.ExtendingAround.{next_key, extended, extended_records, IsGrown, IsExtend, inner_one, two_begun}
+use Rattle.ipcz_world.proofs.sends.ExtendingAround.{one_begun, stage_begun, no_link_here, is_nowhere-moving, same_end-tells, inner_end_is}
+use Rattle.ipcz_world.proofs.sends.ExtendingAround.{no_inward, other_link, other_key, recorded_more, recorded_back, router_same, node_same}
+use Rattle.ipcz_world.proofs.sends.ExtendingAround.{end_same, by_same, side_same, stood, passes_kept, passes_equal}
+
+module _ {w v : World} {b : Books} {g : Records} {q : Key} {r : Router} {a : ℕ} (law : OpenInv w b g) (is : IsExtend w q r a)
+    (t : IsGrown w v q (extended w q r a)) where
+  abbrev p : Key
+  p = next_key w q.node
+
+  abbrev h : Records
+  h = extended_records w g q r a
+
+  abbrev y : Router
+  y = extended w q r a
+
+  has_new : key_passes v (side_router h (inner_link p) A) (has_inward_primary (inner_link p) A) ≡ true
+  has_new = ap (λ o. key_passes v o (has_inward_primary (inner_link p) A)) (side_router-proxy h p ∙ proxy_key) ∙ grind (
+    arith,
+    standing_rules,
+    t.router q,
+    same_key-itself q,
+    has_link-end (inward_edge y).primary
+        (record { link = inner_link p; side = A; other = a }) refl,
+  )
+    where
+      proxy_key : Some (record { node = p.node; serial = (h.peripheral p).proxy }) ≡ Some q
+      proxy_key = grind (arith, same_key-itself p)
+
+  pub stands-extended : Stands v h
+  stands-extended = record {
+    central = λ i s x l c e. passes_kept law is t (Some x) (has_primary (Central i) s) (λ f. f)
+        (law.stands.central i s x l c (sym (router_same law is t (Central i) s refl) ∙ e));
+    awaited = law.stands.awaited;
+    awaited_stage = law.stands.awaited_stage;
+    awaited_side = λ i s o l none born. law.stands.awaited_side i s o l none born ∙ ap opposite
+        (sym (side_same law is t o (fresh_begun i s o l none born)));
+    proxy = λ x e by. elim (recorded_back law is t (inner_link x) e) [
+      | inl o ↦ ap (λ z. key_passes v z (has_inward_primary (inner_link x) A))
+          (router_same law is t (inner_link x) A (other_link law is t (inner_link x) o))
+          ∙
+          passes_kept law is t (side_router g (inner_link x) A) (has_inward_primary (inner_link x) A) (λ f. absurd (no_inward_link x f))
+          (law.stands.proxy x o (sym (by_same law is t x) ∙ by))
+      | inr n ↦ let s : x ≡ p = inner_one x p n in subst (λ k. key_passes v (side_router h (inner_link k) A)
+          (has_inward_primary (inner_link k) A) ≡ true) (sym s) has_new
+    ];
+    inner = λ x k e by f. elim (recorded_back law is t (inner_link x) e) [
+      | inl o ↦ passes_kept law is t (Some k) (has_primary (inner_link x) B) (λ f. f)
+          (law.stands.inner x k o (sym (by_same law is t x) ∙ by)
+          (sym (router_same law is t (inner_link x) B (other_link law is t (inner_link x) o)) ∙ f))
+      | inr n ↦ absurd (no_inner k (ap (λ l. side_router h l B) (sym n) ∙ f))
+    ];
+    by_begun = λ x o e. law.stands.by_begun x o (sym (by_same law is t x) ∙ e);
+    by_inner = λ x o e. law.stands.by_inner x o (sym (by_same law is t x) ∙ e);
+  }
+    where
+      fresh_begun : (i : ℕ) (s : Side) (o : ℕ) → is_linked (g.owner i) ≡ true → (g.central i).router s ≡ None →
+          (g.central i).born ≡ Some o → is_begun (g.bypass o) ≡ true
+      fresh_begun i s o l none born = two_begun (g.bypass o).stage (law.stands.awaited_stage i s o l none born)
+
+      no_inward_link : (x : Key) → has_inward_primary (inner_link x) A r ≡ true → ⊥
+      no_inward_link x f = no_link_here (inner_link x) A (grind (arith, f, no_inward law is t))
+
+      no_inner : (k : Key) → side_router h (inner_link p) B ≡ Some k → ⊥
+      no_inner k f = grind (arith, side_router-inner h p, f, same_key-itself p)
+
+  pub words-extended : Words v h
+  words-extended = record {
+    unused = λ i e. t.word i ∙ law.words.unused i e;
+    begun_stable = λ i s e. ap (λ z. has z.stable s) (t.word i) ∙ law.words.begun_stable i s e;
+    begun_holder = λ i s e. ap (λ z. has z.holder s) (t.word i) ∙ law.words.begun_holder i s e ∙
+        ap (same_side s) (sym (side_same law is t i e));
+    stable = λ i s l c. ap (λ z. has z.stable s) (t.word i) ∙ law.words.stable i s l c ∙ sym
+        (ap (λ o. key_passes v o (λ x. x.marked)) (router_same law is t (Central i) s refl) ∙
+        passes_equal law is t (side_router g (Central i) s)
+        (λ x. x.marked) refl);
+    holder = λ i s l c. ap (λ z. has z.holder s) (t.word i) ∙ law.words.holder i s l c ∙ sym
+        (ap (λ o. key_passes v o (λ x. x.holds)) (router_same law is t (Central i) s refl) ∙
+        passes_equal law is t (side_router g (Central i) s)
+        (λ x. x.holds) refl);
+    held_stable = λ i s u e. ap (λ z. has z.stable u) (t.word i) ∙ law.words.held_stable i s u
+        (ap (λ z. has z.holder s) (sym (t.word i)) ∙ e);
+    one_holder = λ i s u e f. law.words.one_holder i s u (ap (λ z. has z.holder s) (sym (t.word i)) ∙ e)
+        (ap (λ z. has z.holder u) (sym (t.word i)) ∙ f);
+  }
+
+  spare_same : (x : Key) → spare_of (router_at v x) ≡ spare_of (router_at w x)
+  unfolding spare_of
+  spare_same x = grind (arith, t.router x, same_key_tells x q, is.here)
+
+  pub spares-extended : Spares v h
+  spares-extended = record {
+    spare = λ x z i at e. grind (arith, t.router x, same_key_tells x q, is.here, law.spares.spare x z i, law.spares.spare q r i);
+    spare_back = λ x i e. spare_same x ∙ law.spares.spare_back x i e;
+    opening = λ n i e. law.spares.opening n i (sym (t.opening n) ∙ e);
+    opening_back = λ n i e. t.opening n ∙ law.spares.opening_back n i e;
+    fresh = law.spares.fresh;
+    fresh_back = law.spares.fresh_back;
+  }
+
+  since : (o n : ℕ) → 1 ≤ n → n ≤ (g.bypass o).stage → is_begun (g.bypass o) ≡ true
+  since o n le e = stage_begun (g.bypass o).stage n le e
+
+  inner_apart : (o : ℕ) → is_begun (g.bypass o) ≡ true → same_link (inner_of g o) (inner_link p) ≡ false
+  inner_apart o e = other_link law is t (inner_of g o) (law.bypasses.inner o e)
+
+  pub bypasses-extended : BypassRecords v h
+  bypasses-extended = record {
+    stage = law.bypasses.stage;
+    old = law.bypasses.old;
+    inner = λ o e. recorded_more law is t (inner_of g o) (law.bypasses.inner o e);
+    inner_by = λ o e. by_same law is t (g.bypass o).inner ∙ law.bypasses.inner_by o e;
+    pair = λ o e. ap (λ z. z.end.pair) (peripheral_same o e) ∙ law.bypasses.pair o e;
+    proxy_old = λ o e. ap (side_router h (Central o)) (side_same law is t o e) ∙ router_same law is t (Central o) (proxy_side g o) refl ∙
+        law.bypasses.proxy_old o e;
+    proxy_inner = λ o e. router_same law is t (inner_of g o) A (inner_apart o e) ∙ law.bypasses.proxy_inner o e;
+    across = λ o e. ap is_some (ap (λ s. side_router h (Central o) (opposite s)) (side_same law is t o e) ∙
+        router_same law is t (Central o) (across_side g o)
+        refl) ∙ law.bypasses.across o e;
+    fresh = law.bypasses.fresh;
+    fresh_linked = law.bypasses.fresh_linked;
+    fresh_born = law.bypasses.fresh_born;
+    fresh_pair = law.bypasses.fresh_pair;
+    inner_known = λ o e. ap is_some (router_same law is t (inner_of g o) B (inner_apart o (since o 2 (omega arith) e))) ∙
+        law.bypasses.inner_known o
+        e;
+    fresh_inner = λ o e. ap (side_router h (fresh_of g o)) (side_same law is t o (since o 2 (omega arith) e)) ∙
+        router_same law is t (fresh_of g o)
+        (proxy_side g o) refl ∙ law.bypasses.fresh_inner o e ∙ sym
+        (router_same law is t (inner_of g o) B (inner_apart o (since o 2 (omega arith) e)));
+    fresh_inner_node = λ o e. ap (side_node h (fresh_of g o)) (side_same law is t o (since o 2 (omega arith) e)) ∙
+        node_same law is t (fresh_of g o)
+        (proxy_side g o) refl ∙ law.bypasses.fresh_inner_node o e ∙ sym
+        (node_same law is t (inner_of g o) B (inner_apart o (since o 2 (omega arith) e)));
+    fresh_across_node = λ o e. ap (λ s. side_node h (fresh_of g o) (opposite s)) (side_same law is t o (since o 2 (omega arith) e)) ∙
+        node_same law is t
+        (fresh_of g o) (across_side g o) refl ∙ law.bypasses.fresh_across_node o e ∙
+        sym (ap (λ s. side_node h (Central o) (opposite s)) (side_same law is t o (since o 2 (omega arith) e)) ∙
+        node_same law is t (Central o)
+        (across_side g o) refl);
+    fresh_awaited = λ o e. ap (λ s. side_router h (fresh_of g o) (opposite s)) (side_same law is t o (two_begun (g.bypass o).stage e)) ∙
+        router_same law is t
+        (fresh_of g o) (across_side g o) refl ∙ law.bypasses.fresh_awaited o e;
+    fresh_across = λ o e. ap (λ s. side_router h (fresh_of g o) (opposite s)) (side_same law is t o (since o 3 (omega arith) e)) ∙
+        router_same law is t
+        (fresh_of g o) (across_side g o) refl ∙ law.bypasses.fresh_across o e ∙
+        sym (ap (λ s. side_router h (Central o) (opposite s)) (side_same law is t o (since o 3 (omega arith) e)) ∙
+        router_same law is t (Central o)
+        (across_side g o) refl);
+    born_fresh = law.bypasses.born_fresh;
+    born_stage = law.bypasses.born_stage;
+  }
+    where
+      peripheral_same : (o : ℕ) → is_begun (g.bypass o) ≡ true → h.peripheral (g.bypass o).inner ≡ g.peripheral (g.bypass o).inner
+      peripheral_same o e = grind (arith, other_key law is t (g.bypass o).inner (law.bypasses.inner o e))
+
+  across_router : (o : ℕ) → is_begun (g.bypass o) ≡ true → side_router h (Central o) (across_side h o) ≡ side_router g (Central o)
+      (across_side g o)
+  across_router o e = ap (λ s. side_router h (Central o) (opposite s)) (side_same law is t o e) ∙
+      router_same law is t (Central o) (across_side g o) refl
+
+  pub not_begun : is_begun_router r ≡ true → ⊥
+  not_begun f = grind (arith, f, no_inward law is t)
+
+  inner_passes : (o : ℕ) (test : Router → Bool) → is_begun (g.bypass o) ≡ true → (test r ≡ true → test y ≡ true) →
+      key_passes w (side_router g (inner_of g o) B) test ≡ true → key_passes v (side_router h (inner_of g o) B) test ≡ true
+  inner_passes o test e f c = ap (λ z. key_passes v z test) (router_same law is t (inner_of g o) B (inner_apart o e)) ∙ passes_kept law is t
+      (side_router g (inner_of g o) B) test f c
+
+  across_passes : (o : ℕ) (test : Side → Router → Bool) → is_begun (g.bypass o) ≡ true → ((s : Side) → test s r ≡ true → test s y ≡ true) →
+      key_passes w (side_router g (Central o) (across_side g o)) (test (across_side g o)) ≡ true →
+      key_passes v (side_router h (Central o) (across_side h o)) (test (across_side h o)) ≡ true
+  across_passes o test e f c = ap (λ s. key_passes v (side_router h (Central o) (opposite s)) (test (opposite s)))
+      (side_same law is t o e) ∙ ap
+      (λ z. key_passes v z (test (across_side g o))) (router_same law is t (Central o) (across_side g o) refl) ∙
+      passes_kept law is t (side_router g (Central o) (across_side g o)) (test (across_side g o)) (f (across_side g o)) c
+
+  pub stages-extended : Stages v h
+  stages-extended = record {
+    proxy_old = λ o e s. ap (λ s. key_passes v (Some (g.bypass o).proxy) (has_decaying (Central o) s)) (side_same law is t o e) ∙
+        passes_kept law is t
+        (Some (g.bypass o).proxy) (has_decaying (Central o) (proxy_side g o)) (λ f. f) (law.stages.proxy_old o e s);
+    proxy_inner = λ o e s. passes_kept law is t (Some (g.bypass o).proxy) (has_inward_decaying (inner_of g o) A)
+        (λ f. absurd (no_link_here (inner_of g o) A (grind (arith, f, no_inward law is t)))) (law.stages.proxy_inner o e s);
+    proxy_begun = λ o z e at. elim (stood law is t (g.bypass o).proxy z at) [
+      | inl f ↦ law.stages.proxy_begun o z e f.0
+      | inr n ↦ absurd
+          (not_begun (law.stages.proxy_begun o r e (ap (router_at w) n.1 ∙ is.here)))
+    ];
+    proxy_end = λ o z e at. elim (stood law is t (g.bypass o).proxy z at) [
+      | inl f ↦ law.stages.proxy_end o z e f.0 ∙ sym
+          (end_same law is t (inner_of g o) A (inner_apart o e))
+      | inr n ↦ absurd
+          (not_begun (law.stages.proxy_begun o r e (ap (router_at w) n.1 ∙ is.here)))
+    ];
+    across_old = λ o e s. across_passes o (λ s. has_primary (Central o) s) e (λ s f. f) (law.stages.across_old o e s);
+    across_marked = λ o e s. across_passes o (λ s x. x.marked) e (λ s f. f) (law.stages.across_marked o e s);
+    across_free = λ o e s. across_passes o (λ s x. not x.holds) e (λ s f. f) (law.stages.across_free o e s);
+    across_fresh = λ o e s. let c = since o 3 (omega arith) e in ap
+        (λ s. key_passes v (side_router h (fresh_of g o) (opposite s)) (has_primary (fresh_of g o) (opposite s))) (side_same law is t o c) ∙
+        ap
+        (λ z. key_passes v z (has_primary (fresh_of g o) (across_side g o))) (router_same law is t (fresh_of g o) (across_side g o) refl) ∙
+        passes_kept law is t (side_router g (fresh_of g o) (across_side g o)) (has_primary (fresh_of g o) (across_side g o)) (λ f. f)
+        (law.stages.across_fresh o e s);
+    inner_primary = λ o x e f. let c = one_begun (g.bypass o).stage e in
+        passes_kept law is t (Some x) (has_primary (inner_of g o) B) (λ f. f)
+        (law.stages.inner_primary o x e (sym (router_same law is t (inner_of g o) B (inner_apart o c)) ∙ f));
+    inner_decaying = λ o e s. inner_passes o (has_decaying (inner_of g o) B) (since o 2 (omega arith) e) (λ f. f)
+        (law.stages.inner_decaying o e s);
+  }
+
+  term_is : (e : End) → h.terminal e ≡ cond (same_end e r.end) (Moving (descriptor_of r (inner_link p))) (g.terminal e)
+  term_is e = refl
+
+  pub nowhere_same : (e : End) → is_nowhere (h.terminal e) ≡ is_nowhere (g.terminal e)
+  nowhere_same e = go (same_end e r.end) refl
+    where
+      go : (c : Bool) → same_end e r.end ≡ c → is_nowhere (h.terminal e) ≡ is_nowhere (g.terminal e)
+      go true c = let s : e ≡ r.end = same_end-tells e r.end c in
+          ap is_nowhere (grind (arith, c)) ∙ is_nowhere-moving (descriptor_of r (inner_link p)) ∙ sym
+          (ap (λ z. is_nowhere (g.terminal z)) s ∙ law.terminals.opened q r is.here)
+      go false c = ap is_nowhere (grind (arith, c))
+
+  pub terminals-extended : Terminals v h
+  terminals-extended = record {
+    terminal = λ x z at e. elim (stood law is t x z at) [
+      | inl o ↦ old_terminal x z o.0 o.1 e (same_end z.end r.end) refl
+      | inr n ↦ absurd
+          (grind (arith, n.0, e))
+    ];
+    stands = λ e x f. still e x f (same_end e r.end) refl;
+    opened = λ x z at. nowhere_same z.end ∙ grind (
+      arith,
+      t.router x,
+      same_key_tells x q,
+      is.here,
+      law.terminals.opened x z,
+      law.terminals.opened q r,
+    );
+    link_opened = λ link s e. nowhere_same (side_end h link s) ∙ elim (recorded_back law is t link e) [
+      | inl o ↦ ap (λ z. is_nowhere (g.terminal z)) (end_same law is t link s (other_link law is t link o)) ∙
+          law.terminals.link_opened link s o
+      | inr n ↦
+          ap (λ l. is_nowhere (g.terminal (side_end h l s))) n ∙ new_opened s
+    ];
+    both = λ e. nowhere_same (opposite_end e) ∙ law.terminals.both e ∙ sym (nowhere_same e);
+    unopened = λ e f. nowhere_same e ∙ law.terminals.unopened e f;
+    other_pair = λ e f n. nowhere_same e ∙ law.terminals.other_pair e f n;
+  }
+    where
+      new_opened : (s : Side) → is_nowhere (g.terminal (side_end h (inner_link p) s)) ≡ false
+      new_opened s = ap (λ z. is_nowhere (g.terminal z)) (inner_end_is h p s ∙ ends_of) ∙ law.terminals.opened q r is.here
+        where
+          ends_of : (h.peripheral p).end ≡ r.end
+          ends_of = grind (arith, same_key-itself p)
+
+      old_terminal : (x : Key) (z : Router) → router_at w x ≡ Some z → same_key x q ≡ false → is_terminal z ≡ true → (c : Bool) →
+          same_end z.end r.end ≡ c → h.terminal z.end ≡ At x
+      old_terminal x z at ne e true c = let s : z.end ≡ r.end = same_end-tells z.end r.end c in
+          absurd (grind (arith, law.terminals.terminal x z at e, law.terminals.terminal q r is.here is.lone, s, ne, same_key-itself q))
+      old_terminal x z at ne e false c = grind (arith, c, law.terminals.terminal x z at e)
+
+      still : (e : End) (x : Key) → h.terminal e ≡ At x → (c : Bool) → same_end e r.end ≡ c →
+          key_passes v (Some x) (λ r. is_terminal r && same_end r.end e) ≡ true
+      still e x f true c = absurd (grind (arith, f, c))
+      still e x f false c = let k : g.terminal e ≡ At x = grind (arith, f, c) in
+          passes_kept law is t (Some x) (λ r. is_terminal r && same_end r.end e) (λ a. absurd (other_end a c)) (law.terminals.stands e x k)
+        where
+          other_end : (is_terminal r && same_end r.end e) ≡ true → same_end e r.end ≡ false → ⊥
+          other_end a c = let s : r.end ≡ e = same_end-tells r.end e (grind (arith, a)) in grind (arith, s, c, same_end-itself e)
+
+  pub ordered-extended : Ordered v
+  ordered-extended = record {
+    out = λ x z n i at e. grind (arith, t.router x, same_key_tells x q, is.here, law.ordered.out x z n i, law.ordered.out q r n i);
+    inn = λ x z n i at e. grind (arith, t.router x, same_key_tells x q, is.here, law.ordered.inn x z n i, law.ordered.inn q r n i);
+  }
