@@ -231,7 +231,7 @@ flow-hand w from to a b m e = go (nat_eq a from && nat_eq b to) refl
         rw (p, r, e) refl
     go false q = refl
 
-append_none : {X : Type 0} (xs : List X) → xs ++ [] ≡ xs
+pub append_none : {X : Type 0} (xs : List X) → xs ++ [] ≡ xs
 append_none [] = refl
 append_none (x ∷ xs) = ap (λ ys. x ∷ ys) (append_none xs)
 

@@ -1,7 +1,7 @@
 -- The router inward has the message that begins its bypass and takes the fresh link: who stands around it, before and after.
 use Rattle.ipcz_world.specs.Routes.{source as source'}
-use Rattle.std.specs.Prelude.{◌≡◌, ◌≢◌, ◌⊎◌, ◌<◌, ◌≤◌, ℕ, zero, suc, Bool, true, false, cond, ◌||◌, nat_eq, if◌then◌else◌, is_some, Option}
-use Rattle.std.specs.Prelude.{Some, None, List, [], ◌∷◌, slice_get, refl}
+use Rattle.std.specs.Prelude.{◌≡◌, ◌≢◌, ◌⊎◌, ◌<◌, ◌≤◌, ℕ, Bool, true, false, cond, ◌||◌, nat_eq, if◌then◌else◌, is_some, Option, Some, None}
+use Rattle.std.specs.Prelude.{refl}
 use Rattle.std.proofs.Common.{arith, ap, ◌∙◌, sym, inl, inr}
 use Rattle.std.proofs.lemmas.Bool.Decides.{nat_tests}
 use Rattle.std.proofs.lemmas.Option.{none-some, same_Some}
@@ -25,7 +25,6 @@ use Rattle.ipcz_world.specs.Records.{bypass_of, proxy_side, across_side}
 use Rattle.ipcz_world.proofs.weights.OfRecords.{source}
 use Rattle.ipcz_world.proofs.frames.RecordRules.{side_node-central, bypass_of-inner, is_recorded-central}
 use Rattle.ipcz_world.specs.Standing.{Awaited, Standing, is_attached, view, has_primary}
-use Rattle.ipcz_base.specs.Totals.{total_list}
 use Rattle.ipcz_world.specs.Structure.{IsRecorded, link_in}
 use Rattle.ipcz_world.specs.Bypasses.{inner_of}
 use Rattle.ipcz_world.specs.Acts.{CanHand}
@@ -40,16 +39,6 @@ use Rattle.ipcz_world.proofs.facts.Lengths.{side_is, same_side-itself, same_side
 use Rattle.ipcz_world.proofs.facts.Lengths.{is_attached-central, view-standing, view-awaited}
 use Rattle.ipcz_world.proofs.hands.BypassAsked.{asked_router, IsPeered, peered}
 use Rattle.ipcz_world.proofs.frames.Sealing.{Sealed, Closed, opened, counts_of, links_of, positions_of, stages_of, told_of, bypasses_of}
-
-pub total_list-same_in : {X : Type 0} (h k : X → ℕ) (xs : List X) → ((i : ℕ) (y : X) → slice_get xs i ≡ Some y → h y ≡ k y) →
-    total_list h xs ≡ total_list k xs
-total_list-same_in h k [] e = refl
-total_list-same_in h k (y ∷ ys) e = omega (arith, e 0 y refl, total_list-same_in h k ys (λ i z p. e (suc i) z p))
-
-pub total_list-has : {X : Type 0} (h : X → ℕ) (xs : List X) (i : ℕ) (y : X) → slice_get xs i ≡ Some y → h y ≤ total_list h xs
-total_list-has h [] i y p = absurd (none-some y p)
-total_list-has h (z ∷ zs) zero y p = let same : z ≡ y = same_Some z y p in omega (arith, ap h same)
-total_list-has h (z ∷ zs) (suc i) y p = omega (arith, total_list-has h zs i y p)
 
 -- weighs a BypassPeer that names a central link
 unfoldable pub central_peer : Message → ℕ

@@ -1,6 +1,6 @@
 -- The first possible act of a node is one that a turn may take, and so is what stands in for it.
-use Rattle.std.specs.Prelude.{◌≡◌, ◌⊎◌, ◌<◌, ℕ, zero, suc, ◌+◌, Bool, true, false, ◌&&◌, ◌||◌, nat_eq, nat_lt, if◌then◌else◌, Option, Some}
-use Rattle.std.specs.Prelude.{None, List, [], ◌∷◌, map, refl}
+use Rattle.std.specs.Prelude.{◌≡◌, ◌⊎◌, ◌<◌, ℕ, zero, suc, ◌+◌, Bool, true, false, ◌&&◌, nat_eq, nat_lt, if◌then◌else◌, Option, Some, None}
+use Rattle.std.specs.Prelude.{List, [], ◌∷◌, map, refl}
 use Rattle.std.proofs.Common.{arith, ap, subst, ◌∙◌, sym, inl, inr}
 use Rattle.std.proofs.lemmas.Bool.Decides.{nat_tests}
 use Rattle.ipcz_base.specs.declared.end.End.{End}
@@ -9,12 +9,11 @@ use Rattle.ipcz_router.specs.Router.{Router}
 use Rattle.ipcz_router.specs.ActTable.{is_possible, first_possible, table, next_act, is_rest, may_take}
 use Rattle.ipcz_router.specs.declared.act.RouterAct.{RouterAct}
 use Rattle.ipcz_router.specs.declared.act.RouterAct.TheVariants as acts
-use Rattle.ipcz_node.specs.Acts.{stand_in}
+use Rattle.ipcz_node.specs.Acts.{stand_in, first_number, has_mail_for, router_turn, close_turn, node_turn, next}
 use Rattle.ipcz_node.specs.declared.act.Act.{Act}
 use Rattle.ipcz_node.specs.declared.act.Act.TheVariants.{Hand, Look, Post, Close, Router as OfRouter, Idle}
 use Rattle.ipcz_node.specs.declared.act.MailSeen.{MailSeen}
 use Rattle.ipcz_node.specs.Node.{Node, Found, find_router}
-use Rattle.ipcz_node.specs.Acts.{first_number, has_mail_for, router_turn, close_turn, node_turn, next}
 use Rattle.ipcz_node.specs.Hands.{is_hand_of}
 use Rattle.ipcz_world.specs.declared.step.Step.TheVariants as steps
 use Rattle.ipcz_world.specs.World.{World, node_at, mail_at, way, router_at, numbers_from}
@@ -26,7 +25,7 @@ use Rattle.ipcz_world.specs.Inv.{Inv}
 use Rattle.ipcz_world.specs.WorldLaws.{FirstIsPossible}
 use Rattle.ipcz_world.proofs.facts.LinkTests.{same_end-itself}
 use Rattle.ipcz_world.proofs.facts.Finding.{found_tells}
-use Rattle.ipcz_world.proofs.lawful.EachOnce.{both}
+use Rattle.std.proofs.lemmas.Bool.{and_parts, or_left, or_right}
 
 first_number-tells : (test : ℕ → Bool) (from left i : ℕ) → first_number test from left ≡ Some i → test i ≡ true
 first_number-tells test from zero i e = cc
@@ -53,14 +52,6 @@ first_is r (a ∷ l) = go (is_possible r a) refl (first_is r l)
         (is_possible r (if c then a else first_possible r l) ≡ true) ⊎ ((if c then a else first_possible r l) ≡ acts.Rest)
     go true e more = inl e
     go false e more = more
-
-or_left : (a b : Bool) → a ≡ true → (a || b) ≡ true
-or_left true b e = refl
-or_left false b e = cc
-
-or_right : (a b : Bool) → b ≡ true → (a || b) ≡ true
-or_right true b e = refl
-or_right false b e = e
 
 next_may : (r : Router) → may_take r (next_act r) ≡ true
 unfolding next_act is_rest
@@ -114,10 +105,10 @@ module _ (w : World) (b : Books) (g : Records) (law : Inv w b g) (n : ℕ) (here
   unfolding node_turn can_take
   post_case None f h e = close_case node.pending refl h e
   post_case (Some to) f h e =
-      let t = both (has_mail_for node to) (place_at false seen.empty to)
+      let t = and_parts (has_mail_for node to) (place_at false seen.empty to)
       (first_number-tells (λ to. has_mail_for node to && place_at false seen.empty to) 0 node.count to f) in
       let z : 0 + to ≡ to = omega arith in
-      let c = both (nat_lt to w.count) (is_clear (mail_at w (way w n to)))
+      let c = and_parts (nat_lt to w.count) (is_clear (mail_at w (way w n to)))
       (subst (λ i. (nat_lt i w.count && is_clear (mail_at w (way w n i))) ≡ true) z
       (seen_is (λ to. nat_lt to w.count && is_clear (mail_at w (way w n to))) 0 8 to t.1)) in
       rw (t.0, c.0, c.1) refl
@@ -129,7 +120,7 @@ module _ (w : World) (b : Books) (g : Records) (law : Inv w b g) (n : ℕ) (here
   look_case (Some from) f h e =
       let t = first_number-tells (λ from. place_at false seen.full from) 0 node.count from f in
       let z : 0 + from ≡ from = omega arith in
-      let c = both (nat_lt from w.count) (is_full (mail_at w (way w from n)))
+      let c = and_parts (nat_lt from w.count) (is_full (mail_at w (way w from n)))
       (subst (λ i. (nat_lt i w.count && is_full (mail_at w (way w i n))) ≡ true) z
       (seen_is (λ from. nat_lt from w.count && is_full (mail_at w (way w from n))) 0 8 from t)) in
       rw (h, c.0, c.1) refl
