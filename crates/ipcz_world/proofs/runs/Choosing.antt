@@ -15,6 +15,7 @@ use Rattle.ipcz_node.specs.declared.act.Act.TheVariants.{Hand, Look, Post, Close
 use Rattle.ipcz_node.specs.declared.act.MailSeen.{MailSeen}
 use Rattle.ipcz_node.specs.Node.{Node, Found, find_router}
 use Rattle.ipcz_node.specs.Hands.{is_hand_of}
+use Rattle.ipcz_node.proofs.Turns.{first_number-tells}
 use Rattle.ipcz_world.specs.declared.step.Step.TheVariants as steps
 use Rattle.ipcz_world.specs.World.{World, node_at, mail_at, way, router_at, numbers_from}
 use Rattle.ipcz_world.specs.Turns.{is_full, is_clear, seen_at, next_at, may_act, is_first_pending, is_idle, can_take}
@@ -26,15 +27,6 @@ use Rattle.ipcz_world.specs.WorldLaws.{FirstIsPossible}
 use Rattle.ipcz_world.proofs.facts.LinkTests.{same_end-itself}
 use Rattle.ipcz_world.proofs.facts.Finding.{found_tells}
 use Rattle.std.proofs.lemmas.Bool.{and_parts, or_left, or_right}
-
-first_number-tells : (test : ℕ → Bool) (from left i : ℕ) → first_number test from left ≡ Some i → test i ≡ true
-first_number-tells test from zero i e = cc
-first_number-tells test from (suc left) i e = go (test from) refl e (first_number-tells test (from + 1) left i)
-  where
-    go : (c : Bool) → test from ≡ c → (if c then Some from else first_number test (from + 1) left) ≡ Some i →
-        (first_number test (from + 1) left ≡ Some i → test i ≡ true) → test i ≡ true
-    go true q h more = let is : from ≡ i = grind (arith, h) in subst (λ x. test x ≡ true) is q
-    go false q h more = more h
 
 -- what is seen of a number is what is so
 seen_is : (f : ℕ → Bool) (a c i : ℕ) → place_at false (map f (numbers_from a c)) i ≡ true → f (a + i) ≡ true
@@ -106,7 +98,7 @@ module _ (w : World) (b : Books) (g : Records) (law : Inv w b g) (n : ℕ) (here
   post_case None f h e = close_case node.pending refl h e
   post_case (Some to) f h e =
       let t = and_parts (has_mail_for node to) (place_at false seen.empty to)
-      (first_number-tells (λ to. has_mail_for node to && place_at false seen.empty to) 0 node.count to f) in
+      (first_number-tells (λ to. has_mail_for node to && place_at false seen.empty to) 0 node.count to f).1 in
       let z : 0 + to ≡ to = omega arith in
       let c = and_parts (nat_lt to w.count) (is_clear (mail_at w (way w n to)))
       (subst (λ i. (nat_lt i w.count && is_clear (mail_at w (way w n i))) ≡ true) z
@@ -118,7 +110,7 @@ module _ (w : World) (b : Books) (g : Records) (law : Inv w b g) (n : ℕ) (here
   unfolding node_turn can_take
   look_case None f h e = post_case (first_number (λ to. has_mail_for node to && place_at false seen.empty to) 0 node.count) refl h e
   look_case (Some from) f h e =
-      let t = first_number-tells (λ from. place_at false seen.full from) 0 node.count from f in
+      let t = (first_number-tells (λ from. place_at false seen.full from) 0 node.count from f).1 in
       let z : 0 + from ≡ from = omega arith in
       let c = and_parts (nat_lt from w.count) (is_full (mail_at w (way w from n)))
       (subst (λ i. (nat_lt i w.count && is_full (mail_at w (way w i n))) ≡ true) z
