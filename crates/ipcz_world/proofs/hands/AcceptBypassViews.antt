@@ -30,9 +30,7 @@ use Rattle.ipcz_base.specs.declared.descriptor.Descriptor.{Descriptor}
 use Rattle.ipcz_world.specs.Remembering.{accepted_records}
 use Rattle.ipcz_world.proofs.frames.Unmoved.{IsLike, Changed, Carried, Agree, places-agree, proxy_side-agree}
 use Rattle.ipcz_world.proofs.weights.Placing.{places-handed_on}
-use Rattle.ipcz_world.proofs.flows.Handing.{handed_on, router-handed_on, claimed-handed_on, size-handed_on, count-handed_on, node-handed_on}
-use Rattle.ipcz_world.proofs.flows.Handing.{nodes-handed_on, next_router-handed_on, next_peripheral-handed_on, held-handed_on}
-use Rattle.ipcz_world.proofs.flows.Handing.{pending-handed_on, strays-handed_on, opening-handed_on, place_before, was_under_way}
+use Rattle.ipcz_world.proofs.flows.Handing.{handed_on, place_before, was_under_way, changed-handed_on}
 use Rattle.ipcz_world.proofs.views.Viewing.{IsSameView, view-kept}
 use Rattle.ipcz_world.proofs.facts.Lengths.{opposite-twice, side_is, same_side-itself, same_side-opposite, same_side-tells, same_link-tells}
 use Rattle.ipcz_world.proofs.facts.Lengths.{has_link-some, is_attached-central, view-standing, length-old, length-proxy, length-inner}
@@ -73,21 +71,7 @@ module _ {w : World} {b : Books} {g : Records} {from : ℕ} {k : Key} {r : Route
   like = record { end = refl; out_queue = refl; in_queue = refl; terminal = refl; closed = refl; mark_seen = refl; spare = refl }
 
   pub changed : Changed w v k r x
-  changed = record {
-    here = here law can;
-    router = router-handed_on w from k x e.other sent;
-    claimed = claimed-handed_on w from k x e.other sent;
-    size = size-handed_on w from k x e.other sent;
-    count = count-handed_on w from k x e.other sent;
-    node = node-handed_on w from k x e.other sent;
-    nodes = nodes-handed_on w from k x e.other sent;
-    next_router = next_router-handed_on w from k x e.other sent;
-    next_peripheral = next_peripheral-handed_on w from k x e.other sent;
-    held = held-handed_on w from k x e.other sent;
-    pending = pending-handed_on w from k x e.other sent;
-    strays = strays-handed_on w from k x e.other sent;
-    opening = opening-handed_on w from k x e.other sent;
-  }
+  changed = changed-handed_on w from k r x e.other sent (here law can)
 
   pub agree : Agree g h
   agree = record {

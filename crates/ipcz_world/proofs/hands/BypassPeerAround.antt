@@ -31,9 +31,7 @@ use Rattle.ipcz_world.specs.Acts.{CanHand}
 use Rattle.ipcz_router.specs.Bypass.{bypass_peer}
 use Rattle.ipcz_world.specs.Remembering.{taken_records}
 use Rattle.ipcz_world.proofs.frames.Unmoved.{IsLike, Changed}
-use Rattle.ipcz_world.proofs.flows.Handing.{handed_on, router-handed_on, claimed-handed_on, size-handed_on, count-handed_on, node-handed_on}
-use Rattle.ipcz_world.proofs.flows.Handing.{nodes-handed_on, next_router-handed_on, next_peripheral-handed_on, held-handed_on}
-use Rattle.ipcz_world.proofs.flows.Handing.{pending-handed_on, strays-handed_on, opening-handed_on}
+use Rattle.ipcz_world.proofs.flows.Handing.{handed_on, changed-handed_on}
 use Rattle.ipcz_world.proofs.views.Viewing.{IsSameView, view-kept-at}
 use Rattle.ipcz_world.proofs.facts.Lengths.{side_is, same_side-itself, same_side-opposite, has_link-tells, has_link-some, HasEnd, passed}
 use Rattle.ipcz_world.proofs.facts.Lengths.{is_attached-central, view-standing, view-awaited}
@@ -178,21 +176,7 @@ module _ {w : World} {b : Books} {g : Records} {from : ℕ} {k : Key} {r : Route
   like = record { end = refl; out_queue = refl; in_queue = refl; terminal = refl; closed = refl; mark_seen = refl; spare = refl }
 
   pub changed : Changed w v k r x
-  changed = record {
-    here = here;
-    router = router-handed_on w from k x target sent;
-    claimed = claimed-handed_on w from k x target sent;
-    size = size-handed_on w from k x target sent;
-    count = count-handed_on w from k x target sent;
-    node = node-handed_on w from k x target sent;
-    nodes = nodes-handed_on w from k x target sent;
-    next_router = next_router-handed_on w from k x target sent;
-    next_peripheral = next_peripheral-handed_on w from k x target sent;
-    held = held-handed_on w from k x target sent;
-    pending = pending-handed_on w from k x target sent;
-    strays = strays-handed_on w from k x target sent;
-    opening = opening-handed_on w from k x target sent;
-  }
+  changed = changed-handed_on w from k r x target sent here
 
   pub at_o : (j : ℕ) → ((nat_eq j o ≡ true) × (j ≡ o)) ⊎ ((nat_eq j o ≡ false) × (j ≢ o))
   at_o j = grind (arith, nat_tests)
