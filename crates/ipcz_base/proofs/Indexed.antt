@@ -25,11 +25,13 @@ apart d (x ∷ xs) (suc i) zero y ne = refl
 apart d (x ∷ xs) (suc i) (suc j) y ne = apart d xs i j y (λ e. ne (ap suc e))
 
 -- what an index finds after a change at another: the new element there, else what it found before
-pub place_at-put_place : {X : Type 0} (d : X) (xs : List X) (i : ℕ) (y : X) (j : ℕ) → place_at d (put_place d xs i y) j ≡ cond (nat_eq j i) y (place_at d xs j)
-place_at-put_place d xs i y j = elim (nat_eq j i) as (λ b. nat_eq j i ≡ b → place_at d (put_place d xs i y) j ≡ cond b y (place_at d xs j)) [
-  | true ↦ λ e. grind (arith, here d xs i y, nat_tests)
-  | false ↦ λ e. grind (arith, apart d xs i j y, nat_tests)
-] refl
+pub place_at-put_place : {X : Type 0} (d : X) (xs : List X) (i : ℕ) (y : X) (j : ℕ) →
+    place_at d (put_place d xs i y) j ≡ cond (nat_eq j i) y (place_at d xs j)
+place_at-put_place d xs i y j =
+    elim (nat_eq j i) as (λ b. nat_eq j i ≡ b → place_at d (put_place d xs i y) j ≡ cond b y (place_at d xs j)) [
+      | true ↦ λ e. grind (arith, here d xs i y, nat_tests)
+      | false ↦ λ e. grind (arith, apart d xs i j y, nat_tests)
+    ] refl
 
 -- a change within a list leaves its length
 pub length-put_place : {X : Type 0} (d : X) (xs : List X) (i : ℕ) (y : X) → i < length xs → length (put_place d xs i y) ≡ length xs

@@ -1,5 +1,6 @@
 -- What a message that fits says of its moves.
-use Rattle.std.proofs.Common.{◌≡◌, ℕ, ◌≤◌, not, Bool, true, false, List, [], ◌∷◌, length, if◌then◌else◌, nat_eq, nat_le, sym, true≢false, arith}
+use Rattle.std.proofs.Common.{◌≡◌, ℕ, ◌≤◌, not, Bool, true, false, List, [], ◌∷◌, length, if◌then◌else◌, nat_eq, nat_le, sym, true≢false}
+use Rattle.std.proofs.Common.{arith}
 use Rattle.std.proofs.lemmas.Bool.Decides.{nat_tests}
 use Rattle.ipcz_base.specs.declared.end.End.{End}
 use Rattle.ipcz_base.specs.declared.descriptor.Descriptor.{Descriptor}
@@ -29,8 +30,10 @@ low_fit n [] [] h = tt
 low_fit n [] (d ∷ ds) h = absurd (true≢false (sym h))
 low_fit n (e ∷ es) [] h = absurd (true≢false (sym h))
 low_fit n (e ∷ es) (d ∷ ds) h =
-    let new = second_of_both (same_end d.end e) _ h in
-    (low d.next_out last_number (second_of_both (not (is_named n d.link B)) _ (first_of_both (is_new_move n d) _ new)), low_fit n es ds (second_of_both (not (has_moved d.link ds)) _ (second_of_both (is_new_move n d) _ new)))
+    let new = second_of_both (same_end d.end e) _ h in (
+      low d.next_out last_number (second_of_both (not (is_named n d.link B)) _ (first_of_both (is_new_move n d) _ new)),
+      low_fit n es ds (second_of_both (not (has_moved d.link ds)) _ (second_of_both (is_new_move n d) _ new)),
+    )
 
 low_none : (ds : List Descriptor) → nat_eq (length ds) 0 ≡ true → AreLow ds
 low_none [] h = tt
@@ -54,21 +57,30 @@ takes_no_serials (messages.ProxyWillStop link side in_length) h = refl
 takes_no_serials (messages.Flush link side) h = refl
 
 -- what a node is ready for, it is ready for after a change of its routers alone
-pub still_ready : (k j : RoomyNode) (a : Applied) → j.room.outboxes ≡ k.room.outboxes → j.room.links ≡ k.room.links → j.room.moves ≡ k.room.moves → j.room.pending ≡ k.room.pending
+pub still_ready : (k j : RoomyNode) (a : Applied) → j.room.outboxes ≡ k.room.outboxes → j.room.links ≡ k.room.links →
+    j.room.moves ≡ k.room.moves → j.room.pending ≡ k.room.pending
     → j.node.number ≡ k.node.number → j.node.next_peripheral ≡ k.node.next_peripheral → IsReady k a → IsReady j a
 still_ready k j outputs.Nothing outboxes links moves pending number serial h = tt
 still_ready k j (outputs.Sent link n item) outboxes links moves pending number serial h =
-    let count : length (moved_ends j.node link item) ≡ length (moved_ends k.node link item) = ap (λ i. length (if nat_eq link.other i then [] else ends_in item)) number in
-    (subst (λ (r : List ℕ). 0 < place_at 0 r link.other) (sym outboxes) h.0, omega (arith, count, h.1, links), omega (arith, count, h.2, moves), omega (arith, count, serial, h.3))
-still_ready k j (outputs.Message to m) outboxes links moves pending number serial h = subst (λ (r : List ℕ). 0 < place_at 0 r to) (sym outboxes) h
+    let count : length (moved_ends j.node link item) ≡ length (moved_ends k.node link item) =
+    ap (λ i. length (if nat_eq link.other i then [] else ends_in item)) number in (
+      subst (λ (r : List ℕ). 0 < place_at 0 r link.other) (sym outboxes) h.0,
+      omega (arith, count, h.1, links),
+      omega (arith, count, h.2, moves),
+      omega (arith, count, serial, h.3),
+    )
+still_ready k j (outputs.Message to m) outboxes links moves pending number serial h =
+    subst (λ (r : List ℕ). 0 < place_at 0 r to) (sym outboxes) h
 still_ready k j (outputs.Discarded n item) outboxes links moves pending number serial h = omega (arith, h, pending)
 
 -- what a node can tell, it can tell after a change of its routers alone
-pub can_tell : (k j : RoomyNode) (a : Applied) → j.room.event_ends ≡ k.room.event_ends → j.node.number ≡ k.node.number → CanTell k a → CanTell j a
+pub can_tell : (k j : RoomyNode) (a : Applied) → j.room.event_ends ≡ k.room.event_ends → j.node.number ≡ k.node.number → CanTell k a →
+    CanTell j a
 unfolding moved_by
 can_tell k j outputs.Nothing room number h = omega arith
 can_tell k j (outputs.Sent link n item) room number h =
-    let count : length (moved_ends j.node link item) ≡ length (moved_ends k.node link item) = ap (λ i. length (if nat_eq link.other i then [] else ends_in item)) number in
+    let count : length (moved_ends j.node link item) ≡ length (moved_ends k.node link item) =
+    ap (λ i. length (if nat_eq link.other i then [] else ends_in item)) number in
     omega (arith, count, h, room)
 can_tell k j (outputs.Message to m) room number h = omega arith
 can_tell k j (outputs.Discarded n item) room number h = omega arith

@@ -1,5 +1,6 @@
 -- What an act of a router is seen to do, told from what it gave.
-use Rattle.std.proofs.Common.{◌≡◌, ℕ, Bool, true, false, ◌&&◌, ◌||◌, Option, Some, None, is_some, nat_eq, if◌then◌else◌, [], refl, sym, ap, true≢false}
+use Rattle.std.proofs.Common.{◌≡◌, ℕ, Bool, true, false, ◌&&◌, ◌||◌, Option, Some, None, is_some, nat_eq, if◌then◌else◌, [], refl, sym, ap}
+use Rattle.std.proofs.Common.{true≢false}
 use Rattle.ipcz_base.specs.declared.item.Item.{Item}
 use Rattle.ipcz_base.specs.Items.{ends_in}
 use Rattle.ipcz_seq.specs.Queue.{current_item}
@@ -17,10 +18,12 @@ use Rattle.ipcz_node.specs.Node.{Node}
 use Rattle.ipcz_node.specs.Events.{act_event, dropped_event, link_acted, moved_by, router_event, send_event, sent_event}
 use Rattle.ipcz_node.proofs.Refiling.{second_of_both}
 
-sent : (n m : Node) (event : ℕ → _ → _ → Happened) (o : Applied) → m.number ≡ n.number → sent_event event o (moved_by m o) ≡ send_event n event o
+sent : (n m : Node) (event : ℕ → _ → _ → Happened) (o : Applied) → m.number ≡ n.number →
+    sent_event event o (moved_by m o) ≡ send_event n event o
 unfolding sent_event send_event moved_by
 sent n m event outputs.Nothing same = refl
-sent n m event (outputs.Sent link number item) same = ap (λ (i : ℕ). event number link.link (if nat_eq link.other i then [] else ends_in item)) same
+sent n m event (outputs.Sent link number item) same =
+    ap (λ (i : ℕ). event number link.link (if nat_eq link.other i then [] else ends_in item)) same
 sent n m event (outputs.Message to message) same = refl
 sent n m event (outputs.Discarded number item) same = refl
 
@@ -34,11 +37,13 @@ no_rest true b h = refl
 no_rest false b h = h
 
 -- told at a node of the same number
-pub told : (n m : Node) (s : ℕ) (r : Router) (act : RouterAct) (a : Answer) → may_take r act ≡ true → m.number ≡ n.number → act_event s (link_acted r act) act a (output_of r act) (moved_by m (output_of r act)) ≡ router_event n s r act a
+pub told : (n m : Node) (s : ℕ) (r : Router) (act : RouterAct) (a : Answer) → may_take r act ≡ true → m.number ≡ n.number →
+    act_event s (link_acted r act) act a (output_of r act) (moved_by m (output_of r act)) ≡ router_event n s r act a
 unfolding act_event router_event link_acted output_of is_possible is_rest
 told n m s r acts.SendOut a may same = sent n m _ _ same
 told n m s r acts.SendIn a may same = sent n m _ _ same
-told n m s r acts.Discard a may same = dropped s r.in_queue.current (current_item r.in_queue) (second_of_both (is_sink r) _ (no_rest (is_sink r && is_some (current_item r.in_queue)) (is_rest (next_act r)) may))
+told n m s r acts.Discard a may same = dropped s r.in_queue.current (current_item r.in_queue)
+    (second_of_both (is_sink r) _ (no_rest (is_sink r && is_some (current_item r.in_queue)) (is_rest (next_act r)) may))
 told n m s r acts.FinishOut a may same = refl
 told n m s r acts.FinishIn a may same = refl
 told n m s r acts.Leave a may same = refl

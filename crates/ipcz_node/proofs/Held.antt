@@ -44,14 +44,16 @@ nat_turned a b = grind (arith, nat_tests)
 same_turned : (d e : End) → same_end d e ≡ same_end e d
 same_turned d e = go d.side e.side (nat_turned d.pair e.pair)
   where
-    go : (s t : Side) → nat_eq d.pair e.pair ≡ nat_eq e.pair d.pair → (nat_eq d.pair e.pair && same_side s t) ≡ (nat_eq e.pair d.pair && same_side t s)
+    go : (s t : Side) → nat_eq d.pair e.pair ≡ nat_eq e.pair d.pair →
+        (nat_eq d.pair e.pair && same_side s t) ≡ (nat_eq e.pair d.pair && same_side t s)
     go A A p = ap (λ b. b && true) p
     go A B p = ap (λ b. b && false) p
     go B A p = ap (λ b. b && false) p
     go B B p = ap (λ b. b && true) p
 
 -- these ends more
-pub contains-with_ends : (held : EndSet) (es : List End) (d : End) → sets.contains (with_ends held es) d ≡ (has_end d es || sets.contains held d)
+pub contains-with_ends : (held : EndSet) (es : List End) (d : End) →
+    sets.contains (with_ends held es) d ≡ (has_end d es || sets.contains held d)
 contains-with_ends held [] d = refl
 contains-with_ends held (e ∷ es) d =
     contains-with_ends (sets.insert held e) es d ∙ ap (λ t. has_end d es || t) (contains-insert held e d)
@@ -59,7 +61,8 @@ contains-with_ends held (e ∷ es) d =
     ∙ ap (λ t. (t || has_end d es) || sets.contains held d) (same_turned d e)
 
 -- these ends fewer
-pub contains-without_ends : (held : EndSet) (es : List End) (d : End) → sets.contains (without_ends held es) d ≡ (not (has_end d es) && sets.contains held d)
+pub contains-without_ends : (held : EndSet) (es : List End) (d : End) →
+    sets.contains (without_ends held es) d ≡ (not (has_end d es) && sets.contains held d)
 contains-without_ends held [] d = refl
 contains-without_ends held (e ∷ es) d =
     contains-without_ends (sets.remove held e) es d ∙ ap (λ t. not (has_end d es) && t) (contains-remove held e d)
@@ -68,7 +71,8 @@ contains-without_ends held (e ∷ es) d =
 
 -- only an end itself ties with it
 pub end_is : (d e : End) → same_end d e ≡ true → d ≡ e
-end_is d e h = ap₂ (λ pair side. record { pair = pair; side = side }) (number_is d.pair e.pair (first_of_both _ _ h)) (side_is d.side e.side (second_of_both _ _ h))
+end_is d e h = ap₂ (λ pair side. record { pair = pair; side = side }) (number_is d.pair e.pair (first_of_both _ _ h))
+    (side_is d.side e.side (second_of_both _ _ h))
 
 end_antisymmetric : sets.IsAntisymmetric end_cmp
 end_antisymmetric d e tie = end_is d e (sym (end_ties d e) ∙ ap is_eq tie)
@@ -86,13 +90,17 @@ pub same_ends : (held more : EndSet) → ((d : End) → sets.contains held d ≡
 same_ends held more same = sets.same_set end_total end_antisymmetric held more same
 
 -- a list with a member more, and with one fewer
-pub listed_more : (old new : List End) (e : End) → ((d : End) → has end_cmp new d ≡ (is_eq (end_cmp e d) || has end_cmp old d)) → sets.from_list {R = end_cmp} new ≡ sets.insert (sets.from_list old) e
+pub listed_more : (old new : List End) (e : End) → ((d : End) → has end_cmp new d ≡ (is_eq (end_cmp e d) || has end_cmp old d)) →
+    sets.from_list {R = end_cmp} new ≡ sets.insert (sets.from_list old) e
 listed_more old new e members = same_ends _ _ (λ d.
-    contains_listed new d ∙ members d ∙ ap₂ (λ a b. a || b) (end_ties e d ∙ same_turned e d) (sym (contains_listed old d)) ∙ sym (contains-insert (sets.from_list old) e d))
+    contains_listed new d ∙ members d ∙ ap₂ (λ a b. a || b) (end_ties e d ∙ same_turned e d) (sym (contains_listed old d)) ∙
+    sym (contains-insert (sets.from_list old) e d))
 
-pub listed_fewer : (old new : List End) (e : End) → ((d : End) → has end_cmp new d ≡ (not (is_eq (end_cmp e d)) && has end_cmp old d)) → sets.from_list {R = end_cmp} new ≡ sets.remove (sets.from_list old) e
+pub listed_fewer : (old new : List End) (e : End) → ((d : End) → has end_cmp new d ≡ (not (is_eq (end_cmp e d)) && has end_cmp old d)) →
+    sets.from_list {R = end_cmp} new ≡ sets.remove (sets.from_list old) e
 listed_fewer old new e members = same_ends _ _ (λ d.
-    contains_listed new d ∙ members d ∙ ap₂ (λ a b. not a && b) (end_ties e d ∙ same_turned e d) (sym (contains_listed old d)) ∙ sym (contains-remove (sets.from_list old) e d))
+    contains_listed new d ∙ members d ∙ ap₂ (λ a b. not a && b) (end_ties e d ∙ same_turned e d) (sym (contains_listed old d)) ∙
+    sym (contains-remove (sets.from_list old) e d))
 
 -- an end of the set is a member of the list
 pub contains_is : (ds : List End) (d : End) → has end_cmp ds d ≡ sets.contains (sets.from_list {R = end_cmp} ds) d

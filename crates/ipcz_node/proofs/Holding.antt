@@ -1,5 +1,6 @@
 -- That there is room to hold the ends which wait in the in queues, after each change of a router.
-use Rattle.std.proofs.Common.{◌≡◌, ℕ, ◌+◌, ◌-◌, ◌<◌, ◌≤◌, Bool, true, false, if◌then◌else◌, length, Option, Some, None, refl, sym, ◌∙◌, ap, arith, true≢false}
+use Rattle.std.proofs.Common.{◌≡◌, ℕ, ◌+◌, ◌-◌, ◌<◌, ◌≤◌, Bool, true, false, if◌then◌else◌, length, Option, Some, None, refl, sym, ◌∙◌, ap}
+use Rattle.std.proofs.Common.{arith, true≢false}
 use Rattle.std.specs.Prelude.{is_none, is_some, nat_le, nat_lt}
 use Rattle.std.proofs.lemmas.Bool.Decides.{nat_tests}
 use Rattle.std.specs.Ordering.{nat_cmp}
@@ -19,7 +20,8 @@ use Rattle.ipcz_router.specs.Calls.{has_place_for, accept, accept_refusal, take_
 use Rattle.ipcz_router.specs.Acts.{way_in}
 use Rattle.ipcz_router.specs.ActEffects.{apply, output_of, item_output, discard_output}
 use Rattle.ipcz_router.specs.declared.act.RouterAct.{RouterAct}
-use Rattle.ipcz_router.specs.declared.act.RouterAct.TheVariants.{SendOut, SendIn, Discard, FinishOut, FinishIn, Leave, Mark, Wake, Claim, Lock, Begin, Unlock, Rest}
+use Rattle.ipcz_router.specs.declared.act.RouterAct.TheVariants.{SendOut, SendIn, Discard, FinishOut, FinishIn, Leave, Mark, Wake, Claim}
+use Rattle.ipcz_router.specs.declared.act.RouterAct.TheVariants.{Lock, Begin, Unlock, Rest}
 use Rattle.ipcz_router.specs.declared.act.Answer.{Answer}
 use Rattle.ipcz_router.specs.declared.act.Answer.TheVariants.{Plain, Claimed, NoWord, Marked, Word, Locked, Waiting, Refused}
 use Rattle.ipcz_node.specs.Directories.{CanHold, ends_inside, ends_brought, ends_taken, takes_inside, ends_given}
@@ -31,42 +33,53 @@ abbrev pub inside : ℕ → Router → ℕ
 inside serial r = ends_inside r
 
 -- no router has more ends inside than all have
-pub inside_one : (m : FinMap nat_cmp Router) (s : ℕ) (r : Router) (ends more in_held : ℕ) → get m s ≡ Some r → CanHold m ends more in_held → ends_inside r ≤ ends
-inside_one m s r ends more in_held here can = omega (arith, can.counted, total-remove nat_cmp nat_cmp_total nat_cmp-IsAntisymmetric inside m s r here)
+pub inside_one : (m : FinMap nat_cmp Router) (s : ℕ) (r : Router) (ends more in_held : ℕ) → get m s ≡ Some r → CanHold m ends more in_held →
+    ends_inside r ≤ ends
+inside_one m s r ends more in_held here can =
+    omega (arith, can.counted, total-remove nat_cmp nat_cmp_total nat_cmp-IsAntisymmetric inside m s r here)
 
 -- one router was changed
-pub hold_changed : (m : FinMap nat_cmp Router) (s : ℕ) (r w : Router) (was is more in_held to_held : ℕ) → get m s ≡ Some r → ends_inside w + was ≤ ends_inside r + is → is + more ≤ to_held → CanHold m was more in_held → CanHold (insert m s w) is more to_held
+pub hold_changed : (m : FinMap nat_cmp Router) (s : ℕ) (r w : Router) (was is more in_held to_held : ℕ) → get m s ≡ Some r →
+    ends_inside w + was ≤ ends_inside r + is → is + more ≤ to_held → CanHold m was more in_held → CanHold (insert m s w) is more to_held
 hold_changed m s r w was is more in_held to_held here within room can = record {
   counted = omega (arith, can.counted, within, total-insert nat_cmp nat_cmp_total nat_cmp-IsAntisymmetric inside m s w r here);
   room = room;
 }
 
 -- one router has so many ends fewer inside, at least
-pub hold_spent : (m : FinMap nat_cmp Router) (s : ℕ) (r w : Router) (was is fewer more in_held to_held : ℕ) → get m s ≡ Some r → ends_inside w + fewer ≤ ends_inside r → is ≡ was - fewer → in_held ≤ to_held + fewer → CanHold m was more in_held → CanHold (insert m s w) is more to_held
+pub hold_spent : (m : FinMap nat_cmp Router) (s : ℕ) (r w : Router) (was is fewer more in_held to_held : ℕ) → get m s ≡ Some r →
+    ends_inside w + fewer ≤ ends_inside r → is ≡ was - fewer → in_held ≤ to_held + fewer → CanHold m was more in_held →
+    CanHold (insert m s w) is more to_held
 hold_spent m s r w was is fewer more in_held to_held here within less room can =
     let one = inside_one m s r was more in_held here can in
-    hold_changed m s r w was is more in_held to_held here (omega (arith, within, less, one)) (omega (arith, can.room, less, room, within, one)) can
+    hold_changed m s r w was is more in_held to_held here (omega (arith, within, less, one))
+    (omega (arith, can.room, less, room, within, one)) can
 
 -- one router was changed that has no more ends inside
-pub hold_kept : (m : FinMap nat_cmp Router) (s : ℕ) (r w : Router) (ends more in_held : ℕ) → get m s ≡ Some r → ends_inside w ≡ ends_inside r → CanHold m ends more in_held → CanHold (insert m s w) ends more in_held
-hold_kept m s r w ends more in_held here same can = hold_changed m s r w ends ends more in_held in_held here (omega (arith, same)) can.room can
+pub hold_kept : (m : FinMap nat_cmp Router) (s : ℕ) (r w : Router) (ends more in_held : ℕ) → get m s ≡ Some r →
+    ends_inside w ≡ ends_inside r → CanHold m ends more in_held → CanHold (insert m s w) ends more in_held
+hold_kept m s r w ends more in_held here same can = hold_changed m s r w ends ends more in_held in_held here (omega (arith, same))
+    can.room can
 
 -- a router without ends inside more, for which there was room
-pub hold_added : (m k : FinMap nat_cmp Router) (s : ℕ) (w : Router) (ends more in_held to_held : ℕ) → get m s ≡ None → k ≡ insert m s w → ends_inside w ≡ 0 → 0 < more → in_held ≤ to_held + 1 → CanHold m ends more in_held → CanHold k ends (more - 1) to_held
+pub hold_added : (m k : FinMap nat_cmp Router) (s : ℕ) (w : Router) (ends more in_held to_held : ℕ) → get m s ≡ None → k ≡ insert m s w →
+    ends_inside w ≡ 0 → 0 < more → in_held ≤ to_held + 1 → CanHold m ends more in_held → CanHold k ends (more - 1) to_held
 hold_added m k s w ends more in_held to_held free is none some fewer can = rw is (record {
   counted = omega (arith, can.counted, none, total-insert_new nat_cmp nat_cmp_total nat_cmp-IsAntisymmetric inside m s w free);
   room = omega (arith, can.room, some, fewer);
 })
 
 -- a router fewer
-pub hold_dropped : (m k : FinMap nat_cmp Router) (s : ℕ) (r : Router) (ends more in_held : ℕ) → get m s ≡ Some r → k ≡ remove m s → CanHold m ends more in_held → CanHold k ends more in_held
+pub hold_dropped : (m k : FinMap nat_cmp Router) (s : ℕ) (r : Router) (ends more in_held : ℕ) → get m s ≡ Some r → k ≡ remove m s →
+    CanHold m ends more in_held → CanHold k ends more in_held
 hold_dropped m k s r ends more in_held here is can = rw is (record {
   counted = omega (arith, can.counted, total-remove nat_cmp nat_cmp_total nat_cmp-IsAntisymmetric inside m s r here);
   room = can.room;
 })
 
 -- more room to hold ends
-pub hold_more : (m k : FinMap nat_cmp Router) (ends more fewer in_held to_held : ℕ) → k ≡ m → ends + more ≤ to_held → CanHold m ends fewer in_held → CanHold k ends more to_held
+pub hold_more : (m k : FinMap nat_cmp Router) (ends more fewer in_held to_held : ℕ) → k ≡ m → ends + more ≤ to_held →
+    CanHold m ends fewer in_held → CanHold k ends more to_held
 hold_more m k ends more fewer in_held to_held is enough can = rw is (record { counted = can.counted; room = enough })
 
 -- no routers
@@ -89,10 +102,12 @@ free_number q n h = free (get q.items n) (second_of_both (nat_le q.current n) _ 
     free None h = refl
     free (Some item) h = absurd (true≢false (sym h))
 
-pub brought_inside : (r : Router) (from_outward : Bool) (n : ℕ) (item : Item) → has_place_for r from_outward n ≡ true → ends_inside (accept r from_outward n item) ≡ ends_inside r + ends_brought r from_outward n item
+pub brought_inside : (r : Router) (from_outward : Bool) (n : ℕ) (item : Item) → has_place_for r from_outward n ≡ true →
+    ends_inside (accept r from_outward n item) ≡ ends_inside r + ends_brought r from_outward n item
 unfolding accept
 brought_inside r true n item h =
-    let new = total-insert_new nat_cmp nat_cmp_total nat_cmp-IsAntisymmetric weight r.in_queue.items n item (free_number r.in_queue n (second_of_both (nat_lt n no_number) _ h)) in
+    let new = total-insert_new nat_cmp nat_cmp_total nat_cmp-IsAntisymmetric weight r.in_queue.items n item
+    (free_number r.in_queue n (second_of_both (nat_lt n no_number) _ h)) in
     new ∙ ap (λ b. ends_inside r + (if b then length (ends_in item) else 0)) (sym h)
 brought_inside r false n item h = omega arith
 
@@ -101,12 +116,14 @@ abbrev weight_of : Option Item → ℕ
 weight_of None = 0
 weight_of (Some item) = length (ends_in item)
 
-taken_from : (q : Queue Item) (o : Option Item) → current_item q ≡ o → total weight (remove q.items q.current) + weight_of o ≡ total weight q.items
+taken_from : (q : Queue Item) (o : Option Item) → current_item q ≡ o →
+    total weight (remove q.items q.current) + weight_of o ≡ total weight q.items
 taken_from q None is = omega (arith, ap (total weight) (remove_absent q.items q.current is))
 taken_from q (Some item) is = total-remove nat_cmp nat_cmp_total nat_cmp-IsAntisymmetric weight q.items q.current item is
 
 -- a get takes the ends of its item out
-pub taken_inside : (r : Router) (item : Item) → current_item r.in_queue ≡ Some item → ends_inside (take_item r) + length (ends_in item) ≡ ends_inside r
+pub taken_inside : (r : Router) (item : Item) → current_item r.in_queue ≡ Some item →
+    ends_inside (take_item r) + length (ends_in item) ≡ ends_inside r
 taken_inside r item is = taken_from r.in_queue (Some item) is
 
 sent_in_weight : (link : Option LinkEnd) (n : ℕ) (o : Option Item) → ends_given (item_output link n o) ≤ weight_of o
@@ -121,11 +138,18 @@ discarded_weight n None = omega arith
 discarded_weight n (Some item) = omega arith
 
 -- an act takes the ends of its item out, where the item is of the in queue
-pub act_inside : (r : Router) (act : RouterAct) (answer : Answer) → ends_inside (apply r act answer) + ends_taken act (output_of r act) ≤ ends_inside r
+pub act_inside : (r : Router) (act : RouterAct) (answer : Answer) →
+    ends_inside (apply r act answer) + ends_taken act (output_of r act) ≤ ends_inside r
 unfolding apply output_of takes_inside
 act_inside r SendOut a = omega arith
-act_inside r SendIn a = omega (arith, taken_from r.in_queue (current_item r.in_queue) refl, sent_in_weight (way_in r) r.in_queue.current (current_item r.in_queue))
-act_inside r Discard a = omega (arith, taken_from r.in_queue (current_item r.in_queue) refl, discarded_weight r.in_queue.current (current_item r.in_queue))
+act_inside r SendIn a =
+    omega (
+      arith,
+      taken_from r.in_queue (current_item r.in_queue) refl,
+      sent_in_weight (way_in r) r.in_queue.current (current_item r.in_queue),
+    )
+act_inside r Discard a =
+    omega (arith, taken_from r.in_queue (current_item r.in_queue) refl, discarded_weight r.in_queue.current (current_item r.in_queue))
 act_inside r FinishOut a = omega arith
 act_inside r FinishIn a = omega arith
 act_inside r Leave a = omega arith
@@ -159,7 +183,8 @@ act_inside r Unlock a = omega arith
 act_inside r Rest a = omega arith
 
 -- where ends are to come, only memory is wanted
-pub brought_refusal : (r : Router) (link : LinkId) (side : Side) (n : ℕ) (item : Item) → 0 < ends_brought r (outward_has r link side) n item → OutOfMemory ≡ accept_refusal r link side n
+pub brought_refusal : (r : Router) (link : LinkId) (side : Side) (n : ℕ) (item : Item) →
+    0 < ends_brought r (outward_has r link side) n item → OutOfMemory ≡ accept_refusal r link side n
 brought_refusal r link side n item some = go (outward_has r link side) some
   where
     free : (q : Queue Item) → has_place q n ≡ true → push_refusal q n ≡ OutOfMemory
@@ -168,10 +193,12 @@ brought_refusal r link side n item some = go (outward_has r link side) some
         let none : is_some (item_at q n) ≡ false = ap is_some (free_number q n h) in
         rw (low, none) refl
 
-    go : (b : Bool) → 0 < ends_brought r b n item → OutOfMemory ≡ (if b then push_refusal r.in_queue n else if inward_has r link side then push_refusal r.out_queue n else Stranger)
+    go : (b : Bool) → 0 < ends_brought r b n item → OutOfMemory ≡
+        (if b then push_refusal r.in_queue n else if inward_has r link side then push_refusal r.out_queue n else Stranger)
     go false some = absurd (omega (arith, some))
     go true some = at (has_place_for r true n) refl some
       where
-        at : (p : Bool) → has_place_for r true n ≡ p → 0 < (if p then length (ends_in item) else 0) → OutOfMemory ≡ push_refusal r.in_queue n
+        at : (p : Bool) → has_place_for r true n ≡ p → 0 < (if p then length (ends_in item) else 0) →
+            OutOfMemory ≡ push_refusal r.in_queue n
         at false is some = absurd (omega (arith, some))
         at true is some = sym (free r.in_queue (second_of_both (nat_lt n no_number) _ is))

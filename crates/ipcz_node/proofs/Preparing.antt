@@ -1,5 +1,6 @@
 -- What an outlook has room for, the act has.
-use Rattle.std.proofs.Common.{◌≡◌, Bool, true, false, nat_eq, if◌then◌else◌, Option, Some, None, [], List, length, refl, sym, arith, true≢false}
+use Rattle.std.proofs.Common.{◌≡◌, Bool, true, false, nat_eq, if◌then◌else◌, Option, Some, None, [], List, length, refl, sym, arith}
+use Rattle.std.proofs.Common.{true≢false}
 use Rattle.std.specs.Prelude.{IfSome}
 use Rattle.ipcz_base.specs.declared.end.End.{End}
 use Rattle.ipcz_base.specs.Items.{ends_in}
@@ -26,13 +27,16 @@ ready_as : (k : RoomyNode) (a : Applied) → IsReadyAs k (outlook_of a) → IsRe
 unfolding moved_by
 ready_as k outputs.Nothing h = (tt, omega arith)
 ready_as k (outputs.Sent link n item) h =
-    let count = counted (nat_eq link.other k.node.number) (ends_in item) in
-    ((h.outbox, omega (arith, count, h.links), omega (arith, count, h.moves), omega (arith, count, h.serials)), omega (arith, count, h.event_ends))
+    let count = counted (nat_eq link.other k.node.number) (ends_in item) in (
+      (h.outbox, omega (arith, count, h.links), omega (arith, count, h.moves), omega (arith, count, h.serials)),
+      omega (arith, count, h.event_ends),
+    )
 ready_as k (outputs.Message to m) h = (h, omega arith)
 ready_as k (outputs.Discarded n item) h = (h, omega arith)
 
 -- at the router that stands there
-pub ready_at : (k : RoomyNode) (o : Option Router) (act : RouterAct) → IsReadyAs k (outlook_at o act) → IfSome o (λ r. IsReady k (output_of r act) × CanTell k (output_of r act))
+pub ready_at : (k : RoomyNode) (o : Option Router) (act : RouterAct) → IsReadyAs k (outlook_at o act) →
+    IfSome o (λ r. IsReady k (output_of r act) × CanTell k (output_of r act))
 ready_at k None act h = tt
 ready_at k (Some r) act h = ready_as k (output_of r act) h
 

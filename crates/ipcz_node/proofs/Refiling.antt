@@ -1,5 +1,6 @@
 -- What filing a router anew does to one key, step by step.
-use Rattle.std.proofs.Common.{◌≡◌, ◌==◌, ◌&&◌, ◌||◌, not, ℕ, ◌+◌, ◌≤◌, Bool, true, false, if◌then◌else◌, Option, Some, None, refl, sym, ◌∙◌, ap, arith, true≢false}
+use Rattle.std.proofs.Common.{◌≡◌, ◌==◌, ◌&&◌, ◌||◌, not, ℕ, ◌+◌, ◌≤◌, Bool, true, false, if◌then◌else◌, Option, Some, None, refl, sym, ◌∙◌}
+use Rattle.std.proofs.Common.{ap, arith, true≢false}
 use Rattle.std.specs.Ordering.{is_eq}
 use Rattle.std.proofs.lemmas.Bool.Decides.{nat_tests}
 use Rattle.std.specs.Prelude.{nat_eq}
@@ -27,7 +28,8 @@ use Rattle.ipcz_edge.specs.Edge.{Edge, finish}
 use Rattle.ipcz_router.specs.Bypass.{bypass_peer}
 use Rattle.ipcz_router.specs.ActEffects.{apply, finish_in, begin_bypass}
 use Rattle.ipcz_router.specs.declared.act.RouterAct.{RouterAct}
-use Rattle.ipcz_router.specs.declared.act.RouterAct.TheVariants.{SendOut, SendIn, Discard, FinishOut, FinishIn, Leave, Mark, Wake, Claim, Lock, Begin, Unlock, Rest}
+use Rattle.ipcz_router.specs.declared.act.RouterAct.TheVariants.{SendOut, SendIn, Discard, FinishOut, FinishIn, Leave, Mark, Wake, Claim}
+use Rattle.ipcz_router.specs.declared.act.RouterAct.TheVariants.{Lock, Begin, Unlock, Rest}
 use Rattle.ipcz_router.specs.declared.act.Answer.{Answer}
 use Rattle.ipcz_router.specs.declared.act.Answer.TheVariants.{Plain, Claimed, NoWord, Marked, Word, Locked, Waiting, Refused}
 use Rattle.ipcz_node.specs.SortedSets.{RoomySet}
@@ -41,14 +43,16 @@ less_one kept same has old = not (not kept && (same && has)) && old
 abbrev pub more_one : Bool → Bool → Bool → Bool → Bool
 more_one was same has old = (not was && (same && has)) || old
 
-gone : (b1 b2 b3 b4 : Bool) → less_one false true b4 (less_one false true b3 (less_one false true b2 (less_one false true b1 ((b1 || b2) || (b3 || b4))))) ≡ false
+gone : (b1 b2 b3 b4 : Bool) →
+    less_one false true b4 (less_one false true b3 (less_one false true b2 (less_one false true b1 ((b1 || b2) || (b3 || b4))))) ≡ false
 gone b1 b2 b3 true = refl
 gone b1 b2 true false = refl
 gone b1 true false false = refl
 gone true false false false = refl
 gone false false false false = refl
 
-there : (a1 a2 a3 a4 : Bool) → more_one false true a4 (more_one false true a3 (more_one false true a2 (more_one false true a1 false))) ≡ ((a1 || a2) || (a3 || a4))
+there : (a1 a2 a3 a4 : Bool) → more_one false true a4 (more_one false true a3 (more_one false true a2 (more_one false true a1 false))) ≡
+    ((a1 || a2) || (a3 || a4))
 there true true true true = refl
 there true true true false = refl
 there true true false true = refl
@@ -71,7 +75,10 @@ any a b c d = (a || b) || (c || d)
 
 -- the four links of one filing leave where the other has them not, and the four of that come
 pub relinked : (is was same b1 b2 b3 b4 a1 a2 a3 a4 old : Bool) → any a1 a2 a3 a4 ≡ is → any b1 b2 b3 b4 ≡ was → (same ≡ true → old ≡ was)
-    → more_one was same a4 (more_one was same a3 (more_one was same a2 (more_one was same a1 (less_one is same b4 (less_one is same b3 (less_one is same b2 (less_one is same b1 old)))))))
+    → more_one was same a4
+    (more_one was same a3
+    (more_one was same a2
+    (more_one was same a1 (less_one is same b4 (less_one is same b3 (less_one is same b2 (less_one is same b1 old)))))))
     ≡ (if same then is else old)
 relinked true true false b1 b2 b3 b4 a1 a2 a3 a4 old is_is was_is here = refl
 relinked true false false b1 b2 b3 b4 a1 a2 a3 a4 old is_is was_is here = refl
@@ -79,12 +86,15 @@ relinked false true false b1 b2 b3 b4 a1 a2 a3 a4 old is_is was_is here = refl
 relinked false false false b1 b2 b3 b4 a1 a2 a3 a4 old is_is was_is here = refl
 relinked true true true b1 b2 b3 b4 a1 a2 a3 a4 old is_is was_is here = here refl
 relinked true false true b1 b2 b3 b4 a1 a2 a3 a4 old is_is was_is here =
-    ap (λ x. more_one false true a4 (more_one false true a3 (more_one false true a2 (more_one false true a1 x)))) (here refl) ∙ there a1 a2 a3 a4 ∙ is_is
+    ap (λ x. more_one false true a4 (more_one false true a3 (more_one false true a2 (more_one false true a1 x)))) (here refl) ∙
+    there a1 a2 a3 a4 ∙ is_is
 relinked false true true b1 b2 b3 b4 a1 a2 a3 a4 old is_is was_is here =
-    ap (λ x. less_one false true b4 (less_one false true b3 (less_one false true b2 (less_one false true b1 x)))) (here refl ∙ sym was_is) ∙ gone b1 b2 b3 b4
+    ap (λ x. less_one false true b4 (less_one false true b3 (less_one false true b2 (less_one false true b1 x)))) (here refl ∙ sym was_is) ∙
+    gone b1 b2 b3 b4
 relinked false false true b1 b2 b3 b4 a1 a2 a3 a4 old is_is was_is here =
     ap (λ y. more_one false true a4 (more_one false true a3 (more_one false true a2 (more_one false true a1 y))))
-    (ap (λ x. less_one false true b4 (less_one false true b3 (less_one false true b2 (less_one false true b1 x)))) (here refl ∙ sym was_is) ∙ gone b1 b2 b3 b4)
+    (ap (λ x. less_one false true b4 (less_one false true b3 (less_one false true b2 (less_one false true b1 x))))
+    (here refl ∙ sym was_is) ∙ gone b1 b2 b3 b4)
     ∙ there a1 a2 a3 a4 ∙ is_is
 
 -- a link is the one that it is said to be
@@ -103,7 +113,8 @@ link_is : (a b : LinkId) → same_link a b ≡ true → a ≡ b
 link_is (Central i) (Central j) h = ap (λ n. Central n) (number_is i j h)
 link_is (Central i) (Peripheral n s) h = absurd (true≢false (sym h))
 link_is (Peripheral n s) (Central j) h = absurd (true≢false (sym h))
-link_is (Peripheral n s) (Peripheral m t) h = ap (λ x. Peripheral x s) (number_is n m (first_of_both _ _ h)) ∙ ap (λ y. Peripheral m y) (number_is s t (second_of_both _ _ h))
+link_is (Peripheral n s) (Peripheral m t) h = ap (λ x. Peripheral x s) (number_is n m (first_of_both _ _ h)) ∙
+    ap (λ y. Peripheral m y) (number_is s t (second_of_both _ _ h))
 
 pub side_is : (a b : Side) → same_side a b ≡ true → a ≡ b
 side_is A A h = refl
@@ -111,8 +122,11 @@ side_is A B h = absurd (true≢false (sym h))
 side_is B A h = absurd (true≢false (sym h))
 side_is B B h = refl
 
-under_is : (f : Filing) (e : LinkEnd) (link : LinkId) (side : Side) → is_at link side e ≡ true → is_under f link side ≡ is_under f e.link e.side
-under_is f e link side h = sym (ap (λ l. is_under f l e.side) (link_is e.link link (first_of_both _ _ h)) ∙ ap (is_under f link) (side_is e.side side (second_of_both _ _ h)))
+under_is : (f : Filing) (e : LinkEnd) (link : LinkId) (side : Side) → is_at link side e ≡ true →
+    is_under f link side ≡ is_under f e.link e.side
+under_is f e link side h =
+    sym (ap (λ l. is_under f l e.side) (link_is e.link link (first_of_both _ _ h)) ∙
+    ap (is_under f link) (side_is e.side side (second_of_both _ _ h)))
 
 -- a link that is taken away, since it isn't kept
 pub dropped : (f : Filing) (e : LinkEnd) (link : LinkId) (side : Side) (same : Bool) → is_under f e.link e.side ≡ false
@@ -138,7 +152,8 @@ dropped f e link side same none = ap (λ b. b && same) (link_end_ties (e.link, e
         no false = refl
 
 -- a link that is kept is not to be taken away
-pub kept : (f : Filing) (e : LinkEnd) (link : LinkId) (side : Side) (same : Bool) → is_under f e.link e.side ≡ true → (not (is_under f link side) && (same && is_at link side e)) ≡ false
+pub kept : (f : Filing) (e : LinkEnd) (link : LinkId) (side : Side) (same : Bool) → is_under f e.link e.side ≡ true →
+    (not (is_under f link side) && (same && is_at link side e)) ≡ false
 kept f e link side same some = go (is_at link side e) refl same
   where
     no : (b : Bool) → (b && false) ≡ false
@@ -158,29 +173,41 @@ nothing false false = refl
 
 module _ (f : Filing) (o : Option LinkEnd) (link : LinkId) (side : Side) (same old : Bool) where
   module _ (e : LinkEnd) (is : o ≡ Some e) where
-    pub file_one : (new : Bool) → is_under f e.link e.side ≡ false → new ≡ ((is_eq (link_end_cmp (e.link, e.side) (link, side)) && same) || old) → new ≡ more_one (is_under f link side) same (has_link o link side) old
+    pub file_one : (new : Bool) → is_under f e.link e.side ≡ false →
+        new ≡ ((is_eq (link_end_cmp (e.link, e.side) (link, side)) && same) || old) →
+        new ≡ more_one (is_under f link side) same (has_link o link side) old
     unfolding has_link
-    file_one new none made = made ∙ ap (λ b. b || old) (dropped f e link side same none ∙ ap (λ p. not (is_under f link side) && (same && has_link p link side)) (sym is))
+    file_one new none made =
+        made ∙ ap (λ b. b || old) (dropped f e link side same none ∙
+        ap (λ p. not (is_under f link side) && (same && has_link p link side)) (sym is))
 
     pub file_kept : is_under f e.link e.side ≡ true → old ≡ more_one (is_under f link side) same (has_link o link side) old
     unfolding has_link
-    file_kept some = sym (ap (λ p. (not (is_under f link side) && (same && has_link p link side)) || old) is ∙ ap (λ b. b || old) (kept f e link side same some))
+    file_kept some = sym (ap (λ p. (not (is_under f link side) && (same && has_link p link side)) || old) is ∙
+        ap (λ b. b || old) (kept f e link side same some))
 
-    pub drop_one : (new : Bool) → is_under f e.link e.side ≡ false → new ≡ (not (is_eq (link_end_cmp (e.link, e.side) (link, side)) && same) && old) → new ≡ less_one (is_under f link side) same (has_link o link side) old
+    pub drop_one : (new : Bool) → is_under f e.link e.side ≡ false →
+        new ≡ (not (is_eq (link_end_cmp (e.link, e.side) (link, side)) && same) && old) →
+        new ≡ less_one (is_under f link side) same (has_link o link side) old
     unfolding has_link
-    drop_one new none made = made ∙ ap (λ b. not b && old) (dropped f e link side same none ∙ ap (λ p. not (is_under f link side) && (same && has_link p link side)) (sym is))
+    drop_one new none made =
+        made ∙ ap (λ b. not b && old) (dropped f e link side same none ∙
+        ap (λ p. not (is_under f link side) && (same && has_link p link side)) (sym is))
 
     pub drop_kept : is_under f e.link e.side ≡ true → old ≡ less_one (is_under f link side) same (has_link o link side) old
     unfolding has_link
-    drop_kept some = sym (ap (λ p. not (not (is_under f link side) && (same && has_link p link side)) && old) is ∙ ap (λ b. not b && old) (kept f e link side same some))
+    drop_kept some = sym (ap (λ p. not (not (is_under f link side) && (same && has_link p link side)) && old) is ∙
+        ap (λ b. not b && old) (kept f e link side same some))
 
   pub file_none : o ≡ None → old ≡ more_one (is_under f link side) same (has_link o link side) old
   unfolding has_link
-  file_none is = sym (ap (λ p. (not (is_under f link side) && (same && has_link p link side)) || old) is ∙ ap (λ b. b || old) (nothing (not (is_under f link side)) same))
+  file_none is = sym (ap (λ p. (not (is_under f link side) && (same && has_link p link side)) || old) is ∙
+      ap (λ b. b || old) (nothing (not (is_under f link side)) same))
 
   pub drop_none : o ≡ None → old ≡ less_one (is_under f link side) same (has_link o link side) old
   unfolding has_link
-  drop_none is = sym (ap (λ p. not (not (is_under f link side) && (same && has_link p link side)) && old) is ∙ ap (λ b. not b && old) (nothing (not (is_under f link side)) same))
+  drop_none is = sym (ap (λ p. not (not (is_under f link side) && (same && has_link p link side)) && old) is ∙
+      ap (λ b. not b && old) (nothing (not (is_under f link side)) same))
 
 -- what is filed under the serial is what is filed under an equal number
 pub at_serial : (P : ℕ → Bool) (b : Bool) (serial s : ℕ) → P serial ≡ b → (serial == s) ≡ true → P s ≡ b
@@ -229,16 +256,22 @@ one_of false false false false (inr (inl h)) = h
 one_of false false false false (inr (inr h)) = h
 
 pub own_outward : (f : Filing) → gained_by f f.outward ≡ 0
-own_outward f = own f f.outward (λ e is. one_of (has_link f.outward e.link e.side) (has_link f.outward_decaying e.link e.side) (has_link f.inward e.link e.side) (has_link f.inward_decaying e.link e.side) (inl (inl (has_itself f.outward e is))))
+own_outward f = own f f.outward (λ e is. one_of (has_link f.outward e.link e.side) (has_link f.outward_decaying e.link e.side)
+    (has_link f.inward e.link e.side) (has_link f.inward_decaying e.link e.side) (inl (inl (has_itself f.outward e is))))
 
 pub own_outward_decaying : (f : Filing) → gained_by f f.outward_decaying ≡ 0
-own_outward_decaying f = own f f.outward_decaying (λ e is. one_of (has_link f.outward e.link e.side) (has_link f.outward_decaying e.link e.side) (has_link f.inward e.link e.side) (has_link f.inward_decaying e.link e.side) (inl (inr (has_itself f.outward_decaying e is))))
+own_outward_decaying f =
+    own f f.outward_decaying (λ e is. one_of (has_link f.outward e.link e.side) (has_link f.outward_decaying e.link e.side)
+    (has_link f.inward e.link e.side) (has_link f.inward_decaying e.link e.side) (inl (inr (has_itself f.outward_decaying e is))))
 
 pub own_inward : (f : Filing) → gained_by f f.inward ≡ 0
-own_inward f = own f f.inward (λ e is. one_of (has_link f.outward e.link e.side) (has_link f.outward_decaying e.link e.side) (has_link f.inward e.link e.side) (has_link f.inward_decaying e.link e.side) (inr (inl (has_itself f.inward e is))))
+own_inward f = own f f.inward (λ e is. one_of (has_link f.outward e.link e.side) (has_link f.outward_decaying e.link e.side)
+    (has_link f.inward e.link e.side) (has_link f.inward_decaying e.link e.side) (inr (inl (has_itself f.inward e is))))
 
 pub own_inward_decaying : (f : Filing) → gained_by f f.inward_decaying ≡ 0
-own_inward_decaying f = own f f.inward_decaying (λ e is. one_of (has_link f.outward e.link e.side) (has_link f.outward_decaying e.link e.side) (has_link f.inward e.link e.side) (has_link f.inward_decaying e.link e.side) (inr (inr (has_itself f.inward_decaying e is))))
+own_inward_decaying f =
+    own f f.inward_decaying (λ e is. one_of (has_link f.outward e.link e.side) (has_link f.outward_decaying e.link e.side)
+    (has_link f.inward e.link e.side) (has_link f.inward_decaying e.link e.side) (inr (inr (has_itself f.inward_decaying e is))))
 
 pub at_most_one : (f : Filing) (o : Option LinkEnd) → gained_by f o ≤ 1
 at_most_one f None = omega arith
@@ -276,16 +309,28 @@ unfolding apply
 act_standing r SendOut a = record { few = omega (arith, same_links (filing_of r)); closes = λ h. h; stays = refl }
 act_standing r SendIn a = record { few = omega (arith, same_links (filing_of r)); closes = λ h. h; stays = refl }
 act_standing r Discard a = record { few = omega (arith, same_links (filing_of r)); closes = λ h. h; stays = refl }
-act_standing r FinishOut a = record { few = omega (arith, own_outward (filing_of r), own_inward (filing_of r), own_inward_decaying (filing_of r)); closes = λ h. h; stays = refl }
+act_standing r FinishOut a =
+    record {
+      few = omega (arith, own_outward (filing_of r), own_inward (filing_of r), own_inward_decaying (filing_of r));
+      closes = λ h. h;
+      stays = refl;
+    }
 act_standing r FinishIn a = finishing r.inward refl
   where
     finishing : (i : Option Edge) → r.inward ≡ i → FilesWithin 0 r (finish_in r)
-    finishing None is = subst (FilesWithin 0 r) (sym (ap (λ i. record r { inward = option_map finish i }) is ∙ sym (ap (λ i. record r { inward = i }) is))) (same_standing r)
-    finishing (Some e) is = subst (λ i. FilesWithin 0 (record r { inward = i }) (record r { inward = option_map finish i })) (sym is) (record {
-      few = omega (arith, own_outward (filing_of (record r { inward = Some e })), own_outward_decaying (filing_of (record r { inward = Some e })), own_inward (filing_of (record r { inward = Some e })));
-      closes = λ h. refl;
-      stays = refl;
-    })
+    finishing None is = subst (FilesWithin 0 r)
+        (sym (ap (λ i. record r { inward = option_map finish i }) is ∙ sym (ap (λ i. record r { inward = i }) is))) (same_standing r)
+    finishing (Some e) is = subst (λ i. FilesWithin 0 (record r { inward = i }) (record r { inward = option_map finish i })) (sym is)
+        (record {
+          few = omega (
+            arith,
+            own_outward (filing_of (record r { inward = Some e })),
+            own_outward_decaying (filing_of (record r { inward = Some e })),
+            own_inward (filing_of (record r { inward = Some e })),
+          );
+          closes = λ h. refl;
+          stays = refl;
+        })
 act_standing r Leave a = same_standing r
 act_standing r Mark (Marked word was) = record { few = omega (arith, same_links (filing_of r)); closes = λ h. h; stays = refl }
 act_standing r Mark Plain = same_standing r
@@ -315,7 +360,8 @@ act_standing r Lock (Word w) = same_standing r
 act_standing r Begin a = beginning r.inward refl
   where
     beginning : (i : Option Edge) → r.inward ≡ i → FilesWithin 0 r (begin_bypass r)
-    beginning None is = subst (λ i. FilesWithin 0 (record r { inward = i }) (begin_bypass (record r { inward = i }))) (sym is) (record { few = omega (arith, own_outward (filing_of (record r { inward = None }))); closes = λ h. h; stays = refl })
+    beginning None is = subst (λ i. FilesWithin 0 (record r { inward = i }) (begin_bypass (record r { inward = i }))) (sym is)
+        (record { few = omega (arith, own_outward (filing_of (record r { inward = None }))); closes = λ h. h; stays = refl })
     beginning (Some e) is = subst (λ i. FilesWithin 0 (record r { inward = i }) (begin_bypass (record r { inward = i }))) (sym is) (record {
       few = omega (arith, own_outward (filing_of (record r { inward = Some e })), own_inward (filing_of (record r { inward = Some e })));
       closes = λ h. refl;
@@ -327,13 +373,20 @@ act_standing r Rest a = record { few = omega (arith, same_links (filing_of r)); 
 -- a router that leaves a link for a fresh one has one link more
 pub bypass_standing : (r : Router) (target fresh : ℕ) → FilesWithin 1 r (bypass_peer r target fresh)
 bypass_standing r target fresh = record {
-  few = omega (arith, at_most_one (filing_of r) (Some (central_end fresh r.end.side target)), own_outward (filing_of r), own_inward (filing_of r), own_inward_decaying (filing_of r));
+  few = omega (
+    arith,
+    at_most_one (filing_of r) (Some (central_end fresh r.end.side target)),
+    own_outward (filing_of r),
+    own_inward (filing_of r),
+    own_inward_decaying (filing_of r),
+  );
   closes = λ h. h;
   stays = refl;
 }
 
 -- what holds of the router that a call was to make, and of the one it found, holds of the one it left
-pub after : {X E : Type 0} (P : Router → Type 0) (answer : Result X E) (r w y : Router) → OnOk answer (w ≡ y) → OnErr answer (w ≡ r) → P y → P r → P w
+pub after : {X E : Type 0} (P : Router → Type 0) (answer : Result X E) (r w y : Router) → OnOk answer (w ≡ y) → OnErr answer (w ≡ r) → P y →
+    P r → P w
 after P (Ok a) r w y done left changed same = subst P (sym done) changed
 after P (Err e) r w y done left changed same = subst P (sym left) same
 
@@ -341,9 +394,12 @@ pub left_after : {X E : Type 0} (P : E → Type 0) (Q : Type 0) (answer : Result
 left_after P Q (Ok a) h = tt
 left_after P Q (Err e) h = h.1
 
-module _ (m : FinMap nat_cmp Router) (s : ℕ) (r w : Router) (was is : Filing) (taken : ℕ) (fits : FilesWithin taken r w) (links to_links : RoomySet ((LinkId × Side) × ℕ)) (terminals to_terminals : RoomySet (End × ℕ)) (flagged to_flagged : RoomySet ℕ)
-    (room more less in_routers : ℕ) (here : get m s ≡ Some r) (was_is : was ≡ filing_of r) (is_is : is ≡ filing_of w) (enough : less + taken ≤ more)
-    (held : AreFiled m links.members terminals.members flagged.members × HaveRoom m room more in_routers links.room terminals.room flagged.room) where
+module _ (m : FinMap nat_cmp Router) (s : ℕ) (r w : Router) (was is : Filing) (taken : ℕ) (fits : FilesWithin taken r w)
+    (links to_links : RoomySet ((LinkId × Side) × ℕ)) (terminals to_terminals : RoomySet (End × ℕ)) (flagged to_flagged : RoomySet ℕ)
+    (room more less in_routers : ℕ) (here : get m s ≡ Some r) (was_is : was ≡ filing_of r) (is_is : is ≡ filing_of w)
+    (enough : less + taken ≤ more)
+    (held : AreFiled m links.members terminals.members flagged.members ×
+    HaveRoom m room more in_routers links.room terminals.room flagged.room) where
   few_links : link_gain was is ≤ taken
   few_links = subst (λ f. link_gain f is ≤ taken) (sym was_is) (subst (λ f. link_gain (filing_of r) f ≤ taken) (sym is_is) fits.few)
 
@@ -355,12 +411,22 @@ module _ (m : FinMap nat_cmp Router) (s : ℕ) (r w : Router) (was is : Filing) 
 
   -- and then stands among the others
   pub changed : AreRefiled links to_links terminals to_terminals flagged to_flagged s was is
-      → AreFiled (insert m s w) to_links.members to_terminals.members to_flagged.members × HaveRoom (insert m s w) room less in_routers to_links.room to_terminals.room to_flagged.room
-  changed by = refiled m s r w was is links to_links terminals to_terminals flagged to_flagged room more less in_routers here was_is is_is (omega (arith, few_links, enough)) held by
+      → AreFiled (insert m s w) to_links.members to_terminals.members to_flagged.members ×
+      HaveRoom (insert m s w) room less in_routers to_links.room to_terminals.room to_flagged.room
+  changed by = refiled m s r w was is links to_links terminals to_terminals flagged to_flagged room more less in_routers here was_is is_is
+      (omega (arith, few_links, enough)) held by
 
 -- a router that is away is filed nowhere
 abbrev pub nowhere : End → Filing
-nowhere end = record { outward = None; outward_decaying = None; inward = None; inward_decaying = None; end = end; is_open = false; flagged = false }
+nowhere end = record {
+  outward = None;
+  outward_decaying = None;
+  inward = None;
+  inward_decaying = None;
+  end = end;
+  is_open = false;
+  flagged = false;
+}
 
 pub under_nowhere : (end : End) (link : LinkId) (side : Side) → is_under (nowhere end) link side ≡ false
 unfolding has_link

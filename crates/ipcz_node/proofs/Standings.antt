@@ -10,9 +10,16 @@ use Rattle.ipcz_router.specs.Filings.{filing_of}
 use Rattle.ipcz_router.specs.Bypass.{accept_bypass, stop_proxying, proxy_will_stop}
 use Rattle.ipcz_node.proofs.Refiling.{FilesWithin, same_links, at_most_one, own_outward, own_inward, own_inward_decaying}
 
-pub accept_bypass_standing : (r : Router) (sender : ℕ) (side : Side) (fresh length : ℕ) → FilesWithin 1 r (accept_bypass r sender side fresh length)
+pub accept_bypass_standing : (r : Router) (sender : ℕ) (side : Side) (fresh length : ℕ) →
+    FilesWithin 1 r (accept_bypass r sender side fresh length)
 accept_bypass_standing r sender side fresh length = record {
-  few = omega (arith, at_most_one (filing_of r) (Some (central_end fresh side sender)), own_outward (filing_of r), own_inward (filing_of r), own_inward_decaying (filing_of r));
+  few = omega (
+    arith,
+    at_most_one (filing_of r) (Some (central_end fresh side sender)),
+    own_outward (filing_of r),
+    own_inward (filing_of r),
+    own_inward_decaying (filing_of r),
+  );
   closes = λ h. h;
   stays = refl;
 }
@@ -28,9 +35,11 @@ pub stop_proxying_standing : (r : Router) (in_length out_length : ℕ) → Files
 stop_proxying_standing r in_length out_length = stopping r.inward refl
   where
     stopping : (i : Option Edge) → r.inward ≡ i → FilesWithin 0 r (stop_proxying r in_length out_length)
-    stopping None is = subst (λ i. FilesWithin 0 (record r { inward = i }) (stop_proxying (record r { inward = i }) in_length out_length)) (sym is)
+    stopping None is = subst (λ i. FilesWithin 0 (record r { inward = i }) (stop_proxying (record r { inward = i }) in_length out_length))
+        (sym is)
         (record { few = omega (arith, same_links (filing_of (record r { inward = None }))); closes = λ h. h; stays = refl })
-    stopping (Some e) is = subst (λ i. FilesWithin 0 (record r { inward = i }) (stop_proxying (record r { inward = i }) in_length out_length)) (sym is)
+    stopping (Some e) is =
+        subst (λ i. FilesWithin 0 (record r { inward = i }) (stop_proxying (record r { inward = i }) in_length out_length)) (sym is)
         (record { few = omega (arith, same_links (filing_of (record r { inward = Some e }))); closes = λ h. h; stays = refl })
 
 pub take_standing : (r : Router) → FilesWithin 0 r (take_item r)

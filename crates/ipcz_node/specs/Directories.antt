@@ -34,8 +34,10 @@ abbrev pub passes : (Router → Bool) → FinMap nat_cmp Router → ℕ → Bool
 passes test routers serial = option_map_or test (get routers serial) false
 
 -- each router is filed under exactly its links, the end that it is the open terminal of, and its flag
-pub record AreFiled (routers : FinMap nat_cmp Router) (links : List ((LinkId × Side) × ℕ)) (terminals : List (End × ℕ)) (flagged : List ℕ) : Type 0 where
-  pub by_link : (link : LinkId) (side : Side) (serial : ℕ) → is_filed link_end_cmp links (link, side) serial ≡ passes (λ r. router_has r link side) routers serial
+pub record AreFiled (routers : FinMap nat_cmp Router) (links : List ((LinkId × Side) × ℕ)) (terminals : List (End × ℕ))
+    (flagged : List ℕ) : Type 0 where
+  pub by_link : (link : LinkId) (side : Side) (serial : ℕ) → is_filed link_end_cmp links (link, side) serial ≡
+      passes (λ r. router_has r link side) routers serial
   pub by_end : (end : End) (serial : ℕ) → is_filed end_cmp terminals end serial ≡ passes (is_terminal_of end) routers serial
   pub by_flag : (serial : ℕ) → has nat_cmp flagged serial ≡ passes (λ r. r.flagged) routers serial
 
@@ -80,8 +82,10 @@ ends_given (Discarded n item) = length (ends_in item)
 abbrev pub ends_taken : RouterAct → Applied → ℕ
 ends_taken act given = if takes_inside act then ends_given given else 0
 
--- what is filed under a serial is what the filing says, and there is room for another filing, which is of no terminal that the first isn't of
-pub record CanRefile (links : RoomySet ((LinkId × Side) × ℕ)) (terminals : RoomySet (End × ℕ)) (flagged : RoomySet ℕ) (serial : ℕ) (was is : Filing) : Type 0 where
+-- what is filed under a serial is what the filing says, and there is room for another filing, which is of no terminal that the first isn't
+-- of
+pub record CanRefile (links : RoomySet ((LinkId × Side) × ℕ)) (terminals : RoomySet (End × ℕ)) (flagged : RoomySet ℕ) (serial : ℕ)
+    (was is : Filing) : Type 0 where
   pub by_link : (link : LinkId) (side : Side) → is_filed link_end_cmp links.members (link, side) serial ≡ is_under was link side
   pub by_end : (end : End) → is_filed end_cmp terminals.members end serial ≡ (was.is_open && same_end was.end end)
   pub by_flag : has nat_cmp flagged.members serial ≡ was.flagged
@@ -91,9 +95,12 @@ pub record CanRefile (links : RoomySet ((LinkId × Side) × ℕ)) (terminals : R
   pub stays : is.end ≡ was.end
 
 -- what is filed under a serial is what the second filing says, and nothing else has changed
-pub record AreRefiled (links new_links : RoomySet ((LinkId × Side) × ℕ)) (terminals new_terminals : RoomySet (End × ℕ)) (flagged new_flagged : RoomySet ℕ) (serial : ℕ) (was is : Filing) : Type 0 where
-  pub by_link : (link : LinkId) (side : Side) (s : ℕ) → is_filed link_end_cmp new_links.members (link, side) s ≡ (if serial == s then is_under is link side else is_filed link_end_cmp links.members (link, side) s)
-  pub by_end : (end : End) (s : ℕ) → is_filed end_cmp new_terminals.members end s ≡ (if serial == s then is.is_open && same_end is.end end else is_filed end_cmp terminals.members end s)
+pub record AreRefiled (links new_links : RoomySet ((LinkId × Side) × ℕ)) (terminals new_terminals : RoomySet (End × ℕ))
+    (flagged new_flagged : RoomySet ℕ) (serial : ℕ) (was is : Filing) : Type 0 where
+  pub by_link : (link : LinkId) (side : Side) (s : ℕ) → is_filed link_end_cmp new_links.members (link, side) s ≡
+      (if serial == s then is_under is link side else is_filed link_end_cmp links.members (link, side) s)
+  pub by_end : (end : End) (s : ℕ) → is_filed end_cmp new_terminals.members end s ≡
+      (if serial == s then is.is_open && same_end is.end end else is_filed end_cmp terminals.members end s)
   pub by_flag : (s : ℕ) → has nat_cmp new_flagged.members s ≡ (if serial == s then is.flagged else has nat_cmp flagged.members s)
   pub link_room : links.room ≤ new_links.room + link_gain was is
   pub end_room : terminals.room ≤ new_terminals.room

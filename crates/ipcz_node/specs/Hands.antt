@@ -1,6 +1,7 @@
 -- What a node does with a message that comes, and which messages don't fit.
 -- (ipcz: the handlers of NodeLink. What is kept as a stray is this project's own: ipcz drops the link that such a message came over.)
-use Rattle.std.specs.Prelude.{ℕ, Bool, true, false, not, ◌&&◌, ◌||◌, nat_eq, nat_lt, nat_le, if◌then◌else◌, Option, Some, None, List, [], ◌∷◌, length}
+use Rattle.std.specs.Prelude.{ℕ, Bool, true, false, not, ◌&&◌, ◌||◌, nat_eq, nat_lt, nat_le, if◌then◌else◌, Option, Some, None, List, []}
+use Rattle.std.specs.Prelude.{◌∷◌, length}
 use Rattle.ipcz_base.specs.declared.side.Side.{Side}
 use Rattle.ipcz_base.specs.declared.side.Side.TheVariants.{B}
 use Rattle.ipcz_base.specs.declared.end.End.{End}
@@ -17,7 +18,8 @@ use Rattle.ipcz_base.specs.Links.{same_link}
 use Rattle.ipcz_router.specs.declared.sending.Sending.{Sending}
 use Rattle.ipcz_router.specs.Router.{Router, outward_has, inward_edge, from_descriptor, rouse}
 use Rattle.ipcz_router.specs.Calls.{has_place_for, accept}
-use Rattle.ipcz_router.specs.Bypass.{fits_bypass_peer, bypass_peer, accept_message, fits_accept_bypass, accept_bypass, stop_message, fits_stop_proxying, stop_proxying, will_stop_message, fits_proxy_will_stop, proxy_will_stop}
+use Rattle.ipcz_router.specs.Bypass.{fits_bypass_peer, bypass_peer, accept_message, fits_accept_bypass, accept_bypass, stop_message}
+use Rattle.ipcz_router.specs.Bypass.{fits_stop_proxying, stop_proxying, will_stop_message, fits_proxy_will_stop, proxy_will_stop}
 use Rattle.ipcz_node.specs.Node.{Node, Found, link_router, is_named, on_found, with_router, add_router, push_out, add_stray}
 
 -- the link that names the router which a message is for
@@ -73,7 +75,8 @@ passes_at (Some f) test = test f.router
 unfoldable pub fits : Node → ℕ → Message → Bool
 fits n sender (messages.Item link side number item moves) = fits_item n sender link side number item moves (link_router n link side)
 fits n sender (messages.BypassPeer link side old target fresh) =
-    passes_at (link_router n link side) (λ r. fits_bypass_peer r link side && (nat_lt target n.count && not (is_named n (Central fresh) r.end.side)))
+    passes_at (link_router n link side) (λ r. fits_bypass_peer r link side &&
+    (nat_lt target n.count && not (is_named n (Central fresh) r.end.side)))
 fits n sender (messages.AcceptBypass old side fresh length) =
     passes_at (link_router n (Central old) side) (λ r. fits_accept_bypass r old side && not (is_named n (Central fresh) side))
 fits n sender (messages.StopProxying old side in_length out_length) =
@@ -101,11 +104,14 @@ unfoldable pub handle : Node → ℕ → Message → Node
 handle n sender (messages.Item link side number item moves) =
     on_found n (link_router n link side) (take_in n sender link side number item moves)
 handle n sender (messages.BypassPeer link side old target fresh) =
-    on_found n (link_router n link side) (λ s r. tell (with_router n s (bypass_peer r target fresh)) (Some (accept_message r old target fresh)))
+    on_found n (link_router n link side) (λ s r. tell (with_router n s (bypass_peer r target fresh))
+    (Some (accept_message r old target fresh)))
 handle n sender (messages.AcceptBypass old side fresh length) =
-    on_found n (link_router n (Central old) side) (λ s r. tell (with_router n s (accept_bypass r sender side fresh length)) (stop_message r r.outward.primary old side length))
+    on_found n (link_router n (Central old) side) (λ s r. tell (with_router n s (accept_bypass r sender side fresh length))
+    (stop_message r r.outward.primary old side length))
 handle n sender (messages.StopProxying old side in_length out_length) =
-    on_found n (link_router n (Central old) side) (λ s r. tell (with_router n s (stop_proxying r in_length out_length)) (will_stop_message (inward_edge r).decaying in_length))
+    on_found n (link_router n (Central old) side) (λ s r. tell (with_router n s (stop_proxying r in_length out_length))
+    (will_stop_message (inward_edge r).decaying in_length))
 handle n sender (messages.ProxyWillStop link side in_length) =
     on_found n (link_router n link side) (λ s r. with_router n s (proxy_will_stop r in_length))
 handle n sender (messages.Flush link side) = on_found n (link_router n link side) (λ s r. with_router n s (rouse r))

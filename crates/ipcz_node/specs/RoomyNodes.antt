@@ -57,7 +57,8 @@ AreLow (d ∷ ds) = (d.next_out ≤ last_number) × AreLow ds
 abbrev pub IsReady : RoomyNode → Applied → Type 0
 IsReady k outputs.Nothing = Unit {0}
 IsReady k (outputs.Sent link n item) =
-    (0 < place_at 0 k.room.outboxes link.other) × (length (moved_ends k.node link item) ≤ k.room.links) × (length (moved_ends k.node link item) ≤ k.room.moves)
+    (0 < place_at 0 k.room.outboxes link.other) × (length (moved_ends k.node link item) ≤ k.room.links) ×
+    (length (moved_ends k.node link item) ≤ k.room.moves)
     × (k.node.next_peripheral + length (moved_ends k.node link item) ≤ no_number)
 IsReady k (outputs.Message to m) = 0 < place_at 0 k.room.outboxes to
 IsReady k (outputs.Discarded n item) = length (ends_in item) ≤ k.room.pending
@@ -72,7 +73,8 @@ IsReadyFor k (acts.Router serial act) = IfSome (router_in k.node serial) (λ r. 
 IsReadyFor k (acts.Close end) = IfSome (terminal_of k.node end) (λ f. IsSomeAnd (get k.room.out_rooms f.serial) (λ room. 0 < room))
 IsReadyFor k other = Unit {0}
 
--- an act can be done: what is to be handled is in hand, the hand is empty for a look, mail waits for the node that is posted to, the end that
+-- an act can be done: what is to be handled is in hand, the hand is empty for a look, mail waits for the node that is posted to, the end
+-- that
 -- is to be closed is the first pending one, and a router that is to act is there and may take the act
 abbrev pub IsPossibleAct : Node → Act → Type 0
 IsPossibleAct n (acts.Hand sender) = n.hand ≡ Some sender

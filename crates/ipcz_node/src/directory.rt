@@ -1,4 +1,5 @@
-ghost use Rattle.std.specs.Prelude.{ℕ, ◌≡◌, ◌==◌, ◌+◌, ◌<◌, ◌≤◌, ◌-◌, ◌^◌, ◌&&◌, ◌||◌, not, Some, None, true, false, if◌then◌else◌, is_some, OnOk, OnErr, IfOk, IfErr, IsSomeAnd, option_copied, option_map, unwrap_or};
+ghost use Rattle.std.specs.Prelude.{ℕ, ◌≡◌, ◌==◌, ◌+◌, ◌<◌, ◌≤◌, ◌-◌, ◌^◌, ◌&&◌, ◌||◌, not, Some, None, true, false, if◌then◌else◌};
+ghost use Rattle.std.specs.Prelude.{is_some, OnOk, OnErr, IfOk, IfErr, IsSomeAnd, option_copied, option_map, unwrap_or};
 ghost use Rattle.std.specs.Ordering.{nat_cmp};
 ghost use Rattle.std.specs.FinMap.{get, empty};
 ghost use Rattle.ipcz_base.specs.Limits.{last_number, no_number};
@@ -9,7 +10,8 @@ ghost use Rattle.ipcz_base.specs.declared.end.End.{End as EndRecord};
 ghost use Rattle.ipcz_base.specs.declared.item.Item.{Item};
 ghost use Rattle.ipcz_seq.specs.Queue.{current_item};
 ghost use Rattle.ipcz_router.specs.Router.{Router as RouterRecord, IsOpenTerminal, outward_has, router_has, proxy_link, from_descriptor};
-ghost use Rattle.ipcz_router.specs.Calls.{next_number, put_item, router_put_refusal, router_get_refusal, take_item, has_place_for, accept, accept_refusal, extend, descriptor_of};
+ghost use Rattle.ipcz_router.specs.Calls.{next_number, put_item, router_put_refusal, router_get_refusal, take_item, has_place_for, accept};
+ghost use Rattle.ipcz_router.specs.Calls.{accept_refusal, extend, descriptor_of};
 ghost use Rattle.ipcz_router.specs.ActTable.{may_take};
 ghost use Rattle.ipcz_router.specs.ActEffects.{IsAnswerOf, IsBelowNoNumber, apply, output_of};
 ghost use Rattle.ipcz_router.specs.Bypass.{fits_bypass_peer, bypass_peer, accept_message};
@@ -83,7 +85,8 @@ impl Model for Directory {
       out_rooms = a.routers.out_rooms;
     } };
 
-    ghost invariant = { λ a. (AreFiled a.routers.routers a.links.members a.terminals.members a.flagged.members × HaveRoom a.routers.routers a.room a.more a.routers.room a.links.room a.terminals.room a.flagged.room)
+    ghost invariant = { λ a. (AreFiled a.routers.routers a.links.members a.terminals.members a.flagged.members ×
+        HaveRoom a.routers.routers a.room a.more a.routers.room a.links.room a.terminals.room a.flagged.room)
         × CanHold a.routers.routers a.ends a.room a.held.room };
 }
 
@@ -212,7 +215,8 @@ impl Directory {
     pub fn extend(&mut self, serial: u64, link: LinkId, to: u8) -> Descriptor
         requires open { IsSomeAnd (get self.old.filed.routers serial) IsOpenTerminal }
         requires room { 0 < self.old.filed.links }
-        ensures router { (r : RouterRecord) → get self.old.filed.routers serial ≡ Some r → self.new.filed ≡ link_filed self.old.filed serial (extend r (proxy_link link to)) }
+        ensures router { (r : RouterRecord) → get self.old.filed.routers serial ≡ Some r →
+            self.new.filed ≡ link_filed self.old.filed serial (extend r (proxy_link link to)) }
         ensures descriptor { (r : RouterRecord) → get self.old.filed.routers serial ≡ Some r → result ≡ descriptor_of r link }
         ensures next_out { result.next_out ≤ last_number }
         ensures links { self.old.filed.links ≡ self.new.filed.links + 1 }
@@ -249,9 +253,12 @@ impl Directory {
     ) -> Result<(), (Refusal, Item)>
         requires stands { IsSomeAnd (get self.old.filed.routers serial) (λ r. router_has r link side ≡ true) }
         requires number { n < no_number }
-        ensures place { (r : RouterRecord) → get self.old.filed.routers serial ≡ Some r → OnOk result (has_place_for r (outward_has r link side) n ≡ true) }
-        ensures ok { (r : RouterRecord) → get self.old.filed.routers serial ≡ Some r → OnOk result (self.new.filed ≡ put_filed self.old.filed serial (accept r (outward_has r link side) n item)) }
-        ensures why { (r : RouterRecord) → get self.old.filed.routers serial ≡ Some r → IfErr result (λ e. e.0 ≡ accept_refusal r link side n) }
+        ensures place { (r : RouterRecord) → get self.old.filed.routers serial ≡ Some r →
+            OnOk result (has_place_for r (outward_has r link side) n ≡ true) }
+        ensures ok { (r : RouterRecord) → get self.old.filed.routers serial ≡ Some r →
+            OnOk result (self.new.filed ≡ put_filed self.old.filed serial (accept r (outward_has r link side) n item)) }
+        ensures why { (r : RouterRecord) → get self.old.filed.routers serial ≡ Some r →
+            IfErr result (λ e. e.0 ≡ accept_refusal r link side n) }
         ensures err { IfErr result (λ e. (e.1 ≡ item) × (self.new.filed ≡ self.old.filed)) }
     {
         let ends = self.ends_to_come(serial, link, side, n, &item);
@@ -278,7 +285,8 @@ impl Directory {
     // How many ends come into the in queue of the router of the serial with an item.
     fn ends_to_come(&self, serial: u64, link: LinkId, side: Side, n: u64, item: &Item) -> usize
         requires { is_some (get self.now.filed.routers serial) ≡ true }
-        ensures { (r : RouterRecord) → get self.now.filed.routers serial ≡ Some r → result ≡ ends_brought r (outward_has r link side) n item.now }
+        ensures { (r : RouterRecord) → get self.now.filed.routers serial ≡ Some r →
+            result ≡ ends_brought r (outward_has r link side) n item.now }
     {
         let Some(router) = self.routers.router(serial) else {
             unreachable!()
@@ -294,7 +302,8 @@ impl Directory {
     pub fn act(&mut self, serial: u64, act: RouterAct, answer: Answer) -> Applied
         requires possible { IsSomeAnd (get self.old.filed.routers serial) (λ r. may_take r act ≡ true) }
         requires answer { IsAnswerOf act answer }
-        ensures router { (r : RouterRecord) → get self.old.filed.routers serial ≡ Some r → self.new.filed ≡ put_filed self.old.filed serial (apply r act answer) }
+        ensures router { (r : RouterRecord) → get self.old.filed.routers serial ≡ Some r →
+            self.new.filed ≡ put_filed self.old.filed serial (apply r act answer) }
         ensures output { (r : RouterRecord) → get self.old.filed.routers serial ≡ Some r → result ≡ output_of r act }
         ensures number { IsBelowNoNumber result }
         ensures room { (self.new.filed.room ≡ self.old.filed.room) × (self.new.filed.links ≡ self.old.filed.links) }

@@ -1,4 +1,5 @@
-ghost use Rattle.std.specs.Prelude.{◌≡◌, ◌+◌, ◌-◌, ◌<◌, ◌≤◌, ◌||◌, ◌&&◌, not, true, false, [], if◌then◌else◌, OnOk, IfOk, IfErr, IfSome, IfNone};
+ghost use Rattle.std.specs.Prelude.{◌≡◌, ◌+◌, ◌-◌, ◌<◌, ◌≤◌, ◌||◌, ◌&&◌, not, true, false, [], if◌then◌else◌, OnOk, IfOk, IfErr, IfSome};
+ghost use Rattle.std.specs.Prelude.{IfNone};
 ghost use Rattle.std.specs.Ordering.{is_eq, is_lt};
 ghost use Rattle.std.specs.List.Sorted.{IsStrictlySortedBy};
 ghost use Rattle.ipcz_node.specs.SortedSets.{has, IsPlaceOf, IsGapFor};
@@ -80,7 +81,8 @@ impl<T: Ord + Drop> SortedSet<T> {
     /// The least member that is no less than the value.
     pub fn first_from(&self, value: &T) -> Option<&T>
         ensures member { IfSome result (λ x. (has T.cmp self.now.members x.now ≡ true) × (is_lt (T.cmp x.now value.now) ≡ false)) }
-        ensures least { IfSome result (λ x. (y : T) → has T.cmp self.now.members y ≡ true → is_lt (T.cmp y value.now) ≡ false → is_lt (T.cmp y x.now) ≡ false) }
+        ensures least { IfSome result (λ x. (y : T) → has T.cmp self.now.members y ≡ true → is_lt (T.cmp y value.now) ≡ false →
+            is_lt (T.cmp y x.now) ≡ false) }
         ensures none { IfNone result ((y : T) → has T.cmp self.now.members y ≡ true → is_lt (T.cmp y value.now) ≡ true) }
     {
         let (Ok(at) | Err(at)) = self.place_of(value);

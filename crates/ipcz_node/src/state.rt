@@ -1,4 +1,5 @@
-ghost use Rattle.std.specs.Prelude.{ℕ, ◌≡◌, ◌<◌, ◌≤◌, ◌+◌, ◌-◌, ◌++◌, [], ◌∷◌, Some, None, is_some, true, false, length, vec_len, vec_capacity, nat_eq, OnOk, OnErr, IfOk, IfErr, IfSome, IfNone, IsSomeAnd};
+ghost use Rattle.std.specs.Prelude.{ℕ, ◌≡◌, ◌<◌, ◌≤◌, ◌+◌, ◌-◌, ◌++◌, [], ◌∷◌, Some, None, is_some, true, false, length, vec_len};
+ghost use Rattle.std.specs.Prelude.{vec_capacity, nat_eq, OnOk, OnErr, IfOk, IfErr, IfSome, IfNone, IsSomeAnd};
 ghost use Rattle.std.specs.FinMap.{get};
 ghost use Rattle.ipcz_base.specs.Limits.{no_number, last_number, has_serials};
 ghost use Rattle.ipcz_base.specs.Indexed.{place_at};
@@ -14,7 +15,8 @@ ghost use Rattle.ipcz_node.specs.Node.{on_router};
 ghost use Rattle.ipcz_node.specs.Sends.{send};
 ghost use Rattle.ipcz_router.specs.ActTable.{may_take};
 ghost use Rattle.ipcz_router.specs.ActEffects.{IsAnswerOf, apply, output_of};
-ghost use Rattle.ipcz_node.specs.Hands.{has_moved, fit_moves, fits_from, fits_item, make_terminals, take_in, free_hand, fits, handle, deliver, message_lacks_serials};
+ghost use Rattle.ipcz_node.specs.Hands.{has_moved, fit_moves, fits_from, fits_item, make_terminals, take_in, free_hand, fits, handle};
+ghost use Rattle.ipcz_node.specs.Hands.{deliver, message_lacks_serials};
 ghost use Rattle.std.specs.Prelude.{if◌then◌else◌};
 ghost use Rattle.ipcz_base.specs.declared.side.Side.TheVariants.{B};
 
@@ -117,7 +119,8 @@ impl NodeState {
     fn terminal_serial(&self, at: End) -> Option<u64>
         ensures none { IfNone result (terminal_of self.now.node at ≡ None) }
         ensures open { IfSome result (λ serial. IsSomeAnd (router_in self.now.node serial) IsOpenTerminal) }
-        ensures found { IfSome result (λ serial. IsSomeAnd (router_in self.now.node serial) (λ r. terminal_of self.now.node at ≡ Some (found serial r))) }
+        ensures found { IfSome result (λ serial. IsSomeAnd (router_in self.now.node serial)
+            (λ r. terminal_of self.now.node at ≡ Some (found serial r))) }
     {
         self.routers.terminal_of(at)
     }
@@ -126,7 +129,8 @@ impl NodeState {
     fn link_serial(&self, link: LinkId, side: Side) -> Option<u64>
         ensures none { IfNone result (link_router self.now.node link side ≡ None) }
         ensures stands { IfSome result (λ serial. IsSomeAnd (router_in self.now.node serial) (λ r. router_has r link side ≡ true)) }
-        ensures found { IfSome result (λ serial. IsSomeAnd (router_in self.now.node serial) (λ r. link_router self.now.node link side ≡ Some (found serial r))) }
+        ensures found { IfSome result (λ serial. IsSomeAnd (router_in self.now.node serial)
+            (λ r. link_router self.now.node link side ≡ Some (found serial r))) }
     {
         self.routers.first_on(link, side)
     }

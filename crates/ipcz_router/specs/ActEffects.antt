@@ -10,7 +10,8 @@ use Rattle.ipcz_base.specs.Sides.{opposite}
 use Rattle.ipcz_edge.specs.Edge.{begin_decay, finish}
 use Rattle.ipcz_seq.specs.Queue.{current_item}
 use Rattle.ipcz_router.specs.declared.act.RouterAct.{RouterAct}
-use Rattle.ipcz_router.specs.declared.act.RouterAct.TheVariants.{SendOut, SendIn, Discard, FinishOut, FinishIn, Leave, Mark, Wake, Claim, Lock, Begin, Unlock, Rest}
+use Rattle.ipcz_router.specs.declared.act.RouterAct.TheVariants.{SendOut, SendIn, Discard, FinishOut, FinishIn, Leave, Mark, Wake, Claim}
+use Rattle.ipcz_router.specs.declared.act.RouterAct.TheVariants.{Lock, Begin, Unlock, Rest}
 use Rattle.ipcz_router.specs.declared.act.Answer.{Answer}
 use Rattle.ipcz_router.specs.declared.act.Answer.TheVariants.{Plain, Claimed, NoWord, Marked, Word, Locked, Waiting, Refused}
 use Rattle.ipcz_router.specs.declared.act.Applied.{Applied}

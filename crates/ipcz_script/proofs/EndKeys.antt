@@ -1,36 +1,25 @@
 -- Trees whose keys are ends, as finite maps.
-use Rattle.std.proofs.Common.{◌≡◌, ◌∙◌, ◌&&◌, ap, ap₂, sym, refl, Bool, true, false, cond, ℕ, List, [], ◌∷◌, Some, nat_eq, arith}
+use Rattle.std.proofs.Common.{◌≡◌, ◌∙◌, ap, ap₂, sym, refl, true, cond, ℕ, List, [], ◌∷◌, Some, nat_eq, arith}
 use Rattle.std.specs.Map.{lookup}
 use Rattle.std.specs.Ordering.{is_eq, eq_by_cmp}
 use Rattle.std.specs.Cmp.{eq_by_cmp_equiv}
 use Rattle.std.specs.FinMap as finite
 use Rattle.std.specs.BTreeMap as tree
 use Rattle.std.proofs.lemmas.Bool.Decides.{nat_tests}
-use Rattle.ipcz_base.specs.declared.side.Side.{Side}
-use Rattle.ipcz_base.specs.declared.side.Side.TheVariants.{A, B}
 use Rattle.ipcz_base.specs.declared.end.End.{End}
 use Rattle.ipcz_base.specs.Sides.{same_side}
 use Rattle.ipcz_base.specs.Ends.{same_end, end_at}
 use Rattle.ipcz_base.specs.Orders.{end_cmp}
 use Rattle.ipcz_base.proofs.Orders.{end_ties, end_total}
 use Rattle.ipcz_script.specs.Bindings.{titles_of}
-
-same_side-tells : (s t : Side) → same_side s t ≡ true → s ≡ t
-same_side-tells A A e = refl
-same_side-tells A B e = cc
-same_side-tells B A e = cc
-same_side-tells B B e = refl
-
-both : (a b : Bool) → (a && b) ≡ true → (a ≡ true) × (b ≡ true)
-both true true e = (refl, refl)
-both true false e = cc
-both false b e = cc
+use Rattle.std.proofs.lemmas.Bool.{and_parts}
+use Rattle.ipcz_world.proofs.facts.Lengths.{same_side-tells}
 
 -- ends that tie are the same
 end_same : finite.IsAntisymmetric end_cmp
 end_same d e ties =
     let same : same_end d e ≡ true = sym (end_ties d e) ∙ ap is_eq ties in
-    let parts = both (nat_eq d.pair e.pair) (same_side d.side e.side) same in
+    let parts = and_parts (nat_eq d.pair e.pair) (same_side d.side e.side) same in
     let pairs : d.pair ≡ e.pair = grind (arith, nat_tests, parts.0) in
     ap₂ end_at pairs (same_side-tells d.side e.side parts.1)
 

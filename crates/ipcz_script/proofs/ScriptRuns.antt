@@ -1,7 +1,7 @@
 -- The worlds that a script comes to are worlds that lists of steps lead to, with books of which its answers tell.
-use Rattle.std.proofs.Common.{◌≡◌, ◌∙◌, ◌++◌, ◌+◌, ◌<◌, ap, sym, refl, subst, inl, inr, arith, append_assoc, append-nil, length, take, ℕ}
-use Rattle.std.proofs.Common.{zero, suc, Bool, true, false, List, [], ◌∷◌, Option, Some, None}
-use Rattle.std.specs.Prelude.{MatchBool, if◌then◌else◌}
+use Rattle.std.proofs.Common.{◌≡◌, ◌∙◌, ◌++◌, ◌+◌, ap, sym, refl, subst, inl, inr, arith, append_assoc, append-nil, length, take, ℕ, zero}
+use Rattle.std.proofs.Common.{suc, Bool, true, false, List, [], ◌∷◌, Option, Some, None}
+use Rattle.std.specs.Prelude.{MatchBool}
 use Rattle.std.specs.FinMap.{get}
 use Rattle.std.proofs.lemmas.Option.{same_Some}
 use Rattle.ipcz_base.specs.declared.end.End.{End}
@@ -20,13 +20,11 @@ use Rattle.ipcz_world.specs.Settling.{AreVisits, next_node}
 use Rattle.ipcz_world.specs.Holding.{holder_of}
 use Rattle.ipcz_world.specs.Lawful.{Headline, IsReached, IsWithinLimits, Lawful, RunAny}
 use Rattle.ipcz_world.proofs.Whole.{world_starts_lawful, each_step_keeps_lawful, first_acts_are_possible, the_headline_holds}
-use Rattle.ipcz_world.proofs.Whole.{each_quiet_delivers}
-use Rattle.ipcz_world.proofs.Whole.{ends_stand_once, held_have_terminals, held_are_open, lawful_worlds_stray_nothing, one_node_is_direct}
-use Rattle.ipcz_world.proofs.Whole.{replies_plainly, terminals_keep_books}
+use Rattle.ipcz_world.proofs.Whole.{each_quiet_delivers, ends_stand_once, held_have_terminals, held_are_open, lawful_worlds_stray_nothing}
+use Rattle.ipcz_world.proofs.Whole.{one_node_is_direct, replies_plainly, terminals_keep_books}
 use Rattle.ipcz_world.proofs.runs.Running.{reached_lawful}
 use Rattle.ipcz_node.specs.FirstPairs.{first_pairs}
 use Rattle.ipcz_node.specs.Node.{holds_end}
-use Rattle.ipcz_node.specs.Acts.{first_number}
 use Rattle.ipcz_script.specs.declared.command.Command.{Command}
 use Rattle.ipcz_script.specs.declared.command.Command.TheVariants as commands
 use Rattle.ipcz_script.specs.declared.said.Said.{Said}
@@ -39,6 +37,7 @@ use Rattle.ipcz_script.specs.ScriptBooks.{IsCount, got_said, gots_in, parcels_in
 use Rattle.ipcz_script.specs.ScriptLaws.{AfterScripts, GetsFollowPuts, NumbersCountUp, ScriptsAnswerPlainly, ScriptsAreRuns, ScriptsArrive}
 use Rattle.ipcz_script.specs.ScriptLaws.{ScriptsDeliver}
 use Rattle.ipcz_script.proofs.ScriptSaid.{Adds, none, close-said, got-said, open-said, parcels-follow, put-said, turn-more, unmarked-length}
+use Rattle.ipcz_node.proofs.Turns.{first_number-tells}
 
 -- a world that some list of steps leads to, with books whose parcels are these
 pub record Kept (nodes words : ℕ) (w : World) (puts gots : End → List parcels.Parcel) : Type 0 where
@@ -354,15 +353,6 @@ gets_follow_puts nodes words cs log t limits is e =
 
 -- ---- numbers
 
-first-tells : (test : ℕ → Bool) (from left i : ℕ) → first_number test from left ≡ Some i → (i < from + left) × (test i ≡ true)
-first-tells test from zero i e = cc
-first-tells test from (suc left) i e = go (test from) refl e (first-tells test (from + 1) left i)
-  where
-    go : (c : Bool) → test from ≡ c → (if c then Some from else first_number test (from + 1) left) ≡ Some i →
-        (first_number test (from + 1) left ≡ Some i → (i < (from + 1) + left) × (test i ≡ true)) → (i < from + suc left) × (test i ≡ true)
-    go true q h more = let same : from ≡ i = same_Some from i h in (omega (arith, same), subst (λ x. test x ≡ true) same q)
-    go false q h more = let t = more h in (omega (arith, t.0), t.1)
-
 module _ (nodes words : ℕ) (s : Session) (earlier : List Answered) (at : Kept nodes words s.world (puts_in earlier) (gots_in earlier)) where
   law : Lawful s.world at.books at.routes
   law = lawful nodes words s.world at.books at.routes at.reached
@@ -370,7 +360,7 @@ module _ (nodes words : ℕ) (s : Session) (earlier : List Answered) (at : Kept 
   -- an end that is held was never closed
   unclosed : (e : End) (n : ℕ) → holder_of s.world e ≡ Some n → is_closed at.books e ≡ false
   unclosed e n there =
-      let t = first-tells (λ i. holds_end (node_at s.world i) e) 0 s.world.count n there in
+      let t = first_number-tells (λ i. holds_end (node_at s.world i) e) 0 s.world.count n there in
       held_are_open s.world at.books at.routes n e law (omega (arith, t.0)) t.1
 
   -- so its items are the parcels that were said

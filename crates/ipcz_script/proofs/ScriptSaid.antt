@@ -18,7 +18,7 @@ use Rattle.ipcz_world.specs.declared.step.Reply.TheVariants as replies
 use Rattle.ipcz_world.specs.World.{World}
 use Rattle.ipcz_world.specs.Turns.{router_of}
 use Rattle.ipcz_world.specs.Books.{Books, add_put, add_got, advance, after_discard, after_turn, has_mark}
-use Rattle.ipcz_world.proofs.weights.Booking.{same_end-is}
+use Rattle.ipcz_world.proofs.facts.LinkTests.{same_end-tells}
 use Rattle.ipcz_script.specs.declared.command.Command.TheVariants as commands
 use Rattle.ipcz_script.specs.Bindings.{Bindings}
 use Rattle.ipcz_script.specs.Sessions.{ends_from, answer_to}
@@ -75,14 +75,14 @@ put-more b at p = record { put = λ e. go e (same_end e at) refl; got = λ e. sy
   where
     go : (e : End) (c : Bool) → same_end e at ≡ c →
         parcels_in (cond c (b.put at ++ Parcel p ∷ []) (b.put e)) ≡ parcels_in (b.put e) ++ cond c (p ∷ []) []
-    go e true h = parcels-more (b.put at) p ∙ ap (λ d. parcels_in (b.put d) ++ p ∷ []) (sym (same_end-is e at h))
+    go e true h = parcels-more (b.put at) p ∙ ap (λ d. parcels_in (b.put d) ++ p ∷ []) (sym (same_end-tells e at h))
     go e false h = sym (append-nil (parcels_in (b.put e)))
 
 got-more : (b : Books) (at : End) (p : parcels.Parcel) → Adds b (add_got b at p) none (at_end at p)
 got-more b at p = record { put = λ e. sym (append-nil (parcels_in (b.put e))); got = λ e. go e (same_end e at) refl }
   where
     go : (e : End) (c : Bool) → same_end e at ≡ c → cond c (b.got at ++ p ∷ []) (b.got e) ≡ b.got e ++ cond c (p ∷ []) []
-    go e true h = ap (λ d. b.got d ++ p ∷ []) (sym (same_end-is e at h))
+    go e true h = ap (λ d. b.got d ++ p ∷ []) (sym (same_end-tells e at h))
     go e false h = sym (append-nil (b.got e))
 
 mark-more : (b : Books) (at : End) → Adds b (add_put b at Mark) none none
@@ -92,7 +92,7 @@ mark-more b at = record {
 }
   where
     go : (e : End) (c : Bool) → same_end e at ≡ c → parcels_in (cond c (b.put at ++ Mark ∷ []) (b.put e)) ≡ parcels_in (b.put e)
-    go e true h = parcels-mark (b.put at) ∙ ap (λ d. parcels_in (b.put d)) (sym (same_end-is e at h))
+    go e true h = parcels-mark (b.put at) ∙ ap (λ d. parcels_in (b.put d)) (sym (same_end-tells e at h))
     go e false h = refl
 
 discard-more : (b : Books) (o : Option Router) → Adds b (after_discard b o) none none

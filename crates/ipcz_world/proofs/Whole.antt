@@ -1,26 +1,19 @@
 -- The laws of worlds and their runs.
-use Rattle.ipcz_world.specs.Steps.{claim_for_open}
+use Rattle.ipcz_world.specs.Steps.{claim_for_open, AnyAct}
 use Rattle.ipcz_world.specs.Remembering.{opening_records}
-use Rattle.std.proofs.Common.{◌∙◌}
+use Rattle.std.proofs.Common.{◌∙◌, arith, ap, subst, sym}
 use Rattle.ipcz_world.specs.declared.step.Step.TheVariants as steps
-use Rattle.ipcz_world.specs.Steps.{AnyAct}
-use Rattle.std.specs.Prelude.{◌≡◌, Bool, true, false, ◌&&◌, nat_eq, refl}
-use Rattle.std.proofs.Common.{arith, ap, subst, sym}
+use Rattle.std.specs.Prelude.{◌≡◌, true, false, nat_eq, is_some, ℕ, ◌<◌}
 use Rattle.std.proofs.lemmas.Bool.Decides.{nat_tests}
-use Rattle.ipcz_world.specs.World.{new_world}
-use Rattle.ipcz_world.specs.Books.{no_books}
-use Rattle.ipcz_world.specs.Routes.{first_routes}
+use Rattle.ipcz_world.specs.World.{new_world, World, node_at}
+use Rattle.ipcz_world.specs.Books.{no_books, Books, is_closed}
+use Rattle.ipcz_world.specs.Routes.{first_routes, Routes}
 use Rattle.ipcz_world.specs.WorldLaws.{LawfulGivesHeadline, LawfulStraysNothing, LawfulOwes, TerminalsKeepBooks, EndsStandOnce}
-use Rattle.ipcz_world.specs.WorldLaws.{ListsHaveLengths, NodesAreSound, QuietDelivers, OneNodeIsDirect}
-use Rattle.ipcz_world.specs.WorldLaws.{StartsLawful, StepKeepsLawful, FirstIsPossible, ClaimKeepsLawful, RepliesPlainly, BeginsLocked}
-use Rattle.ipcz_world.specs.WorldLaws.{LinksStay, HeadlineHolds, ItemsStandOnce, NothingStrays, GetsStayQuiet, HeldHaveTerminals}
-use Rattle.std.specs.Prelude.{is_some}
-use Rattle.std.specs.Prelude.{ℕ, ◌<◌}
+use Rattle.ipcz_world.specs.WorldLaws.{ListsHaveLengths, NodesAreSound, QuietDelivers, OneNodeIsDirect, StartsLawful, StepKeepsLawful}
+use Rattle.ipcz_world.specs.WorldLaws.{FirstIsPossible, ClaimKeepsLawful, RepliesPlainly, BeginsLocked, LinksStay, HeadlineHolds}
+use Rattle.ipcz_world.specs.WorldLaws.{ItemsStandOnce, NothingStrays, GetsStayQuiet, HeldHaveTerminals, HandsFit}
 use Rattle.ipcz_base.specs.declared.end.End.{End}
 use Rattle.ipcz_node.specs.Node.{holds_end}
-use Rattle.ipcz_world.specs.World.{World, node_at}
-use Rattle.ipcz_world.specs.Books.{Books, is_closed}
-use Rattle.ipcz_world.specs.Routes.{Routes}
 use Rattle.ipcz_world.specs.Lawful.{Lawful}
 use Rattle.ipcz_world.proofs.calls.Puts.{terminal_there}
 use Rattle.ipcz_world.proofs.frames.Calling.{held_unclosed}
@@ -32,9 +25,8 @@ use Rattle.ipcz_world.proofs.runs.TurnReplies.{reply-turn, begins_locked}
 use Rattle.ipcz_world.proofs.runs.Starting.{starts}
 use Rattle.ipcz_world.proofs.calls.CallTurns.{claim-kept}
 use Rattle.ipcz_world.proofs.runs.Running.{StartsKept, starts_lawful, lawful_by, step_keeps_lawful, links_stay_by, headline_by}
-use Rattle.ipcz_world.proofs.runs.Running.{headline_holds, nothing_strays}
+use Rattle.ipcz_world.proofs.runs.Running.{headline_holds, nothing_strays, reached_lawful, run_keeps}
 use Rattle.ipcz_world.proofs.runs.Keeping.{steps_keep}
-use Rattle.ipcz_world.proofs.runs.Running.{reached_lawful, run_keeps}
 use Rattle.ipcz_world.proofs.lawful.OneNode.{IsAlone, HasNone, alone-kept, alone-new, direct}
 use Rattle.ipcz_world.proofs.lawful.Quiet.{quiet_delivers}
 use Rattle.ipcz_world.proofs.runs.BoundedSteps.{bounded-claim_for_open}
@@ -44,12 +36,12 @@ use Rattle.ipcz_world.proofs.lawful.OwedLaws as owed
 use Rattle.ipcz_world.proofs.lawful.LengthLaws.{length_law}
 use Rattle.ipcz_world.proofs.lawful.StrayLaws.{stray_law}
 use Rattle.ipcz_world.specs.Laws.{EndLaw}
-use Rattle.ipcz_world.specs.WorldLaws.{HandsFit}
 use Rattle.ipcz_world.proofs.lawful.FittingHands.{hands_fit}
 use Rattle.ipcz_world.proofs.lawful.EndLaws.{end_law}
 use Rattle.ipcz_world.proofs.lawful.Soundness.{node_is_sound}
 use Rattle.ipcz_world.proofs.runs.Choosing.{first_is_possible}
 use Rattle.ipcz_world.proofs.lawful.EachOnce.{items_stand_once}
+use Rattle.std.proofs.lemmas.Bool.{and_parts}
 
 starts_kept : StartsKept
 starts_kept nodes words limits = let t = starts nodes words limits in record { records = t.0; inv = t.2; routes = t.1 }
@@ -105,10 +97,6 @@ each_begins_locked = begins_locked
 pub each_quiet_delivers : QuietDelivers
 each_quiet_delivers = quiet_delivers
 
-both : (a c : Bool) → (a && c) ≡ true → (a ≡ true) × (c ≡ true)
-both true c e = (refl, e)
-both false c e = cc
-
 -- a get leaves a quiet world quiet
 pub each_get_stays_quiet : GetsStayQuiet
 each_get_stays_quiet = gets_stay_quiet
@@ -119,7 +107,7 @@ one_node_is_direct words w b g pair is tells =
     let law = reached_lawful world_starts_lawful each_step_keeps_lawful 1 words w b g is in
     let alone = run_keeps IsAlone HasNone alone-kept each_step_keeps_lawful (new_world 1 words) no_books (first_routes 1) is.steps
     is.replies w b g (world_starts_lawful 1 words is.limits) (alone-new words) is.run in
-    let t = both (g.is_link pair) (nat_eq (g.pair pair) pair) tells in
+    let t = and_parts (g.is_link pair) (nat_eq (g.pair pair) pair) tells in
     let own : g.pair pair ≡ pair = grind (arith, nat_tests, t.1) in
     direct w b law.records law.inv alone pair (ap (λ z. z.is_link pair) law.routes ∙ t.0) (ap (λ z. z.pair pair) law.routes ∙ own)
 

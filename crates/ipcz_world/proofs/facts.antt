@@ -6,4 +6,5 @@ pub mod LinkTests
 pub mod NodeCount
 pub mod Queues
 pub mod Reaching
+pub mod SameItems
 pub mod Tests

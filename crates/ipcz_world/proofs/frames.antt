@@ -15,6 +15,7 @@ pub mod Frames
 pub mod FreshPairs
 pub mod GivenUp
 pub mod GivingUp
+pub mod OneChange
 pub mod OneRouter
 pub mod Opened
 pub mod Owners

@@ -1,4 +1,5 @@
-ghost use Rattle.std.specs.Prelude.{ℕ, ◌≡◌, ◌==◌, ◌+◌, ◌<◌, ◌≤◌, ◌-◌, ◌^◌, ◌&&◌, ◌||◌, not, Some, None, true, false, if◌then◌else◌, is_some, OnOk, OnErr, IfOk, IfErr, IsSomeAnd, option_copied, option_map, unwrap_or};
+ghost use Rattle.std.specs.Prelude.{ℕ, ◌≡◌, ◌==◌, ◌+◌, ◌<◌, ◌≤◌, ◌-◌, ◌^◌, ◌&&◌, ◌||◌, not, Some, None, true, false, if◌then◌else◌};
+ghost use Rattle.std.specs.Prelude.{is_some, OnOk, OnErr, IfOk, IfErr, IsSomeAnd, option_copied, option_map, unwrap_or};
 ghost use Rattle.std.specs.Ordering.{nat_cmp};
 ghost use Rattle.std.specs.FinMap.{get, empty};
 ghost use Rattle.ipcz_base.specs.Limits.{last_number, no_number};
@@ -9,10 +10,12 @@ ghost use Rattle.ipcz_base.specs.declared.end.End.{End as EndRecord};
 ghost use Rattle.ipcz_base.specs.declared.item.Item.{Item};
 ghost use Rattle.ipcz_seq.specs.Queue.{current_item};
 ghost use Rattle.ipcz_router.specs.Router.{Router as RouterRecord, IsOpenTerminal, outward_has, router_has, proxy_link, from_descriptor};
-ghost use Rattle.ipcz_router.specs.Calls.{next_number, put_item, router_put_refusal, router_get_refusal, take_item, has_place_for, accept, accept_refusal, extend, descriptor_of};
+ghost use Rattle.ipcz_router.specs.Calls.{next_number, put_item, router_put_refusal, router_get_refusal, take_item, has_place_for, accept};
+ghost use Rattle.ipcz_router.specs.Calls.{accept_refusal, extend, descriptor_of};
 ghost use Rattle.ipcz_router.specs.ActTable.{may_take};
 ghost use Rattle.ipcz_router.specs.ActEffects.{IsAnswerOf, IsBelowNoNumber, apply, output_of};
-ghost use Rattle.ipcz_router.specs.Bypass.{fits_bypass_peer, bypass_peer, accept_message, fits_accept_bypass, accept_bypass, stop_message, fits_stop_proxying, stop_proxying, will_stop_message, fits_proxy_will_stop, proxy_will_stop};
+ghost use Rattle.ipcz_router.specs.Bypass.{fits_bypass_peer, bypass_peer, accept_message, fits_accept_bypass, accept_bypass, stop_message};
+ghost use Rattle.ipcz_router.specs.Bypass.{fits_stop_proxying, stop_proxying, will_stop_message, fits_proxy_will_stop, proxy_will_stop};
 ghost use Rattle.ipcz_router.specs.Router.{inward_edge, rouse};
 ghost use Rattle.ipcz_router.specs.Filings.{is_under, gained_by, link_gain};
 ghost use Rattle.ipcz_node.specs.Node.{is_terminal_of};
@@ -43,8 +46,10 @@ impl Directory {
     ) -> Option<Sending>
         requires fits { IsSomeAnd (get self.old.filed.routers serial) (λ r. fits_bypass_peer r link side ≡ true) }
         requires room { 0 < self.old.filed.links }
-        ensures router { (r : RouterRecord) → get self.old.filed.routers serial ≡ Some r → self.new.filed ≡ link_filed self.old.filed serial (bypass_peer r target fresh) }
-        ensures sending { (r : RouterRecord) → get self.old.filed.routers serial ≡ Some r → result ≡ Some (accept_message r old target fresh) }
+        ensures router { (r : RouterRecord) → get self.old.filed.routers serial ≡ Some r →
+            self.new.filed ≡ link_filed self.old.filed serial (bypass_peer r target fresh) }
+        ensures sending { (r : RouterRecord) → get self.old.filed.routers serial ≡ Some r →
+            result ≡ Some (accept_message r old target fresh) }
     {
         let router = self.routers.router_mut(serial);
         let was = router.filing();
@@ -74,8 +79,10 @@ impl Directory {
     ) -> Option<Sending>
         requires fits { IsSomeAnd (get self.old.filed.routers serial) (λ r. fits_accept_bypass r old side ≡ true) }
         requires room { 0 < self.old.filed.links }
-        ensures router { (r : RouterRecord) → get self.old.filed.routers serial ≡ Some r → self.new.filed ≡ link_filed self.old.filed serial (accept_bypass r sender side fresh length) }
-        ensures sending { (r : RouterRecord) → get self.old.filed.routers serial ≡ Some r → result ≡ stop_message r r.outward.primary old side length }
+        ensures router { (r : RouterRecord) → get self.old.filed.routers serial ≡ Some r →
+            self.new.filed ≡ link_filed self.old.filed serial (accept_bypass r sender side fresh length) }
+        ensures sending { (r : RouterRecord) → get self.old.filed.routers serial ≡ Some r →
+            result ≡ stop_message r r.outward.primary old side length }
     {
         let router = self.routers.router_mut(serial);
         let was = router.filing();
@@ -103,8 +110,10 @@ impl Directory {
         out_length: u64,
     ) -> Option<Sending>
         requires fits { IsSomeAnd (get self.old.filed.routers serial) (λ r. fits_stop_proxying r old side ≡ true) }
-        ensures router { (r : RouterRecord) → get self.old.filed.routers serial ≡ Some r → self.new.filed ≡ put_filed self.old.filed serial (stop_proxying r in_length out_length) }
-        ensures sending { (r : RouterRecord) → get self.old.filed.routers serial ≡ Some r → result ≡ will_stop_message (inward_edge r).decaying in_length }
+        ensures router { (r : RouterRecord) → get self.old.filed.routers serial ≡ Some r →
+            self.new.filed ≡ put_filed self.old.filed serial (stop_proxying r in_length out_length) }
+        ensures sending { (r : RouterRecord) → get self.old.filed.routers serial ≡ Some r →
+            result ≡ will_stop_message (inward_edge r).decaying in_length }
     {
         let router = self.routers.router_mut(serial);
         let was = router.filing();
@@ -124,7 +133,8 @@ impl Directory {
     /// Brings ProxyWillStop to the router of the serial, which it fits, as `Router::proxy_will_stop`.
     pub fn proxy_will_stop(&mut self, serial: u64, link: LinkId, side: Side, in_length: u64)
         requires fits { IsSomeAnd (get self.old.filed.routers serial) (λ r. fits_proxy_will_stop r link side ≡ true) }
-        ensures router { (r : RouterRecord) → get self.old.filed.routers serial ≡ Some r → self.new.filed ≡ put_filed self.old.filed serial (proxy_will_stop r in_length) }
+        ensures router { (r : RouterRecord) → get self.old.filed.routers serial ≡ Some r →
+            self.new.filed ≡ put_filed self.old.filed serial (proxy_will_stop r in_length) }
     {
         let router = self.routers.router_mut(serial);
         let was = router.filing();
@@ -143,7 +153,8 @@ impl Directory {
     /// Has the router of the serial looked at again, as `Router::rouse`.
     pub fn rouse(&mut self, serial: u64)
         requires { is_some (get self.old.filed.routers serial) ≡ true }
-        ensures router { (r : RouterRecord) → get self.old.filed.routers serial ≡ Some r → self.new.filed ≡ put_filed self.old.filed serial (rouse r) }
+        ensures router { (r : RouterRecord) → get self.old.filed.routers serial ≡ Some r →
+            self.new.filed ≡ put_filed self.old.filed serial (rouse r) }
     {
         let router = self.routers.router_mut(serial);
         let was = router.filing();

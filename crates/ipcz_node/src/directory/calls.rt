@@ -1,4 +1,5 @@
-ghost use Rattle.std.specs.Prelude.{ℕ, ◌≡◌, ◌==◌, ◌+◌, ◌<◌, ◌≤◌, ◌-◌, ◌^◌, ◌&&◌, ◌||◌, not, Some, None, true, false, if◌then◌else◌, is_some, OnOk, OnErr, IfOk, IfErr, IsSomeAnd, option_copied, option_map, unwrap_or};
+ghost use Rattle.std.specs.Prelude.{ℕ, ◌≡◌, ◌==◌, ◌+◌, ◌<◌, ◌≤◌, ◌-◌, ◌^◌, ◌&&◌, ◌||◌, not, Some, None, true, false, if◌then◌else◌};
+ghost use Rattle.std.specs.Prelude.{is_some, OnOk, OnErr, IfOk, IfErr, IsSomeAnd, option_copied, option_map, unwrap_or};
 ghost use Rattle.std.specs.Ordering.{nat_cmp};
 ghost use Rattle.std.specs.FinMap.{get, empty};
 ghost use Rattle.ipcz_base.specs.Limits.{last_number, no_number};
@@ -9,7 +10,8 @@ ghost use Rattle.ipcz_base.specs.declared.end.End.{End as EndRecord};
 ghost use Rattle.ipcz_base.specs.declared.item.Item.{Item};
 ghost use Rattle.ipcz_seq.specs.Queue.{current_item};
 ghost use Rattle.ipcz_router.specs.Router.{Router as RouterRecord, IsOpenTerminal, outward_has, router_has, proxy_link, from_descriptor};
-ghost use Rattle.ipcz_router.specs.Calls.{next_number, put_item, router_put_refusal, router_get_refusal, take_item, has_place_for, accept, accept_refusal, extend, descriptor_of};
+ghost use Rattle.ipcz_router.specs.Calls.{next_number, put_item, router_put_refusal, router_get_refusal, take_item, has_place_for, accept};
+ghost use Rattle.ipcz_router.specs.Calls.{accept_refusal, extend, descriptor_of};
 ghost use Rattle.ipcz_router.specs.ActTable.{may_take};
 ghost use Rattle.ipcz_router.specs.ActEffects.{IsAnswerOf, IsBelowNoNumber, apply, output_of};
 ghost use Rattle.ipcz_router.specs.Bypass.{fits_bypass_peer, bypass_peer, accept_message};
@@ -41,9 +43,12 @@ impl Directory {
         requires { IsSomeAnd (get self.old.filed.routers serial) IsOpenTerminal }
         ensures allowed { (r : RouterRecord) → get self.old.filed.routers serial ≡ Some r → OnOk result (router_put_refusal r ≡ None) }
         ensures number { (r : RouterRecord) → get self.old.filed.routers serial ≡ Some r → IfOk result (λ n. n ≡ next_number r) }
-        ensures ok { (r : RouterRecord) → get self.old.filed.routers serial ≡ Some r → OnOk result (self.new.filed ≡ put_filed self.old.filed serial (put_item r (Item.Parcel parcel))) }
-        ensures why { (r : RouterRecord) → get self.old.filed.routers serial ≡ Some r → IfErr result (λ e. e.0 ≡ unwrap_or (router_put_refusal r) Refusal.OutOfMemory) }
-        ensures full { (r : RouterRecord) → get self.old.filed.routers serial ≡ Some r → router_put_refusal r ≡ None → HasOutRoom self.old.out_rooms serial → IsOk result }
+        ensures ok { (r : RouterRecord) → get self.old.filed.routers serial ≡ Some r →
+            OnOk result (self.new.filed ≡ put_filed self.old.filed serial (put_item r (Item.Parcel parcel))) }
+        ensures why { (r : RouterRecord) → get self.old.filed.routers serial ≡ Some r →
+            IfErr result (λ e. e.0 ≡ unwrap_or (router_put_refusal r) Refusal.OutOfMemory) }
+        ensures full { (r : RouterRecord) → get self.old.filed.routers serial ≡ Some r → router_put_refusal r ≡ None →
+            HasOutRoom self.old.out_rooms serial → IsOk result }
         ensures err { IfErr result (λ e. (e.1 ≡ parcel) × (self.new.filed ≡ self.old.filed)) }
     {
         let router = self.routers.router_mut(serial);
@@ -68,7 +73,9 @@ impl Directory {
         requires { IsSomeAnd (get self.old.filed.routers serial) IsOpenTerminal }
         ensures allowed { (r : RouterRecord) → get self.old.filed.routers serial ≡ Some r → OnOk result (router_get_refusal r ≡ None) }
         ensures parcel { (r : RouterRecord) → get self.old.filed.routers serial ≡ Some r → IfOk result (λ g. got_from r ≡ Some g) }
-        ensures ok { (r : RouterRecord) → get self.old.filed.routers serial ≡ Some r → OnOk result (self.new.filed ≡ hold_filed (put_filed self.old.filed serial (take_item r)) (ends_found (current_item r.in_queue))) }
+        ensures ok { (r : RouterRecord) → get self.old.filed.routers serial ≡ Some r →
+            OnOk result (self.new.filed ≡ hold_filed (put_filed self.old.filed serial (take_item r))
+            (ends_found (current_item r.in_queue))) }
         ensures why { (r : RouterRecord) → get self.old.filed.routers serial ≡ Some r → IfErr result (λ e. router_get_refusal r ≡ Some e) }
         ensures err { OnErr result (self.new.filed ≡ self.old.filed) }
     {
@@ -95,7 +102,8 @@ impl Directory {
     pub fn close(&mut self, serial: u64) -> Result<u64, Refusal>
         requires { IsSomeAnd (get self.old.filed.routers serial) IsOpenTerminal }
         ensures number { (r : RouterRecord) → get self.old.filed.routers serial ≡ Some r → IfOk result (λ n. n ≡ next_number r) }
-        ensures ok { (r : RouterRecord) → get self.old.filed.routers serial ≡ Some r → OnOk result (self.new.filed ≡ put_filed self.old.filed serial (close_router r)) }
+        ensures ok { (r : RouterRecord) → get self.old.filed.routers serial ≡ Some r →
+            OnOk result (self.new.filed ≡ put_filed self.old.filed serial (close_router r)) }
         ensures full { HasOutRoom self.old.out_rooms serial → IsOk result }
         ensures err { IfErr result (λ e. (e ≡ Refusal.OutOfMemory) × (self.new.filed ≡ self.old.filed)) }
     {

@@ -1,4 +1,5 @@
-ghost use Rattle.std.specs.Prelude.{ℕ, ◌≡◌, ◌==◌, ◌+◌, ◌<◌, ◌≤◌, ◌-◌, ◌^◌, ◌&&◌, ◌||◌, not, Some, None, true, false, if◌then◌else◌, is_some, OnOk, OnErr, IfOk, IfErr, IsSomeAnd, option_copied, option_map, unwrap_or};
+ghost use Rattle.std.specs.Prelude.{ℕ, ◌≡◌, ◌==◌, ◌+◌, ◌<◌, ◌≤◌, ◌-◌, ◌^◌, ◌&&◌, ◌||◌, not, Some, None, true, false, if◌then◌else◌};
+ghost use Rattle.std.specs.Prelude.{is_some, OnOk, OnErr, IfOk, IfErr, IsSomeAnd, option_copied, option_map, unwrap_or};
 ghost use Rattle.std.specs.Ordering.{nat_cmp};
 ghost use Rattle.std.specs.FinMap.{get, empty};
 ghost use Rattle.ipcz_base.specs.Limits.{last_number, no_number};
@@ -9,7 +10,8 @@ ghost use Rattle.ipcz_base.specs.declared.end.End.{End as EndRecord};
 ghost use Rattle.ipcz_base.specs.declared.item.Item.{Item};
 ghost use Rattle.ipcz_seq.specs.Queue.{current_item};
 ghost use Rattle.ipcz_router.specs.Router.{Router as RouterRecord, IsOpenTerminal, outward_has, router_has, proxy_link, from_descriptor};
-ghost use Rattle.ipcz_router.specs.Calls.{next_number, put_item, router_put_refusal, router_get_refusal, take_item, has_place_for, accept, accept_refusal, extend, descriptor_of};
+ghost use Rattle.ipcz_router.specs.Calls.{next_number, put_item, router_put_refusal, router_get_refusal, take_item, has_place_for, accept};
+ghost use Rattle.ipcz_router.specs.Calls.{accept_refusal, extend, descriptor_of};
 ghost use Rattle.ipcz_router.specs.ActTable.{may_take};
 ghost use Rattle.ipcz_router.specs.ActEffects.{IsAnswerOf, IsBelowNoNumber, apply, output_of};
 ghost use Rattle.ipcz_router.specs.Bypass.{fits_bypass_peer, bypass_peer, accept_message};
@@ -63,7 +65,8 @@ fn close_end(terminals: &mut Index<End>, serial: u64, was: &Filing, is: &Filing)
 // The links alone: those that are kept stay, so that room is wanted for new ones alone.
 fn relink(links: &mut Index<(LinkId, Side)>, serial: u64, was: &Filing, is: &Filing)
     requires room { link_gain was.now is.now ≤ links.old.room }
-    requires filed { (link : LinkId) (side : Side) → is_filed link_end_cmp links.old.members (link, side) serial ≡ is_under was.now link side }
+    requires filed { (link : LinkId) (side : Side) → is_filed link_end_cmp links.old.members (link, side) serial ≡
+        is_under was.now link side }
     ensures members { (link : LinkId) (side : Side) (s : ℕ) → is_filed link_end_cmp links.new.members (link, side) s
         ≡ (if serial == s then is_under is.now link side else is_filed link_end_cmp links.old.members (link, side) s) }
     ensures room { links.old.room ≤ links.new.room + link_gain was.now is.now }
@@ -81,7 +84,8 @@ fn relink(links: &mut Index<(LinkId, Side)>, serial: u64, was: &Filing, is: &Fil
 // Takes a link away, where the filing hasn't it.
 fn drop_link(links: &mut Index<(LinkId, Side)>, serial: u64, old: Option<LinkEnd>, kept: &Filing)
     ensures members { (link : LinkId) (side : Side) (s : ℕ) → is_filed link_end_cmp links.new.members (link, side) s
-        ≡ (not (not (is_under kept.now link side) && (serial == s && has_link old link side)) && is_filed link_end_cmp links.old.members (link, side) s) }
+        ≡ (not (not (is_under kept.now link side) && (serial == s && has_link old link side)) &&
+        is_filed link_end_cmp links.old.members (link, side) s) }
     ensures room { links.old.room ≤ links.new.room }
 {
     match old {
@@ -98,7 +102,8 @@ fn drop_link(links: &mut Index<(LinkId, Side)>, serial: u64, old: Option<LinkEnd
 fn file_link(links: &mut Index<(LinkId, Side)>, serial: u64, new: Option<LinkEnd>, was: &Filing)
     requires { gained_by was.now new ≤ links.old.room }
     ensures members { (link : LinkId) (side : Side) (s : ℕ) → is_filed link_end_cmp links.new.members (link, side) s
-        ≡ ((not (is_under was.now link side) && (serial == s && has_link new link side)) || is_filed link_end_cmp links.old.members (link, side) s) }
+        ≡ ((not (is_under was.now link side) && (serial == s && has_link new link side)) ||
+        is_filed link_end_cmp links.old.members (link, side) s) }
     ensures room { links.old.room ≤ links.new.room + gained_by was.now new }
 {
     match new {
@@ -115,7 +120,8 @@ fn file_link(links: &mut Index<(LinkId, Side)>, serial: u64, new: Option<LinkEnd
 fn follow(flagged: &mut SortedSet<u64>, serial: u64, was_flagged: bool, is_flagged: bool)
     requires was { has nat_cmp flagged.old.members serial ≡ was_flagged }
     requires room { was_flagged ≡ false → 0 < flagged.old.room }
-    ensures members { (s : ℕ) → has nat_cmp flagged.new.members s ≡ (if serial == s then is_flagged else has nat_cmp flagged.old.members s) }
+    ensures members { (s : ℕ) → has nat_cmp flagged.new.members s ≡
+        (if serial == s then is_flagged else has nat_cmp flagged.old.members s) }
     ensures room { flagged.new.room + (if is_flagged then 1 else 0) ≡ flagged.old.room + (if was_flagged then 1 else 0) }
 {
     match (was_flagged, is_flagged) {

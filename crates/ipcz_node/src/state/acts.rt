@@ -52,7 +52,8 @@ impl NodeState {
     fn act_router(&mut self, serial: u64, act: RouterAct, answer: Answer) -> Applied
         requires possible { IsSomeAnd (router_in self.old.node serial) (λ r. may_take r act ≡ true) }
         requires answer { IsAnswerOf act answer }
-        ensures node { (r : RouterRecord) → router_in self.old.node serial ≡ Some r → self.new.node ≡ keep_or_drop self.old.node serial (apply r act answer) act }
+        ensures node { (r : RouterRecord) → router_in self.old.node serial ≡ Some r →
+            self.new.node ≡ keep_or_drop self.old.node serial (apply r act answer) act }
         ensures output { (r : RouterRecord) → router_in self.old.node serial ≡ Some r → result ≡ output_of r act }
         ensures room { self.new.room ≡ record self.old.room { out_rooms = self.new.room.out_rooms } }
         ensures number { self.new.node.number ≡ self.old.node.number }
@@ -126,9 +127,12 @@ impl NodeState {
     fn commit_act(&mut self, serial: u64, act: RouterAct, answer: Answer) -> Happened
         requires possible { IsSomeAnd (router_in self.old.node serial) (λ r. may_take r act ≡ true) }
         requires answer { IsAnswerOf act answer }
-        requires ready { (r : RouterRecord) → router_in self.old.node serial ≡ Some r → IsReady self.old (output_of r act) × CanTell self.old (output_of r act) }
-        ensures node { (r : RouterRecord) → router_in self.old.node serial ≡ Some r → self.new.node ≡ commit_router self.old.node serial act answer r }
-        ensures event { (r : RouterRecord) → router_in self.old.node serial ≡ Some r → result ≡ router_event self.old.node serial r act answer }
+        requires ready { (r : RouterRecord) → router_in self.old.node serial ≡ Some r → IsReady self.old (output_of r act) ×
+            CanTell self.old (output_of r act) }
+        ensures node { (r : RouterRecord) → router_in self.old.node serial ≡ Some r →
+            self.new.node ≡ commit_router self.old.node serial act answer r }
+        ensures event { (r : RouterRecord) → router_in self.old.node serial ≡ Some r →
+            result ≡ router_event self.old.node serial r act answer }
     {
         let link = self.link_acted(serial, act);
         let applied = self.act_router(serial, act, answer);

@@ -2,7 +2,9 @@ ghost use Rattle.std.specs.Prelude.{◌≡◌, ◌<◌, ◌&&◌, not, nat_lt, t
 ghost use Rattle.ipcz_base.specs.Indexed.{place_at};
 ghost use Rattle.ipcz_base.specs.declared.link_id.LinkId.TheVariants.{Central};
 ghost use Rattle.ipcz_router.specs.Router.{Router as RouterRecord, inward_edge, rouse};
-ghost use Rattle.ipcz_router.specs.Bypass.{accept_bypass, accept_message, bypass_peer, fits_accept_bypass, fits_bypass_peer, fits_proxy_will_stop, fits_stop_proxying, proxy_will_stop, stop_message, stop_proxying, will_stop_message};
+ghost use Rattle.ipcz_router.specs.Bypass.{accept_bypass, accept_message, bypass_peer, fits_accept_bypass, fits_bypass_peer};
+ghost use Rattle.ipcz_router.specs.Bypass.{fits_proxy_will_stop, fits_stop_proxying, proxy_will_stop, stop_message, stop_proxying};
+ghost use Rattle.ipcz_router.specs.Bypass.{will_stop_message};
 ghost use Rattle.ipcz_node.specs.Node.{is_named, router_in, with_router};
 ghost use Rattle.ipcz_node.specs.Hands.{fits, handle, tell};
 ghost use Rattle.ipcz_node.specs.Telling.{HasRoomToTell, HasRoomToward};
@@ -35,7 +37,8 @@ impl NodeState {
     ) -> bool
         requires { is_some (router_in self.now.node serial) ≡ true }
         ensures { (r : RouterRecord) → router_in self.now.node serial ≡ Some r →
-            result ≡ (fits_bypass_peer r link side && (nat_lt target self.now.node.count && not (is_named self.now.node (Central fresh) r.end.side))) }
+            result ≡ (fits_bypass_peer r link side && (nat_lt target self.now.node.count &&
+            not (is_named self.now.node (Central fresh) r.end.side))) }
     {
         let router = self.router(serial);
         router.fits_bypass_peer(link, side)
@@ -145,7 +148,8 @@ impl NodeState {
         requires links { 0 < self.old.room.links }
         requires outbox { 0 < place_at 0 self.old.room.outboxes target }
         ensures { (r : RouterRecord) → router_in self.old.node serial ≡ Some r →
-            self.new.node ≡ tell (with_router self.old.node serial (bypass_peer r target fresh)) (Some (accept_message r old target fresh)) }
+            self.new.node ≡ tell (with_router self.old.node serial (bypass_peer r target fresh))
+            (Some (accept_message r old target fresh)) }
     {
         let sending = self
             .routers
@@ -167,7 +171,8 @@ impl NodeState {
         requires links { 0 < self.old.room.links }
         requires outbox { IsSomeAnd (router_in self.old.node serial) (λ r. HasRoomToward self.old r.outward.primary) }
         ensures { (r : RouterRecord) → router_in self.old.node serial ≡ Some r →
-            self.new.node ≡ tell (with_router self.old.node serial (accept_bypass r sender side fresh length)) (stop_message r r.outward.primary old side length) }
+            self.new.node ≡ tell (with_router self.old.node serial (accept_bypass r sender side fresh length))
+            (stop_message r r.outward.primary old side length) }
     {
         let sending = self
             .routers
@@ -181,7 +186,8 @@ impl NodeState {
         requires fits { IsSomeAnd (router_in self.old.node serial) (λ r. fits_stop_proxying r old side ≡ true) }
         requires outbox { IsSomeAnd (router_in self.old.node serial) (λ r. HasRoomToward self.old (inward_edge r).decaying) }
         ensures { (r : RouterRecord) → router_in self.old.node serial ≡ Some r →
-            self.new.node ≡ tell (with_router self.old.node serial (stop_proxying r in_length out_length)) (will_stop_message (inward_edge r).decaying in_length) }
+            self.new.node ≡ tell (with_router self.old.node serial (stop_proxying r in_length out_length))
+            (will_stop_message (inward_edge r).decaying in_length) }
     {
         let sending = self
             .routers

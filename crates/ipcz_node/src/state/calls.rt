@@ -1,4 +1,5 @@
-ghost use Rattle.std.specs.Prelude.{ℕ, ◌≡◌, ◌<◌, ◌≤◌, ◌+◌, ◌*◌, ◌∷◌, [], ◌++◌, Some, None, true, OnOk, OnErr, IfOk, IfErr, IsSomeAnd, unwrap_or, replicate};
+ghost use Rattle.std.specs.Prelude.{ℕ, ◌≡◌, ◌<◌, ◌≤◌, ◌+◌, ◌*◌, ◌∷◌, [], ◌++◌, Some, None, true, OnOk, OnErr, IfOk, IfErr, IsSomeAnd};
+ghost use Rattle.std.specs.Prelude.{unwrap_or, replicate};
 ghost use Rattle.ipcz_base.specs.Ends.{has_end, end_at};
 ghost use Rattle.ipcz_base.specs.Limits.{is_printable};
 ghost use Rattle.ipcz_base.specs.declared.parcel.Parcel.{Parcel as ParcelRecord};
@@ -7,7 +8,8 @@ ghost use Rattle.ipcz_router.specs.Router.{Router as RouterRecord, IsOpenTermina
 ghost use Rattle.ipcz_router.specs.Calls.{router_put_refusal};
 ghost use Rattle.ipcz_node.specs.Node.{router_in, terminal_of, found, holds_end, add_end, bare_node, word_side};
 ghost use Rattle.ipcz_node.specs.FirstPairs.{new_node, add_pairs, pairs_from, first_pairs_from, add_pair};
-ghost use Rattle.ipcz_node.specs.Calls.{serials_refusal, open_node, are_held_once, refusal_at, are_too_many, put_refusal, put_node, put_number, get_refusal, got_at, get_node, close_refusal, close_node, close_end};
+ghost use Rattle.ipcz_node.specs.Calls.{serials_refusal, open_node, are_held_once, refusal_at, are_too_many, put_refusal, put_node};
+ghost use Rattle.ipcz_node.specs.Calls.{put_number, get_refusal, got_at, get_node, close_refusal, close_node, close_end};
 ghost use Rattle.ipcz_node.specs.Acts.{is_quiet, rest_of};
 ghost use Rattle.ipcz_node.specs.RoomyNodes.{CanOpen, IsReadyFor};
 ghost use Rattle.ipcz_node.specs.declared.act.Act.{Act};
@@ -108,7 +110,8 @@ impl NodeState {
         ensures why { IfErr result (λ e. put_refusal self.now.node at bytes.now ends.now ≡ Some e) }
         ensures open { IfOk result (λ serial. IsSomeAnd (router_in self.now.node serial) IsOpenTerminal) }
         ensures free { IfOk result (λ serial. IsSomeAnd (router_in self.now.node serial) (λ r. router_put_refusal r ≡ None)) }
-        ensures found { IfOk result (λ serial. IsSomeAnd (router_in self.now.node serial) (λ r. terminal_of self.now.node at ≡ Some (found serial r))) }
+        ensures found { IfOk result
+            (λ serial. IsSomeAnd (router_in self.now.node serial) (λ r. terminal_of self.now.node at ≡ Some (found serial r))) }
     {
         if !self.holds(at) {
             return Err(Refusal::Stranger);
@@ -138,7 +141,8 @@ impl NodeState {
         ensures why { IfErr result (λ e. refusal_at (terminal_of self.now.node at) router_put_refusal ≡ Some e) }
         ensures open { IfOk result (λ serial. IsSomeAnd (router_in self.now.node serial) IsOpenTerminal) }
         ensures free { IfOk result (λ serial. IsSomeAnd (router_in self.now.node serial) (λ r. router_put_refusal r ≡ None)) }
-        ensures found { IfOk result (λ serial. IsSomeAnd (router_in self.now.node serial) (λ r. terminal_of self.now.node at ≡ Some (found serial r))) }
+        ensures found { IfOk result
+            (λ serial. IsSomeAnd (router_in self.now.node serial) (λ r. terminal_of self.now.node at ≡ Some (found serial r))) }
     {
         let Some(serial) = self.terminal_serial(at) else {
             return Err(Refusal::Stranger);

@@ -1,10 +1,12 @@
-ghost use Rattle.std.specs.Prelude.{ℕ, ◌≡◌, ◌<◌, ◌≤◌, ◌+◌, ◌^◌, Some, is_some, true, false, length, if◌then◌else◌, IsOk, OnOk, IfOk, IfErr, IfSome, IfNone, IsSomeAnd};
+ghost use Rattle.std.specs.Prelude.{ℕ, ◌≡◌, ◌<◌, ◌≤◌, ◌+◌, ◌^◌, Some, is_some, true, false, length, if◌then◌else◌, IsOk, OnOk, IfOk, IfErr};
+ghost use Rattle.std.specs.Prelude.{IfSome, IfNone, IsSomeAnd};
 ghost use Rattle.ipcz_base.specs.Limits.{no_number, has_serials};
 ghost use Rattle.ipcz_router.specs.Router.{Router as RouterRecord, outward_has, router_has};
 ghost use Rattle.ipcz_router.specs.Calls.{has_place_for};
 ghost use Rattle.ipcz_node.specs.Node.{router_in, link_router, found, add_stray};
 ghost use Rattle.ipcz_node.specs.RoomyNodes.{AreLow};
-ghost use Rattle.ipcz_node.specs.Hands.{has_moved, fit_moves, fits_from, fits_item, make_terminals, take_in, free_hand, fits, handle, deliver, message_lacks_serials, message_grows, grows_where_it_fits, serials_in};
+ghost use Rattle.ipcz_node.specs.Hands.{has_moved, fit_moves, fits_from, fits_item, make_terminals, take_in, free_hand, fits, handle};
+ghost use Rattle.ipcz_node.specs.Hands.{deliver, message_lacks_serials, message_grows, grows_where_it_fits, serials_in};
 ghost use Rattle.ipcz_node.specs.Events.{hand_event};
 
 use super::NodeState;
@@ -97,11 +99,14 @@ impl NodeState {
         item: &Item,
         moves: &Moves,
     ) -> Option<u64>
-        ensures none { IfNone result (fits_item self.now.node sender link side n item.now moves.now (link_router self.now.node link side) ≡ false) }
-        ensures some { IfSome result (λ serial. fits_item self.now.node sender link side n item.now moves.now (link_router self.now.node link side) ≡ true) }
+        ensures none { IfNone result (fits_item self.now.node sender link side n item.now moves.now (link_router self.now.node link side) ≡
+            false) }
+        ensures some { IfSome result (λ serial. fits_item self.now.node sender link side n item.now moves.now
+            (link_router self.now.node link side) ≡ true) }
         ensures moves { IfSome result (λ serial. fits_from self.now.node sender item.now moves.now ≡ true) }
         ensures stands { IfSome result (λ serial. IsSomeAnd (router_in self.now.node serial) (λ r. router_has r link side ≡ true)) }
-        ensures found { IfSome result (λ serial. IsSomeAnd (router_in self.now.node serial) (λ r. link_router self.now.node link side ≡ Some (found serial r))) }
+        ensures found { IfSome result (λ serial. IsSomeAnd (router_in self.now.node serial)
+            (λ r. link_router self.now.node link side ≡ Some (found serial r))) }
         ensures number { IfSome result (λ serial. n < no_number) }
     {
         let serial = self.link_serial(link, side)?;
@@ -141,7 +146,8 @@ impl NodeState {
         requires number { n < no_number }
         requires numbers { AreLow moves }
         requires serials { has_serials self.old.node.next_router (length moves) ≡ true }
-        ensures ok { (r : RouterRecord) → router_in self.old.node serial ≡ Some r → OnOk result (self.new.node ≡ take_in self.old.node sender link side n item moves serial r) }
+        ensures ok { (r : RouterRecord) → router_in self.old.node serial ≡ Some r →
+            OnOk result (self.new.node ≡ take_in self.old.node sender link side n item moves serial r) }
         ensures err { IfErr result (λ m. (m ≡ Message.Item link side n item moves) × (self.new.node ≡ self.old.node)) }
     {
         let count = moves.as_slice().len();
@@ -333,9 +339,12 @@ impl NodeState {
     // Handles a message, or keeps it whole where it doesn't fit.
     #[tactic(auto, using(crate::proofs::Handing::takes_no_serials))]
     fn receive(&mut self, sender: u8, message: Message) -> Result<(), (Refusal, Message)>
-        ensures ok { OnOk result (self.new.node ≡ (if fits self.old.node sender message then handle self.old.node sender message else add_stray self.old.node message)) }
+        ensures ok { OnOk result
+            (self.new.node ≡ (if fits self.old.node sender message then handle self.old.node sender message else add_stray self.old.node
+            message)) }
         ensures allowed { OnOk result (message_lacks_serials self.old.node sender message ≡ false) }
-        ensures why { IfErr result (λ e. e.0 ≡ (if message_lacks_serials self.old.node sender message then Refusal.NumbersEnd else Refusal.OutOfMemory)) }
+        ensures why { IfErr result
+            (λ e. e.0 ≡ (if message_lacks_serials self.old.node sender message then Refusal.NumbersEnd else Refusal.OutOfMemory)) }
         ensures grows { message_grows self.old.node sender message ≡ false → IsOk result }
         ensures err { IfErr result (λ e. (e.1 ≡ message) × (self.new.node ≡ self.old.node)) }
     {
@@ -379,7 +388,8 @@ impl NodeState {
         ensures ok { OnOk result (self.new.node ≡ deliver self.old.node from message) }
         ensures event { IfOk result (λ h. h ≡ hand_event self.old.node from message) }
         ensures allowed { OnOk result (message_lacks_serials self.old.node from message ≡ false) }
-        ensures why { IfErr result (λ e. e.0 ≡ (if message_lacks_serials self.old.node from message then Refusal.NumbersEnd else Refusal.OutOfMemory)) }
+        ensures why { IfErr result
+            (λ e. e.0 ≡ (if message_lacks_serials self.old.node from message then Refusal.NumbersEnd else Refusal.OutOfMemory)) }
         ensures grows { message_grows self.old.node from message ≡ false → IsOk result }
         ensures err { IfErr result (λ e. (e.1 ≡ message) × (self.new.node ≡ self.old.node)) }
     {

@@ -65,7 +65,9 @@ impl NodeState {
         ensures node { self.new.node ≡ self.old.node }
         ensures ready { OnOk result (IsReadyAs self.new outlook) }
         ensures allowed { OnOk result (has_serials self.old.node.next_peripheral (serials_as self.old.node outlook) ≡ true) }
-        ensures why { IfErr result (λ e. e ≡ (if has_serials self.old.node.next_peripheral (serials_as self.old.node outlook) then Refusal.OutOfMemory else Refusal.NumbersEnd)) }
+        ensures why { IfErr result
+            (λ e. e ≡ (if has_serials self.old.node.next_peripheral (serials_as self.old.node outlook)
+            then Refusal.OutOfMemory else Refusal.NumbersEnd)) }
         ensures nothing { outlook ≡ Outlook.Nothing → IsOk result }
     {
         let count = self.serials_as(outlook);
@@ -94,7 +96,8 @@ impl NodeState {
         ensures node { self.new.node ≡ self.old.node }
         ensures ready { OnOk result (IsReadyFor self.new (Act.Router serial act)) }
         ensures allowed { OnOk result (act_lacks_serials self.old.node (Act.Router serial act) ≡ false) }
-        ensures why { IfErr result (λ e. e ≡ (if act_lacks_serials self.old.node (Act.Router serial act) then Refusal.NumbersEnd else Refusal.OutOfMemory)) }
+        ensures why { IfErr result
+            (λ e. e ≡ (if act_lacks_serials self.old.node (Act.Router serial act) then Refusal.NumbersEnd else Refusal.OutOfMemory)) }
         ensures grows { act_grows (Act.Router serial act) ≡ false → IsOk result }
     {
         let outlook = self.outlook(serial, act);
@@ -123,7 +126,8 @@ impl NodeState {
         ensures node { self.new.node ≡ self.old.node }
         ensures ready { OnOk result (IsReadyFor self.new act.now) }
         ensures allowed { OnOk result (act_lacks_serials self.old.node act.now ≡ false) }
-        ensures why { IfErr result (λ e. e ≡ (if act_lacks_serials self.old.node act.now then Refusal.NumbersEnd else Refusal.OutOfMemory)) }
+        ensures why { IfErr result
+            (λ e. e ≡ (if act_lacks_serials self.old.node act.now then Refusal.NumbersEnd else Refusal.OutOfMemory)) }
         ensures grows { act_grows act.now ≡ false → IsOk result }
     {
         match act {

@@ -1,4 +1,5 @@
-ghost use Rattle.std.specs.Prelude.{ℕ, ◌≡◌, ◌<◌, ◌≤◌, ◌+◌, ◌-◌, ◌++◌, [], ◌∷◌, Some, None, is_some, true, false, length, vec_len, vec_capacity, nat_eq, OnOk, OnErr, IfOk, IfErr, IfSome, IfNone, IsSomeAnd};
+ghost use Rattle.std.specs.Prelude.{ℕ, ◌≡◌, ◌<◌, ◌≤◌, ◌+◌, ◌-◌, ◌++◌, [], ◌∷◌, Some, None, is_some, true, false, length, vec_len};
+ghost use Rattle.std.specs.Prelude.{vec_capacity, nat_eq, OnOk, OnErr, IfOk, IfErr, IfSome, IfNone, IsSomeAnd};
 ghost use Rattle.std.specs.FinMap.{get};
 ghost use Rattle.ipcz_base.specs.Limits.{no_number, last_number, has_serials};
 ghost use Rattle.ipcz_base.specs.Indexed.{place_at};
@@ -14,7 +15,8 @@ ghost use Rattle.ipcz_node.specs.Node.{on_router};
 ghost use Rattle.ipcz_node.specs.Sends.{send};
 ghost use Rattle.ipcz_router.specs.ActTable.{may_take};
 ghost use Rattle.ipcz_router.specs.ActEffects.{IsAnswerOf, apply, output_of};
-ghost use Rattle.ipcz_node.specs.Hands.{has_moved, fit_moves, fits_from, fits_item, make_terminals, take_in, free_hand, fits, handle, deliver, message_lacks_serials};
+ghost use Rattle.ipcz_node.specs.Hands.{has_moved, fit_moves, fits_from, fits_item, make_terminals, take_in, free_hand, fits, handle};
+ghost use Rattle.ipcz_node.specs.Hands.{deliver, message_lacks_serials};
 ghost use Rattle.std.specs.Prelude.{if◌then◌else◌};
 ghost use Rattle.ipcz_base.specs.declared.side.Side.TheVariants.{B};
 
@@ -28,7 +30,8 @@ impl NodeState {
         requires links { 0 < self.old.room.links }
         requires moves { vec_len moves.old < vec_capacity moves.old }
         requires serials { self.old.node.next_peripheral < no_number }
-        ensures transfer { (r : RouterRecord) → router_in self.old.node serial ≡ Some r → transfer self.new.node moves.new.items ≡ move_router (transfer self.old.node moves.old.items) to serial r }
+        ensures transfer { (r : RouterRecord) → router_in self.old.node serial ≡ Some r →
+            transfer self.new.node moves.new.items ≡ move_router (transfer self.old.node moves.old.items) to serial r }
         ensures links { self.old.room.links ≡ self.new.room.links + 1 }
         ensures outboxes { self.new.room.outboxes ≡ self.old.room.outboxes }
         ensures serials { self.new.node.next_peripheral ≡ self.old.node.next_peripheral + 1 }

@@ -15,8 +15,8 @@ use Rattle.ipcz_base.specs.Links.{word_of}
 use Rattle.ipcz_world.specs.World.{World, Key, same_key, word_at, mail_at, way, router_at, set_router}
 use Rattle.ipcz_world.proofs.frames.Frames.{frames, same_key_tells, same_key-itself}
 use Rattle.ipcz_world.specs.Books.{Books}
-use Rattle.ipcz_world.specs.Records.{Records, Owner, Unclaimed, Spare, Fresh, Linked, Opening, is_linked, is_unclaimed, is_recorded}
-use Rattle.ipcz_world.specs.Records.{side_router, side_node}
+use Rattle.ipcz_world.specs.Records.{Records, Owner, Unclaimed, Spare, Fresh, Linked, is_linked, is_unclaimed, is_recorded, side_router}
+use Rattle.ipcz_world.specs.Records.{side_node}
 use Rattle.ipcz_world.specs.Remembering.{claim_records}
 use Rattle.ipcz_world.specs.Places.{Weight, names_end}
 use Rattle.ipcz_world.proofs.weights.OfRecords.{in_places}
@@ -26,24 +26,15 @@ use Rattle.ipcz_world.specs.Acts.{CanAct, claim_act}
 use Rattle.ipcz_world.specs.Inv.{Inv}
 use Rattle.ipcz_world.proofs.frames.OneRouter.{SameButRouter, set-router, set-claimed}
 use Rattle.ipcz_world.proofs.flows.SameMessages.{recorded-same, told-same, moves-same}
-use Rattle.ipcz_world.proofs.frames.GivingUp.{was, Gives, same-messages, ordered-gives, links-gives, positions-gives}
-use Rattle.ipcz_world.proofs.frames.GivenUp.{Settled, stays}
-use Rattle.ipcz_world.proofs.frames.GivingUp.{stands-gives}
-use Rattle.ipcz_world.proofs.frames.GivenUp.{stages-flags, terminals-gives, end_places-gives, books-gives, items-gives}
+use Rattle.ipcz_world.proofs.frames.GivingUp.{was, Gives, same-messages, ordered-gives, links-gives, positions-gives, stands-gives}
+use Rattle.ipcz_world.proofs.frames.GivenUp.{Settled, stays, stages-flags, terminals-gives, end_places-gives, books-gives, items-gives}
 use Rattle.ipcz_world.proofs.frames.GivenUp.{order-gives, proxy_numbers-gives, fresh_numbers-gives, conserved-gives, held_once-gives}
 use Rattle.ipcz_world.proofs.acts.Flags.{IsFlagged, flagged-part, flagged-settled}
 use Rattle.ipcz_world.proofs.begins.BegunNumbers.{places-sources}
 use Rattle.ipcz_world.proofs.frames.Owners.{linked-owned, recorded-owned, links-owned, positions-owned, stands-owned, stages-owned}
 use Rattle.ipcz_world.proofs.frames.Owners.{moves-owned, told-owned, terminals-owned, items-owned, order-owned, proxy_numbers-owned}
 use Rattle.ipcz_world.proofs.frames.Owners.{fresh_numbers-owned}
-
-unclaimed-is : (x : Owner) → is_unclaimed x ≡ true → x ≡ Unclaimed
-unfolding is_unclaimed
-unclaimed-is Unclaimed e = refl
-unclaimed-is (Spare k) e = absurd (grind (arith, e))
-unclaimed-is (Opening n) e = absurd (grind (arith, e))
-unclaimed-is (Fresh o) e = absurd (grind (arith, e))
-unclaimed-is Linked e = absurd (grind (arith, e))
+use Rattle.ipcz_world.proofs.frames.RecordRules.{unclaimed-is}
 
 pub inv-claim : (w : World) (b : Books) (g : Records) (k : Key) (r : Router) → Inv w b g → CanAct w k r acts.Claim → w.claimed < w.size →
     Inv (claim_act w k r) b (claim_records g k w.claimed)

@@ -1,5 +1,5 @@
 -- A router gives a decaying link up: the invariant is kept, for all that was to come over the link has come.
-use Rattle.ipcz_world.specs.Places.{in_message as in_message'}
+use Rattle.ipcz_world.specs.Places.{in_message as in_message', in_router, at_end}
 use Rattle.ipcz_world.specs.Routes.{source as source'}
 use Rattle.std.specs.Prelude.{◌≡◌, ◌⊎◌, ◌≤◌, ◌<◌, ℕ, Bool, true, false, nat_le, Option, Some, None, is_some, List, drop, refl}
 use Rattle.std.proofs.Common.{arith, sym, ◌∙◌, ap, subst, inl, inr}
@@ -27,9 +27,7 @@ use Rattle.ipcz_world.specs.World.{World, Key, router_at}
 use Rattle.ipcz_world.specs.Books.{Books, read}
 use Rattle.ipcz_world.specs.Records.{Records, inner_link, is_begun, is_recorded, proxy_side, across_side, side_end, side_length}
 use Rattle.ipcz_world.proofs.frames.RecordRules.{bypass_of-inner}
-use Rattle.ipcz_world.proofs.weights.OfRecords.{source}
-use Rattle.ipcz_world.specs.Places.{in_router, at_end}
-use Rattle.ipcz_world.proofs.weights.OfRecords.{in_message}
+use Rattle.ipcz_world.proofs.weights.OfRecords.{source, in_message}
 use Rattle.ipcz_world.specs.Standing.{Standing, view, is_attached, passes, has_decaying, fed_queue, sending_queue, next_sent, taking_queue}
 use Rattle.ipcz_world.proofs.frames.StandingRules.{standing_rules}
 use Rattle.ipcz_world.specs.Structure.{is_outward, IsRecorded}
@@ -41,13 +39,14 @@ use Rattle.ipcz_world.proofs.weights.Sums.{just, just_once}
 use Rattle.ipcz_world.proofs.facts.Queues.{reach_filled}
 use Rattle.ipcz_world.proofs.weights.Weights.{in_two_places, in_out_queue, in_in_queue}
 use Rattle.ipcz_world.proofs.frames.OneRouter.{set-router, words-set_router}
-use Rattle.ipcz_world.proofs.facts.LinkTests.{IsLinkEnd, IsKnown, has_link-tells, known_from-tells, side_is, opposite-opposite}
-use Rattle.ipcz_world.proofs.facts.LinkTests.{same_end-itself}
+use Rattle.ipcz_world.proofs.facts.LinkTests.{IsLinkEnd, IsKnown, has_link-tells, known_from-tells, side_is, same_end-itself}
 use Rattle.ipcz_world.proofs.facts.BegunLengths.{begun-since, length-proxy, length-across, length-inward, length-inner}
-use Rattle.ipcz_world.proofs.views.Views.{IsPart, taking_queue-standing, next_sent-standing}
+use Rattle.ipcz_world.proofs.views.Views.{IsPart}
 use Rattle.ipcz_world.proofs.views.Bypassed.{Names, IsBypassed, proxy-begun, proxy-outward, proxy-inward, proxy-seen, proxy-seen_inward}
 use Rattle.ipcz_world.proofs.views.Bypassed.{proxy-late, proxy-late_inward}
 use Rattle.ipcz_world.proofs.frames.GivenUp.{stays, keeps_all, Settled, inv-gives}
+use Rattle.ipcz_world.proofs.frames.Draining.{next_sent-standing, taking_queue-standing}
+use Rattle.ipcz_world.proofs.facts.Lengths.{opposite-twice}
 
 -- an edge's decaying link is done with
 pub record IsDone (e : Edge) (sent received : ℕ) : Type 0 where
@@ -206,7 +205,7 @@ come-out w b g k r (Central j) s law here done is = go (side_is s (proxy_side g 
         (sym done.length_from ∙ law.positions.across_from k r done.end j here done.decaying is.link (is.side ∙ e)) in
         record {
           from = done.from;
-          length = ap (λ t. side_length g (Central j) (opposite t)) e ∙ ap (side_length g (Central j)) (opposite-opposite (proxy_side g j))
+          length = ap (λ t. side_length g (Central j) (opposite t)) e ∙ ap (side_length g (Central j)) (opposite-twice (proxy_side g j))
               ∙ length-proxy g j stage ∙ ap Some (sym own);
           all_come = done.all_come;
           known = ap (λ t. is_some (side_length g (Central j) t)) e ∙ ap is_some (length-across g j stage);
@@ -344,14 +343,14 @@ across-sent w b g r o q law stands come at stage = go q.outward.decaying refl
     is = record { begun = begun-since g o 3 (omega arith) stage; proxy = refl; here = at }
 
     length : side_length g (Central o) (opposite (across_side g o)) ≡ Some (g.bypass o).taken_at
-    length = ap (side_length g (Central o)) (opposite-opposite (proxy_side g o)) ∙ length-proxy g o stage
+    length = ap (side_length g (Central o)) (opposite-twice (proxy_side g o)) ∙ length-proxy g o stage
 
     go : (d : Option LinkEnd) → q.outward.decaying ≡ d → (g.bypass o).taken_at ≤ q.out_queue.current
     go None e = law.proxy_numbers.out_finished o q at (proxy-late law is e) e
     go (Some d) e =
         let sends : next_sent (Central o) (opposite (across_side g o)) (view w g (Central o) (opposite (across_side g o))) ≡ Some
         q.out_queue.current
-        = ap (λ t. next_sent (Central o) t (view w g (Central o) t)) (opposite-opposite (proxy_side g o)) ∙ ap
+        = ap (λ t. next_sent (Central o) t (view w g (Central o) t)) (opposite-twice (proxy_side g o)) ∙ ap
         (next_sent (Central o) (proxy_side g o)) (proxy-seen law is d e) ∙ next_sent-standing (Central o) (proxy_side g o) q in
         let same : come.from ≡ (g.bypass o).taken_at = same_Some _ _ (sym come.length ∙ length) in
         omega (arith, all-sent w b g r (Central o) (across_side g o) q.out_queue.current law stands come sends, same)

@@ -1,5 +1,5 @@
 -- A proxy without links leaves: the invariant is kept, for its queues are empty.
-use Rattle.std.specs.Prelude.{◌≡◌, ◌≤◌, ℕ, Bool, true, false, nat_le, Option, Some, None, is_none, refl}
+use Rattle.std.specs.Prelude.{◌≡◌, ◌≤◌, ℕ, Bool, true, false, nat_le, Option, Some, None, refl}
 use Rattle.std.proofs.Common.{arith}
 use Rattle.std.proofs.lemmas.Bool.Decides.{nat_tests}
 use Rattle.ipcz_base.specs.declared.side.Side.{Side}
@@ -26,10 +26,7 @@ use Rattle.ipcz_world.proofs.facts.Queues.{total-none}
 use Rattle.ipcz_world.proofs.frames.OneRouter.{remove-router, words-remove_router}
 use Rattle.ipcz_world.proofs.frames.GivingUp.{Keeps, Gives}
 use Rattle.ipcz_world.proofs.frames.GivenUp.{Settled, inv-gives, has_some}
-
-is_nothing : {X : Type 0} (o : Option X) → is_none o ≡ true → o ≡ None
-is_nothing None e = refl
-is_nothing (Some x) e = absurd (grind (arith, e))
+use Rattle.ipcz_world.proofs.facts.Tests.{none_is}
 
 -- a router without links
 pub record HasNoLink (r : Router) : Type 0 where
@@ -43,10 +40,10 @@ pub leave-tells : (r : Router) → is_possible r acts.Leave ≡ true → HasNoLi
 unfolding is_possible
 leave-tells r e = record {
   proxy = grind (arith, e);
-  primary = is_nothing _ (grind (arith, e));
-  decaying = is_nothing _ (grind (arith, e));
-  inward_primary = is_nothing _ (grind (arith, e));
-  inward_decaying = is_nothing _ (grind (arith, e));
+  primary = none_is _ (grind (arith, e));
+  decaying = none_is _ (grind (arith, e));
+  inward_primary = none_is _ (grind (arith, e));
+  inward_decaying = none_is _ (grind (arith, e));
 }
 
 not_attached : (l : LinkId) (s : Side) (r : Router) → HasNoLink r → is_attached l s r ≡ false

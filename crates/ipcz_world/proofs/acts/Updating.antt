@@ -34,7 +34,7 @@ pub set-twice : (w : World) (n : ℕ) (x z : Node) → set_node (set_node w n x)
 unfolding set_node
 set-twice w n x z = ap (λ ns. record w { nodes = ns }) (put-twice (bare_node 0 0) w.nodes n x z)
 
-node-here : (w : World) (n : ℕ) (x : Node) → node_at (set_node w n x) n ≡ x
+pub node-here : (w : World) (n : ℕ) (x : Node) → node_at (set_node w n x) n ≡ x
 node-here w n x = grind (arith, node-set_node w n x n, nat_tests)
 
 -- a message more at a node that has just changed is one change

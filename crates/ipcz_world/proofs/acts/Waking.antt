@@ -4,9 +4,8 @@ use Rattle.std.proofs.Common.{arith, sym, ◌∙◌, ap, subst, inl, inr}
 use Rattle.std.proofs.lemmas.Bool.Decides.{nat_tests}
 use Rattle.std.proofs.lemmas.Option.{same_Some, none-some}
 use Rattle.ipcz_base.specs.declared.side.Side.{Side}
-use Rattle.ipcz_base.specs.declared.side.Side.TheVariants.{A, B}
 use Rattle.ipcz_base.specs.declared.link_id.LinkId.{LinkId}
-use Rattle.ipcz_base.specs.declared.link_id.LinkId.TheVariants.{Central, Peripheral}
+use Rattle.ipcz_base.specs.declared.link_id.LinkId.TheVariants.{Central}
 use Rattle.ipcz_base.specs.declared.link_end.LinkEnd.{LinkEnd}
 use Rattle.ipcz_base.specs.declared.message.Message.{Message}
 use Rattle.ipcz_base.specs.declared.message.Message.TheVariants as messages
@@ -16,21 +15,18 @@ use Rattle.ipcz_base.specs.Links.{is_central, word_of}
 use Rattle.ipcz_word.specs.Word.{Word, wake}
 use Rattle.ipcz_router.specs.Router.{Router, primary_word, rouse}
 use Rattle.ipcz_router.specs.ActTable.{is_possible}
-use Rattle.ipcz_router.specs.ActEffects.{wake_other, output_of, apply, message_output, flush_message}
+use Rattle.ipcz_router.specs.ActEffects.{wake_other, output_of, message_output, flush_message}
 use Rattle.ipcz_router.specs.declared.act.Applied.TheVariants as sends
 use Rattle.ipcz_router.specs.declared.act.RouterAct.TheVariants as acts
 use Rattle.ipcz_node.specs.declared.act.Act.TheVariants.{Hand, Router as OfRouter}
-use Rattle.ipcz_node.specs.Node.{Node, Found, push_out, on_router, on_found, router_in, with_router, link_router}
-use Rattle.ipcz_node.specs.Sends.{send}
+use Rattle.ipcz_node.specs.Node.{Node, Found, push_out, on_found, with_router, link_router}
 use Rattle.ipcz_node.specs.Hands.{deliver, handle, fits, is_hand_of}
-use Rattle.ipcz_node.specs.Acts.{commit, commit_router, keep_or_drop}
 use Rattle.ipcz_world.specs.declared.mail.Mail.TheVariants as mails
 use Rattle.ipcz_world.specs.World.{World, Key, node_at, word_at, mail_at, way, router_at, set_node, set_word, set_mail, set_router}
 use Rattle.ipcz_world.specs.World.{push_message}
 use Rattle.ipcz_world.proofs.frames.Frames.{frames, same_key-itself, word-set_word, word-set_node, claimed-set_word, claimed-set_node}
 use Rattle.ipcz_world.proofs.frames.Frames.{node-set_node, mail-set_node, count-set_node}
-use Rattle.ipcz_world.specs.Turns.{after_act, after_router_act, after_hand, hand_message}
-use Rattle.ipcz_world.specs.WordAnswers.{touch, touch_word, word_after, answer_of, link_answer, word_answer}
+use Rattle.ipcz_world.specs.Turns.{after_act, after_hand, hand_message}
 use Rattle.ipcz_world.specs.Books.{Books}
 use Rattle.ipcz_world.specs.Records.{Records, is_linked, side_node, side_router}
 use Rattle.ipcz_world.specs.Standing.{key_passes}
@@ -44,11 +40,12 @@ use Rattle.ipcz_world.proofs.frames.OneRouter.{SameButRouter, set-router, set-wo
 use Rattle.ipcz_world.proofs.frames.GivingUp.{Gives, HasSameFlags, counts-gives, passes-still}
 use Rattle.ipcz_world.proofs.frames.GivenUp.{Settled, stays, keeps_all, words-gives, spares-gives, stages-flags, inv-flags}
 use Rattle.ipcz_world.proofs.acts.Flags.{IsFlagged, IsShaped, OnWord, on-word, flagged-part, flagged-settled, shape-touched, inv-flagged}
-use Rattle.ipcz_world.proofs.begins.BeginAct.{push-set_node}
-use Rattle.ipcz_world.proofs.acts.Updating.{set-twice}
+use Rattle.ipcz_world.proofs.acts.Updating.{freed, acted-wake}
 use Rattle.ipcz_world.proofs.facts.Finding.{found_tells}
 use Rattle.ipcz_world.proofs.flows.MessagesPassing.{SameButPost, IsFlush, HasHands, post_is, hands-same, passes-pushed, passes-taken}
 use Rattle.ipcz_world.proofs.flows.MessagesAlone.{inv-passes}
+use Rattle.ipcz_world.proofs.views.Known.{node_of_router}
+use Rattle.ipcz_world.proofs.facts.Lengths.{opposite-twice}
 
 -- a word of a link changes in what its sides wait for alone
 word-waits : (w : World) (g : Records) (i : ℕ) (x : Word) → is_linked (g.owner i) ≡ true → x.stable ≡ (word_at w i).stable →
@@ -174,27 +171,6 @@ inv-push_flush w b g from to l s law lf lt fits = inv-passes w v g
     hands : (n : ℕ) → (node_at v n).hand ≡ (node_at w n).hand
     hands n = grind (arith, changed.node n, nat_tests)
 
--- the node of a side whose router is known
-pub node-known : (g : Records) (l : LinkId) (s : Side) (k : Key) → side_router g l s ≡ Some k → side_node g l s ≡ k.node
-unfolding side_router side_node
-node-known g (Central i) s k e = go ((g.central i).router s) refl
-  where
-    go : (o : Option ℕ) → (g.central i).router s ≡ o → (g.central i).node s ≡ k.node
-    go None h = absurd (grind (arith, e, h))
-    go (Some x) h = ap (λ q. q.node) (same_Some (record { node = (g.central i).node s; serial = x }) k (grind (arith, e, h)))
-node-known g (Peripheral n x) A k e = ap (λ q. q.node) (same_Some _ k e)
-node-known g (Peripheral n x) B k e = go (g.peripheral (record { node = n; serial = x })).router refl
-  where
-    go : (o : Option ℕ) → (g.peripheral (record { node = n; serial = x })).router ≡ o →
-        (g.peripheral (record { node = n; serial = x })).node ≡ k.node
-    go None h = absurd (grind (arith, e, h))
-    go (Some t) h = ap (λ q. q.node) (same_Some (record { node = (g.peripheral (record { node = n; serial = x })).node; serial = t }) k
-        (grind (arith, e, h)))
-
-twice_opposite : (s : Side) → opposite (opposite s) ≡ s
-twice_opposite A = refl
-twice_opposite B = refl
-
 central-is : (i : ℕ) → is_central (Central i) ≡ true
 unfolding is_central
 central-is i = refl
@@ -238,26 +214,13 @@ inv-wake w b g k r i e law can at = inv-push_flush v b g k.node e.other e.link (
       central = ap is_central (ap (λ z. z.link) (same_Some e on.end (sym at ∙ on.primary)) ∙ on.link) ∙ central-is i;
       recorded = is.recorded;
       receiver = is.other;
-      sender = sym (ap (side_node g e.link) (twice_opposite e.side) ∙ node-known g e.link e.side k is.router);
+      sender = sym (ap (side_node g e.link) (opposite-twice e.side) ∙ node_of_router g e.link e.side k is.router);
     }
 
 wake-sends : (r : Router) (e : LinkEnd) → r.outward.primary ≡ Some e →
     output_of r acts.Wake ≡ sends.Message e.other (messages.Flush e.link (opposite e.side))
 unfolding output_of message_output flush_message
 wake-sends r e at = rw at refl
-
--- a node's wake in the world is the update
-pub acted-wake : (w : World) (n s i : ℕ) (r : Router) (e : LinkEnd) → router_at w (record { node = n; serial = s }) ≡ Some r →
-    primary_word r ≡ Some i → r.outward.primary ≡ Some e →
-    after_act w n (OfRouter s acts.Wake) ≡ wake_act w (record { node = n; serial = s }) r i e
-unfolding after_act after_router_act touch touch_word word_after answer_of link_answer word_answer commit on_router commit_router
-    keep_or_drop apply send router_at set_word set_node
-acted-wake w n s i r e here word at =
-    let inside : router_in (node_at w n) s ≡ Some r = here in
-    rw (here, inside, word) (ap (λ a. set_node (set_word w i (wake (word_at w i) r.end.side)) n
-    (send (with_router (node_at w n) s (wake_other r)) a)) (wake-sends r e at)
-    ∙ sym (push-set_node (set_word w i (wake (word_at w i) r.end.side)) n (with_router (node_at w n) s (wake_other r)) e.other
-    (messages.Flush e.link (opposite e.side))))
 
 -- a hand is empty now, and its mailbox
 hands-freed : (w v : World) (g : Records) (from to : ℕ) → Counts w g → to < w.count → (node_at w to).hand ≡ Some from →
@@ -388,23 +351,12 @@ handed-is : (w : World) (n from : ℕ) (m : Message) → mail_at w (way w from n
 unfolding after_act after_hand hand_message
 handed-is w n from m in_hand = rw in_hand refl
 
--- a change of a node's hand over a change of the node is one change
-free-set_node : (w : World) (n from : ℕ) (x : Node) → free (set_node w n x) from n ≡ set_mail (set_node w n (record x { hand = None }))
-    (way w from n) mails.Empty
-free-set_node w n from x =
-    ap (λ z. set_mail (set_node (set_node w n x) n (record z { hand = None })) (way (set_node w n x) from n) mails.Empty) here
-    ∙ ap (λ z. set_mail z (way (set_node w n x) from n) mails.Empty) (set-twice w n x (record x { hand = None }))
-    ∙ ap (λ c. set_mail (set_node w n (record x { hand = None })) (from * c + n) mails.Empty) (count-set_node w n x)
-  where
-    here : node_at (set_node w n x) n ≡ x
-    here = grind (arith, node-set_node w n x n, nat_tests)
-
 pub acted-flush : (w : World) (n from : ℕ) (l : LinkId) (s : Side) (f : Found) →
     mail_at w (way w from n) ≡ mails.Hand (messages.Flush l s) → (node_at w n).hand ≡ Some from → link_router (node_at w n) l s ≡ Some f →
     after_act w n (Hand from) ≡ flush_act w from (record { node = n; serial = f.serial }) f.router
 acted-flush w n from l s f in_hand hand found =
     handed-is w n from (messages.Flush l s) in_hand ∙ ap (λ x. set_mail (set_node w n x) (way w from n) mails.Empty)
-    (found-flush (node_at w n) from l s f hand found) ∙ sym (free-set_node w n from
+    (found-flush (node_at w n) from l s f hand found) ∙ sym (freed w n from
     (with_router (node_at w n) f.serial (rouse f.router)))
 
 pub acted-flush_lost : (w : World) (n from : ℕ) (l : LinkId) (s : Side) → mail_at w (way w from n) ≡ mails.Hand (messages.Flush l s) →

@@ -1,7 +1,5 @@
 -- A bypass begins: the invariant is kept, every begin that is possible is one of these, and a node's begin is this update.
 use Rattle.std.specs.Prelude.{◌≡◌, ◌<◌, ℕ, Option, Some, None, refl}
-use Rattle.std.proofs.lemmas.Bool.Decides.{nat_tests}
-use Rattle.ipcz_base.specs.declared.message.Message.{Message}
 use Rattle.std.proofs.Common.{arith, sym, ◌∙◌, ap, subst}
 use Rattle.ipcz_base.specs.declared.side.Side.TheVariants.{B}
 use Rattle.ipcz_base.specs.declared.link_id.LinkId.{LinkId}
@@ -14,11 +12,10 @@ use Rattle.ipcz_router.specs.ActEffects.{begin_bypass, begin_message as begin_se
 use Rattle.ipcz_router.specs.declared.act.RouterAct.TheVariants as acts
 use Rattle.ipcz_router.specs.declared.act.Applied.TheVariants as sends
 use Rattle.ipcz_node.specs.declared.act.Act.TheVariants.{Router as OfRouter}
-use Rattle.ipcz_node.specs.Node.{Node, with_router, push_out, on_router, router_in}
+use Rattle.ipcz_node.specs.Node.{with_router, on_router, router_in}
 use Rattle.ipcz_node.specs.Sends.{send}
 use Rattle.ipcz_node.specs.Acts.{commit, commit_router, keep_or_drop}
-use Rattle.ipcz_world.specs.World.{World, Key, node_at, router_at, set_node, push_message}
-use Rattle.ipcz_world.proofs.frames.Frames.{node-set_node}
+use Rattle.ipcz_world.specs.World.{World, Key, node_at, router_at, set_node}
 use Rattle.ipcz_world.specs.Turns.{after_act, after_router_act}
 use Rattle.ipcz_world.specs.WordAnswers.{touch}
 use Rattle.ipcz_world.specs.Books.{Books}
@@ -36,7 +33,7 @@ use Rattle.ipcz_world.proofs.begins.BegunNumbers.{begin_message, ordered-begun, 
 use Rattle.ipcz_world.proofs.begins.BegunNumbers.{items-begun, order-begun, proxy_numbers-begun, fresh_numbers-begun, conserved-begun}
 use Rattle.ipcz_world.proofs.begins.BegunNumbers.{held_once-begun}
 use Rattle.ipcz_world.proofs.begins.BegunMessages.{told-begun}
-use Rattle.ipcz_world.proofs.acts.Updating.{set-twice}
+use Rattle.ipcz_world.proofs.acts.Updating.{push-set_node}
 
 pub inv-begin : (w : World) (b : Books) (g : Records) (k : Key) (r : Router) (p : Key) (into out : LinkEnd) (o fresh : ℕ) → Inv w b g →
     CanBegin w k r p into out o fresh → Inv (begin_act w k r into out o fresh) b (begin_records g k o fresh p)
@@ -112,15 +109,6 @@ begin-possible w b g k r law can = go (inward_edge r).primary r.outward.primary 
     go a None (Some n) p q s = absurd (grind (arith, can.possible, q))
     go None (Some x) (Some n) p q s = absurd (grind (arith, law.shape.role k r can.here, can.possible, p, q))
     go (Some i) (Some x) (Some n) p q s = at i x n i.link x.link p q s refl refl
-
--- a message more at a node that has just changed is one change
-pub push-set_node : (w : World) (n : ℕ) (x : Node) (to : ℕ) (m : Message) →
-    push_message (set_node w n x) n to m ≡ set_node w n (push_out x to m)
-push-set_node w n x to m = ap (λ z. set_node (set_node w n x) n (push_out z to m)) (grind (arith, node-set_node w n x n, nat_tests)) ∙ twice
-    (push_out x to m)
-  where
-    twice : (z : Node) → set_node (set_node w n x) n z ≡ set_node w n z
-    twice z = set-twice w n x z
 
 begin-sends : (w : World) (k : Key) (r : Router) (p : Key) (into out : LinkEnd) (o fresh : ℕ) → CanBegin w k r p into out o fresh →
     output_of r acts.Begin ≡ sends.Message into.other (begin_message into out o fresh)

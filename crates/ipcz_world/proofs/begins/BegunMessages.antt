@@ -24,13 +24,13 @@ use Rattle.ipcz_world.specs.Flows.{IsUnderWay, is_made_by, is_made_before, under
 use Rattle.ipcz_base.specs.Totals.{total_list}
 use Rattle.ipcz_world.specs.Bypasses.{Told, inner_of, of_bypass, control_weight, move_weight, moving_link}
 use Rattle.ipcz_world.specs.Inv.{Inv}
-use Rattle.ipcz_world.proofs.facts.LinkTests.{same_link-itself}
-use Rattle.ipcz_world.proofs.flows.Flowing.{total_list-found, IsLast, under_way-pushed, found, made_within, made_last}
+use Rattle.ipcz_world.proofs.flows.Flowing.{total_list-found, IsLast, under_way-pushed, found, made_within, made_last, under_way-congr}
 use Rattle.ipcz_world.proofs.begins.Beginning.{Begins}
 use Rattle.ipcz_world.proofs.begins.BegunRecords.{router-begun, node-begun, begun-here, begun-else, side-begun}
 use Rattle.ipcz_world.proofs.begins.BegunWorld.{Sends}
 use Rattle.ipcz_world.proofs.begins.BegunAround.{IsBegunFrom, still-by, side-here}
-use Rattle.ipcz_world.proofs.begins.BegunNumbers.{under_way-agrees, of_link, carries, begin_message, rec, came}
+use Rattle.ipcz_world.proofs.begins.BegunNumbers.{of_link, carries, begin_message, rec, came}
+use Rattle.ipcz_world.proofs.facts.Lengths.{same_link-itself}
 
 module _ {w v : World} {b : Books} {g : Records} {k : Key} {r y : Router} {p : Key} {into out : LinkEnd} {o fresh : ℕ} (law : Inv w b g)
     (is : Begins w g k r p into out o fresh) (c : Sends w v k y into.other (begin_message into out o fresh))
@@ -88,7 +88,7 @@ module _ {w v : World} {b : Books} {g : Records} {k : Key} {r y : Router} {p : K
       about-same j f (messages.Flush l t) a = refl
 
       under-same : (j : ℕ) (f : ℕ → ℕ → Message → ℕ) → under_way (λ from to. of_bypass after j (f from to)) w ≡ control_weight g f j
-      under-same j f = under_way-agrees _ _ w (λ from to i m u. about-same j (f from to) m
+      under-same j f = under_way-congr _ _ w (λ from to i m u. about-same j (f from to) m
           (λ l t n e. law.told.will_stop from to i l t n (subst (IsUnderWay w from to i) e u))) ∙ law.told.control j f
 
       -- what is control_weight, from what a record says

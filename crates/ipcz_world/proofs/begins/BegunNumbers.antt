@@ -22,14 +22,14 @@ use Rattle.ipcz_base.specs.Ends.{same_end, has_end, opposite_end}
 use Rattle.ipcz_base.specs.Links.{has_link, same_link}
 use Rattle.ipcz_router.specs.Router.{Router}
 use Rattle.ipcz_node.specs.Hands.{has_moved}
-use Rattle.ipcz_world.specs.World.{World, Key, same_key, node_at, router_at, flow}
+use Rattle.ipcz_world.specs.World.{World, Key, same_key, node_at, router_at}
 use Rattle.ipcz_world.proofs.frames.Frames.{same_key_tells}
 use Rattle.ipcz_world.specs.Books.{Books, is_closed}
 use Rattle.ipcz_world.specs.Records.{Records, is_linked, is_begun, is_recorded, is_nowhere, inner_link, side_router, side_length}
 use Rattle.ipcz_world.specs.Records.{across_side}
 use Rattle.ipcz_world.proofs.frames.RecordRules.{is_recorded-central}
 use Rattle.ipcz_world.specs.Remembering.{begin_records}
-use Rattle.ipcz_world.specs.Flows.{IsUnderWay, makes, under_way, of_end, moves_of}
+use Rattle.ipcz_world.specs.Flows.{IsUnderWay, makes, of_end, moves_of}
 use Rattle.ipcz_base.specs.Totals.{total_below, total_list}
 use Rattle.ipcz_world.specs.Standing.{Standing, view, view_by, router_view, is_attached, sending_queue, fed_queue, next_sent, taking_queue}
 use Rattle.ipcz_world.specs.Standing.{may_have_sent, is_gone, is_awaited}
@@ -40,37 +40,16 @@ use Rattle.ipcz_world.specs.Numbers.{Items, Order, ProxyNumbers, FreshNumbers, I
 use Rattle.ipcz_world.specs.Inv.{Inv}
 use Rattle.ipcz_world.proofs.weights.Sums.{total_below-same}
 use Rattle.ipcz_world.proofs.weights.Weights.{in_option}
-use Rattle.ipcz_world.proofs.facts.LinkTests.{same_link-itself, same_link-tells}
 use Rattle.ipcz_world.proofs.views.Views.{Stood, view_rules}
-use Rattle.ipcz_world.proofs.flows.Flowing.{CameFrom, IsLast, came_pushed, under_way-pushed}
+use Rattle.ipcz_world.proofs.flows.Flowing.{CameFrom, IsLast, came_pushed, under_way-pushed, under_way-congr}
 use Rattle.ipcz_world.proofs.begins.Beginning.{Begins}
 use Rattle.ipcz_world.proofs.begins.BegunRecords.{linked-begun, end_at, inner_router, router-begun, node-begun, end-begun, source-begun}
 use Rattle.ipcz_world.proofs.begins.BegunRecords.{view-begun, length-begun, begun-here, begun-else, side-begun}
 use Rattle.ipcz_world.proofs.begins.BegunWorld.{Sends}
 use Rattle.ipcz_world.proofs.begins.BegunAround.{IsBegunFrom, before, rec-begun}
 use Rattle.ipcz_world.proofs.begins.BegunStages.{passes-begun}
-
--- totals of functions that agree
-pub total_list-same : {X : Type 0} (f h : X → ℕ) (xs : List X) → ((x : X) → f x ≡ h x) → total_list f xs ≡ total_list h xs
-total_list-same f h [] e = refl
-total_list-same f h (x ∷ xs) e = omega (arith, e x, total_list-same f h xs e)
-
-total_list-agrees : {X : Type 0} (f h : X → ℕ) (xs : List X) → ((i : ℕ) (x : X) → slice_get xs i ≡ Some x → f x ≡ h x) →
-    total_list f xs ≡ total_list h xs
-total_list-agrees f h [] e = refl
-total_list-agrees f h (x ∷ xs) e = omega (arith, e 0 x refl, total_list-agrees f h xs (λ i y. e (suc i) y))
-
-total_below-agrees : (n : ℕ) (f h : ℕ → ℕ) → ((i : ℕ) → i < n → f i ≡ h i) → total_below n f ≡ total_below n h
-total_below-agrees zero f h e = refl
-total_below-agrees (suc n) f h e = omega (arith, e n (omega arith), total_below-agrees n f h (λ i l. e i (omega arith)))
-
--- what is under way weighs the same by functions that agree on it
-pub under_way-agrees : (f h : ℕ → ℕ → Message → ℕ) (w : World) → ((from to i : ℕ) (m : Message) → IsUnderWay w from to i m →
-    f from to m ≡ h from to m) → under_way f w ≡ under_way h w
-unfolding under_way
-under_way-agrees f h w e = total_below-agrees w.count _ _ (λ from a. total_below-agrees w.count _ _
-    (λ to b. total_list-agrees (f from to) (h from to) (flow w from to)
-    (λ i m p. e from to i m (record { sender = a; receiver = b; place = p }))))
+use Rattle.ipcz_world.proofs.facts.Lengths.{same_link-itself, same_link-tells}
+use Rattle.ipcz_world.proofs.weights.Totalling.{total_list-same}
 
 message-sources : (f : Weight) (g h : Records) → ((l : LinkId) (s : Side) → source h l s ≡ source g l s) → (m : Message) →
     in_message f h m ≡ in_message f g m
@@ -90,7 +69,7 @@ places-sources f g h v same = omega (
   arith,
   total_below-same v.count (λ n. in_node f h (node_at v n)) (λ n. in_node f g (node_at v n))
       (λ n. omega (arith, total_list-same (in_message f h) (in_message f g) (node_at v n).strays message)),
-  under_way-agrees (λ from to m. in_message f h m) (λ from to m. in_message f g m) v (λ from to i m u. message m),
+  under_way-congr (λ from to m. in_message f h m) (λ from to m. in_message f g m) v (λ from to i m u. message m),
 )
   where
     message : (m : Message) → in_message f h m ≡ in_message f g m

@@ -15,8 +15,7 @@ use Rattle.ipcz_base.specs.Ends.{opposite_end, has_end, end_at}
 use Rattle.ipcz_base.specs.Limits.{last_number, is_printable, has_serials}
 use Rattle.ipcz_seq.specs.Queue.{current_item}
 use Rattle.ipcz_router.specs.Router.{is_terminal}
-use Rattle.ipcz_router.specs.Calls.{next_number, item_refusal, router_get_refusal}
-use Rattle.ipcz_router.specs.Calls.{router_put_refusal}
+use Rattle.ipcz_router.specs.Calls.{next_number, item_refusal, router_get_refusal, router_put_refusal}
 use Rattle.ipcz_node.specs.Node.{Found, holds_end, terminal_of}
 use Rattle.ipcz_node.specs.Calls.{are_held_once, are_too_many, refusal_at, number_at, put_refusal, put_number, get_refusal, close_refusal}
 use Rattle.ipcz_node.specs.Calls.{serials_refusal}
@@ -35,7 +34,7 @@ use Rattle.ipcz_world.proofs.facts.Finding.{IsTerminalOf, terminal_tells}
 use Rattle.ipcz_world.proofs.calls.Puts.{router_found}
 use Rattle.ipcz_world.proofs.calls.Gets.{get_tells}
 use Rattle.ipcz_world.proofs.calls.Reading.{in_numbers}
-use Rattle.ipcz_world.proofs.lawful.WordLaws.{is_none_claimed}
+use Rattle.ipcz_world.proofs.frames.RecordRules.{unclaimed-is}
 
 module _ (w : World) (b : Books) (g : Records) (law : Inv w b g) where
   -- an effect that the machine over books allows
@@ -96,7 +95,7 @@ module _ (w : World) (b : Books) (g : Records) (law : Inv w b g) where
   open-plain n = chosen_fine (Open n) (nat_lt n w.count) _ _ (go (node_at w n).opening refl) (open_refused n refusals.Stranger tt)
     where
       fresh : is_linked (g.owner w.claimed) ≡ false
-      fresh = ap is_linked (is_none_claimed (g.owner w.claimed) (law.counts.unclaimed w.claimed ∙ grind (arith, nat_tests)))
+      fresh = ap is_linked (unclaimed-is (g.owner w.claimed) (law.counts.unclaimed w.claimed ∙ grind (arith, nat_tests)))
 
       go : (o : Option ℕ) → (node_at w n).opening ≡ o → IsFine (Open n) (open_on w n o)
       go (Some i) e = opened_with w n i (ap is_linked (law.spares.opening n i e))

@@ -1,7 +1,7 @@
 -- A caller's get and a sink's discard keep the invariant with the books after them.
 use Rattle.ipcz_world.proofs.weights.OfRecords.{holds, held_times, holds_times}
-use Rattle.std.specs.Prelude.{◌≡◌, ◌⊎◌, ◌≤◌, ◌<◌, ◌+◌, ℕ, zero, suc, Bool, true, false, cond, not, Option, Some, None, is_some, List}
-use Rattle.std.specs.Prelude.{[], ◌∷◌, ◌++◌, length, take, map, slice_get, refl}
+use Rattle.std.specs.Prelude.{◌≡◌, ◌⊎◌, ◌≤◌, ◌<◌, ◌+◌, ℕ, zero, suc, Bool, true, false, cond, not, Option, Some, None, is_some, List, []}
+use Rattle.std.specs.Prelude.{◌∷◌, ◌++◌, length, take, map, slice_get, refl}
 use Rattle.std.proofs.Common.{arith, ap, subst, ◌∙◌, sym, inl, inr}
 use Rattle.ipcz_base.specs.declared.end.End.{End}
 use Rattle.ipcz_base.specs.declared.parcel.Parcel as parcels
@@ -14,8 +14,7 @@ use Rattle.ipcz_router.specs.Calls.{take_item, item_refusal, router_get_refusal}
 use Rattle.ipcz_router.specs.ActTable.{is_possible}
 use Rattle.ipcz_router.specs.ActEffects.{apply, output_of, discard_output}
 use Rattle.ipcz_router.specs.declared.act.RouterAct.TheVariants.{Discard}
-use Rattle.ipcz_node.specs.Node.{Node, Found, terminal_of, with_router, on_found, on_router, router_in}
-use Rattle.ipcz_node.specs.Node.{holds_end, with_ends}
+use Rattle.ipcz_node.specs.Node.{Node, Found, terminal_of, with_router, on_found, on_router, router_in, holds_end, with_ends}
 use Rattle.ipcz_base.specs.Items.{ends_in}
 use Rattle.ipcz_node.specs.Calls.{ends_found, get_refusal, get_at_router, get_node}
 use Rattle.ipcz_node.specs.Acts.{commit, commit_router, keep_or_drop}
@@ -29,13 +28,14 @@ use Rattle.ipcz_world.specs.Records.{Records}
 use Rattle.ipcz_world.specs.Places.{Weight, in_router, names_end, times}
 use Rattle.ipcz_world.specs.Inv.{Inv}
 use Rattle.ipcz_world.proofs.weights.Weighing.{in_router-is, in_popped}
-use Rattle.ipcz_world.proofs.weights.Booking.{in_router-within, length-more, more_same, more_here, and_first, and_second}
+use Rattle.ipcz_world.proofs.weights.Booking.{in_router-within, length-more, more_same, more_here}
 use Rattle.ipcz_world.proofs.facts.Finding.{IsTerminalOf, terminal_tells}
 use Rattle.ipcz_world.proofs.weights.Holding.{times-append, times-with_ends, holds-with_ends, has-append, times_held-at}
 use Rattle.ipcz_world.proofs.frames.Calling.{IsCall, call-touched, call-hands, call-flows, call-places, call-held_more, call-pending_more}
 use Rattle.ipcz_world.proofs.frames.Calling.{call-times, held_unclosed, placed_most}
 use Rattle.ipcz_world.proofs.calls.Reading.{IsRead, inv-read_by}
 use Rattle.ipcz_world.proofs.calls.Puts.{router_found, passes_by, found_by, not_false}
+use Rattle.ipcz_world.proofs.facts.Tests.{and_first, and_second}
 
 take-next : {X : Type 0} (k : ℕ) (xs : List X) (x : X) → slice_get xs k ≡ Some x → take (suc k) xs ≡ take k xs ++ x ∷ []
 take-next k [] x h = cc

@@ -1,12 +1,9 @@
 -- A node after an open: two terminals more, held by its callers.
-use Rattle.ipcz_world.proofs.weights.OfRecords.{holds, held_times}
-use Rattle.ipcz_world.specs.Places.{in_message as in_message', in_node as in_node'}
+use Rattle.ipcz_world.proofs.weights.OfRecords.{holds, held_times, source, in_message, in_node, in_places}
+use Rattle.ipcz_world.specs.Places.{in_node as in_node', Weight, in_router, times}
 use Rattle.ipcz_world.specs.Routes.{source as source'}
-use Rattle.std.specs.Prelude.{◌≡◌, ◌≢◌, ◌⊎◌, ◌<◌, ◌+◌, ℕ, Bool, true, false, cond, nat_eq}
-use Rattle.std.specs.Prelude.{Some, None, refl, List, []}
+use Rattle.std.specs.Prelude.{◌≡◌, ◌≢◌, ◌⊎◌, ◌<◌, ◌+◌, ℕ, Bool, true, false, cond, nat_eq, Some, None, refl, []}
 use Rattle.std.specs.Ordering.{nat_cmp}
-use Rattle.std.specs.Cmp.{nat_cmp_total}
-use Rattle.std.specs.FinMap.{FinMap, get, insert, get-insert}
 use Rattle.std.proofs.Common.{arith, ap, subst, ◌∙◌, sym, inl, inr}
 use Rattle.std.proofs.lemmas.Bool.Decides.{nat_tests}
 use Rattle.ipcz_base.specs.declared.side.Side.{Side}
@@ -14,52 +11,27 @@ use Rattle.ipcz_base.specs.declared.side.Side.TheVariants.{A, B}
 use Rattle.ipcz_base.specs.declared.end.End.{End}
 use Rattle.ipcz_base.specs.declared.link_id.LinkId.{LinkId}
 use Rattle.ipcz_base.specs.declared.link_id.LinkId.TheVariants.{Central, Peripheral}
-use Rattle.ipcz_base.specs.declared.descriptor.Descriptor.{Descriptor}
-use Rattle.ipcz_base.specs.declared.item.Item.{Item}
-use Rattle.ipcz_base.specs.declared.message.Message.{Message}
-use Rattle.ipcz_base.specs.declared.message.Message.TheVariants as messages
 use Rattle.ipcz_base.specs.Sides.{opposite}
 use Rattle.ipcz_base.specs.Ends.{opposite_end}
-use Rattle.ipcz_base.specs.Totals.{total}
+use Rattle.ipcz_base.specs.Totals.{total, total_below, total_list}
 use Rattle.ipcz_base.proofs.Totals.{total-empty}
-use Rattle.ipcz_router.specs.Router.{Router}
 use Rattle.ipcz_node.specs.Node.{Node, new_end}
 use Rattle.ipcz_world.specs.World.{World, Key, node_at, word_at, router_at, flow}
 use Rattle.ipcz_world.proofs.frames.Frames.{frames}
 use Rattle.ipcz_world.specs.Steps.{claim_for_open}
 use Rattle.ipcz_world.specs.Books.{Books}
-use Rattle.ipcz_world.specs.Records.{Records, Owner, Unclaimed, Spare, Opening, Fresh, Linked, CentralRecord, Terminal, At}
-use Rattle.ipcz_world.specs.Records.{is_linked, is_unclaimed, is_recorded, terminal_node, is_nowhere}
-use Rattle.ipcz_world.proofs.weights.OfRecords.{source}
+use Rattle.ipcz_world.specs.Records.{Records, Owner, Unclaimed, Opening, CentralRecord, Terminal, is_linked, is_unclaimed, is_recorded}
+use Rattle.ipcz_world.specs.Records.{is_nowhere}
 use Rattle.ipcz_world.specs.Remembering.{opening_records}
 use Rattle.ipcz_world.specs.Flows.{IsUnderWay}
-use Rattle.ipcz_world.specs.Places.{Weight, in_router, times}
-use Rattle.ipcz_world.proofs.weights.OfRecords.{in_message, in_node, in_places}
-use Rattle.ipcz_base.specs.Totals.{total_below, total_list}
 use Rattle.ipcz_world.specs.Whereabouts.{times_held}
 use Rattle.ipcz_world.specs.Inv.{Inv}
 use Rattle.ipcz_world.proofs.frames.Changing.{flow_is, same_routers}
-use Rattle.ipcz_world.proofs.flows.Flowing.{total_below-same, under_way-congr}
-use Rattle.ipcz_world.proofs.weights.Weighing.{in_places-is, in_router-is, under_way-same}
+use Rattle.ipcz_world.proofs.flows.Flowing.{under_way-congr}
+use Rattle.ipcz_world.proofs.weights.Weighing.{in_places-is, in_router-is, under_way-same, in_message-same}
 use Rattle.ipcz_world.proofs.frames.FirstLink.{inv-grown}
-
-unclaimed_is : (x : Owner) → is_unclaimed x ≡ true → x ≡ Unclaimed
-unfolding is_unclaimed
-unclaimed_is Unclaimed e = refl
-unclaimed_is (Spare k) e = cc
-unclaimed_is (Opening n) e = cc
-unclaimed_is (Fresh o) e = cc
-unclaimed_is Linked e = cc
-
-pub in_message_by : (f : Weight) (g h : Records) (m : Message) → ((x : LinkId) (c : Side) (j : ℕ) (z : Item) (ds : List Descriptor) →
-    m ≡ messages.Item x c j z ds → source h x c ≡ source g x c) → in_message f h m ≡ in_message f g m
-unfolding in_message'
-in_message_by f g h (messages.Item l s n x ms) e = ap (λ d. f d n x) (e l s n x ms refl)
-in_message_by f g h (messages.BypassPeer l s old t c) e = refl
-in_message_by f g h (messages.AcceptBypass old s c len) e = refl
-in_message_by f g h (messages.StopProxying old s a b) e = refl
-in_message_by f g h (messages.ProxyWillStop l s a) e = refl
-in_message_by f g h (messages.Flush l s) e = refl
+use Rattle.ipcz_world.proofs.frames.RecordRules.{unclaimed-is}
+use Rattle.ipcz_world.proofs.weights.Totalling.{total_below-same}
 
 pub times_by : (w v : World) (e : End) → v.count ≡ w.count → ((m : ℕ) → m < w.count →
     held_times e (node_at v m).held + times e (node_at v m).pending ≡ held_times e (node_at w m).held + times e (node_at w m).pending) →
@@ -95,7 +67,7 @@ places_by f w v b g h law count flows sources strays routers = omega (
       (λ n l. in_node_is f h (node_at v n) (strays n ∙ law.no_strays n) ∙ routers n ∙ sym (in_node_is f g (node_at w n) (law.no_strays n))),
   under_way-same (λ from to m. in_message f h m) w v count flows,
   under_way-congr (λ from to m. in_message f h m) (λ from to m. in_message f g m) w
-      (λ from to i m u. in_message_by f g h m (λ x c j z ds e. sources x c
+      (λ from to i m u. in_message-same f g h m (λ x c j z ds e. sources x c
       (law.items.recorded from to i x c j z ds (subst (λ m. IsUnderWay w from to i m) e u)))),
 )
 
@@ -173,7 +145,7 @@ inv-claim_for_open w b g n law room none = inv-grown w v b g owner' g.central g.
     flows from to = flow_is v from to ∙ grind (arith, frames, nodes from, nat_tests) ∙ sym (flow_is w from to)
 
     mine : g.owner i ≡ Unclaimed
-    mine = unclaimed_is (g.owner i) (law.counts.unclaimed i ∙ grind (arith, nat_tests))
+    mine = unclaimed-is (g.owner i) (law.counts.unclaimed i ∙ grind (arith, nat_tests))
 
     now : owner' i ≡ Opening n
     now = grind (arith, nat_tests)
@@ -198,9 +170,6 @@ inv-claim_for_open w b g n law room none = inv-grown w v b g owner' g.central g.
     opening_back m j e (inl s) = grind (arith, nodes m, e, s, nat_tests)
     opening_back m j e (inr ne) = grind (arith, nodes m, e, ne, law.spares.opening_back m j, none, nat_tests)
 
-pub get_inserted : (m : FinMap nat_cmp Router) (k : ℕ) (r : Router) (q : ℕ) → get (insert m k r) q ≡ cond (nat_eq q k) (Some r) (get m q)
-get_inserted m k r q = grind (arith, get-insert nat_cmp_total m k r q, nat_tests)
-
 -- the first terminals with nothing in their queues weigh nothing
 pub fresh_weight : (f : Weight) (i : ℕ) (t : Side) (other : ℕ) → in_router f (new_end i t other) ≡ 0
 fresh_weight f i t other = omega (
@@ -223,11 +192,3 @@ pub recorded_apart : (w : World) (g : Records) (i : ℕ) (l : LinkId) → is_lin
 unfolding is_recorded
 recorded_apart w g i (Central j) free r e = let f : j ≡ i = grind (arith, e) in grind (arith, free, r, f)
 recorded_apart w g i (Peripheral m y) free r e = grind (arith, e)
-
-pub at_node : (k : Key) → terminal_node (At k) ≡ Some k.node
-unfolding terminal_node
-at_node k = refl
-
-pub somewhere : (k : Key) → is_nowhere (At k) ≡ false
-unfolding is_nowhere
-somewhere k = refl

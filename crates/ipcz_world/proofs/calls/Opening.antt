@@ -1,5 +1,5 @@
 -- An open, in one or in two halves, keeps the invariant.
-use Rattle.std.specs.Prelude.{◌≡◌, ◌<◌, ◌+◌, ℕ, zero, suc, Bool, true, false, cond, nat_lt, Option, Some, None, refl, List, [], ◌∷◌}
+use Rattle.std.specs.Prelude.{◌≡◌, ◌<◌, ◌+◌, ℕ, Bool, true, false, cond, nat_lt, Option, Some, None, refl}
 use Rattle.std.proofs.Common.{arith, ap, subst, sym}
 use Rattle.std.proofs.lemmas.Bool.Decides.{nat_tests}
 use Rattle.ipcz_base.specs.declared.side.Side.TheVariants.{A, B}
@@ -18,14 +18,8 @@ use Rattle.ipcz_world.specs.Records.{Records}
 use Rattle.ipcz_world.specs.Remembering.{opening_records, open_records}
 use Rattle.ipcz_world.specs.Inv.{Inv}
 use Rattle.ipcz_world.proofs.calls.OpenedNodes.{inv-claim_for_open}
-use Rattle.ipcz_world.proofs.calls.OpeningPair.{x, v, room, inv-opened}
-
-pub put_twice : {X : Type 0} (d : X) (xs : List X) (i : ℕ) (y z : X) → put_place d (put_place d xs i y) i z ≡ put_place d xs i z
-unfolding put_place
-put_twice d [] zero y z = refl
-put_twice d [] (suc i) y z = ap (λ t. d ∷ t) (put_twice d [] i y z)
-put_twice d (x ∷ xs) zero y z = refl
-put_twice d (x ∷ xs) (suc i) y z = ap (λ t. x ∷ t) (put_twice d xs i y z)
+use Rattle.ipcz_world.proofs.calls.OpeningPair.{v, room, inv-opened}
+use Rattle.ipcz_world.proofs.acts.Updating.{put-twice}
 
 claimed_node : (w : World) (n : ℕ) → node_at (claim_for_open w n) n ≡ record (node_at w n) { opening = Some w.claimed }
 claimed_node w n = grind (arith, frames, nat_tests)
@@ -43,7 +37,7 @@ halves w n i = ap (λ ns. record {
   count = w.count;
   mail = w.mail;
 })
-    (put_twice (bare_node 0 0) w.nodes n (record (node_at w n) { opening = Some w.claimed }) (open_node (node_at w n) i))
+    (put-twice (bare_node 0 0) w.nodes n (record (node_at w n) { opening = Some w.claimed }) (open_node (node_at w n) i))
 
 -- a whole open, on the next word
 pub inv-open : (w : World) (b : Books) (g : Records) (n : ℕ) → Inv w b g → n < w.count → w.claimed < w.size → (node_at w n).opening ≡ None →

@@ -32,17 +32,17 @@ use Rattle.ipcz_world.specs.Inv.{Inv}
 use Rattle.ipcz_world.proofs.frames.Changing.{IsNodeChanged, flow_is, same_routers}
 use Rattle.ipcz_world.proofs.weights.Holding.{pair_ends, times_held-at, times_held-changed, times-with_ends, holds-with_ends}
 use Rattle.ipcz_world.proofs.weights.Holding.{held_times-most, same_end-turned}
-use Rattle.ipcz_world.proofs.weights.Booking.{end_tells, same_end-is, flag}
+use Rattle.ipcz_world.proofs.weights.Booking.{end_tells, flag}
 use Rattle.ipcz_world.proofs.frames.Calling.{nowhere_unheld, missing}
-use Rattle.ipcz_world.proofs.weights.Weighing.{same_end-itself}
-use Rattle.ipcz_world.proofs.frames.FreshPairs.{IsGrown, IsNew, IsPair, fresh_at}
+use Rattle.ipcz_world.proofs.frames.FreshPairs.{IsGrown, IsNew, IsPair, fresh_at, terminal_node-at, is_nowhere-at}
 use Rattle.ipcz_world.proofs.frames.FirstLink.{inv-grown}
-use Rattle.ipcz_world.proofs.calls.OpenedNodes.{times_by, same_number, places_by, get_inserted, fresh_weight, source_apart, recorded_apart}
-use Rattle.ipcz_world.proofs.calls.OpenedNodes.{at_node, somewhere}
+use Rattle.ipcz_world.proofs.calls.OpenedNodes.{times_by, same_number, places_by, fresh_weight, source_apart, recorded_apart}
+use Rattle.ipcz_world.proofs.facts.LinkTests.{same_end-tells, same_end-itself}
+use Rattle.ipcz_world.proofs.facts.Finding.{get_inserted}
 
 -- an open on a word that was claimed for it
-module _ (w : World) (b : Books) (g : Records) (n i : ℕ) (law : Inv w b g) (l : n < w.count) (claimed : (node_at w n).opening ≡ Some i)
-  where
+module _ (w : World) (b : Books) (g : Records) (n i : ℕ) (law : Inv w b g) (l : n < w.count)
+    (claimed : (node_at w n).opening ≡ Some i) where
   abbrev s : ℕ
   s = (node_at w n).next_router
 
@@ -237,10 +237,10 @@ module _ (w : World) (b : Books) (g : Records) (n i : ℕ) (law : Inv w b g) (l 
   ]
 
   nowhere_a : is_nowhere (terminal' a_end) ≡ false
-  nowhere_a = ap is_nowhere terminal_a ∙ somewhere (at A)
+  nowhere_a = ap is_nowhere terminal_a ∙ is_nowhere-at (at A)
 
   nowhere_b : is_nowhere (terminal' b_end) ≡ false
-  nowhere_b = ap is_nowhere terminal_b ∙ somewhere (at B)
+  nowhere_b = ap is_nowhere terminal_b ∙ is_nowhere-at (at B)
 
   pairs : (e : End) → is_nowhere (terminal' (opposite_end e)) ≡ is_nowhere (terminal' e)
   pairs e = elim (which e) [
@@ -275,16 +275,16 @@ module _ (w : World) (b : Books) (g : Records) (n i : ℕ) (law : Inv w b g) (l 
       one h = go (same_end a_end e) (same_end b_end e) refl refl h
         where
           go : (c d : Bool) → same_end a_end e ≡ c → same_end b_end e ≡ d → (c || (d || false)) ≡ true → (e ≡ a_end) ⊎ (e ≡ b_end)
-          go true d p q h = inl (sym (same_end-is a_end e p))
-          go false true p q h = inr (sym (same_end-is b_end e q))
+          go true d p q h = inl (sym (same_end-tells a_end e p))
+          go false true p q h = inr (sym (same_end-tells b_end e q))
           go false false p q h = cc
 
       here : holds e x.held ≡ true → (holds e (node_at w n).held ≡ true) ⊎ (terminal_node (terminal' e) ≡ Some n)
       here h = elim (holds-with_ends e (a_end ∷ b_end ∷ []) (node_at w n).held h) [
         | inl c ↦ inl c
         | inr a ↦ elim (one a) [
-          | inl c ↦ inr (ap terminal_node (ap terminal' c ∙ terminal_a) ∙ at_node (at A))
-          | inr c ↦ inr (ap terminal_node (ap terminal' c ∙ terminal_b) ∙ at_node (at B))
+          | inl c ↦ inr (ap terminal_node (ap terminal' c ∙ terminal_a) ∙ terminal_node-at (at A))
+          | inr c ↦ inr (ap terminal_node (ap terminal' c ∙ terminal_b) ∙ terminal_node-at (at B))
         ]
       ]
 

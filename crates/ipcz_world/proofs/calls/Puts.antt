@@ -13,32 +13,30 @@ use Rattle.ipcz_base.specs.declared.refusal.Refusal.{Refusal}
 use Rattle.ipcz_base.specs.Ends.{opposite_end, same_end, has_end}
 use Rattle.ipcz_base.specs.Limits.{last_number, most_bytes, most_ends, is_printable}
 use Rattle.ipcz_router.specs.Router.{Router, is_terminal}
-use Rattle.ipcz_router.specs.Calls.{next_number, put_item}
-use Rattle.ipcz_router.specs.Calls.{router_put_refusal}
+use Rattle.ipcz_router.specs.Calls.{next_number, put_item, router_put_refusal}
 use Rattle.ipcz_router.specs.Closing.{close_router}
-use Rattle.ipcz_node.specs.Node.{Node, Found, is_terminal_of, terminal_of, on_found}
+use Rattle.ipcz_node.specs.Node.{Node, Found, is_terminal_of, terminal_of, on_found, holds_end, without_ends}
 use Rattle.ipcz_node.specs.Acts.{rest_of, commit}
 use Rattle.ipcz_node.specs.declared.act.Act.TheVariants.{Close}
-use Rattle.ipcz_node.specs.Node.{holds_end, without_ends}
 use Rattle.ipcz_node.specs.Calls.{are_held_once, refusal_at, put_refusal, put_at_router, put_node, close_refusal, close_at_router}
 use Rattle.ipcz_node.specs.Calls.{close_end, close_node}
 use Rattle.ipcz_world.specs.World.{World, Key, node_at, router_at, set_node}
 use Rattle.ipcz_world.specs.Turns.{after_act, can_take, is_first_pending}
 use Rattle.ipcz_world.specs.Books.{Books, is_closed, add_put}
-use Rattle.ipcz_world.specs.Records.{Records, Terminal, Nowhere, At, Moving, Retired, terminal_node}
-use Rattle.ipcz_world.specs.Standing.{key_passes}
-use Rattle.ipcz_world.proofs.frames.StandingRules.{standing_rules}
+use Rattle.ipcz_world.specs.Records.{Records, At, terminal_node}
 use Rattle.ipcz_world.specs.Places.{Weight, in_router, times}
 use Rattle.ipcz_world.specs.Inv.{Inv}
-use Rattle.ipcz_world.proofs.weights.Weighing.{in_router-is, in_pushed, same_end-itself}
+use Rattle.ipcz_world.proofs.weights.Weighing.{in_router-is, in_pushed}
 use Rattle.ipcz_world.proofs.facts.Reaching.{is_reach}
-use Rattle.ipcz_world.proofs.weights.Booking.{flag, same_end-is, end_tells}
+use Rattle.ipcz_world.proofs.weights.Booking.{flag, end_tells}
 use Rattle.ipcz_world.proofs.facts.Finding.{IsTerminalOf, terminal_tells, found_there}
 use Rattle.ipcz_world.proofs.weights.Holding.{times-has, has-times, times-holds, times-without_ends, are_held-times, holds-without_ends}
 use Rattle.ipcz_world.proofs.weights.Holding.{pair_ends, times_held-at, same_end-turned}
 use Rattle.ipcz_world.proofs.frames.Calling.{IsCall, call-touched, call-hands, call-flows, call-places, call-held, call-pending, call-times}
 use Rattle.ipcz_world.proofs.frames.Calling.{held_most, held_unclosed}
 use Rattle.ipcz_world.proofs.calls.Putting.{IsPut, inv-put_by}
+use Rattle.ipcz_world.proofs.sends.Moved.{terminal_at, passes_tells}
+use Rattle.ipcz_world.proofs.facts.LinkTests.{same_end-itself, same_end-tells}
 
 -- the router of a key that is found in the node
 pub router_found : (w : World) (n serial : ℕ) (r : Router) → get (node_at w n).routers serial ≡ Some r →
@@ -309,34 +307,18 @@ inv-close w b g n at law h = close_found w b g n at x t.0 law is t.1 refl left (
 pending_tells : (es : List End) (e : End) → is_first_pending es e ≡ true → (rest : List End) × (es ≡ e ∷ rest)
 unfolding is_first_pending
 pending_tells [] e h = cc
-pending_tells (d ∷ es) e h = (es, ap (λ z. z ∷ es) (same_end-is d e h))
-
-known_node : (t : Terminal) (n : ℕ) → terminal_node t ≡ Some n → (k : Key) × (t ≡ At k) × (k.node ≡ n)
-unfolding terminal_node
-known_node Nowhere n h = cc
-known_node (At k) n h = (k, refl, grind (arith, h))
-known_node (Moving d) n h = cc
-known_node Retired n h = cc
-
--- who passes a test stands there
-pub passed : (w : World) (k : Key) (test : Router → Bool) → key_passes w (Some k) test ≡ true →
-    (r : Router) × (router_at w k ≡ Some r) × (test r ≡ true)
-passed w k test h = go (router_at w k) refl
-  where
-    go : (o : Option Router) → router_at w k ≡ o → (r : Router) × (router_at w k ≡ Some r) × (test r ≡ true)
-    go None e = absurd (grind (arith, standing_rules, h, e))
-    go (Some r) e = (r, e, grind (arith, standing_rules, h, e))
+pending_tells (d ∷ es) e h = (es, ap (λ z. z ∷ es) (same_end-tells d e h))
 
 -- an open end whose terminal is at a node has it found there
 pub terminal_there : (w : World) (b : Books) (g : Records) (n : ℕ) (e : End) → Inv w b g → terminal_node (g.terminal e) ≡ Some n →
     is_closed b e ≡ false → (f : Found) × (terminal_of (node_at w n) e ≡ Some f)
 unfolding router_at
 terminal_there w b g n e law h unclosed =
-    let k = known_node (g.terminal e) n h in
-    let p = passed w k.0 (λ r. is_terminal r && same_end r.end e) (law.terminals.stands e k.0 k.1) in
+    let k = terminal_at (g.terminal e) n h in
+    let p = passes_tells w k.0 (λ r. is_terminal r && same_end r.end e) (law.terminals.stands e k.0 k.1) in
     let t : is_terminal p.0 ≡ true = both_first _ _ p.2 in
     let s : same_end p.0.end e ≡ true = both_second _ _ p.2 in
-    let c : p.0.closed ≡ false = law.conserved.sink k.0 p.0 p.1 t ∙ ap (is_closed b) (same_end-is p.0.end e s) ∙ unclosed in
+    let c : p.0.closed ≡ false = law.conserved.sink k.0 p.0 p.1 t ∙ ap (is_closed b) (same_end-tells p.0.end e s) ∙ unclosed in
     found_there (node_at w n) (is_terminal_of e) k.0.serial p.0 (subst (λ m. get (node_at w m).routers k.0.serial ≡ Some p.0) k.2 p.1)
     (rw (t, c, s) refl)
   where
@@ -382,10 +364,10 @@ inv-pending w b g n e law h = close_found w b g n e x f.0 law is f.1 refl left (
     has = ap (has_end e) first.1 ∙ ap (λ c. c || has_end e first.0) (same_end-itself e)
 
     known : (k : Key) × (g.terminal e ≡ At k) × (k.node ≡ n)
-    known = known_node (g.terminal e) n (law.end_places.pending n e has)
+    known = terminal_at (g.terminal e) n (law.end_places.pending n e has)
 
     below : n < w.count
-    below = let p = passed w known.0 (λ r. is_terminal r && same_end r.end e) (law.terminals.stands e known.0 known.1) in
+    below = let p = passes_tells w known.0 (λ r. is_terminal r && same_end r.end e) (law.terminals.stands e known.0 known.1) in
         subst (λ m. m < w.count) known.2 (law.counts.on_node known.0 p.0 p.1)
 
     unclosed : is_closed b e ≡ false

@@ -1,5 +1,5 @@
 -- A terminal puts an item, a parcel or its mark: all that holds is kept, with the books after it.
-use Rattle.ipcz_world.proofs.weights.OfRecords.{holds}
+use Rattle.ipcz_world.proofs.weights.OfRecords.{holds, in_places}
 use Rattle.std.specs.Prelude.{◌≡◌, ◌≢◌, ◌⊎◌, ◌≤◌, ◌<◌, ◌+◌, ℕ, suc, Bool, true, false, cond, ◌&&◌, ◌||◌, Option, Some, None, refl, List, []}
 use Rattle.std.specs.Prelude.{◌∷◌, ◌++◌, length, take, drop, map, slice_get}
 use Rattle.std.specs.Cmp.{nat_cmp_total}
@@ -21,19 +21,16 @@ use Rattle.ipcz_base.specs.Links.{has_link}
 use Rattle.ipcz_edge.specs.Edge.{Edge, edge_has, no_edge}
 use Rattle.ipcz_seq.specs.Queue.{Queue, item_at, push_at, reach}
 use Rattle.ipcz_router.specs.Router.{Router, is_terminal}
-use Rattle.ipcz_base.specs.Items.{is_mark}
+use Rattle.ipcz_base.specs.Items.{is_mark, ends_in}
 use Rattle.ipcz_router.specs.Calls.{next_number}
-use Rattle.ipcz_base.specs.Items.{ends_in}
 use Rattle.ipcz_world.specs.World.{World, Key, same_key, node_at, router_at, flow}
 use Rattle.ipcz_world.proofs.frames.Frames.{same_key_tells, same_key-itself}
 use Rattle.ipcz_world.specs.Books.{Books, read, is_closed, has_mark, add_put}
 use Rattle.ipcz_world.specs.Records.{Records, At, terminal_node, is_nowhere}
 use Rattle.ipcz_world.specs.Standing.{view, taking_queue, is_attached}
-use Rattle.ipcz_world.specs.Places.{Weight, at_end, names_end, times, from_number}
-use Rattle.ipcz_world.proofs.weights.OfRecords.{in_places}
+use Rattle.ipcz_world.specs.Places.{Weight, at_end, names_end, times, from_number, unread_weight}
 use Rattle.ipcz_world.specs.Structure.{Ordered, is_outward, is_begun_router}
 use Rattle.ipcz_world.specs.Whereabouts.{EndPlaces, BooksKept, Conserved, HeldOnce, times_held, times_closed}
-use Rattle.ipcz_world.specs.Places.{unread_weight}
 use Rattle.ipcz_world.specs.Numbers.{Items, Order, ProxyNumbers, FreshNumbers}
 use Rattle.ipcz_world.specs.Inv.{Inv}
 use Rattle.ipcz_world.proofs.frames.Touching.{IsTouched, IsAlike, HasSameHands, hands-same, recorded_same, counts-touched, shape-touched}
@@ -45,9 +42,9 @@ use Rattle.ipcz_world.proofs.flows.Fitting.{fits_of, items_by}
 use Rattle.ipcz_world.proofs.flows.SameMessages.{SameMessages, under-same, made-same, told-same, moves-same}
 use Rattle.ipcz_world.proofs.frames.Filling.{IsFilled, IsFilling, filled_same, filled_push, filled_before, fits-filled, standing_filled}
 use Rattle.ipcz_world.proofs.frames.Filling.{sent_kept, taken_filled, taken_current}
-use Rattle.ipcz_world.proofs.weights.Booking.{length-more, slice_get-more, drop-more, take-more, length-drop, from_number-more}
-use Rattle.ipcz_world.proofs.weights.Booking.{has_mark-more, mark_found, end_tells, reach-push, out_numbers, not_moving, more_same}
-use Rattle.ipcz_world.proofs.weights.Booking.{more_here, more_by, flag}
+use Rattle.ipcz_world.proofs.weights.Booking.{length-more, drop-more, take-more, length-drop, from_number-more, has_mark-more, mark_found}
+use Rattle.ipcz_world.proofs.weights.Booking.{end_tells, reach-push, out_numbers, not_moving, more_same, more_here, more_by, flag}
+use Rattle.ipcz_world.proofs.flows.Flowing.{slice_get-last}
 
 -- a terminal that is open puts an item at its next number, and the item's ends are no longer held or pending
 pub record IsPut (w v : World) (b : Books) (g : Records) (k : Key) (r y : Router) (item : Item) : Type 0 where
@@ -264,7 +261,7 @@ module _ (w v : World) (b : Books) (g : Records) (k : Key) (r y : Router) (item 
     books_kept-put : BooksKept v after g
     books_kept-put = record {
       own_pair = λ e d n z h has. elim (end_tells e r.end) [
-        | inl f ↦ elim (slice_get-more (b.put r.end) item z n
+        | inl f ↦ elim (slice_get-last (b.put r.end) item z n
             (ap (λ xs. slice_get xs n) (sym (ap (λ z. after.put z) f.1 ∙ put_here)) ∙ h)) [
               | inl o ↦ λ p. law.books_kept.own_pair r.end d n z o has (p ∙ ap (λ z. z.pair) f.1)
               | inr o ↦ λ p. is.pairs d (ap (λ f. has_end d (ends_in f)) (sym o.1) ∙ has) (p ∙ ap (λ z. z.pair) f.1)
@@ -272,7 +269,7 @@ module _ (w v : World) (b : Books) (g : Records) (k : Key) (r y : Router) (item 
         | inr f ↦ law.books_kept.own_pair e d n z (ap (λ xs. slice_get xs n) (sym (put_same e f.1)) ∙ h) has
       ];
       mark_last = λ e n. put_by e (λ xs. slice_get xs n ≡ Some Mark → suc n ≡ length xs) (λ ne. law.books_kept.mark_last e n)
-          (λ same h. elim (slice_get-more (b.put r.end) item Mark n h) [
+          (λ same h. elim (slice_get-last (b.put r.end) item Mark n h) [
             | inl o ↦ absurd (grind (arith, mark_found (b.put r.end) n o, is.unclosed))
             | inr o ↦ omega (arith, o.0, length-more (b.put r.end) item)
           ]);

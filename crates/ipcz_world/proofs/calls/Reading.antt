@@ -1,28 +1,25 @@
 -- A terminal's in queue loses its current item, got by a caller or discarded by a sink: all that holds is kept, with the books after it.
-use Rattle.ipcz_world.proofs.weights.OfRecords.{holds}
+use Rattle.ipcz_world.proofs.weights.OfRecords.{holds, in_places}
 use Rattle.std.specs.Prelude.{◌≡◌, ◌≢◌, ◌⊎◌, ◌≤◌, ◌<◌, ◌+◌, ℕ, zero, suc, Bool, true, false, cond, ◌&&◌, nat_eq, Some, refl, List, [], ◌∷◌}
 use Rattle.std.specs.Prelude.{length, take, drop, map, slice_get}
 use Rattle.std.proofs.Common.{arith, ap, subst, ◌∙◌, sym, inl, inr}
-use Rattle.std.proofs.lemmas.Bool.Decides.{nat_tests}
 use Rattle.ipcz_base.specs.declared.end.End.{End}
 use Rattle.ipcz_base.specs.declared.parcel.Parcel as parcels
 use Rattle.ipcz_base.specs.declared.item.Item.{Item}
-use Rattle.ipcz_base.specs.declared.item.Item.TheVariants.{Parcel, Mark}
+use Rattle.ipcz_base.specs.declared.item.Item.TheVariants.{Parcel}
 use Rattle.ipcz_base.specs.declared.message.Message.TheVariants as messages
-use Rattle.ipcz_base.specs.Ends.{opposite_end, same_end, has_end}
+use Rattle.ipcz_base.specs.Ends.{opposite_end, has_end}
 use Rattle.ipcz_base.specs.Totals.{total}
 use Rattle.ipcz_seq.specs.Queue.{item_at, current_item}
 use Rattle.ipcz_router.specs.Router.{Router, is_terminal}
 use Rattle.ipcz_router.specs.Calls.{take_item, next_number}
-use Rattle.ipcz_base.specs.Items.{ends_in}
+use Rattle.ipcz_base.specs.Items.{ends_in, same_item}
 use Rattle.ipcz_world.specs.World.{World, Key, same_key, node_at, router_at, flow}
 use Rattle.ipcz_world.proofs.frames.Frames.{same_key-itself}
 use Rattle.ipcz_world.specs.Books.{Books, read, is_closed}
 use Rattle.ipcz_world.specs.Records.{Records, At, terminal_node}
-use Rattle.ipcz_world.specs.Places.{Weight, in_router, at_end, names_end, times, from_number}
-use Rattle.ipcz_world.proofs.weights.OfRecords.{in_places}
+use Rattle.ipcz_world.specs.Places.{Weight, in_router, at_end, names_end, times, from_number, unread_weight}
 use Rattle.ipcz_world.specs.Whereabouts.{EndPlaces, BooksKept, Conserved, HeldOnce, times_held}
-use Rattle.ipcz_world.specs.Places.{unread_weight}
 use Rattle.ipcz_world.specs.Numbers.{Items, FreshNumbers}
 use Rattle.ipcz_world.specs.Inv.{Inv}
 use Rattle.ipcz_world.proofs.frames.Touching.{IsTouched, IsAlike, HasSameHands, hands-same, counts-touched, shape-touched, links-touched}
@@ -31,62 +28,14 @@ use Rattle.ipcz_world.proofs.frames.Touching.{stages-touched, terminals-touched}
 use Rattle.ipcz_world.proofs.frames.Draining.{IsDraining, drained_same, drained_pop, drained_before, ordered-drained, order-drained}
 use Rattle.ipcz_world.proofs.frames.Draining.{proxy_numbers-drained, own-drained, other-drained}
 use Rattle.ipcz_world.proofs.flows.Fitting.{fits_of, items_by, fits-drained}
-use Rattle.ipcz_world.proofs.weights.Weighing.{in_router-is, same_end-itself}
-use Rattle.ipcz_world.proofs.views.Known.{not_there_yet, twice}
+use Rattle.ipcz_world.proofs.weights.Weighing.{in_router-is}
+use Rattle.ipcz_world.proofs.views.Known.{not_there_yet}
 use Rattle.ipcz_world.proofs.flows.SameMessages.{SameMessages, under-same, made-same, told-same, moves-same}
-use Rattle.ipcz_world.proofs.weights.Booking.{flag, end_tells, same_end-is, more_same, more_here, total-has, in_router-within, not_moving}
-use Rattle.ipcz_world.proofs.weights.Booking.{and_first, and_second}
-use Rattle.ipcz_world.proofs.facts.Tests.{nat_eq-itself}
-
--- whether two lists are the same
-abbrev same_list : {X : Type 0} → (X → X → Bool) → List X → List X → Bool
-same_list eq [] [] = true
-same_list eq [] (y ∷ ys) = false
-same_list eq (x ∷ xs) [] = false
-same_list eq (x ∷ xs) (y ∷ ys) = eq x y && same_list eq xs ys
-
--- whether two items are the same
-abbrev pub same_item : Item → Item → Bool
-same_item (Parcel p) (Parcel q) = same_list nat_eq p.bytes q.bytes && same_list same_end p.ends q.ends
-same_item (Parcel p) Mark = false
-same_item Mark (Parcel q) = false
-same_item Mark Mark = true
-
-and_both : (a b : Bool) → a ≡ true → b ≡ true → (a && b) ≡ true
-and_both true b h i = i
-and_both false b h i = cc
-
-same_list-itself : {X : Type 0} (eq : X → X → Bool) (xs : List X) → ((x : X) → eq x x ≡ true) → same_list eq xs xs ≡ true
-same_list-itself eq [] h = refl
-same_list-itself eq (x ∷ xs) h = and_both (eq x x) (same_list eq xs xs) (h x) (same_list-itself eq xs h)
-
-same_list-is : {X : Type 0} (eq : X → X → Bool) (xs ys : List X) → ((x y : X) → eq x y ≡ true → x ≡ y) → same_list eq xs ys ≡ true → xs ≡ ys
-same_list-is eq [] [] is h = refl
-same_list-is eq [] (y ∷ ys) is h = cc
-same_list-is eq (x ∷ xs) [] is h = cc
-same_list-is {X} eq (x ∷ xs) (y ∷ ys) is h =
-    let head : x ≡ y = is x y (and_first (eq x y) (same_list eq xs ys) h) in let tail : xs ≡ ys =
-    same_list-is eq xs ys is (and_second (eq x y) (same_list eq xs ys) h) in
-    λ i. head i ∷ tail i
-
-nat_eq-is : (m n : ℕ) → nat_eq m n ≡ true → m ≡ n
-nat_eq-is m n h = grind (arith, nat_tests, h)
-
-pub same_item-itself : (x : Item) → same_item x x ≡ true
-same_item-itself (Parcel p) = and_both (same_list nat_eq p.bytes p.bytes) (same_list same_end p.ends p.ends)
-    (same_list-itself nat_eq p.bytes nat_eq-itself) (same_list-itself same_end p.ends same_end-itself)
-same_item-itself Mark = refl
-
-pub same_item-is : (x y : Item) → same_item x y ≡ true → x ≡ y
-same_item-is (Parcel p) (Parcel q) h =
-    let b : p.bytes ≡ q.bytes = same_list-is nat_eq p.bytes q.bytes nat_eq-is
-    (and_first (same_list nat_eq p.bytes q.bytes) (same_list same_end p.ends q.ends) h) in
-    let e : p.ends ≡ q.ends = same_list-is same_end p.ends q.ends same_end-is
-    (and_second (same_list nat_eq p.bytes q.bytes) (same_list same_end p.ends q.ends) h) in
-    λ i. Parcel (record { bytes = b i; ends = e i })
-same_item-is (Parcel p) Mark h = cc
-same_item-is Mark (Parcel q) h = cc
-same_item-is Mark Mark h = refl
+use Rattle.ipcz_world.proofs.weights.Booking.{flag, end_tells, more_same, more_here, total-has, in_router-within, not_moving}
+use Rattle.ipcz_world.proofs.facts.Tests.{nat_eq-itself, and_first, and_second, nat_eq-is}
+use Rattle.std.proofs.lemmas.Bool.{and_from}
+use Rattle.ipcz_world.proofs.facts.LinkTests.{opposite_end-twice}
+use Rattle.ipcz_world.proofs.facts.SameItems.{same_item-itself, same_item-tells}
 
 -- what weighs in a numbered list is there
 from_number-found : (h : ℕ → Item → ℕ) (n : ℕ) (xs : List Item) → 1 ≤ from_number h n xs →
@@ -125,7 +74,7 @@ in_numbers w b g k r n item law l here at =
     let h : ℕ → Item → ℕ = λ m x. flag (nat_eq m n && same_item x item) in
     let f : Weight = at_end e h in
     let one : f e n item ≡ 1 = more_here (h n item) 0 e ∙ ap flag
-    (and_both (nat_eq n n) (same_item item item) (nat_eq-itself n) (same_item-itself item)) in
+    (and_from (nat_eq n n) (same_item item item) (nat_eq-itself n) (same_item-itself item)) in
     let has : f e n item ≤ total (f e) r.in_queue.items = total-has (f e) r.in_queue n item at in
     let le : in_router f r ≤ in_places f g w = in_router-within f g w k r l here in
     let found = from_number-found h (read b (opposite_end e)) (drop (read b (opposite_end e)) (b.put e))
@@ -134,14 +83,11 @@ in_numbers w b g k r n item law l here at =
     let number : n ≡ read b (opposite_end e) + found.0 = sym (nat_eq-is (read b (opposite_end e) + found.0) n
     (and_first (nat_eq (read b (opposite_end e) + found.0) n) (same_item found.1 item) is)) in
     slice_get-drop (read b (opposite_end e)) (b.put e) found.0 n found.1 found.2 number ∙ ap Some
-    (same_item-is found.1 item (and_second (nat_eq (read b (opposite_end e) + found.0) n) (same_item found.1 item) is))
+    (same_item-tells found.1 item (and_second (nat_eq (read b (opposite_end e) + found.0) n) (same_item found.1 item) is))
   where
     weighs : (c : Bool) → 1 ≤ flag c → c ≡ true
     weighs true h = refl
     weighs false h = absurd (omega (arith, h))
-
-pub opposite_twice : (e : End) → opposite_end (opposite_end e) ≡ e
-opposite_twice e = λ i. record { pair = e.pair; side = twice e.side i }
 
 -- a terminal's current item leaves for a caller or a sink, and the item's ends are held or pending then
 pub record IsRead (w v : World) (b : Books) (g : Records) (k : Key) (r : Router) (item : Item) (got : End → List parcels.Parcel)
@@ -260,17 +206,17 @@ module _ (w v : World) (b : Books) (g : Records) (k : Key) (r : Router) (item : 
   -- a statement of what an end's peer has read, by whether it is the terminal
   peer_by : (e : End) (P : End → Type 0) → (opposite_end e ≢ r.end → P e) → P (opposite_end r.end) → P e
   peer_by e P other own = elim (end_tells (opposite_end e) r.end) [
-    | inl f ↦ let same : opposite_end r.end ≡ e = ap opposite_end (sym f.1) ∙ opposite_twice e in subst P same own
+    | inl f ↦ let same : opposite_end r.end ≡ e = ap opposite_end (sym f.1) ∙ opposite_end-twice e in subst P same own
     | inr f ↦ other f.1
   ]
 
   read_peer : read after (opposite_end (opposite_end r.end)) ≡ suc (read b r.end)
-  read_peer = ap (read after) (opposite_twice r.end) ∙ is.read_here ∙ omega arith
+  read_peer = ap (read after) (opposite_end-twice r.end) ∙ is.read_here ∙ omega arith
 
   exact : (e : End) (h : ℕ → Item → ℕ) → in_places (at_end e h) g v ≡ unread_weight h after e
   exact e h = peer_by e (λ e. in_places (at_end e h) g v ≡ unread_weight h after e)
       (λ ne. let none : at_end e h (opposite_end r.end) r.in_queue.current item ≡ 0 =
-      more_same (λ d. 0) (h r.in_queue.current item) (opposite_end r.end) e (λ f. ne (ap opposite_end (sym f) ∙ opposite_twice r.end))
+      more_same (λ d. 0) (h r.in_queue.current item) (opposite_end r.end) e (λ f. ne (ap opposite_end (sym f) ∙ opposite_end-twice r.end))
       in
       omega (
         arith,
@@ -283,7 +229,7 @@ module _ (w v : World) (b : Books) (g : Records) (k : Key) (r : Router) (item : 
       let one : at_end p h (opposite_end r.end) r.in_queue.current item ≡ h (read b r.end) item =
       more_here (h r.in_queue.current item) 0 p ∙ ap (λ n. h n item) number in
       let was : unread_weight h b p ≡ h (read b r.end) item + from_number h (read b r.end + 1) (drop (suc (read b r.end)) (b.put p)) =
-      ap (λ n. from_number h n (drop n (b.put p))) (ap (read b) (opposite_twice r.end)) ∙ ap (from_number h (read b r.end))
+      ap (λ n. from_number h n (drop n (b.put p))) (ap (read b) (opposite_end-twice r.end)) ∙ ap (from_number h (read b r.end))
       (drop-at (read b r.end) (b.put p) item was_put) in
       let now : unread_weight h after p ≡ from_number h (suc (read b r.end)) (drop (suc (read b r.end)) (b.put p)) =
       ap (λ n. from_number h n (drop n (b.put p))) read_peer in
@@ -300,9 +246,9 @@ module _ (w v : World) (b : Books) (g : Records) (k : Key) (r : Router) (item : 
     prefix = λ e. peer_by e (λ e. take (length (got (opposite_end e))) (b.put e) ≡ map Parcel (got (opposite_end e)))
         (λ ne. ap (λ ps. take (length ps) (b.put e)) (is.got_other (opposite_end e) ne) ∙ law.conserved.prefix e ∙ ap (map Parcel)
         (sym (is.got_other (opposite_end e) ne)))
-        (subst (λ d. take (length (got d)) (b.put (opposite_end r.end)) ≡ map Parcel (got d)) (sym (opposite_twice r.end))
+        (subst (λ d. take (length (got d)) (b.put (opposite_end r.end)) ≡ map Parcel (got d)) (sym (opposite_end-twice r.end))
         (is.prefix_here was_put (subst (λ d. take (length (b.got d)) (b.put (opposite_end r.end)) ≡ map Parcel (b.got d))
-        (opposite_twice r.end) (law.conserved.prefix (opposite_end r.end)))));
+        (opposite_end-twice r.end) (law.conserved.prefix (opposite_end r.end)))));
     gone_closed = λ e h. elim (end_tells e r.end) [
       | inl f ↦ ap gone f.1 ∙ is.gone_closed (ap (is_closed b) (sym f.1) ∙ h)
       | inr f ↦

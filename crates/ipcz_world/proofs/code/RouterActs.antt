@@ -1,6 +1,6 @@
 -- What the table of link words answers to an act of a router, and what the act makes of the world.
-use Rattle.std.specs.Prelude.{◌≡◌, ◌<◌, ◌+◌, ℕ, Bool, true, false, ◌&&◌, ◌||◌, nat_lt, if◌then◌else◌, Option, Some, None, is_some}
-use Rattle.std.specs.Prelude.{option_map, IfSome, length}
+use Rattle.std.specs.Prelude.{◌≡◌, ◌<◌, ◌+◌, ℕ, Bool, true, false, ◌||◌, nat_lt, if◌then◌else◌, Option, Some, None, is_some, option_map}
+use Rattle.std.specs.Prelude.{IfSome, length}
 use Rattle.std.proofs.Common.{arith, ap, sym, subst, refl, ◌∙◌}
 use Rattle.ipcz_base.specs.declared.side.Side.{Side}
 use Rattle.ipcz_base.specs.Indexed.{place_at, put_place}
@@ -19,6 +19,7 @@ use Rattle.ipcz_world.specs.Coding.{WordTable, has_unclaimed, claim_one, is_clai
 use Rattle.ipcz_world.specs.Coding.{table_of}
 use Rattle.ipcz_world.specs.Soundness.{HasLengths}
 use Rattle.ipcz_world.proofs.code.Slots.{put-same, length-put}
+use Rattle.ipcz_world.proofs.facts.Tests.{and_first, and_second}
 
 -- the word and the side of a router's outward primary link
 abbrev pub link_of : Router → Option ℕ → Option (ℕ × Side)
@@ -104,14 +105,6 @@ module _ (w : World) (r : Router) where
   touches-as acts.Unlock has l = touched acts.Unlock (primary_word r) has l
   touches-as acts.Rest has l = still acts.Rest (primary_word r) has l (λ x. refl)
 
-first : (a b : Bool) → (a && b) ≡ true → a ≡ true
-first true b e = refl
-first false b e = e
-
-second : (a b : Bool) → (a && b) ≡ true → b ≡ true
-second true b e = e
-second false b e = cc
-
 or_left : (a b : Bool) → b ≡ false → (a || b) ≡ true → a ≡ true
 or_left true b k e = refl
 or_left false b k e = cc
@@ -148,11 +141,12 @@ module _ (t : WordTable) (r : Router) where
   answers-kind acts.FinishOut may = plain acts.FinishOut (primary_word r) tt (λ x. refl)
   answers-kind acts.FinishIn may = plain acts.FinishIn (primary_word r) tt (λ x. refl)
   answers-kind acts.Leave may = plain acts.Leave (primary_word r) tt (λ x. refl)
-  answers-kind acts.Mark may = central acts.Mark (primary_word r) (first _ _ (or_left _ _ refl may)) (λ x. tt)
-  answers-kind acts.Wake may = central acts.Wake (primary_word r) (second _ _ (or_left _ _ refl may)) (λ x. tt)
+  answers-kind acts.Mark may = central acts.Mark (primary_word r) (and_first _ _ (or_left _ _ refl may)) (λ x. tt)
+  answers-kind acts.Wake may = central acts.Wake (primary_word r) (and_second _ _ (or_left _ _ refl may)) (λ x. tt)
   answers-kind acts.Claim may = claim_is (has_unclaimed t)
-  answers-kind acts.Lock may = central acts.Lock (primary_word r) (first _ _ (second _ _ (first _ _ (or_left _ _ refl may))))
+  answers-kind acts.Lock may = central acts.Lock (primary_word r) (and_first _ _ (and_second _ _ (and_first _ _ (or_left _ _ refl may))))
       (λ x. try_is x r.end.side (plan_of x r.end.side))
   answers-kind acts.Begin may = plain acts.Begin (primary_word r) tt (λ x. refl)
-  answers-kind acts.Unlock may = central acts.Unlock (primary_word r) (first _ _ (second _ _ (second _ _ (or_left _ _ refl may)))) (λ x. tt)
+  answers-kind acts.Unlock may =
+      central acts.Unlock (primary_word r) (and_first _ _ (and_second _ _ (and_second _ _ (or_left _ _ refl may)))) (λ x. tt)
   answers-kind acts.Rest may = plain acts.Rest (primary_word r) tt (λ x. refl)

@@ -24,14 +24,6 @@ put-same d [] i l = absurd (omega arith)
 put-same d (x ∷ xs) zero l = refl
 put-same d (x ∷ xs) (suc i) l = ap (λ ys. x ∷ ys) (put-same d xs i (omega arith))
 
--- a second write takes the place of the first
-pub put-again : {X : Type 0} (d : X) (xs : List X) (i : ℕ) (y z : X) → put_place d (put_place d xs i y) i z ≡ put_place d xs i z
-unfolding put_place
-put-again d [] zero y z = refl
-put-again d [] (suc i) y z = ap (λ ys. d ∷ ys) (put-again d [] i y z)
-put-again d (x ∷ xs) zero y z = refl
-put-again d (x ∷ xs) (suc i) y z = ap (λ ys. x ∷ ys) (put-again d xs i y z)
-
 -- a write within a list leaves its length
 pub length-put : {X : Type 0} (d : X) (xs : List X) (i : ℕ) (y : X) → i < length xs → length (put_place d xs i y) ≡ length xs
 unfolding put_place

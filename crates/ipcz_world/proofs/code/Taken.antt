@@ -1,6 +1,6 @@
 -- What the parts of a world come to after a turn, as the world that the turn leads to.
-use Rattle.std.specs.Prelude.{◌≡◌, ◌<◌, ℕ, Bool, true, false, ◌&&◌, not, nat_eq, nat_lt, if◌then◌else◌, Option, Some, None, is_some}
-use Rattle.std.specs.Prelude.{is_none, IfSome, Result, Ok, Err, length, List, [], ◌∷◌}
+use Rattle.std.specs.Prelude.{◌≡◌, ◌<◌, ℕ, true, false, ◌&&◌, not, nat_eq, nat_lt, if◌then◌else◌, Option, Some, None, is_some, is_none}
+use Rattle.std.specs.Prelude.{IfSome, Result, Ok, Err, length, List, [], ◌∷◌}
 use Rattle.std.proofs.Common.{arith, ap, sym, subst, refl, ◌∙◌}
 use Rattle.std.proofs.lemmas.Bool.Decides.{nat_tests}
 use Rattle.ipcz_base.specs.declared.end.End.{End}
@@ -20,10 +20,9 @@ use Rattle.ipcz_node.specs.declared.act.Act.TheVariants.{Hand as OfHand, Look, P
 use Rattle.ipcz_node.specs.declared.happened.Happened.{Happened}
 use Rattle.ipcz_node.specs.declared.happened.Happened.TheVariants as events
 use Rattle.ipcz_node.specs.Hands.{is_hand_of, deliver, message_lacks_serials, message_grows}
-use Rattle.ipcz_node.specs.Node.{Node, bare_node, outbox, router_in}
+use Rattle.ipcz_node.specs.Node.{Node, bare_node, outbox, router_in, word_side}
 use Rattle.ipcz_node.specs.Acts.{has_mail_for, first_of, commit, post_of, act_lacks_serials, act_grows, Answers}
 use Rattle.ipcz_node.specs.RoomyNodes.{IsPossibleAct}
-use Rattle.ipcz_node.specs.Node.{word_side}
 use Rattle.ipcz_node.specs.Events.{event_of, hand_event}
 use Rattle.ipcz_world.specs.declared.mail.Mail.{Mail}
 use Rattle.ipcz_world.specs.declared.mail.Mail.TheVariants.{Empty, Full, Hand as InHand}
@@ -37,12 +36,11 @@ use Rattle.ipcz_world.specs.Coding.{WordTable, table_answer, table_after, table_
 use Rattle.ipcz_world.specs.WordAnswers.{answer_of, touch}
 use Rattle.ipcz_world.specs.Taking.{IsRegular, IsTaken, IsCommitted}
 use Rattle.ipcz_world.proofs.code.RouterActs.{link_of, retabled, answers-as, touches-as, answers-kind}
-use Rattle.ipcz_world.proofs.weights.Booking.{same_end-is}
-use Rattle.ipcz_world.proofs.code.Slots.{put-same, put-again, length-put}
-
-both : (a b : Bool) → (a && b) ≡ true → (a ≡ true) × (b ≡ true)
-both true b e = (refl, e)
-both false b e = cc
+use Rattle.ipcz_world.proofs.code.Slots.{put-same, length-put}
+use Rattle.std.proofs.lemmas.Bool.{and_parts}
+use Rattle.ipcz_world.proofs.runs.NodeSteps.{hand-is}
+use Rattle.ipcz_world.proofs.acts.Updating.{put-twice}
+use Rattle.ipcz_world.proofs.facts.LinkTests.{same_end-tells}
 
 -- the world with this node in the place of its number
 abbrev pub with_node : World → ℕ → Node → World
@@ -115,8 +113,8 @@ with_mail w k m = record w { mail = put_place Empty w.mail k m }
 looks-full : (w : World) (n from : ℕ) → can_take w n (Look from) ≡ true → is_full (mail_at w (way w from n)) ≡ true
 unfolding can_take
 looks-full w n from h =
-    (both (is_none (node_at w n).hand) (is_full (mail_at w (way w from n)))
-    (both (nat_lt from w.count) (is_none (node_at w n).hand && is_full (mail_at w (way w from n))) h).1).1
+    (and_parts (is_none (node_at w n).hand) (is_full (mail_at w (way w from n)))
+    (and_parts (nat_lt from w.count) (is_none (node_at w n).hand && is_full (mail_at w (way w from n))) h).1).1
 
 looked : (w : World) (n from k : ℕ) (m : Mail) → mail_at w k ≡ m → is_full (mail_at w k) ≡ true → k ≡ way w from n →
     with_mail (commit_at w w n (Look from) Plain) k (taken_up (place_at Empty (commit_at w w n (Look from) Plain).mail k)) ≡
@@ -165,20 +163,20 @@ has_first n to (m ∷ ms) e has none = let no : Some m ≡ None = ap first_of (s
 pub posts : (w : World) (n to : ℕ) → can_take w n (Post to) ≡ true → post_of (node_at w n) (Post to) ≡ None → ⊥
 unfolding can_take post_of
 posts w n to h none = has_first (node_at w n) to (outbox (node_at w n) to) refl
-    (both (has_mail_for (node_at w n) to) (is_clear (mail_at w (way w n to)))
-    (both (nat_lt to w.count) (has_mail_for (node_at w n) to && is_clear (mail_at w (way w n to))) h).1).0 none
+    (and_parts (has_mail_for (node_at w n) to) (is_clear (mail_at w (way w n to)))
+    (and_parts (nat_lt to w.count) (has_mail_for (node_at w n) to && is_clear (mail_at w (way w n to))) h).1).0 none
 
 -- whom a node looks to, and whom it posts to, is one of the world
 pub looks-to-node : (w : World) (n from : ℕ) → can_take w n (Look from) ≡ true → from < w.count
 unfolding can_take
 looks-to-node w n from h =
-    let t = (both (nat_lt from w.count) (is_none (node_at w n).hand && is_full (mail_at w (way w from n))) h).0 in
+    let t = (and_parts (nat_lt from w.count) (is_none (node_at w n).hand && is_full (mail_at w (way w from n))) h).0 in
     grind (arith, t, nat_tests)
 
 pub posts-to-node : (w : World) (n to : ℕ) → can_take w n (Post to) ≡ true → to < w.count
 unfolding can_take
 posts-to-node w n to h =
-    let t = (both (nat_lt to w.count) (has_mail_for (node_at w n) to && is_clear (mail_at w (way w n to))) h).0 in
+    let t = (and_parts (nat_lt to w.count) (has_mail_for (node_at w n) to && is_clear (mail_at w (way w n to))) h).0 in
     grind (arith, t, nat_tests)
 
 -- an act that touches no word leaves the mailboxes
@@ -202,8 +200,8 @@ pub look-may : (w : World) (n from : ℕ) → can_take w n (Look from) ≡ true 
 unfolding can_take
 look-may w n from h =
     empty_hand (node_at w n).hand
-    (both (is_none (node_at w n).hand) (is_full (mail_at w (way w from n)))
-    (both (nat_lt from w.count) (is_none (node_at w n).hand && is_full (mail_at w (way w from n))) h).1).0
+    (and_parts (is_none (node_at w n).hand) (is_full (mail_at w (way w from n)))
+    (and_parts (nat_lt from w.count) (is_none (node_at w n).hand && is_full (mail_at w (way w from n))) h).1).0
   where
     empty_hand : (hand : Option ℕ) → is_none hand ≡ true → hand ≡ None
     empty_hand None e = refl
@@ -212,8 +210,8 @@ look-may w n from h =
 pub post-may : (w : World) (n to : ℕ) → can_take w n (Post to) ≡ true → IsPossibleAct (node_at w n) (Post to)
 unfolding can_take
 post-may w n to h =
-    (both (has_mail_for (node_at w n) to) (is_clear (mail_at w (way w n to)))
-    (both (nat_lt to w.count) (has_mail_for (node_at w n) to && is_clear (mail_at w (way w n to))) h).1).0
+    (and_parts (has_mail_for (node_at w n) to) (is_clear (mail_at w (way w n to)))
+    (and_parts (nat_lt to w.count) (has_mail_for (node_at w n) to && is_clear (mail_at w (way w n to))) h).1).0
 
 pub close-may : (w : World) (n : ℕ) (end : End) → can_take w n (Close end) ≡ true → IsPossibleAct (node_at w n) (Close end)
 unfolding can_take is_first_pending first_of
@@ -221,25 +219,20 @@ close-may w n end h = first (node_at w n).pending h
   where
     first : (pending : List End) → is_first_pending pending end ≡ true → first_of pending ≡ Some end
     first [] e = cc
-    first (x ∷ xs) e = ap Some (same_end-is x end e)
+    first (x ∷ xs) e = ap Some (same_end-tells x end e)
 
 -- a message in hand is there, and of a node of the world
 pub has-in-hand : (w : World) (n from : ℕ) → can_take w n (OfHand from) ≡ true → hand_message (mail_at w (way w from n)) ≡ None → ⊥
 unfolding can_take
 has-in-hand w n from h none =
-    let some = (both (is_hand_of (node_at w n).hand from) (is_some (hand_message (mail_at w (way w from n)))) h).1 in
+    let some = (and_parts (is_hand_of (node_at w n).hand from) (is_some (hand_message (mail_at w (way w from n)))) h).1 in
     let no : false ≡ true = ap is_some (sym none) ∙ some in cc
-
-hand-from : (o : Option ℕ) (from : ℕ) → is_hand_of o from ≡ true → o ≡ Some from
-unfolding is_hand_of
-hand-from None from h = cc
-hand-from (Some s) from h = let e : s ≡ from = grind (arith, h, nat_tests) in ap Some e
 
 pub sender-is-node : (w : World) (n from : ℕ) → IsRegular w → n < w.count → can_take w n (OfHand from) ≡ true → from < w.count
 unfolding can_take
 sender-is-node w n from is l h =
     (is.sound n l).hand from
-    (hand-from (node_at w n).hand from (both (is_hand_of (node_at w n).hand from) (is_some (hand_message (mail_at w (way w from n))))
+    (hand-is (node_at w n).hand from (and_parts (is_hand_of (node_at w n).hand from) (is_some (hand_message (mail_at w (way w from n))))
     h).0)
 
 taken-down : (k : Mail) (m : Message) → hand_message k ≡ Some m → k ≡ InHand m
@@ -287,7 +280,7 @@ refused-hand w n from m why old x mail has l within e is same because grows kept
   grows = rw is (λ g k. grows (ap (λ y. message_grows y from m) e ∙ g));
   left = λ j. record w {
     nodes = (ap (put_place (bare_node 0 0) w.nodes n) (same ∙ e) ∙ put-same (bare_node 0 0) w.nodes n (omega (arith, l, has.nodes))) j;
-    mail = (kept ∙ put-again Empty w.mail (way w from n) _ (InHand m) ∙
+    mail = (kept ∙ put-twice Empty w.mail (way w from n) _ (InHand m) ∙
         ap (put_place Empty w.mail (way w from n)) (sym (taken-down (mail_at w (way w from n)) m is)) ∙
         put-same Empty w.mail (way w from n) within) j;
   };

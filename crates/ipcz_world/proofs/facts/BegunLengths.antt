@@ -1,5 +1,5 @@
 -- The lengths of bypassed links, by side and stage.
-use Rattle.std.specs.Prelude.{◌≡◌, ◌≤◌, ℕ, true, Some, is_some}
+use Rattle.std.specs.Prelude.{◌≡◌, ◌≤◌, ℕ, true, Some, is_some, Bool, false, if◌then◌else◌, None, refl}
 use Rattle.std.proofs.Common.{arith, ◌∙◌, ap}
 use Rattle.std.proofs.lemmas.Bool.Decides.{nat_tests}
 use Rattle.ipcz_base.specs.declared.side.Side.{Side}
@@ -9,8 +9,9 @@ use Rattle.ipcz_base.specs.declared.link_id.LinkId.TheVariants.{Central}
 use Rattle.ipcz_world.specs.World.{Key}
 use Rattle.ipcz_world.specs.Records.{Records, inner_link, bypass_of, bypass_length, length_by, side_length, is_begun, proxy_side}
 use Rattle.ipcz_world.specs.Records.{across_side}
-use Rattle.ipcz_world.proofs.facts.LinkTests.{same_side-opposite, known_from-since}
-use Rattle.ipcz_world.proofs.facts.Lengths.{same_side-itself}
+use Rattle.ipcz_world.proofs.facts.LinkTests.{same_side-opposite}
+use Rattle.ipcz_world.proofs.facts.Lengths.{same_side-itself, known_from-yes}
+use Rattle.ipcz_world.proofs.frames.RecordRules.{record_rules}
 
 pub bypass_of-begun : (g : Records) (o : ℕ) → is_begun (g.bypass o) ≡ true → bypass_of g (Central o) ≡ Some o
 unfolding bypass_of
@@ -32,7 +33,7 @@ pub length-proxy : (g : Records) (o : ℕ) → 3 ≤ (g.bypass o).stage → side
 unfolding bypass_length
 length-proxy g o h =
     length-by g (Central o) (proxy_side g o) o (bypass_of-begun g o (begun-since g o 3 (omega arith) h)) ∙ grind
-    (arith, same_side-itself (proxy_side g o), known_from-since 3 (g.bypass o).stage (g.bypass o).taken_at h)
+    (arith, same_side-itself (proxy_side g o), known_from-yes 3 (g.bypass o).stage (g.bypass o).taken_at h)
 
 -- over the old link, from the router across
 pub length-across : (g : Records) (o : ℕ) → 3 ≤ (g.bypass o).stage →
@@ -40,16 +41,24 @@ pub length-across : (g : Records) (o : ℕ) → 3 ≤ (g.bypass o).stage →
 unfolding bypass_length
 length-across g o h =
     length-by g (Central o) (across_side g o) o (bypass_of-begun g o (begun-since g o 3 (omega arith) h)) ∙ grind
-    (arith, same_side-opposite (proxy_side g o), known_from-since 3 (g.bypass o).stage (g.bypass o).accepted_at h)
+    (arith, same_side-opposite (proxy_side g o), known_from-yes 3 (g.bypass o).stage (g.bypass o).accepted_at h)
 
 -- over the inner link, from the proxy
 pub length-inward : (g : Records) (p : Key) (o : ℕ) → (g.peripheral p).by ≡ Some o → 3 ≤ (g.bypass o).stage →
     side_length g (inner_link p) A ≡ Some (g.bypass o).accepted_at
 unfolding bypass_length bypass_of
-length-inward g p o e h = length-by g (inner_link p) A o e ∙ known_from-since 3 (g.bypass o).stage (g.bypass o).accepted_at h
+length-inward g p o e h = length-by g (inner_link p) A o e ∙ known_from-yes 3 (g.bypass o).stage (g.bypass o).accepted_at h
 
 -- over the inner link, from the router inward
 pub length-inner : (g : Records) (p : Key) (o : ℕ) → (g.peripheral p).by ≡ Some o → 2 ≤ (g.bypass o).stage →
     side_length g (inner_link p) B ≡ Some (g.bypass o).taken_at
 unfolding bypass_length bypass_of
-length-inner g p o e h = length-by g (inner_link p) B o e ∙ known_from-since 2 (g.bypass o).stage (g.bypass o).taken_at h
+length-inner g p o e h = length-by g (inner_link p) B o e ∙ known_from-yes 2 (g.bypass o).stage (g.bypass o).taken_at h
+
+-- the bypass of a central link is named by it
+pub bypass_of-central_is : (g : Records) (i o : ℕ) → bypass_of g (Central i) ≡ Some o → (o ≡ i) × (is_begun (g.bypass i) ≡ true)
+bypass_of-central_is g i o h = go (is_begun (g.bypass i)) refl (grind (arith, record_rules, h))
+  where
+    go : (b : Bool) → is_begun (g.bypass i) ≡ b → (if b then Some i else None) ≡ Some o → (o ≡ i) × (is_begun (g.bypass i) ≡ true)
+    go true e q = (grind (arith, q), e)
+    go false e q = cc

@@ -1,25 +1,23 @@
 -- A router that is found in a node stands there and passes the test, and one that passes is found.
-use Rattle.ipcz_node.specs.Node.{is_terminal_of}
-use Rattle.ipcz_router.specs.Router.{is_open_terminal}
-use Rattle.std.specs.Prelude.{not}
-use Rattle.std.specs.Prelude.{◌≡◌, ◌<◌, ℕ, Bool, true, false, cond, T, Some, List, [], ◌∷◌, refl}
+use Rattle.ipcz_node.specs.Node.{is_terminal_of, Node, Found, first_where, find_router, terminal_of}
+use Rattle.ipcz_router.specs.Router.{is_open_terminal, Router, is_terminal}
+use Rattle.std.specs.Prelude.{not, ◌≡◌, ◌<◌, ℕ, Bool, true, false, cond, T, Some, List, [], ◌∷◌, refl, nat_eq}
 use Rattle.std.proofs.Common.{arith, sym, ◌∙◌, ap}
 use Rattle.std.proofs.lemmas.Bool.Decides.{nat_tests}
 use Rattle.std.specs.Ordering.{nat_cmp, eq_by_cmp, is_lt, is_eq}
 use Rattle.std.specs.Cmp.{nat_cmp_total, tied_itself}
-use Rattle.std.specs.FinMap.{get, entries, entries_sorted, find, get-entries, is_sorted}
+use Rattle.std.specs.FinMap.{get, entries, entries_sorted, find, get-entries, is_sorted, FinMap, insert, get-insert}
 use Rattle.std.specs.FinMap.Entries.{below_all}
 use Rattle.ipcz_base.specs.declared.end.End.{End}
 use Rattle.ipcz_base.specs.Ends.{same_end}
-use Rattle.ipcz_router.specs.Router.{Router, is_terminal}
-use Rattle.ipcz_node.specs.Node.{Node, Found, first_where, find_router, terminal_of}
-use Rattle.ipcz_world.proofs.weights.Booking.{same_end-is, and_first, and_second}
 use Rattle.ipcz_world.proofs.facts.Reaching.{left, less, right}
+use Rattle.ipcz_world.proofs.facts.Tests.{and_first, and_second}
+use Rattle.ipcz_world.proofs.facts.LinkTests.{same_end-tells}
 
 -- what is found in a list whose keys are above is above
-find_above : (x m : ℕ) (v : Router) (es : List (ℕ × Router)) → T (below_all nat_cmp x es) → find nat_cmp m es ≡ Some v → x < m
+pub find_above : {X : Type 0} (x m : ℕ) (v : X) (es : List (ℕ × X)) → T (below_all nat_cmp x es) → find nat_cmp m es ≡ Some v → x < m
 find_above x m v [] b h = cc
-find_above x m v (e ∷ es) b h = go (eq_by_cmp nat_cmp m e.0) refl h
+find_above {X} x m v (e ∷ es) b h = go (eq_by_cmp nat_cmp m e.0) refl h
     (λ f. find_above x m v es (right (is_lt (nat_cmp x e.0)) (below_all nat_cmp x es) b) f)
   where
     low : x < e.0
@@ -91,5 +89,8 @@ terminal_tells n end f h =
       here = t.0;
       terminal = and_first (is_terminal f.router) (not f.router.closed) opened;
       end =
-          same_end-is f.router.end end (and_second (is_open_terminal f.router) (same_end f.router.end end) t.1);
+          same_end-tells f.router.end end (and_second (is_open_terminal f.router) (same_end f.router.end end) t.1);
     }
+
+pub get_inserted : (m : FinMap nat_cmp Router) (i : ℕ) (x : Router) (q : ℕ) → get (insert m i x) q ≡ cond (nat_eq q i) (Some x) (get m q)
+get_inserted m i x q = grind (arith, get-insert nat_cmp_total m i x q, nat_tests)

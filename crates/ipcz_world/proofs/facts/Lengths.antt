@@ -1,5 +1,5 @@
 -- Lengths by how far a bypass is, link ends, and sides.
-use Rattle.std.specs.Prelude.{◌≡◌, ◌⊎◌, ◌≤◌, ℕ, suc, Bool, true, false, ◌||◌, nat_le, if◌then◌else◌, Option, Some, None, refl}
+use Rattle.std.specs.Prelude.{◌≡◌, ◌⊎◌, ◌≤◌, ℕ, suc, Bool, true, false, nat_le, if◌then◌else◌, Option, Some, None, refl}
 use Rattle.std.proofs.Common.{arith, ap, inl, inr}
 use Rattle.std.proofs.lemmas.Bool.Decides.{nat_tests}
 use Rattle.ipcz_base.specs.declared.side.Side.{Side}
@@ -9,12 +9,13 @@ use Rattle.ipcz_base.specs.declared.link_id.LinkId.TheVariants.{Central, Periphe
 use Rattle.ipcz_base.specs.declared.link_end.LinkEnd.{LinkEnd}
 use Rattle.ipcz_base.specs.Sides.{opposite, same_side}
 use Rattle.ipcz_base.specs.Links.{has_link, same_link}
-use Rattle.ipcz_router.specs.Router.{Router, outward_has, inward_has}
+use Rattle.ipcz_router.specs.Router.{Router, outward_has, inward_has, router_has}
 use Rattle.ipcz_world.specs.World.{World, Key, router_at}
 use Rattle.ipcz_world.specs.Records.{Records, is_begun, inner_link, side_router, bypass_of, proxy_side, side_length, length_by}
 use Rattle.ipcz_world.specs.Records.{bypass_length, known_from}
 use Rattle.ipcz_world.specs.Standing.{Standing, Awaited, is_attached, router_view, awaited_view, view_by, view, key_passes, passes}
 use Rattle.ipcz_world.specs.Numbers.{has_passed}
+use Rattle.std.proofs.lemmas.Bool.{or_right}
 
 pub opposite-twice : (s : Side) → opposite (opposite s) ≡ s
 opposite-twice A = refl
@@ -77,10 +78,6 @@ has_link-some e link s l t = rw (l, t, same_link-itself link, same_side-itself s
 pub has_link-none : (link : LinkId) (s : Side) → has_link None link s ≡ false
 unfolding has_link
 has_link-none link s = refl
-
-pub either : (a b : Bool) → (a || b) ≡ true → (a ≡ true) ⊎ (b ≡ true)
-either true b e = inl refl
-either false b e = inr e
 
 -- a test of a router that stands there
 pub passed : (w : World) (q : Key) (y : Router) (test : Router → Bool) → router_at w q ≡ Some y → key_passes w (Some q) test ≡ test y
@@ -151,3 +148,9 @@ has_passed-some length n = refl
 pub length-none : (g : Records) (p : Key) (s : Side) → (g.peripheral p).by ≡ None → side_length g (inner_link p) s ≡ None
 unfolding length_by bypass_of
 length-none g p s by = rw by refl
+
+pub has_attached : (link : LinkId) (s : Side) (r : Router) → is_attached link s r ≡ true → router_has r link s ≡ true
+unfolding is_attached
+has_attached (Central i) s r h = grind (arith, h)
+has_attached (Peripheral n x) A r h = or_right (outward_has r (Peripheral n x) A) (inward_has r (Peripheral n x) A) h
+has_attached (Peripheral n x) B r h = grind (arith, h)

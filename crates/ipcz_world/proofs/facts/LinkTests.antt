@@ -1,22 +1,18 @@
 -- What the tests of sides, links and ends tell.
-use Rattle.std.specs.Prelude.{◌≡◌, ◌⊎◌, ◌≤◌, ◌<◌, ℕ, Bool, true, false, cond, nat_le, Option, Some, None, refl}
-use Rattle.std.proofs.Common.{arith, ap, inl, inr}
+use Rattle.std.specs.Prelude.{◌≡◌, ◌⊎◌, ◌≤◌, ◌<◌, ℕ, Bool, true, false, cond, nat_le, Option, Some, None, refl, nat_eq}
+use Rattle.std.proofs.Common.{arith, inl, inr}
 use Rattle.std.proofs.lemmas.Bool.Decides.{nat_tests}
 use Rattle.ipcz_base.specs.declared.side.Side.{Side}
 use Rattle.ipcz_base.specs.declared.side.Side.TheVariants.{A, B}
 use Rattle.ipcz_base.specs.declared.end.End.{End}
 use Rattle.ipcz_base.specs.declared.link_id.LinkId.{LinkId}
-use Rattle.ipcz_base.specs.declared.link_id.LinkId.TheVariants.{Central, Peripheral}
 use Rattle.ipcz_base.specs.declared.link_end.LinkEnd.{LinkEnd}
 use Rattle.ipcz_base.specs.Sides.{opposite, same_side}
-use Rattle.ipcz_base.specs.Ends.{same_end}
-use Rattle.ipcz_base.specs.Links.{same_link, has_link}
+use Rattle.ipcz_base.specs.Ends.{same_end, opposite_end}
+use Rattle.ipcz_base.specs.Links.{has_link}
 use Rattle.ipcz_world.specs.Records.{known_from}
-use Rattle.ipcz_world.proofs.facts.Lengths.{same_side-itself, same_side-tells}
-
-pub opposite-opposite : (s : Side) → opposite (opposite s) ≡ s
-opposite-opposite A = refl
-opposite-opposite B = refl
+use Rattle.ipcz_world.proofs.facts.Lengths.{same_side-itself, same_side-tells, same_link-itself, opposite-twice, same_link-tells}
+use Rattle.ipcz_world.proofs.facts.Tests.{and_first, and_second}
 
 pub same_side-opposite : (s : Side) → same_side (opposite s) s ≡ false
 same_side-opposite A = refl
@@ -31,17 +27,6 @@ side_is B B = inl refl
 
 pub same_end-itself : (e : End) → same_end e e ≡ true
 same_end-itself e = grind (arith, same_side-itself e.side, nat_tests)
-
-pub same_link-tells : (l m : LinkId) → same_link l m ≡ true → l ≡ m
-same_link-tells (Central i) (Central j) e = ap Central (grind (arith, e, nat_tests))
-same_link-tells (Central i) (Peripheral n x) e = absurd (grind (arith, e))
-same_link-tells (Peripheral n x) (Central j) e = absurd (grind (arith, e))
-same_link-tells (Peripheral n x) (Peripheral m y) e = let a : n ≡ m = grind (arith, e, nat_tests) in let b : x ≡ y =
-    grind (arith, e, nat_tests) in grind (arith, a, b)
-
-pub same_link-itself : (l : LinkId) → same_link l l ≡ true
-same_link-itself (Central i) = grind (arith, nat_tests)
-same_link-itself (Peripheral n x) = grind (arith, nat_tests)
 
 -- a link end is this link at this side
 pub record IsLinkEnd (o : Option LinkEnd) (l : LinkId) (s : Side) : Type 0 where
@@ -61,10 +46,6 @@ has_link-tells (Some e) l s h = record {
       same_side-tells e.side s (grind (arith, h));
 }
 
-pub has_link-none : (l : LinkId) (s : Side) → has_link None l s ≡ false
-unfolding has_link
-has_link-none l s = refl
-
 pub has_link-is : (o : Option LinkEnd) (e : LinkEnd) (l : LinkId) (s : Side) → o ≡ Some e → e.link ≡ l → e.side ≡ s → has_link o l s ≡ true
 unfolding has_link
 has_link-is o e l s a b c = grind (arith, a, b, c, same_link-itself l, same_side-itself s)
@@ -82,10 +63,15 @@ known_from-tells first stage n m e = go (nat_le first stage) refl e
     go true q h = record { since = grind (arith, q, nat_tests); is = grind (arith, h) }
     go false q h = absurd (grind (arith, h))
 
-pub known_from-since : (first stage n : ℕ) → first ≤ stage → known_from first stage n ≡ Some n
-unfolding known_from
-known_from-since first stage n h = grind (arith, h, nat_tests)
-
 pub known_from-early : (first stage n : ℕ) → stage < first → known_from first stage n ≡ None
 unfolding known_from
 known_from-early first stage n h = grind (arith, h, nat_tests)
+
+pub opposite_end-twice : (e : End) → opposite_end (opposite_end e) ≡ e
+opposite_end-twice e = λ i. record { pair = e.pair; side = opposite-twice e.side i }
+
+pub same_end-tells : (d e : End) → same_end d e ≡ true → d ≡ e
+same_end-tells d e h =
+    let p : d.pair ≡ e.pair = let q = and_first (nat_eq d.pair e.pair) (same_side d.side e.side) h in grind (arith, q, nat_tests) in
+    let s : d.side ≡ e.side = same_side-tells d.side e.side (and_second (nat_eq d.pair e.pair) (same_side d.side e.side) h) in
+    λ i. record { pair = p i; side = s i }

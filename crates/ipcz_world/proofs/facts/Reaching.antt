@@ -14,7 +14,7 @@ reach_in-from [] n = omega arith
 reach_in-from (e ∷ es) n = elim (nat_eq e.0 n) as (λ b. n ≤ reach_in es (cond b (n + 1) n))
     [ true ↦ omega (arith, reach_in-from es (n + 1)) | false ↦ reach_in-from es n ]
 
-filled : {X : Type 0} (es : List (ℕ × X)) (n m : ℕ) → n ≤ m → m < reach_in es n → is_some (find nat_cmp m es) ≡ true
+pub filled : {X : Type 0} (es : List (ℕ × X)) (n m : ℕ) → n ≤ m → m < reach_in es n → is_some (find nat_cmp m es) ≡ true
 filled [] n m a b = absurd (omega arith)
 filled {X} (e ∷ es) n m a b = go (λ k. filled es k m) (eq_by_cmp nat_cmp m e.0) (nat_eq e.0 n) refl refl b
   where

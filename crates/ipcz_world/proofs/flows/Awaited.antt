@@ -27,7 +27,7 @@ use Rattle.ipcz_world.specs.Structure.{Stands}
 use Rattle.ipcz_world.specs.Bypasses.{BypassRecords, Told, of_bypass, control_weight, accept_of, inner_of, move_weight, moving_link}
 use Rattle.ipcz_world.proofs.frames.Opened.{OpenMoves}
 use Rattle.ipcz_world.proofs.flows.Flowing.{same_way, found, made_within, total_list-found}
-use Rattle.ipcz_world.proofs.views.Known.{same_link-tells, twice}
+use Rattle.ipcz_world.proofs.facts.Lengths.{opposite-twice, same_link-tells}
 
 -- a side that is awaited has no router yet
 pub awaited_none : (w : World) (g : Records) (link : LinkId) (s : Side) → is_awaited (view w g link s) ≡ true → side_router g link s ≡ None
@@ -113,7 +113,7 @@ made_central w g c s stands law told linked none =
     let a = side_node g (Central c) (opposite s) in let b = side_node g (Central c) s in
     let same : (accept_of g o) ≡ messages.AcceptBypass o s c (g.bypass o).taken_at = grind (arith, half.side, half.fresh) in
     let sender : side_node g (inner_of g o) B ≡ a = sym (law.fresh_inner_node o (grind (arith, half.stage))) ∙ grind
-    (arith, half.side, half.fresh, twice (proxy_side g o)) in
+    (arith, half.side, half.fresh, opposite-twice (proxy_side g o)) in
     let receiver : side_node g (Central o) (across_side g o) ≡ b =
     sym (law.fresh_across_node o (grind (arith, half.stage))) ∙ grind (arith, half.side, half.fresh) in
     let one : under_way (λ from to. of_bypass g o (of_making a b (Central c) s from to)) w ≡ 1 =
@@ -122,7 +122,7 @@ made_central w g c s stands law told linked none =
     let f = found (λ from to. of_bypass g o (of_making a b (Central c) s from to)) w (omega (arith, one)) in
     made_by_one w a b (Central c) s f.0 f.1 f.2 f.3 f.4 (about-weighs g o (of_making a b (Central c) s f.0 f.1) f.3 f.5)
 
-expected_move-moving : (h : Descriptor → ℕ) (d : Descriptor) → move_weight h (Moving d) ≡ h d
+pub expected_move-moving : (h : Descriptor → ℕ) (d : Descriptor) → move_weight h (Moving d) ≡ h d
 unfolding move_weight
 expected_move-moving h d = refl
 

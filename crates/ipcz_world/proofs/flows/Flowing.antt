@@ -9,6 +9,8 @@ use Rattle.ipcz_base.specs.declared.message.Message.{Message}
 use Rattle.ipcz_world.specs.World.{World, flow}
 use Rattle.ipcz_world.specs.Flows.{IsUnderWay, makes, is_made_by, is_made_before, under_way}
 use Rattle.ipcz_base.specs.Totals.{total_below, total_list}
+use Rattle.ipcz_world.proofs.weights.Totalling.{total_below-same}
+use Rattle.ipcz_world.proofs.weights.Sums.{total_list-at}
 
 -- whether two ways are the same
 abbrev pub same_way : ℕ → ℕ → ℕ → ℕ → Bool
@@ -29,10 +31,6 @@ pub record IsTaken (w v : World) (a b : ℕ) (m : Message) : Type 0 where
   pub receiver : b < w.count
   pub here : flow w a b ≡ m ∷ flow v a b
   pub apart : (from to : ℕ) → from < w.count → to < w.count → same_way from to a b ≡ false → flow v from to ≡ flow w from to
-
-pub total_below-same : (c : ℕ) (f e : ℕ → ℕ) → ((j : ℕ) → j < c → f j ≡ e j) → total_below c f ≡ total_below c e
-total_below-same zero f e h = refl
-total_below-same (suc c) f e h = omega (arith, h c (omega arith), total_below-same c f e (λ j l. h j (omega arith)))
 
 total_below-one : (c n : ℕ) (f e : ℕ → ℕ) (a : ℕ) → n < c → f n ≡ e n + a → ((j : ℕ) → j < c → j ≢ n → f j ≡ e j) →
     total_below c f ≡ total_below c e + a
@@ -91,11 +89,6 @@ total_below-has (suc c) n f l = go (nat_eq n c) refl (λ l. total_below-has c n 
     go true q again = let is : f n ≡ f c = ap f (grind (arith, q, nat_tests)) in omega (arith, is)
     go false q again = omega (arith, again (grind (arith, q, nat_tests)))
 
-pub total_list-has : {X : Type 0} (h : X → ℕ) (xs : List X) (i : ℕ) (x : X) → slice_get xs i ≡ Some x → h x ≤ total_list h xs
-total_list-has h [] i x e = cc
-total_list-has h (y ∷ xs) zero x e = let is : h y ≡ h x = ap h (grind (arith, e)) in omega (arith, is)
-total_list-has h (y ∷ xs) (suc i) x e = omega (arith, total_list-has h xs i x e)
-
 -- one of the messages weighs something
 pub found : (h : ℕ → ℕ → Message → ℕ) (w : World) → 1 ≤ under_way h w →
     (from : ℕ) × (to : ℕ) × (i : ℕ) × (m : Message) × IsUnderWay w from to i m × (1 ≤ h from to m)
@@ -114,7 +107,7 @@ weighed h w from to i m u =
     total_below-has w.count from (λ f. total_below w.count (λ t. total_list (h f t) (flow w f t))) u.sender in
     let b : total_list (h from to) (flow w from to) ≤ _ = total_below-has w.count to (λ t. total_list (h from t) (flow w from t)) u.receiver
     in
-    omega (arith, a, b, total_list-has (h from to) (flow w from to) i m u.place)
+    omega (arith, a, b, total_list-at (h from to) (flow w from to) i m u.place)
 
 -- a flow with a change at one way
 under_way-one : (h : ℕ → ℕ → Message → ℕ) (w v : World) (a b d : ℕ) → v.count ≡ w.count → a < w.count → b < w.count →
@@ -144,7 +137,7 @@ under_way-taken h w v a b m p =
     (subst (λ c. b < c) (sym p.count) p.receiver) (omega (arith, ap (total_list (h a b)) p.here))
     (λ from to l n e. sym (p.apart from to (subst (λ c. from < c) p.count l) (subst (λ c. to < c) p.count n) e)))
 
-slice_get-last : {X : Type 0} (xs : List X) (y x : X) (i : ℕ) → slice_get (xs ++ y ∷ []) i ≡ Some x →
+pub slice_get-last : {X : Type 0} (xs : List X) (y x : X) (i : ℕ) → slice_get (xs ++ y ∷ []) i ≡ Some x →
     (slice_get xs i ≡ Some x) ⊎ ((i ≡ length xs) × (x ≡ y))
 slice_get-last [] y x zero e = inr (refl, grind (arith, e))
 slice_get-last [] y x (suc i) e = cc
@@ -384,7 +377,7 @@ weighed-two h w a b i m c d j n u v ne = go (nat_eq a c) refl
   where
     at : (x y k : ℕ) (z : Message) → IsUnderWay w x y k z → h x y z ≤ total_below w.count (λ to. total_list (h x to) (flow w x to))
     at x y k z e = let t = total_below-has w.count y (λ to. total_list (h x to) (flow w x to)) e.receiver in let s =
-        total_list-has (h x y) (flow w x y) k z e.place in omega (arith, t, s)
+        total_list-at (h x y) (flow w x y) k z e.place in omega (arith, t, s)
 
     go : (e : Bool) → nat_eq a c ≡ e → (h a b m + h c d n) ≤ total_below w.count
         (λ from. total_below w.count (λ to. total_list (h from to) (flow w from to)))
@@ -396,6 +389,6 @@ weighed-two h w a b i m c d j n u v ne = go (nat_eq a c) refl
         let t = total_below-two w.count b d (λ to. total_list (h a to) (flow w a to)) u.receiver v.receiver
         (λ p. grind (arith, e, ne, p, nat_tests)) in
         let o = total_below-has w.count a (λ from. total_below w.count (λ to. total_list (h from to) (flow w from to))) u.sender in
-        let s = total_list-has (h a b) (flow w a b) i m u.place in let r = total_list-has (h a d) (flow w a d) j n v2.place in
+        let s = total_list-at (h a b) (flow w a b) i m u.place in let r = total_list-at (h a d) (flow w a d) j n v2.place in
         let k : h c d n ≡ h a d n = ap (λ z. h z d n) same in
         omega (arith, t, o, s, r, k)

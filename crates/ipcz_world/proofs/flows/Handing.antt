@@ -19,6 +19,7 @@ use Rattle.ipcz_world.specs.Flows.{IsUnderWay, makes, is_made_by, is_made_before
 use Rattle.ipcz_base.specs.Totals.{total_list}
 use Rattle.ipcz_world.specs.Acts.{free}
 use Rattle.ipcz_world.proofs.weights.Totalling.{total_list-append, total_pairs, total_pairs-one}
+use Rattle.ipcz_world.proofs.frames.Unmoved.{Changed}
 
 -- the world after this
 unfoldable pub handed_on : World → ℕ → Key → Router → ℕ → Message → World
@@ -187,6 +188,47 @@ module _ (w : World) (from : ℕ) (k : Key) (x : Router) where
   unfolding handed
   outbox-handed n a = grind (arith, frames, nat_tests)
 
+-- a hand is a change of one router, and of nothing that callers hold
+pub changed-handed_on : (w : World) (from : ℕ) (k : Key) (r x : Router) (to : ℕ) (m : Message) → router_at w k ≡ Some r →
+    Changed w (handed_on w from k x to m) k r x
+changed-handed_on w from k r x to m here = record {
+  one = record {
+    here = here;
+    router = router-handed_on w from k x to m;
+    claimed = claimed-handed_on w from k x to m;
+    size = size-handed_on w from k x to m;
+    count = count-handed_on w from k x to m;
+    node = node-handed_on w from k x to m;
+    nodes = nodes-handed_on w from k x to m;
+    opening = opening-handed_on w from k x to m;
+    next_router = next_router-handed_on w from k x to m;
+    next_peripheral = next_peripheral-handed_on w from k x to m;
+    strays = strays-handed_on w from k x to m;
+  };
+  held = held-handed_on w from k x to m;
+  pending = pending-handed_on w from k x to m;
+}
+
+pub changed-handed : (w : World) (from : ℕ) (k : Key) (r x : Router) → router_at w k ≡ Some r →
+    Changed w (handed w from k x) k r x
+changed-handed w from k r x here = record {
+  one = record {
+    here = here;
+    router = router-handed w from k x;
+    claimed = claimed-handed w from k x;
+    size = size-handed w from k x;
+    count = count-handed w from k x;
+    node = node-handed w from k x;
+    nodes = nodes-handed w from k x;
+    opening = opening-handed w from k x;
+    next_router = next_router-handed w from k x;
+    next_peripheral = next_peripheral-handed w from k x;
+    strays = strays-handed w from k x;
+  };
+  held = held-handed w from k x;
+  pending = pending-handed w from k x;
+}
+
 pub ruleset handing_silently = (
   router-handed,
   word-handed,
@@ -231,7 +273,7 @@ flow-hand w from to a b m e = go (nat_eq a from && nat_eq b to) refl
         rw (p, r, e) refl
     go false q = refl
 
-append_none : {X : Type 0} (xs : List X) → xs ++ [] ≡ xs
+pub append_none : {X : Type 0} (xs : List X) → xs ++ [] ≡ xs
 append_none [] = refl
 append_none (x ∷ xs) = ap (λ ys. x ∷ ys) (append_none xs)
 

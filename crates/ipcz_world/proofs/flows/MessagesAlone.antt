@@ -32,9 +32,10 @@ use Rattle.ipcz_world.specs.Bypasses.{BypassRecords, Stages, Told, Moves, of_byp
 use Rattle.ipcz_world.specs.Whereabouts.{Terminals, EndPlaces, BooksKept, Conserved, HeldOnce, times_held}
 use Rattle.ipcz_world.specs.Numbers.{Items, Order, ProxyNumbers, FreshNumbers, IsItemUnderWay, standing_router}
 use Rattle.ipcz_world.specs.Inv.{Inv}
-use Rattle.ipcz_world.proofs.flows.Flowing.{CameFrom, total_below-same}
+use Rattle.ipcz_world.proofs.flows.Flowing.{CameFrom}
 use Rattle.ipcz_world.proofs.weights.Weighing.{in_places-is}
 use Rattle.ipcz_world.proofs.flows.MessagesPassing.{IsFlush, Passes, HasHands}
+use Rattle.ipcz_world.proofs.weights.Totalling.{total_below-same}
 
 -- whether a message is an item
 abbrev is_item : Message → Bool

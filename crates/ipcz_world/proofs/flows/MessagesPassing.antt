@@ -17,7 +17,7 @@ use Rattle.ipcz_world.specs.Flows.{IsUnderWay, makes, is_made_by, under_way}
 use Rattle.ipcz_base.specs.Totals.{total_below, total_list}
 use Rattle.ipcz_world.specs.Structure.{Counts}
 use Rattle.ipcz_world.proofs.flows.Flowing.{IsPushed, IsTaken, CameFrom, came_pushed, came_taken, under_way-pushed, under_way-taken}
-use Rattle.ipcz_world.proofs.flows.Flowing.{total_below-same}
+use Rattle.ipcz_world.proofs.weights.Totalling.{total_below-same}
 
 under_way-is : (h : ℕ → ℕ → Message → ℕ) (w : World) → under_way h w ≡ total_below w.count
     (λ from. total_below w.count (λ to. total_list (h from to) (flow w from to)))

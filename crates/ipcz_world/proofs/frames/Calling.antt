@@ -1,5 +1,5 @@
 -- A caller's act at a terminal: its router and what its node's callers hold change, no message moves.
-use Rattle.ipcz_world.proofs.weights.OfRecords.{holds, held_times}
+use Rattle.ipcz_world.proofs.weights.OfRecords.{holds, held_times, in_message, in_places}
 use Rattle.std.specs.Prelude.{◌≡◌, ◌⊎◌, ◌≤◌, ◌<◌, ◌+◌, ℕ, Bool, true, false, cond, nat_eq, Some, refl}
 use Rattle.std.specs.FinMap.{get, insert}
 use Rattle.std.proofs.Common.{arith, ap, subst, ◌∙◌, sym, inl, inr}
@@ -13,7 +13,6 @@ use Rattle.ipcz_world.proofs.frames.Frames.{node-set_node, word-set_node, mail-s
 use Rattle.ipcz_world.specs.Books.{Books, is_closed}
 use Rattle.ipcz_world.specs.Records.{Records, is_nowhere}
 use Rattle.ipcz_world.specs.Places.{Weight, in_router, names_end, times}
-use Rattle.ipcz_world.proofs.weights.OfRecords.{in_message, in_places}
 use Rattle.ipcz_world.specs.Whereabouts.{HeldOnce, times_held}
 use Rattle.ipcz_world.proofs.frames.Touching.{IsTouched, HasSameHands}
 use Rattle.ipcz_world.proofs.frames.Changing.{IsNodeChanged, IsNodeAlike, touched_by, flow_is}
@@ -115,7 +114,7 @@ module _ (w : World) (k : Key) (r y : Router) (x : Node) (is : IsCall w k r y x)
 abbrev pub missing : Bool → ℕ
 missing c = cond c 0 1
 
-cond_most : (b : Bool) → cond b 0 1 ≤ 1
+pub cond_most : (b : Bool) → cond b 0 1 ≤ 1
 cond_most true = omega arith
 cond_most false = omega arith
 

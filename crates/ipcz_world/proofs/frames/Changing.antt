@@ -38,18 +38,21 @@ same_routers w v q e = ap (λ m. get m q.serial) e
 pub touched_by : (w v : World) (k : Key) (r y : Router) (x : Node) → IsNodeChanged w v k.node x → IsNodeAlike (node_at w k.node) x →
     x.routers ≡ insert (node_at w k.node).routers k.serial y → router_at w k ≡ Some r → IsTouched w v k r y
 touched_by w v k r y x c a routers here = record {
-  here = here;
-  router = λ q. same_routers (set_router w k y) v q (grind (arith, frames, c.node q.node, routers, nat_tests)) ∙ router-set_router w k y q;
+  one = record {
+    here = here;
+    router = λ q. same_routers (set_router w k y) v q (grind (arith, frames, c.node q.node, routers, nat_tests)) ∙
+        router-set_router w k y q;
+    claimed = c.claimed;
+    size = c.size;
+    count = c.count;
+    node = λ n. grind (arith, c.node n, a.node, nat_tests);
+    nodes = λ n. grind (arith, c.node n, a.nodes, nat_tests);
+    opening = λ n. grind (arith, c.node n, a.opening, nat_tests);
+    next_router = λ n. grind (arith, c.node n, a.next_router, nat_tests);
+    next_peripheral = λ n. grind (arith, c.node n, a.next_peripheral, nat_tests);
+    strays = λ n. grind (arith, c.node n, a.strays, nat_tests);
+  };
   word = c.word;
-  claimed = c.claimed;
-  size = c.size;
-  count = c.count;
-  node = λ n. grind (arith, c.node n, a.node, nat_tests);
-  nodes = λ n. grind (arith, c.node n, a.nodes, nat_tests);
-  opening = λ n. grind (arith, c.node n, a.opening, nat_tests);
-  next_router = λ n. grind (arith, c.node n, a.next_router, nat_tests);
-  next_peripheral = λ n. grind (arith, c.node n, a.next_peripheral, nat_tests);
-  strays = λ n. grind (arith, c.node n, a.strays, nat_tests);
 }
 
 pub flow_is : (w : World) (from to : ℕ) → flow w from to ≡ messages_in (mail_at w (way w from to)) ++ outbox (node_at w from) to

@@ -9,7 +9,7 @@ use Rattle.ipcz_base.specs.declared.link_id.LinkId.TheVariants.{Central, Periphe
 use Rattle.ipcz_base.specs.declared.link_end.LinkEnd.{LinkEnd}
 use Rattle.ipcz_base.specs.declared.descriptor.Descriptor.{Descriptor}
 use Rattle.ipcz_base.specs.declared.item.Item.{Item}
-use Rattle.ipcz_base.specs.Sides.{opposite, same_side}
+use Rattle.ipcz_base.specs.Sides.{opposite}
 use Rattle.ipcz_edge.specs.Edge.{Edge, edge_has}
 use Rattle.ipcz_router.specs.Router.{Router, inward_edge}
 use Rattle.ipcz_world.specs.World.{World, Key, router_at}
@@ -23,17 +23,17 @@ use Rattle.ipcz_world.specs.Bypasses.{BypassRecords, inner_of, fresh_of}
 use Rattle.ipcz_world.specs.Numbers.{Order, ProxyNumbers, IsItemUnderWay, has_passed, standing_router}
 use Rattle.ipcz_world.proofs.frames.Touching.{recorded_same}
 use Rattle.ipcz_world.proofs.frames.Draining.{gone_same, taking_queue-standing}
-use Rattle.ipcz_world.proofs.views.Seen.{stands_at}
 use Rattle.ipcz_world.specs.Books.{Books}
 use Rattle.ipcz_world.proofs.frames.Opened.{OpenInv}
 use Rattle.ipcz_world.proofs.flows.Awaited.{awaited_none}
 use Rattle.ipcz_world.proofs.flows.Fitting.{ItemFits, fits_of}
-use Rattle.ipcz_world.proofs.views.Known.{IsEnd, edge_has-tells, twice, fresh_central}
-use Rattle.ipcz_world.proofs.facts.LinkTests.{side_is}
-use Rattle.ipcz_world.proofs.sends.SendingOut.{bypass_of-central_is}
+use Rattle.ipcz_world.proofs.views.Known.{IsEnd, edge_has-tells, fresh_central}
+use Rattle.ipcz_world.proofs.facts.LinkTests.{side_is, same_side-opposite}
 use Rattle.ipcz_world.proofs.frames.Filling.{IsFilling, sent_kept, taken_filled, taken_current, filled_before}
-use Rattle.ipcz_world.proofs.facts.BegunLengths.{bypass_of-begun}
+use Rattle.ipcz_world.proofs.facts.BegunLengths.{bypass_of-begun, bypass_of-central_is, length-inner}
 use Rattle.ipcz_world.proofs.sends.SendingItems.{inward_link}
+use Rattle.ipcz_world.proofs.facts.Tests.{same_some}
+use Rattle.ipcz_world.proofs.facts.Lengths.{length-proxy, opposite-twice, same_side-itself, view-standing}
 
 known_from-none : (first stage n : ℕ) → known_from first stage n ≡ None → stage < first
 unfolding known_from
@@ -43,20 +43,11 @@ known_from-none first stage n h = go (nat_le first stage) refl
     go true e = absurd (grind (arith, e, h))
     go false e = grind (arith, e, nat_tests)
 
-same_proxy_side : (s : Side) → same_side s s ≡ true
-same_proxy_side A = refl
-same_proxy_side B = refl
-
 -- the length from the proxy over its old link, and inward
 pub length-from_proxy : (g : Records) (o : ℕ) → bypass_of g (Central o) ≡ Some o →
     side_length g (Central o) (proxy_side g o) ≡ known_from 3 (g.bypass o).stage (g.bypass o).taken_at
 unfolding bypass_length length_by
-length-from_proxy g o h = ap (length_by g (Central o) (proxy_side g o)) h ∙ grind (arith, same_proxy_side (proxy_side g o))
-
-pub length-inward : (g : Records) (p : Key) (o : ℕ) → (g.peripheral p).by ≡ Some o →
-    side_length g (inner_link p) A ≡ known_from 3 (g.bypass o).stage (g.bypass o).accepted_at
-unfolding bypass_length length_by
-length-inward g p o h = ap (length_by g (inner_link p) A) (bypass_of-inner g p ∙ h)
+length-from_proxy g o h = ap (length_by g (Central o) (proxy_side g o)) h ∙ grind (arith, same_side-itself (proxy_side g o))
 
 is_outward-inward : (n x : ℕ) → is_outward (Peripheral n x) A ≡ true → ⊥
 unfolding is_outward
@@ -69,9 +60,6 @@ ends_side g l s i e = ap (λ z. (side_end g z s).side) e
 inner_end : (g : Records) (q : Key) (s : Side) → (side_end g (inner_link q) s).side ≡ (g.peripheral q).end.side
 unfolding side_end
 inner_end g q s = refl
-
-pub same_some : {X : Type 0} {a b : X} → Some a ≡ Some b → a ≡ b
-same_some h = cc
 
 -- where the length toward a router with both links isn't known, the other side of its fresh link is awaited
 pub half_sender : (w : World) (g : Records) (k : Key) (r : Router) (p d : LinkEnd) → Links w g → Positions w g → Stands w g →
@@ -88,7 +76,7 @@ half_sender w g k r p d links law stands bypasses here on off h =
       | inr s ↦
           let is = bypass_of-central_is g i o (ap (bypass_of g) (sym el) ∙ b) in let stage = law.across_stage k r d i here off el s in
           let none : side_length g (Central i) (proxy_side g i) ≡ None =
-          ap (side_length g (Central i)) (sym (twice (proxy_side g i)) ∙ ap opposite (sym s)) ∙ ap
+          ap (side_length g (Central i)) (sym (opposite-twice (proxy_side g i)) ∙ ap opposite (sym s)) ∙ ap
           (λ z. side_length g z (opposite d.side)) (sym el) ∙ h in
           absurd (omega (
             arith,
@@ -104,7 +92,7 @@ half_sender w g k r p d links law stands bypasses here on off h =
         let by : (g.peripheral q).by ≡ Some o = sym (bypass_of-inner g q) ∙ ap (bypass_of g) (sym el) ∙ b in
         let none : side_length g (inner_link q) A ≡ None = ap (λ z. side_length g z A) (sym el) ∙ ap
         (λ z. side_length g d.link (opposite z)) (sym et) ∙ h in
-        let low = known_from-none 3 (g.bypass o).stage (g.bypass o).accepted_at (sym (length-inward g q o by) ∙ none) in
+        let low = known_from-none 3 (g.bypass o).stage (g.bypass o).accepted_at (sym (length-proxy g q o by) ∙ none) in
         let stage : (g.bypass o).stage ≡ 2 = omega (arith, low, law.inner_stage k r d q o here off el by) in
         let link : p.link ≡ fresh_of g o = same_some (ap link_in (sym on) ∙ law.inner_fresh k r d q o here off el by) in
         let end : side_end g d.link d.side ≡ side_end g p.link p.side =
@@ -256,22 +244,14 @@ module _ (w : World) (b : Books) (g : Records) (k : Key) (r : Router) (from to i
             [ inl f ↦ absurd (one_inward f.end e.end f.is e.is) | inr f ↦ same_end (inward_edge r).decaying e f ]
       ]
 
-other_side : (s : Side) → same_side (opposite s) s ≡ false
-other_side A = refl
-other_side B = refl
-
 no_primary : {x : LinkId} {o : Option LinkEnd} → o ≡ None → link_in o ≡ Some x → ⊥
 no_primary e h = grind (arith, e, h)
 
 length-across_from : (g : Records) (o : ℕ) → bypass_of g (Central o) ≡ Some o → 3 ≤ (g.bypass o).stage →
     side_length g (Central o) (across_side g o) ≡ Some (g.bypass o).accepted_at
 unfolding bypass_length length_by known_from
-length-across_from g o h le = ap (length_by g (Central o) (across_side g o)) h ∙ grind (arith, other_side (proxy_side g o), le, nat_tests)
-
-length-outward : (g : Records) (p : Key) (o : ℕ) → (g.peripheral p).by ≡ Some o → 2 ≤ (g.bypass o).stage →
-    side_length g (inner_link p) B ≡ Some (g.bypass o).taken_at
-unfolding bypass_length length_by known_from
-length-outward g p o h le = ap (length_by g (inner_link p) B) (bypass_of-inner g p ∙ h) ∙ grind (arith, le, nat_tests)
+length-across_from g o h le = ap (length_by g (Central o) (across_side g o)) h ∙
+    grind (arith, same_side-opposite (proxy_side g o), le, nat_tests)
 
 -- a queue's direction at a link
 flag_tells : (a b : Bool) → cond a b (not b) ≡ true → a ≡ b
@@ -318,7 +298,8 @@ module _ (w v : World) (b : Books) (g : Records) (k : Key) (r y : Router) (from 
   }
 
   place : (fed_queue l s r).current ≤ n
-  place = fits_here.not_passed (fed_queue l s r) (ap (taking_queue l s) (stands_at w g l s k r known here on) ∙ taking_queue-standing l s r)
+  place = fits_here.not_passed (fed_queue l s r) (ap (taking_queue l s) (view-standing w g l s k r known here on) ∙
+      taking_queue-standing l s r)
 
   pub ordered-filled : Ordered v
   ordered-filled = record {
@@ -361,7 +342,7 @@ module _ (w v : World) (b : Books) (g : Records) (k : Key) (r y : Router) (from 
             let by : (g.peripheral p.0).by ≡ Some o = sym (bypass_of-inner g p.0) ∙ ap (bypass_of g) (sym p.1 ∙ sym e.link_is) ∙
             law.positions.inward_decaying k r e.end here e.is ∙ ap g.begun (sym proxy) ∙ law.positions.proxy_begun o begun in
             fits_here.below_length (g.bypass o).taken_at (ap (λ z. side_length g z (opposite s)) p.1 ∙ ap
-            (λ z. side_length g (inner_link p.0) (opposite z)) p.2 ∙ length-outward g p.0 o by stage)
+            (λ z. side_length g (inner_link p.0) (opposite z)) p.2 ∙ length-inner g p.0 o by stage)
       ]
 
   in_new : (o : ℕ) → (g.bypass o).proxy ≡ k → 3 ≤ (g.bypass o).stage → is_outward l s ≡ true → n < (g.bypass o).accepted_at

@@ -26,17 +26,18 @@ use Rattle.ipcz_world.specs.Bypasses.{Moves, inner_of, move_weight, moving_link}
 use Rattle.ipcz_world.specs.Whereabouts.{Terminals, EndPlaces, BooksKept, Conserved, HeldOnce}
 use Rattle.ipcz_world.specs.Numbers.{Items, Order, ProxyNumbers, FreshNumbers, has_passed, standing_router}
 use Rattle.ipcz_world.specs.Inv.{Inv}
-use Rattle.ipcz_world.proofs.views.Seen.{stands_at}
 use Rattle.ipcz_world.proofs.frames.Draining.{taking_queue-standing}
 use Rattle.ipcz_world.proofs.flows.Fitting.{fits_of, items_by}
-use Rattle.ipcz_world.proofs.weights.Weighing.{same_end-itself}
 use Rattle.ipcz_world.proofs.flows.SameMessages.{under-same, made-same, under_way-same}
-use Rattle.ipcz_world.proofs.frames.FreshPairs.{fresh_at, end_of, IsNew, IsGrown, empty_item, is_nowhere-at, move_none, move_at}
-use Rattle.ipcz_world.proofs.frames.FreshPairs.{known_somewhere, inner_end, attached_fresh, central_queues, reach_empty}
+use Rattle.ipcz_world.proofs.frames.FreshPairs.{fresh_at, end_of, IsNew, IsGrown, empty_item, is_nowhere-at, move_none, known_somewhere}
+use Rattle.ipcz_world.proofs.frames.FreshPairs.{inner_end, attached_fresh, central_queues, reach_empty}
 use Rattle.ipcz_world.proofs.facts.Tests.{not_both}
 use Rattle.ipcz_world.proofs.frames.FirstLinkAround.{recorded_apart, recorded_kept, recorded_inner, recorded_was, router_kept, node_kept}
 use Rattle.ipcz_world.proofs.frames.FirstLinkAround.{end_kept, length_kept, terminal_kept, nowhere_was, passes_kept, view_kept, new_router}
 use Rattle.ipcz_world.proofs.frames.FirstLinkAround.{grown_end, no_end, central_recorded, new_passes, proxy_same, same}
+use Rattle.ipcz_world.proofs.weights.Booking.{expected_move-at}
+use Rattle.ipcz_world.proofs.facts.Lengths.{view-standing}
+use Rattle.ipcz_world.proofs.facts.LinkTests.{same_end-itself}
 
 module _ {w v : World} {b : Books} {g : Records} {owner' : ℕ → Owner} {central' : ℕ → CentralRecord} {terminal' : End → Terminal} {i : ℕ}
     {at : Side → Key} (law : Inv w b g) (is : IsGrown w v g owner' central' terminal' i at) where
@@ -78,7 +79,7 @@ module _ {w v : World} {b : Books} {g : Records} {owner' : ℕ → Owner} {centr
       weighs e f = elim (is.terminal e) [
         | inl s ↦ ap (move_weight f) (sym s)
         | inr s ↦ move_none f (g.terminal e) (law.terminals.unopened e (ap (λ j. is_linked (g.owner j)) s.0 ∙ is.free)) ∙ sym
-            (ap (move_weight f) s.1 ∙ move_at f (at e.side))
+            (ap (move_weight f) s.1 ∙ expected_move-at f (at e.side))
       ]
 
   -- where a new router's terminal is
@@ -198,7 +199,8 @@ module _ {w v : World} {b : Books} {g : Records} {owner' : ℕ → Owner} {centr
 
   -- the new terminals stand at the new link's sides, with nothing sent and nothing come
   new_view : is_linked (owner' i) ≡ true → (s : Side) → view v h (Central i) s ≡ Standing (fresh_at i at s)
-  new_view l s = stands_at v h (Central i) s (at s) (fresh_at i at s) (new_router law is l s) ((is.linked l).here s) (attached_fresh i at s)
+  new_view l s = view-standing v h (Central i) s (at s) (fresh_at i at s) (new_router law is l s) ((is.linked l).here s)
+      (attached_fresh i at s)
 
   new_taking : is_linked (owner' i) ≡ true → (s : Side) (q : Queue Item) → taking_queue (Central i) s (view v h (Central i) s) ≡ Some q →
       queue_from 0 ≡ q

@@ -1,7 +1,6 @@
 -- A word that gets its owner, and the terminals of a pair that is new on it: the relation, and small facts of fresh terminals.
-use Rattle.ipcz_world.proofs.weights.OfRecords.{holds}
-use Rattle.std.specs.Prelude.{◌≡◌, ◌≢◌, ◌⊎◌, ◌≤◌, ◌<◌, ◌+◌, ℕ, Bool, true, false, cond, ◌||◌, nat_le, Some, None}
-use Rattle.std.specs.Prelude.{refl}
+use Rattle.ipcz_world.proofs.weights.OfRecords.{holds, in_places}
+use Rattle.std.specs.Prelude.{◌≡◌, ◌≢◌, ◌⊎◌, ◌≤◌, ◌<◌, ◌+◌, ℕ, Bool, true, false, cond, nat_le, Some, None, refl}
 use Rattle.std.specs.Ordering.{nat_cmp}
 use Rattle.std.specs.FinMap.{get-empty}
 use Rattle.std.proofs.Common.{arith}
@@ -24,19 +23,17 @@ use Rattle.ipcz_router.specs.Router.{Router, is_on_central}
 use Rattle.ipcz_node.specs.Node.{new_end}
 use Rattle.ipcz_world.specs.World.{World, Key, node_at, word_at, router_at, flow}
 use Rattle.ipcz_world.specs.Records.{Records, Owner, Spare, Opening, Fresh, CentralRecord, Terminal, Nowhere, At, Moving, Retired}
-use Rattle.ipcz_world.specs.Records.{is_linked, is_unclaimed, is_begun, inner_link, bypass_of, side_node}
-use Rattle.ipcz_world.specs.Records.{side_end, terminal_node, is_nowhere}
-use Rattle.ipcz_world.specs.Records.{proxy_side, across_side}
-use Rattle.ipcz_world.specs.Standing.{is_attached}
-use Rattle.ipcz_world.specs.Standing.{fed_queue, sending_queue}
+use Rattle.ipcz_world.specs.Records.{is_linked, is_unclaimed, is_begun, inner_link, bypass_of, side_node, side_end, terminal_node}
+use Rattle.ipcz_world.specs.Records.{is_nowhere, proxy_side, across_side}
+use Rattle.ipcz_world.specs.Standing.{is_attached, fed_queue, sending_queue}
 use Rattle.ipcz_world.specs.Places.{Weight}
-use Rattle.ipcz_world.proofs.weights.OfRecords.{in_places}
 use Rattle.ipcz_world.specs.Structure.{is_outward}
 use Rattle.ipcz_world.specs.Bypasses.{inner_of, of_bypass, control_weight, move_weight}
 use Rattle.ipcz_world.specs.Whereabouts.{times_held}
 use Rattle.ipcz_world.proofs.frames.Touching.{HasSameHands}
 use Rattle.ipcz_world.proofs.facts.Reaching.{is_reach, reach_one}
 use Rattle.ipcz_world.proofs.facts.Lengths.{same_side-itself}
+use Rattle.std.proofs.lemmas.Bool.{or_left}
 
 -- the terminal of a pair's side, whose sides are at these keys
 abbrev pub fresh_at : ℕ → (Side → Key) → Side → Router
@@ -155,10 +152,6 @@ move_none f (At k) n = cc
 move_none f (Moving d) n = cc
 move_none f Retired n = cc
 
-pub move_at : (f : Descriptor → ℕ) (k : Key) → move_weight f (At k) ≡ 0
-unfolding move_weight
-move_at f k = refl
-
 pub known_somewhere : (t : Terminal) (m : ℕ) → terminal_node t ≡ Some m → is_nowhere t ≡ false
 unfolding terminal_node is_nowhere
 known_somewhere Nowhere m e = cc
@@ -170,13 +163,9 @@ pub inner_end : (g : Records) (p : Key) → side_end g (inner_link p) A ≡ (g.p
 unfolding side_end
 inner_end g p = refl
 
-or_first : (a c : Bool) → a ≡ true → (a || c) ≡ true
-or_first true c h = refl
-or_first false c h = cc
-
 pub attached_fresh : (i : ℕ) (at : Side → Key) (s : Side) → is_attached (Central i) s (fresh_at i at s) ≡ true
 unfolding is_attached
-attached_fresh i at s = or_first (has_link (fresh_at i at s).outward.primary (Central i) s) (has_link None (Central i) s) (has_fresh i at s)
+attached_fresh i at s = or_left (has_link (fresh_at i at s).outward.primary (Central i) s) (has_link None (Central i) s) (has_fresh i at s)
 
 pub central_queues : (i : ℕ) (s : Side) (r : Router) → (sending_queue (Central i) s r ≡ r.out_queue) ×
     (fed_queue (Central i) s r ≡ r.in_queue)
@@ -190,3 +179,7 @@ reach_empty n = reach_one (queue_from n) (reach (queue_from n)) n (is_reach (que
   absent = get-empty {X = Item} nat_cmp n;
   filled = λ m a c. absurd (omega (arith, a, c));
 })
+
+pub terminal_node-at : (q : Key) → terminal_node (At q) ≡ Some q.node
+unfolding terminal_node
+terminal_node-at q = refl

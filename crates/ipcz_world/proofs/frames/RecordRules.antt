@@ -1,10 +1,12 @@
 -- What each function of a link reads in the records, by the kind of the link.
-use Rattle.std.specs.Prelude.{◌≡◌, refl, ℕ, ◌&&◌, nat_lt, if◌then◌else◌, Some, None}
+use Rattle.std.specs.Prelude.{◌≡◌, refl, ℕ, ◌&&◌, nat_lt, if◌then◌else◌, Some, None, true}
 use Rattle.ipcz_base.specs.declared.side.Side.{Side}
 use Rattle.ipcz_base.specs.declared.side.Side.TheVariants.{A, B}
 use Rattle.ipcz_base.specs.declared.link_id.LinkId.TheVariants.{Central}
 use Rattle.ipcz_world.specs.World.{World, Key, node_at}
 use Rattle.ipcz_world.specs.Records.{Records, key_at, inner_link, is_linked, is_begun, is_recorded, side_node, side_router, bypass_of}
+use Rattle.ipcz_world.specs.Records.{Owner, Unclaimed, Spare, Fresh, Linked, Opening, is_unclaimed}
+use Rattle.std.proofs.Common.{arith}
 
 -- the router of a side, of a central link
 pub side_router-central : (g : Records) (i : ℕ) (s : Side) → side_router g (Central i) s ≡ key_at ((g.central i).node s)
@@ -72,3 +74,11 @@ pub ruleset record_rules = (
   is_recorded-central,
   is_recorded-inner,
 )
+
+pub unclaimed-is : (x : Owner) → is_unclaimed x ≡ true → x ≡ Unclaimed
+unfolding is_unclaimed
+unclaimed-is Unclaimed e = refl
+unclaimed-is (Spare k) e = absurd (grind (arith, e))
+unclaimed-is (Opening n) e = absurd (grind (arith, e))
+unclaimed-is (Fresh o) e = absurd (grind (arith, e))
+unclaimed-is Linked e = absurd (grind (arith, e))

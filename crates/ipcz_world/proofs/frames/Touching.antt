@@ -1,5 +1,5 @@
 -- One router changes in what its links, its spare and its lock don't show: what is said of those is kept.
-use Rattle.std.specs.Prelude.{◌≡◌, ◌<◌, ℕ, Bool, true, false, cond, Option, Some, None, is_some, refl}
+use Rattle.std.specs.Prelude.{◌≡◌, ◌<◌, ℕ, Bool, true, false, Some, is_some, refl}
 use Rattle.std.proofs.Common.{arith, ◌∙◌, sym}
 use Rattle.ipcz_base.specs.declared.side.Side.TheVariants.{A, B}
 use Rattle.ipcz_base.specs.declared.link_id.LinkId.{LinkId}
@@ -10,11 +10,11 @@ use Rattle.ipcz_world.specs.World.{World, Key, same_key, node_at, word_at, mail_
 use Rattle.ipcz_world.proofs.frames.Frames.{same_key_tells}
 use Rattle.ipcz_world.specs.Turns.{hand_message}
 use Rattle.ipcz_world.specs.Records.{Records, is_recorded, inner_link, side_router, across_side}
-use Rattle.ipcz_world.specs.Standing.{key_passes, spare_of}
-use Rattle.ipcz_world.proofs.frames.StandingRules.{standing_rules}
+use Rattle.ipcz_world.specs.Standing.{spare_of}
 use Rattle.ipcz_world.specs.Structure.{Counts, Shape, Links, IsRecorded, Positions, Stands, Words, Spares}
 use Rattle.ipcz_world.specs.Bypasses.{BypassRecords, Stages, inner_of, fresh_of}
 use Rattle.ipcz_world.specs.Whereabouts.{Terminals}
+use Rattle.ipcz_world.proofs.frames.OneChange.{OneChanges, passes-same}
 
 -- two routers with the same end, links and flags of bypasses
 pub record IsAlike (r y : Router) : Type 0 where
@@ -25,20 +25,11 @@ pub record IsAlike (r y : Router) : Type 0 where
   pub marked : y.marked ≡ r.marked
   pub holds : y.holds ≡ r.holds
 
--- the worlds differ in the router of one key, in flows and in hands
+-- one router changes in its queues: the words are as they were, while messages and hands may move on
 pub record IsTouched (w v : World) (k : Key) (r y : Router) : Type 0 where
-  pub here : router_at w k ≡ Some r
-  pub router : (q : Key) → router_at v q ≡ cond (same_key q k) (Some y) (router_at w q)
+  pub one : OneChanges w v k r y
+  pub open one use *
   pub word : (i : ℕ) → word_at v i ≡ word_at w i
-  pub claimed : v.claimed ≡ w.claimed
-  pub size : v.size ≡ w.size
-  pub count : v.count ≡ w.count
-  pub node : (n : ℕ) → (node_at v n).number ≡ (node_at w n).number
-  pub nodes : (n : ℕ) → (node_at v n).count ≡ (node_at w n).count
-  pub opening : (n : ℕ) → (node_at v n).opening ≡ (node_at w n).opening
-  pub next_router : (n : ℕ) → (node_at v n).next_router ≡ (node_at w n).next_router
-  pub next_peripheral : (n : ℕ) → (node_at v n).next_peripheral ≡ (node_at w n).next_peripheral
-  pub strays : (n : ℕ) → (node_at v n).strays ≡ (node_at w n).strays
 
 -- hands and mailboxes are as before
 pub record HasSameHands (w v : World) : Type 0 where
@@ -70,12 +61,6 @@ pub recorded_same : (w v : World) (k : Key) (r y : Router) (g : Records) → IsT
 unfolding is_recorded
 recorded_same w v k r y g t (Central i) = refl
 recorded_same w v k r y g t (Peripheral n s) = grind (arith, t.count, t.next_peripheral n)
-
--- a test that tells the two routers not apart passes as before
-pub passes_same : (w v : World) (k : Key) (r y : Router) → IsTouched w v k r y → (test : Router → Bool) → test y ≡ test r →
-    (o : Option Key) → key_passes v o test ≡ key_passes w o test
-passes_same w v k r y t test same None = grind (arith, standing_rules)
-passes_same w v k r y t test same (Some q) = grind (arith, standing_rules, t.router q, t.here, same_key_tells q k, same)
 
 module _ (w v : World) (k : Key) (r y : Router) (g : Records) (t : IsTouched w v k r y) (a : IsAlike r y) where
   pub counts-touched : Counts w g → Hands v → Counts v g
@@ -273,13 +258,13 @@ module _ (w v : World) (k : Key) (r y : Router) (g : Records) (t : IsTouched w v
 
   pub stands-touched : Stands w g → Stands v g
   stands-touched law = record {
-    central = λ i s q l b is. passes_same w v k r y t _ (grind (arith, a.outward)) (Some q) ∙ law.central i s q l b is;
+    central = λ i s q l b is. passes-same t.one _ (grind (arith, a.outward)) (Some q) ∙ law.central i s q l b is;
     awaited = law.awaited;
     awaited_stage = law.awaited_stage;
     awaited_side = law.awaited_side;
-    proxy = λ p h b. passes_same w v k r y t _ (grind (arith, a.inward)) (side_router g (inner_link p) A) ∙ law.proxy p
+    proxy = λ p h b. passes-same t.one _ (grind (arith, a.inward)) (side_router g (inner_link p) A) ∙ law.proxy p
         (sym (recorded_same w v k r y g t (inner_link p)) ∙ h) b;
-    inner = λ p q h b is. passes_same w v k r y t _ (grind (arith, a.outward)) (Some q) ∙ law.inner p q
+    inner = λ p q h b is. passes-same t.one _ (grind (arith, a.outward)) (Some q) ∙ law.inner p q
         (sym (recorded_same w v k r y g t (inner_link p)) ∙ h) b is;
     by_begun = law.by_begun;
     by_inner = law.by_inner;
@@ -294,14 +279,14 @@ module _ (w v : World) (k : Key) (r y : Router) (g : Records) (t : IsTouched w v
       arith,
       t.word i,
       law.stable i s,
-      passes_same w v k r y t (λ x. x.marked) a.marked
+      passes-same t.one (λ x. x.marked) a.marked
           (side_router g (Central i) s),
     );
     holder = λ i s l h. grind (
       arith,
       t.word i,
       law.holder i s,
-      passes_same w v k r y t (λ x. x.holds) a.holds
+      passes-same t.one (λ x. x.holds) a.holds
           (side_router g (Central i) s),
     );
     held_stable = λ i s u h. grind (arith, t.word i, law.held_stable i s u);
@@ -348,8 +333,8 @@ module _ (w v : World) (k : Key) (r y : Router) (g : Records) (t : IsTouched w v
 
   pub stages-touched : Stages w g → Stages v g
   stages-touched law = record {
-    proxy_old = λ o h s. passes_same w v k r y t _ (grind (arith, a.outward)) (Some (g.bypass o).proxy) ∙ law.proxy_old o h s;
-    proxy_inner = λ o h s. passes_same w v k r y t _ (grind (arith, a.inward)) (Some (g.bypass o).proxy) ∙ law.proxy_inner o h s;
+    proxy_old = λ o h s. passes-same t.one _ (grind (arith, a.outward)) (Some (g.bypass o).proxy) ∙ law.proxy_old o h s;
+    proxy_inner = λ o h s. passes-same t.one _ (grind (arith, a.inward)) (Some (g.bypass o).proxy) ∙ law.proxy_inner o h s;
     proxy_begun = λ o x h at. grind (
       arith,
       t.router (g.bypass o).proxy,
@@ -366,22 +351,22 @@ module _ (w v : World) (k : Key) (r y : Router) (g : Records) (t : IsTouched w v
       law.proxy_end o x,
       law.proxy_end o r,
     );
-    across_old = λ o h s. passes_same w v k r y t _ (grind (arith, a.outward)) (side_router g (Central o) (across_side g o)) ∙
+    across_old = λ o h s. passes-same t.one _ (grind (arith, a.outward)) (side_router g (Central o) (across_side g o)) ∙
         law.across_old o h s;
-    across_marked = λ o h s. passes_same w v k r y t _ a.marked (side_router g (Central o) (across_side g o)) ∙ law.across_marked o h s;
-    across_free = λ o h s. passes_same w v k r y t _ (grind (arith, a.holds)) (side_router g (Central o) (across_side g o)) ∙
+    across_marked = λ o h s. passes-same t.one _ a.marked (side_router g (Central o) (across_side g o)) ∙ law.across_marked o h s;
+    across_free = λ o h s. passes-same t.one _ (grind (arith, a.holds)) (side_router g (Central o) (across_side g o)) ∙
         law.across_free o h s;
-    across_fresh = λ o h s. passes_same w v k r y t _ (grind (arith, a.outward)) (side_router g (fresh_of g o) (across_side g o)) ∙
+    across_fresh = λ o h s. passes-same t.one _ (grind (arith, a.outward)) (side_router g (fresh_of g o) (across_side g o)) ∙
         law.across_fresh o h s;
-    inner_primary = λ o q h is. passes_same w v k r y t _ (grind (arith, a.outward)) (Some q) ∙ law.inner_primary o q h is;
-    inner_decaying = λ o h s. passes_same w v k r y t _ (grind (arith, a.outward)) (side_router g (inner_of g o) B) ∙ law.inner_decaying o h
+    inner_primary = λ o q h is. passes-same t.one _ (grind (arith, a.outward)) (Some q) ∙ law.inner_primary o q h is;
+    inner_decaying = λ o h s. passes-same t.one _ (grind (arith, a.outward)) (side_router g (inner_of g o) B) ∙ law.inner_decaying o h
         s;
   }
 
   pub terminals-touched : Terminals w g → Terminals v g
   terminals-touched law = record {
     terminal = λ q x at is. grind (arith, t.router q, same_key_tells q k, t.here, law.terminal q x, law.terminal k r);
-    stands = λ e q is. passes_same w v k r y t _ (grind (arith, a.inward, a.end)) (Some q) ∙ law.stands e q is;
+    stands = λ e q is. passes-same t.one _ (grind (arith, a.inward, a.end)) (Some q) ∙ law.stands e q is;
     opened = λ q x at. grind (arith, t.router q, same_key_tells q k, t.here, law.opened q x, law.opened k r);
     link_opened = λ link s h. law.link_opened link s (sym (recorded_same w v k r y g t link) ∙ h);
     both = law.both;

@@ -1,6 +1,7 @@
 -- What an act keeps that changes one router's links and flags, and no item, terminal or end.
-use Rattle.ipcz_world.proofs.weights.OfRecords.{holds, held_times}
-use Rattle.ipcz_world.specs.Places.{in_message as in_message', in_node as in_node', in_places as in_places'}
+use Rattle.ipcz_world.proofs.weights.OfRecords.{holds, held_times, source, in_message, in_places}
+use Rattle.ipcz_world.specs.Places.{in_message as in_message', in_node as in_node', in_places as in_places', Weight, in_router, times}
+use Rattle.ipcz_world.specs.Places.{at_end, names_end}
 use Rattle.ipcz_world.specs.Routes.{source as source'}
 use Rattle.std.specs.Prelude.{◌≡◌, ℕ, ◌+◌, Bool, false, cond, ◌&&◌, nat_eq, Option, Some, None, List, slice_get, refl}
 use Rattle.std.proofs.Common.{arith, ap, ◌∙◌, sym}
@@ -17,24 +18,21 @@ use Rattle.ipcz_base.specs.declared.message.Message.TheVariants as messages
 use Rattle.ipcz_base.specs.Sides.{opposite}
 use Rattle.ipcz_base.specs.Links.{is_central}
 use Rattle.ipcz_base.specs.Ends.{same_end, has_end, opposite_end}
-use Rattle.ipcz_base.specs.Totals.{total}
+use Rattle.ipcz_base.specs.Totals.{total, total_below, total_list}
 use Rattle.ipcz_router.specs.Router.{Router, is_terminal}
-use Rattle.ipcz_world.specs.World.{World, Key, same_key, node_at, router_at}
+use Rattle.ipcz_world.specs.World.{World, Key, node_at, router_at}
 use Rattle.ipcz_world.proofs.frames.Frames.{same_key_tells}
 use Rattle.ipcz_world.specs.Books.{Books}
 use Rattle.ipcz_world.specs.Records.{Records, is_begun, is_linked, is_recorded, inner_link, side_node, side_router, side_end, bypass_of}
 use Rattle.ipcz_world.specs.Records.{proxy_side, is_nowhere, terminal_node}
-use Rattle.ipcz_world.proofs.weights.OfRecords.{source}
-use Rattle.ipcz_world.specs.Standing.{key_passes, passes, spare_of}
+use Rattle.ipcz_world.specs.Standing.{key_passes, spare_of}
 use Rattle.ipcz_world.specs.Flows.{IsUnderWay, moves_of, under_way, of_end}
-use Rattle.ipcz_world.specs.Places.{Weight, in_router, times, at_end, names_end}
-use Rattle.ipcz_base.specs.Totals.{total_below, total_list}
-use Rattle.ipcz_world.proofs.weights.OfRecords.{in_message, in_places}
 use Rattle.ipcz_world.specs.Structure.{Ordered, Spares}
 use Rattle.ipcz_world.specs.Bypasses.{is_by, of_bypass, control_weight, Moves, move_weight, moving_link}
 use Rattle.ipcz_world.specs.Whereabouts.{Terminals, EndPlaces, BooksKept, Conserved, HeldOnce, times_held}
 use Rattle.ipcz_world.specs.Inv.{HasNoStrays}
 use Rattle.ipcz_world.proofs.weights.Totalling.{total_below-same}
+use Rattle.ipcz_world.proofs.frames.OneChange.{OneChanges, passes-same}
 
 -- two routers alike but for links and flags
 pub record IsLike (r x : Router) : Type 0 where
@@ -46,21 +44,12 @@ pub record IsLike (r x : Router) : Type 0 where
   pub mark_seen : x.mark_seen ≡ r.mark_seen
   pub spare : x.spare ≡ r.spare
 
--- a world in which one router has changed, and no counter, no word's claim, and nothing that callers hold
+-- one router changes in its links: what callers hold is as it was, while messages, hands and words may move on
 pub record Changed (w v : World) (k : Key) (r x : Router) : Type 0 where
-  pub here : router_at w k ≡ Some r
-  pub router : (q : Key) → router_at v q ≡ cond (same_key q k) (Some x) (router_at w q)
-  pub claimed : v.claimed ≡ w.claimed
-  pub size : v.size ≡ w.size
-  pub count : v.count ≡ w.count
-  pub node : (n : ℕ) → (node_at v n).number ≡ (node_at w n).number
-  pub nodes : (n : ℕ) → (node_at v n).count ≡ (node_at w n).count
-  pub next_router : (n : ℕ) → (node_at v n).next_router ≡ (node_at w n).next_router
-  pub next_peripheral : (n : ℕ) → (node_at v n).next_peripheral ≡ (node_at w n).next_peripheral
+  pub one : OneChanges w v k r x
+  pub open one use *
   pub held : (n : ℕ) → (node_at v n).held ≡ (node_at w n).held
   pub pending : (n : ℕ) → (node_at v n).pending ≡ (node_at w n).pending
-  pub strays : (n : ℕ) → (node_at v n).strays ≡ (node_at w n).strays
-  pub opening : (n : ℕ) → (node_at v n).opening ≡ (node_at w n).opening
 
 -- each item under way was so before, at some place
 pub record Carried (w v : World) : Type 0 where
@@ -177,9 +166,7 @@ module _ (w v : World) (g h : Records) (k : Key) (r x : Router) (c : Changed w v
   is_recorded-kept (Peripheral n p) = grind (arith, c.count, c.next_peripheral n)
 
   pub key_passes-kept : (q : Option Key) (test : Router → Bool) → test x ≡ test r → key_passes v q test ≡ key_passes w q test
-  unfolding key_passes passes
-  key_passes-kept None test e = refl
-  key_passes-kept (Some q) test e = grind (arith, c.router q, same_key_tells q k, c.here, e)
+  key_passes-kept q test e = passes-same c.one test e q
 
   pub spare_of-kept : x.spare ≡ r.spare → (q : Key) → spare_of (router_at v q) ≡ spare_of (router_at w q)
   unfolding spare_of

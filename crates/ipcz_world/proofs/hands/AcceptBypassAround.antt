@@ -1,6 +1,5 @@
 -- Who stands around a bypass when the router across has the message that asks it to accept.
-use Rattle.std.specs.Prelude.{◌≡◌, ◌≢◌, ◌⊎◌, ◌<◌, ◌≤◌, ℕ, zero, suc, ◌+◌, Bool, true, false, cond, ◌&&◌, nat_eq, is_some, Option, Some}
-use Rattle.std.specs.Prelude.{None, refl}
+use Rattle.std.specs.Prelude.{◌≡◌, ◌≢◌, ◌⊎◌, ◌<◌, ◌≤◌, ℕ, Bool, true, false, cond, ◌&&◌, nat_eq, is_some, Option, Some, None, refl}
 use Rattle.std.proofs.Common.{arith, ap, ◌∙◌, sym, inl, inr}
 use Rattle.std.proofs.lemmas.Bool.Decides.{nat_tests}
 use Rattle.std.proofs.lemmas.Option.{none-some, same_Some}
@@ -35,20 +34,15 @@ use Rattle.ipcz_router.specs.Bypass.{accept_bypass}
 use Rattle.ipcz_world.specs.Remembering.{accepted_records}
 use Rattle.ipcz_world.proofs.flows.Handing.{flow-hand}
 use Rattle.ipcz_world.proofs.views.Viewing.{Stood, stood}
-use Rattle.ipcz_world.proofs.facts.Lengths.{opposite-twice, side_is, same_side-itself, same_side-tells, has_link-tells, HasEnd, either}
-use Rattle.ipcz_world.proofs.facts.Lengths.{passed, is_attached-central, is_attached-proxy, is_attached-inner, view-standing, view-awaited}
+use Rattle.ipcz_world.proofs.facts.Lengths.{opposite-twice, side_is, same_side-itself, same_side-tells, has_link-tells, HasEnd, passed}
+use Rattle.ipcz_world.proofs.facts.Lengths.{is_attached-central, is_attached-proxy, is_attached-inner, view-standing, view-awaited}
 use Rattle.ipcz_world.proofs.facts.Lengths.{length-old, length-proxy, length-inner, known_from-no, known_from-yes, has_passed-none}
 use Rattle.ipcz_world.proofs.frames.Sealing.{Sealed, Closed, opened, stands_of, counts_of, shape_of, links_of, positions_of, stages_of}
 use Rattle.ipcz_world.proofs.frames.Sealing.{told_of, bypasses_of, order_of, proxy_numbers_of, fresh_numbers_of}
-use Rattle.ipcz_world.proofs.views.Telling.{itself, never}
-
-pub total_below-within : (n i : ℕ) (a : ℕ → ℕ) → i < n → a i ≤ total_below n a
-total_below-within zero i a h = absurd (omega (arith, h))
-total_below-within (suc n) i a h = go (total_below-within n i a) (nat_eq i n) refl
-  where
-    go : (i < n → a i ≤ total_below n a) → (t : Bool) → nat_eq i n ≡ t → a i ≤ a n + total_below n a
-    go more true e = let same : i ≡ n = grind (arith, e, nat_tests) in rw same (omega arith)
-    go more false e = omega (arith, more (grind (arith, h, e, nat_tests)))
+use Rattle.ipcz_world.proofs.views.Telling.{never}
+use Rattle.std.proofs.lemmas.Bool.{or_cases}
+use Rattle.ipcz_world.proofs.facts.Tests.{nat_eq-itself}
+use Rattle.ipcz_world.proofs.flows.Flowing.{total_below-has}
 
 -- a message in hand is among those under way
 pub in_hand-under_way : (h : ℕ → ℕ → Message → ℕ) (w : World) (from to : ℕ) (m : Message) → from < w.count → to < w.count →
@@ -56,13 +50,13 @@ pub in_hand-under_way : (h : ℕ → ℕ → Message → ℕ) (w : World) (from 
 unfolding under_way
 in_hand-under_way h w from to m hf ht e = omega (
   arith,
-  total_below-within w.count from (λ i. total_below w.count (λ j. total_list (h i j) (flow w i j))) hf,
-  total_below-within w.count to (λ j. total_list (h from j) (flow w from j)) ht,
+  total_below-has w.count from (λ i. total_below w.count (λ j. total_list (h i j) (flow w i j))) hf,
+  total_below-has w.count to (λ j. total_list (h from j) (flow w from j)) ht,
   head,
 )
   where
     head : h from to m ≤ total_list (h from to) (flow w from to)
-    head = rw (flow-hand w from to from to m e) (rw (itself from, itself to) (omega arith))
+    head = rw (flow-hand w from to from to m e) (rw (nat_eq-itself from, nat_eq-itself to) (omega arith))
 
 -- whether a message is this one
 unfoldable pub is_accept : ℕ → Side → ℕ → ℕ → Message → Bool
@@ -122,7 +116,8 @@ asked w g from k o side fresh length law hf hk e = record {
     h a b m = cond ((nat_eq a from && nat_eq b k.node) && is_accept o side fresh length m) 1 0
 
     one : of_bypass g o (h from k.node) (messages.AcceptBypass o side fresh length) ≡ 1
-    one = rw (itself o, itself from, itself k.node, itself fresh, itself length, same_side-itself side) refl
+    one = rw (nat_eq-itself o, nat_eq-itself from, nat_eq-itself k.node, nat_eq-itself fresh, nat_eq-itself length, same_side-itself side)
+        refl
 
     found : 1 ≤ control_weight g h o
     found = omega (
@@ -159,10 +154,6 @@ linked_is = refl
 key_at-node : (n : ℕ) (t : Option ℕ) (q : Key) → key_at n t ≡ Some q → q.node ≡ n
 key_at-node n None q e = absurd (none-some q e)
 key_at-node n (Some p) q e = ap (λ u. u.node) (sym (same_Some _ _ e))
-
-pub key_at-none : (n : ℕ) (t : Option ℕ) → key_at n t ≡ None → t ≡ None
-key_at-none n None e = refl
-key_at-none n (Some p) e = absurd (none-some _ (sym e))
 
 -- the node of a router at a link's side is the side's
 pub side_router-node : (g : Records) (link : LinkId) (s : Side) (q : Key) → side_router g link s ≡ Some q → q.node ≡ side_node g link s
@@ -229,10 +220,10 @@ module _ {w : World} {b : Books} {g : Records} {from : ℕ} {k : Key} {r : Route
 
   -- the router is the one across
   pub known : side_router g (Central o) side ≡ Some k
-  known = go (either _ _ (opened can).has)
+  known = go (or_cases _ _ (opened can).has)
     where
       outer : (outward_has r (Central o) side ≡ true) → side_router g (Central o) side ≡ Some k
-      outer h = go (either _ _ h)
+      outer h = go (or_cases _ _ h)
         where
           go : (has_link r.outward.primary (Central o) side ≡ true) ⊎ (has_link r.outward.decaying (Central o) side ≡ true) →
               side_router g (Central o) side ≡ Some k
@@ -240,7 +231,7 @@ module _ {w : World} {b : Books} {g : Records} {from : ℕ} {k : Key} {r : Route
           go (inr t) = recorded_at r.outward.decaying t (λ d. (links_of law).decaying k r d here)
 
       inner : (inward_has r (Central o) side ≡ true) → side_router g (Central o) side ≡ Some k
-      inner h = go (either _ _ h)
+      inner h = go (or_cases _ _ h)
         where
           go : (has_link (inward_edge r).primary (Central o) side ≡ true) ⊎ (has_link (inward_edge r).decaying (Central o) side ≡ true) →
               side_router g (Central o) side ≡ Some k

@@ -35,7 +35,6 @@ use Rattle.ipcz_world.proofs.frames.Unmoved.{expected-agree, proxy_side-agree, i
 use Rattle.ipcz_world.proofs.flows.Handing.{handed_on, word-handed_on, place_before, was_under_way, was_made_before, under_way-handed_on}
 use Rattle.ipcz_world.proofs.facts.Lengths.{opposite-twice, same_side-itself, has_link-tells, has_link-some, has_link-none, HasEnd, passed}
 use Rattle.ipcz_world.proofs.frames.Sealing.{Sealed, Closed, stands_of, words_of, shape_of, stages_of, told_of, bypasses_of}
-use Rattle.ipcz_world.proofs.views.Telling.{itself}
 use Rattle.ipcz_world.proofs.hands.AcceptBypassAround.{CanAccept, here, in_hand, on, on_node, from_node, is, begun, on_old, at_side, still}
 use Rattle.ipcz_world.proofs.hands.AcceptBypassAround.{y_stood, y_here, y_old, y_known, fresh_awaited}
 use Rattle.ipcz_world.proofs.hands.AcceptBypassViews.{at_o, changed, agree, e_other, to_node, is_new, router_of, stage_after}
@@ -43,6 +42,7 @@ use Rattle.ipcz_world.proofs.hands.AcceptBypassViews.{accepted_after, taken_afte
 use Rattle.ipcz_world.proofs.hands.AcceptBypassViews.{makes_new, none_before, not_new-old}
 use Rattle.ipcz_world.proofs.hands.AcceptBypassNumbers.{router_j, Was, was_proxy, two_of, across_side-after, across_is_after}
 use Rattle.ipcz_world.proofs.hands.AcceptBypassLinks.{known_after, central_is, not_both}
+use Rattle.ipcz_world.proofs.facts.Tests.{nat_eq-itself}
 
 module _ {w : World} {b : Books} {g : Records} {from : ℕ} {k : Key} {r : Router} {e : LinkEnd} {o : ℕ} {side : Side} {fresh length : ℕ}
     (law : Sealed w b g) (can : Closed (CanAccept w from k r e o side fresh length)) where
@@ -142,7 +142,7 @@ module _ {w : World} {b : Books} {g : Records} {from : ℕ} {k : Key} {r : Route
       awaited_stage_at i s j l none born (inl c) = let born' : (g.central i).born ≡ Some o = born ∙ ap Some c.1 in
           let on' : fresh ≡ i = (is law can).on_word ∙ (bypasses_of law).born_fresh i o l born' in
           let s' : s ≡ side = (stands_of law).awaited_side i s o l (none_before law can i s none) born' ∙ sym (is law can).at_side in
-          let there : (h.central fresh).router side ≡ Some k.serial = rw (itself fresh, same_side-itself side) refl in
+          let there : (h.central fresh).router side ≡ Some k.serial = rw (nat_eq-itself fresh, same_side-itself side) refl in
           let none' : (h.central fresh).router side ≡ None = rw (← on', s') at none in
           absurd (none-some k.serial (sym none' ∙ there))
 
@@ -436,8 +436,8 @@ module _ {w : World} {b : Books} {g : Records} {from : ℕ} {k : Key} {r : Route
             arith,
             expected_before t,
             expected_after t,
-            about_came o (t from k.node) (itself o),
-            about_sent o (t k.node e.other) (itself o),
+            about_came o (t from k.node) (nat_eq-itself o),
+            about_sent o (t k.node e.other) (nat_eq-itself o),
           ))
           weighs (inr m) = omega (
             arith,

@@ -30,19 +30,18 @@ use Rattle.ipcz_base.specs.declared.descriptor.Descriptor.{Descriptor}
 use Rattle.ipcz_world.specs.Remembering.{accepted_records}
 use Rattle.ipcz_world.proofs.frames.Unmoved.{IsLike, Changed, Carried, Agree, places-agree, proxy_side-agree}
 use Rattle.ipcz_world.proofs.weights.Placing.{places-handed_on}
-use Rattle.ipcz_world.proofs.flows.Handing.{handed_on, router-handed_on, claimed-handed_on, size-handed_on, count-handed_on, node-handed_on}
-use Rattle.ipcz_world.proofs.flows.Handing.{nodes-handed_on, next_router-handed_on, next_peripheral-handed_on, held-handed_on}
-use Rattle.ipcz_world.proofs.flows.Handing.{pending-handed_on, strays-handed_on, opening-handed_on, place_before, was_under_way}
+use Rattle.ipcz_world.proofs.flows.Handing.{handed_on, place_before, was_under_way, changed-handed_on}
 use Rattle.ipcz_world.proofs.views.Viewing.{IsSameView, view-kept}
 use Rattle.ipcz_world.proofs.facts.Lengths.{opposite-twice, side_is, same_side-itself, same_side-opposite, same_side-tells, same_link-tells}
 use Rattle.ipcz_world.proofs.facts.Lengths.{has_link-some, is_attached-central, view-standing, length-old, length-proxy, length-inner}
 use Rattle.ipcz_world.proofs.facts.Lengths.{length-live, length-none, known_from-yes, has_passed-none}
 use Rattle.ipcz_world.proofs.frames.Sealing.{Sealed, Closed, stands_of, counts_of, links_of, bypasses_of, items_of}
-use Rattle.ipcz_world.proofs.views.Telling.{itself}
-use Rattle.ipcz_world.proofs.hands.AcceptBypassAround.{key_at-none, side_router-node, same_sides, CanAccept, here, in_hand, on, on_node}
-use Rattle.ipcz_world.proofs.hands.AcceptBypassAround.{from_node, is, begun, two, proxy_is, on_old, at_side, still, y_stood, y_here}
-use Rattle.ipcz_world.proofs.hands.AcceptBypassAround.{y_known, z_stood, by_o, fresh_awaited, fresh_live, view_x, view_y, view_y_inner}
-use Rattle.ipcz_world.proofs.hands.AcceptBypassAround.{view_fresh, none_old, none_inner, y_out, y_in}
+use Rattle.ipcz_world.proofs.hands.AcceptBypassAround.{side_router-node, same_sides, CanAccept, here, in_hand, on, on_node, from_node, is}
+use Rattle.ipcz_world.proofs.hands.AcceptBypassAround.{begun, two, proxy_is, on_old, at_side, still, y_stood, y_here, y_known, z_stood}
+use Rattle.ipcz_world.proofs.hands.AcceptBypassAround.{by_o, fresh_awaited, fresh_live, view_x, view_y, view_y_inner, view_fresh, none_old}
+use Rattle.ipcz_world.proofs.hands.AcceptBypassAround.{none_inner, y_out, y_in}
+use Rattle.ipcz_world.proofs.flows.Awaited.{no_router}
+use Rattle.ipcz_world.proofs.facts.Tests.{nat_eq-itself}
 
 module _ {w : World} {b : Books} {g : Records} {from : ℕ} {k : Key} {r : Router} {e : LinkEnd} {o : ℕ} {side : Side} {fresh length : ℕ}
     (law : Sealed w b g) (can : Closed (CanAccept w from k r e o side fresh length)) where
@@ -72,21 +71,7 @@ module _ {w : World} {b : Books} {g : Records} {from : ℕ} {k : Key} {r : Route
   like = record { end = refl; out_queue = refl; in_queue = refl; terminal = refl; closed = refl; mark_seen = refl; spare = refl }
 
   pub changed : Changed w v k r x
-  changed = record {
-    here = here law can;
-    router = router-handed_on w from k x e.other sent;
-    claimed = claimed-handed_on w from k x e.other sent;
-    size = size-handed_on w from k x e.other sent;
-    count = count-handed_on w from k x e.other sent;
-    node = node-handed_on w from k x e.other sent;
-    nodes = nodes-handed_on w from k x e.other sent;
-    next_router = next_router-handed_on w from k x e.other sent;
-    next_peripheral = next_peripheral-handed_on w from k x e.other sent;
-    held = held-handed_on w from k x e.other sent;
-    pending = pending-handed_on w from k x e.other sent;
-    strays = strays-handed_on w from k x e.other sent;
-    opening = opening-handed_on w from k x e.other sent;
-  }
+  changed = changed-handed_on w from k r x e.other sent (here law can)
 
   pub agree : Agree g h
   agree = record {
@@ -183,10 +168,10 @@ module _ {w : World} {b : Books} {g : Records} {from : ℕ} {k : Key} {r : Route
     Inward : link ≡ inner_of g o → s ≡ A → side_length g link s ≡ None → side_length h link s ≡ Some r.out_queue.current → Grown link s
 
   pub stage_after : (h.bypass o).stage ≡ 3
-  stage_after = rw (itself o) refl
+  stage_after = rw (nat_eq-itself o) refl
 
   pub accepted_after : (h.bypass o).accepted_at ≡ r.out_queue.current
-  accepted_after = rw (itself o) refl
+  accepted_after = rw (nat_eq-itself o) refl
 
   pub taken_after : (j : ℕ) → (h.bypass j).taken_at ≡ (g.bypass j).taken_at
   taken_after j = grind (arith, nat_tests)
@@ -284,7 +269,7 @@ module _ {w : World} {b : Books} {g : Records} {from : ℕ} {k : Key} {r : Route
 
   pub is_new-here : is_new (Central fresh) side ≡ true
   unfolding is_new
-  is_new-here = rw (itself fresh, same_side-itself side) refl
+  is_new-here = rw (nat_eq-itself fresh, same_side-itself side) refl
 
   pub new_at : (link : LinkId) (s : Side) → is_new link s ≡ true → (link ≡ Central fresh) × (s ≡ side)
   new_at link s e = go (is_new-tells link s)
@@ -359,7 +344,7 @@ module _ {w : World} {b : Books} {g : Records} {from : ℕ} {k : Key} {r : Route
   not_passed_before link t n (Inward l s none e) a = ap (λ z. has_passed z n) none ∙ has_passed-none n
 
   pub fresh_none : (g.central fresh).router side ≡ None
-  fresh_none = key_at-none _ _ (sym (side_router-central g fresh side) ∙ fresh_awaited law can)
+  fresh_none = no_router _ _ (sym (side_router-central g fresh side) ∙ fresh_awaited law can)
 
   pub none_before : (i : ℕ) (s : Side) → (h.central i).router s ≡ None → (g.central i).router s ≡ None
   none_before i s none = grind (arith, none, nat_tests)
@@ -392,7 +377,7 @@ module _ {w : World} {b : Books} {g : Records} {from : ℕ} {k : Key} {r : Route
 
   not_new-apart : (s : Side) → s ≡ opposite side → is_new (Central fresh) s ≡ false
   unfolding is_new
-  not_new-apart s e' = rw (e', same_sides (opposite side) side, same_side-opposite side, itself fresh) refl
+  not_new-apart s e' = rw (e', same_sides (opposite side) side, same_side-opposite side, nat_eq-itself fresh) refl
 
   pub view_z_after : IsSameView (Central fresh) (opposite side) (view v h (Central fresh) (opposite side))
       (view w g (Central fresh) (opposite side))

@@ -19,8 +19,9 @@ use Rattle.ipcz_world.specs.Structure.{Links, IsRecorded}
 use Rattle.ipcz_world.specs.Bypasses.{Told, of_bypass, control_weight, peer_of, stop_of, will_stop_of, inner_of}
 use Rattle.ipcz_world.proofs.hands.AcceptBypassAround.{in_hand-under_way}
 use Rattle.ipcz_world.proofs.facts.Lengths.{same_side-itself, same_side-tells, same_link-itself, same_link-tells, has_link-tells, HasEnd}
-use Rattle.ipcz_world.proofs.facts.Lengths.{either}
-use Rattle.ipcz_world.proofs.views.Telling.{both_hold, is_same, itself, never, one_holds}
+use Rattle.ipcz_world.proofs.views.Telling.{is_same, never, one_holds}
+use Rattle.std.proofs.lemmas.Bool.{and_parts, or_cases}
+use Rattle.ipcz_world.proofs.facts.Tests.{nat_eq-itself}
 
 -- a router has a link: the records tell it so
 recorded_at : (w : World) (g : Records) (k : Key) (r : Router) (t : Option LinkEnd) (link : LinkId) (s : Side) → has_link t link s ≡ true →
@@ -30,7 +31,7 @@ recorded_at w g k r t link s h rec = let at : HasEnd t link s = has_link-tells t
 
 pub asked_router : (w : World) (g : Records) (k : Key) (r : Router) (link : LinkId) (s : Side) → Links w g → router_at w k ≡ Some r →
     router_has r link s ≡ true → side_router g link s ≡ Some k
-asked_router w g k r link s law here has = go (either _ _ has)
+asked_router w g k r link s law here has = go (or_cases _ _ has)
   where
     outer : (has_link r.outward.primary link s ≡ true) ⊎ (has_link r.outward.decaying link s ≡ true) → side_router g link s ≡ Some k
     outer (inl t) = recorded_at w g k r r.outward.primary link s t (λ d. law.primary k r d here)
@@ -42,8 +43,8 @@ asked_router w g k r link s law here has = go (either _ _ has)
     inner (inr t) = recorded_at w g k r (inward_edge r).decaying link s t (λ d. law.inward_decaying k r d here)
 
     go : (outward_has r link s ≡ true) ⊎ (inward_has r link s ≡ true) → side_router g link s ≡ Some k
-    go (inl t) = outer (either _ _ t)
-    go (inr t) = inner (either _ _ t)
+    go (inl t) = outer (or_cases _ _ t)
+    go (inr t) = inner (or_cases _ _ t)
 
 -- and the link has a record
 recorded_by : (w : World) (g : Records) (k : Key) (r : Router) (t : Option LinkEnd) (link : LinkId) (s : Side) → has_link t link s ≡ true →
@@ -53,7 +54,7 @@ recorded_by w g k r t link s h rec = let at : HasEnd t link s = has_link-tells t
 
 pub asked_recorded : (w : World) (g : Records) (k : Key) (r : Router) (link : LinkId) (s : Side) → Links w g → router_at w k ≡ Some r →
     router_has r link s ≡ true → is_recorded w g link ≡ true
-asked_recorded w g k r link s law here has = go (either _ _ has)
+asked_recorded w g k r link s law here has = go (or_cases _ _ has)
   where
     outer : (has_link r.outward.primary link s ≡ true) ⊎ (has_link r.outward.decaying link s ≡ true) → is_recorded w g link ≡ true
     outer (inl t) = recorded_by w g k r r.outward.primary link s t (λ d. law.primary k r d here)
@@ -65,8 +66,8 @@ asked_recorded w g k r link s law here has = go (either _ _ has)
     inner (inr t) = recorded_by w g k r (inward_edge r).decaying link s t (λ d. law.inward_decaying k r d here)
 
     go : (outward_has r link s ≡ true) ⊎ (inward_has r link s ≡ true) → is_recorded w g link ≡ true
-    go (inl t) = outer (either _ _ t)
-    go (inr t) = inner (either _ _ t)
+    go (inl t) = outer (or_cases _ _ t)
+    go (inr t) = inner (or_cases _ _ t)
 
 -- of four stages it is the third, or the fourth
 third : (s a b c d : ℕ) → 1 ≤ cond (nat_eq s 1) a (cond (nat_eq s 2) b (cond (nat_eq s 3) c (cond (nat_eq s 4) d 0))) → a ≡ 0 → b ≡ 0 →
@@ -110,18 +111,25 @@ pub stopped : (w : World) (g : Records) (from : ℕ) (k : Key) (o : ℕ) (side :
 unfolding control_weight of_bypass is_stop
 stopped w g from k o side in_length out_length law hf hk e = record {
   stage = told.0;
-  sender = is_same _ _ (both_hold _ _ all.0).0;
-  receiver = is_same _ _ (both_hold _ _ all.0).1;
-  at_side = sym (same_side-tells (proxy_side g o) side (both_hold _ _ all.1).0);
-  accepted = is_same _ _ (both_hold _ _ (both_hold _ _ all.1).1).0;
-  taken = is_same _ _ (both_hold _ _ (both_hold _ _ all.1).1).1;
+  sender = is_same _ _ (and_parts _ _ all.0).0;
+  receiver = is_same _ _ (and_parts _ _ all.0).1;
+  at_side = sym (same_side-tells (proxy_side g o) side (and_parts _ _ all.1).0);
+  accepted = is_same _ _ (and_parts _ _ (and_parts _ _ all.1).1).0;
+  taken = is_same _ _ (and_parts _ _ (and_parts _ _ all.1).1).1;
 }
   where
     h : ℕ → ℕ → Message → ℕ
     h a b m = cond ((nat_eq a from && nat_eq b k.node) && is_stop o side in_length out_length m) 1 0
 
     one : of_bypass g o (h from k.node) (messages.StopProxying o side in_length out_length) ≡ 1
-    one = rw (itself o, itself from, itself k.node, itself in_length, itself out_length, same_side-itself side) refl
+    one = rw (
+      nat_eq-itself o,
+      nat_eq-itself from,
+      nat_eq-itself k.node,
+      nat_eq-itself in_length,
+      nat_eq-itself out_length,
+      same_side-itself side,
+    ) refl
 
     found : 1 ≤ control_weight g h o
     found = omega (
@@ -137,7 +145,7 @@ stopped w g from k o side in_length out_length law hf hk e = record {
 
     all : ((nat_eq (side_node g (Central o) (across_side g o)) from && nat_eq (g.bypass o).proxy.node k.node) ≡ true) ×
         ((same_side (proxy_side g o) side && (nat_eq (g.bypass o).accepted_at in_length && nat_eq (g.bypass o).taken_at out_length)) ≡ true)
-    all = both_hold _ _ (one_holds _ told.1)
+    all = and_parts _ _ (one_holds _ told.1)
 
 -- what ProxyWillStop tells of the record of the bypass that takes its link away
 pub record IsEnded (g : Records) (from : ℕ) (k : Key) (o : ℕ) (link : LinkId) (side : Side) (in_length : ℕ) : Type 0 where
@@ -154,18 +162,26 @@ pub ended : (w : World) (g : Records) (from : ℕ) (k : Key) (o : ℕ) (link : L
 unfolding control_weight of_bypass is_will_stop
 ended w g from k o link side in_length law hf hk by e = record {
   stage = told.0;
-  sender = is_same _ _ (both_hold _ _ all.0).0;
-  receiver = is_same _ _ (both_hold _ _ all.0).1;
-  on_link = sym (same_link-tells (inner_of g o) link (both_hold _ _ all.1).0);
-  at_side = sym (same_side-tells B side (both_hold _ _ (both_hold _ _ all.1).1).0);
-  accepted = is_same _ _ (both_hold _ _ (both_hold _ _ all.1).1).1;
+  sender = is_same _ _ (and_parts _ _ all.0).0;
+  receiver = is_same _ _ (and_parts _ _ all.0).1;
+  on_link = sym (same_link-tells (inner_of g o) link (and_parts _ _ all.1).0);
+  at_side = sym (same_side-tells B side (and_parts _ _ (and_parts _ _ all.1).1).0);
+  accepted = is_same _ _ (and_parts _ _ (and_parts _ _ all.1).1).1;
 }
   where
     h : ℕ → ℕ → Message → ℕ
     h a b m = cond ((nat_eq a from && nat_eq b k.node) && is_will_stop link side in_length m) 1 0
 
     one : of_bypass g o (h from k.node) (messages.ProxyWillStop link side in_length) ≡ 1
-    one = rw (by, itself o, itself from, itself k.node, itself in_length, same_link-itself link, same_side-itself side) refl
+    one = rw (
+      by,
+      nat_eq-itself o,
+      nat_eq-itself from,
+      nat_eq-itself k.node,
+      nat_eq-itself in_length,
+      same_link-itself link,
+      same_side-itself side,
+    ) refl
 
     found : 1 ≤ control_weight g h o
     found = omega (
@@ -181,7 +197,7 @@ ended w g from k o link side in_length law hf hk by e = record {
 
     all : ((nat_eq (g.bypass o).proxy.node from && nat_eq (side_node g (inner_of g o) B) k.node) ≡ true) ×
         ((same_link (inner_of g o) link && (same_side B side && nat_eq (g.bypass o).accepted_at in_length)) ≡ true)
-    all = both_hold _ _ (one_holds _ told.1)
+    all = and_parts _ _ (one_holds _ told.1)
 
 first : (s a b c d : ℕ) → 1 ≤ cond (nat_eq s 1) a (cond (nat_eq s 2) b (cond (nat_eq s 3) c (cond (nat_eq s 4) d 0))) → b ≡ 0 → c ≡ 0 →
     d ≡ 0 → (s ≡ 1) × (1 ≤ a)
@@ -212,19 +228,27 @@ pub peered : (w : World) (g : Records) (from : ℕ) (k : Key) (o : ℕ) (link : 
 unfolding control_weight of_bypass is_peer
 peered w g from k o link side target fresh law hf hk e = record {
   stage = told.0;
-  sender = is_same _ _ (both_hold _ _ all.0).0;
-  receiver = is_same _ _ (both_hold _ _ all.0).1;
-  on_link = sym (same_link-tells (inner_of g o) link (both_hold _ _ all.1).0);
-  at_side = sym (same_side-tells B side (both_hold _ _ (both_hold _ _ all.1).1).0);
-  beyond = is_same _ _ (both_hold _ _ rest).0;
-  on_word = is_same _ _ (both_hold _ _ rest).1;
+  sender = is_same _ _ (and_parts _ _ all.0).0;
+  receiver = is_same _ _ (and_parts _ _ all.0).1;
+  on_link = sym (same_link-tells (inner_of g o) link (and_parts _ _ all.1).0);
+  at_side = sym (same_side-tells B side (and_parts _ _ (and_parts _ _ all.1).1).0);
+  beyond = is_same _ _ (and_parts _ _ rest).0;
+  on_word = is_same _ _ (and_parts _ _ rest).1;
 }
   where
     h : ℕ → ℕ → Message → ℕ
     h a b m = cond ((nat_eq a from && nat_eq b k.node) && is_peer link side target fresh m) 1 0
 
     one : of_bypass g o (h from k.node) (messages.BypassPeer link side o target fresh) ≡ 1
-    one = rw (itself o, itself from, itself k.node, itself target, itself fresh, same_link-itself link, same_side-itself side) refl
+    one = rw (
+      nat_eq-itself o,
+      nat_eq-itself from,
+      nat_eq-itself k.node,
+      nat_eq-itself target,
+      nat_eq-itself fresh,
+      same_link-itself link,
+      same_side-itself side,
+    ) refl
 
     found : 1 ≤ control_weight g h o
     found = omega (
@@ -241,9 +265,9 @@ peered w g from k o link side target fresh law hf hk e = record {
     all : ((nat_eq (g.bypass o).proxy.node from && nat_eq (side_node g (inner_of g o) B) k.node) ≡ true) ×
         ((same_link (inner_of g o) link && (same_side B side && (nat_eq (side_node g (Central o) (across_side g o)) target && nat_eq
         (g.bypass o).fresh fresh))) ≡ true)
-    all = both_hold _ _ (one_holds _ told.1)
+    all = and_parts _ _ (one_holds _ told.1)
 
     rest : (nat_eq (side_node g (Central o) (across_side g o)) target && nat_eq (g.bypass o).fresh fresh) ≡ true
-    rest = (both_hold (same_side B side) (nat_eq (side_node g (Central o) (across_side g o)) target && nat_eq (g.bypass o).fresh fresh)
-        (both_hold (same_link (inner_of g o) link) (same_side B side &&
+    rest = (and_parts (same_side B side) (nat_eq (side_node g (Central o) (across_side g o)) target && nat_eq (g.bypass o).fresh fresh)
+        (and_parts (same_link (inner_of g o) link) (same_side B side &&
         (nat_eq (side_node g (Central o) (across_side g o)) target && nat_eq (g.bypass o).fresh fresh)) all.1).1).1

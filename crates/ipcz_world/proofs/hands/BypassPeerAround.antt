@@ -1,7 +1,7 @@
 -- The router inward has the message that begins its bypass and takes the fresh link: who stands around it, before and after.
 use Rattle.ipcz_world.specs.Routes.{source as source'}
-use Rattle.std.specs.Prelude.{◌≡◌, ◌≢◌, ◌⊎◌, ◌<◌, ◌≤◌, ℕ, zero, suc, Bool, true, false, cond, ◌||◌, nat_eq, if◌then◌else◌, is_some, Option}
-use Rattle.std.specs.Prelude.{Some, None, List, [], ◌∷◌, slice_get, refl}
+use Rattle.std.specs.Prelude.{◌≡◌, ◌≢◌, ◌⊎◌, ◌<◌, ◌≤◌, ℕ, Bool, true, false, cond, ◌||◌, nat_eq, if◌then◌else◌, is_some, Option, Some, None}
+use Rattle.std.specs.Prelude.{refl}
 use Rattle.std.proofs.Common.{arith, ap, ◌∙◌, sym, inl, inr}
 use Rattle.std.proofs.lemmas.Bool.Decides.{nat_tests}
 use Rattle.std.proofs.lemmas.Option.{none-some, same_Some}
@@ -25,31 +25,18 @@ use Rattle.ipcz_world.specs.Records.{bypass_of, proxy_side, across_side}
 use Rattle.ipcz_world.proofs.weights.OfRecords.{source}
 use Rattle.ipcz_world.proofs.frames.RecordRules.{side_node-central, bypass_of-inner, is_recorded-central}
 use Rattle.ipcz_world.specs.Standing.{Awaited, Standing, is_attached, view, has_primary}
-use Rattle.ipcz_base.specs.Totals.{total_list}
 use Rattle.ipcz_world.specs.Structure.{IsRecorded, link_in}
 use Rattle.ipcz_world.specs.Bypasses.{inner_of}
 use Rattle.ipcz_world.specs.Acts.{CanHand}
 use Rattle.ipcz_router.specs.Bypass.{bypass_peer}
 use Rattle.ipcz_world.specs.Remembering.{taken_records}
 use Rattle.ipcz_world.proofs.frames.Unmoved.{IsLike, Changed}
-use Rattle.ipcz_world.proofs.flows.Handing.{handed_on, router-handed_on, claimed-handed_on, size-handed_on, count-handed_on, node-handed_on}
-use Rattle.ipcz_world.proofs.flows.Handing.{nodes-handed_on, next_router-handed_on, next_peripheral-handed_on, held-handed_on}
-use Rattle.ipcz_world.proofs.flows.Handing.{pending-handed_on, strays-handed_on, opening-handed_on}
+use Rattle.ipcz_world.proofs.flows.Handing.{handed_on, changed-handed_on}
 use Rattle.ipcz_world.proofs.views.Viewing.{IsSameView, view-kept-at}
 use Rattle.ipcz_world.proofs.facts.Lengths.{side_is, same_side-itself, same_side-opposite, has_link-tells, has_link-some, HasEnd, passed}
 use Rattle.ipcz_world.proofs.facts.Lengths.{is_attached-central, view-standing, view-awaited}
 use Rattle.ipcz_world.proofs.hands.BypassAsked.{asked_router, IsPeered, peered}
 use Rattle.ipcz_world.proofs.frames.Sealing.{Sealed, Closed, opened, counts_of, links_of, positions_of, stages_of, told_of, bypasses_of}
-
-pub total_list-same_in : {X : Type 0} (h k : X → ℕ) (xs : List X) → ((i : ℕ) (y : X) → slice_get xs i ≡ Some y → h y ≡ k y) →
-    total_list h xs ≡ total_list k xs
-total_list-same_in h k [] e = refl
-total_list-same_in h k (y ∷ ys) e = omega (arith, e 0 y refl, total_list-same_in h k ys (λ i z p. e (suc i) z p))
-
-pub total_list-has : {X : Type 0} (h : X → ℕ) (xs : List X) (i : ℕ) (y : X) → slice_get xs i ≡ Some y → h y ≤ total_list h xs
-total_list-has h [] i y p = absurd (none-some y p)
-total_list-has h (z ∷ zs) zero y p = let same : z ≡ y = same_Some z y p in omega (arith, ap h same)
-total_list-has h (z ∷ zs) (suc i) y p = omega (arith, total_list-has h zs i y p)
 
 -- weighs a BypassPeer that names a central link
 unfoldable pub central_peer : Message → ℕ
@@ -189,21 +176,7 @@ module _ {w : World} {b : Books} {g : Records} {from : ℕ} {k : Key} {r : Route
   like = record { end = refl; out_queue = refl; in_queue = refl; terminal = refl; closed = refl; mark_seen = refl; spare = refl }
 
   pub changed : Changed w v k r x
-  changed = record {
-    here = here;
-    router = router-handed_on w from k x target sent;
-    claimed = claimed-handed_on w from k x target sent;
-    size = size-handed_on w from k x target sent;
-    count = count-handed_on w from k x target sent;
-    node = node-handed_on w from k x target sent;
-    nodes = nodes-handed_on w from k x target sent;
-    next_router = next_router-handed_on w from k x target sent;
-    next_peripheral = next_peripheral-handed_on w from k x target sent;
-    held = held-handed_on w from k x target sent;
-    pending = pending-handed_on w from k x target sent;
-    strays = strays-handed_on w from k x target sent;
-    opening = opening-handed_on w from k x target sent;
-  }
+  changed = changed-handed_on w from k r x target sent here
 
   pub at_o : (j : ℕ) → ((nat_eq j o ≡ true) × (j ≡ o)) ⊎ ((nat_eq j o ≡ false) × (j ≢ o))
   at_o j = grind (arith, nat_tests)

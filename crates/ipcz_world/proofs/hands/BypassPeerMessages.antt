@@ -28,13 +28,14 @@ use Rattle.ipcz_world.proofs.weights.Placing.{places-handed_on}
 use Rattle.ipcz_world.proofs.weights.Totalling.{total_below-same, total_pairs-same, total_pairs}
 use Rattle.ipcz_world.proofs.flows.Handing.{handed_on, place_before, under_way-handed_on}
 use Rattle.ipcz_world.proofs.frames.Sealing.{no_strays_of, Sealed, Closed, told_of}
-use Rattle.ipcz_world.proofs.hands.AcceptBypassAround.{total_below-within}
-use Rattle.ipcz_world.proofs.hands.BypassPeerAround.{total_list-same_in, total_list-has, central_peer, CanPeer, here, in_hand, on_node}
-use Rattle.ipcz_world.proofs.hands.BypassPeerAround.{from_node, is, itself, begun, r_side, changed, at_o, inner_same, fresh_same}
-use Rattle.ipcz_world.proofs.hands.BypassPeerAround.{proxy_side_same, across_side_same, same_bypass, two, begun_apart, apart, router_same}
-use Rattle.ipcz_world.proofs.hands.BypassPeerAround.{node_same, end_same, source_same, bypass_same, recorded_more}
+use Rattle.ipcz_world.proofs.hands.BypassPeerAround.{central_peer, CanPeer, here, in_hand, on_node, from_node, is, itself, begun, r_side}
+use Rattle.ipcz_world.proofs.hands.BypassPeerAround.{changed, at_o, inner_same, fresh_same, proxy_side_same, across_side_same, same_bypass}
+use Rattle.ipcz_world.proofs.hands.BypassPeerAround.{two, begun_apart, apart, router_same, node_same, end_same, source_same, bypass_same}
+use Rattle.ipcz_world.proofs.hands.BypassPeerAround.{recorded_more}
 use Rattle.ipcz_world.proofs.hands.BypassPeerRecords.{target_below}
 use Rattle.ipcz_world.proofs.hands.BypassPeerNumbers.{was_message, item_apart, made, stage_after, taken_after}
+use Rattle.ipcz_world.proofs.flows.Flowing.{total_below-has}
+use Rattle.ipcz_world.proofs.weights.Sums.{total_list-at, total_list-agree}
 
 module _ {w : World} {b : Books} {g : Records} {from : ℕ} {k : Key} {r : Router} {o : ℕ} {link : LinkId} {side : Side}
     {target fresh : ℕ} (law : Sealed w b g) (can : Closed (CanPeer w from k r o link side target fresh)) where
@@ -104,7 +105,7 @@ module _ {w : World} {b : Books} {g : Records} {from : ℕ} {k : Key} {r : Route
       flows_part : total_pairs v.count (λ a c. total_list (in_message f h) (flow v a c)) ≡ total_pairs v.count
           (λ a c. total_list (in_message f g) (flow v a c))
       flows_part = total_pairs-same v.count (λ a c. total_list (in_message f h) (flow v a c))
-          (λ a c. total_list (in_message f g) (flow v a c)) (λ a c la lc. total_list-same_in (in_message f h) (in_message f g) (flow v a c)
+          (λ a c. total_list (in_message f g) (flow v a c)) (λ a c la lc. total_list-agree (in_message f h) (in_message f g) (flow v a c)
           (λ i m p. in_message-same f a c i m (record { sender = la; receiver = lc; place = p })))
 
       moved : in_places f g v + (in_router f r + in_message f g came) ≡ in_places f g w + (in_router f x + in_message f g sent)
@@ -141,9 +142,9 @@ module _ {w : World} {b : Books} {g : Records} {from : ℕ} {k : Key} {r : Route
       found = omega (
         arith,
         (told_of law).control old f,
-        total_below-within w.count a (λ b. total_below w.count (λ d. total_list (of_bypass g old (f b d)) (flow w b d))) u.sender,
-        total_below-within w.count c (λ d. total_list (of_bypass g old (f a d)) (flow w a d)) u.receiver,
-        total_list-has (of_bypass g old (f a c)) (flow w a c) i (messages.BypassPeer l s old t new) u.place,
+        total_below-has w.count a (λ b. total_below w.count (λ d. total_list (of_bypass g old (f b d)) (flow w b d))) u.sender,
+        total_below-has w.count c (λ d. total_list (of_bypass g old (f a d)) (flow w a d)) u.receiver,
+        total_list-at (of_bypass g old (f a c)) (flow w a c) i (messages.BypassPeer l s old t new) u.place,
       )
 
       none_expected : control_weight g f old ≡ 0

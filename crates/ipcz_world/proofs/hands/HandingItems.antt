@@ -38,13 +38,14 @@ use Rattle.ipcz_world.proofs.frames.Opened.{OpenInv, HasEnds, opened, closed}
 use Rattle.ipcz_world.proofs.sends.Sending.{moves-item}
 use Rattle.ipcz_world.proofs.lawful.WordLaws.{has_at}
 use Rattle.ipcz_world.proofs.hands.Taking.{take_act, IsTake, inv-taken, closed-taken}
-use Rattle.ipcz_world.proofs.calls.Opening.{put_twice}
 use Rattle.ipcz_world.proofs.hands.MaterializingAround.{made_key_records, IsMaterial}
 use Rattle.ipcz_world.proofs.hands.MaterializingNodes.{inv-make}
 use Rattle.ipcz_world.proofs.hands.MakingEnds.{handed_world, inv-makes}
 use Rattle.ipcz_world.proofs.hands.MadeNodes.{made_hand, made_boxes, made_router, made_with}
-use Rattle.ipcz_world.proofs.hands.ItemAsked.{IsAsked, asked, under, its_ends, found, outward, item-fits, has_attached}
-use Rattle.ipcz_world.proofs.views.Telling.{itself}
+use Rattle.ipcz_world.proofs.hands.ItemAsked.{IsAsked, asked, under, its_ends, found, outward, item-fits}
+use Rattle.ipcz_world.proofs.facts.Lengths.{has_attached}
+use Rattle.ipcz_world.proofs.facts.Tests.{nat_eq-itself}
+use Rattle.ipcz_world.proofs.acts.Updating.{put-twice}
 
 -- the node after the hand: its new terminals, and the router with the item
 abbrev pub taken_node : World → ℕ → ℕ → ℕ → Router → List Descriptor → Node
@@ -65,8 +66,8 @@ both_twice w n i j x y a c e =
           put_place mails.Empty (put_place mails.Empty w.mail i a) t c;
     }) e ∙
     ap (λ ns. record w { nodes = ns; mail = put_place mails.Empty (put_place mails.Empty w.mail i a) i c })
-    (put_twice (bare_node 0 0) w.nodes n x y) ∙ ap (λ ms. record w { nodes = put_place (bare_node 0 0) w.nodes n y; mail = ms })
-    (put_twice mails.Empty w.mail i a c)
+    (put-twice (bare_node 0 0) w.nodes n x y) ∙ ap (λ ms. record w { nodes = put_place (bare_node 0 0) w.nodes n y; mail = ms })
+    (put-twice mails.Empty w.mail i a c)
 
 made_is : (g : Records) (n serial : ℕ) (e : End) (p : Key) → made_at g n serial e (inner_link p) ≡ made_key_records g p
     (record { node = n; serial = serial }) e
@@ -144,7 +145,7 @@ was_under_way w v a c m p from to i x u = elim (way_tells from to a c) [
 freed : (x : Node) (from : ℕ) → x.hand ≡ Some from → free_hand x from ≡ record x { hand = None }
 unfolding is_hand_of
 freed x from h = ap (λ o. record x { hand = if is_hand_of o from then None else o }) h ∙ ap
-    (λ c. record x { hand = if c then None else Some from }) (itself from)
+    (λ c. record x { hand = if c then None else Some from }) (nat_eq-itself from)
 
 module _ (w : World) (b : Books) (g : Records) (from n : ℕ) (l : LinkId) (s : Side) (number : ℕ) (item : Item) (moves : List Descriptor)
     (law : Inv w b g) (below : n < w.count) (hand : (node_at w n).hand ≡ Some from)
@@ -263,7 +264,7 @@ module _ (w : World) (b : Books) (g : Records) (from n : ℕ) (l : LinkId) (s : 
 
   node_there : node_at u n ≡ z
   node_there = node-set_mail (set_node w n z) (way w from n) (mails.Hand (messages.Item l s number item [])) n ∙ node-set_node w n z n ∙ ap
-      (λ c. cond c z (node_at w n)) (itself n)
+      (λ c. cond c z (node_at w n)) (nat_eq-itself n)
 
   count_there : u.count ≡ w.count
   count_there = count-set_mail (set_node w n z) (way w from n) (mails.Hand (messages.Item l s number item [])) ∙ count-set_node w n z
@@ -274,7 +275,8 @@ module _ (w : World) (b : Books) (g : Records) (from n : ℕ) (l : LinkId) (s : 
   mail_there : mail_at u (way u from n) ≡ mails.Hand (messages.Item l s number item [])
   mail_there = ap (mail_at u) way_there ∙ mail-set_mail (set_node w n z) (way w from n) (mails.Hand (messages.Item l s number item []))
       (way w from n) ∙
-      ap (λ c. cond c (mails.Hand (messages.Item l s number item [])) (mail_at (set_node w n z) (way w from n))) (itself (way w from n))
+      ap (λ c. cond c (mails.Hand (messages.Item l s number item [])) (mail_at (set_node w n z) (way w from n)))
+      (nat_eq-itself (way w from n))
 
   abbrev asks : IsAsked w g n l s
   asks = asked w b g from n l s number item (d ∷ ds) law below hand mail

@@ -17,7 +17,7 @@ use Rattle.ipcz_base.specs.Ends.{same_end, has_end, opposite_end}
 use Rattle.ipcz_base.specs.Limits.{last_number, no_number}
 use Rattle.ipcz_base.specs.Links.{same_link}
 use Rattle.ipcz_seq.specs.Queue.{has_place}
-use Rattle.ipcz_router.specs.Router.{Router, router_has, outward_has, inward_has}
+use Rattle.ipcz_router.specs.Router.{Router, router_has, outward_has}
 use Rattle.ipcz_router.specs.Calls.{has_place_for}
 use Rattle.ipcz_node.specs.Node.{Node, Found, link_router, is_named, outbox}
 use Rattle.ipcz_base.specs.Items.{ends_in}
@@ -36,17 +36,18 @@ use Rattle.ipcz_world.specs.Numbers.{IsItemUnderWay}
 use Rattle.ipcz_world.specs.Inv.{Inv}
 use Rattle.ipcz_world.proofs.frames.Changing.{flow_is, in_mail-hand}
 use Rattle.ipcz_world.proofs.frames.Opened.{opened}
-use Rattle.ipcz_world.proofs.weights.Weighing.{same_end-itself, in_places-has, in_message-item, of_number}
-use Rattle.ipcz_world.proofs.views.Known.{IsStanding, standing_known, node_of_router, not_there_yet, same_link-tells, edge_has-tells}
+use Rattle.ipcz_world.proofs.weights.Weighing.{in_places-has, in_message-item, of_number}
+use Rattle.ipcz_world.proofs.views.Known.{IsStanding, standing_known, node_of_router, not_there_yet, edge_has-tells}
 use Rattle.ipcz_world.proofs.facts.Finding.{found_tells, found_there}
 use Rattle.ipcz_world.proofs.lawful.WordLaws.{has_at}
 use Rattle.ipcz_world.proofs.weights.Booking.{from_number-range, length-drop}
 use Rattle.ipcz_world.proofs.frames.FillingNumbers.{fed-out, fed-in}
-use Rattle.ipcz_world.proofs.views.Seen.{stands_at}
 use Rattle.ipcz_world.proofs.frames.Draining.{taking_queue-standing}
 use Rattle.ipcz_world.proofs.sends.Sending.{moves-item}
-use Rattle.ipcz_world.proofs.sends.Moved.{AreOnce, ends_once, later_once, first_only, both}
-use Rattle.ipcz_world.proofs.lawful.StrayLaws.{or_right}
+use Rattle.ipcz_world.proofs.sends.Moved.{AreOnce, ends_once, later_once, first_only}
+use Rattle.std.proofs.lemmas.Bool.{and_from, or_right}
+use Rattle.ipcz_world.proofs.facts.Lengths.{has_attached, view-standing, same_link-tells}
+use Rattle.ipcz_world.proofs.facts.LinkTests.{same_end-itself}
 
 -- the router that an item in hand is for
 pub record IsAsked (w : World) (g : Records) (n : ℕ) (l : LinkId) (s : Side) : Type 0 where
@@ -68,12 +69,12 @@ link_found w g k r l s law here has = found.1 ∙ ap Some (λ i. record { serial
     told : (get (node_at w k.node).routers found.0.serial ≡ Some found.0.router) × (router_has found.0.router l s ≡ true)
     told = found_tells (node_at w k.node) (λ y. router_has y l s) found.0 found.1
 
-    both : Some (record { node = k.node; serial = found.0.serial }) ≡ Some k
-    both = sym (has_at w g (record { node = k.node; serial = found.0.serial }) found.0.router l s law told.0 told.1).router ∙
+    and_from : Some (record { node = k.node; serial = found.0.serial }) ≡ Some k
+    and_from = sym (has_at w g (record { node = k.node; serial = found.0.serial }) found.0.router l s law told.0 told.1).router ∙
         (has_at w g k r l s law here has).router
 
     serials : found.0.serial ≡ k.serial
-    serials = grind (arith, both)
+    serials = grind (arith, and_from)
 
     one : Some found.0.router ≡ Some r
     one = sym told.0 ∙ ap (get (node_at w k.node).routers) serials ∙ here
@@ -92,12 +93,6 @@ link_missing w g n l s law none = go (link_router (node_at w n) l s) refl
     go (Some f) e =
         let t = found_tells (node_at w n) (λ y. router_has y l s) f e in
         let h = (has_at w g (record { node = n; serial = f.serial }) f.router l s law t.0 t.1).router in absurd (grind (arith, h, none))
-
-pub has_attached : (l : LinkId) (s : Side) (r : Router) → is_attached l s r ≡ true → router_has r l s ≡ true
-unfolding is_attached
-has_attached (Central i) s r h = grind (arith, h)
-has_attached (Peripheral n x) A r h = or_right (outward_has r (Peripheral n x) A) (inward_has r (Peripheral n x) A) h
-has_attached (Peripheral n x) B r h = grind (arith, h)
 
 low_number : (m len : ℕ) (c : Bool) → m < len → len ≤ last_number + cond c 1 0 → nat_lt m no_number ≡ true
 low_number m len true l e = grind (arith, l, e, nat_tests)
@@ -152,10 +147,10 @@ fit_all g n [] (d ∷ ds) h once new of = cc
 fit_all g n (e ∷ es) [] h once new of = cc
 fit_all g n (e ∷ es) (d ∷ ds) h once new of =
     let first : d.end ≡ e = grind (arith, h) in let rest : map (λ d. d.end) ds ≡ es = grind (arith, h) in
-    both (same_end d.end e) (is_new_move n d && (not (has_moved d.link ds) && fit_moves n es ds))
+    and_from (same_end d.end e) (is_new_move n d && (not (has_moved d.link ds) && fit_moves n es ds))
     (ap (λ x. same_end x e) first ∙ same_end-itself e)
-    (both (is_new_move n d) (not (has_moved d.link ds) && fit_moves n es ds) (new 0 d refl)
-    (both (not (has_moved d.link ds)) (fit_moves n es ds) (ap not (apart first rest (has_moved d.link ds) refl))
+    (and_from (is_new_move n d) (not (has_moved d.link ds) && fit_moves n es ds) (new 0 d refl)
+    (and_from (not (has_moved d.link ds)) (fit_moves n es ds) (ap not (apart first rest (has_moved d.link ds) refl))
     (fit_all g n es ds rest (later_once e es once) (λ j. new (suc j)) (λ j. of (suc j)))))
   where
     apart : d.end ≡ e → map (λ d. d.end) ds ≡ es → (c : Bool) → has_moved d.link ds ≡ c → has_moved d.link ds ≡ false
@@ -199,7 +194,7 @@ module _ (w : World) (b : Books) (g : Records) (from n : ℕ) (l : LinkId) (s : 
   r = asked.router
 
   taking : taking_queue l s (view w g l s) ≡ Some (fed_queue l s r)
-  taking = ap (taking_queue l s) (stands_at w g l s k r asked.known asked.here asked.on) ∙ taking_queue-standing l s r
+  taking = ap (taking_queue l s) (view-standing w g l s k r asked.known asked.here asked.on) ∙ taking_queue-standing l s r
 
   placed : has_place (fed_queue l s r) number ≡ true
   placed =
@@ -233,9 +228,9 @@ module _ (w : World) (b : Books) (g : Records) (from n : ℕ) (l : LinkId) (s : 
   has_its_place = go (is_outward l s) refl
     where
       go : (c : Bool) → is_outward l s ≡ c → has_place_for r c number ≡ true
-      go true c = both (nat_lt number no_number) (has_place r.in_queue number) numbered
+      go true c = and_from (nat_lt number no_number) (has_place r.in_queue number) numbered
           (ap (λ q. has_place q number) (sym (fed-in l s r c)) ∙ placed)
-      go false c = both (nat_lt number no_number) (has_place r.out_queue number) numbered
+      go false c = and_from (nat_lt number no_number) (has_place r.out_queue number) numbered
           (ap (λ q. has_place q number) (sym (fed-out l s r c)) ∙ placed)
 
   -- each of its descriptors can be made a terminal here
@@ -250,7 +245,7 @@ module _ (w : World) (b : Books) (g : Records) (from n : ℕ) (l : LinkId) (s : 
       let low : d.next_out ≤ last_number = low_next d.next_out (length (b.put d.end)) (is_closed b d.end)
       (law.conserved.move_out from n 0 j (messages.Item l s number item moves) d under (descriptor j d h)) unclosed
       (law.books_kept.numbers d.end) in
-      both (not (is_named (node_at w n) d.link B)) (nat_le d.next_out last_number) (ap not unnamed) (le_true d.next_out last_number low)
+      and_from (not (is_named (node_at w n) d.link B)) (nat_le d.next_out last_number) (ap not unnamed) (le_true d.next_out last_number low)
 
   pub its_ends : from ≢ n → map (λ d. d.end) moves ≡ ends_in item
   its_ends away = law.moves.ends from n 0 l s number item moves under away
@@ -288,5 +283,5 @@ module _ (w : World) (b : Books) (g : Records) (from n : ℕ) (l : LinkId) (s : 
   -- the item fits
   pub item-fits : fits (node_at w n) from (messages.Item l s number item moves) ≡ true
   unfolding fits fits_item
-  item-fits = ap (fits_item (node_at w n) from l s number item moves) found ∙ both (has_place_for r (outward_has r l s) number)
+  item-fits = ap (fits_item (node_at w n) from l s number item moves) found ∙ and_from (has_place_for r (outward_has r l s) number)
       (fits_from (node_at w n) from item moves) (ap (λ c. has_place_for r c number) outward ∙ has_its_place) has_its_moves

@@ -2,16 +2,14 @@
 use Rattle.std.specs.Prelude.{◌≡◌, ◌≢◌, ◌<◌, ◌+◌, ℕ, Bool, true, false, cond, nat_eq, Some, refl, List, [], ◌∷◌}
 use Rattle.std.specs.Ordering.{nat_cmp}
 use Rattle.std.specs.Cmp.{nat_cmp_total}
-use Rattle.std.specs.FinMap.{FinMap, get, insert, get-insert, same_map, nat_cmp-IsAntisymmetric}
+use Rattle.std.specs.FinMap.{FinMap, get, insert, same_map, nat_cmp-IsAntisymmetric}
 use Rattle.std.proofs.Common.{arith, ap, ◌∙◌, sym}
 use Rattle.std.proofs.lemmas.Bool.Decides.{nat_tests}
 use Rattle.ipcz_base.specs.declared.descriptor.Descriptor.{Descriptor}
 use Rattle.ipcz_router.specs.Router.{Router, from_descriptor}
 use Rattle.ipcz_node.specs.Node.{Node, with_router, add_router}
 use Rattle.ipcz_node.specs.Hands.{make_terminals}
-
-get_there : (m : FinMap nat_cmp Router) (i : ℕ) (x : Router) (q : ℕ) → get (insert m i x) q ≡ cond (nat_eq q i) (Some x) (get m q)
-get_there m i x q = grind (arith, get-insert nat_cmp_total m i x q, nat_tests)
+use Rattle.ipcz_world.proofs.facts.Finding.{get_inserted}
 
 -- two inserts under different keys commute
 pub inserts_commute : (m : FinMap nat_cmp Router) (i j : ℕ) (x y : Router) → i ≢ j → insert (insert m i x) j y ≡ insert (insert m j y) i x
@@ -20,13 +18,13 @@ inserts_commute m i j x y ne = same_map nat_cmp_total nat_cmp-IsAntisymmetric _ 
     go : (q : ℕ) (c d : Bool) → nat_eq q i ≡ c → nat_eq q j ≡ d → get (insert (insert m i x) j y) q ≡ get (insert (insert m j y) i x) q
     go q true true e f = let a : q ≡ i = grind (arith, e, nat_tests) in let b : q ≡ j = grind (arith, f, nat_tests) in
         absurd (ne (sym a ∙ b))
-    go q true false e f = grind (arith, get_there (insert m i x) j y q, get_there m i x q, get_there (insert m j y) i x q, e, f)
+    go q true false e f = grind (arith, get_inserted (insert m i x) j y q, get_inserted m i x q, get_inserted (insert m j y) i x q, e, f)
     go q false d e f = grind (
       arith,
-      get_there (insert m i x) j y q,
-      get_there m i x q,
-      get_there (insert m j y) i x q,
-      get_there m j y q,
+      get_inserted (insert m i x) j y q,
+      get_inserted m i x q,
+      get_inserted (insert m j y) i x q,
+      get_inserted m j y q,
       e,
       f,
     )
@@ -42,7 +40,7 @@ made_boxes x a (d ∷ ds) = made_boxes (add_router x (from_descriptor d a)) a ds
 pub made_router : (x : Node) (a : ℕ) (ds : List Descriptor) (s : ℕ) → s < x.next_router →
     get (make_terminals x a ds).routers s ≡ get x.routers s
 made_router x a [] s l = refl
-made_router x a (d ∷ ds) s l = made_router (add_router x (from_descriptor d a)) a ds s (omega (arith, l)) ∙ get_there x.routers
+made_router x a (d ∷ ds) s l = made_router (add_router x (from_descriptor d a)) a ds s (omega (arith, l)) ∙ get_inserted x.routers
     x.next_router (from_descriptor d a) s ∙ apart
   where
     apart : cond (nat_eq s x.next_router) (Some (from_descriptor d a)) (get x.routers s) ≡ get x.routers s

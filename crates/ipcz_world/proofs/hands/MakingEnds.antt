@@ -25,9 +25,9 @@ use Rattle.ipcz_world.specs.Flows.{IsUnderWay}
 use Rattle.ipcz_world.proofs.frames.Changing.{flow_is, in_mail-hand}
 use Rattle.ipcz_world.proofs.frames.Opened.{OpenInv}
 use Rattle.ipcz_world.proofs.sends.Sending.{moves-item}
-use Rattle.ipcz_world.proofs.calls.Opening.{put_twice}
 use Rattle.ipcz_world.proofs.hands.MaterializingAround.{made_key_records, IsMaterial}
 use Rattle.ipcz_world.proofs.hands.MaterializingNodes.{inv-make}
+use Rattle.ipcz_world.proofs.acts.Updating.{put-twice}
 
 -- the world where a node is as it is after some terminals were made, and what is left of the message is in hand
 abbrev pub handed_world : World → ℕ → ℕ → LinkId → Side → ℕ → Item → Node → List Descriptor → World
@@ -43,9 +43,9 @@ step_world w a n l s number item x y ds es =
       mail = put_place mails.Empty
           (put_place mails.Empty w.mail (way w a n) (mails.Hand (messages.Item l s number item ds))) (way w a n)
           (mails.Hand (messages.Item l s number item es));
-    }) (put_twice (bare_node 0 0) w.nodes n x y) ∙
+    }) (put-twice (bare_node 0 0) w.nodes n x y) ∙
     ap (λ ms. record w { nodes = put_place (bare_node 0 0) w.nodes n y; mail = ms })
-    (put_twice mails.Empty w.mail (way w a n) (mails.Hand (messages.Item l s number item ds))
+    (put-twice mails.Empty w.mail (way w a n) (mails.Hand (messages.Item l s number item ds))
     (mails.Hand (messages.Item l s number item es)))
 
 module _ (w : World) (b : Books) (a n : ℕ) (l : LinkId) (s : Side) (number : ℕ) (item : Item) (away : a ≢ n) (sender : a < w.count)

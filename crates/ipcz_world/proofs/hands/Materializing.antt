@@ -20,11 +20,11 @@ use Rattle.ipcz_world.proofs.weights.OfRecords.{in_message, in_node, in_places}
 use Rattle.ipcz_base.specs.Totals.{total_below}
 use Rattle.ipcz_world.specs.Whereabouts.{Conserved, HeldOnce}
 use Rattle.ipcz_world.proofs.frames.Touching.{HasSameEnds, Hands}
-use Rattle.ipcz_world.proofs.flows.Flowing.{IsRewritten, under_way-rewritten, under_way-congr, total_below-same}
+use Rattle.ipcz_world.proofs.flows.Flowing.{IsRewritten, under_way-rewritten, under_way-congr}
 use Rattle.ipcz_world.proofs.frames.Opened.{OpenInv}
-use Rattle.ipcz_world.proofs.weights.Weighing.{in_places-is, in_message-item}
+use Rattle.ipcz_world.proofs.weights.Weighing.{in_places-is, in_message-item, in_message-same}
 use Rattle.ipcz_world.proofs.sends.Sending.{times_same}
-use Rattle.ipcz_world.proofs.sends.ExtendingFacts.{in_node-same, in_message-same}
+use Rattle.ipcz_world.proofs.sends.ExtendingFacts.{in_node-same}
 use Rattle.ipcz_world.proofs.hands.MaterializingAround.{made_key_records, IsMade, IsMaterial, source_same, was_there}
 use Rattle.ipcz_world.proofs.hands.MaterializingStages.{nowhere_same, stands-made, words-made, spares-made, bypasses-made, stages-made}
 use Rattle.ipcz_world.proofs.hands.MaterializingStages.{terminals-made}
@@ -32,6 +32,7 @@ use Rattle.ipcz_world.proofs.hands.MaterializingLinks.{counts-made, ordered-made
 use Rattle.ipcz_world.proofs.hands.MaterializingItems.{reach-blank, order-made, proxy_numbers-made}
 use Rattle.ipcz_world.proofs.hands.MaterializingPlaces.{came, items-made, told-made, descriptor_came, moves-made, fresh_numbers-made}
 use Rattle.ipcz_world.proofs.hands.MaterializingPlaces.{end_places-made, books_kept-made}
+use Rattle.ipcz_world.proofs.weights.Totalling.{total_below-same}
 
 -- with the message that had the descriptor
 module _ (w v : World) (b : Books) (g : Records) (a : ℕ) (q p : Key) (d : Descriptor) (law : OpenInv w b g) (is : IsMaterial w g a q p d)

@@ -69,10 +69,7 @@ up s i j false l e = omega (arith, l, e)
 pub own_up : (n s i j : ℕ) → s ≡ i → j ≡ cond (nat_eq n n) (i + 1) i → s < j
 own_up n s i j e f = grind (arith, e, f, nat_tests)
 
-pub same_some : {X : Type 0} {a b : X} → Some a ≡ Some b → a ≡ b
-same_some e = cc
-
-not_none : {X : Type 0} {x : X} → None ≡ Some x → ⊥
+pub not_none : {X : Type 0} {x : X} → None ≡ Some x → ⊥
 not_none e = cc
 
 pub empty_at : (f m : ℕ) (i : Item) → item_at {T = Item} (queue_from f) m ≡ Some i → ⊥

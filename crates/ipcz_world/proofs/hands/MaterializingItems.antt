@@ -1,6 +1,6 @@
 -- A descriptor becomes a terminal, and the message that carried it has it no more: what is said of items and numbers is kept.
-use Rattle.std.specs.Prelude.{◌≡◌, ◌⊎◌, ◌≤◌, ℕ, zero, suc, Bool, true, false, cond, ◌&&◌, nat_eq, Option, Some, None, is_some, refl, List}
-use Rattle.std.specs.Prelude.{[], ◌∷◌, slice_get}
+use Rattle.std.specs.Prelude.{◌≡◌, ◌⊎◌, ◌≤◌, ℕ, suc, Bool, true, false, cond, ◌&&◌, nat_eq, Option, Some, None, is_some, refl, List, []}
+use Rattle.std.specs.Prelude.{◌∷◌, slice_get}
 use Rattle.std.proofs.Common.{arith, ap, ◌∙◌, sym, inl, inr}
 use Rattle.std.proofs.lemmas.Bool.Decides.{nat_tests}
 use Rattle.ipcz_base.specs.declared.side.Side.{Side}
@@ -20,7 +20,7 @@ use Rattle.ipcz_router.specs.Router.{Router, from_descriptor}
 use Rattle.ipcz_world.specs.World.{World, Key, flow}
 use Rattle.ipcz_world.proofs.frames.Frames.{same_key-itself}
 use Rattle.ipcz_world.specs.Books.{Books}
-use Rattle.ipcz_world.specs.Records.{Records, At, Moving, is_recorded, is_begun, bypass_of, known_from, inner_link, side_router, side_end}
+use Rattle.ipcz_world.specs.Records.{Records, Moving, is_recorded, is_begun, bypass_of, known_from, inner_link, side_router, side_end}
 use Rattle.ipcz_world.specs.Records.{side_length, length_by, bypass_length, across_side, terminal_descriptor}
 use Rattle.ipcz_world.proofs.frames.RecordRules.{is_recorded-central, side_router-proxy, side_router-inner}
 use Rattle.ipcz_world.specs.Standing.{Waiting, Standing, view, view_by, router_view, awaited_view, next_sent, taking_queue, may_have_sent}
@@ -29,22 +29,23 @@ use Rattle.ipcz_world.specs.Flows.{makes, is_made_before, under_way, of_end, mov
 use Rattle.ipcz_base.specs.Totals.{total_list, total_below}
 use Rattle.ipcz_world.specs.Bypasses.{inner_of, move_weight, moving_link}
 use Rattle.ipcz_world.specs.Numbers.{Order, ProxyNumbers, has_passed}
-use Rattle.ipcz_world.proofs.views.Seen.{stands_at, view_by-known, view_by-unknown}
+use Rattle.ipcz_world.proofs.views.Seen.{view_by-known, view_by-unknown}
 use Rattle.ipcz_world.proofs.frames.Draining.{next_sent-standing, taking_queue-standing, view_rules}
 use Rattle.ipcz_world.proofs.flows.Fitting.{ItemFits}
-use Rattle.ipcz_world.proofs.flows.Flowing.{weighed, total_list-has}
+use Rattle.ipcz_world.proofs.flows.Flowing.{weighed}
 use Rattle.ipcz_world.proofs.frames.Opened.{OpenInv}
-use Rattle.ipcz_world.proofs.views.Known.{same_link-tells, same_side-tells}
-use Rattle.ipcz_world.proofs.weights.Weighing.{same_end-itself}
 use Rattle.ipcz_world.proofs.sends.SendingOut.{has_link-end}
-use Rattle.ipcz_world.proofs.flows.Awaited.{no_router, moving_known}
+use Rattle.ipcz_world.proofs.flows.Awaited.{no_router, moving_known, expected_move-moving}
 use Rattle.ipcz_world.proofs.facts.Reaching.{is_reach, reach_one}
-use Rattle.ipcz_world.proofs.sends.ExtendingAround.{inner_end_is, same_end-tells}
-use Rattle.ipcz_world.proofs.sends.ExtendingItems.{next_sent-waiting, taking_queue-waiting, awaited-central, blank_at}
-use Rattle.ipcz_world.proofs.hands.MaterializingAround.{made_key_records, IsMade, IsMaterial, unmade, waits, end_is, node_same, same_some}
-use Rattle.ipcz_world.proofs.hands.MaterializingAround.{end_same, bypass_same, side_same, recorded_same, router_new, router_same, side_new}
+use Rattle.ipcz_world.proofs.sends.ExtendingAround.{inner_end_is}
+use Rattle.ipcz_world.proofs.sends.ExtendingItems.{next_sent-waiting, taking_queue-waiting, awaited-central, blank_at, awaited-inner}
+use Rattle.ipcz_world.proofs.hands.MaterializingAround.{made_key_records, IsMade, IsMaterial, unmade, waits, end_is, node_same, end_same}
+use Rattle.ipcz_world.proofs.hands.MaterializingAround.{bypass_same, side_same, recorded_same, router_new, router_same, side_new}
 use Rattle.ipcz_world.proofs.hands.MaterializingStages.{proxy_was}
-use Rattle.ipcz_world.proofs.facts.Lengths.{same_link-itself}
+use Rattle.ipcz_world.proofs.facts.Lengths.{same_link-itself, view-standing, same_link-tells, same_side-tells}
+use Rattle.ipcz_world.proofs.weights.Sums.{total_below-none, total_list-at as total_list-has}
+use Rattle.ipcz_world.proofs.facts.Tests.{same_some}
+use Rattle.ipcz_world.proofs.facts.LinkTests.{same_end-itself, same_end-tells}
 
 -- weighs the descriptors of the same numbers
 abbrev of_numbers : Descriptor → Descriptor → ℕ
@@ -59,14 +60,6 @@ numbers_weigh d x h = go (nat_eq x.next_out d.next_out) (nat_eq x.next_in d.next
     go true false c e l = absurd (omega (arith, l))
     go false e c f l = absurd (omega (arith, l))
 
-pub expected_move-moving : (f : Descriptor → ℕ) (d : Descriptor) → move_weight f (Moving d) ≡ f d
-unfolding move_weight
-expected_move-moving f d = refl
-
-pub expected_move-at : (f : Descriptor → ℕ) (q : Key) → move_weight f (At q) ≡ 0
-unfolding move_weight
-expected_move-at f q = refl
-
 pub total_list-at : (f : Descriptor → ℕ) (ds : List Descriptor) (j : ℕ) (d : Descriptor) → slice_get ds j ≡ Some d → f d ≤ total_list f ds
 total_list-at f ds j d e = total_list-has f ds j d e
 
@@ -75,18 +68,14 @@ pub none_of_end : (f : Descriptor → ℕ) (e : End) (ds : List Descriptor) →
 none_of_end f e [] h = refl
 none_of_end f e (x ∷ ds) h = let z = h 0 x refl in let r = none_of_end f e ds (λ j c k. h (suc j) c k) in grind (arith, z, r)
 
-zeros : (c : ℕ) (f : ℕ → ℕ) → ((j : ℕ) → f j ≡ 0) → total_below c f ≡ 0
-zeros zero f h = refl
-zeros (suc c) f h = omega (arith, h c, zeros c f h)
-
 list_zeros : (ms : List Message) → total_list (λ m. 0) ms ≡ 0
 list_zeros [] = refl
 list_zeros (m ∷ ms) = omega (arith, list_zeros ms)
 
 pub no_weight : (w : World) → under_way (λ from to m. 0) w ≡ 0
 unfolding under_way
-no_weight w = zeros w.count (λ from. total_below w.count (λ to. total_list (λ m. 0) (flow w from to)))
-    (λ from. zeros w.count (λ to. total_list (λ m. 0) (flow w from to)) (λ to. list_zeros (flow w from to)))
+no_weight w = total_below-none w.count (λ from. total_below w.count (λ to. total_list (λ m. 0) (flow w from to)))
+    (λ from. total_below-none w.count (λ to. total_list (λ m. 0) (flow w from to)) (λ to. list_zeros (flow w from to)))
 
 pub makes-less : (link l : LinkId) (u s : Side) (n : ℕ) (item : Item) (ds : List Descriptor) (d : Descriptor) →
     (same_link d.link link && same_side u B) ≡ false → makes link u (messages.Item l s n item (d ∷ ds)) ≡ true →
@@ -94,10 +83,6 @@ pub makes-less : (link l : LinkId) (u s : Side) (n : ℕ) (item : Item) (ds : Li
 unfolding makes
 makes-less link l A s n item ds d h e = e
 makes-less link l B s n item ds d h e = grind (arith, h, e)
-
-awaited-moving : (k : Key) (d : Descriptor) → awaited_view (inner_link k) (terminal_descriptor (Moving d)) ≡ Waiting d
-unfolding awaited_view terminal_descriptor
-awaited-moving k d = refl
 
 fed-B : (k : Key) (x : Router) → fed_queue (inner_link k) B x ≡ x.in_queue
 unfolding fed_queue
@@ -193,13 +178,13 @@ module _ (w v : World) (b : Books) (g : Records) (a : ℕ) (q p : Key) (d : Desc
     pub new : view v h link s ≡ Standing y
 
   new_view : view v h (inner_link p) B ≡ Standing y
-  new_view = stands_at v h (inner_link p) B q y (router_new law is t) (t.router q ∙ grind (arith, same_key-itself q))
+  new_view = view-standing v h (inner_link p) B q y (router_new law is t) (t.router q ∙ grind (arith, same_key-itself q))
       (attached-B p d a is.link)
 
   old_view : view w g (inner_link p) B ≡ Waiting d0
   old_view = ap (view_by w g (inner_link p) B) (unmade law is t) ∙ view_by-unknown w g (inner_link p) B ∙
       ap (λ e. awaited_view (inner_link p) (terminal_descriptor (g.terminal e))) (inner_end_is g p B ∙ end_is law is t) ∙ ap
-      (λ z. awaited_view (inner_link p) (terminal_descriptor z)) moving ∙ awaited-moving p d0
+      (λ z. awaited_view (inner_link p) (terminal_descriptor z)) moving ∙ awaited-inner p d0
 
   pub seen_made : (link : LinkId) (s : Side) → is_recorded w g link ≡ true → (view v h link s ≡ view w g link s) ⊎ IsArrived link s
   seen_made link s rec = go (same_link link (inner_link p) && same_side s B) refl

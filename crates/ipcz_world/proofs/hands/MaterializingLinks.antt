@@ -18,12 +18,13 @@ use Rattle.ipcz_world.specs.Records.{Records, is_recorded, is_begun, inner_link,
 use Rattle.ipcz_world.specs.Structure.{Counts, Ordered, Shape, Links, IsRecorded, Positions, is_outward, has_role}
 use Rattle.ipcz_world.proofs.frames.Touching.{Hands}
 use Rattle.ipcz_world.proofs.frames.Opened.{OpenInv}
-use Rattle.ipcz_world.proofs.views.Known.{same_link-tells, same_side-tells}
 use Rattle.ipcz_world.proofs.sends.ExtendingAround.{inner_end_is, inner_one}
-use Rattle.ipcz_world.proofs.hands.MaterializingAround.{made_key_records, IsMade, IsMaterial, up, own_up, same_some, empty_at, is_outward-B}
+use Rattle.ipcz_world.proofs.hands.MaterializingAround.{made_key_records, IsMade, IsMaterial, up, own_up, empty_at, is_outward-B}
 use Rattle.ipcz_world.proofs.hands.MaterializingAround.{no_central, recorded, from_node, unmade, end_is, node_same, end_same, by_same}
 use Rattle.ipcz_world.proofs.hands.MaterializingAround.{bypass_same, side_same, recorded_same, router_kept, router_new, router_same}
 use Rattle.ipcz_world.proofs.hands.MaterializingAround.{was_there}
+use Rattle.ipcz_world.proofs.facts.Lengths.{same_link-tells, same_side-tells}
+use Rattle.ipcz_world.proofs.facts.Tests.{same_some}
 
 module _ {w v : World} {b : Books} {g : Records} {a : ℕ} {q p : Key} {d : Descriptor} (law : OpenInv w b g) (is : IsMaterial w g a q p d)
     (t : IsMade w v q (from_descriptor d a)) where

@@ -30,21 +30,21 @@ use Rattle.ipcz_world.proofs.frames.Touching.{HasSameEnds}
 use Rattle.ipcz_world.proofs.flows.Fitting.{fits_of, items_by}
 use Rattle.ipcz_world.proofs.flows.Flowing.{IsRewritten, came_rewritten, made_still, under_way-rewritten, under_way-congr, weighed}
 use Rattle.ipcz_world.proofs.frames.Opened.{OpenInv, OpenMoves}
-use Rattle.ipcz_world.proofs.views.Known.{same_link-tells, same_side-tells, fresh_central}
-use Rattle.ipcz_world.proofs.weights.Weighing.{same_end-itself}
+use Rattle.ipcz_world.proofs.views.Known.{fresh_central}
 use Rattle.ipcz_world.proofs.sends.Sending.{about-item, moves-item}
-use Rattle.ipcz_world.proofs.flows.Awaited.{awaited_none}
-use Rattle.ipcz_world.proofs.sends.ExtendingAround.{inner_end_is, same_end-tells}
-use Rattle.ipcz_world.proofs.sends.ExtendingFacts.{about-same, same_end-turned, expected-alike}
-use Rattle.ipcz_world.proofs.hands.MaterializingAround.{made_key_records, IsMade, IsMaterial, end_is, peripheral_same, node_same}
+use Rattle.ipcz_world.proofs.flows.Awaited.{awaited_none, expected_move-moving}
+use Rattle.ipcz_world.proofs.sends.ExtendingAround.{inner_end_is}
+use Rattle.ipcz_world.proofs.sends.ExtendingFacts.{same_end-turned}
+use Rattle.ipcz_world.proofs.hands.MaterializingAround.{made_key_records, IsMade, IsMaterial, end_is, peripheral_same, node_same, not_none}
 use Rattle.ipcz_world.proofs.hands.MaterializingAround.{no_central, end_same, bypass_same, side_same, recorded_same, router_new}
 use Rattle.ipcz_world.proofs.hands.MaterializingAround.{router_same, was_there}
-use Rattle.ipcz_world.proofs.hands.MaterializingItems.{expected_move-moving, expected_move-at, total_list-at, none_of_end, no_weight}
-use Rattle.ipcz_world.proofs.hands.MaterializingItems.{makes-less, d0, moving, other_terminal, seen_made, length_same, fits-made}
+use Rattle.ipcz_world.proofs.hands.MaterializingItems.{total_list-at, none_of_end, no_weight, makes-less, d0, moving, other_terminal}
+use Rattle.ipcz_world.proofs.hands.MaterializingItems.{seen_made, length_same, fits-made}
 use Rattle.ipcz_world.proofs.sends.ExtendingItems.{same_link-turned, same_item, blank_at}
-
-none_some : {X : Type 0} {x : X} → None ≡ Some x → ⊥
-none_some e = cc
+use Rattle.ipcz_world.proofs.weights.Booking.{expected_move-at}
+use Rattle.ipcz_world.proofs.facts.Lengths.{same_link-tells, same_side-tells}
+use Rattle.ipcz_world.proofs.frames.FreshPairs.{expected_alike, about_same}
+use Rattle.ipcz_world.proofs.facts.LinkTests.{same_end-itself, same_end-tells}
 
 terminal_node-moving : (d : Descriptor) → terminal_node (Moving d) ≡ None
 unfolding terminal_node
@@ -81,7 +81,7 @@ module _ {w v : World} {b : Books} {g : Records} {a : ℕ} {q p : Key} {d : Desc
       go false c = c
       go true c = let x : link ≡ inner_link p = same_link-tells link (inner_link p) (grind (arith, c)) in let y : u ≡ B =
           same_side-tells u B (grind (arith, c)) in
-          absurd (none_some (sym none ∙ ap (λ l. side_router h2 l u) x ∙ ap (side_router h2 (inner_link p)) y ∙ router_new
+          absurd (not_none (sym none ∙ ap (λ l. side_router h2 l u) x ∙ ap (side_router h2 (inner_link p)) y ∙ router_new
           law is t))
 
   still : (from to i : ℕ) (x : Message) → IsUnderWay v from to i x → (link : LinkId) (u : Side) → side_router h2 link u ≡ None →
@@ -113,7 +113,7 @@ module _ {w v : World} {b : Books} {g : Records} {a : ℕ} {q p : Key} {d : Desc
     control = λ o f. let u = under_way-rewritten (λ from to. of_bypass h2 o (f from to)) w v a q.node pre post m0 m1 r in
         let same : under_way (λ from to. of_bypass h2 o (f from to)) w ≡ under_way (λ from to. of_bypass g o (f from to)) w =
         under_way-congr (λ from to. of_bypass h2 o (f from to)) (λ from to. of_bypass g o (f from to)) w
-        (λ from to i m c. about-same g h2 o (f from to) m (bypass_same law is t)) in
+        (λ from to i m c. about_same g h2 o (f from to) m (bypass_same law is t)) in
         omega (
           arith,
           u,
@@ -121,7 +121,7 @@ module _ {w v : World} {b : Books} {g : Records} {a : ℕ} {q p : Key} {d : Desc
           law.told.control o f,
           about-item h2 o (f a q.node) l s n item (d ∷ moves),
           about-item h2 o (f a q.node) l s n item moves,
-          expected-alike g h2 f o refl (node_same law is t (inner_of g o) B) (side_same law is t o)
+          expected_alike g h2 f o refl (node_same law is t (inner_of g o) B) (side_same law is t o)
               (λ z. node_same law is t (Central o) z),
         );
     will_stop = λ from to i x u m c. ap is_some (bypass_same law is t x) ∙ law.told.will_stop from to i x u m
@@ -247,7 +247,7 @@ module _ {w v : World} {b : Books} {g : Records} {a : ℕ} {q p : Key} {d : Desc
 
       waiting : (k : Key) → is_recorded w g (inner_link k) ≡ true → (h2.peripheral k).router ≡ None → (c : Bool) → same_key k p ≡ c →
           moving_link (h2.terminal (h2.peripheral k).end) ≡ Some (inner_link k)
-      waiting k rec none true c = absurd (none_some (sym none ∙ made_router c))
+      waiting k rec none true c = absurd (not_none (sym none ∙ made_router c))
         where
           made_router : same_key k p ≡ true → (h2.peripheral k).router ≡ Some q.serial
           made_router c = grind (arith, c)
@@ -286,7 +286,7 @@ module _ {w v : World} {b : Books} {g : Records} {a : ℕ} {q p : Key} {d : Desc
     where
       go : (c : Bool) → same_end e d.end ≡ c → terminal_node (h2.terminal e) ≡ Some m
       go false c = grind (arith, c, f)
-      go true c = absurd (none_some (sym (terminal_node-moving (d0 w v b g a q p d law is t)) ∙ ap terminal_node
+      go true c = absurd (not_none (sym (terminal_node-moving (d0 w v b g a q p d law is t)) ∙ ap terminal_node
           (sym (moving w v b g a q p d law is t)) ∙ ap (λ e. terminal_node (g.terminal e)) (sym (same_end-tells e d.end c)) ∙ f))
 
   pub end_places-made : EndPlaces v h2
@@ -296,12 +296,12 @@ module _ {w v : World} {b : Books} {g : Records} {a : ℕ} {q p : Key} {d : Desc
     out = λ x z m i e at f has. elim (was_there law is t x z at) [
       | inl o ↦ term_kept e x.node (law.end_places.out x z m i e o.0 f has)
       | inr o ↦ absurd
-          (none_some (sym (blank_at d.next_out m) ∙ ap (λ z. item_at z.out_queue m) (sym o.0) ∙ f))
+          (not_none (sym (blank_at d.next_out m) ∙ ap (λ z. item_at z.out_queue m) (sym o.0) ∙ f))
     ];
     inn = λ x z m i e at f has. elim (was_there law is t x z at) [
       | inl o ↦ term_kept e x.node (law.end_places.inn x z m i e o.0 f has)
       | inr o ↦ absurd
-          (none_some (sym (blank_at d.next_in m) ∙ ap (λ z. item_at z.in_queue m) (sym o.0) ∙ f))
+          (not_none (sym (blank_at d.next_in m) ∙ ap (λ z. item_at z.in_queue m) (sym o.0) ∙ f))
     ];
     within = λ m i x u j z ds e c has. let o = item_came m m i x u j z ds c in
         term_kept e m (law.end_places.within m i x u j z o.0 e o.1 has);

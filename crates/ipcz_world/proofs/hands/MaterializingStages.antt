@@ -23,16 +23,16 @@ use Rattle.ipcz_world.specs.Structure.{Stands, Words, Spares}
 use Rattle.ipcz_world.specs.Bypasses.{BypassRecords, Stages, inner_of, fresh_of, moving_link}
 use Rattle.ipcz_world.specs.Whereabouts.{Terminals}
 use Rattle.ipcz_world.proofs.frames.Opened.{OpenInv}
-use Rattle.ipcz_world.proofs.views.Known.{same_link-tells}
-use Rattle.ipcz_world.proofs.weights.Weighing.{same_end-itself}
 use Rattle.ipcz_world.proofs.flows.Awaited.{moving_known}
 use Rattle.ipcz_world.proofs.sends.SendingOut.{has_link-end}
-use Rattle.ipcz_world.proofs.sends.ExtendingAround.{inner_one, same_end-tells, is_nowhere-moving}
+use Rattle.ipcz_world.proofs.sends.ExtendingAround.{inner_one, is_nowhere-moving}
 use Rattle.ipcz_world.proofs.frames.FreshPairs.{is_nowhere-at}
-use Rattle.ipcz_world.proofs.hands.MaterializingAround.{made_key_records, IsMade, IsMaterial, same_some, and_false, no_spare, at_waits}
-use Rattle.ipcz_world.proofs.hands.MaterializingAround.{at_one, unmade, waits, peripheral_same, node_same, end_same, by_same, side_same}
-use Rattle.ipcz_world.proofs.hands.MaterializingAround.{recorded_same, router_new, router_same, side_new, stood, was_there, passes_kept}
-use Rattle.ipcz_world.proofs.hands.MaterializingAround.{passes_same}
+use Rattle.ipcz_world.proofs.hands.MaterializingAround.{made_key_records, IsMade, IsMaterial, and_false, no_spare, at_waits, at_one, unmade}
+use Rattle.ipcz_world.proofs.hands.MaterializingAround.{waits, peripheral_same, node_same, end_same, by_same, side_same, recorded_same}
+use Rattle.ipcz_world.proofs.hands.MaterializingAround.{router_new, router_same, side_new, stood, was_there, passes_kept, passes_same}
+use Rattle.ipcz_world.proofs.facts.Lengths.{same_link-tells}
+use Rattle.ipcz_world.proofs.facts.Tests.{same_some}
+use Rattle.ipcz_world.proofs.facts.LinkTests.{same_end-itself, same_end-tells}
 
 module _ {w v : World} {b : Books} {g : Records} {a : ℕ} {q p : Key} {d : Descriptor} (law : OpenInv w b g) (is : IsMaterial w g a q p d)
     (t : IsMade w v q (from_descriptor d a)) where

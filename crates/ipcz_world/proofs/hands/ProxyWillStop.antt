@@ -32,9 +32,7 @@ use Rattle.ipcz_world.specs.Bypasses.{Told, of_bypass, control_weight, inner_of}
 use Rattle.ipcz_world.specs.Inv.{Inv}
 use Rattle.ipcz_world.specs.Acts.{CanHand, will_stop_act}
 use Rattle.ipcz_world.proofs.flows.Handing.{handed, place_before, was_under_way-handed, was_made_before-handed, under_way-handed}
-use Rattle.ipcz_world.proofs.flows.Handing.{router-handed, word-handed, claimed-handed, size-handed, count-handed, node-handed}
-use Rattle.ipcz_world.proofs.flows.Handing.{nodes-handed, next_router-handed, next_peripheral-handed, held-handed, pending-handed}
-use Rattle.ipcz_world.proofs.flows.Handing.{strays-handed, opening-handed, hand-handed, mail-handed}
+use Rattle.ipcz_world.proofs.flows.Handing.{word-handed, hand-handed, mail-handed, changed-handed}
 use Rattle.ipcz_world.proofs.weights.Placing.{places-handed}
 use Rattle.ipcz_world.proofs.frames.Unmoved.{IsLike, Changed, Carried, Agree, side_node-agree, bypass_of-agree, about-agree, expected-agree}
 use Rattle.ipcz_world.proofs.frames.Unmoved.{places-agree, ordered-kept, spares-kept, moves-kept, terminals-kept, end_places-kept}
@@ -101,21 +99,7 @@ module _ (w : World) (b : Books) (g : Records) (from : ℕ) (k : Key) (r : Route
   linked = record { primary = refl; decaying = refl; inward_primary = refl; inward_decaying = refl; marked = refl; holds = refl }
 
   changed : Changed w v k r x
-  changed = record {
-    here = here;
-    router = router-handed w from k x;
-    claimed = claimed-handed w from k x;
-    size = size-handed w from k x;
-    count = count-handed w from k x;
-    node = node-handed w from k x;
-    nodes = nodes-handed w from k x;
-    next_router = next_router-handed w from k x;
-    next_peripheral = next_peripheral-handed w from k x;
-    held = held-handed w from k x;
-    pending = pending-handed w from k x;
-    strays = strays-handed w from k x;
-    opening = opening-handed w from k x;
-  }
+  changed = changed-handed w from k r x here
 
   abbrev came : Message
   came = messages.ProxyWillStop link side length

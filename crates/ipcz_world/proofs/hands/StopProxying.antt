@@ -34,10 +34,8 @@ use Rattle.ipcz_base.specs.Totals.{total_list}
 use Rattle.ipcz_world.specs.Bypasses.{Told, of_bypass, control_weight, inner_of}
 use Rattle.ipcz_world.specs.Inv.{Inv}
 use Rattle.ipcz_world.specs.Acts.{CanHand, stop_act}
-use Rattle.ipcz_world.proofs.flows.Handing.{handed_on, place_before, was_under_way, was_made_before, under_way-handed_on, router-handed_on}
-use Rattle.ipcz_world.proofs.flows.Handing.{word-handed_on, claimed-handed_on, size-handed_on, count-handed_on, node-handed_on}
-use Rattle.ipcz_world.proofs.flows.Handing.{nodes-handed_on, next_router-handed_on, next_peripheral-handed_on, held-handed_on}
-use Rattle.ipcz_world.proofs.flows.Handing.{pending-handed_on, strays-handed_on, opening-handed_on, hand-handed_on, mail-handed_on}
+use Rattle.ipcz_world.proofs.flows.Handing.{handed_on, place_before, was_under_way, was_made_before, under_way-handed_on, word-handed_on}
+use Rattle.ipcz_world.proofs.flows.Handing.{hand-handed_on, mail-handed_on, changed-handed_on}
 use Rattle.ipcz_world.proofs.weights.Placing.{places-handed_on}
 use Rattle.ipcz_world.proofs.frames.Unmoved.{IsLike, Changed, Carried, Agree, side_node-agree, bypass_of-agree, about-agree, expected-agree}
 use Rattle.ipcz_world.proofs.frames.Unmoved.{places-agree, ordered-kept, spares-kept, moves-kept, terminals-kept, end_places-kept}
@@ -177,21 +175,7 @@ module _ (w : World) (b : Books) (g : Records) (from : ℕ) (k : Key) (r : Route
   }
 
   changed : Changed w v k r x
-  changed = record {
-    here = here;
-    router = router-handed_on w from k x e.other sent;
-    claimed = claimed-handed_on w from k x e.other sent;
-    size = size-handed_on w from k x e.other sent;
-    count = count-handed_on w from k x e.other sent;
-    node = node-handed_on w from k x e.other sent;
-    nodes = nodes-handed_on w from k x e.other sent;
-    next_router = next_router-handed_on w from k x e.other sent;
-    next_peripheral = next_peripheral-handed_on w from k x e.other sent;
-    held = held-handed_on w from k x e.other sent;
-    pending = pending-handed_on w from k x e.other sent;
-    strays = strays-handed_on w from k x e.other sent;
-    opening = opening-handed_on w from k x e.other sent;
-  }
+  changed = changed-handed_on w from k r x e.other sent here
 
   was : (a c i : ℕ) (m : Message) → (m ≡ sent → ⊥) → IsUnderWay v a c i m → IsUnderWay w a c (place_before from k.node a c i) m
   was a c i m new u = go (was_under_way w from k x e.other sent came a c i m on_node in_hand u)

@@ -1,5 +1,5 @@
 -- A router takes the item of the message in hand, which moves no end: all that holds is kept.
-use Rattle.ipcz_world.proofs.weights.OfRecords.{holds}
+use Rattle.ipcz_world.proofs.weights.OfRecords.{holds, source, in_message, in_places}
 use Rattle.ipcz_world.specs.Routes.{source as source'}
 use Rattle.std.specs.Prelude.{◌≡◌, ◌⊎◌, ◌≤◌, ◌<◌, ◌+◌, ℕ, zero, suc, Bool, true, false, not, cond, ◌&&◌, ◌||◌, nat_eq, Option, Some, None}
 use Rattle.std.specs.Prelude.{is_some, refl, List, [], ◌∷◌, drop, slice_get}
@@ -21,9 +21,8 @@ use Rattle.ipcz_edge.specs.Edge.{Edge, edge_has}
 use Rattle.ipcz_seq.specs.Queue.{Queue, item_at, push_at}
 use Rattle.ipcz_router.specs.Router.{Router, is_terminal, inward_edge}
 use Rattle.ipcz_router.specs.Calls.{accept}
-use Rattle.ipcz_base.specs.Items.{is_mark}
+use Rattle.ipcz_base.specs.Items.{is_mark, ends_in}
 use Rattle.ipcz_node.specs.Node.{Node, with_router}
-use Rattle.ipcz_base.specs.Items.{ends_in}
 use Rattle.ipcz_world.specs.declared.mail.Mail.TheVariants as mails
 use Rattle.ipcz_world.specs.World.{World, Key, same_key, node_at, mail_at, way, router_at, set_node, set_mail}
 use Rattle.ipcz_world.proofs.frames.Frames.{same_key_tells, node-set_node, word-set_node, mail-set_node, claimed-set_node, size-set_node}
@@ -32,11 +31,9 @@ use Rattle.ipcz_world.proofs.frames.Frames.{count-set_mail}
 use Rattle.ipcz_world.specs.Turns.{hand_message}
 use Rattle.ipcz_world.specs.Books.{Books, read, has_mark, is_closed}
 use Rattle.ipcz_world.specs.Records.{Records, side_router, side_end, inner_link, terminal_node}
-use Rattle.ipcz_world.proofs.weights.OfRecords.{source}
 use Rattle.ipcz_world.specs.Standing.{taking_queue, is_attached, fed_queue}
 use Rattle.ipcz_world.specs.Flows.{IsUnderWay, makes, of_end, moves_of}
 use Rattle.ipcz_world.specs.Places.{Weight, in_router, at_end, names_end, from_number}
-use Rattle.ipcz_world.proofs.weights.OfRecords.{in_message, in_places}
 use Rattle.ipcz_base.specs.Totals.{total_list}
 use Rattle.ipcz_world.specs.Structure.{Counts, is_outward}
 use Rattle.ipcz_world.specs.Bypasses.{Told, of_bypass}
@@ -47,19 +44,20 @@ use Rattle.ipcz_world.specs.Inv.{Inv}
 use Rattle.ipcz_world.proofs.frames.Touching.{IsTouched, IsAlike, HasSameEnds, Hands, recorded_same, counts-touched, shape-touched}
 use Rattle.ipcz_world.proofs.frames.Touching.{links-touched, positions-touched, stands-touched, words-touched, spares-touched}
 use Rattle.ipcz_world.proofs.frames.Touching.{bypasses-touched, stages-touched, terminals-touched}
-use Rattle.ipcz_world.proofs.views.Seen.{stands_at}
 use Rattle.ipcz_world.proofs.frames.Draining.{taking_queue-standing}
 use Rattle.ipcz_world.proofs.flows.Fitting.{fits_of, items_by}
 use Rattle.ipcz_world.proofs.flows.Flowing.{IsTaken, CameFrom, came_taken, under_way-taken}
 use Rattle.ipcz_world.proofs.frames.Changing.{IsNodeChanged, touched_by, taken_by, way_apart}
 use Rattle.ipcz_world.proofs.weights.Weighing.{in_places-is, in_nodes-changed, in_node-changed, in_message-item, in_router-is, in_pushed}
-use Rattle.ipcz_world.proofs.weights.Weighing.{in_places-has, same_end-itself}
+use Rattle.ipcz_world.proofs.weights.Weighing.{in_places-has}
 use Rattle.ipcz_world.proofs.views.Known.{not_there_yet, attached_recorded}
 use Rattle.ipcz_world.proofs.frames.Filling.{IsFilled, IsFilling, filled_same, filled_push, filled_before, fits-filled, standing_filled}
 use Rattle.ipcz_world.proofs.frames.FillingNumbers.{order-filled, ordered-filled, proxy_numbers-filled, fed-out, fed-in, attached_inward}
 use Rattle.ipcz_world.proofs.sends.Sending.{times_same, about-item, moves-item}
 use Rattle.ipcz_world.proofs.frames.Calling.{router_here}
 use Rattle.ipcz_world.proofs.calls.Putting.{no_link}
+use Rattle.ipcz_world.proofs.facts.Lengths.{view-standing}
+use Rattle.ipcz_world.proofs.facts.LinkTests.{same_end-itself}
 
 -- the item of the message in hand is taken by the router
 abbrev pub take_act : World → ℕ → Key → Router → World
@@ -352,7 +350,7 @@ accepted_weight w b g from k r l s n item law is was end f = go (is_outward l s)
   where
     lacks : item_at (fed_queue l s r) n ≡ None
     lacks = not_there_yet w b g from k.node 0 l s n item [] (fed_queue l s r) law.conserved law.counts law.links was
-        (ap (taking_queue l s) (stands_at w g l s k r is.router is.here is.attached) ∙ taking_queue-standing l s r)
+        (ap (taking_queue l s) (view-standing w g l s k r is.router is.here is.attached) ∙ taking_queue-standing l s r)
 
     go : (o : Bool) → is_outward l s ≡ o → in_router f (accept r o n item) ≡ in_router f r + f (source g l s) n item
     go true o = omega (

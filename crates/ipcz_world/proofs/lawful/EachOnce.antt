@@ -1,71 +1,25 @@
 -- Each accepted item that was not read stands once, and nothing else stands anywhere; what a terminal reads next is what its peer put.
-use Rattle.std.specs.Prelude.{◌≡◌, ◌<◌, ◌≤◌, ℕ, zero, suc, ◌+◌, Bool, true, false, ◌&&◌, nat_eq, Some, List, [], ◌∷◌, drop, slice_get}
-use Rattle.std.specs.Prelude.{bytes_eq, refl}
+use Rattle.std.specs.Prelude.{◌≡◌, ◌<◌, ◌≤◌, ℕ, zero, suc, ◌+◌, Bool, true, false, nat_eq, Some, List, [], ◌∷◌, drop, slice_get, refl}
 use Rattle.std.proofs.Common.{arith, ap, subst, ◌∙◌, sym}
 use Rattle.std.proofs.lemmas.Bool.Decides.{nat_tests}
-use Rattle.ipcz_base.specs.declared.side.Side.{Side}
-use Rattle.ipcz_base.specs.declared.side.Side.TheVariants.{A, B}
 use Rattle.ipcz_base.specs.declared.end.End.{End}
 use Rattle.ipcz_base.specs.declared.item.Item.{Item}
-use Rattle.ipcz_base.specs.declared.item.Item.TheVariants.{Parcel, Mark}
-use Rattle.ipcz_base.specs.Ends.{same_end, opposite_end}
+use Rattle.ipcz_base.specs.Ends.{opposite_end}
 use Rattle.ipcz_seq.specs.Queue.{item_at}
 use Rattle.ipcz_router.specs.Router.{Router}
 use Rattle.ipcz_world.specs.World.{World, Key, router_at}
 use Rattle.ipcz_world.specs.Books.{Books, read}
-use Rattle.ipcz_world.specs.Records.{Records}
-use Rattle.ipcz_world.specs.Places.{in_router, at_end, from_number}
+use Rattle.ipcz_world.specs.Records.{Records, routes_of}
+use Rattle.ipcz_world.specs.Places.{at_end, from_number, just, times_at, unread_weight}
 use Rattle.ipcz_world.specs.Places as places
-use Rattle.ipcz_world.specs.Places.{just, times_at}
 use Rattle.ipcz_world.specs.Routes.{Routes}
-use Rattle.ipcz_world.specs.Records.{routes_of}
 use Rattle.ipcz_world.specs.WorldLaws.{ItemsStandOnce}
-use Rattle.std.specs.Cmp.Lexicographic.{pointwise}
 use Rattle.ipcz_base.specs.Items.{same_item}
-use Rattle.ipcz_world.specs.Places.{unread_weight}
 use Rattle.ipcz_world.specs.Inv.{Inv}
-use Rattle.ipcz_world.proofs.facts.LinkTests.{same_end-itself}
+use Rattle.ipcz_world.proofs.facts.LinkTests.{same_end-itself, opposite_end-twice}
 use Rattle.ipcz_world.proofs.weights.Weighing.{in_router-is}
-use Rattle.ipcz_world.proofs.weights.Booking.{same_end-is, total-has, in_router-within}
-
-pub both : (a b : Bool) → (a && b) ≡ true → (a ≡ true) × (b ≡ true)
-both true b e = (refl, e)
-both false b e = cc
-
-same_bytes-tells : (bs cs : List ℕ) → bytes_eq bs cs ≡ true → bs ≡ cs
-same_bytes-tells [] [] h = refl
-same_bytes-tells [] (c ∷ cs) h = cc
-same_bytes-tells (b ∷ bs) [] h = cc
-same_bytes-tells (b ∷ bs) (c ∷ cs) h = let t = both (nat_eq b c) (bytes_eq bs cs) h in let e : b ≡ c = grind (arith, t.0, nat_tests) in
-    let f : bs ≡ cs = same_bytes-tells bs cs t.1 in λ i. e i ∷ f i
-
-same_ends-tells : (ds es : List End) → pointwise same_end ds es ≡ true → ds ≡ es
-same_ends-tells [] [] h = refl
-same_ends-tells [] (e ∷ es) h = cc
-same_ends-tells (d ∷ ds) [] h = cc
-same_ends-tells (d ∷ ds) (e ∷ es) h = let t = both (same_end d e) (pointwise same_end ds es) h in let p : d ≡ e = same_end-is d e t.0 in
-    let f : ds ≡ es = same_ends-tells ds es t.1 in λ i. p i ∷ f i
-
-pub same_item-tells : (x y : Item) → same_item x y ≡ true → x ≡ y
-same_item-tells (Parcel p) (Parcel q) h =
-    let t = both (bytes_eq p.bytes q.bytes) (pointwise same_end p.ends q.ends) h in
-    let e : p.bytes ≡ q.bytes = same_bytes-tells _ _ t.0 in let f : p.ends ≡ q.ends = same_ends-tells _ _ t.1 in
-    ap Parcel (λ i. record { bytes = e i; ends = f i })
-same_item-tells (Parcel p) Mark h = cc
-same_item-tells Mark (Parcel q) h = cc
-same_item-tells Mark Mark h = refl
-
-same_bytes-itself : (bs : List ℕ) → bytes_eq bs bs ≡ true
-same_bytes-itself [] = refl
-same_bytes-itself (b ∷ bs) = grind (arith, nat_tests, same_bytes-itself bs)
-
-same_ends-itself : (es : List End) → pointwise same_end es es ≡ true
-same_ends-itself [] = refl
-same_ends-itself (e ∷ es) = rw (same_end-itself e, same_ends-itself es) refl
-
-pub same_item-itself : (x : Item) → same_item x x ≡ true
-same_item-itself (Parcel p) = rw (same_bytes-itself p.bytes, same_ends-itself p.ends) refl
-same_item-itself Mark = refl
+use Rattle.ipcz_world.proofs.weights.Booking.{total-has, in_router-within}
+use Rattle.ipcz_world.proofs.facts.SameItems.{same_item-itself, same_item-tells}
 
 pub just-here : (n : ℕ) (x : Item) → just n x n x ≡ 1
 just-here n x = let e : nat_eq n n ≡ true = grind (arith, nat_tests) in rw (e, same_item-itself x) refl
@@ -152,13 +106,6 @@ only w b g exact e n x h = unread-tells b e n x (omega (arith, h, exact e (just 
 pub items_stand_once : ItemsStandOnce
 items_stand_once w b g law = record { once = once w b g law.one_place; only = only w b g law.one_place }
 
-pub opposite_twice : (e : End) → opposite_end (opposite_end e) ≡ e
-opposite_twice e = go e.pair e.side
-  where
-    go : (p : ℕ) (s : Side) → opposite_end (opposite_end (record { pair = p; side = s })) ≡ record { pair = p; side = s }
-    go p A = refl
-    go p B = refl
-
 -- an item in an in queue was put by the peer, under its number, and wasn't read
 pub in_queue-put : (w : World) (b : Books) (g : Records) (k : Key) (r : Router) (n : ℕ) (x : Item) → Inv w b g → router_at w k ≡ Some r →
     item_at r.in_queue n ≡ Some x → (read b r.end ≤ n) × (slice_get (b.put (opposite_end r.end)) n ≡ Some x)
@@ -174,4 +121,4 @@ in_queue-put w b g k r n x law here at =
       in_router-within f g w k r (law.counts.on_node k r here) here,
     ) in
     let t = only w b (routes_of g) law.conserved.exact (opposite_end r.end) n x one in
-    (subst (λ e. read b e ≤ n) (opposite_twice r.end) t.0, t.1)
+    (subst (λ e. read b e ≤ n) (opposite_end-twice r.end) t.0, t.1)

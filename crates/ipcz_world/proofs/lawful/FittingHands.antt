@@ -1,7 +1,6 @@
 -- Each message in a node's hand fits there, a Flush aside: else the node would have a stray after handling it.
-use Rattle.std.specs.Prelude.{◌≡◌, ◌⊎◌, ℕ, Bool, true, false, cond, not, ◌&&◌, nat_eq, nat_lt, if◌then◌else◌, Option, Some, None}
-use Rattle.std.specs.Prelude.{is_some, refl}
-use Rattle.std.specs.Prelude.{List, [], ◌∷◌, ◌++◌}
+use Rattle.std.specs.Prelude.{◌≡◌, ◌⊎◌, ℕ, Bool, true, false, cond, not, ◌&&◌, nat_eq, nat_lt, if◌then◌else◌, Option, Some, None, is_some}
+use Rattle.std.specs.Prelude.{refl, List, [], ◌∷◌, ◌++◌}
 use Rattle.std.proofs.Common.{arith, ap, sym, ◌∙◌, inl, inr}
 use Rattle.std.proofs.lemmas.Bool.Decides.{nat_tests}
 use Rattle.ipcz_base.specs.declared.side.Side.{Side}
@@ -26,6 +25,7 @@ use Rattle.ipcz_world.specs.Laws.{is_flush}
 use Rattle.ipcz_world.specs.Lawful.{Lawful}
 use Rattle.ipcz_world.specs.WorldLaws.{StepKeepsLawful, HandsFit}
 use Rattle.ipcz_world.proofs.frames.Frames.{node-set_node, node-set_mail}
+use Rattle.ipcz_world.proofs.facts.Tests.{and_first}
 
 named_by : (o : Option Found) (test : Router → Bool) → passes_at o test ≡ true → is_some o ≡ true
 unfolding passes_at
@@ -87,10 +87,6 @@ handed : (w : World) (n from : ℕ) (m : Message) → message_in_hand w n from �
 unfolding after_act
 handed w n from m here = ap (after_hand w n from) here
 
-first_of_both : (a b : Bool) → (a && b) ≡ true → a ≡ true
-first_of_both true b e = refl
-first_of_both false b e = cc
-
 pub hands_fit : StepKeepsLawful → HandsFit
 unfolding can_take is_hand_of turn_lacks_serials hand_lacks_serials
 hands_fit keep w b g n from m law l hand here unfit =
@@ -112,7 +108,7 @@ hands_fit keep w b g n from m law l hand here unfit =
     fine = go (turn_lacks_serials w n (Hand from)) refl
       where
         go : (c : Bool) → turn_lacks_serials w n (Hand from) ≡ c → fits (node_at w n) from m ≡ true
-        go true e = first_of_both _ _ (sym (ap (hand_lacks_serials (node_at w n) from) here) ∙ e)
+        go true e = and_first _ _ (sym (ap (hand_lacks_serials (node_at w n) from) here) ∙ e)
         go false e =
             let is : v ≡ after_hand w n from (Some m) = turned w n from inside e ∙ handed w n from m here in
             fits_by (node_at w n) from m (sym (strays_after w n from m) ∙ ap (λ (u : World). (node_at u n).strays) (sym is) ∙

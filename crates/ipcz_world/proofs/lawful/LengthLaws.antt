@@ -20,7 +20,7 @@ use Rattle.ipcz_world.specs.World.{World, Key, router_at}
 use Rattle.ipcz_world.specs.Books.{Books}
 use Rattle.ipcz_world.specs.Records.{Records, is_begun, is_recorded, inner_link, side_router, side_length, length_by, bypass_length}
 use Rattle.ipcz_world.specs.Records.{known_from, bypass_of, proxy_side, across_side}
-use Rattle.ipcz_world.proofs.frames.RecordRules.{bypass_of-central, bypass_of-inner}
+use Rattle.ipcz_world.proofs.frames.RecordRules.{bypass_of-inner}
 use Rattle.ipcz_world.specs.Flows.{IsUnderWay}
 use Rattle.ipcz_world.specs.Standing.{Standing, view, view_by, router_view, has_decaying, is_attached, sending_queue, fed_queue, next_sent}
 use Rattle.ipcz_world.specs.Standing.{taking_queue}
@@ -30,15 +30,14 @@ use Rattle.ipcz_world.specs.Numbers.{has_passed}
 use Rattle.ipcz_world.specs.Inv.{Inv}
 use Rattle.ipcz_world.specs.Laws.{Knows, OutwardTo, OutwardFrom, InwardTo, InwardFrom, Accepting, StoppingIn, StoppingOut, StoppingInner}
 use Rattle.ipcz_world.specs.Laws.{StoppingInnerOut, Ending, LengthLaw}
-use Rattle.ipcz_world.proofs.facts.LinkTests.{IsLinkEnd, has_link-tells, same_side-opposite}
-use Rattle.ipcz_world.proofs.facts.Lengths.{same_side-tells}
-use Rattle.ipcz_world.proofs.facts.Lengths.{same_side-itself}
-use Rattle.ipcz_world.proofs.facts.LinkTests.{opposite-opposite, side_is, IsKnown, known_from-tells, known_from-since}
+use Rattle.ipcz_world.proofs.facts.LinkTests.{IsLinkEnd, has_link-tells, same_side-opposite, side_is, IsKnown, known_from-tells}
+use Rattle.ipcz_world.proofs.facts.Lengths.{same_side-tells, opposite-twice, known_from-yes, same_side-itself}
 use Rattle.ipcz_world.proofs.flows.Flowing.{found}
 use Rattle.ipcz_world.proofs.views.Known.{attached_recorded}
 use Rattle.ipcz_world.proofs.views.Telling.{IsAccept, accept_told, IsStop, stop_told, will_stop_told}
 use Rattle.ipcz_world.proofs.lawful.LinkLaws.{Passes, passes-tells}
 use Rattle.ipcz_world.proofs.lawful.WordLaws.{HasAt, has_at}
+use Rattle.ipcz_world.proofs.facts.BegunLengths.{bypass_of-begun, bypass_of-central_is}
 
 -- the number of the bypass that is the length of a link from a side
 unfoldable number_of : Records → ℕ → LinkId → Side → ℕ
@@ -53,26 +52,16 @@ record IsLength (g : Records) (link : LinkId) (s : Side) (n : ℕ) : Type 0 wher
   pub number : n ≡ number_of g bypass link s
   pub since : (side_length g link s ≡ Some n) ⊎ (((g.bypass bypass).stage ≡ 2) × (link ≡ Central bypass) × (s ≡ proxy_side g bypass))
 
-pub begun_by : (g : Records) (o : ℕ) → is_begun (g.bypass o) ≡ true → bypass_of g (Central o) ≡ Some o
-begun_by g o e = grind (arith, bypass_of-central g o, e)
-
-by_begun : (g : Records) (i o : ℕ) → bypass_of g (Central i) ≡ Some o → (o ≡ i) × (is_begun (g.bypass i) ≡ true)
-by_begun g i o e = go (is_begun (g.bypass i)) refl
-  where
-    go : (c : Bool) → is_begun (g.bypass i) ≡ c → (o ≡ i) × (is_begun (g.bypass i) ≡ true)
-    go true h = (grind (arith, bypass_of-central g i, h, e), h)
-    go false h = absurd (grind (arith, bypass_of-central g i, h, e))
-
 -- the four lengths of a bypass
 len_old_proxy : (g : Records) (o : ℕ) → is_begun (g.bypass o) ≡ true → 3 ≤ (g.bypass o).stage →
     IsLength g (Central o) (proxy_side g o) (g.bypass o).taken_at
 unfolding number_of length_by bypass_length
 len_old_proxy g o begun late = record {
   bypass = o;
-  by = begun_by g o begun;
+  by = bypass_of-begun g o begun;
   number = rw (same_side-itself (proxy_side g o)) refl;
-  since = inl (rw (begun_by g o begun, same_side-itself (proxy_side g o))
-      (known_from-since 3 (g.bypass o).stage (g.bypass o).taken_at late));
+  since = inl (rw (bypass_of-begun g o begun, same_side-itself (proxy_side g o))
+      (known_from-yes 3 (g.bypass o).stage (g.bypass o).taken_at late));
 }
 
 len_old_across : (g : Records) (o : ℕ) → is_begun (g.bypass o) ≡ true → 3 ≤ (g.bypass o).stage →
@@ -80,10 +69,10 @@ len_old_across : (g : Records) (o : ℕ) → is_begun (g.bypass o) ≡ true → 
 unfolding number_of length_by bypass_length
 len_old_across g o begun late = record {
   bypass = o;
-  by = begun_by g o begun;
+  by = bypass_of-begun g o begun;
   number = rw (same_side-opposite (proxy_side g o)) refl;
-  since = inl (rw (begun_by g o begun, same_side-opposite (proxy_side g o))
-      (known_from-since 3 (g.bypass o).stage (g.bypass o).accepted_at late));
+  since = inl (rw (bypass_of-begun g o begun, same_side-opposite (proxy_side g o))
+      (known_from-yes 3 (g.bypass o).stage (g.bypass o).accepted_at late));
 }
 
 len_inner_in : (g : Records) (p : Key) (o : ℕ) → (g.peripheral p).by ≡ Some o → 3 ≤ (g.bypass o).stage →
@@ -93,7 +82,7 @@ len_inner_in g p o by late = record {
   bypass = o;
   by = by;
   number = refl;
-  since = inl (rw by (known_from-since 3 (g.bypass o).stage (g.bypass o).accepted_at late));
+  since = inl (rw by (known_from-yes 3 (g.bypass o).stage (g.bypass o).accepted_at late));
 }
 
 len_inner_out : (g : Records) (p : Key) (o : ℕ) → (g.peripheral p).by ≡ Some o → 2 ≤ (g.bypass o).stage →
@@ -103,7 +92,7 @@ len_inner_out g p o by late = record {
   bypass = o;
   by = by;
   number = refl;
-  since = inl (rw by (known_from-since 2 (g.bypass o).stage (g.bypass o).taken_at late));
+  since = inl (rw by (known_from-yes 2 (g.bypass o).stage (g.bypass o).taken_at late));
 }
 
 -- a link is central or some proxy's
@@ -131,7 +120,12 @@ module _ (w : World) (b : Books) (g : Records) (law : Inv w b g) where
               ((e.side ≡ proxy_side g o) ⊎ (e.side ≡ across_side g o))) ⊎
               ((p : Key) × (o : ℕ) × (e.link ≡ inner_link p) × (e.side ≡ B) × ((g.peripheral p).by ≡ Some o))
           old None h = absurd (grind (arith, some, h))
-          old (Some o) h = inl (i.0, i.1, (by_begun g i.0 o (ap (bypass_of g) (sym i.1) ∙ h)).1, side_is e.side (proxy_side g i.0))
+          old (Some o) h = inl (
+            i.0,
+            i.1,
+            (bypass_of-central_is g i.0 o (ap (bypass_of g) (sym i.1) ∙ h)).1,
+            side_is e.side (proxy_side g i.0),
+          )
       go (inr p) some = inner (bypass_of g e.link) refl
         where
           inner : (o : Option ℕ) → bypass_of g e.link ≡ o → ((o : ℕ) × (e.link ≡ Central o) × (is_begun (g.bypass o) ≡ true) ×
@@ -212,10 +206,10 @@ module _ (w : World) (b : Books) (g : Records) (law : Inv w b g) where
       is_begun (g.bypass old) ≡ true → Central old ≡ link → opposite side ≡ s → IsLength g link s n
   unfolding number_of
   accepting link s n from to old side fresh is begun on at =
-      let sides : s ≡ proxy_side g old = sym at ∙ ap opposite is.at_side ∙ opposite-opposite (proxy_side g old) in
+      let sides : s ≡ proxy_side g old = sym at ∙ ap opposite is.at_side ∙ opposite-twice (proxy_side g old) in
       record {
         bypass = old;
-        by = ap (bypass_of g) (sym on) ∙ begun_by g old begun;
+        by = ap (bypass_of g) (sym on) ∙ bypass_of-begun g old begun;
         number = is.taken ∙ sym (rw (← on, sides, same_side-itself (proxy_side g old)) refl);
         since = inr (is.stage, sym on, sides);
       }
@@ -242,7 +236,7 @@ module _ (w : World) (b : Books) (g : Records) (law : Inv w b g) where
           at_link g link (Central c.0) s (across_side g c.0) n (g.bypass c.0).accepted_at (sym on ∙ c.1) (sym at ∙ ap opposite own) m.is
           (len_old_across g c.0 c.2 (omega (arith, m.since)))
       | inr far ↦ at_link g link (Central c.0) s (proxy_side g c.0) n (g.bypass c.0).taken_at (sym on ∙ c.1)
-          (sym at ∙ ap opposite far ∙ opposite-opposite (proxy_side g c.0))
+          (sym at ∙ ap opposite far ∙ opposite-twice (proxy_side g c.0))
           (same_Some _ _ (sym len ∙ law.positions.across_from k r e c.0 here dec c.1 far))
           (len_old_proxy g c.0 c.2 (law.positions.across_stage k r e c.0 here dec c.1 far))
     ]
@@ -378,7 +372,7 @@ module _ (w : World) (b : Books) (g : Records) (law : Inv w b g) where
   unfolding bypass_length
   old_length i n s e =
       let c = settled (Central i) s n e in
-      let begun = by_begun g i c.0 c.1 in
+      let begun = bypass_of-central_is g i c.0 c.1 in
       go begun.1 (side_is s (proxy_side g i)) (ap (λ o. bypass_length g o (Central i) s) (sym begun.0) ∙ c.2)
     where
       go : is_begun (g.bypass i) ≡ true → (s ≡ proxy_side g i) ⊎ (s ≡ across_side g i) → bypass_length g i (Central i) s ≡ Some n →
@@ -428,7 +422,7 @@ module _ (w : World) (b : Books) (g : Records) (law : Inv w b g) where
       go false e =
           let d : IsLinkEnd q.outward.decaying (Central i) (across_side g i) = has_link-tells _ _ _ (grind (arith, e, on)) in
           OutwardFrom j q d.end at d.is (law.positions.across_from j q d.end i at d.is d.link d.side) d.link
-          (ap opposite d.side ∙ opposite-opposite (proxy_side g i))
+          (ap opposite d.side ∙ opposite-twice (proxy_side g i))
 
   -- the inward link of a proxy that is being bypassed decays
   inner_decays : (p k : Key) (r : Router) (o : ℕ) → router_at w k ≡ Some r → is_attached (inner_link p) A r ≡ true →
@@ -506,7 +500,7 @@ module _ (w : World) (b : Books) (g : Records) (law : Inv w b g) where
           nat_le 4 (g.bypass o).stage ≡ c → Knows w (inner_link p) A (g.bypass o).accepted_at
       go e true h =
           let owns : g.begun k ≡ Some o = ap g.begun (sym proxy) ∙ law.positions.proxy_begun o begun in
-          InwardTo k r e.0 here e.1 (law.positions.inward_to k r e.0 o here e.1 owns ∙ known_from-since 4 _ _ (grind (arith, h, nat_tests)))
+          InwardTo k r e.0 here e.1 (law.positions.inward_to k r e.0 o here e.1 owns ∙ known_from-yes 4 _ _ (grind (arith, h, nat_tests)))
           e.2 e.3
       go e false h =
           let st : (g.bypass o).stage ≡ 3 = grind (arith, h, late, nat_tests) in
@@ -540,12 +534,12 @@ module _ (w : World) (b : Books) (g : Records) (law : Inv w b g) where
             let low : r.out_queue.current ≤ (g.bypass i).taken_at =
             law.proxy_numbers.out_current i r (ap (router_at w) proxy ∙ here) (omega (arith, d.0)) in
             let is : (g.bypass i).taken_at ≡ r.out_queue.current = omega (arith, low, own.1, c.2) in
-            let far : s ≡ across_side g i = sym (opposite-opposite s) ∙ ap opposite own.0 in
+            let far : s ≡ across_side g i = sym (opposite-twice s) ∙ ap opposite own.0 in
             subst (λ t. Knows w (Central i) t r.out_queue.current) (sym own.0)
             (subst (Knows w (Central i) (proxy_side g i)) is (across_knows i j q at
             (subst (λ t. is_attached (Central i) t q ≡ true) far on_q) d.1 d.0))
         | inr far ↦
-            let own : s ≡ proxy_side g i = sym (opposite-opposite s) ∙ ap opposite far.0 ∙ opposite-opposite (proxy_side g i) in
+            let own : s ≡ proxy_side g i = sym (opposite-twice s) ∙ ap opposite far.0 ∙ opposite-twice (proxy_side g i) in
             let proxy : (g.bypass i).proxy ≡ j = same_Some _ j (sym (law.bypasses.proxy_old i d.1) ∙ ap (side_router g (Central i))
             (sym own) ∙ (attached_view (Central i) s j q at on_q).0) in
             let low : q.in_queue.current ≤ (g.bypass i).accepted_at = law.proxy_numbers.in_current i q (ap (router_at w) proxy ∙ at) d.0 in

@@ -1,6 +1,6 @@
 -- On one node no terminal moves, so no peripheral link is ever made and no bypass begins: each open pair is direct.
 use Rattle.std.specs.Prelude.{◌≡◌, ◌⊎◌, ◌<◌, ℕ, zero, suc, ◌+◌, Bool, true, false, cond, ◌&&◌, nat_eq, if◌then◌else◌, Option, Some, None}
-use Rattle.std.specs.Prelude.{is_some, List, [], ◌∷◌, ◌++◌, refl}
+use Rattle.std.specs.Prelude.{List, [], ◌∷◌, ◌++◌, refl}
 use Rattle.std.proofs.Common.{arith, sym, ◌∙◌, ap, subst, inl, inr}
 use Rattle.std.proofs.lemmas.Bool.Decides.{nat_tests}
 use Rattle.std.proofs.lemmas.Option.{same_Some}
@@ -42,8 +42,7 @@ use Rattle.ipcz_node.specs.Acts.{commit, commit_router, keep_or_drop}
 use Rattle.ipcz_world.specs.World.{World, Key, node_at, router_at, new_world, new_nodes, numbers_from}
 use Rattle.ipcz_world.specs.WordAnswers.{answer_of}
 use Rattle.ipcz_world.specs.Books.{Books}
-use Rattle.ipcz_world.specs.Records.{Records, is_linked, is_recorded, bypass_of, is_begun}
-use Rattle.ipcz_world.specs.Records.{side_router, side_end}
+use Rattle.ipcz_world.specs.Records.{Records, is_linked, is_recorded, bypass_of, is_begun, side_router, side_end}
 use Rattle.ipcz_world.specs.Standing.{has_primary}
 use Rattle.ipcz_world.specs.Structure.{IsRecorded, is_outward}
 use Rattle.ipcz_world.specs.Owed.{IsTerminalOn, IsDirectPair}
@@ -54,6 +53,7 @@ use Rattle.ipcz_world.proofs.facts.LinkTests.{IsLinkEnd, has_link-tells}
 use Rattle.ipcz_world.proofs.sends.Moved.{passes_tells}
 use Rattle.ipcz_world.proofs.runs.NodeSteps.{IsKept}
 use Rattle.ipcz_world.proofs.lawful.Quiet.{key_of}
+use Rattle.ipcz_world.proofs.facts.Tests.{some_is}
 
 -- the world has one node, and no serial of a peripheral link was taken
 pub record IsAlone (w : World) : Type 0 where
@@ -332,10 +332,6 @@ places-serial nodes (suc n) (i ∷ is) = places-serial nodes n is
 pub alone-new : (words : ℕ) → IsAlone (new_world 1 words)
 unfolding node_at new_world
 alone-new words = record { one = refl; none = λ n. places-serial 1 n (numbers_from 0 1) }
-
-pub some_is : {X : Type 0} (o : Option X) → is_some o ≡ true → (x : X) × (o ≡ Some x)
-some_is None h = cc
-some_is (Some x) h = (x, refl)
 
 module _ (w : World) (b : Books) (g : Records) (law : Inv w b g) (alone : IsAlone w) where
   not_recorded : (n x : ℕ) → is_recorded w g (Peripheral n x) ≡ true → ⊥

@@ -12,23 +12,23 @@ use Rattle.ipcz_base.specs.declared.message.Message.TheVariants as messages
 use Rattle.ipcz_router.specs.Router.{Router, inward_edge}
 use Rattle.ipcz_world.specs.World.{World, Key, router_at}
 use Rattle.ipcz_world.specs.Books.{Books}
-use Rattle.ipcz_world.specs.Records.{Records, bypass_of, inner_link, is_begun, known_from}
+use Rattle.ipcz_world.specs.Records.{Records, bypass_of, inner_link, is_begun, known_from, proxy_side}
 use Rattle.ipcz_world.specs.Flows.{IsUnderWay}
-use Rattle.ipcz_world.specs.Bypasses.{of_bypass, control_weight, is_by}
+use Rattle.ipcz_world.specs.Bypasses.{of_bypass, control_weight, is_by, inner_of}
 use Rattle.ipcz_world.specs.Inv.{Inv}
 use Rattle.ipcz_world.specs.Owed.{IsBypassing, IsInnerOf, TakesAway, takes_link, IsEdgeOf}
 use Rattle.ipcz_world.proofs.flows.Flowing.{found}
 use Rattle.ipcz_world.proofs.lawful.LengthLaws.{outward_case, inward_case}
-use Rattle.std.specs.Prelude.{◌||◌}
 use Rattle.ipcz_base.specs.Links.{same_link}
 use Rattle.ipcz_edge.specs.Edge.{Edge}
-use Rattle.ipcz_world.specs.Records.{proxy_side}
 use Rattle.ipcz_world.specs.Standing.{has_decaying, has_inward_decaying}
-use Rattle.ipcz_world.specs.Bypasses.{inner_of}
 use Rattle.ipcz_world.specs.Laws.{names_old}
-use Rattle.ipcz_world.proofs.facts.LinkTests.{IsLinkEnd, has_link-tells, same_link-itself}
+use Rattle.ipcz_world.proofs.facts.LinkTests.{IsLinkEnd, has_link-tells}
 use Rattle.ipcz_world.proofs.sends.Moved.{passes_tells}
 use Rattle.ipcz_world.proofs.views.Telling.{IsPeer, IsAccept, IsStop, IsWillStop, peer_told, accept_told, stop_told, will_stop_told}
+use Rattle.ipcz_world.proofs.views.Telling.{one_holds}
+use Rattle.std.proofs.lemmas.Bool.{or_left, or_right}
+use Rattle.ipcz_world.proofs.facts.Lengths.{same_link-itself}
 
 not_known : (first stage n : ℕ) (x : Option ℕ) → x ≡ known_from first stage n → x ≡ None → stage < first
 unfolding known_from
@@ -42,23 +42,11 @@ one_of_four : (s : ℕ) → 1 ≤ s → s ≤ 4 → ◌≡◌ {A = ℕ} (cond (n
     (cond (nat_eq s 2) 1 (cond (nat_eq s 3) 1 (cond (nat_eq s 4) 1 0)))) 1
 one_of_four s l h = grind (arith, l, h, nat_tests)
 
-or_left : (a c : Bool) → a ≡ true → (a || c) ≡ true
-or_left true c e = refl
-or_left false c e = cc
-
-or_right : (a c : Bool) → c ≡ true → (a || c) ≡ true
-or_right true c e = refl
-or_right false c e = e
-
 same_as : (l m : LinkId) → l ≡ m → same_link l m ≡ true
 same_as l m e = subst (λ x. same_link l x ≡ true) e (same_link-itself l)
 
-counts_of : (c : Bool) → 1 ≤ cond c 1 0 → c ≡ true
-counts_of true h = refl
-counts_of false h = absurd (omega (arith, h))
-
 old_is : (old o : ℕ) → 1 ≤ cond (nat_eq old o) 1 0 → old ≡ o
-old_is old o h = let e = counts_of (nat_eq old o) h in grind (arith, nat_tests, e)
+old_is old o h = let e = one_holds (nat_eq old o) h in grind (arith, nat_tests, e)
 
 module _ (w : World) (b : Books) (g : Records) (law : Inv w b g) where
   -- the proxy has both links while it isn't told
@@ -105,20 +93,20 @@ module _ (w : World) (b : Books) (g : Records) (law : Inv w b g) where
   taking link o from to i (messages.AcceptBypass old s fresh length) begun (inr is) u h =
       let at : IsAccept g from to old s fresh length = accept_told w g from to i old s fresh length law.told u in
       let e : old ≡ o = old_is old o h in
-      inr (o, counts_of (nat_eq old o) h, inner_of_proxy link o is begun (omega (arith, ap (λ z. (g.bypass z).stage) e, at.stage)))
+      inr (o, one_holds (nat_eq old o) h, inner_of_proxy link o is begun (omega (arith, ap (λ z. (g.bypass z).stage) e, at.stage)))
   taking link o from to i (messages.StopProxying old s in_length out_length) begun (inl is) u h =
       inl (same_as (Central old) link (ap Central (old_is old o h) ∙ sym is.0))
   taking link o from to i (messages.StopProxying old s in_length out_length) begun (inr is) u h =
       let at : IsStop g from to old s in_length out_length = stop_told w g from to i old s in_length out_length law.told u in
       let e : old ≡ o = old_is old o h in
-      inr (o, counts_of (nat_eq old o) h, inner_of_proxy link o is begun (omega (arith, ap (λ z. (g.bypass z).stage) e, at.stage)))
+      inr (o, one_holds (nat_eq old o) h, inner_of_proxy link o is begun (omega (arith, ap (λ z. (g.bypass z).stage) e, at.stage)))
   taking link o from to i (messages.ProxyWillStop l s in_length) begun is u h = go is
     where
       told : (p : ℕ) × (bypass_of g l ≡ Some p) × IsWillStop g from to p l s in_length
       told = will_stop_told w g from to i l s in_length law.told u
 
       own : told.0 ≡ o
-      own = let f : is_by g l o ≡ true = counts_of (is_by g l o) h in grind (arith, nat_tests, told.1, f)
+      own = let f : is_by g l o ≡ true = one_holds (is_by g l o) h in grind (arith, nat_tests, told.1, f)
 
       go : IsTaken link o → TakesAway w (messages.ProxyWillStop l s in_length) link
       go (inl t) = absurd (omega (arith, t.1, ap (λ z. (g.bypass z).stage) own, told.2.stage))

@@ -1,11 +1,11 @@
 -- In a quiet world each item that a pair without proxies has put and not read stands in the in queue of its receiving terminal.
-use Rattle.ipcz_world.specs.Places.{in_node as in_node'}
+use Rattle.ipcz_world.specs.Places.{in_node as in_node', Weight, in_router, at_end, just}
 use Rattle.std.specs.Prelude.{◌≡◌, ◌≤◌, ◌<◌, ℕ, zero, suc, ◌+◌, Bool, true, false, cond, ◌&&◌, nat_eq, nat_lt, T, if◌then◌else◌, Option}
 use Rattle.std.specs.Prelude.{Some, None, is_some, List, [], ◌∷◌, ◌++◌, length, take, map, slice_get, refl}
 use Rattle.std.proofs.Common.{arith, sym, ◌∙◌, ap, subst}
 use Rattle.std.proofs.lemmas.Bool.Decides.{nat_tests}
 use Rattle.std.proofs.lemmas.Option.{same_Some, none-some}
-use Rattle.std.specs.Ordering.{nat_cmp, eq_by_cmp, is_lt, is_eq}
+use Rattle.std.specs.Ordering.{nat_cmp, eq_by_cmp, is_eq}
 use Rattle.std.specs.Cmp.{nat_cmp_total, tied_itself}
 use Rattle.std.specs.FinMap.{FinMap, get, entries, entries_sorted, find, get-entries, is_sorted}
 use Rattle.std.specs.FinMap.Entries.{below_all}
@@ -17,7 +17,7 @@ use Rattle.ipcz_base.specs.declared.refusal.Refusal.{Refusal}
 use Rattle.ipcz_base.specs.declared.refusal.Refusal.TheVariants as refusals
 use Rattle.ipcz_base.specs.Ends.{opposite_end, same_end}
 use Rattle.ipcz_base.specs.Indexed.{place_at}
-use Rattle.ipcz_base.specs.Totals.{total, total_of}
+use Rattle.ipcz_base.specs.Totals.{total, total_of, total_below, total_list}
 use Rattle.ipcz_edge.specs.Edge.{Edge, edge_decays, is_short_of, choose}
 use Rattle.ipcz_seq.specs.Queue.{IsReach, item_at, current_item, reach}
 use Rattle.ipcz_router.specs.Router.{Router, is_terminal}
@@ -25,7 +25,7 @@ use Rattle.ipcz_router.specs.Calls.{item_refusal}
 use Rattle.ipcz_router.specs.ActTable.{is_possible}
 use Rattle.ipcz_router.specs.declared.act.RouterAct.{RouterAct}
 use Rattle.ipcz_router.specs.declared.act.RouterAct.TheVariants as acts
-use Rattle.ipcz_node.specs.Node.{Node, Found, find_router, terminal_of}
+use Rattle.ipcz_node.specs.Node.{Node, Found, find_router, terminal_of, holds_end}
 use Rattle.ipcz_node.specs.Calls.{get_node, get_refusal, refusal_at}
 use Rattle.ipcz_node.specs.Acts.{is_quiet, are_empty}
 use Rattle.ipcz_world.specs.declared.mail.Mail.{Mail}
@@ -36,29 +36,24 @@ use Rattle.ipcz_world.specs.World.{World, Key, node_at, mail_at, way, router_at,
 use Rattle.ipcz_world.specs.Turns.{is_clear}
 use Rattle.ipcz_world.specs.Steps.{get_reply, got_reply, unless}
 use Rattle.ipcz_world.specs.Books.{Books, read, is_closed}
-use Rattle.ipcz_world.specs.Records.{Records, Terminal, Nowhere, At, Moving, Retired}
-use Rattle.ipcz_world.specs.Places.{Weight, in_router, at_end}
+use Rattle.ipcz_world.specs.Records.{Records, Terminal, Nowhere, At, Moving, Retired, routes_of}
 use Rattle.ipcz_world.specs.Flows.{IsUnderWay, under_way}
-use Rattle.ipcz_world.proofs.weights.OfRecords.{in_node, in_message}
-use Rattle.ipcz_base.specs.Totals.{total_below, total_list}
-use Rattle.ipcz_world.specs.Places.{just}
+use Rattle.ipcz_world.proofs.weights.OfRecords.{in_node, in_message, holds_times}
 use Rattle.ipcz_base.specs.Items.{same_item}
 use Rattle.ipcz_world.specs.WorldLaws.{QuietDelivers}
-use Rattle.ipcz_world.specs.Records.{routes_of}
 use Rattle.ipcz_world.specs.Settling.{IsQuiet}
 use Rattle.ipcz_world.specs.Owed.{AreFlagged, IsDirectPair}
 use Rattle.ipcz_world.specs.Inv.{Inv}
 use Rattle.ipcz_world.proofs.flows.Flowing.{found}
 use Rattle.ipcz_world.proofs.frames.Changing.{flow_is}
 use Rattle.ipcz_world.proofs.weights.Weighing.{in_places-is, in_router-is}
-use Rattle.ipcz_world.proofs.weights.Booking.{same_end-is, out_numbers}
-use Rattle.ipcz_world.proofs.facts.Reaching.{is_reach, reach_one, is_true, left, right}
-use Rattle.ipcz_world.proofs.facts.Finding.{found_there, terminal_tells}
+use Rattle.ipcz_world.proofs.weights.Booking.{out_numbers}
+use Rattle.ipcz_world.proofs.facts.Reaching.{is_reach, reach_one, left, right}
+use Rattle.ipcz_world.proofs.facts.Finding.{found_there, terminal_tells, find_above}
 use Rattle.ipcz_world.proofs.weights.Holding.{times_held-at}
-use Rattle.ipcz_world.proofs.weights.OfRecords.{holds_times}
-use Rattle.ipcz_node.specs.Node.{holds_end}
 use Rattle.ipcz_world.proofs.frames.Calling.{held_unclosed}
-use Rattle.ipcz_world.proofs.lawful.EachOnce.{once, in_queue-put, opposite_twice}
+use Rattle.ipcz_world.proofs.lawful.EachOnce.{once, in_queue-put}
+use Rattle.ipcz_world.proofs.facts.LinkTests.{opposite_end-twice, same_end-tells}
 
 -- every router of a pair is a terminal
 abbrev pub HasNoProxy : World → ℕ → Type 0
@@ -69,25 +64,6 @@ no_proxy : (w : World) (pair : ℕ) → IsDirectPair w pair → HasNoProxy w pai
 no_proxy w pair is k r here p =
     let at = is.stands r.end.side in
     ap is_terminal (same_Some r at.router (sym here ∙ ap (router_at w) (is.only k r here p) ∙ at.here)) ∙ at.terminal
-
-less : (x y : ℕ) → T (is_lt (nat_cmp x y)) → x < y
-less x y h = less_by (is_true (is_lt (nat_cmp x y)) h)
-  where
-    less_by : is_lt (nat_cmp x y) ≡ true → x < y
-    less_by h = grind (arith, h, nat_tests)
-
-find_above : {X : Type 0} (x m : ℕ) (v : X) (es : List (ℕ × X)) → T (below_all nat_cmp x es) → find nat_cmp m es ≡ Some v → x < m
-find_above x m v [] b h = cc
-find_above {X} x m v (e ∷ es) b h = go (eq_by_cmp nat_cmp m e.0) refl h
-    (λ f. find_above x m v es (right (is_lt (nat_cmp x e.0)) (below_all nat_cmp x es) b) f)
-  where
-    low : x < e.0
-    low = less x e.0 (left (is_lt (nat_cmp x e.0)) (below_all nat_cmp x es) b)
-
-    go : (c : Bool) → eq_by_cmp nat_cmp m e.0 ≡ c → cond c (Some e.1) (find nat_cmp m es) ≡ Some v → (find nat_cmp m es ≡ Some v → x < m) →
-        x < m
-    go true q f more = grind (arith, q, low, nat_tests)
-    go false q f more = more f
 
 total_of-zero : {X : Type 0} (f : ℕ → X → ℕ) (es : List (ℕ × X)) → T (is_sorted nat_cmp es) →
     ((k : ℕ) (x : X) → find nat_cmp k es ≡ Some x → f k x ≡ 0) → total_of f es ≡ 0
@@ -258,14 +234,15 @@ stands-at w b g k r n x law flagged quiet plain here unread put = go (item_at r.
         out false e = total-zero (f y.end) y.out_queue.items (λ m z h. ap (λ c. cond c (just n x m z) 0) e)
         out true e = total-zero (f y.end) y.out_queue.items (λ m z h. absurd
             (none-some z (sym (out-delivered w b g q y law flagged quiet at
-            (plain q y at (ap (λ d. d.pair) (same_end-is y.end (opposite_end r.end) e))) m) ∙ h)))
+            (plain q y at (ap (λ d. d.pair) (same_end-tells y.end (opposite_end r.end) e))) m) ∙ h)))
 
         inn : (c : Bool) → same_end (opposite_end y.end) (opposite_end r.end) ≡ c → total (f (opposite_end y.end)) y.in_queue.items ≡ 0
         inn false e = total-zero (f (opposite_end y.end)) y.in_queue.items (λ m z h. ap (λ c. cond c (just n x m z) 0) e)
         inn true e = total-zero (f (opposite_end y.end)) y.in_queue.items (λ m z h. weigh m z h (nat_eq m n) refl)
           where
             ends : y.end ≡ r.end
-            ends = sym (opposite_twice y.end) ∙ ap opposite_end (same_end-is (opposite_end y.end) (opposite_end r.end) e) ∙ opposite_twice
+            ends = sym (opposite_end-twice y.end) ∙ ap opposite_end (same_end-tells (opposite_end y.end) (opposite_end r.end) e) ∙
+                opposite_end-twice
                 r.end
 
             pair : y.end.pair ≡ r.end.pair
@@ -303,7 +280,8 @@ stands-at w b g k r n x law flagged quiet plain here unread put = go (item_at r.
     go (Some z) e = e ∙ sym (in_queue-put w b g k r n z law here e).1 ∙ put
     go None e = absurd (omega (
       arith,
-      once w b (routes_of g) law.conserved.exact (opposite_end r.end) n x (subst (λ d. read b d ≤ n) (sym (opposite_twice r.end)) unread)
+      once w b (routes_of g) law.conserved.exact (opposite_end r.end) n x
+          (subst (λ d. read b d ≤ n) (sym (opposite_end-twice r.end)) unread)
           put,
       in_places-is f g w,
       nothing_under_way,
@@ -348,8 +326,8 @@ pub all-got : (w : World) (b : Books) (g : Records) (n : ℕ) (e : End) → Inv 
     n < w.count → get_refusal (node_at w n) e ≡ Some refusals.Empty → b.put (opposite_end e) ≡ map Parcel (b.got e)
 all-got w b g n e law flagged quiet plain l refused = sym (take-whole (length (b.got e)) (b.put (opposite_end e))
     (omega (arith, all, law.conserved.gone_closed e unclosed)))
-    ∙ ap (λ d. take (length (b.got d)) (b.put (opposite_end e))) (sym (opposite_twice e)) ∙ law.conserved.prefix (opposite_end e) ∙ ap
-    (λ d. map Parcel (b.got d)) (opposite_twice e)
+    ∙ ap (λ d. take (length (b.got d)) (b.put (opposite_end e))) (sym (opposite_end-twice e)) ∙ law.conserved.prefix (opposite_end e) ∙ ap
+    (λ d. map Parcel (b.got d)) (opposite_end-twice e)
   where
     got : IsEmpty (node_at w n) e
     got = empty-get (node_at w n) e refused

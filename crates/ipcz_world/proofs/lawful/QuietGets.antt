@@ -19,6 +19,7 @@ use Rattle.ipcz_world.specs.Settling.{IsQuiet}
 use Rattle.ipcz_world.specs.WorldLaws.{GetsStayQuiet}
 use Rattle.ipcz_world.proofs.facts.Finding.{IsTerminalOf, found_tells, found_there, terminal_tells}
 use Rattle.ipcz_world.proofs.frames.Frames.{node-set_node}
+use Rattle.ipcz_world.proofs.facts.Tests.{none_is}
 
 -- where no router is flagged, none is once one of them has given an item
 flags-taken : (n : Node) (s : ℕ) (r : Router) → get n.routers s ≡ Some r → flagged_router n ≡ None →
@@ -42,10 +43,6 @@ flags-taken n s r here none = go (flagged_router (with_router n s (take_item r))
       where
         inserted : (k : ℕ) → get (insert n.routers s (take_item r)) k ≡ cond (nat_eq k s) (Some (take_item r)) (get n.routers k)
         inserted k = grind (arith, get-insert nat_cmp_total n.routers s (take_item r) k, nat_tests)
-
-none_is : {X : Type 0} (o : Option X) → is_none o ≡ true → o ≡ None
-none_is None h = refl
-none_is (Some x) h = cc
 
 -- a node's part
 quiet-got : (n : Node) (e : End) → is_quiet n ≡ true → is_quiet (get_node n e) ≡ true

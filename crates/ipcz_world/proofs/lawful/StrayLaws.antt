@@ -1,32 +1,32 @@
 -- No message but a Flush finds its router gone, from the invariant.
 use Rattle.ipcz_world.proofs.weights.OfRecords.{some_found}
-use Rattle.std.specs.Prelude.{◌≡◌, ◌⊎◌, ℕ, Bool, true, false, cond, ◌||◌, if◌then◌else◌, Option, Some, None, is_none, List, [], ◌∷◌, refl}
+use Rattle.std.specs.Prelude.{◌≡◌, ◌⊎◌, ℕ, Bool, true, false, cond, if◌then◌else◌, Option, Some, None, is_none, List, [], ◌∷◌, refl}
 use Rattle.std.proofs.Common.{arith, ap, subst, ◌∙◌, sym, inl, inr}
 use Rattle.std.proofs.lemmas.Bool.Decides.{nat_tests}
 use Rattle.std.proofs.lemmas.Option.{same_Some}
 use Rattle.std.specs.Ordering.{nat_cmp, eq_by_cmp}
 use Rattle.std.specs.FinMap.{entries, find, get-entries}
 use Rattle.ipcz_base.specs.declared.side.Side.{Side}
-use Rattle.ipcz_base.specs.declared.side.Side.TheVariants.{A, B}
+use Rattle.ipcz_base.specs.declared.side.Side.TheVariants.{B}
 use Rattle.ipcz_base.specs.declared.link_id.LinkId.{LinkId}
-use Rattle.ipcz_base.specs.declared.link_id.LinkId.TheVariants.{Central, Peripheral}
+use Rattle.ipcz_base.specs.declared.link_id.LinkId.TheVariants.{Central}
 use Rattle.ipcz_base.specs.declared.message.Message.{Message}
 use Rattle.ipcz_base.specs.declared.message.Message.TheVariants as messages
-use Rattle.ipcz_router.specs.Router.{Router, router_has, outward_has, inward_has}
+use Rattle.ipcz_router.specs.Router.{Router, router_has}
 use Rattle.ipcz_node.specs.Node.{first_where, is_named}
 use Rattle.ipcz_node.specs.Hands.{link_asked, side_asked}
 use Rattle.ipcz_world.specs.World.{World, Key, node_at, router_at}
 use Rattle.ipcz_world.specs.Books.{Books}
 use Rattle.ipcz_world.specs.Records.{Records, side_router, side_node, proxy_side, across_side}
 use Rattle.ipcz_world.specs.Flows.{IsUnderWay, is_made_before}
-use Rattle.ipcz_world.specs.Standing.{View, Awaited, Waiting, Standing, Gone, view, is_attached, is_awaited, is_gone, has_primary}
-use Rattle.ipcz_world.specs.Standing.{has_decaying}
+use Rattle.ipcz_world.specs.Standing.{View, Awaited, Waiting, Standing, Gone, view, is_awaited, is_gone, has_primary, has_decaying}
 use Rattle.ipcz_world.specs.Bypasses.{inner_of}
 use Rattle.ipcz_world.specs.Inv.{Inv}
 use Rattle.ipcz_world.specs.Laws.{is_flush, StrayLaw}
 use Rattle.ipcz_world.proofs.views.Known.{IsStanding, standing_known, node_of_router}
 use Rattle.ipcz_world.proofs.views.Telling.{peer_told, accept_told, stop_told, will_stop_told}
 use Rattle.ipcz_world.proofs.lawful.LinkLaws.{Passes, passes-tells}
+use Rattle.ipcz_world.proofs.facts.Lengths.{has_attached}
 
 -- what is found among entries by its key passes the test, so something is found by the test
 first_found : (test : Router → Bool) (es : List (ℕ × Router)) (s : ℕ) (r : Router) → find nat_cmp s es ≡ Some r → test r ≡ true →
@@ -49,16 +49,6 @@ unfolding router_at
 named_by w k r link s n here at has = subst (λ m. is_named (node_at w m) link s ≡ true) at
     (some_found _ (first_found (λ r. router_has r link s) (entries (node_at w k.node).routers) k.serial r (sym (get-entries _ _) ∙ here)
     has))
-
-pub or_right : (a b : Bool) → b ≡ true → (a || b) ≡ true
-or_right true b h = refl
-or_right false b h = h
-
-has_attached : (link : LinkId) (s : Side) (r : Router) → is_attached link s r ≡ true → router_has r link s ≡ true
-unfolding is_attached
-has_attached (Central i) s r h = grind (arith, h)
-has_attached (Peripheral n x) A r h = or_right (outward_has r (Peripheral n x) A) (inward_has r (Peripheral n x) A) h
-has_attached (Peripheral n x) B r h = grind (arith, h)
 
 module _ (w : World) (b : Books) (g : Records) (law : Inv w b g) where
   -- whom the records tell, and who passes a test that gives it the link, is found at the side's node

@@ -1,7 +1,7 @@
 -- The law of words, from the invariant.
-use Rattle.ipcz_world.specs.Records.{routes_of}
-use Rattle.std.specs.Prelude.{◌≡◌, ◌⊎◌, ◌<◌, ℕ, zero, suc, Bool, true, false, cond, nat_eq, Option, Some, None, List, [], ◌∷◌}
-use Rattle.std.specs.Prelude.{slice_get, refl}
+use Rattle.ipcz_world.specs.Records.{routes_of, Records, Owner, Unclaimed, Spare, Opening, Fresh, Linked, is_linked, is_begun, is_recorded}
+use Rattle.ipcz_world.specs.Records.{side_router, side_end, across_side}
+use Rattle.std.specs.Prelude.{◌≡◌, ◌⊎◌, ℕ, Bool, true, false, cond, nat_eq, Option, Some, None, refl}
 use Rattle.std.proofs.Common.{arith, ap, subst, ◌∙◌, sym, inl, inr}
 use Rattle.std.proofs.lemmas.Bool.Decides.{nat_tests}
 use Rattle.std.proofs.lemmas.Option.{same_Some}
@@ -17,11 +17,8 @@ use Rattle.ipcz_base.specs.Links.{same_link, has_link}
 use Rattle.ipcz_router.specs.Router.{Router, router_has, outward_has, inward_has, inward_edge}
 use Rattle.ipcz_world.specs.World.{World, Key, word_at, router_at, flow}
 use Rattle.ipcz_world.specs.Books.{Books}
-use Rattle.ipcz_world.specs.Records.{Records, Owner, Unclaimed, Spare, Opening, Fresh, Linked, is_linked, is_unclaimed, is_begun}
-use Rattle.ipcz_world.specs.Records.{is_recorded, side_router, side_end, across_side}
-use Rattle.ipcz_world.proofs.frames.RecordRules.{record_rules}
+use Rattle.ipcz_world.proofs.frames.RecordRules.{record_rules, unclaimed-is}
 use Rattle.ipcz_world.specs.Flows.{IsUnderWay, under_way}
-use Rattle.ipcz_base.specs.Totals.{total_below, total_list}
 use Rattle.ipcz_world.specs.Standing.{has_primary}
 use Rattle.ipcz_world.specs.Structure.{IsRecorded, Links}
 use Rattle.ipcz_world.specs.Bypasses.{of_bypass, control_weight}
@@ -30,7 +27,9 @@ use Rattle.ipcz_world.specs.Laws.{fresh_count, IsOnLink, names_link, WordLaw}
 use Rattle.ipcz_world.proofs.facts.LinkTests.{IsLinkEnd, has_link-tells}
 use Rattle.ipcz_world.proofs.views.Telling.{IsPeer, peer_told, accept_told, stop_told, will_stop_told}
 use Rattle.ipcz_world.proofs.lawful.LinkLaws.{Passes, passes-tells}
-use Rattle.ipcz_world.proofs.facts.Lengths.{either}
+use Rattle.std.proofs.lemmas.Bool.{or_cases}
+use Rattle.ipcz_world.proofs.weights.Totalling.{total_below-same}
+use Rattle.ipcz_world.proofs.weights.Sums.{total_list-agree}
 
 -- what a router's having a link tells
 pub record HasAt (w : World) (g : Records) (k : Key) (r : Router) (link : LinkId) (s : Side) : Type 0 where
@@ -47,7 +46,7 @@ of_end w g k r t link s h rec =
 
 pub has_at : (w : World) (g : Records) (k : Key) (r : Router) (link : LinkId) (s : Side) → Links w g → router_at w k ≡ Some r →
     router_has r link s ≡ true → HasAt w g k r link s
-has_at w g k r link s law here has = go (either _ _ has)
+has_at w g k r link s law here has = go (or_cases _ _ has)
   where
     outer : (has_link r.outward.primary link s ≡ true) ⊎ (has_link r.outward.decaying link s ≡ true) → HasAt w g k r link s
     outer (inl t) = of_end w g k r r.outward.primary link s t (λ d. law.primary k r d here)
@@ -58,8 +57,8 @@ has_at w g k r link s law here has = go (either _ _ has)
     inner (inr t) = of_end w g k r (inward_edge r).decaying link s t (λ d. law.inward_decaying k r d here)
 
     go : (outward_has r link s ≡ true) ⊎ (inward_has r link s ≡ true) → HasAt w g k r link s
-    go (inl t) = outer (either _ _ t)
-    go (inr t) = inner (either _ _ t)
+    go (inl t) = outer (or_cases _ _ t)
+    go (inr t) = inner (or_cases _ _ t)
 
 pub is_link : (o : Owner) → is_linked o ≡ true → o ≡ Linked
 unfolding is_linked
@@ -69,28 +68,10 @@ is_link (Opening n) e = cc
 is_link (Fresh o) e = cc
 is_link Linked e = refl
 
-pub is_none_claimed : (o : Owner) → is_unclaimed o ≡ true → o ≡ Unclaimed
-unfolding is_unclaimed
-is_none_claimed Unclaimed e = refl
-is_none_claimed (Spare k) e = cc
-is_none_claimed (Opening n) e = cc
-is_none_claimed (Fresh o) e = cc
-is_none_claimed Linked e = cc
-
--- totals of functions that agree on what is there
-total_list-agree : {X : Type 0} (f h : X → ℕ) (xs : List X) → ((i : ℕ) (x : X) → slice_get xs i ≡ Some x → f x ≡ h x) →
-    total_list f xs ≡ total_list h xs
-total_list-agree f h [] e = refl
-total_list-agree f h (x ∷ xs) e = omega (arith, e zero x refl, total_list-agree f h xs (λ i y g. e (suc i) y g))
-
-total_below-agree : (c : ℕ) (f h : ℕ → ℕ) → ((i : ℕ) → i < c → f i ≡ h i) → total_below c f ≡ total_below c h
-total_below-agree zero f h e = refl
-total_below-agree (suc c) f h e = omega (arith, e c (omega arith), total_below-agree c f h (λ i l. e i (omega arith)))
-
 pub under_way-agree : (w : World) (f h : ℕ → ℕ → Message → ℕ) → ((from to i : ℕ) (m : Message) → IsUnderWay w from to i m →
     f from to m ≡ h from to m) → under_way f w ≡ under_way h w
 unfolding under_way
-under_way-agree w f h e = total_below-agree w.count _ _ (λ from l. total_below-agree w.count _ _
+under_way-agree w f h e = total_below-same w.count _ _ (λ from l. total_below-same w.count _ _
     (λ to n. total_list-agree (f from to) (h from to) (flow w from to)
     (λ i m p. e from to i m (record { sender = l; receiver = n; place = p }))))
 
@@ -151,7 +132,7 @@ module _ (w : World) (b : Books) (g : Records) (law : Inv w b g) where
       is_link (g.owner i) (subst (λ x. is_linked (g.owner x) ≡ true) is (law.bypasses.old o (grind (arith, at.stage, nat_tests))))
   named from to j (messages.AcceptBypass o s fresh length) i u h =
       let at = accept_told w g from to j o s fresh length law.told u in
-      go (either _ _ h) (grind (arith, at.stage, nat_tests)) (law.bypasses.fresh_linked o (omega (arith, at.stage))) at.onto
+      go (or_cases _ _ h) (grind (arith, at.stage, nat_tests)) (law.bypasses.fresh_linked o (omega (arith, at.stage))) at.onto
     where
       go : (nat_eq o i ≡ true) ⊎ (nat_eq fresh i ≡ true) → is_begun (g.bypass o) ≡ true → g.owner (g.bypass o).fresh ≡ Linked →
           fresh ≡ (g.bypass o).fresh → g.owner i ≡ Linked
@@ -205,7 +186,7 @@ module _ (w : World) (b : Books) (g : Records) (law : Inv w b g) where
   word_law = record {
     owner = g.owner;
     is_link = λ i. refl;
-    unclaimed = λ i l. is_none_claimed (g.owner i) (grind (arith, law.counts.unclaimed i, l, nat_tests));
+    unclaimed = λ i l. unclaimed-is (g.owner i) (grind (arith, law.counts.unclaimed i, l, nat_tests));
     claimed = λ i l. grind (arith, law.counts.unclaimed i, l, nat_tests);
     unused = law.words.unused;
     spare = law.spares.spare;

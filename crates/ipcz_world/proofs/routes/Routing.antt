@@ -19,23 +19,22 @@ use Rattle.ipcz_node.specs.Sends.{Transfer, move_found, move_router, moved_ends}
 use Rattle.ipcz_world.specs.World.{World, Key, same_key, node_at, router_at}
 use Rattle.ipcz_world.specs.Books.{Books}
 use Rattle.ipcz_world.specs.Routes.{Routes, add_link, add_peripheral, add_peripherals}
-use Rattle.ipcz_world.specs.Records.{Records, Owner, Spare, Opening, Fresh, Linked, CentralRecord, PeripheralRecord, is_linked}
-use Rattle.ipcz_world.specs.Records.{set_owner, set_central, set_peripheral, set_bypass, routes_of}
-use Rattle.ipcz_world.specs.Remembering.{open_records, opening_records, claim_records, begin_records, taken_records, accepted_records}
-use Rattle.ipcz_world.specs.Remembering.{told_records, ended_records, move_records, found_records, moves_records, made_at, made_records}
+use Rattle.ipcz_world.specs.Records.{Records, Owner, Spare, Fresh, Linked, CentralRecord, PeripheralRecord, is_linked, set_owner}
+use Rattle.ipcz_world.specs.Records.{set_central, set_peripheral, set_bypass, routes_of}
+use Rattle.ipcz_world.specs.Remembering.{open_records, claim_records, begin_records, taken_records, accepted_records, told_records}
+use Rattle.ipcz_world.specs.Remembering.{ended_records, move_records, found_records, moves_records, made_at, made_records}
 use Rattle.ipcz_world.specs.Inv.{Inv}
 use Rattle.ipcz_world.proofs.frames.Frames.{same_key-apart}
-use Rattle.ipcz_world.proofs.weights.Weighing.{same_end-itself}
 use Rattle.ipcz_world.proofs.facts.Finding.{found_there, terminal_tells}
 use Rattle.ipcz_world.proofs.frames.Opened.{opened}
 use Rattle.ipcz_world.proofs.sends.SendingItems.{is_send_out, is_send_in}
 use Rattle.ipcz_world.proofs.sends.SendingMoves.{before_moves}
-use Rattle.ipcz_world.proofs.sends.Moved.{HasTerminals, AreOnce, later_once, first_only, both, terminals-insert}
-use Rattle.ipcz_world.proofs.sends.MovingEnds.{later_end}
-use Rattle.ipcz_world.proofs.sends.MovingEnds.{first_end}
-use Rattle.ipcz_world.proofs.sends.Moved.{move_found-some, ends_here}
+use Rattle.ipcz_world.proofs.sends.Moved.{HasTerminals, AreOnce, later_once, first_only, terminals-insert, move_found-some, ends_here}
+use Rattle.ipcz_world.proofs.sends.MovingEnds.{later_end, first_end}
 use Rattle.ipcz_world.proofs.sends.SendingActs.{sent_records, by_way}
 use Rattle.ipcz_world.proofs.calls.CallTurns.{not_linked}
+use Rattle.std.proofs.lemmas.Bool.{and_from}
+use Rattle.ipcz_world.proofs.facts.LinkTests.{same_end-itself}
 
 -- routes are the same where they tell the same
 same_routes : (g h : Routes) → ((i : ℕ) → g.is_link i ≡ h.is_link i) → ((i : ℕ) → g.pair i ≡ h.pair i) → ((k : Key) → g.end k ≡ h.end k) →
@@ -100,10 +99,6 @@ pub routes-claim : (w : World) (b : Books) (g : Records) (k : Key) → Inv w b g
 unfolding is_linked
 routes-claim w b g k law = routes-owner g w.claimed (Spare k) (next_not_linked w b g law) refl
 
-pub routes-opening : (w : World) (b : Books) (g : Records) (n : ℕ) → Inv w b g → routes_of (opening_records g n w.claimed) ≡ routes_of g
-unfolding is_linked
-routes-opening w b g n law = routes-owner g w.claimed (Opening n) (next_not_linked w b g law) refl
-
 pub routes-open : (g : Records) (n i serial : ℕ) → routes_of (open_records g n i serial) ≡ add_link (routes_of g) i i
 routes-open g n i serial = routes-link g i _
 
@@ -153,7 +148,7 @@ routes-moves m g to [] has once = refl
 routes-moves m g to (e ∷ es) has once =
     let t = has e (first_end e es) in
     let f = found_there m.node (is_terminal_of e) t.0 t.1 t.2.here
-    (both (is_open_terminal t.1) (same_end t.1.end e) (both (is_terminal t.1) (not t.1.closed) t.2.terminal (ap not t.3))
+    (and_from (is_open_terminal t.1) (same_end t.1.end e) (and_from (is_terminal t.1) (not t.1.closed) t.2.terminal (ap not t.3))
     (ap (λ d. same_end d e) t.2.end ∙ same_end-itself e)) in
     go f.0 f.1 (λ x y h o. routes-moves x y to es h o)
   where

@@ -1,7 +1,6 @@
 -- A world without routers, words, messages and books is lawful.
-use Rattle.ipcz_world.specs.Places.{in_node as in_node', in_places as in_places'}
-use Rattle.std.specs.Prelude.{◌≡◌, ◌<◌, ◌+◌, ℕ, zero, suc, Bool, true, cond, nat_le, Some, None, is_some, refl, List, [], ◌++◌}
-use Rattle.std.specs.Prelude.{slice_get}
+use Rattle.ipcz_world.specs.Places.{in_node as in_node', in_places as in_places', Weight, in_router, at_end, names_end, times}
+use Rattle.std.specs.Prelude.{◌≡◌, ◌<◌, ◌+◌, ℕ, Bool, true, cond, nat_le, Some, None, is_some, refl, List, [], ◌++◌, slice_get}
 use Rattle.std.specs.Ordering.{nat_cmp}
 use Rattle.std.specs.FinMap.{get, empty, get-empty}
 use Rattle.std.proofs.Common.{arith, ap, ◌∙◌, sym}
@@ -16,7 +15,7 @@ use Rattle.ipcz_base.specs.declared.message.Message.{Message}
 use Rattle.ipcz_base.specs.Ends.{opposite_end, has_end}
 use Rattle.ipcz_word.specs.SideSets.{has}
 use Rattle.ipcz_base.specs.Indexed.{place_at}
-use Rattle.ipcz_base.specs.Totals.{total}
+use Rattle.ipcz_base.specs.Totals.{total, total_list}
 use Rattle.ipcz_base.proofs.Totals.{total-empty}
 use Rattle.ipcz_router.specs.Router.{Router}
 use Rattle.ipcz_word.specs.Word.{Word, empty_word}
@@ -28,9 +27,7 @@ use Rattle.ipcz_world.specs.Books.{no_books}
 use Rattle.ipcz_world.specs.Records.{Records, Owner, Unclaimed, Spare, Opening, Fresh, Terminal, Nowhere, At, is_linked, is_unclaimed}
 use Rattle.ipcz_world.specs.Records.{is_recorded, inner_link, is_nowhere}
 use Rattle.ipcz_world.specs.Flows.{IsUnderWay, under_way, of_end, moves_of}
-use Rattle.ipcz_world.specs.Places.{Weight, in_router, at_end, names_end, times}
-use Rattle.ipcz_world.proofs.weights.OfRecords.{in_message, in_places}
-use Rattle.ipcz_base.specs.Totals.{total_below, total_list}
+use Rattle.ipcz_world.proofs.weights.OfRecords.{in_message, in_places, holds, held_times, none_holder}
 use Rattle.ipcz_world.specs.Structure.{Counts, Ordered, Shape, Links, Positions, Stands, Words, Spares}
 use Rattle.ipcz_world.specs.Bypasses.{BypassRecords, Stages, Told, Moves, of_bypass, control_weight, move_weight}
 use Rattle.ipcz_world.specs.Whereabouts.{Terminals, EndPlaces, BooksKept, Conserved, HeldOnce, times_held}
@@ -38,10 +35,10 @@ use Rattle.ipcz_world.specs.Numbers.{Items, Order, ProxyNumbers, FreshNumbers}
 use Rattle.ipcz_world.specs.Inv.{Inv}
 use Rattle.std.specs.FinSet as sets
 use Rattle.ipcz_base.specs.Orders.{end_cmp}
-use Rattle.ipcz_world.proofs.weights.OfRecords.{holds, held_times, none_holder}
 use Rattle.ipcz_world.proofs.weights.Booking.{flag}
 use Rattle.ipcz_world.proofs.frames.Changing.{flow_is}
 use Rattle.ipcz_world.proofs.facts.Tests.{not_both}
+use Rattle.ipcz_world.proofs.weights.Sums.{total_below-none}
 
 -- nothing stands in the world
 pub record IsBare (w : World) : Type 0 where
@@ -75,13 +72,13 @@ unclaimed-bare : (o : Owner) → o ≡ Unclaimed → is_unclaimed o ≡ true
 unfolding is_unclaimed
 unclaimed-bare o e = rw e refl
 
-not_spare : (k : Key) → Unclaimed ≡ Spare k → ⊥
+pub not_spare : (k : Key) → Unclaimed ≡ Spare k → ⊥
 not_spare k h = cc
 
 not_opening : (n : ℕ) → Unclaimed ≡ Opening n → ⊥
 not_opening n h = cc
 
-not_fresh : (o : ℕ) → Unclaimed ≡ Fresh o → ⊥
+pub not_fresh : (o : ℕ) → Unclaimed ≡ Fresh o → ⊥
 not_fresh o h = cc
 
 moves_none : (h : Descriptor → ℕ) (t : Terminal) → t ≡ Nowhere → move_weight h t ≡ 0
@@ -116,10 +113,6 @@ no_holder x s q h = not_both (has x.holder s) h (ap (λ (y : Word). has y.holder
 expected-none : (g : Records) (h : ℕ → ℕ → Message → ℕ) (o : ℕ) → (g.bypass o).stage ≡ 0 → control_weight g h o ≡ 0
 unfolding control_weight
 expected-none g h o e = rw e refl
-
-total_below-none : (c : ℕ) (f : ℕ → ℕ) → ((n : ℕ) → f n ≡ 0) → total_below c f ≡ 0
-total_below-none zero f h = refl
-total_below-none (suc c) f h = omega (arith, h c, total_below-none c f h)
 
 module _ (w : World) (g : Records) (world : IsBare w) (noted : IsUnnoted g) where
   no_router : (k : Key) (r : Router) → router_at w k ≡ Some r → ⊥

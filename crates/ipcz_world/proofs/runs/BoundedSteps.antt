@@ -1,6 +1,6 @@
 -- Each step keeps a world bounded: nothing comes to lie beyond its nodes.
-use Rattle.std.specs.Prelude.{◌≡◌, ◌≤◌, ◌<◌, ℕ, suc, ◌+◌, ◌*◌, ◌-◌, Bool, true, false, cond, nat_eq, nat_lt, if◌then◌else◌, Option}
-use Rattle.std.specs.Prelude.{Some, None, refl, [], ◌∷◌}
+use Rattle.std.specs.Prelude.{◌≡◌, ◌≤◌, ◌<◌, ℕ, suc, ◌+◌, ◌*◌, ◌-◌, Bool, true, false, cond, nat_eq, nat_lt, if◌then◌else◌, Option, Some}
+use Rattle.std.specs.Prelude.{None, refl, [], ◌∷◌}
 use Rattle.std.proofs.Common.{arith, ap, subst, ◌∙◌, sym, inl, inr}
 use Rattle.std.proofs.lemmas.Bool.Decides.{nat_tests}
 use Rattle.ipcz_base.specs.declared.end.End.{End}
@@ -42,8 +42,8 @@ use Rattle.ipcz_world.proofs.facts.NodeCount.{count-touch}
 use Rattle.ipcz_world.specs.Settling.{IsBounded}
 use Rattle.ipcz_world.proofs.lawful.Soundness.{primary_below, opening_below}
 use Rattle.ipcz_world.proofs.runs.Bounds.{IsBoxed, boxed-with, boxed-found, boxed-router, boxed-deliver}
-use Rattle.ipcz_world.proofs.weights.Booking.{and_first}
 use Rattle.ipcz_world.proofs.runs.NodeSteps.{hand-is}
+use Rattle.ipcz_world.proofs.facts.Tests.{and_first}
 
 bounded-set_node : (w : World) (n : ℕ) (x : Node) → n < w.count → IsBounded w → IsBoxed w.count x → IsBounded (set_node w n x)
 unfolding set_node mail_at

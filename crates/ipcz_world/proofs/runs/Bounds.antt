@@ -5,7 +5,6 @@ use Rattle.std.proofs.Common.{arith, ap, subst, ◌∙◌, sym}
 use Rattle.std.proofs.lemmas.Bool.Decides.{nat_tests}
 use Rattle.std.proofs.lemmas.Option.{same_Some}
 use Rattle.ipcz_base.specs.declared.side.Side.{Side}
-use Rattle.ipcz_base.specs.declared.end.End.{End}
 use Rattle.ipcz_base.specs.declared.link_id.LinkId.{LinkId}
 use Rattle.ipcz_base.specs.declared.link_id.LinkId.TheVariants.{Central}
 use Rattle.ipcz_base.specs.declared.link_end.LinkEnd.{LinkEnd}
@@ -33,7 +32,7 @@ use Rattle.ipcz_router.specs.declared.act.Answer.{Answer}
 use Rattle.ipcz_router.specs.declared.act.Applied.{Applied}
 use Rattle.ipcz_router.specs.declared.act.Applied.TheVariants as outputs
 use Rattle.ipcz_node.specs.Node.{Node, Found, outbox, with_outbox, on_found, link_router, add_router, add_stray, with_router, is_named}
-use Rattle.ipcz_node.specs.Sends.{Transfer, move_found, move_end, move_ends, moved_ends, transfer_of, send_item, send}
+use Rattle.ipcz_node.specs.Sends.{moved_ends, transfer_of, send_item, send}
 use Rattle.ipcz_node.specs.Hands.{make_terminals, tell, passes_at, fits, handle, deliver}
 use Rattle.ipcz_node.specs.Acts.{keep_or_drop, commit_router}
 use Rattle.ipcz_world.specs.World.{World, Key, node_at, router_at}
@@ -43,6 +42,7 @@ use Rattle.ipcz_world.specs.Structure.{IsRecorded}
 use Rattle.ipcz_world.specs.Inv.{Inv}
 use Rattle.ipcz_world.proofs.facts.Finding.{found_tells}
 use Rattle.ipcz_world.proofs.calls.Puts.{router_found}
+use Rattle.ipcz_world.proofs.sends.SendingMoves.{boxes_kept}
 
 -- a node has nothing to send to a number that is no node's
 abbrev pub IsBoxed : ℕ → Node → Type 0
@@ -124,21 +124,11 @@ output_goes c r acts.Begin b = begin_goes c (inward_edge r).primary r.outward.pr
 output_goes c r acts.Unlock b = tt
 output_goes c r acts.Rest b = tt
 
--- terminals that move leave what is to be sent
-boxes-found : (m : Transfer) (to : ℕ) (o : Option Found) → (move_found m to o).node.outboxes ≡ m.node.outboxes
-unfolding move_found
-boxes-found m to None = refl
-boxes-found m to (Some f) = refl
-
-boxes-moves : (m : Transfer) (to : ℕ) (es : List End) → (move_ends m to es).node.outboxes ≡ m.node.outboxes
-boxes-moves m to [] = refl
-boxes-moves m to (e ∷ es) = boxes-moves (move_end m to e) to es ∙ boxes-found m to _
-
 boxed-send : (c : ℕ) (x : Node) (o : Applied) → IsBoxed c x → Goes c o → IsBoxed c (send x o)
 unfolding send send_item
 boxed-send c x outputs.Nothing h g = h
 boxed-send c x (outputs.Sent link n item) h g = let m = transfer_of x link item in
-    boxed-with c m.node link.other _ g (same_boxes c x m.node (boxes-moves (record { node = x; moves = [] }) link.other
+    boxed-with c m.node link.other _ g (same_boxes c x m.node (boxes_kept (record { node = x; moves = [] }) link.other
     (moved_ends x link item)) h)
 boxed-send c x (outputs.Message to m) h g = boxed-with c x to _ g h
 boxed-send c x (outputs.Discarded n item) h g = h

@@ -1,6 +1,6 @@
 -- The first possible act of a node is one that a turn may take, and so is what stands in for it.
-use Rattle.std.specs.Prelude.{◌≡◌, ◌⊎◌, ◌<◌, ℕ, zero, suc, ◌+◌, Bool, true, false, ◌&&◌, ◌||◌, nat_eq, nat_lt, if◌then◌else◌, Option, Some}
-use Rattle.std.specs.Prelude.{None, List, [], ◌∷◌, map, refl}
+use Rattle.std.specs.Prelude.{◌≡◌, ◌⊎◌, ◌<◌, ℕ, zero, suc, ◌+◌, Bool, true, false, ◌&&◌, nat_eq, nat_lt, if◌then◌else◌, Option, Some, None}
+use Rattle.std.specs.Prelude.{List, [], ◌∷◌, map, refl}
 use Rattle.std.proofs.Common.{arith, ap, subst, ◌∙◌, sym, inl, inr}
 use Rattle.std.proofs.lemmas.Bool.Decides.{nat_tests}
 use Rattle.ipcz_base.specs.declared.end.End.{End}
@@ -9,13 +9,13 @@ use Rattle.ipcz_router.specs.Router.{Router}
 use Rattle.ipcz_router.specs.ActTable.{is_possible, first_possible, table, next_act, is_rest, may_take}
 use Rattle.ipcz_router.specs.declared.act.RouterAct.{RouterAct}
 use Rattle.ipcz_router.specs.declared.act.RouterAct.TheVariants as acts
-use Rattle.ipcz_node.specs.Acts.{stand_in}
+use Rattle.ipcz_node.specs.Acts.{stand_in, first_number, has_mail_for, router_turn, close_turn, node_turn, next}
 use Rattle.ipcz_node.specs.declared.act.Act.{Act}
 use Rattle.ipcz_node.specs.declared.act.Act.TheVariants.{Hand, Look, Post, Close, Router as OfRouter, Idle}
 use Rattle.ipcz_node.specs.declared.act.MailSeen.{MailSeen}
 use Rattle.ipcz_node.specs.Node.{Node, Found, find_router}
-use Rattle.ipcz_node.specs.Acts.{first_number, has_mail_for, router_turn, close_turn, node_turn, next}
 use Rattle.ipcz_node.specs.Hands.{is_hand_of}
+use Rattle.ipcz_node.proofs.Turns.{first_number-tells}
 use Rattle.ipcz_world.specs.declared.step.Step.TheVariants as steps
 use Rattle.ipcz_world.specs.World.{World, node_at, mail_at, way, router_at, numbers_from}
 use Rattle.ipcz_world.specs.Turns.{is_full, is_clear, seen_at, next_at, may_act, is_first_pending, is_idle, can_take}
@@ -26,16 +26,7 @@ use Rattle.ipcz_world.specs.Inv.{Inv}
 use Rattle.ipcz_world.specs.WorldLaws.{FirstIsPossible}
 use Rattle.ipcz_world.proofs.facts.LinkTests.{same_end-itself}
 use Rattle.ipcz_world.proofs.facts.Finding.{found_tells}
-use Rattle.ipcz_world.proofs.lawful.EachOnce.{both}
-
-first_number-tells : (test : ℕ → Bool) (from left i : ℕ) → first_number test from left ≡ Some i → test i ≡ true
-first_number-tells test from zero i e = cc
-first_number-tells test from (suc left) i e = go (test from) refl e (first_number-tells test (from + 1) left i)
-  where
-    go : (c : Bool) → test from ≡ c → (if c then Some from else first_number test (from + 1) left) ≡ Some i →
-        (first_number test (from + 1) left ≡ Some i → test i ≡ true) → test i ≡ true
-    go true q h more = let is : from ≡ i = grind (arith, h) in subst (λ x. test x ≡ true) is q
-    go false q h more = more h
+use Rattle.std.proofs.lemmas.Bool.{and_parts, or_left, or_right}
 
 -- what is seen of a number is what is so
 seen_is : (f : ℕ → Bool) (a c i : ℕ) → place_at false (map f (numbers_from a c)) i ≡ true → f (a + i) ≡ true
@@ -53,14 +44,6 @@ first_is r (a ∷ l) = go (is_possible r a) refl (first_is r l)
         (is_possible r (if c then a else first_possible r l) ≡ true) ⊎ ((if c then a else first_possible r l) ≡ acts.Rest)
     go true e more = inl e
     go false e more = more
-
-or_left : (a b : Bool) → a ≡ true → (a || b) ≡ true
-or_left true b e = refl
-or_left false b e = cc
-
-or_right : (a b : Bool) → b ≡ true → (a || b) ≡ true
-or_right true b e = refl
-or_right false b e = e
 
 next_may : (r : Router) → may_take r (next_act r) ≡ true
 unfolding next_act is_rest
@@ -114,10 +97,10 @@ module _ (w : World) (b : Books) (g : Records) (law : Inv w b g) (n : ℕ) (here
   unfolding node_turn can_take
   post_case None f h e = close_case node.pending refl h e
   post_case (Some to) f h e =
-      let t = both (has_mail_for node to) (place_at false seen.empty to)
-      (first_number-tells (λ to. has_mail_for node to && place_at false seen.empty to) 0 node.count to f) in
+      let t = and_parts (has_mail_for node to) (place_at false seen.empty to)
+      (first_number-tells (λ to. has_mail_for node to && place_at false seen.empty to) 0 node.count to f).1 in
       let z : 0 + to ≡ to = omega arith in
-      let c = both (nat_lt to w.count) (is_clear (mail_at w (way w n to)))
+      let c = and_parts (nat_lt to w.count) (is_clear (mail_at w (way w n to)))
       (subst (λ i. (nat_lt i w.count && is_clear (mail_at w (way w n i))) ≡ true) z
       (seen_is (λ to. nat_lt to w.count && is_clear (mail_at w (way w n to))) 0 8 to t.1)) in
       rw (t.0, c.0, c.1) refl
@@ -127,9 +110,9 @@ module _ (w : World) (b : Books) (g : Records) (law : Inv w b g) (n : ℕ) (here
   unfolding node_turn can_take
   look_case None f h e = post_case (first_number (λ to. has_mail_for node to && place_at false seen.empty to) 0 node.count) refl h e
   look_case (Some from) f h e =
-      let t = first_number-tells (λ from. place_at false seen.full from) 0 node.count from f in
+      let t = (first_number-tells (λ from. place_at false seen.full from) 0 node.count from f).1 in
       let z : 0 + from ≡ from = omega arith in
-      let c = both (nat_lt from w.count) (is_full (mail_at w (way w from n)))
+      let c = and_parts (nat_lt from w.count) (is_full (mail_at w (way w from n)))
       (subst (λ i. (nat_lt i w.count && is_full (mail_at w (way w i n))) ≡ true) z
       (seen_is (λ from. nat_lt from w.count && is_full (mail_at w (way w from n))) 0 8 from t)) in
       rw (h, c.0, c.1) refl

@@ -1,6 +1,6 @@
 -- The nodes of the opening world, with the terminals of the first pairs.
-use Rattle.std.specs.Prelude.{◌≡◌, ◌≤◌, ◌<◌, ◌+◌, ◌-◌, ◌*◌, ℕ, zero, suc, Bool, true, false, cond, nat_eq, nat_le, nat_lt}
-use Rattle.std.specs.Prelude.{if◌then◌else◌, None, refl, List, [], ◌∷◌, ◌++◌, length, replicate}
+use Rattle.std.specs.Prelude.{◌≡◌, ◌≤◌, ◌<◌, ◌+◌, ◌-◌, ◌*◌, ℕ, zero, suc, Bool, true, false, cond, nat_eq, nat_le, nat_lt, if◌then◌else◌}
+use Rattle.std.specs.Prelude.{None, refl, List, [], ◌∷◌, ◌++◌, length, replicate}
 use Rattle.std.specs.Ordering.{nat_cmp}
 use Rattle.std.specs.Cmp.{nat_cmp_total}
 use Rattle.std.specs.FinMap.{get, get-empty, get-insert, nat_cmp-IsAntisymmetric}
@@ -10,9 +10,9 @@ use Rattle.ipcz_base.specs.declared.side.Side.{Side}
 use Rattle.ipcz_base.specs.declared.side.Side.TheVariants.{A, B}
 use Rattle.ipcz_base.specs.declared.end.End.{End}
 use Rattle.ipcz_base.specs.declared.message.Message.{Message}
-use Rattle.ipcz_base.specs.Ends.{opposite_end, end_at}
+use Rattle.ipcz_base.specs.Ends.{end_at}
 use Rattle.ipcz_base.specs.Indexed.{place_at}
-use Rattle.ipcz_base.specs.Totals.{total}
+use Rattle.ipcz_base.specs.Totals.{total, total_below}
 use Rattle.ipcz_base.proofs.Totals.{total-empty, total-insert_new}
 use Rattle.ipcz_router.specs.Router.{Router}
 use Rattle.ipcz_word.specs.Word.{empty_word, open_word}
@@ -21,12 +21,10 @@ use Rattle.ipcz_node.specs.FirstPairs.{add_pairs}
 use Rattle.ipcz_world.specs.declared.mail.Mail.TheVariants.{Empty}
 use Rattle.ipcz_world.specs.World.{World, Key, numbers_from}
 use Rattle.ipcz_world.specs.Books.{no_books}
-use Rattle.ipcz_world.specs.Records.{Records, Unclaimed, Spare, Opening, Fresh, Linked}
-use Rattle.ipcz_world.specs.Records.{is_linked, is_unclaimed, is_nowhere}
+use Rattle.ipcz_world.specs.Records.{Records, Unclaimed, Spare, Opening, Fresh, Linked, is_linked, is_unclaimed, is_nowhere}
 use Rattle.ipcz_world.specs.Places.{Weight, in_router}
-use Rattle.ipcz_base.specs.Totals.{total_below}
 use Rattle.ipcz_world.specs.Inv.{Inv}
-use Rattle.ipcz_world.proofs.weights.Weighing.{in_router-is}
+use Rattle.ipcz_world.proofs.calls.OpenedNodes.{fresh_weight}
 
 -- a node with its end of one pair more
 abbrev pub add_one : Node → ℕ → (ℕ × ℕ) → Node
@@ -71,14 +69,6 @@ bare_start n nodes = record {
   light = λ f. total-empty nat_cmp (λ s r. in_router f r);
 }
 
-new_weight : (f : Weight) (i : ℕ) (s : Side) (o : ℕ) → in_router f (new_end i s o) ≡ 0
-new_weight f i s o = omega (
-  arith,
-  in_router-is f (new_end i s o),
-  total-empty nat_cmp (f (new_end i s o).end),
-  total-empty nat_cmp (f (opposite_end (new_end i s o).end)),
-)
-
 end_start : (n nodes : ℕ) (x : Node) (i : ℕ) (s : Side) (o : ℕ) → IsStart n nodes x → IsStart n nodes (add_end x i s o)
 end_start n nodes x i s o is = record {
   node = is.node;
@@ -101,7 +91,7 @@ end_start n nodes x i s o is = record {
     total-insert_new nat_cmp nat_cmp_total nat_cmp-IsAntisymmetric (λ s r. in_router f r) x.routers x.next_router
         (new_end i s o) (is.unused x.next_router (omega arith)),
     is.light f,
-    new_weight f i s o,
+    fresh_weight f i s o,
   );
 }
 
@@ -170,14 +160,6 @@ start_word zero k i = let e : nat_lt i zero ≡ false = grind (arith, nat_tests)
 start_word (suc a) k zero = let l : nat_lt zero (suc a) ≡ true = grind (arith, nat_tests) in sym (ap (λ b. cond b open_word empty_word) l)
 start_word (suc a) k (suc i) = start_word a k i ∙ sym (ap (λ b. cond b open_word empty_word) (below_suc i a))
 
-pub length_last : {X : Type 0} (xs : List X) (x : X) → length (xs ++ x ∷ []) ≡ length xs + 1
-length_last [] x = refl
-length_last (y ∷ xs) x = omega (arith, length_last xs x)
-
-pub total_none : (c : ℕ) (f : ℕ → ℕ) → ((n : ℕ) → f n ≡ 0) → total_below c f ≡ 0
-total_none zero f h = refl
-total_none (suc c) f h = omega (arith, h c, total_none c f h)
-
 pub total_plus : (c : ℕ) (f d e : ℕ → ℕ) → ((n : ℕ) → n < c → e n ≡ f n + d n) → total_below c e ≡ total_below c f + total_below c d
 total_plus zero f d e h = refl
 total_plus (suc c) f d e h = omega (arith, h c (omega arith), total_plus c f d e (λ n l. h n (omega (arith, l))))
@@ -201,12 +183,6 @@ pub not_linked : is_linked Unclaimed ≡ false
 unfolding is_linked
 not_linked = refl
 
-pub not_spare : (k : Key) → Unclaimed ≡ Spare k → ⊥
-not_spare k e = cc
-
-pub not_fresh : (o : ℕ) → Unclaimed ≡ Fresh o → ⊥
-not_fresh o e = cc
-
 pub linked_no_spare : (k : Key) → Linked ≡ Spare k → ⊥
 linked_no_spare k e = cc
 
@@ -224,10 +200,6 @@ unclaimed_is j n = go (nat_lt j n) refl
     go : (c : Bool) → nat_lt j n ≡ c → is_unclaimed (cond (nat_lt j n) Linked Unclaimed) ≡ nat_le n j
     go true e = let f : nat_le n j ≡ false = grind (arith, e, nat_tests) in rw (e, f) refl
     go false e = let f : nat_le n j ≡ true = grind (arith, e, nat_tests) in rw (e, f) refl
-
-pub append_none : {X : Type 0} (xs : List X) → xs ++ [] ≡ xs
-append_none [] = refl
-append_none (x ∷ xs) = ap (λ t. x ∷ t) (append_none xs)
 
 pub append_one : {X : Type 0} (xs : List X) (x : X) (ys : List X) → xs ++ x ∷ ys ≡ (xs ++ x ∷ []) ++ ys
 append_one [] x ys = refl

@@ -21,30 +21,27 @@ use Rattle.ipcz_node.specs.declared.happened.Happened.TheVariants as events
 use Rattle.ipcz_node.specs.Events.{link_of, router_event, event_of}
 use Rattle.ipcz_node.specs.Sends.{moved_ends}
 use Rattle.ipcz_node.specs.Node.{Found, link_router}
-use Rattle.ipcz_node.specs.Hands.{is_hand_of, link_asked, side_asked}
+use Rattle.ipcz_node.specs.Hands.{is_hand_of, link_asked, side_asked, is_unfit}
 use Rattle.ipcz_world.specs.declared.mail.Mail.{Mail}
 use Rattle.ipcz_world.specs.declared.mail.Mail.TheVariants as mails
 use Rattle.ipcz_world.specs.World.{World, Key, node_at, word_at, mail_at, way, router_at}
 use Rattle.ipcz_world.specs.Turns.{after_act, can_take, may_act, turn_lacks_serials, turn_event, after_hand, hand_message}
 use Rattle.ipcz_world.specs.WordAnswers.{answer_of}
 use Rattle.ipcz_world.specs.Books.{Books, after_turn, after_discard}
-use Rattle.ipcz_world.specs.Records.{Records}
-use Rattle.ipcz_world.specs.Remembering.{claim_records, taken_records, accepted_records, told_records, ended_records}
+use Rattle.ipcz_world.specs.Records.{Records, routes_of, is_linked, side_end}
+use Rattle.ipcz_world.specs.Remembering.{claim_records, taken_records, accepted_records, told_records, ended_records, begin_records}
+use Rattle.ipcz_world.specs.Remembering.{made_records}
 use Rattle.ipcz_world.specs.Acts.{CanAct}
 use Rattle.ipcz_world.specs.Inv.{Inv}
-use Rattle.ipcz_world.specs.Laws.{is_flush}
+use Rattle.ipcz_world.specs.Laws.{is_flush, KeepsLinks}
 use Rattle.ipcz_world.proofs.acts.Marking.{acted-mark}
 use Rattle.ipcz_world.proofs.acts.ActedWords.{acted-rest, acted-unlock, acted-lock, acted-claim, acted-dry}
 use Rattle.ipcz_world.proofs.acts.Updating.{acted-leave, acted-finish_out, acted-finish_in, acted-wake}
 use Rattle.ipcz_world.proofs.hands.Handling.{IsInHand, asked_at, found_asked, named, peer_is, accept_is, stop_is, will_stop_is, flush_is}
-use Rattle.ipcz_world.proofs.hands.Handling.{dropped_is}
+use Rattle.ipcz_world.proofs.hands.Handling.{dropped_is, peer_fits, under_way-hand}
 use Rattle.ipcz_router.specs.Acts.{pop_out, pop_in}
-use Rattle.ipcz_node.specs.Hands.{is_unfit}
 use Rattle.ipcz_world.specs.declared.step.Step.TheVariants as steps
 use Rattle.ipcz_world.specs.Routes.{Routes, routes_after, routes_after_turn, add_link, add_peripherals}
-use Rattle.ipcz_world.specs.Records.{routes_of, is_linked, side_end}
-use Rattle.ipcz_world.specs.Remembering.{begin_records, made_records}
-use Rattle.ipcz_world.specs.Laws.{KeepsLinks}
 use Rattle.ipcz_world.specs.Steps.{Effect, refuse, unless, open_on, open_step}
 use Rattle.ipcz_node.specs.Calls.{serials_refusal}
 use Rattle.ipcz_base.specs.declared.refusal.Refusal.{Refusal}
@@ -70,15 +67,15 @@ use Rattle.ipcz_world.proofs.calls.Gets.{inv-discard}
 use Rattle.ipcz_world.proofs.views.Telling.{IsPeer, peer_told}
 use Rattle.ipcz_world.proofs.lawful.WordLaws.{HasAt, has_at}
 use Rattle.ipcz_world.proofs.calls.CallSteps.{open-kept, put-kept, get-kept, close-kept}
-use Rattle.ipcz_world.proofs.hands.Handling.{peer_fits, under_way-hand}
 use Rattle.ipcz_world.proofs.runs.Running.{Kept, KeptBy, StepsKeep}
 use Rattle.ipcz_world.proofs.routes.Routing.{next_not_linked, routes-claim, routes-begin, routes-accept, routes-told, routes-ended}
 use Rattle.ipcz_world.proofs.routes.Routing.{routes-taken, routes-made, routes-sent_out, routes-sent_in}
 use Rattle.ipcz_world.proofs.routes.Seeing.{kind, router_kind, seen_event, taken_possible, hand_kind, is_send, routes-still}
 use Rattle.ipcz_world.proofs.routes.Seeing.{routes-send_out, routes-send_in, routes-hand, routes-peer, stays-same, stays-link}
 use Rattle.ipcz_world.proofs.routes.Seeing.{stays-peripherals}
-use Rattle.ipcz_world.proofs.lawful.EachOnce.{both}
-use Rattle.ipcz_world.proofs.lawful.OneNode.{some_is}
+use Rattle.std.proofs.lemmas.Bool.{and_parts}
+use Rattle.ipcz_world.proofs.runs.NodeSteps.{hand-is}
+use Rattle.ipcz_world.proofs.facts.Tests.{some_is}
 
 -- an event of another kind leaves the books
 books-other : (w : World) (b : Books) (n : ℕ) (event : Happened) → kind event ≡ 0 → after_turn w b n event ≡ b
@@ -124,11 +121,6 @@ unfolding hand_message
 in_hand_is mails.Empty h = cc
 in_hand_is (mails.Full m) h = cc
 in_hand_is (mails.Hand m) h = (m, refl)
-
-hand_is : (o : Option ℕ) (from : ℕ) → is_hand_of o from ≡ true → o ≡ Some from
-unfolding is_hand_of
-hand_is None from h = cc
-hand_is (Some s) from h = ap Some (grind (arith, h, nat_tests))
 
 -- the number that a test of two begins with is below
 below : (a b : ℕ) (c : Bool) → (nat_lt a b && c) ≡ true → a < b
@@ -351,9 +343,9 @@ module _ (w : World) (b : Books) (g : Records) (law : Inv w b g) where
       Kept g (after_act w n act) (after_turn w b n (turn_event w n act)) (routes_after_turn w (routes_of g) n (turn_event w n act))
   unfolding can_take may_act after_act turn_event event_of after_turn routes_after_turn hand_message
   act_kept n (Hand from) l can room =
-      let t = both (is_hand_of (node_at w n).hand from) (is_some (hand_message (mail_at w (way w from n)))) can in
+      let t = and_parts (is_hand_of (node_at w n).hand from) (is_some (hand_message (mail_at w (way w from n)))) can in
       let m = in_hand_is (mail_at w (way w from n)) t.1 in
-      let hand : (node_at w n).hand ≡ Some from = hand_is (node_at w n).hand from t.0 in
+      let hand : (node_at w n).hand ≡ Some from = hand-is (node_at w n).hand from t.0 in
       let is : IsInHand w n from m.0 = record { node = l; sender = law.counts.hand_from n from l hand; mail = m.1; hand = hand } in
       let k = hand_kept n from m.0 is in
       record {

@@ -1,5 +1,5 @@
 -- What is said of each node's routers is kept by every step, if every act and call of a node keeps it.
-use Rattle.std.specs.Prelude.{◌≡◌, ◌<◌, ◌&&◌, ℕ, ◌+◌, Bool, true, false, nat_lt, if◌then◌else◌, Option, Some, None, List, slice_get, refl}
+use Rattle.std.specs.Prelude.{◌≡◌, ◌<◌, ℕ, ◌+◌, Bool, true, false, nat_lt, if◌then◌else◌, Option, Some, None, List, slice_get, refl}
 use Rattle.std.proofs.Common.{arith, sym, ap, subst, inl, inr}
 use Rattle.std.proofs.lemmas.Bool.Decides.{nat_tests}
 use Rattle.ipcz_base.specs.declared.end.End.{End}
@@ -35,6 +35,7 @@ use Rattle.ipcz_world.specs.Records.{Records}
 use Rattle.ipcz_world.specs.Flows.{IsUnderWay, moves_of}
 use Rattle.ipcz_world.specs.Inv.{Inv}
 use Rattle.ipcz_world.proofs.runs.Flagging.{ArePeripheral}
+use Rattle.ipcz_world.proofs.facts.Tests.{and_first}
 
 -- what is said of a world, node by node, and is kept by what nodes do
 pub record IsKept (Q : World → Type 0) (N : Node → Type 0) : Type 0 where
@@ -63,10 +64,6 @@ unfolding hand_message messages_in flow
 in-flow w from n (mails.Hand x) m at h = rw at h
 in-flow w from n mails.Empty m at h = cc
 in-flow w from n (mails.Full x) m at h = cc
-
-first-of : (a b : Bool) → (a && b) ≡ true → a ≡ true
-first-of true b h = refl
-first-of false b h = cc
 
 pub hand-is : (o : Option ℕ) (from : ℕ) → is_hand_of o from ≡ true → o ≡ Some from
 unfolding is_hand_of
@@ -109,7 +106,7 @@ module _ (Q : World → Type 0) (N : Node → Type 0) (kept : IsKept Q N) where
       (λ j d h. law.moves.peripheral from n 0 j m d under h)))
     where
       hand : (node_at w n).hand ≡ Some from
-      hand = hand-is (node_at w n).hand from (first-of _ _ can)
+      hand = hand-is (node_at w n).hand from (and_first _ _ can)
 
       under : IsUnderWay w from n 0 m
       under = record {

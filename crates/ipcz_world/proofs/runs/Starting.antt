@@ -18,8 +18,10 @@ use Rattle.ipcz_world.specs.Inv.{Inv}
 use Rattle.ipcz_world.specs.Lawful.{IsWithinLimits}
 use Rattle.ipcz_world.specs.Settling.{IsBounded}
 use Rattle.ipcz_world.proofs.runs.Bare.{IsBare, IsUnnoted, inv-bare}
-use Rattle.ipcz_world.proofs.runs.FirstNodes.{empty_boxes, start_nodes, start, length_last, append_none, append_one, Good}
+use Rattle.ipcz_world.proofs.runs.FirstNodes.{empty_boxes, start_nodes, start, append_one, Good}
 use Rattle.ipcz_world.proofs.runs.StartingPairs.{within, beyond, is_start, mail_start, word_start, good_after}
+use Rattle.ipcz_world.proofs.weights.Booking.{length-more}
+use Rattle.ipcz_world.proofs.flows.Handing.{append_none}
 
 module _ (nodes words : ℕ) where
   -- a list's element stands in one of its two parts
@@ -111,7 +113,7 @@ module _ (nodes words : ℕ) where
   all_pairs ps (p ∷ qs) proper room b =
       let is = proper zero p refl in
       subst (Good nodes words) (sym (append_one ps p qs)) (all_pairs (ps ++ p ∷ []) qs (λ k x e. proper (suc k) x e)
-      (omega (arith, room, length_last ps p)) (good_after nodes words ps p is.less is.below b (omega (arith, room))))
+      (omega (arith, room, length-more ps p)) (good_after nodes words ps p is.less is.below b (omega (arith, room))))
 
   new_is : (ns : List ℕ) → new_nodes nodes ns ≡ start_nodes nodes (first_pairs nodes) ns
   unfolding new_node
@@ -124,6 +126,7 @@ module _ (nodes words : ℕ) where
 
   good_start : length (first_pairs nodes) ≤ words → Good nodes words (first_pairs nodes)
   good_start room = all_pairs [] (first_pairs nodes) (rows 0 nodes (omega arith)) (omega (arith, room)) no_pairs
+
 -- where a word is a link's
 linked_by : (j n : ℕ) → is_linked (cond (nat_lt j n) Linked Unclaimed) ≡ nat_lt j n
 unfolding is_linked

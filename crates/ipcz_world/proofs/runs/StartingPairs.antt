@@ -29,13 +29,16 @@ use Rattle.ipcz_world.specs.Whereabouts.{times_held}
 use Rattle.ipcz_world.proofs.frames.Changing.{flow_is}
 use Rattle.ipcz_world.proofs.weights.Holding.{holds-with_ends, times-with_ends, held_times-most, times_held-at}
 use Rattle.ipcz_world.proofs.frames.Calling.{nowhere_unheld}
-use Rattle.ipcz_world.proofs.weights.Booking.{same_end-is, end_tells, flag}
+use Rattle.ipcz_world.proofs.weights.Booking.{end_tells, flag, length-more}
 use Rattle.ipcz_world.proofs.frames.FreshPairs.{IsNew, IsGrown, fresh_at, end_of}
 use Rattle.ipcz_world.proofs.frames.FirstLink.{inv-grown}
 use Rattle.ipcz_world.proofs.runs.FirstNodes.{add_one, add_last, IsStart, bare_start, all_start, start, start_node, start_mail, start_word}
-use Rattle.ipcz_world.proofs.runs.FirstNodes.{length_last, total_none, total_plus, total_one, not_linked, not_spare, not_fresh}
-use Rattle.ipcz_world.proofs.runs.FirstNodes.{linked_no_spare, linked_no_fresh, not_opening, unclaimed_is, weight, Good}
+use Rattle.ipcz_world.proofs.runs.FirstNodes.{total_plus, total_one, not_linked, linked_no_spare, linked_no_fresh, not_opening}
+use Rattle.ipcz_world.proofs.runs.FirstNodes.{unclaimed_is, weight, Good}
 use Rattle.ipcz_world.proofs.facts.Tests.{not_both}
+use Rattle.ipcz_world.proofs.runs.Bare.{not_spare, not_fresh}
+use Rattle.ipcz_world.proofs.weights.Sums.{total_below-none}
+use Rattle.ipcz_world.proofs.facts.LinkTests.{same_end-tells}
 
 module _ (nodes words : ℕ) where
   -- what a node of the world is
@@ -82,8 +85,8 @@ module _ (nodes words : ℕ) where
   unfolding in_places' in_node' under_way
   no_places ps f g = omega (
     arith,
-    total_none nodes _ (λ n. node n),
-    total_none nodes _ (λ from. total_none nodes _ (λ to. ap (total_list (in_message f g)) (no_flow ps from to))),
+    total_below-none nodes _ (λ n. node n),
+    total_below-none nodes _ (λ from. total_below-none nodes _ (λ to. ap (total_list (in_message f g)) (no_flow ps from to))),
   )
     where
       node : (n : ℕ) → total (λ serial r. in_router f r) (node_at (start nodes words ps) n).routers + total_list (in_message f g)
@@ -193,7 +196,7 @@ module _ (nodes words : ℕ) where
       now_linked = rw itself refl
 
       count_after : length (ps ++ p ∷ []) ≡ pair + 1
-      count_after = length_last ps p
+      count_after = length-more ps p
 
       owned : (j : ℕ) → owner' j ≡ cond (nat_lt j (length (ps ++ p ∷ []))) Linked Unclaimed
       owned j = ap (λ o. cond (nat_eq j pair) Linked o) (b.owner j) ∙ go (nat_eq j pair) refl ∙ sym
@@ -317,7 +320,7 @@ module _ (nodes words : ℕ) where
       held_by m e h = elim (adds m) [
         | inl c ↦ elim (holds-with_ends e (end_of pair c.side ∷ []) (node_at before m).held (sym (ap (λ x. holds e x.held) c.is) ∙ h)) [
           | inl f ↦ inl f
-          | inr f ↦ let same : end_of pair c.side ≡ e = same_end-is (end_of pair c.side) e (grind (arith, f)) in
+          | inr f ↦ let same : end_of pair c.side ≡ e = same_end-tells (end_of pair c.side) e (grind (arith, f)) in
               inr (ap (λ d. terminal_node (terminal' d)) (sym same) ∙ ap terminal_node (new_terminal (end_of pair c.side) itself) ∙ ap Some
               (sym c.is_node))
         ]

@@ -20,18 +20,19 @@ use Rattle.ipcz_world.proofs.weights.OfRecords.{in_message, in_node, in_places}
 use Rattle.ipcz_base.specs.Totals.{total_below}
 use Rattle.ipcz_world.specs.Whereabouts.{Conserved, HeldOnce}
 use Rattle.ipcz_world.proofs.frames.Touching.{HasSameEnds, Hands}
-use Rattle.ipcz_world.proofs.flows.Flowing.{IsRewritten, under_way-rewritten, under_way-congr, total_below-same}
+use Rattle.ipcz_world.proofs.flows.Flowing.{IsRewritten, under_way-rewritten, under_way-congr}
 use Rattle.ipcz_world.proofs.frames.Opened.{OpenInv}
-use Rattle.ipcz_world.proofs.weights.Weighing.{in_places-is, in_message-item}
+use Rattle.ipcz_world.proofs.weights.Weighing.{in_places-is, in_message-item, in_message-same}
 use Rattle.ipcz_world.proofs.sends.Sending.{times_same}
 use Rattle.ipcz_world.proofs.sends.ExtendingAround.{next_key, extended, extended_records, IsGrown, IsExtend, other_link, source_same, stood}
 use Rattle.ipcz_world.proofs.sends.ExtendingStages.{nowhere_same, ordered-extended, stands-extended, words-extended, spares-extended}
 use Rattle.ipcz_world.proofs.sends.ExtendingStages.{bypasses-extended, stages-extended, terminals-extended}
 use Rattle.ipcz_world.proofs.sends.ExtendingLinks.{counts-extended, shape-extended, links-extended, positions-extended}
 use Rattle.ipcz_world.proofs.sends.ExtendingItems.{d, order-extended, proxy_numbers-extended}
-use Rattle.ipcz_world.proofs.sends.ExtendingFacts.{last_of, in_node-same, in_message-same}
+use Rattle.ipcz_world.proofs.sends.ExtendingFacts.{last_of, in_node-same}
 use Rattle.ipcz_world.proofs.sends.ExtendingPlaces.{came, items-extended, told-extended, descriptor_came, moves-extended}
 use Rattle.ipcz_world.proofs.sends.ExtendingPlaces.{fresh_numbers-extended, not_closed, end_places-extended, books_kept-extended}
+use Rattle.ipcz_world.proofs.weights.Totalling.{total_below-same}
 
 -- with the message that gets the descriptor
 module _ (w v : World) (b : Books) (g : Records) (q : Key) (r : Router) (a : ℕ) (law : OpenInv w b g) (is : IsExtend w q r a)

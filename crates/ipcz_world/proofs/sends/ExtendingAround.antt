@@ -6,11 +6,9 @@ use Rattle.std.proofs.Common.{arith, ap, ◌∙◌, inl, inr}
 use Rattle.std.proofs.lemmas.Bool.Decides.{nat_tests}
 use Rattle.ipcz_base.specs.declared.side.Side.{Side}
 use Rattle.ipcz_base.specs.declared.side.Side.TheVariants.{A, B}
-use Rattle.ipcz_base.specs.declared.end.End.{End}
 use Rattle.ipcz_base.specs.declared.link_id.LinkId.{LinkId}
 use Rattle.ipcz_base.specs.declared.link_id.LinkId.TheVariants.{Central, Peripheral}
 use Rattle.ipcz_base.specs.Links.{same_link, has_link}
-use Rattle.ipcz_base.specs.Ends.{same_end}
 use Rattle.ipcz_edge.specs.Edge.{Edge}
 use Rattle.ipcz_router.specs.Router.{Router, is_terminal}
 use Rattle.ipcz_router.specs.Calls.{extend, descriptor_of}
@@ -25,8 +23,8 @@ use Rattle.ipcz_world.specs.Standing.{key_passes}
 use Rattle.ipcz_world.proofs.frames.StandingRules.{standing_rules}
 use Rattle.ipcz_world.specs.Structure.{is_outward}
 use Rattle.ipcz_world.proofs.frames.Opened.{OpenInv}
-use Rattle.ipcz_world.proofs.views.Known.{same_link-tells, same_side-tells}
 use Rattle.ipcz_base.specs.declared.descriptor.Descriptor.{Descriptor}
+use Rattle.ipcz_world.proofs.facts.Lengths.{same_link-tells}
 
 -- the key of the next peripheral link of a node
 abbrev pub next_key : World → ℕ → Key
@@ -105,10 +103,6 @@ no_link_here l s h = cc
 pub is_nowhere-moving : (d : Descriptor) → is_nowhere (Moving d) ≡ false
 unfolding is_nowhere
 is_nowhere-moving d = refl
-
-pub same_end-tells : (d e : End) → same_end d e ≡ true → d ≡ e
-same_end-tells d e h = let p : d.pair ≡ e.pair = grind (arith, h, nat_tests) in let s : d.side ≡ e.side =
-    same_side-tells d.side e.side (grind (arith, h)) in λ i. record { pair = p i; side = s i }
 
 pub inner_end_is : (g : Records) (k : Key) (s : Side) → side_end g (inner_link k) s ≡ (g.peripheral k).end
 unfolding side_end

@@ -1,5 +1,5 @@
 -- Small facts that moving an end rests on: of descriptors, of lists of ends, and of what messages weigh.
-use Rattle.ipcz_world.specs.Places.{in_message as in_message', in_node as in_node', Weight, times}
+use Rattle.ipcz_world.specs.Places.{in_node as in_node', Weight}
 use Rattle.std.specs.Prelude.{◌≡◌, ◌≢◌, ◌⊎◌, ◌≤◌, ◌<◌, ◌+◌, ℕ, zero, suc, Bool, true, false, cond, nat_eq, Some, None, refl, List, [], ◌∷◌}
 use Rattle.std.specs.Prelude.{◌++◌, length, slice_get}
 use Rattle.std.specs.Ordering.{nat_cmp}
@@ -10,49 +10,25 @@ use Rattle.std.proofs.lemmas.Bool.Decides.{nat_tests}
 use Rattle.ipcz_base.specs.declared.side.Side.{Side}
 use Rattle.ipcz_base.specs.declared.side.Side.TheVariants.{A, B}
 use Rattle.ipcz_base.specs.declared.end.End.{End}
-use Rattle.ipcz_base.specs.declared.link_id.LinkId.{LinkId}
-use Rattle.ipcz_base.specs.declared.link_id.LinkId.TheVariants.{Central}
 use Rattle.ipcz_base.specs.declared.descriptor.Descriptor.{Descriptor}
 use Rattle.ipcz_base.specs.declared.item.Item.{Item}
 use Rattle.ipcz_base.specs.declared.message.Message.{Message}
-use Rattle.ipcz_base.specs.declared.message.Message.TheVariants as messages
 use Rattle.ipcz_base.specs.Sides.{same_side}
 use Rattle.ipcz_base.specs.Links.{is_central}
-use Rattle.ipcz_base.specs.Ends.{same_end, has_end, opposite_end}
+use Rattle.ipcz_base.specs.Ends.{same_end, opposite_end}
 use Rattle.ipcz_seq.specs.Queue.{item_at}
 use Rattle.ipcz_router.specs.Router.{Router}
 use Rattle.ipcz_world.specs.World.{World, Key, router_at, set_router}
 use Rattle.ipcz_node.specs.Node.{Node}
-use Rattle.ipcz_world.specs.Records.{Records, At, Moving, is_begun, bypass_of, inner_link, side_node, proxy_side, across_side}
-use Rattle.ipcz_world.specs.Records.{terminal_node, terminal_descriptor, key_at}
-use Rattle.ipcz_world.proofs.weights.OfRecords.{source, in_message, in_node, in_places}
+use Rattle.ipcz_world.specs.Records.{Records, Moving, inner_link, terminal_descriptor, key_at}
+use Rattle.ipcz_world.proofs.weights.OfRecords.{in_message, in_node, in_places}
 use Rattle.ipcz_world.specs.Flows.{IsUnderWay}
 use Rattle.ipcz_base.specs.Totals.{total_list}
-use Rattle.ipcz_world.specs.Bypasses.{of_bypass, control_weight, inner_of, moving_link}
+use Rattle.ipcz_world.specs.Bypasses.{moving_link}
 use Rattle.ipcz_world.proofs.flows.Flowing.{same_way}
 use Rattle.ipcz_world.proofs.weights.Weighing.{in_router-is, in_places-set_router, in_places-has, still_under_way}
 use Rattle.ipcz_base.proofs.Totals.{total-remove}
 use Rattle.ipcz_world.proofs.sends.ExtendingItems.{h, d}
-
-pub about-same : (g h : Records) (o : ℕ) (f : Message → ℕ) (m : Message) → ((l : LinkId) → bypass_of h l ≡ bypass_of g l) →
-    of_bypass h o f m ≡ of_bypass g o f m
-unfolding of_bypass
-about-same g h o f (messages.Item l s n x ms) e = refl
-about-same g h o f (messages.BypassPeer l s old t c) e = refl
-about-same g h o f (messages.AcceptBypass old s c len) e = refl
-about-same g h o f (messages.StopProxying old s a b) e = refl
-about-same g h o f (messages.ProxyWillStop l s a) e = grind (arith, e l)
-about-same g h o f (messages.Flush l s) e = refl
-
-pub expected-alike : (g h : Records) (f : ℕ → ℕ → Message → ℕ) (o : ℕ) → h.bypass o ≡ g.bypass o →
-    side_node h (inner_of g o) B ≡ side_node g (inner_of g o) B → proxy_side h o ≡ proxy_side g o →
-    ((z : Side) → side_node h (Central o) z ≡ side_node g (Central o) z) → control_weight h f o ≡ control_weight g f o
-unfolding control_weight
-expected-alike g h f o same node side old = grind (arith, same, node, side, old (across_side g o))
-
-pub expected-none : (g : Records) (f : ℕ → ℕ → Message → ℕ) (o : ℕ) → is_begun (g.bypass o) ≡ false → control_weight g f o ≡ 0
-unfolding control_weight
-expected-none g f o e = grind (arith, e, nat_tests)
 
 pub last_of : (ds : List Descriptor) (d c : Descriptor) (j : ℕ) → slice_get (ds ++ d ∷ []) j ≡ Some c → (slice_get ds j ≡ Some c) ⊎ (c ≡ d)
 last_of [] d c zero e = inr (grind (arith, e))
@@ -88,21 +64,9 @@ pub in_middle : (pre post : List Message) (m : Message) → slice_get (pre ++ m 
 in_middle [] post m = refl
 in_middle (x ∷ pre) post m = in_middle pre post m
 
-pub has_times : (e : End) (ds : List End) → has_end e ds ≡ true → 1 ≤ times e ds
-has_times e [] h = cc
-has_times e (d ∷ ds) h = go (same_end d e) refl (λ f. has_times e ds f)
-  where
-    go : (c : Bool) → same_end d e ≡ c → (has_end e ds ≡ true → 1 ≤ times e ds) → 1 ≤ cond (same_end d e) 1 0 + times e ds
-    go true c again = grind (arith, c)
-    go false c again = let f = again (grind (arith, c, h)) in omega (arith, f)
-
 pub one_or_none : (c : Bool) (n : ℕ) → n ≡ cond c 0 1 → n ≤ 1
 one_or_none true n e = omega (arith, e)
 one_or_none false n e = omega (arith, e)
-
-pub terminal_node-at : (q : Key) → terminal_node (At q) ≡ Some q.node
-unfolding terminal_node
-terminal_node-at q = refl
 
 pub two_ways : (m a b : ℕ) → a ≢ b → same_way m m a b ≡ false
 two_ways m a b ne = go (nat_eq m a) (nat_eq m b) refl refl
@@ -115,17 +79,6 @@ two_ways m a b ne = go (nat_eq m a) (nat_eq m b) refl refl
 pub in_node-same : (f : Weight) (g h : Records) (n : Node) → n.strays ≡ [] → in_node f h n ≡ in_node f g n
 unfolding in_node'
 in_node-same f g h n e = omega (arith, ap (total_list (in_message f h)) e, ap (total_list (in_message f g)) e)
-
-pub in_message-same : (f : Weight) (g h : Records) (m : Message) →
-    ((x : LinkId) (c : Side) (j : ℕ) (z : Item) (ds : List Descriptor) → m ≡ messages.Item x c j z ds → source h x c ≡ source g x c) →
-    in_message f h m ≡ in_message f g m
-unfolding in_message'
-in_message-same f g h (messages.Item l s n x ms) e = ap (λ d. f d n x) (e l s n x ms refl)
-in_message-same f g h (messages.BypassPeer l s old t c) e = refl
-in_message-same f g h (messages.AcceptBypass old s c len) e = refl
-in_message-same f g h (messages.StopProxying old s a b) e = refl
-in_message-same f g h (messages.ProxyWillStop l s a) e = refl
-in_message-same f g h (messages.Flush l s) e = refl
 
 -- an item in a queue and a message under way weigh together
 pub in_two_out : (w : World) (g : Records) (f : Weight) (x : Key) (z : Router) (from to i : ℕ) (m : Message) (n : ℕ) (item : Item) →

@@ -34,20 +34,24 @@ use Rattle.ipcz_world.specs.Places.{Weight, at_end, from_number}
 use Rattle.ipcz_world.specs.Bypasses.{of_bypass, control_weight, inner_of, moving_link}
 use Rattle.ipcz_world.specs.Whereabouts.{Conserved}
 use Rattle.ipcz_world.specs.Numbers.{Order, ProxyNumbers, has_passed}
-use Rattle.ipcz_world.proofs.views.Seen.{stands_at, view_by-known, view_by-unknown, view-apart}
+use Rattle.ipcz_world.proofs.views.Seen.{view_by-known, view_by-unknown, view-apart}
 use Rattle.ipcz_world.proofs.frames.Draining.{next_sent-standing, taking_queue-standing, view_rules}
 use Rattle.ipcz_world.proofs.flows.Fitting.{ItemFits}
 use Rattle.ipcz_world.proofs.frames.Opened.{OpenInv}
-use Rattle.ipcz_world.proofs.weights.Weighing.{in_router-is, same_end-itself, of_number, in_places-set_router}
+use Rattle.ipcz_world.proofs.weights.Weighing.{in_router-is, of_number, in_places-set_router}
 use Rattle.ipcz_base.proofs.Totals.{total-remove}
-use Rattle.ipcz_world.proofs.sends.SendingOut.{has_link-end, bypass_of-central_is}
+use Rattle.ipcz_world.proofs.sends.SendingOut.{has_link-end}
 use Rattle.ipcz_world.proofs.flows.Awaited.{no_router}
 use Rattle.ipcz_world.proofs.facts.Reaching.{is_reach}
 use Rattle.ipcz_world.proofs.sends.ExtendingAround.{next_key, extended, extended_records, IsGrown, IsExtend, other_link, recorded_more}
 use Rattle.ipcz_world.proofs.sends.ExtendingAround.{recorded_back, router_same, node_same, end_same, bypass_same, side_same, stood}
-use Rattle.ipcz_world.proofs.sends.ExtendingAround.{same_end-tells, no_inward, no_by, inner_end_is, stage_begun}
+use Rattle.ipcz_world.proofs.sends.ExtendingAround.{no_inward, no_by, inner_end_is, stage_begun}
 use Rattle.ipcz_world.proofs.sends.ExtendingStages.{not_begun}
-use Rattle.ipcz_world.proofs.hands.MaterializingAround.{at_waits, same_some}
+use Rattle.ipcz_world.proofs.hands.MaterializingAround.{at_waits}
+use Rattle.ipcz_world.proofs.facts.BegunLengths.{bypass_of-central_is}
+use Rattle.ipcz_world.proofs.facts.Lengths.{view-standing}
+use Rattle.ipcz_world.proofs.facts.Tests.{same_some}
+use Rattle.ipcz_world.proofs.facts.LinkTests.{same_end-itself, same_end-tells}
 
 pub same_link-turned : (l m : LinkId) → same_link m l ≡ same_link l m
 same_link-turned (Central i) (Central j) = grind (arith, nat_tests)
@@ -72,7 +76,7 @@ pub awaited-central : (i : ℕ) (c e : Option Descriptor) → awaited_view (Cent
 unfolding awaited_view
 awaited-central i c e = refl
 
-awaited-inner : (k : Key) (d : Descriptor) → awaited_view (inner_link k) (terminal_descriptor (Moving d)) ≡ Waiting d
+pub awaited-inner : (k : Key) (d : Descriptor) → awaited_view (inner_link k) (terminal_descriptor (Moving d)) ≡ Waiting d
 unfolding awaited_view terminal_descriptor
 awaited-inner k d = refl
 
@@ -278,9 +282,9 @@ module _ (w v : World) (b : Books) (g : Records) (q : Key) (r : Router) (a : ℕ
           (view v h link s ≡ view w g link s) ⊎ IsSwappedFor w v g h r y link s
       standing_at x f true c true e = let k : x ≡ q = grind (arith, c, same_key_tells x q) in
           inr (record {
-            old = stands_at w g link s q r (f ∙ ap Some k) is.here e;
+            old = view-standing w g link s q r (f ∙ ap Some k) is.here e;
             new =
-                stands_at v h link s q y (known ∙ f ∙ ap Some k) (t.router q ∙ grind (arith, same_key-itself q)) (same_att ∙ e);
+                view-standing v h link s q y (known ∙ f ∙ ap Some k) (t.router q ∙ grind (arith, same_key-itself q)) (same_att ∙ e);
           })
       standing_at x f true c false e = let k : x ≡ q = grind (arith, c, same_key_tells x q) in
           inl (ap (view_by v h link s) (known ∙ f) ∙ view_by-known v h link s x ∙ ap (router_view link s) (t.router x ∙ grind (arith, c)) ∙
@@ -337,7 +341,7 @@ module _ (w v : World) (b : Books) (g : Records) (q : Key) (r : Router) (a : ℕ
 
   -- the new link's sides
   new_proxy : view v h (inner_link p) A ≡ Standing y
-  new_proxy = stands_at v h (inner_link p) A q y (side_router-proxy h p ∙ grind (arith, same_key-itself p))
+  new_proxy = view-standing v h (inner_link p) A q y (side_router-proxy h p ∙ grind (arith, same_key-itself p))
       (t.router q ∙ grind (arith, same_key-itself q)) (attached_new w q r a)
 
   new_inner : view v h (inner_link p) B ≡ Waiting d

@@ -16,10 +16,10 @@ use Rattle.ipcz_world.proofs.frames.RecordRules.{side_node-inner}
 use Rattle.ipcz_world.specs.Structure.{Counts, Shape, Links, IsRecorded, Positions, is_outward, link_in}
 use Rattle.ipcz_world.proofs.frames.Touching.{Hands}
 use Rattle.ipcz_world.proofs.frames.Opened.{OpenInv}
-use Rattle.ipcz_world.proofs.sends.SendingOut.{bypass_of-central_is}
 use Rattle.ipcz_world.proofs.sends.ExtendingAround.{next_key, extended, extended_records, IsGrown, IsExtend, is_outward-A, no_inward}
 use Rattle.ipcz_world.proofs.sends.ExtendingAround.{other_link, recorded_more, recorded_new, recorded_back, router_same, node_same}
 use Rattle.ipcz_world.proofs.sends.ExtendingAround.{end_same, no_by, by_same, bypass_same, side_same, stood}
+use Rattle.ipcz_world.proofs.facts.BegunLengths.{bypass_of-central_is}
 
 module _ {w v : World} {b : Books} {g : Records} {q : Key} {r : Router} {a : ℕ} (law : OpenInv w b g) (is : IsExtend w q r a)
     (t : IsGrown w v q (extended w q r a)) where

@@ -38,18 +38,21 @@ use Rattle.ipcz_world.proofs.flows.Fitting.{fits_of, items_by}
 use Rattle.ipcz_world.proofs.flows.Flowing.{IsRewritten, came_rewritten, made_still, under_way-rewritten, under_way-congr, weighed}
 use Rattle.ipcz_world.proofs.flows.Flowing.{weighed-two, total_below-has}
 use Rattle.ipcz_world.proofs.frames.Opened.{OpenInv, OpenMoves}
-use Rattle.ipcz_world.proofs.weights.Weighing.{same_end-itself, in_places-is, in_places-has, in_message-item}
+use Rattle.ipcz_world.proofs.weights.Weighing.{in_places-is, in_places-has, in_message-item}
 use Rattle.ipcz_world.proofs.sends.Sending.{about-item, moves-item}
 use Rattle.ipcz_world.proofs.sends.ExtendingAround.{next_key, extended, extended_records, IsGrown, IsExtend, other_link, other_key}
 use Rattle.ipcz_world.proofs.sends.ExtendingAround.{inner_one, recorded_more, recorded_new, recorded_back, router_same, node_same, end_same}
-use Rattle.ipcz_world.proofs.sends.ExtendingAround.{bypass_same, side_same, stood, same_end-tells, inner_end_is, one_begun}
+use Rattle.ipcz_world.proofs.sends.ExtendingAround.{bypass_same, side_same, stood, inner_end_is, one_begun}
 use Rattle.ipcz_world.proofs.sends.ExtendingItems.{makes-more, same_item, of_peer, about-peer, expected-peer, d, at_end_is, other_terminal}
 use Rattle.ipcz_world.proofs.sends.ExtendingItems.{seen_extended, length_same, fits-extended}
-use Rattle.ipcz_world.proofs.hands.MaterializingAround.{same_some}
-use Rattle.ipcz_world.proofs.hands.MaterializingItems.{expected_move-at, expected_move-moving}
-use Rattle.ipcz_world.proofs.sends.ExtendingFacts.{about-same, expected-alike, expected-none, last_of, total-append, central-inner}
-use Rattle.ipcz_world.proofs.sends.ExtendingFacts.{key_at-none, moving_link-moving, same_end-turned, in_middle, has_times, one_or_none}
-use Rattle.ipcz_world.proofs.sends.ExtendingFacts.{terminal_node-at, two_ways, in_two_out, in_two_in}
+use Rattle.ipcz_world.proofs.sends.ExtendingFacts.{last_of, total-append, central-inner, key_at-none, moving_link-moving, same_end-turned}
+use Rattle.ipcz_world.proofs.sends.ExtendingFacts.{in_middle, one_or_none, two_ways, in_two_out, in_two_in}
+use Rattle.ipcz_world.proofs.frames.FreshPairs.{terminal_node-at, expected_none, expected_alike, about_same}
+use Rattle.ipcz_world.proofs.flows.Awaited.{expected_move-moving}
+use Rattle.ipcz_world.proofs.weights.Booking.{expected_move-at}
+use Rattle.ipcz_world.proofs.weights.Holding.{times-has}
+use Rattle.ipcz_world.proofs.facts.Tests.{same_some}
+use Rattle.ipcz_world.proofs.facts.LinkTests.{same_end-itself, same_end-tells}
 
 -- with the message that gets the descriptor
 module _ {w v : World} {b : Books} {g : Records} {q : Key} {r : Router} {a : ℕ} (law : OpenInv w b g) (is : IsExtend w q r a)
@@ -121,7 +124,7 @@ module _ {w v : World} {b : Books} {g : Records} {q : Key} {r : Router} {a : ℕ
     control = λ o f. let u = under_way-rewritten (λ from to. of_bypass h2 o (f from to)) w v q.node a pre post m0 m1 p in
         let same : under_way (λ from to. of_bypass h2 o (f from to)) w ≡ under_way (λ from to. of_bypass g o (f from to)) w =
         under_way-congr (λ from to. of_bypass h2 o (f from to)) (λ from to. of_bypass g o (f from to)) w
-        (λ from to i m c. about-same g h2 o (f from to) m (bypass_same law is t)) in
+        (λ from to i m c. about_same g h2 o (f from to) m (bypass_same law is t)) in
         omega (
           arith,
           u,
@@ -159,9 +162,9 @@ module _ {w v : World} {b : Books} {g : Records} {q : Key} {r : Router} {a : ℕ
           go : (c : Bool) → is_begun (g.bypass o) ≡ c → control_weight h2 f o ≡ control_weight g f o
           go true e = let n1 = node_same law is t (inner_of g o) B
               (other_link law is t (inner_of g o) (law.bypasses.inner o e)) in let sd =
-              side_same law is t o e in expected-alike g h2 f o refl n1 sd
+              side_same law is t o e in expected_alike g h2 f o refl n1 sd
               (λ z. node_same law is t (Central o) z refl)
-          go false e = expected-none h2 f o e ∙ sym (expected-none g f o e)
+          go false e = expected_none h2 f o e ∙ sym (expected_none g f o e)
 
   -- a descriptor is one of before, or the new one
   pub descriptor_came : (from to i j : ℕ) (x : Message) (c : Descriptor) → IsUnderWay v from to i x → slice_get (moves_of x) j ≡ Some c →
@@ -294,7 +297,7 @@ module _ {w v : World} {b : Books} {g : Records} {q : Key} {r : Router} {a : ℕ
   }
 
   names_one : 1 ≤ in_message (names_end r.end) g m0
-  names_one = omega (arith, in_message-item (names_end r.end) g l s n item moves, has_times r.end (ends_in item) named)
+  names_one = omega (arith, in_message-item (names_end r.end) g l s n item moves, times-has r.end (ends_in item) named)
 
   at_most_one : in_places (names_end r.end) g w + (times_held w r.end + times_closed b r.end) ≤ 1
   at_most_one = one_or_none (is_nowhere (g.terminal r.end)) (in_places (names_end r.end) g w + (times_held w r.end + times_closed b r.end))
@@ -337,13 +340,13 @@ module _ {w v : World} {b : Books} {g : Records} {q : Key} {r : Router} {a : ℕ
       has_end r.end (ends_in i) ≡ true → ⊥
   not_queued_out x z m i at f has =
       let two = in_two_out w g (names_end r.end) x z q.node a (length pre) m0 m i (law.counts.on_node x z at) at at_message f in
-      omega (arith, two, names_one, at_most_one, has_times r.end (ends_in i) has)
+      omega (arith, two, names_one, at_most_one, times-has r.end (ends_in i) has)
 
   not_queued_in : (x : Key) (z : Router) (m : ℕ) (i : Item) → router_at w x ≡ Some z → item_at z.in_queue m ≡ Some i →
       has_end r.end (ends_in i) ≡ true → ⊥
   not_queued_in x z m i at f has =
       let two = in_two_in w g (names_end r.end) x z q.node a (length pre) m0 m i (law.counts.on_node x z at) at at_message f in
-      omega (arith, two, names_one, at_most_one, has_times r.end (ends_in i) has)
+      omega (arith, two, names_one, at_most_one, times-has r.end (ends_in i) has)
 
   not_within : (m i : ℕ) (x : LinkId) (u : Side) (j : ℕ) (z : Item) (ds : List Descriptor) → IsUnderWay w m m i (messages.Item x u j z ds) →
       has_end r.end (ends_in z) ≡ true → ⊥
@@ -355,7 +358,7 @@ module _ {w v : World} {b : Books} {g : Records} {q : Key} {r : Router} {a : ℕ
         two,
         names_one,
         at_most_one,
-        has_times r.end (ends_in z) has,
+        times-has r.end (ends_in z) has,
         in_message-item (names_end r.end) g x u j z ds,
         in_places-is (names_end r.end) g w,
       )
@@ -367,7 +370,7 @@ module _ {w v : World} {b : Books} {g : Records} {q : Key} {r : Router} {a : ℕ
         (omega (arith, holds_times r.end (node_at w m).held (subst (λ e. holds e (node_at w m).held ≡ true) z f))));
     pending = λ m e has. let f = subst (λ c. has_end e c ≡ true) (ends.pending m) has in let k = law.end_places.pending m e f in
         term_kept e m k (λ z. not_held m (ap (λ e. terminal_node (g.terminal e)) (sym z) ∙ k)
-        (omega (arith, has_times r.end (node_at w m).pending (subst (λ e. has_end e (node_at w m).pending ≡ true) z f))));
+        (omega (arith, times-has r.end (node_at w m).pending (subst (λ e. has_end e (node_at w m).pending ≡ true) z f))));
     out = λ x z m i e at f has. let u = same_queues x z at in let o = ap (λ c. item_at c m) (sym u.2) ∙ f in
         term_kept e x.node (law.end_places.out x u.0 m i e u.1 o has)
         (λ y. not_queued_out x u.0 m i u.1 o (subst (λ e. has_end e (ends_in i) ≡ true) y has));

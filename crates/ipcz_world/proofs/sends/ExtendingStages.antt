@@ -23,12 +23,12 @@ use Rattle.ipcz_world.specs.Structure.{Ordered, Stands, Words, Spares, is_begun_
 use Rattle.ipcz_world.specs.Bypasses.{BypassRecords, Stages, inner_of, fresh_of}
 use Rattle.ipcz_world.specs.Whereabouts.{Terminals}
 use Rattle.ipcz_world.proofs.frames.Opened.{OpenInv}
-use Rattle.ipcz_world.proofs.weights.Weighing.{same_end-itself}
 use Rattle.ipcz_world.proofs.sends.SendingOut.{has_link-end}
 use Rattle.ipcz_world.proofs.sends.ExtendingAround.{next_key, extended, extended_records, IsGrown, IsExtend, inner_one, two_begun}
-use Rattle.ipcz_world.proofs.sends.ExtendingAround.{one_begun, stage_begun, no_link_here, is_nowhere-moving, same_end-tells, inner_end_is}
-use Rattle.ipcz_world.proofs.sends.ExtendingAround.{no_inward, other_link, other_key, recorded_more, recorded_back, router_same, node_same}
-use Rattle.ipcz_world.proofs.sends.ExtendingAround.{end_same, by_same, side_same, stood, passes_kept, passes_equal}
+use Rattle.ipcz_world.proofs.sends.ExtendingAround.{one_begun, stage_begun, no_link_here, is_nowhere-moving, inner_end_is, no_inward}
+use Rattle.ipcz_world.proofs.sends.ExtendingAround.{other_link, other_key, recorded_more, recorded_back, router_same, node_same, end_same}
+use Rattle.ipcz_world.proofs.sends.ExtendingAround.{by_same, side_same, stood, passes_kept, passes_equal}
+use Rattle.ipcz_world.proofs.facts.LinkTests.{same_end-itself, same_end-tells}
 
 module _ {w v : World} {b : Books} {g : Records} {q : Key} {r : Router} {a : ℕ} (law : OpenInv w b g) (is : IsExtend w q r a)
     (t : IsGrown w v q (extended w q r a)) where

@@ -1,6 +1,6 @@
 -- Each end of an item that is sent to another node has its terminal there, so a send that moves terminals keeps all that holds.
-use Rattle.std.specs.Prelude.{◌+◌, not, ◌≡◌, ◌≢◌, ◌≤◌, ℕ, Bool, true, false, cond, ◌&&◌, nat_eq, Option, Some, None, refl, List, []}
-use Rattle.std.specs.Prelude.{◌∷◌, ◌++◌, map}
+use Rattle.std.specs.Prelude.{◌+◌, not, ◌≡◌, ◌≢◌, ◌≤◌, ℕ, Bool, true, false, cond, ◌&&◌, nat_eq, Option, Some, None, refl, List, [], ◌∷◌}
+use Rattle.std.specs.Prelude.{◌++◌, map}
 use Rattle.std.specs.Cmp.{nat_cmp_total}
 use Rattle.std.specs.FinMap.{get, insert, get-insert}
 use Rattle.std.proofs.Common.{arith, ap, subst, ◌∙◌, sym}
@@ -25,12 +25,15 @@ use Rattle.ipcz_world.specs.Standing.{key_passes, passes}
 use Rattle.ipcz_world.specs.Inv.{Inv}
 use Rattle.ipcz_world.proofs.frames.Opened.{OpenInv, opened}
 use Rattle.ipcz_world.proofs.facts.Finding.{IsTerminalOf, found_there, terminal_tells}
-use Rattle.ipcz_world.proofs.weights.Weighing.{same_end-itself}
-use Rattle.ipcz_world.proofs.weights.Booking.{same_end-is, in_router-within, and_first, and_second}
+use Rattle.ipcz_world.proofs.weights.Booking.{in_router-within}
 use Rattle.ipcz_world.proofs.sends.Sending.{IsSend}
 use Rattle.ipcz_world.proofs.sends.MovingEnds.{posted_world, first_end, later_end}
 use Rattle.ipcz_world.proofs.sends.SendingMoves.{before_moves, AreMoved, inv-send_moves}
 use Rattle.ipcz_world.proofs.weights.Holding.{times-has}
+use Rattle.std.proofs.lemmas.Bool.{and_from}
+use Rattle.ipcz_world.proofs.facts.Tests.{and_first, and_second}
+use Rattle.ipcz_world.proofs.frames.Calling.{cond_most}
+use Rattle.ipcz_world.proofs.facts.LinkTests.{same_end-itself, same_end-tells}
 
 -- each of these ends has its open terminal in the node
 abbrev pub HasTerminals : Node → List End → Type 0
@@ -60,10 +63,6 @@ pub move_found-some : (m : Transfer) (to : ℕ) (f : Found) → move_found m to 
 unfolding move_found
 move_found-some m to f = refl
 
-pub both : (a b : Bool) → a ≡ true → b ≡ true → (a && b) ≡ true
-both true b e f = f
-both false b e f = cc
-
 -- another router under a serial leaves the terminals of other serials
 pub terminals-insert : (n : Node) (s : ℕ) (r y : Router) (es : List End) (x : Node) → x.routers ≡ insert n.routers s y →
     get n.routers s ≡ Some r → HasTerminals n es → ((e : End) → has_end e es ≡ true → r.end ≡ e → is_terminal r ≡ true → r.closed ≡ false →
@@ -91,7 +90,7 @@ moved_all m to [] has once = moves_none m.moves
 moved_all m to (e ∷ es) has once =
     let t = has e (first_end e es) in
     let f = found_there m.node (is_terminal_of e) t.0 t.1 t.2.here
-    (both (is_open_terminal t.1) (same_end t.1.end e) (both (is_terminal t.1) (not t.1.closed) t.2.terminal (ap not t.3))
+    (and_from (is_open_terminal t.1) (same_end t.1.end e) (and_from (is_terminal t.1) (not t.1.closed) t.2.terminal (ap not t.3))
     (ap (λ d. same_end d e) t.2.end ∙ same_end-itself e)) in
     go f.0 f.1 (λ x h o. moved_all x to es h o)
   where
@@ -129,10 +128,6 @@ router_in_node : (w : World) (q : Key) (n : ℕ) (r : Router) → router_at w q 
 unfolding router_at
 router_in_node w q n r h e = subst (λ m. get (node_at w m).routers q.serial ≡ Some r) e h
 
-one_or_none : (c : Bool) → cond c 0 1 ≤ 1
-one_or_none true = omega arith
-one_or_none false = omega arith
-
 -- the ends whose terminals are at a node have them there
 pub has_terminals : (w : World) (b : Books) (g : Records) (n : ℕ) (es : List End) → OpenInv w b g →
     ((e : End) → has_end e es ≡ true → terminal_node (g.terminal e) ≡ Some n) → ((e : End) → has_end e es ≡ true → is_closed b e ≡ false) →
@@ -141,7 +136,7 @@ has_terminals w b g n es law at unclosed e h =
     let q = terminal_at (g.terminal e) n (at e h) in let r = passes_tells w q.0 (λ r. is_terminal r && same_end r.end e)
     (law.terminals.stands e q.0 q.1) in
     let lone = and_first (is_terminal r.0) (same_end r.0.end e) r.2 in let end =
-    same_end-is r.0.end e (and_second (is_terminal r.0) (same_end r.0.end e) r.2) in (
+    same_end-tells r.0.end e (and_second (is_terminal r.0) (same_end r.0.end e) r.2) in (
       q.0.serial,
       r.0,
       record { here = router_in_node w q.0 n r.0 r.1 q.2; terminal = lone; end = end },
@@ -151,7 +146,7 @@ has_terminals w b g n es law at unclosed e h =
 -- an item that weighs no more than all names no end twice
 pub ends_once : (w : World) (b : Books) (g : Records) (item : Item) → OpenInv w b g →
     ((e : End) → times e (ends_in item) ≤ in_places (names_end e) g w) → AreOnce (ends_in item)
-ends_once w b g item law low e = omega (arith, low e, law.held_once.once e, one_or_none (is_nowhere (g.terminal e)))
+ends_once w b g item law low e = omega (arith, low e, law.held_once.once e, cond_most (is_nowhere (g.terminal e)))
 
 flag_off : (c : Bool) (n : ℕ) → 1 ≤ n → n + cond c 1 0 ≤ 1 → c ≡ false
 flag_off true n l h = absurd (omega (arith, l, h))
@@ -161,7 +156,7 @@ flag_off false n l h = refl
 pub ends_unclosed : (w : World) (b : Books) (g : Records) (item : Item) → OpenInv w b g →
     ((e : End) → times e (ends_in item) ≤ in_places (names_end e) g w) → (e : End) → has_end e (ends_in item) ≡ true → is_closed b e ≡ false
 ends_unclosed w b g item law low e h = flag_off (is_closed b e) (times e (ends_in item)) (times-has e (ends_in item) h)
-    (omega (arith, low e, law.held_once.once e, one_or_none (is_nowhere (g.terminal e))))
+    (omega (arith, low e, law.held_once.once e, cond_most (is_nowhere (g.terminal e))))
 
 -- each end of an item that is sent has its terminal here, and none stands twice
 pub ends_here : (w : World) (b : Books) (g : Records) (k : Key) (r y : Router) (link : LinkId) (s : Side) (to n : ℕ) (item : Item) →

@@ -16,30 +16,20 @@ use Rattle.ipcz_node.specs.Node.{Node, Found, outbox, push_out, terminal_of}
 use Rattle.ipcz_base.specs.Items.{ends_in}
 use Rattle.ipcz_node.specs.Sends.{Transfer, move_end, move_ends, move_found, move_router}
 use Rattle.ipcz_world.specs.World.{World, Key, node_at, router_at, set_node}
-use Rattle.ipcz_world.proofs.frames.Frames.{node-set_node, count-set_node}
+use Rattle.ipcz_world.proofs.frames.Frames.{count-set_node}
 use Rattle.ipcz_world.specs.Books.{Books}
 use Rattle.ipcz_world.specs.Records.{Records, Moving as IsMoving, set_terminal, set_peripheral, inner_link}
 use Rattle.ipcz_world.specs.Remembering.{found_records, moves_records, move_records}
 use Rattle.ipcz_world.proofs.frames.Opened.{OpenInv}
 use Rattle.ipcz_world.proofs.facts.Finding.{terminal_tells}
-use Rattle.ipcz_world.proofs.weights.Weighing.{same_end-itself}
 use Rattle.ipcz_world.proofs.sends.ExtendingAround.{next_key, extended_records, IsExtend}
 use Rattle.ipcz_world.proofs.sends.ExtendingNodes.{extend_act, extended_node, inv-extend}
-use Rattle.ipcz_world.proofs.calls.Opening.{put_twice}
-
-set_twice : (w : World) (n : ℕ) (x y : Node) → set_node (set_node w n x) n y ≡ set_node w n y
-unfolding set_node
-set_twice w n x y = ap (λ ns. record w { nodes = ns }) (put_twice _ w.nodes n x y)
-
-node_there : (w : World) (n : ℕ) (x : Node) → node_at (set_node w n x) n ≡ x
-node_there w n x = node-set_node w n x n ∙ here
-  where
-    here : cond (nat_eq n n) x (node_at w n) ≡ x
-    here = grind (arith, nat_tests)
+use Rattle.ipcz_world.proofs.acts.Updating.{node-here, set-twice, put-twice}
+use Rattle.ipcz_world.proofs.facts.LinkTests.{same_end-itself}
 
 router_there : (w : World) (n s : ℕ) (x : Node) → router_at (set_node w n x) (record { node = n; serial = s }) ≡ get x.routers s
 unfolding router_at
-router_there w n s x = ap (λ z. get z.routers s) (node_there w n x)
+router_there w n s x = ap (λ z. get z.routers s) (node-here w n x)
 
 box_there : (x : Node) (a : ℕ) (m : Message) → outbox (push_out x a m) a ≡ outbox x a ++ m ∷ []
 box_there x a m = place_at-put_place [] x.outboxes a (outbox x a ++ m ∷ []) a ∙ here
@@ -71,14 +61,14 @@ module _ (w : World) (b : Books) (n a : ℕ) (l : LinkId) (s : Side) (number : �
       (m.moves ++ descriptor_of f.router (inner_link (record { node = n; serial = m.node.next_peripheral })) ∷ []) ∷ []) ≡
       posted_node a l s number item (move_router m a f.serial f.router)
   step_node m f at =
-      rw (node_there w n (posted_node a l s number item m), ← at)
+      rw (node-here w n (posted_node a l s number item m), ← at)
       (ap (λ o. record (posted_node a l s number item (move_router m a f.serial f.router)) { outboxes = o })
-      (put_twice [] m.node.outboxes a (outbox m.node a ++ messages.Item l s number item m.moves ∷ [])
+      (put-twice [] m.node.outboxes a (outbox m.node a ++ messages.Item l s number item m.moves ∷ [])
       (outbox m.node a ++ messages.Item l s number item (m.moves ++ descriptor_of f.router
       (inner_link (record { node = m.node.number; serial = m.node.next_peripheral })) ∷ []) ∷ [])))
 
   keys : (m : Transfer) → next_key (posted_world w n a l s number item m) n ≡ record { node = n; serial = m.node.next_peripheral }
-  keys m = ap (λ z. record { node = n; serial = z.next_peripheral }) (node_there w n (posted_node a l s number item m))
+  keys m = ap (λ z. record { node = n; serial = z.next_peripheral }) (node-here w n (posted_node a l s number item m))
 
   step_world : (m : Transfer) (f : Found) → m.node.number ≡ n →
       extend_act (posted_world w n a l s number item m) (record { node = n; serial = f.serial }) f.router a
@@ -88,7 +78,7 @@ module _ (w : World) (b : Books) (n a : ℕ) (l : LinkId) (s : Side) (number : �
   step_world m f at =
       ap (λ k. extend_act (posted_world w n a l s number item m) (record { node = n; serial = f.serial }) f.router a
       (outbox m.node a ++ messages.Item l s number item (m.moves ++ descriptor_of f.router (inner_link k) ∷ []) ∷ [])) (keys m) ∙
-      set_twice w n (posted_node a l s number item m) (extended_node (posted_world w n a l s number item m)
+      set-twice w n (posted_node a l s number item m) (extended_node (posted_world w n a l s number item m)
       (record { node = n; serial = f.serial }) f.router a (outbox m.node a ++ messages.Item l s number item
       (m.moves ++ descriptor_of f.router (inner_link (record { node = n; serial = m.node.next_peripheral })) ∷ []) ∷ [])) ∙
       ap (set_node w n) (step_node m f at)
@@ -122,7 +112,7 @@ module _ (w : World) (b : Books) (n a : ℕ) (l : LinkId) (s : Side) (number : �
             subst (λ c. a < c) (sym (count-set_node w n (posted_node a l s number item m))) within;
       } in
       let box : outbox (node_at (posted_world w n a l s number item m) n) a ≡ outbox m.node a ++ messages.Item l s number item m.moves ∷ []
-      = ap (λ x. outbox x a) (node_there w n (posted_node a l s number item m)) ∙ box_there m.node a
+      = ap (λ x. outbox x a) (node-here w n (posted_node a l s number item m)) ∙ box_there m.node a
       (messages.Item l s number item m.moves) in
       let res = inv-extend (posted_world w n a l s number item m) b g q f.router a law is l s number item m.moves (outbox m.node a) box away
       (ap (λ d. has_end d (ends_in item)) t.end ∙ named) in

@@ -1,6 +1,6 @@
 -- A router sends the current item of a queue, without ends that move: all that holds is kept.
-use Rattle.ipcz_world.proofs.weights.OfRecords.{holds, held_times}
-use Rattle.std.specs.Prelude.{◌≡◌, ◌⊎◌, ◌≤◌, ◌<◌, ◌+◌, ℕ, zero, suc, true, false, Option, Some, None, refl, List, [], length, slice_get}
+use Rattle.ipcz_world.proofs.weights.OfRecords.{holds, held_times, source, in_message, in_places}
+use Rattle.std.specs.Prelude.{◌≡◌, ◌⊎◌, ◌≤◌, ◌<◌, ◌+◌, ℕ, true, false, Option, Some, None, refl, List, [], length, slice_get}
 use Rattle.std.proofs.Common.{arith, ap, subst, ◌∙◌, sym, inl, inr}
 use Rattle.std.proofs.lemmas.Bool.Decides.{nat_tests}
 use Rattle.ipcz_base.specs.declared.side.Side.{Side}
@@ -23,11 +23,9 @@ use Rattle.ipcz_world.proofs.frames.Frames.{node-set_node, word-set_node, mail-s
 use Rattle.ipcz_world.proofs.frames.Frames.{same_key_tells, same_key-itself}
 use Rattle.ipcz_world.specs.Books.{Books}
 use Rattle.ipcz_world.specs.Records.{Records, is_recorded, side_node, side_length, side_router, inner_link, terminal_node}
-use Rattle.ipcz_world.proofs.weights.OfRecords.{source}
 use Rattle.ipcz_world.specs.Standing.{Standing, is_attached, view, next_sent, is_gone, is_awaited, sending_queue}
 use Rattle.ipcz_world.specs.Flows.{IsUnderWay, is_made_by, of_end, moves_of}
 use Rattle.ipcz_world.specs.Places.{Weight, in_router, at_end, names_end, times}
-use Rattle.ipcz_world.proofs.weights.OfRecords.{in_message, in_places}
 use Rattle.ipcz_base.specs.Totals.{total_list, total_below}
 use Rattle.ipcz_world.specs.Structure.{Counts, Links, Positions}
 use Rattle.ipcz_world.specs.Bypasses.{Told, of_bypass}
@@ -38,7 +36,7 @@ use Rattle.ipcz_world.specs.Inv.{Inv}
 use Rattle.ipcz_world.proofs.frames.Touching.{IsTouched, IsAlike, HasSameHands, HasSameEnds, hands-same, recorded_same, counts-touched}
 use Rattle.ipcz_world.proofs.frames.Touching.{shape-touched, links-touched, positions-touched, stands-touched, words-touched}
 use Rattle.ipcz_world.proofs.frames.Touching.{spares-touched, bypasses-touched, stages-touched, terminals-touched}
-use Rattle.ipcz_world.proofs.views.Seen.{attached_same, stands_at}
+use Rattle.ipcz_world.proofs.views.Seen.{attached_same}
 use Rattle.ipcz_world.proofs.frames.Draining.{IsDrained, IsDraining, below_drained, has_passed-mono, gone_same, awaited_same, taken_before}
 use Rattle.ipcz_world.proofs.frames.Draining.{drained_before, ordered-drained, order-drained, proxy_numbers-drained, own-drained}
 use Rattle.ipcz_world.proofs.frames.Draining.{other-drained, view_rules, next_sent-standing, standing-standing}
@@ -48,6 +46,8 @@ use Rattle.ipcz_world.proofs.frames.Changing.{IsNodeChanged, touched_by, pushed_
 use Rattle.ipcz_world.proofs.weights.Weighing.{in_places-is, in_nodes-changed, in_node-changed, in_message-item}
 use Rattle.ipcz_world.proofs.views.Known.{not_there_yet, node_of_router, fresh_central}
 use Rattle.ipcz_world.proofs.frames.Calling.{router_here}
+use Rattle.ipcz_world.proofs.facts.Lengths.{view-standing}
+use Rattle.ipcz_world.proofs.weights.Sums.{total_below-same}
 
 -- an item of a router leaves for a link's other side
 abbrev pub send_act : World → Key → Router → LinkId → Side → ℕ → ℕ → Item → World
@@ -93,10 +93,6 @@ pub moves-item : (link : LinkId) (s : Side) (n : ℕ) (item : Item) (moves : Lis
 unfolding moves_of
 moves-item link s n item moves = refl
 
-total_below-same : (c : ℕ) (f e : ℕ → ℕ) → ((j : ℕ) → f j ≡ e j) → total_below c f ≡ total_below c e
-total_below-same zero f e h = refl
-total_below-same (suc c) f e h = omega (arith, h c, total_below-same c f e h)
-
 pub times_same : (w v : World) → HasSameEnds w v → (e : End) → times_held v e ≡ times_held w e
 times_same w v same e = ap (λ c. total_below c (λ n. held_times e (node_at v n).held + times e (node_at v n).pending)) same.count ∙
     total_below-same w.count (λ n. held_times e (node_at v n).held + times e (node_at v n).pending)
@@ -105,10 +101,10 @@ times_same w v same e = ap (λ c. total_below c (λ n. held_times e (node_at v n
 module _ (w v : World) (b : Books) (g : Records) (k : Key) (r y : Router) (link : LinkId) (s : Side) (to n : ℕ) (item : Item)
     (is : IsSend w g k r y link s to n item) (d : IsDraining w v k r y) (p : IsPushed w v k.node to (messages.Item link s n item [])) where
   stands : view w g link (opposite s) ≡ Standing r
-  stands = stands_at w g link (opposite s) k r is.router is.here is.attached
+  stands = view-standing w g link (opposite s) k r is.router is.here is.attached
 
   swapped : view v g link (opposite s) ≡ Standing y
-  swapped = stands_at v g link (opposite s) k y is.router (d.touched.router k ∙ grind (arith, same_key-itself k))
+  swapped = view-standing v g link (opposite s) k y is.router (d.touched.router k ∙ grind (arith, same_key-itself k))
       (attached_same r y d.alike link (opposite s) ∙ is.attached)
 
   -- the new message fits

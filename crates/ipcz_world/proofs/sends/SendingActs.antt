@@ -24,11 +24,11 @@ use Rattle.ipcz_world.specs.Records.{Records}
 use Rattle.ipcz_world.specs.Remembering.{moves_records}
 use Rattle.ipcz_world.specs.Inv.{Inv}
 use Rattle.ipcz_world.proofs.frames.Opened.{opened}
-use Rattle.ipcz_world.proofs.sends.SendingItems.{is_send_in, inv-send_in}
-use Rattle.ipcz_world.proofs.sends.SendingItems.{is_send_out, inv-send_out}
+use Rattle.ipcz_world.proofs.sends.SendingItems.{is_send_in, inv-send_in, is_send_out, inv-send_out}
 use Rattle.ipcz_world.proofs.sends.MovingEnds.{posted_world}
 use Rattle.ipcz_world.proofs.sends.SendingMoves.{before_moves}
 use Rattle.ipcz_world.proofs.sends.Moved.{inv-moved}
+use Rattle.ipcz_world.proofs.facts.Tests.{some_is, and_first, and_second}
 
 -- the world after an item was sent, with the terminals that move along
 abbrev pub sent_act : World → Key → Router → LinkEnd → ℕ → Item → World
@@ -84,18 +84,6 @@ inv-sent_in w b g k r e item law here chosen at =
     (λ ne. inv-moved w b g k r (pop_in r) e.link (opposite e.side) e.other r.in_queue.current item law
     (is_send_in w b g k r e item (opened w b g law) here chosen at) (λ q. ne (node ∙ q)))
 
-some_of : {X : Type 0} (o : Option X) → is_some o ≡ true → (x : X) × (o ≡ Some x)
-some_of None h = cc
-some_of (Some x) h = (x, refl)
-
-first_of : (a b : Bool) → (a && b) ≡ true → a ≡ true
-first_of true b h = refl
-first_of false b h = cc
-
-second_of : (a b : Bool) → (a && b) ≡ true → b ≡ true
-second_of true b h = h
-second_of false b h = cc
-
 -- a send that may be taken sends an item
 pub out_chosen : (w : World) (k : Key) → can_take w k.node (OfRouter k.serial acts.SendOut) ≡ true →
     (r : Router) × (e : LinkEnd) × (item : Item) × (router_at w k ≡ Some r) × (way_out r ≡ Some e) × (current_item r.out_queue ≡ Some item)
@@ -108,8 +96,8 @@ out_chosen w k can = go (router_at w k) refl can
     go None q h = cc
     go (Some r) q h =
         let p : (is_some (current_item r.out_queue) && is_some (way_out r)) ≡ true = grind (arith, h) in
-        let item = some_of (current_item r.out_queue) (first_of (is_some (current_item r.out_queue)) (is_some (way_out r)) p) in
-        let e = some_of (way_out r) (second_of (is_some (current_item r.out_queue)) (is_some (way_out r)) p) in
+        let item = some_is (current_item r.out_queue) (and_first (is_some (current_item r.out_queue)) (is_some (way_out r)) p) in
+        let e = some_is (way_out r) (and_second (is_some (current_item r.out_queue)) (is_some (way_out r)) p) in
         (r, e.0, item.0, q, e.1, item.1)
 
 pub in_chosen : (w : World) (k : Key) → can_take w k.node (OfRouter k.serial acts.SendIn) ≡ true →
@@ -123,8 +111,8 @@ in_chosen w k can = go (router_at w k) refl can
     go None q h = cc
     go (Some r) q h =
         let p : (is_some (current_item r.in_queue) && is_some (way_in r)) ≡ true = grind (arith, h) in
-        let item = some_of (current_item r.in_queue) (first_of (is_some (current_item r.in_queue)) (is_some (way_in r)) p) in
-        let e = some_of (way_in r) (second_of (is_some (current_item r.in_queue)) (is_some (way_in r)) p) in
+        let item = some_is (current_item r.in_queue) (and_first (is_some (current_item r.in_queue)) (is_some (way_in r)) p) in
+        let e = some_is (way_in r) (and_second (is_some (current_item r.in_queue)) (is_some (way_in r)) p) in
         (r, e.0, item.0, q, e.1, item.1)
 
 -- each send that a node may take keeps all that holds

@@ -31,16 +31,15 @@ use Rattle.ipcz_world.specs.Structure.{IsRecorded, is_outward}
 use Rattle.ipcz_world.specs.Inv.{Inv}
 use Rattle.ipcz_world.proofs.frames.Draining.{drained_same, drained_pop}
 use Rattle.ipcz_world.proofs.weights.Weighing.{in_router-is, in_popped}
-use Rattle.ipcz_world.proofs.views.Known.{twice, node_of_router}
+use Rattle.ipcz_world.proofs.views.Known.{node_of_router}
 use Rattle.ipcz_world.proofs.flows.Awaited.{awaited_none, awaited_made}
 use Rattle.ipcz_world.proofs.facts.Reaching.{reach-pop}
 use Rattle.ipcz_world.proofs.sends.Sending.{IsSend, send_act, closed-sent}
 use Rattle.ipcz_world.proofs.frames.Opened.{OpenInv, opened}
 use Rattle.ipcz_world.proofs.sends.SendingOut.{choose-tells, has_link-end, length-known, length-inner_in, below_out, there_out, low_out}
-use Rattle.ipcz_world.proofs.sends.SendingOut.{not_gone, attached-inner_primary, attached-inner_decaying, or_second}
-
-or_first : (a b : Bool) → a ≡ true → (a || b) ≡ true
-or_first a b h = grind (arith, h)
+use Rattle.ipcz_world.proofs.sends.SendingOut.{not_gone, attached-inner_primary, attached-inner_decaying}
+use Rattle.std.proofs.lemmas.Bool.{or_left, or_right}
+use Rattle.ipcz_world.proofs.facts.Lengths.{opposite-twice}
 
 -- an outward link end is attached, and fed by the out queue
 attached-out : (r : Router) (e : LinkEnd) → is_outward e.link e.side ≡ true →
@@ -105,7 +104,7 @@ made_way : (w : World) (b : Books) (g : Records) (k : Key) (r : Router) (e : Lin
     is_made_by e.link (opposite e.side) (flow w k.node e.other) ≡ true
 made_way w b g k r e law rec there none =
     let from : side_node g e.link (opposite (opposite e.side)) ≡ k.node =
-    ap (side_node g e.link) (twice e.side) ∙ node_of_router g e.link e.side k rec.router in
+    ap (side_node g e.link) (opposite-twice e.side) ∙ node_of_router g e.link e.side k rec.router in
     subst (λ x. is_made_by e.link (opposite e.side) (flow w x e.other) ≡ true) from
     (subst (λ x. is_made_by e.link (opposite e.side) (flow w (side_node g e.link (opposite (opposite e.side))) x) ≡ true)
     (sym rec.other)
@@ -124,19 +123,20 @@ is_send_out w b g k r e item law here chosen at = record {
   mark_seen = refl;
   next = reach-pop r.out_queue item at;
   current = λ t. refl;
-  router = ap (side_router g e.link) (twice e.side) ∙ rec.router;
-  attached = subst (λ t. is_attached e.link t r ≡ true) (sym (twice e.side)) (attached-out r e out has);
-  sends = ap (λ t. (sending_queue e.link t r).current) (twice e.side) ∙ ap (λ q. q.current) (sending_queue-out e.link e.side r out);
-  rises = ap (λ t. (sending_queue e.link t (pop_out r)).current) (twice e.side) ∙ ap (λ q. q.current)
+  router = ap (side_router g e.link) (opposite-twice e.side) ∙ rec.router;
+  attached = subst (λ t. is_attached e.link t r ≡ true) (sym (opposite-twice e.side)) (attached-out r e out has);
+  sends = ap (λ t. (sending_queue e.link t r).current) (opposite-twice e.side) ∙
+      ap (λ q. q.current) (sending_queue-out e.link e.side r out);
+  rises = ap (λ t. (sending_queue e.link t (pop_out r)).current) (opposite-twice e.side) ∙ ap (λ q. q.current)
       (sending_queue-out e.link e.side (pop_out r) out);
   recorded = rec.recorded;
   receiver = rec.other;
   below = λ len h. below_out w g k r e item len law.positions law.fresh_numbers law.proxy_numbers here out chosen at
-      (ap (side_length g e.link) (sym (twice e.side)) ∙ h);
+      (ap (side_length g e.link) (sym (opposite-twice e.side)) ∙ h);
   there = there;
   low = λ c o l none born. low_out w g k r c o (opposite e.side) law.positions law.fresh_numbers law.stands law.bypasses law.stages here
       (grind (arith, record_rules, rec.recorded, l)) (ap (λ z. side_router g z (opposite (opposite e.side))) (sym l) ∙ ap
-      (side_router g e.link) (twice e.side) ∙ rec.router) none born;
+      (side_router g e.link) (opposite-twice e.side) ∙ rec.router) none born;
   made = λ h. made_way w b g k r e law rec there (awaited_none w g e.link (opposite e.side) h);
   weight = λ f. omega (
     arith,
@@ -159,9 +159,9 @@ is_send_out w b g k r e item law here chosen at = record {
 
     has : (has_link r.outward.primary e.link e.side || has_link r.outward.decaying e.link e.side) ≡ true
     has = elim (choose-tells r.outward r.out_queue.current e chosen) [
-      | inl on ↦ or_first (has_link r.outward.primary e.link e.side) (has_link r.outward.decaying e.link e.side)
+      | inl on ↦ or_left (has_link r.outward.primary e.link e.side) (has_link r.outward.decaying e.link e.side)
           (has_link-end r.outward.primary e on)
-      | inr off ↦ or_second (has_link r.outward.primary e.link e.side) (has_link r.outward.decaying e.link e.side)
+      | inr off ↦ or_right (has_link r.outward.primary e.link e.side) (has_link r.outward.decaying e.link e.side)
           (has_link-end r.outward.decaying e off.0)
     ]
 
@@ -279,14 +279,14 @@ is_send_in w b g k r e item law here chosen at = record {
   mark_seen = refl;
   next = refl;
   current = λ t. absurd (no_edge t);
-  router = ap (side_router g e.link) (twice e.side) ∙ rec.router;
-  attached = subst (λ t. is_attached e.link t r ≡ true) (sym (twice e.side)) (attached-in r e out has);
-  sends = ap (λ t. (sending_queue e.link t r).current) (twice e.side) ∙ ap (λ q. q.current) (sending_queue-in e.link e.side r out);
-  rises = ap (λ t. (sending_queue e.link t (pop_in r)).current) (twice e.side) ∙ ap (λ q. q.current)
+  router = ap (side_router g e.link) (opposite-twice e.side) ∙ rec.router;
+  attached = subst (λ t. is_attached e.link t r ≡ true) (sym (opposite-twice e.side)) (attached-in r e out has);
+  sends = ap (λ t. (sending_queue e.link t r).current) (opposite-twice e.side) ∙ ap (λ q. q.current) (sending_queue-in e.link e.side r out);
+  rises = ap (λ t. (sending_queue e.link t (pop_in r)).current) (opposite-twice e.side) ∙ ap (λ q. q.current)
       (sending_queue-in e.link e.side (pop_in r) out);
   recorded = rec.recorded;
   receiver = rec.other;
-  below = λ len h. below_in w b g k r e item len law here out chosen at (ap (side_length g e.link) (sym (twice e.side)) ∙ h);
+  below = λ len h. below_in w b g k r e item len law here out chosen at (ap (side_length g e.link) (sym (opposite-twice e.side)) ∙ h);
   there = there;
   low = λ c o l none born. absurd (grind (arith, l, p.1));
   made = λ h. made_way w b g k r e law rec there (awaited_none w g e.link (opposite e.side) h);
@@ -311,9 +311,9 @@ is_send_in w b g k r e item law here chosen at = record {
 
     has : (has_link (inward_edge r).primary e.link e.side || has_link (inward_edge r).decaying e.link e.side) ≡ true
     has = elim (choose-tells (inward_edge r) r.in_queue.current e chosen) [
-      | inl on ↦ or_first (has_link (inward_edge r).primary e.link e.side) (has_link (inward_edge r).decaying e.link e.side)
+      | inl on ↦ or_left (has_link (inward_edge r).primary e.link e.side) (has_link (inward_edge r).decaying e.link e.side)
           (has_link-end (inward_edge r).primary e on)
-      | inr off ↦ or_second (has_link (inward_edge r).primary e.link e.side) (has_link (inward_edge r).decaying e.link e.side)
+      | inr off ↦ or_right (has_link (inward_edge r).primary e.link e.side) (has_link (inward_edge r).decaying e.link e.side)
           (has_link-end (inward_edge r).decaying e off.0)
     ]
 

@@ -24,12 +24,12 @@ use Rattle.ipcz_world.proofs.frames.Opened.{opened, closed}
 use Rattle.ipcz_world.proofs.sends.Sending.{IsSend, inv-sent}
 use Rattle.ipcz_world.proofs.sends.MovingEnds.{posted_node, posted_world, inv-ends}
 
-boxes_found : (m : Transfer) (a : ℕ) (o : Option Found) → (move_found m a o).node.outboxes ≡ m.node.outboxes
+pub boxes_found : (m : Transfer) (a : ℕ) (o : Option Found) → (move_found m a o).node.outboxes ≡ m.node.outboxes
 unfolding move_found
 boxes_found m a None = refl
 boxes_found m a (Some f) = refl
 
-boxes_kept : (m : Transfer) (a : ℕ) (es : List End) → (move_ends m a es).node.outboxes ≡ m.node.outboxes
+pub boxes_kept : (m : Transfer) (a : ℕ) (es : List End) → (move_ends m a es).node.outboxes ≡ m.node.outboxes
 boxes_kept m a [] = refl
 boxes_kept m a (e ∷ es) = boxes_kept (move_end m a e) a es ∙ boxes_found m a (terminal_of m.node e)
 

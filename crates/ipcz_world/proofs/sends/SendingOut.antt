@@ -1,5 +1,5 @@
 -- A router sends the current item of its out queue over the link that it chooses.
-use Rattle.std.specs.Prelude.{◌≡◌, ◌⊎◌, ◌≤◌, ◌<◌, ℕ, Bool, true, false, ◌||◌, nat_le, if◌then◌else◌, Option, Some, None, is_some, refl}
+use Rattle.std.specs.Prelude.{◌≡◌, ◌⊎◌, ◌≤◌, ◌<◌, ℕ, Bool, true, false, nat_le, if◌then◌else◌, Option, Some, None, is_some, refl}
 use Rattle.std.proofs.Common.{arith, ap, subst, ◌∙◌, sym, inl, inr}
 use Rattle.std.proofs.lemmas.Bool.Decides.{nat_tests}
 use Rattle.ipcz_base.specs.declared.side.Side.{Side}
@@ -17,19 +17,19 @@ use Rattle.ipcz_router.specs.Acts.{way_out}
 use Rattle.ipcz_world.specs.World.{World, Key, router_at}
 use Rattle.ipcz_world.specs.Records.{Records, is_recorded, is_begun, is_linked, inner_link, side_router, side_length, length_by, bypass_of}
 use Rattle.ipcz_world.specs.Records.{bypass_length, known_from, proxy_side, across_side}
-use Rattle.ipcz_world.proofs.frames.RecordRules.{record_rules, is_recorded-central, side_router-proxy, bypass_of-inner}
+use Rattle.ipcz_world.proofs.frames.RecordRules.{is_recorded-central, side_router-proxy, bypass_of-inner}
 use Rattle.ipcz_world.specs.Standing.{view, view_by, awaited_view, is_attached, is_gone, key_passes, has_primary, has_decaying}
 use Rattle.ipcz_world.specs.Standing.{has_inward_primary, has_inward_decaying}
 use Rattle.ipcz_world.proofs.frames.StandingRules.{standing_rules}
 use Rattle.ipcz_world.specs.Structure.{Positions, Stands, is_outward, link_in}
 use Rattle.ipcz_world.specs.Bypasses.{BypassRecords, Stages, inner_of}
 use Rattle.ipcz_world.specs.Numbers.{ProxyNumbers, FreshNumbers}
-use Rattle.ipcz_world.proofs.views.Known.{twice, has_link-tells}
-use Rattle.ipcz_world.proofs.facts.LinkTests.{side_is}
-use Rattle.ipcz_world.proofs.views.Seen.{stands_at}
+use Rattle.ipcz_world.proofs.views.Known.{has_link-tells}
+use Rattle.ipcz_world.proofs.facts.LinkTests.{side_is, same_side-opposite}
 use Rattle.ipcz_world.proofs.frames.Draining.{is_gone-standing}
-use Rattle.ipcz_world.proofs.facts.Lengths.{same_link-itself, same_side-itself}
-use Rattle.ipcz_world.proofs.facts.LinkTests.{same_side-opposite}
+use Rattle.ipcz_world.proofs.facts.Lengths.{same_link-itself, same_side-itself, opposite-twice, view-standing}
+use Rattle.std.proofs.lemmas.Bool.{or_right}
+use Rattle.ipcz_world.proofs.facts.BegunLengths.{bypass_of-central_is}
 
 -- the link that is chosen: the primary one, or the decaying one below its length
 pub choose-tells : (e : Edge) (n : ℕ) (x : LinkEnd) → choose e n ≡ Some x →
@@ -66,14 +66,6 @@ known_from-tells first stage n len h = go (nat_le first stage) refl (grind (arit
     go true e q = (grind (arith, e, nat_tests), grind (arith, q))
     go false e q = cc
 
--- the bypass of a central link is named by it
-pub bypass_of-central_is : (g : Records) (i o : ℕ) → bypass_of g (Central i) ≡ Some o → (o ≡ i) × (is_begun (g.bypass i) ≡ true)
-bypass_of-central_is g i o h = go (is_begun (g.bypass i)) refl (grind (arith, record_rules, h))
-  where
-    go : (b : Bool) → is_begun (g.bypass i) ≡ b → (if b then Some i else None) ≡ Some o → (o ≡ i) × (is_begun (g.bypass i) ≡ true)
-    go true e q = (grind (arith, q), e)
-    go false e q = cc
-
 pub length-old_proxy : (g : Records) (i len : ℕ) → side_length g (Central i) (proxy_side g i) ≡ Some len →
     (3 ≤ (g.bypass i).stage) × (len ≡ (g.bypass i).taken_at)
 unfolding bypass_length
@@ -100,10 +92,6 @@ unfolding bypass_length bypass_of
 length-inner_in g p len h = let k = length-known g (inner_link p) A len h in let f =
     known_from-tells 3 (g.bypass k.0).stage (g.bypass k.0).accepted_at len k.2 in (k.0, k.1, f.0, sym f.1)
 
-pub or_second : (a b : Bool) → b ≡ true → (a || b) ≡ true
-or_second true b h = refl
-or_second false b h = h
-
 -- a central link's awaited side isn't gone
 awaited_view-none : (w : World) (g : Records) (i : ℕ) (t : Side) → side_router g (Central i) t ≡ None →
     is_gone (view w g (Central i) t) ≡ false
@@ -118,7 +106,7 @@ not_gone w g link s q test e pass att = go (router_at w q) refl
   where
     go : (o : Option Router) → router_at w q ≡ o → is_gone (view w g link s) ≡ false
     go None h = absurd (grind (arith, standing_rules, h, pass))
-    go (Some x) h = ap is_gone (stands_at w g link s q x e h (att x (grind (arith, standing_rules, h, pass)))) ∙ is_gone-standing x
+    go (Some x) h = ap is_gone (view-standing w g link s q x e h (att x (grind (arith, standing_rules, h, pass)))) ∙ is_gone-standing x
 
 pub attached-primary : (i : ℕ) (s : Side) (x : Router) → has_primary (Central i) s x ≡ true → is_attached (Central i) s x ≡ true
 unfolding is_attached
@@ -126,7 +114,7 @@ attached-primary i s x h = grind (arith, h)
 
 pub attached-decaying : (i : ℕ) (s : Side) (x : Router) → has_decaying (Central i) s x ≡ true → is_attached (Central i) s x ≡ true
 unfolding is_attached
-attached-decaying i s x h = or_second (has_primary (Central i) s x) (has_decaying (Central i) s x) h
+attached-decaying i s x h = or_right (has_primary (Central i) s x) (has_decaying (Central i) s x) h
 
 pub attached-inward_primary : (p : Key) (x : Router) → has_inward_primary (inner_link p) A x ≡ true → is_attached (inner_link p) A x ≡ true
 unfolding is_attached
@@ -135,7 +123,7 @@ attached-inward_primary p x h = grind (arith, h)
 pub attached-inward_decaying : (p : Key) (x : Router) → has_inward_decaying (inner_link p) A x ≡ true →
     is_attached (inner_link p) A x ≡ true
 unfolding is_attached
-attached-inward_decaying p x h = or_second (has_inward_primary (inner_link p) A x) (has_inward_decaying (inner_link p) A x) h
+attached-inward_decaying p x h = or_right (has_inward_primary (inner_link p) A x) (has_inward_decaying (inner_link p) A x) h
 
 pub attached-inner_primary : (p : Key) (x : Router) → has_primary (inner_link p) B x ≡ true → is_attached (inner_link p) B x ≡ true
 unfolding is_attached
@@ -143,7 +131,7 @@ attached-inner_primary p x h = grind (arith, h)
 
 pub attached-inner_decaying : (p : Key) (x : Router) → has_decaying (inner_link p) B x ≡ true → is_attached (inner_link p) B x ≡ true
 unfolding is_attached
-attached-inner_decaying p x h = or_second (has_primary (inner_link p) B x) (has_decaying (inner_link p) B x) h
+attached-inner_decaying p x h = or_right (has_primary (inner_link p) B x) (has_decaying (inner_link p) B x) h
 
 -- a decaying link is sent over only by the proxy that is bypassed, over the old link
 pub record IsOwn (g : Records) (k : Key) (e : LinkEnd) : Type 0 where
@@ -298,7 +286,8 @@ there_out w g k r e item law fresh proxy stands bypasses stages here out chosen 
         by_begun : (b : Bool) → is_begun (g.bypass i) ≡ b → is_gone (view w g (Central i) (opposite t)) ≡ false
         by_begun false b = free i (opposite t) (sym (is_recorded-central w g i) ∙ h) b (side_router g (Central i) (opposite t)) refl
         by_begun true b =
-            let side : opposite t ≡ proxy_side g i = ap opposite (sym et ∙ law.primary_across k r e i here on el b) ∙ twice (proxy_side g i)
+            let side : opposite t ≡ proxy_side g i = ap opposite (sym et ∙ law.primary_across k r e i here on el b) ∙
+            opposite-twice (proxy_side g i)
             in
             subst (λ z. is_gone (view w g (Central i) z) ≡ false) (sym side)
             (not_gone w g (Central i) (proxy_side g i) (g.bypass i).proxy (has_decaying (Central i) (proxy_side g i))
@@ -318,7 +307,7 @@ low_out w g k r c o t law fresh stands bypasses stages here linked at none born 
     bypasses.born_fresh c o linked born in
     let own : side_router g (inner_of g o) B ≡ Some k = sym (bypasses.fresh_inner o (omega (arith, stage))) ∙ ap
     (λ z. side_router g (Central z) (proxy_side g o)) is ∙
-    ap (side_router g (Central c)) (sym (twice (proxy_side g o)) ∙ ap opposite (sym side)) ∙ at in
+    ap (side_router g (Central c)) (sym (opposite-twice (proxy_side g o)) ∙ ap opposite (sym side)) ∙ at in
     let has : key_passes w (Some k) (has_decaying (inner_of g o) B) ≡ true =
     ap (λ z. key_passes w z (has_decaying (inner_of g o) B)) (sym own) ∙ stages.inner_decaying o (omega (arith, stage))
     (omega (arith, stage)) in

@@ -2,7 +2,6 @@
 use Rattle.ipcz_world.specs.Routes.{source as source'}
 use Rattle.std.specs.Prelude.{◌≡◌, ◌⊎◌, ◌<◌, ℕ, Bool, true, false, Option, Some, None, is_some, refl, List}
 use Rattle.std.proofs.Common.{arith, ap, subst, ◌∙◌, inl, inr}
-use Rattle.std.proofs.lemmas.Bool.Decides.{nat_tests}
 use Rattle.std.specs.FinMap.{get-empty}
 use Rattle.std.specs.Ordering.{nat_cmp}
 use Rattle.ipcz_base.specs.declared.side.Side.{Side}
@@ -12,8 +11,7 @@ use Rattle.ipcz_base.specs.declared.link_id.LinkId.TheVariants.{Central, Periphe
 use Rattle.ipcz_base.specs.declared.link_end.LinkEnd.{LinkEnd}
 use Rattle.ipcz_base.specs.declared.descriptor.Descriptor.{Descriptor}
 use Rattle.ipcz_base.specs.declared.item.Item.{Item}
-use Rattle.ipcz_base.specs.Links.{same_link, has_link}
-use Rattle.ipcz_base.specs.Sides.{opposite, same_side}
+use Rattle.ipcz_base.specs.Links.{has_link}
 use Rattle.ipcz_base.specs.Ends.{opposite_end}
 use Rattle.ipcz_edge.specs.Edge.{Edge, edge_has}
 use Rattle.ipcz_seq.specs.Queue.{Queue, item_at, queue_from}
@@ -29,19 +27,7 @@ use Rattle.ipcz_world.specs.Whereabouts.{Conserved}
 use Rattle.ipcz_world.specs.Numbers.{IsItemUnderWay}
 use Rattle.ipcz_world.proofs.weights.Weighing.{not_in_out, not_in_in}
 use Rattle.ipcz_world.proofs.facts.LinkTests.{side_is}
-
-pub same_link-tells : (l m : LinkId) → same_link l m ≡ true → l ≡ m
-same_link-tells (Central i) (Central j) h = ap Central (grind (arith, h, nat_tests))
-same_link-tells (Central i) (Peripheral n s) h = cc
-same_link-tells (Peripheral n s) (Central j) h = cc
-same_link-tells (Peripheral n s) (Peripheral m t) h = let p : n ≡ m = grind (arith, h, nat_tests) in let q : s ≡ t =
-    grind (arith, h, nat_tests) in λ i. Peripheral (p i) (q i)
-
-pub same_side-tells : (s t : Side) → same_side s t ≡ true → s ≡ t
-same_side-tells A A h = refl
-same_side-tells A B h = cc
-same_side-tells B A h = cc
-same_side-tells B B h = refl
+use Rattle.ipcz_world.proofs.facts.Lengths.{same_link-tells, same_side-tells}
 
 -- a link end that is this link at this side
 pub record IsEnd (o : Option LinkEnd) (link : LinkId) (s : Side) : Type 0 where
@@ -155,10 +141,6 @@ not_there_yet w b g from to i link s n item moves q law counts links u is = go (
     go (Waiting d) e = let same : queue_from d.next_in ≡ q = grind (arith, is, e) in subst (λ z. item_at z n ≡ None) same (blank d.next_in)
     go (Standing r) e = let same : fed_queue link s r ≡ q = grind (arith, is, e) in let st = standing_known w g link s r links e in
         subst (λ z. item_at z n ≡ None) same (full r st (item_at (fed_queue link s r) n) refl)
-
-pub twice : (s : Side) → opposite (opposite s) ≡ s
-twice A = refl
-twice B = refl
 
 -- the node of a link's side is the node of its router
 pub node_of_router : (g : Records) (link : LinkId) (s : Side) (k : Key) → side_router g link s ≡ Some k → side_node g link s ≡ k.node

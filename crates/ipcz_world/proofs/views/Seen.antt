@@ -74,8 +74,3 @@ seen w v k r y g t a link s = go (side_router g link s) refl
     go : (o : Option Key) → side_router g link s ≡ o → (view v g link s ≡ view w g link s) ⊎ IsSwapped w v g k r y link s
     go None e = inl (grind (arith, e, view_by-unknown w g link s, view_by-unknown v g link s))
     go (Some q) e = standing q e (same_key q k) refl (is_attached link s r) refl
-
--- a router that has the link stands there
-pub stands_at : (w : World) (g : Records) (link : LinkId) (s : Side) (k : Key) (r : Router) → side_router g link s ≡ Some k →
-    router_at w k ≡ Some r → is_attached link s r ≡ true → view w g link s ≡ Standing r
-stands_at w g link s k r e here on = grind (arith, e, here, view_by-known w g link s k, view-attached link s r on)

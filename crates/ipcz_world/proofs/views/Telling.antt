@@ -15,13 +15,10 @@ use Rattle.ipcz_world.specs.Records.{Records, side_node, bypass_of, is_begun, pr
 use Rattle.ipcz_world.specs.Flows.{IsUnderWay}
 use Rattle.ipcz_world.specs.Bypasses.{Told, of_bypass, control_weight, inner_of}
 use Rattle.ipcz_world.specs.Laws.{names_old}
-use Rattle.ipcz_world.proofs.facts.LinkTests.{same_link-itself, same_link-tells}
-use Rattle.ipcz_world.proofs.facts.Lengths.{same_side-tells}
-use Rattle.ipcz_world.proofs.facts.Lengths.{same_side-itself}
+use Rattle.ipcz_world.proofs.facts.Lengths.{same_side-tells, same_link-itself, same_link-tells, same_side-itself}
 use Rattle.ipcz_world.proofs.flows.Flowing.{weighed}
-
-pub itself : (n : ℕ) → nat_eq n n ≡ true
-itself n = grind (arith, nat_tests)
+use Rattle.std.proofs.lemmas.Bool.{and_parts}
+use Rattle.ipcz_world.proofs.facts.Tests.{nat_eq-itself}
 
 -- of four stages it is the one that weighs something
 of_four : (s a b c d : ℕ) → 1 ≤ cond (nat_eq s 1) a (cond (nat_eq s 2) b (cond (nat_eq s 3) c (cond (nat_eq s 4) d 0))) →
@@ -42,10 +39,6 @@ never false = refl
 
 nothing : (b : Bool) → 1 ≤ cond (b && false) 1 0 → ⊥
 nothing b h = absurd (omega (arith, h, never b))
-
-pub both_hold : (a b : Bool) → (a && b) ≡ true → (a ≡ true) × (b ≡ true)
-both_hold true b e = (refl, e)
-both_hold false b e = absurd (grind (arith, e))
 
 four_hold : (a b c d : Bool) → (a && (b && (c && d))) ≡ true → (a ≡ true) × (b ≡ true) × (c ≡ true) × (d ≡ true)
 four_hold true true true true e = (refl, refl, refl, refl)
@@ -96,13 +89,13 @@ peer_told w g from to i o link side target fresh law u = elim (of_four (g.bypass
       let all : ((nat_eq (g.bypass o).proxy.node from && nat_eq (side_node g (inner_of g o) B) to) ≡ true) ×
       ((same_link (inner_of g o) link && (same_side B side &&
       (nat_eq (side_node g (Central o) (across_side g o)) target && nat_eq (g.bypass o).fresh fresh))) ≡ true) =
-      both_hold _ _ (one_holds _ e.1) in
+      and_parts _ _ (one_holds _ e.1) in
       let named = four_hold (same_link (inner_of g o) link) (same_side B side) (nat_eq (side_node g (Central o) (across_side g o)) target)
       (nat_eq (g.bypass o).fresh fresh) all.1 in
       record {
         stage = e.0;
-        sender = is_same _ _ (both_hold _ _ all.0).0;
-        receiver = is_same _ _ (both_hold _ _ all.0).1;
+        sender = is_same _ _ (and_parts _ _ all.0).0;
+        receiver = is_same _ _ (and_parts _ _ all.0).1;
         on_link = sym (same_link-tells (inner_of g o) link named.0);
         at_side = sym (same_side-tells B side named.1);
         across = is_same _ _ named.2;
@@ -117,7 +110,15 @@ peer_told w g from to i o link side target fresh law u = elim (of_four (g.bypass
     h a b m = cond ((nat_eq a from && nat_eq b to) && is_peer link side target fresh m) 1 0
 
     one : of_bypass g o (h from to) (messages.BypassPeer link side o target fresh) ≡ 1
-    one = rw (itself o, itself from, itself to, itself target, itself fresh, same_link-itself link, same_side-itself side) refl
+    one = rw (
+      nat_eq-itself o,
+      nat_eq-itself from,
+      nat_eq-itself to,
+      nat_eq-itself target,
+      nat_eq-itself fresh,
+      same_link-itself link,
+      same_side-itself side,
+    ) refl
 
     weight : 1 ≤ control_weight g h o
     weight = omega (
@@ -140,13 +141,13 @@ pub accept_told : (w : World) (g : Records) (from to i o : ℕ) (side : Side) (f
 unfolding control_weight of_bypass is_accept
 accept_told w g from to i o side fresh length law u = elim (of_four (g.bypass o).stage _ _ _ _ weight) [
   | inl e ↦ absurd (nothing _ e.1)
-  | inr (inl e) ↦ let all = both_hold _ _ (one_holds _ e.1) in record {
+  | inr (inl e) ↦ let all = and_parts _ _ (one_holds _ e.1) in record {
     stage = e.0;
-    sender = is_same _ _ (both_hold _ _ all.0).0;
-    receiver = is_same _ _ (both_hold _ _ all.0).1;
-    at_side = sym (same_side-tells (across_side g o) side (both_hold _ _ all.1).0);
-    onto = is_same _ _ (both_hold _ _ (both_hold _ _ all.1).1).0;
-    taken = is_same _ _ (both_hold _ _ (both_hold _ _ all.1).1).1;
+    sender = is_same _ _ (and_parts _ _ all.0).0;
+    receiver = is_same _ _ (and_parts _ _ all.0).1;
+    at_side = sym (same_side-tells (across_side g o) side (and_parts _ _ all.1).0);
+    onto = is_same _ _ (and_parts _ _ (and_parts _ _ all.1).1).0;
+    taken = is_same _ _ (and_parts _ _ (and_parts _ _ all.1).1).1;
   }
   | inr (inr (inl e)) ↦ absurd (nothing _ e.1)
   | inr (inr (inr e)) ↦ absurd (nothing _ e.1)
@@ -156,7 +157,7 @@ accept_told w g from to i o side fresh length law u = elim (of_four (g.bypass o)
     h a b m = cond ((nat_eq a from && nat_eq b to) && is_accept side fresh length m) 1 0
 
     one : of_bypass g o (h from to) (messages.AcceptBypass o side fresh length) ≡ 1
-    one = rw (itself o, itself from, itself to, itself length, itself fresh, same_side-itself side) refl
+    one = rw (nat_eq-itself o, nat_eq-itself from, nat_eq-itself to, nat_eq-itself length, nat_eq-itself fresh, same_side-itself side) refl
 
     weight : 1 ≤ control_weight g h o
     weight = omega (
@@ -180,13 +181,13 @@ unfolding control_weight of_bypass is_stop
 stop_told w g from to i o side in_length out_length law u = elim (of_four (g.bypass o).stage _ _ _ _ weight) [
   | inl e ↦ absurd (nothing _ e.1)
   | inr (inl e) ↦ absurd (nothing _ e.1)
-  | inr (inr (inl e)) ↦ let all = both_hold _ _ (one_holds _ e.1) in record {
+  | inr (inr (inl e)) ↦ let all = and_parts _ _ (one_holds _ e.1) in record {
     stage = e.0;
-    sender = is_same _ _ (both_hold _ _ all.0).0;
-    receiver = is_same _ _ (both_hold _ _ all.0).1;
-    at_side = sym (same_side-tells (proxy_side g o) side (both_hold _ _ all.1).0);
-    accepted = is_same _ _ (both_hold _ _ (both_hold _ _ all.1).1).0;
-    taken = is_same _ _ (both_hold _ _ (both_hold _ _ all.1).1).1;
+    sender = is_same _ _ (and_parts _ _ all.0).0;
+    receiver = is_same _ _ (and_parts _ _ all.0).1;
+    at_side = sym (same_side-tells (proxy_side g o) side (and_parts _ _ all.1).0);
+    accepted = is_same _ _ (and_parts _ _ (and_parts _ _ all.1).1).0;
+    taken = is_same _ _ (and_parts _ _ (and_parts _ _ all.1).1).1;
   }
   | inr (inr (inr e)) ↦ absurd (nothing _ e.1)
 ]
@@ -195,7 +196,14 @@ stop_told w g from to i o side in_length out_length law u = elim (of_four (g.byp
     h a b m = cond ((nat_eq a from && nat_eq b to) && is_stop side in_length out_length m) 1 0
 
     one : of_bypass g o (h from to) (messages.StopProxying o side in_length out_length) ≡ 1
-    one = rw (itself o, itself from, itself to, itself in_length, itself out_length, same_side-itself side) refl
+    one = rw (
+      nat_eq-itself o,
+      nat_eq-itself from,
+      nat_eq-itself to,
+      nat_eq-itself in_length,
+      nat_eq-itself out_length,
+      same_side-itself side,
+    ) refl
 
     weight : 1 ≤ control_weight g h o
     weight = omega (
@@ -221,13 +229,13 @@ will_stop_of_bypass w g from to i o link side in_length law by u = elim (of_four
   | inl e ↦ absurd (nothing _ e.1)
   | inr (inl e) ↦ absurd (nothing _ e.1)
   | inr (inr (inl e)) ↦ absurd (nothing _ e.1)
-  | inr (inr (inr e)) ↦ let all = both_hold _ _ (one_holds _ e.1) in record {
+  | inr (inr (inr e)) ↦ let all = and_parts _ _ (one_holds _ e.1) in record {
     stage = e.0;
-    sender = is_same _ _ (both_hold _ _ all.0).0;
-    receiver = is_same _ _ (both_hold _ _ all.0).1;
-    on_link = sym (same_link-tells (inner_of g o) link (both_hold _ _ all.1).0);
-    at_side = sym (same_side-tells B side (both_hold _ _ (both_hold _ _ all.1).1).0);
-    accepted = is_same _ _ (both_hold _ _ (both_hold _ _ all.1).1).1;
+    sender = is_same _ _ (and_parts _ _ all.0).0;
+    receiver = is_same _ _ (and_parts _ _ all.0).1;
+    on_link = sym (same_link-tells (inner_of g o) link (and_parts _ _ all.1).0);
+    at_side = sym (same_side-tells B side (and_parts _ _ (and_parts _ _ all.1).1).0);
+    accepted = is_same _ _ (and_parts _ _ (and_parts _ _ all.1).1).1;
   }
 ]
   where
@@ -235,7 +243,15 @@ will_stop_of_bypass w g from to i o link side in_length law by u = elim (of_four
     h a b m = cond ((nat_eq a from && nat_eq b to) && is_will_stop link side in_length m) 1 0
 
     one : of_bypass g o (h from to) (messages.ProxyWillStop link side in_length) ≡ 1
-    one = rw (by, itself o, itself from, itself to, itself in_length, same_link-itself link, same_side-itself side) refl
+    one = rw (
+      by,
+      nat_eq-itself o,
+      nat_eq-itself from,
+      nat_eq-itself to,
+      nat_eq-itself in_length,
+      same_link-itself link,
+      same_side-itself side,
+    ) refl
 
     weight : 1 ≤ control_weight g h o
     weight = omega (

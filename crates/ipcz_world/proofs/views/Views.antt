@@ -1,6 +1,6 @@
 -- How the sides of links are seen where one router gives links up.
 use Rattle.std.specs.Prelude.{◌≡◌, ◌≢◌, ◌⊎◌, ℕ, Bool, true, false, cond, Option, Some, None, refl}
-use Rattle.std.proofs.Common.{arith, ◌∙◌, ap, inl, inr}
+use Rattle.std.proofs.Common.{arith, ap, inl, inr}
 use Rattle.ipcz_base.specs.declared.side.Side.{Side}
 use Rattle.ipcz_base.specs.declared.side.Side.TheVariants.{A, B}
 use Rattle.ipcz_base.specs.declared.link_id.LinkId.{LinkId}
@@ -19,18 +19,11 @@ use Rattle.ipcz_world.specs.Standing.{next_sent, taking_queue, may_have_sent, is
 use Rattle.ipcz_world.specs.Numbers.{standing_router}
 use Rattle.ipcz_world.proofs.frames.OneRouter.{SameButRouter}
 use Rattle.ipcz_world.proofs.frames.Draining.{is_awaited-standing, is_gone-standing, may_have_sent-standing, standing-standing}
-
-pub next_sent-standing : (l : LinkId) (s : Side) (r : Router) → next_sent l s (Standing r) ≡ Some (sending_queue l s r).current
-unfolding next_sent
-next_sent-standing l s r = refl
+use Rattle.ipcz_world.proofs.frames.Draining.{next_sent-standing, taking_queue-standing}
 
 pub next_sent-gone : (l : LinkId) (s : Side) → next_sent l s Gone ≡ None
 unfolding next_sent
 next_sent-gone l s = refl
-
-pub taking_queue-standing : (l : LinkId) (s : Side) (r : Router) → taking_queue l s (Standing r) ≡ Some (fed_queue l s r)
-unfolding taking_queue
-taking_queue-standing l s r = refl
 
 pub taking_queue-gone : (l : LinkId) (s : Side) → taking_queue l s Gone ≡ None
 unfolding taking_queue
@@ -230,9 +223,3 @@ standing-seen l s r x a b q (inr (inl e)) h = record {
       grind (arith, view_rules, e.after, e.part.out_queue, h);
 }
 standing-seen l s r x a b q (inr (inr e)) h = absurd (grind (arith, view_rules, e.after, h))
-
--- the router that a side is for stands there, if it has the link
-pub attached-seen : (w : World) (g : Records) (l : LinkId) (s : Side) (k : Key) (r : Router) → side_router g l s ≡ Some k →
-    router_at w k ≡ Some r → is_attached l s r ≡ true → view w g l s ≡ Standing r
-unfolding view_by router_view
-attached-seen w g l s k r a b h = ap (view_by w g l s) a ∙ ap (router_view l s) b ∙ grind (arith, h)

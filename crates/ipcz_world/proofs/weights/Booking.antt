@@ -1,21 +1,18 @@
 -- Lists and books with an item more, and what the items in places tell of the books.
-use Rattle.std.specs.Prelude.{◌≡◌, ◌≢◌, ◌⊎◌, ◌≤◌, ◌<◌, ◌+◌, ℕ, zero, suc, Bool, true, false, cond, ◌&&◌, ◌||◌, nat_eq, Some, None, IsSome}
-use Rattle.std.specs.Prelude.{refl, List, [], ◌∷◌, ◌++◌, length, take, drop, slice_get}
+use Rattle.std.specs.Prelude.{◌≡◌, ◌≢◌, ◌⊎◌, ◌≤◌, ◌<◌, ◌+◌, ℕ, zero, suc, Bool, true, false, cond, ◌||◌, nat_eq, Some, None, IsSome, refl}
+use Rattle.std.specs.Prelude.{List, [], ◌∷◌, ◌++◌, length, take, drop, slice_get}
 use Rattle.std.specs.Ordering.{nat_cmp}
 use Rattle.std.specs.Cmp.{nat_cmp_total}
 use Rattle.std.specs.FinMap.{empty, get-insert, nat_cmp-IsAntisymmetric}
 use Rattle.std.proofs.Common.{arith, ap, subst, ◌∙◌, sym, inl, inr}
 use Rattle.std.proofs.lemmas.Bool.Decides.{nat_tests}
-use Rattle.ipcz_base.specs.declared.side.Side.{Side}
-use Rattle.ipcz_base.specs.declared.side.Side.TheVariants.{A, B}
 use Rattle.ipcz_base.specs.declared.end.End.{End}
 use Rattle.ipcz_base.specs.declared.descriptor.Descriptor.{Descriptor}
 use Rattle.ipcz_base.specs.declared.item.Item.{Item}
 use Rattle.ipcz_base.specs.declared.item.Item.TheVariants.{Mark}
 use Rattle.ipcz_base.specs.declared.message.Message.{Message}
-use Rattle.ipcz_base.specs.Sides.{same_side}
 use Rattle.ipcz_base.specs.Ends.{opposite_end, same_end}
-use Rattle.ipcz_base.specs.Totals.{total}
+use Rattle.ipcz_base.specs.Totals.{total, total_list}
 use Rattle.ipcz_base.proofs.Totals.{total-remove, total-empty}
 use Rattle.ipcz_seq.specs.Queue.{Queue, IsReach, reach, item_at, push_at}
 use Rattle.ipcz_router.specs.Router.{Router}
@@ -26,12 +23,13 @@ use Rattle.ipcz_world.specs.Records.{Records, At}
 use Rattle.ipcz_world.specs.Flows.{IsUnderWay, of_end, moves_of}
 use Rattle.ipcz_world.specs.Places.{Weight, in_router, at_end, from_number}
 use Rattle.ipcz_world.proofs.weights.OfRecords.{in_places}
-use Rattle.ipcz_base.specs.Totals.{total_list}
 use Rattle.ipcz_world.specs.Bypasses.{Moves, move_weight}
 use Rattle.ipcz_world.specs.Whereabouts.{Conserved}
-use Rattle.ipcz_world.proofs.flows.Flowing.{weighed, total_list-has}
-use Rattle.ipcz_world.proofs.weights.Weighing.{in_places-set_router, in_router-is, of_number, same_end-itself}
+use Rattle.ipcz_world.proofs.flows.Flowing.{weighed}
+use Rattle.ipcz_world.proofs.weights.Weighing.{in_places-set_router, in_router-is, of_number}
 use Rattle.ipcz_world.proofs.facts.Reaching.{is_reach, reach_one}
+use Rattle.ipcz_world.proofs.facts.LinkTests.{same_end-itself, same_end-tells}
+use Rattle.ipcz_world.proofs.weights.Sums.{total_list-at}
 
 -- one where a test holds
 abbrev pub flag : Bool → ℕ
@@ -48,13 +46,6 @@ dropped false n h = refl
 pub length-more : {X : Type 0} (xs : List X) (x : X) → length (xs ++ x ∷ []) ≡ length xs + 1
 length-more [] x = omega arith
 length-more (y ∷ xs) x = omega (arith, length-more xs x)
-
-pub slice_get-more : {X : Type 0} (xs : List X) (y x : X) (i : ℕ) → slice_get (xs ++ y ∷ []) i ≡ Some x →
-    (slice_get xs i ≡ Some x) ⊎ ((i ≡ length xs) × (x ≡ y))
-slice_get-more [] y x zero e = inr (refl, grind (arith, e))
-slice_get-more [] y x (suc i) e = cc
-slice_get-more (z ∷ xs) y x zero e = inl e
-slice_get-more (z ∷ xs) y x (suc i) e = elim (slice_get-more xs y x i e) [ inl h ↦ inl h | inr h ↦ inr (ap suc h.0, h.1) ]
 
 pub drop-more : {X : Type 0} (n : ℕ) (xs : List X) (x : X) → n ≤ length xs → drop n (xs ++ x ∷ []) ≡ drop n xs ++ x ∷ []
 drop-more zero xs x l = refl
@@ -110,32 +101,12 @@ from_number-range m n (x ∷ xs) h = go (nat_eq n m) refl (λ f. from_number-ran
     go true e more = let is : n ≡ m = grind (arith, e, nat_tests) in (omega (arith, is), omega (arith, is))
     go false e more = let f = more (grind (arith, e, h)) in (omega (arith, f.0), omega (arith, f.1))
 
-same_side_is : (s t : Side) → same_side s t ≡ true → s ≡ t
-same_side_is A A h = refl
-same_side_is A B h = cc
-same_side_is B A h = cc
-same_side_is B B h = refl
-
-pub and_first : (a b : Bool) → (a && b) ≡ true → a ≡ true
-and_first true b h = refl
-and_first false b h = cc
-
-pub and_second : (a b : Bool) → (a && b) ≡ true → b ≡ true
-and_second true b h = h
-and_second false b h = cc
-
-pub same_end-is : (d e : End) → same_end d e ≡ true → d ≡ e
-same_end-is d e h =
-    let p : d.pair ≡ e.pair = let q = and_first (nat_eq d.pair e.pair) (same_side d.side e.side) h in grind (arith, q, nat_tests) in
-    let s : d.side ≡ e.side = same_side_is d.side e.side (and_second (nat_eq d.pair e.pair) (same_side d.side e.side) h) in
-    λ i. record { pair = p i; side = s i }
-
 -- a test of ends, with what it tells
 pub end_tells : (d e : End) → ((same_end d e ≡ true) × (d ≡ e)) ⊎ ((same_end d e ≡ false) × (d ≢ e))
 end_tells d e = go (same_end d e) refl
   where
     go : (b : Bool) → same_end d e ≡ b → ((same_end d e ≡ true) × (d ≡ e)) ⊎ ((same_end d e ≡ false) × (d ≢ e))
-    go true h = inl (h, same_end-is d e h)
+    go true h = inl (h, same_end-tells d e h)
     go false h = inr (h, λ is. grind (arith, h, is, same_end-itself e))
 
 -- the reach of a queue that has nothing from its reach on rises by one
@@ -194,7 +165,7 @@ out_numbers w b g k r n item law l here at =
     (omega (arith, le, has, one, in_router-is f r, law.exact r.end (of_number n))) in
     (range.0, omega (arith, range.1, length-drop (read b (opposite_end r.end)) (b.put r.end) (law.read_put r.end)))
 
-expected_move-at : (h : Descriptor → ℕ) (k : Key) → move_weight h (At k) ≡ 0
+pub expected_move-at : (h : Descriptor → ℕ) (k : Key) → move_weight h (At k) ≡ 0
 unfolding move_weight
 expected_move-at h k = refl
 
@@ -204,7 +175,7 @@ pub not_moving : (w : World) (g : Records) (k : Key) (e : End) (from to i j : �
 not_moving w g k e from to i j m d law at u h is =
     let h1 : Descriptor → ℕ = λ d. 1 in
     let one : of_end e h1 d ≡ 1 = grind (arith, is, same_end-itself e) in
-    let has : of_end e h1 d ≤ total_list (of_end e h1) (moves_of m) = total_list-has (of_end e h1) (moves_of m) j d h in
+    let has : of_end e h1 d ≤ total_list (of_end e h1) (moves_of m) = total_list-at (of_end e h1) (moves_of m) j d h in
     let weight = weighed (λ from to m. total_list (of_end e h1) (moves_of m)) w from to i m u in
     let none : move_weight h1 (g.terminal e) ≡ 0 = ap (move_weight h1) at ∙ expected_move-at h1 k in
     absurd (omega (arith, one, has, weight, law.one e h1, none))

@@ -9,18 +9,17 @@ use Rattle.ipcz_base.specs.declared.side.Side.TheVariants.{A, B}
 use Rattle.ipcz_base.specs.declared.end.End.{End}
 use Rattle.ipcz_base.specs.Ends.{opposite_end, same_end, has_end}
 use Rattle.ipcz_base.specs.Sides.{opposite}
-use Rattle.ipcz_node.specs.Node.{Node, EndSet, with_ends, without_ends}
+use Rattle.ipcz_node.specs.Node.{Node, EndSet, with_ends, without_ends, holds_end}
 use Rattle.ipcz_node.proofs.Held.{contains-with_ends, contains-without_ends}
 use Rattle.ipcz_node.specs.Calls.{are_held_once}
-use Rattle.ipcz_node.specs.Node.{holds_end}
 use Rattle.ipcz_world.specs.World.{World, node_at}
 use Rattle.ipcz_world.specs.Places.{times}
 use Rattle.ipcz_base.specs.Totals.{total_below}
 use Rattle.ipcz_world.specs.Whereabouts.{times_held}
 use Rattle.ipcz_world.proofs.frames.Changing.{IsNodeChanged}
-use Rattle.ipcz_world.proofs.flows.Flowing.{total_below-swap}
-use Rattle.ipcz_world.proofs.weights.Weighing.{same_end-itself}
+use Rattle.ipcz_world.proofs.flows.Flowing.{total_below-swap, total_below-has}
 use Rattle.ipcz_world.proofs.weights.Booking.{end_tells, flag}
+use Rattle.ipcz_world.proofs.facts.LinkTests.{same_end-itself}
 
 pub times-has : (e : End) (es : List End) → has_end e es ≡ true → 1 ≤ times e es
 times-has e [] h = cc
@@ -154,17 +153,9 @@ pair_ends d e p = go d.side e.side refl refl
     go B A x y = inr (λ i. record { pair = p i; side = (x ∙ ap opposite (sym y)) i })
     go B B x y = inl (λ i. record { pair = p i; side = (x ∙ sym y) i })
 
-total_below-at : (c n : ℕ) (f : ℕ → ℕ) → n < c → f n ≤ total_below c f
-total_below-at zero n f l = absurd (omega (arith, l))
-total_below-at (suc c) n f l = go (nat_eq n c) refl (λ l. total_below-at c n f l)
-  where
-    go : (b : Bool) → nat_eq n c ≡ b → (n < c → f n ≤ total_below c f) → f n ≤ f c + total_below c f
-    go true q more = let is : f n ≡ f c = ap f (grind (arith, q, nat_tests)) in omega (arith, is)
-    go false q more = omega (arith, more (grind (arith, q, l, nat_tests)))
-
 pub times_held-at : (w : World) (n : ℕ) (e : End) → n < w.count →
     held_times e (node_at w n).held + times e (node_at w n).pending ≤ times_held w e
-times_held-at w n e l = total_below-at w.count n (λ n. held_times e (node_at w n).held + times e (node_at w n).pending) l
+times_held-at w n e l = total_below-has w.count n (λ n. held_times e (node_at w n).held + times e (node_at w n).pending) l
 
 pub times_held-changed : (w v : World) (n : ℕ) (x : Node) (e : End) → IsNodeChanged w v n x → n < w.count →
     times_held v e + (held_times e (node_at w n).held + times e (node_at w n).pending) ≡ times_held w e +

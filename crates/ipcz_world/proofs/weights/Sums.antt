@@ -3,7 +3,7 @@ use Rattle.std.specs.Prelude.{◌≡◌, ◌≤◌, ◌<◌, ℕ, zero, suc, ◌
 use Rattle.std.proofs.Common.{arith}
 use Rattle.std.proofs.lemmas.Bool.Decides.{nat_tests}
 use Rattle.ipcz_base.specs.declared.item.Item.{Item}
-use Rattle.ipcz_base.specs.Indexed.{place_at, put_place}
+use Rattle.ipcz_base.specs.Indexed.{place_at}
 use Rattle.ipcz_base.specs.Totals.{total_below, total_list}
 use Rattle.ipcz_world.specs.Places.{from_number}
 
@@ -16,15 +16,6 @@ total_list-at h (y ∷ ys) (suc i) x e = omega (arith, total_list-at h ys i x e)
 pub total_list-plus : {X : Type 0} (f h : X → ℕ) (xs : List X) → total_list (λ x. f x + h x) xs ≡ total_list f xs + total_list h xs
 total_list-plus f h [] = refl
 total_list-plus f h (x ∷ xs) = omega (arith, total_list-plus f h xs)
-
--- another element at a place, where what lies beyond the end weighs nothing
-pub total_list-put : {X : Type 0} (h : X → ℕ) (d : X) (xs : List X) (i : ℕ) (y : X) → h d ≡ 0 →
-    total_list h (put_place d xs i y) + h (place_at d xs i) ≡ total_list h xs + h y
-unfolding put_place place_at
-total_list-put h d [] zero y z = omega (arith, z)
-total_list-put h d [] (suc i) y z = omega (arith, z, total_list-put h d [] i y z)
-total_list-put h d (x ∷ xs) zero y z = omega arith
-total_list-put h d (x ∷ xs) (suc i) y z = omega (arith, total_list-put h d xs i y z)
 
 pub total_list-place : {X : Type 0} (h : X → ℕ) (d : X) (xs : List X) (i : ℕ) → h d ≡ 0 → h (place_at d xs i) ≤ total_list h xs
 unfolding place_at
@@ -52,3 +43,12 @@ just_once n first (item ∷ items) = elim (nat_eq first n) as (λ b. nat_eq firs
       | true ↦ λ e. let f : first ≡ n = grind (arith, nat_tests, e) in omega (arith, none_later n (first + 1) items (omega (arith, f)))
       | false ↦ λ e. omega (arith, just_once n (first + 1) items)
     ] refl
+
+pub total_below-none : (c : ℕ) (f : ℕ → ℕ) → ((j : ℕ) → f j ≡ 0) → total_below c f ≡ 0
+total_below-none zero f h = refl
+total_below-none (suc c) f h = omega (arith, h c, total_below-none c f h)
+
+pub total_list-agree : {X : Type 0} (f h : X → ℕ) (xs : List X) → ((i : ℕ) (x : X) → slice_get xs i ≡ Some x → f x ≡ h x) →
+    total_list f xs ≡ total_list h xs
+total_list-agree f h [] e = refl
+total_list-agree f h (x ∷ xs) e = omega (arith, e 0 x refl, total_list-agree f h xs (λ i y. e (suc i) y))

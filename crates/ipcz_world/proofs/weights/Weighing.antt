@@ -1,5 +1,6 @@
 -- What the items in all places weigh, after each update, and that no item is in two places.
-use Rattle.ipcz_world.specs.Places.{in_message as in_message', in_node as in_node', in_places as in_places'}
+use Rattle.ipcz_world.specs.Places.{in_message as in_message', in_node as in_node', in_places as in_places', Weight, in_router, at_end}
+use Rattle.ipcz_world.specs.Places.{from_number}
 use Rattle.std.specs.Prelude.{◌≡◌, ◌≤◌, ◌<◌, ◌+◌, ℕ, Bool, true, false, cond, nat_eq, Some, None, refl, List, [], ◌∷◌, drop, slice_get}
 use Rattle.std.specs.Ordering.{nat_cmp}
 use Rattle.std.specs.Cmp.{nat_cmp_total}
@@ -7,14 +8,13 @@ use Rattle.std.specs.FinMap.{get, insert, remove, nat_cmp-IsAntisymmetric}
 use Rattle.std.proofs.Common.{arith, ap, subst, ◌∙◌, sym}
 use Rattle.std.proofs.lemmas.Bool.Decides.{nat_tests}
 use Rattle.ipcz_base.specs.declared.side.Side.{Side}
-use Rattle.ipcz_base.specs.declared.end.End.{End}
 use Rattle.ipcz_base.specs.declared.link_id.LinkId.{LinkId}
 use Rattle.ipcz_base.specs.declared.descriptor.Descriptor.{Descriptor}
 use Rattle.ipcz_base.specs.declared.item.Item.{Item}
 use Rattle.ipcz_base.specs.declared.message.Message.{Message}
 use Rattle.ipcz_base.specs.declared.message.Message.TheVariants as messages
-use Rattle.ipcz_base.specs.Ends.{opposite_end, same_end}
-use Rattle.ipcz_base.specs.Totals.{total}
+use Rattle.ipcz_base.specs.Ends.{opposite_end}
+use Rattle.ipcz_base.specs.Totals.{total, total_below, total_list}
 use Rattle.ipcz_base.proofs.Totals.{total-insert, total-insert_new, total-remove}
 use Rattle.ipcz_seq.specs.Queue.{Queue, item_at, push_at, pop_front}
 use Rattle.ipcz_router.specs.Router.{Router}
@@ -23,14 +23,13 @@ use Rattle.ipcz_world.specs.World.{World, Key, node_at, router_at, flow, set_rou
 use Rattle.ipcz_world.proofs.frames.Frames.{frames, node-set_node, word-set_node, claimed-set_node, size-set_node, count-set_node}
 use Rattle.ipcz_world.specs.Books.{Books, read}
 use Rattle.ipcz_world.specs.Records.{Records}
-use Rattle.ipcz_world.proofs.weights.OfRecords.{source}
+use Rattle.ipcz_world.proofs.weights.OfRecords.{source, in_message, in_node, in_places}
 use Rattle.ipcz_world.specs.Flows.{IsUnderWay, under_way}
-use Rattle.ipcz_world.specs.Places.{Weight, in_router, at_end, from_number}
-use Rattle.ipcz_world.proofs.weights.OfRecords.{in_message, in_node, in_places}
-use Rattle.ipcz_base.specs.Totals.{total_below, total_list}
 use Rattle.ipcz_world.specs.Whereabouts.{Conserved}
 use Rattle.ipcz_world.proofs.frames.Changing.{IsNodeChanged, flow_is}
-use Rattle.ipcz_world.proofs.flows.Flowing.{total_below-swap, total_below-same, weighed}
+use Rattle.ipcz_world.proofs.flows.Flowing.{total_below-swap, weighed}
+use Rattle.ipcz_world.proofs.weights.Totalling.{total_below-same}
+use Rattle.ipcz_world.proofs.facts.LinkTests.{same_end-itself}
 
 flow-set_router : (w : World) (k : Key) (y : Router) (from to : ℕ) → flow (set_router w k y) from to ≡ flow w from to
 flow-set_router w k y from to = flow_is (set_router w k y) from to ∙ grind (arith, frames, nat_tests) ∙ sym (flow_is w from to)
@@ -139,9 +138,6 @@ from_number-once n i (x ∷ xs) = go (nat_eq i n) refl (from_number-once n (i + 
     go true e le = omega (arith, from_number-none n (i + 1) xs (grind (arith, e, nat_tests)))
     go false e le = omega (arith, le)
 
-pub same_end-itself : (e : End) → same_end e e ≡ true
-same_end-itself e = grind arith
-
 pub in_message-item : (f : Weight) (g : Records) (link : LinkId) (s : Side) (n : ℕ) (item : Item) (moves : List Descriptor) →
     in_message f g (messages.Item link s n item moves) ≡ f (source g link s) n item
 unfolding in_message'
@@ -212,3 +208,14 @@ not_in_in w b g k r from to i link s n item x moves law l here u end is =
       total-remove nat_cmp nat_cmp_total nat_cmp-IsAntisymmetric (f (opposite_end r.end)) r.in_queue.items n x is,
       one,
     )
+
+pub in_message-same : (f : Weight) (g h : Records) (m : Message) →
+    ((x : LinkId) (c : Side) (j : ℕ) (z : Item) (ds : List Descriptor) → m ≡ messages.Item x c j z ds → source h x c ≡ source g x c) →
+    in_message f h m ≡ in_message f g m
+unfolding in_message'
+in_message-same f g h (messages.Item l s n x ms) e = ap (λ d. f d n x) (e l s n x ms refl)
+in_message-same f g h (messages.BypassPeer l s old t c) e = refl
+in_message-same f g h (messages.AcceptBypass old s c len) e = refl
+in_message-same f g h (messages.StopProxying old s a b) e = refl
+in_message-same f g h (messages.ProxyWillStop l s a) e = refl
+in_message-same f g h (messages.Flush l s) e = refl

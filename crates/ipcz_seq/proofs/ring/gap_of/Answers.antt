@@ -11,8 +11,10 @@ overflow_add-current g c =
 
 pub loop-from-preserved : goal.loop-from-preserved
 loop-from-preserved g c = elim c.if-index-current.branch [
-  | then-index-current w ↦ rw (w.from-is, w.to-is) (further _ _ _ _ _ _ c.requires c.loop-from.invariant c.loop-from-test.true c.index.ensures w.if-index-current.true)
-  | else-index-current w ↦ rw (w.from-is, w.to-is) (nearer _ _ _ _ _ _ c.requires c.loop-from.invariant c.loop-from-test.true c.index.ensures w.if-index-current.false)
+  | then-index-current w ↦ rw (w.from-is, w.to-is)
+      (further _ _ _ _ _ _ c.requires c.loop-from.invariant c.loop-from-test.true c.index.ensures w.if-index-current.true)
+  | else-index-current w ↦ rw (w.from-is, w.to-is)
+      (nearer _ _ _ _ _ _ c.requires c.loop-from.invariant c.loop-from-test.true c.index.ensures w.if-index-current.false)
 ]
 
 pub returns : goal.returns

@@ -10,15 +10,22 @@ refile-requires c =
     let r = c.router_mut-router.result.now.router in
     let w = c.accept_bypass-sending.new.router.router in
     let some : 0 < c.self.inside.more = subst (λ v. 0 < v.filed.links) (sym c.self.view_is) c.requires.room in
-    let fits : FilesWithin 1 r w = subst (FilesWithin 1 r) (sym c.accept_bypass-sending.ensures.router) (accept_bypass_standing r _ _ _ _) in
-    can_change _ c.args.serial r w _ _ 1 fits _ c.self.inside.links _ c.self.inside.terminals _ c.self.inside.flagged c.self.inside.room c.self.inside.more (c.self.inside.more - 1) c.self.inside.routers.room (sym c.router_mut-router.ensures.value) c.filing-was.ensures c.filing-is.ensures (omega (arith, some)) c.self.invariant.0
+    let fits : FilesWithin 1 r w = subst (FilesWithin 1 r) (sym c.accept_bypass-sending.ensures.router)
+    (accept_bypass_standing r _ _ _ _) in
+    can_change _ c.args.serial r w _ _ 1 fits _ c.self.inside.links _ c.self.inside.terminals _ c.self.inside.flagged c.self.inside.room
+    c.self.inside.more (c.self.inside.more - 1) c.self.inside.routers.room (sym c.router_mut-router.ensures.value)
+    c.filing-was.ensures c.filing-is.ensures (omega (arith, some)) c.self.invariant.0
 
 pub invariant_of-self : goal.invariant_of-self
 invariant_of-self c =
     let r = c.router_mut-router.result.now.router in
     let w = c.accept_bypass-sending.new.router.router in
     let some : 0 < c.self.inside.more = subst (λ v. 0 < v.filed.links) (sym c.self.view_is) c.requires.room in
-    let fits : FilesWithin 1 r w = subst (FilesWithin 1 r) (sym c.accept_bypass-sending.ensures.router) (accept_bypass_standing r _ _ _ _) in (
-      changed _ c.args.serial r w _ _ 1 fits _ _ _ _ _ _ c.self.inside.room c.self.inside.more (c.self.inside.more - 1) c.self.inside.routers.room (sym c.router_mut-router.ensures.value) c.filing-was.ensures c.filing-is.ensures (omega (arith, some)) c.self.invariant.0 c.refile.ensures,
-      hold_kept _ c.args.serial r w c.self.inside.ends c.self.inside.room c.self.inside.held.room (sym c.router_mut-router.ensures.value) (ap ends_inside c.accept_bypass-sending.ensures.router) c.self.invariant.1,
+    let fits : FilesWithin 1 r w = subst (FilesWithin 1 r) (sym c.accept_bypass-sending.ensures.router)
+    (accept_bypass_standing r _ _ _ _) in (
+      changed _ c.args.serial r w _ _ 1 fits _ _ _ _ _ _ c.self.inside.room c.self.inside.more (c.self.inside.more - 1)
+          c.self.inside.routers.room (sym c.router_mut-router.ensures.value) c.filing-was.ensures c.filing-is.ensures (omega (arith, some))
+          c.self.invariant.0 c.refile.ensures,
+      hold_kept _ c.args.serial r w c.self.inside.ends c.self.inside.room c.self.inside.held.room (sym c.router_mut-router.ensures.value)
+          (ap ends_inside c.accept_bypass-sending.ensures.router) c.self.invariant.1,
     )

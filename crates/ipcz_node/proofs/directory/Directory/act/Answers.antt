@@ -9,12 +9,27 @@ refile-requires c =
     let r = c.router_mut-router.result.now.router in
     let w = c.apply-applied.new.self.router in
     let fits : FilesWithin 0 r w = subst (FilesWithin 0 r) (sym c.apply-applied.ensures.router) (act_standing r _ _) in
-    can_change _ c.args.serial r w _ _ 0 fits _ c.self.inside.links _ c.self.inside.terminals _ c.self.inside.flagged c.self.inside.room c.self.inside.more c.self.inside.more c.self.inside.routers.room (sym c.router_mut-router.ensures.value) c.filing-was.ensures c.filing-is.ensures (omega arith) c.self.invariant.0
+    can_change _ c.args.serial r w _ _ 0 fits _ c.self.inside.links _ c.self.inside.terminals _ c.self.inside.flagged c.self.inside.room
+    c.self.inside.more c.self.inside.more c.self.inside.routers.room (sym c.router_mut-router.ensures.value)
+    c.filing-was.ensures c.filing-is.ensures (omega arith) c.self.invariant.0
 
 pub invariant_of-self : goal.invariant_of-self
 invariant_of-self c =
     let r = c.router_mut-router.result.now.router in
     let w = c.apply-applied.new.self.router in
     let fits : FilesWithin 0 r w = subst (FilesWithin 0 r) (sym c.apply-applied.ensures.router) (act_standing r _ _) in
-    let fewer : ends_inside w + c.ends_taken.result ≤ ends_inside r = omega (arith, act_inside r c.args.act c.args.answer, ap ends_inside c.apply-applied.ensures.router, c.ends_taken.ensures, ap (ends_taken c.args.act) c.apply-applied.ensures.output) in
-    (changed _ c.args.serial r w _ _ 0 fits _ _ _ _ _ _ c.self.inside.room c.self.inside.more c.self.inside.more c.self.inside.routers.room (sym c.router_mut-router.ensures.value) c.filing-was.ensures c.filing-is.ensures (omega arith) c.self.invariant.0 c.refile.ensures, hold_spent _ c.args.serial r w c.self.inside.ends _ c.ends_taken.result c.self.inside.room c.self.inside.held.room c.self.inside.held.room (sym c.router_mut-router.ensures.value) fewer c.saturating_sub-self-inside.ensures (omega arith) c.self.invariant.1)
+    let fewer : ends_inside w + c.ends_taken.result ≤ ends_inside r =
+    omega (
+      arith,
+      act_inside r c.args.act c.args.answer,
+      ap ends_inside c.apply-applied.ensures.router,
+      c.ends_taken.ensures,
+      ap (ends_taken c.args.act) c.apply-applied.ensures.output,
+    ) in (
+      changed _ c.args.serial r w _ _ 0 fits _ _ _ _ _ _ c.self.inside.room c.self.inside.more c.self.inside.more c.self.inside.routers.room
+          (sym c.router_mut-router.ensures.value) c.filing-was.ensures c.filing-is.ensures (omega arith)
+          c.self.invariant.0 c.refile.ensures,
+      hold_spent _ c.args.serial r w c.self.inside.ends _ c.ends_taken.result c.self.inside.room c.self.inside.held.room
+          c.self.inside.held.room (sym c.router_mut-router.ensures.value) fewer c.saturating_sub-self-inside.ensures (omega arith)
+          c.self.invariant.1,
+    )

@@ -17,14 +17,22 @@ invariant_of-self c =
     let at = central_end c.args.pair c.args.side c.args.other in
     let next = c.self.inside.routers.next in
     let added = ap (λ v. v.routers) c.add-3.ensures in
-    let to_links = subst (λ n. (key : _) (s : ℕ) → is_filed link_end_cmp c.add.new.self.members key s ≡ ((is_eq (link_end_cmp (at.link, at.side) key) && n == s) || is_filed link_end_cmp c.self.inside.links.members key s)) c.next_serial-serial.ensures.next c.add.ensures.members in
-    let to_terminals = subst (λ n. (key : _) (s : ℕ) → is_filed end_cmp c.add-2.new.self.members key s ≡ ((is_eq (end_cmp pair key) && n == s) || is_filed end_cmp c.self.inside.terminals.members key s)) c.next_serial-serial.ensures.next c.add-2.ensures.members in
+    let to_links = subst (λ n. (key : _) (s : ℕ) → is_filed link_end_cmp c.add.new.self.members key s ≡
+    ((is_eq (link_end_cmp (at.link, at.side) key) && n == s) || is_filed link_end_cmp c.self.inside.links.members key s))
+    c.next_serial-serial.ensures.next c.add.ensures.members in
+    let to_terminals = subst (λ n. (key : _) (s : ℕ) → is_filed end_cmp c.add-2.new.self.members key s ≡
+    ((is_eq (end_cmp pair key) && n == s) || is_filed end_cmp c.self.inside.terminals.members key s))
+    c.next_serial-serial.ensures.next c.add-2.ensures.members in
     let some : 0 < c.self.inside.room = subst (λ v. 0 < v.filed.room) (sym c.self.view_is) c.requires.room in (
       (
-        filed_added _ _ next w pair at 0 0 _ _ _ _ _ _ c.next_serial-serial.ensures.free added c.terminal.ensures to_links to_terminals c.self.invariant.0.0,
-        room_added _ _ next w _ _ _ _ _ _ _ _ _ c.next_serial-serial.ensures.free added (ap (λ r. r.flagged) c.terminal.ensures) some (ap (λ v. v.room) c.add-3.ensures) c.add.ensures.room c.add-2.ensures.room c.self.invariant.0.1,
+        filed_added _ _ next w pair at 0 0 _ _ _ _ _ _ c.next_serial-serial.ensures.free added c.terminal.ensures to_links to_terminals
+            c.self.invariant.0.0,
+        room_added _ _ next w _ _ _ _ _ _ _ _ _ c.next_serial-serial.ensures.free added (ap (λ r. r.flagged) c.terminal.ensures) some
+            (ap (λ v. v.room) c.add-3.ensures) c.add.ensures.room c.add-2.ensures.room c.self.invariant.0.1,
       ),
-      hold_added _ _ next w c.self.inside.ends c.self.inside.room c.self.inside.held.room c.insert.new.self.room c.next_serial-serial.ensures.free added (ap ends_inside c.terminal.ensures ∙ fresh_inside 0) some c.insert.ensures.room c.self.invariant.1,
+      hold_added _ _ next w c.self.inside.ends c.self.inside.room c.self.inside.held.room c.insert.new.self.room
+          c.next_serial-serial.ensures.free added (ap ends_inside c.terminal.ensures ∙ fresh_inside 0)
+          some c.insert.ensures.room c.self.invariant.1,
     )
 
 pub insert-requires : goal.insert-requires

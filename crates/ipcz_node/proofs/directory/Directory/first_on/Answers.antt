@@ -8,4 +8,5 @@ pub returns : goal.returns
 returns c =
     let by = c.self.invariant.0.0 in
     subst (λ v. IsFound (λ r. router_has r c.args.link c.args.side) v.filed.routers c.first.result) c.self.view_is
-    (found_filed (λ r. router_has r c.args.link c.args.side) c.self.inside.routers.routers c.first.result _ (by.by_link c.args.link c.args.side) c.first.ensures)
+    (found_filed (λ r. router_has r c.args.link c.args.side) c.self.inside.routers.routers c.first.result _
+    (by.by_link c.args.link c.args.side) c.first.ensures)

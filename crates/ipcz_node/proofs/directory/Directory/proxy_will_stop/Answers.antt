@@ -10,13 +10,18 @@ refile-requires c =
     let r = c.router_mut-router.result.now.router in
     let w = c.proxy_will_stop.new.router.router in
     let fits : FilesWithin 0 r w = subst (FilesWithin 0 r) (sym c.proxy_will_stop.ensures.router) (proxy_will_stop_standing r _) in
-    can_change _ c.args.serial r w _ _ 0 fits _ c.self.inside.links _ c.self.inside.terminals _ c.self.inside.flagged c.self.inside.room c.self.inside.more c.self.inside.more c.self.inside.routers.room (sym c.router_mut-router.ensures.value) c.filing-was.ensures c.filing-is.ensures (omega arith) c.self.invariant.0
+    can_change _ c.args.serial r w _ _ 0 fits _ c.self.inside.links _ c.self.inside.terminals _ c.self.inside.flagged c.self.inside.room
+    c.self.inside.more c.self.inside.more c.self.inside.routers.room (sym c.router_mut-router.ensures.value)
+    c.filing-was.ensures c.filing-is.ensures (omega arith) c.self.invariant.0
 
 pub invariant_of-self : goal.invariant_of-self
 invariant_of-self c =
     let r = c.router_mut-router.result.now.router in
     let w = c.proxy_will_stop.new.router.router in
     let fits : FilesWithin 0 r w = subst (FilesWithin 0 r) (sym c.proxy_will_stop.ensures.router) (proxy_will_stop_standing r _) in (
-      changed _ c.args.serial r w _ _ 0 fits _ _ _ _ _ _ c.self.inside.room c.self.inside.more c.self.inside.more c.self.inside.routers.room (sym c.router_mut-router.ensures.value) c.filing-was.ensures c.filing-is.ensures (omega arith) c.self.invariant.0 c.refile.ensures,
-      hold_kept _ c.args.serial r w c.self.inside.ends c.self.inside.room c.self.inside.held.room (sym c.router_mut-router.ensures.value) (ap ends_inside c.proxy_will_stop.ensures.router) c.self.invariant.1,
+      changed _ c.args.serial r w _ _ 0 fits _ _ _ _ _ _ c.self.inside.room c.self.inside.more c.self.inside.more c.self.inside.routers.room
+          (sym c.router_mut-router.ensures.value) c.filing-was.ensures c.filing-is.ensures (omega arith)
+          c.self.invariant.0 c.refile.ensures,
+      hold_kept _ c.args.serial r w c.self.inside.ends c.self.inside.room c.self.inside.held.room (sym c.router_mut-router.ensures.value)
+          (ap ends_inside c.proxy_will_stop.ensures.router) c.self.invariant.1,
     )

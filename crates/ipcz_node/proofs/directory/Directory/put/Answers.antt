@@ -10,13 +10,26 @@ pub refile-requires : goal.refile-requires
 refile-requires c =
     let r = c.router_mut-router.result.now.router in
     let w = c.put-answer.new.self.router in
-    let fits : FilesWithin 0 r w = after (FilesWithin 0 r) c.put-answer.result r w (put_item r (Parcel c.args.parcel)) c.put-answer.ensures.ok (left_after (λ e. e.1 ≡ c.args.parcel) (w ≡ r) c.put-answer.result c.put-answer.ensures.err) (put_standing r _) (same_standing r) in
-    can_change _ c.args.serial r w _ _ 0 fits _ c.self.inside.links _ c.self.inside.terminals _ c.self.inside.flagged c.self.inside.room c.self.inside.more c.self.inside.more c.self.inside.routers.room (sym c.router_mut-router.ensures.value) c.filing-was.ensures c.filing-is.ensures (omega arith) c.self.invariant.0
+    let fits : FilesWithin 0 r w = after (FilesWithin 0 r) c.put-answer.result r w (put_item r (Parcel c.args.parcel))
+    c.put-answer.ensures.ok (left_after (λ e. e.1 ≡ c.args.parcel) (w ≡ r) c.put-answer.result c.put-answer.ensures.err)
+    (put_standing r _) (same_standing r) in
+    can_change _ c.args.serial r w _ _ 0 fits _ c.self.inside.links _ c.self.inside.terminals _ c.self.inside.flagged c.self.inside.room
+    c.self.inside.more c.self.inside.more c.self.inside.routers.room (sym c.router_mut-router.ensures.value)
+    c.filing-was.ensures c.filing-is.ensures (omega arith) c.self.invariant.0
 
 pub invariant_of-self : goal.invariant_of-self
 invariant_of-self c =
     let r = c.router_mut-router.result.now.router in
     let w = c.put-answer.new.self.router in
-    let fits : FilesWithin 0 r w = after (FilesWithin 0 r) c.put-answer.result r w (put_item r (Parcel c.args.parcel)) c.put-answer.ensures.ok (left_after (λ e. e.1 ≡ c.args.parcel) (w ≡ r) c.put-answer.result c.put-answer.ensures.err) (put_standing r _) (same_standing r) in
-    let same : ends_inside w ≡ ends_inside r = after (λ x. ends_inside x ≡ ends_inside r) c.put-answer.result r w (put_item r (Parcel c.args.parcel)) c.put-answer.ensures.ok (left_after (λ e. e.1 ≡ c.args.parcel) (w ≡ r) c.put-answer.result c.put-answer.ensures.err) refl refl in
-    (changed _ c.args.serial r w _ _ 0 fits _ _ _ _ _ _ c.self.inside.room c.self.inside.more c.self.inside.more c.self.inside.routers.room (sym c.router_mut-router.ensures.value) c.filing-was.ensures c.filing-is.ensures (omega arith) c.self.invariant.0 c.refile.ensures, hold_kept _ c.args.serial r w c.self.inside.ends c.self.inside.room c.self.inside.held.room (sym c.router_mut-router.ensures.value) same c.self.invariant.1)
+    let fits : FilesWithin 0 r w = after (FilesWithin 0 r) c.put-answer.result r w (put_item r (Parcel c.args.parcel))
+    c.put-answer.ensures.ok (left_after (λ e. e.1 ≡ c.args.parcel) (w ≡ r) c.put-answer.result c.put-answer.ensures.err)
+    (put_standing r _) (same_standing r) in
+    let same : ends_inside w ≡ ends_inside r = after (λ x. ends_inside x ≡ ends_inside r) c.put-answer.result r w
+    (put_item r (Parcel c.args.parcel)) c.put-answer.ensures.ok
+    (left_after (λ e. e.1 ≡ c.args.parcel) (w ≡ r) c.put-answer.result c.put-answer.ensures.err) refl refl in (
+      changed _ c.args.serial r w _ _ 0 fits _ _ _ _ _ _ c.self.inside.room c.self.inside.more c.self.inside.more c.self.inside.routers.room
+          (sym c.router_mut-router.ensures.value) c.filing-was.ensures c.filing-is.ensures (omega arith)
+          c.self.invariant.0 c.refile.ensures,
+      hold_kept _ c.args.serial r w c.self.inside.ends c.self.inside.room c.self.inside.held.room
+          (sym c.router_mut-router.ensures.value) same c.self.invariant.1,
+    )

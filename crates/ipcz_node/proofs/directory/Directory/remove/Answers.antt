@@ -7,13 +7,20 @@ use Rattle.ipcz_node.proofs.directory.Directory.remove.Goals as goal
 
 pub refile-requires : goal.refile-requires
 refile-requires c =
-    can_refile _ c.args.serial c.remove-router.result.router _ _ _ _ _ c.self.inside.room c.self.inside.more c.self.inside.routers.room (sym c.remove-router.ensures.router) c.filing-was.ensures (omega arith) (λ h. refl) refl c.self.invariant.0
+    can_refile _ c.args.serial c.remove-router.result.router _ _ _ _ _ c.self.inside.room c.self.inside.more c.self.inside.routers.room
+    (sym c.remove-router.ensures.router) c.filing-was.ensures (omega arith) (λ h. refl) refl c.self.invariant.0
 
 pub invariant_of-self : goal.invariant_of-self
 invariant_of-self c =
-    let held = unfiled _ c.args.serial c.remove-router.result.router _ (nowhere c.filing-was.result.end) _ _ _ _ _ _ c.self.inside.room c.self.inside.more c.self.inside.routers.room c.remove-router.new.self.room (sym c.remove-router.ensures.router) c.filing-was.ensures
-    (under_nowhere c.filing-was.result.end) refl refl refl (omega (arith, c.remove-router.ensures.room)) c.self.invariant.0 c.refile.ensures in (
-      subst (λ m. AreFiled m c.refile.new.links.members c.refile.new.terminals.members c.refile.new.flagged.members × HaveRoom m c.self.inside.room c.self.inside.more c.remove-router.new.self.room c.refile.new.links.room c.refile.new.terminals.room c.refile.new.flagged.room)
+    let held = unfiled _ c.args.serial c.remove-router.result.router _ (nowhere c.filing-was.result.end)
+    _ _ _ _ _ _ c.self.inside.room c.self.inside.more c.self.inside.routers.room c.remove-router.new.self.room
+    (sym c.remove-router.ensures.router) c.filing-was.ensures
+    (under_nowhere c.filing-was.result.end) refl refl refl (omega (arith, c.remove-router.ensures.room))
+    c.self.invariant.0 c.refile.ensures in (
+      subst (λ m. AreFiled m c.refile.new.links.members c.refile.new.terminals.members c.refile.new.flagged.members ×
+          HaveRoom m c.self.inside.room c.self.inside.more c.remove-router.new.self.room c.refile.new.links.room c.refile.new.terminals.room
+          c.refile.new.flagged.room)
           (sym c.remove-router.ensures.routers) held,
-      hold_dropped _ _ c.args.serial c.remove-router.result.router c.self.inside.ends c.self.inside.room c.self.inside.held.room (sym c.remove-router.ensures.router) c.remove-router.ensures.routers c.self.invariant.1,
+      hold_dropped _ _ c.args.serial c.remove-router.result.router c.self.inside.ends c.self.inside.room c.self.inside.held.room
+          (sym c.remove-router.ensures.router) c.remove-router.ensures.routers c.self.invariant.1,
     )

@@ -6,8 +6,11 @@ use Rattle.ipcz_node.proofs.directory.Directory.reserve.Goals as goal
 pub invariant_of-self-2 : goal.invariant_of-self-2
 invariant_of-self-2 c = (
   (
-    same_filed _ _ _ _ _ _ _ _ c.reserve.ensures.routers c.reserve-2.ensures.members c.reserve-3.ensures.members c.reserve-4.ensures.members c.self.invariant.0.0,
-    room_for _ _ _ _ _ _ _ c.in_ok-reserve.ensures.ok c.in_ok-reserve-2.ensures.ok c.in_ok-reserve-3.ensures.ok (omega (arith, c.in_ok-reserve-4.ensures.ok, c.len.ensures.count)),
+    same_filed _ _ _ _ _ _ _ _ c.reserve.ensures.routers c.reserve-2.ensures.members c.reserve-3.ensures.members c.reserve-4.ensures.members
+        c.self.invariant.0.0,
+    room_for _ _ _ _ _ _ _ c.in_ok-reserve.ensures.ok c.in_ok-reserve-2.ensures.ok c.in_ok-reserve-3.ensures.ok
+        (omega (arith, c.in_ok-reserve-4.ensures.ok, c.len.ensures.count)),
   ),
-  hold_more _ _ c.self.inside.ends c.args.routers c.self.inside.room _ _ c.reserve.ensures.routers (omega (arith, c.in_ok-reserve-5.ensures.ok, c.in-Some.ensures)) c.self.invariant.1,
+  hold_more _ _ c.self.inside.ends c.args.routers c.self.inside.room _ _ c.reserve.ensures.routers
+      (omega (arith, c.in_ok-reserve-5.ensures.ok, c.in-Some.ensures)) c.self.invariant.1,
 )

@@ -6,10 +6,12 @@ use Rattle.ipcz_node.proofs.outboxes.Outboxes.pop.Goals as goal
 
 pub returns-clause-messages : goal.returns-clause-messages
 returns-clause-messages c =
-    put_map (λ q. q.items) [] rest_of c.self.inside.queues.items c.from.result c.args.to c.index_mut.result.now c.pop_from.new.queue c.index_mut.ensures.value c.pop_from.ensures.items c.from.ensures (omega (arith, c.self.invariant, c.from.ensures))
+    put_map (λ q. q.items) [] rest_of c.self.inside.queues.items c.from.result c.args.to c.index_mut.result.now c.pop_from.new.queue
+    c.index_mut.ensures.value c.pop_from.ensures.items c.from.ensures (omega (arith, c.self.invariant, c.from.ensures))
     ∙ ap (λ v. put_place [] v.messages c.args.to (rest_of (place_at [] v.messages c.args.to))) c.self.view_is
 
 pub returns-clause-message : goal.returns-clause-message
 returns-clause-message c =
-    let at = place_map (λ q. q.items) [] c.self.inside.queues.items c.from.result c.args.to c.index_mut.result.now c.index_mut.ensures.value c.from.ensures (omega (arith, c.self.invariant, c.from.ensures)) in
+    let at = place_map (λ q. q.items) [] c.self.inside.queues.items c.from.result c.args.to c.index_mut.result.now c.index_mut.ensures.value
+    c.from.ensures (omega (arith, c.self.invariant, c.from.ensures)) in
     c.pop_from.ensures.message ∙ ap first_of (sym at ∙ ap (λ v. place_at [] v.messages c.args.to) c.self.view_is)

@@ -5,11 +5,15 @@ use Rattle.ipcz_node.proofs.outboxes.Outboxes.push.Goals as goal
 
 pub push_back_reserved-requires : goal.push_back_reserved-requires
 push_back_reserved-requires c =
-    let at = place_map (λ q. deque_capacity q - deque_len q) 0 c.self.inside.queues.items c.from.result c.args.to c.index_mut.result.now c.index_mut.ensures.value c.from.ensures (omega (arith, c.self.invariant, c.from.ensures)) in
-    let some : 0 < deque_capacity c.index_mut.result.now - deque_len c.index_mut.result.now = subst (λ (n : ℕ). 0 < n) (ap (λ v. place_at 0 v.room c.args.to) (sym c.self.view_is) ∙ at) c.requires in
+    let at = place_map (λ q. deque_capacity q - deque_len q) 0 c.self.inside.queues.items c.from.result c.args.to c.index_mut.result.now
+    c.index_mut.ensures.value c.from.ensures (omega (arith, c.self.invariant, c.from.ensures)) in
+    let some : 0 < deque_capacity c.index_mut.result.now - deque_len c.index_mut.result.now =
+    subst (λ (n : ℕ). 0 < n) (ap (λ v. place_at 0 v.room c.args.to) (sym c.self.view_is) ∙ at) c.requires in
     omega (arith, some)
 
 pub returns : goal.returns
 returns c =
-    put_map (λ q. q.items) [] (λ q. q ++ c.args.message ∷ []) c.self.inside.queues.items c.from.result c.args.to c.index_mut.result.now c.push_back_reserved.new.self c.index_mut.ensures.value c.push_back_reserved.ensures.items c.from.ensures (omega (arith, c.self.invariant, c.from.ensures))
+    put_map (λ q. q.items) [] (λ q. q ++ c.args.message ∷ []) c.self.inside.queues.items c.from.result c.args.to c.index_mut.result.now
+    c.push_back_reserved.new.self c.index_mut.ensures.value c.push_back_reserved.ensures.items c.from.ensures
+    (omega (arith, c.self.invariant, c.from.ensures))
     ∙ ap (λ v. put_place [] v.messages c.args.to (place_at [] v.messages c.args.to ++ c.args.message ∷ [])) c.self.view_is

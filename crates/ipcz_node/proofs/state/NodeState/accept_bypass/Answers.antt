@@ -14,8 +14,10 @@ use Rattle.ipcz_node.proofs.state.NodeState.accept_bypass.Goals as goal
 
 pub tell-requires : goal.tell-requires
 tell-requires c =
-    let r = taken (router_in c.args.self.now.node c.args.serial) (λ (x : Router). HasRoomToward c.args.self.now x.outward.primary) c.requires.outbox in
+    let r = taken (router_in c.args.self.now.node c.args.serial) (λ (x : Router). HasRoomToward c.args.self.now x.outward.primary)
+    c.requires.outbox in
     let sent = c.accept_bypass-sending.ensures.sending r.0 (ap (λ v. get v.node.routers c.args.serial) c.self.view_is ∙ r.1) in
     let told = room_to_stop c.args.self.now r.0 r.0.outward.primary c.args.old c.args.side c.args.length r.2 in
-    let room = subst (λ (v : RoomyNode). HasRoomToTell v (stop_message r.0 r.0.outward.primary c.args.old c.args.side c.args.length)) (sym c.self.view_is) told in
+    let room = subst (λ (v : RoomyNode). HasRoomToTell v (stop_message r.0 r.0.outward.primary c.args.old c.args.side c.args.length))
+    (sym c.self.view_is) told in
     subst (λ (s : Option Sending). IfSome s (λ x. 0 < place_at 0 c.self.inside.outboxes.room x.to)) (sym sent) room

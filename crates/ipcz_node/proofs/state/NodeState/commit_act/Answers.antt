@@ -13,7 +13,8 @@ pub event-event-requires : goal.event-event-requires
 event-event-requires c =
     let r = taken (router_in c.args.self.now.node c.args.serial) (λ (x : Router). may_take x c.args.act ≡ true) c.requires.possible in
     let a = c.act_router-applied in
-    can_tell c.args.self.now a.new.self a.result (ap (λ r. r.event_ends) a.ensures.room) a.ensures.number (subst (CanTell c.args.self.now) (sym (a.ensures.output r.0 r.1)) (c.requires.ready r.0 r.1).1)
+    can_tell c.args.self.now a.new.self a.result (ap (λ r. r.event_ends) a.ensures.room) a.ensures.number
+    (subst (CanTell c.args.self.now) (sym (a.ensures.output r.0 r.1)) (c.requires.ready r.0 r.1).1)
 
 pub send-requires : goal.send-requires
 send-requires c =
@@ -35,6 +36,9 @@ returns-clause-event c r is =
     let may = taken (router_in c.args.self.now.node c.args.serial) (λ (x : Router). may_take x c.args.act ≡ true) c.requires.possible in
     let same : may.0 ≡ r = cc (may.1, is) in
     c.event-event.ensures.event
-    ∙ ap (λ l. act_event c.args.serial l c.args.act c.args.answer a.result (moved_by a.new.self.node a.result)) (c.link_acted-link.ensures r is)
-    ∙ ap (λ o. act_event c.args.serial (link_acted r c.args.act) c.args.act c.args.answer o (moved_by a.new.self.node o)) (a.ensures.output r is)
-    ∙ told c.args.self.now.node a.new.self.node c.args.serial r c.args.act c.args.answer (subst (λ (x : Router). may_take x c.args.act ≡ true) same may.2) a.ensures.number
+    ∙ ap (λ l. act_event c.args.serial l c.args.act c.args.answer a.result (moved_by a.new.self.node a.result))
+    (c.link_acted-link.ensures r is)
+    ∙ ap (λ o. act_event c.args.serial (link_acted r c.args.act) c.args.act c.args.answer o (moved_by a.new.self.node o))
+    (a.ensures.output r is)
+    ∙ told c.args.self.now.node a.new.self.node c.args.serial r c.args.act c.args.answer
+    (subst (λ (x : Router). may_take x c.args.act ≡ true) same may.2) a.ensures.number

@@ -13,9 +13,12 @@ pub place_of-requires : goal.place_of-requires
 place_of-requires g c = waiting_from 0 _ _ (omega arith) c.self.invariant
 
 -- a number from the current one on has its place where the search doesn't find it
-placed : {T : Type 0} (c n : ℕ) (es : List (ℕ × T)) (r : Result ℕ ℕ) → AreWaiting c es → c ≤ n → MatchResult r (λ _. IsSome (find nat_cmp n es)) (IsPlaceFor n es) → is_err r ≡ has_place (queue_of es c) n
-placed c n es (Ok k) w from found = let up : nat_le c n ≡ true = grind (arith, nat_tests) in rw (up, get-from_entries nat_cmp_total es n, found) refl
-placed c n es (Err k) w from place = let up : nat_le c n ≡ true = grind (arith, nat_tests) in rw (up, get-from_entries nat_cmp_total es n, none_at_place c n es k w place) refl
+placed : {T : Type 0} (c n : ℕ) (es : List (ℕ × T)) (r : Result ℕ ℕ) → AreWaiting c es → c ≤ n →
+    MatchResult r (λ _. IsSome (find nat_cmp n es)) (IsPlaceFor n es) → is_err r ≡ has_place (queue_of es c) n
+placed c n es (Ok k) w from found = let up : nat_le c n ≡ true = grind (arith, nat_tests) in
+    rw (up, get-from_entries nat_cmp_total es n, found) refl
+placed c n es (Err k) w from place = let up : nat_le c n ≡ true = grind (arith, nat_tests) in
+    rw (up, get-from_entries nat_cmp_total es n, none_at_place c n es k w place) refl
 
 pub returns-then-self-n : goal.returns-then-self-n
 returns-then-self-n g c =

@@ -10,4 +10,5 @@ returns-clause-first g c = λ full empty.
     let none : deque_len c.self.inside.pairs ≡ 0 =
     c.self.inside.pairs.ok.0 ∙ sym (len-from_entries _ _ c.self.invariant) ∙ ap (λ q. map.len q.queue.items) c.self.view_is ∙ empty in
     let no_room : deque_capacity c.self.inside.pairs - deque_len c.self.inside.pairs ≡ 0 = ap (λ q. q.room) c.self.view_is ∙ full in
-    on_ok_weaker c.make_room.result (λ one. omega (arith, one, none, c.make_room.ensures.len)) (c.make_room.ensures.first (omega (arith, none, no_room)))
+    on_ok_weaker c.make_room.result (λ one. omega (arith, one, none, c.make_room.ensures.len))
+    (c.make_room.ensures.first (omega (arith, none, no_room)))
