@@ -16,6 +16,17 @@ fn a(pair: u32) -> End {
     }
 }
 
+// The node of a number among so many.
+//
+// Nothing is promised of it, here and below: a test's own proof would else work out the whole node at each call.
+fn fresh(alloc: Global, number: u8, count: u8) -> Option<NodeState> {
+    if number < count && count <= 8 {
+        NodeState::new(alloc, number, count).ok()
+    } else {
+        None
+    }
+}
+
 // A copy of some bytes, ends or descriptors.
 fn listed<T: Copy + Clone + Drop>(alloc: Global, items: &[T]) -> Result<Sequence<T>, AllocError> {
     let mut list = Vec::new(alloc);

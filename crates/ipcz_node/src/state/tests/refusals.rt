@@ -1,8 +1,7 @@
 //! Why a put, a get or a close is refused, in the order of the tests.
 
 use super::acts::{b, put, with_pair};
-use super::{a, is_fit, item, listed};
-use crate::state::NodeState;
+use super::{a, fresh, is_fit, item, listed};
 use ipcz_base::{Descriptor, End, LinkId, Refusal, Sequence, Side};
 use std::test::Fail;
 
@@ -127,7 +126,7 @@ fn puts_are_refused_in_order(rt: HostRuntime) -> Result<(), Fail> {
 #[test]
 fn the_last_number_is_the_marks_alone(rt: HostRuntime) -> Result<(), Fail> {
     let alloc = rt.alloc();
-    let mut node = NodeState::new(alloc, 0, 2)?;
+    let mut node = fresh(alloc, 0, 2).ok_or("the node isn't made")?;
     let moved = Descriptor {
         next_out: 18446744073709551612,
         ..descriptor(a(5))
