@@ -26,6 +26,24 @@ pub(super) fn put(
     node.put(at, bytes, ends).map_err(|refused| refused.why)
 }
 
+/// Takes the next parcel of an end; its number.
+pub(super) fn get(node: &mut NodeState, at: End) -> Result<u64, Refusal> {
+    match node.get(at) {
+        Ok((number, _)) => Ok(number),
+        Err(why) => Err(why),
+    }
+}
+
+/// Closes an end.
+pub(super) fn close(node: &mut NodeState, at: End) -> Result<u64, Refusal> {
+    node.close(at)
+}
+
+/// Whether callers hold an end.
+pub(super) fn holds(node: &NodeState, end: End) -> bool {
+    node.holds(end)
+}
+
 /// Opens the pair of a word.
 pub(super) fn open(node: &mut NodeState, word: u32) -> bool {
     let Ok(()) = node.open_prepare() else {

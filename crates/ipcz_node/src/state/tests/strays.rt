@@ -1,9 +1,9 @@
 //! Which messages are strays, each cause once, on node 0 of two.
 
-use super::{a, fits, fresh, is_fit, is_unfit, item, parcel};
+use super::{a, bare_item, fits, fresh, is_fit, is_unfit, item};
 use crate::state::NodeState;
-use ipcz_base::{Descriptor, End, LinkId, Message, Refusal, Sequence, Side};
-use std::alloc::{AllocError, Global};
+use ipcz_base::{Descriptor, End, LinkId, Message, Side};
+use std::alloc::Global;
 use std::test::Fail;
 
 const FROM_NODE_1: LinkId = LinkId::Peripheral { node: 1, serial: 0 };
@@ -31,17 +31,6 @@ const MOVE_6B: Descriptor = Descriptor {
     next_out: 0,
     next_in: 0,
 };
-
-// An item without ends, for the router of a link at a side.
-fn bare_item(alloc: Global, link: LinkId, side: Side, n: u64) -> Result<Message, AllocError> {
-    Ok(Message::Item {
-        link,
-        side,
-        n,
-        item: parcel(alloc, b"a", &[])?,
-        moves: Sequence::from_vec(Vec::new(alloc)),
-    })
-}
 
 fn bypass_peer(link: LinkId, side: Side, target: u8, fresh: u32) -> Message {
     Message::BypassPeer {
