@@ -1,7 +1,11 @@
 //! One node by itself, whose mail is carried by hand.
 mod acts;
+mod bypass;
+mod moves;
 mod refusals;
 mod strays;
+mod turns;
+mod two_nodes;
 
 use super::NodeState;
 use crate::happened::Happened;
@@ -13,6 +17,17 @@ fn a(pair: u32) -> End {
     End {
         pair,
         side: Side::A,
+    }
+}
+
+// The node of a number among so many.
+//
+// Nothing is promised of it, here and below: a test's own proof would else work out the whole node at each call.
+fn fresh(alloc: Global, number: u8, count: u8) -> Option<NodeState> {
+    if number < count && count <= 8 {
+        NodeState::new(alloc, number, count).ok()
+    } else {
+        None
     }
 }
 
@@ -39,6 +54,17 @@ fn item(alloc: Global, n: u64, ends: &[End], moves: &[Descriptor]) -> Result<Mes
         n,
         item: parcel(alloc, b"a", ends)?,
         moves: listed(alloc, moves)?,
+    })
+}
+
+// An item without ends, for the router of a link at a side.
+fn bare_item(alloc: Global, link: LinkId, side: Side, n: u64) -> Result<Message, AllocError> {
+    Ok(Message::Item {
+        link,
+        side,
+        n,
+        item: parcel(alloc, b"a", &[])?,
+        moves: Sequence::from_vec(Vec::new(alloc)),
     })
 }
 

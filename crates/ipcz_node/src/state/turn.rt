@@ -1,6 +1,7 @@
 ghost use Rattle.std.specs.Prelude.{◌≡◌, false};
 ghost use Rattle.ipcz_base.specs.Indexed.{place_at};
 ghost use Rattle.ipcz_node.specs.Node.{flagged_router};
+ghost use Rattle.ipcz_node.specs.RoomyNodes.{IsPossibleAct};
 ghost use Rattle.ipcz_node.specs.Acts.{next, first_sender, first_destination, has_mail_for, router_turn};
 
 use super::NodeState;
@@ -13,9 +14,10 @@ impl NodeState {
     /// (docs/PROTOCOL.md, "Turns").
     ///
     /// What was seen of a node that isn't there counts for nothing. It takes no memory.
-    #[tactic(auto, unfolding(crate::specs::Acts::next, crate::specs::Acts::node_turn, crate::specs::Acts::close_turn))]
+    #[tactic(auto, using(crate::proofs::Choosing::mail_waits), unfolding(crate::specs::Acts::next, crate::specs::Acts::node_turn, crate::specs::Acts::close_turn, crate::specs::Acts::first_of))]
     pub fn next(&self, seen: &MailSeen) -> Act
-        ensures { result ≡ next self.now.node seen.now }
+        ensures act { result ≡ next self.now.node seen.now }
+        ensures possible { IsPossibleAct self.now.node result }
     {
         if let Some(sender) = self.hand {
             return Act::Hand(sender);
@@ -57,9 +59,10 @@ impl NodeState {
     }
 
     // The first act of the flagged router of the lowest serial.
-    #[tactic(auto, unfolding(crate::specs::Acts::router_turn))]
+    #[tactic(auto, using(crate::proofs::Choosing::next_may), unfolding(crate::specs::Acts::router_turn))]
     fn router_turn(&self) -> Act
-        ensures { result ≡ router_turn (flagged_router self.now.node) }
+        ensures act { result ≡ router_turn (flagged_router self.now.node) }
+        ensures possible { IsPossibleAct self.now.node result }
     {
         let Some(serial) = self.routers.first_flagged() else {
             return Act::Idle;

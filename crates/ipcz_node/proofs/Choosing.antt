@@ -1,0 +1,61 @@
+-- The act that comes first is one that can be done.
+use Rattle.std.proofs.Common.{◌≡◌, ◌⊎◌, ◌||◌, ◌&&◌, Bool, true, false, if◌then◌else◌, ℕ, zero, suc, ◌+◌, List, [], ◌∷◌, Some, None, inl, inr, refl, subst, arith}
+use Rattle.std.specs.Prelude.{Option, IfSome}
+use Rattle.ipcz_router.specs.Router.{Router}
+use Rattle.ipcz_router.specs.ActTable.{is_possible, first_possible, table, next_act, is_rest, may_take}
+use Rattle.ipcz_router.specs.declared.act.RouterAct.{RouterAct}
+use Rattle.ipcz_router.specs.declared.act.RouterAct.TheVariants as acts
+use Rattle.ipcz_base.specs.Indexed.{place_at}
+use Rattle.ipcz_node.specs.declared.act.MailSeen.{MailSeen}
+use Rattle.ipcz_node.specs.Node.{Node}
+use Rattle.ipcz_node.specs.Acts.{first_number, first_destination, has_mail_for}
+use Rattle.ipcz_node.proofs.Refiling.{first_of_both}
+
+-- the first possible act of a list is possible, or it is rest
+first_is : (r : Router) (l : List RouterAct) → (is_possible r (first_possible r l) ≡ true) ⊎ (first_possible r l ≡ acts.Rest)
+first_is r [] = inr refl
+first_is r (a ∷ l) = go (is_possible r a) refl (first_is r l)
+  where
+    go : (c : Bool) → is_possible r a ≡ c → (is_possible r (first_possible r l) ≡ true) ⊎ (first_possible r l ≡ acts.Rest) →
+        (is_possible r (if c then a else first_possible r l) ≡ true) ⊎ ((if c then a else first_possible r l) ≡ acts.Rest)
+    go true e more = inl e
+    go false e more = more
+
+or_left : (a b : Bool) → a ≡ true → (a || b) ≡ true
+or_left true b e = refl
+or_left false b e = cc
+
+or_right : (a b : Bool) → b ≡ true → (a || b) ≡ true
+or_right true b e = refl
+or_right false b e = e
+
+pub next_may : (r : Router) → may_take r (next_act r) ≡ true
+unfolding next_act is_rest
+next_may r = elim (first_is r table) [
+  | inl e ↦ or_left _ _ e
+  | inr e ↦ or_right _ _ (rest (next_act r) e)
+]
+  where
+    rest : (a : RouterAct) → a ≡ acts.Rest → (is_rest a && is_rest a) ≡ true
+    rest a e = rw e refl
+
+-- the number that is found passes the test
+pub first_number_passes : (test : ℕ → Bool) (from left : ℕ) → IfSome (first_number test from left) (λ i. test i ≡ true)
+first_number_passes test from zero = tt
+first_number_passes test from (suc left) = go (test from) refl (first_number_passes test (from + 1) left)
+  where
+    go : (c : Bool) → test from ≡ c → IfSome (first_number test (from + 1) left) (λ i. test i ≡ true) →
+        IfSome (if c then Some from else first_number test (from + 1) left) (λ i. test i ≡ true)
+    go true q more = q
+    go false q more = more
+
+-- mail waits for the node that is posted to
+pub mail_waits : (n : Node) (seen : MailSeen) (to : ℕ) → first_destination n seen ≡ Some to → has_mail_for n to ≡ true
+mail_waits n seen to is = first_of_both (has_mail_for n to) (place_at false seen.empty to)
+    (subst (λ o. IfSome o (λ i. (has_mail_for n i && place_at false seen.empty i) ≡ true)) is
+    (first_number_passes (λ i. has_mail_for n i && place_at false seen.empty i) 0 n.count))
+
+-- where a bypass can begin, the lock can be given back in its place
+pub unlock_may : (r : Router) → may_take r acts.Begin ≡ true → may_take r acts.Unlock ≡ true
+unfolding is_possible is_rest
+unlock_may r h = h
