@@ -1,9 +1,9 @@
 //! Worlds stepped and run, and what they answer, by docs/PROTOCOL.md.
 mod bypass;
 
-use ipcz_world::{Reply, Settled, Step, World};
 use ipcz_base::{End, Refusal, Sequence, Side};
 use ipcz_node::Happened;
+use ipcz_world::{Reply, Settled, Step, World};
 use std::alloc::{AllocError, Global};
 use std::test::Fail;
 

@@ -6,10 +6,8 @@ ghost use Rattle.ipcz_router.specs.ActEffects.{IsAnswerOf};
 
 use super::acts::{b, close, get, holds, put, with_pair};
 use super::{a, bare_item, fresh, is_fit};
-use crate::act::{Act, MailSeen};
-use crate::happened::Happened;
-use crate::state::NodeState;
 use ipcz_base::{LinkId, Message, Refusal, Side};
+use ipcz_node::{Act, Happened, MailSeen, NodeState};
 use ipcz_router::act::{Answer, RouterAct};
 use std::alloc::{AllocError, Global};
 use std::test::Fail;

@@ -6,10 +6,8 @@ ghost use Rattle.ipcz_word.specs.Layout.{IsWord};
 
 use super::acts::{b, open, put};
 use super::{a, fresh};
-use crate::act::{Act, MailSeen};
-use crate::happened::Happened;
-use crate::state::NodeState;
 use ipcz_base::{Message, Side};
+use ipcz_node::{Act, Happened, MailSeen, NodeState};
 use ipcz_router::act::{Answer, RouterAct};
 use ipcz_word::{LockPlan, is_word, mark, take_waiting, try_lock, unlock};
 use std::alloc::{AllocError, Global};

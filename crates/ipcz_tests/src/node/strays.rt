@@ -1,8 +1,8 @@
 //! Which messages are strays, each cause once, on node 0 of two.
 
 use super::{a, bare_item, fits, fresh, is_fit, is_unfit, item};
-use crate::state::NodeState;
 use ipcz_base::{Descriptor, End, LinkId, Message, Side};
+use ipcz_node::NodeState;
 use std::alloc::Global;
 use std::test::Fail;
 

@@ -3,9 +3,8 @@
 use super::acts::{b, put, with_pair};
 use super::turns::{CLEAR, Row, posted, turns_as};
 use super::{a, bare_item, is_fit, is_unfit};
-use crate::act::Act;
-use crate::state::NodeState;
 use ipcz_base::{LinkId, Message, Side};
+use ipcz_node::{Act, NodeState};
 use ipcz_router::act::{Answer, RouterAct};
 use std::alloc::Global;
 use std::test::Fail;

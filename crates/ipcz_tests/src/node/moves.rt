@@ -3,9 +3,8 @@
 use super::acts::{b, get, holds, put, with_pair};
 use super::turns::{CLEAR, Row, posted, settles_alone, turn, turns_as};
 use super::{a, fresh, is_fit, parcel};
-use crate::happened::Happened;
-use crate::state::NodeState;
 use ipcz_base::{Descriptor, End, LinkId, Message, Refusal, Sequence, Side};
+use ipcz_node::{Happened, NodeState};
 use ipcz_router::act::Answer;
 use std::alloc::{AllocError, Global};
 use std::test::Fail;
@@ -159,65 +158,5 @@ fn no_end_moves_within_a_node(rt: HostRuntime) -> Result<(), Fail> {
     assert!(rt; holds(&node, a(0)));
     assert_eq!(rt; turns_as(alloc, &mut node, &RESTS_BOTH), 3);
     assert_eq!(rt; put(&mut node, alloc, a(0), &[]), Ok(0));
-    Ok(())
-}
-
-// A node whose next peripheral link has this serial, and at whose 0A these ends were put.
-fn late_node(alloc: Global, serial: u64, ends: &[End]) -> Option<NodeState> {
-    let mut node = with_pair(alloc)?;
-    node.next_peripheral = serial;
-    put(&mut node, alloc, a(0), ends).ok()?;
-    Some(node)
-}
-
-const ONE: &[End] = &[End {
-    pair: 1,
-    side: Side::B,
-}];
-
-const TWO: &[End] = &[
-    End {
-        pair: 1,
-        side: Side::B,
-    },
-    End {
-        pair: 1,
-        side: Side::A,
-    },
-];
-
-// Whether the turn is seen to send an item out, and to move these ends.
-fn has_moved(turned: &Result<(Happened, Option<Message>), Refusal>, ends: &[End]) -> bool {
-    match turned {
-        Ok((event, _)) => match event {
-            Happened::SendOut { moved, .. } => moved.as_slice() == ends,
-            _ => false,
-        },
-        Err(_) => false,
-    }
-}
-
-#[test]
-fn a_move_is_refused_where_the_serials_of_links_end(rt: HostRuntime) -> Result<(), Fail> {
-    let alloc = rt.alloc();
-    for (serial, ends, fits) in [
-        (u64::MAX, ONE, false),
-        (u64::MAX, [].as_slice(), true),
-        (u64::MAX - 1, ONE, true),
-        (u64::MAX - 1, TWO, false),
-        (u64::MAX - 2, TWO, true),
-    ] {
-        let mut node = late_node(alloc, serial, ends).ok_or("the put is refused")?;
-        let sent = turn(&mut node, &CLEAR, Answer::Plain);
-        assert_eq!(rt; has_moved(&sent, ends), fits, "{serial}");
-        if fits {
-            assert!(rt; posted(&mut node).is_some());
-        } else {
-            // The act stays as it was, and nothing is posted.
-            assert!(rt; matches!(sent, Err(Refusal::NumbersEnd)));
-            let again = turn(&mut node, &CLEAR, Answer::Plain);
-            assert!(rt; matches!(again, Err(Refusal::NumbersEnd)));
-        }
-    }
     Ok(())
 }

@@ -1,8 +1,8 @@
 //! Calls on node 0 of two with an opened pair.
 
 use super::{a, fresh, listed};
-use crate::state::NodeState;
 use ipcz_base::{End, Refusal, Side};
+use ipcz_node::NodeState;
 use std::alloc::Global;
 
 /// The end of side B of a pair.

@@ -2,8 +2,8 @@
 
 use super::acts::{b, close, get, holds, open, put, with_pair};
 use super::{a, fresh, is_fit, item, listed};
-use crate::state::NodeState;
 use ipcz_base::{Descriptor, End, Item, LinkId, Message, Refusal, Sequence, Side};
+use ipcz_node::NodeState;
 use std::alloc::{AllocError, Global};
 use std::test::Fail;
 
