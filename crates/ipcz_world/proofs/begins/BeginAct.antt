@@ -35,6 +35,8 @@ use Rattle.ipcz_world.proofs.begins.BegunNumbers.{held_once-begun}
 use Rattle.ipcz_world.proofs.begins.BegunMessages.{told-begun}
 use Rattle.ipcz_world.proofs.acts.Updating.{push-set_node}
 
+-- Nothing is lost, for no item moves: the proxy's two links decay with lengths that nobody knows yet, so nothing is past them. It holds the
+-- lock of its outward link, so the word is stable on both sides, and no edge of either router decays.
 pub inv-begin : (w : World) (b : Books) (g : Records) (k : Key) (r : Router) (p : Key) (into out : LinkEnd) (o fresh : ℕ) → Inv w b g →
     CanBegin w k r p into out o fresh → Inv (begin_act w k r into out o fresh) b (begin_records g k o fresh p)
 inv-begin w b g k r p into out o fresh law can = record {

@@ -3,8 +3,8 @@ use Rattle.ipcz_world.proofs.weights.OfRecords.{holds, held_times, source, in_me
 use Rattle.ipcz_world.specs.Places.{in_message as in_message', in_node as in_node', in_places as in_places', Weight, in_router, times}
 use Rattle.ipcz_world.specs.Places.{at_end, names_end}
 use Rattle.ipcz_world.specs.Routes.{source as source'}
-use Rattle.std.specs.Prelude.{◌≡◌, ℕ, ◌+◌, Bool, false, cond, ◌&&◌, nat_eq, Option, Some, None, List, slice_get, refl}
-use Rattle.std.proofs.Common.{arith, ap, ◌∙◌, sym}
+use Rattle.std.specs.Prelude.{◌≡◌, ℕ, ◌+◌, Bool, false, cond, ◌&&◌, nat_eq, Option, Some, None, List, slice_get, refl, true, ◌⊎◌, ◌≢◌}
+use Rattle.std.proofs.Common.{arith, ap, ◌∙◌, sym, inl, inr}
 use Rattle.std.proofs.lemmas.Option.{none-some}
 use Rattle.ipcz_base.specs.declared.side.Side.{Side}
 use Rattle.ipcz_base.specs.declared.side.Side.TheVariants.{A, B}
@@ -20,7 +20,7 @@ use Rattle.ipcz_base.specs.Links.{is_central}
 use Rattle.ipcz_base.specs.Ends.{same_end, has_end, opposite_end}
 use Rattle.ipcz_base.specs.Totals.{total, total_below, total_list}
 use Rattle.ipcz_router.specs.Router.{Router, is_terminal}
-use Rattle.ipcz_world.specs.World.{World, Key, node_at, router_at}
+use Rattle.ipcz_world.specs.World.{World, Key, node_at, router_at, same_key}
 use Rattle.ipcz_world.proofs.frames.Frames.{same_key_tells}
 use Rattle.ipcz_world.specs.Books.{Books}
 use Rattle.ipcz_world.specs.Records.{Records, is_begun, is_linked, is_recorded, inner_link, side_node, side_router, side_end, bypass_of}
@@ -50,6 +50,25 @@ pub record Changed (w v : World) (k : Key) (r x : Router) : Type 0 where
   pub open one use *
   pub held : (n : ℕ) → (node_at v n).held ≡ (node_at w n).held
   pub pending : (n : ℕ) → (node_at v n).pending ≡ (node_at w n).pending
+
+pub like-itself : (t : Router) → IsLike t t
+like-itself t = record { end = refl; out_queue = refl; in_queue = refl; terminal = refl; closed = refl; mark_seen = refl; spare = refl }
+
+-- what a router was before: alike, with the same inward edge
+pub record WasLike (w : World) (q : Key) (t : Router) : Type 0 where
+  pub router : Router
+  pub here_before : router_at w q ≡ Some router
+  pub alike : IsLike router t
+  pub inward : t.inward ≡ router.inward
+
+pub was_like : {w v : World} {k : Key} {r x : Router} → Changed w v k r x → IsLike r x → x.inward ≡ r.inward → (q : Key) (t : Router) →
+    router_at v q ≡ Some t → WasLike w q t
+was_like {w} {v} {k} {r} {x} c like inward q t e = go (same_key_tells q k)
+  where
+    go : ((same_key q k ≡ true) × (q ≡ k)) ⊎ ((same_key q k ≡ false) × (q ≢ k)) → WasLike w q t
+    go (inl m) = let same : x ≡ t = grind (arith, c.router q, e, m.0) in
+        record { router = r; here_before = rw m.1 c.here; alike = rw (← same) like; inward = ap (λ z. z.inward) (sym same) ∙ inward }
+    go (inr m) = record { router = t; here_before = grind (arith, c.router q, e, m.0); alike = like-itself t; inward = refl }
 
 -- each item under way was so before, at some place
 pub record Carried (w v : World) : Type 0 where

@@ -24,7 +24,7 @@ use Rattle.ipcz_world.specs.Structure.{Counts, Links, IsRecorded, Positions, lin
 use Rattle.ipcz_edge.specs.Edge.{no_edge}
 use Rattle.ipcz_router.specs.Bypass.{accept_bypass}
 use Rattle.ipcz_world.specs.Remembering.{accepted_records}
-use Rattle.ipcz_world.proofs.frames.Unmoved.{side_node-agree, side_end-agree, bypass_of-agree, proxy_side-agree, is_recorded-kept}
+use Rattle.ipcz_world.proofs.frames.Unmoved.{side_node-agree, side_end-agree, bypass_of-agree, proxy_side-agree, is_recorded-kept, WasLike}
 use Rattle.ipcz_world.proofs.flows.Handing.{handed_on, hand-handed_on, mail-handed_on, way_tells}
 use Rattle.ipcz_world.proofs.facts.Lengths.{same_side-itself, same_side-opposite, known_from-no}
 use Rattle.ipcz_world.proofs.frames.Sealing.{Sealed, Closed, counts_of, links_of, positions_of, bypasses_of}
@@ -32,7 +32,7 @@ use Rattle.ipcz_world.proofs.hands.AcceptBypassAround.{CanAccept, here, in_its_h
 use Rattle.ipcz_world.proofs.hands.AcceptBypassAround.{at_side, fresh_linked, fresh_awaited, fresh_live}
 use Rattle.ipcz_world.proofs.hands.AcceptBypassViews.{at_o, changed, agree, is_new, is_new-tells, router_of, stage_after, accepted_after}
 use Rattle.ipcz_world.proofs.hands.AcceptBypassViews.{taken_after, proxy_is_after, is_new-here}
-use Rattle.ipcz_world.proofs.hands.AcceptBypassNumbers.{router_j, Was, was_router, across_side-after}
+use Rattle.ipcz_world.proofs.hands.AcceptBypassNumbers.{router_j, was_router, across_side-after}
 
 module _ {w : World} {b : Books} {g : Records} {from : ℕ} {k : Key} {r : Router} {e : LinkEnd} {o : ℕ} {side : Side} {fresh length : ℕ}
     (law : Sealed w b g) (can : Closed (CanAccept w from k r e o side fresh length)) where
@@ -82,9 +82,9 @@ module _ {w : World} {b : Books} {g : Records} {from : ℕ} {k : Key} {r : Route
     nodes = λ n l. grind (arith, (changed law can).nodes n, (changed law can).count, (counts_of law).nodes n, l);
     claimed = grind (arith, (changed law can).claimed, (changed law can).size, (counts_of law).claimed);
     unclaimed = λ i. grind (arith, (changed law can).claimed, (counts_of law).unclaimed i);
-    on_node = λ q t at. let c : Was law can q t = was_router law can q t at in grind
+    on_node = λ q t at. let c : WasLike w q t = was_router law can q t at in grind
         (arith, (changed law can).count, (counts_of law).on_node q c.router c.here_before);
-    serial = λ q t at. let c : Was law can q t = was_router law can q t at in grind
+    serial = λ q t at. let c : WasLike w q t = was_router law can q t at in grind
         (arith, (changed law can).next_router q.node, (counts_of law).serial q c.router c.here_before);
     side_serial = λ link s q rec known'. side_serial_at link s q rec known' (is_new law can link s) refl;
     side_on_node = λ link s rec. grind (
@@ -185,10 +185,10 @@ module _ {w : World} {b : Books} {g : Records} {from : ℕ} {k : Key} {r : Route
   links-accept = record {
     primary = λ q t d at prim. primary_at q t d prim (split q t at);
     decaying = λ q t d at dec. decaying_at q t d dec (split q t at);
-    inward_primary = λ q t d at prim. let c : Was law can q t = was_router law can q t at in
+    inward_primary = λ q t d at prim. let c : WasLike w q t = was_router law can q t at in
         rec_kept q c.router t d c.alike.end ((links_of law).inward_primary q c.router d c.here_before
         (ap (λ u. (unwrap_or u no_edge).primary) (sym c.inward) ∙ prim));
-    inward_decaying = λ q t d at dec. let c : Was law can q t = was_router law can q t at in
+    inward_decaying = λ q t d at dec. let c : WasLike w q t = was_router law can q t at in
         rec_kept q c.router t d c.alike.end ((links_of law).inward_decaying q c.router d c.here_before
         (ap (λ u. (unwrap_or u no_edge).decaying) (sym c.inward) ∙ dec));
     primary_outward = λ q t d at prim. grind (arith, split q t at, (links_of law).primary_outward q t d, prim);
@@ -200,9 +200,9 @@ module _ {w : World} {b : Books} {g : Records} {from : ℕ} {k : Key} {r : Route
       on law can,
       dec,
     );
-    inward_primary_inward = λ q t d at prim. let c : Was law can q t = was_router law can q t at in
+    inward_primary_inward = λ q t d at prim. let c : WasLike w q t = was_router law can q t at in
         (links_of law).inward_primary_inward q c.router d c.here_before (ap (λ u. (unwrap_or u no_edge).primary) (sym c.inward) ∙ prim);
-    inward_decaying_inward = λ q t d at dec. let c : Was law can q t = was_router law can q t at in
+    inward_decaying_inward = λ q t d at dec. let c : WasLike w q t = was_router law can q t at in
         (links_of law).inward_decaying_inward q c.router d c.here_before (ap (λ u. (unwrap_or u no_edge).decaying) (sym c.inward) ∙ dec);
   }
     where
@@ -273,16 +273,16 @@ module _ {w : World} {b : Books} {g : Records} {from : ℕ} {k : Key} {r : Route
 
   pub positions-accept : Positions v h
   positions-accept = record {
-    inward_primary = λ q t d at prim. let c : Was law can q t = was_router law can q t at in
+    inward_primary = λ q t d at prim. let c : WasLike w q t = was_router law can q t at in
         bypass_of-agree g h (agree law can) d.link ∙ (positions_of law).inward_primary q c.router d c.here_before
         (ap (λ u. (unwrap_or u no_edge).primary) (sym c.inward) ∙ prim);
-    inward_decaying = λ q t d at dec. let c : Was law can q t = was_router law can q t at in
+    inward_decaying = λ q t d at dec. let c : WasLike w q t = was_router law can q t at in
         bypass_of-agree g h (agree law can) d.link ∙ (positions_of law).inward_decaying q c.router d c.here_before
         (ap (λ u. (unwrap_or u no_edge).decaying) (sym c.inward) ∙ dec);
-    inward_to = λ q t d j at dec b'. let c : Was law can q t = was_router law can q t at in
+    inward_to = λ q t d j at dec b'. let c : WasLike w q t = was_router law can q t at in
         ap (λ u. (unwrap_or u no_edge).length_to) c.inward ∙ (positions_of law).inward_to q c.router d j c.here_before
         (ap (λ u. (unwrap_or u no_edge).decaying) (sym c.inward) ∙ dec) b' ∙ sym (known4-accepted j);
-    inward_from = λ q t d j at dec b'. let c : Was law can q t = was_router law can q t at in
+    inward_from = λ q t d j at dec b'. let c : WasLike w q t = was_router law can q t at in
         ap (λ u. (unwrap_or u no_edge).length_from) c.inward ∙ (positions_of law).inward_from q c.router d j c.here_before
         (ap (λ u. (unwrap_or u no_edge).decaying) (sym c.inward) ∙ dec) b' ∙ sym (known4-taken j);
     primary_old = λ q t d j at prim l b'. primary_old_at q t d j prim l (sym ((agree law can).is_begun j) ∙ b') (split q t at)
@@ -318,7 +318,7 @@ module _ {w : World} {b : Books} {g : Records} {from : ℕ} {k : Key} {r : Route
     across_to = λ q t d j at dec l s. across_to_at q t d j dec l s (across_at q t d j dec l s (split q t at));
     across_from = λ q t d j at dec l s. across_from_at q t d j dec l s (across_at q t d j dec l s (split q t at));
     across_fresh = λ q t d j at dec l s. across_fresh_at q t d j dec l s (across_at q t d j dec l s (split q t at));
-    begun = λ q t at b'. let c : Was law can q t = was_router law can q t at in (positions_of law).begun q c.router c.here_before
+    begun = λ q t at b'. let c : WasLike w q t = was_router law can q t at in (positions_of law).begun q c.router c.here_before
         (ap (λ u. is_some u && is_none (unwrap_or u no_edge).primary) (sym c.inward) ∙ b');
     begun_proxy = λ q j b'. (agree law can).proxy j ∙ (positions_of law).begun_proxy q j b';
     begun_stage = λ q j b'. (agree law can).is_begun j ∙ (positions_of law).begun_stage q j b';

@@ -27,13 +27,13 @@ use Rattle.ipcz_edge.specs.Edge.{no_edge}
 use Rattle.ipcz_router.specs.Bypass.{accept_bypass}
 use Rattle.ipcz_base.specs.declared.descriptor.Descriptor.{Descriptor}
 use Rattle.ipcz_world.specs.Remembering.{accepted_records}
-use Rattle.ipcz_world.proofs.frames.Unmoved.{IsLike, side_node-agree, proxy_side-agree, is_recorded-kept}
+use Rattle.ipcz_world.proofs.frames.Unmoved.{side_node-agree, proxy_side-agree, is_recorded-kept, WasLike, was_like}
 use Rattle.ipcz_world.proofs.flows.Handing.{handed_on, place_before, was_made_before}
 use Rattle.ipcz_world.proofs.views.Viewing.{IsSameView}
 use Rattle.ipcz_world.proofs.facts.Lengths.{opposite-twice, side_is}
 use Rattle.ipcz_world.proofs.frames.Sealing.{Sealed, Closed, links_of, positions_of, order_of, items_of, proxy_numbers_of, fresh_numbers_of}
-use Rattle.ipcz_world.proofs.hands.AcceptBypassAround.{from_some, CanAccept, here, in_hand, on, on_node, is, begun, proxy_is, on_old}
-use Rattle.ipcz_world.proofs.hands.AcceptBypassAround.{at_side, y_stood, y_here, z_known_some, z_known, z_stood, z_here, z_end, fresh_born}
+use Rattle.ipcz_world.proofs.hands.AcceptBypassAround.{from_some, CanAccept, in_hand, on, on_node, is, begun, proxy_is, on_old, at_side}
+use Rattle.ipcz_world.proofs.hands.AcceptBypassAround.{y_stood, y_here, z_known_some, z_known, z_stood, z_here, z_end, fresh_born}
 use Rattle.ipcz_world.proofs.hands.AcceptBypassAround.{fresh_awaited, fresh_known, view_x, view_z, sends, y_out, x_in, x_items, y_in}
 use Rattle.ipcz_world.proofs.hands.AcceptBypassAround.{y_items, z_in, z_items, z_fresh, z_out}
 use Rattle.ipcz_world.proofs.hands.AcceptBypassViews.{at_o, like, changed, agree, was, is_new, same_view_at, Grown, Same, FromProxy}
@@ -215,34 +215,10 @@ module _ {w : World} {b : Books} {g : Records} {from : ℕ} {k : Key} {r : Route
   pub router_j : (q : Key) → router_at v q ≡ cond (same_key q k) (Some x) (router_at w q)
   router_j = (changed law can).router
 
-  -- what a router was before
-  pub record Was (q : Key) (t : Router) : Type 0 where
-    pub router : Router
-    pub here_before : router_at w q ≡ Some router
-    pub alike : IsLike router t
-    pub inward : t.inward ≡ router.inward
+  pub was_router : (q : Key) (t : Router) → router_at v q ≡ Some t → WasLike w q t
+  was_router = was_like (changed law can) (like law can) refl
 
-  pub was_router : (q : Key) (t : Router) → router_at v q ≡ Some t → Was q t
-  was_router q t at = go (same_key_tells q k)
-    where
-      go : ((same_key q k ≡ true) × (q ≡ k)) ⊎ ((same_key q k ≡ false) × (q ≢ k)) → Was q t
-      go (inl m) = let same : x ≡ t = grind (arith, router_j q, at, m.0) in
-          record {
-            router = r;
-            here_before = rw m.1 (here law can);
-            alike = rw (← same) (like law can);
-            inward = ap (λ c. c.inward) (sym same);
-          }
-      go (inr m) = record {
-        router = t;
-        here_before = grind (arith, router_j q, at, m.0);
-        alike =
-            record { end = refl; out_queue = refl; in_queue = refl; terminal = refl; closed = refl; mark_seen = refl; spare = refl };
-        inward =
-            refl;
-      }
-
-  pub was_proxy : (j : ℕ) (t : Router) → router_at v (h.bypass j).proxy ≡ Some t → Was (g.bypass j).proxy t
+  pub was_proxy : (j : ℕ) (t : Router) → router_at v (h.bypass j).proxy ≡ Some t → WasLike w (g.bypass j).proxy t
   was_proxy j t at = was_router (g.bypass j).proxy t (ap (router_at v) (sym ((agree law can).proxy j)) ∙ at)
 
   pub two_of : (j : ℕ) → 2 ≤ (h.bypass j).stage → 2 ≤ (g.bypass j).stage
@@ -266,36 +242,36 @@ module _ {w : World} {b : Books} {g : Records} {from : ℕ} {k : Key} {r : Route
   pub proxy_numbers-accept : ProxyNumbers v h
   unfolding is_gone
   proxy_numbers-accept = record {
-    out_current = λ j t at st. let c : Was (g.bypass j).proxy t = was_proxy j t at in
+    out_current = λ j t at st. let c : WasLike w (g.bypass j).proxy t = was_proxy j t at in
         omega (
           arith,
           (proxy_numbers_of law).out_current j c.router c.here_before (two_of j st),
           same_number _ _ c.alike.out_queue,
           taken_after law can j,
         );
-    out_items = λ j t n item at st i. let c : Was (g.bypass j).proxy t = was_proxy j t at in
+    out_items = λ j t n item at st i. let c : WasLike w (g.bypass j).proxy t = was_proxy j t at in
         omega (
           arith,
           (proxy_numbers_of law).out_items j c.router n item c.here_before (two_of j st)
               (ap (λ q. item_at q n) (sym c.alike.out_queue) ∙ i),
           taken_after law can j,
         );
-    in_current = λ j t at st. let c : Was (g.bypass j).proxy t = was_proxy j t at in
+    in_current = λ j t at st. let c : WasLike w (g.bypass j).proxy t = was_proxy j t at in
         omega (arith, in_current_at j c.router c.here_before st (at_o law can j), same_number _ _ c.alike.in_queue);
-    in_items = λ j t n item at st i. let c : Was (g.bypass j).proxy t = was_proxy j t at in
+    in_items = λ j t n item at st i. let c : WasLike w (g.bypass j).proxy t = was_proxy j t at in
         in_items_at j c.router n item c.here_before st (ap (λ q. item_at q n) (sym c.alike.in_queue) ∙ i) (at_o law can j);
-    across_gone = λ j t at st gone. let c : Was (g.bypass j).proxy t = was_proxy j t at in
+    across_gone = λ j t at st gone. let c : WasLike w (g.bypass j).proxy t = was_proxy j t at in
         omega (
           arith,
           across_gone_at j c.router c.here_before st gone (at_o law can j),
           same_number _ _ c.alike.out_queue,
           taken_after law can j,
         );
-    inner_gone = λ j t at st gone. let c : Was (g.bypass j).proxy t = was_proxy j t at in
+    inner_gone = λ j t at st gone. let c : WasLike w (g.bypass j).proxy t = was_proxy j t at in
         omega (arith, inner_gone_at j c.router c.here_before st gone (far_of j (omega (arith, st))), same_number _ _ c.alike.in_queue);
     out_finished = λ j t at st none. out_finished_at j t (ap (router_at v) (sym ((agree law can).proxy j)) ∙ at) st none (far_of j st)
         (same_key_tells (g.bypass j).proxy k);
-    in_finished = λ j t at st none. let c : Was (g.bypass j).proxy t = was_proxy j t at in
+    in_finished = λ j t at st none. let c : WasLike w (g.bypass j).proxy t = was_proxy j t at in
         omega (arith, in_finished_at j t c st none (far_of j st), same_number _ _ c.alike.in_queue);
   }
     where
@@ -345,7 +321,8 @@ module _ {w : World} {b : Books} {g : Records} {from : ℕ} {k : Key} {r : Route
       out_finished_at j t at st none m (inr c) = rw m ((proxy_numbers_of law).out_finished j t
           (sym (rw c.0 at (router_j (g.bypass j).proxy)) ∙ at) (rw m at st) none)
 
-      in_finished_at : (j : ℕ) (t : Router) (c : Was (g.bypass j).proxy t) → 4 ≤ (h.bypass j).stage → (inward_edge t).decaying ≡ None →
+      in_finished_at : (j : ℕ) (t : Router) (c : WasLike w (g.bypass j).proxy t) → 4 ≤ (h.bypass j).stage →
+          (inward_edge t).decaying ≡ None →
           nat_eq j o ≡ false → (h.bypass j).accepted_at ≤ c.router.in_queue.current
       in_finished_at j t c st none m = rw m ((proxy_numbers_of law).in_finished j c.router c.here_before (rw m at st)
           (ap (λ u. (unwrap_or u no_edge).decaying) (sym c.inward) ∙ none))

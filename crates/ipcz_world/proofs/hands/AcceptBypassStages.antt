@@ -31,7 +31,7 @@ use Rattle.ipcz_router.specs.Bypass.{accept_bypass}
 use Rattle.ipcz_base.specs.declared.descriptor.Descriptor.{Descriptor}
 use Rattle.ipcz_world.specs.Remembering.{accepted_records}
 use Rattle.ipcz_world.proofs.frames.Unmoved.{side_node-agree, side_end-agree, bypass_of-agree, side_router-inner-agree, about-agree}
-use Rattle.ipcz_world.proofs.frames.Unmoved.{expected-agree, proxy_side-agree, is_recorded-kept}
+use Rattle.ipcz_world.proofs.frames.Unmoved.{expected-agree, proxy_side-agree, is_recorded-kept, WasLike}
 use Rattle.ipcz_world.proofs.flows.Handing.{handed_on, word-handed_on, place_before, was_under_way, was_made_before, under_way-handed_on}
 use Rattle.ipcz_world.proofs.facts.Lengths.{opposite-twice, same_side-itself, has_link-tells, has_link-some, has_link-none, HasEnd, passed}
 use Rattle.ipcz_world.proofs.frames.Sealing.{Sealed, Closed, stands_of, words_of, shape_of, stages_of, told_of, bypasses_of}
@@ -40,7 +40,7 @@ use Rattle.ipcz_world.proofs.hands.AcceptBypassAround.{y_stood, y_here, y_old, y
 use Rattle.ipcz_world.proofs.hands.AcceptBypassViews.{at_o, changed, agree, e_other, to_node, is_new, router_of, stage_after}
 use Rattle.ipcz_world.proofs.hands.AcceptBypassViews.{accepted_after, taken_after, proxy_is_after, same_bypass, is_new-here, new_at}
 use Rattle.ipcz_world.proofs.hands.AcceptBypassViews.{makes_new, none_before, not_new-old}
-use Rattle.ipcz_world.proofs.hands.AcceptBypassNumbers.{router_j, Was, was_proxy, two_of, across_side-after, across_is_after}
+use Rattle.ipcz_world.proofs.hands.AcceptBypassNumbers.{router_j, was_proxy, two_of, across_side-after, across_is_after}
 use Rattle.ipcz_world.proofs.hands.AcceptBypassLinks.{known_after, central_is, not_both}
 use Rattle.ipcz_world.proofs.facts.Tests.{nat_eq-itself}
 
@@ -260,10 +260,10 @@ module _ {w : World} {b : Books} {g : Records} {from : ℕ} {k : Key} {r : Route
   stages-accept = record {
     proxy_old = λ j b' st. proxy_old_at j (sym ((agree law can).is_begun j) ∙ b') st;
     proxy_inner = λ j b' st. proxy_inner_at j (sym ((agree law can).is_begun j) ∙ b') st;
-    proxy_begun = λ j t b' at. let c : Was law can (g.bypass j).proxy t = was_proxy law can j t at in
+    proxy_begun = λ j t b' at. let c : WasLike w (g.bypass j).proxy t = was_proxy law can j t at in
         ap (λ u. is_some u && is_none (unwrap_or u no_edge).primary) c.inward ∙ (stages_of law).proxy_begun j c.router
         (sym ((agree law can).is_begun j) ∙ b') c.here_before;
-    proxy_end = λ j t b' at. let c : Was law can (g.bypass j).proxy t = was_proxy law can j t at in
+    proxy_end = λ j t b' at. let c : WasLike w (g.bypass j).proxy t = was_proxy law can j t at in
         c.alike.end ∙ (stages_of law).proxy_end j c.router (sym ((agree law can).is_begun j) ∙ b') c.here_before ∙ sym
         (ap (λ p. side_end h (inner_link p) A) ((agree law can).inner j) ∙ side_end-agree g h (agree law can) (inner_of g j) A);
     across_old = λ j b' st. across_at j (sym ((agree law can).is_begun j) ∙ b') st (λ i s. has_primary (Central i) s)

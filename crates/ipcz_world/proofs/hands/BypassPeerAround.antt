@@ -30,7 +30,7 @@ use Rattle.ipcz_world.specs.Bypasses.{inner_of}
 use Rattle.ipcz_world.specs.Acts.{CanHand}
 use Rattle.ipcz_router.specs.Bypass.{bypass_peer}
 use Rattle.ipcz_world.specs.Remembering.{taken_records}
-use Rattle.ipcz_world.proofs.frames.Unmoved.{IsLike, Changed}
+use Rattle.ipcz_world.proofs.frames.Unmoved.{IsLike, Changed, WasLike, was_like}
 use Rattle.ipcz_world.proofs.flows.Handing.{handed_on, changed-handed_on}
 use Rattle.ipcz_world.proofs.views.Viewing.{IsSameView, view-kept-at}
 use Rattle.ipcz_world.proofs.facts.Lengths.{side_is, same_side-itself, same_side-opposite, has_link-tells, has_link-some, HasEnd, passed}
@@ -347,25 +347,8 @@ module _ {w : World} {b : Books} {g : Records} {from : ℕ} {k : Key} {r : Route
       go (inl n) = inl (n.1, same_Some x t (sym (rw n.0 at (router_j q)) ∙ m))
       go (inr n) = inr (n.0, sym (rw n.0 at (router_j q)) ∙ m)
 
-  pub record Was (q : Key) (t : Router) : Type 0 where
-    pub router : Router
-    pub here_before : router_at w q ≡ Some router
-    pub alike : IsLike router t
-    pub inward : t.inward ≡ router.inward
-
-  pub was_router : (q : Key) (t : Router) → router_at v q ≡ Some t → Was q t
-  was_router q t m = go (split q t m)
-    where
-      go : Split q t → Was q t
-      go (inl n) = record { router = r; here_before = rw n.0 here; alike = rw (← n.1) like; inward = ap (λ c. c.inward) (sym n.1) }
-      go (inr n) = record {
-        router = t;
-        here_before = n.1;
-        alike =
-            record { end = refl; out_queue = refl; in_queue = refl; terminal = refl; closed = refl; mark_seen = refl; spare = refl };
-        inward =
-            refl;
-      }
+  pub was_router : (q : Key) (t : Router) → router_at v q ≡ Some t → WasLike w q t
+  was_router = was_like changed like refl
 
   known_apart : (l : LinkId) → is_recorded w g l ≡ true → (s : Side) (q : Key) → side_router g l s ≡ Some q → side_router h l s ≡ Some q
   known_apart l rec s q m = router_same l s (apart l rec) ∙ m

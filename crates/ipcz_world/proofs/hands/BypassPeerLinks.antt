@@ -27,8 +27,9 @@ use Rattle.ipcz_world.proofs.facts.Lengths.{same_side-tells, known_from-no}
 use Rattle.ipcz_world.proofs.frames.Sealing.{Sealed, Closed, stands_of, shape_of, links_of, positions_of}
 use Rattle.ipcz_world.proofs.hands.BypassPeerAround.{inner_word, CanPeer, here, is, itself, known, z_end, on, by_o, central_not_inner}
 use Rattle.ipcz_world.proofs.hands.BypassPeerAround.{fresh_live, at_o, stage_at, is_begun_same, proxy_same, fresh_same, accepted_same}
-use Rattle.ipcz_world.proofs.hands.BypassPeerAround.{proxy_side_same, across_side_same, same_bypass, bypass_same, split, Was, was_router}
+use Rattle.ipcz_world.proofs.hands.BypassPeerAround.{proxy_side_same, across_side_same, same_bypass, bypass_same, split, was_router}
 use Rattle.ipcz_world.proofs.hands.BypassPeerAround.{rec_kept, new_recorded}
+use Rattle.ipcz_world.proofs.frames.Unmoved.{WasLike}
 
 module _ {w : World} {b : Books} {g : Records} {from : ℕ} {k : Key} {r : Router} {o : ℕ} {link : LinkId} {side : Side}
     {target fresh : ℕ} (law : Sealed w b g) (can : Closed (CanPeer w from k r o link side target fresh)) where
@@ -56,10 +57,10 @@ module _ {w : World} {b : Books} {g : Records} {from : ℕ} {k : Key} {r : Route
   links-peer = record {
     primary = λ q t d a p. primary_at q t d p (split law can q t a);
     decaying = λ q t d a p. decaying_at q t d p (split law can q t a);
-    inward_primary = λ q t d a p. let c : Was law can q t = was_router law can q t a in
+    inward_primary = λ q t d a p. let c : WasLike w q t = was_router law can q t a in
         rec_kept law can q c.router t d c.alike.end ((links_of law).inward_primary q c.router d c.here_before
         (ap (λ u. (unwrap_or u no_edge).primary) (sym c.inward) ∙ p));
-    inward_decaying = λ q t d a p. let c : Was law can q t = was_router law can q t a in
+    inward_decaying = λ q t d a p. let c : WasLike w q t = was_router law can q t a in
         rec_kept law can q c.router t d c.alike.end ((links_of law).inward_decaying q c.router d c.here_before
         (ap (λ u. (unwrap_or u no_edge).decaying) (sym c.inward) ∙ p));
     primary_outward = λ q t d a p. grind (arith, split law can q t a, (links_of law).primary_outward q t d, p);
@@ -71,9 +72,9 @@ module _ {w : World} {b : Books} {g : Records} {from : ℕ} {k : Key} {r : Route
       on law can,
       p,
     );
-    inward_primary_inward = λ q t d a p. let c : Was law can q t = was_router law can q t a in
+    inward_primary_inward = λ q t d a p. let c : WasLike w q t = was_router law can q t a in
         (links_of law).inward_primary_inward q c.router d c.here_before (ap (λ u. (unwrap_or u no_edge).primary) (sym c.inward) ∙ p);
-    inward_decaying_inward = λ q t d a p. let c : Was law can q t = was_router law can q t a in
+    inward_decaying_inward = λ q t d a p. let c : WasLike w q t = was_router law can q t a in
         (links_of law).inward_decaying_inward q c.router d c.here_before (ap (λ u. (unwrap_or u no_edge).decaying) (sym c.inward) ∙ p);
   }
     where
@@ -131,17 +132,17 @@ module _ {w : World} {b : Books} {g : Records} {from : ℕ} {k : Key} {r : Route
 
   pub positions-peer : Positions v h
   positions-peer = record {
-    inward_primary = λ q t d a p. let c : Was law can q t = was_router law can q t a in
+    inward_primary = λ q t d a p. let c : WasLike w q t = was_router law can q t a in
         bypass_same law can d.link ∙ (positions_of law).inward_primary q c.router d c.here_before
         (ap (λ u. (unwrap_or u no_edge).primary) (sym c.inward) ∙ p);
-    inward_decaying = λ q t d a p. let c : Was law can q t = was_router law can q t a in
+    inward_decaying = λ q t d a p. let c : WasLike w q t = was_router law can q t a in
         bypass_same law can d.link ∙ (positions_of law).inward_decaying q c.router d c.here_before
         (ap (λ u. (unwrap_or u no_edge).decaying) (sym c.inward) ∙ p);
-    inward_to = λ q t d j a p n. let c : Was law can q t = was_router law can q t a in
+    inward_to = λ q t d j a p n. let c : WasLike w q t = was_router law can q t a in
         ap (λ u. (unwrap_or u no_edge).length_to) c.inward ∙ (positions_of law).inward_to q c.router d j c.here_before
         (ap (λ u. (unwrap_or u no_edge).decaying) (sym c.inward) ∙ p) n ∙ sym
         (ap (known_from 4 (h.bypass j).stage) (accepted_same law can j) ∙ known4 j (g.bypass j).accepted_at);
-    inward_from = λ q t d j a p n. let c : Was law can q t = was_router law can q t a in
+    inward_from = λ q t d j a p n. let c : WasLike w q t = was_router law can q t a in
         ap (λ u. (unwrap_or u no_edge).length_from) c.inward ∙ (positions_of law).inward_from q c.router d j c.here_before
         (ap (λ u. (unwrap_or u no_edge).decaying) (sym c.inward) ∙ p) n ∙ sym (known4-taken j);
     primary_old = λ q t d j a p l n. primary_old_at q t d j p l (sym (is_begun_same law can j) ∙ n) (split law can q t a);
@@ -174,7 +175,7 @@ module _ {w : World} {b : Books} {g : Records} {from : ℕ} {k : Key} {r : Route
         (at_o law can j);
     across_fresh = λ q t d j a m l n. (positions_of law).across_fresh q t d j (own_at q t d j m l (split law can q t a)) m l
         (n ∙ across_side_same law can j) ∙ ap (λ i. Some (Central i)) (sym (fresh_same law can j));
-    begun = λ q t a n. let c : Was law can q t = was_router law can q t a in (positions_of law).begun q c.router c.here_before
+    begun = λ q t a n. let c : WasLike w q t = was_router law can q t a in (positions_of law).begun q c.router c.here_before
         (ap (λ u. is_some u && is_none (unwrap_or u no_edge).primary) (sym c.inward) ∙ n);
     begun_proxy = λ q j n. proxy_same law can j ∙ (positions_of law).begun_proxy q j n;
     begun_stage = λ q j n. is_begun_same law can j ∙ (positions_of law).begun_stage q j n;

@@ -29,7 +29,7 @@ use Rattle.ipcz_edge.specs.Edge.{no_edge}
 use Rattle.ipcz_router.specs.Bypass.{bypass_peer}
 use Rattle.ipcz_base.specs.declared.descriptor.Descriptor.{Descriptor}
 use Rattle.ipcz_world.specs.Remembering.{taken_records}
-use Rattle.ipcz_world.proofs.frames.Unmoved.{Carried}
+use Rattle.ipcz_world.proofs.frames.Unmoved.{Carried, WasLike}
 use Rattle.ipcz_world.proofs.flows.Handing.{handed_on, place_before, was_under_way, was_made_before}
 use Rattle.ipcz_world.proofs.views.Viewing.{Stood, stood, IsSameView}
 use Rattle.ipcz_world.proofs.facts.Lengths.{opposite-twice, side_is, is_attached-proxy, is_attached-inner, view-standing, length-old}
@@ -40,7 +40,7 @@ use Rattle.ipcz_world.proofs.frames.Sealing.{proxy_numbers_of, fresh_numbers_of}
 use Rattle.ipcz_world.proofs.hands.BypassPeerAround.{CanPeer, here, in_hand, on_node, is, itself, begun, known, z_inner, on, by_o, at_o}
 use Rattle.ipcz_world.proofs.hands.BypassPeerAround.{is_begun_same, proxy_same, inner_same, accepted_same, proxy_side_same}
 use Rattle.ipcz_world.proofs.hands.BypassPeerAround.{across_side_same, central_same, same_bypass, begun_apart, apart, node_same}
-use Rattle.ipcz_world.proofs.hands.BypassPeerAround.{recorded_more, recorded_back, view_same, view_beyond, split, Was, was_router}
+use Rattle.ipcz_world.proofs.hands.BypassPeerAround.{recorded_more, recorded_back, view_same, view_beyond, split, was_router}
 use Rattle.ipcz_world.proofs.hands.BypassPeerLinks.{x_dec, taken_same, outward_b}
 
 module _ {w : World} {b : Books} {g : Records} {from : ℕ} {k : Key} {r : Router} {o : ℕ} {link : LinkId} {side : Side}
@@ -312,7 +312,7 @@ module _ {w : World} {b : Books} {g : Records} {from : ℕ} {k : Key} {r : Route
   cur : {p q : Queue Item} → p ≡ q → p.current ≡ q.current
   cur m = ap (λ z. z.current) m
 
-  was_proxy : (j : ℕ) (t : Router) → router_at v (h.bypass j).proxy ≡ Some t → Was law can (g.bypass j).proxy t
+  was_proxy : (j : ℕ) (t : Router) → router_at v (h.bypass j).proxy ≡ Some t → WasLike w (g.bypass j).proxy t
   was_proxy j t m = was_router law can (g.bypass j).proxy t (ap (router_at v) (sym (proxy_same law can j)) ∙ m)
 
   far_of : (j : ℕ) → 3 ≤ (h.bypass j).stage → nat_eq j o ≡ false
@@ -323,21 +323,21 @@ module _ {w : World} {b : Books} {g : Records} {from : ℕ} {k : Key} {r : Route
 
   pub proxy_numbers-peer : ProxyNumbers v h
   proxy_numbers-peer = record {
-    out_current = λ j t m l. let c : Was law can (g.bypass j).proxy t = was_proxy j t m in
+    out_current = λ j t m l. let c : WasLike w (g.bypass j).proxy t = was_proxy j t m in
         omega (arith, out_current_at j c.router c.here_before l (at_o law can j), cur c.alike.out_queue);
-    out_items = λ j t n item m l i. let c : Was law can (g.bypass j).proxy t = was_proxy j t m in
+    out_items = λ j t n item m l i. let c : WasLike w (g.bypass j).proxy t = was_proxy j t m in
         out_items_at j c.router n item c.here_before l (ap (λ q. item_at q n) (sym c.alike.out_queue) ∙ i) (at_o law can j);
-    in_current = λ j t m l. let c : Was law can (g.bypass j).proxy t = was_proxy j t m in
+    in_current = λ j t m l. let c : WasLike w (g.bypass j).proxy t = was_proxy j t m in
         omega (arith, in_current_at j c.router c.here_before l (far_of j l), cur c.alike.in_queue);
-    in_items = λ j t n item m l i. let c : Was law can (g.bypass j).proxy t = was_proxy j t m in
+    in_items = λ j t n item m l i. let c : WasLike w (g.bypass j).proxy t = was_proxy j t m in
         in_items_at j c.router n item c.here_before l (ap (λ q. item_at q n) (sym c.alike.in_queue) ∙ i) (far_of j l);
-    across_gone = λ j t m l n. let c : Was law can (g.bypass j).proxy t = was_proxy j t m in
+    across_gone = λ j t m l n. let c : WasLike w (g.bypass j).proxy t = was_proxy j t m in
         omega (arith, across_gone_at j c.router c.here_before l n (far_of j l), cur c.alike.out_queue);
-    inner_gone = λ j t m l n. let c : Was law can (g.bypass j).proxy t = was_proxy j t m in
+    inner_gone = λ j t m l n. let c : WasLike w (g.bypass j).proxy t = was_proxy j t m in
         omega (arith, inner_gone_at j c.router c.here_before l n (far_of j (omega (arith, l))), cur c.alike.in_queue);
     out_finished = λ j t m l n. out_finished_at j t (ap (router_at v) (sym (proxy_same law can j)) ∙ m) l n (far_of j (omega (arith, l)))
         (split law can (g.bypass j).proxy t (ap (router_at v) (sym (proxy_same law can j)) ∙ m));
-    in_finished = λ j t m l n. let c : Was law can (g.bypass j).proxy t = was_proxy j t m in
+    in_finished = λ j t m l n. let c : WasLike w (g.bypass j).proxy t = was_proxy j t m in
         omega (arith, in_finished_at j t c l n (far_of j (omega (arith, l))), cur c.alike.in_queue);
   }
     where
@@ -380,7 +380,7 @@ module _ {w : World} {b : Books} {g : Records} {from : ℕ} {k : Key} {r : Route
       out_finished_at j t m l n c (inl a) = absurd (grind (arith, on law can, ap (λ q. q.outward.decaying) a.1 ∙ n))
       out_finished_at j t m l n c (inr a) = rw c ((proxy_numbers_of law).out_finished j t a.1 (rw c at l) n)
 
-      in_finished_at : (j : ℕ) (t : Router) (z : Was law can (g.bypass j).proxy t) → 4 ≤ (h.bypass j).stage →
+      in_finished_at : (j : ℕ) (t : Router) (z : WasLike w (g.bypass j).proxy t) → 4 ≤ (h.bypass j).stage →
           (inward_edge t).decaying ≡ None →
           nat_eq j o ≡ false → (h.bypass j).accepted_at ≤ z.router.in_queue.current
       in_finished_at j t z l n c = rw c ((proxy_numbers_of law).in_finished j z.router z.here_before (rw c at l)

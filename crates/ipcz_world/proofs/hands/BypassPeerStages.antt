@@ -38,9 +38,9 @@ use Rattle.ipcz_world.proofs.hands.BypassPeerAround.{CanPeer, here, is, itself, 
 use Rattle.ipcz_world.proofs.hands.BypassPeerAround.{still, fresh_owner, not_linked, changed, at_o, at_fresh, stage_at, is_begun_same}
 use Rattle.ipcz_world.proofs.hands.BypassPeerAround.{proxy_same, inner_same, fresh_same, proxy_side_same, across_side_same, central_same}
 use Rattle.ipcz_world.proofs.hands.BypassPeerAround.{owner_same, two, begun_apart, fresh_apart, apart, router_same, end_same, recorded_back}
-use Rattle.ipcz_world.proofs.hands.BypassPeerAround.{linked_back, new_end, x_known, beyond_none, x_on_fresh, router_j, at_k, Was}
-use Rattle.ipcz_world.proofs.hands.BypassPeerAround.{was_router}
+use Rattle.ipcz_world.proofs.hands.BypassPeerAround.{linked_back, new_end, x_known, beyond_none, x_on_fresh, router_j, at_k, was_router}
 use Rattle.ipcz_world.proofs.hands.BypassPeerLinks.{inner_is}
+use Rattle.ipcz_world.proofs.frames.Unmoved.{WasLike}
 
 module _ {w : World} {b : Books} {g : Records} {from : ℕ} {k : Key} {r : Router} {o : ℕ} {link : LinkId} {side : Side}
     {target fresh : ℕ} (law : Sealed w b g) (can : Closed (CanPeer w from k r o link side target fresh)) where
@@ -234,7 +234,7 @@ module _ {w : World} {b : Books} {g : Records} {from : ℕ} {k : Key} {r : Route
   pub spares-peer : Spares v h
   unfolding spare_of
   spares-peer = record {
-    spare = λ q t i a m. let c : Was law can q t = was_router law can q t a in let s : g.owner i ≡ Spare q =
+    spare = λ q t i a m. let c : WasLike w q t = was_router law can q t a in let s : g.owner i ≡ Spare q =
         (spares_of law).spare q c.router i c.here_before (sym c.alike.spare ∙ m) in kept_spare i q s (at_fresh law can i);
     spare_back = λ q i m. spare_same q ∙ (spares_of law).spare_back q i (from_spare i q m (at_fresh law can i));
     opening = λ n i m. kept_opening i n ((spares_of law).opening n i (sym ((changed law can).opening n) ∙ m)) (at_fresh law can i);
@@ -293,11 +293,11 @@ module _ {w : World} {b : Books} {g : Records} {from : ℕ} {k : Key} {r : Route
   stages-peer = record {
     proxy_old = λ j n l. proxy_old_at j (sym (is_begun_same law can j) ∙ n) l;
     proxy_inner = λ j n l. proxy_inner_at j (sym (is_begun_same law can j) ∙ n) l;
-    proxy_begun = λ j t n a. let c : Was law can (g.bypass j).proxy t =
+    proxy_begun = λ j t n a. let c : WasLike w (g.bypass j).proxy t =
         was_router law can (g.bypass j).proxy t (ap (router_at v) (sym (proxy_same law can j)) ∙ a)
         in ap (λ u. is_some u && is_none (unwrap_or u no_edge).primary) c.inward ∙ (stages_of law).proxy_begun j c.router
         (sym (is_begun_same law can j) ∙ n) c.here_before;
-    proxy_end = λ j t n a. let c : Was law can (g.bypass j).proxy t =
+    proxy_end = λ j t n a. let c : WasLike w (g.bypass j).proxy t =
         was_router law can (g.bypass j).proxy t (ap (router_at v) (sym (proxy_same law can j)) ∙ a) in
         c.alike.end ∙ (stages_of law).proxy_end j c.router (sym (is_begun_same law can j) ∙ n) c.here_before ∙ sym
         (ap (λ p. side_end h (inner_link p) A) (inner_same law can j) ∙ end_same law can (inner_of g j) A refl);
@@ -374,11 +374,11 @@ module _ {w : World} {b : Books} {g : Records} {from : ℕ} {k : Key} {r : Route
 
   pub terminals-peer : Terminals w g → Terminals v h
   terminals-peer terms = record {
-    terminal = λ q t a m. let c : Was law can q t = was_router law can q t a in ap g.terminal c.alike.end ∙
+    terminal = λ q t a m. let c : WasLike w q t = was_router law can q t a in ap g.terminal c.alike.end ∙
         terms.terminal q c.router c.here_before
         (sym c.alike.terminal ∙ m);
     stands = λ d q m. keep (Some q) (λ y. is_terminal y && same_end y.end d) (terms.stands d q m) (λ n t. t);
-    opened = λ q t a. let c : Was law can q t = was_router law can q t a in ap (λ d. is_nowhere (g.terminal d)) c.alike.end ∙
+    opened = λ q t a. let c : WasLike w q t = was_router law can q t a in ap (λ d. is_nowhere (g.terminal d)) c.alike.end ∙
         terms.opened q c.router
         c.here_before;
     link_opened = λ l s rec. link_opened_at l s (recorded_back law can l rec);

@@ -69,12 +69,12 @@ link_found w g k r l s law here has = found.1 ∙ ap Some (λ i. record { serial
     told : (get (node_at w k.node).routers found.0.serial ≡ Some found.0.router) × (router_has found.0.router l s ≡ true)
     told = found_tells (node_at w k.node) (λ y. router_has y l s) found.0 found.1
 
-    and_from : Some (record { node = k.node; serial = found.0.serial }) ≡ Some k
-    and_from = sym (has_at w g (record { node = k.node; serial = found.0.serial }) found.0.router l s law told.0 told.1).router ∙
+    both : Some (record { node = k.node; serial = found.0.serial }) ≡ Some k
+    both = sym (has_at w g (record { node = k.node; serial = found.0.serial }) found.0.router l s law told.0 told.1).router ∙
         (has_at w g k r l s law here has).router
 
     serials : found.0.serial ≡ k.serial
-    serials = grind (arith, and_from)
+    serials = grind (arith, both)
 
     one : Some found.0.router ≡ Some r
     one = sym told.0 ∙ ap (get (node_at w k.node).routers) serials ∙ here

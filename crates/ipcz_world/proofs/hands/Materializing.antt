@@ -127,7 +127,8 @@ module _ (w v : World) (b : Books) (g : Records) (a : ℕ) (q p : Key) (d : Desc
             ap (λ i. has_end c.end (ends_in i)) item_is ∙ law.held_once.moves_in_parcel from to i l s n item (d ∷ moves) (suc j) c f.3
             (ap (λ ms. slice_get ms j) (sym list_is) ∙ e)
 
-    -- all together
+    -- All together. The terminal goes on where its end was: its next numbers are those of the descriptor, which are what the end has put
+    -- and read. It has no items, so nothing has come to a place or left one, and its end is under way no longer.
     pub inv-made : Hands v → OpenInv v b h2
     inv-made hands = record {
       counts = counts-made law is t hands;

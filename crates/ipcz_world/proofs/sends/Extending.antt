@@ -28,7 +28,7 @@ use Rattle.ipcz_world.proofs.sends.ExtendingAround.{next_key, extended, extended
 use Rattle.ipcz_world.proofs.sends.ExtendingStages.{nowhere_same, ordered-extended, stands-extended, words-extended, spares-extended}
 use Rattle.ipcz_world.proofs.sends.ExtendingStages.{bypasses-extended, stages-extended, terminals-extended}
 use Rattle.ipcz_world.proofs.sends.ExtendingLinks.{counts-extended, shape-extended, links-extended, positions-extended}
-use Rattle.ipcz_world.proofs.sends.ExtendingItems.{d, order-extended, proxy_numbers-extended}
+use Rattle.ipcz_world.proofs.sends.ExtendingItems.{order-extended, proxy_numbers-extended}
 use Rattle.ipcz_world.proofs.sends.ExtendingFacts.{last_of, in_node-same}
 use Rattle.ipcz_world.proofs.sends.ExtendingPlaces.{came, items-extended, told-extended, descriptor_came, moves-extended}
 use Rattle.ipcz_world.proofs.sends.ExtendingPlaces.{fresh_numbers-extended, not_closed, end_places-extended, books_kept-extended}
@@ -137,7 +137,9 @@ module _ (w v : World) (b : Books) (g : Records) (q : Key) (r : Router) (a : ℕ
               | inr new ↦ ap (λ d. has_end d.end (ends_in item)) new ∙ named
             ]
 
-    -- all together
+    -- All together. Nothing is lost: the queues stay with the proxy, and the descriptor says how many items its end has put and how many it
+    -- has read, so that the terminal made of it goes on just there (move_out, move_in). The end was held at this node; now it is in one
+    -- message, once.
     pub inv-extended : Hands v → OpenInv v b h2
     inv-extended hands = record {
       counts = counts-extended law is t hands;
