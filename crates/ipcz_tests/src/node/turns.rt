@@ -87,17 +87,15 @@ pub(super) type Row = (Answer, &'static str);
 
 /// How many turns, from the first on, are seen to do what their rows say.
 pub(super) fn turns_as(alloc: Global, node: &mut NodeState, rows: &[Row]) -> usize {
-    let mut count = 0;
-    for (offered, want) in rows {
+    for (i, (offered, want)) in rows.iter().enumerate() {
         let Ok(event) = event(alloc, node, *offered) else {
-            return count;
+            return i;
         };
         if event.as_str() != *want {
-            return count;
+            return i;
         }
-        count += 1;
     }
-    count
+    rows.len()
 }
 
 /// What the next turn posts.
