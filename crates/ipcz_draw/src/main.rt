@@ -1,6 +1,9 @@
 //! `ipcz_draw` reads a transcript of `ipcz_run` from standard input, and writes a picture of it, an SVG, to standard output.
 #![tactic(auto)]
 
+pub mod class;
+pub mod line;
+pub mod shapes;
 pub mod writer;
 
 use std::process::ExitCode;
