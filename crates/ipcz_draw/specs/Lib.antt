@@ -1,1 +1,4 @@
 pub mod Markup
+pub mod Rows
+pub mod Devices
+pub mod WholeIo

@@ -103,3 +103,10 @@ pub enum Line<'a> {
     /// The script was none.
     Refused(Fault),
 }
+
+/// A line with its text.
+#[derive(Clone, Copy)]
+pub struct ReadLine<'a> {
+    pub text: &'a [u8],
+    pub line: Line<'a>,
+}

@@ -2,8 +2,15 @@
 #![tactic(auto)]
 
 pub mod class;
+pub mod device;
+pub mod fault;
 pub mod line;
+pub mod picture;
+pub mod row;
+pub mod rows;
 pub mod shapes;
+pub mod style;
+pub mod whole_io;
 pub mod writer;
 
 use std::process::ExitCode;
