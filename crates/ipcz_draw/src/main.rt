@@ -4,13 +4,20 @@
 pub mod class;
 pub mod device;
 pub mod fault;
+pub mod ground;
+pub mod lanes;
+pub mod lifelines;
 pub mod line;
+pub mod marks;
 pub mod picture;
+pub mod routers;
 pub mod row;
 pub mod rows;
+pub mod scene;
 pub mod shapes;
 pub mod style;
 pub mod whole_io;
+pub mod word_cells;
 pub mod writer;
 
 use std::process::ExitCode;

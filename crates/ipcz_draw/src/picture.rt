@@ -5,10 +5,14 @@ ghost use Rattle.ipcz_draw.specs.declared.writer.Tag.{Tag};
 ghost use Rattle.ipcz_draw.specs.Markup.{Grows, InTag, InText, Keeps, KeepsTag, Row, Stands};
 ghost use Rattle.ipcz_draw.specs.Rows.{row_at, Follow, IsPicture};
 
-use crate::class::Class;
+use crate::ground::draw_ground;
+use crate::lanes::lanes;
+use crate::lifelines::{draw_lifelines, draw_names};
 use crate::line::ReadLine;
+use crate::routers::routers;
 use crate::row::draw_row;
 use crate::rows::{Place, places};
+use crate::scene::Scene;
 use crate::style;
 use crate::writer::{Key, Tag, Writer};
 use std::alloc::{AllocError, Global};
@@ -70,14 +74,20 @@ fn draw_style(out: &mut Writer)
 }
 
 // A row for each line, in order.
-fn draw_rows(out: &mut Writer, lines: &[ReadLine], placed: &[Place], bottom: u64)
+fn draw_rows(
+    out: &mut Writer,
+    scene: &Scene,
+    lines: &[ReadLine],
+    placed: &[Place],
+    bottom: u64,
+)
     requires many { length lines.now < 2 ^ 32 }
     requires follow { Follow lines.now 0 136 placed.now (length lines.now) bottom }
     ensures drawn { Stands out.old [] InText (Tag.Svg ∷ []) →
         Stands out.new (map (row_at lines.now) placed.now) InText (Tag.Svg ∷ []) }
 {
     for place in placed {
-        draw_row(out, lines, place);
+        draw_row(out, scene, lines, place);
     }
 }
 
@@ -87,12 +97,17 @@ pub fn picture(alloc: Global, lines: &[ReadLine]) -> Result<Vec<u8>, AllocError>
     ensures picture { IfOk result (λ text. IsPicture lines.now text.items) }
 {
     let (placed, bottom) = places(alloc, lines)?;
+    let routers = routers(alloc, lines)?;
+    let lanes = lanes(alloc, lines, &routers)?;
+    let scene = Scene::new(alloc, lines, &routers, &lanes, &placed, bottom)?;
     let mut out = Writer::new(alloc);
-    draw_root(&mut out, 930, bottom.saturating_add(26));
+    draw_root(&mut out, scene.width, bottom.saturating_add(26));
     draw_title(&mut out, lines.len() as u64);
     draw_style(&mut out);
-    out.rect(0, 0, 930, bottom.saturating_add(26), Class::Page);
-    draw_rows(&mut out, lines, placed.as_slice(), bottom);
+    draw_ground(&mut out, &scene);
+    draw_lifelines(&mut out, &scene);
+    draw_names(&mut out, &scene);
+    draw_rows(&mut out, &scene, lines, &placed, bottom);
     out.close(Tag::Svg);
     out.finish()
 }

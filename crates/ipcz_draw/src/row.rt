@@ -7,7 +7,9 @@ ghost use Rattle.ipcz_draw.specs.Rows.{row_at, IsPlace};
 
 use crate::class::Class;
 use crate::line::{Answer, Event, Line, ReadLine, RouterEvent};
+use crate::marks::draw_marks;
 use crate::rows::Place;
+use crate::scene::Scene;
 use crate::writer::{Tag, Writer};
 
 /// The most bytes of a line that stand in the gutter.
@@ -128,7 +130,7 @@ fn draw_place_gutter(out: &mut Writer, lines: &[ReadLine], place: &Place)
 }
 
 /// The row at a place.
-pub fn draw_row(out: &mut Writer, lines: &[ReadLine], place: &Place)
+pub fn draw_row(out: &mut Writer, scene: &Scene, lines: &[ReadLine], place: &Place)
     requires many { length lines.now < 2 ^ 32 }
     requires place { IsPlace lines.now place.now }
     ensures draws { (rows : List Row) (u : Tag) (s : List Tag) → Stands out.old rows InText (u ∷ s) →
@@ -137,5 +139,6 @@ pub fn draw_row(out: &mut Writer, lines: &[ReadLine], place: &Place)
     begin_place(out, lines, place);
     out.close(Tag::Title);
     draw_place_gutter(out, lines, place);
+    draw_marks(out, scene, &lines[place.first]);
     out.close(Tag::G);
 }

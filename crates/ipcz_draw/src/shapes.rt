@@ -50,6 +50,30 @@ impl Writer {
         self.leave();
     }
 
+    /// A rectangle with round corners.
+    pub fn pill(&mut self, x: u64, y: u64, width: u64, height: u64, radius: u64, class: Class)
+        ensures keeps { Keeps self.old self.new }
+        ensures few { Grows self.old self.new 366 }
+    {
+        self.open(Tag::Rect);
+        self.measure(Key::X, x);
+        self.measure(Key::Y, y);
+        self.measure(Key::Width, width);
+        self.measure(Key::Height, height);
+        self.measure(Key::Rx, radius);
+        self.class(class);
+        self.leave();
+    }
+
+    /// A disc round a point, with a letter.
+    pub fn disc(&mut self, x: u64, y: u64, letter: u8, class: Class)
+        ensures keeps { Keeps self.old self.new }
+        ensures few { Grows self.old self.new 630 }
+    {
+        self.pill(x.saturating_sub(6), y.saturating_sub(6), 13, 13, 6, class);
+        self.label(x, y.saturating_add(4), Class::DiscLetter, &[letter]);
+    }
+
     /// A straight line.
     pub fn line(&mut self, x1: u64, y1: u64, x2: u64, y2: u64, class: Class)
         ensures keeps { Keeps self.old self.new }
