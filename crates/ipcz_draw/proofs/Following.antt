@@ -1,7 +1,8 @@
 -- Places one under the other, with one more.
-use Rattle.std.proofs.Common.{◌≡◌, ℕ, zero, suc, ◌+◌, ◌*◌, ◌<◌, ◌≤◌, ◌++◌, [], ◌∷◌, List, length, get_or, arith, refl, sym, ◌∙◌}
+use Rattle.std.proofs.Common.{◌≡◌, ℕ, zero, suc, ◌+◌, ◌*◌, ◌<◌, ◌≤◌, ◌++◌, [], ◌∷◌, List, length, get_or, flat_map, length-append, arith, refl, sym, ◌∙◌}
 use Rattle.ipcz_draw.specs.declared.line.ReadLine.{ReadLine}
 use Rattle.ipcz_draw.specs.declared.rows.Place.{Place}
+use Rattle.ipcz_draw.specs.Lines.{with_line_feed}
 use Rattle.ipcz_draw.specs.Rows.{Follow, IsPlace}
 
 pub follow_one : (read : List ReadLine) (from top : ℕ) (ps : List Place) (to bottom : ℕ) (p : Place) → Follow read from top ps to bottom
@@ -23,3 +24,9 @@ pub two_of : {A : Type 0} (xs : List A) → 2 ≤ length xs → (a : A) × (b : 
 two_of [] h = absurd (omega (arith, h))
 two_of (a ∷ []) h = absurd (omega (arith, h))
 two_of (a ∷ b ∷ rest) h = (a, b, rest, refl)
+
+-- a text has at least as many bytes as lines
+pub fewer_lines : (read : List ReadLine) → length read ≤ length (flat_map with_line_feed read)
+fewer_lines [] = omega arith
+fewer_lines (x ∷ read) =
+    omega (arith, fewer_lines read, length-append (with_line_feed x) (flat_map with_line_feed read), length-append x.text.now (10 ∷ []))

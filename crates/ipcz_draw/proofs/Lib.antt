@@ -1,3 +1,5 @@
 pub mod Adding
 pub mod Following
 pub mod KnownBytes
+pub mod Numbers
+pub mod Parting

@@ -1,4 +1,8 @@
-pub mod Markup
-pub mod Rows
 pub mod Devices
+pub mod LineParts
+pub mod Lines
+pub mod Markup
+pub mod Outputs
+pub mod Rows
 pub mod WholeIo
+pub mod Sizes

@@ -1,5 +1,5 @@
 -- The rows of a picture: which lines stand in each, how far down it begins, and how high it is.
-use Rattle.std.specs.Prelude.{ℕ, ◌+◌, ◌*◌, ◌/◌, ◌≡◌, ◌≤◌, ◌<◌, ◌==◌, Bool, true, false, IsTrue, List, [], ◌∷◌, length, map, take, drop, min, max, count_by}
+use Rattle.std.specs.Prelude.{ℕ, ◌+◌, ◌*◌, ◌/◌, ◌≡◌, ◌≤◌, ◌<◌, ◌==◌, Bool, true, false, if◌then◌else◌, IsTrue, List, [], ◌∷◌, length, map, take, drop, min, max, count_by}
 use Rattle.std.specs.List.{AllWithin, HoldsAt}
 use Rattle.ipcz_draw.specs.declared.line.Line.{Line}
 use Rattle.ipcz_draw.specs.declared.line.Line.TheVariants as lines
@@ -25,11 +25,15 @@ IsIdle x = is_idle x.line ≡ true
 abbrev pub IsBusy : ReadLine → Type 0
 IsBusy x = is_idle x.line ≡ false
 
+-- how many values these are, with a space between two
+abbrev pub value_count : List ℕ → ℕ
+value_count values = if length values == 0 then 0 else count_by (λ b. b == 32) values + 1
+
 -- how many units a line's row is high: two for a settle, for words one for each six values (at most 4096 have a place), and else one
 abbrev pub units_of : Line → ℕ
 units_of lines.Settled = 2
 units_of lines.Unsettled = 2
-units_of (lines.Words values) = (max 1 (min 4096 (count_by (λ b. b == 32) values.now)) + 5) / 6
+units_of (lines.Words values) = (max 1 (min 4096 (value_count values.now)) + 5) / 6
 units_of other = 1
 
 -- what is drawn at a place: these lines' texts, with the number of the first

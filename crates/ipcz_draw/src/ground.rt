@@ -46,7 +46,8 @@ fn draw_line_ground(out: &mut Writer, scene: &Scene, index: usize, line: &Line)
     let top = scene.top_of(index);
     match line {
         Line::Turn {
-            event: Event::Idle, ..
+            event: Event::Idle,
+            ..
         } => {}
         Line::Turn { node, .. } => {
             let Walls { left, right } = scene.walls_of(*node);
@@ -54,7 +55,14 @@ fn draw_line_ground(out: &mut Writer, scene: &Scene, index: usize, line: &Line)
         }
         Line::Settled | Line::Unsettled => {
             let width = scene.width.saturating_sub(16);
-            out.pill(8, top.saturating_add(3), width, 2 * UNIT - 6, 3, Class::Settle);
+            out.pill(
+                8,
+                top.saturating_add(3),
+                width,
+                2 * UNIT - 6,
+                3,
+                Class::Settle,
+            );
         }
         _ => {}
     }
@@ -74,11 +82,27 @@ fn draw_lines_ground(out: &mut Writer, scene: &Scene)
 pub fn draw_ground(out: &mut Writer, scene: &Scene)
     ensures keeps { Keeps out.old out.new }
 {
-    out.rect(0, 0, scene.width, scene.bottom.saturating_add(26), Class::Page);
+    out.rect(
+        0,
+        0,
+        scene.width,
+        scene.bottom.saturating_add(26),
+        Class::Page,
+    );
     draw_bands(out, scene.nodes.as_slice(), scene.bottom);
     if scene.words > 0 {
-        out.label(scene.words_left, TOP - 32, Class::WordHeading, b"link words");
-        out.label(scene.words_left, TOP - 18, Class::NodeNote, b"after the step: A | B");
+        out.label(
+            scene.words_left,
+            TOP - 32,
+            Class::WordHeading,
+            b"link words",
+        );
+        out.label(
+            scene.words_left,
+            TOP - 18,
+            Class::NodeNote,
+            b"after the step: A | B",
+        );
     }
     draw_lines_ground(out, scene);
 }

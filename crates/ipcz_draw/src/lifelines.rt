@@ -54,7 +54,11 @@ fn draw_name(out: &mut Writer, scene: &Scene, index: usize, router: &Router)
     ensures few { Grows out.old out.new 290 }
 {
     let x = scene.across_of(index).saturating_sub(8);
-    out.begin_label(x, scene.middle_of(router.first).saturating_add(4), Class::RouterName);
+    out.begin_label(
+        x,
+        scene.middle_of(router.first).saturating_add(4),
+        Class::RouterName,
+    );
     out.text(b"r");
     out.number(router.serial);
     out.close(Tag::Text);

@@ -3,9 +3,13 @@
 //! A line refers to the bytes that it was read from for names, lists and data. Every number in it is one of 64 bits at most,
 //! as all of a run are.
 
+mod acts;
 mod parts;
+mod reading;
+mod words;
 
 pub use parts::{Answer, End, Fault, Kind, Link, Refusal, Side, Way, WordStep};
+pub use reading::read;
 
 /// What a router did in a turn of its node.
 #[derive(Clone, Copy)]
@@ -104,9 +108,20 @@ pub enum Line<'a> {
     Refused(Fault),
 }
 
-/// A line with its text.
+/// A line with its text, without the line feed.
 #[derive(Clone, Copy)]
 pub struct ReadLine<'a> {
     pub text: &'a [u8],
     pub line: Line<'a>,
 }
+
+/// Why bytes weren't read as a transcript.
+#[derive(Clone, Copy, Debug, PartialEq, Eq)]
+pub enum Unread {
+    OutOfMemory,
+    /// The first line that is of no known form, counted from 1; or 0, where there are too many bytes.
+    Refused { line: usize },
+}
+
+/// The most bytes of a transcript that is read.
+pub const LONGEST: usize = 262_144;

@@ -2,15 +2,17 @@
 
 ghost use Rattle.std.specs.Prelude.{◌≡◌, ◌+◌, ◌*◌, ◌≤◌, ◌∷◌, List, ℕ, length};
 ghost use Rattle.ipcz_draw.specs.Markup.{Grows, InText, Keeps, Row, Stands};
+ghost use Rattle.ipcz_draw.specs.Sizes.{most_marks};
 
 use crate::class::Class;
 use crate::line::{Event, Line, Link, ReadLine, RouterEvent, WordStep};
-use crate::scene::{Scene, WORDS};
-use crate::word_cells::draw_word;
+use crate::scene::Scene;
+use crate::word_cells::{draw_word, draw_words};
 use crate::writer::{Tag, Writer};
 
 // The middle of a row, from its top.
 const MIDDLE: u64 = 9;
+
 const BASE: u64 = 13;
 
 // The front of a text that has room.
@@ -53,7 +55,13 @@ fn draw_word_step(out: &mut Writer, scene: &Scene, x: u64, step: WordStep, word:
     let (letter, class, words) = step_mark(step);
     out.disc(x, MIDDLE, letter, class);
     draw_note(out, x, words, word as u64);
-    draw_word(out, scene.across_of_word(word as usize), MIDDLE, word as u64, after);
+    draw_word(
+        out,
+        scene.across_of_word(word as usize),
+        MIDDLE,
+        word as u64,
+        after,
+    );
 }
 
 // A claim, of a word or of none.
@@ -65,7 +73,13 @@ fn draw_claim(out: &mut Writer, scene: &Scene, x: u64, word: Option<u16>)
         Some(word) => {
             out.disc(x, MIDDLE, b'+', Class::WordDisc);
             draw_note(out, x, b"claim C", word as u64);
-            draw_word(out, scene.across_of_word(word as usize), MIDDLE, word as u64, 0);
+            draw_word(
+                out,
+                scene.across_of_word(word as usize),
+                MIDDLE,
+                word as u64,
+                0,
+            );
         }
         None => {
             out.disc(x, MIDDLE, b'+', Class::BadDisc);
@@ -115,12 +129,21 @@ fn draw_router_event(out: &mut Writer, scene: &Scene, x: u64, event: &RouterEven
     ensures few { Grows out.old out.new 2500 }
 {
     match event {
-        RouterEvent::Send { .. } => out.pill(x.saturating_sub(4), MIDDLE - 4, 8, 8, 4, Class::ItemDot),
+        RouterEvent::Send { .. } => out.pill(
+            x.saturating_sub(4),
+            MIDDLE - 4,
+            8,
+            8,
+            4,
+            Class::ItemDot,
+        ),
         RouterEvent::Discard { number, leaves } => draw_discard(out, x, *number, *leaves),
         RouterEvent::Finish { link, .. } => draw_finish(out, x, link),
         RouterEvent::Leave => draw_act(out, x, b'X', Class::BadDisc, b"leaves"),
         RouterEvent::Rest => out.pill(x.saturating_sub(2), MIDDLE - 2, 4, 4, 2, Class::RestDot),
-        RouterEvent::Word { step, word, after } => draw_word_step(out, scene, x, *step, *word, *after),
+        RouterEvent::Word { step, word, after } => draw_word_step(
+            out, scene, x, *step, *word, *after,
+        ),
         RouterEvent::Claim { word } => draw_claim(out, scene, x, *word),
         RouterEvent::Begin { word } => {
             out.disc(x, MIDDLE, b'B', Class::BypassDisc);
@@ -146,9 +169,24 @@ fn draw_turn(out: &mut Writer, scene: &Scene, node: u8, event: &Event, text: &[u
             out.number(node as u64);
             out.close(Tag::Text);
         }
-        Event::Close { .. } => out.label(left.saturating_add(6), BASE, Class::Note, front(text, 24)),
-        Event::Refused(_) => out.label(left.saturating_add(6), BASE, Class::Refused, front(text, 24)),
-        Event::Hand { unfit: true, .. } => out.label(left.saturating_add(6), BASE, Class::Refused, b"unfit"),
+        Event::Close { .. } => out.label(
+            left.saturating_add(6),
+            BASE,
+            Class::Note,
+            front(text, 24),
+        ),
+        Event::Refused(_) => out.label(
+            left.saturating_add(6),
+            BASE,
+            Class::Refused,
+            front(text, 24),
+        ),
+        Event::Hand { unfit: true, .. } => out.label(
+            left.saturating_add(6),
+            BASE,
+            Class::Refused,
+            b"unfit",
+        ),
         _ => {}
     }
 }
@@ -156,13 +194,15 @@ fn draw_turn(out: &mut Writer, scene: &Scene, node: u8, event: &Event, text: &[u
 /// The marks of a line.
 pub fn draw_marks(out: &mut Writer, scene: &Scene, read: &ReadLine)
     ensures keeps { Keeps out.old out.new }
-    ensures few { Grows out.old out.new 2500 }
+    ensures few { Grows out.old out.new (most_marks read.now.line) }
 {
     match &read.line {
         Line::Turn { node, event } => draw_turn(out, scene, *node, event, read.text),
+        Line::Words(values) => draw_words(out, scene, values),
         Line::Settled | Line::Unsettled => {
             let x = scene.walls_of(0).left;
-            out.label(x, BASE + 9, Class::SettleText, b"the turns up to here are not in the transcript");
+            let text = b"the turns up to here are not in the transcript";
+            out.label(x, BASE + 9, Class::SettleText, text);
         }
         _ => {}
     }

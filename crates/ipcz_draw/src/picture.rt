@@ -6,6 +6,7 @@ ghost use Rattle.ipcz_draw.specs.Markup.{Grows, InTag, InText, Keeps, KeepsTag, 
 ghost use Rattle.ipcz_draw.specs.Rows.{row_at, Follow, IsPicture};
 
 use crate::ground::draw_ground;
+use crate::heading::draw_heading;
 use crate::lanes::lanes;
 use crate::lifelines::{draw_lifelines, draw_names};
 use crate::line::ReadLine;
@@ -74,13 +75,7 @@ fn draw_style(out: &mut Writer)
 }
 
 // A row for each line, in order.
-fn draw_rows(
-    out: &mut Writer,
-    scene: &Scene,
-    lines: &[ReadLine],
-    placed: &[Place],
-    bottom: u64,
-)
+fn draw_rows(out: &mut Writer, scene: &Scene, lines: &[ReadLine], placed: &[Place], bottom: u64)
     requires many { length lines.now < 2 ^ 32 }
     requires follow { Follow lines.now 0 136 placed.now (length lines.now) bottom }
     ensures drawn { Stands out.old [] InText (Tag.Svg ∷ []) →
@@ -105,6 +100,7 @@ pub fn picture(alloc: Global, lines: &[ReadLine]) -> Result<Vec<u8>, AllocError>
     draw_title(&mut out, lines.len() as u64);
     draw_style(&mut out);
     draw_ground(&mut out, &scene);
+    draw_heading(&mut out, lines.len() as u64);
     draw_lifelines(&mut out, &scene);
     draw_names(&mut out, &scene);
     draw_rows(&mut out, &scene, lines, &placed, bottom);

@@ -8,7 +8,7 @@ ghost use Rattle.ipcz_draw.specs.Rows.{row_at, IsPlace};
 use crate::class::Class;
 use crate::line::{Answer, Event, Line, ReadLine, RouterEvent};
 use crate::marks::draw_marks;
-use crate::rows::Place;
+use crate::rows::{Place, UNIT};
 use crate::scene::Scene;
 use crate::writer::{Tag, Writer};
 
@@ -119,9 +119,12 @@ fn draw_place_gutter(out: &mut Writer, lines: &[ReadLine], place: &Place)
     requires many { length lines.now < 2 ^ 32 }
     requires place { IsPlace lines.now place.now }
     ensures keeps { Keeps out.old out.new }
-    ensures few { Grows out.old out.new 810 }
+    ensures few { Grows out.old out.new 1140 }
 {
     let number = place.first as u64 + 1;
+    if place.first % 2 == 0 {
+        out.rect(8, 0, 344, UNIT, Class::Stripe);
+    }
     if place.count == 1 {
         draw_gutter(out, number, &lines[place.first]);
     } else {

@@ -2,7 +2,7 @@
 
 ghost use Rattle.std.specs.Prelude.{◌≡◌, ◌+◌, ◌*◌, ◌^◌, ◌≤◌, ◌<◌, ◌==◌, length, count_by, IfOk};
 ghost use Rattle.std.specs.List.{AllWithin, HoldsAt};
-ghost use Rattle.ipcz_draw.specs.Rows.{is_idle, units_of, Follow, IsBusy, IsIdle, IsPlace};
+ghost use Rattle.ipcz_draw.specs.Rows.{is_idle, units_of, value_count, Follow, IsBusy, IsIdle, IsPlace};
 
 use crate::line::{Event, Line, ReadLine};
 use std::alloc::{AllocError, Global};
@@ -36,11 +36,21 @@ fn is_idle(line: &Line) -> bool
     )
 }
 
-// How many values a line of words has, each of which stands behind a space.
-fn value_count(values: &[u8]) -> usize
+// How many spaces stand between values.
+fn space_count(values: &[u8]) -> usize
     ensures { result ≡ count_by (λ b. b == 32) values.now }
 {
     values.iter().filter(|b| **b == b' ').count()
+}
+
+/// How many values a line of words has.
+pub fn value_count(values: &[u8]) -> usize
+    ensures { result ≡ value_count values.now }
+{
+    if values.is_empty() {
+        return 0;
+    }
+    space_count(values) + 1
 }
 
 // How many units a line's row is high.

@@ -3,16 +3,19 @@
 ghost use Rattle.std.specs.Prelude.{◌≡◌, ◌≤◌, ◌<◌, length, IfOk};
 
 use crate::lanes::Lane;
-use crate::line::{Event, Line, Link, ReadLine};
-use crate::line::RouterEvent;
+use crate::line::{Event, Line, Link, ReadLine, RouterEvent};
 use crate::routers::{Router, find};
-use crate::rows::{Place, UNIT};
+use crate::rows::{Place, UNIT, value_count};
 use std::alloc::{AllocError, Global};
 
 const COLUMN: u64 = 46;
+
 const PAD: u64 = 38;
+
 const GAP: u64 = 92;
+
 const FIRST_BAND: u64 = 384;
+
 const WORD_COLUMN: u64 = 78;
 
 /// How many words stand side by side.
@@ -82,14 +85,13 @@ fn node_count(lines: &[ReadLine]) -> u8 {
 fn words_of_line(line: &Line) -> usize {
     match line {
         Line::Turn {
-            event:
-                Event::Router {
-                    event: RouterEvent::Word { word, .. } | RouterEvent::Claim { word: Some(word) },
-                    ..
-                },
+            event: Event::Router {
+                event: RouterEvent::Word { word, .. } | RouterEvent::Claim { word: Some(word) },
+                ..
+            },
             ..
         } => *word as usize + 1,
-        Line::Words(values) => values.iter().filter(|b| **b == b' ').count(),
+        Line::Words(values) => value_count(values),
         _ => 0,
     }
 }
@@ -114,12 +116,20 @@ fn column_count(routers: &[Router], lanes: &[Lane], node: u8) -> usize {
 }
 
 // The walls of the nodes.
-fn node_walls(alloc: Global, lines: &[ReadLine], routers: &[Router], lanes: &[Lane]) -> Result<Vec<Walls>, AllocError> {
+fn node_walls(
+    alloc: Global,
+    lines: &[ReadLine],
+    routers: &[Router],
+    lanes: &[Lane],
+) -> Result<Vec<Walls>, AllocError> {
     let mut walls = Vec::new(alloc);
     let mut left = FIRST_BAND;
     for node in 0..node_count(lines) {
         let columns = column_count(routers, lanes, node) as u64;
-        let width = (columns - 1).saturating_mul(COLUMN).saturating_add(2 * PAD);
+        let width = columns
+            .saturating_sub(1)
+            .saturating_mul(COLUMN)
+            .saturating_add(2 * PAD);
         let right = left.saturating_add(width);
         walls.push(Walls { left, right })?;
         left = right.saturating_add(GAP);
@@ -164,7 +174,10 @@ impl<'a> Scene<'a> {
             nodes,
             words,
             words_left,
-            width: words_left.saturating_add(beside).saturating_add(16).max(930),
+            width: words_left
+                .saturating_add(beside)
+                .saturating_add(16)
+                .max(930),
             bottom,
         })
     }
@@ -195,7 +208,10 @@ impl<'a> Scene<'a> {
         match (self.routers.get(router), self.lanes.get(router)) {
             (Some(router), Some(lane)) => {
                 let walls = self.walls_of(router.node);
-                walls.left.saturating_add(PAD).saturating_add((lane.column as u64).saturating_mul(COLUMN))
+                walls
+                    .left
+                    .saturating_add(PAD)
+                    .saturating_add((lane.column as u64).saturating_mul(COLUMN))
             }
             _ => 0,
         }
@@ -211,6 +227,7 @@ impl<'a> Scene<'a> {
 
     /// How far to the right the column of a word begins.
     pub fn across_of_word(&self, word: usize) -> u64 {
-        self.words_left.saturating_add((word % WORDS) as u64 * WORD_COLUMN)
+        self.words_left
+            .saturating_add((word % WORDS) as u64 * WORD_COLUMN)
     }
 }
