@@ -1,2 +1,5 @@
 pub mod Numbers
 pub mod Parting
+pub mod Adding
+pub mod Following
+pub mod KnownBytes

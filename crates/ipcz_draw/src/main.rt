@@ -1,6 +1,20 @@
-//! A transcript of a run on standard input, its picture as one SVG on standard output.
+//! `ipcz_draw` reads a transcript of `ipcz_run` from standard input, and writes a picture of it, an SVG, to standard output.
 #![tactic(auto)]
 
-mod line;
+pub mod class;
+pub mod device;
+pub mod fault;
+pub mod line;
+pub mod picture;
+pub mod row;
+pub mod rows;
+pub mod shapes;
+pub mod style;
+pub mod whole_io;
+pub mod writer;
 
-fn main() {}
+use std::process::ExitCode;
+
+fn main(_rt: HostRuntime) -> ExitCode {
+    ExitCode::from(0)
+}
