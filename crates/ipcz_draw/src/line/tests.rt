@@ -115,17 +115,15 @@ fn tells_the_parts_of_a_line(rt: HostRuntime) -> Result<(), Fail> {
     match lines[0].line {
         Line::Turn {
             node: 1,
-            event:
-                Event::Router {
-                    serial: 12,
-                    event:
-                        RouterEvent::Send {
-                            way: Way::In,
-                            number: 5,
-                            link: Link::Peripheral { node: 3, serial: 4 },
-                            moves,
-                        },
+            event: Event::Router {
+                serial: 12,
+                event: RouterEvent::Send {
+                    way: Way::In,
+                    number: 5,
+                    link: Link::Peripheral { node: 3, serial: 4 },
+                    moves,
                 },
+            },
         } => assert_eq!(rt; moves, b"1A,2B".as_slice()),
         _ => panic!(rt; "a send"),
     }
@@ -145,16 +143,14 @@ fn tells_the_parts_of_a_line(rt: HostRuntime) -> Result<(), Fail> {
     match lines[2].line {
         Line::Turn {
             node: 2,
-            event:
-                Event::Router {
-                    serial: 3,
-                    event:
-                        RouterEvent::Word {
-                            step: WordStep::Wait,
-                            word: 9,
-                            after: 10,
-                        },
+            event: Event::Router {
+                serial: 3,
+                event: RouterEvent::Word {
+                    step: WordStep::Wait,
+                    word: 9,
+                    after: 10,
                 },
+            },
         } => {}
         _ => panic!(rt; "a wait"),
     }
