@@ -4,5 +4,5 @@ pub mod Lines
 pub mod Markup
 pub mod Outputs
 pub mod Rows
-pub mod WholeIo
 pub mod Sizes
+pub mod WholeIo

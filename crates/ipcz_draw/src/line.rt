@@ -6,6 +6,8 @@
 mod acts;
 mod parts;
 mod reading;
+#[cfg(test)]
+mod tests;
 mod words;
 
 pub use parts::{Answer, End, Fault, Kind, Link, Refusal, Side, Way, WordStep};
@@ -102,7 +104,7 @@ pub enum Line<'a> {
     },
     Settled,
     Unsettled,
-    /// The values of the claimed words, each behind a space.
+    /// The values of the claimed words, with a space between each two.
     Words(&'a [u8]),
     /// The script was none.
     Refused(Fault),

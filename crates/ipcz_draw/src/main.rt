@@ -2,6 +2,8 @@
 #![tactic(auto)]
 
 pub mod arrow_looks;
+pub mod arrow_title;
+pub mod arrows;
 pub mod class;
 pub mod device;
 pub mod ending;
@@ -12,6 +14,7 @@ pub mod lanes;
 pub mod lifelines;
 pub mod line;
 pub mod marks;
+pub mod messages;
 pub mod output;
 pub mod picture;
 pub mod program;

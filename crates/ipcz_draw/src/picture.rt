@@ -5,11 +5,13 @@ ghost use Rattle.ipcz_draw.specs.declared.writer.Tag.{Tag};
 ghost use Rattle.ipcz_draw.specs.Markup.{Grows, InTag, InText, Keeps, KeepsTag, Row, Stands};
 ghost use Rattle.ipcz_draw.specs.Rows.{row_at, Follow, IsPicture};
 
+use crate::arrows::draw_messages;
 use crate::ground::draw_ground;
 use crate::heading::draw_heading;
 use crate::lanes::lanes;
 use crate::lifelines::{draw_lifelines, draw_names};
 use crate::line::ReadLine;
+use crate::messages::{messages, note_births};
 use crate::routers::routers;
 use crate::row::draw_row;
 use crate::rows::{Place, places};
@@ -92,7 +94,9 @@ pub fn picture(alloc: Global, lines: &[ReadLine]) -> Result<Vec<u8>, AllocError>
     ensures picture { IfOk result (λ text. IsPicture lines.now text.items) }
 {
     let (placed, bottom) = places(alloc, lines)?;
-    let routers = routers(alloc, lines)?;
+    let mut routers = routers(alloc, lines)?;
+    let messages = messages(alloc, lines, &routers)?;
+    note_births(alloc, lines, &messages, &mut routers)?;
     let lanes = lanes(alloc, lines, &routers)?;
     let scene = Scene::new(alloc, lines, &routers, &lanes, &placed, bottom)?;
     let mut out = Writer::new(alloc);
@@ -102,6 +106,7 @@ pub fn picture(alloc: Global, lines: &[ReadLine]) -> Result<Vec<u8>, AllocError>
     draw_ground(&mut out, &scene);
     draw_heading(&mut out, lines.len() as u64);
     draw_lifelines(&mut out, &scene);
+    draw_messages(&mut out, &scene, &messages);
     draw_names(&mut out, &scene);
     draw_rows(&mut out, &scene, lines, &placed, bottom);
     out.close(Tag::Svg);
