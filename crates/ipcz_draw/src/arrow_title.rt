@@ -36,8 +36,8 @@ fn front(text: &[u8], room: usize) -> &[u8]
     &text[..text.len().min(room)]
 }
 
-// A link's name.
-fn write_link(out: &mut Writer, link: &Link)
+/// A link's name, behind a space.
+pub fn write_link(out: &mut Writer, link: &Link)
     ensures keeps { Keeps out.old out.new }
     ensures few { Grows out.old out.new 60 }
 {

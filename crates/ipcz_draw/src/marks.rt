@@ -4,6 +4,7 @@ ghost use Rattle.std.specs.Prelude.{◌≡◌, ◌+◌, ◌*◌, ◌≤◌, ◌�
 ghost use Rattle.ipcz_draw.specs.Markup.{Grows, InText, Keeps, Row, Stands};
 ghost use Rattle.ipcz_draw.specs.Sizes.{most_marks};
 
+use crate::arrow_title::write_link;
 use crate::class::Class;
 use crate::line::{Event, Line, Link, ReadLine, RouterEvent, WordStep};
 use crate::scene::Scene;
@@ -30,6 +31,17 @@ fn draw_note(out: &mut Writer, x: u64, words: &[u8], number: u64)
     out.begin_label(x.saturating_add(10), BASE, Class::Note);
     out.text(words);
     out.number(number);
+    out.close(Tag::Text);
+}
+
+// The word whose link is bypassed, on the left of a proxy: its message goes off on the right.
+fn draw_begin_note(out: &mut Writer, x: u64, word: u16)
+    ensures keeps { Keeps out.old out.new }
+    ensures few { Grows out.old out.new 400 }
+{
+    out.begin_label(x.saturating_sub(10), BASE, Class::NoteEnd);
+    out.text(b"bypass C");
+    out.number(word as u64);
     out.close(Tag::Text);
 }
 
@@ -117,10 +129,10 @@ fn draw_finish(out: &mut Writer, x: u64, link: &Link)
     ensures few { Grows out.old out.new 2500 }
 {
     out.disc(x, MIDDLE, b'F', Class::BypassDisc);
-    match link {
-        Link::Central(word) => draw_note(out, x, b"no C", *word as u64),
-        Link::Peripheral { serial, .. } => draw_note(out, x, b"no P", *serial),
-    }
+    out.begin_label(x.saturating_add(10), BASE, Class::Note);
+    out.text(b"no");
+    write_link(out, link);
+    out.close(Tag::Text);
 }
 
 // What a router did.
@@ -147,7 +159,7 @@ fn draw_router_event(out: &mut Writer, scene: &Scene, x: u64, event: &RouterEven
         RouterEvent::Claim { word } => draw_claim(out, scene, x, *word),
         RouterEvent::Begin { word } => {
             out.disc(x, MIDDLE, b'B', Class::BypassDisc);
-            draw_note(out, x, b"bypass C", *word as u64);
+            draw_begin_note(out, x, *word);
         }
         RouterEvent::Retire { .. } => draw_act(out, x, b'X', Class::BadDisc, b"retires"),
     }

@@ -12,7 +12,7 @@ use crate::lanes::lanes;
 use crate::lifelines::{draw_lifelines, draw_names};
 use crate::line::ReadLine;
 use crate::messages::{messages, note_births};
-use crate::routers::routers;
+use crate::routers::{routers, see_messages};
 use crate::row::draw_row;
 use crate::rows::{Place, places};
 use crate::scene::Scene;
@@ -97,6 +97,7 @@ pub fn picture(alloc: Global, lines: &[ReadLine]) -> Result<Vec<u8>, AllocError>
     let mut routers = routers(alloc, lines)?;
     let messages = messages(alloc, lines, &routers)?;
     note_births(alloc, lines, &messages, &mut routers)?;
+    see_messages(&mut routers, &messages);
     let lanes = lanes(alloc, lines, &routers)?;
     let scene = Scene::new(alloc, lines, &routers, &lanes, &placed, bottom)?;
     let mut out = Writer::new(alloc);

@@ -4,6 +4,7 @@ ghost use Rattle.std.specs.Prelude.{◌≡◌, ◌<◌, length, IfSome, IfNone};
 ghost use Rattle.std.specs.List.{AllWithin, HoldsAt};
 
 use crate::line::{Event, Line, ReadLine, RouterEvent, Way};
+use crate::messages::Message;
 use std::alloc::{AllocError, Global};
 
 /// A router, with the first and the last line that it is seen at, and the lines at which it left, was known to be a proxy
@@ -112,4 +113,29 @@ pub fn routers(alloc: Global, lines: &[ReadLine]) -> Result<Vec<Router>, AllocEr
         }
     }
     Ok(routers)
+}
+
+impl Router {
+    // Notes that the router is in sight at a line.
+    fn see(&mut self, line: usize) {
+        self.first = self.first.min(line);
+        self.last = self.last.max(line);
+    }
+}
+
+// Notes that the router of an index is in sight at a line, where both are known.
+fn see_at(routers: &mut [Router], router: Option<usize>, line: Option<usize>) {
+    if let (Some(router), Some(line)) = (router, line) {
+        if let Some(router) = routers.get_mut(router) {
+            router.see(line);
+        }
+    }
+}
+
+/// Notes that routers are in sight where they make messages and where they are handed some.
+pub fn see_messages(routers: &mut [Router], messages: &[Message]) {
+    for message in messages {
+        see_at(routers, message.maker, message.made);
+        see_at(routers, message.receiver, message.handled);
+    }
 }

@@ -73,15 +73,21 @@ fn draw_cut(out: &mut Writer, x: u64, y: u64, class: Class, text: &[u8])
     out.close(Tag::Text);
 }
 
+// Whether a line is a settle, whose row is two units high.
+fn is_settle(line: &Line) -> bool {
+    matches!(line, Line::Settled | Line::Unsettled)
+}
+
 // The number and the text of a line that has its own row.
 fn draw_gutter(out: &mut Writer, number: u64, read: &ReadLine)
     ensures keeps { Keeps out.old out.new }
     ensures few { Grows out.old out.new 810 }
 {
-    out.begin_label(48, 13, Class::RowNumber);
+    let base = if is_settle(&read.line) { 22 } else { 13 };
+    out.begin_label(48, base, Class::RowNumber);
     out.number(number);
     out.close(Tag::Text);
-    draw_cut(out, 56, 13, gutter_class(&read.line), read.text);
+    draw_cut(out, 56, base, gutter_class(&read.line), read.text);
 }
 
 // The number of the first of some idle lines, and how many they are.
@@ -122,7 +128,7 @@ fn draw_place_gutter(out: &mut Writer, lines: &[ReadLine], place: &Place)
     ensures few { Grows out.old out.new 1140 }
 {
     let number = place.first as u64 + 1;
-    if place.first % 2 == 0 {
+    if place.first % 2 == 0 && !is_settle(&lines[place.first].line) {
         out.rect(8, 0, 344, UNIT, Class::Stripe);
     }
     if place.count == 1 {

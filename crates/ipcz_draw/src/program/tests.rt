@@ -61,7 +61,12 @@ fn drawn(alloc: Global, transcript: &[u8], out: &mut Vec<u8>) -> u8 {
 
 // Whether a text stands somewhere in these bytes.
 fn has(bytes: &[u8], text: &[u8]) -> bool {
-    bytes.windows(text.len()).any(|front| front == text)
+    for i in 0..bytes.len() {
+        if bytes[i..].starts_with(text) {
+            return true;
+        }
+    }
+    false
 }
 
 #[test]
