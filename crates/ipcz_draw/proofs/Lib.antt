@@ -2,4 +2,5 @@ pub mod Numbers
 pub mod Parting
 pub mod Adding
 pub mod Following
+pub mod Joining
 pub mod KnownBytes
