@@ -1,5 +1,5 @@
 -- What a writer adds, call by call.
-use Rattle.std.proofs.Common.{◌≡◌, ℕ, ◌+◌, ◌*◌, ◌<◌, ◌^◌, ◌≤◌, ◌++◌, [], ◌∷◌, List, length, false, sym, ap, ◌∙◌, arith, rules, append_assoc, subst, length-append}
+use Rattle.std.proofs.Common.{ℕ, ◌+◌, ◌*◌, ◌<◌, ◌^◌, ◌≤◌, ◌++◌, [], ◌∷◌, List, length, sym, ap, ◌∙◌, arith, rules, append_assoc, subst, length-append}
 use Rattle.std.proofs.lemmas.Fmt.{length-decimal-le}
 use Rattle.std.specs.Fmt.{decimal}
 use Rattle.ipcz_draw.specs.declared.writer.Tag.{Tag}

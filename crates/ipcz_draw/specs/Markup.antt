@@ -1,6 +1,6 @@
 -- The markup that is written: which bytes are the front of one element with all that is in it, how a row of the picture begins in it, and how bytes of the
 -- input stand in it.
-use Rattle.std.specs.Prelude.{ℕ, ◌+◌, ◌-◌, ◌≡◌, ◌≤◌, ◌<◌, Bool, true, false, ◌==◌, if◌then◌else◌, List, [], ◌∷◌, ◌++◌, length, flat_map, nat_lt, codes}
+use Rattle.std.specs.Prelude.{ℕ, ◌+◌, ◌≡◌, ◌≤◌, false, ◌==◌, if◌then◌else◌, List, [], ◌∷◌, ◌++◌, length, flat_map, nat_lt, codes}
 use Rattle.std.specs.Fmt.{decimal}
 use Rattle.ipcz_draw.specs.declared.writer.Tag.{Tag}
 use Rattle.ipcz_draw.specs.declared.writer.Tag.TheVariants as tags

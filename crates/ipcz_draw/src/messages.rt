@@ -3,9 +3,12 @@
 //! A mailbox keeps one message, so a look takes the last post of its two nodes; and a node has one message in hand, so it
 //! handles what it looked at last. Behind a settle nothing is known of mailboxes and hands.
 
+ghost use Rattle.std.specs.Prelude.{◌≡◌, None};
+
 mod births;
 mod bypasses;
 mod joining;
+mod mailbox;
 mod making;
 mod namings;
 #[cfg(test)]
@@ -39,7 +42,13 @@ pub struct Message<'a> {
 }
 
 impl<'a> Message<'a> {
-    fn unseen(from: Option<u8>, to: u8, gained: Option<usize>) -> Self {
+    fn unseen(from: Option<u8>, to: u8, gained: Option<usize>) -> Self
+        ensures from { result.from ≡ from }
+        ensures to { result.to ≡ to }
+        ensures posted { result.posted ≡ None }
+        ensures looked { result.looked ≡ None }
+        ensures handled { result.handled ≡ None }
+    {
         Message {
             from,
             to,

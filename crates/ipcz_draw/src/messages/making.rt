@@ -4,6 +4,10 @@
 //! yet: a link's two ends never change their nodes, and what goes over it stays in order. The messages of a bypass make one
 //! another, and a bypass is named by the word of its old link.
 
+ghost use Rattle.std.specs.Prelude.{◌<◌, length, IfOk, OnOk};
+ghost use Rattle.std.specs.List.{All};
+ghost use Rattle.ipcz_draw.specs.Messages.{IsMessage, KeepsWay};
+
 use crate::line::{Event, Kind, Line, Link, ReadLine, RouterEvent, WordStep};
 use crate::messages::Message;
 use crate::messages::bypasses::{Bypass, bypasses, of_inner_link, of_old_link};
@@ -224,7 +228,9 @@ impl<'a> Making<'a> {
     }
 
     // A message that was handled at a line, with who made it and whom it was for.
-    fn hand(&mut self, message: Message<'a>, line: usize) -> Result<Message<'a>, AllocError> {
+    fn hand(&mut self, message: Message<'a>, line: usize) -> Result<Message<'a>, AllocError>
+        ensures kept { IfOk result (KeepsWay message.entry) }
+    {
         let (Some(kind), Some(link)) = (message.kind, message.link) else {
             return Ok(message);
         };
@@ -266,6 +272,44 @@ impl<'a> Making<'a> {
         self.made.clear();
         self.quiet = quiet;
     }
+
+    // Goes on by one line, and says of a message that it handles who made it and whom it was for.
+    fn follow(
+        &mut self,
+        lines: &[ReadLine<'a>],
+        i: usize,
+        messages: &mut Vec<Message<'a>>,
+    ) -> Result<(), AllocError>
+        requires line { i < length lines.now }
+        requires messages { All (IsMessage lines.now) messages.old.items }
+        ensures { OnOk result (All (IsMessage lines.now) messages.new.items) }
+    {
+        let read = &lines[i];
+        match &read.line {
+            Line::Turn {
+                node,
+                event: Event::Router { serial, event },
+            } => self.act(*node, *serial, event, i),
+            Line::Turn {
+                event: Event::Hand { .. },
+                ..
+            } => {
+                if let Some(k) = messages.iter().position(|m| m.handled == Some(i)) {
+                    messages[k] = self.hand(messages[k], i)?;
+                }
+                Ok(())
+            }
+            Line::Settled => {
+                self.settle(true);
+                Ok(())
+            }
+            Line::Unsettled => {
+                self.settle(false);
+                Ok(())
+            }
+            _ => Ok(()),
+        }
+    }
 }
 
 /// The messages of a transcript, in the order in which they came into sight.
@@ -273,7 +317,9 @@ pub fn messages<'a>(
     alloc: Global,
     lines: &[ReadLine<'a>],
     routers: &[Router],
-) -> Result<Vec<Message<'a>>, AllocError> {
+) -> Result<Vec<Message<'a>>, AllocError>
+    ensures { IfOk result (λ messages. All (IsMessage lines.now) messages.items) }
+{
     let mut messages = joined(alloc, lines)?;
     let mut making = Making {
         routers: Vec::from_slice(alloc, routers)?,
@@ -282,24 +328,8 @@ pub fn messages<'a>(
         made: Vec::new(alloc),
         quiet: true,
     };
-    for (i, read) in lines.iter().enumerate() {
-        match &read.line {
-            Line::Turn {
-                node,
-                event: Event::Router { serial, event },
-            } => making.act(*node, *serial, event, i)?,
-            Line::Turn {
-                event: Event::Hand { .. },
-                ..
-            } => {
-                if let Some(k) = messages.iter().position(|m| m.handled == Some(i)) {
-                    messages[k] = making.hand(messages[k], i)?;
-                }
-            }
-            Line::Settled => making.settle(true),
-            Line::Unsettled => making.settle(false),
-            _ => {}
-        }
+    for i in 0..lines.len() {
+        making.follow(lines, i, &mut messages)?;
     }
     Ok(messages)
 }

@@ -1,5 +1,4 @@
-use Rattle.std.proofs.Common.{◌≡◌, ◌≤◌, ◌+◌, length, arith, sym, refl, subst}
-use Rattle.ipcz_draw.specs.Rows.{Follow}
+use Rattle.std.proofs.Common.{◌≤◌, ◌+◌, length, arith}
 use Rattle.ipcz_draw.proofs.Following.{follow_one}
 use Rattle.ipcz_draw.proofs.rows.places.Goals as goal
 

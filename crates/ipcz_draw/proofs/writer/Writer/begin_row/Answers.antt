@@ -1,5 +1,5 @@
-use Rattle.std.proofs.Common.{◌∷◌, ◌++◌, [], arith, length-append}
-use Rattle.ipcz_draw.specs.Markup.{IsMarkup, InText, RowGroup, row_head, row_title}
+use Rattle.std.proofs.Common.{◌∷◌, [], arith}
+use Rattle.ipcz_draw.specs.Markup.{InText, RowGroup}
 use Rattle.ipcz_draw.specs.declared.writer.Tag.TheVariants as tags
 use Rattle.ipcz_draw.proofs.Adding.{adds_two, row_head_length, row_title_length, stands_after}
 use Rattle.ipcz_draw.proofs.writer.Writer.begin_row.Goals as goal

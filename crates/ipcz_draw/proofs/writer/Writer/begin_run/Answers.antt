@@ -1,5 +1,5 @@
-use Rattle.std.proofs.Common.{◌≡◌, ◌+◌, ◌-◌, ◌∷◌, ◌++◌, [], length, sym, arith, length-append}
-use Rattle.ipcz_draw.specs.Markup.{IsMarkup, Adds, InText, RowGroup, row_head, run_title}
+use Rattle.std.proofs.Common.{◌≡◌, ◌+◌, ◌-◌, ◌∷◌, length, sym, arith}
+use Rattle.ipcz_draw.specs.Markup.{InText, RowGroup}
 use Rattle.ipcz_draw.specs.declared.writer.Tag.TheVariants as tags
 use Rattle.ipcz_draw.proofs.Adding.{adds_two, row_head_length, run_title_length, stands_after}
 use Rattle.ipcz_draw.proofs.writer.Writer.begin_run.Goals as goal

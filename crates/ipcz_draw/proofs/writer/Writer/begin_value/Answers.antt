@@ -1,6 +1,5 @@
-use Rattle.std.proofs.Common.{◌∷◌, ◌++◌, sym, ap, subst, codes}
-use Rattle.ipcz_draw.proofs.Adding.{adds_two, adds_three, stands_after}
-use Rattle.ipcz_draw.specs.Markup.{IsMarkup, Adds, InTag, InValue, Attribute, key_name}
+use Rattle.ipcz_draw.proofs.Adding.{adds_three, stands_after}
+use Rattle.ipcz_draw.specs.Markup.{InTag, InValue, Attribute}
 use Rattle.ipcz_draw.proofs.writer.Writer.begin_value.Goals as goal
 
 pub returns-clause-begins : goal.returns-clause-begins

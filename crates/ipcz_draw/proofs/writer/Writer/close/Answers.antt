@@ -1,6 +1,6 @@
-use Rattle.std.proofs.Common.{◌∷◌, ◌++◌, sym, ap, subst, codes}
-use Rattle.ipcz_draw.proofs.Adding.{adds_two, adds_three, stands_after}
-use Rattle.ipcz_draw.specs.Markup.{IsMarkup, Adds, InText, Close, tag_name}
+use Rattle.std.proofs.Common.{◌∷◌}
+use Rattle.ipcz_draw.proofs.Adding.{adds_three, stands_after}
+use Rattle.ipcz_draw.specs.Markup.{InText, Close}
 use Rattle.ipcz_draw.proofs.writer.Writer.close.Goals as goal
 
 pub returns-clause-closes : goal.returns-clause-closes

@@ -1,6 +1,5 @@
-use Rattle.std.proofs.Common.{◌∷◌, ◌++◌, sym, ap, subst, codes}
-use Rattle.ipcz_draw.proofs.Adding.{adds_two, adds_three, stands_after}
-use Rattle.ipcz_draw.specs.Markup.{IsMarkup, InTag, InText, InValue, TagEnd}
+use Rattle.ipcz_draw.proofs.Adding.{stands_after}
+use Rattle.ipcz_draw.specs.Markup.{InTag, InText, TagEnd}
 use Rattle.ipcz_draw.proofs.writer.Writer.enter.Goals as goal
 
 pub returns-clause-enters : goal.returns-clause-enters

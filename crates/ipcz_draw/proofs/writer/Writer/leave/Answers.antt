@@ -1,6 +1,6 @@
-use Rattle.std.proofs.Common.{◌∷◌, ◌++◌, sym, ap, subst, codes}
-use Rattle.ipcz_draw.proofs.Adding.{adds_two, adds_three, stands_after}
-use Rattle.ipcz_draw.specs.Markup.{IsMarkup, InTag, InText, InValue, Empty}
+use Rattle.std.proofs.Common.{◌∷◌}
+use Rattle.ipcz_draw.proofs.Adding.{stands_after}
+use Rattle.ipcz_draw.specs.Markup.{InTag, InText, Empty}
 use Rattle.ipcz_draw.proofs.writer.Writer.leave.Goals as goal
 
 pub returns-clause-leaves : goal.returns-clause-leaves

@@ -1,7 +1,7 @@
-use Rattle.std.proofs.Common.{◌∷◌, ◌++◌, sym, ap, subst, arith}
+use Rattle.std.proofs.Common.{◌∷◌, arith}
 use Rattle.ipcz_draw.proofs.Adding.{decimal_length}
-use Rattle.ipcz_draw.proofs.Adding.{adds_two, adds_three, stands_after}
-use Rattle.ipcz_draw.specs.Markup.{IsMarkup, InText, InValue, Number, ValueNumber}
+use Rattle.ipcz_draw.proofs.Adding.{stands_after}
+use Rattle.ipcz_draw.specs.Markup.{InText, InValue, Number, ValueNumber}
 use Rattle.ipcz_draw.proofs.writer.Writer.number.Goals as goal
 
 pub returns-clause-keeps : goal.returns-clause-keeps

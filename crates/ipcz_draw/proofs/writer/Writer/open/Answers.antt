@@ -1,6 +1,6 @@
-use Rattle.std.proofs.Common.{◌∷◌, ◌++◌, sym, ap, subst, codes}
-use Rattle.ipcz_draw.proofs.Adding.{adds_two, adds_three, stands_after}
-use Rattle.ipcz_draw.specs.Markup.{IsMarkup, Adds, InTag, InText, Element, tag_name}
+use Rattle.std.proofs.Common.{◌∷◌}
+use Rattle.ipcz_draw.proofs.Adding.{adds_two, stands_after}
+use Rattle.ipcz_draw.specs.Markup.{InTag, InText, Element}
 use Rattle.ipcz_draw.proofs.writer.Writer.open.Goals as goal
 
 pub returns-clause-opens : goal.returns-clause-opens
