@@ -1,0 +1,6 @@
+use Rattle.std.specs.List.{All}
+use Rattle.ipcz_draw.specs.Messages.{IsMessage}
+use Rattle.ipcz_draw.proofs.messages.joining.joined.Given as goal
+
+abbrev pub invariant-loop-i : goal.invariant-loop-i
+invariant-loop-i l = All (IsMessage l.lines) l.messages.items

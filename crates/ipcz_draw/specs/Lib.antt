@@ -1,0 +1,9 @@
+pub mod Devices
+pub mod LineParts
+pub mod Lines
+pub mod Markup
+pub mod Messages
+pub mod Outputs
+pub mod Rows
+pub mod Sizes
+pub mod WholeIo

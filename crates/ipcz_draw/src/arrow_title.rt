@@ -1,0 +1,145 @@
+//! What the title and the label of a message say.
+
+ghost use Rattle.std.specs.Prelude.{◌≡◌, ◌+◌, ◌*◌, ◌≤◌, ◌∷◌, List, ℕ, length};
+ghost use Rattle.ipcz_draw.specs.Markup.{Grows, InText, Keeps, Row, Stands};
+
+use crate::arrow_looks::{Look, Stroke};
+use crate::line::{Kind, Link};
+use crate::messages::Message;
+use crate::writer::{Tag, Writer};
+
+/// The look of a message, by its kind.
+pub fn look_of(message: &Message) -> Look {
+    match &message.kind {
+        Some(Kind::Item(_)) => Look::Item,
+        Some(Kind::Flush) => Look::Flush,
+        Some(_) => Look::Bypass,
+        None => Look::Unknown,
+    }
+}
+
+/// The line of a message that is under way: thick where ends move with it, dashed for a flush.
+pub fn stroke_of(message: &Message) -> Stroke {
+    if !message.moves.is_empty() {
+        return Stroke::Thick;
+    }
+    match look_of(message) {
+        Look::Flush => Stroke::Dashed,
+        _ => Stroke::Full,
+    }
+}
+
+// The front of a text that has room.
+fn front(text: &[u8], room: usize) -> &[u8]
+    ensures few { length result.now ≤ room }
+{
+    &text[..text.len().min(room)]
+}
+
+/// A link's name, behind a space.
+pub fn write_link(out: &mut Writer, link: &Link)
+    ensures keeps { Keeps out.old out.new }
+    ensures few { Grows out.old out.new 60 }
+{
+    match link {
+        Link::Central(word) => {
+            out.text(b" C");
+            out.number(*word as u64);
+        }
+        Link::Peripheral { node, serial } => {
+            out.text(b" P");
+            out.number(*node as u64);
+            out.text(b".");
+            out.number(*serial);
+        }
+    }
+}
+
+// A message's kind, in full.
+fn write_kind(out: &mut Writer, kind: &Option<Kind>)
+    ensures keeps { Keeps out.old out.new }
+    ensures few { Grows out.old out.new 200 }
+{
+    match kind {
+        Some(Kind::Item(number)) => {
+            out.text(b"item ");
+            out.number(*number);
+        }
+        Some(Kind::BypassPeer) => out.text(b"BypassPeer"),
+        Some(Kind::AcceptBypass) => out.text(b"AcceptBypass"),
+        Some(Kind::StopProxying) => out.text(b"StopProxying"),
+        Some(Kind::ProxyWillStop) => out.text(b"ProxyWillStop"),
+        Some(Kind::Flush) => out.text(b"Flush"),
+        None => out.text(b"a message that isn't seen handled"),
+    }
+}
+
+// The number of a line, behind a few words, where there is one.
+fn write_line(out: &mut Writer, words: &[u8], line: Option<usize>)
+    ensures keeps { Keeps out.old out.new }
+    ensures few { Grows out.old out.new (20 + 6 * length words.now) }
+{
+    if let Some(line) = line {
+        out.text(words);
+        out.number((line as u64).saturating_add(1));
+    }
+}
+
+// What a message is and at which lines it is seen.
+fn write_history(out: &mut Writer, message: &Message)
+    ensures keeps { Keeps out.old out.new }
+    ensures few { Grows out.old out.new 700 }
+{
+    write_kind(out, &message.kind);
+    if let Some(link) = &message.link {
+        write_link(out, link);
+    }
+    write_line(out, b"; made line ", message.made);
+    write_line(out, b"; posted line ", message.posted);
+    write_line(out, b"; looked line ", message.looked);
+    write_line(out, b"; handled line ", message.handled);
+}
+
+/// The title of a message.
+pub fn draw_arrow_title(out: &mut Writer, message: &Message)
+    ensures keeps { Keeps out.old out.new }
+    ensures few { Grows out.old out.new 715 }
+{
+    out.open(Tag::Title);
+    out.enter();
+    write_history(out, message);
+    out.close(Tag::Title);
+}
+
+// A message's kind, in short.
+fn write_short_kind(out: &mut Writer, kind: &Option<Kind>)
+    ensures keeps { Keeps out.old out.new }
+    ensures few { Grows out.old out.new 60 }
+{
+    match kind {
+        Some(Kind::Item(number)) => {
+            out.text(b"item ");
+            out.number(*number);
+        }
+        Some(Kind::BypassPeer) => out.text(b"Bypass"),
+        Some(Kind::AcceptBypass) => out.text(b"Accept"),
+        Some(Kind::StopProxying) => out.text(b"Stop"),
+        Some(Kind::ProxyWillStop) => out.text(b"WillStop"),
+        Some(Kind::Flush) => out.text(b"Flush"),
+        None => out.text(b"?"),
+    }
+}
+
+/// The label of a message: its kind, and the ends that move with it.
+pub fn draw_arrow_label(out: &mut Writer, message: &Message, x: u64, y: u64, is_right: bool)
+    ensures keeps { Keeps out.old out.new }
+    ensures few { Grows out.old out.new 500 }
+{
+    out.begin_arrow_label(x, y, look_of(message), is_right);
+    write_short_kind(out, &message.kind);
+    if !message.moves.is_empty() {
+        out.text(b" +");
+        out.text(front(message.moves, 14));
+    }
+    out.close(Tag::Text);
+}

@@ -1,0 +1,108 @@
+//! The ground of a picture: stripes, the nodes' bands, and whose turn it is.
+
+ghost use Rattle.std.specs.Prelude.{◌≡◌, ◌+◌, ◌*◌, ◌≤◌, ◌∷◌, List, ℕ, length};
+ghost use Rattle.ipcz_draw.specs.declared.writer.Tag.{Tag};
+ghost use Rattle.ipcz_draw.specs.Markup.{Grows, InText, Keeps, Row, Stands};
+
+use crate::class::Class;
+use crate::line::{Event, Line};
+use crate::rows::{TOP, UNIT};
+use crate::scene::{Scene, Walls};
+use crate::writer::{Tag, Writer};
+
+// The band of a node, with its name above it.
+fn draw_band(out: &mut Writer, node: u64, walls: Walls, bottom: u64)
+    ensures keeps { Keeps out.old out.new }
+    ensures few { Grows out.old out.new 1400 }
+{
+    let Walls { left, right } = walls;
+    let low = bottom.saturating_add(6);
+    let high = TOP - 26;
+    let width = right.saturating_sub(left);
+    out.pill(left, high, width, low.saturating_sub(high), 6, Class::Node);
+    out.line(left, high, left, low, Class::Hair);
+    out.line(right, high, right, low, Class::Hair);
+    out.begin_label(left.saturating_add(width / 2), high - 6, Class::NodeName);
+    out.text(b"node ");
+    out.number(node);
+    out.close(Tag::Text);
+}
+
+// The bands of the nodes.
+fn draw_bands(out: &mut Writer, walls: &[Walls], bottom: u64)
+    ensures keeps { Keeps out.old out.new }
+    ensures few { Grows out.old out.new (1400 * length walls.now) }
+{
+    for (node, walls) in walls.iter().enumerate() {
+        draw_band(out, node as u64, *walls, bottom);
+    }
+}
+
+// The ground under a line's row.
+fn draw_line_ground(out: &mut Writer, scene: &Scene, index: usize, line: &Line)
+    ensures keeps { Keeps out.old out.new }
+    ensures few { Grows out.old out.new 400 }
+{
+    let top = scene.top_of(index);
+    match line {
+        Line::Turn {
+            event: Event::Idle,
+            ..
+        } => {}
+        Line::Turn { node, .. } => {
+            let Walls { left, right } = scene.walls_of(*node);
+            out.rect(left, top, right.saturating_sub(left), UNIT, Class::Turn);
+        }
+        Line::Settled | Line::Unsettled => {
+            let width = scene.width.saturating_sub(16);
+            out.pill(
+                8,
+                top.saturating_add(3),
+                width,
+                2 * UNIT - 6,
+                3,
+                Class::Settle,
+            );
+        }
+        _ => {}
+    }
+}
+
+// The ground under each line's row.
+fn draw_lines_ground(out: &mut Writer, scene: &Scene)
+    ensures keeps { Keeps out.old out.new }
+    ensures few { Grows out.old out.new (400 * length scene.now.lines.now) }
+{
+    for (index, read) in scene.lines.iter().enumerate() {
+        draw_line_ground(out, scene, index, &read.line);
+    }
+}
+
+/// What everything else stands on.
+pub fn draw_ground(out: &mut Writer, scene: &Scene)
+    ensures keeps { Keeps out.old out.new }
+{
+    out.rect(
+        0,
+        0,
+        scene.width,
+        scene.bottom.saturating_add(26),
+        Class::Page,
+    );
+    draw_bands(out, scene.nodes.as_slice(), scene.bottom);
+    if scene.words > 0 {
+        out.label(
+            scene.words_left,
+            TOP - 32,
+            Class::WordHeading,
+            b"link words",
+        );
+        out.label(
+            scene.words_left,
+            TOP - 18,
+            Class::NodeNote,
+            b"after the step: A | B",
+        );
+    }
+    draw_lines_ground(out, scene);
+}

@@ -1,0 +1,87 @@
+//! The lifelines of routers: full, hollow for a proxy, dashed once its bypass has begun.
+
+ghost use Rattle.std.specs.Prelude.{◌≡◌, ◌+◌, ◌*◌, ◌≤◌, ◌∷◌, List, ℕ, length};
+ghost use Rattle.ipcz_draw.specs.Markup.{Grows, InText, Keeps, Row, Stands};
+
+use crate::class::Class;
+use crate::lanes::Lane;
+use crate::routers::Router;
+use crate::scene::Scene;
+use crate::writer::{Tag, Writer};
+
+// A part of a lifeline, from one height down to another.
+fn draw_part(out: &mut Writer, x: u64, from: u64, to: u64, class: Class)
+    ensures keeps { Keeps out.old out.new }
+    ensures few { Grows out.old out.new 327 }
+{
+    if from < to {
+        out.rect(x.saturating_sub(3), from, 6, to - from, class);
+    }
+}
+
+// Where a lifeline ends: in the middle of the row at which its router leaves, else above the settle or the end.
+fn end_of(scene: &Scene, router: &Router, lane: &Lane) -> u64 {
+    match router.left {
+        Some(left) => scene.middle_of(left),
+        None => scene.top_of(lane.until),
+    }
+}
+
+// The lifeline of a router.
+fn draw_lifeline(out: &mut Writer, scene: &Scene, index: usize, router: &Router, lane: &Lane)
+    ensures keeps { Keeps out.old out.new }
+    ensures few { Grows out.old out.new 981 }
+{
+    let x = scene.across_of(index);
+    let begin = scene.middle_of(router.first);
+    let end = end_of(scene, router, lane);
+    let proxy = match router.proxy {
+        Some(line) => scene.middle_of(line).min(end),
+        None => end,
+    };
+    let decaying = match router.decaying {
+        Some(line) => scene.middle_of(line).max(proxy).min(end),
+        None => end,
+    };
+    draw_part(out, x, begin, proxy, Class::Router);
+    draw_part(out, x, proxy, decaying, Class::Proxy);
+    draw_part(out, x, decaying, end, Class::Decaying);
+}
+
+// The name of a router, at its first row.
+fn draw_name(out: &mut Writer, scene: &Scene, index: usize, router: &Router)
+    ensures keeps { Keeps out.old out.new }
+    ensures few { Grows out.old out.new 290 }
+{
+    let x = scene.across_of(index).saturating_sub(8);
+    out.begin_label(
+        x,
+        scene.middle_of(router.first).saturating_add(4),
+        Class::RouterName,
+    );
+    out.text(b"r");
+    out.number(router.serial);
+    out.close(Tag::Text);
+}
+
+/// The lifelines of all routers.
+pub fn draw_lifelines(out: &mut Writer, scene: &Scene)
+    ensures keeps { Keeps out.old out.new }
+    ensures few { Grows out.old out.new (981 * length scene.now.routers.now) }
+{
+    for (index, router) in scene.routers.iter().enumerate() {
+        if let Some(lane) = scene.lanes.get(index) {
+            draw_lifeline(out, scene, index, router, lane);
+        }
+    }
+}
+
+/// The names of all routers.
+pub fn draw_names(out: &mut Writer, scene: &Scene)
+    ensures keeps { Keeps out.old out.new }
+    ensures few { Grows out.old out.new (290 * length scene.now.routers.now) }
+{
+    for (index, router) in scene.routers.iter().enumerate() {
+        draw_name(out, scene, index, router);
+    }
+}

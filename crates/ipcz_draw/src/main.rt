@@ -1,0 +1,42 @@
+//! `ipcz_draw` reads a transcript of `ipcz_run` from standard input, and writes a picture of it, an SVG, to standard output.
+#![tactic(auto)]
+
+pub mod arrow_looks;
+pub mod arrow_title;
+pub mod arrows;
+pub mod class;
+pub mod device;
+pub mod ending;
+pub mod fault;
+pub mod ground;
+pub mod heading;
+pub mod lanes;
+pub mod lifelines;
+pub mod line;
+pub mod marks;
+pub mod messages;
+pub mod output;
+pub mod picture;
+pub mod program;
+pub mod routers;
+pub mod row;
+pub mod rows;
+pub mod scene;
+pub mod shapes;
+#[cfg(test)]
+mod slow_devices;
+pub mod style;
+pub mod whole_io;
+pub mod word_cells;
+pub mod writer;
+
+use device::Device;
+use program::{has_arguments, run_program};
+use std::io;
+use std::process::ExitCode;
+
+fn main(rt: HostRuntime) -> ExitCode {
+    let mut reader = Device::new(rt.reader());
+    let mut writer = Device::new(io::writer(&rt));
+    ExitCode::from(run_program(rt.alloc(), has_arguments(&rt), &mut reader, &mut writer))
+}

@@ -1,0 +1,73 @@
+//! Which routers name which links in their lines.
+
+ghost use Rattle.std.specs.Prelude.{◌≡◌, IfSome};
+
+use crate::line::{Event, Line, Link, ReadLine, RouterEvent};
+use crate::routers::{Router, find};
+use std::alloc::{AllocError, Global};
+
+/// That a router, by its index, names a link in a line.
+#[derive(Clone, Copy)]
+pub struct Naming {
+    pub node: u8,
+    pub link: Link,
+    pub router: usize,
+}
+
+/// The link that a router names.
+pub fn link_of(event: &RouterEvent) -> Option<Link> {
+    match event {
+        RouterEvent::Send { link, .. }
+        | RouterEvent::Finish { link, .. }
+        | RouterEvent::Retire { link, .. } => Some(*link),
+        RouterEvent::Word { word, .. } | RouterEvent::Begin { word } => Some(Link::Central(*word)),
+        RouterEvent::Discard { .. }
+        | RouterEvent::Leave
+        | RouterEvent::Rest
+        | RouterEvent::Claim { .. } => None,
+    }
+}
+
+fn named(line: &Line, routers: &[Router]) -> Option<Naming> {
+    let Line::Turn {
+        node,
+        event: Event::Router { serial, event },
+    } = line
+    else {
+        return None;
+    };
+    Some(Naming {
+        node: *node,
+        link: link_of(event)?,
+        router: find(routers, *node, *serial)?,
+    })
+}
+
+/// Each naming of a link, in the order of the lines.
+pub fn namings(
+    alloc: Global,
+    lines: &[ReadLine],
+    routers: &[Router],
+) -> Result<Vec<Naming>, AllocError> {
+    let mut namings = Vec::new(alloc);
+    for read in lines {
+        if let Some(naming) = named(&read.line, routers) {
+            namings.push(naming)?;
+        }
+    }
+    Ok(namings)
+}
+
+/// The only router of a node, beside another, that names a link.
+pub fn sole(namings: &[Naming], node: u8, link: Link, other: Option<usize>) -> Option<usize> {
+    let mut sole = None;
+    for naming in namings {
+        if naming.node == node && naming.link == link && Some(naming.router) != other {
+            if sole.is_some_and(|router| router != naming.router) {
+                return None;
+            }
+            sole = Some(naming.router);
+        }
+    }
+    sole
+}

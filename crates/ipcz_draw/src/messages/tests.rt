@@ -1,0 +1,340 @@
+//! The messages of the runs in docs/PROTOCOL.md, and of transcripts that no run makes.
+
+use super::*;
+use crate::line::{Kind, Link, read};
+use crate::routers::{Router, find, routers};
+use std::process::Abort;
+use std::test::Fail;
+
+const ONE_BYPASS: &[u8] = b"open x y ok
+put 0>1 0
+n0: r0 send out 0 C0 moves 1B
+n0: post 1
+n0: r0 rest
+n0: r2 claim 2
+n0: r2 lock C1 35
+n0: r2 begin C1
+n0: r2 rest
+n0: idle
+words 3 35 0
+n1: look 0
+n1: hand item 0 C0
+n1: r0 rest
+n1: idle
+n0: post 1
+n0: idle
+n1: look 0
+n1: hand BypassPeer P0.0
+n1: post 0
+n1: r1 rest
+n1: idle
+n0: look 1
+n0: hand AcceptBypass C1
+n0: post 0
+n0: look 0
+n0: hand StopProxying C1
+n0: post 1
+n0: r1 finish out C1
+n0: r1 mark C2 1
+n0: r1 rest
+n0: r2 finish out C1
+n0: r2 finish in P0.0
+n0: r2 leave
+n0: idle
+words 3 35 1
+n1: look 0
+n1: hand ProxyWillStop P0.0
+n1: r1 finish out P0.0
+n1: r1 mark C2 3
+n1: r1 rest
+n1: idle
+words 3 35 3
+get 1>0 0 [y] \"m\"
+put y 0
+settled
+get x 0 [] \"r\"
+";
+
+const TWO_PROXIES: &[u8] = b"open x y ok
+put 0>1 0
+n0: r0 send out 0 C0 moves 1A,1B
+n0: post 1
+n0: r0 rest
+n0: r1 claim 2
+n0: r1 lock C1 19
+n0: r1 begin C1
+n0: r1 rest
+n0: r2 claim 3
+n0: r2 refused C1 19
+n0: r2 rest
+n0: idle
+n1: look 0
+n1: hand item 0 C0
+n1: r0 rest
+n1: idle
+n0: post 1
+n0: idle
+n1: look 0
+n1: hand BypassPeer P0.0
+n1: post 0
+n1: r1 rest
+n1: idle
+n0: look 1
+n0: hand AcceptBypass C1
+n0: post 0
+n0: look 0
+n0: hand StopProxying C1
+n0: post 1
+n0: r1 finish out C1
+n0: r1 finish in P0.0
+n0: r1 leave
+n0: r2 finish out C1
+n0: r2 mark C2 2
+n0: r2 wait C2 10
+n0: r2 rest
+n0: idle
+n1: look 0
+n1: hand ProxyWillStop P0.0
+n1: r1 finish out P0.0
+n1: r1 mark C2 11
+n1: r1 wake C2 3
+n1: post 0
+n1: r1 rest
+n1: idle
+n0: look 1
+n0: hand Flush C2
+n0: r2 lock C2 35
+n0: r2 begin C2
+n0: post 1
+n0: r2 rest
+n0: idle
+settled
+words 3 19 35 3
+";
+
+// The lines at which a message was made, posted, looked at and handled.
+type Lines = [Option<usize>; 4];
+
+fn lines_of(message: &Message) -> Lines {
+    [
+        message.made,
+        message.posted,
+        message.looked,
+        message.handled,
+    ]
+}
+
+fn all(made: usize, posted: usize, looked: usize, handled: usize) -> Lines {
+    [Some(made), Some(posted), Some(looked), Some(handled)]
+}
+
+// A router by its node and its serial.
+fn name_of(routers: &[Router], index: Option<usize>) -> Option<(u8, u64)> {
+    let router = routers.get(index?)?;
+    Some((router.node, router.serial))
+}
+
+// What a message is to be: its nodes, kind, link, lines, maker and receiver.
+type Row = (
+    u8,
+    u8,
+    Kind,
+    Link,
+    Lines,
+    Option<(u8, u64)>,
+    Option<(u8, u64)>,
+);
+
+fn check(rt: &impl Abort, routers: &[Router], message: &Message, row: &Row) {
+    let (from, to, kind, link, seen, maker, receiver) = *row;
+    assert_eq!(rt; message.from, Some(from));
+    assert_eq!(rt; message.to, to);
+    assert_eq!(rt; message.kind, Some(kind));
+    assert_eq!(rt; message.link, Some(link));
+    assert_eq!(rt; lines_of(message), seen);
+    assert_eq!(rt; name_of(routers, message.maker), maker);
+    assert_eq!(rt; name_of(routers, message.receiver), receiver);
+    assert_eq!(rt; message.lost, None);
+    assert_eq!(rt; message.gained, None);
+}
+
+#[test]
+fn one_bypass_is_five_messages(rt: HostRuntime) -> Result<(), Fail> {
+    let lines = read(rt.alloc(), ONE_BYPASS)?;
+    let routers = routers(rt.alloc(), lines.as_slice())?;
+    let messages = messages(rt.alloc(), lines.as_slice(), routers.as_slice())?;
+    let old = Link::Central(1);
+    let inner = Link::Peripheral { node: 0, serial: 0 };
+    let rows = [
+        (
+            0,
+            1,
+            Kind::Item(0),
+            Link::Central(0),
+            all(2, 3, 11, 12),
+            Some((0, 0)),
+            None,
+        ),
+        (
+            0,
+            1,
+            Kind::BypassPeer,
+            inner,
+            all(7, 15, 17, 18),
+            Some((0, 2)),
+            Some((1, 1)),
+        ),
+        (
+            1,
+            0,
+            Kind::AcceptBypass,
+            old,
+            all(18, 19, 22, 23),
+            Some((1, 1)),
+            Some((0, 1)),
+        ),
+        (
+            0,
+            0,
+            Kind::StopProxying,
+            old,
+            all(23, 24, 25, 26),
+            Some((0, 1)),
+            Some((0, 2)),
+        ),
+        (
+            0,
+            1,
+            Kind::ProxyWillStop,
+            inner,
+            all(26, 27, 36, 37),
+            Some((0, 2)),
+            Some((1, 1)),
+        ),
+    ];
+    assert_eq!(rt; messages.len(), rows.len());
+    for (message, row) in messages.iter().zip(&rows) {
+        check(&rt, routers.as_slice(), message, row);
+    }
+    assert_eq!(rt; messages[0].moves, b"1B".as_slice());
+    Ok(())
+}
+
+#[test]
+fn a_waiting_side_is_woken_by_a_flush(rt: HostRuntime) -> Result<(), Fail> {
+    let lines = read(rt.alloc(), TWO_PROXIES)?;
+    let routers = routers(rt.alloc(), lines.as_slice())?;
+    let messages = messages(rt.alloc(), lines.as_slice(), routers.as_slice())?;
+    let old = Link::Central(1);
+    let inner = Link::Peripheral { node: 0, serial: 0 };
+    let rows = [
+        (
+            0,
+            1,
+            Kind::Item(0),
+            Link::Central(0),
+            all(2, 3, 13, 14),
+            Some((0, 0)),
+            None,
+        ),
+        (
+            0,
+            1,
+            Kind::BypassPeer,
+            inner,
+            all(7, 17, 19, 20),
+            Some((0, 1)),
+            Some((1, 1)),
+        ),
+        (
+            1,
+            0,
+            Kind::AcceptBypass,
+            old,
+            all(20, 21, 24, 25),
+            Some((1, 1)),
+            Some((0, 2)),
+        ),
+        (
+            0,
+            0,
+            Kind::StopProxying,
+            old,
+            all(25, 26, 27, 28),
+            Some((0, 2)),
+            Some((0, 1)),
+        ),
+        (
+            0,
+            1,
+            Kind::ProxyWillStop,
+            inner,
+            all(28, 29, 38, 39),
+            Some((0, 1)),
+            Some((1, 1)),
+        ),
+        (
+            1,
+            0,
+            Kind::Flush,
+            Link::Central(2),
+            all(42, 43, 46, 47),
+            Some((1, 1)),
+            Some((0, 2)),
+        ),
+    ];
+    assert_eq!(rt; messages.len(), 7);
+    for (message, row) in messages.iter().zip(&rows) {
+        check(&rt, routers.as_slice(), message, row);
+    }
+    assert_eq!(rt; lines_of(&messages[6]), [None, Some(50), None, None]);
+    assert_eq!(rt; messages[6].lost, Some(53));
+    Ok(())
+}
+
+// A proxy begins at the send that moved its portal, a router that a move makes at the hand of the item.
+#[test]
+fn routers_begin_where_their_ends_moved(rt: HostRuntime) -> Result<(), Fail> {
+    for (input, proxy, newborn) in [(ONE_BYPASS, (2, 2), 12), (TWO_PROXIES, (1, 2), 14)] {
+        let (serial, sent) = proxy;
+        let lines = read(rt.alloc(), input)?;
+        let mut routers = routers(rt.alloc(), lines.as_slice())?;
+        let messages = messages(rt.alloc(), lines.as_slice(), routers.as_slice())?;
+        note_births(
+            rt.alloc(),
+            lines.as_slice(),
+            messages.as_slice(),
+            &mut routers,
+        )?;
+        let proxy = find(routers.as_slice(), 0, serial).expect(&rt, "the proxy");
+        assert_eq!(rt; routers[proxy].first, sent);
+        assert_eq!(rt; routers[proxy].proxy, Some(sent));
+        let born = find(routers.as_slice(), 1, 1).expect(&rt, "the new router");
+        assert_eq!(rt; routers[born].first, newborn);
+        assert_eq!(rt; routers[born].proxy, None);
+    }
+    Ok(())
+}
+
+// What is posted twice with no look between, looked at behind a settle, handled out of nothing, or still in a mailbox.
+#[test]
+fn stubs_show_what_no_run_makes(rt: HostRuntime) -> Result<(), Fail> {
+    let lines = read(
+        rt.alloc(),
+        b"n0: post 1\nn0: post 1\nn1: look 0\nn0: post 1\nunsettled\nn1: look 0\nn1: hand Flush C2 dropped\nn1: hand Flush C3\n",
+    )?;
+    let messages = messages(rt.alloc(), lines.as_slice(), &[])?;
+    assert_eq!(rt; messages.len(), 5);
+    assert_eq!(rt; lines_of(&messages[0]), [None, Some(0), None, None]);
+    assert_eq!(rt; messages[0].lost, Some(1));
+    assert_eq!(rt; lines_of(&messages[1]), [None, Some(1), Some(2), None]);
+    assert_eq!(rt; messages[1].lost, Some(4));
+    assert_eq!(rt; lines_of(&messages[2]), [None, Some(3), None, None]);
+    assert_eq!(rt; messages[2].lost, Some(4));
+    assert_eq!(rt; lines_of(&messages[3]), [None, None, Some(5), Some(6)]);
+    assert_eq!(rt; messages[3].gained, Some(4));
+    assert_eq!(rt; messages[3].unfit, true);
+    assert_eq!(rt; messages[4].from, None);
+    assert_eq!(rt; lines_of(&messages[4]), [None, None, None, Some(7)]);
+    Ok(())
+}

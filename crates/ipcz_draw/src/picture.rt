@@ -1,0 +1,115 @@
+//! A picture: its heading, its ground, and a row for each line.
+
+ghost use Rattle.std.specs.Prelude.{◌≡◌, ◌++◌, ◌+◌, ◌*◌, ◌^◌, ◌≤◌, ◌<◌, ◌∷◌, [], List, ℕ, length, map, IfOk};
+ghost use Rattle.ipcz_draw.specs.declared.writer.Tag.{Tag};
+ghost use Rattle.ipcz_draw.specs.Markup.{Grows, InTag, InText, Keeps, KeepsTag, Row, Stands};
+ghost use Rattle.ipcz_draw.specs.Rows.{row_at, Follow, IsPicture};
+
+use crate::arrows::draw_messages;
+use crate::ground::draw_ground;
+use crate::heading::draw_heading;
+use crate::lanes::lanes;
+use crate::lifelines::{draw_lifelines, draw_names};
+use crate::line::ReadLine;
+use crate::messages::{messages, note_births};
+use crate::routers::{routers, see_messages};
+use crate::row::draw_row;
+use crate::rows::{Place, places};
+use crate::scene::Scene;
+use crate::style;
+use crate::writer::{Key, Tag, Writer};
+use std::alloc::{AllocError, Global};
+
+// The size of the picture, as attributes of its root.
+fn draw_size(out: &mut Writer, width: u64, height: u64)
+    ensures keeps { KeepsTag out.old out.new }
+    ensures few { Grows out.old out.new 190 }
+{
+    out.measure(Key::Width, width);
+    out.measure(Key::Height, height);
+    out.begin_value(Key::ViewBox);
+    out.text(b"0 0 ");
+    out.number(width);
+    out.text(b" ");
+    out.number(height);
+    out.end_value();
+}
+
+// What the root says of itself.
+fn draw_root(out: &mut Writer, width: u64, height: u64)
+    ensures enters { (rows : List Row) (s : List Tag) → Stands out.old rows InTag s → Stands out.new rows InText s }
+    ensures few { Grows out.old out.new 500 }
+{
+    out.words(Key::Xmlns, b"http://www.w3.org/2000/svg");
+    draw_size(out, width, height);
+    out.words(Key::Role, b"img");
+    out.words(Key::LabelledBy, b"t d");
+    out.enter();
+}
+
+// What the picture is called.
+fn draw_title(out: &mut Writer, lines: u64)
+    ensures keeps { Keeps out.old out.new }
+    ensures few { Grows out.old out.new 300 }
+{
+    out.open(Tag::Title);
+    out.words(Key::Id, b"t");
+    out.enter();
+    out.text(b"A run of ipcz in ");
+    out.number(lines);
+    out.text(b" lines");
+    out.close(Tag::Title);
+}
+
+// The style sheet.
+fn draw_style(out: &mut Writer)
+    ensures keeps { Keeps out.old out.new }
+    ensures few { Grows out.old out.new 25000 }
+{
+    out.open(Tag::Style);
+    out.enter();
+    out.text(style::forms());
+    out.text(style::light());
+    out.text(b"@media(prefers-color-scheme:dark){");
+    out.text(style::dark());
+    out.text(b"}");
+    out.close(Tag::Style);
+}
+
+// A row for each line, in order.
+fn draw_rows(out: &mut Writer, scene: &Scene, lines: &[ReadLine], placed: &[Place], bottom: u64)
+    requires many { length lines.now < 2 ^ 32 }
+    requires follow { Follow lines.now 0 136 placed.now (length lines.now) bottom }
+    ensures drawn { Stands out.old [] InText (Tag.Svg ∷ []) →
+        Stands out.new (map (row_at lines.now) placed.now) InText (Tag.Svg ∷ []) }
+{
+    for place in placed {
+        draw_row(out, scene, lines, place);
+    }
+}
+
+/// The picture of these lines.
+pub fn picture(alloc: Global, lines: &[ReadLine]) -> Result<Vec<u8>, AllocError>
+    requires { length lines.now < 2 ^ 32 }
+    ensures picture { IfOk result (λ text. IsPicture lines.now text.items) }
+{
+    let (placed, bottom) = places(alloc, lines)?;
+    let mut routers = routers(alloc, lines)?;
+    let messages = messages(alloc, lines, &routers)?;
+    note_births(alloc, lines, &messages, &mut routers)?;
+    see_messages(&mut routers, &messages);
+    let lanes = lanes(alloc, lines, &routers)?;
+    let scene = Scene::new(alloc, lines, &routers, &lanes, &placed, bottom)?;
+    let mut out = Writer::new(alloc);
+    draw_root(&mut out, scene.width, bottom.saturating_add(26));
+    draw_title(&mut out, lines.len() as u64);
+    draw_style(&mut out);
+    draw_ground(&mut out, &scene);
+    draw_heading(&mut out, lines.len() as u64);
+    draw_lifelines(&mut out, &scene);
+    draw_messages(&mut out, &scene, &messages);
+    draw_names(&mut out, &scene);
+    draw_rows(&mut out, &scene, lines, &placed, bottom);
+    out.close(Tag::Svg);
+    out.finish()
+}
