@@ -18,7 +18,7 @@ use Rattle.ipcz_world.specs.Records.{Records}
 use Rattle.ipcz_world.specs.Remembering.{opening_records, open_records}
 use Rattle.ipcz_world.specs.Inv.{Inv}
 use Rattle.ipcz_world.proofs.calls.OpenedNodes.{inv-claim_for_open}
-use Rattle.ipcz_world.proofs.calls.OpeningPair.{v, room, inv-opened}
+use Rattle.ipcz_world.proofs.calls.OpeningPair.{inv-opened}
 use Rattle.ipcz_world.proofs.acts.Updating.{put-twice}
 
 claimed_node : (w : World) (n : ℕ) → node_at (claim_for_open w n) n ≡ record (node_at w n) { opening = Some w.claimed }

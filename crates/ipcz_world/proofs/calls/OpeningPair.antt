@@ -46,10 +46,10 @@ module _ (w : World) (b : Books) (g : Records) (n i : ℕ) (law : Inv w b g) (l 
   abbrev s : ℕ
   s = (node_at w n).next_router
 
-  abbrev pub x : Node
+  abbrev x : Node
   x = open_node (node_at w n) i
 
-  abbrev pub v : World
+  abbrev v : World
   v = set_word (set_node w n x) i open_word
 
   abbrev at : Side → Key
@@ -94,7 +94,7 @@ module _ (w : World) (b : Books) (g : Records) (n i : ℕ) (law : Inv w b g) (l 
   unfolding is_linked
   free = ap is_linked mine
 
-  pub nodes : (m : ℕ) → node_at v m ≡ cond (nat_eq m n) x (node_at w m)
+  nodes : (m : ℕ) → node_at v m ≡ cond (nat_eq m n) x (node_at w m)
   nodes m = node-set_word (set_node w n x) i open_word m ∙ node-set_node w n x m
 
   node_here : node_at v n ≡ x
@@ -110,7 +110,7 @@ module _ (w : World) (b : Books) (g : Records) (n i : ℕ) (law : Inv w b g) (l 
     | inr ne ↦ subst (P m) (sym (node_other m ne)) (other ne)
   ]
 
-  pub words : (j : ℕ) → j ≢ i → word_at v j ≡ word_at w j
+  words : (j : ℕ) → j ≢ i → word_at v j ≡ word_at w j
   words j ne = grind (arith, frames, ne, nat_tests)
 
   word_here : word_at v i ≡ open_word
@@ -308,7 +308,7 @@ module _ (w : World) (b : Books) (g : Records) (n i : ℕ) (law : Inv w b g) (l 
     times_held-at w n (record { pair = i; side = t }) l,
   )
 
-  pub room : (e : End) → times e (a_end ∷ b_end ∷ []) + held_times e (node_at w n).held ≤ 1
+  room : (e : End) → times e (a_end ∷ b_end ∷ []) + held_times e (node_at w n).held ≤ 1
   room e = elim (which e) [
     | inl h ↦ omega (
       arith,
@@ -464,7 +464,7 @@ module _ (w : World) (b : Books) (g : Records) (n i : ℕ) (law : Inv w b g) (l 
   link_here : central' i ≡ link
   link_here = ap (λ c. cond c link (g.central i)) nat_same
 
-  pub pair : IsPair v (central' i) terminal' i at
+  pair : IsPair v (central' i) terminal' i at
   pair = subst (λ c. IsPair v c terminal' i at) (sym link_here) (record {
     here = stands;
     on_node = λ t. subst (λ c. n < c) (sym count_is) l;

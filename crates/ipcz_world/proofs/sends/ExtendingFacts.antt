@@ -28,7 +28,6 @@ use Rattle.ipcz_world.specs.Bypasses.{moving_link}
 use Rattle.ipcz_world.proofs.flows.Flowing.{same_way}
 use Rattle.ipcz_world.proofs.weights.Weighing.{in_router-is, in_places-set_router, in_places-has, still_under_way}
 use Rattle.ipcz_base.proofs.Totals.{total-remove}
-use Rattle.ipcz_world.proofs.sends.ExtendingItems.{h, d}
 
 pub last_of : (ds : List Descriptor) (d c : Descriptor) (j : ℕ) → slice_get (ds ++ d ∷ []) j ≡ Some c → (slice_get ds j ≡ Some c) ⊎ (c ≡ d)
 last_of [] d c zero e = inr (grind (arith, e))

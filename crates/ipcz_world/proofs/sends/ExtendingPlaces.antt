@@ -43,7 +43,7 @@ use Rattle.ipcz_world.proofs.sends.Sending.{about-item, moves-item}
 use Rattle.ipcz_world.proofs.sends.ExtendingAround.{next_key, extended, extended_records, IsGrown, IsExtend, other_link, other_key}
 use Rattle.ipcz_world.proofs.sends.ExtendingAround.{inner_one, recorded_more, recorded_new, recorded_back, router_same, node_same, end_same}
 use Rattle.ipcz_world.proofs.sends.ExtendingAround.{bypass_same, side_same, stood, inner_end_is, one_begun}
-use Rattle.ipcz_world.proofs.sends.ExtendingItems.{makes-more, same_item, of_peer, about-peer, expected-peer, d, at_end_is, other_terminal}
+use Rattle.ipcz_world.proofs.sends.ExtendingItems.{makes-more, same_item, of_peer, about-peer, expected-peer, at_end_is, other_terminal}
 use Rattle.ipcz_world.proofs.sends.ExtendingItems.{seen_extended, length_same, fits-extended}
 use Rattle.ipcz_world.proofs.sends.ExtendingFacts.{last_of, total-append, central-inner, key_at-none, moving_link-moving, same_end-turned}
 use Rattle.ipcz_world.proofs.sends.ExtendingFacts.{in_middle, one_or_none, two_ways, in_two_out, in_two_in}
