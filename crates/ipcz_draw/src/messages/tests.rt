@@ -1,4 +1,4 @@
-//! The messages of the runs in docs/PROTOCOL.md, and of transcripts that no run makes.
+//! The messages of a run with one bypass and of one with two proxies, and of transcripts that no run makes.
 
 use super::*;
 use crate::line::{Kind, Link, read};
