@@ -1,5 +1,5 @@
 -- What is written for a transcript, and what a run of the program may have read and written.
-use Rattle.std.specs.Prelude.{ℕ, ◌+◌, ◌≡◌, ◌≤◌, ◌↔◌, Bool, true, false, IsTrue, IsErrOf, List, [], ◌∷◌, ◌++◌, ◌==◌, if◌then◌else◌, codes, length, Option, Result, Ok, Err}
+use Rattle.std.specs.Prelude.{ℕ, ◌≡◌, ◌≤◌, ◌↔◌, Bool, true, false, IsTrue, IsErrOf, List, [], ◌∷◌, ◌++◌, ◌==◌, if◌then◌else◌, codes, length, Option, Result, Ok, Err}
 use Rattle.std.specs.Fmt.{decimal}
 use Rattle.std.specs.Io.KnownBytes.{Consumes, IsAtEnd, Appends, Keeps}
 use Rattle.ipcz_draw.specs.declared.line.ReadLine.{ReadLine}

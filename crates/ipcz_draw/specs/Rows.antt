@@ -1,5 +1,5 @@
 -- The rows of a picture: which lines stand in each, how far down it begins, and how high it is.
-use Rattle.std.specs.Prelude.{ℕ, ◌+◌, ◌*◌, ◌/◌, ◌≡◌, ◌≤◌, ◌<◌, ◌==◌, Bool, true, false, if◌then◌else◌, IsTrue, List, [], ◌∷◌, length, map, take, drop, min, max, count_by}
+use Rattle.std.specs.Prelude.{ℕ, ◌+◌, ◌*◌, ◌/◌, ◌≡◌, ◌≤◌, ◌<◌, ◌==◌, Bool, true, false, if◌then◌else◌, List, [], ◌∷◌, length, map, take, drop, min, max, count_by}
 use Rattle.std.specs.List.{AllWithin, HoldsAt}
 use Rattle.ipcz_draw.specs.declared.line.Line.{Line}
 use Rattle.ipcz_draw.specs.declared.line.Line.TheVariants as lines

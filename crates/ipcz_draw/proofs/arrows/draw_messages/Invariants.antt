@@ -1,4 +1,4 @@
-use Rattle.std.proofs.Common.{◌*◌, ◌∷◌, List, ℕ, length}
+use Rattle.std.proofs.Common.{◌*◌}
 use Rattle.ipcz_draw.specs.Markup.{Grows, Keeps}
 use Rattle.ipcz_draw.proofs.arrows.draw_messages.Given as goal
 

@@ -1,4 +1,4 @@
-use Rattle.std.proofs.Common.{◌<◌, length, ap, arith}
+use Rattle.std.proofs.Common.{length, ap, arith}
 use Rattle.ipcz_draw.proofs.Following.{fewer_lines}
 use Rattle.ipcz_draw.proofs.output.output.Goals as goal
 
