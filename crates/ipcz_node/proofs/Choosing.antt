@@ -1,6 +1,6 @@
 -- The act that comes first is one that can be done.
-use Rattle.std.proofs.Common.{◌≡◌, ◌⊎◌, ◌||◌, ◌&&◌, Bool, true, false, if◌then◌else◌, ℕ, zero, suc, ◌+◌, List, [], ◌∷◌, Some, None, inl, inr, refl, subst, arith}
-use Rattle.std.specs.Prelude.{Option, IfSome}
+use Rattle.std.proofs.Common.{◌≡◌, ◌⊎◌, ◌||◌, ◌&&◌, Bool, true, false, if◌then◌else◌, ℕ, zero, suc, ◌+◌, List, [], ◌∷◌, Some, inl, inr, refl, subst}
+use Rattle.std.specs.Prelude.{IfSome}
 use Rattle.ipcz_router.specs.Router.{Router}
 use Rattle.ipcz_router.specs.ActTable.{is_possible, first_possible, table, next_act, is_rest, may_take}
 use Rattle.ipcz_router.specs.declared.act.RouterAct.{RouterAct}

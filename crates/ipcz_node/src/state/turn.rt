@@ -13,7 +13,8 @@ impl NodeState {
     /// the first end that is still to be closed, the first act of the flagged router of the lowest serial, or none
     /// (docs/PROTOCOL.md, "Turns").
     ///
-    /// What was seen of a node that isn't there counts for nothing. It takes no memory.
+    /// What was seen of a node that isn't there counts for nothing. It takes no memory. `commit` takes this act, once `prepare` has made
+    /// room for it.
     #[tactic(auto, using(crate::proofs::Choosing::mail_waits), unfolding(crate::specs::Acts::next, crate::specs::Acts::node_turn, crate::specs::Acts::close_turn, crate::specs::Acts::first_of))]
     pub fn next(&self, seen: &MailSeen) -> Act
         ensures act { result ≡ next self.now.node seen.now }
