@@ -114,7 +114,7 @@ const LOCKS: [Row; 1] = [(Answer::Locked(35), "Lock(2, Central(1), 35)")];
 const BEGINS: [Row; 1] = [(PLAIN, "Begin(2, Central(1))")];
 
 // In place of a begin that comes first, the lock is given back; whether that was done.
-#[tactic(auto, using(crate::proofs::Choosing::unlock_may))]
+#[tactic(auto, using(ipcz_node::proofs::Choosing::unlock_may))]
 fn unlocks(node: &mut NodeState, word: u64) -> bool {
     let Act::Router(serial, act) = node.next(&CLEAR) else {
         return false;
