@@ -1,6 +1,6 @@
 -- The act that comes first is one that can be done.
-use Rattle.std.proofs.Common.{◌≡◌, ◌⊎◌, ◌||◌, ◌&&◌, Bool, true, false, if◌then◌else◌, ℕ, zero, suc, ◌+◌, List, [], ◌∷◌, Some, inl, inr, refl, subst}
-use Rattle.std.specs.Prelude.{IfSome}
+use Rattle.std.proofs.Common.{◌≡◌, ◌⊎◌, ◌&&◌, Bool, true, false, if◌then◌else◌, ℕ, List, [], ◌∷◌, Some, inl, inr, refl}
+use Rattle.std.proofs.lemmas.Bool.{and_parts, or_left, or_right}
 use Rattle.ipcz_router.specs.Router.{Router}
 use Rattle.ipcz_router.specs.ActTable.{is_possible, first_possible, table, next_act, is_rest, may_take}
 use Rattle.ipcz_router.specs.declared.act.RouterAct.{RouterAct}
@@ -8,8 +8,8 @@ use Rattle.ipcz_router.specs.declared.act.RouterAct.TheVariants as acts
 use Rattle.ipcz_base.specs.Indexed.{place_at}
 use Rattle.ipcz_node.specs.declared.act.MailSeen.{MailSeen}
 use Rattle.ipcz_node.specs.Node.{Node}
-use Rattle.ipcz_node.specs.Acts.{first_number, first_destination, has_mail_for}
-use Rattle.ipcz_node.proofs.Refiling.{first_of_both}
+use Rattle.ipcz_node.specs.Acts.{first_destination, has_mail_for}
+use Rattle.ipcz_node.proofs.Turns.{first_number-tells}
 
 -- the first possible act of a list is possible, or it is rest
 first_is : (r : Router) (l : List RouterAct) → (is_possible r (first_possible r l) ≡ true) ⊎ (first_possible r l ≡ acts.Rest)
@@ -21,14 +21,6 @@ first_is r (a ∷ l) = go (is_possible r a) refl (first_is r l)
     go true e more = inl e
     go false e more = more
 
-or_left : (a b : Bool) → a ≡ true → (a || b) ≡ true
-or_left true b e = refl
-or_left false b e = cc
-
-or_right : (a b : Bool) → b ≡ true → (a || b) ≡ true
-or_right true b e = refl
-or_right false b e = e
-
 pub next_may : (r : Router) → may_take r (next_act r) ≡ true
 unfolding next_act is_rest
 next_may r = elim (first_is r table) [
@@ -39,21 +31,11 @@ next_may r = elim (first_is r table) [
     rest : (a : RouterAct) → a ≡ acts.Rest → (is_rest a && is_rest a) ≡ true
     rest a e = rw e refl
 
--- the number that is found passes the test
-pub first_number_passes : (test : ℕ → Bool) (from left : ℕ) → IfSome (first_number test from left) (λ i. test i ≡ true)
-first_number_passes test from zero = tt
-first_number_passes test from (suc left) = go (test from) refl (first_number_passes test (from + 1) left)
-  where
-    go : (c : Bool) → test from ≡ c → IfSome (first_number test (from + 1) left) (λ i. test i ≡ true) →
-        IfSome (if c then Some from else first_number test (from + 1) left) (λ i. test i ≡ true)
-    go true q more = q
-    go false q more = more
-
 -- mail waits for the node that is posted to
 pub mail_waits : (n : Node) (seen : MailSeen) (to : ℕ) → first_destination n seen ≡ Some to → has_mail_for n to ≡ true
-mail_waits n seen to is = first_of_both (has_mail_for n to) (place_at false seen.empty to)
-    (subst (λ o. IfSome o (λ i. (has_mail_for n i && place_at false seen.empty i) ≡ true)) is
-    (first_number_passes (λ i. has_mail_for n i && place_at false seen.empty i) 0 n.count))
+mail_waits n seen to is =
+    (and_parts (has_mail_for n to) (place_at false seen.empty to)
+    (first_number-tells (λ i. has_mail_for n i && place_at false seen.empty i) 0 n.count to is).1).0
 
 -- where a bypass can begin, the lock can be given back in its place
 pub unlock_may : (r : Router) → may_take r acts.Begin ≡ true → may_take r acts.Unlock ≡ true

@@ -1,13 +1,12 @@
 -- The first possible act of a node is one that a turn may take, and so is what stands in for it.
-use Rattle.std.specs.Prelude.{◌≡◌, ◌⊎◌, ◌<◌, ℕ, zero, suc, ◌+◌, Bool, true, false, ◌&&◌, nat_eq, nat_lt, if◌then◌else◌, Option, Some, None}
+use Rattle.std.specs.Prelude.{◌≡◌, ◌<◌, ℕ, zero, suc, ◌+◌, Bool, true, false, ◌&&◌, nat_eq, nat_lt, Option, Some, None}
 use Rattle.std.specs.Prelude.{List, [], ◌∷◌, map, refl}
 use Rattle.std.proofs.Common.{arith, ap, subst, ◌∙◌, sym, inl, inr}
 use Rattle.std.proofs.lemmas.Bool.Decides.{nat_tests}
 use Rattle.ipcz_base.specs.declared.end.End.{End}
 use Rattle.ipcz_base.specs.Indexed.{place_at}
 use Rattle.ipcz_router.specs.Router.{Router}
-use Rattle.ipcz_router.specs.ActTable.{is_possible, first_possible, table, next_act, is_rest, may_take}
-use Rattle.ipcz_router.specs.declared.act.RouterAct.{RouterAct}
+use Rattle.ipcz_router.specs.ActTable.{is_possible, next_act, is_rest}
 use Rattle.ipcz_router.specs.declared.act.RouterAct.TheVariants as acts
 use Rattle.ipcz_node.specs.Acts.{stand_in, first_number, has_mail_for, router_turn, close_turn, node_turn, next}
 use Rattle.ipcz_node.specs.declared.act.Act.{Act}
@@ -16,6 +15,7 @@ use Rattle.ipcz_node.specs.declared.act.MailSeen.{MailSeen}
 use Rattle.ipcz_node.specs.Node.{Node, Found, find_router}
 use Rattle.ipcz_node.specs.Hands.{is_hand_of}
 use Rattle.ipcz_node.proofs.Turns.{first_number-tells}
+use Rattle.ipcz_node.proofs.Choosing.{next_may}
 use Rattle.ipcz_world.specs.declared.step.Step.TheVariants as steps
 use Rattle.ipcz_world.specs.World.{World, node_at, mail_at, way, router_at, numbers_from}
 use Rattle.ipcz_world.specs.Turns.{is_full, is_clear, seen_at, next_at, may_act, is_first_pending, is_idle, can_take}
@@ -26,7 +26,7 @@ use Rattle.ipcz_world.specs.Inv.{Inv}
 use Rattle.ipcz_world.specs.WorldLaws.{FirstIsPossible}
 use Rattle.ipcz_world.proofs.facts.LinkTests.{same_end-itself}
 use Rattle.ipcz_world.proofs.facts.Finding.{found_tells}
-use Rattle.std.proofs.lemmas.Bool.{and_parts, or_left, or_right}
+use Rattle.std.proofs.lemmas.Bool.{and_parts}
 
 -- what is seen of a number is what is so
 seen_is : (f : ℕ → Bool) (a c i : ℕ) → place_at false (map f (numbers_from a c)) i ≡ true → f (a + i) ≡ true
@@ -35,26 +35,7 @@ seen_is f a zero i e = cc
 seen_is f a (suc c) zero e = let z : a + zero ≡ a = omega arith in subst (λ x. f x ≡ true) (sym z) e
 seen_is f a (suc c) (suc i) e = let z : (a + 1) + i ≡ a + suc i = omega arith in subst (λ x. f x ≡ true) z (seen_is f (a + 1) c i e)
 
--- the first possible of a list is possible, or rest
-first_is : (r : Router) (l : List RouterAct) → (is_possible r (first_possible r l) ≡ true) ⊎ (first_possible r l ≡ acts.Rest)
-first_is r [] = inr refl
-first_is r (a ∷ l) = go (is_possible r a) refl (first_is r l)
-  where
-    go : (c : Bool) → is_possible r a ≡ c → (is_possible r (first_possible r l) ≡ true) ⊎ (first_possible r l ≡ acts.Rest) →
-        (is_possible r (if c then a else first_possible r l) ≡ true) ⊎ ((if c then a else first_possible r l) ≡ acts.Rest)
-    go true e more = inl e
-    go false e more = more
-
-next_may : (r : Router) → may_take r (next_act r) ≡ true
-unfolding next_act is_rest
-next_may r = elim (first_is r table) [
-  | inl e ↦ or_left _ _ e
-  | inr e ↦ or_right _ _ (rest (next_act r) e)
-]
-  where
-    rest : (a : RouterAct) → a ≡ acts.Rest → (is_rest a && is_rest a) ≡ true
-    rest a e = rw e refl
-
+-- what is possible of a router's begin is so of its unlock
 begin_unlocks : (o : Option Router) → may_act o acts.Begin ≡ true → may_act o acts.Unlock ≡ true
 unfolding may_act is_possible is_rest
 begin_unlocks None h = cc
