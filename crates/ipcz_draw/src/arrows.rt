@@ -142,7 +142,7 @@ fn draw_hand(
                 across.saturating_sub(4)
             }
         }
-        None => wall.inside(20),
+        None => wall.inside(14),
     };
     out.begin_arrow(look_of(message), stroke_of(message));
     out.point(b'M', wall.across, looked);

@@ -43,7 +43,7 @@ fn draw_root(out: &mut Writer, width: u64, height: u64)
     out.words(Key::Xmlns, b"http://www.w3.org/2000/svg");
     draw_size(out, width, height);
     out.words(Key::Role, b"img");
-    out.words(Key::LabelledBy, b"t d");
+    out.words(Key::LabelledBy, b"t");
     out.enter();
 }
 
