@@ -1,9 +1,9 @@
 //! Which messages are strays, each cause once, on node 0 of two.
 
-use super::{a, bare_item, fits, fresh, is_fit, is_unfit, item};
-use ipcz_base::{Descriptor, End, LinkId, Message, Side};
-use ipcz_node::NodeState;
-use std::alloc::Global;
+use super::{a, fits, is_fit, is_unfit, item, parcel};
+use crate::state::NodeState;
+use ipcz_base::{Descriptor, End, LinkId, Message, Refusal, Sequence, Side};
+use std::alloc::{AllocError, Global};
 use std::test::Fail;
 
 const FROM_NODE_1: LinkId = LinkId::Peripheral { node: 1, serial: 0 };
@@ -31,6 +31,17 @@ const MOVE_6B: Descriptor = Descriptor {
     next_out: 0,
     next_in: 0,
 };
+
+// An item without ends, for the router of a link at a side.
+fn bare_item(alloc: Global, link: LinkId, side: Side, n: u64) -> Result<Message, AllocError> {
+    Ok(Message::Item {
+        link,
+        side,
+        n,
+        item: parcel(alloc, b"a", &[])?,
+        moves: Sequence::from_vec(Vec::new(alloc)),
+    })
+}
 
 fn bypass_peer(link: LinkId, side: Side, target: u8, fresh: u32) -> Message {
     Message::BypassPeer {
@@ -79,7 +90,7 @@ fn gets(node: &mut NodeState, number: u64) -> bool {
 // At first its number is free, then it is occupied, and then it has passed.
 #[test]
 fn an_item_comes_once(rt: HostRuntime) -> Result<(), Fail> {
-    let mut node = fresh(rt.alloc(), 0, 2).ok_or("the node isn't made")?;
+    let mut node = NodeState::new(rt.alloc(), 0, 2)?;
     assert!(rt; is_unfit(&mut node, 1, stop_proxying(0, Side::A)));
     for want in [true, false] {
         assert_eq!(rt;
@@ -96,7 +107,7 @@ fn an_item_comes_once(rt: HostRuntime) -> Result<(), Fail> {
 
 #[test]
 fn an_item_has_a_router_and_a_number(rt: HostRuntime) -> Result<(), Fail> {
-    let mut node = fresh(rt.alloc(), 0, 2).ok_or("the node isn't made")?;
+    let mut node = NodeState::new(rt.alloc(), 0, 2)?;
     for (link, side, n, want) in [
         (LinkId::Central(0), Side::B, 0, false),
         (LinkId::Central(1), Side::A, 0, false),
@@ -167,7 +178,7 @@ const ITEMS: [(u8, u64, &[End], &[Descriptor], bool); 12] = [
 
 #[test]
 fn an_item_has_its_moves(rt: HostRuntime) -> Result<(), Fail> {
-    let mut node = fresh(rt.alloc(), 0, 2).ok_or("the node isn't made")?;
+    let mut node = NodeState::new(rt.alloc(), 0, 2)?;
     for (from, n, ends, moves, want) in ITEMS {
         let message = item(rt.alloc(), n, ends, moves)?;
         assert_eq!(rt; fits(&mut node, from, message), Some(want), "{from} {n}");
@@ -178,7 +189,7 @@ fn an_item_has_its_moves(rt: HostRuntime) -> Result<(), Fail> {
 
 // Node 0 of two with the terminal of 5A, which has moved here from node 1.
 fn with_moved(alloc: Global) -> Option<NodeState> {
-    let mut node = fresh(alloc, 0, 2)?;
+    let mut node = NodeState::new(alloc, 0, 2).ok()?;
     let coming = item(alloc, 0, &[END_5A], &[MOVE_5A]).ok()?;
     if is_fit(&mut node, 1, coming) {
         Some(node)
@@ -266,7 +277,7 @@ fn a_proxy_will_stop_tells_an_unknown_length(rt: HostRuntime) -> Result<(), Fail
 
 #[test]
 fn a_flush_is_dropped_and_never_kept(rt: HostRuntime) -> Result<(), Fail> {
-    let mut node = fresh(rt.alloc(), 0, 2).ok_or("the node isn't made")?;
+    let mut node = NodeState::new(rt.alloc(), 0, 2)?;
     for (side, want) in [(Side::B, false), (Side::A, true)] {
         let link = LinkId::Central(0);
         assert_eq!(rt;

@@ -1,8 +1,8 @@
 //! Calls on node 0 of two with an opened pair.
 
-use super::{a, fresh, listed};
+use super::{a, listed};
+use crate::state::NodeState;
 use ipcz_base::{End, Refusal, Side};
-use ipcz_node::NodeState;
 use std::alloc::Global;
 
 /// The end of side B of a pair.
@@ -26,24 +26,6 @@ pub(super) fn put(
     node.put(at, bytes, ends).map_err(|refused| refused.why)
 }
 
-/// Takes the next parcel of an end; its number.
-pub(super) fn get(node: &mut NodeState, at: End) -> Result<u64, Refusal> {
-    match node.get(at) {
-        Ok((number, _)) => Ok(number),
-        Err(why) => Err(why),
-    }
-}
-
-/// Closes an end.
-pub(super) fn close(node: &mut NodeState, at: End) -> Result<u64, Refusal> {
-    node.close(at)
-}
-
-/// Whether callers hold an end.
-pub(super) fn holds(node: &NodeState, end: End) -> bool {
-    node.holds(end)
-}
-
 /// Opens the pair of a word.
 pub(super) fn open(node: &mut NodeState, word: u32) -> bool {
     let Ok(()) = node.open_prepare() else {
@@ -54,6 +36,6 @@ pub(super) fn open(node: &mut NodeState, word: u32) -> bool {
 
 /// Node 0 of two with a pair on C1: router 0 serves 0A, router 1 serves 1A, and router 2 serves 1B.
 pub(super) fn with_pair(alloc: Global) -> Option<NodeState> {
-    let mut node = fresh(alloc, 0, 2)?;
+    let mut node = NodeState::new(alloc, 0, 2).ok()?;
     if open(&mut node, 1) { Some(node) } else { None }
 }
