@@ -25,14 +25,14 @@ use Rattle.ipcz_world.proofs.weights.Sums.{just, just_once}
 use Rattle.ipcz_world.proofs.facts.Queues.{reach_filled}
 use Rattle.ipcz_world.proofs.weights.Weights.{in_two_places, in_out_queue, in_in_queue}
 use Rattle.ipcz_world.proofs.frames.OneRouter.{set-router, words-set_router}
-use Rattle.ipcz_world.proofs.facts.LinkTests.{IsLinkEnd, IsKnown, has_link-tells, known_from-tells, side_is, same_end-itself}
+use Rattle.ipcz_world.proofs.facts.LinkTests.{IsKnown, known_from-tells, side_is, same_end-itself}
 use Rattle.ipcz_world.proofs.facts.BegunLengths.{begun-since, length-proxy, length-across, length-inward, length-inner}
 use Rattle.ipcz_world.proofs.views.Views.{IsPart}
 use Rattle.ipcz_world.proofs.views.Bypassed.{Names, IsBypassed, proxy-begun, proxy-outward, proxy-inward, proxy-seen, proxy-seen_inward}
 use Rattle.ipcz_world.proofs.views.Bypassed.{proxy-late, proxy-late_inward}
 use Rattle.ipcz_world.proofs.frames.GivenUp.{stays, keeps_all, Settled, inv-gives}
 use Rattle.ipcz_world.proofs.frames.Draining.{next_sent-standing, taking_queue-standing}
-use Rattle.ipcz_world.proofs.facts.Lengths.{opposite-twice}
+use Rattle.ipcz_world.proofs.facts.Lengths.{opposite-twice, HasEnd, has_link-tells}
 
 -- an edge's decaying link is done with
 pub record IsDone (e : Edge) (sent received : ℕ) : Type 0 where
@@ -292,8 +292,8 @@ edge-gave : (l : LinkId) (s : Side) (e : Edge) (d : LinkEnd) → e.decaying ≡ 
 edge-gave l s e d is had hasnt = go (has_link e.decaying l s) refl
   where
     go : (c : Bool) → has_link e.decaying l s ≡ c → Names d l s
-    go true h = let t : IsLinkEnd e.decaying l s = has_link-tells e.decaying l s h in let same : d ≡ t.end =
-        same_Some d t.end (sym is ∙ t.is) in record { link = ap (λ x. x.link) same ∙ t.link; side = ap (λ x. x.side) same ∙ t.side }
+    go true h = let t : HasEnd e.decaying l s = has_link-tells e.decaying l s h in let same : d ≡ t.end =
+        same_Some d t.end (sym is ∙ t.there) in record { link = ap (λ x. x.link) same ∙ t.on_link; side = ap (λ x. x.side) same ∙ t.at_side }
     go false h = absurd (grind (arith, had, hasnt, h))
 
 inward-finish : (r : Router) → inward_edge (finish_in r) ≡ finish (inward_edge r)
@@ -423,17 +423,17 @@ inv-finish_out w b g k r law can = inv-gives w (finish_out_act w k r) b g k r (S
     -- as the proxy it knows its lengths
     early : (o : ℕ) → (g.bypass o).stage ≤ 3 → has_decaying (Central o) (proxy_side g o) r ≡ true → ⊥
     early o a h =
-        let t : IsLinkEnd r.outward.decaying (Central o) (proxy_side g o) =
+        let t : HasEnd r.outward.decaying (Central o) (proxy_side g o) =
         has_link-tells r.outward.decaying (Central o) (proxy_side g o) h in
         let own : IsKnown 4 (g.bypass o).stage (g.bypass o).taken_at done.to =
-        known_from-tells 4 _ _ _ (sym (law.positions.own_to k r t.end o can.here t.is t.link t.side) ∙ done.length_to) in
+        known_from-tells 4 _ _ _ (sym (law.positions.own_to k r t.end o can.here t.there t.on_link t.at_side) ∙ done.length_to) in
         omega (arith, own.since)
 
     early_inner : (o : ℕ) → (g.bypass o).stage ≤ 4 → 2 ≤ (g.bypass o).stage → has_decaying (inner_of g o) B r ≡ true → ⊥
     early_inner o a c h =
-        let t : IsLinkEnd r.outward.decaying (inner_of g o) B = has_link-tells r.outward.decaying (inner_of g o) B h in
+        let t : HasEnd r.outward.decaying (inner_of g o) B = has_link-tells r.outward.decaying (inner_of g o) B h in
         let own : IsKnown 5 (g.bypass o).stage (g.bypass o).accepted_at done.from
-        = known_from-tells 5 _ _ _ (sym (law.positions.inner_from k r t.end (g.bypass o).inner o can.here t.is t.link
+        = known_from-tells 5 _ _ _ (sym (law.positions.inner_from k r t.end (g.bypass o).inner o can.here t.there t.on_link
         (law.bypasses.inner_by o (begun-since g o 2 (omega arith) c))) ∙ done.length_from) in
         omega (arith, own.since)
 

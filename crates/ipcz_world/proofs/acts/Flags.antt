@@ -7,6 +7,7 @@ use Rattle.ipcz_world.proofs.Vocabulary.{Side, A, B, LinkId, Central, Peripheral
 use Rattle.ipcz_world.proofs.Vocabulary.{primary_word, World, Key, same_key, word_at, router_at, Books, Records, is_recorded, is_linked}
 use Rattle.ipcz_world.proofs.Vocabulary.{is_begun, side_router, side_end, across_side, is_attached, passes, key_passes, has_primary}
 use Rattle.ipcz_world.proofs.Vocabulary.{Shape, Words, IsRecorded, Inv}
+use Rattle.ipcz_world.proofs.facts.Lengths.{HasEnd, has_link-tells}
 use Rattle.ipcz_router.specs.Router.{is_proxy, decays, is_on_central}
 use Rattle.ipcz_router.specs.ActEffects.{run_dry}
 use Rattle.ipcz_router.specs.Acts.{rest}
@@ -15,7 +16,7 @@ use Rattle.ipcz_world.proofs.frames.RecordRules.{is_recorded-central}
 use Rattle.ipcz_world.proofs.frames.StandingRules.{standing_rules}
 use Rattle.ipcz_world.specs.Acts.{dry_act, rest_act}
 use Rattle.ipcz_world.proofs.frames.OneRouter.{SameWords, SameButRouter, set-router, words-set_router}
-use Rattle.ipcz_world.proofs.facts.LinkTests.{IsLinkEnd, has_link-tells, side_is}
+use Rattle.ipcz_world.proofs.facts.LinkTests.{side_is}
 use Rattle.ipcz_world.proofs.views.Views.{IsPart}
 use Rattle.ipcz_world.proofs.frames.GivingUp.{Gives, HasSameFlags, counts-gives, passes-still}
 use Rattle.ipcz_world.proofs.frames.GivenUp.{Settled, stays, keeps_all, spares-gives}
@@ -143,10 +144,10 @@ pub record SameAs (i j : ℕ) (s t : Side) : Type 0 where
 pub only-word : {w : World} {g : Records} {k : Key} {r : Router} {i : ℕ} → OnWord w g k r i → router_at w k ≡ Some r → (j : ℕ) (s : Side) →
     key_passes w (Some k) (has_primary (Central j) s) ≡ true → SameAs i j r.end.side s
 only-word {r = r} {i = i} is here j s h =
-    let t : IsLinkEnd r.outward.primary (Central j) s = has_link-tells r.outward.primary (Central j) s
+    let t : HasEnd r.outward.primary (Central j) s = has_link-tells r.outward.primary (Central j) s
     (grind (arith, standing_rules, here, h)) in
-    let same : is.end ≡ t.end = same_Some _ _ (sym is.primary ∙ t.is) in
-    record { word = grind (arith, same, is.link, t.link); side = sym t.side ∙ sym (ap (λ e. e.side) same) ∙ is.side }
+    let same : is.end ≡ t.end = same_Some _ _ (sym is.primary ∙ t.there) in
+    record { word = grind (arith, same, is.link, t.on_link); side = sym t.at_side ∙ sym (ap (λ e. e.side) same) ∙ is.side }
 
 -- a word and its router's flags change together
 pub record Touches (x x' : Word) (y : Router) : Type 0 where

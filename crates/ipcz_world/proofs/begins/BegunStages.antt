@@ -8,13 +8,14 @@ use Rattle.ipcz_world.proofs.Vocabulary.{inward_edge, World, Key, same_key, word
 use Rattle.ipcz_world.proofs.Vocabulary.{Linked, Opening, is_linked, is_begun, is_recorded, inner_link, side_router, side_node, side_end}
 use Rattle.ipcz_world.proofs.Vocabulary.{proxy_side, across_side, key_passes, has_primary, has_decaying, has_inward_decaying, Stands}
 use Rattle.ipcz_world.proofs.Vocabulary.{Words, Spares, BypassRecords, Stages, inner_of, Inv}
+use Rattle.ipcz_world.proofs.facts.Lengths.{HasEnd, has_link-tells}
 use Rattle.ipcz_world.proofs.frames.Frames.{same_key_tells, same_key-itself}
 use Rattle.ipcz_world.specs.Remembering.{begin_records}
 use Rattle.ipcz_world.specs.Standing.{has_inward_primary, spare_of}
 use Rattle.ipcz_world.proofs.frames.StandingRules.{standing_rules}
 use Rattle.ipcz_world.specs.Structure.{is_begun_router}
 use Rattle.ipcz_world.specs.Bypasses.{fresh_of}
-use Rattle.ipcz_world.proofs.facts.LinkTests.{IsLinkEnd, has_link-tells, has_link-is}
+use Rattle.ipcz_world.proofs.facts.LinkTests.{has_link-is}
 use Rattle.ipcz_world.proofs.begins.Beginning.{Begins}
 use Rattle.ipcz_world.proofs.begins.BegunRecords.{router-begun, node-begun, end-begun, linked-begun, begun-here, begun-else, by_word}
 use Rattle.ipcz_world.proofs.begins.BegunRecords.{side-begun, by-inner, end_at}
@@ -57,12 +58,12 @@ module _ {w v : World} {b : Books} {g : Records} {k : Key} {r y : Router} {p : K
 
   -- its primary links are the old and the inner one
   had-primary : (l : LinkId) (s : Side) → has_primary l s r ≡ true → l ≡ Central o
-  had-primary l s h = let t : IsLinkEnd r.outward.primary l s = has_link-tells r.outward.primary l s h in
-      sym t.link ∙ ap (λ e. e.link) (same_Some t.end out (sym t.is ∙ is.outer)) ∙ is.outer_at
+  had-primary l s h = let t : HasEnd r.outward.primary l s = has_link-tells r.outward.primary l s h in
+      sym t.on_link ∙ ap (λ e. e.link) (same_Some t.end out (sym t.there ∙ is.outer)) ∙ is.outer_at
 
   had-inward : (l : LinkId) (s : Side) → has_inward_primary l s r ≡ true → l ≡ inner_link p
-  had-inward l s h = let t : IsLinkEnd (inward_edge r).primary l s = has_link-tells (inward_edge r).primary l s h in
-      sym t.link ∙ ap (λ e. e.link) (same_Some t.end into (sym t.is ∙ is.inner)) ∙ is.inner_at
+  had-inward l s h = let t : HasEnd (inward_edge r).primary l s = has_link-tells (inward_edge r).primary l s h in
+      sym t.on_link ∙ ap (λ e. e.link) (same_Some t.end into (sym t.there ∙ is.inner)) ∙ is.inner_at
 
   word-not : (i : ℕ) → is_begun (after.bypass i) ≡ false → nat_eq i o ≡ false
   word-not i a = go (nat_eq i o) refl
@@ -438,8 +439,8 @@ module _ {w v : World} {b : Books} {g : Records} {k : Key} {r y : Router} {p : K
           go : (x : Option Router) → router_at w q ≡ x → ⊥
           go None e = grind (arith, standing_rules, a, e)
           go (Some z) e =
-              let t : IsLinkEnd z.outward.decaying l s = has_link-tells z.outward.decaying l s (grind (arith, standing_rules, d, e)) in
-              grind (arith, law.shape.marked_still q z e (grind (arith, standing_rules, a, e)), t.is)
+              let t : HasEnd z.outward.decaying l s = has_link-tells z.outward.decaying l s (grind (arith, standing_rules, d, e)) in
+              grind (arith, law.shape.marked_still q z e (grind (arith, standing_rules, a, e)), t.there)
 
       fresh-not : (j : ℕ) → nat_eq j o ≡ false → 3 ≤ (after.bypass j).stage → (after.bypass j).stage ≤ 4 → fresh_of g j ≡ Central o → ⊥
       fresh-not j n a d e = unmarked (side_router g (inner_of g j) B) (inner_of g j) B
@@ -449,8 +450,8 @@ module _ {w v : World} {b : Books} {g : Records} {k : Key} {r y : Router} {p : K
           (law.stages.inner_decaying j (late-old j 2 (omega arith) (omega (arith, a))) (early j 4 n d))
 
       still : {X : Type 0} (l : LinkId) (s : Side) → has_decaying l s r ≡ true → X
-      still l s h = let t : IsLinkEnd r.outward.decaying l s = has_link-tells r.outward.decaying l s h in
-          absurd (none-some t.end (sym is.still ∙ t.is))
+      still l s h = let t : HasEnd r.outward.decaying l s = has_link-tells r.outward.decaying l s h in
+          absurd (none-some t.end (sym is.still ∙ t.there))
 
       inner-end : side_end g (inner_link p) A ≡ r.end
       inner-end = ap (λ l. side_end g l A) (sym is.inner_at) ∙ ap (side_end g into.link) (sym is.inner_side) ∙ sym

@@ -4,7 +4,7 @@ use Rattle.std.proofs.Common.{arith, inl, inr}
 use Rattle.std.proofs.lemmas.Bool.Decides.{nat_tests}
 use Rattle.ipcz_world.proofs.Vocabulary.{Side, A, B, End, LinkId, LinkEnd, opposite, same_side, same_end, opposite_end, has_link}
 use Rattle.ipcz_world.proofs.Vocabulary.{known_from}
-use Rattle.ipcz_world.proofs.facts.Lengths.{same_side-itself, same_side-tells, same_link-itself, opposite-twice, same_link-tells}
+use Rattle.ipcz_world.proofs.facts.Lengths.{same_side-itself, same_side-tells, same_link-itself, opposite-twice}
 use Rattle.ipcz_world.proofs.facts.Tests.{and_first, and_second}
 
 pub same_side-opposite : (s : Side) → same_side (opposite s) s ≡ false
@@ -20,24 +20,6 @@ side_is B B = inl refl
 
 pub same_end-itself : (e : End) → same_end e e ≡ true
 same_end-itself e = grind (arith, same_side-itself e.side, nat_tests)
-
--- a link end is this link at this side
-pub record IsLinkEnd (o : Option LinkEnd) (l : LinkId) (s : Side) : Type 0 where
-  pub end : LinkEnd
-  pub is : o ≡ Some end
-  pub link : end.link ≡ l
-  pub side : end.side ≡ s
-
-pub has_link-tells : (o : Option LinkEnd) (l : LinkId) (s : Side) → has_link o l s ≡ true → IsLinkEnd o l s
-unfolding has_link
-has_link-tells None l s h = absurd (grind (arith, h))
-has_link-tells (Some e) l s h = record {
-  end = e;
-  is = refl;
-  link = same_link-tells e.link l (grind (arith, h));
-  side =
-      same_side-tells e.side s (grind (arith, h));
-}
 
 pub has_link-is : (o : Option LinkEnd) (e : LinkEnd) (l : LinkId) (s : Side) → o ≡ Some e → e.link ≡ l → e.side ≡ s → has_link o l s ≡ true
 unfolding has_link

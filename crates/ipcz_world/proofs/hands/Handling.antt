@@ -8,6 +8,7 @@ use Rattle.ipcz_world.proofs.Vocabulary.{router_has, inward_edge, bypass_peer, F
 use Rattle.ipcz_world.proofs.Vocabulary.{router_at, flow, messages_in, Books, Records, Fresh, is_linked, is_begun, is_recorded}
 use Rattle.ipcz_world.proofs.Vocabulary.{side_router, proxy_side, across_side, bypass_of, known_from, IsUnderWay, is_made_before}
 use Rattle.ipcz_world.proofs.Vocabulary.{has_primary, has_decaying, has_inward_decaying, inner_of, Inv}
+use Rattle.ipcz_world.proofs.facts.Lengths.{HasEnd, has_link-tells}
 use Rattle.ipcz_base.specs.declared.message.Message.TheVariants as messages
 use Rattle.ipcz_edge.specs.Edge.{edge_decays}
 use Rattle.ipcz_router.specs.Router.{rouse}
@@ -20,7 +21,6 @@ use Rattle.ipcz_world.specs.Turns.{after_hand}
 use Rattle.ipcz_world.proofs.frames.RecordRules.{record_rules}
 use Rattle.ipcz_world.specs.Acts.{CanHand, free, peer_act, accept_act, stop_act, will_stop_act, flush_act}
 use Rattle.ipcz_world.specs.Laws.{is_flush}
-use Rattle.ipcz_world.proofs.facts.LinkTests.{IsLinkEnd, has_link-tells}
 use Rattle.ipcz_world.proofs.facts.Finding.{found_tells}
 use Rattle.ipcz_world.proofs.views.Known.{fresh_central}
 use Rattle.ipcz_world.proofs.views.Telling.{IsPeer, peer_told, IsAccept, accept_told, IsStop, stop_told, IsWillStop, will_stop_told}
@@ -114,7 +114,7 @@ module _ (w : World) (b : Books) (g : Records) (law : Inv w b g) where
           let primary : has_primary link side r ≡ true = subst (λ l. has_primary l side r ≡ true) (sym at.on_link)
           (subst (λ s. has_primary (inner_of g o) s r ≡ true) (sym at.at_side) on) in
           let peripheral : is_central link ≡ false = ap is_central at.on_link in
-          let end : IsLinkEnd r.outward.primary (inner_of g o) B = has_link-tells r.outward.primary (inner_of g o) B on in
+          let end : HasEnd r.outward.primary (inner_of g o) B = has_link-tells r.outward.primary (inner_of g o) B on in
           let still : edge_decays r.outward ≡ false = stays end r.outward.decaying refl in
           let low : nat_lt target (node_at w n).count ≡ true = grind
           (arith, nat_tests, at.across, law.counts.nodes n is.node, law.counts.side_on_node (Central o) (across_side g o) old_recorded)
@@ -131,10 +131,10 @@ module _ (w : World) (b : Books) (g : Records) (law : Inv w b g) where
           not_linked at h = let own : g.owner fresh ≡ Fresh o = ap g.owner at.onto ∙ law.bypasses.fresh o at.stage in
               grind (arith, record_rules, h, own)
 
-          stays : IsLinkEnd r.outward.primary (inner_of g o) B → (d : Option LinkEnd) → r.outward.decaying ≡ d → is_some d ≡ false
+          stays : HasEnd r.outward.primary (inner_of g o) B → (d : Option LinkEnd) → r.outward.decaying ≡ d → is_some d ≡ false
           stays end None q = refl
-          stays end (Some d) q = let c = fresh_central w g k r end.end d law.positions can.here end.is q in
-              let bad : inner_of g o ≡ Central c.0 = sym end.link ∙ c.1 in cc
+          stays end (Some d) q = let c = fresh_central w g k r end.end d law.positions can.here end.there q in
+              let bad : inner_of g o ≡ Central c.0 = sym end.on_link ∙ c.1 in cc
 
   pub peer_is : (n from o : ℕ) (link : LinkId) (side : Side) (target fresh : ℕ)
       (is : IsInHand w n from (messages.BypassPeer link side o target fresh))
@@ -197,14 +197,14 @@ module _ (w : World) (b : Books) (g : Records) (law : Inv w b g) where
       let m = messages.AcceptBypass o side fresh length in
       let r = a.found.router in
       let fit = accept_fits n from o side fresh length is a.found a.is_found a.can.here a.has in
-      let e : IsLinkEnd r.outward.primary (Central o) side = has_link-tells r.outward.primary (Central o) side fit.1 in
+      let e : HasEnd r.outward.primary (Central o) side = has_link-tells r.outward.primary (Central o) side fit.1 in
       let y = with_router (node_at w n) a.found.serial (accept_bypass r from side fresh length) in
       let sent = messages.StopProxying o (opposite side) r.out_queue.current length in (
         e.end,
-        e.is,
+        e.there,
         handed-is w n from m (push_out y e.end.other sent) fit.0
             (by_found r (link_router (node_at w n) (Central o) side) a.found.serial a.is_found ∙ ap
-            (λ p. tell y (stop_message r p o side length)) e.is) is.hand ∙ ap (λ v. free v from n)
+            (λ p. tell y (stop_message r p o side length)) e.there) is.hand ∙ ap (λ v. free v from n)
             (sym (push-set_node w n y e.end.other sent)),
       )
     where
@@ -251,21 +251,21 @@ module _ (w : World) (b : Books) (g : Records) (law : Inv w b g) where
           sym (passes-at w _ k r (has_decaying (Central o) (proxy_side g o)) proxy here) ∙ law.stages.proxy_old o begun early in
           let decaying : has_link r.outward.decaying (Central o) side ≡ true =
           subst (λ s. has_decaying (Central o) s r ≡ true) (sym at.at_side) off in
-          let d : IsLinkEnd r.outward.decaying (Central o) (proxy_side g o) =
+          let d : HasEnd r.outward.decaying (Central o) (proxy_side g o) =
           has_link-tells r.outward.decaying (Central o) (proxy_side g o) off in
           let inner : has_inward_decaying (inner_of g o) A r ≡ true =
           sym (passes-at w _ k r (has_inward_decaying (inner_of g o) A) proxy here) ∙ law.stages.proxy_inner o begun early in
-          let i : IsLinkEnd (inward_edge r).decaying (inner_of g o) A = has_link-tells (inward_edge r).decaying (inner_of g o) A inner in
-          let to : is_none r.outward.length_to ≡ true = unknown _ 4 _ _ (law.positions.own_to k r d.end o here d.is d.link d.side) late in
-          let back : is_none r.outward.length_from ≡ true = unknown _ 4 _ _ (law.positions.own_from k r d.end o here d.is d.link d.side)
+          let i : HasEnd (inward_edge r).decaying (inner_of g o) A = has_link-tells (inward_edge r).decaying (inner_of g o) A inner in
+          let to : is_none r.outward.length_to ≡ true = unknown _ 4 _ _ (law.positions.own_to k r d.end o here d.there d.on_link d.at_side) late in
+          let back : is_none r.outward.length_from ≡ true = unknown _ 4 _ _ (law.positions.own_from k r d.end o here d.there d.on_link d.at_side)
           late in
-          let in_to : is_none (inward_edge r).length_to ≡ true = unknown _ 4 _ _ (law.positions.inward_to k r i.end o here i.is owns) late
+          let in_to : is_none (inward_edge r).length_to ≡ true = unknown _ 4 _ _ (law.positions.inward_to k r i.end o here i.there owns) late
           in
           let in_back : is_none (inward_edge r).length_from ≡ true =
-          unknown _ 4 _ _ (law.positions.inward_from k r i.end o here i.is owns) late in
-          let outer : decays_unknown r.outward ≡ true = grind (arith, d.is, to, back) in
-          let inward : decays_unknown (inward_edge r) ≡ true = grind (arith, i.is, in_to, in_back) in
-          (rw (e, decaying, outer, inward) refl, i.end, i.is)
+          unknown _ 4 _ _ (law.positions.inward_from k r i.end o here i.there owns) late in
+          let outer : decays_unknown r.outward ≡ true = grind (arith, d.there, to, back) in
+          let inward : decays_unknown (inward_edge r) ≡ true = grind (arith, i.there, in_to, in_back) in
+          (rw (e, decaying, outer, inward) refl, i.end, i.there)
 
   pub stop_is : (n from o : ℕ) (side : Side) (in_length out_length : ℕ)
       (is : IsInHand w n from (messages.StopProxying o side in_length out_length))
@@ -312,9 +312,9 @@ module _ (w : World) (b : Books) (g : Records) (law : Inv w b g) where
           law.stages.inner_decaying o (omega (arith, at.stage)) (omega (arith, at.stage)) in
           let decaying : has_decaying link side r ≡ true = subst (λ l. has_decaying l side r ≡ true) (sym at.on_link)
           (subst (λ s. has_decaying (inner_of g o) s r ≡ true) (sym at.at_side) off) in
-          let d : IsLinkEnd r.outward.decaying (inner_of g o) B = has_link-tells r.outward.decaying (inner_of g o) B off in
+          let d : HasEnd r.outward.decaying (inner_of g o) B = has_link-tells r.outward.decaying (inner_of g o) B off in
           let back : is_none r.outward.length_from ≡ true =
-          unknown _ 5 _ _ (law.positions.inner_from k r d.end (g.bypass o).inner o here d.is d.link
+          unknown _ 5 _ _ (law.positions.inner_from k r d.end (g.bypass o).inner o here d.there d.on_link
           (law.bypasses.inner_by o (grind (arith, at.stage, nat_tests)))) (grind (arith, at.stage, nat_tests)) in
           rw (e, decaying, back) refl
 

@@ -15,8 +15,8 @@ use Rattle.ipcz_world.proofs.frames.RecordRules.{bypass_of-inner}
 use Rattle.ipcz_world.specs.Structure.{is_begun_router}
 use Rattle.ipcz_world.specs.Laws.{Knows, OutwardTo, OutwardFrom, InwardTo, InwardFrom, Accepting, StoppingIn, StoppingOut, StoppingInner}
 use Rattle.ipcz_world.specs.Laws.{StoppingInnerOut, Ending, LengthLaw}
-use Rattle.ipcz_world.proofs.facts.LinkTests.{IsLinkEnd, has_link-tells, same_side-opposite, side_is, IsKnown, known_from-tells}
-use Rattle.ipcz_world.proofs.facts.Lengths.{same_side-tells, opposite-twice, known_from-yes, same_side-itself}
+use Rattle.ipcz_world.proofs.facts.LinkTests.{same_side-opposite, side_is, IsKnown, known_from-tells}
+use Rattle.ipcz_world.proofs.facts.Lengths.{same_side-tells, opposite-twice, known_from-yes, same_side-itself, HasEnd, has_link-tells}
 use Rattle.ipcz_world.proofs.flows.Flowing.{found}
 use Rattle.ipcz_world.proofs.views.Known.{attached_recorded}
 use Rattle.ipcz_world.proofs.views.Telling.{IsAccept, accept_told, IsStop, stop_told, will_stop_told}
@@ -402,12 +402,12 @@ module _ (w : World) (b : Books) (g : Records) (law : Inv w b g) where
       go : (c : Bool) → has_link q.outward.primary (Central i) (across_side g i) ≡ c →
           Knows w (Central i) (proxy_side g i) (g.bypass i).taken_at
       go true e =
-          let d : IsLinkEnd q.outward.primary (Central i) (across_side g i) = has_link-tells _ _ _ e in
-          absurd (omega (arith, late, law.positions.primary_old j q d.end i at d.is d.link begun))
+          let d : HasEnd q.outward.primary (Central i) (across_side g i) = has_link-tells _ _ _ e in
+          absurd (omega (arith, late, law.positions.primary_old j q d.end i at d.there d.on_link begun))
       go false e =
-          let d : IsLinkEnd q.outward.decaying (Central i) (across_side g i) = has_link-tells _ _ _ (grind (arith, e, on)) in
-          OutwardFrom j q d.end at d.is (law.positions.across_from j q d.end i at d.is d.link d.side) d.link
-          (ap opposite d.side ∙ opposite-twice (proxy_side g i))
+          let d : HasEnd q.outward.decaying (Central i) (across_side g i) = has_link-tells _ _ _ (grind (arith, e, on)) in
+          OutwardFrom j q d.end at d.there (law.positions.across_from j q d.end i at d.there d.on_link d.at_side) d.on_link
+          (ap opposite d.at_side ∙ opposite-twice (proxy_side g i))
 
   -- the inward link of a proxy that is being bypassed decays
   inner_decays : (p k : Key) (r : Router) (o : ℕ) → router_at w k ≡ Some r → is_attached (inner_link p) A r ≡ true →
@@ -418,10 +418,10 @@ module _ (w : World) (b : Books) (g : Records) (law : Inv w b g) where
       go : (c : Bool) → has_link (inward_edge r).primary (inner_link p) A ≡ c →
           (e : LinkEnd) × ((inward_edge r).decaying ≡ Some e) × (e.link ≡ inner_link p) × (e.side ≡ A)
       go true e =
-          let d : IsLinkEnd (inward_edge r).primary (inner_link p) A = has_link-tells _ _ _ e in
-          absurd (none-some o (sym (law.positions.inward_primary k r d.end here d.is) ∙ ap (bypass_of g) d.link ∙ bypass_of-inner g p ∙ by))
-      go false e = let d : IsLinkEnd (inward_edge r).decaying (inner_link p) A = has_link-tells _ _ _ (grind (arith, e, on)) in
-          (d.end, d.is, d.link, d.side)
+          let d : HasEnd (inward_edge r).primary (inner_link p) A = has_link-tells _ _ _ e in
+          absurd (none-some o (sym (law.positions.inward_primary k r d.end here d.there) ∙ ap (bypass_of g) d.on_link ∙ bypass_of-inner g p ∙ by))
+      go false e = let d : HasEnd (inward_edge r).decaying (inner_link p) A = has_link-tells _ _ _ (grind (arith, e, on)) in
+          (d.end, d.there, d.on_link, d.at_side)
 
   -- StopProxying is under way to the proxy at stage 3
   record StopsAt (o : ℕ) : Type 0 where

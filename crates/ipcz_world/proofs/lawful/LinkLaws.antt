@@ -11,8 +11,8 @@ use Rattle.ipcz_word.specs.Word.{is_free}
 use Rattle.ipcz_world.proofs.frames.RecordRules.{bypass_of-central, record_rules}
 use Rattle.ipcz_world.specs.Standing.{has_inward_primary}
 use Rattle.ipcz_world.specs.Laws.{There, LinkLaw, IsBypassed, BypassLaw}
-use Rattle.ipcz_world.proofs.facts.LinkTests.{IsLinkEnd, has_link-tells, same_side-opposite}
-use Rattle.ipcz_world.proofs.facts.Lengths.{same_side-itself}
+use Rattle.ipcz_world.proofs.facts.LinkTests.{same_side-opposite}
+use Rattle.ipcz_world.proofs.facts.Lengths.{same_side-itself, HasEnd, has_link-tells}
 use Rattle.ipcz_world.proofs.views.Telling.{old_begun}
 
 -- a router is known, stands, and passes a test
@@ -50,15 +50,15 @@ pub record IsOn (w : World) (g : Records) (k : Key) (r : Router) (i : ℕ) (s : 
 pub on_tells : (w : World) (b : Books) (g : Records) (k : Key) (r : Router) (i : ℕ) (s : Side) → Inv w b g → router_at w k ≡ Some r →
     has_primary (Central i) s r ≡ true → IsOn w g k r i s
 on_tells w b g k r i s law here on =
-    let e : IsLinkEnd r.outward.primary (Central i) s = has_link-tells r.outward.primary (Central i) s on in
-    let rec : IsRecorded w g k r e.end = law.links.primary k r e.end here e.is in
+    let e : HasEnd r.outward.primary (Central i) s = has_link-tells r.outward.primary (Central i) s on in
+    let rec : IsRecorded w g k r e.end = law.links.primary k r e.end here e.there in
     record {
       end = e.end;
-      is = e.is;
-      link = e.link;
-      side = e.side;
-      linked = grind (arith, record_rules, rec.recorded, e.link);
-      router = rw (e.link, e.side) at rec.router;
+      is = e.there;
+      link = e.on_link;
+      side = e.at_side;
+      linked = grind (arith, record_rules, rec.recorded, e.on_link);
+      router = rw (e.on_link, e.at_side) at rec.router;
     }
 
 -- whose side is marked and unheld where its link is being bypassed
@@ -162,8 +162,8 @@ begun_bypassed w b g i law begun = record {
     inward : (k : Key) (r : Router) → router_at w k ≡ Some r → (c : Bool) → has_inward_primary (Central i) (proxy_side g i) r ≡ c →
         c ≡ false
     inward k r here true e =
-        let t : IsLinkEnd (inward_edge r).primary (Central i) (proxy_side g i) = has_link-tells _ _ _ e in
-        absurd (not_inward t.end (law.links.inward_primary_inward k r t.end here t.is) t.link)
+        let t : HasEnd (inward_edge r).primary (Central i) (proxy_side g i) = has_link-tells _ _ _ e in
+        absurd (not_inward t.end (law.links.inward_primary_inward k r t.end here t.there) t.on_link)
     inward k r here false e = refl
 
     apart : (s : Side) → s ≡ opposite s → ⊥

@@ -9,6 +9,7 @@ use Rattle.ipcz_world.proofs.Vocabulary.{ends_in, opposite, Edge, Router, is_ter
 use Rattle.ipcz_world.proofs.Vocabulary.{output_of, RouterAct, Close, Node, Found, router_in, with_router, bare_node, terminal_of, commit}
 use Rattle.ipcz_world.proofs.Vocabulary.{World, Key, node_at, router_at, answer_of, Books, Records, is_linked, is_recorded, bypass_of}
 use Rattle.ipcz_world.proofs.Vocabulary.{is_begun, side_router, side_end, has_primary, IsRecorded, is_outward, Inv}
+use Rattle.ipcz_world.proofs.facts.Lengths.{HasEnd, has_link-tells}
 use Rattle.ipcz_base.specs.declared.parcel.Parcel as parcels
 use Rattle.ipcz_base.specs.declared.message.Message.TheVariants as messages
 use Rattle.ipcz_base.specs.Ends.{end_at}
@@ -35,7 +36,6 @@ use Rattle.ipcz_world.specs.World.{new_world, new_nodes, numbers_from}
 use Rattle.ipcz_world.specs.Owed.{IsTerminalOn, IsDirectPair}
 use Rattle.ipcz_world.proofs.frames.Frames.{node-set_node, node-set_word, node-set_claimed, node-set_mail, count-set_node, count-set_word}
 use Rattle.ipcz_world.proofs.frames.Frames.{count-set_claimed, count-set_mail}
-use Rattle.ipcz_world.proofs.facts.LinkTests.{IsLinkEnd, has_link-tells}
 use Rattle.ipcz_world.proofs.sends.Moved.{passes_tells}
 use Rattle.ipcz_world.proofs.runs.NodeSteps.{IsKept}
 use Rattle.ipcz_world.proofs.lawful.Quiet.{key_of}
@@ -378,13 +378,13 @@ module _ (w : World) (b : Books) (g : Records) (law : Inv w b g) (alone : IsAlon
     on_link s =
         let k = known s in
         let t = passes_tells w k.0 (has_primary (Central pair) s) (law.stands.central pair s k.0 linked (not_begun pair) k.1) in
-        let e : IsLinkEnd t.0.outward.primary (Central pair) s = has_link-tells t.0.outward.primary (Central pair) s t.2 in
-        let at : IsRecorded w g k.0 t.0 e.end = law.links.primary k.0 t.0 e.end t.1 e.is in
+        let e : HasEnd t.0.outward.primary (Central pair) s = has_link-tells t.0.outward.primary (Central pair) s t.2 in
+        let at : IsRecorded w g k.0 t.0 e.end = law.links.primary k.0 t.0 e.end t.1 e.there in
         record {
           key = k.0;
           router = t.0;
           here = t.1;
-          end = at.end ∙ ap (λ l. side_end g l e.end.side) e.link ∙ ap (λ z. side_end g (Central pair) z) e.side ∙ ap (λ p. end_at p s) own;
+          end = at.end ∙ ap (λ l. side_end g l e.end.side) e.on_link ∙ ap (λ z. side_end g (Central pair) z) e.at_side ∙ ap (λ p. end_at p s) own;
           terminal = terminal k.0 t.0 t.1;
           on = t.2;
           still = still k.0 t.0 t.1 t.0.outward.decaying refl;

@@ -12,12 +12,11 @@ use Rattle.ipcz_world.specs.Owed.{IsBypassing, IsInnerOf, TakesAway, takes_link,
 use Rattle.ipcz_world.proofs.flows.Flowing.{found}
 use Rattle.ipcz_world.proofs.lawful.LengthLaws.{outward_case, inward_case}
 use Rattle.ipcz_world.specs.Laws.{names_old}
-use Rattle.ipcz_world.proofs.facts.LinkTests.{IsLinkEnd, has_link-tells}
 use Rattle.ipcz_world.proofs.sends.Moved.{passes_tells}
 use Rattle.ipcz_world.proofs.views.Telling.{IsPeer, IsAccept, IsStop, IsWillStop, peer_told, accept_told, stop_told, will_stop_told}
 use Rattle.ipcz_world.proofs.views.Telling.{one_holds}
 use Rattle.std.proofs.lemmas.Bool.{or_left, or_right}
-use Rattle.ipcz_world.proofs.facts.Lengths.{same_link-itself}
+use Rattle.ipcz_world.proofs.facts.Lengths.{same_link-itself, HasEnd, has_link-tells}
 
 not_known : (first stage n : ℕ) (x : Option ℕ) → x ≡ known_from first stage n → x ≡ None → stage < first
 unfolding known_from
@@ -45,9 +44,9 @@ module _ (w : World) (b : Books) (g : Records) (law : Inv w b g) where
       let s = passes_tells w (g.bypass o).proxy (has_decaying (Central o) (proxy_side g o)) (law.stages.proxy_old o begun early) in
       let t = passes_tells w (g.bypass o).proxy (has_inward_decaying (inner_of g o) A) (law.stages.proxy_inner o begun early) in
       let same : t.0 ≡ s.0 = same_Some t.0 s.0 (sym t.1 ∙ s.1) in
-      let e : IsLinkEnd s.0.outward.decaying (Central o) (proxy_side g o) =
+      let e : HasEnd s.0.outward.decaying (Central o) (proxy_side g o) =
       has_link-tells s.0.outward.decaying (Central o) (proxy_side g o) s.2 in
-      let d : IsLinkEnd (inward_edge s.0).decaying (inner_of g o) A =
+      let d : HasEnd (inward_edge s.0).decaying (inner_of g o) A =
       has_link-tells (inward_edge s.0).decaying (inner_of g o) A (subst (λ r. has_inward_decaying (inner_of g o) A r ≡ true) same t.2)
       in
       record {
@@ -56,10 +55,10 @@ module _ (w : World) (b : Books) (g : Records) (law : Inv w b g) where
         outer = e.end;
         inner = d.end;
         here = s.1;
-        outward = e.is;
-        outer_link = e.link;
-        inward = d.is;
-        inner_link = d.link ∙ sym q;
+        outward = e.there;
+        outer_link = e.on_link;
+        inward = d.there;
+        inner_link = d.on_link ∙ sym q;
       }
 
   -- which link: the old one before the proxy is told, or the inner one

@@ -3,6 +3,7 @@ use Rattle.ipcz_world.proofs.Vocabulary.{Records, Owner, Spare, Opening, Fresh, 
 use Rattle.ipcz_world.proofs.Vocabulary.{side_end, across_side, Side, A, B, LinkId, Central, Peripheral, LinkEnd, Message, has, same_link}
 use Rattle.ipcz_world.proofs.Vocabulary.{has_link, Router, router_has, inward_edge, World, Key, word_at, router_at, flow, Books}
 use Rattle.ipcz_world.proofs.Vocabulary.{IsUnderWay, under_way, has_primary, IsRecorded, Links, of_bypass, control_weight, Inv}
+use Rattle.ipcz_world.proofs.facts.Lengths.{HasEnd, has_link-tells}
 use Rattle.ipcz_world.specs.Records.{routes_of, Unclaimed}
 use Rattle.std.specs.Prelude.{◌≡◌, ◌⊎◌, ℕ, Bool, true, false, cond, nat_eq, Option, Some, None, refl}
 use Rattle.std.proofs.Common.{arith, ap, subst, ◌∙◌, sym, inl, inr}
@@ -12,7 +13,6 @@ use Rattle.ipcz_base.specs.declared.message.Message.TheVariants as messages
 use Rattle.ipcz_router.specs.Router.{outward_has, inward_has}
 use Rattle.ipcz_world.proofs.frames.RecordRules.{record_rules, unclaimed-is}
 use Rattle.ipcz_world.specs.Laws.{fresh_count, IsOnLink, names_link, WordLaw}
-use Rattle.ipcz_world.proofs.facts.LinkTests.{IsLinkEnd, has_link-tells}
 use Rattle.ipcz_world.proofs.views.Telling.{IsPeer, peer_told, accept_told, stop_told, will_stop_told}
 use Rattle.ipcz_world.proofs.lawful.LinkLaws.{Passes, passes-tells}
 use Rattle.std.proofs.lemmas.Bool.{or_cases}
@@ -28,9 +28,9 @@ pub record HasAt (w : World) (g : Records) (k : Key) (r : Router) (link : LinkId
 of_end : (w : World) (g : Records) (k : Key) (r : Router) (t : Option LinkEnd) (link : LinkId) (s : Side) → has_link t link s ≡ true →
     ((d : LinkEnd) → t ≡ Some d → IsRecorded w g k r d) → HasAt w g k r link s
 of_end w g k r t link s h rec =
-    let e : IsLinkEnd t link s = has_link-tells t link s h in
-    let d : IsRecorded w g k r e.end = rec e.end e.is in
-    record { recorded = rw (e.link) at d.recorded; router = rw (e.link, e.side) at d.router; end = rw (e.link, e.side) at d.end }
+    let e : HasEnd t link s = has_link-tells t link s h in
+    let d : IsRecorded w g k r e.end = rec e.end e.there in
+    record { recorded = rw (e.on_link) at d.recorded; router = rw (e.on_link, e.at_side) at d.router; end = rw (e.on_link, e.at_side) at d.end }
 
 pub has_at : (w : World) (g : Records) (k : Key) (r : Router) (link : LinkId) (s : Side) → Links w g → router_at w k ≡ Some r →
     router_has r link s ≡ true → HasAt w g k r link s
