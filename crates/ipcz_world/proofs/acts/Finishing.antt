@@ -293,7 +293,8 @@ edge-gave l s e d is had hasnt = go (has_link e.decaying l s) refl
   where
     go : (c : Bool) → has_link e.decaying l s ≡ c → Names d l s
     go true h = let t : HasEnd e.decaying l s = has_link-tells e.decaying l s h in let same : d ≡ t.end =
-        same_Some d t.end (sym is ∙ t.there) in record { link = ap (λ x. x.link) same ∙ t.on_link; side = ap (λ x. x.side) same ∙ t.at_side }
+        same_Some d t.end (sym is ∙ t.there) in
+        record { link = ap (λ x. x.link) same ∙ t.on_link; side = ap (λ x. x.side) same ∙ t.at_side }
     go false h = absurd (grind (arith, had, hasnt, h))
 
 inward-finish : (r : Router) → inward_edge (finish_in r) ≡ finish (inward_edge r)

@@ -256,10 +256,12 @@ module _ (w : World) (b : Books) (g : Records) (law : Inv w b g) where
           let inner : has_inward_decaying (inner_of g o) A r ≡ true =
           sym (passes-at w _ k r (has_inward_decaying (inner_of g o) A) proxy here) ∙ law.stages.proxy_inner o begun early in
           let i : HasEnd (inward_edge r).decaying (inner_of g o) A = has_link-tells (inward_edge r).decaying (inner_of g o) A inner in
-          let to : is_none r.outward.length_to ≡ true = unknown _ 4 _ _ (law.positions.own_to k r d.end o here d.there d.on_link d.at_side) late in
-          let back : is_none r.outward.length_from ≡ true = unknown _ 4 _ _ (law.positions.own_from k r d.end o here d.there d.on_link d.at_side)
-          late in
-          let in_to : is_none (inward_edge r).length_to ≡ true = unknown _ 4 _ _ (law.positions.inward_to k r i.end o here i.there owns) late
+          let to : is_none r.outward.length_to ≡ true =
+          unknown _ 4 _ _ (law.positions.own_to k r d.end o here d.there d.on_link d.at_side) late in
+          let back : is_none r.outward.length_from ≡ true =
+          unknown _ 4 _ _ (law.positions.own_from k r d.end o here d.there d.on_link d.at_side) late in
+          let in_to : is_none (inward_edge r).length_to ≡ true =
+          unknown _ 4 _ _ (law.positions.inward_to k r i.end o here i.there owns) late
           in
           let in_back : is_none (inward_edge r).length_from ≡ true =
           unknown _ 4 _ _ (law.positions.inward_from k r i.end o here i.there owns) late in

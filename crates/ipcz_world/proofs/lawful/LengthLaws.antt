@@ -419,7 +419,8 @@ module _ (w : World) (b : Books) (g : Records) (law : Inv w b g) where
           (e : LinkEnd) × ((inward_edge r).decaying ≡ Some e) × (e.link ≡ inner_link p) × (e.side ≡ A)
       go true e =
           let d : HasEnd (inward_edge r).primary (inner_link p) A = has_link-tells _ _ _ e in
-          absurd (none-some o (sym (law.positions.inward_primary k r d.end here d.there) ∙ ap (bypass_of g) d.on_link ∙ bypass_of-inner g p ∙ by))
+          let none = sym (law.positions.inward_primary k r d.end here d.there) in
+          absurd (none-some o (none ∙ ap (bypass_of g) d.on_link ∙ bypass_of-inner g p ∙ by))
       go false e = let d : HasEnd (inward_edge r).decaying (inner_link p) A = has_link-tells _ _ _ (grind (arith, e, on)) in
           (d.end, d.there, d.on_link, d.at_side)
 

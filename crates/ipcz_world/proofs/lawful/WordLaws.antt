@@ -30,7 +30,11 @@ of_end : (w : World) (g : Records) (k : Key) (r : Router) (t : Option LinkEnd) (
 of_end w g k r t link s h rec =
     let e : HasEnd t link s = has_link-tells t link s h in
     let d : IsRecorded w g k r e.end = rec e.end e.there in
-    record { recorded = rw (e.on_link) at d.recorded; router = rw (e.on_link, e.at_side) at d.router; end = rw (e.on_link, e.at_side) at d.end }
+    record {
+      recorded = rw (e.on_link) at d.recorded;
+      router = rw (e.on_link, e.at_side) at d.router;
+      end = rw (e.on_link, e.at_side) at d.end;
+    }
 
 pub has_at : (w : World) (g : Records) (k : Key) (r : Router) (link : LinkId) (s : Side) → Links w g → router_at w k ≡ Some r →
     router_has r link s ≡ true → HasAt w g k r link s
