@@ -1,8 +1,8 @@
 -- Places one under the other, with one more.
 use Rattle.std.proofs.Common.{◌≡◌, ℕ, zero, suc, ◌+◌, ◌*◌, ◌<◌, ◌≤◌, ◌++◌, [], ◌∷◌, List, length, get_or, flat_map, length-append, arith, refl, ◌∙◌}
-use Rattle.ipcz_draw.specs.declared.line.ReadLine.{ReadLine}
+use Rattle.ipcz_lines.specs.declared.line.ReadLine.{ReadLine}
 use Rattle.ipcz_draw.specs.declared.rows.Place.{Place}
-use Rattle.ipcz_draw.specs.Lines.{with_line_feed}
+use Rattle.ipcz_lines.specs.Lines.{with_line_feed}
 use Rattle.ipcz_draw.specs.Rows.{Follow, IsPlace}
 
 pub follow_one : (read : List ReadLine) (from top : ℕ) (ps : List Place) (to bottom : ℕ) (p : Place) → Follow read from top ps to bottom

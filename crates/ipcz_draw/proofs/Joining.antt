@@ -5,8 +5,8 @@ use Rattle.std.proofs.lemmas.Bool.{cases_order}
 use Rattle.std.proofs.lemmas.List.Elements.{All-set}
 use Rattle.std.proofs.Math.ListN.{set}
 use Rattle.ipcz_draw.specs.declared.messages.Message.{Message}
-use Rattle.ipcz_draw.specs.declared.line.Line.{Line}
-use Rattle.ipcz_draw.specs.declared.line.ReadLine.{ReadLine}
+use Rattle.ipcz_lines.specs.declared.line.Line.{Line}
+use Rattle.ipcz_lines.specs.declared.line.ReadLine.{ReadLine}
 use Rattle.ipcz_draw.specs.Messages.{IsAt, IsHanded, IsLooked, IsMessage, IsPosted, KeepsWay, IsNext}
 
 some_line : (read : List ReadLine) (j : ℕ) → j < length read → ReadLine

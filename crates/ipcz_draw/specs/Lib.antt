@@ -1,7 +1,4 @@
 pub mod Devices
-pub mod LineParts
-pub mod Lines
-pub mod Markup
 pub mod Messages
 pub mod Outputs
 pub mod Rows

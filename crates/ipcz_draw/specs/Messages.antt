@@ -2,10 +2,10 @@
 use Rattle.std.specs.Prelude.{ℕ, Bool, true, false, ◌≡◌, ◌+◌, ◌<◌, ◌==◌, ◌&&◌, ◌||◌, ◌⊎◌, List, length, Option, Some, None}
 use Rattle.std.specs.List.{AllWithin, HoldsAt}
 use Rattle.std.specs.Option.{IfSome, IfNone}
-use Rattle.ipcz_draw.specs.declared.line.Line.{Line}
-use Rattle.ipcz_draw.specs.declared.line.Line.TheVariants as lines
-use Rattle.ipcz_draw.specs.declared.line.Event.TheVariants as events
-use Rattle.ipcz_draw.specs.declared.line.ReadLine.{ReadLine}
+use Rattle.ipcz_lines.specs.declared.line.Line.{Line}
+use Rattle.ipcz_lines.specs.declared.line.Line.TheVariants as lines
+use Rattle.ipcz_lines.specs.declared.line.Event.TheVariants as events
+use Rattle.ipcz_lines.specs.declared.line.ReadLine.{ReadLine}
 use Rattle.ipcz_draw.specs.declared.messages.Message.{Message}
 
 -- a post from one node to another

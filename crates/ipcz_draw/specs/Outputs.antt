@@ -2,13 +2,13 @@
 use Rattle.std.specs.Prelude.{ℕ, ◌≡◌, ◌≤◌, ◌↔◌, Bool, true, false, IsTrue, IsErrOf, List, [], ◌∷◌, ◌++◌, ◌==◌, if◌then◌else◌, codes, length, Option, Result, Ok, Err}
 use Rattle.std.specs.Fmt.{decimal}
 use Rattle.std.specs.Io.KnownBytes.{Consumes, IsAtEnd, Appends, Keeps}
-use Rattle.ipcz_draw.specs.declared.line.ReadLine.{ReadLine}
-use Rattle.ipcz_draw.specs.declared.line.Unread.TheVariants as unread
+use Rattle.ipcz_lines.specs.declared.line.ReadLine.{ReadLine}
+use Rattle.ipcz_lines.specs.declared.line.Unread.TheVariants as unread
 use Rattle.ipcz_draw.specs.declared.ending.Ending.{Ending}
 use Rattle.ipcz_draw.specs.declared.ending.Ending.TheVariants as endings
 use Rattle.ipcz_draw.specs.declared.fault.Fault.{Fault}
 use Rattle.ipcz_draw.specs.declared.fault.Fault.TheVariants as faults
-use Rattle.ipcz_draw.specs.Lines.{IsRead, IsRefused}
+use Rattle.ipcz_lines.specs.Lines.{IsRead, IsRefused}
 use Rattle.ipcz_draw.specs.Rows.{IsPicture}
 use Rattle.ipcz_draw.specs.WholeIo.{AppendsFront, ConsumesAtMost}
 

@@ -1,13 +1,13 @@
 -- The rows of a picture: which lines stand in each, how far down it begins, and how high it is.
 use Rattle.std.specs.Prelude.{ℕ, ◌+◌, ◌*◌, ◌/◌, ◌≡◌, ◌≤◌, ◌<◌, ◌==◌, Bool, true, false, if◌then◌else◌, List, [], ◌∷◌, length, map, take, drop, min, max, count_by}
 use Rattle.std.specs.List.{AllWithin, HoldsAt}
-use Rattle.ipcz_draw.specs.declared.line.Line.{Line}
-use Rattle.ipcz_draw.specs.declared.line.Line.TheVariants as lines
-use Rattle.ipcz_draw.specs.declared.line.Event.{Event}
-use Rattle.ipcz_draw.specs.declared.line.Event.TheVariants as events
-use Rattle.ipcz_draw.specs.declared.line.ReadLine.{ReadLine}
+use Rattle.ipcz_lines.specs.declared.line.Line.{Line}
+use Rattle.ipcz_lines.specs.declared.line.Line.TheVariants as lines
+use Rattle.ipcz_lines.specs.declared.line.Event.{Event}
+use Rattle.ipcz_lines.specs.declared.line.Event.TheVariants as events
+use Rattle.ipcz_lines.specs.declared.line.ReadLine.{ReadLine}
 use Rattle.ipcz_draw.specs.declared.rows.Place.{Place}
-use Rattle.ipcz_draw.specs.Markup.{IsDocument, Row}
+use Rattle.ipcz_markup.specs.Markup.{IsDocument, Row}
 
 -- whether a turn did nothing
 abbrev pub is_idle_turn : Event → Bool

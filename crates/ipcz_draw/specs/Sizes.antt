@@ -1,7 +1,7 @@
 -- How many bytes of a picture a line takes at most.
 use Rattle.std.specs.Prelude.{ℕ, ◌+◌, ◌*◌, length}
-use Rattle.ipcz_draw.specs.declared.line.Line.{Line}
-use Rattle.ipcz_draw.specs.declared.line.Line.TheVariants as lines
+use Rattle.ipcz_lines.specs.declared.line.Line.{Line}
+use Rattle.ipcz_lines.specs.declared.line.Line.TheVariants as lines
 
 -- the marks of a line: a word's name and cells for each value of a line of words
 abbrev pub most_marks : Line → ℕ

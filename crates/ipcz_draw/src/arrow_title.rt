@@ -1,12 +1,11 @@
 //! What the title and the label of a message say.
 
 ghost use Rattle.std.specs.Prelude.{◌≡◌, ◌+◌, ◌*◌, ◌≤◌, ◌∷◌, List, ℕ, length};
-ghost use Rattle.ipcz_draw.specs.Markup.{Grows, InText, Keeps, Row, Stands};
+ghost use Rattle.ipcz_markup.specs.Markup.{Grows, InText, Keeps, Row, Stands};
 
-use crate::arrow_looks::{Look, Stroke};
-use crate::line::{Kind, Link};
 use crate::messages::Message;
-use crate::writer::{Tag, Writer};
+use ipcz_lines::{Kind, Link};
+use ipcz_markup::{Look, Stroke, Tag, Writer};
 
 /// The look of a message, by its kind.
 pub fn look_of(message: &Message) -> Look {

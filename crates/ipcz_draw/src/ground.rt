@@ -1,14 +1,13 @@
 //! The ground of a picture: stripes, the nodes' bands, and whose turn it is.
 
 ghost use Rattle.std.specs.Prelude.{◌≡◌, ◌+◌, ◌*◌, ◌≤◌, ◌∷◌, List, ℕ, length};
-ghost use Rattle.ipcz_draw.specs.declared.writer.Tag.{Tag};
-ghost use Rattle.ipcz_draw.specs.Markup.{Grows, InText, Keeps, Row, Stands};
+ghost use Rattle.ipcz_markup.specs.declared.writer.Tag.{Tag};
+ghost use Rattle.ipcz_markup.specs.Markup.{Grows, InText, Keeps, Row, Stands};
 
-use crate::class::Class;
-use crate::line::{Event, Line};
 use crate::rows::{TOP, UNIT};
 use crate::scene::{Scene, Walls};
-use crate::writer::{Tag, Writer};
+use ipcz_lines::{Event, Line};
+use ipcz_markup::{Class, Tag, Writer};
 
 // The band of a node, with its name above it.
 fn draw_band(out: &mut Writer, node: u64, walls: Walls, bottom: u64)

@@ -1,11 +1,9 @@
 //! The heading of a picture: what it is, and what its marks mean.
 
 ghost use Rattle.std.specs.Prelude.{◌≡◌, ◌+◌, ◌*◌, ◌≤◌, ◌∷◌, List, ℕ, length};
-ghost use Rattle.ipcz_draw.specs.Markup.{Grows, InText, Keeps, Row, Stands};
+ghost use Rattle.ipcz_markup.specs.Markup.{Grows, InText, Keeps, Row, Stands};
 
-use crate::arrow_looks::{Look, Stroke};
-use crate::class::Class;
-use crate::writer::{Tag, Writer};
+use ipcz_markup::{Class, Look, Stroke, Tag, Writer};
 
 const ARROWS: u64 = 46;
 

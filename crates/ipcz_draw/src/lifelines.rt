@@ -1,13 +1,12 @@
 //! The lifelines of routers: full, hollow for a proxy, dashed once its bypass has begun.
 
 ghost use Rattle.std.specs.Prelude.{◌≡◌, ◌+◌, ◌*◌, ◌≤◌, ◌∷◌, List, ℕ, length};
-ghost use Rattle.ipcz_draw.specs.Markup.{Grows, InText, Keeps, Row, Stands};
+ghost use Rattle.ipcz_markup.specs.Markup.{Grows, InText, Keeps, Row, Stands};
 
-use crate::class::Class;
 use crate::lanes::Lane;
 use crate::routers::Router;
 use crate::scene::Scene;
-use crate::writer::{Tag, Writer};
+use ipcz_markup::{Class, Tag, Writer};
 
 // A part of a lifeline, from one height down to another.
 fn draw_part(out: &mut Writer, x: u64, from: u64, to: u64, class: Class)

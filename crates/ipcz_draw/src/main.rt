@@ -1,10 +1,8 @@
 //! `ipcz_draw` reads a transcript of `ipcz_run` from standard input, and writes a picture of it, an SVG, to standard output.
 #![tactic(auto)]
 
-pub mod arrow_looks;
 pub mod arrow_title;
 pub mod arrows;
-pub mod class;
 pub mod device;
 pub mod ending;
 pub mod fault;
@@ -12,7 +10,6 @@ pub mod ground;
 pub mod heading;
 pub mod lanes;
 pub mod lifelines;
-pub mod line;
 pub mod marks;
 pub mod messages;
 pub mod output;
@@ -22,13 +19,10 @@ pub mod routers;
 pub mod row;
 pub mod rows;
 pub mod scene;
-pub mod shapes;
 #[cfg(test)]
 mod slow_devices;
-pub mod style;
 pub mod whole_io;
 pub mod word_cells;
-pub mod writer;
 
 use device::Device;
 use program::{has_arguments, run_program};

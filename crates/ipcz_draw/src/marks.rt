@@ -1,15 +1,14 @@
 //! The marks in a row: what a router did, a node's close, an idle turn, words.
 
 ghost use Rattle.std.specs.Prelude.{◌≡◌, ◌+◌, ◌*◌, ◌≤◌, ◌∷◌, List, ℕ, length};
-ghost use Rattle.ipcz_draw.specs.Markup.{Grows, InText, Keeps, Row, Stands};
+ghost use Rattle.ipcz_markup.specs.Markup.{Grows, InText, Keeps, Row, Stands};
 ghost use Rattle.ipcz_draw.specs.Sizes.{most_marks};
 
 use crate::arrow_title::write_link;
-use crate::class::Class;
-use crate::line::{Event, Line, Link, ReadLine, RouterEvent, WordStep};
 use crate::scene::Scene;
 use crate::word_cells::{draw_word, draw_words};
-use crate::writer::{Tag, Writer};
+use ipcz_lines::{Event, Line, Link, ReadLine, RouterEvent, WordStep};
+use ipcz_markup::{Class, Tag, Writer};
 
 // The middle of a row, from its top.
 const MIDDLE: u64 = 9;

@@ -14,8 +14,8 @@ mod namings;
 #[cfg(test)]
 mod tests;
 
-use crate::line::{Kind, Link};
 pub use births::note_births;
+use ipcz_lines::{Kind, Link};
 pub use making::messages;
 
 /// A message, with the indices of the lines at which it was made, posted, looked at and handled, and of its routers, where

@@ -1,16 +1,16 @@
 //! A transcript to its picture, from bytes to bytes.
 
 ghost use Rattle.std.specs.Prelude.{◌≡◌, ◌↔◌, ◌++◌, false, length, IsTrue, IsErrOf, IfOk, OnOk};
-ghost use Rattle.ipcz_draw.specs.Lines.{IsRead, IsRefused};
+ghost use Rattle.ipcz_lines.specs.Lines.{IsRead, IsRefused};
 ghost use Rattle.ipcz_draw.specs.Outputs.{bad_line, long_line, refused_line, IsOutput, ReadsAndWrites};
 ghost use Rattle.ipcz_draw.specs.Rows.{IsPicture};
 
 use crate::device::Device;
 use crate::ending::Ending;
 use crate::fault::Fault;
-use crate::line::{Unread, read};
 use crate::picture::picture;
 use crate::whole_io::{read_up_to, write_whole};
+use ipcz_lines::{Unread, read};
 use std::alloc::{AllocError, Global};
 use std::io;
 use std::io::{Read, Write};

@@ -1,8 +1,8 @@
 //! A picture: its heading, its ground, and a row for each line.
 
 ghost use Rattle.std.specs.Prelude.{◌≡◌, ◌++◌, ◌+◌, ◌*◌, ◌^◌, ◌≤◌, ◌<◌, ◌∷◌, [], List, ℕ, length, map, IfOk};
-ghost use Rattle.ipcz_draw.specs.declared.writer.Tag.{Tag};
-ghost use Rattle.ipcz_draw.specs.Markup.{Grows, InTag, InText, Keeps, KeepsTag, Row, Stands};
+ghost use Rattle.ipcz_markup.specs.declared.writer.Tag.{Tag};
+ghost use Rattle.ipcz_markup.specs.Markup.{Grows, InTag, InText, Keeps, KeepsTag, Row, Stands};
 ghost use Rattle.ipcz_draw.specs.Rows.{row_at, Follow, IsPicture};
 
 use crate::arrows::draw_messages;
@@ -10,14 +10,13 @@ use crate::ground::draw_ground;
 use crate::heading::draw_heading;
 use crate::lanes::lanes;
 use crate::lifelines::{draw_lifelines, draw_names};
-use crate::line::ReadLine;
 use crate::messages::{messages, note_births};
 use crate::routers::{routers, see_messages};
 use crate::row::draw_row;
 use crate::rows::{Place, places};
 use crate::scene::Scene;
-use crate::style;
-use crate::writer::{Key, Tag, Writer};
+use ipcz_lines::ReadLine;
+use ipcz_markup::{Key, Tag, Writer, style};
 use std::alloc::{AllocError, Global};
 
 // The size of the picture, as attributes of its root.

@@ -3,8 +3,8 @@
 ghost use Rattle.std.specs.Prelude.{◌≡◌, ◌<◌, length, IfSome, IfNone};
 ghost use Rattle.std.specs.List.{AllWithin, HoldsAt};
 
-use crate::line::{Event, Line, ReadLine, RouterEvent, Way};
 use crate::messages::Message;
+use ipcz_lines::{Event, Line, ReadLine, RouterEvent, Way};
 use std::alloc::{AllocError, Global};
 
 /// A router, with the first and the last line that it is seen at, and the lines at which it left, was known to be a proxy

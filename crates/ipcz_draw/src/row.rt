@@ -1,16 +1,15 @@
 //! A row of a picture: its title, and its number and line in the gutter.
 
 ghost use Rattle.std.specs.Prelude.{◌≡◌, ◌++◌, ◌+◌, ◌*◌, ◌^◌, ◌≤◌, ◌<◌, ◌∷◌, [], List, ℕ, length, map};
-ghost use Rattle.ipcz_draw.specs.declared.writer.Tag.{Tag};
-ghost use Rattle.ipcz_draw.specs.Markup.{Grows, InText, Keeps, Row, Stands};
+ghost use Rattle.ipcz_markup.specs.declared.writer.Tag.{Tag};
+ghost use Rattle.ipcz_markup.specs.Markup.{Grows, InText, Keeps, Row, Stands};
 ghost use Rattle.ipcz_draw.specs.Rows.{row_at, IsPlace};
 
-use crate::class::Class;
-use crate::line::{Answer, Event, Line, ReadLine, RouterEvent};
 use crate::marks::draw_marks;
 use crate::rows::{Place, UNIT};
 use crate::scene::Scene;
-use crate::writer::{Tag, Writer};
+use ipcz_lines::{Answer, Event, Line, ReadLine, RouterEvent};
+use ipcz_markup::{Class, Tag, Writer};
 
 /// The most bytes of a line that stand in the gutter.
 pub const GUTTER: usize = 40;

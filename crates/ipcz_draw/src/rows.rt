@@ -4,7 +4,7 @@ ghost use Rattle.std.specs.Prelude.{◌≡◌, ◌+◌, ◌*◌, ◌^◌, ◌≤
 ghost use Rattle.std.specs.List.{AllWithin, HoldsAt};
 ghost use Rattle.ipcz_draw.specs.Rows.{is_idle, units_of, value_count, Follow, IsBusy, IsIdle, IsPlace};
 
-use crate::line::{Event, Line, ReadLine};
+use ipcz_lines::{Event, Line, ReadLine};
 use std::alloc::{AllocError, Global};
 
 /// How high a unit is.

@@ -1,12 +1,11 @@
 //! The values of link words: a name and two cells, one for each side.
 
 ghost use Rattle.std.specs.Prelude.{◌≡◌, ◌+◌, ◌*◌, ◌≤◌, ◌∷◌, List, ℕ, length};
-ghost use Rattle.ipcz_draw.specs.Markup.{Grows, InText, Keeps, Row, Stands};
+ghost use Rattle.ipcz_markup.specs.Markup.{Grows, InText, Keeps, Row, Stands};
 
-use crate::class::Class;
 use crate::rows::UNIT;
 use crate::scene::{Scene, WORDS};
-use crate::writer::{Tag, Writer};
+use ipcz_markup::{Class, Tag, Writer};
 
 // What a side's bits of a word say: stable, waiting, locked.
 #[derive(Clone, Copy)]

@@ -4,10 +4,10 @@
 //! their order. The router of that node that names such a link is the proxy that the move left behind; the router of another
 //! node that names it was made when the item was handled.
 
-use crate::line::{Event, Kind, Line, Link, ReadLine, RouterEvent};
 use crate::messages::Message;
 use crate::messages::namings::{Naming, namings, sole};
 use crate::routers::Router;
+use ipcz_lines::{Event, Kind, Line, Link, ReadLine, RouterEvent};
 use std::alloc::{AllocError, Global};
 
 /// An end that moved: the line of its send, the node that it left, and the link that the node made for it.

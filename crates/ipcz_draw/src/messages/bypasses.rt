@@ -1,7 +1,7 @@
 //! The bypasses that routers began, each named by the word of the link that it bypasses.
 
-use crate::line::{Event, Line, Link, ReadLine, RouterEvent};
 use crate::routers::{Router, find};
+use ipcz_lines::{Event, Line, Link, ReadLine, RouterEvent};
 use std::alloc::{AllocError, Global};
 
 /// A bypass: the word of its old link, its proxy by index, and the proxy's inward link, once that is known.

@@ -4,9 +4,9 @@ ghost use Rattle.std.specs.Prelude.{◌≡◌, ◌<◌, None, Some, length, IfOk
 ghost use Rattle.std.specs.List.{All};
 ghost use Rattle.ipcz_draw.specs.Messages.{IsAt, IsHandOf, IsHanded, IsLooked, IsMessage, IsPosted, is_any_look, is_hand, is_look, is_post};
 
-use crate::line::{Event, Line, ReadLine};
 use crate::messages::Message;
 use crate::messages::mailbox::{hand_of, is_settle, look_of, next_at_hand, next_at_mailbox};
+use ipcz_lines::{Event, Line, ReadLine};
 use std::alloc::{AllocError, Global};
 
 // The message with what its hand says of it.

@@ -4,7 +4,7 @@ ghost use Rattle.std.specs.Prelude.{◌≡◌, ◌<◌, ◌+◌, length, true, f
 ghost use Rattle.std.specs.List.{AllWithin};
 ghost use Rattle.ipcz_draw.specs.Messages.{IsAt, IsHandOf, IsLookOf, IsNext, is_hand, is_look, is_any_look, is_post, is_settle, touches_hand, touches_mailbox};
 
-use crate::line::{Event, Line, ReadLine};
+use ipcz_lines::{Event, Line, ReadLine};
 
 /// Whether a line is a settle.
 pub fn is_settle(line: &Line) -> bool

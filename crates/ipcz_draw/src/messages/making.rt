@@ -8,12 +8,12 @@ ghost use Rattle.std.specs.Prelude.{◌<◌, length, IfOk, OnOk};
 ghost use Rattle.std.specs.List.{All};
 ghost use Rattle.ipcz_draw.specs.Messages.{IsMessage, KeepsWay};
 
-use crate::line::{Event, Kind, Line, Link, ReadLine, RouterEvent, WordStep};
 use crate::messages::Message;
 use crate::messages::bypasses::{Bypass, bypasses, of_inner_link, of_old_link};
 use crate::messages::joining::joined;
 use crate::messages::namings::{Naming, namings, sole};
 use crate::routers::{Router, find};
+use ipcz_lines::{Event, Kind, Line, Link, ReadLine, RouterEvent, WordStep};
 use std::alloc::{AllocError, Global};
 
 /// A message that was made and not yet handled: the node and the line that made it, the router where it's known, and what is

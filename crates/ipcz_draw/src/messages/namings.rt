@@ -2,8 +2,8 @@
 
 ghost use Rattle.std.specs.Prelude.{◌≡◌, IfSome};
 
-use crate::line::{Event, Line, Link, ReadLine, RouterEvent};
 use crate::routers::{Router, find};
+use ipcz_lines::{Event, Line, Link, ReadLine, RouterEvent};
 use std::alloc::{AllocError, Global};
 
 /// That a router, by its index, names a link in a line.

@@ -1,8 +1,8 @@
 //! The messages of a run with one bypass and of one with two proxies, and of transcripts that no run makes.
 
 use super::*;
-use crate::line::{Kind, Link, read};
 use crate::routers::{Router, find, routers};
+use ipcz_lines::{Kind, Link, read};
 use std::process::Abort;
 use std::test::Fail;
 

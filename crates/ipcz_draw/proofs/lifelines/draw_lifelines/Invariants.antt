@@ -1,5 +1,5 @@
 use Rattle.std.proofs.Common.{◌*◌}
-use Rattle.ipcz_draw.specs.Markup.{Grows, Keeps}
+use Rattle.ipcz_markup.specs.Markup.{Grows, Keeps}
 use Rattle.ipcz_draw.proofs.lifelines.draw_lifelines.Given as goal
 
 -- what is open is as before, and few bytes were added for each

@@ -1,6 +1,6 @@
 use Rattle.std.proofs.Common.{[], ◌∷◌, map, take}
-use Rattle.ipcz_draw.specs.declared.writer.Tag.TheVariants as tags
-use Rattle.ipcz_draw.specs.Markup.{Stands, InText}
+use Rattle.ipcz_markup.specs.declared.writer.Tag.TheVariants as tags
+use Rattle.ipcz_markup.specs.Markup.{Stands, InText}
 use Rattle.ipcz_draw.specs.Rows.{row_at}
 use Rattle.ipcz_draw.proofs.picture.draw_rows.Given as goal
 

@@ -1,7 +1,7 @@
 use Rattle.std.proofs.Common.{◌≡◌, ◌+◌, ◌++◌, [], ◌∷◌, List, ℕ, length, map, take, drop, arith, sym, ap, ◌∙◌, subst, length-take, length-drop}
 use Rattle.std.proofs.lemmas.List.{length-map}
-use Rattle.ipcz_draw.specs.Markup.{InText, Stands}
-use Rattle.ipcz_draw.specs.declared.writer.Tag.TheVariants as tags
+use Rattle.ipcz_markup.specs.Markup.{InText, Stands}
+use Rattle.ipcz_markup.specs.declared.writer.Tag.TheVariants as tags
 use Rattle.ipcz_draw.proofs.Following.{two_of}
 use Rattle.ipcz_draw.proofs.row.begin_place.Goals as goal
 

@@ -1,5 +1,0 @@
-use Rattle.ipcz_draw.proofs.Parting.{words_line}
-use Rattle.ipcz_draw.proofs.line.reading.words.Goals as goal
-
-pub returns-then-are_words : goal.returns-then-are_words
-returns-then-are_words c = words_line c.args.bytes.now c.if-are_words.ensures

@@ -1,5 +1,0 @@
-use Rattle.std.proofs.Common.{length}
-use Rattle.ipcz_draw.proofs.line.words.+are_names.Given as goal
-
-abbrev pub decreases-are_names : goal.decreases-are_names
-decreases-are_names l = length l.text.now

@@ -1,6 +1,0 @@
-use Rattle.std.proofs.Common.{arith}
-use Rattle.ipcz_draw.proofs.Numbers.{too_large}
-use Rattle.ipcz_draw.proofs.line.words.word.Goals as goal
-
-pub returns-in_default : goal.returns-in_default
-returns-in_default c = too_large _ c.in-Some.n 4096 c.in-Some.ensures (omega arith)

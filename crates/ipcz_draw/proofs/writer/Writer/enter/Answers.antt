@@ -1,6 +1,0 @@
-use Rattle.ipcz_draw.proofs.Adding.{stands_after}
-use Rattle.ipcz_draw.specs.Markup.{InTag, InText, TagEnd}
-use Rattle.ipcz_draw.proofs.writer.Writer.enter.Goals as goal
-
-pub returns-clause-enters : goal.returns-clause-enters
-returns-clause-enters c rows s old = stands_after _ _ _ rows rows InTag InText s s c.add.ensures (λ l m. TagEnd m) old
