@@ -3,6 +3,7 @@
 use super::*;
 use crate::line::{Kind, Link, read};
 use crate::routers::{Router, find, routers};
+use std::alloc::Global;
 use std::process::Abort;
 use std::test::Fail;
 
