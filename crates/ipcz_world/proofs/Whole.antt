@@ -5,14 +5,14 @@ use Rattle.std.proofs.Common.{◌∙◌, arith, ap, subst, sym}
 use Rattle.ipcz_world.specs.declared.step.Step.TheVariants as steps
 use Rattle.std.specs.Prelude.{◌≡◌, true, false, nat_eq, is_some, ℕ, ◌<◌}
 use Rattle.std.proofs.lemmas.Bool.Decides.{nat_tests}
-use Rattle.ipcz_world.specs.World.{new_world, World, node_at}
-use Rattle.ipcz_world.specs.Books.{no_books, Books, is_closed}
+use Rattle.ipcz_world.proofs.Vocabulary.{World, node_at, Books, is_closed, End}
+use Rattle.ipcz_world.specs.World.{new_world}
+use Rattle.ipcz_world.specs.Books.{no_books}
 use Rattle.ipcz_world.specs.Routes.{first_routes, Routes}
 use Rattle.ipcz_world.specs.WorldLaws.{LawfulGivesHeadline, LawfulStraysNothing, LawfulOwes, TerminalsKeepBooks, EndsStandOnce}
 use Rattle.ipcz_world.specs.WorldLaws.{ListsHaveLengths, NodesAreSound, QuietDelivers, OneNodeIsDirect, StartsLawful, StepKeepsLawful}
 use Rattle.ipcz_world.specs.WorldLaws.{FirstIsPossible, ClaimKeepsLawful, RepliesPlainly, BeginsLocked, LinksStay, HeadlineHolds}
 use Rattle.ipcz_world.specs.WorldLaws.{ItemsStandOnce, NothingStrays, GetsStayQuiet, HeldHaveTerminals, HandsFit}
-use Rattle.ipcz_base.specs.declared.end.End.{End}
 use Rattle.ipcz_node.specs.Node.{holds_end}
 use Rattle.ipcz_world.specs.Lawful.{Lawful}
 use Rattle.ipcz_world.proofs.calls.Puts.{terminal_there}

@@ -3,16 +3,16 @@ use Rattle.std.specs.Prelude.{◌≡◌, ◌<◌, ◌≤◌, ℕ, true, false, n
 use Rattle.std.proofs.Common.{arith}
 use Rattle.std.proofs.lemmas.Bool.Decides.{nat_tests}
 use Rattle.ipcz_word.specs.Word.{Plan, Locks, Waits, Refuses, plan_of, word_by_plan}
-use Rattle.ipcz_router.specs.Router.{Router, primary_word}
-use Rattle.ipcz_router.specs.ActEffects.{apply, output_of}
+use Rattle.ipcz_world.proofs.Vocabulary.{Router, primary_word, output_of, router_in, commit, World, node_at, word_at, router_at, set_node}
+use Rattle.ipcz_world.proofs.Vocabulary.{set_word, set_claimed, after_act, answer_of}
+use Rattle.ipcz_router.specs.ActEffects.{apply}
 use Rattle.ipcz_router.specs.declared.act.RouterAct.TheVariants as acts
 use Rattle.ipcz_node.specs.declared.act.Act.TheVariants.{Router as OfRouter}
-use Rattle.ipcz_node.specs.Node.{on_router, router_in}
+use Rattle.ipcz_node.specs.Node.{on_router}
 use Rattle.ipcz_node.specs.Sends.{send}
-use Rattle.ipcz_node.specs.Acts.{commit, commit_router, keep_or_drop}
-use Rattle.ipcz_world.specs.World.{World, node_at, word_at, router_at, set_node, set_word, set_claimed}
-use Rattle.ipcz_world.specs.Turns.{after_act, after_router_act}
-use Rattle.ipcz_world.specs.WordAnswers.{touch, touch_word, word_after, answer_of, link_answer, word_answer, try_answer}
+use Rattle.ipcz_node.specs.Acts.{commit_router, keep_or_drop}
+use Rattle.ipcz_world.specs.Turns.{after_router_act}
+use Rattle.ipcz_world.specs.WordAnswers.{touch, touch_word, word_after, link_answer, word_answer, try_answer}
 use Rattle.ipcz_world.specs.Acts.{lock_act, unlock_act, claim_act, dry_act, rest_act}
 
 pub acted-rest : (w : World) (n s : ℕ) (r : Router) → router_at w (record { node = n; serial = s }) ≡ Some r →

@@ -3,27 +3,18 @@ use Rattle.ipcz_world.specs.Routes.{source as source'}
 use Rattle.std.specs.Prelude.{◌≡◌, ◌≢◌, ◌⊎◌, ◌<◌, ◌+◌, ◌*◌, ℕ, Bool, true, false, cond, not, nat_eq, Option, Some, None, is_some, refl}
 use Rattle.std.proofs.Common.{arith, sym, ◌∙◌, ap, inl, inr}
 use Rattle.std.proofs.lemmas.Bool.Decides.{nat_tests}
-use Rattle.ipcz_base.specs.declared.link_id.LinkId.TheVariants.{Central}
-use Rattle.ipcz_base.specs.declared.link_id.LinkId.{LinkId}
-use Rattle.ipcz_base.specs.declared.link_end.LinkEnd.{LinkEnd}
-use Rattle.ipcz_word.specs.SideSets.{has}
-use Rattle.ipcz_router.specs.Router.{Router}
-use Rattle.ipcz_router.specs.ActTable.{is_possible}
+use Rattle.ipcz_world.proofs.Vocabulary.{Central, LinkId, LinkEnd, has, Router, is_possible, word_of, World, Key, same_key, word_at}
+use Rattle.ipcz_world.proofs.Vocabulary.{mail_at, way, router_at, set_router, Books, Records, Owner, Spare, Fresh, Linked, is_linked}
+use Rattle.ipcz_world.proofs.Vocabulary.{is_unclaimed, is_recorded, side_router, side_node, Weight, names_end, key_passes, Inv}
 use Rattle.ipcz_router.specs.ActEffects.{claim_word}
 use Rattle.ipcz_router.specs.declared.act.RouterAct.TheVariants as acts
-use Rattle.ipcz_base.specs.Links.{word_of}
-use Rattle.ipcz_world.specs.World.{World, Key, same_key, word_at, mail_at, way, router_at, set_router}
 use Rattle.ipcz_world.proofs.frames.Frames.{frames, same_key_tells, same_key-itself}
-use Rattle.ipcz_world.specs.Books.{Books}
-use Rattle.ipcz_world.specs.Records.{Records, Owner, Unclaimed, Spare, Fresh, Linked, is_linked, is_unclaimed, is_recorded, side_router}
-use Rattle.ipcz_world.specs.Records.{side_node}
+use Rattle.ipcz_world.specs.Records.{Unclaimed}
 use Rattle.ipcz_world.specs.Remembering.{claim_records}
-use Rattle.ipcz_world.specs.Places.{Weight, names_end}
 use Rattle.ipcz_world.proofs.weights.OfRecords.{in_places}
-use Rattle.ipcz_world.specs.Standing.{key_passes, spare_of}
+use Rattle.ipcz_world.specs.Standing.{spare_of}
 use Rattle.ipcz_world.proofs.frames.StandingRules.{standing_rules}
 use Rattle.ipcz_world.specs.Acts.{CanAct, claim_act}
-use Rattle.ipcz_world.specs.Inv.{Inv}
 use Rattle.ipcz_world.proofs.frames.OneRouter.{SameButRouter, set-router, set-claimed}
 use Rattle.ipcz_world.proofs.flows.SameMessages.{recorded-same, told-same, moves-same}
 use Rattle.ipcz_world.proofs.frames.GivingUp.{was, Gives, same-messages, ordered-gives, links-gives, positions-gives, stands-gives}

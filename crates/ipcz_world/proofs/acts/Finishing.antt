@@ -1,40 +1,26 @@
 -- A router gives a decaying link up: the invariant is kept, for all that was to come over the link has come.
-use Rattle.ipcz_world.specs.Places.{in_message as in_message', in_router, at_end}
+use Rattle.ipcz_world.proofs.Vocabulary.{in_router, at_end, Side, A, B, End, LinkId, Central, Peripheral, LinkEnd, Descriptor, Item}
+use Rattle.ipcz_world.proofs.Vocabulary.{opposite, opposite_end, has_link, item_at, Edge, Router, is_terminal, inward_edge, is_possible}
+use Rattle.ipcz_world.proofs.Vocabulary.{World, Key, router_at, Books, read, Records, inner_link, is_begun, is_recorded, proxy_side}
+use Rattle.ipcz_world.proofs.Vocabulary.{across_side, side_end, side_length, Standing, view, is_attached, passes, has_decaying, fed_queue}
+use Rattle.ipcz_world.proofs.Vocabulary.{sending_queue, next_sent, taking_queue, is_outward, IsRecorded, inner_of, has_passed, Inv}
+use Rattle.ipcz_world.specs.Places.{in_message as in_message'}
 use Rattle.ipcz_world.specs.Routes.{source as source'}
 use Rattle.std.specs.Prelude.{◌≡◌, ◌⊎◌, ◌≤◌, ◌<◌, ℕ, Bool, true, false, nat_le, Option, Some, None, is_some, List, drop, refl}
 use Rattle.std.proofs.Common.{arith, sym, ◌∙◌, ap, subst, inl, inr}
 use Rattle.std.proofs.lemmas.Bool.Decides.{nat_tests}
 use Rattle.std.proofs.lemmas.Option.{same_Some, none-some}
-use Rattle.ipcz_base.specs.declared.side.Side.{Side}
-use Rattle.ipcz_base.specs.declared.side.Side.TheVariants.{A, B}
-use Rattle.ipcz_base.specs.declared.end.End.{End}
-use Rattle.ipcz_base.specs.declared.link_id.LinkId.{LinkId}
-use Rattle.ipcz_base.specs.declared.link_id.LinkId.TheVariants.{Central, Peripheral}
-use Rattle.ipcz_base.specs.declared.link_end.LinkEnd.{LinkEnd}
-use Rattle.ipcz_base.specs.declared.descriptor.Descriptor.{Descriptor}
-use Rattle.ipcz_base.specs.declared.item.Item.{Item}
 use Rattle.ipcz_base.specs.declared.message.Message.TheVariants as messages
-use Rattle.ipcz_base.specs.Sides.{opposite}
-use Rattle.ipcz_base.specs.Ends.{opposite_end}
-use Rattle.ipcz_base.specs.Links.{has_link}
-use Rattle.ipcz_seq.specs.Queue.{item_at, reach}
-use Rattle.ipcz_edge.specs.Edge.{Edge, edge_has, can_finish, has_come_to, finish}
-use Rattle.ipcz_router.specs.Router.{Router, is_proxy, is_terminal, inward_edge}
-use Rattle.ipcz_router.specs.ActTable.{is_possible}
+use Rattle.ipcz_seq.specs.Queue.{reach}
+use Rattle.ipcz_edge.specs.Edge.{edge_has, can_finish, has_come_to, finish}
+use Rattle.ipcz_router.specs.Router.{is_proxy}
 use Rattle.ipcz_router.specs.ActEffects.{finish_out, finish_in}
 use Rattle.ipcz_router.specs.declared.act.RouterAct.TheVariants as acts
-use Rattle.ipcz_world.specs.World.{World, Key, router_at}
-use Rattle.ipcz_world.specs.Books.{Books, read}
-use Rattle.ipcz_world.specs.Records.{Records, inner_link, is_begun, is_recorded, proxy_side, across_side, side_end, side_length}
 use Rattle.ipcz_world.proofs.frames.RecordRules.{bypass_of-inner}
 use Rattle.ipcz_world.proofs.weights.OfRecords.{source, in_message}
-use Rattle.ipcz_world.specs.Standing.{Standing, view, is_attached, passes, has_decaying, fed_queue, sending_queue, next_sent, taking_queue}
 use Rattle.ipcz_world.proofs.frames.StandingRules.{standing_rules}
-use Rattle.ipcz_world.specs.Structure.{is_outward, IsRecorded}
-use Rattle.ipcz_world.specs.Bypasses.{inner_of}
-use Rattle.ipcz_world.specs.Numbers.{IsItemUnderWay, has_passed}
+use Rattle.ipcz_world.specs.Numbers.{IsItemUnderWay}
 use Rattle.ipcz_world.specs.Acts.{CanAct, finish_out_act, finish_in_act}
-use Rattle.ipcz_world.specs.Inv.{Inv}
 use Rattle.ipcz_world.proofs.weights.Sums.{just, just_once}
 use Rattle.ipcz_world.proofs.facts.Queues.{reach_filled}
 use Rattle.ipcz_world.proofs.weights.Weights.{in_two_places, in_out_queue, in_in_queue}

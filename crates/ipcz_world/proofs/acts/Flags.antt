@@ -3,28 +3,17 @@ use Rattle.std.specs.Prelude.{◌≡◌, ◌≢◌, ◌⊎◌, ◌≤◌, ℕ, B
 use Rattle.std.proofs.Common.{arith, sym, ◌∙◌, ap, inl, inr}
 use Rattle.std.proofs.lemmas.Bool.Decides.{nat_tests}
 use Rattle.std.proofs.lemmas.Option.{same_Some, none-some}
-use Rattle.ipcz_base.specs.declared.side.Side.{Side}
-use Rattle.ipcz_base.specs.declared.side.Side.TheVariants.{A, B}
-use Rattle.ipcz_base.specs.declared.link_id.LinkId.{LinkId}
-use Rattle.ipcz_base.specs.declared.link_id.LinkId.TheVariants.{Central, Peripheral}
-use Rattle.ipcz_base.specs.declared.link_end.LinkEnd.{LinkEnd}
-use Rattle.ipcz_base.specs.Sides.{opposite}
-use Rattle.ipcz_word.specs.SideSets.{has}
-use Rattle.ipcz_base.specs.Links.{word_of}
-use Rattle.ipcz_word.specs.Word.{Word}
-use Rattle.ipcz_router.specs.Router.{Router, is_proxy, decays, primary_word, is_on_central}
+use Rattle.ipcz_world.proofs.Vocabulary.{Side, A, B, LinkId, Central, Peripheral, LinkEnd, opposite, has, word_of, Word, Router}
+use Rattle.ipcz_world.proofs.Vocabulary.{primary_word, World, Key, same_key, word_at, router_at, Books, Records, is_recorded, is_linked}
+use Rattle.ipcz_world.proofs.Vocabulary.{is_begun, side_router, side_end, across_side, is_attached, passes, key_passes, has_primary}
+use Rattle.ipcz_world.proofs.Vocabulary.{Shape, Words, IsRecorded, Inv}
+use Rattle.ipcz_router.specs.Router.{is_proxy, decays, is_on_central}
 use Rattle.ipcz_router.specs.ActEffects.{run_dry}
 use Rattle.ipcz_router.specs.Acts.{rest}
-use Rattle.ipcz_world.specs.World.{World, Key, same_key, word_at, router_at}
 use Rattle.ipcz_world.proofs.frames.Frames.{same_key_tells, same_key-itself}
-use Rattle.ipcz_world.specs.Books.{Books}
-use Rattle.ipcz_world.specs.Records.{Records, is_recorded, is_linked, is_begun, side_router, side_end, across_side}
 use Rattle.ipcz_world.proofs.frames.RecordRules.{is_recorded-central}
-use Rattle.ipcz_world.specs.Standing.{is_attached, passes, key_passes, has_primary}
 use Rattle.ipcz_world.proofs.frames.StandingRules.{standing_rules}
-use Rattle.ipcz_world.specs.Structure.{Shape, Words, IsRecorded}
 use Rattle.ipcz_world.specs.Acts.{dry_act, rest_act}
-use Rattle.ipcz_world.specs.Inv.{Inv}
 use Rattle.ipcz_world.proofs.frames.OneRouter.{SameWords, SameButRouter, set-router, words-set_router}
 use Rattle.ipcz_world.proofs.facts.LinkTests.{IsLinkEnd, has_link-tells, side_is}
 use Rattle.ipcz_world.proofs.views.Views.{IsPart}

@@ -2,26 +2,13 @@
 use Rattle.std.specs.Prelude.{◌≡◌, ◌≤◌, ℕ, Bool, true, false, nat_le, Option, Some, None, refl}
 use Rattle.std.proofs.Common.{arith}
 use Rattle.std.proofs.lemmas.Bool.Decides.{nat_tests}
-use Rattle.ipcz_base.specs.declared.side.Side.{Side}
-use Rattle.ipcz_base.specs.declared.side.Side.TheVariants.{A, B}
-use Rattle.ipcz_base.specs.declared.link_id.LinkId.{LinkId}
-use Rattle.ipcz_base.specs.declared.link_id.LinkId.TheVariants.{Central, Peripheral}
-use Rattle.ipcz_base.specs.declared.item.Item.{Item}
-use Rattle.ipcz_base.specs.Ends.{opposite_end}
-use Rattle.ipcz_base.specs.Links.{has_link}
-use Rattle.ipcz_seq.specs.Queue.{item_at}
-use Rattle.ipcz_router.specs.Router.{Router, is_proxy, inward_edge}
-use Rattle.ipcz_router.specs.ActTable.{is_possible}
+use Rattle.ipcz_world.proofs.Vocabulary.{Side, A, B, LinkId, Central, Peripheral, Item, opposite_end, has_link, item_at, Router}
+use Rattle.ipcz_world.proofs.Vocabulary.{inward_edge, is_possible, World, Key, router_at, Books, Records, proxy_side, across_side, Weight}
+use Rattle.ipcz_world.proofs.Vocabulary.{in_router, is_attached, inner_of, Inv}
+use Rattle.ipcz_router.specs.Router.{is_proxy}
 use Rattle.ipcz_router.specs.declared.act.RouterAct.TheVariants as acts
-use Rattle.ipcz_world.specs.World.{World, Key, router_at}
-use Rattle.ipcz_world.specs.Books.{Books}
-use Rattle.ipcz_world.specs.Records.{Records, proxy_side, across_side}
-use Rattle.ipcz_world.specs.Places.{Weight, in_router}
-use Rattle.ipcz_world.specs.Standing.{is_attached}
 use Rattle.ipcz_world.proofs.frames.StandingRules.{standing_rules}
-use Rattle.ipcz_world.specs.Bypasses.{inner_of}
 use Rattle.ipcz_world.specs.Acts.{CanAct, leave_act}
-use Rattle.ipcz_world.specs.Inv.{Inv}
 use Rattle.ipcz_world.proofs.facts.Queues.{total-none}
 use Rattle.ipcz_world.proofs.frames.OneRouter.{remove-router, words-remove_router}
 use Rattle.ipcz_world.proofs.frames.GivingUp.{Keeps, Gives}

@@ -1,25 +1,22 @@
 -- A mark keeps what is said of shapes and words.
 use Rattle.std.specs.Prelude.{◌≡◌, ℕ, true, false, Option, Some, None, refl}
 use Rattle.std.proofs.Common.{arith}
-use Rattle.ipcz_base.specs.declared.side.Side.{Side}
-use Rattle.ipcz_base.specs.declared.link_id.LinkId.TheVariants.{Central}
-use Rattle.ipcz_word.specs.SideSets.{has, sides}
-use Rattle.ipcz_router.specs.Router.{Router, primary_word, decays}
-use Rattle.ipcz_router.specs.ActEffects.{apply, output_of}
+use Rattle.ipcz_world.proofs.Vocabulary.{Side, Central, has, Router, primary_word, output_of, router_in, commit, World, Key, node_at}
+use Rattle.ipcz_world.proofs.Vocabulary.{word_at, router_at, set_node, set_word, after_act, answer_of, Records, is_linked, is_begun}
+use Rattle.ipcz_world.proofs.Vocabulary.{side_router, key_passes, Shape, Words}
+use Rattle.ipcz_word.specs.SideSets.{sides}
+use Rattle.ipcz_router.specs.Router.{decays}
+use Rattle.ipcz_router.specs.ActEffects.{apply}
 use Rattle.ipcz_router.specs.declared.act.RouterAct.TheVariants as acts
 use Rattle.ipcz_node.specs.declared.act.Act.TheVariants.{Router as OfRouter}
-use Rattle.ipcz_node.specs.Node.{on_router, router_in}
+use Rattle.ipcz_node.specs.Node.{on_router}
 use Rattle.ipcz_node.specs.Sends.{send}
-use Rattle.ipcz_node.specs.Acts.{commit, commit_router, keep_or_drop}
-use Rattle.ipcz_world.specs.World.{World, Key, node_at, word_at, router_at, set_node, set_word}
+use Rattle.ipcz_node.specs.Acts.{commit_router, keep_or_drop}
 use Rattle.ipcz_world.proofs.frames.Frames.{frames, same_key_tells}
-use Rattle.ipcz_world.specs.Turns.{after_act, after_router_act}
-use Rattle.ipcz_world.specs.WordAnswers.{touch, touch_word, word_after, answer_of, link_answer, word_answer}
+use Rattle.ipcz_world.specs.Turns.{after_router_act}
+use Rattle.ipcz_world.specs.WordAnswers.{touch, touch_word, word_after, link_answer, word_answer}
 use Rattle.std.proofs.lemmas.Bool.Decides.{nat_tests}
-use Rattle.ipcz_world.specs.Records.{Records, is_linked, is_begun, side_router}
-use Rattle.ipcz_world.specs.Standing.{key_passes}
 use Rattle.ipcz_world.proofs.frames.StandingRules.{standing_rules}
-use Rattle.ipcz_world.specs.Structure.{Shape, Words}
 use Rattle.ipcz_world.specs.Acts.{CanTouch, mark_act}
 
 -- a node's mark in the world is the update

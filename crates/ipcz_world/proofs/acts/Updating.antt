@@ -2,24 +2,22 @@
 use Rattle.std.specs.Prelude.{◌≡◌, ℕ, zero, suc, true, nat_eq, Some, None, List, [], ◌∷◌, refl}
 use Rattle.std.proofs.Common.{arith, ap, ◌∙◌, sym}
 use Rattle.std.proofs.lemmas.Bool.Decides.{nat_tests}
-use Rattle.ipcz_base.specs.declared.link_end.LinkEnd.{LinkEnd}
-use Rattle.ipcz_base.specs.declared.message.Message.{Message}
+use Rattle.ipcz_world.proofs.Vocabulary.{LinkEnd, Message, put_place, opposite, Word, Router, primary_word, output_of, Node, bare_node}
+use Rattle.ipcz_world.proofs.Vocabulary.{with_router, router_in, commit, World, node_at, word_at, router_at, way, set_node, set_word}
+use Rattle.ipcz_world.proofs.Vocabulary.{set_mail, after_act}
 use Rattle.ipcz_base.specs.declared.message.Message.TheVariants as messages
-use Rattle.ipcz_base.specs.Indexed.{put_place}
-use Rattle.ipcz_base.specs.Sides.{opposite}
-use Rattle.ipcz_word.specs.Word.{Word, wake}
-use Rattle.ipcz_router.specs.Router.{Router, primary_word}
-use Rattle.ipcz_router.specs.ActEffects.{apply, output_of, message_output, flush_message, wake_other}
+use Rattle.ipcz_word.specs.Word.{wake}
+use Rattle.ipcz_router.specs.ActEffects.{apply, message_output, flush_message, wake_other}
 use Rattle.ipcz_router.specs.declared.act.RouterAct.TheVariants as acts
 use Rattle.ipcz_node.specs.declared.act.Act.TheVariants.{Router as OfRouter}
-use Rattle.ipcz_node.specs.Node.{Node, bare_node, with_router, push_out, on_router, router_in}
+use Rattle.ipcz_node.specs.Node.{push_out, on_router}
 use Rattle.ipcz_node.specs.Sends.{send}
 use Rattle.ipcz_node.specs.Hands.{fits, handle, deliver, free_hand, is_hand_of}
-use Rattle.ipcz_node.specs.Acts.{commit, commit_router, keep_or_drop}
+use Rattle.ipcz_node.specs.Acts.{commit_router, keep_or_drop}
 use Rattle.ipcz_world.specs.declared.mail.Mail.TheVariants as mails
-use Rattle.ipcz_world.specs.World.{World, node_at, word_at, router_at, way, set_node, set_word, set_mail, push_message}
+use Rattle.ipcz_world.specs.World.{push_message}
 use Rattle.ipcz_world.proofs.frames.Frames.{node-set_node}
-use Rattle.ipcz_world.specs.Turns.{after_act, after_router_act, after_hand}
+use Rattle.ipcz_world.specs.Turns.{after_router_act, after_hand}
 use Rattle.ipcz_world.specs.WordAnswers.{touch, touch_word, word_after}
 use Rattle.ipcz_world.specs.Acts.{leave_act, finish_out_act, finish_in_act, wake_act, free}
 

@@ -3,37 +3,27 @@ use Rattle.std.specs.Prelude.{◌≡◌, ◌⊎◌, ◌<◌, ℕ, ◌+◌, ◌*�
 use Rattle.std.proofs.Common.{arith, sym, ◌∙◌, ap, subst, inl, inr}
 use Rattle.std.proofs.lemmas.Bool.Decides.{nat_tests}
 use Rattle.std.proofs.lemmas.Option.{same_Some, none-some}
-use Rattle.ipcz_base.specs.declared.side.Side.{Side}
-use Rattle.ipcz_base.specs.declared.link_id.LinkId.{LinkId}
-use Rattle.ipcz_base.specs.declared.link_id.LinkId.TheVariants.{Central}
-use Rattle.ipcz_base.specs.declared.link_end.LinkEnd.{LinkEnd}
-use Rattle.ipcz_base.specs.declared.message.Message.{Message}
+use Rattle.ipcz_world.proofs.Vocabulary.{Side, LinkId, Central, LinkEnd, Message, opposite, has, is_central, word_of, Word, Router}
+use Rattle.ipcz_world.proofs.Vocabulary.{primary_word, is_possible, output_of, Hand, Node, Found, with_router, World, Key, node_at}
+use Rattle.ipcz_world.proofs.Vocabulary.{word_at, mail_at, way, router_at, set_node, set_word, set_mail, set_router, after_act}
+use Rattle.ipcz_world.proofs.Vocabulary.{hand_message, Books, Records, is_linked, side_node, side_router, key_passes, Counts, Words}
+use Rattle.ipcz_world.proofs.Vocabulary.{IsRecorded, Inv}
 use Rattle.ipcz_base.specs.declared.message.Message.TheVariants as messages
-use Rattle.ipcz_base.specs.Sides.{opposite}
-use Rattle.ipcz_word.specs.SideSets.{has}
-use Rattle.ipcz_base.specs.Links.{is_central, word_of}
-use Rattle.ipcz_word.specs.Word.{Word, wake}
-use Rattle.ipcz_router.specs.Router.{Router, primary_word, rouse}
-use Rattle.ipcz_router.specs.ActTable.{is_possible}
-use Rattle.ipcz_router.specs.ActEffects.{wake_other, output_of, message_output, flush_message}
+use Rattle.ipcz_word.specs.Word.{wake}
+use Rattle.ipcz_router.specs.Router.{rouse}
+use Rattle.ipcz_router.specs.ActEffects.{wake_other, message_output, flush_message}
 use Rattle.ipcz_router.specs.declared.act.Applied.TheVariants as sends
 use Rattle.ipcz_router.specs.declared.act.RouterAct.TheVariants as acts
-use Rattle.ipcz_node.specs.declared.act.Act.TheVariants.{Hand, Router as OfRouter}
-use Rattle.ipcz_node.specs.Node.{Node, Found, push_out, on_found, with_router, link_router}
+use Rattle.ipcz_node.specs.declared.act.Act.TheVariants.{Router as OfRouter}
+use Rattle.ipcz_node.specs.Node.{push_out, on_found, link_router}
 use Rattle.ipcz_node.specs.Hands.{deliver, handle, fits, is_hand_of}
 use Rattle.ipcz_world.specs.declared.mail.Mail.TheVariants as mails
-use Rattle.ipcz_world.specs.World.{World, Key, node_at, word_at, mail_at, way, router_at, set_node, set_word, set_mail, set_router}
 use Rattle.ipcz_world.specs.World.{push_message}
 use Rattle.ipcz_world.proofs.frames.Frames.{frames, same_key-itself, word-set_word, word-set_node, claimed-set_word, claimed-set_node}
 use Rattle.ipcz_world.proofs.frames.Frames.{node-set_node, mail-set_node, count-set_node}
-use Rattle.ipcz_world.specs.Turns.{after_act, after_hand, hand_message}
-use Rattle.ipcz_world.specs.Books.{Books}
-use Rattle.ipcz_world.specs.Records.{Records, is_linked, side_node, side_router}
-use Rattle.ipcz_world.specs.Standing.{key_passes}
+use Rattle.ipcz_world.specs.Turns.{after_hand}
 use Rattle.ipcz_world.proofs.frames.StandingRules.{standing_rules}
-use Rattle.ipcz_world.specs.Structure.{Counts, Words, IsRecorded}
 use Rattle.ipcz_world.specs.Acts.{CanTouch, CanHand, wake_act, flush_act, free}
-use Rattle.ipcz_world.specs.Inv.{Inv}
 use Rattle.ipcz_world.proofs.flows.Flowing.{IsPushed, IsTaken, way_tells, same_way}
 use Rattle.ipcz_world.proofs.frames.Changing.{IsNodeChanged, pushed_by, taken_by, way_apart}
 use Rattle.ipcz_world.proofs.frames.OneRouter.{SameButRouter, set-router, set-word, words-set_router}

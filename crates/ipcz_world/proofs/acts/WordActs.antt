@@ -2,23 +2,15 @@
 use Rattle.std.specs.Prelude.{◌≡◌, ◌⊎◌, ◌≤◌, ℕ, Bool, true, false, cond, nat_eq, Some, refl}
 use Rattle.std.proofs.Common.{arith, sym, ◌∙◌, ap, inl, inr}
 use Rattle.std.proofs.lemmas.Bool.Decides.{nat_tests}
-use Rattle.ipcz_base.specs.declared.side.Side.{Side}
-use Rattle.ipcz_base.specs.declared.side.Side.TheVariants.{A, B}
-use Rattle.ipcz_base.specs.declared.link_id.LinkId.TheVariants.{Central}
-use Rattle.ipcz_base.specs.Sides.{opposite}
-use Rattle.ipcz_word.specs.SideSets.{has, with, without, sides}
-use Rattle.ipcz_word.specs.Word.{Word, Plan, Locks, Waits, Refuses, plan_of, is_held, mark, lock, wait, unlock}
-use Rattle.ipcz_router.specs.Router.{Router}
-use Rattle.ipcz_router.specs.ActTable.{is_possible}
+use Rattle.ipcz_world.proofs.Vocabulary.{Side, A, B, Central, opposite, has, Word, Router, is_possible, World, Key, word_at, router_at}
+use Rattle.ipcz_world.proofs.Vocabulary.{set_word, set_router, Books, Records, is_begun, side_router, proxy_side, across_side, Inv}
+use Rattle.ipcz_word.specs.SideSets.{with, without, sides}
+use Rattle.ipcz_word.specs.Word.{Plan, Locks, Waits, Refuses, plan_of, is_held, mark, lock, wait, unlock}
 use Rattle.ipcz_router.specs.ActEffects.{mark_side, take_lock, fail_lock, drop_lock}
 use Rattle.ipcz_router.specs.declared.act.RouterAct.TheVariants as acts
-use Rattle.ipcz_world.specs.World.{World, Key, word_at, router_at, set_word, set_router}
 use Rattle.ipcz_world.proofs.frames.Frames.{word-set_word, word-set_node, claimed-set_word, claimed-set_node}
-use Rattle.ipcz_world.specs.Books.{Books}
-use Rattle.ipcz_world.specs.Records.{Records, is_begun, side_router, proxy_side, across_side}
 use Rattle.ipcz_world.proofs.frames.StandingRules.{standing_rules}
 use Rattle.ipcz_world.specs.Acts.{CanTouch, mark_act, lock_act, unlock_act}
-use Rattle.ipcz_world.specs.Inv.{Inv}
 use Rattle.ipcz_world.proofs.facts.LinkTests.{side_is}
 use Rattle.ipcz_world.proofs.facts.Lengths.{same_side-itself}
 use Rattle.ipcz_world.proofs.frames.OneRouter.{SameButRouter, SameWords, set-router, set-word}

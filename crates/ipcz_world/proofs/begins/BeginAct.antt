@@ -1,29 +1,20 @@
 -- A bypass begins: the invariant is kept, every begin that is possible is one of these, and a node's begin is this update.
 use Rattle.std.specs.Prelude.{◌≡◌, ◌<◌, ℕ, Option, Some, None, refl}
 use Rattle.std.proofs.Common.{arith, sym, ◌∙◌, ap, subst}
-use Rattle.ipcz_base.specs.declared.side.Side.TheVariants.{B}
-use Rattle.ipcz_base.specs.declared.link_id.LinkId.{LinkId}
-use Rattle.ipcz_base.specs.declared.link_id.LinkId.TheVariants.{Central, Peripheral}
-use Rattle.ipcz_base.specs.declared.link_end.LinkEnd.{LinkEnd}
-use Rattle.ipcz_base.specs.Links.{word_of}
-use Rattle.ipcz_router.specs.Router.{Router, inward_edge}
-use Rattle.ipcz_router.specs.ActTable.{is_possible}
-use Rattle.ipcz_router.specs.ActEffects.{begin_bypass, begin_message as begin_sending, apply, output_of, message_output}
+use Rattle.ipcz_world.proofs.Vocabulary.{B, LinkId, Central, Peripheral, LinkEnd, word_of, Router, inward_edge, is_possible, output_of}
+use Rattle.ipcz_world.proofs.Vocabulary.{with_router, router_in, commit, World, Key, node_at, router_at, set_node, after_act, Books}
+use Rattle.ipcz_world.proofs.Vocabulary.{Records, inner_link, is_outward, Inv}
+use Rattle.ipcz_router.specs.ActEffects.{begin_bypass, begin_message as begin_sending, apply, message_output}
 use Rattle.ipcz_router.specs.declared.act.RouterAct.TheVariants as acts
 use Rattle.ipcz_router.specs.declared.act.Applied.TheVariants as sends
 use Rattle.ipcz_node.specs.declared.act.Act.TheVariants.{Router as OfRouter}
-use Rattle.ipcz_node.specs.Node.{with_router, on_router, router_in}
+use Rattle.ipcz_node.specs.Node.{on_router}
 use Rattle.ipcz_node.specs.Sends.{send}
-use Rattle.ipcz_node.specs.Acts.{commit, commit_router, keep_or_drop}
-use Rattle.ipcz_world.specs.World.{World, Key, node_at, router_at, set_node}
-use Rattle.ipcz_world.specs.Turns.{after_act, after_router_act}
+use Rattle.ipcz_node.specs.Acts.{commit_router, keep_or_drop}
+use Rattle.ipcz_world.specs.Turns.{after_router_act}
 use Rattle.ipcz_world.specs.WordAnswers.{touch}
-use Rattle.ipcz_world.specs.Books.{Books}
-use Rattle.ipcz_world.specs.Records.{Records, inner_link}
 use Rattle.ipcz_world.specs.Remembering.{begin_records}
-use Rattle.ipcz_world.specs.Structure.{is_outward}
 use Rattle.ipcz_world.specs.Acts.{CanAct, begin_act}
-use Rattle.ipcz_world.specs.Inv.{Inv}
 use Rattle.ipcz_world.proofs.begins.Beginning.{CanBegin, Begins, begins-of}
 use Rattle.ipcz_world.proofs.begins.BegunWorld.{Sends, sends-push}
 use Rattle.ipcz_world.proofs.begins.BegunAround.{IsBegunFrom, begun-from}

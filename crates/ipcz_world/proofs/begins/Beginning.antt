@@ -2,25 +2,14 @@
 use Rattle.std.specs.Prelude.{◌≡◌, ◌⊎◌, ℕ, true, false, Option, Some, None, is_some, refl}
 use Rattle.std.proofs.Common.{arith, sym, ◌∙◌, ap, inl, inr}
 use Rattle.std.proofs.lemmas.Option.{same_Some}
-use Rattle.ipcz_base.specs.declared.side.Side.{Side}
-use Rattle.ipcz_base.specs.declared.side.Side.TheVariants.{A, B}
-use Rattle.ipcz_base.specs.declared.link_id.LinkId.TheVariants.{Central}
-use Rattle.ipcz_base.specs.declared.link_end.LinkEnd.{LinkEnd}
-use Rattle.ipcz_base.specs.Sides.{opposite, same_side}
-use Rattle.ipcz_word.specs.SideSets.{has}
-use Rattle.ipcz_base.specs.Links.{word_of}
-use Rattle.ipcz_router.specs.Router.{Router, is_proxy, inward_edge}
-use Rattle.ipcz_router.specs.ActTable.{is_possible}
+use Rattle.ipcz_world.proofs.Vocabulary.{Side, A, B, Central, LinkEnd, opposite, same_side, has, word_of, Router, inward_edge}
+use Rattle.ipcz_world.proofs.Vocabulary.{is_possible, World, Key, word_at, router_at, Books, Records, Spare, is_linked, is_begun}
+use Rattle.ipcz_world.proofs.Vocabulary.{is_recorded, inner_link, bypass_of, side_router, side_node, side_end, has_primary, IsRecorded}
+use Rattle.ipcz_world.proofs.Vocabulary.{is_outward, Inv}
+use Rattle.ipcz_router.specs.Router.{is_proxy}
 use Rattle.ipcz_router.specs.declared.act.RouterAct.TheVariants as acts
-use Rattle.ipcz_world.specs.World.{World, Key, word_at, router_at}
-use Rattle.ipcz_world.specs.Books.{Books}
-use Rattle.ipcz_world.specs.Records.{Records, Spare, is_linked, is_begun, is_recorded, inner_link, bypass_of, side_router, side_node}
-use Rattle.ipcz_world.specs.Records.{side_end}
 use Rattle.ipcz_world.proofs.frames.RecordRules.{bypass_of-inner}
-use Rattle.ipcz_world.specs.Standing.{has_primary}
 use Rattle.ipcz_world.proofs.frames.StandingRules.{standing_rules}
-use Rattle.ipcz_world.specs.Structure.{IsRecorded, is_outward}
-use Rattle.ipcz_world.specs.Inv.{Inv}
 use Rattle.ipcz_world.proofs.facts.LinkTests.{same_side-opposite, side_is}
 use Rattle.ipcz_world.proofs.facts.Lengths.{same_side-itself}
 use Rattle.ipcz_world.proofs.acts.Flags.{OnWord, on-word}

@@ -3,24 +3,14 @@ use Rattle.std.specs.Prelude.{◌≡◌, ◌≢◌, ◌⊎◌, ℕ, Bool, true, 
 use Rattle.std.proofs.Common.{arith, sym, ◌∙◌, ap, inl, inr}
 use Rattle.std.proofs.lemmas.Bool.Decides.{nat_tests}
 use Rattle.std.proofs.lemmas.Option.{same_Some, none-some}
-use Rattle.ipcz_base.specs.declared.side.Side.{Side}
-use Rattle.ipcz_base.specs.declared.side.Side.TheVariants.{A, B}
-use Rattle.ipcz_base.specs.declared.link_id.LinkId.{LinkId}
-use Rattle.ipcz_base.specs.declared.link_id.LinkId.TheVariants.{Central, Peripheral}
-use Rattle.ipcz_base.specs.declared.link_end.LinkEnd.{LinkEnd}
-use Rattle.ipcz_base.specs.declared.message.Message.{Message}
-use Rattle.ipcz_base.specs.Sides.{opposite}
-use Rattle.ipcz_edge.specs.Edge.{Edge}
-use Rattle.ipcz_router.specs.Router.{Router, is_proxy, is_terminal, inward_edge}
+use Rattle.ipcz_world.proofs.Vocabulary.{Side, A, B, LinkId, Central, Peripheral, LinkEnd, Message, opposite, Edge, Router, is_terminal}
+use Rattle.ipcz_world.proofs.Vocabulary.{inward_edge, World, Key, same_key, router_at, Books, Records, is_begun, is_recorded, inner_link}
+use Rattle.ipcz_world.proofs.Vocabulary.{bypass_of, side_router, proxy_side, across_side, IsRecorded, is_outward, Inv}
+use Rattle.ipcz_router.specs.Router.{is_proxy}
 use Rattle.ipcz_router.specs.ActEffects.{begin_bypass}
-use Rattle.ipcz_world.specs.World.{World, Key, same_key, router_at}
 use Rattle.ipcz_world.proofs.frames.Frames.{same_key_tells, same_key-itself}
-use Rattle.ipcz_world.specs.Books.{Books}
-use Rattle.ipcz_world.specs.Records.{Records, is_begun, is_recorded, inner_link, bypass_of, side_router, proxy_side, across_side}
 use Rattle.ipcz_world.proofs.frames.RecordRules.{bypass_of-inner}
 use Rattle.ipcz_world.specs.Remembering.{begin_records}
-use Rattle.ipcz_world.specs.Structure.{IsRecorded, is_outward}
-use Rattle.ipcz_world.specs.Inv.{Inv}
 use Rattle.ipcz_world.proofs.facts.LinkTests.{side_is}
 use Rattle.ipcz_world.proofs.facts.BegunLengths.{begun-bypass_of}
 use Rattle.ipcz_world.proofs.begins.Beginning.{Begins}

@@ -3,20 +3,13 @@ use Rattle.std.specs.Prelude.{◌≡◌, ◌≢◌, ◌⊎◌, ◌≤◌, ℕ, �
 use Rattle.std.proofs.Common.{arith, sym, ◌∙◌, ap, subst, inl, inr}
 use Rattle.std.proofs.lemmas.Bool.Decides.{nat_tests}
 use Rattle.std.proofs.lemmas.Option.{same_Some}
-use Rattle.ipcz_base.specs.declared.link_id.LinkId.TheVariants.{Central}
-use Rattle.ipcz_base.specs.declared.link_end.LinkEnd.{LinkEnd}
-use Rattle.ipcz_base.specs.declared.message.Message.{Message}
-use Rattle.ipcz_base.specs.Sides.{opposite}
-use Rattle.ipcz_word.specs.SideSets.{has}
-use Rattle.ipcz_router.specs.Router.{Router, inward_edge}
-use Rattle.ipcz_world.specs.World.{World, Key, same_key, mail_at, way, router_at}
+use Rattle.ipcz_world.proofs.Vocabulary.{Central, LinkEnd, Message, opposite, Router, inward_edge, World, Key, same_key, mail_at}
+use Rattle.ipcz_world.proofs.Vocabulary.{way, router_at, Books, Records, is_unclaimed, is_begun, inner_link, bypass_of, across_side}
+use Rattle.ipcz_world.proofs.Vocabulary.{known_from, Counts, Shape, Links, IsRecorded, Positions, is_outward, Inv}
 use Rattle.ipcz_world.proofs.frames.Frames.{same_key_tells}
-use Rattle.ipcz_world.specs.Books.{Books}
-use Rattle.ipcz_world.specs.Records.{Records, is_unclaimed, is_begun, inner_link, bypass_of, across_side, known_from}
 use Rattle.ipcz_world.proofs.frames.RecordRules.{bypass_of-inner}
 use Rattle.ipcz_world.specs.Remembering.{begin_records}
-use Rattle.ipcz_world.specs.Structure.{Counts, Shape, Links, IsRecorded, Positions, is_outward, is_begun_router}
-use Rattle.ipcz_world.specs.Inv.{Inv}
+use Rattle.ipcz_world.specs.Structure.{is_begun_router}
 use Rattle.ipcz_world.proofs.facts.LinkTests.{same_side-opposite, known_from-early}
 use Rattle.ipcz_world.proofs.facts.Lengths.{same_side-itself}
 use Rattle.ipcz_world.proofs.begins.Beginning.{Begins}

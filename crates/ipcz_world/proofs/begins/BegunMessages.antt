@@ -3,27 +3,16 @@ use Rattle.std.specs.Prelude.{◌≡◌, ◌≤◌, ℕ, ◌+◌, Bool, true, fa
 use Rattle.std.proofs.Common.{arith, sym, ◌∙◌, ap, subst, inl, inr}
 use Rattle.std.proofs.lemmas.Bool.Decides.{nat_tests}
 use Rattle.std.proofs.lemmas.Option.{same_Some, none-some}
-use Rattle.ipcz_base.specs.declared.side.Side.{Side}
-use Rattle.ipcz_base.specs.declared.side.Side.TheVariants.{A, B}
-use Rattle.ipcz_base.specs.declared.link_id.LinkId.{LinkId}
-use Rattle.ipcz_base.specs.declared.link_id.LinkId.TheVariants.{Central}
-use Rattle.ipcz_base.specs.declared.link_end.LinkEnd.{LinkEnd}
-use Rattle.ipcz_base.specs.declared.descriptor.Descriptor.{Descriptor}
-use Rattle.ipcz_base.specs.declared.message.Message.{Message}
+use Rattle.ipcz_world.proofs.Vocabulary.{Side, A, B, LinkId, Central, LinkEnd, Descriptor, Message, opposite, same_link, Router, World}
+use Rattle.ipcz_world.proofs.Vocabulary.{Key, flow, Books, Records, Terminal, terminal_descriptor, At, inner_link, bypass_of, side_router}
+use Rattle.ipcz_world.proofs.Vocabulary.{side_node, proxy_side, across_side, IsUnderWay, is_made_before, under_way, of_end, moves_of}
+use Rattle.ipcz_world.proofs.Vocabulary.{total_list, Told, inner_of, of_bypass, control_weight, moving_link, Inv}
 use Rattle.ipcz_base.specs.declared.message.Message.TheVariants as messages
-use Rattle.ipcz_base.specs.Sides.{opposite}
-use Rattle.ipcz_base.specs.Links.{same_link}
-use Rattle.ipcz_router.specs.Router.{Router}
-use Rattle.ipcz_world.specs.World.{World, Key, flow}
-use Rattle.ipcz_world.specs.Books.{Books}
-use Rattle.ipcz_world.specs.Records.{Records, Bypass, Terminal, Nowhere, Moving, Retired, terminal_descriptor, key_at, At, inner_link}
-use Rattle.ipcz_world.specs.Records.{bypass_of, side_router, side_node, proxy_side, across_side}
+use Rattle.ipcz_world.specs.Records.{Bypass, Nowhere, Moving, Retired, key_at}
 use Rattle.ipcz_world.proofs.frames.RecordRules.{side_router-inner, side_router-proxy, side_node-proxy}
 use Rattle.ipcz_world.specs.Remembering.{begin_records}
-use Rattle.ipcz_world.specs.Flows.{IsUnderWay, is_made_by, is_made_before, under_way, of_end, moves_of}
-use Rattle.ipcz_base.specs.Totals.{total_list}
-use Rattle.ipcz_world.specs.Bypasses.{Told, inner_of, of_bypass, control_weight, move_weight, moving_link}
-use Rattle.ipcz_world.specs.Inv.{Inv}
+use Rattle.ipcz_world.specs.Flows.{is_made_by}
+use Rattle.ipcz_world.specs.Bypasses.{move_weight}
 use Rattle.ipcz_world.proofs.flows.Flowing.{total_list-found, IsLast, under_way-pushed, found, made_within, made_last, under_way-congr}
 use Rattle.ipcz_world.proofs.begins.Beginning.{Begins}
 use Rattle.ipcz_world.proofs.begins.BegunRecords.{router-begun, node-begun, begun-here, begun-else, side-begun}

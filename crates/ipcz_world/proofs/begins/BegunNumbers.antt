@@ -1,43 +1,27 @@
 -- A proxy begins: no item moves, so numbers and places are as they were.
 use Rattle.ipcz_world.proofs.weights.OfRecords.{holds, held_times, source, in_message, in_node, in_places}
-use Rattle.ipcz_world.specs.Places.{in_message as in_message', in_node as in_node', in_places as in_places', Weight, in_router, at_end}
-use Rattle.ipcz_world.specs.Places.{names_end, times}
+use Rattle.ipcz_world.proofs.Vocabulary.{Weight, in_router, at_end, names_end, times, Side, A, B, End, LinkId, Central, Peripheral}
+use Rattle.ipcz_world.proofs.Vocabulary.{LinkEnd, Descriptor, Item, Message, opposite, same_end, has_end, opposite_end, has_link}
+use Rattle.ipcz_world.proofs.Vocabulary.{same_link, Router, World, Key, same_key, node_at, router_at, Books, is_closed, Records}
+use Rattle.ipcz_world.proofs.Vocabulary.{is_linked, is_begun, is_recorded, is_nowhere, inner_link, side_router, side_length, across_side}
+use Rattle.ipcz_world.proofs.Vocabulary.{IsUnderWay, makes, of_end, moves_of, total_below, total_list, Standing, view, view_by}
+use Rattle.ipcz_world.proofs.Vocabulary.{router_view, is_attached, sending_queue, fed_queue, next_sent, taking_queue, is_gone, is_awaited}
+use Rattle.ipcz_world.proofs.Vocabulary.{Ordered, inner_of, moving_link, Terminals, EndPlaces, BooksKept, Conserved, HeldOnce, times_held}
+use Rattle.ipcz_world.proofs.Vocabulary.{Items, Order, ProxyNumbers, FreshNumbers, has_passed, standing_router, Inv}
+use Rattle.ipcz_world.specs.Places.{in_message as in_message', in_node as in_node', in_places as in_places'}
 use Rattle.std.specs.Prelude.{◌≡◌, ◌≢◌, ◌⊎◌, ◌≤◌, ◌<◌, ℕ, zero, suc, ◌+◌, Bool, true, false, cond, nat_eq, Option, Some, None, is_some}
 use Rattle.std.specs.Prelude.{List, [], ◌∷◌, slice_get, refl}
 use Rattle.std.proofs.Common.{arith, sym, ◌∙◌, ap, subst, inl, inr}
 use Rattle.std.proofs.lemmas.Bool.Decides.{nat_tests}
 use Rattle.std.proofs.lemmas.Option.{same_Some, none-some}
-use Rattle.ipcz_base.specs.declared.side.Side.{Side}
-use Rattle.ipcz_base.specs.declared.side.Side.TheVariants.{A, B}
-use Rattle.ipcz_base.specs.declared.end.End.{End}
-use Rattle.ipcz_base.specs.declared.link_id.LinkId.{LinkId}
-use Rattle.ipcz_base.specs.declared.link_id.LinkId.TheVariants.{Central, Peripheral}
-use Rattle.ipcz_base.specs.declared.link_end.LinkEnd.{LinkEnd}
-use Rattle.ipcz_base.specs.declared.descriptor.Descriptor.{Descriptor}
-use Rattle.ipcz_base.specs.declared.item.Item.{Item}
-use Rattle.ipcz_base.specs.declared.message.Message.{Message}
 use Rattle.ipcz_base.specs.declared.message.Message.TheVariants as messages
-use Rattle.ipcz_base.specs.Sides.{opposite}
-use Rattle.ipcz_base.specs.Ends.{same_end, has_end, opposite_end}
-use Rattle.ipcz_base.specs.Links.{has_link, same_link}
-use Rattle.ipcz_router.specs.Router.{Router}
 use Rattle.ipcz_node.specs.Hands.{has_moved}
-use Rattle.ipcz_world.specs.World.{World, Key, same_key, node_at, router_at}
 use Rattle.ipcz_world.proofs.frames.Frames.{same_key_tells}
-use Rattle.ipcz_world.specs.Books.{Books, is_closed}
-use Rattle.ipcz_world.specs.Records.{Records, is_linked, is_begun, is_recorded, is_nowhere, inner_link, side_router, side_length}
-use Rattle.ipcz_world.specs.Records.{across_side}
 use Rattle.ipcz_world.proofs.frames.RecordRules.{is_recorded-central}
 use Rattle.ipcz_world.specs.Remembering.{begin_records}
-use Rattle.ipcz_world.specs.Flows.{IsUnderWay, makes, of_end, moves_of}
-use Rattle.ipcz_base.specs.Totals.{total_below, total_list}
-use Rattle.ipcz_world.specs.Standing.{Standing, view, view_by, router_view, is_attached, sending_queue, fed_queue, next_sent, taking_queue}
-use Rattle.ipcz_world.specs.Standing.{may_have_sent, is_gone, is_awaited}
-use Rattle.ipcz_world.specs.Structure.{Ordered}
-use Rattle.ipcz_world.specs.Bypasses.{Moves, inner_of, moving_link}
-use Rattle.ipcz_world.specs.Whereabouts.{Terminals, EndPlaces, BooksKept, Conserved, HeldOnce, times_held}
-use Rattle.ipcz_world.specs.Numbers.{Items, Order, ProxyNumbers, FreshNumbers, IsItemUnderWay, has_passed, standing_router}
-use Rattle.ipcz_world.specs.Inv.{Inv}
+use Rattle.ipcz_world.specs.Standing.{may_have_sent}
+use Rattle.ipcz_world.specs.Bypasses.{Moves}
+use Rattle.ipcz_world.specs.Numbers.{IsItemUnderWay}
 use Rattle.ipcz_world.proofs.weights.Sums.{total_below-same}
 use Rattle.ipcz_world.proofs.weights.Weights.{in_option}
 use Rattle.ipcz_world.proofs.views.Views.{Stood, view_rules}

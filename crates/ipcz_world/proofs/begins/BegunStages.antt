@@ -3,27 +3,17 @@ use Rattle.std.specs.Prelude.{◌≡◌, ◌≢◌, ◌⊎◌, ◌≤◌, ℕ, B
 use Rattle.std.proofs.Common.{arith, sym, ◌∙◌, ap, subst, inl, inr}
 use Rattle.std.proofs.lemmas.Bool.Decides.{nat_tests}
 use Rattle.std.proofs.lemmas.Option.{same_Some, none-some}
-use Rattle.ipcz_base.specs.declared.side.Side.{Side}
-use Rattle.ipcz_base.specs.declared.side.Side.TheVariants.{A, B}
-use Rattle.ipcz_base.specs.declared.link_id.LinkId.{LinkId}
-use Rattle.ipcz_base.specs.declared.link_id.LinkId.TheVariants.{Central}
-use Rattle.ipcz_base.specs.declared.link_end.LinkEnd.{LinkEnd}
-use Rattle.ipcz_base.specs.declared.message.Message.{Message}
-use Rattle.ipcz_base.specs.Sides.{opposite, same_side}
-use Rattle.ipcz_word.specs.SideSets.{has}
-use Rattle.ipcz_word.specs.Word.{Word}
-use Rattle.ipcz_router.specs.Router.{Router, inward_edge}
-use Rattle.ipcz_world.specs.World.{World, Key, same_key, word_at, router_at}
+use Rattle.ipcz_world.proofs.Vocabulary.{Side, A, B, LinkId, Central, LinkEnd, Message, opposite, same_side, has, Word, Router}
+use Rattle.ipcz_world.proofs.Vocabulary.{inward_edge, World, Key, same_key, word_at, router_at, Books, Records, Owner, Spare, Fresh}
+use Rattle.ipcz_world.proofs.Vocabulary.{Linked, Opening, is_linked, is_begun, is_recorded, inner_link, side_router, side_node, side_end}
+use Rattle.ipcz_world.proofs.Vocabulary.{proxy_side, across_side, key_passes, has_primary, has_decaying, has_inward_decaying, Stands}
+use Rattle.ipcz_world.proofs.Vocabulary.{Words, Spares, BypassRecords, Stages, inner_of, Inv}
 use Rattle.ipcz_world.proofs.frames.Frames.{same_key_tells, same_key-itself}
-use Rattle.ipcz_world.specs.Books.{Books}
-use Rattle.ipcz_world.specs.Records.{Records, Owner, Spare, Fresh, Linked, Opening, is_linked, is_begun, is_recorded, inner_link}
-use Rattle.ipcz_world.specs.Records.{side_router, side_node, side_end, proxy_side, across_side}
 use Rattle.ipcz_world.specs.Remembering.{begin_records}
-use Rattle.ipcz_world.specs.Standing.{key_passes, has_primary, has_decaying, has_inward_primary, has_inward_decaying, spare_of}
+use Rattle.ipcz_world.specs.Standing.{has_inward_primary, spare_of}
 use Rattle.ipcz_world.proofs.frames.StandingRules.{standing_rules}
-use Rattle.ipcz_world.specs.Structure.{Stands, Words, Spares, is_begun_router}
-use Rattle.ipcz_world.specs.Bypasses.{BypassRecords, Stages, inner_of, fresh_of}
-use Rattle.ipcz_world.specs.Inv.{Inv}
+use Rattle.ipcz_world.specs.Structure.{is_begun_router}
+use Rattle.ipcz_world.specs.Bypasses.{fresh_of}
 use Rattle.ipcz_world.proofs.facts.LinkTests.{IsLinkEnd, has_link-tells, has_link-is}
 use Rattle.ipcz_world.proofs.begins.Beginning.{Begins}
 use Rattle.ipcz_world.proofs.begins.BegunRecords.{router-begun, node-begun, end-begun, linked-begun, begun-here, begun-else, by_word}

@@ -4,32 +4,25 @@ use Rattle.std.specs.Prelude.{slice_get, refl}
 use Rattle.std.proofs.Common.{arith, ap, subst, ◌∙◌, sym, inl, inr}
 use Rattle.std.proofs.lemmas.Bool.Decides.{nat_tests}
 use Rattle.std.proofs.lemmas.Option.{same_Some}
-use Rattle.ipcz_base.specs.declared.side.Side.TheVariants.{A, B}
-use Rattle.ipcz_base.specs.declared.end.End.{End}
+use Rattle.ipcz_world.proofs.Vocabulary.{A, B, End, Item, Refusal, opposite_end, has_end, current_item, is_terminal, Found, terminal_of}
+use Rattle.ipcz_world.proofs.Vocabulary.{Reply, World, Key, node_at, router_at, set_claimed, unless, Books, read, is_closed, Records}
+use Rattle.ipcz_world.proofs.Vocabulary.{is_linked, Inv}
 use Rattle.ipcz_base.specs.declared.parcel.Parcel as parcels
-use Rattle.ipcz_base.specs.declared.item.Item.{Item}
 use Rattle.ipcz_base.specs.declared.item.Item.TheVariants.{Parcel, Mark}
-use Rattle.ipcz_base.specs.declared.refusal.Refusal.{Refusal}
 use Rattle.ipcz_base.specs.declared.refusal.Refusal.TheVariants as refusals
-use Rattle.ipcz_base.specs.Ends.{opposite_end, has_end, end_at}
+use Rattle.ipcz_base.specs.Ends.{end_at}
 use Rattle.ipcz_base.specs.Limits.{last_number, is_printable, has_serials}
-use Rattle.ipcz_seq.specs.Queue.{current_item}
-use Rattle.ipcz_router.specs.Router.{is_terminal}
 use Rattle.ipcz_router.specs.Calls.{next_number, item_refusal, router_get_refusal, router_put_refusal}
-use Rattle.ipcz_node.specs.Node.{Found, holds_end, terminal_of}
+use Rattle.ipcz_node.specs.Node.{holds_end}
 use Rattle.ipcz_node.specs.Calls.{are_held_once, are_too_many, refusal_at, number_at, put_refusal, put_number, get_refusal, close_refusal}
 use Rattle.ipcz_node.specs.Calls.{serials_refusal}
 use Rattle.ipcz_world.specs.declared.step.Step.{Step}
 use Rattle.ipcz_world.specs.declared.step.Step.TheVariants.{Open, Put, Get, Close}
-use Rattle.ipcz_world.specs.declared.step.Reply.{Reply}
 use Rattle.ipcz_world.specs.declared.step.Reply.TheVariants as replies
-use Rattle.ipcz_world.specs.World.{World, Key, node_at, router_at, set_claimed}
-use Rattle.ipcz_world.specs.Steps.{Effect, refuse, unless, open_with, open_on, open_step, put_step, got_reply, get_reply, get_step}
+use Rattle.ipcz_world.specs.Steps.{Effect, refuse, open_with, open_on, open_step, put_step, got_reply, get_reply, get_step}
 use Rattle.ipcz_world.specs.Steps.{close_step, Scheduler, StepBy, Gives}
-use Rattle.ipcz_world.specs.Books.{Books, read, next_item, has_mark, is_closed, advance}
+use Rattle.ipcz_world.specs.Books.{next_item, has_mark, advance}
 use Rattle.ipcz_world.specs.Plain.{IsUnwritten, MayRefuse, Plain}
-use Rattle.ipcz_world.specs.Records.{Records, is_linked}
-use Rattle.ipcz_world.specs.Inv.{Inv}
 use Rattle.ipcz_world.proofs.facts.Finding.{IsTerminalOf, terminal_tells}
 use Rattle.ipcz_world.proofs.calls.Puts.{router_found}
 use Rattle.ipcz_world.proofs.calls.Gets.{get_tells}

@@ -2,29 +2,23 @@
 use Rattle.std.specs.Prelude.{◌≡◌, ◌<◌, ◌+◌, ℕ, Bool, true, false, cond, nat_eq, nat_lt, Option, Some, None, List, refl}
 use Rattle.std.proofs.Common.{arith, ap, subst, ◌∙◌, sym, inl, inr}
 use Rattle.std.proofs.lemmas.Bool.Decides.{nat_tests}
-use Rattle.ipcz_base.specs.declared.side.Side.TheVariants.{A, B}
-use Rattle.ipcz_base.specs.declared.end.End.{End}
+use Rattle.ipcz_world.proofs.Vocabulary.{A, B, End, Refusal, open_word, terminal_of, Reply, World, node_at, set_node, set_word}
+use Rattle.ipcz_world.proofs.Vocabulary.{set_claimed, unless, Books, Records, Opening, Linked, is_linked, Inv}
 use Rattle.ipcz_base.specs.declared.parcel.Parcel as parcels
-use Rattle.ipcz_base.specs.declared.refusal.Refusal.{Refusal}
 use Rattle.ipcz_base.specs.declared.refusal.Refusal.TheVariants as refusals
 use Rattle.ipcz_base.specs.Ends.{end_at}
 use Rattle.ipcz_word.specs.SideSets.{none}
-use Rattle.ipcz_word.specs.Word.{open_word}
-use Rattle.ipcz_node.specs.Node.{terminal_of}
 use Rattle.ipcz_node.specs.Calls.{put_refusal, put_node, put_number, get_refusal, get_node, close_refusal, close_node, serials_refusal}
 use Rattle.ipcz_node.specs.Calls.{open_node}
 use Rattle.ipcz_world.specs.declared.step.Step.{Step}
 use Rattle.ipcz_world.specs.declared.step.Step.TheVariants.{Open, Put, Get, Close}
-use Rattle.ipcz_world.specs.declared.step.Reply.{Reply}
 use Rattle.ipcz_world.specs.declared.step.Reply.TheVariants as replies
-use Rattle.ipcz_world.specs.World.{World, node_at, set_node, set_word, set_claimed}
-use Rattle.ipcz_world.specs.Steps.{Effect, refuse, unless, open_with, open_on, open_step, put_step, got_reply, get_reply, get_step}
+use Rattle.ipcz_world.specs.Steps.{Effect, refuse, open_with, open_on, open_step, put_step, got_reply, get_reply, get_step}
 use Rattle.ipcz_world.specs.Steps.{close_step, Scheduler, StepBy, Gives}
-use Rattle.ipcz_world.specs.Books.{Books, advance}
+use Rattle.ipcz_world.specs.Books.{advance}
 use Rattle.ipcz_world.specs.Routes.{add_link, routes_after}
-use Rattle.ipcz_world.specs.Records.{Records, Opening, Linked, CentralRecord, set_owner, set_central, at_side, is_linked, routes_of}
+use Rattle.ipcz_world.specs.Records.{CentralRecord, set_owner, set_central, at_side, routes_of}
 use Rattle.ipcz_world.specs.Remembering.{opening_records, open_records, records_after}
-use Rattle.ipcz_world.specs.Inv.{Inv}
 use Rattle.ipcz_world.proofs.calls.Puts.{inv-put, inv-close}
 use Rattle.ipcz_world.proofs.calls.Gets.{get_tells, inv-get}
 use Rattle.ipcz_world.proofs.calls.OpeningPair.{inv-opened}

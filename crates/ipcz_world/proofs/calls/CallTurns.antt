@@ -4,25 +4,21 @@
 use Rattle.std.specs.Prelude.{◌≡◌, ◌<◌, ℕ, Bool, true, false, cond, nat_eq, Some, None, refl}
 use Rattle.std.proofs.Common.{arith, ap, subst, ◌∙◌, sym}
 use Rattle.std.proofs.lemmas.Bool.Decides.{nat_tests}
-use Rattle.ipcz_base.specs.declared.end.End.{End}
-use Rattle.ipcz_router.specs.Router.{Router}
-use Rattle.ipcz_router.specs.ActTable.{is_possible}
+use Rattle.ipcz_world.proofs.Vocabulary.{End, Router, is_possible, Close, router_in, World, node_at, router_at, after_act, can_take}
+use Rattle.ipcz_world.proofs.Vocabulary.{Books, Records, Owner, Spare, Opening, Fresh, Linked, is_linked, is_unclaimed, Inv}
 use Rattle.ipcz_router.specs.declared.act.RouterAct.TheVariants.{Discard}
-use Rattle.ipcz_node.specs.declared.act.Act.TheVariants.{Close, Router as OfRouter}
+use Rattle.ipcz_node.specs.declared.act.Act.TheVariants.{Router as OfRouter}
 use Rattle.ipcz_node.specs.declared.happened.Happened.{Happened}
 use Rattle.ipcz_node.specs.declared.happened.Happened.TheVariants as events
-use Rattle.ipcz_node.specs.Node.{router_in}
 use Rattle.ipcz_node.specs.Events.{router_event, event_at, event_of}
 use Rattle.ipcz_world.specs.declared.step.Step.TheVariants.{Turn}
 use Rattle.ipcz_world.specs.declared.step.Reply.TheVariants.{Turned}
-use Rattle.ipcz_world.specs.World.{World, node_at, router_at}
-use Rattle.ipcz_world.specs.Turns.{router_of, after_act, router_seen, turn_event, can_take}
+use Rattle.ipcz_world.specs.Turns.{router_of, router_seen, turn_event}
 use Rattle.ipcz_world.specs.Steps.{claim_for_open}
-use Rattle.ipcz_world.specs.Books.{Books, after_turn, advance}
+use Rattle.ipcz_world.specs.Books.{after_turn, advance}
 use Rattle.ipcz_world.specs.Routes.{routes_after_turn, routes_after}
-use Rattle.ipcz_world.specs.Records.{Records, Owner, Unclaimed, Spare, Opening, Fresh, Linked, is_linked, is_unclaimed, routes_of}
+use Rattle.ipcz_world.specs.Records.{Unclaimed, routes_of}
 use Rattle.ipcz_world.specs.Remembering.{opening_records, records_after_turn, records_after}
-use Rattle.ipcz_world.specs.Inv.{Inv}
 use Rattle.ipcz_world.proofs.calls.Puts.{inv-pending}
 use Rattle.ipcz_world.proofs.calls.Gets.{inv-discard}
 use Rattle.ipcz_world.proofs.calls.OpenedNodes.{inv-claim_for_open}

@@ -1,31 +1,21 @@
 -- A node after an open: two terminals more, held by its callers.
 use Rattle.ipcz_world.proofs.weights.OfRecords.{holds, held_times, source, in_message, in_node, in_places}
-use Rattle.ipcz_world.specs.Places.{in_node as in_node', Weight, in_router, times}
+use Rattle.ipcz_world.proofs.Vocabulary.{Weight, in_router, times, Side, A, B, End, LinkId, Central, Peripheral, opposite, opposite_end}
+use Rattle.ipcz_world.proofs.Vocabulary.{total, total_below, total_list, Node, World, Key, node_at, word_at, router_at, flow, Books}
+use Rattle.ipcz_world.proofs.Vocabulary.{Records, Owner, Opening, Terminal, is_linked, is_unclaimed, is_recorded, is_nowhere, IsUnderWay}
+use Rattle.ipcz_world.proofs.Vocabulary.{times_held, Inv}
+use Rattle.ipcz_world.specs.Places.{in_node as in_node'}
 use Rattle.ipcz_world.specs.Routes.{source as source'}
 use Rattle.std.specs.Prelude.{◌≡◌, ◌≢◌, ◌⊎◌, ◌<◌, ◌+◌, ℕ, Bool, true, false, cond, nat_eq, Some, None, refl, []}
 use Rattle.std.specs.Ordering.{nat_cmp}
 use Rattle.std.proofs.Common.{arith, ap, subst, ◌∙◌, sym, inl, inr}
 use Rattle.std.proofs.lemmas.Bool.Decides.{nat_tests}
-use Rattle.ipcz_base.specs.declared.side.Side.{Side}
-use Rattle.ipcz_base.specs.declared.side.Side.TheVariants.{A, B}
-use Rattle.ipcz_base.specs.declared.end.End.{End}
-use Rattle.ipcz_base.specs.declared.link_id.LinkId.{LinkId}
-use Rattle.ipcz_base.specs.declared.link_id.LinkId.TheVariants.{Central, Peripheral}
-use Rattle.ipcz_base.specs.Sides.{opposite}
-use Rattle.ipcz_base.specs.Ends.{opposite_end}
-use Rattle.ipcz_base.specs.Totals.{total, total_below, total_list}
 use Rattle.ipcz_base.proofs.Totals.{total-empty}
-use Rattle.ipcz_node.specs.Node.{Node, new_end}
-use Rattle.ipcz_world.specs.World.{World, Key, node_at, word_at, router_at, flow}
+use Rattle.ipcz_node.specs.Node.{new_end}
 use Rattle.ipcz_world.proofs.frames.Frames.{frames}
 use Rattle.ipcz_world.specs.Steps.{claim_for_open}
-use Rattle.ipcz_world.specs.Books.{Books}
-use Rattle.ipcz_world.specs.Records.{Records, Owner, Unclaimed, Opening, CentralRecord, Terminal, is_linked, is_unclaimed, is_recorded}
-use Rattle.ipcz_world.specs.Records.{is_nowhere}
+use Rattle.ipcz_world.specs.Records.{Unclaimed, CentralRecord}
 use Rattle.ipcz_world.specs.Remembering.{opening_records}
-use Rattle.ipcz_world.specs.Flows.{IsUnderWay}
-use Rattle.ipcz_world.specs.Whereabouts.{times_held}
-use Rattle.ipcz_world.specs.Inv.{Inv}
 use Rattle.ipcz_world.proofs.frames.Changing.{flow_is, same_routers}
 use Rattle.ipcz_world.proofs.flows.Flowing.{under_way-congr}
 use Rattle.ipcz_world.proofs.weights.Weighing.{in_places-is, in_router-is, under_way-same, in_message-same}

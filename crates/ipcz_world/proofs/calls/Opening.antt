@@ -2,21 +2,14 @@
 use Rattle.std.specs.Prelude.{◌≡◌, ◌<◌, ◌+◌, ℕ, Bool, true, false, cond, nat_lt, Option, Some, None, refl}
 use Rattle.std.proofs.Common.{arith, ap, subst, sym}
 use Rattle.std.proofs.lemmas.Bool.Decides.{nat_tests}
-use Rattle.ipcz_base.specs.declared.side.Side.TheVariants.{A, B}
-use Rattle.ipcz_base.specs.Indexed.{put_place}
-use Rattle.ipcz_word.specs.Word.{empty_word, open_word}
-use Rattle.ipcz_node.specs.Node.{Node, bare_node}
+use Rattle.ipcz_world.proofs.Vocabulary.{A, B, put_place, empty_word, open_word, Node, bare_node, Refusal, World, node_at, set_node}
+use Rattle.ipcz_world.proofs.Vocabulary.{set_word, set_claimed, unless, Books, Records, Inv}
 use Rattle.ipcz_node.specs.Calls.{open_node, serials_refusal}
-use Rattle.ipcz_base.specs.declared.refusal.Refusal.{Refusal}
 use Rattle.ipcz_base.specs.declared.refusal.Refusal.TheVariants as refusals
 use Rattle.ipcz_world.specs.declared.step.Reply.TheVariants as replies
-use Rattle.ipcz_world.specs.World.{World, node_at, set_node, set_word, set_claimed}
 use Rattle.ipcz_world.proofs.frames.Frames.{frames}
-use Rattle.ipcz_world.specs.Steps.{claim_for_open, open_on, unless, refuse}
-use Rattle.ipcz_world.specs.Books.{Books}
-use Rattle.ipcz_world.specs.Records.{Records}
+use Rattle.ipcz_world.specs.Steps.{claim_for_open, open_on, refuse}
 use Rattle.ipcz_world.specs.Remembering.{opening_records, open_records}
-use Rattle.ipcz_world.specs.Inv.{Inv}
 use Rattle.ipcz_world.proofs.calls.OpenedNodes.{inv-claim_for_open}
 use Rattle.ipcz_world.proofs.calls.OpeningPair.{inv-opened}
 use Rattle.ipcz_world.proofs.acts.Updating.{put-twice}

@@ -7,28 +7,18 @@ use Rattle.std.specs.Cmp.{nat_cmp_total}
 use Rattle.std.specs.FinMap.{get, insert, nat_cmp-IsAntisymmetric}
 use Rattle.std.proofs.Common.{arith, ap, subst, ◌∙◌, sym, inl, inr}
 use Rattle.std.proofs.lemmas.Bool.Decides.{nat_tests}
-use Rattle.ipcz_base.specs.declared.side.Side.{Side}
-use Rattle.ipcz_base.specs.declared.side.Side.TheVariants.{A, B}
-use Rattle.ipcz_base.specs.declared.end.End.{End}
-use Rattle.ipcz_base.specs.Sides.{same_side}
+use Rattle.ipcz_world.proofs.Vocabulary.{Side, A, B, End, same_side, opposite_end, same_end, has_end, total, open_word, Router, Node}
+use Rattle.ipcz_world.proofs.Vocabulary.{outbox, World, Key, messages_in, node_at, word_at, mail_at, way, router_at, flow, set_node}
+use Rattle.ipcz_world.proofs.Vocabulary.{set_word, Books, Records, Owner, Spare, Opening, Fresh, Linked, Terminal, At, is_linked}
+use Rattle.ipcz_world.proofs.Vocabulary.{is_unclaimed, terminal_node, is_nowhere, Weight, in_router, times, times_held, Inv}
 use Rattle.ipcz_word.specs.SideSets.{none as no_sides}
-use Rattle.ipcz_base.specs.Ends.{opposite_end, same_end, has_end}
-use Rattle.ipcz_base.specs.Totals.{total}
 use Rattle.ipcz_base.proofs.Totals.{total-insert_new}
-use Rattle.ipcz_word.specs.Word.{open_word}
-use Rattle.ipcz_router.specs.Router.{Router}
-use Rattle.ipcz_node.specs.Node.{Node, new_end, outbox}
+use Rattle.ipcz_node.specs.Node.{new_end}
 use Rattle.ipcz_node.specs.Calls.{open_node}
-use Rattle.ipcz_world.specs.World.{World, Key, messages_in, node_at, word_at, mail_at, way, router_at, flow, set_node, set_word}
 use Rattle.ipcz_world.proofs.frames.Frames.{frames, word-set_node, claimed-set_node, size-set_node, count-set_node, node-set_node}
 use Rattle.ipcz_world.proofs.frames.Frames.{node-set_word}
-use Rattle.ipcz_world.specs.Books.{Books}
-use Rattle.ipcz_world.specs.Records.{Records, at_side, Owner, Spare, Opening, Fresh, Linked, CentralRecord, Terminal, At, is_linked}
-use Rattle.ipcz_world.specs.Records.{is_unclaimed, terminal_node, is_nowhere}
+use Rattle.ipcz_world.specs.Records.{at_side, CentralRecord}
 use Rattle.ipcz_world.specs.Remembering.{open_records}
-use Rattle.ipcz_world.specs.Places.{Weight, in_router, times}
-use Rattle.ipcz_world.specs.Whereabouts.{times_held}
-use Rattle.ipcz_world.specs.Inv.{Inv}
 use Rattle.ipcz_world.proofs.frames.Changing.{IsNodeChanged, flow_is, same_routers}
 use Rattle.ipcz_world.proofs.weights.Holding.{pair_ends, times_held-at, times_held-changed, times-with_ends, holds-with_ends}
 use Rattle.ipcz_world.proofs.weights.Holding.{held_times-most, same_end-turned}

@@ -5,27 +5,20 @@ use Rattle.std.specs.Prelude.{List, [], ◌∷◌, length, refl}
 use Rattle.std.specs.FinMap.{get}
 use Rattle.std.proofs.Common.{arith, ap, subst, ◌∙◌, sym, inl, inr}
 use Rattle.std.proofs.lemmas.Bool.Decides.{nat_tests}
-use Rattle.ipcz_base.specs.declared.end.End.{End}
+use Rattle.ipcz_world.proofs.Vocabulary.{End, Item, Refusal, opposite_end, same_end, has_end, Router, is_terminal, Node, Found}
+use Rattle.ipcz_world.proofs.Vocabulary.{terminal_of, commit, Close, World, Key, node_at, router_at, set_node, after_act, can_take, Books}
+use Rattle.ipcz_world.proofs.Vocabulary.{is_closed, Records, At, terminal_node, Weight, in_router, times, Inv}
 use Rattle.ipcz_base.specs.declared.parcel.Parcel as parcels
-use Rattle.ipcz_base.specs.declared.item.Item.{Item}
 use Rattle.ipcz_base.specs.declared.item.Item.TheVariants.{Parcel, Mark}
-use Rattle.ipcz_base.specs.declared.refusal.Refusal.{Refusal}
-use Rattle.ipcz_base.specs.Ends.{opposite_end, same_end, has_end}
 use Rattle.ipcz_base.specs.Limits.{last_number, most_bytes, most_ends, is_printable}
-use Rattle.ipcz_router.specs.Router.{Router, is_terminal}
 use Rattle.ipcz_router.specs.Calls.{next_number, put_item, router_put_refusal}
 use Rattle.ipcz_router.specs.Closing.{close_router}
-use Rattle.ipcz_node.specs.Node.{Node, Found, is_terminal_of, terminal_of, on_found, holds_end, without_ends}
-use Rattle.ipcz_node.specs.Acts.{rest_of, commit}
-use Rattle.ipcz_node.specs.declared.act.Act.TheVariants.{Close}
+use Rattle.ipcz_node.specs.Node.{is_terminal_of, on_found, holds_end, without_ends}
+use Rattle.ipcz_node.specs.Acts.{rest_of}
 use Rattle.ipcz_node.specs.Calls.{are_held_once, refusal_at, put_refusal, put_at_router, put_node, close_refusal, close_at_router}
 use Rattle.ipcz_node.specs.Calls.{close_end, close_node}
-use Rattle.ipcz_world.specs.World.{World, Key, node_at, router_at, set_node}
-use Rattle.ipcz_world.specs.Turns.{after_act, can_take, is_first_pending}
-use Rattle.ipcz_world.specs.Books.{Books, is_closed, add_put}
-use Rattle.ipcz_world.specs.Records.{Records, At, terminal_node}
-use Rattle.ipcz_world.specs.Places.{Weight, in_router, times}
-use Rattle.ipcz_world.specs.Inv.{Inv}
+use Rattle.ipcz_world.specs.Turns.{is_first_pending}
+use Rattle.ipcz_world.specs.Books.{add_put}
 use Rattle.ipcz_world.proofs.weights.Weighing.{in_router-is, in_pushed}
 use Rattle.ipcz_world.proofs.facts.Reaching.{is_reach}
 use Rattle.ipcz_world.proofs.weights.Booking.{flag, end_tells}

@@ -6,33 +6,23 @@ use Rattle.std.specs.Cmp.{nat_cmp_total}
 use Rattle.std.specs.FinMap.{get-insert}
 use Rattle.std.proofs.Common.{arith, ap, subst, ◌∙◌, sym, inl, inr}
 use Rattle.std.proofs.lemmas.Bool.Decides.{nat_tests}
-use Rattle.ipcz_base.specs.declared.side.Side.{Side}
-use Rattle.ipcz_base.specs.declared.side.Side.TheVariants.{A, B}
-use Rattle.ipcz_base.specs.declared.end.End.{End}
-use Rattle.ipcz_base.specs.declared.link_id.LinkId.{LinkId}
-use Rattle.ipcz_base.specs.declared.link_id.LinkId.TheVariants.{Central, Peripheral}
-use Rattle.ipcz_base.specs.declared.item.Item.{Item}
+use Rattle.ipcz_world.proofs.Vocabulary.{Side, A, B, End, LinkId, Central, Peripheral, Item, opposite, opposite_end, same_end, has_end}
+use Rattle.ipcz_world.proofs.Vocabulary.{has_link, Edge, Queue, item_at, Router, is_terminal, ends_in, World, Key, same_key, node_at}
+use Rattle.ipcz_world.proofs.Vocabulary.{router_at, flow, Books, read, is_closed, Records, At, terminal_node, is_nowhere, view}
+use Rattle.ipcz_world.proofs.Vocabulary.{taking_queue, is_attached, Weight, at_end, names_end, times, Ordered, is_outward, EndPlaces}
+use Rattle.ipcz_world.proofs.Vocabulary.{BooksKept, Conserved, HeldOnce, times_held, Items, Order, ProxyNumbers, FreshNumbers, Inv}
 use Rattle.ipcz_base.specs.declared.item.Item.TheVariants.{Parcel, Mark}
 use Rattle.ipcz_base.specs.declared.message.Message.TheVariants as messages
-use Rattle.ipcz_base.specs.Sides.{opposite}
-use Rattle.ipcz_base.specs.Ends.{opposite_end, same_end, has_end}
 use Rattle.ipcz_base.specs.Limits.{last_number}
-use Rattle.ipcz_base.specs.Links.{has_link}
-use Rattle.ipcz_edge.specs.Edge.{Edge, edge_has, no_edge}
-use Rattle.ipcz_seq.specs.Queue.{Queue, item_at, push_at, reach}
-use Rattle.ipcz_router.specs.Router.{Router, is_terminal}
-use Rattle.ipcz_base.specs.Items.{is_mark, ends_in}
+use Rattle.ipcz_edge.specs.Edge.{edge_has, no_edge}
+use Rattle.ipcz_seq.specs.Queue.{push_at, reach}
+use Rattle.ipcz_base.specs.Items.{is_mark}
 use Rattle.ipcz_router.specs.Calls.{next_number}
-use Rattle.ipcz_world.specs.World.{World, Key, same_key, node_at, router_at, flow}
 use Rattle.ipcz_world.proofs.frames.Frames.{same_key_tells, same_key-itself}
-use Rattle.ipcz_world.specs.Books.{Books, read, is_closed, has_mark, add_put}
-use Rattle.ipcz_world.specs.Records.{Records, At, terminal_node, is_nowhere}
-use Rattle.ipcz_world.specs.Standing.{view, taking_queue, is_attached}
-use Rattle.ipcz_world.specs.Places.{Weight, at_end, names_end, times, from_number, unread_weight}
-use Rattle.ipcz_world.specs.Structure.{Ordered, is_outward, is_begun_router}
-use Rattle.ipcz_world.specs.Whereabouts.{EndPlaces, BooksKept, Conserved, HeldOnce, times_held, times_closed}
-use Rattle.ipcz_world.specs.Numbers.{Items, Order, ProxyNumbers, FreshNumbers}
-use Rattle.ipcz_world.specs.Inv.{Inv}
+use Rattle.ipcz_world.specs.Books.{has_mark, add_put}
+use Rattle.ipcz_world.specs.Places.{from_number, unread_weight}
+use Rattle.ipcz_world.specs.Structure.{is_begun_router}
+use Rattle.ipcz_world.specs.Whereabouts.{times_closed}
 use Rattle.ipcz_world.proofs.frames.Touching.{IsTouched, IsAlike, HasSameHands, hands-same, recorded_same, counts-touched, shape-touched}
 use Rattle.ipcz_world.proofs.frames.Touching.{links-touched, positions-touched, stands-touched, words-touched, spares-touched}
 use Rattle.ipcz_world.proofs.frames.Touching.{bypasses-touched, stages-touched, terminals-touched}

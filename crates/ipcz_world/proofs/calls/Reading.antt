@@ -3,25 +3,17 @@ use Rattle.ipcz_world.proofs.weights.OfRecords.{holds, in_places}
 use Rattle.std.specs.Prelude.{◌≡◌, ◌≢◌, ◌⊎◌, ◌≤◌, ◌<◌, ◌+◌, ℕ, zero, suc, Bool, true, false, cond, ◌&&◌, nat_eq, Some, refl, List, [], ◌∷◌}
 use Rattle.std.specs.Prelude.{length, take, drop, map, slice_get}
 use Rattle.std.proofs.Common.{arith, ap, subst, ◌∙◌, sym, inl, inr}
-use Rattle.ipcz_base.specs.declared.end.End.{End}
+use Rattle.ipcz_world.proofs.Vocabulary.{End, Item, opposite_end, has_end, total, item_at, current_item, Router, is_terminal, ends_in}
+use Rattle.ipcz_world.proofs.Vocabulary.{World, Key, same_key, node_at, router_at, flow, Books, read, is_closed, Records, At}
+use Rattle.ipcz_world.proofs.Vocabulary.{terminal_node, Weight, in_router, at_end, names_end, times, EndPlaces, BooksKept, Conserved}
+use Rattle.ipcz_world.proofs.Vocabulary.{HeldOnce, times_held, Items, FreshNumbers, Inv}
 use Rattle.ipcz_base.specs.declared.parcel.Parcel as parcels
-use Rattle.ipcz_base.specs.declared.item.Item.{Item}
 use Rattle.ipcz_base.specs.declared.item.Item.TheVariants.{Parcel}
 use Rattle.ipcz_base.specs.declared.message.Message.TheVariants as messages
-use Rattle.ipcz_base.specs.Ends.{opposite_end, has_end}
-use Rattle.ipcz_base.specs.Totals.{total}
-use Rattle.ipcz_seq.specs.Queue.{item_at, current_item}
-use Rattle.ipcz_router.specs.Router.{Router, is_terminal}
 use Rattle.ipcz_router.specs.Calls.{take_item, next_number}
-use Rattle.ipcz_base.specs.Items.{ends_in, same_item}
-use Rattle.ipcz_world.specs.World.{World, Key, same_key, node_at, router_at, flow}
+use Rattle.ipcz_base.specs.Items.{same_item}
 use Rattle.ipcz_world.proofs.frames.Frames.{same_key-itself}
-use Rattle.ipcz_world.specs.Books.{Books, read, is_closed}
-use Rattle.ipcz_world.specs.Records.{Records, At, terminal_node}
-use Rattle.ipcz_world.specs.Places.{Weight, in_router, at_end, names_end, times, from_number, unread_weight}
-use Rattle.ipcz_world.specs.Whereabouts.{EndPlaces, BooksKept, Conserved, HeldOnce, times_held}
-use Rattle.ipcz_world.specs.Numbers.{Items, FreshNumbers}
-use Rattle.ipcz_world.specs.Inv.{Inv}
+use Rattle.ipcz_world.specs.Places.{from_number, unread_weight}
 use Rattle.ipcz_world.proofs.frames.Touching.{IsTouched, IsAlike, HasSameHands, hands-same, counts-touched, shape-touched, links-touched}
 use Rattle.ipcz_world.proofs.frames.Touching.{positions-touched, stands-touched, words-touched, spares-touched, bypasses-touched}
 use Rattle.ipcz_world.proofs.frames.Touching.{stages-touched, terminals-touched}

@@ -2,13 +2,12 @@
 use Rattle.std.specs.Prelude.{◌≡◌, ◌<◌, ◌≤◌, ◌-◌, ◌+◌, ℕ, zero, suc, List, [], ◌∷◌, ◌++◌, length, map, take, replicate, refl}
 use Rattle.std.proofs.Common.{arith, ap, sym, ◌∙◌, append_assoc, append-nil}
 use Rattle.std.proofs.lemmas.List.{map-append, length-replicate, take_all}
-use Rattle.ipcz_node.specs.Node.{Node}
+use Rattle.ipcz_world.proofs.Vocabulary.{Node, empty_word, open_word}
 use Rattle.ipcz_node.specs.FirstPairs.{new_node}
 use Rattle.ipcz_node.specs.RoomyNodes.{RoomyNode}
 use Rattle.ipcz_word.specs.Layout.{word_of_bits}
 use Rattle.ipcz_word.specs.SideSets.{both}
 use Rattle.ipcz_word.specs.SideSets as sides
-use Rattle.ipcz_word.specs.Word.{empty_word, open_word}
 use Rattle.ipcz_world.specs.World.{new_nodes, numbers_from}
 use Rattle.ipcz_world.proofs.code.StatesOfNodes.{nodes_of}
 use Rattle.ipcz_world.proofs.code.Tables.{open_number}

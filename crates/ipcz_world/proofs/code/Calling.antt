@@ -2,29 +2,21 @@
 use Rattle.std.specs.Prelude.{◌≡◌, ◌<◌, ◌+◌, ℕ, true, false, nat_lt, Option, Some, None, unwrap_or, length}
 use Rattle.std.proofs.Common.{arith, ap, sym, subst, refl, inl, inr, ◌∙◌}
 use Rattle.std.proofs.lemmas.Bool.Decides.{nat_tests}
-use Rattle.ipcz_base.specs.declared.refusal.Refusal.{Refusal}
+use Rattle.ipcz_world.proofs.Vocabulary.{Refusal, Reply, A, B, End, Item, put_place, current_item, empty_word, open_word, Node, Found}
+use Rattle.ipcz_world.proofs.Vocabulary.{bare_node, terminal_of, World, node_at, set_node, set_word, set_claimed, unless}
 use Rattle.ipcz_base.specs.declared.refusal.Refusal.TheVariants.{OutOfMemory, NoWord}
-use Rattle.ipcz_world.specs.declared.step.Reply.{Reply}
 use Rattle.ipcz_world.specs.declared.step.Reply.TheVariants.{Opened, Put, Got, Closed, Refused}
-use Rattle.ipcz_base.specs.declared.side.Side.TheVariants.{A, B}
-use Rattle.ipcz_base.specs.declared.end.End.{End}
-use Rattle.ipcz_base.specs.declared.item.Item.{Item}
 use Rattle.ipcz_base.specs.declared.item.Item.TheVariants.{Parcel as OfParcel, Mark}
 use Rattle.ipcz_base.specs.declared.parcel.Parcel as parcels
 use Rattle.ipcz_base.specs.Ends.{end_at}
-use Rattle.ipcz_base.specs.Indexed.{put_place}
-use Rattle.ipcz_seq.specs.Queue.{current_item}
-use Rattle.ipcz_word.specs.Word.{empty_word, open_word}
-use Rattle.ipcz_node.specs.Node.{Node, Found, bare_node, terminal_of}
 use Rattle.ipcz_node.specs.Calls.{put_refusal, put_node, put_number, get_refusal, get_node, got_at, got_at_found, item_got, close_refusal}
 use Rattle.ipcz_node.specs.Calls.{close_node, serials_refusal, open_node}
-use Rattle.ipcz_world.specs.World.{World, node_at, set_node, set_word, set_claimed}
 use Rattle.ipcz_world.specs.Soundness.{HasLengths}
 use Rattle.ipcz_world.specs.Coding.{WordTable, put_word}
 use Rattle.ipcz_world.proofs.code.RouterActs.{retabled}
 use Rattle.ipcz_world.proofs.code.Slots.{length-put}
 use Rattle.ipcz_world.proofs.code.Taken.{with_node, unchanged}
-use Rattle.ipcz_world.specs.Steps.{Effect, unless, at_node, is_refused, Gives, GivesOrNoMemory, PutGives, got_reply, get_reply, open_with}
+use Rattle.ipcz_world.specs.Steps.{Effect, at_node, is_refused, Gives, GivesOrNoMemory, PutGives, got_reply, get_reply, open_with}
 use Rattle.ipcz_world.specs.Steps.{open_on, put_step, get_step, close_step}
 
 -- what is done at a node of the world

@@ -1,9 +1,8 @@
 -- A step of a lawful world: what it leads to is lawful, and its reply is one that the books allow.
 use Rattle.ipcz_world.specs.declared.step.Step.{Step}
-use Rattle.ipcz_world.specs.declared.step.Reply.{Reply}
-use Rattle.ipcz_world.specs.World.{World}
+use Rattle.ipcz_world.proofs.Vocabulary.{Reply, World, Books}
 use Rattle.ipcz_world.specs.Steps.{StepFirst}
-use Rattle.ipcz_world.specs.Books.{Books, advance}
+use Rattle.ipcz_world.specs.Books.{advance}
 use Rattle.ipcz_world.specs.Routes.{Routes, routes_after}
 use Rattle.ipcz_world.specs.Lawful.{Lawful}
 use Rattle.ipcz_world.specs.Lawfulness.{IsLawful}

@@ -6,7 +6,7 @@ use Rattle.ipcz_base.specs.declared.refusal.Refusal.TheVariants.{Stranger}
 use Rattle.ipcz_world.specs.declared.step.Step.{Step}
 use Rattle.ipcz_world.specs.declared.step.Step.TheVariants.{Open, Put, Get, Close, Turn}
 use Rattle.ipcz_world.specs.declared.step.Reply.TheVariants.{Refused}
-use Rattle.ipcz_world.specs.World.{World}
+use Rattle.ipcz_world.proofs.Vocabulary.{World}
 use Rattle.ipcz_world.specs.Turns.{next_at}
 use Rattle.ipcz_world.specs.Steps.{Effect, refuse, at_node, StepFirst}
 use Rattle.ipcz_world.specs.Lawfulness.{IsLawful}

@@ -2,18 +2,14 @@
 use Rattle.std.specs.Prelude.{◌≡◌, ◌<◌, ◌+◌, ℕ, Bool, true, false, ◌||◌, nat_lt, if◌then◌else◌, Option, Some, None, is_some, option_map}
 use Rattle.std.specs.Prelude.{IfSome, length}
 use Rattle.std.proofs.Common.{arith, ap, sym, subst, refl, ◌∙◌}
-use Rattle.ipcz_base.specs.declared.side.Side.{Side}
-use Rattle.ipcz_base.specs.Indexed.{place_at, put_place}
-use Rattle.ipcz_word.specs.SideSets.{has}
-use Rattle.ipcz_word.specs.Word.{Word, empty_word, plan_of, Plan, Locks, Waits, Refuses}
-use Rattle.ipcz_router.specs.Router.{Router, primary_word}
-use Rattle.ipcz_router.specs.ActTable.{is_possible, may_take, is_rest}
+use Rattle.ipcz_world.proofs.Vocabulary.{Side, place_at, put_place, has, Word, empty_word, Router, primary_word, is_possible, RouterAct}
+use Rattle.ipcz_world.proofs.Vocabulary.{World, word_at, set_word, set_claimed, answer_of}
+use Rattle.ipcz_word.specs.Word.{plan_of, Plan, Locks, Waits, Refuses}
+use Rattle.ipcz_router.specs.ActTable.{may_take, is_rest}
 use Rattle.ipcz_router.specs.ActEffects.{IsAnswerOf}
-use Rattle.ipcz_router.specs.declared.act.RouterAct.{RouterAct}
 use Rattle.ipcz_router.specs.declared.act.RouterAct.TheVariants as acts
 use Rattle.ipcz_router.specs.declared.act.Answer.TheVariants as answers
-use Rattle.ipcz_world.specs.World.{World, word_at, set_word, set_claimed}
-use Rattle.ipcz_world.specs.WordAnswers.{try_answer, word_answer, word_after, claim_answer, link_answer, answer_of, touch_word, claim_next}
+use Rattle.ipcz_world.specs.WordAnswers.{try_answer, word_answer, word_after, claim_answer, link_answer, touch_word, claim_next}
 use Rattle.ipcz_world.specs.WordAnswers.{touch}
 use Rattle.ipcz_world.specs.Coding.{WordTable, has_unclaimed, claim_one, is_claim, side_answer, side_after, table_answer, table_after}
 use Rattle.ipcz_world.specs.Coding.{table_of}

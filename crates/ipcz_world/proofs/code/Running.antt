@@ -4,11 +4,10 @@ use Rattle.std.proofs.Common.{refl, sym, ap, subst, ◌∙◌, get_or}
 use Rattle.std.proofs.lemmas.List.{take_more}
 use Rattle.ipcz_world.specs.declared.step.Step.{Step}
 use Rattle.ipcz_world.specs.declared.step.Step.TheVariants.{Turn}
-use Rattle.ipcz_world.specs.declared.step.Reply.{Reply}
+use Rattle.ipcz_world.proofs.Vocabulary.{Reply, World, Books}
 use Rattle.ipcz_world.specs.declared.step.Reply.TheVariants as replies
-use Rattle.ipcz_world.specs.World.{World}
 use Rattle.ipcz_world.specs.Steps.{StepFirst}
-use Rattle.ipcz_world.specs.Books.{Books, advance}
+use Rattle.ipcz_world.specs.Books.{advance}
 use Rattle.ipcz_world.specs.Routes.{Routes, routes_after}
 use Rattle.ipcz_world.specs.Settling.{AreVisits, next_node}
 use Rattle.ipcz_world.specs.FirstRuns.{AreSteps, KeepsLaw, KeepsLawByTurns, Leads}

@@ -1,7 +1,7 @@
 -- Lists read and written by index, in this project's words and in std's.
 use Rattle.std.specs.Prelude.{◌≡◌, ◌<◌, ◌≤◌, ℕ, zero, suc, List, [], ◌∷◌, length, map}
 use Rattle.std.proofs.Common.{arith, ap, sym, refl, get_or, set, ◌∙◌}
-use Rattle.ipcz_base.specs.Indexed.{place_at, put_place}
+use Rattle.ipcz_world.proofs.Vocabulary.{place_at, put_place}
 
 -- the element within a list, whatever lies beyond it
 pub get-place : {X : Type 0} (d e : X) (xs : List X) (i : ℕ) → i < length xs → get_or xs i e ≡ place_at d xs i

@@ -2,8 +2,7 @@
 use Rattle.std.specs.Prelude.{◌≡◌, ◌<◌, ℕ, List, length, map}
 use Rattle.std.proofs.Common.{arith, ap, sym, subst, get_or, set, ◌∙◌}
 use Rattle.std.proofs.lemmas.List.{get_or-map, map-set, length-map}
-use Rattle.ipcz_base.specs.Indexed.{place_at, put_place}
-use Rattle.ipcz_node.specs.Node.{Node, bare_node}
+use Rattle.ipcz_world.proofs.Vocabulary.{place_at, put_place, Node, bare_node}
 use Rattle.ipcz_node.specs.RoomyNodes.{RoomyNode}
 use Rattle.ipcz_world.proofs.code.Slots.{get-place, set-place}
 

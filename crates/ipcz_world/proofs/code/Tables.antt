@@ -4,11 +4,10 @@ use Rattle.std.proofs.Common.{arith, ap, sym, subst, refl, get_or, set, ◌∙�
 use Rattle.std.proofs.lemmas.Bool.Decides.{nat_tests}
 use Rattle.std.proofs.lemmas.List.{get_or-map, map-set, length-map}
 use Rattle.std.proofs.lemmas.List.Elements.{All-get_or}
-use Rattle.ipcz_base.specs.Indexed.{place_at, put_place}
+use Rattle.ipcz_world.proofs.Vocabulary.{place_at, put_place, Word, empty_word, open_word}
 use Rattle.ipcz_word.specs.Layout.{IsWord, word_of_bits, bits_of}
 use Rattle.ipcz_word.specs.SideSets.{both}
 use Rattle.ipcz_word.specs.SideSets as sides
-use Rattle.ipcz_word.specs.Word.{Word, empty_word, open_word}
 use Rattle.ipcz_world.specs.Coding.{WordTable, IsTable, claimed_word, put_word}
 use Rattle.ipcz_world.proofs.code.Slots.{get-place, set-place}
 use Rattle.ipcz_world.proofs.code.WordNumbers.{spelled}

@@ -3,37 +3,31 @@ use Rattle.std.specs.Prelude.{◌≡◌, ◌<◌, ℕ, true, false, ◌&&◌, no
 use Rattle.std.specs.Prelude.{IfSome, Result, Ok, Err, length, List, [], ◌∷◌}
 use Rattle.std.proofs.Common.{arith, ap, sym, subst, refl, ◌∙◌}
 use Rattle.std.proofs.lemmas.Bool.Decides.{nat_tests}
-use Rattle.ipcz_base.specs.declared.end.End.{End}
-use Rattle.ipcz_base.specs.declared.message.Message.{Message}
-use Rattle.ipcz_base.specs.declared.refusal.Refusal.{Refusal}
+use Rattle.ipcz_world.proofs.Vocabulary.{End, Message, Refusal, place_at, put_place, Side, Router, primary_word, RouterAct, Act, Close}
+use Rattle.ipcz_world.proofs.Vocabulary.{Node, bare_node, outbox, router_in, commit, Empty, World, node_at, mail_at, way, router_at}
+use Rattle.ipcz_world.proofs.Vocabulary.{set_node, set_mail, hand_message, after_act, can_take, answer_of}
 use Rattle.ipcz_base.specs.declared.refusal.Refusal.TheVariants.{NumbersEnd, OutOfMemory}
-use Rattle.ipcz_base.specs.Indexed.{place_at, put_place}
-use Rattle.ipcz_base.specs.declared.side.Side.{Side}
-use Rattle.ipcz_router.specs.Router.{Router, primary_word}
 use Rattle.ipcz_router.specs.ActTable.{may_take}
 use Rattle.ipcz_router.specs.ActEffects.{IsAnswerOf}
-use Rattle.ipcz_router.specs.declared.act.RouterAct.{RouterAct}
 use Rattle.ipcz_router.specs.declared.act.Answer.{Answer}
 use Rattle.ipcz_router.specs.declared.act.Answer.TheVariants.{Plain}
-use Rattle.ipcz_node.specs.declared.act.Act.{Act}
-use Rattle.ipcz_node.specs.declared.act.Act.TheVariants.{Hand as OfHand, Look, Post, Close, Router as OfRouter, Idle}
+use Rattle.ipcz_node.specs.declared.act.Act.TheVariants.{Hand as OfHand, Look, Post, Router as OfRouter, Idle}
 use Rattle.ipcz_node.specs.declared.happened.Happened.{Happened}
 use Rattle.ipcz_node.specs.declared.happened.Happened.TheVariants as events
 use Rattle.ipcz_node.specs.Hands.{is_hand_of, deliver, message_lacks_serials, message_grows}
-use Rattle.ipcz_node.specs.Node.{Node, bare_node, outbox, router_in, word_side}
-use Rattle.ipcz_node.specs.Acts.{has_mail_for, first_of, commit, post_of, act_lacks_serials, act_grows, Answers}
+use Rattle.ipcz_node.specs.Node.{word_side}
+use Rattle.ipcz_node.specs.Acts.{has_mail_for, first_of, post_of, act_lacks_serials, act_grows, Answers}
 use Rattle.ipcz_node.specs.RoomyNodes.{IsPossibleAct}
 use Rattle.ipcz_node.specs.Events.{event_of, hand_event}
 use Rattle.ipcz_world.specs.declared.mail.Mail.{Mail}
-use Rattle.ipcz_world.specs.declared.mail.Mail.TheVariants.{Empty, Full, Hand as InHand}
-use Rattle.ipcz_world.specs.World.{World, node_at, mail_at, way, router_at, set_node, set_mail}
-use Rattle.ipcz_world.specs.Turns.{hand_message, hand_seen, hand_lacks_serials, hand_grows, after_hand, router_seen, after_router_act}
-use Rattle.ipcz_world.specs.Turns.{may_act, is_full, is_clear, full_message, commit_at, after_look, after_post, after_act, turn_event}
-use Rattle.ipcz_world.specs.Turns.{turn_lacks_serials, turn_grows, can_take, is_first_pending}
+use Rattle.ipcz_world.specs.declared.mail.Mail.TheVariants.{Full, Hand as InHand}
+use Rattle.ipcz_world.specs.Turns.{hand_seen, hand_lacks_serials, hand_grows, after_hand, router_seen, after_router_act}
+use Rattle.ipcz_world.specs.Turns.{may_act, is_full, is_clear, full_message, commit_at, after_look, after_post, turn_event}
+use Rattle.ipcz_world.specs.Turns.{turn_lacks_serials, turn_grows, is_first_pending}
 use Rattle.ipcz_world.specs.Mailing.{taken_up, put_down}
 use Rattle.ipcz_world.specs.Soundness.{HasLengths}
 use Rattle.ipcz_world.specs.Coding.{WordTable, table_answer, table_after, table_of}
-use Rattle.ipcz_world.specs.WordAnswers.{answer_of, touch}
+use Rattle.ipcz_world.specs.WordAnswers.{touch}
 use Rattle.ipcz_world.specs.Taking.{IsRegular, IsTaken, IsCommitted}
 use Rattle.ipcz_world.proofs.code.RouterActs.{link_of, retabled, answers-as, touches-as, answers-kind}
 use Rattle.ipcz_world.proofs.code.Slots.{put-same, length-put}

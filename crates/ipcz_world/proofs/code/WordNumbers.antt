@@ -2,12 +2,10 @@
 use Rattle.std.specs.Prelude.{◌≡◌, ℕ, Bool, true, false, not, nat_eq}
 use Rattle.std.proofs.Common.{ap, sym, ◌∙◌, refl, arith}
 use Rattle.std.proofs.lemmas.Bool.Decides.{nat_tests}
-use Rattle.ipcz_base.specs.declared.side.Side.{Side}
-use Rattle.ipcz_base.specs.declared.side.Side.TheVariants.{A, B}
-use Rattle.ipcz_base.specs.Sides.{opposite}
+use Rattle.ipcz_world.proofs.Vocabulary.{Side, A, B, opposite, has, Word}
 use Rattle.ipcz_word.specs.Layout.{IsWord, word_of_bits, bits_of}
-use Rattle.ipcz_word.specs.SideSets.{Sides, has, without, has-without_here}
-use Rattle.ipcz_word.specs.Word.{Word, wake}
+use Rattle.ipcz_word.specs.SideSets.{Sides, without, has-without_here}
+use Rattle.ipcz_word.specs.Word.{wake}
 use Rattle.ipcz_word.proofs.Tables.{number_returns}
 
 -- a link word is the number of the sets that it stands for

@@ -2,13 +2,9 @@
 use Rattle.std.specs.Prelude.{◌≡◌, ◌≤◌, ℕ, true, Some, is_some, Bool, false, if◌then◌else◌, None, refl}
 use Rattle.std.proofs.Common.{arith, ◌∙◌, ap}
 use Rattle.std.proofs.lemmas.Bool.Decides.{nat_tests}
-use Rattle.ipcz_base.specs.declared.side.Side.{Side}
-use Rattle.ipcz_base.specs.declared.side.Side.TheVariants.{A, B}
-use Rattle.ipcz_base.specs.declared.link_id.LinkId.{LinkId}
-use Rattle.ipcz_base.specs.declared.link_id.LinkId.TheVariants.{Central}
-use Rattle.ipcz_world.specs.World.{Key}
-use Rattle.ipcz_world.specs.Records.{Records, inner_link, bypass_of, bypass_length, length_by, side_length, is_begun, proxy_side}
-use Rattle.ipcz_world.specs.Records.{across_side}
+use Rattle.ipcz_world.proofs.Vocabulary.{Side, A, B, LinkId, Central, Key, Records, inner_link, bypass_of, side_length, is_begun}
+use Rattle.ipcz_world.proofs.Vocabulary.{proxy_side, across_side}
+use Rattle.ipcz_world.specs.Records.{bypass_length, length_by}
 use Rattle.ipcz_world.proofs.facts.LinkTests.{same_side-opposite}
 use Rattle.ipcz_world.proofs.facts.Lengths.{same_side-itself, known_from-yes}
 use Rattle.ipcz_world.proofs.frames.RecordRules.{record_rules}

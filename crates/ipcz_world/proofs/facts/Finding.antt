@@ -1,6 +1,7 @@
 -- A router that is found in a node stands there and passes the test, and one that passes is found.
-use Rattle.ipcz_node.specs.Node.{is_terminal_of, Node, Found, first_where, find_router, terminal_of}
-use Rattle.ipcz_router.specs.Router.{is_open_terminal, Router, is_terminal}
+use Rattle.ipcz_world.proofs.Vocabulary.{Node, Found, terminal_of, Router, is_terminal, End, same_end}
+use Rattle.ipcz_node.specs.Node.{is_terminal_of, first_where, find_router}
+use Rattle.ipcz_router.specs.Router.{is_open_terminal}
 use Rattle.std.specs.Prelude.{not, ◌≡◌, ◌<◌, ℕ, Bool, true, false, cond, T, Some, List, [], ◌∷◌, refl, nat_eq}
 use Rattle.std.proofs.Common.{arith, sym, ◌∙◌, ap}
 use Rattle.std.proofs.lemmas.Bool.Decides.{nat_tests}
@@ -8,8 +9,6 @@ use Rattle.std.specs.Ordering.{nat_cmp, eq_by_cmp, is_lt, is_eq}
 use Rattle.std.specs.Cmp.{nat_cmp_total, tied_itself}
 use Rattle.std.specs.FinMap.{get, entries, entries_sorted, find, get-entries, is_sorted, FinMap, insert, get-insert}
 use Rattle.std.specs.FinMap.Entries.{below_all}
-use Rattle.ipcz_base.specs.declared.end.End.{End}
-use Rattle.ipcz_base.specs.Ends.{same_end}
 use Rattle.ipcz_world.proofs.facts.Reaching.{left, less, right}
 use Rattle.ipcz_world.proofs.facts.Tests.{and_first, and_second}
 use Rattle.ipcz_world.proofs.facts.LinkTests.{same_end-tells}

@@ -2,19 +2,14 @@
 use Rattle.std.specs.Prelude.{◌≡◌, ◌⊎◌, ◌≤◌, ℕ, suc, Bool, true, false, nat_le, if◌then◌else◌, Option, Some, None, refl}
 use Rattle.std.proofs.Common.{arith, ap, inl, inr}
 use Rattle.std.proofs.lemmas.Bool.Decides.{nat_tests}
-use Rattle.ipcz_base.specs.declared.side.Side.{Side}
-use Rattle.ipcz_base.specs.declared.side.Side.TheVariants.{A, B}
-use Rattle.ipcz_base.specs.declared.link_id.LinkId.{LinkId}
-use Rattle.ipcz_base.specs.declared.link_id.LinkId.TheVariants.{Central, Peripheral}
-use Rattle.ipcz_base.specs.declared.link_end.LinkEnd.{LinkEnd}
-use Rattle.ipcz_base.specs.Sides.{opposite, same_side}
-use Rattle.ipcz_base.specs.Links.{has_link, same_link}
-use Rattle.ipcz_router.specs.Router.{Router, outward_has, inward_has, router_has}
-use Rattle.ipcz_world.specs.World.{World, Key, router_at}
-use Rattle.ipcz_world.specs.Records.{Records, is_begun, inner_link, side_router, bypass_of, proxy_side, side_length, length_by}
-use Rattle.ipcz_world.specs.Records.{bypass_length, known_from}
-use Rattle.ipcz_world.specs.Standing.{Standing, Awaited, is_attached, router_view, awaited_view, view_by, view, key_passes, passes}
-use Rattle.ipcz_world.specs.Numbers.{has_passed}
+use Rattle.ipcz_world.proofs.Vocabulary.{Side, A, B, LinkId, Central, Peripheral, LinkEnd, opposite, same_side, has_link, same_link}
+use Rattle.ipcz_world.proofs.Vocabulary.{Router, router_has, World, Key, router_at, Records, is_begun, inner_link, side_router, bypass_of}
+use Rattle.ipcz_world.proofs.Vocabulary.{proxy_side, side_length, known_from, Standing, is_attached, router_view, view_by, view}
+use Rattle.ipcz_world.proofs.Vocabulary.{key_passes, passes, has_passed}
+use Rattle.ipcz_router.specs.Router.{outward_has, inward_has}
+use Rattle.ipcz_world.specs.Records.{length_by}
+use Rattle.ipcz_world.specs.Records.{bypass_length}
+use Rattle.ipcz_world.specs.Standing.{Awaited, awaited_view}
 use Rattle.std.proofs.lemmas.Bool.{or_right}
 
 pub opposite-twice : (s : Side) → opposite (opposite s) ≡ s

@@ -2,15 +2,8 @@
 use Rattle.std.specs.Prelude.{◌≡◌, ◌⊎◌, ◌≤◌, ◌<◌, ℕ, Bool, true, false, cond, nat_le, Option, Some, None, refl, nat_eq}
 use Rattle.std.proofs.Common.{arith, inl, inr}
 use Rattle.std.proofs.lemmas.Bool.Decides.{nat_tests}
-use Rattle.ipcz_base.specs.declared.side.Side.{Side}
-use Rattle.ipcz_base.specs.declared.side.Side.TheVariants.{A, B}
-use Rattle.ipcz_base.specs.declared.end.End.{End}
-use Rattle.ipcz_base.specs.declared.link_id.LinkId.{LinkId}
-use Rattle.ipcz_base.specs.declared.link_end.LinkEnd.{LinkEnd}
-use Rattle.ipcz_base.specs.Sides.{opposite, same_side}
-use Rattle.ipcz_base.specs.Ends.{same_end, opposite_end}
-use Rattle.ipcz_base.specs.Links.{has_link}
-use Rattle.ipcz_world.specs.Records.{known_from}
+use Rattle.ipcz_world.proofs.Vocabulary.{Side, A, B, End, LinkId, LinkEnd, opposite, same_side, same_end, opposite_end, has_link}
+use Rattle.ipcz_world.proofs.Vocabulary.{known_from}
 use Rattle.ipcz_world.proofs.facts.Lengths.{same_side-itself, same_side-tells, same_link-itself, opposite-twice, same_link-tells}
 use Rattle.ipcz_world.proofs.facts.Tests.{and_first, and_second}
 

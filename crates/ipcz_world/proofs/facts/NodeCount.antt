@@ -1,17 +1,12 @@
 -- An act leaves how many nodes there are.
 use Rattle.std.specs.Prelude.{◌≡◌, ℕ, ◌+◌, Bool, true, false, nat_lt, if◌then◌else◌, Option, Some, None, refl}
-use Rattle.ipcz_base.specs.declared.message.Message.{Message}
-use Rattle.ipcz_base.specs.declared.side.Side.{Side}
-use Rattle.ipcz_router.specs.Router.{Router, primary_word}
-use Rattle.ipcz_router.specs.declared.act.RouterAct.{RouterAct}
+use Rattle.ipcz_world.proofs.Vocabulary.{Message, Side, Router, primary_word, RouterAct, Act, Hand, Close, World, node_at, mail_at, way}
+use Rattle.ipcz_world.proofs.Vocabulary.{set_node, set_word, set_claimed, set_mail, after_act}
 use Rattle.ipcz_router.specs.declared.act.RouterAct.TheVariants as acts
-use Rattle.ipcz_node.specs.declared.act.Act.{Act}
-use Rattle.ipcz_node.specs.declared.act.Act.TheVariants.{Hand, Look, Post, Close, Router as OfRouter, Idle}
+use Rattle.ipcz_node.specs.declared.act.Act.TheVariants.{Look, Post, Router as OfRouter, Idle}
 use Rattle.ipcz_node.specs.Acts.{post_of}
-use Rattle.ipcz_world.specs.World.{World, node_at, mail_at, way, set_node, set_word, set_claimed, set_mail}
 use Rattle.ipcz_world.specs.WordAnswers.{claim_next, touch_word, touch}
 use Rattle.ipcz_world.specs.Turns.{message_in_hand, full_message, router_of, after_router_act, after_hand, after_look, after_post}
-use Rattle.ipcz_world.specs.Turns.{after_act}
 
 count-touch_word : (w : World) (s : Side) (a : RouterAct) (o : Option ℕ) → (touch_word w s a o).count ≡ w.count
 unfolding touch_word set_word

@@ -3,28 +3,18 @@ use Rattle.std.specs.Prelude.{◌≡◌, ◌≤◌, ℕ, zero, suc, Bool, true, 
 use Rattle.std.specs.Prelude.{slice_get}
 use Rattle.std.proofs.Common.{arith, ap, subst, ◌∙◌, sym}
 use Rattle.std.proofs.lemmas.Bool.Decides.{nat_tests}
-use Rattle.ipcz_base.specs.declared.side.Side.{Side}
-use Rattle.ipcz_base.specs.declared.side.Side.TheVariants.{A, B}
-use Rattle.ipcz_base.specs.declared.end.End.{End}
-use Rattle.ipcz_base.specs.declared.link_id.LinkId.{LinkId}
-use Rattle.ipcz_base.specs.declared.link_id.LinkId.TheVariants.{Central, Peripheral}
-use Rattle.ipcz_base.specs.declared.descriptor.Descriptor.{Descriptor}
-use Rattle.ipcz_base.specs.declared.message.Message.{Message}
+use Rattle.ipcz_world.proofs.Vocabulary.{Side, A, B, End, LinkId, Central, Peripheral, Descriptor, Message, same_link, opposite, same_end}
+use Rattle.ipcz_world.proofs.Vocabulary.{Router, World, Key, router_at, flow, Records, Terminal, At, is_linked, is_recorded, inner_link}
+use Rattle.ipcz_world.proofs.Vocabulary.{side_router, side_node, proxy_side, across_side, terminal_descriptor, view, view_by, router_view}
+use Rattle.ipcz_world.proofs.Vocabulary.{is_attached, is_awaited, IsUnderWay, makes, under_way, of_end, moves_of, total_list, Stands}
+use Rattle.ipcz_world.proofs.Vocabulary.{BypassRecords, Told, of_bypass, control_weight, inner_of, moving_link}
 use Rattle.ipcz_base.specs.declared.message.Message.TheVariants as messages
-use Rattle.ipcz_base.specs.Links.{same_link}
-use Rattle.ipcz_base.specs.Sides.{opposite}
-use Rattle.ipcz_base.specs.Ends.{same_end}
-use Rattle.ipcz_router.specs.Router.{Router}
 use Rattle.ipcz_node.specs.Hands.{has_moved}
-use Rattle.ipcz_world.specs.World.{World, Key, router_at, flow}
-use Rattle.ipcz_world.specs.Records.{Records, Terminal, Nowhere, At, Moving, Retired, is_linked, is_recorded, inner_link, side_router}
-use Rattle.ipcz_world.specs.Records.{side_node, proxy_side, across_side, terminal_descriptor, key_at}
+use Rattle.ipcz_world.specs.Records.{Nowhere, Moving, Retired}
+use Rattle.ipcz_world.specs.Records.{key_at}
 use Rattle.ipcz_world.proofs.frames.RecordRules.{record_rules, side_router-proxy}
-use Rattle.ipcz_world.specs.Standing.{view, view_by, router_view, is_attached, is_awaited}
-use Rattle.ipcz_world.specs.Flows.{IsUnderWay, makes, is_made_by, under_way, of_end, moves_of}
-use Rattle.ipcz_base.specs.Totals.{total_list}
-use Rattle.ipcz_world.specs.Structure.{Stands}
-use Rattle.ipcz_world.specs.Bypasses.{BypassRecords, Told, of_bypass, control_weight, accept_of, inner_of, move_weight, moving_link}
+use Rattle.ipcz_world.specs.Flows.{is_made_by}
+use Rattle.ipcz_world.specs.Bypasses.{accept_of, move_weight}
 use Rattle.ipcz_world.proofs.frames.Opened.{OpenMoves}
 use Rattle.ipcz_world.proofs.flows.Flowing.{same_way, found, made_within, total_list-found}
 use Rattle.ipcz_world.proofs.facts.Lengths.{opposite-twice, same_link-tells}

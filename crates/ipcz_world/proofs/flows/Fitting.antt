@@ -1,19 +1,11 @@
 -- What is said of an item under way, message by message.
 use Rattle.std.specs.Prelude.{◌≡◌, ◌≤◌, ◌<◌, ℕ, true, false, Some, None, is_some, refl, List}
 use Rattle.std.proofs.Common.{arith, subst, ◌∙◌, sym}
-use Rattle.ipcz_base.specs.declared.side.Side.{Side}
-use Rattle.ipcz_base.specs.declared.link_id.LinkId.{LinkId}
-use Rattle.ipcz_base.specs.declared.link_id.LinkId.TheVariants.{Central}
-use Rattle.ipcz_base.specs.declared.descriptor.Descriptor.{Descriptor}
-use Rattle.ipcz_base.specs.declared.item.Item.{Item}
-use Rattle.ipcz_base.specs.Sides.{opposite}
-use Rattle.ipcz_seq.specs.Queue.{Queue, item_at}
-use Rattle.ipcz_router.specs.Router.{Router}
-use Rattle.ipcz_world.specs.World.{World, Key}
-use Rattle.ipcz_world.specs.Records.{Records, is_recorded, side_node, side_length}
-use Rattle.ipcz_world.specs.Standing.{view, next_sent, taking_queue, may_have_sent, is_gone, is_awaited}
-use Rattle.ipcz_world.specs.Flows.{is_made_before}
-use Rattle.ipcz_world.specs.Numbers.{Items, IsItemUnderWay}
+use Rattle.ipcz_world.proofs.Vocabulary.{Side, LinkId, Central, Descriptor, Item, opposite, Queue, item_at, Router, World, Key, Records}
+use Rattle.ipcz_world.proofs.Vocabulary.{is_recorded, side_node, side_length, view, next_sent, taking_queue, is_gone, is_awaited}
+use Rattle.ipcz_world.proofs.Vocabulary.{is_made_before, Items}
+use Rattle.ipcz_world.specs.Standing.{may_have_sent}
+use Rattle.ipcz_world.specs.Numbers.{IsItemUnderWay}
 use Rattle.ipcz_world.proofs.frames.Touching.{recorded_same}
 use Rattle.ipcz_world.proofs.frames.Draining.{IsDraining, gone_same, awaited_same, sent_same, sent_before, taken_before, below_drained}
 

@@ -1,37 +1,22 @@
 -- Messages alone move: where routers and words are the same, and nothing is under way but what was and Flushes, the invariant is kept.
 use Rattle.ipcz_world.proofs.weights.OfRecords.{holds, held_times, in_node, in_message, in_places}
-use Rattle.ipcz_world.specs.Places.{in_message as in_message', in_node as in_node', Weight, at_end, names_end, times}
+use Rattle.ipcz_world.proofs.Vocabulary.{Weight, at_end, names_end, times, Side, A, B, End, LinkId, Central, Peripheral, LinkEnd}
+use Rattle.ipcz_world.proofs.Vocabulary.{Descriptor, Item, Message, opposite, has, has_end, is_central, Router, World, Key, node_at}
+use Rattle.ipcz_world.proofs.Vocabulary.{router_at, Books, Records, is_recorded, inner_link, side_node, side_router, across_side}
+use Rattle.ipcz_world.proofs.Vocabulary.{IsUnderWay, of_end, moves_of, total_below, total_list, view, view_by, router_view, passes}
+use Rattle.ipcz_world.proofs.Vocabulary.{key_passes, next_sent, taking_queue, is_gone, is_awaited, Counts, Ordered, Shape, Links}
+use Rattle.ipcz_world.proofs.Vocabulary.{IsRecorded, Positions, Stands, Words, Spares, BypassRecords, Stages, Told, of_bypass, inner_of}
+use Rattle.ipcz_world.proofs.Vocabulary.{Terminals, EndPlaces, BooksKept, Conserved, HeldOnce, times_held, Items, Order, ProxyNumbers}
+use Rattle.ipcz_world.proofs.Vocabulary.{FreshNumbers, standing_router, Inv}
+use Rattle.ipcz_world.specs.Places.{in_message as in_message', in_node as in_node'}
 use Rattle.std.specs.Prelude.{◌≡◌, ℕ, ◌+◌, Bool, true, false, Option, Some, None, List, [], slice_get, refl}
 use Rattle.std.specs.FinMap.{get}
 use Rattle.std.proofs.Common.{arith, sym, ◌∙◌, ap, inl, inr}
-use Rattle.ipcz_base.specs.declared.side.Side.{Side}
-use Rattle.ipcz_base.specs.declared.side.Side.TheVariants.{A, B}
-use Rattle.ipcz_base.specs.declared.end.End.{End}
-use Rattle.ipcz_base.specs.declared.link_id.LinkId.{LinkId}
-use Rattle.ipcz_base.specs.declared.link_id.LinkId.TheVariants.{Central, Peripheral}
-use Rattle.ipcz_base.specs.declared.link_end.LinkEnd.{LinkEnd}
-use Rattle.ipcz_base.specs.declared.descriptor.Descriptor.{Descriptor}
-use Rattle.ipcz_base.specs.declared.item.Item.{Item}
-use Rattle.ipcz_base.specs.declared.message.Message.{Message}
 use Rattle.ipcz_base.specs.declared.message.Message.TheVariants as messages
-use Rattle.ipcz_base.specs.Sides.{opposite}
-use Rattle.ipcz_word.specs.SideSets.{has}
-use Rattle.ipcz_base.specs.Ends.{has_end}
-use Rattle.ipcz_base.specs.Links.{is_central}
-use Rattle.ipcz_router.specs.Router.{Router}
 use Rattle.ipcz_node.specs.Hands.{link_asked, side_asked}
-use Rattle.ipcz_world.specs.World.{World, Key, node_at, router_at}
-use Rattle.ipcz_world.specs.Books.{Books}
-use Rattle.ipcz_world.specs.Records.{Records, is_recorded, inner_link, side_node, side_router, across_side}
-use Rattle.ipcz_world.specs.Flows.{IsUnderWay, of_end, moves_of}
-use Rattle.ipcz_base.specs.Totals.{total_below, total_list}
-use Rattle.ipcz_world.specs.Standing.{view, view_by, router_view, passes, key_passes, spare_of, next_sent, taking_queue, may_have_sent}
-use Rattle.ipcz_world.specs.Standing.{is_gone, is_awaited}
-use Rattle.ipcz_world.specs.Structure.{Counts, Ordered, Shape, Links, IsRecorded, Positions, Stands, Words, Spares}
-use Rattle.ipcz_world.specs.Bypasses.{BypassRecords, Stages, Told, Moves, of_bypass, inner_of}
-use Rattle.ipcz_world.specs.Whereabouts.{Terminals, EndPlaces, BooksKept, Conserved, HeldOnce, times_held}
-use Rattle.ipcz_world.specs.Numbers.{Items, Order, ProxyNumbers, FreshNumbers, IsItemUnderWay, standing_router}
-use Rattle.ipcz_world.specs.Inv.{Inv}
+use Rattle.ipcz_world.specs.Standing.{spare_of, may_have_sent}
+use Rattle.ipcz_world.specs.Bypasses.{Moves}
+use Rattle.ipcz_world.specs.Numbers.{IsItemUnderWay}
 use Rattle.ipcz_world.proofs.flows.Flowing.{CameFrom}
 use Rattle.ipcz_world.proofs.weights.Weighing.{in_places-is}
 use Rattle.ipcz_world.proofs.flows.MessagesPassing.{IsFlush, Passes, HasHands}

@@ -2,20 +2,12 @@
 use Rattle.std.specs.Prelude.{◌≡◌, ◌⊎◌, ◌<◌, ℕ, ◌+◌, ◌*◌, true, Some, is_some, take, slice_get, refl}
 use Rattle.std.proofs.Common.{arith, sym, ◌∙◌, ap, inl, inr}
 use Rattle.std.proofs.lemmas.Bool.Decides.{nat_tests}
-use Rattle.ipcz_base.specs.declared.side.Side.{Side}
-use Rattle.ipcz_base.specs.declared.link_id.LinkId.{LinkId}
-use Rattle.ipcz_base.specs.declared.message.Message.{Message}
+use Rattle.ipcz_world.proofs.Vocabulary.{Side, LinkId, Message, opposite, is_central, Node, World, node_at, word_at, mail_at, way, flow}
+use Rattle.ipcz_world.proofs.Vocabulary.{set_node, hand_message, Records, is_recorded, side_node, IsUnderWay, makes, under_way}
+use Rattle.ipcz_world.proofs.Vocabulary.{total_below, total_list, Counts}
 use Rattle.ipcz_base.specs.declared.message.Message.TheVariants as messages
-use Rattle.ipcz_base.specs.Sides.{opposite}
-use Rattle.ipcz_base.specs.Links.{is_central}
-use Rattle.ipcz_node.specs.Node.{Node}
-use Rattle.ipcz_world.specs.World.{World, node_at, word_at, mail_at, way, flow, set_node}
 use Rattle.ipcz_world.proofs.frames.Frames.{frames}
-use Rattle.ipcz_world.specs.Turns.{hand_message}
-use Rattle.ipcz_world.specs.Records.{Records, is_recorded, side_node}
-use Rattle.ipcz_world.specs.Flows.{IsUnderWay, makes, is_made_by, under_way}
-use Rattle.ipcz_base.specs.Totals.{total_below, total_list}
-use Rattle.ipcz_world.specs.Structure.{Counts}
+use Rattle.ipcz_world.specs.Flows.{is_made_by}
 use Rattle.ipcz_world.proofs.flows.Flowing.{IsPushed, IsTaken, CameFrom, came_pushed, came_taken, under_way-pushed, under_way-taken}
 use Rattle.ipcz_world.proofs.weights.Totalling.{total_below-same}
 

@@ -1,15 +1,10 @@
 -- Acts that leave the messages under way and the links' counters as they are: what is said of messages is kept.
 use Rattle.std.specs.Prelude.{◌≡◌, ℕ, take, refl}
 use Rattle.std.proofs.Common.{arith, sym, ◌∙◌, ap}
-use Rattle.ipcz_base.specs.declared.side.Side.{Side}
-use Rattle.ipcz_base.specs.declared.link_id.LinkId.{LinkId}
-use Rattle.ipcz_base.specs.declared.link_id.LinkId.TheVariants.{Central, Peripheral}
-use Rattle.ipcz_base.specs.declared.message.Message.{Message}
-use Rattle.ipcz_world.specs.World.{World, node_at, flow}
-use Rattle.ipcz_world.specs.Records.{Records, is_recorded}
-use Rattle.ipcz_world.specs.Flows.{IsUnderWay, is_made_by, is_made_before, under_way}
-use Rattle.ipcz_base.specs.Totals.{total_below, total_list}
-use Rattle.ipcz_world.specs.Bypasses.{BypassRecords, Told, Moves}
+use Rattle.ipcz_world.proofs.Vocabulary.{Side, LinkId, Central, Peripheral, Message, World, node_at, flow, Records, is_recorded}
+use Rattle.ipcz_world.proofs.Vocabulary.{IsUnderWay, is_made_before, under_way, total_below, total_list, BypassRecords, Told}
+use Rattle.ipcz_world.specs.Flows.{is_made_by}
+use Rattle.ipcz_world.specs.Bypasses.{Moves}
 use Rattle.ipcz_world.proofs.weights.Sums.{total_below-same}
 
 -- the same messages are under way, and the same links have records

@@ -4,16 +4,9 @@ use Rattle.std.specs.Prelude.{◌≡◌, ◌⊎◌, ◌≤◌, ◌<◌, ◌+◌,
 use Rattle.std.specs.FinMap.{get, insert}
 use Rattle.std.proofs.Common.{arith, ap, subst, ◌∙◌, sym, inl, inr}
 use Rattle.std.proofs.lemmas.Bool.Decides.{nat_tests}
-use Rattle.ipcz_base.specs.declared.end.End.{End}
-use Rattle.ipcz_base.specs.Ends.{has_end}
-use Rattle.ipcz_router.specs.Router.{Router}
-use Rattle.ipcz_node.specs.Node.{Node, outbox}
-use Rattle.ipcz_world.specs.World.{World, Key, node_at, way, router_at, flow, set_node}
+use Rattle.ipcz_world.proofs.Vocabulary.{End, has_end, Router, Node, outbox, World, Key, node_at, way, router_at, flow, set_node, Books}
+use Rattle.ipcz_world.proofs.Vocabulary.{is_closed, Records, is_nowhere, Weight, in_router, names_end, times, HeldOnce, times_held}
 use Rattle.ipcz_world.proofs.frames.Frames.{node-set_node, word-set_node, mail-set_node, claimed-set_node, size-set_node, count-set_node}
-use Rattle.ipcz_world.specs.Books.{Books, is_closed}
-use Rattle.ipcz_world.specs.Records.{Records, is_nowhere}
-use Rattle.ipcz_world.specs.Places.{Weight, in_router, names_end, times}
-use Rattle.ipcz_world.specs.Whereabouts.{HeldOnce, times_held}
 use Rattle.ipcz_world.proofs.frames.Touching.{IsTouched, HasSameHands}
 use Rattle.ipcz_world.proofs.frames.Changing.{IsNodeChanged, IsNodeAlike, touched_by, flow_is}
 use Rattle.ipcz_world.proofs.weights.Weighing.{in_places-is, in_nodes-changed, in_node-changed, under_way-same}

@@ -3,13 +3,10 @@ use Rattle.std.specs.Prelude.{◌≡◌, ◌<◌, ◌+◌, ◌*◌, ℕ, false, 
 use Rattle.std.specs.FinMap.{get, insert}
 use Rattle.std.proofs.Common.{arith, ap, ◌∙◌, sym}
 use Rattle.std.proofs.lemmas.Bool.Decides.{nat_tests}
-use Rattle.ipcz_base.specs.declared.message.Message.{Message}
-use Rattle.ipcz_base.specs.Indexed.{put_place}
+use Rattle.ipcz_world.proofs.Vocabulary.{Message, put_place, Router, Node, outbox, Empty, World, Key, node_at, word_at, mail_at, way}
+use Rattle.ipcz_world.proofs.Vocabulary.{router_at, messages_in, flow, set_router}
 use Rattle.ipcz_base.proofs.Indexed.{place_at-put_place}
-use Rattle.ipcz_router.specs.Router.{Router}
-use Rattle.ipcz_node.specs.Node.{Node, outbox}
-use Rattle.ipcz_world.specs.declared.mail.Mail.TheVariants.{Empty, Hand}
-use Rattle.ipcz_world.specs.World.{World, Key, node_at, word_at, mail_at, way, router_at, messages_in, flow, set_router}
+use Rattle.ipcz_world.specs.declared.mail.Mail.TheVariants.{Hand}
 use Rattle.ipcz_world.proofs.frames.Frames.{frames, router-set_router}
 use Rattle.ipcz_world.proofs.frames.Touching.{IsTouched}
 use Rattle.ipcz_world.proofs.flows.Flowing.{IsPushed, IsTaken, same_way}

@@ -3,15 +3,10 @@ use Rattle.std.specs.Prelude.{◌≡◌, ◌≢◌, ◌⊎◌, ◌<◌, ℕ, ◌
 use Rattle.std.proofs.Common.{arith, ap, ◌∙◌, sym, inl, inr}
 use Rattle.std.proofs.lemmas.Bool.Decides.{nat_tests}
 use Rattle.std.proofs.lemmas.Option.{same_Some}
-use Rattle.ipcz_base.specs.declared.side.Side.{Side}
-use Rattle.ipcz_base.specs.declared.link_id.LinkId.{LinkId}
-use Rattle.ipcz_router.specs.Router.{Router}
+use Rattle.ipcz_world.proofs.Vocabulary.{Side, LinkId, Router, World, Key, same_key, node_at, mail_at, way, router_at, hand_message}
+use Rattle.ipcz_world.proofs.Vocabulary.{Records, is_unclaimed, is_recorded, side_node, side_router, Counts}
 use Rattle.ipcz_world.specs.declared.mail.Mail.TheVariants as mails
-use Rattle.ipcz_world.specs.World.{World, Key, same_key, node_at, mail_at, way, router_at}
 use Rattle.ipcz_world.proofs.frames.Frames.{same_key_tells}
-use Rattle.ipcz_world.specs.Turns.{hand_message}
-use Rattle.ipcz_world.specs.Records.{Records, is_unclaimed, is_recorded, side_node, side_router}
-use Rattle.ipcz_world.specs.Structure.{Counts}
 use Rattle.ipcz_world.proofs.flows.Handing.{way_tells}
 use Rattle.ipcz_world.proofs.frames.Unmoved.{Changed}
 

@@ -4,22 +4,13 @@ use Rattle.std.specs.Cmp.{nat_cmp_total}
 use Rattle.std.specs.FinMap.{get-remove}
 use Rattle.std.proofs.Common.{arith, ap, subst, ◌∙◌, sym, inl, inr}
 use Rattle.std.proofs.lemmas.Bool.Decides.{nat_tests}
-use Rattle.ipcz_base.specs.declared.side.Side.{Side}
-use Rattle.ipcz_base.specs.declared.side.Side.TheVariants.{A, B}
-use Rattle.ipcz_base.specs.declared.link_id.LinkId.{LinkId}
-use Rattle.ipcz_base.specs.declared.link_id.LinkId.TheVariants.{Central, Peripheral}
-use Rattle.ipcz_base.specs.declared.link_end.LinkEnd.{LinkEnd}
-use Rattle.ipcz_base.specs.declared.item.Item.{Item}
-use Rattle.ipcz_base.specs.Sides.{opposite}
-use Rattle.ipcz_seq.specs.Queue.{Queue, item_at, pop_front}
-use Rattle.ipcz_router.specs.Router.{Router}
-use Rattle.ipcz_world.specs.World.{World, Key, same_key, router_at}
+use Rattle.ipcz_world.proofs.Vocabulary.{Side, A, B, LinkId, Central, Peripheral, LinkEnd, Item, opposite, Queue, item_at, Router, World}
+use Rattle.ipcz_world.proofs.Vocabulary.{Key, same_key, router_at, Records, side_length, across_side, Standing, view, next_sent}
+use Rattle.ipcz_world.proofs.Vocabulary.{taking_queue, is_gone, is_awaited, sending_queue, fed_queue, Ordered, inner_of, Order}
+use Rattle.ipcz_world.proofs.Vocabulary.{ProxyNumbers, FreshNumbers, has_passed, standing_router}
+use Rattle.ipcz_seq.specs.Queue.{pop_front}
 use Rattle.ipcz_world.proofs.frames.Frames.{same_key_tells}
-use Rattle.ipcz_world.specs.Records.{Records, side_length, across_side}
-use Rattle.ipcz_world.specs.Standing.{Standing, view, next_sent, taking_queue, may_have_sent, is_gone, is_awaited, sending_queue, fed_queue}
-use Rattle.ipcz_world.specs.Structure.{Ordered}
-use Rattle.ipcz_world.specs.Bypasses.{inner_of}
-use Rattle.ipcz_world.specs.Numbers.{Order, ProxyNumbers, FreshNumbers, has_passed, standing_router}
+use Rattle.ipcz_world.specs.Standing.{may_have_sent}
 use Rattle.ipcz_world.proofs.frames.Touching.{IsTouched, IsAlike, recorded_same}
 use Rattle.ipcz_world.proofs.views.Seen.{seen}
 

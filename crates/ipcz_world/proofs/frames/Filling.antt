@@ -4,21 +4,11 @@ use Rattle.std.specs.Cmp.{nat_cmp_total}
 use Rattle.std.specs.FinMap.{get-insert}
 use Rattle.std.proofs.Common.{arith, ap, subst, ◌∙◌, sym, inl, inr}
 use Rattle.std.proofs.lemmas.Bool.Decides.{nat_tests}
-use Rattle.ipcz_base.specs.declared.side.Side.{Side}
-use Rattle.ipcz_base.specs.declared.side.Side.TheVariants.{A, B}
-use Rattle.ipcz_base.specs.declared.link_id.LinkId.{LinkId}
-use Rattle.ipcz_base.specs.declared.link_id.LinkId.TheVariants.{Central, Peripheral}
-use Rattle.ipcz_base.specs.declared.item.Item.{Item}
-use Rattle.ipcz_base.specs.Sides.{opposite}
-use Rattle.ipcz_seq.specs.Queue.{Queue, item_at, push_at}
-use Rattle.ipcz_router.specs.Router.{Router}
-use Rattle.ipcz_world.specs.World.{World, Key, same_key, router_at}
+use Rattle.ipcz_world.proofs.Vocabulary.{Side, A, B, LinkId, Central, Peripheral, Item, opposite, Queue, item_at, Router, World, Key}
+use Rattle.ipcz_world.proofs.Vocabulary.{same_key, router_at, Records, view, next_sent, taking_queue, sending_queue, fed_queue}
+use Rattle.ipcz_world.proofs.Vocabulary.{is_outward, is_made_before, standing_router}
+use Rattle.ipcz_seq.specs.Queue.{push_at}
 use Rattle.ipcz_world.proofs.frames.Frames.{same_key_tells}
-use Rattle.ipcz_world.specs.Records.{Records}
-use Rattle.ipcz_world.specs.Standing.{view, next_sent, taking_queue, sending_queue, fed_queue}
-use Rattle.ipcz_world.specs.Structure.{is_outward}
-use Rattle.ipcz_world.specs.Flows.{is_made_before}
-use Rattle.ipcz_world.specs.Numbers.{standing_router}
 use Rattle.ipcz_world.proofs.frames.Touching.{IsTouched, IsAlike, recorded_same}
 use Rattle.ipcz_world.proofs.views.Seen.{IsSwapped, seen}
 use Rattle.ipcz_world.proofs.frames.Draining.{gone_same, awaited_same, sent_same, next_sent-standing, taking_queue-standing}

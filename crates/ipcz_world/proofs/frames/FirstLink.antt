@@ -1,12 +1,8 @@
 -- A word becomes a pair's first link: the invariant is kept.
 use Rattle.std.specs.Prelude.{ℕ}
 use Rattle.std.proofs.Common.{◌∙◌}
-use Rattle.ipcz_base.specs.declared.side.Side.{Side}
-use Rattle.ipcz_base.specs.declared.end.End.{End}
-use Rattle.ipcz_world.specs.World.{World, Key}
-use Rattle.ipcz_world.specs.Books.{Books}
-use Rattle.ipcz_world.specs.Records.{Records, Owner, CentralRecord, Terminal}
-use Rattle.ipcz_world.specs.Inv.{Inv}
+use Rattle.ipcz_world.proofs.Vocabulary.{Side, End, World, Key, Books, Records, Owner, Terminal, Inv}
+use Rattle.ipcz_world.specs.Records.{CentralRecord}
 use Rattle.ipcz_world.proofs.frames.FreshPairs.{IsGrown}
 use Rattle.ipcz_world.proofs.frames.FirstLinkLinks.{counts-grown, ordered-grown, shape-grown, links-grown, positions-grown}
 use Rattle.ipcz_world.proofs.frames.FirstLinkStages.{stands-grown, words-grown, spares-grown, bypasses-grown, stages-grown, told-grown}

@@ -2,22 +2,14 @@
 use Rattle.std.specs.Prelude.{◌≡◌, ◌≢◌, ◌⊎◌, ◌≤◌, ℕ, Bool, true, false, nat_eq, Option, Some, None, refl}
 use Rattle.std.proofs.Common.{arith, ap, ◌∙◌, sym, inl, inr}
 use Rattle.std.proofs.lemmas.Bool.Decides.{nat_tests}
-use Rattle.ipcz_base.specs.declared.side.Side.{Side}
-use Rattle.ipcz_base.specs.declared.side.Side.TheVariants.{A, B}
-use Rattle.ipcz_base.specs.declared.end.End.{End}
-use Rattle.ipcz_base.specs.declared.link_id.LinkId.{LinkId}
-use Rattle.ipcz_base.specs.declared.link_id.LinkId.TheVariants.{Central, Peripheral}
-use Rattle.ipcz_base.specs.declared.link_end.LinkEnd.{LinkEnd}
-use Rattle.ipcz_base.specs.Sides.{opposite}
-use Rattle.ipcz_router.specs.Router.{Router}
-use Rattle.ipcz_world.specs.World.{World, Key, router_at}
-use Rattle.ipcz_world.specs.Books.{Books}
-use Rattle.ipcz_world.specs.Records.{Records, Owner, CentralRecord, Terminal, is_linked, is_begun, is_recorded, key_at, inner_link}
-use Rattle.ipcz_world.specs.Records.{bypass_of, side_router, side_node, side_end, side_length, length_by, bypass_length}
-use Rattle.ipcz_world.specs.Records.{terminal_descriptor, is_nowhere, proxy_side}
-use Rattle.ipcz_world.specs.Standing.{view, view_by, awaited_view, router_view, key_passes}
+use Rattle.ipcz_world.proofs.Vocabulary.{Side, A, B, End, LinkId, Central, Peripheral, LinkEnd, opposite, Router, World, Key, router_at}
+use Rattle.ipcz_world.proofs.Vocabulary.{Books, Records, Owner, Terminal, is_linked, is_begun, is_recorded, inner_link, bypass_of}
+use Rattle.ipcz_world.proofs.Vocabulary.{side_router, side_node, side_end, side_length, terminal_descriptor, is_nowhere, proxy_side, view}
+use Rattle.ipcz_world.proofs.Vocabulary.{view_by, router_view, key_passes, Inv}
+use Rattle.ipcz_world.specs.Records.{CentralRecord, key_at}
+use Rattle.ipcz_world.specs.Records.{length_by, bypass_length}
+use Rattle.ipcz_world.specs.Standing.{awaited_view}
 use Rattle.ipcz_world.proofs.frames.StandingRules.{standing_rules}
-use Rattle.ipcz_world.specs.Inv.{Inv}
 use Rattle.ipcz_world.proofs.flows.SameMessages.{SameMessages}
 use Rattle.ipcz_world.proofs.frames.FreshPairs.{fresh_at, end_of, IsGrown, is_nowhere-at, central_one}
 use Rattle.ipcz_world.proofs.facts.Tests.{not_both}

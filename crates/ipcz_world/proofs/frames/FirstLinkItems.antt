@@ -2,30 +2,19 @@
 use Rattle.std.specs.Prelude.{◌≡◌, ◌≢◌, ◌≤◌, ℕ, Bool, true, false, ◌&&◌, nat_eq, Some, is_some, refl, [], length, slice_get}
 use Rattle.std.proofs.Common.{arith, ap, subst, ◌∙◌, sym, inl, inr}
 use Rattle.std.proofs.lemmas.Bool.Decides.{nat_tests}
-use Rattle.ipcz_base.specs.declared.side.Side.{Side}
-use Rattle.ipcz_base.specs.declared.side.Side.TheVariants.{A, B}
-use Rattle.ipcz_base.specs.declared.end.End.{End}
-use Rattle.ipcz_base.specs.declared.link_id.LinkId.TheVariants.{Central}
-use Rattle.ipcz_base.specs.declared.descriptor.Descriptor.{Descriptor}
-use Rattle.ipcz_base.specs.declared.item.Item.{Item}
-use Rattle.ipcz_base.specs.declared.message.Message.{Message}
+use Rattle.ipcz_world.proofs.Vocabulary.{Side, A, B, End, Central, Descriptor, Item, Message, opposite, same_end, has_end, Queue, item_at}
+use Rattle.ipcz_world.proofs.Vocabulary.{Router, is_terminal, World, Key, router_at, Books, read, is_closed, Records, Owner, Terminal, At}
+use Rattle.ipcz_world.proofs.Vocabulary.{is_linked, is_begun, is_recorded, inner_link, side_end, terminal_node, is_nowhere, across_side}
+use Rattle.ipcz_world.proofs.Vocabulary.{Standing, view, key_passes, next_sent, taking_queue, is_gone, is_awaited, IsUnderWay, moves_of}
+use Rattle.ipcz_world.proofs.Vocabulary.{at_end, names_end, inner_of, moving_link, Terminals, EndPlaces, BooksKept, Conserved, HeldOnce}
+use Rattle.ipcz_world.proofs.Vocabulary.{Items, Order, ProxyNumbers, FreshNumbers, has_passed, standing_router, Inv}
 use Rattle.ipcz_base.specs.declared.message.Message.TheVariants as messages
-use Rattle.ipcz_base.specs.Sides.{opposite}
-use Rattle.ipcz_base.specs.Ends.{same_end, has_end}
-use Rattle.ipcz_seq.specs.Queue.{Queue, item_at, queue_from}
-use Rattle.ipcz_router.specs.Router.{Router, is_terminal}
+use Rattle.ipcz_seq.specs.Queue.{queue_from}
 use Rattle.ipcz_router.specs.Calls.{next_number}
-use Rattle.ipcz_world.specs.World.{World, Key, router_at}
-use Rattle.ipcz_world.specs.Books.{Books, read, has_mark, is_closed}
-use Rattle.ipcz_world.specs.Records.{Records, Owner, CentralRecord, Terminal, At, is_linked, is_begun, is_recorded, inner_link, side_end}
-use Rattle.ipcz_world.specs.Records.{terminal_node, is_nowhere, across_side}
-use Rattle.ipcz_world.specs.Standing.{Standing, view, key_passes, next_sent, taking_queue, may_have_sent, is_gone, is_awaited}
-use Rattle.ipcz_world.specs.Flows.{IsUnderWay, moves_of}
-use Rattle.ipcz_world.specs.Places.{at_end, names_end}
-use Rattle.ipcz_world.specs.Bypasses.{Moves, inner_of, move_weight, moving_link}
-use Rattle.ipcz_world.specs.Whereabouts.{Terminals, EndPlaces, BooksKept, Conserved, HeldOnce}
-use Rattle.ipcz_world.specs.Numbers.{Items, Order, ProxyNumbers, FreshNumbers, has_passed, standing_router}
-use Rattle.ipcz_world.specs.Inv.{Inv}
+use Rattle.ipcz_world.specs.Books.{has_mark}
+use Rattle.ipcz_world.specs.Records.{CentralRecord}
+use Rattle.ipcz_world.specs.Standing.{may_have_sent}
+use Rattle.ipcz_world.specs.Bypasses.{Moves, move_weight}
 use Rattle.ipcz_world.proofs.frames.Draining.{taking_queue-standing}
 use Rattle.ipcz_world.proofs.flows.Fitting.{fits_of, items_by}
 use Rattle.ipcz_world.proofs.flows.SameMessages.{under-same, made-same, under_way-same}

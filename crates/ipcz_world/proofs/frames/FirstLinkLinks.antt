@@ -1,18 +1,12 @@
 -- A word becomes a pair's first link: each link is as its record says, and primary or decaying as its bypass says.
 use Rattle.std.specs.Prelude.{◌≡◌, ◌<◌, ℕ, true, Some, None}
 use Rattle.std.proofs.Common.{arith, ap, subst, ◌∙◌, sym, inl, inr}
-use Rattle.ipcz_base.specs.declared.side.Side.{Side}
-use Rattle.ipcz_base.specs.declared.end.End.{End}
-use Rattle.ipcz_base.specs.declared.link_id.LinkId.TheVariants.{Central}
-use Rattle.ipcz_base.specs.declared.link_end.LinkEnd.{LinkEnd}
-use Rattle.ipcz_base.specs.Sides.{opposite}
-use Rattle.ipcz_seq.specs.Queue.{item_at}
-use Rattle.ipcz_router.specs.Router.{Router, inward_edge, is_on_central, decays}
-use Rattle.ipcz_world.specs.World.{World, Key, node_at}
-use Rattle.ipcz_world.specs.Books.{Books}
-use Rattle.ipcz_world.specs.Records.{Records, Owner, CentralRecord, Terminal, is_linked, bypass_of, side_router, side_node}
-use Rattle.ipcz_world.specs.Structure.{Counts, Ordered, has_role, is_begun_router, Shape, Links, IsRecorded, Positions, is_outward}
-use Rattle.ipcz_world.specs.Inv.{Inv}
+use Rattle.ipcz_world.proofs.Vocabulary.{Side, End, Central, LinkEnd, opposite, item_at, Router, inward_edge, World, Key, node_at, Books}
+use Rattle.ipcz_world.proofs.Vocabulary.{Records, Owner, Terminal, is_linked, bypass_of, side_router, side_node, Counts, Ordered, Shape}
+use Rattle.ipcz_world.proofs.Vocabulary.{Links, IsRecorded, Positions, is_outward, Inv}
+use Rattle.ipcz_router.specs.Router.{is_on_central, decays}
+use Rattle.ipcz_world.specs.Records.{CentralRecord}
+use Rattle.ipcz_world.specs.Structure.{has_role, is_begun_router}
 use Rattle.ipcz_world.proofs.frames.Touching.{hands-same}
 use Rattle.ipcz_world.proofs.frames.FreshPairs.{fresh_at, IsNew, IsGrown, empty_item, fresh_central, central_outward}
 use Rattle.ipcz_world.proofs.facts.Tests.{not_both}

@@ -2,26 +2,16 @@
 use Rattle.std.specs.Prelude.{◌≡◌, ◌≢◌, ◌⊎◌, ◌≤◌, ℕ, Bool, true, false, nat_eq, Option, Some, None, is_some, refl}
 use Rattle.std.proofs.Common.{arith, ap, ◌∙◌, sym, inl, inr}
 use Rattle.std.proofs.lemmas.Bool.Decides.{nat_tests}
-use Rattle.ipcz_base.specs.declared.side.Side.{Side}
-use Rattle.ipcz_base.specs.declared.side.Side.TheVariants.{A, B}
-use Rattle.ipcz_base.specs.declared.end.End.{End}
-use Rattle.ipcz_base.specs.declared.link_id.LinkId.{LinkId}
-use Rattle.ipcz_base.specs.declared.link_id.LinkId.TheVariants.{Central, Peripheral}
-use Rattle.ipcz_base.specs.declared.message.Message.{Message}
+use Rattle.ipcz_world.proofs.Vocabulary.{Side, A, B, End, LinkId, Central, Peripheral, Message, has, opposite, Word, empty_word}
+use Rattle.ipcz_world.proofs.Vocabulary.{open_word, Router, World, Key, word_at, router_at, Books, Records, Owner, Terminal, is_linked}
+use Rattle.ipcz_world.proofs.Vocabulary.{is_begun, is_recorded, inner_link, side_router, proxy_side, across_side, key_passes, has_primary}
+use Rattle.ipcz_world.proofs.Vocabulary.{IsUnderWay, Stands, Words, Spares, BypassRecords, Stages, Told, inner_of, of_bypass}
+use Rattle.ipcz_world.proofs.Vocabulary.{control_weight, Inv}
 use Rattle.ipcz_base.specs.declared.message.Message.TheVariants as messages
-use Rattle.ipcz_word.specs.SideSets.{has, has-both, has-none}
-use Rattle.ipcz_base.specs.Sides.{opposite}
-use Rattle.ipcz_word.specs.Word.{Word, empty_word, open_word}
-use Rattle.ipcz_router.specs.Router.{Router}
-use Rattle.ipcz_world.specs.World.{World, Key, word_at, router_at}
-use Rattle.ipcz_world.specs.Books.{Books}
-use Rattle.ipcz_world.specs.Records.{Records, Owner, CentralRecord, Terminal, is_linked, is_begun, is_recorded, key_at, inner_link}
-use Rattle.ipcz_world.specs.Records.{side_router, proxy_side, across_side}
-use Rattle.ipcz_world.specs.Standing.{key_passes, spare_of, has_primary, has_inward_primary}
-use Rattle.ipcz_world.specs.Flows.{IsUnderWay}
-use Rattle.ipcz_world.specs.Structure.{Stands, Words, Spares}
-use Rattle.ipcz_world.specs.Bypasses.{BypassRecords, Stages, Told, inner_of, fresh_of, of_bypass, control_weight}
-use Rattle.ipcz_world.specs.Inv.{Inv}
+use Rattle.ipcz_word.specs.SideSets.{has-both, has-none}
+use Rattle.ipcz_world.specs.Records.{CentralRecord, key_at}
+use Rattle.ipcz_world.specs.Standing.{spare_of, has_inward_primary}
+use Rattle.ipcz_world.specs.Bypasses.{fresh_of}
 use Rattle.ipcz_world.proofs.flows.Flowing.{under_way-congr}
 use Rattle.ipcz_world.proofs.flows.SameMessages.{under-same, made-same, under_way-same}
 use Rattle.ipcz_world.proofs.frames.FreshPairs.{IsGrown, has_fresh, fresh_marked, about_same, expected_alike, expected_none}

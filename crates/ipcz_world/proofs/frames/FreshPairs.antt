@@ -5,31 +5,18 @@ use Rattle.std.specs.Ordering.{nat_cmp}
 use Rattle.std.specs.FinMap.{get-empty}
 use Rattle.std.proofs.Common.{arith}
 use Rattle.std.proofs.lemmas.Bool.Decides.{nat_tests}
-use Rattle.ipcz_base.specs.declared.side.Side.{Side}
-use Rattle.ipcz_base.specs.declared.side.Side.TheVariants.{A, B}
-use Rattle.ipcz_base.specs.declared.end.End.{End}
-use Rattle.ipcz_base.specs.declared.link_id.LinkId.{LinkId}
-use Rattle.ipcz_base.specs.declared.link_id.LinkId.TheVariants.{Central}
-use Rattle.ipcz_base.specs.declared.descriptor.Descriptor.{Descriptor}
-use Rattle.ipcz_base.specs.declared.item.Item.{Item}
-use Rattle.ipcz_base.specs.declared.message.Message.{Message}
+use Rattle.ipcz_world.proofs.Vocabulary.{Side, A, B, End, LinkId, Central, Descriptor, Item, Message, opposite, opposite_end, has_link}
+use Rattle.ipcz_world.proofs.Vocabulary.{word_of, is_central, item_at, empty_word, open_word, Router, World, Key, node_at, word_at}
+use Rattle.ipcz_world.proofs.Vocabulary.{router_at, flow, Records, Owner, Spare, Opening, Fresh, Terminal, At, is_linked, is_unclaimed}
+use Rattle.ipcz_world.proofs.Vocabulary.{is_begun, inner_link, bypass_of, side_node, side_end, terminal_node, is_nowhere, proxy_side}
+use Rattle.ipcz_world.proofs.Vocabulary.{across_side, is_attached, fed_queue, sending_queue, Weight, is_outward, inner_of, of_bypass}
+use Rattle.ipcz_world.proofs.Vocabulary.{control_weight, times_held}
 use Rattle.ipcz_base.specs.declared.message.Message.TheVariants as messages
-use Rattle.ipcz_base.specs.Sides.{opposite}
-use Rattle.ipcz_base.specs.Ends.{opposite_end}
-use Rattle.ipcz_base.specs.Links.{has_link, word_of, is_central}
-use Rattle.ipcz_seq.specs.Queue.{item_at, queue_from, reach}
-use Rattle.ipcz_word.specs.Word.{empty_word, open_word}
-use Rattle.ipcz_router.specs.Router.{Router, is_on_central}
+use Rattle.ipcz_seq.specs.Queue.{queue_from, reach}
+use Rattle.ipcz_router.specs.Router.{is_on_central}
 use Rattle.ipcz_node.specs.Node.{new_end}
-use Rattle.ipcz_world.specs.World.{World, Key, node_at, word_at, router_at, flow}
-use Rattle.ipcz_world.specs.Records.{Records, Owner, Spare, Opening, Fresh, CentralRecord, Terminal, Nowhere, At, Moving, Retired}
-use Rattle.ipcz_world.specs.Records.{is_linked, is_unclaimed, is_begun, inner_link, bypass_of, side_node, side_end, terminal_node}
-use Rattle.ipcz_world.specs.Records.{is_nowhere, proxy_side, across_side}
-use Rattle.ipcz_world.specs.Standing.{is_attached, fed_queue, sending_queue}
-use Rattle.ipcz_world.specs.Places.{Weight}
-use Rattle.ipcz_world.specs.Structure.{is_outward}
-use Rattle.ipcz_world.specs.Bypasses.{inner_of, of_bypass, control_weight, move_weight}
-use Rattle.ipcz_world.specs.Whereabouts.{times_held}
+use Rattle.ipcz_world.specs.Records.{CentralRecord, Nowhere, Moving, Retired}
+use Rattle.ipcz_world.specs.Bypasses.{move_weight}
 use Rattle.ipcz_world.proofs.frames.Touching.{HasSameHands}
 use Rattle.ipcz_world.proofs.facts.Reaching.{is_reach, reach_one}
 use Rattle.ipcz_world.proofs.facts.Lengths.{same_side-itself}

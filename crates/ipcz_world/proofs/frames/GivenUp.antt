@@ -3,38 +3,18 @@ use Rattle.ipcz_world.proofs.weights.OfRecords.{holds, held_times}
 use Rattle.std.specs.Prelude.{◌<◌, ◌≡◌, ◌≢◌, ◌⊎◌, ◌≤◌, ℕ, ◌+◌, Bool, true, false, not, ◌&&◌, Option, Some, None, is_some, List, refl}
 use Rattle.std.proofs.Common.{arith, sym, ◌∙◌, ap, subst, inl, inr}
 use Rattle.std.proofs.lemmas.Option.{same_Some, none-some}
-use Rattle.ipcz_base.specs.declared.side.Side.{Side}
-use Rattle.ipcz_base.specs.declared.side.Side.TheVariants.{A, B}
-use Rattle.ipcz_base.specs.declared.end.End.{End}
-use Rattle.ipcz_base.specs.declared.link_id.LinkId.{LinkId}
-use Rattle.ipcz_base.specs.declared.link_id.LinkId.TheVariants.{Central}
-use Rattle.ipcz_base.specs.declared.link_end.LinkEnd.{LinkEnd}
-use Rattle.ipcz_base.specs.declared.descriptor.Descriptor.{Descriptor}
-use Rattle.ipcz_base.specs.declared.item.Item.{Item}
-use Rattle.ipcz_base.specs.declared.message.Message.{Message}
-use Rattle.ipcz_base.specs.Sides.{opposite}
-use Rattle.ipcz_word.specs.SideSets.{has}
-use Rattle.ipcz_base.specs.Ends.{same_end, opposite_end, has_end}
-use Rattle.ipcz_base.specs.Links.{has_link}
-use Rattle.ipcz_seq.specs.Queue.{item_at}
-use Rattle.ipcz_router.specs.Router.{Router, is_terminal, inward_edge}
-use Rattle.ipcz_world.specs.World.{World, Key, same_key, node_at, router_at}
+use Rattle.ipcz_world.proofs.Vocabulary.{Side, A, B, End, LinkId, Central, LinkEnd, Descriptor, Item, Message, opposite, has, same_end}
+use Rattle.ipcz_world.proofs.Vocabulary.{opposite_end, has_end, has_link, item_at, Router, is_terminal, inward_edge, World, Key, same_key}
+use Rattle.ipcz_world.proofs.Vocabulary.{node_at, router_at, Books, is_closed, Spare, Records, is_nowhere, is_linked, is_begun}
+use Rattle.ipcz_world.proofs.Vocabulary.{side_router, side_length, proxy_side, across_side, Weight, in_router, times, at_end, names_end}
+use Rattle.ipcz_world.proofs.Vocabulary.{IsUnderWay, total_below, view, passes, key_passes, is_gone, has_decaying, has_inward_decaying}
+use Rattle.ipcz_world.proofs.Vocabulary.{Counts, Shape, Stands, Words, Spares, Stages, inner_of, Terminals, EndPlaces, BooksKept}
+use Rattle.ipcz_world.proofs.Vocabulary.{Conserved, HeldOnce, times_held, Items, Order, ProxyNumbers, FreshNumbers, Inv}
 use Rattle.ipcz_world.proofs.frames.Frames.{same_key_tells}
-use Rattle.ipcz_world.specs.Books.{Books, is_closed}
-use Rattle.ipcz_world.specs.Records.{Spare, Records, is_nowhere, is_linked, is_begun, side_router, side_length, proxy_side}
-use Rattle.ipcz_world.specs.Records.{across_side}
-use Rattle.ipcz_world.specs.Places.{Weight, in_router, times, at_end, names_end}
-use Rattle.ipcz_world.specs.Flows.{IsUnderWay}
 use Rattle.ipcz_world.proofs.weights.OfRecords.{in_places}
-use Rattle.ipcz_base.specs.Totals.{total_below}
-use Rattle.ipcz_world.specs.Standing.{view, passes, key_passes, spare_of, is_gone, has_decaying}
-use Rattle.ipcz_world.specs.Standing.{has_inward_decaying}
+use Rattle.ipcz_world.specs.Standing.{spare_of}
 use Rattle.ipcz_world.proofs.frames.StandingRules.{standing_rules}
-use Rattle.ipcz_world.specs.Structure.{Counts, Shape, Stands, Words, Spares}
-use Rattle.ipcz_world.specs.Bypasses.{Stages, inner_of}
-use Rattle.ipcz_world.specs.Whereabouts.{Terminals, EndPlaces, BooksKept, Conserved, HeldOnce, times_held}
-use Rattle.ipcz_world.specs.Numbers.{Items, Order, ProxyNumbers, FreshNumbers, IsItemUnderWay}
-use Rattle.ipcz_world.specs.Inv.{Inv}
+use Rattle.ipcz_world.specs.Numbers.{IsItemUnderWay}
 use Rattle.ipcz_world.proofs.weights.Sums.{total_below-same}
 use Rattle.ipcz_world.proofs.weights.Weights.{in_option}
 use Rattle.ipcz_world.proofs.frames.OneRouter.{SameWords, SameButRouter}

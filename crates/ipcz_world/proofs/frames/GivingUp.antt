@@ -1,20 +1,14 @@
 -- A router gives decaying links up, or leaves: the relation, and what is said of shapes, links and who stands there is kept.
 use Rattle.std.specs.Prelude.{◌≡◌, ◌≢◌, ◌⊎◌, ℕ, ◌+◌, ◌*◌, Bool, true, false, Option, Some, None, is_some, refl}
 use Rattle.std.proofs.Common.{arith, sym, ◌∙◌, ap, inl, inr}
-use Rattle.ipcz_base.specs.declared.side.Side.{Side}
-use Rattle.ipcz_base.specs.declared.side.Side.TheVariants.{A, B}
-use Rattle.ipcz_base.specs.declared.link_id.LinkId.{LinkId}
-use Rattle.ipcz_base.specs.declared.link_id.LinkId.TheVariants.{Central}
-use Rattle.ipcz_base.specs.declared.link_end.LinkEnd.{LinkEnd}
-use Rattle.ipcz_base.specs.Links.{has_link}
-use Rattle.ipcz_router.specs.Router.{Router, is_terminal, inward_edge, decays}
-use Rattle.ipcz_world.specs.World.{World, Key, same_key, mail_at, way, router_at}
+use Rattle.ipcz_world.proofs.Vocabulary.{Side, A, B, LinkId, Central, LinkEnd, has_link, Router, is_terminal, inward_edge, World, Key}
+use Rattle.ipcz_world.proofs.Vocabulary.{same_key, mail_at, way, router_at, Records, inner_link, side_router, Weight, in_router, passes}
+use Rattle.ipcz_world.proofs.Vocabulary.{key_passes, has_primary, Counts, Ordered, Shape, Links, IsRecorded, Positions, Stands}
+use Rattle.ipcz_router.specs.Router.{decays}
 use Rattle.ipcz_world.proofs.frames.Frames.{same_key_tells}
-use Rattle.ipcz_world.specs.Records.{Records, inner_link, side_router}
-use Rattle.ipcz_world.specs.Places.{Weight, in_router}
-use Rattle.ipcz_world.specs.Standing.{passes, key_passes, has_primary, has_inward_primary}
+use Rattle.ipcz_world.specs.Standing.{has_inward_primary}
 use Rattle.ipcz_world.proofs.frames.StandingRules.{standing_rules}
-use Rattle.ipcz_world.specs.Structure.{Counts, Ordered, Shape, Links, IsRecorded, Positions, Stands, is_begun_router}
+use Rattle.ipcz_world.specs.Structure.{is_begun_router}
 use Rattle.ipcz_world.specs.Structure.{has_role, link_in}
 use Rattle.ipcz_world.proofs.frames.OneRouter.{SameWords, SameButRouter}
 use Rattle.ipcz_world.proofs.flows.SameMessages.{SameMessages, recorded-same}

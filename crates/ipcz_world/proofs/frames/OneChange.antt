@@ -1,9 +1,7 @@
 -- One router changes, and no counter, no stray and no open under way: what all such relations between a world and the next share.
 use Rattle.std.specs.Prelude.{◌≡◌, ℕ, Bool, cond, Option, Some, None}
 use Rattle.std.proofs.Common.{arith}
-use Rattle.ipcz_router.specs.Router.{Router}
-use Rattle.ipcz_world.specs.World.{World, Key, same_key, node_at, router_at}
-use Rattle.ipcz_world.specs.Standing.{key_passes}
+use Rattle.ipcz_world.proofs.Vocabulary.{Router, World, Key, same_key, node_at, router_at, key_passes}
 use Rattle.ipcz_world.proofs.frames.Frames.{same_key_tells}
 use Rattle.ipcz_world.proofs.frames.StandingRules.{standing_rules}
 

@@ -3,20 +3,15 @@ use Rattle.ipcz_world.specs.Places.{in_places as in_places'}
 use Rattle.std.specs.Prelude.{◌≡◌, ◌<◌, ℕ, ◌+◌, ◌*◌, cond, Option, Some, None, [], refl}
 use Rattle.std.proofs.Common.{arith, ap}
 use Rattle.std.proofs.lemmas.Bool.Decides.{nat_tests}
-use Rattle.ipcz_router.specs.Router.{Router}
-use Rattle.ipcz_node.specs.Node.{Node, with_router, without_router}
+use Rattle.ipcz_world.proofs.Vocabulary.{Router, Node, with_router, place_at, Word, set_word, set_claimed, World, Key, same_key, node_at}
+use Rattle.ipcz_world.proofs.Vocabulary.{word_at, mail_at, way, router_at, set_node, set_router, flow, Records, Weight, under_way}
+use Rattle.ipcz_node.specs.Node.{without_router}
 use Rattle.std.specs.Ordering.{nat_cmp}
 use Rattle.std.specs.FinMap.{FinMap}
-use Rattle.ipcz_base.specs.Indexed.{place_at}
-use Rattle.ipcz_word.specs.Word.{Word}
-use Rattle.ipcz_world.specs.World.{set_word, set_claimed, World, Key, same_key, node_at, word_at, mail_at, way, router_at, set_node}
-use Rattle.ipcz_world.specs.World.{set_router, remove_router, flow}
+use Rattle.ipcz_world.specs.World.{remove_router}
 use Rattle.ipcz_world.proofs.frames.Frames.{frames, router-set_router, router-remove_router, word-set_node, mail-set_node, claimed-set_node}
 use Rattle.ipcz_world.proofs.frames.Frames.{size-set_node, count-set_node}
-use Rattle.ipcz_world.specs.Records.{Records}
-use Rattle.ipcz_world.specs.Places.{Weight}
 use Rattle.ipcz_world.proofs.weights.OfRecords.{in_places}
-use Rattle.ipcz_world.specs.Flows.{under_way}
 use Rattle.ipcz_world.proofs.weights.Weights.{in_option, places-set_router, places-remove_router}
 
 -- two nodes that differ in their routers alone

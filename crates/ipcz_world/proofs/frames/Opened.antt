@@ -1,25 +1,13 @@
 -- The invariant while the moves of an item under way are in the making: all clauses but that an item has one descriptor per end.
 use Rattle.std.specs.Prelude.{◌≡◌, ◌≢◌, ℕ, false, true, None, Some, List, [], map, slice_get}
-use Rattle.ipcz_base.specs.declared.side.Side.{Side}
-use Rattle.ipcz_base.specs.declared.side.Side.TheVariants.{A, B}
-use Rattle.ipcz_base.specs.declared.end.End.{End}
-use Rattle.ipcz_base.specs.declared.link_id.LinkId.{LinkId}
-use Rattle.ipcz_base.specs.declared.descriptor.Descriptor.{Descriptor}
-use Rattle.ipcz_base.specs.declared.item.Item.{Item}
-use Rattle.ipcz_base.specs.declared.message.Message.{Message}
+use Rattle.ipcz_world.proofs.Vocabulary.{Side, A, B, End, LinkId, Descriptor, Item, Message, is_central, ends_in, World, Key, Books}
+use Rattle.ipcz_world.proofs.Vocabulary.{Records, is_recorded, inner_link, side_node, side_router, side_end, IsUnderWay, under_way}
+use Rattle.ipcz_world.proofs.Vocabulary.{of_end, moves_of, total_list, Counts, Ordered, Shape, Links, Positions, Stands, Words, Spares}
+use Rattle.ipcz_world.proofs.Vocabulary.{BypassRecords, Stages, Told, moving_link, Terminals, EndPlaces, BooksKept, Conserved, HeldOnce}
+use Rattle.ipcz_world.proofs.Vocabulary.{Items, Order, ProxyNumbers, FreshNumbers, Inv}
 use Rattle.ipcz_base.specs.declared.message.Message.TheVariants as messages
-use Rattle.ipcz_base.specs.Links.{is_central}
-use Rattle.ipcz_base.specs.Items.{ends_in}
-use Rattle.ipcz_world.specs.World.{World, Key}
-use Rattle.ipcz_world.specs.Books.{Books}
-use Rattle.ipcz_world.specs.Records.{Records, is_recorded, inner_link, side_node, side_router, side_end}
-use Rattle.ipcz_world.specs.Flows.{IsUnderWay, under_way, of_end, moves_of}
-use Rattle.ipcz_base.specs.Totals.{total_list}
-use Rattle.ipcz_world.specs.Structure.{Counts, Ordered, Shape, Links, Positions, Stands, Words, Spares}
-use Rattle.ipcz_world.specs.Bypasses.{BypassRecords, Stages, Told, move_weight, moving_link}
-use Rattle.ipcz_world.specs.Whereabouts.{Terminals, EndPlaces, BooksKept, Conserved, HeldOnce}
-use Rattle.ipcz_world.specs.Numbers.{Items, Order, ProxyNumbers, FreshNumbers}
-use Rattle.ipcz_world.specs.Inv.{Inv, HasNoStrays}
+use Rattle.ipcz_world.specs.Bypasses.{move_weight}
+use Rattle.ipcz_world.specs.Inv.{HasNoStrays}
 
 -- an item between two nodes has one descriptor per end, in order
 abbrev pub HasEnds : World → Type 0

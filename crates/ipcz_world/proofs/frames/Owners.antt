@@ -2,20 +2,13 @@
 use Rattle.std.specs.Prelude.{◌≡◌, ℕ, Bool, true, false, cond, nat_eq, refl}
 use Rattle.std.proofs.Common.{arith, sym, ◌∙◌, ap}
 use Rattle.std.proofs.lemmas.Bool.Decides.{nat_tests}
-use Rattle.ipcz_base.specs.declared.side.Side.{Side}
-use Rattle.ipcz_base.specs.declared.link_id.LinkId.{LinkId}
-use Rattle.ipcz_base.specs.declared.link_id.LinkId.TheVariants.{Central, Peripheral}
-use Rattle.ipcz_base.specs.declared.link_end.LinkEnd.{LinkEnd}
-use Rattle.ipcz_router.specs.Router.{Router}
-use Rattle.ipcz_world.specs.World.{World, Key}
-use Rattle.ipcz_world.specs.Books.{Books}
-use Rattle.ipcz_world.specs.Records.{Records, Owner, is_linked, is_recorded, inner_link, bypass_of, bypass_length, length_by, side_length}
-use Rattle.ipcz_world.specs.Records.{side_router, side_node, side_end, set_owner}
-use Rattle.ipcz_world.specs.Standing.{view, view_by}
-use Rattle.ipcz_world.specs.Structure.{Links, IsRecorded, Positions, Stands}
-use Rattle.ipcz_world.specs.Bypasses.{Stages, Told, Moves, of_bypass, control_weight}
-use Rattle.ipcz_world.specs.Whereabouts.{Terminals}
-use Rattle.ipcz_world.specs.Numbers.{Items, Order, ProxyNumbers, FreshNumbers}
+use Rattle.ipcz_world.proofs.Vocabulary.{Side, LinkId, Central, Peripheral, LinkEnd, Router, World, Key, Books, Records, Owner, is_linked}
+use Rattle.ipcz_world.proofs.Vocabulary.{is_recorded, inner_link, bypass_of, side_length, side_router, side_node, side_end, view, view_by}
+use Rattle.ipcz_world.proofs.Vocabulary.{Links, IsRecorded, Positions, Stands, Stages, Told, of_bypass, control_weight, Terminals, Items}
+use Rattle.ipcz_world.proofs.Vocabulary.{Order, ProxyNumbers, FreshNumbers}
+use Rattle.ipcz_world.specs.Records.{bypass_length, length_by}
+use Rattle.ipcz_world.specs.Records.{set_owner}
+use Rattle.ipcz_world.specs.Bypasses.{Moves}
 
 module _ (v : World) (b : Books) (g : Records) (i : ℕ) (x : Owner) (free : is_linked (g.owner i) ≡ false) (other : is_linked x ≡ false)
   where

@@ -3,27 +3,19 @@ use Rattle.std.specs.Prelude.{◌≡◌, ◌≢◌, ◌⊎◌, ◌≤◌, ℕ, s
 use Rattle.std.specs.Prelude.{refl}
 use Rattle.std.proofs.Common.{arith, ap, ◌∙◌, sym, inl, inr}
 use Rattle.std.proofs.lemmas.Bool.Decides.{nat_tests}
-use Rattle.ipcz_base.specs.declared.side.Side.{Side}
-use Rattle.ipcz_base.specs.declared.side.Side.TheVariants.{A, B}
-use Rattle.ipcz_base.specs.declared.link_id.LinkId.{LinkId}
-use Rattle.ipcz_base.specs.declared.link_id.LinkId.TheVariants.{Central, Peripheral}
-use Rattle.ipcz_base.specs.declared.link_end.LinkEnd.{LinkEnd}
-use Rattle.ipcz_base.specs.declared.descriptor.Descriptor.{Descriptor}
-use Rattle.ipcz_base.specs.declared.item.Item.{Item}
+use Rattle.ipcz_world.proofs.Vocabulary.{Side, A, B, LinkId, Central, Peripheral, LinkEnd, Descriptor, Item, has, opposite, same_side}
+use Rattle.ipcz_world.proofs.Vocabulary.{has_link, word_of, Router, inward_edge, World, Key, same_key, word_at, router_at, Books, Records}
+use Rattle.ipcz_world.proofs.Vocabulary.{is_recorded, inner_link, side_node, side_router, side_end, proxy_side, across_side, known_from}
+use Rattle.ipcz_world.proofs.Vocabulary.{side_length, is_attached, view, has_primary, has_decaying, has_inward_decaying, key_passes}
+use Rattle.ipcz_world.proofs.Vocabulary.{IsUnderWay, is_made_before, Shape, Links, IsRecorded, Stands, Words, BypassRecords, Stages}
+use Rattle.ipcz_world.proofs.Vocabulary.{inner_of}
 use Rattle.ipcz_base.specs.declared.message.Message.TheVariants as messages
-use Rattle.ipcz_word.specs.SideSets.{has}
-use Rattle.ipcz_base.specs.Sides.{opposite, same_side}
-use Rattle.ipcz_base.specs.Links.{has_link, word_of}
-use Rattle.ipcz_router.specs.Router.{Router, is_proxy, inward_edge, decays}
-use Rattle.ipcz_world.specs.World.{World, Key, same_key, word_at, router_at}
+use Rattle.ipcz_router.specs.Router.{is_proxy, decays}
 use Rattle.ipcz_world.proofs.frames.Frames.{same_key_tells}
-use Rattle.ipcz_world.specs.Books.{Books}
-use Rattle.ipcz_world.specs.Records.{Records, is_recorded, inner_link, side_node, side_router, side_end, proxy_side, across_side}
-use Rattle.ipcz_world.specs.Records.{known_from, side_length, set_bypass}
-use Rattle.ipcz_world.specs.Standing.{is_attached, view, has_primary, has_decaying, has_inward_primary, has_inward_decaying, key_passes}
-use Rattle.ipcz_world.specs.Flows.{IsUnderWay, is_made_before}
-use Rattle.ipcz_world.specs.Structure.{Shape, Links, IsRecorded, Stands, Words, is_begun_router, has_role}
-use Rattle.ipcz_world.specs.Bypasses.{BypassRecords, Stages, inner_of, fresh_of}
+use Rattle.ipcz_world.specs.Records.{set_bypass}
+use Rattle.ipcz_world.specs.Standing.{has_inward_primary}
+use Rattle.ipcz_world.specs.Structure.{is_begun_router, has_role}
+use Rattle.ipcz_world.specs.Bypasses.{fresh_of}
 use Rattle.ipcz_world.proofs.frames.Unmoved.{IsLike, Changed, Carried, Agree, side_node-agree, side_end-agree, proxy_side-agree}
 use Rattle.ipcz_world.proofs.frames.Unmoved.{is_recorded-kept, key_passes-kept}
 use Rattle.ipcz_world.proofs.views.Viewing.{IsSameView, view-kept}

@@ -2,21 +2,12 @@
 use Rattle.std.specs.Prelude.{◌≡◌, ◌≢◌, ◌⊎◌, ◌≤◌, ℕ, suc, true, false, nat_eq, is_some, Option, Some, None, option_map, refl}
 use Rattle.std.proofs.Common.{arith, ap, ◌∙◌, sym, inl, inr}
 use Rattle.std.proofs.lemmas.Option.{none-some, same_Some}
-use Rattle.ipcz_base.specs.declared.side.Side.TheVariants.{B}
-use Rattle.ipcz_base.specs.declared.link_id.LinkId.TheVariants.{Central}
-use Rattle.ipcz_base.specs.declared.link_end.LinkEnd.{LinkEnd}
-use Rattle.ipcz_base.specs.declared.item.Item.{Item}
-use Rattle.ipcz_base.specs.Sides.{opposite}
-use Rattle.ipcz_seq.specs.Queue.{Queue, item_at}
-use Rattle.ipcz_router.specs.Router.{Router, inward_edge}
-use Rattle.ipcz_world.specs.World.{World, Key, same_key, router_at}
+use Rattle.ipcz_world.proofs.Vocabulary.{B, Central, LinkEnd, Item, opposite, Queue, item_at, Router, inward_edge, World, Key, same_key}
+use Rattle.ipcz_world.proofs.Vocabulary.{router_at, Books, Records, inner_link, proxy_side, across_side, known_from, view, is_gone}
+use Rattle.ipcz_world.proofs.Vocabulary.{Positions, inner_of, Items, Order, ProxyNumbers, FreshNumbers, has_passed, standing_router}
 use Rattle.ipcz_world.proofs.frames.Frames.{same_key_tells}
-use Rattle.ipcz_world.specs.Books.{Books}
-use Rattle.ipcz_world.specs.Records.{Records, inner_link, proxy_side, across_side, known_from, set_bypass}
-use Rattle.ipcz_world.specs.Standing.{view, is_gone}
-use Rattle.ipcz_world.specs.Structure.{Positions, link_in}
-use Rattle.ipcz_world.specs.Bypasses.{inner_of}
-use Rattle.ipcz_world.specs.Numbers.{Items, Order, ProxyNumbers, FreshNumbers, has_passed, standing_router}
+use Rattle.ipcz_world.specs.Records.{set_bypass}
+use Rattle.ipcz_world.specs.Structure.{link_in}
 use Rattle.ipcz_world.proofs.frames.Unmoved.{IsLike, Changed, Carried, bypass_of-agree}
 use Rattle.ipcz_world.proofs.frames.Sealing.{Sealed, positions_of, items_of, order_of, proxy_numbers_of, fresh_numbers_of}
 use Rattle.ipcz_world.proofs.frames.StageFurther.{IsLinkedLike, StillMade, begun_like, at_o, agree, taken_same, accepted_same, at_least}

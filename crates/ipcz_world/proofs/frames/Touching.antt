@@ -1,19 +1,13 @@
 -- One router changes in what its links, its spare and its lock don't show: what is said of those is kept.
 use Rattle.std.specs.Prelude.{◌≡◌, ◌<◌, ℕ, Bool, true, false, Some, is_some, refl}
 use Rattle.std.proofs.Common.{arith, ◌∙◌, sym}
-use Rattle.ipcz_base.specs.declared.side.Side.TheVariants.{A, B}
-use Rattle.ipcz_base.specs.declared.link_id.LinkId.{LinkId}
-use Rattle.ipcz_base.specs.declared.link_id.LinkId.TheVariants.{Central, Peripheral}
-use Rattle.ipcz_base.specs.declared.link_end.LinkEnd.{LinkEnd}
-use Rattle.ipcz_router.specs.Router.{Router}
-use Rattle.ipcz_world.specs.World.{World, Key, same_key, node_at, word_at, mail_at, way, router_at}
+use Rattle.ipcz_world.proofs.Vocabulary.{A, B, LinkId, Central, Peripheral, LinkEnd, Router, World, Key, same_key, node_at, word_at}
+use Rattle.ipcz_world.proofs.Vocabulary.{mail_at, way, router_at, hand_message, Records, is_recorded, inner_link, side_router}
+use Rattle.ipcz_world.proofs.Vocabulary.{across_side, Counts, Shape, Links, IsRecorded, Positions, Stands, Words, Spares, BypassRecords}
+use Rattle.ipcz_world.proofs.Vocabulary.{Stages, inner_of, Terminals}
 use Rattle.ipcz_world.proofs.frames.Frames.{same_key_tells}
-use Rattle.ipcz_world.specs.Turns.{hand_message}
-use Rattle.ipcz_world.specs.Records.{Records, is_recorded, inner_link, side_router, across_side}
 use Rattle.ipcz_world.specs.Standing.{spare_of}
-use Rattle.ipcz_world.specs.Structure.{Counts, Shape, Links, IsRecorded, Positions, Stands, Words, Spares}
-use Rattle.ipcz_world.specs.Bypasses.{BypassRecords, Stages, inner_of, fresh_of}
-use Rattle.ipcz_world.specs.Whereabouts.{Terminals}
+use Rattle.ipcz_world.specs.Bypasses.{fresh_of}
 use Rattle.ipcz_world.proofs.frames.OneChange.{OneChanges, passes-same}
 
 -- two routers with the same end, links and flags of bypasses

@@ -1,35 +1,21 @@
 -- What an act keeps that changes one router's links and flags, and no item, terminal or end.
 use Rattle.ipcz_world.proofs.weights.OfRecords.{holds, held_times, source, in_message, in_places}
-use Rattle.ipcz_world.specs.Places.{in_message as in_message', in_node as in_node', in_places as in_places', Weight, in_router, times}
-use Rattle.ipcz_world.specs.Places.{at_end, names_end}
+use Rattle.ipcz_world.proofs.Vocabulary.{Weight, in_router, times, at_end, names_end, Side, A, B, End, LinkId, Central, Peripheral}
+use Rattle.ipcz_world.proofs.Vocabulary.{Descriptor, Item, Message, opposite, is_central, same_end, has_end, opposite_end, total}
+use Rattle.ipcz_world.proofs.Vocabulary.{total_below, total_list, Router, is_terminal, World, Key, node_at, router_at, same_key, Books}
+use Rattle.ipcz_world.proofs.Vocabulary.{Records, is_begun, is_linked, is_recorded, inner_link, side_node, side_router, side_end}
+use Rattle.ipcz_world.proofs.Vocabulary.{bypass_of, proxy_side, is_nowhere, terminal_node, key_passes, IsUnderWay, moves_of, under_way}
+use Rattle.ipcz_world.proofs.Vocabulary.{of_end, Ordered, Spares, of_bypass, control_weight, moving_link, Terminals, EndPlaces, BooksKept}
+use Rattle.ipcz_world.proofs.Vocabulary.{Conserved, HeldOnce, times_held}
+use Rattle.ipcz_world.specs.Places.{in_message as in_message', in_node as in_node', in_places as in_places'}
 use Rattle.ipcz_world.specs.Routes.{source as source'}
 use Rattle.std.specs.Prelude.{◌≡◌, ℕ, ◌+◌, Bool, false, cond, ◌&&◌, nat_eq, Option, Some, None, List, slice_get, refl, true, ◌⊎◌, ◌≢◌}
 use Rattle.std.proofs.Common.{arith, ap, ◌∙◌, sym, inl, inr}
 use Rattle.std.proofs.lemmas.Option.{none-some}
-use Rattle.ipcz_base.specs.declared.side.Side.{Side}
-use Rattle.ipcz_base.specs.declared.side.Side.TheVariants.{A, B}
-use Rattle.ipcz_base.specs.declared.end.End.{End}
-use Rattle.ipcz_base.specs.declared.link_id.LinkId.{LinkId}
-use Rattle.ipcz_base.specs.declared.link_id.LinkId.TheVariants.{Central, Peripheral}
-use Rattle.ipcz_base.specs.declared.descriptor.Descriptor.{Descriptor}
-use Rattle.ipcz_base.specs.declared.item.Item.{Item}
-use Rattle.ipcz_base.specs.declared.message.Message.{Message}
 use Rattle.ipcz_base.specs.declared.message.Message.TheVariants as messages
-use Rattle.ipcz_base.specs.Sides.{opposite}
-use Rattle.ipcz_base.specs.Links.{is_central}
-use Rattle.ipcz_base.specs.Ends.{same_end, has_end, opposite_end}
-use Rattle.ipcz_base.specs.Totals.{total, total_below, total_list}
-use Rattle.ipcz_router.specs.Router.{Router, is_terminal}
-use Rattle.ipcz_world.specs.World.{World, Key, node_at, router_at, same_key}
 use Rattle.ipcz_world.proofs.frames.Frames.{same_key_tells}
-use Rattle.ipcz_world.specs.Books.{Books}
-use Rattle.ipcz_world.specs.Records.{Records, is_begun, is_linked, is_recorded, inner_link, side_node, side_router, side_end, bypass_of}
-use Rattle.ipcz_world.specs.Records.{proxy_side, is_nowhere, terminal_node}
-use Rattle.ipcz_world.specs.Standing.{key_passes, spare_of}
-use Rattle.ipcz_world.specs.Flows.{IsUnderWay, moves_of, under_way, of_end}
-use Rattle.ipcz_world.specs.Structure.{Ordered, Spares}
-use Rattle.ipcz_world.specs.Bypasses.{is_by, of_bypass, control_weight, Moves, move_weight, moving_link}
-use Rattle.ipcz_world.specs.Whereabouts.{Terminals, EndPlaces, BooksKept, Conserved, HeldOnce, times_held}
+use Rattle.ipcz_world.specs.Standing.{spare_of}
+use Rattle.ipcz_world.specs.Bypasses.{is_by, Moves, move_weight}
 use Rattle.ipcz_world.specs.Inv.{HasNoStrays}
 use Rattle.ipcz_world.proofs.weights.Totalling.{total_below-same}
 use Rattle.ipcz_world.proofs.frames.OneChange.{OneChanges, passes-same}

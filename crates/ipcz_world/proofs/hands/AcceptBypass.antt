@@ -1,15 +1,8 @@
 -- The router across accepts a bypass and takes the fresh link: the invariant is kept.
 use Rattle.std.specs.Prelude.{ℕ, refl}
 use Rattle.std.proofs.Common.{arith, sym}
-use Rattle.ipcz_base.specs.declared.side.Side.{Side}
-use Rattle.ipcz_base.specs.declared.link_end.LinkEnd.{LinkEnd}
-use Rattle.ipcz_base.specs.declared.message.Message.{Message}
+use Rattle.ipcz_world.proofs.Vocabulary.{Side, LinkEnd, Message, opposite, Router, World, Key, Books, Records, Inv}
 use Rattle.ipcz_base.specs.declared.message.Message.TheVariants as messages
-use Rattle.ipcz_base.specs.Sides.{opposite}
-use Rattle.ipcz_router.specs.Router.{Router}
-use Rattle.ipcz_world.specs.World.{World, Key}
-use Rattle.ipcz_world.specs.Books.{Books}
-use Rattle.ipcz_world.specs.Records.{Records}
 use Rattle.ipcz_world.specs.Acts.{accept_act}
 use Rattle.ipcz_router.specs.Bypass.{accept_bypass}
 use Rattle.ipcz_world.specs.Remembering.{accepted_records}
@@ -17,7 +10,6 @@ use Rattle.ipcz_world.proofs.frames.Unmoved.{ordered-kept, spares-kept, moves-ke
 use Rattle.ipcz_world.proofs.frames.Unmoved.{conserved-kept, held_once-kept, no_strays-kept}
 use Rattle.ipcz_world.proofs.flows.Handing.{handed_on}
 use Rattle.ipcz_world.proofs.hands.AcceptBypassRecords.{shape-accept, bypasses-accept}
-use Rattle.ipcz_world.specs.Inv.{Inv}
 use Rattle.ipcz_world.proofs.frames.Sealing.{ordered_of, spares_of, moves_of as moves_law, terminals_of, end_places_of, books_kept_of}
 use Rattle.ipcz_world.proofs.frames.Sealing.{conserved_of, held_once_of, no_strays_of, Sealed, Closed, shape_of, bypasses_of}
 use Rattle.ipcz_world.proofs.hands.AcceptBypassAround.{CanAccept, here, on, is, known_across}

@@ -3,32 +3,20 @@ use Rattle.std.specs.Prelude.{◌≡◌, ◌≢◌, ◌⊎◌, ◌<◌, ◌≤�
 use Rattle.std.proofs.Common.{arith, ap, ◌∙◌, sym, inl, inr}
 use Rattle.std.proofs.lemmas.Bool.Decides.{nat_tests}
 use Rattle.std.proofs.lemmas.Option.{none-some, same_Some}
-use Rattle.ipcz_base.specs.declared.side.Side.{Side}
-use Rattle.ipcz_base.specs.declared.side.Side.TheVariants.{A, B}
-use Rattle.ipcz_base.specs.declared.link_id.LinkId.{LinkId}
-use Rattle.ipcz_base.specs.declared.link_id.LinkId.TheVariants.{Central, Peripheral}
-use Rattle.ipcz_base.specs.declared.link_end.LinkEnd.{LinkEnd}
-use Rattle.ipcz_base.specs.declared.item.Item.{Item}
-use Rattle.ipcz_base.specs.declared.message.Message.{Message}
+use Rattle.ipcz_world.proofs.Vocabulary.{Side, A, B, LinkId, Central, Peripheral, LinkEnd, Item, Message, opposite, same_side}
+use Rattle.ipcz_world.proofs.Vocabulary.{has_link, item_at, Router, router_has, inward_edge, World, Key, node_at, mail_at, way, router_at}
+use Rattle.ipcz_world.proofs.Vocabulary.{flow, Books, Records, Linked, is_begun, is_linked, is_recorded, side_node, side_router}
+use Rattle.ipcz_world.proofs.Vocabulary.{proxy_side, across_side, side_length, Standing, view, next_sent, taking_queue, sending_queue}
+use Rattle.ipcz_world.proofs.Vocabulary.{fed_queue, has_primary, has_decaying, has_inward_decaying, key_passes, under_way, total_below}
+use Rattle.ipcz_world.proofs.Vocabulary.{total_list, IsRecorded, Told, of_bypass, control_weight, inner_of, has_passed}
 use Rattle.ipcz_base.specs.declared.message.Message.TheVariants as messages
-use Rattle.ipcz_word.specs.SideSets.{has}
-use Rattle.ipcz_base.specs.Sides.{opposite, same_side}
-use Rattle.ipcz_base.specs.Links.{has_link}
-use Rattle.ipcz_seq.specs.Queue.{item_at}
-use Rattle.ipcz_router.specs.Router.{Router, router_has, outward_has, inward_has, inward_edge}
+use Rattle.ipcz_router.specs.Router.{outward_has, inward_has}
 use Rattle.ipcz_world.specs.declared.mail.Mail.TheVariants as mails
-use Rattle.ipcz_world.specs.World.{World, Key, node_at, mail_at, way, router_at, flow}
-use Rattle.ipcz_world.specs.Books.{Books}
-use Rattle.ipcz_world.specs.Records.{Records, Linked, is_begun, is_linked, key_at, is_recorded, side_node, side_router, proxy_side}
-use Rattle.ipcz_world.specs.Records.{across_side, side_length}
+use Rattle.ipcz_world.specs.Records.{key_at}
 use Rattle.ipcz_world.proofs.frames.RecordRules.{is_recorded-central}
-use Rattle.ipcz_world.specs.Standing.{Awaited, Standing, view, next_sent, taking_queue, sending_queue, fed_queue, has_primary, has_decaying}
-use Rattle.ipcz_world.specs.Standing.{has_inward_decaying, key_passes}
-use Rattle.ipcz_world.specs.Flows.{under_way}
-use Rattle.ipcz_base.specs.Totals.{total_below, total_list}
-use Rattle.ipcz_world.specs.Structure.{IsRecorded, link_in}
-use Rattle.ipcz_world.specs.Bypasses.{Told, of_bypass, control_weight, accept_of, inner_of}
-use Rattle.ipcz_world.specs.Numbers.{has_passed}
+use Rattle.ipcz_world.specs.Standing.{Awaited}
+use Rattle.ipcz_world.specs.Structure.{link_in}
+use Rattle.ipcz_world.specs.Bypasses.{accept_of}
 use Rattle.ipcz_world.specs.Acts.{CanHand}
 use Rattle.ipcz_router.specs.Bypass.{accept_bypass}
 use Rattle.ipcz_world.specs.Remembering.{accepted_records}

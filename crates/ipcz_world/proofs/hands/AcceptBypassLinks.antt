@@ -4,23 +4,15 @@ use Rattle.std.specs.Prelude.{unwrap_or, refl}
 use Rattle.std.proofs.Common.{arith, ap, ◌∙◌, sym, inl, inr}
 use Rattle.std.proofs.lemmas.Bool.Decides.{nat_tests}
 use Rattle.std.proofs.lemmas.Option.{none-some, same_Some}
-use Rattle.ipcz_base.specs.declared.side.Side.{Side}
-use Rattle.ipcz_base.specs.declared.link_id.LinkId.{LinkId}
-use Rattle.ipcz_base.specs.declared.link_id.LinkId.TheVariants.{Central}
-use Rattle.ipcz_base.specs.declared.link_end.LinkEnd.{LinkEnd}
-use Rattle.ipcz_base.specs.declared.message.Message.{Message}
+use Rattle.ipcz_world.proofs.Vocabulary.{Side, LinkId, Central, LinkEnd, Message, opposite, same_side, Router, World, Key, same_key}
+use Rattle.ipcz_world.proofs.Vocabulary.{node_at, mail_at, way, router_at, Books, hand_message, Records, is_begun, is_recorded}
+use Rattle.ipcz_world.proofs.Vocabulary.{inner_link, side_router, side_end, bypass_of, proxy_side, across_side, known_from, Counts, Links}
+use Rattle.ipcz_world.proofs.Vocabulary.{IsRecorded, Positions, is_outward}
 use Rattle.ipcz_base.specs.declared.message.Message.TheVariants as messages
-use Rattle.ipcz_base.specs.Sides.{opposite, same_side}
-use Rattle.ipcz_router.specs.Router.{Router}
 use Rattle.ipcz_world.specs.declared.mail.Mail.TheVariants as mails
-use Rattle.ipcz_world.specs.World.{World, Key, same_key, node_at, mail_at, way, router_at}
 use Rattle.ipcz_world.proofs.frames.Frames.{same_key_tells, same_key-itself}
-use Rattle.ipcz_world.specs.Books.{Books}
-use Rattle.ipcz_world.specs.Turns.{hand_message}
-use Rattle.ipcz_world.specs.Records.{Records, is_begun, is_recorded, inner_link, side_router, side_end, bypass_of, proxy_side, across_side}
-use Rattle.ipcz_world.specs.Records.{known_from}
 use Rattle.ipcz_world.proofs.frames.RecordRules.{is_recorded-central, record_rules}
-use Rattle.ipcz_world.specs.Structure.{Counts, Links, IsRecorded, Positions, link_in, is_outward}
+use Rattle.ipcz_world.specs.Structure.{link_in}
 use Rattle.ipcz_edge.specs.Edge.{no_edge}
 use Rattle.ipcz_router.specs.Bypass.{accept_bypass}
 use Rattle.ipcz_world.specs.Remembering.{accepted_records}

@@ -4,28 +4,15 @@ use Rattle.std.specs.Prelude.{refl}
 use Rattle.std.proofs.Common.{arith, ap, ◌∙◌, sym, inl, inr}
 use Rattle.std.proofs.lemmas.Bool.Decides.{nat_tests}
 use Rattle.std.proofs.lemmas.Option.{none-some, same_Some}
-use Rattle.ipcz_base.specs.declared.side.Side.{Side}
-use Rattle.ipcz_base.specs.declared.side.Side.TheVariants.{A, B}
-use Rattle.ipcz_base.specs.declared.link_id.LinkId.{LinkId}
-use Rattle.ipcz_base.specs.declared.link_id.LinkId.TheVariants.{Central}
-use Rattle.ipcz_base.specs.declared.link_end.LinkEnd.{LinkEnd}
-use Rattle.ipcz_base.specs.declared.item.Item.{Item}
-use Rattle.ipcz_base.specs.declared.message.Message.{Message}
+use Rattle.ipcz_world.proofs.Vocabulary.{Side, A, B, LinkId, Central, LinkEnd, Item, Message, opposite, same_side, Queue, item_at, Router}
+use Rattle.ipcz_world.proofs.Vocabulary.{inward_edge, World, Key, same_key, router_at, Books, Records, is_begun, is_recorded, side_router}
+use Rattle.ipcz_world.proofs.Vocabulary.{across_side, side_length, is_gone, is_awaited, view, next_sent, taking_queue, sending_queue}
+use Rattle.ipcz_world.proofs.Vocabulary.{fed_queue, IsUnderWay, is_made_before, inner_of, Items, Order, ProxyNumbers, FreshNumbers}
+use Rattle.ipcz_world.proofs.Vocabulary.{has_passed, standing_router, Descriptor}
 use Rattle.ipcz_base.specs.declared.message.Message.TheVariants as messages
-use Rattle.ipcz_base.specs.Sides.{opposite, same_side}
-use Rattle.ipcz_seq.specs.Queue.{Queue, item_at}
-use Rattle.ipcz_router.specs.Router.{Router, inward_edge}
-use Rattle.ipcz_world.specs.World.{World, Key, same_key, router_at}
 use Rattle.ipcz_world.proofs.frames.Frames.{same_key_tells}
-use Rattle.ipcz_world.specs.Books.{Books}
-use Rattle.ipcz_world.specs.Records.{Records, is_begun, is_recorded, side_router, across_side, side_length}
-use Rattle.ipcz_world.specs.Standing.{is_gone, is_awaited, view, next_sent, taking_queue, sending_queue, fed_queue}
-use Rattle.ipcz_world.specs.Flows.{IsUnderWay, is_made_before}
-use Rattle.ipcz_world.specs.Bypasses.{inner_of}
-use Rattle.ipcz_world.specs.Numbers.{Items, Order, ProxyNumbers, FreshNumbers, has_passed, standing_router}
 use Rattle.ipcz_edge.specs.Edge.{no_edge}
 use Rattle.ipcz_router.specs.Bypass.{accept_bypass}
-use Rattle.ipcz_base.specs.declared.descriptor.Descriptor.{Descriptor}
 use Rattle.ipcz_world.specs.Remembering.{accepted_records}
 use Rattle.ipcz_world.proofs.frames.Unmoved.{side_node-agree, proxy_side-agree, is_recorded-kept, WasLike, was_like}
 use Rattle.ipcz_world.proofs.flows.Handing.{handed_on, place_before, was_made_before}

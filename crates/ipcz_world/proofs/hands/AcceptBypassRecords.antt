@@ -2,17 +2,11 @@
 use Rattle.std.specs.Prelude.{◌≡◌, ◌⊎◌, ◌≤◌, ℕ, Bool, true, false, cond, nat_eq, Some, refl}
 use Rattle.std.proofs.Common.{arith, inl, inr}
 use Rattle.std.proofs.lemmas.Bool.Decides.{nat_tests}
-use Rattle.ipcz_base.specs.declared.side.Side.{Side}
-use Rattle.ipcz_base.specs.declared.link_id.LinkId.TheVariants.{Central}
-use Rattle.ipcz_base.specs.declared.link_end.LinkEnd.{LinkEnd}
-use Rattle.ipcz_router.specs.Router.{Router}
-use Rattle.ipcz_world.specs.World.{World, Key, node_at, router_at}
+use Rattle.ipcz_world.proofs.Vocabulary.{Side, Central, LinkEnd, Router, World, Key, node_at, router_at, Records, is_begun, side_router}
+use Rattle.ipcz_world.proofs.Vocabulary.{proxy_side, across_side, BypassRecords, Shape}
 use Rattle.ipcz_world.proofs.frames.Frames.{frames, same_key_tells}
-use Rattle.ipcz_world.specs.Records.{Records, is_begun, side_router, proxy_side, across_side}
 use Rattle.ipcz_world.proofs.frames.RecordRules.{record_rules}
 use Rattle.ipcz_world.specs.Remembering.{accepted_records}
-use Rattle.ipcz_world.specs.Bypasses.{BypassRecords}
-use Rattle.ipcz_world.specs.Structure.{Shape}
 use Rattle.ipcz_world.specs.Acts.{accept_act}
 use Rattle.ipcz_world.proofs.facts.Lengths.{same_side-itself, same_side-opposite}
 use Rattle.ipcz_world.proofs.facts.LinkTests.{side_is}

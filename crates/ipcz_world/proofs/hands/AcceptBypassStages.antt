@@ -4,31 +4,18 @@ use Rattle.std.specs.Prelude.{unwrap_or, refl}
 use Rattle.std.proofs.Common.{arith, ap, ◌∙◌, sym, inl, inr}
 use Rattle.std.proofs.lemmas.Bool.Decides.{nat_tests}
 use Rattle.std.proofs.lemmas.Option.{none-some, same_Some}
-use Rattle.ipcz_base.specs.declared.side.Side.{Side}
-use Rattle.ipcz_base.specs.declared.side.Side.TheVariants.{A, B}
-use Rattle.ipcz_base.specs.declared.end.End.{End}
-use Rattle.ipcz_base.specs.declared.link_id.LinkId.{LinkId}
-use Rattle.ipcz_base.specs.declared.link_id.LinkId.TheVariants.{Central}
-use Rattle.ipcz_base.specs.declared.link_end.LinkEnd.{LinkEnd}
-use Rattle.ipcz_base.specs.declared.message.Message.{Message}
+use Rattle.ipcz_world.proofs.Vocabulary.{Side, A, B, End, LinkId, Central, LinkEnd, Message, has, opposite, same_side, has_link, Router}
+use Rattle.ipcz_world.proofs.Vocabulary.{World, Key, same_key, word_at, router_at, Books, Records, is_begun, is_linked, inner_link}
+use Rattle.ipcz_world.proofs.Vocabulary.{side_node, side_router, side_end, proxy_side, across_side, has_primary, has_decaying}
+use Rattle.ipcz_world.proofs.Vocabulary.{has_inward_decaying, passes, key_passes, IsUnderWay, of_end, moves_of, is_made_before, under_way}
+use Rattle.ipcz_world.proofs.Vocabulary.{total_list, Words, Stands, Stages, Told, of_bypass, control_weight, inner_of, Descriptor}
 use Rattle.ipcz_base.specs.declared.message.Message.TheVariants as messages
-use Rattle.ipcz_word.specs.SideSets.{has}
-use Rattle.ipcz_base.specs.Sides.{opposite, same_side}
-use Rattle.ipcz_base.specs.Links.{has_link}
-use Rattle.ipcz_router.specs.Router.{Router}
-use Rattle.ipcz_world.specs.World.{World, Key, same_key, word_at, router_at}
 use Rattle.ipcz_world.proofs.frames.Frames.{same_key_tells, same_key-itself}
-use Rattle.ipcz_world.specs.Books.{Books}
-use Rattle.ipcz_world.specs.Records.{Records, is_begun, is_linked, inner_link, side_node, side_router, side_end, proxy_side, across_side}
-use Rattle.ipcz_world.specs.Standing.{has_primary, has_decaying, has_inward_primary, has_inward_decaying, passes, key_passes}
+use Rattle.ipcz_world.specs.Standing.{has_inward_primary}
 use Rattle.ipcz_world.proofs.frames.StandingRules.{key_passes-none, standing_rules}
-use Rattle.ipcz_world.specs.Flows.{IsUnderWay, of_end, moves_of, is_made_before, under_way}
-use Rattle.ipcz_base.specs.Totals.{total_list}
-use Rattle.ipcz_world.specs.Structure.{Words, Stands}
-use Rattle.ipcz_world.specs.Bypasses.{Stages, Told, of_bypass, control_weight, inner_of, fresh_of}
+use Rattle.ipcz_world.specs.Bypasses.{fresh_of}
 use Rattle.ipcz_edge.specs.Edge.{no_edge}
 use Rattle.ipcz_router.specs.Bypass.{accept_bypass}
-use Rattle.ipcz_base.specs.declared.descriptor.Descriptor.{Descriptor}
 use Rattle.ipcz_world.specs.Remembering.{accepted_records}
 use Rattle.ipcz_world.proofs.frames.Unmoved.{side_node-agree, side_end-agree, bypass_of-agree, side_router-inner-agree, about-agree}
 use Rattle.ipcz_world.proofs.frames.Unmoved.{expected-agree, proxy_side-agree, is_recorded-kept, WasLike}

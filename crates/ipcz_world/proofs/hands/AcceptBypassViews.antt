@@ -1,32 +1,19 @@
 -- The router across takes the fresh link: the world and the records after it, and what stands at the sides of links then.
-use Rattle.ipcz_world.specs.Places.{in_message as in_message', Weight, in_router}
+use Rattle.ipcz_world.proofs.Vocabulary.{Weight, in_router, Side, A, B, LinkId, Central, Peripheral, LinkEnd, Item, Message, opposite}
+use Rattle.ipcz_world.proofs.Vocabulary.{same_side, has_link, same_link, Router, World, Key, router_at, Books, Records, is_begun}
+use Rattle.ipcz_world.proofs.Vocabulary.{inner_link, side_node, side_router, proxy_side, known_from, side_length, Standing, is_attached}
+use Rattle.ipcz_world.proofs.Vocabulary.{view, sending_queue, IsUnderWay, makes, inner_of, has_passed, Descriptor}
+use Rattle.ipcz_world.specs.Places.{in_message as in_message'}
 use Rattle.std.specs.Prelude.{◌≡◌, ◌≢◌, ◌⊎◌, ◌<◌, ℕ, Bool, true, false, cond, ◌&&◌, ◌||◌, nat_eq, is_some, Option, Some, None, List, refl}
 use Rattle.std.proofs.Common.{arith, ap, ◌∙◌, sym, inl, inr}
 use Rattle.std.proofs.lemmas.Bool.Decides.{nat_tests}
 use Rattle.std.proofs.lemmas.Option.{same_Some}
-use Rattle.ipcz_base.specs.declared.side.Side.{Side}
-use Rattle.ipcz_base.specs.declared.side.Side.TheVariants.{A, B}
-use Rattle.ipcz_base.specs.declared.link_id.LinkId.{LinkId}
-use Rattle.ipcz_base.specs.declared.link_id.LinkId.TheVariants.{Central, Peripheral}
-use Rattle.ipcz_base.specs.declared.link_end.LinkEnd.{LinkEnd}
-use Rattle.ipcz_base.specs.declared.item.Item.{Item}
-use Rattle.ipcz_base.specs.declared.message.Message.{Message}
 use Rattle.ipcz_base.specs.declared.message.Message.TheVariants as messages
-use Rattle.ipcz_base.specs.Sides.{opposite, same_side}
-use Rattle.ipcz_base.specs.Links.{has_link, same_link}
-use Rattle.ipcz_router.specs.Router.{Router}
-use Rattle.ipcz_world.specs.World.{World, Key, router_at}
 use Rattle.ipcz_world.proofs.frames.Frames.{same_key-itself}
-use Rattle.ipcz_world.specs.Books.{Books}
-use Rattle.ipcz_world.specs.Records.{Records, is_begun, inner_link, side_node, side_router, proxy_side, known_from, side_length}
 use Rattle.ipcz_world.proofs.frames.RecordRules.{side_node-central, side_router-central}
-use Rattle.ipcz_world.specs.Standing.{may_have_sent, Awaited, Standing, is_attached, view, sending_queue}
-use Rattle.ipcz_world.specs.Flows.{IsUnderWay, makes}
+use Rattle.ipcz_world.specs.Standing.{may_have_sent, Awaited}
 use Rattle.ipcz_world.proofs.weights.OfRecords.{in_places}
-use Rattle.ipcz_world.specs.Bypasses.{inner_of}
-use Rattle.ipcz_world.specs.Numbers.{has_passed}
 use Rattle.ipcz_router.specs.Bypass.{accept_bypass}
-use Rattle.ipcz_base.specs.declared.descriptor.Descriptor.{Descriptor}
 use Rattle.ipcz_world.specs.Remembering.{accepted_records}
 use Rattle.ipcz_world.proofs.frames.Unmoved.{IsLike, Changed, Carried, Agree, places-agree, proxy_side-agree}
 use Rattle.ipcz_world.proofs.weights.Placing.{places-handed_on}

@@ -2,21 +2,13 @@
 use Rattle.std.specs.Prelude.{◌≡◌, ◌⊎◌, ◌<◌, ◌≤◌, ℕ, Bool, true, false, cond, ◌&&◌, nat_eq, Option, Some, refl}
 use Rattle.std.proofs.Common.{arith, sym, inl, inr}
 use Rattle.std.proofs.lemmas.Bool.Decides.{nat_tests}
-use Rattle.ipcz_base.specs.declared.side.Side.{Side}
-use Rattle.ipcz_base.specs.declared.side.Side.TheVariants.{B}
-use Rattle.ipcz_base.specs.declared.link_id.LinkId.{LinkId}
-use Rattle.ipcz_base.specs.declared.link_id.LinkId.TheVariants.{Central}
-use Rattle.ipcz_base.specs.declared.link_end.LinkEnd.{LinkEnd}
-use Rattle.ipcz_base.specs.declared.message.Message.{Message}
+use Rattle.ipcz_world.proofs.Vocabulary.{Side, B, LinkId, Central, LinkEnd, Message, same_side, has_link, same_link, Router, router_has}
+use Rattle.ipcz_world.proofs.Vocabulary.{inward_edge, World, Key, mail_at, way, router_at, Records, is_recorded, side_node, side_router}
+use Rattle.ipcz_world.proofs.Vocabulary.{bypass_of, proxy_side, across_side, Links, IsRecorded, Told, of_bypass, control_weight, inner_of}
 use Rattle.ipcz_base.specs.declared.message.Message.TheVariants as messages
-use Rattle.ipcz_base.specs.Sides.{same_side}
-use Rattle.ipcz_base.specs.Links.{has_link, same_link}
-use Rattle.ipcz_router.specs.Router.{Router, router_has, outward_has, inward_has, inward_edge}
+use Rattle.ipcz_router.specs.Router.{outward_has, inward_has}
 use Rattle.ipcz_world.specs.declared.mail.Mail.TheVariants as mails
-use Rattle.ipcz_world.specs.World.{World, Key, mail_at, way, router_at}
-use Rattle.ipcz_world.specs.Records.{Records, is_recorded, side_node, side_router, bypass_of, proxy_side, across_side}
-use Rattle.ipcz_world.specs.Structure.{Links, IsRecorded}
-use Rattle.ipcz_world.specs.Bypasses.{Told, of_bypass, control_weight, peer_of, stop_of, will_stop_of, inner_of}
+use Rattle.ipcz_world.specs.Bypasses.{peer_of, stop_of, will_stop_of}
 use Rattle.ipcz_world.proofs.hands.AcceptBypassAround.{in_hand-under_way}
 use Rattle.ipcz_world.proofs.facts.Lengths.{same_side-itself, same_side-tells, same_link-itself, same_link-tells, has_link-tells, HasEnd}
 use Rattle.ipcz_world.proofs.views.Telling.{is_same, never, one_holds}

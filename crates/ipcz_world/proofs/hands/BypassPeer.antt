@@ -1,24 +1,15 @@
 -- The router inward is told of a bypass and takes the fresh link: the invariant is kept.
 use Rattle.std.specs.Prelude.{ℕ, ◌+◌}
 use Rattle.std.proofs.Common.{ap, ◌∙◌, sym}
-use Rattle.ipcz_base.specs.declared.side.Side.{Side}
-use Rattle.ipcz_base.specs.declared.link_id.LinkId.{LinkId}
-use Rattle.ipcz_base.specs.declared.message.Message.{Message}
+use Rattle.ipcz_world.proofs.Vocabulary.{Side, LinkId, Message, opposite, EndPlaces, BooksKept, Conserved, HeldOnce, times_held, Router}
+use Rattle.ipcz_world.proofs.Vocabulary.{World, Key, Books, Records, at_end, names_end, bypass_peer, Inv}
 use Rattle.ipcz_base.specs.declared.message.Message.TheVariants as messages
-use Rattle.ipcz_base.specs.Sides.{opposite}
-use Rattle.ipcz_world.specs.Whereabouts.{EndPlaces, BooksKept, Conserved, HeldOnce, times_held, times_closed}
-use Rattle.ipcz_router.specs.Router.{Router}
-use Rattle.ipcz_world.specs.World.{World, Key}
-use Rattle.ipcz_world.specs.Books.{Books}
-use Rattle.ipcz_world.specs.Records.{Records}
-use Rattle.ipcz_world.specs.Places.{at_end, names_end}
+use Rattle.ipcz_world.specs.Whereabouts.{times_closed}
 use Rattle.ipcz_world.specs.Acts.{peer_act}
-use Rattle.ipcz_router.specs.Bypass.{bypass_peer}
 use Rattle.ipcz_world.specs.Remembering.{taken_records}
 use Rattle.ipcz_world.proofs.frames.Unmoved.{ordered-kept, moves-kept, end_places-kept, books_kept-kept, conserved-kept, held_once-kept}
 use Rattle.ipcz_world.proofs.frames.Unmoved.{no_strays-kept}
 use Rattle.ipcz_world.proofs.flows.Handing.{handed_on}
-use Rattle.ipcz_world.specs.Inv.{Inv}
 use Rattle.ipcz_world.proofs.frames.Sealing.{ordered_of, moves_of as moves_law, terminals_of, end_places_of, books_kept_of, conserved_of}
 use Rattle.ipcz_world.proofs.frames.Sealing.{held_once_of, no_strays_of, Sealed, Closed}
 use Rattle.ipcz_world.proofs.hands.BypassPeerAround.{CanPeer, like, changed}

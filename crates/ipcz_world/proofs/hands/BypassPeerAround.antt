@@ -5,30 +5,20 @@ use Rattle.std.specs.Prelude.{refl}
 use Rattle.std.proofs.Common.{arith, ap, ◌∙◌, sym, inl, inr}
 use Rattle.std.proofs.lemmas.Bool.Decides.{nat_tests}
 use Rattle.std.proofs.lemmas.Option.{none-some, same_Some}
-use Rattle.ipcz_base.specs.declared.side.Side.{Side}
-use Rattle.ipcz_base.specs.declared.side.Side.TheVariants.{A, B}
-use Rattle.ipcz_base.specs.declared.link_id.LinkId.{LinkId}
-use Rattle.ipcz_base.specs.declared.link_id.LinkId.TheVariants.{Central, Peripheral}
-use Rattle.ipcz_base.specs.declared.link_end.LinkEnd.{LinkEnd}
-use Rattle.ipcz_base.specs.declared.message.Message.{Message}
+use Rattle.ipcz_world.proofs.Vocabulary.{Side, A, B, LinkId, Central, Peripheral, LinkEnd, Message, opposite, same_side, is_central}
+use Rattle.ipcz_world.proofs.Vocabulary.{has_link, same_link, word_of, Router, router_has, World, Key, same_key, mail_at, way, router_at}
+use Rattle.ipcz_world.proofs.Vocabulary.{Books, Records, Fresh, is_begun, is_linked, is_recorded, inner_link, side_node, side_router}
+use Rattle.ipcz_world.proofs.Vocabulary.{side_end, bypass_of, proxy_side, across_side, Standing, is_attached, view, has_primary}
+use Rattle.ipcz_world.proofs.Vocabulary.{IsRecorded, inner_of, bypass_peer}
 use Rattle.ipcz_base.specs.declared.message.Message.TheVariants as messages
-use Rattle.ipcz_word.specs.SideSets.{has}
-use Rattle.ipcz_base.specs.Sides.{opposite, same_side}
-use Rattle.ipcz_base.specs.Links.{is_central, has_link, same_link, word_of}
-use Rattle.ipcz_router.specs.Router.{Router, router_has}
 use Rattle.ipcz_world.specs.declared.mail.Mail.TheVariants as mails
-use Rattle.ipcz_world.specs.World.{World, Key, same_key, mail_at, way, router_at}
 use Rattle.ipcz_world.proofs.frames.Frames.{same_key_tells, same_key-itself}
-use Rattle.ipcz_world.specs.Books.{Books}
-use Rattle.ipcz_world.specs.Records.{Records, Fresh, is_begun, is_linked, key_at, is_recorded, inner_link, side_node, side_router, side_end}
-use Rattle.ipcz_world.specs.Records.{bypass_of, proxy_side, across_side}
+use Rattle.ipcz_world.specs.Records.{key_at}
 use Rattle.ipcz_world.proofs.weights.OfRecords.{source}
 use Rattle.ipcz_world.proofs.frames.RecordRules.{side_node-central, bypass_of-inner, is_recorded-central}
-use Rattle.ipcz_world.specs.Standing.{Awaited, Standing, is_attached, view, has_primary}
-use Rattle.ipcz_world.specs.Structure.{IsRecorded, link_in}
-use Rattle.ipcz_world.specs.Bypasses.{inner_of}
+use Rattle.ipcz_world.specs.Standing.{Awaited}
+use Rattle.ipcz_world.specs.Structure.{link_in}
 use Rattle.ipcz_world.specs.Acts.{CanHand}
-use Rattle.ipcz_router.specs.Bypass.{bypass_peer}
 use Rattle.ipcz_world.specs.Remembering.{taken_records}
 use Rattle.ipcz_world.proofs.frames.Unmoved.{IsLike, Changed, WasLike, was_like}
 use Rattle.ipcz_world.proofs.flows.Handing.{handed_on, changed-handed_on}

@@ -2,25 +2,14 @@
 use Rattle.std.specs.Prelude.{◌≡◌, ◌≢◌, ◌⊎◌, ◌≤◌, ℕ, Bool, true, false, ◌&&◌, nat_eq, is_some, is_none, Some, unwrap_or, refl}
 use Rattle.std.proofs.Common.{arith, ap, ◌∙◌, sym, inl, inr}
 use Rattle.std.proofs.lemmas.Option.{same_Some}
-use Rattle.ipcz_base.specs.declared.side.Side.{Side}
-use Rattle.ipcz_base.specs.declared.side.Side.TheVariants.{B}
-use Rattle.ipcz_base.specs.declared.link_id.LinkId.{LinkId}
-use Rattle.ipcz_base.specs.declared.link_id.LinkId.TheVariants.{Central}
-use Rattle.ipcz_base.specs.declared.link_end.LinkEnd.{LinkEnd}
-use Rattle.ipcz_base.specs.declared.message.Message.{Message}
+use Rattle.ipcz_world.proofs.Vocabulary.{Side, B, LinkId, Central, LinkEnd, Message, opposite, word_of, Router, World, Key, same_key}
+use Rattle.ipcz_world.proofs.Vocabulary.{router_at, Books, Records, is_begun, inner_link, side_router, bypass_of, across_side, known_from}
+use Rattle.ipcz_world.proofs.Vocabulary.{Shape, Links, IsRecorded, Positions, is_outward, inner_of, bypass_peer}
 use Rattle.ipcz_base.specs.declared.message.Message.TheVariants as messages
-use Rattle.ipcz_base.specs.Sides.{opposite}
-use Rattle.ipcz_base.specs.Links.{word_of}
-use Rattle.ipcz_router.specs.Router.{Router}
-use Rattle.ipcz_world.specs.World.{World, Key, same_key, router_at}
 use Rattle.ipcz_world.proofs.frames.Frames.{same_key-itself}
-use Rattle.ipcz_world.specs.Books.{Books}
-use Rattle.ipcz_world.specs.Records.{Records, is_begun, inner_link, side_router, bypass_of, across_side, known_from}
 use Rattle.ipcz_world.proofs.frames.RecordRules.{bypass_of-inner}
-use Rattle.ipcz_world.specs.Structure.{Shape, Links, IsRecorded, Positions, link_in, is_outward}
-use Rattle.ipcz_world.specs.Bypasses.{inner_of}
+use Rattle.ipcz_world.specs.Structure.{link_in}
 use Rattle.ipcz_edge.specs.Edge.{no_edge}
-use Rattle.ipcz_router.specs.Bypass.{bypass_peer}
 use Rattle.ipcz_world.specs.Remembering.{taken_records}
 use Rattle.ipcz_world.proofs.flows.Handing.{handed_on}
 use Rattle.ipcz_world.proofs.facts.Lengths.{same_side-tells, known_from-no}

@@ -1,27 +1,15 @@
 -- The router inward takes the fresh link: the messages of bypasses, the descriptors under way, and the places of items.
-use Rattle.ipcz_world.specs.Places.{in_message as in_message', in_node as in_node', in_places as in_places', Weight, in_router}
+use Rattle.ipcz_world.proofs.Vocabulary.{Weight, in_router, Side, A, B, End, LinkId, Central, Peripheral, Message, opposite, is_central}
+use Rattle.ipcz_world.proofs.Vocabulary.{same_link, total, total_below, total_list, Router, World, Key, node_at, flow, Books, Records}
+use Rattle.ipcz_world.proofs.Vocabulary.{is_begun, is_recorded, inner_link, side_node, proxy_side, across_side, IsUnderWay, of_end}
+use Rattle.ipcz_world.proofs.Vocabulary.{moves_of, under_way, Told, of_bypass, control_weight, inner_of, bypass_peer, Descriptor}
+use Rattle.ipcz_world.specs.Places.{in_message as in_message', in_node as in_node', in_places as in_places'}
 use Rattle.std.specs.Prelude.{◌≡◌, ◌≢◌, ◌⊎◌, ◌≤◌, ℕ, ◌+◌, Bool, true, false, cond, nat_eq, is_some, Option, Some, None, refl}
 use Rattle.std.proofs.Common.{arith, ap, ◌∙◌, sym, inl, inr}
 use Rattle.std.proofs.lemmas.Bool.Decides.{nat_tests}
-use Rattle.ipcz_base.specs.declared.side.Side.{Side}
-use Rattle.ipcz_base.specs.declared.side.Side.TheVariants.{A, B}
-use Rattle.ipcz_base.specs.declared.end.End.{End}
-use Rattle.ipcz_base.specs.declared.link_id.LinkId.{LinkId}
-use Rattle.ipcz_base.specs.declared.link_id.LinkId.TheVariants.{Central, Peripheral}
-use Rattle.ipcz_base.specs.declared.message.Message.{Message}
 use Rattle.ipcz_base.specs.declared.message.Message.TheVariants as messages
-use Rattle.ipcz_base.specs.Sides.{opposite}
-use Rattle.ipcz_base.specs.Links.{is_central, same_link}
-use Rattle.ipcz_base.specs.Totals.{total, total_below, total_list}
-use Rattle.ipcz_router.specs.Router.{Router}
-use Rattle.ipcz_world.specs.World.{World, Key, node_at, flow}
-use Rattle.ipcz_world.specs.Books.{Books}
-use Rattle.ipcz_world.specs.Records.{Records, is_begun, is_recorded, inner_link, side_node, proxy_side, across_side}
 use Rattle.ipcz_world.proofs.weights.OfRecords.{in_node, in_places, in_message}
-use Rattle.ipcz_world.specs.Flows.{IsUnderWay, of_end, moves_of, under_way}
-use Rattle.ipcz_world.specs.Bypasses.{Moves, Told, of_bypass, control_weight, is_by, inner_of}
-use Rattle.ipcz_router.specs.Bypass.{bypass_peer}
-use Rattle.ipcz_base.specs.declared.descriptor.Descriptor.{Descriptor}
+use Rattle.ipcz_world.specs.Bypasses.{Moves, is_by}
 use Rattle.ipcz_world.specs.Remembering.{taken_records}
 use Rattle.ipcz_world.proofs.frames.Unmoved.{Agree}
 use Rattle.ipcz_world.proofs.weights.Placing.{places-handed_on}

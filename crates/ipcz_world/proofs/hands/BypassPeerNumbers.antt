@@ -4,30 +4,16 @@ use Rattle.std.specs.Prelude.{refl}
 use Rattle.std.proofs.Common.{arith, ap, ◌∙◌, sym, inl, inr}
 use Rattle.std.proofs.lemmas.Bool.Decides.{nat_tests}
 use Rattle.std.proofs.lemmas.Option.{none-some, same_Some}
-use Rattle.ipcz_base.specs.declared.side.Side.{Side}
-use Rattle.ipcz_base.specs.declared.side.Side.TheVariants.{A, B}
-use Rattle.ipcz_base.specs.declared.link_id.LinkId.{LinkId}
-use Rattle.ipcz_base.specs.declared.link_id.LinkId.TheVariants.{Central, Peripheral}
-use Rattle.ipcz_base.specs.declared.link_end.LinkEnd.{LinkEnd}
-use Rattle.ipcz_base.specs.declared.item.Item.{Item}
-use Rattle.ipcz_base.specs.declared.message.Message.{Message}
+use Rattle.ipcz_world.proofs.Vocabulary.{Side, A, B, LinkId, Central, Peripheral, LinkEnd, Item, Message, opposite, same_side, same_link}
+use Rattle.ipcz_world.proofs.Vocabulary.{Queue, item_at, Router, inward_edge, World, Key, same_key, router_at, Books, Records, is_begun}
+use Rattle.ipcz_world.proofs.Vocabulary.{is_linked, is_recorded, inner_link, across_side, known_from, side_length, is_gone, Standing}
+use Rattle.ipcz_world.proofs.Vocabulary.{view, next_sent, taking_queue, sending_queue, fed_queue, has_inward_decaying, IsUnderWay, makes}
+use Rattle.ipcz_world.proofs.Vocabulary.{is_made_before, inner_of, Items, Order, ProxyNumbers, FreshNumbers, has_passed, standing_router}
+use Rattle.ipcz_world.proofs.Vocabulary.{bypass_peer, Descriptor}
 use Rattle.ipcz_base.specs.declared.message.Message.TheVariants as messages
 use Rattle.ipcz_word.specs.SideSets.{none}
-use Rattle.ipcz_base.specs.Sides.{opposite, same_side}
-use Rattle.ipcz_base.specs.Links.{same_link}
-use Rattle.ipcz_seq.specs.Queue.{Queue, item_at}
-use Rattle.ipcz_router.specs.Router.{Router, inward_edge}
-use Rattle.ipcz_world.specs.World.{World, Key, same_key, router_at}
-use Rattle.ipcz_world.specs.Books.{Books}
-use Rattle.ipcz_world.specs.Records.{Records, is_begun, is_linked, is_recorded, inner_link, across_side, known_from, side_length}
 use Rattle.ipcz_world.proofs.frames.RecordRules.{is_recorded-central}
-use Rattle.ipcz_world.specs.Standing.{is_gone, Standing, view, next_sent, taking_queue, sending_queue, fed_queue, has_inward_decaying}
-use Rattle.ipcz_world.specs.Flows.{IsUnderWay, makes, is_made_before}
-use Rattle.ipcz_world.specs.Bypasses.{inner_of}
-use Rattle.ipcz_world.specs.Numbers.{Items, Order, ProxyNumbers, FreshNumbers, has_passed, standing_router}
 use Rattle.ipcz_edge.specs.Edge.{no_edge}
-use Rattle.ipcz_router.specs.Bypass.{bypass_peer}
-use Rattle.ipcz_base.specs.declared.descriptor.Descriptor.{Descriptor}
 use Rattle.ipcz_world.specs.Remembering.{taken_records}
 use Rattle.ipcz_world.proofs.frames.Unmoved.{Carried, WasLike}
 use Rattle.ipcz_world.proofs.flows.Handing.{handed_on, place_before, was_under_way, was_made_before}

@@ -3,22 +3,12 @@ use Rattle.std.specs.Prelude.{◌≡◌, ◌≢◌, ◌⊎◌, ◌<◌, ◌≤�
 use Rattle.std.proofs.Common.{arith, ap, ◌∙◌, sym, inl, inr}
 use Rattle.std.proofs.lemmas.Bool.Decides.{nat_tests}
 use Rattle.std.proofs.lemmas.Option.{none-some, same_Some}
-use Rattle.ipcz_base.specs.declared.side.Side.{Side}
-use Rattle.ipcz_base.specs.declared.side.Side.TheVariants.{A, B}
-use Rattle.ipcz_base.specs.declared.link_id.LinkId.{LinkId}
-use Rattle.ipcz_base.specs.declared.link_id.LinkId.TheVariants.{Central}
-use Rattle.ipcz_base.specs.declared.message.Message.{Message}
+use Rattle.ipcz_world.proofs.Vocabulary.{Side, A, B, LinkId, Central, Message, opposite, same_side, Router, World, Key, Books, Records}
+use Rattle.ipcz_world.proofs.Vocabulary.{is_unclaimed, Fresh, Linked, is_begun, is_linked, is_recorded, inner_link, side_node}
+use Rattle.ipcz_world.proofs.Vocabulary.{side_router, proxy_side, across_side, Counts, BypassRecords, inner_of, bypass_peer}
 use Rattle.ipcz_base.specs.declared.message.Message.TheVariants as messages
-use Rattle.ipcz_base.specs.Sides.{opposite, same_side}
-use Rattle.ipcz_router.specs.Router.{Router}
-use Rattle.ipcz_world.specs.World.{World, Key}
-use Rattle.ipcz_world.specs.Books.{Books}
-use Rattle.ipcz_world.specs.Records.{Records, is_unclaimed, Fresh, Linked, is_begun, is_linked, is_recorded, inner_link, side_node}
-use Rattle.ipcz_world.specs.Records.{side_router, proxy_side, across_side}
 use Rattle.ipcz_world.proofs.frames.RecordRules.{is_recorded-central}
-use Rattle.ipcz_world.specs.Structure.{Counts}
-use Rattle.ipcz_world.specs.Bypasses.{BypassRecords, inner_of, fresh_of}
-use Rattle.ipcz_router.specs.Bypass.{bypass_peer}
+use Rattle.ipcz_world.specs.Bypasses.{fresh_of}
 use Rattle.ipcz_world.specs.Remembering.{taken_records}
 use Rattle.ipcz_world.proofs.flows.Handing.{handed_on, hand-handed_on, mail-handed_on}
 use Rattle.ipcz_world.proofs.facts.Lengths.{side_is, same_side-itself, same_side-opposite}
@@ -28,7 +18,7 @@ use Rattle.ipcz_world.proofs.hands.BypassPeerAround.{CanPeer, on_node, is, itsel
 use Rattle.ipcz_world.proofs.hands.BypassPeerAround.{at_fresh, stage_at, is_begun_same, proxy_same, inner_same, fresh_same, proxy_side_same}
 use Rattle.ipcz_world.proofs.hands.BypassPeerAround.{across_side_same, central_same, owner_same, two, begun_apart, fresh_apart, apart}
 use Rattle.ipcz_world.proofs.hands.BypassPeerAround.{router_same, node_same, recorded_more, recorded_back, linked_back, new_router}
-use Rattle.ipcz_world.proofs.hands.BypassPeerAround.{new_node, x_known, far, beyond_none}
+use Rattle.ipcz_world.proofs.hands.BypassPeerAround.{new_node, x_known, beyond_none}
 
 module _ {w : World} {b : Books} {g : Records} {from : ℕ} {k : Key} {r : Router} {o : ℕ} {link : LinkId} {side : Side}
     {target fresh : ℕ} (law : Sealed w b g) (can : Closed (CanPeer w from k r o link side target fresh)) where

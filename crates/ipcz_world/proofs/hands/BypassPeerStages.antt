@@ -5,31 +5,17 @@ use Rattle.std.specs.Prelude.{unwrap_or, refl}
 use Rattle.std.proofs.Common.{arith, ap, ◌∙◌, sym, inl, inr}
 use Rattle.std.proofs.lemmas.Bool.Decides.{nat_tests}
 use Rattle.std.proofs.lemmas.Option.{none-some, same_Some}
-use Rattle.ipcz_base.specs.declared.side.Side.{Side}
-use Rattle.ipcz_base.specs.declared.side.Side.TheVariants.{A, B}
-use Rattle.ipcz_base.specs.declared.end.End.{End}
-use Rattle.ipcz_base.specs.declared.link_id.LinkId.{LinkId}
-use Rattle.ipcz_base.specs.declared.link_id.LinkId.TheVariants.{Central}
-use Rattle.ipcz_base.specs.declared.link_end.LinkEnd.{LinkEnd}
-use Rattle.ipcz_base.specs.declared.message.Message.{Message}
+use Rattle.ipcz_world.proofs.Vocabulary.{Side, A, B, End, LinkId, Central, LinkEnd, Message, has, opposite, same_side, empty_word}
+use Rattle.ipcz_world.proofs.Vocabulary.{same_end, Terminals, is_terminal, Router, World, Key, same_key, word_at, router_at, Books}
+use Rattle.ipcz_world.proofs.Vocabulary.{Records, is_nowhere, Fresh, Spare, Opening, Linked, is_begun, is_linked, is_recorded, inner_link}
+use Rattle.ipcz_world.proofs.Vocabulary.{side_router, side_end, proxy_side, across_side, has_primary, has_decaying, has_inward_decaying}
+use Rattle.ipcz_world.proofs.Vocabulary.{passes, key_passes, Words, Spares, Stands, Stages, inner_of, bypass_peer}
 use Rattle.ipcz_base.specs.declared.message.Message.TheVariants as messages
-use Rattle.ipcz_word.specs.SideSets.{has}
-use Rattle.ipcz_base.specs.Sides.{opposite, same_side}
-use Rattle.ipcz_word.specs.Word.{empty_word}
-use Rattle.ipcz_base.specs.Ends.{same_end}
-use Rattle.ipcz_world.specs.Whereabouts.{Terminals}
-use Rattle.ipcz_router.specs.Router.{is_terminal, Router}
-use Rattle.ipcz_world.specs.World.{World, Key, same_key, word_at, router_at}
 use Rattle.ipcz_world.proofs.frames.Frames.{same_key_tells}
-use Rattle.ipcz_world.specs.Books.{Books}
-use Rattle.ipcz_world.specs.Records.{Records, is_nowhere, Fresh, Spare, Opening, Linked, is_begun, is_linked, is_recorded, inner_link}
-use Rattle.ipcz_world.specs.Records.{side_router, side_end, proxy_side, across_side}
-use Rattle.ipcz_world.specs.Standing.{spare_of, has_primary, has_decaying, has_inward_primary, has_inward_decaying, passes, key_passes}
+use Rattle.ipcz_world.specs.Standing.{spare_of, has_inward_primary}
 use Rattle.ipcz_world.proofs.frames.StandingRules.{key_passes-none, standing_rules}
-use Rattle.ipcz_world.specs.Structure.{Words, Spares, Stands}
-use Rattle.ipcz_world.specs.Bypasses.{Stages, inner_of, fresh_of}
+use Rattle.ipcz_world.specs.Bypasses.{fresh_of}
 use Rattle.ipcz_edge.specs.Edge.{no_edge}
-use Rattle.ipcz_router.specs.Bypass.{bypass_peer}
 use Rattle.ipcz_world.specs.Remembering.{taken_records}
 use Rattle.ipcz_world.proofs.flows.Handing.{handed_on, word-handed_on}
 use Rattle.ipcz_world.proofs.facts.Lengths.{side_is, has_link-tells, has_link-none, HasEnd, passed}

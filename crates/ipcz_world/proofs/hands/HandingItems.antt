@@ -4,34 +4,20 @@ use Rattle.std.specs.Prelude.{◌≡◌, ◌≢◌, ◌<◌, ◌+◌, ◌*◌, �
 use Rattle.std.specs.Prelude.{[], ◌∷◌, map, slice_get}
 use Rattle.std.specs.FinMap.{get}
 use Rattle.std.proofs.Common.{arith, ap, subst, ◌∙◌, sym, inl, inr}
-use Rattle.ipcz_base.specs.declared.side.Side.{Side}
-use Rattle.ipcz_base.specs.declared.end.End.{End}
-use Rattle.ipcz_base.specs.declared.link_id.LinkId.{LinkId}
-use Rattle.ipcz_base.specs.declared.link_id.LinkId.TheVariants.{Central, Peripheral}
-use Rattle.ipcz_base.specs.declared.descriptor.Descriptor.{Descriptor}
-use Rattle.ipcz_base.specs.declared.item.Item.{Item}
-use Rattle.ipcz_base.specs.declared.message.Message.{Message}
+use Rattle.ipcz_world.proofs.Vocabulary.{Side, End, LinkId, Central, Peripheral, Descriptor, Item, Message, same_end, has_end, is_central}
+use Rattle.ipcz_world.proofs.Vocabulary.{put_place, Router, from_descriptor, Hand, Node, bare_node, with_router, World, Key, node_at}
+use Rattle.ipcz_world.proofs.Vocabulary.{mail_at, way, router_at, set_node, set_mail, after_act, hand_message, Books, Records, inner_link}
+use Rattle.ipcz_world.proofs.Vocabulary.{terminal_node, IsUnderWay, is_outward, Inv}
 use Rattle.ipcz_base.specs.declared.message.Message.TheVariants as messages
-use Rattle.ipcz_base.specs.Ends.{same_end, has_end}
-use Rattle.ipcz_base.specs.Links.{is_central}
-use Rattle.ipcz_base.specs.Indexed.{put_place}
-use Rattle.ipcz_router.specs.Router.{Router, from_descriptor}
 use Rattle.ipcz_router.specs.Calls.{accept}
-use Rattle.ipcz_node.specs.declared.act.Act.TheVariants.{Hand}
-use Rattle.ipcz_node.specs.Node.{Node, bare_node, on_found, with_router, add_router}
+use Rattle.ipcz_node.specs.Node.{on_found, add_router}
 use Rattle.ipcz_node.specs.Hands.{make_terminals, handle, deliver, free_hand, is_hand_of}
 use Rattle.ipcz_world.specs.declared.mail.Mail.{Mail}
 use Rattle.ipcz_world.specs.declared.mail.Mail.TheVariants as mails
-use Rattle.ipcz_world.specs.World.{World, Key, node_at, mail_at, way, router_at, set_node, set_mail}
 use Rattle.ipcz_world.proofs.frames.Frames.{node-set_node, word-set_node, mail-set_node, claimed-set_node, size-set_node, count-set_node}
 use Rattle.ipcz_world.proofs.frames.Frames.{node-set_mail, word-set_mail, mail-set_mail, claimed-set_mail, size-set_mail, count-set_mail}
-use Rattle.ipcz_world.specs.Turns.{after_act, after_hand, hand_message}
-use Rattle.ipcz_world.specs.Books.{Books}
-use Rattle.ipcz_world.specs.Records.{Records, inner_link, terminal_node}
+use Rattle.ipcz_world.specs.Turns.{after_hand}
 use Rattle.ipcz_world.specs.Remembering.{made_at, made_records}
-use Rattle.ipcz_world.specs.Flows.{IsUnderWay}
-use Rattle.ipcz_world.specs.Structure.{is_outward}
-use Rattle.ipcz_world.specs.Inv.{Inv}
 use Rattle.ipcz_world.proofs.frames.Changing.{IsNodeChanged, taken_by}
 use Rattle.ipcz_world.proofs.flows.Flowing.{IsTaken, way_tells}
 use Rattle.ipcz_world.proofs.frames.Opened.{OpenInv, HasEnds, opened, closed}

@@ -3,33 +3,22 @@ use Rattle.std.specs.Prelude.{◌≡◌, ◌<◌, ◌≤◌, ℕ, Bool, true, fa
 use Rattle.std.proofs.Common.{arith, ap, subst, ◌∙◌, sym, inl, inr}
 use Rattle.std.proofs.lemmas.Bool.Decides.{nat_tests}
 use Rattle.std.proofs.lemmas.Option.{none-some, same_Some}
-use Rattle.ipcz_base.specs.declared.side.Side.{Side}
-use Rattle.ipcz_base.specs.declared.side.Side.TheVariants.{A, B}
-use Rattle.ipcz_base.specs.declared.link_id.LinkId.{LinkId}
-use Rattle.ipcz_base.specs.declared.link_id.LinkId.TheVariants.{Central}
-use Rattle.ipcz_base.specs.declared.link_end.LinkEnd.{LinkEnd}
-use Rattle.ipcz_base.specs.declared.message.Message.{Message}
+use Rattle.ipcz_world.proofs.Vocabulary.{Side, A, B, LinkId, Central, LinkEnd, Message, opposite, has_link, is_central, Router}
+use Rattle.ipcz_world.proofs.Vocabulary.{router_has, inward_edge, bypass_peer, Found, with_router, World, Key, node_at, mail_at, way}
+use Rattle.ipcz_world.proofs.Vocabulary.{router_at, flow, messages_in, Books, Records, Fresh, is_linked, is_begun, is_recorded}
+use Rattle.ipcz_world.proofs.Vocabulary.{side_router, proxy_side, across_side, bypass_of, known_from, IsUnderWay, is_made_before}
+use Rattle.ipcz_world.proofs.Vocabulary.{has_primary, has_decaying, has_inward_decaying, inner_of, Inv}
 use Rattle.ipcz_base.specs.declared.message.Message.TheVariants as messages
-use Rattle.ipcz_base.specs.Sides.{opposite}
-use Rattle.ipcz_base.specs.Links.{has_link, is_central}
 use Rattle.ipcz_edge.specs.Edge.{edge_decays}
-use Rattle.ipcz_router.specs.Router.{Router, router_has, inward_edge, rouse}
-use Rattle.ipcz_router.specs.Bypass.{bypass_peer, accept_message, accept_bypass, stop_message, stop_proxying, will_stop_message}
+use Rattle.ipcz_router.specs.Router.{rouse}
+use Rattle.ipcz_router.specs.Bypass.{accept_message, accept_bypass, stop_message, stop_proxying, will_stop_message}
 use Rattle.ipcz_router.specs.Bypass.{proxy_will_stop, decays_unknown}
-use Rattle.ipcz_node.specs.Node.{Found, link_router, is_named, on_found, with_router, push_out}
+use Rattle.ipcz_node.specs.Node.{link_router, is_named, on_found, push_out}
 use Rattle.ipcz_node.specs.Hands.{fits, passes_at, handle, tell, link_asked, side_asked}
 use Rattle.ipcz_world.specs.declared.mail.Mail.TheVariants as mails
-use Rattle.ipcz_world.specs.World.{World, Key, node_at, mail_at, way, router_at, flow, messages_in}
 use Rattle.ipcz_world.specs.Turns.{after_hand}
-use Rattle.ipcz_world.specs.Books.{Books}
-use Rattle.ipcz_world.specs.Records.{Records, Fresh, is_linked, is_begun, is_recorded, side_router, proxy_side, across_side, bypass_of}
-use Rattle.ipcz_world.specs.Records.{known_from}
 use Rattle.ipcz_world.proofs.frames.RecordRules.{record_rules}
-use Rattle.ipcz_world.specs.Flows.{IsUnderWay, is_made_before}
-use Rattle.ipcz_world.specs.Standing.{has_primary, has_decaying, has_inward_decaying}
-use Rattle.ipcz_world.specs.Bypasses.{inner_of}
 use Rattle.ipcz_world.specs.Acts.{CanHand, free, peer_act, accept_act, stop_act, will_stop_act, flush_act}
-use Rattle.ipcz_world.specs.Inv.{Inv}
 use Rattle.ipcz_world.specs.Laws.{is_flush}
 use Rattle.ipcz_world.proofs.facts.LinkTests.{IsLinkEnd, has_link-tells}
 use Rattle.ipcz_world.proofs.facts.Finding.{found_tells}

@@ -4,36 +4,22 @@ use Rattle.std.specs.Prelude.{if◌then◌else◌, Option, Some, None, refl, Lis
 use Rattle.std.proofs.Common.{arith, ap, subst, ◌∙◌, sym, inl, inr}
 use Rattle.std.proofs.lemmas.Bool.Decides.{nat_tests}
 use Rattle.std.specs.FinMap.{get}
-use Rattle.ipcz_base.specs.declared.side.Side.{Side}
-use Rattle.ipcz_base.specs.declared.side.Side.TheVariants.{A, B}
-use Rattle.ipcz_base.specs.declared.end.End.{End}
-use Rattle.ipcz_base.specs.declared.link_id.LinkId.{LinkId}
-use Rattle.ipcz_base.specs.declared.link_id.LinkId.TheVariants.{Central, Peripheral}
-use Rattle.ipcz_base.specs.declared.link_end.LinkEnd.{LinkEnd}
-use Rattle.ipcz_base.specs.declared.descriptor.Descriptor.{Descriptor}
-use Rattle.ipcz_base.specs.declared.item.Item.{Item}
+use Rattle.ipcz_world.proofs.Vocabulary.{Side, A, B, End, LinkId, Central, Peripheral, LinkEnd, Descriptor, Item, same_end, has_end}
+use Rattle.ipcz_world.proofs.Vocabulary.{opposite_end, same_link, Router, router_has, Node, Found, outbox, ends_in, World, Key, node_at}
+use Rattle.ipcz_world.proofs.Vocabulary.{mail_at, way, router_at, messages_in, Books, read, is_closed, Records, side_router, side_end}
+use Rattle.ipcz_world.proofs.Vocabulary.{at_end, names_end, moves_of, Links, is_outward, Standing, view, taking_queue, fed_queue}
+use Rattle.ipcz_world.proofs.Vocabulary.{is_attached, is_awaited, is_gone, Inv}
 use Rattle.ipcz_base.specs.declared.message.Message.TheVariants as messages
-use Rattle.ipcz_base.specs.Ends.{same_end, has_end, opposite_end}
 use Rattle.ipcz_base.specs.Limits.{last_number, no_number}
-use Rattle.ipcz_base.specs.Links.{same_link}
 use Rattle.ipcz_seq.specs.Queue.{has_place}
-use Rattle.ipcz_router.specs.Router.{Router, router_has, outward_has}
+use Rattle.ipcz_router.specs.Router.{outward_has}
 use Rattle.ipcz_router.specs.Calls.{has_place_for}
-use Rattle.ipcz_node.specs.Node.{Node, Found, link_router, is_named, outbox}
-use Rattle.ipcz_base.specs.Items.{ends_in}
+use Rattle.ipcz_node.specs.Node.{link_router, is_named}
 use Rattle.ipcz_node.specs.Hands.{fits, fits_item, fits_from, fit_moves, is_new_move, has_moved}
 use Rattle.ipcz_world.specs.declared.mail.Mail.TheVariants as mails
-use Rattle.ipcz_world.specs.World.{World, Key, node_at, mail_at, way, router_at, messages_in}
-use Rattle.ipcz_world.specs.Books.{Books, read, is_closed}
-use Rattle.ipcz_world.specs.Records.{Records, side_router, side_end}
 use Rattle.ipcz_world.proofs.weights.OfRecords.{source}
-use Rattle.ipcz_world.specs.Places.{at_end, names_end}
-use Rattle.ipcz_world.specs.Flows.{moves_of}
-use Rattle.ipcz_world.specs.Structure.{Links, is_outward}
-use Rattle.ipcz_world.specs.Standing.{View, Awaited, Waiting, Standing, Gone, view, taking_queue, fed_queue, is_attached, is_awaited}
-use Rattle.ipcz_world.specs.Standing.{is_gone}
+use Rattle.ipcz_world.specs.Standing.{View, Awaited, Waiting, Gone}
 use Rattle.ipcz_world.specs.Numbers.{IsItemUnderWay}
-use Rattle.ipcz_world.specs.Inv.{Inv}
 use Rattle.ipcz_world.proofs.frames.Changing.{flow_is, in_mail-hand}
 use Rattle.ipcz_world.proofs.frames.Opened.{opened}
 use Rattle.ipcz_world.proofs.weights.Weighing.{in_places-has, in_message-item, of_number}

@@ -3,25 +3,15 @@
 use Rattle.std.specs.Prelude.{◌≡◌, ◌≢◌, ◌<◌, ◌+◌, ◌*◌, ℕ, false, cond, nat_eq, refl, List, [], ◌∷◌, ◌++◌, slice_get}
 use Rattle.std.proofs.Common.{arith, ap, subst, ◌∙◌, sym}
 use Rattle.std.proofs.lemmas.Bool.Decides.{nat_tests}
-use Rattle.ipcz_base.specs.declared.side.Side.{Side}
-use Rattle.ipcz_base.specs.declared.end.End.{End}
-use Rattle.ipcz_base.specs.declared.link_id.LinkId.{LinkId}
-use Rattle.ipcz_base.specs.declared.link_id.LinkId.TheVariants.{Central, Peripheral}
-use Rattle.ipcz_base.specs.declared.descriptor.Descriptor.{Descriptor}
-use Rattle.ipcz_base.specs.declared.item.Item.{Item}
+use Rattle.ipcz_world.proofs.Vocabulary.{Side, End, LinkId, Central, Peripheral, Descriptor, Item, is_central, put_place, from_descriptor}
+use Rattle.ipcz_world.proofs.Vocabulary.{Node, bare_node, outbox, World, Key, node_at, mail_at, way, messages_in, set_node, set_mail}
+use Rattle.ipcz_world.proofs.Vocabulary.{Books, Records, inner_link, IsUnderWay}
 use Rattle.ipcz_base.specs.declared.message.Message.TheVariants as messages
-use Rattle.ipcz_base.specs.Links.{is_central}
-use Rattle.ipcz_base.specs.Indexed.{put_place}
-use Rattle.ipcz_router.specs.Router.{from_descriptor}
-use Rattle.ipcz_node.specs.Node.{Node, bare_node, outbox, add_router}
+use Rattle.ipcz_node.specs.Node.{add_router}
 use Rattle.ipcz_node.specs.Hands.{make_terminals}
 use Rattle.ipcz_world.specs.declared.mail.Mail.TheVariants as mails
-use Rattle.ipcz_world.specs.World.{World, Key, node_at, mail_at, way, messages_in, set_node, set_mail}
 use Rattle.ipcz_world.proofs.frames.Frames.{node-set_node, node-set_mail, mail-set_mail, count-set_node, count-set_mail}
-use Rattle.ipcz_world.specs.Books.{Books}
-use Rattle.ipcz_world.specs.Records.{Records, inner_link}
 use Rattle.ipcz_world.specs.Remembering.{made_at, made_records}
-use Rattle.ipcz_world.specs.Flows.{IsUnderWay}
 use Rattle.ipcz_world.proofs.frames.Changing.{flow_is, in_mail-hand}
 use Rattle.ipcz_world.proofs.frames.Opened.{OpenInv}
 use Rattle.ipcz_world.proofs.sends.Sending.{moves-item}

@@ -1,24 +1,12 @@
 -- A descriptor of a message in hand becomes a terminal: the invariant is kept, with one end less under way.
 use Rattle.std.specs.Prelude.{◌≡◌, ◌≢◌, ◌⊎◌, ℕ, suc, true, cond, Some, List, ◌∷◌, length, slice_get}
 use Rattle.std.proofs.Common.{arith, ap, subst, ◌∙◌, sym, inl, inr}
-use Rattle.ipcz_base.specs.declared.side.Side.{Side}
-use Rattle.ipcz_base.specs.declared.link_id.LinkId.{LinkId}
-use Rattle.ipcz_base.specs.declared.descriptor.Descriptor.{Descriptor}
-use Rattle.ipcz_base.specs.declared.item.Item.{Item}
-use Rattle.ipcz_base.specs.declared.message.Message.{Message}
+use Rattle.ipcz_world.proofs.Vocabulary.{Side, LinkId, Descriptor, Item, Message, has_end, from_descriptor, ends_in, World, Key, node_at}
+use Rattle.ipcz_world.proofs.Vocabulary.{Books, read, is_closed, Records, IsUnderWay, under_way, Weight, at_end, names_end, total_below}
+use Rattle.ipcz_world.proofs.Vocabulary.{Conserved, HeldOnce}
 use Rattle.ipcz_base.specs.declared.message.Message.TheVariants as messages
-use Rattle.ipcz_base.specs.Ends.{has_end}
 use Rattle.ipcz_seq.specs.Queue.{reach}
-use Rattle.ipcz_router.specs.Router.{from_descriptor}
-use Rattle.ipcz_base.specs.Items.{ends_in}
-use Rattle.ipcz_world.specs.World.{World, Key, node_at}
-use Rattle.ipcz_world.specs.Books.{Books, read, is_closed}
-use Rattle.ipcz_world.specs.Records.{Records}
-use Rattle.ipcz_world.specs.Flows.{IsUnderWay, under_way}
-use Rattle.ipcz_world.specs.Places.{Weight, at_end, names_end}
 use Rattle.ipcz_world.proofs.weights.OfRecords.{in_message, in_node, in_places}
-use Rattle.ipcz_base.specs.Totals.{total_below}
-use Rattle.ipcz_world.specs.Whereabouts.{Conserved, HeldOnce}
 use Rattle.ipcz_world.proofs.frames.Touching.{HasSameEnds, Hands}
 use Rattle.ipcz_world.proofs.flows.Flowing.{IsRewritten, under_way-rewritten, under_way-congr}
 use Rattle.ipcz_world.proofs.frames.Opened.{OpenInv}

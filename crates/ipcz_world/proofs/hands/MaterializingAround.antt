@@ -5,31 +5,19 @@ use Rattle.std.specs.Ordering.{nat_cmp}
 use Rattle.std.specs.FinMap.{get-empty}
 use Rattle.std.proofs.Common.{arith, ap, subst, ◌∙◌, sym, inl, inr}
 use Rattle.std.proofs.lemmas.Bool.Decides.{nat_tests}
-use Rattle.ipcz_base.specs.declared.side.Side.{Side}
-use Rattle.ipcz_base.specs.declared.side.Side.TheVariants.{A, B}
-use Rattle.ipcz_base.specs.declared.end.End.{End}
-use Rattle.ipcz_base.specs.declared.link_id.LinkId.{LinkId}
-use Rattle.ipcz_base.specs.declared.link_id.LinkId.TheVariants.{Central, Peripheral}
-use Rattle.ipcz_base.specs.declared.descriptor.Descriptor.{Descriptor}
-use Rattle.ipcz_base.specs.declared.item.Item.{Item}
-use Rattle.ipcz_base.specs.declared.message.Message.{Message}
-use Rattle.ipcz_base.specs.Sides.{same_side}
-use Rattle.ipcz_base.specs.Links.{same_link}
-use Rattle.ipcz_base.specs.Ends.{opposite_end}
-use Rattle.ipcz_seq.specs.Queue.{item_at, queue_from}
-use Rattle.ipcz_router.specs.Router.{Router, from_descriptor}
-use Rattle.ipcz_world.specs.World.{World, Key, same_key, node_at, word_at, router_at}
+use Rattle.ipcz_world.proofs.Vocabulary.{Side, A, B, End, LinkId, Central, Peripheral, Descriptor, Item, Message, same_side, same_link}
+use Rattle.ipcz_world.proofs.Vocabulary.{opposite_end, item_at, Router, from_descriptor, World, Key, same_key, node_at, word_at}
+use Rattle.ipcz_world.proofs.Vocabulary.{router_at, Books, Records, At, is_recorded, bypass_of, inner_link, side_node, side_router}
+use Rattle.ipcz_world.proofs.Vocabulary.{side_end, proxy_side, terminal_descriptor, key_passes, IsUnderWay, moves_of, is_outward}
+use Rattle.ipcz_world.proofs.Vocabulary.{moving_link}
+use Rattle.ipcz_seq.specs.Queue.{queue_from}
 use Rattle.ipcz_world.proofs.frames.Frames.{same_key_tells, same_key-itself}
-use Rattle.ipcz_world.specs.Books.{Books}
-use Rattle.ipcz_world.specs.Records.{Records, PeripheralRecord, At, set_terminal, set_peripheral, is_recorded, bypass_of, inner_link}
-use Rattle.ipcz_world.specs.Records.{side_node, side_router, side_end, proxy_side, terminal_descriptor, key_at}
+use Rattle.ipcz_world.specs.Records.{PeripheralRecord, set_terminal, set_peripheral}
+use Rattle.ipcz_world.specs.Records.{key_at}
 use Rattle.ipcz_world.proofs.frames.RecordRules.{side_router-inner, side_node-inner}
 use Rattle.ipcz_world.proofs.weights.OfRecords.{source}
-use Rattle.ipcz_world.specs.Standing.{key_passes, spare_of}
+use Rattle.ipcz_world.specs.Standing.{spare_of}
 use Rattle.ipcz_world.proofs.frames.StandingRules.{standing_rules}
-use Rattle.ipcz_world.specs.Flows.{IsUnderWay, moves_of}
-use Rattle.ipcz_world.specs.Structure.{is_outward}
-use Rattle.ipcz_world.specs.Bypasses.{moving_link}
 use Rattle.ipcz_world.proofs.frames.Opened.{OpenInv}
 use Rattle.ipcz_world.proofs.flows.Awaited.{no_router}
 use Rattle.ipcz_world.proofs.sends.ExtendingAround.{inner_end_is}

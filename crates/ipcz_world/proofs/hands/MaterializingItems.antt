@@ -3,32 +3,21 @@ use Rattle.std.specs.Prelude.{◌≡◌, ◌⊎◌, ◌≤◌, ℕ, suc, Bool, t
 use Rattle.std.specs.Prelude.{◌∷◌, slice_get}
 use Rattle.std.proofs.Common.{arith, ap, ◌∙◌, sym, inl, inr}
 use Rattle.std.proofs.lemmas.Bool.Decides.{nat_tests}
-use Rattle.ipcz_base.specs.declared.side.Side.{Side}
-use Rattle.ipcz_base.specs.declared.side.Side.TheVariants.{A, B}
-use Rattle.ipcz_base.specs.declared.end.End.{End}
-use Rattle.ipcz_base.specs.declared.link_id.LinkId.{LinkId}
-use Rattle.ipcz_base.specs.declared.link_id.LinkId.TheVariants.{Central, Peripheral}
-use Rattle.ipcz_base.specs.declared.descriptor.Descriptor.{Descriptor}
-use Rattle.ipcz_base.specs.declared.item.Item.{Item}
-use Rattle.ipcz_base.specs.declared.message.Message.{Message}
+use Rattle.ipcz_world.proofs.Vocabulary.{Side, A, B, End, LinkId, Central, Peripheral, Descriptor, Item, Message, opposite, same_side}
+use Rattle.ipcz_world.proofs.Vocabulary.{same_link, has_link, same_end, Router, from_descriptor, World, Key, flow, Books, Records}
+use Rattle.ipcz_world.proofs.Vocabulary.{is_recorded, is_begun, bypass_of, known_from, inner_link, side_router, side_end, side_length}
+use Rattle.ipcz_world.proofs.Vocabulary.{across_side, terminal_descriptor, Standing, view, view_by, router_view, next_sent, taking_queue}
+use Rattle.ipcz_world.proofs.Vocabulary.{is_gone, is_awaited, is_attached, sending_queue, fed_queue, makes, is_made_before, under_way}
+use Rattle.ipcz_world.proofs.Vocabulary.{of_end, moves_of, total_list, total_below, inner_of, moving_link, Order, ProxyNumbers}
+use Rattle.ipcz_world.proofs.Vocabulary.{has_passed}
 use Rattle.ipcz_base.specs.declared.message.Message.TheVariants as messages
-use Rattle.ipcz_base.specs.Sides.{opposite, same_side}
-use Rattle.ipcz_base.specs.Links.{same_link, has_link}
-use Rattle.ipcz_base.specs.Ends.{same_end}
 use Rattle.ipcz_seq.specs.Queue.{queue_from, reach}
-use Rattle.ipcz_router.specs.Router.{Router, from_descriptor}
-use Rattle.ipcz_world.specs.World.{World, Key, flow}
 use Rattle.ipcz_world.proofs.frames.Frames.{same_key-itself}
-use Rattle.ipcz_world.specs.Books.{Books}
-use Rattle.ipcz_world.specs.Records.{Records, Moving, is_recorded, is_begun, bypass_of, known_from, inner_link, side_router, side_end}
-use Rattle.ipcz_world.specs.Records.{side_length, length_by, bypass_length, across_side, terminal_descriptor}
+use Rattle.ipcz_world.specs.Records.{Moving}
+use Rattle.ipcz_world.specs.Records.{length_by, bypass_length}
 use Rattle.ipcz_world.proofs.frames.RecordRules.{is_recorded-central, side_router-proxy, side_router-inner}
-use Rattle.ipcz_world.specs.Standing.{Waiting, Standing, view, view_by, router_view, awaited_view, next_sent, taking_queue, may_have_sent}
-use Rattle.ipcz_world.specs.Standing.{is_gone, is_awaited, is_attached, sending_queue, fed_queue}
-use Rattle.ipcz_world.specs.Flows.{makes, is_made_before, under_way, of_end, moves_of}
-use Rattle.ipcz_base.specs.Totals.{total_list, total_below}
-use Rattle.ipcz_world.specs.Bypasses.{inner_of, move_weight, moving_link}
-use Rattle.ipcz_world.specs.Numbers.{Order, ProxyNumbers, has_passed}
+use Rattle.ipcz_world.specs.Standing.{Waiting, awaited_view, may_have_sent}
+use Rattle.ipcz_world.specs.Bypasses.{move_weight}
 use Rattle.ipcz_world.proofs.views.Seen.{view_by-known, view_by-unknown}
 use Rattle.ipcz_world.proofs.frames.Draining.{next_sent-standing, taking_queue-standing, view_rules}
 use Rattle.ipcz_world.proofs.flows.Fitting.{ItemFits}

@@ -2,20 +2,11 @@
 use Rattle.std.specs.Prelude.{◌≡◌, ◌<◌, ℕ, Bool, true, false, ◌&&◌, nat_eq, nat_le, Some, is_some, refl}
 use Rattle.std.proofs.Common.{arith, ap, subst, ◌∙◌, sym, inl, inr}
 use Rattle.std.proofs.lemmas.Bool.Decides.{nat_tests}
-use Rattle.ipcz_base.specs.declared.side.Side.{Side}
-use Rattle.ipcz_base.specs.declared.side.Side.TheVariants.{A, B}
-use Rattle.ipcz_base.specs.declared.link_id.LinkId.{LinkId}
-use Rattle.ipcz_base.specs.declared.link_id.LinkId.TheVariants.{Central}
-use Rattle.ipcz_base.specs.declared.link_end.LinkEnd.{LinkEnd}
-use Rattle.ipcz_base.specs.declared.descriptor.Descriptor.{Descriptor}
-use Rattle.ipcz_base.specs.Sides.{opposite, same_side}
-use Rattle.ipcz_base.specs.Links.{same_link}
-use Rattle.ipcz_seq.specs.Queue.{item_at}
-use Rattle.ipcz_router.specs.Router.{Router, inward_edge, from_descriptor}
-use Rattle.ipcz_world.specs.World.{World, Key, node_at, router_at}
-use Rattle.ipcz_world.specs.Books.{Books}
-use Rattle.ipcz_world.specs.Records.{Records, is_recorded, is_begun, inner_link, side_node, side_router, side_end, proxy_side, across_side}
-use Rattle.ipcz_world.specs.Structure.{Counts, Ordered, Shape, Links, IsRecorded, Positions, is_outward, has_role}
+use Rattle.ipcz_world.proofs.Vocabulary.{Side, A, B, LinkId, Central, LinkEnd, Descriptor, opposite, same_side, same_link, item_at}
+use Rattle.ipcz_world.proofs.Vocabulary.{Router, inward_edge, from_descriptor, World, Key, node_at, router_at, Books, Records}
+use Rattle.ipcz_world.proofs.Vocabulary.{is_recorded, is_begun, inner_link, side_node, side_router, side_end, proxy_side, across_side}
+use Rattle.ipcz_world.proofs.Vocabulary.{Counts, Ordered, Shape, Links, IsRecorded, Positions, is_outward}
+use Rattle.ipcz_world.specs.Structure.{has_role}
 use Rattle.ipcz_world.proofs.frames.Touching.{Hands}
 use Rattle.ipcz_world.proofs.frames.Opened.{OpenInv}
 use Rattle.ipcz_world.proofs.sends.ExtendingAround.{inner_end_is, inner_one}

@@ -1,5 +1,8 @@
 -- The making of one terminal as an update of its node and of the mailbox in whose message its descriptor came.
-use Rattle.ipcz_world.specs.Places.{in_node as in_node', Weight, in_router}
+use Rattle.ipcz_world.proofs.Vocabulary.{Weight, in_router, Side, LinkId, Descriptor, Item, Message, opposite_end, total, total_below}
+use Rattle.ipcz_world.proofs.Vocabulary.{total_list, Router, from_descriptor, Node, outbox, World, Key, node_at, mail_at, way, router_at}
+use Rattle.ipcz_world.proofs.Vocabulary.{messages_in, set_node, set_mail, set_router, hand_message, Books, Records}
+use Rattle.ipcz_world.specs.Places.{in_node as in_node'}
 use Rattle.std.specs.Prelude.{◌≡◌, ◌≢◌, ◌<◌, ◌+◌, ◌*◌, ℕ, Bool, true, false, cond, nat_eq, Option, Some, None, is_some, refl, List, [], ◌∷◌}
 use Rattle.std.specs.Prelude.{◌++◌}
 use Rattle.std.specs.Ordering.{nat_cmp}
@@ -7,25 +10,13 @@ use Rattle.std.specs.Cmp.{nat_cmp_total}
 use Rattle.std.specs.FinMap.{get, insert, nat_cmp-IsAntisymmetric}
 use Rattle.std.proofs.Common.{arith, ap, subst, ◌∙◌, sym}
 use Rattle.std.proofs.lemmas.Bool.Decides.{nat_tests}
-use Rattle.ipcz_base.specs.declared.side.Side.{Side}
-use Rattle.ipcz_base.specs.declared.link_id.LinkId.{LinkId}
-use Rattle.ipcz_base.specs.declared.descriptor.Descriptor.{Descriptor}
-use Rattle.ipcz_base.specs.declared.item.Item.{Item}
-use Rattle.ipcz_base.specs.declared.message.Message.{Message}
 use Rattle.ipcz_base.specs.declared.message.Message.TheVariants as messages
-use Rattle.ipcz_base.specs.Ends.{opposite_end}
-use Rattle.ipcz_base.specs.Totals.{total, total_below, total_list}
 use Rattle.ipcz_base.proofs.Totals.{total-insert_new, total-empty}
-use Rattle.ipcz_router.specs.Router.{Router, from_descriptor}
-use Rattle.ipcz_node.specs.Node.{Node, outbox, add_router}
+use Rattle.ipcz_node.specs.Node.{add_router}
 use Rattle.ipcz_world.specs.declared.mail.Mail.TheVariants as mails
-use Rattle.ipcz_world.specs.World.{World, Key, node_at, mail_at, way, router_at, messages_in, set_node, set_mail, set_router}
 use Rattle.ipcz_world.proofs.frames.Frames.{frames, router-set_router, node-set_node, word-set_node, mail-set_node, claimed-set_node}
 use Rattle.ipcz_world.proofs.frames.Frames.{size-set_node, count-set_node, node-set_mail, word-set_mail, mail-set_mail, claimed-set_mail}
 use Rattle.ipcz_world.proofs.frames.Frames.{size-set_mail, count-set_mail}
-use Rattle.ipcz_world.specs.Turns.{hand_message}
-use Rattle.ipcz_world.specs.Books.{Books}
-use Rattle.ipcz_world.specs.Records.{Records}
 use Rattle.ipcz_world.proofs.weights.OfRecords.{in_message, in_node}
 use Rattle.ipcz_world.proofs.frames.Touching.{HasSameEnds, Hands}
 use Rattle.ipcz_world.proofs.frames.Changing.{IsNodeChanged, same_routers, flow_is, in_mail-hand, way_apart}

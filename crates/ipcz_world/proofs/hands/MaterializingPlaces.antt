@@ -2,30 +2,15 @@
 use Rattle.ipcz_world.proofs.weights.OfRecords.{holds}
 use Rattle.std.specs.Prelude.{◌≡◌, ◌≢◌, ◌⊎◌, ◌+◌, ℕ, suc, Bool, true, false, ◌&&◌, Some, None, is_some, refl, List, ◌∷◌, slice_get}
 use Rattle.std.proofs.Common.{arith, ap, subst, ◌∙◌, sym, inl, inr}
-use Rattle.ipcz_base.specs.declared.side.Side.{Side}
-use Rattle.ipcz_base.specs.declared.side.Side.TheVariants.{A, B}
-use Rattle.ipcz_base.specs.declared.end.End.{End}
-use Rattle.ipcz_base.specs.declared.link_id.LinkId.{LinkId}
-use Rattle.ipcz_base.specs.declared.link_id.LinkId.TheVariants.{Central}
-use Rattle.ipcz_base.specs.declared.link_end.LinkEnd.{LinkEnd}
-use Rattle.ipcz_base.specs.declared.descriptor.Descriptor.{Descriptor}
-use Rattle.ipcz_base.specs.declared.item.Item.{Item}
-use Rattle.ipcz_base.specs.declared.message.Message.{Message}
+use Rattle.ipcz_world.proofs.Vocabulary.{Side, A, B, End, LinkId, Central, LinkEnd, Descriptor, Item, Message, opposite, same_side}
+use Rattle.ipcz_world.proofs.Vocabulary.{same_link, same_end, has_end, item_at, Router, from_descriptor, World, Key, same_key, router_at}
+use Rattle.ipcz_world.proofs.Vocabulary.{Books, Records, At, is_recorded, inner_link, side_router, side_end, terminal_node, view}
+use Rattle.ipcz_world.proofs.Vocabulary.{IsUnderWay, is_made_before, under_way, of_end, moves_of, total_list, Told, of_bypass, inner_of}
+use Rattle.ipcz_world.proofs.Vocabulary.{moving_link, EndPlaces, BooksKept, Items, FreshNumbers, standing_router}
 use Rattle.ipcz_base.specs.declared.message.Message.TheVariants as messages
-use Rattle.ipcz_base.specs.Sides.{opposite, same_side}
-use Rattle.ipcz_base.specs.Links.{same_link}
-use Rattle.ipcz_base.specs.Ends.{same_end, has_end}
-use Rattle.ipcz_seq.specs.Queue.{item_at}
-use Rattle.ipcz_router.specs.Router.{Router, from_descriptor}
-use Rattle.ipcz_world.specs.World.{World, Key, same_key, router_at}
-use Rattle.ipcz_world.specs.Books.{Books}
-use Rattle.ipcz_world.specs.Records.{Records, At, Moving, is_recorded, inner_link, side_router, side_end, terminal_node}
-use Rattle.ipcz_world.specs.Standing.{view}
-use Rattle.ipcz_world.specs.Flows.{IsUnderWay, is_made_before, under_way, of_end, moves_of}
-use Rattle.ipcz_base.specs.Totals.{total_list}
-use Rattle.ipcz_world.specs.Bypasses.{Told, of_bypass, inner_of, move_weight, moving_link}
-use Rattle.ipcz_world.specs.Whereabouts.{EndPlaces, BooksKept}
-use Rattle.ipcz_world.specs.Numbers.{Items, FreshNumbers, IsItemUnderWay, standing_router}
+use Rattle.ipcz_world.specs.Records.{Moving}
+use Rattle.ipcz_world.specs.Bypasses.{move_weight}
+use Rattle.ipcz_world.specs.Numbers.{IsItemUnderWay}
 use Rattle.ipcz_world.proofs.frames.Touching.{HasSameEnds}
 use Rattle.ipcz_world.proofs.flows.Fitting.{fits_of, items_by}
 use Rattle.ipcz_world.proofs.flows.Flowing.{IsRewritten, came_rewritten, made_still, under_way-rewritten, under_way-congr, weighed}

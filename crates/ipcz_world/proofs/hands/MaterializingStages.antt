@@ -1,27 +1,16 @@
 -- A descriptor becomes a terminal: who stands where, the words, the bypasses, and where the terminals are.
 use Rattle.std.specs.Prelude.{◌≡◌, ◌⊎◌, ◌≤◌, ℕ, Bool, true, false, not, ◌&&◌, Option, Some, None, is_some, refl}
 use Rattle.std.proofs.Common.{arith, ap, subst, ◌∙◌, sym, inl, inr}
-use Rattle.ipcz_base.specs.declared.side.Side.{Side}
-use Rattle.ipcz_base.specs.declared.side.Side.TheVariants.{A, B}
-use Rattle.ipcz_base.specs.declared.end.End.{End}
-use Rattle.ipcz_base.specs.declared.link_id.LinkId.TheVariants.{Central}
-use Rattle.ipcz_base.specs.declared.descriptor.Descriptor.{Descriptor}
-use Rattle.ipcz_base.specs.Sides.{opposite, same_side}
-use Rattle.ipcz_word.specs.SideSets.{has}
-use Rattle.ipcz_base.specs.Links.{same_link}
-use Rattle.ipcz_base.specs.Ends.{same_end, opposite_end}
-use Rattle.ipcz_router.specs.Router.{Router, is_terminal, from_descriptor}
-use Rattle.ipcz_world.specs.World.{World, Key, router_at}
+use Rattle.ipcz_world.proofs.Vocabulary.{Side, A, B, End, Central, Descriptor, opposite, same_side, has, same_link, same_end}
+use Rattle.ipcz_world.proofs.Vocabulary.{opposite_end, Router, is_terminal, from_descriptor, World, Key, router_at, Books, Records, At}
+use Rattle.ipcz_world.proofs.Vocabulary.{is_begun, inner_link, side_node, side_router, side_end, proxy_side, across_side, is_nowhere}
+use Rattle.ipcz_world.proofs.Vocabulary.{key_passes, has_primary, has_decaying, has_inward_decaying, Stands, Words, Spares, BypassRecords}
+use Rattle.ipcz_world.proofs.Vocabulary.{Stages, inner_of, moving_link, Terminals}
 use Rattle.ipcz_world.proofs.frames.Frames.{same_key-itself}
-use Rattle.ipcz_world.specs.Books.{Books}
-use Rattle.ipcz_world.specs.Records.{Records, At, is_begun, inner_link, side_node, side_router, side_end, proxy_side, across_side}
-use Rattle.ipcz_world.specs.Records.{is_nowhere}
 use Rattle.ipcz_world.proofs.frames.RecordRules.{is_recorded-central}
-use Rattle.ipcz_world.specs.Standing.{key_passes, spare_of, has_primary, has_decaying, has_inward_primary, has_inward_decaying}
+use Rattle.ipcz_world.specs.Standing.{spare_of, has_inward_primary}
 use Rattle.ipcz_world.proofs.frames.StandingRules.{standing_rules}
-use Rattle.ipcz_world.specs.Structure.{Stands, Words, Spares}
-use Rattle.ipcz_world.specs.Bypasses.{BypassRecords, Stages, inner_of, fresh_of, moving_link}
-use Rattle.ipcz_world.specs.Whereabouts.{Terminals}
+use Rattle.ipcz_world.specs.Bypasses.{fresh_of}
 use Rattle.ipcz_world.proofs.frames.Opened.{OpenInv}
 use Rattle.ipcz_world.proofs.flows.Awaited.{moving_known}
 use Rattle.ipcz_world.proofs.sends.SendingOut.{has_link-end}

@@ -1,38 +1,23 @@
 -- The proxy learns its lengths, and tells the router inward.
-use Rattle.ipcz_world.specs.Places.{in_message as in_message', Weight, in_router}
+use Rattle.ipcz_world.proofs.Vocabulary.{Weight, in_router, Side, A, B, End, LinkId, Central, LinkEnd, Descriptor, Item, Message}
+use Rattle.ipcz_world.proofs.Vocabulary.{opposite, has_link, Router, router_has, inward_edge, Edge, World, Key, same_key, mail_at, way}
+use Rattle.ipcz_world.proofs.Vocabulary.{router_at, Books, Records, is_begun, inner_link, side_node, side_router, bypass_of, proxy_side}
+use Rattle.ipcz_world.proofs.Vocabulary.{across_side, known_from, has_decaying, has_inward_decaying, IsUnderWay, makes, is_made_before}
+use Rattle.ipcz_world.proofs.Vocabulary.{under_way, moves_of, of_end, total_list, Told, of_bypass, control_weight, inner_of, Inv}
+use Rattle.ipcz_world.specs.Places.{in_message as in_message'}
 use Rattle.std.specs.Prelude.{◌≡◌, ◌≢◌, ◌⊎◌, ◌<◌, ◌≤◌, ℕ, ◌+◌, true, false, nat_eq, is_some, is_none, option_map, unwrap_or, Option, Some}
 use Rattle.std.specs.Prelude.{None, List, refl}
 use Rattle.std.proofs.Common.{arith, ap, ◌∙◌, sym, inl, inr}
 use Rattle.std.proofs.lemmas.Bool.Decides.{nat_tests}
 use Rattle.std.proofs.lemmas.Option.{none-some, same_Some}
-use Rattle.ipcz_base.specs.declared.side.Side.{Side}
-use Rattle.ipcz_base.specs.declared.side.Side.TheVariants.{A, B}
-use Rattle.ipcz_base.specs.declared.end.End.{End}
-use Rattle.ipcz_base.specs.declared.link_id.LinkId.{LinkId}
-use Rattle.ipcz_base.specs.declared.link_id.LinkId.TheVariants.{Central}
-use Rattle.ipcz_base.specs.declared.link_end.LinkEnd.{LinkEnd}
-use Rattle.ipcz_base.specs.declared.descriptor.Descriptor.{Descriptor}
-use Rattle.ipcz_base.specs.declared.item.Item.{Item}
-use Rattle.ipcz_base.specs.declared.message.Message.{Message}
 use Rattle.ipcz_base.specs.declared.message.Message.TheVariants as messages
-use Rattle.ipcz_base.specs.Sides.{opposite}
-use Rattle.ipcz_base.specs.Links.{has_link}
-use Rattle.ipcz_router.specs.Router.{Router, router_has, inward_edge}
-use Rattle.ipcz_edge.specs.Edge.{Edge, no_edge, set_length_to, set_length_from}
+use Rattle.ipcz_edge.specs.Edge.{no_edge, set_length_to, set_length_from}
 use Rattle.ipcz_router.specs.Bypass.{stop_proxying}
 use Rattle.ipcz_world.specs.declared.mail.Mail.TheVariants as mails
-use Rattle.ipcz_world.specs.World.{World, Key, same_key, mail_at, way, router_at}
 use Rattle.ipcz_world.proofs.frames.Frames.{same_key_tells, same_key-itself}
-use Rattle.ipcz_world.specs.Books.{Books}
-use Rattle.ipcz_world.specs.Records.{Records, is_begun, inner_link, side_node, side_router, bypass_of, proxy_side, across_side, known_from}
 use Rattle.ipcz_world.proofs.frames.RecordRules.{bypass_of-inner}
 use Rattle.ipcz_world.specs.Remembering.{told_records}
-use Rattle.ipcz_world.specs.Standing.{has_decaying, has_inward_decaying}
-use Rattle.ipcz_world.specs.Flows.{IsUnderWay, makes, is_made_before, under_way, moves_of, of_end}
 use Rattle.ipcz_world.proofs.weights.OfRecords.{in_places}
-use Rattle.ipcz_base.specs.Totals.{total_list}
-use Rattle.ipcz_world.specs.Bypasses.{Told, of_bypass, control_weight, inner_of}
-use Rattle.ipcz_world.specs.Inv.{Inv}
 use Rattle.ipcz_world.specs.Acts.{CanHand, stop_act}
 use Rattle.ipcz_world.proofs.flows.Handing.{handed_on, place_before, was_under_way, was_made_before, under_way-handed_on, word-handed_on}
 use Rattle.ipcz_world.proofs.flows.Handing.{hand-handed_on, mail-handed_on, changed-handed_on}

@@ -2,20 +2,14 @@
 use Rattle.std.specs.Prelude.{◌≡◌, ◌<◌, ◌≤◌, ℕ, zero, suc, ◌+◌, Bool, true, false, nat_eq, Some, List, [], ◌∷◌, drop, slice_get, refl}
 use Rattle.std.proofs.Common.{arith, ap, subst, ◌∙◌, sym}
 use Rattle.std.proofs.lemmas.Bool.Decides.{nat_tests}
-use Rattle.ipcz_base.specs.declared.end.End.{End}
-use Rattle.ipcz_base.specs.declared.item.Item.{Item}
-use Rattle.ipcz_base.specs.Ends.{opposite_end}
-use Rattle.ipcz_seq.specs.Queue.{item_at}
-use Rattle.ipcz_router.specs.Router.{Router}
-use Rattle.ipcz_world.specs.World.{World, Key, router_at}
-use Rattle.ipcz_world.specs.Books.{Books, read}
-use Rattle.ipcz_world.specs.Records.{Records, routes_of}
-use Rattle.ipcz_world.specs.Places.{at_end, from_number, just, times_at, unread_weight}
+use Rattle.ipcz_world.proofs.Vocabulary.{End, Item, opposite_end, item_at, Router, World, Key, router_at, Books, read, Records, at_end}
+use Rattle.ipcz_world.proofs.Vocabulary.{Inv}
+use Rattle.ipcz_world.specs.Records.{routes_of}
+use Rattle.ipcz_world.specs.Places.{from_number, just, times_at, unread_weight}
 use Rattle.ipcz_world.specs.Places as places
 use Rattle.ipcz_world.specs.Routes.{Routes}
 use Rattle.ipcz_world.specs.WorldLaws.{ItemsStandOnce}
 use Rattle.ipcz_base.specs.Items.{same_item}
-use Rattle.ipcz_world.specs.Inv.{Inv}
 use Rattle.ipcz_world.proofs.facts.LinkTests.{same_end-itself, opposite_end-twice}
 use Rattle.ipcz_world.proofs.weights.Weighing.{in_router-is}
 use Rattle.ipcz_world.proofs.weights.Booking.{total-has, in_router-within}

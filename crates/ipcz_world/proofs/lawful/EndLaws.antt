@@ -2,15 +2,12 @@
 use Rattle.std.specs.Prelude.{◌≡◌, ℕ, Bool, true, false, cond, ◌&&◌, nat_eq, refl}
 use Rattle.std.proofs.Common.{arith, ap, sym, ◌∙◌}
 use Rattle.std.proofs.lemmas.Bool.Decides.{nat_tests}
-use Rattle.ipcz_base.specs.declared.end.End.{End}
-use Rattle.ipcz_base.specs.declared.link_id.LinkId.TheVariants.{Central}
+use Rattle.ipcz_world.proofs.Vocabulary.{End, Central, World, Books, Records, is_linked, is_nowhere, side_end, Inv}
 use Rattle.ipcz_base.specs.Ends.{end_at}
-use Rattle.ipcz_world.specs.World.{World}
-use Rattle.ipcz_world.specs.Books.{Books, has_mark}
+use Rattle.ipcz_world.specs.Books.{has_mark}
 use Rattle.ipcz_world.specs.Plain.{IsUnwritten}
 use Rattle.ipcz_world.specs.Routes.{is_opened}
-use Rattle.ipcz_world.specs.Records.{Records, routes_of, is_linked, is_nowhere, side_end}
-use Rattle.ipcz_world.specs.Inv.{Inv}
+use Rattle.ipcz_world.specs.Records.{routes_of}
 use Rattle.ipcz_world.specs.Laws.{EndLaw}
 use Rattle.ipcz_world.proofs.frames.RecordRules.{is_recorded-central}
 

@@ -3,22 +3,15 @@ use Rattle.std.specs.Prelude.{◌≡◌, ◌⊎◌, ℕ, Bool, true, false, cond
 use Rattle.std.specs.Prelude.{refl, List, [], ◌∷◌, ◌++◌}
 use Rattle.std.proofs.Common.{arith, ap, sym, ◌∙◌, inl, inr}
 use Rattle.std.proofs.lemmas.Bool.Decides.{nat_tests}
-use Rattle.ipcz_base.specs.declared.side.Side.{Side}
-use Rattle.ipcz_base.specs.declared.link_id.LinkId.{LinkId}
-use Rattle.ipcz_base.specs.declared.link_id.LinkId.TheVariants.{Central}
-use Rattle.ipcz_base.specs.declared.descriptor.Descriptor.{Descriptor}
-use Rattle.ipcz_base.specs.declared.item.Item.{Item}
-use Rattle.ipcz_base.specs.declared.message.Message.{Message}
+use Rattle.ipcz_world.proofs.Vocabulary.{Side, LinkId, Central, Descriptor, Item, Message, Router, Hand, Node, Found, World, way, node_at}
+use Rattle.ipcz_world.proofs.Vocabulary.{set_node, after_act, can_take, unless}
 use Rattle.ipcz_base.specs.declared.message.Message.TheVariants as messages
-use Rattle.ipcz_router.specs.Router.{Router}
-use Rattle.ipcz_node.specs.declared.act.Act.TheVariants.{Hand}
-use Rattle.ipcz_node.specs.Node.{Node, Found, is_named, link_router, add_stray}
+use Rattle.ipcz_node.specs.Node.{is_named, link_router, add_stray}
 use Rattle.ipcz_node.specs.Hands.{link_asked, side_asked, fits_item, passes_at, fits, handle, is_hand_of, deliver}
 use Rattle.ipcz_world.specs.declared.mail.Mail.TheVariants as mails
 use Rattle.ipcz_world.specs.declared.step.Step.TheVariants.{Turn}
-use Rattle.ipcz_world.specs.World.{World, way, node_at, set_node}
-use Rattle.ipcz_world.specs.Turns.{message_in_hand, after_hand, after_act, can_take, hand_lacks_serials, turn_lacks_serials}
-use Rattle.ipcz_world.specs.Steps.{unless, turn_step}
+use Rattle.ipcz_world.specs.Turns.{message_in_hand, after_hand, hand_lacks_serials, turn_lacks_serials}
+use Rattle.ipcz_world.specs.Steps.{turn_step}
 use Rattle.ipcz_world.specs.Books.{advance}
 use Rattle.ipcz_world.specs.Routes.{routes_after}
 use Rattle.ipcz_world.specs.Laws.{is_flush}

@@ -4,21 +4,12 @@ use Rattle.ipcz_world.proofs.weights.OfRecords.{none_stable}
 use Rattle.std.specs.Prelude.{◌≡◌, ◌≤◌, ℕ, Bool, true, false, not, Option, Some, None, is_some, refl}
 use Rattle.std.proofs.Common.{arith, ap, subst, ◌∙◌, sym}
 use Rattle.std.proofs.lemmas.Option.{same_Some}
-use Rattle.ipcz_base.specs.declared.side.Side.{Side}
-use Rattle.ipcz_base.specs.declared.side.Side.TheVariants.{A, B}
-use Rattle.ipcz_base.specs.declared.link_id.LinkId.TheVariants.{Central}
-use Rattle.ipcz_base.specs.declared.link_end.LinkEnd.{LinkEnd}
-use Rattle.ipcz_word.specs.SideSets.{has}
-use Rattle.ipcz_base.specs.Sides.{opposite, same_side}
+use Rattle.ipcz_world.proofs.Vocabulary.{Side, A, B, Central, LinkEnd, has, opposite, same_side, Router, inward_edge, World, Key, word_at}
+use Rattle.ipcz_world.proofs.Vocabulary.{router_at, Books, Records, is_linked, is_begun, side_router, proxy_side, across_side, bypass_of}
+use Rattle.ipcz_world.proofs.Vocabulary.{passes, key_passes, has_primary, IsRecorded, is_outward, Inv}
 use Rattle.ipcz_word.specs.Word.{is_free}
-use Rattle.ipcz_router.specs.Router.{Router, inward_edge}
-use Rattle.ipcz_world.specs.World.{World, Key, word_at, router_at}
-use Rattle.ipcz_world.specs.Books.{Books}
-use Rattle.ipcz_world.specs.Records.{Records, is_linked, is_begun, side_router, proxy_side, across_side, bypass_of}
 use Rattle.ipcz_world.proofs.frames.RecordRules.{bypass_of-central, record_rules}
-use Rattle.ipcz_world.specs.Standing.{passes, key_passes, has_primary, has_inward_primary}
-use Rattle.ipcz_world.specs.Structure.{IsRecorded, is_outward}
-use Rattle.ipcz_world.specs.Inv.{Inv}
+use Rattle.ipcz_world.specs.Standing.{has_inward_primary}
 use Rattle.ipcz_world.specs.Laws.{There, LinkLaw, IsBypassed, BypassLaw}
 use Rattle.ipcz_world.proofs.facts.LinkTests.{IsLinkEnd, has_link-tells, same_side-opposite}
 use Rattle.ipcz_world.proofs.facts.Lengths.{same_side-itself}

@@ -4,49 +4,35 @@ use Rattle.std.specs.Prelude.{List, [], ◌∷◌, ◌++◌, refl}
 use Rattle.std.proofs.Common.{arith, sym, ◌∙◌, ap, subst, inl, inr}
 use Rattle.std.proofs.lemmas.Bool.Decides.{nat_tests}
 use Rattle.std.proofs.lemmas.Option.{same_Some}
-use Rattle.ipcz_base.specs.declared.side.Side.{Side}
-use Rattle.ipcz_base.specs.declared.side.Side.TheVariants.{A, B}
-use Rattle.ipcz_base.specs.declared.end.End.{End}
-use Rattle.ipcz_base.specs.declared.link_id.LinkId.{LinkId}
-use Rattle.ipcz_base.specs.declared.link_id.LinkId.TheVariants.{Central, Peripheral}
-use Rattle.ipcz_base.specs.declared.link_end.LinkEnd.{LinkEnd}
-use Rattle.ipcz_base.specs.declared.descriptor.Descriptor.{Descriptor}
+use Rattle.ipcz_world.proofs.Vocabulary.{Side, A, B, End, LinkId, Central, Peripheral, LinkEnd, Descriptor, Item, Message, place_at}
+use Rattle.ipcz_world.proofs.Vocabulary.{ends_in, opposite, Edge, Router, is_terminal, inward_edge, from_descriptor, bypass_peer}
+use Rattle.ipcz_world.proofs.Vocabulary.{output_of, RouterAct, Close, Node, Found, router_in, with_router, bare_node, terminal_of, commit}
+use Rattle.ipcz_world.proofs.Vocabulary.{World, Key, node_at, router_at, answer_of, Books, Records, is_linked, is_recorded, bypass_of}
+use Rattle.ipcz_world.proofs.Vocabulary.{is_begun, side_router, side_end, has_primary, IsRecorded, is_outward, Inv}
 use Rattle.ipcz_base.specs.declared.parcel.Parcel as parcels
-use Rattle.ipcz_base.specs.declared.item.Item.{Item}
-use Rattle.ipcz_base.specs.declared.message.Message.{Message}
 use Rattle.ipcz_base.specs.declared.message.Message.TheVariants as messages
-use Rattle.ipcz_base.specs.Indexed.{place_at}
 use Rattle.ipcz_base.specs.Ends.{end_at}
-use Rattle.ipcz_base.specs.Items.{ends_in}
-use Rattle.ipcz_base.specs.Sides.{opposite}
-use Rattle.ipcz_edge.specs.Edge.{Edge, choose, is_short_of, edge_decays}
-use Rattle.ipcz_router.specs.Router.{Router, is_terminal, inward_edge, rouse, from_descriptor}
+use Rattle.ipcz_edge.specs.Edge.{choose, is_short_of, edge_decays}
+use Rattle.ipcz_router.specs.Router.{rouse}
 use Rattle.ipcz_router.specs.declared.sending.Sending.{Sending}
-use Rattle.ipcz_router.specs.Bypass.{bypass_peer, accept_message, accept_bypass, stop_proxying, proxy_will_stop, stop_message}
+use Rattle.ipcz_router.specs.Bypass.{accept_message, accept_bypass, stop_proxying, proxy_will_stop, stop_message}
 use Rattle.ipcz_router.specs.Bypass.{will_stop_message}
 use Rattle.ipcz_router.specs.Acts.{way_out, way_in}
-use Rattle.ipcz_router.specs.ActEffects.{apply, output_of, item_output, message_output, discard_output}
-use Rattle.ipcz_router.specs.declared.act.RouterAct.{RouterAct}
+use Rattle.ipcz_router.specs.ActEffects.{apply, item_output, message_output, discard_output}
 use Rattle.ipcz_router.specs.declared.act.RouterAct.TheVariants as acts
 use Rattle.ipcz_router.specs.declared.act.Answer.{Answer}
 use Rattle.ipcz_router.specs.declared.act.Applied.{Applied}
 use Rattle.ipcz_router.specs.declared.act.Applied.TheVariants as sends
-use Rattle.ipcz_node.specs.declared.act.Act.TheVariants.{Close, Router as OfRouter}
-use Rattle.ipcz_node.specs.Node.{Node, Found, router_in, with_router, add_router, add_end, bare_node, terminal_of, link_router, on_found}
+use Rattle.ipcz_node.specs.declared.act.Act.TheVariants.{Router as OfRouter}
+use Rattle.ipcz_node.specs.Node.{add_router, add_end, link_router, on_found}
 use Rattle.ipcz_node.specs.Node.{on_router}
 use Rattle.ipcz_node.specs.FirstPairs.{add_pairs, first_pairs, new_node}
 use Rattle.ipcz_node.specs.Calls.{put_node, put_at_router, get_node, get_at_router, close_end, close_at_router}
 use Rattle.ipcz_node.specs.Sends.{move_ends, post_item, send_item, send}
 use Rattle.ipcz_node.specs.Hands.{deliver, handle, fits, tell, take_in, make_terminals}
-use Rattle.ipcz_node.specs.Acts.{commit, commit_router, keep_or_drop}
-use Rattle.ipcz_world.specs.World.{World, Key, node_at, router_at, new_world, new_nodes, numbers_from}
-use Rattle.ipcz_world.specs.WordAnswers.{answer_of}
-use Rattle.ipcz_world.specs.Books.{Books}
-use Rattle.ipcz_world.specs.Records.{Records, is_linked, is_recorded, bypass_of, is_begun, side_router, side_end}
-use Rattle.ipcz_world.specs.Standing.{has_primary}
-use Rattle.ipcz_world.specs.Structure.{IsRecorded, is_outward}
+use Rattle.ipcz_node.specs.Acts.{commit_router, keep_or_drop}
+use Rattle.ipcz_world.specs.World.{new_world, new_nodes, numbers_from}
 use Rattle.ipcz_world.specs.Owed.{IsTerminalOn, IsDirectPair}
-use Rattle.ipcz_world.specs.Inv.{Inv}
 use Rattle.ipcz_world.proofs.frames.Frames.{node-set_node, node-set_word, node-set_claimed, node-set_mail, count-set_node, count-set_word}
 use Rattle.ipcz_world.proofs.frames.Frames.{count-set_claimed, count-set_mail}
 use Rattle.ipcz_world.proofs.facts.LinkTests.{IsLinkEnd, has_link-tells}

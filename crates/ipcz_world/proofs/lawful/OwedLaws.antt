@@ -3,25 +3,14 @@ use Rattle.std.specs.Prelude.{◌≡◌, ◌⊎◌, ◌≤◌, ◌<◌, ℕ, Boo
 use Rattle.std.proofs.Common.{arith, ap, subst, ◌∙◌, sym, inl, inr}
 use Rattle.std.proofs.lemmas.Bool.Decides.{nat_tests}
 use Rattle.std.proofs.lemmas.Option.{none-some, same_Some}
-use Rattle.ipcz_base.specs.declared.side.Side.TheVariants.{A}
-use Rattle.ipcz_base.specs.declared.link_id.LinkId.{LinkId}
-use Rattle.ipcz_base.specs.declared.link_id.LinkId.TheVariants.{Central}
-use Rattle.ipcz_base.specs.declared.link_end.LinkEnd.{LinkEnd}
-use Rattle.ipcz_base.specs.declared.message.Message.{Message}
+use Rattle.ipcz_world.proofs.Vocabulary.{A, LinkId, Central, LinkEnd, Message, Router, inward_edge, World, Key, router_at, Books, Records}
+use Rattle.ipcz_world.proofs.Vocabulary.{bypass_of, inner_link, is_begun, known_from, proxy_side, IsUnderWay, of_bypass, control_weight}
+use Rattle.ipcz_world.proofs.Vocabulary.{inner_of, Inv, same_link, Edge, has_decaying, has_inward_decaying}
 use Rattle.ipcz_base.specs.declared.message.Message.TheVariants as messages
-use Rattle.ipcz_router.specs.Router.{Router, inward_edge}
-use Rattle.ipcz_world.specs.World.{World, Key, router_at}
-use Rattle.ipcz_world.specs.Books.{Books}
-use Rattle.ipcz_world.specs.Records.{Records, bypass_of, inner_link, is_begun, known_from, proxy_side}
-use Rattle.ipcz_world.specs.Flows.{IsUnderWay}
-use Rattle.ipcz_world.specs.Bypasses.{of_bypass, control_weight, is_by, inner_of}
-use Rattle.ipcz_world.specs.Inv.{Inv}
+use Rattle.ipcz_world.specs.Bypasses.{is_by}
 use Rattle.ipcz_world.specs.Owed.{IsBypassing, IsInnerOf, TakesAway, takes_link, IsEdgeOf}
 use Rattle.ipcz_world.proofs.flows.Flowing.{found}
 use Rattle.ipcz_world.proofs.lawful.LengthLaws.{outward_case, inward_case}
-use Rattle.ipcz_base.specs.Links.{same_link}
-use Rattle.ipcz_edge.specs.Edge.{Edge}
-use Rattle.ipcz_world.specs.Standing.{has_decaying, has_inward_decaying}
 use Rattle.ipcz_world.specs.Laws.{names_old}
 use Rattle.ipcz_world.proofs.facts.LinkTests.{IsLinkEnd, has_link-tells}
 use Rattle.ipcz_world.proofs.sends.Moved.{passes_tells}

@@ -1,5 +1,10 @@
 -- In a quiet world each item that a pair without proxies has put and not read stands in the in queue of its receiving terminal.
-use Rattle.ipcz_world.specs.Places.{in_node as in_node', Weight, in_router, at_end, just}
+use Rattle.ipcz_world.proofs.Vocabulary.{Weight, in_router, at_end, End, Item, Message, Refusal, opposite_end, same_end, place_at, total}
+use Rattle.ipcz_world.proofs.Vocabulary.{total_below, total_list, Edge, item_at, current_item, Router, is_terminal, is_possible}
+use Rattle.ipcz_world.proofs.Vocabulary.{RouterAct, Node, Found, terminal_of, Reply, World, Key, node_at, mail_at, way, router_at}
+use Rattle.ipcz_world.proofs.Vocabulary.{messages_in, flow, set_node, unless, Books, read, is_closed, Records, Terminal, At, IsUnderWay}
+use Rattle.ipcz_world.proofs.Vocabulary.{under_way, Inv}
+use Rattle.ipcz_world.specs.Places.{in_node as in_node', just}
 use Rattle.std.specs.Prelude.{◌≡◌, ◌≤◌, ◌<◌, ℕ, zero, suc, ◌+◌, Bool, true, false, cond, ◌&&◌, nat_eq, nat_lt, T, if◌then◌else◌, Option}
 use Rattle.std.specs.Prelude.{Some, None, is_some, List, [], ◌∷◌, ◌++◌, length, take, map, slice_get, refl}
 use Rattle.std.proofs.Common.{arith, sym, ◌∙◌, ap, subst}
@@ -9,41 +14,27 @@ use Rattle.std.specs.Ordering.{nat_cmp, eq_by_cmp, is_eq}
 use Rattle.std.specs.Cmp.{nat_cmp_total, tied_itself}
 use Rattle.std.specs.FinMap.{FinMap, get, entries, entries_sorted, find, get-entries, is_sorted}
 use Rattle.std.specs.FinMap.Entries.{below_all}
-use Rattle.ipcz_base.specs.declared.end.End.{End}
-use Rattle.ipcz_base.specs.declared.item.Item.{Item}
 use Rattle.ipcz_base.specs.declared.item.Item.TheVariants.{Parcel, Mark}
-use Rattle.ipcz_base.specs.declared.message.Message.{Message}
-use Rattle.ipcz_base.specs.declared.refusal.Refusal.{Refusal}
 use Rattle.ipcz_base.specs.declared.refusal.Refusal.TheVariants as refusals
-use Rattle.ipcz_base.specs.Ends.{opposite_end, same_end}
-use Rattle.ipcz_base.specs.Indexed.{place_at}
-use Rattle.ipcz_base.specs.Totals.{total, total_of, total_below, total_list}
-use Rattle.ipcz_edge.specs.Edge.{Edge, edge_decays, is_short_of, choose}
-use Rattle.ipcz_seq.specs.Queue.{IsReach, item_at, current_item, reach}
-use Rattle.ipcz_router.specs.Router.{Router, is_terminal}
+use Rattle.ipcz_base.specs.Totals.{total_of}
+use Rattle.ipcz_edge.specs.Edge.{edge_decays, is_short_of, choose}
+use Rattle.ipcz_seq.specs.Queue.{IsReach, reach}
 use Rattle.ipcz_router.specs.Calls.{item_refusal}
-use Rattle.ipcz_router.specs.ActTable.{is_possible}
-use Rattle.ipcz_router.specs.declared.act.RouterAct.{RouterAct}
 use Rattle.ipcz_router.specs.declared.act.RouterAct.TheVariants as acts
-use Rattle.ipcz_node.specs.Node.{Node, Found, find_router, terminal_of, holds_end}
+use Rattle.ipcz_node.specs.Node.{find_router, holds_end}
 use Rattle.ipcz_node.specs.Calls.{get_node, get_refusal, refusal_at}
 use Rattle.ipcz_node.specs.Acts.{is_quiet, are_empty}
 use Rattle.ipcz_world.specs.declared.mail.Mail.{Mail}
 use Rattle.ipcz_world.specs.declared.mail.Mail.TheVariants as mails
-use Rattle.ipcz_world.specs.declared.step.Reply.{Reply}
 use Rattle.ipcz_world.specs.declared.step.Reply.TheVariants as replies
-use Rattle.ipcz_world.specs.World.{World, Key, node_at, mail_at, way, router_at, messages_in, flow, set_node}
 use Rattle.ipcz_world.specs.Turns.{is_clear}
-use Rattle.ipcz_world.specs.Steps.{get_reply, got_reply, unless}
-use Rattle.ipcz_world.specs.Books.{Books, read, is_closed}
-use Rattle.ipcz_world.specs.Records.{Records, Terminal, Nowhere, At, Moving, Retired, routes_of}
-use Rattle.ipcz_world.specs.Flows.{IsUnderWay, under_way}
+use Rattle.ipcz_world.specs.Steps.{get_reply, got_reply}
+use Rattle.ipcz_world.specs.Records.{Nowhere, Moving, Retired, routes_of}
 use Rattle.ipcz_world.proofs.weights.OfRecords.{in_node, in_message, holds_times}
 use Rattle.ipcz_base.specs.Items.{same_item}
 use Rattle.ipcz_world.specs.WorldLaws.{QuietDelivers}
 use Rattle.ipcz_world.specs.Settling.{IsQuiet}
 use Rattle.ipcz_world.specs.Owed.{AreFlagged, IsDirectPair}
-use Rattle.ipcz_world.specs.Inv.{Inv}
 use Rattle.ipcz_world.proofs.flows.Flowing.{found}
 use Rattle.ipcz_world.proofs.frames.Changing.{flow_is}
 use Rattle.ipcz_world.proofs.weights.Weighing.{in_places-is, in_router-is}

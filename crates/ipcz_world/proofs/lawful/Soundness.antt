@@ -2,11 +2,9 @@
 use Rattle.std.specs.Prelude.{◌≡◌, ◌<◌, ℕ, true, false, Some, refl}
 use Rattle.std.proofs.Common.{arith, ap}
 use Rattle.std.proofs.lemmas.Bool.Decides.{nat_tests}
-use Rattle.ipcz_router.specs.Router.{Router, primary_word}
-use Rattle.ipcz_world.specs.World.{World, Key, node_at, router_at}
-use Rattle.ipcz_world.specs.Records.{Records, Owner, Unclaimed, Spare, Opening, Fresh, Linked, is_linked, is_unclaimed}
-use Rattle.ipcz_world.specs.Books.{Books}
-use Rattle.ipcz_world.specs.Inv.{Inv}
+use Rattle.ipcz_world.proofs.Vocabulary.{Router, primary_word, World, Key, node_at, router_at, Records, Owner, Spare, Opening, Fresh}
+use Rattle.ipcz_world.proofs.Vocabulary.{Linked, is_linked, is_unclaimed, Books, Inv}
+use Rattle.ipcz_world.specs.Records.{Unclaimed}
 use Rattle.ipcz_world.specs.Soundness.{IsSound}
 use Rattle.ipcz_world.proofs.acts.Flags.{on-word}
 

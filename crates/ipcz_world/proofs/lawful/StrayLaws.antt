@@ -6,22 +6,13 @@ use Rattle.std.proofs.lemmas.Bool.Decides.{nat_tests}
 use Rattle.std.proofs.lemmas.Option.{same_Some}
 use Rattle.std.specs.Ordering.{nat_cmp, eq_by_cmp}
 use Rattle.std.specs.FinMap.{entries, find, get-entries}
-use Rattle.ipcz_base.specs.declared.side.Side.{Side}
-use Rattle.ipcz_base.specs.declared.side.Side.TheVariants.{B}
-use Rattle.ipcz_base.specs.declared.link_id.LinkId.{LinkId}
-use Rattle.ipcz_base.specs.declared.link_id.LinkId.TheVariants.{Central}
-use Rattle.ipcz_base.specs.declared.message.Message.{Message}
+use Rattle.ipcz_world.proofs.Vocabulary.{Side, B, LinkId, Central, Message, Router, router_has, World, Key, node_at, router_at, Books}
+use Rattle.ipcz_world.proofs.Vocabulary.{Records, side_router, side_node, proxy_side, across_side, IsUnderWay, is_made_before, Standing}
+use Rattle.ipcz_world.proofs.Vocabulary.{view, is_awaited, is_gone, has_primary, has_decaying, inner_of, Inv}
 use Rattle.ipcz_base.specs.declared.message.Message.TheVariants as messages
-use Rattle.ipcz_router.specs.Router.{Router, router_has}
 use Rattle.ipcz_node.specs.Node.{first_where, is_named}
 use Rattle.ipcz_node.specs.Hands.{link_asked, side_asked}
-use Rattle.ipcz_world.specs.World.{World, Key, node_at, router_at}
-use Rattle.ipcz_world.specs.Books.{Books}
-use Rattle.ipcz_world.specs.Records.{Records, side_router, side_node, proxy_side, across_side}
-use Rattle.ipcz_world.specs.Flows.{IsUnderWay, is_made_before}
-use Rattle.ipcz_world.specs.Standing.{View, Awaited, Waiting, Standing, Gone, view, is_awaited, is_gone, has_primary, has_decaying}
-use Rattle.ipcz_world.specs.Bypasses.{inner_of}
-use Rattle.ipcz_world.specs.Inv.{Inv}
+use Rattle.ipcz_world.specs.Standing.{View, Awaited, Waiting, Gone}
 use Rattle.ipcz_world.specs.Laws.{is_flush, StrayLaw}
 use Rattle.ipcz_world.proofs.views.Known.{IsStanding, standing_known, node_of_router}
 use Rattle.ipcz_world.proofs.views.Telling.{peer_told, accept_told, stop_told, will_stop_told}

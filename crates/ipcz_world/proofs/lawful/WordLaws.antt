@@ -1,28 +1,16 @@
 -- The law of words, from the invariant.
-use Rattle.ipcz_world.specs.Records.{routes_of, Records, Owner, Unclaimed, Spare, Opening, Fresh, Linked, is_linked, is_begun, is_recorded}
-use Rattle.ipcz_world.specs.Records.{side_router, side_end, across_side}
+use Rattle.ipcz_world.proofs.Vocabulary.{Records, Owner, Spare, Opening, Fresh, Linked, is_linked, is_begun, is_recorded, side_router}
+use Rattle.ipcz_world.proofs.Vocabulary.{side_end, across_side, Side, A, B, LinkId, Central, Peripheral, LinkEnd, Message, has, same_link}
+use Rattle.ipcz_world.proofs.Vocabulary.{has_link, Router, router_has, inward_edge, World, Key, word_at, router_at, flow, Books}
+use Rattle.ipcz_world.proofs.Vocabulary.{IsUnderWay, under_way, has_primary, IsRecorded, Links, of_bypass, control_weight, Inv}
+use Rattle.ipcz_world.specs.Records.{routes_of, Unclaimed}
 use Rattle.std.specs.Prelude.{◌≡◌, ◌⊎◌, ℕ, Bool, true, false, cond, nat_eq, Option, Some, None, refl}
 use Rattle.std.proofs.Common.{arith, ap, subst, ◌∙◌, sym, inl, inr}
 use Rattle.std.proofs.lemmas.Bool.Decides.{nat_tests}
 use Rattle.std.proofs.lemmas.Option.{same_Some}
-use Rattle.ipcz_base.specs.declared.side.Side.{Side}
-use Rattle.ipcz_base.specs.declared.side.Side.TheVariants.{A, B}
-use Rattle.ipcz_base.specs.declared.link_id.LinkId.{LinkId}
-use Rattle.ipcz_base.specs.declared.link_id.LinkId.TheVariants.{Central, Peripheral}
-use Rattle.ipcz_base.specs.declared.link_end.LinkEnd.{LinkEnd}
-use Rattle.ipcz_base.specs.declared.message.Message.{Message}
 use Rattle.ipcz_base.specs.declared.message.Message.TheVariants as messages
-use Rattle.ipcz_word.specs.SideSets.{has}
-use Rattle.ipcz_base.specs.Links.{same_link, has_link}
-use Rattle.ipcz_router.specs.Router.{Router, router_has, outward_has, inward_has, inward_edge}
-use Rattle.ipcz_world.specs.World.{World, Key, word_at, router_at, flow}
-use Rattle.ipcz_world.specs.Books.{Books}
+use Rattle.ipcz_router.specs.Router.{outward_has, inward_has}
 use Rattle.ipcz_world.proofs.frames.RecordRules.{record_rules, unclaimed-is}
-use Rattle.ipcz_world.specs.Flows.{IsUnderWay, under_way}
-use Rattle.ipcz_world.specs.Standing.{has_primary}
-use Rattle.ipcz_world.specs.Structure.{IsRecorded, Links}
-use Rattle.ipcz_world.specs.Bypasses.{of_bypass, control_weight}
-use Rattle.ipcz_world.specs.Inv.{Inv}
 use Rattle.ipcz_world.specs.Laws.{fresh_count, IsOnLink, names_link, WordLaw}
 use Rattle.ipcz_world.proofs.facts.LinkTests.{IsLinkEnd, has_link-tells}
 use Rattle.ipcz_world.proofs.views.Telling.{IsPeer, peer_told, accept_told, stop_told, will_stop_told}

@@ -2,28 +2,18 @@
 use Rattle.std.specs.Prelude.{◌≡◌, ℕ, ◌+◌, Bool, true, false, cond, not, nat_eq, if◌then◌else◌, Option, Some, None, List, [], ◌∷◌, refl}
 use Rattle.std.proofs.Common.{arith, ap, subst, ◌∙◌, sym}
 use Rattle.std.proofs.lemmas.Bool.Decides.{nat_tests}
-use Rattle.ipcz_base.specs.declared.side.Side.{Side}
-use Rattle.ipcz_base.specs.declared.end.End.{End}
-use Rattle.ipcz_base.specs.declared.link_id.LinkId.{LinkId}
-use Rattle.ipcz_base.specs.declared.link_id.LinkId.TheVariants.{Central, Peripheral}
-use Rattle.ipcz_base.specs.declared.link_end.LinkEnd.{LinkEnd}
-use Rattle.ipcz_base.specs.declared.descriptor.Descriptor.{Descriptor}
-use Rattle.ipcz_base.specs.declared.item.Item.{Item}
-use Rattle.ipcz_base.specs.Ends.{same_end, has_end}
-use Rattle.ipcz_base.specs.Items.{ends_in}
-use Rattle.ipcz_seq.specs.Queue.{current_item}
-use Rattle.ipcz_router.specs.Router.{Router, is_terminal, is_open_terminal}
+use Rattle.ipcz_world.proofs.Vocabulary.{Side, End, LinkId, Central, Peripheral, LinkEnd, Descriptor, Item, same_end, has_end, ends_in}
+use Rattle.ipcz_world.proofs.Vocabulary.{current_item, Router, is_terminal, Node, Found, terminal_of, World, Key, same_key, node_at}
+use Rattle.ipcz_world.proofs.Vocabulary.{router_at, Books, Records, Owner, Spare, Fresh, Linked, is_linked, Inv}
+use Rattle.ipcz_router.specs.Router.{is_open_terminal}
 use Rattle.ipcz_router.specs.Acts.{way_out, way_in, pop_out, pop_in}
-use Rattle.ipcz_node.specs.Node.{Node, Found, terminal_of, is_terminal_of}
+use Rattle.ipcz_node.specs.Node.{is_terminal_of}
 use Rattle.ipcz_node.specs.Sends.{Transfer, move_found, move_router, moved_ends}
-use Rattle.ipcz_world.specs.World.{World, Key, same_key, node_at, router_at}
-use Rattle.ipcz_world.specs.Books.{Books}
 use Rattle.ipcz_world.specs.Routes.{Routes, add_link, add_peripheral, add_peripherals}
-use Rattle.ipcz_world.specs.Records.{Records, Owner, Spare, Fresh, Linked, CentralRecord, PeripheralRecord, is_linked, set_owner}
+use Rattle.ipcz_world.specs.Records.{CentralRecord, PeripheralRecord, set_owner}
 use Rattle.ipcz_world.specs.Records.{set_central, set_peripheral, set_bypass, routes_of}
 use Rattle.ipcz_world.specs.Remembering.{open_records, claim_records, begin_records, taken_records, accepted_records, told_records}
 use Rattle.ipcz_world.specs.Remembering.{ended_records, move_records, found_records, moves_records, made_at, made_records}
-use Rattle.ipcz_world.specs.Inv.{Inv}
 use Rattle.ipcz_world.proofs.frames.Frames.{same_key-apart}
 use Rattle.ipcz_world.proofs.facts.Finding.{found_there, terminal_tells}
 use Rattle.ipcz_world.proofs.frames.Opened.{opened}

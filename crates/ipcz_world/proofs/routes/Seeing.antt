@@ -2,35 +2,26 @@
 use Rattle.std.specs.Prelude.{◌≡◌, ◌⊎◌, ℕ, ◌+◌, Bool, true, false, cond, nat_eq, Option, Some, None, List, [], ◌∷◌, refl}
 use Rattle.std.proofs.Common.{arith, ap, ◌∙◌, inl, inr}
 use Rattle.std.proofs.lemmas.Bool.Decides.{nat_tests}
-use Rattle.ipcz_base.specs.declared.side.Side.{Side}
-use Rattle.ipcz_base.specs.declared.end.End.{End}
-use Rattle.ipcz_base.specs.declared.link_id.LinkId.{LinkId}
-use Rattle.ipcz_base.specs.declared.link_end.LinkEnd.{LinkEnd}
-use Rattle.ipcz_base.specs.declared.item.Item.{Item}
-use Rattle.ipcz_base.specs.declared.message.Message.{Message}
+use Rattle.ipcz_world.proofs.Vocabulary.{Side, End, LinkId, LinkEnd, Item, Message, current_item, Router, is_possible, output_of}
+use Rattle.ipcz_world.proofs.Vocabulary.{RouterAct, Hand, Node, router_in, World, way, mail_at, node_at, router_at, hand_message}
+use Rattle.ipcz_world.proofs.Vocabulary.{answer_of}
 use Rattle.ipcz_base.specs.declared.message.Message.TheVariants as messages
-use Rattle.ipcz_seq.specs.Queue.{current_item}
-use Rattle.ipcz_router.specs.Router.{Router}
 use Rattle.ipcz_router.specs.Acts.{way_out, way_in}
-use Rattle.ipcz_router.specs.ActTable.{may_take, is_possible, is_rest}
-use Rattle.ipcz_router.specs.ActEffects.{output_of, item_output}
-use Rattle.ipcz_router.specs.declared.act.RouterAct.{RouterAct}
+use Rattle.ipcz_router.specs.ActTable.{may_take, is_rest}
+use Rattle.ipcz_router.specs.ActEffects.{item_output}
 use Rattle.ipcz_router.specs.declared.act.RouterAct.TheVariants as acts
 use Rattle.ipcz_router.specs.declared.act.Answer.{Answer}
 use Rattle.ipcz_router.specs.declared.act.Answer.TheVariants as answers
 use Rattle.ipcz_router.specs.declared.act.Applied.{Applied}
 use Rattle.ipcz_router.specs.declared.act.Applied.TheVariants as sends
-use Rattle.ipcz_node.specs.declared.act.Act.TheVariants.{Hand, Router as OfRouter}
+use Rattle.ipcz_node.specs.declared.act.Act.TheVariants.{Router as OfRouter}
 use Rattle.ipcz_node.specs.declared.happened.Happened.{Happened}
 use Rattle.ipcz_node.specs.declared.happened.Happened.TheVariants as events
-use Rattle.ipcz_node.specs.Node.{Node, router_in}
 use Rattle.ipcz_node.specs.Sends.{moved_ends}
 use Rattle.ipcz_node.specs.Hands.{is_unfit}
 use Rattle.ipcz_node.specs.Events.{kind_of, hand_event, link_of, send_event, word_event, unlock_event, router_event, event_at, event_of}
 use Rattle.ipcz_world.specs.declared.mail.Mail.TheVariants as mails
-use Rattle.ipcz_world.specs.World.{World, way, mail_at, node_at, router_at}
-use Rattle.ipcz_world.specs.Turns.{turn_event, router_seen, hand_seen, hand_message}
-use Rattle.ipcz_world.specs.WordAnswers.{answer_of}
+use Rattle.ipcz_world.specs.Turns.{turn_event, router_seen, hand_seen}
 use Rattle.ipcz_world.specs.Routes.{Routes, add_link, add_fresh, add_peripheral, add_peripherals, hand_of, routes_after_turn}
 use Rattle.ipcz_world.specs.Laws.{KeepsLinks}
 

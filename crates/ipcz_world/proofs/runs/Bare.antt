@@ -1,38 +1,24 @@
 -- A world without routers, words, messages and books is lawful.
-use Rattle.ipcz_world.specs.Places.{in_node as in_node', in_places as in_places', Weight, in_router, at_end, names_end, times}
+use Rattle.ipcz_world.proofs.Vocabulary.{Weight, in_router, at_end, names_end, times, Side, End, LinkId, Central, Peripheral, Descriptor}
+use Rattle.ipcz_world.proofs.Vocabulary.{Message, opposite_end, has_end, has, place_at, total, total_list, Router, Word, empty_word}
+use Rattle.ipcz_world.proofs.Vocabulary.{outbox, Empty, World, Key, node_at, word_at, mail_at, router_at, way, flow, messages_in}
+use Rattle.ipcz_world.proofs.Vocabulary.{hand_message, Records, Owner, Spare, Opening, Fresh, Terminal, At, is_linked, is_unclaimed}
+use Rattle.ipcz_world.proofs.Vocabulary.{is_recorded, inner_link, is_nowhere, IsUnderWay, under_way, of_end, moves_of, Counts, Ordered}
+use Rattle.ipcz_world.proofs.Vocabulary.{Shape, Links, Positions, Stands, Words, Spares, BypassRecords, Stages, Told, of_bypass}
+use Rattle.ipcz_world.proofs.Vocabulary.{control_weight, Terminals, EndPlaces, BooksKept, Conserved, HeldOnce, times_held, Items, Order}
+use Rattle.ipcz_world.proofs.Vocabulary.{ProxyNumbers, FreshNumbers, Inv}
+use Rattle.ipcz_world.specs.Places.{in_node as in_node', in_places as in_places'}
 use Rattle.std.specs.Prelude.{◌≡◌, ◌<◌, ◌+◌, ℕ, Bool, true, cond, nat_le, Some, None, is_some, refl, List, [], ◌++◌, slice_get}
 use Rattle.std.specs.Ordering.{nat_cmp}
 use Rattle.std.specs.FinMap.{get, empty, get-empty}
 use Rattle.std.proofs.Common.{arith, ap, ◌∙◌, sym}
 use Rattle.std.proofs.lemmas.Bool.Decides.{nat_tests}
 use Rattle.std.proofs.lemmas.Option.{none-some}
-use Rattle.ipcz_base.specs.declared.side.Side.{Side}
-use Rattle.ipcz_base.specs.declared.end.End.{End}
-use Rattle.ipcz_base.specs.declared.link_id.LinkId.{LinkId}
-use Rattle.ipcz_base.specs.declared.link_id.LinkId.TheVariants.{Central, Peripheral}
-use Rattle.ipcz_base.specs.declared.descriptor.Descriptor.{Descriptor}
-use Rattle.ipcz_base.specs.declared.message.Message.{Message}
-use Rattle.ipcz_base.specs.Ends.{opposite_end, has_end}
-use Rattle.ipcz_word.specs.SideSets.{has}
-use Rattle.ipcz_base.specs.Indexed.{place_at}
-use Rattle.ipcz_base.specs.Totals.{total, total_list}
 use Rattle.ipcz_base.proofs.Totals.{total-empty}
-use Rattle.ipcz_router.specs.Router.{Router}
-use Rattle.ipcz_word.specs.Word.{Word, empty_word}
-use Rattle.ipcz_node.specs.Node.{outbox}
-use Rattle.ipcz_world.specs.declared.mail.Mail.TheVariants.{Empty}
-use Rattle.ipcz_world.specs.World.{World, Key, node_at, word_at, mail_at, router_at, way, flow, messages_in}
-use Rattle.ipcz_world.specs.Turns.{hand_message}
 use Rattle.ipcz_world.specs.Books.{no_books}
-use Rattle.ipcz_world.specs.Records.{Records, Owner, Unclaimed, Spare, Opening, Fresh, Terminal, Nowhere, At, is_linked, is_unclaimed}
-use Rattle.ipcz_world.specs.Records.{is_recorded, inner_link, is_nowhere}
-use Rattle.ipcz_world.specs.Flows.{IsUnderWay, under_way, of_end, moves_of}
+use Rattle.ipcz_world.specs.Records.{Unclaimed, Nowhere}
 use Rattle.ipcz_world.proofs.weights.OfRecords.{in_message, in_places, holds, held_times, none_holder}
-use Rattle.ipcz_world.specs.Structure.{Counts, Ordered, Shape, Links, Positions, Stands, Words, Spares}
-use Rattle.ipcz_world.specs.Bypasses.{BypassRecords, Stages, Told, Moves, of_bypass, control_weight, move_weight}
-use Rattle.ipcz_world.specs.Whereabouts.{Terminals, EndPlaces, BooksKept, Conserved, HeldOnce, times_held}
-use Rattle.ipcz_world.specs.Numbers.{Items, Order, ProxyNumbers, FreshNumbers}
-use Rattle.ipcz_world.specs.Inv.{Inv}
+use Rattle.ipcz_world.specs.Bypasses.{Moves, move_weight}
 use Rattle.std.specs.FinSet as sets
 use Rattle.ipcz_base.specs.Orders.{end_cmp}
 use Rattle.ipcz_world.proofs.weights.Booking.{flag}

@@ -3,39 +3,29 @@ use Rattle.std.specs.Prelude.{◌≡◌, ◌≤◌, ◌<◌, ℕ, suc, ◌+◌, 
 use Rattle.std.specs.Prelude.{None, refl, [], ◌∷◌}
 use Rattle.std.proofs.Common.{arith, ap, subst, ◌∙◌, sym, inl, inr}
 use Rattle.std.proofs.lemmas.Bool.Decides.{nat_tests}
-use Rattle.ipcz_base.specs.declared.end.End.{End}
-use Rattle.ipcz_base.specs.declared.side.Side.{Side}
+use Rattle.ipcz_world.proofs.Vocabulary.{End, Side, Message, Refusal, Word, empty_word, open_word, Router, primary_word, RouterAct, Act}
+use Rattle.ipcz_world.proofs.Vocabulary.{Hand, Close, Node, bare_node, terminal_of, router_in, outbox, commit, place_at, Reply, World}
+use Rattle.ipcz_world.proofs.Vocabulary.{node_at, mail_at, way, router_at, set_node, set_word, set_claimed, set_mail, answer_of, can_take}
+use Rattle.ipcz_world.proofs.Vocabulary.{after_act, unless, Books, Records, Inv}
 use Rattle.ipcz_base.specs.declared.parcel.Parcel as parcels
-use Rattle.ipcz_base.specs.declared.message.Message.{Message}
-use Rattle.ipcz_base.specs.declared.refusal.Refusal.{Refusal}
 use Rattle.ipcz_base.specs.declared.refusal.Refusal.TheVariants as refusals
-use Rattle.ipcz_word.specs.Word.{Word, empty_word, open_word}
-use Rattle.ipcz_router.specs.Router.{Router, primary_word}
-use Rattle.ipcz_router.specs.declared.act.RouterAct.{RouterAct}
 use Rattle.ipcz_router.specs.declared.act.RouterAct.TheVariants as acts
 use Rattle.ipcz_router.specs.declared.act.Answer.{Answer}
-use Rattle.ipcz_node.specs.declared.act.Act.{Act}
-use Rattle.ipcz_node.specs.declared.act.Act.TheVariants.{Hand, Look, Post, Close, Router as OfRouter, Idle}
-use Rattle.ipcz_node.specs.Node.{Node, bare_node, terminal_of, router_in, on_router, outbox, with_outbox, without_ends}
+use Rattle.ipcz_node.specs.declared.act.Act.TheVariants.{Look, Post, Router as OfRouter, Idle}
+use Rattle.ipcz_node.specs.Node.{on_router, with_outbox, without_ends}
 use Rattle.ipcz_node.specs.Calls.{put_at_router, put_node, put_refusal, get_at_router, get_node, get_refusal, close_at_router, close_end}
 use Rattle.ipcz_node.specs.Calls.{close_refusal, open_node, serials_refusal}
 use Rattle.ipcz_node.specs.Hands.{deliver}
-use Rattle.ipcz_node.specs.Acts.{commit, commit_router, post_of, rest_of}
+use Rattle.ipcz_node.specs.Acts.{commit_router, post_of, rest_of}
 use Rattle.ipcz_world.specs.declared.mail.Mail.{Mail}
 use Rattle.ipcz_world.specs.declared.mail.Mail.TheVariants as mails
-use Rattle.ipcz_base.specs.Indexed.{place_at}
 use Rattle.ipcz_base.proofs.Indexed.{length-put_place}
 use Rattle.ipcz_world.specs.declared.step.Step.{Step}
 use Rattle.ipcz_world.specs.declared.step.Step.TheVariants as steps
-use Rattle.ipcz_world.specs.declared.step.Reply.{Reply}
-use Rattle.ipcz_world.specs.World.{World, node_at, mail_at, way, router_at, set_node, set_word, set_claimed, set_mail}
-use Rattle.ipcz_world.specs.WordAnswers.{answer_of, touch_word, touch}
-use Rattle.ipcz_world.specs.Turns.{message_in_hand, full_message, router_of, can_take, turn_lacks_serials, after_router_act, after_hand}
-use Rattle.ipcz_world.specs.Turns.{after_look, after_post, after_act}
-use Rattle.ipcz_world.specs.Steps.{Effect, refuse, unless, at_node, open_with, open_on, claim_for_open, Scheduler, StepBy}
-use Rattle.ipcz_world.specs.Books.{Books}
-use Rattle.ipcz_world.specs.Records.{Records}
-use Rattle.ipcz_world.specs.Inv.{Inv}
+use Rattle.ipcz_world.specs.WordAnswers.{touch_word, touch}
+use Rattle.ipcz_world.specs.Turns.{message_in_hand, full_message, router_of, turn_lacks_serials, after_router_act, after_hand}
+use Rattle.ipcz_world.specs.Turns.{after_look, after_post}
+use Rattle.ipcz_world.specs.Steps.{Effect, refuse, at_node, open_with, open_on, claim_for_open, Scheduler, StepBy}
 use Rattle.ipcz_world.proofs.frames.Frames.{node-set_node, mail-set_mail, count-set_node, count-set_claimed, size-set_node}
 use Rattle.ipcz_world.proofs.frames.Frames.{size-set_claimed}
 use Rattle.ipcz_world.proofs.facts.NodeCount.{count-touch}

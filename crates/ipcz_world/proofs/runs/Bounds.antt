@@ -4,42 +4,28 @@ use Rattle.std.specs.Prelude.{option_map, refl, List, [], ◌∷◌}
 use Rattle.std.proofs.Common.{arith, ap, subst, ◌∙◌, sym}
 use Rattle.std.proofs.lemmas.Bool.Decides.{nat_tests}
 use Rattle.std.proofs.lemmas.Option.{same_Some}
-use Rattle.ipcz_base.specs.declared.side.Side.{Side}
-use Rattle.ipcz_base.specs.declared.link_id.LinkId.{LinkId}
-use Rattle.ipcz_base.specs.declared.link_id.LinkId.TheVariants.{Central}
-use Rattle.ipcz_base.specs.declared.link_end.LinkEnd.{LinkEnd}
-use Rattle.ipcz_base.specs.declared.descriptor.Descriptor.{Descriptor}
-use Rattle.ipcz_base.specs.declared.item.Item.{Item}
-use Rattle.ipcz_base.specs.declared.message.Message.{Message}
+use Rattle.ipcz_world.proofs.Vocabulary.{Side, LinkId, Central, LinkEnd, Descriptor, Item, Message, place_at, word_of, opposite}
+use Rattle.ipcz_world.proofs.Vocabulary.{current_item, Router, inward_edge, router_has, from_descriptor, bypass_peer, output_of}
+use Rattle.ipcz_world.proofs.Vocabulary.{RouterAct, Node, Found, outbox, with_router, World, Key, node_at, router_at, Records, Books}
+use Rattle.ipcz_world.proofs.Vocabulary.{IsRecorded, Inv}
 use Rattle.ipcz_base.specs.declared.message.Message.TheVariants as messages
-use Rattle.ipcz_base.specs.Indexed.{place_at}
-use Rattle.ipcz_base.specs.Links.{word_of}
-use Rattle.ipcz_base.specs.Sides.{opposite}
 use Rattle.ipcz_base.proofs.Indexed.{place_at-put_place}
-use Rattle.ipcz_seq.specs.Queue.{current_item}
 use Rattle.ipcz_edge.specs.declared.edge.Edge.{Edge}
 use Rattle.ipcz_edge.specs.Edge.{edge_decays, is_short_of, choose}
-use Rattle.ipcz_router.specs.Router.{Router, inward_edge, router_has, outward_has, from_descriptor}
+use Rattle.ipcz_router.specs.Router.{outward_has}
 use Rattle.ipcz_router.specs.Acts.{way_out, way_in}
 use Rattle.ipcz_router.specs.Calls.{accept}
 use Rattle.ipcz_router.specs.declared.sending.Sending.{Sending}
-use Rattle.ipcz_router.specs.Bypass.{fits_bypass_peer, bypass_peer, accept_message, stop_message, will_stop_message}
+use Rattle.ipcz_router.specs.Bypass.{fits_bypass_peer, accept_message, stop_message, will_stop_message}
 use Rattle.ipcz_router.specs.ActEffects.{apply, peer_message, begin_message, flush_message, item_output, message_output, discard_output}
-use Rattle.ipcz_router.specs.ActEffects.{output_of}
-use Rattle.ipcz_router.specs.declared.act.RouterAct.{RouterAct}
 use Rattle.ipcz_router.specs.declared.act.RouterAct.TheVariants as acts
 use Rattle.ipcz_router.specs.declared.act.Answer.{Answer}
 use Rattle.ipcz_router.specs.declared.act.Applied.{Applied}
 use Rattle.ipcz_router.specs.declared.act.Applied.TheVariants as outputs
-use Rattle.ipcz_node.specs.Node.{Node, Found, outbox, with_outbox, on_found, link_router, add_router, add_stray, with_router, is_named}
+use Rattle.ipcz_node.specs.Node.{with_outbox, on_found, link_router, add_router, add_stray, is_named}
 use Rattle.ipcz_node.specs.Sends.{moved_ends, transfer_of, send_item, send}
 use Rattle.ipcz_node.specs.Hands.{make_terminals, tell, passes_at, fits, handle, deliver}
 use Rattle.ipcz_node.specs.Acts.{keep_or_drop, commit_router}
-use Rattle.ipcz_world.specs.World.{World, Key, node_at, router_at}
-use Rattle.ipcz_world.specs.Records.{Records}
-use Rattle.ipcz_world.specs.Books.{Books}
-use Rattle.ipcz_world.specs.Structure.{IsRecorded}
-use Rattle.ipcz_world.specs.Inv.{Inv}
 use Rattle.ipcz_world.proofs.facts.Finding.{found_tells}
 use Rattle.ipcz_world.proofs.calls.Puts.{router_found}
 use Rattle.ipcz_world.proofs.sends.SendingMoves.{boxes_kept}

@@ -3,26 +3,21 @@ use Rattle.std.specs.Prelude.{◌≡◌, ◌<◌, ℕ, zero, suc, ◌+◌, Bool,
 use Rattle.std.specs.Prelude.{List, [], ◌∷◌, map, refl}
 use Rattle.std.proofs.Common.{arith, ap, subst, ◌∙◌, sym, inl, inr}
 use Rattle.std.proofs.lemmas.Bool.Decides.{nat_tests}
-use Rattle.ipcz_base.specs.declared.end.End.{End}
-use Rattle.ipcz_base.specs.Indexed.{place_at}
-use Rattle.ipcz_router.specs.Router.{Router}
-use Rattle.ipcz_router.specs.ActTable.{is_possible, next_act, is_rest}
+use Rattle.ipcz_world.proofs.Vocabulary.{End, place_at, Router, is_possible, Act, Hand, Close, Node, Found, World, node_at, mail_at, way}
+use Rattle.ipcz_world.proofs.Vocabulary.{router_at, can_take, Books, Records, Inv}
+use Rattle.ipcz_router.specs.ActTable.{next_act, is_rest}
 use Rattle.ipcz_router.specs.declared.act.RouterAct.TheVariants as acts
 use Rattle.ipcz_node.specs.Acts.{stand_in, first_number, has_mail_for, router_turn, close_turn, node_turn, next}
-use Rattle.ipcz_node.specs.declared.act.Act.{Act}
-use Rattle.ipcz_node.specs.declared.act.Act.TheVariants.{Hand, Look, Post, Close, Router as OfRouter, Idle}
+use Rattle.ipcz_node.specs.declared.act.Act.TheVariants.{Look, Post, Router as OfRouter, Idle}
 use Rattle.ipcz_node.specs.declared.act.MailSeen.{MailSeen}
-use Rattle.ipcz_node.specs.Node.{Node, Found, find_router}
+use Rattle.ipcz_node.specs.Node.{find_router}
 use Rattle.ipcz_node.specs.Hands.{is_hand_of}
 use Rattle.ipcz_node.proofs.Turns.{first_number-tells}
 use Rattle.ipcz_node.proofs.Choosing.{next_may}
 use Rattle.ipcz_world.specs.declared.step.Step.TheVariants as steps
-use Rattle.ipcz_world.specs.World.{World, node_at, mail_at, way, router_at, numbers_from}
-use Rattle.ipcz_world.specs.Turns.{is_full, is_clear, seen_at, next_at, may_act, is_first_pending, is_idle, can_take}
+use Rattle.ipcz_world.specs.World.{numbers_from}
+use Rattle.ipcz_world.specs.Turns.{is_full, is_clear, seen_at, next_at, may_act, is_first_pending, is_idle}
 use Rattle.ipcz_world.specs.Steps.{FirstAct}
-use Rattle.ipcz_world.specs.Books.{Books}
-use Rattle.ipcz_world.specs.Records.{Records}
-use Rattle.ipcz_world.specs.Inv.{Inv}
 use Rattle.ipcz_world.specs.WorldLaws.{FirstIsPossible}
 use Rattle.ipcz_world.proofs.facts.LinkTests.{same_end-itself}
 use Rattle.ipcz_world.proofs.facts.Finding.{found_tells}

@@ -6,24 +6,16 @@ use Rattle.std.specs.Cmp.{nat_cmp_total}
 use Rattle.std.specs.FinMap.{get, get-empty, get-insert, nat_cmp-IsAntisymmetric}
 use Rattle.std.proofs.Common.{arith, ap, ◌∙◌, sym}
 use Rattle.std.proofs.lemmas.Bool.Decides.{nat_tests}
-use Rattle.ipcz_base.specs.declared.side.Side.{Side}
-use Rattle.ipcz_base.specs.declared.side.Side.TheVariants.{A, B}
-use Rattle.ipcz_base.specs.declared.end.End.{End}
-use Rattle.ipcz_base.specs.declared.message.Message.{Message}
+use Rattle.ipcz_world.proofs.Vocabulary.{Side, A, B, End, Message, place_at, total, total_below, Router, empty_word, open_word, Node}
+use Rattle.ipcz_world.proofs.Vocabulary.{bare_node, outbox, Empty, World, Key, Records, Spare, Opening, Fresh, Linked, is_linked}
+use Rattle.ipcz_world.proofs.Vocabulary.{is_unclaimed, is_nowhere, Weight, in_router, Inv}
 use Rattle.ipcz_base.specs.Ends.{end_at}
-use Rattle.ipcz_base.specs.Indexed.{place_at}
-use Rattle.ipcz_base.specs.Totals.{total, total_below}
 use Rattle.ipcz_base.proofs.Totals.{total-empty, total-insert_new}
-use Rattle.ipcz_router.specs.Router.{Router}
-use Rattle.ipcz_word.specs.Word.{empty_word, open_word}
-use Rattle.ipcz_node.specs.Node.{Node, bare_node, outbox, outbox_count, add_end, new_end}
+use Rattle.ipcz_node.specs.Node.{outbox_count, add_end, new_end}
 use Rattle.ipcz_node.specs.FirstPairs.{add_pairs}
-use Rattle.ipcz_world.specs.declared.mail.Mail.TheVariants.{Empty}
-use Rattle.ipcz_world.specs.World.{World, Key, numbers_from}
+use Rattle.ipcz_world.specs.World.{numbers_from}
 use Rattle.ipcz_world.specs.Books.{no_books}
-use Rattle.ipcz_world.specs.Records.{Records, Unclaimed, Spare, Opening, Fresh, Linked, is_linked, is_unclaimed, is_nowhere}
-use Rattle.ipcz_world.specs.Places.{Weight, in_router}
-use Rattle.ipcz_world.specs.Inv.{Inv}
+use Rattle.ipcz_world.specs.Records.{Unclaimed}
 use Rattle.ipcz_world.proofs.calls.OpenedNodes.{fresh_weight}
 
 -- a node with its end of one pair more

@@ -7,50 +7,41 @@ use Rattle.std.proofs.lemmas.Option.{same_Some}
 use Rattle.std.specs.Ordering.{nat_cmp}
 use Rattle.std.specs.Cmp.{nat_cmp_total}
 use Rattle.std.specs.FinMap.{get-insert, get-remove, get-empty}
-use Rattle.ipcz_base.specs.declared.side.Side.{Side}
-use Rattle.ipcz_base.specs.declared.side.Side.TheVariants.{A, B}
-use Rattle.ipcz_base.specs.declared.end.End.{End}
-use Rattle.ipcz_base.specs.declared.link_id.LinkId.TheVariants.{Central}
-use Rattle.ipcz_base.specs.declared.descriptor.Descriptor.{Descriptor}
+use Rattle.ipcz_world.proofs.Vocabulary.{Side, A, B, End, Central, Descriptor, Item, Message, place_at, Router, inward_edge, primary_word}
+use Rattle.ipcz_world.proofs.Vocabulary.{from_descriptor, bypass_peer, is_possible, output_of, RouterAct, Close, Node, Found, router_in}
+use Rattle.ipcz_world.proofs.Vocabulary.{with_router, bare_node, terminal_of, commit, Reply, World, Key, node_at, word_at, router_at}
+use Rattle.ipcz_world.proofs.Vocabulary.{answer_of, Books, Records, Inv}
 use Rattle.ipcz_base.specs.declared.parcel.Parcel as parcels
-use Rattle.ipcz_base.specs.declared.item.Item.{Item}
 use Rattle.ipcz_base.specs.declared.item.Item.TheVariants.{Parcel}
-use Rattle.ipcz_base.specs.declared.message.Message.{Message}
 use Rattle.ipcz_base.specs.declared.message.Message.TheVariants as messages
-use Rattle.ipcz_base.specs.Indexed.{place_at}
 use Rattle.ipcz_word.specs.Word.{Plan, Locks, Waits, Refuses, plan_of}
-use Rattle.ipcz_router.specs.Router.{Router, inward_edge, outward_has, primary_word, from_descriptor, rouse}
+use Rattle.ipcz_router.specs.Router.{outward_has, rouse}
 use Rattle.ipcz_router.specs.Calls.{accept}
 use Rattle.ipcz_router.specs.Closing.{close_router}
 use Rattle.ipcz_router.specs.Calls.{take_item, put_item}
 use Rattle.ipcz_router.specs.declared.sending.Sending.{Sending}
-use Rattle.ipcz_router.specs.Bypass.{bypass_peer, accept_message, accept_bypass, stop_proxying, proxy_will_stop, stop_message}
+use Rattle.ipcz_router.specs.Bypass.{accept_message, accept_bypass, stop_proxying, proxy_will_stop, stop_message}
 use Rattle.ipcz_router.specs.Bypass.{will_stop_message}
-use Rattle.ipcz_router.specs.ActTable.{is_possible, is_rest, may_take}
-use Rattle.ipcz_router.specs.ActEffects.{apply, output_of}
-use Rattle.ipcz_router.specs.declared.act.RouterAct.{RouterAct}
+use Rattle.ipcz_router.specs.ActTable.{is_rest, may_take}
+use Rattle.ipcz_router.specs.ActEffects.{apply}
 use Rattle.ipcz_router.specs.declared.act.RouterAct.TheVariants as acts
 use Rattle.ipcz_router.specs.declared.act.Answer.{Answer}
 use Rattle.ipcz_router.specs.declared.act.Answer.TheVariants as answers
 use Rattle.ipcz_router.specs.declared.act.Applied.{Applied}
 use Rattle.ipcz_router.specs.declared.act.Applied.TheVariants as sends
-use Rattle.ipcz_node.specs.declared.act.Act.TheVariants.{Close, Router as OfRouter}
-use Rattle.ipcz_node.specs.Node.{Node, Found, router_in, with_router, without_router, add_router, add_end, bare_node, new_end, terminal_of}
+use Rattle.ipcz_node.specs.declared.act.Act.TheVariants.{Router as OfRouter}
+use Rattle.ipcz_node.specs.Node.{without_router, add_router, add_end, new_end}
 use Rattle.ipcz_node.specs.Node.{link_router, on_found, on_router}
 use Rattle.ipcz_node.specs.FirstPairs.{add_pairs, first_pairs, new_node}
 use Rattle.ipcz_node.specs.Calls.{put_node, put_at_router, get_node, get_at_router, close_end}
 use Rattle.ipcz_node.specs.Sends.{Transfer, move_found, move_ends, moved_ends, send_item, send}
 use Rattle.ipcz_node.specs.Hands.{deliver, handle, fits, tell, take_in, make_terminals}
-use Rattle.ipcz_node.specs.Acts.{commit, commit_router, keep_or_drop}
+use Rattle.ipcz_node.specs.Acts.{commit_router, keep_or_drop}
 use Rattle.ipcz_world.specs.declared.step.Step.{Step}
-use Rattle.ipcz_world.specs.declared.step.Reply.{Reply}
-use Rattle.ipcz_world.specs.World.{World, Key, node_at, word_at, router_at, new_world, new_nodes, numbers_from}
+use Rattle.ipcz_world.specs.World.{new_world, new_nodes, numbers_from}
 use Rattle.ipcz_world.proofs.frames.Frames.{node-set_node, node-set_word, node-set_claimed, node-set_mail}
-use Rattle.ipcz_world.specs.WordAnswers.{try_answer, word_answer, link_answer, answer_of}
+use Rattle.ipcz_world.specs.WordAnswers.{try_answer, word_answer, link_answer}
 use Rattle.ipcz_world.specs.Steps.{StepAny, claim_for_open}
-use Rattle.ipcz_world.specs.Books.{Books}
-use Rattle.ipcz_world.specs.Records.{Records}
-use Rattle.ipcz_world.specs.Inv.{Inv}
 use Rattle.ipcz_world.specs.Owed.{FlagsAgree}
 use Rattle.ipcz_world.proofs.facts.Finding.{found_tells}
 use Rattle.ipcz_world.proofs.runs.NodeSteps.{IsKept, kept-step, kept-claim_for_open}

@@ -2,37 +2,29 @@
 use Rattle.std.specs.Prelude.{◌≡◌, ◌<◌, ℕ, Bool, true, false, ◌&&◌, nat_lt, if◌then◌else◌, Option, Some, None, is_some, refl}
 use Rattle.std.proofs.Common.{arith, ap, subst, ◌∙◌, sym, inl, inr}
 use Rattle.std.proofs.lemmas.Bool.Decides.{nat_tests}
-use Rattle.ipcz_base.specs.declared.link_id.LinkId.{LinkId}
-use Rattle.ipcz_base.specs.declared.link_id.LinkId.TheVariants.{Central}
-use Rattle.ipcz_base.specs.declared.link_end.LinkEnd.{LinkEnd}
-use Rattle.ipcz_base.specs.declared.message.Message.{Message}
+use Rattle.ipcz_world.proofs.Vocabulary.{LinkId, Central, LinkEnd, Message, word_of, Router, primary_word, is_possible, RouterAct, Act}
+use Rattle.ipcz_world.proofs.Vocabulary.{Hand, Close, Found, World, Key, node_at, word_at, mail_at, way, router_at, after_act, can_take}
+use Rattle.ipcz_world.proofs.Vocabulary.{hand_message, answer_of, Books, Records, is_linked, side_end, Inv, unless, Refusal}
 use Rattle.ipcz_base.specs.declared.message.Message.TheVariants as messages
-use Rattle.ipcz_base.specs.Links.{word_of}
 use Rattle.ipcz_word.specs.Word.{plan_of}
-use Rattle.ipcz_router.specs.Router.{Router, primary_word}
-use Rattle.ipcz_router.specs.ActTable.{is_possible, is_rest, may_take}
-use Rattle.ipcz_router.specs.declared.act.RouterAct.{RouterAct}
+use Rattle.ipcz_router.specs.ActTable.{is_rest, may_take}
 use Rattle.ipcz_router.specs.declared.act.RouterAct.TheVariants as acts
 use Rattle.ipcz_router.specs.declared.act.Answer.{Answer}
-use Rattle.ipcz_node.specs.declared.act.Act.{Act}
-use Rattle.ipcz_node.specs.declared.act.Act.TheVariants.{Hand, Look, Post, Close, Router as OfRouter, Idle}
+use Rattle.ipcz_node.specs.declared.act.Act.TheVariants.{Look, Post, Router as OfRouter, Idle}
 use Rattle.ipcz_node.specs.declared.happened.Happened.{Happened}
 use Rattle.ipcz_node.specs.declared.happened.Happened.TheVariants as events
 use Rattle.ipcz_node.specs.Events.{link_of, router_event, event_of}
 use Rattle.ipcz_node.specs.Sends.{moved_ends}
-use Rattle.ipcz_node.specs.Node.{Found, link_router}
+use Rattle.ipcz_node.specs.Node.{link_router}
 use Rattle.ipcz_node.specs.Hands.{is_hand_of, link_asked, side_asked, is_unfit}
 use Rattle.ipcz_world.specs.declared.mail.Mail.{Mail}
 use Rattle.ipcz_world.specs.declared.mail.Mail.TheVariants as mails
-use Rattle.ipcz_world.specs.World.{World, Key, node_at, word_at, mail_at, way, router_at}
-use Rattle.ipcz_world.specs.Turns.{after_act, can_take, may_act, turn_lacks_serials, turn_event, after_hand, hand_message}
-use Rattle.ipcz_world.specs.WordAnswers.{answer_of}
-use Rattle.ipcz_world.specs.Books.{Books, after_turn, after_discard}
-use Rattle.ipcz_world.specs.Records.{Records, routes_of, is_linked, side_end}
+use Rattle.ipcz_world.specs.Turns.{may_act, turn_lacks_serials, turn_event, after_hand}
+use Rattle.ipcz_world.specs.Books.{after_turn, after_discard}
+use Rattle.ipcz_world.specs.Records.{routes_of}
 use Rattle.ipcz_world.specs.Remembering.{claim_records, taken_records, accepted_records, told_records, ended_records, begin_records}
 use Rattle.ipcz_world.specs.Remembering.{made_records}
 use Rattle.ipcz_world.specs.Acts.{CanAct}
-use Rattle.ipcz_world.specs.Inv.{Inv}
 use Rattle.ipcz_world.specs.Laws.{is_flush, KeepsLinks}
 use Rattle.ipcz_world.proofs.acts.Marking.{acted-mark}
 use Rattle.ipcz_world.proofs.acts.ActedWords.{acted-rest, acted-unlock, acted-lock, acted-claim, acted-dry}
@@ -42,9 +34,8 @@ use Rattle.ipcz_world.proofs.hands.Handling.{dropped_is, peer_fits, under_way-ha
 use Rattle.ipcz_router.specs.Acts.{pop_out, pop_in}
 use Rattle.ipcz_world.specs.declared.step.Step.TheVariants as steps
 use Rattle.ipcz_world.specs.Routes.{Routes, routes_after, routes_after_turn, add_link, add_peripherals}
-use Rattle.ipcz_world.specs.Steps.{Effect, refuse, unless, open_on, open_step}
+use Rattle.ipcz_world.specs.Steps.{Effect, refuse, open_on, open_step}
 use Rattle.ipcz_node.specs.Calls.{serials_refusal}
-use Rattle.ipcz_base.specs.declared.refusal.Refusal.{Refusal}
 use Rattle.ipcz_base.specs.declared.refusal.Refusal.TheVariants as refusals
 use Rattle.ipcz_world.proofs.frames.Sealing.{sealed, closed}
 use Rattle.ipcz_world.proofs.acts.Leaving.{inv-leave}

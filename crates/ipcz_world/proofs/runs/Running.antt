@@ -2,22 +2,18 @@
 use Rattle.std.specs.Prelude.{◌≡◌, ◌⊎◌, ◌<◌, ℕ, Bool, true, false, nat_lt, List, [], ◌∷◌, refl}
 use Rattle.std.proofs.Common.{arith, subst, sym, inl, inr}
 use Rattle.std.proofs.lemmas.Bool.Decides.{nat_tests}
-use Rattle.ipcz_base.specs.declared.end.End.{End}
-use Rattle.ipcz_base.specs.declared.refusal.Refusal.{Refusal}
+use Rattle.ipcz_world.proofs.Vocabulary.{End, Refusal, Act, Reply, World, can_take, after_act, unless, Books, at_end, Records, Inv, Node}
 use Rattle.ipcz_base.specs.declared.refusal.Refusal.TheVariants as refusals
-use Rattle.ipcz_node.specs.declared.act.Act.{Act}
 use Rattle.ipcz_world.specs.declared.step.Step.{Step}
 use Rattle.ipcz_world.specs.declared.step.Step.TheVariants as steps
-use Rattle.ipcz_world.specs.declared.step.Reply.{Reply}
 use Rattle.ipcz_world.specs.declared.step.Reply.TheVariants as replies
-use Rattle.ipcz_world.specs.World.{World, new_world}
-use Rattle.ipcz_world.specs.Turns.{can_take, turn_lacks_serials, after_act, turn_event}
-use Rattle.ipcz_world.specs.Steps.{Effect, unless, open_step, put_step, get_step, close_step, turn_step, StepAny}
-use Rattle.ipcz_world.specs.Books.{Books, no_books, advance, after_turn}
+use Rattle.ipcz_world.specs.World.{new_world}
+use Rattle.ipcz_world.specs.Turns.{turn_lacks_serials, turn_event}
+use Rattle.ipcz_world.specs.Steps.{Effect, open_step, put_step, get_step, close_step, turn_step, StepAny}
+use Rattle.ipcz_world.specs.Books.{no_books, advance, after_turn}
 use Rattle.ipcz_world.specs.Routes.{Routes, first_routes, routes_after, routes_after_turn}
-use Rattle.ipcz_world.specs.Places.{in_places, at_end, unread_weight}
-use Rattle.ipcz_world.specs.Records.{Records, routes_of}
-use Rattle.ipcz_world.specs.Inv.{Inv}
+use Rattle.ipcz_world.specs.Places.{in_places, unread_weight}
+use Rattle.ipcz_world.specs.Records.{routes_of}
 use Rattle.ipcz_world.specs.Laws.{KeepsLinks, WordLaw}
 use Rattle.ipcz_world.specs.Lawful.{Lawful, RunAny, IsWithinLimits, IsReached, Headline}
 use Rattle.ipcz_world.specs.WorldLaws.{StartsLawful, StepKeepsLawful, LinksStay, HeadlineHolds, NothingStrays}
@@ -26,7 +22,6 @@ use Rattle.ipcz_world.proofs.lawful.WordLaws.{word_law}
 use Rattle.ipcz_world.proofs.lawful.LengthLaws.{length_law}
 use Rattle.ipcz_world.proofs.lawful.StrayLaws.{stray_law}
 use Rattle.ipcz_world.proofs.routes.Seeing.{stays-same}
-use Rattle.ipcz_node.specs.Node.{Node}
 use Rattle.ipcz_world.proofs.runs.NodeSteps.{IsKept, kept-step}
 use Rattle.ipcz_world.specs.Owed.{AreFlagged, FlagsAgree}
 use Rattle.ipcz_world.specs.Settling.{IsBounded}

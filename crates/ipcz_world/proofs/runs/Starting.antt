@@ -4,17 +4,15 @@ use Rattle.std.specs.Prelude.{List, [], ◌∷◌, ◌++◌, length, replicate, 
 use Rattle.std.proofs.Common.{arith, ap, subst, ◌∙◌, sym, inl, inr}
 use Rattle.std.proofs.lemmas.Bool.Decides.{nat_tests}
 use Rattle.std.proofs.lemmas.List.{length-append, length-replicate}
-use Rattle.ipcz_base.specs.declared.side.Side.TheVariants.{A}
+use Rattle.ipcz_world.proofs.Vocabulary.{A, empty_word, open_word, bare_node, outbox, Empty, node_at, Records, Linked, is_linked}
+use Rattle.ipcz_world.proofs.Vocabulary.{is_nowhere, Inv}
 use Rattle.ipcz_word.specs.SideSets.{none}
-use Rattle.ipcz_word.specs.Word.{empty_word, open_word}
-use Rattle.ipcz_node.specs.Node.{bare_node, outbox, outbox_count}
+use Rattle.ipcz_node.specs.Node.{outbox_count}
 use Rattle.ipcz_node.specs.FirstPairs.{new_node, first_pairs, first_pairs_from, pairs_from, add_pairs}
-use Rattle.ipcz_world.specs.declared.mail.Mail.TheVariants.{Empty}
-use Rattle.ipcz_world.specs.World.{node_at, numbers_from, new_nodes, new_world}
+use Rattle.ipcz_world.specs.World.{numbers_from, new_nodes, new_world}
 use Rattle.ipcz_world.specs.Books.{no_books}
-use Rattle.ipcz_world.specs.Records.{Records, Unclaimed, Linked, Nowhere, is_linked, is_nowhere, routes_of}
+use Rattle.ipcz_world.specs.Records.{Unclaimed, Nowhere, routes_of}
 use Rattle.ipcz_world.specs.Routes.{first_routes}
-use Rattle.ipcz_world.specs.Inv.{Inv}
 use Rattle.ipcz_world.specs.Lawful.{IsWithinLimits}
 use Rattle.ipcz_world.specs.Settling.{IsBounded}
 use Rattle.ipcz_world.proofs.runs.Bare.{IsBare, IsUnnoted, inv-bare}

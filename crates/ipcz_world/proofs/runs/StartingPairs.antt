@@ -1,6 +1,10 @@
 -- A world that begins with some pairs: one pair more, between two nodes, keeps the invariant.
 use Rattle.ipcz_world.proofs.weights.OfRecords.{holds, held_times, in_message, in_places}
-use Rattle.ipcz_world.specs.Places.{in_node as in_node', in_places as in_places', Weight, in_router, times}
+use Rattle.ipcz_world.proofs.Vocabulary.{Weight, in_router, times, Side, A, B, End, opposite_end, same_end, opposite, total, total_list}
+use Rattle.ipcz_world.proofs.Vocabulary.{Router, empty_word, open_word, Node, bare_node, outbox, Empty, World, Key, node_at, word_at}
+use Rattle.ipcz_world.proofs.Vocabulary.{mail_at, router_at, way, flow, messages_in, Records, Owner, Linked, Terminal, At, is_linked}
+use Rattle.ipcz_world.proofs.Vocabulary.{is_unclaimed, is_nowhere, terminal_node, under_way, times_held}
+use Rattle.ipcz_world.specs.Places.{in_node as in_node', in_places as in_places'}
 use Rattle.std.specs.Prelude.{◌≡◌, ◌≢◌, ◌⊎◌, ◌≤◌, ◌<◌, ◌+◌, ◌-◌, ◌*◌, ℕ, Bool, true, false, cond, nat_eq, nat_le, nat_lt, Some, None, refl}
 use Rattle.std.specs.Prelude.{List, [], ◌∷◌, ◌++◌, length}
 use Rattle.std.specs.Cmp.{nat_cmp_total}
@@ -8,24 +12,11 @@ use Rattle.std.specs.FinMap.{get, insert, get-insert}
 use Rattle.std.proofs.Common.{arith, ap, subst, ◌∙◌, sym, inl, inr}
 use Rattle.std.proofs.lemmas.Bool.Decides.{nat_tests}
 use Rattle.std.proofs.lemmas.Option.{none-some}
-use Rattle.ipcz_base.specs.declared.side.Side.{Side}
-use Rattle.ipcz_base.specs.declared.side.Side.TheVariants.{A, B}
-use Rattle.ipcz_base.specs.declared.end.End.{End}
-use Rattle.ipcz_base.specs.Ends.{opposite_end, same_end}
-use Rattle.ipcz_base.specs.Sides.{opposite}
 use Rattle.ipcz_word.specs.SideSets.{none}
-use Rattle.ipcz_base.specs.Totals.{total, total_list}
-use Rattle.ipcz_router.specs.Router.{Router}
-use Rattle.ipcz_word.specs.Word.{empty_word, open_word}
-use Rattle.ipcz_node.specs.Node.{Node, bare_node, outbox, add_end, new_end, with_ends}
+use Rattle.ipcz_node.specs.Node.{add_end, new_end, with_ends}
 use Rattle.ipcz_node.specs.FirstPairs.{add_pairs}
-use Rattle.ipcz_world.specs.declared.mail.Mail.TheVariants.{Empty}
-use Rattle.ipcz_world.specs.World.{World, Key, node_at, word_at, mail_at, router_at, way, flow, messages_in}
 use Rattle.ipcz_world.specs.Books.{no_books}
-use Rattle.ipcz_world.specs.Records.{Records, Owner, Unclaimed, Linked, CentralRecord, Terminal, At, is_linked, is_unclaimed, is_nowhere}
-use Rattle.ipcz_world.specs.Records.{terminal_node}
-use Rattle.ipcz_world.specs.Flows.{under_way}
-use Rattle.ipcz_world.specs.Whereabouts.{times_held}
+use Rattle.ipcz_world.specs.Records.{Unclaimed, CentralRecord}
 use Rattle.ipcz_world.proofs.frames.Changing.{flow_is}
 use Rattle.ipcz_world.proofs.weights.Holding.{holds-with_ends, times-with_ends, held_times-most, times_held-at}
 use Rattle.ipcz_world.proofs.frames.Calling.{nowhere_unheld}

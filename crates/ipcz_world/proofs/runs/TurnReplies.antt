@@ -3,39 +3,24 @@ use Rattle.std.specs.Prelude.{◌≡◌, ◌⊎◌, ◌<◌, ℕ, true, Option, 
 use Rattle.std.proofs.Common.{arith, ap, subst, ◌∙◌, sym, inl, inr}
 use Rattle.std.proofs.lemmas.Bool.Decides.{nat_tests}
 use Rattle.std.proofs.lemmas.Option.{same_Some, slice_get_within}
-use Rattle.ipcz_base.specs.declared.link_id.LinkId.{LinkId}
-use Rattle.ipcz_base.specs.declared.link_id.LinkId.TheVariants.{Central}
-use Rattle.ipcz_base.specs.declared.link_end.LinkEnd.{LinkEnd}
-use Rattle.ipcz_base.specs.declared.item.Item.{Item}
-use Rattle.ipcz_base.specs.declared.refusal.Refusal.{Refusal}
+use Rattle.ipcz_world.proofs.Vocabulary.{LinkId, Central, LinkEnd, Item, Refusal, opposite_end, word_of, has, current_item, Router}
+use Rattle.ipcz_world.proofs.Vocabulary.{is_terminal, is_possible, RouterAct, Act, Hand, Close, Reply, World, Key, way, mail_at, node_at}
+use Rattle.ipcz_world.proofs.Vocabulary.{word_at, router_at, can_take, hand_message, answer_of, Books, read, Records, side_end}
+use Rattle.ipcz_world.proofs.Vocabulary.{has_primary, IsRecorded, Inv}
 use Rattle.ipcz_base.specs.declared.refusal.Refusal.TheVariants as refusals
-use Rattle.ipcz_base.specs.Ends.{opposite_end}
-use Rattle.ipcz_base.specs.Links.{word_of}
-use Rattle.ipcz_word.specs.SideSets.{has}
-use Rattle.ipcz_seq.specs.Queue.{current_item}
-use Rattle.ipcz_router.specs.Router.{Router, is_terminal}
-use Rattle.ipcz_router.specs.ActTable.{may_take, is_possible, is_rest}
-use Rattle.ipcz_router.specs.declared.act.RouterAct.{RouterAct}
+use Rattle.ipcz_router.specs.ActTable.{may_take, is_rest}
 use Rattle.ipcz_router.specs.declared.act.RouterAct.TheVariants as acts
-use Rattle.ipcz_node.specs.declared.act.Act.{Act}
-use Rattle.ipcz_node.specs.declared.act.Act.TheVariants.{Hand, Look, Post, Close, Router as OfRouter, Idle}
+use Rattle.ipcz_node.specs.declared.act.Act.TheVariants.{Look, Post, Router as OfRouter, Idle}
 use Rattle.ipcz_node.specs.declared.happened.Happened.{Happened}
 use Rattle.ipcz_node.specs.declared.happened.Happened.TheVariants as events
 use Rattle.ipcz_node.specs.Events.{hand_event, link_of, event_of}
 use Rattle.ipcz_world.specs.declared.step.Step.{Step}
 use Rattle.ipcz_world.specs.declared.step.Step.TheVariants as steps
-use Rattle.ipcz_world.specs.declared.step.Reply.{Reply}
 use Rattle.ipcz_world.specs.declared.step.Reply.TheVariants as replies
-use Rattle.ipcz_world.specs.World.{World, Key, way, mail_at, node_at, word_at, router_at}
-use Rattle.ipcz_world.specs.Turns.{turn_event, hand_seen, router_seen, can_take, may_act, hand_message}
-use Rattle.ipcz_world.specs.WordAnswers.{answer_of}
+use Rattle.ipcz_world.specs.Turns.{turn_event, hand_seen, router_seen, may_act}
 use Rattle.ipcz_world.specs.Steps.{turn_step, StepAny}
-use Rattle.ipcz_world.specs.Books.{Books, read, after_turn, after_discard, advance}
+use Rattle.ipcz_world.specs.Books.{after_turn, after_discard, advance}
 use Rattle.ipcz_world.specs.Plain.{Discards, PlainTurn, Plain}
-use Rattle.ipcz_world.specs.Records.{Records, side_end}
-use Rattle.ipcz_world.specs.Standing.{has_primary}
-use Rattle.ipcz_world.specs.Structure.{IsRecorded}
-use Rattle.ipcz_world.specs.Inv.{Inv}
 use Rattle.ipcz_world.specs.WorldLaws.{BeginsUnderLock, BeginsLocked}
 use Rattle.ipcz_world.proofs.lawful.LinkLaws.{IsOn, on_tells, holder_is}
 use Rattle.ipcz_world.proofs.facts.LinkTests.{has_link-is}

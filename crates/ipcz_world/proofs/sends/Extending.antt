@@ -1,24 +1,12 @@
 -- A terminal whose end moves becomes a proxy: the invariant is kept, with one more of the ends moved.
-use Rattle.std.specs.Prelude.{◌≡◌, ◌≢◌, ◌⊎◌, ◌+◌, ℕ, true, false, cond, Some, List, [], ◌∷◌, ◌++◌, length, slice_get}
+use Rattle.std.specs.Prelude.{◌≡◌, ◌≢◌, ◌⊎◌, ℕ, true, false, cond, Some, List, [], ◌∷◌, ◌++◌, length, slice_get}
 use Rattle.std.proofs.Common.{arith, ap, subst, ◌∙◌, sym, inl, inr}
-use Rattle.ipcz_base.specs.declared.side.Side.{Side}
-use Rattle.ipcz_base.specs.declared.link_id.LinkId.{LinkId}
-use Rattle.ipcz_base.specs.declared.descriptor.Descriptor.{Descriptor}
-use Rattle.ipcz_base.specs.declared.item.Item.{Item}
-use Rattle.ipcz_base.specs.declared.message.Message.{Message}
+use Rattle.ipcz_world.proofs.Vocabulary.{Side, LinkId, Descriptor, Item, Message, has_end, Router, ends_in, World, Key, node_at, Books}
+use Rattle.ipcz_world.proofs.Vocabulary.{read, is_closed, Records, inner_link, IsUnderWay, under_way, Weight, at_end, names_end}
+use Rattle.ipcz_world.proofs.Vocabulary.{total_below, Conserved, HeldOnce}
 use Rattle.ipcz_base.specs.declared.message.Message.TheVariants as messages
-use Rattle.ipcz_base.specs.Ends.{has_end}
-use Rattle.ipcz_router.specs.Router.{Router}
 use Rattle.ipcz_router.specs.Calls.{descriptor_of}
-use Rattle.ipcz_base.specs.Items.{ends_in}
-use Rattle.ipcz_world.specs.World.{World, Key, node_at}
-use Rattle.ipcz_world.specs.Books.{Books, read, is_closed}
-use Rattle.ipcz_world.specs.Records.{Records, inner_link}
-use Rattle.ipcz_world.specs.Flows.{IsUnderWay, under_way}
-use Rattle.ipcz_world.specs.Places.{Weight, at_end, names_end}
 use Rattle.ipcz_world.proofs.weights.OfRecords.{in_message, in_node, in_places}
-use Rattle.ipcz_base.specs.Totals.{total_below}
-use Rattle.ipcz_world.specs.Whereabouts.{Conserved, HeldOnce}
 use Rattle.ipcz_world.proofs.frames.Touching.{HasSameEnds, Hands}
 use Rattle.ipcz_world.proofs.flows.Flowing.{IsRewritten, under_way-rewritten, under_way-congr}
 use Rattle.ipcz_world.proofs.frames.Opened.{OpenInv}

@@ -4,26 +4,17 @@ use Rattle.std.specs.Prelude.{◌≡◌, ◌⊎◌, ◌≤◌, ◌<◌, ◌+◌,
 use Rattle.std.specs.Prelude.{is_none, refl}
 use Rattle.std.proofs.Common.{arith, ap, ◌∙◌, inl, inr}
 use Rattle.std.proofs.lemmas.Bool.Decides.{nat_tests}
-use Rattle.ipcz_base.specs.declared.side.Side.{Side}
-use Rattle.ipcz_base.specs.declared.side.Side.TheVariants.{A, B}
-use Rattle.ipcz_base.specs.declared.link_id.LinkId.{LinkId}
-use Rattle.ipcz_base.specs.declared.link_id.LinkId.TheVariants.{Central, Peripheral}
-use Rattle.ipcz_base.specs.Links.{same_link, has_link}
-use Rattle.ipcz_edge.specs.Edge.{Edge}
-use Rattle.ipcz_router.specs.Router.{Router, is_terminal}
+use Rattle.ipcz_world.proofs.Vocabulary.{Side, A, B, LinkId, Central, Peripheral, same_link, has_link, Edge, Router, is_terminal, World}
+use Rattle.ipcz_world.proofs.Vocabulary.{Key, same_key, node_at, word_at, router_at, Books, Records, is_recorded, is_begun, bypass_of}
+use Rattle.ipcz_world.proofs.Vocabulary.{inner_link, side_node, side_router, side_end, proxy_side, is_nowhere, key_passes, is_outward}
+use Rattle.ipcz_world.proofs.Vocabulary.{Descriptor}
 use Rattle.ipcz_router.specs.Calls.{extend, descriptor_of}
-use Rattle.ipcz_world.specs.World.{World, Key, same_key, node_at, word_at, router_at}
 use Rattle.ipcz_world.proofs.frames.Frames.{same_key_tells}
-use Rattle.ipcz_world.specs.Books.{Books}
-use Rattle.ipcz_world.specs.Records.{Records, Moving, set_terminal, set_peripheral, is_recorded, is_begun, bypass_of, inner_link, side_node}
-use Rattle.ipcz_world.specs.Records.{side_router, side_end, proxy_side, is_nowhere}
+use Rattle.ipcz_world.specs.Records.{Moving, set_terminal, set_peripheral}
 use Rattle.ipcz_world.proofs.frames.RecordRules.{is_recorded-inner}
 use Rattle.ipcz_world.proofs.weights.OfRecords.{source}
-use Rattle.ipcz_world.specs.Standing.{key_passes}
 use Rattle.ipcz_world.proofs.frames.StandingRules.{standing_rules}
-use Rattle.ipcz_world.specs.Structure.{is_outward}
 use Rattle.ipcz_world.proofs.frames.Opened.{OpenInv}
-use Rattle.ipcz_base.specs.declared.descriptor.Descriptor.{Descriptor}
 use Rattle.ipcz_world.proofs.facts.Lengths.{same_link-tells}
 
 -- the key of the next peripheral link of a node

@@ -1,5 +1,8 @@
 -- Small facts that moving an end rests on: of descriptors, of lists of ends, and of what messages weigh.
-use Rattle.ipcz_world.specs.Places.{in_node as in_node', Weight}
+use Rattle.ipcz_world.proofs.Vocabulary.{Weight, Side, A, B, End, Descriptor, Item, Message, same_side, is_central, same_end}
+use Rattle.ipcz_world.proofs.Vocabulary.{opposite_end, item_at, Router, World, Key, router_at, set_router, Node, Records, inner_link}
+use Rattle.ipcz_world.proofs.Vocabulary.{terminal_descriptor, IsUnderWay, total_list, moving_link}
+use Rattle.ipcz_world.specs.Places.{in_node as in_node'}
 use Rattle.std.specs.Prelude.{◌≡◌, ◌≢◌, ◌⊎◌, ◌≤◌, ◌<◌, ◌+◌, ℕ, zero, suc, Bool, true, false, cond, nat_eq, Some, None, refl, List, [], ◌∷◌}
 use Rattle.std.specs.Prelude.{◌++◌, length, slice_get}
 use Rattle.std.specs.Ordering.{nat_cmp}
@@ -7,24 +10,8 @@ use Rattle.std.specs.Cmp.{nat_cmp_total}
 use Rattle.std.specs.FinMap.{remove, nat_cmp-IsAntisymmetric}
 use Rattle.std.proofs.Common.{arith, ap, inl, inr}
 use Rattle.std.proofs.lemmas.Bool.Decides.{nat_tests}
-use Rattle.ipcz_base.specs.declared.side.Side.{Side}
-use Rattle.ipcz_base.specs.declared.side.Side.TheVariants.{A, B}
-use Rattle.ipcz_base.specs.declared.end.End.{End}
-use Rattle.ipcz_base.specs.declared.descriptor.Descriptor.{Descriptor}
-use Rattle.ipcz_base.specs.declared.item.Item.{Item}
-use Rattle.ipcz_base.specs.declared.message.Message.{Message}
-use Rattle.ipcz_base.specs.Sides.{same_side}
-use Rattle.ipcz_base.specs.Links.{is_central}
-use Rattle.ipcz_base.specs.Ends.{same_end, opposite_end}
-use Rattle.ipcz_seq.specs.Queue.{item_at}
-use Rattle.ipcz_router.specs.Router.{Router}
-use Rattle.ipcz_world.specs.World.{World, Key, router_at, set_router}
-use Rattle.ipcz_node.specs.Node.{Node}
-use Rattle.ipcz_world.specs.Records.{Records, Moving, inner_link, terminal_descriptor, key_at}
+use Rattle.ipcz_world.specs.Records.{Moving, key_at}
 use Rattle.ipcz_world.proofs.weights.OfRecords.{in_message, in_node, in_places}
-use Rattle.ipcz_world.specs.Flows.{IsUnderWay}
-use Rattle.ipcz_base.specs.Totals.{total_list}
-use Rattle.ipcz_world.specs.Bypasses.{moving_link}
 use Rattle.ipcz_world.proofs.flows.Flowing.{same_way}
 use Rattle.ipcz_world.proofs.weights.Weighing.{in_router-is, in_places-set_router, in_places-has, still_under_way}
 use Rattle.ipcz_base.proofs.Totals.{total-remove}

@@ -1,19 +1,13 @@
 -- A terminal that moves becomes a proxy: each link is as its record says, and primary or decaying as its bypass says.
 use Rattle.std.specs.Prelude.{◌≡◌, ◌<◌, ℕ, true, false, Option, Some, None, is_some, refl}
 use Rattle.std.proofs.Common.{arith, ap, subst, ◌∙◌, sym, inl, inr}
-use Rattle.ipcz_base.specs.declared.side.Side.{Side}
-use Rattle.ipcz_base.specs.declared.side.Side.TheVariants.{A, B}
-use Rattle.ipcz_base.specs.declared.link_id.LinkId.TheVariants.{Central}
-use Rattle.ipcz_base.specs.declared.link_end.LinkEnd.{LinkEnd}
-use Rattle.ipcz_base.specs.Sides.{opposite}
-use Rattle.ipcz_router.specs.Router.{Router, inward_edge}
-use Rattle.ipcz_world.specs.World.{World, Key, node_at, router_at}
+use Rattle.ipcz_world.proofs.Vocabulary.{Side, A, B, Central, LinkEnd, opposite, Router, inward_edge, World, Key, node_at, router_at}
+use Rattle.ipcz_world.proofs.Vocabulary.{Books, Records, is_begun, bypass_of, inner_link, side_node, side_router, side_end, proxy_side}
+use Rattle.ipcz_world.proofs.Vocabulary.{across_side, Counts, Shape, Links, IsRecorded, Positions, is_outward}
 use Rattle.ipcz_world.proofs.frames.Frames.{same_key_tells, same_key-itself}
-use Rattle.ipcz_world.specs.Books.{Books}
-use Rattle.ipcz_world.specs.Records.{Records, is_begun, bypass_of, inner_link, side_node, side_router, side_end, proxy_side, across_side}
 use Rattle.ipcz_world.proofs.frames.RecordRules.{record_rules, bypass_of-inner, side_router-proxy, side_router-inner, side_node-proxy}
 use Rattle.ipcz_world.proofs.frames.RecordRules.{side_node-inner}
-use Rattle.ipcz_world.specs.Structure.{Counts, Shape, Links, IsRecorded, Positions, is_outward, link_in}
+use Rattle.ipcz_world.specs.Structure.{link_in}
 use Rattle.ipcz_world.proofs.frames.Touching.{Hands}
 use Rattle.ipcz_world.proofs.frames.Opened.{OpenInv}
 use Rattle.ipcz_world.proofs.sends.ExtendingAround.{next_key, extended, extended_records, IsGrown, IsExtend, is_outward-A, no_inward}

@@ -3,27 +3,15 @@
 use Rattle.std.specs.Prelude.{◌≡◌, ◌≢◌, ◌+◌, ℕ, Bool, true, false, cond, nat_eq, refl, List, [], ◌∷◌, ◌++◌}
 use Rattle.std.proofs.Common.{arith, ap, ◌∙◌, sym}
 use Rattle.std.proofs.lemmas.Bool.Decides.{nat_tests}
-use Rattle.ipcz_base.specs.declared.side.Side.{Side}
-use Rattle.ipcz_base.specs.declared.link_id.LinkId.{LinkId}
-use Rattle.ipcz_base.specs.declared.descriptor.Descriptor.{Descriptor}
-use Rattle.ipcz_base.specs.declared.item.Item.{Item}
-use Rattle.ipcz_base.specs.declared.message.Message.{Message}
+use Rattle.ipcz_world.proofs.Vocabulary.{Side, LinkId, Descriptor, Item, Message, has_end, put_place, Router, Node, outbox, with_router}
+use Rattle.ipcz_world.proofs.Vocabulary.{ends_in, World, Key, node_at, mail_at, way, messages_in, set_node, set_router, Books, Records}
+use Rattle.ipcz_world.proofs.Vocabulary.{inner_link, Weight, total_below}
 use Rattle.ipcz_base.specs.declared.message.Message.TheVariants as messages
-use Rattle.ipcz_base.specs.Ends.{has_end}
-use Rattle.ipcz_base.specs.Indexed.{put_place}
 use Rattle.ipcz_base.proofs.Indexed.{place_at-put_place}
-use Rattle.ipcz_router.specs.Router.{Router}
 use Rattle.ipcz_router.specs.Calls.{descriptor_of}
-use Rattle.ipcz_node.specs.Node.{Node, outbox, with_router}
-use Rattle.ipcz_base.specs.Items.{ends_in}
-use Rattle.ipcz_world.specs.World.{World, Key, node_at, mail_at, way, messages_in, set_node, set_router}
 use Rattle.ipcz_world.proofs.frames.Frames.{frames, router-set_router, node-set_node, word-set_node, mail-set_node, claimed-set_node}
 use Rattle.ipcz_world.proofs.frames.Frames.{size-set_node, count-set_node}
-use Rattle.ipcz_world.specs.Books.{Books}
-use Rattle.ipcz_world.specs.Records.{Records, inner_link}
-use Rattle.ipcz_world.specs.Places.{Weight}
 use Rattle.ipcz_world.proofs.weights.OfRecords.{in_node}
-use Rattle.ipcz_base.specs.Totals.{total_below}
 use Rattle.ipcz_world.proofs.frames.Touching.{HasSameHands, HasSameEnds, hands-same}
 use Rattle.ipcz_world.proofs.frames.Changing.{IsNodeChanged, same_routers, flow_is, append-assoc}
 use Rattle.ipcz_world.proofs.flows.Flowing.{IsRewritten, same_way}

@@ -1,27 +1,19 @@
 -- A terminal that moves becomes a proxy: who stands where, the words, the bypasses, and where the terminals are.
 use Rattle.std.specs.Prelude.{◌≡◌, ◌≤◌, ℕ, Bool, true, false, not, cond, ◌&&◌, Some, None, is_some, refl}
 use Rattle.std.proofs.Common.{arith, ap, subst, ◌∙◌, sym, inl, inr}
-use Rattle.ipcz_base.specs.declared.side.Side.{Side}
-use Rattle.ipcz_base.specs.declared.side.Side.TheVariants.{A, B}
-use Rattle.ipcz_base.specs.declared.end.End.{End}
-use Rattle.ipcz_base.specs.declared.link_id.LinkId.TheVariants.{Central}
-use Rattle.ipcz_base.specs.Sides.{opposite, same_side}
-use Rattle.ipcz_word.specs.SideSets.{has}
-use Rattle.ipcz_base.specs.Links.{same_link}
-use Rattle.ipcz_base.specs.Ends.{same_end, opposite_end}
-use Rattle.ipcz_router.specs.Router.{Router, is_terminal, inward_edge}
+use Rattle.ipcz_world.proofs.Vocabulary.{Side, A, B, End, Central, opposite, same_side, has, same_link, same_end, opposite_end, Router}
+use Rattle.ipcz_world.proofs.Vocabulary.{is_terminal, inward_edge, World, Key, same_key, router_at, Books, Records, At, is_linked}
+use Rattle.ipcz_world.proofs.Vocabulary.{is_begun, inner_link, side_node, side_router, side_end, proxy_side, across_side, is_nowhere}
+use Rattle.ipcz_world.proofs.Vocabulary.{key_passes, has_primary, has_decaying, has_inward_decaying, Ordered, Stands, Words, Spares}
+use Rattle.ipcz_world.proofs.Vocabulary.{BypassRecords, Stages, inner_of, Terminals}
 use Rattle.ipcz_router.specs.Calls.{descriptor_of}
-use Rattle.ipcz_world.specs.World.{World, Key, same_key, router_at}
 use Rattle.ipcz_world.proofs.frames.Frames.{same_key_tells, same_key-itself}
-use Rattle.ipcz_world.specs.Books.{Books}
-use Rattle.ipcz_world.specs.Records.{Records, At, Moving, is_linked, is_begun, inner_link, side_node, side_router, side_end, proxy_side}
-use Rattle.ipcz_world.specs.Records.{across_side, is_nowhere}
+use Rattle.ipcz_world.specs.Records.{Moving}
 use Rattle.ipcz_world.proofs.frames.RecordRules.{side_router-proxy, side_router-inner}
-use Rattle.ipcz_world.specs.Standing.{key_passes, spare_of, has_primary, has_decaying, has_inward_primary, has_inward_decaying}
+use Rattle.ipcz_world.specs.Standing.{spare_of, has_inward_primary}
 use Rattle.ipcz_world.proofs.frames.StandingRules.{standing_rules}
-use Rattle.ipcz_world.specs.Structure.{Ordered, Stands, Words, Spares, is_begun_router}
-use Rattle.ipcz_world.specs.Bypasses.{BypassRecords, Stages, inner_of, fresh_of}
-use Rattle.ipcz_world.specs.Whereabouts.{Terminals}
+use Rattle.ipcz_world.specs.Structure.{is_begun_router}
+use Rattle.ipcz_world.specs.Bypasses.{fresh_of}
 use Rattle.ipcz_world.proofs.frames.Opened.{OpenInv}
 use Rattle.ipcz_world.proofs.sends.SendingOut.{has_link-end}
 use Rattle.ipcz_world.proofs.sends.ExtendingAround.{next_key, extended, extended_records, IsGrown, IsExtend, inner_one, two_begun}

@@ -5,24 +5,15 @@ use Rattle.std.specs.Cmp.{nat_cmp_total}
 use Rattle.std.specs.FinMap.{get, insert, get-insert}
 use Rattle.std.proofs.Common.{arith, ap, subst, ◌∙◌, sym}
 use Rattle.std.proofs.lemmas.Bool.Decides.{nat_tests}
-use Rattle.ipcz_base.specs.declared.side.Side.{Side}
-use Rattle.ipcz_base.specs.declared.end.End.{End}
-use Rattle.ipcz_base.specs.declared.link_id.LinkId.{LinkId}
-use Rattle.ipcz_base.specs.declared.descriptor.Descriptor.{Descriptor}
-use Rattle.ipcz_base.specs.declared.item.Item.{Item}
-use Rattle.ipcz_base.specs.Ends.{same_end, has_end}
-use Rattle.ipcz_router.specs.Router.{Router, is_terminal, is_open_terminal}
-use Rattle.ipcz_node.specs.Node.{Node, Found, with_router, terminal_of, is_terminal_of}
-use Rattle.ipcz_base.specs.Items.{ends_in}
+use Rattle.ipcz_world.proofs.Vocabulary.{Side, End, LinkId, Descriptor, Item, same_end, has_end, Router, is_terminal, Node, Found}
+use Rattle.ipcz_world.proofs.Vocabulary.{with_router, terminal_of, ends_in, World, Key, node_at, router_at, Books, is_closed, Records}
+use Rattle.ipcz_world.proofs.Vocabulary.{Terminal, At, terminal_node, is_nowhere, times, names_end, key_passes, passes, Inv}
+use Rattle.ipcz_router.specs.Router.{is_open_terminal}
+use Rattle.ipcz_node.specs.Node.{is_terminal_of}
 use Rattle.ipcz_node.specs.Sends.{Transfer, move_ends, move_found, move_router}
-use Rattle.ipcz_world.specs.World.{World, Key, node_at, router_at}
-use Rattle.ipcz_world.specs.Books.{Books, is_closed}
-use Rattle.ipcz_world.specs.Records.{Records, Terminal, Nowhere, At, Moving as IsMoving, Retired, terminal_node, is_nowhere}
+use Rattle.ipcz_world.specs.Records.{Nowhere, Moving as IsMoving, Retired}
 use Rattle.ipcz_world.specs.Remembering.{moves_records}
-use Rattle.ipcz_world.specs.Places.{times, names_end}
 use Rattle.ipcz_world.proofs.weights.OfRecords.{in_places}
-use Rattle.ipcz_world.specs.Standing.{key_passes, passes}
-use Rattle.ipcz_world.specs.Inv.{Inv}
 use Rattle.ipcz_world.proofs.frames.Opened.{OpenInv, opened}
 use Rattle.ipcz_world.proofs.facts.Finding.{IsTerminalOf, found_there, terminal_tells}
 use Rattle.ipcz_world.proofs.weights.Booking.{in_router-within}

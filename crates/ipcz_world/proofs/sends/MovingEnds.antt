@@ -3,22 +3,15 @@ use Rattle.std.specs.Prelude.{◌≡◌, ◌≢◌, ◌<◌, ℕ, Bool, true, fa
 use Rattle.std.specs.FinMap.{get}
 use Rattle.std.proofs.Common.{arith, ap, subst, ◌∙◌, sym}
 use Rattle.std.proofs.lemmas.Bool.Decides.{nat_tests}
-use Rattle.ipcz_base.specs.declared.side.Side.{Side}
-use Rattle.ipcz_base.specs.declared.end.End.{End}
-use Rattle.ipcz_base.specs.declared.link_id.LinkId.{LinkId}
-use Rattle.ipcz_base.specs.declared.item.Item.{Item}
-use Rattle.ipcz_base.specs.declared.message.Message.{Message}
+use Rattle.ipcz_world.proofs.Vocabulary.{Side, End, LinkId, Item, Message, has_end, same_end, Node, Found, outbox, terminal_of, ends_in}
+use Rattle.ipcz_world.proofs.Vocabulary.{World, Key, node_at, router_at, set_node, Books, Records, inner_link}
 use Rattle.ipcz_base.specs.declared.message.Message.TheVariants as messages
-use Rattle.ipcz_base.specs.Ends.{has_end, same_end}
 use Rattle.ipcz_base.proofs.Indexed.{place_at-put_place}
 use Rattle.ipcz_router.specs.Calls.{descriptor_of}
-use Rattle.ipcz_node.specs.Node.{Node, Found, outbox, push_out, terminal_of}
-use Rattle.ipcz_base.specs.Items.{ends_in}
+use Rattle.ipcz_node.specs.Node.{push_out}
 use Rattle.ipcz_node.specs.Sends.{Transfer, move_end, move_ends, move_found, move_router}
-use Rattle.ipcz_world.specs.World.{World, Key, node_at, router_at, set_node}
 use Rattle.ipcz_world.proofs.frames.Frames.{count-set_node}
-use Rattle.ipcz_world.specs.Books.{Books}
-use Rattle.ipcz_world.specs.Records.{Records, Moving as IsMoving, set_terminal, set_peripheral, inner_link}
+use Rattle.ipcz_world.specs.Records.{Moving as IsMoving, set_terminal, set_peripheral}
 use Rattle.ipcz_world.specs.Remembering.{found_records, moves_records, move_records}
 use Rattle.ipcz_world.proofs.frames.Opened.{OpenInv}
 use Rattle.ipcz_world.proofs.facts.Finding.{terminal_tells}

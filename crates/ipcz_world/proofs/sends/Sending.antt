@@ -3,36 +3,20 @@ use Rattle.ipcz_world.proofs.weights.OfRecords.{holds, held_times, source, in_me
 use Rattle.std.specs.Prelude.{◌≡◌, ◌⊎◌, ◌≤◌, ◌<◌, ◌+◌, ℕ, true, false, Option, Some, None, refl, List, [], length, slice_get}
 use Rattle.std.proofs.Common.{arith, ap, subst, ◌∙◌, sym, inl, inr}
 use Rattle.std.proofs.lemmas.Bool.Decides.{nat_tests}
-use Rattle.ipcz_base.specs.declared.side.Side.{Side}
-use Rattle.ipcz_base.specs.declared.end.End.{End}
-use Rattle.ipcz_base.specs.declared.link_id.LinkId.{LinkId}
-use Rattle.ipcz_base.specs.declared.link_id.LinkId.TheVariants.{Central}
-use Rattle.ipcz_base.specs.declared.link_end.LinkEnd.{LinkEnd}
-use Rattle.ipcz_base.specs.declared.descriptor.Descriptor.{Descriptor}
-use Rattle.ipcz_base.specs.declared.item.Item.{Item}
-use Rattle.ipcz_base.specs.declared.message.Message.{Message}
+use Rattle.ipcz_world.proofs.Vocabulary.{Side, End, LinkId, Central, LinkEnd, Descriptor, Item, Message, opposite, has_end, Router}
+use Rattle.ipcz_world.proofs.Vocabulary.{is_terminal, Node, with_router, ends_in, World, Key, node_at, router_at, flow, set_node, Books}
+use Rattle.ipcz_world.proofs.Vocabulary.{Records, is_recorded, side_node, side_length, side_router, inner_link, terminal_node, Standing}
+use Rattle.ipcz_world.proofs.Vocabulary.{is_attached, view, next_sent, is_gone, is_awaited, sending_queue, IsUnderWay, of_end, moves_of}
+use Rattle.ipcz_world.proofs.Vocabulary.{Weight, in_router, at_end, names_end, times, total_list, total_below, Counts, Links, Positions}
+use Rattle.ipcz_world.proofs.Vocabulary.{Told, of_bypass, EndPlaces, BooksKept, Conserved, HeldOnce, times_held, Items, Order}
+use Rattle.ipcz_world.proofs.Vocabulary.{FreshNumbers, has_passed, standing_router, Inv}
 use Rattle.ipcz_base.specs.declared.message.Message.TheVariants as messages
-use Rattle.ipcz_base.specs.Sides.{opposite}
-use Rattle.ipcz_base.specs.Ends.{has_end}
 use Rattle.ipcz_seq.specs.Queue.{reach}
-use Rattle.ipcz_router.specs.Router.{Router, is_terminal}
-use Rattle.ipcz_node.specs.Node.{Node, with_router, push_out}
-use Rattle.ipcz_base.specs.Items.{ends_in}
-use Rattle.ipcz_world.specs.World.{World, Key, node_at, router_at, flow, set_node}
+use Rattle.ipcz_node.specs.Node.{push_out}
 use Rattle.ipcz_world.proofs.frames.Frames.{node-set_node, word-set_node, mail-set_node, claimed-set_node, size-set_node, count-set_node}
 use Rattle.ipcz_world.proofs.frames.Frames.{same_key_tells, same_key-itself}
-use Rattle.ipcz_world.specs.Books.{Books}
-use Rattle.ipcz_world.specs.Records.{Records, is_recorded, side_node, side_length, side_router, inner_link, terminal_node}
-use Rattle.ipcz_world.specs.Standing.{Standing, is_attached, view, next_sent, is_gone, is_awaited, sending_queue}
-use Rattle.ipcz_world.specs.Flows.{IsUnderWay, is_made_by, of_end, moves_of}
-use Rattle.ipcz_world.specs.Places.{Weight, in_router, at_end, names_end, times}
-use Rattle.ipcz_base.specs.Totals.{total_list, total_below}
-use Rattle.ipcz_world.specs.Structure.{Counts, Links, Positions}
-use Rattle.ipcz_world.specs.Bypasses.{Told, of_bypass}
-use Rattle.ipcz_world.specs.Whereabouts.{EndPlaces, BooksKept, Conserved, HeldOnce, times_held}
-use Rattle.ipcz_world.specs.Numbers.{Items, Order, FreshNumbers, has_passed, standing_router}
+use Rattle.ipcz_world.specs.Flows.{is_made_by}
 use Rattle.ipcz_world.proofs.frames.Opened.{OpenInv, OpenMoves, HasEnds, opened, closed}
-use Rattle.ipcz_world.specs.Inv.{Inv}
 use Rattle.ipcz_world.proofs.frames.Touching.{IsTouched, IsAlike, HasSameHands, HasSameEnds, hands-same, recorded_same, counts-touched}
 use Rattle.ipcz_world.proofs.frames.Touching.{shape-touched, links-touched, positions-touched, stands-touched, words-touched}
 use Rattle.ipcz_world.proofs.frames.Touching.{spares-touched, bypasses-touched, stages-touched, terminals-touched}

@@ -2,27 +2,19 @@
 use Rattle.std.specs.Prelude.{◌≡◌, ◌≢◌, ℕ, Bool, true, false, ◌&&◌, nat_eq, if◌then◌else◌, Option, Some, None, is_some, refl, []}
 use Rattle.std.proofs.Common.{arith, subst, ◌∙◌, sym, inl}
 use Rattle.std.proofs.lemmas.Bool.Decides.{nat_tests}
-use Rattle.ipcz_base.specs.declared.link_end.LinkEnd.{LinkEnd}
-use Rattle.ipcz_base.specs.declared.item.Item.{Item}
-use Rattle.ipcz_base.specs.Sides.{opposite}
-use Rattle.ipcz_seq.specs.Queue.{current_item}
-use Rattle.ipcz_router.specs.Router.{Router}
+use Rattle.ipcz_world.proofs.Vocabulary.{LinkEnd, Item, opposite, current_item, Router, output_of, is_possible, router_in, ends_in}
+use Rattle.ipcz_world.proofs.Vocabulary.{commit, World, Key, node_at, router_at, after_act, can_take, Books, Records, Inv}
 use Rattle.ipcz_router.specs.Acts.{way_out, way_in, pop_out, pop_in}
-use Rattle.ipcz_router.specs.ActEffects.{apply, output_of, item_output}
-use Rattle.ipcz_router.specs.ActTable.{is_possible, is_rest}
+use Rattle.ipcz_router.specs.ActEffects.{apply, item_output}
+use Rattle.ipcz_router.specs.ActTable.{is_rest}
 use Rattle.ipcz_router.specs.declared.act.RouterAct.TheVariants as acts
 use Rattle.ipcz_node.specs.declared.act.Act.TheVariants.{Router as OfRouter}
-use Rattle.ipcz_node.specs.Node.{on_router, router_in}
-use Rattle.ipcz_base.specs.Items.{ends_in}
+use Rattle.ipcz_node.specs.Node.{on_router}
 use Rattle.ipcz_node.specs.Sends.{move_ends, moved_ends, send, send_item}
-use Rattle.ipcz_node.specs.Acts.{commit, commit_router, keep_or_drop}
-use Rattle.ipcz_world.specs.World.{World, Key, node_at, router_at}
-use Rattle.ipcz_world.specs.Turns.{after_act, after_router_act, can_take, may_act}
+use Rattle.ipcz_node.specs.Acts.{commit_router, keep_or_drop}
+use Rattle.ipcz_world.specs.Turns.{after_router_act, may_act}
 use Rattle.ipcz_world.specs.WordAnswers.{touch}
-use Rattle.ipcz_world.specs.Books.{Books}
-use Rattle.ipcz_world.specs.Records.{Records}
 use Rattle.ipcz_world.specs.Remembering.{moves_records}
-use Rattle.ipcz_world.specs.Inv.{Inv}
 use Rattle.ipcz_world.proofs.frames.Opened.{opened}
 use Rattle.ipcz_world.proofs.sends.SendingItems.{is_send_in, inv-send_in, is_send_out, inv-send_out}
 use Rattle.ipcz_world.proofs.sends.MovingEnds.{posted_world}

@@ -3,32 +3,16 @@ use Rattle.ipcz_world.specs.Routes.{source as source'}
 use Rattle.std.specs.Prelude.{◌≡◌, ◌⊎◌, ◌≤◌, ◌<◌, ℕ, Bool, true, false, ◌||◌, nat_le, Option, Some, None, refl, []}
 use Rattle.std.proofs.Common.{arith, ap, subst, ◌∙◌, sym, inl, inr}
 use Rattle.std.proofs.lemmas.Bool.Decides.{nat_tests}
-use Rattle.ipcz_base.specs.declared.side.Side.{Side}
-use Rattle.ipcz_base.specs.declared.side.Side.TheVariants.{A, B}
-use Rattle.ipcz_base.specs.declared.link_id.LinkId.{LinkId}
-use Rattle.ipcz_base.specs.declared.link_id.LinkId.TheVariants.{Central, Peripheral}
-use Rattle.ipcz_base.specs.declared.link_end.LinkEnd.{LinkEnd}
-use Rattle.ipcz_base.specs.declared.item.Item.{Item}
-use Rattle.ipcz_base.specs.declared.descriptor.Descriptor.{Descriptor}
-use Rattle.ipcz_edge.specs.Edge.{Edge}
-use Rattle.ipcz_base.specs.Sides.{opposite}
-use Rattle.ipcz_base.specs.Ends.{opposite_end}
-use Rattle.ipcz_base.specs.Links.{has_link}
-use Rattle.ipcz_seq.specs.Queue.{item_at, current_item}
-use Rattle.ipcz_router.specs.Router.{Router, is_terminal, inward_edge}
+use Rattle.ipcz_world.proofs.Vocabulary.{Side, A, B, LinkId, Central, Peripheral, LinkEnd, Item, Descriptor, Edge, opposite, opposite_end}
+use Rattle.ipcz_world.proofs.Vocabulary.{has_link, item_at, current_item, Router, is_terminal, inward_edge, ends_in, World, Key}
+use Rattle.ipcz_world.proofs.Vocabulary.{router_at, flow, Books, Records, is_begun, is_recorded, inner_link, side_node, side_router}
+use Rattle.ipcz_world.proofs.Vocabulary.{side_end, side_length, bypass_of, terminal_descriptor, view, view_by, is_attached, is_gone}
+use Rattle.ipcz_world.proofs.Vocabulary.{sending_queue, key_passes, has_primary, has_decaying, IsRecorded, is_outward, Inv}
 use Rattle.ipcz_router.specs.Acts.{way_out, way_in, pop_out, pop_in}
-use Rattle.ipcz_base.specs.Items.{ends_in}
-use Rattle.ipcz_world.specs.World.{World, Key, router_at, flow}
-use Rattle.ipcz_world.specs.Books.{Books}
-use Rattle.ipcz_world.specs.Records.{Records, is_begun, is_recorded, inner_link, side_node, side_router, side_end, side_length, bypass_of}
-use Rattle.ipcz_world.specs.Records.{terminal_descriptor}
 use Rattle.ipcz_world.proofs.frames.RecordRules.{record_rules, bypass_of-inner}
 use Rattle.ipcz_world.proofs.weights.OfRecords.{source}
-use Rattle.ipcz_world.specs.Standing.{view, view_by, awaited_view, is_attached, is_gone, sending_queue, key_passes, has_primary}
-use Rattle.ipcz_world.specs.Standing.{has_decaying}
+use Rattle.ipcz_world.specs.Standing.{awaited_view}
 use Rattle.ipcz_world.specs.Flows.{is_made_by}
-use Rattle.ipcz_world.specs.Structure.{IsRecorded, is_outward}
-use Rattle.ipcz_world.specs.Inv.{Inv}
 use Rattle.ipcz_world.proofs.frames.Draining.{drained_same, drained_pop}
 use Rattle.ipcz_world.proofs.weights.Weighing.{in_router-is, in_popped}
 use Rattle.ipcz_world.proofs.views.Known.{node_of_router}

@@ -2,28 +2,20 @@
 use Rattle.std.specs.Prelude.{◌≡◌, ◌⊎◌, ◌≤◌, ◌<◌, ℕ, Bool, true, false, nat_le, if◌then◌else◌, Option, Some, None, is_some, refl}
 use Rattle.std.proofs.Common.{arith, ap, subst, ◌∙◌, sym, inl, inr}
 use Rattle.std.proofs.lemmas.Bool.Decides.{nat_tests}
-use Rattle.ipcz_base.specs.declared.side.Side.{Side}
-use Rattle.ipcz_base.specs.declared.side.Side.TheVariants.{A, B}
-use Rattle.ipcz_base.specs.declared.link_id.LinkId.{LinkId}
-use Rattle.ipcz_base.specs.declared.link_id.LinkId.TheVariants.{Central, Peripheral}
-use Rattle.ipcz_base.specs.declared.link_end.LinkEnd.{LinkEnd}
-use Rattle.ipcz_base.specs.declared.item.Item.{Item}
-use Rattle.ipcz_base.specs.Sides.{opposite}
-use Rattle.ipcz_base.specs.Links.{has_link}
-use Rattle.ipcz_edge.specs.Edge.{Edge, choose, is_short_of, edge_decays}
-use Rattle.ipcz_seq.specs.Queue.{item_at}
-use Rattle.ipcz_router.specs.Router.{Router}
+use Rattle.ipcz_world.proofs.Vocabulary.{Side, A, B, LinkId, Central, Peripheral, LinkEnd, Item, opposite, has_link, Edge, item_at}
+use Rattle.ipcz_world.proofs.Vocabulary.{Router, World, Key, router_at, Records, is_recorded, is_begun, is_linked, inner_link}
+use Rattle.ipcz_world.proofs.Vocabulary.{side_router, side_length, bypass_of, known_from, proxy_side, across_side, view, view_by}
+use Rattle.ipcz_world.proofs.Vocabulary.{is_attached, is_gone, key_passes, has_primary, has_decaying, has_inward_decaying, Positions}
+use Rattle.ipcz_world.proofs.Vocabulary.{Stands, is_outward, BypassRecords, Stages, inner_of, ProxyNumbers, FreshNumbers}
+use Rattle.ipcz_edge.specs.Edge.{choose, is_short_of, edge_decays}
 use Rattle.ipcz_router.specs.Acts.{way_out}
-use Rattle.ipcz_world.specs.World.{World, Key, router_at}
-use Rattle.ipcz_world.specs.Records.{Records, is_recorded, is_begun, is_linked, inner_link, side_router, side_length, length_by, bypass_of}
-use Rattle.ipcz_world.specs.Records.{bypass_length, known_from, proxy_side, across_side}
+use Rattle.ipcz_world.specs.Records.{length_by}
+use Rattle.ipcz_world.specs.Records.{bypass_length}
 use Rattle.ipcz_world.proofs.frames.RecordRules.{is_recorded-central, side_router-proxy, bypass_of-inner}
-use Rattle.ipcz_world.specs.Standing.{view, view_by, awaited_view, is_attached, is_gone, key_passes, has_primary, has_decaying}
-use Rattle.ipcz_world.specs.Standing.{has_inward_primary, has_inward_decaying}
+use Rattle.ipcz_world.specs.Standing.{awaited_view}
+use Rattle.ipcz_world.specs.Standing.{has_inward_primary}
 use Rattle.ipcz_world.proofs.frames.StandingRules.{standing_rules}
-use Rattle.ipcz_world.specs.Structure.{Positions, Stands, is_outward, link_in}
-use Rattle.ipcz_world.specs.Bypasses.{BypassRecords, Stages, inner_of}
-use Rattle.ipcz_world.specs.Numbers.{ProxyNumbers, FreshNumbers}
+use Rattle.ipcz_world.specs.Structure.{link_in}
 use Rattle.ipcz_world.proofs.views.Known.{has_link-tells}
 use Rattle.ipcz_world.proofs.facts.LinkTests.{side_is, same_side-opposite}
 use Rattle.ipcz_world.proofs.frames.Draining.{is_gone-standing}

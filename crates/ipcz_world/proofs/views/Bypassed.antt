@@ -3,22 +3,12 @@ use Rattle.std.specs.Prelude.{◌≡◌, ◌⊎◌, ◌≤◌, ℕ, Bool, true, 
 use Rattle.std.proofs.Common.{arith, sym, ◌∙◌, ap, inl, inr}
 use Rattle.std.proofs.lemmas.Bool.Decides.{nat_tests}
 use Rattle.std.proofs.lemmas.Option.{same_Some}
-use Rattle.ipcz_base.specs.declared.side.Side.{Side}
-use Rattle.ipcz_base.specs.declared.side.Side.TheVariants.{A, B}
-use Rattle.ipcz_base.specs.declared.link_id.LinkId.{LinkId}
-use Rattle.ipcz_base.specs.declared.link_id.LinkId.TheVariants.{Central, Peripheral}
-use Rattle.ipcz_base.specs.declared.link_end.LinkEnd.{LinkEnd}
-use Rattle.ipcz_base.specs.Links.{has_link}
-use Rattle.ipcz_router.specs.Router.{Router, inward_edge}
-use Rattle.ipcz_world.specs.World.{World, Key, router_at}
-use Rattle.ipcz_world.specs.Books.{Books}
-use Rattle.ipcz_world.specs.Records.{Records, inner_link, bypass_of, is_begun, proxy_side, across_side}
+use Rattle.ipcz_world.proofs.Vocabulary.{Side, A, B, LinkId, Central, Peripheral, LinkEnd, has_link, Router, inward_edge, World, Key}
+use Rattle.ipcz_world.proofs.Vocabulary.{router_at, Books, Records, inner_link, bypass_of, is_begun, proxy_side, across_side, Standing}
+use Rattle.ipcz_world.proofs.Vocabulary.{view, is_attached, is_outward, inner_of, Inv}
 use Rattle.ipcz_world.proofs.frames.RecordRules.{bypass_of-inner}
-use Rattle.ipcz_world.specs.Standing.{Standing, view, is_attached}
 use Rattle.ipcz_world.proofs.frames.StandingRules.{standing_rules}
-use Rattle.ipcz_world.specs.Structure.{is_begun_router, is_outward}
-use Rattle.ipcz_world.specs.Bypasses.{inner_of}
-use Rattle.ipcz_world.specs.Inv.{Inv}
+use Rattle.ipcz_world.specs.Structure.{is_begun_router}
 use Rattle.ipcz_world.proofs.facts.LinkTests.{side_is, has_link-is}
 use Rattle.ipcz_world.proofs.facts.BegunLengths.{begun-bypass_of}
 use Rattle.ipcz_world.proofs.facts.Lengths.{view-standing}

@@ -4,26 +4,17 @@ use Rattle.std.specs.Prelude.{◌≡◌, ◌⊎◌, ◌<◌, ℕ, Bool, true, fa
 use Rattle.std.proofs.Common.{arith, ap, subst, ◌∙◌, inl, inr}
 use Rattle.std.specs.FinMap.{get-empty}
 use Rattle.std.specs.Ordering.{nat_cmp}
-use Rattle.ipcz_base.specs.declared.side.Side.{Side}
-use Rattle.ipcz_base.specs.declared.side.Side.TheVariants.{A, B}
-use Rattle.ipcz_base.specs.declared.link_id.LinkId.{LinkId}
-use Rattle.ipcz_base.specs.declared.link_id.LinkId.TheVariants.{Central, Peripheral}
-use Rattle.ipcz_base.specs.declared.link_end.LinkEnd.{LinkEnd}
-use Rattle.ipcz_base.specs.declared.descriptor.Descriptor.{Descriptor}
-use Rattle.ipcz_base.specs.declared.item.Item.{Item}
-use Rattle.ipcz_base.specs.Links.{has_link}
-use Rattle.ipcz_base.specs.Ends.{opposite_end}
-use Rattle.ipcz_edge.specs.Edge.{Edge, edge_has}
-use Rattle.ipcz_seq.specs.Queue.{Queue, item_at, queue_from}
-use Rattle.ipcz_router.specs.Router.{Router, inward_edge}
-use Rattle.ipcz_world.specs.World.{World, Key, router_at}
-use Rattle.ipcz_world.specs.Books.{Books}
-use Rattle.ipcz_world.specs.Records.{Records, side_router, side_node, side_end, terminal_descriptor, key_at, bypass_of, proxy_side}
+use Rattle.ipcz_world.proofs.Vocabulary.{Side, A, B, LinkId, Central, Peripheral, LinkEnd, Descriptor, Item, has_link, opposite_end, Edge}
+use Rattle.ipcz_world.proofs.Vocabulary.{Queue, item_at, Router, inward_edge, World, Key, router_at, Books, Records, side_router}
+use Rattle.ipcz_world.proofs.Vocabulary.{side_node, side_end, terminal_descriptor, bypass_of, proxy_side, Standing, view, view_by}
+use Rattle.ipcz_world.proofs.Vocabulary.{router_view, is_attached, taking_queue, fed_queue, Counts, Links, IsRecorded, Positions}
+use Rattle.ipcz_world.proofs.Vocabulary.{Conserved}
+use Rattle.ipcz_edge.specs.Edge.{edge_has}
+use Rattle.ipcz_seq.specs.Queue.{queue_from}
+use Rattle.ipcz_world.specs.Records.{key_at}
 use Rattle.ipcz_world.proofs.frames.RecordRules.{bypass_of-inner, record_rules}
-use Rattle.ipcz_world.specs.Standing.{View, Awaited, Waiting, Standing, Gone, view, view_by, router_view, awaited_view, is_attached}
-use Rattle.ipcz_world.specs.Standing.{taking_queue, fed_queue}
-use Rattle.ipcz_world.specs.Structure.{Counts, Links, IsRecorded, Positions, link_in}
-use Rattle.ipcz_world.specs.Whereabouts.{Conserved}
+use Rattle.ipcz_world.specs.Standing.{View, Awaited, Waiting, Gone, awaited_view}
+use Rattle.ipcz_world.specs.Structure.{link_in}
 use Rattle.ipcz_world.specs.Numbers.{IsItemUnderWay}
 use Rattle.ipcz_world.proofs.weights.Weighing.{not_in_out, not_in_in}
 use Rattle.ipcz_world.proofs.facts.LinkTests.{side_is}

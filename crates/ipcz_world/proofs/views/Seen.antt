@@ -1,15 +1,10 @@
 -- Who stands at a link's side where one router changes and its links don't.
 use Rattle.std.specs.Prelude.{◌≡◌, ◌⊎◌, Bool, true, false, Option, Some, None, refl}
 use Rattle.std.proofs.Common.{arith, ◌∙◌, inl, inr}
-use Rattle.ipcz_base.specs.declared.side.Side.{Side}
-use Rattle.ipcz_base.specs.declared.side.Side.TheVariants.{A, B}
-use Rattle.ipcz_base.specs.declared.link_id.LinkId.{LinkId}
-use Rattle.ipcz_base.specs.declared.link_id.LinkId.TheVariants.{Central, Peripheral}
-use Rattle.ipcz_router.specs.Router.{Router}
-use Rattle.ipcz_world.specs.World.{World, Key, same_key, router_at}
+use Rattle.ipcz_world.proofs.Vocabulary.{Side, A, B, LinkId, Central, Peripheral, Router, World, Key, same_key, router_at, Records}
+use Rattle.ipcz_world.proofs.Vocabulary.{side_router, side_end, terminal_descriptor, Standing, view, view_by, router_view, is_attached}
 use Rattle.ipcz_world.proofs.frames.Frames.{same_key_tells}
-use Rattle.ipcz_world.specs.Records.{Records, side_router, side_end, terminal_descriptor}
-use Rattle.ipcz_world.specs.Standing.{Standing, Gone, view, view_by, router_view, awaited_view, is_attached}
+use Rattle.ipcz_world.specs.Standing.{Gone, awaited_view}
 use Rattle.ipcz_world.proofs.frames.Touching.{IsTouched, IsAlike}
 
 pub attached_same : (r y : Router) → IsAlike r y → (link : LinkId) (s : Side) → is_attached link s y ≡ is_attached link s r

@@ -2,18 +2,9 @@
 use Rattle.std.specs.Prelude.{◌≡◌, ◌⊎◌, ◌≤◌, ℕ, Bool, true, false, cond, ◌&&◌, nat_eq, Option, Some, None, is_some, refl}
 use Rattle.std.proofs.Common.{arith, sym, inl, inr}
 use Rattle.std.proofs.lemmas.Bool.Decides.{nat_tests}
-use Rattle.ipcz_base.specs.declared.side.Side.{Side}
-use Rattle.ipcz_base.specs.declared.side.Side.TheVariants.{B}
-use Rattle.ipcz_base.specs.declared.link_id.LinkId.{LinkId}
-use Rattle.ipcz_base.specs.declared.link_id.LinkId.TheVariants.{Central}
-use Rattle.ipcz_base.specs.declared.message.Message.{Message}
+use Rattle.ipcz_world.proofs.Vocabulary.{Side, B, LinkId, Central, Message, same_side, same_link, World, Records, side_node, bypass_of}
+use Rattle.ipcz_world.proofs.Vocabulary.{is_begun, proxy_side, across_side, IsUnderWay, Told, of_bypass, control_weight, inner_of}
 use Rattle.ipcz_base.specs.declared.message.Message.TheVariants as messages
-use Rattle.ipcz_base.specs.Sides.{same_side}
-use Rattle.ipcz_base.specs.Links.{same_link}
-use Rattle.ipcz_world.specs.World.{World}
-use Rattle.ipcz_world.specs.Records.{Records, side_node, bypass_of, is_begun, proxy_side, across_side}
-use Rattle.ipcz_world.specs.Flows.{IsUnderWay}
-use Rattle.ipcz_world.specs.Bypasses.{Told, of_bypass, control_weight, inner_of}
 use Rattle.ipcz_world.specs.Laws.{names_old}
 use Rattle.ipcz_world.proofs.facts.Lengths.{same_side-tells, same_link-itself, same_link-tells, same_side-itself}
 use Rattle.ipcz_world.proofs.flows.Flowing.{weighed}

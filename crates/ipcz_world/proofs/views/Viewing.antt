@@ -1,18 +1,13 @@
 -- What a link's side shows before and after a router has changed its links and flags.
 use Rattle.std.specs.Prelude.{◌≡◌, ◌≢◌, ◌⊎◌, Bool, true, false, if◌then◌else◌, Option, Some, None, option_map, refl}
 use Rattle.std.proofs.Common.{arith, ap, ◌∙◌, inl, inr}
-use Rattle.ipcz_base.specs.declared.side.Side.{Side}
-use Rattle.ipcz_base.specs.declared.side.Side.TheVariants.{A, B}
-use Rattle.ipcz_base.specs.declared.end.End.{End}
-use Rattle.ipcz_base.specs.declared.link_id.LinkId.{LinkId}
-use Rattle.ipcz_base.specs.declared.link_id.LinkId.TheVariants.{Central, Peripheral}
-use Rattle.ipcz_router.specs.Router.{Router}
-use Rattle.ipcz_world.specs.World.{World, Key, same_key, router_at}
+use Rattle.ipcz_world.proofs.Vocabulary.{Side, A, B, End, LinkId, Central, Peripheral, Router, World, Key, same_key, router_at, Records}
+use Rattle.ipcz_world.proofs.Vocabulary.{side_router, side_end, terminal_descriptor, Standing, is_attached, router_view, view_by, view}
+use Rattle.ipcz_world.proofs.Vocabulary.{sending_queue, fed_queue, next_sent, taking_queue, is_gone, is_awaited, passes, key_passes}
+use Rattle.ipcz_world.proofs.Vocabulary.{standing_router}
 use Rattle.ipcz_world.proofs.frames.Frames.{same_key_tells}
-use Rattle.ipcz_world.specs.Records.{Records, side_router, side_end, terminal_descriptor}
-use Rattle.ipcz_world.specs.Standing.{View, Standing, Gone, is_attached, router_view, awaited_view, view_by, view, sending_queue, fed_queue}
-use Rattle.ipcz_world.specs.Standing.{next_sent, taking_queue, may_have_sent, is_gone, is_awaited, passes, key_passes}
-use Rattle.ipcz_world.specs.Numbers.{standing_router}
+use Rattle.ipcz_world.specs.Standing.{View, Gone, awaited_view}
+use Rattle.ipcz_world.specs.Standing.{may_have_sent}
 use Rattle.ipcz_world.proofs.frames.Unmoved.{IsLike, Changed, Agree, side_end-agree}
 
 -- two views of a link's side that show the same but for the router's links and flags

@@ -6,25 +6,17 @@ use Rattle.std.specs.Cmp.{nat_cmp_total}
 use Rattle.std.specs.FinMap.{empty, get-insert, nat_cmp-IsAntisymmetric}
 use Rattle.std.proofs.Common.{arith, ap, subst, ◌∙◌, sym, inl, inr}
 use Rattle.std.proofs.lemmas.Bool.Decides.{nat_tests}
-use Rattle.ipcz_base.specs.declared.end.End.{End}
-use Rattle.ipcz_base.specs.declared.descriptor.Descriptor.{Descriptor}
-use Rattle.ipcz_base.specs.declared.item.Item.{Item}
+use Rattle.ipcz_world.proofs.Vocabulary.{End, Descriptor, Item, Message, opposite_end, same_end, total, total_list, Queue, item_at}
+use Rattle.ipcz_world.proofs.Vocabulary.{Router, World, Key, router_at, Books, read, Records, At, IsUnderWay, of_end, moves_of, Weight}
+use Rattle.ipcz_world.proofs.Vocabulary.{in_router, at_end, Conserved}
 use Rattle.ipcz_base.specs.declared.item.Item.TheVariants.{Mark}
-use Rattle.ipcz_base.specs.declared.message.Message.{Message}
-use Rattle.ipcz_base.specs.Ends.{opposite_end, same_end}
-use Rattle.ipcz_base.specs.Totals.{total, total_list}
 use Rattle.ipcz_base.proofs.Totals.{total-remove, total-empty}
-use Rattle.ipcz_seq.specs.Queue.{Queue, IsReach, reach, item_at, push_at}
-use Rattle.ipcz_router.specs.Router.{Router}
+use Rattle.ipcz_seq.specs.Queue.{IsReach, reach, push_at}
 use Rattle.ipcz_base.specs.Items.{is_mark}
-use Rattle.ipcz_world.specs.World.{World, Key, router_at}
-use Rattle.ipcz_world.specs.Books.{Books, read, has_mark}
-use Rattle.ipcz_world.specs.Records.{Records, At}
-use Rattle.ipcz_world.specs.Flows.{IsUnderWay, of_end, moves_of}
-use Rattle.ipcz_world.specs.Places.{Weight, in_router, at_end, from_number}
+use Rattle.ipcz_world.specs.Books.{has_mark}
+use Rattle.ipcz_world.specs.Places.{from_number}
 use Rattle.ipcz_world.proofs.weights.OfRecords.{in_places}
 use Rattle.ipcz_world.specs.Bypasses.{Moves, move_weight}
-use Rattle.ipcz_world.specs.Whereabouts.{Conserved}
 use Rattle.ipcz_world.proofs.flows.Flowing.{weighed}
 use Rattle.ipcz_world.proofs.weights.Weighing.{in_places-set_router, in_router-is, of_number}
 use Rattle.ipcz_world.proofs.facts.Reaching.{is_reach, reach_one}

@@ -4,18 +4,11 @@ use Rattle.std.specs.Prelude.{◌≡◌, ◌≢◌, ◌⊎◌, ◌≤◌, ◌<�
 use Rattle.std.specs.Prelude.{◌∷◌, ◌++◌}
 use Rattle.std.proofs.Common.{arith, ap, ◌∙◌, sym, inl, inr}
 use Rattle.std.proofs.lemmas.Bool.Decides.{nat_tests}
-use Rattle.ipcz_base.specs.declared.side.Side.{Side}
-use Rattle.ipcz_base.specs.declared.side.Side.TheVariants.{A, B}
-use Rattle.ipcz_base.specs.declared.end.End.{End}
-use Rattle.ipcz_base.specs.Ends.{opposite_end, same_end, has_end}
-use Rattle.ipcz_base.specs.Sides.{opposite}
-use Rattle.ipcz_node.specs.Node.{Node, EndSet, with_ends, without_ends, holds_end}
+use Rattle.ipcz_world.proofs.Vocabulary.{Side, A, B, End, opposite_end, same_end, has_end, opposite, Node, World, node_at, times}
+use Rattle.ipcz_world.proofs.Vocabulary.{total_below, times_held}
+use Rattle.ipcz_node.specs.Node.{EndSet, with_ends, without_ends, holds_end}
 use Rattle.ipcz_node.proofs.Held.{contains-with_ends, contains-without_ends}
 use Rattle.ipcz_node.specs.Calls.{are_held_once}
-use Rattle.ipcz_world.specs.World.{World, node_at}
-use Rattle.ipcz_world.specs.Places.{times}
-use Rattle.ipcz_base.specs.Totals.{total_below}
-use Rattle.ipcz_world.specs.Whereabouts.{times_held}
 use Rattle.ipcz_world.proofs.frames.Changing.{IsNodeChanged}
 use Rattle.ipcz_world.proofs.flows.Flowing.{total_below-swap, total_below-has}
 use Rattle.ipcz_world.proofs.weights.Booking.{end_tells, flag}

@@ -7,16 +7,10 @@ use Rattle.std.specs.FinMap.{insert}
 use Rattle.std.specs.Ordering.{nat_cmp}
 use Rattle.std.specs.Cmp.{nat_cmp_total}
 use Rattle.std.specs.FinMap.{nat_cmp-IsAntisymmetric}
-use Rattle.ipcz_base.specs.declared.message.Message.{Message}
-use Rattle.ipcz_base.specs.Totals.{total}
+use Rattle.ipcz_world.proofs.Vocabulary.{Message, total, Router, Node, router_in, World, Key, node_at, mail_at, way, router_at, Records}
+use Rattle.ipcz_world.proofs.Vocabulary.{Weight, in_router, total_below, total_list}
 use Rattle.ipcz_base.proofs.Totals.{total-insert}
-use Rattle.ipcz_router.specs.Router.{Router}
-use Rattle.ipcz_node.specs.Node.{Node, router_in}
 use Rattle.ipcz_world.specs.declared.mail.Mail.TheVariants as mails
-use Rattle.ipcz_world.specs.World.{World, Key, node_at, mail_at, way, router_at}
-use Rattle.ipcz_world.specs.Records.{Records}
-use Rattle.ipcz_world.specs.Places.{Weight, in_router}
-use Rattle.ipcz_base.specs.Totals.{total_below, total_list}
 use Rattle.ipcz_world.proofs.weights.OfRecords.{in_message, in_node, in_places}
 use Rattle.ipcz_world.proofs.weights.Totalling.{total_below-one}
 use Rattle.ipcz_world.proofs.flows.Handing.{handed_on, handed, under_way-handed_on, under_way-handed, count-handed_on, count-handed}

@@ -2,9 +2,7 @@
 use Rattle.std.specs.Prelude.{◌≡◌, ◌≤◌, ◌<◌, ℕ, zero, suc, ◌+◌, true, false, cond, nat_eq, Some, List, [], ◌∷◌, slice_get, refl}
 use Rattle.std.proofs.Common.{arith}
 use Rattle.std.proofs.lemmas.Bool.Decides.{nat_tests}
-use Rattle.ipcz_base.specs.declared.item.Item.{Item}
-use Rattle.ipcz_base.specs.Indexed.{place_at}
-use Rattle.ipcz_base.specs.Totals.{total_below, total_list}
+use Rattle.ipcz_world.proofs.Vocabulary.{Item, place_at, total_below, total_list}
 use Rattle.ipcz_world.specs.Places.{from_number}
 
 -- a list has at least the weight of each of its elements

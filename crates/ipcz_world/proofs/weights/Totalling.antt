@@ -2,8 +2,7 @@
 use Rattle.std.specs.Prelude.{◌≡◌, ◌<◌, ℕ, zero, suc, ◌+◌, Bool, true, false, ◌&&◌, nat_eq, List, [], ◌∷◌, ◌++◌, refl}
 use Rattle.std.proofs.Common.{arith}
 use Rattle.std.proofs.lemmas.Bool.Decides.{nat_tests}
-use Rattle.ipcz_base.specs.Indexed.{place_at, put_place}
-use Rattle.ipcz_base.specs.Totals.{total_list, total_below}
+use Rattle.ipcz_world.proofs.Vocabulary.{place_at, put_place, total_list, total_below}
 
 pub total_list-append : {X : Type 0} (h : X → ℕ) (xs ys : List X) → total_list h (xs ++ ys) ≡ total_list h xs + total_list h ys
 total_list-append h [] ys = omega arith

@@ -1,5 +1,8 @@
 -- What the items in all places weigh, after each update, and that no item is in two places.
-use Rattle.ipcz_world.specs.Places.{in_message as in_message', in_node as in_node', in_places as in_places', Weight, in_router, at_end}
+use Rattle.ipcz_world.proofs.Vocabulary.{Weight, in_router, at_end, Side, LinkId, Descriptor, Item, Message, opposite_end, total}
+use Rattle.ipcz_world.proofs.Vocabulary.{total_below, total_list, Queue, item_at, Router, Node, with_router, World, Key, node_at}
+use Rattle.ipcz_world.proofs.Vocabulary.{router_at, flow, set_router, Books, read, Records, IsUnderWay, under_way, Conserved}
+use Rattle.ipcz_world.specs.Places.{in_message as in_message', in_node as in_node', in_places as in_places'}
 use Rattle.ipcz_world.specs.Places.{from_number}
 use Rattle.std.specs.Prelude.{◌≡◌, ◌≤◌, ◌<◌, ◌+◌, ℕ, Bool, true, false, cond, nat_eq, Some, None, refl, List, [], ◌∷◌, drop, slice_get}
 use Rattle.std.specs.Ordering.{nat_cmp}
@@ -7,25 +10,11 @@ use Rattle.std.specs.Cmp.{nat_cmp_total}
 use Rattle.std.specs.FinMap.{get, insert, remove, nat_cmp-IsAntisymmetric}
 use Rattle.std.proofs.Common.{arith, ap, subst, ◌∙◌, sym}
 use Rattle.std.proofs.lemmas.Bool.Decides.{nat_tests}
-use Rattle.ipcz_base.specs.declared.side.Side.{Side}
-use Rattle.ipcz_base.specs.declared.link_id.LinkId.{LinkId}
-use Rattle.ipcz_base.specs.declared.descriptor.Descriptor.{Descriptor}
-use Rattle.ipcz_base.specs.declared.item.Item.{Item}
-use Rattle.ipcz_base.specs.declared.message.Message.{Message}
 use Rattle.ipcz_base.specs.declared.message.Message.TheVariants as messages
-use Rattle.ipcz_base.specs.Ends.{opposite_end}
-use Rattle.ipcz_base.specs.Totals.{total, total_below, total_list}
 use Rattle.ipcz_base.proofs.Totals.{total-insert, total-insert_new, total-remove}
-use Rattle.ipcz_seq.specs.Queue.{Queue, item_at, push_at, pop_front}
-use Rattle.ipcz_router.specs.Router.{Router}
-use Rattle.ipcz_node.specs.Node.{Node, with_router}
-use Rattle.ipcz_world.specs.World.{World, Key, node_at, router_at, flow, set_router}
+use Rattle.ipcz_seq.specs.Queue.{push_at, pop_front}
 use Rattle.ipcz_world.proofs.frames.Frames.{frames, node-set_node, word-set_node, claimed-set_node, size-set_node, count-set_node}
-use Rattle.ipcz_world.specs.Books.{Books, read}
-use Rattle.ipcz_world.specs.Records.{Records}
 use Rattle.ipcz_world.proofs.weights.OfRecords.{source, in_message, in_node, in_places}
-use Rattle.ipcz_world.specs.Flows.{IsUnderWay, under_way}
-use Rattle.ipcz_world.specs.Whereabouts.{Conserved}
 use Rattle.ipcz_world.proofs.frames.Changing.{IsNodeChanged, flow_is}
 use Rattle.ipcz_world.proofs.flows.Flowing.{total_below-swap, weighed}
 use Rattle.ipcz_world.proofs.weights.Totalling.{total_below-same}

@@ -1,7 +1,6 @@
 use Rattle.std.proofs.Common.{◌≡◌, ap, ◌∙◌}
-use Rattle.ipcz_base.specs.Indexed.{place_at}
+use Rattle.ipcz_world.proofs.Vocabulary.{place_at, Word, empty_word}
 use Rattle.ipcz_word.specs.Layout.{word_of_bits}
-use Rattle.ipcz_word.specs.Word.{Word, empty_word}
 use Rattle.ipcz_world.specs.Coding.{WordTable, put_word, side_answer, side_after}
 use Rattle.ipcz_world.specs.WordAnswers.{word_answer, word_after}
 use Rattle.ipcz_world.proofs.code.Tables.{within, read_word, write_word}

@@ -1,5 +1,5 @@
 use Rattle.std.proofs.Common.{ap, ◌∙◌}
-use Rattle.ipcz_word.specs.Word.{open_word}
+use Rattle.ipcz_world.proofs.Vocabulary.{open_word}
 use Rattle.ipcz_world.specs.Coding.{put_word}
 use Rattle.ipcz_world.proofs.code.Tables.{within, write_word, open_number}
 use Rattle.ipcz_world.proofs.link_words.LinkWords.open.Goals as goal

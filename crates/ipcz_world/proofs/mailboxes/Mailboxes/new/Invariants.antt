@@ -1,5 +1,5 @@
 use Rattle.std.proofs.Common.{◌≡◌, replicate}
-use Rattle.ipcz_world.specs.declared.mail.Mail.TheVariants.{Empty}
+use Rattle.ipcz_world.proofs.Vocabulary.{Empty}
 use Rattle.ipcz_world.proofs.mailboxes.Mailboxes.new.Given as goal
 
 -- so many empty mailboxes were made

@@ -1,6 +1,5 @@
 use Rattle.std.proofs.Common.{ap, ◌∙◌}
-use Rattle.ipcz_base.specs.Indexed.{place_at}
-use Rattle.ipcz_node.specs.Node.{bare_node}
+use Rattle.ipcz_world.proofs.Vocabulary.{place_at, bare_node}
 use Rattle.ipcz_world.proofs.code.StatesOfNodes.{as_many, node_read}
 use Rattle.ipcz_world.proofs.nodes.Nodes.node.Goals as goal
 

@@ -1,6 +1,5 @@
 use Rattle.std.proofs.Common.{ap, refl, ◌∙◌}
-use Rattle.ipcz_base.specs.Indexed.{place_at, put_place}
-use Rattle.ipcz_node.specs.Node.{bare_node}
+use Rattle.ipcz_world.proofs.Vocabulary.{place_at, put_place, bare_node}
 use Rattle.ipcz_world.proofs.code.StatesOfNodes.{as_many, node_read, node_written}
 use Rattle.ipcz_world.proofs.nodes.Nodes.node_mut.Goals as goal
 

@@ -1,7 +1,5 @@
 use Rattle.std.proofs.Common.{◌≡◌, ℕ, Bool, subst, ap, ◌∙◌, arith}
-use Rattle.ipcz_base.specs.Indexed.{place_at}
-use Rattle.ipcz_world.specs.declared.mail.Mail.TheVariants.{Empty}
-use Rattle.ipcz_world.specs.World.{World, mail_at, way}
+use Rattle.ipcz_world.proofs.Vocabulary.{place_at, Empty, World, mail_at, way}
 use Rattle.ipcz_world.specs.Turns.{is_clear}
 use Rattle.ipcz_world.proofs.code.SeenMail.{IsGathered, gathered-none, gathered-more, gathered-all}
 use Rattle.ipcz_world.proofs.state.State.empty_from.Goals as goal

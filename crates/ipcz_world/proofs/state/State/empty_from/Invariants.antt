@@ -1,4 +1,4 @@
-use Rattle.ipcz_world.specs.World.{mail_at, way}
+use Rattle.ipcz_world.proofs.Vocabulary.{mail_at, way}
 use Rattle.ipcz_world.specs.Turns.{is_clear}
 use Rattle.ipcz_world.proofs.code.SeenMail.{IsGathered}
 use Rattle.ipcz_world.proofs.state.State.empty_from.Given as goal

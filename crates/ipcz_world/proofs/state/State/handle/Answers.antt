@@ -1,9 +1,7 @@
 use Rattle.std.proofs.Common.{◌<◌, length, subst, sym, ap, ◌∙◌}
-use Rattle.ipcz_base.specs.Indexed.{place_at, put_place}
-use Rattle.ipcz_node.specs.declared.act.Act.TheVariants.{Hand}
-use Rattle.ipcz_world.specs.declared.mail.Mail.TheVariants.{Empty, Hand as InHand}
+use Rattle.ipcz_world.proofs.Vocabulary.{place_at, put_place, Hand, Empty, World, node_at, mail_at, way}
+use Rattle.ipcz_world.specs.declared.mail.Mail.TheVariants.{Hand as InHand}
 use Rattle.ipcz_world.specs.Mailing.{put_down}
-use Rattle.ipcz_world.specs.World.{World, node_at, mail_at, way}
 use Rattle.ipcz_world.proofs.code.Taken.{has-in-hand, sender-is-node, done-hand, refused-hand, asked, hand-seen, counted, put-within}
 use Rattle.ipcz_world.specs.contracts.state.State.{the_view}
 use Rattle.ipcz_world.proofs.state.State.handle.Goals as goal

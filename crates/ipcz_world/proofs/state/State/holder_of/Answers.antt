@@ -1,8 +1,7 @@
 use Rattle.std.proofs.Common.{◌∙◌, sym, ap}
-use Rattle.ipcz_base.specs.Indexed.{place_at}
-use Rattle.ipcz_node.specs.Node.{bare_node, holds_end}
+use Rattle.ipcz_world.proofs.Vocabulary.{place_at, bare_node, World, node_at}
+use Rattle.ipcz_node.specs.Node.{holds_end}
 use Rattle.ipcz_node.proofs.Turns.{passed}
-use Rattle.ipcz_world.specs.World.{World, node_at}
 use Rattle.ipcz_world.proofs.state.State.holder_of.Goals as goal
 
 pub loop-n-preserved : goal.loop-n-preserved

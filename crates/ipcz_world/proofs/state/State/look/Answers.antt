@@ -1,7 +1,6 @@
 use Rattle.std.proofs.Common.{ap, ◌∙◌}
 use Rattle.std.proofs.lemmas.Result.{err_from_is_err_and}
-use Rattle.ipcz_base.specs.Indexed.{place_at, put_place}
-use Rattle.ipcz_world.specs.declared.mail.Mail.TheVariants.{Empty}
+use Rattle.ipcz_world.proofs.Vocabulary.{place_at, put_place, Empty}
 use Rattle.ipcz_world.specs.Mailing.{taken_up}
 use Rattle.ipcz_world.proofs.code.Taken.{look-may, refused-look, done-look, looks-to-node, mail-stays, moved}
 use Rattle.ipcz_world.proofs.state.State.look.Goals as goal

@@ -1,6 +1,5 @@
 use Rattle.std.proofs.Common.{◌≡◌, Some, None, subst, sym, ap, ◌∙◌}
-use Rattle.ipcz_node.specs.Node.{Node}
-use Rattle.ipcz_world.specs.World.{node_at}
+use Rattle.ipcz_world.proofs.Vocabulary.{Node, node_at}
 use Rattle.ipcz_world.specs.Steps.{open_on}
 use Rattle.ipcz_world.proofs.state.State.open.Goals as goal
 

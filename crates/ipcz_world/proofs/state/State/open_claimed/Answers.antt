@@ -1,8 +1,7 @@
 use Rattle.std.proofs.Common.{◌<◌, subst, sym, ap, ◌∙◌, refl}
-use Rattle.ipcz_base.specs.declared.end.End.{End}
+use Rattle.ipcz_world.proofs.Vocabulary.{End, World, node_at}
 use Rattle.ipcz_node.specs.Calls.{serials_refusal}
 use Rattle.ipcz_world.specs.declared.step.Reply.TheVariants.{Opened}
-use Rattle.ipcz_world.specs.World.{World, node_at}
 use Rattle.ipcz_world.specs.Steps.{GivesOrNoMemory, open_with}
 use Rattle.ipcz_world.specs.Soundness.{HasLengths}
 use Rattle.ipcz_world.specs.contracts.state.State.{the_view}

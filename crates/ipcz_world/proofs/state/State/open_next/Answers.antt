@@ -1,13 +1,10 @@
 use Rattle.std.proofs.Common.{◌≡◌, ◌<◌, ◌+◌, true, false, nat_lt, arith, subst, sym, ap, ◌∙◌, refl}
 use Rattle.std.proofs.lemmas.Bool.Decides.{nat_tests}
-use Rattle.ipcz_base.specs.declared.end.End.{End}
-use Rattle.ipcz_base.specs.declared.side.Side.TheVariants.{A, B}
+use Rattle.ipcz_world.proofs.Vocabulary.{End, A, B, open_word, World, node_at, set_claimed}
 use Rattle.ipcz_base.specs.Ends.{end_at}
-use Rattle.ipcz_word.specs.Word.{open_word}
 use Rattle.ipcz_world.specs.Coding.{put_word, claim_one}
 use Rattle.ipcz_node.specs.Calls.{serials_refusal, open_node}
 use Rattle.ipcz_world.specs.declared.step.Reply.TheVariants.{Opened}
-use Rattle.ipcz_world.specs.World.{World, node_at, set_claimed}
 use Rattle.ipcz_world.specs.Steps.{GivesOrNoMemory, open_with}
 use Rattle.ipcz_world.specs.Soundness.{HasLengths}
 use Rattle.ipcz_world.specs.contracts.state.State.{the_view}

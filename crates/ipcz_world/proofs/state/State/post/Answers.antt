@@ -1,7 +1,7 @@
 use Rattle.std.proofs.Common.{sym, ap, ◌∙◌}
 use Rattle.std.proofs.lemmas.Result.{err_from_is_err_and}
-use Rattle.ipcz_base.specs.Indexed.{put_place}
-use Rattle.ipcz_world.specs.declared.mail.Mail.TheVariants.{Empty, Full}
+use Rattle.ipcz_world.proofs.Vocabulary.{put_place, Empty}
+use Rattle.ipcz_world.specs.declared.mail.Mail.TheVariants.{Full}
 use Rattle.ipcz_world.proofs.code.Taken.{post-may, refused-post, done-post, posts, posts-to-node, mail-stays, moved, given}
 use Rattle.ipcz_world.proofs.state.State.post.Goals as goal
 

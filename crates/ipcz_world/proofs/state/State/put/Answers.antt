@@ -1,6 +1,6 @@
 use Rattle.std.proofs.Common.{◌≡◌, ◌<◌, subst, sym}
 use Rattle.ipcz_base.specs.declared.parcel.Parcel as parcels
-use Rattle.ipcz_world.specs.World.{World, node_at}
+use Rattle.ipcz_world.proofs.Vocabulary.{World, node_at}
 use Rattle.ipcz_world.specs.Steps.{PutGives, put_step}
 use Rattle.ipcz_world.specs.Soundness.{HasLengths}
 use Rattle.ipcz_world.specs.contracts.state.State.{the_view}

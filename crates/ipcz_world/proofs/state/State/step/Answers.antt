@@ -1,5 +1,5 @@
 use Rattle.std.proofs.Common.{◌≡◌, ap, arith}
-use Rattle.ipcz_world.specs.World.{World}
+use Rattle.ipcz_world.proofs.Vocabulary.{World}
 use Rattle.ipcz_world.proofs.code.Regular.{stranger}
 use Rattle.ipcz_world.proofs.state.State.step.Goals as goal
 

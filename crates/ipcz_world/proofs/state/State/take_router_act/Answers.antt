@@ -5,7 +5,7 @@ use Rattle.ipcz_node.specs.declared.act.Act.TheVariants.{Router}
 use Rattle.ipcz_node.specs.Acts.{act_lacks_serials}
 use Rattle.ipcz_node.specs.RoomyNodes.{IsPossibleAct}
 use Rattle.ipcz_node.specs.Node.{word_side}
-use Rattle.ipcz_world.specs.World.{node_at}
+use Rattle.ipcz_world.proofs.Vocabulary.{node_at}
 use Rattle.ipcz_world.specs.Coding.{table_answer, table_after}
 use Rattle.ipcz_world.proofs.code.Taken.{asked, link-within, router-may, answer-kind, done-router, refused-router}
 use Rattle.ipcz_world.proofs.state.State.take_router_act.Goals as goal

@@ -1,10 +1,8 @@
 use Rattle.std.proofs.Common.{◌≡◌, ◌<◌, subst, sym, ap, ◌∙◌}
 use Rattle.std.proofs.lemmas.Result.{err_from_is_err_and}
-use Rattle.ipcz_base.specs.Indexed.{place_at}
+use Rattle.ipcz_world.proofs.Vocabulary.{place_at, bare_node, World, node_at}
 use Rattle.ipcz_node.specs.Acts.{act_lacks_serials}
 use Rattle.ipcz_node.specs.RoomyNodes.{IsPossibleAct}
-use Rattle.ipcz_node.specs.Node.{bare_node}
-use Rattle.ipcz_world.specs.World.{World, node_at}
 use Rattle.ipcz_world.specs.Soundness.{HasLengths}
 use Rattle.ipcz_world.proofs.code.Taken.{refused-committed, done-committed}
 use Rattle.ipcz_world.proofs.state.State.take_wordless.Goals as goal
