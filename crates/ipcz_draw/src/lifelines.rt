@@ -47,7 +47,7 @@ fn draw_lifeline(out: &mut Writer, scene: &Scene, index: usize, router: &Router,
     draw_part(out, x, decaying, end, Class::Decaying);
 }
 
-// The name of a router, at its first row.
+// The name of a router, above where its lifeline begins, so that a message that is handed to it there has its way.
 fn draw_name(out: &mut Writer, scene: &Scene, index: usize, router: &Router)
     ensures keeps { Keeps out.old out.new }
     ensures few { Grows out.old out.new 290 }
@@ -55,7 +55,7 @@ fn draw_name(out: &mut Writer, scene: &Scene, index: usize, router: &Router)
     let x = scene.across_of(index).saturating_sub(8);
     out.begin_label(
         x,
-        scene.middle_of(router.first).saturating_add(4),
+        scene.middle_of(router.first).saturating_sub(6),
         Class::RouterName,
     );
     out.text(b"r");

@@ -11,6 +11,7 @@ mod joining;
 mod mailbox;
 mod making;
 mod namings;
+mod receivers;
 #[cfg(test)]
 mod tests;
 

@@ -12,6 +12,7 @@ use crate::messages::Message;
 use crate::messages::bypasses::{Bypass, bypasses, of_inner_link, of_old_link};
 use crate::messages::joining::joined;
 use crate::messages::namings::{Naming, namings, sole};
+use crate::messages::receivers::{Receiver, receivers};
 use crate::routers::{Router, find};
 use ipcz_lines::{Event, Kind, Line, Link, ReadLine, RouterEvent, WordStep};
 use std::alloc::{AllocError, Global};
@@ -34,6 +35,7 @@ struct Making<'a> {
     routers: Vec<Router>,
     namings: Vec<Naming>,
     bypasses: Vec<Bypass>,
+    receivers: Vec<Receiver>,
     made: Vec<Made<'a>>,
     quiet: bool,
 }
@@ -185,6 +187,12 @@ impl<'a> Making<'a> {
         }
     }
 
+    // The router that a hand was for, where the next line of a router tells.
+    fn next_to_act(&self, hand: usize) -> Option<usize> {
+        let receiver = self.receivers.iter().find(|r| r.hand == hand)?;
+        Some(receiver.router)
+    }
+
     fn ways(&mut self, message: &Message, kind: Kind, link: Link) -> Ways<'a> {
         match kind {
             Kind::Item(_) | Kind::Flush => self.item(message, kind, link),
@@ -242,7 +250,7 @@ impl<'a> Making<'a> {
             message.moves = made.moves;
         }
         if !message.unfit {
-            message.receiver = ways.receiver;
+            message.receiver = ways.receiver.or(self.next_to_act(line));
         }
         self.note_reply(&message, &ways, line)?;
         Ok(message)
@@ -325,6 +333,7 @@ pub fn messages<'a>(
         routers: Vec::from_slice(alloc, routers)?,
         namings: namings(alloc, lines, routers)?,
         bypasses: bypasses(alloc, lines, routers)?,
+        receivers: receivers(alloc, lines, routers)?,
         made: Vec::new(alloc),
         quiet: true,
     };

@@ -3,6 +3,7 @@
 use super::*;
 use crate::routers::{Router, find, routers};
 use ipcz_lines::{Kind, Link, read};
+use std::alloc::Global;
 use std::process::Abort;
 use std::test::Fail;
 
@@ -173,7 +174,7 @@ fn one_bypass_is_five_messages(rt: HostRuntime) -> Result<(), Fail> {
             Link::Central(0),
             all(2, 3, 11, 12),
             Some((0, 0)),
-            None,
+            Some((1, 0)),
         ),
         (
             0,
@@ -235,7 +236,7 @@ fn a_waiting_side_is_woken_by_a_flush(rt: HostRuntime) -> Result<(), Fail> {
             Link::Central(0),
             all(2, 3, 13, 14),
             Some((0, 0)),
-            None,
+            Some((1, 0)),
         ),
         (
             0,
@@ -336,5 +337,67 @@ fn stubs_show_what_no_run_makes(rt: HostRuntime) -> Result<(), Fail> {
     assert_eq!(rt; messages[3].unfit, true);
     assert_eq!(rt; messages[4].from, None);
     assert_eq!(rt; lines_of(&messages[4]), [None, None, None, Some(7)]);
+    Ok(())
+}
+
+// The router that the first message is known to be for.
+fn first_receiver(alloc: Global, transcript: &[u8]) -> Option<(u8, u64)> {
+    let lines = read(alloc, transcript).ok()?;
+    let routers = routers(alloc, lines.as_slice()).ok()?;
+    let messages = messages(alloc, lines.as_slice(), routers.as_slice()).ok()?;
+    name_of(routers.as_slice(), messages.first()?.receiver)
+}
+
+// A flush whose link no router names; its receiver is the only flagged router, or else isn't known.
+#[test]
+fn the_only_flagged_router_is_the_receiver(rt: HostRuntime) -> Result<(), Fail> {
+    for (transcript, want) in [
+        (
+            b"n1: look 0\nn1: hand Flush C2\nn1: r4 rest\n".as_slice(),
+            Some((1, 4)),
+        ),
+        (
+            b"unsettled\nn1: idle\nn1: look 0\nn1: hand Flush C2\nn0: r1 rest\nn1: r4 rest\n",
+            Some((1, 4)),
+        ),
+        (
+            b"put 0>1 0\nn1: look 0\nn1: hand Flush C2\nn1: r4 rest\n",
+            Some((1, 4)),
+        ),
+        (
+            b"put 1>0 0\nn1: look 0\nn1: hand Flush C2\nn1: r4 rest\n",
+            None,
+        ),
+        (
+            b"get x 0 [0>1] \"\"\nput 0>1 0\nn1: look 0\nn1: hand Flush C2\nn1: r4 rest\n",
+            None,
+        ),
+        (
+            b"n1: look 0\nn1: hand Flush C2\nput x 0\nn1: r4 rest\n",
+            None,
+        ),
+        (
+            b"n1: look 0\nn1: hand Flush C2\nn1: close 3A\nn1: r4 rest\n",
+            None,
+        ),
+        (
+            b"n1: look 0\nn1: hand Flush C2\nn1: look 0\nn1: hand Flush C3\nn1: r4 rest\n",
+            None,
+        ),
+        (
+            b"n1: look 0\nn1: hand Flush C2\nsettled\nn1: r4 rest\n",
+            None,
+        ),
+        (
+            b"unsettled\nn1: look 0\nn1: hand Flush C2\nn1: r4 rest\n",
+            None,
+        ),
+        (
+            b"n1: look 0\nn1: hand Flush C2 dropped\nn1: r4 rest\n",
+            None,
+        ),
+    ] {
+        assert_eq!(rt; first_receiver(rt.alloc(), transcript), want);
+    }
     Ok(())
 }
