@@ -1,4 +1,5 @@
 pub mod CommandCount
+pub mod Each
 pub mod EndKeys
 pub mod JsonLists
 pub mod KnownBytes

@@ -29,7 +29,7 @@ use Rattle.ipcz_script.specs.declared.command.Command.{Command}
 use Rattle.ipcz_script.specs.declared.command.Command.TheVariants as commands
 use Rattle.ipcz_script.specs.declared.said.Said.{Said}
 use Rattle.ipcz_script.specs.declared.said.Said.TheVariants as said
-use Rattle.ipcz_script.specs.Sessions.{Session, Replied, Runs, SettlesTo, TurnsTo, AreTurns, bind_pair, bind_pairs, ends_from, answer_to}
+use Rattle.ipcz_script.specs.Sessions.{Session, Replied, Runs, SettlesTo, TurnsTo, AreTurns, bind_pair, bind_pairs, ends_of, answer_to}
 use Rattle.ipcz_script.specs.Sessions.{if_held, if_known, is_idle_reply, is_turn, name_pair, nameless, new_session, replied_open}
 use Rattle.ipcz_script.specs.Sessions.{with_world}
 use Rattle.ipcz_script.specs.Transcript.{Answered, AreAnswered}
@@ -250,7 +250,7 @@ module _ (nodes words : ℕ) (s : Session) (puts gots : Parcels) (at : Kept node
   kept-command (commands.Put name text attached) answer t is =
       given (commands.Put name text attached) _ answer t is.0 is.1
       (at-known (commands.Put name text attached) (get s.names name) _ (still (commands.Put name text attached) said.UnknownName refl refl)
-      (λ end bound. at-known (commands.Put name text attached) (ends_from s.names [] attached) _
+      (λ end bound. at-known (commands.Put name text attached) (ends_of s.names attached) _
       (still (commands.Put name text attached) said.UnknownName refl refl)
       (λ ends known. at-held (commands.Put name text attached) (holder_of s.world end) _
       (still (commands.Put name text attached) said.Away refl refl)
@@ -441,7 +441,7 @@ module _ (nodes words : ℕ) (s : Session) (earlier : List Answered) (at : Kept 
   count-command (commands.Put name text attached) answer t is =
       subst (IsCount earlier s.names (commands.Put name text attached)) (sym is.0)
       (count-known (commands.Put name text attached) (get s.names name) _ tt
-      (λ end bound. count-known (commands.Put name text attached) (ends_from s.names [] attached) _ tt
+      (λ end bound. count-known (commands.Put name text attached) (ends_of s.names attached) _ tt
       (λ ends known. count-held (commands.Put name text attached) (holder_of s.world end) _ tt
       (λ n there. count-put name text attached end ends n (first_step s.world (steps.Put n end text ends)).reply _ bound there
       (plain (steps.Put n end text ends) refl)))))

@@ -21,7 +21,7 @@ use Rattle.ipcz_world.specs.Books.{Books, add_put, add_got, advance, after_disca
 use Rattle.ipcz_world.proofs.facts.LinkTests.{same_end-tells}
 use Rattle.ipcz_script.specs.declared.command.Command.TheVariants as commands
 use Rattle.ipcz_script.specs.Bindings.{Bindings}
-use Rattle.ipcz_script.specs.Sessions.{ends_from, answer_to}
+use Rattle.ipcz_script.specs.Sessions.{ends_of, answer_to}
 use Rattle.ipcz_script.specs.ScriptBooks.{got_said, parcel_of, parcels_in, put_said}
 
 -- ---- parcels among items
@@ -149,7 +149,7 @@ open-said w b n names first second (replies.Refused why) = nothing-more b
 
 pub put-said : (w : World) (b : Books) (n : ℕ) (names : Bindings) (at text : List ℕ) (attached : List (List ℕ)) (end : End)
     (ends : List End)
-    (reply : Reply) → get names at ≡ Some end → ends_from names [] attached ≡ Some ends →
+    (reply : Reply) → get names at ≡ Some end → ends_of names attached ≡ Some ends →
     Adds b (advance w b (steps.Put n end text ends) reply) (put_said names (commands.Put at text attached) (answer_to reply))
     (got_said names (commands.Put at text attached) (answer_to reply))
 unfolding advance put_said got_said answer_to

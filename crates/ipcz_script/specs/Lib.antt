@@ -1,4 +1,5 @@
 pub mod Bindings
+pub mod Each
 pub mod EventTexts
 pub mod Faults
 pub mod Lines

@@ -13,7 +13,7 @@ use Rattle.ipcz_script.specs.declared.command.Command.TheVariants as commands
 use Rattle.ipcz_script.specs.declared.said.Said.{Said}
 use Rattle.ipcz_script.specs.declared.said.Said.TheVariants as said
 use Rattle.ipcz_script.specs.Bindings.{Bindings}
-use Rattle.ipcz_script.specs.Sessions.{ends_from}
+use Rattle.ipcz_script.specs.Sessions.{ends_of}
 use Rattle.ipcz_script.specs.Transcript.{Answered}
 
 -- whether a name is bound to this end
@@ -22,7 +22,7 @@ is_bound names name e = option_map_or (same_end e) (get names name) false
 
 -- the parcel of this text and the ends that these names are bound to
 abbrev pub parcel_of : Bindings → List ℕ → List (List ℕ) → parcels.Parcel
-parcel_of names text attached = record { bytes = text; ends = unwrap_or (ends_from names [] attached) [] }
+parcel_of names text attached = record { bytes = text; ends = unwrap_or (ends_of names attached) [] }
 
 -- the parcel that an end has put, where that is what a command and its answer say
 unfoldable pub put_said : Bindings → Command → Said → End → List parcels.Parcel

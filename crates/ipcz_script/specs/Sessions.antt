@@ -4,7 +4,6 @@ use Rattle.std.specs.Fmt.{decimal}
 use Rattle.std.specs.FinMap.{get, insert, empty}
 use Rattle.ipcz_base.specs.declared.side.Side.TheVariants.{A, B}
 use Rattle.ipcz_base.specs.declared.end.End.{End}
-use Rattle.std.specs.Option.{option_map_or}
 use Rattle.ipcz_base.specs.declared.refusal.Refusal.TheVariants.{OutOfMemory, NumbersEnd}
 use Rattle.ipcz_base.specs.Ends.{end_at}
 use Rattle.ipcz_node.specs.FirstPairs.{first_pairs}
@@ -23,6 +22,7 @@ use Rattle.ipcz_script.specs.declared.command.Command.TheVariants as commands
 use Rattle.ipcz_script.specs.declared.said.Said.{Said}
 use Rattle.ipcz_script.specs.declared.said.Said.TheVariants as said
 use Rattle.ipcz_script.specs.Bindings.{Bindings, Titles}
+use Rattle.ipcz_script.specs.Each.{each_of}
 
 -- the world, the ends that names are bound to, and the names that ends have
 pub record Session : Type 0 where
@@ -97,10 +97,9 @@ unfoldable pub if_held : Session → Option ℕ → (ℕ → Replied) → Replie
 if_held s None call = record { said = said.Away; session = s }
 if_held s (Some node) call = call node
 
--- the ends that these names are bound to, behind those so far, where each is bound
-abbrev pub ends_from : Bindings → List End → List (List ℕ) → Option (List End)
-ends_from names before [] = Some before
-ends_from names before (n ∷ ns) = option_map_or (λ end. ends_from names (before ++ end ∷ []) ns) (get names n) None
+-- the ends that these names are bound to, where each is bound
+abbrev pub ends_of : Bindings → List (List ℕ) → Option (List End)
+ends_of names attached = each_of (get names) attached
 
 -- a step at the node whose callers hold the end
 abbrev pub replied_at : Session → End → (ℕ → Step) → Replied
@@ -110,7 +109,7 @@ replied_at s end step = if_held s (holder_of s.world end) (λ node. replied_step
 abbrev pub replied_put : Session → List ℕ → List ℕ → List (List ℕ) → Replied
 replied_put s at text attached =
     if_known s (get s.names at)
-    (λ end. if_known s (ends_from s.names [] attached) (λ ends. replied_at s end (λ node. steps.Put node end text ends)))
+    (λ end. if_known s (ends_of s.names attached) (λ ends. replied_at s end (λ node. steps.Put node end text ends)))
 
 -- a get
 abbrev pub replied_get : Session → List ℕ → Replied

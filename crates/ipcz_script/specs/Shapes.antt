@@ -1,11 +1,11 @@
 -- Which command a JSON value is.
-use Rattle.std.specs.Prelude.{ℕ, ◌-◌, ◌&&◌, List, [], ◌∷◌, ◌++◌, Bool, not, nat_le, bytes_eq, codes, if◌then◌else◌, Option, Some, None}
+use Rattle.std.specs.Prelude.{ℕ, ◌-◌, ◌&&◌, List, [], ◌∷◌, Bool, not, nat_le, bytes_eq, codes, if◌then◌else◌, Option, Some, None}
 use Rattle.std.specs.Prelude.{option_and_then, option_map}
-use Rattle.std.specs.Option.{option_map_or}
 use Rattle.serde_json.specs.Data.{Data, Items, no_items, item}
 use Rattle.serde_json.specs.Find.{as_array, as_number, as_str, as_u64}
 use Rattle.ipcz_script.specs.declared.command.Command.{Command}
 use Rattle.ipcz_script.specs.declared.command.Command.TheVariants.{Open, Put, Get, Close, Turn, Settle, Show}
+use Rattle.ipcz_script.specs.Each.{each_of}
 use Rattle.ipcz_script.specs.ScriptNames.{is_name, has_angle}
 
 -- the values of an array, as a list
@@ -39,14 +39,9 @@ abbrev pub open_of : Option ℕ → Option (List ℕ) → Option (List ℕ) → 
 open_of (Some node) (Some first) (Some second) = if bytes_eq first second then None else Some (Open node first second)
 open_of _ _ _ = None
 
--- the names that these values are, behind those so far, where each is one
-abbrev pub names_from : List (List ℕ) → List Data → Option (List (List ℕ))
-names_from before [] = Some before
-names_from before (d ∷ ds) = option_map_or (λ name. names_from (before ++ name ∷ []) ds) (name_in d) None
-
--- the names in a list
+-- the names in a list, where each of its values is one
 abbrev pub names_in : Data → Option (List (List ℕ))
-names_in d = option_and_then (names_from []) (values_of d)
+names_in d = option_and_then (each_of name_in) (values_of d)
 
 -- a put, where the name is one, the data is a text and the list is one of names
 abbrev pub put_of : Option (List ℕ) → Option (List ℕ) → Option (List (List ℕ)) → Option Command

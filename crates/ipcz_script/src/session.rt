@@ -3,7 +3,7 @@ ghost use Rattle.std.specs.FinMap.{get};
 ghost use Rattle.ipcz_node.specs.FirstPairs.{pairs_from, first_pairs_from};
 ghost use Rattle.ipcz_world.specs.Lawful.{IsWithinLimits};
 ghost use Rattle.ipcz_world.specs.Steps.{first_step};
-ghost use Rattle.ipcz_script.specs.Sessions.{AreTurns, Is, Runs, SettlesTo, TurnsTo, bind, bind_pair, bind_pairs, ends_from, answer_to};
+ghost use Rattle.ipcz_script.specs.Sessions.{AreTurns, Is, Runs, SettlesTo, TurnsTo, bind, bind_pair, bind_pairs, ends_of, answer_to};
 ghost use Rattle.ipcz_script.specs.Sessions.{is_idle_reply, is_turn, is_want, new_session, replied_close, replied_get, replied_open};
 ghost use Rattle.ipcz_script.specs.Sessions.{replied_put, with_world};
 ghost use Rattle.ipcz_world.specs.Holding.{shown_words};
@@ -135,7 +135,7 @@ impl Session {
 
     // The ends that these names are bound to, or none where one of them isn't bound.
     fn ends_of(&self, names: &[Text]) -> Result<Option<Ends>, AllocError>
-        ensures { IfOk result (λ ends. ends ≡ ends_from self.now.names [] names.now) }
+        ensures { IfOk result (λ ends. ends ≡ ends_of self.now.names names.now) }
     {
         let mut ends = Vec::new(self.alloc);
         for name in names {

@@ -3,8 +3,9 @@ ghost use Rattle.std.specs.List.{list_all};
 ghost use Rattle.std.specs.FinSet.{contains};
 ghost use Rattle.serde_json.specs.View.{view};
 ghost use Rattle.serde_json.specs.Find.{as_str};
+ghost use Rattle.ipcz_script.specs.Each.{each_of};
 ghost use Rattle.ipcz_script.specs.ScriptNames.{is_name, is_name_byte, has_angle};
-ghost use Rattle.ipcz_script.specs.Shapes.{values_of, number_within, name_in, new_name_in, names_from, names_in, open_in, put_of, put_in};
+ghost use Rattle.ipcz_script.specs.Shapes.{values_of, number_within, name_in, new_name_in, names_in, open_in, put_of, put_in};
 ghost use Rattle.ipcz_script.specs.Shapes.{get_in, close_in, turn_in, settle_in, show_in, command_named, command_in};
 
 use crate::command::Command;
@@ -110,7 +111,7 @@ fn open_in(
 
 // The names that these values are, or none where one of them is no name.
 fn names_from(alloc: Global, values: &[Value]) -> Result<Option<Sequence<Text>>, AllocError>
-    ensures { IfOk result (λ names. names ≡ names_from [] (map view values.now)) }
+    ensures { IfOk result (λ names. names ≡ each_of name_in (map view values.now)) }
 {
     let mut names = Vec::new(alloc);
     for value in values {
