@@ -1,3 +1,4 @@
 pub mod Following
 pub mod Joining
 pub mod KnownBytes
+pub mod Sizing

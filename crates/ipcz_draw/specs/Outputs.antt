@@ -10,6 +10,7 @@ use Rattle.ipcz_draw.specs.declared.fault.Fault.{Fault}
 use Rattle.ipcz_draw.specs.declared.fault.Fault.TheVariants as faults
 use Rattle.ipcz_lines.specs.Lines.{IsRead, IsRefused}
 use Rattle.ipcz_draw.specs.Rows.{IsPicture}
+use Rattle.ipcz_draw.specs.Sizes.{IsBounded}
 use Rattle.ipcz_draw.specs.WholeIo.{AppendsFront, ConsumesAtMost}
 
 -- the lines that say why there is no picture: too many bytes, or a line that is none of a transcript
@@ -23,9 +24,9 @@ bad_line n = codes "refused line " ++ decimal n ++ (codes ": not a line of a tra
 abbrev pub refused_line : ℕ → List ℕ
 refused_line n = if n == 0 then long_line else bad_line n
 
--- what is written for these bytes: a picture of the lines that they are, or the one line that says which line is refused
+-- what is written for these bytes: a picture of the lines that they are, of a size that is linear in theirs, or the one line that says which line is refused
 abbrev pub IsOutput : List ℕ → Ending → List ℕ → Type 0
-IsOutput input endings.Drawn text = (read : List ReadLine) × IsRead input read × IsPicture read text
+IsOutput input endings.Drawn text = (read : List ReadLine) × IsRead input read × IsPicture read text × IsBounded input read text
 IsOutput input (endings.Refused n) text = IsRefused input (unread.Refused n) × (text ≡ refused_line n)
 
 -- the bytes that were read: all there are, or one more than a transcript may have

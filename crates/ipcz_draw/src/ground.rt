@@ -80,6 +80,7 @@ fn draw_lines_ground(out: &mut Writer, scene: &Scene)
 /// What everything else stands on.
 pub fn draw_ground(out: &mut Writer, scene: &Scene)
     ensures keeps { Keeps out.old out.new }
+    ensures few { Grows out.old out.new (1100 + 1400 * length scene.now.nodes.items + 400 * length scene.now.lines.now) }
 {
     out.rect(
         0,

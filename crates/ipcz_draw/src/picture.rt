@@ -3,7 +3,9 @@
 ghost use Rattle.std.specs.Prelude.{◌≡◌, ◌++◌, ◌+◌, ◌*◌, ◌^◌, ◌≤◌, ◌<◌, ◌∷◌, [], List, ℕ, length, map, IfOk};
 ghost use Rattle.ipcz_markup.specs.declared.writer.Tag.{Tag};
 ghost use Rattle.ipcz_markup.specs.Markup.{Grows, InTag, InText, Keeps, KeepsTag, Row, Stands};
+ghost use Rattle.std.specs.List.{sum_by};
 ghost use Rattle.ipcz_draw.specs.Rows.{row_at, Follow, IsPicture};
+ghost use Rattle.ipcz_draw.specs.Sizes.{most_picture, most_row};
 
 use crate::arrows::draw_messages;
 use crate::ground::draw_ground;
@@ -81,6 +83,7 @@ fn draw_rows(out: &mut Writer, scene: &Scene, lines: &[ReadLine], placed: &[Plac
     requires follow { Follow lines.now 0 136 placed.now (length lines.now) bottom }
     ensures drawn { Stands out.old [] InText (Tag.Svg ∷ []) →
         Stands out.new (map (row_at lines.now) placed.now) InText (Tag.Svg ∷ []) }
+    ensures few { Grows out.old out.new (sum_by most_row lines.now) }
 {
     for place in placed {
         draw_row(out, scene, lines, place);
@@ -91,6 +94,7 @@ fn draw_rows(out: &mut Writer, scene: &Scene, lines: &[ReadLine], placed: &[Plac
 pub fn picture(alloc: Global, lines: &[ReadLine]) -> Result<Vec<u8>, AllocError>
     requires { length lines.now < 2 ^ 32 }
     ensures picture { IfOk result (λ text. IsPicture lines.now text.items) }
+    ensures few { IfOk result (λ text. length text.items ≤ most_picture lines.now) }
 {
     let (placed, bottom) = places(alloc, lines)?;
     let mut routers = routers(alloc, lines)?;

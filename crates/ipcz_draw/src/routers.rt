@@ -1,6 +1,6 @@
 //! The routers that a transcript names, and what their lines say of them.
 
-ghost use Rattle.std.specs.Prelude.{◌≡◌, ◌<◌, length, IfSome, IfNone};
+ghost use Rattle.std.specs.Prelude.{◌≡◌, ◌<◌, ◌≤◌, ◌+◌, length, IfSome, IfNone, IfOk, OnOk};
 ghost use Rattle.std.specs.List.{AllWithin, HoldsAt};
 
 use crate::messages::Message;
@@ -89,7 +89,9 @@ fn note_event(
     serial: u64,
     event: &RouterEvent,
     line: usize,
-) -> Result<(), AllocError> {
+) -> Result<(), AllocError>
+    ensures few { OnOk result (length routers.new.items ≤ length routers.old.items + 1) }
+{
     if let Some(i) = find(routers.as_slice(), node, serial) {
         routers[i].note(event, line);
         return Ok(());
@@ -101,7 +103,9 @@ fn note_event(
 }
 
 /// The routers, in the order in which the lines name them first.
-pub fn routers(alloc: Global, lines: &[ReadLine]) -> Result<Vec<Router>, AllocError> {
+pub fn routers(alloc: Global, lines: &[ReadLine]) -> Result<Vec<Router>, AllocError>
+    ensures few { IfOk result (λ routers. length routers.items ≤ length lines.now) }
+{
     let mut routers = Vec::new(alloc);
     for (i, read) in lines.iter().enumerate() {
         if let Line::Turn {

@@ -3,7 +3,9 @@
 ghost use Rattle.std.specs.Prelude.{◌≡◌, ◌++◌, ◌+◌, ◌*◌, ◌^◌, ◌≤◌, ◌<◌, ◌∷◌, [], List, ℕ, length, map};
 ghost use Rattle.ipcz_markup.specs.declared.writer.Tag.{Tag};
 ghost use Rattle.ipcz_markup.specs.Markup.{Grows, InText, Keeps, Row, Stands};
+ghost use Rattle.std.specs.List.{HoldsAt};
 ghost use Rattle.ipcz_draw.specs.Rows.{row_at, IsPlace};
+ghost use Rattle.ipcz_draw.specs.Sizes.{most_place};
 
 use crate::marks::draw_marks;
 use crate::rows::{Place, UNIT};
@@ -110,6 +112,7 @@ fn begin_place(out: &mut Writer, lines: &[ReadLine], place: &Place)
     requires place { IsPlace lines.now place.now }
     ensures begins { (rows : List Row) (u : Tag) (s : List Tag) → Stands out.old rows InText (u ∷ s) →
         Stands out.new (rows ++ (row_at lines.now place.now) ∷ []) InText (Tag.Title ∷ Tag.G ∷ u ∷ s) }
+    ensures few { HoldsAt (λ x. Grows out.old out.new (140 + 6 * length x.text.now)) lines.now place.now.first }
 {
     let number = place.first as u64 + 1;
     if place.count == 1 {
@@ -143,6 +146,7 @@ pub fn draw_row(out: &mut Writer, scene: &Scene, lines: &[ReadLine], place: &Pla
     requires place { IsPlace lines.now place.now }
     ensures draws { (rows : List Row) (u : Tag) (s : List Tag) → Stands out.old rows InText (u ∷ s) →
         Stands out.new (rows ++ (row_at lines.now place.now) ∷ []) InText (u ∷ s) }
+    ensures few { Grows out.old out.new (most_place lines.now place.now) }
 {
     begin_place(out, lines, place);
     out.close(Tag::Title);

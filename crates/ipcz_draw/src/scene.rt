@@ -71,14 +71,16 @@ fn nodes_of_event(event: &Event) -> u8 {
 }
 
 // How many nodes the lines name: one more than the greatest.
-fn node_count(lines: &[ReadLine]) -> u8 {
+fn node_count(lines: &[ReadLine]) -> u8
+    ensures few { result ≤ 8 }
+{
     let mut count = 0;
     for read in lines {
         if let Line::Turn { node, event } = &read.line {
             count = count.max(node.saturating_add(1)).max(nodes_of_event(event));
         }
     }
-    count
+    count.min(8)
 }
 
 // One more than the greatest word that a line tells the value of, or 0.
@@ -121,7 +123,9 @@ fn node_walls(
     lines: &[ReadLine],
     routers: &[Router],
     lanes: &[Lane],
-) -> Result<Vec<Walls>, AllocError> {
+) -> Result<Vec<Walls>, AllocError>
+    ensures few { IfOk result (λ walls. length walls.items ≤ 8) }
+{
     let mut walls = Vec::new(alloc);
     let mut left = FIRST_BAND;
     for node in 0..node_count(lines) {
@@ -157,7 +161,11 @@ impl<'a> Scene<'a> {
         lanes: &'a [Lane],
         placed: &[Place],
         bottom: u64,
-    ) -> Result<Self, AllocError> {
+    ) -> Result<Self, AllocError>
+        ensures lines { IfOk result (λ scene. scene.lines.now ≡ lines.now) }
+        ensures routers { IfOk result (λ scene. scene.routers.now ≡ routers.now) }
+        ensures nodes { IfOk result (λ scene. length scene.nodes.items ≤ 8) }
+    {
         let nodes = node_walls(alloc, lines, routers, lanes)?;
         let words = word_count(lines);
         let inner = match nodes.as_slice().last() {

@@ -4,6 +4,8 @@
 //! their order. The router of that node that names such a link is the proxy that the move left behind; the router of another
 //! node that names it was made when the item was handled.
 
+ghost use Rattle.std.specs.Prelude.{◌≡◌, length};
+
 use crate::messages::Message;
 use crate::messages::namings::{Naming, namings, sole};
 use crate::routers::Router;
@@ -66,7 +68,9 @@ fn moves(alloc: Global, lines: &[ReadLine]) -> Result<Vec<Move>, AllocError> {
     Ok(moves)
 }
 
-fn note_proxy(routers: &mut Vec<Router>, index: Option<usize>, line: usize) {
+fn note_proxy(routers: &mut Vec<Router>, index: Option<usize>, line: usize)
+    ensures { length routers.new.items ≡ length routers.old.items }
+{
     if let Some(index) = index
         && let Some(router) = routers.get_mut(index)
     {
@@ -78,7 +82,9 @@ fn note_proxy(routers: &mut Vec<Router>, index: Option<usize>, line: usize) {
     }
 }
 
-fn note_birth(routers: &mut Vec<Router>, index: Option<usize>, line: usize) {
+fn note_birth(routers: &mut Vec<Router>, index: Option<usize>, line: usize)
+    ensures { length routers.new.items ≡ length routers.old.items }
+{
     if let Some(index) = index
         && let Some(router) = routers.get_mut(index)
     {
@@ -93,7 +99,9 @@ fn carrier<'m, 'a>(messages: &'m [Message<'a>], line: usize) -> Option<&'m Messa
         && matches!(m.kind, Some(Kind::Item(_))))
 }
 
-fn note_move(routers: &mut Vec<Router>, namings: &[Naming], messages: &[Message], moved: &Move) {
+fn note_move(routers: &mut Vec<Router>, namings: &[Naming], messages: &[Message], moved: &Move)
+    ensures { length routers.new.items ≡ length routers.old.items }
+{
     let proxy = sole(namings, moved.node, moved.link, None);
     note_proxy(routers, proxy, moved.line);
     if let Some(message) = carrier(messages, moved.line)
@@ -111,7 +119,9 @@ pub fn note_births(
     lines: &[ReadLine],
     messages: &[Message],
     routers: &mut Vec<Router>,
-) -> Result<(), AllocError> {
+) -> Result<(), AllocError>
+    ensures { length routers.new.items ≡ length routers.old.items }
+{
     let namings = namings(alloc, lines, routers.as_slice())?;
     let moves = moves(alloc, lines)?;
     for moved in &moves {

@@ -1,6 +1,6 @@
 //! Which post, which look and which hand are of one message.
 
-ghost use Rattle.std.specs.Prelude.{◌≡◌, ◌<◌, None, Some, length, IfOk, IfSome, OnOk};
+ghost use Rattle.std.specs.Prelude.{◌≡◌, ◌<◌, ◌≤◌, ◌+◌, None, Some, length, IfOk, IfSome, OnOk};
 ghost use Rattle.std.specs.List.{All};
 ghost use Rattle.ipcz_draw.specs.Messages.{IsAt, IsHandOf, IsHanded, IsLooked, IsMessage, IsPosted, is_any_look, is_hand, is_look, is_post};
 
@@ -137,7 +137,8 @@ fn add_first_seen<'a>(
 ) -> Result<(), AllocError>
     requires line { line < length lines.now }
     requires messages { All (IsMessage lines.now) messages.old.items }
-    ensures { OnOk result (All (IsMessage lines.now) messages.new.items) }
+    ensures each { OnOk result (All (IsMessage lines.now) messages.new.items) }
+    ensures few { OnOk result (length messages.new.items ≤ length messages.old.items + 1) }
 {
     if let Some(message) = first_seen(lines, line, messages.as_slice(), settle) {
         messages.push(message)?;
@@ -147,7 +148,8 @@ fn add_first_seen<'a>(
 
 /// The messages of a transcript, each with its post, its look and its hand, in the order in which they came into sight.
 pub fn joined<'a>(alloc: Global, lines: &[ReadLine<'a>]) -> Result<Vec<Message<'a>>, AllocError>
-    ensures { IfOk result (λ messages. All (IsMessage lines.now) messages.items) }
+    ensures each { IfOk result (λ messages. All (IsMessage lines.now) messages.items) }
+    ensures few { IfOk result (λ messages. length messages.items ≤ length lines.now) }
 {
     let mut messages = Vec::new(alloc);
     let mut settle = None;

@@ -4,7 +4,7 @@
 //! yet: a link's two ends never change their nodes, and what goes over it stays in order. The messages of a bypass make one
 //! another, and a bypass is named by the word of its old link.
 
-ghost use Rattle.std.specs.Prelude.{◌<◌, length, IfOk, OnOk};
+ghost use Rattle.std.specs.Prelude.{◌≡◌, ◌<◌, ◌≤◌, length, IfOk, OnOk};
 ghost use Rattle.std.specs.List.{All};
 ghost use Rattle.ipcz_draw.specs.Messages.{IsMessage, KeepsWay};
 
@@ -290,7 +290,8 @@ impl<'a> Making<'a> {
     ) -> Result<(), AllocError>
         requires line { i < length lines.now }
         requires messages { All (IsMessage lines.now) messages.old.items }
-        ensures { OnOk result (All (IsMessage lines.now) messages.new.items) }
+        ensures each { OnOk result (All (IsMessage lines.now) messages.new.items) }
+        ensures few { OnOk result (length messages.new.items ≡ length messages.old.items) }
     {
         let read = &lines[i];
         match &read.line {
@@ -326,7 +327,8 @@ pub fn messages<'a>(
     lines: &[ReadLine<'a>],
     routers: &[Router],
 ) -> Result<Vec<Message<'a>>, AllocError>
-    ensures { IfOk result (λ messages. All (IsMessage lines.now) messages.items) }
+    ensures each { IfOk result (λ messages. All (IsMessage lines.now) messages.items) }
+    ensures few { IfOk result (λ messages. length messages.items ≤ length lines.now) }
 {
     let mut messages = joined(alloc, lines)?;
     let mut making = Making {

@@ -1,7 +1,21 @@
 use Rattle.std.proofs.Common.{length, arith}
+use Rattle.std.proofs.lemmas.List.Sums.{sum_by-take-le}
+use Rattle.ipcz_draw.specs.Sizes.{most_place}
 use Rattle.ipcz_draw.proofs.Following.{follow_place}
+use Rattle.ipcz_draw.proofs.Sizing.{places_in}
 use Rattle.ipcz_draw.proofs.picture.draw_rows.Goals as goal
 
 pub draw_row-requires-clause-place : goal.draw_row-requires-clause-place
 draw_row-requires-clause-place c =
     follow_place c.args.lines.now 0 136 c.args.placed.now (length c.args.lines.now) c.args.bottom c.requires.follow c.loop-place.place-index _ (omega arith)
+
+pub returns-clause-few : goal.returns-clause-few
+returns-clause-few c =
+    let lines = c.args.lines.now in
+    let placed = c.args.placed.now in
+    omega (
+      arith,
+      c.loop-place.invariant.1,
+      sum_by-take-le (most_place lines) placed c.loop-place.place-index,
+      places_in lines 0 136 placed (length lines) c.args.bottom c.requires.follow,
+    )
