@@ -9,7 +9,7 @@ use Rattle.ipcz_lines.specs.declared.line.Line.{Line}
 use Rattle.ipcz_lines.specs.declared.line.ReadLine.{ReadLine}
 use Rattle.ipcz_draw.specs.Messages.{IsAt, IsHanded, IsLooked, IsMessage, IsPosted, KeepsWay, IsNext}
 
-some_line : (read : List ReadLine) (j : ℕ) → j < length read → ReadLine
+pub some_line : (read : List ReadLine) (j : ℕ) → j < length read → ReadLine
 some_line [] j h = absurd (omega arith)
 some_line (x ∷ xs) j h = x
 
@@ -17,7 +17,7 @@ true_and_false : (b : Bool) → b ≡ true → b ≡ false → ⊥
 true_and_false b h e = cc
 
 -- a line that passes the test isn't among those that don't
-passed_over : (test : Line → Bool) (read : List ReadLine) (i k j : ℕ) → AllWithin (λ x. test x.line ≡ false) read i k → i ≤ j → j < k → IsAt test read j → ⊥
+pub passed_over : (test : Line → Bool) (read : List ReadLine) (i k j : ℕ) → AllWithin (λ x. test x.line ≡ false) read i k → i ≤ j → j < k → IsAt test read j → ⊥
 passed_over test read i k j none low high at =
     let d = some_line read j at.within in
     true_and_false (test (get_or read j d).line) (at.holds d) (none j d low high)

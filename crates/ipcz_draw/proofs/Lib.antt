@@ -1,3 +1,4 @@
+pub mod Counting
 pub mod Following
 pub mod Joining
 pub mod KnownBytes

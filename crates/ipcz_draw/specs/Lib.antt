@@ -1,4 +1,5 @@
 pub mod Devices
+pub mod Joining
 pub mod Messages
 pub mod Outputs
 pub mod Rows

@@ -1,6 +1,6 @@
 -- Which post, which look and which hand are of one message.
-use Rattle.std.specs.Prelude.{ℕ, Bool, true, false, ◌≡◌, ◌+◌, ◌<◌, ◌==◌, ◌&&◌, ◌||◌, ◌⊎◌, List, length, Option, Some, None}
-use Rattle.std.specs.List.{AllWithin, HoldsAt}
+use Rattle.std.specs.Prelude.{ℕ, Bool, true, false, ◌≡◌, ◌+◌, ◌<◌, ◌==◌, if◌then◌else◌, ◌&&◌, ◌||◌, ◌⊎◌, List, length, Option, Some, None}
+use Rattle.std.specs.List.{AllWithin, HoldsAt, sum_by}
 use Rattle.std.specs.Option.{IfSome, IfNone}
 use Rattle.ipcz_lines.specs.declared.line.Line.{Line}
 use Rattle.ipcz_lines.specs.declared.line.Line.TheVariants as lines
@@ -115,3 +115,24 @@ pub record KeepsWay (old new : Message) : Type 0 where
   pub posted_kept : new.posted ≡ old.posted
   pub looked_kept : new.looked ≡ old.looked
   pub handled_kept : new.handled ≡ old.handled
+
+-- one for the line itself, and none for another line or for none
+abbrev pub times : ℕ → Option ℕ → ℕ
+times i None = 0
+times i (Some j) = if i == j then 1 else 0
+
+-- how many of the messages were posted at a line, looked at there, and handed over there
+abbrev pub posts_at : ℕ → List Message → ℕ
+posts_at i messages = sum_by (λ m. times i m.posted) messages
+
+abbrev pub looks_at : ℕ → List Message → ℕ
+looks_at i messages = sum_by (λ m. times i m.looked) messages
+
+abbrev pub hands_at : ℕ → List Message → ℕ
+hands_at i messages = sum_by (λ m. times i m.handled) messages
+
+-- each post, each look and each hand is of one message, and of no other
+pub record AreOnce (read : List ReadLine) (messages : List Message) : Type 0 where
+  pub posts : (from to i : ℕ) → IsAt (is_post from to) read i → posts_at i messages ≡ 1
+  pub looks : (from to i : ℕ) → IsAt (is_look from to) read i → looks_at i messages ≡ 1
+  pub hands : (to i : ℕ) → IsAt (is_hand to) read i → hands_at i messages ≡ 1

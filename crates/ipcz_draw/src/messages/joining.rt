@@ -1,8 +1,10 @@
 //! Which post, which look and which hand are of one message.
 
 ghost use Rattle.std.specs.Prelude.{◌≡◌, ◌<◌, ◌≤◌, ◌+◌, None, Some, length, IfOk, IfSome, OnOk};
-ghost use Rattle.std.specs.List.{All};
-ghost use Rattle.ipcz_draw.specs.Messages.{IsAt, IsHandOf, IsHanded, IsLooked, IsMessage, IsPosted, is_any_look, is_hand, is_look, is_post};
+ghost use Rattle.std.specs.List.{All, Any};
+ghost use Rattle.std.specs.Bool.{MatchBool};
+ghost use Rattle.ipcz_draw.specs.Joining.{AreJoined, IsFirstSeen};
+ghost use Rattle.ipcz_draw.specs.Messages.{AreOnce, IsAt, IsHandOf, IsHanded, IsLooked, IsMessage, IsPosted, is_any_look, is_hand, is_look, is_post};
 
 use crate::messages::Message;
 use crate::messages::mailbox::{hand_of, is_settle, look_of, next_at_hand, next_at_mailbox};
@@ -104,6 +106,20 @@ fn handed<'a>(lines: &[ReadLine<'a>], line: usize, to: u8, settle: Option<usize>
     with_hand(lines, Message::unseen(None, to, settle), line)
 }
 
+// Whether one of the messages was looked at at a line.
+fn is_looked(messages: &[Message], line: usize) -> bool
+    ensures { MatchBool result (Any (λ m. m.looked ≡ Some line) messages.now) (All (λ m. m.looked ≡ Some line → ⊥) messages.now) }
+{
+    messages.iter().any(|m| m.looked == Some(line))
+}
+
+// Whether one of the messages was handed over at a line.
+fn is_handed(messages: &[Message], line: usize) -> bool
+    ensures { MatchBool result (Any (λ m. m.handled ≡ Some line) messages.now) (All (λ m. m.handled ≡ Some line → ⊥) messages.now) }
+{
+    messages.iter().any(|m| m.handled == Some(line))
+}
+
 // The message that comes into sight at a line.
 fn first_seen<'a>(
     lines: &[ReadLine<'a>],
@@ -112,17 +128,17 @@ fn first_seen<'a>(
     settle: Option<usize>,
 ) -> Option<Message<'a>>
     requires { line < length lines.now }
-    ensures { IfSome result (IsMessage lines.now) }
+    ensures { IsFirstSeen lines.now line messages.now result }
 {
     let Line::Turn { node, event } = lines[line].line else {
         return None;
     };
     match event {
         Event::Post { destination } => Some(posted(lines, line, node, destination)),
-        Event::Look { sender } if messages.iter().all(|m| m.looked != Some(line)) => {
+        Event::Look { sender } if !is_looked(messages, line) => {
             Some(looked(lines, line, sender, node, settle))
         }
-        Event::Hand { .. } if messages.iter().all(|m| m.handled != Some(line)) => {
+        Event::Hand { .. } if !is_handed(messages, line) => {
             Some(handed(lines, line, node, settle))
         }
         _ => None,
@@ -136,8 +152,8 @@ fn add_first_seen<'a>(
     settle: Option<usize>,
 ) -> Result<(), AllocError>
     requires line { line < length lines.now }
-    requires messages { All (IsMessage lines.now) messages.old.items }
-    ensures each { OnOk result (All (IsMessage lines.now) messages.new.items) }
+    requires messages { AreJoined lines.now line messages.old.items }
+    ensures joined { OnOk result (AreJoined lines.now (line + 1) messages.new.items) }
     ensures few { OnOk result (length messages.new.items ≤ length messages.old.items + 1) }
 {
     if let Some(message) = first_seen(lines, line, messages.as_slice(), settle) {
@@ -149,6 +165,7 @@ fn add_first_seen<'a>(
 /// The messages of a transcript, each with its post, its look and its hand, in the order in which they came into sight.
 pub fn joined<'a>(alloc: Global, lines: &[ReadLine<'a>]) -> Result<Vec<Message<'a>>, AllocError>
     ensures each { IfOk result (λ messages. All (IsMessage lines.now) messages.items) }
+    ensures once { IfOk result (λ messages. AreOnce lines.now messages.items) }
     ensures few { IfOk result (λ messages. length messages.items ≤ length lines.now) }
 {
     let mut messages = Vec::new(alloc);

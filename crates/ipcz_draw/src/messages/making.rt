@@ -6,7 +6,7 @@
 
 ghost use Rattle.std.specs.Prelude.{◌≡◌, ◌<◌, ◌≤◌, length, IfOk, OnOk};
 ghost use Rattle.std.specs.List.{All};
-ghost use Rattle.ipcz_draw.specs.Messages.{IsMessage, KeepsWay};
+ghost use Rattle.ipcz_draw.specs.Messages.{AreOnce, IsMessage, KeepsWay};
 
 use crate::messages::Message;
 use crate::messages::bypasses::{Bypass, bypasses, of_inner_link, of_old_link};
@@ -290,7 +290,9 @@ impl<'a> Making<'a> {
     ) -> Result<(), AllocError>
         requires line { i < length lines.now }
         requires messages { All (IsMessage lines.now) messages.old.items }
+        requires once { AreOnce lines.now messages.old.items }
         ensures each { OnOk result (All (IsMessage lines.now) messages.new.items) }
+        ensures once { OnOk result (AreOnce lines.now messages.new.items) }
         ensures few { OnOk result (length messages.new.items ≡ length messages.old.items) }
     {
         let read = &lines[i];
@@ -328,6 +330,7 @@ pub fn messages<'a>(
     routers: &[Router],
 ) -> Result<Vec<Message<'a>>, AllocError>
     ensures each { IfOk result (λ messages. All (IsMessage lines.now) messages.items) }
+    ensures once { IfOk result (λ messages. AreOnce lines.now messages.items) }
     ensures few { IfOk result (λ messages. length messages.items ≤ length lines.now) }
 {
     let mut messages = joined(alloc, lines)?;
