@@ -24,7 +24,9 @@ impl<T> Model for Spare<T> {
 
 impl<T> Spare<T> {
     /// No room.
-    pub fn new(alloc: Global) -> Self {
+    pub fn new(alloc: Global) -> Self
+        ensures { result ≡ 0 }
+    {
         Spare {
             items: Vec::new(alloc),
         }

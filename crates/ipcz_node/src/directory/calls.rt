@@ -129,6 +129,7 @@ impl Directory {
         requires { is_some (get self.old.filed.routers serial) ≡ true }
         ensures ok { OnOk result (HasOutRoom self.new.out_rooms serial) }
         ensures filed { self.new.filed ≡ self.old.filed }
+        ensures full { HasOutRoom self.old.out_rooms serial → IsOk result }
         ensures err { IfErr result (λ e. e ≡ Refusal.OutOfMemory) }
     {
         self.routers.router_mut(serial).reserve_close()
