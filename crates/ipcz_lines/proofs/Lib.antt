@@ -1,2 +1,4 @@
+pub mod Forms
+pub mod Lacking
 pub mod Numbers
 pub mod Parting

@@ -26,11 +26,6 @@ abbrev pub Reads : {A : Type 0} → (A → List ℕ) → (A → Type 0) → List
 Reads text Is bytes (Some x) = Is x × (text x ≡ bytes)
 Reads {A} text Is bytes None = (x : A) → Is x → text x ≢ bytes
 
--- what was read, if anything was, has these bytes as its text
-abbrev pub IsReading : {A : Type 0} → (A → List ℕ) → (A → Type 0) → List ℕ → Option A → Type 0
-IsReading text Is bytes (Some x) = Is x × (text x ≡ bytes)
-IsReading text Is bytes None = Unit {0}
-
 -- numbers and serials have 64 bits, words and pairs are below 4096, nodes below 8
 abbrev pub IsNumber : ℕ → Type 0
 IsNumber n = n < 2 ^ 64

@@ -1,5 +1,5 @@
 -- The forms of a transcript's lines: the text of each line, and what each part of it must be.
-use Rattle.std.specs.Prelude.{ℕ, zero, suc, ◌+◌, ◌≡◌, ◌≤◌, ◌<◌, List, [], ◌∷◌, ◌++◌, codes, length, flat_map, Option, Some, None, if◌then◌else◌}
+use Rattle.std.specs.Prelude.{ℕ, zero, suc, ◌+◌, ◌≡◌, ◌≢◌, ◌≤◌, ◌<◌, List, [], ◌∷◌, ◌++◌, codes, length, flat_map, Option, Some, None, if◌then◌else◌}
 use Rattle.std.specs.List.{All}
 use Rattle.std.specs.Fmt.{decimal}
 use Rattle.ipcz_lines.specs.declared.line.RouterEvent.{RouterEvent}
@@ -62,6 +62,11 @@ IsAct (acts.Claim None) = Unit {0}
 IsAct (acts.Begin word) = IsWordNumber word
 IsAct (acts.Retire n link) = IsNumber n × IsLink link
 
+-- what a router did with a word
+abbrev pub IsWordAct : RouterEvent → Type 0
+IsWordAct (acts.Word step word after) = IsWordNumber word × IsWordNumber after
+IsWordAct other = ⊥
+
 -- what a turn was; behind an unfit message stands what became of it
 abbrev pub event_text : Event → List ℕ
 event_text (events.Hand kind link unfit) = spaced (codes "hand") (spaced (kind_text kind) (if unfit then spaced (link_text link) (fate_text kind) else link_text link))
@@ -80,6 +85,11 @@ IsEvent (events.Close end) = IsEnd end
 IsEvent (events.Router serial act) = IsNumber serial × IsAct act
 IsEvent events.Idle = Unit {0}
 IsEvent (events.Refused why) = Unit {0}
+
+-- what a router did, with its number
+abbrev pub IsRouterEvent : Event → Type 0
+IsRouterEvent (events.Router serial act) = IsNumber serial × IsAct act
+IsRouterEvent other = ⊥
 
 -- what an open was answered
 abbrev pub opened_text : Option Refusal → List ℕ
@@ -129,6 +139,11 @@ FitsLine lines.Unsettled = Unit {0}
 FitsLine (lines.Words values) = AreWords values.now
 FitsLine (lines.Refused fault) = IsFault fault
 
+-- a turn of a node
+abbrev pub IsTurn : Line → Type 0
+IsTurn (lines.Turn node event) = IsNodeNumber node × IsEvent event
+IsTurn other = ⊥
+
 -- a text is that of a line: each part of it fits, and each byte prints
 pub record IsLine (text : List ℕ) (line : Line) : Type 0 where
   pub fits : FitsLine line
@@ -147,12 +162,17 @@ pub record IsRead (input : List ℕ) (read : List ReadLine) : Type 0 where
   pub whole : flat_map with_line_feed read ≡ input
   pub each : All IsReadLine read
 
+-- no line with its line feed stands at the front of these bytes
+abbrev pub BeginsWithNoLine : List ℕ → Type 0
+BeginsWithNoLine rest = (x : ReadLine) (behind : List ℕ) → IsReadLine x → with_line_feed x ++ behind ≢ rest
+
 -- a bad line comes behind those before it, which were read
 pub record IsBadLine (input : List ℕ) (number : ℕ) : Type 0 where
   pub before : List ReadLine
   pub each : All IsReadLine before
   pub rest : List ℕ
   pub some : 0 < length rest
+  pub bad : BeginsWithNoLine rest
   pub whole : flat_map with_line_feed before ++ rest ≡ input
   pub counted : length before + 1 ≡ number
 

@@ -1,15 +1,15 @@
 //! Reading what a turn was: the events of nodes and of their routers.
 
-ghost use Rattle.std.specs.Prelude.{IsTrue, ◌↔◌, ◌≡◌, ◌++◌, ◌∷◌, IfSome, codes};
-ghost use Rattle.ipcz_lines.specs.LineParts.{AreParted, IsEndText, IsKind, IsReading, IsWordNumber, fate_text, kind_text, link_text, step_text, way_text, IsLink};
-ghost use Rattle.ipcz_lines.specs.Lines.{AreMoves, IsAct, IsEvent, act_text, and_more, central_text, event_text, moves_text, spaced};
+ghost use Rattle.std.specs.Prelude.{All, IsTrue, ◌↔◌, ◌≡◌, ◌≢◌, ◌++◌, ◌∷◌, codes};
+ghost use Rattle.ipcz_lines.specs.LineParts.{AreParted, IsEndText, IsKind, IsWordNumber, Reads, fate_text, kind_text, link_text, step_text, way_text, IsLink};
+ghost use Rattle.ipcz_lines.specs.Lines.{AreMoves, IsAct, IsEvent, IsRouterEvent, IsWordAct, act_text, and_more, central_text, event_text, moves_text, spaced};
 
 use crate::line::parts::{Kind, Link, Way, WordStep};
 use crate::line::words::{are_ends, end, halves, link, node, number, refusal, word};
 use crate::line::{Event, RouterEvent};
 
 fn way(bytes: &[u8]) -> Option<Way>
-    ensures { IsReading way_text (λ _. Unit {0}) bytes.now result }
+    ensures { Reads way_text (λ _. Unit {0}) bytes.now result }
 {
     match bytes {
         b"out" => Some(Way::Out),
@@ -19,16 +19,16 @@ fn way(bytes: &[u8]) -> Option<Way>
 }
 
 fn moves(bytes: &[u8]) -> Option<&[u8]>
-    ensures { IfSome result (λ ends. AreParted IsEndText 44 ends.now × (bytes.now ≡ spaced (codes "moves") ends.now)) }
+    ensures { Reads (λ ends. spaced (codes "moves") ends.now) (λ ends. AreParted IsEndText 44 ends.now) bytes.now result }
 {
     match halves(bytes, b' ')? {
-        (b"moves", ends) if are_ends(ends) => Some(ends),
+        (first, ends) if first == b"moves".as_slice() && are_ends(ends) => Some(ends),
         _ => None,
     }
 }
 
 fn link_and_moves(bytes: &[u8]) -> Option<(Link, &[u8])>
-    ensures { IsReading (λ x. and_more (link_text x.0) (moves_text x.1.now)) (λ x. IsLink x.0 × AreMoves x.1.now) bytes.now result }
+    ensures { Reads (λ x. and_more (link_text x.0) (moves_text x.1.now)) (λ x. IsLink x.0 × AreMoves x.1.now) bytes.now result }
 {
     match halves(bytes, b' ') {
         None => Some((link(bytes)?, b"".as_slice())),
@@ -41,7 +41,7 @@ fn link_and_moves(bytes: &[u8]) -> Option<(Link, &[u8])>
 }
 
 fn sent(bytes: &[u8]) -> Option<RouterEvent<'_>>
-    ensures { IsReading act_text IsAct (spaced (codes "send") bytes.now) result }
+    ensures { Reads act_text IsAct (spaced (codes "send") bytes.now) result }
 {
     let (first, rest) = halves(bytes, b' ')?;
     let (second, rest) = halves(rest, b' ')?;
@@ -55,14 +55,14 @@ fn sent(bytes: &[u8]) -> Option<RouterEvent<'_>>
 }
 
 fn discarded(bytes: &[u8]) -> Option<RouterEvent<'_>>
-    ensures { IsReading act_text IsAct (spaced (codes "discard") bytes.now) result }
+    ensures { Reads act_text IsAct (spaced (codes "discard") bytes.now) result }
 {
     match halves(bytes, b' ') {
         None => Some(RouterEvent::Discard {
             number: number(bytes)?,
             leaves: false,
         }),
-        Some((first, b"leave")) => Some(RouterEvent::Discard {
+        Some((first, rest)) if rest == b"leave".as_slice() => Some(RouterEvent::Discard {
             number: number(first)?,
             leaves: true,
         }),
@@ -71,7 +71,7 @@ fn discarded(bytes: &[u8]) -> Option<RouterEvent<'_>>
 }
 
 fn finished(bytes: &[u8]) -> Option<RouterEvent<'_>>
-    ensures { IsReading act_text IsAct (spaced (codes "finish") bytes.now) result }
+    ensures { Reads act_text IsAct (spaced (codes "finish") bytes.now) result }
 {
     let (first, rest) = halves(bytes, b' ')?;
     Some(RouterEvent::Finish {
@@ -81,7 +81,7 @@ fn finished(bytes: &[u8]) -> Option<RouterEvent<'_>>
 }
 
 fn retired(bytes: &[u8]) -> Option<RouterEvent<'_>>
-    ensures { IsReading act_text IsAct (spaced (codes "retire") bytes.now) result }
+    ensures { Reads act_text IsAct (spaced (codes "retire") bytes.now) result }
 {
     let (first, rest) = halves(bytes, b' ')?;
     Some(RouterEvent::Retire {
@@ -91,7 +91,7 @@ fn retired(bytes: &[u8]) -> Option<RouterEvent<'_>>
 }
 
 fn claimed(bytes: &[u8]) -> Option<RouterEvent<'_>>
-    ensures { IsReading act_text IsAct (spaced (codes "claim") bytes.now) result }
+    ensures { Reads act_text IsAct (spaced (codes "claim") bytes.now) result }
 {
     if bytes == b"NoWord".as_slice() {
         return Some(RouterEvent::Claim { word: None });
@@ -102,7 +102,7 @@ fn claimed(bytes: &[u8]) -> Option<RouterEvent<'_>>
 }
 
 fn central(bytes: &[u8]) -> Option<u16>
-    ensures { IsReading central_text IsWordNumber bytes.now result }
+    ensures { Reads central_text IsWordNumber bytes.now result }
 {
     match bytes {
         [b'C', rest @ ..] => word(rest),
@@ -111,7 +111,7 @@ fn central(bytes: &[u8]) -> Option<u16>
 }
 
 fn step(bytes: &[u8]) -> Option<WordStep>
-    ensures { IsReading step_text (λ _. Unit {0}) bytes.now result }
+    ensures { Reads step_text (λ _. Unit {0}) bytes.now result }
 {
     match bytes {
         b"mark" => Some(WordStep::Mark),
@@ -125,7 +125,8 @@ fn step(bytes: &[u8]) -> Option<WordStep>
 }
 
 fn stepped(first: &[u8], bytes: &[u8]) -> Option<RouterEvent<'static>>
-    ensures { IsReading act_text IsAct (spaced first.now bytes.now) result }
+    requires one_word { All (λ b. b ≢ 32) first.now }
+    ensures { Reads act_text IsWordAct (spaced first.now bytes.now) result }
 {
     let (second, third) = halves(bytes, b' ')?;
     Some(RouterEvent::Word {
@@ -137,20 +138,18 @@ fn stepped(first: &[u8], bytes: &[u8]) -> Option<RouterEvent<'static>>
 
 /// What a router did, as it stands behind the router's number.
 fn act(bytes: &[u8]) -> Option<RouterEvent<'_>>
-    ensures { IsReading act_text IsAct bytes.now result }
+    ensures { Reads act_text IsAct bytes.now result }
 {
     match halves(bytes, b' ') {
-        None => match bytes {
-            b"leave" => Some(RouterEvent::Leave),
-            b"rest" => Some(RouterEvent::Rest),
-            _ => None,
-        },
-        Some((b"send", rest)) => sent(rest),
-        Some((b"discard", rest)) => discarded(rest),
-        Some((b"finish", rest)) => finished(rest),
-        Some((b"retire", rest)) => retired(rest),
-        Some((b"claim", rest)) => claimed(rest),
-        Some((b"begin", rest)) => Some(RouterEvent::Begin {
+        None if bytes == b"leave".as_slice() => Some(RouterEvent::Leave),
+        None if bytes == b"rest".as_slice() => Some(RouterEvent::Rest),
+        None => None,
+        Some((first, rest)) if first == b"send".as_slice() => sent(rest),
+        Some((first, rest)) if first == b"discard".as_slice() => discarded(rest),
+        Some((first, rest)) if first == b"finish".as_slice() => finished(rest),
+        Some((first, rest)) if first == b"retire".as_slice() => retired(rest),
+        Some((first, rest)) if first == b"claim".as_slice() => claimed(rest),
+        Some((first, rest)) if first == b"begin".as_slice() => Some(RouterEvent::Begin {
             word: central(rest)?,
         }),
         Some((first, rest)) => stepped(first, rest),
@@ -158,11 +157,12 @@ fn act(bytes: &[u8]) -> Option<RouterEvent<'_>>
 }
 
 fn kind(bytes: &[u8]) -> Option<Kind>
-    ensures { IsReading kind_text IsKind bytes.now result }
+    requires one_word { All (λ b. b ≢ 32) bytes.now }
+    ensures { Reads kind_text IsKind bytes.now result }
 {
     match bytes {
-        b"BypassPeer" => Some(Kind::BypassPeer),
-        b"Flush" => Some(Kind::Flush),
+        _ if bytes == b"BypassPeer".as_slice() => Some(Kind::BypassPeer),
+        _ if bytes == b"Flush".as_slice() => Some(Kind::Flush),
         _ if bytes == b"AcceptBypass".as_slice() => Some(Kind::AcceptBypass),
         _ if bytes == b"StopProxying".as_slice() => Some(Kind::StopProxying),
         _ if bytes == b"ProxyWillStop".as_slice() => Some(Kind::ProxyWillStop),
@@ -181,7 +181,7 @@ fn is_fate(kind: Kind, bytes: &[u8]) -> bool
 
 fn handed_to(kind: Kind, bytes: &[u8]) -> Option<Event<'static>>
     requires { IsKind kind }
-    ensures { IsReading event_text IsEvent (spaced (codes "hand") (spaced (kind_text kind) bytes.now)) result }
+    ensures { Reads event_text IsEvent (spaced (codes "hand") (spaced (kind_text kind) bytes.now)) result }
 {
     match halves(bytes, b' ') {
         None => Some(Event::Hand {
@@ -199,10 +199,10 @@ fn handed_to(kind: Kind, bytes: &[u8]) -> Option<Event<'static>>
 }
 
 fn handed(bytes: &[u8]) -> Option<Event<'static>>
-    ensures { IsReading event_text IsEvent (spaced (codes "hand") bytes.now) result }
+    ensures { Reads event_text IsEvent (spaced (codes "hand") bytes.now) result }
 {
     match halves(bytes, b' ')? {
-        (b"item", rest) => {
+        (first, rest) if first == b"item".as_slice() => {
             let (first, rest) = halves(rest, b' ')?;
             handed_to(Kind::Item(number(first)?), rest)
         }
@@ -211,7 +211,8 @@ fn handed(bytes: &[u8]) -> Option<Event<'static>>
 }
 
 fn router<'a>(first: &[u8], bytes: &'a [u8]) -> Option<Event<'a>>
-    ensures { IsReading event_text IsEvent (spaced first.now bytes.now) result }
+    requires one_word { All (λ b. b ≢ 32) first.now }
+    ensures { Reads event_text IsRouterEvent (spaced first.now bytes.now) result }
 {
     match first {
         [b'r', digits @ ..] => Some(Event::Router {
@@ -223,7 +224,8 @@ fn router<'a>(first: &[u8], bytes: &'a [u8]) -> Option<Event<'a>>
 }
 
 fn alone(bytes: &[u8]) -> Option<Event<'static>>
-    ensures { IsReading event_text IsEvent bytes.now result }
+    requires one_word { All (λ b. b ≢ 32) bytes.now }
+    ensures { Reads event_text IsEvent bytes.now result }
 {
     if bytes == b"idle".as_slice() {
         return Some(Event::Idle);
@@ -232,7 +234,7 @@ fn alone(bytes: &[u8]) -> Option<Event<'static>>
 }
 
 fn looked(bytes: &[u8]) -> Option<Event<'static>>
-    ensures { IsReading event_text IsEvent (spaced (codes "look") bytes.now) result }
+    ensures { Reads event_text IsEvent (spaced (codes "look") bytes.now) result }
 {
     Some(Event::Look {
         sender: node(bytes)?,
@@ -240,7 +242,7 @@ fn looked(bytes: &[u8]) -> Option<Event<'static>>
 }
 
 fn posted(bytes: &[u8]) -> Option<Event<'static>>
-    ensures { IsReading event_text IsEvent (spaced (codes "post") bytes.now) result }
+    ensures { Reads event_text IsEvent (spaced (codes "post") bytes.now) result }
 {
     Some(Event::Post {
         destination: node(bytes)?,
@@ -248,21 +250,21 @@ fn posted(bytes: &[u8]) -> Option<Event<'static>>
 }
 
 fn closed(bytes: &[u8]) -> Option<Event<'static>>
-    ensures { IsReading event_text IsEvent (spaced (codes "close") bytes.now) result }
+    ensures { Reads event_text IsEvent (spaced (codes "close") bytes.now) result }
 {
     Some(Event::Close { end: end(bytes)? })
 }
 
 /// What a turn was, as it stands behind the node's number.
 pub fn event(bytes: &[u8]) -> Option<Event<'_>>
-    ensures { IsReading event_text IsEvent bytes.now result }
+    ensures { Reads event_text IsEvent bytes.now result }
 {
     match halves(bytes, b' ') {
         None => alone(bytes),
-        Some((b"hand", rest)) => handed(rest),
-        Some((b"look", rest)) => looked(rest),
-        Some((b"post", rest)) => posted(rest),
-        Some((b"close", rest)) => closed(rest),
+        Some((first, rest)) if first == b"hand".as_slice() => handed(rest),
+        Some((first, rest)) if first == b"look".as_slice() => looked(rest),
+        Some((first, rest)) if first == b"post".as_slice() => posted(rest),
+        Some((first, rest)) if first == b"close".as_slice() => closed(rest),
         Some((first, rest)) => router(first, rest),
     }
 }

@@ -1,10 +1,9 @@
 //! Reading a line of a transcript, and a transcript.
 
-ghost use Rattle.std.specs.Prelude.{◌≡◌, ◌↔◌, ◌<◌, ◌≤◌, ◌++◌, ◌∷◌, IfSome, IfOk, OnOk, IfErr, IsTrue, codes, length};
+ghost use Rattle.std.specs.Prelude.{◌≡◌, ◌≢◌, ◌↔◌, ◌<◌, ◌≤◌, ◌++◌, ◌∷◌, IfSome, IfNone, IfOk, OnOk, IfErr, IsTrue, codes, length};
 ghost use Rattle.std.specs.List.{All};
-ghost use Rattle.std.specs.Bool.{OnTrue};
-ghost use Rattle.ipcz_lines.specs.LineParts.{AreParted, IsAnswer, IsFault, IsName, IsNumber, IsReading, IsWordText, answer_text, fault_text};
-ghost use Rattle.ipcz_lines.specs.Lines.{AreNames, FitsLine, IsLine, IsPrintable, IsRead, IsReadLine, IsRefused, with_line_feed, and_more, line_text, opened_text, spaced};
+ghost use Rattle.ipcz_lines.specs.LineParts.{AreParted, IsAnswer, IsFault, IsName, IsNumber, IsWordText, Reads, answer_text, fault_text};
+ghost use Rattle.ipcz_lines.specs.Lines.{AreNames, BeginsWithNoLine, FitsLine, IsTurn, IsLine, IsPrintable, IsRead, IsReadLine, IsRefused, with_line_feed, and_more, line_text, opened_text, spaced};
 
 use crate::line::acts::event;
 use crate::line::parts::{Answer, Fault, Refusal};
@@ -13,7 +12,7 @@ use crate::line::{LONGEST, Line, ReadLine, Unread};
 use std::alloc::Global;
 
 fn opened(bytes: &[u8]) -> Option<Line<'_>>
-    ensures { IsReading line_text FitsLine (spaced (codes "open") bytes.now) result }
+    ensures { Reads line_text FitsLine (spaced (codes "open") bytes.now) result }
 {
     let (first, rest) = halves(bytes, b' ')?;
     let (second, why) = halves(rest, b' ')?;
@@ -28,7 +27,7 @@ fn opened(bytes: &[u8]) -> Option<Line<'_>>
 }
 
 fn opening(bytes: &[u8]) -> Option<Option<Refusal>>
-    ensures { IsReading opened_text (λ _. Unit {0}) bytes.now result }
+    ensures { Reads opened_text (λ _. Unit {0}) bytes.now result }
 {
     if bytes == b"ok".as_slice() {
         return Some(None);
@@ -37,7 +36,7 @@ fn opening(bytes: &[u8]) -> Option<Option<Refusal>>
 }
 
 fn answer(bytes: &[u8]) -> Option<Answer>
-    ensures { IsReading answer_text IsAnswer bytes.now result }
+    ensures { Reads answer_text IsAnswer bytes.now result }
 {
     match number(bytes) {
         Some(n) => Some(Answer::Number(n)),
@@ -46,7 +45,7 @@ fn answer(bytes: &[u8]) -> Option<Answer>
 }
 
 fn name_and_answer(bytes: &[u8]) -> Option<(&[u8], Answer)>
-    ensures { IsReading (λ x. spaced x.0.now (answer_text x.1)) (λ x. IsName x.0.now × IsAnswer x.1) bytes.now result }
+    ensures { Reads (λ x. spaced x.0.now (answer_text x.1)) (λ x. IsName x.0.now × IsAnswer x.1) bytes.now result }
 {
     let (name, rest) = halves(bytes, b' ')?;
     if !is_name(name) {
@@ -56,28 +55,29 @@ fn name_and_answer(bytes: &[u8]) -> Option<(&[u8], Answer)>
 }
 
 fn put(bytes: &[u8]) -> Option<Line<'_>>
-    ensures { IsReading line_text FitsLine (spaced (codes "put") bytes.now) result }
+    ensures { Reads line_text FitsLine (spaced (codes "put") bytes.now) result }
 {
     let (name, answer) = name_and_answer(bytes)?;
     Some(Line::Put { name, answer })
 }
 
 fn closed(bytes: &[u8]) -> Option<Line<'_>>
-    ensures { IsReading line_text FitsLine (spaced (codes "close") bytes.now) result }
+    ensures { Reads line_text FitsLine (spaced (codes "close") bytes.now) result }
 {
     let (name, answer) = name_and_answer(bytes)?;
     Some(Line::Close { name, answer })
 }
 
 fn are_any_names(text: &[u8]) -> bool
-    ensures { OnTrue result (AreNames text.now) }
+    ensures { IsTrue result ↔ AreNames text.now }
 {
     text.is_empty() || are_names(text)
 }
 
 fn parcel<'a>(name: &'a [u8], first: &[u8], bytes: &'a [u8]) -> Option<Line<'a>>
-    requires { IsName name.now }
-    ensures { IsReading line_text FitsLine (spaced (codes "get") (spaced name.now (spaced first.now bytes.now))) result }
+    requires name { IsName name.now }
+    requires one_word { All (λ b. b ≢ 32) first.now }
+    ensures { Reads line_text FitsLine (spaced (codes "get") (spaced name.now (spaced first.now bytes.now))) result }
 {
     let number = number(first)?;
     let (names, rest) = match bytes {
@@ -96,7 +96,7 @@ fn parcel<'a>(name: &'a [u8], first: &[u8], bytes: &'a [u8]) -> Option<Line<'a>>
 }
 
 fn got(bytes: &[u8]) -> Option<Line<'_>>
-    ensures { IsReading line_text FitsLine (spaced (codes "get") bytes.now) result }
+    ensures { Reads line_text FitsLine (spaced (codes "get") bytes.now) result }
 {
     let (name, rest) = halves(bytes, b' ')?;
     if !is_name(name) {
@@ -112,13 +112,13 @@ fn got(bytes: &[u8]) -> Option<Line<'_>>
 }
 
 fn bad_shape(bytes: &[u8]) -> Option<Fault>
-    ensures { IsReading fault_text IsFault (spaced (codes "BadShape") bytes.now) result }
+    ensures { Reads fault_text IsFault (spaced (codes "BadShape") bytes.now) result }
 {
     Some(Fault::BadShape(number(bytes)?))
 }
 
 fn fault(bytes: &[u8]) -> Option<Fault>
-    ensures { IsReading fault_text IsFault bytes.now result }
+    ensures { Reads fault_text IsFault bytes.now result }
 {
     match halves(bytes, b' ') {
         None if bytes == b"NotJson".as_slice() => Some(Fault::NotJson),
@@ -129,13 +129,14 @@ fn fault(bytes: &[u8]) -> Option<Fault>
 }
 
 fn refused(bytes: &[u8]) -> Option<Line<'static>>
-    ensures { IsReading line_text FitsLine (spaced (codes "refused") bytes.now) result }
+    ensures { Reads line_text FitsLine (spaced (codes "refused") bytes.now) result }
 {
     Some(Line::Refused(fault(bytes)?))
 }
 
 fn turn<'a>(first: &[u8], bytes: &'a [u8]) -> Option<Line<'a>>
-    ensures { IsReading line_text FitsLine (spaced first.now bytes.now) result }
+    requires one_word { All (λ b. b ≢ 32) first.now }
+    ensures { Reads line_text IsTurn (spaced first.now bytes.now) result }
 {
     match first {
         [b'n', digits @ .., b':'] => Some(Line::Turn {
@@ -147,18 +148,19 @@ fn turn<'a>(first: &[u8], bytes: &'a [u8]) -> Option<Line<'a>>
 }
 
 fn lone_word(bytes: &[u8]) -> Option<Line<'static>>
-    ensures { IsReading line_text FitsLine bytes.now result }
+    requires one_word { All (λ b. b ≢ 32) bytes.now }
+    ensures { Reads line_text FitsLine bytes.now result }
 {
     match bytes {
-        b"settled" => Some(Line::Settled),
-        b"unsettled" => Some(Line::Unsettled),
-        b"words" => Some(Line::Words(b"".as_slice())),
+        _ if bytes == b"settled".as_slice() => Some(Line::Settled),
+        _ if bytes == b"unsettled".as_slice() => Some(Line::Unsettled),
+        _ if bytes == b"words".as_slice() => Some(Line::Words(b"".as_slice())),
         _ => None,
     }
 }
 
 fn words(bytes: &[u8]) -> Option<Line<'_>>
-    ensures { IsReading line_text FitsLine (spaced (codes "words") bytes.now) result }
+    ensures { Reads line_text FitsLine (spaced (codes "words") bytes.now) result }
 {
     if are_words(bytes) {
         Some(Line::Words(bytes))
@@ -169,16 +171,16 @@ fn words(bytes: &[u8]) -> Option<Line<'_>>
 
 /// The line whose text, without the line feed, these bytes are.
 fn form(bytes: &[u8]) -> Option<Line<'_>>
-    ensures { IsReading line_text FitsLine bytes.now result }
+    ensures { Reads line_text FitsLine bytes.now result }
 {
     match halves(bytes, b' ') {
         None => lone_word(bytes),
-        Some((b"open", rest)) => opened(rest),
-        Some((b"put", rest)) => put(rest),
-        Some((b"close", rest)) => closed(rest),
-        Some((b"get", rest)) => got(rest),
-        Some((b"words", rest)) => words(rest),
-        Some((b"refused", rest)) => refused(rest),
+        Some((first, rest)) if first == b"open".as_slice() => opened(rest),
+        Some((first, rest)) if first == b"put".as_slice() => put(rest),
+        Some((first, rest)) if first == b"close".as_slice() => closed(rest),
+        Some((first, rest)) if first == b"get".as_slice() => got(rest),
+        Some((first, rest)) if first == b"words".as_slice() => words(rest),
+        Some((first, rest)) if first == b"refused".as_slice() => refused(rest),
         Some((first, rest)) => turn(first, rest),
     }
 }
@@ -191,7 +193,8 @@ fn are_printable(bytes: &[u8]) -> bool
 
 /// The first line of these bytes, and what stands behind it.
 fn first_line(bytes: &[u8]) -> Option<(ReadLine<'_>, &[u8])>
-    ensures { IfSome result (λ x. IsReadLine x.0 × (bytes.now ≡ with_line_feed x.0 ++ x.1.now)) }
+    ensures read { IfSome result (λ x. IsReadLine x.0 × (bytes.now ≡ with_line_feed x.0 ++ x.1.now)) }
+    ensures none { IfNone result (BeginsWithNoLine bytes.now) }
 {
     let (text, rest) = halves(bytes, b'\n')?;
     if !are_printable(text) {

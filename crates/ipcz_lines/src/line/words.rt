@@ -1,9 +1,8 @@
 //! Reading the parts of a line: numbers, ends, links, names and lists, each from all the bytes that it is given.
 
 ghost use Rattle.std.specs.Prelude.{◌≡◌, ◌≢◌, ◌↔◌, ℕ, ◌<◌, ◌^◌, ◌++◌, ◌∷◌, All, IfSome, IfNone, IsTrue, length};
-ghost use Rattle.std.specs.Bool.{OnTrue};
 ghost use Rattle.std.specs.Fmt.{decimal};
-ghost use Rattle.ipcz_lines.specs.LineParts.{AreParted, BeginsPlainly, IsEnd, IsEndText, IsLink, IsName, IsNodeNumber, IsNumber, IsReading, IsWordNumber, IsWordText, Reads, end_text, is_name_byte, link_text, refusal_text};
+ghost use Rattle.ipcz_lines.specs.LineParts.{AreParted, BeginsPlainly, IsEnd, IsEndText, IsLink, IsName, IsNodeNumber, IsNumber, IsWordNumber, IsWordText, Reads, end_text, is_name_byte, link_text, refusal_text};
 
 use crate::line::parts::{End, Link, Refusal, Side};
 use std::str;
@@ -72,7 +71,7 @@ pub fn halves(bytes: &[u8], mark: u8) -> Option<(&[u8], &[u8])>
 
 /// The end that these bytes name, as `3B`.
 pub fn end(bytes: &[u8]) -> Option<End>
-    ensures { IsReading end_text IsEnd bytes.now result }
+    ensures { Reads end_text IsEnd bytes.now result }
 {
     let (pair, side) = match bytes {
         [pair @ .., b'A'] => (pair, Side::A),
@@ -86,7 +85,7 @@ pub fn end(bytes: &[u8]) -> Option<End>
 }
 
 fn peripheral(bytes: &[u8]) -> Option<Link>
-    ensures { IsReading link_text IsLink (80 ∷ bytes.now) result }
+    ensures { Reads link_text IsLink (80 ∷ bytes.now) result }
 {
     let (first, second) = halves(bytes, b'.')?;
     Some(Link::Peripheral {
@@ -97,7 +96,7 @@ fn peripheral(bytes: &[u8]) -> Option<Link>
 
 /// The link that these bytes name, as `C3` or `P0.1`.
 pub fn link(bytes: &[u8]) -> Option<Link>
-    ensures { IsReading link_text IsLink bytes.now result }
+    ensures { Reads link_text IsLink bytes.now result }
 {
     match bytes {
         [b'C', rest @ ..] => Some(Link::Central(word(rest)?)),
@@ -108,23 +107,23 @@ pub fn link(bytes: &[u8]) -> Option<Link>
 
 /// The refusal of this name.
 pub fn refusal(bytes: &[u8]) -> Option<Refusal>
-    ensures { IsReading refusal_text (λ _. Unit {0}) bytes.now result }
+    ensures { Reads refusal_text (λ _. Unit {0}) bytes.now result }
 {
     match bytes {
-        b"Empty" => Some(Refusal::Empty),
-        b"PeerClosed" => Some(Refusal::PeerClosed),
-        b"NoWord" => Some(Refusal::NoWord),
-        b"SelfAttach" => Some(Refusal::SelfAttach),
-        b"PeerAttach" => Some(Refusal::PeerAttach),
-        b"Stranger" => Some(Refusal::Stranger),
-        b"NumbersEnd" => Some(Refusal::NumbersEnd),
-        b"BadData" => Some(Refusal::BadData),
-        b"TooMany" => Some(Refusal::TooMany),
-        b"Raced" => Some(Refusal::Raced),
-        b"Occupied" => Some(Refusal::Occupied),
-        b"Passed" => Some(Refusal::Passed),
-        b"Forged" => Some(Refusal::Forged),
-        b"Away" => Some(Refusal::Away),
+        _ if bytes == b"Empty".as_slice() => Some(Refusal::Empty),
+        _ if bytes == b"PeerClosed".as_slice() => Some(Refusal::PeerClosed),
+        _ if bytes == b"NoWord".as_slice() => Some(Refusal::NoWord),
+        _ if bytes == b"SelfAttach".as_slice() => Some(Refusal::SelfAttach),
+        _ if bytes == b"PeerAttach".as_slice() => Some(Refusal::PeerAttach),
+        _ if bytes == b"Stranger".as_slice() => Some(Refusal::Stranger),
+        _ if bytes == b"NumbersEnd".as_slice() => Some(Refusal::NumbersEnd),
+        _ if bytes == b"BadData".as_slice() => Some(Refusal::BadData),
+        _ if bytes == b"TooMany".as_slice() => Some(Refusal::TooMany),
+        _ if bytes == b"Raced".as_slice() => Some(Refusal::Raced),
+        _ if bytes == b"Occupied".as_slice() => Some(Refusal::Occupied),
+        _ if bytes == b"Passed".as_slice() => Some(Refusal::Passed),
+        _ if bytes == b"Forged".as_slice() => Some(Refusal::Forged),
+        _ if bytes == b"Away".as_slice() => Some(Refusal::Away),
         _ if bytes == b"OutOfMemory".as_slice() => Some(Refusal::OutOfMemory),
         _ if bytes == b"UnknownName".as_slice() => Some(Refusal::UnknownName),
         _ => None,
@@ -146,7 +145,7 @@ pub fn is_name(bytes: &[u8]) -> bool
 
 /// Whether these are names, parted by commas.
 pub fn are_names(text: &[u8]) -> bool
-    ensures { OnTrue result (AreParted IsName 44 text.now) }
+    ensures { IsTrue result ↔ AreParted IsName 44 text.now }
 {
     match halves(text, b',') {
         None => is_name(text),
@@ -155,14 +154,14 @@ pub fn are_names(text: &[u8]) -> bool
 }
 
 fn is_end(text: &[u8]) -> bool
-    ensures { OnTrue result (IsEndText text.now) }
+    ensures { IsTrue result ↔ IsEndText text.now }
 {
     end(text).is_some()
 }
 
 /// Whether these are ends, parted by commas.
 pub fn are_ends(text: &[u8]) -> bool
-    ensures { OnTrue result (AreParted IsEndText 44 text.now) }
+    ensures { IsTrue result ↔ AreParted IsEndText 44 text.now }
 {
     match halves(text, b',') {
         None => is_end(text),
@@ -171,14 +170,14 @@ pub fn are_ends(text: &[u8]) -> bool
 }
 
 fn is_word(text: &[u8]) -> bool
-    ensures { OnTrue result (IsWordText text.now) }
+    ensures { IsTrue result ↔ IsWordText text.now }
 {
     word(text).is_some()
 }
 
 /// Whether these are values of words, parted by spaces.
 pub fn are_words(text: &[u8]) -> bool
-    ensures { OnTrue result (AreParted IsWordText 32 text.now) }
+    ensures { IsTrue result ↔ AreParted IsWordText 32 text.now }
 {
     match halves(text, b' ') {
         None => is_word(text),

@@ -7,7 +7,8 @@ use Rattle.ipcz_lines.specs.declared.line.ReadLine.{ReadLine}
 use Rattle.ipcz_lines.specs.Lines.{IsReadLine, with_line_feed}
 use Rattle.ipcz_lines.proofs.line.reading.read.Goals as goal
 
-one_more : (lines : List ReadLine) (x : ReadLine) (rest behind input : List ℕ) → flat_map with_line_feed lines ++ rest ≡ input → rest ≡ with_line_feed x ++ behind → flat_map with_line_feed (lines ++ x ∷ []) ++ behind ≡ input
+one_more : (lines : List ReadLine) (x : ReadLine) (rest behind input : List ℕ) → flat_map with_line_feed lines ++ rest ≡ input
+    → rest ≡ with_line_feed x ++ behind → flat_map with_line_feed (lines ++ x ∷ []) ++ behind ≡ input
 one_more lines x rest behind input h e =
     ap (λ (xs : List ℕ). xs ++ behind) (flat_map-append with_line_feed lines (x ∷ [])) ∙
     (append_assoc (flat_map with_line_feed lines) (with_line_feed x ++ []) behind ∙
@@ -19,6 +20,10 @@ loop-rest-preserved c =
     let ok : is_ok c.push.result ≡ true = search rules in
     let items : c.push.new.self.items ≡ c.loop-rest.lines.items ++ c.in-Some.line ∷ [] = rw ok at c.push.ensures.items in
     record {
-      whole = rw items (one_more c.loop-rest.lines.items c.in-Some.line c.loop-rest.rest.now c.in-Some.behind.now c.args.input.now c.loop-rest.invariant.whole c.in-Some.ensures.1);
-      each = let P : List ReadLine → Type 0 = All IsReadLine in subst P (sym items) (All-push IsReadLine c.loop-rest.lines.items c.in-Some.line c.loop-rest.invariant.each c.in-Some.ensures.0);
+      whole =
+          rw items (one_more c.loop-rest.lines.items c.in-Some.line c.loop-rest.rest.now c.in-Some.behind.now c.args.input.now
+          c.loop-rest.invariant.whole c.in-Some.ensures.read.1);
+      each =
+          let P : List ReadLine → Type 0 = All IsReadLine in subst P (sym items)
+          (All-push IsReadLine c.loop-rest.lines.items c.in-Some.line c.loop-rest.invariant.each c.in-Some.ensures.read.0);
     }

@@ -1,15 +1,22 @@
-use Rattle.std.proofs.Common.{Bool, true, false, IsTrue, ℕ, List, refl}
-use Rattle.std.specs.Bool.{OnTrue}
+use Rattle.std.proofs.Common.{refl}
+use Rattle.std.proofs.Common.{sym, ◌∙◌}
+use Rattle.std.proofs.lemmas.Bool.{false≢true}
 use Rattle.ipcz_lines.specs.LineParts.{IsName}
-use Rattle.ipcz_lines.proofs.Parting.{parted_more, parted_whole}
+use Rattle.ipcz_lines.proofs.Lacking.{name_lacks}
+use Rattle.ipcz_lines.proofs.Parting.{parted_more, parted_none, parted_whole}
 use Rattle.ipcz_lines.proofs.line.words.+are_names.Goals as goal
 
-on_true : (r : Bool) (text : List ℕ) → (IsTrue r → IsName text) → OnTrue r (IsName text)
-on_true true text h = h refl
-on_true false text h = tt
-
 pub returns-in-None : goal.returns-in-None
-returns-in-None t c = parted_whole IsName 44 c.args.text.now c.is_name.result (on_true c.is_name.result c.args.text.now c.is_name.ensures.0)
+returns-in-None t c = parted_whole IsName 44 c.args.text.now c.is_name.result c.in-None.ensures.none c.is_name.ensures
 
 pub returns-then-is_name : goal.returns-then-is_name
-returns-then-is_name t c = parted_more IsName 44 c.in-Some.first.now c.in-Some.rest.now c.args.text.now c.are_names.result (c.if-is_name.ensures.0 refl) c.are_names.ensures c.in-Some.ensures.joined
+returns-then-is_name t c =
+    parted_more IsName 44 (λ text h. name_lacks 44 text h refl) c.in-Some.first.now c.in-Some.rest.now c.args.text.now c.are_names.result
+    (c.is_name-in-Some.ensures.0 c.if-is_name.true) c.in-Some.ensures.first c.are_names.ensures c.in-Some.ensures.joined
+
+pub returns-else-is_name : goal.returns-else-is_name
+returns-else-is_name t c =
+    let refuted =
+    parted_none IsName 44 (λ text h. name_lacks 44 text h refl) c.in-Some.first.now c.in-Some.rest.now c.args.text.now
+    c.is_name-in-Some.result c.is_name-in-Some.ensures c.if-is_name.false c.in-Some.ensures.first c.in-Some.ensures.joined in
+    (λ h. absurd (false≢true (sym c.if-is_name.false ∙ h)), λ h. absurd (refuted h))
