@@ -1,7 +1,7 @@
 //! A node by itself, whose mail is carried by hand, by steps that say what each call gives.
 //!
-//! Nothing is promised of what stands here: a test's own proof would else work out the whole node at each call. So a test is a
-//! list of steps.
+//! Nothing is promised of what stands here: a test's own proof would else work out the whole node
+//! at each call. So a test is a list of steps.
 mod bypass;
 mod deeds;
 mod letters;
@@ -252,7 +252,8 @@ impl Trial {
     }
 }
 
-/// The first step that doesn't give what it says, on a new node of a number among so many, by its part and its place there.
+/// The first step that doesn't give what it says, on a new node of a number among so many, by its
+/// part and its place there.
 fn first_wrong(alloc: Global, number: u8, count: u8, parts: &[&[Step]]) -> Option<(usize, usize)> {
     match Trial::new(alloc, number, count) {
         Some(mut trial) => trial.first_wrong_of(parts),

@@ -1,4 +1,5 @@
-//! The last serials of peripheral links, which no run comes to. All else of nodes is tested by public calls, in `ipcz_node_tests`.
+//! The last serials of peripheral links, which no run comes to. All else of nodes is tested by
+//! public calls, in `ipcz_node_tests`.
 
 use super::NodeState;
 use crate::act::Act;
@@ -45,8 +46,8 @@ fn prepare_send(node: &mut NodeState, serial: u64) -> Result<(), Refusal> {
     node.prepare(&Act::Router(serial, RouterAct::SendOut))
 }
 
-// What making room for the send of a parcel with these ends answers, from this serial of a peripheral link on. With the pair of C1
-// open, router 0 serves 0A, toward node 1.
+// What making room for the send of a parcel with these ends answers, from this serial of a
+// peripheral link on. With the pair of C1 open, router 0 serves 0A, toward node 1.
 fn prepare_move(
     node: &mut NodeState,
     alloc: Global,

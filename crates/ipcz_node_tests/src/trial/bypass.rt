@@ -14,7 +14,8 @@ use std::test::Fail;
 
 const INWARD: LinkId = LinkId::Peripheral { node: 0, serial: 0 };
 
-// Node 0 of two, from which 1B moves to node 1: router 1 serves 1A, and router 2 is the proxy of 1B, on C1.
+// Node 0 of two, from which 1B moves to node 1: router 1 serves 1A, and router 2 is the proxy of
+// 1B, on C1.
 const MOVES: [Step; 5] = [
     Open(1),
     Put(A0, &[B1], Ok(0)),
@@ -48,8 +49,8 @@ fn a_proxy_that_has_found_no_word_claims_none_again(rt: HostRuntime) {
     );
 }
 
-// Another side holds the lock, then the side of 1A isn't stable, and then the lock is got. Given back, it is tried for again with the
-// word that was claimed.
+// Another side holds the lock, then the side of 1A isn't stable, and then the lock is got. Given
+// back, it is tried for again with the word that was claimed.
 const LOCKS: [Step; 18] = [
     Turn(Claim(2, 2)),
     Turn(Refused(2, C1, 19)),
@@ -89,8 +90,8 @@ const BEGINS: [Step; 6] = [
 // One item comes in over C1, and two go out over it.
 const STOP: Letter = Letter::StopProxying(1, Side::B, 1, 2);
 
-// One item has gone out when the proxy is told both lengths, which it is once; it tells node 1 how many items come from it. It leaves
-// once one item has come in and a second one has gone out.
+// One item has gone out when the proxy is told both lengths, which it is once; it tells node 1 how
+// many items come from it. It leaves once one item has come in and a second one has gone out.
 const LEAVES: [Step; 21] = [
     Deliver(1, Letter::Parcel(INWARD, Side::A, 0, &[], &[]), true),
     Turn(SendOut(2, 0, C1, &[])),

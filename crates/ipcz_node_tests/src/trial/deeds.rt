@@ -9,7 +9,9 @@ use ipcz_base::{End, LinkId, Message, Refusal};
 use ipcz_node::{Act, Handed, Happened, MailSeen, NodeState};
 use ipcz_router::act::{Answer, RouterAct};
 
-/// What a turn does, by the numbers of nodes, routers, items and words.
+/// What a turn does. The fields are in the order in which the transcript prints them: the serial of
+/// a router comes first, then an item's number, the link and the ends that are moved, and the word
+/// after it stands last.
 #[derive(Clone, Copy)]
 pub(super) enum Deed {
     /// A message that fits, with the link that it names.
@@ -140,7 +142,8 @@ impl Deed {
     }
 }
 
-// The answer that is offered, where it is of the act's kind; to an act that touches no word, that it touches none.
+// The answer that is offered, where it is of the act's kind; to an act that touches no word, that
+// it touches none.
 fn answer_of(act: RouterAct, offered: Answer) -> Option<Answer>
     ensures { IfSome result (λ answer. IsAnswerOf act answer) }
 {
@@ -175,8 +178,8 @@ fn answer_to(act: Act, offered: Answer) -> Option<Answer>
     }
 }
 
-// Does the first possible act; what it is seen to do, and what it posts. An answer of another kind than the act's is refused
-// as `Occupied`.
+// Does the first possible act; what it is seen to do, and what it posts. An answer of another kind
+// than the act's is refused as `Occupied`.
 fn take(
     node: &mut NodeState,
     seen: &MailSeen,
@@ -216,7 +219,8 @@ impl Trial {
         deed.is(&event)
     }
 
-    /// Gives the lock back in place of the begin that comes first; whether the word after it is told.
+    /// Gives the lock back in place of the begin that comes first; whether the word after it is
+    /// told.
     pub(super) fn unlocks(&mut self, word: u64) -> bool {
         let event = unlock(&mut self.node, &self.seen, word);
         matches!(event, Some(Happened::Unlock(_, _, after)) if after == word)

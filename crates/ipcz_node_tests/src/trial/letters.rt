@@ -3,7 +3,8 @@
 use ipcz_base::{Descriptor, End, Item, LinkId, Message, Parcel, Sequence, Side};
 use std::alloc::{AllocError, Global};
 
-/// A message; a parcel in it has the one byte of each put.
+/// A message; a parcel in it has the one byte of each put. The fields are in the order of the
+/// message's, and an item's are its link, side, number, ends and moves.
 #[derive(Clone, Copy)]
 pub(super) enum Letter {
     Parcel(LinkId, Side, u64, &'static [End], &'static [Descriptor]),

@@ -41,7 +41,8 @@ const MOVED_1B: Descriptor = Descriptor {
     next_in: 1,
 };
 
-// Then 1B moves from node 0 to node 1. What its callers had not got follows over the link of the move.
+// Then 1B moves from node 0 to node 1. What its callers had not got follows over the link of the
+// move.
 const MOVES_1B: [Step; 22] = [
     Put(A0, &[B1], Ok(0)),
     Holds(B1, false),
@@ -109,8 +110,8 @@ const MOVED_5A_ON: Descriptor = Descriptor {
     next_in: 3,
 };
 
-// On node 1 of three 0B moves on to node 2, and then a parcel with 5A comes for it from node 0. Router 0 serves 0B, router 1 serves 2A,
-// and router 2 is the terminal of 5A.
+// On node 1 of three 0B moves on to node 2, and then a parcel with 5A comes for it from node 0.
+// Router 0 serves 0B, router 1 serves 2A, and router 2 is the terminal of 5A.
 const MOVES_ON: [Step; 10] = [
     Put(A2, &[B0], Ok(0)),
     Turn(SendOut(1, 0, C2, &[B0])),
@@ -129,7 +130,8 @@ fn a_proxy_moves_the_ends_that_it_passes_on(rt: HostRuntime) {
     assert_eq!(rt; first_wrong(rt.alloc(), 1, 3, &[&MOVES_ON]), None);
 }
 
-// 0A goes from 1A to 1B, both on node 0. It has its terminal, and no caller holds it until the parcel is got.
+// 0A goes from 1A to 1B, both on node 0. It has its terminal, and no caller holds it until the
+// parcel is got.
 const GOES_WITHIN: [Step; 14] = [
     Open(1),
     Put(A1, &[A0], Ok(0)),

@@ -6,7 +6,8 @@ use super::{A0, A1, B0, B1, C0, Step, first_wrong};
 use ipcz_base::{Descriptor, End, LinkId, Refusal, Side};
 use std::test::Fail;
 
-// Each row has the causes of the rows after it too, as far as they can be had at once. 0B is held on node 1.
+// Each row has the causes of the rows after it too, as far as they can be had at once. 0B is held
+// on node 1.
 const REFUSED: [Step; 17] = [
     Open(1),
     PutBytes(B0, 0x7F, 257, &[B0, A0], Err(Refusal::Stranger)),
@@ -137,7 +138,8 @@ fn a_put_of_the_most_bytes_and_ends_is_accepted(rt: HostRuntime) {
     assert_eq!(rt; first_wrong(rt.alloc(), 0, 2, &[&ACCEPTED]), None);
 }
 
-// The mark of 0B comes before the parcel in front of it. What is tested before it is refused before it.
+// The mark of 0B comes before the parcel in front of it. What is tested before it is refused before
+// it.
 const CLOSED: [Step; 14] = [
     Put(A0, &[], Ok(0)),
     Deliver(1, Letter::Mark(C0, Side::A, 1), true),

@@ -58,8 +58,8 @@ const TO_3_AND_7: MailSeen = MailSeen {
     empty: [false, false, false, true, false, false, false, true],
 };
 
-// Node 1 of three: router 0 serves 0B, toward node 0, and router 1 serves 2A, toward node 2. Each of the outboxes to these has a
-// message at the end, and router 1 is flagged.
+// Node 1 of three: router 0 serves 0B, toward node 0, and router 1 serves 2A, toward node 2. Each
+// of the outboxes to these has a message at the end, and router 1 is flagged.
 const FILLS_OUTBOXES: [Step; 13] = [
     First(Act::Idle),
     Quiet(true),
@@ -135,7 +135,8 @@ fn posts_go_by_destination_and_then_in_the_order_of_sending(rt: HostRuntime) {
     assert_eq!(rt; first_wrong(rt.alloc(), 1, 3, &[&POSTS]), None);
 }
 
-// Whatever else has come or waits, also where a message of another node is delivered, or the act is committed.
+// Whatever else has come or waits, also where a message of another node is delivered, or the act is
+// committed.
 const STAYS_IN_HAND: [Step; 17] = [
     See(FROM_0_AND_2),
     Turn(Look(0)),
@@ -176,8 +177,8 @@ fn a_stray_leaves_the_hand(rt: HostRuntime) {
     assert_eq!(rt; first_wrong(rt.alloc(), 1, 3, &[&STRAYS_FROM_HAND]), None);
 }
 
-// The terminal of 1B is closed, and a parcel that carries 0A comes to it. The mark of 1B is sent before anything is dropped, and posted;
-// the mark of 0A goes to node 1.
+// The terminal of 1B is closed, and a parcel that carries 0A comes to it. The mark of 1B is sent
+// before anything is dropped, and posted; the mark of 0A goes to node 1.
 const DROPS: [Step; 24] = [
     Open(1),
     Put(A1, &[A0], Ok(0)),

@@ -1,4 +1,5 @@
-//! Two nodes whose mail and link words are carried by hand, through two bypasses that want one lock.
+//! Two nodes whose mail and link words are carried by hand, through two bypasses that want one
+//! lock.
 
 ghost use Rattle.ipcz_router.specs.ActEffects.{IsAnswerOf};
 ghost use Rattle.ipcz_word.specs.Layout.{IsWord};
@@ -223,7 +224,8 @@ impl Pair {
         }
     }
 
-    // The first turn of a leg that doesn't do what it says; behind the last, where the words are others.
+    // The first turn of a leg that doesn't do what it says; behind the last, where the words are
+    // others.
     fn first_wrong(&mut self, leg: &Leg) -> Option<usize> {
         for (i, deed) in leg.deeds.iter().enumerate() {
             if !self.turns(leg.node, deed) {
@@ -271,8 +273,8 @@ const P0: LinkId = LinkId::Peripheral { node: 0, serial: 0 };
 
 const P1: LinkId = LinkId::Peripheral { node: 0, serial: 1 };
 
-// Both ends of C1 move from node 0 to node 1. The proxy of 1A is bypassed by C2, while that of 1B is refused the lock of C1; then
-// that waits for the lock of C2 until 1A's new terminal is stable.
+// Both ends of C1 move from node 0 to node 1. The proxy of 1A is bypassed by C2, while that of 1B
+// is refused the lock of C1; then that waits for the lock of C2 until 1A's new terminal is stable.
 const LEGS: [Leg; 10] = [
     Leg {
         node: 0,
