@@ -78,15 +78,14 @@ pub record Sent (bytes : List ℕ) : Type 0 where
 pub sent_only : (x : RouterEvent) (bytes : List ℕ) → IsAct x → act_text x ≡ spaced (codes "send") bytes → Sent bytes
 sent_only (acts.Send way n link moves) bytes h e =
     record {
-      way =
-          way;
+      way = way;
       n = n;
       link = link;
       moves = moves;
       number = h.0;
       is_link = h.1;
       are_moves = h.2;
-      text = (rests_agree (codes "send ") _ bytes e);
+      text = rests_agree (codes "send ") _ bytes e;
     }
 sent_only (acts.Word steps.Mark w a) bytes h e = absurd (apart (act_text (acts.Word steps.Mark w a)) (spaced (codes "send") bytes) refl e)
 sent_only (acts.Claim None) bytes h e = absurd (apart (act_text (acts.Claim None)) (spaced (codes "send") bytes) refl e)
@@ -115,7 +114,7 @@ pub record Finished (bytes : List ℕ) : Type 0 where
 
 pub finished_only : (x : RouterEvent) (bytes : List ℕ) → IsAct x → act_text x ≡ spaced (codes "finish") bytes → Finished bytes
 finished_only (acts.Finish way link) bytes h e =
-    record { way = way; link = link; is_link = h; text = (rests_agree (codes "finish ") _ bytes e) }
+    record { way = way; link = link; is_link = h; text = rests_agree (codes "finish ") _ bytes e }
 finished_only (acts.Word steps.Mark w a) bytes h e =
     absurd (apart (act_text (acts.Word steps.Mark w a)) (spaced (codes "finish") bytes) refl e)
 finished_only (acts.Claim None) bytes h e = absurd (apart (act_text (acts.Claim None)) (spaced (codes "finish") bytes) refl e)
@@ -131,7 +130,7 @@ pub record Retired (bytes : List ℕ) : Type 0 where
 
 pub retired_only : (x : RouterEvent) (bytes : List ℕ) → IsAct x → act_text x ≡ spaced (codes "retire") bytes → Retired bytes
 retired_only (acts.Retire n link) bytes h e =
-    record { n = n; link = link; number = h.0; is_link = h.1; text = (rests_agree (codes "retire ") _ bytes e) }
+    record { n = n; link = link; number = h.0; is_link = h.1; text = rests_agree (codes "retire ") _ bytes e }
 retired_only (acts.Word steps.Mark w a) bytes h e =
     absurd (apart (act_text (acts.Word steps.Mark w a)) (spaced (codes "retire") bytes) refl e)
 retired_only (acts.Claim None) bytes h e = absurd (apart (act_text (acts.Claim None)) (spaced (codes "retire") bytes) refl e)
@@ -139,7 +138,7 @@ retired_only other bytes h e = absurd (apart (act_text other) (spaced (codes "re
 
 pub claimed_only : (x : RouterEvent) (bytes : List ℕ) → IsAct x → act_text x ≡ spaced (codes "claim") bytes
     → (codes "NoWord" ≡ bytes) ⊎ ((word : ℕ) × IsWordNumber word × (decimal word ≡ bytes))
-claimed_only (acts.Claim (Some word)) bytes h e = inr (word, h, (rests_agree (codes "claim ") _ bytes e))
+claimed_only (acts.Claim (Some word)) bytes h e = inr (word, h, rests_agree (codes "claim ") _ bytes e)
 claimed_only (acts.Claim None) bytes h e = inl (rests_agree (codes "claim ") _ bytes e)
 claimed_only (acts.Word steps.Mark w a) bytes h e =
     absurd (apart (act_text (acts.Word steps.Mark w a)) (spaced (codes "claim") bytes) refl e)
@@ -147,7 +146,7 @@ claimed_only other bytes h e = absurd (apart (act_text other) (spaced (codes "cl
 
 pub begun_only : (x : RouterEvent) (bytes : List ℕ) → IsAct x → act_text x ≡ spaced (codes "begin") bytes
     → (word : ℕ) × IsWordNumber word × (central_text word ≡ bytes)
-begun_only (acts.Begin word) bytes h e = (word, h, (rests_agree (codes "begin ") _ bytes e))
+begun_only (acts.Begin word) bytes h e = (word, h, rests_agree (codes "begin ") _ bytes e)
 begun_only (acts.Word steps.Mark w a) bytes h e = absurd (apart (act_text (acts.Word steps.Mark w a)) (spaced (codes "begin") bytes) refl e)
 begun_only (acts.Claim None) bytes h e = absurd (apart (act_text (acts.Claim None)) (spaced (codes "begin") bytes) refl e)
 begun_only other bytes h e = absurd (apart (act_text other) (spaced (codes "begin") bytes) refl e)

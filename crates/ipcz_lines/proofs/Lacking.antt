@@ -1,4 +1,4 @@
--- Each text has one form: what a text of some form must be where it begins with a known word.
+-- Texts that lack a mark, and how a text parts at its first mark.
 use Rattle.std.proofs.Common.{◌≡◌, ◌≢◌, ℕ, ◌+◌, ◌%◌, ◌<◌, ◌≤◌, Bool, true, false, List, [], ◌∷◌, ◌++◌, length, Option, None, refl, sym, ap, ◌∙◌, subst, arith, cond, eqb, drop, take, ◌-◌, length-append, get_or}
 use Rattle.std.specs.List.{All}
 use Rattle.std.proofs.lemmas.List.{take_all}

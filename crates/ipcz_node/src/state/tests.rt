@@ -1,64 +1,99 @@
-//! One node by itself, whose mail is carried by hand.
-mod acts;
-mod refusals;
-mod strays;
+//! The last serials of peripheral links, which no run comes to. All else of nodes is tested by
+//! public calls, in `ipcz_node_tests`.
 
 use super::NodeState;
-use crate::happened::Happened;
-use ipcz_base::{Descriptor, End, Item, LinkId, Message, Parcel, Sequence, Side};
-use std::alloc::{AllocError, Global};
+use crate::act::Act;
+use ipcz_base::{End, Refusal, Sequence, Side};
+use ipcz_router::act::RouterAct;
+use std::alloc::Global;
 
-// The end of side A of a pair.
-fn a(pair: u32) -> End {
-    End {
-        pair,
-        side: Side::A,
+const A0: End = End {
+    pair: 0,
+    side: Side::A,
+};
+
+const A1: End = End {
+    pair: 1,
+    side: Side::A,
+};
+
+const B1: End = End {
+    pair: 1,
+    side: Side::B,
+};
+
+// Opens the pair of a word.
+fn open(node: &mut NodeState, word: u32) -> bool {
+    let Ok(()) = node.open_prepare() else {
+        return false;
+    };
+    let _ends = node.open_commit(word);
+    true
+}
+
+// Puts an empty parcel with these ends.
+fn put(node: &mut NodeState, alloc: Global, at: End, ends: &[End]) -> bool {
+    let mut list = Vec::new(alloc);
+    if list.extend_from_slice(ends).is_err() {
+        return false;
+    }
+    let bytes = Sequence::from_vec(Vec::new(alloc));
+    node.put(at, bytes, Sequence::from_vec(list)).is_ok()
+}
+
+// What making room for a send of a router answers.
+fn prepare_send(node: &mut NodeState, serial: u64) -> Result<(), Refusal> {
+    node.prepare(&Act::Router(serial, RouterAct::SendOut))
+}
+
+// What making room for the send of a parcel with these ends answers, from this serial of a
+// peripheral link on. With the pair of C1 open, router 0 serves 0A, toward node 1.
+fn prepare_move(
+    node: &mut NodeState,
+    alloc: Global,
+    next: u64,
+    ends: &[End],
+) -> Option<Result<(), Refusal>> {
+    node.next_peripheral = next;
+    if open(node, 1) && put(node, alloc, A0, ends) {
+        Some(prepare_send(node, 0))
+    } else {
+        None
     }
 }
 
-// A copy of some bytes, ends or descriptors.
-fn listed<T: Copy + Clone + Drop>(alloc: Global, items: &[T]) -> Result<Sequence<T>, AllocError> {
-    let mut list = Vec::new(alloc);
-    list.extend_from_slice(items)?;
-    Ok(Sequence::from_vec(list))
-}
-
-// A parcel.
-fn parcel(alloc: Global, bytes: &[u8], ends: &[End]) -> Result<Item, AllocError> {
-    Ok(Item::Parcel(Parcel {
-        bytes: listed(alloc, bytes)?,
-        ends: listed(alloc, ends)?,
-    }))
-}
-
-// The item of a number for the router at side A of C0.
-fn item(alloc: Global, n: u64, ends: &[End], moves: &[Descriptor]) -> Result<Message, AllocError> {
-    Ok(Message::Item {
-        link: LinkId::Central(0),
-        side: Side::A,
-        n,
-        item: parcel(alloc, b"a", ends)?,
-        moves: listed(alloc, moves)?,
-    })
-}
-
-// Delivers a message; whether it fitted, where it was delivered.
-fn fits(node: &mut NodeState, from: u8, message: Message) -> Option<bool> {
-    if from >= node.count() {
+// The same, on a new node of a number among so many.
+fn prepare_on(
+    alloc: Global,
+    number: u8,
+    count: u8,
+    next: u64,
+    ends: &[End],
+) -> Option<Result<(), Refusal>> {
+    if number >= count || count > 8 {
         return None;
     }
-    match node.deliver(from, message) {
-        Ok(Happened::Hand { unfit, .. }) => Some(!unfit),
-        _ => None,
+    match NodeState::new(alloc, number, count) {
+        Ok(mut node) => prepare_move(&mut node, alloc, next, ends),
+        Err(_) => None,
     }
 }
 
-// Delivers a message that fits.
-fn is_fit(node: &mut NodeState, from: u8, message: Message) -> bool {
-    fits(node, from, message) == Some(true)
-}
+const ROWS: [(u64, &[End], Result<(), Refusal>); 5] = [
+    (u64::MAX, &[], Ok(())),
+    (u64::MAX, &[B1], Err(Refusal::NumbersEnd)),
+    (u64::MAX - 1, &[B1], Ok(())),
+    (u64::MAX - 1, &[A1, B1], Err(Refusal::NumbersEnd)),
+    (u64::MAX - 2, &[A1, B1], Ok(())),
+];
 
-// Delivers a message that doesn't fit.
-fn is_unfit(node: &mut NodeState, from: u8, message: Message) -> bool {
-    fits(node, from, message) == Some(false)
+#[test]
+fn a_move_has_serials_below_the_last(rt: HostRuntime) {
+    for (next, ends, want) in ROWS {
+        assert_eq!(rt;
+            prepare_on(rt.alloc(), 0, 2, next, ends),
+            Some(want),
+            "{next}"
+        );
+    }
 }

@@ -1,0 +1,262 @@
+//! A node by itself, whose mail is carried by hand, by steps that say what each call gives.
+//!
+//! Nothing is promised of what stands here: a test's own proof would else work out the whole node
+//! at each call. So a test is a list of steps.
+mod bypass;
+mod deeds;
+mod letters;
+mod moves;
+mod refusals;
+mod strays;
+mod turns;
+mod two_nodes;
+
+use self::deeds::Deed;
+use self::letters::{Letter, listed};
+use ipcz_base::{End, LinkId, Message, Refusal, Sequence, Side};
+use ipcz_node::{Act, Happened, MailSeen, NodeState};
+use std::alloc::Global;
+
+const A0: End = End {
+    pair: 0,
+    side: Side::A,
+};
+
+const B0: End = End {
+    pair: 0,
+    side: Side::B,
+};
+
+const A1: End = End {
+    pair: 1,
+    side: Side::A,
+};
+
+const B1: End = End {
+    pair: 1,
+    side: Side::B,
+};
+
+const C0: LinkId = LinkId::Central(0);
+
+const C1: LinkId = LinkId::Central(1);
+
+const C2: LinkId = LinkId::Central(2);
+
+/// No message has come, and each message can be posted.
+const CLEAR: MailSeen = MailSeen {
+    full: [false; 8],
+    empty: [true; 8],
+};
+
+/// No message has come, and none can be posted.
+const JAMMED: MailSeen = MailSeen {
+    full: [false; 8],
+    empty: [false; 8],
+};
+
+/// A call on the node, with what it gives.
+#[derive(Clone, Copy)]
+enum Step {
+    /// Opens the pair of a word.
+    Open(u32),
+    /// Puts a parcel of one byte with these ends: its number, or why it is refused.
+    Put(End, &'static [End], Result<u64, Refusal>),
+    /// Puts a parcel of so many bytes of this value.
+    PutBytes(End, u8, usize, &'static [End], Result<u64, Refusal>),
+    /// Takes the next parcel of an end: its number, or why there is none.
+    Get(End, Result<u64, Refusal>),
+    /// Takes the next parcel of an end, with its number, its bytes and its ends.
+    GetParcel(End, u64, &'static [u8], &'static [End]),
+    /// Closes an end: the number of its mark, or why it is refused.
+    Close(End, Result<u64, Refusal>),
+    /// Whether callers hold an end.
+    Holds(End, bool),
+    /// The mailboxes are seen so from now on.
+    See(MailSeen),
+    /// The first possible act.
+    First(Act),
+    /// Does the first possible act, with the answer of the words that is told.
+    Turn(Deed),
+    /// Gives the lock back in place of the begin that comes first; the word after it.
+    Unlock(u64),
+    /// The message that was posted last.
+    Posted(Letter),
+    /// Delivers a message from a node; whether it fits.
+    Deliver(u8, Letter, bool),
+    /// Delivers the message that was posted last to the node itself, where it fits.
+    Return,
+    /// How many messages didn't fit.
+    Strays(usize),
+    /// Whether the node has nothing to do until a message comes.
+    Quiet(bool),
+}
+
+/// A node, how it sees the mailboxes, and the message that it posted last.
+#[derive(Drop)]
+struct Trial {
+    node: NodeState,
+    alloc: Global,
+    seen: MailSeen,
+    posted: Option<Message>,
+}
+
+impl Trial {
+    // The node of a number among so many.
+    fn new(alloc: Global, number: u8, count: u8) -> Option<Trial> {
+        if number >= count || count > 8 {
+            return None;
+        }
+        Some(Trial {
+            node: NodeState::new(alloc, number, count).ok()?,
+            alloc,
+            seen: CLEAR,
+            posted: None,
+        })
+    }
+
+    // Opens the pair of a word.
+    fn open(&mut self, word: u32) -> bool {
+        let Ok(()) = self.node.open_prepare() else {
+            return false;
+        };
+        let (first, second) = self.node.open_commit(word);
+        first.pair == word && first.side == Side::A && second == first.opposite()
+    }
+
+    // Puts a parcel; its number, or why it is refused, where both lists are handed back then.
+    fn put(
+        &mut self,
+        at: End,
+        byte: u8,
+        count: usize,
+        ends: &[End],
+    ) -> Option<Result<u64, Refusal>> {
+        let bytes = vec![in self.alloc; byte; count].ok()?;
+        let copies = listed(self.alloc, ends).ok()?;
+        match self.node.put(at, Sequence::from_vec(bytes), copies) {
+            Ok(number) => Some(Ok(number)),
+            Err(refused) => {
+                if refused.bytes.len() == count && refused.ends.as_slice() == ends {
+                    Some(Err(refused.why))
+                } else {
+                    None
+                }
+            }
+        }
+    }
+
+    // Takes the next parcel of an end; its number.
+    fn get(&mut self, at: End) -> Result<u64, Refusal> {
+        match self.node.get(at) {
+            Ok((number, _)) => Ok(number),
+            Err(why) => Err(why),
+        }
+    }
+
+    // Takes the next parcel of an end; whether it is this one.
+    fn gets(&mut self, at: End, number: u64, bytes: &[u8], ends: &[End]) -> bool {
+        match self.node.get(at) {
+            Ok((n, parcel)) => {
+                n == number && parcel.bytes.as_slice() == bytes && parcel.ends.as_slice() == ends
+            }
+            Err(_) => false,
+        }
+    }
+
+    // Delivers a message; whether it fitted, where it was delivered.
+    fn deliver(&mut self, from: u8, message: Message) -> Option<bool> {
+        if from >= self.node.count() {
+            return None;
+        }
+        match self.node.deliver(from, message) {
+            Ok(Happened::Hand { unfit, .. }) => Some(!unfit),
+            _ => None,
+        }
+    }
+
+    // Delivers a message that is made; whether it fitted.
+    fn deliver_letter(&mut self, from: u8, letter: &Letter) -> Option<bool> {
+        let message = letter.message(self.alloc).ok()?;
+        self.deliver(from, message)
+    }
+
+    // Delivers the message that was posted last to the node itself; whether it fitted.
+    fn deliver_back(&mut self) -> Option<bool> {
+        let message = self.posted.take()?;
+        let number = self.node.number();
+        self.deliver(number, message)
+    }
+
+    // Whether the message that was posted last is this one.
+    fn has_posted(&self, letter: &Letter) -> bool {
+        match &self.posted {
+            Some(message) => letter.is(message),
+            None => false,
+        }
+    }
+
+    // Whether a call of a portal gives what its step says.
+    fn calls(&mut self, step: &Step) -> bool {
+        match step {
+            Step::Open(word) => self.open(*word),
+            Step::Put(at, ends, want) => self.put(*at, b'a', 1, ends) == Some(*want),
+            Step::PutBytes(at, byte, count, ends, want) => {
+                self.put(*at, *byte, *count, ends) == Some(*want)
+            }
+            Step::Get(at, want) => self.get(*at) == *want,
+            Step::GetParcel(at, n, bytes, ends) => self.gets(*at, *n, bytes, ends),
+            Step::Close(at, want) => self.node.close(*at) == *want,
+            Step::Holds(end, want) => self.node.holds(*end) == *want,
+            _ => false,
+        }
+    }
+
+    // Whether a call gives what its step says.
+    fn goes(&mut self, step: &Step) -> bool {
+        match step {
+            Step::See(seen) => {
+                self.seen = *seen;
+                true
+            }
+            Step::First(act) => self.node.next(&self.seen) == *act,
+            Step::Turn(deed) => self.turns(deed),
+            Step::Unlock(word) => self.unlocks(*word),
+            Step::Posted(letter) => self.has_posted(letter),
+            Step::Deliver(from, letter, want) => self.deliver_letter(*from, letter) == Some(*want),
+            Step::Return => self.deliver_back() == Some(true),
+            Step::Strays(count) => self.node.strays().len() == *count,
+            Step::Quiet(want) => self.node.quiet() == *want,
+            _ => self.calls(step),
+        }
+    }
+
+    // The first step that doesn't give what it says.
+    fn first_wrong(&mut self, steps: &[Step]) -> Option<usize> {
+        for (i, step) in steps.iter().enumerate() {
+            if !self.goes(step) {
+                return Some(i);
+            }
+        }
+        None
+    }
+
+    // The first step that doesn't give what it says, by its part and its place there.
+    fn first_wrong_of(&mut self, parts: &[&[Step]]) -> Option<(usize, usize)> {
+        for (part, steps) in parts.iter().enumerate() {
+            if let Some(place) = self.first_wrong(steps) {
+                return Some((part, place));
+            }
+        }
+        None
+    }
+}
+
+/// The first step that doesn't give what it says, on a new node of a number among so many, by its
+/// part and its place there.
+fn first_wrong(alloc: Global, number: u8, count: u8, parts: &[&[Step]]) -> Option<(usize, usize)> {
+    match Trial::new(alloc, number, count) {
+        Some(mut trial) => trial.first_wrong_of(parts),
+        None => Some((0, 0)),
+    }
+}
