@@ -1,5 +1,6 @@
 -- Places one under the other, with one more.
-use Rattle.std.proofs.Common.{◌≡◌, ℕ, zero, suc, ◌+◌, ◌*◌, ◌<◌, ◌≤◌, ◌++◌, [], ◌∷◌, List, length, get_or, flat_map, length-append, arith, refl, ◌∙◌}
+use Rattle.std.proofs.Common.{◌≡◌, ℕ, zero, suc, ◌+◌, ◌*◌, ◌<◌, ◌≤◌, ◌++◌, [], ◌∷◌, List, length, get_or, flat_map, length-append, arith}
+use Rattle.std.proofs.Common.{refl, ◌∙◌}
 use Rattle.ipcz_lines.specs.declared.line.ReadLine.{ReadLine}
 use Rattle.ipcz_draw.specs.declared.rows.Place.{Place}
 use Rattle.ipcz_lines.specs.Lines.{with_line_feed}

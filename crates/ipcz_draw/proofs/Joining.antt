@@ -17,13 +17,15 @@ true_and_false : (b : Bool) → b ≡ true → b ≡ false → ⊥
 true_and_false b h e = cc
 
 -- a line that passes the test isn't among those that don't
-pub passed_over : (test : Line → Bool) (read : List ReadLine) (i k j : ℕ) → AllWithin (λ x. test x.line ≡ false) read i k → i ≤ j → j < k → IsAt test read j → ⊥
+pub passed_over : (test : Line → Bool) (read : List ReadLine) (i k j : ℕ) → AllWithin (λ x. test x.line ≡ false) read i k → i ≤ j → j < k →
+    IsAt test read j → ⊥
 passed_over test read i k j none low high at =
     let d = some_line read j at.within in
     true_and_false (test (get_or read j d).line) (at.holds d) (none j d low high)
 
 -- where none comes, none is next
-pub no_next : (test : Line → Bool) (read : List ReadLine) (i : ℕ) → AllWithin (λ x. test x.line ≡ false) read (i + 1) (length read) → (j : ℕ) → IsNext test read i j → ⊥
+pub no_next : (test : Line → Bool) (read : List ReadLine) (i : ℕ) → AllWithin (λ x. test x.line ≡ false) read (i + 1) (length read) →
+    (j : ℕ) → IsNext test read i j → ⊥
 no_next test read i none j next = passed_over test read (i + 1) (length read) j none (omega (arith, next.behind)) next.at.within next.at
 
 -- of two next lines neither comes first
@@ -72,7 +74,8 @@ message_kept read a b k (inr (inl h)) = inr (inl (h.0, h.1, h.2, kept_looked rea
 message_kept read a b k (inr (inr h)) = inr (inr (h.0, h.1, kept_handed read h.0 h.1 a b k h.2))
 
 -- one message of all is changed, and keeps its way
-pub messages_kept : (read : List ReadLine) (all : List Message) (i : ℕ) (old new : Message) → All (IsMessage read) all → i < length all → old ≡ get_or all i old → KeepsWay old new → All (IsMessage read) (set all i new)
+pub messages_kept : (read : List ReadLine) (all : List Message) (i : ℕ) (old new : Message) → All (IsMessage read) all → i < length all →
+    old ≡ get_or all i old → KeepsWay old new → All (IsMessage read) (set all i new)
 messages_kept read all i old new each h at kept =
     let P : Message → Type 0 = IsMessage read in
     All-set P all i new (message_kept read old new kept (subst P (sym at) (each i old h))) each

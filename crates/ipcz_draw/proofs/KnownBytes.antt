@@ -1,5 +1,6 @@
 -- Known bytes over two steps.
-use Rattle.std.proofs.Common.{◌≡◌, ℕ, ◌+◌, ◌≤◌, ◌-◌, ◌++◌, List, Option, None, Some, length, take, drop, sym, ap, ◌∙◌, arith, append_assoc, subst, length-drop}
+use Rattle.std.proofs.Common.{◌≡◌, ℕ, ◌+◌, ◌≤◌, ◌-◌, ◌++◌, List, Option, None, Some, length, take, drop, sym, ap, ◌∙◌, arith, append_assoc}
+use Rattle.std.proofs.Common.{subst, length-drop}
 use Rattle.std.proofs.lemmas.List.{take_all, drop-drop}
 use Rattle.std.proofs.Math.Seq.{take-add}
 use Rattle.std.specs.Io.KnownBytes.{Appends, Consumes}
@@ -17,7 +18,8 @@ consumes_two (Some xs0) (Some bs) None xs ys h k = absurd k
 consumes_two (Some xs0) (Some bs) (Some cs) xs ys h k = h ∙ ap (λ l. xs ++ l) k ∙ sym (append_assoc xs ys cs)
 
 -- one write more: what is written, and the rest
-pub written : (a b c : Option (List ℕ)) (text rest : List ℕ) (k n : ℕ) → k ≤ length text → rest ≡ drop k text → n ≤ length rest → Appends a b (take k text) → Appends b c (take n rest)
+pub written : (a b c : Option (List ℕ)) (text rest : List ℕ) (k n : ℕ) → k ≤ length text → rest ≡ drop k text → n ≤ length rest →
+    Appends a b (take k text) → Appends b c (take n rest)
     → (k + n ≤ length text) × (take (length rest - n) (drop n rest) ≡ drop (k + n) text) × Appends a c (take (k + n) text)
 written a b c text rest k n within same few h more =
     let size : length rest ≡ length text - k = ap length same ∙ length-drop k text in

@@ -1,5 +1,6 @@
 -- How many bytes rows take, and how many bytes there are of lines.
-use Rattle.std.proofs.Common.{ℕ, zero, suc, ◌+◌, ◌*◌, ◌<◌, ◌≤◌, [], ◌∷◌, List, length, get_or, take, drop, flat_map, length-append, arith, ap, codes}
+use Rattle.std.proofs.Common.{ℕ, zero, suc, ◌+◌, ◌*◌, ◌<◌, ◌≤◌, [], ◌∷◌, List, length, get_or, take, drop, flat_map, length-append, arith}
+use Rattle.std.proofs.Common.{ap, codes}
 use Rattle.std.specs.List.{All, HoldsAt, sum_by}
 use Rattle.std.proofs.lemmas.List.{drop-drop}
 use Rattle.std.proofs.lemmas.List.Sums.{sum_by-cons, sum_by-take-drop}
@@ -12,14 +13,16 @@ use Rattle.ipcz_draw.specs.Rows.{Follow, IsPlace}
 use Rattle.ipcz_draw.specs.Sizes.{most_marks, most_picture, most_place, most_row, IsBounded}
 
 -- a line is one of those from it on
-pub row_in : (read : List ReadLine) (i n : ℕ) (d : ReadLine) → 0 < n → i < length read → most_row (get_or read i d) ≤ sum_by most_row (take n (drop i read))
+pub row_in : (read : List ReadLine) (i n : ℕ) (d : ReadLine) → 0 < n → i < length read → most_row (get_or read i d)
+    ≤ sum_by most_row (take n (drop i read))
 row_in [] i n d some within = absurd (omega (arith, within))
 row_in (y ∷ ys) zero zero d some within = absurd (omega (arith, some))
 row_in (y ∷ ys) zero (suc n) d some within = omega (arith, sum_by-cons most_row y (take n ys))
 row_in (y ∷ ys) (suc i) n d some within = row_in ys i n d some (omega (arith, within))
 
 -- the parts of a row are within the row
-pub row_fits : (read : List ReadLine) (p : Place) (d : ReadLine) → IsPlace read p → (a b c e f g : ℕ) → HoldsAt (λ x. b ≤ a + (140 + 6 * length x.text.now)) read p.first
+pub row_fits : (read : List ReadLine) (p : Place) (d : ReadLine) → IsPlace read p → (a b c e f g : ℕ) →
+    HoldsAt (λ x. b ≤ a + (140 + 6 * length x.text.now)) read p.first
     → c ≤ b + 8 → e ≤ c + 1140 → f ≤ e + most_marks (get_or read p.first d).line → g ≤ f + 8 → g ≤ a + most_place read p
 row_fits read p d place a b c e f g begun closed gutter marks done =
     omega (arith, row_in read p.first p.count d place.some (omega (arith, place.some, place.within)), begun d, closed, gutter, marks, done)
@@ -56,7 +59,8 @@ marks_in text lines.Settled h = omega arith
 marks_in text lines.Unsettled h = omega arith
 marks_in text (lines.Refused a) h = omega arith
 
-rows_in : (read : List ReadLine) → All IsReadLine read → sum_by most_row read ≤ 3800 * length read + 1600 * length (flat_map with_line_feed read)
+rows_in : (read : List ReadLine) → All IsReadLine read →
+    sum_by most_row read ≤ 3800 * length read + 1600 * length (flat_map with_line_feed read)
 rows_in [] each = omega arith
 rows_in (x ∷ xs) each =
     omega (
@@ -69,5 +73,6 @@ rows_in (x ∷ xs) each =
     )
 
 -- the bound of a picture, by the bytes that its lines were read from
-pub bounded : (input : List ℕ) (read : List ReadLine) (text : List ℕ) → IsRead input read → length text ≤ most_picture read → IsBounded input read text
+pub bounded : (input : List ℕ) (read : List ReadLine) (text : List ℕ) → IsRead input read → length text ≤ most_picture read →
+    IsBounded input read text
 bounded input read text h few = omega (arith, few, rows_in read h.each, ap length h.whole)

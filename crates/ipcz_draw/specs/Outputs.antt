@@ -1,5 +1,6 @@
 -- What is written for a transcript, and what a run of the program may have read and written.
-use Rattle.std.specs.Prelude.{ℕ, ◌≡◌, ◌≤◌, ◌↔◌, Bool, true, false, IsTrue, IsErrOf, List, [], ◌∷◌, ◌++◌, ◌==◌, if◌then◌else◌, codes, length, Option, Result, Ok, Err}
+use Rattle.std.specs.Prelude.{ℕ, ◌≡◌, ◌≤◌, ◌↔◌, Bool, true, false, IsTrue, IsErrOf, List, [], ◌∷◌, ◌++◌, ◌==◌, if◌then◌else◌, codes, length}
+use Rattle.std.specs.Prelude.{Option, Result, Ok, Err}
 use Rattle.std.specs.Fmt.{decimal}
 use Rattle.std.specs.Io.KnownBytes.{Consumes, IsAtEnd, Appends, Keeps}
 use Rattle.ipcz_lines.specs.declared.line.ReadLine.{ReadLine}
@@ -24,7 +25,8 @@ bad_line n = codes "refused line " ++ decimal n ++ (codes ": not a line of a tra
 abbrev pub refused_line : ℕ → List ℕ
 refused_line n = if n == 0 then long_line else bad_line n
 
--- what is written for these bytes: a picture of the lines that they are, of a size that is linear in theirs, or the one line that says which line is refused
+-- what is written for these bytes: a picture of the lines that they are, of a size that is linear in theirs, or the one line that says
+-- which line is refused
 abbrev pub IsOutput : List ℕ → Ending → List ℕ → Type 0
 IsOutput input endings.Drawn text = (read : List ReadLine) × IsRead input read × IsPicture read text × IsBounded input read text
 IsOutput input (endings.Refused n) text = IsRefused input (unread.Refused n) × (text ≡ refused_line n)
@@ -40,7 +42,8 @@ abbrev pub ReadsAndWrites : Option (List ℕ) → Option (List ℕ) → Option (
 ReadsAndWrites before after old new (Ok ending) =
     (input : List ℕ) × (text : List ℕ) × IsInput before after input × IsOutput input ending text × Appends old new text
 ReadsAndWrites before after old new (Err faults.Write) =
-    (input : List ℕ) × (ending : Ending) × (text : List ℕ) × IsInput before after input × IsOutput input ending text × AppendsFront old new text
+    (input : List ℕ) × (ending : Ending) × (text : List ℕ) × IsInput before after input × IsOutput input ending text
+    × AppendsFront old new text
 ReadsAndWrites before after old new (Err faults.Read) = ConsumesAtMost before after 262145 × Keeps old new
 ReadsAndWrites before after old new (Err faults.OutOfMemory) = ConsumesAtMost before after 262145 × Keeps old new
 
@@ -61,7 +64,8 @@ abbrev pub WritesUsage : Option (List ℕ) → Option (List ℕ) → Bool → �
 WritesUsage old new false status = (status ≡ 2) × Appends old new usage
 WritesUsage old new true status = (status ≡ 1) × AppendsFront old new usage
 
--- a transcript was drawn or not, and the status is that of its ending: what was read and written, and which device has failed, are as the ending says
+-- a transcript was drawn or not, and the status is that of its ending: what was read and written, and which device has failed, are as the
+-- ending says
 pub record Draws (before after old new : Option (List ℕ)) (reader_failed writer_failed : Bool) (answered : ℕ) : Type 0 where
   pub ending : Result Ending Fault
   pub answer : answered ≡ status ending

@@ -1,5 +1,6 @@
 -- The rows of a picture: which lines stand in each, how far down it begins, and how high it is.
-use Rattle.std.specs.Prelude.{ℕ, ◌+◌, ◌*◌, ◌/◌, ◌≡◌, ◌≤◌, ◌<◌, ◌==◌, Bool, true, false, if◌then◌else◌, List, [], ◌∷◌, length, map, take, drop, min, max, count_by}
+use Rattle.std.specs.Prelude.{ℕ, ◌+◌, ◌*◌, ◌/◌, ◌≡◌, ◌≤◌, ◌<◌, ◌==◌, Bool, true, false, if◌then◌else◌, List, [], ◌∷◌, length, map, take}
+use Rattle.std.specs.Prelude.{drop, min, max, count_by}
 use Rattle.std.specs.List.{AllWithin, HoldsAt}
 use Rattle.ipcz_lines.specs.declared.line.Line.{Line}
 use Rattle.ipcz_lines.specs.declared.line.Line.TheVariants as lines
@@ -49,8 +50,8 @@ pub record IsPlace (read : List ReadLine) (p : Place) : Type 0 where
   pub whole : HoldsAt IsIdle read p.first → p.first + p.count < length read → HoldsAt IsBusy read (p.first + p.count)
   pub high : HoldsAt (λ x. p.units ≡ units_of x.line) read p.first
 
--- Places for the lines from one index to another, one under the other from one height to another: each line has one place, they are in order, and
--- each place begins where the one above ends.
+-- Places for the lines from one index to another, one under the other from one height to another: each line has one place, they are in
+-- order, and each place begins where the one above ends.
 abbrev pub Follow : List ReadLine → ℕ → ℕ → List Place → ℕ → ℕ → Type 0
 Follow read from top [] to bottom = (to ≡ from) × (bottom ≡ top)
 Follow read from top (p ∷ ps) to bottom =

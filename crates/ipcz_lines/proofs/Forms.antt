@@ -1,5 +1,6 @@
 -- Which act, event or line has a text that begins with a known word.
-use Rattle.std.proofs.Common.{◌≡◌, ◌≢◌, ◌⊎◌, ℕ, true, false, List, [], ◌∷◌, ◌++◌, Option, Some, None, Bor, refl, sym, ap, ◌∙◌, subst, arith, codes, inl, inr, append_assoc}
+use Rattle.std.proofs.Common.{◌≡◌, ◌≢◌, ◌⊎◌, ℕ, true, false, List, [], ◌∷◌, ◌++◌, Option, Some, None, Bor, refl, sym, ap, ◌∙◌, subst, arith}
+use Rattle.std.proofs.Common.{codes, inl, inr, append_assoc}
 use Rattle.std.specs.List.{AllByRecursion}
 use Rattle.std.specs.Fmt.{decimal}
 use Rattle.std.proofs.lemmas.Fmt.{decimal_injective}
@@ -24,8 +25,12 @@ use Rattle.ipcz_lines.specs.declared.line.Event.{Event}
 use Rattle.ipcz_lines.specs.declared.line.Event.TheVariants as events
 use Rattle.ipcz_lines.specs.declared.line.Line.{Line}
 use Rattle.ipcz_lines.specs.declared.line.Line.TheVariants as lines
-use Rattle.ipcz_lines.specs.LineParts.{joined, AreParted, IsAnswer, IsEndText, IsFault, IsWordText, answer_text, fate_text, fault_text, IsKind, IsLink, IsName, IsNodeNumber, IsNumber, IsWordNumber, Reads, kind_text, link_text, refusal_text, step_text, way_text}
-use Rattle.ipcz_lines.specs.Lines.{IsPrintable, IsReadLine, with_line_feed, AreMoves, AreNames, AreWords, FitsLine, IsEvent, IsRouterEvent, IsTurn, event_text, line_text, opened_text, parcel_text, IsAct, IsWordAct, act_text, and_more, central_text, moves_text, spaced}
+use Rattle.ipcz_lines.specs.LineParts.{joined, AreParted, IsAnswer, IsEndText, IsFault, IsWordText, answer_text, fate_text, fault_text}
+use Rattle.ipcz_lines.specs.LineParts.{IsKind, IsLink, IsName, IsNodeNumber, IsNumber, IsWordNumber, Reads, kind_text, link_text}
+use Rattle.ipcz_lines.specs.LineParts.{refusal_text, step_text, way_text}
+use Rattle.ipcz_lines.specs.Lines.{IsPrintable, IsReadLine, with_line_feed, AreMoves, AreNames, AreWords, FitsLine, IsEvent, IsRouterEvent}
+use Rattle.ipcz_lines.specs.Lines.{IsTurn, event_text, line_text, opened_text, parcel_text, IsAct, IsWordAct, act_text, and_more}
+use Rattle.ipcz_lines.specs.Lines.{central_text, moves_text, spaced}
 use Rattle.ipcz_lines.proofs.Lacking.{Lacks, apart, decimal_lacks, differ, name_lacks, parts_agree, not_parted, one_parting, rests_agree}
 
 abbrev pub NoSpace : ℕ → Type 0

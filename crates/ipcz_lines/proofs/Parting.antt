@@ -1,5 +1,6 @@
 -- Texts that a mark parts.
-use Rattle.std.proofs.Common.{◌≡◌, ◌↔◌, ℕ, ◌<◌, Bool, false, IsTrue, List, [], ◌∷◌, ◌++◌, length, refl, sym, ap, ◌∙◌, subst, arith, codes, length-append}
+use Rattle.std.proofs.Common.{◌≡◌, ◌↔◌, ℕ, ◌<◌, Bool, false, IsTrue, List, [], ◌∷◌, ◌++◌, length, refl, sym, ap, ◌∙◌, subst, arith, codes}
+use Rattle.std.proofs.Common.{length-append}
 use Rattle.std.specs.List.{AllByRecursion}
 use Rattle.ipcz_lines.specs.LineParts.{AreParted, IsEndText, IsWordText, joined, side_text}
 use Rattle.std.specs.Fmt.{decimal}
@@ -33,7 +34,8 @@ pub parted_front : (Is : List ℕ → Type 0) (mark : ℕ) → ((text : List ℕ
 parted_front Is mark lack first rest text none e h = front_by_parts Is mark lack first rest text none e h.parts h.some h.each h.whole
   where
     front_by_parts : (Is : List ℕ → Type 0) (mark : ℕ) → ((text : List ℕ) → Is text → Lacks mark text) → (first rest text : List ℕ) → Lacks
-        mark first → text ≡ first ++ mark ∷ rest → (parts : List (List ℕ)) → 0 < length parts → AllByRecursion Is parts → joined mark parts ≡
+        mark first → text ≡ first ++ mark ∷ rest → (parts : List (List ℕ)) → 0 < length parts → AllByRecursion Is parts →
+        joined mark parts ≡
         text → Is first × AreParted Is mark rest
     front_by_parts Is mark lack first rest text none e [] some each whole = absurd (omega arith)
     front_by_parts Is mark lack first rest text none e (p ∷ []) some each whole =

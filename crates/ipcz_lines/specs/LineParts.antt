@@ -1,5 +1,6 @@
 -- How the parts of a transcript's lines are written.
-use Rattle.std.specs.Prelude.{ℕ, Bool, ◌≡◌, ◌^◌, ◌<◌, ◌≤◌, ◌≢◌, ◌||◌, ◌==◌, true, List, [], ◌∷◌, ◌++◌, codes, length, slice_index, Option, Some, None}
+use Rattle.std.specs.Prelude.{ℕ, Bool, ◌≡◌, ◌^◌, ◌<◌, ◌≤◌, ◌≢◌, ◌||◌, ◌==◌, true, List, [], ◌∷◌, ◌++◌, codes, length, slice_index, Option}
+use Rattle.std.specs.Prelude.{Some, None}
 use Rattle.std.specs.List.{All, AllByRecursion}
 use Rattle.std.specs.Char.{is_ascii_alphanumeric}
 use Rattle.std.specs.Fmt.{decimal}

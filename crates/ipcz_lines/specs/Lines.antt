@@ -1,5 +1,6 @@
 -- The forms of a transcript's lines: the text of each line, and what each part of it must be.
-use Rattle.std.specs.Prelude.{ℕ, zero, suc, ◌+◌, ◌≡◌, ◌≢◌, ◌≤◌, ◌<◌, List, [], ◌∷◌, ◌++◌, codes, length, flat_map, Option, Some, None, if◌then◌else◌}
+use Rattle.std.specs.Prelude.{ℕ, zero, suc, ◌+◌, ◌≡◌, ◌≢◌, ◌≤◌, ◌<◌, List, [], ◌∷◌, ◌++◌, codes, length, flat_map, Option, Some, None}
+use Rattle.std.specs.Prelude.{if◌then◌else◌}
 use Rattle.std.specs.List.{All}
 use Rattle.std.specs.Fmt.{decimal}
 use Rattle.ipcz_lines.specs.declared.line.RouterEvent.{RouterEvent}
@@ -13,7 +14,9 @@ use Rattle.ipcz_lines.specs.declared.line.Unread.{Unread}
 use Rattle.ipcz_lines.specs.declared.line.Unread.TheVariants as unread
 use Rattle.ipcz_lines.specs.declared.line.TheConstants.{LONGEST}
 use Rattle.ipcz_lines.specs.declared.line.parts.Refusal.{Refusal}
-use Rattle.ipcz_lines.specs.LineParts.{answer_text, end_text, fate_text, fault_text, kind_text, link_text, refusal_text, step_text, way_text, AreParted, IsAnswer, IsEnd, IsEndText, IsFault, IsKind, IsLink, IsName, IsNodeNumber, IsNumber, IsWordNumber, IsWordText}
+use Rattle.ipcz_lines.specs.LineParts.{answer_text, end_text, fate_text, fault_text, kind_text, link_text, refusal_text, step_text}
+use Rattle.ipcz_lines.specs.LineParts.{way_text, AreParted, IsAnswer, IsEnd, IsEndText, IsFault, IsKind, IsLink, IsName, IsNodeNumber}
+use Rattle.ipcz_lines.specs.LineParts.{IsNumber, IsWordNumber, IsWordText}
 
 -- two words with a space between
 abbrev pub spaced : List ℕ → List ℕ → List ℕ
@@ -34,7 +37,8 @@ central_text word = codes "C" ++ decimal word
 
 -- what a router did
 abbrev pub act_text : RouterEvent → List ℕ
-act_text (acts.Send way n link moves) = spaced (codes "send") (spaced (way_text way) (spaced (decimal n) (and_more (link_text link) (moves_text moves.now))))
+act_text (acts.Send way n link moves) = spaced (codes "send")
+    (spaced (way_text way) (spaced (decimal n) (and_more (link_text link) (moves_text moves.now))))
 act_text (acts.Discard n leaves) = spaced (codes "discard") (if leaves then spaced (decimal n) (codes "leave") else decimal n)
 act_text (acts.Finish way link) = spaced (codes "finish") (spaced (way_text way) (link_text link))
 act_text acts.Leave = codes "leave"
@@ -69,7 +73,8 @@ IsWordAct other = ⊥
 
 -- what a turn was; behind an unfit message stands what became of it
 abbrev pub event_text : Event → List ℕ
-event_text (events.Hand kind link unfit) = spaced (codes "hand") (spaced (kind_text kind) (if unfit then spaced (link_text link) (fate_text kind) else link_text link))
+event_text (events.Hand kind link unfit) = spaced (codes "hand")
+    (spaced (kind_text kind) (if unfit then spaced (link_text link) (fate_text kind) else link_text link))
 event_text (events.Look sender) = spaced (codes "look") (decimal sender)
 event_text (events.Post destination) = spaced (codes "post") (decimal destination)
 event_text (events.Close end) = spaced (codes "close") (end_text end)

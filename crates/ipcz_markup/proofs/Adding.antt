@@ -1,5 +1,6 @@
 -- What a writer adds, call by call.
-use Rattle.std.proofs.Common.{ℕ, ◌+◌, ◌*◌, ◌<◌, ◌^◌, ◌≤◌, ◌++◌, [], ◌∷◌, List, length, sym, ap, ◌∙◌, arith, rules, append_assoc, subst, length-append}
+use Rattle.std.proofs.Common.{ℕ, ◌+◌, ◌*◌, ◌<◌, ◌^◌, ◌≤◌, ◌++◌, [], ◌∷◌, List, length, sym, ap, ◌∙◌, arith, rules, append_assoc, subst}
+use Rattle.std.proofs.Common.{length-append}
 use Rattle.std.proofs.lemmas.Fmt.{length-decimal-le}
 use Rattle.std.specs.Fmt.{decimal}
 use Rattle.ipcz_markup.specs.declared.writer.Tag.{Tag}
@@ -51,6 +52,7 @@ pub row_title_length : (number : ℕ) (text : List ℕ) → number < 2 ^ 64 → 
 row_title_length number text h = simp (length-append {A = ℕ}) (omega (arith, decimal_length number h, escaped_length text))
 
 -- how long the title of a row with more lines is
-pub run_title_length : (number last count : ℕ) → number < 2 ^ 64 → last < 2 ^ 64 → count < 2 ^ 64 → length (run_title number last count) ≤ 76
+pub run_title_length : (number last count : ℕ) → number < 2 ^ 64 → last < 2 ^ 64 → count < 2 ^ 64 → length (run_title number last count)
+    ≤ 76
 run_title_length number last count h k l =
     simp (length-append {A = ℕ}) (omega (arith, decimal_length number h, decimal_length last k, decimal_length count l))

@@ -1,5 +1,5 @@
--- The markup that is written: which bytes are the front of one element with all that is in it, how a row of the picture begins in it, and how bytes of the
--- input stand in it.
+-- The markup that is written: which bytes are the front of one element with all that is in it, how a row of the picture begins in it, and
+-- how bytes of the input stand in it.
 use Rattle.std.specs.Prelude.{ℕ, ◌+◌, ◌≡◌, ◌≤◌, false, ◌==◌, if◌then◌else◌, List, [], ◌∷◌, ◌++◌, length, flat_map, nat_lt, codes}
 use Rattle.std.specs.Fmt.{decimal}
 use Rattle.ipcz_markup.specs.declared.writer.Tag.{Tag}
@@ -42,7 +42,14 @@ key_name keys.TextAnchor = codes "text-anchor"
 
 -- a byte as it stands in a text or a value: the four that markup is made of have names, and one that isn't printable is a question mark
 abbrev pub escaped_byte : ℕ → List ℕ
-escaped_byte c = if c == 38 then codes "&amp;" else if c == 60 then codes "&lt;" else if c == 62 then codes "&gt;" else if c == 34 then codes "&quot;" else if nat_lt c 32 then codes "?" else if nat_lt 126 c then codes "?" else c ∷ []
+escaped_byte c =
+    if c == 38 then codes "&amp;"
+    else if c == 60 then codes "&lt;"
+    else if c == 62 then codes "&gt;"
+    else if c == 34 then codes "&quot;"
+    else if nat_lt c 32 then codes "?"
+    else if nat_lt 126 c then codes "?"
+    else c ∷ []
 
 -- bytes as they stand in a text or a value
 abbrev pub escaped : List ℕ → List ℕ
@@ -75,8 +82,8 @@ pub data Place : Type 0 where
   InTag : Place
   InValue : Place
 
--- The front of a document, in which these rows were begun, that ends in such a place within these elements, the innermost first. There is one root; each
--- element that is closed is the innermost; a group is a row, and nothing else is one.
+-- The front of a document, in which these rows were begun, that ends in such a place within these elements, the innermost first. There is
+-- one root; each element that is closed is the innermost; a group is a row, and nothing else is one.
 pub data IsMarkup : List ℕ → List Row → Place → List Tag → Type 0 where
   Root : IsMarkup (codes "<svg") [] InTag (tags.Svg ∷ [])
   Element : {b : List ℕ} {rows : List Row} {u : Tag} {s : List Tag} → (t : Tag) → (t ≡ tags.G → ⊥) → IsMarkup b rows InText (u ∷ s)

@@ -1,9 +1,11 @@
 //! A writer of markup. It has no answer at each call: once no memory was found it says so at the end.
 
-ghost use Rattle.std.specs.Prelude.{◌≡◌, ◌++◌, ◌+◌, ◌*◌, ◌^◌, ◌≤◌, ◌<◌, ◌∷◌, [], List, ℕ, length, map, true, false, OnOk, IfOk, codes, if◌then◌else◌};
+ghost use Rattle.std.specs.Prelude.{◌≡◌, ◌++◌, ◌+◌, ◌*◌, ◌^◌, ◌≤◌, ◌<◌, ◌∷◌, [], List, ℕ, length, map, true, false, OnOk, IfOk, codes};
+ghost use Rattle.std.specs.Prelude.{if◌then◌else◌};
 ghost use Rattle.std.specs.Fmt.{decimal};
 ghost use Rattle.ipcz_markup.specs.declared.writer.Tag.{Tag};
-ghost use Rattle.ipcz_markup.specs.Markup.{escaped, escaped_byte, key_name, row_head, row_title, run_title, size, tag_name, Adds, Grows, InTag, InText, InValue, IsDocument, Keeps, KeepsValue, Row, Stands};
+ghost use Rattle.ipcz_markup.specs.Markup.{escaped, escaped_byte, key_name, row_head, row_title, run_title, size, tag_name, Adds, Grows};
+ghost use Rattle.ipcz_markup.specs.Markup.{InTag, InText, InValue, IsDocument, Keeps, KeepsValue, Row, Stands};
 
 use std::alloc::{AllocError, Global};
 use std::io;

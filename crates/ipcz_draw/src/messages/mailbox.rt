@@ -2,7 +2,8 @@
 
 ghost use Rattle.std.specs.Prelude.{◌≡◌, ◌<◌, ◌+◌, length, true, false, IfSome, IfNone};
 ghost use Rattle.std.specs.List.{AllWithin};
-ghost use Rattle.ipcz_draw.specs.Messages.{IsAt, IsHandOf, IsLookOf, IsNext, is_hand, is_look, is_any_look, is_post, is_settle, touches_hand, touches_mailbox};
+ghost use Rattle.ipcz_draw.specs.Messages.{IsAt, IsHandOf, IsLookOf, IsNext, is_hand, is_look, is_any_look, is_post, is_settle};
+ghost use Rattle.ipcz_draw.specs.Messages.{touches_hand, touches_mailbox};
 
 use ipcz_lines::{Event, Line, ReadLine};
 

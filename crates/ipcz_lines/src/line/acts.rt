@@ -1,8 +1,10 @@
 //! Reading what a turn was: the events of nodes and of their routers.
 
 ghost use Rattle.std.specs.Prelude.{All, IsTrue, ◌↔◌, ◌≡◌, ◌≢◌, ◌++◌, ◌∷◌, codes};
-ghost use Rattle.ipcz_lines.specs.LineParts.{AreParted, IsEndText, IsKind, IsWordNumber, Reads, fate_text, kind_text, link_text, step_text, way_text, IsLink};
-ghost use Rattle.ipcz_lines.specs.Lines.{AreMoves, IsAct, IsEvent, IsRouterEvent, IsWordAct, act_text, and_more, central_text, event_text, moves_text, spaced};
+ghost use Rattle.ipcz_lines.specs.LineParts.{AreParted, IsEndText, IsKind, IsWordNumber, Reads, fate_text, kind_text, link_text, step_text};
+ghost use Rattle.ipcz_lines.specs.LineParts.{way_text, IsLink};
+ghost use Rattle.ipcz_lines.specs.Lines.{AreMoves, IsAct, IsEvent, IsRouterEvent, IsWordAct, act_text, and_more, central_text, event_text};
+ghost use Rattle.ipcz_lines.specs.Lines.{moves_text, spaced};
 
 use crate::line::parts::{Kind, Link, Way, WordStep};
 use crate::line::words::{are_ends, end, halves, link, node, number, refusal, word};

@@ -2,7 +2,8 @@
 
 ghost use Rattle.std.specs.Prelude.{◌≡◌, ◌≢◌, ◌↔◌, ℕ, ◌<◌, ◌^◌, ◌++◌, ◌∷◌, All, IfSome, IfNone, IsTrue, length};
 ghost use Rattle.std.specs.Fmt.{decimal};
-ghost use Rattle.ipcz_lines.specs.LineParts.{AreParted, BeginsPlainly, IsEnd, IsEndText, IsLink, IsName, IsNodeNumber, IsNumber, IsWordNumber, IsWordText, Reads, end_text, is_name_byte, link_text, refusal_text};
+ghost use Rattle.ipcz_lines.specs.LineParts.{AreParted, BeginsPlainly, IsEnd, IsEndText, IsLink, IsName, IsNodeNumber, IsNumber};
+ghost use Rattle.ipcz_lines.specs.LineParts.{IsWordNumber, IsWordText, Reads, end_text, is_name_byte, link_text, refusal_text};
 
 use crate::line::parts::{End, Link, Refusal, Side};
 use std::str;

@@ -385,7 +385,8 @@ module _ (w : World) (b : Books) (g : Records) (law : Inv w b g) (alone : IsAlon
           router = t.0;
           here = t.1;
           end =
-              at.end ∙ ap (λ l. side_end g l e.end.side) e.on_link ∙ ap (λ z. side_end g (Central pair) z) e.at_side ∙ ap (λ p. end_at p s) own;
+              at.end ∙ ap (λ l. side_end g l e.end.side) e.on_link ∙ ap (λ z. side_end g (Central pair) z) e.at_side
+              ∙ ap (λ p. end_at p s) own;
           terminal = terminal k.0 t.0 t.1;
           on = t.2;
           still = still k.0 t.0 t.1 t.0.outward.decaying refl;

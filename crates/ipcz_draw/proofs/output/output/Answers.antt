@@ -20,5 +20,6 @@ returns-in_ok-text-in-Ok c =
       c.in-Ok.lines.items,
       c.in-Ok.ensures.read,
       subst (λ read. IsPicture read text) same made.picture,
-      bounded c.args.input.now c.in-Ok.lines.items text c.in-Ok.ensures.read (subst (λ read. length text ≤ most_picture read) same made.few),
+      bounded c.args.input.now c.in-Ok.lines.items text c.in-Ok.ensures.read
+          (subst (λ read. length text ≤ most_picture read) same made.few),
     )

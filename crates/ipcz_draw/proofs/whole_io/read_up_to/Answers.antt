@@ -9,5 +9,6 @@ returns-in_err-extend_from_slice-clause-taken g c =
     let filled : length c.read.new.buf ≡ c.min-room.result = search rules in (
       before ++ more,
       omega (arith, length-append before more, length-take c.in-Ok.count c.read.new.buf, filled),
-      consumes_two (g.R.Read.remaining c.args.device.now.inner) (g.R.Read.remaining c.reading.device.inner) (g.R.Read.remaining c.read.new.self.inner) before more c.reading.invariant.2 c.in-Ok.ensures.bytes.0,
+      consumes_two (g.R.Read.remaining c.args.device.now.inner) (g.R.Read.remaining c.reading.device.inner)
+          (g.R.Read.remaining c.read.new.self.inner) before more c.reading.invariant.2 c.in-Ok.ensures.bytes.0,
     )

@@ -7,4 +7,5 @@ use Rattle.ipcz_script.proofs.shapes.names_from.Given as goal
 
 -- what the values that are left give, behind the names so far, is what all of them give
 abbrev pub invariant-loop-value : goal.invariant-loop-value
-invariant-loop-value l = behind l.names.items (each_of name_in (map view (drop l.value-index l.values))) ≡ each_of name_in (map view l.values)
+invariant-loop-value l =
+    behind l.names.items (each_of name_in (map view (drop l.value-index l.values))) ≡ each_of name_in (map view l.values)

@@ -13,4 +13,5 @@ returns-in_ok-push-clause-joined c =
     subst (AreJoined read (n + 1)) (sym c.in_ok-push.ensures.items) (joined_more read n before m c.requires.messages comes)
 
 pub returns-in_default-clause-joined : goal.returns-in_default-clause-joined
-returns-in_default-clause-joined c = joined_same c.args.lines.now c.args.line c.args.messages.now.items c.requires.messages (subst (IsPassed c.args.lines.now c.args.line) c.as_slice.ensures.value c.in_default.ensures)
+returns-in_default-clause-joined c = joined_same c.args.lines.now c.args.line c.args.messages.now.items c.requires.messages
+    (subst (IsPassed c.args.lines.now c.args.line) c.as_slice.ensures.value c.in_default.ensures)

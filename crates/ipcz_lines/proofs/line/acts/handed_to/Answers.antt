@@ -8,7 +8,8 @@ use Rattle.ipcz_lines.proofs.line.acts.handed_to.Goals as goal
 
 pub returns-in_err-link-in-None : goal.returns-in_err-link-in-None
 returns-in_err-link-in-None c =
-    reads_none event_text IsEvent (spaced (codes "hand") (spaced (kind_text c.args.kind) c.args.bytes.now)) _ c.from_residual.ensures (λ x h e.
+    reads_none event_text IsEvent (spaced (codes "hand") (spaced (kind_text c.args.kind) c.args.bytes.now))
+    _ c.from_residual.ensures (λ x h e.
     let s = handed_only x (spaced (kind_text c.args.kind) c.args.bytes.now) h e in elim s.text [
       | inl p ↦
           (let k = kinds_agree s.kind c.args.kind (link_text s.link) c.args.bytes.now s.is_kind c.requires p in
@@ -20,7 +21,8 @@ returns-in_err-link-in-None c =
 
 pub returns-in_err-link-in-Some : goal.returns-in_err-link-in-Some
 returns-in_err-link-in-Some c =
-    reads_none event_text IsEvent (spaced (codes "hand") (spaced (kind_text c.args.kind) c.args.bytes.now)) _ c.from_residual-in_err-link-in-Some.ensures (λ x h e.
+    reads_none event_text IsEvent (spaced (codes "hand") (spaced (kind_text c.args.kind) c.args.bytes.now))
+    _ c.from_residual-in_err-link-in-Some.ensures (λ x h e.
     let s = handed_only x (spaced (kind_text c.args.kind) c.args.bytes.now) h e in elim s.text [
       | inl p ↦
           (let k = kinds_agree s.kind c.args.kind (link_text s.link) c.args.bytes.now s.is_kind c.requires p in not_parted 32

@@ -8,7 +8,8 @@ use Rattle.ipcz_lines.proofs.line.acts.link_and_moves.Goals as goal
 
 pub returns-in_err-link-in-None : goal.returns-in_err-link-in-None
 returns-in_err-link-in-None c =
-    reads_none (λ x. and_more (link_text x.0) (moves_text x.1.now)) (λ x. IsLink x.0 × AreMoves x.1.now) (c.args.bytes.now) _ c.from_residual.ensures (λ x h e.
+    reads_none (λ x. and_more (link_text x.0) (moves_text x.1.now)) (λ x. IsLink x.0 × AreMoves x.1.now) (c.args.bytes.now)
+    _ c.from_residual.ensures (λ x h e.
     elim (with_moves (link_text x.0) x.1.now c.args.bytes.now h.1 e) [
       | inl p ↦ c.in_err-link-in-None.ensures x.0 h.0 p
       | inr p ↦ not_parted 32 (link_text x.0) (spaced (codes "moves") x.1.now) c.args.bytes.now c.in-None.ensures.none p.1
@@ -16,7 +17,8 @@ returns-in_err-link-in-None c =
 
 pub returns-in_err-link-in-Some : goal.returns-in_err-link-in-Some
 returns-in_err-link-in-Some c =
-    reads_none (λ x. and_more (link_text x.0) (moves_text x.1.now)) (λ x. IsLink x.0 × AreMoves x.1.now) (c.args.bytes.now) _ c.from_residual-in_err-link-in-Some.ensures (λ x h e.
+    reads_none (λ x. and_more (link_text x.0) (moves_text x.1.now)) (λ x. IsLink x.0 × AreMoves x.1.now) (c.args.bytes.now)
+    _ c.from_residual-in_err-link-in-Some.ensures (λ x h e.
     elim (with_moves (link_text x.0) x.1.now c.args.bytes.now h.1 e) [
       | inl p ↦
           not_parted 32 c.in-Some.first.now c.in-Some.rest.now (link_text x.0) (link_lacks x.0 h.0) (sym c.in-Some.ensures.joined ∙ sym p)
@@ -28,7 +30,8 @@ returns-in_err-link-in-Some c =
 
 pub returns-in_err-ends-in-Some : goal.returns-in_err-ends-in-Some
 returns-in_err-ends-in-Some c =
-    reads_none (λ x. and_more (link_text x.0) (moves_text x.1.now)) (λ x. IsLink x.0 × AreMoves x.1.now) (c.args.bytes.now) _ c.from_residual-in_err-ends-in-Some.ensures (λ x h e.
+    reads_none (λ x. and_more (link_text x.0) (moves_text x.1.now)) (λ x. IsLink x.0 × AreMoves x.1.now) (c.args.bytes.now)
+    _ c.from_residual-in_err-ends-in-Some.ensures (λ x h e.
     elim (with_moves (link_text x.0) x.1.now c.args.bytes.now h.1 e) [
       | inl p ↦
           not_parted 32 c.in-Some.first.now c.in-Some.rest.now (link_text x.0) (link_lacks x.0 h.0) (sym c.in-Some.ensures.joined ∙ sym p)

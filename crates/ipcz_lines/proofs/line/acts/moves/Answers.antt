@@ -9,7 +9,8 @@ use Rattle.ipcz_lines.proofs.line.acts.moves.Goals.{then-eq+else-are_ends, else-
 
 pub returns-in_err-ends : goal.returns-in_err-ends
 returns-in_err-ends c =
-    reads_none {A = Bor (List ℕ)} (λ ends. spaced (codes "moves") ends.now) (λ ends. AreParted IsEndText 44 ends.now) c.args.bytes.now _ c.from_residual.ensures (λ x h e.
+    reads_none {A = Bor (List ℕ)} (λ ends. spaced (codes "moves") ends.now) (λ ends. AreParted IsEndText 44 ends.now)
+    c.args.bytes.now _ c.from_residual.ensures (λ x h e.
     not_parted 32 (codes "moves") x.now c.args.bytes.now c.in_err-ends.ensures.none e)
 
 pub returns-after-eq : goal.returns-after-eq

@@ -5,7 +5,8 @@ use Rattle.ipcz_lines.specs.Lines.{FitsLine, line_text, opened_text, spaced}
 use Rattle.ipcz_lines.proofs.Lacking.{name_lacks, not_parted, parts_agree, reads_none}
 use Rattle.ipcz_lines.proofs.Forms.{opened_only}
 use Rattle.ipcz_lines.proofs.line.reading.opened.Goals as goal
-use Rattle.ipcz_lines.proofs.line.reading.opened.Goals.{then-not-is_name-via-then-not-is_name, then-not-is_name-via-else-not-is_name+then-not-is_name-2}
+use Rattle.ipcz_lines.proofs.line.reading.opened.Goals.{then-not-is_name-via-then-not-is_name}
+use Rattle.ipcz_lines.proofs.line.reading.opened.Goals.{then-not-is_name-via-else-not-is_name+then-not-is_name-2}
 
 pub returns-in_err-first : goal.returns-in_err-first
 returns-in_err-first c =

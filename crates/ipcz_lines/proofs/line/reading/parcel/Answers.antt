@@ -4,17 +4,23 @@ use Rattle.ipcz_lines.specs.Lines.{AreNames, FitsLine, line_text, spaced}
 use Rattle.ipcz_lines.proofs.Lacking.{not_parted, parts_agree, ends_with, reads_none, tail_is}
 use Rattle.ipcz_lines.proofs.Forms.{names_lack, parcel_only}
 use Rattle.ipcz_lines.proofs.line.reading.parcel.Goals as goal
-use Rattle.ipcz_lines.proofs.line.reading.parcel.Goals.{in_default-via-then-bytes-lt1, in_default-via-else-bytes-lt1+in_default-1, in_default-rest-via-then-rest-lt3, in_default-rest-via-in-32+else-are_any_names, in_default-rest-via-else-rest-lt3+in-32+in-34+in_default-1, in_default-rest-via-else-rest-lt3+in-32+in_default-1, in_default-rest-via-else-rest-lt3+in_default-1}
+use Rattle.ipcz_lines.proofs.line.reading.parcel.Goals.{in_default-via-then-bytes-lt1, in_default-via-else-bytes-lt1+in_default-1}
+use Rattle.ipcz_lines.proofs.line.reading.parcel.Goals.{in_default-rest-via-then-rest-lt3, in_default-rest-via-in-32+else-are_any_names}
+use Rattle.ipcz_lines.proofs.line.reading.parcel.Goals.{in_default-rest-via-else-rest-lt3+in-32+in-34+in_default-1}
+use Rattle.ipcz_lines.proofs.line.reading.parcel.Goals.{in_default-rest-via-else-rest-lt3+in-32+in_default-1}
+use Rattle.ipcz_lines.proofs.line.reading.parcel.Goals.{in_default-rest-via-else-rest-lt3+in_default-1}
 
 pub returns-in_err-number : goal.returns-in_err-number
 returns-in_err-number c =
-    reads_none line_text FitsLine (spaced (codes "get") (spaced c.args.name.now (spaced c.args.first.now c.args.bytes.now))) _ c.from_residual.ensures (λ x h e.
+    reads_none line_text FitsLine (spaced (codes "get") (spaced c.args.name.now (spaced c.args.first.now c.args.bytes.now)))
+    _ c.from_residual.ensures (λ x h e.
     let p = parcel_only x c.args.name.now c.args.first.now c.args.bytes.now c.requires.name c.requires.one_word h e in
     c.in_err-number.ensures p.n p.number p.named)
 
 pub returns-in_err-names-in-91 : goal.returns-in_err-names-in-91
 returns-in_err-names-in-91 c =
-    reads_none line_text FitsLine (spaced (codes "get") (spaced c.args.name.now (spaced c.args.first.now c.args.bytes.now))) _ c.from_residual-in_err-names-in-91.ensures (λ x h e.
+    reads_none line_text FitsLine (spaced (codes "get") (spaced c.args.name.now (spaced c.args.first.now c.args.bytes.now)))
+    _ c.from_residual-in_err-names-in-91.ensures (λ x h e.
     let p = parcel_only x c.args.name.now c.args.first.now c.args.bytes.now c.requires.name c.requires.one_word h e in
     not_parted 93 p.names (32 ∷ 34 ∷ (p.bs ++ 34 ∷ [])) _ c.in_err-names-in-91.ensures.none
     (tail_is 91 (p.names ++ 93 ∷ (32 ∷ 34 ∷ (p.bs ++ 34 ∷ []))) c.args.bytes.now p.text))

@@ -4,7 +4,8 @@ use Rattle.ipcz_lines.specs.Lines.{IsTurn, line_text, spaced}
 use Rattle.ipcz_lines.proofs.Lacking.{ends_with, middle_is, reads_none}
 use Rattle.ipcz_lines.proofs.Forms.{turned_only}
 use Rattle.ipcz_lines.proofs.line.reading.turn.Goals as goal
-use Rattle.ipcz_lines.proofs.line.reading.turn.Goals.{in_default-via-then-first-lt2, in_default-via-else-first-lt2+in-110+in_default-1, in_default-via-else-first-lt2+in_default-1}
+use Rattle.ipcz_lines.proofs.line.reading.turn.Goals.{in_default-via-then-first-lt2, in_default-via-else-first-lt2+in-110+in_default-1}
+use Rattle.ipcz_lines.proofs.line.reading.turn.Goals.{in_default-via-else-first-lt2+in_default-1}
 
 pub returns-in_err-node-in-110 : goal.returns-in_err-node-in-110
 returns-in_err-node-in-110 c =

@@ -6,7 +6,8 @@ use Rattle.ipcz_markup.proofs.writer.Writer.begin_row.Goals as goal
 
 pub returns-clause-begins : goal.returns-clause-begins
 returns-clause-begins c rows u s units old =
-    stands_after _ _ _ rows _ InText InText (u ∷ s) (tags.Title ∷ tags.G ∷ u ∷ s) (adds_two _ _ _ _ _ c.add_row_head.ensures c.add_line_title.ensures)
+    stands_after _ _ _ rows _ InText InText (u ∷ s) (tags.Title ∷ tags.G ∷ u ∷ s)
+    (adds_two _ _ _ _ _ c.add_row_head.ensures c.add_line_title.ensures)
     (λ l m. RowGroup (record { number = c.args.number; texts = c.args.text.now ∷ []; top = c.args.top; units = units }) m) old
 
 pub returns-clause-few : goal.returns-clause-few

@@ -18,5 +18,6 @@ returns-clause-few c =
       c.add_row_head.ensures.size,
       c.add_run_title.ensures.size,
       row_head_length c.args.top c.ranges.top.fits,
-      run_title_length c.args.number (c.args.number + (c.args.count - 1)) c.args.count c.ranges.number.fits (omega arith) c.ranges.count.fits,
+      run_title_length c.args.number (c.args.number + (c.args.count - 1)) c.args.count c.ranges.number.fits (omega arith)
+          c.ranges.count.fits,
     )

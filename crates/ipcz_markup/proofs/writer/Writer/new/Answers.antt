@@ -6,5 +6,6 @@ use Rattle.ipcz_markup.proofs.writer.Writer.new.Goals as goal
 pub returns-clause-root : goal.returns-clause-root
 returns-clause-root c = record {
   markup = λ works.
-      subst (λ l. IsMarkup l [] InTag (tags.Svg ∷ [])) (sym ((c.add.ensures.done works).1 ∙ ap (λ l. l ++ codes "<svg") c.new.ensures.items)) Root;
+      subst (λ l. IsMarkup l [] InTag (tags.Svg ∷ []))
+      (sym ((c.add.ensures.done works).1 ∙ ap (λ l. l ++ codes "<svg") c.new.ensures.items)) Root;
 }

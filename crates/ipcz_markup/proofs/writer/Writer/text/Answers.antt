@@ -5,10 +5,12 @@ use Rattle.ipcz_markup.specs.Markup.{InText, InValue, Text, ValueText}
 use Rattle.ipcz_markup.proofs.writer.Writer.text.Goals as goal
 
 pub returns-clause-keeps : goal.returns-clause-keeps
-returns-clause-keeps c rows u s old = stands_after _ _ _ rows rows InText InText (u ∷ s) (u ∷ s) c.add_escaped.ensures (λ l m. Text c.args.bytes.now m) old
+returns-clause-keeps c rows u s old = stands_after _ _ _ rows rows InText InText (u ∷ s) (u ∷ s)
+    c.add_escaped.ensures (λ l m. Text c.args.bytes.now m) old
 
 pub returns-clause-keeps_value : goal.returns-clause-keeps_value
-returns-clause-keeps_value c rows s old = stands_after _ _ _ rows rows InValue InValue s s c.add_escaped.ensures (λ l m. ValueText c.args.bytes.now m) old
+returns-clause-keeps_value c rows s old =
+    stands_after _ _ _ rows rows InValue InValue s s c.add_escaped.ensures (λ l m. ValueText c.args.bytes.now m) old
 
 pub returns-clause-few : goal.returns-clause-few
 returns-clause-few c = omega (arith, c.add_escaped.ensures.size, escaped_length c.args.bytes.now)
