@@ -1,7 +1,7 @@
 """Runs scripts once for each growth of memory that they ask for, with that one refused.
 
     python3 tools/refuse_growth.py PROGRAM < SCRIPT       a line of how the runs ended
-    python3 tools/refuse_growth.py PROGRAM FILE.rt        each script of a table of cases; prints what is wrong, and nothing where all is right
+    python3 tools/refuse_growth.py PROGRAM FILE.rt        each script of a table of cases; prints what is wrong alone
 
 Each run must end with status 3 and write nothing; or, where the growth was that of a bypass's first message, end as ever and say
 `unlock` in place of `begin`, or as ever where the growth could be done without.
