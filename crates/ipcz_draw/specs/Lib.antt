@@ -1,6 +1,4 @@
 pub mod Devices
-pub mod Joining
-pub mod Messages
 pub mod Outputs
 pub mod Rows
 pub mod Sizes

@@ -3,9 +3,9 @@
 ghost use Rattle.std.specs.Prelude.{◌≡◌, ◌+◌, ◌*◌, ◌≤◌, ◌∷◌, List, ℕ, length};
 ghost use Rattle.ipcz_markup.specs.Markup.{Grows, InText, Keeps, Row, Stands};
 
-use crate::messages::Message;
 use ipcz_lines::{Kind, Link};
 use ipcz_markup::{Look, Stroke, Tag, Writer};
+use ipcz_messages::messages::Message;
 
 /// The look of a message, by its kind.
 pub fn look_of(message: &Message) -> Look {

@@ -6,10 +6,10 @@ ghost use Rattle.ipcz_markup.specs.declared.writer.Tag.{Tag};
 ghost use Rattle.ipcz_markup.specs.Markup.{Grows, InText, InValue, Keeps, Row, Stands};
 
 use crate::arrow_title::{draw_arrow_label, draw_arrow_title, look_of, stroke_of};
-use crate::messages::Message;
 use crate::rows::UNIT;
 use crate::scene::Scene;
 use ipcz_markup::{Look, Stroke, Tag, Writer};
+use ipcz_messages::messages::Message;
 
 // A place at a node's wall: how far across the wall is, and whether it is the right one.
 #[derive(Clone, Copy)]

@@ -4,9 +4,9 @@ ghost use Rattle.std.specs.Prelude.{◌≡◌, ◌+◌, ◌*◌, ◌≤◌, ◌�
 ghost use Rattle.ipcz_markup.specs.Markup.{Grows, InText, Keeps, Row, Stands};
 
 use crate::lanes::Lane;
-use crate::routers::Router;
 use crate::scene::Scene;
 use ipcz_markup::{Class, Tag, Writer};
+use ipcz_messages::routers::Router;
 
 // A part of a lifeline, from one height down to another.
 fn draw_part(out: &mut Writer, x: u64, from: u64, to: u64, class: Class)

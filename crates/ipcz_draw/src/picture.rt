@@ -12,13 +12,13 @@ use crate::ground::draw_ground;
 use crate::heading::draw_heading;
 use crate::lanes::lanes;
 use crate::lifelines::{draw_lifelines, draw_names};
-use crate::messages::{messages, note_births};
-use crate::routers::{routers, see_messages};
 use crate::row::draw_row;
 use crate::rows::{Place, places};
 use crate::scene::Scene;
 use ipcz_lines::ReadLine;
 use ipcz_markup::{Key, Tag, Writer, style};
+use ipcz_messages::messages::{messages, note_births};
+use ipcz_messages::routers::{routers, see_messages};
 use std::alloc::{AllocError, Global};
 
 // The size of the picture, as attributes of its root.

@@ -3,9 +3,9 @@
 ghost use Rattle.std.specs.Prelude.{◌≡◌, ◌≤◌, ◌<◌, length, IfOk};
 
 use crate::lanes::Lane;
-use crate::routers::{Router, find};
 use crate::rows::{Place, UNIT, value_count};
 use ipcz_lines::{Event, Line, Link, ReadLine, RouterEvent};
+use ipcz_messages::routers::{Router, find};
 use std::alloc::{AllocError, Global};
 
 const COLUMN: u64 = 46;

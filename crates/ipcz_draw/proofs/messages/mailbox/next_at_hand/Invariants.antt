@@ -1,7 +1,0 @@
-use Rattle.std.proofs.Common.{◌≡◌, ◌+◌, false}
-use Rattle.std.specs.List.{AllWithin}
-use Rattle.ipcz_draw.specs.Messages.{touches_hand}
-use Rattle.ipcz_draw.proofs.messages.mailbox.next_at_hand.Given as goal
-
-abbrev pub invariant-loop-i : goal.invariant-loop-i
-invariant-loop-i l = AllWithin (λ x. touches_hand l.to x.line ≡ false) l.lines (l.line + 1) l.i

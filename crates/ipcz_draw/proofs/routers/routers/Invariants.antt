@@ -1,6 +1,0 @@
-use Rattle.std.proofs.Common.{◌≤◌, length}
-use Rattle.ipcz_draw.proofs.routers.routers.Given as goal
-
--- each line so far named one new router at most
-abbrev pub invariant-loop-i : goal.invariant-loop-i
-invariant-loop-i l = length l.routers.items ≤ l.i
