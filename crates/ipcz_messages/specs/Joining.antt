@@ -3,7 +3,8 @@ use Rattle.std.specs.Prelude.{ℕ, ◌≡◌, ◌<◌, ◌≤◌, ◌⊎◌, Lis
 use Rattle.std.specs.List.{All, Any}
 use Rattle.ipcz_lines.specs.declared.line.ReadLine.{ReadLine}
 use Rattle.ipcz_messages.specs.declared.messages.Message.{Message}
-use Rattle.ipcz_messages.specs.Messages.{hands_at, is_hand, is_look, is_post, looks_at, posts_at, IsAt, IsHanded, IsLooked, IsMessage, IsPosted}
+use Rattle.ipcz_messages.specs.Messages.{hands_at, is_hand, is_look, is_post, looks_at, posts_at, IsAt, IsHanded, IsLooked, IsMessage}
+use Rattle.ipcz_messages.specs.Messages.{IsPosted}
 
 -- a message that comes into sight at a line: of a post, or of a look or a hand that is of none before
 abbrev pub ComesAt : List ReadLine → ℕ → List Message → Message → Type 0

@@ -4,7 +4,8 @@ ghost use Rattle.std.specs.Prelude.{◌≡◌, ◌<◌, ◌≤◌, ◌+◌, None
 ghost use Rattle.std.specs.List.{All, Any};
 ghost use Rattle.std.specs.Bool.{MatchBool};
 ghost use Rattle.ipcz_messages.specs.Joining.{AreJoined, IsFirstSeen};
-ghost use Rattle.ipcz_messages.specs.Messages.{AreOnce, IsAt, IsHandOf, IsHanded, IsLooked, IsMessage, IsPosted, is_any_look, is_hand, is_look};
+ghost use Rattle.ipcz_messages.specs.Messages.{AreOnce, IsAt, IsHandOf, IsHanded, IsLooked, IsMessage, IsPosted, is_any_look, is_hand};
+ghost use Rattle.ipcz_messages.specs.Messages.{is_look};
 ghost use Rattle.ipcz_messages.specs.Messages.{is_post};
 
 use crate::messages::Message;
