@@ -14,6 +14,7 @@ import tempfile
 
 HERE = os.path.dirname(os.path.dirname(os.path.abspath(__file__)))
 SPEC, CODE = "ipcz_router/specs/Bypass.antt", "ipcz_router/src/router/bypass.rt"
+EFFECTS, TURNING = "ipcz_router/specs/ActEffects.antt", "ipcz_router/src/router/turns.rt"
 MOVES, MOVING = "ipcz_router/specs/Calls.antt", "ipcz_router/src/router/calls.rt"
 SENDING = "use Rattle.ipcz_router.specs.declared.sending.Sending.{Sending}"
 REACH = (SPEC, SENDING, f"use Rattle.ipcz_seq.specs.Queue.{{reach}}\n{SENDING}")
@@ -75,6 +76,14 @@ TURNS = {
             CODE,
             "        self.outward.set_length_from(in_length);\n        self.rouse();\n        let Some",
             "        self.outward.set_length_from(in_length);\n        let Some",
+        ),
+    ],
+    "an_unlock_has_tried": [
+        (EFFECTS, "drop_lock r = record r { holds = false; flagged = true }", "drop_lock r = record r { holds = false; flagged = true; tried = true }"),
+        (
+            TURNING,
+            "                self.holds = false;\n                self.flagged = true;\n",
+            "                self.holds = false;\n                self.flagged = true;\n                self.tried = true;\n",
         ),
     ],
 }

@@ -1,16 +1,18 @@
 -- What a message that fits says of its moves.
 use Rattle.std.proofs.Common.{◌≡◌, ℕ, ◌≤◌, not, Bool, true, false, List, [], ◌∷◌, length, if◌then◌else◌, nat_eq, nat_le, sym, true≢false}
-use Rattle.std.proofs.Common.{arith}
+use Rattle.std.proofs.Common.{arith, Option, Some, None, nat_lt, ◌∙◌}
 use Rattle.std.proofs.lemmas.Bool.Decides.{nat_tests}
 use Rattle.ipcz_base.specs.declared.end.End.{End}
 use Rattle.ipcz_base.specs.declared.descriptor.Descriptor.{Descriptor}
 use Rattle.ipcz_base.specs.declared.item.Item.{Item}
 use Rattle.ipcz_base.specs.Ends.{same_end}
 use Rattle.ipcz_base.specs.Items.{ends_in}
-use Rattle.ipcz_base.specs.Limits.{last_number}
+use Rattle.ipcz_base.specs.Limits.{last_number, no_number}
+use Rattle.ipcz_base.specs.declared.side.Side.{Side}
+use Rattle.ipcz_base.specs.declared.link_id.LinkId.{LinkId}
 use Rattle.ipcz_base.specs.declared.side.Side.TheVariants.{B}
-use Rattle.ipcz_node.specs.Node.{Node, is_named}
-use Rattle.ipcz_node.specs.Hands.{fit_moves, fits_from, is_new_move, has_moved, grows_where_it_fits, serials_in}
+use Rattle.ipcz_node.specs.Node.{Node, Found, is_named, link_router}
+use Rattle.ipcz_node.specs.Hands.{fit_moves, fits_from, fits_item, fits, is_new_move, has_moved, grows_where_it_fits, serials_in}
 use Rattle.ipcz_base.specs.declared.message.Message.{Message}
 use Rattle.ipcz_base.specs.declared.message.Message.TheVariants as messages
 use Rattle.ipcz_node.specs.RoomyNodes.{AreLow, IsReady, CanTell, RoomyNode}
@@ -45,6 +47,31 @@ low_moves n sender item ds h = go (nat_eq sender n.number) h
     go : (b : Bool) → (if b then nat_eq (length ds) 0 else fit_moves n (ends_in item) ds) ≡ true → AreLow ds
     go true h = low_none ds h
     go false h = low_fit n (ends_in item) ds h
+
+below : (a b : ℕ) → nat_lt a b ≡ true → a < b
+below a b h = grind (arith, nat_tests)
+
+fits_placed : (n : Node) (sender : ℕ) (link : LinkId) (side : Side) (number : ℕ) (item : Item) (moves : List Descriptor) (f : Option Found) →
+    fits_item n sender link side number item moves f ≡ true → (number < no_number) × AreLow moves
+unfolding fits_item
+fits_placed n sender link side number item moves None h = absurd (true≢false (sym h))
+fits_placed n sender link side number item moves (Some f) h = (
+  below number no_number (first_of_both (nat_lt number no_number) _ (first_of_both _ _ h)),
+  low_moves n sender item moves (second_of_both _ _ h),
+)
+
+-- an item that fits is no number's end, and its moves have low numbers
+pub item_placed : (n : Node) (sender : ℕ) (link : LinkId) (side : Side) (number : ℕ) (item : Item) (moves : List Descriptor) →
+    fits n sender (messages.Item link side number item moves) ≡ true → (number < no_number) × AreLow moves
+unfolding fits
+item_placed n sender link side number item moves h = fits_placed n sender link side number item moves (link_router n link side) h
+
+-- and a router has its link
+pub item_found : (n : Node) (sender : ℕ) (link : LinkId) (side : Side) (number : ℕ) (item : Item) (moves : List Descriptor) →
+    fits n sender (messages.Item link side number item moves) ≡ true → link_router n link side ≡ None → ⊥
+unfolding fits fits_item
+item_found n sender link side number item moves h none =
+    true≢false (sym h ∙ ap (fits_item n sender link side number item moves) none)
 
 -- a message that makes nothing grow takes no serials
 pub takes_no_serials : (m : Message) → grows_where_it_fits m ≡ false → serials_in m ≡ 0

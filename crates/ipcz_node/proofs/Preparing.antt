@@ -34,11 +34,31 @@ ready_as k (outputs.Sent link n item) h =
 ready_as k (outputs.Message to m) h = (h, omega arith)
 ready_as k (outputs.Discarded n item) h = (h, omega arith)
 
+wants_as : (k : RoomyNode) (a : Applied) → IsReady k a → CanTell k a → IsReadyAs k (outlook_of a)
+unfolding moved_by
+wants_as k outputs.Nothing h t = tt
+wants_as k (outputs.Sent link n item) h t =
+    let count = counted (nat_eq link.other k.node.number) (ends_in item) in record {
+      outbox = h.0;
+      links = omega (arith, count, h.1);
+      moves = omega (arith, count, h.2);
+      event_ends = omega (arith, count, t);
+      serials = omega (arith, count, h.3);
+    }
+wants_as k (outputs.Message to m) h t = h
+wants_as k (outputs.Discarded n item) h t = h
+
 -- at the router that stands there
 pub ready_at : (k : RoomyNode) (o : Option Router) (act : RouterAct) → IsReadyAs k (outlook_at o act) →
     IfSome o (λ r. IsReady k (output_of r act) × CanTell k (output_of r act))
 ready_at k None act h = tt
 ready_at k (Some r) act h = ready_as k (output_of r act) h
+
+-- what an act has room for, its outlook has
+pub wants_at : (k : RoomyNode) (o : Option Router) (act : RouterAct) →
+    IfSome o (λ r. IsReady k (output_of r act) × CanTell k (output_of r act)) → IsReadyAs k (outlook_at o act)
+wants_at k None act h = tt
+wants_at k (Some r) act h = wants_as k (output_of r act) h.0 h.1
 
 serials_of : (n : Node) (a : Applied) → serials_as n (outlook_of a) ≡ serials_for n a
 unfolding serials_for

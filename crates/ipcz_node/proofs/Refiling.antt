@@ -19,8 +19,8 @@ use Rattle.std.specs.Ordering.{nat_cmp}
 use Rattle.std.specs.FinMap.{FinMap, get, insert}
 use Rattle.ipcz_base.specs.declared.end.End.{End}
 use Rattle.ipcz_base.specs.declared.item.Item.{Item}
-use Rattle.ipcz_router.specs.Router.{Router, is_open_terminal}
-use Rattle.ipcz_router.specs.Calls.{put_item, accept, extend}
+use Rattle.ipcz_router.specs.Router.{Router, is_open_terminal, rouse}
+use Rattle.ipcz_router.specs.Calls.{put_item, take_item, accept, extend}
 use Rattle.ipcz_router.specs.Filings.{filing_of}
 use Rattle.std.specs.Prelude.{option_map}
 use Rattle.ipcz_base.specs.Links.{central_end}
@@ -32,8 +32,12 @@ use Rattle.ipcz_router.specs.declared.act.RouterAct.TheVariants.{SendOut, SendIn
 use Rattle.ipcz_router.specs.declared.act.RouterAct.TheVariants.{Lock, Begin, Unlock, Rest}
 use Rattle.ipcz_router.specs.declared.act.Answer.{Answer}
 use Rattle.ipcz_router.specs.declared.act.Answer.TheVariants.{Plain, Claimed, NoWord, Marked, Word, Locked, Waiting, Refused}
-use Rattle.ipcz_node.specs.SortedSets.{RoomySet}
-use Rattle.ipcz_node.specs.Directories.{link_end_cmp, AreFiled, HaveRoom, CanRefile, AreRefiled}
+use Rattle.ipcz_node.specs.SortedSets.{RoomySet, has}
+use Rattle.ipcz_node.specs.Indexes.{is_filed}
+use Rattle.ipcz_base.specs.Orders.{end_cmp}
+use Rattle.ipcz_base.specs.Ends.{same_end}
+use Rattle.std.proofs.Common.{◌<◌}
+use Rattle.ipcz_node.specs.Directories.{link_end_cmp, AreFiled, HaveRoom, CanRefile, AreRefiled, keeps_links}
 use Rattle.ipcz_node.proofs.Directories.{link_end_ties, can_refile, refiled}
 
 -- one link fewer, and one more, at one key: has it the kept ones, is the serial the one, has the link
@@ -415,6 +419,115 @@ module _ (m : FinMap nat_cmp Router) (s : ℕ) (r w : Router) (was is : Filing) 
       HaveRoom (insert m s w) room less in_routers to_links.room to_terminals.room to_flagged.room
   changed by = refiled m s r w was is links to_links terminals to_terminals flagged to_flagged room more less in_routers here was_is is_is
       (omega (arith, few_links, enough)) held by
+
+-- a router that stays where it was filed, but for its flag
+abbrev pub StaysFiled : Router → Router → Type 0
+StaysFiled r w = filing_of w ≡ record (filing_of r) { flagged = w.flagged }
+
+pub same_stays : (r : Router) → StaysFiled r r
+same_stays r = refl
+
+pub put_stays : (r : Router) (item : Item) → StaysFiled r (put_item r item)
+put_stays r item = refl
+
+pub take_stays : (r : Router) → StaysFiled r (take_item r)
+take_stays r = refl
+
+pub rouse_stays : (r : Router) → StaysFiled r (rouse r)
+rouse_stays r = refl
+
+pub accept_stays : (r : Router) (from_outward : Bool) (n : ℕ) (item : Item) → StaysFiled r (accept r from_outward n item)
+unfolding accept
+accept_stays r true n item = refl
+accept_stays r false n item = refl
+
+-- as with each act that keeps its links
+pub act_stays : (r : Router) (act : RouterAct) (answer : Answer) → keeps_links act ≡ true → StaysFiled r (apply r act answer)
+unfolding apply keeps_links
+act_stays r SendOut a keeps = refl
+act_stays r SendIn a keeps = refl
+act_stays r Discard a keeps = refl
+act_stays r FinishOut a keeps = absurd (true≢false (sym keeps))
+act_stays r FinishIn a keeps = absurd (true≢false (sym keeps))
+act_stays r Leave a keeps = absurd (true≢false (sym keeps))
+act_stays r Mark (Marked word was) keeps = refl
+act_stays r Mark Plain keeps = refl
+act_stays r Mark (Claimed i) keeps = refl
+act_stays r Mark NoWord keeps = refl
+act_stays r Mark (Word w) keeps = refl
+act_stays r Mark (Locked w) keeps = refl
+act_stays r Mark (Waiting w) keeps = refl
+act_stays r Mark (Refused w) keeps = refl
+act_stays r Wake a keeps = refl
+act_stays r Claim (Claimed i) keeps = refl
+act_stays r Claim NoWord keeps = refl
+act_stays r Claim Plain keeps = refl
+act_stays r Claim (Marked w b) keeps = refl
+act_stays r Claim (Word w) keeps = refl
+act_stays r Claim (Locked w) keeps = refl
+act_stays r Claim (Waiting w) keeps = refl
+act_stays r Claim (Refused w) keeps = refl
+act_stays r Lock (Locked w) keeps = refl
+act_stays r Lock (Waiting w) keeps = refl
+act_stays r Lock (Refused w) keeps = refl
+act_stays r Lock Plain keeps = refl
+act_stays r Lock (Claimed i) keeps = refl
+act_stays r Lock NoWord keeps = refl
+act_stays r Lock (Marked w b) keeps = refl
+act_stays r Lock (Word w) keeps = refl
+act_stays r Begin a keeps = absurd (true≢false (sym keeps))
+act_stays r Unlock a keeps = refl
+act_stays r Rest a keeps = refl
+
+-- what stays at a serial stays at each number
+kept_at : (P : ℕ → Bool) (b : Bool) (s q : ℕ) → P s ≡ b → P q ≡ (if s == q then b else P q)
+kept_at P b s q is = go (s == q) refl
+  where
+    go : (c : Bool) → (s == q) ≡ c → P q ≡ (if c then b else P q)
+    go true e = at_serial P b s q is e
+    go false e = refl
+
+module _ (m : FinMap nat_cmp Router) (s : ℕ) (r w : Router) (stays : StaysFiled r w) (links : RoomySet ((LinkId × Side) × ℕ))
+    (terminals : RoomySet (End × ℕ)) (flagged to_flagged : RoomySet ℕ) (room more in_routers : ℕ) (here : get m s ≡ Some r)
+    (held : AreFiled m links.members terminals.members flagged.members ×
+    HaveRoom m room more in_routers links.room terminals.room flagged.room) where
+  in_place : FilesWithin 0 r w
+  in_place = record {
+    few = subst (λ f. link_gain (filing_of r) f ≤ 0) (sym stays) (omega (arith, same_links (filing_of r)));
+    closes = λ h. ap (λ f. f.is_open) stays ∙ h;
+    stays = ap (λ f. f.end) stays;
+  }
+
+  can : CanRefile links terminals flagged s (filing_of r) (filing_of w)
+  can = can_change m s r w (filing_of r) (filing_of w) 0 in_place links links terminals terminals flagged to_flagged room more more in_routers
+      here refl refl (omega arith) held
+
+  -- its flag is what the set of flagged ones says, and there is room to set it
+  pub flag_was : has nat_cmp flagged.members s ≡ r.flagged
+  flag_was = can.by_flag
+
+  pub flag_room : r.flagged ≡ false → 0 < flagged.room
+  flag_room = can.flag_room
+
+  -- it stands among the others once its flag is followed
+  pub flag_changed : (was is : Bool) → was ≡ r.flagged → is ≡ w.flagged
+      → ((q : ℕ) → has nat_cmp to_flagged.members q ≡ (if s == q then is else has nat_cmp flagged.members q))
+      → to_flagged.room + (if is then 1 else 0) ≡ flagged.room + (if was then 1 else 0)
+      → AreFiled (insert m s w) links.members terminals.members to_flagged.members ×
+      HaveRoom (insert m s w) room more in_routers links.room terminals.room to_flagged.room
+  flag_changed was is was_is is_is members flag_rooms =
+      changed m s r w (filing_of r) (filing_of w) 0 in_place links links terminals terminals flagged to_flagged room more more in_routers
+      here refl refl (omega arith) held (record {
+        by_link = λ link side q. kept_at (is_filed link_end_cmp links.members (link, side)) (is_under (filing_of w) link side) s q
+            (can.by_link link side ∙ sym (ap (λ f. is_under f link side) stays));
+        by_end = λ end q. kept_at (is_filed end_cmp terminals.members end) (is_open_terminal w && same_end w.end end) s q
+            (can.by_end end ∙ sym (ap (λ f. f.is_open && same_end f.end end) stays));
+        by_flag = λ q. members q ∙ ap (λ f. if s == q then f else has nat_cmp flagged.members q) is_is;
+        link_room = omega arith;
+        end_room = omega arith;
+        flag_room = sym (ap (λ f. to_flagged.room + (if f then 1 else 0)) is_is) ∙ flag_rooms ∙
+            ap (λ f. flagged.room + (if f then 1 else 0)) was_is;
+      })
 
 -- a router that is away is filed nowhere
 abbrev pub nowhere : End → Filing

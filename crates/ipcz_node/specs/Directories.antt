@@ -13,7 +13,7 @@ use Rattle.ipcz_base.specs.Orders.{side_cmp, end_cmp, link_cmp}
 use Rattle.ipcz_base.specs.declared.item.Item.{Item}
 use Rattle.ipcz_base.specs.Items.{ends_in}
 use Rattle.ipcz_router.specs.declared.act.RouterAct.{RouterAct}
-use Rattle.ipcz_router.specs.declared.act.RouterAct.TheVariants.{SendIn, Discard}
+use Rattle.ipcz_router.specs.declared.act.RouterAct.TheVariants.{SendIn, Discard, FinishOut, FinishIn, Leave, Begin}
 use Rattle.ipcz_router.specs.declared.act.Applied.{Applied}
 use Rattle.ipcz_router.specs.declared.act.Applied.TheVariants.{Nothing, Sent, Message, Discarded}
 use Rattle.ipcz_router.specs.Calls.{has_place_for}
@@ -70,6 +70,14 @@ unfoldable pub takes_inside : RouterAct → Bool
 takes_inside SendIn = true
 takes_inside Discard = true
 takes_inside other = false
+
+-- whether an act keeps the links of its router, so that its flag alone is to be filed anew
+unfoldable pub keeps_links : RouterAct → Bool
+keeps_links FinishOut = false
+keeps_links FinishIn = false
+keeps_links Leave = false
+keeps_links Begin = false
+keeps_links other = true
 
 -- how many ends are in what an act gives to the node
 unfoldable pub ends_given : Applied → ℕ

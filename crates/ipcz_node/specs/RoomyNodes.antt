@@ -17,6 +17,8 @@ use Rattle.ipcz_node.specs.Node.{Node, EndSet, router_in, terminal_of}
 use Rattle.ipcz_node.specs.Acts.{first_of, has_mail_for}
 use Rattle.ipcz_node.specs.Events.{moved_by}
 use Rattle.ipcz_node.specs.Sends.{Transfer, moved_ends}
+use Rattle.ipcz_node.specs.Rooms.{HasOutRoom}
+use Rattle.ipcz_base.specs.declared.end.End.{End}
 
 -- how many messages more each outbox takes, how many routers and links of others the directory, and how many descriptors are at hand,
 -- and how many ends an event can tell
@@ -87,3 +89,7 @@ IsPossibleAct n acts.Idle = Unit {0}
 -- a node has the room and the serials for a pair
 abbrev pub CanOpen : RoomyNode → Type 0
 CanOpen k = (2 ≤ k.room.routers) × (k.node.next_router + 2 ≤ no_number)
+
+-- the terminal of an end, where there is one, takes an item more without memory
+abbrev pub TakesMore : RoomyNode → End → Type 0
+TakesMore k at = IfSome (terminal_of k.node at) (λ f. HasOutRoom k.room.out_rooms f.serial)

@@ -18,12 +18,13 @@ ghost use Rattle.ipcz_router.specs.Bypass.{fits_bypass_peer, bypass_peer, accept
 ghost use Rattle.ipcz_router.specs.Filings.{is_under, gained_by, link_gain};
 ghost use Rattle.ipcz_node.specs.Node.{is_terminal_of, new_end, first_where};
 ghost use Rattle.std.specs.FinMap.{entries};
-ghost use Rattle.std.specs.Prelude.{is_none};
+ghost use Rattle.std.specs.Prelude.{is_none, IsOk};
 ghost use Rattle.std.specs.Prelude.{[], ◌∷◌};
 ghost use Rattle.ipcz_base.specs.Ends.{end_at};
 ghost use Rattle.ipcz_node.specs.Finding.{IsFound};
 ghost use Rattle.ipcz_node.specs.Rooms.{FiledRouters, put_filed, link_filed, add_filed, drop_filed, hold_filed};
 ghost use Rattle.ipcz_node.specs.Directories.{link_end_cmp, CanRefile, AreRefiled, ends_brought, takes_inside, ends_given, ends_taken};
+ghost use Rattle.ipcz_node.specs.Directories.{keeps_links};
 ghost use Rattle.std.specs.FinSet as sets;
 ghost use Rattle.std.specs.Prelude.{length, IfSome, IfNone};
 ghost use Rattle.ipcz_base.specs.Items.{ends_in};
@@ -35,8 +36,8 @@ mod calls;
 mod filing;
 mod room;
 
-use self::filing::refile;
-use self::room::{count_ends, ends_taken, is_outward, make_room, sum};
+use self::filing::{follow, refile};
+use self::room::{count_ends, ends_taken, flags_wanted, is_outward, make_room, sum};
 use crate::held_ends::HeldEnds;
 use crate::index::Index;
 use crate::routers::Routers;
@@ -123,21 +124,28 @@ impl Directory {
         self.routers.router(serial)
     }
 
-    /// Makes room for so many routers and so many links of others more.
+    /// Makes room for so many routers and so many links of others more. It asks for none where there is room for both.
     pub fn reserve(&mut self, routers: usize, links: usize) -> Result<(), AllocError>
-        requires routers { routers < 2 ^ 63 }
-        requires links { links < 2 ^ 63 }
+        requires { routers < 2 ^ 63 }
         ensures room { OnOk result (routers ≤ self.new.filed.room) }
         ensures links { OnOk result (links ≤ self.new.filed.links) }
         ensures routers { self.new.filed.routers ≡ self.old.filed.routers }
         ensures held { self.new.filed.held ≡ self.old.filed.held }
         ensures next { self.new.filed.next ≡ self.old.filed.next }
         ensures out_rooms { self.new.out_rooms ≡ self.old.out_rooms }
+        ensures full { routers ≤ self.old.filed.room → links ≤ self.old.filed.links → IsOk result }
     {
+        if routers <= self.room && links <= self.more {
+            return Ok(());
+        }
+        let Some(all) = sum(routers, links) else {
+            return Err(AllocError);
+        };
         self.routers.reserve(routers)?;
-        self.links.reserve(routers + links)?;
+        self.links.reserve(all)?;
         self.terminals.reserve(routers)?;
-        self.flagged.reserve(self.routers.len() + routers)?;
+        self.flagged
+            .reserve(flags_wanted(self.routers.len(), routers))?;
         let Some(ends) = sum(self.ends, routers) else {
             return Err(AllocError);
         };
@@ -266,17 +274,10 @@ impl Directory {
             return Err((Refusal::OutOfMemory, item));
         };
         let router = self.routers.router_mut(serial);
-        let was = router.filing();
+        let was = router.is_flagged();
         let answer = router.accept(link, side, n, item);
-        let is = router.filing();
-        refile(
-            &mut self.links,
-            &mut self.terminals,
-            &mut self.flagged,
-            serial,
-            &was,
-            &is,
-        );
+        let is = router.is_flagged();
+        follow(&mut self.flagged, serial, was, is);
         answer?;
         self.ends = all;
         Ok(())
@@ -288,11 +289,15 @@ impl Directory {
         ensures { (r : RouterRecord) → get self.now.filed.routers serial ≡ Some r →
             result ≡ ends_brought r (outward_has r link side) n item.now }
     {
+        let ends = count_ends(item);
+        if ends == 0 {
+            return 0;
+        }
         let Some(router) = self.routers.router(serial) else {
             unreachable!()
         };
         if is_outward(&router.filing(), link, side) && router.has_place_for(link, side, n) {
-            count_ends(item)
+            ends
         } else {
             0
         }
@@ -300,6 +305,43 @@ impl Directory {
 
     /// Does an act of the router of the serial, as `Router::apply`; a router that leaves is taken out by `remove`.
     pub fn act(&mut self, serial: u64, act: RouterAct, answer: Answer) -> Applied
+        requires possible { IsSomeAnd (get self.old.filed.routers serial) (λ r. may_take r act ≡ true) }
+        requires answer { IsAnswerOf act answer }
+        ensures router { (r : RouterRecord) → get self.old.filed.routers serial ≡ Some r →
+            self.new.filed ≡ put_filed self.old.filed serial (apply r act answer) }
+        ensures output { (r : RouterRecord) → get self.old.filed.routers serial ≡ Some r → result ≡ output_of r act }
+        ensures number { IsBelowNoNumber result }
+        ensures room { (self.new.filed.room ≡ self.old.filed.room) × (self.new.filed.links ≡ self.old.filed.links) }
+    {
+        if keeps_links(act) {
+            self.act_in_place(serial, act, answer)
+        } else {
+            self.act_on_links(serial, act, answer)
+        }
+    }
+
+    // An act that keeps the links of its router: its flag alone is to be filed.
+    fn act_in_place(&mut self, serial: u64, act: RouterAct, answer: Answer) -> Applied
+        requires keeps { keeps_links act ≡ true }
+        requires possible { IsSomeAnd (get self.old.filed.routers serial) (λ r. may_take r act ≡ true) }
+        requires answer { IsAnswerOf act answer }
+        ensures router { (r : RouterRecord) → get self.old.filed.routers serial ≡ Some r →
+            self.new.filed ≡ put_filed self.old.filed serial (apply r act answer) }
+        ensures output { (r : RouterRecord) → get self.old.filed.routers serial ≡ Some r → result ≡ output_of r act }
+        ensures number { IsBelowNoNumber result }
+        ensures room { (self.new.filed.room ≡ self.old.filed.room) × (self.new.filed.links ≡ self.old.filed.links) }
+    {
+        let router = self.routers.router_mut(serial);
+        let was = router.is_flagged();
+        let applied = router.apply(act, answer);
+        let is = router.is_flagged();
+        follow(&mut self.flagged, serial, was, is);
+        self.ends = self.ends.saturating_sub(ends_taken(act, &applied));
+        applied
+    }
+
+    // An act that may give links up, or let them decay.
+    fn act_on_links(&mut self, serial: u64, act: RouterAct, answer: Answer) -> Applied
         requires possible { IsSomeAnd (get self.old.filed.routers serial) (λ r. may_take r act ≡ true) }
         requires answer { IsAnswerOf act answer }
         ensures router { (r : RouterRecord) → get self.old.filed.routers serial ≡ Some r →
@@ -353,5 +395,16 @@ impl Directory {
         ensures { IsFound (is_terminal_of end) self.now.filed.routers result }
     {
         self.terminals.first(end)
+    }
+}
+
+// Whether an act keeps the links of its router.
+#[tactic(auto, unfolding(crate::specs::Directories::keeps_links))]
+fn keeps_links(act: RouterAct) -> bool
+    ensures { result ≡ keeps_links act }
+{
+    match act {
+        RouterAct::FinishOut | RouterAct::FinishIn | RouterAct::Leave | RouterAct::Begin => false,
+        _ => true,
     }
 }

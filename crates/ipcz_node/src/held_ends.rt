@@ -1,4 +1,4 @@
-ghost use Rattle.std.specs.Prelude.{◌≡◌, ◌<◌, ◌≤◌, ◌+◌, length, OnOk};
+ghost use Rattle.std.specs.Prelude.{◌≡◌, ◌<◌, ◌≤◌, ◌+◌, length, OnOk, IsOk};
 ghost use Rattle.std.specs.FinSet as sets;
 ghost use Rattle.ipcz_node.specs.Node.{with_ends, without_ends};
 
@@ -41,6 +41,7 @@ impl HeldEnds {
         ensures ok { OnOk result (more ≤ self.new.room) }
         ensures ends { self.new.ends ≡ self.old.ends }
         ensures room { self.old.room ≤ self.new.room }
+        ensures succeeds { more ≤ self.old.room → IsOk result }
     {
         self.ends.reserve(more)
     }

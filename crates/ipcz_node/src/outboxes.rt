@@ -1,4 +1,5 @@
-ghost use Rattle.std.specs.Prelude.{◌≡◌, ◌<◌, ◌++◌, [], ◌∷◌, not, nat_eq, length, map, replicate, OnOk, OnErr, IfOk};
+ghost use Rattle.std.specs.Prelude.{◌≡◌, ◌<◌, ◌++◌, [], ◌∷◌, not, nat_eq, length, map, replicate, OnOk, OnErr, IfOk, IsOk};
+ghost use Rattle.std.specs.VecDeque.{deque_capacity};
 ghost use Rattle.ipcz_base.specs.Indexed.{place_at, put_place};
 ghost use Rattle.ipcz_node.specs.Acts.{first_of, rest_of, are_empty};
 
@@ -47,6 +48,7 @@ impl Outboxes {
     pub fn reserve(&mut self, to: u8) -> Result<(), AllocError>
         ensures ok { OnOk result (0 < place_at 0 self.new.room to) }
         ensures messages { self.new.messages ≡ self.old.messages }
+        ensures succeeds { 0 < place_at 0 self.old.room to → IsOk result }
     {
         self.queues[usize::from(to)].reserve(1)?;
         Ok(())
@@ -78,6 +80,7 @@ impl Outboxes {
     pub fn pop(&mut self, alloc: Global, to: u8) -> Option<Message>
         ensures messages { self.new.messages ≡ put_place [] self.old.messages to (rest_of (place_at [] self.old.messages to)) }
         ensures message { result ≡ first_of (place_at [] self.old.messages to) }
+        ensures room { rest_of (place_at [] self.old.messages to) ≡ [] → place_at 0 self.new.room to ≡ 0 }
     {
         pop_from(&mut self.queues[usize::from(to)], alloc)
     }
@@ -87,10 +90,11 @@ impl Outboxes {
 fn pop_from(queue: &mut VecDeque<Message>, alloc: Global) -> Option<Message>
     ensures items { queue.new.items ≡ rest_of queue.old.items }
     ensures message { result ≡ first_of queue.old.items }
+    ensures room { queue.new.items ≡ [] → deque_capacity queue.new ≡ 0 }
 {
     let message = queue.pop_front();
     if queue.is_empty() {
-        *queue = VecDeque::new(alloc);
+        *queue = VecDeque::from_vec(Vec::new(alloc));
     }
     message
 }

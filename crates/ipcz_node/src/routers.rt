@@ -1,4 +1,4 @@
-ghost use Rattle.std.specs.Prelude.{◌≡◌, ◌+◌, ◌<◌, ◌≤◌, ◌-◌, ◌^◌, ℕ, Some, None, is_some, true, OnOk, IfSome, MatchOption, option_copied};
+ghost use Rattle.std.specs.Prelude.{◌≡◌, ◌+◌, ◌<◌, ◌≤◌, ◌-◌, ◌^◌, ℕ, Some, None, is_some, true, OnOk, IsOk, IfSome, MatchOption, option_copied};
 ghost use Rattle.std.specs.Prelude.{option_map, length};
 ghost use Rattle.std.specs.Borrow.{sem};
 ghost use Rattle.std.specs.Ordering.{nat_cmp};
@@ -91,6 +91,7 @@ impl Routers {
         ensures out_rooms { self.new.out_rooms ≡ self.old.out_rooms }
         ensures next { self.new.next ≡ self.old.next }
         ensures room { self.old.room ≤ self.new.room }
+        ensures succeeds { more ≤ self.old.room → IsOk result }
     {
         self.entries.reserve(more)
     }

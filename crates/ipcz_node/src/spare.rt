@@ -1,4 +1,4 @@
-ghost use Rattle.std.specs.Prelude.{◌≡◌, ◌≤◌, [], vec_capacity, OnOk};
+ghost use Rattle.std.specs.Prelude.{◌≡◌, ◌≤◌, [], vec_capacity, OnOk, IsOk};
 
 use std::alloc::{AllocError, Global};
 use std::marker::Model;
@@ -35,6 +35,7 @@ impl<T> Spare<T> {
     /// Makes room for so many.
     pub fn reserve(&mut self, count: usize) -> Result<(), AllocError>
         ensures ok { OnOk result (count ≤ self.new) }
+        ensures succeeds { count ≤ self.old → IsOk result }
     {
         self.items.reserve(count)
     }

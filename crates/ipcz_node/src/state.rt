@@ -108,6 +108,13 @@ impl NodeState {
         self.count
     }
 
+    /// The sender of the message in hand, where there is one.
+    pub fn hand(&self) -> Option<u8>
+        ensures { result ≡ self.now.node.hand }
+    {
+        self.hand
+    }
+
     /// The word that was claimed for an open which isn't done yet.
     pub fn opening(&self) -> Option<u32>
         ensures { result ≡ self.now.node.opening }

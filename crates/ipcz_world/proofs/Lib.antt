@@ -9,6 +9,8 @@ pub mod flows
 pub mod frames
 pub mod hands
 pub mod lawful
+pub mod owed
+pub mod ranks
 pub mod routes
 pub mod runs
 pub mod sends

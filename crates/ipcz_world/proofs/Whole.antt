@@ -12,13 +12,17 @@ use Rattle.ipcz_world.specs.Routes.{first_routes, Routes}
 use Rattle.ipcz_world.specs.WorldLaws.{LawfulGivesHeadline, LawfulStraysNothing, LawfulOwes, TerminalsKeepBooks, EndsStandOnce}
 use Rattle.ipcz_world.specs.WorldLaws.{ListsHaveLengths, NodesAreSound, QuietDelivers, OneNodeIsDirect, StartsLawful, StepKeepsLawful}
 use Rattle.ipcz_world.specs.WorldLaws.{FirstIsPossible, ClaimKeepsLawful, RepliesPlainly, BeginsLocked, LinksStay, HeadlineHolds}
+use Rattle.ipcz_world.specs.WorldLaws.{NothingIsForgotten, QuietIsDirect, QuietHasNoProxy}
+use Rattle.ipcz_world.proofs.lawful.QuietDirect.{no_proxies, pair_direct}
 use Rattle.ipcz_world.specs.WorldLaws.{ItemsStandOnce, NothingStrays, GetsStayQuiet, HeldHaveTerminals, HandsFit}
+use Rattle.ipcz_world.specs.WorldLaws.{HandsStandInMail, OpeningWordsAreEmpty, PendingHaveTerminals, RunsArePlain, RepliesStrayNothing}
+use Rattle.ipcz_world.specs.Records.{is_linked}
 use Rattle.ipcz_node.specs.Node.{holds_end}
 use Rattle.ipcz_world.specs.Lawful.{Lawful}
 use Rattle.ipcz_world.proofs.calls.Puts.{terminal_there}
 use Rattle.ipcz_world.proofs.frames.Calling.{held_unclosed}
 use Rattle.ipcz_world.proofs.lawful.QuietGets.{gets_stay_quiet}
-use Rattle.ipcz_world.proofs.weights.Holding.{times_held-at}
+use Rattle.ipcz_world.proofs.weights.Holding.{times_held-at, times-has}
 use Rattle.ipcz_world.proofs.weights.OfRecords.{holds_times}
 use Rattle.ipcz_world.proofs.calls.CallReplies.{reply-open, reply-put, reply-get, reply-close}
 use Rattle.ipcz_world.proofs.runs.TurnReplies.{reply-turn, begins_locked}
@@ -32,6 +36,8 @@ use Rattle.ipcz_world.proofs.lawful.Quiet.{quiet_delivers}
 use Rattle.ipcz_world.proofs.runs.BoundedSteps.{bounded-claim_for_open}
 use Rattle.ipcz_world.proofs.runs.FlaggedSteps.{flagged-claim_for_open}
 use Rattle.ipcz_world.proofs.runs.FlagsAgree.{agreed-claim_for_open}
+use Rattle.ipcz_world.proofs.owed.StepMinding.{claim_for_open_owing}
+use Rattle.ipcz_world.proofs.owed.Remembering.{remembered}
 use Rattle.ipcz_world.proofs.lawful.OwedLaws as owed
 use Rattle.ipcz_world.proofs.lawful.LengthLaws.{length_law}
 use Rattle.ipcz_world.proofs.lawful.StrayLaws.{stray_law}
@@ -40,11 +46,13 @@ use Rattle.ipcz_world.proofs.lawful.FittingHands.{hands_fit}
 use Rattle.ipcz_world.proofs.lawful.EndLaws.{end_law}
 use Rattle.ipcz_world.proofs.lawful.Soundness.{node_is_sound}
 use Rattle.ipcz_world.proofs.runs.Choosing.{first_is_possible}
+use Rattle.ipcz_world.proofs.runs.PlainRuns.{plain_run}
+use Rattle.ipcz_world.proofs.runs.HandReplies.{replies_stray_nothing}
 use Rattle.ipcz_world.proofs.lawful.EachOnce.{items_stand_once}
 use Rattle.std.proofs.lemmas.Bool.{and_parts}
 
 starts_kept : StartsKept
-starts_kept nodes words limits = let t = starts nodes words limits in record { records = t.0; inv = t.2; routes = t.1 }
+starts_kept nodes words limits = let t = starts nodes words limits in record { records = t.0; inv = t.2; routes = t.1; unretired = t.3 }
 
 -- the world at the start is lawful
 pub world_starts_lawful : StartsLawful
@@ -61,8 +69,9 @@ first_acts_are_possible = first_is_possible
 -- the first half of an open keeps a world lawful
 pub claim_keeps_lawful : ClaimKeepsLawful
 claim_keeps_lawful w b g n law l room none = let t = claim-kept w b law.records n law.inv room none in
-    lawful_by (claim_for_open w n) b (opening_records law.records n w.claimed) g t.0 (t.1 ∙ law.routes)
+    lawful_by (claim_for_open w n) b (opening_records law.records n w.claimed) g t.0 (t.1 ∙ law.routes) law.unretired
     (flagged-claim_for_open w n law.flagged) (agreed-claim_for_open w n law.agreed)
+    (claim_for_open_owing w b law.records law.inv law.agreed (record { minded = law.minded; ranked = law.ranked }) n)
     (bounded-claim_for_open w b law.records law.inv law.bounded n l)
 
 -- the word of a link stays that for good, and of the same pair
@@ -88,6 +97,12 @@ replies_plainly w v b g (steps.Put n at bytes ends) reply law s = reply-put AnyA
 replies_plainly w v b g (steps.Get n at) reply law s = reply-get AnyAct w b law.records n at reply v law.inv s
 replies_plainly w v b g (steps.Close n at) reply law s = reply-close AnyAct w b law.records n at reply v law.inv s
 replies_plainly w v b g (steps.Turn n) reply law s = reply-turn w b law.records law.inv v n reply s
+
+-- each run from the start is one of the machine over the books alone
+pub runs_are_plain : RunsArePlain
+runs_are_plain nodes words w b g is =
+    plain_run each_step_keeps_lawful replies_plainly (new_world nodes words) w no_books b (first_routes nodes) g is.steps is.replies
+    (world_starts_lawful nodes words is.limits) is.run
 
 -- each bypass begins only under the lock of its own side
 pub each_begins_locked : BeginsLocked
@@ -119,14 +134,31 @@ lawful_worlds_give_the_headline = headline_by
 pub lawful_worlds_stray_nothing : LawfulStraysNothing
 lawful_worlds_stray_nothing w b g law = (length_law w b law.records law.inv, stray_law w b law.records law.inv)
 
--- what is owed so far
+-- what is owed
 pub lawful_worlds_owe : LawfulOwes
 lawful_worlds_owe w b g law = record {
   flagged = law.flagged;
   agreed = law.agreed;
+  tried = remembered w b law.records law.inv law.flagged law.agreed law.minded;
   length_to = owed.length_to w b law.records law.inv;
   length_from = owed.length_from w b law.records law.inv;
 }
+
+-- after every list of steps from the start
+pub nothing_is_forgotten : NothingIsForgotten
+nothing_is_forgotten nodes words w b g is = lawful_worlds_owe w b g (reached_lawful world_starts_lawful each_step_keeps_lawful nodes words w b g is)
+
+-- where nothing waits and words are left, each open pair is direct
+pub each_quiet_is_direct : QuietIsDirect
+each_quiet_is_direct w b g pair law quiet wet tells =
+    let t = and_parts (g.is_link pair) (nat_eq (g.pair pair) pair) tells in
+    let own : g.pair pair ≡ pair = grind (arith, nat_tests, t.1) in
+    pair_direct w b law.records law.inv quiet law.ranked law.flagged law.minded wet pair law.unretired
+    (ap (λ z. z.is_link pair) law.routes ∙ t.0) (ap (λ z. z.pair pair) law.routes ∙ own)
+
+-- and no proxy is left
+pub quiet_has_no_proxy : QuietHasNoProxy
+quiet_has_no_proxy w b g law quiet wet = no_proxies w b law.records law.inv quiet law.ranked law.flagged law.minded wet
 
 -- a terminal's numbers are those of its end's books
 pub terminals_keep_books : TerminalsKeepBooks
@@ -173,3 +205,23 @@ held_have_terminals w b g n e law l held =
 -- each message in hand fits, but a Flush may find its router gone
 pub messages_in_hand_fit : HandsFit
 messages_in_hand_fit = hands_fit each_step_keeps_lawful
+
+-- so no reply says that another message didn't fit
+pub only_flushes_stray : RepliesStrayNothing
+only_flushes_stray = replies_stray_nothing messages_in_hand_fit replies_plainly
+
+-- a message in hand stands in its mailbox, and back
+pub hands_stand_in_mail : HandsStandInMail
+hands_stand_in_mail w b g n from law l k = (law.inv.counts.hand n from l, law.inv.counts.in_hand n from l k)
+
+-- the word of an open under way is empty
+pub opening_words_are_empty : OpeningWordsAreEmpty
+unfolding is_linked
+opening_words_are_empty w b g n i law e = law.word_law.unused i (ap is_linked (law.word_law.opening n i e))
+
+-- a pending close finds its terminal
+pub pending_have_terminals : PendingHaveTerminals
+pending_have_terminals w b g n e law l has =
+    let inv = law.inv in
+    let unclosed : is_closed b e ≡ false = held_unclosed w b law.records e law.held_once (omega (arith, times_held-at w n e l, times-has e (node_at w n).pending has)) in
+    ap is_some (terminal_there w b law.records n e inv (inv.end_places.pending n e has) unclosed).1

@@ -8,7 +8,9 @@ pub mod LinkLaws
 pub mod OneNode
 pub mod OwedLaws
 pub mod Quiet
+pub mod QuietDirect
 pub mod QuietGets
+pub mod QuietRoutes
 pub mod Soundness
 pub mod StrayLaws
 pub mod WordLaws

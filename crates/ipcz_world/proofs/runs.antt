@@ -7,8 +7,10 @@ pub mod FirstNodes
 pub mod FlaggedSteps
 pub mod Flagging
 pub mod FlagsAgree
+pub mod HandReplies
 pub mod Keeping
 pub mod NodeSteps
+pub mod PlainRuns
 pub mod Running
 pub mod Starting
 pub mod StartingPairs

@@ -1,14 +1,16 @@
 -- Runs of steps: which replies they get, and what they keep, whatever the books and the routes are.
-use Rattle.std.specs.Prelude.{◌≡◌, Bool, true, false, List, [], ◌∷◌}
+use Rattle.std.specs.Prelude.{◌≡◌, ℕ, Bool, true, false, List, [], ◌∷◌}
 use Rattle.ipcz_world.specs.declared.step.Step.{Step}
 use Rattle.ipcz_world.specs.declared.step.Step.TheVariants.{Turn}
 use Rattle.ipcz_world.specs.declared.step.Reply.{Reply}
+use Rattle.ipcz_world.specs.declared.step.Reply.TheVariants.{Turned}
 use Rattle.ipcz_world.specs.World.{World}
 use Rattle.ipcz_world.specs.Steps.{StepFirst}
 use Rattle.ipcz_world.specs.Books.{Books, advance}
 use Rattle.ipcz_world.specs.Plain.{Plain}
 use Rattle.ipcz_world.specs.Routes.{Routes, routes_after}
 use Rattle.ipcz_world.specs.Lawful.{Lawful}
+use Rattle.ipcz_world.specs.Settling.{AreVisits, next_node}
 
 -- these steps, one after the other, get these replies and lead from one world to another
 abbrev pub AreSteps : World → List Step → List Reply → World → Type 0
@@ -31,15 +33,19 @@ Leads w b g (step ∷ steps) (reply ∷ replies) v =
 abbrev pub KeepsLaw : World → List Step → List Reply → World → Type 0
 KeepsLaw w steps replies v = (b : Books) (g : Routes) → Lawful w b g → Leads w b g steps replies v
 
--- whether all of these steps are turns
-abbrev pub are_turns : List Step → Bool
-are_turns [] = true
-are_turns (Turn n ∷ steps) = are_turns steps
-are_turns (step ∷ steps) = false
+-- the turns that visits from a node on take
+abbrev pub turns_of : (n : ℕ) (visits : List Bool) (w v : World) → AreVisits n visits w v → List Step
+turns_of n [] w v same = []
+turns_of n (true ∷ visits) w v (has, (u, (event, takes), rest)) = Turn n ∷ turns_of (next_node w n) visits u v rest
+turns_of n (false ∷ visits) w v (idle, rest) = turns_of (next_node w n) visits w v rest
 
--- some turns lead from one world to the other, for all books and routes with which it is lawful
-pub record KeepsLawByTurns (w v : World) : Type 0 where
-  pub steps : List Step
-  pub replies : List Reply
-  pub turns : are_turns steps ≡ true
-  pub leads : KeepsLaw w steps replies v
+-- and their replies, what each is seen to do
+abbrev pub replies_of : (n : ℕ) (visits : List Bool) (w v : World) → AreVisits n visits w v → List Reply
+replies_of n [] w v same = []
+replies_of n (true ∷ visits) w v (has, (u, (event, takes), rest)) = Turned event ∷ replies_of (next_node w n) visits u v rest
+replies_of n (false ∷ visits) w v (idle, rest) = replies_of (next_node w n) visits w v rest
+
+-- whatever visits lead from the one world to the other, their very turns, with the replies that they get, keep the law
+abbrev pub KeepsLawByVisits : World → World → Type 0
+KeepsLawByVisits w v =
+    (visits : List Bool) (turns : AreVisits 0 visits w v) → KeepsLaw w (turns_of 0 visits w v turns) (replies_of 0 visits w v turns) v

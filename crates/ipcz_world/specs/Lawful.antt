@@ -1,6 +1,6 @@
 -- What holds after any list of steps: the sentence that this repository exists for, and what it takes to keep it.
 -- (This project's own, for ipcz's promise that parcels come in order and are not lost while routes change.)
-use Rattle.std.specs.Prelude.{◌≡◌, ◌≤◌, ℕ, true, Some, List, [], ◌∷◌, length, map, take, slice_get}
+use Rattle.std.specs.Prelude.{◌≡◌, ◌≤◌, ℕ, true, false, Some, List, [], ◌∷◌, length, map, take, slice_get}
 use Rattle.ipcz_base.specs.declared.side.Side.{Side}
 use Rattle.ipcz_base.specs.declared.end.End.{End}
 use Rattle.ipcz_base.specs.declared.item.Item.{Item}
@@ -13,14 +13,14 @@ use Rattle.ipcz_world.specs.declared.step.Step.{Step}
 use Rattle.ipcz_world.specs.declared.step.Reply.{Reply}
 use Rattle.ipcz_world.specs.World.{node_limit, word_limit, World, word_at, new_world}
 use Rattle.ipcz_world.specs.Steps.{Scheduler, AnyAct, StepBy}
-use Rattle.ipcz_world.specs.Books.{Books, no_books, advance, read}
+use Rattle.ipcz_world.specs.Books.{Books, no_books, advance, read, is_closed}
 use Rattle.ipcz_world.specs.Routes.{Routes, first_routes, routes_after}
 use Rattle.ipcz_world.specs.Places.{in_places, at_end, times_at, unread_weight}
-use Rattle.ipcz_world.specs.Records.{Records, routes_of}
+use Rattle.ipcz_world.specs.Records.{Records, NoneRetired, routes_of}
 use Rattle.ipcz_world.specs.Whereabouts.{Conserved, HeldOnce}
 use Rattle.ipcz_world.specs.Inv.{Inv}
 use Rattle.ipcz_world.specs.Laws.{There, LinkLaw, BypassLaw, WordLaw}
-use Rattle.ipcz_world.specs.Owed.{AreFlagged, FlagsAgree}
+use Rattle.ipcz_world.specs.Owed.{AreFlagged, FlagsAgree, AreMinded, IsRanked}
 use Rattle.ipcz_world.specs.Settling.{IsBounded}
 
 -- the sentence: what holds after any list of steps of trusted nodes
@@ -38,6 +38,8 @@ pub record Headline (w : World) (b : Books) (g : Routes) : Type 0 where
   -- each accepted item neither got nor dropped by a sink stands in exactly one queue or message, under its number: however items are
   -- weighed, the places of an end weigh what it put and its peer hasn't read
   pub one_place : (e : End) (h : ℕ → Item → ℕ) → in_places (at_end e h) g w ≡ unread_weight h b e
+  -- only a sink drops items: an end that isn't closed has dropped none
+  pub dropped_by_sinks : (e : End) → is_closed b e ≡ false → b.gone e ≡ 0
 
 -- what the weights come to for one item: where the peer hasn't read it it stands in one place, and what stands anywhere is such an item
 pub record EachOnce (w : World) (b : Books) (g : Routes) : Type 0 where
@@ -50,6 +52,7 @@ pub record Lawful (w : World) (b : Books) (g : Routes) : Type 0 where
   pub records : Records
   pub routes : routes_of records ≡ g
   pub inv : Inv w b records
+  pub unretired : NoneRetired records
   pub conserved : Conserved w b records
   pub held_once : HeldOnce w b records
   pub link_law : LinkLaw w
@@ -59,6 +62,9 @@ pub record Lawful (w : World) (b : Books) (g : Routes) : Type 0 where
   pub flagged : AreFlagged w
   -- and its flags agree
   pub agreed : FlagsAgree w
+  -- who has tried for a lock is minded, and no proxies stand in a ring
+  pub minded : AreMinded w
+  pub ranked : IsRanked w
   -- the world's lists have their lengths and nothing lies beyond its nodes, so that what its nodes see is all that waits
   pub bounded : IsBounded w
 

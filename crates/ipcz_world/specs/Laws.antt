@@ -8,6 +8,7 @@ use Rattle.ipcz_base.specs.declared.link_id.LinkId.TheVariants.{Central}
 use Rattle.ipcz_base.specs.declared.link_end.LinkEnd.{LinkEnd}
 use Rattle.ipcz_base.specs.declared.descriptor.Descriptor.{Descriptor}
 use Rattle.ipcz_base.specs.declared.item.Item.{Item}
+use Rattle.ipcz_base.specs.declared.item.Item.TheVariants.{Mark}
 use Rattle.ipcz_base.specs.declared.message.Message.{Message}
 use Rattle.ipcz_base.specs.declared.message.Message.TheVariants as messages
 use Rattle.ipcz_base.specs.Ends.{has_end}
@@ -204,10 +205,10 @@ pub record TerminalLaw (w : World) (b : Books) : Type 0 where
   pub gone_closed : (e : End) → is_closed b e ≡ false → b.gone e ≡ 0
 
 -- each end of an open pair is held by callers, in a parcel, pending or closed: one of these, once; another end is nowhere, and of it
--- nothing is
--- written. What moves with a message is in its parcel
+-- nothing is written. What moves with a message is in its parcel, and the mark that a close puts is its end's last item
 pub record EndLaw (w : World) (b : Books) (g : Routes) : Type 0 where
   pub once : (e : End) → in_places (names_end e) g w + (times_held w e + times_closed b e) ≡ cond (is_opened g e.pair) 1 0
   pub unopened : (e : End) → is_opened g e.pair ≡ false → IsUnwritten b e
   pub moving : (from to i : ℕ) (link : LinkId) (s : Side) (n : ℕ) (item : Item) (moves : List Descriptor) (j : ℕ) (d : Descriptor) →
       IsUnderWay w from to i (messages.Item link s n item moves) → slice_get moves j ≡ Some d → has_end d.end (ends_in item) ≡ true
+  pub mark_last : (e : End) (n : ℕ) → slice_get (b.put e) n ≡ Some Mark → n + 1 ≡ length (b.put e)

@@ -13,11 +13,14 @@ pub mod Lending
 pub mod Mailing
 pub mod Numbers
 pub mod Owed
+pub mod Parts
 pub mod Places
 pub mod Plain
+pub mod Ranks
 pub mod Records
 pub mod Remembering
 pub mod Routes
+pub mod SettleBounds
 pub mod Settling
 pub mod Soundness
 pub mod Standing

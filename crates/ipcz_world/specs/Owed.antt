@@ -1,9 +1,10 @@
 -- What is owed to a router that could act or that waits, and a pair whose route is direct.
 -- (ipcz: that a flush is asked for wherever a router may have something to do, and that routes become direct in the end.)
-use Rattle.std.specs.Prelude.{◌≡◌, ◌⊎◌, ℕ, Bool, true, false, ◌||◌, Some, None}
+use Rattle.std.specs.Prelude.{◌≡◌, ◌⊎◌, ◌<◌, ℕ, Bool, true, false, ◌||◌, Some, None}
 use Rattle.ipcz_base.specs.declared.side.Side.{Side}
+use Rattle.ipcz_base.specs.declared.side.Side.TheVariants.{A, B}
 use Rattle.ipcz_base.specs.declared.link_id.LinkId.{LinkId}
-use Rattle.ipcz_base.specs.declared.link_id.LinkId.TheVariants.{Central}
+use Rattle.ipcz_base.specs.declared.link_id.LinkId.TheVariants.{Central, Peripheral}
 use Rattle.ipcz_base.specs.declared.link_end.LinkEnd.{LinkEnd}
 use Rattle.ipcz_base.specs.declared.item.Item.{Item}
 use Rattle.ipcz_base.specs.declared.message.Message.{Message}
@@ -15,9 +16,10 @@ use Rattle.ipcz_base.specs.Totals.{total}
 use Rattle.ipcz_word.specs.SideSets.{has}
 use Rattle.ipcz_word.specs.Word.{is_free}
 use Rattle.ipcz_edge.specs.Edge.{Edge}
-use Rattle.ipcz_router.specs.Router.{Router, outward_has, inward_edge, is_terminal}
+use Rattle.ipcz_router.specs.Router.{Router, outward_has, inward_has, inward_edge, is_terminal}
 use Rattle.ipcz_router.specs.ActTable.{is_possible}
 use Rattle.ipcz_router.specs.declared.act.RouterAct.{RouterAct}
+use Rattle.ipcz_router.specs.declared.act.RouterAct.TheVariants.{Lock}
 use Rattle.ipcz_world.specs.World.{World, Key, word_at, router_at}
 use Rattle.ipcz_world.specs.Books.{Books}
 use Rattle.ipcz_world.specs.Flows.{IsUnderWay}
@@ -54,6 +56,40 @@ WaitsRightly w i s =
 abbrev pub IsRemembered : World → ℕ → Side → ℕ → (Router → Bool) → Type 0
 IsRemembered w i s node test =
     (has (word_at w i).holder (opposite s) ≡ true) ⊎ (HasFlush w i s node ⊎ (OtherPasses w i (opposite s) test ⊎ WaitsRightly w i s))
+
+-- a router has the word's link as its outward primary link at this side and passes a test
+pub record PrimaryPasses (w : World) (i : ℕ) (s : Side) (test : Router → Bool) : Type 0 where
+  pub key : Key
+  pub router : Router
+  pub here : router_at w key ≡ Some router
+  pub on : has_primary (Central i) s router ≡ true
+  pub passes : test router ≡ true
+
+-- the side waits for one that isn't stable, or whose router owes it the wake
+abbrev pub WaitsForOther : World → ℕ → Side → Type 0
+WaitsForOther w i s =
+    (has (word_at w i).waiting s ≡ true) × ((has (word_at w i).stable (opposite s) ≡ false) ⊎
+    PrimaryPasses w i (opposite s) (λ r. r.wake_owed))
+
+-- a side that has tried isn't forgotten: the other side holds the lock, or a Flush is under way to it, or the router of the other side could
+-- try for the lock, or it waits for the other
+abbrev pub IsMinded : World → ℕ → Side → ℕ → Type 0
+IsMinded w i s node =
+    (has (word_at w i).holder (opposite s) ≡ true) ⊎ (HasFlush w i s node ⊎
+    (PrimaryPasses w i (opposite s) (λ r. is_possible r Lock) ⊎ WaitsForOther w i s))
+
+-- each router that has tried is minded on the word of its outward primary link
+abbrev pub AreMinded : World → Type 0
+AreMinded w = (i : ℕ) (k : Key) (r : Router) (s : Side) → router_at w k ≡ Some r → r.tried ≡ true → has_primary (Central i) s r ≡ true →
+    IsMinded w i s k.node
+
+-- routers have ranks, below a limit, that rise along each peripheral link from its proxy inward: no proxies stand in a ring
+pub record IsRanked (w : World) : Type 0 where
+  pub rank : Key → ℕ
+  pub limit : ℕ
+  pub below : (k : Key) (r : Router) → router_at w k ≡ Some r → rank k < limit
+  pub rises : (j k : Key) (q r : Router) (n x : ℕ) → router_at w j ≡ Some q → router_at w k ≡ Some r →
+      inward_has q (Peripheral n x) A ≡ true → outward_has r (Peripheral n x) B ≡ true → rank j < rank k
 
 -- whether a message of a bypass names the link itself as the one that is taken away
 unfoldable pub takes_link : LinkId → Message → Bool
@@ -92,17 +128,6 @@ pub record IsBypassing (w : World) (link : LinkId) : Type 0 where
 abbrev pub IsEdgeOf : Router → Edge → Type 0
 IsEdgeOf r e = (e ≡ r.outward) ⊎ (r.inward ≡ Some e)
 
--- a router with a possible act is flagged; one that has tried is remembered; and where a length of a decaying link isn't known, outward or
--- inward, its bypass has a message under way
-pub record Owed (w : World) : Type 0 where
-  pub flagged : AreFlagged w
-  pub tried : (k : Key) (r : Router) → router_at w k ≡ Some r → r.tried ≡ true →
-      (i : ℕ) × (s : Side) × (has_primary (Central i) s r ≡ true) × IsRemembered w i s k.node (λ q. q.flagged)
-  pub length_to : (k : Key) (r : Router) (e : Edge) (d : LinkEnd) → router_at w k ≡ Some r → IsEdgeOf r e → e.decaying ≡ Some d →
-      e.length_to ≡ None → IsBypassing w d.link
-  pub length_from : (k : Key) (r : Router) (e : Edge) (d : LinkEnd) → router_at w k ≡ Some r → IsEdgeOf r e → e.decaying ≡ Some d →
-      e.length_from ≡ None → IsBypassing w d.link
-
 -- the flags of each router agree: a dry one has no spare, one that owes a wake is marked, and one that has tried is marked and doesn't hold
 -- the lock
 pub record FlagsAgree (w : World) : Type 0 where
@@ -111,10 +136,13 @@ pub record FlagsAgree (w : World) : Type 0 where
   pub tried_marked : (k : Key) (r : Router) → router_at w k ≡ Some r → r.tried ≡ true → r.marked ≡ true
   pub tried_free : (k : Key) (r : Router) → router_at w k ≡ Some r → r.tried ≡ true → r.holds ≡ false
 
--- what is known so far of what is owed: all but that a router which has tried is remembered
-pub record OwedSoFar (w : World) : Type 0 where
+-- a router with a possible act is flagged; its flags agree; one that has tried is remembered; and where a length of a decaying link isn't known, outward or
+-- inward, its bypass has a message under way
+pub record Owed (w : World) : Type 0 where
   pub flagged : AreFlagged w
   pub agreed : FlagsAgree w
+  pub tried : (k : Key) (r : Router) → router_at w k ≡ Some r → r.tried ≡ true →
+      (i : ℕ) × (s : Side) × (has_primary (Central i) s r ≡ true) × IsRemembered w i s k.node (λ q. q.flagged)
   pub length_to : (k : Key) (r : Router) (e : Edge) (d : LinkEnd) → router_at w k ≡ Some r → IsEdgeOf r e → e.decaying ≡ Some d →
       e.length_to ≡ None → IsBypassing w d.link
   pub length_from : (k : Key) (r : Router) (e : Edge) (d : LinkEnd) → router_at w k ≡ Some r → IsEdgeOf r e → e.decaying ≡ Some d →
@@ -143,3 +171,11 @@ pub record IsDirect (w : World) (b : Books) (pair : ℕ) : Type 0 where
   pub free : is_free (word_at w route.word) ≡ true
   pub delivered : (s : Side) (h : ℕ → Item → ℕ) →
       total h (route.stands s).router.in_queue.items ≡ unread_weight h b (opposite_end (end_at pair s))
+
+-- no router has found the words used up
+abbrev pub IsWet : World → Type 0
+IsWet w = (k : Key) (r : Router) → router_at w k ≡ Some r → r.dry ≡ false
+
+-- no proxy stands
+abbrev pub HasNoProxies : World → Type 0
+HasNoProxies w = (k : Key) (r : Router) → router_at w k ≡ Some r → is_terminal r ≡ true

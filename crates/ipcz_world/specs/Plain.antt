@@ -1,5 +1,5 @@
 -- The machine over the books alone: which replies it allows, and what they write.
-use Rattle.std.specs.Prelude.{◌≡◌, ◌<◌, ℕ, true, Some, [], length}
+use Rattle.std.specs.Prelude.{◌≡◌, ◌<◌, ℕ, true, Some, List, [], ◌∷◌, length}
 use Rattle.ipcz_base.specs.declared.end.End.{End}
 use Rattle.ipcz_base.specs.declared.item.Item.TheVariants.{Parcel, Mark}
 use Rattle.ipcz_base.specs.declared.refusal.Refusal.{Refusal}
@@ -72,3 +72,10 @@ Plain b (Close n at) (replies.Closed number) c = (number ≡ length (b.put at)) 
 Plain b (Turn n) (replies.Turned event) c = PlainTurn b event c
 Plain b step (replies.Refused why) c = MayRefuse b step why × (c ≡ b)
 Plain b step reply c = ⊥
+
+-- a run of this machine: these steps, one after the other, get these replies and lead from one books to another
+abbrev pub PlainRun : Books → List Step → List Reply → Books → Type 0
+PlainRun b [] [] c = c ≡ b
+PlainRun b [] (reply ∷ replies) c = ⊥
+PlainRun b (step ∷ steps) [] c = ⊥
+PlainRun b (step ∷ steps) (reply ∷ replies) c = (d : Books) × Plain b step reply d × PlainRun d steps replies c

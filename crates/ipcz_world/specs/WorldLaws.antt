@@ -1,15 +1,19 @@
 -- The laws of worlds and their runs, as functions promise them.
-use Rattle.std.specs.Prelude.{◌≡◌, ◌<◌, ℕ, true, Some, None, IsSome, map}
+use Rattle.std.specs.Prelude.{◌≡◌, ◌↔◌, ◌<◌, ℕ, true, Some, None, IsSome, map}
 use Rattle.ipcz_base.specs.declared.end.End.{End}
 use Rattle.ipcz_base.specs.declared.item.Item.TheVariants.{Parcel}
+use Rattle.ipcz_base.specs.declared.link_id.LinkId.{LinkId}
 use Rattle.ipcz_base.specs.declared.link_id.LinkId.TheVariants.{Central}
 use Rattle.ipcz_base.specs.declared.refusal.Refusal.TheVariants.{Empty}
 use Rattle.ipcz_base.specs.declared.message.Message.{Message}
-use Rattle.ipcz_base.specs.Ends.{opposite_end}
+use Rattle.ipcz_base.specs.Ends.{opposite_end, has_end}
 use Rattle.ipcz_node.specs.Hands.{is_unfit}
 use Rattle.ipcz_node.specs.Node.{holds_end, terminal_of}
 use Rattle.ipcz_word.specs.SideSets.{has}
+use Rattle.ipcz_word.specs.Word.{empty_word}
 use Rattle.ipcz_router.specs.Router.{Router}
+use Rattle.ipcz_node.specs.declared.happened.Handed.{Handed}
+use Rattle.ipcz_node.specs.declared.happened.Handed.TheVariants.{Flush}
 use Rattle.ipcz_node.specs.declared.happened.Happened.TheVariants as events
 use Rattle.ipcz_world.specs.declared.step.Step.{Step}
 use Rattle.ipcz_world.specs.declared.step.Step.TheVariants.{Get, Turn}
@@ -20,10 +24,10 @@ use Rattle.ipcz_world.specs.Turns.{router_of, message_in_hand}
 use Rattle.ipcz_world.specs.Steps.{StepAny, StepFirst, claim_for_open}
 use Rattle.ipcz_world.specs.Settling.{IsQuiet}
 use Rattle.ipcz_world.specs.Books.{Books, no_books, advance}
-use Rattle.ipcz_world.specs.Plain.{Plain}
+use Rattle.ipcz_world.specs.Plain.{Plain, PlainRun}
 use Rattle.ipcz_world.specs.Routes.{Routes, first_routes, routes_after, is_opened}
 use Rattle.ipcz_world.specs.Laws.{KeepsLinks, LengthLaw, StrayLaw, TerminalLaw, EndLaw, is_flush}
-use Rattle.ipcz_world.specs.Owed.{OwedSoFar, IsDirectPair}
+use Rattle.ipcz_world.specs.Owed.{Owed, IsDirectPair, IsDirect, IsWet, HasNoProxies}
 use Rattle.ipcz_world.specs.Soundness.{HasLengths, IsSound}
 use Rattle.ipcz_world.specs.Lawful.{Headline, EachOnce, Lawful, IsWithinLimits, IsReached}
 
@@ -53,6 +57,21 @@ abbrev pub RepliesPlainly : Type 0
 RepliesPlainly =
     (w v : World) (b : Books) (g : Routes) (step : Step) (reply : Reply) → Lawful w b g → StepAny w step reply v →
     Plain b step reply (advance w b step reply)
+
+-- law: to its callers the nodes together are the machine over the books alone: whatever steps are taken from the start, and whichever
+-- possible act each turn takes, that machine gives the same replies to the same steps, and ends with the same books
+abbrev pub RunsArePlain : Type 0
+RunsArePlain =
+    (nodes words : ℕ) (w : World) (b : Books) (g : Routes) → (is : IsReached nodes words w b g) → PlainRun no_books is.steps is.replies b
+
+-- a reply that says of a message in hand that it didn't fit says it of a Flush, which is dropped and kept nowhere
+abbrev pub OnlyFlushesStray : Reply → Type 0
+OnlyFlushesStray reply = (kind : Handed) (link : LinkId) → reply ≡ Turned (events.Hand kind link true) → kind ≡ Flush
+
+-- law: each reply to a step from a lawful world is one of these
+abbrev pub RepliesStrayNothing : Type 0
+RepliesStrayNothing =
+    (w v : World) (b : Books) (g : Routes) (step : Step) (reply : Reply) → Lawful w b g → StepAny w step reply v → OnlyFlushesStray reply
 
 -- a bypass begins only under the lock of its own side
 abbrev pub BeginsUnderLock : World → Step → Reply → Type 0
@@ -108,9 +127,23 @@ LawfulGivesHeadline = (w : World) (b : Books) (g : Routes) → Lawful w b g → 
 abbrev pub LawfulStraysNothing : Type 0
 LawfulStraysNothing = (w : World) (b : Books) (g : Routes) → Lawful w b g → LengthLaw w × StrayLaw w
 
--- law: in a lawful world a router that could act is flagged, flags agree, and an unknown length is under way
+-- law: in a lawful world a router that could act is flagged, flags agree, who has tried for a lock is remembered, and an unknown length is
+-- under way
 abbrev pub LawfulOwes : Type 0
-LawfulOwes = (w : World) (b : Books) (g : Routes) → Lawful w b g → OwedSoFar w
+LawfulOwes = (w : World) (b : Books) (g : Routes) → Lawful w b g → Owed w
+
+-- law: the same after every list of steps from the start
+abbrev pub NothingIsForgotten : Type 0
+NothingIsForgotten = (nodes words : ℕ) (w : World) (b : Books) (g : Routes) → IsReached nodes words w b g → Owed w
+
+-- law: in a lawful world where nothing waits and no router has found the words used up, each open pair is direct and all is delivered
+abbrev pub QuietIsDirect : Type 0
+QuietIsDirect =
+    (w : World) (b : Books) (g : Routes) (pair : ℕ) → Lawful w b g → IsQuiet w → IsWet w → is_opened g pair ≡ true → IsDirect w b pair
+
+-- law: and no proxy is left
+abbrev pub QuietHasNoProxy : Type 0
+QuietHasNoProxy = (w : World) (b : Books) (g : Routes) → Lawful w b g → IsQuiet w → IsWet w → HasNoProxies w
 
 -- law: in a lawful world a terminal's numbers are those of its end's books
 abbrev pub TerminalsKeepBooks : Type 0
@@ -139,3 +172,20 @@ ListsHaveLengths = (w : World) (b : Books) (g : Routes) → Lawful w b g → Has
 -- law: each node of a lawful world is sound
 abbrev pub NodesAreSound : Type 0
 NodesAreSound = (w : World) (b : Books) (g : Routes) (n : ℕ) → Lawful w b g → n < w.count → IsSound w.count w.size n (node_at w n)
+
+-- law: in a lawful world a message in a node's hand stands in its mailbox, and a mailbox whose message is in hand is that of its receiver's
+-- hand
+abbrev pub HandsStandInMail : Type 0
+HandsStandInMail =
+    (w : World) (b : Books) (g : Routes) (n from : ℕ) → Lawful w b g → n < w.count → from < w.count →
+    ((node_at w n).hand ≡ Some from) ↔ IsSome (message_in_hand w n from)
+
+-- law: in a lawful world the word of an open under way is empty
+abbrev pub OpeningWordsAreEmpty : Type 0
+OpeningWordsAreEmpty = (w : World) (b : Books) (g : Routes) (n i : ℕ) → Lawful w b g → (node_at w n).opening ≡ Some i → word_at w i ≡ empty_word
+
+-- law: in a lawful world an end whose close is pending at a node has its terminal there
+abbrev pub PendingHaveTerminals : Type 0
+PendingHaveTerminals =
+    (w : World) (b : Books) (g : Routes) (n : ℕ) (e : End) → Lawful w b g → n < w.count → has_end e (node_at w n).pending ≡ true →
+    IsSome (terminal_of (node_at w n) e)

@@ -6,7 +6,11 @@ ghost use Rattle.ipcz_world.specs.WorldLaws.{BeginsLocked, LinksStay, LawfulGive
 ghost use Rattle.ipcz_world.specs.WorldLaws.{LawfulStraysNothing, NothingStrays, LawfulOwes, TerminalsKeepBooks, ListsHaveLengths};
 ghost use Rattle.ipcz_world.specs.WorldLaws.{EndsStandOnce, HandsFit};
 ghost use Rattle.ipcz_world.specs.WorldLaws.{NodesAreSound, QuietDelivers, OneNodeIsDirect};
-ghost use Rattle.ipcz_world.specs.WorldLaws.{GetsStayQuiet, HeldHaveTerminals};
+ghost use Rattle.ipcz_world.specs.WorldLaws.{GetsStayQuiet, HeldHaveTerminals, NothingIsForgotten, QuietIsDirect, QuietHasNoProxy};
+ghost use Rattle.ipcz_world.specs.Ranks.{ActsLowerTheRank, TurnsKeepRates, TurnsAreBounded, OrderedAreRated, UnusedIsQuiet};
+ghost use Rattle.ipcz_world.specs.SettleBounds.{VisitsAreBounded, UnsettledIsBounded, PlainAreRated, PlainLimitIsEnough, SettledIsDirect};
+ghost use Rattle.ipcz_world.specs.WorldLaws.{HandsStandInMail, OpeningWordsAreEmpty, PendingHaveTerminals};
+ghost use Rattle.ipcz_world.specs.WorldLaws.{RunsArePlain, RepliesStrayNothing};
 
 /// The world at the start, with 1 to 8 nodes and words enough for the first pairs (4096 at most), is lawful with empty books and the
 /// routes of the first pairs.
@@ -38,6 +42,12 @@ pub fn each_reply_is_plain()
     ensures { RepliesPlainly }
 {}
 
+/// To its callers the nodes together are the machine over the books alone: whatever steps are taken from the start, and whichever possible
+/// act each turn takes, that machine gives the same replies to the same steps, and its books at the end are those of the run.
+pub fn runs_are_plain()
+    ensures { RunsArePlain }
+{}
+
 /// A turn that is seen to begin the bypass of a link finds that link's word locked by the side of its own router.
 pub fn a_bypass_begins_only_under_its_lock()
     ensures { BeginsLocked }
@@ -50,7 +60,7 @@ pub fn a_links_word_stays_with_its_pair()
 
 /// In a lawful world each link is locked by at most one side and only while both are stable, what is being bypassed is locked by the side
 /// that left it, a stable link that is free joins two routers without decaying links, each portal has got a prefix of what its peer put,
-/// and each accepted item neither got nor dropped stands in one queue or message.
+/// each accepted item neither got nor dropped stands in one queue or message, and an end that isn't closed drops none.
 pub fn a_lawful_world_gives_the_headline()
     ensures { LawfulGivesHeadline }
 {}
@@ -83,10 +93,34 @@ pub fn each_message_in_hand_fits()
     ensures { HandsFit }
 {}
 
-/// In a lawful world a router with a possible act is flagged, a router's flags agree, and where a decaying link's length isn't known a
-/// message of its bypass is under way.
+/// A step from a lawful world is never answered by a turn that is seen to hand a message as a stray: where a turn says that the message in
+/// hand didn't fit, it was a Flush whose router is gone, and it is dropped.
+pub fn only_a_flush_is_seen_to_stray()
+    ensures { RepliesStrayNothing }
+{}
+
+/// In a lawful world a router with a possible act is flagged, and a router's flags agree. One that has tried for a lock isn't forgotten:
+/// the other side holds it, or a Flush is under way, or the other router is flagged, or it waits for a side that isn't stable or owes the
+/// wake. And where a decaying link's length isn't known a message of its bypass is under way.
 pub fn a_lawful_world_owes_what_waits()
     ensures { LawfulOwes }
+{}
+
+/// The same after every list of steps from the start, whichever possible act each turn takes.
+pub fn nothing_is_forgotten_after_any_run()
+    ensures { NothingIsForgotten }
+{}
+
+/// In a lawful world where nothing waits and no router has found the words used up, each open pair is direct: its routers are two
+/// terminals on one link, stable on both sides and free, and what an end has put and its peer hasn't got stands in the in queue of the
+/// peer's terminal.
+pub fn a_quiet_world_is_direct()
+    ensures { QuietIsDirect }
+{}
+
+/// In such a world no proxy is left.
+pub fn a_quiet_world_has_no_proxy()
+    ensures { QuietHasNoProxy }
 {}
 
 /// In a lawful world a terminal's next number is how many items its end has put, the current number of its in queue how many its end has
@@ -97,7 +131,8 @@ pub fn terminals_keep_their_books()
 {}
 
 /// In a lawful world each end of an open pair is held by the callers of one node, in the list of one parcel, among the closes that are
-/// pending, or closed: one of these, once. Another end is in none of these, and of it nothing is written.
+/// pending, or closed: one of these, once. Another end is in none of these, and of it nothing is written. The mark that a close puts is
+/// its end's last item.
 pub fn each_end_is_in_one_place()
     ensures { EndsStandOnce }
 {}
@@ -134,4 +169,74 @@ pub fn a_get_leaves_a_quiet_world_quiet()
 /// After every list of steps of a world of one node, the two terminals of each open pair share one link.
 pub fn on_one_node_each_pair_is_direct()
     ensures { OneNodeIsDirect }
+{}
+
+/// In a lawful world a message in a node's hand stands in its mailbox, and a mailbox whose message is in hand is that of its receiver's hand.
+pub fn each_hand_stands_in_its_mailbox()
+    ensures { HandsStandInMail }
+{}
+
+/// In a lawful world the word of an open under way is empty.
+pub fn each_word_that_is_being_opened_is_empty()
+    ensures { OpeningWordsAreEmpty }
+{}
+
+/// In a lawful world an end whose close is pending at a node has its terminal there.
+pub fn each_pending_close_has_its_terminal()
+    ensures { PendingHaveTerminals }
+{}
+
+/// In a lawful world, whose books the caps leave room for and the prices pay for, each possible act of any node, in whatever order,
+/// lowers the rank, but idle, an unlock, and the rest of a router that isn't flagged.
+pub fn each_act_lowers_the_rank()
+    ensures { ActsLowerTheRank }
+{}
+
+/// A turn keeps rates that fit the books.
+pub fn turns_keep_rates()
+    ensures { TurnsKeepRates }
+{}
+
+/// While no caller calls, whatever possible acts the nodes take in whatever order, no more of them use something up than the rank at the
+/// start, and two for each unlock.
+pub fn turns_are_bounded()
+    ensures { TurnsAreBounded }
+{}
+
+/// Where the parcels that weren't read carry ends in an order of their pairs there are rates that fit the books.
+pub fn ordered_parcels_have_rates()
+    ensures { OrderedAreRated }
+{}
+
+/// Where no node has an act that uses something up, the world is quiet.
+pub fn a_world_without_acts_is_quiet()
+    ensures { UnusedIsQuiet }
+{}
+
+/// The turns of a settle take no more acts than the rank falls by, and two more for each begin that finds no memory: for all books with which
+/// the world is lawful, and all rates that fit them.
+pub fn visits_are_bounded()
+    ensures { VisitsAreBounded }
+{}
+
+/// A settle answers `Unsettled` only where its limit was below the rank of the world at its start, and two more for each of its begins that
+/// found no memory.
+pub fn an_unsettled_settle_had_a_limit_below_the_rank()
+    ensures { UnsettledIsBounded }
+{}
+
+/// Where no item that wasn't read carries an end, rates fit that pay for nothing but the passing of numbers.
+pub fn parcels_without_ends_have_rates()
+    ensures { PlainAreRated }
+{}
+
+/// So there a limit that one can reckon, `plain_limit`, is enough for a settle, with two more for each begin that finds no memory.
+pub fn the_plain_limit_is_enough()
+    ensures { PlainLimitIsEnough }
+{}
+
+/// Where a settle has settled and no router has found the words used up, no proxy is left, and each open pair is direct: what an end has put
+/// and its peer hasn't got stands in the in queue of the peer's terminal.
+pub fn a_settled_world_is_direct()
+    ensures { SettledIsDirect }
 {}

@@ -13,4 +13,5 @@ mod world;
 
 pub use mail::Mail;
 pub use step::{Reply, Settled, Step};
+pub use word_answers::{Answered, answer_act};
 pub use world::World;

@@ -1,7 +1,8 @@
-ghost use Rattle.std.specs.Prelude.{◌≡◌, ◌<◌, ◌≤◌, ◌++◌, ◌-◌, Some, None, IfSome, IfOk, length, replicate, if◌then◌else◌};
+ghost use Rattle.std.specs.Prelude.{◌≡◌, ◌<◌, ◌≤◌, ◌++◌, ◌-◌, Some, None, IfSome, IfOk, length, map, replicate, if◌then◌else◌};
+ghost use Rattle.ipcz_word.specs.Layout.{word_of_bits};
 ghost use Rattle.ipcz_word.specs.Word.{empty_word, open_word};
 ghost use Rattle.ipcz_world.specs.Coding.{claimed_word, has_unclaimed, claim_one, put_word, is_claim, side_answer, side_after};
-ghost use Rattle.ipcz_world.specs.Coding.{table_answer, table_after};
+ghost use Rattle.ipcz_world.specs.Coding.{table_answer, table_after, IsTable};
 
 use crate::word_answers::answer_act;
 use ipcz_base::Side;
@@ -47,6 +48,15 @@ impl LinkWords {
             bits,
             claimed: pairs,
         })
+    }
+
+    /// These link words, of which so many are claimed.
+    pub(crate) fn of(bits: Vec<u64>, claimed: u32) -> LinkWords
+        requires { IsTable bits.items claimed }
+        ensures words { result.words ≡ map word_of_bits bits.items }
+        ensures claimed { result.claimed ≡ claimed }
+    {
+        LinkWords { bits, claimed }
     }
 
     /// How many words were claimed.

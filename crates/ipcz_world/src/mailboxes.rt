@@ -39,6 +39,13 @@ impl Mailboxes {
         Ok(Mailboxes { boxes })
     }
 
+    /// These mailboxes, by number.
+    pub(crate) fn of(boxes: Vec<Mail>) -> Mailboxes
+        ensures { result ≡ boxes.items }
+    {
+        Mailboxes { boxes }
+    }
+
     /// Whether a mailbox is full.
     #[tactic(auto, using(crate::proofs::code::Slots::place_read))]
     pub(crate) fn is_full(&self, k: usize) -> bool

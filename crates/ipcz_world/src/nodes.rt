@@ -1,4 +1,4 @@
-ghost use Rattle.std.specs.Prelude.{◌≡◌, ◌<◌, ◌≤◌, IfOk, IfErr, length};
+ghost use Rattle.std.specs.Prelude.{◌≡◌, ◌<◌, ◌≤◌, IfOk, IfErr, length, map};
 ghost use Rattle.std.specs.Borrow.{sem};
 ghost use Rattle.ipcz_base.specs.Indexed.{place_at};
 ghost use Rattle.ipcz_node.specs.Node.{bare_node};
@@ -45,6 +45,13 @@ impl Nodes {
             };
         }
         Ok(Nodes { states })
+    }
+
+    /// These nodes, by number.
+    pub(crate) fn of(states: Vec<NodeState>) -> Nodes
+        ensures { result ≡ map (λ k. k.node) states.items }
+    {
+        Nodes { states }
     }
 
     /// The node of a number, to read.

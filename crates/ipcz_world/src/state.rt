@@ -1,8 +1,10 @@
-ghost use Rattle.std.specs.Prelude.{◌≡◌, ◌<◌, ◌≤◌, IfOk, IfErr, length};
+ghost use Rattle.std.specs.Prelude.{◌≡◌, ◌<◌, ◌≤◌, IfOk, IfErr, length, map};
+ghost use Rattle.ipcz_word.specs.Layout.{word_of_bits};
 ghost use Rattle.ipcz_node.specs.FirstPairs.{first_pairs};
-ghost use Rattle.ipcz_world.specs.Coding.{claimed_word, table_of};
+ghost use Rattle.ipcz_world.specs.Coding.{claimed_word, table_of, IsTable};
 ghost use Rattle.ipcz_world.specs.Holding.{holder_of};
 ghost use Rattle.ipcz_world.specs.Lawful.{IsWithinLimits};
+ghost use Rattle.ipcz_world.specs.Parts.{world_of_parts};
 ghost use Rattle.ipcz_world.specs.Steps.{StepFirst};
 ghost use Rattle.ipcz_world.specs.Taking.{IsRegular, node_of};
 ghost use Rattle.ipcz_world.specs.World.{new_world};
@@ -12,10 +14,12 @@ pub(crate) mod settling;
 pub(crate) mod turns;
 
 use crate::link_words::LinkWords;
+use crate::mail::Mail;
 use crate::mailboxes::Mailboxes;
 use crate::nodes::Nodes;
 use crate::step::{Reply, Step};
 use ipcz_base::{End, Refusal};
+use ipcz_node::NodeState;
 use std::alloc::Global;
 use std::marker::Model;
 
@@ -72,6 +76,28 @@ impl State {
             count: nodes,
             alloc,
         })
+    }
+
+    /// The world of these parts.
+    pub(crate) fn of_parts(
+        nodes: Vec<NodeState>,
+        mail: Vec<Mail>,
+        words: Vec<u64>,
+        claimed: u32,
+    ) -> State
+        requires words { IsTable words.items claimed }
+        requires nodes { length nodes.items ≤ 255 }
+        ensures { result ≡ world_of_parts (map (λ k. k.node) nodes.items) mail.items (map word_of_bits words.items) claimed }
+    {
+        let alloc = *nodes.allocator();
+        let count = nodes.len() as u8;
+        State {
+            nodes: Nodes::of(nodes),
+            words: LinkWords::of(words, claimed),
+            mail: Mailboxes::of(mail),
+            count,
+            alloc,
+        }
     }
 
     /// How many words were claimed.

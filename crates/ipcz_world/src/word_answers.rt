@@ -13,15 +13,15 @@ use ipcz_word::LockPlan;
 
 /// What a word answers, and the word after that.
 #[derive(Clone, Copy, Debug, PartialEq, Eq)]
-pub(crate) struct Answered {
-    pub(crate) answer: Answer,
-    pub(crate) word: u64,
+pub struct Answered {
+    pub answer: Answer,
+    pub word: u64,
 }
 
 #[tactic(auto, unfolding(crate::specs::WordAnswers::word_answer, crate::specs::WordAnswers::word_after))]
 /// What the word of a link answers to an act of a router at this side, and the word after it. An act that touches no word is answered
 /// `Plain`.
-pub(crate) fn answer_act(word: u64, side: Side, act: RouterAct) -> Answered
+pub fn answer_act(word: u64, side: Side, act: RouterAct) -> Answered
     requires { IsWord word }
     ensures answer { result.answer ≡ word_answer (word_of_bits word) side act }
     ensures word { word_of_bits result.word ≡ word_after (word_of_bits word) side act }

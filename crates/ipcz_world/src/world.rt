@@ -1,18 +1,25 @@
-ghost use Rattle.std.specs.Prelude.{◌≡◌, ◌<◌, IfOk, IfErr, OnErr};
+ghost use Rattle.std.specs.Prelude.{◌≡◌, ◌<◌, IfOk, IfErr, OnErr, map};
+ghost use Rattle.ipcz_word.specs.Layout.{word_of_bits};
 ghost use Rattle.ipcz_world.specs.Books.{Books, advance, no_books};
+ghost use Rattle.ipcz_world.specs.Coding.{IsTable};
 ghost use Rattle.ipcz_world.specs.Holding.{holder_of, shown_word};
 ghost use Rattle.ipcz_world.specs.Lawful.{IsWithinLimits, Lawful};
 ghost use Rattle.ipcz_world.specs.Lawfulness.{IsLawful};
+ghost use Rattle.ipcz_world.specs.Parts.{world_of_parts};
 ghost use Rattle.ipcz_world.specs.Plain.{Plain};
 ghost use Rattle.ipcz_world.specs.Routes.{Routes, first_routes, routes_after};
 ghost use Rattle.ipcz_world.specs.Steps.{StepFirst};
-ghost use Rattle.ipcz_world.specs.FirstRuns.{AreSteps, KeepsLaw, KeepsLawByTurns};
+ghost use Rattle.ipcz_world.specs.FirstRuns.{AreSteps, KeepsLaw, KeepsLawByVisits};
+ghost use Rattle.ipcz_world.specs.Turns.{next_at};
 ghost use Rattle.ipcz_world.specs.World.{new_world};
+ghost use Rattle.ipcz_world.specs.SettleBounds.{IsBoundedSettle};
 ghost use Rattle.ipcz_world.specs.Settling.{IsSettle, IsRefusedSettle};
 
+use crate::mail::Mail;
 use crate::state::State;
 use crate::step::{Reply, Settled, Step};
-use ipcz_base::{End, Refusal};
+use ipcz_base::{Bytes, End, Ends, Refusal};
+use ipcz_node::{Act, NodeState};
 use std::alloc::Global;
 use std::marker::Model;
 
@@ -53,6 +60,22 @@ impl World {
     {
         let state = State::new(alloc, nodes, words)?;
         Ok(World { state })
+    }
+
+    /// The world of these nodes, mailboxes and link words, each by number, with so many words claimed: what nodes on a table of their own
+    /// come back to. The caller shows that it is lawful with some books and routes, and that the words' numbers are those of link words.
+    pub fn of_parts(
+        nodes: Vec<NodeState>,
+        mail: Vec<Mail>,
+        words: Vec<u64>,
+        claimed: u32,
+    ) -> World
+        requires words { IsTable words.items claimed }
+        requires lawful { IsLawful (world_of_parts (map (λ k. k.node) nodes.items) mail.items (map word_of_bits words.items) claimed) }
+        ensures { result ≡ world_of_parts (map (λ k. k.node) nodes.items) mail.items (map word_of_bits words.items) claimed }
+    {
+        let state = State::of_parts(nodes, mail, words, claimed);
+        World { state }
     }
 
     /// What the type keeps: there are books and routes with which the world is lawful (docs/LAW.md). It does nothing, and is there for
@@ -100,6 +123,18 @@ impl World {
         self.state.step(step)
     }
 
+    /// Puts a parcel at an end, as the step `Put` does, without a copy of its lists: they go with the call, also where it is refused.
+    pub fn put(&mut self, node: u8, at: End, bytes: Bytes, ends: Ends) -> Reply
+        ensures step { StepFirst self.old (Step.Put node at bytes ends) result self.new }
+        ensures lawful { (b : Books) → (g : Routes) → Lawful self.old b g →
+            Lawful self.new (advance self.old b (Step.Put node at bytes ends) result)
+            (routes_after self.old g (Step.Put node at bytes ends) result) }
+        ensures plain { (b : Books) → (g : Routes) → Lawful self.old b g →
+            Plain b (Step.Put node at bytes ends) result (advance self.old b (Step.Put node at bytes ends) result) }
+    {
+        self.state.put_given(node, at, bytes, ends)
+    }
+
     /// Takes each of these steps, in their order, and gives their replies. Refused `OutOfMemory` where there is no room for the replies:
     /// then no step is taken. A step that is refused is a reply like any other, and the steps after it are taken.
     pub fn run(&mut self, alloc: Global, steps: &[Step]) -> Result<Vec<Reply>, Refusal>
@@ -119,22 +154,24 @@ impl World {
 
     /// Lets the nodes take turns, one node after the other in passes over them, until no node has an act; at most `limit` acts are taken.
     /// Settled, with how many acts were taken, where nothing waits any more; `Unsettled` where `limit` acts were taken and a node still has
-    /// one. A node that is idle takes no turn.
+    /// one. A node that is idle takes no turn. A limit of the world's rank, and two more for each begin that finds no memory, is enough
+    /// (docs/LAW.md).
     ///
     /// Refused `NumbersEnd` or `OutOfMemory` as the first turn that is refused, of the next node that has an act: the turns before it
     /// stand, and that one changes nothing.
     pub fn settle(&mut self, limit: u64) -> Result<Settled, Refusal>
         ensures settles { IfOk result (λ answer. IsSettle limit self.old self.new answer) }
+        ensures bounded { IfOk result (λ answer. IsBoundedSettle limit self.old self.new answer) }
         ensures refused { IfErr result (λ why. IsRefusedSettle limit self.old self.new why) }
-        ensures lawful { KeepsLawByTurns self.old self.new }
+        ensures lawful { KeepsLawByVisits self.old self.new }
     {
         let mut from = 0;
         for acts in 0..limit {
-            let Some(node) = self.state.next_busy(from) else {
+            let Some((node, act)) = self.state.next_busy(from) else {
                 return Ok(Settled::Settled { after: acts });
             };
             from = self.state.next_node(node);
-            match self.step(&Step::Turn(node)) {
+            match self.take_turn(node, act) {
                 Reply::Turned(_) => {}
                 Reply::Refused(why) => return Err(why),
                 Reply::Opened(_, _) | Reply::Put(_) | Reply::Got(_, _) | Reply::Closed(_) => {
@@ -146,5 +183,13 @@ impl World {
             None => Ok(Settled::Settled { after: limit }),
             Some(_) => Ok(Settled::Unsettled),
         }
+    }
+    // Takes the turn of a node whose first possible act is given.
+    fn take_turn(&mut self, node: u8, act: Act) -> Reply
+        requires node { node < self.old.count }
+        requires first { act ≡ next_at self.old node }
+        ensures step { StepFirst self.old (Step.Turn node) result self.new }
+    {
+        self.state.take_first(node, act)
     }
 }

@@ -29,7 +29,7 @@ ghost use Rattle.ipcz_node.specs.SortedSets.{has};
 ghost use Rattle.ipcz_node.specs.Indexes.{is_filed};
 
 use super::Directory;
-use super::filing::refile;
+use super::filing::{follow, refile};
 use ipcz_base::{LinkId, Side};
 use ipcz_router::{Router, Sending};
 
@@ -157,17 +157,10 @@ impl Directory {
             self.new.filed ≡ put_filed self.old.filed serial (rouse r) }
     {
         let router = self.routers.router_mut(serial);
-        let was = router.filing();
+        let was = router.is_flagged();
         router.rouse();
-        let is = router.filing();
-        refile(
-            &mut self.links,
-            &mut self.terminals,
-            &mut self.flagged,
-            serial,
-            &was,
-            &is,
-        );
+        let is = router.is_flagged();
+        follow(&mut self.flagged, serial, was, is);
     }
 }
 

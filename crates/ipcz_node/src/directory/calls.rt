@@ -33,7 +33,7 @@ ghost use Rattle.ipcz_node.specs.Node.{word_at};
 ghost use Rattle.ipcz_node.specs.Calls.{got_from, ends_found};
 
 use super::Directory;
-use super::filing::refile;
+use super::filing::{follow, refile};
 use ipcz_base::{End, Parcel, Refusal, Side};
 
 impl Directory {
@@ -52,17 +52,10 @@ impl Directory {
         ensures err { IfErr result (λ e. (e.1 ≡ parcel) × (self.new.filed ≡ self.old.filed)) }
     {
         let router = self.routers.router_mut(serial);
-        let was = router.filing();
+        let was = router.is_flagged();
         let answer = router.put(parcel);
-        let is = router.filing();
-        refile(
-            &mut self.links,
-            &mut self.terminals,
-            &mut self.flagged,
-            serial,
-            &was,
-            &is,
-        );
+        let is = router.is_flagged();
+        follow(&mut self.flagged, serial, was, is);
         answer
     }
 
@@ -80,17 +73,10 @@ impl Directory {
         ensures err { OnErr result (self.new.filed ≡ self.old.filed) }
     {
         let router = self.routers.router_mut(serial);
-        let was = router.filing();
+        let was = router.is_flagged();
         let answer = router.get();
-        let is = router.filing();
-        refile(
-            &mut self.links,
-            &mut self.terminals,
-            &mut self.flagged,
-            serial,
-            &was,
-            &is,
-        );
+        let is = router.is_flagged();
+        follow(&mut self.flagged, serial, was, is);
         let (n, parcel) = answer?;
         self.held.insert_all(parcel.ends.as_slice());
         self.ends = self.ends.saturating_sub(parcel.ends.len());

@@ -116,8 +116,9 @@ fn file_link(links: &mut Index<(LinkId, Side)>, serial: u64, new: Option<LinkEnd
     }
 }
 
-// Keeps the set of flagged serials after what was done with the router of a serial.
-fn follow(flagged: &mut SortedSet<u64>, serial: u64, was_flagged: bool, is_flagged: bool)
+// Keeps the set of flagged serials after what was done with the router of a serial. That is all that is to be filed where its links
+// stay, and whether it is an open terminal.
+pub(super) fn follow(flagged: &mut SortedSet<u64>, serial: u64, was_flagged: bool, is_flagged: bool)
     requires was { has nat_cmp flagged.old.members serial ≡ was_flagged }
     requires room { was_flagged ≡ false → 0 < flagged.old.room }
     ensures members { (s : ℕ) → has nat_cmp flagged.new.members s ≡

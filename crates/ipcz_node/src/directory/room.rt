@@ -54,6 +54,16 @@ pub(super) fn make_room(
     }
 }
 
+// How many flags to make room for, beside those that are up: one for each router, where routers are made; else each has its
+// room.
+pub(super) fn flags_wanted(len: usize, routers: usize) -> usize
+    requires len { len < 2 ^ 63 }
+    requires routers { routers < 2 ^ 63 }
+    ensures { 0 < routers → result ≡ len + routers }
+{
+    if routers == 0 { 0 } else { len + routers }
+}
+
 // The sum of two numbers, where it fits.
 pub(super) fn sum(a: usize, b: usize) -> Option<usize>
     ensures { IfSome result (λ n. n ≡ a + b) }

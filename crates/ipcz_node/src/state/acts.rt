@@ -6,7 +6,10 @@ ghost use Rattle.ipcz_node.specs.declared.act.Act.{Act};
 ghost use Rattle.ipcz_node.specs.Node.{router_in};
 ghost use Rattle.ipcz_node.specs.Sends.{send};
 ghost use Rattle.ipcz_node.specs.RoomyNodes.{IsReady, CanTell, IsReadyFor, IsPossibleAct};
-ghost use Rattle.ipcz_node.specs.Acts.{keep_or_drop, commit_router, commit, post_of, Answers};
+ghost use Rattle.ipcz_node.specs.Acts.{keep_or_drop, commit_router, commit, post_of, Answers, rest_of};
+ghost use Rattle.std.specs.Prelude.{[]};
+ghost use Rattle.ipcz_base.specs.Indexed.{place_at};
+ghost use Rattle.ipcz_node.specs.Node.{outbox};
 ghost use Rattle.ipcz_node.specs.Events.{act_event, event_of, link_acted, moved_by, router_event};
 
 use super::NodeState;
@@ -169,6 +172,7 @@ impl NodeState {
         ensures node { self.new.node ≡ commit self.old.node act answer }
         ensures event { result.0 ≡ event_of self.old.node act answer }
         ensures message { result.1 ≡ post_of self.old.node act }
+        ensures given_back { (to : ℕ) → act ≡ Act.Post to → rest_of (outbox self.old.node to) ≡ [] → place_at 0 self.new.room.outboxes to ≡ 0 }
     {
         match act {
             Act::Look(sender) => {

@@ -1,4 +1,4 @@
-ghost use Rattle.std.specs.Prelude.{◌≡◌, ◌<◌, ◌&&◌, not, nat_lt, true, Some, is_some, OnOk, OnErr, IsSomeAnd};
+ghost use Rattle.std.specs.Prelude.{◌≡◌, ◌<◌, ◌&&◌, not, nat_lt, true, Some, is_some, OnOk, OnErr, IsOk, IsSomeAnd};
 ghost use Rattle.ipcz_base.specs.Indexed.{place_at};
 ghost use Rattle.ipcz_base.specs.declared.link_id.LinkId.TheVariants.{Central};
 ghost use Rattle.ipcz_router.specs.Router.{Router as RouterRecord, inward_edge, rouse};
@@ -7,7 +7,7 @@ ghost use Rattle.ipcz_router.specs.Bypass.{fits_proxy_will_stop, fits_stop_proxy
 ghost use Rattle.ipcz_router.specs.Bypass.{will_stop_message};
 ghost use Rattle.ipcz_node.specs.Node.{is_named, router_in, with_router};
 ghost use Rattle.ipcz_node.specs.Hands.{fits, handle, tell};
-ghost use Rattle.ipcz_node.specs.Telling.{HasRoomToTell, HasRoomToward};
+ghost use Rattle.ipcz_node.specs.Telling.{HasRoomToTell, HasRoomToward, HasRoomFor};
 
 use super::NodeState;
 use ipcz_base::{LinkEnd, LinkId, Message, Side};
@@ -202,25 +202,27 @@ impl NodeState {
         ensures node { self.new.node ≡ self.old.node }
         ensures links { OnOk result (0 < self.new.room.links) }
         ensures outbox { OnOk result (0 < place_at 0 self.new.room.outboxes to) }
+        ensures full { 0 < self.old.room.links → 0 < place_at 0 self.old.room.outboxes to → IsOk result }
     {
         self.routers.reserve(0, 1)?;
         self.outboxes.reserve(to)
     }
 
-    // Makes room for a message toward the node of a link end, where there is one, and for a link more of a router.
+    // Makes room for a message toward the node of a link end, where there is one.
     fn reserve_toward(&mut self, end: Option<LinkEnd>) -> Result<(), AllocError>
         ensures node { self.new.node ≡ self.old.node }
-        ensures links { OnOk result (0 < self.new.room.links) }
+        ensures links { self.new.room.links ≡ self.old.room.links }
         ensures outbox { OnOk result (HasRoomToward self.new end) }
+        ensures succeeds { HasRoomToward self.old end → IsOk result }
     {
         match end {
-            Some(end) => self.reserve_message(end.other),
-            None => self.routers.reserve(0, 1),
+            Some(end) => self.outboxes.reserve(end.other),
+            None => Ok(()),
         }
     }
 
     // Handles a BypassPeer that fits.
-    #[tactic(auto, unfolding(crate::specs::Hands::fits, crate::specs::Hands::passes_at, crate::specs::Hands::handle, crate::specs::Node::on_found))]
+    #[tactic(auto, unfolding(crate::specs::Telling::HasRoomFor, crate::specs::Hands::fits, crate::specs::Hands::passes_at, crate::specs::Hands::handle, crate::specs::Node::on_found))]
     pub(super) fn handle_bypass_peer(
         &mut self,
         sender: u8,
@@ -232,6 +234,7 @@ impl NodeState {
     ) -> Result<(), AllocError>
         requires { fits self.old.node sender (Message.BypassPeer link side old target fresh) ≡ true }
         ensures ok { OnOk result (self.new.node ≡ handle self.old.node sender (Message.BypassPeer link side old target fresh)) }
+        ensures full { HasRoomFor self.old (Message.BypassPeer link side old target fresh) → IsOk result }
         ensures err { OnErr result (self.new.node ≡ self.old.node) }
     {
         let Some(serial) = self.link_serial(link, side) else {
@@ -243,7 +246,7 @@ impl NodeState {
     }
 
     // Handles an AcceptBypass that fits.
-    #[tactic(auto, unfolding(crate::specs::Hands::fits, crate::specs::Hands::passes_at, crate::specs::Hands::handle, crate::specs::Node::on_found))]
+    #[tactic(auto, unfolding(crate::specs::Telling::HasRoomFor, crate::specs::Hands::fits, crate::specs::Hands::passes_at, crate::specs::Hands::handle, crate::specs::Node::on_found))]
     pub(super) fn handle_accept_bypass(
         &mut self,
         sender: u8,
@@ -254,19 +257,21 @@ impl NodeState {
     ) -> Result<(), AllocError>
         requires { fits self.old.node sender (Message.AcceptBypass old side fresh length) ≡ true }
         ensures ok { OnOk result (self.new.node ≡ handle self.old.node sender (Message.AcceptBypass old side fresh length)) }
+        ensures full { HasRoomFor self.old (Message.AcceptBypass old side fresh length) → IsOk result }
         ensures err { OnErr result (self.new.node ≡ self.old.node) }
     {
         let Some(serial) = self.link_serial(LinkId::Central(old), side) else {
             unreachable!()
         };
         let proxy = self.router(serial).filing().outward;
+        self.routers.reserve(0, 1)?;
         self.reserve_toward(proxy)?;
         self.accept_bypass(serial, sender, old, side, fresh, length);
         Ok(())
     }
 
     // Handles a StopProxying that fits.
-    #[tactic(auto, unfolding(crate::specs::Hands::fits, crate::specs::Hands::passes_at, crate::specs::Hands::handle, crate::specs::Node::on_found))]
+    #[tactic(auto, unfolding(crate::specs::Telling::HasRoomFor, crate::specs::Hands::fits, crate::specs::Hands::passes_at, crate::specs::Hands::handle, crate::specs::Node::on_found))]
     pub(super) fn handle_stop_proxying(
         &mut self,
         sender: u8,
@@ -277,6 +282,7 @@ impl NodeState {
     ) -> Result<(), AllocError>
         requires { fits self.old.node sender (Message.StopProxying old side in_length out_length) ≡ true }
         ensures ok { OnOk result (self.new.node ≡ handle self.old.node sender (Message.StopProxying old side in_length out_length)) }
+        ensures full { HasRoomFor self.old (Message.StopProxying old side in_length out_length) → IsOk result }
         ensures err { OnErr result (self.new.node ≡ self.old.node) }
     {
         let Some(serial) = self.link_serial(LinkId::Central(old), side) else {

@@ -1,5 +1,5 @@
 ghost use Rattle.std.specs.Prelude.{ℕ, ◌≡◌, ◌<◌, ◌≤◌, ◌+◌, ◌*◌, ◌∷◌, [], ◌++◌, Some, None, true, OnOk, OnErr, IfOk, IfErr, IsSomeAnd};
-ghost use Rattle.std.specs.Prelude.{unwrap_or, replicate};
+ghost use Rattle.std.specs.Prelude.{unwrap_or, replicate, IsOk};
 ghost use Rattle.ipcz_base.specs.Ends.{has_end, end_at};
 ghost use Rattle.ipcz_base.specs.Limits.{is_printable};
 ghost use Rattle.ipcz_base.specs.declared.parcel.Parcel.{Parcel as ParcelRecord};
@@ -11,7 +11,7 @@ ghost use Rattle.ipcz_node.specs.FirstPairs.{new_node, add_pairs, pairs_from, fi
 ghost use Rattle.ipcz_node.specs.Calls.{serials_refusal, open_node, are_held_once, refusal_at, are_too_many, put_refusal, put_node};
 ghost use Rattle.ipcz_node.specs.Calls.{put_number, get_refusal, got_at, get_node, close_refusal, close_node, close_end};
 ghost use Rattle.ipcz_node.specs.Acts.{is_quiet, rest_of};
-ghost use Rattle.ipcz_node.specs.RoomyNodes.{CanOpen, IsReadyFor};
+ghost use Rattle.ipcz_node.specs.RoomyNodes.{CanOpen, IsReadyFor, TakesMore};
 ghost use Rattle.ipcz_node.specs.declared.act.Act.{Act};
 
 use super::NodeState;
@@ -32,12 +32,14 @@ pub struct PutRefused {
 impl NodeState {
     /// Makes room for a pair: for two routers, and for the ends that callers hold.
     ///
-    /// It answers `NumbersEnd` where one of the two serials would be u64::MAX, else `OutOfMemory` where no room was found.
+    /// It answers `NumbersEnd` where one of the two serials would be u64::MAX, else `OutOfMemory` where there is no room and none
+    /// was found.
     pub fn open_prepare(&mut self) -> Result<(), Refusal>
         ensures node { self.new.node ≡ self.old.node }
         ensures ok { OnOk result (CanOpen self.new) }
         ensures why { IfErr result (λ e. e ≡ unwrap_or (serials_refusal self.old.node) Refusal.OutOfMemory) }
         ensures allowed { OnOk result (serials_refusal self.old.node ≡ None) }
+        ensures full { CanOpen self.old → IsOk result }
     {
         if self.routers.next_serial() > u64::MAX - 2 {
             return Err(Refusal::NumbersEnd);
@@ -76,13 +78,14 @@ impl NodeState {
     /// for more than 256 bytes or 8 ends, `BadData` for a byte outside 0x20 to 0x7E, `SelfAttach` where `ends` has `at`,
     /// `PeerAttach` where it has the other end of that pair, wherever that is, `Stranger` where it has an end that isn't held
     /// here or one that stands twice, `PeerClosed` where the peer's mark has come, `NumbersEnd` where no number is left, and
-    /// `OutOfMemory` (docs/PROTOCOL.md, "Refusals").
+    /// `OutOfMemory`, where the terminal has no room for an item more and none was found (docs/PROTOCOL.md, "Refusals").
     #[tactic(auto, unfolding(crate::specs::Node::on_found, crate::specs::Calls::number_at))]
     pub fn put(&mut self, at: End, bytes: Bytes, ends: Ends) -> Result<u64, PutRefused>
         ensures allowed { OnOk result (put_refusal self.old.node at bytes ends ≡ None) }
         ensures number { IfOk result (λ n. n ≡ put_number self.old.node at) }
         ensures ok { OnOk result (self.new.node ≡ put_node self.old.node at (record { bytes = bytes; ends = ends })) }
         ensures why { IfErr result (λ e. e.why ≡ unwrap_or (put_refusal self.old.node at bytes ends) Refusal.OutOfMemory) }
+        ensures full { put_refusal self.old.node at bytes ends ≡ None → TakesMore self.old at → IsOk result }
         ensures err { IfErr result (λ e. (e.bytes ≡ bytes) × (e.ends ≡ ends) × (self.new.node ≡ self.old.node)) }
     {
         let serial = match self.put_serial(at, bytes.as_slice(), ends.as_slice()) {
@@ -202,13 +205,15 @@ impl NodeState {
     /// Closes an end that callers of this node hold, and answers the number of the mark that its peer is to get. The end is
     /// held no more.
     ///
-    /// It answers `Stranger` where `at` isn't held here, else `OutOfMemory`.
+    /// It answers `Stranger` where `at` isn't held here, else `OutOfMemory` where the terminal has no room for the mark and none
+    /// was found.
     #[tactic(auto, unfolding(crate::specs::Calls::close_refusal, crate::specs::Calls::refusal_at, crate::specs::Calls::number_at, crate::specs::Node::on_found))]
     pub fn close(&mut self, at: End) -> Result<u64, Refusal>
         ensures allowed { OnOk result (close_refusal self.old.node at ≡ None) }
         ensures number { IfOk result (λ n. n ≡ put_number self.old.node at) }
         ensures ok { OnOk result (self.new.node ≡ close_node self.old.node at) }
         ensures why { IfErr result (λ e. e ≡ unwrap_or (close_refusal self.old.node at) Refusal.OutOfMemory) }
+        ensures full { close_refusal self.old.node at ≡ None → TakesMore self.old at → IsOk result }
         ensures err { OnErr result (self.new.node ≡ self.old.node) }
     {
         if !self.holds(at) {

@@ -8,6 +8,7 @@ ghost use Rattle.ipcz_node.specs.RoomyNodes.{AreLow};
 ghost use Rattle.ipcz_node.specs.Hands.{has_moved, fit_moves, fits_from, fits_item, make_terminals, take_in, free_hand, fits, handle};
 ghost use Rattle.ipcz_node.specs.Hands.{deliver, message_lacks_serials, message_grows, grows_where_it_fits, serials_in};
 ghost use Rattle.ipcz_node.specs.Events.{hand_event};
+ghost use Rattle.ipcz_node.specs.Telling.{HasRoomFor, brings_item};
 
 use super::NodeState;
 use crate::happened::{Happened, kind_of, link_asked, side_asked};
@@ -151,7 +152,7 @@ impl NodeState {
         ensures err { IfErr result (λ m. (m ≡ Message.Item link side n item moves) × (self.new.node ≡ self.old.node)) }
     {
         let count = moves.as_slice().len();
-        let Ok(()) = self.routers.reserve(count, 0) else {
+        if count > 0 && self.routers.reserve(count, 0).is_err() {
             return Err(Message::Item {
                 link,
                 side,
@@ -159,7 +160,7 @@ impl NodeState {
                 item,
                 moves,
             });
-        };
+        }
         if let Err((_, item)) = self.routers.accept(serial, link, side, n, item) {
             return Err(Message::Item {
                 link,
@@ -205,7 +206,7 @@ impl NodeState {
         ensures ok { OnOk result (self.new.node ≡ handle self.old.node sender (Message.Item link side n item moves)) }
         ensures err { IfErr result (λ m. (m ≡ Message.Item link side n item moves) × (self.new.node ≡ self.old.node)) }
     {
-        match self.place_for(sender, link, side, n, &item, &moves) {
+        match self.link_serial(link, side) {
             Some(serial) => self.take_item(serial, sender, link, side, n, item, moves),
             None => unreachable!(),
         }
@@ -255,12 +256,13 @@ impl NodeState {
     }
 
     // Handles a message that fits, and for which there are serials.
-    #[tactic(auto, unfolding(crate::specs::Hands::serials_in, crate::specs::Hands::grows_where_it_fits))]
+    #[tactic(auto, unfolding(crate::specs::Hands::serials_in, crate::specs::Hands::grows_where_it_fits, crate::specs::Telling::brings_item))]
     fn handle(&mut self, sender: u8, message: Message) -> Result<(), Message>
         requires fits { fits self.old.node sender message ≡ true }
         requires serials { has_serials self.old.node.next_router (serials_in message) ≡ true }
         ensures ok { OnOk result (self.new.node ≡ handle self.old.node sender message) }
         ensures grows { grows_where_it_fits message ≡ false → IsOk result }
+        ensures full { brings_item message ≡ false → HasRoomFor self.old message → IsOk result }
         ensures err { IfErr result (λ m. (m ≡ message) × (self.new.node ≡ self.old.node)) }
     {
         match message {
@@ -336,9 +338,10 @@ impl NodeState {
         }
     }
 
-    // Handles a message, or keeps it whole where it doesn't fit.
+    // Handles a message, or keeps it whole where it doesn't fit, as is known.
     #[tactic(auto, using(crate::proofs::Handing::takes_no_serials))]
-    fn receive(&mut self, sender: u8, message: Message) -> Result<(), (Refusal, Message)>
+    fn receive(&mut self, sender: u8, message: Message, has_place: bool) -> Result<(), (Refusal, Message)>
+        requires { has_place ≡ fits self.old.node sender message }
         ensures ok { OnOk result
             (self.new.node ≡ (if fits self.old.node sender message then handle self.old.node sender message else add_stray self.old.node
             message)) }
@@ -346,9 +349,11 @@ impl NodeState {
         ensures why { IfErr result
             (λ e. e.0 ≡ (if message_lacks_serials self.old.node sender message then Refusal.NumbersEnd else Refusal.OutOfMemory)) }
         ensures grows { message_grows self.old.node sender message ≡ false → IsOk result }
+        ensures full { fits self.old.node sender message ≡ true → brings_item message ≡ false → HasRoomFor self.old message →
+            message_lacks_serials self.old.node sender message ≡ false → IsOk result }
         ensures err { IfErr result (λ e. (e.1 ≡ message) × (self.new.node ≡ self.old.node)) }
     {
-        if !self.fits(sender, &message) {
+        if !has_place {
             return self.keep_stray(message);
         }
         let count = serials_in(&message);
@@ -361,13 +366,14 @@ impl NodeState {
         }
     }
 
-    // What delivering a message from a node is seen to do.
+    // What delivering a message from a node is seen to do, where it is known whether it fits.
     #[tactic(auto, unfolding(crate::specs::Events::hand_event))]
-    fn hand_event(&self, sender: u8, message: &Message) -> Happened
+    fn hand_event(&self, sender: u8, message: &Message, has_place: bool) -> Happened
+        requires { has_place ≡ fits self.now.node sender message.now }
         ensures { result ≡ hand_event self.now.node sender message.now }
     {
         let (link, side) = (link_asked(message), side_asked(message));
-        let unfit = !(self.fits(sender, message) && self.is_named(link, side));
+        let unfit = !(has_place && self.is_named(link, side));
         Happened::Hand {
             kind: kind_of(message),
             link,
@@ -381,7 +387,8 @@ impl NodeState {
     ///
     /// A refused message is handed back, and nothing has changed. It is `NumbersEnd` where the message fits and would make
     /// more routers than serials are left for, and otherwise `OutOfMemory`. A message that makes nothing grow, as a Flush or a
-    /// ProxyWillStop that fits, is never refused.
+    /// ProxyWillStop that fits, is never refused, nor is one that brings no item, fits, and has room for what it makes a router
+    /// take and tell.
     #[tactic(auto, unfolding(crate::specs::Hands::deliver))]
     pub fn deliver(&mut self, from: u8, message: Message) -> Result<Happened, (Refusal, Message)>
         requires { from < self.old.node.count }
@@ -391,10 +398,13 @@ impl NodeState {
         ensures why { IfErr result
             (λ e. e.0 ≡ (if message_lacks_serials self.old.node from message then Refusal.NumbersEnd else Refusal.OutOfMemory)) }
         ensures grows { message_grows self.old.node from message ≡ false → IsOk result }
+        ensures full { fits self.old.node from message ≡ true → brings_item message ≡ false → HasRoomFor self.old message →
+            message_lacks_serials self.old.node from message ≡ false → IsOk result }
         ensures err { IfErr result (λ e. (e.1 ≡ message) × (self.new.node ≡ self.old.node)) }
     {
-        let event = self.hand_event(from, &message);
-        self.receive(from, message)?;
+        let has_place = self.fits(from, &message);
+        let event = self.hand_event(from, &message, has_place);
+        self.receive(from, message, has_place)?;
         self.free_hand(from);
         Ok(event)
     }

@@ -22,9 +22,10 @@ impl NodeState {
         ensures moves { OnOk result (count ≤ self.new.room.moves) }
         ensures event_ends { OnOk result (count ≤ self.new.room.event_ends) }
         ensures outboxes { self.new.room.outboxes ≡ self.old.room.outboxes }
+        ensures full { count ≤ self.old.room.links → count ≤ self.old.room.moves → count ≤ self.old.room.event_ends → IsOk result }
     {
-        if count >= 1 << 63 {
-            return Err(AllocError);
+        if count == 0 {
+            return Ok(());
         }
         self.routers.reserve(0, count)?;
         self.moves.reserve(count)?;
@@ -47,6 +48,7 @@ impl NodeState {
         ensures node { self.new.node ≡ self.old.node }
         ensures ready { OnOk result (IsReadyAs self.new outlook) }
         ensures nothing { outlook ≡ Outlook.Nothing → IsOk result }
+        ensures full { IsReadyAs self.old outlook → IsOk result }
     {
         match outlook {
             Outlook::Nothing => Ok(()),
@@ -69,6 +71,7 @@ impl NodeState {
             (λ e. e ≡ (if has_serials self.old.node.next_peripheral (serials_as self.old.node outlook)
             then Refusal.OutOfMemory else Refusal.NumbersEnd)) }
         ensures nothing { outlook ≡ Outlook.Nothing → IsOk result }
+        ensures full { IsReadyAs self.old outlook → IsOk result }
     {
         let count = self.serials_as(outlook);
         if self.next_peripheral > u64::MAX - count as u64 {
@@ -91,7 +94,7 @@ impl NodeState {
     }
 
     // Makes room for what an act of the router of the serial gives.
-    #[tactic(auto, using(crate::proofs::Preparing::serials_there, crate::proofs::Preparing::gives_nothing, crate::proofs::Preparing::ready_at), unfolding(crate::specs::Acts::act_lacks_serials, crate::specs::Acts::act_grows))]
+    #[tactic(auto, using(crate::proofs::Preparing::serials_there, crate::proofs::Preparing::gives_nothing, crate::proofs::Preparing::ready_at, crate::proofs::Preparing::wants_at), unfolding(crate::specs::Acts::act_lacks_serials, crate::specs::Acts::act_grows))]
     fn prepare_router(&mut self, serial: u64, act: RouterAct) -> Result<(), Refusal>
         ensures node { self.new.node ≡ self.old.node }
         ensures ready { OnOk result (IsReadyFor self.new (Act.Router serial act)) }
@@ -99,6 +102,7 @@ impl NodeState {
         ensures why { IfErr result
             (λ e. e ≡ (if act_lacks_serials self.old.node (Act.Router serial act) then Refusal.NumbersEnd else Refusal.OutOfMemory)) }
         ensures grows { act_grows (Act.Router serial act) ≡ false → IsOk result }
+        ensures full { IsReadyFor self.old (Act.Router serial act) → IsOk result }
     {
         let outlook = self.outlook(serial, act);
         self.reserve(outlook)
@@ -109,6 +113,7 @@ impl NodeState {
         ensures node { self.new.node ≡ self.old.node }
         ensures ready { OnOk result (IsReadyFor self.new (Act.Close end)) }
         ensures why { IfErr result (λ e. e ≡ Refusal.OutOfMemory) }
+        ensures full { IsReadyFor self.old (Act.Close end) → IsOk result }
     {
         match self.terminal_serial(end) {
             Some(serial) => self.routers.reserve_out(serial),
@@ -119,8 +124,8 @@ impl NodeState {
     /// Makes all the room that an act wants, so that `commit` takes no memory. What is to be seen of the node stays as it is.
     ///
     /// It answers `NumbersEnd` where the act would move more ends than serials of peripheral links are left for, else
-    /// `OutOfMemory` where there was no room and none was found. An act that makes nothing grow is never refused
-    /// (docs/PROTOCOL.md, "Turns").
+    /// `OutOfMemory` where there was no room and none was found. An act that makes nothing grow is never refused,
+    /// nor is one that the node is ready for, as after a `prepare` before (docs/PROTOCOL.md, "Turns").
     #[tactic(auto, unfolding(crate::specs::Acts::act_lacks_serials, crate::specs::Acts::act_grows))]
     pub fn prepare(&mut self, act: &Act) -> Result<(), Refusal>
         ensures node { self.new.node ≡ self.old.node }
@@ -129,6 +134,7 @@ impl NodeState {
         ensures why { IfErr result
             (λ e. e ≡ (if act_lacks_serials self.old.node act.now then Refusal.NumbersEnd else Refusal.OutOfMemory)) }
         ensures grows { act_grows act.now ≡ false → IsOk result }
+        ensures full { IsReadyFor self.old act.now → IsOk result }
     {
         match act {
             Act::Router(serial, act) => self.prepare_router(*serial, *act),

@@ -30,7 +30,7 @@ use Rattle.ipcz_world.proofs.facts.LinkTests.{opposite_end-twice}
 use Rattle.ipcz_world.proofs.facts.SameItems.{same_item-itself, same_item-tells}
 
 -- what weighs in a numbered list is there
-from_number-found : (h : ℕ → Item → ℕ) (n : ℕ) (xs : List Item) → 1 ≤ from_number h n xs →
+pub from_number-found : (h : ℕ → Item → ℕ) (n : ℕ) (xs : List Item) → 1 ≤ from_number h n xs →
     (j : ℕ) × (x : Item) × (slice_get xs j ≡ Some x) × (1 ≤ h (n + j) x)
 from_number-found h n [] l = absurd (omega (arith, l))
 from_number-found h n (x ∷ xs) l = go (h n x) refl (λ f. from_number-found h (n + 1) xs f)
@@ -41,7 +41,7 @@ from_number-found h n (x ∷ xs) l = go (h n x) refl (λ f. from_number-found h 
         (suc f.0, f.1, f.2, subst (λ m. 1 ≤ h m f.1) m f.3)
     go (suc a) e more = let m : n ≡ n + 0 = omega arith in let l : 1 ≤ h n x = omega (arith, e) in (0, x, refl, subst (λ m. 1 ≤ h m x) m l)
 
-slice_get-drop : {X : Type 0} (k : ℕ) (xs : List X) (j n : ℕ) (x : X) → slice_get (drop k xs) j ≡ Some x → n ≡ k + j →
+pub slice_get-drop : {X : Type 0} (k : ℕ) (xs : List X) (j n : ℕ) (x : X) → slice_get (drop k xs) j ≡ Some x → n ≡ k + j →
     slice_get xs n ≡ Some x
 slice_get-drop zero xs j n x h e = let s : j ≡ n = omega (arith, e) in ap (slice_get xs) (sym s) ∙ h
 slice_get-drop (suc k) [] j n x h e = cc

@@ -10,7 +10,7 @@ use Rattle.ipcz_world.specs.Steps.{StepFirst}
 use Rattle.ipcz_world.specs.Books.{advance}
 use Rattle.ipcz_world.specs.Routes.{Routes, routes_after}
 use Rattle.ipcz_world.specs.Settling.{AreVisits, next_node}
-use Rattle.ipcz_world.specs.FirstRuns.{AreSteps, KeepsLaw, KeepsLawByTurns, Leads}
+use Rattle.ipcz_world.specs.FirstRuns.{AreSteps, KeepsLaw, KeepsLawByVisits, Leads, turns_of, replies_of}
 use Rattle.ipcz_world.proofs.code.Kept.{keeps, plainly}
 
 -- no step
@@ -55,22 +55,20 @@ run-next w v u all i replies more step reply e l run s grown =
       law = λ b g law. leads-more w v u b g (take i all) replies step reply (run.law b g law) s;
     })
 
--- visits are turns
-pub visits-lead : (n : ℕ) (visits : List Bool) (w v : World) → AreVisits n visits w v → KeepsLawByTurns w v
-visits-lead n [] w v same = record { steps = []; replies = []; turns = refl; leads = λ b g law. (same, law) }
-visits-lead n (true ∷ visits) w v (has, (u, (event, s), rest)) =
-    let more = visits-lead (next_node w n) visits u v rest in
-    record {
-      steps = Turn n ∷ more.steps;
-      replies = replies.Turned event ∷ more.replies;
-      turns = more.turns;
-      leads = λ b g law. (
-        u,
-        s,
-        law,
-        plainly w u (Turn n) (replies.Turned event) s b g law,
-        more.leads (advance w b (Turn n) (replies.Turned event)) (routes_after w g (Turn n) (replies.Turned event))
-            (keeps w u (Turn n) (replies.Turned event) s b g law),
-      );
-    }
+-- visits are turns, which keep the law
+pub visits-lead : (n : ℕ) (visits : List Bool) (w v : World) (turns : AreVisits n visits w v) →
+    KeepsLaw w (turns_of n visits w v turns) (replies_of n visits w v turns) v
+visits-lead n [] w v same = λ b g law. (same, law)
+visits-lead n (true ∷ visits) w v (has, (u, (event, s), rest)) = λ b g law. (
+  u,
+  s,
+  law,
+  plainly w u (Turn n) (replies.Turned event) s b g law,
+  visits-lead (next_node w n) visits u v rest (advance w b (Turn n) (replies.Turned event))
+      (routes_after w g (Turn n) (replies.Turned event)) (keeps w u (Turn n) (replies.Turned event) s b g law),
+)
 visits-lead n (false ∷ visits) w v (idle, rest) = visits-lead (next_node w n) visits w v rest
+
+-- so do those that lead from the first node on
+pub visits-keep : (w v : World) → KeepsLawByVisits w v
+visits-keep w v visits turns = visits-lead 0 visits w v turns

@@ -13,10 +13,8 @@ use Rattle.ipcz_world.specs.Turns.{next_at, is_idle, turn_event, turn_lacks_seri
 use Rattle.ipcz_world.specs.Steps.{Effect, refuse, turn_step, Gives, StepFirst}
 use Rattle.ipcz_world.specs.Lawfulness.{IsLawful}
 use Rattle.ipcz_world.specs.Settling.{IsQuiet, HasAct, AreVisits, next_node, node_behind, act_count, FitsAnswer, IsSettle, IsRefusedSettle}
-use Rattle.ipcz_world.specs.FirstRuns.{KeepsLawByTurns}
 use Rattle.ipcz_world.specs.Visiting.{AreIdle, IsFirstBusy, IsNextBusy, IsPlace}
 use Rattle.ipcz_world.proofs.facts.NodeCount.{count-after_act}
-use Rattle.ipcz_world.proofs.code.Running.{visits-lead}
 use Rattle.ipcz_world.proofs.lawful.Idling.{quiet_from_idle}
 
 -- where each node is idle nothing waits
@@ -155,10 +153,6 @@ on_way-turn w u x acts n m next event on busy is step = subst (OnWay w (acts + 1
 -- the visits up to here
 reached : (w u : World) (acts n : ℕ) → GoesOn w acts u n → Walk w u acts n
 reached w u acts n on = subst (λ k. Walk w u k n) (omega arith) (on [] u refl)
-
--- which are turns
-pub turned-on : (w u : World) (acts n : ℕ) → OnWay w acts u n → KeepsLawByTurns w u
-turned-on w u acts n on = let walk = reached w u acts n on.goes_on in visits-lead 0 walk.visits w u walk.turns
 
 ended : (limit acts n : ℕ) (w u : World) (answer : Settled) → Walk w u acts n → acts ≤ limit → FitsAnswer limit acts u answer →
     IsSettle limit w u answer

@@ -1,5 +1,5 @@
 -- What tests of numbers, of two at once and of options tell.
-use Rattle.std.specs.Prelude.{◌≡◌, ℕ, Bool, true, false, nat_eq, ◌&&◌, refl, Option, Some, None, is_none, is_some}
+use Rattle.std.specs.Prelude.{◌≡◌, ℕ, Bool, true, false, nat_eq, ◌&&◌, ◌||◌, refl, Option, Some, None, is_none, is_some}
 use Rattle.std.proofs.Common.{arith}
 use Rattle.std.proofs.lemmas.Bool.Decides.{nat_tests}
 
@@ -30,3 +30,10 @@ some_is (Some x) h = (x, refl)
 
 pub same_some : {X : Type 0} {a b : X} → Some a ≡ Some b → a ≡ b
 same_some h = cc
+
+pub or_second : (a b : Bool) → (a || b) ≡ true → a ≡ false → b ≡ true
+or_second true b h e = cc
+or_second false b h e = h
+
+pub false-true : {X : Type 0} → false ≡ true → X
+false-true h = cc

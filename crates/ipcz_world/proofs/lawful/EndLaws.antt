@@ -54,4 +54,9 @@ module _ (w : World) (b : Books) (g : Records) (law : Inv w b g) where
       record { put = put; got = law.conserved.unopened_got e n; gone = law.conserved.gone_closed e (ap has_mark put) }
 
   pub end_law : EndLaw w b (routes_of g)
-  end_law = record { once = λ e. law.held_once.once e ∙ place_of_end e; unopened = unwritten; moving = law.held_once.moves_in_parcel }
+  end_law = record {
+    once = λ e. law.held_once.once e ∙ place_of_end e;
+    unopened = unwritten;
+    moving = law.held_once.moves_in_parcel;
+    mark_last = λ e n is. let last = law.books_kept.mark_last e n is in omega (arith, last);
+  }

@@ -26,7 +26,7 @@ not_known first stage n x e f = go (nat_le first stage) refl (sym e ∙ f)
     go true q h = cc
     go false q h = grind (arith, q, nat_tests)
 
-one_of_four : (s : ℕ) → 1 ≤ s → s ≤ 4 → ◌≡◌ {A = ℕ} (cond (nat_eq s 1) 1
+pub one_of_four : (s : ℕ) → 1 ≤ s → s ≤ 4 → ◌≡◌ {A = ℕ} (cond (nat_eq s 1) 1
     (cond (nat_eq s 2) 1 (cond (nat_eq s 3) 1 (cond (nat_eq s 4) 1 0)))) 1
 one_of_four s l h = grind (arith, l, h, nat_tests)
 

@@ -75,11 +75,11 @@ total_of-zero {X} f (e ∷ es) s h = omega (
         let apart : eq_by_cmp nat_cmp k e.0 ≡ false = grind (arith, above, nat_tests) in
         ap (λ b. cond b (Some e.1) (find nat_cmp k es)) apart ∙ p
 
-total-zero : {X : Type 0} (f : ℕ → X → ℕ) (m : FinMap nat_cmp X) → ((k : ℕ) (x : X) → get m k ≡ Some x → f k x ≡ 0) → total f m ≡ 0
+pub total-zero : {X : Type 0} (f : ℕ → X → ℕ) (m : FinMap nat_cmp X) → ((k : ℕ) (x : X) → get m k ≡ Some x → f k x ≡ 0) → total f m ≡ 0
 unfolding total
 total-zero f m h = total_of-zero f (entries m) (entries_sorted m) (λ k x p. h k x (get-entries m k ∙ p))
 
-total_below-zero : (c : ℕ) (f : ℕ → ℕ) → ((j : ℕ) → j < c → f j ≡ 0) → total_below c f ≡ 0
+pub total_below-zero : (c : ℕ) (f : ℕ → ℕ) → ((j : ℕ) → j < c → f j ≡ 0) → total_below c f ≡ 0
 total_below-zero zero f h = refl
 total_below-zero (suc c) f h = omega (arith, h c (omega arith), total_below-zero c f (λ j l. h j (omega arith)))
 
@@ -114,13 +114,13 @@ is-still n h = record { boxes = grind (arith, h); flags = go (find_router n (λ 
     go None e = e
     go (Some f) e = absurd (grind (arith, h, e))
 
+pub quiet-flow : (w : World) → IsQuiet w → (from to : ℕ) → from < w.count → flow w from to ≡ []
+quiet-flow w quiet from to l = flow_is w from to ∙ ap (λ ms. ms ++ place_at [] (node_at w from).outboxes to)
+    (quiet-mail (mail_at w (way w from to)) (quiet.mail (way w from to)))
+    ∙ quiet-box (node_at w from).outboxes to (is-still (node_at w from) (quiet.nodes from l)).boxes
+
 pub nothing-moves : (w : World) → IsQuiet w → (from to i : ℕ) (m : Message) → IsUnderWay w from to i m → ⊥
-nothing-moves w quiet from to i m u = grind (arith, ap (λ ms. slice_get ms i) empty, u.place)
-  where
-    empty : flow w from to ≡ []
-    empty = flow_is w from to ∙ ap (λ ms. ms ++ place_at [] (node_at w from).outboxes to)
-        (quiet-mail (mail_at w (way w from to)) (quiet.mail (way w from to)))
-        ∙ quiet-box (node_at w from).outboxes to (is-still (node_at w from) (quiet.nodes from u.sender)).boxes
+nothing-moves w quiet from to i m u = grind (arith, ap (λ ms. slice_get ms i) (quiet-flow w quiet from to u.sender), u.place)
 
 -- no router can act in a quiet world
 pub nothing-possible : (w : World) → AreFlagged w → IsQuiet w → (k : Key) (r : Router) (act : RouterAct) → k.node < w.count →
@@ -134,7 +134,7 @@ nothing-possible w flagged quiet k r act l here = go (is_possible r act) refl
         absurd (none-some t.0 (sym (is-still (node_at w k.node) (quiet.nodes k.node l)).flags ∙ t.1))
 
 -- a link is chosen where there is a primary one
-choose-some : (e : Edge) (n : ℕ) → is_some e.primary ≡ true → is_some (choose e n) ≡ true
+pub choose-some : (e : Edge) (n : ℕ) → is_some e.primary ≡ true → is_some (choose e n) ≡ true
 unfolding choose
 choose-some e n h = go (edge_decays e) (is_short_of n e.length_to) refl refl
   where
@@ -181,12 +181,12 @@ out-delivered w b g k r law flagged quiet here t n = go (item_at r.out_queue n) 
       reached,
     ))
 
-in_node-is : (f : Weight) (g : Records) (n : Node) → in_node f g n ≡ total (λ s r. in_router f r) n.routers + total_list (in_message f g)
+pub in_node-is : (f : Weight) (g : Records) (n : Node) → in_node f g n ≡ total (λ s r. in_router f r) n.routers + total_list (in_message f g)
     n.strays
 unfolding in_node'
 in_node-is f g n = refl
 
-router-is : (w : World) (n s : ℕ) → router_at w (record { node = n; serial = s }) ≡ get (node_at w n).routers s
+pub router-is : (w : World) (n s : ℕ) → router_at w (record { node = n; serial = s }) ≡ get (node_at w n).routers s
 unfolding router_at
 router-is w n s = refl
 
@@ -285,7 +285,7 @@ take-whole (suc n) [] l = refl
 take-whole zero (x ∷ xs) l = absurd (omega (arith, l))
 take-whole (suc n) (x ∷ xs) l = ap (λ t. x ∷ t) (take-whole n xs (omega (arith, l)))
 
-slice_get-none : {X : Type 0} (xs : List X) (n : ℕ) → slice_get xs n ≡ None → length xs ≤ n
+pub slice_get-none : {X : Type 0} (xs : List X) (n : ℕ) → slice_get xs n ≡ None → length xs ≤ n
 slice_get-none [] n h = omega arith
 slice_get-none (x ∷ xs) zero h = cc
 slice_get-none (x ∷ xs) (suc n) h = omega (arith, slice_get-none xs n h)

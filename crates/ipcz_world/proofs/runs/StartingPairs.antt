@@ -1,4 +1,5 @@
 -- A world that begins with some pairs: one pair more, between two nodes, keeps the invariant.
+use Rattle.ipcz_world.specs.Records.{Retired}
 use Rattle.ipcz_world.proofs.weights.OfRecords.{holds, held_times, in_message, in_places}
 use Rattle.ipcz_world.proofs.Vocabulary.{Weight, in_router, times, Side, A, B, End, opposite_end, same_end, opposite, total, total_list}
 use Rattle.ipcz_world.proofs.Vocabulary.{Router, empty_word, open_word, Node, bare_node, outbox, Empty, World, Key, node_at, word_at}
@@ -476,12 +477,17 @@ module _ (nodes words : ℕ) where
       good_after = record {
         records = record g { owner = owner'; central = central'; terminal = terminal' };
         inv = inv-grown before after no_books g owner' central' terminal' pair at b.inv is_grown;
+        unretired = λ e. unretired e (nat_eq e.pair pair);
         owner = owned;
         nowhere = nowhere_after;
         pair = λ j. paired j (nat_eq j pair) refl;
         end = b.end;
       }
         where
+          unretired : (e : End) (c : Bool) → cond c (At (at e.side)) (g.terminal e) ≡ Retired → ⊥
+          unretired e true h = cc
+          unretired e false h = b.unretired e h
+
           paired : (j : ℕ) (c : Bool) → nat_eq j pair ≡ c → (central' j).pair ≡ j
           paired j true e = rw e (let f : pair ≡ j = grind (arith, e, nat_tests) in f)
           paired j false e = rw e (b.pair j)

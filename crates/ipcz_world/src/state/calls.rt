@@ -2,11 +2,12 @@
 
 ghost use Rattle.std.specs.Prelude.{◌≡◌, ◌<◌, ◌≤◌, ◌+◌, Some, None, IfOk, length};
 ghost use Rattle.ipcz_world.specs.World.{node_at, set_claimed};
+ghost use Rattle.ipcz_world.specs.Steps.{StepFirst};
 ghost use Rattle.ipcz_world.specs.Steps.{open_with, open_on, put_step, get_step, close_step, Gives, GivesOrNoMemory, PutGives};
 ghost use Rattle.ipcz_world.specs.Taking.{IsRegular};
 
 use crate::state::State;
-use crate::step::Reply;
+use crate::step::{Reply, Step};
 use ipcz_base::{Bytes, End, Ends, Refusal};
 use std::alloc::{AllocError, Global};
 
@@ -70,6 +71,26 @@ impl State {
         let Ok(ends) = copy_ends(self.alloc, ends) else {
             return Reply::Refused(Refusal::OutOfMemory);
         };
+        self.put_here(n, at, bytes, ends)
+    }
+
+    /// Puts a parcel at an end, as it was given; one for a node that isn't there is refused.
+    pub(crate) fn put_given(&mut self, n: u8, at: End, bytes: Bytes, ends: Ends) -> Reply
+        requires { IsRegular self.old }
+        ensures { StepFirst self.old (Step.Put n at bytes ends) result self.new }
+    {
+        if n >= self.count {
+            return Reply::Refused(Refusal::Stranger);
+        }
+        self.put_here(n, at, bytes, ends)
+    }
+
+    // Puts a parcel at an end of a node that is there.
+    fn put_here(&mut self, n: u8, at: End, bytes: Bytes, ends: Ends) -> Reply
+        requires regular { IsRegular self.old }
+        requires node { n < self.old.count }
+        ensures { PutGives self.old n (put_step self.old n at (record { bytes = bytes; ends = ends })) result self.new }
+    {
         match self.nodes.node_mut(n).put(at, bytes, ends) {
             Ok(number) => Reply::Put(number),
             Err(refused) => Reply::Refused(refused.why),

@@ -10,15 +10,16 @@ use crate::state::State;
 use ipcz_node::Act;
 
 impl State {
-    /// The next node that has an act, in passes over the nodes from this one on; none where each node is idle.
-    pub(crate) fn next_busy(&self, n: u8) -> Option<u8>
+    /// The next node that has an act, in passes over the nodes from this one on, with that act; none where each node is idle.
+    pub(crate) fn next_busy(&self, n: u8) -> Option<(u8, Act)>
         requires regular { IsRegular self.now }
         requires place { n ≤ self.now.count }
-        ensures some { IfSome result (λ node. IsNextBusy self.now n node) }
+        ensures some { IfSome result (λ found. IsNextBusy self.now n found.0) }
+        ensures act { IfSome result (λ found. found.1 ≡ next_at self.now found.0) }
         ensures none { IfNone result (AreIdle self.now 0 self.now.count) }
     {
         match self.first_busy(n, self.count) {
-            Some(node) => Some(node),
+            Some(found) => Some(found),
             None => self.first_busy(0, n),
         }
     }
@@ -32,31 +33,31 @@ impl State {
         if n + 1 < count { n + 1 } else { 0 }
     }
 
-    // The first node from one number up to another that has an act, where one has.
-    fn first_busy(&self, from: u8, to: u8) -> Option<u8>
+    // The first node from one number up to another that has an act, where one has, with that act.
+    fn first_busy(&self, from: u8, to: u8) -> Option<(u8, Act)>
         requires regular { IsRegular self.now }
         requires nodes { to ≤ self.now.count }
-        ensures some { IfSome result (λ n. IsFirstBusy self.now from to n) }
+        ensures some { IfSome result (λ found. IsFirstBusy self.now from to found.0) }
+        ensures act { IfSome result (λ found. found.1 ≡ next_at self.now found.0) }
         ensures none { IfNone result (AreIdle self.now from to) }
     {
         for n in from..to {
-            if !self.is_idle(n) {
-                return Some(n);
+            let act = self.next(n);
+            if !is_idle(act) {
+                return Some((n, act));
             }
         }
         None
     }
+}
 
-    // Whether the first possible act of a node is idle.
-    #[tactic(auto, unfolding(crate::specs::Turns::is_idle))]
-    fn is_idle(&self, n: u8) -> bool
-        requires regular { IsRegular self.now }
-        requires node { n < self.now.count }
-        ensures { result ≡ is_idle (next_at self.now n) }
-    {
-        match self.next(n) {
-            Act::Idle => true,
-            Act::Hand(_) | Act::Look(_) | Act::Post(_) | Act::Close(_) | Act::Router(_, _) => false,
-        }
+// Whether an act is idle.
+#[tactic(auto, unfolding(crate::specs::Turns::is_idle))]
+fn is_idle(act: Act) -> bool
+    ensures { result ≡ is_idle act }
+{
+    match act {
+        Act::Idle => true,
+        Act::Hand(_) | Act::Look(_) | Act::Post(_) | Act::Close(_) | Act::Router(_, _) => false,
     }
 }

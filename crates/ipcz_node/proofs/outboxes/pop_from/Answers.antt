@@ -22,7 +22,7 @@ first_is old new (Some x) n m items len cases = ap first_of (sym items)
 pub returns-then-is_empty-clause-items : goal.returns-then-is_empty-clause-items
 returns-then-is_empty-clause-items c =
     let left = c.pop_front-message.new.self in
-    c.new.ensures.items ∙ sym (none left.items (sym left.ok.0 ∙ grind (arith, nat_tests))) ∙ c.pop_front-message.ensures.rest ∙
+    c.from_vec.ensures.items ∙ c.new.ensures.items ∙ sym (none left.items (sym left.ok.0 ∙ grind (arith, nat_tests))) ∙ c.pop_front-message.ensures.rest ∙
     rest_is c.args.queue.now.items
 
 pub returns-else-is_empty-clause-items : goal.returns-else-is_empty-clause-items
@@ -37,3 +37,6 @@ pub returns-else-is_empty-clause-message : goal.returns-else-is_empty-clause-mes
 returns-else-is_empty-clause-message c =
     first_is c.args.queue.now.items c.pop_front-message.new.self.items c.pop_front-message.result _ _ c.pop_front-message.ensures.items
     c.args.queue.now.ok.0 c.pop_front-message.ensures.cases
+
+pub returns-then-is_empty-clause-room : goal.returns-then-is_empty-clause-room
+returns-then-is_empty-clause-room c h = c.from_vec.ensures.capacity ∙ c.new.ensures.capacity

@@ -1,34 +1,34 @@
-use Rattle.std.proofs.Common.{◌≡◌, ◌+◌, sym, ap, arith}
-use Rattle.std.specs.Prelude.{OnErr}
+use Rattle.std.proofs.Common.{◌≡◌, ◌+◌, sym, ◌∙◌, ap, arith}
 use Rattle.ipcz_node.specs.Directories.{ends_inside}
-use Rattle.ipcz_node.proofs.Refiling.{FilesWithin, can_change, changed, same_standing, after}
+use Rattle.ipcz_node.proofs.Refiling.{StaysFiled, flag_was, flag_room, flag_changed, take_stays, same_stays}
 use Rattle.std.proofs.Common.{subst, ◌≤◌, length}
 use Rattle.ipcz_base.specs.declared.item.Item.TheVariants.{Parcel}
-use Rattle.ipcz_router.specs.Calls.{take_item}
-use Rattle.ipcz_node.proofs.Standings.{take_standing}
 use Rattle.ipcz_node.proofs.Holding.{hold_kept, hold_spent, inside_one, taken_inside}
 use Rattle.ipcz_node.proofs.directory.Directory.get.Goals as goal
 
-pub refile-requires : goal.refile-requires
-refile-requires c =
+pub follow-requires-clause-was : goal.follow-requires-clause-was
+follow-requires-clause-was c =
     let r = c.router_mut-router.result.now.router in
-    let w = c.get-answer.new.self.router in
-    let left : OnErr c.get-answer.result (w ≡ r) = c.get-answer.ensures.err in
-    let fits : FilesWithin 0 r w = after (FilesWithin 0 r) c.get-answer.result r w (take_item r) c.get-answer.ensures.ok left
-    (take_standing r) (same_standing r) in
-    can_change _ c.args.serial r w _ _ 0 fits _ c.self.inside.links _ c.self.inside.terminals _ c.self.inside.flagged c.self.inside.room
-    c.self.inside.more c.self.inside.more c.self.inside.routers.room (sym c.router_mut-router.ensures.value)
-    c.filing-was.ensures c.filing-is.ensures (omega arith) c.self.invariant.0
+    flag_was _ c.args.serial r r (same_stays r) c.self.inside.links c.self.inside.terminals c.self.inside.flagged c.self.inside.flagged
+    c.self.inside.room c.self.inside.more c.self.inside.routers.room (sym c.router_mut-router.ensures.value) c.self.invariant.0
+    ∙ sym c.is_flagged-was.ensures
+
+pub follow-requires-clause-room : goal.follow-requires-clause-room
+follow-requires-clause-room c down =
+    let r = c.router_mut-router.result.now.router in
+    flag_room _ c.args.serial r r (same_stays r) c.self.inside.links c.self.inside.terminals c.self.inside.flagged c.self.inside.flagged
+    c.self.inside.room c.self.inside.more c.self.inside.routers.room (sym c.router_mut-router.ensures.value) c.self.invariant.0
+    (sym c.is_flagged-was.ensures ∙ down)
 
 pub invariant_of-self : goal.invariant_of-self
 invariant_of-self c =
     let r = c.router_mut-router.result.now.router in
     let w = c.get-answer.new.self.router in
     let same : w ≡ r = c.in_err-n.ensures.err in
-    let fits : FilesWithin 0 r w = subst (FilesWithin 0 r) (sym same) (same_standing r) in (
-      changed _ c.args.serial r w _ _ 0 fits _ _ _ _ _ _ c.self.inside.room c.self.inside.more c.self.inside.more c.self.inside.routers.room
-          (sym c.router_mut-router.ensures.value) c.filing-was.ensures c.filing-is.ensures (omega arith)
-          c.self.invariant.0 c.refile.ensures,
+    let stays : StaysFiled r w = subst (StaysFiled r) (sym same) (same_stays r) in (
+      flag_changed _ c.args.serial r w stays _ _ _ _ c.self.inside.room c.self.inside.more c.self.inside.routers.room
+          (sym c.router_mut-router.ensures.value) c.self.invariant.0 _ _ c.is_flagged-was.ensures c.is_flagged-is.ensures
+          c.follow.ensures.members c.follow.ensures.room,
       hold_kept _ c.args.serial r w c.self.inside.ends c.self.inside.room c.self.inside.held.room
           (sym c.router_mut-router.ensures.value) (ap ends_inside same) c.self.invariant.1,
     )
@@ -50,7 +50,7 @@ pub invariant_of-self-2 : goal.invariant_of-self-2
 invariant_of-self-2 c =
     let r = c.router_mut-router.result.now.router in
     let w = c.get-answer.new.self.router in
-    let fits : FilesWithin 0 r w = subst (FilesWithin 0 r) (sym c.in_ok-n.ensures.ok) (take_standing r) in
+    let stays : StaysFiled r w = subst (StaysFiled r) (sym c.in_ok-n.ensures.ok) (take_stays r) in
     let fewer : ends_inside w + c.len.result ≤ ends_inside r =
     omega (
       arith,
@@ -58,9 +58,9 @@ invariant_of-self-2 c =
       taken_inside r (Parcel c.in_ok-n.parcel) c.in_ok-n.ensures.parcel,
       c.len.ensures,
     ) in (
-      changed _ c.args.serial r w _ _ 0 fits _ _ _ _ _ _ c.self.inside.room c.self.inside.more c.self.inside.more c.self.inside.routers.room
-          (sym c.router_mut-router.ensures.value) c.filing-was.ensures c.filing-is.ensures (omega arith)
-          c.self.invariant.0 c.refile.ensures,
+      flag_changed _ c.args.serial r w stays _ _ _ _ c.self.inside.room c.self.inside.more c.self.inside.routers.room
+          (sym c.router_mut-router.ensures.value) c.self.invariant.0 _ _ c.is_flagged-was.ensures c.is_flagged-is.ensures
+          c.follow.ensures.members c.follow.ensures.room,
       hold_spent _ c.args.serial r w c.self.inside.ends _ c.len.result c.self.inside.room c.self.inside.held.room
           c.insert_all.new.self.room (sym c.router_mut-router.ensures.value) fewer c.saturating_sub-self-inside.ensures
           (omega (arith, c.insert_all.ensures.room, ap length c.as_slice.ensures, c.len.ensures)) c.self.invariant.1,

@@ -1,35 +1,38 @@
-use Rattle.std.proofs.Common.{◌≡◌, refl, sym, arith}
+use Rattle.std.proofs.Common.{◌≡◌, refl, sym, ◌∙◌}
 use Rattle.ipcz_base.specs.declared.item.Item.TheVariants.{Parcel}
 use Rattle.ipcz_router.specs.Calls.{put_item}
 use Rattle.ipcz_node.specs.Directories.{ends_inside}
 use Rattle.ipcz_node.proofs.Holding.{hold_kept}
-use Rattle.ipcz_node.proofs.Refiling.{FilesWithin, can_change, changed, put_standing, same_standing, after, left_after}
+use Rattle.ipcz_node.proofs.Refiling.{StaysFiled, flag_was, flag_room, flag_changed, put_stays, same_stays, after, left_after}
 use Rattle.ipcz_node.proofs.directory.Directory.put.Goals as goal
 
-pub refile-requires : goal.refile-requires
-refile-requires c =
+pub follow-requires-clause-was : goal.follow-requires-clause-was
+follow-requires-clause-was c =
     let r = c.router_mut-router.result.now.router in
-    let w = c.put-answer.new.self.router in
-    let fits : FilesWithin 0 r w = after (FilesWithin 0 r) c.put-answer.result r w (put_item r (Parcel c.args.parcel))
-    c.put-answer.ensures.ok (left_after (λ e. e.1 ≡ c.args.parcel) (w ≡ r) c.put-answer.result c.put-answer.ensures.err)
-    (put_standing r _) (same_standing r) in
-    can_change _ c.args.serial r w _ _ 0 fits _ c.self.inside.links _ c.self.inside.terminals _ c.self.inside.flagged c.self.inside.room
-    c.self.inside.more c.self.inside.more c.self.inside.routers.room (sym c.router_mut-router.ensures.value)
-    c.filing-was.ensures c.filing-is.ensures (omega arith) c.self.invariant.0
+    flag_was _ c.args.serial r r (same_stays r) c.self.inside.links c.self.inside.terminals c.self.inside.flagged c.self.inside.flagged
+    c.self.inside.room c.self.inside.more c.self.inside.routers.room (sym c.router_mut-router.ensures.value) c.self.invariant.0
+    ∙ sym c.is_flagged-was.ensures
+
+pub follow-requires-clause-room : goal.follow-requires-clause-room
+follow-requires-clause-room c down =
+    let r = c.router_mut-router.result.now.router in
+    flag_room _ c.args.serial r r (same_stays r) c.self.inside.links c.self.inside.terminals c.self.inside.flagged c.self.inside.flagged
+    c.self.inside.room c.self.inside.more c.self.inside.routers.room (sym c.router_mut-router.ensures.value) c.self.invariant.0
+    (sym c.is_flagged-was.ensures ∙ down)
 
 pub invariant_of-self : goal.invariant_of-self
 invariant_of-self c =
     let r = c.router_mut-router.result.now.router in
     let w = c.put-answer.new.self.router in
-    let fits : FilesWithin 0 r w = after (FilesWithin 0 r) c.put-answer.result r w (put_item r (Parcel c.args.parcel))
+    let stays : StaysFiled r w = after (StaysFiled r) c.put-answer.result r w (put_item r (Parcel c.args.parcel))
     c.put-answer.ensures.ok (left_after (λ e. e.1 ≡ c.args.parcel) (w ≡ r) c.put-answer.result c.put-answer.ensures.err)
-    (put_standing r _) (same_standing r) in
+    (put_stays r (Parcel c.args.parcel)) (same_stays r) in
     let same : ends_inside w ≡ ends_inside r = after (λ x. ends_inside x ≡ ends_inside r) c.put-answer.result r w
     (put_item r (Parcel c.args.parcel)) c.put-answer.ensures.ok
     (left_after (λ e. e.1 ≡ c.args.parcel) (w ≡ r) c.put-answer.result c.put-answer.ensures.err) refl refl in (
-      changed _ c.args.serial r w _ _ 0 fits _ _ _ _ _ _ c.self.inside.room c.self.inside.more c.self.inside.more c.self.inside.routers.room
-          (sym c.router_mut-router.ensures.value) c.filing-was.ensures c.filing-is.ensures (omega arith)
-          c.self.invariant.0 c.refile.ensures,
+      flag_changed _ c.args.serial r w stays _ _ _ _ c.self.inside.room c.self.inside.more c.self.inside.routers.room
+          (sym c.router_mut-router.ensures.value) c.self.invariant.0 _ _ c.is_flagged-was.ensures c.is_flagged-is.ensures
+          c.follow.ensures.members c.follow.ensures.room,
       hold_kept _ c.args.serial r w c.self.inside.ends c.self.inside.room c.self.inside.held.room
           (sym c.router_mut-router.ensures.value) same c.self.invariant.1,
     )

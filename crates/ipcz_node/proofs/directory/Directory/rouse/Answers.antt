@@ -1,27 +1,31 @@
-use Rattle.std.proofs.Common.{ap, sym, subst, arith}
+use Rattle.std.proofs.Common.{ap, sym, ◌∙◌, subst}
 use Rattle.ipcz_node.specs.Directories.{ends_inside}
 use Rattle.ipcz_node.proofs.Holding.{hold_kept}
-use Rattle.ipcz_node.proofs.Refiling.{FilesWithin, can_change, changed}
-use Rattle.ipcz_node.proofs.Standings.{rouse_standing}
+use Rattle.ipcz_node.proofs.Refiling.{StaysFiled, flag_was, flag_room, flag_changed, rouse_stays, same_stays}
 use Rattle.ipcz_node.proofs.directory.Directory.rouse.Goals as goal
 
-pub refile-requires : goal.refile-requires
-refile-requires c =
+pub follow-requires-clause-was : goal.follow-requires-clause-was
+follow-requires-clause-was c =
     let r = c.router_mut-router.result.now.router in
-    let w = c.rouse.new.self.router in
-    let fits : FilesWithin 0 r w = subst (FilesWithin 0 r) (sym c.rouse.ensures.router) (rouse_standing r) in
-    can_change _ c.args.serial r w _ _ 0 fits _ c.self.inside.links _ c.self.inside.terminals _ c.self.inside.flagged c.self.inside.room
-    c.self.inside.more c.self.inside.more c.self.inside.routers.room (sym c.router_mut-router.ensures.value)
-    c.filing-was.ensures c.filing-is.ensures (omega arith) c.self.invariant.0
+    flag_was _ c.args.serial r r (same_stays r) c.self.inside.links c.self.inside.terminals c.self.inside.flagged c.self.inside.flagged
+    c.self.inside.room c.self.inside.more c.self.inside.routers.room (sym c.router_mut-router.ensures.value) c.self.invariant.0
+    ∙ sym c.is_flagged-was.ensures
+
+pub follow-requires-clause-room : goal.follow-requires-clause-room
+follow-requires-clause-room c down =
+    let r = c.router_mut-router.result.now.router in
+    flag_room _ c.args.serial r r (same_stays r) c.self.inside.links c.self.inside.terminals c.self.inside.flagged c.self.inside.flagged
+    c.self.inside.room c.self.inside.more c.self.inside.routers.room (sym c.router_mut-router.ensures.value) c.self.invariant.0
+    (sym c.is_flagged-was.ensures ∙ down)
 
 pub invariant_of-self : goal.invariant_of-self
 invariant_of-self c =
     let r = c.router_mut-router.result.now.router in
     let w = c.rouse.new.self.router in
-    let fits : FilesWithin 0 r w = subst (FilesWithin 0 r) (sym c.rouse.ensures.router) (rouse_standing r) in (
-      changed _ c.args.serial r w _ _ 0 fits _ _ _ _ _ _ c.self.inside.room c.self.inside.more c.self.inside.more c.self.inside.routers.room
-          (sym c.router_mut-router.ensures.value) c.filing-was.ensures c.filing-is.ensures (omega arith)
-          c.self.invariant.0 c.refile.ensures,
+    let stays : StaysFiled r w = subst (StaysFiled r) (sym c.rouse.ensures.router) (rouse_stays r) in (
+      flag_changed _ c.args.serial r w stays _ _ _ _ c.self.inside.room c.self.inside.more c.self.inside.routers.room
+          (sym c.router_mut-router.ensures.value) c.self.invariant.0 _ _ c.is_flagged-was.ensures c.is_flagged-is.ensures
+          c.follow.ensures.members c.follow.ensures.room,
       hold_kept _ c.args.serial r w c.self.inside.ends c.self.inside.room c.self.inside.held.room (sym c.router_mut-router.ensures.value)
           (ap ends_inside c.rouse.ensures.router) c.self.invariant.1,
     )

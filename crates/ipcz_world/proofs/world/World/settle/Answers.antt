@@ -1,14 +1,31 @@
-use Rattle.std.proofs.Common.{◌≡◌, ◌∙◌, IfOk, true, false, sym, ap, subst, arith, inl, inr}
+use Rattle.std.proofs.Common.{◌≡◌, ◌∙◌, ℕ, IfOk, true, false, sym, ap, subst, arith, inl, inr}
 use Rattle.ipcz_world.specs.declared.step.Step.TheVariants.{Turn}
 use Rattle.ipcz_world.specs.Lawfulness.{IsLawful}
-use Rattle.ipcz_world.specs.FirstRuns.{KeepsLawByTurns}
 use Rattle.ipcz_world.specs.Steps.{StepFirst}
 use Rattle.ipcz_world.specs.Settling.{IsSettle, next_node}
 use Rattle.ipcz_world.specs.Visiting.{AreIdle, IsNextBusy}
 use Rattle.ipcz_world.proofs.code.Regular.{lawful-regular}
-use Rattle.ipcz_world.proofs.code.Visiting.{OnWay, left-by, on_way-turn, settled, unsettled, refused, answers_turn, no-other, turned-on}
+use Rattle.ipcz_world.proofs.code.Running.{visits-keep}
+use Rattle.ipcz_world.proofs.code.Visiting.{OnWay, on_way-turn, settled, unsettled, refused, answers_turn, no-other}
 use Rattle.ipcz_world.proofs.world.World.settle.Goals.{in-None, in-Some-next_busy}
 use Rattle.ipcz_world.proofs.world.World.settle.Goals as goal
+use Rattle.std.proofs.Common.{Result, Ok, Err}
+use Rattle.ipcz_base.specs.declared.refusal.Refusal.{Refusal}
+use Rattle.ipcz_world.specs.World.{World}
+use Rattle.ipcz_world.specs.declared.step.Settled.{Settled}
+use Rattle.ipcz_world.specs.SettleBounds.{IsBoundedSettle}
+use Rattle.ipcz_world.proofs.Whole.{each_step_keeps_lawful, first_acts_are_possible, replies_plainly}
+use Rattle.ipcz_world.proofs.ranks.Rating.{turns_keep_rates}
+use Rattle.ipcz_world.proofs.ranks.Settling.{settle_is_bounded}
+
+-- an answer that is a settle's fits its rank
+bounded : (limit : ℕ) (w v : World) (answer : Settled) → IsSettle limit w v answer → IsBoundedSettle limit w v answer
+bounded = settle_is_bounded each_step_keeps_lawful first_acts_are_possible (turns_keep_rates each_step_keeps_lawful replies_plainly)
+
+bounded-ok : (limit : ℕ) (w v : World) (r : Result Settled Refusal) → IfOk r (λ answer. IsSettle limit w v answer) →
+    IfOk r (λ answer. IsBoundedSettle limit w v answer)
+bounded-ok limit w v (Ok answer) s = bounded limit w v answer s
+bounded-ok limit w v (Err why) s = s
 
 pub next_busy-requires-clause-regular : goal.next_busy-requires-clause-regular
 next_busy-requires-clause-regular c = lawful-regular _ c.self.invariant
@@ -24,14 +41,14 @@ returns-in_default-clause-settles c =
 
 pub returns-in-Refused-clause-refused : goal.returns-in-Refused-clause-refused
 returns-in-Refused-clause-refused c =
-    refused c.args.limit c.loop-acts.acts c.loop-acts.from c.in-Some.node c.args.self.now c.loop-acts.self c.step.new.self c.in-Refused.why
+    refused c.args.limit c.loop-acts.acts c.loop-acts.from c.in-Some.node c.args.self.now c.loop-acts.self c.take_turn.new.self c.in-Refused.why
     c.loop-acts.invariant
     (omega (arith, c.loop-acts-test.true)) (subst (λ v. IsNextBusy v c.loop-acts.from c.in-Some.node) c.self.view_is c.in-Some.ensures.some)
-    (subst (λ r. StepFirst c.loop-acts.self (Turn c.in-Some.node) r c.step.new.self) c.in-Refused.is c.step.ensures.step)
+    (subst (λ r. StepFirst c.loop-acts.self (Turn c.in-Some.node) r c.take_turn.new.self) c.in-Refused.is c.take_turn.ensures.step)
 
 pub unreachable-requires : goal.unreachable-requires
 unreachable-requires c =
-    let fine = no-other c.loop-acts.self c.step.new.self c.in-Some.node c.step.result c.step.ensures.step in
+    let fine = no-other c.loop-acts.self c.take_turn.new.self c.in-Some.node c.take_turn.result c.take_turn.ensures.step in
     elim c.in-Opened.is [
       | inl o ↦ let no : false ≡ true = sym (ap answers_turn o.2) ∙ fine in cc
       | inr (inl p) ↦ let no : false ≡ true = sym (ap answers_turn p.1) ∙ fine in cc
@@ -41,11 +58,11 @@ unreachable-requires c =
 
 pub loop-acts-preserved : goal.loop-acts-preserved
 loop-acts-preserved c =
-    on_way-turn c.args.self.now c.loop-acts.self c.step.new.self c.loop-acts.acts c.loop-acts.from c.in-Some.node c.next_node-from.result
+    on_way-turn c.args.self.now c.loop-acts.self c.take_turn.new.self c.loop-acts.acts c.loop-acts.from c.in-Some.node c.next_node-from.result
     c.in-Turned.field-0
     c.loop-acts.invariant (subst (λ v. IsNextBusy v c.loop-acts.from c.in-Some.node) c.self.view_is c.in-Some.ensures.some)
     (c.next_node-from.ensures ∙ ap (λ v. next_node v c.in-Some.node) c.self.view_is)
-    (subst (λ r. StepFirst c.loop-acts.self (Turn c.in-Some.node) r c.step.new.self) c.in-Turned.is c.step.ensures.step)
+    (subst (λ r. StepFirst c.loop-acts.self (Turn c.in-Some.node) r c.take_turn.new.self) c.in-Turned.is c.take_turn.ensures.step)
 
 pub returns-clause-settles : goal.returns-clause-settles
 returns-clause-settles c =
@@ -57,20 +74,22 @@ returns-clause-settles c =
           (subst IsLawful c.self-2.view_is c.self-2.invariant) (subst (λ v. AreIdle v 0 v.count) c.self-2.view_is w.in-None.ensures.none))
       | in-Some-next_busy w ↦ subst (λ r. IfOk r (λ answer. IsSettle c.args.limit c.args.self.now c.loop-acts.self answer))
           (sym w.result-is)
-          (unsettled c.args.limit c.loop-acts.acts c.loop-acts.from w.in-Some-next_busy.field-0 c.args.self.now c.loop-acts.self
+          (unsettled c.args.limit c.loop-acts.acts c.loop-acts.from w.in-Some-next_busy.field-0.0 c.args.self.now c.loop-acts.self
           c.loop-acts.invariant all
-          (subst (λ v. IsNextBusy v c.loop-acts.from w.in-Some-next_busy.field-0) c.self-2.view_is w.in-Some-next_busy.ensures.some))
+          (subst (λ v. IsNextBusy v c.loop-acts.from w.in-Some-next_busy.field-0.0) c.self-2.view_is w.in-Some-next_busy.ensures.some))
     ]
 
 pub returns-in_default-clause-lawful : goal.returns-in_default-clause-lawful
-returns-in_default-clause-lawful c = turned-on c.args.self.now c.loop-acts.self c.loop-acts.acts c.loop-acts.from c.loop-acts.invariant
+returns-in_default-clause-lawful c = visits-keep _ _
 
 pub returns-in-Refused-clause-lawful : goal.returns-in-Refused-clause-lawful
-returns-in-Refused-clause-lawful c =
-    let same = left-by c.loop-acts.self c.step.new.self c.in-Some.node c.in-Refused.why
-    (subst (λ r. StepFirst c.loop-acts.self (Turn c.in-Some.node) r c.step.new.self) c.in-Refused.is c.step.ensures.step) in
-    subst (KeepsLawByTurns c.args.self.now) (sym same)
-    (turned-on c.args.self.now c.loop-acts.self c.loop-acts.acts c.loop-acts.from c.loop-acts.invariant)
+returns-in-Refused-clause-lawful c = visits-keep _ _
 
 pub returns-clause-lawful : goal.returns-clause-lawful
-returns-clause-lawful c = turned-on c.args.self.now c.loop-acts.self c.loop-acts.acts c.loop-acts.from c.loop-acts.invariant
+returns-clause-lawful c = visits-keep _ _
+
+pub returns-in_default-clause-bounded : goal.returns-in_default-clause-bounded
+returns-in_default-clause-bounded c = bounded c.args.limit c.args.self.now c.loop-acts.self _ (returns-in_default-clause-settles c)
+
+pub returns-clause-bounded : goal.returns-clause-bounded
+returns-clause-bounded c = bounded-ok c.args.limit c.args.self.now c.loop-acts.self _ (returns-clause-settles c)

@@ -2,7 +2,7 @@ use Rattle.std.proofs.Common.{◌+◌, ◌≤◌, ap, sym, subst, arith}
 use Rattle.ipcz_node.specs.Directories.{ends_inside, ends_taken}
 use Rattle.ipcz_node.proofs.Holding.{hold_spent, act_inside}
 use Rattle.ipcz_node.proofs.Refiling.{FilesWithin, can_change, changed, act_standing}
-use Rattle.ipcz_node.proofs.directory.Directory.act.Goals as goal
+use Rattle.ipcz_node.proofs.directory.Directory.act_on_links.Goals as goal
 
 pub refile-requires : goal.refile-requires
 refile-requires c =

@@ -1,0 +1,17 @@
+pub mod Forms
+pub mod Telling
+pub mod Seating
+pub mod Keeping
+pub mod Few
+pub mod Onces
+pub mod Taking
+pub mod Mailing
+pub mod Turning
+pub mod Posting
+pub mod Wording
+pub mod FirstCells
+pub mod Resting
+pub mod BoxesRead
+pub mod ReadBack
+pub mod Unions
+pub mod Counting

@@ -1,0 +1,6 @@
+use Rattle.ipcz_fabric.specs.Mails.{slot_of, mail_word}
+use Rattle.ipcz_fabric.specs.Outcomes.{posted, looked, handed}
+use Rattle.ipcz_fabric.proofs.cell.NodeCell.mail_post.Given as goal
+
+abbrev pub ghosts-post_here : goal.ghosts-post_here
+ghosts-post_here g a = record { tells = posted a.to }

@@ -1,0 +1,11 @@
+pub mod TableNames
+pub mod CellStates
+pub mod Cells
+pub mod Parts
+pub mod Outcomes
+pub mod Mails
+pub mod Words
+pub mod Making
+pub mod Blanks
+pub mod Ending
+pub mod Claims

@@ -1,0 +1,245 @@
+//! The mailboxes of a cell, each in a word of the table with its slot.
+ghost use Rattle.std.specs.Prelude.{◌≡◌, ◌<◌, ◌≤◌, ◌+◌, ◌*◌, ℕ, true, false, [], ◌∷◌, Some, None, OnOk, OnErr, IfOk, IfErr, if◌then◌else◌, cond, is_some, length};
+ghost use Rattle.atomic_table.specs.Table.{rest};
+ghost use Rattle.ipcz_node.specs.Acts.{commit, has_mail_for, post_of};
+ghost use Rattle.ipcz_node.specs.Events.{hand_event};
+ghost use Rattle.ipcz_node.specs.Hands.{deliver, message_lacks_serials};
+ghost use Rattle.ipcz_rule.specs.Rule.{has_number, saw};
+ghost use Rattle.ipcz_rule.specs.Steps.{probe_part, post_part, look_part, hand_part};
+ghost use Rattle.ipcz_base.specs.declared.message.Message.{Message as MessageData};
+ghost use Rattle.ipcz_fabric.specs.CellStates.{part_in, change_part};
+ghost use Rattle.ipcz_fabric.specs.Parts.{handed_part};
+ghost use Rattle.ipcz_fabric.specs.Cells.{AreSound, IsSeated};
+ghost use Rattle.ipcz_fabric.specs.Mails.{slot_of, mail_word, Probes, Looks};
+ghost use Rattle.ipcz_fabric.specs.Outcomes.{IsPicked, probed, posted, looked, handed, turned_by};
+
+use crate::cell::NodeCell;
+use crate::fabric::{Fabric, FabricName};
+use crate::plays::{Outcome, exchange_step, store_step};
+use atomic_table::Seat;
+use ipcz_base::{Message, Refusal};
+use std::mem;
+use ipcz_node::{Act, Happened, NodeState};
+use ipcz_router::act::Answer;
+use ipcz_rule::View;
+use std::marker::Brand;
+
+// The slot of the mailbox from one node to another.
+pub(crate) fn slot_of<F: FabricName>(fabric: &Fabric<F>, from: u8, to: u8) -> usize
+    requires from { from < F.table.count }
+    requires to { to < F.table.count }
+    ensures slot { result ≡ slot_of F.table from to }
+    ensures inside { result < F.table.id.slots }
+    ensures few { F.table.count ≤ 8 }
+{
+    from as usize * fabric.nodes as usize + to as usize
+}
+
+// The word of the mailbox of a slot.
+pub(crate) fn word_of<F: FabricName>(fabric: &Fabric<F>, slot: usize) -> usize
+    requires { slot < F.table.id.slots }
+    ensures word { result ≡ F.table.size + 1 + F.table.count + slot }
+    ensures inside { result < F.table.id.words }
+{
+    fabric.words as usize + 1 + fabric.nodes as usize + slot
+}
+
+// Brings so many slots behind the others. It does nothing.
+fn turn_over(seat: &mut Seat<Option<Message>, View>, n: usize)
+    ensures table { seat.new.table_id ≡ seat.old.table_id }
+    ensures id { seat.new.id ≡ seat.old.id }
+    ensures me { seat.new.me ≡ (seat.old.me.0, turned_by n seat.old.me.1) }
+{
+    if n > 0 {
+        seat.turn();
+        turn_over(seat, n - 1);
+    }
+}
+
+// How many slots the hand has.
+fn hand_count(message: &Option<Message>) -> usize
+    ensures { result ≡ cond (is_some message.now) 1 0 }
+{
+    if message.is_some() { 1 } else { 0 }
+}
+
+// An exchange 0 to 3. X is what it tells.
+fn probe_here<F: FabricName, X: Outcome>(
+    node: u8,
+    seat: &mut Seat<Option<Message>, View>,
+    fabric: &Fabric<F>,
+    to: u8,
+) -> u64
+    requires picked { IsPicked X.tells (probed (mail_word F.table node to) (slot_of F.table node to) to) }
+    requires own { seat.old.table_id ≡ F.table.id }
+    requires whole { seat.old.me.0.parts ≡ part_in seat.old.me.0 ∷ [] }
+    requires node { ((part_in seat.old.me.0).node ≡ node) × (node < F.table.count) }
+    requires to { to < F.table.count }
+    ensures table { seat.new.table_id ≡ seat.old.table_id }
+    ensures done { probed (mail_word F.table node to) (slot_of F.table node to) to seat.old.me result seat.new.me }
+    ensures sound { AreSound F.table.count F.table.size seat.new.me.0 }
+    ensures small { to < 8 }
+{
+    let slot = slot_of(fabric, node, to);
+    let word = word_of(fabric, slot);
+    exchange_step::<F, X>(seat, fabric, word, 0, 3)
+}
+
+// A store 1 at a mailbox that was probed, whose slot has the message. X is what it tells.
+fn post_here<F: FabricName, X: Outcome>(
+    node: u8,
+    seat: &mut Seat<Option<Message>, View>,
+    fabric: &Fabric<F>,
+    to: u8,
+)
+    requires picked { IsPicked X.tells (posted to) }
+    requires own { seat.old.table_id ≡ F.table.id }
+    requires whole { seat.old.me.0.parts ≡ part_in seat.old.me.0 ∷ [] }
+    requires node { ((part_in seat.old.me.0).node ≡ node) × (node < F.table.count) }
+    requires to { to < F.table.count }
+    requires probed { has_number (part_in seat.old.me.0).probed to ≡ true }
+    requires mail { has_mail_for (part_in seat.old.me.0).state to ≡ true }
+    requires slot { (x : MessageData) × (post_of (part_in seat.old.me.0).state (Act.Post to) ≡ Some x) ×
+        (seat.old.me.1 ≡ (slot_of F.table node to, Some x) ∷ rest seat.old.me.1) }
+    ensures table { seat.new.table_id ≡ seat.old.table_id }
+    ensures done { seat.new.me ≡ (change_part (post_part to) seat.old.me.0, rest seat.old.me.1) }
+    ensures sound { AreSound F.table.count F.table.size seat.new.me.0 }
+{
+    let slot = slot_of(fabric, node, to);
+    let word = word_of(fabric, slot);
+    store_step::<F, X>(seat, fabric, word, 1);
+}
+
+// An exchange 1 to 2. X is what it tells.
+fn look_here<F: FabricName, X: Outcome>(
+    node: u8,
+    seat: &mut Seat<Option<Message>, View>,
+    fabric: &Fabric<F>,
+    from: u8,
+) -> u64
+    requires picked { IsPicked X.tells (looked (mail_word F.table from node) (slot_of F.table from node) from) }
+    requires own { seat.old.table_id ≡ F.table.id }
+    requires whole { seat.old.me.0.parts ≡ part_in seat.old.me.0 ∷ [] }
+    requires node { ((part_in seat.old.me.0).node ≡ node) × (node < F.table.count) }
+    requires from { from < F.table.count }
+    requires idle { (part_in seat.old.me.0).state.hand ≡ None }
+    ensures table { seat.new.table_id ≡ seat.old.table_id }
+    ensures done { looked (mail_word F.table from node) (slot_of F.table from node) from seat.old.me result seat.new.me }
+    ensures sound { AreSound F.table.count F.table.size seat.new.me.0 }
+{
+    let slot = slot_of(fabric, from, node);
+    let word = word_of(fabric, slot);
+    exchange_step::<F, X>(seat, fabric, word, 1, 2)
+}
+
+// A store 0 at the mailbox whose message is in hand. X is what it tells.
+fn hand_here<F: FabricName, X: Outcome>(
+    node: u8,
+    seat: &mut Seat<Option<Message>, View>,
+    fabric: &Fabric<F>,
+    from: u8,
+)
+    requires picked { IsPicked X.tells (handed from) }
+    requires own { seat.old.table_id ≡ F.table.id }
+    requires whole { seat.old.me.0.parts ≡ part_in seat.old.me.0 ∷ [] }
+    requires node { ((part_in seat.old.me.0).node ≡ node) × (node < F.table.count) }
+    requires from { from < F.table.count }
+    requires hand { (part_in seat.old.me.0).state.hand ≡ Some from }
+    requires message { (x : MessageData) × ((part_in seat.old.me.0).message ≡ Some x) ×
+        (message_lacks_serials (part_in seat.old.me.0).state from x ≡ false) }
+    requires slot { seat.old.me.1 ≡ (slot_of F.table from node, None) ∷ rest seat.old.me.1 }
+    ensures table { seat.new.table_id ≡ seat.old.table_id }
+    ensures done { seat.new.me ≡ (change_part (handed_part from) seat.old.me.0, rest seat.old.me.1) }
+    ensures sound { AreSound F.table.count F.table.size seat.new.me.0 }
+{
+    let slot = slot_of(fabric, from, node);
+    let word = word_of(fabric, slot);
+    store_step::<F, X>(seat, fabric, word, 0);
+}
+
+impl<F: FabricName> NodeCell<F> {
+    /// Takes the empty mailbox to a node, or has it already. It answers false only where the mailbox was found at another value than 0.
+    pub fn mail_probe(&mut self, fabric: &Fabric<F>, to: u8) -> bool
+        requires { to < F.table.count }
+        ensures { Probes (mail_word F.table self.old.part.node to) to self.old result self.new }
+    {
+        if self.probed.has(to) {
+            return true;
+        }
+        let found = probe_here::<F, Brand>(self.state.number(), &mut self.seat, fabric, to);
+        if found != 0 {
+            return false;
+        }
+        self.probed.add(to);
+        true
+    }
+
+    /// Posts the first message for a node into its mailbox, which was taken by a probe. It takes no memory.
+    pub fn mail_post(&mut self, fabric: &Fabric<F>, to: u8)
+        requires to { to < F.table.count }
+        requires probed { has_number self.old.part.probed to ≡ true }
+        requires mail { has_mail_for self.old.part.state to ≡ true }
+        ensures part { self.new.part ≡ post_part to self.old.part }
+        ensures seen { self.new.seen ≡ self.old.seen }
+    {
+        let node = self.state.number();
+        let slot = slot_of(fabric, node, to);
+        let place = self.probed.take(to);
+        turn_over(&mut self.seat, place);
+        let (_, message) = self.state.commit(Act::Post(to), Answer::Plain);
+        let table = &fabric.table;
+        table.shared.exchange(&mut self.seat, slot, message);
+        post_here::<F, Brand>(node, &mut self.seat, fabric, to);
+        let held = hand_count(&self.message);
+        let behind = self.probed.len() - place;
+        turn_over(&mut self.seat, behind + held);
+    }
+
+    /// Takes the message of a full mailbox into the hand. It answers false only where the mailbox was found at another value than 1. It
+    /// takes no memory.
+    pub fn mail_look(&mut self, fabric: &Fabric<F>, from: u8) -> bool
+        requires from { from < F.table.count }
+        requires idle { self.old.part.state.hand ≡ None }
+        ensures { Looks (mail_word F.table from self.old.part.node) from self.old result self.new }
+    {
+        let node = self.state.number();
+        let found = look_here::<F, Brand>(node, &mut self.seat, fabric, from);
+        if found != 1 {
+            return false;
+        }
+        let slot = slot_of(fabric, from, node);
+        let table = &fabric.table;
+        self.message = table.shared.exchange(&mut self.seat, slot, None);
+        turn_over(&mut self.seat, 1);
+        self.state.commit(Act::Look(from), Answer::Plain);
+        true
+    }
+
+    /// Handles the message in hand. A refused one stays in hand. It answers `NumbersEnd` where the message fits and would make more routers
+    /// than serials are left for, and otherwise `OutOfMemory`.
+    pub fn mail_handle(&mut self, fabric: &Fabric<F>, from: u8) -> Result<Happened, Refusal>
+        requires hand { self.old.part.state.hand ≡ Some from }
+        ensures ok { OnOk result (self.new.part ≡ handed_part from self.old.part) }
+        ensures event { IfOk result (λ h. (x : MessageData) × (self.old.part.message ≡ Some x) × (h ≡ hand_event self.old.part.state from x)) }
+        ensures why { IfErr result (λ e. (x : MessageData) × (self.old.part.message ≡ Some x) ×
+            (e ≡ (if message_lacks_serials self.old.part.state from x then Refusal.NumbersEnd else Refusal.OutOfMemory))) }
+        ensures err { OnErr result (self.new.part ≡ self.old.part) }
+        ensures seen { self.new.seen ≡ self.old.seen }
+    {
+        let node = self.state.number();
+        let Some(message) = mem::replace(&mut self.message, None) else {
+            unreachable!()
+        };
+        match self.state.deliver(from, message) {
+            Ok(event) => {
+                turn_over(&mut self.seat, self.probed.len());
+                hand_here::<F, Brand>(node, &mut self.seat, fabric, from);
+                Ok(event)
+            }
+            Err((why, message)) => {
+                self.message = Some(message);
+                Err(why)
+            }
+        }
+    }
+}

@@ -1,0 +1,41 @@
+use Rattle.std.proofs.Common.{◌+◌, ◌≤◌, ap, sym, ◌∙◌, subst, arith}
+use Rattle.ipcz_node.specs.Directories.{ends_inside, ends_taken}
+use Rattle.ipcz_node.proofs.Holding.{hold_spent, act_inside}
+use Rattle.ipcz_node.proofs.Refiling.{StaysFiled, flag_was, flag_room, flag_changed, act_stays, same_stays}
+use Rattle.ipcz_node.proofs.directory.Directory.act_in_place.Goals as goal
+
+pub follow-requires-clause-was : goal.follow-requires-clause-was
+follow-requires-clause-was c =
+    let r = c.router_mut-router.result.now.router in
+    flag_was _ c.args.serial r r (same_stays r) c.self.inside.links c.self.inside.terminals c.self.inside.flagged c.self.inside.flagged
+    c.self.inside.room c.self.inside.more c.self.inside.routers.room (sym c.router_mut-router.ensures.value) c.self.invariant.0
+    ∙ sym c.is_flagged-was.ensures
+
+pub follow-requires-clause-room : goal.follow-requires-clause-room
+follow-requires-clause-room c down =
+    let r = c.router_mut-router.result.now.router in
+    flag_room _ c.args.serial r r (same_stays r) c.self.inside.links c.self.inside.terminals c.self.inside.flagged c.self.inside.flagged
+    c.self.inside.room c.self.inside.more c.self.inside.routers.room (sym c.router_mut-router.ensures.value) c.self.invariant.0
+    (sym c.is_flagged-was.ensures ∙ down)
+
+pub invariant_of-self : goal.invariant_of-self
+invariant_of-self c =
+    let r = c.router_mut-router.result.now.router in
+    let w = c.apply-applied.new.self.router in
+    let stays : StaysFiled r w = subst (StaysFiled r) (sym c.apply-applied.ensures.router)
+    (act_stays r c.args.act c.args.answer c.requires.keeps) in
+    let fewer : ends_inside w + c.ends_taken.result ≤ ends_inside r =
+    omega (
+      arith,
+      act_inside r c.args.act c.args.answer,
+      ap ends_inside c.apply-applied.ensures.router,
+      c.ends_taken.ensures,
+      ap (ends_taken c.args.act) c.apply-applied.ensures.output,
+    ) in (
+      flag_changed _ c.args.serial r w stays _ _ _ _ c.self.inside.room c.self.inside.more c.self.inside.routers.room
+          (sym c.router_mut-router.ensures.value) c.self.invariant.0 _ _ c.is_flagged-was.ensures c.is_flagged-is.ensures
+          c.follow.ensures.members c.follow.ensures.room,
+      hold_spent _ c.args.serial r w c.self.inside.ends _ c.ends_taken.result c.self.inside.room c.self.inside.held.room
+          c.self.inside.held.room (sym c.router_mut-router.ensures.value) fewer c.saturating_sub-self-inside.ensures (omega arith)
+          c.self.invariant.1,
+    )

@@ -1,0 +1,180 @@
+-- Deal: a new seat gets the first part of a seat's view, the seat keeps the others, and the shown world and books stay.
+use Rattle.std.specs.Prelude.{◌≡◌, ◌≢◌, ◌⊎◌, ◌<◌, ◌+◌, ◌-◌, ℕ, zero, suc, Bool, List, [], ◌∷◌, ◌++◌, length, refl}
+use Rattle.std.proofs.Common.{arith, ap, ◌∙◌, sym, subst, inl, inr, ⊎_elim, set, length-set, eq-eqb, ne_eqb, eqb}
+use prog.Atomic.{either}
+use mathlib.Core.Option.{some, some-injective, some-ne-none}
+use mathlib.Core.Logic.{dite}
+use native.Mathlib.Decide.{ℕ_discrete}
+use lib.ListN.{get_elem?}
+use Rattle.atomic_table.specs.Table.{Splits}
+use Rattle.atomic_table.proofs.Lists.{at_set, set_here, set_else, at_longer, at_last}
+use Rattle.ipcz_rule.specs.declared.view.View.{View}
+use Rattle.ipcz_rule.specs.declared.view.Part.{Part}
+use Rattle.ipcz_rule.specs.Rule.{Spells, InParts, Rules, puts_of, gets_of, drops_of}
+use Rattle.ipcz_rule.specs.Start.{head_parts, tail_parts, dealt, after_deal, opening_part, opening_parts}
+use Rattle.ipcz_rule.proofs.Moved.{only}
+use Rattle.ipcz_rule.proofs.Joins.{at_inside}
+use Rattle.ipcz_rule.proofs.Starting.{parts_are}
+
+-- an element of a list with one more, and where it stands
+at_end : {A : Type 0} (l : List A) (a b : A) (j : ℕ) {n : ℕ} → length l ≡ n → get_elem? (l ++ a ∷ []) j ≡ some b → (get_elem? l j ≡ some b) ⊎ ((j ≡ n) × (a ≡ b))
+at_end [] a b zero e at = inr (e, some-injective a b at)
+at_end [] a b (suc j) e at = absurd (some-ne-none b (sym at))
+at_end (x ∷ xs) a b zero e at = inl at
+at_end (x ∷ xs) a b (suc j) e at = ⊎_elim (λ (h : get_elem? xs j ≡ some b). inl h) (λ (h : (j ≡ length xs) × (a ≡ b)). inr (ap suc h.0 ∙ e, h.1)) (at_end xs a b j refl at)
+
+module _ (views : List View) (id : ℕ) (v : View) (p : Part) (ps : List Part) (at : get_elem? views id ≡ some v) (is : v.parts ≡ p ∷ ps) where
+  abbrev kept : List View
+  kept = set views id (after_deal v)
+
+  abbrev both : List View
+  both = kept ++ dealt v ∷ []
+
+  as_many : length kept ≡ length views
+  as_many = length-set views id (after_deal v)
+
+  new_seat : get_elem? both (length views) ≡ some (dealt v)
+  new_seat = at_last kept (dealt v) (length views) as_many
+
+  old_seat : get_elem? both id ≡ some (after_deal v)
+  old_seat = at_longer kept (dealt v ∷ []) id (after_deal v) (set_here views id (after_deal v) (at_inside views id v at))
+
+  behind : (k : ℕ) (q : Part) → get_elem? ps k ≡ some q → get_elem? (after_deal v).parts k ≡ some q
+  behind k q e = ap (λ (l : List Part). get_elem? (tail_parts l) k) is ∙ e
+
+  alone : get_elem? (dealt v).parts 0 ≡ some p
+  alone = ap (λ (l : List Part). get_elem? (head_parts l) 0) is
+
+  -- each part of a view is still a part of one
+  pub part_goes : (j k : ℕ) (u : View) (q : Part) → get_elem? views j ≡ some u → get_elem? u.parts k ≡ some q →
+      (a : ℕ) × (x : View) × (b : ℕ) × (get_elem? both a ≡ some x) × (get_elem? x.parts b ≡ some q)
+  part_goes j k u q seat there = dite (ℕ_discrete j id)
+      (λ e. let same : v ≡ u = some-injective v u (sym at ∙ (ap (get_elem? views) (sym e) ∙ seat)) in
+      own k (sym (ap (λ (l : List Part). get_elem? l k) (sym (ap (λ (z : View). z.parts) same) ∙ is)) ∙ there))
+      (λ far. (j, u, k, at_longer kept (dealt v ∷ []) j u (set_else views id j (after_deal v) far ∙ seat), there))
+    where
+      own : (k : ℕ) → get_elem? (p ∷ ps) k ≡ some q → (a : ℕ) × (x : View) × (b : ℕ) × (get_elem? both a ≡ some x) × (get_elem? x.parts b ≡ some q)
+      own zero e = (length views, dealt v, 0, new_seat, alone ∙ e)
+      own (suc k) e = (id, after_deal v, k, old_seat, behind k q e)
+
+  -- each part of a view was a part of one: the new seat's is the one that was dealt, and those of the old seat stood behind it
+  pub part_came : (a b : ℕ) (x : View) (q : Part) → get_elem? both a ≡ some x → get_elem? x.parts b ≡ some q →
+      ((a ≡ length views) × (p ≡ q)) ⊎ (((a ≡ id) × (get_elem? ps b ≡ some q)) ⊎ ((a ≢ id) × (get_elem? views a ≡ some x)))
+  part_came a b x q seat there = ⊎_elim
+      (λ (before : get_elem? kept a ≡ some x). ⊎_elim
+      (λ (t : (a ≡ id) × (after_deal v ≡ x)). inr (inl (t.0, sym (ap (λ (l : List Part). get_elem? (tail_parts l) b) is) ∙ (ap (λ (z : View). get_elem? z.parts b) t.1 ∙ there))))
+      (λ (t : (a ≢ id) × (get_elem? views a ≡ some x)). inr (inr t))
+      (at_set views id a (after_deal v) x before))
+      (λ (t : (a ≡ length views) × (dealt v ≡ x)). inl (t.0, only x.parts p q b (sym (ap (λ (z : View). z.parts) t.1) ∙ ap head_parts is) there))
+      (at_end kept (dealt v) x a as_many seat)
+
+  -- so the same entries stand in parts
+  goes : {X : Type 0} (of : Part → List X) (x : X) → InParts views of x → InParts both of x
+  goes of x h = let t = part_goes h.id h.place h.view h.part h.seat h.there in
+      record { id = t.0; view = t.1; place = t.2; part = h.part; index = h.index; seat = t.3; there = t.4; entry = h.entry }
+
+  came : {X : Type 0} (of : Part → List X) (x : X) → InParts both of x → InParts views of x
+  came of x h = ⊎_elim
+      (λ (t : (h.id ≡ length views) × (p ≡ h.part)). record {
+        id = id;
+        view = v;
+        place = 0;
+        part = p;
+        index = h.index;
+        seat = at;
+        there = ap (λ (l : List Part). get_elem? l 0) is;
+        entry = ap (λ (z : Part). get_elem? (of z) h.index) t.1 ∙ h.entry;
+      })
+      (λ (s : ((h.id ≡ id) × (get_elem? ps h.place ≡ some h.part)) ⊎ ((h.id ≢ id) × (get_elem? views h.id ≡ some h.view))). ⊎_elim
+      (λ (t : (h.id ≡ id) × (get_elem? ps h.place ≡ some h.part)). record {
+        id = id;
+        view = v;
+        place = suc h.place;
+        part = h.part;
+        index = h.index;
+        seat = at;
+        there = ap (λ (l : List Part). get_elem? l (suc h.place)) is ∙ t.1;
+        entry = h.entry;
+      })
+      (λ (t : (h.id ≢ id) × (get_elem? views h.id ≡ some h.view)). record {
+        id = h.id;
+        view = h.view;
+        place = h.place;
+        part = h.part;
+        index = h.index;
+        seat = t.1;
+        there = h.there;
+        entry = h.entry;
+      })
+      s)
+      (part_came h.id h.place h.view h.part h.seat h.there)
+
+-- deal: the new seat is then that of the node
+pub deals : (count size id : ℕ) (v : View) (p : Part) (ps : List Part) → v.parts ≡ p ∷ ps →
+    ((k : ℕ) (q : Part) → get_elem? ps k ≡ some q → q.node ≢ p.node) → Splits (Rules count size) id v (after_deal v) (dealt v)
+deals count size id v p ps is others s r at =
+    let last : ℕ = length s.views in
+    let owner' : ℕ → ℕ = λ n. either (eqb n p.node) last (r.owner n) in
+    let mine = r.shows.parts id v 0 p at (ap (λ (l : List Part). get_elem? l 0) is) in
+    let stays : (n : ℕ) → n ≢ p.node → owner' n ≡ r.owner n = λ n ne. ap (λ (b : Bool). either b last (r.owner n)) (ne_eqb n p.node ne) in
+    let moves : owner' p.node ≡ last = ap (λ (b : Bool). either b last (r.owner p.node)) (eq-eqb p.node p.node refl) in
+    let j = r.joined in record {
+      world = r.world;
+      books = r.books;
+      routes = r.routes;
+      owner = owner';
+      nodes = r.nodes;
+      words = r.words;
+      shows = record {
+        wide = r.shows.wide;
+        deep = r.shows.deep;
+        links = r.shows.links;
+        claims = r.shows.claims;
+        mail = r.shows.mail;
+        parts = λ a x b q seat there. ⊎_elim
+            (λ (t : (a ≡ last) × (p ≡ q)). subst (λ (z : Part). (owner' z.node ≡ a) × Spells s.words r.world z) t.1 (moves ∙ sym t.0, mine.1))
+            (λ (h : ((a ≡ id) × (get_elem? ps b ≡ some q)) ⊎ ((a ≢ id) × (get_elem? s.views a ≡ some x))). ⊎_elim
+            (λ (t : (a ≡ id) × (get_elem? ps b ≡ some q)).
+            let known = r.shows.parts id v (suc b) q at (ap (λ (l : List Part). get_elem? l (suc b)) is ∙ t.1) in
+            (stays q.node (others b q t.1) ∙ (known.0 ∙ sym t.0), known.1))
+            (λ (t : (a ≢ id) × (get_elem? s.views a ≡ some x)).
+            let known = r.shows.parts a x b q t.1 there in
+            (stays q.node (λ e. t.0 (sym known.0 ∙ (ap r.owner e ∙ mine.0))) ∙ known.0, known.1))
+            h)
+            (part_came s.views id v p ps at is a b x q seat there);
+      };
+      joined = record {
+        put = λ e n item h. goes s.views id v p ps at is puts_of ((e, n), item) (j.put e n item h);
+        put_only = λ e n item h. j.put_only e n item (came s.views id v p ps at is puts_of ((e, n), item) h);
+        got = λ e n q h. goes s.views id v p ps at is gets_of ((e, n), q) (j.got e n q h);
+        got_only = λ e n q h. j.got_only e n q (came s.views id v p ps at is gets_of ((e, n), q) h);
+        gone = λ e n h l. goes s.views id v p ps at is drops_of (e, n) (j.gone e n h l);
+        gone_only = λ e n h. j.gone_only e n (came s.views id v p ps at is drops_of (e, n) h);
+      };
+      lawful = r.lawful;
+      lengths = r.lengths;
+      strays = r.strays;
+    }
+
+-- the parts of the nodes from one on
+pub left-some : (count n : ℕ) → n < count →
+    opening_parts count n (count - n) ≡ opening_part count n ∷ opening_parts count (n + 1) (count - (n + 1))
+left-some count n below =
+    let more : count - n ≡ suc (count - (n + 1)) = omega (arith, below) in
+    ap (opening_parts count n) more
+
+-- deal: the new seat gets the part of the next node at the start
+pub deals_opening : (count size id : ℕ) (v : View) (nodes n : ℕ) → n < nodes → v.parts ≡ opening_parts nodes n (nodes - n) →
+    Splits (Rules count size) id v (after_deal v) (dealt v)
+deals_opening count size id v nodes n below is =
+    deals count size id v (opening_part nodes n) (opening_parts nodes (n + 1) (nodes - (n + 1))) (is ∙ left-some nodes n below)
+    (λ k q e same. let t = parts_are nodes (n + 1) (nodes - (n + 1)) k q e in
+    let number : (n + 1) + k ≡ q.node = ap (λ (p : Part). p.node) t.1 in omega (arith, number, same))
+
+-- the views after it
+pub dealt_opening : (count : ℕ) (v : View) (n : ℕ) → n < count → v.parts ≡ opening_parts count n (count - n) → (dealt v).parts ≡ opening_part count n ∷ []
+dealt_opening count v n below is = ap head_parts (is ∙ left-some count n below)
+
+pub kept_opening : (count : ℕ) (v : View) (n : ℕ) → n < count → v.parts ≡ opening_parts count n (count - n) →
+    (after_deal v).parts ≡ opening_parts count (n + 1) (count - (n + 1))
+kept_opening count v n below is = ap tail_parts (is ∙ left-some count n below)

@@ -1,0 +1,140 @@
+-- A discard as a step on the own touch word; and all acts of routers that are touches, as one kind.
+use Rattle.std.specs.Prelude.{◌≡◌, ◌⊎◌, ℕ, Bool, true, false, ◌&&◌, ◌||◌, [], ◌∷◌, ◌++◌, Option, Some, None, is_some, refl}
+use Rattle.std.proofs.Common.{ap, ◌∙◌, sym, subst, inl, inr, ⊎_elim}
+use Rattle.atomic_table.specs.Table.{Allows}
+use Rattle.ipcz_seq.specs.Queue.{current_item}
+use Rattle.ipcz_router.specs.Router.{Router, is_terminal, is_sink}
+use Rattle.ipcz_router.specs.ActTable.{may_take, is_possible, is_rest, next_act}
+use Rattle.ipcz_router.specs.declared.act.RouterAct.{RouterAct}
+use Rattle.ipcz_router.specs.declared.act.RouterAct.TheVariants as acts
+use Rattle.ipcz_router.specs.declared.act.Answer.{Answer}
+use Rattle.ipcz_router.specs.declared.act.Answer.TheVariants as answers
+use Rattle.ipcz_node.specs.declared.act.Act.TheVariants.{Router as OfRouter}
+use Rattle.ipcz_node.specs.Node.{Node, router_in}
+use Rattle.ipcz_node.specs.Acts.{commit}
+use Rattle.ipcz_node.specs.Events.{event_of, event_at, router_event}
+use Rattle.ipcz_world.specs.declared.step.Step.TheVariants as steps
+use Rattle.ipcz_world.specs.declared.step.Reply.TheVariants as replies
+use Rattle.ipcz_world.specs.World.{World, node_at, set_node}
+use Rattle.ipcz_world.specs.WordAnswers.{answer_of, link_answer, word_answer, touch}
+use Rattle.ipcz_world.specs.Turns.{router_of, after_act, after_router_act, turn_event, router_seen}
+use Rattle.ipcz_world.specs.Books.{Books, advance, after_turn, after_discard, add_gone, read}
+use Rattle.ipcz_world.specs.Lawful.{Lawful}
+use Rattle.ipcz_world.proofs.frames.Frames.{word-set_node, claimed-set_node}
+use Rattle.ipcz_world.proofs.Whole.{terminals_keep_books}
+use Rattle.ipcz_rule.specs.declared.view.Part.{Part}
+use Rattle.ipcz_rule.specs.Rule.{Mine, Rules, with_part, with_state}
+use Rattle.ipcz_rule.specs.Steps.{CanAct, is_touch, act_part, add_gone_entry}
+use Rattle.ipcz_rule.specs.Kinds.{Touches}
+use Rattle.ipcz_rule.proofs.Touching.{touches, set_moves, turn_lawful}
+use Rattle.ipcz_rule.proofs.Acting.{is_plain_touch, is_unwritten, plain_part, unwritten_touch, acts_touch, act_routes, act_hand, here_at, possible, lacks, after_is}
+use Rattle.ipcz_rule.proofs.Adding.{joined_gone}
+
+link_plain : (w : World) (r : Router) (i : Option ℕ) → link_answer w r.end.side acts.Discard i ≡ answers.Plain
+unfolding link_answer word_answer
+link_plain w r None = refl
+link_plain w r (Some i) = refl
+
+discard_after : (w : World) (n serial : ℕ) (r : Router) → after_router_act w n serial acts.Discard (Some r) ≡ set_node w n (commit (node_at w n) (OfRouter serial acts.Discard) answers.Plain)
+unfolding after_router_act touch answer_of
+discard_after w n serial r = ap (λ a. set_node w n (commit (node_at w n) (OfRouter serial acts.Discard) a)) (link_plain w r _)
+
+discard_written : (w : World) (b : Books) (n serial : ℕ) (r : Router) → router_of w n serial ≡ Some r → router_in (node_at w n) serial ≡ Some r →
+    advance w b (steps.Turn n) (replies.Turned (turn_event w n (OfRouter serial acts.Discard))) ≡ add_gone b r.end
+unfolding advance turn_event router_seen event_of event_at router_event after_turn after_discard
+discard_written w b n serial r there here =
+    ap (λ o. after_turn w b n (router_seen w n serial acts.Discard o)) there
+    ∙ (ap (λ o. after_turn w b n (event_at (node_at w n) serial o acts.Discard (answer_of w r acts.Discard))) here ∙ ap (after_discard b) there)
+
+both_first : (x y : Bool) → (x && y) ≡ true → x ≡ true
+both_first true y q = refl
+both_first false y q = cc
+
+either_false : (x y : Bool) → (x || (false && y)) ≡ true → x ≡ true
+either_false true y q = refl
+either_false false y q = cc
+
+-- what may discard is a sink
+sink_discards : (r : Router) → may_take r acts.Discard ≡ true → is_terminal r ≡ true
+unfolding is_possible is_rest
+sink_discards r h = both_first (is_terminal r) r.closed (both_first (is_sink r) (is_some (current_item r.in_queue)) (either_false (is_possible r acts.Discard) (is_rest (next_act r)) h))
+
+discards : (count size slots id i : ℕ) (m : Mine) (p : Part) (serial : ℕ) (rt : Router) → m.0.parts ≡ p ∷ [] → CanAct p.state serial rt acts.Discard →
+    Allows (Rules count size) slots id m i (λ n. n) (λ n m'. m' ≡ (with_part (add_gone_entry rt.end rt.in_queue.current (with_state (commit p.state (OfRouter serial acts.Discard) answers.Plain) p)) m.0, m.1))
+discards count size slots id i m p serial rt is can =
+    let x = commit p.state (OfRouter serial acts.Discard) answers.Plain in
+    let p' = add_gone_entry rt.end rt.in_queue.current (with_state x p) in
+    let v' = with_part p' m.0 in
+    touches count size slots id i m p p' v' is refl (record { node = refl; hand = act_hand p.state serial acts.Discard answers.Plain; message = refl; probed = refl })
+    (λ s r seat inside state.
+    let w = r.world in
+    let b = r.books in
+    let g = r.routes in
+    let n : ℕ = p.node in
+    let g' = act_routes w g n serial acts.Discard in
+    let there = here_at w n serial p.state rt state can.there in
+    let current : rt.in_queue.current ≡ read b rt.end = (terminals_keep_books w b g r.lawful).current (record { node = n; serial = serial }) rt there (sink_discards rt can.may) in
+    let kept = turn_lawful w b g n (OfRouter serial acts.Discard) r.lawful inside (possible w n serial rt acts.Discard there can.may) (lacks w n serial p.state acts.Discard state can.serials) in
+    record {
+      world = set_node w n x;
+      books = add_gone b rt.end;
+      routes = g';
+      moves = set_moves w n x;
+      words = word-set_node w n x;
+      claimed = claimed-set_node w n x;
+      joined = joined_gone s.views id m.0 v' p p' b rt.end seat is refl r.joined (ap (λ k. p.gone ++ (rt.end, k) ∷ []) current) refl refl;
+      lawful = subst (λ (y : Node). Lawful (set_node w n (commit y (OfRouter serial acts.Discard) answers.Plain)) (add_gone b rt.end) g') state
+          (subst (λ (u : World). Lawful u (add_gone b rt.end) g') (after_is w n serial rt acts.Discard there ∙ discard_after w n serial rt)
+          (subst (λ (c : Books). Lawful (after_act w n (OfRouter serial acts.Discard)) c g') (discard_written w b n serial rt there (ap (λ y. router_in y serial) state ∙ can.there)) kept));
+    })
+
+-- the part after an act of a router that writes no book
+pub part_is : (serial : ℕ) (act : RouterAct) (a : Answer) (p : Part) → is_unwritten act ≡ true → act_part (OfRouter serial act) a p ≡ plain_part serial act a p
+part_is serial acts.SendOut a p e = refl
+part_is serial acts.SendIn a p e = refl
+part_is serial acts.Discard a p e = cc
+part_is serial acts.FinishOut a p e = refl
+part_is serial acts.FinishIn a p e = refl
+part_is serial acts.Leave a p e = refl
+part_is serial acts.Mark a p e = refl
+part_is serial acts.Wake a p e = refl
+part_is serial acts.Claim a p e = refl
+part_is serial acts.Lock a p e = refl
+part_is serial acts.Begin a p e = refl
+part_is serial acts.Unlock a p e = refl
+part_is serial acts.Rest a p e = refl
+
+-- the part after a discard
+pub dropped_part_is : (serial : ℕ) (p : Part) (r : Router) → router_in p.state serial ≡ Some r →
+    add_gone_entry r.end r.in_queue.current (plain_part serial acts.Discard answers.Plain p) ≡ act_part (OfRouter serial acts.Discard) answers.Plain p
+dropped_part_is serial p r there = rw there refl
+
+-- a touch writes no book, or is a discard
+touch_writes : (act : RouterAct) → is_touch act ≡ true → (is_plain_touch act ≡ true) ⊎ (act ≡ acts.Discard)
+touch_writes acts.SendOut e = inl refl
+touch_writes acts.SendIn e = inl refl
+touch_writes acts.Discard e = inr refl
+touch_writes acts.FinishOut e = inl refl
+touch_writes acts.FinishIn e = inl refl
+touch_writes acts.Leave e = inl refl
+touch_writes acts.Mark e = cc
+touch_writes acts.Wake e = cc
+touch_writes acts.Claim e = cc
+touch_writes acts.Lock e = cc
+touch_writes acts.Begin e = inl refl
+touch_writes acts.Unlock e = cc
+touch_writes acts.Rest e = inl refl
+
+-- what a touch leaves of the seat, where its part is this
+abbrev Touch : ℕ → ℕ → ℕ → ℕ → ℕ → Mine → Part → Type 0
+Touch count size slots id i m q = Allows (Rules count size) slots id m i (λ n. n) (λ n m'. m' ≡ (with_part q m.0, m.1))
+
+-- the acts of routers that are touches
+pub touches_acts : Touches
+touches_acts count size slots id i m p serial rt act is can e = ⊎_elim
+    (λ (plain : is_plain_touch act ≡ true). subst (Touch count size slots id i m) (sym (part_is serial act answers.Plain p (unwritten_touch act plain))) (acts_touch count size slots id i m p serial rt act is can plain))
+    (λ (same : act ≡ acts.Discard). let can' = subst (CanAct p.state serial rt) same can in
+    let done : Touch count size slots id i m (act_part (OfRouter serial acts.Discard) answers.Plain p) =
+    subst (Touch count size slots id i m) (dropped_part_is serial p rt can'.there) (discards count size slots id i m p serial rt is can') in
+    subst (λ (z : RouterAct). Touch count size slots id i m (act_part (OfRouter serial z) answers.Plain p)) (sym same) done)
+    (touch_writes act e)

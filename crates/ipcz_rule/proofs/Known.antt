@@ -1,0 +1,56 @@
+-- What a seat knows by the rule: that its own node is sound and has no strays, and that what it finds at a link is a link word.
+use Rattle.std.specs.Prelude.{◌≡◌, ◌<◌, ℕ, Bool, true, false, ◌&&◌, [], ◌∷◌, slice_index, refl}
+use Rattle.std.proofs.Common.{ap, ◌∙◌, sym, subst}
+use mathlib.Core.Option.{some}
+use lib.ListN.{get_elem?}
+use Rattle.ipcz_base.specs.declared.side.Side.{Side}
+use Rattle.ipcz_base.specs.declared.side.Side.TheVariants.{A, B}
+use Rattle.ipcz_word.specs.SideSets.{Sides, has}
+use Rattle.ipcz_word.specs.Layout.{IsWord}
+use Rattle.ipcz_word.proofs.Return.{valid_bits}
+use Rattle.ipcz_node.specs.Node.{Node}
+use Rattle.ipcz_world.specs.World.{node_at, word_at}
+use Rattle.ipcz_world.specs.Soundness.{IsSound}
+use Rattle.ipcz_world.proofs.Whole.{nodes_are_sound, lawful_worlds_give_the_headline}
+use Rattle.ipcz_rule.specs.declared.view.View.{View}
+use Rattle.ipcz_rule.specs.declared.view.Part.{Part}
+use Rattle.ipcz_rule.specs.Rule.{St, Rules, Spells}
+use Rattle.ipcz_rule.proofs.Moved.{spelled}
+
+-- a part that spells a lawful world is of a sound node
+pub sound_spelled : {count size : ℕ} (s : St) (r : Rules count size s) (p : Part) → Spells s.words r.world p → IsSound count size p.node p.state
+sound_spelled {count} {size} s r p sp =
+    subst (λ (x : Node). IsSound count size p.node x) sp.state
+    (subst (λ (c : ℕ). IsSound c size p.node (node_at r.world p.node)) r.nodes
+    (subst (λ (z : ℕ). IsSound r.world.count z p.node (node_at r.world p.node)) r.words
+    (nodes_are_sound r.world r.books r.routes p.node r.lawful sp.inside)))
+
+-- the own node is sound
+pub sound_part : {count size : ℕ} (s : St) (r : Rules count size s) (id : ℕ) (v : View) (p : Part) → get_elem? s.views id ≡ some v → v.parts ≡ p ∷ [] → IsSound count size p.node p.state
+sound_part s r id v p at is = sound_spelled s r p (spelled s r id v p at is)
+
+-- the own node has no strays
+pub no_strays : {count size : ℕ} (s : St) (r : Rules count size s) (p : Part) → Spells s.words r.world p → p.state.strays ≡ []
+no_strays s r p sp = ap (λ (x : Node). x.strays) (sym sp.state) ∙ r.strays.none p.node
+
+one_side : (x : Sides) → ((s t : Side) → has x s ≡ true → has x t ≡ true → s ≡ t) → (has x A && has x B) ≡ false
+one_side x once = go (has x A) (has x B) refl refl
+  where
+    apart : A ≡ B → ⊥
+    apart e = absurd (subst is_a e tt)
+      where
+        is_a : Side → Type 0
+        is_a A = Unit {0}
+        is_a B = ⊥
+
+    go : (a b : Bool) → has x A ≡ a → has x B ≡ b → (a && b) ≡ false
+    go true true e f = absurd (apart (once A B e f))
+    go true false e f = refl
+    go false b e f = refl
+
+-- what stands at a link is a link word
+pub found_word : {count size : ℕ} (s : St) (r : Rules count size s) (i : ℕ) → i < size → IsWord (slice_index s.words i)
+found_word s r i inside =
+    let x = word_at r.world i in
+    let once = (lawful_worlds_give_the_headline r.world r.books r.routes r.lawful).locked_once i in
+    subst IsWord (sym (r.shows.links i (rw r.words inside))) (valid_bits x (one_side x.holder once))

@@ -1,0 +1,80 @@
+-- A step of a seat: what it owes, and the rule after it.
+use Rattle.std.specs.Prelude.{◌≡◌, ◌≢◌, ◌<◌, ◌+◌, ◌*◌, ℕ, zero, suc, List, [], ◌∷◌, length, slice_index}
+use Rattle.std.proofs.Common.{ap, ◌∙◌, sym, subst, ⊎_elim, set}
+use mathlib.Core.Option.{some, some-injective, some-ne-none}
+use lib.ListN.{get_elem?}
+use Rattle.atomic_table.proofs.Lists.{at_set}
+use Rattle.ipcz_word.specs.Layout.{bits_of}
+use Rattle.ipcz_world.specs.World.{World, word_at, mail_at}
+use Rattle.ipcz_world.specs.Books.{Books}
+use Rattle.ipcz_world.specs.Routes.{Routes}
+use Rattle.ipcz_world.specs.Lawful.{Lawful}
+use Rattle.ipcz_world.proofs.Whole.{lawful_worlds_stray_nothing}
+use Rattle.ipcz_rule.specs.declared.view.View.{View}
+use Rattle.ipcz_rule.specs.declared.view.Part.{Part}
+use Rattle.ipcz_rule.specs.Rule.{Homes, St, mailbox, MailAt, Spells, Shows, Joined, Rules}
+
+-- the one part of a list of one
+pub only : (ps : List Part) (p q : Part) (k : ℕ) → ps ≡ p ∷ [] → get_elem? ps k ≡ some q → p ≡ q
+only ps p q k is at = one k (subst (λ (l : List Part). get_elem? l k ≡ some q) is at)
+  where
+    one : (k : ℕ) → get_elem? (p ∷ []) k ≡ some q → p ≡ q
+    one zero e = some-injective p q e
+    one (suc k) e = absurd (some-ne-none q (sym e))
+
+-- what a step owes that leaves these words and homes, where the part p becomes p' and the shown world w becomes w'
+pub record Moves (s : St) (w w' : World) (words : List ℕ) (homes : Homes) (p p' : Part) : Type 0 where
+  pub count : w'.count ≡ w.count
+  pub size : w'.size ≡ w.size
+  pub wide : length words ≡ length s.words
+  pub deep : length homes ≡ length s.homes
+  pub links : (j : ℕ) → j < w'.size → slice_index words j ≡ bits_of (word_at w' j)
+  pub claims : slice_index words w'.size ≡ w'.claimed
+  pub mail : (k : ℕ) → k < w'.count * w'.count → MailAt (slice_index words (mailbox w' k)) (get_elem? homes k) (mail_at w' k)
+  pub node : p'.node ≡ p.node
+  pub own : Spells words w' p'
+  pub others : (q : Part) → q.node ≢ p.node → Spells s.words w q → Spells words w' q
+
+-- the world that is shown after such a step
+pub shown : (s : St) (w w' : World) (owner : ℕ → ℕ) (words : List ℕ) (homes : Homes) (id : ℕ) (v v' : View) (p p' : Part) → Shows s w owner →
+    get_elem? s.views id ≡ some v → v.parts ≡ p ∷ [] → v'.parts ≡ p' ∷ [] → Moves s w w' words homes p p' →
+    Shows record { words = words; homes = homes; views = set s.views id v' } w' owner
+shown s w w' owner words homes id v v' p p' r at is is' m =
+    let mine : owner p.node ≡ id = (r.parts id v 0 p at (ap (λ (l : List Part). get_elem? l 0) is)).0 in record {
+      wide = m.wide ∙ (r.wide ∙ sym (ap (λ n. n + 1 + w'.count + w'.count * w'.count) m.size ∙ ap (λ n. w.size + 1 + n + n * n) m.count));
+      deep = m.deep ∙ (r.deep ∙ sym (ap (λ n. n * n) m.count));
+      links = m.links;
+      claims = m.claims;
+      mail = m.mail;
+      parts = λ j u k q at_j at_k. ⊎_elim
+          (λ (t : (j ≡ id) × (v' ≡ u)).
+          let same : p' ≡ q = only u.parts p' q k (sym (ap (λ (z : View). z.parts) t.1) ∙ is') at_k in
+          subst (λ (z : Part). (owner z.node ≡ j) × Spells words w' z) same (ap owner m.node ∙ (mine ∙ sym t.0), m.own))
+          (λ (t : (j ≢ id) × (get_elem? s.views j ≡ some u)).
+          let was = r.parts j u k q t.1 at_k in
+          (was.0, m.others q (λ e. t.0 (sym was.0 ∙ (ap owner e ∙ mine))) was.1))
+          (at_set s.views id j v' u at_j);
+    }
+
+-- the rule after such a step, where the new world is lawful with the new books
+pub ruled : {count size : ℕ} (s : St) (r : Rules count size s) (w' : World) (b' : Books) (g' : Routes) (words : List ℕ) (homes : Homes) (id : ℕ) (v v' : View) (p p' : Part) →
+    get_elem? s.views id ≡ some v → v.parts ≡ p ∷ [] → v'.parts ≡ p' ∷ [] → Moves s r.world w' words homes p p' →
+    Joined (set s.views id v') b' → Lawful w' b' g' →
+    Rules count size record { words = words; homes = homes; views = set s.views id v' }
+ruled s r w' b' g' words homes id v v' p p' at is is' m joined lawful = record {
+  world = w';
+  books = b';
+  routes = g';
+  owner = r.owner;
+  nodes = m.count ∙ r.nodes;
+  words = m.size ∙ r.words;
+  shows = shown s r.world w' r.owner words homes id v v' p p' r.shows at is is' m;
+  joined = joined;
+  lawful = lawful;
+  lengths = (lawful_worlds_stray_nothing w' b' g' lawful).0;
+  strays = (lawful_worlds_stray_nothing w' b' g' lawful).1;
+}
+
+-- the own part says of the world what the rule says
+pub spelled : {count size : ℕ} (s : St) (r : Rules count size s) (id : ℕ) (v : View) (p : Part) → get_elem? s.views id ≡ some v → v.parts ≡ p ∷ [] → Spells s.words r.world p
+spelled s r id v p at is = (r.shows.parts id v 0 p at (ap (λ (l : List Part). get_elem? l 0) is)).1

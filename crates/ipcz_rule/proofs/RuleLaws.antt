@@ -1,0 +1,78 @@
+-- What the rule says of the world that is shown and of each part.
+use Rattle.std.specs.Prelude.{◌≡◌, ◌<◌, ℕ, zero, suc, List, [], ◌∷◌, length, map, take, slice_get, Option, Some, refl}
+use Rattle.std.proofs.Common.{arith, ap, ◌∙◌, sym}
+use Rattle.ipcz_base.specs.declared.item.Item.TheVariants.{Parcel}
+use Rattle.ipcz_base.specs.Ends.{opposite_end}
+use Rattle.ipcz_node.specs.Node.{Node}
+use Rattle.ipcz_node.specs.Hands.{is_unfit}
+use Rattle.ipcz_world.specs.World.{World}
+use Rattle.ipcz_world.specs.Turns.{message_in_hand}
+use Rattle.ipcz_world.specs.Routes.{hand_of}
+use Rattle.ipcz_world.proofs.facts.LinkTests.{opposite_end-twice}
+use Rattle.ipcz_world.proofs.Whole.{lawful_worlds_give_the_headline, lawful_worlds_owe, lists_have_lengths, messages_in_hand_fit}
+use Rattle.ipcz_rule.specs.RuleLaws.{RuleGivesHeadline, RuleOwes, ShownHasLengths, PartsAreSound, PartsHandsFit, LinksAreWords, PutsAreOnce, GetsFollowPuts}
+use Rattle.ipcz_rule.proofs.Known.{sound_spelled, no_strays, found_word}
+
+pub rule_gives_headline : RuleGivesHeadline
+rule_gives_headline count size s r = (lawful_worlds_give_the_headline r.world r.books r.routes r.lawful, r.lengths, r.strays)
+
+pub rule_owes : RuleOwes
+rule_owes count size s r = lawful_worlds_owe r.world r.books r.routes r.lawful
+
+pub shown_has_lengths : ShownHasLengths
+shown_has_lengths count size s r = lists_have_lengths r.world r.books r.routes r.lawful
+
+pub parts_are_sound : PartsAreSound
+parts_are_sound count size s r id v j p seat there =
+    let sp = (r.shows.parts id v j p seat there).1 in
+    (rw (← r.nodes) sp.inside, sound_spelled s r p sp, no_strays s r p sp)
+
+hand_is : (w : World) (n from : ℕ) → hand_of w n (Some from) ≡ message_in_hand w n from
+unfolding hand_of
+hand_is w n from = refl
+
+pub parts_hands_fit : PartsHandsFit
+parts_hands_fit count size s r id v j p from x seat there hand message unfit =
+    let sp = (r.shows.parts id v j p seat there).1 in
+    let w = r.world in
+    messages_in_hand_fit w r.books r.routes p.node from x r.lawful sp.inside (ap (λ (y : Node). y.hand) sp.state ∙ hand)
+    (sym (hand_is w p.node from) ∙ (ap (hand_of w p.node) (sym hand) ∙ (sp.message ∙ message)))
+    (ap (λ (y : Node). is_unfit y from x) sp.state ∙ unfit)
+
+pub links_are_words : LinksAreWords
+links_are_words count size s r i inside = found_word s r i inside
+
+-- lists by index
+
+slice_get-take : {X : Type 0} (k : ℕ) (xs : List X) (n : ℕ) (x : X) → slice_get (take k xs) n ≡ Some x → slice_get xs n ≡ Some x
+slice_get-take zero xs n x h = cc
+slice_get-take (suc k) [] n x h = h
+slice_get-take (suc k) (y ∷ ys) zero x h = h
+slice_get-take (suc k) (y ∷ ys) (suc n) x h = slice_get-take k ys n x h
+
+slice_get-map : {X Y : Type 0} (f : X → Y) (xs : List X) (n : ℕ) (x : X) → slice_get xs n ≡ Some x → slice_get (map f xs) n ≡ Some (f x)
+slice_get-map f [] n x h = cc
+slice_get-map f (y ∷ ys) zero x h = grind (arith, h)
+slice_get-map f (y ∷ ys) (suc n) x h = slice_get-map f ys n x h
+
+slice_get-below : {X : Type 0} (xs : List X) (n : ℕ) (x : X) → slice_get xs n ≡ Some x → (k : ℕ) → k < n → (y : X) × (slice_get xs k ≡ Some y)
+slice_get-below [] n x h k l = cc
+slice_get-below (z ∷ zs) zero x h k l = absurd (omega (arith, l))
+slice_get-below (z ∷ zs) (suc n) x h zero l = (z, refl)
+slice_get-below (z ∷ zs) (suc n) x h (suc k) l = slice_get-below zs n x h k (omega (arith, l))
+
+some_same : {X : Type 0} (o : Option X) (x y : X) → o ≡ Some x → o ≡ Some y → x ≡ y
+some_same o x y h k = grind (arith, h, k)
+
+pub puts_are_once : PutsAreOnce
+puts_are_once count size s r e n x y h k = some_same (slice_get (r.books.put e) n) x y (r.joined.put_only e n x h) (r.joined.put_only e n y k)
+
+pub gets_follow_puts : GetsFollowPuts
+gets_follow_puts count size s r e n q h =
+    let b = r.books in
+    let got = r.joined.got_only e n q h in
+    let prefix = (lawful_worlds_give_the_headline r.world b r.routes r.lawful).got_prefix (opposite_end e) in
+    let put : slice_get (b.put (opposite_end e)) n ≡ Some (Parcel q) =
+    slice_get-take (length (b.got (opposite_end (opposite_end e)))) (b.put (opposite_end e)) n (Parcel q)
+    (ap (λ l. slice_get l n) prefix ∙ slice_get-map Parcel (b.got (opposite_end (opposite_end e))) n q (ap (λ d. slice_get (b.got d) n) (opposite_end-twice e) ∙ got)) in
+    (r.joined.put (opposite_end e) n (Parcel q) put, λ k l. let t = slice_get-below (b.got e) n q got k l in (t.0, r.joined.got e k t.0 t.1))

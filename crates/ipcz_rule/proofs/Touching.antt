@@ -1,0 +1,121 @@
+-- The kinds of atomic step that change the own node and no mailbox, each with the rule after it.
+use Rattle.std.specs.Prelude.{◌≡◌, ◌<◌, ℕ, true, false, nat_lt, List, [], ◌∷◌, length, slice_index, None, refl}
+use Rattle.std.proofs.Common.{arith, ap, ◌∙◌, sym, subst, inl, set}
+use Rattle.std.proofs.lemmas.List.{set-get_or}
+use Rattle.std.proofs.lemmas.Bool.Decides.{nat_tests}
+use mathlib.Core.Option.{some}
+use lib.ListN.{get_elem?}
+use Rattle.atomic_table.specs.Table.{Allows, keeps}
+use Rattle.ipcz_base.specs.declared.end.End.{End}
+use Rattle.ipcz_base.specs.declared.item.Item.TheVariants.{Parcel}
+use Rattle.ipcz_word.specs.Layout.{bits_of}
+use Rattle.ipcz_node.specs.declared.act.Act.{Act}
+use Rattle.ipcz_node.specs.Node.{Node}
+use Rattle.ipcz_node.specs.Calls.{put_refusal, put_node, put_number}
+use Rattle.ipcz_world.specs.declared.step.Step.TheVariants as steps
+use Rattle.ipcz_world.specs.declared.step.Reply.TheVariants as replies
+use Rattle.ipcz_world.specs.World.{World, node_at, word_at, set_node}
+use Rattle.ipcz_world.specs.Turns.{after_act, turn_event, turn_lacks_serials, can_take}
+use Rattle.ipcz_world.specs.Steps.{Effect, unless, put_step, turn_step}
+use Rattle.ipcz_world.specs.Books.{Books, advance, add_put}
+use Rattle.ipcz_world.specs.Plain.{Plain}
+use Rattle.ipcz_world.specs.Routes.{Routes, routes_after}
+use Rattle.ipcz_world.specs.Lawful.{Lawful}
+use Rattle.ipcz_world.proofs.frames.Frames.{node-set_node, mail-set_node, size-set_node, count-set_node}
+use Rattle.ipcz_world.proofs.Whole.{each_step_keeps_lawful, replies_plainly}
+use Rattle.ipcz_rule.specs.declared.view.View.{View}
+use Rattle.ipcz_rule.specs.declared.view.Part.{Part}
+use Rattle.ipcz_rule.specs.Rule.{St, Mine, mailbox, Joined, Rules}
+use Rattle.ipcz_rule.proofs.Moved.{ruled, spelled}
+use Rattle.ipcz_rule.proofs.Touches.{NodeMoves, others_spell, own_spells, mails_show}
+
+-- what a touch owes: the world after it, lawful with the books after it
+pub record Touched (w : World) (views : List View) (p p' : Part) : Type 0 where
+  pub world : World
+  pub books : Books
+  pub routes : Routes
+  pub moves : NodeMoves w world p.node p'.state
+  pub words : (i : ℕ) → word_at world i ≡ word_at w i
+  pub claimed : world.claimed ≡ w.claimed
+  pub joined : Joined views books
+  pub lawful : Lawful world books routes
+
+-- a part that stands for the same node, has the same hand and has probed the same mailboxes
+pub record KeepsHands (p p' : Part) : Type 0 where
+  pub node : p'.node ≡ p.node
+  pub hand : p'.state.hand ≡ p.state.hand
+  pub message : p'.message ≡ p.message
+  pub probed : p'.probed ≡ p.probed
+
+-- touch: any word of the table stays, and the own node changes
+pub touches : (count size slots id i : ℕ) (m : Mine) (p p' : Part) (v' : View) → m.0.parts ≡ p ∷ [] → v'.parts ≡ p' ∷ [] → KeepsHands p p' →
+    ((s : St) (r : Rules count size s) → get_elem? s.views id ≡ some m.0 → p.node < r.world.count → node_at r.world p.node ≡ p.state → Touched r.world (set s.views id v') p p') →
+    Allows (Rules count size) slots id m i (λ n. n) (λ n m'. m' ≡ (v', m.1))
+touches count size slots id i m p p' v' is is' k owes s r deep at small =
+    let sp = spelled s r id m.0 p at is in
+    let t = owes s r at sp.inside sp.state in
+    let same : (j : ℕ) → slice_index s.words (mailbox r.world j) ≡ slice_index s.words (mailbox r.world j) = λ j. refl in
+    let rules : Rules count size record { words = s.words; homes = s.homes; views = set s.views id v' } = ruled s r t.world t.books t.routes s.words s.homes id m.0 v' p p' at is is' (record {
+      count = t.moves.count;
+      size = t.moves.size;
+      wide = refl;
+      deep = refl;
+      links = λ j l. r.shows.links j (rw (← t.moves.size) l) ∙ ap bits_of (sym (t.words j));
+      claims = ap (slice_index s.words) t.moves.size ∙ (r.shows.claims ∙ sym t.claimed);
+      mail = mails_show s r.world t.world s.words p.node p'.state t.moves same r.owner r.shows;
+      node = k.node;
+      own = own_spells s r.world t.world s.words p.node p'.state t.moves same p p' refl k.node refl k.hand k.message k.probed sp;
+      others = others_spell s r.world t.world s.words p.node p'.state t.moves same;
+    }) t.joined t.lawful in
+    (v', keeps, tt, subst (λ (ws : List ℕ). Rules count size record { words = ws; homes = s.homes; views = set s.views id v' }) (sym (set-get_or s.words i 0)) rules, refl)
+
+-- the node of a number is another
+pub set_moves : (w : World) (n : ℕ) (x : Node) → NodeMoves w (set_node w n x) n x
+set_moves w n x = record {
+  count = count-set_node w n x;
+  size = size-set_node w n x;
+  here = node-set_node w n x n ∙ grind (arith, nat_tests);
+  apart = λ j ne. node-set_node w n x j ∙ grind (arith, nat_tests, ne);
+  mail = mail-set_node w n x;
+}
+
+turn_gives : (w : World) (n : ℕ) (act : Act) → n < w.count → turn_lacks_serials w n act ≡ false → turn_step w n act ≡ record { reply = replies.Turned (turn_event w n act); world = after_act w n act }
+unfolding unless
+turn_gives w n act inside lacks = let l : nat_lt n w.count ≡ true = grind (arith, nat_tests, inside) in rw (l, lacks) refl
+
+put_gives : (w : World) (n : ℕ) (at : End) (bytes : List ℕ) (ends : List End) → n < w.count → put_refusal (node_at w n) at bytes ends ≡ None →
+    put_step w n at (record { bytes = bytes; ends = ends }) ≡ record {
+      reply = replies.Put (put_number (node_at w n) at);
+      world = set_node w n (put_node (node_at w n) at (record { bytes = bytes; ends = ends }));
+    }
+unfolding unless
+put_gives w n at bytes ends inside fine = let l : nat_lt n w.count ≡ true = grind (arith, nat_tests, inside) in rw (l, fine) refl
+
+put_written : (w : World) (b : Books) (n : ℕ) (at : End) (bytes : List ℕ) (ends : List End) →
+    advance w b (steps.Put n at bytes ends) (replies.Put (put_number (node_at w n) at)) ≡ add_put b at (Parcel (record { bytes = bytes; ends = ends }))
+unfolding advance
+put_written w b n at bytes ends = refl
+
+-- a turn that takes a possible act which doesn't want serials keeps the world lawful
+pub turn_lawful : (w : World) (b : Books) (g : Routes) (n : ℕ) (act : Act) → Lawful w b g → n < w.count → can_take w n act ≡ true → turn_lacks_serials w n act ≡ false →
+    Lawful (after_act w n act) (advance w b (steps.Turn n) (replies.Turned (turn_event w n act))) (routes_after w g (steps.Turn n) (replies.Turned (turn_event w n act)))
+turn_lawful w b g n act lawful inside can lacks =
+    let done = turn_gives w n act inside lacks in
+    subst (λ (e : Effect). Lawful e.world (advance w b (steps.Turn n) e.reply) (routes_after w g (steps.Turn n) e.reply)) done
+    (each_step_keeps_lawful w (turn_step w n act).world b g (steps.Turn n) (turn_step w n act).reply lawful (act, (λ l. can), inl (refl, refl)))
+
+-- a put that isn't refused keeps the world lawful
+pub put_lawful : (w : World) (b : Books) (g : Routes) (n : ℕ) (at : End) (bytes : List ℕ) (ends : List End) → Lawful w b g → n < w.count →
+    put_refusal (node_at w n) at bytes ends ≡ None →
+    Lawful (set_node w n (put_node (node_at w n) at (record { bytes = bytes; ends = ends }))) (add_put b at (Parcel (record { bytes = bytes; ends = ends })))
+    (routes_after w g (steps.Put n at bytes ends) (replies.Put (put_number (node_at w n) at)))
+    × (put_number (node_at w n) at ≡ length (b.put at))
+put_lawful w b g n at bytes ends lawful inside fine =
+    let done = put_gives w n at bytes ends inside fine in
+    let step = steps.Put n at bytes ends in
+    let it = put_step w n at (record { bytes = bytes; ends = ends }) in
+    let kept = each_step_keeps_lawful w it.world b g step it.reply lawful (inl (refl, refl)) in
+    let plain = replies_plainly w it.world b g step it.reply lawful (inl (refl, refl)) in (
+      subst (λ (c : Books). Lawful (set_node w n (put_node (node_at w n) at (record { bytes = bytes; ends = ends }))) c (routes_after w g step (replies.Put (put_number (node_at w n) at)))) (put_written w b n at bytes ends) (subst (λ (e : Effect). Lawful e.world (advance w b step e.reply) (routes_after w g step e.reply)) done kept),
+      (subst (λ (e : Effect). Plain b step e.reply (advance w b step e.reply)) done plain).0,
+    )

@@ -1,0 +1,5 @@
+use Rattle.ipcz_rule.proofs.Opening.{opens}
+use Rattle.ipcz_rule.proofs.kinds.an_open_keeps_the_rule.Goals as goal
+
+pub returns : goal.returns
+returns c = opens

@@ -1,0 +1,40 @@
+-- The table at the end: the world that all nodes' parts, the words and the slots come back to.
+use Rattle.std.specs.Prelude.{◌≡◌, ℕ, List, [], ◌∷◌, map, length}
+use mathlib.Core.Option.{some}
+use lib.ListN.{get_elem?}
+use Rattle.ipcz_node.specs.Node.{Node}
+use Rattle.ipcz_world.specs.World.{World}
+use Rattle.ipcz_world.specs.Books.{Books}
+use Rattle.ipcz_world.specs.Routes.{Routes, hand_of}
+use Rattle.ipcz_world.specs.Lawful.{Lawful}
+use Rattle.ipcz_rule.specs.declared.view.View.{View}
+use Rattle.ipcz_rule.specs.declared.view.Part.{Part}
+use Rattle.ipcz_rule.specs.Rule.{St, Shows, Joined}
+
+-- a view of these parts
+abbrev pub view_of : List Part → View
+view_of ps = record { parts = ps; seen = [] }
+
+-- the states of the nodes that parts are of
+abbrev pub states_of : List Part → List Node
+states_of ps = map (λ p. p.state) ps
+
+-- the parts are those of so many nodes, in their order
+pub record AreAll (count : ℕ) (ps : List Part) : Type 0 where
+  pub many : length ps ≡ count
+  pub ordered : (k : ℕ) (p : Part) → get_elem? ps k ≡ some p → p.node ≡ k
+
+-- the world that was shown when the table of so many nodes and words came to its end: its nodes are those of the parts, each with the
+-- message in its hand, it is what words, slots and a view of these parts showed, and it is lawful with the books that the parts keep
+pub record IsShown (count size : ℕ) (ps : List Part) (w : World) : Type 0 where
+  pub nodes : w.nodes ≡ states_of ps
+  pub count_is : w.count ≡ count
+  pub size_is : w.size ≡ size
+  pub hands : (k : ℕ) (p : Part) → get_elem? ps k ≡ some p → hand_of w k p.state.hand ≡ p.message
+  pub table : St
+  pub owner : ℕ → ℕ
+  pub shows : Shows table w owner
+  pub books : Books
+  pub routes : Routes
+  pub joined : Joined (view_of ps ∷ []) books
+  pub lawful : Lawful w books routes

@@ -1,0 +1,171 @@
+-- The kinds of atomic step of a seat with one node: what each needs of the node, and what it leaves of the seat. Each keeps the rule.
+-- In each the seat is `id`, the table has so many slots, and `i` is the word. What a step tells that may find its word changed is by a test of
+-- the number found: where it fails the step was a load.
+use Rattle.std.specs.Prelude.{◌≡◌, ◌<◌, ◌+◌, ◌*◌, ◌-◌, ℕ, Bool, true, false, eqb, List, [], ◌∷◌, ◌++◌, Some, None, MatchBool, bit_and, bit_or}
+use prog.Atomic.{either}
+use Rattle.atomic_table.specs.Table.{Allows, Joins}
+use Rattle.ipcz_base.specs.declared.end.End.{End}
+use Rattle.ipcz_base.specs.declared.message.Message.{Message}
+use Rattle.ipcz_base.specs.declared.parcel.Parcel as parcels
+use Rattle.ipcz_base.specs.Sides.{opposite}
+use Rattle.ipcz_word.specs.Word.{Plan, Refuses, plan_of, open_word}
+use Rattle.ipcz_word.specs.Layout.{bits_of, word_of_bits, stable_bit, waiting_bit, locked_bit}
+use Rattle.ipcz_router.specs.Router.{Router, primary_word}
+use Rattle.ipcz_router.specs.declared.act.RouterAct.{RouterAct}
+use Rattle.ipcz_router.specs.declared.act.RouterAct.TheVariants as router_acts
+use Rattle.ipcz_router.specs.declared.act.Answer.TheVariants as answers
+use Rattle.ipcz_node.specs.declared.act.Act.{Act}
+use Rattle.ipcz_node.specs.declared.act.Act.TheVariants as acts
+use Rattle.ipcz_node.specs.Acts.{first_of, has_mail_for, post_of, act_lacks_serials}
+use Rattle.ipcz_node.specs.RoomyNodes.{IsPossibleAct}
+use Rattle.ipcz_node.specs.Calls.{put_refusal, get_refusal, got_at, close_refusal, serials_refusal}
+use Rattle.ipcz_node.specs.Hands.{message_lacks_serials}
+use Rattle.ipcz_world.specs.WordAnswers.{word_after}
+use Rattle.ipcz_rule.specs.declared.view.View.{View}
+use Rattle.ipcz_rule.specs.declared.view.Part.{Part}
+use Rattle.ipcz_rule.specs.Rule.{Slot, Mine, Rules, has_number, with_part, saw}
+use Rattle.ipcz_rule.specs.Steps.{put_part, get_part, close_part, claimed_part, open_part, act_part, acted_view, CanAct, is_touch, is_touch_act}
+use Rattle.ipcz_rule.specs.Steps.{probe_part, unprobe_part, post_part, look_part, hand_part}
+
+-- a load of any word
+abbrev pub Loads : Type 0
+Loads = (count size slots id i : ℕ) (m : Mine) (p : Part) → m.0.parts ≡ p ∷ [] → Allows (Rules count size) slots id m i (λ n. n) (λ n m'. m' ≡ (saw i n m.0, m.1))
+
+-- touch, of a put
+abbrev pub Puts : Type 0
+Puts = (count size slots id i : ℕ) (m : Mine) (p : Part) (at : End) (bytes : List ℕ) (ends : List End) → m.0.parts ≡ p ∷ [] → put_refusal p.state at bytes ends ≡ None →
+    Allows (Rules count size) slots id m i (λ n. n) (λ n m'. m' ≡ (with_part (put_part at bytes ends p) m.0, m.1))
+
+-- touch, of a get
+abbrev pub Gets : Type 0
+Gets = (count size slots id i : ℕ) (m : Mine) (p : Part) (at : End) (number : ℕ) (q : parcels.Parcel) → m.0.parts ≡ p ∷ [] → get_refusal p.state at ≡ None → got_at p.state at ≡ Some (number, q) →
+    Allows (Rules count size) slots id m i (λ n. n) (λ n m'. m' ≡ (with_part (get_part at number q p) m.0, m.1))
+
+-- touch, of a close
+abbrev pub Closes : Type 0
+Closes = (count size slots id i : ℕ) (m : Mine) (p : Part) (at : End) → m.0.parts ≡ p ∷ [] → close_refusal p.state at ≡ None →
+    Allows (Rules count size) slots id m i (λ n. n) (λ n m'. m' ≡ (with_part (close_part at p) m.0, m.1))
+
+-- touch, of a close that is pending
+abbrev pub PendingCloses : Type 0
+PendingCloses = (count size slots id i : ℕ) (m : Mine) (p : Part) (e : End) → m.0.parts ≡ p ∷ [] → first_of p.state.pending ≡ Some e →
+    Allows (Rules count size) slots id m i (λ n. n) (λ n m'. m' ≡ (with_part (act_part (acts.Close e) answers.Plain p) m.0, m.1))
+
+-- touch, of an act of a router: send, discard, finish, leave, begin, rest
+abbrev pub Touches : Type 0
+Touches = (count size slots id i : ℕ) (m : Mine) (p : Part) (serial : ℕ) (r : Router) (act : RouterAct) → m.0.parts ≡ p ∷ [] → CanAct p.state serial r act → is_touch act ≡ true →
+    Allows (Rules count size) slots id m i (λ n. n) (λ n m'. m' ≡ (with_part (act_part (acts.Router serial act) answers.Plain p) m.0, m.1))
+
+-- touch, of any of these acts
+abbrev pub TouchActs : Type 0
+TouchActs = (count size slots id i : ℕ) (m : Mine) (p : Part) (act : Act) → m.0.parts ≡ p ∷ [] → is_touch_act act ≡ true → IsPossibleAct p.state act → act_lacks_serials p.state act ≡ false →
+    Allows (Rules count size) slots id m i (λ n. n) (λ n m'. m' ≡ (with_part (act_part act answers.Plain p) m.0, m.1))
+
+-- what an act of a router leaves of the seat where the test holds of the number found; else the step was a load
+abbrev pub Acted : ℕ → ℕ → Router → RouterAct → (ℕ → Bool) → Mine → Part → ℕ → Mine → Type 0
+Acted i serial r act hit m p n m' = MatchBool (hit n) (m' ≡ (acted_view i n serial r.end.side act p m.0, m.1)) (m' ≡ (saw i n m.0, m.1))
+
+-- mark
+abbrev pub Marks : Type 0
+Marks = (count size slots id i : ℕ) (m : Mine) (p : Part) (serial : ℕ) (r : Router) → m.0.parts ≡ p ∷ [] → CanAct p.state serial r router_acts.Mark → primary_word r ≡ Some i →
+    Allows (Rules count size) slots id m i (λ n. bit_or n (stable_bit r.end.side)) (λ n m'. m' ≡ (acted_view i n serial r.end.side router_acts.Mark p m.0, m.1))
+
+-- wake
+abbrev pub Wakes : Type 0
+Wakes = (count size slots id i : ℕ) (m : Mine) (p : Part) (serial : ℕ) (r : Router) → m.0.parts ≡ p ∷ [] → CanAct p.state serial r router_acts.Wake → primary_word r ≡ Some i →
+    Allows (Rules count size) slots id m i (λ n. bit_and n (18446744073709551615 - waiting_bit (opposite r.end.side)))
+    (λ n m'. m' ≡ (acted_view i n serial r.end.side router_acts.Wake p m.0, m.1))
+
+-- unlock
+abbrev pub Unlocks : Type 0
+Unlocks = (count size slots id i : ℕ) (m : Mine) (p : Part) (serial : ℕ) (r : Router) → m.0.parts ≡ p ∷ [] → CanAct p.state serial r router_acts.Unlock → primary_word r ≡ Some i →
+    Allows (Rules count size) slots id m i (λ n. bit_and n (18446744073709551615 - locked_bit r.end.side))
+    (λ n m'. m' ≡ (acted_view i n serial r.end.side router_acts.Unlock p m.0, m.1))
+
+-- lock or wait: the word is exchanged for that after the plan, where it is what was found before
+abbrev pub TriesLock : Type 0
+TriesLock = (count size slots id i old : ℕ) (m : Mine) (p : Part) (serial : ℕ) (r : Router) → m.0.parts ≡ p ∷ [] → CanAct p.state serial r router_acts.Lock → primary_word r ≡ Some i →
+    Allows (Rules count size) slots id m i (λ n. either (eqb n old) (bits_of (word_after (word_of_bits old) r.end.side router_acts.Lock)) n)
+    (Acted i serial r router_acts.Lock (λ n. eqb n old) m p)
+
+-- whether a plan is that the lock is refused
+abbrev pub is_refusal : Plan → Bool
+is_refusal Refuses = true
+is_refusal other = false
+
+-- a load of a link's word by a router that wants its lock: where the plan is Refused it is the lock's refusal
+abbrev pub LoadsForLock : Type 0
+LoadsForLock = (count size slots id i : ℕ) (m : Mine) (p : Part) (serial : ℕ) (r : Router) → m.0.parts ≡ p ∷ [] → CanAct p.state serial r router_acts.Lock → primary_word r ≡ Some i →
+    Allows (Rules count size) slots id m i (λ n. n) (Acted i serial r router_acts.Lock (λ n. is_refusal (plan_of (word_of_bits n) r.end.side)) m p)
+
+-- a load of the claim count by a proxy that wants a word: where it finds that each was claimed it is the claim's NoWord
+abbrev pub LoadsForClaim : Type 0
+LoadsForClaim = (count size slots id : ℕ) (m : Mine) (p : Part) (serial : ℕ) (r : Router) → m.0.parts ≡ p ∷ [] → CanAct p.state serial r router_acts.Claim →
+    Allows (Rules count size) slots id m size (λ n. n)
+    (λ n m'. MatchBool (eqb n size) (m' ≡ (with_part (act_part (acts.Router serial router_acts.Claim) answers.NoWord p) (saw size n m.0), m.1)) (m' ≡ (saw size n m.0, m.1)))
+
+-- claim: the count is exchanged for the next, where it is what was found before
+abbrev pub Claims : Type 0
+Claims = (count size slots id c : ℕ) (m : Mine) (p : Part) (serial : ℕ) (r : Router) → m.0.parts ≡ p ∷ [] → CanAct p.state serial r router_acts.Claim → c < size →
+    Allows (Rules count size) slots id m size (λ n. either (eqb n c) (c + 1) n)
+    (λ n m'. MatchBool (eqb n c) (m' ≡ (with_part (act_part (acts.Router serial router_acts.Claim) (answers.Claimed c) p) (saw size n m.0), m.1)) (m' ≡ (saw size n m.0, m.1)))
+
+-- the first half of an open: a claim for it
+abbrev pub ClaimsForOpen : Type 0
+ClaimsForOpen = (count size slots id c : ℕ) (m : Mine) (p : Part) → m.0.parts ≡ p ∷ [] → p.state.opening ≡ None → c < size →
+    Allows (Rules count size) slots id m size (λ n. either (eqb n c) (c + 1) n)
+    (λ n m'. MatchBool (eqb n c) (m' ≡ (with_part (claimed_part c p) (saw size n m.0), m.1)) (m' ≡ (saw size n m.0, m.1)))
+
+-- open: the word that was claimed for it goes from 0 to that of an open pair; it is 0 as long as the open is under way
+abbrev pub Opens : Type 0
+Opens = (count size slots id i : ℕ) (m : Mine) (p : Part) → m.0.parts ≡ p ∷ [] → p.state.opening ≡ Some i → serials_refusal p.state ≡ None →
+    Allows (Rules count size) slots id m i (λ n. either (eqb n 0) (bits_of open_word) n)
+    (λ n m'. (n ≡ 0) × (m' ≡ (with_part (open_part i p) (saw i n m.0), m.1)))
+
+-- probe: the slot of an empty mailbox is taken, and its word is 3
+abbrev pub Probes : Type 0
+Probes = (count size slots id i k to : ℕ) (m : Mine) (p : Part) → m.0.parts ≡ p ∷ [] → k ≡ p.node * count + to → i ≡ size + 1 + count + k → to < count →
+    Allows (Rules count size) slots id m i (λ n. either (eqb n 0) 3 n)
+    (λ n m'. MatchBool (eqb n 0) (m' ≡ (with_part (probe_part to p) (saw i n m.0), (k, None) ∷ m.1)) (m' ≡ (saw i n m.0, m.1)))
+
+-- a probed mailbox is given back
+abbrev pub Unprobes : Type 0
+Unprobes = (count size slots id i k to : ℕ) (m : Mine) (p : Part) (rest : List (ℕ × Slot)) → m.0.parts ≡ p ∷ [] → k ≡ p.node * count + to → i ≡ size + 1 + count + k → to < count →
+    has_number p.probed to ≡ true → m.1 ≡ (k, None) ∷ rest →
+    Allows (Rules count size) slots id m i (λ n. 0) (λ n m'. m' ≡ (with_part (unprobe_part to p) m.0, rest))
+
+-- post: the message leaves the outbox, and the slot goes home with it
+abbrev pub Posts : Type 0
+Posts = (count size slots id i k to : ℕ) (m : Mine) (p : Part) (x : Message) (rest : List (ℕ × Slot)) → m.0.parts ≡ p ∷ [] → k ≡ p.node * count + to → i ≡ size + 1 + count + k → to < count →
+    has_number p.probed to ≡ true → has_mail_for p.state to ≡ true → post_of p.state (acts.Post to) ≡ Some x → m.1 ≡ (k, Some x) ∷ rest →
+    Allows (Rules count size) slots id m i (λ n. 1) (λ n m'. m' ≡ (with_part (post_part to p) m.0, rest))
+
+-- look: where the mailbox is full its message is taken into the hand
+abbrev pub Looks : Type 0
+Looks = (count size slots id i k from : ℕ) (m : Mine) (p : Part) → m.0.parts ≡ p ∷ [] → k ≡ from * count + p.node → i ≡ size + 1 + count + k → from < count → p.state.hand ≡ None →
+    Allows (Rules count size) slots id m i (λ n. either (eqb n 1) 2 n)
+    (λ n m'. MatchBool (eqb n 1) ((x : Message) × (m' ≡ (with_part (look_part from x p) (saw i n m.0), (k, Some x) ∷ m.1))) (m' ≡ (saw i n m.0, m.1)))
+
+-- handle: the message in hand is handled, and its slot goes home empty
+abbrev pub Hands : Type 0
+Hands = (count size slots id i k from : ℕ) (m : Mine) (p : Part) (x : Message) (rest : List (ℕ × Slot)) → m.0.parts ≡ p ∷ [] → k ≡ from * count + p.node → i ≡ size + 1 + count + k →
+    p.state.hand ≡ Some from → p.message ≡ Some x → message_lacks_serials p.state from x ≡ false → m.1 ≡ (k, None) ∷ rest →
+    Allows (Rules count size) slots id m i (λ n. 0) (λ n m'. m' ≡ (with_part (hand_part from x p) m.0, rest))
+
+-- the slot of the message in hand is given back, while the message stays in hand: a load
+abbrev pub GivesBack : Type 0
+GivesBack = (count size slots id i k from : ℕ) (m : Mine) (p : Part) (s : Slot) (rest : List (ℕ × Slot)) → m.0.parts ≡ p ∷ [] → k ≡ from * count + p.node → i ≡ size + 1 + count + k →
+    p.state.hand ≡ Some from → m.1 ≡ (k, s) ∷ rest →
+    Allows (Rules count size) slots id m i (λ n. n) (λ n m'. m' ≡ (saw i n m.0, rest))
+
+-- a view that has the parts of two
+abbrev pub together : View → View → View
+together v w = record { parts = v.parts ++ w.parts; seen = v.seen }
+
+-- a view that says nothing
+abbrev pub spent : View
+spent = record { parts = []; seen = [] }
+
+-- join: a seat takes in the parts of another
+abbrev pub JoinsParts : Type 0
+JoinsParts = (count size id : ℕ) (v : View) (other : ℕ) (w : View) → Joins (Rules count size) id v other w (together v w) spent

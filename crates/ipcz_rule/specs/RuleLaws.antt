@@ -1,0 +1,81 @@
+-- What the rule says of the world that is shown and of each part, as functions promise it.
+use Rattle.std.specs.Prelude.{◌≡◌, ◌≢◌, ◌<◌, ◌+◌, ◌*◌, ℕ, true, false, List, [], Some, slice_index}
+use mathlib.Core.Option.{some}
+use lib.ListN.{get_elem?}
+use Rattle.ipcz_base.specs.declared.end.End.{End}
+use Rattle.ipcz_base.specs.declared.item.Item.{Item}
+use Rattle.ipcz_base.specs.declared.item.Item.TheVariants.{Parcel}
+use Rattle.ipcz_base.specs.declared.parcel.Parcel as parcels
+use Rattle.ipcz_base.specs.declared.message.Message.{Message}
+use Rattle.ipcz_base.specs.Ends.{opposite_end}
+use Rattle.ipcz_word.specs.Layout.{IsWord}
+use Rattle.ipcz_router.specs.Router.{Router}
+use Rattle.ipcz_node.specs.Node.{Node, router_in}
+use Rattle.ipcz_node.specs.Acts.{is_quiet}
+use Rattle.ipcz_node.specs.Hands.{is_unfit}
+use Rattle.ipcz_world.specs.Laws.{LengthLaw, StrayLaw, is_flush}
+use Rattle.ipcz_world.specs.Lawful.{Headline}
+use Rattle.ipcz_world.specs.Owed.{Owed, IsDirect, HasNoProxies}
+use Rattle.ipcz_world.specs.Routes.{is_opened}
+use Rattle.ipcz_world.specs.Settling.{IsQuiet}
+use Rattle.ipcz_world.specs.Soundness.{HasLengths, IsSound}
+use Rattle.ipcz_rule.specs.declared.view.View.{View}
+use Rattle.ipcz_rule.specs.declared.view.Part.{Part}
+use Rattle.ipcz_rule.specs.Rule.{St, Rules, InParts, puts_of, gets_of}
+
+-- the sentence holds of the shown world with the joined books; its link lengths agree, and no message but a Flush finds its router gone
+abbrev pub RuleGivesHeadline : Type 0
+RuleGivesHeadline = (count size : ℕ) (s : St) (r : Rules count size s) → Headline r.world r.books r.routes × LengthLaw r.world × StrayLaw r.world
+
+-- a router of the shown world that could act is flagged, flags agree, and an unknown length is under way
+abbrev pub RuleOwes : Type 0
+RuleOwes = (count size : ℕ) (s : St) (r : Rules count size s) → Owed r.world
+
+-- the shown world's lists are as long as its numbers say
+abbrev pub ShownHasLengths : Type 0
+ShownHasLengths = (count size : ℕ) (s : St) (r : Rules count size s) → HasLengths r.world
+
+-- each part is that of a node of the table, which is sound and has no strays
+abbrev pub PartsAreSound : Type 0
+PartsAreSound = (count size : ℕ) (s : St) (r : Rules count size s) (id : ℕ) (v : View) (j : ℕ) (p : Part) → get_elem? s.views id ≡ some v → get_elem? v.parts j ≡ some p →
+    (p.node < count) × IsSound count size p.node p.state × (p.state.strays ≡ [])
+
+-- the message in a node's hand fits there, but a Flush may find its router gone
+abbrev pub PartsHandsFit : Type 0
+PartsHandsFit = (count size : ℕ) (s : St) (r : Rules count size s) (id : ℕ) (v : View) (j : ℕ) (p : Part) (from : ℕ) (x : Message) → get_elem? s.views id ≡ some v → get_elem? v.parts j ≡ some p →
+    p.state.hand ≡ Some from → p.message ≡ Some x → is_unfit p.state from x ≡ true → is_flush x ≡ true
+
+-- what stands at a link is a link word
+abbrev pub LinksAreWords : Type 0
+LinksAreWords = (count size : ℕ) (s : St) (r : Rules count size s) (i : ℕ) → i < size → IsWord (slice_index s.words i)
+
+-- the views say of each number that an end has put at most one item
+abbrev pub PutsAreOnce : Type 0
+PutsAreOnce = (count size : ℕ) (s : St) → Rules count size s → (e : End) (n : ℕ) (x y : Item) → InParts s.views puts_of ((e, n), x) → InParts s.views puts_of ((e, n), y) → x ≡ y
+
+-- what a portal has got under a number is what its peer has put under it, and it has got all numbers before
+abbrev pub GetsFollowPuts : Type 0
+GetsFollowPuts = (count size : ℕ) (s : St) → Rules count size s → (e : End) (n : ℕ) (q : parcels.Parcel) → InParts s.views gets_of ((e, n), q) →
+    InParts s.views puts_of ((opposite_end e, n), Parcel q) × ((k : ℕ) → k < n → (p : parcels.Parcel) × InParts s.views gets_of ((e, k), p))
+
+-- each node of the table has a part in a view, of which this holds
+abbrev pub EachNode : List View → ℕ → (Part → Type 0) → Type 0
+EachNode views count P =
+    (n : ℕ) → n < count → (id : ℕ) × (v : View) × (j : ℕ) × (p : Part) × (get_elem? views id ≡ some v) × (get_elem? v.parts j ≡ some p) × (p.node ≡ n) × P p
+
+-- where each node is quiet by its part, and no mailbox is full, the shown world is quiet
+abbrev pub QuietPartsShowQuiet : Type 0
+QuietPartsShowQuiet = (count size : ℕ) (s : St) (r : Rules count size s) → EachNode s.views count (λ p. is_quiet p.state ≡ true) →
+    ((k : ℕ) → k < count * count → slice_index s.words (size + 1 + count + k) ≢ 1) → IsQuiet r.world
+
+-- a node has nothing to do, and none of its routers has found the words used up
+pub record IsSettled (n : Node) : Type 0 where
+  pub quiet : is_quiet n ≡ true
+  pub wet : (serial : ℕ) (r : Router) → router_in n serial ≡ Some r → r.dry ≡ false
+
+-- where that holds of each node by its part, and no mailbox is full, the shown world has no proxy, and each open pair in it is direct: two
+-- terminals on one free link, and all that was put has come
+abbrev pub SettledPartsAreDirect : Type 0
+SettledPartsAreDirect = (count size : ℕ) (s : St) (r : Rules count size s) → EachNode s.views count (λ p. IsSettled p.state) →
+    ((k : ℕ) → k < count * count → slice_index s.words (size + 1 + count + k) ≢ 1) →
+    HasNoProxies r.world × ((pair : ℕ) → is_opened r.routes pair ≡ true → IsDirect r.world r.books pair)

@@ -1,0 +1,120 @@
+//! The kinds of atomic step of a seat with one node (specs/Kinds). Each function does nothing: its contract says that the step keeps the
+//! rule of the table, and what it leaves of its seat.
+
+ghost use Rattle.ipcz_rule.specs.Kinds.{Loads, Puts, Gets, Closes, PendingCloses, Touches, TouchActs, Marks, Wakes, Unlocks, TriesLock, LoadsForLock};
+ghost use Rattle.ipcz_rule.specs.Kinds.{LoadsForClaim, Claims, ClaimsForOpen, Opens, Probes, Unprobes, Posts, Looks, Hands, GivesBack, JoinsParts};
+
+/// A load of any word changes nothing but what was seen.
+pub fn a_load_keeps_the_rule()
+    ensures { Loads }
+{}
+
+/// A touch is a put that the node doesn't refuse: the node's part gains the item under its number.
+pub fn a_put_keeps_the_rule()
+    ensures { Puts }
+{}
+
+/// A touch is a get that gives a parcel: the part gains it under its number.
+pub fn a_get_keeps_the_rule()
+    ensures { Gets }
+{}
+
+/// A touch is a close: the part gains the mark.
+pub fn a_close_keeps_the_rule()
+    ensures { Closes }
+{}
+
+/// A touch is a close that is pending.
+pub fn a_pending_close_keeps_the_rule()
+    ensures { PendingCloses }
+{}
+
+/// A touch is an act of a router that asks no word: a send, a discard, a finish, a leave, a begin, a rest.
+pub fn an_act_of_a_router_keeps_the_rule()
+    ensures { Touches }
+{}
+
+/// A touch is any possible act of the node that asks no word and no mailbox.
+pub fn a_touch_keeps_the_rule()
+    ensures { TouchActs }
+{}
+
+/// A mark of the own side.
+pub fn a_mark_keeps_the_rule()
+    ensures { Marks }
+{}
+
+/// A wake of the other side.
+pub fn a_wake_keeps_the_rule()
+    ensures { Wakes }
+{}
+
+/// An unlock.
+pub fn an_unlock_keeps_the_rule()
+    ensures { Unlocks }
+{}
+
+/// A lock or a wait: an exchange, which is a load where the word has changed.
+pub fn a_try_for_the_lock_keeps_the_rule()
+    ensures { TriesLock }
+{}
+
+/// A load before the try for a lock: where the lock is refused that is the router's answer.
+pub fn a_load_for_the_lock_keeps_the_rule()
+    ensures { LoadsForLock }
+{}
+
+/// A load before a claim: where each word was claimed that is the router's answer.
+pub fn a_load_for_a_claim_keeps_the_rule()
+    ensures { LoadsForClaim }
+{}
+
+/// A claim of a proxy's spare.
+pub fn a_claim_keeps_the_rule()
+    ensures { Claims }
+{}
+
+/// The first half of an open.
+pub fn a_claim_for_an_open_keeps_the_rule()
+    ensures { ClaimsForOpen }
+{}
+
+/// An open, which finds its word empty.
+pub fn an_open_keeps_the_rule()
+    ensures { Opens }
+{}
+
+/// A probe takes the slot of an empty mailbox.
+pub fn a_probe_keeps_the_rule()
+    ensures { Probes }
+{}
+
+/// A probed mailbox is given back.
+pub fn an_unprobe_keeps_the_rule()
+    ensures { Unprobes }
+{}
+
+/// A post: the first message of an outbox goes home with the slot.
+pub fn a_post_keeps_the_rule()
+    ensures { Posts }
+{}
+
+/// A look takes the message of a full mailbox into the hand.
+pub fn a_look_keeps_the_rule()
+    ensures { Looks }
+{}
+
+/// The message in hand is handled, and its slot goes home empty.
+pub fn a_hand_keeps_the_rule()
+    ensures { Hands }
+{}
+
+/// The slot of the message in hand goes home, while the message stays in hand.
+pub fn giving_a_slot_back_keeps_the_rule()
+    ensures { GivesBack }
+{}
+
+/// A seat takes in the parts of another.
+pub fn a_join_keeps_the_rule()
+    ensures { JoinsParts }
+{}

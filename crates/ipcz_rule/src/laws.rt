@@ -1,0 +1,57 @@
+//! What the rule of the table says (specs/RuleLaws). Each function does nothing: its contract is the law.
+
+ghost use Rattle.ipcz_rule.specs.RuleLaws.{RuleGivesHeadline, RuleOwes, ShownHasLengths, PartsAreSound, PartsHandsFit, LinksAreWords};
+ghost use Rattle.ipcz_rule.specs.RuleLaws.{PutsAreOnce, GetsFollowPuts, QuietPartsShowQuiet, SettledPartsAreDirect};
+
+/// Where the rule holds, the world that words, slots and views show has each portal's gets a prefix of its peer's puts, each item that was
+/// neither got nor dropped in one place, locks and words in order, link lengths that agree, and no message but a Flush whose router is gone.
+pub fn what_is_shown_gives_the_headline()
+    ensures { RuleGivesHeadline }
+{}
+
+/// Where the rule holds, a router with a possible act is flagged.
+pub fn what_is_shown_owes_what_waits()
+    ensures { RuleOwes }
+{}
+
+/// Where the rule holds, the shown world has a node for each number below its count, a word for each link, a mailbox for each two nodes.
+pub fn what_is_shown_has_its_lengths()
+    ensures { ShownHasLengths }
+{}
+
+/// Each part is that of a node of the table; the words that the node names are link words of the table, and it has no strays.
+pub fn each_part_is_of_a_sound_node()
+    ensures { PartsAreSound }
+{}
+
+/// A message in a node's hand fits there; only a Flush may find its router gone.
+pub fn each_message_in_hand_fits_its_part()
+    ensures { PartsHandsFit }
+{}
+
+/// What stands at a link is a link word.
+pub fn each_link_has_a_link_word()
+    ensures { LinksAreWords }
+{}
+
+/// The views say of each number of an end at most one item that was put under it.
+pub fn each_number_is_put_once()
+    ensures { PutsAreOnce }
+{}
+
+/// What a portal has got under a number is what its peer has put under it, and it has got all numbers before: so each portal's gets in the
+/// views are a prefix of its peer's puts.
+pub fn gets_follow_puts()
+    ensures { GetsFollowPuts }
+{}
+
+/// Where each node is quiet by its part and no mailbox is full, the shown world is quiet.
+pub fn quiet_parts_show_a_quiet_world()
+    ensures { QuietPartsShowQuiet }
+{}
+
+/// Where each node is quiet by its part with no router that lacks a word, and no mailbox is full, the shown world has no proxy, and each
+/// open pair in it is direct: two terminals on one free link, and all that was put has come.
+pub fn settled_parts_are_direct()
+    ensures { SettledPartsAreDirect }
+{}

@@ -1,0 +1,12 @@
+-- The rank: what each act makes of it.
+pub mod RouterWorths
+pub mod NodeWorths
+pub mod NodeHands
+pub mod NodeActs
+pub mod WorldRanks
+pub mod Paying
+pub mod Rating
+pub mod Turning
+pub mod Ordering
+pub mod Unused
+pub mod Settling
