@@ -1,4 +1,4 @@
--- Runs of steps: which replies they get, and what they keep, whatever the books and the routes are.
+-- Runs of steps and of visits: which replies they get, and what they keep, whatever the books and the routes are.
 use Rattle.std.specs.Prelude.{◌≡◌, ℕ, Bool, true, false, List, [], ◌∷◌}
 use Rattle.ipcz_world.specs.declared.step.Step.{Step}
 use Rattle.ipcz_world.specs.declared.step.Step.TheVariants.{Turn}
@@ -33,19 +33,14 @@ Leads w b g (step ∷ steps) (reply ∷ replies) v =
 abbrev pub KeepsLaw : World → List Step → List Reply → World → Type 0
 KeepsLaw w steps replies v = (b : Books) (g : Routes) → Lawful w b g → Leads w b g steps replies v
 
--- the turns that visits from a node on take
+-- the turns that visits from a node on take, as steps
 abbrev pub turns_of : (n : ℕ) (visits : List Bool) (w v : World) → AreVisits n visits w v → List Step
 turns_of n [] w v same = []
 turns_of n (true ∷ visits) w v (has, (u, (event, takes), rest)) = Turn n ∷ turns_of (next_node w n) visits u v rest
 turns_of n (false ∷ visits) w v (idle, rest) = turns_of (next_node w n) visits w v rest
 
--- and their replies, what each is seen to do
+-- and their replies: what each turn is seen to do
 abbrev pub replies_of : (n : ℕ) (visits : List Bool) (w v : World) → AreVisits n visits w v → List Reply
 replies_of n [] w v same = []
 replies_of n (true ∷ visits) w v (has, (u, (event, takes), rest)) = Turned event ∷ replies_of (next_node w n) visits u v rest
 replies_of n (false ∷ visits) w v (idle, rest) = replies_of (next_node w n) visits w v rest
-
--- whatever visits lead from the one world to the other, their very turns, with the replies that they get, keep the law
-abbrev pub KeepsLawByVisits : World → World → Type 0
-KeepsLawByVisits w v =
-    (visits : List Bool) (turns : AreVisits 0 visits w v) → KeepsLaw w (turns_of 0 visits w v turns) (replies_of 0 visits w v turns) v

@@ -2,6 +2,7 @@
 use Rattle.std.specs.Prelude.{◌≡◌, ◌≤◌, ◌<◌, ℕ, ◌+◌, ◌*◌, Bool, true, false, not, Some, List, [], ◌∷◌, length, slice_get}
 use Rattle.ipcz_base.specs.declared.end.End.{End}
 use Rattle.ipcz_base.specs.declared.item.Item.{Item}
+use Rattle.ipcz_base.specs.declared.refusal.Refusal.{Refusal}
 use Rattle.ipcz_base.specs.Ends.{opposite_end}
 use Rattle.ipcz_base.specs.Items.{ends_in}
 use Rattle.ipcz_world.specs.declared.step.Settled.{Settled}
@@ -9,7 +10,8 @@ use Rattle.ipcz_world.specs.declared.step.Settled.TheVariants as ends
 use Rattle.ipcz_world.specs.World.{World}
 use Rattle.ipcz_world.specs.Books.{Books, read, is_closed}
 use Rattle.ipcz_world.specs.Routes.{Routes, is_opened}
-use Rattle.ipcz_world.specs.Settling.{AreVisits, act_count, next_node, IsSettle}
+use Rattle.ipcz_world.specs.Settling.{AreVisits, act_count, next_node, IsSettle, IsRefusedSettle}
+use Rattle.ipcz_world.specs.FirstRuns.{KeepsLaw, turns_of, replies_of}
 use Rattle.ipcz_world.specs.Lawful.{Lawful}
 use Rattle.ipcz_world.specs.Owed.{IsWet, IsDirect, HasNoProxies}
 use Rattle.ipcz_world.specs.Ranks.{Rates, worth, rank, IsRated, is_unlock}
@@ -38,11 +40,20 @@ abbrev pub FitsMost : ℕ → ℕ → Settled → Type 0
 FitsMost limit most (ends.Settled after) = after ≤ most
 FitsMost limit most ends.Unsettled = limit < most
 
--- a settle whose answer fits the rank at its start and two for each unlock, for all books with which the world is lawful and all rates that fit
-pub record IsBoundedSettle (limit : ℕ) (w v : World) (answer : Settled) : Type 0 where
+-- a settle whose very turns keep the law, and whose answer fits the rank at its start and two for each unlock: for all books and routes with
+-- which the world is lawful, and all rates that fit
+pub record IsLawfulSettle (limit : ℕ) (w v : World) (answer : Settled) : Type 0 where
   pub settle : IsSettle limit w v answer
+  pub keeps : KeepsLaw w (turns_of 0 settle.visits w v settle.turns) (replies_of 0 settle.visits w v settle.turns) v
   pub most : (b : Books) (g : Routes) (c : Rates) → Lawful w b g → IsRated c b →
       FitsMost limit (rank c w + 2 * unlocks_taken 0 settle.visits w v settle.turns) answer
+
+-- a settle that is refused, whose very turns before the one that is refused keep the law, and are no more than the same number
+pub record IsLawfulRefusal (limit : ℕ) (w v : World) (why : Refusal) : Type 0 where
+  pub settle : IsRefusedSettle limit w v why
+  pub keeps : KeepsLaw w (turns_of 0 settle.visits w v settle.turns) (replies_of 0 settle.visits w v settle.turns) v
+  pub most : (b : Books) (g : Routes) (c : Rates) → Lawful w b g → IsRated c b →
+      act_count settle.visits ≤ rank c w + 2 * unlocks_taken 0 settle.visits w v settle.turns
 
 -- no item that wasn't read carries an end
 abbrev pub CarryNone : Books → Type 0

@@ -9,11 +9,10 @@ ghost use Rattle.ipcz_world.specs.Parts.{world_of_parts};
 ghost use Rattle.ipcz_world.specs.Plain.{Plain};
 ghost use Rattle.ipcz_world.specs.Routes.{Routes, first_routes, routes_after};
 ghost use Rattle.ipcz_world.specs.Steps.{StepFirst};
-ghost use Rattle.ipcz_world.specs.FirstRuns.{AreSteps, KeepsLaw, KeepsLawByVisits};
+ghost use Rattle.ipcz_world.specs.FirstRuns.{AreSteps, KeepsLaw};
 ghost use Rattle.ipcz_world.specs.Turns.{next_at};
 ghost use Rattle.ipcz_world.specs.World.{new_world};
-ghost use Rattle.ipcz_world.specs.SettleBounds.{IsBoundedSettle};
-ghost use Rattle.ipcz_world.specs.Settling.{IsSettle, IsRefusedSettle};
+ghost use Rattle.ipcz_world.specs.SettleBounds.{IsLawfulSettle, IsLawfulRefusal};
 
 use crate::mail::Mail;
 use crate::state::State;
@@ -64,12 +63,7 @@ impl World {
 
     /// The world of these nodes, mailboxes and link words, each by number, with so many words claimed: what nodes on a table of their own
     /// come back to. The caller shows that it is lawful with some books and routes, and that the words' numbers are those of link words.
-    pub fn of_parts(
-        nodes: Vec<NodeState>,
-        mail: Vec<Mail>,
-        words: Vec<u64>,
-        claimed: u32,
-    ) -> World
+    pub fn of_parts(nodes: Vec<NodeState>, mail: Vec<Mail>, words: Vec<u64>, claimed: u32) -> World
         requires words { IsTable words.items claimed }
         requires lawful { IsLawful (world_of_parts (map (λ k. k.node) nodes.items) mail.items (map word_of_bits words.items) claimed) }
         ensures { result ≡ world_of_parts (map (λ k. k.node) nodes.items) mail.items (map word_of_bits words.items) claimed }
@@ -155,15 +149,13 @@ impl World {
     /// Lets the nodes take turns, one node after the other in passes over them, until no node has an act; at most `limit` acts are taken.
     /// Settled, with how many acts were taken, where nothing waits any more; `Unsettled` where `limit` acts were taken and a node still has
     /// one. A node that is idle takes no turn. A limit of the world's rank, and two more for each begin that finds no memory, is enough
-    /// (docs/LAW.md).
+    /// (docs/LAW.md). The turns that were taken keep the law, as steps with what each was seen to do.
     ///
     /// Refused `NumbersEnd` or `OutOfMemory` as the first turn that is refused, of the next node that has an act: the turns before it
     /// stand, and that one changes nothing.
     pub fn settle(&mut self, limit: u64) -> Result<Settled, Refusal>
-        ensures settles { IfOk result (λ answer. IsSettle limit self.old self.new answer) }
-        ensures bounded { IfOk result (λ answer. IsBoundedSettle limit self.old self.new answer) }
-        ensures refused { IfErr result (λ why. IsRefusedSettle limit self.old self.new why) }
-        ensures lawful { KeepsLawByVisits self.old self.new }
+        ensures settles { IfOk result (λ answer. IsLawfulSettle limit self.old self.new answer) }
+        ensures refused { IfErr result (λ why. IsLawfulRefusal limit self.old self.new why) }
     {
         let mut from = 0;
         for acts in 0..limit {

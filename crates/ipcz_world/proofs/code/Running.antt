@@ -10,7 +10,7 @@ use Rattle.ipcz_world.specs.Steps.{StepFirst}
 use Rattle.ipcz_world.specs.Books.{advance}
 use Rattle.ipcz_world.specs.Routes.{Routes, routes_after}
 use Rattle.ipcz_world.specs.Settling.{AreVisits, next_node}
-use Rattle.ipcz_world.specs.FirstRuns.{AreSteps, KeepsLaw, KeepsLawByVisits, Leads, turns_of, replies_of}
+use Rattle.ipcz_world.specs.FirstRuns.{AreSteps, KeepsLaw, Leads, turns_of, replies_of}
 use Rattle.ipcz_world.proofs.code.Kept.{keeps, plainly}
 
 -- no step
@@ -68,7 +68,3 @@ visits-lead n (true ∷ visits) w v (has, (u, (event, s), rest)) = λ b g law. (
       (routes_after w g (Turn n) (replies.Turned event)) (keeps w u (Turn n) (replies.Turned event) s b g law),
 )
 visits-lead n (false ∷ visits) w v (idle, rest) = visits-lead (next_node w n) visits w v rest
-
--- so do those that lead from the first node on
-pub visits-keep : (w v : World) → KeepsLawByVisits w v
-visits-keep w v visits turns = visits-lead 0 visits w v turns

@@ -117,8 +117,8 @@ transfer-router c t to s r e here is =
     let link : LinkEnd = proxy_link (next_link t.node) to in
     let d : Descriptor = descriptor_of r (next_link t.node) in
     let most : worth_left c r.end d.next_out d.next_in ≤ c.price e.pair * (c.cap e + c.cap (opposite_end e)) =
-        subst (λ x. worth_left c r.end d.next_out d.next_in ≤ c.price x.pair * (c.cap x + c.cap (opposite_end x))) is
-        (left-most c r.end d.next_out d.next_in) in
+    subst (λ x. worth_left c r.end d.next_out d.next_in ≤ c.price x.pair * (c.cap x + c.cap (opposite_end x))) is
+    (left-most c r.end d.next_out d.next_in) in
     omega (
       arith,
       most,

@@ -20,7 +20,7 @@ price-step : (most k : ℕ) → price_below most k ≤ price_below most (suc k)
 price-step most zero = omega arith
 price-step most (suc k) =
     let inner : price_below most k * (most + most) ≤ price_below most (suc k) * (most + most) =
-        times-more (price_below most k) (price_below most (suc k)) (most + most) (price-step most k) in
+    times-more (price_below most k) (price_below most (suc k)) (most + most) (price-step most k) in
     omega (arith, more-times most (53 + price_below most k * (most + most)) (53 + price_below most (suc k) * (most + most)) (omega (arith, inner)))
 
 price-more : (most k d : ℕ) → price_below most k ≤ price_below most (k + d)
@@ -39,7 +39,7 @@ module _ (level : ℕ → ℕ) (depth most : ℕ) where
   moves k [] h = omega arith
   moves k (x ∷ xs) h =
       let one : price_below most (depth - level x.pair) * (most + most) ≤ price_below most k * (most + most) =
-          times-more (price_below most (depth - level x.pair)) (price_below most k) (most + most) (price-grows most (depth - level x.pair) k (h 0 x refl)) in
+      times-more (price_below most (depth - level x.pair)) (price_below most k) (most + most) (price-grows most (depth - level x.pair) k (h 0 x refl)) in
       omega (arith, one, moves k xs (λ i d e. h (suc i) d e))
 
   paid : (l : ℕ) (es : List End) → length es ≤ most → (((i : ℕ) (d : End) → slice_get es i ≡ Some d → (l < level d.pair) × (level d.pair ≤ depth))) →
@@ -50,9 +50,9 @@ module _ (level : ℕ → ℕ) (depth most : ℕ) where
       let k : ℕ = depth - suc l in
       let whole : depth - l ≡ suc k = omega (arith, first.0, first.1) in
       let all : moving_worth (ordered_rates level depth most) (x ∷ xs) ≤ length (x ∷ xs) * (53 + price_below most k * (most + most)) =
-          moves k (x ∷ xs) (λ i d e. let t = h i d e in omega (arith, t.0, t.1)) in
+      moves k (x ∷ xs) (λ i d e. let t = h i d e in omega (arith, t.0, t.1)) in
       let bound : length (x ∷ xs) * (53 + price_below most k * (most + most)) ≤ most * (53 + price_below most k * (most + most)) =
-          times-more (length (x ∷ xs)) most (53 + price_below most k * (most + most)) few in
+      times-more (length (x ∷ xs)) most (53 + price_below most k * (most + most)) few in
       subst (λ y. 6 + moving_worth (ordered_rates level depth most) (x ∷ xs) ≤ price_below most y) (sym whole) (omega (arith, all, bound))
 
 pub ordered_are_rated : OrderedAreRated

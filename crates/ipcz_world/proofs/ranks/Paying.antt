@@ -38,8 +38,7 @@ placed w b g k r e n item law l here some =
     (omega (arith, le, some, law.exact e (this n item))) in
     let is = weighs (nat_eq (read b (opposite_end e) + found.0) n && same_item found.1 item) found.3 in
     let number : n ≡ read b (opposite_end e) + found.0 = sym (nat_eq-is (read b (opposite_end e) + found.0) n
-    (and_first (nat_eq (read b (opposite_end e) + found.0) n) (same_item found.1 item) is)) in
-    (
+    (and_first (nat_eq (read b (opposite_end e) + found.0) n) (same_item found.1 item) is)) in (
       omega (arith, number),
       slice_get-drop (read b (opposite_end e)) (b.put e) found.0 n found.1 found.2 number ∙ ap Some
           (same_item-tells found.1 item (and_second (nat_eq (read b (opposite_end e) + found.0) n) (same_item found.1 item) is)),
@@ -55,8 +54,11 @@ can_pay w b g c k r law l here rated = record {
   out = λ item e. pays r.end r.out_queue.current item
       (omega (arith, this-one r.end r.out_queue.current item, in_out_queue (at_end r.end (this r.out_queue.current item)) r r.out_queue.current item e));
   inner = λ item e. pays (opposite_end r.end) r.in_queue.current item
-      (omega (arith, this-one (opposite_end r.end) r.in_queue.current item,
-      in_in_queue (at_end (opposite_end r.end) (this r.in_queue.current item)) r r.in_queue.current item e));
+      (omega (
+        arith,
+        this-one (opposite_end r.end) r.in_queue.current item,
+        in_in_queue (at_end (opposite_end r.end) (this r.in_queue.current item)) r r.in_queue.current item e,
+      ));
 }
   where
     pays : (e : End) (n : ℕ) (item : Item) → 1 ≤ in_router (at_end e (this n item)) r →
@@ -66,5 +68,8 @@ can_pay w b g c k r law l here rated = record {
 
 pub acts_lower_the_rank : ActsLowerTheRank
 unfolding router_at
-acts_lower_the_rank w b g c n act law rated l can up = omega (arith, rank-acted c w n act (λ s r here.
-    can_pay w b law.records c (record { node = n; serial = s }) r law.conserved l here rated) can up)
+acts_lower_the_rank w b g c n act law rated l can up = omega (
+  arith,
+  rank-acted c w n act (λ s r here.
+      can_pay w b law.records c (record { node = n; serial = s }) r law.conserved l here rated) can up,
+)

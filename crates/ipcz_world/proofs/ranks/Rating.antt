@@ -65,7 +65,7 @@ rated-marked c b e law unclosed = record {
         elim (slice_get-last (b.put e) Mark item n at) [
           | inl h ↦ law.pays d n item l (ap (λ x. slice_get (b.put x) n) is ∙ h)
           | inr h ↦ let free : moving_worth c (ends_in item) ≡ 0 = ap (λ x. moving_worth c (ends_in x)) h.1 in
-            omega (arith, free, law.least d.pair)
+              omega (arith, free, law.least d.pair)
         ]
 
 -- an item is dropped
@@ -89,9 +89,9 @@ unclosed-by w b e g law = go (is_closed b e) refl
     go true q =
         let k = marked_at (b.put e) q in
         let put : cond (same_end e e) (b.put e ++ Mark ∷ []) (b.put e) ≡ b.put e ++ Mark ∷ [] =
-            ap (λ t. cond t (b.put e ++ Mark ∷ []) (b.put e)) (same_end-itself e) in
+        ap (λ t. cond t (b.put e ++ Mark ∷ []) (b.put e)) (same_end-itself e) in
         let last : suc k.0 ≡ length (cond (same_end e e) (b.put e ++ Mark ∷ []) (b.put e)) =
-            law.inv.books_kept.mark_last e k.0 (ap (λ xs. slice_get xs k.0) put ∙ slice_get-kept (b.put e) Mark Mark k.0 k.1) in
+        law.inv.books_kept.mark_last e k.0 (ap (λ xs. slice_get xs k.0) put ∙ slice_get-kept (b.put e) Mark Mark k.0 k.1) in
         absurd (omega (arith, last, ap length put, length-more (b.put e) Mark, slice_get_within (b.put e) k.0 Mark k.1))
 
 pub turns_keep_rates : StepKeepsLawful → RepliesPlainly → TurnsKeepRates

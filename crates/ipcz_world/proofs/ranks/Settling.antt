@@ -27,7 +27,7 @@ use Rattle.ipcz_world.specs.Lawful.{Lawful}
 use Rattle.ipcz_world.specs.WorldLaws.{StepKeepsLawful, FirstIsPossible, QuietIsDirect, QuietHasNoProxy}
 use Rattle.ipcz_world.specs.Ranks.{Rates, worth, router_worth, is_unbegun, node_worth, rank, IsRated, is_unlock, uses_up, moving_worth, TurnsKeepRates}
 use Rattle.ipcz_world.specs.SettleBounds.{VisitsAreBounded, UnsettledIsBounded, PlainAreRated, PlainLimitIsEnough}
-use Rattle.ipcz_world.specs.SettleBounds.{IsBoundedSettle, SettledIsDirect, plain_rates}
+use Rattle.ipcz_world.specs.SettleBounds.{FitsMost, unlocks_taken, SettledIsDirect, plain_rates}
 use Rattle.ipcz_base.specs.Items.{ends_in}
 use Rattle.ipcz_world.proofs.facts.Finding.{found_tells}
 use Rattle.ipcz_world.proofs.runs.Choosing.{next_possible}
@@ -226,14 +226,9 @@ settled_is_direct direct proxies limit acts w v b g s law wet =
     (proxies v b g law s.answers.1 wet, λ pair opened. direct v b g pair law s.answers.1 wet opened)
 
 -- the answer of a settle fits its rank
-pub settle_is_bounded : StepKeepsLawful → FirstIsPossible → TurnsKeepRates → (limit : ℕ) (w v : World) (answer : Settled) →
-    IsSettle limit w v answer → IsBoundedSettle limit w v answer
-settle_is_bounded keeps possible rates limit w v (ends.Settled after) s = record {
-  settle = s;
-  most = λ b g c law rated.
-      omega (arith, s.answers.0, visits_are_bounded keeps possible rates 0 s.visits w v b g c law rated s.turns);
-}
-settle_is_bounded keeps possible rates limit w v ends.Unsettled s = record {
-  settle = s;
-  most = λ b g c law rated. unsettled_is_bounded keeps possible rates limit w v b g c law rated s;
-}
+pub answer_fits : StepKeepsLawful → FirstIsPossible → TurnsKeepRates → (limit : ℕ) (w v : World) (answer : Settled) (s : IsSettle limit w v answer)
+    (b : Books) (g : Routes) (c : Rates) → Lawful w b g → IsRated c b →
+    FitsMost limit (rank c w + 2 * unlocks_taken 0 s.visits w v s.turns) answer
+answer_fits keeps possible rates limit w v (ends.Settled after) s b g c law rated =
+    omega (arith, s.answers.0, visits_are_bounded keeps possible rates 0 s.visits w v b g c law rated s.turns)
+answer_fits keeps possible rates limit w v ends.Unsettled s b g c law rated = unsettled_is_bounded keeps possible rates limit w v b g c law rated s

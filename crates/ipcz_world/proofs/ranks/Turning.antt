@@ -57,7 +57,7 @@ unused-at c w n s act (Some r) e may h =
     let a : Answer = answer_of w r act in
     let same : IsSameBut c w (touch w r act) = same-touched c w r act in
     let done : on_router x (router_in x s) (commit_router x s act a) ≡ commit_router x s act a r =
-        ap (λ o. on_router x o (commit_router x s act a)) e in
+    ap (λ o. on_router x o (commit_router x s act a)) e in
     omega (
       arith,
       rank-set_node c (touch w r act) n (on_router x (router_in x s) (commit_router x s act a)),

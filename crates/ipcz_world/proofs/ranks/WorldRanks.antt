@@ -139,7 +139,7 @@ post-lowers c w n to (m ∷ ms) e h k =
     let y : Node = with_outbox (node_at w n) to (rest_of (outbox (node_at w n) to)) in
     let u : World = set_node w n y in
     let fewer : box_worth c (rest_of (outbox (node_at w n) to)) + (message_worth c m + 2) ≤ box_worth c (outbox (node_at w n) to) =
-        rw e (omega arith) in
+    rw e (omega arith) in
     omega (
       arith,
       rank-set_mail c u (way w n to) (mails.Full m),
@@ -221,7 +221,7 @@ router-lowers c w n s act (Some r) e pay may up =
     let same : IsSameBut c w (touch w r act) = same-touched c w r act in
     let done : on_router x (router_in x s) (commit_router x s act a) ≡ commit_router x s act a r = ap (λ o. on_router x o (commit_router x s act a)) e in
     let less : node_worth c (commit_router x s act a r) + 1 ≤ node_worth c x =
-        router-acted c x s r e (pay r e) act a may up (answered w r act may) in
+    router-acted c x s r e (pay r e) act a may up (answered w r act may) in
     omega (
       arith,
       rank-set_node c (touch w r act) n (on_router x (router_in x s) (commit_router x s act a)),

@@ -2,30 +2,40 @@ use Rattle.std.proofs.Common.{◌≡◌, ◌∙◌, ℕ, IfOk, true, false, sym,
 use Rattle.ipcz_world.specs.declared.step.Step.TheVariants.{Turn}
 use Rattle.ipcz_world.specs.Lawfulness.{IsLawful}
 use Rattle.ipcz_world.specs.Steps.{StepFirst}
-use Rattle.ipcz_world.specs.Settling.{IsSettle, next_node}
+use Rattle.ipcz_world.specs.Settling.{IsSettle, IsRefusedSettle, next_node}
 use Rattle.ipcz_world.specs.Visiting.{AreIdle, IsNextBusy}
 use Rattle.ipcz_world.proofs.code.Regular.{lawful-regular}
-use Rattle.ipcz_world.proofs.code.Running.{visits-keep}
+use Rattle.ipcz_world.proofs.code.Running.{visits-lead}
 use Rattle.ipcz_world.proofs.code.Visiting.{OnWay, on_way-turn, settled, unsettled, refused, answers_turn, no-other}
 use Rattle.ipcz_world.proofs.world.World.settle.Goals.{in-None, in-Some-next_busy}
 use Rattle.ipcz_world.proofs.world.World.settle.Goals as goal
-use Rattle.std.proofs.Common.{Result, Ok, Err}
 use Rattle.ipcz_base.specs.declared.refusal.Refusal.{Refusal}
 use Rattle.ipcz_world.specs.World.{World}
 use Rattle.ipcz_world.specs.declared.step.Settled.{Settled}
-use Rattle.ipcz_world.specs.SettleBounds.{IsBoundedSettle}
+use Rattle.ipcz_world.specs.Ranks.{TurnsKeepRates}
+use Rattle.ipcz_world.specs.SettleBounds.{IsLawfulSettle, IsLawfulRefusal}
 use Rattle.ipcz_world.proofs.Whole.{each_step_keeps_lawful, first_acts_are_possible, replies_plainly}
 use Rattle.ipcz_world.proofs.ranks.Rating.{turns_keep_rates}
-use Rattle.ipcz_world.proofs.ranks.Settling.{settle_is_bounded}
+use Rattle.ipcz_world.proofs.ranks.Settling.{answer_fits, visits_are_bounded}
 
--- an answer that is a settle's fits its rank
-bounded : (limit : ℕ) (w v : World) (answer : Settled) → IsSettle limit w v answer → IsBoundedSettle limit w v answer
-bounded = settle_is_bounded each_step_keeps_lawful first_acts_are_possible (turns_keep_rates each_step_keeps_lawful replies_plainly)
+-- what the laws say of the turns of a settle
+rates : TurnsKeepRates
+rates = turns_keep_rates each_step_keeps_lawful replies_plainly
 
-bounded-ok : (limit : ℕ) (w v : World) (r : Result Settled Refusal) → IfOk r (λ answer. IsSettle limit w v answer) →
-    IfOk r (λ answer. IsBoundedSettle limit w v answer)
-bounded-ok limit w v (Ok answer) s = bounded limit w v answer s
-bounded-ok limit w v (Err why) s = s
+lawful : (limit : ℕ) (w v : World) (answer : Settled) → IsSettle limit w v answer → IsLawfulSettle limit w v answer
+lawful limit w v answer s = record {
+  settle = s;
+  keeps = visits-lead 0 s.visits w v s.turns;
+  most = λ b g c law rated. answer_fits each_step_keeps_lawful first_acts_are_possible rates limit w v answer s b g c law rated;
+}
+
+lawful-refused : (limit : ℕ) (w v : World) (why : Refusal) → IsRefusedSettle limit w v why → IsLawfulRefusal limit w v why
+lawful-refused limit w v why s = record {
+  settle = s;
+  keeps = visits-lead 0 s.visits w v s.turns;
+  most = λ b g c law rated.
+      omega (arith, visits_are_bounded each_step_keeps_lawful first_acts_are_possible rates 0 s.visits w v b g c law rated s.turns);
+}
 
 pub next_busy-requires-clause-regular : goal.next_busy-requires-clause-regular
 next_busy-requires-clause-regular c = lawful-regular _ c.self.invariant
@@ -35,16 +45,17 @@ next_busy-requires-2-clause-regular c = lawful-regular _ c.self-2.invariant
 
 pub returns-in_default-clause-settles : goal.returns-in_default-clause-settles
 returns-in_default-clause-settles c =
-    settled c.args.limit c.loop-acts.acts c.loop-acts.from c.args.self.now c.loop-acts.self c.loop-acts.invariant
+    lawful _ _ _ _ (settled c.args.limit c.loop-acts.acts c.loop-acts.from c.args.self.now c.loop-acts.self c.loop-acts.invariant
     (omega (arith, c.loop-acts-test.true))
-    (subst IsLawful c.self.view_is c.self.invariant) (subst (λ v. AreIdle v 0 v.count) c.self.view_is c.in_default.ensures.none)
+    (subst IsLawful c.self.view_is c.self.invariant) (subst (λ v. AreIdle v 0 v.count) c.self.view_is c.in_default.ensures.none))
 
 pub returns-in-Refused-clause-refused : goal.returns-in-Refused-clause-refused
 returns-in-Refused-clause-refused c =
-    refused c.args.limit c.loop-acts.acts c.loop-acts.from c.in-Some.node c.args.self.now c.loop-acts.self c.take_turn.new.self c.in-Refused.why
+    lawful-refused _ _ _ _ (refused c.args.limit c.loop-acts.acts c.loop-acts.from c.in-Some.node c.args.self.now c.loop-acts.self
+    c.take_turn.new.self c.in-Refused.why
     c.loop-acts.invariant
     (omega (arith, c.loop-acts-test.true)) (subst (λ v. IsNextBusy v c.loop-acts.from c.in-Some.node) c.self.view_is c.in-Some.ensures.some)
-    (subst (λ r. StepFirst c.loop-acts.self (Turn c.in-Some.node) r c.take_turn.new.self) c.in-Refused.is c.take_turn.ensures.step)
+    (subst (λ r. StepFirst c.loop-acts.self (Turn c.in-Some.node) r c.take_turn.new.self) c.in-Refused.is c.take_turn.ensures.step))
 
 pub unreachable-requires : goal.unreachable-requires
 unreachable-requires c =
@@ -68,28 +79,13 @@ pub returns-clause-settles : goal.returns-clause-settles
 returns-clause-settles c =
     let all : c.loop-acts.acts ≡ c.args.limit = omega (arith, c.loop-acts.auto.acts-end, c.loop-acts-test.false) in
     elim c.match-next_busy-2.branch [
-      | in-None w ↦ subst (λ r. IfOk r (λ answer. IsSettle c.args.limit c.args.self.now c.loop-acts.self answer)) (sym w.result-is)
-          (settled c.args.limit c.args.limit c.loop-acts.from c.args.self.now c.loop-acts.self
+      | in-None w ↦ subst (λ r. IfOk r (λ answer. IsLawfulSettle c.args.limit c.args.self.now c.loop-acts.self answer)) (sym w.result-is)
+          (lawful _ _ _ _ (settled c.args.limit c.args.limit c.loop-acts.from c.args.self.now c.loop-acts.self
           (subst (λ k. OnWay c.args.self.now k c.loop-acts.self c.loop-acts.from) all c.loop-acts.invariant) (omega arith)
-          (subst IsLawful c.self-2.view_is c.self-2.invariant) (subst (λ v. AreIdle v 0 v.count) c.self-2.view_is w.in-None.ensures.none))
-      | in-Some-next_busy w ↦ subst (λ r. IfOk r (λ answer. IsSettle c.args.limit c.args.self.now c.loop-acts.self answer))
+          (subst IsLawful c.self-2.view_is c.self-2.invariant) (subst (λ v. AreIdle v 0 v.count) c.self-2.view_is w.in-None.ensures.none)))
+      | in-Some-next_busy w ↦ subst (λ r. IfOk r (λ answer. IsLawfulSettle c.args.limit c.args.self.now c.loop-acts.self answer))
           (sym w.result-is)
-          (unsettled c.args.limit c.loop-acts.acts c.loop-acts.from w.in-Some-next_busy.field-0.0 c.args.self.now c.loop-acts.self
+          (lawful _ _ _ _ (unsettled c.args.limit c.loop-acts.acts c.loop-acts.from w.in-Some-next_busy.field-0.0 c.args.self.now c.loop-acts.self
           c.loop-acts.invariant all
-          (subst (λ v. IsNextBusy v c.loop-acts.from w.in-Some-next_busy.field-0.0) c.self-2.view_is w.in-Some-next_busy.ensures.some))
+          (subst (λ v. IsNextBusy v c.loop-acts.from w.in-Some-next_busy.field-0.0) c.self-2.view_is w.in-Some-next_busy.ensures.some)))
     ]
-
-pub returns-in_default-clause-lawful : goal.returns-in_default-clause-lawful
-returns-in_default-clause-lawful c = visits-keep _ _
-
-pub returns-in-Refused-clause-lawful : goal.returns-in-Refused-clause-lawful
-returns-in-Refused-clause-lawful c = visits-keep _ _
-
-pub returns-clause-lawful : goal.returns-clause-lawful
-returns-clause-lawful c = visits-keep _ _
-
-pub returns-in_default-clause-bounded : goal.returns-in_default-clause-bounded
-returns-in_default-clause-bounded c = bounded c.args.limit c.args.self.now c.loop-acts.self _ (returns-in_default-clause-settles c)
-
-pub returns-clause-bounded : goal.returns-clause-bounded
-returns-clause-bounded c = bounded-ok c.args.limit c.args.self.now c.loop-acts.self _ (returns-clause-settles c)
