@@ -1,6 +1,7 @@
 pub mod AtRouter
 pub mod Choosing
 pub mod Directories
+pub mod Finding
 pub mod FirstPairs
 pub mod Handing
 pub mod Happenings

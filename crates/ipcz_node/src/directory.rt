@@ -21,7 +21,7 @@ ghost use Rattle.std.specs.FinMap.{entries};
 ghost use Rattle.std.specs.Prelude.{is_none, IsOk};
 ghost use Rattle.std.specs.Prelude.{[], ◌∷◌};
 ghost use Rattle.ipcz_base.specs.Ends.{end_at};
-ghost use Rattle.ipcz_node.specs.Finding.{IsFound};
+ghost use Rattle.ipcz_node.specs.Finding.{IsFound, IsNext, is_terminal_in};
 ghost use Rattle.ipcz_node.specs.Rooms.{FiledRouters, put_filed, link_filed, add_filed, drop_filed, hold_filed};
 ghost use Rattle.ipcz_node.specs.Directories.{link_end_cmp, CanRefile, AreRefiled, ends_brought, takes_inside, ends_given, ends_taken};
 ghost use Rattle.ipcz_node.specs.Directories.{keeps_links};
@@ -395,6 +395,13 @@ impl Directory {
         ensures { IsFound (is_terminal_of end) self.now.filed.routers result }
     {
         self.terminals.first(end)
+    }
+
+    /// The first router from a serial on that is the open terminal of an end which callers hold: its serial and that end.
+    pub fn held_from(&self, serial: u64) -> Option<(u64, End)>
+        ensures { IsNext (get self.now.filed.routers) (is_terminal_in self.now.filed.held) serial result }
+    {
+        self.routers.first_held(serial, &self.held)
     }
 }
 

@@ -1,11 +1,14 @@
-ghost use Rattle.std.specs.Prelude.{◌≡◌, ◌+◌, ◌<◌, ◌≤◌, ◌-◌, ◌^◌, ℕ, Some, None, is_some, true, OnOk, IsOk, IfSome, MatchOption, option_copied};
-ghost use Rattle.std.specs.Prelude.{option_map, length};
+ghost use Rattle.std.specs.Prelude.{◌≡◌, ◌+◌, ◌<◌, ◌≤◌, ◌-◌, ◌^◌, ℕ, Some, None, is_some, true, OnOk, IsOk, IfSome, MatchOption};
+ghost use Rattle.std.specs.Prelude.{option_copied, option_map, length};
 ghost use Rattle.std.specs.Borrow.{sem};
 ghost use Rattle.std.specs.Ordering.{nat_cmp};
 ghost use Rattle.std.specs.FinMap.{find, get, remove, empty, len};
+ghost use Rattle.ipcz_node.specs.Finding.{IsNext, is_terminal_in};
 ghost use Rattle.ipcz_node.specs.Rooms.{RoutersValue, routers_with};
-ghost use Rattle.ipcz_node.specs.Serials.{key_at, AreRising};
+ghost use Rattle.ipcz_node.specs.Serials.{key_at, entries_by, AreRising};
 
+use crate::held_ends::HeldEnds;
+use ipcz_base::End;
 use ipcz_router::Router;
 use std::alloc::{AllocError, Global};
 use std::marker::Model;
@@ -121,6 +124,13 @@ impl Routers {
         router
     }
 
+    /// The first router from a serial on that is the open terminal of one of these ends: its serial and its end.
+    pub fn first_held(&self, from: u64, ends: &HeldEnds) -> Option<(u64, End)>
+        ensures { IsNext (get self.now.routers) (is_terminal_in ends.now.ends) from result }
+    {
+        first_in(self.entries.as_slice(), from, ends)
+    }
+
     /// How many routers there are.
     pub fn len(&self) -> usize
         ensures count { result ≡ len self.now.routers }
@@ -156,5 +166,23 @@ fn likely_place<T>(entries: &[(u64, T)], serial: u64) -> Option<usize>
         Some(place)
     } else {
         None
+    }
+}
+
+// The first entry from a serial on whose router is the open terminal of one of these ends: its serial and that end.
+fn first_in(entries: &[(u64, Router)], from: u64, ends: &HeldEnds) -> Option<(u64, End)>
+    requires { (first : ℕ) × (next : ℕ) × AreRising first next entries.now }
+    ensures { IsNext (λ s. find nat_cmp s (entries_by (λ x. x.router) entries.now)) (is_terminal_in ends.now.ends) from result }
+{
+    match entries {
+        [] => None,
+        [entry, rest @ ..] => {
+            let end = entry.1.end();
+            if from <= entry.0 && entry.1.is_open_terminal() && ends.has(end) {
+                Some((entry.0, end))
+            } else {
+                first_in(rest, from, ends)
+            }
+        }
     }
 }

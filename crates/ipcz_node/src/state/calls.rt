@@ -11,6 +11,7 @@ ghost use Rattle.ipcz_node.specs.FirstPairs.{new_node, add_pairs, pairs_from, fi
 ghost use Rattle.ipcz_node.specs.Calls.{serials_refusal, open_node, are_held_once, refusal_at, are_too_many, put_refusal, put_node};
 ghost use Rattle.ipcz_node.specs.Calls.{put_number, get_refusal, got_at, get_node, close_refusal, close_node, close_end};
 ghost use Rattle.ipcz_node.specs.Acts.{is_quiet, rest_of};
+ghost use Rattle.ipcz_node.specs.Finding.{IsNextHeld};
 ghost use Rattle.ipcz_node.specs.RoomyNodes.{CanOpen, IsReadyFor, TakesMore};
 ghost use Rattle.ipcz_node.specs.declared.act.Act.{Act};
 
@@ -48,6 +49,16 @@ impl NodeState {
             Ok(()) => Ok(()),
             Err(_) => Err(Refusal::OutOfMemory),
         }
+    }
+
+    /// Notes the word that was claimed for an open: the open is under way until `open_commit` does it. The node asks nothing of
+    /// the word. It is to be a link word that this node has claimed and that nothing else uses.
+    pub fn claim_open(&mut self, word: u32)
+        requires { self.old.node.opening ≡ None }
+        ensures node { self.new.node ≡ record self.old.node { opening = Some word } }
+        ensures room { self.new.room ≡ self.old.room }
+    {
+        self.opening = Some(word);
     }
 
     /// Opens the pair of a claimed word, for which `open_prepare` made room: the terminal of side A, and then that of side B,
@@ -248,6 +259,15 @@ impl NodeState {
         ensures { result ≡ holds_end self.now.node end }
     {
         self.routers.holds(end)
+    }
+
+    /// The first held end from a router's serial on: the lowest serial that isn't below `serial` of a router that is the open
+    /// terminal of an end which callers of this node hold, with that end; or none. From 0 on, and then each time from the
+    /// serial after the last one, it gives all of them by rising serials. It takes no memory.
+    pub fn held_from(&self, serial: u64) -> Option<(u64, End)>
+        ensures { IsNextHeld self.now.node serial result }
+    {
+        self.routers.held_from(serial)
     }
 
     /// The messages that didn't fit, in the order in which they came. It takes no memory.
