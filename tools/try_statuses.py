@@ -1,0 +1,101 @@
+"""Runs both programs with arguments, scripts and devices that work or fail, and prints which run ended otherwise than it must.
+
+    python3 tools/try_statuses.py
+
+Of each run it compares the status and the bytes on standard output; nothing may come on standard error.
+No contract can speak of what a system hands to a program, so what `main` makes of it is tried here.
+"""
+import os
+import pathlib
+import subprocess
+import sys
+
+TOP = pathlib.Path(__file__).resolve().parent.parent
+
+PAIR = '{"nodes":1,"words":1,"commands":[["open",0,"x","y"],["put","x","a"],["settle",%d]]}'
+DONE = (PAIR % 100).encode()
+AT_ITS_LIMIT = (PAIR % 1).encode()
+PUT = b"open x y ok\nput x 0\n"
+RUN_USAGE = b"usage: ipcz_run [threads]\n"
+DRAW_USAGE = b"usage: ipcz_draw\n"
+
+
+class Folder:
+    """A standard input that can't be read."""
+
+
+class Full:
+    """A standard output that takes no byte."""
+
+
+class Closed:
+    """A standard input or output that isn't open."""
+
+
+# the program, its arguments, its input, its output, the status, what it writes (None: whatever it is)
+RUNS = [
+    ("ipcz_run", [], DONE, bytes, 0, PUT + b"settled\n"),
+    ("ipcz_run", [], AT_ITS_LIMIT, bytes, 4, PUT + b"unsettled\n"),
+    ("ipcz_run", [], b"", bytes, 2, b"refused NotJson\n"),
+    ("ipcz_run", [], DONE[:-1], bytes, 2, b"refused NotJson\n"),
+    ("ipcz_run", [], b"[]", bytes, 2, b"refused BadShape 0\n"),
+    ("ipcz_run", [], b" " * 1048577, bytes, 2, b"refused TooLong\n"),
+    ("ipcz_run", ["script.json"], DONE, bytes, 2, RUN_USAGE),
+    ("ipcz_run", [""], DONE, bytes, 2, RUN_USAGE),
+    ("ipcz_run", [b"\xff"], DONE, bytes, 2, RUN_USAGE),
+    ("ipcz_run", ["one", "two"], DONE, bytes, 2, RUN_USAGE),
+    ("ipcz_run", ["script.json"], Folder, bytes, 2, RUN_USAGE),
+    ("ipcz_run", [], Folder, bytes, 1, b""),
+    ("ipcz_run", [], DONE, Full, 1, b""),
+    ("ipcz_run", [], b"[]", Full, 1, b""),
+    ("ipcz_run", ["script.json"], DONE, Full, 1, b""),
+    ("ipcz_run", [], Closed, bytes, 1, b""),
+    ("ipcz_run", [], DONE, Closed, 1, b""),
+    ("ipcz_draw", [], PUT + b"settled\n", bytes, 0, None),
+    ("ipcz_draw", [], b"", bytes, 0, None),
+    ("ipcz_draw", [], b"words\nsettle\n", bytes, 2, b"refused line 2: not a line of a transcript\n"),
+    ("ipcz_draw", ["run.svg"], PUT, bytes, 2, DRAW_USAGE),
+    ("ipcz_draw", [], Folder, bytes, 1, b""),
+    ("ipcz_draw", [], PUT, Full, 1, b""),
+]
+
+
+def close(number):
+    return lambda: os.close(number)
+
+
+def run(program, arguments, given, taken):
+    """Returns the status, the bytes that were written, and those on standard error."""
+    opened, names = [], {}
+    if given is Folder:
+        opened.append(os.open("/", os.O_RDONLY))
+        names["stdin"] = opened[-1]
+    elif given is Closed:
+        names["preexec_fn"] = close(0)
+    else:
+        names["input"] = given
+    if taken is Full:
+        opened.append(os.open("/dev/full", os.O_WRONLY))
+        names["stdout"] = opened[-1]
+    elif taken is Closed:
+        names["preexec_fn"] = close(1)
+    else:
+        names["stdout"] = subprocess.PIPE
+    done = subprocess.run([TOP / f"crates/{program}/out/{program}", *arguments], stderr=subprocess.PIPE, **names)
+    for number in opened:
+        os.close(number)
+    return done.returncode, done.stdout or b"", done.stderr
+
+
+def main():
+    wrong = []
+    for program, arguments, given, taken, status, written in RUNS:
+        got = run(program, arguments, given, taken)
+        if got[0] != status or got[2] or written not in (None, got[1]):
+            said = given.__name__ if isinstance(given, type) else given[:60]
+            wrong.append(f"{program} {arguments} < {said} > {taken.__name__}: status {got[0]} for {status}, {got[1][:80]}, {got[2][:80]}")
+    if wrong:
+        sys.exit("\n".join(wrong))
+
+
+main()
