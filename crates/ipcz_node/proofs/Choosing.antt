@@ -1,5 +1,5 @@
 -- The act that comes first is one that can be done.
-use Rattle.std.proofs.Common.{◌≡◌, ◌⊎◌, ◌&&◌, Bool, true, false, if◌then◌else◌, ℕ, List, [], ◌∷◌, Some, inl, inr, refl}
+use Rattle.std.proofs.Common.{◌≡◌, ◌⊎◌, ◌&&◌, Bool, true, false, if◌then◌else◌, ℕ, List, [], ◌∷◌, Some, inl, inr, refl, not, nat_eq, length, is_some}
 use Rattle.std.proofs.lemmas.Bool.{and_parts, or_left, or_right}
 use Rattle.ipcz_router.specs.Router.{Router}
 use Rattle.ipcz_router.specs.ActTable.{is_possible, first_possible, table, next_act, is_rest, may_take}
@@ -7,8 +7,9 @@ use Rattle.ipcz_router.specs.declared.act.RouterAct.{RouterAct}
 use Rattle.ipcz_router.specs.declared.act.RouterAct.TheVariants as acts
 use Rattle.ipcz_base.specs.Indexed.{place_at}
 use Rattle.ipcz_node.specs.declared.act.MailSeen.{MailSeen}
-use Rattle.ipcz_node.specs.Node.{Node}
-use Rattle.ipcz_node.specs.Acts.{first_destination, has_mail_for}
+use Rattle.ipcz_base.specs.declared.message.Message.{Message}
+use Rattle.ipcz_node.specs.Node.{Node, outbox}
+use Rattle.ipcz_node.specs.Acts.{first_destination, has_mail_for, first_of}
 use Rattle.ipcz_node.proofs.Turns.{first_number-tells}
 
 -- the first possible act of a list is possible, or it is rest
@@ -41,3 +42,12 @@ mail_waits n seen to is =
 pub unlock_may : (r : Router) → may_take r acts.Begin ≡ true → may_take r acts.Unlock ≡ true
 unfolding is_possible is_rest
 unlock_may r h = h
+
+-- where mail waits, there is a first message
+pub mail_is_first : (n : Node) (to : ℕ) → has_mail_for n to ≡ true → is_some (first_of (outbox n to)) ≡ true
+unfolding first_of
+mail_is_first n to has = go (outbox n to) has
+  where
+    go : (ms : List Message) → not (nat_eq (length ms) 0) ≡ true → is_some (first_of ms) ≡ true
+    go [] e = cc
+    go (m ∷ ms) e = refl

@@ -1,5 +1,5 @@
 -- The node with the room that it has made.
-use Rattle.std.specs.Prelude.{◌≡◌, ℕ, ◌≤◌, ◌<◌, ◌+◌, true, length, Some, None, List, [], ◌∷◌, IfSome, IsSomeAnd}
+use Rattle.std.specs.Prelude.{◌≡◌, ℕ, ◌≤◌, ◌<◌, ◌+◌, Bool, true, length, Option, Some, None, List, [], ◌∷◌, IfSome, IsSomeAnd, if◌then◌else◌}
 use Rattle.std.specs.Ordering.{nat_cmp}
 use Rattle.std.specs.FinMap.{FinMap, get}
 use Rattle.ipcz_base.specs.Limits.{last_number, no_number}
@@ -40,6 +40,16 @@ pub record RoomyNode : Type 0 where
 pub record OutboxesValue : Type 0 where
   pub messages : List (List Message)
   pub room : List ℕ
+
+-- the messages for one destination, and the room for more
+pub record OutboxValue : Type 0 where
+  pub messages : List Message
+  pub room : ℕ
+
+-- the room of an outbox's first place: for one message, where it has none and was made ready
+unfoldable pub first_room : Option Message → Bool → ℕ
+first_room None ready = if ready then 1 else 0
+first_room (Some m) ready = 0
 
 -- a set of ends, and the room for more
 pub record RoomyEnds : Type 0 where

@@ -1,22 +1,20 @@
 ghost use Rattle.std.specs.Prelude.{◌≡◌, ◌<◌, ◌++◌, [], ◌∷◌, not, nat_eq, length, map, replicate, OnOk, OnErr, IfOk, IsOk};
-ghost use Rattle.std.specs.VecDeque.{deque_capacity};
 ghost use Rattle.ipcz_base.specs.Indexed.{place_at, put_place};
 ghost use Rattle.ipcz_node.specs.Acts.{first_of, rest_of, are_empty};
 
+use crate::outbox::Outbox;
 use ipcz_base::Message;
 use std::alloc::{AllocError, Global};
-use std::collections::VecDeque;
 use std::marker::Model;
 
 /// Messages that wait to be posted, by destination: a queue for each number that a node could have.
 #[derive(Drop)]
 pub struct Outboxes {
-    queues: Vec<VecDeque<Message>>,
+    queues: Vec<Outbox>,
 }
 
 impl Model for Outboxes {
-    ghost use Rattle.std.specs.Prelude.{map, ◌-◌, ◌≡◌, length};
-    ghost use Rattle.std.specs.VecDeque.{deque_len, deque_capacity};
+    ghost use Rattle.std.specs.Prelude.{map, ◌≡◌, length};
     ghost use Rattle.std.specs.Coded.{codes};
     ghost use Rattle.ipcz_node.specs.RoomyNodes.{OutboxesValue};
 
@@ -25,8 +23,8 @@ impl Model for Outboxes {
     ghost coded = { Prim.hlevel codes };
 
     ghost view = { λ a. record {
-      messages = map (λ q. q.items) a.queues.items;
-      room = map (λ q. deque_capacity q - deque_len q) a.queues.items;
+      messages = map (λ q. q.messages) a.queues.items;
+      room = map (λ q. q.room) a.queues.items;
     } };
 
     ghost invariant = { λ a. length a.queues.items ≡ 256 };
@@ -39,7 +37,7 @@ impl Outboxes {
     {
         let mut queues = Vec::with_capacity(alloc, 256)?;
         for _i in 0..256usize {
-            queues.push_reserved(VecDeque::new(alloc));
+            queues.push_reserved(Outbox::new(alloc));
         }
         Ok(Outboxes { queues })
     }
@@ -50,8 +48,7 @@ impl Outboxes {
         ensures messages { self.new.messages ≡ self.old.messages }
         ensures succeeds { 0 < place_at 0 self.old.room to → IsOk result }
     {
-        self.queues[usize::from(to)].reserve(1)?;
-        Ok(())
+        self.queues[usize::from(to)].reserve()
     }
 
     /// Adds a message to a node.
@@ -59,7 +56,7 @@ impl Outboxes {
         requires { 0 < place_at 0 self.old.room to }
         ensures { self.new.messages ≡ put_place [] self.old.messages to (place_at [] self.old.messages to ++ message ∷ []) }
     {
-        self.queues[usize::from(to)].push_back_reserved(message);
+        self.queues[usize::from(to)].push(message);
     }
 
     /// Whether a message waits for a node.
@@ -82,26 +79,13 @@ impl Outboxes {
         ensures message { result ≡ first_of (place_at [] self.old.messages to) }
         ensures room { rest_of (place_at [] self.old.messages to) ≡ [] → place_at 0 self.new.room to ≡ 0 }
     {
-        pop_from(&mut self.queues[usize::from(to)], alloc)
+        self.queues[usize::from(to)].pop(alloc)
     }
-}
-
-// Takes the first message of a queue out, where there is one. A queue that is left empty gives its room back.
-fn pop_from(queue: &mut VecDeque<Message>, alloc: Global) -> Option<Message>
-    ensures items { queue.new.items ≡ rest_of queue.old.items }
-    ensures message { result ≡ first_of queue.old.items }
-    ensures room { queue.new.items ≡ [] → deque_capacity queue.new ≡ 0 }
-{
-    let message = queue.pop_front();
-    if queue.is_empty() {
-        *queue = VecDeque::from_vec(Vec::new(alloc));
-    }
-    message
 }
 
 // Whether no message waits in any of the queues.
-fn are_empty(queues: &[VecDeque<Message>]) -> bool
-    ensures { result ≡ are_empty (map (λ q. q.items) queues.now) }
+fn are_empty(queues: &[Outbox]) -> bool
+    ensures { result ≡ are_empty (map (λ q. q.messages) queues.now) }
 {
     for queue in queues {
         if !queue.is_empty() {

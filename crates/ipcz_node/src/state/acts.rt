@@ -158,6 +158,42 @@ impl NodeState {
         self.commit_act(serial, act, answer)
     }
 
+    /// Takes the message of this node's full mailbox into the hand, as `commit` does with that act: its sender is noted.
+    #[tactic(auto, unfolding(crate::specs::Acts::commit))]
+    pub fn look(&mut self, sender: u8)
+        requires { IsPossibleAct self.old.node (Act.Look sender) }
+        ensures { self.new.node ≡ commit self.old.node (Act.Look sender) Answer.Plain }
+    {
+        self.hand = Some(sender);
+    }
+
+    /// Takes the first message for a node out of its outbox, as `commit` does with that act. An outbox that is left empty gives its room
+    /// back.
+    #[tactic(auto, unfolding(crate::specs::Acts::commit, crate::specs::Acts::post_of))]
+    pub fn post(&mut self, to: u8) -> Message
+        requires { IsPossibleAct self.old.node (Act.Post to) }
+        ensures node { self.new.node ≡ commit self.old.node (Act.Post to) Answer.Plain }
+        ensures message { Some result ≡ post_of self.old.node (Act.Post to) }
+        ensures given_back { rest_of (outbox self.old.node to) ≡ [] → place_at 0 self.new.room.outboxes to ≡ 0 }
+    {
+        let Some(message) = self.outboxes.pop(self.alloc, to) else {
+            unreachable!()
+        };
+        message
+    }
+
+    /// Lets a router do a possible act, as `commit` does, but doesn't tell what happened: that takes a list of the ends that were moved.
+    #[tactic(auto, unfolding(crate::specs::Acts::commit, crate::specs::Acts::commit_router, crate::specs::Node::on_router))]
+    pub fn commit_unseen(&mut self, serial: u64, act: RouterAct, answer: Answer)
+        requires possible { IsPossibleAct self.old.node (Act.Router serial act) }
+        requires answer { Answers (Act.Router serial act) answer }
+        requires ready { IsReadyFor self.old (Act.Router serial act) }
+        ensures { self.new.node ≡ commit self.old.node (Act.Router serial act) answer }
+    {
+        let given = self.act_router(serial, act, answer);
+        self.send(given);
+    }
+
     /// Does a possible act, as the one that `next` gave, for which `prepare` made room, with an answer of its kind. It takes no
     /// memory.
     ///
@@ -176,13 +212,10 @@ impl NodeState {
     {
         match act {
             Act::Look(sender) => {
-                self.hand = Some(sender);
+                self.look(sender);
                 (Happened::Look(sender), None)
             }
-            Act::Post(to) => {
-                let message = self.outboxes.pop(self.alloc, to);
-                (Happened::Post(to), message)
-            }
+            Act::Post(to) => (Happened::Post(to), Some(self.post(to))),
             Act::Router(serial, act) => (self.commit_router(serial, act, answer), None),
             Act::Close(end) => {
                 self.close_first(end);

@@ -340,7 +340,12 @@ impl NodeState {
 
     // Handles a message, or keeps it whole where it doesn't fit, as is known.
     #[tactic(auto, using(crate::proofs::Handing::takes_no_serials))]
-    fn receive(&mut self, sender: u8, message: Message, has_place: bool) -> Result<(), (Refusal, Message)>
+    fn receive(
+        &mut self,
+        sender: u8,
+        message: Message,
+        has_place: bool,
+    ) -> Result<(), (Refusal, Message)>
         requires { has_place ≡ fits self.old.node sender message }
         ensures ok { OnOk result
             (self.new.node ≡ (if fits self.old.node sender message then handle self.old.node sender message else add_stray self.old.node
@@ -389,7 +394,6 @@ impl NodeState {
     /// more routers than serials are left for, and otherwise `OutOfMemory`. A message that makes nothing grow, as a Flush or a
     /// ProxyWillStop that fits, is never refused, nor is one that brings no item, fits, and has room for what it makes a router
     /// take and tell.
-    #[tactic(auto, unfolding(crate::specs::Hands::deliver))]
     pub fn deliver(&mut self, from: u8, message: Message) -> Result<Happened, (Refusal, Message)>
         requires { from < self.old.node.count }
         ensures ok { OnOk result (self.new.node ≡ deliver self.old.node from message) }
@@ -404,9 +408,47 @@ impl NodeState {
     {
         let has_place = self.fits(from, &message);
         let event = self.hand_event(from, &message, has_place);
+        self.take_from_hand(from, message, has_place)?;
+        Ok(event)
+    }
+
+    /// Delivers a message as `deliver` does, but doesn't tell what happened.
+    pub fn deliver_unseen(&mut self, from: u8, message: Message) -> Result<(), (Refusal, Message)>
+        requires { from < self.old.node.count }
+        ensures ok { OnOk result (self.new.node ≡ deliver self.old.node from message) }
+        ensures allowed { OnOk result (message_lacks_serials self.old.node from message ≡ false) }
+        ensures why { IfErr result
+            (λ e. e.0 ≡ (if message_lacks_serials self.old.node from message then Refusal.NumbersEnd else Refusal.OutOfMemory)) }
+        ensures grows { message_grows self.old.node from message ≡ false → IsOk result }
+        ensures full { fits self.old.node from message ≡ true → brings_item message ≡ false → HasRoomFor self.old message →
+            message_lacks_serials self.old.node from message ≡ false → IsOk result }
+        ensures err { IfErr result (λ e. (e.1 ≡ message) × (self.new.node ≡ self.old.node)) }
+    {
+        let fits = self.fits(from, &message);
+        self.take_from_hand(from, message, fits)
+    }
+
+    // Receives a message of which it is known whether it fits, and empties the hand.
+    #[tactic(auto, unfolding(crate::specs::Hands::deliver))]
+    fn take_from_hand(
+        &mut self,
+        from: u8,
+        message: Message,
+        has_place: bool,
+    ) -> Result<(), (Refusal, Message)>
+        requires { has_place ≡ fits self.old.node from message }
+        ensures ok { OnOk result (self.new.node ≡ deliver self.old.node from message) }
+        ensures allowed { OnOk result (message_lacks_serials self.old.node from message ≡ false) }
+        ensures why { IfErr result
+            (λ e. e.0 ≡ (if message_lacks_serials self.old.node from message then Refusal.NumbersEnd else Refusal.OutOfMemory)) }
+        ensures grows { message_grows self.old.node from message ≡ false → IsOk result }
+        ensures full { fits self.old.node from message ≡ true → brings_item message ≡ false → HasRoomFor self.old message →
+            message_lacks_serials self.old.node from message ≡ false → IsOk result }
+        ensures err { IfErr result (λ e. (e.1 ≡ message) × (self.new.node ≡ self.old.node)) }
+    {
         self.receive(from, message, has_place)?;
         self.free_hand(from);
-        Ok(event)
+        Ok(())
     }
 }
 

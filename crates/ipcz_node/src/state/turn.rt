@@ -2,7 +2,7 @@ ghost use Rattle.std.specs.Prelude.{◌≡◌, false};
 ghost use Rattle.ipcz_base.specs.Indexed.{place_at};
 ghost use Rattle.ipcz_node.specs.Node.{flagged_router};
 ghost use Rattle.ipcz_node.specs.RoomyNodes.{IsPossibleAct};
-ghost use Rattle.ipcz_node.specs.Acts.{next, first_sender, first_destination, has_mail_for, router_turn};
+ghost use Rattle.ipcz_node.specs.Acts.{next, first_sender, first_destination, has_mail_for, close_turn, router_turn};
 
 use super::NodeState;
 use crate::act::{Act, MailSeen};
@@ -15,7 +15,7 @@ impl NodeState {
     ///
     /// What was seen of a node that isn't there counts for nothing. It takes no memory. `commit` takes this act, once `prepare` has made
     /// room for it.
-    #[tactic(auto, using(crate::proofs::Choosing::mail_waits), unfolding(crate::specs::Acts::next, crate::specs::Acts::node_turn, crate::specs::Acts::close_turn, crate::specs::Acts::first_of))]
+    #[tactic(auto, using(crate::proofs::Choosing::mail_waits), unfolding(crate::specs::Acts::next, crate::specs::Acts::node_turn))]
     pub fn next(&self, seen: &MailSeen) -> Act
         ensures act { result ≡ next self.now.node seen.now }
         ensures possible { IsPossibleAct self.now.node result }
@@ -29,6 +29,16 @@ impl NodeState {
         if let Some(to) = self.first_destination(seen) {
             return Act::Post(to);
         }
+        self.next_own()
+    }
+
+    /// The first possible act of the node that needs no mailbox and no message in hand: to close the first end that is still to be closed,
+    /// the first act of the flagged router of the lowest serial, or none. It takes no memory.
+    #[tactic(auto, unfolding(crate::specs::Acts::close_turn, crate::specs::Acts::first_of))]
+    pub fn next_own(&self) -> Act
+        ensures act { result ≡ close_turn self.now.node.pending (router_turn (flagged_router self.now.node)) }
+        ensures possible { IsPossibleAct self.now.node result }
+    {
         match self.pending.as_slice() {
             [end, _rest @ ..] => Act::Close(*end),
             [] => self.router_turn(),

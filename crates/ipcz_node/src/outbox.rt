@@ -1,0 +1,111 @@
+ghost use Rattle.std.specs.Prelude.{◌≡◌, ◌<◌, ◌++◌, [], ◌∷◌, not, nat_eq, length, OnOk, IsOk};
+ghost use Rattle.ipcz_node.specs.Acts.{first_of, rest_of};
+
+use ipcz_base::Message;
+use std::alloc::{AllocError, Global};
+use std::collections::VecDeque;
+use std::marker::Model;
+
+/// Messages that wait to be posted to one node.
+///
+/// The first has a place of its own, since most outboxes never hold more: it takes no buffer. That place counts as room once it was made
+/// ready.
+#[derive(Drop)]
+pub struct Outbox {
+    first: Option<Message>,
+    is_ready: bool,
+    rest: VecDeque<Message>,
+}
+
+impl Model for Outbox {
+    ghost use Rattle.std.specs.Prelude.{◌≡◌, ◌++◌, ◌+◌, ◌-◌, [], None, option_to_list};
+    ghost use Rattle.std.specs.VecDeque.{deque_len, deque_capacity};
+    ghost use Rattle.std.specs.Coded.{codes};
+    ghost use Rattle.ipcz_node.specs.RoomyNodes.{OutboxValue, first_room};
+
+    ghost Value = { OutboxValue };
+
+    ghost coded = { Prim.hlevel codes };
+
+    ghost view = { λ a. record {
+      messages = option_to_list a.first ++ a.rest.items;
+      room = first_room a.first a.is_ready + (deque_capacity a.rest - deque_len a.rest);
+    } };
+
+    ghost invariant = { λ a. a.first ≡ None → a.rest.items ≡ [] };
+}
+
+impl Outbox {
+    /// No messages, and no room.
+    pub fn new(alloc: Global) -> Self
+        ensures { result.messages ≡ [] }
+    {
+        Outbox {
+            first: None,
+            is_ready: false,
+            rest: VecDeque::new(alloc),
+        }
+    }
+
+    /// Makes room for a message more.
+    #[tactic(auto, unfolding(crate::specs::RoomyNodes::first_room))]
+    pub fn reserve(&mut self) -> Result<(), AllocError>
+        ensures ok { OnOk result (0 < self.new.room) }
+        ensures messages { self.new.messages ≡ self.old.messages }
+        ensures succeeds { 0 < self.old.room → IsOk result }
+    {
+        if self.first.is_none() {
+            self.is_ready = true;
+            return Ok(());
+        }
+        self.rest.reserve(1)
+    }
+
+    /// Adds a message.
+    #[tactic(auto, unfolding(crate::specs::RoomyNodes::first_room))]
+    pub fn push(&mut self, message: Message)
+        requires { 0 < self.old.room }
+        ensures { self.new.messages ≡ self.old.messages ++ message ∷ [] }
+    {
+        if self.first.is_none() {
+            self.first = Some(message);
+        } else {
+            self.rest.push_back_reserved(message);
+        }
+    }
+
+    /// Whether no message waits.
+    pub fn is_empty(&self) -> bool
+        ensures { result ≡ nat_eq (length self.now.messages) 0 }
+    {
+        self.first.is_none()
+    }
+
+    /// Takes the first message out, where there is one. What is left empty gives its room back.
+    #[tactic(auto, unfolding(crate::specs::Acts::first_of, crate::specs::Acts::rest_of))]
+    pub fn pop(&mut self, alloc: Global) -> Option<Message>
+        ensures messages { self.new.messages ≡ rest_of self.old.messages }
+        ensures message { result ≡ first_of self.old.messages }
+        ensures room { self.new.messages ≡ [] → self.new.room ≡ 0 }
+    {
+        let message = self.first.take();
+        self.first = self.rest.pop_front();
+        if self.first.is_none() {
+            self.give_back(alloc);
+        }
+        message
+    }
+
+    // Gives all room back.
+    #[tactic(auto, unfolding(crate::specs::RoomyNodes::first_room))]
+    fn give_back(&mut self, alloc: Global)
+        requires { self.old.messages ≡ [] }
+        ensures messages { self.new.messages ≡ [] }
+        ensures room { self.new.room ≡ 0 }
+    {
+        self.is_ready = false;
+        if self.rest.capacity() > 0 {
+            self.rest = VecDeque::from_vec(Vec::new(alloc));
+        }
+    }
+}
