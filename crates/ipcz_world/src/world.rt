@@ -1,4 +1,4 @@
-ghost use Rattle.std.specs.Prelude.{◌≡◌, ◌<◌, IfOk, IfErr, OnErr, map};
+ghost use Rattle.std.specs.Prelude.{◌≡◌, ◌<◌, IfOk, IfErr, OnErr, OnOk, map};
 ghost use Rattle.ipcz_word.specs.Layout.{word_of_bits};
 ghost use Rattle.ipcz_world.specs.Books.{Books, advance, no_books};
 ghost use Rattle.ipcz_world.specs.Coding.{IsTable};
@@ -12,6 +12,7 @@ ghost use Rattle.ipcz_world.specs.Steps.{StepFirst};
 ghost use Rattle.ipcz_world.specs.FirstRuns.{AreSteps, KeepsLaw};
 ghost use Rattle.ipcz_world.specs.Turns.{next_at};
 ghost use Rattle.ipcz_world.specs.World.{new_world};
+ghost use Rattle.ipcz_world.specs.Settling.{TakesTurn};
 ghost use Rattle.ipcz_world.specs.SettleBounds.{IsLawfulSettle, IsLawfulRefusal};
 
 use crate::mail::Mail;
@@ -164,11 +165,8 @@ impl World {
             };
             from = self.state.next_node(node);
             match self.take_turn(node, act) {
-                Reply::Turned(_) => {}
-                Reply::Refused(why) => return Err(why),
-                Reply::Opened(_, _) | Reply::Put(_) | Reply::Got(_, _) | Reply::Closed(_) => {
-                    unreachable!()
-                }
+                Ok(()) => {}
+                Err(why) => return Err(why),
             }
         }
         match self.state.next_busy(from) {
@@ -176,12 +174,14 @@ impl World {
             Some(_) => Ok(Settled::Unsettled),
         }
     }
+
     // Takes the turn of a node whose first possible act is given.
-    fn take_turn(&mut self, node: u8, act: Act) -> Reply
+    fn take_turn(&mut self, node: u8, act: Act) -> Result<(), Refusal>
         requires node { node < self.old.count }
         requires first { act ≡ next_at self.old node }
-        ensures step { StepFirst self.old (Step.Turn node) result self.new }
+        ensures turned { OnOk result (TakesTurn self.old node self.new) }
+        ensures refused { IfErr result (λ why. StepFirst self.old (Step.Turn node) (Reply.Refused why) self.new) }
     {
-        self.state.take_first(node, act)
+        self.state.take_first_unseen(node, act)
     }
 }

@@ -119,46 +119,45 @@ looked w n from k (Full m) e h is = rw (e, is) refl
 looked w n from k (InHand m) e h is = absurd (let no : false ≡ true = ap is_full (sym e) ∙ h in cc)
 
 -- a look takes the message of the mailbox up
-pub done-look : (w u : World) (n from : ℕ) (r : Happened × Option Message) → IsCommitted w n (Look from) (Ok r) u →
-    can_take w n (Look from) ≡ true →
-    IsTaken w n (Look from) (Ok r.0) (with_mail u (way w from n) (taken_up (place_at Empty u.mail (way w from n))))
-unfolding turn_event after_act turn_lacks_serials
-done-look w u n from r done may = record {
-  event = done.event;
-  done = subst (λ (u : World). with_mail u (way w from n) (taken_up (place_at Empty u.mail (way w from n))) ≡
-      after_look w n from (full_message (mail_at w (way w from n)))) (sym done.done)
-      (looked w n from (way w from n) (mail_at w (way w from n)) refl (looks-full w n from may) refl);
-  allowed = done.allowed;
+pub done-look : (w : World) (n from : ℕ) (old x : Node) (mail : List Mail) → old ≡ node_at w n → can_take w n (Look from) ≡ true →
+    x ≡ commit old (Look from) Plain → mail ≡ put_place Empty w.mail (way w from n) (taken_up (place_at Empty w.mail (way w from n))) →
+    IsTaken w n (Look from) (Ok (events.Look from)) (record (with_node w n x) { mail = mail })
+unfolding turn_event after_act turn_lacks_serials event_of act_lacks_serials set_node
+done-look w n from old x mail e may is kept = record {
+  event = refl;
+  done = (λ j. record w {
+    nodes = put_place (bare_node 0 0) w.nodes n ((is ∙ ap (λ y. commit y (Look from) Plain) e) j);
+    mail = kept j;
+  }) ∙ looked w n from (way w from n) (mail_at w (way w from n)) refl (looks-full w n from may) refl;
+  allowed = refl;
   why = tt;
   grows = λ g z. refl;
   left = tt;
 }
 
 -- a post leaves its message in the mailbox
-pub done-post : (w u : World) (n to : ℕ) (event : Happened) (m : Message) → IsCommitted w n (Post to) (Ok (event, Some m)) u →
-    IsTaken w n (Post to) (Ok event) (with_mail u (way w n to) (Full m))
-unfolding turn_event after_act turn_lacks_serials set_node set_mail after_post
-done-post w u n to event m done = record {
-  event = done.event;
-  done = subst (λ u. with_mail u (way w n to) (Full m) ≡ after_post w n to (post_of (node_at w n) (Post to))) (sym done.done)
-      (rw (← done.message) refl);
-  allowed = done.allowed;
-  why = tt;
-  grows = λ g z. refl;
-  left = tt;
-}
+pub done-post : (w : World) (n to : ℕ) (m : Message) (old x : Node) (mail : List Mail) → old ≡ node_at w n → Some m ≡ post_of old (Post to) →
+    x ≡ commit old (Post to) Plain → mail ≡ put_place Empty w.mail (way w n to) (Full m) →
+    IsTaken w n (Post to) (Ok (events.Post to)) (record (with_node w n x) { mail = mail })
+unfolding turn_event after_act turn_lacks_serials event_of act_lacks_serials set_node set_mail after_post
+done-post w n to m old x mail e posted is kept =
+    let has : post_of (node_at w n) (Post to) ≡ Some m = ap (λ y. post_of y (Post to)) (sym e) ∙ sym posted in
+    record {
+      event = refl;
+      done = rw has (λ j. record w {
+        nodes = put_place (bare_node 0 0) w.nodes n ((is ∙ ap (λ y. commit y (Post to) Plain) e) j);
+        mail = kept j;
+      });
+      allowed = refl;
+      why = tt;
+      grows = λ g z. refl;
+      left = tt;
+    }
 
-has_first : (n : Node) (to : ℕ) (ms : List Message) → outbox n to ≡ ms → has_mail_for n to ≡ true → first_of (outbox n to) ≡ None → ⊥
-unfolding first_of
-has_first n to [] e has none = let no : false ≡ true = ap (λ (ms : List Message). not (nat_eq (length ms) 0)) (sym e) ∙ has in cc
-has_first n to (m ∷ ms) e has none = let no : Some m ≡ None = ap first_of (sym e) ∙ none in cc
-
--- a post has a message
-pub posts : (w : World) (n to : ℕ) → can_take w n (Post to) ≡ true → post_of (node_at w n) (Post to) ≡ None → ⊥
-unfolding can_take post_of
-posts w n to h none = has_first (node_at w n) to (outbox (node_at w n) to) refl
-    (and_parts (has_mail_for (node_at w n) to) (is_clear (mail_at w (way w n to)))
-    (and_parts (nat_lt to w.count) (has_mail_for (node_at w n) to && is_clear (mail_at w (way w n to))) h).1).0 none
+-- what was taken, whatever was told of it
+pub unseen : (w v : World) (n : ℕ) (act : Act) (event : Happened) → IsTaken w n act (Ok event) v →
+    IsTaken w n act (Ok (turn_event w n act)) v
+unseen w v n act event is = record { event = refl; done = is.done; allowed = is.allowed; why = tt; grows = λ g k. refl; left = tt }
 
 -- whom a node looks to, and whom it posts to, is one of the world
 pub looks-to-node : (w : World) (n from : ℕ) → can_take w n (Look from) ≡ true → from < w.count

@@ -1,11 +1,11 @@
 //! The turns of the nodes: which act comes first, and what each act does to the world.
 
-ghost use Rattle.std.specs.Prelude.{◌≡◌, ◌<◌, ◌≤◌, ◌+◌, ◌*◌, ◌&&◌, ℕ, Bool, true, false, nat_lt, map, List, length, slice_index, IfSome};
-ghost use Rattle.std.specs.Prelude.{IfNone, Err};
-ghost use Rattle.ipcz_world.specs.World.{node_at, way, mail_at, numbers_from};
-ghost use Rattle.ipcz_node.specs.Acts.{Answers, stand_in};
+ghost use Rattle.std.specs.Prelude.{◌≡◌, ◌<◌, ◌&&◌, ℕ, true, length, IfSome, IfNone, IfErr, OnOk, Ok, Err};
+ghost use Rattle.ipcz_world.specs.World.{node_at, mail_at, way};
+ghost use Rattle.ipcz_node.specs.Acts.{Answers, first_destination, first_sender, has_mail_for, stand_in};
 ghost use Rattle.ipcz_node.specs.RoomyNodes.{IsPossibleAct};
-ghost use Rattle.ipcz_world.specs.Turns.{is_full, is_clear, seen_at, next_at, can_take};
+ghost use Rattle.ipcz_world.specs.Settling.{TakesTurn};
+ghost use Rattle.ipcz_world.specs.Turns.{is_clear, seen_at, next_at, can_take, turn_event};
 ghost use Rattle.ipcz_world.specs.Steps.{StepFirst};
 ghost use Rattle.ipcz_world.specs.Taking.{IsRegular, IsTaken, IsCommitted};
 
@@ -13,7 +13,7 @@ use crate::mail::Mail;
 use crate::state::State;
 use crate::step::{Reply, Step};
 use ipcz_base::{End, Message, Refusal};
-use ipcz_node::{Act, Happened, MailSeen};
+use ipcz_node::{Act, Happened};
 use ipcz_router::act::{Answer, RouterAct};
 
 impl State {
@@ -27,44 +27,63 @@ impl State {
         from as usize * self.count as usize + to as usize
     }
 
-    // Which mailboxes to the node are full, by sender.
-    fn full_to(&self, n: u8) -> [bool; 8]
+    // The lowest node whose mailbox to this one is full.
+    fn first_sender(&self, n: u8) -> Option<u8>
         requires regular { IsRegular self.now }
         requires node { n < self.now.count }
-        ensures { result ≡ map (λ from. nat_lt from self.now.count && is_full (mail_at self.now (way self.now from n))) (numbers_from 0 8) }
+        ensures { result ≡ first_sender (node_at self.now n) (seen_at self.now n) }
     {
-        let mut full = [false; 8];
         for from in 0..self.count {
-            full[from as usize] = self.mail.is_full(self.way(from, n));
+            if self.mail.is_full(self.way(from, n)) {
+                return Some(from);
+            }
         }
-        full
+        None
     }
 
-    // Which mailboxes from the node are empty, by destination.
-    fn empty_from(&self, n: u8) -> [bool; 8]
+    // The lowest node that messages of this one wait for and whose mailbox from this one is empty.
+    fn first_destination(&self, n: u8) -> Option<u8>
         requires regular { IsRegular self.now }
         requires node { n < self.now.count }
-        ensures { result ≡ map (λ to. nat_lt to self.now.count && is_clear (mail_at self.now (way self.now n to))) (numbers_from 0 8) }
+        ensures { result ≡ first_destination (node_at self.now n) (seen_at self.now n) }
     {
-        let mut empty = [false; 8];
         for to in 0..self.count {
-            empty[to as usize] = self.mail.is_clear(self.way(n, to));
+            if self.can_post(n, to) {
+                return Some(to);
+            }
         }
-        empty
+        None
+    }
+
+    // Whether messages of a node wait for another and the mailbox between them is empty.
+    #[tactic(auto, unfolding(crate::specs::World::node_at, crate::specs::World::mail_at))]
+    fn can_post(&self, n: u8, to: u8) -> bool
+        requires regular { IsRegular self.now }
+        requires node { n < self.now.count }
+        requires to { to < self.now.count }
+        ensures { result ≡ (has_mail_for (node_at self.now n) to && is_clear (mail_at self.now (way self.now n to))) }
+    {
+        self.nodes.node(n).has_mail_for(to) && self.mail.is_clear(self.way(n, to))
     }
 
     /// The first possible act of a node.
-    #[tactic(auto, unfolding(crate::specs::Turns::next_at, crate::specs::Turns::seen_at, crate::specs::World::node_at))]
+    #[tactic(auto, unfolding(crate::specs::Turns::next_at, crate::specs::World::node_at, ipcz_node::specs::Acts::next, ipcz_node::specs::Acts::node_turn))]
     pub(crate) fn next(&self, n: u8) -> Act
         requires regular { IsRegular self.now }
         requires node { n < self.now.count }
         ensures { result ≡ next_at self.now n }
     {
-        let seen = MailSeen {
-            full: self.full_to(n),
-            empty: self.empty_from(n),
-        };
-        self.nodes.node(n).next(&seen)
+        let node = self.nodes.node(n);
+        if let Some(sender) = node.hand() {
+            return Act::Hand(sender);
+        }
+        if let Some(sender) = self.first_sender(n) {
+            return Act::Look(sender);
+        }
+        if let Some(to) = self.first_destination(n) {
+            return Act::Post(to);
+        }
+        node.next_own()
     }
 
     /// Takes the first possible act of a node, which is given; where it finds no memory, what stands in for it.
@@ -109,8 +128,8 @@ impl State {
     {
         match act {
             Act::Hand(from) => self.handle(n, from),
-            Act::Look(from) => self.look(n, from),
-            Act::Post(to) => self.post(n, to),
+            Act::Look(from) => Ok(self.look(n, from)),
+            Act::Post(to) => Ok(self.post(n, to)),
             Act::Close(end) => self.close_pending(n, end),
             Act::Router(serial, act) => self.take_router_act(n, serial, act),
             Act::Idle => Ok(Happened::Idle),
@@ -138,32 +157,29 @@ impl State {
     }
 
     // Takes the message of a full mailbox into the hand.
-    fn look(&mut self, n: u8, from: u8) -> Result<Happened, Refusal>
+    fn look(&mut self, n: u8, from: u8) -> Happened
         requires regular { IsRegular self.old }
         requires node { n < self.old.count }
         requires possible { can_take self.old n (Act.Look from) ≡ true }
-        ensures { IsTaken self.old n (Act.Look from) result self.new }
+        ensures { IsTaken self.old n (Act.Look from) (Ok result) self.new }
     {
         let place = self.way(from, n);
-        let (event, _) = self.take_wordless(n, Act::Look(from))?;
+        self.nodes.node_mut(n).look(from);
         self.mail.take_up(place);
-        Ok(event)
+        Happened::Look(from)
     }
 
     // Posts the first message for a node into its empty mailbox.
-    fn post(&mut self, n: u8, to: u8) -> Result<Happened, Refusal>
+    fn post(&mut self, n: u8, to: u8) -> Happened
         requires regular { IsRegular self.old }
         requires node { n < self.old.count }
         requires possible { can_take self.old n (Act.Post to) ≡ true }
-        ensures { IsTaken self.old n (Act.Post to) result self.new }
+        ensures { IsTaken self.old n (Act.Post to) (Ok result) self.new }
     {
         let place = self.way(n, to);
-        let (event, posted) = self.take_wordless(n, Act::Post(to))?;
-        let Some(message) = posted else {
-            unreachable!()
-        };
+        let message = self.nodes.node_mut(n).post(to);
         self.mail.put(place, Mail::Full(message));
-        Ok(event)
+        Happened::Post(to)
     }
 
     // Closes an end that travelled in a parcel which a sink has dropped.
@@ -202,6 +218,106 @@ impl State {
         let answer = self.words.answer(act, node.word_of(serial));
         let (event, _) = node.commit(Act::Router(serial, act), answer);
         Ok(event)
+    }
+}
+
+impl State {
+    /// Takes the first possible act of a node as `take_first` does, but doesn't tell what happened.
+    pub(crate) fn take_first_unseen(&mut self, n: u8, act: Act) -> Result<(), Refusal>
+        requires regular { IsRegular self.old }
+        requires node { n < self.old.count }
+        requires first { act ≡ next_at self.old n }
+        ensures turned { OnOk result (TakesTurn self.old n self.new) }
+        ensures refused { IfErr result (λ why. StepFirst self.old (Step.Turn n) (Reply.Refused why) self.new) }
+    {
+        match self.take_unseen(n, act) {
+            Ok(()) => Ok(()),
+            Err(why) => self.give_up_unseen(n, act, why),
+        }
+    }
+
+    // The first act was refused: where that is for want of memory, what stands in for it is taken.
+    fn give_up_unseen(&mut self, n: u8, act: Act, why: Refusal) -> Result<(), Refusal>
+        requires regular { IsRegular self.old }
+        requires node { n < self.old.count }
+        requires first { act ≡ next_at self.old n }
+        requires refused { IsTaken self.old n act (Err why) self.old }
+        ensures turned { OnOk result (TakesTurn self.old n self.new) }
+        ensures refused { IfErr result (λ why. StepFirst self.old (Step.Turn n) (Reply.Refused why) self.new) }
+    {
+        if let Refusal::NumbersEnd = why {
+            return Err(Refusal::NumbersEnd);
+        }
+        let Some(other) = stand_in(act) else {
+            return Err(why);
+        };
+        self.take_unseen(n, other)
+    }
+
+    // Takes an act as `take` does, but doesn't tell what happened.
+    fn take_unseen(&mut self, n: u8, act: Act) -> Result<(), Refusal>
+        requires regular { IsRegular self.old }
+        requires node { n < self.old.count }
+        requires possible { can_take self.old n act ≡ true }
+        ensures taken { OnOk result (IsTaken self.old n act (Ok (turn_event self.old n act)) self.new) }
+        ensures refused { IfErr result (λ why. IsTaken self.old n act (Err why) self.new) }
+    {
+        match act {
+            Act::Hand(from) => self.handle_unseen(n, from),
+            Act::Router(serial, act) => self.take_router_act_unseen(n, serial, act),
+            Act::Look(from) => {
+                let _seen = self.look(n, from);
+                Ok(())
+            }
+            Act::Post(to) => {
+                let _seen = self.post(n, to);
+                Ok(())
+            }
+            Act::Close(end) => match self.close_pending(n, end) {
+                Ok(_) => Ok(()),
+                Err(why) => Err(why),
+            },
+            Act::Idle => Ok(()),
+        }
+    }
+
+    // Handles the message in hand as `handle` does, but doesn't tell what happened.
+    fn handle_unseen(&mut self, n: u8, from: u8) -> Result<(), Refusal>
+        requires regular { IsRegular self.old }
+        requires node { n < self.old.count }
+        requires possible { can_take self.old n (Act.Hand from) ≡ true }
+        ensures taken { OnOk result (IsTaken self.old n (Act.Hand from) (Ok (turn_event self.old n (Act.Hand from))) self.new) }
+        ensures refused { IfErr result (λ why. IsTaken self.old n (Act.Hand from) (Err why) self.new) }
+    {
+        let place = self.way(from, n);
+        let Some(message) = self.mail.take_hand(place) else {
+            unreachable!()
+        };
+        match self.nodes.node_mut(n).deliver_unseen(from, message) {
+            Ok(()) => Ok(()),
+            Err((why, message)) => {
+                self.mail.put(place, Mail::Hand(message));
+                Err(why)
+            }
+        }
+    }
+
+    // Lets a router do an act as `take_router_act` does, but doesn't tell what happened.
+    fn take_router_act_unseen(&mut self, n: u8, serial: u64, act: RouterAct) -> Result<(), Refusal>
+        requires regular { IsRegular self.old }
+        requires node { n < self.old.count }
+        requires possible { can_take self.old n (Act.Router serial act) ≡ true }
+        ensures taken { OnOk result
+            (IsTaken self.old n (Act.Router serial act) (Ok (turn_event self.old n (Act.Router serial act))) self.new) }
+        ensures refused { IfErr result (λ why. IsTaken self.old n (Act.Router serial act) (Err why) self.new) }
+    {
+        let node = self.nodes.node_mut(n);
+        if let Err(why) = node.prepare(&Act::Router(serial, act)) {
+            return Err(why);
+        }
+        let answer = self.words.answer(act, node.word_of(serial));
+        node.commit_unseen(serial, act, answer);
+        Ok(())
     }
 }
 

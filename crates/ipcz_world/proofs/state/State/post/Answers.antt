@@ -1,32 +1,29 @@
-use Rattle.std.proofs.Common.{sym, ap, ◌∙◌}
-use Rattle.std.proofs.lemmas.Result.{err_from_is_err_and}
-use Rattle.ipcz_world.proofs.Vocabulary.{put_place, Empty}
+use Rattle.std.proofs.Common.{◌<◌, length, subst, sym, ap, ◌∙◌}
+use Rattle.ipcz_node.specs.declared.act.Act.TheVariants.{Post}
+use Rattle.ipcz_node.specs.RoomyNodes.{IsPossibleAct}
+use Rattle.ipcz_world.proofs.Vocabulary.{put_place, Empty, World, node_at, way}
 use Rattle.ipcz_world.specs.declared.mail.Mail.TheVariants.{Full}
-use Rattle.ipcz_world.proofs.code.Taken.{post-may, refused-post, done-post, posts, posts-to-node, mail-stays, moved, given}
+use Rattle.ipcz_world.proofs.code.Taken.{asked, post-may, done-post, posts-to-node}
 use Rattle.ipcz_world.proofs.state.State.post.Goals as goal
 
 pub way-place-requires-clause-to : goal.way-place-requires-clause-to
 way-place-requires-clause-to c = posts-to-node c.args.self.now c.args.n c.args.to c.requires.possible
 
-pub take_wordless-requires-clause-possible : goal.take_wordless-requires-clause-possible
-take_wordless-requires-clause-possible c = post-may c.args.self.now c.args.n c.args.to c.requires.possible
-
-pub returns-in_err-event : goal.returns-in_err-event
-returns-in_err-event c =
-    let p = err_from_is_err_and c.from_residual.result c.from_residual.ensures.1 in
-    rw (p.1, p.2) (refused-post c.args.self.now _ c.args.n c.args.to _ c.in_err-event.ensures)
-
-pub unreachable-requires : goal.unreachable-requires
-unreachable-requires c = posts c.args.self.now c.args.n c.args.to c.requires.possible (sym c.in_ok-event.ensures.message ∙ c.in_default.is)
+pub post-message-requires : goal.post-message-requires
+unfolding node_at
+post-message-requires c =
+    let a = asked _ _ c.args.n (Post c.args.to) c.self.view_is c.requires.regular c.requires.node c.requires.possible in
+    subst (λ y. IsPossibleAct y (Post c.args.to)) (sym c.node_mut.ensures.value) (post-may _ c.args.n c.args.to a.may)
 
 pub put-requires : goal.put-requires
 put-requires c =
-    let done = moved _ _ _ _ _ _ c.self.view_is c.in_ok-event.ensures in
-    mail-stays _ _ _ _ _ c.way-place.result done (c.way-place.ensures.within c.requires.regular)
+    subst (λ (w : World). c.way-place.result < length w.mail) (sym c.self.view_is) (c.way-place.ensures.within c.requires.regular)
 
 pub returns : goal.returns
+unfolding node_at
 returns c =
-    let done = moved _ _ _ _ _ _ c.self.view_is c.in_ok-event.ensures in
-    let whole = given _ _ _ _ _ _ _ c.in-Some.is done in
-    let e = c.put.ensures ∙ ap (λ k. put_place Empty c.self.inside.mail k (Full c.in-Some.message)) c.way-place.ensures.way in
-    rw e (done-post c.args.self.now _ c.args.n c.args.to c.in_ok-event.event c.in-Some.message whole)
+    let place = c.way-place.ensures.way ∙ ap (λ (w : World). way w c.args.n c.args.to) (sym c.self.view_is) in
+    let kept = c.put.ensures ∙ ap (λ k. put_place Empty c.self.inside.mail k (Full c.post-message.result)) place in
+    rw (← c.self.view_is)
+    (done-post _ c.args.n c.args.to c.post-message.result c.node_mut.result.now.node c.post-message.new.self.node c.put.new.self
+    c.node_mut.ensures.value c.post-message.ensures.message c.post-message.ensures.node kept)

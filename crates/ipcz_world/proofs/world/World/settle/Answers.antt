@@ -6,7 +6,7 @@ use Rattle.ipcz_world.specs.Settling.{IsSettle, IsRefusedSettle, next_node}
 use Rattle.ipcz_world.specs.Visiting.{AreIdle, IsNextBusy}
 use Rattle.ipcz_world.proofs.code.Regular.{lawful-regular}
 use Rattle.ipcz_world.proofs.code.Running.{visits-lead}
-use Rattle.ipcz_world.proofs.code.Visiting.{OnWay, on_way-turn, settled, unsettled, refused, answers_turn, no-other}
+use Rattle.ipcz_world.proofs.code.Visiting.{OnWay, on_way-turn, settled, unsettled, refused}
 use Rattle.ipcz_world.proofs.world.World.settle.Goals.{in-None, in-Some-next_busy}
 use Rattle.ipcz_world.proofs.world.World.settle.Goals as goal
 use Rattle.ipcz_base.specs.declared.refusal.Refusal.{Refusal}
@@ -49,31 +49,21 @@ returns-in_default-clause-settles c =
     (omega (arith, c.loop-acts-test.true))
     (subst IsLawful c.self.view_is c.self.invariant) (subst (λ v. AreIdle v 0 v.count) c.self.view_is c.in_default.ensures.none))
 
-pub returns-in-Refused-clause-refused : goal.returns-in-Refused-clause-refused
-returns-in-Refused-clause-refused c =
+pub returns-in-Err-clause-refused : goal.returns-in-Err-clause-refused
+returns-in-Err-clause-refused c =
     lawful-refused _ _ _ _ (refused c.args.limit c.loop-acts.acts c.loop-acts.from c.in-Some.node c.args.self.now c.loop-acts.self
-    c.take_turn.new.self c.in-Refused.why
+    c.take_turn.new.self c.in-Err.why
     c.loop-acts.invariant
     (omega (arith, c.loop-acts-test.true)) (subst (λ v. IsNextBusy v c.loop-acts.from c.in-Some.node) c.self.view_is c.in-Some.ensures.some)
-    (subst (λ r. StepFirst c.loop-acts.self (Turn c.in-Some.node) r c.take_turn.new.self) c.in-Refused.is c.take_turn.ensures.step))
-
-pub unreachable-requires : goal.unreachable-requires
-unreachable-requires c =
-    let fine = no-other c.loop-acts.self c.take_turn.new.self c.in-Some.node c.take_turn.result c.take_turn.ensures.step in
-    elim c.in-Opened.is [
-      | inl o ↦ let no : false ≡ true = sym (ap answers_turn o.2) ∙ fine in cc
-      | inr (inl p) ↦ let no : false ≡ true = sym (ap answers_turn p.1) ∙ fine in cc
-      | inr (inr (inl g)) ↦ let no : false ≡ true = sym (ap answers_turn g.2) ∙ fine in cc
-      | inr (inr (inr k)) ↦ let no : false ≡ true = sym (ap answers_turn k.1) ∙ fine in cc
-    ]
+    c.in-Err.ensures.refused)
 
 pub loop-acts-preserved : goal.loop-acts-preserved
 loop-acts-preserved c =
     on_way-turn c.args.self.now c.loop-acts.self c.take_turn.new.self c.loop-acts.acts c.loop-acts.from c.in-Some.node c.next_node-from.result
-    c.in-Turned.field-0
+    c.in-Ok.ensures.turned.0
     c.loop-acts.invariant (subst (λ v. IsNextBusy v c.loop-acts.from c.in-Some.node) c.self.view_is c.in-Some.ensures.some)
     (c.next_node-from.ensures ∙ ap (λ v. next_node v c.in-Some.node) c.self.view_is)
-    (subst (λ r. StepFirst c.loop-acts.self (Turn c.in-Some.node) r c.take_turn.new.self) c.in-Turned.is c.take_turn.ensures.step)
+    c.in-Ok.ensures.turned.1
 
 pub returns-clause-settles : goal.returns-clause-settles
 returns-clause-settles c =

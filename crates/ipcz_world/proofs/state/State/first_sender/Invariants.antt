@@ -1,0 +1,10 @@
+use Rattle.std.proofs.Common.{◌≡◌, false, ◌-◌}
+use Rattle.ipcz_world.proofs.Vocabulary.{place_at}
+use Rattle.ipcz_node.specs.Acts.{first_number}
+use Rattle.ipcz_world.specs.Turns.{seen_at}
+use Rattle.ipcz_world.proofs.state.State.first_sender.Given as goal
+
+-- none so far has a full mailbox
+abbrev pub invariant-loop-from : goal.invariant-loop-from
+invariant-loop-from l = first_number (λ i. place_at false (seen_at l.self l.n).full i) l.from (l.self.count - l.from) ≡
+    first_number (λ i. place_at false (seen_at l.self l.n).full i) 0 l.self.count

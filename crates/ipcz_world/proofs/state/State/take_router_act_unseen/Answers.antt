@@ -1,0 +1,56 @@
+use Rattle.std.proofs.Common.{◌<◌, length, subst, sym, ap, refl, ◌∙◌}
+use Rattle.ipcz_node.specs.Events.{event_of}
+use Rattle.std.specs.Prelude.{IfSome}
+use Rattle.ipcz_node.specs.declared.act.Act.TheVariants.{Router}
+use Rattle.ipcz_node.specs.Acts.{act_lacks_serials}
+use Rattle.ipcz_node.specs.RoomyNodes.{IsPossibleAct}
+use Rattle.ipcz_node.specs.Node.{word_side}
+use Rattle.ipcz_world.proofs.Vocabulary.{node_at}
+use Rattle.ipcz_world.specs.Coding.{table_answer, table_after}
+use Rattle.ipcz_world.proofs.code.Taken.{asked, link-within, router-may, answer-kind, done-router, refused-router, unseen}
+use Rattle.ipcz_world.proofs.state.State.take_router_act_unseen.Goals as goal
+
+pub returns-in-Err-clause-refused : goal.returns-in-Err-clause-refused
+unfolding node_at
+returns-in-Err-clause-refused c =
+    let a = asked _ _ c.args.n (Router c.args.serial c.args.act) c.self.view_is c.requires.regular c.requires.node c.requires.possible in
+    rw (← c.self.view_is)
+    (refused-router _ c.args.n c.args.serial c.args.act a.regular a.here c.node_mut-node.result.now.node c.prepare.new.self.node
+    c.in-Err.why c.node_mut-node.ensures.value
+    c.in-Err.ensures.node c.in-Err.ensures.why (λ grows _. c.in-Err.ensures.grows grows))
+
+pub answer-answer-requires : goal.answer-answer-requires
+unfolding node_at
+answer-answer-requires c =
+    let a = asked _ _ c.args.n (Router c.args.serial c.args.act) c.self.view_is c.requires.regular c.requires.node c.requires.possible in
+    let is = c.word_of.ensures ∙ ap (λ y. word_side y c.args.serial) (c.in_default.ensures.node ∙ c.node_mut-node.ensures.value) in
+    subst (λ o. IfSome o (λ x. x.0 < length c.self.inside.words.words)) (sym is)
+    (link-within _ c.args.n c.args.serial c.args.act a.regular a.here a.may)
+
+pub commit_unseen-requires-clause-possible : goal.commit_unseen-requires-clause-possible
+unfolding node_at
+commit_unseen-requires-clause-possible c =
+    let a = asked _ _ c.args.n (Router c.args.serial c.args.act) c.self.view_is c.requires.regular c.requires.node c.requires.possible in
+    subst (λ y. IsPossibleAct y (Router c.args.serial c.args.act)) (sym (c.in_default.ensures.node ∙ c.node_mut-node.ensures.value))
+    (router-may _ c.args.n c.args.serial c.args.act a.regular a.here a.may)
+
+pub commit_unseen-requires-clause-answer : goal.commit_unseen-requires-clause-answer
+unfolding node_at
+commit_unseen-requires-clause-answer c =
+    let a = asked _ _ c.args.n (Router c.args.serial c.args.act) c.self.view_is c.requires.regular c.requires.node c.requires.possible in
+    let is = c.word_of.ensures ∙ ap (λ y. word_side y c.args.serial) (c.in_default.ensures.node ∙ c.node_mut-node.ensures.value) in
+    answer-kind _ c.args.n c.args.serial c.args.act a.regular a.here a.may c.answer-answer.result
+    (c.answer-answer.ensures.answer ∙ ap (table_answer c.self.inside.words c.args.act) is)
+
+pub returns-clause-taken : goal.returns-clause-taken
+unfolding node_at
+returns-clause-taken c =
+    let a = asked _ _ c.args.n (Router c.args.serial c.args.act) c.self.view_is c.requires.regular c.requires.node c.requires.possible in
+    let here = c.in_default.ensures.node ∙ c.node_mut-node.ensures.value in
+    let is = c.word_of.ensures ∙ ap (λ y. word_side y c.args.serial) here in
+    rw (← c.self.view_is)
+    (unseen _ _ c.args.n (Router c.args.serial c.args.act) _ (done-router _ c.args.n c.args.serial c.args.act a.regular a.here a.may c.prepare.new.self.node c.commit_unseen.new.self.node
+    (event_of c.prepare.new.self.node (Router c.args.serial c.args.act) c.answer-answer.result) c.answer-answer.result
+    c.answer-answer.new.self here (c.answer-answer.ensures.answer ∙ ap (table_answer c.self.inside.words c.args.act) is)
+    (c.answer-answer.ensures.table ∙ ap (table_after c.self.inside.words c.args.act) is) c.commit_unseen.ensures refl
+    (ap (λ y. act_lacks_serials y (Router c.args.serial c.args.act)) c.in_default.ensures.node ∙ c.in_default.ensures.allowed)))
