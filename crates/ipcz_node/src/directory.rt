@@ -28,6 +28,7 @@ ghost use Rattle.ipcz_node.specs.Directories.{keeps_links};
 ghost use Rattle.std.specs.FinSet as sets;
 ghost use Rattle.std.specs.Prelude.{length, IfSome, IfNone};
 ghost use Rattle.ipcz_base.specs.Items.{ends_in};
+ghost use Rattle.ipcz_node.specs.Serials.{map_by, AreRising};
 ghost use Rattle.ipcz_node.specs.SortedSets.{has};
 ghost use Rattle.ipcz_node.specs.Indexes.{is_filed};
 
@@ -122,6 +123,14 @@ impl Directory {
         ensures { option_map (λ r. r.router) (option_copied result) ≡ get self.now.filed.routers serial }
     {
         self.routers.router(serial)
+    }
+
+    /// The routers with their serials, which rise.
+    pub fn entries(&self) -> &[(u64, Router)]
+        ensures routers { map_by (λ x. x.router) result.now ≡ self.now.filed.routers }
+        ensures rising { AreRising 0 self.now.filed.next result.now }
+    {
+        self.routers.entries()
     }
 
     /// Makes room for so many routers and so many links of others more. It asks for none where there is room for both.

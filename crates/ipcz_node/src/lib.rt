@@ -15,4 +15,5 @@ mod state;
 
 pub use act::{Act, MailSeen};
 pub use happened::{Handed, Happened};
+pub use outbox::Outbox;
 pub use state::{NodeState, PutRefused};

@@ -81,6 +81,14 @@ impl Outbox {
         self.first.is_none()
     }
 
+    /// How many messages wait.
+    pub fn len(&self) -> usize
+        ensures { result ≡ length self.now.messages }
+    {
+        let rest = self.rest.len();
+        if self.first.is_some() { rest + 1 } else { 0 }
+    }
+
     /// Takes the first message out, where there is one. What is left empty gives its room back.
     #[tactic(auto, unfolding(crate::specs::Acts::first_of, crate::specs::Acts::rest_of))]
     pub fn pop(&mut self, alloc: Global) -> Option<Message>

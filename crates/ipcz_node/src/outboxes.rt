@@ -66,6 +66,13 @@ impl Outboxes {
         !self.queues[usize::from(to)].is_empty()
     }
 
+    /// The messages that wait, by destination.
+    pub fn queues(&self) -> &[Outbox]
+        ensures { map (λ q. q.messages) result.now ≡ self.now.messages }
+    {
+        self.queues.as_slice()
+    }
+
     /// Whether no message waits.
     pub fn are_empty(&self) -> bool
         ensures { result ≡ are_empty self.now.messages }

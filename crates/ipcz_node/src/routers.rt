@@ -5,7 +5,7 @@ ghost use Rattle.std.specs.Ordering.{nat_cmp};
 ghost use Rattle.std.specs.FinMap.{find, get, remove, empty, len};
 ghost use Rattle.ipcz_node.specs.Finding.{IsNext, is_terminal_in};
 ghost use Rattle.ipcz_node.specs.Rooms.{RoutersValue, routers_with};
-ghost use Rattle.ipcz_node.specs.Serials.{key_at, entries_by, AreRising};
+ghost use Rattle.ipcz_node.specs.Serials.{key_at, entries_by, map_by, AreRising};
 
 use crate::held_ends::HeldEnds;
 use ipcz_base::End;
@@ -85,6 +85,14 @@ impl Routers {
             Some(place) => Some(&self.entries[place].1),
             None => None,
         }
+    }
+
+    /// The routers with their serials, which rise.
+    pub fn entries(&self) -> &[(u64, Router)]
+        ensures routers { map_by (λ x. x.router) result.now ≡ self.now.routers }
+        ensures rising { AreRising 0 self.now.next result.now }
+    {
+        self.entries.as_slice()
     }
 
     /// Makes room for so many more routers.

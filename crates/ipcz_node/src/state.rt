@@ -1,4 +1,4 @@
-ghost use Rattle.std.specs.Prelude.{ℕ, ◌≡◌, ◌<◌, ◌≤◌, ◌+◌, ◌-◌, ◌++◌, [], ◌∷◌, Some, None, is_some, true, false, length, vec_len};
+ghost use Rattle.std.specs.Prelude.{ℕ, ◌≡◌, ◌<◌, ◌≤◌, ◌+◌, ◌-◌, ◌++◌, [], ◌∷◌, Some, None, is_some, true, false, length, map, vec_len};
 ghost use Rattle.std.specs.Prelude.{vec_capacity, nat_eq, OnOk, OnErr, IfOk, IfErr, IfSome, IfNone, IsSomeAnd};
 ghost use Rattle.std.specs.FinMap.{get};
 ghost use Rattle.ipcz_base.specs.Limits.{no_number, last_number, has_serials};
@@ -6,6 +6,7 @@ ghost use Rattle.ipcz_base.specs.Indexed.{place_at};
 ghost use Rattle.ipcz_base.specs.Items.{ends_in};
 ghost use Rattle.ipcz_router.specs.Router.{Router as RouterRecord, IsOpenTerminal, outward_has, router_has};
 ghost use Rattle.ipcz_router.specs.Calls.{has_place_for};
+ghost use Rattle.ipcz_node.specs.Serials.{map_by, AreRising};
 ghost use Rattle.ipcz_node.specs.Node.{router_in, terminal_of, link_router, found, is_named, add_stray, push_out};
 ghost use Rattle.ipcz_node.specs.Sends.{Transfer, move_end, move_ends, move_router, moved_ends, transfer_of, item_message, send_item};
 ghost use Rattle.ipcz_node.specs.RoomyNodes.{transfer, AreLow, IsReady};
@@ -33,9 +34,11 @@ mod turn;
 
 pub use self::calls::PutRefused;
 use crate::directory::Directory;
+use crate::outbox::Outbox;
 use crate::outboxes::Outboxes;
 use crate::spare::Spare;
 use ipcz_base::{Descriptor, End, Item, LinkEnd, LinkId, Message, Moves, Refusal, Side};
+use ipcz_router::Router;
 use ipcz_router::act::{Answer, Applied, RouterAct};
 use std::alloc::{AllocError, Global};
 use std::marker::Model;
@@ -120,6 +123,28 @@ impl NodeState {
         ensures { result ≡ self.now.node.opening }
     {
         self.opening
+    }
+
+    /// Its routers with their serials, which rise.
+    pub fn routers(&self) -> &[(u64, Router)]
+        ensures routers { map_by (λ x. x.router) result.now ≡ self.now.node.routers }
+        ensures rising { AreRising 0 self.now.node.next_router result.now }
+    {
+        self.routers.entries()
+    }
+
+    /// The messages that wait to be posted, by destination: a queue for each number that a node could have.
+    pub fn outboxes(&self) -> &[Outbox]
+        ensures { map (λ q. q.messages) result.now ≡ self.now.node.outboxes }
+    {
+        self.outboxes.queues()
+    }
+
+    /// The ends that are still to be closed, since a sink dropped the parcels that had them.
+    pub fn pending(&self) -> &[End]
+        ensures { result.now ≡ self.now.node.pending }
+    {
+        self.pending.as_slice()
     }
 
     // The serial of the open terminal of an end.

@@ -6,6 +6,7 @@ ghost use Rattle.ipcz_router.specs.Router.{from_descriptor, rouse, word_side};
 ghost use Rattle.ipcz_router.specs.RoomyRouters.{KeepsRoom, LeavesRoom};
 ghost use Rattle.ipcz_router.specs.Filings.{filing_of};
 ghost use Rattle.ipcz_router.specs.Acts.{pop_out, pop_in};
+ghost use Rattle.ipcz_router.specs.Calls.{next_number};
 
 mod bypass;
 mod calls;
@@ -213,6 +214,27 @@ impl Router {
             LinkId::Central(word) => Some((word, self.end.side)),
             LinkId::Peripheral { .. } => None,
         }
+    }
+
+    /// The number of the item that leaves the out queue next.
+    pub fn out_number(&self) -> u64
+        ensures { result ≡ self.now.router.out_queue.current }
+    {
+        self.out_queue.current()
+    }
+
+    /// The number of the item that leaves the in queue next.
+    pub fn in_number(&self) -> u64
+        ensures { result ≡ self.now.router.in_queue.current }
+    {
+        self.in_queue.current()
+    }
+
+    /// The first number from the out queue's current one on whose item hasn't come; at a terminal, the next one to put.
+    pub fn next_number(&self) -> u64
+        ensures { result ≡ next_number self.now.router }
+    {
+        self.out_queue.reach()
     }
 
     /// The item that leaves the out queue next, where it has come.
