@@ -1,7 +1,7 @@
 //! What the title and the label of a message say.
 
-ghost use Rattle.std.specs.Prelude.{◌≡◌, ◌+◌, ◌*◌, ◌≤◌, ◌∷◌, List, ℕ, length};
-ghost use Rattle.ipcz_markup.specs.Markup.{Grows, InText, Keeps, Row, Stands};
+ghost use Rattle.std.specs.Prelude.{◌+◌, ◌*◌, ◌≤◌, length};
+ghost use Rattle.ipcz_markup.specs.Markup.{Grows, Keeps};
 
 use ipcz_lines::{Kind, Link};
 use ipcz_markup::{Look, Stroke, Tag, Writer};

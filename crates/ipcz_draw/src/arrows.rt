@@ -1,9 +1,8 @@
 //! The messages: from the router that made one to the wall of its node, between the walls, and from the wall to the router
 //! that it was handed to.
 
-ghost use Rattle.std.specs.Prelude.{◌≡◌, ◌+◌, ◌*◌, ◌≤◌, ◌∷◌, List, ℕ, length};
-ghost use Rattle.ipcz_markup.specs.declared.writer.Tag.{Tag};
-ghost use Rattle.ipcz_markup.specs.Markup.{Grows, InText, InValue, Keeps, Row, Stands};
+ghost use Rattle.std.specs.Prelude.{◌*◌, length};
+ghost use Rattle.ipcz_markup.specs.Markup.{Grows, Keeps};
 
 use crate::arrow_title::{draw_arrow_label, draw_arrow_title, look_of, stroke_of};
 use crate::rows::UNIT;

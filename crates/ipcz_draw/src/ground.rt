@@ -1,8 +1,7 @@
 //! The ground of a picture: stripes, the nodes' bands, and whose turn it is.
 
-ghost use Rattle.std.specs.Prelude.{◌≡◌, ◌+◌, ◌*◌, ◌≤◌, ◌∷◌, List, ℕ, length};
-ghost use Rattle.ipcz_markup.specs.declared.writer.Tag.{Tag};
-ghost use Rattle.ipcz_markup.specs.Markup.{Grows, InText, Keeps, Row, Stands};
+ghost use Rattle.std.specs.Prelude.{◌+◌, ◌*◌, length};
+ghost use Rattle.ipcz_markup.specs.Markup.{Grows, Keeps};
 
 use crate::rows::{TOP, UNIT};
 use crate::scene::{Scene, Walls};

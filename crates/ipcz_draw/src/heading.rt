@@ -1,7 +1,7 @@
 //! The heading of a picture: what it is, and what its marks mean.
 
-ghost use Rattle.std.specs.Prelude.{◌≡◌, ◌+◌, ◌*◌, ◌≤◌, ◌∷◌, List, ℕ, length};
-ghost use Rattle.ipcz_markup.specs.Markup.{Grows, InText, Keeps, Row, Stands};
+ghost use Rattle.std.specs.Prelude.{◌+◌, ◌*◌, length};
+ghost use Rattle.ipcz_markup.specs.Markup.{Grows, Keeps};
 
 use ipcz_markup::{Class, Look, Stroke, Tag, Writer};
 

@@ -1,7 +1,7 @@
 //! The lifelines of routers: full, hollow for a proxy, dashed once its bypass has begun.
 
-ghost use Rattle.std.specs.Prelude.{◌≡◌, ◌+◌, ◌*◌, ◌≤◌, ◌∷◌, List, ℕ, length};
-ghost use Rattle.ipcz_markup.specs.Markup.{Grows, InText, Keeps, Row, Stands};
+ghost use Rattle.std.specs.Prelude.{◌*◌, length};
+ghost use Rattle.ipcz_markup.specs.Markup.{Grows, Keeps};
 
 use crate::lanes::Lane;
 use crate::scene::Scene;

@@ -1,7 +1,7 @@
 //! The marks in a row: what a router did, a node's close, an idle turn, words.
 
-ghost use Rattle.std.specs.Prelude.{◌≡◌, ◌+◌, ◌*◌, ◌≤◌, ◌∷◌, List, ℕ, length};
-ghost use Rattle.ipcz_markup.specs.Markup.{Grows, InText, Keeps, Row, Stands};
+ghost use Rattle.std.specs.Prelude.{◌+◌, ◌*◌, ◌≤◌, length};
+ghost use Rattle.ipcz_markup.specs.Markup.{Grows, Keeps};
 ghost use Rattle.ipcz_draw.specs.Sizes.{most_marks};
 
 use crate::arrow_title::write_link;

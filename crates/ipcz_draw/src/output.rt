@@ -1,9 +1,7 @@
 //! A transcript to its picture, from bytes to bytes.
 
-ghost use Rattle.std.specs.Prelude.{◌≡◌, ◌↔◌, ◌++◌, false, length, IsTrue, IsErrOf, IfOk, OnOk};
-ghost use Rattle.ipcz_lines.specs.Lines.{IsRead, IsRefused};
+ghost use Rattle.std.specs.Prelude.{◌≡◌, ◌↔◌, ◌++◌, false, IsTrue, IsErrOf, IfOk, OnOk};
 ghost use Rattle.ipcz_draw.specs.Outputs.{bad_line, long_line, refused_line, IsOutput, ReadsAndWrites};
-ghost use Rattle.ipcz_draw.specs.Rows.{IsPicture};
 
 use crate::device::Device;
 use crate::ending::Ending;

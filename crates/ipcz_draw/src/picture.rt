@@ -1,6 +1,6 @@
 //! A picture: its heading, its ground, and a row for each line.
 
-ghost use Rattle.std.specs.Prelude.{◌≡◌, ◌++◌, ◌+◌, ◌*◌, ◌^◌, ◌≤◌, ◌<◌, ◌∷◌, [], List, ℕ, length, map, IfOk};
+ghost use Rattle.std.specs.Prelude.{◌^◌, ◌≤◌, ◌<◌, ◌∷◌, [], List, length, map, IfOk};
 ghost use Rattle.ipcz_markup.specs.declared.writer.Tag.{Tag};
 ghost use Rattle.ipcz_markup.specs.Markup.{Grows, InTag, InText, Keeps, KeepsTag, Row, Stands};
 ghost use Rattle.std.specs.List.{sum_by};

@@ -1,6 +1,6 @@
 //! The rows of a picture: a row for each line, and one for each run of idle lines, one under the other.
 
-ghost use Rattle.std.specs.Prelude.{◌≡◌, ◌+◌, ◌*◌, ◌^◌, ◌≤◌, ◌<◌, ◌==◌, length, count_by, IfOk};
+ghost use Rattle.std.specs.Prelude.{◌≡◌, ◌^◌, ◌≤◌, ◌<◌, ◌==◌, length, count_by, IfOk};
 ghost use Rattle.std.specs.List.{AllWithin, HoldsAt};
 ghost use Rattle.ipcz_draw.specs.Rows.{is_idle, units_of, value_count, Follow, IsBusy, IsIdle, IsPlace};
 

@@ -1,6 +1,6 @@
 //! Where things stand in a picture.
 
-ghost use Rattle.std.specs.Prelude.{◌≡◌, ◌≤◌, ◌<◌, length, IfOk};
+ghost use Rattle.std.specs.Prelude.{◌≡◌, ◌≤◌, length, IfOk};
 
 use crate::lanes::Lane;
 use crate::rows::{Place, UNIT, value_count};

@@ -1,8 +1,8 @@
 //! How a message looks: its colour says its kind, its line how it stands.
 
-ghost use Rattle.std.specs.Prelude.{◌≡◌, ◌+◌, ◌*◌, ◌≤◌, ◌∷◌, List, ℕ, length};
+ghost use Rattle.std.specs.Prelude.{◌≤◌, ◌∷◌, List, length};
 ghost use Rattle.ipcz_markup.specs.declared.writer.Tag.{Tag};
-ghost use Rattle.ipcz_markup.specs.Markup.{Grows, InTag, InText, InValue, Keeps, KeepsTag, Row, Stands};
+ghost use Rattle.ipcz_markup.specs.Markup.{Grows, InText, InValue, Row, Stands};
 
 use crate::writer::{Key, Tag, Writer};
 

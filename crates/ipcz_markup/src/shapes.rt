@@ -1,8 +1,8 @@
 //! The shapes that a picture is made of: rectangles, lines, paths and texts, each an element of its own.
 
-ghost use Rattle.std.specs.Prelude.{◌≡◌, ◌++◌, ◌+◌, ◌*◌, ◌≤◌, ◌<◌, ◌∷◌, [], List, ℕ, length};
+ghost use Rattle.std.specs.Prelude.{◌+◌, ◌*◌, ◌∷◌, List, length};
 ghost use Rattle.ipcz_markup.specs.declared.writer.Tag.{Tag};
-ghost use Rattle.ipcz_markup.specs.Markup.{Grows, InTag, InText, InValue, Keeps, KeepsTag, KeepsValue, Row, Stands};
+ghost use Rattle.ipcz_markup.specs.Markup.{Grows, InText, InValue, Keeps, KeepsTag, KeepsValue, Row, Stands};
 
 use crate::class::Class;
 use crate::writer::{Key, Tag, Writer};

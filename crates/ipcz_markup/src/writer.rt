@@ -1,6 +1,6 @@
 //! A writer of markup. It has no answer at each call: once no memory was found it says so at the end.
 
-ghost use Rattle.std.specs.Prelude.{◌≡◌, ◌++◌, ◌+◌, ◌*◌, ◌^◌, ◌≤◌, ◌<◌, ◌∷◌, [], List, ℕ, length, map, true, false, OnOk, IfOk, codes};
+ghost use Rattle.std.specs.Prelude.{◌≡◌, ◌++◌, ◌+◌, ◌*◌, ◌^◌, ◌≤◌, ◌<◌, ◌∷◌, [], List, ℕ, length, true, false, OnOk, IfOk};
 ghost use Rattle.std.specs.Prelude.{if◌then◌else◌};
 ghost use Rattle.std.specs.Fmt.{decimal};
 ghost use Rattle.ipcz_markup.specs.declared.writer.Tag.{Tag};

@@ -1,7 +1,7 @@
 //! The routers that a transcript names, and what their lines say of them.
 
-ghost use Rattle.std.specs.Prelude.{◌≡◌, ◌<◌, ◌≤◌, ◌+◌, length, IfSome, IfNone, IfOk, OnOk};
-ghost use Rattle.std.specs.List.{AllWithin, HoldsAt};
+ghost use Rattle.std.specs.Prelude.{◌≡◌, ◌<◌, ◌≤◌, ◌+◌, length, IfSome, IfOk, OnOk};
+ghost use Rattle.std.specs.List.{HoldsAt};
 
 use crate::messages::Message;
 use ipcz_lines::{Event, Line, ReadLine, RouterEvent, Way};

@@ -1,6 +1,6 @@
 //! Reading what a turn was: the events of nodes and of their routers.
 
-ghost use Rattle.std.specs.Prelude.{All, IsTrue, ◌↔◌, ◌≡◌, ◌≢◌, ◌++◌, ◌∷◌, codes};
+ghost use Rattle.std.specs.Prelude.{All, IsTrue, ◌↔◌, ◌≡◌, ◌≢◌, codes};
 ghost use Rattle.ipcz_lines.specs.LineParts.{AreParted, IsEndText, IsKind, IsWordNumber, Reads, fate_text, kind_text, link_text, step_text};
 ghost use Rattle.ipcz_lines.specs.LineParts.{way_text, IsLink};
 ghost use Rattle.ipcz_lines.specs.Lines.{AreMoves, IsAct, IsEvent, IsRouterEvent, IsWordAct, act_text, and_more, central_text, event_text};

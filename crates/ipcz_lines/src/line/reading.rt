@@ -1,10 +1,10 @@
 //! Reading a line of a transcript, and a transcript.
 
-ghost use Rattle.std.specs.Prelude.{◌≡◌, ◌≢◌, ◌↔◌, ◌<◌, ◌≤◌, ◌++◌, ◌∷◌, IfSome, IfNone, IfOk, OnOk, IfErr, IsTrue, codes, length};
+ghost use Rattle.std.specs.Prelude.{◌≡◌, ◌≢◌, ◌↔◌, ◌<◌, ◌≤◌, ◌++◌, IfSome, IfNone, IfOk, OnOk, IfErr, IsTrue, codes, length};
 ghost use Rattle.std.specs.List.{All};
-ghost use Rattle.ipcz_lines.specs.LineParts.{AreParted, IsAnswer, IsFault, IsName, IsNumber, IsWordText, Reads, answer_text, fault_text};
-ghost use Rattle.ipcz_lines.specs.Lines.{AreNames, BeginsWithNoLine, FitsLine, IsTurn, IsLine, IsPrintable, IsRead, IsReadLine, IsRefused};
-ghost use Rattle.ipcz_lines.specs.Lines.{with_line_feed, and_more, line_text, opened_text, spaced};
+ghost use Rattle.ipcz_lines.specs.LineParts.{IsAnswer, IsFault, IsName, Reads, answer_text, fault_text};
+ghost use Rattle.ipcz_lines.specs.Lines.{AreNames, BeginsWithNoLine, FitsLine, IsTurn, IsPrintable, IsRead, IsReadLine, IsRefused};
+ghost use Rattle.ipcz_lines.specs.Lines.{with_line_feed, line_text, opened_text, spaced};
 
 use crate::line::acts::event;
 use crate::line::parts::{Answer, Fault, Refusal};

@@ -1,6 +1,6 @@
 //! Reading the parts of a line: numbers, ends, links, names and lists, each from all the bytes that it is given.
 
-ghost use Rattle.std.specs.Prelude.{◌≡◌, ◌≢◌, ◌↔◌, ℕ, ◌<◌, ◌^◌, ◌++◌, ◌∷◌, All, IfSome, IfNone, IsTrue, length};
+ghost use Rattle.std.specs.Prelude.{◌≡◌, ◌≢◌, ◌↔◌, ◌++◌, ◌∷◌, All, IfSome, IfNone, IsTrue};
 ghost use Rattle.std.specs.Fmt.{decimal};
 ghost use Rattle.ipcz_lines.specs.LineParts.{AreParted, BeginsPlainly, IsEnd, IsEndText, IsLink, IsName, IsNodeNumber, IsNumber};
 ghost use Rattle.ipcz_lines.specs.LineParts.{IsWordNumber, IsWordText, Reads, end_text, is_name_byte, link_text, refusal_text};

@@ -1,6 +1,6 @@
 //! Which post, which look and which hand are of one message.
 
-ghost use Rattle.std.specs.Prelude.{◌≡◌, ◌<◌, ◌≤◌, ◌+◌, None, Some, length, IfOk, IfSome, OnOk};
+ghost use Rattle.std.specs.Prelude.{◌≡◌, ◌<◌, ◌≤◌, ◌+◌, None, Some, length, IfOk, OnOk};
 ghost use Rattle.std.specs.List.{All, Any};
 ghost use Rattle.std.specs.Bool.{MatchBool};
 ghost use Rattle.ipcz_messages.specs.Joining.{AreJoined, IsFirstSeen};

@@ -1,6 +1,6 @@
 //! What changes mailboxes and hands, and what does so next.
 
-ghost use Rattle.std.specs.Prelude.{◌≡◌, ◌<◌, ◌+◌, length, true, false, IfSome, IfNone};
+ghost use Rattle.std.specs.Prelude.{◌≡◌, ◌<◌, ◌+◌, length, false, IfSome, IfNone};
 ghost use Rattle.std.specs.List.{AllWithin};
 ghost use Rattle.ipcz_messages.specs.Messages.{IsAt, IsHandOf, IsLookOf, IsNext, is_hand, is_look, is_any_look, is_post, is_settle};
 ghost use Rattle.ipcz_messages.specs.Messages.{touches_hand, touches_mailbox};

@@ -1,7 +1,5 @@
 //! Which routers name which links in their lines.
 
-ghost use Rattle.std.specs.Prelude.{◌≡◌, IfSome};
-
 use crate::routers::{Router, find};
 use ipcz_lines::{Event, Line, Link, ReadLine, RouterEvent};
 use std::alloc::{AllocError, Global};
