@@ -36,7 +36,7 @@ use Rattle.ipcz_world.proofs.lawful.Quiet.{quiet_delivers}
 use Rattle.ipcz_world.proofs.runs.BoundedSteps.{bounded-claim_for_open}
 use Rattle.ipcz_world.proofs.runs.FlaggedSteps.{flagged-claim_for_open}
 use Rattle.ipcz_world.proofs.runs.FlagsAgree.{agreed-claim_for_open}
-use Rattle.ipcz_world.proofs.owed.StepMinding.{claim_for_open_owing}
+use Rattle.ipcz_world.proofs.owed.StepWakers.{claim_for_open_owing}
 use Rattle.ipcz_world.proofs.owed.Remembering.{remembered}
 use Rattle.ipcz_world.proofs.lawful.OwedLaws as owed
 use Rattle.ipcz_world.proofs.lawful.LengthLaws.{length_law}
@@ -52,7 +52,7 @@ use Rattle.ipcz_world.proofs.lawful.EachOnce.{items_stand_once}
 use Rattle.std.proofs.lemmas.Bool.{and_parts}
 
 starts_kept : StartsKept
-starts_kept nodes words limits = let t = starts nodes words limits in record { records = t.0; inv = t.2; routes = t.1; unretired = t.3 }
+starts_kept nodes words limits = let t = starts nodes words limits in record { records = t.0; inv = t.2; routes = t.1 }
 
 -- the world at the start is lawful
 pub world_starts_lawful : StartsLawful
@@ -69,9 +69,9 @@ first_acts_are_possible = first_is_possible
 -- the first half of an open keeps a world lawful
 pub claim_keeps_lawful : ClaimKeepsLawful
 claim_keeps_lawful w b g n law l room none = let t = claim-kept w b law.records n law.inv room none in
-    lawful_by (claim_for_open w n) b (opening_records law.records n w.claimed) g t.0 (t.1 ∙ law.routes) law.unretired
+    lawful_by (claim_for_open w n) b (opening_records law.records n w.claimed) g t.0 (t.1 ∙ law.routes)
     (flagged-claim_for_open w n law.flagged) (agreed-claim_for_open w n law.agreed)
-    (claim_for_open_owing w b law.records law.inv law.agreed (record { minded = law.minded; ranked = law.ranked }) n)
+    (claim_for_open_owing w b law.records law.inv law.agreed (record { wakers = law.wakers; ranked = law.ranked }) n)
     (bounded-claim_for_open w b law.records law.inv law.bounded n l)
 
 -- the word of a link stays that for good, and of the same pair
@@ -139,7 +139,7 @@ pub lawful_worlds_owe : LawfulOwes
 lawful_worlds_owe w b g law = record {
   flagged = law.flagged;
   agreed = law.agreed;
-  tried = remembered w b law.records law.inv law.flagged law.agreed law.minded;
+  tried = remembered w b law.records law.inv law.flagged law.agreed law.wakers;
   length_to = owed.length_to w b law.records law.inv;
   length_from = owed.length_from w b law.records law.inv;
 }
@@ -153,12 +153,12 @@ pub each_quiet_is_direct : QuietIsDirect
 each_quiet_is_direct w b g pair law quiet wet tells =
     let t = and_parts (g.is_link pair) (nat_eq (g.pair pair) pair) tells in
     let own : g.pair pair ≡ pair = grind (arith, nat_tests, t.1) in
-    pair_direct w b law.records law.inv quiet law.ranked law.flagged law.minded wet pair law.unretired
+    pair_direct w b law.records law.inv quiet law.ranked law.flagged law.wakers wet pair
     (ap (λ z. z.is_link pair) law.routes ∙ t.0) (ap (λ z. z.pair pair) law.routes ∙ own)
 
 -- and no proxy is left
 pub quiet_has_no_proxy : QuietHasNoProxy
-quiet_has_no_proxy w b g law quiet wet = no_proxies w b law.records law.inv quiet law.ranked law.flagged law.minded wet
+quiet_has_no_proxy w b g law quiet wet = no_proxies w b law.records law.inv quiet law.ranked law.flagged law.wakers wet
 
 -- a terminal's numbers are those of its end's books
 pub terminals_keep_books : TerminalsKeepBooks

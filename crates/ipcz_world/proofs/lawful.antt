@@ -8,6 +8,8 @@ pub mod LinkLaws
 pub mod OneNode
 pub mod OwedLaws
 pub mod Quiet
+pub mod QuietBypasses
+pub mod QuietDelivery
 pub mod QuietDirect
 pub mod QuietGets
 pub mod QuietRoutes

@@ -4,8 +4,8 @@ pub mod Following
 pub mod Going
 pub mod Moving
 pub mod Remembering
-pub mod RouterMinding
-pub mod StartMinding
-pub mod StepMinding
+pub mod RouterWakers
+pub mod StartWakers
+pub mod StepWakers
 pub mod Tracking
-pub mod WordMinding
+pub mod WordWakers

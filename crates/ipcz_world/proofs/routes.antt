@@ -1,4 +1,3 @@
 -- What a turn is seen to do, and the routes that the run then writes.
 pub mod Routing
 pub mod Seeing
-pub mod Unretired

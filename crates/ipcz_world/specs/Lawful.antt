@@ -16,11 +16,11 @@ use Rattle.ipcz_world.specs.Steps.{Scheduler, AnyAct, StepBy}
 use Rattle.ipcz_world.specs.Books.{Books, no_books, advance, read, is_closed}
 use Rattle.ipcz_world.specs.Routes.{Routes, first_routes, routes_after}
 use Rattle.ipcz_world.specs.Places.{in_places, at_end, times_at, unread_weight}
-use Rattle.ipcz_world.specs.Records.{Records, NoneRetired, routes_of}
+use Rattle.ipcz_world.specs.Records.{Records, routes_of}
 use Rattle.ipcz_world.specs.Whereabouts.{Conserved, HeldOnce}
 use Rattle.ipcz_world.specs.Inv.{Inv}
 use Rattle.ipcz_world.specs.Laws.{There, LinkLaw, BypassLaw, WordLaw}
-use Rattle.ipcz_world.specs.Owed.{AreFlagged, FlagsAgree, AreMinded, IsRanked}
+use Rattle.ipcz_world.specs.Owed.{AreFlagged, FlagsAgree, HaveWakers, IsRanked}
 use Rattle.ipcz_world.specs.Settling.{IsBounded}
 
 -- the sentence: what holds after any list of steps of trusted nodes
@@ -52,7 +52,6 @@ pub record Lawful (w : World) (b : Books) (g : Routes) : Type 0 where
   pub records : Records
   pub routes : routes_of records ≡ g
   pub inv : Inv w b records
-  pub unretired : NoneRetired records
   pub conserved : Conserved w b records
   pub held_once : HeldOnce w b records
   pub link_law : LinkLaw w
@@ -62,8 +61,8 @@ pub record Lawful (w : World) (b : Books) (g : Routes) : Type 0 where
   pub flagged : AreFlagged w
   -- and its flags agree
   pub agreed : FlagsAgree w
-  -- who has tried for a lock is minded, and no proxies stand in a ring
-  pub minded : AreMinded w
+  -- who has tried for a lock has a waker, and no proxies stand in a ring
+  pub wakers : HaveWakers w
   pub ranked : IsRanked w
   -- the world's lists have their lengths and nothing lies beyond its nodes, so that what its nodes see is all that waits
   pub bounded : IsBounded w

@@ -1,4 +1,4 @@
--- What is owed to a router that could act or that waits, and a pair whose route is direct.
+-- What is owed to a router that could act or that waits, how proxies are ranked, and when the route of a pair is direct.
 -- (ipcz: that a flush is asked for wherever a router may have something to do, and that routes become direct in the end.)
 use Rattle.std.specs.Prelude.{◌≡◌, ◌⊎◌, ◌<◌, ℕ, Bool, true, false, ◌||◌, Some, None}
 use Rattle.ipcz_base.specs.declared.side.Side.{Side}
@@ -31,31 +31,19 @@ use Rattle.ipcz_world.specs.Laws.{names_old}
 abbrev pub AreFlagged : World → Type 0
 AreFlagged w = (k : Key) (r : Router) (act : RouterAct) → router_at w k ≡ Some r → is_possible r act ≡ true → r.flagged ≡ true
 
+-- the flags of each router agree: a dry one has no spare, one that owes a wake is marked, and one that has tried is marked and doesn't hold
+-- the lock
+pub record FlagsAgree (w : World) : Type 0 where
+  pub dry : (k : Key) (r : Router) → router_at w k ≡ Some r → r.dry ≡ true → r.spare ≡ None
+  pub wake : (k : Key) (r : Router) → router_at w k ≡ Some r → r.wake_owed ≡ true → r.marked ≡ true
+  pub tried_marked : (k : Key) (r : Router) → router_at w k ≡ Some r → r.tried ≡ true → r.marked ≡ true
+  pub tried_free : (k : Key) (r : Router) → router_at w k ≡ Some r → r.tried ≡ true → r.holds ≡ false
+
 -- a Flush for this side of the word is under way to a node
 pub record HasFlush (w : World) (i : ℕ) (s : Side) (to : ℕ) : Type 0 where
   pub from : ℕ
   pub place : ℕ
   pub under_way : IsUnderWay w from to place (messages.Flush (Central i) s)
-
--- a router has the word's link at this side and passes a test
-pub record OtherPasses (w : World) (i : ℕ) (s : Side) (test : Router → Bool) : Type 0 where
-  pub key : Key
-  pub router : Router
-  pub here : router_at w key ≡ Some router
-  pub on : outward_has router (Central i) s ≡ true
-  pub passes : test router ≡ true
-
--- the side waits for one that isn't stable, or that owes it the wake
-abbrev pub WaitsRightly : World → ℕ → Side → Type 0
-WaitsRightly w i s =
-    (has (word_at w i).waiting s ≡ true) × ((has (word_at w i).stable (opposite s) ≡ false) ⊎ OtherPasses w i (opposite s)
-    (λ r. r.wake_owed))
-
--- a router that has tried isn't forgotten: the other side holds the lock, or a Flush is under way, or the other router passes a test, or it
--- waits rightly
-abbrev pub IsRemembered : World → ℕ → Side → ℕ → (Router → Bool) → Type 0
-IsRemembered w i s node test =
-    (has (word_at w i).holder (opposite s) ≡ true) ⊎ (HasFlush w i s node ⊎ (OtherPasses w i (opposite s) test ⊎ WaitsRightly w i s))
 
 -- a router has the word's link as its outward primary link at this side and passes a test
 pub record PrimaryPasses (w : World) (i : ℕ) (s : Side) (test : Router → Bool) : Type 0 where
@@ -71,17 +59,20 @@ WaitsForOther w i s =
     (has (word_at w i).waiting s ≡ true) × ((has (word_at w i).stable (opposite s) ≡ false) ⊎
     PrimaryPasses w i (opposite s) (λ r. r.wake_owed))
 
--- a side that has tried isn't forgotten: the other side holds the lock, or a Flush is under way to it, or the router of the other side could
--- try for the lock, or it waits for the other
-abbrev pub IsMinded : World → ℕ → Side → ℕ → Type 0
-IsMinded w i s node =
-    (has (word_at w i).holder (opposite s) ≡ true) ⊎ (HasFlush w i s node ⊎
-    (PrimaryPasses w i (opposite s) (λ r. is_possible r Lock) ⊎ WaitsForOther w i s))
+-- a side that has tried has a waker: the other side holds the lock, or a Flush is under way to it, or the router of the other side passes a
+-- test, or it waits for the other
+abbrev pub HasWakerBy : (Router → Bool) → World → ℕ → Side → ℕ → Type 0
+HasWakerBy test w i s node =
+    (has (word_at w i).holder (opposite s) ≡ true) ⊎ (HasFlush w i s node ⊎ (PrimaryPasses w i (opposite s) test ⊎ WaitsForOther w i s))
 
--- each router that has tried is minded on the word of its outward primary link
-abbrev pub AreMinded : World → Type 0
-AreMinded w = (i : ℕ) (k : Key) (r : Router) (s : Side) → router_at w k ≡ Some r → r.tried ≡ true → has_primary (Central i) s r ≡ true →
-    IsMinded w i s k.node
+-- the test is whether a try for the lock is possible: this is what each step keeps
+abbrev pub HasWaker : World → ℕ → Side → ℕ → Type 0
+HasWaker = HasWakerBy (λ r. is_possible r Lock)
+
+-- no wakeup is lost: each router that has tried has a waker on the word of its outward primary link
+abbrev pub HaveWakers : World → Type 0
+HaveWakers w = (i : ℕ) (k : Key) (r : Router) (s : Side) → router_at w k ≡ Some r → r.tried ≡ true → has_primary (Central i) s r ≡ true →
+    HasWaker w i s k.node
 
 -- routers have ranks, below a limit, that rise along each peripheral link from its proxy inward: no proxies stand in a ring
 pub record IsRanked (w : World) : Type 0 where
@@ -128,21 +119,14 @@ pub record IsBypassing (w : World) (link : LinkId) : Type 0 where
 abbrev pub IsEdgeOf : Router → Edge → Type 0
 IsEdgeOf r e = (e ≡ r.outward) ⊎ (r.inward ≡ Some e)
 
--- the flags of each router agree: a dry one has no spare, one that owes a wake is marked, and one that has tried is marked and doesn't hold
--- the lock
-pub record FlagsAgree (w : World) : Type 0 where
-  pub dry : (k : Key) (r : Router) → router_at w k ≡ Some r → r.dry ≡ true → r.spare ≡ None
-  pub wake : (k : Key) (r : Router) → router_at w k ≡ Some r → r.wake_owed ≡ true → r.marked ≡ true
-  pub tried_marked : (k : Key) (r : Router) → router_at w k ≡ Some r → r.tried ≡ true → r.marked ≡ true
-  pub tried_free : (k : Key) (r : Router) → router_at w k ≡ Some r → r.tried ≡ true → r.holds ≡ false
-
--- a router with a possible act is flagged; its flags agree; one that has tried is remembered; and where a length of a decaying link isn't known, outward or
--- inward, its bypass has a message under way
+-- a router with a possible act is flagged; its flags agree; for one that has tried the other side holds the lock, or a Flush is under way, or
+-- the other router is flagged, or it waits for the other; and where a length of a decaying link isn't known, outward or inward, its bypass has
+-- a message under way
 pub record Owed (w : World) : Type 0 where
   pub flagged : AreFlagged w
   pub agreed : FlagsAgree w
   pub tried : (k : Key) (r : Router) → router_at w k ≡ Some r → r.tried ≡ true →
-      (i : ℕ) × (s : Side) × (has_primary (Central i) s r ≡ true) × IsRemembered w i s k.node (λ q. q.flagged)
+      (i : ℕ) × (s : Side) × (has_primary (Central i) s r ≡ true) × HasWakerBy (λ q. q.flagged) w i s k.node
   pub length_to : (k : Key) (r : Router) (e : Edge) (d : LinkEnd) → router_at w k ≡ Some r → IsEdgeOf r e → e.decaying ≡ Some d →
       e.length_to ≡ None → IsBypassing w d.link
   pub length_from : (k : Key) (r : Router) (e : Edge) (d : LinkEnd) → router_at w k ≡ Some r → IsEdgeOf r e → e.decaying ≡ Some d →

@@ -7,7 +7,6 @@ use Rattle.ipcz_base.specs.declared.link_id.LinkId.{LinkId}
 use Rattle.ipcz_base.specs.declared.link_id.LinkId.TheVariants.{Central, Peripheral}
 use Rattle.ipcz_base.specs.declared.descriptor.Descriptor.{Descriptor}
 use Rattle.ipcz_base.specs.Sides.{opposite, same_side}
-use Rattle.ipcz_word.specs.SideSets.{Sides}
 use Rattle.ipcz_base.specs.Ends.{end_at, same_end}
 use Rattle.ipcz_world.specs.World.{World, Key, same_key, node_at}
 use Rattle.ipcz_world.specs.Routes.{Routes}
@@ -25,24 +24,20 @@ pub data Owner : Type 0 where
   -- the word of a link
   Linked : Owner
 
--- a central link: its pair, the node and router of each side (none: it is awaited), the bypass that made it, and the sides that left it by
--- retiring
+-- a central link: its pair, the node and router of each side (none: it is awaited), and the bypass that made it
 pub record CentralRecord : Type 0 where
   pub pair : ℕ
   pub node : Side → ℕ
   pub router : Side → Option ℕ
   pub born : Option ℕ
-  pub left : Sides
 
--- a peripheral link: its end, the proxy, the node and router inward (none: a descriptor is under way), the bypass that takes it away, and
--- whether the proxy has left it by retiring
+-- a peripheral link: its end, the proxy, the node and router inward (none: a descriptor is under way), and the bypass that takes it away
 pub record PeripheralRecord : Type 0 where
   pub end : End
   pub proxy : ℕ
   pub node : ℕ
   pub router : Option ℕ
   pub by : Option ℕ
-  pub left : Bool
 
 -- a bypass, named by its old word: how far it is (0: none, 1 begun, 2 taken, 3 accepted, 4 told, 5 ended), the proxy, its inward link, the
 -- fresh word, and the lengths toward the router inward's old link and the old link
@@ -64,8 +59,6 @@ pub data Terminal : Type 0 where
   At : (key : Key) → Terminal
   -- under way, to be made from a descriptor
   Moving : (descriptor : Descriptor) → Terminal
-  -- retired
-  Retired : Terminal
 
 -- all that is remembered; the peripheral link of a key is the one of that node and serial
 pub record Records : Type 0 where
@@ -76,8 +69,6 @@ pub record Records : Type 0 where
   -- the bypass that a router has begun
   pub begun : Key → Option ℕ
   pub terminal : End → Terminal
-  -- the order in which routers were made
-  pub stamp : Key → ℕ
 
 -- whether the word is the word of a link
 unfoldable pub is_linked : Owner → Bool
@@ -112,10 +103,6 @@ set_begun g k o = record g { begun = λ j. cond (same_key j k) (Some o) (g.begun
 -- the records with another place of an end's terminal
 abbrev pub set_terminal : Records → End → Terminal → Records
 set_terminal g e t = record g { terminal = λ d. cond (same_end d e) t (g.terminal d) }
-
--- the records with another stamp of a router
-abbrev pub set_stamp : Records → Key → ℕ → Records
-set_stamp g k n = record g { stamp = λ j. cond (same_key j k) n (g.stamp j) }
 
 -- one side with a new value, the other as before
 abbrev pub at_side : {X : Type 0} → (Side → X) → Side → X → Side → X
@@ -199,20 +186,14 @@ unfoldable pub terminal_node : Terminal → Option ℕ
 terminal_node Nowhere = None
 terminal_node (At k) = Some k.node
 terminal_node (Moving d) = None
-terminal_node Retired = None
 
 -- the descriptor that will make an end's terminal
 unfoldable pub terminal_descriptor : Terminal → Option Descriptor
 terminal_descriptor Nowhere = None
 terminal_descriptor (At k) = None
 terminal_descriptor (Moving d) = Some d
-terminal_descriptor Retired = None
 
 -- whether an end's pair isn't opened
 unfoldable pub is_nowhere : Terminal → Bool
 is_nowhere Nowhere = true
 is_nowhere other = false
-
--- no terminal has retired
-abbrev pub NoneRetired : Records → Type 0
-NoneRetired g = (e : End) → g.terminal e ≡ Retired → ⊥

@@ -9,7 +9,6 @@ use Rattle.ipcz_base.specs.declared.link_id.LinkId.TheVariants.{Central, Periphe
 use Rattle.ipcz_base.specs.declared.descriptor.Descriptor.{Descriptor}
 use Rattle.ipcz_base.specs.declared.message.Message.{Message}
 use Rattle.ipcz_base.specs.declared.message.Message.TheVariants as messages
-use Rattle.ipcz_word.specs.SideSets.{none}
 use Rattle.ipcz_base.specs.declared.link_end.LinkEnd.{LinkEnd}
 use Rattle.ipcz_base.specs.Ends.{end_at}
 use Rattle.ipcz_router.specs.declared.act.RouterAct.{RouterAct}
@@ -44,7 +43,6 @@ open_records g n i serial =
       node = λ s. n;
       router = at_side (λ s. Some serial) B (Some (serial + 1));
       born = None;
-      left = none;
     })) (record { pair = i; side = A }) (At (record { node = n; serial = serial }))) (record { pair = i; side = B })
     (At (record { node = n; serial = serial + 1 }))
 
@@ -72,7 +70,6 @@ taken_records g k r o fresh target =
       node = at_side (λ s. target) r.end.side k.node;
       router = at_side (λ s. None) r.end.side (Some k.serial);
       born = Some o;
-      left = none;
     })
 
 -- the router across accepts
@@ -94,7 +91,7 @@ ended_records g (Some o) = set_bypass g o (record (g.bypass o) { stage = 5 })
 abbrev pub move_records : Records → Node → ℕ → ℕ → Router → Records
 move_records g n to serial r =
     set_terminal (set_peripheral g (record { node = n.number; serial = n.next_peripheral })
-    (record { end = r.end; proxy = serial; node = to; router = None; by = None; left = false }))
+    (record { end = r.end; proxy = serial; node = to; router = None; by = None }))
     r.end (Moving (descriptor_of r (next_link n)))
 
 -- the terminal that was found moves
@@ -224,9 +221,8 @@ first_records count = record {
     node = λ s. (first_key count i s).node;
     router = λ s. Some (first_key count i s).serial;
     born = None;
-    left = none;
   };
-  peripheral = λ k. record { end = end_at 0 A; proxy = 0; node = 0; router = None; by = None; left = false };
+  peripheral = λ k. record { end = end_at 0 A; proxy = 0; node = 0; router = None; by = None };
   bypass = λ o. record {
     stage = 0;
     proxy = record { node = 0; serial = 0 };
@@ -238,5 +234,4 @@ first_records count = record {
   };
   begun = λ k. None;
   terminal = λ e. if nat_lt e.pair (length (first_pairs count)) then At (first_key count e.pair e.side) else Nowhere;
-  stamp = λ k. 0;
 }

@@ -8,7 +8,7 @@ use Rattle.ipcz_world.proofs.Vocabulary.{Key, flow, Books, Records, Terminal, te
 use Rattle.ipcz_world.proofs.Vocabulary.{side_node, proxy_side, across_side, IsUnderWay, is_made_before, under_way, of_end, moves_of}
 use Rattle.ipcz_world.proofs.Vocabulary.{total_list, Told, inner_of, of_bypass, control_weight, moving_link, Inv}
 use Rattle.ipcz_base.specs.declared.message.Message.TheVariants as messages
-use Rattle.ipcz_world.specs.Records.{Bypass, Nowhere, Moving, Retired, key_at}
+use Rattle.ipcz_world.specs.Records.{Bypass, Nowhere, Moving, key_at}
 use Rattle.ipcz_world.proofs.frames.RecordRules.{side_router-inner, side_router-proxy, side_node-proxy}
 use Rattle.ipcz_world.specs.Remembering.{begin_records}
 use Rattle.ipcz_world.specs.Flows.{is_made_by}
@@ -183,7 +183,6 @@ module _ {w v : World} {b : Books} {g : Records} {k : Key} {r y : Router} {p : K
                   is_made_by (inner_link p) B (flow w k.node into.other) ≡ true
               descriptor Nowhere e = absurd (none-some (inner_link p) (ap moving_link (sym e) ∙ moving))
               descriptor (At q) e = absurd (none-some (inner_link p) (ap moving_link (sym e) ∙ moving))
-              descriptor Retired e = absurd (none-some (inner_link p) (ap moving_link (sym e) ∙ moving))
               descriptor (Moving d) e = carried (found (λ from to m. total_list (of_end (g.peripheral p).end weigh) (moves_of m)) w
                   (omega (arith, law.moves.one (g.peripheral p).end weigh, ap (move_weight weigh) e, weighs)))
                 where

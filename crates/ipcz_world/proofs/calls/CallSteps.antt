@@ -7,7 +7,6 @@ use Rattle.ipcz_world.proofs.Vocabulary.{set_claimed, unless, Books, Records, Op
 use Rattle.ipcz_base.specs.declared.parcel.Parcel as parcels
 use Rattle.ipcz_base.specs.declared.refusal.Refusal.TheVariants as refusals
 use Rattle.ipcz_base.specs.Ends.{end_at}
-use Rattle.ipcz_word.specs.SideSets.{none}
 use Rattle.ipcz_node.specs.Calls.{put_refusal, put_node, put_number, get_refusal, get_node, close_refusal, close_node, serials_refusal}
 use Rattle.ipcz_node.specs.Calls.{open_node}
 use Rattle.ipcz_world.specs.declared.step.Step.{Step}
@@ -148,7 +147,6 @@ module _ (w : World) (b : Books) (g : Records) (law : Inv w b g) where
     node = λ s. n;
     router = at_side (λ s. Some serial) B (Some (serial + 1));
     born = None;
-    left = none;
   })
 
   open_done : (n i : ℕ) (v : World) (serial : ℕ) → (node_at w n).next_router ≡ serial → Inv v b (open_records g n i serial) →

@@ -11,7 +11,6 @@ use Rattle.ipcz_world.proofs.Vocabulary.{Side, A, B, End, same_side, opposite_en
 use Rattle.ipcz_world.proofs.Vocabulary.{outbox, World, Key, messages_in, node_at, word_at, mail_at, way, router_at, flow, set_node}
 use Rattle.ipcz_world.proofs.Vocabulary.{set_word, Books, Records, Owner, Spare, Opening, Fresh, Linked, Terminal, At, is_linked}
 use Rattle.ipcz_world.proofs.Vocabulary.{is_unclaimed, terminal_node, is_nowhere, Weight, in_router, times, times_held, Inv}
-use Rattle.ipcz_word.specs.SideSets.{none as no_sides}
 use Rattle.ipcz_base.proofs.Totals.{total-insert_new}
 use Rattle.ipcz_node.specs.Node.{new_end}
 use Rattle.ipcz_node.specs.Calls.{open_node}
@@ -55,7 +54,7 @@ module _ (w : World) (b : Books) (g : Records) (n i : ℕ) (law : Inv w b g) (l 
   owner' = λ j. cond (nat_eq j i) Linked (g.owner j)
 
   abbrev link : CentralRecord
-  link = record { pair = i; node = λ s. n; router = at_side (λ t. Some s) B (Some (s + 1)); born = None; left = no_sides }
+  link = record { pair = i; node = λ s. n; router = at_side (λ t. Some s) B (Some (s + 1)); born = None }
 
   abbrev central' : ℕ → CentralRecord
   central' = λ j. cond (nat_eq j i) link (g.central j)

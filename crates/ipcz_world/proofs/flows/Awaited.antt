@@ -10,7 +10,7 @@ use Rattle.ipcz_world.proofs.Vocabulary.{is_attached, is_awaited, IsUnderWay, ma
 use Rattle.ipcz_world.proofs.Vocabulary.{BypassRecords, Told, of_bypass, control_weight, inner_of, moving_link}
 use Rattle.ipcz_base.specs.declared.message.Message.TheVariants as messages
 use Rattle.ipcz_node.specs.Hands.{has_moved}
-use Rattle.ipcz_world.specs.Records.{Nowhere, Moving, Retired}
+use Rattle.ipcz_world.specs.Records.{Nowhere, Moving}
 use Rattle.ipcz_world.specs.Records.{key_at}
 use Rattle.ipcz_world.proofs.frames.RecordRules.{record_rules, side_router-proxy}
 use Rattle.ipcz_world.specs.Flows.{is_made_by}
@@ -121,7 +121,6 @@ unfolding terminal_descriptor
 moving_known Nowhere link h = cc
 moving_known (At k) link h = cc
 moving_known (Moving d) link h = (d, refl, grind (arith, h))
-moving_known Retired link h = cc
 
 has_moved-at : (link : LinkId) (ds : List Descriptor) (j : ℕ) (d : Descriptor) → slice_get ds j ≡ Some d → same_link d.link link ≡ true →
     has_moved link ds ≡ true

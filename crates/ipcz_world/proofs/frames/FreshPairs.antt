@@ -15,7 +15,7 @@ use Rattle.ipcz_base.specs.declared.message.Message.TheVariants as messages
 use Rattle.ipcz_seq.specs.Queue.{queue_from, reach}
 use Rattle.ipcz_router.specs.Router.{is_on_central}
 use Rattle.ipcz_node.specs.Node.{new_end}
-use Rattle.ipcz_world.specs.Records.{CentralRecord, Nowhere, Moving, Retired}
+use Rattle.ipcz_world.specs.Records.{CentralRecord, Nowhere, Moving}
 use Rattle.ipcz_world.specs.Bypasses.{move_weight}
 use Rattle.ipcz_world.proofs.frames.Touching.{HasSameHands}
 use Rattle.ipcz_world.proofs.facts.Reaching.{is_reach, reach_one}
@@ -137,14 +137,12 @@ unfolding move_weight is_nowhere
 move_none f Nowhere n = refl
 move_none f (At k) n = cc
 move_none f (Moving d) n = cc
-move_none f Retired n = cc
 
 pub known_somewhere : (t : Terminal) (m : ℕ) → terminal_node t ≡ Some m → is_nowhere t ≡ false
 unfolding terminal_node is_nowhere
 known_somewhere Nowhere m e = cc
 known_somewhere (At k) m e = refl
 known_somewhere (Moving d) m e = refl
-known_somewhere Retired m e = refl
 
 pub inner_end : (g : Records) (p : Key) → side_end g (inner_link p) A ≡ (g.peripheral p).end
 unfolding side_end

@@ -29,7 +29,7 @@ use Rattle.ipcz_world.specs.declared.mail.Mail.TheVariants as mails
 use Rattle.ipcz_world.specs.declared.step.Reply.TheVariants as replies
 use Rattle.ipcz_world.specs.Turns.{is_clear}
 use Rattle.ipcz_world.specs.Steps.{get_reply, got_reply}
-use Rattle.ipcz_world.specs.Records.{Nowhere, Moving, Retired, routes_of}
+use Rattle.ipcz_world.specs.Records.{Nowhere, Moving, routes_of}
 use Rattle.ipcz_world.proofs.weights.OfRecords.{in_node, in_message, holds_times}
 use Rattle.ipcz_base.specs.Items.{same_item}
 use Rattle.ipcz_world.specs.WorldLaws.{QuietDelivers}
@@ -194,7 +194,6 @@ abbrev pub key_of : Terminal → Option Key
 key_of Nowhere = None
 key_of (At k) = Some k
 key_of (Moving d) = None
-key_of Retired = None
 
 -- what wasn't read stands at the terminal
 pub stands-at : (w : World) (b : Books) (g : Records) (k : Key) (r : Router) (n : ℕ) (x : Item) → Inv w b g → AreFlagged w → IsQuiet w →

@@ -1,699 +1,271 @@
--- In a quiet world whose words aren't used up all is delivered, no link decays, no proxy is left, and each open pair is direct.
-use Rattle.std.specs.Prelude.{◌≡◌, ◌⊎◌, ◌≤◌, ◌<◌, ℕ, zero, suc, ◌+◌, Bool, true, false, cond, ◌&&◌, nat_eq, nat_le, nat_lt, Option, Some, None}
-use Rattle.std.specs.Prelude.{is_some, length, slice_get, refl}
+-- In a quiet world whose words aren't used up no proxy is left, and each open pair is direct.
+use Rattle.std.specs.Prelude.{◌≡◌, ◌⊎◌, ◌<◌, ℕ, zero, suc, ◌+◌, Bool, true, false, cond, ◌&&◌, Option, Some, None}
+use Rattle.std.specs.Prelude.{is_some, slice_get, refl}
 use Rattle.std.proofs.Common.{arith, ap, subst, ◌∙◌, sym, inl, inr}
-use Rattle.std.proofs.lemmas.Bool.Decides.{nat_tests}
-use Rattle.std.proofs.lemmas.Bool.{or_left}
 use Rattle.std.proofs.lemmas.Option.{none-some, same_Some}
 use Rattle.ipcz_world.proofs.facts.Tests.{not_both}
-use Rattle.ipcz_world.proofs.Vocabulary.{Side, A, B, End, LinkId, Central, Peripheral, LinkEnd, Item, opposite, opposite_end, same_end}
-use Rattle.ipcz_world.proofs.Vocabulary.{Edge, Queue, item_at, current_item, Router, is_terminal, is_possible, inward_edge, World, Key, node_at, router_at, word_at, has}
-use Rattle.ipcz_world.proofs.Vocabulary.{Books, read, Records, side_length, proxy_side, across_side, is_linked, inner_link, inner_of, under_way, total, total_list}
-use Rattle.ipcz_world.proofs.Vocabulary.{Standing, view, is_attached, has_primary, Inv, Weight, is_recorded, in_router, at_end, has_link, standing_router}
+use Rattle.ipcz_world.proofs.Vocabulary.{Side, A, B, End, Central, Peripheral, LinkEnd, Item, opposite, opposite_end, same_end}
+use Rattle.ipcz_world.proofs.Vocabulary.{Router, is_terminal, is_possible, World, Key, node_at, router_at, word_at, has}
+use Rattle.ipcz_world.proofs.Vocabulary.{Books, read, Records, is_linked, under_way, total, total_list}
+use Rattle.ipcz_world.proofs.Vocabulary.{has_primary, Inv, Weight, is_recorded, in_router, at_end}
 use Rattle.ipcz_world.proofs.Vocabulary.{Terminal, At, side_end, is_nowhere}
 use Rattle.ipcz_base.specs.Ends.{end_at}
 use Rattle.ipcz_base.specs.declared.message.Message.TheVariants as messages
 use Rattle.ipcz_world.proofs.owed.Following.{on-central}
-use Rattle.ipcz_base.specs.Items.{same_item}
-use Rattle.ipcz_edge.specs.Edge.{is_short_of, choose, can_finish, has_come_to}
-use Rattle.ipcz_seq.specs.Queue.{reach}
 use Rattle.ipcz_word.specs.Word.{is_free}
 use Rattle.ipcz_router.specs.Router.{is_proxy, decays, is_on_central}
-use Rattle.ipcz_router.specs.Acts.{way_out, way_in}
-use Rattle.ipcz_router.specs.declared.act.RouterAct.{RouterAct}
 use Rattle.ipcz_router.specs.declared.act.RouterAct.TheVariants as acts
 use Rattle.ipcz_world.specs.Bypasses.{move_weight}
 use Rattle.ipcz_world.specs.Flows.{of_end, moves_of}
-use Rattle.ipcz_world.specs.Owed.{AreFlagged, AreMinded, IsMinded, IsRanked, IsWet, IsTerminalOn, IsDirectPair, IsDirect}
+use Rattle.ipcz_world.specs.Owed.{AreFlagged, HaveWakers, HasWaker, IsRanked, IsWet, IsTerminalOn, IsDirectPair, IsDirect}
 use Rattle.ipcz_world.specs.Laws.{LinkLaw}
-use Rattle.ipcz_world.specs.Places.{just, unread_weight}
-use Rattle.ipcz_world.specs.Records.{Nowhere, Moving, Retired, routes_of}
+use Rattle.ipcz_world.specs.Places.{unread_weight}
+use Rattle.ipcz_world.specs.Records.{Nowhere, Moving}
 use Rattle.ipcz_world.specs.Settling.{IsQuiet}
-use Rattle.ipcz_world.specs.Standing.{has_inward_primary}
-use Rattle.ipcz_world.specs.Structure.{is_begun_router, has_role, link_in}
 use Rattle.ipcz_world.specs.World.{remove_router}
-use Rattle.ipcz_world.proofs.facts.BegunLengths.{length-proxy, length-inward}
-use Rattle.ipcz_world.proofs.facts.Lengths.{HasEnd, has_link-tells, opposite-twice, known_from-yes, side_is}
+use Rattle.ipcz_world.proofs.facts.Lengths.{side_is}
 use Rattle.ipcz_world.proofs.facts.LinkTests.{opposite_end-twice, same_end-tells, same_end-itself}
-use Rattle.ipcz_world.proofs.facts.Reaching.{is_reach}
 use Rattle.ipcz_world.proofs.facts.Tests.{some_is, and_second}
 use Rattle.ipcz_world.proofs.flows.Flowing.{found}
 use Rattle.ipcz_world.proofs.frames.Frames.{same_key_tells}
 use Rattle.ipcz_world.proofs.frames.OneRouter.{SameButRouter, remove-router}
-use Rattle.ipcz_world.proofs.lawful.EachOnce.{once}
-use Rattle.ipcz_world.proofs.lawful.LengthLaws.{outward_case, attached_view}
 use Rattle.ipcz_world.proofs.lawful.LinkLaws.{link_law}
-use Rattle.ipcz_world.proofs.lawful.Quiet.{nothing-moves, nothing-possible, choose-some, total-zero, total_below-zero, in_node-is, router-is, slice_get-none}
+use Rattle.ipcz_world.proofs.lawful.Quiet.{nothing-moves, total-zero, total_below-zero, in_node-is, router-is}
 use Rattle.ipcz_world.proofs.lawful.Quiet.{key_of, out-delivered}
-use Rattle.ipcz_world.proofs.lawful.QuietRoutes.{IsLacked, settled, inward_lacks, outward_lacks, outward_given, HasOuter, HasAcross, outer_router}
-use Rattle.ipcz_world.proofs.lawful.QuietRoutes.{HasBegun, begun_tells, StandsOver, across_stands, inner_stands, begun_out_lacks, begun_in_lacks, not_begun}
+use Rattle.ipcz_world.proofs.lawful.QuietRoutes.{HasOuter, HasAcross, outer_router}
 use Rattle.ipcz_world.proofs.sends.Moved.{passes_tells}
-use Rattle.ipcz_world.proofs.views.Bypassed as bypassed
 use Rattle.ipcz_world.proofs.weights.OfRecords.{in_places, in_node, in_message}
 use Rattle.ipcz_world.proofs.weights.Weighing.{in_places-is, in_router-is}
 use Rattle.ipcz_world.proofs.weights.Weights.{places-remove_router}
+use Rattle.ipcz_world.proofs.lawful.QuietDelivery.{primed, inward_proxy, idle, none_begun, still, calm, marked, free}
 
--- a decaying link is chosen below its length
-choose-decaying : (e : Edge) (n l : ℕ) → is_some e.decaying ≡ true → e.length_to ≡ Some l → n < l → is_some (choose e n) ≡ true
-unfolding choose is_short_of
-choose-decaying e n l h k below = grind (arith, h, k, below, nat_tests)
+module _ (w : World) (b : Books) (g : Records) (law : Inv w b g) (quiet : IsQuiet w) (ranked : IsRanked w) (flagged : AreFlagged w)
+    (wakers : HaveWakers w) (wet : IsWet w) where
+  links : LinkLaw w
+  links = link_law w b g law
 
--- the number of an item that isn't the current one, in a queue without that
-behind : (q : Queue Item) (n : ℕ) (z : Item) → q.current ≤ n → item_at q n ≡ Some z → current_item q ≡ None → q.current < n
-behind q n z low at bare = go (nat_eq q.current n) refl
-  where
-    go : (c : Bool) → nat_eq q.current n ≡ c → q.current < n
-    go true e =
-        let same : q.current ≡ n = grind (arith, e, nat_tests) in
-        absurd (none-some z (sym bare ∙ ap (item_at q) same ∙ at))
-    go false e = grind (arith, e, low, nat_tests)
-
--- a router that hasn't begun has an outward primary link
-primed : (r : Router) → has_role r ≡ true → is_begun_router r ≡ false → is_some r.outward.primary ≡ true
-primed r h e = go (is_terminal r) (is_some (inward_edge r).primary) refl refl
-  where
-    go : (c d : Bool) → is_terminal r ≡ c → is_some (inward_edge r).primary ≡ d → is_some r.outward.primary ≡ true
-    go true d f k = grind (arith, f, h)
-    go false true f k = grind (arith, f, k, h)
-    go false false f k = absurd (grind (arith, f, k, e))
-
--- a router with an inward primary link is a proxy
-inward_proxy : (z : Router) (l : LinkId) → has_inward_primary l A z ≡ true → is_proxy z ≡ true
-inward_proxy z l on =
-    let e : HasEnd (inward_edge z).primary l A = has_link-tells (inward_edge z).primary l A on in
-    grind (arith, e.there)
-
--- a router is seen at its primary link
-attached_at : (i : ℕ) (s : Side) (z : Router) → has_primary (Central i) s z ≡ true → is_attached (Central i) s z ≡ true
-unfolding is_attached
-attached_at i s z h = or_left (has_link z.outward.primary (Central i) s) (has_link z.outward.decaying (Central i) s) h
-
-module _ (w : World) (b : Books) (g : Records) (law : Inv w b g) (quiet : IsQuiet w) (ranked : IsRanked w) (flagged : AreFlagged w) where
-  idle : (k : Key) (r : Router) (act : RouterAct) → router_at w k ≡ Some r → is_possible r act ≡ false
-  idle k r act here = nothing-possible w flagged quiet k r act (law.counts.on_node k r here) here
-
-  -- an item that can go doesn't stand in its queue
-  out_stuck : (k : Key) (r : Router) → router_at w k ≡ Some r → is_some (way_out r) ≡ true → current_item r.out_queue ≡ None
+  -- no proxy is left on a central link: it could claim, lock or begin, or has a waker
+  not_central : (k : Key) (r : Router) → router_at w k ≡ Some r → is_proxy r ≡ true → HasAcross w b g law quiet ranked k r → ⊥
   unfolding is_possible
-  out_stuck k r here way = go (current_item r.out_queue) refl
+  not_central k r here proxy h = go r.tried r.spare refl refl
     where
-      go : (o : Option Item) → current_item r.out_queue ≡ o → current_item r.out_queue ≡ None
-      go None e = e
-      go (Some z) e = absurd (grind (arith, idle k r acts.SendOut here, way, e))
+      may : is_possible r acts.Claim ≡ false → is_possible r acts.Lock ≡ false → r.marked ≡ true → is_on_central r ≡ true → decays r ≡ false →
+          r.dry ≡ false → r.holds ≡ false → (o : Option ℕ) → r.spare ≡ o → r.tried ≡ false → ⊥
+      may a c m z d y f None e t = grind (arith, a, m, z, d, y, f, e, t, proxy)
+      may a c m z d y f (Some j) e t = grind (arith, c, m, z, d, y, f, e, t, proxy)
 
-  in_stuck : (k : Key) (r : Router) → router_at w k ≡ Some r → is_some (way_in r) ≡ true → current_item r.in_queue ≡ None
-  unfolding is_possible
-  in_stuck k r here way = go (current_item r.in_queue) refl
-    where
-      go : (o : Option Item) → current_item r.in_queue ≡ o → current_item r.in_queue ≡ None
-      go None e = e
-      go (Some z) e = absurd (grind (arith, idle k r acts.SendIn here, way, e))
+      wakes : (z : Router) → is_possible z acts.Wake ≡ false → z.wake_owed ≡ true → is_on_central z ≡ true → ⊥
+      wakes z h a c = grind (arith, h, a, c)
 
-  -- what isn't read stands somewhere
-  nowhere : (d : End) (n : ℕ) (x : Item) → read b (opposite_end d) ≤ n → slice_get (b.put d) n ≡ Some x →
-      ((q : Key) (y : Router) → router_at w q ≡ Some y → y.end ≡ d → item_at y.out_queue n ≡ None) →
-      ((q : Key) (y : Router) → router_at w q ≡ Some y → opposite_end y.end ≡ d → item_at y.in_queue n ≡ None) → ⊥
-  nowhere d n x unread put outs inns = omega (
-    arith,
-    once w b (routes_of g) law.conserved.exact d n x unread put,
-    in_places-is f g w,
-    nothing_under_way,
-    total_below-zero w.count (λ j. in_node f g (node_at w j)) (λ j l. node_bare j),
-  )
-    where
-      f : Weight
-      f = at_end d (just n x)
+      waker : HasWaker w h.word h.side k.node → ⊥
+      waker (inl held) = not_both h.router.holds (links.holds h.key h.router h.word (opposite h.side) h.here h.on ∙ held)
+          (free w b g law quiet ranked flagged h.key h.router h.here)
+      waker (inr (inl f)) = nothing-moves w quiet f.from k.node f.place (messages.Flush (Central h.word) h.side) f.under_way
+      waker (inr (inr (inl p))) = not_both (is_possible p.router acts.Lock) p.passes (idle w b g law quiet ranked flagged p.key p.router acts.Lock p.here)
+      waker (inr (inr (inr (waits, inl unstable)))) = not_both h.router.marked (marked w b g law quiet ranked flagged h.word (opposite h.side) h.key h.router h.here h.on)
+          (links.marked h.key h.router h.word (opposite h.side) h.here h.on ∙ unstable)
+      waker (inr (inr (inr (waits, inr p)))) = wakes p.router (idle w b g law quiet ranked flagged p.key p.router acts.Wake p.here) p.passes
+          (ap is_some (on-central h.word (opposite h.side) p.router p.on))
 
-      nothing_under_way : under_way (λ from to m. in_message f g m) w ≡ 0
-      nothing_under_way = none (under_way (λ from to m. in_message f g m) w) refl
-        where
-          none : (a : ℕ) → under_way (λ from to m. in_message f g m) w ≡ a → under_way (λ from to m. in_message f g m) w ≡ 0
-          none zero e = e
-          none (suc a) e = let t = found (λ from to m. in_message f g m) w (omega (arith, e)) in
-              absurd (nothing-moves w quiet t.0 t.1 t.2 t.3 t.4)
+      go : (t : Bool) (o : Option ℕ) → r.tried ≡ t → r.spare ≡ o → ⊥
+      go true o e f = waker (wakers h.word k r h.side here e h.own)
+      go false o e f = may (idle w b g law quiet ranked flagged k r acts.Claim here) (idle w b g law quiet ranked flagged k r acts.Lock here) (marked w b g law quiet ranked flagged h.word h.side k r here h.own)
+          (ap is_some (on-central h.word h.side r h.own)) (calm w b g law quiet ranked flagged k r here) (wet k r here) (free w b g law quiet ranked flagged k r here) o f e
 
-      weightless : (c : Bool) (m : ℕ) (z : Item) (q : Queue Item) → item_at q n ≡ None → item_at q m ≡ Some z → cond c (just n x m z) 0 ≡ 0
-      weightless false m z q lacks h = refl
-      weightless true m z q lacks h = go (nat_eq m n) refl
-        where
-          go : (c : Bool) → nat_eq m n ≡ c → just n x m z ≡ 0
-          go false e = ap (λ c. cond (c && same_item z x) 1 0) e
-          go true e =
-              let same : m ≡ n = grind (arith, e, nat_tests) in absurd (none-some z (sym lacks ∙ ap (item_at q) (sym same) ∙ h))
-
-      router_bare : (q : Key) (y : Router) → router_at w q ≡ Some y → in_router f y ≡ 0
-      router_bare q y at = in_router-is f y ∙ omega (arith, out (same_end y.end d) refl, inn (same_end (opposite_end y.end) d) refl)
-        where
-          out : (c : Bool) → same_end y.end d ≡ c → total (f y.end) y.out_queue.items ≡ 0
-          out false e = total-zero (f y.end) y.out_queue.items (λ m z h. ap (λ c. cond c (just n x m z) 0) e)
-          out true e = total-zero (f y.end) y.out_queue.items
-              (λ m z h. weightless (same_end y.end d) m z y.out_queue (outs q y at (same_end-tells y.end d e)) h)
-
-          inn : (c : Bool) → same_end (opposite_end y.end) d ≡ c → total (f (opposite_end y.end)) y.in_queue.items ≡ 0
-          inn false e = total-zero (f (opposite_end y.end)) y.in_queue.items (λ m z h. ap (λ c. cond c (just n x m z) 0) e)
-          inn true e = total-zero (f (opposite_end y.end)) y.in_queue.items
-              (λ m z h. weightless (same_end (opposite_end y.end) d) m z y.in_queue (inns q y at (same_end-tells (opposite_end y.end) d e)) h)
-
-      node_bare : (j : ℕ) → in_node f g (node_at w j) ≡ 0
-      node_bare j = in_node-is f g (node_at w j) ∙ omega (
-        arith,
-        total-zero (λ s y. in_router f y) (node_at w j).routers (λ s y at. router_bare (record { node = j; serial = s }) y (router-is w j s ∙ at)),
-        ap (total_list (in_message f g)) (law.no_strays j),
-      )
-
-  -- what an end's peer has put under a number, and it hasn't read, stands at its terminal
-  abbrev Delivers : End → ℕ → Type 0
-  Delivers e n = (k : Key) (r : Router) → router_at w k ≡ Some r → is_terminal r ≡ true → r.end ≡ e → read b e ≤ n →
-      n < length (b.put (opposite_end e)) → item_at r.in_queue n ≡ None → ⊥
-
-  delivers : (e : End) (n : ℕ) → ((m : ℕ) → m < n → Delivers e m) → Delivers e n
-  delivers e n before k r here terminal end unread given bare = go (slice_get (b.put (opposite_end e)) n) refl
-    where
-      clash : (m : ℕ) → m < n → IsLacked w e m → ⊥
-      clash m l t = before m l t.key t.router t.here t.terminal t.end
-          (omega (arith, t.lacks.current, law.conserved.current t.key t.router t.here t.terminal, ap (read b) t.end)) (omega (arith, l, given))
-          t.lacks.none
-
-      outs : (q : Key) (y : Router) → router_at w q ≡ Some y → y.end ≡ opposite_end e → item_at y.out_queue n ≡ None
-      outs q y at is = look (item_at y.out_queue n) refl
-        where
-          over : opposite_end y.end ≡ e
-          over = ap opposite_end is ∙ opposite_end-twice e
-
-          look : (o : Option Item) → item_at y.out_queue n ≡ o → item_at y.out_queue n ≡ None
-          look None h = h
-          look (Some z) h = absurd (by (is_begun_router y) refl)
-            where
-              low : y.out_queue.current ≤ n
-              low = law.ordered.out q y n z at h
-
-              by : (c : Bool) → is_begun_router y ≡ c → ⊥
-              by false f =
-                  let first : is_some y.outward.primary ≡ true = primed y (law.shape.role q y at) f in
-                  let none : current_item y.out_queue ≡ None = out_stuck q y at (choose-some y.outward y.out_queue.current first) in
-                  clash y.out_queue.current (behind y.out_queue n z low h none)
-                  (subst (λ d. IsLacked w d y.out_queue.current) over
-                  (outward_lacks w b g law quiet ranked (ranked.rank q + 1) q y y.out_queue.current at first (omega arith)
-                  (record { current = omega arith; none = none })))
-              by true f =
-                  let is = begun_tells w b g law quiet ranked q y at f in
-                  let proxy = ap (router_at w) is.by.proxy ∙ at in
-                  let short : n < (g.bypass is.old).taken_at = law.proxy_numbers.out_items is.old y n z proxy (omega (arith, is.stage)) h in
-                  let none : current_item y.out_queue ≡ None = out_stuck q y at (way is (omega (arith, low, short)) y.outward.decaying refl) in
-                  clash y.out_queue.current (behind y.out_queue n z low h none)
-                  (subst (λ d. IsLacked w d y.out_queue.current) over
-                  (begun_out_lacks w b g law quiet ranked q y at is y.out_queue.current (omega (arith, low, short))
-                  (record { current = omega arith; none = none })))
-                where
-                  way : (is : HasBegun w b g law quiet ranked q y) → y.out_queue.current < (g.bypass is.old).taken_at → (o : Option LinkEnd) →
-                      y.outward.decaying ≡ o → is_some (way_out y) ≡ true
-                  way is l None a = absurd (omega (
-                    arith,
-                    l,
-                    law.proxy_numbers.out_finished is.old y (ap (router_at w) is.by.proxy ∙ at)
-                        (omega (arith, is.stage)) a,
-                  ))
-                  way is l (Some d) a =
-                      let named = bypassed.proxy-outward law is.by d a in
-                      choose-decaying y.outward y.out_queue.current (g.bypass is.old).taken_at (ap is_some a)
-                      (law.positions.own_to q y d is.old at a named.link named.side
-                      ∙ known_from-yes 4 (g.bypass is.old).stage (g.bypass is.old).taken_at (omega (arith, is.stage))) l
-
-      inns : (q : Key) (y : Router) → router_at w q ≡ Some y → opposite_end y.end ≡ opposite_end e → item_at y.in_queue n ≡ None
-      inns q y at over = look (item_at y.in_queue n) refl
-        where
-          is : y.end ≡ e
-          is = sym (opposite_end-twice y.end) ∙ ap opposite_end over ∙ opposite_end-twice e
-
-          look : (o : Option Item) → item_at y.in_queue n ≡ o → item_at y.in_queue n ≡ None
-          look None h = h
-          look (Some z) h = absurd (by (is_terminal y) (is_begun_router y) refl refl)
-            where
-              low : y.in_queue.current ≤ n
-              low = law.ordered.inn q y n z at h
-
-              by : (t c : Bool) → is_terminal y ≡ t → is_begun_router y ≡ c → ⊥
-              by true c t f =
-                  let keys : q ≡ k = same_Some q k (ap key_of (sym (law.terminals.terminal q y at t) ∙ ap g.terminal (is ∙ sym end)
-                  ∙ law.terminals.terminal k r here terminal)) in
-                  let same : y ≡ r = same_Some y r (sym at ∙ ap (router_at w) keys ∙ here) in
-                  none-some z (sym bare ∙ ap (λ a. item_at a.in_queue n) (sym same) ∙ h)
-              by false false t f =
-                  let none : current_item y.in_queue ≡ None = in_stuck q y at (choose-some (inward_edge y) y.in_queue.current (inner t f)) in
-                  clash y.in_queue.current (behind y.in_queue n z low h none)
-                  (subst (λ d. IsLacked w d y.in_queue.current) is
-                  (inward_lacks w b g law quiet ranked ranked.limit q y y.in_queue.current at f (omega arith)
-                  (record { current = omega arith; none = none })))
-                where
-                  inner : is_terminal y ≡ false → is_begun_router y ≡ false → is_some (inward_edge y).primary ≡ true
-                  inner t f = grind (arith, t, f)
-              by false true t f =
-                  let begun = begun_tells w b g law quiet ranked q y at f in
-                  let proxy = ap (router_at w) begun.by.proxy ∙ at in
-                  let short : n < (g.bypass begun.old).accepted_at = law.proxy_numbers.in_items begun.old y n z proxy (omega (arith, begun.stage)) h in
-                  let none : current_item y.in_queue ≡ None = in_stuck q y at (way begun (omega (arith, low, short)) (inward_edge y).decaying refl) in
-                  clash y.in_queue.current (behind y.in_queue n z low h none)
-                  (subst (λ d. IsLacked w d y.in_queue.current) is
-                  (begun_in_lacks w b g law quiet ranked q y at begun y.in_queue.current (omega (arith, low, short))
-                  (record { current = omega arith; none = none })))
-                where
-                  way : (is : HasBegun w b g law quiet ranked q y) → y.in_queue.current < (g.bypass is.old).accepted_at → (o : Option LinkEnd) →
-                      (inward_edge y).decaying ≡ o → is_some (way_in y) ≡ true
-                  way is l None a = absurd (omega (
-                    arith,
-                    l,
-                    law.proxy_numbers.in_finished is.old y (ap (router_at w) is.by.proxy ∙ at)
-                        (omega (arith, is.stage)) a,
-                  ))
-                  way is l (Some d) a =
-                      choose-decaying (inward_edge y) y.in_queue.current (g.bypass is.old).accepted_at (ap is_some a)
-                      (law.positions.inward_to q y d is.old at a (bypassed.proxy-begun law is.by)
-                      ∙ known_from-yes 4 (g.bypass is.old).stage (g.bypass is.old).accepted_at (omega (arith, is.stage))) l
-
-      go : (o : Option Item) → slice_get (b.put (opposite_end e)) n ≡ o → ⊥
-      go None h = omega (arith, slice_get-none (b.put (opposite_end e)) n h, given)
-      go (Some x) h = nowhere (opposite_end e) n x (subst (λ d. read b d ≤ n) (sym (opposite_end-twice e)) unread) h outs inns
-
-  delivers_below : (e : End) (n m : ℕ) → m < n → Delivers e m
-  delivers_below e zero m l = absurd (omega (arith, l))
-  delivers_below e (suc n) m l = delivers e m (λ j below. delivers_below e n j (omega (arith, l, below)))
-
-  pub delivered : (e : End) (n : ℕ) → Delivers e n
-  delivered e n = delivers_below e (n + 1) n (omega arith)
-
-  -- what a terminal lacks wasn't put
-  lacked_given : (e : End) (m : ℕ) → IsLacked w e m → length (b.put (opposite_end e)) ≤ m
-  lacked_given e m t = go (nat_lt m (length (b.put (opposite_end e)))) refl
-    where
-      go : (c : Bool) → nat_lt m (length (b.put (opposite_end e))) ≡ c → length (b.put (opposite_end e)) ≤ m
-      go false f = grind (arith, f, nat_tests)
-      go true f = absurd (delivered e m t.key t.router t.here t.terminal t.end
-          (omega (arith, t.lacks.current, law.conserved.current t.key t.router t.here t.terminal, ap (read b) t.end))
-          (grind (arith, f, nat_tests)) t.lacks.none)
-
-  -- an outward decaying link can be given up
-  finishes : (e : Edge) (d : LinkEnd) (a c sent received : ℕ) → e.decaying ≡ Some d → e.length_to ≡ Some a → e.length_from ≡ Some c → a ≤ sent →
-      c ≤ received → can_finish e sent received ≡ true
-  unfolding can_finish has_come_to
-  finishes e d a c sent received dec to from l m = grind (arith, dec, to, from, l, m, nat_tests)
-
-  -- no router with an outward primary link has a decaying one
-  pub still : (k : Key) (r : Router) → router_at w k ≡ Some r → is_begun_router r ≡ false → r.outward.decaying ≡ None
-  unfolding is_possible standing_router
-  still k r here whole = go r.outward.decaying refl
+  -- nor anywhere
+  no_proxy_below : (n : ℕ) (k : Key) (r : Router) → router_at w k ≡ Some r → is_proxy r ≡ true → ranked.rank k < n → ⊥
+  no_proxy_below zero k r here proxy l = omega (arith, l)
+  no_proxy_below (suc n) k r here proxy l =
+      go (outer_router w b g law quiet ranked k r p.0 here p.1) (λ q z at is low. no_proxy_below n q z at is low)
     where
       p : (p : LinkEnd) × (r.outward.primary ≡ Some p)
-      p = some_is r.outward.primary (primed r (law.shape.role k r here) whole)
+      p = some_is r.outward.primary (primed r (law.shape.role k r here) (none_begun w b g law quiet ranked flagged k r here))
 
-      -- with both lengths it could be given up
-      ends : (d : LinkEnd) (a c fresh : ℕ) → r.outward.decaying ≡ Some d → r.outward.length_to ≡ Some a → r.outward.length_from ≡ Some c →
-          side_length g d.link (opposite d.side) ≡ Some c → link_in r.outward.primary ≡ Some (Central fresh) → ⊥
-      ends d a c fresh dec to from len central = by (nat_le c (reach r.in_queue)) refl
+      go : HasOuter w b g law quiet ranked k r ⊎ HasAcross w b g law quiet ranked k r →
+          ((q : Key) (z : Router) → router_at w q ≡ Some z → is_proxy z ≡ true → ranked.rank q < n → ⊥) → ⊥
+      go (inl h) more = more h.key h.router h.here (inward_proxy h.router (Peripheral h.node h.serial) h.on) (omega (arith, l, h.lower))
+      go (inr h) more = not_central k r here proxy h
+
+  pub no_proxies : (k : Key) (r : Router) → router_at w k ≡ Some r → is_terminal r ≡ true
+  no_proxies k r here = go (is_terminal r) refl
+    where
+      go : (c : Bool) → is_terminal r ≡ c → is_terminal r ≡ true
+      go true e = e
+      go false e = absurd (no_proxy_below (ranked.rank k + 1) k r here (proxy_is r e) (omega arith))
         where
-          sent : a ≤ r.out_queue.current
-          sent = law.fresh_numbers.own k r p.0 d a here p.1 dec to
+          proxy_is : (r : Router) → is_terminal r ≡ false → is_proxy r ≡ true
+          proxy_is r e = grind (arith, e)
 
-          by : (t : Bool) → nat_le c (reach r.in_queue) ≡ t → ⊥
-          by true e = not_both (can_finish r.outward r.out_queue.current (reach r.in_queue))
-              (finishes r.outward d a c r.out_queue.current (reach r.in_queue) dec to from sent (grind (arith, e, nat_tests)))
-              (idle k r acts.FinishOut here)
-          by false e = omega (
-            arith,
-            low,
-            lacked_given r.end (reach r.in_queue) (inward_lacks w b g law quiet ranked ranked.limit k r (reach r.in_queue) here whole (omega arith)
-                (record { current = (is_reach r.in_queue).from; none = (is_reach r.in_queue).absent })),
-            across (outer_router w b g law quiet ranked k r p.0 here p.1),
-          )
-            where
-              low : reach r.in_queue < c
-              low = grind (arith, e, nat_tests)
-
-              across : HasOuter w b g law quiet ranked k r ⊎ HasAcross w b g law quiet ranked k r → c ≤ length (b.put (opposite_end r.end))
-              across (inl h) =
-                  let t : HasEnd r.outward.primary (Peripheral h.node h.serial) B = has_link-tells r.outward.primary (Peripheral h.node h.serial) B h.own in
-                  absurd (apart h.node h.serial (sym t.on_link ∙ same_Some t.end.link (Central fresh) (sym (ap link_in t.there) ∙ central)))
-                where
-                  apart : (n x : ℕ) → Peripheral n x ≡ Central fresh → ⊥
-                  apart n x e = cc
-              across (inr h) =
-                  let t : HasEnd r.outward.primary (Central h.word) h.side = has_link-tells r.outward.primary (Central h.word) h.side h.own in
-                  let same : t.end ≡ p.0 = same_Some t.end p.0 (sym t.there ∙ p.1) in
-                  let seen : view w g (Central h.word) (opposite h.side) ≡ Standing h.router =
-                  (attached_view w b g law (Central h.word) (opposite h.side) h.key h.router h.here
-                  (attached_at h.word (opposite h.side) h.router h.on)).1 in
-                  let stands : standing_router (view w g p.0.link (opposite p.0.side)) ≡ Some h.router =
-                  ap (λ z. standing_router (view w g z.link (opposite z.side))) (sym same)
-                  ∙ ap (λ l. standing_router (view w g l (opposite t.end.side))) t.on_link
-                  ∙ ap (λ s. standing_router (view w g (Central h.word) (opposite s))) t.at_side
-                  ∙ ap standing_router seen in
-                  omega (
-                    arith,
-                    law.fresh_numbers.other k r h.router p.0 d c here p.1 dec len stands,
-                    outward_given w b g law quiet ranked ranked.limit h.key h.router h.here
-                        (not_begun w b g law quiet ranked h.key h.router (Central h.word) (opposite h.side) h.here h.on) (omega arith),
-                    ap (λ z. length (b.put z)) h.end,
-                  )
-
-      go : (o : Option LinkEnd) → r.outward.decaying ≡ o → r.outward.decaying ≡ None
-      go None e = e
-      go (Some d) e = absurd (elim (outward_case w b g law k r d here e) [
-        | inl c ↦ elim c.3 [
-          | inl own ↦ none-some p.0 (sym (law.positions.own_alone k r d c.0 here e c.1 own) ∙ p.1)
-          | inr far ↦ ends d (g.bypass c.0).accepted_at (g.bypass c.0).taken_at (g.bypass c.0).fresh e
-              (law.positions.across_to k r d c.0 here e c.1 far) (law.positions.across_from k r d c.0 here e c.1 far)
-              (ap (λ l. side_length g l (opposite d.side)) c.1 ∙ ap (λ s. side_length g (Central c.0) (opposite s)) far
-              ∙ ap (side_length g (Central c.0)) (opposite-twice (proxy_side g c.0))
-              ∙ length-proxy g c.0 (omega (arith, settled w b g law quiet ranked c.0 c.2)))
-              (law.positions.across_fresh k r d c.0 here e c.1 far)
-        ]
-        | inr c ↦ let stage = settled w b g law quiet ranked c.1 (law.stands.by_begun c.0 c.1 c.4) in
-            ends d (g.bypass c.1).taken_at (g.bypass c.1).accepted_at (g.bypass c.1).fresh e
-            (law.positions.inner_to k r d c.0 c.1 here e c.2 c.4)
-            (law.positions.inner_from k r d c.0 c.1 here e c.2 c.4
-            ∙ known_from-yes 5 (g.bypass c.1).stage (g.bypass c.1).accepted_at (omega (arith, stage)))
-            (ap (λ l. side_length g l (opposite d.side)) c.2 ∙ ap (λ s. side_length g (inner_link c.0) (opposite s)) c.3
-            ∙ length-inward g c.0 c.1 c.4 (omega (arith, stage)))
-            (law.positions.inner_fresh k r d c.0 c.1 here e c.2 c.4)
-      ])
-
-  -- no proxy has begun a bypass: it could finish, or leave
-  pub none_begun : (k : Key) (r : Router) → router_at w k ≡ Some r → is_begun_router r ≡ false
-  unfolding is_possible
-  none_begun k r here = go (is_begun_router r) refl
+  -- a pair's terminal that stands, and the one across from it
+  terminal_on : (pair : ℕ) (s : Side) (k : Key) → g.terminal (end_at pair s) ≡ At k →
+      (i : ℕ) × IsTerminalOn w pair i s × IsTerminalOn w pair i (opposite s)
+  terminal_on pair s k at = go (outer_router w b g law quiet ranked k t.0 p.0 t.1 p.1)
     where
-      not_both : {X : Type 0} (c : Bool) → c ≡ true → c ≡ false → X
-      not_both true a b = cc
-      not_both false a b = cc
+      t : (r : Router) × (router_at w k ≡ Some r) × ((is_terminal r && same_end r.end (end_at pair s)) ≡ true)
+      t = passes_tells w k (λ r. is_terminal r && same_end r.end (end_at pair s)) (law.terminals.stands (end_at pair s) k at)
 
-      go : (c : Bool) → is_begun_router r ≡ c → is_begun_router r ≡ false
-      go false e = e
-      go true e = absurd (over (across_stands w b g law quiet ranked k r here is) (inner_stands w b g law quiet ranked k r here is))
+      end : t.0.end ≡ end_at pair s
+      end = same_end-tells t.0.end (end_at pair s) (and_second (is_terminal t.0) (same_end t.0.end (end_at pair s)) t.2)
+
+      p : (p : LinkEnd) × (t.0.outward.primary ≡ Some p)
+      p = some_is t.0.outward.primary (primed t.0 (law.shape.role k t.0 t.1) (none_begun w b g law quiet ranked flagged k t.0 t.1))
+
+      go : HasOuter w b g law quiet ranked k t.0 ⊎ HasAcross w b g law quiet ranked k t.0 →
+          (i : ℕ) × IsTerminalOn w pair i s × IsTerminalOn w pair i (opposite s)
+      go (inl h) = absurd (not_both (is_proxy h.router) (inward_proxy h.router (Peripheral h.node h.serial) h.on)
+          (terminal_not h.router (no_proxies h.key h.router h.here)))
         where
-          is : HasBegun w b g law quiet ranked k r
-          is = begun_tells w b g law quiet ranked k r here e
-
-          lone : (l : LinkId) (s : Side) → StandsOver w b g law quiet ranked k r here is l s → ⊥
-          lone l s x = none-some x.end (sym (still x.key x.router x.here (whole x.router x.primary (law.shape.role x.key x.router x.here))) ∙ x.decaying)
-            where
-              whole : (z : Router) → is_some z.outward.primary ≡ true → has_role z ≡ true → is_begun_router z ≡ false
-              whole z p h = at (is_terminal z) (is_some (inward_edge z).primary) refl refl
-                where
-                  at : (c d : Bool) → is_terminal z ≡ c → is_some (inward_edge z).primary ≡ d → is_begun_router z ≡ false
-                  at true d f k = grind (arith, f)
-                  at false true f k = grind (arith, f, k)
-                  at false false f k = absurd (grind (arith, f, k, h, p))
-
-          over : StandsOver w b g law quiet ranked k r here is (Central is.old) (across_side g is.old) ⊎
-              ((g.bypass is.old).taken_at ≤ r.out_queue.current) →
-              StandsOver w b g law quiet ranked k r here is (inner_of g is.old) B ⊎ ((g.bypass is.old).accepted_at ≤ r.in_queue.current) → ⊥
-          over (inl x) other = lone (Central is.old) (across_side g is.old) x
-          over (inr a) (inl x) = lone (inner_of g is.old) B x
-          over (inr taken) (inr accepted) = links r.outward.decaying (inward_edge r).decaying refl refl
-            where
-              links : (d i : Option LinkEnd) → r.outward.decaying ≡ d → (inward_edge r).decaying ≡ i → ⊥
-              links (Some d) i p q =
-                  let named = bypassed.proxy-outward law is.by d p in
-                  not_both (can_finish r.outward r.out_queue.current (reach r.in_queue))
-                  (finishes r.outward d (g.bypass is.old).taken_at (g.bypass is.old).accepted_at r.out_queue.current (reach r.in_queue) p
-                  (law.positions.own_to k r d is.old here p named.link named.side
-                  ∙ known_from-yes 4 (g.bypass is.old).stage (g.bypass is.old).taken_at (omega (arith, is.stage)))
-                  (law.positions.own_from k r d is.old here p named.link named.side
-                  ∙ known_from-yes 4 (g.bypass is.old).stage (g.bypass is.old).accepted_at (omega (arith, is.stage)))
-                  taken (omega (arith, accepted, (is_reach r.in_queue).from))) (idle k r acts.FinishOut here)
-              links None (Some d) p q =
-                  not_both (can_finish (inward_edge r) r.in_queue.current (reach r.out_queue))
-                  (finishes (inward_edge r) d (g.bypass is.old).accepted_at (g.bypass is.old).taken_at r.in_queue.current (reach r.out_queue) q
-                  (law.positions.inward_to k r d is.old here q (bypassed.proxy-begun law is.by)
-                  ∙ known_from-yes 4 (g.bypass is.old).stage (g.bypass is.old).accepted_at (omega (arith, is.stage)))
-                  (law.positions.inward_from k r d is.old here q (bypassed.proxy-begun law is.by)
-                  ∙ known_from-yes 4 (g.bypass is.old).stage (g.bypass is.old).taken_at (omega (arith, is.stage)))
-                  accepted (omega (arith, taken, (is_reach r.out_queue).from))) (idle k r acts.FinishIn here)
-              links None None p q = left (idle k r acts.Leave here) (bypassed.proxy-alone law is.by) (bypassed.proxy-unprimed law is.by)
-                where
-                  left : is_possible r acts.Leave ≡ false → r.outward.primary ≡ None → (inward_edge r).primary ≡ None → ⊥
-                  left h a c = grind (arith, h, a, c, p, q, e)
-
-  -- nothing decays
-  calm : (k : Key) (r : Router) → router_at w k ≡ Some r → decays r ≡ false
-  calm k r here = no_decay r (law.shape.role k r here) (none_begun k r here) (still k r here (none_begun k r here))
-    where
-      no_decay : (r : Router) → has_role r ≡ true → is_begun_router r ≡ false → r.outward.decaying ≡ None → decays r ≡ false
-      no_decay r h f d = at (is_terminal r) (is_some (inward_edge r).primary) refl refl
+          terminal_not : (z : Router) → is_terminal z ≡ true → is_proxy z ≡ false
+          terminal_not z e = grind (arith, e)
+      go (inr h) = (
+        h.word,
+        record {
+          key = k;
+          router = t.0;
+          here = t.1;
+          end = end;
+          terminal = no_proxies k t.0 t.1;
+          on = subst (λ z. has_primary (Central h.word) z t.0 ≡ true) side h.own;
+          still = still w b g law quiet ranked flagged k t.0 t.1 (none_begun w b g law quiet ranked flagged k t.0 t.1);
+        },
+        record {
+          key = h.key;
+          router = h.router;
+          here = h.here;
+          end = h.end ∙ ap opposite_end end;
+          terminal = no_proxies h.key h.router h.here;
+          on = subst (λ z. has_primary (Central h.word) (opposite z) h.router ≡ true) side h.on;
+          still = still w b g law quiet ranked flagged h.key h.router h.here (none_begun w b g law quiet ranked flagged h.key h.router h.here);
+        },
+      )
         where
-          at : (c e : Bool) → is_terminal r ≡ c → is_some (inward_edge r).primary ≡ e → decays r ≡ false
-          at true e p q = grind (arith, p, d)
-          at false true p q = grind (arith, p, q, d, h)
-          at false false p q = absurd (grind (arith, p, q, f))
+          side : h.side ≡ s
+          side = ap (λ (e : End). e.side) (sym h.own_end ∙ end)
 
-  -- who is on a central link is marked
-  marked : (i : ℕ) (s : Side) (k : Key) (r : Router) → router_at w k ≡ Some r → has_primary (Central i) s r ≡ true → r.marked ≡ true
-  unfolding is_possible
-  marked i s k r here on = go (idle k r acts.Mark here) (calm k r here) (ap is_some (on-central i s r on))
+  -- so its route is direct
+  pub direct_from : (pair : ℕ) (s : Side) (k : Key) → g.terminal (end_at pair s) ≡ At k → IsDirectPair w pair
+  direct_from pair s k at = record {
+    word = (terminal_on pair s k at).0;
+    stands = stands;
+    only = λ q r here p.
+        let x = stands r.end.side in
+        let ends : r.end ≡ x.router.end = ap (λ z. end_at z r.end.side) p ∙ sym x.end in
+        same_Some q x.key (ap key_of (sym (law.terminals.terminal q r here (no_proxies q r here)) ∙ ap g.terminal ends ∙
+        law.terminals.terminal x.key x.router x.here x.terminal));
+  }
     where
-      go : is_possible r acts.Mark ≡ false → decays r ≡ false → is_on_central r ≡ true → r.marked ≡ true
-      go h d c = grind (arith, h, d, c)
+      stands : (z : Side) → IsTerminalOn w pair (terminal_on pair s k at).0 z
+      stands z = elim (side_is z s) [
+        | inl e ↦ subst (IsTerminalOn w pair (terminal_on pair s k at).0) (sym e.1) (terminal_on pair s k at).1
+        | inr e ↦ subst (IsTerminalOn w pair (terminal_on pair s k at).0) (sym e.1) (terminal_on pair s k at).2
+      ]
 
-  -- nobody holds a lock
-  free : (k : Key) (r : Router) → router_at w k ≡ Some r → r.holds ≡ false
-  unfolding is_possible
-  free k r here = go r.holds refl
+  free_word : (pair : ℕ) (route : IsDirectPair w pair) → is_free (word_at w route.word) ≡ true
+  free_word pair route = go (stable A) (stable B) (unheld A) (unheld B)
     where
-      begins : is_possible r acts.Begin ≡ false → is_proxy r ≡ true → r.holds ≡ true → is_on_central r ≡ true → decays r ≡ false → ⊥
-      begins h p q c d = grind (arith, h, p, q, c, d)
+      stable : (s : Side) → has (word_at w route.word).stable s ≡ true
+      stable s = let x = route.stands s in
+          sym (links.marked x.key x.router route.word s x.here x.on) ∙ marked w b g law quiet ranked flagged route.word s x.key x.router x.here x.on
 
-      go : (c : Bool) → r.holds ≡ c → r.holds ≡ false
-      go false e = e
-      go true e = absurd (begins (idle k r acts.Begin here) (law.shape.holds_proxy k r here e) e
-          (law.shape.marked_central k r here (law.shape.holds_marked k r here e)) (calm k r here))
+      unheld : (s : Side) → has (word_at w route.word).holder s ≡ false
+      unheld s = let x = route.stands s in
+          sym (links.holds x.key x.router route.word s x.here x.on) ∙ free w b g law quiet ranked flagged x.key x.router x.here
 
-  module _ (minded : AreMinded w) (wet : IsWet w) where
-    links : LinkLaw w
-    links = link_law w b g law
+      go : has (word_at w route.word).stable A ≡ true → has (word_at w route.word).stable B ≡ true →
+          has (word_at w route.word).holder A ≡ false → has (word_at w route.word).holder B ≡ false → is_free (word_at w route.word) ≡ true
+      go a c d e = grind (arith, a, c, d, e)
 
-    -- no proxy is left on a central link: it could claim, lock or begin, or is minded
-    not_central : (k : Key) (r : Router) → router_at w k ≡ Some r → is_proxy r ≡ true → HasAcross w b g law quiet ranked k r → ⊥
-    unfolding is_possible
-    not_central k r here proxy h = go r.tried r.spare refl refl
-      where
-        may : is_possible r acts.Claim ≡ false → is_possible r acts.Lock ≡ false → r.marked ≡ true → is_on_central r ≡ true → decays r ≡ false →
-            r.dry ≡ false → r.holds ≡ false → (o : Option ℕ) → r.spare ≡ o → r.tried ≡ false → ⊥
-        may a c m z d y f None e t = grind (arith, a, m, z, d, y, f, e, t, proxy)
-        may a c m z d y f (Some j) e t = grind (arith, c, m, z, d, y, f, e, t, proxy)
+  -- what an end's peer hasn't read stands at the peer's terminal
+  all_there : (k : Key) (r : Router) (h : ℕ → Item → ℕ) → router_at w k ≡ Some r → total h r.in_queue.items ≡ unread_weight h b (opposite_end r.end)
+  all_there k r h here = omega (
+    arith,
+    places-remove_router f g w k r (law.counts.on_node k r here) here,
+    bare,
+    in_router-is f r,
+    outs k r here,
+    ap (λ c. total (λ n x. cond c (h n x) 0) r.in_queue.items) (same_end-itself d),
+  ) ∙ law.conserved.exact d h
+    where
+      d : End
+      d = opposite_end r.end
 
-        wakes : (z : Router) → is_possible z acts.Wake ≡ false → z.wake_owed ≡ true → is_on_central z ≡ true → ⊥
-        wakes z h a c = grind (arith, h, a, c)
+      f : Weight
+      f = at_end d h
 
-        minds : IsMinded w h.word h.side k.node → ⊥
-        minds (inl held) = not_both h.router.holds (links.holds h.key h.router h.word (opposite h.side) h.here h.on ∙ held)
-            (free h.key h.router h.here)
-        minds (inr (inl f)) = nothing-moves w quiet f.from k.node f.place (messages.Flush (Central h.word) h.side) f.under_way
-        minds (inr (inr (inl p))) = not_both (is_possible p.router acts.Lock) p.passes (idle p.key p.router acts.Lock p.here)
-        minds (inr (inr (inr (waits, inl unstable)))) = not_both h.router.marked (marked h.word (opposite h.side) h.key h.router h.here h.on)
-            (links.marked h.key h.router h.word (opposite h.side) h.here h.on ∙ unstable)
-        minds (inr (inr (inr (waits, inr p)))) = wakes p.router (idle p.key p.router acts.Wake p.here) p.passes
-            (ap is_some (on-central h.word (opposite h.side) p.router p.on))
+      v : World
+      v = remove_router w k
 
-        go : (t : Bool) (o : Option ℕ) → r.tried ≡ t → r.spare ≡ o → ⊥
-        go true o e f = minds (minded h.word k r h.side here e h.own)
-        go false o e f = may (idle k r acts.Claim here) (idle k r acts.Lock here) (marked h.word h.side k r here h.own)
-            (ap is_some (on-central h.word h.side r h.own)) (calm k r here) (wet k r here) (free k r here) o f e
+      same : SameButRouter w v k None
+      same = remove-router w k r here
 
-    -- nor anywhere
-    no_proxy_below : (n : ℕ) (k : Key) (r : Router) → router_at w k ≡ Some r → is_proxy r ≡ true → ranked.rank k < n → ⊥
-    no_proxy_below zero k r here proxy l = omega (arith, l)
-    no_proxy_below (suc n) k r here proxy l =
-        go (outer_router w b g law quiet ranked k r p.0 here p.1) (λ q z at is low. no_proxy_below n q z at is low)
-      where
-        p : (p : LinkEnd) × (r.outward.primary ≡ Some p)
-        p = some_is r.outward.primary (primed r (law.shape.role k r here) (none_begun k r here))
+      -- what a terminal was given it has sent
+      outs : (q : Key) (y : Router) → router_at w q ≡ Some y → total (f y.end) y.out_queue.items ≡ 0
+      outs q y at = total-zero (f y.end) y.out_queue.items
+          (λ m z i. absurd (none-some z (sym (out-delivered w b g q y law flagged quiet at (no_proxies q y at) m) ∙ i)))
 
-        go : HasOuter w b g law quiet ranked k r ⊎ HasAcross w b g law quiet ranked k r →
-            ((q : Key) (z : Router) → router_at w q ≡ Some z → is_proxy z ≡ true → ranked.rank q < n → ⊥) → ⊥
-        go (inl h) more = more h.key h.router h.here (inward_proxy h.router (Peripheral h.node h.serial) h.on) (omega (arith, l, h.lower))
-        go (inr h) more = not_central k r here proxy h
+      nothing_under_way : under_way (λ from to m. in_message f g m) v ≡ 0
+      nothing_under_way = none (under_way (λ from to m. in_message f g m) v) refl
+        where
+          none : (a : ℕ) → under_way (λ from to m. in_message f g m) v ≡ a → under_way (λ from to m. in_message f g m) v ≡ 0
+          none zero e = e
+          none (suc a) e = let t = found (λ from to m. in_message f g m) v (omega (arith, e)) in
+              absurd (nothing-moves w quiet t.0 t.1 t.2 t.3 (record {
+                sender = subst (λ c. t.0 < c) same.count t.4.sender;
+                receiver = subst (λ c. t.1 < c) same.count t.4.receiver;
+                place = ap (λ ms. slice_get ms t.2) (sym (same.flows t.0 t.1)) ∙ t.4.place;
+              }))
 
-    pub no_proxies : (k : Key) (r : Router) → router_at w k ≡ Some r → is_terminal r ≡ true
-    no_proxies k r here = go (is_terminal r) refl
-      where
-        go : (c : Bool) → is_terminal r ≡ c → is_terminal r ≡ true
-        go true e = e
-        go false e = absurd (no_proxy_below (ranked.rank k + 1) k r here (proxy_is r e) (omega arith))
-          where
-            proxy_is : (r : Router) → is_terminal r ≡ false → is_proxy r ≡ true
-            proxy_is r e = grind (arith, e)
+      others : (q : Key) (y : Router) → router_at v q ≡ Some y → in_router f y ≡ 0
+      others q y at = elim (same_key_tells q k) [
+        | inl e ↦ absurd (none-some y (sym (same.routers q ∙ ap (λ c. cond c None (router_at w q)) e.0) ∙ at))
+        | inr e ↦ other e.1 (sym (same.routers q ∙ ap (λ c. cond c None (router_at w q)) e.0) ∙ at)
+      ]
+        where
+          other : (q ≡ k → ⊥) → router_at w q ≡ Some y → in_router f y ≡ 0
+          other apart is = in_router-is f y ∙ omega (arith, outs q y is, inn (same_end (opposite_end y.end) d) refl)
+            where
+              inn : (c : Bool) → same_end (opposite_end y.end) d ≡ c → total (f (opposite_end y.end)) y.in_queue.items ≡ 0
+              inn false e = total-zero (f (opposite_end y.end)) y.in_queue.items (λ m z i. ap (λ c. cond c (h m z) 0) e)
+              inn true e =
+                  let ends : y.end ≡ r.end = sym (opposite_end-twice y.end) ∙ ap opposite_end (same_end-tells (opposite_end y.end) d e) ∙
+                  opposite_end-twice r.end in
+                  absurd (apart (same_Some q k (ap key_of (sym (law.terminals.terminal q y is (no_proxies q y is)) ∙ ap g.terminal ends ∙
+                  law.terminals.terminal k r here (no_proxies k r here)))))
 
-    -- a pair's terminal that stands, and the one across from it
-    terminal_on : (pair : ℕ) (s : Side) (k : Key) → g.terminal (end_at pair s) ≡ At k →
-        (i : ℕ) × IsTerminalOn w pair i s × IsTerminalOn w pair i (opposite s)
-    terminal_on pair s k at = go (outer_router w b g law quiet ranked k t.0 p.0 t.1 p.1)
-      where
-        t : (r : Router) × (router_at w k ≡ Some r) × ((is_terminal r && same_end r.end (end_at pair s)) ≡ true)
-        t = passes_tells w k (λ r. is_terminal r && same_end r.end (end_at pair s)) (law.terminals.stands (end_at pair s) k at)
+      node_bare : (j : ℕ) → in_node f g (node_at v j) ≡ 0
+      node_bare j = in_node-is f g (node_at v j) ∙ omega (
+        arith,
+        total-zero (λ s y. in_router f y) (node_at v j).routers (λ s y at. others (record { node = j; serial = s }) y (router-is v j s ∙ at)),
+        ap (total_list (in_message f g)) ((same.nodes j).strays ∙ law.no_strays j),
+      )
 
-        end : t.0.end ≡ end_at pair s
-        end = same_end-tells t.0.end (end_at pair s) (and_second (is_terminal t.0) (same_end t.0.end (end_at pair s)) t.2)
+      bare : in_places f g v ≡ 0
+      bare = in_places-is f g v ∙ omega (
+        arith,
+        nothing_under_way,
+        total_below-zero v.count (λ j. in_node f g (node_at v j)) (λ j l. node_bare j),
+      )
 
-        p : (p : LinkEnd) × (t.0.outward.primary ≡ Some p)
-        p = some_is t.0.outward.primary (primed t.0 (law.shape.role k t.0 t.1) (none_begun k t.0 t.1))
+  pub is_direct : (pair : ℕ) → IsDirectPair w pair → IsDirect w b pair
+  is_direct pair route = record {
+    route = route;
+    free = free_word pair route;
+    delivered = λ s h. let x = route.stands s in
+        all_there x.key x.router h x.here ∙ ap (λ e. unread_weight h b (opposite_end e)) x.end;
+  }
 
-        go : HasOuter w b g law quiet ranked k t.0 ⊎ HasAcross w b g law quiet ranked k t.0 →
-            (i : ℕ) × IsTerminalOn w pair i s × IsTerminalOn w pair i (opposite s)
-        go (inl h) = absurd (not_both (is_proxy h.router) (inward_proxy h.router (Peripheral h.node h.serial) h.on)
-            (terminal_not h.router (no_proxies h.key h.router h.here)))
-          where
-            terminal_not : (z : Router) → is_terminal z ≡ true → is_proxy z ≡ false
-            terminal_not z e = grind (arith, e)
-        go (inr h) = (
-          h.word,
-          record {
-            key = k;
-            router = t.0;
-            here = t.1;
-            end = end;
-            terminal = no_proxies k t.0 t.1;
-            on = subst (λ z. has_primary (Central h.word) z t.0 ≡ true) side h.own;
-            still = still k t.0 t.1 (none_begun k t.0 t.1);
-          },
-          record {
-            key = h.key;
-            router = h.router;
-            here = h.here;
-            end = h.end ∙ ap opposite_end end;
-            terminal = no_proxies h.key h.router h.here;
-            on = subst (λ z. has_primary (Central h.word) (opposite z) h.router ≡ true) side h.on;
-            still = still h.key h.router h.here (none_begun h.key h.router h.here);
-          },
-        )
-          where
-            side : h.side ≡ s
-            side = ap (λ (e : End). e.side) (sym h.own_end ∙ end)
+  -- each open pair is direct
+  pub pair_direct : (pair : ℕ) → is_linked (g.owner pair) ≡ true → (g.central pair).pair ≡ pair → IsDirect w b pair
+  unfolding side_end is_recorded is_nowhere move_weight
+  pair_direct pair linked own = go (g.terminal (end_at pair A)) refl
+    where
+      opened : is_nowhere (g.terminal (end_at pair A)) ≡ false
+      opened = ap (λ z. is_nowhere (g.terminal (end_at z A))) (sym own) ∙ law.terminals.link_opened (Central pair) A linked
 
-    -- so its route is direct
-    pub direct_from : (pair : ℕ) (s : Side) (k : Key) → g.terminal (end_at pair s) ≡ At k → IsDirectPair w pair
-    direct_from pair s k at = record {
-      word = (terminal_on pair s k at).0;
-      stands = stands;
-      only = λ q r here p.
-          let x = stands r.end.side in
-          let ends : r.end ≡ x.router.end = ap (λ z. end_at z r.end.side) p ∙ sym x.end in
-          same_Some q x.key (ap key_of (sym (law.terminals.terminal q r here (no_proxies q r here)) ∙ ap g.terminal ends ∙
-          law.terminals.terminal x.key x.router x.here x.terminal));
-    }
-      where
-        stands : (z : Side) → IsTerminalOn w pair (terminal_on pair s k at).0 z
-        stands z = elim (side_is z s) [
-          | inl e ↦ subst (IsTerminalOn w pair (terminal_on pair s k at).0) (sym e.1) (terminal_on pair s k at).1
-          | inr e ↦ subst (IsTerminalOn w pair (terminal_on pair s k at).0) (sym e.1) (terminal_on pair s k at).2
-        ]
-
-    free_word : (pair : ℕ) (route : IsDirectPair w pair) → is_free (word_at w route.word) ≡ true
-    free_word pair route = go (stable A) (stable B) (unheld A) (unheld B)
-      where
-        stable : (s : Side) → has (word_at w route.word).stable s ≡ true
-        stable s = let x = route.stands s in
-            sym (links.marked x.key x.router route.word s x.here x.on) ∙ marked route.word s x.key x.router x.here x.on
-
-        unheld : (s : Side) → has (word_at w route.word).holder s ≡ false
-        unheld s = let x = route.stands s in
-            sym (links.holds x.key x.router route.word s x.here x.on) ∙ free x.key x.router x.here
-
-        go : has (word_at w route.word).stable A ≡ true → has (word_at w route.word).stable B ≡ true →
-            has (word_at w route.word).holder A ≡ false → has (word_at w route.word).holder B ≡ false → is_free (word_at w route.word) ≡ true
-        go a c d e = grind (arith, a, c, d, e)
-
-    -- what an end's peer hasn't read stands at the peer's terminal
-    all_there : (k : Key) (r : Router) (h : ℕ → Item → ℕ) → router_at w k ≡ Some r → total h r.in_queue.items ≡ unread_weight h b (opposite_end r.end)
-    all_there k r h here = omega (
-      arith,
-      places-remove_router f g w k r (law.counts.on_node k r here) here,
-      bare,
-      in_router-is f r,
-      outs k r here,
-      ap (λ c. total (λ n x. cond c (h n x) 0) r.in_queue.items) (same_end-itself d),
-    ) ∙ law.conserved.exact d h
-      where
-        d : End
-        d = opposite_end r.end
-
-        f : Weight
-        f = at_end d h
-
-        v : World
-        v = remove_router w k
-
-        same : SameButRouter w v k None
-        same = remove-router w k r here
-
-        -- what a terminal was given it has sent
-        outs : (q : Key) (y : Router) → router_at w q ≡ Some y → total (f y.end) y.out_queue.items ≡ 0
-        outs q y at = total-zero (f y.end) y.out_queue.items
-            (λ m z i. absurd (none-some z (sym (out-delivered w b g q y law flagged quiet at (no_proxies q y at) m) ∙ i)))
-
-        nothing_under_way : under_way (λ from to m. in_message f g m) v ≡ 0
-        nothing_under_way = none (under_way (λ from to m. in_message f g m) v) refl
-          where
-            none : (a : ℕ) → under_way (λ from to m. in_message f g m) v ≡ a → under_way (λ from to m. in_message f g m) v ≡ 0
-            none zero e = e
-            none (suc a) e = let t = found (λ from to m. in_message f g m) v (omega (arith, e)) in
-                absurd (nothing-moves w quiet t.0 t.1 t.2 t.3 (record {
-                  sender = subst (λ c. t.0 < c) same.count t.4.sender;
-                  receiver = subst (λ c. t.1 < c) same.count t.4.receiver;
-                  place = ap (λ ms. slice_get ms t.2) (sym (same.flows t.0 t.1)) ∙ t.4.place;
-                }))
-
-        others : (q : Key) (y : Router) → router_at v q ≡ Some y → in_router f y ≡ 0
-        others q y at = elim (same_key_tells q k) [
-          | inl e ↦ absurd (none-some y (sym (same.routers q ∙ ap (λ c. cond c None (router_at w q)) e.0) ∙ at))
-          | inr e ↦ other e.1 (sym (same.routers q ∙ ap (λ c. cond c None (router_at w q)) e.0) ∙ at)
-        ]
-          where
-            other : (q ≡ k → ⊥) → router_at w q ≡ Some y → in_router f y ≡ 0
-            other apart is = in_router-is f y ∙ omega (arith, outs q y is, inn (same_end (opposite_end y.end) d) refl)
-              where
-                inn : (c : Bool) → same_end (opposite_end y.end) d ≡ c → total (f (opposite_end y.end)) y.in_queue.items ≡ 0
-                inn false e = total-zero (f (opposite_end y.end)) y.in_queue.items (λ m z i. ap (λ c. cond c (h m z) 0) e)
-                inn true e =
-                    let ends : y.end ≡ r.end = sym (opposite_end-twice y.end) ∙ ap opposite_end (same_end-tells (opposite_end y.end) d e) ∙
-                    opposite_end-twice r.end in
-                    absurd (apart (same_Some q k (ap key_of (sym (law.terminals.terminal q y is (no_proxies q y is)) ∙ ap g.terminal ends ∙
-                    law.terminals.terminal k r here (no_proxies k r here)))))
-
-        node_bare : (j : ℕ) → in_node f g (node_at v j) ≡ 0
-        node_bare j = in_node-is f g (node_at v j) ∙ omega (
-          arith,
-          total-zero (λ s y. in_router f y) (node_at v j).routers (λ s y at. others (record { node = j; serial = s }) y (router-is v j s ∙ at)),
-          ap (total_list (in_message f g)) ((same.nodes j).strays ∙ law.no_strays j),
-        )
-
-        bare : in_places f g v ≡ 0
-        bare = in_places-is f g v ∙ omega (
-          arith,
-          nothing_under_way,
-          total_below-zero v.count (λ j. in_node f g (node_at v j)) (λ j l. node_bare j),
-        )
-
-    pub is_direct : (pair : ℕ) → IsDirectPair w pair → IsDirect w b pair
-    is_direct pair route = record {
-      route = route;
-      free = free_word pair route;
-      delivered = λ s h. let x = route.stands s in
-          all_there x.key x.router h x.here ∙ ap (λ e. unread_weight h b (opposite_end e)) x.end;
-    }
-
-    -- where no terminal has retired, each open pair is direct
-    pub pair_direct : (pair : ℕ) → ((e : End) → g.terminal e ≡ Retired → ⊥) → is_linked (g.owner pair) ≡ true → (g.central pair).pair ≡ pair →
-        IsDirect w b pair
-    unfolding side_end is_recorded is_nowhere move_weight
-    pair_direct pair unretired linked own = go (g.terminal (end_at pair A)) refl
-      where
-        opened : is_nowhere (g.terminal (end_at pair A)) ≡ false
-        opened = ap (λ z. is_nowhere (g.terminal (end_at z A))) (sym own) ∙ law.terminals.link_opened (Central pair) A linked
-
-        go : (t : Terminal) → g.terminal (end_at pair A) ≡ t → IsDirect w b pair
-        go (At k) e = is_direct pair (direct_from pair A k e)
-        go Nowhere e = absurd (not_both (is_nowhere (g.terminal (end_at pair A))) (ap is_nowhere e) opened)
-        go Retired e = absurd (unretired (end_at pair A) e)
-        go (Moving d) e =
-            let weight = law.moves.one (end_at pair A) (λ x. 1) ∙ ap (move_weight (λ x. 1)) e in
-            let t = found (λ from to m. total_list (of_end (end_at pair A) (λ x. 1)) (moves_of m)) w (omega (arith, weight)) in
-            absurd (nothing-moves w quiet t.0 t.1 t.2 t.3 t.4)
+      go : (t : Terminal) → g.terminal (end_at pair A) ≡ t → IsDirect w b pair
+      go (At k) e = is_direct pair (direct_from pair A k e)
+      go Nowhere e = absurd (not_both (is_nowhere (g.terminal (end_at pair A))) (ap is_nowhere e) opened)
+      go (Moving d) e =
+          let weight = law.moves.one (end_at pair A) (λ x. 1) ∙ ap (move_weight (λ x. 1)) e in
+          let t = found (λ from to m. total_list (of_end (end_at pair A) (λ x. 1)) (moves_of m)) w (omega (arith, weight)) in
+          absurd (nothing-moves w quiet t.0 t.1 t.2 t.3 t.4)

@@ -1,19 +1,18 @@
--- In a quiet world no bypass is on its way, and what is lacking in a queue is lacking all the way to the terminal that the queue leads to.
+-- In a quiet world what is lacking in a queue is lacking all the way to the terminal that the queue leads to.
 use Rattle.std.specs.Prelude.{◌≡◌, ◌⊎◌, ◌≤◌, ◌<◌, ℕ, zero, suc, ◌+◌, Bool, true, false, nat_le, Option, Some, None}
-use Rattle.std.specs.Prelude.{is_some, [], length, refl}
+use Rattle.std.specs.Prelude.{is_some, length, refl}
 use Rattle.std.proofs.Common.{arith, ap, subst, ◌∙◌, sym, inl, inr}
 use Rattle.std.proofs.lemmas.Bool.Decides.{nat_tests}
 use Rattle.std.proofs.lemmas.Bool.{or_left, or_right}
 use Rattle.std.proofs.lemmas.Option.{none-some}
 use Rattle.ipcz_world.proofs.facts.Tests.{or_second}
 use Rattle.ipcz_world.proofs.Vocabulary.{Side, A, B, End, LinkId, Central, Peripheral, LinkEnd, Item, opposite, opposite_end, has_link}
-use Rattle.ipcz_world.proofs.Vocabulary.{Queue, item_at, Router, is_terminal, inward_edge, World, Key, router_at, Books, Records, is_begun, is_recorded, flow}
-use Rattle.ipcz_world.proofs.Vocabulary.{side_router, side_node, side_end, side_length, bypass_of, proxy_side, across_side, is_linked, inner_of}
-use Rattle.ipcz_world.proofs.Vocabulary.{control_weight, of_bypass, Standing, view, view_by, router_view, is_attached, sending_queue, fed_queue}
+use Rattle.ipcz_world.proofs.Vocabulary.{Queue, item_at, Router, is_terminal, inward_edge, World, Key, router_at, Books, Records, is_begun, is_recorded}
+use Rattle.ipcz_world.proofs.Vocabulary.{side_router, side_end, side_length, bypass_of, proxy_side, across_side, is_linked, inner_of}
+use Rattle.ipcz_world.proofs.Vocabulary.{Standing, view, view_by, router_view, is_attached, sending_queue, fed_queue}
 use Rattle.ipcz_world.proofs.Vocabulary.{next_sent, taking_queue, has_passed, has_primary, has_decaying, is_outward, is_gone, Inv, IsRecorded}
 use Rattle.ipcz_base.specs.Ends.{end_at}
 use Rattle.ipcz_router.specs.Router.{outward_has}
-use Rattle.ipcz_world.specs.Flows.{is_made_by}
 use Rattle.ipcz_world.specs.Owed.{IsRanked}
 use Rattle.ipcz_world.specs.Settling.{IsQuiet}
 use Rattle.ipcz_world.specs.Standing.{has_inward_primary}
@@ -22,14 +21,10 @@ use Rattle.ipcz_world.proofs.facts.BegunLengths.{length-proxy, length-inward}
 use Rattle.ipcz_world.proofs.facts.Lengths.{HasEnd, has_link-tells, has_link-some, opposite-twice, length-live, length-none, has_passed-none, has_passed-some}
 use Rattle.ipcz_world.proofs.facts.Reaching.{is_reach}
 use Rattle.ipcz_world.proofs.facts.Tests.{some_is}
-use Rattle.ipcz_world.proofs.flows.Awaited.{awaited_made}
-use Rattle.ipcz_world.proofs.flows.Flowing.{found}
-use Rattle.ipcz_world.proofs.frames.Opened.{opened}
 use Rattle.ipcz_world.proofs.frames.RecordRules.{bypass_of-inner}
 use Rattle.ipcz_world.proofs.lawful.LengthLaws.{attached_view}
 use Rattle.ipcz_world.proofs.lawful.LinkLaws.{Passes, passes-tells}
-use Rattle.ipcz_world.proofs.lawful.OwedLaws.{one_of_four}
-use Rattle.ipcz_world.proofs.lawful.Quiet.{nothing-moves, quiet-flow}
+use Rattle.ipcz_world.proofs.lawful.QuietBypasses.{settled, known_side, primary_live}
 use Rattle.ipcz_world.proofs.sends.Moved.{passes_tells}
 use Rattle.ipcz_world.proofs.views.Bypassed as bypassed
 
@@ -53,56 +48,6 @@ passed-later None u m l h = refl
 passed-later (Some n) u m l h = grind (arith, nat_tests, l, h)
 
 module _ (w : World) (b : Books) (g : Records) (law : Inv w b g) (quiet : IsQuiet w) (ranked : IsRanked w) where
-  -- a bypass that has begun has ended
-  pub settled : (o : ℕ) → is_begun (g.bypass o) ≡ true → (g.bypass o).stage ≡ 5
-  unfolding control_weight
-  settled o begun = go (nat_le (g.bypass o).stage 4) refl
-    where
-      first : 1 ≤ (g.bypass o).stage
-      first = grind (arith, begun, nat_tests)
-
-      go : (c : Bool) → nat_le (g.bypass o).stage 4 ≡ c → (g.bypass o).stage ≡ 5
-      go false e = let l : 5 ≤ (g.bypass o).stage = grind (arith, e, nat_tests) in omega (arith, l, law.bypasses.stage o)
-      go true e =
-          let l : (g.bypass o).stage ≤ 4 = grind (arith, e, nat_tests) in
-          let weight : control_weight g (λ from to m. 1) o ≡ 1 = one_of_four (g.bypass o).stage first l in
-          let t = found (λ from to. of_bypass g o (λ m. 1)) w (omega (arith, weight, law.told.control o (λ from to m. 1))) in
-          absurd (nothing-moves w quiet t.0 t.1 t.2 t.3 t.4)
-
-  -- no side is awaited
-  pub known_side : (link : LinkId) (s : Side) → is_recorded w g link ≡ true → (k : Key) × (side_router g link s ≡ Some k)
-  known_side link s recorded = go (side_router g link s) refl
-    where
-      go : (o : Option Key) → side_router g link s ≡ o → (k : Key) × (side_router g link s ≡ Some k)
-      go (Some k) e = (k, e)
-      go None e = absurd (none_made (awaited_made w g link s law.stands law.bypasses law.told (opened w b g law).moves recorded e))
-        where
-          none_made : is_made_by link s (flow w (side_node g link (opposite s)) (side_node g link s)) ≡ true → ⊥
-          none_made h =
-              let z : is_made_by link s [] ≡ true = subst (λ ms. is_made_by link s ms ≡ true)
-              (quiet-flow w quiet (side_node g link (opposite s)) (side_node g link s) (law.counts.side_on_node link (opposite s) recorded)) h in cc
-
-  -- an outward primary link isn't being bypassed
-  pub primary_live : (k : Key) (r : Router) (e : LinkEnd) → router_at w k ≡ Some r → r.outward.primary ≡ Some e → bypass_of g e.link ≡ None
-  unfolding bypass_of
-  primary_live k r e here on = go e.link refl
-    where
-      go : (l : LinkId) → e.link ≡ l → bypass_of g e.link ≡ None
-      go (Central i) q = ap (bypass_of g) q ∙ at (is_begun (g.bypass i)) refl
-        where
-          at : (c : Bool) → is_begun (g.bypass i) ≡ c → bypass_of g (Central i) ≡ None
-          at false f = rw f refl
-          at true f = absurd (omega (arith, settled i f, law.positions.primary_old k r e i here on q f))
-      go (Peripheral n x) q = ap (bypass_of g) q ∙ at (g.peripheral (record { node = n; serial = x })).by refl
-        where
-          at : (o : Option ℕ) → (g.peripheral (record { node = n; serial = x })).by ≡ o → bypass_of g (Peripheral n x) ≡ None
-          at None f = f
-          at (Some o) f = absurd (omega (
-            arith,
-            settled o (law.stands.by_begun (record { node = n; serial = x }) o f),
-            law.positions.primary_inner k r e (record { node = n; serial = x }) o here on q f,
-          ))
-
   -- what a sender lacks the receiver lacks too, below the link's length
   pub hop : (link : LinkId) (s : Side) (j k : Key) (x z : Router) (m : ℕ) → router_at w j ≡ Some x → router_at w k ≡ Some z →
       is_attached link (opposite s) x ≡ true → is_attached link s z ≡ true → has_passed (side_length g link (opposite s)) m ≡ false →
@@ -194,7 +139,7 @@ module _ (w : World) (b : Books) (g : Records) (law : Inv w b g) (quiet : IsQuie
           live = sym (bypass_of-inner g p) ∙ ap (bypass_of g) (sym l) ∙ law.positions.inward_primary k r e here on
 
           inner : (q : Key) × (side_router g (Peripheral n x) B ≡ Some q)
-          inner = known_side (Peripheral n x) B recorded
+          inner = known_side w b g law quiet (Peripheral n x) B recorded
 
           stands : (z : Router) × (router_at w inner.0 ≡ Some z) × (has_primary (Peripheral n x) B z ≡ true)
           stands = passes_tells w inner.0 (has_primary (Peripheral n x) B) (law.stands.inner p inner.0 recorded live inner.1)
@@ -335,7 +280,7 @@ module _ (w : World) (b : Books) (g : Records) (law : Inv w b g) (quiet : IsQuie
           recorded = subst (λ z. is_recorded w g z ≡ true) l rec.recorded
 
           live : (g.peripheral p).by ≡ None
-          live = sym (bypass_of-inner g p) ∙ ap (bypass_of g) (sym l) ∙ primary_live k r e here on
+          live = sym (bypass_of-inner g p) ∙ ap (bypass_of g) (sym l) ∙ primary_live w b g law quiet k r e here on
 
           proxy : Passes w (side_router g (Peripheral n x) A) (has_inward_primary (Peripheral n x) A)
           proxy = passes-tells w (side_router g (Peripheral n x) A) (has_inward_primary (Peripheral n x) A) (law.stands.proxy p recorded live)
@@ -374,10 +319,10 @@ module _ (w : World) (b : Books) (g : Records) (law : Inv w b g) (quiet : IsQuie
 
           unbegun : (c : Bool) → is_begun (g.bypass i) ≡ c → is_begun (g.bypass i) ≡ false
           unbegun false f = f
-          unbegun true f = absurd (omega (arith, settled i f, law.positions.primary_old k r e i here on l f))
+          unbegun true f = absurd (omega (arith, settled w b g law quiet i f, law.positions.primary_old k r e i here on l f))
 
           across : (q : Key) × (side_router g (Central i) (opposite s) ≡ Some q)
-          across = known_side (Central i) (opposite s) recorded
+          across = known_side w b g law quiet (Central i) (opposite s) recorded
 
           stands : (z : Router) × (router_at w across.0 ≡ Some z) × (has_primary (Central i) (opposite s) z ≡ true)
           stands = passes_tells w across.0 (has_primary (Central i) (opposite s))
@@ -441,7 +386,7 @@ module _ (w : World) (b : Books) (g : Records) (law : Inv w b g) (quiet : IsQuie
       record {
         old = t.0;
         by = record { begun = is; proxy = proxy; here = here };
-        stage = settled t.0 is;
+        stage = settled w b g law quiet t.0 is;
         end = law.stages.proxy_end t.0 r is (ap (router_at w) proxy ∙ here);
       }
 

@@ -1,4 +1,4 @@
--- A world's routers follow those of the world before: so a router that has tried is still minded, and ranks still rise.
+-- A world's routers follow those of the world before: so a router that has tried is still has a waker, and ranks still rise.
 use Rattle.std.specs.Prelude.{◌≡◌, ◌⊎◌, ◌≤◌, ◌<◌, ℕ, ◌+◌, Bool, true, false, cond, nat_eq, nat_lt, Some}
 use Rattle.std.specs.Prelude.{refl}
 use Rattle.std.proofs.Common.{arith, ap, sym, ◌∙◌, subst, inl, inr}
@@ -9,7 +9,7 @@ use Rattle.ipcz_world.proofs.Vocabulary.{Node, router_in, World, Key, node_at, w
 use Rattle.ipcz_world.proofs.Vocabulary.{Books, Records, Inv, has_primary, is_recorded, Word, has_link}
 use Rattle.ipcz_word.specs.Word.{is_held}
 use Rattle.ipcz_router.specs.Router.{outward_has, inward_has}
-use Rattle.ipcz_world.specs.Owed.{FlagsAgree, HasFlush, IsMinded, IsRanked}
+use Rattle.ipcz_world.specs.Owed.{FlagsAgree, HasFlush, HasWaker, IsRanked}
 use Rattle.ipcz_world.specs.Laws.{LinkLaw}
 use Rattle.ipcz_world.proofs.lawful.LinkLaws.{link_law}
 use Rattle.ipcz_world.proofs.facts.Lengths.{HasEnd, has_link-tells}
@@ -85,38 +85,38 @@ pub held-is : (x : Word) (s : Side) → has x.holder s ≡ true → is_held x �
 held-is x A h = grind (arith, h)
 held-is x B h = grind (arith, h)
 
--- each router that has tried on this word's link is minded
-abbrev pub AreMindedOn : ℕ → World → Type 0
-AreMindedOn i w = (k : Key) (r : Router) (s : Side) → router_at w k ≡ Some r → r.tried ≡ true → has_primary (Central i) s r ≡ true →
-    IsMinded w i s k.node
+-- each router that has tried on this word's link has a waker
+abbrev pub HaveWakersOn : ℕ → World → Type 0
+HaveWakersOn i w = (k : Key) (r : Router) (s : Side) → router_at w k ≡ Some r → r.tried ≡ true → has_primary (Central i) s r ≡ true →
+    HasWaker w i s k.node
 
 -- so it stays
-pub minded-tracked : (i : ℕ) (w v : World) (b : Books) (g : Records) → Inv w b g → FlagsAgree w →
-    Tracks i (is_held (word_at w i)) w v → word_at v i ≡ word_at w i → KeepsFlush i w v → AreMindedOn i w → AreMindedOn i v
-minded-tracked i w v b g law flags tracks word flush minded k r s here tried on = elim (tracks.routers k r here) [
-  | inl t ↦ let old = t.2.tried s tried on in was t.0 t.1 old.0 old.1 (minded k t.0 s t.1 old.0 old.1)
+pub wakers-tracked : (i : ℕ) (w v : World) (b : Books) (g : Records) → Inv w b g → FlagsAgree w →
+    Tracks i (is_held (word_at w i)) w v → word_at v i ≡ word_at w i → KeepsFlush i w v → HaveWakersOn i w → HaveWakersOn i v
+wakers-tracked i w v b g law flags tracks word flush wakers k r s here tried on = elim (tracks.routers k r here) [
+  | inl t ↦ let old = t.2.tried s tried on in was t.0 t.1 old.0 old.1 (wakers k t.0 s t.1 old.0 old.1)
   | inr t ↦ false-true (sym t.1.untried ∙ tried)
 ]
   where
     link : LinkLaw w
     link = link_law w b g law
 
-    was : (x : Router) → router_at w k ≡ Some x → x.tried ≡ true → has_primary (Central i) s x ≡ true → IsMinded w i s k.node →
-        IsMinded v i s k.node
-    was x at had there minds = go minds
+    was : (x : Router) → router_at w k ≡ Some x → x.tried ≡ true → has_primary (Central i) s x ≡ true → HasWaker w i s k.node →
+        HasWaker v i s k.node
+    was x at had there waker = go waker
       where
         own : has (word_at w i).holder s ≡ false
         own = sym (link.holds k x i s at there) ∙ flags.tried_free k x at had
 
-        held_now : is_held (word_at w i) ≡ true → IsMinded v i s k.node
+        held_now : is_held (word_at w i) ≡ true → HasWaker v i s k.node
         held_now h = inl (ap (λ z. has z.holder (opposite s)) word ∙ held-other (word_at w i) s h own)
 
-        go : IsMinded w i s k.node → IsMinded v i s k.node
+        go : HasWaker w i s k.node → HasWaker v i s k.node
         go (inl h) = inl (ap (λ z. has z.holder (opposite s)) word ∙ h)
         go (inr (inl f)) = inr (inl (flush k r s here tried on f))
         go (inr (inr (inl p))) = by (is_held (word_at w i)) refl
           where
-            by : (c : Bool) → is_held (word_at w i) ≡ c → IsMinded v i s k.node
+            by : (c : Bool) → is_held (word_at w i) ≡ c → HasWaker v i s k.node
             by true e = held_now e
             by false e = elim (tracks.back p.key p.router p.here) [
               | inl t ↦ let able = t.2.able (opposite s) e p.on p.passes in
@@ -127,7 +127,7 @@ minded-tracked i w v b g law flags tracks word flush minded k r s here tried on 
             inr (inr (inr (ap (λ z. has z.waiting s) word ∙ waits, inl (ap (λ z. has z.stable (opposite s)) word ∙ unstable))))
         go (inr (inr (inr (waits, inr p)))) = by (is_held (word_at w i)) refl
           where
-            by : (c : Bool) → is_held (word_at w i) ≡ c → IsMinded v i s k.node
+            by : (c : Bool) → is_held (word_at w i) ≡ c → HasWaker v i s k.node
             by true e = held_now e
             by false e = elim (tracks.back p.key p.router p.here) [
               | inl t ↦ let owes = t.2.owing (opposite s) e p.on p.passes in

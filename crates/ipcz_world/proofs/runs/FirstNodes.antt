@@ -6,7 +6,6 @@ use Rattle.std.specs.Cmp.{nat_cmp_total}
 use Rattle.std.specs.FinMap.{get, get-empty, get-insert, nat_cmp-IsAntisymmetric}
 use Rattle.std.proofs.Common.{arith, ap, ◌∙◌, sym}
 use Rattle.std.proofs.lemmas.Bool.Decides.{nat_tests}
-use Rattle.ipcz_world.specs.Records.{NoneRetired}
 use Rattle.ipcz_world.proofs.Vocabulary.{Side, A, B, End, Message, place_at, total, total_below, Router, empty_word, open_word, Node}
 use Rattle.ipcz_world.proofs.Vocabulary.{bare_node, outbox, Empty, World, Key, Records, Spare, Opening, Fresh, Linked, is_linked}
 use Rattle.ipcz_world.proofs.Vocabulary.{is_unclaimed, is_nowhere, Weight, in_router, Inv}
@@ -205,7 +204,6 @@ weight c = cond c 0 1
 pub record Good (count words : ℕ) (ps : List (ℕ × ℕ)) : Type 0 where
   pub records : Records
   pub inv : Inv (start count words ps) no_books records
-  pub unretired : NoneRetired records
   pub owner : (j : ℕ) → records.owner j ≡ cond (nat_lt j (length ps)) Linked Unclaimed
   pub nowhere : (e : End) → is_nowhere (records.terminal e) ≡ nat_le (length ps) e.pair
   pub pair : (j : ℕ) → (records.central j).pair ≡ j

@@ -21,9 +21,7 @@ use Rattle.ipcz_world.specs.declared.mail.Mail.{Mail}
 use Rattle.ipcz_world.specs.declared.mail.Mail.TheVariants as mails
 use Rattle.ipcz_world.specs.Turns.{may_act, turn_lacks_serials, turn_event, after_hand}
 use Rattle.ipcz_world.specs.Books.{after_turn, after_discard}
-use Rattle.ipcz_world.specs.Records.{NoneRetired, routes_of}
-use Rattle.ipcz_world.specs.Remembering.{records_after}
-use Rattle.ipcz_world.proofs.routes.Unretired.{unretired-moves, unretired-made, unretired-ended, unretired-open}
+use Rattle.ipcz_world.specs.Records.{routes_of}
 use Rattle.ipcz_world.specs.Remembering.{claim_records, taken_records, accepted_records, told_records, ended_records, begin_records}
 use Rattle.ipcz_world.specs.Remembering.{made_records}
 use Rattle.ipcz_world.specs.Acts.{CanAct}
@@ -50,7 +48,6 @@ use Rattle.ipcz_world.proofs.acts.Waking.{inv-wake, inv-flush, inv-flush_lost}
 use Rattle.ipcz_world.proofs.hands.HandingItems.{inv-item}
 use Rattle.ipcz_world.proofs.sends.SendingActs.{sent_records, acted-sent_out, acted-sent_in, inv-sent_out, inv-sent_in, out_chosen}
 use Rattle.ipcz_world.proofs.sends.SendingActs.{in_chosen}
-use Rattle.ipcz_world.proofs.sends.SendingMoves.{before_moves}
 use Rattle.ipcz_world.proofs.hands.BypassPeer.{inv-peer}
 use Rattle.ipcz_world.proofs.hands.AcceptBypass.{inv-accept}
 use Rattle.ipcz_world.proofs.hands.StopProxying.{inv-stop}
@@ -122,22 +119,15 @@ below a b c h = grind (arith, h, nat_tests)
 
 module _ (w : World) (b : Books) (g : Records) (law : Inv w b g) where
   -- records that tell the same routes
-  kept_as : (v u : World) (c d : Books) (r : Routes) (h : Records) → (NoneRetired g → NoneRetired h) → v ≡ u → c ≡ d → r ≡ routes_of g →
-      routes_of h ≡ routes_of g → Inv u d h → Kept g v c r
-  kept_as v u c d r h n e f s t i = record {
-    records = h;
-    inv = rw (e, f) i;
-    routes = t ∙ sym s;
-    stays = stays-same (routes_of g) r s;
-    unretired = n;
-  }
+  kept_as : (v u : World) (c d : Books) (r : Routes) (h : Records) → v ≡ u → c ≡ d → r ≡ routes_of g → routes_of h ≡ routes_of g →
+      Inv u d h → Kept g v c r
+  kept_as v u c d r h e f s t i = record { records = h; inv = rw (e, f) i; routes = t ∙ sym s; stays = stays-same (routes_of g) r s }
 
   -- records that tell others
-  kept_to : (v u : World) (c d : Books) (r q : Routes) (h : Records) → (NoneRetired g → NoneRetired h) → v ≡ u → c ≡ d → r ≡ q →
-      routes_of h ≡ q → KeepsLinks (routes_of g) q → Inv u d h → Kept g v c r
-  kept_to v u c d r q h n e f s t l i = record {
+  kept_to : (v u : World) (c d : Books) (r q : Routes) (h : Records) → v ≡ u → c ≡ d → r ≡ q → routes_of h ≡ q →
+      KeepsLinks (routes_of g) q → Inv u d h → Kept g v c r
+  kept_to v u c d r q h e f s t l i = record {
     records = h;
-    unretired = n;
     inv = rw (e, f) i;
     routes = t ∙ sym s;
     stays =
@@ -216,7 +206,6 @@ module _ (w : World) (b : Books) (g : Records) (law : Inv w b g) where
           let c = out_chosen w k (may_send acts.SendOut e) in
           kept_to _ _ _ b _ (add_peripherals (routes_of g) n (node_at w n).next_peripheral (moved_ends (node_at w n) c.1 c.2))
           (sent_records w g k (pop_out c.0) c.1 c.2)
-          (unretired-moves g (before_moves w k (pop_out c.0)) c.1.other (moved_ends (node_at w k.node) c.1 c.2))
           (acted-sent_out w k c.0 c.1 c.2 c.3 c.4 c.5) (calm acts.SendOut (λ x. cc) (λ x. cc))
           (routes-send_out w (routes_of g) n s c.0 c.1 c.2 c.3 c.4 c.5) (routes-sent_out w b g k c.0 c.1 c.2 law c.3 c.4 c.5)
           (stays-peripherals (routes_of g) n (node_at w n).next_peripheral (moved_ends (node_at w n) c.1 c.2))
@@ -225,27 +214,26 @@ module _ (w : World) (b : Books) (g : Records) (law : Inv w b g) where
           let c = in_chosen w k (may_send acts.SendIn e) in
           kept_to _ _ _ b _ (add_peripherals (routes_of g) n (node_at w n).next_peripheral (moved_ends (node_at w n) c.1 c.2))
           (sent_records w g k (pop_in c.0) c.1 c.2)
-          (unretired-moves g (before_moves w k (pop_in c.0)) c.1.other (moved_ends (node_at w k.node) c.1 c.2))
           (acted-sent_in w k c.0 c.1 c.2 c.3 c.4 c.5) (calm acts.SendIn (λ x. cc) (λ x. cc))
           (routes-send_in w (routes_of g) n s c.0 c.1 c.2 c.3 c.4 c.5) (routes-sent_in w b g k c.0 c.1 c.2 law c.3 c.4 c.5)
           (stays-peripherals (routes_of g) n (node_at w n).next_peripheral (moved_ends (node_at w n) c.1 c.2))
           (inv-sent_in w b g k c.0 c.1 c.2 law c.3 c.4 c.5)
-      go acts.Discard e = kept_as _ _ _ _ _ g (λ none. none) refl discarded (quietly acts.Discard refl) refl
+      go acts.Discard e = kept_as _ _ _ _ _ g refl discarded (quietly acts.Discard refl) refl
           (inv-discard w b g n s r law here (can acts.Discard e refl))
-      go acts.FinishOut e = kept_as _ _ _ b _ g (λ none. none) (acted-finish_out w n s r here) (calm acts.FinishOut (λ x. cc) (λ x. cc))
+      go acts.FinishOut e = kept_as _ _ _ b _ g (acted-finish_out w n s r here) (calm acts.FinishOut (λ x. cc) (λ x. cc))
           (quietly acts.FinishOut refl) refl (inv-finish_out w b g k r law (able acts.FinishOut e refl))
-      go acts.FinishIn e = kept_as _ _ _ b _ g (λ none. none) (acted-finish_in w n s r here) (calm acts.FinishIn (λ x. cc) (λ x. cc))
+      go acts.FinishIn e = kept_as _ _ _ b _ g (acted-finish_in w n s r here) (calm acts.FinishIn (λ x. cc) (λ x. cc))
           (quietly acts.FinishIn refl) refl (inv-finish_in w b g k r law (able acts.FinishIn e refl))
-      go acts.Leave e = kept_as _ _ _ b _ g (λ none. none) (acted-leave w n s r here) (calm acts.Leave (λ x. cc) (λ x. cc)) (quietly acts.Leave refl) refl
+      go acts.Leave e = kept_as _ _ _ b _ g (acted-leave w n s r here) (calm acts.Leave (λ x. cc) (λ x. cc)) (quietly acts.Leave refl) refl
           (inv-leave w b g k r law (able acts.Leave e refl))
       go acts.Mark e =
           let i = word_of_act r (grind (arith, can acts.Mark e refl)) in
-          kept_as _ _ _ b _ g (λ none. none) (acted-mark w n s i.0 r here i.1) (calm acts.Mark (λ x. cc) (λ x. cc)) (quietly acts.Mark refl) refl
+          kept_as _ _ _ b _ g (acted-mark w n s i.0 r here i.1) (calm acts.Mark (λ x. cc) (λ x. cc)) (quietly acts.Mark refl) refl
           (inv-mark w b g k r i.0 law (record { here = here; possible = can acts.Mark e refl; word = i.1 }))
       go acts.Wake e =
           let i = word_of_act r (grind (arith, can acts.Wake e refl)) in
           let l = primary_of r i.0 i.1 in
-          kept_as _ _ _ b _ g (λ none. none) (acted-wake w n s i.0 r l.0 here i.1 l.1) (calm acts.Wake (λ x. cc) (λ x. cc)) (quietly acts.Wake refl) refl
+          kept_as _ _ _ b _ g (acted-wake w n s i.0 r l.0 here i.1 l.1) (calm acts.Wake (λ x. cc) (λ x. cc)) (quietly acts.Wake refl) refl
           (inv-wake w b g k r i.0 l.0 law (record { here = here; possible = can acts.Wake e refl; word = i.1 }) l.1)
       go acts.Claim e = claim (nat_lt w.claimed w.size) refl
         where
@@ -253,27 +241,27 @@ module _ (w : World) (b : Books) (g : Records) (law : Inv w b g) where
               (after_turn w b n (turn_event w n (OfRouter s acts.Claim)))
               (routes_after_turn w (routes_of g) n (turn_event w n (OfRouter s acts.Claim)))
           claim true q = let l : w.claimed < w.size = grind (arith, q, nat_tests) in
-              kept_as _ _ _ b _ (claim_records g k w.claimed) (λ none. none) (acted-claim w n s r here l) (calm acts.Claim (λ x. cc) (λ x. cc))
+              kept_as _ _ _ b _ (claim_records g k w.claimed) (acted-claim w n s r here l) (calm acts.Claim (λ x. cc) (λ x. cc))
               (quietly acts.Claim refl) (routes-claim w b g k law) (inv-claim w b g k r law (able acts.Claim e refl) l)
-          claim false q = kept_as _ _ _ b _ g (λ none. none) (acted-dry w n s r here (grind (arith, q, nat_tests))) (calm acts.Claim (λ x. cc) (λ x. cc))
+          claim false q = kept_as _ _ _ b _ g (acted-dry w n s r here (grind (arith, q, nat_tests))) (calm acts.Claim (λ x. cc) (λ x. cc))
               (quietly acts.Claim refl) refl (inv-dry w b g k r law here)
       go acts.Lock e =
           let i = word_of_act r (grind (arith, can acts.Lock e refl)) in
-          kept_as _ _ _ b _ g (λ none. none) (acted-lock w n s i.0 r (plan_of (word_at w i.0) r.end.side) here i.1 refl)
+          kept_as _ _ _ b _ g (acted-lock w n s i.0 r (plan_of (word_at w i.0) r.end.side) here i.1 refl)
           (calm acts.Lock (λ x. cc) (λ x. cc)) (quietly acts.Lock refl) refl
           (inv-lock w b g k r i.0 (plan_of (word_at w i.0) r.end.side) law
           (record { here = here; possible = can acts.Lock e refl; word = i.1 }) refl)
       go acts.Begin e =
           let c = begin-possible w b g k r law (able acts.Begin e refl) in
-          kept_as _ _ _ b _ (begin_records g k c.old c.fresh c.inner) (λ none. none) (acted-begin w n s r c.inner c.into c.out c.old c.fresh c.can)
+          kept_as _ _ _ b _ (begin_records g k c.old c.fresh c.inner) (acted-begin w n s r c.inner c.into c.out c.old c.fresh c.can)
           begun_books (quietly acts.Begin refl)
           (routes-begin g k c.old c.fresh c.inner (law.spares.spare k r c.fresh here c.can.spare))
           (inv-begin w b g k r c.inner c.into c.out c.old c.fresh law c.can)
       go acts.Unlock e =
           let i = word_of_act r (grind (arith, can acts.Unlock e refl)) in
-          kept_as _ _ _ b _ g (λ none. none) (acted-unlock w n s i.0 r here i.1) (calm acts.Unlock (λ x. cc) (λ x. cc)) (quietly acts.Unlock refl) refl
+          kept_as _ _ _ b _ g (acted-unlock w n s i.0 r here i.1) (calm acts.Unlock (λ x. cc) (λ x. cc)) (quietly acts.Unlock refl) refl
           (inv-unlock w b g k r i.0 law (record { here = here; possible = can acts.Unlock e refl; word = i.1 }))
-      go acts.Rest e = kept_as _ _ _ b _ g (λ none. none) (acted-rest w n s r here) (calm acts.Rest (λ x. cc) (λ x. cc)) (quietly acts.Rest refl) refl
+      go acts.Rest e = kept_as _ _ _ b _ g (acted-rest w n s r here) (calm acts.Rest (λ x. cc) (λ x. cc)) (quietly acts.Rest refl) refl
           (inv-rest w b g k r law here)
 
   -- a message in hand
@@ -283,7 +271,7 @@ module _ (w : World) (b : Books) (g : Records) (law : Inv w b g) where
   hand_kept : (n from : ℕ) (m : Message) → IsInHand w n from m → Taken n from m
   unfolding is_flush link_asked side_asked is_linked side_end after_act hand_message
   hand_kept n from (messages.Item link side number item moves) is =
-      kept_as _ _ b b _ (made_records g n (node_at w n).next_router moves) (unretired-made g n (node_at w n).next_router moves) refl refl
+      kept_as _ _ b b _ (made_records g n (node_at w n).next_router moves) refl refl
       (routes-hand w (routes_of g) n from (messages.Item link side number item moves) is.mail refl)
       (routes-made g n (node_at w n).next_router moves)
       (subst (λ v. Inv v b (made_records g n (node_at w n).next_router moves)) (ap (λ x. after_hand w n from (hand_message x)) is.mail)
@@ -300,7 +288,7 @@ module _ (w : World) (b : Books) (g : Records) (law : Inv w b g) where
       let own : HasAt w g k a.found.router link side = has_at w g k a.found.router link side law.links a.can.here a.has in
       let pair : a.found.router.end.pair ≡ (g.central o).pair = ap (λ e. e.pair) own.end ∙ ap (λ l. (side_end g l side).pair) at.on_link ∙
       law.bypasses.pair o (grind (arith, at.stage, nat_tests)) in
-      kept_to _ _ b b _ (add_link (routes_of g) fresh (g.central o).pair) (taken_records g k a.found.router o fresh target) (λ none. none)
+      kept_to _ _ b b _ (add_link (routes_of g) fresh (g.central o).pair) (taken_records g k a.found.router o fresh target)
       (peer_is w b g law n from o link side target fresh is a) refl
       (routes-peer w (routes_of g) n from link side o target fresh is.mail is.hand unfit)
       (routes-taken g k a.found.router o fresh target pair) (stays-link (routes_of g) fresh (g.central o).pair free)
@@ -310,7 +298,7 @@ module _ (w : World) (b : Books) (g : Records) (law : Inv w b g) where
       let a = asked_at w n from m (Central o) side is (named w b g law n from m is refl) in
       let k : Key = record { node = n; serial = a.found.serial } in
       let t = accept_is w b g law n from o side fresh length is a in
-      kept_as _ _ b b _ (accepted_records g k a.found.router o side fresh) (λ none. none) t.2 refl (routes-hand w (routes_of g) n from m is.mail refl)
+      kept_as _ _ b b _ (accepted_records g k a.found.router o side fresh) t.2 refl (routes-hand w (routes_of g) n from m is.mail refl)
       (routes-accept g k a.found.router o side fresh)
       (inv-accept w b g from k a.found.router t.0 o side fresh length (sealed law)
       (closed (record { hand = a.can; has = a.has; on = t.1 })))
@@ -318,26 +306,26 @@ module _ (w : World) (b : Books) (g : Records) (law : Inv w b g) where
       let m = messages.StopProxying o side in_length out_length in
       let a = asked_at w n from m (Central o) side is (named w b g law n from m is refl) in
       let t = stop_is w b g law n from o side in_length out_length is a in
-      kept_as _ _ b b _ (told_records g o) (λ none. none) t.2 refl (routes-hand w (routes_of g) n from m is.mail refl) (routes-told g o)
+      kept_as _ _ b b _ (told_records g o) t.2 refl (routes-hand w (routes_of g) n from m is.mail refl) (routes-told g o)
       (inv-stop w b g from (record { node = n; serial = a.found.serial }) a.found.router t.0 o side in_length out_length (sealed law)
       (closed (record { hand = a.can; has = a.has; on = t.1 })))
   hand_kept n from (messages.ProxyWillStop link side in_length) is =
       let m = messages.ProxyWillStop link side in_length in
       let a = asked_at w n from m link side is (named w b g law n from m is refl) in
       let t = will_stop_is w b g law n from link side in_length is a in
-      kept_as _ _ b b _ (ended_records g (Some t.0)) (unretired-ended g (Some t.0)) t.2 refl (routes-hand w (routes_of g) n from m is.mail refl)
+      kept_as _ _ b b _ (ended_records g (Some t.0)) t.2 refl (routes-hand w (routes_of g) n from m is.mail refl)
       (routes-ended g (Some t.0))
       (inv-will_stop w b g from (record { node = n; serial = a.found.serial }) a.found.router t.0 link side in_length (sealed law)
       (closed (record { hand = a.can; has = a.has; by = t.1 })))
   hand_kept n from (messages.Flush link side) is = go (link_router (node_at w n) link side) refl
     where
       go : (o : Option Found) → link_router (node_at w n) link side ≡ o → Taken n from (messages.Flush link side)
-      go None e = kept_as _ _ b b _ g (λ none. none) (dropped_is w b g law n from link side is e) refl
+      go None e = kept_as _ _ b b _ g (dropped_is w b g law n from link side is e) refl
           (routes-hand w (routes_of g) n from (messages.Flush link side) is.mail refl) refl
           (inv-flush_lost w b g from n link side law is.node is.mail is.hand)
       go (Some f) e =
           let a = found_asked w n from (messages.Flush link side) link side f is e in
-          kept_as _ _ b b _ g (λ none. none) (flush_is w b g law n from link side is a) refl
+          kept_as _ _ b b _ g (flush_is w b g law n from link side is a) refl
           (routes-hand w (routes_of g) n from (messages.Flush link side) is.mail refl) refl
           (inv-flush w b g from (record { node = n; serial = a.found.serial }) a.found.router link side law a.can)
 
@@ -358,7 +346,6 @@ module _ (w : World) (b : Books) (g : Records) (law : Inv w b g) where
             (subst (λ x. Inv (after_hand w n from (hand_message x)) b k.records) (sym m.1) k.inv);
         routes = k.routes;
         stays = k.stays;
-        unretired = k.unretired;
       }
   act_kept n (Look from) l can room = record {
     records = g;
@@ -366,14 +353,12 @@ module _ (w : World) (b : Books) (g : Records) (law : Inv w b g) where
     routes =
         refl;
     stays = stays-same (routes_of g) (routes_of g) refl;
-    unretired = λ none. none;
   }
   act_kept n (Post to) l can room = record {
     records = g;
     inv = step-post w b g n to law l (below to w.count _ can) can;
     routes = refl;
     stays = stays-same (routes_of g) (routes_of g) refl;
-    unretired = λ none. none;
   }
   act_kept n (Close e) l can room = record {
     records = g;
@@ -381,7 +366,6 @@ module _ (w : World) (b : Books) (g : Records) (law : Inv w b g) where
     routes = refl;
     stays =
         stays-same (routes_of g) (routes_of g) refl;
-    unretired = λ none. none;
   }
   act_kept n (OfRouter s a) l can room = go (router_at w (record { node = n; serial = s })) refl can
     where
@@ -390,7 +374,7 @@ module _ (w : World) (b : Books) (g : Records) (law : Inv w b g) where
           (routes_after_turn w (routes_of g) n (turn_event w n (OfRouter s a)))
       go None e h = cc
       go (Some r) e h = router_kept n s a r e h room
-  act_kept n Idle l can room = record { records = g; inv = law; routes = refl; stays = stays-same (routes_of g) (routes_of g) refl; unretired = λ none. none }
+  act_kept n Idle l can room = record { records = g; inv = law; routes = refl; stays = stays-same (routes_of g) (routes_of g) refl }
 
   -- an effect of an open after which links stay
   abbrev Stays : ℕ → Effect → Type 0
@@ -419,18 +403,18 @@ module _ (w : World) (b : Books) (g : Records) (law : Inv w b g) where
           (refused (serials_refusal (node_at w n)) _ (stays-link (routes_of g) w.claimed w.claimed (next_not_linked w b g law))) same
 
   open_kept : (n : ℕ) → KeptBy w b g (steps.Open n) (open_step w n)
-  open_kept n = let f = open-kept w b g law n in record { records = _; inv = f.inv; routes = f.routes; stays = stays-open n; unretired = unretired-open w g n (open_step w n).reply }
+  open_kept n = let f = open-kept w b g law n in record { records = _; inv = f.inv; routes = f.routes; stays = stays-open n }
 
 -- so each step keeps it
 pub steps_keep : StepsKeep
-unfolding routes_after records_after
+unfolding routes_after
 steps_keep = record {
   opens = λ w b g n law. open_kept w b g law n;
   puts = λ w b g n at bytes ends law. let f = put-kept w b g law n at bytes ends in
-      record { records = _; inv = f.inv; routes = f.routes; stays = stays-same (routes_of g) (routes_of g) refl; unretired = λ none. none };
+      record { records = _; inv = f.inv; routes = f.routes; stays = stays-same (routes_of g) (routes_of g) refl };
   gets = λ w b g n at law. let f = get-kept w b g law n at in record
-      { records = _; inv = f.inv; routes = f.routes; stays = stays-same (routes_of g) (routes_of g) refl; unretired = λ none. none };
+      { records = _; inv = f.inv; routes = f.routes; stays = stays-same (routes_of g) (routes_of g) refl };
   closes = λ w b g n at law. let f = close-kept w b g law n at in
-      record { records = _; inv = f.inv; routes = f.routes; stays = stays-same (routes_of g) (routes_of g) refl; unretired = λ none. none };
+      record { records = _; inv = f.inv; routes = f.routes; stays = stays-same (routes_of g) (routes_of g) refl };
   takes = λ w b g n act law l can room. act_kept w b g law n act l can room;
 }

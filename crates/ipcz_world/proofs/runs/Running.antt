@@ -13,7 +13,7 @@ use Rattle.ipcz_world.specs.Steps.{Effect, open_step, put_step, get_step, close_
 use Rattle.ipcz_world.specs.Books.{no_books, advance, after_turn}
 use Rattle.ipcz_world.specs.Routes.{Routes, first_routes, routes_after, routes_after_turn}
 use Rattle.ipcz_world.specs.Places.{in_places, unread_weight}
-use Rattle.ipcz_world.specs.Records.{NoneRetired, routes_of}
+use Rattle.ipcz_world.specs.Records.{routes_of}
 use Rattle.ipcz_world.specs.Laws.{KeepsLinks, WordLaw}
 use Rattle.ipcz_world.specs.Lawful.{Lawful, RunAny, IsWithinLimits, IsReached, Headline}
 use Rattle.ipcz_world.specs.WorldLaws.{StartsLawful, StepKeepsLawful, LinksStay, HeadlineHolds, NothingStrays}
@@ -24,8 +24,8 @@ use Rattle.ipcz_world.proofs.lawful.StrayLaws.{stray_law}
 use Rattle.ipcz_world.proofs.routes.Seeing.{stays-same}
 use Rattle.ipcz_world.proofs.runs.NodeSteps.{IsKept, kept-step}
 use Rattle.ipcz_world.specs.Owed.{AreFlagged, FlagsAgree}
-use Rattle.ipcz_world.proofs.owed.StepMinding.{IsOwing, step_owing}
-use Rattle.ipcz_world.proofs.owed.StartMinding.{owing-start}
+use Rattle.ipcz_world.proofs.owed.StepWakers.{IsOwing, step_owing}
+use Rattle.ipcz_world.proofs.owed.StartWakers.{owing-start}
 use Rattle.ipcz_world.specs.Settling.{IsBounded}
 use Rattle.ipcz_world.specs.Steps.{AnyAct}
 use Rattle.ipcz_world.proofs.runs.BoundedSteps.{bounded-step}
@@ -34,13 +34,12 @@ use Rattle.ipcz_world.proofs.runs.FlaggedSteps.{flagged-step, flagged-new}
 use Rattle.ipcz_world.proofs.runs.FlagsAgree.{agreed-step, agreed-start}
 
 -- the laws, from the invariant
-pub lawful_by : (w : World) (b : Books) (g : Records) (h : Routes) → Inv w b g → routes_of g ≡ h → NoneRetired g → AreFlagged w → FlagsAgree w →
+pub lawful_by : (w : World) (b : Books) (g : Records) (h : Routes) → Inv w b g → routes_of g ≡ h → AreFlagged w → FlagsAgree w →
     IsOwing w → IsBounded w → Lawful w b h
-lawful_by w b g h law e unretired flagged agreed owing bounded = record {
+lawful_by w b g h law e flagged agreed owing bounded = record {
   records = g;
   routes = e;
   inv = law;
-  unretired = unretired;
   conserved = law.conserved;
   held_once = law.held_once;
   link_law = link_law w b g law;
@@ -48,7 +47,7 @@ lawful_by w b g h law e unretired flagged agreed owing bounded = record {
   word_law = subst (WordLaw w) e (word_law w b g law);
   flagged = flagged;
   agreed = agreed;
-  minded = owing.minded;
+  wakers = owing.wakers;
   ranked = owing.ranked;
   bounded = bounded;
 }
@@ -70,7 +69,6 @@ pub record Started (w : World) (b : Books) (h : Routes) : Type 0 where
   pub records : Records
   pub inv : Inv w b records
   pub routes : routes_of records ≡ h
-  pub unretired : NoneRetired records
 
 -- such a world, in which the words of links of before are those of the same links
 pub record Kept (g : Records) (w : World) (b : Books) (h : Routes) : Type 0 where
@@ -78,7 +76,6 @@ pub record Kept (g : Records) (w : World) (b : Books) (h : Routes) : Type 0 wher
   pub inv : Inv w b records
   pub routes : routes_of records ≡ h
   pub stays : KeepsLinks (routes_of g) h
-  pub unretired : NoneRetired g → NoneRetired records
 
 -- an effect of a step that keeps all this
 abbrev pub KeptBy : World → Books → Records → Step → Effect → Type 0
@@ -114,7 +111,7 @@ turn_reply w n act = go (nat_lt n w.count) (turn_lacks_serials w n act) refl ref
 
 module _ (w : World) (b : Books) (g : Records) (law : Inv w b g) where
   still : Kept g w b (routes_of g)
-  still = record { records = g; inv = law; routes = refl; stays = stays-same (routes_of g) (routes_of g) refl; unretired = λ none. none }
+  still = record { records = g; inv = law; routes = refl; stays = stays-same (routes_of g) (routes_of g) refl }
 
   by_effect : (step : Step) (reply : Reply) (v : World) (done : Effect) → reply ≡ done.reply → v ≡ done.world → KeptBy w b g step done →
       Kept g v (advance w b step reply) (routes_after w (routes_of g) step reply)
@@ -161,8 +158,8 @@ step_keeps keep w v b g step reply law s =
     let k = step_kept w b law.records law.inv keep v step reply s in
     subst (λ z. Lawful v (advance w b step reply) (routes_after w z step reply) × KeepsLinks z (routes_after w z step reply)) law.routes (
       lawful_by v (advance w b step reply) k.records (routes_after w (routes_of law.records) step reply) k.inv k.routes
-          (k.unretired law.unretired) (flagged-step w v b law.records step reply law.inv law.flagged s) (agreed-step w v b law.records step reply law.inv law.agreed s)
-          (step_owing w b law.records law.inv law.agreed (record { minded = law.minded; ranked = law.ranked }) v step reply s)
+          (flagged-step w v b law.records step reply law.inv law.flagged s) (agreed-step w v b law.records step reply law.inv law.agreed s)
+          (step_owing w b law.records law.inv law.agreed (record { wakers = law.wakers; ranked = law.ranked }) v step reply s)
           (bounded-step w b law.records law.inv law.bounded AnyAct (λ n act m l. m l) step reply v s),
       k.stays,
     )
@@ -179,7 +176,7 @@ StartsKept = (nodes words : ℕ) → IsWithinLimits nodes words → Started (new
 
 pub starts_lawful : StartsKept → StartsLawful
 starts_lawful start nodes words limits = let k = start nodes words limits in
-    lawful_by (new_world nodes words) no_books k.records (first_routes nodes) k.inv k.routes k.unretired (flagged-new nodes words)
+    lawful_by (new_world nodes words) no_books k.records (first_routes nodes) k.inv k.routes (flagged-new nodes words)
     (agreed-start nodes words) (owing-start nodes words) (starts_bounded nodes words limits)
 
 -- a run keeps a world lawful

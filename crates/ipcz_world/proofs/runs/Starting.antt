@@ -4,10 +4,8 @@ use Rattle.std.specs.Prelude.{List, [], ◌∷◌, ◌++◌, length, replicate, 
 use Rattle.std.proofs.Common.{arith, ap, subst, ◌∙◌, sym, inl, inr}
 use Rattle.std.proofs.lemmas.Bool.Decides.{nat_tests}
 use Rattle.std.proofs.lemmas.List.{length-append, length-replicate}
-use Rattle.ipcz_world.specs.Records.{NoneRetired}
 use Rattle.ipcz_world.proofs.Vocabulary.{A, empty_word, open_word, bare_node, outbox, Empty, node_at, Records, Linked, is_linked}
 use Rattle.ipcz_world.proofs.Vocabulary.{is_nowhere, Inv}
-use Rattle.ipcz_word.specs.SideSets.{none}
 use Rattle.ipcz_node.specs.Node.{outbox_count}
 use Rattle.ipcz_node.specs.FirstPairs.{new_node, first_pairs, first_pairs_from, pairs_from, add_pairs}
 use Rattle.ipcz_world.specs.World.{numbers_from, new_nodes, new_world}
@@ -51,8 +49,8 @@ module _ (nodes words : ℕ) where
   nothing : Records
   nothing = record {
     owner = λ i. Unclaimed;
-    central = λ i. record { pair = i; node = λ s. 0; router = λ s. None; born = None; left = none };
-    peripheral = λ k. record { end = record { pair = 0; side = A }; proxy = 0; node = 0; router = None; by = None; left = false };
+    central = λ i. record { pair = i; node = λ s. 0; router = λ s. None; born = None };
+    peripheral = λ k. record { end = record { pair = 0; side = A }; proxy = 0; node = 0; router = None; by = None };
     bypass = λ o. record {
       stage = 0;
       proxy = record { node = 0; serial = 0 };
@@ -63,7 +61,6 @@ module _ (nodes words : ℕ) where
     };
     begun = λ k. None;
     terminal = λ e. Nowhere;
-    stamp = λ k. 0;
   }
 
   unnoted : IsUnnoted nothing
@@ -99,7 +96,6 @@ module _ (nodes words : ℕ) where
   no_pairs = record {
     records = nothing;
     inv = inv-bare (start nodes words []) nothing is_bare unnoted;
-    unretired = λ e h. cc;
     owner = λ j. let e : nat_lt j zero ≡ false = grind (arith, nat_tests) in rw e refl;
     nowhere = λ e. let l : nat_le zero e.pair ≡ true = grind (arith, nat_tests) in rw l refl;
     pair = λ j. refl;
@@ -138,7 +134,7 @@ linked_by j n = go (nat_lt j n)
 
 -- the opening world has records for which the invariant holds, with the routes at the start
 pub starts : (nodes words : ℕ) → IsWithinLimits nodes words → (g : Records) × (routes_of g ≡ first_routes nodes) × Inv
-    (new_world nodes words) no_books g × NoneRetired g
+    (new_world nodes words) no_books g
 starts nodes words limits =
     let b = good_start nodes words limits.pairs in (
       b.records,
@@ -148,7 +144,6 @@ starts nodes words limits =
         end = λ k. b.end k t;
       }),
       rw (world_is nodes words) b.inv,
-      b.unretired,
     )
 
 -- it has as many nodes as are asked for

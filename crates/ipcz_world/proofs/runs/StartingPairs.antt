@@ -1,5 +1,4 @@
 -- A world that begins with some pairs: one pair more, between two nodes, keeps the invariant.
-use Rattle.ipcz_world.specs.Records.{Retired}
 use Rattle.ipcz_world.proofs.weights.OfRecords.{holds, held_times, in_message, in_places}
 use Rattle.ipcz_world.proofs.Vocabulary.{Weight, in_router, times, Side, A, B, End, opposite_end, same_end, opposite, total, total_list}
 use Rattle.ipcz_world.proofs.Vocabulary.{Router, empty_word, open_word, Node, bare_node, outbox, Empty, World, Key, node_at, word_at}
@@ -13,7 +12,6 @@ use Rattle.std.specs.FinMap.{get, insert, get-insert}
 use Rattle.std.proofs.Common.{arith, ap, subst, ◌∙◌, sym, inl, inr}
 use Rattle.std.proofs.lemmas.Bool.Decides.{nat_tests}
 use Rattle.std.proofs.lemmas.Option.{none-some}
-use Rattle.ipcz_word.specs.SideSets.{none}
 use Rattle.ipcz_node.specs.Node.{add_end, new_end, with_ends}
 use Rattle.ipcz_node.specs.FirstPairs.{add_pairs}
 use Rattle.ipcz_world.specs.Books.{no_books}
@@ -171,7 +169,7 @@ module _ (nodes words : ℕ) where
       owner' j = cond (nat_eq j pair) Linked (g.owner j)
 
       abbrev central' : ℕ → CentralRecord
-      central' j = cond (nat_eq j pair) (record { pair = pair; node = node_of; router = λ s. Some (at s).serial; born = None; left = none })
+      central' j = cond (nat_eq j pair) (record { pair = pair; node = node_of; router = λ s. Some (at s).serial; born = None })
           (g.central j)
 
       abbrev terminal' : End → Terminal
@@ -465,7 +463,7 @@ module _ (nodes words : ℕ) where
           linked_here : owner' pair ≡ Linked
           linked_here = rw itself refl
 
-          central_here : central' pair ≡ record { pair = pair; node = node_of; router = λ s. Some (at s).serial; born = None; left = none }
+          central_here : central' pair ≡ record { pair = pair; node = node_of; router = λ s. Some (at s).serial; born = None }
           central_here = rw itself refl
 
           either_terminal : (e : End) (c : Bool) → nat_eq e.pair pair ≡ c →
@@ -477,17 +475,12 @@ module _ (nodes words : ℕ) where
       good_after = record {
         records = record g { owner = owner'; central = central'; terminal = terminal' };
         inv = inv-grown before after no_books g owner' central' terminal' pair at b.inv is_grown;
-        unretired = λ e. unretired e (nat_eq e.pair pair);
         owner = owned;
         nowhere = nowhere_after;
         pair = λ j. paired j (nat_eq j pair) refl;
         end = b.end;
       }
         where
-          unretired : (e : End) (c : Bool) → cond c (At (at e.side)) (g.terminal e) ≡ Retired → ⊥
-          unretired e true h = cc
-          unretired e false h = b.unretired e h
-
           paired : (j : ℕ) (c : Bool) → nat_eq j pair ≡ c → (central' j).pair ≡ j
           paired j true e = rw e (let f : pair ≡ j = grind (arith, e, nat_tests) in f)
           paired j false e = rw e (b.pair j)

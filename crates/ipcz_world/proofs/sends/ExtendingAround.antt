@@ -34,8 +34,6 @@ extended_records w g q r to =
       node = to;
       router = None;
       by = None;
-      left =
-          false;
     })) r.end (Moving (descriptor_of r (inner_link (next_key w q.node))))
 
 -- the worlds differ in the router of one key, in the count of peripheral links of its node, in flows and in hands

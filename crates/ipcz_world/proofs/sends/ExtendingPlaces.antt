@@ -217,7 +217,7 @@ module _ {w v : World} {b : Books} {g : Records} {q : Key} {r : Router} {a : ℕ
   }
     where
       new_peripheral : {X : Type 0} (f : PeripheralRecord → X) → f (h2.peripheral k) ≡ f
-          (record { end = r.end; proxy = q.serial; node = a; router = None; by = None; left = false })
+          (record { end = r.end; proxy = q.serial; node = a; router = None; by = None })
       new_peripheral f = ap f (grind (arith, same_key-itself k))
 
       new_terminal : h2.terminal r.end ≡ Moving e2

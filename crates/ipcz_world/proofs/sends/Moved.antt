@@ -11,7 +11,7 @@ use Rattle.ipcz_world.proofs.Vocabulary.{Terminal, At, terminal_node, is_nowhere
 use Rattle.ipcz_router.specs.Router.{is_open_terminal}
 use Rattle.ipcz_node.specs.Node.{is_terminal_of}
 use Rattle.ipcz_node.specs.Sends.{Transfer, move_ends, move_found, move_router}
-use Rattle.ipcz_world.specs.Records.{Nowhere, Moving as IsMoving, Retired}
+use Rattle.ipcz_world.specs.Records.{Nowhere, Moving as IsMoving}
 use Rattle.ipcz_world.specs.Remembering.{moves_records}
 use Rattle.ipcz_world.proofs.weights.OfRecords.{in_places}
 use Rattle.ipcz_world.proofs.frames.Opened.{OpenInv, opened}
@@ -103,7 +103,6 @@ unfolding terminal_node
 terminal_at Nowhere n h = cc
 terminal_at (At k) n h = (k, refl, grind (arith, h))
 terminal_at (IsMoving d) n h = cc
-terminal_at Retired n h = cc
 
 pub passes_tells : (w : World) (k : Key) (test : Router → Bool) → key_passes w (Some k) test ≡ true →
     (r : Router) × (router_at w k ≡ Some r) × (test r ≡ true)

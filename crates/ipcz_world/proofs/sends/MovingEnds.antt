@@ -86,8 +86,6 @@ module _ (w : World) (b : Books) (n a : ℕ) (l : LinkId) (s : Side) (number : �
         node = a;
         router = None;
         by = None;
-        left =
-            false;
       })) f.router.end (IsMoving (descriptor_of f.router (inner_link k))))
       (keys m ∙ ap (λ z. record { node = z; serial = m.node.next_peripheral }) (sym at))
 

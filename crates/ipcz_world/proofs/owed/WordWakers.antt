@@ -1,4 +1,4 @@
--- Acts on a word keep minded who has tried on its link: mark, lock, unlock and wake.
+-- Acts on a word leave a waker to who has tried on its link: mark, lock, unlock and wake.
 use Rattle.std.specs.Prelude.{◌≡◌, ◌⊎◌, ℕ, Bool, true, false, ◌||◌, not, cond, if◌then◌else◌, Option, Some, None, is_some, refl}
 use Rattle.std.proofs.Common.{arith, ap, sym, ◌∙◌, subst, inl, inr}
 use Rattle.std.proofs.lemmas.Option.{same_Some, none-some}
@@ -11,7 +11,7 @@ use Rattle.ipcz_word.specs.SideSets.{has-with_here, has-without_apart}
 use Rattle.ipcz_word.specs.SideSets.{opposite_opposite, not_opposite}
 use Rattle.ipcz_router.specs.ActEffects.{mark_side, wake_other, take_lock, fail_lock, drop_lock}
 use Rattle.ipcz_router.specs.declared.act.RouterAct.TheVariants as acts
-use Rattle.ipcz_world.specs.Owed.{FlagsAgree, HasFlush, PrimaryPasses, IsMinded, AreMinded}
+use Rattle.ipcz_world.specs.Owed.{FlagsAgree, HasFlush, PrimaryPasses, HasWaker, HaveWakers}
 use Rattle.ipcz_world.specs.Laws.{LinkLaw}
 use Rattle.ipcz_world.specs.Records.{key_at}
 use Rattle.ipcz_world.proofs.lawful.LinkLaws.{link_law, on_tells}
@@ -19,7 +19,7 @@ use Rattle.ipcz_world.proofs.facts.Lengths.{HasEnd, has_link-tells, side_is, has
 use Rattle.ipcz_world.proofs.frames.Frames.{same_key_tells}
 use Rattle.ipcz_world.proofs.owed.Following.{IsAble, able-tells, able-is}
 use Rattle.ipcz_world.proofs.owed.Moving.{Stays, Never}
-use Rattle.ipcz_world.proofs.owed.Tracking.{AreMindedOn}
+use Rattle.ipcz_world.proofs.owed.Tracking.{HaveWakersOn}
 
 -- what a plan tells of the word
 pub record IsPlan (x : Word) (s : Side) (plan : Plan) : Type 0 where
@@ -55,7 +55,7 @@ pub record IsOnWord (w v : World) (k : Key) (r y : Router) (i : ℕ) (x : Word) 
   pub outward : y.outward ≡ r.outward
 
 module _ (w v : World) (b : Books) (g : Records) (law : Inv w b g) (flags : FlagsAgree w) (k : Key) (r y : Router) (i : ℕ) (x : Word)
-    (is : IsOnWord w v k r y i x) (minded : AreMinded w) where
+    (is : IsOnWord w v k r y i x) (wakers : HaveWakers w) where
   links : LinkLaw w
   links = link_law w b g law
 
@@ -161,22 +161,22 @@ module _ (w v : World) (b : Books) (g : Records) (law : Inv w b g) (flags : Flag
   holds_is = links.holds k r i t is.here own_on
 
   -- it is enough to look at this router and at the one on the other side
-  by_sides : (y.tried ≡ true → IsMinded v i t k.node) →
+  by_sides : (y.tried ≡ true → HasWaker v i t k.node) →
       ((q : Key) (z : Router) → (q ≡ k → ⊥) → router_at w q ≡ Some z → z.tried ≡ true → has_primary (Central i) (opposite t) z ≡ true →
-      IsMinded w i (opposite t) q.node → IsMinded v i (opposite t) q.node) → AreMindedOn i v
+      HasWaker w i (opposite t) q.node → HasWaker v i (opposite t) q.node) → HaveWakersOn i v
   by_sides own other q z s at tried on = elim (was q z at) [
     | inl e ↦
         let side : s ≡ t = only_side s (sym (y_on s) ∙ subst (λ a. has_primary (Central i) s a ≡ true) e.1 on) in
-        subst (λ d. IsMinded v i d q.node) (sym side) (subst (λ a. IsMinded v i t a.node) (sym e.0) (own (subst (λ a. a.tried ≡ true) e.1 tried)))
+        subst (λ d. HasWaker v i d q.node) (sym side) (subst (λ a. HasWaker v i t a.node) (sym e.0) (own (subst (λ a. a.tried ≡ true) e.1 tried)))
     | inr e ↦
         let side : s ≡ opposite t = across q z s e.0 e.1 on in
         let on_other : has_primary (Central i) (opposite t) z ≡ true = subst (λ d. has_primary (Central i) d z ≡ true) side on in
-        subst (λ d. IsMinded v i d q.node) (sym side) (other q z e.0 e.1 tried on_other (minded i q z (opposite t) e.1 tried on_other))
+        subst (λ d. HasWaker v i d q.node) (sym side) (other q z e.0 e.1 tried on_other (wakers i q z (opposite t) e.1 tried on_other))
   ]
 
   -- mark
-  pub minded-mark : y ≡ mark_side r (has (word_at w i).waiting (opposite t)) → x ≡ mark (word_at w i) t → r.marked ≡ false → AreMindedOn i v
-  minded-mark is_y is_x bare = by_sides
+  pub wakers-mark : y ≡ mark_side r (has (word_at w i).waiting (opposite t)) → x ≡ mark (word_at w i) t → r.marked ≡ false → HaveWakersOn i v
+  wakers-mark is_y is_x bare = by_sides
       (λ h. not_both r.marked (flags.tried_marked k r is.here (sym (ap (λ z. z.tried) is_y) ∙ h)) bare) other
     where
       holder : (s : Side) → has (word_at v i).holder s ≡ has (word_at w i).holder s
@@ -186,7 +186,7 @@ module _ (w v : World) (b : Books) (g : Records) (law : Inv w b g) (flags : Flag
       waiting s = ap (λ z. has z.waiting s) (is.word ∙ is_x)
 
       other : (q : Key) (z : Router) → (q ≡ k → ⊥) → router_at w q ≡ Some z → z.tried ≡ true → has_primary (Central i) (opposite t) z ≡ true →
-          IsMinded w i (opposite t) q.node → IsMinded v i (opposite t) q.node
+          HasWaker w i (opposite t) q.node → HasWaker v i (opposite t) q.node
       other q z apart at tried on (inl h) = inl (holder (opposite (opposite t)) ∙ h)
       other q z apart at tried on (inr (inl f)) = inr (inl (flush (opposite t) q.node f))
       other q z apart at tried on (inr (inr (inl p))) =
@@ -203,14 +203,14 @@ module _ (w v : World) (b : Books) (g : Records) (law : Inv w b g) (flags : Flag
       )))
 
   -- a lock that is got
-  pub minded-locked : y ≡ take_lock r → x ≡ lock (word_at w i) t → r.tried ≡ false → AreMindedOn i v
-  minded-locked is_y is_x untried = by_sides (λ h. not_both r.tried (sym (ap (λ z. z.tried) is_y) ∙ h) untried)
+  pub wakers-locked : y ≡ take_lock r → x ≡ lock (word_at w i) t → r.tried ≡ false → HaveWakersOn i v
+  wakers-locked is_y is_x untried = by_sides (λ h. not_both r.tried (sym (ap (λ z. z.tried) is_y) ∙ h) untried)
       (λ q z apart at tried on m. inl (ap (λ a. has a.holder (opposite (opposite t))) (is.word ∙ is_x)
       ∙ has-with_here (word_at w i).holder t (opposite (opposite t)) (opposite_opposite t)))
 
   -- a try that fails
-  pub minded-waits : plan_of (word_at w i) t ≡ Waits → y ≡ fail_lock r → x ≡ wait (word_at w i) t → AreMindedOn i v
-  minded-waits plan is_y is_x = by_sides
+  pub wakers-waits : plan_of (word_at w i) t ≡ Waits → y ≡ fail_lock r → x ≡ wait (word_at w i) t → HaveWakersOn i v
+  wakers-waits plan is_y is_x = by_sides
       (λ h. inr (inr (inr (
         ap (λ a. has a.waiting t) (is.word ∙ is_x) ∙ has-with_here (word_at w i).waiting t t refl,
         inl (ap (λ a. has a.stable (opposite t)) (is.word ∙ is_x) ∙ unstable),
@@ -221,8 +221,8 @@ module _ (w v : World) (b : Books) (g : Records) (law : Inv w b g) (flags : Flag
       unstable : has (word_at w i).stable (opposite t) ≡ false
       unstable = (plan-tells (word_at w i) t).waits plan
 
-  pub minded-refused : plan_of (word_at w i) t ≡ Refuses → y ≡ fail_lock r → x ≡ word_at w i → r.marked ≡ true → r.holds ≡ false → AreMindedOn i v
-  minded-refused plan is_y is_x marked free = by_sides
+  pub wakers-refused : plan_of (word_at w i) t ≡ Refuses → y ≡ fail_lock r → x ≡ word_at w i → r.marked ≡ true → r.holds ≡ false → HaveWakersOn i v
+  wakers-refused plan is_y is_x marked free = by_sides
       (λ h. inl (ap (λ a. has a.holder (opposite t)) (is.word ∙ is_x) ∙ held))
       (λ q z apart at tried on m. not_both (has (word_at w i).holder (opposite t)) held
       (sym (links.holds q z i (opposite t) at on) ∙ flags.tried_free q z at tried))
@@ -231,9 +231,9 @@ module _ (w v : World) (b : Books) (g : Records) (law : Inv w b g) (flags : Flag
       held = other-held (word_at w i) t ((plan-tells (word_at w i) t).refuses plan (sym marked_is ∙ marked)) (sym holds_is ∙ free)
 
   -- unlock
-  pub minded-unlock : y ≡ drop_lock r → is_possible r acts.Unlock ≡ true → AreMindedOn i v
+  pub wakers-unlock : y ≡ drop_lock r → is_possible r acts.Unlock ≡ true → HaveWakersOn i v
   unfolding is_possible
-  minded-unlock is_y possible = by_sides
+  wakers-unlock is_y possible = by_sides
       (λ h. not_both r.holds holds (flags.tried_free k r is.here (sym (ap (λ z. z.tried) is_y) ∙ h)))
       (λ q z apart at tried on m. inr (inr (inl (record {
         key = k;
@@ -270,16 +270,16 @@ module _ (w v : World) (b : Books) (g : Records) (law : Inv w b g) (flags : Flag
       }
 
   -- wake, which sends a Flush
-  pub minded-wake : y ≡ wake_other r → x ≡ wake (word_at w i) t →
-      ((e : LinkEnd) → r.outward.primary ≡ Some e → e.link ≡ Central i → e.side ≡ t → HasFlush v i (opposite t) e.other) → AreMindedOn i v
+  pub wakers-wake : y ≡ wake_other r → x ≡ wake (word_at w i) t →
+      ((e : LinkEnd) → r.outward.primary ≡ Some e → e.link ≡ Central i → e.side ≡ t → HasFlush v i (opposite t) e.other) → HaveWakersOn i v
   unfolding side_router side_node
-  minded-wake is_y is_x sends = by_sides
-      (λ h. own (minded i k r t is.here (sym (ap (λ z. z.tried) is_y) ∙ h) own_on)) other
+  wakers-wake is_y is_x sends = by_sides
+      (λ h. own (wakers i k r t is.here (sym (ap (λ z. z.tried) is_y) ∙ h) own_on)) other
     where
       holder : (s : Side) → has (word_at v i).holder s ≡ has (word_at w i).holder s
       holder s = ap (λ z. has z.holder s) (is.word ∙ is_x)
 
-      own : IsMinded w i t k.node → IsMinded v i t k.node
+      own : HasWaker w i t k.node → HasWaker v i t k.node
       own (inl h) = inl (holder (opposite t) ∙ h)
       own (inr (inl f)) = inr (inl (flush t k.node f))
       own (inr (inr (inl p))) = inr (inr (inl (other_passes (λ r. is_possible r acts.Lock) p)))
@@ -308,7 +308,7 @@ module _ (w v : World) (b : Books) (g : Records) (law : Inv w b g) (flags : Flag
       node_of q (Some z) n e = ap (λ a. a.node) (sym (same_Some (record { node = n; serial = z }) q e))
 
       other : (q : Key) (z : Router) → (q ≡ k → ⊥) → router_at w q ≡ Some z → z.tried ≡ true → has_primary (Central i) (opposite t) z ≡ true →
-          IsMinded w i (opposite t) q.node → IsMinded v i (opposite t) q.node
+          HasWaker w i (opposite t) q.node → HasWaker v i (opposite t) q.node
       other q z apart at tried on (inl h) = inl (holder (opposite (opposite t)) ∙ h)
       other q z apart at tried on (inr (inl f)) = inr (inl (flush (opposite t) q.node f))
       other q z apart at tried on (inr (inr (inl p))) = inr (inr (inl (record {

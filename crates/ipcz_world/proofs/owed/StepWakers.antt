@@ -1,4 +1,4 @@
--- Each step keeps minded who has tried for a lock, and the ranks of routers.
+-- Each step leaves a waker to who has tried for a lock, and keeps the ranks of routers.
 use Rattle.std.specs.Prelude.{◌≡◌, ◌<◌, ℕ, ◌+◌, Bool, true, false, ◌&&◌, cond, nat_eq, nat_lt, if◌then◌else◌, length}
 use Rattle.std.specs.Prelude.{Option, Some, None, is_some, List, [], ◌∷◌, refl}
 use Rattle.std.proofs.Common.{arith, ap, sym, ◌∙◌, subst, inl, inr}
@@ -29,7 +29,7 @@ use Rattle.ipcz_world.specs.declared.step.Step.{Step}
 use Rattle.ipcz_world.specs.declared.step.Step.TheVariants as steps
 use Rattle.ipcz_world.specs.Turns.{after_hand, may_act, turn_lacks_serials, is_full, is_clear}
 use Rattle.ipcz_world.specs.Steps.{Effect, GivesOrNoMemory, refuse, at_node, open_with, open_on, open_step, close_step, claim_for_open, StepAny}
-use Rattle.ipcz_world.specs.Owed.{FlagsAgree, AreMinded, IsRanked}
+use Rattle.ipcz_world.specs.Owed.{FlagsAgree, HaveWakers, IsRanked}
 use Rattle.ipcz_world.proofs.acts.Mailing.{acted-look, acted-post}
 use Rattle.ipcz_world.proofs.facts.Finding.{found_tells, found_there}
 use Rattle.ipcz_world.proofs.facts.Lengths.{same_side-itself}
@@ -44,12 +44,12 @@ use Rattle.ipcz_world.proofs.views.Telling.{IsAccept, accept_told}
 use Rattle.ipcz_world.proofs.owed.Going.{IsCounted, Goes, Changes, goes-by, changes-itself, changes-else}
 use Rattle.ipcz_world.proofs.owed.Acting.{NeedsHeld, deliver-goes, put-changes, get-changes, close-changes, pending-changes, open-goes}
 use Rattle.ipcz_world.proofs.owed.Moving.{Stays, Never, Handed, stays-node, stays-look, stays-post, stays-hand}
-use Rattle.ipcz_world.proofs.owed.Tracking.{Tracks, tracks-node, tracks-same, KeepsFlush, AreMindedOn, minded-tracked, ranked-tracked, held-is}
-use Rattle.ipcz_world.proofs.owed.RouterMinding.{minded-router, ranked-router}
+use Rattle.ipcz_world.proofs.owed.Tracking.{Tracks, tracks-node, tracks-same, KeepsFlush, HaveWakersOn, wakers-tracked, ranked-tracked, held-is}
+use Rattle.ipcz_world.proofs.owed.RouterWakers.{wakers-router, ranked-router}
 
--- who has tried is minded, and ranks rise
+-- who has tried has a waker, and ranks rise
 pub record IsOwing (w : World) : Type 0 where
-  pub minded : AreMinded w
+  pub wakers : HaveWakers w
   pub ranked : IsRanked w
 
 -- a Flush rouses the router that it finds
@@ -86,8 +86,8 @@ module _ (w : World) (b : Books) (g : Records) (law : Inv w b g) (flags : FlagsA
       ((i : ℕ) → word_at v i ≡ word_at w i) → ((i : ℕ) → Goes i (is_held (word_at w i)) (node_at w n) x) →
       ((i : ℕ) → KeepsFlush i w v) → IsOwing v
   by_node v n x nodes words goes keeps = record {
-    minded = λ i. minded-tracked i w v b g law flags (tracks-node i (is_held (word_at w i)) w v n x nodes (goes i)) (words i) (keeps i)
-        (is.minded i);
+    wakers = λ i. wakers-tracked i w v b g law flags (tracks-node i (is_held (word_at w i)) w v n x nodes (goes i)) (words i) (keeps i)
+        (is.wakers i);
     ranked = ranked-tracked w v b g 0 (is_held (word_at w 0)) law (tracks-node 0 (is_held (word_at w 0)) w v n x nodes (goes 0)) is.ranked;
   }
 
@@ -115,7 +115,7 @@ module _ (w : World) (b : Books) (g : Records) (law : Inv w b g) (flags : FlagsA
       ((j : ℕ) → word_at counted_world j ≡ word_at w j) → ((j : ℕ) → mail_at counted_world j ≡ mail_at w j) →
       counted_world.count ≡ w.count → is_linked (g.owner i) ≡ false →
       IsOwing (set_word (set_node counted_world n (open_node (node_at w n) i)) i open_word)
-  open_owing u n i nodes_are words_are mails_are count_is unlinked = record { minded = minded; ranked = ranked }
+  open_owing u n i nodes_are words_are mails_are count_is unlinked = record { wakers = wakers; ranked = ranked }
     where
       x : Node
       x = open_node (node_at w n) i
@@ -143,11 +143,11 @@ module _ (w : World) (b : Books) (g : Records) (law : Inv w b g) (flags : FlagsA
       ranked : IsRanked v
       ranked = ranked-tracked w v b g 0 (is_held (word_at w 0)) law (tracks 0) is.ranked
 
-      minded : AreMinded v
-      minded j = go (nat_eq j i) refl
+      wakers : HaveWakers v
+      wakers j = go (nat_eq j i) refl
         where
-          go : (c : Bool) → nat_eq j i ≡ c → AreMindedOn j v
-          go false e = minded-tracked j w v b g law flags (tracks j) (word j e) (keeps-by j v stays) (is.minded j)
+          go : (c : Bool) → nat_eq j i ≡ c → HaveWakersOn j v
+          go false e = wakers-tracked j w v b g law flags (tracks j) (word j e) (keeps-by j v stays) (is.wakers j)
           go true e = λ k y s at tried on. elim ((tracks j).routers k y at) [
             | inl t ↦ let old = t.2.tried s tried on in
                 let link = (on_tells w b g k t.0 j s law t.1 old.1).linked in
@@ -276,9 +276,9 @@ module _ (w : World) (b : Books) (g : Records) (law : Inv w b g) (flags : FlagsA
       mail_at w (way w n to) ≡ mails.Empty → IsOwing (after_act w n (Post to))
   unfolding router_at
   post_owing n to m rest lt waits clear = subst IsOwing (sym (acted-post w n to m rest waits)) (record {
-    minded = λ i. minded-tracked i w v b g law flags (tracks-same i (is_held (word_at w i)) w v same)
+    wakers = λ i. wakers-tracked i w v b g law flags (tracks-same i (is_held (word_at w i)) w v same)
         (word-set_mail (set_node w n x) (way w n to) (mails.Full m) i ∙ word-set_node w n x i)
-        (keeps-by i v (stays-post w n to m rest lt waits clear)) (is.minded i);
+        (keeps-by i v (stays-post w n to m rest lt waits clear)) (is.wakers i);
     ranked = ranked-tracked w v b g 0 true law (tracks-same 0 true w v same) is.ranked;
   })
     where
@@ -330,7 +330,7 @@ module _ (w : World) (b : Books) (g : Records) (law : Inv w b g) (flags : FlagsA
           IsOwing (after_act w n (OfRouter s act))
       go None e h = cc
       go (Some r) e h = record {
-        minded = minded-router w b g law flags is.minded n s act r e h;
+        wakers = wakers-router w b g law flags is.wakers n s act r e h;
         ranked = ranked-router w b g law flags n s act r e h is.ranked;
       }
   act_owing n Idle l can = is

@@ -14,7 +14,7 @@ use Rattle.ipcz_node.specs.FirstPairs.{add_pairs, first_pairs, new_node}
 use Rattle.ipcz_world.specs.World.{new_world, new_nodes, numbers_from}
 use Rattle.ipcz_world.proofs.owed.Going.{IsNew}
 use Rattle.ipcz_world.proofs.owed.Tracking.{terminal-bare}
-use Rattle.ipcz_world.proofs.owed.StepMinding.{IsOwing}
+use Rattle.ipcz_world.proofs.owed.StepWakers.{IsOwing}
 
 AreNew : Node → Type 0
 AreNew n = (s : ℕ) (r : Router) → router_in n s ≡ Some r → IsNew r
@@ -54,7 +54,7 @@ new-places nodes (suc n) (i ∷ is) = new-places nodes n is
 pub owing-start : (nodes words : ℕ) → IsOwing (new_world nodes words)
 unfolding node_at new_world router_at AreNew
 owing-start nodes words = record {
-  minded = λ i k r s at tried on. absurd (not_both r.tried tried (news k r at).untried);
+  wakers = λ i k r s at tried on. absurd (not_both r.tried tried (news k r at).untried);
   ranked = record {
     rank = λ k. 0;
     limit = 1;

@@ -1,4 +1,4 @@
--- Each act of a router keeps minded who has tried, and ranks.
+-- Each act of a router leaves a waker to who has tried, and keeps ranks.
 use Rattle.std.specs.Prelude.{◌≡◌, ◌<◌, ℕ, suc, ◌+◌, Bool, true, false, cond, nat_eq, nat_lt, if◌then◌else◌}
 use Rattle.std.specs.Prelude.{Option, Some, None, List, [], ◌∷◌, ◌++◌, slice_get, refl}
 use Rattle.std.proofs.Common.{arith, ap, sym, ◌∙◌, subst, inl, inr}
@@ -21,7 +21,7 @@ use Rattle.ipcz_world.specs.World.{push_message}
 use Rattle.ipcz_world.specs.Turns.{after_router_act}
 use Rattle.ipcz_world.specs.WordAnswers.{touch, touch_word, claim_next}
 use Rattle.ipcz_world.specs.Acts.{wake_act}
-use Rattle.ipcz_world.specs.Owed.{FlagsAgree, HasFlush, AreMinded, IsRanked}
+use Rattle.ipcz_world.specs.Owed.{FlagsAgree, HasFlush, HaveWakers, IsRanked}
 use Rattle.ipcz_world.proofs.acts.Marking.{acted-mark}
 use Rattle.ipcz_world.proofs.acts.ActedWords.{acted-lock, acted-unlock}
 use Rattle.ipcz_world.proofs.acts.Updating.{acted-wake}
@@ -35,8 +35,8 @@ use Rattle.ipcz_world.proofs.owed.Following.{able-tells}
 use Rattle.ipcz_world.proofs.owed.Going.{IsOff, Changes, goes-by}
 use Rattle.ipcz_world.proofs.owed.Acting.{is_wordy, is_begin, act-changes}
 use Rattle.ipcz_world.proofs.owed.Moving.{Stays, Never, stays-node}
-use Rattle.ipcz_world.proofs.owed.Tracking.{tracks-node, KeepsFlush, AreMindedOn, minded-tracked, ranked-tracked, held-is}
-use Rattle.ipcz_world.proofs.owed.WordMinding.{IsOnWord, minded-mark, minded-locked, minded-waits, minded-refused, minded-unlock, minded-wake}
+use Rattle.ipcz_world.proofs.owed.Tracking.{tracks-node, KeepsFlush, HaveWakersOn, wakers-tracked, ranked-tracked, held-is}
+use Rattle.ipcz_world.proofs.owed.WordWakers.{IsOnWord, wakers-mark, wakers-locked, wakers-waits, wakers-refused, wakers-unlock, wakers-wake}
 
 node-touch_word : (w : World) (s : Side) (a : RouterAct) (o : Option ℕ) (j : ℕ) → node_at (touch_word w s a o) j ≡ node_at w j
 unfolding touch_word
@@ -253,9 +253,9 @@ module _ (w : World) (b : Books) (g : Records) (law : Inv w b g) (flags : FlagsA
     | inr u ↦ absurd u
   ]
 
-  aside : AreMinded w → (i : ℕ) → (is_wordy act ≡ true → primary_word r ≡ Some i → ⊥) → AreMindedOn i v
-  aside minded i apart = minded-tracked i w v b g law flags (tracks-node i (is_held (word_at w i)) w v n x nodes
-      (goes-by i (is_held (word_at w i)) (node_at w n) x (changes i apart))) (word i apart) (keeps i) (minded i)
+  aside : HaveWakers w → (i : ℕ) → (is_wordy act ≡ true → primary_word r ≡ Some i → ⊥) → HaveWakersOn i v
+  aside wakers i apart = wakers-tracked i w v b g law flags (tracks-node i (is_held (word_at w i)) w v n x nodes
+      (goes-by i (is_held (word_at w i)) (node_at w n) x (changes i apart))) (word i apart) (keeps i) (wakers i)
 
   -- the word of its link
   on_word : (i : ℕ) (y : Router) (z : Word) → primary_word r ≡ Some i → y.outward ≡ r.outward → v ≡ set_word (set_router w k y) i z →
@@ -292,7 +292,7 @@ module _ (w : World) (b : Books) (g : Records) (law : Inv w b g) (flags : FlagsA
       m = messages.Flush e.link (opposite e.side)
 
 -- the acts on a word, at the link of that word
-module _ (w : World) (b : Books) (g : Records) (law : Inv w b g) (flags : FlagsAgree w) (minded : AreMinded w) (n s : ℕ) (r : Router)
+module _ (w : World) (b : Books) (g : Records) (law : Inv w b g) (flags : FlagsAgree w) (wakers : HaveWakers w) (n s : ℕ) (r : Router)
     (here : router_at w (record { node = n; serial = s }) ≡ Some r) (i : ℕ) (link : primary_word r ≡ Some i) where
   abbrev at : Key
   at = record { node = n; serial = s }
@@ -301,41 +301,41 @@ module _ (w : World) (b : Books) (g : Records) (law : Inv w b g) (flags : FlagsA
   unfolding is_rest
   possible a e may = grind (arith, e, may)
 
-  mark_minds : may_take r acts.Mark ≡ true → AreMindedOn i (after_act w n (OfRouter s acts.Mark))
+  mark_wakers : may_take r acts.Mark ≡ true → HaveWakersOn i (after_act w n (OfRouter s acts.Mark))
   unfolding is_possible is_rest
-  mark_minds may = minded-mark w _ b g law flags at r (mark_side r (has (word_at w i).waiting (opposite r.end.side))) i
-      (mark (word_at w i) r.end.side) (on_word w b g law flags n s acts.Mark r here may i _ _ link refl (acted-mark w n s i r here link)) minded
+  mark_wakers may = wakers-mark w _ b g law flags at r (mark_side r (has (word_at w i).waiting (opposite r.end.side))) i
+      (mark (word_at w i) r.end.side) (on_word w b g law flags n s acts.Mark r here may i _ _ link refl (acted-mark w n s i r here link)) wakers
       refl refl (bare (possible acts.Mark refl may))
     where
       bare : is_possible r acts.Mark ≡ true → r.marked ≡ false
       bare h = grind (arith, h)
 
-  unlock_minds : may_take r acts.Unlock ≡ true → AreMindedOn i (after_act w n (OfRouter s acts.Unlock))
+  unlock_wakers : may_take r acts.Unlock ≡ true → HaveWakersOn i (after_act w n (OfRouter s acts.Unlock))
   unfolding is_rest
-  unlock_minds may = minded-unlock w _ b g law flags at r (drop_lock r) i (unlock (word_at w i) r.end.side)
-      (on_word w b g law flags n s acts.Unlock r here may i _ _ link refl (acted-unlock w n s i r here link)) minded refl
+  unlock_wakers may = wakers-unlock w _ b g law flags at r (drop_lock r) i (unlock (word_at w i) r.end.side)
+      (on_word w b g law flags n s acts.Unlock r here may i _ _ link refl (acted-unlock w n s i r here link)) wakers refl
       (possible acts.Unlock refl may)
 
-  lock_minds : may_take r acts.Lock ≡ true → AreMindedOn i (after_act w n (OfRouter s acts.Lock))
+  lock_wakers : may_take r acts.Lock ≡ true → HaveWakersOn i (after_act w n (OfRouter s acts.Lock))
   unfolding is_rest
-  lock_minds may = go (plan_of (word_at w i) r.end.side) refl
+  lock_wakers may = go (plan_of (word_at w i) r.end.side) refl
     where
       able : is_possible r acts.Lock ≡ true
       able = possible acts.Lock refl may
 
-      go : (plan : Plan) → plan_of (word_at w i) r.end.side ≡ plan → AreMindedOn i (after_act w n (OfRouter s acts.Lock))
-      go Locks e = minded-locked w _ b g law flags at r (take_lock r) i (lock (word_at w i) r.end.side)
-          (on_word w b g law flags n s acts.Lock r here may i _ _ link refl (acted-lock w n s i r Locks here link e)) minded refl refl
+      go : (plan : Plan) → plan_of (word_at w i) r.end.side ≡ plan → HaveWakersOn i (after_act w n (OfRouter s acts.Lock))
+      go Locks e = wakers-locked w _ b g law flags at r (take_lock r) i (lock (word_at w i) r.end.side)
+          (on_word w b g law flags n s acts.Lock r here may i _ _ link refl (acted-lock w n s i r Locks here link e)) wakers refl refl
           (able-tells r able).untried
-      go Waits e = minded-waits w _ b g law flags at r (fail_lock r) i (wait (word_at w i) r.end.side)
-          (on_word w b g law flags n s acts.Lock r here may i _ _ link refl (acted-lock w n s i r Waits here link e)) minded e refl refl
-      go Refuses e = minded-refused w _ b g law flags at r (fail_lock r) i (word_at w i)
-          (on_word w b g law flags n s acts.Lock r here may i _ _ link refl (acted-lock w n s i r Refuses here link e)) minded e refl refl
+      go Waits e = wakers-waits w _ b g law flags at r (fail_lock r) i (wait (word_at w i) r.end.side)
+          (on_word w b g law flags n s acts.Lock r here may i _ _ link refl (acted-lock w n s i r Waits here link e)) wakers e refl refl
+      go Refuses e = wakers-refused w _ b g law flags at r (fail_lock r) i (word_at w i)
+          (on_word w b g law flags n s acts.Lock r here may i _ _ link refl (acted-lock w n s i r Refuses here link e)) wakers e refl refl
           (able-tells r able).marked (able-tells r able).free
 
-  wake_minds : may_take r acts.Wake ≡ true → AreMindedOn i (after_act w n (OfRouter s acts.Wake))
+  wake_wakers : may_take r acts.Wake ≡ true → HaveWakersOn i (after_act w n (OfRouter s acts.Wake))
   unfolding side_node word_of
-  wake_minds may = minded-wake w v b g law flags at r (wake_other r) i (wake (word_at w i) r.end.side) is minded refl refl sends
+  wake_wakers may = wakers-wake w v b g law flags at r (wake_other r) i (wake (word_at w i) r.end.side) is wakers refl refl sends
     where
       v : World
       v = after_act w n (OfRouter s acts.Wake)
@@ -378,30 +378,30 @@ module _ (w : World) (b : Books) (g : Records) (law : Inv w b g) (flags : FlagsA
               (subst (λ z. IsUnderWay z n e.other t.0 (messages.Flush e.link (opposite e.side))) (sym (acted-wake w n s i r e here link q)) t.1))
 
 -- an act of a router
-pub minded-router : (w : World) (b : Books) (g : Records) → Inv w b g → FlagsAgree w → AreMinded w → (n s : ℕ) (act : RouterAct) (r : Router) →
-    router_at w (record { node = n; serial = s }) ≡ Some r → may_take r act ≡ true → AreMinded (after_act w n (OfRouter s act))
+pub wakers-router : (w : World) (b : Books) (g : Records) → Inv w b g → FlagsAgree w → HaveWakers w → (n s : ℕ) (act : RouterAct) (r : Router) →
+    router_at w (record { node = n; serial = s }) ≡ Some r → may_take r act ≡ true → HaveWakers (after_act w n (OfRouter s act))
 unfolding is_wordy
-minded-router w b g law flags minded n s act r here may i = go (primary_word r) refl
+wakers-router w b g law flags wakers n s act r here may i = go (primary_word r) refl
   where
-    aside_of : (is_wordy act ≡ true → primary_word r ≡ Some i → ⊥) → AreMindedOn i (after_act w n (OfRouter s act))
-    aside_of apart = aside w b g law flags n s act r here may minded i apart
+    aside_of : (is_wordy act ≡ true → primary_word r ≡ Some i → ⊥) → HaveWakersOn i (after_act w n (OfRouter s act))
+    aside_of apart = aside w b g law flags n s act r here may wakers i apart
 
-    other : (a : RouterAct) → act ≡ a → is_wordy a ≡ false → AreMindedOn i (after_act w n (OfRouter s act))
+    other : (a : RouterAct) → act ≡ a → is_wordy a ≡ false → HaveWakersOn i (after_act w n (OfRouter s act))
     other a e f = aside_of (λ h. absurd (no (is_wordy act) h (ap is_wordy e ∙ f)))
       where
         no : (c : Bool) → c ≡ true → c ≡ false → ⊥
         no true p q = cc
         no false p q = cc
 
-    own : primary_word r ≡ Some i → (a : RouterAct) → act ≡ a → AreMindedOn i (after_act w n (OfRouter s act))
-    own link acts.Mark e = subst (λ a. AreMindedOn i (after_act w n (OfRouter s a))) (sym e)
-        (mark_minds w b g law flags minded n s r here i link (subst (λ a. may_take r a ≡ true) e may))
-    own link acts.Wake e = subst (λ a. AreMindedOn i (after_act w n (OfRouter s a))) (sym e)
-        (wake_minds w b g law flags minded n s r here i link (subst (λ a. may_take r a ≡ true) e may))
-    own link acts.Lock e = subst (λ a. AreMindedOn i (after_act w n (OfRouter s a))) (sym e)
-        (lock_minds w b g law flags minded n s r here i link (subst (λ a. may_take r a ≡ true) e may))
-    own link acts.Unlock e = subst (λ a. AreMindedOn i (after_act w n (OfRouter s a))) (sym e)
-        (unlock_minds w b g law flags minded n s r here i link (subst (λ a. may_take r a ≡ true) e may))
+    own : primary_word r ≡ Some i → (a : RouterAct) → act ≡ a → HaveWakersOn i (after_act w n (OfRouter s act))
+    own link acts.Mark e = subst (λ a. HaveWakersOn i (after_act w n (OfRouter s a))) (sym e)
+        (mark_wakers w b g law flags wakers n s r here i link (subst (λ a. may_take r a ≡ true) e may))
+    own link acts.Wake e = subst (λ a. HaveWakersOn i (after_act w n (OfRouter s a))) (sym e)
+        (wake_wakers w b g law flags wakers n s r here i link (subst (λ a. may_take r a ≡ true) e may))
+    own link acts.Lock e = subst (λ a. HaveWakersOn i (after_act w n (OfRouter s a))) (sym e)
+        (lock_wakers w b g law flags wakers n s r here i link (subst (λ a. may_take r a ≡ true) e may))
+    own link acts.Unlock e = subst (λ a. HaveWakersOn i (after_act w n (OfRouter s a))) (sym e)
+        (unlock_wakers w b g law flags wakers n s r here i link (subst (λ a. may_take r a ≡ true) e may))
     own link acts.SendOut e = other acts.SendOut e refl
     own link acts.SendIn e = other acts.SendIn e refl
     own link acts.Discard e = other acts.Discard e refl
@@ -412,11 +412,11 @@ minded-router w b g law flags minded n s act r here may i = go (primary_word r) 
     own link acts.Begin e = other acts.Begin e refl
     own link acts.Rest e = other acts.Rest e refl
 
-    go : (o : Option ℕ) → primary_word r ≡ o → AreMindedOn i (after_act w n (OfRouter s act))
+    go : (o : Option ℕ) → primary_word r ≡ o → HaveWakersOn i (after_act w n (OfRouter s act))
     go None e = aside_of (λ h q. none-some i (sym e ∙ q))
     go (Some j) e = at (nat_eq j i) refl
       where
-        at : (c : Bool) → nat_eq j i ≡ c → AreMindedOn i (after_act w n (OfRouter s act))
+        at : (c : Bool) → nat_eq j i ≡ c → HaveWakersOn i (after_act w n (OfRouter s act))
         at true f = own (e ∙ ap Some (nat_eq-is j i f)) act refl
         at false f = aside_of (λ h q. apart j i f (same_Some j i (sym e ∙ q)))
           where
