@@ -1,9 +1,13 @@
-"""Turns definitions of a router together with the code that follows them, and shows that the law of worlds refuses each.
+"""Turns definitions together with the code that follows them, and shows which of them the law of worlds refuses, and at which lemma.
 
     python3 tools/turn_definitions.py [NAME..]
 
-A wrong body is refused by its contract. Here the contract is wrong too, so that the router and the node are proved as before; then the
-law over any order of acts must fail. Each turn is made on a copy of the repository, and takes some minutes.
+A wrong body is refused by its contract. Here the contract is wrong too, so that the crates below are proved as before; then the law over
+any order of acts must fail. Each turn is made on a copy of the repository, and takes some minutes.
+
+A turn counts as refused only where a lemma fails that says that the law holds: one whose statement ends in a group of the invariant or in
+a fact that is kept beside it, or one of the folders of the laws themselves. Else what fails only says a definition a second time, and is
+named as a copy of its text.
 """
 import os
 import re
@@ -16,11 +20,16 @@ HERE = os.path.dirname(os.path.dirname(os.path.abspath(__file__)))
 SPEC, CODE = "ipcz_router/specs/Bypass.antt", "ipcz_router/src/router/bypass.rt"
 EFFECTS, TURNING = "ipcz_router/specs/ActEffects.antt", "ipcz_router/src/router/turns.rt"
 MOVES, MOVING = "ipcz_router/specs/Calls.antt", "ipcz_router/src/router/calls.rt"
+QUEUES = "ipcz_router/specs/Acts.antt"
+ROUTER, ROUTING = "ipcz_router/specs/Router.antt", "ipcz_router/src/router.rt"
+ANSWERS, ANSWERING = "ipcz_world/specs/WordAnswers.antt", "ipcz_world/src/word_answers.rt"
+UPDATES = "ipcz_world/specs/Acts.antt"
 SENDING = "use Rattle.ipcz_router.specs.declared.sending.Sending.{Sending}"
 REACH = (SPEC, SENDING, f"use Rattle.ipcz_seq.specs.Queue.{{reach}}\n{SENDING}")
 
 # each turn: the file below crates/, a text that stands in it once, and the text in its place
 TURNS = {
+    # where items go, and how long links are
     "a_moved_terminal_gets_from_the_reach": [
         (MOVES, "next_in = r.in_queue.current", "next_in = reach r.in_queue"),
         (MOVING, "next_in: self.in_queue.current(),", "next_in: self.in_queue.reach(),"),
@@ -41,6 +50,7 @@ TURNS = {
     ],
     "a_stop_has_its_lengths_swapped": [
         (SPEC, "(opposite side) r.out_queue.current length", "(opposite side) length r.out_queue.current"),
+        (UPDATES, "(opposite side) r.out_queue.current length", "(opposite side) length r.out_queue.current"),
         (
             CODE,
             "            in_length: self.out_queue.current(),\n            out_length: length,",
@@ -61,8 +71,10 @@ TURNS = {
     ],
     "a_will_stop_names_the_side_of_its_proxy": [
         (SPEC, "ProxyWillStop e.link (opposite e.side) in_length", "ProxyWillStop e.link e.side in_length"),
+        (UPDATES, "ProxyWillStop inner.link (opposite inner.side) in_length", "ProxyWillStop inner.link inner.side in_length"),
         (CODE, "            side: link.side.opposite(),\n            in_length", "            side: link.side,\n            in_length"),
     ],
+    # who is looked at again
     "a_bypassed_router_is_not_flagged": [
         (SPEC, "r.end.side target)) { flagged = true }", "r.end.side target)) { flagged = r.flagged }"),
         (SPEC, "fresh side sender) length)) { flagged = true }", "fresh side sender) length)) { flagged = r.flagged }"),
@@ -78,6 +90,45 @@ TURNS = {
             "        self.outward.set_length_from(in_length);\n        let Some",
         ),
     ],
+    # who has tried for a lock is woken
+    "a_mark_tells_nobody_that_the_other_side_waits": [
+        (ANSWERS, "tells_waiting x s = has x.waiting (opposite s)", "tells_waiting x s = false"),
+        (ANSWERS, "◌+◌, Bool, if", "◌+◌, Bool, false, if"),
+        (ANSWERING, "Answer::Marked(marked, other_waits(word, side)),", "Answer::Marked(marked, false),"),
+    ],
+    "a_wake_stays_in_the_word": [
+        (ANSWERS, "woken x s = wake x s", "woken x s = x"),
+        (ANSWERING, "let woken = ipcz_word::take_waiting(word, side);", "let woken = word;"),
+    ],
+    "a_wait_is_only_answered": [
+        (ANSWERS, "word_after x s acts.Lock = word_by_plan x s (plan_of x s)", "word_after x s acts.Lock = tried_word x s (plan_of x s)"),
+        (
+            ANSWERS,
+            "-- the word after an act of a side on it\n",
+            "-- the word after a try, where a wait isn't written\nunfoldable pub tried_word : Word → Side → Plan → Word\n"
+            "tried_word x s Locks = word_by_plan x s Locks\ntried_word x s Waits = x\ntried_word x s Refuses = x\n\n"
+            "-- the word after an act of a side on it\n",
+        ),
+        (ANSWERS, "answers.Waiting (bits_of (word_by_plan x s Waits))", "answers.Refused (bits_of x)"),
+        (UPDATES, "lock_act w k r i Waits = set_word (set_router w k (fail_lock r)) i (wait (word_at w i) r.end.side)", "lock_act w k r i Waits = set_word (set_router w k (fail_lock r)) i (word_at w i)"),
+        (ANSWERING, "WordAnswers.{word_answer, word_after, try_answer, woken}", "WordAnswers.{word_answer, word_after, try_answer, tried_word, woken}"),
+        (ANSWERING, "≡ word_by_plan (word_of_bits word) side (plan_of", "≡ tried_word (word_of_bits word) side (plan_of"),
+        (ANSWERING, "unfolding(crate::specs::WordAnswers::try_answer, ", "unfolding(crate::specs::WordAnswers::try_answer, crate::specs::WordAnswers::tried_word, "),
+        (
+            ANSWERING,
+            "LockPlan::Wait(waiting) => Answered {\n            answer: Answer::Waiting(waiting),\n            word: waiting,",
+            "LockPlan::Wait(_) => Answered {\n            answer: Answer::Refused(word),\n            word,",
+        ),
+    ],
+    "a_flush_finds_the_side_that_sent_it": [
+        (EFFECTS, "message = Flush e.link (opposite e.side) }", "message = Flush e.link e.side }"),
+        (UPDATES, "tells_wake e = messages.Flush e.link (opposite e.side)", "tells_wake e = messages.Flush e.link e.side"),
+        (TURNING, "side: link.side.opposite(),", "side: link.side,"),
+    ],
+    "a_message_lets_nobody_try_again": [
+        (ROUTER, "rouse r = record r { flagged = true; tried = false }", "rouse r = record r { flagged = true }"),
+        (ROUTING, "        self.flagged = true;\n        self.tried = false;\n    }\n\n    // Takes the current item of the out", "        self.flagged = true;\n    }\n\n    // Takes the current item of the out"),
+    ],
     "an_unlock_has_tried": [
         (EFFECTS, "drop_lock r = record r { holds = false; flagged = true }", "drop_lock r = record r { holds = false; flagged = true; tried = true }"),
         (
@@ -86,11 +137,37 @@ TURNS = {
             "                self.holds = false;\n                self.flagged = true;\n                self.tried = true;\n",
         ),
     ],
+    # what an act uses up
+    "a_wake_stays_owed": [
+        (EFFECTS, "wake_other r = record r { wake_owed = false }", "wake_other r = r"),
+        (TURNING, "                let output = self.wake_output();\n                self.wake_owed = false;\n                output\n", "                self.wake_output()\n"),
+    ],
+    "a_rest_leaves_its_router_flagged": [
+        (QUEUES, "rest r = record r { flagged = false }", "rest r = r"),
+        (TURNING, "                self.flagged = false;\n", ""),
+    ],
+    "a_claim_without_a_word_is_made_again": [
+        (EFFECTS, "run_dry r = record r { dry = true }", "run_dry r = r"),
+        (TURNING, "                self.dry = true;\n", ""),
+    ],
+    "a_try_in_vain_is_made_again": [
+        (EFFECTS, "fail_lock r = record r { tried = true }", "fail_lock r = r"),
+        (TURNING, "(RouterAct::Lock, Answer::Waiting(_)) => {\n                self.tried = true;\n", "(RouterAct::Lock, Answer::Waiting(_)) => {\n"),
+        (TURNING, "(RouterAct::Lock, Answer::Refused(_)) => {\n                self.tried = true;\n", "(RouterAct::Lock, Answer::Refused(_)) => {\n"),
+    ],
 }
 
+# the groups of the invariant, and the facts that are kept beside it: what a lemma of the law comes to
+GROUPS = """Inv OpenInv Counts Ordered Shape Links Positions Stands Words Spares BypassRecords Stages Told Moves Terminals EndPlaces BooksKept Items
+Order ProxyNumbers FreshNumbers Conserved HeldOnce HasNoStrays AreFlagged IsAwake AreAwake IsAgreed AreAgreed FlagsAgree HasWaker HaveWakers
+HaveWakersOn IsRanked IsOwing IsBounded""".split()
+# and where each lemma is one
+FOLDERS = ("owed/", "lawful/", "ranks/")
 
-def proved(folder, *more):
-    done = subprocess.run(["rt", "check", *more], cwd=folder, stdout=subprocess.PIPE, stderr=subprocess.STDOUT)
+
+def check(folder, *more):
+    """Returns whether the crate is proved, and what the check says."""
+    done = subprocess.run(["rt", "check", "--jobs", "1", *more], cwd=folder, stdout=subprocess.PIPE, stderr=subprocess.STDOUT)
     return done.returncode == 0, done.stdout.decode(errors="replace")
 
 
@@ -109,27 +186,61 @@ def turn(crates, edits):
     return before
 
 
-def verdict(crates):
-    """Returns what became of the router, the node and the law."""
-    for crate in ("ipcz_router", "ipcz_node"):
-        if not proved(f"{crates}/{crate}")[0]:
+def conclusion(path, line, lemma):
+    """Returns what the statement of a lemma comes to: the first name behind its last arrow."""
+    with open(path) as file:
+        lines = file.read().split("\n")
+    heads = [i for i in range(min(line, len(lines))) if re.match(rf"\s*(pub )?{re.escape(lemma)} : ", lines[i])]
+    if not heads:
+        return ""
+    at, told = heads[-1], []
+    indent = len(lines[at]) - len(lines[at].lstrip())
+    while at < len(lines) and (not told or len(lines[at]) - len(lines[at].lstrip()) > indent):
+        told.append(lines[at])
+        at += 1
+    last = " ".join(told).split(" : ", 1)[1].rsplit("→", 1)[-1]
+    return re.match(r"\W*(\w*)", last)[1]
+
+
+def failures(crates, text):
+    """Returns the lemmas that fail, each with its file, and whether it is one of the law; those that only depend on others aren't named."""
+    found = []
+    for name, line, lemma in re.findall(r"\./proofs/(\S+\.antt):(\d+):\d+: error: `([^`]+)`", text):
+        is_law = name.startswith(FOLDERS) or conclusion(f"{crates}/ipcz_world/proofs/{name}", int(line), lemma) in GROUPS
+        found.append((is_law, f"`{lemma}` of {name[:-5]}"))
+    return list(dict.fromkeys(found))
+
+
+def verdict(crates, edits):
+    """Returns what became of the crates below and of the law."""
+    files = " ".join(name for name, _, _ in edits)
+    below = ["ipcz_router", "ipcz_node"] if "ipcz_router/" in files else []
+    for crate in below:
+        if not check(f"{crates}/{crate}")[0]:
             return f"NOT TRIED: {crate} is refused before the law"
-    done, text = proved(f"{crates}/ipcz_world", "--only", "each_step_keeps_a_world_lawful")
+    world = f"{crates}/ipcz_world"
+    if ANSWERING in files and not check(world, "--only", "answer_act")[0]:
+        return "NOT TRIED: the code of the link words doesn't follow"
+    done, text = check(world)
     if done:
         return "NOT REFUSED"
-    first = re.search(r"\./proofs/(\S+)\.antt:\d+:\d+: error: `([^`]+)`", text)
-    return f"refused by the law, first at `{first[2]}` of proofs/{first[1]}" if first else "refused by the law"
+    found = failures(crates, text)
+    laws, copies = [[lemma for is_law, lemma in found if is_law is law] for law in (True, False)]
+    beside = f"; copies of its text: {', '.join(copies)}" if copies else ""
+    if laws:
+        return f"refused by the law at {', '.join(laws)}{beside}"
+    return f"NOT REFUSED: only a copy of its text fails, {', '.join(copies) or 'in no lemma'}"
 
 
 def main():
     names = sys.argv[1:] or list(TURNS)
     with tempfile.TemporaryDirectory() as room:
-        shutil.copytree(HERE, f"{room}/copy", symlinks=True)
+        shutil.copytree(HERE, f"{room}/copy", symlinks=True, ignore=shutil.ignore_patterns(".git"))
         crates = f"{room}/copy/crates"
         wrong = 0
         for name in names:
             before = turn(crates, TURNS[name])
-            said = verdict(crates)
+            said = verdict(crates, TURNS[name])
             wrong += not said.startswith("refused")
             print(f"{name}: {said}", flush=True)
             for path, text in before.items():

@@ -99,6 +99,10 @@ unfoldable pub tell : Node → Option Sending → Node
 tell n None = n
 tell n (Some s) = push_out n s.to s.message
 
+-- a Flush rouses the router that it finds
+abbrev pub flushed : Router → Router
+flushed r = rouse r
+
 -- the node after a message that fits; a Flush that finds no router is dropped
 unfoldable pub handle : Node → ℕ → Message → Node
 handle n sender (messages.Item link side number item moves) =
@@ -114,7 +118,7 @@ handle n sender (messages.StopProxying old side in_length out_length) =
     (will_stop_message (inward_edge r).decaying in_length))
 handle n sender (messages.ProxyWillStop link side in_length) =
     on_found n (link_router n link side) (λ s r. with_router n s (proxy_will_stop r in_length))
-handle n sender (messages.Flush link side) = on_found n (link_router n link side) (λ s r. with_router n s (rouse r))
+handle n sender (messages.Flush link side) = on_found n (link_router n link side) (λ s r. with_router n s (flushed r))
 
 -- how many serials of routers a message takes
 unfoldable pub serials_in : Message → ℕ

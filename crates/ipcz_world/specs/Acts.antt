@@ -7,9 +7,8 @@ use Rattle.ipcz_base.specs.declared.item.Item.{Item}
 use Rattle.ipcz_base.specs.declared.message.Message.{Message}
 use Rattle.ipcz_base.specs.declared.message.Message.TheVariants as messages
 use Rattle.ipcz_base.specs.Sides.{opposite}
-use Rattle.ipcz_word.specs.SideSets.{has}
-use Rattle.ipcz_word.specs.Word.{Plan, Locks, Waits, Refuses, mark, wake, lock, wait, unlock}
-use Rattle.ipcz_router.specs.Router.{Router, primary_word, rouse}
+use Rattle.ipcz_word.specs.Word.{Plan, Locks, Waits, Refuses, mark, lock, wait, unlock}
+use Rattle.ipcz_router.specs.Router.{Router, primary_word}
 use Rattle.ipcz_router.specs.Bypass.{bypass_peer, accept_message, accept_bypass, stop_proxying, proxy_will_stop}
 use Rattle.ipcz_router.specs.Acts.{pop_in, rest}
 use Rattle.ipcz_router.specs.ActEffects.{mark_side, wake_other, take_lock, fail_lock, drop_lock, claim_word, run_dry, begin_bypass}
@@ -20,6 +19,8 @@ use Rattle.ipcz_base.specs.Items.{ends_in}
 use Rattle.ipcz_world.specs.declared.mail.Mail.TheVariants as mails
 use Rattle.ipcz_world.specs.World.{World, Key, node_at, word_at, mail_at, way, router_at, set_node, set_word, set_claimed, set_mail}
 use Rattle.ipcz_world.specs.World.{set_router, remove_router, push_message}
+use Rattle.ipcz_node.specs.Hands.{flushed}
+use Rattle.ipcz_world.specs.WordAnswers.{tells_waiting, woken}
 
 -- what an act of a router needs
 pub record CanAct (w : World) (k : Key) (r : Router) (act : RouterAct) : Type 0 where
@@ -35,13 +36,17 @@ pub record CanTouch (w : World) (k : Key) (r : Router) (i : ℕ) (act : RouterAc
 -- a side is marked
 abbrev pub mark_act : World → Key → Router → ℕ → World
 mark_act w k r i =
-    set_word (set_router w k (mark_side r (has (word_at w i).waiting (opposite r.end.side)))) i (mark (word_at w i) r.end.side)
+    set_word (set_router w k (mark_side r (tells_waiting (word_at w i) r.end.side))) i (mark (word_at w i) r.end.side)
+
+-- what tells the other side that it is woken
+abbrev pub tells_wake : LinkEnd → Message
+tells_wake e = messages.Flush e.link (opposite e.side)
 
 -- the other side is woken, by a Flush
 abbrev pub wake_act : World → Key → Router → ℕ → LinkEnd → World
 wake_act w k r i e =
-    push_message (set_word (set_router w k (wake_other r)) i (wake (word_at w i) r.end.side)) k.node e.other
-    (messages.Flush e.link (opposite e.side))
+    push_message (set_word (set_router w k (wake_other r)) i (woken (word_at w i) r.end.side)) k.node e.other
+    (tells_wake e)
 
 -- a try for the lock; where it is refused the word is written back
 abbrev pub lock_act : World → Key → Router → ℕ → Plan → World
@@ -102,17 +107,24 @@ abbrev pub peer_act : World → ℕ → Key → Router → ℕ → ℕ → ℕ �
 peer_act w from k r old target fresh =
     free (push_message (set_router w k (bypass_peer r target fresh)) k.node target (accept_message r old target fresh).message) from k.node
 
+-- what the router across tells the proxy, and the proxy the router inward
+abbrev pub tells_stop : Router → ℕ → Side → ℕ → Message
+tells_stop r old side length = messages.StopProxying old (opposite side) r.out_queue.current length
+
+abbrev pub tells_will_stop : LinkEnd → ℕ → Message
+tells_will_stop inner in_length = messages.ProxyWillStop inner.link (opposite inner.side) in_length
+
 -- the router across accepts
 abbrev pub accept_act : World → ℕ → Key → Router → LinkEnd → ℕ → Side → ℕ → ℕ → World
 accept_act w from k r e old side fresh length =
     free (push_message (set_router w k (accept_bypass r from side fresh length)) k.node e.other
-    (messages.StopProxying old (opposite side) r.out_queue.current length)) from k.node
+    (tells_stop r old side length)) from k.node
 
 -- the proxy is told
 abbrev pub stop_act : World → ℕ → Key → Router → LinkEnd → ℕ → ℕ → World
 stop_act w from k r inner in_length out_length =
     free (push_message (set_router w k (stop_proxying r in_length out_length)) k.node inner.other
-    (messages.ProxyWillStop inner.link (opposite inner.side) in_length)) from k.node
+    (tells_will_stop inner in_length)) from k.node
 
 -- the router inward is told
 abbrev pub will_stop_act : World → ℕ → Key → Router → ℕ → World
@@ -120,4 +132,4 @@ will_stop_act w from k r in_length = free (set_router w k (proxy_will_stop r in_
 
 -- a router needn't wait any longer
 abbrev pub flush_act : World → ℕ → Key → Router → World
-flush_act w from k r = free (set_router w k (rouse r)) from k.node
+flush_act w from k r = free (set_router w k (flushed r)) from k.node

@@ -19,7 +19,7 @@ use Rattle.ipcz_world.specs.declared.step.Step.{Step}
 use Rattle.ipcz_world.specs.declared.step.Step.TheVariants.{Open, Put, Get, Close, Turn}
 use Rattle.ipcz_world.specs.declared.step.Reply.{Reply}
 use Rattle.ipcz_world.specs.declared.step.Reply.TheVariants as replies
-use Rattle.ipcz_world.specs.World.{World, node_at, set_node, set_word, set_claimed}
+use Rattle.ipcz_world.specs.World.{World, has_unclaimed_word, node_at, set_node, set_word, set_claimed}
 use Rattle.ipcz_world.specs.Turns.{next_at, after_act, turn_event, turn_lacks_serials, turn_grows, can_take}
 
 -- a reply with the world after it
@@ -40,17 +40,21 @@ unless w (Some why) done = refuse w why
 abbrev pub at_node : World → ℕ → Effect → Effect
 at_node w n done = if nat_lt n w.count then done else refuse w refusals.Stranger
 
+-- the answer to an open: the ends of the pair that it made on a word
+abbrev pub opened_reply : ℕ → Reply
+opened_reply i = replies.Opened (end_at i A) (end_at i B)
+
 -- a pair is opened on a word, over a world in which that word is claimed
 abbrev pub open_with : World → World → ℕ → ℕ → Effect
 open_with w counted n i = unless w (serials_refusal (node_at w n)) (record {
-  reply = replies.Opened (end_at i A) (end_at i B);
+  reply = opened_reply i;
   world = set_word (set_node counted n (open_node (node_at w n) i)) i open_word;
 })
 
 -- an open: on the word of an open under way, else on the next word, where there is one
 unfoldable pub open_on : World → ℕ → Option ℕ → Effect
 open_on w n (Some i) = open_with w w n i
-open_on w n None = if nat_lt w.claimed w.size then open_with w (set_claimed w (w.claimed + 1)) n w.claimed else refuse w refusals.NoWord
+open_on w n None = if has_unclaimed_word w then open_with w (set_claimed w (w.claimed + 1)) n w.claimed else refuse w refusals.NoWord
 
 -- an open
 abbrev pub open_step : World → ℕ → Effect

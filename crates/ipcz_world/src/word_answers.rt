@@ -4,8 +4,8 @@ ghost use Rattle.std.specs.Prelude.{◌≡◌};
 ghost use Rattle.ipcz_base.specs.Sides.{opposite};
 ghost use Rattle.ipcz_word.specs.Layout.{IsWord, word_of_bits, bits_of};
 ghost use Rattle.ipcz_word.specs.SideSets.{has};
-ghost use Rattle.ipcz_word.specs.Word.{mark, wake, unlock, plan_of, word_by_plan};
-ghost use Rattle.ipcz_world.specs.WordAnswers.{word_answer, word_after, try_answer};
+ghost use Rattle.ipcz_word.specs.Word.{mark, unlock, plan_of, word_by_plan};
+ghost use Rattle.ipcz_world.specs.WordAnswers.{word_answer, word_after, try_answer, woken};
 
 use ipcz_base::Side;
 use ipcz_router::act::{Answer, RouterAct};
@@ -75,7 +75,7 @@ fn answer_mark(word: u64, side: Side) -> Answered
 fn answer_wake(word: u64, side: Side) -> Answered
     requires { IsWord word }
     ensures answer { result.answer ≡ word_answer (word_of_bits word) side RouterAct.Wake }
-    ensures word { word_of_bits result.word ≡ wake (word_of_bits word) side }
+    ensures word { word_of_bits result.word ≡ woken (word_of_bits word) side }
     ensures valid { IsWord result.word }
 {
     let woken = ipcz_word::take_waiting(word, side);

@@ -1,7 +1,5 @@
 -- A node's acts on words, its claims and its rests in the world are the updates.
-use Rattle.std.specs.Prelude.{◌≡◌, ◌<◌, ◌≤◌, ℕ, true, false, nat_lt, Some, refl}
-use Rattle.std.proofs.Common.{arith}
-use Rattle.std.proofs.lemmas.Bool.Decides.{nat_tests}
+use Rattle.std.specs.Prelude.{◌≡◌, ℕ, true, false, Some, refl}
 use Rattle.ipcz_word.specs.Word.{Plan, Locks, Waits, Refuses, plan_of, word_by_plan}
 use Rattle.ipcz_world.proofs.Vocabulary.{Router, primary_word, output_of, router_in, commit, World, node_at, word_at, router_at, set_node}
 use Rattle.ipcz_world.proofs.Vocabulary.{set_word, set_claimed, after_act, answer_of}
@@ -14,6 +12,7 @@ use Rattle.ipcz_node.specs.Acts.{commit_router, keep_or_drop}
 use Rattle.ipcz_world.specs.Turns.{after_router_act}
 use Rattle.ipcz_world.specs.WordAnswers.{touch, touch_word, word_after, link_answer, word_answer, try_answer}
 use Rattle.ipcz_world.specs.Acts.{lock_act, unlock_act, claim_act, dry_act, rest_act}
+use Rattle.ipcz_world.specs.World.{has_unclaimed_word}
 
 pub acted-rest : (w : World) (n s : ℕ) (r : Router) → router_at w (record { node = n; serial = s }) ≡ Some r →
     after_act w n (OfRouter s acts.Rest) ≡ rest_act w (record { node = n; serial = s }) r
@@ -35,18 +34,14 @@ acted-lock w n s i r Locks here word is = let inside : router_in (node_at w n) s
 acted-lock w n s i r Waits here word is = let inside : router_in (node_at w n) s ≡ Some r = here in rw (here, inside, word, is) refl
 acted-lock w n s i r Refuses here word is = let inside : router_in (node_at w n) s ≡ Some r = here in rw (here, inside, word, is) refl
 
-pub acted-claim : (w : World) (n s : ℕ) (r : Router) → router_at w (record { node = n; serial = s }) ≡ Some r → w.claimed < w.size →
+pub acted-claim : (w : World) (n s : ℕ) (r : Router) → router_at w (record { node = n; serial = s }) ≡ Some r → has_unclaimed_word w ≡ true →
     after_act w n (OfRouter s acts.Claim) ≡ claim_act w (record { node = n; serial = s }) r
 unfolding after_act after_router_act touch answer_of commit on_router commit_router keep_or_drop apply output_of send router_at set_claimed
     set_node
-acted-claim w n s r here left =
-    let inside : router_in (node_at w n) s ≡ Some r = here in let some : nat_lt w.claimed w.size ≡ true = grind (arith, left, nat_tests) in
-    rw (here, inside, some) refl
+acted-claim w n s r here some = let inside : router_in (node_at w n) s ≡ Some r = here in rw (here, inside, some) refl
 
-pub acted-dry : (w : World) (n s : ℕ) (r : Router) → router_at w (record { node = n; serial = s }) ≡ Some r → w.size ≤ w.claimed →
+pub acted-dry : (w : World) (n s : ℕ) (r : Router) → router_at w (record { node = n; serial = s }) ≡ Some r → has_unclaimed_word w ≡ false →
     after_act w n (OfRouter s acts.Claim) ≡ dry_act w (record { node = n; serial = s }) r
 unfolding after_act after_router_act touch answer_of commit on_router commit_router keep_or_drop apply output_of send router_at set_claimed
     set_node
-acted-dry w n s r here left =
-    let inside : router_in (node_at w n) s ≡ Some r = here in let none : nat_lt w.claimed w.size ≡ false = grind (arith, left, nat_tests) in
-    rw (here, inside, none) refl
+acted-dry w n s r here none = let inside : router_in (node_at w n) s ≡ Some r = here in rw (here, inside, none) refl

@@ -2,11 +2,9 @@
 use Rattle.std.specs.Prelude.{◌≡◌, ℕ, zero, suc, true, nat_eq, Some, None, List, [], ◌∷◌, refl}
 use Rattle.std.proofs.Common.{arith, ap, ◌∙◌, sym}
 use Rattle.std.proofs.lemmas.Bool.Decides.{nat_tests}
-use Rattle.ipcz_world.proofs.Vocabulary.{LinkEnd, Message, put_place, opposite, Word, Router, primary_word, output_of, Node, bare_node}
+use Rattle.ipcz_world.proofs.Vocabulary.{LinkEnd, Message, put_place, Word, Router, primary_word, output_of, Node, bare_node}
 use Rattle.ipcz_world.proofs.Vocabulary.{with_router, router_in, commit, World, node_at, word_at, router_at, way, set_node, set_word}
 use Rattle.ipcz_world.proofs.Vocabulary.{set_mail, after_act}
-use Rattle.ipcz_base.specs.declared.message.Message.TheVariants as messages
-use Rattle.ipcz_word.specs.Word.{wake}
 use Rattle.ipcz_router.specs.ActEffects.{apply, message_output, flush_message, wake_other}
 use Rattle.ipcz_router.specs.declared.act.RouterAct.TheVariants as acts
 use Rattle.ipcz_node.specs.declared.act.Act.TheVariants.{Router as OfRouter}
@@ -20,6 +18,8 @@ use Rattle.ipcz_world.proofs.frames.Frames.{node-set_node}
 use Rattle.ipcz_world.specs.Turns.{after_router_act, after_hand}
 use Rattle.ipcz_world.specs.WordAnswers.{touch, touch_word, word_after}
 use Rattle.ipcz_world.specs.Acts.{leave_act, finish_out_act, finish_in_act, wake_act, free}
+use Rattle.ipcz_world.specs.WordAnswers.{woken}
+use Rattle.ipcz_world.specs.Acts.{tells_wake}
 
 pub put-twice : {X : Type 0} (d : X) (xs : List X) (i : ℕ) (y z : X) → put_place d (put_place d xs i y) i z ≡ put_place d xs i z
 unfolding put_place
@@ -64,8 +64,8 @@ push-set_word w n to i m x = refl
 wake_computed : (w : World) (n s i : ℕ) (r : Router) (e : LinkEnd) → router_at w (record { node = n; serial = s }) ≡ Some r →
     primary_word r ≡ Some i → r.outward.primary ≡ Some e →
     after_act w n (OfRouter s acts.Wake) ≡ set_word (set_node w n
-    (push_out (with_router (node_at w n) s (wake_other r)) e.other (messages.Flush e.link (opposite e.side)))) i
-    (wake (word_at w i) r.end.side)
+    (push_out (with_router (node_at w n) s (wake_other r)) e.other (tells_wake e))) i
+    (woken (word_at w i) r.end.side)
 unfolding after_act after_router_act touch touch_word word_after commit on_router commit_router keep_or_drop apply output_of message_output
     flush_message send router_at set_word set_node
 wake_computed w n s i r e here word on = let inside : router_in (node_at w n) s ≡ Some r = here in rw (here, inside, word, on) refl
@@ -74,15 +74,15 @@ pub acted-wake : (w : World) (n s i : ℕ) (r : Router) (e : LinkEnd) → router
     primary_word r ≡ Some i → r.outward.primary ≡ Some e →
     after_act w n (OfRouter s acts.Wake) ≡ wake_act w (record { node = n; serial = s }) r i e
 acted-wake w n s i r e here word on =
-    computed ∙ ap (λ v. set_word v i (wake (word_at w i) r.end.side))
+    computed ∙ ap (λ v. set_word v i (woken (word_at w i) r.end.side))
     (sym (push-set_node w n (with_router (node_at w n) s (wake_other r)) e.other flush)) ∙ push-set_word
-    (set_node w n (with_router (node_at w n) s (wake_other r))) n e.other i flush (wake (word_at w i) r.end.side)
+    (set_node w n (with_router (node_at w n) s (wake_other r))) n e.other i flush (woken (word_at w i) r.end.side)
   where
     flush : Message
-    flush = messages.Flush e.link (opposite e.side)
+    flush = tells_wake e
 
     computed : after_act w n (OfRouter s acts.Wake) ≡ set_word (set_node w n
-        (push_out (with_router (node_at w n) s (wake_other r)) e.other flush)) i (wake (word_at w i) r.end.side)
+        (push_out (with_router (node_at w n) s (wake_other r)) e.other flush)) i (woken (word_at w i) r.end.side)
     computed = wake_computed w n s i r e here word on
 
 -- the hand is empty, and the mailbox

@@ -10,7 +10,6 @@ use Rattle.ipcz_world.proofs.Vocabulary.{hand_message, Books, Records, is_linked
 use Rattle.ipcz_world.proofs.Vocabulary.{IsRecorded, Inv}
 use Rattle.ipcz_base.specs.declared.message.Message.TheVariants as messages
 use Rattle.ipcz_word.specs.Word.{wake}
-use Rattle.ipcz_router.specs.Router.{rouse}
 use Rattle.ipcz_router.specs.ActEffects.{wake_other, message_output, flush_message}
 use Rattle.ipcz_router.specs.declared.act.Applied.TheVariants as sends
 use Rattle.ipcz_router.specs.declared.act.RouterAct.TheVariants as acts
@@ -36,6 +35,9 @@ use Rattle.ipcz_world.proofs.flows.MessagesPassing.{SameButPost, IsFlush, HasHan
 use Rattle.ipcz_world.proofs.flows.MessagesAlone.{inv-passes}
 use Rattle.ipcz_world.proofs.views.Known.{node_of_router}
 use Rattle.ipcz_world.proofs.facts.Lengths.{opposite-twice}
+use Rattle.ipcz_node.specs.Hands.{flushed}
+use Rattle.ipcz_world.specs.WordAnswers.{woken}
+use Rattle.ipcz_world.specs.Acts.{tells_wake}
 
 -- a word of a link changes in what its sides wait for alone
 word-waits : (w : World) (g : Records) (i : ℕ) (x : Word) → is_linked (g.owner i) ≡ true → x.stable ≡ (word_at w i).stable →
@@ -167,36 +169,36 @@ central-is i = refl
 
 pub inv-wake : (w : World) (b : Books) (g : Records) (k : Key) (r : Router) (i : ℕ) (e : LinkEnd) → Inv w b g → CanTouch w k r i acts.Wake →
     r.outward.primary ≡ Some e → Inv (wake_act w k r i e) b g
-inv-wake w b g k r i e law can at = inv-push_flush v b g k.node e.other e.link (opposite e.side) woken (woken.counts.on_node k y there)
-    (subst (λ n. n < v.count) (sym is.other) (woken.counts.side_on_node e.link (opposite e.side) is.recorded)) fits
+inv-wake w b g k r i e law can at = inv-push_flush v b g k.node e.other e.link (opposite e.side) sent (sent.counts.on_node k y there)
+    (subst (λ n. n < v.count) (sym is.other) (sent.counts.side_on_node e.link (opposite e.side) is.recorded)) fits
   where
     y : Router
     y = wake_other r
 
     v : World
-    v = set_word (set_router w k y) i (wake (word_at w i) r.end.side)
+    v = set_word (set_router w k y) i (woken (word_at w i) r.end.side)
 
     flagged : IsFlagged r y
     flagged = record { end = refl; outward = refl; inward = refl; out_queue = refl; in_queue = refl; closed = refl; mark_seen = refl }
 
-    woken : Inv v b g
-    woken = inv-waits w b g k r y i (wake (word_at w i) r.end.side) law can.here can.word flagged
+    sent : Inv v b g
+    sent = inv-waits w b g k r y i (woken (word_at w i) r.end.side) law can.here can.word flagged
         (record { spare = refl; marked = refl; holds = refl }) refl refl
 
     there : router_at v k ≡ Some y
     there = grind (
       arith,
-      (set-word w (set_router w k y) k (Some y) i (wake (word_at w i) r.end.side) (set-router w k y)).routers k,
+      (set-word w (set_router w k y) k (Some y) i (woken (word_at w i) r.end.side) (set-router w k y)).routers k,
       same_key-itself k,
     )
 
     is : IsRecorded v g k y e
-    is = woken.links.primary k y e there at
+    is = sent.links.primary k y e there at
 
     on : OnWord w g k r i
     on = on-word w b g k r i law can.here can.word
 
-    fits : IsFlush v g k.node e.other (messages.Flush e.link (opposite e.side))
+    fits : IsFlush v g k.node e.other (tells_wake e)
     fits = record {
       link = e.link;
       side = opposite e.side;
@@ -208,7 +210,7 @@ inv-wake w b g k r i e law can at = inv-push_flush v b g k.node e.other e.link (
     }
 
 wake-sends : (r : Router) (e : LinkEnd) → r.outward.primary ≡ Some e →
-    output_of r acts.Wake ≡ sends.Message e.other (messages.Flush e.link (opposite e.side))
+    output_of r acts.Wake ≡ sends.Message e.other (tells_wake e)
 unfolding output_of message_output flush_message
 wake-sends r e at = rw at refl
 
@@ -312,7 +314,7 @@ inv-flush w b g from k r l s law can = inv-flush_lost u b g from k.node l s rous
     (((set-router w k y).nodes k.node).hand ∙ can.hand)
   where
     y : Router
-    y = rouse r
+    y = flushed r
 
     u : World
     u = set_router w k y
@@ -327,7 +329,7 @@ inv-flush w b g from k r l s law can = inv-flush_lost u b g from k.node l s rous
 
 -- a node's hand of a Flush that finds a router
 found-flush : (n : Node) (from : ℕ) (l : LinkId) (s : Side) (f : Found) → n.hand ≡ Some from → link_router n l s ≡ Some f →
-    deliver n from (messages.Flush l s) ≡ record (with_router n f.serial (rouse f.router)) { hand = None }
+    deliver n from (messages.Flush l s) ≡ record (with_router n f.serial (flushed f.router)) { hand = None }
 unfolding deliver handle fits on_found is_hand_of
 found-flush n from l s f hand found = let same : nat_eq from from ≡ true = grind (arith, nat_tests) in rw (found, hand, same) refl
 
@@ -347,7 +349,7 @@ pub acted-flush : (w : World) (n from : ℕ) (l : LinkId) (s : Side) (f : Found)
 acted-flush w n from l s f in_hand hand found =
     handed-is w n from (messages.Flush l s) in_hand ∙ ap (λ x. set_mail (set_node w n x) (way w from n) mails.Empty)
     (found-flush (node_at w n) from l s f hand found) ∙ sym (freed w n from
-    (with_router (node_at w n) f.serial (rouse f.router)))
+    (with_router (node_at w n) f.serial (flushed f.router)))
 
 pub acted-flush_lost : (w : World) (n from : ℕ) (l : LinkId) (s : Side) → mail_at w (way w from n) ≡ mails.Hand (messages.Flush l s) →
     (node_at w n).hand ≡ Some from → link_router (node_at w n) l s ≡ None → after_act w n (Hand from) ≡ free w from n

@@ -15,6 +15,7 @@ use Rattle.ipcz_world.proofs.facts.LinkTests.{side_is}
 use Rattle.ipcz_world.proofs.facts.Lengths.{same_side-itself}
 use Rattle.ipcz_world.proofs.frames.OneRouter.{SameButRouter, SameWords, set-router, set-word}
 use Rattle.ipcz_world.proofs.acts.Flags.{IsFlagged, IsShaped, OnWord, on-word, Touches, inv-touched, inv-flagged}
+use Rattle.ipcz_world.specs.WordAnswers.{tells_waiting}
 
 -- what an act on a word is in the world
 set-both : (w : World) (k : Key) (y : Router) (i : ℕ) (x : Word) → SameButRouter w (set_word (set_router w k y) i x) k (Some y)
@@ -69,7 +70,7 @@ inv-mark w b g k r i law can =
     (word-both w k y i x) shaped touches
   where
     y : Router
-    y = mark_side r (has (word_at w i).waiting (opposite r.end.side))
+    y = mark_side r (tells_waiting (word_at w i) r.end.side)
 
     x : Word
     x = mark (word_at w i) r.end.side

@@ -28,6 +28,8 @@ use Rattle.ipcz_world.proofs.calls.Puts.{router_found}
 use Rattle.ipcz_world.proofs.calls.Gets.{get_tells}
 use Rattle.ipcz_world.proofs.calls.Reading.{in_numbers}
 use Rattle.ipcz_world.proofs.frames.RecordRules.{unclaimed-is}
+use Rattle.ipcz_world.specs.World.{has_unclaimed_word}
+use Rattle.ipcz_world.specs.Steps.{opened_reply}
 
 module _ (w : World) (b : Books) (g : Records) (law : Inv w b g) where
   -- an effect that the machine over books allows
@@ -71,7 +73,7 @@ module _ (w : World) (b : Books) (g : Records) (law : Inv w b g) where
   open_refused n why h = (h, refl)
 
   opened_fine : (n i : ℕ) → is_linked (g.owner i) ≡ false → (v : World) →
-      IsFine (Open n) (record { reply = replies.Opened (end_at i A) (end_at i B); world = v })
+      IsFine (Open n) (record { reply = opened_reply i; world = v })
   unfolding advance
   opened_fine n i h v = (refl, unwritten (end_at i A) h, unwritten (end_at i B) h, refl)
 
@@ -92,7 +94,7 @@ module _ (w : World) (b : Books) (g : Records) (law : Inv w b g) where
 
       go : (o : Option ℕ) → (node_at w n).opening ≡ o → IsFine (Open n) (open_on w n o)
       go (Some i) e = opened_with w n i (ap is_linked (law.spares.opening n i e))
-      go None e = chosen_fine (Open n) (nat_lt w.claimed w.size) _ _ (opened_with (set_claimed w (w.claimed + 1)) n w.claimed fresh)
+      go None e = chosen_fine (Open n) (has_unclaimed_word w) _ _ (opened_with (set_claimed w (w.claimed + 1)) n w.claimed fresh)
           (open_refused n refusals.NoWord tt)
 
   -- a put

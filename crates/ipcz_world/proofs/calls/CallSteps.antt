@@ -2,11 +2,10 @@
 use Rattle.std.specs.Prelude.{◌≡◌, ◌<◌, ◌+◌, ℕ, Bool, true, false, cond, nat_eq, nat_lt, Option, Some, None, List, refl}
 use Rattle.std.proofs.Common.{arith, ap, subst, ◌∙◌, sym, inl, inr}
 use Rattle.std.proofs.lemmas.Bool.Decides.{nat_tests}
-use Rattle.ipcz_world.proofs.Vocabulary.{A, B, End, Refusal, open_word, terminal_of, Reply, World, node_at, set_node, set_word}
+use Rattle.ipcz_world.proofs.Vocabulary.{B, End, Refusal, open_word, terminal_of, Reply, World, node_at, set_node, set_word}
 use Rattle.ipcz_world.proofs.Vocabulary.{set_claimed, unless, Books, Records, Opening, Linked, is_linked, Inv}
 use Rattle.ipcz_base.specs.declared.parcel.Parcel as parcels
 use Rattle.ipcz_base.specs.declared.refusal.Refusal.TheVariants as refusals
-use Rattle.ipcz_base.specs.Ends.{end_at}
 use Rattle.ipcz_node.specs.Calls.{put_refusal, put_node, put_number, get_refusal, get_node, close_refusal, close_node, serials_refusal}
 use Rattle.ipcz_node.specs.Calls.{open_node}
 use Rattle.ipcz_world.specs.declared.step.Step.{Step}
@@ -22,6 +21,8 @@ use Rattle.ipcz_world.proofs.calls.Puts.{inv-put, inv-close}
 use Rattle.ipcz_world.proofs.calls.Gets.{get_tells, inv-get}
 use Rattle.ipcz_world.proofs.calls.OpeningPair.{inv-opened}
 use Rattle.ipcz_world.proofs.calls.Opening.{inv-open}
+use Rattle.ipcz_world.specs.World.{has_unclaimed_word}
+use Rattle.ipcz_world.specs.Steps.{opened_reply}
 
 -- what a step leads to: the invariant with the books and records after it, whose routes are those that the run writes
 pub record Follows (w v : World) (b : Books) (g : Records) (step : Step) (reply : Reply) : Type 0 where
@@ -150,7 +151,7 @@ module _ (w : World) (b : Books) (g : Records) (law : Inv w b g) where
   })
 
   open_done : (n i : ℕ) (v : World) (serial : ℕ) → (node_at w n).next_router ≡ serial → Inv v b (open_records g n i serial) →
-      Follows w v b g (Open n) (replies.Opened (end_at i A) (end_at i B))
+      Follows w v b g (Open n) (opened_reply i)
   unfolding advance records_after routes_after
   open_done n i v serial e inv = record {
     inv = subst (λ s. Inv v b (open_records g n i s)) (sym e) inv;
@@ -163,7 +164,7 @@ module _ (w : World) (b : Books) (g : Records) (law : Inv w b g) where
   on_word n l (Some i) e = unless_by w (serials_refusal (node_at w n)) _ (Keeps (Open n)) (open_refused n)
       (λ h. open_done n i (set_word (set_node w n (open_node (node_at w n) i)) i open_word) (node_at w n).next_router refl
       (inv-opened w b g n i law l e))
-  on_word n l None e = cond_by (nat_lt w.claimed w.size) (open_with w (set_claimed w (w.claimed + 1)) n w.claimed)
+  on_word n l None e = cond_by (has_unclaimed_word w) (open_with w (set_claimed w (w.claimed + 1)) n w.claimed)
       (refuse w refusals.NoWord) (Keeps (Open n))
       (λ room. unless_by w (serials_refusal (node_at w n)) _ (Keeps (Open n)) (open_refused n)
       (λ h. open_done n w.claimed (set_word (set_node (set_claimed w (w.claimed + 1)) n (open_node (node_at w n) w.claimed)) w.claimed

@@ -1,6 +1,6 @@
 -- A caller's get and a sink's discard keep the invariant with the books after them.
 use Rattle.ipcz_world.proofs.weights.OfRecords.{holds, held_times, holds_times}
-use Rattle.std.specs.Prelude.{◌≡◌, ◌⊎◌, ◌≤◌, ◌<◌, ◌+◌, ℕ, zero, suc, Bool, true, false, cond, not, Option, Some, None, is_some, List, []}
+use Rattle.std.specs.Prelude.{◌≡◌, ◌⊎◌, ◌≤◌, ◌<◌, ◌+◌, ℕ, zero, suc, true, false, cond, not, Option, Some, None, is_some, List, []}
 use Rattle.std.specs.Prelude.{◌∷◌, ◌++◌, length, take, map, slice_get, refl}
 use Rattle.std.proofs.Common.{arith, ap, subst, ◌∙◌, sym, inl, inr}
 use Rattle.ipcz_world.proofs.Vocabulary.{End, Item, opposite_end, same_end, has_end, current_item, Router, is_terminal, is_possible}
@@ -30,6 +30,7 @@ use Rattle.ipcz_world.proofs.frames.Calling.{call-times, held_unclosed, placed_m
 use Rattle.ipcz_world.proofs.calls.Reading.{IsRead, inv-read_by}
 use Rattle.ipcz_world.proofs.calls.Puts.{router_found, passes_by, found_by, not_false}
 use Rattle.ipcz_world.proofs.facts.Tests.{and_first, and_second}
+use Rattle.ipcz_world.proofs.facts.Tests.{not_both}
 
 take-next : {X : Type 0} (k : ℕ) (xs : List X) (x : X) → slice_get xs k ≡ Some x → take (suc k) xs ≡ take k xs ++ x ∷ []
 take-next k [] x h = cc
@@ -219,11 +220,8 @@ module _ (w : World) (b : Books) (g : Records) (k : Key) (r : Router) (law : Inv
       got_other = λ e ne. refl;
       gone_other = λ e ne. more_same b.gone (b.gone r.end + 1) e r.end ne;
       prefix_here = λ next was. was;
-      gone_closed = λ h. absurd (tells (is_closed b r.end) is_closed_here h);
+      gone_closed = λ h. absurd (not_both (is_closed b r.end) is_closed_here h);
     }
-      where
-        tells : (c : Bool) → c ≡ true → c ≡ false → ⊥
-        tells c a z = cc
 
     pub inv-dropped_at : Inv (set_node w k.node (record (with_router (node_at w k.node) k.serial (take_item r))
         { pending = (node_at w k.node).pending ++ ends_in item })) (add_gone b r.end) g

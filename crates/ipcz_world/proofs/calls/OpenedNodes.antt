@@ -22,6 +22,7 @@ use Rattle.ipcz_world.proofs.weights.Weighing.{in_places-is, in_router-is, under
 use Rattle.ipcz_world.proofs.frames.FirstLink.{inv-grown}
 use Rattle.ipcz_world.proofs.frames.RecordRules.{unclaimed-is}
 use Rattle.ipcz_world.proofs.weights.Totalling.{total_below-same}
+use Rattle.ipcz_world.proofs.facts.Tests.{not_both}
 
 pub times_by : (w v : World) (e : End) → v.count ≡ w.count → ((m : ℕ) → m < w.count →
     held_times e (node_at v m).held + times e (node_at v m).pending ≡ held_times e (node_at w m).held + times e (node_at w m).pending) →
@@ -92,7 +93,7 @@ inv-claim_for_open w b g n law room none = inv-grown w v b g owner' g.central g.
       opening_back = λ m j e. opening_back m j e (same_number j i);
       unlinked = λ e. words i ∙ law.words.unused i (ap is_linked mine);
       still = λ e. refl;
-      linked = λ e. absurd (tells (is_linked (owner' i)) e (ap is_linked now));
+      linked = λ e. absurd (not_both (is_linked (owner' i)) e (ap is_linked now));
       terminal = λ e. inl refl;
       terminal_pair = law.terminals.both;
       held = λ m e k. inl (ap (holds e) (sym (held m)) ∙ k);
@@ -139,9 +140,6 @@ inv-claim_for_open w b g n law room none = inv-grown w v b g owner' g.central g.
 
     now : owner' i ≡ Opening n
     now = grind (arith, nat_tests)
-
-    tells : (c : Bool) → c ≡ true → c ≡ false → ⊥
-    tells c a z = cc
 
     sources : (l : LinkId) (s : Side) → source (opening_records g n i) l s ≡ source g l s
     sources (Central j) s = refl

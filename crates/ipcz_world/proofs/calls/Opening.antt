@@ -1,18 +1,19 @@
 -- An open, in one or in two halves, keeps the invariant.
-use Rattle.std.specs.Prelude.{◌≡◌, ◌<◌, ◌+◌, ℕ, Bool, true, false, cond, nat_lt, Option, Some, None, refl}
+use Rattle.std.specs.Prelude.{◌≡◌, ◌<◌, ◌+◌, ℕ, Bool, true, false, cond, Option, Some, None, refl}
 use Rattle.std.proofs.Common.{arith, ap, subst, sym}
 use Rattle.std.proofs.lemmas.Bool.Decides.{nat_tests}
-use Rattle.ipcz_world.proofs.Vocabulary.{A, B, put_place, empty_word, open_word, Node, bare_node, Refusal, World, node_at, set_node}
+use Rattle.ipcz_world.proofs.Vocabulary.{put_place, empty_word, open_word, Node, bare_node, Refusal, World, node_at, set_node}
 use Rattle.ipcz_world.proofs.Vocabulary.{set_word, set_claimed, unless, Books, Records, Inv}
 use Rattle.ipcz_node.specs.Calls.{open_node, serials_refusal}
 use Rattle.ipcz_base.specs.declared.refusal.Refusal.TheVariants as refusals
-use Rattle.ipcz_world.specs.declared.step.Reply.TheVariants as replies
 use Rattle.ipcz_world.proofs.frames.Frames.{frames}
 use Rattle.ipcz_world.specs.Steps.{claim_for_open, open_on, refuse}
 use Rattle.ipcz_world.specs.Remembering.{opening_records, open_records}
 use Rattle.ipcz_world.proofs.calls.OpenedNodes.{inv-claim_for_open}
 use Rattle.ipcz_world.proofs.calls.OpeningPair.{inv-opened}
 use Rattle.ipcz_world.proofs.acts.Updating.{put-twice}
+use Rattle.ipcz_world.specs.World.{has_unclaimed_word}
+use Rattle.ipcz_world.specs.Steps.{opened_reply}
 
 claimed_node : (w : World) (n : ℕ) → node_at (claim_for_open w n) n ≡ record (node_at w n) { opening = Some w.claimed }
 claimed_node w n = grind (arith, frames, nat_tests)
@@ -52,8 +53,7 @@ unfolding open_on unless
 inv-open_on w b g n (Some i) e law l v is = go (serials_refusal (node_at w n)) is
   where
     go : (r : Option Refusal) → v ≡ (unless w r (record {
-      reply =
-          replies.Opened (record { pair = i; side = A }) (record { pair = i; side = B });
+      reply = opened_reply i;
       world =
           set_word (set_node w n (open_node (node_at w n) i)) i open_word;
     })).world → (h : Records) × Inv v b h
@@ -63,12 +63,11 @@ inv-open_on w b g n (Some i) e law l v is = go (serials_refusal (node_at w n)) i
           (inv-opened w b g n i law l e),
     )
     go (Some why) f = (g, subst (λ u. Inv u b g) (sym f) law)
-inv-open_on w b g n None e law l v is = go (nat_lt w.claimed w.size) refl (serials_refusal (node_at w n)) is
+inv-open_on w b g n None e law l v is = go (has_unclaimed_word w) refl (serials_refusal (node_at w n)) is
   where
-    go : (c : Bool) → nat_lt w.claimed w.size ≡ c → (r : Option Refusal) →
+    go : (c : Bool) → has_unclaimed_word w ≡ c → (r : Option Refusal) →
         v ≡ (cond c (unless w r (record {
-          reply = replies.Opened (record { pair = w.claimed; side = A })
-              (record { pair = w.claimed; side = B });
+          reply = opened_reply w.claimed;
           world = set_word
               (set_node (set_claimed w (w.claimed + 1)) n (open_node (node_at w n) w.claimed)) w.claimed open_word;
         }))

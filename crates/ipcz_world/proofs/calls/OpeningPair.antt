@@ -28,6 +28,7 @@ use Rattle.ipcz_world.proofs.frames.FirstLink.{inv-grown}
 use Rattle.ipcz_world.proofs.calls.OpenedNodes.{times_by, same_number, places_by, fresh_weight, source_apart, recorded_apart}
 use Rattle.ipcz_world.proofs.facts.LinkTests.{same_end-tells, same_end-itself}
 use Rattle.ipcz_world.proofs.facts.Finding.{get_inserted}
+use Rattle.ipcz_world.proofs.facts.Tests.{not_both}
 
 -- an open on a word that was claimed for it
 module _ (w : World) (b : Books) (g : Records) (n i : ℕ) (law : Inv w b g) (l : n < w.count)
@@ -503,8 +504,8 @@ module _ (w : World) (b : Books) (g : Records) (n i : ℕ) (law : Inv w b g) (l 
     not_fresh = λ o e. let two : Linked ≡ Fresh o = sym now ∙ e in cc;
     opening = opening_is;
     opening_back = opening_back;
-    unlinked = λ e. absurd (tells (is_linked (owner' i)) linked_now e);
-    still = λ e. absurd (tells (is_linked (owner' i)) linked_now e);
+    unlinked = λ e. absurd (not_both (is_linked (owner' i)) linked_now e);
+    still = λ e. absurd (not_both (is_linked (owner' i)) linked_now e);
     linked = λ e. pair;
     terminal = terminal_is;
     terminal_pair = pairs;
@@ -516,9 +517,6 @@ module _ (w : World) (b : Books) (g : Records) (n i : ℕ) (law : Inv w b g) (l 
         (λ m. by_node (λ m (y : Node). total (λ serial r. in_router f r) y.routers ≡ total (λ serial r. in_router f r)
         (node_at w m).routers) m (weigh f) (λ ne. refl));
   }
-    where
-      tells : (c : Bool) → c ≡ true → c ≡ false → ⊥
-      tells c a z = cc
 
   pub inv-opened : Inv (set_word (set_node w n (open_node (node_at w n) i)) i open_word) b (open_records g n i (node_at w n).next_router)
   inv-opened = inv-grown w v b g owner' central' terminal' i at law is_open

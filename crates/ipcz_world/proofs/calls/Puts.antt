@@ -30,6 +30,7 @@ use Rattle.ipcz_world.proofs.frames.Calling.{held_most, held_unclosed}
 use Rattle.ipcz_world.proofs.calls.Putting.{IsPut, inv-put_by}
 use Rattle.ipcz_world.proofs.sends.Moved.{terminal_at, passes_tells}
 use Rattle.ipcz_world.proofs.facts.LinkTests.{same_end-itself, same_end-tells}
+use Rattle.ipcz_world.proofs.facts.Tests.{not_both}
 
 -- the router of a key that is found in the node
 pub router_found : (w : World) (n serial : ℕ) (r : Router) → get (node_at w n).routers serial ≡ Some r →
@@ -98,12 +99,9 @@ module _ (w : World) (b : Books) (g : Records) (k : Key) (r : Router) (law : Inv
 
     no_pair : (d : End) → has_end d p.ends ≡ true → d.pair ≢ r.end.pair
     no_pair d h e = elim (pair_ends d r.end e) [
-      | inl s ↦ absurd (tells (has_end r.end p.ends) (ap (λ z. has_end z p.ends) (sym s) ∙ h) can.self)
-      | inr s ↦ absurd (tells (has_end (opposite_end r.end) p.ends) (ap (λ z. has_end z p.ends) (sym s) ∙ h) can.peer)
+      | inl s ↦ absurd (not_both (has_end r.end p.ends) (ap (λ z. has_end z p.ends) (sym s) ∙ h) can.self)
+      | inr s ↦ absurd (not_both (has_end (opposite_end r.end) p.ends) (ap (λ z. has_end z p.ends) (sym s) ∙ h) can.peer)
     ]
-      where
-        tells : (c : Bool) → c ≡ true → c ≡ false → ⊥
-        tells c a z = cc
 
     is_put : IsPut w (set_node w k.node put) b g k r (put_item r (Parcel p)) (Parcel p)
     is_put = record {

@@ -2,13 +2,12 @@
 use Rattle.std.specs.Prelude.{◌≡◌, ◌<◌, ◌+◌, ℕ, true, false, nat_lt, Option, Some, None, unwrap_or, length}
 use Rattle.std.proofs.Common.{arith, ap, sym, subst, refl, inl, inr, ◌∙◌}
 use Rattle.std.proofs.lemmas.Bool.Decides.{nat_tests}
-use Rattle.ipcz_world.proofs.Vocabulary.{Refusal, Reply, A, B, End, Item, put_place, current_item, empty_word, open_word, Node, Found}
+use Rattle.ipcz_world.proofs.Vocabulary.{Refusal, Reply, A, End, Item, put_place, current_item, empty_word, open_word, Node, Found}
 use Rattle.ipcz_world.proofs.Vocabulary.{bare_node, terminal_of, World, node_at, set_node, set_word, set_claimed, unless}
 use Rattle.ipcz_base.specs.declared.refusal.Refusal.TheVariants.{OutOfMemory, NoWord}
-use Rattle.ipcz_world.specs.declared.step.Reply.TheVariants.{Opened, Put, Got, Closed, Refused}
+use Rattle.ipcz_world.specs.declared.step.Reply.TheVariants.{Put, Got, Closed, Refused}
 use Rattle.ipcz_base.specs.declared.item.Item.TheVariants.{Parcel as OfParcel, Mark}
 use Rattle.ipcz_base.specs.declared.parcel.Parcel as parcels
-use Rattle.ipcz_base.specs.Ends.{end_at}
 use Rattle.ipcz_node.specs.Calls.{put_refusal, put_node, put_number, get_refusal, get_node, got_at, got_at_found, item_got, close_refusal}
 use Rattle.ipcz_node.specs.Calls.{close_node, serials_refusal, open_node}
 use Rattle.ipcz_world.specs.Soundness.{HasLengths}
@@ -18,6 +17,8 @@ use Rattle.ipcz_world.proofs.code.Slots.{length-put}
 use Rattle.ipcz_world.proofs.code.Taken.{with_node, unchanged}
 use Rattle.ipcz_world.specs.Steps.{Effect, at_node, is_refused, Gives, GivesOrNoMemory, PutGives, got_reply, get_reply, open_with}
 use Rattle.ipcz_world.specs.Steps.{open_on, put_step, get_step, close_step}
+use Rattle.ipcz_world.specs.World.{has_unclaimed_word}
+use Rattle.ipcz_world.specs.Steps.{opened_reply}
 
 -- what is done at a node of the world
 pub here-node : (w : World) (n : ℕ) (done : Effect) → n < w.count → at_node w n done ≡ done
@@ -55,7 +56,7 @@ getting w n at = record { reply = get_reply (terminal_of (node_at w n) at); worl
 
 abbrev opening : World → World → ℕ → ℕ → Effect
 opening w counted n i =
-    record { reply = Opened (end_at i A) (end_at i B); world = set_word (set_node counted n (open_node (node_at w n) i)) i open_word }
+    record { reply = opened_reply i; world = set_word (set_node counted n (open_node (node_at w n) i)) i open_word }
 
 -- a close
 pub close-done : (w : World) (n : ℕ) (at : End) (old x : Node) (number : ℕ) (reply : Reply) → n < w.count → old ≡ node_at w n →
@@ -150,7 +151,7 @@ get-refused w n at old x why reply has l e is same r =
 -- an open on a word, over a table in which it is claimed
 pub open-done : (w counted : World) (n i : ℕ) (old x : Node) (reply : Reply) → old ≡ node_at w n → serials_refusal old ≡ None →
     x ≡ open_node old i →
-    reply ≡ Opened (end_at i A) (end_at i B) →
+    reply ≡ opened_reply i →
     GivesOrNoMemory w (open_with w counted n i) reply
     (record counted { nodes = put_place (bare_node 0 0) counted.nodes n x; words = put_place empty_word counted.words i open_word })
 unfolding set_node set_word
@@ -186,11 +187,11 @@ open-world w n i c x t has l e = λ j. record w {
 }
 
 -- an open on the next word, where one is left, and where none is
-pub next-word : (w : World) (n : ℕ) → nat_lt w.claimed w.size ≡ true →
+pub next-word : (w : World) (n : ℕ) → has_unclaimed_word w ≡ true →
     open_on w n None ≡ open_with w (set_claimed w (w.claimed + 1)) n w.claimed
 unfolding open_on
 next-word w n e = rw e refl
 
-pub no-word : (w : World) (n : ℕ) → nat_lt w.claimed w.size ≡ false → GivesOrNoMemory w (open_on w n None) (Refused NoWord) w
+pub no-word : (w : World) (n : ℕ) → has_unclaimed_word w ≡ false → GivesOrNoMemory w (open_on w n None) (Refused NoWord) w
 unfolding open_on
 no-word w n e = rw e (inl (refl, refl))

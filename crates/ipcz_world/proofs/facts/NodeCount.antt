@@ -1,5 +1,5 @@
 -- An act leaves how many nodes there are.
-use Rattle.std.specs.Prelude.{◌≡◌, ℕ, ◌+◌, Bool, true, false, nat_lt, if◌then◌else◌, Option, Some, None, refl}
+use Rattle.std.specs.Prelude.{◌≡◌, ℕ, ◌+◌, Bool, true, false, if◌then◌else◌, Option, Some, None, refl}
 use Rattle.ipcz_world.proofs.Vocabulary.{Message, Side, Router, primary_word, RouterAct, Act, Hand, Close, World, node_at, mail_at, way}
 use Rattle.ipcz_world.proofs.Vocabulary.{set_node, set_word, set_claimed, set_mail, after_act}
 use Rattle.ipcz_router.specs.declared.act.RouterAct.TheVariants as acts
@@ -7,6 +7,7 @@ use Rattle.ipcz_node.specs.declared.act.Act.TheVariants.{Look, Post, Router as O
 use Rattle.ipcz_node.specs.Acts.{post_of}
 use Rattle.ipcz_world.specs.WordAnswers.{claim_next, touch_word, touch}
 use Rattle.ipcz_world.specs.Turns.{message_in_hand, full_message, router_of, after_router_act, after_hand, after_look, after_post}
+use Rattle.ipcz_world.specs.World.{has_unclaimed_word}
 
 count-touch_word : (w : World) (s : Side) (a : RouterAct) (o : Option ℕ) → (touch_word w s a o).count ≡ w.count
 unfolding touch_word set_word
@@ -15,7 +16,7 @@ count-touch_word w s a (Some i) = refl
 
 count-claim_next : (w : World) → (claim_next w).count ≡ w.count
 unfolding set_claimed
-count-claim_next w = go (nat_lt w.claimed w.size)
+count-claim_next w = go (has_unclaimed_word w)
   where
     go : (c : Bool) → (if c then set_claimed w (w.claimed + 1) else w).count ≡ w.count
     go true = refl

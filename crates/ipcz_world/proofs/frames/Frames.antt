@@ -2,7 +2,8 @@
 use Rattle.std.specs.Prelude.{◌≡◌, ◌≢◌, ◌⊎◌, ℕ, Bool, true, false, cond, ◌&&◌, nat_eq, Some, None, refl}
 use Rattle.std.specs.Cmp.{nat_cmp_total}
 use Rattle.std.specs.FinMap.{get, insert, remove, get-insert, get-remove}
-use Rattle.std.proofs.Common.{arith, ap, ◌∙◌, inl, inr}
+use Rattle.std.proofs.Common.{arith, ap, sym, ◌∙◌, inl, inr}
+use Rattle.std.proofs.lemmas.Option.{same_Some}
 use Rattle.std.proofs.lemmas.Bool.Decides.{nat_tests}
 use Rattle.ipcz_base.proofs.Indexed.{place_at-put_place}
 use Rattle.ipcz_world.proofs.Vocabulary.{Word, empty_word, Router, Node, bare_node, with_router, Empty, World, Key, same_key, node_at}
@@ -176,6 +177,18 @@ same_key_tells j k = go (same_key j k) refl
     go : (b : Bool) → same_key j k ≡ b → ((same_key j k ≡ true) × (j ≡ k)) ⊎ ((same_key j k ≡ false) × (j ≢ k))
     go true e = inl (e, same_key-apart j k e)
     go false e = inr (e, λ h. grind (arith, e, h, same_key-itself k))
+
+-- a router after that of one key has become another: it is that one, or it stands under another key as before
+abbrev pub OneOrBefore : World → Key → Router → Key → Router → Type 0
+OneOrBefore w k x q t = ((q ≡ k) × (x ≡ t)) ⊎ ((same_key q k ≡ false) × (router_at w q ≡ Some t))
+
+pub one_or_before : (w v : World) (k : Key) (x : Router) → ((q : Key) → router_at v q ≡ cond (same_key q k) (Some x) (router_at w q)) →
+    (q : Key) (t : Router) → router_at v q ≡ Some t → OneOrBefore w k x q t
+one_or_before w v k x routers q t e = go (same_key_tells q k)
+  where
+    go : ((same_key q k ≡ true) × (q ≡ k)) ⊎ ((same_key q k ≡ false) × (q ≢ k)) → OneOrBefore w k x q t
+    go (inl m) = inl (m.1, same_Some x t (sym (rw m.0 at (routers q)) ∙ e))
+    go (inr m) = inr (m.0, sym (rw m.0 at (routers q)) ∙ e)
 
 -- the routers, after a router was changed or added
 pub router-set_router : (w : World) (k : Key) (r : Router) (q : Key) →

@@ -1,7 +1,7 @@
 -- The record of a bypass goes a stage further, from 3 or 4: the numbers of items against the lengths that are known then.
-use Rattle.std.specs.Prelude.{◌≡◌, ◌≢◌, ◌⊎◌, ◌≤◌, ℕ, suc, true, false, nat_eq, is_some, Option, Some, None, option_map, refl}
+use Rattle.std.specs.Prelude.{◌≡◌, ◌≢◌, ◌⊎◌, ◌≤◌, ℕ, suc, true, false, nat_eq, is_some, Some, None, option_map}
 use Rattle.std.proofs.Common.{arith, ap, ◌∙◌, sym, inl, inr}
-use Rattle.std.proofs.lemmas.Option.{none-some, same_Some}
+use Rattle.std.proofs.lemmas.Option.{same_Some}
 use Rattle.ipcz_world.proofs.Vocabulary.{B, Central, LinkEnd, Item, opposite, Queue, item_at, Router, inward_edge, World, Key, same_key}
 use Rattle.ipcz_world.proofs.Vocabulary.{router_at, Books, Records, inner_link, proxy_side, across_side, known_from, view, is_gone}
 use Rattle.ipcz_world.proofs.Vocabulary.{Positions, inner_of, Items, Order, ProxyNumbers, FreshNumbers, has_passed, standing_router}
@@ -13,6 +13,7 @@ use Rattle.ipcz_world.proofs.frames.Sealing.{Sealed, positions_of, items_of, ord
 use Rattle.ipcz_world.proofs.frames.StageFurther.{IsLinkedLike, StillMade, begun_like, at_o, agree, taken_same, accepted_same, at_least}
 use Rattle.ipcz_world.proofs.frames.StageFurther.{proxy_side_same, across_side_same, length_same, view_same, recorded_same, node_same, Was}
 use Rattle.ipcz_world.proofs.frames.StageFurther.{was_router}
+use Rattle.ipcz_world.proofs.facts.Queues.{HasOutQueue, out_queue_of}
 
 module _ {w v : World} {b : Books} {g : Records} {k : Key} {r x : Router} {o s : ℕ} (law : Sealed w b g) (c : Changed w v k r x)
     (like : IsLike r x) (linked : IsLinkedLike r x) (carried : Carried w v) (at : (g.bypass o).stage ≡ s) (late : 3 ≤ s)
@@ -171,15 +172,6 @@ module _ {w v : World} {b : Books} {g : Records} {k : Key} {r x : Router} {o s :
       in_finished_at j t e l n (inl m) = rw m.1 (owes.in_finished t (rw m.1 at e) n)
       in_finished_at j t e l n (inr m) = (proxy_numbers_of law).in_finished j t e (grind (arith, l, m.0)) n
 
-  record Mapped (m : Option Router) (q : Queue Item) : Type 0 where
-    router : Router
-    there : m ≡ Some router
-    queue : router.out_queue ≡ q
-
-  mapped : (m : Option Router) (q : Queue Item) → option_map (λ u. u.out_queue) m ≡ Some q → Mapped m q
-  mapped None q e = absurd (none-some q e)
-  mapped (Some u) q e = record { router = u; there = refl; queue = same_Some _ _ e }
-
   pub fresh_numbers-further : ((p d : LinkEnd) (len : ℕ) → x.outward.primary ≡ Some p → x.outward.decaying ≡ Some d →
       x.outward.length_to ≡ Some len → len ≤ r.out_queue.current) → FreshNumbers v h
   fresh_numbers-further own = record {
@@ -191,8 +183,8 @@ module _ {w v : World} {b : Books} {g : Records} {k : Key} {r x : Router} {o s :
         (carried.was a f i p.link p.side n m ms u);
     other = λ q t t' p d len e prim dec l there. let z : Was law c like linked carried at late early q t =
         was_router law c like linked carried at late early q t e in
-        let found : Mapped (standing_router (view w g p.link (opposite p.side))) t'.out_queue =
-        mapped _ _ (sym (view_same law c like linked carried at late early p.link (opposite p.side)).out_queue ∙
+        let found : HasOutQueue (standing_router (view w g p.link (opposite p.side))) t'.out_queue =
+        out_queue_of _ _ (sym (view_same law c like linked carried at late early p.link (opposite p.side)).out_queue ∙
         ap (option_map (λ u. u.out_queue)) there) in
         omega (
           arith,

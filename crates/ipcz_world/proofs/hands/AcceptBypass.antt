@@ -1,8 +1,7 @@
 -- The router across accepts a bypass and takes the fresh link: the invariant is kept.
 use Rattle.std.specs.Prelude.{ℕ, refl}
 use Rattle.std.proofs.Common.{arith, sym}
-use Rattle.ipcz_world.proofs.Vocabulary.{Side, LinkEnd, Message, opposite, Router, World, Key, Books, Records, Inv}
-use Rattle.ipcz_base.specs.declared.message.Message.TheVariants as messages
+use Rattle.ipcz_world.proofs.Vocabulary.{Side, LinkEnd, Message, Router, World, Key, Books, Records, Inv}
 use Rattle.ipcz_world.specs.Acts.{accept_act}
 use Rattle.ipcz_router.specs.Bypass.{accept_bypass}
 use Rattle.ipcz_world.specs.Remembering.{accepted_records}
@@ -17,6 +16,7 @@ use Rattle.ipcz_world.proofs.hands.AcceptBypassViews.{at_o, like, changed, agree
 use Rattle.ipcz_world.proofs.hands.AcceptBypassNumbers.{items-accept, order-accept, proxy_numbers-accept, fresh_numbers-accept}
 use Rattle.ipcz_world.proofs.hands.AcceptBypassLinks.{counts-accept, links-accept, positions-accept}
 use Rattle.ipcz_world.proofs.hands.AcceptBypassStages.{stands-accept, words-accept, stages-accept, told-accept, descriptors}
+use Rattle.ipcz_world.specs.Acts.{tells_stop}
 
 module _ (w : World) (b : Books) (g : Records) (from : ℕ) (k : Key) (r : Router) (e : LinkEnd) (o : ℕ) (side : Side) (fresh length : ℕ)
     (law : Sealed w b g) (can : Closed (CanAccept w from k r e o side fresh length)) where
@@ -25,7 +25,7 @@ module _ (w : World) (b : Books) (g : Records) (from : ℕ) (k : Key) (r : Route
   x = accept_bypass r from side fresh length
 
   abbrev sent : Message
-  sent = messages.StopProxying o (opposite side) r.out_queue.current length
+  sent = tells_stop r o side length
 
   abbrev v : World
   v = handed_on w from k x e.other sent

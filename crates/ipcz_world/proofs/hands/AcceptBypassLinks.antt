@@ -8,9 +8,8 @@ use Rattle.ipcz_world.proofs.Vocabulary.{Side, LinkId, Central, LinkEnd, Message
 use Rattle.ipcz_world.proofs.Vocabulary.{node_at, mail_at, way, router_at, Books, hand_message, Records, is_begun, is_recorded}
 use Rattle.ipcz_world.proofs.Vocabulary.{inner_link, side_router, side_end, bypass_of, proxy_side, across_side, known_from, Counts, Links}
 use Rattle.ipcz_world.proofs.Vocabulary.{IsRecorded, Positions, is_outward}
-use Rattle.ipcz_base.specs.declared.message.Message.TheVariants as messages
 use Rattle.ipcz_world.specs.declared.mail.Mail.TheVariants as mails
-use Rattle.ipcz_world.proofs.frames.Frames.{same_key_tells, same_key-itself}
+use Rattle.ipcz_world.proofs.frames.Frames.{same_key-itself}
 use Rattle.ipcz_world.proofs.frames.RecordRules.{is_recorded-central, record_rules}
 use Rattle.ipcz_world.specs.Structure.{link_in}
 use Rattle.ipcz_edge.specs.Edge.{no_edge}
@@ -25,6 +24,8 @@ use Rattle.ipcz_world.proofs.hands.AcceptBypassAround.{at_side, fresh_linked, fr
 use Rattle.ipcz_world.proofs.hands.AcceptBypassViews.{at_o, changed, agree, is_new, is_new-tells, router_of, stage_after, accepted_after}
 use Rattle.ipcz_world.proofs.hands.AcceptBypassViews.{taken_after, proxy_is_after, is_new-here}
 use Rattle.ipcz_world.proofs.hands.AcceptBypassNumbers.{router_j, was_router, across_side-after}
+use Rattle.ipcz_world.specs.Acts.{tells_stop}
+use Rattle.ipcz_world.proofs.frames.Frames.{OneOrBefore, one_or_before}
 
 module _ {w : World} {b : Books} {g : Records} {from : ℕ} {k : Key} {r : Router} {e : LinkEnd} {o : ℕ} {side : Side} {fresh length : ℕ}
     (law : Sealed w b g) (can : Closed (CanAccept w from k r e o side fresh length)) where
@@ -33,7 +34,7 @@ module _ {w : World} {b : Books} {g : Records} {from : ℕ} {k : Key} {r : Route
   x = accept_bypass r from side fresh length
 
   abbrev sent : Message
-  sent = messages.StopProxying o (opposite side) r.out_queue.current length
+  sent = tells_stop r o side length
 
   abbrev v : World
   v = handed_on w from k x e.other sent
@@ -144,13 +145,8 @@ module _ {w : World} {b : Books} {g : Records} {from : ℕ} {k : Key} {r : Route
     end = e' ∙ rec.end ∙ sym (side_end-agree g h (agree law can) d.link d.side);
   }
 
-  split : (q : Key) (t : Router) → router_at v q ≡ Some t → ((q ≡ k) × (x ≡ t)) ⊎ ((same_key q k ≡ false) × (router_at w q ≡ Some t))
-  split q t at = go (same_key_tells q k)
-    where
-      go : ((same_key q k ≡ true) × (q ≡ k)) ⊎ ((same_key q k ≡ false) × (q ≢ k)) →
-          ((q ≡ k) × (x ≡ t)) ⊎ ((same_key q k ≡ false) × (router_at w q ≡ Some t))
-      go (inl m) = inl (m.1, same_Some x t (sym (rw m.0 at (router_j law can q)) ∙ at))
-      go (inr m) = inr (m.0, sym (rw m.0 at (router_j law can q)) ∙ at)
+  split : (q : Key) (t : Router) → router_at v q ≡ Some t → OneOrBefore w k x q t
+  split q t e = one_or_before w v k x (router_j law can) q t e
 
   x_at_end : r.end ≡ side_end h (Central fresh) side
   unfolding side_end
@@ -238,9 +234,6 @@ module _ {w : World} {b : Books} {g : Records} {from : ℕ} {k : Key} {r : Route
     known_from-no 5 2 (g.bypass o).accepted_at,
   )
 
-  abbrev Split : Key → Router → Type 0
-  Split q t = ((q ≡ k) × (x ≡ t)) ⊎ ((same_key q k ≡ false) × (router_at w q ≡ Some t))
-
   x_prim : (t : Router) (d : LinkEnd) → x ≡ t → t.outward.primary ≡ Some d → (d.link ≡ Central fresh) × (d.side ≡ side)
   x_prim t d m prim = let p_is : d ≡ record { link = Central fresh; side = side; other = from } =
       same_Some _ _ (sym prim ∙ ap (λ c. c.outward.primary) (sym m)) in (ap (λ c. c.link) p_is, ap (λ c. c.side) p_is)
@@ -318,7 +311,7 @@ module _ {w : World} {b : Books} {g : Records} {from : ℕ} {k : Key} {r : Route
   }
     where
       primary_old_at : (q : Key) (t : Router) (d : LinkEnd) (j : ℕ) → t.outward.primary ≡ Some d → d.link ≡ Central j →
-          is_begun (g.bypass j) ≡ true → Split q t → ((nat_eq j o ≡ true) × (j ≡ o)) ⊎ ((nat_eq j o ≡ false) × (j ≢ o)) →
+          is_begun (g.bypass j) ≡ true → OneOrBefore w k x q t → ((nat_eq j o ≡ true) × (j ≡ o)) ⊎ ((nat_eq j o ≡ false) × (j ≢ o)) →
           (h.bypass j).stage ≤ 2
       primary_old_at q t d j prim l b' (inl m) c = absurd (grind (
         arith,
@@ -332,13 +325,13 @@ module _ {w : World} {b : Books} {g : Records} {from : ℕ} {k : Key} {r : Route
       primary_old_at q t d j prim l b' (inr m) (inr c) = rw c.0 ((positions_of law).primary_old q t d j m.1 prim l b')
 
       primary_across_at : (q : Key) (t : Router) (d : LinkEnd) (j : ℕ) → t.outward.primary ≡ Some d → d.link ≡ Central j →
-          is_begun (g.bypass j) ≡ true → Split q t → d.side ≡ across_side g j
+          is_begun (g.bypass j) ≡ true → OneOrBefore w k x q t → d.side ≡ across_side g j
       primary_across_at q t d j prim l b' (inl m) = absurd (grind
           (arith, central_is fresh j (sym (x_prim t d m.1 prim).0 ∙ l), fresh_live law can, b'))
       primary_across_at q t d j prim l b' (inr m) = (positions_of law).primary_across q t d j m.1 prim l b'
 
       primary_inner_at : (q : Key) (t : Router) (d : LinkEnd) (p : Key) (j : ℕ) → t.outward.primary ≡ Some d → d.link ≡ inner_link p →
-          (g.peripheral p).by ≡ Some j → Split q t → (h.bypass j).stage ≡ 1
+          (g.peripheral p).by ≡ Some j → OneOrBefore w k x q t → (h.bypass j).stage ≡ 1
       primary_inner_at q t d p j prim l by (inl m) = absurd (not_both fresh p (sym (x_prim t d m.1 prim).0 ∙ l))
       primary_inner_at q t d p j prim l by (inr m) = grind (
         arith,
@@ -347,28 +340,28 @@ module _ {w : World} {b : Books} {g : Records} {from : ℕ} {k : Key} {r : Route
         (is law can).stage,
       )
 
-      decaying_at : (q : Key) (t : Router) (d : LinkEnd) → t.outward.decaying ≡ Some d → Split q t → is_some (bypass_of g d.link) ≡ true
+      decaying_at : (q : Key) (t : Router) (d : LinkEnd) → t.outward.decaying ≡ Some d → OneOrBefore w k x q t → is_some (bypass_of g d.link) ≡ true
       decaying_at q t d dec (inl m) = ap (λ l. is_some (bypass_of g l)) (x_dec t d m.1 dec).0 ∙ grind (arith, record_rules, begun law can)
       decaying_at q t d dec (inr m) = (positions_of law).decaying q t d m.1 dec
 
-      inner_at : (q : Key) (t : Router) (d : LinkEnd) (p : Key) (j : ℕ) → t.outward.decaying ≡ Some d → d.link ≡ inner_link p → Split q t →
+      inner_at : (q : Key) (t : Router) (d : LinkEnd) (p : Key) (j : ℕ) → t.outward.decaying ≡ Some d → d.link ≡ inner_link p → OneOrBefore w k x q t →
           router_at w q ≡ Some t
       inner_at q t d p j dec l (inl m) = absurd (not_both o p (sym (x_dec t d m.1 dec).0 ∙ l))
       inner_at q t d p j dec l (inr m) = m.1
 
       inner_stage_at : (q : Key) (t : Router) (d : LinkEnd) (p : Key) (j : ℕ) → t.outward.decaying ≡ Some d → d.link ≡ inner_link p →
-          (g.peripheral p).by ≡ Some j → Split q t → 2 ≤ (h.bypass j).stage
+          (g.peripheral p).by ≡ Some j → OneOrBefore w k x q t → 2 ≤ (h.bypass j).stage
       inner_stage_at q t d p j dec l by (inl m) = absurd (not_both o p (sym (x_dec t d m.1 dec).0 ∙ l))
       inner_stage_at q t d p j dec l by (inr m) = grind (arith, (positions_of law).inner_stage q t d p j m.1 dec l by, at_o law can j)
 
       own_at : (q : Key) (t : Router) (d : LinkEnd) (j : ℕ) → t.outward.decaying ≡ Some d → d.link ≡ Central j → d.side ≡ proxy_side h j →
-          Split q t → router_at w q ≡ Some t
+          OneOrBefore w k x q t → router_at w q ≡ Some t
       own_at q t d j dec l s (inl m) = let same : o ≡ j = central_is o j (sym (x_dec t d m.1 dec).0 ∙ l) in
           absurd (no_both_sides (sym (x_dec t d m.1 dec).1 ∙ s ∙ ap (proxy_side h) (sym same) ∙ proxy_is_after law can))
       own_at q t d j dec l s (inr m) = m.1
 
       across_at : (q : Key) (t : Router) (d : LinkEnd) (j : ℕ) → t.outward.decaying ≡ Some d → d.link ≡ Central j →
-          d.side ≡ across_side h j → Split q t → ((x ≡ t) × (o ≡ j)) ⊎ ((nat_eq j o ≡ false) × (router_at w q ≡ Some t))
+          d.side ≡ across_side h j → OneOrBefore w k x q t → ((x ≡ t) × (o ≡ j)) ⊎ ((nat_eq j o ≡ false) × (router_at w q ≡ Some t))
       across_at q t d j dec l s (inl m) = inl (m.1, central_is o j (sym (x_dec t d m.1 dec).0 ∙ l))
       across_at q t d j dec l s (inr m) = go (at_o law can j)
         where

@@ -1,5 +1,5 @@
 -- The router across takes the fresh link: numbers of items, under way and in queues.
-use Rattle.std.specs.Prelude.{◌≡◌, ◌≢◌, ◌⊎◌, ◌<◌, ◌≤◌, ℕ, Bool, true, false, cond, nat_eq, Option, Some, None, option_map, unwrap_or, List}
+use Rattle.std.specs.Prelude.{◌≡◌, ◌≢◌, ◌⊎◌, ◌<◌, ◌≤◌, ℕ, Bool, true, false, cond, nat_eq, Some, None, option_map, unwrap_or, List}
 use Rattle.std.specs.Prelude.{refl}
 use Rattle.std.proofs.Common.{arith, ap, ◌∙◌, sym, inl, inr}
 use Rattle.std.proofs.lemmas.Bool.Decides.{nat_tests}
@@ -28,6 +28,8 @@ use Rattle.ipcz_world.proofs.hands.AcceptBypassViews.{FromAcross, Inward, taken_
 use Rattle.ipcz_world.proofs.hands.AcceptBypassViews.{makes_new, not_from_new, limit, some_grown, opposite-same, not_passed_before}
 use Rattle.ipcz_world.proofs.hands.AcceptBypassViews.{fresh_none, none_before, after_inner, after_old, not_new-old, not_new-inner}
 use Rattle.ipcz_world.proofs.hands.AcceptBypassViews.{view_z_after}
+use Rattle.ipcz_world.specs.Acts.{tells_stop}
+use Rattle.ipcz_world.proofs.facts.Queues.{HasOutQueue, out_queue_of}
 
 module _ {w : World} {b : Books} {g : Records} {from : ℕ} {k : Key} {r : Router} {e : LinkEnd} {o : ℕ} {side : Side} {fresh length : ℕ}
     (law : Sealed w b g) (can : Closed (CanAccept w from k r e o side fresh length)) where
@@ -45,7 +47,7 @@ module _ {w : World} {b : Books} {g : Records} {from : ℕ} {k : Key} {r : Route
   x = accept_bypass r from side fresh length
 
   abbrev sent : Message
-  sent = messages.StopProxying o (opposite side) r.out_queue.current length
+  sent = tells_stop r o side length
 
   abbrev v : World
   v = handed_on w from k x e.other sent
@@ -373,15 +375,6 @@ module _ {w : World} {b : Books} {g : Records} {from : ℕ} {k : Key} {r : Route
       d_is : d ≡ e
       d_is = same_Some _ _ (sym dec ∙ ap (λ c. c.outward.decaying) (sym m) ∙ on law can)
 
-  record Mapped (m : Option Router) (q : Queue Item) : Type 0 where
-    router : Router
-    there : m ≡ Some router
-    queue : router.out_queue ≡ q
-
-  mapped : (m : Option Router) (q : Queue Item) → option_map (λ u. u.out_queue) m ≡ Some q → Mapped m q
-  mapped None q e' = absurd (none-some q e')
-  mapped (Some u) q e' = record { router = u; there = refl; queue = same_Some _ _ e' }
-
   pub fresh_numbers-accept : FreshNumbers v h
   unfolding standing_router
   fresh_numbers-accept = record {
@@ -471,8 +464,8 @@ module _ {w : World} {b : Books} {g : Records} {from : ℕ} {k : Key} {r : Route
               omega (arith, same_Some _ _ (sym f' ∙ after_inner law can), same_number _ _ out)
           go false n (Same e') = let same : IsSameView p.link (opposite p.side) (view v h p.link (opposite p.side))
               (view w g p.link (opposite p.side)) = same_view_at law can p.link (opposite p.side) n in
-              let found : Mapped (standing_router (view w g p.link (opposite p.side))) t'.out_queue =
-              mapped (standing_router (view w g p.link (opposite p.side))) t'.out_queue
+              let found : HasOutQueue (standing_router (view w g p.link (opposite p.side))) t'.out_queue =
+              out_queue_of (standing_router (view w g p.link (opposite p.side))) t'.out_queue
               (sym same.out_queue ∙ ap (option_map (λ u. u.out_queue)) there) in
               omega (
                 arith,

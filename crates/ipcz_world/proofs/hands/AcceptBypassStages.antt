@@ -30,6 +30,7 @@ use Rattle.ipcz_world.proofs.hands.AcceptBypassViews.{makes_new, none_before, no
 use Rattle.ipcz_world.proofs.hands.AcceptBypassNumbers.{router_j, was_proxy, two_of, across_side-after, across_is_after}
 use Rattle.ipcz_world.proofs.hands.AcceptBypassLinks.{known_after, central_is, not_both}
 use Rattle.ipcz_world.proofs.facts.Tests.{nat_eq-itself}
+use Rattle.ipcz_world.specs.Acts.{tells_stop}
 
 module _ {w : World} {b : Books} {g : Records} {from : ℕ} {k : Key} {r : Router} {e : LinkEnd} {o : ℕ} {side : Side} {fresh length : ℕ}
     (law : Sealed w b g) (can : Closed (CanAccept w from k r e o side fresh length)) where
@@ -41,7 +42,7 @@ module _ {w : World} {b : Books} {g : Records} {from : ℕ} {k : Key} {r : Route
   x = accept_bypass r from side fresh length
 
   abbrev sent : Message
-  sent = messages.StopProxying o (opposite side) r.out_queue.current length
+  sent = tells_stop r o side length
 
   abbrev v : World
   v = handed_on w from k x e.other sent

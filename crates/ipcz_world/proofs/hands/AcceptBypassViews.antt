@@ -29,6 +29,7 @@ use Rattle.ipcz_world.proofs.hands.AcceptBypassAround.{by_o, fresh_awaited, fres
 use Rattle.ipcz_world.proofs.hands.AcceptBypassAround.{none_inner, y_out, y_in}
 use Rattle.ipcz_world.proofs.flows.Awaited.{no_router}
 use Rattle.ipcz_world.proofs.facts.Tests.{nat_eq-itself}
+use Rattle.ipcz_world.specs.Acts.{tells_stop}
 
 module _ {w : World} {b : Books} {g : Records} {from : ℕ} {k : Key} {r : Router} {e : LinkEnd} {o : ℕ} {side : Side} {fresh length : ℕ}
     (law : Sealed w b g) (can : Closed (CanAccept w from k r e o side fresh length)) where
@@ -43,7 +44,7 @@ module _ {w : World} {b : Books} {g : Records} {from : ℕ} {k : Key} {r : Route
   x = accept_bypass r from side fresh length
 
   abbrev sent : Message
-  sent = messages.StopProxying o (opposite side) r.out_queue.current length
+  sent = tells_stop r o side length
 
   abbrev v : World
   v = handed_on w from k x e.other sent

@@ -12,7 +12,7 @@ use Rattle.ipcz_world.proofs.Vocabulary.{side_end, bypass_of, proxy_side, across
 use Rattle.ipcz_world.proofs.Vocabulary.{IsRecorded, inner_of, bypass_peer}
 use Rattle.ipcz_base.specs.declared.message.Message.TheVariants as messages
 use Rattle.ipcz_world.specs.declared.mail.Mail.TheVariants as mails
-use Rattle.ipcz_world.proofs.frames.Frames.{same_key_tells, same_key-itself}
+use Rattle.ipcz_world.proofs.frames.Frames.{same_key-itself}
 use Rattle.ipcz_world.specs.Records.{key_at}
 use Rattle.ipcz_world.proofs.weights.OfRecords.{source}
 use Rattle.ipcz_world.proofs.frames.RecordRules.{side_node-central, bypass_of-inner, is_recorded-central}
@@ -27,6 +27,7 @@ use Rattle.ipcz_world.proofs.facts.Lengths.{side_is, same_side-itself, same_side
 use Rattle.ipcz_world.proofs.facts.Lengths.{is_attached-central, view-standing, view-awaited}
 use Rattle.ipcz_world.proofs.hands.BypassAsked.{asked_router, IsPeered, peered}
 use Rattle.ipcz_world.proofs.frames.Sealing.{Sealed, Closed, opened, counts_of, links_of, positions_of, stages_of, told_of, bypasses_of}
+use Rattle.ipcz_world.proofs.frames.Frames.{OneOrBefore, one_or_before}
 
 -- weighs a BypassPeer that names a central link
 unfoldable pub central_peer : Message → ℕ
@@ -326,16 +327,8 @@ module _ {w : World} {b : Books} {g : Records} {from : ℕ} {k : Key} {r : Route
   pub view_beyond : view v h (Central fresh) (opposite r.end.side) ≡ Awaited
   view_beyond = view-awaited v h fresh (opposite r.end.side) beyond_none
 
-  abbrev Split : Key → Router → Type 0
-  Split q t = ((q ≡ k) × (x ≡ t)) ⊎ ((same_key q k ≡ false) × (router_at w q ≡ Some t))
-
-  pub split : (q : Key) (t : Router) → router_at v q ≡ Some t → Split q t
-  split q t m = go (same_key_tells q k)
-    where
-      go : ((same_key q k ≡ true) × (q ≡ k)) ⊎ ((same_key q k ≡ false) × (q ≢ k)) →
-          ((q ≡ k) × (x ≡ t)) ⊎ ((same_key q k ≡ false) × (router_at w q ≡ Some t))
-      go (inl n) = inl (n.1, same_Some x t (sym (rw n.0 at (router_j q)) ∙ m))
-      go (inr n) = inr (n.0, sym (rw n.0 at (router_j q)) ∙ m)
+  pub split : (q : Key) (t : Router) → router_at v q ≡ Some t → OneOrBefore w k x q t
+  split q t e = one_or_before w v k x router_j q t e
 
   pub was_router : (q : Key) (t : Router) → router_at v q ≡ Some t → WasLike w q t
   was_router = was_like changed like refl

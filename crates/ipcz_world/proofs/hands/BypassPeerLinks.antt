@@ -19,6 +19,7 @@ use Rattle.ipcz_world.proofs.hands.BypassPeerAround.{fresh_live, at_o, stage_at,
 use Rattle.ipcz_world.proofs.hands.BypassPeerAround.{proxy_side_same, across_side_same, same_bypass, bypass_same, split, was_router}
 use Rattle.ipcz_world.proofs.hands.BypassPeerAround.{rec_kept, new_recorded}
 use Rattle.ipcz_world.proofs.frames.Unmoved.{WasLike}
+use Rattle.ipcz_world.proofs.frames.Frames.{OneOrBefore}
 
 module _ {w : World} {b : Books} {g : Records} {from : ℕ} {k : Key} {r : Router} {o : ℕ} {link : LinkId} {side : Side}
     {target fresh : ℕ} (law : Sealed w b g) (can : Closed (CanPeer w from k r o link side target fresh)) where
@@ -37,9 +38,6 @@ module _ {w : World} {b : Books} {g : Records} {from : ℕ} {k : Key} {r : Route
 
   abbrev h : Records
   h = taken_records g k r o fresh target
-
-  abbrev Split : Key → Router → Type 0
-  Split q t = ((q ≡ k) × (x ≡ t)) ⊎ ((same_key q k ≡ false) × (router_at w q ≡ Some t))
 
   pub links-peer : Links v h
   unfolding is_outward
@@ -67,11 +65,11 @@ module _ {w : World} {b : Books} {g : Records} {from : ℕ} {k : Key} {r : Route
         (links_of law).inward_decaying_inward q c.router d c.here_before (ap (λ u. (unwrap_or u no_edge).decaying) (sym c.inward) ∙ p);
   }
     where
-      primary_at : (q : Key) (t : Router) (d : LinkEnd) → t.outward.primary ≡ Some d → Split q t → IsRecorded v h q t d
+      primary_at : (q : Key) (t : Router) (d : LinkEnd) → t.outward.primary ≡ Some d → OneOrBefore w k x q t → IsRecorded v h q t d
       primary_at q t d p (inl m) = rw (m.0, ← m.1) (new_recorded law can d (same_Some _ _ (sym p ∙ ap (λ c. c.outward.primary) (sym m.1))))
       primary_at q t d p (inr m) = rec_kept law can q t t d refl ((links_of law).primary q t d m.1 p)
 
-      decaying_at : (q : Key) (t : Router) (d : LinkEnd) → t.outward.decaying ≡ Some d → Split q t → IsRecorded v h q t d
+      decaying_at : (q : Key) (t : Router) (d : LinkEnd) → t.outward.decaying ≡ Some d → OneOrBefore w k x q t → IsRecorded v h q t d
       decaying_at q t d p (inl m) = rw (m.0, ← m.1) (rec_kept law can k r x d refl
           ((links_of law).primary k r d (here law can) (ap (λ c. c.outward.decaying) m.1 ∙ p)))
       decaying_at q t d p (inr m) = rec_kept law can q t t d refl ((links_of law).decaying q t d m.1 p)
@@ -172,19 +170,19 @@ module _ {w : World} {b : Books} {g : Records} {from : ℕ} {k : Key} {r : Route
   }
     where
       primary_old_at : (q : Key) (t : Router) (d : LinkEnd) (j : ℕ) → t.outward.primary ≡ Some d → d.link ≡ Central j →
-          is_begun (g.bypass j) ≡ true → Split q t → (h.bypass j).stage ≤ 2
+          is_begun (g.bypass j) ≡ true → OneOrBefore w k x q t → (h.bypass j).stage ≤ 2
       primary_old_at q t d j p l n (inl m) =
           absurd (grind (arith, central_is fresh j (sym (x_prim t d m.1 p).0 ∙ l), fresh_live law can, n))
       primary_old_at q t d j p l n (inr m) = grind (arith, stage_at law can j, (positions_of law).primary_old q t d j m.1 p l n)
 
       primary_across_at : (q : Key) (t : Router) (d : LinkEnd) (j : ℕ) → t.outward.primary ≡ Some d → d.link ≡ Central j →
-          is_begun (g.bypass j) ≡ true → Split q t → d.side ≡ across_side g j
+          is_begun (g.bypass j) ≡ true → OneOrBefore w k x q t → d.side ≡ across_side g j
       primary_across_at q t d j p l n (inl m) =
           absurd (grind (arith, central_is fresh j (sym (x_prim t d m.1 p).0 ∙ l), fresh_live law can, n))
       primary_across_at q t d j p l n (inr m) = (positions_of law).primary_across q t d j m.1 p l n
 
       primary_inner_at : (q : Key) (t : Router) (d : LinkEnd) (p : Key) (j : ℕ) → t.outward.primary ≡ Some d → d.link ≡ inner_link p →
-          (g.peripheral p).by ≡ Some j → Split q t → ((nat_eq j o ≡ true) × (j ≡ o)) ⊎ ((nat_eq j o ≡ false) × (j ≢ o)) →
+          (g.peripheral p).by ≡ Some j → OneOrBefore w k x q t → ((nat_eq j o ≡ true) × (j ≡ o)) ⊎ ((nat_eq j o ≡ false) × (j ≢ o)) →
           (h.bypass j).stage ≡ 1
       primary_inner_at q t d p j m l n (inl c) a = absurd (central_not_inner law can fresh p (sym (x_prim t d c.1 m).0 ∙ l))
       primary_inner_at q t d p j m l n (inr c) (inl a) = absurd (inner_alone q t d c.0 ((links_of law).primary q t d c.1 m)
@@ -192,7 +190,7 @@ module _ {w : World} {b : Books} {g : Records} {from : ℕ} {k : Key} {r : Route
           (outward_b d p l ((links_of law).primary_outward q t d c.1 m)))
       primary_inner_at q t d p j m l n (inr c) (inr a) = rw a.0 ((positions_of law).primary_inner q t d p j c.1 m l n)
 
-      decaying_at : (q : Key) (t : Router) (d : LinkEnd) → t.outward.decaying ≡ Some d → Split q t → is_some (bypass_of g d.link) ≡ true
+      decaying_at : (q : Key) (t : Router) (d : LinkEnd) → t.outward.decaying ≡ Some d → OneOrBefore w k x q t → is_some (bypass_of g d.link) ≡ true
       decaying_at q t d p (inl m) = ap (λ l. is_some (bypass_of g l)) (x_dec t d m.1 p).0 ∙ ap is_some
           (bypass_of-inner g (g.bypass o).inner ∙ by_o law can)
       decaying_at q t d p (inr m) = (positions_of law).decaying q t d m.1 p
@@ -204,7 +202,7 @@ module _ {w : World} {b : Books} {g : Records} {from : ℕ} {k : Key} {r : Route
           (inner_is (g.bypass o).inner p (sym (x_dec t d c m).0 ∙ l)) ∙ n)
 
       inner_stage_at : (q : Key) (t : Router) (d : LinkEnd) (p : Key) (j : ℕ) → t.outward.decaying ≡ Some d → d.link ≡ inner_link p →
-          (g.peripheral p).by ≡ Some j → Split q t → 2 ≤ (h.bypass j).stage
+          (g.peripheral p).by ≡ Some j → OneOrBefore w k x q t → 2 ≤ (h.bypass j).stage
       inner_stage_at q t d p j m l n (inl c) = let same : o ≡ j = is_o t d p j c.1 m l n in
           grind (arith, stage_at law can j, same, itself law can o)
       inner_stage_at q t d p j m l n (inr c) = grind (arith, stage_at law can j, (positions_of law).inner_stage q t d p j c.1 m l n)
@@ -215,7 +213,7 @@ module _ {w : World} {b : Books} {g : Records} {from : ℕ} {k : Key} {r : Route
           omega (arith, s, ap (λ i. (g.bypass i).stage) a, (is law can).stage)
 
       inner_to_at : (q : Key) (t : Router) (d : LinkEnd) (p : Key) (j : ℕ) → t.outward.decaying ≡ Some d → d.link ≡ inner_link p →
-          (g.peripheral p).by ≡ Some j → Split q t → ((nat_eq j o ≡ true) × (j ≡ o)) ⊎ ((nat_eq j o ≡ false) × (j ≢ o)) →
+          (g.peripheral p).by ≡ Some j → OneOrBefore w k x q t → ((nat_eq j o ≡ true) × (j ≡ o)) ⊎ ((nat_eq j o ≡ false) × (j ≢ o)) →
           t.outward.length_to ≡ Some (h.bypass j).taken_at
       inner_to_at q t d p j m l n (inl c) a = let same : o ≡ j = is_o t d p j c.1 m l n in
           let known' : (h.bypass o).taken_at ≡ r.out_queue.current = rw (itself law can o) refl in
@@ -224,7 +222,7 @@ module _ {w : World} {b : Books} {g : Records} {from : ℕ} {k : Key} {r : Route
       inner_to_at q t d p j m l n (inr c) (inr a) = (positions_of law).inner_to q t d p j c.1 m l n ∙ ap Some (sym (taken_same j a.0))
 
       inner_from_at : (q : Key) (t : Router) (d : LinkEnd) (p : Key) (j : ℕ) → t.outward.decaying ≡ Some d → d.link ≡ inner_link p →
-          (g.peripheral p).by ≡ Some j → Split q t → ((nat_eq j o ≡ true) × (j ≡ o)) ⊎ ((nat_eq j o ≡ false) × (j ≢ o)) →
+          (g.peripheral p).by ≡ Some j → OneOrBefore w k x q t → ((nat_eq j o ≡ true) × (j ≡ o)) ⊎ ((nat_eq j o ≡ false) × (j ≢ o)) →
           t.outward.length_from ≡ known_from 5 (h.bypass j).stage (h.bypass j).accepted_at
       inner_from_at q t d p j m l n (inl c) a = let same : o ≡ j = is_o t d p j c.1 m l n in
           ap (λ u. u.outward.length_from) (sym c.1) ∙ sym (ap (λ i. known_from 5 (h.bypass i).stage (h.bypass i).accepted_at) (sym same) ∙
@@ -234,14 +232,14 @@ module _ {w : World} {b : Books} {g : Records} {from : ℕ} {k : Key} {r : Route
           (ap (known_from 5 (h.bypass j).stage) (accepted_same law can j) ∙ known5 j (g.bypass j).accepted_at)
 
       inner_fresh_at : (q : Key) (t : Router) (d : LinkEnd) (p : Key) (j : ℕ) → t.outward.decaying ≡ Some d → d.link ≡ inner_link p →
-          (g.peripheral p).by ≡ Some j → Split q t → link_in t.outward.primary ≡ Some (Central (h.bypass j).fresh)
+          (g.peripheral p).by ≡ Some j → OneOrBefore w k x q t → link_in t.outward.primary ≡ Some (Central (h.bypass j).fresh)
       inner_fresh_at q t d p j m l n (inl c) = let same : o ≡ j = is_o t d p j c.1 m l n in
           sym (ap (λ u. link_in u.outward.primary) c.1) ∙ ap (λ i. Some (Central i))
           ((is law can).on_word ∙ ap (λ i. (g.bypass i).fresh) same ∙ sym (fresh_same law can j))
       inner_fresh_at q t d p j m l n (inr c) = (positions_of law).inner_fresh q t d p j c.1 m l n ∙ ap (λ i. Some (Central i))
           (sym (fresh_same law can j))
 
-      own_at : (q : Key) (t : Router) (d : LinkEnd) (j : ℕ) → t.outward.decaying ≡ Some d → d.link ≡ Central j → Split q t →
+      own_at : (q : Key) (t : Router) (d : LinkEnd) (j : ℕ) → t.outward.decaying ≡ Some d → d.link ≡ Central j → OneOrBefore w k x q t →
           router_at w q ≡ Some t
       own_at q t d j m l (inl c) = absurd (central_not_inner law can j (g.bypass o).inner (sym l ∙ (x_dec t d c.1 m).0))
       own_at q t d j m l (inr c) = c.1

@@ -5,7 +5,7 @@ use Rattle.std.proofs.Common.{arith, ap, ◌∙◌, sym, inl, inr}
 use Rattle.std.proofs.lemmas.Bool.Decides.{nat_tests}
 use Rattle.std.proofs.lemmas.Option.{none-some, same_Some}
 use Rattle.ipcz_world.proofs.Vocabulary.{Side, A, B, LinkId, Central, Peripheral, LinkEnd, Item, Message, opposite, same_side, same_link}
-use Rattle.ipcz_world.proofs.Vocabulary.{Queue, item_at, Router, inward_edge, World, Key, same_key, router_at, Books, Records, is_begun}
+use Rattle.ipcz_world.proofs.Vocabulary.{Queue, item_at, Router, inward_edge, World, Key, router_at, Books, Records, is_begun}
 use Rattle.ipcz_world.proofs.Vocabulary.{is_linked, is_recorded, inner_link, across_side, known_from, side_length, is_gone, Standing}
 use Rattle.ipcz_world.proofs.Vocabulary.{view, next_sent, taking_queue, sending_queue, fed_queue, has_inward_decaying, IsUnderWay, makes}
 use Rattle.ipcz_world.proofs.Vocabulary.{is_made_before, inner_of, Items, Order, ProxyNumbers, FreshNumbers, has_passed, standing_router}
@@ -28,6 +28,8 @@ use Rattle.ipcz_world.proofs.hands.BypassPeerAround.{is_begun_same, proxy_same, 
 use Rattle.ipcz_world.proofs.hands.BypassPeerAround.{across_side_same, central_same, same_bypass, begun_apart, apart, node_same}
 use Rattle.ipcz_world.proofs.hands.BypassPeerAround.{recorded_more, recorded_back, view_same, view_beyond, split, was_router}
 use Rattle.ipcz_world.proofs.hands.BypassPeerLinks.{x_dec, taken_same, outward_b}
+use Rattle.ipcz_world.proofs.facts.Queues.{HasOutQueue, out_queue_of}
+use Rattle.ipcz_world.proofs.frames.Frames.{OneOrBefore}
 
 module _ {w : World} {b : Books} {g : Records} {from : ℕ} {k : Key} {r : Router} {o : ℕ} {link : LinkId} {side : Side}
     {target fresh : ℕ} (law : Sealed w b g) (can : Closed (CanPeer w from k r o link side target fresh)) where
@@ -50,9 +52,6 @@ module _ {w : World} {b : Books} {g : Records} {from : ℕ} {k : Key} {r : Route
   -- links that have a record aren't the fresh one
   abbrev Apart : LinkId → Type 0
   Apart l = same_link l (Central fresh) ≡ false
-
-  abbrev Split : Key → Router → Type 0
-  Split q t = ((q ≡ k) × (x ≡ t)) ⊎ ((same_key q k ≡ false) × (router_at w q ≡ Some t))
 
   pub was_message : (a c i : ℕ) (m : Message) → (m ≡ sent → ⊥) → IsUnderWay v a c i m → IsUnderWay w a c (place_before from k.node a c i) m
   was_message a c i m new u = go (was_under_way w from k x target sent came a c i m (on_node law can) (in_hand law can) u)
@@ -362,7 +361,7 @@ module _ {w : World} {b : Books} {g : Records} {from : ℕ} {k : Key} {r : Route
           rw c ((proxy_numbers_of law).inner_gone j t m (rw c at l) (sym (view_same law can (inner_of g j) B refl).gone ∙ n'))
 
       out_finished_at : (j : ℕ) (t : Router) → router_at v (g.bypass j).proxy ≡ Some t → 4 ≤ (h.bypass j).stage →
-          t.outward.decaying ≡ None → nat_eq j o ≡ false → Split (g.bypass j).proxy t → (h.bypass j).taken_at ≤ t.out_queue.current
+          t.outward.decaying ≡ None → nat_eq j o ≡ false → OneOrBefore w k x (g.bypass j).proxy t → (h.bypass j).taken_at ≤ t.out_queue.current
       out_finished_at j t m l n c (inl a) = absurd (grind (arith, on law can, ap (λ q. q.outward.decaying) a.1 ∙ n))
       out_finished_at j t m l n c (inr a) = rw c ((proxy_numbers_of law).out_finished j t a.1 (rw c at l) n)
 
@@ -376,15 +375,6 @@ module _ {w : World} {b : Books} {g : Records} {from : ℕ} {k : Key} {r : Route
   unknown : side_length h (inner_of g o) A ≡ None
   unknown = length-proxy h (g.bypass o).inner o (by_o law can) ∙ rw stage_after (known_from-no 3 2 (h.bypass o).accepted_at (omega arith))
 
-  record Mapped (m : Option Router) (q : Queue Item) : Type 0 where
-    router : Router
-    there : m ≡ Some router
-    queue : router.out_queue ≡ q
-
-  mapped : (m : Option Router) (q : Queue Item) → option_map (λ u. u.out_queue) m ≡ Some q → Mapped m q
-  mapped None q m = absurd (none-some q m)
-  mapped (Some u) q m = record { router = u; there = refl; queue = same_Some _ _ m }
-
   pub fresh_numbers-peer : FreshNumbers v h
   fresh_numbers-peer = record {
     own = λ q t p d len a prim dec f. own_at q t p d len prim dec f (split law can q t a);
@@ -395,7 +385,7 @@ module _ {w : World} {b : Books} {g : Records} {from : ℕ} {k : Key} {r : Route
   }
     where
       own_at : (q : Key) (t : Router) (p d : LinkEnd) (len : ℕ) → t.outward.primary ≡ Some p → t.outward.decaying ≡ Some d →
-          t.outward.length_to ≡ Some len → Split q t → len ≤ t.out_queue.current
+          t.outward.length_to ≡ Some len → OneOrBefore w k x q t → len ≤ t.out_queue.current
       own_at q t p d len prim dec f (inl m) = omega (
         arith,
         same_Some _ _ (sym f ∙ ap (λ u. u.outward.length_to) (sym m.1)),
@@ -420,7 +410,7 @@ module _ {w : World} {b : Books} {g : Records} {from : ℕ} {k : Key} {r : Route
 
       comes_at : (q : Key) (t : Router) (p d : LinkEnd) (len a' c i n : ℕ) (item : Item) (moves : List Descriptor) →
           t.outward.primary ≡ Some p → t.outward.decaying ≡ Some d → side_length h d.link (opposite d.side) ≡ Some len →
-          IsUnderWay v a' c i (messages.Item p.link p.side n item moves) → Split q t → Grown d.link (opposite d.side) → len ≤ n
+          IsUnderWay v a' c i (messages.Item p.link p.side n item moves) → OneOrBefore w k x q t → Grown d.link (opposite d.side) → len ≤ n
       comes_at q t p d len a' c i n item moves prim dec f u (inl m) gr = absurd (not_x t d len m.1 dec f)
       comes_at q t p d len a' c i n item moves prim dec f u (inr m) (Same s) =
           (fresh_numbers_of law).comes q t p d len a' c (before a' c i) n item moves m.1 prim dec (sym s ∙ f)
@@ -429,12 +419,12 @@ module _ {w : World} {b : Books} {g : Records} {from : ℕ} {k : Key} {r : Route
 
       other_at : (q : Key) (t t' : Router) (p d : LinkEnd) (len : ℕ) → t.outward.primary ≡ Some p → t.outward.decaying ≡ Some d →
           side_length h d.link (opposite d.side) ≡ Some len → standing_router (view v h p.link (opposite p.side)) ≡ Some t' →
-          Split q t → Grown d.link (opposite d.side) → len ≤ t'.out_queue.current
+          OneOrBefore w k x q t → Grown d.link (opposite d.side) → len ≤ t'.out_queue.current
       other_at q t t' p d len prim dec f there (inl m) gr = absurd (not_x t d len m.1 dec f)
       other_at q t t' p d len prim dec f there (inr m) (Same s) =
           let same : IsSameView p.link (opposite p.side) (view v h p.link (opposite p.side)) (view w g p.link (opposite p.side)) =
           view_same law can p.link (opposite p.side) (apart law can p.link (((links_of law).primary q t p m.1 prim).recorded)) in
-          let found : Mapped (standing_router (view w g p.link (opposite p.side))) t'.out_queue =
-          mapped _ _ (sym same.out_queue ∙ ap (option_map (λ u. u.out_queue)) there) in
+          let found : HasOutQueue (standing_router (view w g p.link (opposite p.side))) t'.out_queue =
+          out_queue_of _ _ (sym same.out_queue ∙ ap (option_map (λ u. u.out_queue)) there) in
           omega (arith, (fresh_numbers_of law).other q t found.router p d len m.1 prim dec (sym s ∙ f) found.there, cur found.queue)
       other_at q t t' p d len prim dec f there (inr m) (Inward l s un z) = absurd (not_inward q t d m.1 dec l s)

@@ -11,7 +11,6 @@ use Rattle.ipcz_world.proofs.Vocabulary.{has_primary, has_decaying, has_inward_d
 use Rattle.ipcz_world.proofs.facts.Lengths.{HasEnd, has_link-tells}
 use Rattle.ipcz_base.specs.declared.message.Message.TheVariants as messages
 use Rattle.ipcz_edge.specs.Edge.{edge_decays}
-use Rattle.ipcz_router.specs.Router.{rouse}
 use Rattle.ipcz_router.specs.Bypass.{accept_message, accept_bypass, stop_message, stop_proxying, will_stop_message}
 use Rattle.ipcz_router.specs.Bypass.{proxy_will_stop, decays_unknown}
 use Rattle.ipcz_node.specs.Node.{link_router, is_named, on_found, push_out}
@@ -28,6 +27,8 @@ use Rattle.ipcz_world.proofs.lawful.LinkLaws.{Passes, passes-at}
 use Rattle.ipcz_world.proofs.lawful.WordLaws.{HasAt, has_at}
 use Rattle.ipcz_world.proofs.lawful.StrayLaws.{stray_law}
 use Rattle.ipcz_world.proofs.acts.Updating.{push-set_node, freed, handed-is}
+use Rattle.ipcz_node.specs.Hands.{flushed}
+use Rattle.ipcz_world.specs.Acts.{tells_stop}
 
 -- a message is in the hand of a node of the world
 pub record IsInHand (w : World) (n from : ℕ) (m : Message) : Type 0 where
@@ -199,7 +200,7 @@ module _ (w : World) (b : Books) (g : Records) (law : Inv w b g) where
       let fit = accept_fits n from o side fresh length is a.found a.is_found a.can.here a.has in
       let e : HasEnd r.outward.primary (Central o) side = has_link-tells r.outward.primary (Central o) side fit.1 in
       let y = with_router (node_at w n) a.found.serial (accept_bypass r from side fresh length) in
-      let sent = messages.StopProxying o (opposite side) r.out_queue.current length in (
+      let sent = tells_stop r o side length in (
         e.end,
         e.there,
         handed-is w n from m (push_out y e.end.other sent) fit.0
@@ -341,7 +342,7 @@ module _ (w : World) (b : Books) (g : Records) (law : Inv w b g) where
       after_hand w n from (Some (messages.Flush link side)) ≡ flush_act w from (record { node = n; serial = a.found.serial }) a.found.router
   unfolding handle on_found fits
   flush_is n from link side is a = handed-is w n from (messages.Flush link side)
-      (with_router (node_at w n) a.found.serial (rouse a.found.router)) refl (rw (a.is_found) refl) is.hand
+      (with_router (node_at w n) a.found.serial (flushed a.found.router)) refl (rw (a.is_found) refl) is.hand
 
   pub dropped_is : (n from : ℕ) (link : LinkId) (side : Side) → IsInHand w n from (messages.Flush link side) →
       link_router (node_at w n) link side ≡ None → after_hand w n from (Some (messages.Flush link side)) ≡ free w from n

@@ -12,7 +12,7 @@ use Rattle.std.proofs.lemmas.Option.{same_Some}
 use Rattle.ipcz_base.specs.declared.message.Message.TheVariants as messages
 use Rattle.ipcz_router.specs.Bypass.{proxy_will_stop}
 use Rattle.ipcz_world.specs.declared.mail.Mail.TheVariants as mails
-use Rattle.ipcz_world.proofs.frames.Frames.{same_key_tells, same_key-itself}
+use Rattle.ipcz_world.proofs.frames.Frames.{same_key-itself}
 use Rattle.ipcz_world.specs.Remembering.{ended_records}
 use Rattle.ipcz_world.proofs.weights.OfRecords.{in_places}
 use Rattle.ipcz_world.specs.Acts.{CanHand, will_stop_act}
@@ -32,6 +32,7 @@ use Rattle.ipcz_world.proofs.frames.StageFurther.{IsLinkedLike}
 use Rattle.ipcz_world.proofs.frames.Sealing.{Sealed, Closed, opened, counts_of, links_of, positions_of, stands_of, bypasses_of, stages_of}
 use Rattle.ipcz_world.proofs.frames.Sealing.{told_of, proxy_numbers_of, fresh_numbers_of, ordered_of, spares_of, moves_of as moves_law}
 use Rattle.ipcz_world.proofs.frames.Sealing.{terminals_of, end_places_of, books_kept_of, conserved_of, held_once_of, no_strays_of}
+use Rattle.ipcz_world.proofs.frames.Frames.{OneOrBefore, one_or_before}
 
 -- what the hand of the message needs: the router that has the link is asked
 pub record CanEnd (w : World) (g : Records) (from : ℕ) (k : Key) (r : Router) (o : ℕ) (link : LinkId) (side : Side) (length : ℕ) : Type 0
@@ -121,13 +122,8 @@ module _ (w : World) (b : Books) (g : Records) (from : ℕ) (k : Key) (r : Route
   at_o : (j : ℕ) → ((nat_eq j o ≡ true) × (j ≡ o)) ⊎ ((nat_eq j o ≡ false) × (j ≢ o))
   at_o j = grind (arith, nat_tests)
 
-  split : (q : Key) (t : Router) → router_at v q ≡ Some t → ((q ≡ k) × (x ≡ t)) ⊎ ((same_key q k ≡ false) × (router_at w q ≡ Some t))
-  split q t e = go (same_key_tells q k)
-    where
-      go : ((same_key q k ≡ true) × (q ≡ k)) ⊎ ((same_key q k ≡ false) × (q ≢ k)) →
-          ((q ≡ k) × (x ≡ t)) ⊎ ((same_key q k ≡ false) × (router_at w q ≡ Some t))
-      go (inl m) = inl (m.1, same_Some x t (sym (rw m.0 at (changed.router q)) ∙ e))
-      go (inr m) = inr (m.0, sym (rw m.0 at (changed.router q)) ∙ e)
+  split : (q : Key) (t : Router) → router_at v q ≡ Some t → OneOrBefore w k x q t
+  split q t e = one_or_before w v k x changed.router q t e
 
   -- the asked router's decaying link is the inner one
   x_dec : (t : Router) (d : LinkEnd) → x ≡ t → t.outward.decaying ≡ Some d → d.link ≡ inner_of g o
@@ -162,9 +158,6 @@ module _ (w : World) (b : Books) (g : Records) (from : ℕ) (k : Key) (r : Route
     across_from = λ q t d j e m l n. across_from_at q t d j m l n (split q t e);
   }
     where
-      Split : Key → Router → Type 0
-      Split q t = ((q ≡ k) × (x ≡ t)) ⊎ ((same_key q k ≡ false) × (router_at w q ≡ Some t))
-
       inward_to_at : (q : Key) (t : Router) (d : LinkEnd) (j : ℕ) → (inward_edge t).decaying ≡ Some d → g.begun q ≡ Some j →
           ((q ≡ k) × (x ≡ t)) ⊎ ((same_key q k ≡ false) × (router_at w q ≡ Some t)) →
           (inward_edge t).length_to ≡ known_from 4 (g.bypass j).stage (g.bypass j).accepted_at

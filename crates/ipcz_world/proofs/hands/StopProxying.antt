@@ -14,7 +14,7 @@ use Rattle.ipcz_base.specs.declared.message.Message.TheVariants as messages
 use Rattle.ipcz_edge.specs.Edge.{no_edge, set_length_to, set_length_from}
 use Rattle.ipcz_router.specs.Bypass.{stop_proxying}
 use Rattle.ipcz_world.specs.declared.mail.Mail.TheVariants as mails
-use Rattle.ipcz_world.proofs.frames.Frames.{same_key_tells, same_key-itself}
+use Rattle.ipcz_world.proofs.frames.Frames.{same_key-itself}
 use Rattle.ipcz_world.proofs.frames.RecordRules.{bypass_of-inner}
 use Rattle.ipcz_world.specs.Remembering.{told_records}
 use Rattle.ipcz_world.proofs.weights.OfRecords.{in_places}
@@ -34,6 +34,7 @@ use Rattle.ipcz_world.proofs.frames.StageFurther.{IsLinkedLike}
 use Rattle.ipcz_world.proofs.frames.Sealing.{Sealed, Closed, opened, counts_of, links_of, positions_of, bypasses_of, stages_of, told_of}
 use Rattle.ipcz_world.proofs.frames.Sealing.{ordered_of, spares_of, moves_of as moves_law, terminals_of, end_places_of, books_kept_of}
 use Rattle.ipcz_world.proofs.frames.Sealing.{conserved_of, held_once_of, no_strays_of}
+use Rattle.ipcz_world.proofs.frames.Frames.{OneOrBefore, one_or_before}
 
 -- what the hand of the message needs: the router that has the old link is asked; its inward decaying link is e
 pub record CanStop (w : World) (from : ℕ) (k : Key) (r : Router) (e : LinkEnd) (o : ℕ) (side : Side) (in_length out_length : ℕ) : Type 0
@@ -203,13 +204,8 @@ module _ (w : World) (b : Books) (g : Records) (from : ℕ) (k : Key) (r : Route
   at_o : (j : ℕ) → ((nat_eq j o ≡ true) × (j ≡ o)) ⊎ ((nat_eq j o ≡ false) × (j ≢ o))
   at_o j = grind (arith, nat_tests)
 
-  split : (q : Key) (t : Router) → router_at v q ≡ Some t → ((q ≡ k) × (x ≡ t)) ⊎ ((same_key q k ≡ false) × (router_at w q ≡ Some t))
-  split q t m = go (same_key_tells q k)
-    where
-      go : ((same_key q k ≡ true) × (q ≡ k)) ⊎ ((same_key q k ≡ false) × (q ≢ k)) →
-          ((q ≡ k) × (x ≡ t)) ⊎ ((same_key q k ≡ false) × (router_at w q ≡ Some t))
-      go (inl n) = inl (n.1, same_Some x t (sym (rw n.0 at (changed.router q)) ∙ m))
-      go (inr n) = inr (n.0, sym (rw n.0 at (changed.router q)) ∙ m)
+  split : (q : Key) (t : Router) → router_at v q ≡ Some t → OneOrBefore w k x q t
+  split q t e = one_or_before w v k x changed.router q t e
 
   -- the asked router's decaying link is the old one, at the proxy's side
   x_dec : (t : Router) (d : LinkEnd) → x ≡ t → t.outward.decaying ≡ Some d → (d.link ≡ Central o) × (d.side ≡ proxy_side g o)
@@ -235,9 +231,6 @@ module _ (w : World) (b : Books) (g : Records) (from : ℕ) (k : Key) (r : Route
   not_k : (q : Key) → same_key q k ≡ false → q ≡ k → ⊥
   not_k q m n = grind (arith, m, n, same_key-itself k)
 
-  abbrev Split : Key → Router → Type 0
-  Split q t = ((q ≡ k) × (x ≡ t)) ⊎ ((same_key q k ≡ false) × (router_at w q ≡ Some t))
-
   abbrev At : ℕ → Type 0
   At j = ((nat_eq j o ≡ true) × (j ≡ o)) ⊎ ((nat_eq j o ≡ false) × (j ≢ o))
 
@@ -261,7 +254,7 @@ module _ (w : World) (b : Books) (g : Records) (from : ℕ) (k : Key) (r : Route
     across_from = λ q t d j a m l n. (positions_of law).across_from q t d j (across_at q t d j m l n (split q t a)) m l n;
   }
     where
-      inward_to_at : (q : Key) (t : Router) (d : LinkEnd) (j : ℕ) → (inward_edge t).decaying ≡ Some d → g.begun q ≡ Some j → Split q t →
+      inward_to_at : (q : Key) (t : Router) (d : LinkEnd) (j : ℕ) → (inward_edge t).decaying ≡ Some d → g.begun q ≡ Some j → OneOrBefore w k x q t →
           At j → (inward_edge t).length_to ≡ known_from 4 (h.bypass j).stage (g.bypass j).accepted_at
       inward_to_at q t d j p n (inl m) a = let same : o ≡ j = begun_is q j m.0 n in
           ap (λ u. (inward_edge u).length_to) (sym m.1) ∙ (edge_learned r.inward e on).0 ∙ ap Some is.accepted ∙ sym
@@ -269,7 +262,7 @@ module _ (w : World) (b : Books) (g : Records) (from : ℕ) (k : Key) (r : Route
       inward_to_at q t d j p n (inr m) (inl a) = absurd (begun_apart q j m.0 n a.0 a.1)
       inward_to_at q t d j p n (inr m) (inr a) = rw a.0 ((positions_of law).inward_to q t d j m.1 p n)
 
-      inward_from_at : (q : Key) (t : Router) (d : LinkEnd) (j : ℕ) → (inward_edge t).decaying ≡ Some d → g.begun q ≡ Some j → Split q t →
+      inward_from_at : (q : Key) (t : Router) (d : LinkEnd) (j : ℕ) → (inward_edge t).decaying ≡ Some d → g.begun q ≡ Some j → OneOrBefore w k x q t →
           At j → (inward_edge t).length_from ≡ known_from 4 (h.bypass j).stage (g.bypass j).taken_at
       inward_from_at q t d j p n (inl m) a = let same : o ≡ j = begun_is q j m.0 n in
           ap (λ u. (inward_edge u).length_from) (sym m.1) ∙ (edge_learned r.inward e on).1 ∙ ap Some is.taken ∙ sym
@@ -277,13 +270,13 @@ module _ (w : World) (b : Books) (g : Records) (from : ℕ) (k : Key) (r : Route
       inward_from_at q t d j p n (inr m) (inl a) = absurd (begun_apart q j m.0 n a.0 a.1)
       inward_from_at q t d j p n (inr m) (inr a) = rw a.0 ((positions_of law).inward_from q t d j m.1 p n)
 
-      inner_at : (q : Key) (t : Router) (d : LinkEnd) (p : Key) → t.outward.decaying ≡ Some d → d.link ≡ inner_link p → Split q t →
+      inner_at : (q : Key) (t : Router) (d : LinkEnd) (p : Key) → t.outward.decaying ≡ Some d → d.link ≡ inner_link p → OneOrBefore w k x q t →
           router_at w q ≡ Some t
       inner_at q t d p m l (inl c) = absurd (not_both o p (sym (x_dec t d c.1 m).0 ∙ l))
       inner_at q t d p m l (inr c) = c.1
 
       across_at : (q : Key) (t : Router) (d : LinkEnd) (j : ℕ) → t.outward.decaying ≡ Some d → d.link ≡ Central j →
-          d.side ≡ across_side g j → Split q t → router_at w q ≡ Some t
+          d.side ≡ across_side g j → OneOrBefore w k x q t → router_at w q ≡ Some t
       across_at q t d j m l n (inl c) = let same : o ≡ j = central_is o j (sym (x_dec t d c.1 m).0 ∙ l) in
           absurd (sides_differ (proxy_side g o) (sym (x_dec t d c.1 m).1 ∙ n ∙ ap (across_side g) (sym same)))
       across_at q t d j m l n (inr c) = c.1
@@ -294,7 +287,7 @@ module _ (w : World) (b : Books) (g : Records) (from : ℕ) (k : Key) (r : Route
           proxy_is)
 
       own_to_at : (q : Key) (t : Router) (d : LinkEnd) (j : ℕ) → t.outward.decaying ≡ Some d → d.link ≡ Central j →
-          d.side ≡ proxy_side g j → Split q t → At j → t.outward.length_to ≡ known_from 4 (h.bypass j).stage (g.bypass j).taken_at
+          d.side ≡ proxy_side g j → OneOrBefore w k x q t → At j → t.outward.length_to ≡ known_from 4 (h.bypass j).stage (g.bypass j).taken_at
       own_to_at q t d j m l n (inl c) a = let same : o ≡ j = central_is o j (sym (x_dec t d c.1 m).0 ∙ l) in
           ap (λ u. u.outward.length_to) (sym c.1) ∙ ap Some is.taken ∙ sym (known4 (g.bypass o).taken_at) ∙ ap
           (λ i. known_from 4 (h.bypass i).stage (g.bypass i).taken_at) same
@@ -302,7 +295,7 @@ module _ (w : World) (b : Books) (g : Records) (from : ℕ) (k : Key) (r : Route
       own_to_at q t d j m l n (inr c) (inr a) = rw a.0 ((positions_of law).own_to q t d j c.1 m l n)
 
       own_from_at : (q : Key) (t : Router) (d : LinkEnd) (j : ℕ) → t.outward.decaying ≡ Some d → d.link ≡ Central j →
-          d.side ≡ proxy_side g j → Split q t → At j → t.outward.length_from ≡ known_from 4 (h.bypass j).stage (g.bypass j).accepted_at
+          d.side ≡ proxy_side g j → OneOrBefore w k x q t → At j → t.outward.length_from ≡ known_from 4 (h.bypass j).stage (g.bypass j).accepted_at
       own_from_at q t d j m l n (inl c) a = let same : o ≡ j = central_is o j (sym (x_dec t d c.1 m).0 ∙ l) in
           ap (λ u. u.outward.length_from) (sym c.1) ∙ ap Some is.accepted ∙ sym (known4 (g.bypass o).accepted_at) ∙ ap
           (λ i. known_from 4 (h.bypass i).stage (g.bypass i).accepted_at) same

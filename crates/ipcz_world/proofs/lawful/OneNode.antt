@@ -14,7 +14,6 @@ use Rattle.ipcz_base.specs.declared.parcel.Parcel as parcels
 use Rattle.ipcz_base.specs.declared.message.Message.TheVariants as messages
 use Rattle.ipcz_base.specs.Ends.{end_at}
 use Rattle.ipcz_edge.specs.Edge.{choose, is_short_of, edge_decays}
-use Rattle.ipcz_router.specs.Router.{rouse}
 use Rattle.ipcz_router.specs.declared.sending.Sending.{Sending}
 use Rattle.ipcz_router.specs.Bypass.{accept_message, accept_bypass, stop_proxying, proxy_will_stop, stop_message}
 use Rattle.ipcz_router.specs.Bypass.{will_stop_message}
@@ -40,6 +39,7 @@ use Rattle.ipcz_world.proofs.sends.Moved.{passes_tells}
 use Rattle.ipcz_world.proofs.runs.NodeSteps.{IsKept}
 use Rattle.ipcz_world.proofs.lawful.Quiet.{key_of}
 use Rattle.ipcz_world.proofs.facts.Tests.{some_is}
+use Rattle.ipcz_node.specs.Hands.{flushed}
 
 -- the world has one node, and no serial of a peripheral link was taken
 pub record IsAlone (w : World) : Type 0 where
@@ -212,7 +212,7 @@ handle-serial n sender (messages.ProxyWillStop link side in_length) law = go (li
     go (Some f) = law
 handle-serial n sender (messages.Flush link side) law = go (link_router n link side)
   where
-    go : (o : Option Found) → HasNone (on_found n o (λ s r. with_router n s (rouse r)))
+    go : (o : Option Found) → HasNone (on_found n o (λ s r. with_router n s (flushed r)))
     go None = law
     go (Some f) = law
 

@@ -5,9 +5,6 @@ use Rattle.std.proofs.Common.{arith, ap, sym, ◌∙◌, subst, inl, inr}
 use Rattle.std.proofs.lemmas.Bool.Decides.{nat_tests}
 use Rattle.std.proofs.lemmas.Bool.{or_left}
 use Rattle.std.proofs.lemmas.Option.{same_Some}
-use Rattle.std.specs.Ordering.{nat_cmp}
-use Rattle.std.specs.Cmp.{nat_cmp_total}
-use Rattle.std.specs.FinMap.{get-insert, get-remove}
 use Rattle.ipcz_world.proofs.facts.Tests.{false-true, or_second}
 use Rattle.ipcz_world.proofs.Vocabulary.{Side, A, B, End, LinkId, Central, Peripheral, LinkEnd, Descriptor, Item, Message, is_central, has_link}
 use Rattle.ipcz_world.proofs.Vocabulary.{word_of, place_at, Edge, Router, inward_edge, primary_word, from_descriptor, bypass_peer, is_terminal}
@@ -17,7 +14,7 @@ use Rattle.ipcz_base.specs.declared.parcel.Parcel as parcels
 use Rattle.ipcz_base.specs.declared.item.Item.TheVariants.{Parcel}
 use Rattle.ipcz_base.specs.declared.message.Message.TheVariants as messages
 use Rattle.ipcz_base.specs.Links.{central_end}
-use Rattle.ipcz_router.specs.Router.{outward_has, inward_has, decays, rouse}
+use Rattle.ipcz_router.specs.Router.{outward_has, inward_has, decays}
 use Rattle.ipcz_router.specs.Calls.{accept, take_item, put_item, extend}
 use Rattle.ipcz_router.specs.Closing.{close_router}
 use Rattle.ipcz_router.specs.Bypass.{accept_message, accept_bypass, stop_proxying, proxy_will_stop, stop_message, will_stop_message}
@@ -41,6 +38,8 @@ use Rattle.ipcz_world.proofs.facts.Tests.{and_first, and_second}
 use Rattle.ipcz_world.proofs.owed.Following.{Follows, follows-itself, IsLeft, follows-left, IsAside, follows-aside, on-central}
 use Rattle.ipcz_world.proofs.owed.Going.{IsNew, IsOff, IsCounted, Changes, Goes, changes-itself, changes-else, changes-with, changes-without}
 use Rattle.ipcz_world.proofs.owed.Going.{changes-push, changes-tell, goes-by, goes-add}
+use Rattle.ipcz_world.specs.World.{has_unclaimed_word}
+use Rattle.ipcz_node.specs.Hands.{flushed}
 
 -- whether an act changes the word of its router's link
 unfoldable pub is_wordy : RouterAct → Bool
@@ -211,7 +210,7 @@ module _ (i : ℕ) (held : Bool) where
   follows-claim : (number base : ℕ) (w : World) (r : Router) → is_possible r acts.Claim ≡ true →
       Follows i held number base r (apply r acts.Claim (answer_of w r acts.Claim))
   unfolding answer_of apply is_possible
-  follows-claim number base w r possible = go (nat_lt w.claimed w.size)
+  follows-claim number base w r possible = go (has_unclaimed_word w)
     where
       go : (c : Bool) → Follows i held number base r (apply r acts.Claim (if c then answers.Claimed w.claimed else answers.NoWord))
       go true = record {
@@ -581,9 +580,9 @@ module _ (i : ℕ) (held : Bool) where
           (told-changes n f.serial f.router (proxy_will_stop f.router in_length) (found_tells n _ f e).0 (left f.router))
   handle-goes n sender (messages.Flush link side) counted held_ h = go (link_router n link side) refl
     where
-      go : (o : Option Found) → link_router n link side ≡ o → Goes i held n (on_found n o (λ s r. with_router n s (rouse r)))
+      go : (o : Option Found) → link_router n link side ≡ o → Goes i held n (on_found n o (λ s r. with_router n s (flushed r)))
       go None e = goes-by i held n n (changes-itself i held n)
-      go (Some f) e = goes-by i held n _ (told-changes n f.serial f.router (rouse f.router) (found_tells n _ f e).0
+      go (Some f) e = goes-by i held n _ (told-changes n f.serial f.router (flushed f.router) (found_tells n _ f e).0
           (roused f.router _ refl refl refl refl refl refl refl refl))
 
   -- a message is delivered

@@ -1,5 +1,5 @@
 -- Each act of a router leaves a waker to who has tried, and keeps ranks.
-use Rattle.std.specs.Prelude.{◌≡◌, ◌<◌, ℕ, suc, ◌+◌, Bool, true, false, cond, nat_eq, nat_lt, if◌then◌else◌}
+use Rattle.std.specs.Prelude.{◌≡◌, ◌<◌, ℕ, suc, ◌+◌, Bool, true, false, cond, nat_eq, if◌then◌else◌}
 use Rattle.std.specs.Prelude.{Option, Some, None, List, [], ◌∷◌, ◌++◌, slice_get, refl}
 use Rattle.std.proofs.Common.{arith, ap, sym, ◌∙◌, subst, inl, inr}
 use Rattle.std.proofs.lemmas.Bool.Decides.{nat_tests}
@@ -11,7 +11,7 @@ use Rattle.ipcz_world.proofs.Vocabulary.{RouterAct, Node, outbox, commit, router
 use Rattle.ipcz_world.proofs.Vocabulary.{set_router, side_node, IsRecorded}
 use Rattle.ipcz_base.specs.declared.message.Message.TheVariants as messages
 use Rattle.ipcz_base.proofs.Indexed.{place_at-put_place}
-use Rattle.ipcz_word.specs.Word.{is_held, mark, wake, lock, wait, unlock, Plan, Locks, Waits, Refuses, plan_of}
+use Rattle.ipcz_word.specs.Word.{is_held, mark, lock, wait, unlock, Plan, Locks, Waits, Refuses, plan_of}
 use Rattle.ipcz_router.specs.ActTable.{is_rest, may_take}
 use Rattle.ipcz_router.specs.ActEffects.{mark_side, wake_other, take_lock, fail_lock, drop_lock}
 use Rattle.ipcz_router.specs.declared.act.RouterAct.TheVariants as acts
@@ -37,6 +37,9 @@ use Rattle.ipcz_world.proofs.owed.Acting.{is_wordy, is_begin, act-changes}
 use Rattle.ipcz_world.proofs.owed.Moving.{Stays, Never, stays-node}
 use Rattle.ipcz_world.proofs.owed.Tracking.{tracks-node, KeepsFlush, HaveWakersOn, wakers-tracked, ranked-tracked, held-is}
 use Rattle.ipcz_world.proofs.owed.WordWakers.{IsOnWord, wakers-mark, wakers-locked, wakers-waits, wakers-refused, wakers-unlock, wakers-wake}
+use Rattle.ipcz_world.specs.World.{has_unclaimed_word}
+use Rattle.ipcz_world.specs.WordAnswers.{tells_waiting, woken}
+use Rattle.ipcz_world.specs.Acts.{tells_wake}
 
 node-touch_word : (w : World) (s : Side) (a : RouterAct) (o : Option ℕ) (j : ℕ) → node_at (touch_word w s a o) j ≡ node_at w j
 unfolding touch_word
@@ -44,7 +47,7 @@ node-touch_word w s a None j = refl
 node-touch_word w s a (Some i) j = node-set_word w i _ j
 
 node-claim_next : (w : World) (j : ℕ) → node_at (claim_next w) j ≡ node_at w j
-node-claim_next w j = go (nat_lt w.claimed w.size)
+node-claim_next w j = go (has_unclaimed_word w)
   where
     go : (c : Bool) → node_at (if c then set_claimed w (w.claimed + 1) else w) j ≡ node_at w j
     go true = node-set_claimed w (w.claimed + 1) j
@@ -72,7 +75,7 @@ mail-touch_word w s a None j = refl
 mail-touch_word w s a (Some i) j = mail-set_word w i _ j
 
 mail-claim_next : (w : World) (j : ℕ) → mail_at (claim_next w) j ≡ mail_at w j
-mail-claim_next w j = go (nat_lt w.claimed w.size)
+mail-claim_next w j = go (has_unclaimed_word w)
   where
     go : (c : Bool) → mail_at (if c then set_claimed w (w.claimed + 1) else w) j ≡ mail_at w j
     go true = mail-set_claimed w (w.claimed + 1) j
@@ -110,7 +113,7 @@ word-touch_word w s a (Some j) i apart = word-set_word w j _ i ∙ off (nat_eq i
     go false e = e
 
 word-claim_next : (w : World) (j : ℕ) → word_at (claim_next w) j ≡ word_at w j
-word-claim_next w j = go (nat_lt w.claimed w.size)
+word-claim_next w j = go (has_unclaimed_word w)
   where
     go : (c : Bool) → word_at (if c then set_claimed w (w.claimed + 1) else w) j ≡ word_at w j
     go true = word-set_claimed w (w.claimed + 1) j
@@ -270,7 +273,7 @@ module _ (w : World) (b : Books) (g : Records) (law : Inv w b g) (flags : FlagsA
   }
 
   on_wake : (i : ℕ) (e : LinkEnd) → primary_word r ≡ Some i → v ≡ wake_act w k r i e →
-      IsOnWord w v k r (wake_other r) i (wake (word_at w i) r.end.side)
+      IsOnWord w v k r (wake_other r) i (woken (word_at w i) r.end.side)
   on_wake i e link is = record {
     here = here;
     routers = λ q. ap (λ u. router_at u q) is ∙ push-router u n e.other m q ∙ router-set_word (set_router w k (wake_other r)) i z q
@@ -283,13 +286,13 @@ module _ (w : World) (b : Books) (g : Records) (law : Inv w b g) (flags : FlagsA
   }
     where
       z : Word
-      z = wake (word_at w i) r.end.side
+      z = woken (word_at w i) r.end.side
 
       u : World
       u = set_word (set_router w k (wake_other r)) i z
 
       m : Message
-      m = messages.Flush e.link (opposite e.side)
+      m = tells_wake e
 
 -- the acts on a word, at the link of that word
 module _ (w : World) (b : Books) (g : Records) (law : Inv w b g) (flags : FlagsAgree w) (wakers : HaveWakers w) (n s : ℕ) (r : Router)
@@ -303,7 +306,7 @@ module _ (w : World) (b : Books) (g : Records) (law : Inv w b g) (flags : FlagsA
 
   mark_wakers : may_take r acts.Mark ≡ true → HaveWakersOn i (after_act w n (OfRouter s acts.Mark))
   unfolding is_possible is_rest
-  mark_wakers may = wakers-mark w _ b g law flags at r (mark_side r (has (word_at w i).waiting (opposite r.end.side))) i
+  mark_wakers may = wakers-mark w _ b g law flags at r (mark_side r (tells_waiting (word_at w i) r.end.side)) i
       (mark (word_at w i) r.end.side) (on_word w b g law flags n s acts.Mark r here may i _ _ link refl (acted-mark w n s i r here link)) wakers
       refl refl (bare (possible acts.Mark refl may))
     where
@@ -335,7 +338,7 @@ module _ (w : World) (b : Books) (g : Records) (law : Inv w b g) (flags : FlagsA
 
   wake_wakers : may_take r acts.Wake ≡ true → HaveWakersOn i (after_act w n (OfRouter s acts.Wake))
   unfolding side_node word_of
-  wake_wakers may = wakers-wake w v b g law flags at r (wake_other r) i (wake (word_at w i) r.end.side) is wakers refl refl sends
+  wake_wakers may = wakers-wake w v b g law flags at r (wake_other r) i (woken (word_at w i) r.end.side) is wakers refl refl sends
     where
       v : World
       v = after_act w n (OfRouter s acts.Wake)
@@ -350,14 +353,14 @@ module _ (w : World) (b : Books) (g : Records) (law : Inv w b g) (flags : FlagsA
       acted-is : v ≡ wake_act w at r i e.0
       acted-is = acted-wake w n s i r e.0 here link e.1
 
-      is : IsOnWord w v at r (wake_other r) i (wake (word_at w i) r.end.side)
+      is : IsOnWord w v at r (wake_other r) i (woken (word_at w i) r.end.side)
       is = on_wake w b g law flags n s acts.Wake r here may i e.0 link acted-is
 
       sends : (e : LinkEnd) → r.outward.primary ≡ Some e → e.link ≡ Central i → e.side ≡ r.end.side → HasFlush v i (opposite r.end.side) e.other
       sends e q l d = record { from = n; place = t.0; under_way = under }
         where
           u : World
-          u = set_word (set_router w at (wake_other r)) i (wake (word_at w i) r.end.side)
+          u = set_word (set_router w at (wake_other r)) i (woken (word_at w i) r.end.side)
 
           rec : IsRecorded w g at r e
           rec = law.links.primary at r e here q
@@ -365,9 +368,9 @@ module _ (w : World) (b : Books) (g : Records) (law : Inv w b g) (flags : FlagsA
           count_is : u.count ≡ w.count
           count_is = count-set_word (set_router w at (wake_other r)) i _ ∙ count-set_node w n _
 
-          t : (j : ℕ) × IsUnderWay (push_message u n e.other (messages.Flush e.link (opposite e.side))) n e.other j
-              (messages.Flush e.link (opposite e.side))
-          t = pushed-there u n e.other (messages.Flush e.link (opposite e.side))
+          t : (j : ℕ) × IsUnderWay (push_message u n e.other (tells_wake e)) n e.other j
+              (tells_wake e)
+          t = pushed-there u n e.other (tells_wake e)
               (subst (λ z. n < z) (sym count_is) (law.counts.on_node at r here))
               (subst (λ z. e.other < z) (sym count_is) (subst (λ z. z < w.count) (sym rec.other)
               (law.counts.side_on_node e.link (opposite e.side) rec.recorded)))
@@ -375,7 +378,7 @@ module _ (w : World) (b : Books) (g : Records) (law : Inv w b g) (flags : FlagsA
           under : IsUnderWay v n e.other t.0 (messages.Flush (Central i) (opposite r.end.side))
           under = subst (λ z. IsUnderWay v n e.other t.0 (messages.Flush z (opposite r.end.side))) l
               (subst (λ z. IsUnderWay v n e.other t.0 (messages.Flush e.link (opposite z))) d
-              (subst (λ z. IsUnderWay z n e.other t.0 (messages.Flush e.link (opposite e.side))) (sym (acted-wake w n s i r e here link q)) t.1))
+              (subst (λ z. IsUnderWay z n e.other t.0 (tells_wake e)) (sym (acted-wake w n s i r e here link q)) t.1))
 
 -- an act of a router
 pub wakers-router : (w : World) (b : Books) (g : Records) → Inv w b g → FlagsAgree w → HaveWakers w → (n s : ℕ) (act : RouterAct) (r : Router) →

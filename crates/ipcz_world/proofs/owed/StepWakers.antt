@@ -46,6 +46,8 @@ use Rattle.ipcz_world.proofs.owed.Acting.{NeedsHeld, deliver-goes, put-changes, 
 use Rattle.ipcz_world.proofs.owed.Moving.{Stays, Never, Handed, stays-node, stays-look, stays-post, stays-hand}
 use Rattle.ipcz_world.proofs.owed.Tracking.{Tracks, tracks-node, tracks-same, KeepsFlush, HaveWakersOn, wakers-tracked, ranked-tracked, held-is}
 use Rattle.ipcz_world.proofs.owed.RouterWakers.{wakers-router, ranked-router}
+use Rattle.ipcz_world.specs.World.{has_unclaimed_word}
+use Rattle.ipcz_node.specs.Hands.{flushed}
 
 -- who has tried has a waker, and ranks rise
 pub record IsOwing (w : World) : Type 0 where
@@ -54,10 +56,10 @@ pub record IsOwing (w : World) : Type 0 where
 
 -- a Flush rouses the router that it finds
 flush-rouses : (n : Node) (sender : ℕ) (l : LinkId) (s : Side) (f : Found) → link_router n l s ≡ Some f →
-    router_in (deliver n sender (messages.Flush l s)) f.serial ≡ Some (rouse f.router)
+    router_in (deliver n sender (messages.Flush l s)) f.serial ≡ Some (flushed f.router)
 unfolding deliver handle fits on_found
 flush-rouses n sender l s f found = ap (λ o. router_in (on_found n o (λ s r. with_router n s (rouse r))) f.serial) found
-    ∙ grind (arith, get-insert nat_cmp_total n.routers f.serial (rouse f.router) f.serial, nat_tests)
+    ∙ grind (arith, get-insert nat_cmp_total n.routers f.serial (flushed f.router) f.serial, nat_tests)
 
 -- a mailbox whose message is in hand
 hand_tells : (x : Mail) → is_some (hand_message x) ≡ true → (m : Message) × (x ≡ mails.Hand m)
@@ -238,12 +240,12 @@ module _ (w : World) (b : Books) (g : Records) (law : Inv w b g) (flags : FlagsA
                 apart : (j i : ℕ) → nat_eq j i ≡ false → j ≡ i → ⊥
                 apart j i f q = grind (arith, f, q, nat_tests)
 
-        now : router_in (node_at v k.node) k.serial ≡ Some (rouse f.0.router)
+        now : router_in (node_at v k.node) k.serial ≡ Some (flushed f.0.router)
         now = ap (λ a. router_in a k.serial) node_is
             ∙ ap (router_in (deliver (node_at w k.node) from (messages.Flush (Central i) s))) serial
             ∙ flush-rouses (node_at w k.node) from (Central i) s f.0 f.1
 
-        untried : rouse f.0.router ≡ z → ⊥
+        untried : flushed f.0.router ≡ z → ⊥
         untried e = false-true (ap (λ a. a.tried) e ∙ tried)
 
     hand_owing : IsOwing v
@@ -352,7 +354,7 @@ module _ (w : World) (b : Books) (g : Records) (law : Inv w b g) (flags : FlagsA
   unfolding open_on is_linked
   opened_owing n (Some i) e = unless_owing (serials_refusal (node_at w n)) _ (λ h. open_owing w n i (λ j. refl) (λ j. refl) (λ j. refl) refl
       (ap is_linked (law.spares.opening n i e)))
-  opened_owing n None e = go (nat_lt w.claimed w.size)
+  opened_owing n None e = go (has_unclaimed_word w)
     where
       go : (c : Bool) → IsOwing (if c then open_with w (set_claimed w (w.claimed + 1)) n w.claimed else refuse w refusals.NoWord).world
       go true = unless_owing (serials_refusal (node_at w n)) _ (λ h. open_owing (set_claimed w (w.claimed + 1)) n w.claimed

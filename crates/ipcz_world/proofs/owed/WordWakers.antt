@@ -20,6 +20,7 @@ use Rattle.ipcz_world.proofs.frames.Frames.{same_key_tells}
 use Rattle.ipcz_world.proofs.owed.Following.{IsAble, able-tells, able-is}
 use Rattle.ipcz_world.proofs.owed.Moving.{Stays, Never}
 use Rattle.ipcz_world.proofs.owed.Tracking.{HaveWakersOn}
+use Rattle.ipcz_world.specs.WordAnswers.{tells_waiting, woken}
 
 -- what a plan tells of the word
 pub record IsPlan (x : Word) (s : Side) (plan : Plan) : Type 0 where
@@ -175,7 +176,7 @@ module _ (w v : World) (b : Books) (g : Records) (law : Inv w b g) (flags : Flag
   ]
 
   -- mark
-  pub wakers-mark : y ≡ mark_side r (has (word_at w i).waiting (opposite t)) → x ≡ mark (word_at w i) t → r.marked ≡ false → HaveWakersOn i v
+  pub wakers-mark : y ≡ mark_side r (tells_waiting (word_at w i) t) → x ≡ mark (word_at w i) t → r.marked ≡ false → HaveWakersOn i v
   wakers-mark is_y is_x bare = by_sides
       (λ h. not_both r.marked (flags.tried_marked k r is.here (sym (ap (λ z. z.tried) is_y) ∙ h)) bare) other
     where
@@ -270,7 +271,7 @@ module _ (w v : World) (b : Books) (g : Records) (law : Inv w b g) (flags : Flag
       }
 
   -- wake, which sends a Flush
-  pub wakers-wake : y ≡ wake_other r → x ≡ wake (word_at w i) t →
+  pub wakers-wake : y ≡ wake_other r → x ≡ woken (word_at w i) t →
       ((e : LinkEnd) → r.outward.primary ≡ Some e → e.link ≡ Central i → e.side ≡ t → HasFlush v i (opposite t) e.other) → HaveWakersOn i v
   unfolding side_router side_node
   wakers-wake is_y is_x sends = by_sides

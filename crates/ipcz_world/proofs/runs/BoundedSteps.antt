@@ -34,6 +34,7 @@ use Rattle.ipcz_world.proofs.lawful.Soundness.{primary_below, opening_below}
 use Rattle.ipcz_world.proofs.runs.Bounds.{IsBoxed, boxed-with, boxed-found, boxed-router, boxed-deliver}
 use Rattle.ipcz_world.proofs.runs.NodeSteps.{hand-is}
 use Rattle.ipcz_world.proofs.facts.Tests.{and_first}
+use Rattle.ipcz_world.specs.World.{has_unclaimed_word}
 
 bounded-set_node : (w : World) (n : ℕ) (x : Node) → n < w.count → IsBounded w → IsBoxed w.count x → IsBounded (set_node w n x)
 unfolding set_node mail_at
@@ -111,7 +112,7 @@ bounded-touch w r acts.FinishIn l b = b
 bounded-touch w r acts.Leave l b = b
 bounded-touch w r acts.Mark l b = bounded-touch_word w r.end.side acts.Mark (primary_word r) l b
 bounded-touch w r acts.Wake l b = bounded-touch_word w r.end.side acts.Wake (primary_word r) l b
-bounded-touch w r acts.Claim l b = go (nat_lt w.claimed w.size)
+bounded-touch w r acts.Claim l b = go (has_unclaimed_word w)
   where
     go : (c : Bool) → IsBounded (if c then set_claimed w (w.claimed + 1) else w)
     go true = bounded-set_claimed w (w.claimed + 1) b
@@ -216,9 +217,9 @@ module _ (w : World) (books : Books) (g : Records) (law : Inv w books g) (b : Is
   open_on-bounded : (n : ℕ) (o : Option ℕ) → (node_at w n).opening ≡ o → n < w.count → IsBounded (open_on w n o).world
   unfolding open_on
   open_on-bounded n (Some i) has l = open_with-bounded w n i l (opening_below w books g law n i has) refl refl b
-  open_on-bounded n None has l = go (nat_lt w.claimed w.size) refl
+  open_on-bounded n None has l = go (has_unclaimed_word w) refl
     where
-      go : (c : Bool) → nat_lt w.claimed w.size ≡ c → IsBounded (if c then open_with w (set_claimed w (w.claimed + 1)) n w.claimed else
+      go : (c : Bool) → has_unclaimed_word w ≡ c → IsBounded (if c then open_with w (set_claimed w (w.claimed + 1)) n w.claimed else
           refuse w refusals.NoWord).world
       go true e = open_with-bounded (set_claimed w (w.claimed + 1)) n w.claimed l (grind (arith, e, nat_tests))
           (count-set_claimed w (w.claimed + 1)) (size-set_claimed w (w.claimed + 1)) (bounded-set_claimed w (w.claimed + 1) b)

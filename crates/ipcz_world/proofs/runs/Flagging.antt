@@ -15,7 +15,7 @@ use Rattle.ipcz_base.specs.declared.parcel.Parcel as parcels
 use Rattle.ipcz_base.specs.declared.item.Item.TheVariants.{Parcel}
 use Rattle.ipcz_base.specs.declared.message.Message.TheVariants as messages
 use Rattle.ipcz_edge.specs.Edge.{choose, can_finish}
-use Rattle.ipcz_router.specs.Router.{outward_has, new_terminal, moved_link, rouse}
+use Rattle.ipcz_router.specs.Router.{outward_has, new_terminal, moved_link}
 use Rattle.ipcz_router.specs.Calls.{accept}
 use Rattle.ipcz_router.specs.Closing.{close_router}
 use Rattle.ipcz_router.specs.Calls.{take_item, put_item, item_refusal}
@@ -41,6 +41,7 @@ use Rattle.ipcz_node.specs.Hands.{deliver, handle, fits, tell, take_in, make_ter
 use Rattle.ipcz_node.specs.Acts.{commit_router, keep_or_drop}
 use Rattle.ipcz_world.proofs.facts.Finding.{found_tells}
 use Rattle.ipcz_world.proofs.facts.Reaching.{reach-pop}
+use Rattle.ipcz_node.specs.Hands.{flushed}
 
 -- a router that could act is flagged
 abbrev pub IsAwake : Router → Type 0
@@ -452,7 +453,7 @@ awake-handle n sender (messages.ProxyWillStop link side in_length) law is = go (
     go (Some f) = awake-with n f.serial _ law (awake-flagged _ refl)
 awake-handle n sender (messages.Flush link side) law is = go (link_router n link side)
   where
-    go : (o : Option Found) → AreAwake (on_found n o (λ s r. with_router n s (rouse r)))
+    go : (o : Option Found) → AreAwake (on_found n o (λ s r. with_router n s (flushed r)))
     go None = law
     go (Some f) = awake-with n f.serial _ law (awake-flagged _ refl)
 

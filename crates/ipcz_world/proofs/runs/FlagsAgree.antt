@@ -1,5 +1,5 @@
 -- What the flags of a router have to do with each other, in every world that steps lead to.
-use Rattle.std.specs.Prelude.{◌≡◌, ℕ, zero, suc, ◌+◌, Bool, true, false, cond, nat_eq, nat_lt, if◌then◌else◌, Option, Some, None, List, []}
+use Rattle.std.specs.Prelude.{◌≡◌, ℕ, zero, suc, ◌+◌, Bool, true, false, cond, nat_eq, if◌then◌else◌, Option, Some, None, List, []}
 use Rattle.std.specs.Prelude.{◌∷◌, ◌++◌, refl}
 use Rattle.std.proofs.Common.{arith, sym, ◌∙◌, subst}
 use Rattle.std.proofs.lemmas.Bool.Decides.{nat_tests}
@@ -45,6 +45,8 @@ use Rattle.ipcz_world.specs.Steps.{StepAny, claim_for_open}
 use Rattle.ipcz_world.specs.Owed.{FlagsAgree}
 use Rattle.ipcz_world.proofs.facts.Finding.{found_tells}
 use Rattle.ipcz_world.proofs.runs.NodeSteps.{IsKept, kept-step, kept-claim_for_open}
+use Rattle.ipcz_world.specs.World.{has_unclaimed_word}
+use Rattle.ipcz_node.specs.Hands.{flushed}
 
 -- dry, spare, wake owed, marked, tried, holds: no word is left only where there is no spare, a wake is owed and a try was made only when
 -- marked, and a holder doesn't try
@@ -102,7 +104,7 @@ agreed-mark w r (Some i) law = record { dry = law.dry; wake = λ h. refl; tried_
 agreed-claim : (w : World) (r : Router) → IsAgreed r → is_possible r acts.Claim ≡ true →
     IsAgreed (apply r acts.Claim (answer_of w r acts.Claim))
 unfolding answer_of apply is_possible
-agreed-claim w r law possible = go (nat_lt w.claimed w.size)
+agreed-claim w r law possible = go (has_unclaimed_word w)
   where
     go : (c : Bool) → IsAgreed (apply r acts.Claim (if c then answers.Claimed w.claimed else answers.NoWord))
     go true = record {
@@ -301,7 +303,7 @@ agreed-handle n sender (messages.ProxyWillStop link side in_length) law = go (li
         (agreed-roused (law f.serial f.router (found_tells n _ f h).0))
 agreed-handle n sender (messages.Flush link side) law = go (link_router n link side) refl
   where
-    go : (o : Option Found) → link_router n link side ≡ o → AreAgreed (on_found n o (λ s r. with_router n s (rouse r)))
+    go : (o : Option Found) → link_router n link side ≡ o → AreAgreed (on_found n o (λ s r. with_router n s (flushed r)))
     go None h = law
     go (Some f) h = agreed-with n f.serial (rouse f.router) law (agreed-roused (law f.serial f.router (found_tells n _ f h).0))
 

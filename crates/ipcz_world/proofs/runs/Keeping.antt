@@ -67,6 +67,7 @@ use Rattle.ipcz_world.proofs.routes.Seeing.{stays-peripherals}
 use Rattle.std.proofs.lemmas.Bool.{and_parts}
 use Rattle.ipcz_world.proofs.runs.NodeSteps.{hand-is}
 use Rattle.ipcz_world.proofs.facts.Tests.{some_is}
+use Rattle.ipcz_world.specs.World.{has_unclaimed_word}
 
 -- an event of another kind leaves the books
 books-other : (w : World) (b : Books) (n : ℕ) (event : Happened) → kind event ≡ 0 → after_turn w b n event ≡ b
@@ -235,15 +236,15 @@ module _ (w : World) (b : Books) (g : Records) (law : Inv w b g) where
           let l = primary_of r i.0 i.1 in
           kept_as _ _ _ b _ g (acted-wake w n s i.0 r l.0 here i.1 l.1) (calm acts.Wake (λ x. cc) (λ x. cc)) (quietly acts.Wake refl) refl
           (inv-wake w b g k r i.0 l.0 law (record { here = here; possible = can acts.Wake e refl; word = i.1 }) l.1)
-      go acts.Claim e = claim (nat_lt w.claimed w.size) refl
+      go acts.Claim e = claim (has_unclaimed_word w) refl
         where
-          claim : (c : Bool) → nat_lt w.claimed w.size ≡ c → Kept g (after_act w n (OfRouter s acts.Claim))
+          claim : (c : Bool) → has_unclaimed_word w ≡ c → Kept g (after_act w n (OfRouter s acts.Claim))
               (after_turn w b n (turn_event w n (OfRouter s acts.Claim)))
               (routes_after_turn w (routes_of g) n (turn_event w n (OfRouter s acts.Claim)))
           claim true q = let l : w.claimed < w.size = grind (arith, q, nat_tests) in
-              kept_as _ _ _ b _ (claim_records g k w.claimed) (acted-claim w n s r here l) (calm acts.Claim (λ x. cc) (λ x. cc))
+              kept_as _ _ _ b _ (claim_records g k w.claimed) (acted-claim w n s r here q) (calm acts.Claim (λ x. cc) (λ x. cc))
               (quietly acts.Claim refl) (routes-claim w b g k law) (inv-claim w b g k r law (able acts.Claim e refl) l)
-          claim false q = kept_as _ _ _ b _ g (acted-dry w n s r here (grind (arith, q, nat_tests))) (calm acts.Claim (λ x. cc) (λ x. cc))
+          claim false q = kept_as _ _ _ b _ g (acted-dry w n s r here q) (calm acts.Claim (λ x. cc) (λ x. cc))
               (quietly acts.Claim refl) refl (inv-dry w b g k r law here)
       go acts.Lock e =
           let i = word_of_act r (grind (arith, can acts.Lock e refl)) in
@@ -399,7 +400,7 @@ module _ (w : World) (b : Books) (g : Records) (law : Inv w b g) where
 
       go : (o : Option ℕ) → (node_at w n).opening ≡ o → Stays n (open_on w n o)
       go (Some i) e = refused (serials_refusal (node_at w n)) _ (stays-link (routes_of g) i i (ap is_linked (law.spares.opening n i e)))
-      go None e = chosen (nat_lt w.claimed w.size) _ (refuse w refusals.NoWord)
+      go None e = chosen (has_unclaimed_word w) _ (refuse w refusals.NoWord)
           (refused (serials_refusal (node_at w n)) _ (stays-link (routes_of g) w.claimed w.claimed (next_not_linked w b g law))) same
 
   open_kept : (n : ℕ) → KeptBy w b g (steps.Open n) (open_step w n)

@@ -27,6 +27,7 @@ use Rattle.ipcz_world.specs.Steps.{Effect, GivesOrNoMemory, refuse, at_node, ope
 use Rattle.ipcz_world.specs.Steps.{claim_for_open, StepAny}
 use Rattle.ipcz_world.proofs.runs.Flagging.{ArePeripheral}
 use Rattle.ipcz_world.proofs.facts.Tests.{and_first}
+use Rattle.ipcz_world.specs.World.{has_unclaimed_word}
 
 -- what is said of a world, node by node, and is kept by what nodes do
 pub record IsKept (Q : World → Type 0) (N : Node → Type 0) : Type 0 where
@@ -69,7 +70,7 @@ module _ (Q : World → Type 0) (N : Node → Type 0) (kept : IsKept Q N) where
 
   kept-touch : (w : World) (r : Router) (act : RouterAct) → Q w → Q (touch w r act)
   unfolding touch
-  kept-touch w r acts.Claim law = go (nat_lt w.claimed w.size)
+  kept-touch w r acts.Claim law = go (has_unclaimed_word w)
     where
       go : (b : Bool) → Q (if b then set_claimed w (w.claimed + 1) else w)
       go true = kept.set_claimed w (w.claimed + 1) law
@@ -156,7 +157,7 @@ module _ (Q : World → Type 0) (N : Node → Type 0) (kept : IsKept Q N) where
   kept-open_on : (w : World) (n : ℕ) (o : Option ℕ) → Q w → Q (open_on w n o).world
   unfolding open_on
   kept-open_on w n (Some i) is = kept-open_with w w n i is is
-  kept-open_on w n None is = go (nat_lt w.claimed w.size)
+  kept-open_on w n None is = go (has_unclaimed_word w)
     where
       go : (c : Bool) → Q (if c then open_with w (set_claimed w (w.claimed + 1)) n w.claimed else refuse w refusals.NoWord).world
       go true = kept-open_with w (set_claimed w (w.claimed + 1)) n w.claimed is (kept.set_claimed w (w.claimed + 1) is)

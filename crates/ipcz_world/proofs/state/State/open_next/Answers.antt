@@ -1,7 +1,6 @@
-use Rattle.std.proofs.Common.{◌≡◌, ◌<◌, ◌+◌, true, false, nat_lt, arith, subst, sym, ap, ◌∙◌, refl}
+use Rattle.std.proofs.Common.{◌≡◌, ◌<◌, ◌+◌, true, false, arith, subst, sym, ap, ◌∙◌, refl}
 use Rattle.std.proofs.lemmas.Bool.Decides.{nat_tests}
-use Rattle.ipcz_world.proofs.Vocabulary.{End, A, B, open_word, World, node_at, set_claimed}
-use Rattle.ipcz_base.specs.Ends.{end_at}
+use Rattle.ipcz_world.proofs.Vocabulary.{End, open_word, World, node_at, set_claimed}
 use Rattle.ipcz_world.specs.Coding.{put_word, claim_one}
 use Rattle.ipcz_node.specs.Calls.{serials_refusal, open_node}
 use Rattle.ipcz_world.specs.declared.step.Reply.TheVariants.{Opened}
@@ -10,6 +9,8 @@ use Rattle.ipcz_world.specs.Soundness.{HasLengths}
 use Rattle.ipcz_world.specs.contracts.state.State.{the_view}
 use Rattle.ipcz_world.proofs.code.Calling.{open-done, open-refused, open-world, next-word, no-word}
 use Rattle.ipcz_world.proofs.state.State.open_next.Goals as goal
+use Rattle.ipcz_world.specs.World.{has_unclaimed_word}
+use Rattle.ipcz_world.specs.Steps.{opened_reply}
 
 pub returns-then-not-has_unclaimed : goal.returns-then-not-has_unclaimed
 returns-then-not-has_unclaimed c =
@@ -34,13 +35,13 @@ returns c =
     let some : c.has_unclaimed.result ≡ true = grind arith in
     let next = next-word w c.args.n (sym c.has_unclaimed.ensures ∙ some) in
     let has = subst HasLengths (sym c.self.view_is) c.requires.regular.lengths in
-    let low : nat_lt w.claimed w.size ≡ true = sym c.has_unclaimed.ensures ∙ some in
+    let low : has_unclaimed_word w ≡ true = sym c.has_unclaimed.ensures ∙ some in
     let within : w.claimed < w.size = grind (arith, low, nat_tests) in
     let opened = c.open.ensures ∙ ap (λ t. put_word t c.claim-word.result open_word) c.claim-word.ensures.table ∙
     ap (λ i. put_word (claim_one c.self.inside.words) i open_word) c.claim-word.ensures.word in
     let made = c.open_commit.ensures.node ∙ ap (open_node c.open_prepare.new.self.node) c.claim-word.ensures.word in
     let reply = ap (λ (p : End × End). Opened p.0 p.1) c.open_commit.ensures.ends ∙
-    ap (λ i. Opened (end_at i A) (end_at i B)) c.claim-word.ensures.word in
+    ap opened_reply c.claim-word.ensures.word in
     rw (← c.self.view_is, next)
     (subst (λ v. GivesOrNoMemory w (open_with w (set_claimed w (w.claimed + 1)) c.args.n w.claimed)
     (Opened c.open_commit.result.0 c.open_commit.result.1) v)
