@@ -1,6 +1,5 @@
 //! Worlds stepped and run, and what they answer, by docs/PROTOCOL.md.
 mod bypass;
-mod direct;
 
 use ipcz_base::{End, Refusal, Sequence, Side};
 use ipcz_node::Happened;
