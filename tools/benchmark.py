@@ -1,8 +1,14 @@
-"""What `ipcz_run` takes, by the size of its script.
+"""What the library and `ipcz_run` take.
 
+    python3 tools/benchmark.py library
+    python3 tools/benchmark.py instructions
     python3 tools/benchmark.py crates/ipcz_run/out/ipcz_run [WORKLOAD ..]
     python3 tools/benchmark.py crates/ipcz_run/out/ipcz_run pairs
     python3 tools/benchmark.py crates/ipcz_run/out/ipcz_run waiting
+    python3 tools/benchmark.py crates/ipcz_run/out/ipcz_run largest
+
+`library` prints the number of each measure of `ipcz_bench`, the least of five runs. `instructions` counts them with valgrind's
+callgrind, which a busy machine doesn't disturb: for one round, from a run of 2,000 rounds and one of 12,000, subtracted.
 
 Each workload is made for a quarter, a half and the whole of 1,048,576 bytes, which is the longest script.
 The table has the `user` time in milliseconds (the least of five runs where a run is short) and the peak
@@ -12,7 +18,7 @@ limit of 1,000,000 acts. Nothing is kept.
 
 `pairs` compares what one parcel costs on one node, put, settled and got: where there is one pair, on the last of
 4,000 pairs, and one on each of 1,000 pairs; the time of the opens alone is subtracted. `waiting` compares what one
-parcel costs where 1, 10, 100 and 1,000 parcels wait before it.
+parcel costs where 1, 10, 100 and 1,000 parcels wait before it. `largest` shows the scripts that take most memory.
 """
 import os
 import resource
@@ -249,9 +255,68 @@ def compare_pairs(program):
             print("%-28s %6.2f microseconds a parcel, %4.2f times" % (title, cost, cost / one))
 
 
+BENCH = os.path.join(os.path.dirname(os.path.abspath(__file__)), "../crates/ipcz_bench/out/ipcz_bench")
+MEASURES = ["one_node", "two_nodes", "long_parcels", "last_pair", "each_pair", "waiting_1", "waiting_10", "waiting_100",
+            "waiting_1000", "act", "moves", "fresh_pairs", "used_pairs"]
+
+
+def measured(name):
+    return int(subprocess.run([BENCH, name], stdout=subprocess.PIPE, check=True).stdout)
+
+
+def show_library():
+    for name in MEASURES:
+        print("%-14s %8d" % (name, min(measured(name) for _ in range(5))), flush=True)
+
+
+def instructions(name, rounds):
+    with tempfile.TemporaryDirectory() as folder:
+        done = subprocess.run(["valgrind", "--tool=callgrind", "--callgrind-out-file=" + os.path.join(folder, "out"),
+                               BENCH, name, str(rounds)], stdout=subprocess.DEVNULL, stderr=subprocess.PIPE, text=True, check=True)
+    return int(done.stderr.split("Collected :")[1].split()[0])
+
+
+def show_instructions():
+    for name in MEASURES[:-2]:
+        print("%-14s %8d" % (name, round((instructions(name, 12000) - instructions(name, 2000)) / 10000)), flush=True)
+
+
+def nested(size):
+    """A list of objects that are nested 124 deep, as JSON may be."""
+    one = '{"a":' * 124 + "1" + "}" * 124
+    return '{"nodes":1,"words":0,"commands":[' + ",".join([one] * ((size - 40) // (len(one) + 1))) + "]}"
+
+
+def shows(size):
+    """Opens of all 4,096 words, and then `show` alone: the longest transcript."""
+    opens = ['["open",0,"a%x","b%x"]' % (i, i) for i in range(4096)]
+    return '{"nodes":1,"words":4096,"commands":[' + ",".join(opens + ['["show"]'] * ((size - 110000) // 9)) + "]}"
+
+
+def show_largest(program):
+    with tempfile.TemporaryDirectory() as folder:
+        path = os.path.join(folder, "script")
+        for make in (nested, shows):
+            text = make(WHOLE)
+            with open(path, "w") as f:
+                f.write(text)
+            with open(path) as source:
+                done = subprocess.run(["/usr/bin/time", "-q", "-f", "%M %U", program], stdin=source, stdout=subprocess.PIPE,
+                                      stderr=subprocess.PIPE)
+            peak, user = done.stderr.split()[-2:]
+            print("%-8s %8d bytes, status %d, %10d bytes written, %4d MiB, %6.2f s user" % (
+                make.__name__, len(text), done.returncode, len(done.stdout), int(peak) // 1024, float(user)), flush=True)
+
+
 def main():
+    if sys.argv[1:] == ["library"]:
+        return show_library()
+    if sys.argv[1:] == ["instructions"]:
+        return show_instructions()
     program = os.path.abspath(sys.argv[1])
     wanted = sys.argv[2:]
+    if wanted == ["largest"]:
+        return show_largest(program)
     if wanted == ["pairs"]:
         return compare_pairs(program)
     if wanted == ["waiting"]:

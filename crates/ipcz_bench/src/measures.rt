@@ -1,0 +1,177 @@
+//! What each measure does, and how long it takes.
+use crate::fault::Fault;
+use crate::trial::{Portal, first_pair, get_all, open, open_all, pass, put, put_all, settle};
+use ipcz_world::World;
+use std::fs;
+use std::time::Instant;
+
+/// The bytes of a parcel, but for the long ones.
+const SHORT: usize = 16;
+
+/// How many pairs there are where there are many, and how many rounds each of them has.
+const PAIRS: u32 = 1000;
+
+/// How many moves a world makes: each takes a link word, of 4,096.
+const MOVES: u64 = 4000;
+
+/// Takes a measure of so many rounds, and gives nanoseconds or bytes: the rounded-down share of one parcel, act, move or pair.
+pub fn measure(rt: &HostRuntime, name: &str, rounds: u64) -> Result<u64, Fault> {
+    match name {
+        "one_node" => on_one_node(rt, 1, rounds),
+        "last_pair" => on_one_node(rt, 4 * PAIRS, rounds),
+        "each_pair" => on_each_pair(rt, rounds),
+        "two_nodes" => between_two_nodes(rt, SHORT, 0, rounds),
+        "long_parcels" => between_two_nodes(rt, 256, 0, rounds),
+        "waiting_1" => between_two_nodes(rt, SHORT, 1, rounds),
+        "waiting_10" => between_two_nodes(rt, SHORT, 10, rounds),
+        "waiting_100" => between_two_nodes(rt, SHORT, 100, rounds),
+        "waiting_1000" => between_two_nodes(rt, SHORT, 1000, rounds),
+        "act" => acts_alone(rt, rounds),
+        "moves" => moves(rt, rounds),
+        "fresh_pairs" => bytes_of_pairs(rt, 0),
+        "used_pairs" => bytes_of_pairs(rt, 1),
+        _ => Err(Fault::Usage),
+    }
+}
+
+// The share of one in so many nanoseconds.
+fn share(rt: &HostRuntime, start: Instant, count: u64) -> Result<u64, Fault> {
+    let spent = start.elapsed(rt)?.as_nanos();
+    match spent.checked_div(count as u128) {
+        Some(each) if each <= u64::MAX as u128 => Ok(each as u64),
+        _ => Err(Fault::Usage),
+    }
+}
+
+// Parcels on the last of so many pairs of one node.
+fn on_one_node(rt: &HostRuntime, pairs: u32, rounds: u64) -> Result<u64, Fault> {
+    let mut world = World::new(rt.alloc(), 1, 4096)?;
+    let (from, to) = open_all(&mut world, pairs)?;
+    let start = Instant::now(rt)?;
+    pass(rt.alloc(), &mut world, from, to, SHORT, rounds)?;
+    share(rt, start, rounds)
+}
+
+// A put on each pair, one settle, and a get on each.
+fn visit(rt: &HostRuntime, world: &mut World, pairs: &[(Portal, Portal)]) -> Result<(), Fault> {
+    for (from, _) in pairs {
+        put(rt.alloc(), world, *from, SHORT, None)?;
+    }
+    settle(world)?;
+    for (_, to) in pairs {
+        get_all(world, *to, 1)?;
+    }
+    Ok(())
+}
+
+// Parcels on each of 1,000 pairs of one node, in turn.
+fn on_each_pair(rt: &HostRuntime, rounds: u64) -> Result<u64, Fault> {
+    let mut world = World::new(rt.alloc(), 1, 4096)?;
+    let mut pairs = Vec::new(rt.alloc());
+    for _ in 0..PAIRS {
+        pairs.push(open(&mut world)?)?;
+    }
+    let visits = rounds / PAIRS as u64;
+    let start = Instant::now(rt)?;
+    for _ in 0..visits {
+        visit(rt, &mut world, pairs.as_slice())?;
+    }
+    share(rt, start, visits.saturating_mul(PAIRS as u64))
+}
+
+// Parcels of so many bytes between two nodes, while others wait to be got.
+fn between_two_nodes(
+    rt: &HostRuntime,
+    length: usize,
+    waiting: u64,
+    rounds: u64,
+) -> Result<u64, Fault> {
+    let mut world = World::new(rt.alloc(), 2, 1)?;
+    let (from, to) = first_pair();
+    put_all(rt.alloc(), &mut world, from, waiting)?;
+    settle(&mut world)?;
+    let start = Instant::now(rt)?;
+    pass(rt.alloc(), &mut world, from, to, length, rounds)?;
+    share(rt, start, rounds)
+}
+
+// The acts that carry parcels between two nodes, without the puts and gets.
+fn acts_alone(rt: &HostRuntime, rounds: u64) -> Result<u64, Fault> {
+    let mut world = World::new(rt.alloc(), 2, 1)?;
+    let (from, _) = first_pair();
+    put_all(rt.alloc(), &mut world, from, rounds)?;
+    let start = Instant::now(rt)?;
+    let acts = settle(&mut world)?;
+    share(rt, start, acts)
+}
+
+// Moves a portal from the holder of `over.0` to that of `over.1`, and ten parcels after it.
+fn move_portal(
+    rt: &HostRuntime,
+    world: &mut World,
+    over: (Portal, Portal),
+    still: Portal,
+    moved: Portal,
+) -> Result<Portal, Fault> {
+    put(rt.alloc(), world, over.0, SHORT, Some(moved.end))?;
+    settle(world)?;
+    get_all(world, over.1, 1)?;
+    put_all(rt.alloc(), world, still, 10)?;
+    settle(world)?;
+    let there = Portal {
+        node: over.1.node,
+        end: moved.end,
+    };
+    get_all(world, there, 10)?;
+    Ok(there)
+}
+
+// A portal that goes to and fro between two nodes, in a world of its own.
+fn go_to_and_fro(rt: &HostRuntime, count: u64) -> Result<(), Fault> {
+    let mut world = World::new(rt.alloc(), 2, 4096)?;
+    let (left, right) = first_pair();
+    let (still, mut moved) = open(&mut world)?;
+    for _ in 0..count {
+        let over = if moved.node == 0 {
+            (left, right)
+        } else {
+            (right, left)
+        };
+        moved = move_portal(rt, &mut world, over, still, moved)?;
+    }
+    Ok(())
+}
+
+// Moves of a portal between two nodes, in as many worlds as they take.
+fn moves(rt: &HostRuntime, rounds: u64) -> Result<u64, Fault> {
+    let start = Instant::now(rt)?;
+    for _ in 0..rounds / MOVES {
+        go_to_and_fro(rt, MOVES)?;
+    }
+    go_to_and_fro(rt, rounds % MOVES)?;
+    share(rt, start, rounds)
+}
+
+// How many bytes of the process are in memory, as Linux tells in pages of 4,096.
+fn resident(rt: &HostRuntime) -> Result<u64, Fault> {
+    let text = fs::read_to_string(rt, "/proc/self/statm")?;
+    let Some(pages) = text.as_str().split(' ').nth(1) else {
+        return Err(Fault::System);
+    };
+    match pages.parse::<u64>() {
+        Ok(pages) => Ok(pages.saturating_mul(4096)),
+        Err(_) => Err(Fault::System),
+    }
+}
+
+// What memory a pair takes on one node, once so many parcels passed on each of 4,000.
+fn bytes_of_pairs(rt: &HostRuntime, rounds: u64) -> Result<u64, Fault> {
+    let mut world = World::new(rt.alloc(), 1, 4096)?;
+    let before = resident(rt)?;
+    for _ in 0..4 * PAIRS {
+        let (from, to) = open(&mut world)?;
+        pass(rt.alloc(), &mut world, from, to, SHORT, rounds)?;
+        pass(rt.alloc(), &mut world, to, from, SHORT, rounds)?;
+    }
+    Ok(resident(rt)?.saturating_sub(before) / (4 * PAIRS as u64))
+}
