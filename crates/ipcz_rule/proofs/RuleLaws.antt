@@ -10,7 +10,10 @@ use Rattle.ipcz_world.specs.Turns.{message_in_hand}
 use Rattle.ipcz_world.specs.Routes.{hand_of}
 use Rattle.ipcz_world.proofs.facts.LinkTests.{opposite_end-twice}
 use Rattle.ipcz_world.proofs.Whole.{lawful_worlds_give_the_headline, lawful_worlds_owe, lists_have_lengths, messages_in_hand_fit}
-use Rattle.ipcz_rule.specs.RuleLaws.{RuleGivesHeadline, RuleOwes, ShownHasLengths, PartsAreSound, PartsHandsFit, LinksAreWords, PutsAreOnce, GetsFollowPuts}
+use Rattle.ipcz_world.proofs.Whole.{each_step_keeps_lawful, replies_plainly}
+use Rattle.ipcz_world.proofs.ranks.Rating.{turns_keep_rates}
+use Rattle.ipcz_world.proofs.ranks.Turning.{turns_are_bounded}
+use Rattle.ipcz_rule.specs.RuleLaws.{RuleGivesHeadline, RuleOwes, RuleBoundsTurns, ShownHasLengths, PartsAreSound, PartsHandsFit, LinksAreWords, PutsAreOnce, GetsFollowPuts}
 use Rattle.ipcz_rule.proofs.Known.{sound_spelled, no_strays, found_word}
 
 pub rule_gives_headline : RuleGivesHeadline
@@ -18,6 +21,11 @@ rule_gives_headline count size s r = (lawful_worlds_give_the_headline r.world r.
 
 pub rule_owes : RuleOwes
 rule_owes count size s r = lawful_worlds_owe r.world r.books r.routes r.lawful
+
+pub rule_bounds_turns : RuleBoundsTurns
+rule_bounds_turns count size s r c turns v d h rated taken =
+    turns_are_bounded each_step_keeps_lawful (turns_keep_rates each_step_keeps_lawful replies_plainly) r.world v r.books d r.routes h c turns
+    r.lawful rated taken
 
 pub shown_has_lengths : ShownHasLengths
 shown_has_lengths count size s r = lists_have_lengths r.world r.books r.routes r.lawful

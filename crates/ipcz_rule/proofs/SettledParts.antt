@@ -43,6 +43,6 @@ settled_parts_are_direct count size s r each full =
     wet k q here = ⊎_elim
         (λ (l : k.node < r.world.count). on_node k q here l)
         (λ (l : r.world.count ≤ k.node). let long = (lists_have_lengths r.world r.books r.routes r.lawful).nodes in
-          let bare = node_beyond r.world k.node (omega (arith, long, l)) in
-          absurd (none_some (router_at r.world k) q (at_node r.world k ∙ (ap (λ (n : Node). router_in n k.serial) bare ∙ bare_has_none k.serial)) here))
+        let bare = node_beyond r.world k.node (omega (arith, long, l)) in
+        absurd (none_some (router_at r.world k) q (at_node r.world k ∙ (ap (λ (n : Node). router_in n k.serial) bare ∙ bare_has_none k.serial)) here))
         (below_or k.node r.world.count)

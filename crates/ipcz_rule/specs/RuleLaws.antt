@@ -1,5 +1,5 @@
 -- What the rule says of the world that is shown and of each part, as functions promise it.
-use Rattle.std.specs.Prelude.{◌≡◌, ◌≢◌, ◌<◌, ◌+◌, ◌*◌, ℕ, true, false, List, [], Some, slice_index}
+use Rattle.std.specs.Prelude.{◌≡◌, ◌≢◌, ◌≤◌, ◌<◌, ◌+◌, ◌*◌, ℕ, true, false, List, [], Some, slice_index}
 use mathlib.Core.Option.{some}
 use lib.ListN.{get_elem?}
 use Rattle.ipcz_base.specs.declared.end.End.{End}
@@ -10,13 +10,17 @@ use Rattle.ipcz_base.specs.declared.message.Message.{Message}
 use Rattle.ipcz_base.specs.Ends.{opposite_end}
 use Rattle.ipcz_word.specs.Layout.{IsWord}
 use Rattle.ipcz_router.specs.Router.{Router}
+use Rattle.ipcz_node.specs.declared.act.Act.{Act}
 use Rattle.ipcz_node.specs.Node.{Node, router_in}
 use Rattle.ipcz_node.specs.Acts.{is_quiet}
 use Rattle.ipcz_node.specs.Hands.{is_unfit}
 use Rattle.ipcz_world.specs.Laws.{LengthLaw, StrayLaw, is_flush}
 use Rattle.ipcz_world.specs.Lawful.{Headline}
 use Rattle.ipcz_world.specs.Owed.{Owed, IsDirect, HasNoProxies}
-use Rattle.ipcz_world.specs.Routes.{is_opened}
+use Rattle.ipcz_world.specs.Ranks.{Rates, IsRated, AreTurns, rank, times_used, unlock_count}
+use Rattle.ipcz_world.specs.Books.{Books}
+use Rattle.ipcz_world.specs.Routes.{Routes, is_opened}
+use Rattle.ipcz_world.specs.World.{World}
 use Rattle.ipcz_world.specs.Settling.{IsQuiet}
 use Rattle.ipcz_world.specs.Soundness.{HasLengths, IsSound}
 use Rattle.ipcz_rule.specs.declared.view.View.{View}
@@ -79,3 +83,9 @@ abbrev pub SettledPartsAreDirect : Type 0
 SettledPartsAreDirect = (count size : ℕ) (s : St) (r : Rules count size s) → EachNode s.views count (λ p. IsSettled p.state) →
     ((k : ℕ) → k < count * count → slice_index s.words (size + 1 + count + k) ≢ 1) →
     HasNoProxies r.world × ((pair : ℕ) → is_opened r.routes pair ≡ true → IsDirect r.world r.books pair)
+
+-- whatever turns the nodes take from the shown world, no more of them use something up than its rank, and two for each unlock, by all rates
+-- that fit the joined books
+abbrev pub RuleBoundsTurns : Type 0
+RuleBoundsTurns = (count size : ℕ) (s : St) (r : Rules count size s) (c : Rates) (turns : List (ℕ × Act)) (v : World) (d : Books) (h : Routes) → IsRated c r.books →
+    AreTurns r.world r.books r.routes turns v d h → times_used r.world turns + rank c v ≤ rank c r.world + 2 * unlock_count turns

@@ -1,6 +1,7 @@
 //! What the rule of the table says (specs/RuleLaws). Each function does nothing: its contract is the law.
 
 ghost use Rattle.ipcz_rule.specs.RuleLaws.{RuleGivesHeadline, RuleOwes, ShownHasLengths, PartsAreSound, PartsHandsFit, LinksAreWords};
+ghost use Rattle.ipcz_rule.specs.RuleLaws.{RuleBoundsTurns};
 ghost use Rattle.ipcz_rule.specs.RuleLaws.{PutsAreOnce, GetsFollowPuts, QuietPartsShowQuiet, SettledPartsAreDirect};
 
 /// Where the rule holds, the world that words, slots and views show has each portal's gets a prefix of its peer's puts, each item that was
@@ -54,4 +55,10 @@ pub fn quiet_parts_show_a_quiet_world()
 /// open pair in it is direct: two terminals on one free link, and all that was put has come.
 pub fn settled_parts_are_direct()
     ensures { SettledPartsAreDirect }
+{}
+
+/// Where the rule holds, whatever turns the nodes take from the shown world, no more of them use something up than its rank, and two for each
+/// unlock, by all rates that fit the books: so while no caller calls, a fabric whose seats go on trying comes to its end.
+pub fn what_is_shown_becomes_quiet_within_its_rank()
+    ensures { RuleBoundsTurns }
 {}

@@ -1,5 +1,6 @@
 pub mod Vocabulary
 pub mod Whole
+pub mod WholeTheorem
 pub mod acts
 pub mod begins
 pub mod calls

@@ -10,5 +10,6 @@ pub mod Slots
 pub mod StatesOfNodes
 pub mod Tables
 pub mod Taken
+pub mod Tallying
 pub mod Visiting
 pub mod WordNumbers

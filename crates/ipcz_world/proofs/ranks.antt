@@ -10,3 +10,4 @@ pub mod Turning
 pub mod Ordering
 pub mod Unused
 pub mod Settling
+pub mod Limits

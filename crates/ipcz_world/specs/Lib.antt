@@ -21,12 +21,15 @@ pub mod Records
 pub mod Remembering
 pub mod Routes
 pub mod SettleBounds
+pub mod SettleLimit
 pub mod Settling
 pub mod Soundness
 pub mod Standing
 pub mod Steps
 pub mod Structure
 pub mod Taking
+pub mod Tallies
+pub mod Theorem
 pub mod Turns
 pub mod Visiting
 pub mod Whereabouts

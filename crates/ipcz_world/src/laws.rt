@@ -11,6 +11,17 @@ ghost use Rattle.ipcz_world.specs.Ranks.{ActsLowerTheRank, TurnsKeepRates, Turns
 ghost use Rattle.ipcz_world.specs.SettleBounds.{VisitsAreBounded, UnsettledIsBounded, PlainAreRated, PlainLimitIsEnough, SettledIsDirect};
 ghost use Rattle.ipcz_world.specs.WorldLaws.{HandsStandInMail, OpeningWordsAreEmpty, PendingHaveTerminals};
 ghost use Rattle.ipcz_world.specs.WorldLaws.{RunsArePlain, RepliesStrayNothing};
+ghost use Rattle.ipcz_world.specs.SettleLimit.{RankIsWithinLimit, SettleLimitIsEnough};
+ghost use Rattle.ipcz_world.specs.Theorem.{TheTheoremHolds};
+
+/// The theorem of this repository (specs/Theorem): to their callers the nodes together are the machine over the books alone. Whatever steps
+/// are taken from the start, and whichever possible act each turn takes, that machine gives the same replies; each portal has got a prefix of
+/// what its peer put; each accepted item that its peer hasn't read stands in one place; no message but a Flush finds its router gone; no
+/// router that waits is forgotten; where nothing waits, and words were left, no proxy is; and left alone, the world becomes quiet within its
+/// rank, for all rates that fit.
+pub fn the_theorem_holds_after_every_run()
+    ensures { TheTheoremHolds }
+{}
 
 /// The world at the start, with 1 to 8 nodes and words enough for the first pairs (4096 at most), is lawful with empty books and the
 /// routes of the first pairs.
@@ -233,6 +244,17 @@ pub fn parcels_without_ends_have_rates()
 /// So there a limit that one can reckon, `plain_limit`, is enough for a settle, with two more for each begin that finds no memory.
 pub fn the_plain_limit_is_enough()
     ensures { PlainLimitIsEnough }
+{}
+
+/// Where no item that wasn't read carries an end, the rank is no more than a number that is read off the world: 6 for each number that has
+/// still to pass a router, 15 for each terminal and 61 for each proxy, 38 for each message under way, and 3 for each pending close.
+pub fn the_rank_is_within_the_settle_limit()
+    ensures { RankIsWithinLimit }
+{}
+
+/// So there that number, `settle_limit`, is enough for a settle, with two more for each begin that finds no memory.
+pub fn the_settle_limit_is_enough()
+    ensures { SettleLimitIsEnough }
 {}
 
 /// Where a settle has settled and no router has found the words used up, no proxy is left, and each open pair is direct: what an end has put

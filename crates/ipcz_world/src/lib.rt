@@ -8,6 +8,7 @@ mod mailboxes;
 mod nodes;
 mod state;
 mod step;
+mod tallies;
 mod word_answers;
 mod world;
 

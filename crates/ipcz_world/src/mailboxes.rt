@@ -1,9 +1,12 @@
-ghost use Rattle.std.specs.Prelude.{◌≡◌, ◌<◌, Some, None, IfOk, IfSome, IfNone, length, replicate, List};
+ghost use Rattle.std.specs.Prelude.{◌≡◌, ◌<◌, Some, None, IfOk, IfSome, IfNone, cond, length, replicate, List};
+ghost use Rattle.ipcz_base.specs.Totals.{total_list};
+ghost use Rattle.ipcz_world.specs.Tallies.{Tells};
 ghost use Rattle.ipcz_base.specs.Indexed.{place_at, put_place};
 ghost use Rattle.ipcz_world.specs.Turns.{is_full, is_clear, hand_message};
 ghost use Rattle.ipcz_world.specs.Mailing.{taken_up, put_down};
 
 use crate::mail::Mail;
+use crate::tallies::plus;
 use ipcz_base::Message;
 use std::alloc::{AllocError, Global};
 use std::marker::Model;
@@ -62,6 +65,18 @@ impl Mailboxes {
         ensures { result ≡ is_clear (place_at Mail.Empty self.now k) }
     {
         is_clear(&self.boxes[k])
+    }
+
+    /// How many mailboxes aren't empty.
+    pub(crate) fn full_count(&self) -> Option<u64>
+        ensures { Tells result (total_list (λ m. cond (is_clear m) 0 1) self.now) }
+    {
+        let mut sum = Some(0);
+        for mail in self.boxes.as_slice() {
+            let one = if is_clear(mail) { 0 } else { 1 };
+            sum = plus(sum, Some(one));
+        }
+        sum
     }
 
     /// Leaves this in a mailbox.

@@ -1,4 +1,4 @@
-ghost use Rattle.std.specs.Prelude.{◌≡◌, ◌<◌, IfOk, IfErr, OnErr, OnOk, map};
+ghost use Rattle.std.specs.Prelude.{◌≡◌, ◌<◌, ◌≤◌, IfOk, IfErr, IfSome, OnErr, OnOk, map};
 ghost use Rattle.ipcz_word.specs.Layout.{word_of_bits};
 ghost use Rattle.ipcz_world.specs.Books.{Books, advance, no_books};
 ghost use Rattle.ipcz_world.specs.Coding.{IsTable};
@@ -13,7 +13,9 @@ ghost use Rattle.ipcz_world.specs.FirstRuns.{AreSteps, KeepsLaw};
 ghost use Rattle.ipcz_world.specs.Turns.{next_at};
 ghost use Rattle.ipcz_world.specs.World.{new_world};
 ghost use Rattle.ipcz_world.specs.Settling.{TakesTurn};
-ghost use Rattle.ipcz_world.specs.SettleBounds.{IsLawfulSettle, IsLawfulRefusal};
+ghost use Rattle.ipcz_world.specs.SettleBounds.{CarryNone, IsLawfulSettle, IsLawfulRefusal, plain_limit};
+ghost use Rattle.ipcz_world.specs.SettleLimit.{settle_limit};
+ghost use Rattle.ipcz_world.specs.Tallies.{Tells};
 
 use crate::mail::Mail;
 use crate::state::State;
@@ -145,6 +147,19 @@ impl World {
             replies.push_reserved(self.step(step));
         }
         Ok(replies)
+    }
+
+    /// How many acts are enough to settle, where no parcel that wasn't got carries portals; none where this is no number of 64 bits. It is read
+    /// off the world: 6 for each number that has still to pass a router, 15 for each terminal and 61 for each proxy, 38 for each message
+    /// under way, and 3 for each close that is pending.
+    ///
+    /// A settle with this limit, or a higher one, is settled or refused, but where begins found no memory: each takes two acts more
+    /// (docs/LAW.md). Where parcels carry portals this may be too few. It looks at each router for each router.
+    pub fn settle_limit(&self) -> Option<u64>
+        ensures limit { Tells result (settle_limit self.now) }
+        ensures enough { IfSome result (λ limit. (b : Books) → (g : Routes) → Lawful self.now b g → CarryNone b → plain_limit b self.now ≤ limit) }
+    {
+        self.state.settle_limit()
     }
 
     /// Lets the nodes take turns, one node after the other in passes over them, until no node has an act; at most `limit` acts are taken.
