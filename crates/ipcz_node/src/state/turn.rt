@@ -35,6 +35,13 @@ impl NodeState {
         }
     }
 
+    /// Whether a message waits to be posted to a node. It takes no memory.
+    pub fn has_mail_for(&self, to: u8) -> bool
+        ensures { result ≡ has_mail_for self.now.node to }
+    {
+        self.outboxes.has_mail(to)
+    }
+
     // The lowest node whose mailbox to this one was seen full.
     fn first_sender(&self, seen: &MailSeen) -> Option<u8>
         ensures { result ≡ first_sender self.now.node seen.now }
