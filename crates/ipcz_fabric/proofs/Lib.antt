@@ -15,3 +15,8 @@ pub mod BoxesRead
 pub mod ReadBack
 pub mod Unions
 pub mod Counting
+pub mod FirstActs
+pub mod LockTries
+pub mod TurnWords
+pub mod TurnActs
+pub mod TurnParts

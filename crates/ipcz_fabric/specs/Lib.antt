@@ -9,3 +9,5 @@ pub mod Making
 pub mod Blanks
 pub mod Ending
 pub mod Claims
+pub mod Turns
+pub mod TurnEnds

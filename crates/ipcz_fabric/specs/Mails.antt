@@ -25,9 +25,9 @@ abbrev pub IsProbed : ℕ → ℕ → CellState → CellState → Type 0
 IsProbed i to old new = MatchBool (has_number old.part.probed to) ((new.part ≡ old.part) × (new.seen ≡ old.seen))
     ((new.part ≡ probe_part to old.part) × (new.seen ≡ old.seen ++ (i, 0) ∷ []))
 
--- what a probe answers and leaves: it fails only where the mailbox was found at another value than 0
+-- what a probe answers and leaves: it fails only where the mailbox wasn't taken yet and was found at another value than 0
 abbrev pub Probes : ℕ → ℕ → CellState → Bool → CellState → Type 0
-Probes i to old answer new = MatchBool answer (IsProbed i to old new) ((n : ℕ) × (n ≢ 0) × HasSeen i n old new)
+Probes i to old answer new = MatchBool answer (IsProbed i to old new) ((has_number old.part.probed to ≡ false) × ((n : ℕ) × (n ≢ 0) × HasSeen i n old new))
 
 -- what a look answers and leaves: it fails only where the mailbox was found at another value than 1
 abbrev pub Looks : ℕ → ℕ → CellState → Bool → CellState → Type 0

@@ -1,5 +1,5 @@
 -- The link words of a cell: what the calls on them ask, answer and leave.
-use Rattle.std.specs.Prelude.{◌≡◌, ◌≢◌, ◌<◌, ◌+◌, ℕ, [], ◌∷◌, ◌++◌, List, Bool, true, false, Option, Some, None, Result, MatchResult}
+use Rattle.std.specs.Prelude.{◌≡◌, ◌≢◌, ◌<◌, ◌+◌, ℕ, [], ◌∷◌, ◌++◌, List, Bool, true, false, Option, Some, None, Result, Ok, Err, MatchResult, IfOk}
 use Rattle.ipcz_base.specs.declared.side.Side.{Side}
 use Rattle.ipcz_base.specs.declared.refusal.Refusal.{Refusal}
 use Rattle.ipcz_base.specs.declared.refusal.Refusal.TheVariants.{Raced}
@@ -15,6 +15,7 @@ use Rattle.ipcz_node.specs.Node.{Node, word_side}
 use Rattle.ipcz_world.specs.WordAnswers.{word_answer, word_after}
 use Rattle.ipcz_rule.specs.Steps.{act_part, CanAct}
 use Rattle.ipcz_fabric.specs.CellStates.{CellState}
+use Rattle.ipcz_fabric.specs.declared.words.LockTry.{LockTry}
 
 -- the router of a serial may do an act, on the word i at this side
 pub record CanWord (x : Node) (serial : ℕ) (side : Side) (act : RouterAct) (i : ℕ) : Type 0 where
@@ -50,6 +51,21 @@ pub record TriesLock (serial : ℕ) (old : CellState) (answer : Result LockPlan 
   pub named : word_side old.part.state serial ≡ Some (word, side)
   pub is_word : IsWord loaded
   pub tried : Tried word loaded serial side old answer new
+
+-- the plan of a try for the lock
+abbrev pub plan_in : Result LockTry Refusal → Result LockPlan Refusal
+plan_in (Ok try) = Ok try.plan
+plan_in (Err why) = Err why
+
+-- the same try, with the word and what the load has found
+pub record LocksWord (serial : ℕ) (old : CellState) (answer : Result LockTry Refusal) (new : CellState) : Type 0 where
+  pub word : ℕ
+  pub side : Side
+  pub loaded : ℕ
+  pub named : word_side old.part.state serial ≡ Some (word, side)
+  pub is_word : IsWord loaded
+  pub tried : Tried word loaded serial side old (plan_in answer) new
+  pub told : IfOk answer (λ try. (try.word ≡ word) × (try.found ≡ loaded))
 
 -- what an act on a word that needs no luck answers, the word after, and leaves
 pub record ActsOnWord (serial : ℕ) (act : RouterAct) (old : CellState) (answer : ℕ) (new : CellState) : Type 0 where

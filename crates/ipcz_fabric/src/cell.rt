@@ -1,4 +1,4 @@
-ghost use Rattle.std.specs.Prelude.{◌≡◌, ◌<◌, ◌+◌, ℕ, true, false, if◌then◌else◌, Some, None, OnOk, OnErr, IfOk, IfErr, unwrap_or};
+ghost use Rattle.std.specs.Prelude.{◌≡◌, ◌<◌, ◌+◌, ℕ, true, false, if◌then◌else◌, Some, None, OnOk, OnErr, IfOk, IfErr, IsOk, unwrap_or};
 ghost use Rattle.atomic_table.specs.Table.{Allows};
 ghost use Rattle.ipcz_base.specs.declared.parcel.Parcel.{Parcel as ParcelRecord};
 ghost use Rattle.ipcz_node.specs.Calls.{put_refusal, put_number, put_node, get_refusal, got_at, close_refusal};
@@ -175,14 +175,7 @@ impl<F: FabricName> NodeCell<F> {
         ensures err { IfErr result (λ e. (e.bytes ≡ bytes) × (e.ends ≡ ends) × (self.new.part ≡ self.old.part)) }
         ensures seen { self.new.seen ≡ self.old.seen }
     {
-        put_here::<F, Brand>(
-            &mut self.state,
-            &mut self.seat,
-            fabric,
-            at,
-            bytes,
-            ends,
-        )
+        put_here::<F, Brand>(&mut self.state, &mut self.seat, fabric, at, bytes, ends)
     }
 
     /// Takes the next parcel at an end that callers of this node hold, as `NodeState::get`. It takes no memory.
@@ -217,6 +210,7 @@ impl<F: FabricName> NodeCell<F> {
         ensures allowed { OnOk result (act_lacks_serials self.old.part.state act.now ≡ false) }
         ensures why { IfErr result
             (λ e. e ≡ (if act_lacks_serials self.old.part.state act.now then Refusal.NumbersEnd else Refusal.OutOfMemory)) }
+        ensures grows { act_grows act.now ≡ false → IsOk result }
     {
         self.state.prepare(act)
     }

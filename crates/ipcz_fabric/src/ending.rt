@@ -125,7 +125,8 @@ pub(crate) struct Rest {
 impl<F: FabricName> NodeCell<F> {
     /// The number of the node.
     pub fn node(&self) -> u8
-        ensures { result ≡ self.now.part.node }
+        ensures node { result ≡ self.now.part.node }
+        ensures inside { result < F.table.count }
     {
         self.state.number()
     }
@@ -391,7 +392,5 @@ pub fn finish<F: FabricName>(
         words,
         of: _,
     } = fabric;
-    Ok(close(
-        table, seat, states, hands, boxes, bits, nodes, words,
-    ))
+    Ok(close(table, seat, states, hands, boxes, bits, nodes, words))
 }

@@ -10,6 +10,7 @@ mod mail;
 mod making;
 mod plays;
 mod probed;
+mod turns;
 mod words;
 
 pub use cell::NodeCell;

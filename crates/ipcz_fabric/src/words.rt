@@ -11,7 +11,7 @@ ghost use Rattle.ipcz_world.specs.WordAnswers.{word_after};
 ghost use Rattle.ipcz_fabric.specs.CellStates.{part_in, roomy};
 ghost use Rattle.ipcz_fabric.specs.Cells.{AreSound};
 ghost use Rattle.ipcz_fabric.specs.Outcomes.{IsPicked, worded, is_refused_at, always};
-ghost use Rattle.ipcz_fabric.specs.Words.{CanWord, TriesLock, ActsOnWord, is_refused_plan};
+ghost use Rattle.ipcz_fabric.specs.Words.{CanWord, TriesLock, LocksWord, ActsOnWord, is_refused_plan};
 ghost use Rattle.std.specs.Prelude.{eqb};
 
 use crate::cell::NodeCell;
@@ -220,27 +220,33 @@ pub(crate) fn commit_word(state: &mut NodeState, serial: u64, act: RouterAct, an
     let _done = state.commit(Act::Router(serial, act), answer);
 }
 
+/// A try for the lock: the plan by what the load has found, and of which word.
+#[derive(Clone, Copy)]
+pub(crate) struct LockTry {
+    pub(crate) plan: LockPlan,
+    pub(crate) word: u32,
+    pub(crate) found: u64,
+}
+
 impl<F: FabricName> NodeCell<F> {
-    /// Tries for the lock of the word of a router's outward primary link: one load, and one exchange unless the load found that the lock is
-    /// refused. It answers `Raced` only where the exchange found another word than the load; then nothing but what was seen has changed. It
-    /// takes no memory.
-    pub fn word_try_lock(&mut self, fabric: &Fabric<F>, serial: u64) -> Result<LockPlan, Refusal>
+    // Tries for the lock of the word of a router's outward primary link, and tells which word that is and what the load found.
+    pub(crate) fn lock_word(&mut self, fabric: &Fabric<F>, serial: u64) -> Result<LockTry, Refusal>
         requires { IsPossibleAct self.old.part.state (Act.Router serial RouterAct.Lock) }
-        ensures { TriesLock serial self.old result self.new }
+        ensures { LocksWord serial self.old result self.new }
     {
-        let (i, side) = word_here(&mut self.state, serial, RouterAct::Lock);
-        let found = status_here::<F, Brand>(&mut self.seat, fabric, i, serial, side);
+        let (word, side) = word_here(&mut self.state, serial, RouterAct::Lock);
+        let found = status_here::<F, Brand>(&mut self.seat, fabric, word, serial, side);
         let answered = answer_act(found, side, RouterAct::Lock);
         let plan = try_lock(found, side);
         let refused = is_refused(plan);
         if refused {
             commit_word(&mut self.state, serial, RouterAct::Lock, answered.answer);
-            return Ok(plan);
+            return Ok(LockTry { plan, word, found });
         }
         let now = lock_here::<F, Brand>(
             &mut self.seat,
             fabric,
-            i,
+            word,
             serial,
             side,
             found,
@@ -250,7 +256,18 @@ impl<F: FabricName> NodeCell<F> {
             return Err(Refusal::Raced);
         }
         commit_word(&mut self.state, serial, RouterAct::Lock, answered.answer);
-        Ok(plan)
+        Ok(LockTry { plan, word, found })
+    }
+
+    /// Tries for the lock of the word of a router's outward primary link: one load, and one exchange unless the load found that the lock is
+    /// refused. It answers `Raced` only where the exchange found another word than the load; then nothing but what was seen has changed. It
+    /// takes no memory.
+    pub fn word_try_lock(&mut self, fabric: &Fabric<F>, serial: u64) -> Result<LockPlan, Refusal>
+        requires { IsPossibleAct self.old.part.state (Act.Router serial RouterAct.Lock) }
+        ensures { TriesLock serial self.old result self.new }
+    {
+        let tried = self.lock_word(fabric, serial)?;
+        Ok(tried.plan)
     }
 
     /// Marks a router's side of the word of its outward primary link stable, and answers the word after. It takes no memory.

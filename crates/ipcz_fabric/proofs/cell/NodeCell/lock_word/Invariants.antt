@@ -1,7 +1,7 @@
 use Rattle.std.specs.Prelude.{eqb}
 use Rattle.ipcz_router.specs.declared.act.RouterAct.TheVariants as router_acts
 use Rattle.ipcz_fabric.specs.Outcomes.{worded, is_refused_at}
-use Rattle.ipcz_fabric.proofs.cell.NodeCell.word_try_lock.Given as goal
+use Rattle.ipcz_fabric.proofs.cell.NodeCell.lock_word.Given as goal
 
 abbrev pub ghosts-status_here : goal.ghosts-status_here
 ghosts-status_here g a = record { tells = worded a.i a.serial a.side router_acts.Lock (is_refused_at a.side) }

@@ -1,0 +1,149 @@
+//! Cells of one table on one thread, by steps that say what each call gives.
+//!
+//! Nothing is promised of what stands here: a test's own proof would else work out the whole cell at each call. So a test is a list of steps.
+mod bypass;
+mod parcel;
+
+use ipcz_base::{End, Ends, Refusal, Sequence, Side};
+use ipcz_fabric::{Blank, Fabric, FabricName, NodeCell};
+use std::alloc::{AllocError, Global};
+
+const A0: End = End {
+    pair: 0,
+    side: Side::A,
+};
+
+const B0: End = End {
+    pair: 0,
+    side: Side::B,
+};
+
+const A1: End = End {
+    pair: 1,
+    side: Side::A,
+};
+
+const B1: End = End {
+    pair: 1,
+    side: Side::B,
+};
+
+/// A call on a node's cell, with what it gives.
+#[derive(Clone, Copy)]
+enum Call {
+    /// Opens a pair, which has these ends.
+    Open(End, End),
+    /// Puts these bytes and ends at an end, under this number.
+    Put(End, &'static [u8], &'static [End], u64),
+    /// Takes turns, which do this as their values print.
+    Turns(&'static [&'static str]),
+    /// Gets these bytes and ends at an end, under this number.
+    Get(End, &'static [u8], &'static [End], u64),
+    /// Closes an end, whose mark has this number.
+    Close(End, u64),
+}
+
+/// A call on the cell of a node.
+#[derive(Clone, Copy)]
+struct Step {
+    node: usize,
+    call: Call,
+}
+
+// A list of these ends.
+fn list(alloc: Global, ends: &[End]) -> Result<Ends, AllocError> {
+    let mut list = Vec::new(alloc);
+    list.extend_from_slice(ends)?;
+    Ok(Sequence::from_vec(list))
+}
+
+// Whether a turn does what its value prints.
+fn takes<F: FabricName>(
+    fabric: &Fabric<F>,
+    cell: &mut NodeCell<F>,
+    alloc: Global,
+    event: &str,
+) -> Result<bool, Refusal> {
+    let happened = cell.turn(fabric)?;
+    let Ok(text) = format!(in alloc; "{happened:?}") else {
+        return Err(Refusal::OutOfMemory);
+    };
+    Ok(text.as_str() == event)
+}
+
+// Whether turns do what their values print.
+fn take_all<F: FabricName>(
+    fabric: &Fabric<F>,
+    cell: &mut NodeCell<F>,
+    alloc: Global,
+    events: &[&str],
+) -> Result<bool, Refusal> {
+    for event in events {
+        if !takes(fabric, cell, alloc, event)? {
+            return Ok(false);
+        }
+    }
+    Ok(true)
+}
+
+// Whether a put has this number.
+fn puts<F: FabricName>(
+    fabric: &Fabric<F>,
+    cell: &mut NodeCell<F>,
+    alloc: Global,
+    at: End,
+    data: &[u8],
+    ends: &[End],
+    number: u64,
+) -> Result<bool, AllocError> {
+    let mut bytes = Vec::new(alloc);
+    bytes.extend_from_slice(data)?;
+    match cell.put(fabric, at, Sequence::from_vec(bytes), list(alloc, ends)?) {
+        Ok(n) => Ok(n == number),
+        Err(_) => Ok(false),
+    }
+}
+
+// Whether a call gives what it should.
+fn gives<F: FabricName>(
+    fabric: &Fabric<F>,
+    cell: &mut NodeCell<F>,
+    alloc: Global,
+    call: Call,
+) -> Result<bool, Refusal> {
+    match call {
+        Call::Open(a, b) => Ok(cell.open_pair(fabric)? == (a, b)),
+        Call::Put(at, data, ends, number) => {
+            Ok(puts(fabric, cell, alloc, at, data, ends, number)?)
+        }
+        Call::Turns(events) => take_all(fabric, cell, alloc, events),
+        Call::Get(at, data, ends, number) => {
+            let (n, parcel) = cell.get(fabric, at)?;
+            Ok(n == number
+                && parcel.bytes.as_slice() == data
+                && parcel.ends.as_slice() == ends)
+        }
+        Call::Close(at, number) => Ok(cell.close(fabric, at)? == number),
+    }
+}
+
+// How many of the steps give what they should, up to the first that doesn't.
+fn run<F: FabricName>(blank: Blank, alloc: Global, steps: &[Step]) -> Result<usize, Refusal>
+    requires { blank ≡ F.table }
+{
+    let (fabric, mut cells) = match blank.name::<F>() {
+        Ok(named) => named,
+        Err((why, _)) => return Err(why),
+    };
+    let mut done = 0;
+    for step in steps {
+        let Some(cell) = cells.as_mut_slice().get_mut(step.node) else {
+            return Ok(done);
+        };
+        if !gives(&fabric, cell, alloc, step.call)? {
+            return Ok(done);
+        }
+        done += 1;
+    }
+    Ok(done)
+}

@@ -1,0 +1,5 @@
+//! Tests of cells through their public calls. They stand in a crate of their own, so that `ipcz_fabric` is proved once.
+#![tactic(auto)]
+
+#[cfg(test)]
+mod cells;
