@@ -15,3 +15,4 @@ pub mod BoxesRead
 pub mod ReadBack
 pub mod Unions
 pub mod Counting
+pub mod OpenSteps

@@ -9,3 +9,4 @@ pub mod Making
 pub mod Blanks
 pub mod Ending
 pub mod Claims
+pub mod Opens

@@ -8,8 +8,10 @@ mod ending;
 mod fabric;
 mod mail;
 mod making;
+mod opens;
 mod plays;
 mod probed;
+mod quiet;
 mod words;
 
 pub use cell::NodeCell;
