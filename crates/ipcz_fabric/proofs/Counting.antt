@@ -24,7 +24,7 @@ use Rattle.ipcz_fabric.proofs.Keeping.{router_act_keeps, act_state}
 use Rattle.ipcz_fabric.proofs.Seating.{may_by, reseated, touched_cell}
 
 -- a step at the claim count tells that what it finds is at most the number of words
-counts_told : (count size slots id : ℕ) (m : Mine) (f : ℕ → ℕ) (then : ℕ → Mine → Type 0) → Allows (Rules count size) slots id m size f then → Allows (Rules count size) slots id m size f (λ n m'. (n ≤ size) × then n m')
+pub counts_told : (count size slots id : ℕ) (m : Mine) (f : ℕ → ℕ) (then : ℕ → Mine → Type 0) → Allows (Rules count size) slots id m size f then → Allows (Rules count size) slots id m size f (λ n m'. (n ≤ size) × then n m')
 counts_told count size slots id m f then may s r deep at small =
     let h = may s r deep at small in
     let most = (lists_have_lengths r.world r.books r.routes r.lawful).claimed in

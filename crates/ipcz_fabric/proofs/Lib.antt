@@ -20,3 +20,4 @@ pub mod LockTries
 pub mod TurnWords
 pub mod TurnActs
 pub mod TurnParts
+pub mod OpenSteps

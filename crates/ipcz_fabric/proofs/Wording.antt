@@ -42,7 +42,7 @@ use Rattle.ipcz_fabric.proofs.Keeping.{router_act_keeps, act_state}
 use Rattle.ipcz_fabric.proofs.Seating.{may_by, reseated, touched_cell, own_sound}
 
 -- a step at a link tells that what it finds is a link word
-words_told : (count size slots id i : ℕ) (m : Mine) (f : ℕ → ℕ) (then : ℕ → Mine → Type 0) → i < size → Allows (Rules count size) slots id m i f then →
+pub words_told : (count size slots id i : ℕ) (m : Mine) (f : ℕ → ℕ) (then : ℕ → Mine → Type 0) → i < size → Allows (Rules count size) slots id m i f then →
     Allows (Rules count size) slots id m i f (λ n m'. IsWord n × then n m')
 words_told count size slots id i m f then inside may s r deep at small = let h = may s r deep at small in (h.0, h.1, h.2, h.3, (links_are_words count size s r i inside, h.4))
 

@@ -11,3 +11,4 @@ pub mod Ending
 pub mod Claims
 pub mod Turns
 pub mod TurnEnds
+pub mod Opens

@@ -8,9 +8,11 @@ mod ending;
 mod fabric;
 mod mail;
 mod making;
+mod opens;
 mod plays;
 mod probed;
 mod turns;
+mod quiet;
 mod words;
 
 pub use cell::NodeCell;

@@ -1,0 +1,14 @@
+use Rattle.std.proofs.Common.{Bool, ◌&&◌, ap, sym, subst, ◌∙◌}
+use Rattle.ipcz_fabric.specs.Opens.{FindsFree}
+use Rattle.ipcz_fabric.proofs.OpenSteps.{one_more}
+use Rattle.ipcz_fabric.proofs.cell.NodeCell.+are_free.Goals as goal
+
+pub returns-then-here : goal.returns-then-here
+returns-then-here g t c =
+    subst (λ (b : Bool). FindsFree g.F.FabricName.table c.args.from c.args.self.now b c.are_free-rest.new.self) (ap (λ (h : Bool). h && c.are_free-rest.result) (sym c.is_free-here.ensures ∙ c.if-here.true))
+    (one_more g.F.FabricName.table c.args.from c.load_box.result _ c.load_box.new.self _ c.are_free-rest.result c.load_box.ensures c.are_free-rest.ensures)
+
+pub returns-else-here : goal.returns-else-here
+returns-else-here g t c =
+    subst (λ (b : Bool). FindsFree g.F.FabricName.table c.args.from c.args.self.now b c.are_free-rest.new.self) (ap (λ (h : Bool). h && c.are_free-rest.result) (sym c.is_free-here.ensures ∙ c.if-here.false) ∙ sym c.if-here.false)
+    (one_more g.F.FabricName.table c.args.from c.load_box.result _ c.load_box.new.self _ c.are_free-rest.result c.load_box.ensures c.are_free-rest.ensures)

@@ -1,0 +1,27 @@
+use Rattle.std.proofs.Common.{◌≡◌, ◌+◌, ◌*◌, ℕ, ap, sym, ◌∙◌, arith}
+use Rattle.ipcz_rule.proofs.WordKinds.{loads}
+use Rattle.ipcz_fabric.specs.CellStates.{CellState, part_in}
+use Rattle.ipcz_fabric.specs.Mails.{mail_word}
+use Rattle.ipcz_fabric.proofs.Mailing.{seen_cell, load_tells}
+use Rattle.ipcz_fabric.proofs.Seating.{number_is, number_inside}
+use Rattle.ipcz_fabric.proofs.cell.NodeCell.load_box.Goals as goal
+
+pub slot_of-requires-clause-to : goal.slot_of-requires-clause-to
+slot_of-requires-clause-to g c = let inside = number_inside _ _ _ _ c.self.invariant.seated in let is = c.number.ensures in omega (arith, inside, is)
+
+pub load_step-requires-clause-may : goal.load_step-requires-clause-may
+load_step-requires-clause-may g c =
+    let t = g.F.FabricName.table in
+    loads t.count t.size t.id.slots c.self.inside.seat.id c.word_of-word.result c.self.inside.seat.me (part_in c.self.inside.seat.me.0) c.self.invariant.seated.whole
+
+pub invariant_of-self : goal.invariant_of-self
+invariant_of-self g c =
+    let done = c.load_step.ensures in
+    seen_cell g.F.FabricName.table _ _ _ _ _ c.self.invariant _ c.load_step.new.seat.me done.table done.sound c.word_of-word.result c.load_step.result done.done
+
+pub returns : goal.returns
+returns g c =
+    let t = g.F.FabricName.table in
+    let node : c.number.result ≡ c.args.self.now.part.node = c.number.ensures ∙ (number_is _ _ _ _ c.self.invariant.seated ∙ ap (λ (z : CellState). z.part.node) c.self.view_is) in
+    load_tells _ c.word_of-word.result c.load_step.result c.self.inside.seat.me c.load_step.new.seat.me c.self.inside.state.room c.self.inside.state.room _ c.self.view_is
+    (c.word_of-word.ensures.word ∙ (ap (λ (k : ℕ). t.size + 1 + t.count + k) c.slot_of.ensures.slot ∙ ap (λ (n : ℕ). mail_word t c.args.from n) node)) c.load_step.ensures.done
