@@ -15,3 +15,6 @@ pub mod BoxesRead
 pub mod ReadBack
 pub mod Unions
 pub mod Counting
+pub mod Working
+pub mod Portaling
+pub mod Holding

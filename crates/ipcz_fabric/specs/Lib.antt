@@ -9,3 +9,6 @@ pub mod Making
 pub mod Blanks
 pub mod Ending
 pub mod Claims
+pub mod Portals
+pub mod Hubs
+pub mod Workers
