@@ -21,3 +21,6 @@ pub mod TurnWords
 pub mod TurnActs
 pub mod TurnParts
 pub mod OpenSteps
+pub mod Working
+pub mod Portaling
+pub mod Holding

@@ -12,3 +12,6 @@ pub mod Claims
 pub mod Turns
 pub mod TurnEnds
 pub mod Opens
+pub mod Portals
+pub mod Hubs
+pub mod Workers

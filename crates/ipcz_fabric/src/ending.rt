@@ -262,7 +262,7 @@ fn make_room(alloc: Global, nodes: u8, words: u32) -> Result<Room, AllocError>
 }
 
 // Whether the cells are those of the nodes from one on, in their order.
-fn is_in_order<F: FabricName>(cells: &[NodeCell<F>], i: u8, count: u8) -> bool
+pub(crate) fn is_in_order<F: FabricName>(cells: &[NodeCell<F>], i: u8, count: u8) -> bool
     requires { i ≤ count }
     ensures { result ≡ is_in_order count i cells.now }
 {

@@ -1,0 +1,31 @@
+-- What a worker does: it asks before each turn whether it may take one, and goes on until it may not, or a turn ends it.
+use Rattle.std.specs.Prelude.{◌≡◌, ◌+◌, ℕ, zero, suc, Bool, true, false, Result, Ok, Err, MatchBool}
+use Rattle.ipcz_base.specs.declared.refusal.Refusal.{Refusal}
+use Rattle.ipcz_base.specs.declared.refusal.Refusal.TheVariants as refusals
+use Rattle.ipcz_node.specs.declared.happened.Happened.{Happened}
+
+-- what a turn is answered
+abbrev pub Answer : Type 0
+Answer = Result Happened Refusal
+
+-- how many turns were taken, with one that was answered this: a refused one isn't taken
+abbrev pub counted : ℕ → Answer → ℕ
+counted turns (Ok event) = turns + 1
+counted turns (Err why) = turns
+
+-- whether a refusal ends the work on a hub: one of memory or of numbers does, a lost race doesn't
+abbrev pub ends_work : Answer → Bool
+ends_work (Ok event) = false
+ends_work (Err refusals.OutOfMemory) = true
+ends_work (Err refusals.NumbersEnd) = true
+ends_work (Err other) = false
+
+module _ {S : Type 0} (asks : S → ℕ → Bool → S → Type 0) (takes : S → Answer → S → Type 0) (ends : Answer → Bool) where
+  -- with so many turns left and so many taken, a worker comes from one state to another and answers how many it has taken then: before each
+  -- turn it asks whether it may take it, and where it may not that is the end; so it is after a turn whose answer ends it, and where no turn
+  -- is left
+  abbrev pub Works : ℕ → ℕ → S → ℕ → S → Type 0
+  Works zero turns s answer t = (answer ≡ turns) × (t ≡ s)
+  Works (suc left) turns s answer t = (may : Bool) × (u : S) × asks s turns may u ×
+      MatchBool may ((a : Answer) × (v : S) × takes u a v × MatchBool (ends a) ((answer ≡ counted turns a) × (t ≡ v)) (Works left (turns + 1) v answer t))
+      ((answer ≡ turns) × (t ≡ u))

@@ -1,0 +1,193 @@
+//! Hubs: cells that threads share, each behind a lock of its own. There is no other lock.
+ghost use Rattle.std.specs.Prelude.{◌≡◌, ◌≤◌, ◌<◌, OnOk, IfOk, IfErr, vec_len, vec_capacity};
+ghost use Rattle.ipcz_fabric.specs.Ending.{FinishRefuses};
+ghost use Rattle.ipcz_fabric.specs.Hubs.{AddsFirst, AddsHeld, AreFirstPortals};
+
+use crate::cell::NodeCell;
+use crate::ending::is_in_order;
+use crate::fabric::{Fabric, FabricName};
+use crate::portal::Portal;
+use ipcz_base::Refusal;
+use ipcz_node::NodeState;
+use std::alloc::{AllocError, Global};
+use std::collections::VecDeque;
+use std::marker::Model;
+use std::sync::Mutex;
+
+/// The cells of a table's nodes, that threads share: one lock round each cell, and no other.
+///
+/// What a call under a lock did is what the call of the cell says; the lock adds nothing to it, and takes nothing away.
+#[derive(Drop)]
+pub struct Hub<F: FabricName> {
+    fabric: Fabric<F>,
+    cells: Vec<Mutex<NodeCell<F>>>,
+    alloc: Global,
+}
+
+impl<F: FabricName> Model for Hub<F> {
+    ghost use Rattle.std.specs.Prelude.{◌≡◌, ℕ, vec_len};
+
+    ghost Value = { ℕ };
+
+    ghost view = { λ h. vec_len h.cells };
+
+    ghost invariant = { λ h. vec_len h.cells ≡ F.table.count };
+}
+
+// Puts a lock round each of these cells.
+fn lock_all<F: FabricName>(
+    cells: Vec<NodeCell<F>>,
+    mut locked: Vec<Mutex<NodeCell<F>>>,
+) -> Vec<Mutex<NodeCell<F>>>
+    requires room { vec_len cells ≤ vec_capacity locked }
+    requires empty { vec_len locked ≡ 0 }
+    ensures { vec_len result ≡ vec_len cells }
+{
+    let count = cells.len();
+    let mut cells = VecDeque::from_vec(cells);
+    for _done in 0..count {
+        let Some(cell) = cells.pop_front() else {
+            unreachable!()
+        };
+        locked.push_reserved(Mutex::new(cell));
+    }
+    locked
+}
+
+// Takes each cell out of its lock.
+fn unlock_all<F: FabricName>(
+    locked: Vec<Mutex<NodeCell<F>>>,
+    mut cells: Vec<NodeCell<F>>,
+) -> Vec<NodeCell<F>>
+    requires room { vec_len locked ≤ vec_capacity cells }
+    requires empty { vec_len cells ≡ 0 }
+    ensures { vec_len result ≡ vec_len locked }
+{
+    let count = locked.len();
+    let mut locked = VecDeque::from_vec(locked);
+    for _done in 0..count {
+        let Some(lock) = locked.pop_front() else {
+            unreachable!()
+        };
+        cells.push_reserved(lock.into_inner());
+    }
+    cells
+}
+
+// Adds a portal for each end that callers of a node hold, by the serial of the end's terminal.
+fn add_held<F: FabricName>(
+    state: &NodeState,
+    portals: &mut Vec<Portal<F>>,
+) -> Result<(), AllocError>
+    requires { state.now.node.number < F.table.count }
+    ensures { OnOk result (AddsHeld state.now.node state.now.node.number portals.old.items portals.new.items) }
+{
+    let node = state.number();
+    let mut from = 0;
+    loop {
+        let Some((serial, end)) = state.held_from(from) else {
+            return Ok(());
+        };
+        portals.push(Portal::new(node, end))?;
+        if serial == u64::MAX {
+            return Ok(());
+        }
+        from = serial + 1;
+    }
+}
+
+// Adds a portal for each end that callers of these cells' nodes hold, one cell after the other.
+fn add_first<F: FabricName>(
+    cells: &[NodeCell<F>],
+    portals: &mut Vec<Portal<F>>,
+) -> Result<(), AllocError>
+    ensures { OnOk result (AddsFirst cells.now portals.old.items portals.new.items) }
+{
+    match cells {
+        [] => Ok(()),
+        [cell, rest @ ..] => {
+            cell.add_held(portals)?;
+            add_first(rest, portals)
+        }
+    }
+}
+
+impl<F: FabricName> NodeCell<F> {
+    // Adds a portal for each end that callers of the cell's node hold.
+    fn add_held(&self, portals: &mut Vec<Portal<F>>) -> Result<(), AllocError>
+        ensures { OnOk result (AddsHeld self.now.part.state self.now.part.node portals.old.items portals.new.items) }
+    {
+        add_held(&self.state, portals)
+    }
+}
+
+impl<F: FabricName> Hub<F> {
+    /// A hub of a table's cells, and a portal for each end that callers of their nodes hold: by node, and then by the serial of the end's
+    /// terminal.
+    ///
+    /// Refused `Stranger` where the cells' nodes aren't 0, 1, and so on to the last, in order; else `OutOfMemory`. A refusal gives the fabric
+    /// and the cells back, as they were.
+    pub fn new(
+        fabric: Fabric<F>,
+        cells: Vec<NodeCell<F>>,
+    ) -> Result<(Hub<F>, Vec<Portal<F>>), (Refusal, Fabric<F>, Vec<NodeCell<F>>)>
+        ensures cells { IfOk result (λ r. r.0 ≡ vec_len cells) }
+        ensures portals { IfOk result (λ r. AreFirstPortals cells.items r.1.items) }
+        ensures why { IfErr result (λ e. FinishRefuses F.table.count cells.items e.0) }
+        ensures back { IfErr result (λ e. e.2.items ≡ cells.items) }
+    {
+        if !is_in_order(cells.as_slice(), 0, fabric.nodes) {
+            return Err((Refusal::Stranger, fabric, cells));
+        }
+        let alloc = *cells.allocator();
+        let Ok(room) = Vec::with_capacity(alloc, cells.len()) else {
+            return Err((Refusal::OutOfMemory, fabric, cells));
+        };
+        let mut portals = Vec::new(alloc);
+        if add_first(cells.as_slice(), &mut portals).is_err() {
+            return Err((Refusal::OutOfMemory, fabric, cells));
+        }
+        let hub = Hub {
+            fabric,
+            cells: lock_all(cells, room),
+            alloc,
+        };
+        Ok((hub, portals))
+    }
+
+    // The lock of a node's cell.
+    pub(crate) fn cell(&self, node: u8) -> &Mutex<NodeCell<F>>
+        requires { node < F.table.count }
+    {
+        &self.cells[node as usize]
+    }
+
+    // The table.
+    pub(crate) fn fabric(&self) -> &Fabric<F> {
+        &self.fabric
+    }
+
+    // Where its lists take memory.
+    pub(crate) fn allocator(&self) -> Global {
+        self.alloc
+    }
+
+    /// Takes the cells out of their locks, and gives the table and as many cells as were put in. It waits for nothing.
+    ///
+    /// It is refused `OutOfMemory` alone, and then gives the hub back.
+    pub fn into_cells(self) -> Result<(Fabric<F>, Vec<NodeCell<F>>), (Refusal, Hub<F>)>
+        ensures many { IfOk result (λ r. vec_len r.1 ≡ self) }
+        ensures why { IfErr result (λ e. e.0 ≡ Refusal.OutOfMemory) }
+        ensures back { IfErr result (λ e. e.1 ≡ self) }
+    {
+        let Ok(room) = Vec::with_capacity(self.alloc, self.cells.len()) else {
+            return Err((Refusal::OutOfMemory, self));
+        };
+        let Hub {
+            fabric,
+            cells,
+            alloc: _,
+        } = self;
+        Ok((fabric, unlock_all(cells, room)))
+    }
+}

@@ -1,0 +1,184 @@
+//! Portals: ends that callers own. A portal can't be copied, and travels in parcels.
+ghost use Rattle.std.specs.Prelude.{◌≡◌, ◌≤◌, ◌<◌, ◌+◌, ◌++◌, All, IfOk, IfErr, take, vec_len, vec_capacity};
+ghost use Rattle.ipcz_fabric.specs.Portals.{ends_of, portals_at, IsGetRefusal, IsCloseRefusal};
+
+use crate::fabric::FabricName;
+use crate::hub::Hub;
+use ipcz_base::{Bytes, End, Ends, Refusal};
+use std::alloc::{AllocError, Global};
+use std::marker::{Model, PhantomData};
+use std::sync::Wait;
+
+// How many portals a parcel can have: no put takes more.
+const MOST_PORTALS: usize = 8;
+
+/// An end that callers of a node hold, of the table that F names. It isn't `Clone`: what has the portal has the end.
+///
+/// One that is dropped unclosed leaves its end open: nobody can put or get there any more, and its peer isn't told.
+#[derive(Drop)]
+pub struct Portal<F: FabricName> {
+    node: u8,
+    end: End,
+    of: PhantomData<F>,
+}
+
+impl<F: FabricName> Model for Portal<F> {
+    ghost use Rattle.std.specs.Prelude.{◌<◌};
+    ghost use Rattle.std.specs.Coded.{codes};
+    ghost use Rattle.ipcz_fabric.specs.Portals.{PortalValue};
+
+    ghost Value = { PortalValue };
+
+    ghost coded = { Prim.hlevel codes };
+
+    ghost view = { λ p. record { node = p.node; end = p.end } };
+
+    ghost invariant = { λ p. p.node < F.table.count };
+}
+
+/// What a get at a portal gives: a parcel, with its number. Its ends are portals of the node where it was got.
+#[derive(Drop)]
+pub struct Got<F: FabricName> {
+    pub n: u64,
+    pub bytes: Vec<u8>,
+    pub portals: Vec<Portal<F>>,
+}
+
+/// A put at a portal that was refused: why, and what was to be put.
+#[derive(Drop)]
+pub struct PortalPutRefused<F: FabricName> {
+    pub why: Refusal,
+    pub bytes: Vec<u8>,
+    pub portals: Vec<Portal<F>>,
+}
+
+// The ends of these portals.
+fn ends_of<F: FabricName>(alloc: Global, portals: &[Portal<F>]) -> Result<Ends, AllocError>
+    ensures { IfOk result (λ ends. ends ≡ ends_of portals.now) }
+{
+    let mut ends = Vec::with_capacity(alloc, portals.len())?;
+    for portal in portals {
+        ends.push(portal.end)?;
+    }
+    Ok(Ends::from_vec(ends))
+}
+
+// Adds the portals of these ends at a node, but no more than are left to add.
+fn add_portals<F: FabricName>(node: u8, ends: &[End], left: usize, portals: &mut Vec<Portal<F>>)
+    requires node { node < F.table.count }
+    requires room { vec_len portals.old + left ≤ vec_capacity portals.old }
+    ensures { portals.new.items ≡ portals.old.items ++ portals_at node (take left ends.now) }
+{
+    if left == 0 {
+        return;
+    }
+    if let [end, rest @ ..] = ends {
+        portals.push_reserved(Portal::new(node, *end));
+        add_portals(node, rest, left - 1, portals);
+    }
+}
+
+impl<F: FabricName> Portal<F> {
+    // The portal of an end that callers of a node hold.
+    pub(crate) fn new(node: u8, end: End) -> Portal<F>
+        requires { node < F.table.count }
+        ensures { result ≡ record { node = node; end = end } }
+    {
+        Portal {
+            node,
+            end,
+            of: PhantomData,
+        }
+    }
+
+    /// The number of the node whose callers hold the end.
+    pub fn node(&self) -> u8
+        ensures { result ≡ self.now.node }
+    {
+        self.node
+    }
+
+    /// The end.
+    pub fn end(&self) -> End
+        ensures { result ≡ self.now.end }
+    {
+        self.end
+    }
+
+    /// Puts a parcel, under the lock of the portal's node, and answers its number: its bytes, and portals, which are used up. What else holds
+    /// of it is what `NodeCell::put` says.
+    ///
+    /// A refused put gives bytes and portals back. Room for the list of ends is taken first, so `OutOfMemory` comes before all else; then
+    /// the refusals are those of `NodeState::put`, in their order. A portal of another node is a `Stranger`.
+    pub fn put<R: Wait>(
+        &self,
+        rt: &R,
+        hub: &Hub<F>,
+        bytes: Vec<u8>,
+        portals: Vec<Portal<F>>,
+    ) -> Result<u64, PortalPutRefused<F>>
+        ensures back { IfErr result (λ e. (e.bytes.items ≡ bytes.items) × (e.portals.items ≡ portals.items)) }
+    {
+        let Ok(ends) = ends_of(hub.allocator(), portals.as_slice()) else {
+            return Err(PortalPutRefused {
+                why: Refusal::OutOfMemory,
+                bytes,
+                portals,
+            });
+        };
+        let put = hub
+            .cell(self.node)
+            .lock(rt)
+            .put(hub.fabric(), self.end, Bytes::from_vec(bytes), ends);
+        match put {
+            Ok(n) => Ok(n),
+            Err(refused) => Err(PortalPutRefused {
+                why: refused.why,
+                bytes: refused.bytes.into_vec(),
+                portals,
+            }),
+        }
+    }
+
+    /// Takes the next parcel, under the lock of the portal's node. What else holds of it is what `NodeCell::get` says.
+    ///
+    /// Room for eight portals is taken first, so `OutOfMemory` comes before all else, and no parcel is lost; then the refusals are those of
+    /// `NodeState::get`: `Stranger`, `Empty`, `PeerClosed`.
+    pub fn get<R: Wait>(&self, rt: &R, hub: &Hub<F>) -> Result<Got<F>, Refusal>
+        ensures here { IfOk result (λ g. All (λ p. p.node ≡ self.now.node) g.portals.items) }
+        ensures few { IfOk result (λ g. vec_len g.portals ≤ 8) }
+        ensures why { IfErr result IsGetRefusal }
+    {
+        let Ok(mut portals) = Vec::with_capacity(hub.allocator(), MOST_PORTALS) else {
+            return Err(Refusal::OutOfMemory);
+        };
+        let got = hub.cell(self.node).lock(rt).get(hub.fabric(), self.end);
+        match got {
+            Ok((n, parcel)) => {
+                let ends = parcel.ends.as_slice();
+                add_portals(self.node, ends, MOST_PORTALS, &mut portals);
+                Ok(Got {
+                    n,
+                    bytes: parcel.bytes.into_vec(),
+                    portals,
+                })
+            }
+            Err(why) => Err(why),
+        }
+    }
+
+    /// Closes the end, under the lock of the portal's node, and answers the number of the mark that its peer is to get.
+    ///
+    /// A refused close gives the portal back. It answers `Stranger` where callers of the node don't hold the end any more, else
+    /// `OutOfMemory`.
+    pub fn close<R: Wait>(self, rt: &R, hub: &Hub<F>) -> Result<u64, (Refusal, Portal<F>)>
+        ensures back { IfErr result (λ e. e.1 ≡ self) }
+        ensures why { IfErr result (λ e. IsCloseRefusal e.0) }
+    {
+        let closed = hub.cell(self.node).lock(rt).close(hub.fabric(), self.end);
+        match closed {
+            Ok(n) => Ok(n),
+            Err(why) => Err((why, self)),
+        }
+    }
+}
