@@ -7,6 +7,7 @@ pub mod Pairing
 pub mod ReadingLaws
 pub mod ScriptRuns
 pub mod ScriptSaid
+pub mod SettledGets
 pub mod Showing
 pub mod Stepping
 pub mod Taken

@@ -308,7 +308,7 @@ kept-start nodes words limits =
       got = λ e. refl;
     })
 
-kept-script : (nodes words : ℕ) (cs : List Command) (log : List Answered) (t : Session) → IsWithinLimits nodes words →
+pub kept-script : (nodes words : ℕ) (cs : List Command) (log : List Answered) (t : Session) → IsWithinLimits nodes words →
     AreAnswered (new_session nodes words) cs log t → Kept nodes words t.world (puts_in log) (gots_in log)
 kept-script nodes words cs log t limits is =
     kept-commands nodes words (new_session nodes words) cs log t none none (kept-start nodes words limits) is
@@ -322,7 +322,7 @@ after Holds runs nodes words cs log t limits is =
     let at = kept-script nodes words cs log t limits is in
     (at.books, at.routes, record { puts = at.put; gots = at.got }, runs nodes words t.world at.books at.routes at.reached)
 
-lawful : (nodes words : ℕ) (w : World) (b : Books) (g : Routes) → IsReached nodes words w b g → Lawful w b g
+pub lawful : (nodes words : ℕ) (w : World) (b : Books) (g : Routes) → IsReached nodes words w b g → Lawful w b g
 lawful = reached_lawful world_starts_lawful each_step_keeps_lawful
 
 pub scripts_are_runs : ScriptsAreRuns

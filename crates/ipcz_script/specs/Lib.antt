@@ -9,6 +9,7 @@ pub mod ScriptLaws
 pub mod ScriptNames
 pub mod Scripts
 pub mod Sessions
+pub mod SettledLaws
 pub mod Shapes
 pub mod Transcript
 pub mod WholeIo

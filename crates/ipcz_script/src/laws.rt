@@ -5,6 +5,7 @@
 
 ghost use Rattle.ipcz_script.specs.ScriptLaws.{GetsFollowPuts, NumbersCountUp, ScriptsAreRuns, ScriptsDeliver, ScriptsArrive};
 ghost use Rattle.ipcz_script.specs.ScriptLaws.{ScriptsAnswerPlainly};
+ghost use Rattle.ipcz_script.specs.SettledLaws.{SettledGetsGiveAll};
 
 /// By the answers to a script, a portal has got a prefix of the parcels that its peer has put: the same bytes and the same ends, in
 /// order, whatever nodes both were on.
@@ -45,4 +46,12 @@ pub fn scripts_arrive()
 #[tactic(auto, using(crate::proofs::ScriptRuns::scripts_answer_plainly))]
 pub fn scripts_answer_plainly()
     ensures { ScriptsAnswerPlainly }
+{}
+
+/// Once a settle has settled, and while only gets are run behind it, each get gives what the peer was answered to have put, in order, to
+/// the last: `Empty` says that all was got, and `PeerClosed` that all was got and the peer is closed. Only of an end that lies in a parcel
+/// it is said that nobody holds it. The premise is that no router has found the link words used up.
+#[tactic(auto, using(crate::proofs::SettledGets::settled_gets_give_all))]
+pub fn settled_gets_give_all()
+    ensures { SettledGetsGiveAll }
 {}
