@@ -130,8 +130,7 @@ parcels-marked (q ∷ ps) (Parcel r ∷ items) front next last =
 
 -- ---- a get
 
-module _ (nodes words : ℕ) (s : Session) (log : List Answered) (at : Kept nodes words s.world (puts_in log) (gots_in log))
-    (quiet : IsQuiet s.world) (wet : IsWet s.world) where
+module _ (nodes words : ℕ) (s : Session) (log : List Answered) (at : Kept nodes words s.world (puts_in log) (gots_in log)) where
   abbrev w : World
   w = s.world
 
@@ -170,7 +169,7 @@ module _ (nodes words : ℕ) (s : Session) (log : List Answered) (at : Kept node
     read_all : length (at.books.got e) + at.books.gone e ≡ length (at.books.got e)
     read_all = omega (arith, kept_all)
 
-    plain : Plain at.books (steps.Get n e) (first_step w (steps.Get n e)).reply
+    pub plain : Plain at.books (steps.Get n e) (first_step w (steps.Get n e)).reply
         (advance w at.books (steps.Get n e) (first_step w (steps.Get n e)).reply)
     unfolding first_step
     plain = replies_plainly w (first_step w (steps.Get n e)).world at.books at.routes (steps.Get n e) (first_step w (steps.Get n e)).reply
@@ -206,7 +205,7 @@ module _ (nodes words : ℕ) (s : Session) (log : List Answered) (at : Kept node
         go None is some = cc
         go (Some f) is some = answered f (current_item f.router.in_queue) refl (sym (same f is) ∙ h)
 
-    got-next : (p : parcels.Parcel) → next_item at.books e ≡ Some (Parcel p) →
+    pub got-next : (p : parcels.Parcel) → next_item at.books e ≡ Some (Parcel p) →
         slice_get (puts_in log (opposite_end e)) (length (gots_in log e)) ≡ Some p
     got-next p next =
         subst (λ ps. slice_get ps (length (gots_in log e)) ≡ Some p) (at.put (opposite_end e))
@@ -224,53 +223,53 @@ module _ (nodes words : ℕ) (s : Session) (log : List Answered) (at : Kept node
         parcels-marked (at.books.got e) (at.books.put (opposite_end e)) front mark
         ((ends_stand_once w at.books at.routes law).mark_last (opposite_end e) (length (at.books.got e)) mark)
 
-    empty : (first_step w (steps.Get n e)).reply ≡ replies.Refused refusals.Empty → HasGotAll log e
+    empty : IsQuiet w → IsWet w → (first_step w (steps.Get n e)).reply ≡ replies.Refused refusals.Empty → HasGotAll log e
     unfolding first_step
-    empty h = got-all (sym (parcels-all (at.books.got e)) ∙ ap parcels_in (each_quiet_delivers w (first_step w (steps.Get n e)).world
+    empty quiet wet h = got-all (sym (parcels-all (at.books.got e)) ∙ ap parcels_in (each_quiet_delivers w (first_step w (steps.Get n e)).world
         at.books at.routes n e law quiet
         (each_quiet_is_direct w at.books at.routes e.pair law quiet wet opened).route (sym h, refl)))
 
-    gives : (reply : Reply) (c : Books) → (first_step w (steps.Get n e)).reply ≡ reply → Plain at.books (steps.Get n e) reply c →
+    gives : IsQuiet w → IsWet w → (reply : Reply) (c : Books) → (first_step w (steps.Get n e)).reply ≡ reply → Plain at.books (steps.Get n e) reply c →
         GivesNext w at.books log e (answer_to reply)
     unfolding GivesNext answer_to
-    gives (replies.Got k p) c is plainly = got-next p plainly.1
-    gives (replies.Refused refusals.Empty) c is plainly = empty is
-    gives (replies.Refused refusals.PeerClosed) c is plainly =
+    gives quiet wet (replies.Got k p) c is plainly = got-next p plainly.1
+    gives quiet wet (replies.Refused refusals.Empty) c is plainly = empty quiet wet is
+    gives quiet wet (replies.Refused refusals.PeerClosed) c is plainly =
         let t = closed plainly.0 in (got-all t.all, t.marked)
-    gives (replies.Refused refusals.Stranger) c is plainly = absurd (known is)
-    gives (replies.Refused refusals.OutOfMemory) c is plainly = absurd plainly.0
-    gives (replies.Refused refusals.NoWord) c is plainly = absurd plainly.0
-    gives (replies.Refused refusals.SelfAttach) c is plainly = absurd plainly.0
-    gives (replies.Refused refusals.PeerAttach) c is plainly = absurd plainly.0
-    gives (replies.Refused refusals.NumbersEnd) c is plainly = absurd plainly.0
-    gives (replies.Refused refusals.BadData) c is plainly = absurd plainly.0
-    gives (replies.Refused refusals.TooMany) c is plainly = absurd plainly.0
-    gives (replies.Refused refusals.Raced) c is plainly = absurd plainly.0
-    gives (replies.Refused refusals.Occupied) c is plainly = absurd plainly.0
-    gives (replies.Refused refusals.Passed) c is plainly = absurd plainly.0
-    gives (replies.Opened a b) c is plainly = absurd plainly
-    gives (replies.Put k) c is plainly = absurd plainly
-    gives (replies.Closed k) c is plainly = absurd plainly
-    gives (replies.Turned event) c is plainly = absurd plainly
+    gives quiet wet (replies.Refused refusals.Stranger) c is plainly = absurd (known is)
+    gives quiet wet (replies.Refused refusals.OutOfMemory) c is plainly = absurd plainly.0
+    gives quiet wet (replies.Refused refusals.NoWord) c is plainly = absurd plainly.0
+    gives quiet wet (replies.Refused refusals.SelfAttach) c is plainly = absurd plainly.0
+    gives quiet wet (replies.Refused refusals.PeerAttach) c is plainly = absurd plainly.0
+    gives quiet wet (replies.Refused refusals.NumbersEnd) c is plainly = absurd plainly.0
+    gives quiet wet (replies.Refused refusals.BadData) c is plainly = absurd plainly.0
+    gives quiet wet (replies.Refused refusals.TooMany) c is plainly = absurd plainly.0
+    gives quiet wet (replies.Refused refusals.Raced) c is plainly = absurd plainly.0
+    gives quiet wet (replies.Refused refusals.Occupied) c is plainly = absurd plainly.0
+    gives quiet wet (replies.Refused refusals.Passed) c is plainly = absurd plainly.0
+    gives quiet wet (replies.Opened a b) c is plainly = absurd plainly
+    gives quiet wet (replies.Put k) c is plainly = absurd plainly
+    gives quiet wet (replies.Closed k) c is plainly = absurd plainly
+    gives quiet wet (replies.Turned event) c is plainly = absurd plainly
 
-  gives-held : (e : End) (o : Option ℕ) → holder_of s.world e ≡ o →
+  gives-held : IsQuiet w → IsWet w → (e : End) (o : Option ℕ) → holder_of s.world e ≡ o →
       GivesNext w at.books log e (if_held s o (λ n. record {
         said = answer_to (first_step w (steps.Get n e)).reply;
         session = record s { world = (first_step w (steps.Get n e)).world };
       })).said
   unfolding if_held GivesNext
-  gives-held e None is = is
-  gives-held e (Some n) is = gives e n is (first_step w (steps.Get n e)).reply _ refl (plain e n is)
+  gives-held quiet wet e None is = is
+  gives-held quiet wet e (Some n) is = gives e n is quiet wet (first_step w (steps.Get n e)).reply _ refl (plain e n is)
 
-  gives-next : GetsGiveNext s at.books log
+  gives-next : IsQuiet w → IsWet w → GetsGiveNext s at.books log
   unfolding if_known
-  gives-next name e answer t bound run =
+  gives-next quiet wet name e answer t bound run =
       subst (GivesNext w at.books log e) (sym run.0)
       (subst (λ o. GivesNext w at.books log e (if_known s o (λ end. if_held s (holder_of s.world end) (λ n.
       record {
         said = answer_to (first_step w (steps.Get n end)).reply;
         session = record s { world = (first_step w (steps.Get n end)).world };
-      }))).said) (sym bound) (gives-held e (holder_of s.world e) refl))
+      }))).said) (sym bound) (gives-held quiet wet e (holder_of s.world e) refl))
 
 pub settled_gets_give_all : SettledGetsGiveAll
 settled_gets_give_all nodes words cs earlier settle gets s limits is settled are wet =

@@ -1,8 +1,11 @@
 pub mod Bindings
+pub mod ByteLaws
+pub mod CountedLines
 pub mod Each
 pub mod EventTexts
 pub mod Faults
 pub mod Lines
+pub mod ReadBack
 pub mod Reading
 pub mod ScriptBooks
 pub mod ScriptLaws
