@@ -6,11 +6,13 @@ pub mod Feeds
 pub mod JsonLists
 pub mod KnownBytes
 pub mod LogLines
+pub mod OpenNames
 pub mod Pairing
 pub mod ReadingLaws
 pub mod Rows
 pub mod ScriptRuns
 pub mod ScriptSaid
+pub mod SendLines
 pub mod SettledGets
 pub mod Showing
 pub mod Stepping

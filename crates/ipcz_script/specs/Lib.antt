@@ -5,12 +5,14 @@ pub mod Each
 pub mod EventTexts
 pub mod Faults
 pub mod Lines
+pub mod NamingLaws
 pub mod ReadBack
 pub mod Reading
 pub mod ScriptBooks
 pub mod ScriptLaws
 pub mod ScriptNames
 pub mod Scripts
+pub mod SendLines
 pub mod Sessions
 pub mod SettledLaws
 pub mod Shapes

@@ -7,6 +7,8 @@ ghost use Rattle.ipcz_script.specs.ScriptLaws.{GetsFollowPuts, NumbersCountUp, S
 ghost use Rattle.ipcz_script.specs.ScriptLaws.{ScriptsAnswerPlainly};
 ghost use Rattle.ipcz_script.specs.ByteLaws.{NoLineStrays, OutputsHaveLines, UnsettledIsWritten};
 ghost use Rattle.ipcz_script.specs.CountedLines.{LinesAreCounted};
+ghost use Rattle.ipcz_script.specs.NamingLaws.{OpensNameSides};
+ghost use Rattle.ipcz_script.specs.SendLines.{SendsTellWhatMoved};
 ghost use Rattle.ipcz_script.specs.SettledLaws.{SettledGetsGiveAll};
 
 /// By the answers to a script, a portal has got a prefix of the parcels that its peer has put: the same bytes and the same ends, in
@@ -76,4 +78,14 @@ pub fn no_line_strays()
 /// quotes the very data of the put of that number at its peer.
 pub fn lines_are_counted()
     ensures { LinesAreCounted }
+{}
+
+/// An open that succeeds gives its first name to side A of the new pair, and its second to side B: so they print.
+pub fn opens_name_sides()
+    ensures { OpensNameSides }
+{}
+
+/// The line of a send tells which ends moved: two sends of one item that print alike have moved the same ends.
+pub fn sends_tell_what_moved()
+    ensures { SendsTellWhatMoved }
 {}
