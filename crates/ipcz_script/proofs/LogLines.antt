@@ -19,7 +19,7 @@ use Rattle.ipcz_world.specs.declared.step.Step.{Step}
 use Rattle.ipcz_world.specs.declared.step.Step.TheVariants as steps
 use Rattle.ipcz_world.specs.declared.step.Reply.{Reply}
 use Rattle.ipcz_world.specs.declared.step.Reply.TheVariants as replies
-use Rattle.ipcz_world.specs.World.{World, new_world, node_at, set_claimed}
+use Rattle.ipcz_world.specs.World.{World, has_unclaimed_word, new_world, node_at, set_claimed}
 use Rattle.ipcz_world.specs.Steps.{Effect, first_step, open_on, open_with, unless}
 use Rattle.ipcz_world.specs.Lawful.{IsWithinLimits}
 use Rattle.ipcz_world.proofs.facts.LinkTests.{opposite_end-twice, same_end-itself}
@@ -235,7 +235,7 @@ open-no w n = go (nat_lt n w.count) (node_at w n).opening
     room false = tt
 
     on : (o : Option ℕ) → IsNoParcel (answer_to (open_on w n o).reply)
-    on None = room (nat_lt w.claimed w.size)
+    on None = room (has_unclaimed_word w)
     on (Some i) = opened _ i _
 
     go : (c : Bool) (o : Option ℕ) → IsNoParcel (answer_to (if c then open_on w n o else record { reply = replies.Refused Stranger; world = w }).reply)

@@ -15,7 +15,7 @@ use Rattle.ipcz_base.proofs.Orders.{end_ties, end_total}
 use Rattle.ipcz_world.specs.declared.step.Step.TheVariants as steps
 use Rattle.ipcz_world.specs.declared.step.Reply.{Reply}
 use Rattle.ipcz_world.specs.declared.step.Reply.TheVariants as replies
-use Rattle.ipcz_world.specs.World.{World, node_at, set_claimed}
+use Rattle.ipcz_world.specs.World.{World, has_unclaimed_word, node_at, set_claimed}
 use Rattle.ipcz_world.specs.Steps.{first_step, open_on, open_with, unless}
 use Rattle.ipcz_script.specs.declared.command.Command.TheVariants as commands
 use Rattle.ipcz_script.specs.declared.said.Said.TheVariants as said
@@ -43,7 +43,7 @@ open-reply w n = go (nat_lt n w.count) (node_at w n).opening
     room false = inr (NoWord, refl)
 
     on : (o : Option ℕ) → IsOpened (open_on w n o).reply
-    on None = room (nat_lt w.claimed w.size)
+    on None = room (has_unclaimed_word w)
     on (Some i) = opened _ i _
 
     go : (c : Bool) (o : Option ℕ) → IsOpened (if c then open_on w n o else record { reply = replies.Refused Stranger; world = w }).reply
