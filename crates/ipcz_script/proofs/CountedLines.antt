@@ -20,9 +20,9 @@ use Rattle.ipcz_script.specs.declared.said.Said.TheVariants as said
 use Rattle.ipcz_script.specs.Bindings.{Titles}
 use Rattle.ipcz_script.specs.Lines.{titles_text}
 use Rattle.ipcz_script.specs.Sessions.{Session, Runs, answer_to, if_held, if_known, new_session}
-use Rattle.ipcz_script.specs.Transcript.{Answered, AreAnswered, lines_in}
+use Rattle.ipcz_script.specs.Transcript.{Answered, lines_in}
 use Rattle.ipcz_script.specs.ScriptBooks.{IsCount, gots_in, puts_in}
-use Rattle.ipcz_script.specs.ReadBack.{AreLines, HaveNoFeeds, text_of}
+use Rattle.ipcz_script.specs.ReadBack.{HaveNoFeeds}
 use Rattle.ipcz_script.specs.CountedLines.{AreCounted, LinesAreCounted, spaced}
 use Rattle.ipcz_script.proofs.Feeds.{same_lines}
 use Rattle.ipcz_script.proofs.Rows.{rows_of}

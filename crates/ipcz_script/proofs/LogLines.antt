@@ -1,36 +1,34 @@
 -- The lines of a whole script: they are those of its answers.
-use Rattle.std.proofs.Common.{◌≡◌, ◌∙◌, ◌⊎◌, ◌↔◌, ◌+◌, ◌≤◌, ℕ, zero, suc, Bool, true, false, cond, List, [], ◌∷◌, ◌++◌, length, take, refl, sym, ap, subst}
-use Rattle.std.proofs.Common.{append_assoc, arith, inl, inr, codes, Option, Some, None, not}
-use Rattle.std.specs.Prelude.{◌||◌, unwrap_or, if◌then◌else◌, nat_lt}
+use Rattle.std.proofs.Common.{◌≡◌, ◌∙◌, ◌+◌, ◌≤◌, ℕ, zero, suc, Bool, true, false, cond, List, [], ◌∷◌, ◌++◌, length, take, refl, sym, ap, subst}
+use Rattle.std.proofs.Common.{arith, codes, Option, Some, None}
+use Rattle.std.specs.Prelude.{unwrap_or, if◌then◌else◌, nat_lt}
 use Rattle.std.specs.List.{AllByRecursion}
 use Rattle.std.specs.Fmt.{decimal}
 use Rattle.std.specs.Ordering.{eq_by_cmp}
-use Rattle.std.specs.FinMap.{get, insert, get-insert, get-empty}
+use Rattle.std.specs.FinMap.{get, get-insert, get-empty}
 use Rattle.ipcz_base.specs.declared.side.Side.TheVariants.{A, B}
 use Rattle.ipcz_base.specs.declared.end.End.{End}
 use Rattle.ipcz_base.specs.declared.parcel.Parcel as parcels
 use Rattle.ipcz_base.specs.declared.refusal.Refusal.{Refusal}
 use Rattle.ipcz_base.specs.declared.refusal.Refusal.TheVariants.{NoWord, Stranger}
-use Rattle.ipcz_base.specs.Ends.{end_at, opposite_end, same_end}
+use Rattle.ipcz_base.specs.Ends.{end_at, opposite_end}
 use Rattle.ipcz_base.specs.Orders.{end_cmp}
 use Rattle.ipcz_base.proofs.Orders.{end_total}
 use Rattle.ipcz_node.specs.FirstPairs.{first_pairs}
-use Rattle.ipcz_world.specs.declared.step.Step.{Step}
 use Rattle.ipcz_world.specs.declared.step.Step.TheVariants as steps
 use Rattle.ipcz_world.specs.declared.step.Reply.{Reply}
 use Rattle.ipcz_world.specs.declared.step.Reply.TheVariants as replies
 use Rattle.ipcz_world.specs.World.{World, has_unclaimed_word, new_world, node_at, set_claimed}
-use Rattle.ipcz_world.specs.Steps.{Effect, first_step, open_on, open_with, unless}
+use Rattle.ipcz_world.specs.Steps.{first_step, open_on, open_with, unless}
 use Rattle.ipcz_world.specs.Lawful.{IsWithinLimits}
 use Rattle.ipcz_world.proofs.facts.LinkTests.{opposite_end-twice, same_end-itself}
 use Rattle.ipcz_script.specs.declared.command.Command.{Command}
 use Rattle.ipcz_script.specs.declared.command.Command.TheVariants as commands
 use Rattle.ipcz_script.specs.declared.said.Said.{Said}
 use Rattle.ipcz_script.specs.declared.said.Said.TheVariants as said
-use Rattle.ipcz_script.specs.Bindings.{Bindings, Titles}
-use Rattle.ipcz_script.specs.Lines.{title_of}
+use Rattle.ipcz_script.specs.Bindings.{Bindings}
 use Rattle.ipcz_script.specs.Sessions.{Session, Replied, Runs, answer_to, bind, bind_pair, bind_pairs, if_held, if_known, name_pair, nameless}
-use Rattle.ipcz_script.specs.Sessions.{SettlesTo, TurnsTo, new_session, pair_name, replied_get, with_world}
+use Rattle.ipcz_script.specs.Sessions.{SettlesTo, TurnsTo, new_session, pair_name, replied_get}
 use Rattle.ipcz_script.specs.Transcript.{Answered, AreAnswered, lines_in}
 use Rattle.ipcz_script.specs.ScriptBooks.{got_said, gots_in, is_bound, parcel_of, put_said, puts_in}
 use Rattle.ipcz_script.specs.ReadBack.{AreLines, HasNoFeed, HaveNoFeed, HaveNoFeeds, IsNamely, lacks, text_of}

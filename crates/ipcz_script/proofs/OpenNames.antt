@@ -1,5 +1,5 @@
 -- The names that an open gives to the ends of its pair.
-use Rattle.std.proofs.Common.{◌≡◌, ◌∙◌, ◌⊎◌, ◌+◌, ℕ, Bool, true, false, cond, List, [], ◌∷◌, Option, Some, None, refl, sym, ap, subst, inl, inr}
+use Rattle.std.proofs.Common.{◌≡◌, ◌∙◌, ◌⊎◌, ◌+◌, ℕ, Bool, true, false, cond, List, [], Option, Some, None, refl, sym, ap, subst, inl, inr}
 use Rattle.std.specs.Prelude.{◌&&◌, if◌then◌else◌, nat_eq, nat_lt, unwrap_or}
 use Rattle.std.specs.Ordering.{eq_by_cmp}
 use Rattle.std.specs.Cmp.{eq_by_cmp_equiv}
@@ -9,7 +9,7 @@ use Rattle.ipcz_base.specs.declared.side.Side.TheVariants.{A, B}
 use Rattle.ipcz_base.specs.declared.end.End.{End}
 use Rattle.ipcz_base.specs.declared.refusal.Refusal.{Refusal}
 use Rattle.ipcz_base.specs.declared.refusal.Refusal.TheVariants.{NoWord, Stranger}
-use Rattle.ipcz_base.specs.Ends.{end_at, same_end}
+use Rattle.ipcz_base.specs.Ends.{end_at}
 use Rattle.ipcz_base.specs.Orders.{end_cmp}
 use Rattle.ipcz_base.proofs.Orders.{end_ties, end_total}
 use Rattle.ipcz_world.specs.declared.step.Step.TheVariants as steps
@@ -17,11 +17,10 @@ use Rattle.ipcz_world.specs.declared.step.Reply.{Reply}
 use Rattle.ipcz_world.specs.declared.step.Reply.TheVariants as replies
 use Rattle.ipcz_world.specs.World.{World, has_unclaimed_word, node_at, set_claimed}
 use Rattle.ipcz_world.specs.Steps.{first_step, open_on, open_with, unless}
-use Rattle.ipcz_script.specs.declared.command.Command.TheVariants as commands
 use Rattle.ipcz_script.specs.declared.said.Said.TheVariants as said
 use Rattle.ipcz_script.specs.Bindings.{Titles}
 use Rattle.ipcz_script.specs.Lines.{title_of}
-use Rattle.ipcz_script.specs.Sessions.{Session, Runs, answer_to, bind, name_pair, with_world}
+use Rattle.ipcz_script.specs.Sessions.{Session, answer_to, bind, name_pair, with_world}
 use Rattle.ipcz_script.specs.NamingLaws.{AreNamed, OpensNameSides}
 
 -- an open gives the two ends of a pair, or is refused

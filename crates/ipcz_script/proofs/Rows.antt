@@ -1,5 +1,5 @@
 -- The lines that a command and its answer make, each without its line feed, and why no line has one within.
-use Rattle.std.proofs.Common.{◌≡◌, ◌∙◌, ℕ, Bool, true, false, List, [], ◌∷◌, ◌++◌, refl, sym, ap, append_assoc, codes, arith}
+use Rattle.std.proofs.Common.{◌≡◌, ◌∙◌, ℕ, Bool, true, false, List, [], ◌∷◌, ◌++◌, refl, ap, append_assoc, codes, arith}
 use Rattle.std.specs.Prelude.{if◌then◌else◌}
 use Rattle.std.specs.Fmt.{decimal}
 use Rattle.ipcz_base.specs.declared.side.Side.{Side}
@@ -20,10 +20,10 @@ use Rattle.ipcz_script.specs.declared.said.Said.{Said}
 use Rattle.ipcz_script.specs.declared.said.Said.TheVariants as said
 use Rattle.ipcz_script.specs.Bindings.{Titles}
 use Rattle.ipcz_script.specs.EventTexts.{event_text, hand_text, kind_text, link_event, more_ends, moved_text, sent_text, unfit_text, word_text}
-use Rattle.ipcz_script.specs.Lines.{head_of, lines_of, lines_of_turns, more_titles, parcel_text, tail_of, title_of, titles_text, turn_lines}
+use Rattle.ipcz_script.specs.Lines.{head_of, lines_of, lines_of_turns, more_titles, tail_of, title_of, titles_text, turn_lines}
 use Rattle.ipcz_script.specs.Lines.{turn_text, words_text}
 use Rattle.ipcz_script.specs.ReadBack.{HasNoFeed, HaveNoFeeds, IsNamely, lacks, text_of}
-use Rattle.ipcz_script.proofs.Feeds.{decimal_lacks, lacks-append, namely_lacks, refusal_lacks, text-append}
+use Rattle.ipcz_script.proofs.Feeds.{decimal_lacks, lacks-append, namely_lacks, refusal_lacks}
 
 -- the lines of a node's turns
 abbrev pub turn_rows : ℕ → List Reply → List (List ℕ)

@@ -1,15 +1,14 @@
 -- Why the line of a send tells which ends moved.
-use Rattle.std.proofs.Common.{◌≡◌, ◌≤◌, ◌<◌, ◌^◌, ◌∙◌, ℕ, List, [], ◌∷◌, ◌++◌, refl, sym, ap, ap₂, subst, append_assoc, arith, codes, drop}
+use Rattle.std.proofs.Common.{◌≡◌, ◌<◌, ◌^◌, ◌∙◌, ℕ, List, [], ◌∷◌, ◌++◌, refl, sym, ap, ap₂, subst, append_assoc, arith, codes, drop}
 use Rattle.std.specs.List.{AllByRecursion}
 use Rattle.std.specs.Fmt.{decimal}
 use Rattle.std.proofs.lemmas.Fmt.{decimal_injective}
 use Rattle.ipcz_base.specs.declared.side.Side.{Side}
 use Rattle.ipcz_base.specs.declared.side.Side.TheVariants as sides
 use Rattle.ipcz_base.specs.declared.end.End.{End}
-use Rattle.ipcz_base.specs.declared.link_id.LinkId.{LinkId}
 use Rattle.ipcz_base.specs.Ends.{end_at}
-use Rattle.ipcz_base.specs.Texts.{end_text, link_text, side_text}
-use Rattle.ipcz_script.specs.EventTexts.{more_ends, moved_text, sent_text}
+use Rattle.ipcz_base.specs.Texts.{end_text, link_text}
+use Rattle.ipcz_script.specs.EventTexts.{more_ends, moved_text}
 use Rattle.ipcz_script.specs.SendLines.{HavePairs, SendsTellWhatMoved}
 use Rattle.ipcz_script.proofs.Feeds.{IsDigit, decimal_digits}
 

@@ -1,9 +1,8 @@
 -- Why gets give all that was put, once a settle has settled.
-use Rattle.std.proofs.Common.{◌≡◌, ◌∙◌, ◌++◌, ◌+◌, ◌<◌, ap, sym, refl, subst, arith, length, take, ℕ, suc, Bool, true, false, List, [], ◌∷◌, map, cond}
+use Rattle.std.proofs.Common.{◌≡◌, ◌∙◌, ◌++◌, ◌+◌, ◌<◌, ap, sym, refl, subst, arith, length, take, ℕ, Bool, true, false, List, [], ◌∷◌, map, cond}
 use Rattle.std.proofs.Common.{Option, Some, None}
-use Rattle.std.specs.Prelude.{slice_get, nat_lt, if◌then◌else◌, IsSome}
+use Rattle.std.specs.Prelude.{slice_get, nat_lt, IsSome}
 use Rattle.std.specs.FinMap.{get}
-use Rattle.std.proofs.lemmas.Option.{same_Some}
 use Rattle.std.proofs.lemmas.Bool.Decides.{nat_tests}
 use Rattle.ipcz_base.specs.declared.end.End.{End}
 use Rattle.ipcz_base.specs.declared.parcel.Parcel as parcels
@@ -22,13 +21,13 @@ use Rattle.ipcz_world.specs.World.{World, node_at}
 use Rattle.ipcz_world.specs.Holding.{holder_of}
 use Rattle.ipcz_world.specs.Books.{Books, advance, is_closed, has_mark, next_item}
 use Rattle.ipcz_world.specs.Plain.{Plain}
-use Rattle.ipcz_world.specs.Routes.{Routes, is_opened}
+use Rattle.ipcz_world.specs.Routes.{is_opened}
 use Rattle.ipcz_world.specs.Owed.{IsWet}
 use Rattle.ipcz_world.specs.Settling.{IsQuiet}
 use Rattle.ipcz_world.specs.Steps.{first_step, unless, get_reply, got_reply}
 use Rattle.ipcz_world.proofs.Vocabulary.{current_item}
 use Rattle.ipcz_router.specs.Calls.{item_refusal}
-use Rattle.ipcz_world.specs.Lawful.{Headline, Lawful}
+use Rattle.ipcz_world.specs.Lawful.{Lawful}
 use Rattle.ipcz_world.proofs.Whole.{each_get_stays_quiet, each_quiet_delivers, each_quiet_is_direct, ends_stand_once, held_are_open}
 use Rattle.ipcz_world.proofs.Whole.{held_have_terminals, lawful_worlds_give_the_headline, replies_plainly, terminals_keep_books}
 use Rattle.ipcz_world.proofs.facts.LinkTests.{opposite_end-twice}
@@ -36,11 +35,10 @@ use Rattle.ipcz_world.proofs.weights.OfRecords.{holds_times}
 use Rattle.ipcz_world.proofs.weights.Holding.{times_held-at}
 use Rattle.ipcz_script.specs.declared.command.Command.{Command}
 use Rattle.ipcz_script.specs.declared.command.Command.TheVariants as commands
-use Rattle.ipcz_script.specs.declared.said.Said.{Said}
 use Rattle.ipcz_script.specs.declared.said.Said.TheVariants as said
-use Rattle.ipcz_script.specs.Sessions.{Session, Replied, Runs, SettlesTo, answer_to, if_held, if_known, new_session, replied_get}
+use Rattle.ipcz_script.specs.Sessions.{Session, Runs, answer_to, if_held, if_known, new_session, replied_get}
 use Rattle.ipcz_script.specs.Transcript.{Answered, AreAnswered}
-use Rattle.ipcz_script.specs.ScriptBooks.{AreSaid, gots_in, parcels_in, puts_in}
+use Rattle.ipcz_script.specs.ScriptBooks.{gots_in, parcels_in, puts_in}
 use Rattle.ipcz_script.specs.SettledLaws.{AreGets, GetsGiveNext, GivesNext, HasGotAll, HasSettled, SettledGetsGiveAll}
 use Rattle.ipcz_script.proofs.ScriptRuns.{Kept, kept-script, lawful}
 

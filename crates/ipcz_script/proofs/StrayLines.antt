@@ -1,8 +1,8 @@
 -- No line of a transcript ends with ` stray`.
-use Rattle.std.proofs.Common.{◌≡◌, ◌∙◌, ◌⊎◌, ◌+◌, ℕ, zero, suc, Bool, true, false, List, [], ◌∷◌, ◌++◌, refl, sym, ap, subst, arith, inl, inr, codes}
-use Rattle.std.proofs.Common.{append_assoc, append-nil, ◌≤◌, Option, Some, None}
+use Rattle.std.proofs.Common.{◌≡◌, ◌∙◌, ◌⊎◌, ℕ, zero, suc, Bool, true, false, List, [], ◌∷◌, ◌++◌, refl, sym, ap, subst, arith, inl, inr, codes}
+use Rattle.std.proofs.Common.{append_assoc, append-nil}
 use Rattle.std.proofs.lemmas.Bool.Decides.{nat_tests}
-use Rattle.std.specs.Prelude.{◌==◌, ◌&&◌, MatchBool, if◌then◌else◌}
+use Rattle.std.specs.Prelude.{◌==◌, ◌&&◌, MatchBool}
 use Rattle.std.specs.List.{AllByRecursion}
 use Rattle.std.specs.Fmt.{decimal}
 use Rattle.ipcz_base.specs.declared.side.Side.{Side}
@@ -27,19 +27,17 @@ use Rattle.ipcz_world.specs.WorldLaws.{OnlyFlushesStray}
 use Rattle.ipcz_world.specs.Lawful.{IsWithinLimits}
 use Rattle.ipcz_world.proofs.Whole.{first_acts_are_possible, only_flushes_stray}
 use Rattle.ipcz_script.specs.declared.script.Script.{Script}
-use Rattle.ipcz_script.specs.declared.outcome.Outcome.{Outcome}
 use Rattle.ipcz_script.specs.declared.outcome.Outcome.TheVariants as outcomes
 use Rattle.ipcz_script.specs.declared.command.Command.{Command}
 use Rattle.ipcz_script.specs.declared.command.Command.TheVariants as commands
 use Rattle.ipcz_script.specs.declared.said.Said.{Said}
 use Rattle.ipcz_script.specs.declared.said.Said.TheVariants as said
 use Rattle.ipcz_script.specs.Bindings.{Titles}
-use Rattle.ipcz_script.specs.EventTexts.{event_text, hand_text, kind_text, link_event, more_ends, moved_text, sent_text, unfit_text, word_text}
+use Rattle.ipcz_script.specs.EventTexts.{event_text, hand_text, kind_text, link_event, more_ends, moved_text, sent_text, word_text}
 use Rattle.ipcz_script.specs.Lines.{head_of, tail_of, turn_text, words_text}
-use Rattle.ipcz_script.specs.Sessions.{AreTurns, Session, Runs, TurnsTo, is_idle_reply, new_session}
+use Rattle.ipcz_script.specs.Sessions.{AreTurns, Session, Runs, is_idle_reply, new_session}
 use Rattle.ipcz_script.specs.Transcript.{Answered, AreAnswered}
-use Rattle.ipcz_script.specs.ScriptBooks.{gots_in, puts_in}
-use Rattle.ipcz_script.specs.ReadBack.{AreLines, EndsWith, HasLine, HaveNoFeed}
+use Rattle.ipcz_script.specs.ReadBack.{EndsWith, HasLine}
 use Rattle.ipcz_script.specs.ByteLaws.{NoLineStrays}
 use Rattle.ipcz_script.proofs.Feeds.{IsDigit, decimal_digits, decimal_some}
 use Rattle.ipcz_script.proofs.Rows.{rows_of, turn_rows}

@@ -1,15 +1,12 @@
 -- A run ends as unsettled just where a line of its transcript says so.
-use Rattle.std.proofs.Common.{◌≡◌, ◌∙◌, ◌⊎◌, ◌↔◌, ◌+◌, ℕ, Bool, true, false, List, [], ◌∷◌, ◌++◌, refl, sym, ap, subst, arith, inl, inr, codes}
-use Rattle.std.proofs.Common.{Option, Some, None}
+use Rattle.std.proofs.Common.{◌≡◌, ◌∙◌, ◌⊎◌, ◌↔◌, ℕ, Bool, true, false, List, [], ◌∷◌, ◌++◌, refl, sym, ap, subst, arith, inl, inr, codes}
 use Rattle.std.specs.Prelude.{◌||◌}
-use Rattle.std.specs.Fmt.{decimal}
 use Rattle.ipcz_world.specs.declared.step.Reply.{Reply}
 use Rattle.ipcz_world.specs.declared.step.Reply.TheVariants as replies
 use Rattle.ipcz_world.specs.declared.step.Step.TheVariants as steps
 use Rattle.ipcz_world.specs.Steps.{first_step}
 use Rattle.ipcz_world.specs.Lawful.{IsWithinLimits}
 use Rattle.ipcz_script.specs.declared.script.Script.{Script}
-use Rattle.ipcz_script.specs.declared.outcome.Outcome.{Outcome}
 use Rattle.ipcz_script.specs.declared.outcome.Outcome.TheVariants as outcomes
 use Rattle.ipcz_script.specs.declared.command.Command.{Command}
 use Rattle.ipcz_script.specs.declared.command.Command.TheVariants as commands
@@ -18,7 +15,7 @@ use Rattle.ipcz_script.specs.declared.said.Said.TheVariants as said
 use Rattle.ipcz_script.specs.Bindings.{Titles}
 use Rattle.ipcz_script.specs.Lines.{head_of, tail_of}
 use Rattle.ipcz_script.specs.Sessions.{Session, Runs, SettlesTo, TurnsTo, answer_to, new_session}
-use Rattle.ipcz_script.specs.Transcript.{Answered, AreAnswered, IsTranscript, is_some_unsettled, is_unsettled, lines_in}
+use Rattle.ipcz_script.specs.Transcript.{Answered, AreAnswered, IsTranscript, is_some_unsettled, is_unsettled}
 use Rattle.ipcz_script.specs.ReadBack.{AreLines, HasLine, HaveNoFeed}
 use Rattle.ipcz_script.specs.ByteLaws.{OutputsHaveLines, UnsettledIsWritten}
 use Rattle.ipcz_script.proofs.Feeds.{same_lines}
