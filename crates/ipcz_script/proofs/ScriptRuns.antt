@@ -108,7 +108,7 @@ kept-step nodes words w v puts gots new_puts new_gots s r at step adds =
     }
 
 -- a turn adds nothing
-kept-turn : (nodes words : ℕ) (w v : World) (puts gots : Parcels) (n : ℕ) (r : Reply) → Kept nodes words w puts gots →
+pub kept-turn : (nodes words : ℕ) (w v : World) (puts gots : Parcels) (n : ℕ) (r : Reply) → Kept nodes words w puts gots →
     StepFirst w (steps.Turn n) r v → Kept nodes words v puts gots
 kept-turn nodes words w v puts gots n r at step =
     kept-as nodes words v (more puts none) (more gots none) puts gots
@@ -238,7 +238,7 @@ module _ (nodes words : ℕ) (s : Session) (puts gots : Parcels) (at : Kept node
       subst (λ a. Leaves c a t.world) (sym same_answer) (subst (λ x. Leaves c done.said x.world) (sym same_session) left)
 
   -- a command
-  kept-command : (c : Command) (answer : Said) (t : Session) → Runs s c answer t → Leaves c answer t.world
+  pub kept-command : (c : Command) (answer : Said) (t : Session) → Runs s c answer t → Leaves c answer t.world
   unfolding put_said got_said
   kept-command (commands.Open node first second) answer t is =
       given (commands.Open node first second) (replied_open s first second (first_step s.world (steps.Open node))) answer t is.0 is.1
@@ -296,7 +296,7 @@ kept-commands nodes words s (c ∷ cs) (a ∷ log) t puts gots at is =
     (λ e. append_assoc (gots e) (got_said a.before.names a.command a.said e) (gots_in log e))
 
 -- the world at the start is reached by no step, and nothing was put
-kept-start : (nodes words : ℕ) → IsWithinLimits nodes words → Kept nodes words (new_session nodes words).world none none
+pub kept-start : (nodes words : ℕ) → IsWithinLimits nodes words → Kept nodes words (new_session nodes words).world none none
 kept-start nodes words limits =
     kept-in nodes words (new_world nodes words) (new_session nodes words).world none none
     (bind_pairs-world (nameless (new_world nodes words)) 0 (first_pairs nodes))
@@ -308,7 +308,7 @@ kept-start nodes words limits =
       got = λ e. refl;
     })
 
-kept-script : (nodes words : ℕ) (cs : List Command) (log : List Answered) (t : Session) → IsWithinLimits nodes words →
+pub kept-script : (nodes words : ℕ) (cs : List Command) (log : List Answered) (t : Session) → IsWithinLimits nodes words →
     AreAnswered (new_session nodes words) cs log t → Kept nodes words t.world (puts_in log) (gots_in log)
 kept-script nodes words cs log t limits is =
     kept-commands nodes words (new_session nodes words) cs log t none none (kept-start nodes words limits) is
@@ -322,7 +322,7 @@ after Holds runs nodes words cs log t limits is =
     let at = kept-script nodes words cs log t limits is in
     (at.books, at.routes, record { puts = at.put; gots = at.got }, runs nodes words t.world at.books at.routes at.reached)
 
-lawful : (nodes words : ℕ) (w : World) (b : Books) (g : Routes) → IsReached nodes words w b g → Lawful w b g
+pub lawful : (nodes words : ℕ) (w : World) (b : Books) (g : Routes) → IsReached nodes words w b g → Lawful w b g
 lawful = reached_lawful world_starts_lawful each_step_keeps_lawful
 
 pub scripts_are_runs : ScriptsAreRuns
@@ -460,7 +460,7 @@ module _ (nodes words : ℕ) (s : Session) (earlier : List Answered) (at : Kept 
   count-command commands.Show answer t is = tt
 
 -- a command within a script, and those before it
-split : (s : Session) (cs : List Command) (earlier : List Answered) (a : Answered) (later : List Answered) (t : Session) →
+pub split : (s : Session) (cs : List Command) (earlier : List Answered) (a : Answered) (later : List Answered) (t : Session) →
     AreAnswered s cs (earlier ++ a ∷ later) t → (front : List Command) × AreAnswered s front earlier a.before ×
     Runs a.before a.command a.said a.after
 split s [] [] a later t is = absurd is

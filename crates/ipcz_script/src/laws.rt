@@ -5,6 +5,11 @@
 
 ghost use Rattle.ipcz_script.specs.ScriptLaws.{GetsFollowPuts, NumbersCountUp, ScriptsAreRuns, ScriptsDeliver, ScriptsArrive};
 ghost use Rattle.ipcz_script.specs.ScriptLaws.{ScriptsAnswerPlainly};
+ghost use Rattle.ipcz_script.specs.ByteLaws.{NoLineStrays, OutputsHaveLines, UnsettledIsWritten};
+ghost use Rattle.ipcz_script.specs.CountedLines.{LinesAreCounted};
+ghost use Rattle.ipcz_script.specs.NamingLaws.{OpensNameSides};
+ghost use Rattle.ipcz_script.specs.SendLines.{SendsTellWhatMoved};
+ghost use Rattle.ipcz_script.specs.SettledLaws.{SettledGetsGiveAll};
 
 /// By the answers to a script, a portal has got a prefix of the parcels that its peer has put: the same bytes and the same ends, in
 /// order, whatever nodes both were on.
@@ -45,4 +50,42 @@ pub fn scripts_arrive()
 #[tactic(auto, using(crate::proofs::ScriptRuns::scripts_answer_plainly))]
 pub fn scripts_answer_plainly()
     ensures { ScriptsAnswerPlainly }
+{}
+
+/// Once a settle has settled, and while only gets are run behind it, each get gives what the peer was answered to have put, in order, to
+/// the last: `Empty` says that all was got, and `PeerClosed` that all was got and the peer is closed. Only of an end that lies in a parcel
+/// it is said that nobody holds it. The premise is that no router has found the link words used up.
+pub fn settled_gets_give_all()
+    ensures { SettledGetsGiveAll }
+{}
+
+/// The bytes that a run writes are lines, each with a line feed behind it, where no data of the script has a line feed.
+pub fn outputs_have_lines()
+    ensures { OutputsHaveLines }
+{}
+
+/// By its bytes alone: a run ends as unsettled just where a line of its transcript is `unsettled`.
+pub fn unsettled_is_written()
+    ensures { UnsettledIsWritten }
+{}
+
+/// By its bytes alone: no line of a transcript ends with ` stray`, so that no message but a Flush has ever found its router gone.
+pub fn no_line_strays()
+    ensures { NoLineStrays }
+{}
+
+/// The lines of the puts and gets that succeed count: each says how many parcels its portal had put, or had got, and that of a get shows in
+/// quotes the very data of the put of that number at its peer.
+pub fn lines_are_counted()
+    ensures { LinesAreCounted }
+{}
+
+/// An open that succeeds gives its first name to side A of the new pair, and its second to side B: so they print.
+pub fn opens_name_sides()
+    ensures { OpensNameSides }
+{}
+
+/// The line of a send tells which ends moved: two sends of one item that print alike have moved the same ends.
+pub fn sends_tell_what_moved()
+    ensures { SendsTellWhatMoved }
 {}

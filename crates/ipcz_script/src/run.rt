@@ -1,7 +1,6 @@
 ghost use Rattle.std.specs.Prelude.{◌≡◌, ◌↔◌, ◌++◌, false, IsTrue, IsErrOf, IfOk, OnOk};
 ghost use Rattle.ipcz_world.specs.Lawful.{IsWithinLimits};
 ghost use Rattle.ipcz_script.specs.Lines.{lines_of, refused_line};
-ghost use Rattle.ipcz_script.specs.Sessions.{Runs};
 ghost use Rattle.ipcz_script.specs.Transcript.{is_unsettled, IsOutput, IsRunOutput, IsTranscript, ReadsAndWrites, Writes};
 
 use crate::command::Command;

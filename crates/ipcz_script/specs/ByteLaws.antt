@@ -1,0 +1,28 @@
+-- What the bytes of a transcript say, as functions promise it: of scripts whose data has no line feed, so that each line feed ends a line.
+use Rattle.std.specs.Prelude.{◌≡◌, ◌↔◌, ℕ, List, codes}
+use Rattle.ipcz_world.specs.Lawful.{IsWithinLimits}
+use Rattle.ipcz_script.specs.declared.script.Script.{Script}
+use Rattle.ipcz_script.specs.declared.outcome.Outcome.{Outcome}
+use Rattle.ipcz_script.specs.declared.outcome.Outcome.TheVariants as outcomes
+use Rattle.ipcz_script.specs.Transcript.{IsRunOutput}
+use Rattle.ipcz_script.specs.ReadBack.{AreLines, EndsWith, HasLine, HaveNoFeed}
+
+-- what is said of the lines of each output of a script, by how its run ended
+abbrev pub OfLines : (Outcome → List (List ℕ) → Type 0) → Type 0
+OfLines Holds =
+    (script : Script) (outcome : Outcome) (text : List ℕ) (lines : List (List ℕ)) → IsWithinLimits script.nodes script.words →
+    HaveNoFeed script.commands → IsRunOutput script outcome text → AreLines text lines → Holds outcome lines
+
+-- law: the output has lines
+abbrev pub OutputsHaveLines : Type 0
+OutputsHaveLines =
+    (script : Script) (outcome : Outcome) (text : List ℕ) → IsWithinLimits script.nodes script.words →
+    HaveNoFeed script.commands → IsRunOutput script outcome text → (lines : List (List ℕ)) × AreLines text lines
+
+-- law: a run ends as unsettled just where a line is `unsettled`
+abbrev pub UnsettledIsWritten : Type 0
+UnsettledIsWritten = OfLines (λ outcome lines. (outcome ≡ outcomes.Unsettled) ↔ HasLine lines (codes "unsettled"))
+
+-- law: no line ends with ` stray`
+abbrev pub NoLineStrays : Type 0
+NoLineStrays = OfLines (λ outcome lines. (line : List ℕ) → HasLine lines line → EndsWith line (codes " stray") → ⊥)
