@@ -282,8 +282,8 @@ def show_instructions():
 
 
 def nested(size):
-    """A list of objects that are nested 124 deep, as JSON may be."""
-    one = '{"a":' * 124 + "1" + "}" * 124
+    """A list of objects that are nested 124 deep, by members without a name: what takes most memory to read."""
+    one = '{"":' * 124 + "1" + "}" * 124
     return '{"nodes":1,"words":0,"commands":[' + ",".join([one] * ((size - 40) // (len(one) + 1))) + "]}"
 
 
