@@ -5,9 +5,9 @@
 A wrong body is refused by its contract. Here the contract is wrong too, so that the crates below are proved as before; then the law over
 any order of acts must fail. Each turn is made on a copy of the repository, and takes some minutes.
 
-A turn counts as refused only where a lemma fails that says that the law holds: one whose statement ends in a group of the invariant or in
-a fact that is kept beside it, or one of the folders of the laws themselves. Else what fails only says a definition a second time, and is
-named as a copy of its text.
+Where a proof says a definition a second time, the turn may change that text too. A turn counts as refused only where a lemma fails that
+says that the law holds: one whose statement ends in a group of the invariant or in a fact that is kept beside it, or one of the folders of
+the laws themselves. Else what fails only says a definition a second time, and is named as a copy of its text.
 """
 import os
 import re
@@ -24,6 +24,9 @@ QUEUES = "ipcz_router/specs/Acts.antt"
 ROUTER, ROUTING = "ipcz_router/specs/Router.antt", "ipcz_router/src/router.rt"
 ANSWERS, ANSWERING = "ipcz_world/specs/WordAnswers.antt", "ipcz_world/src/word_answers.rt"
 UPDATES = "ipcz_world/specs/Acts.antt"
+# proofs that say a definition a second time
+ACTED, WORD_ACTS = "ipcz_world/proofs/acts/ActedWords.antt", "ipcz_world/proofs/acts/WordActs.antt"
+ROUTER_WAKERS, WORD_WAKERS = "ipcz_world/proofs/owed/RouterWakers.antt", "ipcz_world/proofs/owed/WordWakers.antt"
 SENDING = "use Rattle.ipcz_router.specs.declared.sending.Sending.{Sending}"
 REACH = (SPEC, SENDING, f"use Rattle.ipcz_seq.specs.Queue.{{reach}}\n{SENDING}")
 
@@ -98,6 +101,7 @@ TURNS = {
     ],
     "a_wake_stays_in_the_word": [
         (ANSWERS, "woken x s = wake x s", "woken x s = x"),
+        (WORD_WAKERS, "has-without_apart (word_at w i).waiting (opposite t) t (λ e. not_opposite t (sym e)) ∙ waits", "waits"),
         (ANSWERING, "let woken = ipcz_word::take_waiting(word, side);", "let woken = word;"),
     ],
     "a_wait_is_only_answered": [
@@ -106,14 +110,32 @@ TURNS = {
             ANSWERS,
             "-- the word after an act of a side on it\n",
             "-- the word after a try, where a wait isn't written\nunfoldable pub tried_word : Word → Side → Plan → Word\n"
-            "tried_word x s Locks = word_by_plan x s Locks\ntried_word x s Waits = x\ntried_word x s Refuses = x\n\n"
+            "tried_word x s Locks = lock x s\ntried_word x s Waits = x\ntried_word x s Refuses = x\n\n"
             "-- the word after an act of a side on it\n",
         ),
         (ANSWERS, "answers.Waiting (bits_of (word_by_plan x s Waits))", "answers.Refused (bits_of x)"),
-        (UPDATES, "lock_act w k r i Waits = set_word (set_router w k (fail_lock r)) i (wait (word_at w i) r.end.side)", "lock_act w k r i Waits = set_word (set_router w k (fail_lock r)) i (word_at w i)"),
-        (ANSWERING, "WordAnswers.{word_answer, word_after, try_answer, woken}", "WordAnswers.{word_answer, word_after, try_answer, tried_word, woken}"),
+        (ANSWERS, "Word.{Word, mark, wake, unlock,", "Word.{Word, mark, wake, lock, unlock,"),
+        (UPDATES, "(set_router w k (fail_lock r)) i (wait (word_at w i) r.end.side)", "(set_router w k (fail_lock r)) i (word_at w i)"),
+        (ACTED, "try_answer word_by_plan commit on_router", "try_answer tried_word commit on_router"),
+        (
+            ACTED,
+            "use Rattle.ipcz_word.specs.Word.{Plan,",
+            "use Rattle.ipcz_world.specs.WordAnswers.{tried_word}\nuse Rattle.ipcz_word.specs.Word.{Plan,",
+        ),
+        (WORD_ACTS, "x = wait (word_at w i) r.end.side", "x = word_at w i"),
+        (ROUTER_WAKERS, "(fail_lock r) i (wait (word_at w i) r.end.side)", "(fail_lock r) i (word_at w i)"),
+        (WORD_WAKERS, "x ≡ wait (word_at w i) t → HaveWakersOn i v", "x ≡ word_at w i → HaveWakersOn i v"),
+        (
+            ANSWERING,
+            "WordAnswers.{word_answer, word_after, try_answer, woken}",
+            "WordAnswers.{word_answer, word_after, try_answer, tried_word, woken}",
+        ),
         (ANSWERING, "≡ word_by_plan (word_of_bits word) side (plan_of", "≡ tried_word (word_of_bits word) side (plan_of"),
-        (ANSWERING, "unfolding(crate::specs::WordAnswers::try_answer, ", "unfolding(crate::specs::WordAnswers::try_answer, crate::specs::WordAnswers::tried_word, "),
+        (
+            ANSWERING,
+            "unfolding(crate::specs::WordAnswers::try_answer,",
+            "unfolding(crate::specs::WordAnswers::try_answer, crate::specs::WordAnswers::tried_word,",
+        ),
         (
             ANSWERING,
             "LockPlan::Wait(waiting) => Answered {\n            answer: Answer::Waiting(waiting),\n            word: waiting,",
@@ -127,10 +149,18 @@ TURNS = {
     ],
     "a_message_lets_nobody_try_again": [
         (ROUTER, "rouse r = record r { flagged = true; tried = false }", "rouse r = record r { flagged = true }"),
-        (ROUTING, "        self.flagged = true;\n        self.tried = false;\n    }\n\n    // Takes the current item of the out", "        self.flagged = true;\n    }\n\n    // Takes the current item of the out"),
+        (
+            ROUTING,
+            "self.flagged = true;\n        self.tried = false;\n    }\n\n    // Takes",
+            "self.flagged = true;\n    }\n\n    // Takes",
+        ),
     ],
     "an_unlock_has_tried": [
-        (EFFECTS, "drop_lock r = record r { holds = false; flagged = true }", "drop_lock r = record r { holds = false; flagged = true; tried = true }"),
+        (
+            EFFECTS,
+            "drop_lock r = record r { holds = false; flagged = true }",
+            "drop_lock r = record r { holds = false; flagged = true; tried = true }",
+        ),
         (
             TURNING,
             "                self.holds = false;\n                self.flagged = true;\n",
@@ -140,7 +170,11 @@ TURNS = {
     # what an act uses up
     "a_wake_stays_owed": [
         (EFFECTS, "wake_other r = record r { wake_owed = false }", "wake_other r = r"),
-        (TURNING, "                let output = self.wake_output();\n                self.wake_owed = false;\n                output\n", "                self.wake_output()\n"),
+        (
+            TURNING,
+            "let output = self.wake_output();\n                self.wake_owed = false;\n                output\n",
+            "self.wake_output()\n",
+        ),
     ],
     "a_rest_leaves_its_router_flagged": [
         (QUEUES, "rest r = record r { flagged = false }", "rest r = r"),
@@ -152,15 +186,29 @@ TURNS = {
     ],
     "a_try_in_vain_is_made_again": [
         (EFFECTS, "fail_lock r = record r { tried = true }", "fail_lock r = r"),
-        (TURNING, "(RouterAct::Lock, Answer::Waiting(_)) => {\n                self.tried = true;\n", "(RouterAct::Lock, Answer::Waiting(_)) => {\n"),
-        (TURNING, "(RouterAct::Lock, Answer::Refused(_)) => {\n                self.tried = true;\n", "(RouterAct::Lock, Answer::Refused(_)) => {\n"),
+        (
+            TURNING,
+            "(RouterAct::Lock, Answer::Waiting(_)) => {\n                self.tried = true;\n",
+            "(RouterAct::Lock, Answer::Waiting(_)) => {\n",
+        ),
+        (
+            TURNING,
+            "(RouterAct::Lock, Answer::Refused(_)) => {\n                self.tried = true;\n",
+            "(RouterAct::Lock, Answer::Refused(_)) => {\n",
+        ),
     ],
 }
 
+# turns that break no promise, so that contracts and tests alone refuse them: a side waits at most once on a link, and so a waiting bit that
+# stays when the side is woken is never read again
+HARMLESS = {"a_wake_stays_in_the_word"}
+
 # the groups of the invariant, and the facts that are kept beside it: what a lemma of the law comes to
-GROUPS = """Inv OpenInv Counts Ordered Shape Links Positions Stands Words Spares BypassRecords Stages Told Moves Terminals EndPlaces BooksKept Items
-Order ProxyNumbers FreshNumbers Conserved HeldOnce HasNoStrays AreFlagged IsAwake AreAwake IsAgreed AreAgreed FlagsAgree HasWaker HaveWakers
-HaveWakersOn IsRanked IsOwing IsBounded""".split()
+GROUPS = """
+Inv OpenInv Counts Ordered Shape Links Positions Stands Words Spares BypassRecords Stages Told Moves Terminals EndPlaces
+BooksKept Items Order ProxyNumbers FreshNumbers Conserved HeldOnce HasNoStrays AreFlagged IsAwake AreAwake IsAgreed
+AreAgreed FlagsAgree HasWaker HaveWakers HaveWakersOn IsRanked IsOwing IsBounded
+""".split()
 # and where each lemma is one
 FOLDERS = ("owed/", "lawful/", "ranks/")
 
@@ -241,7 +289,7 @@ def main():
         for name in names:
             before = turn(crates, TURNS[name])
             said = verdict(crates, TURNS[name])
-            wrong += not said.startswith("refused")
+            wrong += said.startswith("refused") == (name in HARMLESS)
             print(f"{name}: {said}", flush=True)
             for path, text in before.items():
                 with open(path, "w") as file:
