@@ -82,7 +82,8 @@ module _ (nodes words : ℕ) (s : Session) (log : List Answered) (at : Kept node
             session = record s { world = (first_step s.world (steps.Get n e)).world };
           })).said → Next e p
       held None there same = cc
-      held (Some n) there same = next-of e n there (first_step s.world (steps.Get n e)).reply _ (plain nodes words s log at e n there) k p same
+      held (Some n) there same = next-of e n there (first_step s.world (steps.Get n e)).reply _ (plain nodes words s log at e n there) k p
+          same
 
 -- ---- all lines
 
@@ -103,9 +104,11 @@ counted : (earlier : List Answered) (s : Session) (c : Command) (answer : Said) 
     IsCount earlier s.names c answer → AreCounted earlier s.names c answer (rows_of titles c answer)
 unfolding IsCount AreCounted
 counted earlier s (commands.Put at text attached) (said.Put n) t titles is next count =
-    λ e bound. ap (λ l. l ∷ []) (numbered (codes "put") at (decimal n) ∙ ap (λ k. spaced (codes "put" ∷ at ∷ decimal k ∷ [])) (count e bound))
+    λ e bound. ap (λ l. l ∷ []) (numbered (codes "put") at (decimal n) ∙ ap (λ k. spaced (codes "put" ∷ at ∷ decimal k ∷ []))
+    (count e bound))
 counted earlier s (commands.Close at) (said.Closed n) t titles is next count =
-    λ e bound. ap (λ l. l ∷ []) (numbered (codes "close") at (decimal n) ∙ ap (λ k. spaced (codes "close" ∷ at ∷ decimal k ∷ [])) (count e bound))
+    λ e bound. ap (λ l. l ∷ []) (numbered (codes "close") at (decimal n) ∙ ap (λ k. spaced (codes "close" ∷ at ∷ decimal k ∷ []))
+    (count e bound))
 counted earlier s (commands.Get at) (said.Got n p) t titles is next count =
     λ e bound. (
       _,
@@ -114,8 +117,10 @@ counted earlier s (commands.Get at) (said.Got n p) t titles is next count =
       next at n p e refl refl bound,
       record {
         portals = titles_text titles p.ends;
-        words = numbered (codes "get") at _ ∙ ap (λ l. spaced (codes "get" ∷ at ∷ l ∷ [])) (parceled (decimal n) (titles_text titles p.ends) p.bytes)
-            ∙ ap (λ k. spaced (codes "get" ∷ at ∷ decimal k ∷ (91 ∷ (titles_text titles p.ends ++ 93 ∷ [])) ∷ (34 ∷ (p.bytes ++ 34 ∷ [])) ∷ [])) (count e bound);
+        words = numbered (codes "get") at _ ∙ ap (λ l. spaced (codes "get" ∷ at ∷ l ∷ []))
+            (parceled (decimal n) (titles_text titles p.ends) p.bytes)
+            ∙ ap (λ k. spaced (codes "get" ∷ at ∷ decimal k ∷ (91 ∷ (titles_text titles p.ends ++ 93 ∷ [])) ∷ (34 ∷ (p.bytes ++ 34 ∷ []))
+            ∷ [])) (count e bound);
       },
     )
 counted earlier s c answer t titles is next count = tt
@@ -125,7 +130,8 @@ lines_are_counted nodes words cs earlier a later t lines limits plainly is are =
     let parts = split (new_session nodes words) cs earlier a later t is in
     let at = kept-script nodes words parts.0 earlier a.before limits parts.1 in
     let all = script-lines nodes words cs (earlier ++ a ∷ later) t limits plainly is in
-    let same : lines ≡ rows_in (earlier ++ a ∷ later) = same_lines (lines_in (earlier ++ a ∷ later)) lines (rows_in (earlier ++ a ∷ later)) are all in (
+    let same : lines ≡ rows_in (earlier ++ a ∷ later) = same_lines (lines_in (earlier ++ a ∷ later)) lines
+    (rows_in (earlier ++ a ∷ later)) are all in (
       rows_in earlier,
       rows_of a.after.titles a.command a.said,
       rows_in later,
@@ -136,6 +142,7 @@ lines_are_counted nodes words cs earlier a later t lines limits plainly is are =
       },
       counted earlier a.before a.command a.said a.after a.after.titles parts.2
           (λ name k p e same_command same_answer bound. got-is-next nodes words a.before earlier at name e k p a.after bound
-          (subst (λ x. Runs a.before (commands.Get name) x a.after) same_answer (subst (λ x. Runs a.before x a.said a.after) same_command parts.2)))
+          (subst (λ x. Runs a.before (commands.Get name) x a.after) same_answer (subst (λ x. Runs a.before x a.said a.after) same_command
+          parts.2)))
           (numbers_count_up nodes words cs earlier a later t limits is),
     )

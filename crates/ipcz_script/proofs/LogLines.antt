@@ -1,5 +1,6 @@
 -- The lines of a whole script: they are those of its answers.
-use Rattle.std.proofs.Common.{◌≡◌, ◌∙◌, ◌+◌, ◌≤◌, ℕ, zero, suc, Bool, true, false, cond, List, [], ◌∷◌, ◌++◌, length, take, refl, sym, ap, subst}
+use Rattle.std.proofs.Common.{◌≡◌, ◌∙◌, ◌+◌, ◌≤◌, ℕ, zero, suc, Bool, true, false, cond, List, [], ◌∷◌, ◌++◌, length, take, refl, sym, ap}
+use Rattle.std.proofs.Common.{subst}
 use Rattle.std.proofs.Common.{arith, codes, Option, Some, None}
 use Rattle.std.specs.Prelude.{unwrap_or, if◌then◌else◌, nat_lt}
 use Rattle.std.specs.List.{AllByRecursion}
@@ -27,7 +28,8 @@ use Rattle.ipcz_script.specs.declared.command.Command.TheVariants as commands
 use Rattle.ipcz_script.specs.declared.said.Said.{Said}
 use Rattle.ipcz_script.specs.declared.said.Said.TheVariants as said
 use Rattle.ipcz_script.specs.Bindings.{Bindings}
-use Rattle.ipcz_script.specs.Sessions.{Session, Replied, Runs, answer_to, bind, bind_pair, bind_pairs, if_held, if_known, name_pair, nameless}
+use Rattle.ipcz_script.specs.Sessions.{Session, Replied, Runs, answer_to, bind, bind_pair, bind_pairs, if_held, if_known, name_pair}
+use Rattle.ipcz_script.specs.Sessions.{nameless}
 use Rattle.ipcz_script.specs.Sessions.{SettlesTo, TurnsTo, new_session, pair_name, replied_get}
 use Rattle.ipcz_script.specs.Transcript.{Answered, AreAnswered, lines_in}
 use Rattle.ipcz_script.specs.ScriptBooks.{got_said, gots_in, is_bound, parcel_of, put_said, puts_in}
@@ -44,16 +46,19 @@ is_title text h = (namely_lacks 10 text refl h, namely_lacks 93 text refl h)
 pair_title : (i j : ℕ) → IsTitle (pair_name i j)
 pair_title i j = (
   lacks-append 10 (decimal i ++ codes ">") (decimal j)
-      (lacks-append 10 (decimal i) (codes ">") (digits 10 i (λ d. absurd (omega (arith, d.0)))) refl) (digits 10 j (λ d. absurd (omega (arith, d.0)))),
+      (lacks-append 10 (decimal i) (codes ">") (digits 10 i (λ d. absurd (omega (arith, d.0)))) refl)
+      (digits 10 j (λ d. absurd (omega (arith, d.0)))),
   lacks-append 93 (decimal i ++ codes ">") (decimal j)
-      (lacks-append 93 (decimal i) (codes ">") (digits 93 i (λ d. absurd (omega (arith, d.1)))) refl) (digits 93 j (λ d. absurd (omega (arith, d.1)))),
+      (lacks-append 93 (decimal i) (codes ">") (digits 93 i (λ d. absurd (omega (arith, d.1)))) refl)
+      (digits 93 j (λ d. absurd (omega (arith, d.1)))),
 )
   where
     digits : (mark n : ℕ) → ((48 ≤ mark) × (mark ≤ 57) → ⊥) → lacks mark (decimal n) ≡ true
     digits mark n other = decimal_lacks mark n other
 
 bind-titles : (s : Session) (name : List ℕ) (end : End) → IsTitle name → AreTitles s.titles → AreTitles (bind s name end).titles
-bind-titles s name end is are e = subst (λ o. IsTitle (unwrap_or o [])) (sym (get-insert end_total s.titles end name e)) (go (eq_by_cmp end_cmp e end))
+bind-titles s name end is are e = subst (λ o. IsTitle (unwrap_or o [])) (sym (get-insert end_total s.titles end name e))
+    (go (eq_by_cmp end_cmp e end))
   where
     go : (c : Bool) → IsTitle (unwrap_or (cond c (Some name) (get s.titles e)) [])
     go true = is
@@ -72,7 +77,8 @@ start-titles nodes words = pairs-titles (nameless (new_world nodes words)) 0 (fi
 named-titles : (s : Session) (first second : List ℕ) (reply : Reply) → IsNamely first → IsNamely second → AreTitles s.titles →
     AreTitles (name_pair s first second reply).titles
 unfolding name_pair
-named-titles s first second (replies.Opened a b) f g are = bind-titles (bind s first a) second b (is_title second g) (bind-titles s first a (is_title first f) are)
+named-titles s first second (replies.Opened a b) f g are = bind-titles (bind s first a) second b (is_title second g)
+    (bind-titles s first a (is_title first f) are)
 named-titles s first second (replies.Put n) f g are = are
 named-titles s first second (replies.Got n p) f g are = are
 named-titles s first second (replies.Closed n) f g are = are
@@ -96,7 +102,8 @@ pub runs-titles : (s : Session) (c : Command) (answer : Said) (t : Session) → 
 runs-titles s (commands.Open node first second) answer t is h are =
     subst (λ x. AreTitles x.titles) (sym is.1) (named-titles _ first second (first_step s.world (steps.Open node)).reply h.0 h.1 are)
 runs-titles s (commands.Put at text attached) answer t is h are =
-    subst AreTitles (sym (ap (λ x. x.titles) is.1 ∙ known-titles s _ _ (λ end. known-titles s _ _ (λ ends. held-titles s _ _ (λ n. refl))))) are
+    subst AreTitles (sym (ap (λ x. x.titles) is.1 ∙ known-titles s _ _ (λ end. known-titles s _ _
+    (λ ends. held-titles s _ _ (λ n. refl))))) are
 runs-titles s (commands.Get at) answer t is h are =
     subst AreTitles (sym (ap (λ x. x.titles) is.1 ∙ known-titles s _ _ (λ end. held-titles s _ _ (λ n. refl)))) are
 runs-titles s (commands.Close at) answer t is h are =
@@ -204,13 +211,15 @@ held-all P s (Some n) call away each = each n
 
 -- a step that may be refused
 unless-no : (w v : World) (c : Bool) (o : Option Refusal) (reply : Reply) (why : Refusal) → IsNoParcel (answer_to reply) →
-    IsNoParcel (answer_to (if c then unless w o (record { reply = reply; world = v }) else record { reply = replies.Refused why; world = w }).reply)
+    IsNoParcel (answer_to (if c then unless w o (record { reply = reply; world = v }) else record
+    { reply = replies.Refused why; world = w }).reply)
 unfolding unless answer_to
 unless-no w v true None reply why h = h
 unless-no w v true (Some x) reply why h = tt
 unless-no w v false o reply why h = tt
 
-put-no : (w : World) (n : ℕ) (e : End) (bytes : List ℕ) (ends : List End) → IsNoParcel (answer_to (first_step w (steps.Put n e bytes ends)).reply)
+put-no : (w : World) (n : ℕ) (e : End) (bytes : List ℕ) (ends : List End) → IsNoParcel
+    (answer_to (first_step w (steps.Put n e bytes ends)).reply)
 unfolding first_step answer_to
 put-no w n e bytes ends = unless-no w _ (nat_lt n w.count) _ (replies.Put _) _ tt
 
@@ -236,7 +245,8 @@ open-no w n = go (nat_lt n w.count) (node_at w n).opening
     on None = room (has_unclaimed_word w)
     on (Some i) = opened _ i _
 
-    go : (c : Bool) (o : Option ℕ) → IsNoParcel (answer_to (if c then open_on w n o else record { reply = replies.Refused Stranger; world = w }).reply)
+    go : (c : Bool) (o : Option ℕ) → IsNoParcel (answer_to (if c then open_on w n o else record
+        { reply = replies.Refused Stranger; world = w }).reply)
     go true o = on o
     go false o = tt
 
@@ -254,18 +264,64 @@ command-got s (commands.Get name) answer t is plain = go (get s.names name) refl
       where
         unbound : (replied_get s name).said ≡ said.UnknownName
         unbound = rw bound refl
-    go (Some e) bound = got-of answer (λ n p got. (subst ArePlain (bound_parcel p) (subst (λ a. ArePlain (got_said s.names (commands.Get name) a e)) got (plain e))).0)
+    go (Some e) bound = got-of answer (λ n p got. (subst ArePlain (bound_parcel p)
+        (subst (λ a. ArePlain (got_said s.names (commands.Get name) a e)) got (plain e))).0)
       where
         bound_parcel : (p : parcels.Parcel) → cond (is_bound s.names name e) (p ∷ []) [] ≡ p ∷ []
         bound_parcel p = rw bound (ap (λ c. cond c (p ∷ []) []) (same_end-itself e))
 command-got s (commands.Open node first second) answer t is plain = no_parcel answer _ is.0 (open-no s.world node)
 command-got s (commands.Put name text attached) answer t is plain =
-    no_parcel answer _ is.0 (known-all IsNoParcel s (get {K = List ℕ} {X = End} {R = Rattle.std.specs.Cmp.Lexicographic.slice_cmp Rattle.std.proofs.Common.nat_cmp} s.names name) (λ x'. record { said = (if_known s (Rattle.ipcz_script.specs.Sessions.ends_of s.names attached) (λ x''. record { said = (if_held s (Rattle.ipcz_world.specs.Holding.holder_of s.world x') (λ x3. record { said = answer_to (first_step s.world (steps.Put x3 x' text x'')).reply; session = (Rattle.ipcz_script.specs.Sessions.replied_step s (first_step s.world (steps.Put x3 x' text x''))).session })).said; session = (Rattle.ipcz_script.specs.Sessions.replied_at s x' (λ node. steps.Put node x' text x'')).session })).said; session = (if_known s (Rattle.ipcz_script.specs.Sessions.ends_of s.names attached) (λ ends. Rattle.ipcz_script.specs.Sessions.replied_at s x' (λ node. steps.Put node x' text ends))).session }) tt (λ end. known-all IsNoParcel s (Rattle.ipcz_script.specs.Sessions.ends_of s.names attached) (λ x'. record { said = (if_held s (Rattle.ipcz_world.specs.Holding.holder_of s.world end) (λ x''. record { said = answer_to (first_step s.world (steps.Put x'' end text x')).reply; session = (Rattle.ipcz_script.specs.Sessions.replied_step s (first_step s.world (steps.Put x'' end text x'))).session })).said; session = (Rattle.ipcz_script.specs.Sessions.replied_at s end (λ node. steps.Put node end text x')).session }) tt (λ ends. held-all IsNoParcel s (Rattle.ipcz_world.specs.Holding.holder_of s.world end) (λ x'. record { said = answer_to (first_step s.world (steps.Put x' end text ends)).reply; session = (Rattle.ipcz_script.specs.Sessions.replied_step s (first_step s.world (steps.Put x' end text ends))).session }) tt
+    no_parcel answer _ is.0 (known-all IsNoParcel s (get {K = List ℕ} {X = End} {R = Rattle.std.specs.Cmp.Lexicographic.slice_cmp
+    Rattle.std.proofs.Common.nat_cmp} s.names name) (λ x'. record {
+      said = (if_known s
+          (Rattle.ipcz_script.specs.Sessions.ends_of s.names attached) (λ x''. record {
+            said = (if_held s (Rattle.ipcz_world.specs.Holding.holder_of s.world x')
+                (λ x3. record {
+                  said = answer_to (first_step s.world (steps.Put x3 x' text x'')).reply;
+                  session =
+                      (Rattle.ipcz_script.specs.Sessions.replied_step s (first_step s.world (steps.Put x3 x' text x''))).session;
+                })).said;
+            session = (Rattle.ipcz_script.specs.Sessions.replied_at s x'
+                (λ node. steps.Put node x' text x'')).session;
+          })).said;
+      session =
+          (if_known s (Rattle.ipcz_script.specs.Sessions.ends_of s.names attached)
+          (λ ends. Rattle.ipcz_script.specs.Sessions.replied_at s x'
+          (λ node. steps.Put node x' text ends))).session;
+    }) tt
+    (λ end. known-all IsNoParcel s (Rattle.ipcz_script.specs.Sessions.ends_of s.names
+    attached) (λ x'. record {
+      said =
+          (if_held s (Rattle.ipcz_world.specs.Holding.holder_of s.world end)
+          (λ x''. record {
+            said = answer_to
+                (first_step s.world (steps.Put x'' end text x')).reply;
+            session =
+                (Rattle.ipcz_script.specs.Sessions.replied_step s
+                (first_step s.world (steps.Put x'' end text x'))).session;
+          })).said;
+      session =
+          (Rattle.ipcz_script.specs.Sessions.replied_at s end
+          (λ node. steps.Put node end text x')).session;
+    }) tt
+    (λ ends. held-all IsNoParcel s
+    (Rattle.ipcz_world.specs.Holding.holder_of
+    s.world end)
+    (λ x'. record {
+      said = answer_to
+          (first_step s.world
+          (steps.Put x' end text
+          ends)).reply;
+      session
+          = (Rattle.ipcz_script.specs.Sessions.replied_step s (first_step s.world (steps.Put x' end text ends))).session;
+    }) tt
     (λ n. put-no s.world n end text ends))))
 command-got s (commands.Close name) answer t is plain =
     no_parcel answer _ is.0 (known-all IsNoParcel s _ _ tt (λ end. held-all IsNoParcel s _ _ tt (λ n. close-no s.world n end)))
-command-got s (commands.Turn node count) answer t is plain = got-of answer (λ n p e. absurd (subst (λ a. TurnsTo count node s.world a t.world) e is.0))
-command-got s (commands.Settle limit) answer t is plain = got-of answer (λ n p e. absurd (subst (λ a. SettlesTo limit s.world a t.world) e is.0))
+command-got s (commands.Turn node count) answer t is plain = got-of answer (λ n p e. absurd
+    (subst (λ a. TurnsTo count node s.world a t.world) e is.0))
+command-got s (commands.Settle limit) answer t is plain = got-of answer (λ n p e. absurd
+    (subst (λ a. SettlesTo limit s.world a t.world) e is.0))
 command-got s commands.Show answer t is plain = no_parcel answer _ is.0 tt
 
 -- ---- the whole text

@@ -59,10 +59,13 @@ apart i = end_ties (end_at i A) (end_at i B) ∙ and-no (nat_eq i i)
 
 title-new : (titles : Titles) (e : End) (name : List ℕ) → title_of (insert titles e name) e ≡ name
 title-new titles e name =
-    ap (λ o. unwrap_or o []) (get-insert end_total titles e name e ∙ ap (λ c. cond c (Some name) (get titles e)) ((eq_by_cmp_equiv end_total).refl e))
+    ap (λ o. unwrap_or o []) (get-insert end_total titles e name e ∙ ap (λ c. cond c (Some name) (get titles e))
+    ((eq_by_cmp_equiv end_total).refl e))
 
-title-old : (titles : Titles) (d e : End) (name : List ℕ) → eq_by_cmp end_cmp e d ≡ false → title_of (insert titles d name) e ≡ title_of titles e
-title-old titles d e name other = ap (λ o. unwrap_or o []) (get-insert end_total titles d name e ∙ ap (λ c. cond c (Some name) (get titles e)) other)
+title-old : (titles : Titles) (d e : End) (name : List ℕ) → eq_by_cmp end_cmp e d ≡ false → title_of (insert titles d name) e ≡ title_of
+    titles e
+title-old titles d e name other = ap (λ o. unwrap_or o []) (get-insert end_total titles d name e ∙ ap
+    (λ c. cond c (Some name) (get titles e)) other)
 
 -- two names bound to the ends of a pair
 both-named : (s : Session) (first second : List ℕ) (i : ℕ) → AreNamed (bind (bind s first (end_at i A)) second (end_at i B)) first second
@@ -71,7 +74,8 @@ both-named s first second i = record {
   at_a = title-old (insert s.titles (end_at i A) first) (end_at i B) (end_at i A) second (apart i) ∙ title-new s.titles (end_at i A) first;
   at_b = title-new (insert s.titles (end_at i A) first) (end_at i B) second;
   bound = get-insert nat_list_cmp_total (insert s.names first (end_at i A)) second (end_at i B) second
-      ∙ ap (λ c. cond c (Some (end_at i B)) (get (insert s.names first (end_at i A)) second)) ((eq_by_cmp_equiv nat_list_cmp_total).refl second);
+      ∙ ap (λ c. cond c (Some (end_at i B)) (get (insert s.names first (end_at i A)) second))
+      ((eq_by_cmp_equiv nat_list_cmp_total).refl second);
 }
 
 named : (s : Session) (first second : List ℕ) (reply : Reply) → IsOpened reply → said.Opened ≡ answer_to reply →

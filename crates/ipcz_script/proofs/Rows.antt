@@ -19,7 +19,8 @@ use Rattle.ipcz_script.specs.declared.command.Command.TheVariants as commands
 use Rattle.ipcz_script.specs.declared.said.Said.{Said}
 use Rattle.ipcz_script.specs.declared.said.Said.TheVariants as said
 use Rattle.ipcz_script.specs.Bindings.{Titles}
-use Rattle.ipcz_script.specs.EventTexts.{event_text, hand_text, kind_text, link_event, more_ends, moved_text, sent_text, unfit_text, word_text}
+use Rattle.ipcz_script.specs.EventTexts.{event_text, hand_text, kind_text, link_event, more_ends, moved_text, sent_text, unfit_text}
+use Rattle.ipcz_script.specs.EventTexts.{word_text}
 use Rattle.ipcz_script.specs.Lines.{head_of, lines_of, lines_of_turns, more_titles, tail_of, title_of, titles_text, turn_lines}
 use Rattle.ipcz_script.specs.Lines.{turn_text, words_text}
 use Rattle.ipcz_script.specs.ReadBack.{HasNoFeed, HaveNoFeeds, IsNamely, lacks, text_of}
@@ -122,24 +123,36 @@ unfit-lacks kinds.Flush true = refl
 
 hand-lacks : (kind : Handed) (link : LinkId) (unfit : Bool) → L (hand_text kind link unfit)
 hand-lacks kind link unfit =
-    both (kind_text kind ++ codes " " ++ link_text link) (if unfit then unfit_text kind else []) (both (kind_text kind ++ codes " ") (link_text link) (word (kind_text kind) (codes " ") refl (kind-lacks kind))
+    both (kind_text kind ++ codes " " ++ link_text link) (if unfit then unfit_text kind else [])
+    (both (kind_text kind ++ codes " ") (link_text link) (word (kind_text kind) (codes " ") refl (kind-lacks kind))
     (link-lacks link)) (unfit-lacks kind unfit)
 
 serial-lacks : (serial : ℕ) → L (decimal serial ++ codes " ")
 serial-lacks serial = word (decimal serial) (codes " ") refl (number serial)
 
 link_event-lacks : (serial : ℕ) (verb : List ℕ) (link : LinkId) → L verb → L (link_event serial verb link)
-link_event-lacks serial verb link h = both (decimal serial ++ codes " " ++ verb ++ codes " ") (link_text link) (word (decimal serial ++ codes " " ++ verb) (codes " ") refl (word (decimal serial ++ codes " ") verb h (serial-lacks serial))) (link-lacks link)
+link_event-lacks serial verb link h = both (decimal serial ++ codes " " ++ verb ++ codes " ") (link_text link)
+    (word (decimal serial ++ codes " " ++ verb) (codes " ") refl (word (decimal serial ++ codes " ") verb h (serial-lacks serial)))
+    (link-lacks link)
 
 word_text-lacks : (serial : ℕ) (verb : List ℕ) (link : LinkId) (after : ℕ) → L verb → L (word_text serial verb link after)
 word_text-lacks serial verb link after h =
-    both (decimal serial ++ codes " " ++ verb ++ codes " " ++ link_text link ++ codes " ") (decimal after) (word (decimal serial ++ codes " " ++ verb ++ codes " " ++ link_text link) (codes " ") refl (both (decimal serial ++ codes " " ++ verb ++ codes " ") (link_text link) (word (decimal serial ++ codes " " ++ verb) (codes " ") refl (word (decimal serial ++ codes " ") verb h (serial-lacks serial)))
+    both (decimal serial ++ codes " " ++ verb ++ codes " " ++ link_text link ++ codes " ") (decimal after)
+    (word (decimal serial ++ codes " " ++ verb ++ codes " " ++ link_text link) (codes " ") refl
+    (both (decimal serial ++ codes " " ++ verb ++ codes " ") (link_text link)
+    (word (decimal serial ++ codes " " ++ verb) (codes " ") refl (word (decimal serial ++ codes " ") verb h
+    (serial-lacks serial)))
     (link-lacks link))) (number after)
 
 sent-lacks : (serial : ℕ) (way : List ℕ) (n : ℕ) (link : LinkId) (moved : List End) → L way → L (sent_text serial way n link moved)
 sent-lacks serial way n link moved h =
-    both (decimal serial ++ codes " send " ++ way ++ codes " " ++ decimal n ++ codes " " ++ link_text link) (moved_text moved) (both (decimal serial ++ codes " send " ++ way ++ codes " " ++ decimal n ++ codes " ") (link_text link) (word (decimal serial ++ codes " send " ++ way ++ codes " " ++ decimal n) (codes " ") refl (both (decimal serial ++ codes " send " ++ way ++ codes " ") (decimal n) (word (decimal serial ++ codes " send " ++ way) (codes " ") refl
-    (word (decimal serial ++ codes " send ") way h (word (decimal serial) (codes " send ") refl (number serial)))) (number n))) (link-lacks link)) (moved-lacks moved)
+    both (decimal serial ++ codes " send " ++ way ++ codes " " ++ decimal n ++ codes " " ++ link_text link) (moved_text moved)
+    (both (decimal serial ++ codes " send " ++ way ++ codes " " ++ decimal n ++ codes " ") (link_text link)
+    (word (decimal serial ++ codes " send " ++ way ++ codes " " ++ decimal n) (codes " ") refl
+    (both (decimal serial ++ codes " send " ++ way ++ codes " ") (decimal n)
+    (word (decimal serial ++ codes " send " ++ way) (codes " ") refl
+    (word (decimal serial ++ codes " send ") way h (word (decimal serial) (codes " send ") refl (number serial)))) (number n)))
+    (link-lacks link)) (moved-lacks moved)
 
 -- no event has a line feed
 event-lacks : (event : Happened) → L (event_text event)
@@ -149,13 +162,15 @@ event-lacks (events.Post to) = number to
 event-lacks (events.Close end) = end-lacks end
 event-lacks (events.SendOut serial n link moved) = sent-lacks serial (codes "out") n link moved refl
 event-lacks (events.SendIn serial n link moved) = sent-lacks serial (codes "in") n link moved refl
-event-lacks (events.Discard serial n) = both (decimal serial ++ codes " discard ") (decimal n) (word (decimal serial) (codes " discard ") refl (number serial)) (number n)
+event-lacks (events.Discard serial n) = both (decimal serial ++ codes " discard ") (decimal n)
+    (word (decimal serial) (codes " discard ") refl (number serial)) (number n)
 event-lacks (events.FinishOut serial link) = link_event-lacks serial (codes "finish out") link refl
 event-lacks (events.FinishIn serial link) = link_event-lacks serial (codes "finish in") link refl
 event-lacks (events.Leave serial) = word (decimal serial) (codes " leave") refl (number serial)
 event-lacks (events.Mark serial link word) = word_text-lacks serial (codes "mark") link word refl
 event-lacks (events.Wake serial link word) = word_text-lacks serial (codes "wake") link word refl
-event-lacks (events.Claim serial w) = both (decimal serial ++ codes " claim ") (decimal w) (word (decimal serial) (codes " claim ") refl (number serial)) (number w)
+event-lacks (events.Claim serial w) = both (decimal serial ++ codes " claim ") (decimal w)
+    (word (decimal serial) (codes " claim ") refl (number serial)) (number w)
 event-lacks (events.ClaimNoWord serial) = word (decimal serial) (codes " claim NoWord") refl (number serial)
 event-lacks (events.Lock serial link word) = word_text-lacks serial (codes "lock") link word refl
 event-lacks (events.Wait serial link word) = word_text-lacks serial (codes "wait") link word refl
@@ -175,7 +190,11 @@ turn-lacks (replies.Closed n) = refl
 
 turn_rows-feeds : (node : ℕ) (rs : List Reply) → HaveNoFeeds (turn_rows node rs)
 turn_rows-feeds node [] = tt
-turn_rows-feeds node (r ∷ rs) = (both (decimal node ++ codes ": ") (turn_text r) (word (decimal node) (codes ": ") refl (number node)) (turn-lacks r), turn_rows-feeds node rs)
+turn_rows-feeds node (r ∷ rs) = (
+  both (decimal node ++ codes ": ") (turn_text r) (word (decimal node) (codes ": ") refl (number node))
+      (turn-lacks r),
+  turn_rows-feeds node rs,
+)
 
 -- each title is without a line feed, and without the bracket that ends a list of titles
 abbrev pub IsTitle : List ℕ → Type 0
@@ -211,7 +230,10 @@ tail-lacks : (titles : Titles) (answer : Said) → AreTitles titles → GotNoFee
 tail-lacks titles said.Opened are h = refl
 tail-lacks titles (said.Put n) are h = number n
 tail-lacks titles (said.Got n p) are h =
-    word (decimal n ++ codes " [" ++ titles_text titles p.ends ++ codes "] \"" ++ p.bytes) (codes "\"") refl (both (decimal n ++ codes " [" ++ titles_text titles p.ends ++ codes "] \"") p.bytes (word (decimal n ++ codes " [" ++ titles_text titles p.ends) (codes "] \"") refl (both (decimal n ++ codes " [") (titles_text titles p.ends)
+    word (decimal n ++ codes " [" ++ titles_text titles p.ends ++ codes "] \"" ++ p.bytes) (codes "\"") refl
+    (both (decimal n ++ codes " [" ++ titles_text titles p.ends ++ codes "] \"") p.bytes
+    (word (decimal n ++ codes " [" ++ titles_text titles p.ends) (codes "] \"") refl
+    (both (decimal n ++ codes " [") (titles_text titles p.ends)
     (word (decimal n) (codes " [") refl (number n)) (titles-lack titles are p.ends).0)) h)
 tail-lacks titles (said.Closed n) are h = number n
 tail-lacks titles (said.Turned turns) are h = refl
@@ -245,14 +267,20 @@ rows-feeds titles (commands.Turn node count) answer are h got = turned-feeds nod
 rows-feeds titles (commands.Open node first second) answer are h got =
     let tail = tail-lacks titles answer are got in (
       both (head_of (commands.Open node first second)) (tail_of titles answer)
-          (word (◌++◌ {A = ℕ} first (codes " ") ++ second) (codes " ") refl (both (◌++◌ {A = ℕ} first (codes " ")) second (word first (codes " ") refl (name first h.0)) (name second h.1))) tail,
+          (word (◌++◌ {A = ℕ} first (codes " ") ++ second) (codes " ") refl (both (◌++◌ {A = ℕ} first (codes " ")) second
+          (word first (codes " ") refl (name first h.0)) (name second h.1))) tail,
       tt,
     )
-rows-feeds titles (commands.Put at text attached) answer are h got =
-    (both (head_of (commands.Put at text attached)) (tail_of titles answer) (word at (codes " ") refl (name at h.0)) (tail-lacks titles answer are got), tt)
+rows-feeds titles (commands.Put at text attached) answer are h got = (
+  both (head_of (commands.Put at text attached)) (tail_of titles answer) (word at (codes " ") refl (name at h.0))
+      (tail-lacks titles answer are got),
+  tt,
+)
 rows-feeds titles (commands.Get at) answer are h got =
     (both (head_of (commands.Get at)) (tail_of titles answer) (word at (codes " ") refl (name at h)) (tail-lacks titles answer are got), tt)
-rows-feeds titles (commands.Close at) answer are h got =
-    (both (head_of (commands.Close at)) (tail_of titles answer) (word at (codes " ") refl (name at h)) (tail-lacks titles answer are got), tt)
+rows-feeds titles (commands.Close at) answer are h got = (
+  both (head_of (commands.Close at)) (tail_of titles answer) (word at (codes " ") refl (name at h)) (tail-lacks titles answer are got),
+  tt,
+)
 rows-feeds titles (commands.Settle limit) answer are h got = (tail-lacks titles answer are got, tt)
 rows-feeds titles commands.Show answer are h got = (tail-lacks titles answer are got, tt)

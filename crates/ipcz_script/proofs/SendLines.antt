@@ -57,7 +57,8 @@ unfolding letter
 spelled n sides.A rest = append_assoc (decimal n) (codes "A") rest
 spelled n sides.B rest = append_assoc (decimal n) (codes "B") rest
 
-one_end : (d e : End) (rest more : List ℕ) → d.pair < 2 ^ 64 → e.pair < 2 ^ 64 → end_text d ++ rest ≡ end_text e ++ more → (d ≡ e) × (rest ≡ more)
+one_end : (d e : End) (rest more : List ℕ) → d.pair < 2 ^ 64 → e.pair < 2 ^ 64 → end_text d ++ rest ≡ end_text e ++ more → (d ≡ e) ×
+    (rest ≡ more)
 one_end d e rest more h k same =
     let t = digits_part (decimal d.pair) (decimal e.pair) rest more (letter d.side) (letter e.side) (decimal_digits d.pair)
     (decimal_digits e.pair) (no_digit d.side) (no_digit e.side) (sym (spelled d.pair d.side rest) ∙ same ∙ spelled e.pair e.side more) in

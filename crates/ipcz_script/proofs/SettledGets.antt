@@ -1,5 +1,6 @@
 -- Why gets give all that was put, once a settle has settled.
-use Rattle.std.proofs.Common.{◌≡◌, ◌∙◌, ◌++◌, ◌+◌, ◌<◌, ap, sym, refl, subst, arith, length, take, ℕ, Bool, true, false, List, [], ◌∷◌, map, cond}
+use Rattle.std.proofs.Common.{◌≡◌, ◌∙◌, ◌++◌, ◌+◌, ◌<◌, ap, sym, refl, subst, arith, length, take, ℕ, Bool, true, false, List, [], ◌∷◌}
+use Rattle.std.proofs.Common.{map, cond}
 use Rattle.std.proofs.Common.{Option, Some, None}
 use Rattle.std.specs.Prelude.{slice_get, nat_lt, IsSome}
 use Rattle.std.specs.FinMap.{get}
@@ -223,11 +224,13 @@ module _ (nodes words : ℕ) (s : Session) (log : List Answered) (at : Kept node
 
     empty : IsQuiet w → IsWet w → (first_step w (steps.Get n e)).reply ≡ replies.Refused refusals.Empty → HasGotAll log e
     unfolding first_step
-    empty quiet wet h = got-all (sym (parcels-all (at.books.got e)) ∙ ap parcels_in (each_quiet_delivers w (first_step w (steps.Get n e)).world
+    empty quiet wet h = got-all (sym (parcels-all (at.books.got e)) ∙ ap parcels_in
+        (each_quiet_delivers w (first_step w (steps.Get n e)).world
         at.books at.routes n e law quiet
         (each_quiet_is_direct w at.books at.routes e.pair law quiet wet opened).route (sym h, refl)))
 
-    gives : IsQuiet w → IsWet w → (reply : Reply) (c : Books) → (first_step w (steps.Get n e)).reply ≡ reply → Plain at.books (steps.Get n e) reply c →
+    gives : IsQuiet w → IsWet w → (reply : Reply) (c : Books) → (first_step w (steps.Get n e)).reply ≡ reply → Plain at.books
+        (steps.Get n e) reply c →
         GivesNext w at.books log e (answer_to reply)
     unfolding GivesNext answer_to
     gives quiet wet (replies.Got k p) c is plainly = got-next p plainly.1

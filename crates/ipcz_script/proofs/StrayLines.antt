@@ -1,5 +1,6 @@
 -- No line of a transcript ends with ` stray`.
-use Rattle.std.proofs.Common.{◌≡◌, ◌∙◌, ◌⊎◌, ℕ, zero, suc, Bool, true, false, List, [], ◌∷◌, ◌++◌, refl, sym, ap, subst, arith, inl, inr, codes}
+use Rattle.std.proofs.Common.{◌≡◌, ◌∙◌, ◌⊎◌, ℕ, zero, suc, Bool, true, false, List, [], ◌∷◌, ◌++◌, refl, sym, ap, subst, arith, inl, inr}
+use Rattle.std.proofs.Common.{codes}
 use Rattle.std.proofs.Common.{append_assoc, append-nil}
 use Rattle.std.proofs.lemmas.Bool.Decides.{nat_tests}
 use Rattle.std.specs.Prelude.{◌==◌, ◌&&◌, MatchBool}
@@ -131,7 +132,8 @@ nothing-more a h = subst Ends (sym (append-nil a)) h
 
 ends-more : (a : List ℕ) (es : List End) → Ends a → Ends (a ++ more_ends es)
 ends-more a [] h = nothing-more a h
-ends-more a (e ∷ es) h = behind a (more_ends (e ∷ es)) (ends-more (codes "," ++ end_text e) es (behind (codes ",") (end_text e) (end-ends e)))
+ends-more a (e ∷ es) h = behind a (more_ends (e ∷ es)) (ends-more (codes "," ++ end_text e) es
+    (behind (codes ",") (end_text e) (end-ends e)))
 
 ends-moved : (a : List ℕ) (es : List End) → Ends a → Ends (a ++ moved_text es)
 ends-moved a [] h = nothing-more a h
@@ -181,7 +183,8 @@ sent-ends serial way n link moved =
 
 event-ends : (event : Happened) → OnlyFlushesStray (replies.Turned event) → Ends (event_text event)
 unfolding stray_end
-event-ends (events.Hand kind link unfit) only = hand-ends kind link unfit (λ e. only kind link (ap (λ u. replies.Turned (events.Hand kind link u)) e))
+event-ends (events.Hand kind link unfit) only = hand-ends kind link unfit (λ e. only kind link
+    (ap (λ u. replies.Turned (events.Hand kind link u)) e))
 event-ends (events.Look sender) only = behind (codes "look ") (decimal sender) (number sender)
 event-ends (events.Post to) only = behind (codes "post ") (decimal to) (number to)
 event-ends (events.Close end) only = behind (codes "close ") (end_text end) (end-ends end)
@@ -208,7 +211,8 @@ event-ends events.Idle only = three _ _ _ _ refl
 -- the start of a line of a turn, with nothing behind it
 silent : (node : ℕ) → stray_end (codes "n" ++ decimal node ++ codes ": " ++ []) ≡ false
 unfolding stray_end
-silent node = (nothing-more (codes "n" ++ decimal node ++ codes ": ") (behind (codes "n" ++ decimal node) (codes ": ") (behind (codes ":") (codes " ") (one 32 refl)))).apart []
+silent node = (nothing-more (codes "n" ++ decimal node ++ codes ": ") (behind (codes "n" ++ decimal node) (codes ": ")
+    (behind (codes ":") (codes " ") (one 32 refl)))).apart []
 
 -- a text with the start of its line
 started : (node : ℕ) (r : Reply) → OnlyFlushesStray r → stray_end (codes "n" ++ decimal node ++ codes ": " ++ turn_text r) ≡ false
@@ -237,10 +241,11 @@ turns-flush nodes words (suc left) node w (r ∷ rs) v puts gots at is =
     let law = lawful nodes words w at.books at.routes at.reached in (
       only_flushes_stray w is.0 at.books at.routes (steps.Turn node) r law
           (first_acts_are_possible w is.0 at.books at.routes (steps.Turn node) r law is.1),
-      elim (is_idle_reply r) as (λ b. MatchBool b ((rs ≡ []) × (v ≡ is.0)) (AreTurns left node is.0 rs v) → AllByRecursion OnlyFlushesStray rs) [
-        | true ↦ λ m. subst (AllByRecursion OnlyFlushesStray) (sym m.0) tt
-        | false ↦ λ m. turns-flush nodes words left node is.0 rs v puts gots there m
-      ] is.3,
+      elim (is_idle_reply r) as (λ b. MatchBool b ((rs ≡ []) × (v ≡ is.0)) (AreTurns left node is.0 rs v) → AllByRecursion
+          OnlyFlushesStray rs) [
+            | true ↦ λ m. subst (AllByRecursion OnlyFlushesStray) (sym m.0) tt
+            | false ↦ λ m. turns-flush nodes words left node is.0 rs v puts gots there m
+          ] is.3,
     )
 
 -- a text that is empty or doesn't end so
@@ -296,9 +301,11 @@ command-apart nodes words s puts gots at (commands.Turn node count) said.Unknown
 command-apart nodes words s puts gots at (commands.Turn node count) said.Away t titles is line h = absurd h
 command-apart nodes words s puts gots at (commands.Turn node count) (said.Refused why) t titles is line h = absurd h
 command-apart nodes words s puts gots at (commands.Open node x y) answer t titles is line h =
-    line-apart (head_of (commands.Open node x y)) (tail_of titles answer) line (spaced (codes "open " ++ x ++ codes " " ++ y)) (tail-apart titles answer) h
+    line-apart (head_of (commands.Open node x y)) (tail_of titles answer) line (spaced (codes "open " ++ x ++ codes " " ++ y))
+    (tail-apart titles answer) h
 command-apart nodes words s puts gots at (commands.Put name text attached) answer t titles is line h =
-    line-apart (head_of (commands.Put name text attached)) (tail_of titles answer) line (spaced (codes "put " ++ name)) (tail-apart titles answer) h
+    line-apart (head_of (commands.Put name text attached)) (tail_of titles answer) line (spaced (codes "put " ++ name))
+    (tail-apart titles answer) h
 command-apart nodes words s puts gots at (commands.Get name) answer t titles is line h =
     line-apart (head_of (commands.Get name)) (tail_of titles answer) line (spaced (codes "get " ++ name)) (tail-apart titles answer) h
 command-apart nodes words s puts gots at (commands.Close name) answer t titles is line h =
@@ -308,7 +315,8 @@ command-apart nodes words s puts gots at (commands.Settle limit) answer t titles
 command-apart nodes words s puts gots at commands.Show answer t titles is line h =
     line-apart [] (tail_of titles answer) line (inr refl) (tail-apart titles answer) h
 
-log-apart : (nodes words : ℕ) (s : Session) (cs : List Command) (log : List Answered) (t : Session) (puts gots : End → List parcels.Parcel) →
+log-apart : (nodes words : ℕ) (s : Session) (cs : List Command) (log : List Answered) (t : Session)
+    (puts gots : End → List parcels.Parcel) →
     Kept nodes words s.world puts gots → AreAnswered s cs log t → (line : List ℕ) → HasLine (rows_in log) line → stray_end line ≡ false
 log-apart nodes words s [] [] t puts gots at is line h = absurd h
 log-apart nodes words s [] (a ∷ log) t puts gots at is line h = absurd is

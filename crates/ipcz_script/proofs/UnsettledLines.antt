@@ -64,7 +64,8 @@ given s c titles answer known same h = subst (λ a. HasLine (rows_of titles c a)
 settle-line : (s t : Session) (limit : ℕ) (titles : Titles) (answer : Said) → SettlesTo limit s.world answer t.world →
     HasLine (rows_of titles (commands.Settle limit) answer) U ↔ (is_unsettled answer ≡ true)
 unfolding is_unsettled first
-settle-line s t limit titles said.Settled is = neither (codes "settled" ∷ []) said.Settled (other_line (codes "settled") 115 refl (λ e. omega (arith, e))) refl
+settle-line s t limit titles said.Settled is = neither (codes "settled" ∷ []) said.Settled
+    (other_line (codes "settled") 115 refl (λ e. omega (arith, e))) refl
 settle-line s t limit titles said.Unsettled is = (λ h. refl, λ u. inl refl)
 settle-line s t limit titles said.Opened is = absurd is
 settle-line s t limit titles (said.Put n) is = absurd is
@@ -96,25 +97,32 @@ command-line : (s : Session) (c : Command) (answer : Said) (t : Session) (titles
     HasLine (rows_of titles c answer) U ↔ (is_unsettled answer ≡ true)
 unfolding is_unsettled first
 command-line s (commands.Open node x y) answer t titles is =
-    neither ((head_of (commands.Open node x y) ++ tail_of titles answer) ∷ []) answer (other_line (head_of (commands.Open node x y) ++ tail_of titles answer) 111 refl (λ e. omega (arith, e)))
+    neither ((head_of (commands.Open node x y) ++ tail_of titles answer) ∷ []) answer
+    (other_line (head_of (commands.Open node x y) ++ tail_of titles answer) 111 refl (λ e. omega (arith, e)))
     (subst (λ a. is_unsettled a ≡ false) (sym is.0) (answer-still (first_step s.world (steps.Open node)).reply))
 command-line s (commands.Put at text attached) answer t titles is =
-    neither ((head_of (commands.Put at text attached) ++ tail_of titles answer) ∷ []) answer (other_line (head_of (commands.Put at text attached) ++ tail_of titles answer) 112 refl (λ e. omega (arith, e)))
+    neither ((head_of (commands.Put at text attached) ++ tail_of titles answer) ∷ []) answer
+    (other_line (head_of (commands.Put at text attached) ++ tail_of titles answer) 112 refl (λ e. omega (arith, e)))
     (subst (λ a. is_unsettled a ≡ false) (sym is.0) (known-all (λ a. is_unsettled a ≡ false) s _ _ refl (λ end.
     known-all (λ a. is_unsettled a ≡ false) s _ _ refl (λ ends. held-all (λ a. is_unsettled a ≡ false) s _ _ refl (λ n.
     answer-still (first_step s.world (steps.Put n end text ends)).reply)))))
 command-line s (commands.Get at) answer t titles is =
-    neither ((head_of (commands.Get at) ++ tail_of titles answer) ∷ []) answer (other_line (head_of (commands.Get at) ++ tail_of titles answer) 103 refl (λ e. omega (arith, e)))
+    neither ((head_of (commands.Get at) ++ tail_of titles answer) ∷ []) answer (other_line
+    (head_of (commands.Get at) ++ tail_of titles answer) 103 refl (λ e. omega (arith, e)))
     (subst (λ a. is_unsettled a ≡ false) (sym is.0) (known-all (λ a. is_unsettled a ≡ false) s _ _ refl (λ end.
     held-all (λ a. is_unsettled a ≡ false) s _ _ refl (λ n. answer-still (first_step s.world (steps.Get n end)).reply))))
 command-line s (commands.Close at) answer t titles is =
-    neither ((head_of (commands.Close at) ++ tail_of titles answer) ∷ []) answer (other_line (head_of (commands.Close at) ++ tail_of titles answer) 99 refl (λ e. omega (arith, e)))
+    neither ((head_of (commands.Close at) ++ tail_of titles answer) ∷ []) answer (other_line
+    (head_of (commands.Close at) ++ tail_of titles answer) 99 refl (λ e. omega (arith, e)))
     (subst (λ a. is_unsettled a ≡ false) (sym is.0) (known-all (λ a. is_unsettled a ≡ false) s _ _ refl (λ end.
     held-all (λ a. is_unsettled a ≡ false) s _ _ refl (λ n. answer-still (first_step s.world (steps.Close n end)).reply))))
 command-line s (commands.Turn node count) answer t titles is = turns-line s t count node titles answer is.0
 command-line s (commands.Settle limit) answer t titles is = settle-line s t limit titles answer is.0
 command-line s commands.Show answer t titles is = given s commands.Show titles answer _ is.0
-    (neither ((head_of commands.Show ++ tail_of titles (said.Words (Rattle.ipcz_world.specs.Holding.shown_words s.world))) ∷ []) (said.Words (Rattle.ipcz_world.specs.Holding.shown_words s.world)) (other_line (head_of commands.Show ++ tail_of titles (said.Words (Rattle.ipcz_world.specs.Holding.shown_words s.world))) 119 refl (λ e. omega (arith, e))) refl)
+    (neither ((head_of commands.Show ++ tail_of titles (said.Words (Rattle.ipcz_world.specs.Holding.shown_words s.world))) ∷ [])
+    (said.Words (Rattle.ipcz_world.specs.Holding.shown_words s.world)) (other_line
+    (head_of commands.Show ++ tail_of titles (said.Words (Rattle.ipcz_world.specs.Holding.shown_words s.world))) 119 refl
+    (λ e. omega (arith, e))) refl)
 
 -- ---- the whole text
 
@@ -188,8 +196,11 @@ transcript-line : (script : Script) (text : List ℕ) (unsettled : Bool) (lines 
     HaveNoFeed script.commands → IsTranscript script text unsettled → AreLines text lines → HasLine lines U ↔ (unsettled ≡ true)
 transcript-line script text unsettled lines limits plain is are =
     let rows = transcript-rows script text unsettled lines limits plain is are in
-    let log = log-line (new_session script.nodes script.words) script.commands rows.log rows.after rows.answered in
-    (λ h. rows.flag ∙ log.0 (subst (λ x. HasLine x U) rows.rows h), λ u. subst (λ x. HasLine x U) (sym rows.rows) (log.1 (sym rows.flag ∙ u)))
+    let log = log-line (new_session script.nodes script.words) script.commands rows.log rows.after rows.answered in (
+      λ h. rows.flag ∙ log.0 (subst (λ x. HasLine x U) rows.rows h),
+      λ u. subst (λ x. HasLine x U) (sym rows.rows)
+          (log.1 (sym rows.flag ∙ u)),
+    )
 
 pub unsettled_is_written : UnsettledIsWritten
 unsettled_is_written script outcomes.Done text lines limits plain is are =

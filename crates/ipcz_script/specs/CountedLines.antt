@@ -48,7 +48,8 @@ AreCounted earlier names command answer lines = Unit {0}
 abbrev pub LinesAreCounted : Type 0
 LinesAreCounted =
     (nodes words : ℕ) (cs : List Command) (earlier : List Answered) (a : Answered) (later : List Answered) (t : Session)
-    (lines : List (List ℕ)) → IsWithinLimits nodes words → HaveNoFeed cs → AreAnswered (new_session nodes words) cs (earlier ++ a ∷ later) t →
+    (lines : List (List ℕ)) → IsWithinLimits nodes words → HaveNoFeed cs → AreAnswered (new_session nodes words) cs (earlier ++ a ∷ later)
+    t →
     AreLines (lines_in (earlier ++ a ∷ later)) lines →
     (before own behind : List (List ℕ)) × (lines ≡ before ++ (own ++ behind)) × AreLines (lines_in earlier) before ×
     AreCounted earlier a.before.names a.command a.said own
