@@ -1,6 +1,6 @@
-//! Cells of one table on one thread, by steps that say what each call gives.
+//! Cells of one table on one thread, by lists of calls with what each gives.
 //!
-//! Nothing is promised of what stands here: a test's own proof would else work out the whole cell at each call. So a test is a list of steps.
+//! Nothing is promised of what stands here: a test's own proof would else work out the whole cell at each call. So a test is a list of calls.
 mod bypass;
 mod parcel;
 
@@ -43,13 +43,6 @@ enum Call {
     Close(End, u64),
 }
 
-/// A call on the cell of a node.
-#[derive(Clone, Copy)]
-struct Step {
-    node: usize,
-    call: Call,
-}
-
 // A list of these ends.
 fn list(alloc: Global, ends: &[End]) -> Result<Ends, AllocError> {
     let mut list = Vec::new(alloc);
@@ -79,7 +72,7 @@ fn take_all<F: FabricName>(
     events: &[&str],
 ) -> Result<bool, Refusal> {
     for event in events {
-        if !takes(fabric, cell, alloc, event)? {
+        if !takes(fabric, cell, alloc, *event)? {
             return Ok(false);
         }
     }
@@ -112,38 +105,41 @@ fn gives<F: FabricName>(
     call: Call,
 ) -> Result<bool, Refusal> {
     match call {
-        Call::Open(a, b) => Ok(cell.open_pair(fabric)? == (a, b)),
+        Call::Open(first, second) => {
+            let (a, b) = cell.open_pair(fabric)?;
+            Ok(a == first && b == second)
+        }
         Call::Put(at, data, ends, number) => {
             Ok(puts(fabric, cell, alloc, at, data, ends, number)?)
         }
         Call::Turns(events) => take_all(fabric, cell, alloc, events),
         Call::Get(at, data, ends, number) => {
             let (n, parcel) = cell.get(fabric, at)?;
-            Ok(n == number
-                && parcel.bytes.as_slice() == data
-                && parcel.ends.as_slice() == ends)
+            Ok(n == number && parcel.bytes.as_slice() == data && parcel.ends.as_slice() == ends)
         }
         Call::Close(at, number) => Ok(cell.close(fabric, at)? == number),
     }
 }
 
-// How many of the steps give what they should, up to the first that doesn't.
-fn run<F: FabricName>(blank: Blank, alloc: Global, steps: &[Step]) -> Result<usize, Refusal>
+// How many of these calls on the cells of nodes give what they should, up to the first that doesn't.
+fn run<F: FabricName>(
+    blank: Blank,
+    alloc: Global,
+    calls: &[(usize, Call)],
+) -> Result<usize, Refusal>
     requires { blank ≡ F.table }
 {
     let (fabric, mut cells) = match blank.name::<F>() {
         Ok(named) => named,
         Err((why, _)) => return Err(why),
     };
-    let mut done = 0;
-    for step in steps {
-        let Some(cell) = cells.as_mut_slice().get_mut(step.node) else {
-            return Ok(done);
+    for (i, (node, call)) in calls.iter().enumerate() {
+        let Some(cell) = cells.as_mut_slice().get_mut(*node) else {
+            return Ok(i);
         };
-        if !gives(&fabric, cell, alloc, step.call)? {
-            return Ok(done);
+        if !gives(&fabric, cell, alloc, *call)? {
+            return Ok(i);
         }
-        done += 1;
     }
-    Ok(done)
+    Ok(calls.len())
 }
