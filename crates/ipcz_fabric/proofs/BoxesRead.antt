@@ -86,8 +86,8 @@ hand_stays : (word : ℕ) (hand : Option Message) → word ≢ 2 → hand_left w
 hand_stays word hand b = let not_hand : nat_eq word 2 ≡ false = grind (arith, nat_tests, b) in rw not_hand refl
 
 module _ (n first : ℕ) (words : List ℕ) (slots : List Slot) (old hands after : List (Option Message)) (k : ℕ) (boxes new : List Mail) (word : ℕ) (slot : Slot) (hand : Option Message)
-  (l : k < n * n) (was : AreRead n first words slots old hands k boxes) (many : length boxes ≡ k) (at_word : get_elem? words (first + k) ≡ some word) (at_slot : get_elem? slots k ≡ some slot)
-  (at_hand : get_elem? hands (k % n) ≡ some hand) (inside : k % n < length hands) (left : after ≡ set hands (k % n) (hand_left word hand)) (more : new ≡ boxes ++ box_of word slot hand ∷ []) where
+    (l : k < n * n) (was : AreRead n first words slots old hands k boxes) (many : length boxes ≡ k) (at_word : get_elem? words (first + k) ≡ some word) (at_slot : get_elem? slots k ≡ some slot)
+    (at_hand : get_elem? hands (k % n) ≡ some hand) (inside : k % n < length hands) (left : after ≡ set hands (k % n) (hand_left word hand)) (more : new ≡ boxes ++ box_of word slot hand ∷ []) where
   row : ℕ
   row = k / n
 
@@ -135,11 +135,11 @@ module _ (n first : ℕ) (words : List ℕ) (slots : List Slot) (old hands after
         (λ other. ap (λ (b : List Mail). place_at mails.Empty b j) more ∙ (more_place boxes (box_of word slot hand) j (omega (arith, many, other, below)) ∙ was.boxes_are mail rs j (omega (arith, other, below))));
     hands_are = λ to lt. dite (ℕ_discrete to (k % n))
         (λ same. dite (ℕ_discrete word 2)
-          (λ two. let there : (k / n) * n + to ≡ k = ap (λ (i : ℕ). (k / n) * n + i) same ∙ place in
-          inr (k / n, row_below n k l, omega (arith, there), ap (λ (i : ℕ). slice_index words (first + i)) there ∙ (word_is ∙ two)))
-          (λ not_two. weaken to (was.hands_are to lt)
-          (ap (λ (h : List (Option Message)). get_elem? h to) left ∙ (ap (get_elem? (set hands (k % n) (hand_left word hand))) same
-          ∙ (set_here hands (k % n) (hand_left word hand) inside ∙ (ap some (hand_stays word hand not_two) ∙ (sym at_hand ∙ ap (get_elem? hands) (sym same))))))))
+        (λ two. let there : (k / n) * n + to ≡ k = ap (λ (i : ℕ). (k / n) * n + i) same ∙ place in
+        inr (k / n, row_below n k l, omega (arith, there), ap (λ (i : ℕ). slice_index words (first + i)) there ∙ (word_is ∙ two)))
+        (λ not_two. weaken to (was.hands_are to lt)
+        (ap (λ (h : List (Option Message)). get_elem? h to) left ∙ (ap (get_elem? (set hands (k % n) (hand_left word hand))) same
+        ∙ (set_here hands (k % n) (hand_left word hand) inside ∙ (ap some (hand_stays word hand not_two) ∙ (sym at_hand ∙ ap (get_elem? hands) (sym same))))))))
         (λ other. weaken to (was.hands_are to lt) (after_at to other));
   }
 

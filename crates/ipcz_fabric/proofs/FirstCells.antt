@@ -97,8 +97,10 @@ first-cell t out n below node probed id me v own at is fresh empty = record {
   where
     alone : me.0.parts ≡ opening_part t.count n ∷ []
     alone = ap (λ (m : Mine). m.0.parts) at ∙ dealt_opening t.count v n below is
+
     part : part_in me.0 ≡ opening_part t.count n
     part = ap first_part alone
+
     one : (k : ℕ) (p : Part) → get_elem? (opening_part t.count n ∷ []) k ≡ some p → (p.node < t.count) × IsSound t.count t.size p.node p.state
     one zero p e = subst (λ (q : Part). (q.node < t.count) × IsSound t.count t.size q.node q.state) (some-injective (opening_part t.count n) p e)
         (below, starts_sound t.count t.size out.limits n below)

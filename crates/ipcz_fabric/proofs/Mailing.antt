@@ -72,7 +72,7 @@ pub probe_tells : (i i' k to found : ℕ) (me me' : Mine) (room room' : NodeRoom
 probe_tells i i' k to found me me' room room' old view absent zero_found at done =
     let new = shown me' room' in
     let is : IsProbed i to (shown me room) new = subst (λ (b : Bool). MatchBool b ((new.part ≡ part_in me.0) × (new.seen ≡ me.0.seen)) ((new.part ≡ probe_part to (part_in me.0)) × (new.seen ≡ me.0.seen ++ (i, 0) ∷ []))) (sym absent)
-        (ap (λ (m : Mine). part_in m.0) done, ap (λ (m : Mine). m.0.seen) done ∙ (λ j. me.0.seen ++ (at j, zero_found j) ∷ [])) in
+    (ap (λ (m : Mine). part_in m.0) done, ap (λ (m : Mine). m.0.seen) done ∙ (λ j. me.0.seen ++ (at j, zero_found j) ∷ [])) in
     subst (λ (o : CellState). IsProbed i to o new) view is
 
 -- what a load tells
@@ -112,6 +112,8 @@ hand_may t id word m node sender told picked whole is hand x message serials slo
 -- what a look tells
 pub look_tells : (i i' k sender found : ℕ) (x : Message) (me m1 m3 : Mine) (room room' : NodeRoom) (old : CellState) → shown me room ≡ old → found ≡ 1 → i' ≡ i →
     m1 ≡ (change_part (look_part sender x) (saw i' found me.0), (k, Some x) ∷ me.1) → m3.0 ≡ m1.0 → (y : Message) × (part_in m3.0 ≡ look_part sender y old.part) × (m3.0.seen ≡ old.seen ++ (i, 1) ∷ [])
-look_tells i i' k sender found x me m1 m3 room room' old view one at done same =
-    (x, (ap part_in same ∙ (ap (λ (m : Mine). part_in m.0) done ∙ ap (λ (o : CellState). look_part sender x o.part) view)),
-    (ap (λ (v : View). v.seen) same ∙ (ap (λ (m : Mine). m.0.seen) done ∙ ((λ j. me.0.seen ++ (at j, one j) ∷ []) ∙ ap (λ (o : CellState). o.seen ++ (i, 1) ∷ []) view))))
+look_tells i i' k sender found x me m1 m3 room room' old view one at done same = (
+  x,
+  (ap part_in same ∙ (ap (λ (m : Mine). part_in m.0) done ∙ ap (λ (o : CellState). look_part sender x o.part) view)),
+  (ap (λ (v : View). v.seen) same ∙ (ap (λ (m : Mine). m.0.seen) done ∙ ((λ j. me.0.seen ++ (at j, one j) ∷ []) ∙ ap (λ (o : CellState). o.seen ++ (i, 1) ∷ []) view))),
+)

@@ -31,6 +31,7 @@ without_split (j ∷ js) after i once =
         or_true : (a b : Bool) → b ≡ true → (a || b) ≡ true
         or_true true b e = refl
         or_true false b e = e
+
     apart : (b : Bool) → nat_eq j i ≡ b → nat_eq j i ≡ false
     apart true h = absurd (let same : j ≡ i = grind (arith, nat_tests, h) in let has = there js 0 in let hasnt : has_number (js ++ i ∷ after) i ≡ false = subst (λ (k : ℕ). has_number (js ++ i ∷ after) k ≡ false) same once.0 in grind (arith, has, hasnt))
     apart false h = h

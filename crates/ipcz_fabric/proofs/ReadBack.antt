@@ -131,7 +131,13 @@ goes {X = X} of ps same x h = go h.id h.seat
     go : (i : ℕ) → get_elem? (view_of (map rested ps) ∷ []) i ≡ some h.view → InParts (view_of ps ∷ []) of x
     go (suc i) e = absurd (some-ne-none h.view (sym e))
     go zero e = let t = rested_at ps h.place h.part (ap (λ (z : View). get_elem? z.parts h.place) (some-injective (view_of (map rested ps)) h.view e) ∙ h.there) in record {
-      id = 0; view = view_of ps; place = h.place; part = t.0; index = h.index; seat = refl; there = t.1;
+      id = 0;
+      view = view_of ps;
+      place = h.place;
+      part = t.0;
+      index = h.index;
+      seat = refl;
+      there = t.1;
       entry = ap (λ (l : List X). get_elem? l h.index) (sym (same t.0)) ∙ (ap (λ (z : Part). get_elem? (of z) h.index) t.2 ∙ h.entry);
     }
 
@@ -141,7 +147,12 @@ came {X = X} of ps same x h = go h.id h.seat
     go : (i : ℕ) → get_elem? (view_of ps ∷ []) i ≡ some h.view → InParts (view_of (map rested ps) ∷ []) of x
     go (suc i) e = absurd (some-ne-none h.view (sym e))
     go zero e = record {
-      id = 0; view = view_of (map rested ps); place = h.place; part = rested h.part; index = h.index; seat = refl;
+      id = 0;
+      view = view_of (map rested ps);
+      place = h.place;
+      part = rested h.part;
+      index = h.index;
+      seat = refl;
       there = at_map rested ps h.place h.part (ap (λ (z : View). get_elem? z.parts h.place) (some-injective (view_of ps) h.view e) ∙ h.there);
       entry = ap (λ (l : List X). get_elem? l h.index) (same h.part) ∙ h.entry;
     }

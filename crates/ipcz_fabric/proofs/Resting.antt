@@ -101,8 +101,14 @@ left_none t node count old id me tos done was all =
     let none_left : tos ≡ [] = nil_from_length tos (omega (arith, many, all)) in
     let empty : (part_in me.0).probed ≡ [] = was.probed ∙ none_left in
     let same : part_in me.0 ≡ rested (part_in me.0) = λ j. record {
-      node = (part_in me.0).node; state = (part_in me.0).state; message = (part_in me.0).message; probed = empty j;
-      put = (part_in me.0).put; got = (part_in me.0).got; gone = (part_in me.0).gone } in (
+      node = (part_in me.0).node;
+      state = (part_in me.0).state;
+      message = (part_in me.0).message;
+      probed = empty j;
+      put = (part_in me.0).put;
+      got = (part_in me.0).got;
+      gone = (part_in me.0).gone;
+    } in (
       was.whole ∙ ap (λ (p : Part). p ∷ []) (same ∙ was.same),
       was.slots ∙ (ap (λ (l : List ℕ). probed_slots t.count node l ++ hand_slots t.count node (part_in me.0).state.hand) none_left ∙ ap (λ (p : Part). hand_slots t.count node p.state.hand) was.same),
     )

@@ -64,10 +64,11 @@ touched_cell t n n' hand tos id id' me me' p' v' was seated done is keeps =
       slots = ap (λ (m : Mine). m.1) done ∙ (was.slots ∙ (same_slots ∙ ap (held_slots t.count) (sym part)));
       holding = was.holding ∙ ap is_some (ap (λ (z : Node). z.hand) (sym was.seated.state) ∙ (sym keeps.hand ∙ (ap (λ (q : Part). q.state.hand) (sym part) ∙ ap (λ (z : Node). z.hand) seated.state)));
       below = was.below;
-        }
+    }
   where
     p : Part
     p = part_in me.0
+
     same_slots : held_slots t.count (part_in me.0) ≡ held_slots t.count p'
     same_slots = λ i. Rattle.ipcz_fabric.specs.Cells.probed_slots t.count (sym keeps.node i) (sym keeps.probed i) ++ Rattle.ipcz_fabric.specs.Cells.hand_slots t.count (sym keeps.node i) (sym keeps.hand i)
 

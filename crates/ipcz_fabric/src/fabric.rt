@@ -1,6 +1,6 @@
+use atomic_table::Table;
 use ipcz_base::Message;
 use ipcz_rule::{FabricLaw, Size, View};
-use atomic_table::Table;
 use std::alloc::Global;
 use std::marker::{Brand, Model, PhantomData};
 

@@ -13,8 +13,8 @@ mod opens;
 mod plays;
 mod portal;
 mod probed;
-mod turns;
 mod quiet;
+mod turns;
 mod words;
 mod work;
 

@@ -18,11 +18,11 @@ use crate::fabric::{Fabric, FabricName};
 use crate::plays::{Outcome, exchange_step, store_step};
 use atomic_table::Seat;
 use ipcz_base::{Message, Refusal};
-use std::mem;
 use ipcz_node::{Act, Happened, NodeState};
 use ipcz_router::act::Answer;
 use ipcz_rule::View;
 use std::marker::Brand;
+use std::mem;
 
 // The slot of the mailbox from one node to another.
 pub(crate) fn slot_of<F: FabricName>(fabric: &Fabric<F>, from: u8, to: u8) -> usize

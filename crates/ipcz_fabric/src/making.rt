@@ -162,9 +162,7 @@ impl Blank {
     /// empty books. F names this table.
     ///
     /// It is refused `OutOfMemory` alone, and then gives the table back.
-    pub fn name<F: FabricName>(
-        self,
-    ) -> Result<(Fabric<F>, Vec<NodeCell<F>>), (Refusal, Blank)>
+    pub fn name<F: FabricName>(self) -> Result<(Fabric<F>, Vec<NodeCell<F>>), (Refusal, Blank)>
         requires { self ≡ F.table }
         ensures cells { IfOk result (λ r. AreFirst F.table.count F.table.count r.1.items) }
         ensures refused { IfErr result (λ e. (e.0 ≡ Refusal.OutOfMemory) × (e.1 ≡ self)) }

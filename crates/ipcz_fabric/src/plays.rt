@@ -87,7 +87,10 @@ pub(crate) fn exchange_step<F: FabricName, X: Outcome>(
     ensures done { X.tells seat.old.me result seat.new.me }
     ensures sound { AreSound F.table.count F.table.size seat.new.me.0 }
 {
-    fabric.table.shared.compare_exchange::<By<F, X>>(seat, word, old, new)
+    fabric
+        .table
+        .shared
+        .compare_exchange::<By<F, X>>(seat, word, old, new)
 }
 
 /// Sets bits of a word.

@@ -19,4 +19,3 @@ pub touch-requires-clause-may : goal.touch-requires-clause-may
 touch-requires-clause-may g c =
     let was = c.requires.seated in
     may_by _ _ _ _ _ _ (λ n. n) _ _ c.requires.picked ((acts_touch _ _ _ _ _ _ _ c.args.act was.whole c.requires.touch (subst (λ (z : Node). IsPossibleAct z c.args.act) (sym was.state) c.requires.possible) (ap (λ (z : Node). act_lacks_serials z c.args.act) was.state ∙ c.requires.serials)))
-

@@ -22,9 +22,13 @@ invariant_of-self g c =
     (told_miss _ c.args.count _ _ c.if-now-count.true done.done)
 
 pub returns-then-now-count-clause-claims : goal.returns-then-now-count-clause-claims
-returns-then-now-count-clause-claims g c =
-    (refl, c.exchange_step-now.result, c.if-now-count.true, load_tells g.F.FabricName.table.size _ c.exchange_step-now.result c.self.inside.seat.me c.exchange_step-now.new.seat.me
-    c.self.inside.state.room c.self.inside.state.room _ c.self.view_is c.fabric.invariant.4 (told_miss _ c.args.count _ _ c.if-now-count.true c.exchange_step-now.ensures.done))
+returns-then-now-count-clause-claims g c = (
+  refl,
+  c.exchange_step-now.result,
+  c.if-now-count.true,
+  load_tells g.F.FabricName.table.size _ c.exchange_step-now.result c.self.inside.seat.me c.exchange_step-now.new.seat.me
+      c.self.inside.state.room c.self.inside.state.room _ c.self.view_is c.fabric.invariant.4 (told_miss _ c.args.count _ _ c.if-now-count.true c.exchange_step-now.ensures.done),
+)
 
 pub invariant_of-self-2 : goal.invariant_of-self-2
 invariant_of-self-2 g c =
@@ -37,7 +41,9 @@ invariant_of-self-2 g c =
 
 pub returns-clause-claims : goal.returns-clause-claims
 returns-clause-claims g c =
-    let hit = told_hit _ c.args.count _ _ c.if-now-count.false c.exchange_step-now.ensures.done in
-    (c.in-Ok.ensures.1, ap (λ (m : Mine). part_in m.0) hit ∙ ap (λ (o : CellState). claimed_part c.args.count o.part) c.self.view_is,
-    ap (λ (m : Mine). m.0.seen) hit ∙ ((λ j. c.self.inside.seat.me.0.seen ++ (c.fabric.invariant.4 j, c.if-now-count.false j) ∷ []) ∙
-    ap (λ (o : CellState). o.seen ++ (g.F.FabricName.table.size, c.args.count) ∷ []) c.self.view_is))
+    let hit = told_hit _ c.args.count _ _ c.if-now-count.false c.exchange_step-now.ensures.done in (
+      c.in-Ok.ensures.1,
+      ap (λ (m : Mine). part_in m.0) hit ∙ ap (λ (o : CellState). claimed_part c.args.count o.part) c.self.view_is,
+      ap (λ (m : Mine). m.0.seen) hit ∙ ((λ j. c.self.inside.seat.me.0.seen ++ (c.fabric.invariant.4 j, c.if-now-count.false j) ∷ []) ∙
+          ap (λ (o : CellState). o.seen ++ (g.F.FabricName.table.size, c.args.count) ∷ []) c.self.view_is),
+    )

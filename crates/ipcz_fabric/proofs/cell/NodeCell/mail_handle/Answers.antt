@@ -43,6 +43,6 @@ invariant_of-self g c =
     let t = g.F.FabricName.table in
     let message : (part_in c.self.inside.seat.me.0).message ≡ Some c.in-Some.message = was.message ∙ (sym c.replace.ensures.value ∙ c.in-Some.is) in
     let cell = handed_cell t c.self.inside.state.node c.deliver.new.self.node c.self.inside.message c.self.inside.probed c.self.inside.seat.table_id c.hand_here.new.seat.table_id c.self.inside.seat.me was
-        (c.hand_here.ensures.table ∙ c.turn_over.ensures.table) c.turn_over.new.seat.me c.hand_here.new.seat.me c.args.from _ c.in-Some.message c.hand_here.ensures.sound
-        (ap (λ (z : CellState). z.part.state.hand) c.self.view_is ∙ c.requires.hand) message c.len.ensures.length c.turn_over.ensures.me c.hand_here.ensures.done c.in-Ok.ensures.ok in
+    (c.hand_here.ensures.table ∙ c.turn_over.ensures.table) c.turn_over.new.seat.me c.hand_here.new.seat.me c.args.from _ c.in-Some.message c.hand_here.ensures.sound
+    (ap (λ (z : CellState). z.part.state.hand) c.self.view_is ∙ c.requires.hand) message c.len.ensures.length c.turn_over.ensures.me c.hand_here.ensures.done c.in-Ok.ensures.ok in
     subst (λ (o : Option Message). IsCell t c.deliver.new.self.node o c.self.inside.probed c.hand_here.new.seat.table_id c.hand_here.new.seat.me) (sym c.replace.ensures.after) cell

@@ -20,7 +20,7 @@ exchange-requires g c =
     let node : c.number-node.result ≡ (part_in c.self.inside.seat.me.0).node = c.number-node.ensures ∙ number_is _ _ _ _ was.seated in
     let place = c.take-place.ensures.place in
     let first = probed_first t c.self.inside.state.node c.self.inside.state.node c.self.inside.message c.self.inside.probed c.self.inside.seat.table_id c.self.inside.seat.table_id c.self.inside.seat.me was refl c.turn_over.new.seat.me c.args.to _ c.slot_of-slot.result place.0 place.1
-        place.2 place.4 (c.slot_of-slot.ensures.slot ∙ ap (λ (k : ℕ). k * t.count + c.args.to) node) c.turn_over.ensures.me in
+    place.2 place.4 (c.slot_of-slot.ensures.slot ∙ ap (λ (k : ℕ). k * t.count + c.args.to) node) c.turn_over.ensures.me in
     (c.turn_over.ensures.table ∙ (was.seated.named ∙ sym c.fabric.invariant.0), (None, first))
 
 pub post_here-requires-clause-node : goal.post_here-requires-clause-node

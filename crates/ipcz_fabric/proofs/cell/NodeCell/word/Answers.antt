@@ -7,6 +7,13 @@ returns-then-count-from g c = let count = c.load_count-count.ensures in (c.load_
 pub returns : goal.returns
 returns g c =
     let count = c.load_count-count.ensures in
-    let word = c.load_word.ensures in
-    (c.load_count-count.result, count.most, ((let more = c.if-count-from.false in let is = c.from.ensures in omega (arith, more, is)), word.word, word.seen.part ∙ count.seen.part,
-    word.seen.seen ∙ ap (λ (l : _). l ++ (c.args.i, c.load_word.result) ∷ []) count.seen.seen))
+    let word = c.load_word.ensures in (
+      c.load_count-count.result,
+      count.most,
+      (
+        (let more = c.if-count-from.false in let is = c.from.ensures in omega (arith, more, is)),
+        word.word,
+        word.seen.part ∙ count.seen.part,
+        word.seen.seen ∙ ap (λ (l : _). l ++ (c.args.i, c.load_word.result) ∷ []) count.seen.seen,
+      ),
+    )

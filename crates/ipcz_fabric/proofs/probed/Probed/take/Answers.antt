@@ -12,9 +12,11 @@ pub invariant_of-self : goal.invariant_of-self
 invariant_of-self c =
     let inv = c.self.invariant in
     let capacity = c.remove.ensures.capacity in
-    let room = inv.0 in
-    (omega (arith, capacity, room), taken_once _ _ _ _ _ _ c.requires c.self.view_is c.as_slice.ensures.value c.place_of-place.ensures.place c.remove.ensures.by_index.2 inv.1,
-    taken_below _ _ _ _ _ _ c.requires c.self.view_is c.as_slice.ensures.value c.place_of-place.ensures.place c.remove.ensures.by_index.2 inv.1 inv.2)
+    let room = inv.0 in (
+      omega (arith, capacity, room),
+      taken_once _ _ _ _ _ _ c.requires c.self.view_is c.as_slice.ensures.value c.place_of-place.ensures.place c.remove.ensures.by_index.2 inv.1,
+      taken_below _ _ _ _ _ _ c.requires c.self.view_is c.as_slice.ensures.value c.place_of-place.ensures.place c.remove.ensures.by_index.2 inv.1 inv.2,
+    )
 
 pub returns-clause-without : goal.returns-clause-without
 returns-clause-without c = taken_without _ _ _ _ _ _ c.requires c.self.view_is c.as_slice.ensures.value c.place_of-place.ensures.place c.remove.ensures.by_index.2 c.self.invariant.1
