@@ -10,12 +10,11 @@ const TERMINAL: u64 = 27;
 
 const PROXY: u64 = 73;
 
-// Takes turns of the nodes, up to so many, in passes over them.
-fn take_turns(world: &mut World, nodes: u8, count: usize) {
-    let mut node = 0;
-    for _ in 0..count {
+// Takes so many turns of two nodes, one after the other.
+fn take_turns(world: &mut World, count: usize) {
+    for i in 0..count {
+        let node = if i % 2 == 0 { 0 } else { 1 };
         world.step(&Step::Turn(node));
-        node = if node + 1 < nodes { node + 1 } else { 0 };
     }
 }
 
@@ -87,7 +86,7 @@ fn the_limit_is_enough_while_proxies_leave(rt: HostRuntime) -> Result<(), Fail> 
         };
         assert_eq!(rt; world.settle_limit(), Some(4 * TERMINAL + 2 * PROXY));
         assert!(rt; is_put(&world.step(&put(alloc, 1, a(1), b"z", &[])?), 0));
-        take_turns(&mut world, 2, turns);
+        take_turns(&mut world, turns);
         for word in 0..world.claimed() {
             let number = world.word(word).unwrap_or(0);
             locked |= number & 48 != 0;
