@@ -1,5 +1,6 @@
 //! Worlds stepped and run, and what they answer, by docs/PROTOCOL.md.
 mod bypass;
+mod direct;
 mod limits;
 
 use ipcz_base::{End, Refusal, Sequence, Side};

@@ -10,10 +10,10 @@ const TERMINAL: u64 = 27;
 
 const PROXY: u64 = 73;
 
-// Takes so many turns of two nodes, one after the other.
+// Takes so many turns of two nodes: twenty of the one, then twenty of the other, and again.
 fn take_turns(world: &mut World, count: usize) {
     for i in 0..count {
-        let node = if i % 2 == 0 { 0 } else { 1 };
+        let node = if i / 20 % 2 == 0 { 0 } else { 1 };
         world.step(&Step::Turn(node));
     }
 }

@@ -1,0 +1,150 @@
+//! Portals that move twice, and what a settle then promises: all has arrived, over one link without a proxy.
+
+ghost use Rattle.std.specs.Prelude.{◌≡◌, ℕ, true, IfOk};
+ghost use Rattle.ipcz_world.specs.Books.{Books};
+ghost use Rattle.ipcz_world.specs.Lawful.{Lawful};
+ghost use Rattle.ipcz_world.specs.Owed.{IsWet, IsDirect, HasNoProxies};
+ghost use Rattle.ipcz_world.specs.Routes.{Routes, is_opened};
+
+use super::{get, is_got, is_put, is_refused, put};
+use ipcz_base::{End, Refusal, Side};
+use ipcz_world::laws::a_settled_world_is_direct;
+use ipcz_world::{Settled, Step, World};
+use std::alloc::Global;
+use std::test::Fail;
+
+// A parcel that is put at one end and got at its peer: at which node each is done, its number, and what it carries.
+struct Carried {
+    from: (u8, End),
+    to: (u8, End),
+    number: u64,
+    data: &'static [u8],
+    ends: &'static [End],
+}
+
+const MOVED: End = End {
+    pair: 3,
+    side: Side::B,
+};
+
+// The end 3B goes from node 0 by node 1 to node 2, and each time leaves a proxy that is bypassed. What is put at 3A before, between and
+// after arrives there, in order, and so does what goes back.
+const CARRIED: [Carried; 5] = [
+    Carried {
+        from: (
+            0,
+            End {
+                pair: 0,
+                side: Side::A,
+            },
+        ),
+        to: (
+            1,
+            End {
+                pair: 0,
+                side: Side::B,
+            },
+        ),
+        number: 0,
+        data: b"first",
+        ends: &[MOVED],
+    },
+    Carried {
+        from: (
+            0,
+            End {
+                pair: 3,
+                side: Side::A,
+            },
+        ),
+        to: (1, MOVED),
+        number: 0,
+        data: b"between",
+        ends: &[],
+    },
+    Carried {
+        from: (
+            1,
+            End {
+                pair: 2,
+                side: Side::A,
+            },
+        ),
+        to: (
+            2,
+            End {
+                pair: 2,
+                side: Side::B,
+            },
+        ),
+        number: 0,
+        data: b"second",
+        ends: &[MOVED],
+    },
+    Carried {
+        from: (
+            0,
+            End {
+                pair: 3,
+                side: Side::A,
+            },
+        ),
+        to: (2, MOVED),
+        number: 1,
+        data: b"after",
+        ends: &[],
+    },
+    Carried {
+        from: (2, MOVED),
+        to: (
+            0,
+            End {
+                pair: 3,
+                side: Side::A,
+            },
+        ),
+        number: 0,
+        data: b"back",
+        ends: &[],
+    },
+];
+
+// Whether the world settles within so many acts. Where it does and no router has found the words used up, no proxy is left and each open
+// pair is direct.
+fn settles(world: &mut World, limit: u64) -> Result<bool, Refusal>
+    ensures direct { IfOk result (λ settled. (b : Books) → (g : Routes) → settled ≡ true → Lawful world.new b g → IsWet world.new →
+        HasNoProxies world.new × ((pair : ℕ) → is_opened g pair ≡ true → IsDirect world.new b pair)) }
+{
+    a_settled_world_is_direct();
+    Ok(matches!(world.settle(limit)?, Settled::Settled { .. }))
+}
+
+// Whether a parcel is put, the world settles, and the parcel is got, and nothing after it.
+fn arrives(world: &mut World, alloc: Global, parcel: &Carried) -> Result<bool, Refusal> {
+    let step = put(
+        alloc,
+        parcel.from.0,
+        parcel.from.1,
+        parcel.data,
+        parcel.ends,
+    )?;
+    let accepted = is_put(&world.step(&step), parcel.number);
+    let settled = settles(world, 1000)?;
+    let next = get(parcel.to.0, parcel.to.1);
+    let got = is_got(&world.step(&next), parcel.number, parcel.data, parcel.ends);
+    let empty = is_refused(&world.step(&next), Refusal::Empty);
+    Ok(accepted && settled && got && empty)
+}
+
+#[test]
+fn all_arrives_at_a_portal_that_has_moved_twice(rt: HostRuntime) -> Result<(), Fail> {
+    let alloc = rt.alloc();
+    let mut world = World::new(alloc, 3, 8)?;
+    world.step(&Step::Open(0));
+    for parcel in &CARRIED {
+        assert!(rt; arrives(&mut world, alloc, parcel)?);
+    }
+    // Three words for the first pairs, one for the open and one for each bypass: words were left.
+    assert_eq!(rt; world.claimed(), 6);
+    Ok(())
+}
