@@ -1,5 +1,5 @@
 //! Hubs: cells that threads share, each behind a lock of its own. There is no other lock.
-ghost use Rattle.std.specs.Prelude.{◌≡◌, ◌≤◌, ◌<◌, OnOk, IfOk, IfErr, vec_len, vec_capacity};
+ghost use Rattle.std.specs.Prelude.{◌≡◌, ◌≤◌, ◌<◌, OnOk, IfOk, IfErr, Err, vec_len, vec_capacity};
 ghost use Rattle.ipcz_fabric.specs.Ending.{FinishRefuses};
 ghost use Rattle.ipcz_fabric.specs.Hubs.{AddsFirst, AddsHeld, AreFirstPortals};
 
@@ -8,11 +8,11 @@ use crate::ending::is_in_order;
 use crate::fabric::{Fabric, FabricName};
 use crate::portal::Portal;
 use ipcz_base::Refusal;
-use ipcz_node::NodeState;
+use ipcz_node::{Happened, NodeState};
 use std::alloc::{AllocError, Global};
 use std::collections::VecDeque;
 use std::marker::Model;
-use std::sync::Mutex;
+use std::sync::{Mutex, Wait};
 
 /// The cells of a table's nodes, that threads share: one lock round each cell, and no other.
 ///
@@ -170,6 +170,44 @@ impl<F: FabricName> Hub<F> {
     // Where its lists take memory.
     pub(crate) fn allocator(&self) -> Global {
         self.alloc
+    }
+
+    /// Opens a pair at a node, under that node's lock, and gives its portals, of side A and of side B. What else holds of it is what
+    /// `NodeCell::open_pair` says.
+    ///
+    /// It answers `Stranger` where there is no node of that number; else `NoWord`, `NumbersEnd`, `OutOfMemory` or `Raced`, as
+    /// `NodeCell::open_pair`.
+    pub fn open_pair<R: Wait>(&self, rt: &R, node: u8) -> Result<(Portal<F>, Portal<F>), Refusal>
+        ensures here { IfOk result (λ p. (p.0.node ≡ node) × (p.1.node ≡ node)) }
+        ensures stranger { F.table.count ≤ node → result ≡ Err Refusal.Stranger }
+    {
+        if node >= self.fabric.nodes {
+            return Err(Refusal::Stranger);
+        }
+        let opened = self.cell(node).lock(rt).open_pair(&self.fabric);
+        match opened {
+            Ok((a, b)) => Ok((Portal::new(node, a), Portal::new(node, b))),
+            Err(why) => Err(why),
+        }
+    }
+
+    /// Takes one turn of a node, under that node's lock, and tells what it did. What else holds of it is what `NodeCell::turn` says.
+    ///
+    /// It answers `Stranger` where there is no node of that number; else `NumbersEnd`, `OutOfMemory` or `Raced`, as `NodeCell::turn`.
+    pub fn turn<R: Wait>(&self, rt: &R, node: u8) -> Result<Happened, Refusal>
+        ensures stranger { F.table.count ≤ node → result ≡ Err Refusal.Stranger }
+    {
+        if node >= self.fabric.nodes {
+            return Err(Refusal::Stranger);
+        }
+        self.cell(node).lock(rt).turn(&self.fabric)
+    }
+
+    // How many nodes there are.
+    pub(crate) fn nodes(&self) -> u8
+        ensures { result ≡ F.table.count }
+    {
+        self.fabric.nodes
     }
 
     /// Takes the cells out of their locks, and gives the table and as many cells as were put in. It waits for nothing.

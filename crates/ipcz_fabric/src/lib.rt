@@ -16,7 +16,7 @@ mod probed;
 mod quiet;
 mod turns;
 mod words;
-mod work;
+mod workers;
 
 pub use cell::NodeCell;
 pub use ending::finish;
@@ -24,4 +24,4 @@ pub use fabric::{Fabric, FabricName};
 pub use hub::Hub;
 pub use making::{Blank, start};
 pub use portal::{Got, Portal, PortalPutRefused};
-pub use work::{Gate, Worker, run_worker};
+pub use workers::{Gate, Worker, run_worker, work};

@@ -2,8 +2,11 @@
 ghost use Rattle.std.specs.Prelude.{◌≡◌, ◌≤◌, ◌<◌, ◌-◌, ◌^◌};
 ghost use Rattle.ipcz_fabric.specs.Workers.{Works, counted};
 
+use crate::fabric::FabricName;
+use crate::hub::Hub;
 use ipcz_base::Refusal;
 use ipcz_node::Happened;
+use std::sync::Wait;
 
 /// Says whether a node is to take a turn.
 pub trait Gate {
@@ -65,4 +68,62 @@ pub fn run_worker<W: Worker>(worker: &mut W, limit: u64) -> u64
         }
     }
     limit
+}
+
+// A worker of one node of a hub, which asks a gate. What a hub's turn did is known under its lock alone.
+#[derive(Drop)]
+struct HubWorker<'a, R, F: FabricName, G> {
+    rt: &'a R,
+    hub: &'a Hub<F>,
+    node: u8,
+    gate: &'a mut G,
+}
+
+impl<'a, R: Wait, F: FabricName, G: Gate> Worker for HubWorker<'a, R, F, G> {
+    ghost use Rattle.ipcz_fabric.specs.Workers.{ends_work};
+
+    ghost asks = { λ s turns may t. Unit {0} };
+
+    ghost takes = { λ s answer t. Unit {0} };
+
+    ghost ends = { ends_work };
+
+    fn may_turn(&mut self, turns: u64) -> bool {
+        self.gate.pass(self.node, turns)
+    }
+
+    fn turn(&mut self) -> Result<Happened, Refusal> {
+        self.hub.turn(self.rt, self.node)
+    }
+
+    fn is_last(&self, answer: &Result<Happened, Refusal>) -> bool {
+        matches!(answer, Err(Refusal::OutOfMemory | Refusal::NumbersEnd))
+    }
+}
+
+/// Takes turns of a node of a hub, one by one, each under the node's lock, and gives how many were taken, idle ones included.
+///
+/// Before each turn it asks the gate, without any lock, and ends where that answers false; it ends after `limit` turns, and at a turn that
+/// is refused `OutOfMemory` or `NumbersEnd`, which isn't counted. One that is refused `Raced` is counted, and it goes on. For a node that
+/// isn't below the number of nodes it gives 0 and asks nothing.
+pub fn work<R: Wait, F: FabricName, G: Gate>(
+    rt: &R,
+    hub: &Hub<F>,
+    node: u8,
+    gate: &mut G,
+    limit: u64,
+) -> u64
+    ensures few { result ≤ limit }
+    ensures stranger { F.table.count ≤ node → result ≡ 0 }
+{
+    if node >= hub.nodes() {
+        return 0;
+    }
+    let mut worker = HubWorker {
+        rt,
+        hub,
+        node,
+        gate,
+    };
+    run_worker(&mut worker, limit)
 }

@@ -1,7 +1,7 @@
 use Rattle.ipcz_fabric.specs.Workers.{Works}
 use Rattle.std.proofs.Common.{◌∙◌, ap, sym, subst}
 use Rattle.ipcz_fabric.proofs.Working.{goes_on-start, goes_on-stop, goes_on-last, goes_on-turn, goes_on-end}
-use Rattle.ipcz_fabric.proofs.work.run_worker.Goals as goal
+use Rattle.ipcz_fabric.proofs.workers.run_worker.Goals as goal
 
 pub loop-turns-init : goal.loop-turns-init
 loop-turns-init g c = goes_on-start g.W.Worker.asks g.W.Worker.takes g.W.Worker.ends c.args.limit c.args.worker.now

@@ -1,6 +1,6 @@
 use Rattle.std.proofs.Common.{◌≡◌, ◌-◌}
 use Rattle.ipcz_fabric.proofs.Working.{GoesOn}
-use Rattle.ipcz_fabric.proofs.work.run_worker.Given as goal
+use Rattle.ipcz_fabric.proofs.workers.run_worker.Given as goal
 
 -- whatever is done from here on is done from the start on
 abbrev pub invariant-loop-turns : goal.invariant-loop-turns
