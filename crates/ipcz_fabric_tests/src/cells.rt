@@ -4,6 +4,8 @@
 mod bypass;
 mod parcel;
 
+ghost use Rattle.std.specs.Prelude.{◌≡◌};
+
 use ipcz_base::{End, Ends, Refusal, Sequence, Side};
 use ipcz_fabric::{Blank, Fabric, FabricName, NodeCell};
 use std::alloc::{AllocError, Global};

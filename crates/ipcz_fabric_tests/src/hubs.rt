@@ -1,4 +1,6 @@
 //! Hubs shared by threads.
+ghost use Rattle.std.specs.Prelude.{◌≡◌};
+
 use ipcz_base::{End, Side};
 use ipcz_fabric::{Blank, FabricName, Gate, Hub, Portal, finish, start, work};
 use ipcz_world::{Reply, Step};
@@ -103,9 +105,7 @@ fn two_workers_run_at_once(rt: HostRuntime) -> Result<(), Fail> {
         (Order::FirstThenSecond, 1),
         (Order::SecondThenFirst, 1),
     ] {
-        let Ok(blank) = start(rt.alloc(), 2, 4) else {
-            unreachable!()
-        };
+        let blank = start(rt.alloc(), 2, 4)?;
         assert!(rt; missed::<Brand, _>(&rt, blank, order) == Some(misses));
     }
     Ok(())
@@ -179,6 +179,39 @@ fn exchange<F: FabricName, R: Wait>(rt: &R, hub: &Hub<F>, alloc: Global, at: &Po
     false
 }
 
+// Two workers, one of each node, until they are told to stop.
+fn both_work<F: FabricName + Send + Sync, R: Threads + Wait + Sync>(
+    rt: &R,
+    hub: &Hub<F>,
+    done: &AtomicU64,
+) {
+    let mut first = Until { done };
+    let mut second = Until { done };
+    join(
+        rt,
+        || work(rt, hub, 0, &mut first, u64::MAX),
+        || work(rt, hub, 1, &mut second, u64::MAX),
+    );
+}
+
+// Two callers, one at each end; then the workers are told to stop.
+fn both_exchange<F: FabricName + Send + Sync, R: Threads + Wait + Sync>(
+    rt: &R,
+    hub: &Hub<F>,
+    alloc: Global,
+    here: &Portal<F>,
+    there: &Portal<F>,
+    done: &AtomicU64,
+) -> (bool, bool) {
+    let both = join(
+        rt,
+        || exchange(rt, hub, alloc, here),
+        || exchange(rt, hub, alloc, there),
+    );
+    done.store(1, Ordering::SeqCst);
+    both
+}
+
 // Two workers and two callers on a pair with its ends on two nodes: the parcels come in order, and what is put last is in the world that the
 // hub's cells show.
 fn two_callers<F: FabricName + Send + Sync, R: Threads + Wait + Sync>(
@@ -215,26 +248,10 @@ fn two_callers<F: FabricName + Send + Sync, R: Threads + Wait + Sync>(
     };
     let a1 = got.portals.pop()?;
     let done = AtomicU64::new(0);
-    let mut first = Until { done: &done };
-    let mut second = Until { done: &done };
     let (_turns, (left, right)) = join(
         rt,
-        || {
-            join(
-                rt,
-                || work(rt, &hub, 0, &mut first, u64::MAX),
-                || work(rt, &hub, 1, &mut second, u64::MAX),
-            )
-        },
-        || {
-            let both = join(
-                rt,
-                || exchange(rt, &hub, alloc, &a0),
-                || exchange(rt, &hub, alloc, &a1),
-            );
-            done.store(1, Ordering::SeqCst);
-            both
-        },
+        || both_work(rt, &hub, &done),
+        || both_exchange(rt, &hub, alloc, &a0, &a1, &done),
     );
     let Ok(last) = Vec::from_slice(alloc, b"last") else {
         return None;
@@ -266,9 +283,7 @@ fn two_callers<F: FabricName + Send + Sync, R: Threads + Wait + Sync>(
 
 #[test]
 fn callers_and_workers_share_a_hub(rt: HostRuntime) -> Result<(), Fail> {
-    let Ok(blank) = start(rt.alloc(), 2, 4096) else {
-        unreachable!()
-    };
+    let blank = start(rt.alloc(), 2, 4096)?;
     assert!(rt; two_callers::<Brand, _>(&rt, rt.alloc(), blank) == Some(true));
     Ok(())
 }
