@@ -1,4 +1,5 @@
-"""Runs each script of docs/pictures, draws its transcript, and prints which stored picture is another; nothing where all are as stored.
+"""Draws the transcript of each script of docs/pictures, and each transcript there, and prints which stored picture is another; nothing
+where all are as stored.
 
     python3 tools/compare_pictures.py            compares
     python3 tools/compare_pictures.py --store    stores the pictures anew (look at each of them then)
@@ -14,17 +15,25 @@ def output_of(crate, given):
     return subprocess.run([TOP / f"crates/{crate}/out/{crate}"], input=given, stdout=subprocess.PIPE, check=True).stdout
 
 
+def transcripts(folder):
+    """The transcripts of the scripts there, and those that stand there themselves, each with its file."""
+    for script in sorted(folder.glob("*.json")):
+        yield script, output_of("ipcz_run", script.read_bytes())
+    for transcript in sorted(folder.glob("*.txt")):
+        yield transcript, transcript.read_bytes()
+
+
 def main():
-    scripts = sorted((TOP / "docs/pictures").glob("*.json"))
-    if not scripts:
+    found = list(transcripts(TOP / "docs/pictures"))
+    if not found:
         sys.exit("no script stands in docs/pictures")
     others = []
-    for script in scripts:
-        drawn = output_of("ipcz_draw", output_of("ipcz_run", script.read_bytes()))
-        stored = script.with_suffix(".svg")
+    for file, transcript in found:
+        drawn = output_of("ipcz_draw", transcript)
+        stored = file.with_suffix(".svg")
         if "--store" in sys.argv[1:]:
             stored.write_bytes(drawn)
-        elif stored.read_bytes() != drawn:
+        elif not stored.exists() or stored.read_bytes() != drawn:
             others.append(stored.name)
     if others:
         sys.exit("these pictures are other than stored: " + ", ".join(others))

@@ -24,6 +24,7 @@ QUEUES = "ipcz_router/specs/Acts.antt"
 ROUTER, ROUTING = "ipcz_router/specs/Router.antt", "ipcz_router/src/router.rt"
 ANSWERS, ANSWERING = "ipcz_world/specs/WordAnswers.antt", "ipcz_world/src/word_answers.rt"
 UPDATES = "ipcz_world/specs/Acts.antt"
+HANDS, HANDING = "ipcz_node/specs/Hands.antt", "ipcz_node/src/state/bypass.rt"
 # proofs that say a definition a second time
 ACTED, WORD_ACTS = "ipcz_world/proofs/acts/ActedWords.antt", "ipcz_world/proofs/acts/WordActs.antt"
 ROUTER_WAKERS, WORD_WAKERS = "ipcz_world/proofs/owed/RouterWakers.antt", "ipcz_world/proofs/owed/WordWakers.antt"
@@ -93,10 +94,20 @@ TURNS = {
             "        self.outward.set_length_from(in_length);\n        let Some",
         ),
     ],
+    # who may answer for a bypass
+    "a_lock_names_the_node_across": [
+        (ROUTER, "source_of r = option_map (λ e. e.other) (inward_edge r).primary", "source_of r = option_map (λ e. e.other) r.outward.primary"),
+        (
+            ROUTING,
+            "        match self.inward {\n            Some(edge) => match edge.primary() {\n                Some(end) => Some(end.other),\n"
+            "                None => None,\n            },\n            None => None,\n        }\n",
+            "        match self.outward.primary() {\n            Some(end) => Some(end.other),\n            None => None,\n        }\n",
+        ),
+    ],
     # who has tried for a lock is woken
     "a_mark_tells_nobody_that_the_other_side_waits": [
         (ANSWERS, "tells_waiting x s = has x.waiting (opposite s)", "tells_waiting x s = false"),
-        (ANSWERS, "◌+◌, Bool, if", "◌+◌, Bool, false, if"),
+        (ANSWERS, "◌+◌, Bool, nat_lt, if", "◌+◌, Bool, false, nat_lt, if"),
         (ANSWERING, "Answer::Marked(marked, other_waits(word, side)),", "Answer::Marked(marked, false),"),
     ],
     "a_wake_stays_in_the_word": [
@@ -105,15 +116,19 @@ TURNS = {
         (ANSWERING, "let woken = ipcz_word::take_waiting(word, side);", "let woken = word;"),
     ],
     "a_wait_is_only_answered": [
-        (ANSWERS, "word_after x s acts.Lock = word_by_plan x s (plan_of x s)", "word_after x s acts.Lock = tried_word x s (plan_of x s)"),
+        (
+            ANSWERS,
+            "word_after x s source acts.Lock = word_by_plan x s source (plan_of x s)",
+            "word_after x s source acts.Lock = tried_word x s source (plan_of x s)",
+        ),
         (
             ANSWERS,
             "-- the word after an act of a side on it\n",
-            "-- the word after a try, where a wait isn't written\nunfoldable pub tried_word : Word → Side → Plan → Word\n"
-            "tried_word x s Locks = lock x s\ntried_word x s Waits = x\ntried_word x s Refuses = x\n\n"
+            "-- the word after a try, where a wait isn't written\nunfoldable pub tried_word : Word → Side → Option ℕ → Plan → Word\n"
+            "tried_word x s source Locks = lock x s source\ntried_word x s source Waits = x\ntried_word x s source Refuses = x\n\n"
             "-- the word after an act of a side on it\n",
         ),
-        (ANSWERS, "answers.Waiting (bits_of (word_by_plan x s Waits))", "answers.Refused (bits_of x)"),
+        (ANSWERS, "answers.Waiting (bits_of (word_by_plan x s source Waits))", "answers.Refused (bits_of x)"),
         (ANSWERS, "Word.{Word, mark, wake, unlock,", "Word.{Word, mark, wake, lock, unlock,"),
         (UPDATES, "(set_router w k (fail_lock r)) i (wait (word_at w i) r.end.side)", "(set_router w k (fail_lock r)) i (word_at w i)"),
         (ACTED, "try_answer word_by_plan commit on_router", "try_answer tried_word commit on_router"),
@@ -130,7 +145,7 @@ TURNS = {
             "WordAnswers.{word_answer, word_after, try_answer, woken}",
             "WordAnswers.{word_answer, word_after, try_answer, tried_word, woken}",
         ),
-        (ANSWERING, "≡ word_by_plan (word_of_bits word) side (plan_of", "≡ tried_word (word_of_bits word) side (plan_of"),
+        (ANSWERING, "≡ word_by_plan (word_of_bits word) side source (plan_of", "≡ tried_word (word_of_bits word) side source (plan_of"),
         (
             ANSWERING,
             "unfolding(crate::specs::WordAnswers::try_answer,",
@@ -146,6 +161,11 @@ TURNS = {
         (EFFECTS, "message = Flush e.link (opposite e.side) }", "message = Flush e.link e.side }"),
         (UPDATES, "tells_wake e = messages.Flush e.link (opposite e.side)", "tells_wake e = messages.Flush e.link e.side"),
         (TURNING, "side: link.side.opposite(),", "side: link.side,"),
+    ],
+    "a_flush_wakes_nobody": [
+        (HANDS, "on_found n (link_router n link side) (λ s r. with_router n s (flushed r))", "n"),
+        (UPDATES, "free (set_router w k (flushed r)) from k.node", "free w from k.node"),
+        (HANDING, "        if let Some(serial) = self.link_serial(link, side) {\n            self.routers.rouse(serial);\n        }\n", ""),
     ],
     "a_message_lets_nobody_try_again": [
         (ROUTER, "rouse r = record r { flagged = true; tried = false }", "rouse r = record r { flagged = true }"),
@@ -207,7 +227,7 @@ HARMLESS = {"a_wake_stays_in_the_word"}
 GROUPS = """
 Inv OpenInv Counts Ordered Shape Links Positions Stands Words Spares BypassRecords Stages Told Moves Terminals EndPlaces
 BooksKept Items Order ProxyNumbers FreshNumbers Conserved HeldOnce HasNoStrays AreFlagged IsAwake AreAwake IsAgreed
-AreAgreed FlagsAgree HasWaker HaveWakers HaveWakersOn IsRanked IsOwing IsBounded
+AreAgreed FlagsAgree AreSourced Begins HasWaker HaveWakers HaveWakersOn IsRanked IsOwing IsBounded
 """.split()
 # and where each lemma is one
 FOLDERS = ("owed/", "lawful/", "ranks/")
@@ -262,7 +282,7 @@ def failures(crates, text):
 def verdict(crates, edits):
     """Returns what became of the crates below and of the law."""
     files = " ".join(name for name, _, _ in edits)
-    below = ["ipcz_router", "ipcz_node"] if "ipcz_router/" in files else []
+    below = [crate for crate in ("ipcz_router", "ipcz_node") if f"{crate}/" in files or "ipcz_router/" in files]
     for crate in below:
         if not check(f"{crates}/{crate}")[0]:
             return f"NOT TRIED: {crate} is refused before the law"

@@ -47,7 +47,7 @@ words_in [] = omega arith
 words_in (b ∷ bs) = omega (arith, length-append (codes "words") (32 ∷ b ∷ bs))
 
 -- the marks of a line are bounded by its text
-marks_in : (text : List ℕ) (line : Line) → IsLine text line → most_marks line ≤ 2500 + 1500 * length text
+marks_in : (text : List ℕ) (line : Line) → IsLine text line → most_marks line ≤ 3000 + 1800 * length text
 marks_in text (lines.Words values) h = omega (arith, words_in values.now, ap length h.spelled)
 marks_in text (lines.Open a b c) h = omega arith
 marks_in text (lines.Put a b) h = omega arith
@@ -60,7 +60,7 @@ marks_in text lines.Unsettled h = omega arith
 marks_in text (lines.Refused a) h = omega arith
 
 rows_in : (read : List ReadLine) → All IsReadLine read →
-    sum_by most_row read ≤ 3800 * length read + 1600 * length (flat_map with_line_feed read)
+    sum_by most_row read ≤ 4300 * length read + 1900 * length (flat_map with_line_feed read)
 rows_in [] each = omega arith
 rows_in (x ∷ xs) each =
     omega (

@@ -1,4 +1,5 @@
 pub mod Devices
+pub mod Marks
 pub mod Outputs
 pub mod Rows
 pub mod Sizes

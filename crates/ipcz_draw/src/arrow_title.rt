@@ -6,6 +6,7 @@ ghost use Rattle.ipcz_markup.specs.Markup.{Grows, Keeps};
 use ipcz_lines::{Kind, Link};
 use ipcz_markup::{Look, Stroke, Tag, Writer};
 use ipcz_messages::messages::Message;
+use ipcz_messages::routers::Router;
 
 /// The look of a message, by its kind.
 pub fn look_of(message: &Message) -> Look {
@@ -69,7 +70,31 @@ fn write_kind(out: &mut Writer, kind: &Option<Kind>)
         Some(Kind::StopProxying) => out.text(b"StopProxying"),
         Some(Kind::ProxyWillStop) => out.text(b"ProxyWillStop"),
         Some(Kind::Flush) => out.text(b"Flush"),
-        None => out.text(b"a message that isn't seen handled"),
+        None => out.text(b"a message"),
+    }
+}
+
+// A node, and the router there, behind a word, as far as they are known.
+fn write_router(
+    out: &mut Writer,
+    word: &[u8],
+    routers: &[Router],
+    node: Option<u8>,
+    router: Option<usize>,
+)
+    ensures keeps { Keeps out.old out.new }
+    ensures few { Grows out.old out.new (70 + 6 * length word.now) }
+{
+    if let Some(node) = node {
+        out.text(word);
+        out.text(b" n");
+        out.number(node as u64);
+        if let Some(index) = router
+            && let Some(router) = routers.get(index)
+        {
+            out.text(b" r");
+            out.number(router.serial);
+        }
     }
 }
 
@@ -84,29 +109,34 @@ fn write_line(out: &mut Writer, words: &[u8], line: Option<usize>)
     }
 }
 
-// What a message is and at which lines it is seen.
-fn write_history(out: &mut Writer, message: &Message)
+// What a message is, from which router to which it goes, and at which lines it is seen.
+fn write_history(out: &mut Writer, routers: &[Router], message: &Message)
     ensures keeps { Keeps out.old out.new }
-    ensures few { Grows out.old out.new 700 }
+    ensures few { Grows out.old out.new 1100 }
 {
     write_kind(out, &message.kind);
     if let Some(link) = &message.link {
         write_link(out, link);
     }
+    write_router(out, b" from", routers, message.from, message.maker);
+    write_router(out, b" to", routers, Some(message.to), message.receiver);
     write_line(out, b"; made line ", message.made);
     write_line(out, b"; posted line ", message.posted);
     write_line(out, b"; looked line ", message.looked);
     write_line(out, b"; handled line ", message.handled);
+    if message.handled.is_none() {
+        out.text(b"; not seen handled");
+    }
 }
 
 /// The title of a message.
-pub fn draw_arrow_title(out: &mut Writer, message: &Message)
+pub fn draw_arrow_title(out: &mut Writer, routers: &[Router], message: &Message)
     ensures keeps { Keeps out.old out.new }
-    ensures few { Grows out.old out.new 715 }
+    ensures few { Grows out.old out.new 1115 }
 {
     out.open(Tag::Title);
     out.enter();
-    write_history(out, message);
+    write_history(out, routers, message);
     out.close(Tag::Title);
 }
 

@@ -1,8 +1,9 @@
 //! The messages: from the router that made one to the wall of its node, between the walls, and from the wall to the router
 //! that it was handed to.
 
-ghost use Rattle.std.specs.Prelude.{◌*◌, length};
-ghost use Rattle.ipcz_markup.specs.Markup.{Grows, Keeps};
+ghost use Rattle.std.specs.Prelude.{◌*◌, ◌∷◌, List, length};
+ghost use Rattle.ipcz_markup.specs.declared.writer.Tag.{Tag};
+ghost use Rattle.ipcz_markup.specs.Markup.{Grows, InText, InValue, Keeps, Row, Stands};
 
 use crate::arrow_title::{draw_arrow_label, draw_arrow_title, look_of, stroke_of};
 use crate::rows::UNIT;
@@ -71,15 +72,23 @@ fn draw_head(out: &mut Writer, x: u64, y: u64, from_right: bool, look: Look)
 }
 
 // From the act that made a message to the wall, where it is posted.
-fn draw_outbox(out: &mut Writer, scene: &Scene, message: &Message, wall: Wall, posted: u64)
+fn draw_outbox(
+    out: &mut Writer,
+    scene: &Scene,
+    message: &Message,
+    slot: usize,
+    wall: Wall,
+    posted: u64,
+)
     ensures keeps { Keeps out.old out.new }
     ensures few { Grows out.old out.new 500 }
 {
+    let wait = (slot as u64).saturating_mul(4).saturating_add(6);
     out.begin_arrow(look_of(message), Stroke::Thin);
     match (message.made, message.maker) {
         (Some(line), Some(maker)) => {
             out.point(b'M', scene.across_of(maker), scene.middle_of(line));
-            out.step(b'H', wall.inside(6));
+            out.step(b'H', wall.inside(wait));
             out.step(b'V', posted);
         }
         _ => out.point(b'M', wall.inside(6), posted),
@@ -88,8 +97,28 @@ fn draw_outbox(out: &mut Writer, scene: &Scene, message: &Message, wall: Wall, p
     out.end_path();
 }
 
+// Ends a path with the title of its message.
+fn end_titled(out: &mut Writer, scene: &Scene, message: &Message)
+    ensures ends { (rows : List Row) (s : List Tag) →
+        Stands out.old rows InValue (Tag.Path ∷ s) → Stands out.new rows InText s }
+    ensures few { Grows out.old out.new 1125 }
+{
+    out.end_value();
+    out.enter();
+    draw_arrow_title(out, scene.routers, message);
+    out.close(Tag::Path);
+}
+
 // From wall to wall, where a message waits to be looked at.
-fn draw_way(out: &mut Writer, message: &Message, from: Wall, posted: u64, to: Wall, looked: u64)
+fn draw_way(
+    out: &mut Writer,
+    scene: &Scene,
+    message: &Message,
+    from: Wall,
+    posted: u64,
+    to: Wall,
+    looked: u64,
+)
     ensures keeps { Keeps out.old out.new }
     ensures few { Grows out.old out.new 1500 }
 {
@@ -102,21 +131,18 @@ fn draw_way(out: &mut Writer, message: &Message, from: Wall, posted: u64, to: Wa
     } else {
         out.point(b'L', to.across, looked);
     }
-    out.end_value();
-    out.enter();
-    draw_arrow_title(out, message);
-    out.close(Tag::Path);
+    end_titled(out, scene, message);
 }
 
 // From a wall to where a message is lost from sight.
-fn draw_lost(out: &mut Writer, message: &Message, from: Wall, posted: u64, end: u64)
+fn draw_lost(out: &mut Writer, scene: &Scene, message: &Message, from: Wall, posted: u64, end: u64)
     ensures keeps { Keeps out.old out.new }
-    ensures few { Grows out.old out.new 500 }
+    ensures few { Grows out.old out.new 1500 }
 {
     out.begin_arrow(look_of(message), Stroke::Dotted);
     out.point(b'M', from.across, posted);
     out.point(b'L', from.outside(12), end);
-    out.end_path();
+    end_titled(out, scene, message);
 }
 
 // From the wall to the router that a message was handed to.
@@ -166,7 +192,7 @@ fn draw_held(out: &mut Writer, message: &Message, wall: Wall, looked: u64, end: 
 // The way of a message that comes out of a settle, or out of nowhere.
 fn draw_gained(out: &mut Writer, scene: &Scene, message: &Message, wall: Wall, looked: u64)
     ensures keeps { Keeps out.old out.new }
-    ensures few { Grows out.old out.new 500 }
+    ensures few { Grows out.old out.new 1500 }
 {
     let begin = match message.gained {
         Some(settle) => scene.top_of(settle).saturating_add(2 * UNIT - 4),
@@ -175,7 +201,7 @@ fn draw_gained(out: &mut Writer, scene: &Scene, message: &Message, wall: Wall, l
     out.begin_arrow(look_of(message), Stroke::Dotted);
     out.point(b'M', wall.outside(14), begin);
     out.point(b'L', wall.across, looked);
-    out.end_path();
+    end_titled(out, scene, message);
 }
 
 // How far down a message is lost from sight: above a settle, or at the end.
@@ -187,19 +213,41 @@ fn end_of_sight(scene: &Scene, message: &Message) -> u64 {
 }
 
 // The part of a message's way on its sender's side.
-fn draw_sent(out: &mut Writer, scene: &Scene, message: &Message, from: u8, posted: usize)
+fn draw_sent(
+    out: &mut Writer,
+    scene: &Scene,
+    message: &Message,
+    slot: usize,
+    from: u8,
+    posted: usize,
+)
     ensures keeps { Keeps out.old out.new }
     ensures few { Grows out.old out.new 3000 }
 {
     let wall = Wall::facing(scene, from, message.to);
     let height = scene.middle_of(posted);
-    draw_outbox(out, scene, message, wall, height);
+    draw_outbox(out, scene, message, slot, wall, height);
     match message.looked {
         Some(looked) => {
             let other = Wall::facing(scene, message.to, from);
-            draw_way(out, message, wall, height, other, scene.middle_of(looked));
+            draw_way(
+                out,
+                scene,
+                message,
+                wall,
+                height,
+                other,
+                scene.middle_of(looked),
+            );
         }
-        None => draw_lost(out, message, wall, height, end_of_sight(scene, message)),
+        None => draw_lost(
+            out,
+            scene,
+            message,
+            wall,
+            height,
+            end_of_sight(scene, message),
+        ),
     }
     draw_arrow_label(
         out,
@@ -213,7 +261,7 @@ fn draw_sent(out: &mut Writer, scene: &Scene, message: &Message, from: u8, poste
 // The part of a message's way on its receiver's side, from the line at which it is seen there first.
 fn draw_received(out: &mut Writer, scene: &Scene, message: &Message, seen: usize)
     ensures keeps { Keeps out.old out.new }
-    ensures few { Grows out.old out.new 1500 }
+    ensures few { Grows out.old out.new 2500 }
 {
     let other = match message.from {
         Some(from) => from,
@@ -231,24 +279,25 @@ fn draw_received(out: &mut Writer, scene: &Scene, message: &Message, seen: usize
 }
 
 // A message.
-fn draw_message(out: &mut Writer, scene: &Scene, message: &Message)
+fn draw_message(out: &mut Writer, scene: &Scene, message: &Message, slot: usize)
     ensures keeps { Keeps out.old out.new }
-    ensures few { Grows out.old out.new 4500 }
+    ensures few { Grows out.old out.new 5500 }
 {
     if let (Some(from), Some(posted)) = (message.from, message.posted) {
-        draw_sent(out, scene, message, from, posted);
+        draw_sent(out, scene, message, slot, from, posted);
     }
     if let Some(seen) = message.looked.or(message.handled) {
         draw_received(out, scene, message, seen);
     }
 }
 
-/// All messages.
-pub fn draw_messages(out: &mut Writer, scene: &Scene, messages: &[Message])
+/// All messages, each with its place in its outbox.
+pub fn draw_messages(out: &mut Writer, scene: &Scene, messages: &[Message], slots: &[usize])
     ensures keeps { Keeps out.old out.new }
-    ensures few { Grows out.old out.new (4500 * length messages.now) }
+    ensures few { Grows out.old out.new (5500 * length messages.now) }
 {
     for (index, message) in messages.iter().enumerate() {
-        draw_message(out, scene, message);
+        let slot = slots.get(index).copied().unwrap_or(0);
+        draw_message(out, scene, message, slot);
     }
 }

@@ -36,6 +36,15 @@ fn draw_bands(out: &mut Writer, walls: &[Walls], bottom: u64)
     }
 }
 
+// The ground under a settle.
+fn draw_settle_ground(out: &mut Writer, scene: &Scene, top: u64, class: Class)
+    ensures keeps { Keeps out.old out.new }
+    ensures few { Grows out.old out.new 366 }
+{
+    let width = scene.width.saturating_sub(16);
+    out.pill(8, top.saturating_add(3), width, 2 * UNIT - 6, 3, class);
+}
+
 // The ground under a line's row.
 fn draw_line_ground(out: &mut Writer, scene: &Scene, index: usize, line: &Line)
     ensures keeps { Keeps out.old out.new }
@@ -51,17 +60,8 @@ fn draw_line_ground(out: &mut Writer, scene: &Scene, index: usize, line: &Line)
             let Walls { left, right } = scene.walls_of(*node);
             out.rect(left, top, right.saturating_sub(left), UNIT, Class::Turn);
         }
-        Line::Settled | Line::Unsettled => {
-            let width = scene.width.saturating_sub(16);
-            out.pill(
-                8,
-                top.saturating_add(3),
-                width,
-                2 * UNIT - 6,
-                3,
-                Class::Settle,
-            );
-        }
+        Line::Settled => draw_settle_ground(out, scene, top, Class::Settle),
+        Line::Unsettled => draw_settle_ground(out, scene, top, Class::Fault),
         _ => {}
     }
 }

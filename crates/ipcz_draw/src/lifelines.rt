@@ -3,9 +3,12 @@
 ghost use Rattle.std.specs.Prelude.{◌*◌, length};
 ghost use Rattle.ipcz_markup.specs.Markup.{Grows, Keeps};
 
+use crate::calls::write_end;
 use crate::lanes::Lane;
 use crate::scene::Scene;
+use ipcz_lines::End;
 use ipcz_markup::{Class, Tag, Writer};
+use ipcz_messages::calls::Portals;
 use ipcz_messages::routers::Router;
 
 // A part of a lifeline, from one height down to another.
@@ -63,6 +66,43 @@ fn draw_name(out: &mut Writer, scene: &Scene, index: usize, router: &Router)
     out.close(Tag::Text);
 }
 
+// The end that a router serves, on the right of its bar, as high as its name.
+fn draw_end(
+    out: &mut Writer,
+    scene: &Scene,
+    index: usize,
+    router: &Router,
+    end: End,
+    portals: &Portals,
+)
+    ensures keeps { Keeps out.old out.new }
+    ensures few { Grows out.old out.new 350 }
+{
+    let x = scene.across_of(index).saturating_add(6);
+    let y = scene.middle_of(router.first).saturating_sub(6);
+    out.begin_label(x, y, Class::RouterEnd);
+    write_end(out, end, portals);
+    out.close(Tag::Text);
+}
+
+// The name of a router, and its end, where that is known.
+fn draw_name_and_end(
+    out: &mut Writer,
+    scene: &Scene,
+    index: usize,
+    router: &Router,
+    ends: &[Option<End>],
+    portals: &Portals,
+)
+    ensures keeps { Keeps out.old out.new }
+    ensures few { Grows out.old out.new 640 }
+{
+    draw_name(out, scene, index, router);
+    if let Some(Some(end)) = ends.get(index) {
+        draw_end(out, scene, index, router, *end, portals);
+    }
+}
+
 /// The lifelines of all routers.
 pub fn draw_lifelines(out: &mut Writer, scene: &Scene)
     ensures keeps { Keeps out.old out.new }
@@ -75,12 +115,12 @@ pub fn draw_lifelines(out: &mut Writer, scene: &Scene)
     }
 }
 
-/// The names of all routers.
-pub fn draw_names(out: &mut Writer, scene: &Scene)
+/// The names of all routers, and the ends that they serve.
+pub fn draw_names(out: &mut Writer, scene: &Scene, ends: &[Option<End>], portals: &Portals)
     ensures keeps { Keeps out.old out.new }
-    ensures few { Grows out.old out.new (290 * length scene.now.routers.now) }
+    ensures few { Grows out.old out.new (640 * length scene.now.routers.now) }
 {
     for (index, router) in scene.routers.iter().enumerate() {
-        draw_name(out, scene, index, router);
+        draw_name_and_end(out, scene, index, router, ends, portals);
     }
 }

@@ -3,6 +3,7 @@
 
 pub mod arrow_title;
 pub mod arrows;
+pub mod calls;
 pub mod device;
 pub mod ending;
 pub mod fault;
@@ -11,6 +12,8 @@ pub mod heading;
 pub mod lanes;
 pub mod lifelines;
 pub mod marks;
+pub mod names;
+pub mod outboxes;
 pub mod output;
 pub mod picture;
 pub mod program;
@@ -20,6 +23,7 @@ pub mod scene;
 #[cfg(test)]
 mod slow_devices;
 pub mod whole_io;
+pub mod word_bars;
 pub mod word_cells;
 
 use device::Device;

@@ -1,13 +1,15 @@
 //! The marks in a row: what a router did, a node's close, an idle turn, words.
 
-ghost use Rattle.std.specs.Prelude.{◌+◌, ◌*◌, ◌≤◌, length};
+ghost use Rattle.std.specs.Prelude.{◌≡◌, ◌+◌, ◌*◌, ◌≤◌, length};
+ghost use Rattle.ipcz_lines.specs.LineParts.{fate_text};
 ghost use Rattle.ipcz_markup.specs.Markup.{Grows, Keeps};
+ghost use Rattle.ipcz_draw.specs.Marks.{settle_note};
 ghost use Rattle.ipcz_draw.specs.Sizes.{most_marks};
 
 use crate::arrow_title::write_link;
 use crate::scene::Scene;
 use crate::word_cells::{draw_word, draw_words};
-use ipcz_lines::{Event, Line, Link, ReadLine, RouterEvent, WordStep};
+use ipcz_lines::{Event, Kind, Line, Link, ReadLine, RouterEvent, WordStep};
 use ipcz_markup::{Class, Tag, Writer};
 
 // The middle of a row, from its top.
@@ -61,7 +63,7 @@ fn step_mark(step: WordStep) -> (u8, Class, &'static [u8])
 // What a router did with a word, and the word's value after it.
 fn draw_word_step(out: &mut Writer, scene: &Scene, x: u64, step: WordStep, word: u16, after: u16)
     ensures keeps { Keeps out.old out.new }
-    ensures few { Grows out.old out.new 2500 }
+    ensures few { Grows out.old out.new 3000 }
 {
     let (letter, class, words) = step_mark(step);
     out.disc(x, MIDDLE, letter, class);
@@ -78,7 +80,7 @@ fn draw_word_step(out: &mut Writer, scene: &Scene, x: u64, step: WordStep, word:
 // A claim, of a word or of none.
 fn draw_claim(out: &mut Writer, scene: &Scene, x: u64, word: Option<u16>)
     ensures keeps { Keeps out.old out.new }
-    ensures few { Grows out.old out.new 2500 }
+    ensures few { Grows out.old out.new 3000 }
 {
     match word {
         Some(word) => {
@@ -111,7 +113,7 @@ fn draw_act(out: &mut Writer, x: u64, letter: u8, class: Class, words: &[u8])
 // A discarded item.
 fn draw_discard(out: &mut Writer, x: u64, number: u64, leaves: bool)
     ensures keeps { Keeps out.old out.new }
-    ensures few { Grows out.old out.new 2500 }
+    ensures few { Grows out.old out.new 3000 }
 {
     if leaves {
         out.disc(x, MIDDLE, b'X', Class::BadDisc);
@@ -125,11 +127,11 @@ fn draw_discard(out: &mut Writer, x: u64, number: u64, leaves: bool)
 // The link that an edge finishes with.
 fn draw_finish(out: &mut Writer, x: u64, link: &Link)
     ensures keeps { Keeps out.old out.new }
-    ensures few { Grows out.old out.new 2500 }
+    ensures few { Grows out.old out.new 3000 }
 {
     out.disc(x, MIDDLE, b'F', Class::BypassDisc);
     out.begin_label(x.saturating_add(10), BASE, Class::Note);
-    out.text(b"no");
+    out.text(b"ends");
     write_link(out, link);
     out.close(Tag::Text);
 }
@@ -137,7 +139,7 @@ fn draw_finish(out: &mut Writer, x: u64, link: &Link)
 // What a router did.
 fn draw_router_event(out: &mut Writer, scene: &Scene, x: u64, event: &RouterEvent)
     ensures keeps { Keeps out.old out.new }
-    ensures few { Grows out.old out.new 2500 }
+    ensures few { Grows out.old out.new 3000 }
 {
     match event {
         RouterEvent::Send { .. } => out.pill(
@@ -164,10 +166,46 @@ fn draw_router_event(out: &mut Writer, scene: &Scene, x: u64, event: &RouterEven
     }
 }
 
+// What became of a message that didn't fit, as the transcript has it.
+fn fate(kind: Kind) -> &'static [u8]
+    ensures same { result.now ≡ fate_text kind }
+    ensures few { length result.now ≤ 7 }
+{
+    match kind {
+        Kind::Flush => b"dropped",
+        _ => b"stray",
+    }
+}
+
+// What the row of a settle says.
+fn note_of_settle(line: &Line) -> &'static [u8]
+    ensures same { result.now ≡ settle_note line.now }
+    ensures few { length result.now ≤ 90 }
+{
+    match line {
+        Line::Unsettled =>
+            b"unsettled: the limit came first; the turns up to here are not in the transcript",
+        _ => b"settled: the turns up to here are not in the transcript",
+    }
+}
+
+// What a settle's row says; one that came to its limit is a fault.
+fn draw_settle(out: &mut Writer, scene: &Scene, line: &Line)
+    ensures keeps { Keeps out.old out.new }
+    ensures few { Grows out.old out.new 800 }
+{
+    let class = match line {
+        Line::Unsettled => Class::FaultText,
+        _ => Class::SettleText,
+    };
+    let x = scene.walls_of(0).left;
+    out.label(x, BASE + 9, class, note_of_settle(line));
+}
+
 // What a turn of a node was, but for messages.
 fn draw_turn(out: &mut Writer, scene: &Scene, node: u8, event: &Event, text: &[u8])
     ensures keeps { Keeps out.old out.new }
-    ensures few { Grows out.old out.new 2500 }
+    ensures few { Grows out.old out.new 3000 }
 {
     let left = scene.walls_of(node).left;
     match event {
@@ -192,12 +230,11 @@ fn draw_turn(out: &mut Writer, scene: &Scene, node: u8, event: &Event, text: &[u
             Class::Refused,
             front(text, 24),
         ),
-        Event::Hand { unfit: true, .. } => out.label(
-            left.saturating_add(6),
-            BASE,
-            Class::Refused,
-            b"unfit",
-        ),
+        Event::Hand {
+            unfit: true,
+            kind,
+            ..
+        } => out.label(left.saturating_add(6), BASE, Class::Refused, fate(*kind)),
         _ => {}
     }
 }
@@ -210,11 +247,7 @@ pub fn draw_marks(out: &mut Writer, scene: &Scene, read: &ReadLine)
     match &read.line {
         Line::Turn { node, event } => draw_turn(out, scene, *node, event, read.text),
         Line::Words(values) => draw_words(out, scene, values),
-        Line::Settled | Line::Unsettled => {
-            let x = scene.walls_of(0).left;
-            let text = b"the turns up to here are not in the transcript";
-            out.label(x, BASE + 9, Class::SettleText, text);
-        }
+        Line::Settled | Line::Unsettled => draw_settle(out, scene, &read.line),
         _ => {}
     }
 }

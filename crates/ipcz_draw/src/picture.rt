@@ -8,17 +8,24 @@ ghost use Rattle.ipcz_draw.specs.Rows.{row_at, Follow, IsPicture};
 ghost use Rattle.ipcz_draw.specs.Sizes.{most_picture, most_row};
 
 use crate::arrows::draw_messages;
+use crate::calls::draw_calls;
 use crate::ground::draw_ground;
 use crate::heading::draw_heading;
 use crate::lanes::lanes;
 use crate::lifelines::{draw_lifelines, draw_names};
+use crate::names::draw_names_again;
+use crate::outboxes::slots;
 use crate::row::draw_row;
 use crate::rows::{Place, places};
 use crate::scene::Scene;
+use crate::word_bars::draw_word_bars;
 use ipcz_lines::ReadLine;
 use ipcz_markup::{Key, Tag, Writer, style};
+use ipcz_messages::calls::{Portals, calls};
+use ipcz_messages::ends::ends;
 use ipcz_messages::messages::{messages, note_births};
-use ipcz_messages::routers::{routers, see_messages};
+use ipcz_messages::moves::Moves;
+use ipcz_messages::routers::{routers, see_calls, see_messages};
 use std::alloc::{AllocError, Global};
 
 // The size of the picture, as attributes of its root.
@@ -99,9 +106,15 @@ pub fn picture(alloc: Global, lines: &[ReadLine]) -> Result<Vec<u8>, AllocError>
     let (placed, bottom) = places(alloc, lines)?;
     let mut routers = routers(alloc, lines)?;
     let messages = messages(alloc, lines, &routers)?;
-    note_births(alloc, lines, &messages, &mut routers)?;
+    let moves = Moves::new(alloc, lines)?;
+    note_births(alloc, lines, &messages, &moves, &mut routers)?;
     see_messages(&mut routers, &messages);
+    let portals = Portals::new(alloc, lines)?;
+    let ends = ends(alloc, lines, &messages, &routers, &moves)?;
+    let calls = calls(alloc, lines, &routers, &moves, &ends, &portals)?;
+    see_calls(&mut routers, &calls);
     let lanes = lanes(alloc, lines, &routers)?;
+    let slots = slots(alloc, &messages, lines.len())?;
     let scene = Scene::new(alloc, lines, &routers, &lanes, &placed, bottom)?;
     let mut out = Writer::new(alloc);
     draw_root(&mut out, scene.width, bottom.saturating_add(26));
@@ -109,9 +122,12 @@ pub fn picture(alloc: Global, lines: &[ReadLine]) -> Result<Vec<u8>, AllocError>
     draw_style(&mut out);
     draw_ground(&mut out, &scene);
     draw_heading(&mut out, lines.len() as u64);
+    draw_word_bars(&mut out, &scene);
     draw_lifelines(&mut out, &scene);
-    draw_messages(&mut out, &scene, &messages);
-    draw_names(&mut out, &scene);
+    draw_messages(&mut out, &scene, &messages, &slots);
+    draw_calls(&mut out, &scene, &calls);
+    draw_names(&mut out, &scene, &ends, &portals);
+    draw_names_again(&mut out, &scene, &placed);
     draw_rows(&mut out, &scene, lines, &placed, bottom);
     out.close(Tag::Svg);
     out.finish()

@@ -10,7 +10,7 @@ ghost use Rattle.ipcz_draw.specs.Sizes.{most_place};
 use crate::marks::draw_marks;
 use crate::rows::{Place, UNIT};
 use crate::scene::Scene;
-use ipcz_lines::{Answer, Event, Line, ReadLine, RouterEvent};
+use ipcz_lines::{Answer, Event, Line, ReadLine, Refusal, RouterEvent};
 use ipcz_markup::{Class, Tag, Writer};
 
 /// The most bytes of a line that stand in the gutter.
@@ -27,6 +27,11 @@ fn front(text: &[u8], room: usize) -> &[u8]
 fn gutter_class(line: &Line) -> Class {
     match line {
         Line::Refused(_)
+        | Line::Unsettled
+        | Line::Missed {
+            refusal: Refusal::PeerClosed | Refusal::UnknownName | Refusal::Away,
+            ..
+        }
         | Line::Open {
             refusal: Some(_),
             ..
@@ -54,7 +59,7 @@ fn gutter_class(line: &Line) -> Class {
         } => Class::GutterDim,
         Line::Turn { .. } => Class::Gutter,
         Line::Words(_) => Class::GutterWord,
-        Line::Settled | Line::Unsettled => Class::GutterSettle,
+        Line::Settled => Class::GutterSettle,
         _ => Class::GutterCall,
     }
 }

@@ -111,6 +111,7 @@ fn place_at(lines: &[ReadLine], first: usize, top: u64) -> Place
 pub fn places(alloc: Global, lines: &[ReadLine]) -> Result<(Vec<Place>, u64), AllocError>
     requires { length lines.now < 2 ^ 32 }
     ensures follow { IfOk result (λ placed. Follow lines.now 0 136 placed.0.items (length lines.now) placed.1) }
+    ensures few { IfOk result (λ placed. length placed.0.items ≤ length lines.now) }
 {
     let mut placed = Vec::new(alloc);
     let mut first = 0;

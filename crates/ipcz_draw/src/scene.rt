@@ -8,7 +8,7 @@ use ipcz_lines::{Event, Line, Link, ReadLine, RouterEvent};
 use ipcz_messages::routers::{Router, find};
 use std::alloc::{AllocError, Global};
 
-const COLUMN: u64 = 46;
+const COLUMN: u64 = 62;
 
 const PAD: u64 = 38;
 
@@ -16,7 +16,7 @@ const GAP: u64 = 92;
 
 const FIRST_BAND: u64 = 384;
 
-const WORD_COLUMN: u64 = 78;
+const WORD_COLUMN: u64 = 88;
 
 /// How many words stand side by side.
 pub const WORDS: usize = 6;

@@ -2,6 +2,7 @@
 
 ghost use Rattle.std.specs.Prelude.{◌+◌, ◌*◌, ◌≤◌, length};
 ghost use Rattle.ipcz_markup.specs.Markup.{Grows, Keeps};
+ghost use Rattle.ipcz_draw.specs.Marks.{IsSource};
 
 use crate::rows::UNIT;
 use crate::scene::{Scene, WORDS};
@@ -53,6 +54,29 @@ fn letters(bits: SideBits) -> &'static [u8]
     }
 }
 
+// The node that may answer a word's link while a side is locked, which stands above the sides' bits.
+fn source_of(value: u16) -> Option<u16>
+    ensures { IsSource value result }
+{
+    let source = value / 256;
+    if source == 0 {
+        return None;
+    }
+    Some(source - 1)
+}
+
+// The number of the node that may answer, behind the cells of a word.
+fn draw_source(out: &mut Writer, x: u64, y: u64, value: u16)
+    ensures keeps { Keeps out.old out.new }
+    ensures few { Grows out.old out.new 300 }
+{
+    if let Some(node) = source_of(value) {
+        out.begin_label(x.saturating_add(74), y.saturating_add(3), Class::Source);
+        out.number(node as u64);
+        out.close(Tag::Text);
+    }
+}
+
 // A side's cell.
 fn draw_cell(out: &mut Writer, x: u64, y: u64, bits: SideBits)
     ensures keeps { Keeps out.old out.new }
@@ -70,7 +94,7 @@ fn draw_cell(out: &mut Writer, x: u64, y: u64, bits: SideBits)
 /// A word's name and value, with the middle of its row at `y`.
 pub fn draw_word(out: &mut Writer, x: u64, y: u64, word: u64, value: u16)
     ensures keeps { Keeps out.old out.new }
-    ensures few { Grows out.old out.new 1500 }
+    ensures few { Grows out.old out.new 1800 }
 {
     out.begin_label(x.saturating_add(26), y.saturating_add(3), Class::WordName);
     out.text(b"C");
@@ -78,12 +102,13 @@ pub fn draw_word(out: &mut Writer, x: u64, y: u64, word: u64, value: u16)
     out.close(Tag::Text);
     draw_cell(out, x.saturating_add(29), y, bits_of(value, false));
     draw_cell(out, x.saturating_add(51), y, bits_of(value, true));
+    draw_source(out, x, y, value);
 }
 
 // A word of a line that tells all of them; each six words stand side by side.
 fn draw_listed(out: &mut Writer, scene: &Scene, word: usize, value: u16)
     ensures keeps { Keeps out.old out.new }
-    ensures few { Grows out.old out.new 1500 }
+    ensures few { Grows out.old out.new 1800 }
 {
     if word < 4096 {
         let y = (word / WORDS) as u64 * UNIT + UNIT / 2;
@@ -94,7 +119,7 @@ fn draw_listed(out: &mut Writer, scene: &Scene, word: usize, value: u16)
 /// The words whose values a line tells, from the first on, in a row that begins at the top.
 pub fn draw_words(out: &mut Writer, scene: &Scene, values: &[u8])
     ensures keeps { Keeps out.old out.new }
-    ensures few { Grows out.old out.new (1500 * (length values.now + 1)) }
+    ensures few { Grows out.old out.new (1800 * (length values.now + 1)) }
 {
     let mut word = 0usize;
     let mut value = 0u16;

@@ -4,6 +4,7 @@ pub mod Seating
 pub mod Keeping
 pub mod Few
 pub mod Onces
+pub mod Sources
 pub mod Taking
 pub mod Mailing
 pub mod Turning

@@ -1,29 +1,33 @@
 -- The steps on mailboxes, and what a cell keeps after them.
-use Rattle.std.specs.Prelude.{◌≡◌, ◌≢◌, ◌<◌, ◌+◌, ◌*◌, ◌++◌, ℕ, zero, suc, Bool, true, false, List, [], ◌∷◌, length, Option, Some, None, MatchBool, eqb}
-use Rattle.std.proofs.Common.{ap, sym, subst, ◌∙◌, refl, arith, eq-eqb, ne_eqb}
+use Rattle.std.specs.Prelude.{◌≡◌, ◌≢◌, ◌<◌, ◌+◌, ◌*◌, ◌++◌, ℕ, Bool, true, false, List, [], ◌∷◌, Option, Some, None, IfSome, MatchBool, eqb}
+use Rattle.std.proofs.Common.{ap, sym, subst, ◌∙◌, refl, eq-eqb, ne_eqb}
 use prog.Atomic.{either}
+use lib.ListN.{get_elem?}
 use Rattle.atomic_table.specs.Seated.{TableId}
 use Rattle.atomic_table.specs.Table.{Allows, rest}
 use Rattle.ipcz_base.specs.declared.message.Message.{Message}
 use Rattle.ipcz_node.specs.Node.{Node}
 use Rattle.ipcz_rule.specs.declared.view.View.{View}
 use Rattle.ipcz_rule.specs.declared.view.Part.{Part}
-use Rattle.ipcz_rule.specs.Rule.{Slot, Mine, Rules, saw, has_number}
-use Rattle.ipcz_rule.specs.Steps.{probe_part, post_part, look_part, hand_part}
+use Rattle.ipcz_rule.specs.Rule.{Mine, Rules, saw, has_number}
+use Rattle.ipcz_rule.specs.Steps.{probe_part, post_part, look_part, old_word, trusted, hand_part}
 use Rattle.ipcz_rule.proofs.Probing.{probes}
 use Rattle.ipcz_rule.proofs.Posting.{posts, looks}
 use Rattle.ipcz_rule.proofs.Handling.{hands}
+use Rattle.ipcz_rule.proofs.OldLinks.{old_links_are_words}
+use Rattle.ipcz_rule.proofs.RuleLaws.{links_are_words}
+use Rattle.ipcz_rule.proofs.WordKinds.{loads_for_hand}
 use Rattle.ipcz_node.specs.declared.act.Act.TheVariants as acts
 use Rattle.ipcz_node.specs.Acts.{has_mail_for, post_of}
 use Rattle.ipcz_node.specs.Hands.{message_lacks_serials}
 use Rattle.ipcz_fabric.specs.Parts.{part_handed}
 use Rattle.ipcz_fabric.specs.TableNames.{TableName}
 use Rattle.ipcz_node.specs.RoomyNodes.{NodeRoom}
-use Rattle.ipcz_fabric.specs.CellStates.{CellState, part_in, first_part, change_part}
-use Rattle.ipcz_fabric.specs.Cells.{AreSound, IsSeated, IsCell, held_slots}
-use Rattle.ipcz_fabric.specs.Mails.{slot_of, mail_word, IsProbed, HasSeen}
-use Rattle.ipcz_fabric.specs.Outcomes.{Tells, IsPicked, probed, posted, looked, handed}
-use Rattle.ipcz_fabric.proofs.Seating.{KeepsHands, may_by, reseated, touched_cell, own_inside}
+use Rattle.ipcz_fabric.specs.CellStates.{CellState, part_in, change_part}
+use Rattle.ipcz_fabric.specs.Cells.{AreSound, IsCell, held_slots}
+use Rattle.ipcz_fabric.specs.Mails.{slot_of, mail_word, IsKnown, IsProbed, HasSeen}
+use Rattle.ipcz_fabric.specs.Outcomes.{Tells, IsPicked, probed, posted, looked, sourced, handed}
+use Rattle.ipcz_fabric.proofs.Seating.{may_by, reseated, touched_cell}
 
 -- the step of a probe
 pub probe_may : (t : TableName) (id word : ℕ) (m : Mine) (node to : ℕ) (told : Tells) → IsPicked told (probed (mail_word t node to) (slot_of t node to) to) → m.0.parts ≡ part_in m.0 ∷ [] → (part_in m.0).node ≡ node → to < t.count →
@@ -101,13 +105,28 @@ look_may t id word m node sender told picked whole is small idle at =
     (looks t.count t.size t.id.slots id (mail_word t sender node) (slot_of t sender node) sender m (part_in m.0) whole (ap (λ (k : ℕ). sender * t.count + k) (sym is)) refl small idle))
 
 -- the step of a hand
-pub hand_may : (t : TableName) (id word : ℕ) (m : Mine) (node from : ℕ) (told : Tells) → IsPicked told (handed from) → m.0.parts ≡ part_in m.0 ∷ [] → (part_in m.0).node ≡ node →
-    (part_in m.0).state.hand ≡ Some from → (x : Message) → (part_in m.0).message ≡ Some x → message_lacks_serials (part_in m.0).state from x ≡ false → m.1 ≡ (slot_of t from node, None) ∷ rest m.1 →
+pub hand_may : (t : TableName) (id word : ℕ) (m : Mine) (node from : ℕ) (source : Option ℕ) (told : Tells) → IsPicked told (handed from source) → m.0.parts ≡ part_in m.0 ∷ [] → (part_in m.0).node ≡ node →
+    (part_in m.0).state.hand ≡ Some from → (x : Message) → (part_in m.0).message ≡ Some x → message_lacks_serials (part_in m.0).state from x source ≡ false → IsKnown t.size from x source → m.1 ≡ (slot_of t from node, None) ∷ rest m.1 →
     mail_word t from node ≡ word → Allows (Rules t.count t.size) t.id.slots id m word (λ _. 0) (λ _. told m 0)
-hand_may t id word m node sender told picked whole is hand x message serials slot at s r deep there low =
-    let may = hands t.count t.size t.id.slots id (mail_word t sender node) (slot_of t sender node) sender m (part_in m.0) x (rest m.1) whole (ap (λ (k : ℕ). sender * t.count + k) (sym is)) refl hand message serials slot in
-    let h = subst (λ (i : ℕ). Allows (Rules t.count t.size) t.id.slots id m i (λ _. 0) (λ n m'. m' ≡ (change_part (hand_part sender x) m.0, rest m.1))) at may s r deep there low in
-    (h.0, h.1, h.2, h.3, picked.said m 0 _ (h.4 ∙ ap (λ (o : Option Message). (change_part (part_handed sender o) m.0, rest m.1)) (sym message)))
+hand_may t id word m node sender source told picked whole is hand x message serials known slot at s r deep there low =
+    let trust : source ≡ trusted sender x = known (inside (old_word x) refl) in
+    let lacks = subst (λ (o : Option ℕ). message_lacks_serials (part_in m.0).state sender x o ≡ false) trust serials in
+    let may = hands t.count t.size t.id.slots id (mail_word t sender node) (slot_of t sender node) sender m (part_in m.0) x (rest m.1) whole (ap (λ (k : ℕ). sender * t.count + k) (sym is)) refl hand message lacks slot in
+    let h = subst (λ (i : ℕ). Allows (Rules t.count t.size) t.id.slots id m i (λ _. 0) (λ n m'. m' ≡ (change_part (hand_part sender (trusted sender x) x) m.0, rest m.1))) at may s r deep there low in
+    (h.0, h.1, h.2, h.3, picked.said m 0 _ (h.4 ∙ (ap (λ (o : Option ℕ). (change_part (hand_part sender o x) m.0, rest m.1)) (sym trust) ∙ ap (λ (o : Option Message). (change_part (part_handed sender source o) m.0, rest m.1)) (sym message))))
+  where
+    inside : (o : Option ℕ) → old_word x ≡ o → IfSome o (λ old. old < t.size)
+    inside None e = tt
+    inside (Some old) e = old_links_are_words t.count t.size s r id m.0 0 (part_in m.0) sender old x there (ap (λ (l : List Part). get_elem? l 0) whole) hand message e
+
+-- the step of a load before a hand
+pub source_may : (t : TableName) (id old : ℕ) (m : Mine) (from : ℕ) (told : Tells) → IsPicked told (sourced old from) → m.0.parts ≡ part_in m.0 ∷ [] → (part_in m.0).state.hand ≡ Some from →
+    (x : Message) → (part_in m.0).message ≡ Some x → old_word x ≡ Some old → old < t.size → Allows (Rules t.count t.size) t.id.slots id m old (λ n. n) (told m)
+source_may t id old m sender told picked whole hand x message named small =
+    may_by t.count t.size t.id.slots id m old (λ n. n) told (sourced old sender) picked
+    (λ s r deep there low.
+    let h = loads_for_hand t.count t.size t.id.slots id sender old m (part_in m.0) x whole hand message named s r deep there low in
+    (h.0, h.1, h.2, h.3, (links_are_words t.count t.size s r old small, h.4.0, h.4.1)))
 
 -- what a look tells
 pub look_tells : (i i' k sender found : ℕ) (x : Message) (me m1 m3 : Mine) (room room' : NodeRoom) (old : CellState) → shown me room ≡ old → found ≡ 1 → i' ≡ i →

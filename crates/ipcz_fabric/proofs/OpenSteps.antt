@@ -1,5 +1,5 @@
 -- The loads of the claim count and of link words, and the steps of an open.
-use Rattle.std.specs.Prelude.{◌≡◌, ◌≢◌, ◌<◌, ◌≤◌, ◌+◌, ℕ, Bool, true, false, List, [], ◌∷◌, ◌++◌, Option, Some, None, Result, Ok, Err, IfOk, MatchBool, eqb, is_some, nat_le, ◌==◌, ◌||◌, ◌&&◌, length}
+use Rattle.std.specs.Prelude.{◌≡◌, ◌<◌, ◌+◌, ℕ, Bool, true, false, List, [], ◌∷◌, ◌++◌, Option, Some, None, Result, Ok, Err, IfOk, eqb, is_some, ◌==◌, ◌||◌, ◌&&◌}
 use Rattle.std.proofs.Common.{ap, sym, subst, ◌∙◌, refl, arith, append_assoc}
 use Rattle.std.proofs.lemmas.Bool.Decides.{nat_tests}
 use prog.Atomic.{either}
@@ -8,16 +8,15 @@ use Rattle.atomic_table.specs.Table.{Allows}
 use Rattle.ipcz_base.specs.declared.end.End.{End}
 use Rattle.ipcz_base.specs.declared.message.Message.{Message}
 use Rattle.ipcz_base.specs.declared.refusal.Refusal.{Refusal}
-use Rattle.ipcz_base.specs.Limits.{has_serials, no_number}
+use Rattle.ipcz_base.specs.Limits.{has_serials}
 use Rattle.ipcz_word.specs.Word.{open_word}
-use Rattle.ipcz_word.specs.Layout.{bits_of}
+use Rattle.ipcz_word.specs.Layout.{bits_of, sets_bits, source_bits}
 use Rattle.ipcz_word.specs.SideSets.{has, both, none as no_sides}
 use Rattle.ipcz_node.specs.Node.{Node}
 use Rattle.ipcz_node.specs.Calls.{serials_refusal}
 use Rattle.ipcz_node.specs.RoomyNodes.{CanOpen, RoomyNode, NodeRoom}
-use Rattle.ipcz_rule.specs.declared.view.View.{View}
 use Rattle.ipcz_rule.specs.declared.view.Part.{Part}
-use Rattle.ipcz_rule.specs.Rule.{Mine, Rules, saw}
+use Rattle.ipcz_rule.specs.Rule.{Mine, Rules}
 use Rattle.ipcz_rule.specs.Steps.{claimed_part, open_part}
 use Rattle.ipcz_rule.proofs.WordKinds.{loads}
 use Rattle.ipcz_rule.proofs.Claiming.{claims_for_open}
@@ -28,8 +27,8 @@ use Rattle.ipcz_fabric.specs.Cells.{AreSound, IsCell}
 use Rattle.ipcz_fabric.specs.Outcomes.{loaded}
 use Rattle.ipcz_fabric.specs.Mails.{HasSeen, mail_word}
 use Rattle.ipcz_fabric.specs.Claims.{Answered, Got as Won, Dry, Lost as Missed}
-use Rattle.ipcz_fabric.specs.Opens.{count_loaded, word_loaded, open_claimed, opened, ClaimsAt, ClaimsForOpen, Claimed, Outrun, OpensWord, OpensPair, claimed_for_open}
-use Rattle.ipcz_fabric.specs.Opens.{box_loads, are_free, FindsFree}
+use Rattle.ipcz_fabric.specs.Opens.{count_loaded, word_loaded, open_claimed, opened, ClaimsAt, ClaimsForOpen, Claimed, Outrun, OpensWord, claimed_for_open}
+use Rattle.ipcz_fabric.specs.Opens.{box_loads, FindsFree}
 use Rattle.ipcz_fabric.proofs.Seating.{KeepsHands, reseated, touched_cell}
 use Rattle.ipcz_fabric.proofs.Counting.{counts_told}
 use Rattle.ipcz_fabric.proofs.Wording.{words_told}
@@ -43,7 +42,8 @@ count_load_may t id word m whole at =
 pub word_load_may : (t : TableName) (id i : ℕ) (m : Mine) → m.0.parts ≡ part_in m.0 ∷ [] → i < t.size →
     Allows (Rules t.count t.size) t.id.slots id m i (λ n. n) (word_loaded i m)
 word_load_may t id i m whole inside =
-    words_told t.count t.size t.id.slots id i m (λ n. n) (loaded i m) inside (loads t.count t.size t.id.slots id i m (part_in m.0) whole)
+    let told = words_told t.count t.size t.id.slots id i None m (λ n. n) (loaded i m) inside (λ s r at. tt) (loads t.count t.size t.id.slots id i m (part_in m.0) whole) in
+    λ s r deep at small. let h = told s r deep at small in (h.0, h.1, h.2, h.3, (h.4.0, h.4.2))
 
 pub open_claim_may : (t : TableName) (id word c : ℕ) (m : Mine) → m.0.parts ≡ part_in m.0 ∷ [] → (part_in m.0).state.opening ≡ None → c < t.size → t.size ≡ word →
     Allows (Rules t.count t.size) t.id.slots id m word (λ n. either (eqb n c) (c + 1) n) (open_claimed word c m)
@@ -52,7 +52,7 @@ open_claim_may t id word c m whole none few at =
     (claims_for_open t.count t.size t.id.slots id c m (part_in m.0) whole none few)
 
 open_bits : bits_of open_word ≡ 3
-unfolding open_word bits_of has both no_sides
+unfolding open_word bits_of sets_bits source_bits has both no_sides
 open_bits = refl
 
 pub open_may : (t : TableName) (id i : ℕ) (m : Mine) → m.0.parts ≡ part_in m.0 ∷ [] → (part_in m.0).state.opening ≡ Some i → serials_refusal (part_in m.0).state ≡ None →

@@ -1,6 +1,6 @@
 -- What a cell keeps after a look, a post and a hand.
-use Rattle.std.specs.Prelude.{◌≡◌, ◌<◌, ◌+◌, ◌*◌, ◌++◌, ℕ, zero, suc, Bool, true, false, List, [], ◌∷◌, length, Option, Some, None, is_some, cond, not, nat_eq}
-use Rattle.std.proofs.Common.{ap, sym, subst, ◌∙◌, refl, arith, append_assoc, append-nil}
+use Rattle.std.specs.Prelude.{◌≡◌, ◌+◌, ◌*◌, ◌++◌, ℕ, Bool, true, List, [], ◌∷◌, length, Option, Some, None, is_some, cond, not, nat_eq}
+use Rattle.std.proofs.Common.{ap, sym, subst, ◌∙◌, refl, append-nil}
 use Rattle.atomic_table.specs.Seated.{TableId}
 use Rattle.atomic_table.specs.Table.{rest}
 use Rattle.ipcz_base.specs.declared.message.Message.{Message}
@@ -16,7 +16,7 @@ use Rattle.ipcz_rule.specs.Steps.{post_part, look_part, hand_part}
 use Rattle.ipcz_rule.proofs.Handling.{deliver_hand}
 use Rattle.ipcz_fabric.specs.TableNames.{TableName}
 use Rattle.ipcz_fabric.specs.CellStates.{part_in, change_part}
-use Rattle.ipcz_fabric.specs.Cells.{AreSound, AreBelow, IsSeated, IsCell, held_slots, probed_slots, hand_slots}
+use Rattle.ipcz_fabric.specs.Cells.{AreSound, AreBelow, IsCell, held_slots, probed_slots, hand_slots}
 use Rattle.ipcz_fabric.specs.Outcomes.{turned_by}
 use Rattle.ipcz_fabric.specs.Parts.{handed_part, part_handed}
 use Rattle.ipcz_fabric.proofs.Onces.{below_split}
@@ -113,16 +113,16 @@ module _ (t : TableName) (n n' : Node) (hand : Option Message) (tos : List ℕ) 
         below = subst (AreBelow t.count) (sym is') (below_split t.count before after to (subst (AreBelow t.count) is was.below));
       }
 
-  pub handed_cell : (m1 m2 : Mine) (sender len : ℕ) (x : Message) → AreSound t.count t.size m2.0 → p.state.hand ≡ Some sender → p.message ≡ Some x → len ≡ length tos →
-      m1 ≡ (me.0, turned_by len me.1) → m2 ≡ (change_part (handed_part sender) m1.0, rest m1.1) → n' ≡ deliver n sender x → IsCell t n' None tos id' m2
-  handed_cell m1 m2 sender len x sound holds message many e1 e2 e =
-      let p' = hand_part sender x p in
-      let v' = change_part (hand_part sender x) me.0 in
-      let view2 : m2.0 ≡ v' = ap (λ (m : Mine). m.0) e2 ∙ (ap (λ (m : Mine). change_part (handed_part sender) m.0) e1 ∙ ap (λ (o : Option Message). change_part (part_handed sender o) me.0) message) in
+  pub handed_cell : (m1 m2 : Mine) (sender len : ℕ) (source : Option ℕ) (x : Message) → AreSound t.count t.size m2.0 → p.state.hand ≡ Some sender → p.message ≡ Some x → len ≡ length tos →
+      m1 ≡ (me.0, turned_by len me.1) → m2 ≡ (change_part (handed_part sender source) m1.0, rest m1.1) → n' ≡ deliver n sender x source → IsCell t n' None tos id' m2
+  handed_cell m1 m2 sender len source x sound holds message many e1 e2 e =
+      let p' = hand_part sender source x p in
+      let v' = change_part (hand_part sender source x) me.0 in
+      let view2 : m2.0 ≡ v' = ap (λ (m : Mine). m.0) e2 ∙ (ap (λ (m : Mine). change_part (handed_part sender source) m.0) e1 ∙ ap (λ (o : Option Message). change_part (part_handed sender source o) me.0) message) in
       let part : part_in m2.0 ≡ p' = ap part_in view2 in
       let P = probed_slots t.count p.node p.probed in
-      let empty = deliver_hand p.state sender x holds in
-      let state : p'.state ≡ n' = ap (λ (z : Node). deliver z sender x) was.seated.state ∙ sym e in
+      let empty = deliver_hand p.state sender x source holds in
+      let state : p'.state ≡ n' = ap (λ (z : Node). deliver z sender x source) was.seated.state ∙ sym e in
       let turned : m1.1 ≡ hand_slots t.count p.node p.state.hand ++ P = ap (λ (m : Mine). m.1) e1 ∙ (ap (turned_by len) was.slots ∙ turns_by len P (hand_slots t.count p.node p.state.hand) (many ∙ (ap length (sym was.probed) ∙ sym (probed_length t.count p.node p.probed)))) in
       let first : m1.1 ≡ (sender * t.count + p.node, None) ∷ P = turned ∙ ap (λ (h : Option ℕ). hand_slots t.count p.node h ++ P) holds in
       let slots : m2.1 ≡ P = ap (λ (m : Mine). m.1) e2 ∙ ap rest first in

@@ -1,8 +1,7 @@
 -- What a turn tells of an act that it has done.
 use Rattle.std.specs.Prelude.{◌≡◌, ◌≢◌, ◌<◌, ◌⊎◌, ℕ, Bool, true, false, ◌||◌, nat_eq, if◌then◌else◌, MatchBool, List, [], ◌∷◌, ◌++◌, Option, Some, None, Result, Ok, Err, IsOk, IsSomeAnd}
-use Rattle.std.proofs.Common.{ap, sym, subst, ◌∙◌, refl, inl, inr, arith, append_assoc, append-nil}
+use Rattle.std.proofs.Common.{ap, sym, subst, ◌∙◌, refl, inl, inr, arith, append-nil}
 use Rattle.std.proofs.lemmas.Bool.Decides.{nat_tests}
-use Rattle.ipcz_base.specs.declared.message.Message.{Message}
 use Rattle.ipcz_base.specs.declared.refusal.Refusal.{Refusal}
 use Rattle.ipcz_base.specs.declared.refusal.Refusal.TheVariants as refusals
 use Rattle.ipcz_base.specs.declared.end.End.{End}
@@ -17,18 +16,16 @@ use Rattle.ipcz_node.specs.declared.act.Act.{Act}
 use Rattle.ipcz_node.specs.declared.act.Act.TheVariants as acts
 use Rattle.ipcz_node.specs.declared.happened.Happened.{Happened}
 use Rattle.ipcz_node.specs.declared.happened.Happened.TheVariants as events
-use Rattle.ipcz_node.specs.Acts.{act_lacks_serials, act_grows, router_act_grows, stand_in}
-use Rattle.ipcz_node.specs.Events.{event_of, hand_event}
-use Rattle.ipcz_node.specs.Hands.{message_lacks_serials}
+use Rattle.ipcz_node.specs.Acts.{act_lacks_serials, act_grows, stand_in}
+use Rattle.ipcz_node.specs.Events.{event_of}
 use Rattle.ipcz_rule.specs.declared.view.Part.{Part}
-use Rattle.ipcz_rule.specs.Rule.{has_number, without_number}
-use Rattle.ipcz_rule.specs.Steps.{act_part, post_part, probe_part, look_part, hand_part}
+use Rattle.ipcz_rule.specs.Rule.{has_number}
+use Rattle.ipcz_rule.specs.Steps.{act_part, post_part, probe_part}
 use Rattle.ipcz_fabric.specs.TableNames.{TableName}
 use Rattle.ipcz_fabric.specs.CellStates.{CellState}
-use Rattle.ipcz_fabric.specs.Parts.{is_touch_act, handed_part, part_handed}
+use Rattle.ipcz_fabric.specs.Parts.{is_touch_act}
 use Rattle.ipcz_fabric.specs.Mails.{Probes, IsProbed, Looks, mail_word}
-use Rattle.ipcz_fabric.specs.Turns.{IsFirst, IsLast, Chooses}
-use Rattle.ipcz_fabric.specs.TurnEnds.{IsAnswered, IsAfter, IsEvent, IsDone, IsTaken, IsLost, IsRefused, NoSerials, NoMemory, LostIt, lacks_serials, may_grow, IsInside, Acts, EndsRaced, Turns}
+use Rattle.ipcz_fabric.specs.TurnEnds.{IsAnswered, IsDone, IsTaken, IsLost, IsRefused, NoSerials, NoMemory, LostIt, lacks_serials, IsSeenBefore, may_grow, Acts}
 
 abbrev Seen : Type 0
 Seen = List (ℕ × ℕ)
@@ -114,13 +111,21 @@ touch_acts t act old mid new event touch same kept is part seen =
     (touch_done t old.part new.part act event touch (part ∙ ap (act_part act answers.Plain) same) (is ∙ ap (λ (p : Part). event_of p.state act answers.Plain) same))
 
 -- it is refused before anything is done
-touch_lacks : (p : Part) (act : Act) → is_touch_act act ≡ true → lacks_serials p act ≡ act_lacks_serials p.state act
+touch_lacks : (p : Part) (act : Act) → is_touch_act act ≡ true → lacks_serials p act [] ≡ act_lacks_serials p.state act
 touch_lacks p (acts.Hand sender) e = cc
 touch_lacks p (acts.Look sender) e = refl
 touch_lacks p (acts.Post to) e = refl
 touch_lacks p acts.Idle e = refl
 touch_lacks p (acts.Close end) e = refl
 touch_lacks p (acts.Router serial act) e = refl
+
+touch_sees : (size : ℕ) (p : Part) (act : Act) → is_touch_act act ≡ true → IsSeenBefore size p act []
+touch_sees size p (acts.Hand sender) e = cc
+touch_sees size p (acts.Look sender) e = refl
+touch_sees size p (acts.Post to) e = refl
+touch_sees size p acts.Idle e = refl
+touch_sees size p (acts.Close end) e = refl
+touch_sees size p (acts.Router serial act) e = refl
 
 touch_grows : (act : Act) → is_touch_act act ≡ true → act_grows act ≡ true → may_grow act ≡ true
 touch_grows (acts.Hand sender) e g = refl
@@ -134,21 +139,21 @@ grown : (b : Bool) → (b ≡ false → false ≡ true) → b ≡ true
 grown true h = refl
 grown false h = h refl
 
-pub prepare_refused : (t : TableName) (act : Act) (old new : CellState) (why : Refusal) → lacks_serials old.part act ≡ act_lacks_serials old.part.state act → (act_grows act ≡ true → may_grow act ≡ true) → act ≡ stand_in act → new.part ≡ old.part → new.seen ≡ old.seen →
+pub prepare_refused : (t : TableName) (act : Act) (old new : CellState) (why : Refusal) → lacks_serials old.part act [] ≡ act_lacks_serials old.part.state act → IsSeenBefore t.size old.part act [] → (act_grows act ≡ true → may_grow act ≡ true) → act ≡ stand_in act → new.part ≡ old.part → new.seen ≡ old.seen →
     why ≡ (if act_lacks_serials old.part.state act then refusals.NumbersEnd else refusals.OutOfMemory) → (act_grows act ≡ false → false ≡ true) → Acts t act old (Err why) new
-prepare_refused t act old new why lacks may alone part seen is grows = record {
+prepare_refused t act old new why lacks none may alone part seen is grows = record {
   found = [];
   seen = seen ∙ sym (append-nil old.seen);
   outcome = (part, go (act_lacks_serials old.part.state act) refl);
 }
   where
-    go : (b : Bool) → act_lacks_serials old.part.state act ≡ b → IsRefused old.part act (IsLost t old.part act []) why []
-    go true e = NoSerials (is ∙ ap (λ (b : Bool). if b then refusals.NumbersEnd else refusals.OutOfMemory) e) (lacks ∙ e) refl
-    go false e = NoMemory (is ∙ ap (λ (b : Bool). if b then refusals.NumbersEnd else refusals.OutOfMemory) e) (lacks ∙ e) (may (grown (act_grows act) grows)) alone refl
+    go : (b : Bool) → act_lacks_serials old.part.state act ≡ b → IsRefused t.size old.part act (IsLost t old.part act []) why []
+    go true e = NoSerials (is ∙ ap (λ (b : Bool). if b then refusals.NumbersEnd else refusals.OutOfMemory) e) (lacks ∙ e) none
+    go false e = NoMemory (is ∙ ap (λ (b : Bool). if b then refusals.NumbersEnd else refusals.OutOfMemory) e) (lacks ∙ e) (may (grown (act_grows act) grows)) alone none
 
 pub touch_refused : (t : TableName) (act : Act) (old new : CellState) (why : Refusal) → is_touch_act act ≡ true → act ≡ stand_in act → new.part ≡ old.part → new.seen ≡ old.seen →
     why ≡ (if act_lacks_serials old.part.state act then refusals.NumbersEnd else refusals.OutOfMemory) → (act_grows act ≡ false → false ≡ true) → Acts t act old (Err why) new
-touch_refused t act old new why touch alone part seen is grows = prepare_refused t act old new why (touch_lacks old.part act touch) (touch_grows act touch) alone part seen is grows
+touch_refused t act old new why touch alone part seen is grows = prepare_refused t act old new why (touch_lacks old.part act touch) (touch_sees t.size old.part act touch) (touch_grows act touch) alone part seen is grows
 
 -- a begin that found no memory is an unlock
 pub begin_unlocks : (t : TableName) (serial : ℕ) (old mid new : CellState) (event : Happened) → mid.part ≡ old.part → mid.seen ≡ old.seen → Acts t (acts.Router serial router_acts.Unlock) mid (Ok event) new → Acts t (acts.Router serial router_acts.Begin) old (Ok event) new
@@ -172,7 +177,7 @@ pub after_same : (t : TableName) (act : Act) (old mid new : CellState) (answer :
 after_same t act old mid new answer same kept h = record {
   found = h.found;
   seen = h.seen ∙ ap (λ (l : Seen). l ++ h.found) kept;
-  outcome = subst (λ (p : Part). Rattle.std.specs.Prelude.MatchResult answer (λ event. IsTaken t p act event new.part h.found) (λ why. (new.part ≡ p) × IsRefused p act (IsLost t p act h.found) why h.found)) same h.outcome;
+  outcome = subst (λ (p : Part). Rattle.std.specs.Prelude.MatchResult answer (λ event. IsTaken t p act event new.part h.found) (λ why. (new.part ≡ p) × IsRefused t.size p act (IsLost t p act h.found) why h.found)) same h.outcome;
 }
 
 -- a wake, for which there was no room
@@ -180,14 +185,14 @@ pub wake_refused : (t : TableName) (serial : ℕ) (old new : CellState) (why : R
     why ≡ (if act_lacks_serials old.part.state (acts.Router serial router_acts.Wake) then refusals.NumbersEnd else refusals.OutOfMemory) → (act_grows (acts.Router serial router_acts.Wake) ≡ false → false ≡ true) →
     Acts t (acts.Router serial router_acts.Wake) old (Err why) new
 unfolding stand_in
-wake_refused t serial old new why part seen is grows = prepare_refused t (acts.Router serial router_acts.Wake) old new why refl (λ g. g) refl part seen is grows
+wake_refused t serial old new why part seen is grows = prepare_refused t (acts.Router serial router_acts.Wake) old new why refl refl (λ g. g) refl part seen is grows
 
 -- a begin that is refused wants serials
 pub begin_refused : (t : TableName) (serial : ℕ) (old new : CellState) (why : Refusal) → why ≢ refusals.OutOfMemory → new.part ≡ old.part → new.seen ≡ old.seen →
     why ≡ (if act_lacks_serials old.part.state (acts.Router serial router_acts.Begin) then refusals.NumbersEnd else refusals.OutOfMemory) → Acts t (acts.Router serial router_acts.Begin) old (Err why) new
 begin_refused t serial old new why not part seen is = record { found = []; seen = seen ∙ sym (append-nil old.seen); outcome = (part, go (act_lacks_serials old.part.state (acts.Router serial router_acts.Begin)) refl) }
   where
-    go : (b : Bool) → act_lacks_serials old.part.state (acts.Router serial router_acts.Begin) ≡ b → IsRefused old.part (acts.Router serial router_acts.Begin) (IsLost t old.part (acts.Router serial router_acts.Begin) []) why []
+    go : (b : Bool) → act_lacks_serials old.part.state (acts.Router serial router_acts.Begin) ≡ b → IsRefused t.size old.part (acts.Router serial router_acts.Begin) (IsLost t old.part (acts.Router serial router_acts.Begin) []) why []
     go true e = NoSerials (is ∙ ap (λ (b : Bool). if b then refusals.NumbersEnd else refusals.OutOfMemory) e) e refl
     go false e = absurd (not (is ∙ ap (λ (b : Bool). if b then refusals.NumbersEnd else refusals.OutOfMemory) e))
 

@@ -1,6 +1,6 @@
 -- A turn from its parts: the choice of an act, and the act.
 use Rattle.std.specs.Prelude.{◌≡◌, ◌≢◌, ◌<◌, ℕ, Bool, true, false, if◌then◌else◌, List, [], ◌∷◌, ◌++◌, Option, Some, None, Result, Ok, Err, MatchResult, OnOk, OnErr, IfOk, IfErr}
-use Rattle.std.proofs.Common.{ap, sym, subst, ◌∙◌, refl, inl, arith, append_assoc, append-nil}
+use Rattle.std.proofs.Common.{ap, sym, subst, ◌∙◌, refl, arith, append_assoc, append-nil}
 use Rattle.ipcz_base.specs.declared.message.Message.{Message}
 use Rattle.ipcz_base.specs.declared.refusal.Refusal.{Refusal}
 use Rattle.ipcz_base.specs.declared.refusal.Refusal.TheVariants as refusals
@@ -15,48 +15,49 @@ use Rattle.ipcz_node.specs.declared.happened.Happened.TheVariants as events
 use Rattle.ipcz_node.specs.Node.{Node, router_in}
 use Rattle.ipcz_node.specs.Acts.{commit, stand_in}
 use Rattle.ipcz_node.specs.RoomyNodes.{IsPossibleAct}
-use Rattle.ipcz_node.specs.Events.{event_of, event_at, router_event, word_event, hand_event, link_of}
+use Rattle.ipcz_node.specs.Events.{event_of, event_at, router_event, word_event, link_of}
 use Rattle.ipcz_node.specs.Hands.{message_lacks_serials}
 use Rattle.ipcz_rule.specs.declared.view.Part.{Part}
 use Rattle.ipcz_fabric.specs.TableNames.{TableName}
 use Rattle.ipcz_fabric.specs.CellStates.{CellState}
-use Rattle.ipcz_fabric.specs.Parts.{handed_part, part_handed}
+use Rattle.ipcz_rule.specs.Steps.{old_word}
 use Rattle.ipcz_fabric.specs.Claims.{Answered, Got as Claimed, Dry as WasDry, Lost as WasLost}
-use Rattle.ipcz_fabric.specs.Mails.{mail_word}
-use Rattle.ipcz_fabric.specs.Turns.{IsFirst, IsLast, Chooses}
-use Rattle.ipcz_fabric.specs.TurnEnds.{IsDone, IsTaken, IsLost, IsRefused, NoSerials, NoMemory, LostIt, hand_lacks_serials, IsInside, Acts, EndsRaced, Turns, Got, Dry}
+use Rattle.ipcz_fabric.specs.Mails.{mail_word, old_named, OldLoaded, source_found, Handles}
+use Rattle.ipcz_fabric.specs.Turns.{IsFirst, Chooses}
+use Rattle.ipcz_fabric.specs.TurnEnds.{IsTaken, IsLost, IsRefused, NoSerials, NoMemory, LostIt, hand_lacks_serials, IsInside, Acts, EndsRaced, Turns, Got, Dry}
 use Rattle.ipcz_fabric.proofs.TurnWords.{seen_two}
 use Rattle.ipcz_fabric.proofs.TurnActs.{acts_whole}
 
 abbrev Seen : Type 0
 Seen = List (ℕ × ℕ)
 
+-- what was loaded for the message in hand
+pub hand_loaded : (size : ℕ) (o : Option Message) (x : Message) (found : Seen) → o ≡ Some x → OldLoaded size (old_word x) found → OldLoaded size (old_named o) found
+hand_loaded size o x found e h = subst (λ (q : Option Message). OldLoaded size (old_named q) found) (sym e) h
+
 -- the message in hand is handled
-pub hand_acts : (t : TableName) (from : ℕ) (old new : CellState) (event : Happened) → new.part ≡ handed_part from old.part → (x : Message) × (old.part.message ≡ Some x) × (event ≡ hand_event old.part.state from x) →
-    new.seen ≡ old.seen → Acts t (acts.Hand from) old (Ok event) new
-hand_acts t sender old new event part e seen = acts_whole t (acts.Hand sender) old new event [] (seen ∙ sym (append-nil old.seen)) (record {
-  answer = answers.Plain;
-  answered = (refl, refl);
-  part = (e.0, e.1, part ∙ ap (λ (o : Option Message). part_handed sender o old.part) e.1);
-  event_is = e;
-})
-
-pub hand_refused : (t : TableName) (from : ℕ) (old new : CellState) (why : Refusal) →
-    (x : Message) × (old.part.message ≡ Some x) × (why ≡ (if message_lacks_serials old.part.state from x then refusals.NumbersEnd else refusals.OutOfMemory)) →
-    new.part ≡ old.part → new.seen ≡ old.seen → Acts t (acts.Hand from) old (Err why) new
+pub hand_takes : (t : TableName) (from : ℕ) (old new : CellState) (r : Result Happened Refusal) → Handles t.size from old r new → Acts t (acts.Hand from) old r new
 unfolding stand_in
-hand_refused t sender old new why e part seen = record { found = []; seen = seen ∙ sym (append-nil old.seen); outcome = (part, go (message_lacks_serials old.part.state sender e.0) refl) }
+hand_takes t sender old new (Ok event) h = acts_whole t (acts.Hand sender) old new event h.found h.seen (record {
+  answer = answers.Plain;
+  answered = (refl, hand_loaded t.size old.part.message h.message h.found h.in_hand h.loaded);
+  part = (h.message, h.in_hand, h.outcome.1);
+  event_is = (h.message, h.in_hand, h.outcome.0);
+})
+hand_takes t sender old new (Err why) h = record { found = h.found; seen = h.seen; outcome = (h.outcome.1, go (message_lacks_serials old.part.state sender h.message (source_found h.found)) refl) }
   where
-    go : (b : Bool) → message_lacks_serials old.part.state sender e.0 ≡ b → IsRefused old.part (acts.Hand sender) (IsLost t old.part (acts.Hand sender) []) why []
-    go true f = NoSerials (e.2 ∙ ap (λ (b : Bool). if b then refusals.NumbersEnd else refusals.OutOfMemory) f) (ap (hand_lacks_serials old.part.state sender) e.1 ∙ f) refl
-    go false f = NoMemory (e.2 ∙ ap (λ (b : Bool). if b then refusals.NumbersEnd else refusals.OutOfMemory) f) (ap (hand_lacks_serials old.part.state sender) e.1 ∙ f) refl refl refl
+    lacks : (b : Bool) → message_lacks_serials old.part.state sender h.message (source_found h.found) ≡ b → hand_lacks_serials old.part.state sender (source_found h.found) old.part.message ≡ b
+    lacks b f = ap (hand_lacks_serials old.part.state sender (source_found h.found)) h.in_hand ∙ f
 
-pub hand_takes : (t : TableName) (from : ℕ) (old new : CellState) (r : Result Happened Refusal) → OnOk r (new.part ≡ handed_part from old.part) →
-    IfOk r (λ event. (x : Message) × (old.part.message ≡ Some x) × (event ≡ hand_event old.part.state from x)) →
-    IfErr r (λ why. (x : Message) × (old.part.message ≡ Some x) × (why ≡ (if message_lacks_serials old.part.state from x then refusals.NumbersEnd else refusals.OutOfMemory))) →
-    OnErr r (new.part ≡ old.part) → new.seen ≡ old.seen → Acts t (acts.Hand from) old r new
-hand_takes t sender old new (Ok event) ok e why err seen = hand_acts t sender old new event ok e seen
-hand_takes t sender old new (Err w) ok e why err seen = hand_refused t sender old new w why err seen
+    why_is : (b : Bool) → message_lacks_serials old.part.state sender h.message (source_found h.found) ≡ b → why ≡ (if b then refusals.NumbersEnd else refusals.OutOfMemory)
+    why_is b f = h.outcome.0 ∙ ap (λ (b : Bool). if b then refusals.NumbersEnd else refusals.OutOfMemory) f
+
+    loaded : OldLoaded t.size (old_named old.part.message) h.found
+    loaded = hand_loaded t.size old.part.message h.message h.found h.in_hand h.loaded
+
+    go : (b : Bool) → message_lacks_serials old.part.state sender h.message (source_found h.found) ≡ b → IsRefused t.size old.part (acts.Hand sender) (IsLost t old.part (acts.Hand sender) h.found) why h.found
+    go true f = NoSerials (why_is true f) (lacks true f) loaded
+    go false f = NoMemory (why_is false f) (lacks false f) refl refl loaded
 
 -- nothing is done
 pub idle_acts : (t : TableName) (old : CellState) → Acts t acts.Idle old (Ok events.Idle) old
@@ -141,10 +142,10 @@ lost_ends t p loads found (acts.Close end) first lost = absurd lost
 lost_ends t p loads found (acts.Router serial act) first lost = record { before = loads; word = lost.0; loaded = lost.1; exchanged = lost.2; differ = lost.3; last = ap (λ (l : Seen). loads ++ l) lost.4 }
 lost_ends t p loads found acts.Idle first lost = absurd lost
 
-refused_by : (p : Part) (act : Act) (L M : Type 0) (why : Refusal) (seen : Seen) → (L → M) → IsRefused p act L why seen → IsRefused p act M why seen
-refused_by p act L M why seen f (NoSerials a b c) = NoSerials a b c
-refused_by p act L M why seen f (NoMemory a b c d e) = NoMemory a b c d e
-refused_by p act L M why seen f (LostIt a l) = LostIt a (f l)
+refused_by : (size : ℕ) (p : Part) (act : Act) (L M : Type 0) (why : Refusal) (seen : Seen) → (L → M) → IsRefused size p act L why seen → IsRefused size p act M why seen
+refused_by size p act L M why seen f (NoSerials a b c) = NoSerials a b c
+refused_by size p act L M why seen f (NoMemory a b c d e) = NoMemory a b c d e
+refused_by size p act L M why seen f (LostIt a l) = LostIt a (f l)
 
 -- the node that the first act is about is one of the table's
 pub inside_of : (t : TableName) (p : Part) (loads : Seen) (act : Act) → IsFirst t p loads act → IsInside t.count act
@@ -163,10 +164,10 @@ turn_done t act old mid new answer c h = record {
   found = h.found;
   first = c.first;
   seen = h.seen ∙ (ap (λ (l : Seen). l ++ h.found) c.looked.seen ∙ append_assoc old.seen c.found h.found);
-  outcome = go answer (subst (λ (p : Part). MatchResult answer (λ event. IsTaken t p act event new.part h.found) (λ why. (new.part ≡ p) × IsRefused p act (IsLost t p act h.found) why h.found)) c.looked.part h.outcome);
+  outcome = go answer (subst (λ (p : Part). MatchResult answer (λ event. IsTaken t p act event new.part h.found) (λ why. (new.part ≡ p) × IsRefused t.size p act (IsLost t p act h.found) why h.found)) c.looked.part h.outcome);
 }
   where
-    go : (r : Result Happened Refusal) → MatchResult r (λ event. IsTaken t old.part act event new.part h.found) (λ why. (new.part ≡ old.part) × IsRefused old.part act (IsLost t old.part act h.found) why h.found) →
-        MatchResult r (λ event. IsTaken t old.part act event new.part h.found) (λ why. (new.part ≡ old.part) × IsRefused old.part act (EndsRaced (c.found ++ h.found)) why h.found)
+    go : (r : Result Happened Refusal) → MatchResult r (λ event. IsTaken t old.part act event new.part h.found) (λ why. (new.part ≡ old.part) × IsRefused t.size old.part act (IsLost t old.part act h.found) why h.found) →
+        MatchResult r (λ event. IsTaken t old.part act event new.part h.found) (λ why. (new.part ≡ old.part) × IsRefused t.size old.part act (EndsRaced (c.found ++ h.found)) why h.found)
     go (Ok event) d = d
-    go (Err why) d = (d.0, refused_by old.part act (IsLost t old.part act h.found) (EndsRaced (c.found ++ h.found)) why h.found (lost_ends t old.part c.found h.found act c.first) d.1)
+    go (Err why) d = (d.0, refused_by t.size old.part act (IsLost t old.part act h.found) (EndsRaced (c.found ++ h.found)) why h.found (lost_ends t old.part c.found h.found act c.first) d.1)

@@ -1,36 +1,34 @@
 -- What a turn tells of an act on a link's word: its event, its answer and what was seen.
-use Rattle.std.specs.Prelude.{◌≡◌, ◌≢◌, ◌<◌, ◌+◌, ℕ, Bool, true, false, List, [], ◌∷◌, ◌++◌, Option, Some, None, option_map, Result, Ok, Err}
-use Rattle.std.proofs.Common.{ap, sym, subst, ◌∙◌, refl, inl, append_assoc}
+use Rattle.std.specs.Prelude.{◌≡◌, ℕ, List, [], ◌∷◌, ◌++◌, Option, Some, None, option_map, Ok, Err}
+use Rattle.std.proofs.Common.{ap, sym, ◌∙◌, refl, inl, append_assoc}
 use Rattle.ipcz_base.specs.declared.link_end.LinkEnd.{LinkEnd}
 use Rattle.ipcz_base.specs.declared.link_id.LinkId.{LinkId}
 use Rattle.ipcz_base.specs.declared.link_id.LinkId.TheVariants.{Central, Peripheral}
 use Rattle.ipcz_base.specs.declared.refusal.Refusal.{Refusal}
-use Rattle.ipcz_base.specs.declared.refusal.Refusal.TheVariants as refusals
 use Rattle.ipcz_base.specs.declared.side.Side.{Side}
-use Rattle.ipcz_word.specs.Layout.{IsWord, word_of_bits, bits_of, plan_bits}
-use Rattle.ipcz_word.specs.Word.{Word, Plan, Locks, Waits, Refuses, plan_of, word_by_plan}
+use Rattle.ipcz_word.specs.Layout.{word_of_bits, bits_of, plan_bits}
+use Rattle.ipcz_word.specs.Word.{Word, Plan, Locks, Waits, Refuses, plan_of, word_by_plan, lock, wait}
 use Rattle.ipcz_word.specs.declared.lock_plan.LockPlan.{LockPlan}
 use Rattle.ipcz_word.specs.declared.lock_plan.LockPlan.TheVariants as plans
 use Rattle.ipcz_base.specs.Links.{word_of as link_word}
 use Rattle.ipcz_router.specs.Router.{Router, primary_word}
 use Rattle.ipcz_router.specs.declared.act.Answer.{Answer}
-use Rattle.ipcz_router.specs.declared.act.Answer.TheVariants as answers
 use Rattle.ipcz_router.specs.declared.act.RouterAct.{RouterAct}
 use Rattle.ipcz_router.specs.declared.act.RouterAct.TheVariants as router_acts
 use Rattle.ipcz_node.specs.declared.act.Act.TheVariants as acts
 use Rattle.ipcz_node.specs.declared.happened.Happened.{Happened}
 use Rattle.ipcz_node.specs.declared.happened.Happened.TheVariants as events
-use Rattle.ipcz_node.specs.Node.{Node, router_in, word_at, word_side}
+use Rattle.ipcz_node.specs.Node.{Node, router_in, word_at, word_side, source_in}
 use Rattle.ipcz_node.specs.Events.{event_of, event_at, router_event, word_event, unlock_event, link_of}
 use Rattle.ipcz_world.proofs.code.WordNumbers.{spelled}
+use Rattle.ipcz_world.specs.Coding.{IsLinkNumber}
 use Rattle.ipcz_world.specs.WordAnswers.{word_answer, word_after, try_answer}
-use Rattle.ipcz_rule.specs.declared.view.Part.{Part}
+use Rattle.ipcz_rule.proofs.Known.{number_alone}
 use Rattle.ipcz_fabric.specs.TableNames.{TableName}
 use Rattle.ipcz_fabric.specs.CellStates.{CellState}
-use Rattle.ipcz_fabric.specs.Claims as counts
 use Rattle.ipcz_fabric.specs.Words.{ActsOnWord, LocksWord, lock_seen}
 use Rattle.ipcz_fabric.specs.declared.words.LockTry.{LockTry}
-use Rattle.ipcz_fabric.specs.TurnEnds.{try_event, IsWordAnswer, FoundWord, TriedWord, CountedWord, IsAnswered, IsDone, IsTaken, IsRefused, LostIt, Acts, Got, Dry}
+use Rattle.ipcz_fabric.specs.TurnEnds.{try_event, FoundWord, IsAnswered, LostIt, Acts}
 
 abbrev Loads : Type 0
 Loads = List (ℕ × ℕ)
@@ -76,30 +74,30 @@ seen_two l x y = append_assoc l (x ∷ []) (y ∷ [])
 
 -- what an act on a word that needs no luck is seen to be
 pub mark_event : (n : Node) (serial word : ℕ) (side : Side) (x : Word) → word_side n serial ≡ Some (word, side) →
-    events.Mark serial (Central word) (bits_of (word_after x side router_acts.Mark)) ≡ event_of n (acts.Router serial router_acts.Mark) (word_answer x side router_acts.Mark)
+    events.Mark serial (Central word) (bits_of (word_after x side None router_acts.Mark)) ≡ event_of n (acts.Router serial router_acts.Mark) (word_answer x side None router_acts.Mark)
 unfolding event_of event_at router_event word_event word_answer word_after
 mark_event n serial word side x named =
     let l = link_named n serial word side named in
-    sym (ap (λ (o : Option Router). event_at n serial o router_acts.Mark (word_answer x side router_acts.Mark)) l.there ∙ ap (λ (k : LinkId). events.Mark serial k (bits_of (word_after x side router_acts.Mark))) l.link)
+    sym (ap (λ (o : Option Router). event_at n serial o router_acts.Mark (word_answer x side None router_acts.Mark)) l.there ∙ ap (λ (k : LinkId). events.Mark serial k (bits_of (word_after x side None router_acts.Mark))) l.link)
 
 pub wake_event : (n : Node) (serial word : ℕ) (side : Side) (x : Word) → word_side n serial ≡ Some (word, side) →
-    events.Wake serial (Central word) (bits_of (word_after x side router_acts.Wake)) ≡ event_of n (acts.Router serial router_acts.Wake) (word_answer x side router_acts.Wake)
+    events.Wake serial (Central word) (bits_of (word_after x side None router_acts.Wake)) ≡ event_of n (acts.Router serial router_acts.Wake) (word_answer x side None router_acts.Wake)
 unfolding event_of event_at router_event word_event word_answer word_after
 wake_event n serial word side x named =
     let l = link_named n serial word side named in
-    sym (ap (λ (o : Option Router). event_at n serial o router_acts.Wake (word_answer x side router_acts.Wake)) l.there ∙ ap (λ (k : LinkId). events.Wake serial k (bits_of (word_after x side router_acts.Wake))) l.link)
+    sym (ap (λ (o : Option Router). event_at n serial o router_acts.Wake (word_answer x side None router_acts.Wake)) l.there ∙ ap (λ (k : LinkId). events.Wake serial k (bits_of (word_after x side None router_acts.Wake))) l.link)
 
 pub unlock_event_is : (n : Node) (serial word : ℕ) (side : Side) (x : Word) → word_side n serial ≡ Some (word, side) →
-    events.Unlock serial (Central word) (bits_of (word_after x side router_acts.Unlock)) ≡ event_of n (acts.Router serial router_acts.Unlock) (word_answer x side router_acts.Unlock)
+    events.Unlock serial (Central word) (bits_of (word_after x side None router_acts.Unlock)) ≡ event_of n (acts.Router serial router_acts.Unlock) (word_answer x side None router_acts.Unlock)
 unfolding event_of event_at router_event unlock_event word_answer word_after
 unlock_event_is n serial word side x named =
     let l = link_named n serial word side named in
-    sym (ap (λ (o : Option Router). event_at n serial o router_acts.Unlock (word_answer x side router_acts.Unlock)) l.there ∙ ap (λ (k : LinkId). events.Unlock serial k (bits_of (word_after x side router_acts.Unlock))) l.link)
+    sym (ap (λ (o : Option Router). event_at n serial o router_acts.Unlock (word_answer x side None router_acts.Unlock)) l.there ∙ ap (λ (k : LinkId). events.Unlock serial k (bits_of (word_after x side None router_acts.Unlock))) l.link)
 
 -- an act on a word is a turn's
 pub word_acts : (t : TableName) (serial : ℕ) (act : RouterAct) (old new : CellState) (after : ℕ) (event : Happened) →
     ((answer : Answer) (seen : Loads) → FoundWord old.part.state serial act answer seen → IsAnswered t old.part (acts.Router serial act) answer seen) → (h : ActsOnWord serial act old after new) →
-    event ≡ event_of old.part.state (acts.Router serial act) (word_answer (word_of_bits h.found) h.side act) → Acts t (acts.Router serial act) old (Ok event) new
+    event ≡ event_of old.part.state (acts.Router serial act) (word_answer (word_of_bits h.found) h.side None act) → Acts t (acts.Router serial act) old (Ok event) new
 word_acts t serial act old new after event fits h e = record {
   found = (h.word, h.found) ∷ [];
   seen = h.seen;
@@ -107,8 +105,8 @@ word_acts t serial act old new after event fits h e = record {
     taken = acts.Router serial act;
     which = inl refl;
     done = record {
-      answer = word_answer (word_of_bits h.found) h.side act;
-      answered = fits (word_answer (word_of_bits h.found) h.side act) ((h.word, h.found) ∷ []) (record {
+      answer = word_answer (word_of_bits h.found) h.side None act;
+      answered = fits (word_answer (word_of_bits h.found) h.side None act) ((h.word, h.found) ∷ []) (record {
         word = h.word;
         side = h.side;
         found = h.found;
@@ -138,19 +136,20 @@ unlock_acts t serial old new after link at h = word_acts t serial router_acts.Un
     ((λ j. events.Unlock serial (at h.word h.side h.named j) (h.after j)) ∙ unlock_event_is old.part.state serial h.word h.side (word_of_bits h.found) h.named)
 
 -- what a try for the lock is seen to be
-plan_event : (serial word found : ℕ) (x : Word) (side : Side) (p : Plan) → bits_of x ≡ found → try_event serial word found (plan_bits x side p) ≡ word_event serial (Central word) (try_answer x side p)
+plan_event : (serial word found : ℕ) (source : Option ℕ) (side : Side) (p : Plan) → IsLinkNumber found →
+    try_event serial word found (plan_bits found side source p) ≡ word_event serial (Central word) (try_answer (word_of_bits found) side source p)
 unfolding plan_bits word_event try_answer word_by_plan
-plan_event serial word found x side Locks e = refl
-plan_event serial word found x side Waits e = refl
-plan_event serial word found x side Refuses e = ap (events.Refused serial (Central word)) (sym e)
+plan_event serial word found source side Locks is = ap (events.Lock serial (Central word)) (number_alone found (lock (word_of_bits found) side source) is)
+plan_event serial word found source side Waits is = ap (events.Wait serial (Central word)) (number_alone found (wait (word_of_bits found) side) is)
+plan_event serial word found source side Refuses is = ap (events.Refused serial (Central word)) (sym (spelled (word_of_bits found) found refl is))
 
-lock_event : (n : Node) (serial word found : ℕ) (side : Side) → word_side n serial ≡ Some (word, side) → IsWord found →
-    try_event serial word found (plan_bits (word_of_bits found) side (plan_of (word_of_bits found) side)) ≡ event_of n (acts.Router serial router_acts.Lock) (word_answer (word_of_bits found) side router_acts.Lock)
+lock_event : (n : Node) (serial word found : ℕ) (source : Option ℕ) (side : Side) → word_side n serial ≡ Some (word, side) → IsLinkNumber found →
+    try_event serial word found (plan_bits found side source (plan_of (word_of_bits found) side)) ≡ event_of n (acts.Router serial router_acts.Lock) (word_answer (word_of_bits found) side source router_acts.Lock)
 unfolding event_of event_at router_event word_answer
-lock_event n serial word found side named is =
+lock_event n serial word found source side named is =
     let l = link_named n serial word side named in
-    let a = try_answer (word_of_bits found) side (plan_of (word_of_bits found) side) in
-    plan_event serial word found (word_of_bits found) side (plan_of (word_of_bits found) side) (spelled (word_of_bits found) found refl is) ∙
+    let a = try_answer (word_of_bits found) side source (plan_of (word_of_bits found) side) in
+    plan_event serial word found source side (plan_of (word_of_bits found) side) is ∙
     sym (ap (λ (o : Option Router). event_at n serial o router_acts.Lock a) l.there ∙ ap (λ (k : LinkId). word_event serial k a) l.link)
 
 seen_of_plan : (i n : ℕ) (plan : LockPlan) (l : Loads) → lock_seen i n plan l ≡ l ++ lock_seen i n plan []
@@ -169,7 +168,7 @@ lock_acts t serial old new try event h e =
         taken = acts.Router serial router_acts.Lock;
         which = inl refl;
         done = record {
-          answer = word_answer (word_of_bits h.loaded) h.side router_acts.Lock;
+          answer = word_answer (word_of_bits h.loaded) h.side (source_in old.part.state serial) router_acts.Lock;
           answered = record {
             word = h.word;
             side = h.side;
@@ -178,7 +177,7 @@ lock_acts t serial old new try event h e =
             seen_is = ap (λ (p : LockPlan). lock_seen h.word h.loaded p []) tried.0;
           };
           part = tried.1;
-          event_is = e ∙ ((λ j. try_event serial (told.0 j) (told.1 j) (tried.0 j)) ∙ lock_event old.part.state serial h.word h.loaded h.side h.named h.is_word);
+          event_is = e ∙ ((λ j. try_event serial (told.0 j) (told.1 j) (tried.0 j)) ∙ lock_event old.part.state serial h.word h.loaded (source_in old.part.state serial) h.side h.named h.is_word);
         };
       };
     }

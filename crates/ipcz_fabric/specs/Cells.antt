@@ -1,5 +1,5 @@
 -- What a cell keeps: its state is the node's state in its seat's view, and a message in a slot that it holds is that view's hand.
-use Rattle.std.specs.Prelude.{◌≡◌, ◌<◌, ◌+◌, ◌*◌, ℕ, suc, [], ◌∷◌, ◌++◌, Bool, true, false, cond, nat_eq, List, map, Option, Some, None, is_some}
+use Rattle.std.specs.Prelude.{◌≡◌, ◌<◌, ◌+◌, ◌*◌, ℕ, suc, [], ◌∷◌, ◌++◌, false, cond, nat_eq, List, Option, Some, None, is_some}
 use lib.ListN.{get_elem?}
 use mathlib.Core.Option.{some}
 use Rattle.atomic_table.specs.Seated.{TableId}

@@ -7,13 +7,13 @@ use Rattle.ipcz_base.specs.declared.refusal.Refusal.{Refusal}
 use Rattle.ipcz_base.specs.declared.refusal.Refusal.TheVariants.{NoWord, OutOfMemory, Raced}
 use Rattle.ipcz_base.specs.Ends.{end_at}
 use Rattle.ipcz_router.specs.declared.act.RouterAct.TheVariants as router_acts
-use Rattle.ipcz_word.specs.Layout.{IsWord}
+use Rattle.ipcz_world.specs.Coding.{IsLinkNumber}
 use Rattle.ipcz_node.specs.declared.act.Act.TheVariants as acts
 use Rattle.ipcz_node.specs.Node.{Node}
 use Rattle.ipcz_node.specs.Acts.{is_quiet}
 use Rattle.ipcz_node.specs.Calls.{serials_refusal}
 use Rattle.ipcz_node.specs.RoomyNodes.{IsPossibleAct}
-use Rattle.ipcz_rule.specs.Rule.{Mine, saw}
+use Rattle.ipcz_rule.specs.Rule.{saw}
 use Rattle.ipcz_rule.specs.Steps.{claimed_part, open_part}
 use Rattle.ipcz_fabric.specs.TableNames.{TableName}
 use Rattle.ipcz_fabric.specs.CellStates.{CellState, change_part}
@@ -27,7 +27,7 @@ count_loaded size m n m' = (n ≤ size) × loaded size m n m'
 
 -- a load of a link's word finds a link word
 abbrev pub word_loaded : ℕ → Tells
-word_loaded i m n m' = IsWord n × loaded i m n m'
+word_loaded i m n m' = IsLinkNumber n × loaded i m n m'
 
 -- an exchange of the claim count for the next, for an open
 abbrev pub open_claimed : ℕ → ℕ → Tells
@@ -40,7 +40,7 @@ opened i m n m' = (n ≡ 0) × (m' ≡ (change_part (open_part i) (saw i n m.0),
 -- what is read of the link word i: none from the loaded claim count on
 abbrev pub ReadsWord : ℕ → ℕ → CellState → Option ℕ → CellState → Type 0
 ReadsWord size i old answer new = (count : ℕ) × (count ≤ size) × MatchOption answer ((count ≤ i) × HasSeen size count old new)
-    (λ word. (i < count) × IsWord word × (new.part ≡ old.part) × (new.seen ≡ (old.seen ++ (size, count) ∷ []) ++ (i, word) ∷ []))
+    (λ word. (i < count) × IsLinkNumber word × (new.part ≡ old.part) × (new.seen ≡ (old.seen ++ (size, count) ∷ []) ++ (i, word) ∷ []))
 
 -- what an exchange of the claim count, which was found at c, answers and leaves
 abbrev pub ClaimsAt : ℕ → ℕ → CellState → Result ℕ Refusal → CellState → Type 0

@@ -1,21 +1,21 @@
 -- What each kind of step tells of its seat, which has had m and has m' now, where n was found.
-use Rattle.std.specs.Prelude.{◌≡◌, ◌<◌, ◌+◌, ◌*◌, ℕ, zero, suc, [], ◌∷◌, ◌++◌, Bool, true, false, ◌==◌, eqb, List, Option, Some, None, MatchBool}
+use Rattle.std.specs.Prelude.{◌≡◌, ℕ, zero, suc, ◌∷◌, Bool, true, eqb, List, Option, Some, None, MatchBool}
 use Rattle.atomic_table.specs.Table.{rest, turned}
 use Rattle.ipcz_base.specs.declared.side.Side.{Side}
 use Rattle.ipcz_base.specs.declared.message.Message.{Message}
-use Rattle.ipcz_router.specs.declared.act.Answer.{Answer}
 use Rattle.ipcz_router.specs.declared.act.RouterAct.{RouterAct}
-use Rattle.ipcz_router.specs.declared.act.RouterAct.TheVariants as router_acts
 use Rattle.ipcz_node.specs.declared.act.Act.TheVariants as acts
-use Rattle.ipcz_word.specs.Layout.{IsWord, word_of_bits}
-use Rattle.ipcz_word.specs.Word.{Word, Plan, Locks, Waits, Refuses, plan_of}
+use Rattle.ipcz_word.specs.Laws.{HasNode}
+use Rattle.ipcz_word.specs.Layout.{word_of_bits}
+use Rattle.ipcz_word.specs.Word.{plan_of}
+use Rattle.ipcz_world.specs.Coding.{IsLinkNumber}
 use Rattle.ipcz_world.specs.WordAnswers.{word_answer}
 use Rattle.ipcz_rule.specs.declared.view.View.{View}
 use Rattle.ipcz_rule.specs.declared.view.Part.{Part}
 use Rattle.ipcz_rule.specs.Rule.{Slot, Mine, saw}
 use Rattle.ipcz_rule.specs.Kinds.{is_refusal}
-use Rattle.ipcz_rule.specs.Steps.{act_part, probe_part, post_part, look_part, hand_part}
-use Rattle.ipcz_fabric.specs.CellStates.{part_in, change_part}
+use Rattle.ipcz_rule.specs.Steps.{act_part, probe_part, post_part, look_part}
+use Rattle.ipcz_fabric.specs.CellStates.{change_part}
 use Rattle.ipcz_fabric.specs.Parts.{handed_part}
 
 -- what a step tells
@@ -50,17 +50,23 @@ posted to m n m' = m' ≡ (change_part (post_part to) m.0, rest m.1)
 abbrev pub looked : ℕ → ℕ → ℕ → Tells
 looked i k from m n m' = MatchBool (eqb n 1) ((x : Message) × (m' ≡ (change_part (look_part from x) (saw i n m.0), (k, Some x) ∷ m.1))) (m' ≡ (saw i n m.0, m.1))
 
--- a store 0 at the mailbox whose message is in hand
-abbrev pub handed : ℕ → Tells
-handed from m n m' = m' ≡ (change_part (handed_part from) m.0, rest m.1)
+-- a load of the old link's word i before an AcceptBypass from a node is handled: it is the word of a link, and names this node
+abbrev pub sourced : ℕ → ℕ → Tells
+sourced i from m n m' = IsLinkNumber n × ((word_of_bits n).source ≡ Some from) × (m' ≡ (saw i n m.0, m.1))
 
--- the view after an act of a router on the link word i, which was found at n
-abbrev pub act_view : ℕ → ℕ → Side → RouterAct → ℕ → View → View
-act_view i serial side act n v = change_part (act_part (acts.Router serial act) (word_answer (word_of_bits n) side act)) (saw i n v)
+-- a store 0 at the mailbox whose message is in hand, for which this source is known
+abbrev pub handed : ℕ → Option ℕ → Tells
+handed from source m n m' = m' ≡ (change_part (handed_part from source) m.0, rest m.1)
+
+-- the view after an act of a router on the link word i, which was found at n; a lock names this source
+abbrev pub act_view : ℕ → ℕ → Side → Option ℕ → RouterAct → ℕ → View → View
+act_view i serial side source act n v =
+    change_part (act_part (acts.Router serial act) (word_answer (word_of_bits n) side source act)) (saw i n v)
 
 -- a step on the link word i that is an act where the test holds of what is found, and else a load
-abbrev pub worded : ℕ → ℕ → Side → RouterAct → (ℕ → Bool) → Tells
-worded i serial side act hit m n m' = IsWord n × MatchBool (hit n) (m' ≡ (act_view i serial side act n m.0, m.1)) (m' ≡ (saw i n m.0, m.1))
+abbrev pub worded : ℕ → ℕ → Side → Option ℕ → RouterAct → (ℕ → Bool) → Tells
+worded i serial side source act hit m n m' =
+    IsLinkNumber n × HasNode source × MatchBool (hit n) (m' ≡ (act_view i serial side source act n m.0, m.1)) (m' ≡ (saw i n m.0, m.1))
 
 -- whether a side's try for the lock of a word is refused
 abbrev pub is_refused_at : Side → ℕ → Bool

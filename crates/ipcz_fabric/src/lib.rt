@@ -6,6 +6,7 @@ mod cell;
 mod claims;
 mod ending;
 mod fabric;
+mod holds;
 mod hub;
 mod mail;
 mod making;

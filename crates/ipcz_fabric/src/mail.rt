@@ -5,22 +5,23 @@ ghost use Rattle.ipcz_node.specs.Acts.{commit, has_mail_for, post_of};
 ghost use Rattle.ipcz_node.specs.Events.{hand_event};
 ghost use Rattle.ipcz_node.specs.Hands.{deliver, message_lacks_serials};
 ghost use Rattle.ipcz_rule.specs.Rule.{has_number, saw};
-ghost use Rattle.ipcz_rule.specs.Steps.{probe_part, post_part, look_part, hand_part};
+ghost use Rattle.ipcz_rule.specs.Steps.{probe_part, post_part, look_part, old_word, hand_part};
 ghost use Rattle.ipcz_base.specs.declared.message.Message.{Message as MessageData};
 ghost use Rattle.ipcz_fabric.specs.CellStates.{part_in, change_part};
 ghost use Rattle.ipcz_fabric.specs.Parts.{handed_part};
 ghost use Rattle.ipcz_fabric.specs.Cells.{AreSound, IsSeated};
-ghost use Rattle.ipcz_fabric.specs.Mails.{slot_of, mail_word, Probes, Looks};
-ghost use Rattle.ipcz_fabric.specs.Outcomes.{IsPicked, probed, posted, looked, handed, turned_by};
+ghost use Rattle.ipcz_fabric.specs.Mails.{slot_of, mail_word, old_named, IsKnown, Probes, Looks, LoadsSource, Handles};
+ghost use Rattle.ipcz_fabric.specs.Outcomes.{IsPicked, probed, posted, looked, sourced, handed, turned_by};
 
 use crate::cell::NodeCell;
 use crate::fabric::{Fabric, FabricName};
-use crate::plays::{Outcome, exchange_step, store_step};
+use crate::plays::{Outcome, exchange_step, load_step, store_step};
 use atomic_table::Seat;
 use ipcz_base::{Message, Refusal};
 use ipcz_node::{Act, Happened, NodeState};
 use ipcz_router::act::Answer;
 use ipcz_rule::View;
+use ipcz_word::source;
 use std::marker::Brand;
 use std::mem;
 
@@ -132,26 +133,66 @@ fn look_here<F: FabricName, X: Outcome>(
     exchange_step::<F, X>(seat, fabric, word, 1, 2)
 }
 
-// A store 0 at the mailbox whose message is in hand. X is what it tells.
+// The word of the old link that the message in hand names, where it is an AcceptBypass.
+fn old_word(message: &Option<Message>) -> Option<u32>
+    ensures { result ≡ old_named message.now }
+{
+    match message {
+        Some(Message::AcceptBypass { old, .. }) => Some(*old),
+        Some(
+            Message::Item { .. }
+            | Message::BypassPeer { .. }
+            | Message::StopProxying { .. }
+            | Message::ProxyWillStop { .. }
+            | Message::Flush { .. },
+        )
+        | None => None,
+    }
+}
+
+// A load of the old link's word before an AcceptBypass in hand is handled. X is what it tells.
+fn source_here<F: FabricName, X: Outcome>(
+    seat: &mut Seat<Option<Message>, View>,
+    fabric: &Fabric<F>,
+    from: u8,
+    old: u32,
+) -> u64
+    requires picked { IsPicked X.tells (sourced old from) }
+    requires own { seat.old.table_id ≡ F.table.id }
+    requires whole { seat.old.me.0.parts ≡ part_in seat.old.me.0 ∷ [] }
+    requires hand { (part_in seat.old.me.0).state.hand ≡ Some from }
+    requires message { (x : MessageData) × ((part_in seat.old.me.0).message ≡ Some x) × (old_word x ≡ Some old) }
+    requires inside { old < F.table.size }
+    ensures table { seat.new.table_id ≡ seat.old.table_id }
+    ensures done { sourced old from seat.old.me result seat.new.me }
+    ensures sound { AreSound F.table.count F.table.size seat.new.me.0 }
+{
+    let (_nodes, _from) = (fabric.nodes, from);
+    load_step::<F, X>(seat, fabric, old as usize)
+}
+
+// A store 0 at the mailbox whose message is in hand, for which the source is known. X is what it tells.
 fn hand_here<F: FabricName, X: Outcome>(
     node: u8,
     seat: &mut Seat<Option<Message>, View>,
     fabric: &Fabric<F>,
     from: u8,
+    source: Option<u8>,
 )
-    requires picked { IsPicked X.tells (handed from) }
+    requires picked { IsPicked X.tells (handed from source) }
     requires own { seat.old.table_id ≡ F.table.id }
     requires whole { seat.old.me.0.parts ≡ part_in seat.old.me.0 ∷ [] }
     requires node { ((part_in seat.old.me.0).node ≡ node) × (node < F.table.count) }
     requires from { from < F.table.count }
     requires hand { (part_in seat.old.me.0).state.hand ≡ Some from }
     requires message { (x : MessageData) × ((part_in seat.old.me.0).message ≡ Some x) ×
-        (message_lacks_serials (part_in seat.old.me.0).state from x ≡ false) }
+        (message_lacks_serials (part_in seat.old.me.0).state from x source ≡ false) × IsKnown F.table.size from x source }
     requires slot { seat.old.me.1 ≡ (slot_of F.table from node, None) ∷ rest seat.old.me.1 }
     ensures table { seat.new.table_id ≡ seat.old.table_id }
-    ensures done { seat.new.me ≡ (change_part (handed_part from) seat.old.me.0, rest seat.old.me.1) }
+    ensures done { seat.new.me ≡ (change_part (handed_part from source) seat.old.me.0, rest seat.old.me.1) }
     ensures sound { AreSound F.table.count F.table.size seat.new.me.0 }
 {
+    let _source = source;
     let slot = slot_of(fabric, from, node);
     let word = word_of(fabric, slot);
     store_step::<F, X>(seat, fabric, word, 0);
@@ -215,14 +256,37 @@ impl<F: FabricName> NodeCell<F> {
         true
     }
 
-    /// Handles the message in hand. A refused one stays in hand. It answers `NumbersEnd` where the message fits and would make more routers
-    /// than serials are left for, and otherwise `OutOfMemory`.
-    pub fn mail_handle(&mut self, fabric: &Fabric<F>, from: u8) -> Result<Happened, Refusal>
+    // Loads the word of the old link that the message in hand names, where it is an AcceptBypass, and tells the source. Another message
+    // has none, and neither has an AcceptBypass whose old link has no word of the table: then nothing is loaded. By the rule of the table
+    // there is no such AcceptBypass.
+    fn load_source(&mut self, fabric: &Fabric<F>, from: u8) -> Option<u8>
+        requires { self.old.part.state.hand ≡ Some from }
+        ensures { LoadsSource F.table.size from self.old result self.new }
+    {
+        let Some(old) = old_word(&self.message) else {
+            return None;
+        };
+        if old >= fabric.words {
+            return None;
+        }
+        let found = source_here::<F, Brand>(&mut self.seat, fabric, from, old);
+        source(found)
+    }
+
+    // Handles the message in hand, for which the source is known.
+    fn handle(
+        &mut self,
+        fabric: &Fabric<F>,
+        from: u8,
+        source: Option<u8>,
+    ) -> Result<Happened, Refusal>
         requires hand { self.old.part.state.hand ≡ Some from }
-        ensures ok { OnOk result (self.new.part ≡ handed_part from self.old.part) }
-        ensures event { IfOk result (λ h. (x : MessageData) × (self.old.part.message ≡ Some x) × (h ≡ hand_event self.old.part.state from x)) }
+        requires known { (x : MessageData) → self.old.part.message ≡ Some x → IsKnown F.table.size from x source }
+        ensures ok { OnOk result (self.new.part ≡ handed_part from source self.old.part) }
+        ensures event { IfOk result
+            (λ h. (x : MessageData) × (self.old.part.message ≡ Some x) × (h ≡ hand_event self.old.part.state from x source)) }
         ensures why { IfErr result (λ e. (x : MessageData) × (self.old.part.message ≡ Some x) ×
-            (e ≡ (if message_lacks_serials self.old.part.state from x then Refusal.NumbersEnd else Refusal.OutOfMemory))) }
+            (e ≡ (if message_lacks_serials self.old.part.state from x source then Refusal.NumbersEnd else Refusal.OutOfMemory))) }
         ensures err { OnErr result (self.new.part ≡ self.old.part) }
         ensures seen { self.new.seen ≡ self.old.seen }
     {
@@ -230,10 +294,10 @@ impl<F: FabricName> NodeCell<F> {
         let Some(message) = mem::replace(&mut self.message, None) else {
             unreachable!()
         };
-        match self.state.deliver(from, message) {
+        match self.state.deliver(from, message, source) {
             Ok(event) => {
                 turn_over(&mut self.seat, self.probed.len());
-                hand_here::<F, Brand>(node, &mut self.seat, fabric, from);
+                hand_here::<F, Brand>(node, &mut self.seat, fabric, from, source);
                 Ok(event)
             }
             Err((why, message)) => {
@@ -241,5 +305,16 @@ impl<F: FabricName> NodeCell<F> {
                 Err(why)
             }
         }
+    }
+
+    /// Handles the message in hand. An AcceptBypass is taken only where the word of the old link names its sender as the source: one load
+    /// of that word tells it. A refused message stays in hand. It answers `NumbersEnd` where the message fits and would make more routers
+    /// than serials are left for, and otherwise `OutOfMemory`.
+    pub fn mail_handle(&mut self, fabric: &Fabric<F>, from: u8) -> Result<Happened, Refusal>
+        requires { self.old.part.state.hand ≡ Some from }
+        ensures { Handles F.table.size from self.old result self.new }
+    {
+        let source = self.load_source(fabric, from);
+        self.handle(fabric, from, source)
     }
 }

@@ -1,6 +1,6 @@
 //! The claim count, the link words and the opens of a cell.
 ghost use Rattle.std.specs.Prelude.{◌≡◌, ◌<◌, ◌≤◌, ◌^◌, ℕ, true, is_some, None, OnOk, IfOk, IfErr, unwrap_or};
-ghost use Rattle.ipcz_word.specs.Layout.{IsWord};
+ghost use Rattle.ipcz_world.specs.Coding.{IsLinkNumber};
 ghost use Rattle.ipcz_node.specs.Calls.{serials_refusal};
 ghost use Rattle.ipcz_node.specs.RoomyNodes.{CanOpen};
 ghost use Rattle.ipcz_fabric.specs.CellStates.{roomy};
@@ -39,7 +39,7 @@ impl<F: FabricName> NodeCell<F> {
     fn load_word(&mut self, fabric: &Fabric<F>, i: u32) -> u64
         requires { i < F.table.size }
         ensures seen { HasSeen i result self.old self.new }
-        ensures word { IsWord result }
+        ensures word { IsLinkNumber result }
     {
         let _words = fabric.words;
         load_step::<F, Brand>(&mut self.seat, fabric, i as usize)

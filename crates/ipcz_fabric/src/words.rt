@@ -1,10 +1,10 @@
 //! The link words of a cell.
 ghost use Rattle.std.specs.Prelude.{◌≡◌, ◌≢◌, ◌<◌, ◌-◌, ℕ, true, false, [], ◌∷◌, Some, None};
-ghost use Rattle.ipcz_word.specs.Layout.{IsWord, word_of_bits, bits_of, stable_bit, waiting_bit, locked_bit};
+ghost use Rattle.ipcz_word.specs.Layout.{word_of_bits, bits_of, stable_bit, waiting_bit, locked_bit};
 ghost use Rattle.ipcz_base.specs.Sides.{opposite};
 ghost use Rattle.ipcz_node.specs.RoomyNodes.{IsPossibleAct, IsReadyFor};
 ghost use Rattle.ipcz_node.specs.Acts.{act_lacks_serials, act_grows, commit};
-ghost use Rattle.ipcz_node.specs.Node.{word_side};
+ghost use Rattle.ipcz_node.specs.Node.{word_side, source_in};
 ghost use Rattle.ipcz_router.specs.ActEffects.{IsAnswerOf};
 ghost use Rattle.ipcz_rule.specs.Steps.{is_on_word};
 ghost use Rattle.ipcz_world.specs.WordAnswers.{word_after};
@@ -26,48 +26,52 @@ use ipcz_word::{LockPlan, try_lock};
 use ipcz_world::answer_act;
 use std::marker::Brand;
 
-// A load of a link's word by a router that wants its lock. X is what it tells.
+// A load of a link's word by a router that wants its lock, which would name the source. X is what it tells.
 fn status_here<F: FabricName, X: Outcome>(
     seat: &mut Seat<Option<Message>, View>,
     fabric: &Fabric<F>,
     i: u32,
     serial: u64,
     side: Side,
+    source: Option<u8>,
 ) -> u64
-    requires picked { IsPicked X.tells (worded i serial side RouterAct.Lock (is_refused_at side)) }
+    requires picked { IsPicked X.tells (worded i serial side source RouterAct.Lock (is_refused_at side)) }
     requires own { seat.old.table_id ≡ F.table.id }
     requires whole { seat.old.me.0.parts ≡ part_in seat.old.me.0 ∷ [] }
     requires can { CanWord (part_in seat.old.me.0).state serial side RouterAct.Lock i }
+    requires named { source ≡ source_in (part_in seat.old.me.0).state serial }
     requires inside { i < F.table.size }
     ensures table { seat.new.table_id ≡ seat.old.table_id }
-    ensures done { worded i serial side RouterAct.Lock (is_refused_at side) seat.old.me result seat.new.me }
+    ensures done { worded i serial side source RouterAct.Lock (is_refused_at side) seat.old.me result seat.new.me }
     ensures sound { AreSound F.table.count F.table.size seat.new.me.0 }
 {
-    let _nodes = fabric.nodes;
+    let (_nodes, _source) = (fabric.nodes, source);
     load_step::<F, X>(seat, fabric, i as usize)
 }
 
-// An exchange of a link's word for the word after a try for its lock. X is what it tells.
+// An exchange of a link's word for the word after a try for its lock, which names the source. X is what it tells.
 fn lock_here<F: FabricName, X: Outcome>(
     seat: &mut Seat<Option<Message>, View>,
     fabric: &Fabric<F>,
     i: u32,
     serial: u64,
     side: Side,
+    source: Option<u8>,
     found: u64,
     new: u64,
 ) -> u64
-    requires picked { IsPicked X.tells (worded i serial side RouterAct.Lock (λ n. eqb n found)) }
+    requires picked { IsPicked X.tells (worded i serial side source RouterAct.Lock (λ n. eqb n found)) }
     requires own { seat.old.table_id ≡ F.table.id }
     requires whole { seat.old.me.0.parts ≡ part_in seat.old.me.0 ∷ [] }
     requires can { CanWord (part_in seat.old.me.0).state serial side RouterAct.Lock i }
+    requires named { source ≡ source_in (part_in seat.old.me.0).state serial }
     requires inside { i < F.table.size }
-    requires new { bits_of (word_after (word_of_bits found) side RouterAct.Lock) ≡ new }
+    requires new { bits_of (word_after (word_of_bits found) side source RouterAct.Lock) ≡ new }
     ensures table { seat.new.table_id ≡ seat.old.table_id }
-    ensures done { worded i serial side RouterAct.Lock (λ n. eqb n found) seat.old.me result seat.new.me }
+    ensures done { worded i serial side source RouterAct.Lock (λ n. eqb n found) seat.old.me result seat.new.me }
     ensures sound { AreSound F.table.count F.table.size seat.new.me.0 }
 {
-    let _nodes = fabric.nodes;
+    let (_nodes, _source) = (fabric.nodes, source);
     exchange_step::<F, X>(seat, fabric, i as usize, found, new)
 }
 
@@ -79,13 +83,13 @@ fn mark_here<F: FabricName, X: Outcome>(
     serial: u64,
     side: Side,
 ) -> u64
-    requires picked { IsPicked X.tells (worded i serial side RouterAct.Mark always) }
+    requires picked { IsPicked X.tells (worded i serial side None RouterAct.Mark always) }
     requires own { seat.old.table_id ≡ F.table.id }
     requires whole { seat.old.me.0.parts ≡ part_in seat.old.me.0 ∷ [] }
     requires can { CanWord (part_in seat.old.me.0).state serial side RouterAct.Mark i }
     requires inside { i < F.table.size }
     ensures table { seat.new.table_id ≡ seat.old.table_id }
-    ensures done { worded i serial side RouterAct.Mark always seat.old.me result seat.new.me }
+    ensures done { worded i serial side None RouterAct.Mark always seat.old.me result seat.new.me }
     ensures sound { AreSound F.table.count F.table.size seat.new.me.0 }
 {
     let _nodes = fabric.nodes;
@@ -93,7 +97,7 @@ fn mark_here<F: FabricName, X: Outcome>(
     set_step::<F, X>(seat, fabric, i as usize, bit)
 }
 
-// Clears the bit that says that the side holds the lock. X is what it tells.
+// Clears the bit that says that the side holds the lock, and the bits of the source. X is what it tells.
 fn unlock_here<F: FabricName, X: Outcome>(
     seat: &mut Seat<Option<Message>, View>,
     fabric: &Fabric<F>,
@@ -101,13 +105,13 @@ fn unlock_here<F: FabricName, X: Outcome>(
     serial: u64,
     side: Side,
 ) -> u64
-    requires picked { IsPicked X.tells (worded i serial side RouterAct.Unlock always) }
+    requires picked { IsPicked X.tells (worded i serial side None RouterAct.Unlock always) }
     requires own { seat.old.table_id ≡ F.table.id }
     requires whole { seat.old.me.0.parts ≡ part_in seat.old.me.0 ∷ [] }
     requires can { CanWord (part_in seat.old.me.0).state serial side RouterAct.Unlock i }
     requires inside { i < F.table.size }
     ensures table { seat.new.table_id ≡ seat.old.table_id }
-    ensures done { worded i serial side RouterAct.Unlock always seat.old.me result seat.new.me }
+    ensures done { worded i serial side None RouterAct.Unlock always seat.old.me result seat.new.me }
     ensures sound { AreSound F.table.count F.table.size seat.new.me.0 }
 {
     let _nodes = fabric.nodes;
@@ -123,13 +127,13 @@ fn wake_here<F: FabricName, X: Outcome>(
     serial: u64,
     side: Side,
 ) -> u64
-    requires picked { IsPicked X.tells (worded i serial side RouterAct.Wake always) }
+    requires picked { IsPicked X.tells (worded i serial side None RouterAct.Wake always) }
     requires own { seat.old.table_id ≡ F.table.id }
     requires whole { seat.old.me.0.parts ≡ part_in seat.old.me.0 ∷ [] }
     requires can { CanWord (part_in seat.old.me.0).state serial side RouterAct.Wake i }
     requires inside { i < F.table.size }
     ensures table { seat.new.table_id ≡ seat.old.table_id }
-    ensures done { worded i serial side RouterAct.Wake always seat.old.me result seat.new.me }
+    ensures done { worded i serial side None RouterAct.Wake always seat.old.me result seat.new.me }
     ensures sound { AreSound F.table.count F.table.size seat.new.me.0 }
 {
     let _nodes = fabric.nodes;
@@ -171,13 +175,13 @@ fn stable_bit(side: Side) -> u64
     }
 }
 
-// All bits but the one that says that the side holds the lock.
+// All bits but the one that says that the side holds the lock, and bits 8 to 15, where the source stands.
 fn unlock_mask(side: Side) -> u64
-    ensures { result ≡ 18446744073709551615 - locked_bit side }
+    ensures { result ≡ 18446744073709486335 - locked_bit side }
 {
     match side {
-        Side::A => 18446744073709551599,
-        Side::B => 18446744073709551583,
+        Side::A => 18446744073709486319,
+        Side::B => 18446744073709486303,
     }
 }
 
@@ -229,15 +233,17 @@ pub(crate) struct LockTry {
 }
 
 impl<F: FabricName> NodeCell<F> {
-    // Tries for the lock of the word of a router's outward primary link, and tells which word that is and what the load found.
+    // Tries for the lock of the word of a router's outward primary link, and tells which word that is and what the load found. The lock
+    // names the node inward of the router.
     pub(crate) fn lock_word(&mut self, fabric: &Fabric<F>, serial: u64) -> Result<LockTry, Refusal>
         requires { IsPossibleAct self.old.part.state (Act.Router serial RouterAct.Lock) }
         ensures { LocksWord serial self.old result self.new }
     {
         let (word, side) = word_here(&mut self.state, serial, RouterAct::Lock);
-        let found = status_here::<F, Brand>(&mut self.seat, fabric, word, serial, side);
-        let answered = answer_act(found, side, RouterAct::Lock);
-        let plan = try_lock(found, side);
+        let source = self.state.source_of(serial);
+        let found = status_here::<F, Brand>(&mut self.seat, fabric, word, serial, side, source);
+        let answered = answer_act(found, side, source, RouterAct::Lock);
+        let plan = try_lock(found, side, source);
         let refused = is_refused(plan);
         if refused {
             commit_word(&mut self.state, serial, RouterAct::Lock, answered.answer);
@@ -249,6 +255,7 @@ impl<F: FabricName> NodeCell<F> {
             word,
             serial,
             side,
+            source,
             found,
             answered.word,
         );
@@ -260,8 +267,8 @@ impl<F: FabricName> NodeCell<F> {
     }
 
     /// Tries for the lock of the word of a router's outward primary link: one load, and one exchange unless the load found that the lock is
-    /// refused. It answers `Raced` only where the exchange found another word than the load; then nothing but what was seen has changed. It
-    /// takes no memory.
+    /// refused. The lock names the node inward of the router, from which alone its AcceptBypass is taken then. It answers `Raced` only
+    /// where the exchange found another word than the load; then nothing but what was seen has changed. It takes no memory.
     pub fn word_try_lock(&mut self, fabric: &Fabric<F>, serial: u64) -> Result<LockPlan, Refusal>
         requires { IsPossibleAct self.old.part.state (Act.Router serial RouterAct.Lock) }
         ensures { TriesLock serial self.old result self.new }
@@ -277,19 +284,20 @@ impl<F: FabricName> NodeCell<F> {
     {
         let (i, side) = word_here(&mut self.state, serial, RouterAct::Mark);
         let found = mark_here::<F, Brand>(&mut self.seat, fabric, i, serial, side);
-        let answered = answer_act(found, side, RouterAct::Mark);
+        let answered = answer_act(found, side, None, RouterAct::Mark);
         commit_word(&mut self.state, serial, RouterAct::Mark, answered.answer);
         answered.word
     }
 
-    /// Gives back the lock of the word of a router's outward primary link, and answers the word after. It takes no memory.
+    /// Gives back the lock of the word of a router's outward primary link, which then names no source, and answers the word after. It takes
+    /// no memory.
     pub fn word_unlock(&mut self, fabric: &Fabric<F>, serial: u64) -> u64
         requires { IsPossibleAct self.old.part.state (Act.Router serial RouterAct.Unlock) }
         ensures { ActsOnWord serial RouterAct.Unlock self.old result self.new }
     {
         let (i, side) = word_here(&mut self.state, serial, RouterAct::Unlock);
         let found = unlock_here::<F, Brand>(&mut self.seat, fabric, i, serial, side);
-        let answered = answer_act(found, side, RouterAct::Unlock);
+        let answered = answer_act(found, side, None, RouterAct::Unlock);
         commit_word(&mut self.state, serial, RouterAct::Unlock, answered.answer);
         answered.word
     }
@@ -304,7 +312,7 @@ impl<F: FabricName> NodeCell<F> {
     {
         let (i, side) = word_named(&self.state, serial, RouterAct::Wake);
         let found = wake_here::<F, Brand>(&mut self.seat, fabric, i, serial, side);
-        let answered = answer_act(found, side, RouterAct::Wake);
+        let answered = answer_act(found, side, None, RouterAct::Wake);
         commit_word(&mut self.state, serial, RouterAct::Wake, answered.answer);
         answered.word
     }

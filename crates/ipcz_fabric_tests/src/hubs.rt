@@ -9,7 +9,7 @@ use std::marker::Brand;
 use std::sync::Wait;
 use std::sync::atomic::{AtomicU64, Ordering};
 use std::test::Fail;
-use std::thread::{Threads, join};
+use std::thread::{Threads, join, yield_now};
 
 const TRIES: u64 = 10_000_000;
 
@@ -119,6 +119,7 @@ struct Until<'a> {
 
 impl<'a> Gate for Until<'a> {
     fn pass(&mut self, _node: u8, _turns: u64) -> bool {
+        yield_now();
         self.done.load(Ordering::SeqCst) == 0
     }
 }
@@ -157,26 +158,31 @@ fn gets<F: FabricName, R: Wait>(
     Some(got.n == n && got.bytes.as_slice() == text.as_bytes())
 }
 
-// Puts the numbers in order, and gets as many in order.
-fn exchange<F: FabricName, R: Wait>(rt: &R, hub: &Hub<F>, alloc: Global, at: &Portal<F>) -> bool {
-    let mut put = 0u64;
-    let mut got = 0u64;
+// Whether the next get that gives something gives a number, as text.
+fn gets_soon<F: FabricName, R: Wait>(
+    rt: &R,
+    hub: &Hub<F>,
+    alloc: Global,
+    at: &Portal<F>,
+    n: u64,
+) -> bool {
     for _try in 0..TRIES {
-        if put < PARCELS && puts(rt, hub, alloc, at, put) {
-            put = put.saturating_add(1);
+        if let Some(came) = gets(rt, hub, alloc, at, n) {
+            return came;
         }
-        if got < PARCELS {
-            match gets(rt, hub, alloc, at, got) {
-                Some(true) => got = got.saturating_add(1),
-                Some(false) => return false,
-                None => {}
-            }
-        }
-        if put == PARCELS && got == PARCELS {
-            return true;
-        }
+        yield_now();
     }
     false
+}
+
+// Puts the numbers in order, and gets as many in order.
+fn exchange<F: FabricName, R: Wait>(rt: &R, hub: &Hub<F>, alloc: Global, at: &Portal<F>) -> bool {
+    for n in 0..PARCELS {
+        if !puts(rt, hub, alloc, at, n) || !gets_soon(rt, hub, alloc, at, n) {
+            return false;
+        }
+    }
+    true
 }
 
 // Two workers, one of each node, until they are told to stop.
@@ -194,27 +200,242 @@ fn both_work<F: FabricName + Send + Sync, R: Threads + Wait + Sync>(
     );
 }
 
-// Two callers, one at each end; then the workers are told to stop.
+// Gets ten parcels in order, the first with the number that is counted.
+fn gets_ten<F: FabricName, R: Wait>(
+    rt: &R,
+    hub: &Hub<F>,
+    alloc: Global,
+    at: &Portal<F>,
+    count: &AtomicU64,
+) -> bool {
+    for _parcel in 0..10u64 {
+        let n = count.load(Ordering::SeqCst);
+        if !gets_soon(rt, hub, alloc, at, n) {
+            return false;
+        }
+        count.store(n.saturating_add(1), Ordering::SeqCst);
+    }
+    true
+}
+
+// Sends a portal on.
+fn sends<F: FabricName, R: Wait>(
+    rt: &R,
+    hub: &Hub<F>,
+    alloc: Global,
+    at: &Portal<F>,
+    moved: Portal<F>,
+) -> bool {
+    let mut portals = Vec::new(alloc);
+    if portals.push(moved).is_err() {
+        return false;
+    }
+    at.put(rt, hub, Vec::new(alloc), portals).is_ok()
+}
+
+// Waits for a portal to come; none where each parcel was got meanwhile.
+fn awaits<F: FabricName, R: Wait>(
+    rt: &R,
+    hub: &Hub<F>,
+    at: &Portal<F>,
+    count: &AtomicU64,
+) -> Option<Portal<F>> {
+    for _try in 0..TRIES {
+        if count.load(Ordering::SeqCst) >= PARCELS {
+            return None;
+        }
+        if let Ok(mut got) = at.get(rt, hub) {
+            return got.portals.pop();
+        }
+        yield_now();
+    }
+    None
+}
+
+// Gets ten parcels of each portal that comes, and sends it back, until each parcel was got.
+fn relay<F: FabricName, R: Wait>(
+    rt: &R,
+    hub: &Hub<F>,
+    alloc: Global,
+    at: &Portal<F>,
+    count: &AtomicU64,
+) -> bool {
+    for _leg in 0..PARCELS {
+        let Some(moved) = awaits(rt, hub, at, count) else {
+            return count.load(Ordering::SeqCst) == PARCELS;
+        };
+        if !gets_ten(rt, hub, alloc, &moved, count) {
+            return false;
+        }
+        if count.load(Ordering::SeqCst) < PARCELS && !sends(rt, hub, alloc, at, moved) {
+            return false;
+        }
+    }
+    false
+}
+
+// Puts the numbers in order.
+fn puts_all<F: FabricName, R: Wait>(rt: &R, hub: &Hub<F>, alloc: Global, at: &Portal<F>) -> bool {
+    for n in 0..PARCELS {
+        if !puts(rt, hub, alloc, at, n) {
+            return false;
+        }
+    }
+    true
+}
+
+// Puts the numbers into one portal of a pair and sends the other on, and then gets as the other relay does.
+fn start_relay<F: FabricName, R: Wait>(
+    rt: &R,
+    hub: &Hub<F>,
+    alloc: Global,
+    at: &Portal<F>,
+    pair: &mut Vec<Portal<F>>,
+    count: &AtomicU64,
+) -> bool {
+    let Some(moved) = pair.pop() else {
+        return false;
+    };
+    let Some(kept) = pair.as_slice().first() else {
+        return false;
+    };
+    puts_all(rt, hub, alloc, kept)
+        && sends(rt, hub, alloc, at, moved)
+        && relay(rt, hub, alloc, at, count)
+}
+
+// The portals that the callers hold.
+#[derive(Drop)]
+struct Held<F: FabricName> {
+    here: Portal<F>,
+    there: Portal<F>,
+    a0: Portal<F>,
+    a1: Portal<F>,
+    b: Vec<Portal<F>>,
+}
+
+// Two callers, one at each end of a pair.
 fn both_exchange<F: FabricName + Send + Sync, R: Threads + Wait + Sync>(
+    rt: &R,
+    hub: &Hub<F>,
+    alloc: Global,
+    a0: &Portal<F>,
+    a1: &Portal<F>,
+) -> bool {
+    let (left, right) = join(
+        rt,
+        || exchange(rt, hub, alloc, a0),
+        || exchange(rt, hub, alloc, a1),
+    );
+    left && right
+}
+
+// Two callers, between whom a portal goes to and fro.
+fn both_relay<F: FabricName + Send + Sync, R: Threads + Wait + Sync>(
     rt: &R,
     hub: &Hub<F>,
     alloc: Global,
     here: &Portal<F>,
     there: &Portal<F>,
-    done: &AtomicU64,
-) -> (bool, bool) {
-    let both = join(
+    pair: &mut Vec<Portal<F>>,
+) -> bool {
+    let count = AtomicU64::new(0);
+    let (left, right) = join(
         rt,
-        || exchange(rt, hub, alloc, here),
-        || exchange(rt, hub, alloc, there),
+        || start_relay(rt, hub, alloc, here, pair, &count),
+        || relay(rt, hub, alloc, there, &count),
     );
-    done.store(1, Ordering::SeqCst);
-    both
+    left && right
 }
 
-// Two workers and two callers on a pair with its ends on two nodes: the parcels come in order, and what is put last is in the world that the
-// hub's cells show.
-fn two_callers<F: FabricName + Send + Sync, R: Threads + Wait + Sync>(
+// All four callers; then the workers are told to stop.
+fn all_call<F: FabricName + Send + Sync, R: Threads + Wait + Sync>(
+    rt: &R,
+    hub: &Hub<F>,
+    alloc: Global,
+    held: &mut Held<F>,
+    done: &AtomicU64,
+) -> bool {
+    let Held {
+        here,
+        there,
+        a0,
+        a1,
+        b,
+    } = held;
+    let (left, right) = join(
+        rt,
+        || both_exchange(rt, hub, alloc, a0, a1),
+        || both_relay(rt, hub, alloc, here, there, b),
+    );
+    done.store(1, Ordering::SeqCst);
+    left && right
+}
+
+// Opens both pairs on node 0, and moves the second portal of the first pair to node 1.
+fn holds<F: FabricName, R: Wait>(
+    rt: &R,
+    hub: &Hub<F>,
+    alloc: Global,
+    here: Portal<F>,
+    there: Portal<F>,
+) -> Option<Held<F>> {
+    let Ok((a0, a1)) = hub.open_pair(rt, 0) else {
+        return None;
+    };
+    let Ok((b0, b1)) = hub.open_pair(rt, 0) else {
+        return None;
+    };
+    let mut b = Vec::new(alloc);
+    if b.push(b0).is_err() || b.push(b1).is_err() || !sends(rt, hub, alloc, &here, a1) {
+        return None;
+    }
+    for _turn in 0..10u64 {
+        let _ = hub.turn(rt, 0);
+        let _ = hub.turn(rt, 1);
+    }
+    let Ok(mut got) = there.get(rt, hub) else {
+        return None;
+    };
+    let a1 = got.portals.pop()?;
+    Some(Held {
+        here,
+        there,
+        a0,
+        a1,
+        b,
+    })
+}
+
+// What the world that a hub's cells show gives at the end 1B of node 1, once it has settled.
+fn last_of<F: FabricName>(hub: Hub<F>) -> Option<Reply> {
+    let Ok((fabric, cells)) = hub.into_cells() else {
+        return None;
+    };
+    let Ok(mut world) = finish(fabric, cells) else {
+        return None;
+    };
+    if world.settle(1_000_000).is_err() {
+        return None;
+    }
+    let at = End {
+        pair: 1,
+        side: Side::B,
+    };
+    Some(world.step(&Step::Get { node: 1, at }))
+}
+
+// Whether it is the last parcel of a thousand and one.
+fn is_last(reply: &Reply) -> bool {
+    match reply {
+        Reply::Got(n, parcel) => *n == PARCELS && parcel.bytes.as_slice() == b"last".as_slice(),
+        _ => false,
+    }
+}
+
+// Two workers and four callers: the parcels of each pair come in order, those of the second while one of its portals goes to and fro, and
+// what is put last is in the world that the hub's cells show.
+fn four_callers<F: FabricName + Send + Sync, R: Threads + Wait + Sync>(
     rt: &R,
     alloc: Global,
     blank: Blank,
@@ -229,61 +450,30 @@ fn two_callers<F: FabricName + Send + Sync, R: Threads + Wait + Sync>(
     };
     let there = portals.pop()?;
     let here = portals.pop()?;
-    let Ok((a0, a1)) = hub.open_pair(rt, 0) else {
-        return None;
-    };
-    let mut parcel = Vec::new(alloc);
-    if parcel.push(a1).is_err() {
-        return None;
-    }
-    if here.put(rt, &hub, Vec::new(alloc), parcel).is_err() {
-        return None;
-    }
-    for _turn in 0..10u64 {
-        let _ = hub.turn(rt, 0);
-        let _ = hub.turn(rt, 1);
-    }
-    let Ok(mut got) = there.get(rt, &hub) else {
-        return None;
-    };
-    let a1 = got.portals.pop()?;
+    let mut held = holds(rt, &hub, alloc, here, there)?;
     let done = AtomicU64::new(0);
-    let (_turns, (left, right)) = join(
+    let (_turns, went) = join(
         rt,
         || both_work(rt, &hub, &done),
-        || both_exchange(rt, &hub, alloc, &a0, &a1, &done),
+        || all_call(rt, &hub, alloc, &mut held, &done),
     );
     let Ok(last) = Vec::from_slice(alloc, b"last") else {
         return None;
     };
+    let Held { a0, .. } = held;
     let put = a0.put(rt, &hub, last, Vec::new(alloc));
     let closed = a0.close(rt, &hub);
-    let Ok((fabric, cells)) = hub.into_cells() else {
-        return None;
-    };
-    let Ok(mut world) = finish(fabric, cells) else {
-        return None;
-    };
-    if world.settle(1_000_000).is_err() {
-        return None;
-    }
-    let end = End {
-        pair: 1,
-        side: Side::B,
-    };
-    let Reply::Got(n, parcel) = world.step(&Step::Get { node: 1, at: end }) else {
-        return None;
-    };
+    let reply = last_of(hub)?;
     let ended = match (put, closed) {
         (Ok(1000), Ok(1001)) => true,
         _ => false,
     };
-    Some(left && right && ended && n == 1000 && parcel.bytes.as_slice() == b"last".as_slice())
+    Some(went && ended && is_last(&reply))
 }
 
 #[test]
 fn callers_and_workers_share_a_hub(rt: HostRuntime) -> Result<(), Fail> {
     let blank = start(rt.alloc(), 2, 4096)?;
-    assert!(rt; two_callers::<Brand, _>(&rt, rt.alloc(), blank) == Some(true));
+    assert!(rt; four_callers::<Brand, _>(&rt, rt.alloc(), blank) == Some(true));
     Ok(())
 }

@@ -4,4 +4,8 @@
 #[cfg(test)]
 mod cells;
 #[cfg(test)]
+mod ends;
+#[cfg(test)]
 mod hubs;
+#[cfg(test)]
+mod owned;

@@ -12,6 +12,7 @@ mod words;
 
 pub use parts::{Answer, End, Fault, Kind, Link, Refusal, Side, Way, WordStep};
 pub use reading::read;
+pub use words::end;
 
 /// What a router did in a turn of its node.
 #[derive(Clone, Copy)]

@@ -12,9 +12,11 @@ pub enum Class {
     /// A node's band, and a node while it has its turn.
     Node,
     Turn,
-    /// A settle.
+    /// A settle, and one that came to its limit.
     Settle,
     SettleText,
+    Fault,
+    FaultText,
     /// Texts.
     Heading,
     NodeName,
@@ -45,6 +47,9 @@ pub enum Class {
     ItemDot,
     RestDot,
     DiscLetter,
+    /// A call of a caller, at the router of its portal.
+    CallDot,
+    CallNote,
     /// The link words.
     WordHeading,
     WordName,
@@ -53,6 +58,10 @@ pub enum Class {
     CellWaiting,
     CellLocked,
     CellText,
+    /// The node that may answer.
+    Source,
+    /// The bar from one value of a word to the next.
+    WordBar,
 }
 
 impl Class {
@@ -68,6 +77,8 @@ impl Class {
             Class::Turn => b"ac",
             Class::Settle => b"bn",
             Class::SettleText => b"t10 bi h bh",
+            Class::Fault => b"fn",
+            Class::FaultText => b"t10 f-bad h fh",
             Class::Heading => b"t16 ink b",
             Class::NodeName => b"t13 ink b m",
             Class::RowNumber => b"t9 dim e",
@@ -95,6 +106,8 @@ impl Class {
             Class::ItemDot => b"f-item",
             Class::RestDot => b"f-dim",
             Class::DiscLetter => b"t10 onf b m",
+            Class::CallDot => b"f-call",
+            Class::CallNote => b"t9 f-call h halo",
             Class::WordHeading => b"t13 f-word b",
             Class::WordName => b"t9 f-word e",
             Class::CellNone => b"k0",
@@ -102,6 +115,8 @@ impl Class {
             Class::CellWaiting => b"kW",
             Class::CellLocked => b"kL",
             Class::CellText => b"t9 cellt m",
+            Class::Source => b"t9 f-word b",
+            Class::WordBar => b"f-word",
         }
     }
 }

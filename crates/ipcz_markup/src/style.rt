@@ -11,7 +11,7 @@ const FORMS: &[u8] = b"\
 
 const LIGHT: &[u8] = b"\
     .bg{fill:#ffffff}.zb{fill:#f6f8fa}.nd{fill:#eef2f7}.ac{fill:#d9e6f5}.hair{stroke:#c9d1d9}.bn{fill:#fff3d6}\
-    .bi{fill:#7a4d00}.bh{stroke:#fff3d6}.ink{fill:#1f2328}.dim{fill:#59636e}.halo{stroke:#ffffff}\
+    .bi{fill:#7a4d00}.bh{stroke:#fff3d6}.fn{fill:#fbe3e5}.fh{stroke:#fbe3e5}.ink{fill:#1f2328}.dim{fill:#59636e}.halo{stroke:#ffffff}\
     .bar{fill:#6f7a86}.prx{fill:#ffffff;stroke:#b0500a}.dec{fill:#ffffff;stroke:#b0500a}.cellt{fill:#1f2328}\
     .onf{fill:#ffffff}.k0{fill:#f0f1f3}.kS{fill:#dcefdf}.kW{fill:#ffe2a8}.kL{fill:#f3c6cb}.s-item{stroke:#0a58b0}\
     .f-item{fill:#0a58b0}.s-byp{stroke:#b0420b}.f-byp{fill:#b0420b}.s-flush{stroke:#1a7234}.f-flush{fill:#1a7234}\
@@ -20,7 +20,7 @@ const LIGHT: &[u8] = b"\
 
 const DARK: &[u8] = b"\
     .bg{fill:#0d1117}.zb{fill:#131922}.nd{fill:#161d27}.ac{fill:#1f2f45}.hair{stroke:#3d444d}.bn{fill:#33270f}\
-    .bi{fill:#f2cc7d}.bh{stroke:#33270f}.ink{fill:#e6edf3}.dim{fill:#9aa5b1}.halo{stroke:#0d1117}\
+    .bi{fill:#f2cc7d}.bh{stroke:#33270f}.fn{fill:#3a161a}.fh{stroke:#3a161a}.ink{fill:#e6edf3}.dim{fill:#9aa5b1}.halo{stroke:#0d1117}\
     .bar{fill:#768390}.prx{fill:#0d1117;stroke:#f0883e}.dec{fill:#0d1117;stroke:#f0883e}.cellt{fill:#e6edf3}\
     .onf{fill:#0d1117}.k0{fill:#242b34}.kS{fill:#1d4428}.kW{fill:#5c4300}.kL{fill:#6b2129}.s-item{stroke:#79b8ff}\
     .f-item{fill:#79b8ff}.s-byp{stroke:#ffa366}.f-byp{fill:#ffa366}.s-flush{stroke:#6fd68a}.f-flush{fill:#6fd68a}\

@@ -13,7 +13,7 @@ pub some_line : (read : List ReadLine) (j : ℕ) → j < length read → ReadLin
 some_line [] j h = absurd (omega arith)
 some_line (x ∷ xs) j h = x
 
-true_and_false : (b : Bool) → b ≡ true → b ≡ false → ⊥
+pub true_and_false : (b : Bool) → b ≡ true → b ≡ false → ⊥
 true_and_false b h e = cc
 
 -- a line that passes the test isn't among those that don't

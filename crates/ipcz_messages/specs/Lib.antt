@@ -1,2 +1,4 @@
+pub mod Ends
 pub mod Joining
+pub mod Leftovers
 pub mod Messages

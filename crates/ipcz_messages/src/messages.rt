@@ -8,15 +8,18 @@ ghost use Rattle.std.specs.Prelude.{◌≡◌, None};
 mod births;
 mod bypasses;
 mod joining;
+mod leftovers;
+mod made;
 mod mailbox;
 mod making;
-mod namings;
+pub mod namings;
 mod receivers;
 #[cfg(test)]
 mod tests;
 
 pub use births::note_births;
 use ipcz_lines::{Kind, Link};
+pub use mailbox::is_settle;
 pub use making::messages;
 
 /// A message, with the indices of the lines at which it was made, posted, looked at and handled, and of its routers, where

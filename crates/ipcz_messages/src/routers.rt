@@ -3,6 +3,7 @@
 ghost use Rattle.std.specs.Prelude.{◌≡◌, ◌<◌, ◌≤◌, ◌+◌, length, IfSome, IfOk, OnOk};
 ghost use Rattle.std.specs.List.{HoldsAt};
 
+use crate::calls::Call;
 use crate::messages::Message;
 use ipcz_lines::{Event, Line, ReadLine, RouterEvent, Way};
 use std::alloc::{AllocError, Global};
@@ -141,5 +142,12 @@ pub fn see_messages(routers: &mut [Router], messages: &[Message]) {
     for message in messages {
         see_at(routers, message.maker, message.made);
         see_at(routers, message.receiver, message.handled);
+    }
+}
+
+/// Notes that routers are in sight where calls are at their portals.
+pub fn see_calls(routers: &mut [Router], calls: &[Call]) {
+    for call in calls {
+        see_at(routers, Some(call.router), Some(call.line));
     }
 }

@@ -1,5 +1,6 @@
 -- The act that comes first is one that can be done.
-use Rattle.std.proofs.Common.{◌≡◌, ◌⊎◌, ◌&&◌, Bool, true, false, if◌then◌else◌, ℕ, List, [], ◌∷◌, Some, inl, inr, refl, not, nat_eq, length, is_some}
+use Rattle.std.proofs.Common.{◌≡◌, ◌⊎◌, ◌&&◌, Bool, true, false, if◌then◌else◌, ℕ, List, [], ◌∷◌, Some, inl, inr, refl, not, nat_eq}
+use Rattle.std.proofs.Common.{length, is_some}
 use Rattle.std.proofs.lemmas.Bool.{and_parts, or_left, or_right}
 use Rattle.ipcz_router.specs.Router.{Router}
 use Rattle.ipcz_router.specs.ActTable.{is_possible, first_possible, table, next_act, is_rest, may_take}

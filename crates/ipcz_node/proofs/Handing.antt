@@ -51,7 +51,8 @@ low_moves n sender item ds h = go (nat_eq sender n.number) h
 below : (a b : ℕ) → nat_lt a b ≡ true → a < b
 below a b h = grind (arith, nat_tests)
 
-fits_placed : (n : Node) (sender : ℕ) (link : LinkId) (side : Side) (number : ℕ) (item : Item) (moves : List Descriptor) (f : Option Found) →
+fits_placed : (n : Node) (sender : ℕ) (link : LinkId) (side : Side) (number : ℕ) (item : Item) (moves : List Descriptor)
+    (f : Option Found) →
     fits_item n sender link side number item moves f ≡ true → (number < no_number) × AreLow moves
 unfolding fits_item
 fits_placed n sender link side number item moves None h = absurd (true≢false (sym h))
@@ -62,13 +63,13 @@ fits_placed n sender link side number item moves (Some f) h = (
 
 -- an item that fits is no number's end, and its moves have low numbers
 pub item_placed : (n : Node) (sender : ℕ) (link : LinkId) (side : Side) (number : ℕ) (item : Item) (moves : List Descriptor) →
-    fits n sender (messages.Item link side number item moves) ≡ true → (number < no_number) × AreLow moves
+    fits n sender (messages.Item link side number item moves) None ≡ true → (number < no_number) × AreLow moves
 unfolding fits
 item_placed n sender link side number item moves h = fits_placed n sender link side number item moves (link_router n link side) h
 
 -- and a router has its link
 pub item_found : (n : Node) (sender : ℕ) (link : LinkId) (side : Side) (number : ℕ) (item : Item) (moves : List Descriptor) →
-    fits n sender (messages.Item link side number item moves) ≡ true → link_router n link side ≡ None → ⊥
+    fits n sender (messages.Item link side number item moves) None ≡ true → link_router n link side ≡ None → ⊥
 unfolding fits fits_item
 item_found n sender link side number item moves h none =
     true≢false (sym h ∙ ap (fits_item n sender link side number item moves) none)

@@ -34,8 +34,8 @@ kind_of (messages.ProxyWillStop link side in_length) = kinds.ProxyWillStop
 kind_of (messages.Flush link side) = kinds.Flush
 
 -- what delivering a message from a node is seen to do
-unfoldable pub hand_event : Node → ℕ → Message → Happened
-hand_event n sender m = events.Hand (kind_of m) (link_asked m) (is_unfit n sender m)
+unfoldable pub hand_event : Node → ℕ → Message → Option ℕ → Happened
+hand_event n sender m source = events.Hand (kind_of m) (link_asked m) (is_unfit n sender m source)
 
 -- the link of a link end, or where there is none the link of word 0, which is then never asked for
 unfoldable pub link_of : Option LinkEnd → LinkId

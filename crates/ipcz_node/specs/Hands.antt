@@ -18,7 +18,8 @@ use Rattle.ipcz_base.specs.Links.{same_link}
 use Rattle.ipcz_router.specs.declared.sending.Sending.{Sending}
 use Rattle.ipcz_router.specs.Router.{Router, outward_has, inward_edge, from_descriptor, rouse}
 use Rattle.ipcz_router.specs.Calls.{has_place_for, accept}
-use Rattle.ipcz_router.specs.Bypass.{fits_bypass_peer, bypass_peer, accept_message, fits_accept_bypass, accept_bypass, stop_message}
+use Rattle.ipcz_router.specs.Bypass.{fits_bypass_peer, bypass_peer, accept_message, fits_accept_bypass, is_source, accept_bypass}
+use Rattle.ipcz_router.specs.Bypass.{stop_message}
 use Rattle.ipcz_router.specs.Bypass.{fits_stop_proxying, stop_proxying, will_stop_message, fits_proxy_will_stop, proxy_will_stop}
 use Rattle.ipcz_node.specs.Node.{Node, Found, link_router, is_named, on_found, with_router, add_router, push_out, add_stray}
 
@@ -71,18 +72,21 @@ unfoldable pub passes_at : Option Found → (Router → Bool) → Bool
 passes_at None test = false
 passes_at (Some f) test = test f.router
 
--- whether a message from a node fits; a Flush always does
-unfoldable pub fits : Node → ℕ → Message → Bool
-fits n sender (messages.Item link side number item moves) = fits_item n sender link side number item moves (link_router n link side)
-fits n sender (messages.BypassPeer link side old target fresh) =
+-- whether a message from a node fits; a Flush always does. AcceptBypass is also to come from the source of the old link's word, which is
+-- given last and which no other message looks at
+unfoldable pub fits : Node → ℕ → Message → Option ℕ → Bool
+fits n sender (messages.Item link side number item moves) source = fits_item n sender link side number item moves (link_router n link side)
+fits n sender (messages.BypassPeer link side old target fresh) source =
     passes_at (link_router n link side) (λ r. fits_bypass_peer r link side &&
     (nat_lt target n.count && not (is_named n (Central fresh) r.end.side)))
-fits n sender (messages.AcceptBypass old side fresh length) =
-    passes_at (link_router n (Central old) side) (λ r. fits_accept_bypass r old side && not (is_named n (Central fresh) side))
-fits n sender (messages.StopProxying old side in_length out_length) =
+fits n sender (messages.AcceptBypass old side fresh length) source =
+    passes_at (link_router n (Central old) side) (λ r. fits_accept_bypass r old side && not (is_named n (Central fresh) side)) &&
+    is_source sender source
+fits n sender (messages.StopProxying old side in_length out_length) source =
     passes_at (link_router n (Central old) side) (λ r. fits_stop_proxying r old side)
-fits n sender (messages.ProxyWillStop link side in_length) = passes_at (link_router n link side) (λ r. fits_proxy_will_stop r link side)
-fits n sender (messages.Flush link side) = true
+fits n sender (messages.ProxyWillStop link side in_length) source = passes_at (link_router n link side)
+    (λ r. fits_proxy_will_stop r link side)
+fits n sender (messages.Flush link side) source = true
 
 -- the node with the terminals that the moves make, in order
 abbrev pub make_terminals : Node → ℕ → List Descriptor → Node
@@ -126,8 +130,8 @@ serials_in (messages.Item link side number item moves) = length moves
 serials_in other = 0
 
 -- whether a message can't be handled for want of serials
-abbrev pub message_lacks_serials : Node → ℕ → Message → Bool
-message_lacks_serials n sender m = fits n sender m && not (has_serials n.next_router (serials_in m))
+abbrev pub message_lacks_serials : Node → ℕ → Message → Option ℕ → Bool
+message_lacks_serials n sender m source = fits n sender m source && not (has_serials n.next_router (serials_in m))
 
 -- whether a message that fits makes something grow: it brings an item, or makes a router send; a ProxyWillStop only tells a length, and a
 -- Flush only rouses
@@ -137,8 +141,8 @@ grows_where_it_fits (messages.Flush link side) = false
 grows_where_it_fits other = true
 
 -- whether delivering a message makes something grow, and so may want memory: one that doesn't fit is kept among the strays
-abbrev pub message_grows : Node → ℕ → Message → Bool
-message_grows n sender m = not (fits n sender m) || grows_where_it_fits m
+abbrev pub message_grows : Node → ℕ → Message → Option ℕ → Bool
+message_grows n sender m source = not (fits n sender m source) || grows_where_it_fits m
 
 -- whether the message in hand is of this sender
 unfoldable pub is_hand_of : Option ℕ → ℕ → Bool
@@ -150,9 +154,9 @@ abbrev pub free_hand : Node → ℕ → Node
 free_hand n sender = record n { hand = if is_hand_of n.hand sender then None else n.hand }
 
 -- the node after a message from a node: handled, or kept whole where it doesn't fit
-unfoldable pub deliver : Node → ℕ → Message → Node
-deliver n sender m = free_hand (if fits n sender m then handle n sender m else add_stray n m) sender
+unfoldable pub deliver : Node → ℕ → Message → Option ℕ → Node
+deliver n sender m source = free_hand (if fits n sender m source then handle n sender m else add_stray n m) sender
 
 -- whether a message is kept as a stray, or is a Flush that finds no router
-abbrev pub is_unfit : Node → ℕ → Message → Bool
-is_unfit n sender m = not (fits n sender m && is_named n (link_asked m) (side_asked m))
+abbrev pub is_unfit : Node → ℕ → Message → Option ℕ → Bool
+is_unfit n sender m source = not (fits n sender m source && is_named n (link_asked m) (side_asked m))

@@ -12,7 +12,7 @@ use Rattle.ipcz_base.specs.Ends.{same_end, end_at}
 use Rattle.ipcz_base.specs.Indexed.{place_at, put_place}
 use Rattle.ipcz_base.specs.Links.{central_end}
 use Rattle.ipcz_base.specs.Orders.{end_cmp}
-use Rattle.ipcz_router.specs.Router.{Router, is_open_terminal, router_has, terminal, word_side as router_word_side}
+use Rattle.ipcz_router.specs.Router.{Router, is_open_terminal, router_has, terminal, source_of, word_side as router_word_side}
 
 -- a set of ends
 abbrev pub EndSet : Type 0
@@ -53,6 +53,15 @@ word_at (Some r) = router_word_side r
 -- the same, of the router of a serial
 abbrev pub word_side : Node → ℕ → Option (ℕ × Side)
 word_side n serial = word_at (router_in n serial)
+
+-- the node inward of a router, where there is such a router and it is a proxy
+abbrev pub source_at : Option Router → Option ℕ
+source_at None = None
+source_at (Some r) = source_of r
+
+-- the same, of the router of a serial
+abbrev pub source_in : Node → ℕ → Option ℕ
+source_in n serial = source_at (router_in n serial)
 
 -- the node with this router under the serial
 abbrev pub with_router : Node → ℕ → Router → Node

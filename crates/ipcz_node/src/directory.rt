@@ -93,14 +93,14 @@ impl Model for Directory {
 }
 
 impl Directory {
-    /// No routers, and serials from 0 on.
-    pub fn new(alloc: Global) -> Self
+    /// No routers, and serials from the first one on.
+    pub fn new(alloc: Global, first: u64) -> Self
         ensures routers { result.filed.routers ≡ empty }
-        ensures next { result.filed.next ≡ 0 }
+        ensures next { result.filed.next ≡ first }
         ensures held { result.filed.held ≡ sets.empty }
     {
         Directory {
-            routers: Routers::new(alloc),
+            routers: Routers::new(alloc, first),
             links: Index::new(alloc),
             terminals: Index::new(alloc),
             flagged: SortedSet::new(alloc),

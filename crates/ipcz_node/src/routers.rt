@@ -44,14 +44,14 @@ impl Model for Routers {
 impl Routers {
     ghost use Rattle.ipcz_node.specs.Lending.{LendsRouter};
 
-    /// No routers, and serials from 0 on.
-    pub fn new(alloc: Global) -> Self
+    /// No routers, and serials from the first one on.
+    pub fn new(alloc: Global, first: u64) -> Self
         ensures routers { result.routers ≡ empty }
-        ensures next { result.next ≡ 0 }
+        ensures next { result.next ≡ first }
     {
         Routers {
             entries: Vec::new(alloc),
-            next: 0,
+            next: first,
         }
     }
 

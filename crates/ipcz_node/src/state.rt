@@ -28,8 +28,6 @@ mod first_pairs;
 mod hands;
 mod room;
 mod sends;
-#[cfg(test)]
-mod tests;
 mod turn;
 
 pub use self::calls::PutRefused;

@@ -2,11 +2,15 @@
 //!
 //! Nothing is promised of what stands here: a test's own proof would else work out the whole node
 //! at each call. So a test is a list of steps.
+mod alike;
+mod aside;
 mod bypass;
 mod deeds;
+mod forged;
 mod letters;
 mod moves;
 mod refusals;
+mod serials;
 mod strays;
 mod turns;
 mod two_nodes;
@@ -82,10 +86,22 @@ enum Step {
     Unlock(u64),
     /// The message that was posted last.
     Posted(Letter),
-    /// Delivers a message from a node; whether it fits.
+    /// Delivers a message from a node, which is the source that the old link's word names; whether it
+    /// fits.
     Deliver(u8, Letter, bool),
+    /// Delivers a message where the old link's word names this source; from which node, and whether
+    /// it fits.
+    DeliverWhere(Option<u8>, u8, Letter, bool),
     /// Delivers the message that was posted last to the node itself, where it fits.
     Return,
+    /// Asks for the room of a pair, which is refused.
+    OpenRefused(Refusal),
+    /// Takes a turn, which is refused.
+    TurnRefused(Refusal),
+    /// Delivers a message from a node, which is refused and handed back.
+    DeliverRefused(u8, Letter, Refusal),
+    /// The first held end from a router's serial on.
+    HeldFrom(u64, Option<(u64, End)>),
     /// How many messages didn't fit.
     Strays(usize),
     /// Whether the node has nothing to do until a message comes.
@@ -104,11 +120,21 @@ struct Trial {
 impl Trial {
     // The node of a number among so many.
     fn new(alloc: Global, number: u8, count: u8) -> Option<Trial> {
-        if number >= count || count > 8 {
+        Trial::new_from(alloc, number, count, 0)
+    }
+
+    // The same, whose serials are counted from the first one on.
+    fn new_from(alloc: Global, number: u8, count: u8, first: u64) -> Option<Trial> {
+        if number >= count || count > 8 || first > u64::MAX - (count as u64 - 1) {
             return None;
         }
+        let node = if first == 0 {
+            NodeState::new(alloc, number, count)
+        } else {
+            NodeState::new_from(alloc, number, count, first)
+        };
         Some(Trial {
-            node: NodeState::new(alloc, number, count).ok()?,
+            node: node.ok()?,
             alloc,
             seen: CLEAR,
             posted: None,
@@ -164,28 +190,29 @@ impl Trial {
         }
     }
 
-    // Delivers a message; whether it fitted, where it was delivered.
-    fn deliver(&mut self, from: u8, message: Message) -> Option<bool> {
+    // Delivers a message where the word of an old link names this source; whether it fitted, where it
+    // was delivered.
+    fn deliver(&mut self, from: u8, message: Message, source: Option<u8>) -> Option<bool> {
         if from >= self.node.count() {
             return None;
         }
-        match self.node.deliver(from, message) {
+        match self.node.deliver(from, message, source) {
             Ok(Happened::Hand { unfit, .. }) => Some(!unfit),
             _ => None,
         }
     }
 
     // Delivers a message that is made; whether it fitted.
-    fn deliver_letter(&mut self, from: u8, letter: &Letter) -> Option<bool> {
+    fn deliver_letter(&mut self, from: u8, letter: &Letter, source: Option<u8>) -> Option<bool> {
         let message = letter.message(self.alloc).ok()?;
-        self.deliver(from, message)
+        self.deliver(from, message, source)
     }
 
     // Delivers the message that was posted last to the node itself; whether it fitted.
     fn deliver_back(&mut self) -> Option<bool> {
         let message = self.posted.take()?;
         let number = self.node.number();
-        self.deliver(number, message)
+        self.deliver(number, message, Some(number))
     }
 
     // Whether the message that was posted last is this one.
@@ -208,7 +235,32 @@ impl Trial {
             Step::GetParcel(at, n, bytes, ends) => self.gets(*at, *n, bytes, ends),
             Step::Close(at, want) => self.node.close(*at) == *want,
             Step::Holds(end, want) => self.node.holds(*end) == *want,
+            Step::HeldFrom(serial, want) => self.node.held_from(*serial) == *want,
+            _ => self.refuses(step),
+        }
+    }
+
+    // Whether a call is refused as its step says.
+    fn refuses(&mut self, step: &Step) -> bool {
+        match step {
+            Step::OpenRefused(why) => self.node.open_prepare() == Err(*why),
+            Step::TurnRefused(why) => self.turn_refusal() == Some(*why),
+            Step::DeliverRefused(from, letter, why) => {
+                self.deliver_refusal(*from, letter) == Some(*why)
+            }
             _ => false,
+        }
+    }
+
+    // Why a message that is made is refused, where it is handed back then.
+    fn deliver_refusal(&mut self, from: u8, letter: &Letter) -> Option<Refusal> {
+        let message = letter.message(self.alloc).ok()?;
+        if from >= self.node.count() {
+            return None;
+        }
+        match self.node.deliver(from, message, Some(from)) {
+            Err((why, back)) => { if letter.is(&back) { Some(why) } else { None } }
+            Ok(_) => None,
         }
     }
 
@@ -223,7 +275,12 @@ impl Trial {
             Step::Turn(deed) => self.turns(deed),
             Step::Unlock(word) => self.unlocks(*word),
             Step::Posted(letter) => self.has_posted(letter),
-            Step::Deliver(from, letter, want) => self.deliver_letter(*from, letter) == Some(*want),
+            Step::Deliver(from, letter, want) => {
+                self.deliver_letter(*from, letter, Some(*from)) == Some(*want)
+            }
+            Step::DeliverWhere(source, from, letter, want) => {
+                self.deliver_letter(*from, letter, *source) == Some(*want)
+            }
             Step::Return => self.deliver_back() == Some(true),
             Step::Strays(count) => self.node.strays().len() == *count,
             Step::Quiet(want) => self.node.quiet() == *want,

@@ -1,6 +1,6 @@
 -- What the messages of a bypass do to a router, and what it sends in turn.
 -- (ipcz: Router::BypassPeer, AcceptBypassLink, StopProxying, NotifyProxyWillStop. The lengths are exchanged as there.)
-use Rattle.std.specs.Prelude.{ℕ, Bool, true, false, not, ◌&&◌, Option, Some, None, is_none, option_map}
+use Rattle.std.specs.Prelude.{nat_eq, ℕ, Bool, true, false, not, ◌&&◌, Option, Some, None, is_none, option_map}
 use Rattle.ipcz_base.specs.declared.side.Side.{Side}
 use Rattle.ipcz_base.specs.declared.link_id.LinkId.{LinkId}
 use Rattle.ipcz_base.specs.declared.link_id.LinkId.TheVariants.{Central}
@@ -36,6 +36,11 @@ accept_message r old target fresh = record { to = target; message = AcceptBypass
 -- whether AcceptBypass fits: the old link is the outward primary one, and the edge doesn't decay
 abbrev pub fits_accept_bypass : Router → ℕ → Side → Bool
 fits_accept_bypass r old side = has_link r.outward.primary (Central old) side && not (edge_decays r.outward)
+
+-- whether a node is the source of the old link's word, which alone may send AcceptBypass: else the message is Forged
+unfoldable pub is_source : ℕ → Option ℕ → Bool
+is_source sender None = false
+is_source sender (Some node) = nat_eq sender node
 
 -- the router across takes the fresh link
 abbrev pub accept_bypass : Router → ℕ → Side → ℕ → ℕ → Router

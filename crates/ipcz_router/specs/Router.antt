@@ -78,6 +78,10 @@ primary_word r = word_of r.outward.primary
 abbrev pub word_side : Router → Option (ℕ × Side)
 word_side r = option_map (λ word. (word, r.end.side)) (primary_word r)
 
+-- the node inward of a proxy, across its inward primary link: the one that may send the AcceptBypass of its bypass
+abbrev pub source_of : Router → Option ℕ
+source_of r = option_map (λ e. e.other) (inward_edge r).primary
+
 -- whether its outward primary link is central
 abbrev pub is_on_central : Router → Bool
 is_on_central r = is_some (primary_word r)

@@ -6,9 +6,11 @@ mod filing;
 mod outlook;
 mod router;
 mod sending;
+mod source;
 
 pub use act::{Answer, Applied, RouterAct};
 pub use filing::Filing;
 pub use outlook::Outlook;
 pub use router::Router;
 pub use sending::Sending;
+pub use source::is_source;

@@ -2,7 +2,7 @@ ghost use Rattle.std.specs.Prelude.{◌≡◌, ◌<◌, ◌≤◌, true, false, 
 ghost use Rattle.ipcz_base.specs.Limits.{last_number, no_number};
 ghost use Rattle.ipcz_seq.specs.Queue.{current_item};
 ghost use Rattle.ipcz_router.specs.Router.{is_terminal, is_open_terminal, inward_has, router_has, new_terminal, terminal};
-ghost use Rattle.ipcz_router.specs.Router.{from_descriptor, rouse, word_side};
+ghost use Rattle.ipcz_router.specs.Router.{from_descriptor, rouse, source_of, word_side};
 ghost use Rattle.ipcz_router.specs.RoomyRouters.{KeepsRoom, LeavesRoom};
 ghost use Rattle.ipcz_router.specs.Filings.{filing_of};
 ghost use Rattle.ipcz_router.specs.Acts.{pop_out, pop_in};
@@ -235,6 +235,19 @@ impl Router {
         ensures { result ≡ next_number self.now.router }
     {
         self.out_queue.reach()
+    }
+
+    /// The node inward of a proxy, across its inward primary link: the one that may send the AcceptBypass of its bypass.
+    pub fn source(&self) -> Option<u8>
+        ensures { result ≡ source_of self.now.router }
+    {
+        match self.inward {
+            Some(edge) => match edge.primary() {
+                Some(end) => Some(end.other),
+                None => None,
+            },
+            None => None,
+        }
     }
 
     /// The item that leaves the out queue next, where it has come.

@@ -6,7 +6,7 @@ use Rattle.ipcz_base.specs.declared.end.End.{End}
 use Rattle.ipcz_base.specs.declared.side.Side.{Side}
 use Rattle.ipcz_base.specs.declared.link_id.LinkId.{LinkId}
 use Rattle.ipcz_word.specs.Word.{Word}
-use Rattle.ipcz_router.specs.Router.{Router, primary_word}
+use Rattle.ipcz_router.specs.Router.{Router, primary_word, source_of}
 use Rattle.ipcz_router.specs.ActTable.{may_take}
 use Rattle.ipcz_router.specs.ActEffects.{apply, output_of}
 use Rattle.ipcz_router.specs.declared.act.RouterAct.{RouterAct}
@@ -90,44 +90,44 @@ is_plain_touch acts.Begin = true
 is_plain_touch acts.Rest = true
 is_plain_touch other = false
 
-plain_touch : (x : Word) (s : Side) (act : RouterAct) → is_plain_touch act ≡ true → word_answer x s act ≡ answers.Plain
+plain_touch : (x : Word) (s : Side) (o : Option ℕ) (act : RouterAct) → is_plain_touch act ≡ true → word_answer x s o act ≡ answers.Plain
 unfolding word_answer
-plain_touch x s acts.SendOut e = refl
-plain_touch x s acts.SendIn e = refl
-plain_touch x s acts.Discard e = cc
-plain_touch x s acts.FinishOut e = refl
-plain_touch x s acts.FinishIn e = refl
-plain_touch x s acts.Leave e = refl
-plain_touch x s acts.Mark e = cc
-plain_touch x s acts.Wake e = cc
-plain_touch x s acts.Claim e = cc
-plain_touch x s acts.Lock e = cc
-plain_touch x s acts.Begin e = refl
-plain_touch x s acts.Unlock e = cc
-plain_touch x s acts.Rest e = refl
+plain_touch x s o acts.SendOut e = refl
+plain_touch x s o acts.SendIn e = refl
+plain_touch x s o acts.Discard e = cc
+plain_touch x s o acts.FinishOut e = refl
+plain_touch x s o acts.FinishIn e = refl
+plain_touch x s o acts.Leave e = refl
+plain_touch x s o acts.Mark e = cc
+plain_touch x s o acts.Wake e = cc
+plain_touch x s o acts.Claim e = cc
+plain_touch x s o acts.Lock e = cc
+plain_touch x s o acts.Begin e = refl
+plain_touch x s o acts.Unlock e = cc
+plain_touch x s o acts.Rest e = refl
 
-plain_link : (w : World) (s : Side) (act : RouterAct) (i : Option ℕ) → is_plain_touch act ≡ true → link_answer w s act i ≡ answers.Plain
+plain_link : (w : World) (s : Side) (o : Option ℕ) (act : RouterAct) (i : Option ℕ) → is_plain_touch act ≡ true → link_answer w s o act i ≡ answers.Plain
 unfolding link_answer
-plain_link w s act None e = refl
-plain_link w s act (Some i) e = plain_touch (word_at w i) s act e
+plain_link w s o act None e = refl
+plain_link w s o act (Some i) e = plain_touch (word_at w i) s o act e
 
 after_touch : (w : World) (n serial : ℕ) (r : Router) (act : RouterAct) → is_plain_touch act ≡ true → after_router_act w n serial act (Some r) ≡ set_node w n (commit (node_at w n) (OfRouter serial act) answers.Plain)
 unfolding after_router_act touch answer_of
-after_touch w n serial r acts.SendOut e = ap (λ a. set_node w n (commit (node_at w n) (OfRouter serial acts.SendOut) a)) (plain_link w r.end.side acts.SendOut (primary_word r) e)
-after_touch w n serial r acts.SendIn e = ap (λ a. set_node w n (commit (node_at w n) (OfRouter serial acts.SendIn) a)) (plain_link w r.end.side acts.SendIn (primary_word r) e)
+after_touch w n serial r acts.SendOut e = ap (λ a. set_node w n (commit (node_at w n) (OfRouter serial acts.SendOut) a)) (plain_link w r.end.side (source_of r) acts.SendOut (primary_word r) e)
+after_touch w n serial r acts.SendIn e = ap (λ a. set_node w n (commit (node_at w n) (OfRouter serial acts.SendIn) a)) (plain_link w r.end.side (source_of r) acts.SendIn (primary_word r) e)
 after_touch w n serial r acts.Discard e = cc
-after_touch w n serial r acts.FinishOut e = ap (λ a. set_node w n (commit (node_at w n) (OfRouter serial acts.FinishOut) a)) (plain_link w r.end.side acts.FinishOut (primary_word r) e)
-after_touch w n serial r acts.FinishIn e = ap (λ a. set_node w n (commit (node_at w n) (OfRouter serial acts.FinishIn) a)) (plain_link w r.end.side acts.FinishIn (primary_word r) e)
-after_touch w n serial r acts.Leave e = ap (λ a. set_node w n (commit (node_at w n) (OfRouter serial acts.Leave) a)) (plain_link w r.end.side acts.Leave (primary_word r) e)
+after_touch w n serial r acts.FinishOut e = ap (λ a. set_node w n (commit (node_at w n) (OfRouter serial acts.FinishOut) a)) (plain_link w r.end.side (source_of r) acts.FinishOut (primary_word r) e)
+after_touch w n serial r acts.FinishIn e = ap (λ a. set_node w n (commit (node_at w n) (OfRouter serial acts.FinishIn) a)) (plain_link w r.end.side (source_of r) acts.FinishIn (primary_word r) e)
+after_touch w n serial r acts.Leave e = ap (λ a. set_node w n (commit (node_at w n) (OfRouter serial acts.Leave) a)) (plain_link w r.end.side (source_of r) acts.Leave (primary_word r) e)
 after_touch w n serial r acts.Mark e = cc
 after_touch w n serial r acts.Wake e = cc
 after_touch w n serial r acts.Claim e = cc
 after_touch w n serial r acts.Lock e = cc
-after_touch w n serial r acts.Begin e = ap (λ a. set_node w n (commit (node_at w n) (OfRouter serial acts.Begin) a)) (plain_link w r.end.side acts.Begin (primary_word r) e)
+after_touch w n serial r acts.Begin e = ap (λ a. set_node w n (commit (node_at w n) (OfRouter serial acts.Begin) a)) (plain_link w r.end.side (source_of r) acts.Begin (primary_word r) e)
 after_touch w n serial r acts.Unlock e = cc
-after_touch w n serial r acts.Rest e = ap (λ a. set_node w n (commit (node_at w n) (OfRouter serial acts.Rest) a)) (plain_link w r.end.side acts.Rest (primary_word r) e)
+after_touch w n serial r acts.Rest e = ap (λ a. set_node w n (commit (node_at w n) (OfRouter serial acts.Rest) a)) (plain_link w r.end.side (source_of r) acts.Rest (primary_word r) e)
 
-touch_is : (w : World) (r : Router) (act : RouterAct) → is_on_word act ≡ true → touch w r act ≡ touch_word w r.end.side act (primary_word r)
+touch_is : (w : World) (r : Router) (act : RouterAct) → is_on_word act ≡ true → touch w r act ≡ touch_word w r.end.side (source_of r) act (primary_word r)
 unfolding touch
 touch_is w r acts.SendOut e = cc
 touch_is w r acts.SendIn e = cc
@@ -143,7 +143,7 @@ touch_is w r acts.Begin e = cc
 touch_is w r acts.Unlock e = refl
 touch_is w r acts.Rest e = cc
 
-answer_is : (w : World) (r : Router) (act : RouterAct) → is_on_word act ≡ true → answer_of w r act ≡ link_answer w r.end.side act (primary_word r)
+answer_is : (w : World) (r : Router) (act : RouterAct) → is_on_word act ≡ true → answer_of w r act ≡ link_answer w r.end.side (source_of r) act (primary_word r)
 unfolding answer_of
 answer_is w r acts.SendOut e = cc
 answer_is w r acts.SendIn e = cc
@@ -162,7 +162,7 @@ answer_is w r acts.Rest e = cc
 -- the world after an act on the word i
 abbrev pub word_world : World → ℕ → ℕ → Router → RouterAct → ℕ → World
 word_world w n serial r act i =
-    set_node (set_word w i (word_after (word_at w i) r.end.side act)) n (commit (node_at w n) (OfRouter serial act) (word_answer (word_at w i) r.end.side act))
+    set_node (set_word w i (word_after (word_at w i) r.end.side (source_of r) act)) n (commit (node_at w n) (OfRouter serial act) (word_answer (word_at w i) r.end.side (source_of r) act))
 
 pub after_word : (w : World) (n serial : ℕ) (r : Router) (act : RouterAct) (i : ℕ) → is_on_word act ≡ true → primary_word r ≡ Some i → after_router_act w n serial act (Some r) ≡ word_world w n serial r act i
 unfolding after_router_act touch_word link_answer

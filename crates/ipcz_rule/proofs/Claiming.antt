@@ -26,7 +26,7 @@ use Rattle.ipcz_rule.specs.declared.view.Part.{Part}
 use Rattle.ipcz_rule.specs.Rule.{Slot, St, Mine, mailbox, Rules, with_part, saw}
 use Rattle.ipcz_rule.specs.Steps.{CanAct, claimed_part}
 use Rattle.ipcz_rule.specs.Kinds.{Claims, ClaimsForOpen, LoadsForClaim}
-use Rattle.ipcz_rule.proofs.Moved.{ruled, spelled}
+use Rattle.ipcz_rule.proofs.Moved.{ruled, spelled, keeps_sources}
 use Rattle.ipcz_rule.proofs.Touches.{NodeMoves, others_spell, own_spells, mails_show}
 use Rattle.ipcz_rule.proofs.Joins.{joined_same}
 use Rattle.ipcz_rule.proofs.Touching.{KeepsHands, set_moves}
@@ -53,6 +53,7 @@ module _ (count size : ℕ) (s : St) (r : Rules count size s) (id : ℕ) (v v' :
     wide = length-set s.words size n';
     deep = refl;
     links = λ j l. let l' : j < w.size = rw (← moves.size) l in get_or-set_other s.words size j n' 0 (λ e. let z = r.words in omega arith) ∙ (r.shows.links j l' ∙ ap bits_of (sym (words j)));
+    sources = keeps_sources w w' words r.sources;
     claims = ap (slice_index (set s.words size n')) (moves.size ∙ r.words) ∙ (get_or-set_same s.words size n' 0 wide ∙ claimed);
     mail = mails_show s w w' (set s.words size n') p.node p'.state moves boxes r.owner r.shows;
     node = k.node;

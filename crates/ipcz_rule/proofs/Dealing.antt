@@ -154,6 +154,7 @@ deals count size id v p ps is others s r at =
       lawful = r.lawful;
       lengths = r.lengths;
       strays = r.strays;
+      sources = r.sources;
     }
 
 -- the parts of the nodes from one on

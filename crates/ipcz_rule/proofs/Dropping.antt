@@ -3,7 +3,7 @@ use Rattle.std.specs.Prelude.{◌≡◌, ◌⊎◌, ℕ, Bool, true, false, ◌&
 use Rattle.std.proofs.Common.{ap, ◌∙◌, sym, subst, inl, inr, ⊎_elim}
 use Rattle.atomic_table.specs.Table.{Allows}
 use Rattle.ipcz_seq.specs.Queue.{current_item}
-use Rattle.ipcz_router.specs.Router.{Router, is_terminal, is_sink}
+use Rattle.ipcz_router.specs.Router.{Router, is_terminal, is_sink, source_of}
 use Rattle.ipcz_router.specs.ActTable.{may_take, is_possible, is_rest, next_act}
 use Rattle.ipcz_router.specs.declared.act.RouterAct.{RouterAct}
 use Rattle.ipcz_router.specs.declared.act.RouterAct.TheVariants as acts
@@ -30,7 +30,7 @@ use Rattle.ipcz_rule.proofs.Touching.{touches, set_moves, turn_lawful}
 use Rattle.ipcz_rule.proofs.Acting.{is_plain_touch, is_unwritten, plain_part, unwritten_touch, acts_touch, act_routes, act_hand, here_at, possible, lacks, after_is}
 use Rattle.ipcz_rule.proofs.Adding.{joined_gone}
 
-link_plain : (w : World) (r : Router) (i : Option ℕ) → link_answer w r.end.side acts.Discard i ≡ answers.Plain
+link_plain : (w : World) (r : Router) (i : Option ℕ) → link_answer w r.end.side (source_of r) acts.Discard i ≡ answers.Plain
 unfolding link_answer word_answer
 link_plain w r None = refl
 link_plain w r (Some i) = refl

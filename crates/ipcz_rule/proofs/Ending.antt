@@ -1,29 +1,28 @@
 -- Close: what stands in the words and slots at the end, with the parts of all nodes, is the world that was shown.
-use Rattle.std.specs.Prelude.{◌≡◌, ◌≢◌, ◌<◌, ◌+◌, ◌*◌, ℕ, zero, suc, Bool, true, false, List, [], ◌∷◌, map, length, slice_index, Some, is_some, refl}
+use Rattle.std.specs.Prelude.{◌≡◌, ◌≢◌, ◌<◌, ◌+◌, ◌*◌, ℕ, zero, suc, List, [], ◌∷◌, map, length, slice_index, Some, is_some, refl}
 use Rattle.std.proofs.Common.{arith, ap, ◌∙◌, sym, subst, get_or}
 use Rattle.std.proofs.lemmas.List.{length-map}
 use Rattle.std.proofs.lemmas.List.Elements.{All-from_get_or}
 use mathlib.Core.Option.{some, some-injective, some-ne-none}
 use lib.ListN.{get_elem?}
 use Rattle.ipcz_base.specs.Indexed.{place_at}
-use Rattle.ipcz_base.specs.declared.side.Side.TheVariants.{A, B}
 use Rattle.ipcz_base.specs.declared.message.Message.{Message}
-use Rattle.ipcz_word.specs.Layout.{IsWord, word_of_bits, bits_of}
-use Rattle.ipcz_word.specs.SideSets.{has}
-use Rattle.ipcz_word.specs.Word.{OneHolder, empty_word}
-use Rattle.ipcz_word.proofs.Return.{sets_return, valid_bits}
+use Rattle.ipcz_word.specs.Layout.{word_of_bits, bits_of}
+use Rattle.ipcz_word.specs.Word.{empty_word}
+use Rattle.ipcz_word.proofs.Return.{sets_return}
 use Rattle.ipcz_node.specs.Node.{Node, bare_node}
 use Rattle.ipcz_world.specs.declared.mail.Mail.{Mail}
 use Rattle.ipcz_world.specs.declared.mail.Mail.TheVariants as mails
 use Rattle.ipcz_world.specs.World.{World, node_at, word_at, mail_at, way}
-use Rattle.ipcz_world.specs.Coding.{IsTable}
+use Rattle.ipcz_world.specs.Coding.{IsLinkNumber, IsTable}
 use Rattle.ipcz_world.specs.Parts.{world_of_parts}
 use Rattle.ipcz_world.specs.Routes.{hand_of}
 use Rattle.ipcz_world.specs.Lawful.{IsWithinLimits}
 use Rattle.ipcz_world.specs.Soundness.{HasLengths}
 use Rattle.ipcz_world.specs.Turns.{hand_message, message_in_hand}
-use Rattle.ipcz_world.proofs.Whole.{lists_have_lengths, lawful_worlds_give_the_headline}
+use Rattle.ipcz_world.proofs.Whole.{lists_have_lengths}
 use Rattle.ipcz_rule.proofs.FromLaws.{stands_in_hand}
+use Rattle.ipcz_rule.proofs.Known.{found_word}
 use Rattle.ipcz_rule.specs.declared.view.View.{View}
 use Rattle.ipcz_rule.specs.declared.view.Part.{Part}
 use Rattle.ipcz_rule.specs.Rule.{Slot, St, MailAt, Spells, InParts, Joined, Rules, mailbox, puts_of, gets_of, drops_of}
@@ -174,18 +173,10 @@ module _ (count size : ℕ) (s : St) (r : Rules count size s) (id : ℕ) (v : Vi
         sym (place-images word_of_bits empty_word bits i (omega (arith, inside, many))
         ∙ (ap word_of_bits (bits_are i inside) ∙ sets_return (word_at w i))))
 
-    one_holder : (i : ℕ) → OneHolder (word_at w i)
-    one_holder i = go (has (word_at w i).holder A) (has (word_at w i).holder B) refl refl
-      where
-        go : (a b : Bool) → has (word_at w i).holder A ≡ a → has (word_at w i).holder B ≡ b → OneHolder (word_at w i)
-        go false b e f = rw e refl
-        go true false e f = rw (e, f) refl
-        go true true e f = let same = (lawful_worlds_give_the_headline w r.books r.routes r.lawful).locked_once i A B e f in cc
-
     pub is_table : IsWithinLimits count size → (claimed : ℕ) → claimed ≡ slice_index s.words size → IsTable bits claimed
     is_table limits claimed is = record {
-      words = All-from_get_or IsWord bits 0 (λ i l. let inside : i < size = omega (arith, l, many) in
-          subst IsWord (sym (bits_are i inside)) (valid_bits (word_at w i) (one_holder i)));
+      words = All-from_get_or IsLinkNumber bits 0 (λ i l. let inside : i < size = omega (arith, l, many) in
+          subst IsLinkNumber (sym (read i inside)) (found_word s r i inside));
       claimed = let few = lengths.claimed in let shown = r.shows.claims in let all_words = r.words in
           let same : claimed ≡ w.claimed = is ∙ (ap (slice_index s.words) (sym all_words) ∙ shown) in omega (arith, many, same, few, all_words);
       few = omega (arith, many, limits.words);

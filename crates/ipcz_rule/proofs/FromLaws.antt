@@ -1,20 +1,31 @@
 -- What the steps take from a lawful world, by the laws that functions of ipcz_world promise: nothing here looks into `Lawful`.
-use Rattle.std.specs.Prelude.{◌≡◌, ◌<◌, ℕ, Bool, true, false, ◌&&◌, not, Option, Some, None, is_some, IsSome, length, refl}
-use Rattle.std.proofs.Common.{ap, ◌∙◌, sym}
+use Rattle.std.specs.Prelude.{◌≡◌, ◌<◌, ℕ, Bool, true, false, ◌&&◌, not, Option, Some, None, is_some, IsSome, length, slice_get, refl}
+use Rattle.std.proofs.Common.{arith, ap, ◌∙◌, sym}
+use Rattle.std.proofs.lemmas.Bool.Decides.{nat_tests}
 use Rattle.ipcz_base.specs.declared.end.End.{End}
 use Rattle.ipcz_base.specs.Ends.{has_end}
+use Rattle.ipcz_base.specs.declared.message.Message.{Message}
+use Rattle.ipcz_base.specs.declared.message.Message.TheVariants as messages
+use Rattle.ipcz_word.specs.Laws.{HasNode}
 use Rattle.ipcz_word.specs.Word.{empty_word}
-use Rattle.ipcz_router.specs.Router.{Router, is_terminal, is_open_terminal}
+use Rattle.ipcz_router.specs.Router.{Router, is_terminal, is_open_terminal, source_of}
+use Rattle.ipcz_router.specs.Bypass.{is_source}
 use Rattle.ipcz_router.specs.Calls.{next_number}
-use Rattle.ipcz_node.specs.Node.{Found, terminal_of, is_terminal_of}
-use Rattle.ipcz_world.specs.World.{World, node_at, word_at, mail_at, way}
+use Rattle.ipcz_node.specs.Node.{Found, terminal_of, is_terminal_of, router_in}
+use Rattle.ipcz_world.specs.declared.mail.Mail.TheVariants as mails
+use Rattle.ipcz_world.specs.World.{World, node_at, word_at, mail_at, way, flow, messages_in}
+use Rattle.ipcz_world.specs.Flows.{IsUnderWay}
+use Rattle.ipcz_world.specs.WordAnswers.{source_for}
 use Rattle.ipcz_world.specs.Turns.{hand_message}
 use Rattle.ipcz_world.specs.Books.{Books, read}
 use Rattle.ipcz_world.specs.Routes.{Routes}
 use Rattle.ipcz_world.specs.Lawful.{Lawful}
 use Rattle.ipcz_world.proofs.Whole.{nodes_are_sound, terminals_keep_books, hands_stand_in_mail, opening_words_are_empty, pending_have_terminals}
+use Rattle.ipcz_world.proofs.Whole.{lawful_worlds_stray_nothing}
+use Rattle.ipcz_world.proofs.code.Regular.{lawful-regular}
 use Rattle.ipcz_world.proofs.calls.Puts.{router_found}
 use Rattle.ipcz_world.proofs.facts.Finding.{terminal_tells, found_tells}
+use Rattle.ipcz_rule.specs.Steps.{trusted}
 
 -- its sender is a node of the world
 pub hand_sender : (w : World) (b : Books) (g : Routes) (n from : ℕ) → Lawful w b g → n < w.count → (node_at w n).hand ≡ Some from → from < w.count
@@ -73,3 +84,31 @@ some_found (Some f) h = (f, refl)
 -- an end whose close is pending at a node has its terminal there
 pub pending_terminal : (w : World) (b : Books) (g : Routes) (n : ℕ) (e : End) → Lawful w b g → n < w.count → has_end e (node_at w n).pending ≡ true → (f : Found) × (terminal_of (node_at w n) e ≡ Some f)
 pending_terminal w b g n e law l has = some_found (terminal_of (node_at w n) e) (pending_have_terminals w b g n e law l has)
+
+-- the source that a router would name is a node of the world
+pub source_is_node : (w : World) (b : Books) (g : Routes) (n serial : ℕ) (r : Router) → Lawful w b g → n < w.count → router_in (node_at w n) serial ≡ Some r → HasNode (source_of r)
+source_is_node w b g n serial r law l = (lawful-regular w (record { books = b; routes = g; lawful = law })).sourced n serial r l
+
+placed : (w : World) (from n : ℕ) (x : Message) → mail_at w (way w from n) ≡ mails.Hand x → slice_get (flow w from n) 0 ≡ Some x
+unfolding flow messages_in
+placed w from n x full = rw full refl
+
+-- what is in a hand is under way
+in_flow : (w : World) (from n : ℕ) (x : Message) → from < w.count → n < w.count → mail_at w (way w from n) ≡ mails.Hand x → IsUnderWay w from n 0 x
+in_flow w from n x k l full = record { sender = k; receiver = l; place = placed w from n x full }
+
+source_is : (from : ℕ) (o : Option ℕ) → is_source from o ≡ true → o ≡ Some from
+unfolding is_source
+source_is from None h = cc
+source_is from (Some a) h = grind (arith, nat_tests, h)
+
+-- the source that the world gives for a message in hand
+pub hand_source : (w : World) (b : Books) (g : Routes) (n from : ℕ) (x : Message) → Lawful w b g → n < w.count → from < w.count → mail_at w (way w from n) ≡ mails.Hand x → source_for w x ≡ trusted from x
+unfolding source_for trusted
+hand_source w b g n from (messages.Item link side number item moves) law l k full = refl
+hand_source w b g n from (messages.BypassPeer link side old target fresh) law l k full = refl
+hand_source w b g n from (messages.AcceptBypass old side fresh length) law l k full =
+    source_is from (source_for w (messages.AcceptBypass old side fresh length)) ((lawful_worlds_stray_nothing w b g law).1.sourced from n 0 old side fresh length (in_flow w from n (messages.AcceptBypass old side fresh length) k l full))
+hand_source w b g n from (messages.StopProxying old side in_length out_length) law l k full = refl
+hand_source w b g n from (messages.ProxyWillStop link side in_length) law l k full = refl
+hand_source w b g n from (messages.Flush link side) law l k full = refl

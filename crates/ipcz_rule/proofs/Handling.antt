@@ -16,7 +16,8 @@ use Rattle.ipcz_router.specs.Bypass.{bypass_peer, accept_message, accept_bypass,
 use Rattle.ipcz_router.specs.Router.{inward_edge}
 use Rattle.ipcz_node.specs.declared.act.Act.TheVariants as node_acts
 use Rattle.ipcz_node.specs.Node.{Node, Found, on_found, link_router, with_router, add_router, add_stray}
-use Rattle.ipcz_node.specs.Hands.{deliver, handle, fits, tell, make_terminals, take_in, is_hand_of}
+use Rattle.ipcz_node.specs.Hands.{message_lacks_serials, deliver, handle, fits, tell, make_terminals, take_in, is_hand_of}
+use Rattle.ipcz_world.specs.WordAnswers.{source_for}
 use Rattle.ipcz_world.specs.declared.mail.Mail.TheVariants as mails
 use Rattle.ipcz_world.specs.World.{World, mail_at, way, set_node, set_mail}
 use Rattle.ipcz_world.specs.Turns.{after_act}
@@ -24,9 +25,9 @@ use Rattle.ipcz_world.specs.Routes.{hand_of}
 use Rattle.ipcz_world.specs.Lawful.{Lawful}
 use Rattle.ipcz_rule.specs.declared.view.View.{View}
 use Rattle.ipcz_rule.specs.Rule.{Slot, Mine, mailbox, Rules, with_part}
-use Rattle.ipcz_rule.specs.Steps.{hand_part}
+use Rattle.ipcz_rule.specs.Steps.{hand_part, trusted}
 use Rattle.ipcz_rule.specs.Kinds.{Hands}
-use Rattle.ipcz_rule.proofs.FromLaws.{hand_sender}
+use Rattle.ipcz_rule.proofs.FromLaws.{hand_sender, hand_source}
 use Rattle.ipcz_rule.proofs.Joins.{joined_same}
 use Rattle.ipcz_rule.proofs.Moved.{spelled}
 use Rattle.ipcz_rule.proofs.Touching.{turn_lawful}
@@ -68,10 +69,10 @@ unfolding is_hand_of
 freed None sender e = refl
 freed (Some a) sender e = let t : nat_eq a sender ≡ true = grind (arith, nat_tests, e) in rw t refl
 
-pub deliver_hand : (n : Node) (sender : ℕ) (m : Message) → n.hand ≡ Some sender → (deliver n sender m).hand ≡ None
+pub deliver_hand : (n : Node) (sender : ℕ) (m : Message) (source : Option ℕ) → n.hand ≡ Some sender → (deliver n sender m source).hand ≡ None
 unfolding deliver
-deliver_hand n sender m e = freed (if fits n sender m then handle n sender m else add_stray n m).hand sender
-    (either_hand (fits n sender m) n (handle n sender m) (add_stray n m) (handle_hand n sender m) refl ∙ e)
+deliver_hand n sender m source e = freed (if fits n sender m source then handle n sender m else add_stray n m).hand sender
+    (either_hand (fits n sender m source) n (handle n sender m) (add_stray n m) (handle_hand n sender m) refl ∙ e)
 
 empty_hand : (w : World) (n : ℕ) (h : Option ℕ) → h ≡ None → hand_of w n h ≡ None
 unfolding hand_of
@@ -95,19 +96,20 @@ hands count size slots id i k from m p x rest is at_k at_i holds has serials slo
     let full' : mail_at w (way w from n) ≡ mails.Hand x = in_hand w n from x (ap (hand_of w n) (sym holds) ∙ (sp.message ∙ has)) in
     let full : mail_at w k ≡ mails.Hand x = ap (mail_at w) kk ∙ full' in
     let two : slice_index s.words i ≡ 2 = ap (slice_index s.words) index ∙ at_two (slice_index s.words (mailbox w k)) (get_elem? s.homes k) (mail_at w k) x (r.shows.mail k inside) full in
-    let p' = hand_part from x p in
+    let src : source_for w x ≡ trusted from x = hand_source w r.books r.routes n from x r.lawful n_in from_in full' in
+    let p' = hand_part from (trusted from x) x p in
     let w' = set_mail (set_node w n p'.state) k mails.Empty in
     let moves = mail_moves w n p'.state k mails.Empty in
     let g' = turn_routes w r.routes n (node_acts.Hand from) in
-    let kept = turn_lawful w r.books r.routes n (node_acts.Hand from) r.lawful n_in (hand_can w n from p.state x sp.state holds full') (hand_lacks w n from p.state x sp.state full' serials) in
+    let kept = turn_lawful w r.books r.routes n (node_acts.Hand from) r.lawful n_in (hand_can w n from p.state x sp.state holds full') (hand_lacks w n from p.state x sp.state full' (ap (λ o. message_lacks_serials p.state from x o) src ∙ serials)) in
     let lawful : Lawful w' r.books g' = subst (λ q. Lawful (set_mail (set_node w n p'.state) q mails.Empty) r.books g') (sym kk)
-    (subst (λ u. Lawful u r.books g') (hand_after w n from p.state x sp.state full') (subst (λ b. Lawful (after_act w n (node_acts.Hand from)) b g') (hand_written w r.books n from x full') kept)) in
+    (subst (λ u. Lawful u r.books g') (hand_after w n from p.state x sp.state full' ∙ ap (λ o. set_mail (set_node w n (deliver p.state from x o)) (way w from n) mails.Empty) src) (subst (λ b. Lawful (after_act w n (node_acts.Hand from)) b g') (hand_written w r.books n from x full') kept)) in
     let homes' = set s.homes k (some None) in
     let long : i < length s.words = omega (arith, index, inside, wide) in
     let same_three : nat_eq (slice_index s.words i) 3 ≡ nat_eq 0 3 = ap (λ q. nat_eq q 3) two in
     let rules = mail_rules count size s r id m.0 (with_part p' m.0) p p' w' g' i k 0 homes' mails.Empty at is refl moves index inside (length-set s.homes k (some None))
     (λ j ne. set_else s.homes k j (some None) ne) (set_here s.homes k (some None) (omega (arith, inside, deep_is)), refl) refl r.books (joined_same s.views id m.0 (with_part p' m.0) p p' r.books at is refl refl refl refl r.joined)
-    (empty_hand w' n (deliver p.state from x).hand (deliver_hand p.state from x holds))
+    (empty_hand w' n (deliver p.state from x (trusted from x)).hand (deliver_hand p.state from x (trusted from x) holds))
     (λ t l. sp.probed t l ∙ three_stays s.words i 0 (mailbox w (way w n t)) long same_three)
     (λ q sq ne a e same. way_second w.count a from q.node n sq.inside n_in ne (same ∙ kk))
     (λ q ne t l e. same_three)

@@ -109,4 +109,5 @@ joins count size id v other w s r at apart at_other =
       lawful = r.lawful;
       lengths = r.lengths;
       strays = r.strays;
+      sources = r.sources;
     }

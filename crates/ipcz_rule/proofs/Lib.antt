@@ -12,6 +12,7 @@ pub mod Joins
 pub mod Known
 pub mod Mailing
 pub mod Moved
+pub mod OldLinks
 pub mod Opening
 pub mod Posting
 pub mod Probing

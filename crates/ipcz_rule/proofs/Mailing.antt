@@ -17,7 +17,7 @@ use Rattle.ipcz_world.proofs.frames.Frames.{node-set_node, node-set_mail, word-s
 use Rattle.ipcz_rule.specs.declared.view.View.{View}
 use Rattle.ipcz_rule.specs.declared.view.Part.{Part}
 use Rattle.ipcz_rule.specs.Rule.{Homes, St, has_number, mailbox, MailAt, Spells, Rules, Joined}
-use Rattle.ipcz_rule.proofs.Moved.{ruled, spelled}
+use Rattle.ipcz_rule.proofs.Moved.{ruled, spelled, keeps_sources}
 use Rattle.ipcz_rule.proofs.Touches.{same_hand, same_box, same_way}
 
 pub way_low : (c a b s t : ℕ) → s < c → a < b → (a * c + s) < b * c + t
@@ -117,6 +117,7 @@ module _ (count size : ℕ) (s : St) (r : Rules count size s) (id : ℕ) (v v' :
     wide = length-set s.words i n';
     deep = deep;
     links = λ j l. let l' : j < w.size = rw (← moves.size) l in else j (λ e. let x = index in omega arith) ∙ (r.shows.links j l' ∙ ap bits_of (sym (moves.words j)));
+    sources = keeps_sources w w' moves.words r.sources;
     claims = ap (slice_index (set s.words i n')) moves.size ∙ (else w.size (λ e. let x = index in omega arith) ∙ (r.shows.claims ∙ sym moves.claimed));
     mail = mails_shown;
     node = node;

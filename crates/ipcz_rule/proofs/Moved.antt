@@ -1,10 +1,12 @@
 -- A step of a seat: what it owes, and the rule after it.
-use Rattle.std.specs.Prelude.{◌≡◌, ◌≢◌, ◌<◌, ◌+◌, ◌*◌, ℕ, zero, suc, List, [], ◌∷◌, length, slice_index}
+use Rattle.std.specs.Prelude.{◌≡◌, ◌≢◌, ◌<◌, ◌+◌, ◌*◌, ℕ, zero, suc, Bool, true, false, cond, nat_eq, List, [], ◌∷◌, length, slice_index}
 use Rattle.std.proofs.Common.{ap, ◌∙◌, sym, subst, ⊎_elim, set}
 use mathlib.Core.Option.{some, some-injective, some-ne-none}
 use lib.ListN.{get_elem?}
 use Rattle.atomic_table.proofs.Lists.{at_set}
+use Rattle.ipcz_word.specs.Laws.{HasNode}
 use Rattle.ipcz_word.specs.Layout.{bits_of}
+use Rattle.ipcz_word.specs.Word.{Word}
 use Rattle.ipcz_world.specs.World.{World, word_at, mail_at}
 use Rattle.ipcz_world.specs.Books.{Books}
 use Rattle.ipcz_world.specs.Routes.{Routes}
@@ -29,6 +31,7 @@ pub record Moves (s : St) (w w' : World) (words : List ℕ) (homes : Homes) (p p
   pub wide : length words ≡ length s.words
   pub deep : length homes ≡ length s.homes
   pub links : (j : ℕ) → j < w'.size → slice_index words j ≡ bits_of (word_at w' j)
+  pub sources : (j : ℕ) → HasNode (word_at w' j).source
   pub claims : slice_index words w'.size ≡ w'.claimed
   pub mail : (k : ℕ) → k < w'.count * w'.count → MailAt (slice_index words (mailbox w' k)) (get_elem? homes k) (mail_at w' k)
   pub node : p'.node ≡ p.node
@@ -73,7 +76,20 @@ ruled s r w' b' g' words homes id v v' p p' at is is' m joined lawful = record {
   lawful = lawful;
   lengths = (lawful_worlds_stray_nothing w' b' g' lawful).0;
   strays = (lawful_worlds_stray_nothing w' b' g' lawful).1;
+  sources = m.sources;
 }
+
+-- where the words stay, so do their sources
+pub keeps_sources : (w w' : World) → ((i : ℕ) → word_at w' i ≡ word_at w i) → ((i : ℕ) → HasNode (word_at w i).source) → (i : ℕ) → HasNode (word_at w' i).source
+keeps_sources w w' same named i = subst (λ (x : Word). HasNode x.source) (sym (same i)) (named i)
+
+-- and so do those of the others where one word names a node, or none
+pub named_beside : (i j : ℕ) (x y : Word) → HasNode x.source → HasNode y.source → HasNode (cond (nat_eq j i) x y).source
+named_beside i j x y new old = go (nat_eq j i)
+  where
+    go : (b : Bool) → HasNode (cond b x y).source
+    go true = new
+    go false = old
 
 -- the own part says of the world what the rule says
 pub spelled : {count size : ℕ} (s : St) (r : Rules count size s) (id : ℕ) (v : View) (p : Part) → get_elem? s.views id ≡ some v → v.parts ≡ p ∷ [] → Spells s.words r.world p

@@ -9,7 +9,8 @@ use native.Mathlib.Decide.{ℕ_discrete}
 use lib.ListN.{get_elem?}
 use Rattle.atomic_table.specs.Table.{stepped, keeps}
 use Rattle.ipcz_word.specs.Word.{Word}
-use Rattle.ipcz_word.specs.Layout.{bits_of}
+use Rattle.ipcz_word.specs.Laws.{HasNode}
+use Rattle.ipcz_word.specs.Layout.{source_bits, sets_bits, bits_of}
 use Rattle.ipcz_node.specs.Node.{Node}
 use Rattle.ipcz_world.specs.World.{World, node_at, word_at, set_node, set_word}
 use Rattle.ipcz_world.specs.Lawful.{Lawful}
@@ -18,7 +19,7 @@ use Rattle.ipcz_world.proofs.Whole.{each_step_keeps_lawful}
 use Rattle.ipcz_rule.specs.declared.view.View.{View}
 use Rattle.ipcz_rule.specs.declared.view.Part.{Part}
 use Rattle.ipcz_rule.specs.Rule.{St, mailbox, Rules, with_part, with_state, saw}
-use Rattle.ipcz_rule.proofs.Moved.{ruled, spelled}
+use Rattle.ipcz_rule.proofs.Moved.{ruled, spelled, named_beside}
 use Rattle.ipcz_rule.proofs.Touches.{NodeMoves, others_spell, own_spells, mails_show}
 use Rattle.ipcz_rule.proofs.Joins.{joined_same}
 use Rattle.std.specs.Prelude.{nat_lt, if◌then◌else◌}
@@ -66,8 +67,12 @@ unfolding advance
 open_written w b n i = refl
 
 empty_bits : bits_of empty_word ≡ 0
-unfolding bits_of empty_word has no_sides
+unfolding bits_of sets_bits empty_word has no_sides source_bits
 empty_bits = refl
+
+open_named : HasNode open_word.source
+unfolding open_word
+open_named = tt
 
 module _ (count size : ℕ) (s : St) (r : Rules count size s) (id : ℕ) (v v' : View) (p : Part) (i n' : ℕ)
     (at : get_elem? s.views id ≡ some v) (is : v.parts ≡ p ∷ []) (opening : p.state.opening ≡ Some i) (fine : serials_refusal p.state ≡ None) (inside : i < size)
@@ -104,6 +109,9 @@ module _ (count size : ℕ) (s : St) (r : Rules count size s) (id : ℕ) (v v' :
       (λ same. ap (slice_index (set s.words i n')) same ∙ (get_or-set_same s.words i n' 0 wide ∙ (new ∙ ap bits_of (sym (opened_word w i open_word p.node p'.state j ∙ grind (arith, nat_tests, same))))))
       (λ apart. get_or-set_other s.words i j n' 0 apart ∙ (r.shows.links j (rw (← (open_moves w i open_word p.node p'.state).size) l) ∙ ap bits_of (sym (opened_word w i open_word p.node p'.state j ∙ grind (arith, nat_tests, apart)))))
 
+  sources : (j : ℕ) → HasNode (word_at w' j).source
+  sources j = subst (λ (x : Word). HasNode x.source) (sym (opened_word w i open_word p.node p'.state j)) (named_beside i j open_word (word_at w j) open_named (r.sources j))
+
   boxes : (k : ℕ) → slice_index (set s.words i n') (mailbox w k) ≡ slice_index s.words (mailbox w k)
   boxes k = get_or-set_other s.words i (mailbox w k) n' 0 (λ e. let l = below in omega arith)
 
@@ -117,6 +125,7 @@ module _ (count size : ℕ) (s : St) (r : Rules count size s) (id : ℕ) (v v' :
         wide = length-set s.words i n';
         deep = refl;
         links = links;
+        sources = sources;
         claims = ap (slice_index (set s.words i n')) moves.size ∙ (get_or-set_other s.words i w.size n' 0 (λ e. let l = below in omega arith) ∙ (r.shows.claims ∙ sym (claimed-set_word (set_node w p.node p'.state) i open_word ∙ claimed-set_node w p.node p'.state)));
         mail = mails_show s w w' (set s.words i n') p.node p'.state moves boxes r.owner r.shows;
         node = refl;

@@ -18,6 +18,7 @@ use Rattle.ipcz_node.specs.Node.{Node}
 use Rattle.ipcz_node.specs.Acts.{commit, post_of, has_mail_for, act_lacks_serials}
 use Rattle.ipcz_node.specs.Hands.{deliver, message_lacks_serials, is_hand_of}
 use Rattle.ipcz_node.specs.Events.{event_of, hand_event}
+use Rattle.ipcz_world.specs.WordAnswers.{source_for}
 use Rattle.ipcz_world.specs.declared.mail.Mail.{Mail}
 use Rattle.ipcz_world.specs.declared.mail.Mail.TheVariants as mails
 use Rattle.ipcz_world.specs.declared.step.Step.TheVariants as steps
@@ -105,10 +106,10 @@ look_after w n from x m is full =
     ap (λ z. after_look w n from (full_message z)) full ∙ ap (λ y. set_mail (set_node w n (commit y (node_acts.Look from) answers.Plain)) (way w from n) (mails.Hand m)) is
 
 pub hand_after : (w : World) (n from : ℕ) (x : Node) (m : Message) → node_at w n ≡ x → mail_at w (way w from n) ≡ mails.Hand m →
-    after_act w n (node_acts.Hand from) ≡ set_mail (set_node w n (deliver x from m)) (way w from n) mails.Empty
+    after_act w n (node_acts.Hand from) ≡ set_mail (set_node w n (deliver x from m (source_for w m))) (way w from n) mails.Empty
 unfolding after_act after_hand hand_message
 hand_after w n from x m is full =
-    ap (λ z. after_hand w n from (hand_message z)) full ∙ ap (λ y. set_mail (set_node w n (deliver y from m)) (way w from n) mails.Empty) is
+    ap (λ z. after_hand w n from (hand_message z)) full ∙ ap (λ y. set_mail (set_node w n (deliver y from m (source_for w m))) (way w from n) mails.Empty) is
 
 post_written : (w : World) (b : Books) (n to : ℕ) → advance w b (steps.Turn n) (replies.Turned (turn_event w n (node_acts.Post to))) ≡ b
 unfolding advance turn_event event_of after_turn
@@ -142,7 +143,7 @@ look_lacks : (w : World) (n from : ℕ) → turn_lacks_serials w n (node_acts.Lo
 unfolding turn_lacks_serials act_lacks_serials
 look_lacks w n from = refl
 
-pub hand_lacks : (w : World) (n from : ℕ) (x : Node) (m : Message) → node_at w n ≡ x → mail_at w (way w from n) ≡ mails.Hand m → message_lacks_serials x from m ≡ false → turn_lacks_serials w n (node_acts.Hand from) ≡ false
+pub hand_lacks : (w : World) (n from : ℕ) (x : Node) (m : Message) → node_at w n ≡ x → mail_at w (way w from n) ≡ mails.Hand m → message_lacks_serials x from m (source_for w m) ≡ false → turn_lacks_serials w n (node_acts.Hand from) ≡ false
 unfolding turn_lacks_serials hand_lacks_serials hand_message
 hand_lacks w n from x m is full l = rw (full, is) l
 

@@ -5,7 +5,8 @@ use Rattle.ipcz_base.specs.declared.item.Item.TheVariants.{Parcel}
 use Rattle.ipcz_base.specs.Ends.{opposite_end}
 use Rattle.ipcz_node.specs.Node.{Node}
 use Rattle.ipcz_node.specs.Hands.{is_unfit}
-use Rattle.ipcz_world.specs.World.{World}
+use Rattle.ipcz_world.specs.World.{World, node_at}
+use Rattle.ipcz_world.specs.WordAnswers.{source_for}
 use Rattle.ipcz_world.specs.Turns.{message_in_hand}
 use Rattle.ipcz_world.specs.Routes.{hand_of}
 use Rattle.ipcz_world.proofs.facts.LinkTests.{opposite_end-twice}
@@ -15,6 +16,9 @@ use Rattle.ipcz_world.proofs.ranks.Rating.{turns_keep_rates}
 use Rattle.ipcz_world.proofs.ranks.Turning.{turns_are_bounded}
 use Rattle.ipcz_rule.specs.RuleLaws.{RuleGivesHeadline, RuleOwes, RuleBoundsTurns, ShownHasLengths, PartsAreSound, PartsHandsFit, LinksAreWords, PutsAreOnce, GetsFollowPuts}
 use Rattle.ipcz_rule.proofs.Known.{sound_spelled, no_strays, found_word}
+use Rattle.ipcz_rule.specs.Steps.{trusted}
+use Rattle.ipcz_rule.proofs.FromLaws.{hand_sender, hand_source}
+use Rattle.ipcz_rule.proofs.Posting.{in_hand}
 
 pub rule_gives_headline : RuleGivesHeadline
 rule_gives_headline count size s r = (lawful_worlds_give_the_headline r.world r.books r.routes r.lawful, r.lengths, r.strays)
@@ -43,9 +47,12 @@ pub parts_hands_fit : PartsHandsFit
 parts_hands_fit count size s r id v j p from x seat there hand message unfit =
     let sp = (r.shows.parts id v j p seat there).1 in
     let w = r.world in
+    let held = ap (λ (y : Node). y.hand) sp.state ∙ hand in
+    let src : source_for w x ≡ trusted from x = hand_source w r.books r.routes p.node from x r.lawful sp.inside (hand_sender w r.books r.routes p.node from r.lawful sp.inside held)
+    (in_hand w p.node from x (ap (hand_of w p.node) (sym hand) ∙ (sp.message ∙ message))) in
     messages_in_hand_fit w r.books r.routes p.node from x r.lawful sp.inside (ap (λ (y : Node). y.hand) sp.state ∙ hand)
     (sym (hand_is w p.node from) ∙ (ap (hand_of w p.node) (sym hand) ∙ (sp.message ∙ message)))
-    (ap (λ (y : Node). is_unfit y from x) sp.state ∙ unfit)
+    (ap (λ (o : Option ℕ). is_unfit (node_at w p.node) from x o) src ∙ (ap (λ (y : Node). is_unfit y from x (trusted from x)) sp.state ∙ unfit))
 
 pub links_are_words : LinksAreWords
 links_are_words count size s r i inside = found_word s r i inside

@@ -1,16 +1,14 @@
 -- Where each node is settled by its part and no mailbox is full, each open pair of the shown world is direct.
-use Rattle.std.specs.Prelude.{◌≡◌, ◌≢◌, ◌⊎◌, ◌<◌, ◌≤◌, ◌+◌, ◌*◌, ℕ, true, false, length, Option, Some, None, refl}
+use Rattle.std.specs.Prelude.{◌≡◌, ◌<◌, ◌≤◌, ℕ, false, length, Option, Some, None, refl}
 use Rattle.std.specs.FinMap.{get-empty}
 use Rattle.std.specs.Ordering.{nat_cmp}
-use Rattle.std.proofs.Common.{arith, ap, ◌∙◌, sym, subst, ⊎_elim}
+use Rattle.std.proofs.Common.{arith, ap, ◌∙◌, sym, ⊎_elim}
 use Rattle.ipcz_router.specs.Router.{Router}
 use Rattle.ipcz_node.specs.Node.{Node, router_in, bare_node}
 use Rattle.ipcz_world.specs.World.{World, Key, node_at, router_at}
 use Rattle.ipcz_world.specs.Owed.{IsWet}
 use Rattle.ipcz_world.proofs.Whole.{lists_have_lengths, each_quiet_is_direct, quiet_has_no_proxy}
-use Rattle.ipcz_rule.specs.declared.view.Part.{Part}
-use Rattle.ipcz_rule.specs.Rule.{St, Rules}
-use Rattle.ipcz_rule.specs.RuleLaws.{EachNode, IsSettled, SettledPartsAreDirect}
+use Rattle.ipcz_rule.specs.RuleLaws.{SettledPartsAreDirect}
 use Rattle.ipcz_rule.proofs.QuietParts.{place_beyond, below_or, quiet_parts_show_quiet}
 
 node_beyond : (w : World) (n : ℕ) → length w.nodes ≤ n → node_at w n ≡ bare_node 0 0

@@ -7,7 +7,8 @@ use lib.ListN.{get_elem?}
 use Rattle.atomic_table.specs.Table.{opening}
 use Rattle.ipcz_base.specs.Indexed.{place_at}
 use Rattle.ipcz_base.specs.declared.side.Side.TheVariants.{A, B}
-use Rattle.ipcz_word.specs.Layout.{bits_of}
+use Rattle.ipcz_word.specs.Laws.{HasNode}
+use Rattle.ipcz_word.specs.Layout.{source_bits, sets_bits, bits_of}
 use Rattle.ipcz_word.specs.SideSets as sides
 use Rattle.ipcz_word.specs.Word.{empty_word, open_word}
 use Rattle.ipcz_node.specs.Node.{Node, bare_node, add_end}
@@ -38,11 +39,11 @@ read-zeros (suc n) zero = refl
 read-zeros (suc n) (suc i) = read-zeros n i
 
 open_bits : bits_of open_word ≡ 3
-unfolding bits_of open_word sides.has sides.both sides.none
+unfolding bits_of sets_bits source_bits open_word sides.has sides.both sides.none
 open_bits = refl
 
 empty_bits : bits_of empty_word ≡ 0
-unfolding bits_of empty_word sides.has sides.none
+unfolding bits_of sets_bits source_bits empty_word sides.has sides.none
 empty_bits = refl
 
 -- the empty words are read as 0, whatever lies behind them
@@ -59,6 +60,19 @@ unfolding place_at
 links_are zero r ys i l = empty_links r ys i (omega (arith, l))
 links_are (suc p) r ys zero l = sym open_bits
 links_are (suc p) r ys (suc i) l = links_are p r ys i (omega (arith, l))
+
+-- they name no source
+empty_named : (r i : ℕ) → HasNode (place_at empty_word (replicate r empty_word) i).source
+unfolding place_at empty_word
+empty_named zero i = tt
+empty_named (suc r) zero = tt
+empty_named (suc r) (suc i) = empty_named r i
+
+links_named : (p r i : ℕ) → HasNode (place_at empty_word (replicate p open_word ++ replicate r empty_word) i).source
+unfolding place_at open_word
+links_named zero r i = empty_named r i
+links_named (suc p) r zero = tt
+links_named (suc p) r (suc i) = links_named p r i
 
 -- the nodes of the world, by number
 nodes_are : (count i left n : ℕ) → n < left → place_at (bare_node 0 0) (new_nodes count (numbers_from i left)) n ≡ new_node (i + n) count
@@ -181,6 +195,10 @@ module _ (count size : ℕ) (limits : IsWithinLimits count size) where
   unfolding word_at new_world
   links i l = links_are pairs (size - pairs) (pairs ∷ behind) i (omega (arith, l, limits.pairs))
 
+  sources : (i : ℕ) → HasNode (word_at w i).source
+  unfolding word_at new_world
+  sources i = links_named pairs (size - pairs) i
+
   claims : slice_index words size ≡ pairs
   claims = let e : size ≡ size + 0 = omega arith in ap (λ n. get_or words n 0) e ∙ behind_links 0
 
@@ -206,6 +224,7 @@ module _ (count size : ℕ) (limits : IsWithinLimits count size) where
     lawful = law;
     lengths = (lawful_worlds_stray_nothing w no_books (first_routes count) law).0;
     strays = (lawful_worlds_stray_nothing w no_books (first_routes count) law).1;
+    sources = sources;
   }
     where
       law : Lawful (new_world count size) no_books (first_routes count)

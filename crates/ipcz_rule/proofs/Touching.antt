@@ -26,7 +26,7 @@ use Rattle.ipcz_world.proofs.Whole.{each_step_keeps_lawful, replies_plainly}
 use Rattle.ipcz_rule.specs.declared.view.View.{View}
 use Rattle.ipcz_rule.specs.declared.view.Part.{Part}
 use Rattle.ipcz_rule.specs.Rule.{St, Mine, mailbox, Joined, Rules}
-use Rattle.ipcz_rule.proofs.Moved.{ruled, spelled}
+use Rattle.ipcz_rule.proofs.Moved.{ruled, spelled, keeps_sources}
 use Rattle.ipcz_rule.proofs.Touches.{NodeMoves, others_spell, own_spells, mails_show}
 
 -- what a touch owes: the world after it, lawful with the books after it
@@ -61,6 +61,7 @@ touches count size slots id i m p p' v' is is' k owes s r deep at small =
       wide = refl;
       deep = refl;
       links = λ j l. r.shows.links j (rw (← t.moves.size) l) ∙ ap bits_of (sym (t.words j));
+      sources = keeps_sources r.world t.world t.words r.sources;
       claims = ap (slice_index s.words) t.moves.size ∙ (r.shows.claims ∙ sym t.claimed);
       mail = mails_show s r.world t.world s.words p.node p'.state t.moves same r.owner r.shows;
       node = k.node;

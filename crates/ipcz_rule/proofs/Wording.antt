@@ -1,5 +1,5 @@
 -- Steps on the word of a link: mark, wake, lock, wait, unlock, and loads of it.
-use Rattle.std.specs.Prelude.{◌≡◌, ◌<◌, ℕ, Bool, true, false, cond, nat_eq, List, [], ◌∷◌, length, slice_index, Some, refl, MatchBool}
+use Rattle.std.specs.Prelude.{◌≡◌, ◌<◌, ℕ, Bool, true, false, cond, nat_eq, List, [], ◌∷◌, length, slice_index, Option, Some, refl, MatchBool}
 use Rattle.std.proofs.Common.{arith, ap, ◌∙◌, sym, subst, set, length-set, get_or-set_same, get_or-set_other}
 use Rattle.std.proofs.lemmas.Bool.Decides.{nat_tests}
 use Rattle.std.proofs.lemmas.List.{set-get_or}
@@ -9,14 +9,17 @@ use native.Mathlib.Decide.{ℕ_discrete}
 use lib.ListN.{get_elem?}
 use Rattle.atomic_table.specs.Table.{Act as TableAct, Allows, Valid, stepped, carried_after, keeps}
 use Rattle.ipcz_base.specs.declared.side.Side.{Side}
-use Rattle.ipcz_word.specs.Word.{Word}
+use Rattle.ipcz_word.specs.Laws.{HasNode}
+use Rattle.ipcz_word.specs.Word.{Word, Plan, Locks, Waits, Refuses, plan_of, word_by_plan}
 use Rattle.ipcz_word.specs.Layout.{bits_of, word_of_bits}
 use Rattle.ipcz_word.proofs.Return.{sets_return}
-use Rattle.ipcz_router.specs.Router.{Router, primary_word}
+use Rattle.ipcz_router.specs.Router.{Router, primary_word, source_of}
 use Rattle.ipcz_router.specs.declared.act.RouterAct.{RouterAct}
+use Rattle.ipcz_router.specs.declared.act.RouterAct.TheVariants as acts
 use Rattle.ipcz_node.specs.declared.act.Act.TheVariants.{Router as OfRouter}
 use Rattle.ipcz_node.specs.Node.{Node}
 use Rattle.ipcz_node.specs.Acts.{commit}
+use Rattle.ipcz_world.specs.Coding.{IsLinkNumber}
 use Rattle.ipcz_world.specs.World.{World, node_at, word_at, set_node, set_word}
 use Rattle.ipcz_world.specs.WordAnswers.{word_answer, word_after}
 use Rattle.ipcz_world.specs.Lawful.{Lawful}
@@ -25,8 +28,8 @@ use Rattle.ipcz_rule.specs.declared.view.View.{View}
 use Rattle.ipcz_rule.specs.declared.view.Part.{Part}
 use Rattle.ipcz_rule.specs.Rule.{Slot, St, Mine, mailbox, Rules, with_part, saw}
 use Rattle.ipcz_rule.specs.Steps.{CanAct, is_on_word}
-use Rattle.ipcz_rule.proofs.Known.{sound_part}
-use Rattle.ipcz_rule.proofs.Moved.{ruled, spelled}
+use Rattle.ipcz_rule.proofs.Known.{sound_part, named_part, found_word}
+use Rattle.ipcz_rule.proofs.Moved.{ruled, spelled, named_beside}
 use Rattle.ipcz_rule.proofs.Touches.{NodeMoves, others_spell, own_spells, mails_show}
 use Rattle.ipcz_rule.proofs.Joins.{joined_same}
 use Rattle.ipcz_rule.proofs.Acting.{plain_part, act_routes, act_lawful, act_hand, after_word, unwritten_word}
@@ -44,17 +47,40 @@ word_moves w i y n x = record {
 word_is : (w : World) (i : ℕ) (y : Word) (n : ℕ) (x : Node) (j : ℕ) → word_at (set_node (set_word w i y) n x) j ≡ cond (nat_eq j i) y (word_at w j)
 word_is w i y n x j = word-set_node (set_word w i y) n x j ∙ word-set_word w i y j
 
+-- an act of a router that would name a node leaves a word that names one, or none
+by_plan_named : (x : Word) (s : Side) (o : Option ℕ) (q : Plan) → HasNode x.source → HasNode o → HasNode (word_by_plan x s o q).source
+unfolding word_by_plan
+by_plan_named x s o Locks old new = new
+by_plan_named x s o Waits old new = old
+by_plan_named x s o Refuses old new = old
+
+named_after : (x : Word) (s : Side) (o : Option ℕ) (act : RouterAct) → HasNode x.source → HasNode o → HasNode (word_after x s o act).source
+unfolding word_after
+named_after x s o acts.SendOut old new = old
+named_after x s o acts.SendIn old new = old
+named_after x s o acts.Discard old new = old
+named_after x s o acts.FinishOut old new = old
+named_after x s o acts.FinishIn old new = old
+named_after x s o acts.Leave old new = old
+named_after x s o acts.Mark old new = old
+named_after x s o acts.Wake old new = old
+named_after x s o acts.Claim old new = old
+named_after x s o acts.Lock old new = by_plan_named x s o (plan_of x s) old new
+named_after x s o acts.Begin old new = old
+named_after x s o acts.Unlock old new = tt
+named_after x s o acts.Rest old new = old
+
 module _ (count size : ℕ) (s : St) (r : Rules count size s) (id : ℕ) (v v' : View) (p : Part) (serial : ℕ) (rt : Router) (act : RouterAct) (i n' : ℕ)
     (at : get_elem? s.views id ≡ some v) (is : v.parts ≡ p ∷ []) (can : CanAct p.state serial rt act) (on : is_on_word act ≡ true) (primary : primary_word rt ≡ Some i) (inside : i < size)
-    (new : n' ≡ bits_of (word_after (word_at r.world i) rt.end.side act)) (is' : v'.parts ≡ plain_part serial act (word_answer (word_at r.world i) rt.end.side act) p ∷ []) where
+    (new : n' ≡ bits_of (word_after (word_at r.world i) rt.end.side (source_of rt) act)) (is' : v'.parts ≡ plain_part serial act (word_answer (word_at r.world i) rt.end.side (source_of rt) act) p ∷ []) where
   abbrev w : World
   w = r.world
 
   abbrev y : Word
-  y = word_after (word_at r.world i) rt.end.side act
+  y = word_after (word_at r.world i) rt.end.side (source_of rt) act
 
   abbrev p' : Part
-  p' = plain_part serial act (word_answer (word_at r.world i) rt.end.side act) p
+  p' = plain_part serial act (word_answer (word_at r.world i) rt.end.side (source_of rt) act) p
 
   abbrev w' : World
   w' = set_node (set_word w i y) p.node p'.state
@@ -70,12 +96,18 @@ module _ (count size : ℕ) (s : St) (r : Rules count size s) (id : ℕ) (v v' :
       let sp = spelled s r id v p at is in
       let kept = act_lawful w r.books r.routes p.node serial p.state rt act r.lawful sp.inside sp.state can (unwritten_word act on) in
       let moved = subst (λ (u : World). Lawful u r.books (act_routes w r.routes p.node serial act)) (after_word w p.node serial rt act i on primary) kept in
-      subst (λ (z : Node). Lawful (set_node (set_word w i y) p.node (commit z (OfRouter serial act) (word_answer (word_at w i) rt.end.side act))) r.books (act_routes w r.routes p.node serial act)) sp.state moved
+      subst (λ (z : Node). Lawful (set_node (set_word w i y) p.node (commit z (OfRouter serial act) (word_answer (word_at w i) rt.end.side (source_of rt) act))) r.books (act_routes w r.routes p.node serial act)) sp.state moved
 
   links : (j : ℕ) → j < w'.size → slice_index (set s.words i n') j ≡ bits_of (word_at w' j)
   links j l = dite (ℕ_discrete j i)
       (λ same. ap (slice_index (set s.words i n')) same ∙ (get_or-set_same s.words i n' 0 wide ∙ (new ∙ ap bits_of (sym (word_is w i y p.node p'.state j ∙ grind (arith, nat_tests, same))))))
       (λ apart. get_or-set_other s.words i j n' 0 apart ∙ (r.shows.links j (rw (← (word_moves w i y p.node p'.state).size) l) ∙ ap bits_of (sym (word_is w i y p.node p'.state j ∙ grind (arith, nat_tests, apart)))))
+
+  sources : (j : ℕ) → HasNode (word_at w' j).source
+  sources j =
+      let own = named_part s r id v p serial rt at is can.there in
+      subst (λ (x : Word). HasNode x.source) (sym (word_is w i y p.node p'.state j))
+      (named_beside i j y (word_at w j) (named_after (word_at w i) rt.end.side (source_of rt) act (r.sources i) own) (r.sources j))
 
   boxes : (k : ℕ) → slice_index (set s.words i n') (mailbox w k) ≡ slice_index s.words (mailbox w k)
   boxes k = get_or-set_other s.words i (mailbox w k) n' 0 (λ e. let l = below in omega arith)
@@ -90,10 +122,11 @@ module _ (count size : ℕ) (s : St) (r : Rules count size s) (id : ℕ) (v v' :
         wide = length-set s.words i n';
         deep = refl;
         links = links;
+        sources = sources;
         claims = ap (slice_index (set s.words i n')) moves.size ∙ (get_or-set_other s.words i w.size n' 0 (λ e. let l = below in omega arith) ∙ (r.shows.claims ∙ sym (claimed-set_node (set_word w i y) p.node p'.state ∙ claimed-set_word w i y)));
         mail = mails_show s w w' (set s.words i n') p.node p'.state moves boxes r.owner r.shows;
         node = refl;
-        own = own_spells s w w' (set s.words i n') p.node p'.state moves boxes p p' refl refl refl (act_hand p.state serial act (word_answer (word_at r.world i) rt.end.side act)) refl refl sp;
+        own = own_spells s w w' (set s.words i n') p.node p'.state moves boxes p p' refl refl refl (act_hand p.state serial act (word_answer (word_at r.world i) rt.end.side (source_of rt) act)) refl refl sp;
         others = others_spell s w w' (set s.words i n') p.node p'.state moves boxes;
       }) (joined_same s.views id v v' p p' r.books at is is' refl refl refl r.joined) lawful
 
@@ -114,6 +147,7 @@ sees {count} {size} s r i id v v' p at is is' =
       wide = refl;
       deep = refl;
       links = r.shows.links;
+      sources = r.sources;
       claims = r.shows.claims;
       mail = r.shows.mail;
       node = refl;
@@ -123,18 +157,18 @@ sees {count} {size} s r i id v v' p at is is' =
     subst (λ (ws : List ℕ). Rules count size record { words = ws; homes = s.homes; views = set s.views id v' }) (sym (set-get_or s.words i 0)) rules
 
 -- the view after an act of a router on the word i, where it was found at n
-abbrev pub plain_view : ℕ → ℕ → ℕ → Side → RouterAct → Part → View → View
-plain_view i n serial side act p v = with_part (plain_part serial act (word_answer (word_of_bits n) side act) p) (saw i n v)
+abbrev pub plain_view : ℕ → ℕ → ℕ → Side → Option ℕ → RouterAct → Part → View → View
+plain_view i n serial side source act p v = with_part (plain_part serial act (word_answer (word_of_bits n) side source act) p) (saw i n v)
 
 module _ (count size id : ℕ) (m : Mine) (p : Part) (serial : ℕ) (rt : Router) (act : RouterAct) (i : ℕ) (f : ℕ → ℕ) (hit : ℕ → Bool)
     (is : m.0.parts ≡ p ∷ []) (can : CanAct p.state serial rt act) (on : is_on_word act ≡ true) (primary : primary_word rt ≡ Some i) (inside : i < size)
-    (fits : (x : Word) → hit (bits_of x) ≡ true → f (bits_of x) ≡ bits_of (word_after x rt.end.side act))
+    (fits : (x : Word) → IsLinkNumber (bits_of x) → hit (bits_of x) ≡ true → f (bits_of x) ≡ bits_of (word_after x rt.end.side (source_of rt) act))
     (stays : (n : ℕ) → hit n ≡ false → f n ≡ n) (s : St) (r : Rules count size s) (at : get_elem? s.views id ≡ some m.0) where
   abbrev n : ℕ
   n = slice_index s.words i
 
   abbrev Told : Bool → Mine → Type 0
-  Told b m' = MatchBool b (m' ≡ (plain_view i n serial rt.end.side act p m.0, m.1)) (m' ≡ (saw i n m.0, m.1))
+  Told b m' = MatchBool b (m' ≡ (plain_view i n serial rt.end.side (source_of rt) act p m.0, m.1)) (m' ≡ (saw i n m.0, m.1))
 
   abbrev F : Bool → Type 0
   F b = (v : View) × (a : TableAct Slot) × Valid s.homes m.1 a × Rules count size (stepped s i (f n) id m.1 v a) × Told b (v, carried_after m.1 a)
@@ -147,11 +181,11 @@ module _ (count size id : ℕ) (m : Mine) (p : Part) (serial : ℕ) (rt : Router
 
   by : (b : Bool) → hit n ≡ b → F b
   by true e = (
-    plain_view i n serial rt.end.side act p m.0,
+    plain_view i n serial rt.end.side (source_of rt) act p m.0,
     keeps,
     tt,
-    word_rules count size s r id m.0 (plain_view i n serial rt.end.side act p m.0) p serial rt act i (f n) at is can on primary inside
-        (ap f spelled_word ∙ fits (word_at r.world i) (ap hit (sym spelled_word) ∙ e)) (ap (λ x. plain_part serial act (word_answer x rt.end.side act) p ∷ []) back),
+    word_rules count size s r id m.0 (plain_view i n serial rt.end.side (source_of rt) act p m.0) p serial rt act i (f n) at is can on primary inside
+        (ap f spelled_word ∙ fits (word_at r.world i) (subst IsLinkNumber spelled_word (found_word s r i inside)) (ap hit (sym spelled_word) ∙ e)) (ap (λ x. plain_part serial act (word_answer x rt.end.side (source_of rt) act) p ∷ []) back),
     refl,
   )
   by false e = (
@@ -168,8 +202,8 @@ module _ (count size id : ℕ) (m : Mine) (p : Part) (serial : ℕ) (rt : Router
 -- a step on the word of a link: where the test holds of what it finds it is the act, else it is a load
 pub word_acts : (count size slots id : ℕ) (m : Mine) (p : Part) (serial : ℕ) (rt : Router) (act : RouterAct) (i : ℕ) (f : ℕ → ℕ) (hit : ℕ → Bool) →
     m.0.parts ≡ p ∷ [] → CanAct p.state serial rt act → is_on_word act ≡ true → primary_word rt ≡ Some i →
-    ((x : Word) → hit (bits_of x) ≡ true → f (bits_of x) ≡ bits_of (word_after x rt.end.side act)) →
+    ((x : Word) → IsLinkNumber (bits_of x) → hit (bits_of x) ≡ true → f (bits_of x) ≡ bits_of (word_after x rt.end.side (source_of rt) act)) →
     ((n : ℕ) → hit n ≡ false → f n ≡ n) →
-    Allows (Rules count size) slots id m i f (λ n m'. MatchBool (hit n) (m' ≡ (plain_view i n serial rt.end.side act p m.0, m.1)) (m' ≡ (saw i n m.0, m.1)))
+    Allows (Rules count size) slots id m i f (λ n m'. MatchBool (hit n) (m' ≡ (plain_view i n serial rt.end.side (source_of rt) act p m.0, m.1)) (m' ≡ (saw i n m.0, m.1)))
 word_acts count size slots id m p serial rt act i f hit is can on primary fits stays s r deep at small =
     by_test count size id m p serial rt act i f hit is can on primary ((sound_part s r id m.0 p at is).primary serial rt i can.there primary) fits stays s r at

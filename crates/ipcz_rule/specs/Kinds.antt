@@ -10,7 +10,7 @@ use Rattle.ipcz_base.specs.declared.parcel.Parcel as parcels
 use Rattle.ipcz_base.specs.Sides.{opposite}
 use Rattle.ipcz_word.specs.Word.{Plan, Refuses, plan_of, open_word}
 use Rattle.ipcz_word.specs.Layout.{bits_of, word_of_bits, stable_bit, waiting_bit, locked_bit}
-use Rattle.ipcz_router.specs.Router.{Router, primary_word}
+use Rattle.ipcz_router.specs.Router.{Router, primary_word, source_of}
 use Rattle.ipcz_router.specs.declared.act.RouterAct.{RouterAct}
 use Rattle.ipcz_router.specs.declared.act.RouterAct.TheVariants as router_acts
 use Rattle.ipcz_router.specs.declared.act.Answer.TheVariants as answers
@@ -25,7 +25,7 @@ use Rattle.ipcz_rule.specs.declared.view.View.{View}
 use Rattle.ipcz_rule.specs.declared.view.Part.{Part}
 use Rattle.ipcz_rule.specs.Rule.{Slot, Mine, Rules, has_number, with_part, saw}
 use Rattle.ipcz_rule.specs.Steps.{put_part, get_part, close_part, claimed_part, open_part, act_part, acted_view, CanAct, is_touch, is_touch_act}
-use Rattle.ipcz_rule.specs.Steps.{probe_part, unprobe_part, post_part, look_part, hand_part}
+use Rattle.ipcz_rule.specs.Steps.{probe_part, unprobe_part, post_part, look_part, old_word, trusted, hand_part}
 
 -- a load of any word
 abbrev pub Loads : Type 0
@@ -63,29 +63,29 @@ TouchActs = (count size slots id i : ℕ) (m : Mine) (p : Part) (act : Act) → 
 
 -- what an act of a router leaves of the seat where the test holds of the number found; else the step was a load
 abbrev pub Acted : ℕ → ℕ → Router → RouterAct → (ℕ → Bool) → Mine → Part → ℕ → Mine → Type 0
-Acted i serial r act hit m p n m' = MatchBool (hit n) (m' ≡ (acted_view i n serial r.end.side act p m.0, m.1)) (m' ≡ (saw i n m.0, m.1))
+Acted i serial r act hit m p n m' = MatchBool (hit n) (m' ≡ (acted_view i n serial r.end.side (source_of r) act p m.0, m.1)) (m' ≡ (saw i n m.0, m.1))
 
 -- mark
 abbrev pub Marks : Type 0
 Marks = (count size slots id i : ℕ) (m : Mine) (p : Part) (serial : ℕ) (r : Router) → m.0.parts ≡ p ∷ [] → CanAct p.state serial r router_acts.Mark → primary_word r ≡ Some i →
-    Allows (Rules count size) slots id m i (λ n. bit_or n (stable_bit r.end.side)) (λ n m'. m' ≡ (acted_view i n serial r.end.side router_acts.Mark p m.0, m.1))
+    Allows (Rules count size) slots id m i (λ n. bit_or n (stable_bit r.end.side)) (λ n m'. m' ≡ (acted_view i n serial r.end.side (source_of r) router_acts.Mark p m.0, m.1))
 
 -- wake
 abbrev pub Wakes : Type 0
 Wakes = (count size slots id i : ℕ) (m : Mine) (p : Part) (serial : ℕ) (r : Router) → m.0.parts ≡ p ∷ [] → CanAct p.state serial r router_acts.Wake → primary_word r ≡ Some i →
     Allows (Rules count size) slots id m i (λ n. bit_and n (18446744073709551615 - waiting_bit (opposite r.end.side)))
-    (λ n m'. m' ≡ (acted_view i n serial r.end.side router_acts.Wake p m.0, m.1))
+    (λ n m'. m' ≡ (acted_view i n serial r.end.side (source_of r) router_acts.Wake p m.0, m.1))
 
--- unlock
+-- unlock: the mask clears bits 8 to 15 too, where the source stands
 abbrev pub Unlocks : Type 0
 Unlocks = (count size slots id i : ℕ) (m : Mine) (p : Part) (serial : ℕ) (r : Router) → m.0.parts ≡ p ∷ [] → CanAct p.state serial r router_acts.Unlock → primary_word r ≡ Some i →
-    Allows (Rules count size) slots id m i (λ n. bit_and n (18446744073709551615 - locked_bit r.end.side))
-    (λ n m'. m' ≡ (acted_view i n serial r.end.side router_acts.Unlock p m.0, m.1))
+    Allows (Rules count size) slots id m i (λ n. bit_and n (18446744073709486335 - locked_bit r.end.side))
+    (λ n m'. m' ≡ (acted_view i n serial r.end.side (source_of r) router_acts.Unlock p m.0, m.1))
 
 -- lock or wait: the word is exchanged for that after the plan, where it is what was found before
 abbrev pub TriesLock : Type 0
 TriesLock = (count size slots id i old : ℕ) (m : Mine) (p : Part) (serial : ℕ) (r : Router) → m.0.parts ≡ p ∷ [] → CanAct p.state serial r router_acts.Lock → primary_word r ≡ Some i →
-    Allows (Rules count size) slots id m i (λ n. either (eqb n old) (bits_of (word_after (word_of_bits old) r.end.side router_acts.Lock)) n)
+    Allows (Rules count size) slots id m i (λ n. either (eqb n old) (bits_of (word_after (word_of_bits old) r.end.side (source_of r) router_acts.Lock)) n)
     (Acted i serial r router_acts.Lock (λ n. eqb n old) m p)
 
 -- whether a plan is that the lock is refused
@@ -149,8 +149,13 @@ Looks = (count size slots id i k from : ℕ) (m : Mine) (p : Part) → m.0.parts
 -- handle: the message in hand is handled, and its slot goes home empty
 abbrev pub Hands : Type 0
 Hands = (count size slots id i k from : ℕ) (m : Mine) (p : Part) (x : Message) (rest : List (ℕ × Slot)) → m.0.parts ≡ p ∷ [] → k ≡ from * count + p.node → i ≡ size + 1 + count + k →
-    p.state.hand ≡ Some from → p.message ≡ Some x → message_lacks_serials p.state from x ≡ false → m.1 ≡ (k, None) ∷ rest →
-    Allows (Rules count size) slots id m i (λ n. 0) (λ n m'. m' ≡ (with_part (hand_part from x p) m.0, rest))
+    p.state.hand ≡ Some from → p.message ≡ Some x → message_lacks_serials p.state from x (trusted from x) ≡ false → m.1 ≡ (k, None) ∷ rest →
+    Allows (Rules count size) slots id m i (λ n. 0) (λ n m'. m' ≡ (with_part (hand_part from (trusted from x) x p) m.0, rest))
+
+-- a load of the old link's word before an AcceptBypass in hand is handled: it names the sender
+abbrev pub LoadsForHand : Type 0
+LoadsForHand = (count size slots id from old : ℕ) (m : Mine) (p : Part) (x : Message) → m.0.parts ≡ p ∷ [] → p.state.hand ≡ Some from → p.message ≡ Some x → old_word x ≡ Some old →
+    Allows (Rules count size) slots id m old (λ n. n) (λ n m'. ((word_of_bits n).source ≡ Some from) × (m' ≡ (saw old n m.0, m.1)))
 
 -- the slot of the message in hand is given back, while the message stays in hand: a load
 abbrev pub GivesBack : Type 0

@@ -9,6 +9,7 @@ use Rattle.ipcz_base.specs.declared.end.End.{End}
 use Rattle.ipcz_base.specs.declared.parcel.Parcel as parcels
 use Rattle.ipcz_base.specs.declared.item.Item.{Item}
 use Rattle.ipcz_base.specs.declared.message.Message.{Message}
+use Rattle.ipcz_word.specs.Laws.{HasNode}
 use Rattle.ipcz_word.specs.Layout.{bits_of}
 use Rattle.ipcz_node.specs.Node.{Node}
 use Rattle.ipcz_world.specs.declared.mail.Mail.{Mail}
@@ -120,6 +121,8 @@ pub record Rules (count size : ℕ) (s : St) : Type 0 where
   -- all that know a link's length know the same, and no message but a Flush finds its router gone
   pub lengths : LengthLaw world
   pub strays : StrayLaw world
+  -- each link word names a node as its source, or none
+  pub sources : (i : ℕ) → HasNode (word_at world i).source
 
 -- the view with another part, its only one
 abbrev pub with_part : Part → View → View

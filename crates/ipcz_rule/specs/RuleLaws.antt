@@ -8,7 +8,6 @@ use Rattle.ipcz_base.specs.declared.item.Item.TheVariants.{Parcel}
 use Rattle.ipcz_base.specs.declared.parcel.Parcel as parcels
 use Rattle.ipcz_base.specs.declared.message.Message.{Message}
 use Rattle.ipcz_base.specs.Ends.{opposite_end}
-use Rattle.ipcz_word.specs.Layout.{IsWord}
 use Rattle.ipcz_router.specs.Router.{Router}
 use Rattle.ipcz_node.specs.declared.act.Act.{Act}
 use Rattle.ipcz_node.specs.Node.{Node, router_in}
@@ -20,12 +19,14 @@ use Rattle.ipcz_world.specs.Owed.{Owed, IsDirect, HasNoProxies}
 use Rattle.ipcz_world.specs.Ranks.{Rates, IsRated, AreTurns, rank, times_used, unlock_count}
 use Rattle.ipcz_world.specs.Books.{Books}
 use Rattle.ipcz_world.specs.Routes.{Routes, is_opened}
+use Rattle.ipcz_world.specs.Coding.{IsLinkNumber}
 use Rattle.ipcz_world.specs.World.{World}
 use Rattle.ipcz_world.specs.Settling.{IsQuiet}
 use Rattle.ipcz_world.specs.Soundness.{HasLengths, IsSound}
 use Rattle.ipcz_rule.specs.declared.view.View.{View}
 use Rattle.ipcz_rule.specs.declared.view.Part.{Part}
 use Rattle.ipcz_rule.specs.Rule.{St, Rules, InParts, puts_of, gets_of}
+use Rattle.ipcz_rule.specs.Steps.{old_word, trusted}
 
 -- the sentence holds of the shown world with the joined books; its link lengths agree, and no message but a Flush finds its router gone
 abbrev pub RuleGivesHeadline : Type 0
@@ -47,11 +48,16 @@ PartsAreSound = (count size : ℕ) (s : St) (r : Rules count size s) (id : ℕ) 
 -- the message in a node's hand fits there, but a Flush may find its router gone
 abbrev pub PartsHandsFit : Type 0
 PartsHandsFit = (count size : ℕ) (s : St) (r : Rules count size s) (id : ℕ) (v : View) (j : ℕ) (p : Part) (from : ℕ) (x : Message) → get_elem? s.views id ≡ some v → get_elem? v.parts j ≡ some p →
-    p.state.hand ≡ Some from → p.message ≡ Some x → is_unfit p.state from x ≡ true → is_flush x ≡ true
+    p.state.hand ≡ Some from → p.message ≡ Some x → is_unfit p.state from x (trusted from x) ≡ true → is_flush x ≡ true
 
--- what stands at a link is a link word
+-- what stands at a link is the number of a link word, of which bits 6 and 7 are none
 abbrev pub LinksAreWords : Type 0
-LinksAreWords = (count size : ℕ) (s : St) (r : Rules count size s) (i : ℕ) → i < size → IsWord (slice_index s.words i)
+LinksAreWords = (count size : ℕ) (s : St) (r : Rules count size s) (i : ℕ) → i < size → IsLinkNumber (slice_index s.words i)
+
+-- the old link that an AcceptBypass in hand names has a word of the table
+abbrev pub OldLinksAreWords : Type 0
+OldLinksAreWords = (count size : ℕ) (s : St) (r : Rules count size s) (id : ℕ) (v : View) (j : ℕ) (p : Part) (from old : ℕ) (x : Message) → get_elem? s.views id ≡ some v →
+    get_elem? v.parts j ≡ some p → p.state.hand ≡ Some from → p.message ≡ Some x → old_word x ≡ Some old → old < size
 
 -- the views say of each number that an end has put at most one item
 abbrev pub PutsAreOnce : Type 0

@@ -5,6 +5,7 @@ use Rattle.ipcz_base.specs.declared.item.Item.{Item}
 use Rattle.ipcz_base.specs.declared.item.Item.TheVariants.{Parcel, Mark}
 use Rattle.ipcz_base.specs.declared.parcel.Parcel as parcels
 use Rattle.ipcz_base.specs.declared.message.Message.{Message}
+use Rattle.ipcz_base.specs.declared.message.Message.TheVariants as messages
 use Rattle.ipcz_base.specs.declared.side.Side.{Side}
 use Rattle.ipcz_word.specs.Layout.{word_of_bits}
 use Rattle.ipcz_router.specs.Router.{Router}
@@ -112,8 +113,8 @@ is_on_word router_acts.Unlock = true
 is_on_word other = false
 
 -- the view after an act of a router of a side on the word i, where it was found at n
-abbrev pub acted_view : ℕ → ℕ → ℕ → Side → RouterAct → Part → View → View
-acted_view i n serial side act p v = with_part (act_part (acts.Router serial act) (word_answer (word_of_bits n) side act) p) (saw i n v)
+abbrev pub acted_view : ℕ → ℕ → ℕ → Side → Option ℕ → RouterAct → Part → View → View
+acted_view i n serial side source act p v = with_part (act_part (acts.Router serial act) (word_answer (word_of_bits n) side source act) p) (saw i n v)
 
 -- the part of a node that has probed the mailbox to another
 abbrev pub probe_part : ℕ → Part → Part
@@ -147,11 +148,21 @@ look_part from x p = record {
   gone = p.gone;
 }
 
--- the part of a node that has handled this message in its hand
-abbrev pub hand_part : ℕ → Message → Part → Part
-hand_part from x p = record {
+-- the source that a message in hand has by the rule: an AcceptBypass comes from the node that the old link's word names
+unfoldable pub trusted : ℕ → Message → Option ℕ
+trusted from (messages.AcceptBypass old side fresh length) = Some from
+trusted from other = None
+
+-- the word of the old link that an AcceptBypass names; no other message asks for a source
+abbrev pub old_word : Message → Option ℕ
+old_word (messages.AcceptBypass old side fresh length) = Some old
+old_word other = None
+
+-- the part of a node that has handled this message in its hand, for which the word of the old link names this source
+abbrev pub hand_part : ℕ → Option ℕ → Message → Part → Part
+hand_part from source x p = record {
   node = p.node;
-  state = deliver p.state from x;
+  state = deliver p.state from x source;
   message = None;
   probed = p.probed;
   put = p.put;

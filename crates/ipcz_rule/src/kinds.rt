@@ -2,7 +2,7 @@
 //! rule of the table, and what it leaves of its seat.
 
 ghost use Rattle.ipcz_rule.specs.Kinds.{Loads, Puts, Gets, Closes, PendingCloses, Touches, TouchActs, Marks, Wakes, Unlocks, TriesLock, LoadsForLock};
-ghost use Rattle.ipcz_rule.specs.Kinds.{LoadsForClaim, Claims, ClaimsForOpen, Opens, Probes, Unprobes, Posts, Looks, Hands, GivesBack, JoinsParts};
+ghost use Rattle.ipcz_rule.specs.Kinds.{LoadsForClaim, Claims, ClaimsForOpen, Opens, Probes, Unprobes, Posts, Looks, LoadsForHand, Hands, GivesBack, JoinsParts};
 
 /// A load of any word changes nothing but what was seen.
 pub fn a_load_keeps_the_rule()
@@ -102,6 +102,11 @@ pub fn a_post_keeps_the_rule()
 /// A look takes the message of a full mailbox into the hand.
 pub fn a_look_keeps_the_rule()
     ensures { Looks }
+{}
+
+/// A load of the old link's word before an AcceptBypass in hand is handled: the source that it names is the sender.
+pub fn a_load_for_a_hand_keeps_the_rule()
+    ensures { LoadsForHand }
 {}
 
 /// The message in hand is handled, and its slot goes home empty.

@@ -1,6 +1,6 @@
 //! What the rule of the table says (specs/RuleLaws). Each function does nothing: its contract is the law.
 
-ghost use Rattle.ipcz_rule.specs.RuleLaws.{RuleGivesHeadline, RuleOwes, ShownHasLengths, PartsAreSound, PartsHandsFit, LinksAreWords};
+ghost use Rattle.ipcz_rule.specs.RuleLaws.{RuleGivesHeadline, RuleOwes, ShownHasLengths, PartsAreSound, PartsHandsFit, LinksAreWords, OldLinksAreWords};
 ghost use Rattle.ipcz_rule.specs.RuleLaws.{RuleBoundsTurns};
 ghost use Rattle.ipcz_rule.specs.RuleLaws.{PutsAreOnce, GetsFollowPuts, QuietPartsShowQuiet, SettledPartsAreDirect};
 
@@ -30,9 +30,14 @@ pub fn each_message_in_hand_fits_its_part()
     ensures { PartsHandsFit }
 {}
 
-/// What stands at a link is a link word.
+/// What stands at a link is the number of a link word, of which bits 6 and 7 are none.
 pub fn each_link_has_a_link_word()
     ensures { LinksAreWords }
+{}
+
+/// The old link that an AcceptBypass in a node's hand names has a link word of the table.
+pub fn each_old_link_has_a_link_word()
+    ensures { OldLinksAreWords }
 {}
 
 /// The views say of each number of an end at most one item that was put under it.

@@ -8,12 +8,12 @@ mod slow_devices;
 mod tests;
 
 use ipcz_base::Device;
-use program::{has_arguments, run_program};
+use program::{asked_for, run_program};
 use std::io;
 use std::process::ExitCode;
 
 fn main(rt: HostRuntime) -> ExitCode {
     let mut reader = Device::new(rt.reader());
     let mut writer = Device::new(io::writer(&rt));
-    ExitCode::from(run_program(rt.alloc(), has_arguments(&rt), &mut reader, &mut writer))
+    ExitCode::from(run_program(&rt, rt.alloc(), asked_for(&rt), &mut reader, &mut writer))
 }

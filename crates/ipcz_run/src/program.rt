@@ -1,23 +1,45 @@
-ghost use Rattle.std.specs.Prelude.{◌≡◌, false, true, Ok, OnErr};
-ghost use Rattle.ipcz_run.specs.Statuses.{status, usage, WritesUsage, RunsScript};
+ghost use Rattle.std.specs.Prelude.{◌≡◌, false, Ok, OnErr};
+ghost use Rattle.ipcz_run.specs.Statuses.{status, usage, WritesUsage, RunsOnThreads, RunsScript};
 
 use ipcz_base::Device;
 use ipcz_script::{Outcome, RunFault, run_script, write_whole};
+use ipcz_threads::run_threads;
 use std::alloc::{AllocError, Global};
 use std::env;
 use std::env::Env;
 use std::io::{ErrorKind, Read, Write};
+use std::thread::Threads;
 
 const USAGE: &[u8] = b"usage: ipcz_run [threads]\n";
 
-/// Whether the program has arguments beside its name, or that no memory was found to look at them.
+/// What the arguments of the program ask for.
+#[derive(Clone, Copy, Debug, PartialEq, Eq)]
+pub enum Asked {
+    /// There is none: a script is run on one thread.
+    Script,
+    /// There is the one word `threads`: the settles of a script run on threads.
+    Threads,
+    /// There are others: how the program is called.
+    Usage,
+}
+
+/// What the arguments of the program beside its name ask for, or that no memory was found to look at them.
 ///
 /// One that is not UTF-8 counts.
-pub fn has_arguments(rt: &(impl Env + Alloc)) -> Result<bool, AllocError> {
-    match env::args(rt) {
-        Ok(arguments) => Ok(arguments.count() > 1),
-        Err(why) if why.kind() == ErrorKind::OutOfMemory => Err(AllocError),
-        Err(_) => Ok(true),
+pub fn asked_for(rt: &(impl Env + Alloc)) -> Result<Asked, AllocError> {
+    let mut arguments = match env::args(rt) {
+        Ok(arguments) => arguments,
+        Err(why) if why.kind() == ErrorKind::OutOfMemory => return Err(AllocError),
+        Err(_) => return Ok(Asked::Usage),
+    };
+    let _name = arguments.next();
+    let Some(word) = arguments.next() else {
+        return Ok(Asked::Script);
+    };
+    if word.as_str() == "threads" && arguments.next().is_none() {
+        Ok(Asked::Threads)
+    } else {
+        Ok(Asked::Usage)
     }
 }
 
@@ -61,31 +83,51 @@ fn run_to_status<R: Read, W: Write>(
     status_of(run_script(alloc, reader, writer))
 }
 
-/// The program but for its arguments and devices, which it is given: it runs the script that the reader gives, and answers
-/// the status (docs/PROTOCOL.md, "The program").
-///
-/// `has_arguments` is what the function of that name answered. Where there are arguments the usage line is written, nothing
-/// is read, and the status is 2, or 1 where a write failed. Where no memory was found to look at them nothing is read or
-/// written, and the status is 3. Else the status is 0 where the script was run, 1 where a read or a write failed, 2 where
-/// the script was refused, 3 where no memory was found, and 4 where a settle came to its limit.
-pub fn run_program<R: Read, W: Write>(
+// Runs the script that the reader gives with its settles on threads, and gives the status.
+fn run_on_threads<T: Threads + Sync, R: Read, W: Write>(
+    rt: &T,
     alloc: Global,
-    has_arguments: Result<bool, AllocError>,
     reader: &mut Device<R>,
     writer: &mut Device<W>,
 ) -> u8
     requires reader_works { reader.old.failed ≡ false }
     requires writer_works { writer.old.failed ≡ false }
-    ensures script { has_arguments ≡ Ok false → RunsScript (R.remaining reader.old.inner) (R.remaining reader.new.inner)
+    ensures { RunsOnThreads (R.remaining reader.old.inner) (R.remaining reader.new.inner)
         (W.contents writer.old.inner) (W.contents writer.new.inner) reader.new.failed writer.new.failed result }
-    ensures usage { has_arguments ≡ Ok true →
-        WritesUsage (W.contents writer.old.inner) (W.contents writer.new.inner) writer.new.failed result }
-    ensures unread { has_arguments ≡ Ok true → reader.new ≡ reader.old }
-    ensures no_memory { OnErr has_arguments ((result ≡ 3) × (reader.new ≡ reader.old) × (writer.new ≡ writer.old)) }
 {
-    match has_arguments {
-        Ok(false) => run_to_status(alloc, reader, writer),
-        Ok(true) => write_usage(writer),
+    status_of(run_threads(rt, alloc, reader, writer))
+}
+
+/// The program but for its arguments and devices, which it is given: it runs the script that the reader gives, and answers
+/// the status (docs/PROTOCOL.md, "The program").
+///
+/// `asked` is what `asked_for` answered. Where `threads` is asked for, the settles of the script run on threads
+/// (docs/THREADS.md, "Scripts on threads"). Where the usage is asked for, its line is written, nothing is read, and the status is 2, or 1
+/// where a write failed. Where no memory was found to look at the arguments nothing is read or written, and the status is 3. Else the
+/// status is 0 where the script was run, 1 where a read or a write failed, 2 where the script was refused, 3 where no memory was found,
+/// and 4 where a settle came to its limit.
+pub fn run_program<T: Threads + Sync, R: Read, W: Write>(
+    rt: &T,
+    alloc: Global,
+    asked: Result<Asked, AllocError>,
+    reader: &mut Device<R>,
+    writer: &mut Device<W>,
+) -> u8
+    requires reader_works { reader.old.failed ≡ false }
+    requires writer_works { writer.old.failed ≡ false }
+    ensures script { asked ≡ Ok Asked.Script → RunsScript (R.remaining reader.old.inner) (R.remaining reader.new.inner)
+        (W.contents writer.old.inner) (W.contents writer.new.inner) reader.new.failed writer.new.failed result }
+    ensures threads { asked ≡ Ok Asked.Threads → RunsOnThreads (R.remaining reader.old.inner) (R.remaining reader.new.inner)
+        (W.contents writer.old.inner) (W.contents writer.new.inner) reader.new.failed writer.new.failed result }
+    ensures usage { asked ≡ Ok Asked.Usage →
+        WritesUsage (W.contents writer.old.inner) (W.contents writer.new.inner) writer.new.failed result }
+    ensures unread { asked ≡ Ok Asked.Usage → reader.new ≡ reader.old }
+    ensures no_memory { OnErr asked ((result ≡ 3) × (reader.new ≡ reader.old) × (writer.new ≡ writer.old)) }
+{
+    match asked {
+        Ok(Asked::Script) => run_to_status(alloc, reader, writer),
+        Ok(Asked::Threads) => run_on_threads(rt, alloc, reader, writer),
+        Ok(Asked::Usage) => write_usage(writer),
         Err(AllocError) => 3,
     }
 }

@@ -1,5 +1,6 @@
 //! Scripts run whole, from bytes to bytes.
 mod cases;
+mod threads;
 
 use crate::slow_devices::{SlowReader, SlowWriter};
 use cases::CASES;

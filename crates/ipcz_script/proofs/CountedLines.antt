@@ -22,8 +22,8 @@ use Rattle.ipcz_script.specs.Lines.{titles_text}
 use Rattle.ipcz_script.specs.Sessions.{Session, Runs, answer_to, if_held, if_known, new_session}
 use Rattle.ipcz_script.specs.Transcript.{Answered, lines_in}
 use Rattle.ipcz_script.specs.ScriptBooks.{IsCount, gots_in, puts_in}
-use Rattle.ipcz_script.specs.ReadBack.{HaveNoFeeds}
-use Rattle.ipcz_script.specs.CountedLines.{AreCounted, LinesAreCounted, spaced}
+use Rattle.ipcz_script.specs.ReadBack.{HaveNoFeeds, spaced}
+use Rattle.ipcz_script.specs.CountedLines.{AreCounted, LinesAreCounted}
 use Rattle.ipcz_script.proofs.Feeds.{same_lines}
 use Rattle.ipcz_script.proofs.Rows.{rows_of}
 use Rattle.ipcz_script.proofs.LogLines.{lines-text, rows_in, script-lines}
@@ -33,7 +33,7 @@ use Rattle.ipcz_script.proofs.SettledGets.{got-next, plain}
 -- ---- the text of a line, word by word
 
 -- a word, a name and a number
-numbered : (verb name number : List ℕ) → verb ++ codes " " ++ name ++ codes " " ++ number ≡ spaced (verb ∷ name ∷ number ∷ [])
+pub numbered : (verb name number : List ℕ) → verb ++ codes " " ++ name ++ codes " " ++ number ≡ spaced (verb ∷ name ∷ number ∷ [])
 numbered verb name number =
     append_assoc (verb ++ codes " " ++ name) (codes " ") number ∙ append_assoc (verb ++ codes " ") name (32 ∷ number)
     ∙ append_assoc verb (codes " ") (name ++ 32 ∷ number)
@@ -43,7 +43,7 @@ quoted [] bytes = refl
 quoted (x ∷ portals) bytes = ap (λ l. x ∷ l) (quoted portals bytes)
 
 -- what a line says of a parcel
-parceled : (number portals bytes : List ℕ) → number ++ codes " [" ++ portals ++ codes "] \"" ++ bytes ++ codes "\"" ≡
+pub parceled : (number portals bytes : List ℕ) → number ++ codes " [" ++ portals ++ codes "] \"" ++ bytes ++ codes "\"" ≡
     spaced (number ∷ (91 ∷ (portals ++ 93 ∷ [])) ∷ (34 ∷ (bytes ++ 34 ∷ [])) ∷ [])
 parceled [] portals bytes = ap (λ l. 32 ∷ 91 ∷ l) (quoted portals bytes)
 parceled (x ∷ number) portals bytes = ap (λ l. x ∷ l) (parceled number portals bytes)
@@ -51,7 +51,7 @@ parceled (x ∷ number) portals bytes = ap (λ l. x ∷ l) (parceled number port
 -- ---- the parcel that a get got
 
 module _ (nodes words : ℕ) (s : Session) (log : List Answered) (at : Kept nodes words s.world (puts_in log) (gots_in log)) where
-  abbrev Next : End → parcels.Parcel → Type 0
+  abbrev pub Next : End → parcels.Parcel → Type 0
   Next e p = slice_get (puts_in log (opposite_end e)) (length (gots_in log e)) ≡ Some p
 
   next-of : (e : End) (n : ℕ) (there : holder_of s.world e ≡ Some n) (reply : Reply) (c : Books) → Plain at.books (steps.Get n e) reply c →
@@ -66,7 +66,7 @@ module _ (nodes words : ℕ) (s : Session) (log : List Answered) (at : Kept node
   next-of e n there (replies.Turned event) c plainly k p same = absurd plainly
   next-of e n there (replies.Refused why) c plainly k p same = cc
 
-  got-is-next : (name : List ℕ) (e : End) (k : ℕ) (p : parcels.Parcel) (t : Session) → get s.names name ≡ Some e →
+  pub got-is-next : (name : List ℕ) (e : End) (k : ℕ) (p : parcels.Parcel) (t : Session) → get s.names name ≡ Some e →
       Runs s (commands.Get name) (said.Got k p) t → Next e p
   unfolding if_known if_held
   got-is-next name e k p t bound run =
@@ -87,7 +87,7 @@ module _ (nodes words : ℕ) (s : Session) (log : List Answered) (at : Kept node
 
 -- ---- all lines
 
-rows-append : (xs ys : List Answered) → rows_in (xs ++ ys) ≡ rows_in xs ++ rows_in ys
+pub rows-append : (xs ys : List Answered) → rows_in (xs ++ ys) ≡ rows_in xs ++ rows_in ys
 rows-append [] ys = refl
 rows-append (a ∷ xs) ys =
     ap (λ l. rows_of a.after.titles a.command a.said ++ l) (rows-append xs ys)

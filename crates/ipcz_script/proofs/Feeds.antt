@@ -1,21 +1,22 @@
 -- Texts without line feeds, and why a text has one list of lines.
-use Rattle.std.proofs.Common.{◌≡◌, ◌∙◌, ℕ, zero, suc, ◌+◌, ◌%◌, ◌/◌, ◌<◌, ◌≤◌, Bool, true, false, not, List, [], ◌∷◌, ◌++◌, refl, sym, ap}
+use Rattle.std.proofs.Common.{◌≡◌, ◌∙◌, ℕ, zero, suc, ◌+◌, ◌%◌, ◌/◌, ◌<◌, ◌≤◌, Bool, true, false, not, List, [], ◌∷◌, ◌++◌, length, refl, sym, ap}
 use Rattle.std.proofs.Common.{subst}
 use Rattle.std.proofs.Common.{arith, append_assoc}
-use Rattle.std.specs.Prelude.{◌==◌, ◌&&◌, if◌then◌else◌, nat_lt}
+use Rattle.std.specs.Prelude.{◌==◌, ◌&&◌, if◌then◌else◌, nat_le, nat_lt}
 use Rattle.std.specs.List.{list_all, AllByRecursion}
 use Rattle.std.specs.Fmt.{decimal, digits}
 use Rattle.std.proofs.lemmas.Bool.{and_parts}
+use Rattle.std.proofs.lemmas.List.Folds.{list_all-append}
 use Rattle.std.proofs.lemmas.Bool.Decides.{nat_tests}
 use Rattle.ipcz_base.specs.declared.refusal.Refusal.{Refusal}
 use Rattle.ipcz_base.specs.declared.refusal.Refusal.TheVariants as refusals
 use Rattle.ipcz_base.specs.Refusals.{name_of}
-use Rattle.ipcz_script.specs.ScriptNames.{is_name_byte}
+use Rattle.ipcz_script.specs.ScriptNames.{is_name, is_name_byte}
 use Rattle.ipcz_script.specs.ReadBack.{AreLines, HaveNoFeeds, IsNamely, lacks, text_of}
 
 -- ---- marks
 
-no_mark : (mark : ℕ) (bs : List ℕ) → lacks mark (mark ∷ bs) ≡ true → ⊥
+pub no_mark : (mark : ℕ) (bs : List ℕ) → lacks mark (mark ∷ bs) ≡ true → ⊥
 no_mark mark bs h = let same : (mark == mark) ≡ true = grind (arith, nat_tests) in grind (arith, same, h)
 
 pub lacks-rest : (mark b : ℕ) (bs : List ℕ) → lacks mark (b ∷ bs) ≡ true → lacks mark bs ≡ true
@@ -42,7 +43,7 @@ one_parting mark (x ∷ a) b (y ∷ c) d h k e =
 
 -- ---- lines
 
-not_empty : (a b : List ℕ) (x : ℕ) → a ++ x ∷ b ≡ [] → ⊥
+pub not_empty : (a b : List ℕ) (x : ℕ) → a ++ x ∷ b ≡ [] → ⊥
 not_empty [] b x e = cc
 not_empty (y ∷ a) b x e = cc
 
@@ -150,6 +151,27 @@ namely_lacks mark (b ∷ bs) other h = go (b == mark) refl (namely_lacks mark bs
         let both : true ≡ false = sym t.0 ∙ ap is_name_byte same ∙ other in cc
     go false e more = more
 
+-- a name has only such bytes
+pub namely : (text : List ℕ) → is_name text ≡ true → IsNamely text
+namely text h = (and_parts (nat_le 1 (length text) && nat_le (length text) 16) (list_all is_name_byte text) h).1
+
+pub namely-append : (a b : List ℕ) → IsNamely a → IsNamely b → IsNamely (a ++ b)
+namely-append a b h k = list_all-append is_name_byte a b ∙ ap (λ c. c && list_all is_name_byte b) h ∙ k
+
+digits_namely : (bs : List ℕ) → AllByRecursion IsDigit bs → IsNamely bs
+digits_namely [] h = refl
+digits_namely (b ∷ bs) h = ap (λ c. c && list_all is_name_byte bs) (digit b h.0) ∙ digits_namely bs h.1
+  where
+    digit : (b : ℕ) → IsDigit b → is_name_byte b ≡ true
+    digit b d =
+        let low : nat_le 48 b ≡ true = grind (arith, d.0, nat_tests) in
+        let high : nat_le b 57 ≡ true = grind (arith, d.1, nat_tests) in
+        rw (low, high) refl
+
+-- a number has the bytes of names
+pub decimal_namely : (n : ℕ) → IsNamely (decimal n)
+decimal_namely n = digits_namely (decimal n) (decimal_digits n)
+
 pub refusal_lacks : (why : Refusal) → lacks 10 (name_of why) ≡ true
 refusal_lacks refusals.OutOfMemory = refl
 refusal_lacks refusals.Empty = refl
@@ -164,3 +186,4 @@ refusal_lacks refusals.TooMany = refl
 refusal_lacks refusals.Raced = refl
 refusal_lacks refusals.Occupied = refl
 refusal_lacks refusals.Passed = refl
+refusal_lacks refusals.Forged = refl

@@ -1,3 +1,4 @@
+pub mod CallAnswers
 pub mod CommandCount
 pub mod CountedLines
 pub mod Each
@@ -6,10 +7,16 @@ pub mod Feeds
 pub mod JsonLists
 pub mod KnownBytes
 pub mod LogLines
+pub mod OneEvent
+pub mod OneSaying
 pub mod OpenNames
 pub mod Pairing
+pub mod PutData
+pub mod ReadNames
 pub mod ReadingLaws
 pub mod Rows
+pub mod SayingNames
+pub mod SayingTexts
 pub mod ScriptRuns
 pub mod ScriptSaid
 pub mod SendLines

@@ -1,7 +1,7 @@
 -- The lines of a whole script: they are those of its answers.
-use Rattle.std.proofs.Common.{◌≡◌, ◌∙◌, ◌+◌, ◌≤◌, ℕ, zero, suc, Bool, true, false, cond, List, [], ◌∷◌, ◌++◌, length, take, refl, sym, ap}
+use Rattle.std.proofs.Common.{◌≡◌, ◌∙◌, ◌+◌, ℕ, zero, suc, Bool, true, false, cond, List, [], ◌∷◌, ◌++◌, length, take, refl, sym, ap}
 use Rattle.std.proofs.Common.{subst}
-use Rattle.std.proofs.Common.{arith, codes, Option, Some, None}
+use Rattle.std.proofs.Common.{codes, Option, Some, None}
 use Rattle.std.specs.Prelude.{unwrap_or, if◌then◌else◌, nat_lt}
 use Rattle.std.specs.List.{AllByRecursion}
 use Rattle.std.specs.Fmt.{decimal}
@@ -27,40 +27,30 @@ use Rattle.ipcz_script.specs.declared.command.Command.{Command}
 use Rattle.ipcz_script.specs.declared.command.Command.TheVariants as commands
 use Rattle.ipcz_script.specs.declared.said.Said.{Said}
 use Rattle.ipcz_script.specs.declared.said.Said.TheVariants as said
-use Rattle.ipcz_script.specs.Bindings.{Bindings}
 use Rattle.ipcz_script.specs.Sessions.{Session, Replied, Runs, answer_to, bind, bind_pair, bind_pairs, if_held, if_known, name_pair}
 use Rattle.ipcz_script.specs.Sessions.{nameless}
-use Rattle.ipcz_script.specs.Sessions.{SettlesTo, TurnsTo, new_session, pair_name, replied_get}
+use Rattle.ipcz_script.specs.Labels.{pair_name}
+use Rattle.ipcz_script.specs.Sessions.{SettlesTo, TurnsTo, new_session, replied_get}
 use Rattle.ipcz_script.specs.Transcript.{Answered, AreAnswered, lines_in}
 use Rattle.ipcz_script.specs.ScriptBooks.{got_said, gots_in, is_bound, parcel_of, put_said, puts_in}
-use Rattle.ipcz_script.specs.ReadBack.{AreLines, HasNoFeed, HaveNoFeed, HaveNoFeeds, IsNamely, lacks, text_of}
-use Rattle.ipcz_script.proofs.Feeds.{decimal_lacks, feeds-append, lacks-append, namely_lacks, text-append}
-use Rattle.ipcz_script.proofs.Rows.{AreTitles, GotNoFeed, IsTitle, rows-feeds, rows-text, rows_of}
+use Rattle.ipcz_script.specs.ScriptNames.{is_name}
+use Rattle.ipcz_script.specs.ReadBack.{AreLines, HasNames, HaveNames, HaveNoFeeds, IsNamely, lacks, text_of}
+use Rattle.ipcz_script.proofs.Feeds.{decimal_namely, feeds-append, namely, namely-append, text-append}
+use Rattle.ipcz_script.proofs.PutData.{accepted-plain, held-all, known-all}
+use Rattle.ipcz_script.proofs.Rows.{AreTitles, GotNoFeed, rows-feeds, rows-text, rows_of}
 use Rattle.ipcz_script.proofs.ScriptRuns.{gets_follow_puts}
 
 -- ---- titles
 
-is_title : (text : List ℕ) → IsNamely text → IsTitle text
-is_title text h = (namely_lacks 10 text refl h, namely_lacks 93 text refl h)
+pair_title : (i j : ℕ) → IsNamely (pair_name i j)
+pair_title i j = namely-append (decimal i ++ codes ">") (decimal j) (namely-append (decimal i) (codes ">") (decimal_namely i) refl)
+    (decimal_namely j)
 
-pair_title : (i j : ℕ) → IsTitle (pair_name i j)
-pair_title i j = (
-  lacks-append 10 (decimal i ++ codes ">") (decimal j)
-      (lacks-append 10 (decimal i) (codes ">") (digits 10 i (λ d. absurd (omega (arith, d.0)))) refl)
-      (digits 10 j (λ d. absurd (omega (arith, d.0)))),
-  lacks-append 93 (decimal i ++ codes ">") (decimal j)
-      (lacks-append 93 (decimal i) (codes ">") (digits 93 i (λ d. absurd (omega (arith, d.1)))) refl)
-      (digits 93 j (λ d. absurd (omega (arith, d.1)))),
-)
-  where
-    digits : (mark n : ℕ) → ((48 ≤ mark) × (mark ≤ 57) → ⊥) → lacks mark (decimal n) ≡ true
-    digits mark n other = decimal_lacks mark n other
-
-bind-titles : (s : Session) (name : List ℕ) (end : End) → IsTitle name → AreTitles s.titles → AreTitles (bind s name end).titles
-bind-titles s name end is are e = subst (λ o. IsTitle (unwrap_or o [])) (sym (get-insert end_total s.titles end name e))
+bind-titles : (s : Session) (name : List ℕ) (end : End) → IsNamely name → AreTitles s.titles → AreTitles (bind s name end).titles
+bind-titles s name end is are e = subst (λ o. IsNamely (unwrap_or o [])) (sym (get-insert end_total s.titles end name e))
     (go (eq_by_cmp end_cmp e end))
   where
-    go : (c : Bool) → IsTitle (unwrap_or (cond c (Some name) (get s.titles e)) [])
+    go : (c : Bool) → IsNamely (unwrap_or (cond c (Some name) (get s.titles e)) [])
     go true = is
     go false = are e
 
@@ -72,13 +62,13 @@ pairs-titles s pair (p ∷ ps) are = pairs-titles (bind_pair s pair p.0 p.1) (pa
 
 start-titles : (nodes words : ℕ) → AreTitles (new_session nodes words).titles
 start-titles nodes words = pairs-titles (nameless (new_world nodes words)) 0 (first_pairs nodes)
-    (λ e. subst (λ o. IsTitle (unwrap_or o [])) (sym (get-empty end_cmp e)) (refl, refl))
+    (λ e. subst (λ o. IsNamely (unwrap_or o [])) (sym (get-empty end_cmp e)) refl)
 
-named-titles : (s : Session) (first second : List ℕ) (reply : Reply) → IsNamely first → IsNamely second → AreTitles s.titles →
+named-titles : (s : Session) (first second : List ℕ) (reply : Reply) → is_name first ≡ true → is_name second ≡ true → AreTitles s.titles →
     AreTitles (name_pair s first second reply).titles
 unfolding name_pair
-named-titles s first second (replies.Opened a b) f g are = bind-titles (bind s first a) second b (is_title second g)
-    (bind-titles s first a (is_title first f) are)
+named-titles s first second (replies.Opened a b) f g are = bind-titles (bind s first a) second b (namely second g)
+    (bind-titles s first a (namely first f) are)
 named-titles s first second (replies.Put n) f g are = are
 named-titles s first second (replies.Got n p) f g are = are
 named-titles s first second (replies.Closed n) f g are = are
@@ -97,7 +87,7 @@ unfolding if_held
 held-titles s None call each = refl
 held-titles s (Some n) call each = each n
 
-pub runs-titles : (s : Session) (c : Command) (answer : Said) (t : Session) → Runs s c answer t → HasNoFeed c → AreTitles s.titles →
+pub runs-titles : (s : Session) (c : Command) (answer : Said) (t : Session) → Runs s c answer t → HasNames c → AreTitles s.titles →
     AreTitles t.titles
 runs-titles s (commands.Open node first second) answer t is h are =
     subst (λ x. AreTitles x.titles) (sym is.1) (named-titles _ first second (first_step s.world (steps.Open node)).reply h.0 h.1 are)
@@ -134,46 +124,32 @@ plain-take zero ps h = tt
 plain-take (suc n) [] h = tt
 plain-take (suc n) (p ∷ ps) h = (h.0, plain-take n ps h.1)
 
-put-plain : (names : Bindings) (c : Command) (answer : Said) (e : End) → HasNoFeed c → ArePlain (put_said names c answer e)
+put-plain : (s : Session) (c : Command) (answer : Said) (t : Session) (e : End) → Runs s c answer t → ArePlain (put_said s.names c answer e)
 unfolding put_said
-put-plain names (commands.Put at text attached) (said.Put n) e h = go (is_bound names at e)
+put-plain s (commands.Put at text attached) (said.Put n) t e is = go (is_bound s.names at e)
   where
-    go : (b : Bool) → ArePlain (cond b (parcel_of names text attached ∷ []) [])
-    go true = (h.1, tt)
+    go : (b : Bool) → ArePlain (cond b (parcel_of s.names text attached ∷ []) [])
+    go true = (accepted-plain s at text attached n t is, tt)
     go false = tt
-put-plain names (commands.Put at text attached) said.Opened e h = tt
-put-plain names (commands.Put at text attached) (said.Got n p) e h = tt
-put-plain names (commands.Put at text attached) (said.Closed n) e h = tt
-put-plain names (commands.Put at text attached) (said.Turned rs) e h = tt
-put-plain names (commands.Put at text attached) said.Settled e h = tt
-put-plain names (commands.Put at text attached) said.Unsettled e h = tt
-put-plain names (commands.Put at text attached) (said.Words ws) e h = tt
-put-plain names (commands.Put at text attached) said.UnknownName e h = tt
-put-plain names (commands.Put at text attached) said.Away e h = tt
-put-plain names (commands.Put at text attached) (said.Refused why) e h = tt
-put-plain names (commands.Open node first second) answer e h = tt
-put-plain names (commands.Get at) answer e h = tt
-put-plain names (commands.Close at) answer e h = tt
-put-plain names (commands.Turn node count) answer e h = tt
-put-plain names (commands.Settle limit) answer e h = tt
-put-plain names commands.Show answer e h = tt
+put-plain s c answer t e is = tt
 
-puts-plain : (s : Session) (cs : List Command) (log : List Answered) (t : Session) → AreAnswered s cs log t → HaveNoFeed cs → (e : End) →
+puts-plain : (s : Session) (cs : List Command) (log : List Answered) (t : Session) → AreAnswered s cs log t → (e : End) →
     ArePlain (puts_in log e)
-puts-plain s [] [] t is h e = tt
-puts-plain s [] (a ∷ log) t is h e = absurd is
-puts-plain s (c ∷ cs) [] t is h e = absurd is
-puts-plain s (c ∷ cs) (a ∷ log) t is h e =
+puts-plain s [] [] t is e = tt
+puts-plain s [] (a ∷ log) t is e = absurd is
+puts-plain s (c ∷ cs) [] t is e = absurd is
+puts-plain s (c ∷ cs) (a ∷ log) t is e =
     plain-append (put_said a.before.names a.command a.said e) (puts_in log e)
-    (put-plain a.before.names a.command a.said e (subst HasNoFeed (sym is.1) h.0)) (puts-plain a.after cs log t is.3 h.1 e)
+    (put-plain a.before a.command a.said a.after e (subst (λ x. Runs x a.command a.said a.after) (sym is.0)
+    (subst (λ x. Runs s x a.said a.after) (sym is.1) is.2))) (puts-plain a.after cs log t is.3 e)
 
 gots-plain : (nodes words : ℕ) (cs : List Command) (log : List Answered) (t : Session) → IsWithinLimits nodes words →
-    AreAnswered (new_session nodes words) cs log t → HaveNoFeed cs → (e : End) → ArePlain (gots_in log e)
-gots-plain nodes words cs log t limits is h e =
+    AreAnswered (new_session nodes words) cs log t → (e : End) → ArePlain (gots_in log e)
+gots-plain nodes words cs log t limits is e =
     subst (λ d. ArePlain (gots_in log d)) (opposite_end-twice e)
     (subst ArePlain (gets_follow_puts nodes words cs log t limits is (opposite_end e))
     (plain-take (length (gots_in log (opposite_end (opposite_end e)))) (puts_in log (opposite_end e))
-    (puts-plain (new_session nodes words) cs log t is h (opposite_end e))))
+    (puts-plain (new_session nodes words) cs log t is (opposite_end e))))
 
 -- ---- only gets get
 
@@ -195,19 +171,6 @@ got-of (said.Words ws) h = tt
 got-of said.UnknownName h = tt
 got-of said.Away h = tt
 got-of (said.Refused why) h = tt
-
--- what holds of each answer of a call
-pub known-all : {X : Type 0} (P : Said → Type 0) (s : Session) (o : Option X) (call : X → Replied) → P said.UnknownName →
-    ((x : X) → P (call x).said) → P (if_known s o call).said
-unfolding if_known
-known-all P s None call unknown each = unknown
-known-all P s (Some x) call unknown each = each x
-
-pub held-all : (P : Said → Type 0) (s : Session) (o : Option ℕ) (call : ℕ → Replied) → P said.Away → ((n : ℕ) → P (call n).said) →
-    P (if_held s o call).said
-unfolding if_held
-held-all P s None call away each = away
-held-all P s (Some n) call away each = each n
 
 -- a step that may be refused
 unless-no : (w v : World) (c : Bool) (o : Option Refusal) (reply : Reply) (why : Refusal) → IsNoParcel (answer_to reply) →
@@ -338,7 +301,7 @@ lines-text (a ∷ log) =
     ∙ ap (λ l. text_of (rows_of a.after.titles a.command a.said) ++ l) (lines-text log)
     ∙ sym (text-append (rows_of a.after.titles a.command a.said) (rows_in log))
 
-log-feeds : (s : Session) (cs : List Command) (log : List Answered) (t : Session) → AreAnswered s cs log t → HaveNoFeed cs →
+log-feeds : (s : Session) (cs : List Command) (log : List Answered) (t : Session) → AreAnswered s cs log t → HaveNames cs →
     AreTitles s.titles → ((e : End) → ArePlain (gots_in log e)) → HaveNoFeeds (rows_in log)
 log-feeds s [] [] t is h are plain = tt
 log-feeds s [] (a ∷ log) t is h are plain = absurd is
@@ -349,13 +312,13 @@ log-feeds s (c ∷ cs) (a ∷ log) t is h are plain =
     (subst (λ x. ArePlain (got_said x.names a.command a.said e)) is.0
     (plain-front (got_said a.before.names a.command a.said e) (gots_in log e) (plain e)))) in
     feeds-append (rows_of a.after.titles a.command a.said) (rows_in log)
-    (rows-feeds a.after.titles a.command a.said there (subst HasNoFeed (sym is.1) h.0) got)
+    (rows-feeds a.after.titles a.command a.said there (subst HasNames (sym is.1) h.0) got)
     (log-feeds a.after cs log t is.3 h.1 there (λ e. plain-back (got_said a.before.names a.command a.said e) (gots_in log e) (plain e)))
 
 -- the lines of a script's answers are the lines of its transcript
-pub script-lines : (nodes words : ℕ) (cs : List Command) (log : List Answered) (t : Session) → IsWithinLimits nodes words → HaveNoFeed cs →
+pub script-lines : (nodes words : ℕ) (cs : List Command) (log : List Answered) (t : Session) → IsWithinLimits nodes words → HaveNames cs →
     AreAnswered (new_session nodes words) cs log t → AreLines (lines_in log) (rows_in log)
 script-lines nodes words cs log t limits h is = record {
   whole = sym (lines-text log);
-  each = log-feeds (new_session nodes words) cs log t is h (start-titles nodes words) (gots-plain nodes words cs log t limits is h);
+  each = log-feeds (new_session nodes words) cs log t is h (start-titles nodes words) (gots-plain nodes words cs log t limits is);
 }

@@ -24,10 +24,10 @@ use Rattle.ipcz_script.specs.Sessions.{Session, answer_to, bind, name_pair, with
 use Rattle.ipcz_script.specs.NamingLaws.{AreNamed, OpensNameSides}
 
 -- an open gives the two ends of a pair, or is refused
-abbrev IsOpened : Reply → Type 0
+abbrev pub IsOpened : Reply → Type 0
 IsOpened reply = ((i : ℕ) × (reply ≡ replies.Opened (end_at i A) (end_at i B))) ⊎ ((why : Refusal) × (reply ≡ replies.Refused why))
 
-open-reply : (w : World) (n : ℕ) → IsOpened (first_step w (steps.Open n)).reply
+pub open-reply : (w : World) (n : ℕ) → IsOpened (first_step w (steps.Open n)).reply
 unfolding first_step open_on unless
 open-reply w n = go (nat_lt n w.count) (node_at w n).opening
   where
@@ -57,7 +57,7 @@ and-no false = refl
 apart : (i : ℕ) → eq_by_cmp end_cmp (end_at i A) (end_at i B) ≡ false
 apart i = end_ties (end_at i A) (end_at i B) ∙ and-no (nat_eq i i)
 
-title-new : (titles : Titles) (e : End) (name : List ℕ) → title_of (insert titles e name) e ≡ name
+pub title-new : (titles : Titles) (e : End) (name : List ℕ) → title_of (insert titles e name) e ≡ name
 title-new titles e name =
     ap (λ o. unwrap_or o []) (get-insert end_total titles e name e ∙ ap (λ c. cond c (Some name) (get titles e))
     ((eq_by_cmp_equiv end_total).refl e))

@@ -23,8 +23,9 @@ use Rattle.ipcz_script.specs.EventTexts.{event_text, hand_text, kind_text, link_
 use Rattle.ipcz_script.specs.EventTexts.{word_text}
 use Rattle.ipcz_script.specs.Lines.{head_of, lines_of, lines_of_turns, more_titles, tail_of, title_of, titles_text, turn_lines}
 use Rattle.ipcz_script.specs.Lines.{turn_text, words_text}
-use Rattle.ipcz_script.specs.ReadBack.{HasNoFeed, HaveNoFeeds, IsNamely, lacks, text_of}
-use Rattle.ipcz_script.proofs.Feeds.{decimal_lacks, lacks-append, namely_lacks, refusal_lacks}
+use Rattle.ipcz_script.specs.ScriptNames.{is_name}
+use Rattle.ipcz_script.specs.ReadBack.{HasNames, HaveNoFeeds, IsNamely, lacks, text_of}
+use Rattle.ipcz_script.proofs.Feeds.{decimal_lacks, lacks-append, namely, namely_lacks, refusal_lacks}
 
 -- the lines of a node's turns
 abbrev pub turn_rows : ℕ → List Reply → List (List ℕ)
@@ -80,6 +81,13 @@ both a b = lacks-append 10 a b
 
 number : (n : ℕ) → L (decimal n)
 number n = decimal_lacks 10 n (λ d. absurd (omega (arith, d.0)))
+
+name : (text : List ℕ) → IsNamely text → L text
+name text h = namely_lacks 10 text refl h
+
+-- a name of a script
+script_name : (text : List ℕ) → is_name text ≡ true → L text
+script_name text h = name text (namely text h)
 
 -- a known word behind a text
 word : (a b : List ℕ) → L b → L a → L (a ++ b)
@@ -196,26 +204,19 @@ turn_rows-feeds node (r ∷ rs) = (
   turn_rows-feeds node rs,
 )
 
--- each title is without a line feed, and without the bracket that ends a list of titles
-abbrev pub IsTitle : List ℕ → Type 0
-IsTitle text = (lacks 10 text ≡ true) × (lacks 93 text ≡ true)
-
+-- each title is made of the bytes of names
 abbrev pub AreTitles : Titles → Type 0
-AreTitles titles = (e : End) → IsTitle (title_of titles e)
+AreTitles titles = (e : End) → IsNamely (title_of titles e)
 
-more_titles-lack : (titles : Titles) → AreTitles titles → (es : List End) → IsTitle (more_titles titles es)
-more_titles-lack titles are [] = (refl, refl)
-more_titles-lack titles are (e ∷ es) = let more = more_titles-lack titles are es in (
-  lacks-append 10 (title_of titles e) (more_titles titles es) (are e).0 more.0,
-  lacks-append 93 (title_of titles e) (more_titles titles es) (are e).1 more.1,
-)
+more_titles-lack : (titles : Titles) → AreTitles titles → (es : List End) → L (more_titles titles es)
+more_titles-lack titles are [] = refl
+more_titles-lack titles are (e ∷ es) = both (title_of titles e) (more_titles titles es) (name (title_of titles e) (are e))
+    (more_titles-lack titles are es)
 
-pub titles-lack : (titles : Titles) → AreTitles titles → (es : List End) → IsTitle (titles_text titles es)
-titles-lack titles are [] = (refl, refl)
-titles-lack titles are (e ∷ es) = let more = more_titles-lack titles are es in (
-  lacks-append 10 (title_of titles e) (more_titles titles es) (are e).0 more.0,
-  lacks-append 93 (title_of titles e) (more_titles titles es) (are e).1 more.1,
-)
+titles-lack : (titles : Titles) → AreTitles titles → (es : List End) → L (titles_text titles es)
+titles-lack titles are [] = refl
+titles-lack titles are (e ∷ es) = both (title_of titles e) (more_titles titles es) (name (title_of titles e) (are e))
+    (more_titles-lack titles are es)
 
 -- what was got has no line feed
 abbrev pub GotNoFeed : Said → Type 0
@@ -234,7 +235,7 @@ tail-lacks titles (said.Got n p) are h =
     (both (decimal n ++ codes " [" ++ titles_text titles p.ends ++ codes "] \"") p.bytes
     (word (decimal n ++ codes " [" ++ titles_text titles p.ends) (codes "] \"") refl
     (both (decimal n ++ codes " [") (titles_text titles p.ends)
-    (word (decimal n) (codes " [") refl (number n)) (titles-lack titles are p.ends).0)) h)
+    (word (decimal n) (codes " [") refl (number n)) (titles-lack titles are p.ends))) h)
 tail-lacks titles (said.Closed n) are h = number n
 tail-lacks titles (said.Turned turns) are h = refl
 tail-lacks titles said.Settled are h = refl
@@ -243,9 +244,6 @@ tail-lacks titles (said.Words ws) are h = words-lack ws
 tail-lacks titles said.UnknownName are h = refl
 tail-lacks titles said.Away are h = refl
 tail-lacks titles (said.Refused why) are h = refusal_lacks why
-
-name : (text : List ℕ) → IsNamely text → L text
-name text h = namely_lacks 10 text refl h
 
 turned-feeds : (node : ℕ) (answer : Said) → HaveNoFeeds (rows_of_turns node answer)
 turned-feeds node (said.Turned turns) = turn_rows-feeds node turns
@@ -261,25 +259,25 @@ turned-feeds node said.Away = tt
 turned-feeds node (said.Refused why) = tt
 
 -- no line of a command has a line feed within
-pub rows-feeds : (titles : Titles) (c : Command) (answer : Said) → AreTitles titles → HasNoFeed c → GotNoFeed answer →
+pub rows-feeds : (titles : Titles) (c : Command) (answer : Said) → AreTitles titles → HasNames c → GotNoFeed answer →
     HaveNoFeeds (rows_of titles c answer)
 rows-feeds titles (commands.Turn node count) answer are h got = turned-feeds node answer
 rows-feeds titles (commands.Open node first second) answer are h got =
     let tail = tail-lacks titles answer are got in (
       both (head_of (commands.Open node first second)) (tail_of titles answer)
           (word (◌++◌ {A = ℕ} first (codes " ") ++ second) (codes " ") refl (both (◌++◌ {A = ℕ} first (codes " ")) second
-          (word first (codes " ") refl (name first h.0)) (name second h.1))) tail,
+          (word first (codes " ") refl (script_name first h.0)) (script_name second h.1))) tail,
       tt,
     )
 rows-feeds titles (commands.Put at text attached) answer are h got = (
-  both (head_of (commands.Put at text attached)) (tail_of titles answer) (word at (codes " ") refl (name at h.0))
+  both (head_of (commands.Put at text attached)) (tail_of titles answer) (word at (codes " ") refl (script_name at h))
       (tail-lacks titles answer are got),
   tt,
 )
 rows-feeds titles (commands.Get at) answer are h got =
-    (both (head_of (commands.Get at)) (tail_of titles answer) (word at (codes " ") refl (name at h)) (tail-lacks titles answer are got), tt)
+    (both (head_of (commands.Get at)) (tail_of titles answer) (word at (codes " ") refl (script_name at h)) (tail-lacks titles answer are got), tt)
 rows-feeds titles (commands.Close at) answer are h got = (
-  both (head_of (commands.Close at)) (tail_of titles answer) (word at (codes " ") refl (name at h)) (tail-lacks titles answer are got),
+  both (head_of (commands.Close at)) (tail_of titles answer) (word at (codes " ") refl (script_name at h)) (tail-lacks titles answer are got),
   tt,
 )
 rows-feeds titles (commands.Settle limit) answer are h got = (tail-lacks titles answer are got, tt)

@@ -13,7 +13,7 @@ use Rattle.ipcz_script.specs.SendLines.{HavePairs, SendsTellWhatMoved}
 use Rattle.ipcz_script.proofs.Feeds.{IsDigit, decimal_digits}
 
 -- behind the same text the rests are the same
-rests_agree : (text a b : List ℕ) → text ++ a ≡ text ++ b → a ≡ b
+pub rests_agree : (text a b : List ℕ) → text ++ a ≡ text ++ b → a ≡ b
 rests_agree [] a b e = e
 rests_agree (x ∷ text) a b e = rests_agree text a b (ap (drop {A = ℕ} 1) e)
 
@@ -57,7 +57,7 @@ unfolding letter
 spelled n sides.A rest = append_assoc (decimal n) (codes "A") rest
 spelled n sides.B rest = append_assoc (decimal n) (codes "B") rest
 
-one_end : (d e : End) (rest more : List ℕ) → d.pair < 2 ^ 64 → e.pair < 2 ^ 64 → end_text d ++ rest ≡ end_text e ++ more → (d ≡ e) ×
+pub one_end : (d e : End) (rest more : List ℕ) → d.pair < 2 ^ 64 → e.pair < 2 ^ 64 → end_text d ++ rest ≡ end_text e ++ more → (d ≡ e) ×
     (rest ≡ more)
 one_end d e rest more h k same =
     let t = digits_part (decimal d.pair) (decimal e.pair) rest more (letter d.side) (letter e.side) (decimal_digits d.pair)
@@ -73,7 +73,7 @@ more_tell (x ∷ xs) (y ∷ ys) h k e =
     let more = more_tell xs ys h.1 k.1 t.1 in
     λ i. t.0 i ∷ more i
 
-moved_tell : (xs ys : List End) → HavePairs xs → HavePairs ys → moved_text xs ≡ moved_text ys → xs ≡ ys
+pub moved_tell : (xs ys : List End) → HavePairs xs → HavePairs ys → moved_text xs ≡ moved_text ys → xs ≡ ys
 moved_tell [] [] h k e = refl
 moved_tell [] (y ∷ ys) h k e = cc
 moved_tell (x ∷ xs) [] h k e = cc

@@ -248,6 +248,7 @@ module _ (nodes words : ℕ) (s : Session) (log : List Answered) (at : Kept node
     gives quiet wet (replies.Refused refusals.Raced) c is plainly = absurd plainly.0
     gives quiet wet (replies.Refused refusals.Occupied) c is plainly = absurd plainly.0
     gives quiet wet (replies.Refused refusals.Passed) c is plainly = absurd plainly.0
+    gives quiet wet (replies.Refused refusals.Forged) c is plainly = absurd plainly.0
     gives quiet wet (replies.Opened a b) c is plainly = absurd plainly
     gives quiet wet (replies.Put k) c is plainly = absurd plainly
     gives quiet wet (replies.Closed k) c is plainly = absurd plainly

@@ -155,6 +155,7 @@ refusal-ends refusals.TooMany = three _ _ _ _ refl
 refusal-ends refusals.Raced = three _ _ _ _ refl
 refusal-ends refusals.Occupied = three _ _ _ _ refl
 refusal-ends refusals.Passed = three _ _ _ _ refl
+refusal-ends refusals.Forged = three _ _ _ _ refl
 
 -- ---- what a turn did
 

@@ -16,11 +16,12 @@ use Rattle.ipcz_script.specs.Bindings.{Titles}
 use Rattle.ipcz_script.specs.Lines.{head_of, tail_of}
 use Rattle.ipcz_script.specs.Sessions.{Session, Runs, SettlesTo, TurnsTo, answer_to, new_session}
 use Rattle.ipcz_script.specs.Transcript.{Answered, AreAnswered, IsTranscript, is_some_unsettled, is_unsettled}
-use Rattle.ipcz_script.specs.ReadBack.{AreLines, HasLine, HaveNoFeed}
+use Rattle.ipcz_script.specs.ReadBack.{AreLines, HasLine, HaveNames}
 use Rattle.ipcz_script.specs.ByteLaws.{OutputsHaveLines, UnsettledIsWritten}
 use Rattle.ipcz_script.proofs.Feeds.{same_lines}
 use Rattle.ipcz_script.proofs.Rows.{rows_of, turn_rows}
-use Rattle.ipcz_script.proofs.LogLines.{held-all, known-all, rows_in, script-lines}
+use Rattle.ipcz_script.proofs.LogLines.{rows_in, script-lines}
+use Rattle.ipcz_script.proofs.PutData.{held-all, known-all}
 
 -- the line that says that a settle came to its limit
 abbrev U : List ℕ
@@ -181,7 +182,7 @@ pub record AreRows (script : Script) (unsettled : Bool) (lines : List (List ℕ)
   pub rows : lines ≡ rows_in log
 
 pub transcript-rows : (script : Script) (text : List ℕ) (unsettled : Bool) (lines : List (List ℕ)) →
-    IsWithinLimits script.nodes script.words → HaveNoFeed script.commands → IsTranscript script text unsettled → AreLines text lines →
+    IsWithinLimits script.nodes script.words → HaveNames script.commands → IsTranscript script text unsettled → AreLines text lines →
     AreRows script unsettled lines
 transcript-rows script text unsettled lines limits plain is are = record {
   after = is.0;
@@ -193,7 +194,7 @@ transcript-rows script text unsettled lines limits plain is are = record {
 }
 
 transcript-line : (script : Script) (text : List ℕ) (unsettled : Bool) (lines : List (List ℕ)) → IsWithinLimits script.nodes script.words →
-    HaveNoFeed script.commands → IsTranscript script text unsettled → AreLines text lines → HasLine lines U ↔ (unsettled ≡ true)
+    HaveNames script.commands → IsTranscript script text unsettled → AreLines text lines → HasLine lines U ↔ (unsettled ≡ true)
 transcript-line script text unsettled lines limits plain is are =
     let rows = transcript-rows script text unsettled lines limits plain is are in
     let log = log-line (new_session script.nodes script.words) script.commands rows.log rows.after rows.answered in (

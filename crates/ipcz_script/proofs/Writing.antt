@@ -18,11 +18,11 @@ past [] i h = drop-nil i
 past (x ∷ xs) zero h = absurd (omega arith)
 past (x ∷ xs) (suc i) h = past xs i (omega arith)
 
-either : (u b c : Bool) → ((u || b) || c) ≡ (u || (b || c))
+pub either : (u b c : Bool) → ((u || b) || c) ≡ (u || (b || c))
 either true b c = refl
 either false b c = refl
 
-or_none : (u : Bool) → (u || false) ≡ u
+pub or_none : (u : Bool) → (u || false) ≡ u
 or_none true = refl
 or_none false = refl
 

@@ -14,17 +14,7 @@ use Rattle.ipcz_script.specs.Bindings.{Bindings}
 use Rattle.ipcz_script.specs.Sessions.{Session, new_session}
 use Rattle.ipcz_script.specs.Transcript.{Answered, AreAnswered, lines_in}
 use Rattle.ipcz_script.specs.ScriptBooks.{gots_in, puts_in}
-use Rattle.ipcz_script.specs.ReadBack.{AreLines, HaveNoFeed}
-
--- these words, with a space between each two
-abbrev pub spaced : List (List ℕ) → List ℕ
-spaced [] = []
-spaced (word ∷ []) = word
-spaced (word ∷ next ∷ words) = word ++ 32 ∷ spaced (next ∷ words)
-
--- a text between two marks
-abbrev pub between : ℕ → List ℕ → ℕ → List ℕ
-between first text last = first ∷ (text ++ last ∷ [])
+use Rattle.ipcz_script.specs.ReadBack.{AreLines, HaveNames, between, spaced}
 
 -- a line that says that a name got a parcel: its number, some names in brackets, and in quotes the data
 pub record SaysGot (line name : List ℕ) (number : ℕ) (data_ : List ℕ) : Type 0 where
@@ -48,7 +38,7 @@ AreCounted earlier names command answer lines = Unit {0}
 abbrev pub LinesAreCounted : Type 0
 LinesAreCounted =
     (nodes words : ℕ) (cs : List Command) (earlier : List Answered) (a : Answered) (later : List Answered) (t : Session)
-    (lines : List (List ℕ)) → IsWithinLimits nodes words → HaveNoFeed cs → AreAnswered (new_session nodes words) cs (earlier ++ a ∷ later)
+    (lines : List (List ℕ)) → IsWithinLimits nodes words → HaveNames cs → AreAnswered (new_session nodes words) cs (earlier ++ a ∷ later)
     t →
     AreLines (lines_in (earlier ++ a ∷ later)) lines →
     (before own behind : List (List ℕ)) × (lines ≡ before ++ (own ++ behind)) × AreLines (lines_in earlier) before ×

@@ -2,12 +2,15 @@ pub mod Bindings
 pub mod ByteLaws
 pub mod CountedLines
 pub mod Each
+pub mod EventLaws
 pub mod EventTexts
 pub mod Faults
+pub mod Labels
 pub mod Lines
 pub mod NamingLaws
 pub mod ReadBack
 pub mod Reading
+pub mod Sayings
 pub mod ScriptBooks
 pub mod ScriptLaws
 pub mod ScriptNames

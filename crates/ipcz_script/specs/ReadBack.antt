@@ -3,7 +3,7 @@ use Rattle.std.specs.Prelude.{ℕ, ◌≡◌, ◌⊎◌, ◌==◌, ◌&&◌, Boo
 use Rattle.std.specs.List.{list_all}
 use Rattle.ipcz_script.specs.declared.command.Command.{Command}
 use Rattle.ipcz_script.specs.declared.command.Command.TheVariants.{Open, Put, Get, Close}
-use Rattle.ipcz_script.specs.ScriptNames.{is_name_byte}
+use Rattle.ipcz_script.specs.ScriptNames.{is_name, is_name_byte}
 
 -- no byte of the text is this one
 abbrev pub lacks : ℕ → List ℕ → Bool
@@ -35,19 +35,33 @@ pub record EndsWith (text ending : List ℕ) : Type 0 where
   pub front : List ℕ
   pub whole : front ++ ending ≡ text
 
+-- these words, with a mark between each two
+abbrev pub joined : ℕ → List (List ℕ) → List ℕ
+joined mark [] = []
+joined mark (word ∷ []) = word
+joined mark (word ∷ next ∷ words) = word ++ mark ∷ joined mark (next ∷ words)
+
+-- with a space between each two
+abbrev pub spaced : List (List ℕ) → List ℕ
+spaced = joined 32
+
+-- a text between two marks
+abbrev pub between : ℕ → List ℕ → ℕ → List ℕ
+between first text last = first ∷ (text ++ last ∷ [])
+
 -- a text is made of the bytes that names have
 abbrev pub IsNamely : List ℕ → Type 0
 IsNamely text = list_all is_name_byte text ≡ true
 
--- the names in a command are such texts, and the data has no line feed, so that each line feed of a transcript ends a line
-abbrev pub HasNoFeed : Command → Type 0
-HasNoFeed (Open node first second) = IsNamely first × IsNamely second
-HasNoFeed (Put at text attached) = IsNamely at × (lacks 10 text ≡ true)
-HasNoFeed (Get at) = IsNamely at
-HasNoFeed (Close at) = IsNamely at
-HasNoFeed other = Unit {0}
+-- the names in a command are names
+abbrev pub HasNames : Command → Type 0
+HasNames (Open node first second) = (is_name first ≡ true) × (is_name second ≡ true)
+HasNames (Put at text attached) = is_name at ≡ true
+HasNames (Get at) = is_name at ≡ true
+HasNames (Close at) = is_name at ≡ true
+HasNames other = Unit {0}
 
--- the same of each command
-abbrev pub HaveNoFeed : List Command → Type 0
-HaveNoFeed [] = Unit {0}
-HaveNoFeed (c ∷ cs) = HasNoFeed c × HaveNoFeed cs
+-- the same of each command, as of those of each script that is read
+abbrev pub HaveNames : List Command → Type 0
+HaveNames [] = Unit {0}
+HaveNames (c ∷ cs) = HasNames c × HaveNames cs

@@ -1,6 +1,5 @@
 -- A session: the world with the names that a script has bound to ends, and what each command does to it.
-use Rattle.std.specs.Prelude.{◌≡◌, ◌⊎◌, ◌+◌, ℕ, zero, suc, Bool, true, false, MatchBool, Option, Some, None, List, [], ◌∷◌, ◌++◌, codes}
-use Rattle.std.specs.Fmt.{decimal}
+use Rattle.std.specs.Prelude.{◌≡◌, ◌⊎◌, ◌+◌, ℕ, zero, suc, Bool, true, false, MatchBool, Option, Some, None, List, [], ◌∷◌}
 use Rattle.std.specs.FinMap.{get, insert, empty}
 use Rattle.ipcz_base.specs.declared.side.Side.TheVariants.{A, B}
 use Rattle.ipcz_base.specs.declared.end.End.{End}
@@ -22,6 +21,7 @@ use Rattle.ipcz_script.specs.declared.command.Command.TheVariants as commands
 use Rattle.ipcz_script.specs.declared.said.Said.{Said}
 use Rattle.ipcz_script.specs.declared.said.Said.TheVariants as said
 use Rattle.ipcz_script.specs.Bindings.{Bindings, Titles}
+use Rattle.ipcz_script.specs.Labels.{pair_name}
 use Rattle.ipcz_script.specs.Each.{each_of}
 
 -- the world, the ends that names are bound to, and the names that ends have
@@ -37,10 +37,6 @@ with_world s w = record s { world = w }
 -- the session with a name bound to an end
 abbrev pub bind : Session → List ℕ → End → Session
 bind s name end = record s { names = insert s.names name end; titles = insert s.titles end name }
-
--- the name of a first pair's end on the first of two nodes, as 0>1
-abbrev pub pair_name : ℕ → ℕ → List ℕ
-pair_name i j = decimal i ++ codes ">" ++ decimal j
 
 -- the session with the names of a first pair
 abbrev pub bind_pair : Session → ℕ → ℕ → ℕ → Session

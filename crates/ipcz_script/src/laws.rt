@@ -5,9 +5,11 @@
 
 ghost use Rattle.ipcz_script.specs.ScriptLaws.{GetsFollowPuts, NumbersCountUp, ScriptsAreRuns, ScriptsDeliver, ScriptsArrive};
 ghost use Rattle.ipcz_script.specs.ScriptLaws.{ScriptsAnswerPlainly};
-ghost use Rattle.ipcz_script.specs.ByteLaws.{NoLineStrays, OutputsHaveLines, UnsettledIsWritten};
+ghost use Rattle.ipcz_script.specs.ByteLaws.{NoLineStrays, OutputsHaveLines, ScriptsHaveNames, UnsettledIsWritten};
+ghost use Rattle.ipcz_script.specs.EventLaws.{TextsAreOneEvent};
 ghost use Rattle.ipcz_script.specs.CountedLines.{LinesAreCounted};
 ghost use Rattle.ipcz_script.specs.NamingLaws.{OpensNameSides};
+ghost use Rattle.ipcz_script.specs.Sayings.{LinesSayAnswers, TextsSayOneThing};
 ghost use Rattle.ipcz_script.specs.SendLines.{SendsTellWhatMoved};
 ghost use Rattle.ipcz_script.specs.SettledLaws.{SettledGetsGiveAll};
 
@@ -59,9 +61,31 @@ pub fn settled_gets_give_all()
     ensures { SettledGetsGiveAll }
 {}
 
-/// The bytes that a run writes are lines, each with a line feed behind it, where no data of the script has a line feed.
+/// Each script that is read is within the limits, and its commands have names: what the laws of bytes ask for.
+pub fn scripts_have_names()
+    ensures { ScriptsHaveNames }
+{}
+
+/// The bytes that a run writes are lines, each with a line feed behind it: no name has one, and a put refuses data with one.
 pub fn outputs_have_lines()
     ensures { OutputsHaveLines }
+{}
+
+/// The bytes of a transcript say just what its commands are answered, line by line: which call of which names, its number, the names of the
+/// portals and the data of a parcel, the refusal, what a settle came to, the claimed words, and each turn of a node.
+pub fn lines_say_answers()
+    ensures { LinesSayAnswers }
+{}
+
+/// A text of lines says one thing: two readings of it, in which names are names and numbers have 64 bits, are the same in their forms, names,
+/// numbers, words and data.
+pub fn texts_say_one_thing()
+    ensures { TextsSayOneThing }
+{}
+
+/// The text of what a turn did tells which event it is, with its router, link, numbers and ends: two that print alike are one.
+pub fn texts_are_one_event()
+    ensures { TextsAreOneEvent }
 {}
 
 /// By its bytes alone: a run ends as unsettled just where a line of its transcript is `unsettled`.

@@ -3,6 +3,7 @@
 
 mod command;
 mod events;
+mod labels;
 pub mod laws;
 mod lines;
 mod names;
@@ -22,6 +23,8 @@ mod whole_io;
 
 pub use command::Command;
 pub use events::push_event;
+pub use labels::Labels;
+pub use lines::{push_lines, push_refused};
 pub use outcome::Outcome;
 pub use reading::{one_reading, read_script};
 pub use run::run_script;
@@ -29,5 +32,7 @@ pub use run_fault::RunFault;
 pub use said::Said;
 pub use script::Script;
 pub use script_fault::ScriptFault;
+pub use session::{answer_to, is_idle, is_want};
 pub use text::Text;
-pub use whole_io::write_whole;
+pub use titles::Titles;
+pub use whole_io::{read_up_to, write_whole};

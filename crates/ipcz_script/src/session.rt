@@ -1,18 +1,17 @@
-ghost use Rattle.std.specs.Prelude.{◌≡◌, ◌≤◌, ◌+◌, ◌*◌, false, OnOk, IfOk};
-ghost use Rattle.ipcz_node.specs.FirstPairs.{pairs_from, first_pairs_from};
+ghost use Rattle.std.specs.Prelude.{◌≡◌, false, OnOk, IfOk};
 ghost use Rattle.ipcz_world.specs.Lawful.{IsWithinLimits};
 ghost use Rattle.ipcz_world.specs.Steps.{first_step};
-ghost use Rattle.ipcz_script.specs.Sessions.{AreTurns, Is, Runs, SettlesTo, TurnsTo, bind, bind_pair, bind_pairs, ends_of, answer_to};
+ghost use Rattle.ipcz_script.specs.Sessions.{AreTurns, Is, Runs, SettlesTo, TurnsTo, bind, answer_to};
 ghost use Rattle.ipcz_script.specs.Sessions.{is_idle_reply, is_turn, is_want, new_session, replied_close, replied_get, replied_open};
 ghost use Rattle.ipcz_script.specs.Sessions.{replied_put, with_world};
 ghost use Rattle.ipcz_world.specs.Holding.{shown_words};
 
 use crate::command::Command;
-use crate::names::Names;
+use crate::labels::Labels;
 use crate::said::Said;
 use crate::text::Text;
 use crate::titles::Titles;
-use ipcz_base::{Bytes, End, Ends, Refusal, Sequence, Side};
+use ipcz_base::{Bytes, End, Refusal, Sequence};
 use ipcz_node::Happened;
 use ipcz_world::{Reply, Settled, Step, World};
 use std::alloc::{AllocError, Global};
@@ -23,8 +22,7 @@ use std::marker::Model;
 #[derive(Drop)]
 pub struct Session {
     world: World,
-    names: Names,
-    titles: Titles,
+    labels: Labels,
     alloc: Global,
 }
 
@@ -37,7 +35,7 @@ impl Model for Session {
 
     ghost coded = { Prim.hlevel (codes, code) };
 
-    ghost view = { λ a. record { world = a.world; names = a.names; titles = a.titles } };
+    ghost view = { λ a. record { world = a.world; names = a.labels.names; titles = a.labels.titles } };
 }
 
 impl Session {
@@ -49,74 +47,26 @@ impl Session {
         let Ok(world) = World::new(alloc, nodes, words) else {
             return Err(AllocError);
         };
-        let mut session = Session {
+        let labels = Labels::first(alloc, nodes)?;
+        Ok(Session {
             world,
-            names: Names::new(alloc),
-            titles: Titles::new(alloc),
+            labels,
             alloc,
-        };
-        session.name_first_pairs(0, 0, nodes)?;
-        Ok(session)
+        })
     }
 
     /// The names that ends have.
     pub fn titles(&self) -> &Titles
         ensures titles { result.now ≡ self.now.titles }
     {
-        &self.titles
+        self.labels.titles()
     }
 
     // Binds a name to an end.
     fn bind(&mut self, name: &str, end: End) -> Result<(), AllocError>
         ensures { OnOk result (self.new ≡ bind self.old name.now end) }
     {
-        self.names.bind(name, end)?;
-        self.titles.bind(end, name)
-    }
-
-    // Binds the names of the first pair of two nodes.
-    fn name_pair(&mut self, pair: u32, i: u8, j: u8) -> Result<(), AllocError>
-        ensures { OnOk result (self.new ≡ bind_pair self.old pair i j) }
-    {
-        let first = End {
-            pair,
-            side: Side::A,
-        };
-        let second = End {
-            pair,
-            side: Side::B,
-        };
-        let there = format!(in self.alloc; "{i}>{j}")?;
-        self.bind(there.as_str(), first)?;
-        let back = format!(in self.alloc; "{j}>{i}")?;
-        self.bind(back.as_str(), second)
-    }
-
-    // Binds the names of the first pairs of one node with so many others, from one on.
-    fn name_pairs(&mut self, pair: u32, i: u8, j: u8, left: u8) -> Result<(), AllocError>
-        requires nodes { j + left ≤ 8 }
-        requires pairs { pair + left ≤ 100 }
-        ensures { OnOk result (self.new ≡ bind_pairs self.old pair (pairs_from i j left)) }
-    {
-        if left == 0 {
-            return Ok(());
-        }
-        self.name_pair(pair, i, j)?;
-        self.name_pairs(pair + 1, i, j + 1, left - 1)
-    }
-
-    // Binds the names of the first pairs among so many nodes, from one on.
-    fn name_first_pairs(&mut self, pair: u32, i: u8, left: u8) -> Result<(), AllocError>
-        requires nodes { i + left ≤ 8 }
-        requires pairs { pair + 8 * left ≤ 100 }
-        ensures { OnOk result (self.new ≡ bind_pairs self.old pair (first_pairs_from i left)) }
-    {
-        if left == 0 {
-            return Ok(());
-        }
-        let others = left - 1;
-        self.name_pairs(pair, i, i + 1, others)?;
-        self.name_first_pairs(pair + u32::from(others), i + 1, others)
+        self.labels.bind(name, end)
     }
 
     // A step that is no turn; want of memory is no reply.
@@ -130,20 +80,6 @@ impl Session {
             return Err(AllocError);
         }
         Ok(reply)
-    }
-
-    // The ends that these names are bound to, or none where one of them isn't bound.
-    fn ends_of(&self, names: &[Text]) -> Result<Option<Ends>, AllocError>
-        ensures { IfOk result (λ ends. ends ≡ ends_of self.now.names names.now) }
-    {
-        let mut ends = Vec::new(self.alloc);
-        for name in names {
-            let Some(end) = self.names.end_of(name.as_str()) else {
-                return Ok(None);
-            };
-            ends.push(end)?;
-        }
-        Ok(Some(Ends::from_vec(ends)))
     }
 
     #[tactic(auto, unfolding(crate::specs::Sessions::answer_to, crate::specs::Sessions::name_pair))]
@@ -164,10 +100,10 @@ impl Session {
     fn put(&mut self, at: &str, text: &str, attached: &[Text]) -> Result<Said, AllocError>
         ensures { IfOk result (λ said. Is (replied_put self.old at.now text.now attached.now) said self.new) }
     {
-        let Some(end) = self.names.end_of(at) else {
+        let Some(end) = self.labels.end_of(at) else {
             return Ok(Said::UnknownName);
         };
-        let Some(ends) = self.ends_of(attached)? else {
+        let Some(ends) = self.labels.ends_of(attached)? else {
             return Ok(Said::UnknownName);
         };
         let Some(node) = self.world.holder_of(end) else {
@@ -187,7 +123,7 @@ impl Session {
     fn get(&mut self, at: &str) -> Result<Said, AllocError>
         ensures { IfOk result (λ said. Is (replied_get self.old at.now) said self.new) }
     {
-        let Some(end) = self.names.end_of(at) else {
+        let Some(end) = self.labels.end_of(at) else {
             return Ok(Said::UnknownName);
         };
         let Some(node) = self.world.holder_of(end) else {
@@ -201,7 +137,7 @@ impl Session {
     fn close(&mut self, at: &str) -> Result<Said, AllocError>
         ensures { IfOk result (λ said. Is (replied_close self.old at.now) said self.new) }
     {
-        let Some(end) = self.names.end_of(at) else {
+        let Some(end) = self.labels.end_of(at) else {
             return Ok(Said::UnknownName);
         };
         let Some(node) = self.world.holder_of(end) else {
@@ -267,25 +203,25 @@ impl Session {
     }
 }
 
-// Whether a reply says that no memory was found.
+/// Whether a reply says that no memory was found.
 #[tactic(auto, unfolding(crate::specs::Sessions::is_want))]
-fn is_want(reply: &Reply) -> bool
+pub fn is_want(reply: &Reply) -> bool
     ensures { result ≡ is_want reply.now }
 {
     matches!(reply, Reply::Refused(Refusal::OutOfMemory))
 }
 
-// Whether a reply is that of an idle turn.
+/// Whether a reply is that of an idle turn.
 #[tactic(auto, unfolding(crate::specs::Sessions::is_idle_reply))]
-fn is_idle(reply: &Reply) -> bool
+pub fn is_idle(reply: &Reply) -> bool
     ensures { result ≡ is_idle_reply reply.now }
 {
     matches!(reply, Reply::Turned(Happened::Idle))
 }
 
-// What a command is answered where a step of the world replies this.
+/// What a command is answered where a step replies this.
 #[tactic(auto, unfolding(crate::specs::Sessions::answer_to))]
-fn answer_to(alloc: Global, reply: Reply) -> Result<Said, AllocError>
+pub fn answer_to(alloc: Global, reply: Reply) -> Result<Said, AllocError>
     ensures { IfOk result (λ said. said ≡ answer_to reply) }
 {
     match reply {

@@ -146,7 +146,8 @@ lawful_worlds_owe w b g law = record {
 
 -- after every list of steps from the start
 pub nothing_is_forgotten : NothingIsForgotten
-nothing_is_forgotten nodes words w b g is = lawful_worlds_owe w b g (reached_lawful world_starts_lawful each_step_keeps_lawful nodes words w b g is)
+nothing_is_forgotten nodes words w b g is = lawful_worlds_owe w b g
+    (reached_lawful world_starts_lawful each_step_keeps_lawful nodes words w b g is)
 
 -- where nothing waits and words are left, each open pair is direct
 pub each_quiet_is_direct : QuietIsDirect
@@ -223,5 +224,6 @@ opening_words_are_empty w b g n i law e = law.word_law.unused i (ap is_linked (l
 pub pending_have_terminals : PendingHaveTerminals
 pending_have_terminals w b g n e law l has =
     let inv = law.inv in
-    let unclosed : is_closed b e ≡ false = held_unclosed w b law.records e law.held_once (omega (arith, times_held-at w n e l, times-has e (node_at w n).pending has)) in
+    let unclosed : is_closed b e ≡ false = held_unclosed w b law.records e law.held_once
+    (omega (arith, times_held-at w n e l, times-has e (node_at w n).pending has)) in
     ap is_some (terminal_there w b law.records n e inv (inv.end_places.pending n e has) unclosed).1

@@ -15,7 +15,8 @@ use Rattle.ipcz_world.proofs.ranks.Rating.{turns_keep_rates}
 use Rattle.ipcz_world.proofs.ranks.Turning.{turns_are_bounded}
 use Rattle.ipcz_world.proofs.ranks.Unused.{unused_is_quiet}
 use Rattle.ipcz_world.proofs.Whole.{world_starts_lawful, each_step_keeps_lawful, runs_are_plain, lawful_worlds_give_the_headline}
-use Rattle.ipcz_world.proofs.Whole.{each_item_stands_once, ends_stand_once, lawful_worlds_stray_nothing, only_flushes_stray, lawful_worlds_owe}
+use Rattle.ipcz_world.proofs.Whole.{each_item_stands_once, ends_stand_once, lawful_worlds_stray_nothing, only_flushes_stray}
+use Rattle.ipcz_world.proofs.Whole.{lawful_worlds_owe}
 use Rattle.ipcz_world.proofs.Whole.{quiet_has_no_proxy, each_quiet_is_direct, replies_plainly}
 
 -- the replies of a run from a lawful world
@@ -27,7 +28,8 @@ replies_fit w v b c g h (s ∷ ss) [] law run i reply e = absurd run
 replies_fit w v b c g h (s ∷ ss) (r ∷ rs) law run zero reply e =
     subst OnlyFlushesStray (same_Some r reply e) (only_flushes_stray w run.0 b g s r law run.1)
 replies_fit w v b c g h (s ∷ ss) (r ∷ rs) law run (suc i) reply e =
-    replies_fit run.0 v (advance w b s r) c (routes_after w g s r) h ss rs (each_step_keeps_lawful w run.0 b g s r law run.1) run.2 i reply e
+    replies_fit run.0 v (advance w b s r) c (routes_after w g s r) h ss rs
+    (each_step_keeps_lawful w run.0 b g s r law run.1) run.2 i reply e
 
 pub the_theorem_holds : TheTheoremHolds
 the_theorem_holds nodes words steps replies w b g limits run =
@@ -52,7 +54,8 @@ the_theorem_holds nodes words steps replies w b g limits run =
         quiet_has_no_proxy w b g law quiet wet,
         λ pair opened. each_quiet_is_direct w b g pair law quiet wet opened,
       );
-      left_alone = λ turns c v d h rated taken. turns_are_bounded each_step_keeps_lawful (turns_keep_rates each_step_keeps_lawful replies_plainly)
+      left_alone = λ turns c v d h rated taken. turns_are_bounded each_step_keeps_lawful
+          (turns_keep_rates each_step_keeps_lawful replies_plainly)
           w v b d g h c turns law rated taken;
       unused_is_quiet = unused_is_quiet w b g law;
     }

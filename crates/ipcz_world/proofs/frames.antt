@@ -24,5 +24,7 @@ pub mod Sealing
 pub mod StageFurther
 pub mod StageFurtherNumbers
 pub mod StandingRules
+pub mod Sourcing
 pub mod Touching
 pub mod Unmoved
+pub mod LiveLinks

@@ -5,3 +5,4 @@ pub mod Seen
 pub mod Telling
 pub mod Viewing
 pub mod Views
+pub mod Sources

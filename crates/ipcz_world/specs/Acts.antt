@@ -8,7 +8,7 @@ use Rattle.ipcz_base.specs.declared.message.Message.{Message}
 use Rattle.ipcz_base.specs.declared.message.Message.TheVariants as messages
 use Rattle.ipcz_base.specs.Sides.{opposite}
 use Rattle.ipcz_word.specs.Word.{Plan, Locks, Waits, Refuses, mark, lock, wait, unlock}
-use Rattle.ipcz_router.specs.Router.{Router, primary_word}
+use Rattle.ipcz_router.specs.Router.{Router, primary_word, source_of}
 use Rattle.ipcz_router.specs.Bypass.{bypass_peer, accept_message, accept_bypass, stop_proxying, proxy_will_stop}
 use Rattle.ipcz_router.specs.Acts.{pop_in, rest}
 use Rattle.ipcz_router.specs.ActEffects.{mark_side, wake_other, take_lock, fail_lock, drop_lock, claim_word, run_dry, begin_bypass}
@@ -50,7 +50,7 @@ wake_act w k r i e =
 
 -- a try for the lock; where it is refused the word is written back
 abbrev pub lock_act : World → Key → Router → ℕ → Plan → World
-lock_act w k r i Locks = set_word (set_router w k (take_lock r)) i (lock (word_at w i) r.end.side)
+lock_act w k r i Locks = set_word (set_router w k (take_lock r)) i (lock (word_at w i) r.end.side (source_of r))
 lock_act w k r i Waits = set_word (set_router w k (fail_lock r)) i (wait (word_at w i) r.end.side)
 lock_act w k r i Refuses = set_word (set_router w k (fail_lock r)) i (word_at w i)
 

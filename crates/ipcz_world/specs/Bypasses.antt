@@ -55,6 +55,16 @@ pub record BypassRecords (w : World) (g : Records) : Type 0 where
   pub born_fresh : (i o : ℕ) → is_linked (g.owner i) ≡ true → (g.central i).born ≡ Some o → (g.bypass o).fresh ≡ i
   pub born_stage : (i o : ℕ) → is_linked (g.owner i) ≡ true → (g.central i).born ≡ Some o → 2 ≤ (g.bypass o).stage
 
+-- of the links of one pair at most one is live, which no bypass takes away; where a bypass has begun and its fresh link isn't taken yet,
+-- none is,
+-- and it is the only such bypass of its pair
+pub record LiveLinks (g : Records) : Type 0 where
+  pub one_live : (i j : ℕ) → is_linked (g.owner i) ≡ true → is_linked (g.owner j) ≡ true → (g.central i).pair ≡ (g.central j).pair →
+      is_begun (g.bypass i) ≡ false → is_begun (g.bypass j) ≡ false → i ≡ j
+  pub none_live : (o i : ℕ) → (g.bypass o).stage ≡ 1 → is_linked (g.owner i) ≡ true → (g.central i).pair ≡ (g.central o).pair →
+      is_begun (g.bypass i) ≡ true
+  pub one_begun : (o p : ℕ) → (g.bypass o).stage ≡ 1 → (g.bypass p).stage ≡ 1 → (g.central o).pair ≡ (g.central p).pair → o ≡ p
+
 -- who stands where, by how far a bypass is
 pub record Stages (w : World) (g : Records) : Type 0 where
   pub proxy_old : (o : ℕ) → is_begun (g.bypass o) ≡ true → (g.bypass o).stage ≤ 3 →

@@ -1,9 +1,9 @@
 -- What the code of the world keeps, as the definitions of worlds name it: the link words with their claim count, apart from the nodes.
-use Rattle.std.specs.Prelude.{◌≤◌, ℕ, ◌+◌, Bool, true, false, nat_lt, if◌then◌else◌, Option, Some, None, List, length}
+use Rattle.std.specs.Prelude.{◌≡◌, ◌≤◌, ℕ, ◌+◌, Bool, true, false, nat_lt, if◌then◌else◌, Option, Some, None, List, length}
 use Rattle.std.specs.List.{All}
 use Rattle.ipcz_base.specs.declared.side.Side.{Side}
 use Rattle.ipcz_base.specs.Indexed.{place_at, put_place}
-use Rattle.ipcz_word.specs.Layout.{IsWord, bits_of}
+use Rattle.ipcz_word.specs.Layout.{IsWord, idle_bits, bits_of}
 use Rattle.ipcz_word.specs.Word.{Word, empty_word}
 use Rattle.ipcz_router.specs.declared.act.RouterAct.{RouterAct}
 use Rattle.ipcz_router.specs.declared.act.RouterAct.TheVariants.{Claim}
@@ -17,15 +17,24 @@ pub record WordTable : Type 0 where
   pub words : List Word
   pub claimed : ℕ
 
+-- the number of a link word whose bits 6 and 7 are none
+pub record IsLinkNumber (n : ℕ) : Type 0 where
+  pub word : IsWord n
+  pub idle : idle_bits n ≡ 0
+
 -- numbers and a claim count that make a table: each number is a link word, and there are enough of them, but not too many
 pub record IsTable (bits : List ℕ) (count : ℕ) : Type 0 where
-  pub words : All IsWord bits
+  pub words : All IsLinkNumber bits
   pub claimed : count ≤ length bits
   pub few : length bits ≤ word_limit
 
 -- the number of a claimed word
 abbrev pub claimed_word : WordTable → ℕ → Option ℕ
 claimed_word t i = if nat_lt i t.claimed then Some (bits_of (place_at empty_word t.words i)) else None
+
+-- the node that a claimed word names as the source
+abbrev pub source_at : WordTable → ℕ → Option ℕ
+source_at t i = if nat_lt i t.claimed then (place_at empty_word t.words i).source else None
 
 -- whether a word is left to claim
 abbrev pub has_unclaimed : WordTable → Bool
@@ -44,24 +53,25 @@ unfoldable pub is_claim : RouterAct → Bool
 is_claim Claim = true
 is_claim other = false
 
--- what an act on the word of a link is answered, the link being given by its word and the side; without such a word nothing
-unfoldable pub side_answer : WordTable → RouterAct → Option (ℕ × Side) → Answer
-side_answer t act None = answers.Plain
-side_answer t act (Some l) = word_answer (place_at empty_word t.words l.0) l.1 act
+-- what an act on the word of a link is answered, the source being given with which a lock is taken, and the link being given by its word
+-- and the side; without such a word nothing
+unfoldable pub side_answer : WordTable → Option ℕ → RouterAct → Option (ℕ × Side) → Answer
+side_answer t source act None = answers.Plain
+side_answer t source act (Some l) = word_answer (place_at empty_word t.words l.0) l.1 source act
 
 -- the table after an act on the word of a link
-unfoldable pub side_after : WordTable → RouterAct → Option (ℕ × Side) → WordTable
-side_after t act None = t
-side_after t act (Some l) = put_word t l.0 (word_after (place_at empty_word t.words l.0) l.1 act)
+unfoldable pub side_after : WordTable → Option ℕ → RouterAct → Option (ℕ × Side) → WordTable
+side_after t source act None = t
+side_after t source act (Some l) = put_word t l.0 (word_after (place_at empty_word t.words l.0) l.1 source act)
 
 -- what an act of a router is answered by the table
-abbrev pub table_answer : WordTable → RouterAct → Option (ℕ × Side) → Answer
-table_answer t act link =
-    if is_claim act then (if has_unclaimed t then answers.Claimed t.claimed else answers.NoWord) else side_answer t act link
+abbrev pub table_answer : WordTable → Option ℕ → RouterAct → Option (ℕ × Side) → Answer
+table_answer t source act link =
+    if is_claim act then (if has_unclaimed t then answers.Claimed t.claimed else answers.NoWord) else side_answer t source act link
 
 -- the table after an act of a router
-abbrev pub table_after : WordTable → RouterAct → Option (ℕ × Side) → WordTable
-table_after t act link = if is_claim act then (if has_unclaimed t then claim_one t else t) else side_after t act link
+abbrev pub table_after : WordTable → Option ℕ → RouterAct → Option (ℕ × Side) → WordTable
+table_after t source act link = if is_claim act then (if has_unclaimed t then claim_one t else t) else side_after t source act link
 
 -- the link words of a world
 abbrev pub table_of : World → WordTable

@@ -1,5 +1,8 @@
 -- The laws of links, bypasses and words, in words of the world and its routes alone.
 -- (ipcz asks the same of its RouterLinkState and its RouteEdge; that it is said of whole worlds is this project's own.)
+use Rattle.ipcz_router.specs.Router.{source_of}
+use Rattle.ipcz_router.specs.Bypass.{is_source}
+use Rattle.ipcz_world.specs.WordAnswers.{source_for}
 use Rattle.std.specs.Prelude.{◌≡◌, ◌<◌, ◌≤◌, ◌⊎◌, ℕ, ◌+◌, Bool, true, false, cond, ◌||◌, nat_eq, Some, List, length, slice_get}
 use Rattle.ipcz_base.specs.declared.side.Side.{Side}
 use Rattle.ipcz_base.specs.declared.side.Side.TheVariants.{A}
@@ -75,6 +78,13 @@ pub record BypassLaw (w : World) : Type 0 where
   pub inward : (k : Key) (r : Router) (e : LinkEnd) (i : ℕ) → router_at w k ≡ Some r → (inward_edge r).decaying ≡ Some e →
       e.link ≡ Central i → IsBypassed w i
   pub message : (from to i : ℕ) (m : Message) (o : ℕ) → IsUnderWay w from to i m → names_old o m ≡ true → IsBypassed w o
+  -- the word of a lock names the node inward of the proxy that holds it, and still does until the router across has accepted
+  pub source : (k : Key) (r : Router) (e : LinkEnd) (i : ℕ) → router_at w k ≡ Some r → r.holds ≡ true → r.outward.primary ≡ Some e →
+      e.link ≡ Central i → (word_at w i).source ≡ source_of r
+  pub begun_source : (from to i : ℕ) (link : LinkId) (s : Side) (old target fresh : ℕ) →
+      IsUnderWay w from to i (messages.BypassPeer link s old target fresh) → (word_at w old).source ≡ Some to
+  pub taken_source : (from to i old : ℕ) (s : Side) (fresh length : ℕ) →
+      IsUnderWay w from to i (messages.AcceptBypass old s fresh length) → (word_at w old).source ≡ Some from
 
 -- whether a message names the word's link, other than as a fresh word that no router has taken yet
 unfoldable pub names_link : ℕ → Message → Bool
@@ -180,11 +190,13 @@ unfoldable pub is_flush : Message → Bool
 is_flush (messages.Flush link side) = true
 is_flush other = false
 
--- no node has a stray, and each message under way, Flush aside, finds its router or follows what makes it
+-- no node has a stray, and each message under way, Flush aside, finds its router or follows what makes it, and none would be Forged
 pub record StrayLaw (w : World) : Type 0 where
   pub none : HasNoStrays w
   pub finds : (from to i : ℕ) (m : Message) → IsUnderWay w from to i m → is_flush m ≡ false →
       (is_named (node_at w to) (link_asked m) (side_asked m) ≡ true) ⊎ (is_made_before w from to i (link_asked m) (side_asked m) ≡ true)
+  pub sourced : (from to i old : ℕ) (s : Side) (fresh length : ℕ) → IsUnderWay w from to i (messages.AcceptBypass old s fresh length) →
+      is_source from (source_for w (messages.AcceptBypass old s fresh length)) ≡ true
 
 -- a terminal's numbers are those of its end's books, and so are those of a descriptor under way that will make one
 pub record TerminalLaw (w : World) (b : Books) : Type 0 where

@@ -1,6 +1,7 @@
 -- The rank of a world: a number that each act of a node makes smaller, so that a world that takes no calls becomes quiet.
 -- (This project's own: ipcz promises nothing of when its routers come to rest.)
-use Rattle.std.specs.Prelude.{◌≡◌, ◌≤◌, ◌<◌, ℕ, zero, suc, ◌+◌, ◌*◌, ◌-◌, Bool, true, false, not, cond, ◌&&◌, Option, Some, None, is_some, is_none, List, [], ◌∷◌, length, slice_get}
+use Rattle.std.specs.Prelude.{◌≡◌, ◌≤◌, ◌<◌, ℕ, zero, suc, ◌+◌, ◌*◌, ◌-◌, Bool, true, false, not, cond, ◌&&◌, Option, Some, None, is_some}
+use Rattle.std.specs.Prelude.{is_none, List, [], ◌∷◌, length, slice_get}
 use Rattle.ipcz_base.specs.declared.end.End.{End}
 use Rattle.ipcz_base.specs.declared.descriptor.Descriptor.{Descriptor}
 use Rattle.ipcz_base.specs.declared.item.Item.{Item}
@@ -164,7 +165,8 @@ abbrev pub unlock_count : List (ℕ × Act) → ℕ
 unlock_count [] = 0
 unlock_count (t ∷ ts) = worth 1 (is_unlock t.1) + unlock_count ts
 
--- law: while no caller calls, whatever possible acts the nodes take in whatever order, no more of them use something up than the rank at the
+-- law: while no caller calls, whatever possible acts the nodes take in whatever order, no more of them use something up than the rank at
+-- the
 -- start, and two for each unlock
 abbrev pub TurnsAreBounded : Type 0
 TurnsAreBounded =
@@ -177,7 +179,8 @@ UnusedIsQuiet =
     (w : World) (b : Books) (g : Routes) → Lawful w b g →
     ((n : ℕ) (act : Act) → n < w.count → can_take w n act ≡ true → uses_up w n act ≡ false) → IsQuiet w
 
--- the parcels that weren't read carry ends in an order of their pairs: each end that travels with an item is of a pair of a higher level; no
+-- the parcels that weren't read carry ends in an order of their pairs: each end that travels with an item is of a pair of a higher level;
+-- no
 -- end has put as many items as `most`, and no item carries more ends
 pub record AreOrdered (level : ℕ → ℕ) (depth most : ℕ) (b : Books) : Type 0 where
   pub within : (pair : ℕ) → level pair ≤ depth

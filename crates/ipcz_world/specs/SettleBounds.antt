@@ -40,7 +40,8 @@ abbrev pub FitsMost : ℕ → ℕ → Settled → Type 0
 FitsMost limit most (ends.Settled after) = after ≤ most
 FitsMost limit most ends.Unsettled = limit < most
 
--- a settle whose very turns keep the law, and whose answer fits the rank at its start and two for each unlock: for all books and routes with
+-- a settle whose very turns keep the law, and whose answer fits the rank at its start and two for each unlock: for all books and routes
+-- with
 -- which the world is lawful, and all rates that fit
 pub record IsLawfulSettle (limit : ℕ) (w v : World) (answer : Settled) : Type 0 where
   pub settle : IsSettle limit w v answer

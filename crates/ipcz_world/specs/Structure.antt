@@ -11,7 +11,7 @@ use Rattle.ipcz_base.specs.Sides.{opposite, same_side}
 use Rattle.ipcz_word.specs.SideSets.{has}
 use Rattle.ipcz_seq.specs.Queue.{item_at}
 use Rattle.ipcz_word.specs.Word.{empty_word}
-use Rattle.ipcz_router.specs.Router.{Router, is_proxy, is_terminal, inward_edge, decays, is_on_central}
+use Rattle.ipcz_router.specs.Router.{Router, is_proxy, is_terminal, inward_edge, decays, is_on_central, source_of}
 use Rattle.ipcz_world.specs.World.{World, Key, node_at, word_at, mail_at, way, router_at}
 use Rattle.ipcz_world.specs.Turns.{hand_message}
 use Rattle.ipcz_world.specs.Records.{Records, Spare, Opening, Fresh, is_linked, is_unclaimed, is_begun, is_recorded, inner_link, side_node}
@@ -175,7 +175,12 @@ pub record Stands (w : World) (g : Records) : Type 0 where
   pub by_begun : (p : Key) (o : ℕ) → (g.peripheral p).by ≡ Some o → is_begun (g.bypass o) ≡ true
   pub by_inner : (p : Key) (o : ℕ) → (g.peripheral p).by ≡ Some o → (g.bypass o).inner ≡ p
 
--- what the words say
+-- each proxy that holds the lock of its link has the word name the node inward of it
+abbrev pub AreSourced : World → Type 0
+AreSourced w = (k : Key) (r : Router) (e : LinkEnd) (i : ℕ) → router_at w k ≡ Some r → r.holds ≡ true → r.outward.primary ≡ Some e →
+    e.link ≡ Central i → (word_at w i).source ≡ source_of r
+
+-- what the words say; the source is the node inward of the proxy that holds the lock, until the router across has accepted
 pub record Words (w : World) (g : Records) : Type 0 where
   pub unused : (i : ℕ) → is_linked (g.owner i) ≡ false → word_at w i ≡ empty_word
   pub begun_stable : (i : ℕ) (s : Side) → is_begun (g.bypass i) ≡ true → has (word_at w i).stable s ≡ true
@@ -186,6 +191,9 @@ pub record Words (w : World) (g : Records) : Type 0 where
       has (word_at w i).holder s ≡ key_passes w (side_router g (Central i) s) (λ r. r.holds)
   pub held_stable : (i : ℕ) (s t : Side) → has (word_at w i).holder s ≡ true → has (word_at w i).stable t ≡ true
   pub one_holder : (i : ℕ) (s t : Side) → has (word_at w i).holder s ≡ true → has (word_at w i).holder t ≡ true → s ≡ t
+  pub source : AreSourced w
+  pub begun_source : (o : ℕ) → is_begun (g.bypass o) ≡ true → (g.bypass o).stage ≤ 2 →
+      (word_at w o).source ≡ Some (side_node g (inner_link (g.bypass o).inner) B)
 
 -- whose the words are that aren't links yet
 pub record Spares (w : World) (g : Records) : Type 0 where

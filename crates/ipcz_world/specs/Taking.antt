@@ -1,7 +1,10 @@
 -- What the code needs to know of a world to take a step of it, and what a turn that takes a certain act comes to.
-use Rattle.std.specs.Prelude.{◌≡◌, ◌<◌, ℕ, true, false, if◌then◌else◌, Option, Result, IsOk, OnOk, OnErr, IfOk, IfErr}
+use Rattle.std.specs.Prelude.{◌≡◌, ◌<◌, ℕ, true, false, if◌then◌else◌, Option, Some, Result, IsOk, OnOk, OnErr, IfOk, IfErr}
 use Rattle.ipcz_base.specs.declared.refusal.Refusal.{Refusal}
 use Rattle.ipcz_base.specs.declared.refusal.Refusal.TheVariants.{NumbersEnd, OutOfMemory}
+use Rattle.ipcz_word.specs.Laws.{HasNode}
+use Rattle.ipcz_router.specs.Router.{Router, source_of}
+use Rattle.ipcz_node.specs.Node.{router_in}
 use Rattle.ipcz_node.specs.declared.act.Act.{Act}
 use Rattle.ipcz_node.specs.declared.happened.Happened.{Happened}
 use Rattle.ipcz_node.specs.Acts.{post_of, act_lacks_serials, act_grows}
@@ -15,11 +18,13 @@ use Rattle.ipcz_world.specs.Turns.{turn_event, turn_lacks_serials, turn_grows, c
 use Rattle.ipcz_world.specs.Steps.{FirstAct}
 use Rattle.ipcz_world.specs.Soundness.{HasLengths, IsSound}
 
--- the lists of a world have their lengths, its nodes name only what there is, and the first act of each of them is possible, and so is what
+-- the lists of a world have their lengths, its nodes name only what there is, the source of each router is the number of a node, and the
+-- first act of each of them is possible, and so is what
 -- stands in for it
 pub record IsRegular (w : World) : Type 0 where
   pub lengths : HasLengths w
   pub sound : (n : ℕ) → n < w.count → IsSound w.count w.size n (node_at w n)
+  pub sourced : (n serial : ℕ) (r : Router) → n < w.count → router_in (node_at w n) serial ≡ Some r → HasNode (source_of r)
   pub possible : (n : ℕ) (act : Act) → n < w.count → FirstAct w n act → can_take w n act ≡ true
 
 -- a node has taken an act, or was refused it: for want of serials, or of memory where the act makes something grow

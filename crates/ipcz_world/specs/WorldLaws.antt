@@ -21,6 +21,7 @@ use Rattle.ipcz_world.specs.declared.step.Reply.{Reply}
 use Rattle.ipcz_world.specs.declared.step.Reply.TheVariants.{Turned, Refused}
 use Rattle.ipcz_world.specs.World.{World, node_at, word_at, new_world}
 use Rattle.ipcz_world.specs.Turns.{router_of, message_in_hand}
+use Rattle.ipcz_world.specs.WordAnswers.{source_for}
 use Rattle.ipcz_world.specs.Steps.{StepAny, StepFirst, claim_for_open}
 use Rattle.ipcz_world.specs.Settling.{IsQuiet}
 use Rattle.ipcz_world.specs.Books.{Books, no_books, advance}
@@ -153,7 +154,7 @@ TerminalsKeepBooks = (w : World) (b : Books) (g : Routes) → Lawful w b g → T
 abbrev pub HandsFit : Type 0
 HandsFit =
     (w : World) (b : Books) (g : Routes) (n from : ℕ) (m : Message) → Lawful w b g → n < w.count → (node_at w n).hand ≡ Some from →
-    message_in_hand w n from ≡ Some m → is_unfit (node_at w n) from m ≡ true → is_flush m ≡ true
+    message_in_hand w n from ≡ Some m → is_unfit (node_at w n) from m (source_for w m) ≡ true → is_flush m ≡ true
 
 -- law: in a lawful world each end of an open pair is in one place, and other ends are nowhere
 abbrev pub EndsStandOnce : Type 0
@@ -182,7 +183,8 @@ HandsStandInMail =
 
 -- law: in a lawful world the word of an open under way is empty
 abbrev pub OpeningWordsAreEmpty : Type 0
-OpeningWordsAreEmpty = (w : World) (b : Books) (g : Routes) (n i : ℕ) → Lawful w b g → (node_at w n).opening ≡ Some i → word_at w i ≡ empty_word
+OpeningWordsAreEmpty = (w : World) (b : Books) (g : Routes) (n i : ℕ) → Lawful w b g → (node_at w n).opening ≡ Some i →
+    word_at w i ≡ empty_word
 
 -- law: in a lawful world an end whose close is pending at a node has its terminal there
 abbrev pub PendingHaveTerminals : Type 0

@@ -1,7 +1,8 @@
 ghost use Rattle.std.specs.Prelude.{◌≡◌, ◌<◌, ◌≤◌, ◌++◌, ◌-◌, Some, None, IfSome, IfOk, length, map, replicate, if◌then◌else◌};
 ghost use Rattle.ipcz_word.specs.Layout.{word_of_bits};
+ghost use Rattle.ipcz_word.specs.Laws.{HasNode};
 ghost use Rattle.ipcz_word.specs.Word.{empty_word, open_word};
-ghost use Rattle.ipcz_world.specs.Coding.{claimed_word, has_unclaimed, claim_one, put_word, is_claim, side_answer, side_after};
+ghost use Rattle.ipcz_world.specs.Coding.{claimed_word, has_unclaimed, claim_one, put_word, is_claim, side_answer, side_after, source_at};
 ghost use Rattle.ipcz_world.specs.Coding.{table_answer, table_after, IsTable};
 
 use crate::word_answers::answer_act;
@@ -77,6 +78,17 @@ impl LinkWords {
         }
     }
 
+    /// The node that a claimed word names as the source of a bypass.
+    pub(crate) fn source(&self, i: u32) -> Option<u8>
+        ensures { result ≡ source_at self.now i }
+    {
+        if self.claimed > i {
+            ipcz_word::source(self.bits[i as usize])
+        } else {
+            None
+        }
+    }
+
     /// Whether a word is left to claim.
     pub(crate) fn has_unclaimed(&self) -> bool
         ensures { result ≡ has_unclaimed self.now }
@@ -104,16 +116,22 @@ impl LinkWords {
     }
 
     /// Answers an act of a router whose outward primary link has this word and side, where it is central, and makes of the word what the
-    /// act does.
-    pub(crate) fn answer(&mut self, act: RouterAct, link: Option<(u32, Side)>) -> Answer
-        requires { IfSome link (λ l. l.0 < length self.old.words) }
-        ensures answer { result ≡ table_answer self.old act link }
-        ensures table { self.new ≡ table_after self.old act link }
+    /// act does; a lock names the source.
+    pub(crate) fn answer(
+        &mut self,
+        source: Option<u8>,
+        act: RouterAct,
+        link: Option<(u32, Side)>,
+    ) -> Answer
+        requires node { HasNode source }
+        requires within { IfSome link (λ l. l.0 < length self.old.words) }
+        ensures answer { result ≡ table_answer self.old source act link }
+        ensures table { self.new ≡ table_after self.old source act link }
     {
         if is_claim(act) {
             self.answer_claim()
         } else {
-            self.answer_link(act, link)
+            self.answer_link(source, act, link)
         }
     }
 
@@ -131,25 +149,32 @@ impl LinkWords {
 
     // Answers an act on the word of a link.
     #[tactic(auto, unfolding(crate::specs::Coding::side_answer, crate::specs::Coding::side_after))]
-    fn answer_link(&mut self, act: RouterAct, link: Option<(u32, Side)>) -> Answer
-        requires { IfSome link (λ l. l.0 < length self.old.words) }
-        ensures answer { result ≡ side_answer self.old act link }
-        ensures table { self.new ≡ side_after self.old act link }
+    fn answer_link(
+        &mut self,
+        source: Option<u8>,
+        act: RouterAct,
+        link: Option<(u32, Side)>,
+    ) -> Answer
+        requires node { HasNode source }
+        requires within { IfSome link (λ l. l.0 < length self.old.words) }
+        ensures answer { result ≡ side_answer self.old source act link }
+        ensures table { self.new ≡ side_after self.old source act link }
     {
         match link {
-            Some((i, side)) => self.answer_word(act, i, side),
+            Some((i, side)) => self.answer_word(source, act, i, side),
             None => Answer::Plain,
         }
     }
 
     // Answers an act on a word.
     #[tactic(auto, unfolding(crate::specs::Coding::side_answer, crate::specs::Coding::side_after))]
-    fn answer_word(&mut self, act: RouterAct, i: u32, side: Side) -> Answer
-        requires { i < length self.old.words }
-        ensures answer { result ≡ side_answer self.old act (Some (i, side)) }
-        ensures table { self.new ≡ side_after self.old act (Some (i, side)) }
+    fn answer_word(&mut self, source: Option<u8>, act: RouterAct, i: u32, side: Side) -> Answer
+        requires node { HasNode source }
+        requires within { i < length self.old.words }
+        ensures answer { result ≡ side_answer self.old source act (Some (i, side)) }
+        ensures table { self.new ≡ side_after self.old source act (Some (i, side)) }
     {
-        let answered = answer_act(self.bits[i as usize], side, act);
+        let answered = answer_act(self.bits[i as usize], side, source, act);
         self.bits[i as usize] = answered.word;
         answered.answer
     }

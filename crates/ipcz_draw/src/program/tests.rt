@@ -88,6 +88,124 @@ fn draws_a_row_for_each_line_and_one_for_idle_ones(rt: HostRuntime) -> Result<()
     Ok(())
 }
 
+// Two items that wait in one outbox, a flush that never arrives, and a name that stands again.
+const WAITING: &[u8] = b"n0: r0 send out 0 C0
+n0: r0 send out 1 C0
+n0: post 1
+n1: look 0
+n0: post 1
+n1: hand item 0 C0
+n1: look 0
+n1: hand item 1 C0
+n1: r0 wake C2 3
+n1: post 0
+n1: look 1
+n0: idle
+words
+words
+words
+words
+words
+words
+";
+
+#[test]
+fn says_who_made_what_and_for_whom(rt: HostRuntime) -> Result<(), Fail> {
+    let mut out = Vec::new(rt.alloc());
+    assert_eq!(rt; drawn(rt.alloc(), WAITING, &mut out), 0);
+    for text in [
+        "<title>item 0 C0 from n0 r0 to n1; made line 1; posted line 3; looked line 4; handled line 6</title>",
+        "<title>item 1 C0 from n0 r0 to n1; made line 2; posted line 5; looked line 7; handled line 8</title>",
+        "<title>Flush C2 from n1 r0 to n0; made line 9; posted line 10; not seen handled</title>",
+        "M422 145H454V181H460",
+        "M422 163H450V217H460",
+        ">Flush</text>",
+        "<text x=\"414\" y=\"419\" class=\"t10 ink b e h halo\">r0</text>",
+        "<text x=\"387\" y=\"419\" class=\"t9 dim b h halo\">n0</text>",
+    ] {
+        assert!(rt; has(out.as_slice(), text.as_bytes()), "{text}");
+    }
+    Ok(())
+}
+
+#[test]
+fn tells_what_is_wrong_in_the_transcripts_words(rt: HostRuntime) -> Result<(), Fail> {
+    let rows = [
+        (b"n1: hand Flush C2 dropped\n".as_slice(), ">dropped</text>"),
+        (b"n1: hand item 0 C2 stray\n", ">stray</text>"),
+        (b"unsettled\n", "class=\"fn\""),
+        (b"unsettled\n", ">unsettled: the limit came first; "),
+        (b"settled\n", "class=\"bn\""),
+        (b"get x PeerClosed\n", "class=\"t11 f-bad\">get x"),
+    ];
+    for (transcript, text) in rows {
+        let mut out = Vec::new(rt.alloc());
+        assert_eq!(rt; drawn(rt.alloc(), transcript, &mut out), 0);
+        assert!(rt; has(out.as_slice(), text.as_bytes()), "{text}");
+    }
+    Ok(())
+}
+
+// The node that may answer stands behind a word's cells, where the word tells one.
+#[test]
+fn shows_the_node_that_may_answer(rt: HostRuntime) -> Result<(), Fail> {
+    let rows = [
+        (b"n0: r1 lock C1 547\n".as_slice(), Some(">1</text>")),
+        (b"n0: r1 lock C1 4095\n", Some(">14</text>")),
+        (b"words 3 547 3\n", Some(">1</text>")),
+        (b"words 3 291 3\n", Some(">0</text>")),
+        (b"n0: r1 lock C1 35\n", None),
+        (b"words 3 35 3\n", None),
+    ];
+    for (transcript, node) in rows {
+        let mut out = Vec::new(rt.alloc());
+        assert_eq!(rt; drawn(rt.alloc(), transcript, &mut out), 0);
+        assert!(rt; has(out.as_slice(), b">SL</text>") || has(out.as_slice(), b">SWL</text>"));
+        let source = b"class=\"t9 f-word b\"".as_slice();
+        assert_eq!(rt; has(out.as_slice(), source), node.is_some());
+        if let Some(node) = node {
+            assert!(rt; has(out.as_slice(), node.as_bytes()), "{node}");
+        }
+    }
+    Ok(())
+}
+
+// A router of the first pair, with the end and the portal that it serves and the calls there, and the proxy of an opened portal.
+#[test]
+fn calls_stand_at_the_routers_of_their_portals(rt: HostRuntime) -> Result<(), Fail> {
+    let mut out = Vec::new(rt.alloc());
+    let transcript =
+        b"open x y ok\nput 0>1 0\nclose 0>1 1\nn0: r0 send out 0 C0 moves 1B\nn0: post 1\nn1: look 0\nn1: hand item 0 C0\nn1: r0 rest\nn0: r2 claim 2\nn0: r2 finish in P0.0\nget y PeerClosed\n";
+    assert_eq!(rt; drawn(rt.alloc(), transcript, &mut out), 0);
+    for text in [
+        "class=\"f-call\"/><text x=\"430\" y=\"167\" class=\"t9 f-call h halo\">put</text>",
+        "class=\"f-call\"/><text x=\"430\" y=\"185\" class=\"t9 f-call h halo\">close</text>",
+        ">0A 0&gt;1</text>",
+        ">0B 1&gt;0</text>",
+        ">1B y</text>",
+    ] {
+        assert!(rt; has(out.as_slice(), text.as_bytes()), "{text}");
+    }
+    assert!(rt; !has(out.as_slice(), b">get</text>"));
+    Ok(())
+}
+
+// A bar from one step of a word to the next in its column, and from that one to a settle.
+#[test]
+fn shows_how_long_a_word_stands(rt: HostRuntime) -> Result<(), Fail> {
+    let mut out = Vec::new(rt.alloc());
+    let transcript = b"n0: r0 mark C1 1\nn0: r0 mark C2 1\nn0: r1 mark C7 1\nsettled\n";
+    assert_eq!(rt; drawn(rt.alloc(), transcript, &mut out), 0);
+    for bar in [
+        "y=\"152\" width=\"1\" height=\"22\" class=\"f-word\"",
+        "y=\"170\" width=\"1\" height=\"22\" class=\"f-word\"",
+        "y=\"188\" width=\"1\" height=\"4\" class=\"f-word\"",
+    ] {
+        assert!(rt; has(out.as_slice(), bar.as_bytes()), "{bar}");
+    }
+    Ok(())
+}
+
 #[test]
 fn draws_no_rows_for_no_bytes(rt: HostRuntime) -> Result<(), Fail> {
     let mut out = Vec::new(rt.alloc());

@@ -18,7 +18,7 @@ const CALLS: [(usize, Call); 13] = [
             "Post(1)",
             "Rest(0)",
             "Claim(2, 2)",
-            "Lock(2, Central(1), 35)",
+            "Lock(2, Central(1), 547)",
             "Begin(2, Central(1))",
             "Rest(2)",
             "Idle",

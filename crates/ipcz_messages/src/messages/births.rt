@@ -8,65 +8,10 @@ ghost use Rattle.std.specs.Prelude.{◌≡◌, length};
 
 use crate::messages::Message;
 use crate::messages::namings::{Naming, namings, sole};
+use crate::moves::{Move, Moves};
 use crate::routers::Router;
-use ipcz_lines::{Event, Kind, Line, Link, ReadLine, RouterEvent};
+use ipcz_lines::{Kind, ReadLine};
 use std::alloc::{AllocError, Global};
-
-/// An end that moved: the line of its send, the node that it left, and the link that the node made for it.
-#[derive(Clone, Copy)]
-struct Move {
-    line: usize,
-    node: u8,
-    link: Link,
-}
-
-// How many ends stand in a list.
-fn count_of(moves: &[u8]) -> usize {
-    if moves.is_empty() {
-        return 0;
-    }
-    moves.split(|b| *b == b',').count()
-}
-
-fn moved_at(line: &Line) -> Option<(u8, usize)> {
-    match line {
-        Line::Turn {
-            node,
-            event: Event::Router {
-                event: RouterEvent::Send { moves, .. },
-                ..
-            },
-        } => Some((*node, count_of(moves))),
-        _ => None,
-    }
-}
-
-// The moves before the first settle.
-fn moves(alloc: Global, lines: &[ReadLine]) -> Result<Vec<Move>, AllocError> {
-    let mut moves = Vec::new(alloc);
-    let mut serials = [0u64; 8];
-    for (i, read) in lines.iter().enumerate() {
-        if matches!(read.line, Line::Settled | Line::Unsettled) {
-            break;
-        }
-        if let Some((node, count)) = moved_at(&read.line)
-            && let Some(serial) = serials.get_mut(usize::from(node))
-        {
-            for _ in 0..count {
-                moves.push(Move {
-                    line: i,
-                    node,
-                    link: Link::Peripheral {
-                        node,
-                        serial: *serial,
-                    },
-                })?;
-                *serial = serial.saturating_add(1);
-            }
-        }
-    }
-    Ok(moves)
-}
 
 fn note_proxy(routers: &mut Vec<Router>, index: Option<usize>, line: usize)
     ensures { length routers.new.items ≡ length routers.old.items }
@@ -118,13 +63,13 @@ pub fn note_births(
     alloc: Global,
     lines: &[ReadLine],
     messages: &[Message],
+    moves: &Moves,
     routers: &mut Vec<Router>,
 ) -> Result<(), AllocError>
     ensures { length routers.new.items ≡ length routers.old.items }
 {
     let namings = namings(alloc, lines, routers.as_slice())?;
-    let moves = moves(alloc, lines)?;
-    for moved in &moves {
+    for moved in &moves.all {
         note_move(routers, namings.as_slice(), messages, moved);
     }
     Ok(())

@@ -11,23 +11,13 @@ ghost use Rattle.ipcz_messages.specs.Messages.{AreOnce, IsMessage, KeepsWay};
 use crate::messages::Message;
 use crate::messages::bypasses::{Bypass, bypasses, of_inner_link, of_old_link};
 use crate::messages::joining::joined;
+use crate::messages::leftovers::{Part, explain};
+use crate::messages::made::{Made, made_by, reply};
 use crate::messages::namings::{Naming, namings, sole};
 use crate::messages::receivers::{Receiver, receivers};
 use crate::routers::{Router, find};
-use ipcz_lines::{Event, Kind, Line, Link, ReadLine, RouterEvent, WordStep};
+use ipcz_lines::{Event, Kind, Line, Link, ReadLine, RouterEvent};
 use std::alloc::{AllocError, Global};
-
-/// A message that was made and not yet handled: the node and the line that made it, the router where it's known, and what is
-/// known of the message.
-#[derive(Clone, Copy)]
-struct Made<'a> {
-    node: u8,
-    line: usize,
-    router: Option<usize>,
-    kind: Kind,
-    link: Option<Link>,
-    moves: &'a [u8],
-}
 
 /// What is known of messages that were made, while the lines are gone through.
 #[derive(Drop)]
@@ -38,6 +28,7 @@ struct Making<'a> {
     receivers: Vec<Receiver>,
     made: Vec<Made<'a>>,
     quiet: bool,
+    since: usize,
 }
 
 /// Who made a message and whom it was for.
@@ -46,37 +37,6 @@ struct Ways<'a> {
     made: Option<Made<'a>>,
     receiver: Option<usize>,
     bypass: Option<usize>,
-}
-
-fn made_by<'a>(event: &RouterEvent<'a>) -> Option<(Kind, Link, &'a [u8])> {
-    match event {
-        RouterEvent::Send {
-            number,
-            link,
-            moves,
-            ..
-        } => Some((Kind::Item(*number), *link, moves)),
-        RouterEvent::Retire { number, link } => Some((Kind::Item(*number), *link, b"".as_slice())),
-        RouterEvent::Begin { word } => {
-            Some((Kind::BypassPeer, Link::Central(*word), b"".as_slice()))
-        }
-        RouterEvent::Word {
-            step: WordStep::Wake,
-            word,
-            ..
-        } => Some((Kind::Flush, Link::Central(*word), b"".as_slice())),
-        _ => None,
-    }
-}
-
-// What the router that handles a message of a bypass sends in turn.
-fn reply(kind: Kind) -> Option<Kind> {
-    match kind {
-        Kind::BypassPeer => Some(Kind::AcceptBypass),
-        Kind::AcceptBypass => Some(Kind::StopProxying),
-        Kind::StopProxying => Some(Kind::ProxyWillStop),
-        Kind::Item(_) | Kind::ProxyWillStop | Kind::Flush => None,
-    }
 }
 
 impl<'a> Making<'a> {
@@ -276,9 +236,42 @@ impl<'a> Making<'a> {
         Ok(())
     }
 
-    fn settle(&mut self, quiet: bool) {
+    // Says what made the messages that were posted from the last settle to a line and aren't seen handled, where all since
+    // then is seen.
+    fn explain(&mut self, lines: &[ReadLine], messages: &mut Vec<Message<'a>>, line: usize)
+        requires messages { All (IsMessage lines.now) messages.old.items }
+        requires once { AreOnce lines.now messages.old.items }
+        ensures each { All (IsMessage lines.now) messages.new.items }
+        ensures once { AreOnce lines.now messages.new.items }
+        ensures few { length messages.new.items ≡ length messages.old.items }
+    {
+        if self.quiet && !self.made.is_empty() {
+            let part = Part {
+                from: self.since,
+                to: line,
+            };
+            explain(lines, &mut self.made, messages, part);
+        }
+    }
+
+    // Ends what is known at a settle.
+    fn settle(
+        &mut self,
+        lines: &[ReadLine],
+        messages: &mut Vec<Message<'a>>,
+        line: usize,
+        quiet: bool,
+    )
+        requires messages { All (IsMessage lines.now) messages.old.items }
+        requires once { AreOnce lines.now messages.old.items }
+        ensures each { All (IsMessage lines.now) messages.new.items }
+        ensures once { AreOnce lines.now messages.new.items }
+        ensures few { length messages.new.items ≡ length messages.old.items }
+    {
+        self.explain(lines, messages, line);
         self.made.clear();
         self.quiet = quiet;
+        self.since = line;
     }
 
     // Goes on by one line, and says of a message that it handles who made it and whom it was for.
@@ -311,11 +304,11 @@ impl<'a> Making<'a> {
                 Ok(())
             }
             Line::Settled => {
-                self.settle(true);
+                self.settle(lines, messages, i, true);
                 Ok(())
             }
             Line::Unsettled => {
-                self.settle(false);
+                self.settle(lines, messages, i, false);
                 Ok(())
             }
             _ => Ok(()),
@@ -341,9 +334,11 @@ pub fn messages<'a>(
         receivers: receivers(alloc, lines, routers)?,
         made: Vec::new(alloc),
         quiet: true,
+        since: 0,
     };
     for i in 0..lines.len() {
         making.follow(lines, i, &mut messages)?;
     }
+    making.explain(lines, &mut messages, lines.len());
     Ok(messages)
 }

@@ -1,8 +1,11 @@
 //! The messages of a run with one bypass and of one with two proxies, and of transcripts that no run makes.
 
 use super::*;
+use crate::calls::{Portals, calls};
+use crate::ends::ends;
+use crate::moves::Moves;
 use crate::routers::{Router, find, routers};
-use ipcz_lines::{Kind, Link, read};
+use ipcz_lines::{End, Kind, Link, Side, read};
 use std::alloc::Global;
 use std::process::Abort;
 use std::test::Fail;
@@ -288,8 +291,89 @@ fn a_waiting_side_is_woken_by_a_flush(rt: HostRuntime) -> Result<(), Fail> {
     for (message, row) in messages.iter().zip(&rows) {
         check(&rt, routers.as_slice(), message, row);
     }
-    assert_eq!(rt; lines_of(&messages[6]), [None, Some(50), None, None]);
-    assert_eq!(rt; messages[6].lost, Some(53));
+    let last = &messages[6];
+    assert_eq!(rt; lines_of(last), [Some(49), Some(50), None, None]);
+    assert_eq!(rt; name_of(routers.as_slice(), last.maker), Some((0, 2)));
+    assert_eq!(rt; last.kind, Some(Kind::BypassPeer));
+    assert_eq!(rt; last.link, None);
+    assert_eq!(rt; last.lost, Some(53));
+    Ok(())
+}
+
+// What is known of a message: the line that made it, its maker, kind and link, and the ends that moved with it.
+type Origin<'a> = (
+    Option<usize>,
+    Option<(u8, u64)>,
+    Option<Kind>,
+    Option<Link>,
+    &'a [u8],
+);
+
+fn origin_of<'a>(routers: &[Router], message: &Message<'a>) -> Origin<'a> {
+    (
+        message.made,
+        name_of(routers, message.maker),
+        message.kind,
+        message.link,
+        message.moves,
+    )
+}
+
+// A message that isn't seen handled is the one thing that its node made before the post and that no other message is.
+#[test]
+fn a_message_that_never_arrives_is_what_is_left(rt: HostRuntime) -> Result<(), Fail> {
+    let item = (
+        Some(0),
+        Some((0, 0)),
+        Some(Kind::Item(7)),
+        Some(Link::Central(0)),
+        b"1A,1B".as_slice(),
+    );
+    let flush = (
+        Some(2),
+        Some((0, 3)),
+        Some(Kind::Flush),
+        Some(Link::Central(2)),
+        b"".as_slice(),
+    );
+    let unknown = (None, None, None, None, b"".as_slice());
+    for (transcript, index, want) in [
+        (
+            b"n0: r0 send out 7 C0 moves 1A,1B\nn0: post 1\n".as_slice(),
+            0,
+            item,
+        ),
+        (
+            b"n0: r0 send out 7 C0 moves 1A,1B\nn0: post 1\nn1: look 0\nsettled\n",
+            0,
+            item,
+        ),
+        (
+            b"n0: r0 send out 7 C0 moves 1A,1B\nn0: post 1\nn0: r3 wake C2 3\nn1: look 0\nn0: post 1\n",
+            1,
+            flush,
+        ),
+        (
+            b"n0: r0 send out 7 C0\nn0: post 1\nn0: r3 wake C2 3\nn1: look 0\nn0: post 1\nn1: hand item 7 C0\n",
+            1,
+            flush,
+        ),
+        (
+            b"n0: r0 send out 7 C0\nn0: r0 send out 8 C0\nn0: post 1\n",
+            0,
+            unknown,
+        ),
+        (b"n1: r0 send out 7 C0\nn0: post 1\n", 0, unknown),
+        (b"n0: post 1\nn0: r0 send out 7 C0\n", 0, unknown),
+        (b"unsettled\nn0: r0 send out 7 C0\nn0: post 1\n", 0, unknown),
+        (b"n0: r0 send out 7 C0\nsettled\nn0: post 1\n", 0, unknown),
+    ] {
+        let lines = read(rt.alloc(), transcript)?;
+        let routers = routers(rt.alloc(), lines.as_slice())?;
+        let messages = messages(rt.alloc(), lines.as_slice(), routers.as_slice())?;
+        let message = messages.get(index).expect(&rt, "the message");
+        assert_eq!(rt; origin_of(routers.as_slice(), message), want);
+    }
     Ok(())
 }
 
@@ -301,10 +385,12 @@ fn routers_begin_where_their_ends_moved(rt: HostRuntime) -> Result<(), Fail> {
         let lines = read(rt.alloc(), input)?;
         let mut routers = routers(rt.alloc(), lines.as_slice())?;
         let messages = messages(rt.alloc(), lines.as_slice(), routers.as_slice())?;
+        let moves = Moves::new(rt.alloc(), lines.as_slice())?;
         note_births(
             rt.alloc(),
             lines.as_slice(),
             messages.as_slice(),
+            &moves,
             &mut routers,
         )?;
         let proxy = find(routers.as_slice(), 0, serial).expect(&rt, "the proxy");
@@ -398,6 +484,114 @@ fn the_only_flagged_router_is_the_receiver(rt: HostRuntime) -> Result<(), Fail> 
         ),
     ] {
         assert_eq!(rt; first_receiver(rt.alloc(), transcript), want);
+    }
+    Ok(())
+}
+
+fn end(pair: u16, side: Side) -> Option<End> {
+    Some(End { pair, side })
+}
+
+// The first pair's routers are known by their message, a proxy and the router that a move makes by the link of the move, and the
+// router on the other side of a proxy's first link by that.
+#[test]
+fn routers_serve_the_ends_that_the_lines_tell(rt: HostRuntime) -> Result<(), Fail> {
+    for (input, want) in [
+        (
+            ONE_BYPASS,
+            [
+                (0, 0, end(0, Side::A)),
+                (0, 1, end(1, Side::A)),
+                (0, 2, end(1, Side::B)),
+                (1, 0, end(0, Side::B)),
+                (1, 1, end(1, Side::B)),
+            ],
+        ),
+        (
+            TWO_PROXIES,
+            [
+                (0, 0, end(0, Side::A)),
+                (0, 1, end(1, Side::A)),
+                (0, 2, end(1, Side::B)),
+                (1, 0, end(0, Side::B)),
+                (1, 1, end(1, Side::A)),
+            ],
+        ),
+        (
+            b"n0: r3 lock C2 35\nn0: r4 wait C5 7\nn0: r5 wait C5 15\nn1: r0 mark C1 1\nsettled\nn1: r1 wait C1 7\n",
+            [
+                (0, 3, end(2, Side::B)),
+                (0, 4, end(5, Side::A)),
+                (0, 5, end(5, Side::B)),
+                (1, 0, None),
+                (1, 1, None),
+            ],
+        ),
+    ] {
+        let lines = read(rt.alloc(), input)?;
+        let routers = routers(rt.alloc(), &lines)?;
+        let messages = messages(rt.alloc(), &lines, &routers)?;
+        let moves = Moves::new(rt.alloc(), &lines)?;
+        let ends = ends(rt.alloc(), &lines, &messages, &routers, &moves)?;
+        for (node, serial, end) in want {
+            let router = find(&routers, node, serial).expect(&rt, "the router");
+            assert_eq!(rt; ends.get(router).copied(), Some(end), "{serial} of {node}");
+        }
+    }
+    Ok(())
+}
+
+#[test]
+fn calls_are_at_the_routers_of_their_portals(rt: HostRuntime) -> Result<(), Fail> {
+    let lines = read(rt.alloc(), ONE_BYPASS)?;
+    let routers = routers(rt.alloc(), &lines)?;
+    let messages = messages(rt.alloc(), &lines, &routers)?;
+    let moves = Moves::new(rt.alloc(), &lines)?;
+    let ends = ends(rt.alloc(), &lines, &messages, &routers, &moves)?;
+    let portals = Portals::new(rt.alloc(), &lines)?;
+    let calls = calls(rt.alloc(), &lines, &routers, &moves, &ends, &portals)?;
+    let want = [(1, (0, 0)), (43, (1, 0)), (44, (1, 1))];
+    assert_eq!(rt; calls.len(), want.len());
+    for (call, (line, router)) in calls.iter().zip(&want) {
+        assert_eq!(rt; call.line, *line);
+        assert_eq!(rt; name_of(&routers, Some(call.router)), Some(*router));
+    }
+    Ok(())
+}
+
+// A claim and a line of words tell how many words were taken, and so how many first pairs there are.
+#[test]
+fn portals_are_the_ends_of_their_pairs(rt: HostRuntime) -> Result<(), Fail> {
+    for (transcript, x, first) in [
+        (
+            b"open a b ok\nopen x y ok\nn0: r3 claim 5\n".as_slice(),
+            end(4, Side::A),
+            end(2, Side::B),
+        ),
+        (
+            b"open a b NoWord\nwords 3 3 3\nopen x y ok\n",
+            end(3, Side::A),
+            end(2, Side::B),
+        ),
+        (
+            b"n0: r3 claim 3\nopen x y ok\n",
+            end(4, Side::A),
+            end(2, Side::B),
+        ),
+        (b"open x y ok\nn0: r3 claim 2\n", end(1, Side::A), None),
+        (b"open x y ok\nsettled\nn0: r3 claim 4\n", None, None),
+    ] {
+        let lines = read(rt.alloc(), transcript)?;
+        let portals = Portals::new(rt.alloc(), &lines)?;
+        assert_eq!(rt; portals.end_of(b"x"), x);
+        assert_eq!(rt; portals.end_of(b"2>1"), first);
+        assert_eq!(rt; portals.end_of(b"z"), None);
+        if let Some(end) = first {
+            assert_eq!(rt; portals.nodes_of(end), Some((2, 1)));
+        }
+        if let Some(end) = x {
+            assert_eq!(rt; portals.name_of(end), Some(b"x".as_slice()));
+        }
     }
     Ok(())
 }

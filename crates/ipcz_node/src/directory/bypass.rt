@@ -14,7 +14,7 @@ ghost use Rattle.ipcz_router.specs.Calls.{next_number, put_item, router_put_refu
 ghost use Rattle.ipcz_router.specs.Calls.{accept_refusal, extend, descriptor_of};
 ghost use Rattle.ipcz_router.specs.ActTable.{may_take};
 ghost use Rattle.ipcz_router.specs.ActEffects.{IsAnswerOf, IsBelowNoNumber, apply, output_of};
-ghost use Rattle.ipcz_router.specs.Bypass.{fits_bypass_peer, bypass_peer, accept_message, fits_accept_bypass, accept_bypass, stop_message};
+ghost use Rattle.ipcz_router.specs.Bypass.{fits_bypass_peer, bypass_peer, accept_message, fits_accept_bypass, is_source, accept_bypass, stop_message};
 ghost use Rattle.ipcz_router.specs.Bypass.{fits_stop_proxying, stop_proxying, will_stop_message, fits_proxy_will_stop, proxy_will_stop};
 ghost use Rattle.ipcz_router.specs.Router.{inward_edge, rouse};
 ghost use Rattle.ipcz_router.specs.Filings.{is_under, gained_by, link_gain};
@@ -76,8 +76,10 @@ impl Directory {
         side: Side,
         fresh: u32,
         length: u64,
+        source: Option<u8>,
     ) -> Option<Sending>
         requires fits { IsSomeAnd (get self.old.filed.routers serial) (λ r. fits_accept_bypass r old side ≡ true) }
+        requires source { is_source sender source ≡ true }
         requires room { 0 < self.old.filed.links }
         ensures router { (r : RouterRecord) → get self.old.filed.routers serial ≡ Some r →
             self.new.filed ≡ link_filed self.old.filed serial (accept_bypass r sender side fresh length) }
@@ -86,7 +88,7 @@ impl Directory {
     {
         let router = self.routers.router_mut(serial);
         let was = router.filing();
-        let sending = accept_bypass(router, sender, old, side, fresh, length);
+        let sending = accept_bypass(router, sender, old, side, fresh, length, source);
         let is = router.filing();
         refile(
             &mut self.links,
@@ -191,12 +193,14 @@ fn accept_bypass(
     side: Side,
     fresh: u32,
     length: u64,
+    source: Option<u8>,
 ) -> Option<Sending>
-    requires { fits_accept_bypass router.old.router old side ≡ true }
+    requires fits { fits_accept_bypass router.old.router old side ≡ true }
+    requires source { is_source sender source ≡ true }
     ensures router { router.new.router ≡ accept_bypass router.old.router sender side fresh length }
     ensures sending { result ≡ stop_message router.old.router router.old.router.outward.primary old side length }
 {
-    let Ok(sending) = router.accept_bypass(sender, old, side, fresh, length) else {
+    let Ok(sending) = router.accept_bypass(sender, old, side, fresh, length, source) else {
         unreachable!()
     };
     sending

@@ -29,7 +29,7 @@ ghost use Rattle.ipcz_node.specs.SortedSets.{has};
 ghost use Rattle.ipcz_node.specs.Indexes.{is_filed};
 ghost use Rattle.std.specs.Prelude.{IsOk};
 ghost use Rattle.ipcz_router.specs.Closing.{close_router};
-ghost use Rattle.ipcz_node.specs.Node.{word_at};
+ghost use Rattle.ipcz_node.specs.Node.{source_at, word_at};
 ghost use Rattle.ipcz_node.specs.Calls.{got_from, ends_found};
 
 use super::Directory;
@@ -142,6 +142,16 @@ impl Directory {
     {
         match self.routers.router(serial) {
             Some(router) => router.word(),
+            None => None,
+        }
+    }
+
+    /// The node inward of the router of the serial.
+    pub fn source_of(&self, serial: u64) -> Option<u8>
+        ensures { result ≡ source_at (get self.now.filed.routers serial) }
+    {
+        match self.routers.router(serial) {
+            Some(router) => router.source(),
             None => None,
         }
     }

@@ -2,7 +2,7 @@ ghost use Rattle.std.specs.Prelude.{◌≡◌, ◌<◌, ◌&&◌, not, nat_lt, t
 ghost use Rattle.ipcz_base.specs.Indexed.{place_at};
 ghost use Rattle.ipcz_base.specs.declared.link_id.LinkId.TheVariants.{Central};
 ghost use Rattle.ipcz_router.specs.Router.{Router as RouterRecord, inward_edge, rouse};
-ghost use Rattle.ipcz_router.specs.Bypass.{accept_bypass, accept_message, bypass_peer, fits_accept_bypass, fits_bypass_peer};
+ghost use Rattle.ipcz_router.specs.Bypass.{accept_bypass, accept_message, bypass_peer, fits_accept_bypass, is_source, fits_bypass_peer};
 ghost use Rattle.ipcz_router.specs.Bypass.{fits_proxy_will_stop, fits_stop_proxying, proxy_will_stop, stop_message, stop_proxying};
 ghost use Rattle.ipcz_router.specs.Bypass.{will_stop_message};
 ghost use Rattle.ipcz_node.specs.Node.{is_named, router_in, with_router};
@@ -11,7 +11,7 @@ ghost use Rattle.ipcz_node.specs.Telling.{HasRoomToTell, HasRoomToward, HasRoomF
 
 use super::NodeState;
 use ipcz_base::{LinkEnd, LinkId, Message, Side};
-use ipcz_router::{Router, Sending};
+use ipcz_router::{Router, Sending, is_source};
 use std::alloc::AllocError;
 
 impl NodeState {
@@ -57,7 +57,7 @@ impl NodeState {
         target: u8,
         fresh: u32,
     ) -> bool
-        ensures { result ≡ fits self.now.node sender (Message.BypassPeer link side old target fresh) }
+        ensures { result ≡ fits self.now.node sender (Message.BypassPeer link side old target fresh) None }
     {
         match self.link_serial(link, side) {
             Some(serial) => self.is_peer_bypassed(serial, link, side, target, fresh),
@@ -74,16 +74,18 @@ impl NodeState {
         side: Side,
         fresh: u32,
         length: u64,
+        source: Option<u8>,
     ) -> bool
-        ensures { result ≡ fits self.now.node sender (Message.AcceptBypass old side fresh length) }
+        ensures { result ≡ fits self.now.node sender (Message.AcceptBypass old side fresh length) source }
     {
-        match self.link_serial(LinkId::Central(old), side) {
+        let fits = match self.link_serial(LinkId::Central(old), side) {
             Some(serial) => {
                 self.router(serial).fits_accept_bypass(old, side)
                     && !self.is_named(LinkId::Central(fresh), side)
             }
             None => false,
-        }
+        };
+        fits && is_source(sender, source)
     }
 
     // Whether a StopProxying fits.
@@ -96,7 +98,7 @@ impl NodeState {
         in_length: u64,
         out_length: u64,
     ) -> bool
-        ensures { result ≡ fits self.now.node sender (Message.StopProxying old side in_length out_length) }
+        ensures { result ≡ fits self.now.node sender (Message.StopProxying old side in_length out_length) None }
     {
         match self.link_serial(LinkId::Central(old), side) {
             Some(serial) => self.router(serial).fits_stop_proxying(old, side),
@@ -113,7 +115,7 @@ impl NodeState {
         side: Side,
         in_length: u64,
     ) -> bool
-        ensures { result ≡ fits self.now.node sender (Message.ProxyWillStop link side in_length) }
+        ensures { result ≡ fits self.now.node sender (Message.ProxyWillStop link side in_length) None }
     {
         match self.link_serial(link, side) {
             Some(serial) => self.router(serial).fits_proxy_will_stop(link, side),
@@ -166,8 +168,10 @@ impl NodeState {
         side: Side,
         fresh: u32,
         length: u64,
+        source: Option<u8>,
     )
         requires fits { IsSomeAnd (router_in self.old.node serial) (λ r. fits_accept_bypass r old side ≡ true) }
+        requires source { is_source sender source ≡ true }
         requires links { 0 < self.old.room.links }
         requires outbox { IsSomeAnd (router_in self.old.node serial) (λ r. HasRoomToward self.old r.outward.primary) }
         ensures { (r : RouterRecord) → router_in self.old.node serial ≡ Some r →
@@ -176,7 +180,7 @@ impl NodeState {
     {
         let sending = self
             .routers
-            .accept_bypass(serial, sender, old, side, fresh, length);
+            .accept_bypass(serial, sender, old, side, fresh, length, source);
         self.tell(sending);
     }
 
@@ -232,7 +236,7 @@ impl NodeState {
         target: u8,
         fresh: u32,
     ) -> Result<(), AllocError>
-        requires { fits self.old.node sender (Message.BypassPeer link side old target fresh) ≡ true }
+        requires { fits self.old.node sender (Message.BypassPeer link side old target fresh) None ≡ true }
         ensures ok { OnOk result (self.new.node ≡ handle self.old.node sender (Message.BypassPeer link side old target fresh)) }
         ensures full { HasRoomFor self.old (Message.BypassPeer link side old target fresh) → IsOk result }
         ensures err { OnErr result (self.new.node ≡ self.old.node) }
@@ -254,8 +258,9 @@ impl NodeState {
         side: Side,
         fresh: u32,
         length: u64,
+        source: Option<u8>,
     ) -> Result<(), AllocError>
-        requires { fits self.old.node sender (Message.AcceptBypass old side fresh length) ≡ true }
+        requires { fits self.old.node sender (Message.AcceptBypass old side fresh length) source ≡ true }
         ensures ok { OnOk result (self.new.node ≡ handle self.old.node sender (Message.AcceptBypass old side fresh length)) }
         ensures full { HasRoomFor self.old (Message.AcceptBypass old side fresh length) → IsOk result }
         ensures err { OnErr result (self.new.node ≡ self.old.node) }
@@ -266,7 +271,7 @@ impl NodeState {
         let proxy = self.router(serial).filing().outward;
         self.routers.reserve(0, 1)?;
         self.reserve_toward(proxy)?;
-        self.accept_bypass(serial, sender, old, side, fresh, length);
+        self.accept_bypass(serial, sender, old, side, fresh, length, source);
         Ok(())
     }
 
@@ -280,7 +285,7 @@ impl NodeState {
         in_length: u64,
         out_length: u64,
     ) -> Result<(), AllocError>
-        requires { fits self.old.node sender (Message.StopProxying old side in_length out_length) ≡ true }
+        requires { fits self.old.node sender (Message.StopProxying old side in_length out_length) None ≡ true }
         ensures ok { OnOk result (self.new.node ≡ handle self.old.node sender (Message.StopProxying old side in_length out_length)) }
         ensures full { HasRoomFor self.old (Message.StopProxying old side in_length out_length) → IsOk result }
         ensures err { OnErr result (self.new.node ≡ self.old.node) }
@@ -303,7 +308,7 @@ impl NodeState {
         side: Side,
         in_length: u64,
     )
-        requires { fits self.old.node sender (Message.ProxyWillStop link side in_length) ≡ true }
+        requires { fits self.old.node sender (Message.ProxyWillStop link side in_length) None ≡ true }
         ensures { self.new.node ≡ handle self.old.node sender (Message.ProxyWillStop link side in_length) }
     {
         let Some(serial) = self.link_serial(link, side) else {

@@ -6,7 +6,7 @@ ghost use Rattle.ipcz_base.specs.declared.parcel.Parcel.{Parcel as ParcelRecord}
 ghost use Rattle.ipcz_base.specs.declared.side.Side.TheVariants.{A, B};
 ghost use Rattle.ipcz_router.specs.Router.{Router as RouterRecord, IsOpenTerminal};
 ghost use Rattle.ipcz_router.specs.Calls.{router_put_refusal};
-ghost use Rattle.ipcz_node.specs.Node.{router_in, terminal_of, found, holds_end, add_end, bare_node, word_side};
+ghost use Rattle.ipcz_node.specs.Node.{router_in, terminal_of, found, holds_end, add_end, bare_node, source_in, word_side};
 ghost use Rattle.ipcz_node.specs.FirstPairs.{new_node, add_pairs, pairs_from, first_pairs_from, add_pair};
 ghost use Rattle.ipcz_node.specs.Calls.{serials_refusal, open_node, are_held_once, refusal_at, are_too_many, put_refusal, put_node};
 ghost use Rattle.ipcz_node.specs.Calls.{put_number, get_refusal, got_at, get_node, close_refusal, close_node, close_end};
@@ -283,6 +283,14 @@ impl NodeState {
         ensures { result ≡ word_side self.now.node serial }
     {
         self.routers.word_of(serial)
+    }
+
+    /// The node inward of the proxy of the serial, which may send the AcceptBypass of its bypass; none where there is no such
+    /// router, or it is a terminal. It takes no memory.
+    pub fn source_of(&self, serial: u64) -> Option<u8>
+        ensures { result ≡ source_in self.now.node serial }
+    {
+        self.routers.source_of(serial)
     }
 
     /// Whether the node has nothing to do until a message comes: no message waits to be posted or is in hand, no end is to be

@@ -1,7 +1,7 @@
 ghost use Rattle.std.specs.Prelude.{ℕ, ◌≡◌, ◌<◌, ◌≤◌, ◌+◌, ◌*◌, [], ◌++◌, OnOk, IfOk, IfErr, replicate};
 ghost use Rattle.ipcz_base.specs.Limits.{no_number};
-ghost use Rattle.ipcz_node.specs.Node.{bare_node};
-ghost use Rattle.ipcz_node.specs.FirstPairs.{new_node, add_pairs, pairs_from, first_pairs_from, add_pair};
+ghost use Rattle.ipcz_node.specs.FirstPairs.{new_node, new_node_from, bare_from, add_pairs, pairs_from, first_pairs_from, add_pair};
+ghost use Rattle.ipcz_node.specs.FirstPairs.{HasSerials};
 
 use super::NodeState;
 use crate::directory::Directory;
@@ -15,37 +15,51 @@ impl NodeState {
     /// order of their nodes, side A at the lower one. Callers hold them.
     ///
     /// `count` is 1 to 8, and `number` is below it. It answers `OutOfMemory` alone.
-    #[tactic(auto, using(crate::proofs::FirstPairs::first_row), unfolding(crate::specs::FirstPairs::new_node))]
+    #[tactic(auto, unfolding(crate::specs::FirstPairs::new_node))]
     pub fn new(alloc: Global, number: u8, count: u8) -> Result<Self, Refusal>
         requires within { (number < count) × (count ≤ 8) }
         ensures ok { IfOk result (λ s. s.node ≡ new_node number count) }
         ensures why { IfErr result (λ e. e ≡ Refusal.OutOfMemory) }
     {
+        NodeState::new_from(alloc, number, count, 0)
+    }
+
+    /// The same, with the serials of routers and of peripheral links counted from `first` on. No run comes to the last serials,
+    /// so this is for who wants to see how they end.
+    ///
+    /// The routers of the first pairs, one for each other node, have serials below u64::MAX. It answers `OutOfMemory` alone.
+    #[tactic(auto, using(crate::proofs::FirstPairs::first_row, crate::proofs::FirstPairs::first_serials))]
+    pub fn new_from(alloc: Global, number: u8, count: u8, first: u64) -> Result<Self, Refusal>
+        requires within { (number < count) × (count ≤ 8) }
+        requires serials { first + count ≤ no_number + 1 }
+        ensures ok { IfOk result (λ s. s.node ≡ new_node_from number count first) }
+        ensures why { IfErr result (λ e. e ≡ Refusal.OutOfMemory) }
+    {
         let Ok(outboxes) = Outboxes::new(alloc) else {
             return Err(Refusal::OutOfMemory);
         };
-        let mut node = NodeState::bare(alloc, number, count, outboxes);
+        let mut node = NodeState::bare(alloc, number, count, first, outboxes);
         match node.add_pairs(0, 1, count - 1, count - 1, 0) {
             Ok(()) => Ok(node),
             Err(_) => Err(Refusal::OutOfMemory),
         }
     }
 
-    // A node without routers.
-    fn bare(alloc: Global, number: u8, count: u8, outboxes: Outboxes) -> Self
+    // A node without routers, whose serials are counted from the first one on.
+    fn bare(alloc: Global, number: u8, count: u8, first: u64, outboxes: Outboxes) -> Self
         requires { outboxes.messages ≡ replicate 256 [] }
-        ensures { result.node ≡ bare_node number count }
+        ensures { result.node ≡ bare_from number count first }
     {
         NodeState {
             number,
             count,
-            routers: Directory::new(alloc),
+            routers: Directory::new(alloc, first),
             outboxes,
             pending: Vec::new(alloc),
             strays: Vec::new(alloc),
             hand: None,
             opening: None,
-            next_peripheral: 0,
+            next_peripheral: first,
             moves: Spare::new(alloc),
             event_ends: Spare::new(alloc),
             alloc,
@@ -53,13 +67,13 @@ impl NodeState {
     }
 
     // Adds the node's ends of the pairs of node `i` with `left` nodes from `j` on, and of the pairs among the `rows` nodes after
-    // node `i`, numbered from `pair` on.
-    #[tactic(auto, using(crate::proofs::FirstPairs::next_pair, crate::proofs::FirstPairs::next_row, crate::proofs::FirstPairs::no_pairs))]
+    // node `i`, numbered from `pair` on. It asks for serials for exactly these ends.
+    #[tactic(auto, using(crate::proofs::FirstPairs::next_pair, crate::proofs::FirstPairs::next_row, crate::proofs::FirstPairs::no_pairs, crate::proofs::FirstPairs::next_serials, crate::proofs::FirstPairs::row_serials, crate::proofs::FirstPairs::pair_serial))]
     fn add_pairs(&mut self, i: u8, j: u8, left: u8, rows: u8, pair: u32) -> Result<(), AllocError>
-        requires row { j + left ≤ 8 }
-        requires rows { i + 1 + rows ≤ 8 }
+        requires row { i < j }
+        requires nodes { (j + left ≡ i + 1 + rows) × (j + left ≤ 8) }
         requires pairs { pair ≤ 8 * i + j }
-        requires serials { self.old.node.next_router ≤ pair }
+        requires serials { HasSerials self.old.node i j left rows }
         ensures { OnOk result (self.new.node ≡ add_pairs self.old.node pair (pairs_from i j left ++ first_pairs_from (i + 1) rows)) }
     {
         if left > 0 {
@@ -75,9 +89,9 @@ impl NodeState {
 
     // Adds the node's end of the first pair of two nodes, where it has one.
     fn add_pair(&mut self, i: u8, j: u8, pair: u32) -> Result<(), AllocError>
-        requires { self.old.node.next_router < no_number }
+        requires lower { self.old.node.number ≡ i → self.old.node.next_router < no_number }
+        requires upper { self.old.node.number ≡ j → self.old.node.next_router < no_number }
         ensures node { OnOk result (self.new.node ≡ add_pair self.old.node pair (i, j)) }
-        ensures serials { OnOk result (self.new.node.next_router ≤ self.old.node.next_router + 1) }
     {
         if i == self.number {
             self.routers.reserve(1, 0)?;

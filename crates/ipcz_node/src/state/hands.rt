@@ -185,7 +185,7 @@ impl NodeState {
         item: &Item,
         moves: &Moves,
     ) -> bool
-        ensures { result ≡ fits self.now.node sender (Message.Item link side n item.now moves.now) }
+        ensures { result ≡ fits self.now.node sender (Message.Item link side n item.now moves.now) None }
     {
         self.place_for(sender, link, side, n, item, moves).is_some()
     }
@@ -201,7 +201,7 @@ impl NodeState {
         item: Item,
         moves: Moves,
     ) -> Result<(), Message>
-        requires fits { fits self.old.node sender (Message.Item link side n item moves) ≡ true }
+        requires fits { fits self.old.node sender (Message.Item link side n item moves) None ≡ true }
         requires serials { has_serials self.old.node.next_router (length moves) ≡ true }
         ensures ok { OnOk result (self.new.node ≡ handle self.old.node sender (Message.Item link side n item moves)) }
         ensures err { IfErr result (λ m. (m ≡ Message.Item link side n item moves) × (self.new.node ≡ self.old.node)) }
@@ -216,8 +216,8 @@ impl NodeState {
 impl NodeState {
     // Whether a message from a node fits.
     #[tactic(auto, unfolding(crate::specs::Hands::fits))]
-    fn fits(&self, sender: u8, message: &Message) -> bool
-        ensures { result ≡ fits self.now.node sender message.now }
+    fn fits(&self, sender: u8, message: &Message, source: Option<u8>) -> bool
+        ensures { result ≡ fits self.now.node sender message.now source }
     {
         match message {
             Message::Item {
@@ -239,7 +239,7 @@ impl NodeState {
                 side,
                 fresh,
                 length,
-            } => { self.fits_accept_bypass(sender, *old, *side, *fresh, *length) }
+            } => { self.fits_accept_bypass(sender, *old, *side, *fresh, *length, source) }
             Message::StopProxying {
                 old,
                 side,
@@ -256,9 +256,9 @@ impl NodeState {
     }
 
     // Handles a message that fits, and for which there are serials.
-    #[tactic(auto, unfolding(crate::specs::Hands::serials_in, crate::specs::Hands::grows_where_it_fits, crate::specs::Telling::brings_item))]
-    fn handle(&mut self, sender: u8, message: Message) -> Result<(), Message>
-        requires fits { fits self.old.node sender message ≡ true }
+    #[tactic(auto, unfolding(crate::specs::Hands::fits, crate::specs::Hands::serials_in, crate::specs::Hands::grows_where_it_fits, crate::specs::Telling::brings_item))]
+    fn handle(&mut self, sender: u8, message: Message, source: Option<u8>) -> Result<(), Message>
+        requires fits { fits self.old.node sender message source ≡ true }
         requires serials { has_serials self.old.node.next_router (serials_in message) ≡ true }
         ensures ok { OnOk result (self.new.node ≡ handle self.old.node sender message) }
         ensures grows { grows_where_it_fits message ≡ false → IsOk result }
@@ -297,7 +297,7 @@ impl NodeState {
                 fresh,
                 length,
             } => {
-                match self.handle_accept_bypass(sender, old, side, fresh, length) {
+                match self.handle_accept_bypass(sender, old, side, fresh, length, source) {
                     Ok(()) => Ok(()),
                     Err(_) => Err(Message::AcceptBypass {
                         old,
@@ -344,18 +344,19 @@ impl NodeState {
         &mut self,
         sender: u8,
         message: Message,
+        source: Option<u8>,
         has_place: bool,
     ) -> Result<(), (Refusal, Message)>
-        requires { has_place ≡ fits self.old.node sender message }
+        requires { has_place ≡ fits self.old.node sender message source }
         ensures ok { OnOk result
-            (self.new.node ≡ (if fits self.old.node sender message then handle self.old.node sender message else add_stray self.old.node
+            (self.new.node ≡ (if fits self.old.node sender message source then handle self.old.node sender message else add_stray self.old.node
             message)) }
-        ensures allowed { OnOk result (message_lacks_serials self.old.node sender message ≡ false) }
+        ensures allowed { OnOk result (message_lacks_serials self.old.node sender message source ≡ false) }
         ensures why { IfErr result
-            (λ e. e.0 ≡ (if message_lacks_serials self.old.node sender message then Refusal.NumbersEnd else Refusal.OutOfMemory)) }
-        ensures grows { message_grows self.old.node sender message ≡ false → IsOk result }
-        ensures full { fits self.old.node sender message ≡ true → brings_item message ≡ false → HasRoomFor self.old message →
-            message_lacks_serials self.old.node sender message ≡ false → IsOk result }
+            (λ e. e.0 ≡ (if message_lacks_serials self.old.node sender message source then Refusal.NumbersEnd else Refusal.OutOfMemory)) }
+        ensures grows { message_grows self.old.node sender message source ≡ false → IsOk result }
+        ensures full { fits self.old.node sender message source ≡ true → brings_item message ≡ false → HasRoomFor self.old message →
+            message_lacks_serials self.old.node sender message source ≡ false → IsOk result }
         ensures err { IfErr result (λ e. (e.1 ≡ message) × (self.new.node ≡ self.old.node)) }
     {
         if !has_place {
@@ -365,7 +366,7 @@ impl NodeState {
         if self.routers.next_serial() > u64::MAX - count as u64 {
             return Err((Refusal::NumbersEnd, message));
         }
-        match self.handle(sender, message) {
+        match self.handle(sender, message, source) {
             Ok(()) => Ok(()),
             Err(message) => Err((Refusal::OutOfMemory, message)),
         }
@@ -373,9 +374,15 @@ impl NodeState {
 
     // What delivering a message from a node is seen to do, where it is known whether it fits.
     #[tactic(auto, unfolding(crate::specs::Events::hand_event))]
-    fn hand_event(&self, sender: u8, message: &Message, has_place: bool) -> Happened
-        requires { has_place ≡ fits self.now.node sender message.now }
-        ensures { result ≡ hand_event self.now.node sender message.now }
+    fn hand_event(
+        &self,
+        sender: u8,
+        message: &Message,
+        source: Option<u8>,
+        has_place: bool,
+    ) -> Happened
+        requires { has_place ≡ fits self.now.node sender message.now source }
+        ensures { result ≡ hand_event self.now.node sender message.now source }
     {
         let (link, side) = (link_asked(message), side_asked(message));
         let unfit = !(has_place && self.is_named(link, side));
@@ -388,44 +395,55 @@ impl NodeState {
 
     /// Delivers a message from the node `from`, which is below the number of nodes: a router here handles it, or it is kept
     /// among the strays where it doesn't fit, or, a Flush that no router is named by, dropped (docs/PROTOCOL.md, "Strays").
-    /// If the message in hand was from that node, the hand is empty then.
+    /// If the message in hand was from that node, the hand is empty then. An AcceptBypass fits only where `source`, the node that the
+    /// old link's word names, is `from` (docs/PROTOCOL.md, "The allowed source"); no other message looks at it.
     ///
     /// A refused message is handed back, and nothing has changed. It is `NumbersEnd` where the message fits and would make
     /// more routers than serials are left for, and otherwise `OutOfMemory`. A message that makes nothing grow, as a Flush or a
     /// ProxyWillStop that fits, is never refused, nor is one that brings no item, fits, and has room for what it makes a router
     /// take and tell.
-    pub fn deliver(&mut self, from: u8, message: Message) -> Result<Happened, (Refusal, Message)>
+    pub fn deliver(
+        &mut self,
+        from: u8,
+        message: Message,
+        source: Option<u8>,
+    ) -> Result<Happened, (Refusal, Message)>
         requires { from < self.old.node.count }
-        ensures ok { OnOk result (self.new.node ≡ deliver self.old.node from message) }
-        ensures event { IfOk result (λ h. h ≡ hand_event self.old.node from message) }
-        ensures allowed { OnOk result (message_lacks_serials self.old.node from message ≡ false) }
+        ensures ok { OnOk result (self.new.node ≡ deliver self.old.node from message source) }
+        ensures event { IfOk result (λ h. h ≡ hand_event self.old.node from message source) }
+        ensures allowed { OnOk result (message_lacks_serials self.old.node from message source ≡ false) }
         ensures why { IfErr result
-            (λ e. e.0 ≡ (if message_lacks_serials self.old.node from message then Refusal.NumbersEnd else Refusal.OutOfMemory)) }
-        ensures grows { message_grows self.old.node from message ≡ false → IsOk result }
-        ensures full { fits self.old.node from message ≡ true → brings_item message ≡ false → HasRoomFor self.old message →
-            message_lacks_serials self.old.node from message ≡ false → IsOk result }
+            (λ e. e.0 ≡ (if message_lacks_serials self.old.node from message source then Refusal.NumbersEnd else Refusal.OutOfMemory)) }
+        ensures grows { message_grows self.old.node from message source ≡ false → IsOk result }
+        ensures full { fits self.old.node from message source ≡ true → brings_item message ≡ false → HasRoomFor self.old message →
+            message_lacks_serials self.old.node from message source ≡ false → IsOk result }
         ensures err { IfErr result (λ e. (e.1 ≡ message) × (self.new.node ≡ self.old.node)) }
     {
-        let has_place = self.fits(from, &message);
-        let event = self.hand_event(from, &message, has_place);
-        self.take_from_hand(from, message, has_place)?;
+        let has_place = self.fits(from, &message, source);
+        let event = self.hand_event(from, &message, source, has_place);
+        self.take_from_hand(from, message, source, has_place)?;
         Ok(event)
     }
 
     /// Delivers a message as `deliver` does, but doesn't tell what happened.
-    pub fn deliver_unseen(&mut self, from: u8, message: Message) -> Result<(), (Refusal, Message)>
+    pub fn deliver_unseen(
+        &mut self,
+        from: u8,
+        message: Message,
+        source: Option<u8>,
+    ) -> Result<(), (Refusal, Message)>
         requires { from < self.old.node.count }
-        ensures ok { OnOk result (self.new.node ≡ deliver self.old.node from message) }
-        ensures allowed { OnOk result (message_lacks_serials self.old.node from message ≡ false) }
+        ensures ok { OnOk result (self.new.node ≡ deliver self.old.node from message source) }
+        ensures allowed { OnOk result (message_lacks_serials self.old.node from message source ≡ false) }
         ensures why { IfErr result
-            (λ e. e.0 ≡ (if message_lacks_serials self.old.node from message then Refusal.NumbersEnd else Refusal.OutOfMemory)) }
-        ensures grows { message_grows self.old.node from message ≡ false → IsOk result }
-        ensures full { fits self.old.node from message ≡ true → brings_item message ≡ false → HasRoomFor self.old message →
-            message_lacks_serials self.old.node from message ≡ false → IsOk result }
+            (λ e. e.0 ≡ (if message_lacks_serials self.old.node from message source then Refusal.NumbersEnd else Refusal.OutOfMemory)) }
+        ensures grows { message_grows self.old.node from message source ≡ false → IsOk result }
+        ensures full { fits self.old.node from message source ≡ true → brings_item message ≡ false → HasRoomFor self.old message →
+            message_lacks_serials self.old.node from message source ≡ false → IsOk result }
         ensures err { IfErr result (λ e. (e.1 ≡ message) × (self.new.node ≡ self.old.node)) }
     {
-        let fits = self.fits(from, &message);
-        self.take_from_hand(from, message, fits)
+        let fits = self.fits(from, &message, source);
+        self.take_from_hand(from, message, source, fits)
     }
 
     // Receives a message of which it is known whether it fits, and empties the hand.
@@ -434,19 +452,20 @@ impl NodeState {
         &mut self,
         from: u8,
         message: Message,
+        source: Option<u8>,
         has_place: bool,
     ) -> Result<(), (Refusal, Message)>
-        requires { has_place ≡ fits self.old.node from message }
-        ensures ok { OnOk result (self.new.node ≡ deliver self.old.node from message) }
-        ensures allowed { OnOk result (message_lacks_serials self.old.node from message ≡ false) }
+        requires { has_place ≡ fits self.old.node from message source }
+        ensures ok { OnOk result (self.new.node ≡ deliver self.old.node from message source) }
+        ensures allowed { OnOk result (message_lacks_serials self.old.node from message source ≡ false) }
         ensures why { IfErr result
-            (λ e. e.0 ≡ (if message_lacks_serials self.old.node from message then Refusal.NumbersEnd else Refusal.OutOfMemory)) }
-        ensures grows { message_grows self.old.node from message ≡ false → IsOk result }
-        ensures full { fits self.old.node from message ≡ true → brings_item message ≡ false → HasRoomFor self.old message →
-            message_lacks_serials self.old.node from message ≡ false → IsOk result }
+            (λ e. e.0 ≡ (if message_lacks_serials self.old.node from message source then Refusal.NumbersEnd else Refusal.OutOfMemory)) }
+        ensures grows { message_grows self.old.node from message source ≡ false → IsOk result }
+        ensures full { fits self.old.node from message source ≡ true → brings_item message ≡ false → HasRoomFor self.old message →
+            message_lacks_serials self.old.node from message source ≡ false → IsOk result }
         ensures err { IfErr result (λ e. (e.1 ≡ message) × (self.new.node ≡ self.old.node)) }
     {
-        self.receive(from, message, has_place)?;
+        self.receive(from, message, source, has_place)?;
         self.free_hand(from);
         Ok(())
     }

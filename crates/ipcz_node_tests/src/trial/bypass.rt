@@ -61,10 +61,10 @@ const LOCKS: [Step; 18] = [
     Turn(Rest(2)),
     Turn(Idle),
     Deliver(0, FLUSH, true),
-    Turn(Lock(2, C1, 35)),
+    Turn(Lock(2, C1, 547)),
     First(Act::Router(2, RouterAct::Begin)),
     Unlock(3),
-    Turn(Lock(2, C1, 35)),
+    Turn(Lock(2, C1, 547)),
     Turn(Begin(2, C1)),
     Turn(Post(1)),
     Posted(Letter::BypassPeer(INWARD, Side::B, 1, 0, 2)),
@@ -80,7 +80,7 @@ fn a_lock_is_tried_for_again_after_a_flush_and_after_an_unlock(rt: HostRuntime) 
 // A word is found, the lock is got, and the bypass begins.
 const BEGINS: [Step; 6] = [
     Turn(Claim(2, 2)),
-    Turn(Lock(2, C1, 35)),
+    Turn(Lock(2, C1, 547)),
     Turn(Begin(2, C1)),
     Turn(Post(1)),
     Turn(Rest(2)),

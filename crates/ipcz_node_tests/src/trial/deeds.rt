@@ -219,6 +219,11 @@ impl Trial {
         deed.is(&event)
     }
 
+    /// Why a turn is refused, where it is.
+    pub(super) fn turn_refusal(&mut self) -> Option<Refusal> {
+        take(&mut self.node, &self.seen, Answer::Plain).err()
+    }
+
     /// Gives the lock back in place of the begin that comes first; whether the word after it is
     /// told.
     pub(super) fn unlocks(&mut self, word: u64) -> bool {

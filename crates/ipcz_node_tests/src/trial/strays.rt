@@ -1,8 +1,9 @@
 //! Which messages are strays, each cause once, on node 0 of two.
 
-use super::Step::{Deliver, Get, GetParcel, Quiet, Strays};
+use super::Step::{Deliver, DeliverWhere, Get, GetParcel, Posted, Quiet, Strays, Turn};
+use super::deeds::Deed;
 use super::letters::Letter;
-use super::{A0, C0, Step, first_wrong};
+use super::{A0, C0, C2, Step, first_wrong};
 use ipcz_base::{Descriptor, End, LinkId, Refusal, Side};
 use std::test::Fail;
 
@@ -220,6 +221,27 @@ fn an_accept_bypass_has_a_router_that_does_not_decay(rt: HostRuntime) {
         first_wrong(rt.alloc(), 0, 2, &[&MOVES, &DOES_NOT_DECAY]),
         None
     );
+}
+
+// The word of the old link names the node that may send its AcceptBypass: no node, this one, and then
+// the sender, whose message fits. The answer goes to the other side of the old link.
+const IS_OF_THE_SOURCE: [Step; 10] = [
+    DeliverWhere(None, 1, Letter::AcceptBypass(0, Side::A, 2, 0), false),
+    DeliverWhere(Some(0), 1, Letter::AcceptBypass(0, Side::A, 2, 0), false),
+    Strays(2),
+    Quiet(true),
+    DeliverWhere(Some(1), 1, Letter::AcceptBypass(0, Side::A, 2, 0), true),
+    Strays(2),
+    Turn(Deed::Post(1)),
+    Posted(Letter::StopProxying(0, Side::B, 0, 0)),
+    // No other message asks for it.
+    DeliverWhere(None, 1, Letter::ProxyWillStop(C0, Side::A, 0), false),
+    DeliverWhere(None, 1, Letter::Flush(C2, Side::A), true),
+];
+
+#[test]
+fn an_accept_bypass_is_of_the_source_that_the_word_names(rt: HostRuntime) {
+    assert_eq!(rt; first_wrong(rt.alloc(), 0, 2, &[&IS_OF_THE_SOURCE]), None);
 }
 
 const TELLS_A_LENGTH: [Step; 6] = [

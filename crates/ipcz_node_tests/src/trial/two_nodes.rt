@@ -2,6 +2,7 @@
 //! lock.
 
 ghost use Rattle.ipcz_router.specs.ActEffects.{IsAnswerOf};
+ghost use Rattle.ipcz_word.specs.Laws.{HasNode};
 ghost use Rattle.ipcz_word.specs.Layout.{IsWord};
 
 use super::Step::{Open, Put};
@@ -13,7 +14,7 @@ use super::{A0, A1, B1, C0, C1, C2, Step, Trial};
 use ipcz_base::{LinkId, Message, Side};
 use ipcz_node::{Act, Handed, Happened, MailSeen, NodeState};
 use ipcz_router::act::{Answer, RouterAct};
-use ipcz_word::{LockPlan, is_word, mark, take_waiting, try_lock, unlock};
+use ipcz_word::{LockPlan, is_word, mark, source, take_waiting, try_lock, unlock};
 use std::alloc::Global;
 use std::test::Fail;
 
@@ -68,20 +69,28 @@ impl Words {
         Answer::Claimed(self.claimed - 1)
     }
 
-    // Tries for the lock.
-    fn lock(&mut self, at: WordSide) -> Answer
+    // Tries for the lock, for a bypass whose AcceptBypass this node may send.
+    fn lock(&mut self, at: WordSide, source: Option<u8>) -> Answer
         requires { IsWord at.word }
         ensures { IsAnswerOf RouterAct.Lock result }
     {
-        match try_lock(at.word, at.side) {
+        match try_lock(at.word, at.side, one_of_eight(source)) {
             LockPlan::Lock(word) => Answer::Locked(self.set(at, word)),
             LockPlan::Wait(word) => Answer::Waiting(self.set(at, word)),
             LockPlan::Refused => Answer::Refused(at.word),
         }
     }
 
-    // What the words answer to an act, by the word of its router's link.
-    fn answer(&mut self, act: RouterAct, link: Option<(u32, Side)>) -> Answer
+    // The node that the word of an old link names.
+    fn source(&self, message: &Message) -> Option<u8> {
+        let Message::AcceptBypass { old, .. } = message else {
+            return None;
+        };
+        source(self.at(Some((*old, Side::A))).word)
+    }
+
+    // What the words answer to an act, by the word of its router's link and the node inward of it.
+    fn answer(&mut self, act: RouterAct, link: Option<(u32, Side)>, inward: Option<u8>) -> Answer
         ensures { IsAnswerOf act result }
     {
         let at = self.at(link);
@@ -92,10 +101,20 @@ impl Words {
                 Answer::Marked(self.set(at, mark(at.word, at.side)), waits)
             }
             RouterAct::Wake => Answer::Word(self.set(at, take_waiting(at.word, at.side))),
-            RouterAct::Lock => self.lock(at),
+            RouterAct::Lock => self.lock(at, inward),
             RouterAct::Unlock => Answer::Word(self.set(at, unlock(at.word, at.side))),
             _ => Answer::Plain,
         }
+    }
+}
+
+// The number of a node.
+fn one_of_eight(number: Option<u8>) -> Option<u8>
+    ensures { HasNode result }
+{
+    match number {
+        Some(n) if n < 8 => Some(n),
+        _ => None,
     }
 }
 
@@ -152,12 +171,13 @@ impl Mail {
 }
 
 // Delivers the message that is in a node's hand.
-fn hand(node: &mut NodeState, mail: &mut Mail, from: u8) -> Option<Happened> {
+fn hand(node: &mut NodeState, mail: &mut Mail, words: &Words, from: u8) -> Option<Happened> {
     let message = mail.take(from, node.number())?;
     if from >= node.count() {
         return None;
     }
-    node.deliver(from, message).ok()
+    let source = words.source(&message);
+    node.deliver(from, message, source).ok()
 }
 
 // Does the first possible act of a node; what it is seen to do.
@@ -166,9 +186,9 @@ fn turn(trial: &mut Option<Trial>, mail: &mut Mail, words: &mut Words) -> Option
     let act = node.next(&mail.seen(node.number()));
     node.prepare(&act).ok()?;
     match act {
-        Act::Hand(from) => hand(node, mail, from),
+        Act::Hand(from) => hand(node, mail, words, from),
         Act::Router(serial, of) => {
-            let answer = words.answer(of, node.word_of(serial));
+            let answer = words.answer(of, node.word_of(serial), node.source_of(serial));
             Some(node.commit(act, answer).0)
         }
         Act::Post(to) => {
@@ -283,25 +303,25 @@ const LEGS: [Leg; 10] = [
             Post(1),
             Rest(0),
             Claim(1, 2),
-            Lock(1, C1, 19),
+            Lock(1, C1, 531),
             Begin(1, C1),
             Rest(1),
             Claim(2, 3),
-            Refused(2, C1, 19),
+            Refused(2, C1, 531),
             Rest(2),
             Idle,
         ],
-        words: [3, 19, 0, 0],
+        words: [3, 531, 0, 0],
     },
     Leg {
         node: 1,
         deeds: &[Look(0), Hand(Handed::Item(0), C0), Rest(0), Idle],
-        words: [3, 19, 0, 0],
+        words: [3, 531, 0, 0],
     },
     Leg {
         node: 0,
         deeds: &[Post(1), Idle],
-        words: [3, 19, 0, 0],
+        words: [3, 531, 0, 0],
     },
     Leg {
         node: 1,
@@ -312,7 +332,7 @@ const LEGS: [Leg; 10] = [
             Rest(1),
             Idle,
         ],
-        words: [3, 19, 0, 0],
+        words: [3, 531, 0, 0],
     },
     Leg {
         node: 0,
@@ -332,7 +352,7 @@ const LEGS: [Leg; 10] = [
             Rest(2),
             Idle,
         ],
-        words: [3, 19, 10, 0],
+        words: [3, 531, 10, 0],
     },
     Leg {
         node: 1,
@@ -346,20 +366,20 @@ const LEGS: [Leg; 10] = [
             Rest(1),
             Idle,
         ],
-        words: [3, 19, 3, 0],
+        words: [3, 531, 3, 0],
     },
     Leg {
         node: 0,
         deeds: &[
             Look(1),
             Hand(Handed::Flush, C2),
-            Lock(2, C2, 35),
+            Lock(2, C2, 547),
             Begin(2, C2),
             Post(1),
             Rest(2),
             Idle,
         ],
-        words: [3, 19, 35, 0],
+        words: [3, 531, 547, 0],
     },
     // 1A's terminal is on node 1, where the second bypass ends.
     Leg {
@@ -377,7 +397,7 @@ const LEGS: [Leg; 10] = [
             Rest(2),
             Idle,
         ],
-        words: [3, 19, 35, 1],
+        words: [3, 531, 547, 1],
     },
     Leg {
         node: 0,
@@ -390,7 +410,7 @@ const LEGS: [Leg; 10] = [
             Leave(2),
             Idle,
         ],
-        words: [3, 19, 35, 1],
+        words: [3, 531, 547, 1],
     },
     Leg {
         node: 1,
@@ -402,7 +422,7 @@ const LEGS: [Leg; 10] = [
             Rest(2),
             Idle,
         ],
-        words: [3, 19, 35, 3],
+        words: [3, 531, 547, 3],
     },
 ];
 

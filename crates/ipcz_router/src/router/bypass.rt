@@ -3,12 +3,13 @@ ghost use Rattle.ipcz_edge.specs.Edge.{edge_decays};
 ghost use Rattle.ipcz_router.specs.Router.{inward_edge};
 ghost use Rattle.ipcz_router.specs.RoomyRouters.{KeepsRoom};
 ghost use Rattle.ipcz_router.specs.Bypass.{relink, outward_onto, decays_unknown, fits_bypass_peer, bypass_peer, accept_message};
-ghost use Rattle.ipcz_router.specs.Bypass.{fits_accept_bypass, accept_bypass, stop_message, fits_stop_proxying, stop_proxying};
+ghost use Rattle.ipcz_router.specs.Bypass.{fits_accept_bypass, is_source, accept_bypass, stop_message, fits_stop_proxying, stop_proxying};
 ghost use Rattle.ipcz_router.specs.Bypass.{will_stop_message, fits_proxy_will_stop, proxy_will_stop};
 
 use super::Router;
 use crate::filing::is_link;
 use crate::sending::Sending;
+use crate::source::is_source;
 use ipcz_base::{LinkEnd, LinkId, Message, Refusal, Side};
 use ipcz_edge::Edge;
 
@@ -70,8 +71,8 @@ impl Router {
     /// the number of the item that goes out next and as long from it as `length`, and the new primary link is that of the
     /// word `fresh`, toward `sender`.
     ///
-    /// The answer tells the proxy both lengths. It is `Stranger` where the message doesn't fit; then nothing has changed. The
-    /// router is flagged.
+    /// The answer tells the proxy both lengths. It is `Stranger` where the message doesn't fit, and else `Forged` where `source`,
+    /// the node that the old link's word names, isn't `sender`; then nothing has changed. The router is flagged.
     #[tactic(auto, unfolding(ipcz_base::specs::Links::has_link, crate::specs::Bypass::stop_message))]
     pub fn accept_bypass(
         &mut self,
@@ -80,16 +81,21 @@ impl Router {
         side: Side,
         fresh: u32,
         length: u64,
+        source: Option<u8>,
     ) -> Result<Option<Sending>, Refusal>
         ensures sending { let r = self.old.router in
             result ≡ (if fits_accept_bypass r old side
-            then Ok (stop_message r r.outward.primary old side length) else Err Refusal.Stranger) }
+            then (if is_source sender source then Ok (stop_message r r.outward.primary old side length) else Err Refusal.Forged)
+            else Err Refusal.Stranger) }
         ensures ok { OnOk result (self.new.router ≡ accept_bypass self.old.router sender side fresh length) }
         ensures err { OnErr result (self.new.router ≡ self.old.router) }
         ensures room { KeepsRoom self.old self.new }
     {
         if !self.fits_accept_bypass(old, side) {
             return Err(Refusal::Stranger);
+        }
+        if !is_source(sender, source) {
+            return Err(Refusal::Forged);
         }
         let Some(proxy) = self.outward.primary() else {
             unreachable!()

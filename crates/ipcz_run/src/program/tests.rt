@@ -33,19 +33,28 @@ impl<'a> Env for Arguments<'a> {
 }
 
 #[test]
-fn counts_each_argument_but_the_name(rt: HostRuntime) -> Result<(), Fail> {
+fn asks_by_the_arguments_behind_the_name(rt: HostRuntime) -> Result<(), Fail> {
     let name = b"ipcz_run".as_slice();
-    let rows: [(&[&[u8]], bool); 6] = [
-        (&[], false),
-        (&[name], false),
-        (&[name, b"threads".as_slice()], true),
-        (&[name, b"".as_slice()], true),
-        (&[name, b"x".as_slice(), b"y".as_slice()], true),
-        (&[name, b"\xff".as_slice()], true),
+    let rows: [(&[&[u8]], Asked); 9] = [
+        (&[], Asked::Script),
+        (&[name], Asked::Script),
+        (&[name, b"threads".as_slice()], Asked::Threads),
+        (
+            &[name, b"threads".as_slice(), b"x".as_slice()],
+            Asked::Usage,
+        ),
+        (
+            &[name, b"x".as_slice(), b"threads".as_slice()],
+            Asked::Usage,
+        ),
+        (&[name, b"Threads".as_slice()], Asked::Usage),
+        (&[name, b"".as_slice()], Asked::Usage),
+        (&[name, b"x".as_slice(), b"y".as_slice()], Asked::Usage),
+        (&[name, b"\xff".as_slice()], Asked::Usage),
     ];
     for (given, want) in rows {
         let arguments = (Arguments { given }, rt.alloc());
-        assert_eq!(rt; has_arguments(&arguments), Ok(want));
+        assert_eq!(rt; asked_for(&arguments), Ok(want));
     }
     Ok(())
 }
@@ -64,8 +73,9 @@ fn ends_with_the_status_of_the_script(rt: HostRuntime) -> Result<(), Fail> {
     for (script, status, text) in rows {
         let mut out = Vec::new(rt.alloc());
         let ended = run_program(
+            &rt,
             rt.alloc(),
-            Ok(false),
+            Ok(Asked::Script),
             &mut Device::new(script),
             &mut Device::new(&mut out),
         );
@@ -79,8 +89,9 @@ fn ends_with_the_status_of_the_script(rt: HostRuntime) -> Result<(), Fail> {
 fn ends_with_status_1_after_a_failed_read_or_write(rt: HostRuntime) -> Result<(), Fail> {
     let mut out = Vec::new(rt.alloc());
     let ended = run_program(
+        &rt,
         rt.alloc(),
-        Ok(false),
+        Ok(Asked::Script),
         &mut Device::new(SlowReader {
             bytes: SCRIPT,
             reads_left: 9,
@@ -90,8 +101,9 @@ fn ends_with_status_1_after_a_failed_read_or_write(rt: HostRuntime) -> Result<()
     assert_eq!(rt; ended, 1);
     assert!(rt; out.is_empty());
     let ended = run_program(
+        &rt,
         rt.alloc(),
-        Ok(false),
+        Ok(Asked::Script),
         &mut Device::new(SCRIPT),
         &mut Device::new(SlowWriter {
             taken: &mut out,
@@ -108,19 +120,25 @@ fn ends_with_status_1_after_a_failed_read_or_write(rt: HostRuntime) -> Result<()
 #[test]
 fn reads_nothing_where_there_are_arguments(rt: HostRuntime) -> Result<(), Fail> {
     let rows = [
-        (Ok(true), 9, 2, b"usage: ipcz_run [threads]\n".as_slice()),
-        (Ok(true), 2, 1, b"usage:".as_slice()),
+        (
+            Ok(Asked::Usage),
+            9,
+            2,
+            b"usage: ipcz_run [threads]\n".as_slice(),
+        ),
+        (Ok(Asked::Usage), 2, 1, b"usage:".as_slice()),
         (Err(AllocError), 9, 3, b"".as_slice()),
     ];
-    for (has_arguments, writes_left, status, text) in rows {
+    for (asked, writes_left, status, text) in rows {
         let mut out = Vec::new(rt.alloc());
         let mut reader = Device::new(SlowReader {
             bytes: SCRIPT,
             reads_left: 0,
         });
         let ended = run_program(
+            &rt,
             rt.alloc(),
-            has_arguments,
+            asked,
             &mut reader,
             &mut Device::new(SlowWriter {
                 taken: &mut out,

@@ -34,7 +34,8 @@ acted-lock w n s i r Locks here word is = let inside : router_in (node_at w n) s
 acted-lock w n s i r Waits here word is = let inside : router_in (node_at w n) s ≡ Some r = here in rw (here, inside, word, is) refl
 acted-lock w n s i r Refuses here word is = let inside : router_in (node_at w n) s ≡ Some r = here in rw (here, inside, word, is) refl
 
-pub acted-claim : (w : World) (n s : ℕ) (r : Router) → router_at w (record { node = n; serial = s }) ≡ Some r → has_unclaimed_word w ≡ true →
+pub acted-claim : (w : World) (n s : ℕ) (r : Router) → router_at w (record { node = n; serial = s }) ≡ Some r →
+    has_unclaimed_word w ≡ true →
     after_act w n (OfRouter s acts.Claim) ≡ claim_act w (record { node = n; serial = s }) r
 unfolding after_act after_router_act touch answer_of commit on_router commit_router keep_or_drop apply output_of send router_at set_claimed
     set_node

@@ -1,4 +1,7 @@
 -- A proxy claims a word: the invariant is kept.
+use Rattle.ipcz_world.proofs.frames.LiveLinks.{live-kept}
+use Rattle.ipcz_world.proofs.frames.Sourcing.{sourced-by, had-one}
+use Rattle.ipcz_word.specs.Word.{Word}
 use Rattle.ipcz_world.specs.Routes.{source as source'}
 use Rattle.std.specs.Prelude.{◌≡◌, ◌≢◌, ◌⊎◌, ◌<◌, ◌+◌, ◌*◌, ℕ, Bool, true, false, cond, not, nat_eq, Option, Some, None, is_some, refl}
 use Rattle.std.proofs.Common.{arith, sym, ◌∙◌, ap, inl, inr}
@@ -92,6 +95,10 @@ inv-claim w b g k r law can left = record {
         (flag (λ z. z.holds) refl (side_router g (Central j) s));
     held_stable = λ j s t a. grind (arith, frames, law.words.held_stable j s t, a);
     one_holder = λ j s t a d. grind (arith, frames, law.words.one_holder j s t, a, d);
+    source = sourced-by w v (had-one w v k r y one.routers
+        (λ h. record { router = r; at = can.here; primary = refl; inward = refl; holds = λ h. h }))
+        (λ q z e j at p l. ap (λ (x : Word). x.source) (word j)) law.words.source;
+    begun_source = λ o h l. ap (λ (x : Word). x.source) (word o) ∙ law.words.begun_source o h l;
   };
   spares = record {
     spare = λ q z j at e. grind (arith, one.routers q, same_key_tells q k, law.spares.spare q z j, mine, e, at, nat_tests);
@@ -101,6 +108,7 @@ inv-claim w b g k r law can left = record {
     fresh = λ o j e. grind (arith, law.spares.fresh o j, e, nat_tests);
     fresh_back = λ o j e. grind (arith, law.spares.fresh_back o j, e, nat_tests);
   };
+  live = live-kept g _ (λ j l. sym (linked j) ∙ l) (λ j. refl) (λ o s. s) (λ o. refl) law.live;
   bypasses = record {
     stage = law.bypasses.stage;
     old = λ j a. linked j ∙ law.bypasses.old j a;

@@ -1,4 +1,8 @@
 -- A router changes in flags alone, and a word with it: the invariant is kept.
+use Rattle.ipcz_world.proofs.frames.Sourcing.{central_word}
+use Rattle.ipcz_world.proofs.facts.Tests.{nat_eq-itself}
+use Rattle.ipcz_edge.specs.Edge.{Edge}
+use Rattle.ipcz_router.specs.Router.{source_of}
 use Rattle.std.specs.Prelude.{◌≡◌, ◌≢◌, ◌⊎◌, ◌≤◌, ℕ, Bool, true, false, cond, nat_eq, Option, Some, None, is_some, is_none, refl}
 use Rattle.std.proofs.Common.{arith, sym, ◌∙◌, ap, inl, inr}
 use Rattle.std.proofs.lemmas.Bool.Decides.{nat_tests}
@@ -157,6 +161,8 @@ pub record Touches (x x' : Word) (y : Router) : Type 0 where
   pub holder_other : has x'.holder (opposite y.end.side) ≡ has x.holder (opposite y.end.side)
   pub held_stable : (s t : Side) → has x'.holder s ≡ true → has x'.stable t ≡ true
   pub one_holder : (s t : Side) → has x'.holder s ≡ true → has x'.holder t ≡ true → s ≡ t
+  pub source : y.holds ≡ true → x'.source ≡ source_of y
+  pub source_other : has x.holder (opposite y.end.side) ≡ true → x'.source ≡ x.source
 
 pub words-touched : (w v : World) (b : Books) (g : Records) (k : Key) (r y : Router) (i : ℕ) (x : Word) → Inv w b g →
     router_at w k ≡ Some r → OnWord w g k r i → is_begun (g.bypass i) ≡ false → SameButRouter w v k (Some y) → IsFlagged r y →
@@ -171,6 +177,10 @@ words-touched w v b g k r y i x law here on live one same words touch = record {
       (side_router g (Central j) s) refl;
   held_stable = λ j s t h. grind (arith, words j, law.words.held_stable j s t, touch.held_stable s t, nat_tests, h);
   one_holder = λ j s t a c. grind (arith, words j, law.words.one_holder j s t, touch.one_holder s t, nat_tests, a, c);
+  source = λ q z e j at h p l. sourced q z e j at h p l (same_key_tells q k) (nat_eq j i) refl;
+  begun_source = λ o h l. ap (λ (z : Word). z.source) (words o) ∙ ap (λ (z : Word). z.source)
+      (ap (λ c. cond c x (word_at w o)) (apart o h)) ∙
+      law.words.begun_source o h l;
 }
   where
     -- the router of a live link's side is this one only there
@@ -222,6 +232,54 @@ words-touched w v b g k r y i x law here on live one same words touch = record {
         some (inl a) = grind (arith, standing_rules, words j, a.0, a.1.word, a.1.side, one.routers q, same_key-itself k, mine, nat_tests)
         some (inr (a, inl m)) = grind (arith, standing_rules, words j, old j s l h, e, m, a, one.routers q)
         some (inr (a, inr m)) = grind (arith, standing_rules, words j, old j s l h, e, m.0, m.1, a, one.routers q, other, nat_tests)
+
+    apart : (o : ℕ) → is_begun (g.bypass o) ≡ true → nat_eq o i ≡ false
+    apart o h = grind (arith, live, nat_tests, h)
+
+    y_on : (z : Router) (e : LinkEnd) (j : ℕ) → z ≡ y → z.outward.primary ≡ Some e → e.link ≡ Central j → j ≡ i
+    y_on z e j f p l = let there : r.outward.primary ≡ Some e = ap (λ (u : Edge). u.primary) (sym same.outward) ∙
+        ap (λ (u : Router). u.outward.primary) (sym f) ∙ p in
+        let ends : on.end ≡ e = same_Some _ _ (sym on.primary ∙ there) in
+        central_word j i (sym l ∙ ap (λ (u : LinkEnd). u.link) (sym ends) ∙ on.link)
+
+    was : (q : Key) (z : Router) → router_at v q ≡ Some z → same_key q k ≡ false → router_at w q ≡ Some z
+    was q z at a = grind (arith, at, one.routers q, a)
+
+    -- another router that holds the lock of the word is across
+    other_holds : (q : Key) (z : Router) (e : LinkEnd) (j : ℕ) → router_at w q ≡ Some z → z.holds ≡ true → z.outward.primary ≡ Some e →
+        e.link ≡ Central j → j ≡ i → q ≢ k → has (word_at w i).holder (opposite y.end.side) ≡ true
+    other_holds q z e j there h p l n ne = go (side_is e.side y.end.side)
+      where
+        rec : IsRecorded w g q z e
+        rec = law.links.primary q z e there p
+
+        at_i : side_router g (Central i) e.side ≡ Some q
+        at_i = ap (λ u. side_router g u e.side) (sym (l ∙ ap Central n)) ∙ rec.router
+
+        passed : key_passes w (side_router g (Central i) e.side) (λ u. u.holds) ≡ true
+        passed = grind (arith, standing_rules, at_i, there, h)
+
+        held : has (word_at w i).holder e.side ≡ true
+        held = law.words.holder i e.side on.linked live ∙ passed
+
+        go : (e.side ≡ y.end.side) ⊎ (e.side ≡ opposite y.end.side) → has (word_at w i).holder (opposite y.end.side) ≡ true
+        go (inl t) = absurd (ne (same_Some q k (sym at_i ∙ ap (side_router g (Central i)) t ∙ known)))
+        go (inr t) = ap (has (word_at w i).holder) (sym t) ∙ held
+
+    sourced : (q : Key) (z : Router) (e : LinkEnd) (j : ℕ) → router_at v q ≡ Some z → z.holds ≡ true → z.outward.primary ≡ Some e →
+        e.link ≡ Central j → ((same_key q k ≡ true) × (q ≡ k)) ⊎ ((same_key q k ≡ false) × (q ≢ k)) → (c : Bool) → nat_eq j i ≡ c →
+        (word_at v j).source ≡ source_of z
+    sourced q z e j at h p l (inl a) c m = let f : z ≡ y = grind (arith, at, one.routers q, a.0) in
+        let n : j ≡ i = y_on z e j f p l in
+        ap (λ u. (word_at v u).source) n ∙ ap (λ (u : Word). u.source) (words i ∙ ap (λ c. cond c x (word_at w i)) (nat_eq-itself i)) ∙
+        touch.source (ap (λ (u : Router). u.holds) (sym f) ∙ h) ∙ ap source_of (sym f)
+    sourced q z e j at h p l (inr a) false m = ap (λ (u : Word). u.source) (words j ∙ ap (λ c. cond c x (word_at w j)) m) ∙
+        law.words.source q z e j (was q z at a.0) h p l
+    sourced q z e j at h p l (inr a) true m = let n : j ≡ i = grind (arith, m, nat_tests) in
+        let there : router_at w q ≡ Some z = was q z at a.0 in
+        ap (λ (u : Word). u.source) (words j ∙ ap (λ c. cond c x (word_at w j)) m) ∙
+        touch.source_other (other_holds q z e j there h p l n a.1) ∙ ap (λ u. (word_at w u).source) (sym n) ∙
+        law.words.source q z e j there h p l
 
 -- the flags of a router with a word are as its shape wants
 pub record IsShaped (r y : Router) : Type 0 where

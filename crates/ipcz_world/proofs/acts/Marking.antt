@@ -1,4 +1,7 @@
 -- A mark keeps what is said of shapes and words.
+use Rattle.ipcz_world.proofs.Vocabulary.{opposite}
+use Rattle.ipcz_router.specs.ActEffects.{mark_side}
+use Rattle.ipcz_world.proofs.frames.Sourcing.{sourced-by, had-one}
 use Rattle.std.specs.Prelude.{◌≡◌, ℕ, true, false, Option, Some, None, refl}
 use Rattle.std.proofs.Common.{arith}
 use Rattle.ipcz_world.proofs.Vocabulary.{Side, Central, has, Router, primary_word, output_of, router_in, commit, World, Key, node_at}
@@ -57,6 +60,10 @@ words-mark w g k r i law can is = record {
   holder = λ j s l h. holder_at j s l h (side_router g (Central j) s) refl;
   held_stable = λ j s t h. grind (arith, frames, sides, law.held_stable j s t, nat_tests);
   one_holder = λ j s t a b. grind (arith, frames, law.one_holder j s t, nat_tests);
+  source = sourced-by w (mark_act w k r i) (had-one w (mark_act w k r i) k r (mark_side r (has (word_at w i).waiting (opposite r.end.side)))
+      (λ q. grind (arith, frames)) (λ h. record { router = r; at = can.here; primary = refl; inward = refl; holds = λ h. h }))
+      (λ q x e j at p l. grind (arith, frames, nat_tests)) law.source;
+  begun_source = λ o h l. grind (arith, frames, law.begun_source o h l, is.live, nat_tests, h);
 }
   where
     stable_at : (j : ℕ) (s : Side) → is_linked (g.owner j) ≡ true → is_begun (g.bypass j) ≡ false → (q : Option Key) →

@@ -1,4 +1,5 @@
 -- What a node computes, as updates of the world: the acts of routers, and the hands.
+use Rattle.ipcz_world.specs.WordAnswers.{source_for}
 use Rattle.std.specs.Prelude.{◌≡◌, ℕ, zero, suc, true, nat_eq, Some, None, List, [], ◌∷◌, refl}
 use Rattle.std.proofs.Common.{arith, ap, ◌∙◌, sym}
 use Rattle.std.proofs.lemmas.Bool.Decides.{nat_tests}
@@ -92,7 +93,8 @@ unfolding set_node
 freed w n from x = ap (λ z. set_mail (set_node (set_node w n x) n (record z { hand = None })) (way w from n) mails.Empty) (node-here w n x)
     ∙ ap (λ v. set_mail v (way w from n) mails.Empty) (set-twice w n x (record x { hand = None }))
 
-pub handed-is : (w : World) (n from : ℕ) (m : Message) (x : Node) → fits (node_at w n) from m ≡ true → handle (node_at w n) from m ≡ x →
+pub handed-is : (w : World) (n from : ℕ) (m : Message) (x : Node) → fits (node_at w n) from m (source_for w m) ≡ true → handle
+    (node_at w n) from m ≡ x →
     x.hand ≡ Some from → after_hand w n from (Some m) ≡ free (set_node w n x) from n
 unfolding after_hand deliver is_hand_of
 handed-is w n from m x fit is hand =

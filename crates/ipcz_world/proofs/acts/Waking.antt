@@ -1,4 +1,7 @@
 -- A wake keeps the invariant, and so does the hand of the Flush that it sends, whether a router has the link or not.
+use Rattle.ipcz_world.proofs.frames.Frames.{router-set_word}
+use Rattle.ipcz_world.specs.WordAnswers.{source_for}
+use Rattle.ipcz_world.proofs.frames.Sourcing.{sourced-by, had-itself}
 use Rattle.std.specs.Prelude.{◌≡◌, ◌⊎◌, ◌<◌, ℕ, ◌+◌, ◌*◌, Bool, true, false, cond, nat_eq, Option, Some, None, is_some, refl}
 use Rattle.std.proofs.Common.{arith, sym, ◌∙◌, ap, subst, inl, inr}
 use Rattle.std.proofs.lemmas.Bool.Decides.{nat_tests}
@@ -41,9 +44,9 @@ use Rattle.ipcz_world.specs.Acts.{tells_wake}
 
 -- a word of a link changes in what its sides wait for alone
 word-waits : (w : World) (g : Records) (i : ℕ) (x : Word) → is_linked (g.owner i) ≡ true → x.stable ≡ (word_at w i).stable →
-    x.holder ≡ (word_at w i).holder → Words w g → Words (set_word w i x) g
+    x.holder ≡ (word_at w i).holder → x.source ≡ (word_at w i).source → Words w g → Words (set_word w i x) g
 unfolding key_passes
-word-waits w g i x linked stable holder law = record {
+word-waits w g i x linked stable holder source law = record {
   unused = λ j h. grind (arith, word j, law.unused j h, nat_tests, h, linked);
   begun_stable = λ j s h. says_stable j s ∙ law.begun_stable j s h;
   begun_holder = λ j s h. says_holder j s ∙ law.begun_holder j s h;
@@ -51,8 +54,14 @@ word-waits w g i x linked stable holder law = record {
   holder = λ j s a b. says_holder j s ∙ law.holder j s a b ∙ sym (known (side_router g (Central j) s) _);
   held_stable = λ j s t h. says_stable j t ∙ law.held_stable j s t (sym (says_holder j s) ∙ h);
   one_holder = λ j s t a b. law.one_holder j s t (sym (says_holder j s) ∙ a) (sym (says_holder j t) ∙ b);
+  source = sourced-by w (set_word w i x) (λ q z at h. had-itself w q z (sym (router-set_word w i x q) ∙ at))
+      (λ q z e j at p l. says_source j) law.source;
+  begun_source = λ o h l. says_source o ∙ law.begun_source o h l;
 }
   where
+    says_source : (j : ℕ) → (word_at (set_word w i x) j).source ≡ (word_at w j).source
+    says_source j = grind (arith, word-set_word w i x j, source, nat_tests)
+
     word : (j : ℕ) → word_at (set_word w i x) j ≡ cond (nat_eq j i) x (word_at w j)
     word j = word-set_word w i x j
 
@@ -69,12 +78,13 @@ word-waits w g i x linked stable holder law = record {
 -- the same with a router that keeps its links, its queues and the flags of its word
 inv-waits : (w : World) (b : Books) (g : Records) (k : Key) (r y : Router) (i : ℕ) (x : Word) → Inv w b g → router_at w k ≡ Some r →
     primary_word r ≡ Some i → IsFlagged r y → HasSameFlags r y → x.stable ≡ (word_at w i).stable → x.holder ≡ (word_at w i).holder →
-    Inv (set_word (set_router w k y) i x) b g
-inv-waits w b g k r y i x law here at same flags stable holder = inv-flags w v b g k r (Some y) gives settled law (record {
+    x.source ≡ (word_at w i).source → Inv (set_word (set_router w k y) i x) b g
+inv-waits w b g k r y i x law here at same flags stable holder source = inv-flags w v b g k r (Some y) gives settled law (record {
   counts = counts-gives w v g k r (Some y) gives (claimed-set_word u i x ∙ claimed-set_node w k.node _) law.counts;
   shape = shape-touched w v k r y law.shape here one same shaped;
   words = word-waits u g i x on.linked (grind (arith, stable, word-set_node w k.node (with_router (node_at w k.node) k.serial y) i))
       (grind (arith, holder, word-set_node w k.node (with_router (node_at w k.node) k.serial y) i))
+      (grind (arith, source, word-set_node w k.node (with_router (node_at w k.node) k.serial y) i))
       (words-gives w u g k r (Some y) (stays w u k r y (set-router w k y) here (flagged-part r y same))
       (keeps_all w u r y (words-set_router w k y) flags) law.stands law.words);
   spares = spares-gives w v g k r (Some y) gives (λ z e. ap (λ t. t.spare) (sym (same_Some y z e)) ∙ flags.spare)
@@ -183,7 +193,7 @@ inv-wake w b g k r i e law can at = inv-push_flush v b g k.node e.other e.link (
 
     sent : Inv v b g
     sent = inv-waits w b g k r y i (woken (word_at w i) r.end.side) law can.here can.word flagged
-        (record { spare = refl; marked = refl; holds = refl }) refl refl
+        (record { spare = refl; marked = refl; holds = refl }) refl refl refl
 
     there : router_at v k ≡ Some y
     there = grind (
@@ -328,18 +338,18 @@ inv-flush w b g from k r l s law can = inv-flush_lost u b g from k.node l s rous
     there = grind (arith, (set-router w k y).routers k, same_key-itself k)
 
 -- a node's hand of a Flush that finds a router
-found-flush : (n : Node) (from : ℕ) (l : LinkId) (s : Side) (f : Found) → n.hand ≡ Some from → link_router n l s ≡ Some f →
-    deliver n from (messages.Flush l s) ≡ record (with_router n f.serial (flushed f.router)) { hand = None }
+found-flush : (n : Node) (from : ℕ) (l : LinkId) (s : Side) (o : Option ℕ) (f : Found) → n.hand ≡ Some from → link_router n l s ≡ Some f →
+    deliver n from (messages.Flush l s) o ≡ record (with_router n f.serial (flushed f.router)) { hand = None }
 unfolding deliver handle fits on_found is_hand_of
-found-flush n from l s f hand found = let same : nat_eq from from ≡ true = grind (arith, nat_tests) in rw (found, hand, same) refl
+found-flush n from l s o f hand found = let same : nat_eq from from ≡ true = grind (arith, nat_tests) in rw (found, hand, same) refl
 
-lost-flush : (n : Node) (from : ℕ) (l : LinkId) (s : Side) → n.hand ≡ Some from → link_router n l s ≡ None →
-    deliver n from (messages.Flush l s) ≡ record n { hand = None }
+lost-flush : (n : Node) (from : ℕ) (l : LinkId) (s : Side) (o : Option ℕ) → n.hand ≡ Some from → link_router n l s ≡ None →
+    deliver n from (messages.Flush l s) o ≡ record n { hand = None }
 unfolding deliver handle fits on_found is_hand_of
-lost-flush n from l s hand found = let same : nat_eq from from ≡ true = grind (arith, nat_tests) in rw (found, hand, same) refl
+lost-flush n from l s o hand found = let same : nat_eq from from ≡ true = grind (arith, nat_tests) in rw (found, hand, same) refl
 
 handed-is : (w : World) (n from : ℕ) (m : Message) → mail_at w (way w from n) ≡ mails.Hand m →
-    after_act w n (Hand from) ≡ set_mail (set_node w n (deliver (node_at w n) from m)) (way w from n) mails.Empty
+    after_act w n (Hand from) ≡ set_mail (set_node w n (deliver (node_at w n) from m (source_for w m))) (way w from n) mails.Empty
 unfolding after_act after_hand hand_message
 handed-is w n from m in_hand = rw in_hand refl
 
@@ -348,13 +358,14 @@ pub acted-flush : (w : World) (n from : ℕ) (l : LinkId) (s : Side) (f : Found)
     after_act w n (Hand from) ≡ flush_act w from (record { node = n; serial = f.serial }) f.router
 acted-flush w n from l s f in_hand hand found =
     handed-is w n from (messages.Flush l s) in_hand ∙ ap (λ x. set_mail (set_node w n x) (way w from n) mails.Empty)
-    (found-flush (node_at w n) from l s f hand found) ∙ sym (freed w n from
+    (found-flush (node_at w n) from l s (source_for w (messages.Flush l s)) f hand found) ∙ sym (freed w n from
     (with_router (node_at w n) f.serial (flushed f.router)))
 
 pub acted-flush_lost : (w : World) (n from : ℕ) (l : LinkId) (s : Side) → mail_at w (way w from n) ≡ mails.Hand (messages.Flush l s) →
     (node_at w n).hand ≡ Some from → link_router (node_at w n) l s ≡ None → after_act w n (Hand from) ≡ free w from n
 acted-flush_lost w n from l s in_hand hand found = handed-is w n from (messages.Flush l s) in_hand ∙ ap
-    (λ x. set_mail (set_node w n x) (way w from n) mails.Empty) (lost-flush (node_at w n) from l s hand found)
+    (λ x. set_mail (set_node w n x) (way w from n) mails.Empty)
+    (lost-flush (node_at w n) from l s (source_for w (messages.Flush l s)) hand found)
 
 -- the hand of a Flush, whether a router here has the link or not
 pub step-flush : (w : World) (b : Books) (g : Records) (n from : ℕ) (l : LinkId) (s : Side) → Inv w b g → n < w.count →

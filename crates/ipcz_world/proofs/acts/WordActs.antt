@@ -1,4 +1,5 @@
 -- The acts on words: a mark, a try for the lock, and its return keep the invariant.
+use Rattle.ipcz_router.specs.Router.{source_of}
 use Rattle.std.specs.Prelude.{◌≡◌, ◌⊎◌, ◌≤◌, ℕ, Bool, true, false, cond, nat_eq, Some, refl}
 use Rattle.std.proofs.Common.{arith, sym, ◌∙◌, ap, inl, inr}
 use Rattle.std.proofs.lemmas.Bool.Decides.{nat_tests}
@@ -62,6 +63,11 @@ word-says w b g k r i law here on live = record {
   holder = law.words.holder i r.end.side on.linked live ∙ grind (arith, standing_rules, on.known, here);
 }
 
+-- a router that holds the lock has the word name the node inward of it
+pub had_source : (w : World) (b : Books) (g : Records) (k : Key) (r : Router) (i : ℕ) → Inv w b g → router_at w k ≡ Some r →
+    OnWord w g k r i → r.holds ≡ true → (word_at w i).source ≡ source_of r
+had_source w b g k r i law here on h = law.words.source k r on.end i here h on.primary on.link
+
 pub inv-mark : (w : World) (b : Books) (g : Records) (k : Key) (r : Router) (i : ℕ) → Inv w b g → CanTouch w k r i acts.Mark →
     Inv (mark_act w k r i) b g
 unfolding is_possible
@@ -105,6 +111,8 @@ inv-mark w b g k r i law can =
       holder_other = refl;
       held_stable = λ s t h. held s t h (side_is t r.end.side);
       one_holder = law.words.one_holder i;
+      source = λ h. had_source w b g k r i law can.here on h;
+      source_other = λ h. refl;
     }
       where
         other : (s : Side) → has (with (word_at w i).stable s) (opposite s) ≡ has (word_at w i).stable (opposite s)
@@ -159,8 +167,20 @@ inv-unlock w b g k r i law can =
       holder_other = other r.end.side;
       held_stable = λ s t h. law.words.held_stable i s t (held s h (side_is s r.end.side));
       one_holder = λ s t h e. law.words.one_holder i s t (held s h (side_is s r.end.side)) (held t e (side_is t r.end.side));
+      source = λ h. absurd (cc_holds h);
+      source_other = λ h. absurd (not_across r.end.side (law.words.one_holder i r.end.side (opposite r.end.side) mine h));
     }
       where
+        cc_holds : false ≡ true → ⊥
+        cc_holds h = cc
+
+        mine : has (word_at w i).holder r.end.side ≡ true
+        mine = says.holder ∙ grind (arith, can.possible)
+
+        not_across : (s : Side) → s ≡ opposite s → ⊥
+        not_across A h = cc
+        not_across B h = cc
+
         other : (s : Side) → has (without (word_at w i).holder s) (opposite s) ≡ has (word_at w i).holder (opposite s)
         other A = grind (arith, sides)
         other B = grind (arith, sides)
@@ -258,13 +278,15 @@ inv-lock w b g k r i Waits law can planned =
       holder_other = refl;
       held_stable = law.words.held_stable i;
       one_holder = law.words.one_holder i;
+      source = λ h. had_source w b g k r i law can.here on h;
+      source_other = λ h. refl;
     }
 inv-lock w b g k r i Locks law can planned =
     inv-touched w (lock_act w k r i Locks) b g k r (take_lock r) i x law can.here can.word live (set-both w k (take_lock r) i x)
     (claimed-both w k (take_lock r) i x) flagged (word-both w k (take_lock r) i x) shaped touches
   where
     x : Word
-    x = lock (word_at w i) r.end.side
+    x = lock (word_at w i) r.end.side (source_of r)
 
     on : OnWord w g k r i
     on = on-word w b g k r i law can.here can.word
@@ -299,6 +321,8 @@ inv-lock w b g k r i Locks law can planned =
       holder_other = other r.end.side;
       held_stable = λ s t h. both t (side_is t r.end.side);
       one_holder = λ s t h e. only s h (side_is s r.end.side) ∙ sym (only t e (side_is t r.end.side));
+      source = λ h. refl;
+      source_other = λ h. absurd (grind (arith, free.free (opposite r.end.side), h));
     }
       where
         other : (s : Side) → has (with (word_at w i).holder s) (opposite s) ≡ has (word_at w i).holder (opposite s)

@@ -1,4 +1,5 @@
 -- A bypass begins: the invariant is kept, every begin that is possible is one of these, and a node's begin is this update.
+use Rattle.ipcz_world.proofs.begins.BegunStages.{live-begun}
 use Rattle.std.specs.Prelude.{◌≡◌, ◌<◌, ℕ, Option, Some, None, refl}
 use Rattle.std.proofs.Common.{arith, sym, ◌∙◌, ap, subst}
 use Rattle.ipcz_world.proofs.Vocabulary.{B, LinkId, Central, Peripheral, LinkEnd, word_of, Router, inward_edge, is_possible, output_of}
@@ -40,6 +41,7 @@ inv-begin w b g k r p into out o fresh law can = record {
   words = words-begun law is c new;
   spares = spares-begun law is c new;
   bypasses = bypasses-begun law is c new;
+  live = live-begun law is c new;
   stages = stages-begun law is c new;
   told = told-begun law is c new;
   moves = moves-begun law is c new;

@@ -1,4 +1,5 @@
 -- A bypass begins: what it rests on, and what the records say after it.
+use Rattle.std.specs.Prelude.{option_map}
 use Rattle.std.specs.Prelude.{◌≡◌, ◌⊎◌, ℕ, true, false, Option, Some, None, is_some, refl}
 use Rattle.std.proofs.Common.{arith, sym, ◌∙◌, ap, inl, inr}
 use Rattle.std.proofs.lemmas.Option.{same_Some}
@@ -63,6 +64,7 @@ pub record Begins (w : World) (g : Records) (k : Key) (r : Router) (p : Key) (in
   pub across : HasAcross w g o (opposite r.end.side)
   pub stable : (s : Side) → has (word_at w o).stable s ≡ true
   pub holder : (s : Side) → has (word_at w o).holder s ≡ same_side s r.end.side
+  pub source : (word_at w o).source ≡ Some (side_node g (inner_link p) B)
   pub unbegun : (j : ℕ) → is_begun (g.bypass j) ≡ true → (g.bypass j).proxy ≡ k → ⊥
 
 is_nothing : (o : Option LinkEnd) → is_some o ≡ false → o ≡ None
@@ -129,6 +131,10 @@ begins-of w b g k r p inner outer o fresh law can = record {
       (λ e. grind (arith, same_side-opposite r.end.side, same_side-itself r.end.side, e));
   stable = λ s. law.words.held_stable o r.end.side s held;
   holder = holder;
+  source = law.words.source k r outer o can.here holds can.outer can.outer_at ∙ ap (option_map (λ (e : LinkEnd). e.other)) can.inner
+      ∙ ap Some
+      (inner_is.other ∙ ap (λ l. side_node g l (opposite inner.side)) can.inner_at ∙ ap
+      (λ s. side_node g (inner_link p) (opposite s)) side);
   unbegun = λ j a e. grind (arith, law.stages.proxy_begun j r a (ap (router_at w) e ∙ can.here), can.inner);
 }
   where

@@ -1,4 +1,8 @@
 -- A proxy begins: who stands where, the words, and the bypass at its first stage.
+use Rattle.ipcz_world.proofs.frames.LiveLinks.{same_word}
+use Rattle.ipcz_world.specs.Bypasses.{LiveLinks}
+use Rattle.std.proofs.Common.{true≢false}
+use Rattle.ipcz_world.proofs.frames.Sourcing.{sourced-by, had-itself}
 use Rattle.std.specs.Prelude.{◌≡◌, ◌≢◌, ◌⊎◌, ◌≤◌, ℕ, Bool, true, false, cond, not, nat_eq, Option, Some, None, is_some, refl}
 use Rattle.std.proofs.Common.{arith, sym, ◌∙◌, ap, subst, inl, inr}
 use Rattle.std.proofs.lemmas.Bool.Decides.{nat_tests}
@@ -133,6 +137,61 @@ module _ {w v : World} {b : Books} {g : Records} {k : Key} {r y : Router} {p : K
       inner i j e (inr a) = let f : (g.peripheral i).by ≡ Some j = grind (arith, e, by-inner g k o fresh p i, a) in
           ap (λ t. t.inner) (begun-else g k o fresh p j (not-begun law is c new j (law.stands.by_begun i j f))) ∙ law.stands.by_inner i j f
 
+  -- the link that was live is so no more
+  pub live-begun : LiveLinks after
+  live-begun = record {
+    one_live = λ i j a d e n m. law.live.one_live i j (was_linked i a) (was_linked j d) e (was_live i n (same_word i o))
+        (was_live j m (same_word j o));
+    none_live = λ q i s a e. none q i s a e (same_word q o);
+    one_begun = λ q j s t e. one q j s t e (same_word q o) (same_word j o);
+  }
+    where
+      was_linked : (i : ℕ) → is_linked (after.owner i) ≡ true → is_linked (g.owner i) ≡ true
+      was_linked i a = sym (linked-begun g k o fresh p i is.owner) ∙ a
+
+      here : is_begun (after.bypass o) ≡ true
+      here = ap is_begun (begun-here g k o fresh p)
+
+      else : (i : ℕ) → nat_eq i o ≡ false → is_begun (after.bypass i) ≡ is_begun (g.bypass i)
+      else i n = ap is_begun (begun-else g k o fresh p i n)
+
+      was_live : (i : ℕ) → is_begun (after.bypass i) ≡ false → (i ≡ o) ⊎ (nat_eq i o ≡ false) → is_begun (g.bypass i) ≡ false
+      was_live i n (inl q) = absurd (true≢false (sym (ap (λ j. is_begun (after.bypass j)) q ∙ here) ∙ n))
+      was_live i n (inr q) = sym (else i q) ∙ n
+
+      stage : (i : ℕ) → nat_eq i o ≡ false → (after.bypass i).stage ≡ 1 → (g.bypass i).stage ≡ 1
+      stage i n s = ap (λ t. t.stage) (sym (begun-else g k o fresh p i n)) ∙ s
+
+      -- each other link of the pair was bypassed already
+      rest : (i : ℕ) → is_linked (g.owner i) ≡ true → (g.central i).pair ≡ (g.central o).pair → nat_eq i o ≡ false → (t : Bool) →
+          is_begun (g.bypass i) ≡ t → is_begun (g.bypass i) ≡ true
+      rest i a e n true m = m
+      rest i a e n false m = let s : i ≡ o = law.live.one_live i o a is.linked e m is.live in absurd (grind (arith, s, n, nat_tests))
+
+      all : (i : ℕ) → is_linked (g.owner i) ≡ true → (g.central i).pair ≡ (g.central o).pair → (i ≡ o) ⊎ (nat_eq i o ≡ false) →
+          is_begun (after.bypass i) ≡ true
+      all i a e (inl q) = ap (λ j. is_begun (after.bypass j)) q ∙ here
+      all i a e (inr q) = else i q ∙ rest i a e q (is_begun (g.bypass i)) refl
+
+      more : (i : ℕ) → is_begun (g.bypass i) ≡ true → (i ≡ o) ⊎ (nat_eq i o ≡ false) → is_begun (after.bypass i) ≡ true
+      more i a (inl q) = ap (λ j. is_begun (after.bypass j)) q ∙ here
+      more i a (inr q) = else i q ∙ a
+
+      none : (q i : ℕ) → (after.bypass q).stage ≡ 1 → is_linked (after.owner i) ≡ true → (g.central i).pair ≡ (g.central q).pair →
+          (q ≡ o) ⊎ (nat_eq q o ≡ false) → is_begun (after.bypass i) ≡ true
+      none q i s a e (inl n) = all i (was_linked i a) (e ∙ ap (λ j. (g.central j).pair) n) (same_word i o)
+      none q i s a e (inr n) = more i (law.live.none_live q i (stage q n s) (was_linked i a) e) (same_word i o)
+
+      not_first : (q : ℕ) → nat_eq q o ≡ false → (after.bypass q).stage ≡ 1 → (g.central q).pair ≡ (g.central o).pair → ⊥
+      not_first q n s e = true≢false (sym (law.live.none_live q o (stage q n s) is.linked (sym e)) ∙ is.live)
+
+      one : (q j : ℕ) → (after.bypass q).stage ≡ 1 → (after.bypass j).stage ≡ 1 → (g.central q).pair ≡ (g.central j).pair →
+          (q ≡ o) ⊎ (nat_eq q o ≡ false) → (j ≡ o) ⊎ (nat_eq j o ≡ false) → q ≡ j
+      one q j s t e (inl n) (inl m) = n ∙ sym m
+      one q j s t e (inl n) (inr m) = absurd (not_first j m t (sym e ∙ ap (λ i. (g.central i).pair) n))
+      one q j s t e (inr n) (inl m) = absurd (not_first q n s (e ∙ ap (λ i. (g.central i).pair) m))
+      one q j s t e (inr n) (inr m) = law.live.one_begun q j (stage q n s) (stage j m t) e
+
   pub words-begun : Words v after
   words-begun = record {
     unused = λ i h. c.words i ∙ law.words.unused i (sym (linked-begun g k o fresh p i is.owner) ∙ h);
@@ -151,6 +210,18 @@ module _ {w v : World} {b : Books} {g : Records} {k : Key} {r y : Router} {p : K
         (sym (ap (λ z. has z.holder s) (c.words i)) ∙ h);
     one_holder = λ i s t a d. law.words.one_holder i s t (sym (ap (λ z. has z.holder s) (c.words i)) ∙ a)
         (sym (ap (λ z. has z.holder t) (c.words i)) ∙ d);
+    source = sourced-by w v (λ q z at h. elim (before q z at) [
+      | inl a ↦ had-itself w q z a.0
+      | inr a ↦ absurd (grind (arith, ap (λ (t : Router). t.holds) a.1, new.holds, h))
+    ]) (λ q z e i at m l. ap (λ (t : Word). t.source) (c.words i)) law.words.source;
+    begun_source = by_word o {P = λ i. is_begun (after.bypass i) ≡ true → (after.bypass i).stage ≤ 2 →
+        (word_at v i).source ≡ Some (side_node after (inner_link (after.bypass i).inner) B)}
+        (λ a l. ap (λ (t : Word). t.source) (c.words o) ∙ is.source ∙ ap Some (sym (node-begun g k o fresh p (inner_link p) B) ∙
+        ap (λ t. side_node after (inner_link t.inner) B) (sym (begun-here g k o fresh p))))
+        (λ i n a l. let e = begun-else g k o fresh p i n in
+        ap (λ (t : Word). t.source) (c.words i) ∙ law.words.begun_source i (ap is_begun (sym e) ∙ a) (rw e at l) ∙
+        ap Some (sym (node-begun g k o fresh p (inner_link (g.bypass i).inner) B) ∙
+        ap (λ t. side_node after (inner_link t.inner) B) (sym e)));
   }
     where
       flag : (bit : Word → Bool) (test : Router → Bool) (i : ℕ) (s : Side) → is_linked (after.owner i) ≡ true →

@@ -408,6 +408,7 @@ module _ (w v : World) (b : Books) (g : Records) (k : Key) (r y : Router) (item 
       words = words-touched w v k r y g is.touched is.alike law.words;
       spares = spares-touched w v k r y g is.touched is.alike law.spares;
       bypasses = bypasses-touched w v k r y g is.touched is.alike law.bypasses;
+      live = law.live;
       stages = stages-touched w v k r y g is.touched is.alike law.stages;
       told = told-same w v g same law.told;
       moves = moves-same w v g same law.moves;

@@ -291,6 +291,7 @@ module _ (w v : World) (b : Books) (g : Records) (k : Key) (r : Router) (item : 
     words = words-touched w v k r y g is.touched alike law.words;
     spares = spares-touched w v k r y g is.touched alike law.spares;
     bypasses = bypasses-touched w v k r y g is.touched alike law.bypasses;
+    live = law.live;
     stages = stages-touched w v k r y g is.touched alike law.stages;
     told = told-same w v g same law.told;
     moves = moves-same w v g same law.moves;

@@ -5,7 +5,7 @@ use Rattle.std.proofs.lemmas.List.{map-append, length-replicate, take_all}
 use Rattle.ipcz_world.proofs.Vocabulary.{Node, empty_word, open_word}
 use Rattle.ipcz_node.specs.FirstPairs.{new_node}
 use Rattle.ipcz_node.specs.RoomyNodes.{RoomyNode}
-use Rattle.ipcz_word.specs.Layout.{word_of_bits}
+use Rattle.ipcz_word.specs.Layout.{word_of_bits, source_of_bits}
 use Rattle.ipcz_word.specs.SideSets.{both}
 use Rattle.ipcz_word.specs.SideSets as sides
 use Rattle.ipcz_world.specs.World.{new_nodes, numbers_from}
@@ -50,7 +50,7 @@ map-replicate f zero x = refl
 map-replicate f (suc n) x = ap (λ l. f x ∷ l) (map-replicate f n x)
 
 empty_number : word_of_bits 0 ≡ empty_word
-unfolding word_of_bits empty_word both sides.none
+unfolding word_of_bits source_of_bits empty_word both sides.none
 empty_number = refl
 
 -- the numbers of the words at the start

@@ -1,12 +1,14 @@
 -- What the code needs of a world holds of each lawful one; and a step for a node that isn't there is refused.
-use Rattle.std.specs.Prelude.{◌≡◌, ◌≤◌, ℕ, false, nat_lt}
+use Rattle.std.specs.Prelude.{◌≡◌, ◌≤◌, ℕ, false, nat_lt, Option, Some, None, option_map}
 use Rattle.std.proofs.Common.{arith, refl, inl}
 use Rattle.std.proofs.lemmas.Bool.Decides.{nat_tests}
 use Rattle.ipcz_base.specs.declared.refusal.Refusal.TheVariants.{Stranger}
 use Rattle.ipcz_world.specs.declared.step.Step.{Step}
 use Rattle.ipcz_world.specs.declared.step.Step.TheVariants.{Open, Put, Get, Close, Turn}
 use Rattle.ipcz_world.specs.declared.step.Reply.TheVariants.{Refused}
-use Rattle.ipcz_world.proofs.Vocabulary.{World}
+use Rattle.ipcz_word.specs.Laws.{HasNode}
+use Rattle.ipcz_router.specs.Router.{source_of}
+use Rattle.ipcz_world.proofs.Vocabulary.{World, Router, LinkEnd, inward_edge, opposite, node_at, router_at, router_in}
 use Rattle.ipcz_world.specs.Turns.{next_at}
 use Rattle.ipcz_world.specs.Steps.{Effect, refuse, at_node, StepFirst}
 use Rattle.ipcz_world.specs.Lawfulness.{IsLawful}
@@ -14,11 +16,28 @@ use Rattle.ipcz_world.specs.Taking.{IsRegular, node_of}
 use Rattle.ipcz_world.proofs.Whole.{lists_have_lengths, nodes_are_sound}
 use Rattle.ipcz_world.proofs.runs.Choosing.{first_taken}
 
+-- the node across an inward primary link is one of the world, so it is among so few
+sourced : (w : World) (law : IsLawful w) (n serial : ℕ) (r : Router) → router_in (node_at w n) serial ≡ Some r → HasNode (source_of r)
+unfolding router_at
+sourced w law n serial r here = go (inward_edge r).primary refl
+  where
+    go : (o : Option LinkEnd) → (inward_edge r).primary ≡ o → HasNode (option_map (λ (e : LinkEnd). e.other) o)
+    go None h = tt
+    go (Some e) h =
+        let is = law.lawful.inv.links.inward_primary (record { node = n; serial = serial }) r e here h in
+        omega (
+          arith,
+          is.other,
+          law.lawful.inv.counts.side_on_node e.link (opposite e.side) is.recorded,
+          (lists_have_lengths w law.books law.routes law.lawful).few,
+        )
+
 -- a lawful world is regular
 pub lawful-regular : (w : World) → IsLawful w → IsRegular w
 lawful-regular w law = record {
   lengths = lists_have_lengths w law.books law.routes law.lawful;
   sound = λ n l. nodes_are_sound w law.books law.routes n law.lawful l;
+  sourced = λ n serial r l here. sourced w law n serial r here;
   possible = λ n act l first. first_taken w law.books law.lawful.records law.lawful.inv n l act first;
 }
 

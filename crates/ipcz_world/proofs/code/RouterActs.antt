@@ -5,6 +5,7 @@ use Rattle.std.proofs.Common.{arith, ap, sym, subst, refl, ◌∙◌}
 use Rattle.ipcz_world.proofs.Vocabulary.{Side, place_at, put_place, has, Word, empty_word, Router, primary_word, is_possible, RouterAct}
 use Rattle.ipcz_world.proofs.Vocabulary.{World, word_at, set_word, set_claimed, answer_of}
 use Rattle.ipcz_word.specs.Word.{plan_of, Plan, Locks, Waits, Refuses}
+use Rattle.ipcz_router.specs.Router.{source_of}
 use Rattle.ipcz_router.specs.ActTable.{may_take, is_rest}
 use Rattle.ipcz_router.specs.ActEffects.{IsAnswerOf}
 use Rattle.ipcz_router.specs.declared.act.RouterAct.TheVariants as acts
@@ -26,7 +27,8 @@ abbrev pub retabled : World → WordTable → World
 retabled w t = record w { words = t.words; claimed = t.claimed; size = length t.words }
 
 module _ (w : World) (r : Router) where
-  on_link : (act : RouterAct) (p : Option ℕ) → link_answer w r.end.side act p ≡ side_answer (table_of w) act (link_of r p)
+  on_link : (act : RouterAct) (p : Option ℕ) → link_answer w r.end.side (source_of r) act p ≡ side_answer (table_of w) (source_of r) act
+      (link_of r p)
   unfolding link_answer side_answer word_at
   on_link act None = refl
   on_link act (Some i) = refl
@@ -35,7 +37,8 @@ module _ (w : World) (r : Router) where
   on_claim has = ap (λ s. if nat_lt w.claimed s then answers.Claimed w.claimed else answers.NoWord) (sym has.words)
 
   -- the answer of the world is that of its table
-  pub answers-as : (act : RouterAct) → HasLengths w → answer_of w r act ≡ table_answer (table_of w) act (link_of r (primary_word r))
+  pub answers-as : (act : RouterAct) → HasLengths w → answer_of w r act ≡ table_answer (table_of w) (source_of r) act
+      (link_of r (primary_word r))
   unfolding answer_of is_claim
   answers-as acts.SendOut has = on_link acts.SendOut (primary_word r)
   answers-as acts.SendIn has = on_link acts.SendIn (primary_word r)
@@ -55,21 +58,23 @@ module _ (w : World) (r : Router) where
   same_table has = λ j. record w { size = sym has.words j }
 
   touched : (act : RouterAct) (p : Option ℕ) → HasLengths w → IfSome p (λ i. i < w.size) →
-      touch_word w r.end.side act p ≡ retabled w (side_after (table_of w) act (link_of r p))
+      touch_word w r.end.side (source_of r) act p ≡ retabled w (side_after (table_of w) (source_of r) act (link_of r p))
   unfolding touch_word side_after set_word word_at
   touched act None has l = same_table has
   touched act (Some i) has l = λ j. record w {
-    words = put_place empty_word w.words i (word_after (place_at empty_word w.words i) r.end.side act);
-    size = sym (length-put empty_word w.words i (word_after (place_at empty_word w.words i) r.end.side act) (omega (arith, l, has.words)) ∙
+    words = put_place empty_word w.words i (word_after (place_at empty_word w.words i) r.end.side (source_of r) act);
+    size = sym (length-put empty_word w.words i (word_after (place_at empty_word w.words i) r.end.side (source_of r) act)
+        (omega (arith, l, has.words)) ∙
         has.words) j;
   }
 
-  still : (act : RouterAct) (p : Option ℕ) → HasLengths w → IfSome p (λ i. i < w.size) → ((x : Word) → word_after x r.end.side act ≡ x) →
-      w ≡ retabled w (side_after (table_of w) act (link_of r p))
+  still : (act : RouterAct) (p : Option ℕ) → HasLengths w → IfSome p (λ i. i < w.size) →
+      ((x : Word) → word_after x r.end.side (source_of r) act ≡ x) →
+      w ≡ retabled w (side_after (table_of w) (source_of r) act (link_of r p))
   unfolding side_after
   still act None has l keeps = same_table has
   still act (Some i) has l keeps =
-      let e : put_place empty_word w.words i (word_after (place_at empty_word w.words i) r.end.side act) ≡ w.words =
+      let e : put_place empty_word w.words i (word_after (place_at empty_word w.words i) r.end.side (source_of r) act) ≡ w.words =
       ap (put_place empty_word w.words i) (keeps (place_at empty_word w.words i)) ∙
       put-same empty_word w.words i (omega (arith, l, has.words))
       in λ j. record w { words = sym e j; size = (sym has.words ∙ ap length (sym e)) j }
@@ -85,7 +90,7 @@ module _ (w : World) (r : Router) where
 
   -- the world after the act is the world with the table after it
   pub touches-as : (act : RouterAct) → HasLengths w → IfSome (primary_word r) (λ i. i < w.size) →
-      touch w r act ≡ retabled w (table_after (table_of w) act (link_of r (primary_word r)))
+      touch w r act ≡ retabled w (table_after (table_of w) (source_of r) act (link_of r (primary_word r)))
   unfolding touch is_claim word_after
   touches-as acts.SendOut has l = still acts.SendOut (primary_word r) has l (λ x. refl)
   touches-as acts.SendIn has l = still acts.SendIn (primary_word r) has l (λ x. refl)
@@ -105,21 +110,23 @@ or_left : (a b : Bool) → b ≡ false → (a || b) ≡ true → a ≡ true
 or_left true b k e = refl
 or_left false b k e = cc
 
-try_is : (x : Word) (s : Side) (p : Plan) → IsAnswerOf acts.Lock (try_answer x s p)
+try_is : (x : Word) (s : Side) (source : Option ℕ) (p : Plan) → IsAnswerOf acts.Lock (try_answer x s source p)
 unfolding try_answer
-try_is x s Locks = tt
-try_is x s Waits = tt
-try_is x s Refuses = tt
+try_is x s source Locks = tt
+try_is x s source Waits = tt
+try_is x s source Refuses = tt
 
 module _ (t : WordTable) (r : Router) where
-  central : (act : RouterAct) (p : Option ℕ) → is_some p ≡ true → ((x : Word) → IsAnswerOf act (word_answer x r.end.side act)) →
-      IsAnswerOf act (side_answer t act (link_of r p))
+  central : (act : RouterAct) (p : Option ℕ) → is_some p ≡ true →
+      ((x : Word) → IsAnswerOf act (word_answer x r.end.side (source_of r) act)) →
+      IsAnswerOf act (side_answer t (source_of r) act (link_of r p))
   unfolding side_answer
   central act None some is = cc
   central act (Some i) some is = is (place_at empty_word t.words i)
 
-  plain : (act : RouterAct) (p : Option ℕ) → IsAnswerOf act answers.Plain → ((x : Word) → word_answer x r.end.side act ≡ answers.Plain) →
-      IsAnswerOf act (side_answer t act (link_of r p))
+  plain : (act : RouterAct) (p : Option ℕ) → IsAnswerOf act answers.Plain →
+      ((x : Word) → word_answer x r.end.side (source_of r) act ≡ answers.Plain) →
+      IsAnswerOf act (side_answer t (source_of r) act (link_of r p))
   unfolding side_answer
   plain act None is same = is
   plain act (Some i) is same = subst (IsAnswerOf act) (sym (same (place_at empty_word t.words i))) is
@@ -129,7 +136,8 @@ module _ (t : WordTable) (r : Router) where
   claim_is false = tt
 
   -- the answer of the table is of the act's kind, where the router may take it
-  pub answers-kind : (act : RouterAct) → may_take r act ≡ true → IsAnswerOf act (table_answer t act (link_of r (primary_word r)))
+  pub answers-kind : (act : RouterAct) → may_take r act ≡ true → IsAnswerOf act
+      (table_answer t (source_of r) act (link_of r (primary_word r)))
   unfolding is_claim word_answer is_possible is_rest
   answers-kind acts.SendOut may = plain acts.SendOut (primary_word r) tt (λ x. refl)
   answers-kind acts.SendIn may = plain acts.SendIn (primary_word r) tt (λ x. refl)
@@ -141,7 +149,7 @@ module _ (t : WordTable) (r : Router) where
   answers-kind acts.Wake may = central acts.Wake (primary_word r) (and_second _ _ (or_left _ _ refl may)) (λ x. tt)
   answers-kind acts.Claim may = claim_is (has_unclaimed t)
   answers-kind acts.Lock may = central acts.Lock (primary_word r) (and_first _ _ (and_second _ _ (and_first _ _ (or_left _ _ refl may))))
-      (λ x. try_is x r.end.side (plan_of x r.end.side))
+      (λ x. try_is x r.end.side (source_of r) (plan_of x r.end.side))
   answers-kind acts.Begin may = plain acts.Begin (primary_word r) tt (λ x. refl)
   answers-kind acts.Unlock may =
       central acts.Unlock (primary_word r) (and_first _ _ (and_second _ _ (and_second _ _ (or_left _ _ refl may)))) (λ x. tt)

@@ -1,5 +1,6 @@
 -- What a node sees of the mailboxes, looked up one after the other.
-use Rattle.std.specs.Prelude.{◌≡◌, ◌<◌, ◌≤◌, ℕ, zero, suc, ◌+◌, ◌-◌, Bool, true, false, ◌&&◌, nat_lt, map, if◌then◌else◌, Option, Some, None}
+use Rattle.std.specs.Prelude.{◌≡◌, ◌<◌, ◌≤◌, ℕ, zero, suc, ◌+◌, ◌-◌, Bool, true, false, ◌&&◌, nat_lt, map, if◌then◌else◌, Option, Some}
+use Rattle.std.specs.Prelude.{None}
 use Rattle.std.proofs.Common.{arith, ap, refl, sym, ◌∙◌}
 use Rattle.std.proofs.lemmas.Bool.Decides.{nat_tests}
 use Rattle.ipcz_base.specs.Indexed.{place_at}
@@ -45,5 +46,6 @@ passes test from end found low holds is =
     ap (λ b. if b then Some from else first_number test (from + 1) ((end - from) - 1)) holds) ∙ is
 
 -- no number is left
-pub none_left : (test : ℕ → Bool) (from end : ℕ) (found : Option ℕ) → from ≡ end → first_number test from (end - from) ≡ found → None ≡ found
+pub none_left : (test : ℕ → Bool) (from end : ℕ) (found : Option ℕ) → from ≡ end → first_number test from (end - from) ≡ found →
+    None ≡ found
 none_left test from end found e is = sym (ap (first_number test from) (let z : end - from ≡ 0 = omega (arith, e) in z)) ∙ is

@@ -5,10 +5,10 @@ use Rattle.std.proofs.lemmas.Bool.Decides.{nat_tests}
 use Rattle.std.proofs.lemmas.List.{get_or-map, map-set, length-map}
 use Rattle.std.proofs.lemmas.List.Elements.{All-get_or}
 use Rattle.ipcz_world.proofs.Vocabulary.{place_at, put_place, Word, empty_word, open_word}
-use Rattle.ipcz_word.specs.Layout.{IsWord, word_of_bits, bits_of}
+use Rattle.ipcz_word.specs.Layout.{word_of_bits, source_of_bits, bits_of}
 use Rattle.ipcz_word.specs.SideSets.{both}
 use Rattle.ipcz_word.specs.SideSets as sides
-use Rattle.ipcz_world.specs.Coding.{WordTable, IsTable, claimed_word, put_word}
+use Rattle.ipcz_world.specs.Coding.{WordTable, IsLinkNumber, IsTable, claimed_word, source_at, put_word}
 use Rattle.ipcz_world.proofs.code.Slots.{get-place, set-place}
 use Rattle.ipcz_world.proofs.code.WordNumbers.{spelled}
 
@@ -29,8 +29,8 @@ read_word bits i n l e =
     ∙ get-place empty_word empty_word (map word_of_bits bits) i (omega (arith, length-map bits word_of_bits, l))
 
 -- it is a link word
-pub valid_word : (bits : List ℕ) (count i n : ℕ) → IsTable bits count → i < length bits → n ≡ get_or bits i n → IsWord n
-valid_word bits count i n is l e = subst IsWord (sym e) (All-get_or IsWord bits i n l is.words)
+pub valid_word : (bits : List ℕ) (count i n : ℕ) → IsTable bits count → i < length bits → n ≡ get_or bits i n → IsLinkNumber n
+valid_word bits count i n is l e = subst IsLinkNumber (sym e) (All-get_or IsLinkNumber bits i n l is.words)
 
 -- a claimed word's number is read
 pub read_claimed : (bits : List ℕ) (count i n : ℕ) → IsTable bits count → i < count → n ≡ get_or bits i n →
@@ -41,6 +41,14 @@ read_claimed bits count i n is below e =
     let number : bits_of (place_at empty_word (map word_of_bits bits) i) ≡ n =
     spelled (place_at empty_word (map word_of_bits bits) i) n (read_word bits i n l e) (valid_word bits count i n is l e)
     in rw (yes, number) refl
+
+-- and so is its source
+pub read_source : (bits : List ℕ) (count i n : ℕ) → IsTable bits count → i < count → n ≡ get_or bits i n →
+    (word_of_bits n).source ≡ source_at (table bits count) i
+read_source bits count i n is below e =
+    let l : i < length bits = omega (arith, below, is.claimed) in
+    let yes : nat_lt i count ≡ true = grind (arith, below, nat_tests) in
+    rw yes (ap (λ (w : Word). w.source) (read_word bits i n l e))
 
 -- a number that is written makes the word of the table
 pub write_word : (bits : List ℕ) (count i n : ℕ) (x : Word) → i < length bits → word_of_bits n ≡ x →
@@ -54,5 +62,5 @@ write_word bits count i n x l e = λ j. record {
 
 -- the number of a first link's word
 pub open_number : word_of_bits 3 ≡ open_word
-unfolding word_of_bits open_word both sides.none
+unfolding word_of_bits source_of_bits open_word both sides.none
 open_number = refl

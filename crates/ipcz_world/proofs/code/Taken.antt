@@ -15,7 +15,9 @@ use Rattle.ipcz_node.specs.declared.act.Act.TheVariants.{Hand as OfHand, Look, P
 use Rattle.ipcz_node.specs.declared.happened.Happened.{Happened}
 use Rattle.ipcz_node.specs.declared.happened.Happened.TheVariants as events
 use Rattle.ipcz_node.specs.Hands.{is_hand_of, deliver, message_lacks_serials, message_grows}
-use Rattle.ipcz_node.specs.Node.{word_side}
+use Rattle.ipcz_node.specs.Node.{source_in, word_side}
+use Rattle.ipcz_router.specs.Router.{source_of}
+use Rattle.ipcz_word.specs.Laws.{HasNode}
 use Rattle.ipcz_node.specs.Acts.{has_mail_for, first_of, post_of, act_lacks_serials, act_grows, Answers}
 use Rattle.ipcz_node.specs.RoomyNodes.{IsPossibleAct}
 use Rattle.ipcz_node.specs.Events.{event_of, hand_event}
@@ -27,7 +29,7 @@ use Rattle.ipcz_world.specs.Turns.{turn_lacks_serials, turn_grows, is_first_pend
 use Rattle.ipcz_world.specs.Mailing.{taken_up, put_down}
 use Rattle.ipcz_world.specs.Soundness.{HasLengths}
 use Rattle.ipcz_world.specs.Coding.{WordTable, table_answer, table_after, table_of}
-use Rattle.ipcz_world.specs.WordAnswers.{touch}
+use Rattle.ipcz_world.specs.WordAnswers.{source_for, touch}
 use Rattle.ipcz_world.specs.Taking.{IsRegular, IsTaken, IsCommitted}
 use Rattle.ipcz_world.proofs.code.RouterActs.{link_of, retabled, answers-as, touches-as, answers-kind}
 use Rattle.ipcz_world.proofs.code.Slots.{put-same, length-put}
@@ -136,7 +138,8 @@ done-look w n from old x mail e may is kept = record {
 }
 
 -- a post leaves its message in the mailbox
-pub done-post : (w : World) (n to : ℕ) (m : Message) (old x : Node) (mail : List Mail) → old ≡ node_at w n → Some m ≡ post_of old (Post to) →
+pub done-post : (w : World) (n to : ℕ) (m : Message) (old x : Node) (mail : List Mail) → old ≡ node_at w n → Some m ≡ post_of old
+    (Post to) →
     x ≡ commit old (Post to) Plain → mail ≡ put_place Empty w.mail (way w n to) (Full m) →
     IsTaken w n (Post to) (Ok (events.Post to)) (record (with_node w n x) { mail = mail })
 unfolding turn_event after_act turn_lacks_serials event_of act_lacks_serials set_node set_mail after_post
@@ -239,18 +242,19 @@ taken-down (InHand x) m e = ap InHand (some-same e)
 
 -- a message in hand is handled
 pub done-hand : (w : World) (n from : ℕ) (m : Message) (event : Happened) (old x : Node) (mail : List Mail) → old ≡ node_at w n →
-    hand_message (mail_at w (way w from n)) ≡ Some m → x ≡ deliver old from m → event ≡ hand_event old from m →
-    message_lacks_serials old from m ≡ false →
+    hand_message (mail_at w (way w from n)) ≡ Some m → x ≡ deliver old from m (source_for w m) → event ≡ hand_event old from m
+    (source_for w m) →
+    message_lacks_serials old from m (source_for w m) ≡ false →
     mail ≡ put_place Empty w.mail (way w from n) (put_down (mail_at w (way w from n))) →
     IsTaken w n (OfHand from) (Ok event) (record (with_node w n x) { mail = mail })
 unfolding turn_event after_act turn_lacks_serials hand_seen after_hand hand_lacks_serials set_node set_mail put_down
 done-hand w n from m event old x mail e has is seen low kept = record {
-  event = rw has (seen ∙ ap (λ y. hand_event y from m) e);
+  event = rw has (seen ∙ ap (λ y. hand_event y from m (source_for w m)) e);
   done = rw has (λ j. record w {
-    nodes = put_place (bare_node 0 0) w.nodes n ((is ∙ ap (λ y. deliver y from m) e) j);
+    nodes = put_place (bare_node 0 0) w.nodes n ((is ∙ ap (λ y. deliver y from m (source_for w m)) e) j);
     mail = (kept ∙ ap (λ k. put_place Empty w.mail (way w from n) (put_down k)) (taken-down (mail_at w (way w from n)) m has)) j;
   });
-  allowed = rw has (sym (ap (λ y. message_lacks_serials y from m) e) ∙ low);
+  allowed = rw has (sym (ap (λ y. message_lacks_serials y from m (source_for w m)) e) ∙ low);
   why = tt;
   grows = λ g k. refl;
   left = tt;
@@ -260,8 +264,8 @@ done-hand w n from m event old x mail e has is seen low kept = record {
 pub refused-hand : (w : World) (n from : ℕ) (m : Message) (why : Refusal) (old x : Node) (mail : List Mail) → HasLengths w → n < w.count →
     way w from n < length w.mail → old ≡ node_at w n →
     hand_message (mail_at w (way w from n)) ≡ Some m → x ≡ old →
-    why ≡ (if message_lacks_serials old from m then NumbersEnd else OutOfMemory) →
-    (message_grows old from m ≡ false → false ≡ true) →
+    why ≡ (if message_lacks_serials old from m (source_for w m) then NumbersEnd else OutOfMemory) →
+    (message_grows old from m (source_for w m) ≡ false → false ≡ true) →
     mail ≡ put_place Empty (put_place Empty w.mail (way w from n) (put_down (mail_at w (way w from n)))) (way w from n) (InHand m) →
     IsTaken w n (OfHand from) (Err why) (record (with_node w n x) { mail = mail })
 unfolding turn_lacks_serials hand_lacks_serials turn_grows hand_grows mail_at node_at
@@ -269,8 +273,8 @@ refused-hand w n from m why old x mail has l within e is same because grows kept
   event = tt;
   done = tt;
   allowed = tt;
-  why = rw is (because ∙ ap (λ y. if message_lacks_serials y from m then NumbersEnd else OutOfMemory) e);
-  grows = rw is (λ g k. grows (ap (λ y. message_grows y from m) e ∙ g));
+  why = rw is (because ∙ ap (λ y. if message_lacks_serials y from m (source_for w m) then NumbersEnd else OutOfMemory) e);
+  grows = rw is (λ g k. grows (ap (λ y. message_grows y from m (source_for w m)) e ∙ g));
   left = λ j. record w {
     nodes = (ap (put_place (bare_node 0 0) w.nodes n) (same ∙ e) ∙ put-same (bare_node 0 0) w.nodes n (omega (arith, l, has.nodes))) j;
     mail = (kept ∙ put-twice Empty w.mail (way w from n) _ (InHand m) ∙
@@ -294,6 +298,10 @@ module _ (w : World) (n serial : ℕ) (act : RouterAct) (is : IsRegular w) (l : 
   abbrev link : Option (ℕ × Side)
   link = word_side (node_at w n) serial
 
+  -- the node that it names as the source
+  abbrev source : Option ℕ
+  source = source_in (node_at w n) serial
+
   pub router-stands : can_take w n (OfRouter serial act) ≡ true → (r : Router) × (router_in (node_at w n) serial ≡ Some r) ×
       (may_take r act ≡ true)
   unfolding can_take router_at
@@ -301,6 +309,18 @@ module _ (w : World) (n serial : ℕ) (act : RouterAct) (is : IsRegular w) (l : 
 
   link-is : (r : Router) → router_in (node_at w n) serial ≡ Some r → link ≡ link_of r (primary_word r)
   link-is r e = rw e refl
+
+  source-is : (r : Router) → router_in (node_at w n) serial ≡ Some r → source ≡ source_of r
+  source-is r e = rw e refl
+
+  -- the source is a node
+  pub source-is-node : can_take w n (OfRouter serial act) ≡ true → HasNode source
+  source-is-node h = let t = router-stands h in subst HasNode (sym (source-is t.0 t.1)) (is.sourced n serial t.0 l t.1)
+
+  -- what the table answers, and what it is after, by the router itself
+  asks : (X : Type 0) (f : Option ℕ → Option (ℕ × Side) → X) (r : Router) → router_in (node_at w n) serial ≡ Some r →
+      f source link ≡ f (source_of r) (link_of r (primary_word r))
+  asks X f r e = ap (λ o. f o link) (source-is r e) ∙ ap (f (source_of r)) (link-is r e)
 
   bounded : (r : Router) → router_in (node_at w n) serial ≡ Some r → (p : Option ℕ) → primary_word r ≡ p → IfSome p (λ i. i < w.size)
   bounded r e None h = tt
@@ -321,25 +341,27 @@ module _ (w : World) (n serial : ℕ) (act : RouterAct) (is : IsRegular w) (l : 
   router-may h = let t = router-stands h in rw t.1 t.2
 
   -- the answer is of the act's kind
-  pub answer-kind : can_take w n (OfRouter serial act) ≡ true → (a : Answer) → a ≡ table_answer (table_of w) act link →
+  pub answer-kind : can_take w n (OfRouter serial act) ≡ true → (a : Answer) → a ≡ table_answer (table_of w) source act link →
       Answers (OfRouter serial act) a
   answer-kind h a e = let t = router-stands h in
-      subst (IsAnswerOf act) (sym (e ∙ ap (table_answer (table_of w) act) (link-is t.0 t.1))) (answers-kind (table_of w) t.0 act t.2)
+      subst (IsAnswerOf act) (sym (e ∙ asks Answer (λ o p. table_answer (table_of w) o act p) t.0 t.1))
+      (answers-kind (table_of w) t.0 act t.2)
 
   -- a router's act changes its node and the words
   pub done-router : can_take w n (OfRouter serial act) ≡ true → (old x : Node) (event : Happened) (a : Answer) (t : WordTable) →
       old ≡ node_at w n →
-      a ≡ table_answer (table_of w) act link → t ≡ table_after (table_of w) act link → x ≡ commit old (OfRouter serial act) a →
+      a ≡ table_answer (table_of w) source act link → t ≡ table_after (table_of w) source act link → x ≡ commit old
+      (OfRouter serial act) a →
       event ≡ event_of old (OfRouter serial act) a →
       act_lacks_serials old (OfRouter serial act) ≡ false →
       IsTaken w n (OfRouter serial act) (Ok event) (record (retabled w t) { nodes = put_place (bare_node 0 0) w.nodes n x })
   unfolding turn_event after_act turn_lacks_serials router_seen after_router_act router_at set_node
   done-router h old x event a t e is-a is-t is-x seen low =
       let s = router-stands h in
-      let answer : a ≡ answer_of w s.0 act = is-a ∙ ap (table_answer (table_of w) act) (link-is s.0 s.1) ∙
+      let answer : a ≡ answer_of w s.0 act = is-a ∙ asks Answer (λ o p. table_answer (table_of w) o act p) s.0 s.1 ∙
       sym (answers-as w s.0 act is.lengths) in
       let words : retabled w t ≡ touch w s.0 act =
-      ap (retabled w) (is-t ∙ ap (table_after (table_of w) act) (link-is s.0 s.1)) ∙
+      ap (retabled w) (is-t ∙ asks WordTable (λ o p. table_after (table_of w) o act p) s.0 s.1) ∙
       sym (touches-as w s.0 act is.lengths (bounded s.0 s.1 (primary_word s.0) refl)) in
       let made : x ≡ commit (node_at w n) (OfRouter serial act) (answer_of w s.0 act) =
       is-x ∙ ap (λ y. commit y (OfRouter serial act) a) e ∙ ap (commit (node_at w n) (OfRouter serial act)) answer in

@@ -1,4 +1,5 @@
 -- An act leaves how many nodes there are.
+use Rattle.ipcz_router.specs.Router.{source_of}
 use Rattle.std.specs.Prelude.{◌≡◌, ℕ, ◌+◌, Bool, true, false, if◌then◌else◌, Option, Some, None, refl}
 use Rattle.ipcz_world.proofs.Vocabulary.{Message, Side, Router, primary_word, RouterAct, Act, Hand, Close, World, node_at, mail_at, way}
 use Rattle.ipcz_world.proofs.Vocabulary.{set_node, set_word, set_claimed, set_mail, after_act}
@@ -9,10 +10,10 @@ use Rattle.ipcz_world.specs.WordAnswers.{claim_next, touch_word, touch}
 use Rattle.ipcz_world.specs.Turns.{message_in_hand, full_message, router_of, after_router_act, after_hand, after_look, after_post}
 use Rattle.ipcz_world.specs.World.{has_unclaimed_word}
 
-count-touch_word : (w : World) (s : Side) (a : RouterAct) (o : Option ℕ) → (touch_word w s a o).count ≡ w.count
+count-touch_word : (w : World) (s : Side) (x : Option ℕ) (a : RouterAct) (o : Option ℕ) → (touch_word w s x a o).count ≡ w.count
 unfolding touch_word set_word
-count-touch_word w s a None = refl
-count-touch_word w s a (Some i) = refl
+count-touch_word w s x a None = refl
+count-touch_word w s x a (Some i) = refl
 
 count-claim_next : (w : World) → (claim_next w).count ≡ w.count
 unfolding set_claimed
@@ -30,12 +31,12 @@ count-touch w r acts.Discard = refl
 count-touch w r acts.FinishOut = refl
 count-touch w r acts.FinishIn = refl
 count-touch w r acts.Leave = refl
-count-touch w r acts.Mark = count-touch_word w r.end.side acts.Mark (primary_word r)
-count-touch w r acts.Wake = count-touch_word w r.end.side acts.Wake (primary_word r)
+count-touch w r acts.Mark = count-touch_word w r.end.side (source_of r) acts.Mark (primary_word r)
+count-touch w r acts.Wake = count-touch_word w r.end.side (source_of r) acts.Wake (primary_word r)
 count-touch w r acts.Claim = count-claim_next w
-count-touch w r acts.Lock = count-touch_word w r.end.side acts.Lock (primary_word r)
+count-touch w r acts.Lock = count-touch_word w r.end.side (source_of r) acts.Lock (primary_word r)
 count-touch w r acts.Begin = refl
-count-touch w r acts.Unlock = count-touch_word w r.end.side acts.Unlock (primary_word r)
+count-touch w r acts.Unlock = count-touch_word w r.end.side (source_of r) acts.Unlock (primary_word r)
 count-touch w r acts.Rest = refl
 
 count-after_hand : (w : World) (n from : ℕ) (o : Option Message) → (after_hand w n from o).count ≡ w.count

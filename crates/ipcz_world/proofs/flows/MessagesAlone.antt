@@ -1,4 +1,6 @@
 -- Messages alone move: where routers and words are the same, and nothing is under way but what was and Flushes, the invariant is kept.
+use Rattle.ipcz_world.proofs.frames.Sourcing.{sourced-by, had-itself}
+use Rattle.ipcz_word.specs.Word.{Word}
 use Rattle.ipcz_world.proofs.weights.OfRecords.{holds, held_times, in_node, in_message, in_places}
 use Rattle.ipcz_world.proofs.Vocabulary.{Weight, at_end, names_end, times, Side, A, B, End, LinkId, Central, Peripheral, LinkEnd}
 use Rattle.ipcz_world.proofs.Vocabulary.{Descriptor, Item, Message, opposite, has, has_end, is_central, Router, World, Key, node_at}
@@ -235,6 +237,9 @@ module _ (w v : World) (g : Records) (p : Passes w v g) where
     held_stable = λ i s t h. ap (λ z. has z.stable t) (p.words i) ∙ law.held_stable i s t (sym (ap (λ z. has z.holder s) (p.words i)) ∙ h);
     one_holder = λ i s t a b. law.one_holder i s t (sym (ap (λ z. has z.holder s) (p.words i)) ∙ a)
         (sym (ap (λ z. has z.holder t) (p.words i)) ∙ b);
+    source = sourced-by w v (λ q r at h. had-itself w q r (back q r at))
+        (λ q r e i at m l. ap (λ (z : Word). z.source) (p.words i)) law.source;
+    begun_source = λ o h l. ap (λ (z : Word). z.source) (p.words o) ∙ law.begun_source o h l;
   }
 
   spares-passes : Spares w g → Spares v g
@@ -437,6 +442,7 @@ module _ (w v : World) (g : Records) (p : Passes w v g) where
     words = words-passes law.words;
     spares = spares-passes law.spares;
     bypasses = bypasses-passes law.bypasses;
+    live = law.live;
     stages = stages-passes law.stages;
     told = told-passes law.told;
     moves = moves-passes law.moves;

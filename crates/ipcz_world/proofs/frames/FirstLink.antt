@@ -1,4 +1,5 @@
 -- A word becomes a pair's first link: the invariant is kept.
+use Rattle.ipcz_world.proofs.frames.FirstLinkStages.{live-grown}
 use Rattle.std.specs.Prelude.{ℕ}
 use Rattle.std.proofs.Common.{◌∙◌}
 use Rattle.ipcz_world.proofs.Vocabulary.{Side, End, World, Key, Books, Records, Owner, Terminal, Inv}
@@ -24,6 +25,7 @@ module _ (w v : World) (b : Books) (g : Records) (owner' : ℕ → Owner) (centr
     words = words-grown law is;
     spares = spares-grown law is;
     bypasses = bypasses-grown law is;
+    live = live-grown law is;
     stages = stages-grown law is;
     told = told-grown law is;
     moves = moves-grown law is;

@@ -1,4 +1,10 @@
 -- A word becomes a pair's first link: who stands where, the words, the bypasses and their messages.
+use Rattle.ipcz_world.proofs.frames.LiveLinks.{first_begun}
+use Rattle.ipcz_world.specs.Bypasses.{LiveLinks}
+use Rattle.ipcz_base.specs.Ends.{end_at}
+use Rattle.std.proofs.Common.{true≢false}
+use Rattle.ipcz_world.specs.Records.{is_nowhere, side_end}
+use Rattle.ipcz_world.proofs.frames.Sourcing.{sourced-by, had-itself}
 use Rattle.std.specs.Prelude.{◌≡◌, ◌≢◌, ◌⊎◌, ◌≤◌, ℕ, Bool, true, false, nat_eq, Option, Some, None, is_some, refl}
 use Rattle.std.proofs.Common.{arith, ap, ◌∙◌, sym, inl, inr}
 use Rattle.std.proofs.lemmas.Bool.Decides.{nat_tests}
@@ -100,6 +106,14 @@ module _ {w v : World} {b : Books} {g : Records} {owner' : ℕ → Owner} {centr
       | inr ne ↦ law.words.one_holder j s t (ap (λ (x : Word). has x.holder s) (sym (is.word j ne)) ∙ a)
           (ap (λ (x : Word). has x.holder t) (sym (is.word j ne)) ∙ c)
     ];
+    source = sourced-by w v (λ q x e m. elim (is.was q x e) [
+      | inl o ↦ had-itself w q x o
+      | inr o ↦ absurd (not_both x.holds m (ap (λ (x : Router). x.holds) o.0.is))
+    ]) (λ q x e j at p l. ap (λ (x : Word). x.source) (is.word j (λ m. recorded_apart law is e.link (law.links.primary q x e at p).recorded
+        (l ∙ ap Central m)))) law.words.source;
+    begun_source = λ o s l. ap (λ (x : Word). x.source) (is.word o (begun_apart law is o s)) ∙ law.words.begun_source o s l ∙ ap Some
+        (sym (node_kept law is (inner_link (g.bypass o).inner) B
+        (recorded_apart law is (inner_link (g.bypass o).inner) (law.bypasses.inner o s))));
   }
     where
       same_number : (j : ℕ) → (j ≡ i) ⊎ (j ≢ i)
@@ -112,6 +126,46 @@ module _ {w v : World} {b : Books} {g : Records} {owner' : ℕ → Owner} {centr
       none_held : (s : Side) (c : Bool) → is_linked (owner' i) ≡ c → has (word_at v i).holder s ≡ false
       none_held s true l = ap (λ (x : Word). has x.holder s) (is.linked l).word ∙ has-none s
       none_held s false l = ap (λ (x : Word). has x.holder s) (is.unlinked l) ∙ has-none s
+
+  -- no link was of the new pair
+  no_pair : (j : ℕ) → is_linked (g.owner j) ≡ true → (g.central j).pair ≡ i → ⊥
+  unfolding side_end is_recorded
+  no_pair j l e =
+      let there : is_nowhere (g.terminal (end_at (g.central j).pair A)) ≡ false = law.terminals.link_opened (Central j) A l in
+      let none : is_nowhere (g.terminal (end_at (g.central j).pair A)) ≡ true =
+      law.terminals.unopened (end_at (g.central j).pair A) (ap (λ p. is_linked (g.owner p)) e ∙ is.free) in
+      true≢false (sym none ∙ there)
+
+  -- the new link is the only one of its pair
+  pub live-grown : LiveLinks h
+  live-grown = record {
+    one_live = λ x j a c e n m. one x j e n m (by_word law is x a) (by_word law is j c);
+    none_live = λ o x s a e. none o x s e (by_word law is x a);
+    one_begun = λ o q s t e. law.live.one_begun o q s t (sym (old_pair o (begun o s)) ∙ e ∙ old_pair q (begun q t));
+  }
+    where
+      begun : (o : ℕ) → (g.bypass o).stage ≡ 1 → o ≢ i
+      begun o s = begun_apart law is o (first_begun (g.bypass o).stage s)
+
+      old_pair : (j : ℕ) → j ≢ i → (central' j).pair ≡ (g.central j).pair
+      old_pair j n = ap (λ (c : CentralRecord). c.pair) (is.central j n)
+
+      new_pair : (x : ℕ) → x ≡ i → is_linked (owner' i) ≡ true → (central' x).pair ≡ i
+      new_pair x n l = ap (λ j. (central' j).pair) n ∙ (is.linked l).pair
+
+      one : (x j : ℕ) → (central' x).pair ≡ (central' j).pair → is_begun (g.bypass x) ≡ false → is_begun (g.bypass j) ≡ false →
+          ((x ≢ i) × (is_linked (g.owner x) ≡ true)) ⊎ ((x ≡ i) × (is_linked (owner' i) ≡ true)) →
+          ((j ≢ i) × (is_linked (g.owner j) ≡ true)) ⊎ ((j ≡ i) × (is_linked (owner' i) ≡ true)) → x ≡ j
+      one x j e n m (inl a) (inl c) = law.live.one_live x j a.1 c.1 (sym (old_pair x a.0) ∙ e ∙ old_pair j c.0) n m
+      one x j e n m (inl a) (inr c) = absurd (no_pair x a.1 (sym (old_pair x a.0) ∙ e ∙ new_pair j c.0 c.1))
+      one x j e n m (inr a) (inl c) = absurd (no_pair j c.1 (sym (old_pair j c.0) ∙ sym e ∙ new_pair x a.0 a.1))
+      one x j e n m (inr a) (inr c) = a.0 ∙ sym c.0
+
+      none : (o x : ℕ) → (g.bypass o).stage ≡ 1 → (central' x).pair ≡ (central' o).pair →
+          ((x ≢ i) × (is_linked (g.owner x) ≡ true)) ⊎ ((x ≡ i) × (is_linked (owner' i) ≡ true)) → is_begun (g.bypass x) ≡ true
+      none o x s e (inl a) = law.live.none_live o x s a.1 (sym (old_pair x a.0) ∙ e ∙ old_pair o (begun o s))
+      none o x s e (inr a) = absurd (no_pair o (law.bypasses.old o (first_begun (g.bypass o).stage s))
+          (sym (old_pair o (begun o s)) ∙ sym e ∙ new_pair x a.0 a.1))
 
   pub spares-grown : Spares v h
   unfolding spare_of

@@ -1,4 +1,7 @@
 -- A router gave decaying links up, or left: what is said of words, messages, ends and numbers is kept, and so the invariant is.
+use Rattle.ipcz_world.proofs.frames.Sourcing.{sourced-by}
+use Rattle.ipcz_world.proofs.frames.GivingUp.{WasSame, was_same}
+use Rattle.ipcz_word.specs.Word.{Word}
 use Rattle.ipcz_world.proofs.weights.OfRecords.{holds, held_times}
 use Rattle.std.specs.Prelude.{◌<◌, ◌≡◌, ◌≢◌, ◌⊎◌, ◌≤◌, ℕ, ◌+◌, Bool, true, false, not, ◌&&◌, Option, Some, None, is_some, List, refl}
 use Rattle.std.proofs.Common.{arith, sym, ◌∙◌, ap, subst, inl, inr}
@@ -44,6 +47,10 @@ words-gives w v g k r x c keeps stands law = record {
       (sym (ap (λ z. has z.holder s) (keeps.words.words i)) ∙ h);
   one_holder = λ i s t a b. law.one_holder i s t (sym (ap (λ z. has z.holder s) (keeps.words.words i)) ∙ a)
       (sym (ap (λ z. has z.holder t) (keeps.words.words i)) ∙ b);
+  source = sourced-by w v (λ q y at h. let z : WasSame w q y = was_same c keeps q y at in
+      record { router = z.router; at = z.at; primary = z.part.primary; inward = z.part.inward_primary; holds = λ h. sym z.flags.holds ∙ h })
+      (λ q y e i at p l. ap (λ (z : Word). z.source) (keeps.words.words i)) law.source;
+  begun_source = λ o h l. ap (λ (z : Word). z.source) (keeps.words.words o) ∙ law.begun_source o h l;
 }
   where
     there : (i : ℕ) (s : Side) → is_linked (g.owner i) ≡ true → is_begun (g.bypass i) ≡ false → side_router g (Central i) s ≡ Some k →
@@ -331,6 +338,7 @@ inv-flags w v b g k r x c is law flags = record {
   words = flags.words;
   spares = flags.spares;
   bypasses = bypasses-same w v g (same-messages c.one) law.bypasses;
+  live = law.live;
   stages = flags.stages;
   told = told-same w v g (same-messages c.one) law.told;
   moves = moves-same w v g (same-messages c.one) law.moves;

@@ -1,4 +1,5 @@
 -- The invariant while the moves of an item under way are in the making: all clauses but that an item has one descriptor per end.
+use Rattle.ipcz_world.specs.Bypasses.{LiveLinks}
 use Rattle.std.specs.Prelude.{◌≡◌, ◌≢◌, ℕ, false, true, None, Some, List, [], map, slice_get}
 use Rattle.ipcz_world.proofs.Vocabulary.{Side, A, B, End, LinkId, Descriptor, Item, Message, is_central, ends_in, World, Key, Books}
 use Rattle.ipcz_world.proofs.Vocabulary.{Records, is_recorded, inner_link, side_node, side_router, side_end, IsUnderWay, under_way}
@@ -44,6 +45,7 @@ pub record OpenInv (w : World) (b : Books) (g : Records) : Type 0 where
   pub words : Words w g
   pub spares : Spares w g
   pub bypasses : BypassRecords w g
+  pub live : LiveLinks g
   pub stages : Stages w g
   pub told : Told w g
   pub moves : OpenMoves w g
@@ -69,6 +71,7 @@ opened w b g law = record {
   words = law.words;
   spares = law.spares;
   bypasses = law.bypasses;
+  live = law.live;
   stages = law.stages;
   told = law.told;
   moves = record {
@@ -105,6 +108,7 @@ closed w b g law ends = record {
   words = law.words;
   spares = law.spares;
   bypasses = law.bypasses;
+  live = law.live;
   stages = law.stages;
   told = law.told;
   moves = record {

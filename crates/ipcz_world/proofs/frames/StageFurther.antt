@@ -1,4 +1,6 @@
 -- The record of a bypass goes a stage further, from 3 or 4: links, words and stages are as before.
+use Rattle.ipcz_world.proofs.frames.Sourcing.{sourced-by}
+use Rattle.ipcz_word.specs.Word.{Word}
 use Rattle.std.specs.Prelude.{◌≡◌, ◌≢◌, ◌⊎◌, ◌≤◌, ℕ, suc, Bool, true, false, cond, nat_eq, is_some, is_none, not, Option, Some, None, List}
 use Rattle.std.specs.Prelude.{refl}
 use Rattle.std.proofs.Common.{arith, ap, ◌∙◌, sym, inl, inr}
@@ -271,6 +273,17 @@ module _ {w v : World} {b : Books} {g : Records} {k : Key} {r x : Router} {o s :
         (ap (λ z. has z.holder t) (sym (same i)) ∙ a);
     one_holder = λ i t u a d. (words_of law).one_holder i t u (ap (λ z. has z.holder t) (sym (same i)) ∙ a)
         (ap (λ z. has z.holder u) (sym (same i)) ∙ d);
+    source = sourced-by w v (λ q t e m. let z : Was q t = was_router q t e in record {
+      router = z.router;
+      at = z.here_before;
+      primary = z.linked_alike.primary;
+      inward = z.linked_alike.inward_primary;
+      holds = λ m. sym z.linked_alike.holds ∙ m;
+    })
+        (λ q t e i at p l. ap (λ (z : Word). z.source) (same i)) (words_of law).source;
+    begun_source = λ j n l. ap (λ (z : Word). z.source) (same j) ∙
+        (words_of law).begun_source j (sym (agree.is_begun j) ∙ n) (at_most j 2 l) ∙
+        ap Some (sym (node_same (inner_link (g.bypass j).inner) B) ∙ ap (λ p. side_node h (inner_link p) B) (sym (agree.inner j)));
   }
 
   pub stages-further : Stages v h

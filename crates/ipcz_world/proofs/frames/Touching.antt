@@ -1,4 +1,8 @@
 -- One router changes in what its links, its spare and its lock don't show: what is said of those is kept.
+use Rattle.std.proofs.Common.{ap}
+use Rattle.ipcz_world.proofs.frames.Sourcing.{sourced-by, had-one, inward-same}
+use Rattle.ipcz_edge.specs.Edge.{Edge}
+use Rattle.ipcz_word.specs.Word.{Word}
 use Rattle.std.specs.Prelude.{◌≡◌, ◌<◌, ℕ, Bool, true, false, Some, is_some, refl}
 use Rattle.std.proofs.Common.{arith, ◌∙◌, sym}
 use Rattle.ipcz_world.proofs.Vocabulary.{A, B, LinkId, Central, Peripheral, LinkEnd, Router, World, Key, same_key, node_at, word_at}
@@ -285,6 +289,16 @@ module _ (w v : World) (k : Key) (r y : Router) (g : Records) (t : IsTouched w v
     );
     held_stable = λ i s u h. grind (arith, t.word i, law.held_stable i s u);
     one_holder = λ i s u h j. grind (arith, t.word i, law.one_holder i s u);
+    source = sourced-by w v (had-one w v k r y t.router
+        (λ h. record {
+          router = r;
+          at = t.here;
+          primary = ap (λ (z : Edge). z.primary) a.outward;
+          inward = inward-same r y a.inward;
+          holds = λ h. sym a.holds ∙ h;
+        }))
+        (λ q z e i at p l. ap (λ (x : Word). x.source) (t.word i)) law.source;
+    begun_source = λ o h l. ap (λ (x : Word). x.source) (t.word o) ∙ law.begun_source o h l;
   }
 
   spare_same : (q : Key) → spare_of (router_at v q) ≡ spare_of (router_at w q)

@@ -1,4 +1,6 @@
 -- The router across accepts a bypass and takes the fresh link: the invariant is kept.
+use Rattle.ipcz_world.proofs.frames.LiveLinks.{live-kept}
+use Rattle.ipcz_world.proofs.frames.Sealing.{live_of}
 use Rattle.std.specs.Prelude.{ℕ, refl}
 use Rattle.std.proofs.Common.{arith, sym}
 use Rattle.ipcz_world.proofs.Vocabulary.{Side, LinkEnd, Message, Router, World, Key, Books, Records, Inv}
@@ -58,6 +60,8 @@ module _ (w : World) (b : Books) (g : Records) (from : ℕ) (k : Key) (r : Route
           router = known_across law can;
         });
     stages = stages-accept law can;
+    live = live-kept g h (λ i l. l) (agree law can).pair (λ j st. grind (arith, st, at_o law can j, (is law can).stage))
+        (agree law can).is_begun (live_of law);
     told = told-accept law can;
     moves = moves-kept w v g h k r x (changed law can) (agree law can) (carried law can) (descriptors law can) (moves_law law);
     terminals = terminals-kept w v g h k r x (changed law can) (agree law can) (like law can) (terminals_of law);

@@ -340,11 +340,13 @@ module _ {w : World} {b : Books} {g : Records} {from : ℕ} {k : Key} {r : Route
         (is law can).stage,
       )
 
-      decaying_at : (q : Key) (t : Router) (d : LinkEnd) → t.outward.decaying ≡ Some d → OneOrBefore w k x q t → is_some (bypass_of g d.link) ≡ true
+      decaying_at : (q : Key) (t : Router) (d : LinkEnd) → t.outward.decaying ≡ Some d → OneOrBefore w k x q t → is_some
+          (bypass_of g d.link) ≡ true
       decaying_at q t d dec (inl m) = ap (λ l. is_some (bypass_of g l)) (x_dec t d m.1 dec).0 ∙ grind (arith, record_rules, begun law can)
       decaying_at q t d dec (inr m) = (positions_of law).decaying q t d m.1 dec
 
-      inner_at : (q : Key) (t : Router) (d : LinkEnd) (p : Key) (j : ℕ) → t.outward.decaying ≡ Some d → d.link ≡ inner_link p → OneOrBefore w k x q t →
+      inner_at : (q : Key) (t : Router) (d : LinkEnd) (p : Key) (j : ℕ) → t.outward.decaying ≡ Some d → d.link ≡ inner_link p →
+          OneOrBefore w k x q t →
           router_at w q ≡ Some t
       inner_at q t d p j dec l (inl m) = absurd (not_both o p (sym (x_dec t d m.1 dec).0 ∙ l))
       inner_at q t d p j dec l (inr m) = m.1

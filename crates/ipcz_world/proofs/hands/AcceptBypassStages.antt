@@ -1,4 +1,7 @@
 -- The router across takes the fresh link: who stands where, the words, and the bypass a stage further with its next message.
+use Rattle.ipcz_world.proofs.frames.Sourcing.{sourced-by, had-one}
+use Rattle.ipcz_word.specs.Word.{Word}
+use Rattle.ipcz_world.proofs.frames.Unmoved.{side_node-agree}
 use Rattle.std.specs.Prelude.{◌≡◌, ◌≢◌, ◌⊎◌, ◌≤◌, ℕ, ◌+◌, Bool, true, false, cond, ◌&&◌, nat_eq, is_some, is_none, not, Option, Some, None}
 use Rattle.std.specs.Prelude.{unwrap_or, refl}
 use Rattle.std.proofs.Common.{arith, ap, ◌∙◌, sym, inl, inr}
@@ -155,8 +158,22 @@ module _ {w : World} {b : Books} {g : Records} {from : ℕ} {k : Key} {r : Route
         (ap (λ c. has c.holder s) (sym (word_same i)) ∙ a);
     one_holder = λ i s t a c. (words_of law).one_holder i s t (ap (λ c'. has c'.holder s) (sym (word_same i)) ∙ a)
         (ap (λ c'. has c'.holder t) (sym (word_same i)) ∙ c);
+    source = sourced-by w v (had-one w v k r x (router_j law can) (λ m. absurd (x_free m)))
+        (λ q t d i at p l. ap (λ (c : Word). c.source) (word_same i)) (words_of law).source;
+    begun_source = λ j n l. ap (λ (c : Word). c.source) (word_same j) ∙
+        (words_of law).begun_source j (sym ((agree law can).is_begun j) ∙ n) (was_early j l (at_o law can j)) ∙
+        ap Some (sym (side_node-agree g h (agree law can) (inner_link (g.bypass j).inner) B) ∙
+        ap (λ p. side_node h (inner_link p) B) (sym ((agree law can).inner j)));
   }
     where
+      x_free : x.holds ≡ true → ⊥
+      x_free m = cc
+
+      was_early : (j : ℕ) → (h.bypass j).stage ≤ 2 → ((nat_eq j o ≡ true) × (j ≡ o)) ⊎ ((nat_eq j o ≡ false) × (j ≢ o)) →
+          (g.bypass j).stage ≤ 2
+      was_early j l (inl c) = absurd (omega (arith, rw c.0 at l))
+      was_early j l (inr c) = rw c.0 at l
+
       known_at : (i : ℕ) (s : Side) (test : Router → Bool) (q : Option Key) → side_router g (Central i) s ≡ q →
           is_linked (g.owner i) ≡ true → is_begun (g.bypass i) ≡ false → key_passes w q test ≡ key_passes v q test
       known_at i s test None m l b' = grind (arith, standing_rules)

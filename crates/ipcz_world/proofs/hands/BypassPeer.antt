@@ -1,4 +1,5 @@
 -- The router inward is told of a bypass and takes the fresh link: the invariant is kept.
+use Rattle.ipcz_world.proofs.hands.BypassPeerStages.{live-peer}
 use Rattle.std.specs.Prelude.{ℕ, ◌+◌}
 use Rattle.std.proofs.Common.{ap, ◌∙◌, sym}
 use Rattle.ipcz_world.proofs.Vocabulary.{Side, LinkId, Message, opposite, EndPlaces, BooksKept, Conserved, HeldOnce, times_held, Router}
@@ -48,6 +49,7 @@ module _ (w : World) (b : Books) (g : Records) (from : ℕ) (k : Key) (r : Route
     words = words-peer law can;
     spares = spares-peer law can;
     bypasses = bypasses-peer law can;
+    live = live-peer law can;
     stages = stages-peer law can;
     told = told-peer law can;
     moves = moves-peer law can (moves-kept w v g g k r x (changed law can) (refl-agree law can) (carried law can) (descriptors law can)

@@ -190,7 +190,8 @@ module _ {w : World} {b : Books} {g : Records} {from : ℕ} {k : Key} {r : Route
           (outward_b d p l ((links_of law).primary_outward q t d c.1 m)))
       primary_inner_at q t d p j m l n (inr c) (inr a) = rw a.0 ((positions_of law).primary_inner q t d p j c.1 m l n)
 
-      decaying_at : (q : Key) (t : Router) (d : LinkEnd) → t.outward.decaying ≡ Some d → OneOrBefore w k x q t → is_some (bypass_of g d.link) ≡ true
+      decaying_at : (q : Key) (t : Router) (d : LinkEnd) → t.outward.decaying ≡ Some d → OneOrBefore w k x q t → is_some
+          (bypass_of g d.link) ≡ true
       decaying_at q t d p (inl m) = ap (λ l. is_some (bypass_of g l)) (x_dec t d m.1 p).0 ∙ ap is_some
           (bypass_of-inner g (g.bypass o).inner ∙ by_o law can)
       decaying_at q t d p (inr m) = (positions_of law).decaying q t d m.1 p

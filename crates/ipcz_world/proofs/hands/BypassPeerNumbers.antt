@@ -361,7 +361,8 @@ module _ {w : World} {b : Books} {g : Records} {from : ℕ} {k : Key} {r : Route
           rw c ((proxy_numbers_of law).inner_gone j t m (rw c at l) (sym (view_same law can (inner_of g j) B refl).gone ∙ n'))
 
       out_finished_at : (j : ℕ) (t : Router) → router_at v (g.bypass j).proxy ≡ Some t → 4 ≤ (h.bypass j).stage →
-          t.outward.decaying ≡ None → nat_eq j o ≡ false → OneOrBefore w k x (g.bypass j).proxy t → (h.bypass j).taken_at ≤ t.out_queue.current
+          t.outward.decaying ≡ None → nat_eq j o ≡ false → OneOrBefore w k x (g.bypass j).proxy t →
+          (h.bypass j).taken_at ≤ t.out_queue.current
       out_finished_at j t m l n c (inl a) = absurd (grind (arith, on law can, ap (λ q. q.outward.decaying) a.1 ∙ n))
       out_finished_at j t m l n c (inr a) = rw c ((proxy_numbers_of law).out_finished j t a.1 (rw c at l) n)
 

@@ -1,4 +1,14 @@
 -- The router inward takes the fresh link: who stands where, the words, and where the terminals are.
+use Rattle.ipcz_world.proofs.frames.LiveLinks.{first_begun}
+use Rattle.ipcz_world.specs.Bypasses.{LiveLinks}
+use Rattle.ipcz_world.proofs.frames.Sealing.{live_of}
+use Rattle.ipcz_world.proofs.hands.BypassPeerAround.{r_pair, two, central_same, begun_apart, stage_at}
+use Rattle.ipcz_world.proofs.facts.Tests.{nat_eq-itself}
+use Rattle.std.proofs.Common.{true≢false}
+use Rattle.ipcz_world.proofs.Vocabulary.{side_node}
+use Rattle.ipcz_world.proofs.hands.BypassPeerAround.{node_same}
+use Rattle.ipcz_world.proofs.frames.Sourcing.{sourced-by, had-one}
+use Rattle.ipcz_word.specs.Word.{Word}
 use Rattle.ipcz_world.proofs.weights.OfRecords.{none_stable, none_holder}
 use Rattle.std.specs.Prelude.{◌≡◌, ◌≢◌, ◌⊎◌, ◌≤◌, ℕ, Bool, true, false, cond, ◌&&◌, nat_eq, is_some, is_none, not, Option, Some, None}
 use Rattle.std.specs.Prelude.{unwrap_or, refl}
@@ -150,6 +160,63 @@ module _ {w : World} {b : Books} {g : Records} {from : ℕ} {k : Key} {r : Route
       awaited_side_at i s j l n m (inr t) = (stands_of law).awaited_side i s j (linked_back law can i l t.0) (router_before i s t.0 n)
           (born_before i j t.0 m) ∙ sym (across_side_same law can j)
 
+  -- the fresh link is the pair's live one from now on
+  pub live-peer : LiveLinks h
+  unfolding is_linked
+  live-peer = record {
+    one_live = λ i j a c e n m. one i j a c e n m (at_fresh law can i) (at_fresh law can j);
+    none_live = λ q i s a e. none q i s a e (at_o law can q) (at_fresh law can i);
+    one_begun = λ q j s t e. begun_one q j s t e (at_o law can q) (at_o law can j);
+  }
+    where
+      At : ℕ → ℕ → Type 0
+      At i j = ((nat_eq i j ≡ true) × (i ≡ j)) ⊎ ((nat_eq i j ≡ false) × (i ≢ j))
+
+      stage_o : (h.bypass o).stage ≡ 2
+      stage_o = stage_at law can o ∙ ap (λ t. cond t 2 (g.bypass o).stage) (nat_eq-itself o)
+
+      -- the fresh link is of the old one's pair, and other links are of the pairs that they were of
+      fresh_pair : (h.central fresh).pair ≡ (g.central o).pair
+      fresh_pair = rw (nat_eq-itself fresh) (r_pair law can)
+
+      old_pair : (i : ℕ) → nat_eq i fresh ≡ false → (h.central i).pair ≡ (g.central i).pair
+      old_pair i n = ap (λ c. c.pair) (central_same law can i n)
+
+      was_stage : (q : ℕ) → At q o → (h.bypass q).stage ≡ 1 → (g.bypass q).stage ≡ 1
+      was_stage q (inl n) s = absurd (omega (arith, ap (λ j. (h.bypass j).stage) n.1, stage_o, s))
+      was_stage q (inr n) s = sym (two law can q n.0) ∙ s
+
+      begun_word : (q : ℕ) → (g.bypass q).stage ≡ 1 → nat_eq q fresh ≡ false
+      begun_word q s = begun_apart law can q (first_begun (g.bypass q).stage s)
+
+      not_live : (j : ℕ) → is_linked (g.owner j) ≡ true → (g.central j).pair ≡ (g.central o).pair → is_begun (h.bypass j) ≡ false → ⊥
+      not_live j c e m = true≢false (sym (is_begun_same law can j ∙ (live_of law).none_live o j (is law can).stage c e) ∙ m)
+
+      one : (i j : ℕ) → is_linked (h.owner i) ≡ true → is_linked (h.owner j) ≡ true → (h.central i).pair ≡ (h.central j).pair →
+          is_begun (h.bypass i) ≡ false → is_begun (h.bypass j) ≡ false → At i fresh → At j fresh → i ≡ j
+      one i j a c e n m (inl x) (inl y) = x.1 ∙ sym y.1
+      one i j a c e n m (inl x) (inr y) = absurd (not_live j (linked_back law can j c y.0)
+          (sym (old_pair j y.0) ∙ sym e ∙ ap (λ t. (h.central t).pair) x.1 ∙ fresh_pair) m)
+      one i j a c e n m (inr x) (inl y) = absurd (not_live i (linked_back law can i a x.0)
+          (sym (old_pair i x.0) ∙ e ∙ ap (λ t. (h.central t).pair) y.1 ∙ fresh_pair) n)
+      one i j a c e n m (inr x) (inr y) = (live_of law).one_live i j (linked_back law can i a x.0) (linked_back law can j c y.0)
+          (sym (old_pair i x.0) ∙ e ∙ old_pair j y.0) (sym (is_begun_same law can i) ∙ n) (sym (is_begun_same law can j) ∙ m)
+
+      none : (q i : ℕ) → (h.bypass q).stage ≡ 1 → is_linked (h.owner i) ≡ true → (h.central i).pair ≡ (h.central q).pair → At q o →
+          At i fresh → is_begun (h.bypass i) ≡ true
+      none q i s a e n (inl y) = let t : (g.bypass q).stage ≡ 1 = was_stage q n s in
+          let same : q ≡ o = (live_of law).one_begun q o t (is law can).stage
+          (sym (old_pair q (begun_word q t)) ∙ sym e ∙ ap (λ z. (h.central z).pair) y.1 ∙ fresh_pair) in
+          absurd (omega (arith, ap (λ j. (h.bypass j).stage) same, stage_o, s))
+      none q i s a e n (inr y) = let t : (g.bypass q).stage ≡ 1 = was_stage q n s in
+          is_begun_same law can i ∙ (live_of law).none_live q i t (linked_back law can i a y.0)
+          (sym (old_pair i y.0) ∙ e ∙ old_pair q (begun_word q t))
+
+      begun_one : (q j : ℕ) → (h.bypass q).stage ≡ 1 → (h.bypass j).stage ≡ 1 → (h.central q).pair ≡ (h.central j).pair → At q o → At j o →
+          q ≡ j
+      begun_one q j s t e n m = let a : (g.bypass q).stage ≡ 1 = was_stage q n s in let c : (g.bypass j).stage ≡ 1 = was_stage j m t in
+          (live_of law).one_begun q j a c (sym (old_pair q (begun_word q a)) ∙ e ∙ old_pair j (begun_word j c))
+
   word_same : (i : ℕ) → word_at v i ≡ word_at w i
   word_same = word-handed_on w from k x target sent
 
@@ -170,8 +237,20 @@ module _ {w : World} {b : Books} {g : Records} {from : ℕ} {k : Key} {r : Route
         (ap (λ c. has c.holder s) (sym (word_same i)) ∙ a);
     one_holder = λ i s t a d. (words_of law).one_holder i s t (ap (λ c. has c.holder s) (sym (word_same i)) ∙ a)
         (ap (λ c. has c.holder t) (sym (word_same i)) ∙ d);
+    source = sourced-by w v (had-one w v k r x (router_j law can) (λ m. absurd (x_free m)))
+        (λ q t d i at p l. ap (λ (c : Word). c.source) (word_same i)) (words_of law).source;
+    begun_source = λ j n l. ap (λ (c : Word). c.source) (word_same j) ∙
+        (words_of law).begun_source j (sym (is_begun_same law can j) ∙ n) (was_early j l) ∙
+        ap Some (sym (node_same law can (inner_link (g.bypass j).inner) B refl ∙ ap (λ p. side_node g (inner_link p) B) refl) ∙
+        ap (λ p. side_node h (inner_link p) B) (sym (inner_same law can j)));
   }
     where
+      x_free : x.holds ≡ true → ⊥
+      x_free m = cc
+
+      was_early : (j : ℕ) → (h.bypass j).stage ≤ 2 → (g.bypass j).stage ≤ 2
+      was_early j l = grind (arith, stage_at law can j, at_o law can j, (is law can).stage, l)
+
       unused_at : (i : ℕ) → is_linked (h.owner i) ≡ false → New i → word_at w i ≡ empty_word
       unused_at i l (inl t) = (words_of law).unused i (ap (λ j. is_linked (g.owner j)) t.1 ∙ not_linked law can)
       unused_at i l (inr t) = (words_of law).unused i (ap is_linked (sym (owner_same law can i t.0)) ∙ l)

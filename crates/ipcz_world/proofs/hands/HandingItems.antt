@@ -1,5 +1,6 @@
 -- A node that handles an item makes the terminals of its descriptors and gives the item to the router that it is for: all that holds is
 -- kept.
+use Rattle.ipcz_world.specs.WordAnswers.{source_for}
 use Rattle.std.specs.Prelude.{◌≡◌, ◌≢◌, ◌<◌, ◌+◌, ◌*◌, ℕ, suc, Bool, true, false, cond, ◌||◌, nat_eq, if◌then◌else◌, Some, None, refl, List}
 use Rattle.std.specs.Prelude.{[], ◌∷◌, map, slice_get}
 use Rattle.std.specs.FinMap.{get}
@@ -154,7 +155,7 @@ module _ (w : World) (b : Books) (g : Records) (from n : ℕ) (l : LinkId) (s : 
   low : a.serial < (node_at w n).next_router
   low = law.counts.serial k a.router a.here
 
-  delivered : deliver (node_at w n) from m ≡ taken_node w from n a.serial y moves
+  delivered : deliver (node_at w n) from m (source_for w m) ≡ taken_node w from n a.serial y moves
   unfolding deliver handle on_found
   delivered =
       rw (

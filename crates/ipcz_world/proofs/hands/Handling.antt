@@ -1,4 +1,11 @@
 -- A message in hand finds its router and fits there: what a node does with it is the update that the bypass's stage expects.
+use Rattle.std.specs.Prelude.{nat_eq, nat_lt}
+use Rattle.ipcz_world.proofs.Vocabulary.{side_node}
+use Rattle.ipcz_world.proofs.Vocabulary.{word_at}
+use Rattle.ipcz_world.proofs.views.Sources.{accept_source}
+use Rattle.ipcz_router.specs.Bypass.{is_source}
+use Rattle.ipcz_world.proofs.facts.Tests.{nat_eq-itself}
+use Rattle.ipcz_world.specs.WordAnswers.{source_for}
 use Rattle.std.specs.Prelude.{◌≡◌, ◌<◌, ◌≤◌, ℕ, Bool, true, false, nat_lt, nat_le, Option, Some, None, is_some, is_none, refl}
 use Rattle.std.proofs.Common.{arith, ap, subst, ◌∙◌, sym, inl, inr}
 use Rattle.std.proofs.lemmas.Bool.Decides.{nat_tests}
@@ -92,7 +99,8 @@ module _ (w : World) (b : Books) (g : Records) (law : Inv w b g) where
   pub peer_fits : (n from o : ℕ) (link : LinkId) (side : Side) (target fresh : ℕ) →
       IsInHand w n from (messages.BypassPeer link side o target fresh) → (f : Found) → link_router (node_at w n) link side ≡ Some f →
       CanHand w from (record { node = n; serial = f.serial }) f.router (messages.BypassPeer link side o target fresh) →
-      router_has f.router link side ≡ true → fits (node_at w n) from (messages.BypassPeer link side o target fresh) ≡ true
+      router_has f.router link side ≡ true → fits (node_at w n) from (messages.BypassPeer link side o target fresh)
+      (source_for w (messages.BypassPeer link side o target fresh)) ≡ true
   unfolding fits passes_at is_central is_linked
   peer_fits n from o link side target fresh is f e can has =
       let at : IsPeer g from n o link side target fresh = peer_told w g from n 0 o link side target fresh law.told
@@ -105,7 +113,8 @@ module _ (w : World) (b : Books) (g : Records) (law : Inv w b g) where
       r : Router
       r = f.router
 
-      go : IsPeer g from n o link side target fresh → fits (node_at w n) from (messages.BypassPeer link side o target fresh) ≡ true
+      go : IsPeer g from n o link side target fresh → fits (node_at w n) from (messages.BypassPeer link side o target fresh)
+          (source_for w (messages.BypassPeer link side o target fresh)) ≡ true
       go at =
           let mine : HasAt w g k r link side = has_at w g k r link side law.links can.here has in
           let known : side_router g (inner_of g o) B ≡ Some k = subst (λ l. side_router g l B ≡ Some k) at.on_link
@@ -155,7 +164,8 @@ module _ (w : World) (b : Books) (g : Records) (law : Inv w b g) where
   accept_fits : (n from o : ℕ) (side : Side) (fresh length : ℕ) → IsInHand w n from (messages.AcceptBypass o side fresh length) →
       (f : Found) → link_router (node_at w n) (Central o) side ≡ Some f →
       router_at w (record { node = n; serial = f.serial }) ≡ Some f.router → router_has f.router (Central o) side ≡ true →
-      (fits (node_at w n) from (messages.AcceptBypass o side fresh length) ≡ true) × (has_primary (Central o) side f.router ≡ true)
+      (fits (node_at w n) from (messages.AcceptBypass o side fresh length)
+      (source_for w (messages.AcceptBypass o side fresh length)) ≡ true) × (has_primary (Central o) side f.router ≡ true)
   unfolding fits passes_at
   accept_fits n from o side fresh length is f e here has = go (accept_told w g from n 0 o side fresh length law.told
       (under_way-hand w n from (messages.AcceptBypass o side fresh length) is))
@@ -166,7 +176,9 @@ module _ (w : World) (b : Books) (g : Records) (law : Inv w b g) where
       r : Router
       r = f.router
 
-      go : IsAccept g from n o side fresh length → (fits (node_at w n) from (messages.AcceptBypass o side fresh length) ≡ true) ×
+      go : IsAccept g from n o side fresh length →
+          (fits (node_at w n) from (messages.AcceptBypass o side fresh length)
+          (source_for w (messages.AcceptBypass o side fresh length)) ≡ true) ×
           (has_primary (Central o) side r ≡ true)
       go at =
           let begun : is_begun (g.bypass o) ≡ true = grind (arith, at.stage, nat_tests) in
@@ -181,7 +193,7 @@ module _ (w : World) (b : Books) (g : Records) (law : Inv w b g) where
           let still : edge_decays r.outward ≡ false = grind (arith, law.shape.marked_still k r here marked) in
           let new : is_named (node_at w n) (Central fresh) side ≡ false =
           unnamed n (Central fresh) side (λ q y there named. awaited at (has_at w g q y (Central fresh) side law.links there named)) in
-          (rw (e, primary, still, new) refl, primary)
+          (rw (e, primary, still, new) (accept_source w b g n from o side fresh length law at), primary)
         where
           awaited : {q : Key} {y : Router} → IsAccept g from n o side fresh length → HasAt w g q y (Central fresh) side → ⊥
           awaited {q} {y} at h = none-some q (sym (law.bypasses.fresh_awaited o at.stage) ∙ subst
@@ -224,7 +236,8 @@ module _ (w : World) (b : Books) (g : Records) (law : Inv w b g) where
       IsInHand w n from (messages.StopProxying o side in_length out_length) → (f : Found) →
       link_router (node_at w n) (Central o) side ≡ Some f →
       router_at w (record { node = n; serial = f.serial }) ≡ Some f.router → router_has f.router (Central o) side ≡ true →
-      (fits (node_at w n) from (messages.StopProxying o side in_length out_length) ≡ true) × (e : LinkEnd) ×
+      (fits (node_at w n) from (messages.StopProxying o side in_length out_length)
+      (source_for w (messages.StopProxying o side in_length out_length)) ≡ true) × (e : LinkEnd) ×
       ((inward_edge f.router).decaying ≡ Some e)
   unfolding fits passes_at
   stop_fits n from o side in_length out_length is f e here has = go
@@ -237,7 +250,9 @@ module _ (w : World) (b : Books) (g : Records) (law : Inv w b g) where
       r : Router
       r = f.router
 
-      go : IsStop g from n o side in_length out_length → (fits (node_at w n) from (messages.StopProxying o side in_length out_length) ≡
+      go : IsStop g from n o side in_length out_length →
+          (fits (node_at w n) from (messages.StopProxying o side in_length out_length)
+          (source_for w (messages.StopProxying o side in_length out_length)) ≡
           true) × (e : LinkEnd) × ((inward_edge r).decaying ≡ Some e)
       go at =
           let begun : is_begun (g.bypass o) ≡ true = grind (arith, at.stage, nat_tests) in
@@ -293,7 +308,8 @@ module _ (w : World) (b : Books) (g : Records) (law : Inv w b g) where
   will_stop_fits : (n from : ℕ) (link : LinkId) (side : Side) (in_length : ℕ) →
       IsInHand w n from (messages.ProxyWillStop link side in_length) → (f : Found) → link_router (node_at w n) link side ≡ Some f →
       router_at w (record { node = n; serial = f.serial }) ≡ Some f.router → router_has f.router link side ≡ true →
-      (fits (node_at w n) from (messages.ProxyWillStop link side in_length) ≡ true) × (o : ℕ) × (bypass_of g link ≡ Some o)
+      (fits (node_at w n) from (messages.ProxyWillStop link side in_length)
+      (source_for w (messages.ProxyWillStop link side in_length)) ≡ true) × (o : ℕ) × (bypass_of g link ≡ Some o)
   unfolding fits passes_at
   will_stop_fits n from link side in_length is f e here has =
       let c = will_stop_told w g from n 0 link side in_length law.told
@@ -306,7 +322,8 @@ module _ (w : World) (b : Books) (g : Records) (law : Inv w b g) where
       r : Router
       r = f.router
 
-      go : (o : ℕ) → IsWillStop g from n o link side in_length → fits (node_at w n) from (messages.ProxyWillStop link side in_length) ≡ true
+      go : (o : ℕ) → IsWillStop g from n o link side in_length → fits (node_at w n) from (messages.ProxyWillStop link side in_length)
+          (source_for w (messages.ProxyWillStop link side in_length)) ≡ true
       go o at =
           let mine : HasAt w g k r link side = has_at w g k r link side law.links here has in
           let known : side_router g (inner_of g o) B ≡ Some k = subst (λ l. side_router g l B ≡ Some k) at.on_link

@@ -1,4 +1,5 @@
 -- An item in the hand of a node finds the router that it is for, and fits there, so it is never kept as a stray.
+use Rattle.ipcz_world.specs.WordAnswers.{source_for}
 use Rattle.std.specs.Prelude.{◌≡◌, ◌≢◌, ◌≤◌, ◌<◌, ◌+◌, ℕ, suc, Bool, true, false, cond, not, ◌&&◌, ◌||◌, nat_eq, nat_le, nat_lt, is_some}
 use Rattle.std.specs.Prelude.{if◌then◌else◌, Option, Some, None, refl, List, [], ◌∷◌, ◌++◌, map, length, drop, slice_get}
 use Rattle.std.proofs.Common.{arith, ap, subst, ◌∙◌, sym, inl, inr}
@@ -267,7 +268,7 @@ module _ (w : World) (b : Books) (g : Records) (from n : ℕ) (l : LinkId) (s : 
   outward = outward_is w g k r l s law.links asked.here asked.on
 
   -- the item fits
-  pub item-fits : fits (node_at w n) from (messages.Item l s number item moves) ≡ true
+  pub item-fits : fits (node_at w n) from (messages.Item l s number item moves) (source_for w (messages.Item l s number item moves)) ≡ true
   unfolding fits fits_item
   item-fits = ap (fits_item (node_at w n) from l s number item moves) found ∙ and_from (has_place_for r (outward_has r l s) number)
       (fits_from (node_at w n) from item moves) (ap (λ c. has_place_for r c number) outward ∙ has_its_place) has_its_moves

@@ -128,6 +128,7 @@ module _ (w v : World) (b : Books) (g : Records) (a : ℕ) (q p : Key) (d : Desc
       words = words-made law is t;
       spares = spares-made law is t;
       bypasses = bypasses-made law is t;
+      live = record { one_live = law.live.one_live; none_live = law.live.none_live; one_begun = law.live.one_begun };
       stages = stages-made law is t;
       told = told-made law is t r away ends;
       moves = moves-made law is t r away ends;

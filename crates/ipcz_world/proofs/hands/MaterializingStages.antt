@@ -1,4 +1,6 @@
 -- A descriptor becomes a terminal: who stands where, the words, the bypasses, and where the terminals are.
+use Rattle.ipcz_world.proofs.frames.Sourcing.{sourced-by, had-itself}
+use Rattle.ipcz_word.specs.Word.{Word}
 use Rattle.std.specs.Prelude.{◌≡◌, ◌⊎◌, ◌≤◌, ℕ, Bool, true, false, not, ◌&&◌, Option, Some, None, is_some, refl}
 use Rattle.std.proofs.Common.{arith, ap, subst, ◌∙◌, sym, inl, inr}
 use Rattle.ipcz_world.proofs.Vocabulary.{Side, A, B, End, Central, Descriptor, opposite, same_side, has, same_link, same_end}
@@ -91,6 +93,12 @@ module _ {w v : World} {b : Books} {g : Records} {a : ℕ} {q p : Key} {d : Desc
         (ap (λ z. has z.holder s) (sym (t.word i)) ∙ e);
     one_holder = λ i s u e f. law.words.one_holder i s u (ap (λ z. has z.holder s) (sym (t.word i)) ∙ e)
         (ap (λ z. has z.holder u) (sym (t.word i)) ∙ f);
+    source = sourced-by w v (λ x z at h. elim (was_there law is t x z at) [
+      | inl o ↦ had-itself w x z o.0
+      | inr o ↦ absurd (grind (arith, ap (λ (u : Router). u.holds) o.0, h))
+    ]) (λ x z e i at p l. ap (λ (u : Word). u.source) (t.word i)) law.words.source;
+    begun_source = λ o s l. ap (λ (u : Word). u.source) (t.word o) ∙ law.words.begun_source o s l ∙ ap Some
+        (sym (node_same law is t (inner_link (g.bypass o).inner) B));
   }
 
   pub spares-made : Spares v h

@@ -1,4 +1,6 @@
 -- The router inward learns its length: the last message of a bypass.
+use Rattle.ipcz_world.proofs.frames.LiveLinks.{live-kept}
+use Rattle.ipcz_world.proofs.frames.Sealing.{live_of}
 use Rattle.ipcz_world.proofs.Vocabulary.{Weight, in_router, Side, B, End, LinkId, Central, LinkEnd, Descriptor, Message, opposite}
 use Rattle.ipcz_world.proofs.Vocabulary.{has_link, Router, router_has, inward_edge, World, Key, same_key, mail_at, way, router_at, Books}
 use Rattle.ipcz_world.proofs.Vocabulary.{Records, is_begun, inner_link, side_router, bypass_of, proxy_side, across_side, known_from}
@@ -315,6 +317,7 @@ module _ (w : World) (b : Books) (g : Records) (from : ℕ) (k : Key) (r : Route
     words = further.words-further law changed like linked carried is.stage late early (word-handed w from k x);
     spares = spares-kept w v g h k r x changed agree like (λ i. refl) (λ j st. grind (arith, st, at_o j, is.stage)) (spares_of law);
     bypasses = further.bypasses-further law changed like linked carried is.stage late early;
+    live = live-kept g h (λ i l. l) (λ i. refl) (λ j st. grind (arith, st, at_o j, is.stage)) agree.is_begun (live_of law);
     stages = further.stages-further law changed like linked carried is.stage late early;
     told = told-end;
     moves = moves-kept w v g h k r x changed agree carried descriptors (moves_law law);

@@ -1,4 +1,6 @@
 -- The proxy learns its lengths, and tells the router inward.
+use Rattle.ipcz_world.proofs.frames.LiveLinks.{live-kept}
+use Rattle.ipcz_world.proofs.frames.Sealing.{live_of}
 use Rattle.ipcz_world.proofs.Vocabulary.{Weight, in_router, Side, A, B, End, LinkId, Central, LinkEnd, Descriptor, Item, Message}
 use Rattle.ipcz_world.proofs.Vocabulary.{opposite, has_link, Router, router_has, inward_edge, Edge, World, Key, same_key, mail_at, way}
 use Rattle.ipcz_world.proofs.Vocabulary.{router_at, Books, Records, is_begun, inner_link, side_node, side_router, bypass_of, proxy_side}
@@ -254,7 +256,8 @@ module _ (w : World) (b : Books) (g : Records) (from : ℕ) (k : Key) (r : Route
     across_from = λ q t d j a m l n. (positions_of law).across_from q t d j (across_at q t d j m l n (split q t a)) m l n;
   }
     where
-      inward_to_at : (q : Key) (t : Router) (d : LinkEnd) (j : ℕ) → (inward_edge t).decaying ≡ Some d → g.begun q ≡ Some j → OneOrBefore w k x q t →
+      inward_to_at : (q : Key) (t : Router) (d : LinkEnd) (j : ℕ) → (inward_edge t).decaying ≡ Some d → g.begun q ≡ Some j →
+          OneOrBefore w k x q t →
           At j → (inward_edge t).length_to ≡ known_from 4 (h.bypass j).stage (g.bypass j).accepted_at
       inward_to_at q t d j p n (inl m) a = let same : o ≡ j = begun_is q j m.0 n in
           ap (λ u. (inward_edge u).length_to) (sym m.1) ∙ (edge_learned r.inward e on).0 ∙ ap Some is.accepted ∙ sym
@@ -262,7 +265,8 @@ module _ (w : World) (b : Books) (g : Records) (from : ℕ) (k : Key) (r : Route
       inward_to_at q t d j p n (inr m) (inl a) = absurd (begun_apart q j m.0 n a.0 a.1)
       inward_to_at q t d j p n (inr m) (inr a) = rw a.0 ((positions_of law).inward_to q t d j m.1 p n)
 
-      inward_from_at : (q : Key) (t : Router) (d : LinkEnd) (j : ℕ) → (inward_edge t).decaying ≡ Some d → g.begun q ≡ Some j → OneOrBefore w k x q t →
+      inward_from_at : (q : Key) (t : Router) (d : LinkEnd) (j : ℕ) → (inward_edge t).decaying ≡ Some d → g.begun q ≡ Some j →
+          OneOrBefore w k x q t →
           At j → (inward_edge t).length_from ≡ known_from 4 (h.bypass j).stage (g.bypass j).taken_at
       inward_from_at q t d j p n (inl m) a = let same : o ≡ j = begun_is q j m.0 n in
           ap (λ u. (inward_edge u).length_from) (sym m.1) ∙ (edge_learned r.inward e on).1 ∙ ap Some is.taken ∙ sym
@@ -270,7 +274,8 @@ module _ (w : World) (b : Books) (g : Records) (from : ℕ) (k : Key) (r : Route
       inward_from_at q t d j p n (inr m) (inl a) = absurd (begun_apart q j m.0 n a.0 a.1)
       inward_from_at q t d j p n (inr m) (inr a) = rw a.0 ((positions_of law).inward_from q t d j m.1 p n)
 
-      inner_at : (q : Key) (t : Router) (d : LinkEnd) (p : Key) → t.outward.decaying ≡ Some d → d.link ≡ inner_link p → OneOrBefore w k x q t →
+      inner_at : (q : Key) (t : Router) (d : LinkEnd) (p : Key) → t.outward.decaying ≡ Some d → d.link ≡ inner_link p →
+          OneOrBefore w k x q t →
           router_at w q ≡ Some t
       inner_at q t d p m l (inl c) = absurd (not_both o p (sym (x_dec t d c.1 m).0 ∙ l))
       inner_at q t d p m l (inr c) = c.1
@@ -287,7 +292,8 @@ module _ (w : World) (b : Books) (g : Records) (from : ℕ) (k : Key) (r : Route
           proxy_is)
 
       own_to_at : (q : Key) (t : Router) (d : LinkEnd) (j : ℕ) → t.outward.decaying ≡ Some d → d.link ≡ Central j →
-          d.side ≡ proxy_side g j → OneOrBefore w k x q t → At j → t.outward.length_to ≡ known_from 4 (h.bypass j).stage (g.bypass j).taken_at
+          d.side ≡ proxy_side g j → OneOrBefore w k x q t → At j → t.outward.length_to ≡ known_from 4 (h.bypass j).stage
+          (g.bypass j).taken_at
       own_to_at q t d j m l n (inl c) a = let same : o ≡ j = central_is o j (sym (x_dec t d c.1 m).0 ∙ l) in
           ap (λ u. u.outward.length_to) (sym c.1) ∙ ap Some is.taken ∙ sym (known4 (g.bypass o).taken_at) ∙ ap
           (λ i. known_from 4 (h.bypass i).stage (g.bypass i).taken_at) same
@@ -295,7 +301,8 @@ module _ (w : World) (b : Books) (g : Records) (from : ℕ) (k : Key) (r : Route
       own_to_at q t d j m l n (inr c) (inr a) = rw a.0 ((positions_of law).own_to q t d j c.1 m l n)
 
       own_from_at : (q : Key) (t : Router) (d : LinkEnd) (j : ℕ) → t.outward.decaying ≡ Some d → d.link ≡ Central j →
-          d.side ≡ proxy_side g j → OneOrBefore w k x q t → At j → t.outward.length_from ≡ known_from 4 (h.bypass j).stage (g.bypass j).accepted_at
+          d.side ≡ proxy_side g j → OneOrBefore w k x q t → At j → t.outward.length_from ≡ known_from 4 (h.bypass j).stage
+          (g.bypass j).accepted_at
       own_from_at q t d j m l n (inl c) a = let same : o ≡ j = central_is o j (sym (x_dec t d c.1 m).0 ∙ l) in
           ap (λ u. u.outward.length_from) (sym c.1) ∙ ap Some is.accepted ∙ sym (known4 (g.bypass o).accepted_at) ∙ ap
           (λ i. known_from 4 (h.bypass i).stage (g.bypass i).accepted_at) same
@@ -456,6 +463,7 @@ module _ (w : World) (b : Books) (g : Records) (from : ℕ) (k : Key) (r : Route
         (word-handed_on w from k x e.other sent);
     spares = spares-kept w v g h k r x changed agree like (λ i. refl) (λ j st. grind (arith, st, at_o j, is.stage)) (spares_of law);
     bypasses = further.bypasses-further law changed like linked carried is.stage late early;
+    live = live-kept g h (λ i l. l) (λ i. refl) (λ j st. grind (arith, st, at_o j, is.stage)) agree.is_begun (live_of law);
     stages = further.stages-further law changed like linked carried is.stage late early;
     told = told-stop;
     moves = moves-kept w v g h k r x changed agree carried descriptors (moves_law law);

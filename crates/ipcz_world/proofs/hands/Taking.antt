@@ -417,6 +417,7 @@ inv-taken w b g from k r l s n item law is = record {
   words = words-touched w v k r y g t a.alike law.words;
   spares = spares-touched w v k r y g t a.alike law.spares;
   bypasses = bypasses-touched w v k r y g t a.alike law.bypasses;
+  live = law.live;
   stages = stages-touched w v k r y g t a.alike law.stages;
   told = told-taken w v b g from k r y l s n item law is a t p;
   moves = moves-taken w v b g from k r y l s n item law is a t p;

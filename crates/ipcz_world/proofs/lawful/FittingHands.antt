@@ -1,4 +1,5 @@
 -- Each message in a node's hand fits there, a Flush aside: else the node would have a stray after handling it.
+use Rattle.ipcz_world.specs.WordAnswers.{source_for}
 use Rattle.std.specs.Prelude.{◌≡◌, ◌⊎◌, ℕ, Bool, true, false, cond, not, ◌&&◌, nat_eq, nat_lt, if◌then◌else◌, Option, Some, None, is_some}
 use Rattle.std.specs.Prelude.{refl, List, [], ◌∷◌, ◌++◌}
 use Rattle.std.proofs.Common.{arith, ap, sym, ◌∙◌, inl, inr}
@@ -31,16 +32,20 @@ unfolding fits_item
 named_item n from link s number item moves None f = cc
 named_item n from link s number item moves (Some x) f = refl
 
+first_true : (a b : Bool) → (a && b) ≡ true → a ≡ true
+first_true true b h = refl
+first_true false b h = cc
+
 -- a message that fits, a Flush aside, finds its router
-fit_named : (n : Node) (from : ℕ) (m : Message) → fits n from m ≡ true →
+fit_named : (n : Node) (from : ℕ) (m : Message) (o : Option ℕ) → fits n from m o ≡ true →
     (is_flush m ≡ true) ⊎ (is_named n (link_asked m) (side_asked m) ≡ true)
 unfolding fits is_flush link_asked side_asked
-fit_named n from (messages.Item link s number item moves) f = inr (named_item n from link s number item moves (link_router n link s) f)
-fit_named n from (messages.BypassPeer link s old target fresh) f = inr (named_by (link_router n link s) _ f)
-fit_named n from (messages.AcceptBypass old s fresh length) f = inr (named_by (link_router n (Central old) s) _ f)
-fit_named n from (messages.StopProxying old s in_length out_length) f = inr (named_by (link_router n (Central old) s) _ f)
-fit_named n from (messages.ProxyWillStop link s in_length) f = inr (named_by (link_router n link s) _ f)
-fit_named n from (messages.Flush link s) f = inl refl
+fit_named n from (messages.Item link s number item moves) o f = inr (named_item n from link s number item moves (link_router n link s) f)
+fit_named n from (messages.BypassPeer link s old target fresh) o f = inr (named_by (link_router n link s) _ f)
+fit_named n from (messages.AcceptBypass old s fresh length) o f = inr (named_by (link_router n (Central old) s) _ (first_true _ _ f))
+fit_named n from (messages.StopProxying old s in_length out_length) o f = inr (named_by (link_router n (Central old) s) _ f)
+fit_named n from (messages.ProxyWillStop link s in_length) o f = inr (named_by (link_router n link s) _ f)
+fit_named n from (messages.Flush link s) o f = inl refl
 
 neither : (a b : Bool) → a ≡ true → b ≡ true → not (a && b) ≡ true → ⊥
 neither true true e f u = cc
@@ -52,19 +57,19 @@ one_more [] m e = cc
 one_more (x ∷ ms) m e = cc
 
 -- what leaves no stray fits
-fits_by : (n : Node) (from : ℕ) (m : Message) → (deliver n from m).strays ≡ [] → fits n from m ≡ true
+fits_by : (n : Node) (from : ℕ) (m : Message) (o : Option ℕ) → (deliver n from m o).strays ≡ [] → fits n from m o ≡ true
 unfolding deliver
-fits_by n from m e = go (fits n from m) refl
+fits_by n from m o e = go (fits n from m o) refl
   where
-    go : (c : Bool) → fits n from m ≡ c → c ≡ true
+    go : (c : Bool) → fits n from m o ≡ c → c ≡ true
     go true f = refl
     go false f = absurd (one_more n.strays m (sym (ap (λ c. (if c then handle n from m else add_stray n m).strays) f) ∙ e))
 
 strays_after : (w : World) (n from : ℕ) (m : Message) →
-    (node_at (after_hand w n from (Some m)) n).strays ≡ (deliver (node_at w n) from m).strays
+    (node_at (after_hand w n from (Some m)) n).strays ≡ (deliver (node_at w n) from m (source_for w m)).strays
 unfolding after_hand
 strays_after w n from m =
-    let x = deliver (node_at w n) from m in
+    let x = deliver (node_at w n) from m (source_for w m) in
     let same : nat_eq n n ≡ true = grind (arith, nat_tests) in
     let there : node_at (set_node w n x) n ≡ x = node-set_node w n x n ∙ ap (λ c. cond c x (node_at w n)) same in
     ap (λ (y : Node). y.strays) (node-set_mail (set_node w n x) (way w from n) mails.Empty n ∙ there)
@@ -83,7 +88,7 @@ handed w n from m here = ap (after_hand w n from) here
 pub hands_fit : StepKeepsLawful → HandsFit
 unfolding can_take is_hand_of turn_lacks_serials hand_lacks_serials
 hands_fit keep w b g n from m law l hand here unfit =
-    elim (fit_named (node_at w n) from m fine) [ inl e ↦ e | inr e ↦ absurd (neither _ _ fine e unfit) ]
+    elim (fit_named (node_at w n) from m (source_for w m) fine) [ inl e ↦ e | inr e ↦ absurd (neither _ _ fine e unfit) ]
   where
     possible : can_take w n (Hand from) ≡ true
     possible = let same : nat_eq from from ≡ true = grind (arith, nat_tests) in rw (hand, here, same) refl
@@ -97,12 +102,13 @@ hands_fit keep w b g n from m law l hand here unfit =
     inside : nat_lt n w.count ≡ true
     inside = grind (arith, l, nat_tests)
 
-    fine : fits (node_at w n) from m ≡ true
+    fine : fits (node_at w n) from m (source_for w m) ≡ true
     fine = go (turn_lacks_serials w n (Hand from)) refl
       where
-        go : (c : Bool) → turn_lacks_serials w n (Hand from) ≡ c → fits (node_at w n) from m ≡ true
-        go true e = and_first _ _ (sym (ap (hand_lacks_serials (node_at w n) from) here) ∙ e)
+        go : (c : Bool) → turn_lacks_serials w n (Hand from) ≡ c → fits (node_at w n) from m (source_for w m) ≡ true
+        go true e = and_first _ _ (sym (ap (hand_lacks_serials w n from) here) ∙ e)
         go false e =
             let is : v ≡ after_hand w n from (Some m) = turned w n from inside e ∙ handed w n from m here in
-            fits_by (node_at w n) from m (sym (strays_after w n from m) ∙ ap (λ (u : World). (node_at u n).strays) (sym is) ∙
+            fits_by (node_at w n) from m (source_for w m)
+            (sym (strays_after w n from m) ∙ ap (λ (u : World). (node_at u n).strays) (sym is) ∙
             after.inv.no_strays n)

@@ -1,4 +1,6 @@
 -- The laws of links and of bypasses, from the invariant.
+use Rattle.std.proofs.lemmas.Bool.Decides.{nat_tests}
+use Rattle.ipcz_world.proofs.views.Telling.{peer_told, accept_told}
 use Rattle.std.proofs.Common.{true≢false}
 use Rattle.ipcz_world.proofs.weights.OfRecords.{none_stable}
 use Rattle.std.specs.Prelude.{◌≡◌, ◌≤◌, ℕ, Bool, true, false, not, Option, Some, None, is_some, refl}
@@ -181,6 +183,11 @@ bypass_law w b g law = record {
   outward = λ k r e i here off on. begun_bypassed w b g i law (begun i (rw on at (law.positions.decaying k r e here off)));
   inward = λ k r e i here off on. absurd (grind (arith, law.links.inward_decaying_inward k r e here off, on));
   message = λ from to i m o u names. begun_bypassed w b g o law (old_begun w g from to i m o law.told u names);
+  source = law.words.source;
+  begun_source = λ from to i link s old target fresh u. let at = peer_told w g from to i old link s target fresh law.told u in
+      law.words.begun_source old (grind (arith, at.stage, nat_tests)) (omega (arith, at.stage)) ∙ ap Some (sym at.receiver);
+  taken_source = λ from to i old s fresh length u. let at = accept_told w g from to i old s fresh length law.told u in
+      law.words.begun_source old (grind (arith, at.stage, nat_tests)) (omega (arith, at.stage)) ∙ ap Some (sym at.sender);
 }
   where
     begun : (i : ℕ) → is_some (bypass_of g (Central i)) ≡ true → is_begun (g.bypass i) ≡ true

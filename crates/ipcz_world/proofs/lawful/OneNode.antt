@@ -216,9 +216,9 @@ handle-serial n sender (messages.Flush link side) law = go (link_router n link s
     go None = law
     go (Some f) = law
 
-deliver-serial : (n : Node) (sender : ℕ) (m : Message) → HasNone n → HasNone (deliver n sender m)
+deliver-serial : (n : Node) (sender : ℕ) (m : Message) (o : Option ℕ) → HasNone n → HasNone (deliver n sender m o)
 unfolding deliver
-deliver-serial n sender m law = go (fits n sender m)
+deliver-serial n sender m o law = go (fits n sender m o)
   where
     go : (b : Bool) → HasNone (if b then handle n sender m else record n { strays = n.strays ++ m ∷ [] })
     go true = handle-serial n sender m law
@@ -287,7 +287,7 @@ alone-kept = record {
   open_pair = λ n i law. law;
   pending = pending-serial;
   router = λ w b g n s act r law ln is here may. router-serial w b g n s act (answer_of w r act) law ln is;
-  deliver = λ n from m law h. deliver-serial n from m law;
+  deliver = λ n from m o law h. deliver-serial n from m o law;
 }
   where
     here : (w : World) (n : ℕ) (x : Node) → IsAlone w → HasNone x → (j : ℕ) (c : Bool) → HasNone (cond c x (node_at w j))

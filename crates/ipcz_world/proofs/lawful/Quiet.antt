@@ -181,7 +181,8 @@ out-delivered w b g k r law flagged quiet here t n = go (item_at r.out_queue n) 
       reached,
     ))
 
-pub in_node-is : (f : Weight) (g : Records) (n : Node) → in_node f g n ≡ total (λ s r. in_router f r) n.routers + total_list (in_message f g)
+pub in_node-is : (f : Weight) (g : Records) (n : Node) → in_node f g n ≡ total (λ s r. in_router f r) n.routers + total_list
+    (in_message f g)
     n.strays
 unfolding in_node'
 in_node-is f g n = refl

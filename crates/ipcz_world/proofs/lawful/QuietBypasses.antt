@@ -45,7 +45,8 @@ module _ (w : World) (b : Books) (g : Records) (law : Inv w b g) (quiet : IsQuie
           none_made : is_made_by link s (flow w (side_node g link (opposite s)) (side_node g link s)) ≡ true → ⊥
           none_made h =
               let z : is_made_by link s [] ≡ true = subst (λ ms. is_made_by link s ms ≡ true)
-              (quiet-flow w quiet (side_node g link (opposite s)) (side_node g link s) (law.counts.side_on_node link (opposite s) recorded)) h in cc
+              (quiet-flow w quiet (side_node g link (opposite s)) (side_node g link s)
+              (law.counts.side_on_node link (opposite s) recorded)) h in cc
 
   -- an outward primary link isn't being bypassed
   pub primary_live : (k : Key) (r : Router) (e : LinkEnd) → router_at w k ≡ Some r → r.outward.primary ≡ Some e → bypass_of g e.link ≡ None

@@ -1,5 +1,6 @@
 -- In a quiet world all is delivered, no link decays, routers on central links are marked, and nobody holds a lock.
-use Rattle.std.specs.Prelude.{◌≡◌, ◌⊎◌, ◌≤◌, ◌<◌, ℕ, zero, suc, ◌+◌, Bool, true, false, cond, ◌&&◌, nat_eq, nat_le, nat_lt, Option, Some, None}
+use Rattle.std.specs.Prelude.{◌≡◌, ◌⊎◌, ◌≤◌, ◌<◌, ℕ, zero, suc, ◌+◌, Bool, true, false, cond, ◌&&◌, nat_eq, nat_le, nat_lt, Option, Some}
+use Rattle.std.specs.Prelude.{None}
 use Rattle.std.specs.Prelude.{is_some, length, slice_get, refl}
 use Rattle.std.proofs.Common.{arith, ap, subst, ◌∙◌, sym, inl, inr}
 use Rattle.std.proofs.lemmas.Bool.Decides.{nat_tests}
@@ -7,9 +8,12 @@ use Rattle.std.proofs.lemmas.Bool.{or_left}
 use Rattle.std.proofs.lemmas.Option.{none-some, same_Some}
 use Rattle.ipcz_world.proofs.facts.Tests.{not_both}
 use Rattle.ipcz_world.proofs.Vocabulary.{Side, A, B, End, LinkId, Central, Peripheral, LinkEnd, Item, opposite, opposite_end, same_end}
-use Rattle.ipcz_world.proofs.Vocabulary.{Edge, Queue, item_at, current_item, Router, is_terminal, is_possible, inward_edge, World, Key, node_at, router_at, has}
-use Rattle.ipcz_world.proofs.Vocabulary.{Books, read, Records, side_length, proxy_side, across_side, inner_link, inner_of, under_way, total, total_list}
-use Rattle.ipcz_world.proofs.Vocabulary.{Standing, view, is_attached, has_primary, Inv, Weight, in_router, at_end, has_link, standing_router}
+use Rattle.ipcz_world.proofs.Vocabulary.{Edge, Queue, item_at, current_item, Router, is_terminal, is_possible, inward_edge, World, Key}
+use Rattle.ipcz_world.proofs.Vocabulary.{node_at, router_at, has}
+use Rattle.ipcz_world.proofs.Vocabulary.{Books, read, Records, side_length, proxy_side, across_side, inner_link, inner_of, under_way}
+use Rattle.ipcz_world.proofs.Vocabulary.{total, total_list}
+use Rattle.ipcz_world.proofs.Vocabulary.{Standing, view, is_attached, has_primary, Inv, Weight, in_router, at_end, has_link}
+use Rattle.ipcz_world.proofs.Vocabulary.{standing_router}
 use Rattle.ipcz_world.proofs.owed.Following.{on-central}
 use Rattle.ipcz_base.specs.Items.{same_item}
 use Rattle.ipcz_edge.specs.Edge.{is_short_of, choose, can_finish, has_come_to}
@@ -32,11 +36,13 @@ use Rattle.ipcz_world.proofs.facts.Tests.{some_is}
 use Rattle.ipcz_world.proofs.flows.Flowing.{found}
 use Rattle.ipcz_world.proofs.lawful.EachOnce.{once}
 use Rattle.ipcz_world.proofs.lawful.LengthLaws.{outward_case, attached_view}
-use Rattle.ipcz_world.proofs.lawful.Quiet.{nothing-moves, nothing-possible, choose-some, total-zero, total_below-zero, in_node-is, router-is, slice_get-none}
+use Rattle.ipcz_world.proofs.lawful.Quiet.{nothing-moves, nothing-possible, choose-some, total-zero, total_below-zero, in_node-is}
+use Rattle.ipcz_world.proofs.lawful.Quiet.{router-is, slice_get-none}
 use Rattle.ipcz_world.proofs.lawful.Quiet.{key_of}
 use Rattle.ipcz_world.proofs.lawful.QuietBypasses.{settled}
 use Rattle.ipcz_world.proofs.lawful.QuietRoutes.{IsLacked, inward_lacks, outward_lacks, outward_given, HasOuter, HasAcross, outer_router}
-use Rattle.ipcz_world.proofs.lawful.QuietRoutes.{HasBegun, begun_tells, StandsOver, across_stands, inner_stands, begun_out_lacks, begun_in_lacks, not_begun}
+use Rattle.ipcz_world.proofs.lawful.QuietRoutes.{HasBegun, begun_tells, StandsOver, across_stands, inner_stands, begun_out_lacks}
+use Rattle.ipcz_world.proofs.lawful.QuietRoutes.{begun_in_lacks, not_begun}
 use Rattle.ipcz_world.proofs.views.Bypassed as bypassed
 use Rattle.ipcz_world.proofs.weights.OfRecords.{in_node, in_message}
 use Rattle.ipcz_world.proofs.weights.Weighing.{in_places-is, in_router-is}
@@ -140,12 +146,14 @@ module _ (w : World) (b : Books) (g : Records) (law : Inv w b g) (quiet : IsQuie
           inn : (c : Bool) → same_end (opposite_end y.end) d ≡ c → total (f (opposite_end y.end)) y.in_queue.items ≡ 0
           inn false e = total-zero (f (opposite_end y.end)) y.in_queue.items (λ m z h. ap (λ c. cond c (just n x m z) 0) e)
           inn true e = total-zero (f (opposite_end y.end)) y.in_queue.items
-              (λ m z h. weightless (same_end (opposite_end y.end) d) m z y.in_queue (inns q y at (same_end-tells (opposite_end y.end) d e)) h)
+              (λ m z h. weightless (same_end (opposite_end y.end) d) m z y.in_queue
+              (inns q y at (same_end-tells (opposite_end y.end) d e)) h)
 
       node_bare : (j : ℕ) → in_node f g (node_at w j) ≡ 0
       node_bare j = in_node-is f g (node_at w j) ∙ omega (
         arith,
-        total-zero (λ s y. in_router f y) (node_at w j).routers (λ s y at. router_bare (record { node = j; serial = s }) y (router-is w j s ∙ at)),
+        total-zero (λ s y. in_router f y) (node_at w j).routers
+            (λ s y at. router_bare (record { node = j; serial = s }) y (router-is w j s ∙ at)),
         ap (total_list (in_message f g)) (law.no_strays j),
       )
 
@@ -159,7 +167,8 @@ module _ (w : World) (b : Books) (g : Records) (law : Inv w b g) (quiet : IsQuie
     where
       clash : (m : ℕ) → m < n → IsLacked w e m → ⊥
       clash m l t = before m l t.key t.router t.here t.terminal t.end
-          (omega (arith, t.lacks.current, law.conserved.current t.key t.router t.here t.terminal, ap (read b) t.end)) (omega (arith, l, given))
+          (omega (arith, t.lacks.current, law.conserved.current t.key t.router t.here t.terminal, ap (read b) t.end))
+          (omega (arith, l, given))
           t.lacks.none
 
       outs : (q : Key) (y : Router) → router_at w q ≡ Some y → y.end ≡ opposite_end e → item_at y.out_queue n ≡ None
@@ -187,13 +196,15 @@ module _ (w : World) (b : Books) (g : Records) (law : Inv w b g) (quiet : IsQuie
                   let is = begun_tells w b g law quiet ranked q y at f in
                   let proxy = ap (router_at w) is.by.proxy ∙ at in
                   let short : n < (g.bypass is.old).taken_at = law.proxy_numbers.out_items is.old y n z proxy (omega (arith, is.stage)) h in
-                  let none : current_item y.out_queue ≡ None = out_stuck q y at (way is (omega (arith, low, short)) y.outward.decaying refl) in
+                  let none : current_item y.out_queue ≡ None = out_stuck q y at
+                  (way is (omega (arith, low, short)) y.outward.decaying refl) in
                   clash y.out_queue.current (behind y.out_queue n z low h none)
                   (subst (λ d. IsLacked w d y.out_queue.current) over
                   (begun_out_lacks w b g law quiet ranked q y at is y.out_queue.current (omega (arith, low, short))
                   (record { current = omega arith; none = none })))
                 where
-                  way : (is : HasBegun w b g law quiet ranked q y) → y.out_queue.current < (g.bypass is.old).taken_at → (o : Option LinkEnd) →
+                  way : (is : HasBegun w b g law quiet ranked q y) → y.out_queue.current < (g.bypass is.old).taken_at →
+                      (o : Option LinkEnd) →
                       y.outward.decaying ≡ o → is_some (way_out y) ≡ true
                   way is l None a = absurd (omega (
                     arith,
@@ -227,7 +238,8 @@ module _ (w : World) (b : Books) (g : Records) (law : Inv w b g) (quiet : IsQuie
                   let same : y ≡ r = same_Some y r (sym at ∙ ap (router_at w) keys ∙ here) in
                   none-some z (sym bare ∙ ap (λ a. item_at a.in_queue n) (sym same) ∙ h)
               by false false t f =
-                  let none : current_item y.in_queue ≡ None = in_stuck q y at (choose-some (inward_edge y) y.in_queue.current (inner t f)) in
+                  let none : current_item y.in_queue ≡ None = in_stuck q y at
+                  (choose-some (inward_edge y) y.in_queue.current (inner t f)) in
                   clash y.in_queue.current (behind y.in_queue n z low h none)
                   (subst (λ d. IsLacked w d y.in_queue.current) is
                   (inward_lacks w b g law quiet ranked ranked.limit q y y.in_queue.current at f (omega arith)
@@ -238,14 +250,17 @@ module _ (w : World) (b : Books) (g : Records) (law : Inv w b g) (quiet : IsQuie
               by false true t f =
                   let begun = begun_tells w b g law quiet ranked q y at f in
                   let proxy = ap (router_at w) begun.by.proxy ∙ at in
-                  let short : n < (g.bypass begun.old).accepted_at = law.proxy_numbers.in_items begun.old y n z proxy (omega (arith, begun.stage)) h in
-                  let none : current_item y.in_queue ≡ None = in_stuck q y at (way begun (omega (arith, low, short)) (inward_edge y).decaying refl) in
+                  let short : n < (g.bypass begun.old).accepted_at = law.proxy_numbers.in_items begun.old y n z proxy
+                  (omega (arith, begun.stage)) h in
+                  let none : current_item y.in_queue ≡ None = in_stuck q y at
+                  (way begun (omega (arith, low, short)) (inward_edge y).decaying refl) in
                   clash y.in_queue.current (behind y.in_queue n z low h none)
                   (subst (λ d. IsLacked w d y.in_queue.current) is
                   (begun_in_lacks w b g law quiet ranked q y at begun y.in_queue.current (omega (arith, low, short))
                   (record { current = omega arith; none = none })))
                 where
-                  way : (is : HasBegun w b g law quiet ranked q y) → y.in_queue.current < (g.bypass is.old).accepted_at → (o : Option LinkEnd) →
+                  way : (is : HasBegun w b g law quiet ranked q y) → y.in_queue.current < (g.bypass is.old).accepted_at →
+                      (o : Option LinkEnd) →
                       (inward_edge y).decaying ≡ o → is_some (way_in y) ≡ true
                   way is l None a = absurd (omega (
                     arith,
@@ -280,7 +295,8 @@ module _ (w : World) (b : Books) (g : Records) (law : Inv w b g) (quiet : IsQuie
           (grind (arith, f, nat_tests)) t.lacks.none)
 
   -- an outward decaying link can be given up
-  finishes : (e : Edge) (d : LinkEnd) (a c sent received : ℕ) → e.decaying ≡ Some d → e.length_to ≡ Some a → e.length_from ≡ Some c → a ≤ sent →
+  finishes : (e : Edge) (d : LinkEnd) (a c sent received : ℕ) → e.decaying ≡ Some d → e.length_to ≡ Some a → e.length_from ≡ Some c →
+      a ≤ sent →
       c ≤ received → can_finish e sent received ≡ true
   unfolding can_finish has_come_to
   finishes e d a c sent received dec to from l m = grind (arith, dec, to, from, l, m, nat_tests)
@@ -308,7 +324,8 @@ module _ (w : World) (b : Books) (g : Records) (law : Inv w b g) (quiet : IsQuie
           by false e = omega (
             arith,
             low,
-            lacked_given r.end (reach r.in_queue) (inward_lacks w b g law quiet ranked ranked.limit k r (reach r.in_queue) here whole (omega arith)
+            lacked_given r.end (reach r.in_queue) (inward_lacks w b g law quiet ranked ranked.limit k r (reach r.in_queue) here whole
+                (omega arith)
                 (record { current = (is_reach r.in_queue).from; none = (is_reach r.in_queue).absent })),
             across (outer_router w b g law quiet ranked k r p.0 here p.1),
           )
@@ -318,13 +335,15 @@ module _ (w : World) (b : Books) (g : Records) (law : Inv w b g) (quiet : IsQuie
 
               across : HasOuter w b g law quiet ranked k r ⊎ HasAcross w b g law quiet ranked k r → c ≤ length (b.put (opposite_end r.end))
               across (inl h) =
-                  let t : HasEnd r.outward.primary (Peripheral h.node h.serial) B = has_link-tells r.outward.primary (Peripheral h.node h.serial) B h.own in
+                  let t : HasEnd r.outward.primary (Peripheral h.node h.serial) B = has_link-tells r.outward.primary
+                  (Peripheral h.node h.serial) B h.own in
                   absurd (apart h.node h.serial (sym t.on_link ∙ same_Some t.end.link (Central fresh) (sym (ap link_in t.there) ∙ central)))
                 where
                   apart : (n x : ℕ) → Peripheral n x ≡ Central fresh → ⊥
                   apart n x e = cc
               across (inr h) =
-                  let t : HasEnd r.outward.primary (Central h.word) h.side = has_link-tells r.outward.primary (Central h.word) h.side h.own in
+                  let t : HasEnd r.outward.primary (Central h.word) h.side = has_link-tells r.outward.primary
+                  (Central h.word) h.side h.own in
                   let same : t.end ≡ p.0 = same_Some t.end p.0 (sym t.there ∙ p.1) in
                   let seen : view w g (Central h.word) (opposite h.side) ≡ Standing h.router =
                   (attached_view w b g law (Central h.word) (opposite h.side) h.key h.router h.here
@@ -381,7 +400,8 @@ module _ (w : World) (b : Books) (g : Records) (law : Inv w b g) (quiet : IsQuie
           is = begun_tells w b g law quiet ranked k r here e
 
           lone : (l : LinkId) (s : Side) → StandsOver w b g law quiet ranked k r here is l s → ⊥
-          lone l s x = none-some x.end (sym (still x.key x.router x.here (whole x.router x.primary (law.shape.role x.key x.router x.here))) ∙ x.decaying)
+          lone l s x = none-some x.end (sym (still x.key x.router x.here
+              (whole x.router x.primary (law.shape.role x.key x.router x.here))) ∙ x.decaying)
             where
               whole : (z : Router) → is_some z.outward.primary ≡ true → has_role z ≡ true → is_begun_router z ≡ false
               whole z p h = at (is_terminal z) (is_some (inward_edge z).primary) refl refl
@@ -410,7 +430,8 @@ module _ (w : World) (b : Books) (g : Records) (law : Inv w b g) (quiet : IsQuie
                   taken (omega (arith, accepted, (is_reach r.in_queue).from))) (idle k r acts.FinishOut here)
               links None (Some d) p q =
                   not_both (can_finish (inward_edge r) r.in_queue.current (reach r.out_queue))
-                  (finishes (inward_edge r) d (g.bypass is.old).accepted_at (g.bypass is.old).taken_at r.in_queue.current (reach r.out_queue) q
+                  (finishes (inward_edge r) d (g.bypass is.old).accepted_at (g.bypass is.old).taken_at r.in_queue.current
+                  (reach r.out_queue) q
                   (law.positions.inward_to k r d is.old here q (bypassed.proxy-begun law is.by)
                   ∙ known_from-yes 4 (g.bypass is.old).stage (g.bypass is.old).accepted_at (omega (arith, is.stage)))
                   (law.positions.inward_from k r d is.old here q (bypassed.proxy-begun law is.by)

@@ -49,7 +49,8 @@ module _ (w : World) (b : Books) (g : Records) (law : Inv w b g) (quiet : IsQuie
   unfolding is_possible
   not_central k r here proxy h = go r.tried r.spare refl refl
     where
-      may : is_possible r acts.Claim ≡ false → is_possible r acts.Lock ≡ false → r.marked ≡ true → is_on_central r ≡ true → decays r ≡ false →
+      may : is_possible r acts.Claim ≡ false → is_possible r acts.Lock ≡ false → r.marked ≡ true → is_on_central r ≡ true →
+          decays r ≡ false →
           r.dry ≡ false → r.holds ≡ false → (o : Option ℕ) → r.spare ≡ o → r.tried ≡ false → ⊥
       may a c m z d y f None e t = grind (arith, a, m, z, d, y, f, e, t, proxy)
       may a c m z d y f (Some j) e t = grind (arith, c, m, z, d, y, f, e, t, proxy)
@@ -61,16 +62,20 @@ module _ (w : World) (b : Books) (g : Records) (law : Inv w b g) (quiet : IsQuie
       waker (inl held) = not_both h.router.holds (links.holds h.key h.router h.word (opposite h.side) h.here h.on ∙ held)
           (free w b g law quiet ranked flagged h.key h.router h.here)
       waker (inr (inl f)) = nothing-moves w quiet f.from k.node f.place (messages.Flush (Central h.word) h.side) f.under_way
-      waker (inr (inr (inl p))) = not_both (is_possible p.router acts.Lock) p.passes (idle w b g law quiet ranked flagged p.key p.router acts.Lock p.here)
-      waker (inr (inr (inr (waits, inl unstable)))) = not_both h.router.marked (marked w b g law quiet ranked flagged h.word (opposite h.side) h.key h.router h.here h.on)
+      waker (inr (inr (inl p))) = not_both (is_possible p.router acts.Lock) p.passes
+          (idle w b g law quiet ranked flagged p.key p.router acts.Lock p.here)
+      waker (inr (inr (inr (waits, inl unstable)))) = not_both h.router.marked
+          (marked w b g law quiet ranked flagged h.word (opposite h.side) h.key h.router h.here h.on)
           (links.marked h.key h.router h.word (opposite h.side) h.here h.on ∙ unstable)
       waker (inr (inr (inr (waits, inr p)))) = wakes p.router (idle w b g law quiet ranked flagged p.key p.router acts.Wake p.here) p.passes
           (ap is_some (on-central h.word (opposite h.side) p.router p.on))
 
       go : (t : Bool) (o : Option ℕ) → r.tried ≡ t → r.spare ≡ o → ⊥
       go true o e f = waker (wakers h.word k r h.side here e h.own)
-      go false o e f = may (idle w b g law quiet ranked flagged k r acts.Claim here) (idle w b g law quiet ranked flagged k r acts.Lock here) (marked w b g law quiet ranked flagged h.word h.side k r here h.own)
-          (ap is_some (on-central h.word h.side r h.own)) (calm w b g law quiet ranked flagged k r here) (wet k r here) (free w b g law quiet ranked flagged k r here) o f e
+      go false o e f = may (idle w b g law quiet ranked flagged k r acts.Claim here)
+          (idle w b g law quiet ranked flagged k r acts.Lock here) (marked w b g law quiet ranked flagged h.word h.side k r here h.own)
+          (ap is_some (on-central h.word h.side r h.own)) (calm w b g law quiet ranked flagged k r here) (wet k r here)
+          (free w b g law quiet ranked flagged k r here) o f e
 
   -- nor anywhere
   no_proxy_below : (n : ℕ) (k : Key) (r : Router) → router_at w k ≡ Some r → is_proxy r ≡ true → ranked.rank k < n → ⊥
@@ -135,7 +140,8 @@ module _ (w : World) (b : Books) (g : Records) (law : Inv w b g) (quiet : IsQuie
           end = h.end ∙ ap opposite_end end;
           terminal = no_proxies h.key h.router h.here;
           on = subst (λ z. has_primary (Central h.word) (opposite z) h.router ≡ true) side h.on;
-          still = still w b g law quiet ranked flagged h.key h.router h.here (none_begun w b g law quiet ranked flagged h.key h.router h.here);
+          still = still w b g law quiet ranked flagged h.key h.router h.here
+              (none_begun w b g law quiet ranked flagged h.key h.router h.here);
         },
       )
         where
@@ -165,7 +171,8 @@ module _ (w : World) (b : Books) (g : Records) (law : Inv w b g) (quiet : IsQuie
     where
       stable : (s : Side) → has (word_at w route.word).stable s ≡ true
       stable s = let x = route.stands s in
-          sym (links.marked x.key x.router route.word s x.here x.on) ∙ marked w b g law quiet ranked flagged route.word s x.key x.router x.here x.on
+          sym (links.marked x.key x.router route.word s x.here x.on)
+          ∙ marked w b g law quiet ranked flagged route.word s x.key x.router x.here x.on
 
       unheld : (s : Side) → has (word_at w route.word).holder s ≡ false
       unheld s = let x = route.stands s in
@@ -176,7 +183,8 @@ module _ (w : World) (b : Books) (g : Records) (law : Inv w b g) (quiet : IsQuie
       go a c d e = grind (arith, a, c, d, e)
 
   -- what an end's peer hasn't read stands at the peer's terminal
-  all_there : (k : Key) (r : Router) (h : ℕ → Item → ℕ) → router_at w k ≡ Some r → total h r.in_queue.items ≡ unread_weight h b (opposite_end r.end)
+  all_there : (k : Key) (r : Router) (h : ℕ → Item → ℕ) → router_at w k ≡ Some r → total h r.in_queue.items ≡ unread_weight h b
+      (opposite_end r.end)
   all_there k r h here = omega (
     arith,
     places-remove_router f g w k r (law.counts.on_node k r here) here,
@@ -235,7 +243,8 @@ module _ (w : World) (b : Books) (g : Records) (law : Inv w b g) (quiet : IsQuie
       node_bare : (j : ℕ) → in_node f g (node_at v j) ≡ 0
       node_bare j = in_node-is f g (node_at v j) ∙ omega (
         arith,
-        total-zero (λ s y. in_router f y) (node_at v j).routers (λ s y at. others (record { node = j; serial = s }) y (router-is v j s ∙ at)),
+        total-zero (λ s y. in_router f y) (node_at v j).routers
+            (λ s y at. others (record { node = j; serial = s }) y (router-is v j s ∙ at)),
         ap (total_list (in_message f g)) ((same.nodes j).strays ∙ law.no_strays j),
       )
 

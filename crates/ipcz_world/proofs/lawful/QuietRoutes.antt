@@ -7,10 +7,12 @@ use Rattle.std.proofs.lemmas.Bool.{or_left, or_right}
 use Rattle.std.proofs.lemmas.Option.{none-some}
 use Rattle.ipcz_world.proofs.facts.Tests.{or_second}
 use Rattle.ipcz_world.proofs.Vocabulary.{Side, A, B, End, LinkId, Central, Peripheral, LinkEnd, Item, opposite, opposite_end, has_link}
-use Rattle.ipcz_world.proofs.Vocabulary.{Queue, item_at, Router, is_terminal, inward_edge, World, Key, router_at, Books, Records, is_begun, is_recorded}
+use Rattle.ipcz_world.proofs.Vocabulary.{Queue, item_at, Router, is_terminal, inward_edge, World, Key, router_at, Books, Records}
+use Rattle.ipcz_world.proofs.Vocabulary.{is_begun, is_recorded}
 use Rattle.ipcz_world.proofs.Vocabulary.{side_router, side_end, side_length, bypass_of, proxy_side, across_side, is_linked, inner_of}
 use Rattle.ipcz_world.proofs.Vocabulary.{Standing, view, view_by, router_view, is_attached, sending_queue, fed_queue}
-use Rattle.ipcz_world.proofs.Vocabulary.{next_sent, taking_queue, has_passed, has_primary, has_decaying, is_outward, is_gone, Inv, IsRecorded}
+use Rattle.ipcz_world.proofs.Vocabulary.{next_sent, taking_queue, has_passed, has_primary, has_decaying, is_outward, is_gone, Inv}
+use Rattle.ipcz_world.proofs.Vocabulary.{IsRecorded}
 use Rattle.ipcz_base.specs.Ends.{end_at}
 use Rattle.ipcz_router.specs.Router.{outward_has}
 use Rattle.ipcz_world.specs.Owed.{IsRanked}
@@ -18,7 +20,8 @@ use Rattle.ipcz_world.specs.Settling.{IsQuiet}
 use Rattle.ipcz_world.specs.Standing.{has_inward_primary}
 use Rattle.ipcz_world.specs.Structure.{is_begun_router, has_role, link_in}
 use Rattle.ipcz_world.proofs.facts.BegunLengths.{length-proxy, length-inward}
-use Rattle.ipcz_world.proofs.facts.Lengths.{HasEnd, has_link-tells, has_link-some, opposite-twice, length-live, length-none, has_passed-none, has_passed-some}
+use Rattle.ipcz_world.proofs.facts.Lengths.{HasEnd, has_link-tells, has_link-some, opposite-twice, length-live, length-none}
+use Rattle.ipcz_world.proofs.facts.Lengths.{has_passed-none, has_passed-some}
 use Rattle.ipcz_world.proofs.facts.Reaching.{is_reach}
 use Rattle.ipcz_world.proofs.facts.Tests.{some_is}
 use Rattle.ipcz_world.proofs.frames.RecordRules.{bypass_of-inner}
@@ -120,7 +123,8 @@ module _ (w : World) (b : Books) (g : Records) (law : Inv w b g) (quiet : IsQuie
         end = far.end ∙ ap (λ z. side_end g z d.end.side) d.on_link ∙ sym (rec.end ∙ ap (λ z. side_end g z e.side) l);
         higher = ranked.rises k inner.0 r stands.0 n x here stands.1
             (or_left (has_link (inward_edge r).primary (Peripheral n x) A) (has_link (inward_edge r).decaying (Peripheral n x) A) own)
-            (or_left (has_link stands.0.outward.primary (Peripheral n x) B) (has_link stands.0.outward.decaying (Peripheral n x) B) stands.2);
+            (or_left (has_link stands.0.outward.primary (Peripheral n x) B)
+            (has_link stands.0.outward.decaying (Peripheral n x) B) stands.2);
       }
         where
           p : Key
@@ -151,7 +155,8 @@ module _ (w : World) (b : Books) (g : Records) (law : Inv w b g) (quiet : IsQuie
           far = law.links.primary inner.0 stands.0 d.end stands.1 d.there
 
   -- a router with an outward primary link hasn't begun a bypass
-  pub not_begun : (k : Key) (r : Router) (l : LinkId) (s : Side) → router_at w k ≡ Some r → has_primary l s r ≡ true → is_begun_router r ≡ false
+  pub not_begun : (k : Key) (r : Router) (l : LinkId) (s : Side) → router_at w k ≡ Some r → has_primary l s r ≡ true →
+      is_begun_router r ≡ false
   not_begun k r l s here on =
       let e : HasEnd r.outward.primary l s = has_link-tells r.outward.primary l s on in
       primed r (law.shape.role k r here) e.end e.there
@@ -179,9 +184,11 @@ module _ (w : World) (b : Books) (g : Records) (law : Inv w b g) (quiet : IsQuie
       go false None t p more = absurd (grind (arith, t, p, whole))
       go false (Some e) t p more =
           let h : HasInner k r = inner_router k r e here p in
-          more h.key h.router h.here (not_begun h.key h.router (Peripheral h.node h.serial) B h.here h.on) (omega (arith, l, h.higher)) h.end
+          more h.key h.router h.here (not_begun h.key h.router (Peripheral h.node h.serial) B h.here h.on)
+          (omega (arith, l, h.higher)) h.end
           (hop (Peripheral h.node h.serial) B k h.key r h.router m here h.here
-          (or_left (has_link (inward_edge r).primary (Peripheral h.node h.serial) A) (has_link (inward_edge r).decaying (Peripheral h.node h.serial) A)
+          (or_left (has_link (inward_edge r).primary (Peripheral h.node h.serial) A)
+          (has_link (inward_edge r).decaying (Peripheral h.node h.serial) A)
           h.own)
           (or_left (has_link h.router.outward.primary (Peripheral h.node h.serial) B)
           (has_link h.router.outward.decaying (Peripheral h.node h.serial) B) h.on)
@@ -203,7 +210,8 @@ module _ (w : World) (b : Books) (g : Records) (law : Inv w b g) (quiet : IsQuie
       go false (Some e) t p more =
           let h : HasInner k r = inner_router k r e here p in
           let link : LinkId = Peripheral h.node h.serial in
-          let own = attached_view w b g law (Peripheral h.node h.serial) A k r here (or_left (has_link (inward_edge r).primary (Peripheral h.node h.serial) A)
+          let own = attached_view w b g law (Peripheral h.node h.serial) A k r here
+          (or_left (has_link (inward_edge r).primary (Peripheral h.node h.serial) A)
           (has_link (inward_edge r).decaying (Peripheral h.node h.serial) A) h.own) in
           let far = attached_view w b g law (Peripheral h.node h.serial) B h.key h.router h.here
           (or_left (has_link h.router.outward.primary (Peripheral h.node h.serial) B)
@@ -245,7 +253,8 @@ module _ (w : World) (b : Books) (g : Records) (law : Inv w b g) (quiet : IsQuie
     pub end : router.end ≡ opposite_end r.end
     pub own_end : r.end ≡ end_at (g.central word).pair side
 
-  pub outer_router : (k : Key) (r : Router) (e : LinkEnd) → router_at w k ≡ Some r → r.outward.primary ≡ Some e → HasOuter k r ⊎ HasAcross k r
+  pub outer_router : (k : Key) (r : Router) (e : LinkEnd) → router_at w k ≡ Some r → r.outward.primary ≡ Some e →
+      HasOuter k r ⊎ HasAcross k r
   unfolding is_outward side_end bypass_of is_recorded
   outer_router k r e here on = go e.link e.side refl refl
     where
@@ -265,7 +274,8 @@ module _ (w : World) (b : Books) (g : Records) (law : Inv w b g) (quiet : IsQuie
         live = length-none g p B live;
         end = far.end ∙ ap (λ z. side_end g z d.end.side) d.on_link ∙ sym (rec.end ∙ ap (λ z. side_end g z e.side) l);
         lower = ranked.rises proxy.key k proxy.router r n x proxy.here here
-            (or_left (has_link (inward_edge proxy.router).primary (Peripheral n x) A) (has_link (inward_edge proxy.router).decaying (Peripheral n x) A)
+            (or_left (has_link (inward_edge proxy.router).primary (Peripheral n x) A)
+            (has_link (inward_edge proxy.router).decaying (Peripheral n x) A)
             proxy.passed)
             (or_left (has_link r.outward.primary (Peripheral n x) B) (has_link r.outward.decaying (Peripheral n x) B) own);
       })
@@ -283,7 +293,8 @@ module _ (w : World) (b : Books) (g : Records) (law : Inv w b g) (quiet : IsQuie
           live = sym (bypass_of-inner g p) ∙ ap (bypass_of g) (sym l) ∙ primary_live w b g law quiet k r e here on
 
           proxy : Passes w (side_router g (Peripheral n x) A) (has_inward_primary (Peripheral n x) A)
-          proxy = passes-tells w (side_router g (Peripheral n x) A) (has_inward_primary (Peripheral n x) A) (law.stands.proxy p recorded live)
+          proxy = passes-tells w (side_router g (Peripheral n x) A) (has_inward_primary (Peripheral n x) A)
+              (law.stands.proxy p recorded live)
 
           d : HasEnd (inward_edge proxy.router).primary (Peripheral n x) A
           d = has_link-tells (inward_edge proxy.router).primary (Peripheral n x) A proxy.passed
@@ -356,9 +367,11 @@ module _ (w : World) (b : Books) (g : Records) (law : Inv w b g) (quiet : IsQuie
       go : HasOuter k r ⊎ HasAcross k r → ((q : Key) (z : Router) → router_at w q ≡ Some z → is_some z.outward.primary ≡ true →
           ranked.rank q < n → z.end ≡ r.end → Lacks z.out_queue m → IsLacked w (opposite_end r.end) m) → IsLacked w (opposite_end r.end) m
       go (inl h) more =
-          more h.key h.router h.here (whole_inward h.key h.router (Peripheral h.node h.serial) h.here h.on).1 (omega (arith, l, h.lower)) h.end
+          more h.key h.router h.here (whole_inward h.key h.router (Peripheral h.node h.serial) h.here h.on).1
+          (omega (arith, l, h.lower)) h.end
           (hop (Peripheral h.node h.serial) A k h.key r h.router m here h.here
-          (or_left (has_link r.outward.primary (Peripheral h.node h.serial) B) (has_link r.outward.decaying (Peripheral h.node h.serial) B) h.own)
+          (or_left (has_link r.outward.primary (Peripheral h.node h.serial) B)
+          (has_link r.outward.decaying (Peripheral h.node h.serial) B) h.own)
           (or_left (has_link (inward_edge h.router).primary (Peripheral h.node h.serial) A)
           (has_link (inward_edge h.router).decaying (Peripheral h.node h.serial) A) h.on)
           (ap (λ o. has_passed o m) h.live ∙ has_passed-none m) lacks)
@@ -440,11 +453,13 @@ module _ (w : World) (b : Books) (g : Records) (law : Inv w b g) (quiet : IsQuie
           where
             go : (c : Bool) → has_primary (Central o) (across_side g o) z ≡ c → StandsOver (Central o) (across_side g o)
             go true e =
-                let d : HasEnd z.outward.primary (Central o) (across_side g o) = has_link-tells z.outward.primary (Central o) (across_side g o) e in
+                let d : HasEnd z.outward.primary (Central o) (across_side g o) = has_link-tells z.outward.primary (Central o)
+                (across_side g o) e in
                 absurd (omega (arith, is.stage, law.positions.primary_old q z d.end o at d.there d.on_link is.by.begun))
             go false e =
                 let h : has_decaying (Central o) (across_side g o) z ≡ true = or_second _ _ on e in
-                let d : HasEnd z.outward.decaying (Central o) (across_side g o) = has_link-tells z.outward.decaying (Central o) (across_side g o) h in
+                let d : HasEnd z.outward.decaying (Central o) (across_side g o) = has_link-tells z.outward.decaying (Central o)
+                (across_side g o) h in
                 record {
                   key = q;
                   router = z;
@@ -453,7 +468,8 @@ module _ (w : World) (b : Books) (g : Records) (law : Inv w b g) (quiet : IsQuie
                   decaying = d.there;
                   on_link = d.on_link;
                   at_side = d.at_side;
-                  primary = some (link_in z.outward.primary) z.outward.primary (law.positions.across_fresh q z d.end o at d.there d.on_link d.at_side) refl;
+                  primary = some (link_in z.outward.primary) z.outward.primary
+                      (law.positions.across_fresh q z d.end o at d.there d.on_link d.at_side) refl;
                   attached = on;
                 }
               where
@@ -520,7 +536,8 @@ module _ (w : World) (b : Books) (g : Records) (law : Inv w b g) (quiet : IsQuie
             let rec = law.links.decaying x.key x.router x.end x.here x.decaying in
             let far : x.router.end ≡ end_at (g.central o).pair (across_side g o) =
             rec.end ∙ ap (λ z. side_end g z x.end.side) x.on_link ∙ ap (λ z. side_end g (Central o) z) x.at_side in
-            subst (λ d. IsLacked w d m) (far ∙ ap (λ p. end_at p (across_side g o)) (sym (law.bypasses.pair o is.by.begun)) ∙ sym (ap opposite_end is.end))
+            subst (λ d. IsLacked w d m) (far ∙ ap (λ p. end_at p (across_side g o)) (sym (law.bypasses.pair o is.by.begun)) ∙ sym
+            (ap opposite_end is.end))
             (inward_lacks ranked.limit x.key x.router m x.here (prime x.key x.router x.here x.primary) (omega arith)
             (hop (Central o) (across_side g o) k x.key r x.router m there x.here
             (subst (λ s. outward_has r (Central o) s ≡ true) (sym (opposite-twice (proxy_side g o)))
@@ -528,7 +545,8 @@ module _ (w : World) (b : Books) (g : Records) (law : Inv w b g) (quiet : IsQuie
             (ap (λ p. has_link p (Central o) (proxy_side g o)) e ∙ has_link-some d (Central o) (proxy_side g o) n.link n.side)))
             x.attached
             (ap (λ s. has_passed (side_length g (Central o) s) m) (opposite-twice (proxy_side g o))
-            ∙ ap (λ l. has_passed l m) (length-proxy g o (omega (arith, is.stage))) ∙ has_passed-some (g.bypass o).taken_at m ∙ short m (g.bypass o).taken_at below)
+            ∙ ap (λ l. has_passed l m) (length-proxy g o (omega (arith, is.stage))) ∙ has_passed-some (g.bypass o).taken_at m ∙ short m
+            (g.bypass o).taken_at below)
             lacks))
           where
             short : (m n : ℕ) → m < n → nat_le n m ≡ false

@@ -1,4 +1,5 @@
 -- No message but a Flush finds its router gone, from the invariant.
+use Rattle.ipcz_world.proofs.views.Sources.{accept_source}
 use Rattle.ipcz_world.proofs.weights.OfRecords.{some_found}
 use Rattle.std.specs.Prelude.{◌≡◌, ◌⊎◌, ℕ, Bool, true, false, cond, if◌then◌else◌, Option, Some, None, is_none, List, [], ◌∷◌, refl}
 use Rattle.std.proofs.Common.{arith, ap, subst, ◌∙◌, sym, inl, inr}
@@ -116,4 +117,9 @@ module _ (w : World) (b : Books) (g : Records) (law : Inv w b g) where
   finds from to i (messages.Flush link s) u f = cc
 
   pub stray_law : StrayLaw w
-  stray_law = record { none = law.no_strays; finds = finds }
+  stray_law = record {
+    none = law.no_strays;
+    finds = finds;
+    sourced = λ from to i old s fresh length u. accept_source w b g to from old s fresh length law
+        (accept_told w g from to i old s fresh length law.told u);
+  }

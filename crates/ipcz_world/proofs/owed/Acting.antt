@@ -6,8 +6,10 @@ use Rattle.std.proofs.lemmas.Bool.Decides.{nat_tests}
 use Rattle.std.proofs.lemmas.Bool.{or_left}
 use Rattle.std.proofs.lemmas.Option.{same_Some}
 use Rattle.ipcz_world.proofs.facts.Tests.{false-true, or_second}
-use Rattle.ipcz_world.proofs.Vocabulary.{Side, A, B, End, LinkId, Central, Peripheral, LinkEnd, Descriptor, Item, Message, is_central, has_link}
-use Rattle.ipcz_world.proofs.Vocabulary.{word_of, place_at, Edge, Router, inward_edge, primary_word, from_descriptor, bypass_peer, is_terminal}
+use Rattle.ipcz_world.proofs.Vocabulary.{Side, A, B, End, LinkId, Central, Peripheral, LinkEnd, Descriptor, Item, Message, is_central}
+use Rattle.ipcz_world.proofs.Vocabulary.{has_link}
+use Rattle.ipcz_world.proofs.Vocabulary.{word_of, place_at, Edge, Router, inward_edge, primary_word, from_descriptor, bypass_peer}
+use Rattle.ipcz_world.proofs.Vocabulary.{is_terminal}
 use Rattle.ipcz_world.proofs.Vocabulary.{is_possible, output_of, RouterAct, Close, Node, Found, router_in, with_router, terminal_of, commit}
 use Rattle.ipcz_world.proofs.Vocabulary.{World, answer_of}
 use Rattle.ipcz_base.specs.declared.parcel.Parcel as parcels
@@ -36,7 +38,8 @@ use Rattle.ipcz_world.proofs.facts.Finding.{found_tells, terminal_tells}
 use Rattle.ipcz_world.proofs.facts.Lengths.{HasEnd, has_link-tells}
 use Rattle.ipcz_world.proofs.facts.Tests.{and_first, and_second}
 use Rattle.ipcz_world.proofs.owed.Following.{Follows, follows-itself, IsLeft, follows-left, IsAside, follows-aside, on-central}
-use Rattle.ipcz_world.proofs.owed.Going.{IsNew, IsOff, IsCounted, Changes, Goes, changes-itself, changes-else, changes-with, changes-without}
+use Rattle.ipcz_world.proofs.owed.Going.{IsNew, IsOff, IsCounted, Changes, Goes, changes-itself, changes-else, changes-with}
+use Rattle.ipcz_world.proofs.owed.Going.{changes-without}
 use Rattle.ipcz_world.proofs.owed.Going.{changes-push, changes-tell, goes-by, goes-add}
 use Rattle.ipcz_world.specs.World.{has_unclaimed_word}
 use Rattle.ipcz_node.specs.Hands.{flushed}
@@ -243,7 +246,8 @@ module _ (i : ℕ) (held : Bool) where
   follows-apply number base w r acts.FinishIn may apart begins = follows-left i held number base r _ (left-finish_in r)
   follows-apply number base w r acts.Leave may apart begins = follows-itself i held number base r
   follows-apply number base w r acts.Mark may apart begins = follows-wordy number base r acts.Mark _ refl (apart refl)
-  follows-apply number base w r acts.Wake may apart begins = follows-wordy number base r acts.Wake (answer_of w r acts.Wake) refl (apart refl)
+  follows-apply number base w r acts.Wake may apart begins = follows-wordy number base r acts.Wake (answer_of w r acts.Wake) refl
+      (apart refl)
   follows-apply number base w r acts.Claim may apart begins = follows-claim number base w r (may-possible r acts.Claim refl may)
   follows-apply number base w r acts.Lock may apart begins = follows-wordy number base r acts.Lock _ refl (apart refl)
   follows-apply number base w r acts.Begin may apart begins = follows-aside i held number base r _ (aside-begin r (begins refl))
@@ -273,7 +277,8 @@ module _ (i : ℕ) (held : Bool) where
       go None h = c
       go (Some f) h =
           let t = terminal_tells m.node e f h in
-          changes-else i held n _ _ (changes-with i held n m.node f.serial f.router _ c t.here (follows-extend m.node to f.router t.terminal))
+          changes-else i held n _ _ (changes-with i held n m.node f.serial f.router _ c t.here
+          (follows-extend m.node to f.router t.terminal))
           refl refl refl (omega arith) refl
 
   moves-change : (n : Node) (m : Transfer) (to : ℕ) (es : List End) → Changes i held n m.node → Changes i held n (move_ends m to es).node
@@ -450,7 +455,8 @@ module _ (i : ℕ) (held : Bool) where
     inward = λ l s h. subst (λ e. inward_has (record y { inward = e }) l s ≡ true) inn h;
   }
     where
-      not_primary : (n c : ℕ) (d : Bool) → has_link y.outward.primary (Peripheral n c) B ≡ d → has_link y.outward.primary (Peripheral n c) B ≡ false
+      not_primary : (n c : ℕ) (d : Bool) → has_link y.outward.primary (Peripheral n c) B ≡ d → has_link y.outward.primary
+          (Peripheral n c) B ≡ false
       not_primary n c false e = e
       not_primary n c true e =
           let t : HasEnd y.outward.primary (Peripheral n c) B = has_link-tells y.outward.primary (Peripheral n c) B e in
@@ -471,7 +477,8 @@ module _ (i : ℕ) (held : Bool) where
       let z : not (is_central (Central i)) ≡ true = subst (λ l. not (is_central l) ≡ true) (sym is) apart in cc
 
   -- the proxy learns its lengths
-  told_left : (r : Router) (in_length out_length : ℕ) (o : Option Edge) → r.inward ≡ o → IsLeft i held r (stop_proxying r in_length out_length)
+  told_left : (r : Router) (in_length out_length : ℕ) (o : Option Edge) → r.inward ≡ o → IsLeft i held r
+      (stop_proxying r in_length out_length)
   unfolding has_link
   told_left r in_length out_length o e = record {
     primary = refl;
@@ -500,15 +507,16 @@ module _ (i : ℕ) (held : Bool) where
       still None e h = grind (arith, e, h)
       still (Some x) e h = grind (arith, e, h)
 
-  handle-goes : (n : Node) (sender : ℕ) (m : Message) → IsCounted n → NeedsHeld m → fits n sender m ≡ true → Goes i held n (handle n sender m)
+  handle-goes : (n : Node) (sender : ℕ) (m : Message) (source : Option ℕ) → IsCounted n → NeedsHeld m → fits n sender m source ≡ true →
+      Goes i held n (handle n sender m)
   unfolding handle on_found fits passes_at
-  handle-goes n sender (messages.Item link side number item moves) counted held_ h = go (link_router n link side) refl
+  handle-goes n sender (messages.Item link side number item moves) source counted held_ h = go (link_router n link side) refl
     where
       go : (o : Option Found) → link_router n link side ≡ o → Goes i held n (on_found n o (take_in n sender link side number item moves))
       go None e = goes-by i held n n (changes-itself i held n)
       go (Some f) e = make-goes n _ sender moves (goes-by i held n _ (told-changes n f.serial f.router _ (found_tells n _ f e).0
           (accept-left f.router (outward_has f.router link side) number item))) counted
-  handle-goes n sender (messages.BypassPeer link side old target fresh) counted held_ h = go (link_router n link side) refl
+  handle-goes n sender (messages.BypassPeer link side old target fresh) source counted held_ h = go (link_router n link side) refl
     where
       off : (r : Router) → fits_bypass_peer r link side ≡ true → IsOff i held r
       off r fit s on =
@@ -523,12 +531,13 @@ module _ (i : ℕ) (held : Bool) where
       go (Some f) e = goes-by i held n _ (changes-tell i held n _ (Some (accept_message f.router old target fresh))
           (changes-with i held n n f.serial f.router (bypass_peer f.router target fresh) (changes-itself i held n) (found_tells n _ f e).0
           (follows-aside i held n.number n.next_peripheral f.router _
-          (relinked f.router _ refl refl refl (central_end fresh f.router.end.side target) refl (central-is fresh f.router.end.side target) (off f.router (fit f e))))))
+          (relinked f.router _ refl refl refl (central_end fresh f.router.end.side target) refl
+          (central-is fresh f.router.end.side target) (off f.router (fit f e))))))
         where
           fit : (f : Found) → link_router n link side ≡ Some f → fits_bypass_peer f.router link side ≡ true
           fit f e = and_first _ _ (subst (λ o. passes_at o (λ r. fits_bypass_peer r link side &&
               (nat_lt target n.count && not (is_named n (Central fresh) r.end.side))) ≡ true) e h)
-  handle-goes n sender (messages.AcceptBypass old side fresh length) counted held_ h = go (link_router n (Central old) side) refl
+  handle-goes n sender (messages.AcceptBypass old side fresh length) source counted held_ h = go (link_router n (Central old) side) refl
     where
       go : (o : Option Found) → link_router n (Central old) side ≡ o → Goes i held n
           (on_found n o (λ s r. tell (with_router n s (accept_bypass r sender side fresh length))
@@ -540,12 +549,14 @@ module _ (i : ℕ) (held : Bool) where
           (relinked f.router _ refl refl refl (central_end fresh side sender) refl (central-is fresh side sender) off))))
         where
           fit : has_link f.router.outward.primary (Central old) side ≡ true
-          fit = and_first _ _ (and_first _ _ (subst (λ o. passes_at o (λ r. fits_accept_bypass r old side && not (is_named n (Central fresh) side))
-              ≡ true) e h))
+          fit = and_first _ _ (and_first _ _ (subst
+              (λ o. passes_at o (λ r. fits_accept_bypass r old side && not (is_named n (Central fresh) side))
+              ≡ true) e (and_first _ _ h)))
 
           off : IsOff i held f.router
           off s on = held_ (same_Some old i (sym (on-central old side f.router fit) ∙ on-central i s f.router on))
-  handle-goes n sender (messages.StopProxying old side in_length out_length) counted held_ h = go (link_router n (Central old) side) refl
+  handle-goes n sender (messages.StopProxying old side in_length out_length) source counted held_ h = go
+      (link_router n (Central old) side) refl
     where
       left : (r : Router) → IsLeft i held r (stop_proxying r in_length out_length)
       left r = told_left r in_length out_length r.inward refl
@@ -556,7 +567,7 @@ module _ (i : ℕ) (held : Bool) where
       go None e = goes-by i held n n (changes-itself i held n)
       go (Some f) e = goes-by i held n _ (changes-tell i held n _ (will_stop_message (inward_edge f.router).decaying in_length)
           (told-changes n f.serial f.router (stop_proxying f.router in_length out_length) (found_tells n _ f e).0 (left f.router)))
-  handle-goes n sender (messages.ProxyWillStop link side in_length) counted held_ h = go (link_router n link side) refl
+  handle-goes n sender (messages.ProxyWillStop link side in_length) source counted held_ h = go (link_router n link side) refl
     where
       left : (r : Router) → IsLeft i held r (proxy_will_stop r in_length)
       left r = record {
@@ -578,7 +589,7 @@ module _ (i : ℕ) (held : Bool) where
       go None e = goes-by i held n n (changes-itself i held n)
       go (Some f) e = goes-by i held n _
           (told-changes n f.serial f.router (proxy_will_stop f.router in_length) (found_tells n _ f e).0 (left f.router))
-  handle-goes n sender (messages.Flush link side) counted held_ h = go (link_router n link side) refl
+  handle-goes n sender (messages.Flush link side) source counted held_ h = go (link_router n link side) refl
     where
       go : (o : Option Found) → link_router n link side ≡ o → Goes i held n (on_found n o (λ s r. with_router n s (flushed r)))
       go None e = goes-by i held n n (changes-itself i held n)
@@ -586,10 +597,12 @@ module _ (i : ℕ) (held : Bool) where
           (roused f.router _ refl refl refl refl refl refl refl refl))
 
   -- a message is delivered
-  pub deliver-goes : (n : Node) (sender : ℕ) (m : Message) → IsCounted n → NeedsHeld m → Goes i held n (deliver n sender m)
+  pub deliver-goes : (n : Node) (sender : ℕ) (m : Message) (source : Option ℕ) → IsCounted n → NeedsHeld m → Goes i held n
+      (deliver n sender m source)
   unfolding deliver
-  deliver-goes n sender m counted held_ = goes-else n _ _ (go (fits n sender m) refl) refl refl refl refl refl
+  deliver-goes n sender m source counted held_ = goes-else n _ _ (go (fits n sender m source) refl) refl refl refl refl refl
     where
-      go : (b : Bool) → fits n sender m ≡ b → Goes i held n (if b then handle n sender m else record n { strays = n.strays ++ m ∷ [] })
-      go true e = handle-goes n sender m counted held_ e
+      go : (b : Bool) → fits n sender m source ≡ b → Goes i held n
+          (if b then handle n sender m else record n { strays = n.strays ++ m ∷ [] })
+      go true e = handle-goes n sender m source counted held_ e
       go false e = goes-by i held n _ (changes-else i held n n _ (changes-itself i held n) refl refl refl (omega arith) refl)

@@ -47,7 +47,8 @@ on-central i s r h =
     at : (l : LinkId) → l ≡ Central i → word_of (Some (record { link = l; side = s; other = 0 })) ≡ Some i
     at l q = ap (λ z. word_of (Some (record { link = z; side = s; other = 0 }))) q
 
--- one router becomes another, seen from the link of one word: whoever tries there did so before; where the word isn't held, whoever could try
+-- one router becomes another, seen from the link of one word: whoever tries there did so before; where the word isn't held, whoever could
+-- try
 -- or owes a wake there still does. It has no new peripheral link but an inward one with a serial that wasn't in use
 pub record Follows (i : ℕ) (held : Bool) (number base : ℕ) (x y : Router) : Type 0 where
   pub tried : (s : Side) → y.tried ≡ true → has_primary (Central i) s y ≡ true →
@@ -97,7 +98,8 @@ module _ (i : ℕ) (held : Bool) where
     pub holds : y.holds ≡ x.holds
     pub wake : y.wake_owed ≡ x.wake_owed
 
-  pub on-kept : (x y : Router) (s : Side) → y.outward.primary ≡ x.outward.primary → has_primary (Central i) s y ≡ has_primary (Central i) s x
+  pub on-kept : (x y : Router) (s : Side) → y.outward.primary ≡ x.outward.primary → has_primary (Central i) s y ≡ has_primary
+      (Central i) s x
   on-kept x y s e = ap (λ p. has_link p (Central i) s) e
 
   pub follows-left : (number base : ℕ) (x y : Router) → IsLeft x y → Follows i held number base x y

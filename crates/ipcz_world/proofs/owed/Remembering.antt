@@ -13,7 +13,8 @@ pub on_word : (r : Router) → is_on_central r ≡ true → (i : ℕ) × (s : Si
 unfolding word_of
 on_word r h = go r.outward.primary refl h
   where
-    go : (o : Option LinkEnd) → r.outward.primary ≡ o → is_some (word_of o) ≡ true → (i : ℕ) × (s : Side) × (has_primary (Central i) s r ≡ true)
+    go : (o : Option LinkEnd) → r.outward.primary ≡ o → is_some (word_of o) ≡ true → (i : ℕ) × (s : Side) ×
+        (has_primary (Central i) s r ≡ true)
     go None e f = cc
     go (Some z) e f = at z.link refl
       where

@@ -7,7 +7,8 @@ use Rattle.std.proofs.lemmas.Option.{same_Some, none-some}
 use Rattle.ipcz_world.proofs.facts.Tests.{nat_eq-is, nat_eq-itself}
 use Rattle.ipcz_world.proofs.Vocabulary.{Side, Central, LinkEnd, Message, has, opposite, Router, is_possible, primary_word, word_of}
 use Rattle.ipcz_world.proofs.Vocabulary.{World, Key, node_at, word_at, mail_at, router_at, Books, Records, Inv, IsUnderWay, Word}
-use Rattle.ipcz_world.proofs.Vocabulary.{RouterAct, Node, outbox, commit, router_in, answer_of, after_act, set_node, set_word, set_claimed, way, messages_in}
+use Rattle.ipcz_world.proofs.Vocabulary.{RouterAct, Node, outbox, commit, router_in, answer_of, after_act, set_node, set_word}
+use Rattle.ipcz_world.proofs.Vocabulary.{set_claimed, way, messages_in}
 use Rattle.ipcz_world.proofs.Vocabulary.{set_router, side_node, IsRecorded}
 use Rattle.ipcz_base.specs.declared.message.Message.TheVariants as messages
 use Rattle.ipcz_base.proofs.Indexed.{place_at-put_place}
@@ -19,6 +20,7 @@ use Rattle.ipcz_node.specs.declared.act.Act.TheVariants.{Router as OfRouter}
 use Rattle.ipcz_node.specs.Node.{push_out}
 use Rattle.ipcz_world.specs.World.{push_message}
 use Rattle.ipcz_world.specs.Turns.{after_router_act}
+use Rattle.ipcz_router.specs.Router.{source_of}
 use Rattle.ipcz_world.specs.WordAnswers.{touch, touch_word, claim_next}
 use Rattle.ipcz_world.specs.Acts.{wake_act}
 use Rattle.ipcz_world.specs.Owed.{FlagsAgree, HasFlush, HaveWakers, IsRanked}
@@ -36,15 +38,17 @@ use Rattle.ipcz_world.proofs.owed.Going.{IsOff, Changes, goes-by}
 use Rattle.ipcz_world.proofs.owed.Acting.{is_wordy, is_begin, act-changes}
 use Rattle.ipcz_world.proofs.owed.Moving.{Stays, Never, stays-node}
 use Rattle.ipcz_world.proofs.owed.Tracking.{tracks-node, KeepsFlush, HaveWakersOn, wakers-tracked, ranked-tracked, held-is}
-use Rattle.ipcz_world.proofs.owed.WordWakers.{IsOnWord, wakers-mark, wakers-locked, wakers-waits, wakers-refused, wakers-unlock, wakers-wake}
+use Rattle.ipcz_world.proofs.owed.WordWakers.{IsOnWord, wakers-mark, wakers-locked, wakers-waits, wakers-refused, wakers-unlock}
+use Rattle.ipcz_world.proofs.owed.WordWakers.{wakers-wake}
 use Rattle.ipcz_world.specs.World.{has_unclaimed_word}
 use Rattle.ipcz_world.specs.WordAnswers.{tells_waiting, woken}
 use Rattle.ipcz_world.specs.Acts.{tells_wake}
 
-node-touch_word : (w : World) (s : Side) (a : RouterAct) (o : Option ℕ) (j : ℕ) → node_at (touch_word w s a o) j ≡ node_at w j
+node-touch_word : (w : World) (s : Side) (source : Option ℕ) (a : RouterAct) (o : Option ℕ) (j : ℕ) → node_at
+    (touch_word w s source a o) j ≡ node_at w j
 unfolding touch_word
-node-touch_word w s a None j = refl
-node-touch_word w s a (Some i) j = node-set_word w i _ j
+node-touch_word w s source a None j = refl
+node-touch_word w s source a (Some i) j = node-set_word w i _ j
 
 node-claim_next : (w : World) (j : ℕ) → node_at (claim_next w) j ≡ node_at w j
 node-claim_next w j = go (has_unclaimed_word w)
@@ -61,18 +65,19 @@ node-touch w r acts.Discard j = refl
 node-touch w r acts.FinishOut j = refl
 node-touch w r acts.FinishIn j = refl
 node-touch w r acts.Leave j = refl
-node-touch w r acts.Mark j = node-touch_word w r.end.side acts.Mark (primary_word r) j
-node-touch w r acts.Wake j = node-touch_word w r.end.side acts.Wake (primary_word r) j
+node-touch w r acts.Mark j = node-touch_word w r.end.side (source_of r) acts.Mark (primary_word r) j
+node-touch w r acts.Wake j = node-touch_word w r.end.side (source_of r) acts.Wake (primary_word r) j
 node-touch w r acts.Claim j = node-claim_next w j
-node-touch w r acts.Lock j = node-touch_word w r.end.side acts.Lock (primary_word r) j
+node-touch w r acts.Lock j = node-touch_word w r.end.side (source_of r) acts.Lock (primary_word r) j
 node-touch w r acts.Begin j = refl
-node-touch w r acts.Unlock j = node-touch_word w r.end.side acts.Unlock (primary_word r) j
+node-touch w r acts.Unlock j = node-touch_word w r.end.side (source_of r) acts.Unlock (primary_word r) j
 node-touch w r acts.Rest j = refl
 
-mail-touch_word : (w : World) (s : Side) (a : RouterAct) (o : Option ℕ) (j : ℕ) → mail_at (touch_word w s a o) j ≡ mail_at w j
+mail-touch_word : (w : World) (s : Side) (source : Option ℕ) (a : RouterAct) (o : Option ℕ) (j : ℕ) → mail_at
+    (touch_word w s source a o) j ≡ mail_at w j
 unfolding touch_word
-mail-touch_word w s a None j = refl
-mail-touch_word w s a (Some i) j = mail-set_word w i _ j
+mail-touch_word w s source a None j = refl
+mail-touch_word w s source a (Some i) j = mail-set_word w i _ j
 
 mail-claim_next : (w : World) (j : ℕ) → mail_at (claim_next w) j ≡ mail_at w j
 mail-claim_next w j = go (has_unclaimed_word w)
@@ -89,20 +94,20 @@ mail-touch w r acts.Discard j = refl
 mail-touch w r acts.FinishOut j = refl
 mail-touch w r acts.FinishIn j = refl
 mail-touch w r acts.Leave j = refl
-mail-touch w r acts.Mark j = mail-touch_word w r.end.side acts.Mark (primary_word r) j
-mail-touch w r acts.Wake j = mail-touch_word w r.end.side acts.Wake (primary_word r) j
+mail-touch w r acts.Mark j = mail-touch_word w r.end.side (source_of r) acts.Mark (primary_word r) j
+mail-touch w r acts.Wake j = mail-touch_word w r.end.side (source_of r) acts.Wake (primary_word r) j
 mail-touch w r acts.Claim j = mail-claim_next w j
-mail-touch w r acts.Lock j = mail-touch_word w r.end.side acts.Lock (primary_word r) j
+mail-touch w r acts.Lock j = mail-touch_word w r.end.side (source_of r) acts.Lock (primary_word r) j
 mail-touch w r acts.Begin j = refl
-mail-touch w r acts.Unlock j = mail-touch_word w r.end.side acts.Unlock (primary_word r) j
+mail-touch w r acts.Unlock j = mail-touch_word w r.end.side (source_of r) acts.Unlock (primary_word r) j
 mail-touch w r acts.Rest j = refl
 
 -- the words of other links are as they were
-word-touch_word : (w : World) (s : Side) (a : RouterAct) (o : Option ℕ) (i : ℕ) → (o ≡ Some i → ⊥) →
-    word_at (touch_word w s a o) i ≡ word_at w i
+word-touch_word : (w : World) (s : Side) (source : Option ℕ) (a : RouterAct) (o : Option ℕ) (i : ℕ) → (o ≡ Some i → ⊥) →
+    word_at (touch_word w s source a o) i ≡ word_at w i
 unfolding touch_word
-word-touch_word w s a None i apart = refl
-word-touch_word w s a (Some j) i apart = word-set_word w j _ i ∙ off (nat_eq i j) _ _ (go (nat_eq i j) refl)
+word-touch_word w s source a None i apart = refl
+word-touch_word w s source a (Some j) i apart = word-set_word w j _ i ∙ off (nat_eq i j) _ _ (go (nat_eq i j) refl)
   where
     off : (c : Bool) (x y : Word) → c ≡ false → cond c x y ≡ y
     off true x y e = cc
@@ -128,12 +133,12 @@ word-touch w r acts.Discard i apart = refl
 word-touch w r acts.FinishOut i apart = refl
 word-touch w r acts.FinishIn i apart = refl
 word-touch w r acts.Leave i apart = refl
-word-touch w r acts.Mark i apart = word-touch_word w r.end.side acts.Mark (primary_word r) i (apart refl)
-word-touch w r acts.Wake i apart = word-touch_word w r.end.side acts.Wake (primary_word r) i (apart refl)
+word-touch w r acts.Mark i apart = word-touch_word w r.end.side (source_of r) acts.Mark (primary_word r) i (apart refl)
+word-touch w r acts.Wake i apart = word-touch_word w r.end.side (source_of r) acts.Wake (primary_word r) i (apart refl)
 word-touch w r acts.Claim i apart = word-claim_next w i
-word-touch w r acts.Lock i apart = word-touch_word w r.end.side acts.Lock (primary_word r) i (apart refl)
+word-touch w r acts.Lock i apart = word-touch_word w r.end.side (source_of r) acts.Lock (primary_word r) i (apart refl)
 word-touch w r acts.Begin i apart = refl
-word-touch w r acts.Unlock i apart = word-touch_word w r.end.side acts.Unlock (primary_word r) i (apart refl)
+word-touch w r acts.Unlock i apart = word-touch_word w r.end.side (source_of r) acts.Unlock (primary_word r) i (apart refl)
 word-touch w r acts.Rest i apart = refl
 
 -- a message that was pushed is under way
@@ -266,7 +271,8 @@ module _ (w : World) (b : Books) (g : Records) (law : Inv w b g) (flags : FlagsA
   on_word i y z link outward is = record {
     here = here;
     routers = λ q. ap (λ u. router_at u q) is ∙ router-set_word (set_router w k y) i z q ∙ router-set_router w k y q;
-    word = ap (λ u. word_at u i) is ∙ word-set_word (set_router w k y) i z i ∙ ap (λ c. cond c z (word_at (set_router w k y) i)) (nat_eq-itself i);
+    word = ap (λ u. word_at u i) is ∙ word-set_word (set_router w k y) i z i ∙ ap (λ c. cond c z (word_at (set_router w k y) i))
+        (nat_eq-itself i);
     stays = stays;
     link = link;
     outward = outward;
@@ -278,7 +284,8 @@ module _ (w : World) (b : Books) (g : Records) (law : Inv w b g) (flags : FlagsA
     here = here;
     routers = λ q. ap (λ u. router_at u q) is ∙ push-router u n e.other m q ∙ router-set_word (set_router w k (wake_other r)) i z q
         ∙ router-set_router w k (wake_other r) q;
-    word = ap (λ a. word_at a i) is ∙ word-set_node u n (push_out (node_at u n) e.other m) i ∙ word-set_word (set_router w k (wake_other r)) i z i
+    word = ap (λ a. word_at a i) is ∙ word-set_node u n (push_out (node_at u n) e.other m) i ∙ word-set_word
+        (set_router w k (wake_other r)) i z i
         ∙ ap (λ c. cond c z (word_at (set_router w k (wake_other r)) i)) (nat_eq-itself i);
     stays = stays;
     link = link;
@@ -307,7 +314,8 @@ module _ (w : World) (b : Books) (g : Records) (law : Inv w b g) (flags : FlagsA
   mark_wakers : may_take r acts.Mark ≡ true → HaveWakersOn i (after_act w n (OfRouter s acts.Mark))
   unfolding is_possible is_rest
   mark_wakers may = wakers-mark w _ b g law flags at r (mark_side r (tells_waiting (word_at w i) r.end.side)) i
-      (mark (word_at w i) r.end.side) (on_word w b g law flags n s acts.Mark r here may i _ _ link refl (acted-mark w n s i r here link)) wakers
+      (mark (word_at w i) r.end.side) (on_word w b g law flags n s acts.Mark r here may i _ _ link refl
+      (acted-mark w n s i r here link)) wakers
       refl refl (bare (possible acts.Mark refl may))
     where
       bare : is_possible r acts.Mark ≡ true → r.marked ≡ false
@@ -327,8 +335,9 @@ module _ (w : World) (b : Books) (g : Records) (law : Inv w b g) (flags : FlagsA
       able = possible acts.Lock refl may
 
       go : (plan : Plan) → plan_of (word_at w i) r.end.side ≡ plan → HaveWakersOn i (after_act w n (OfRouter s acts.Lock))
-      go Locks e = wakers-locked w _ b g law flags at r (take_lock r) i (lock (word_at w i) r.end.side)
-          (on_word w b g law flags n s acts.Lock r here may i _ _ link refl (acted-lock w n s i r Locks here link e)) wakers refl refl
+      go Locks e = wakers-locked w _ b g law flags at r (take_lock r) i (lock (word_at w i) r.end.side (source_of r))
+          (on_word w b g law flags n s acts.Lock r here may i _ _ link refl (acted-lock w n s i r Locks here link e)) wakers refl
+          (source_of r) refl
           (able-tells r able).untried
       go Waits e = wakers-waits w _ b g law flags at r (fail_lock r) i (wait (word_at w i) r.end.side)
           (on_word w b g law flags n s acts.Lock r here may i _ _ link refl (acted-lock w n s i r Waits here link e)) wakers e refl refl
@@ -356,7 +365,8 @@ module _ (w : World) (b : Books) (g : Records) (law : Inv w b g) (flags : FlagsA
       is : IsOnWord w v at r (wake_other r) i (woken (word_at w i) r.end.side)
       is = on_wake w b g law flags n s acts.Wake r here may i e.0 link acted-is
 
-      sends : (e : LinkEnd) → r.outward.primary ≡ Some e → e.link ≡ Central i → e.side ≡ r.end.side → HasFlush v i (opposite r.end.side) e.other
+      sends : (e : LinkEnd) → r.outward.primary ≡ Some e → e.link ≡ Central i → e.side ≡ r.end.side → HasFlush v i
+          (opposite r.end.side) e.other
       sends e q l d = record { from = n; place = t.0; under_way = under }
         where
           u : World
@@ -381,7 +391,8 @@ module _ (w : World) (b : Books) (g : Records) (law : Inv w b g) (flags : FlagsA
               (subst (λ z. IsUnderWay z n e.other t.0 (tells_wake e)) (sym (acted-wake w n s i r e here link q)) t.1))
 
 -- an act of a router
-pub wakers-router : (w : World) (b : Books) (g : Records) → Inv w b g → FlagsAgree w → HaveWakers w → (n s : ℕ) (act : RouterAct) (r : Router) →
+pub wakers-router : (w : World) (b : Books) (g : Records) → Inv w b g → FlagsAgree w → HaveWakers w → (n s : ℕ) (act : RouterAct)
+    (r : Router) →
     router_at w (record { node = n; serial = s }) ≡ Some r → may_take r act ≡ true → HaveWakers (after_act w n (OfRouter s act))
 unfolding is_wordy
 wakers-router w b g law flags wakers n s act r here may i = go (primary_word r) refl

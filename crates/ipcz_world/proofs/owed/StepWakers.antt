@@ -9,8 +9,10 @@ use Rattle.std.specs.Cmp.{nat_cmp_total}
 use Rattle.std.specs.FinMap.{get-insert}
 use Rattle.ipcz_world.proofs.facts.Tests.{false-true, nat_eq-is, not_both}
 use Rattle.ipcz_world.proofs.Vocabulary.{Side, End, LinkId, Central, Message, Refusal, Router, open_word, Found}
-use Rattle.ipcz_world.proofs.Vocabulary.{World, Key, node_at, word_at, mail_at, router_at, Books, Records, Inv, has_primary, IsUnderWay, proxy_side}
-use Rattle.ipcz_world.proofs.Vocabulary.{Act, Hand, Close, Node, outbox, commit, router_in, after_act, can_take, hand_message, set_node, set_word}
+use Rattle.ipcz_world.proofs.Vocabulary.{World, Key, node_at, word_at, mail_at, router_at, Books, Records, Inv, has_primary, IsUnderWay}
+use Rattle.ipcz_world.proofs.Vocabulary.{proxy_side}
+use Rattle.ipcz_world.proofs.Vocabulary.{Act, Hand, Close, Node, outbox, commit, router_in, after_act, can_take, hand_message, set_node}
+use Rattle.ipcz_world.proofs.Vocabulary.{set_word}
 use Rattle.ipcz_world.proofs.Vocabulary.{set_claimed, set_mail, way, is_linked, is_begun, router_has, unless, Reply, with_router}
 use Rattle.ipcz_base.specs.declared.parcel.Parcel as parcels
 use Rattle.ipcz_base.specs.declared.message.Message.TheVariants as messages
@@ -23,18 +25,22 @@ use Rattle.ipcz_node.specs.declared.act.Act.TheVariants.{Look, Post, Router as O
 use Rattle.ipcz_node.specs.Node.{link_router, on_found, with_outbox}
 use Rattle.ipcz_node.specs.Calls.{put_node, put_refusal, get_node, get_refusal, close_node, close_refusal, open_node, serials_refusal}
 use Rattle.ipcz_node.specs.Hands.{deliver, handle, fits, is_hand_of}
+use Rattle.ipcz_world.specs.WordAnswers.{source_for}
 use Rattle.ipcz_world.specs.declared.mail.Mail.{Mail}
 use Rattle.ipcz_world.specs.declared.mail.Mail.TheVariants as mails
 use Rattle.ipcz_world.specs.declared.step.Step.{Step}
 use Rattle.ipcz_world.specs.declared.step.Step.TheVariants as steps
 use Rattle.ipcz_world.specs.Turns.{after_hand, may_act, turn_lacks_serials, is_full, is_clear}
-use Rattle.ipcz_world.specs.Steps.{Effect, GivesOrNoMemory, refuse, at_node, open_with, open_on, open_step, close_step, claim_for_open, StepAny}
+use Rattle.ipcz_world.specs.Steps.{Effect, GivesOrNoMemory, refuse, at_node, open_with, open_on, open_step, close_step, claim_for_open}
+use Rattle.ipcz_world.specs.Steps.{StepAny}
 use Rattle.ipcz_world.specs.Owed.{FlagsAgree, HaveWakers, IsRanked}
 use Rattle.ipcz_world.proofs.acts.Mailing.{acted-look, acted-post}
 use Rattle.ipcz_world.proofs.facts.Finding.{found_tells, found_there}
 use Rattle.ipcz_world.proofs.facts.Lengths.{same_side-itself}
-use Rattle.ipcz_world.proofs.frames.Frames.{node-set_node, node-set_word, node-set_claimed, node-set_mail, mail-set_node, word-set_node, word-set_mail}
-use Rattle.ipcz_world.proofs.frames.Frames.{word-set_word, word-set_claimed, count-set_node, count-set_word, count-set_claimed, mail-set_claimed, mail-set_word}
+use Rattle.ipcz_world.proofs.frames.Frames.{node-set_node, node-set_word, node-set_claimed, node-set_mail, mail-set_node, word-set_node}
+use Rattle.ipcz_world.proofs.frames.Frames.{word-set_mail}
+use Rattle.ipcz_world.proofs.frames.Frames.{word-set_word, word-set_claimed, count-set_node, count-set_word, count-set_claimed}
+use Rattle.ipcz_world.proofs.frames.Frames.{mail-set_claimed, mail-set_word}
 use Rattle.ipcz_world.proofs.hands.BypassAsked.{asked_router}
 use Rattle.ipcz_world.proofs.hands.Handling.{IsInHand, under_way-hand}
 use Rattle.ipcz_world.proofs.lawful.LinkLaws.{on_tells}
@@ -44,7 +50,8 @@ use Rattle.ipcz_world.proofs.views.Telling.{IsAccept, accept_told}
 use Rattle.ipcz_world.proofs.owed.Going.{IsCounted, Goes, Changes, goes-by, changes-itself, changes-else}
 use Rattle.ipcz_world.proofs.owed.Acting.{NeedsHeld, deliver-goes, put-changes, get-changes, close-changes, pending-changes, open-goes}
 use Rattle.ipcz_world.proofs.owed.Moving.{Stays, Never, Handed, stays-node, stays-look, stays-post, stays-hand}
-use Rattle.ipcz_world.proofs.owed.Tracking.{Tracks, tracks-node, tracks-same, KeepsFlush, HaveWakersOn, wakers-tracked, ranked-tracked, held-is}
+use Rattle.ipcz_world.proofs.owed.Tracking.{Tracks, tracks-node, tracks-same, KeepsFlush, HaveWakersOn, wakers-tracked, ranked-tracked}
+use Rattle.ipcz_world.proofs.owed.Tracking.{held-is}
 use Rattle.ipcz_world.proofs.owed.RouterWakers.{wakers-router, ranked-router}
 use Rattle.ipcz_world.specs.World.{has_unclaimed_word}
 use Rattle.ipcz_node.specs.Hands.{flushed}
@@ -55,10 +62,10 @@ pub record IsOwing (w : World) : Type 0 where
   pub ranked : IsRanked w
 
 -- a Flush rouses the router that it finds
-flush-rouses : (n : Node) (sender : ℕ) (l : LinkId) (s : Side) (f : Found) → link_router n l s ≡ Some f →
-    router_in (deliver n sender (messages.Flush l s)) f.serial ≡ Some (flushed f.router)
+flush-rouses : (n : Node) (sender : ℕ) (l : LinkId) (s : Side) (source : Option ℕ) (f : Found) → link_router n l s ≡ Some f →
+    router_in (deliver n sender (messages.Flush l s) source) f.serial ≡ Some (flushed f.router)
 unfolding deliver handle fits on_found
-flush-rouses n sender l s f found = ap (λ o. router_in (on_found n o (λ s r. with_router n s (rouse r))) f.serial) found
+flush-rouses n sender l s source f found = ap (λ o. router_in (on_found n o (λ s r. with_router n s (rouse r))) f.serial) found
     ∙ grind (arith, get-insert nat_cmp_total n.routers f.serial (flushed f.router) f.serial, nat_tests)
 
 -- a mailbox whose message is in hand
@@ -97,7 +104,8 @@ module _ (w : World) (b : Books) (g : Records) (law : Inv w b g) (flags : FlagsA
   by_call : (n : ℕ) (x : Node) → ((i : ℕ) → Changes i (is_held (word_at w i)) (node_at w n) x) → IsOwing (set_node w n x)
   by_call n x changes = by_node (set_node w n x) n x (node-set_node w n x) (word-set_node w n x)
       (λ i. goes-by i (is_held (word_at w i)) (node_at w n) x (changes i))
-      (λ i. keeps-by i (set_node w n x) (stays-node w (set_node w n x) n x (count-set_node w n x) (node-set_node w n x) (mail-set_node w n x)
+      (λ i. keeps-by i (set_node w n x) (stays-node w (set_node w n x) n x (count-set_node w n x) (node-set_node w n x)
+      (mail-set_node w n x)
       (changes 0).boxes))
 
   put_owing : (n : ℕ) (e : End) (p : parcels.Parcel) → IsOwing (set_node w n (put_node (node_at w n) e p))
@@ -180,7 +188,7 @@ module _ (w : World) (b : Books) (g : Records) (law : Inv w b g) (flags : FlagsA
   -- a message is handed over
   module _ (n from : ℕ) (m : Message) (in_hand : IsInHand w n from m) where
     abbrev x : Node
-    x = deliver (node_at w n) from m
+    x = deliver (node_at w n) from m (source_for w m)
 
     abbrev v : World
     v = set_mail (set_node w n x) (way w from n) mails.Empty
@@ -199,7 +207,7 @@ module _ (w : World) (b : Books) (g : Records) (law : Inv w b g) (flags : FlagsA
     needs i (messages.Flush link side) e = record {}
 
     goes : (i : ℕ) → Goes i (is_held (word_at w i)) (node_at w n) x
-    goes i = deliver-goes i (is_held (word_at w i)) (node_at w n) from m (counted n) (needs i m refl)
+    goes i = deliver-goes i (is_held (word_at w i)) (node_at w n) from m (source_for w m) (counted n) (needs i m refl)
 
     nodes : (j : ℕ) → node_at v j ≡ cond (nat_eq j n) x (node_at w j)
     nodes j = node-set_mail (set_node w n x) (way w from n) mails.Empty j ∙ node-set_node w n x j
@@ -229,9 +237,9 @@ module _ (w : World) (b : Books) (g : Records) (law : Inv w b g) (flags : FlagsA
         serial : k.serial ≡ f.0.serial
         serial = ap (λ a. a.serial) key
 
-        node_is : node_at v k.node ≡ deliver (node_at w k.node) from (messages.Flush (Central i) s)
-        node_is = nodes k.node ∙ go (nat_eq k.node n) refl ∙ ap (λ a. deliver (node_at w a) from m) (sym node)
-            ∙ ap (deliver (node_at w k.node) from) flush
+        node_is : node_at v k.node ≡ deliver (node_at w k.node) from (messages.Flush (Central i) s) (source_for w m)
+        node_is = nodes k.node ∙ go (nat_eq k.node n) refl ∙ ap (λ a. deliver (node_at w a) from m (source_for w m)) (sym node)
+            ∙ ap (λ a. deliver (node_at w k.node) from a (source_for w m)) flush
           where
             go : (c : Bool) → nat_eq k.node n ≡ c → cond c x (node_at w k.node) ≡ x
             go true e = refl
@@ -242,8 +250,8 @@ module _ (w : World) (b : Books) (g : Records) (law : Inv w b g) (flags : FlagsA
 
         now : router_in (node_at v k.node) k.serial ≡ Some (flushed f.0.router)
         now = ap (λ a. router_in a k.serial) node_is
-            ∙ ap (router_in (deliver (node_at w k.node) from (messages.Flush (Central i) s))) serial
-            ∙ flush-rouses (node_at w k.node) from (Central i) s f.0 f.1
+            ∙ ap (router_in (deliver (node_at w k.node) from (messages.Flush (Central i) s) (source_for w m))) serial
+            ∙ flush-rouses (node_at w k.node) from (Central i) s (source_for w m) f.0 f.1
 
         untried : flushed f.0.router ≡ z → ⊥
         untried e = false-true (ap (λ a. a.tried) e ∙ tried)
@@ -291,7 +299,8 @@ module _ (w : World) (b : Books) (g : Records) (law : Inv w b g) (flags : FlagsA
       v = set_mail (set_node w n x) (way w n to) (mails.Full m)
 
       same : (k : Key) → router_in (node_at v k.node) k.serial ≡ router_in (node_at w k.node) k.serial
-      same k = ap (λ a. router_in a k.serial) (node-set_mail (set_node w n x) (way w n to) (mails.Full m) k.node ∙ node-set_node w n x k.node)
+      same k = ap (λ a. router_in a k.serial) (node-set_mail (set_node w n x) (way w n to) (mails.Full m) k.node
+          ∙ node-set_node w n x k.node)
           ∙ go (nat_eq k.node n) refl
         where
           go : (c : Bool) → nat_eq k.node n ≡ c →

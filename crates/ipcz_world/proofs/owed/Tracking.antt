@@ -179,7 +179,8 @@ ranked-tracked w v b g i held law tracks ranked = record {
     below k y at (inl t) = omega (arith, old_rank k t.0 t.1, ranked.below k t.0 t.1)
     below k y at (inr t) = omega (arith, new_rank k t.0)
 
-    rises : (j k : Key) (q r : Router) (n x : ℕ) → router_at v j ≡ Some q → router_at v k ≡ Some r → inward_has q (Peripheral n x) A ≡ true →
+    rises : (j k : Key) (q r : Router) (n x : ℕ) → router_at v j ≡ Some q → router_at v k ≡ Some r → inward_has q
+        (Peripheral n x) A ≡ true →
         outward_has r (Peripheral n x) B ≡ true → Old j q ⊎ New j q → Old k r ⊎ New k r → rank j < rank k
     rises j k q r n x at here inn out (inr t) other = absurd (terminal-bare q (Peripheral n x) A t.1.terminal inn)
     rises j k q r n x at here inn out (inl t) (inr u) =
@@ -189,7 +190,8 @@ ranked-tracked w v b g i held law tracks ranked = record {
       | inr a ↦ absurd (not_yet k u.0 u.1 (u.2.outward n x out) a.0 a.1)
     ]
       where
-        not_yet : (k : Key) (y : Router) → router_at w k ≡ Some y → outward_has y (Peripheral n x) B ≡ true → n ≡ (node_at w j.node).number →
+        not_yet : (k : Key) (y : Router) → router_at w k ≡ Some y → outward_has y (Peripheral n x) B ≡ true → n ≡
+            (node_at w j.node).number →
             (node_at w j.node).next_peripheral ≤ x → ⊥
         not_yet k y at has_it number above = go (has_link y.outward.primary (Peripheral n x) B) refl
           where

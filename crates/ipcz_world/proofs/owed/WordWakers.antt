@@ -2,7 +2,8 @@
 use Rattle.std.specs.Prelude.{◌≡◌, ◌⊎◌, ℕ, Bool, true, false, ◌||◌, not, cond, if◌then◌else◌, Option, Some, None, is_some, refl}
 use Rattle.std.proofs.Common.{arith, ap, sym, ◌∙◌, subst, inl, inr}
 use Rattle.std.proofs.lemmas.Option.{same_Some, none-some}
-use Rattle.ipcz_world.proofs.Vocabulary.{Side, A, B, LinkId, Central, Peripheral, LinkEnd, has, opposite, Router, is_possible, primary_word, word_of}
+use Rattle.ipcz_world.proofs.Vocabulary.{Side, A, B, LinkId, Central, Peripheral, LinkEnd, has, opposite, Router, is_possible}
+use Rattle.ipcz_world.proofs.Vocabulary.{primary_word, word_of}
 use Rattle.ipcz_world.proofs.Vocabulary.{World, Key, word_at, router_at, Books, Records, Inv, has_primary, Word, has_link, side_node}
 use Rattle.ipcz_world.proofs.Vocabulary.{IsRecorded, side_end, same_key, side_router}
 use Rattle.ipcz_base.specs.declared.message.Message.TheVariants as messages
@@ -68,7 +69,8 @@ module _ (w v : World) (b : Books) (g : Records) (law : Inv w b g) (flags : Flag
   unfolding word_of
   own_link = go r.outward.primary refl is.link
     where
-      go : (o : Option LinkEnd) → r.outward.primary ≡ o → word_of o ≡ Some i → (e : LinkEnd) × (r.outward.primary ≡ Some e) × (e.link ≡ Central i)
+      go : (o : Option LinkEnd) → r.outward.primary ≡ o → word_of o ≡ Some i → (e : LinkEnd) × (r.outward.primary ≡ Some e) ×
+          (e.link ≡ Central i)
       go None e f = cc
       go (Some z) e f = (z, e, at z.link refl)
         where
@@ -142,7 +144,13 @@ module _ (w v : World) (b : Books) (g : Records) (law : Inv w b g) (flags : Flag
 
   -- who passes a test on the other side does so still
   other_passes : (test : Router → Bool) → PrimaryPasses w i (opposite t) test → PrimaryPasses v i (opposite t) test
-  other_passes test p = record { key = p.key; router = p.router; here = stays_there p.key p.router apart p.here; on = p.on; passes = p.passes }
+  other_passes test p = record {
+    key = p.key;
+    router = p.router;
+    here = stays_there p.key p.router apart p.here;
+    on = p.on;
+    passes = p.passes;
+  }
     where
       apart : p.key ≡ k → ⊥
       apart e =
@@ -168,7 +176,8 @@ module _ (w v : World) (b : Books) (g : Records) (law : Inv w b g) (flags : Flag
   by_sides own other q z s at tried on = elim (was q z at) [
     | inl e ↦
         let side : s ≡ t = only_side s (sym (y_on s) ∙ subst (λ a. has_primary (Central i) s a ≡ true) e.1 on) in
-        subst (λ d. HasWaker v i d q.node) (sym side) (subst (λ a. HasWaker v i t a.node) (sym e.0) (own (subst (λ a. a.tried ≡ true) e.1 tried)))
+        subst (λ d. HasWaker v i d q.node) (sym side)
+        (subst (λ a. HasWaker v i t a.node) (sym e.0) (own (subst (λ a. a.tried ≡ true) e.1 tried)))
     | inr e ↦
         let side : s ≡ opposite t = across q z s e.0 e.1 on in
         let on_other : has_primary (Central i) (opposite t) z ≡ true = subst (λ d. has_primary (Central i) d z ≡ true) side on in
@@ -186,7 +195,8 @@ module _ (w v : World) (b : Books) (g : Records) (law : Inv w b g) (flags : Flag
       waiting : (s : Side) → has (word_at v i).waiting s ≡ has (word_at w i).waiting s
       waiting s = ap (λ z. has z.waiting s) (is.word ∙ is_x)
 
-      other : (q : Key) (z : Router) → (q ≡ k → ⊥) → router_at w q ≡ Some z → z.tried ≡ true → has_primary (Central i) (opposite t) z ≡ true →
+      other : (q : Key) (z : Router) → (q ≡ k → ⊥) → router_at w q ≡ Some z → z.tried ≡ true → has_primary (Central i)
+          (opposite t) z ≡ true →
           HasWaker w i (opposite t) q.node → HasWaker v i (opposite t) q.node
       other q z apart at tried on (inl h) = inl (holder (opposite (opposite t)) ∙ h)
       other q z apart at tried on (inr (inl f)) = inr (inl (flush (opposite t) q.node f))
@@ -204,8 +214,8 @@ module _ (w v : World) (b : Books) (g : Records) (law : Inv w b g) (flags : Flag
       )))
 
   -- a lock that is got
-  pub wakers-locked : y ≡ take_lock r → x ≡ lock (word_at w i) t → r.tried ≡ false → HaveWakersOn i v
-  wakers-locked is_y is_x untried = by_sides (λ h. not_both r.tried (sym (ap (λ z. z.tried) is_y) ∙ h) untried)
+  pub wakers-locked : y ≡ take_lock r → (source : Option ℕ) → x ≡ lock (word_at w i) t source → r.tried ≡ false → HaveWakersOn i v
+  wakers-locked is_y source is_x untried = by_sides (λ h. not_both r.tried (sym (ap (λ z. z.tried) is_y) ∙ h) untried)
       (λ q z apart at tried on m. inl (ap (λ a. has a.holder (opposite (opposite t))) (is.word ∙ is_x)
       ∙ has-with_here (word_at w i).holder t (opposite (opposite t)) (opposite_opposite t)))
 
@@ -222,7 +232,8 @@ module _ (w v : World) (b : Books) (g : Records) (law : Inv w b g) (flags : Flag
       unstable : has (word_at w i).stable (opposite t) ≡ false
       unstable = (plan-tells (word_at w i) t).waits plan
 
-  pub wakers-refused : plan_of (word_at w i) t ≡ Refuses → y ≡ fail_lock r → x ≡ word_at w i → r.marked ≡ true → r.holds ≡ false → HaveWakersOn i v
+  pub wakers-refused : plan_of (word_at w i) t ≡ Refuses → y ≡ fail_lock r → x ≡ word_at w i → r.marked ≡ true → r.holds ≡ false →
+      HaveWakersOn i v
   wakers-refused plan is_y is_x marked free = by_sides
       (λ h. inl (ap (λ a. has a.holder (opposite t)) (is.word ∙ is_x) ∙ held))
       (λ q z apart at tried on m. not_both (has (word_at w i).holder (opposite t)) held
@@ -285,7 +296,8 @@ module _ (w v : World) (b : Books) (g : Records) (law : Inv w b g) (flags : Flag
       own (inr (inl f)) = inr (inl (flush t k.node f))
       own (inr (inr (inl p))) = inr (inr (inl (other_passes (λ r. is_possible r acts.Lock) p)))
       own (inr (inr (inr (waits, more)))) = inr (inr (inr (
-        ap (λ a. has a.waiting t) (is.word ∙ is_x) ∙ has-without_apart (word_at w i).waiting (opposite t) t (λ e. not_opposite t (sym e)) ∙ waits,
+        ap (λ a. has a.waiting t) (is.word ∙ is_x) ∙ has-without_apart (word_at w i).waiting (opposite t) t
+            (λ e. not_opposite t (sym e)) ∙ waits,
         elim more [
           | inl unstable ↦ inl (ap (λ a. has a.stable (opposite t)) (is.word ∙ is_x) ∙ unstable)
           | inr p ↦ inr (other_passes (λ r. r.wake_owed) p)
@@ -308,7 +320,8 @@ module _ (w v : World) (b : Books) (g : Records) (law : Inv w b g) (flags : Flag
       node_of q None n e = cc
       node_of q (Some z) n e = ap (λ a. a.node) (sym (same_Some (record { node = n; serial = z }) q e))
 
-      other : (q : Key) (z : Router) → (q ≡ k → ⊥) → router_at w q ≡ Some z → z.tried ≡ true → has_primary (Central i) (opposite t) z ≡ true →
+      other : (q : Key) (z : Router) → (q ≡ k → ⊥) → router_at w q ≡ Some z → z.tried ≡ true → has_primary (Central i)
+          (opposite t) z ≡ true →
           HasWaker w i (opposite t) q.node → HasWaker v i (opposite t) q.node
       other q z apart at tried on (inl h) = inl (holder (opposite (opposite t)) ∙ h)
       other q z apart at tried on (inr (inl f)) = inr (inl (flush (opposite t) q.node f))

@@ -1,6 +1,7 @@
 -- Where no item that wasn't read carries an end, the rank is within the limit that the world tells: messages move no end, and a terminal
 -- tells what its end has put.
-use Rattle.std.specs.Prelude.{◌≡◌, ◌≤◌, ◌<◌, ℕ, zero, suc, ◌+◌, ◌*◌, ◌-◌, Bool, true, false, not, cond, ◌&&◌, if◌then◌else◌, nat_lt, Option, Some, None}
+use Rattle.std.specs.Prelude.{◌≡◌, ◌≤◌, ◌<◌, ℕ, zero, suc, ◌+◌, ◌*◌, ◌-◌, Bool, true, false, not, cond, ◌&&◌, if◌then◌else◌, nat_lt}
+use Rattle.std.specs.Prelude.{Option, Some, None}
 use Rattle.std.specs.Prelude.{is_some, is_none, List, [], ◌∷◌, ◌++◌, length, slice_get, refl}
 use Rattle.std.proofs.Common.{arith, ap, subst, ◌∙◌, sym}
 use Rattle.std.proofs.lemmas.Bool.Decides.{nat_tests}
@@ -10,9 +11,12 @@ use Rattle.std.specs.Ordering.{nat_cmp}
 use Rattle.std.specs.FinMap.{FinMap, find, get, entries, get-entries}
 use Rattle.ipcz_base.specs.declared.message.Message.TheVariants as messages
 use Rattle.ipcz_base.specs.Totals.{total_of}
-use Rattle.ipcz_world.proofs.Vocabulary.{End, LinkId, Side, Descriptor, Item, Message, opposite_end, same_end, has_end, ends_in, total, total_list, place_at}
-use Rattle.ipcz_world.proofs.Vocabulary.{Router, Node, Edge, bare_node, inward_edge, is_terminal, outbox, World, Key, node_at, mail_at, way, router_at, Books, read}
-use Rattle.ipcz_world.proofs.Vocabulary.{is_closed, Records, Terminal, At, IsUnderWay, moves_of, under_way, messages_in, flow, at_end, is_nowhere}
+use Rattle.ipcz_world.proofs.Vocabulary.{End, LinkId, Side, Descriptor, Item, Message, opposite_end, same_end, has_end, ends_in, total}
+use Rattle.ipcz_world.proofs.Vocabulary.{total_list, place_at}
+use Rattle.ipcz_world.proofs.Vocabulary.{Router, Node, Edge, bare_node, inward_edge, is_terminal, outbox, World, Key, node_at, mail_at}
+use Rattle.ipcz_world.proofs.Vocabulary.{way, router_at, Books, read}
+use Rattle.ipcz_world.proofs.Vocabulary.{is_closed, Records, Terminal, At, IsUnderWay, moves_of, under_way, messages_in, flow, at_end}
+use Rattle.ipcz_world.proofs.Vocabulary.{is_nowhere}
 use Rattle.ipcz_edge.specs.Edge.{edge_decays}
 use Rattle.ipcz_router.specs.Router.{is_proxy, is_on_central}
 use Rattle.ipcz_router.specs.Calls.{next_number}
@@ -27,10 +31,12 @@ use Rattle.ipcz_world.specs.Turns.{is_clear}
 use Rattle.ipcz_world.specs.Routes as routes
 use Rattle.ipcz_world.specs.Routes.{Routes}
 use Rattle.ipcz_world.specs.Lawful.{Lawful}
-use Rattle.ipcz_world.specs.Ranks.{Rates, worth, worth_left, is_unbegun, bypass_worth, router_worth, moves_worth, message_worth, box_worth, node_worth}
+use Rattle.ipcz_world.specs.Ranks.{Rates, worth, worth_left, is_unbegun, bypass_worth, router_worth, moves_worth, message_worth}
+use Rattle.ipcz_world.specs.Ranks.{box_worth, node_worth}
 use Rattle.ipcz_world.specs.Ranks.{mail_worth, rank}
 use Rattle.ipcz_world.specs.SettleBounds.{CarryNone, PlainLimitIsEnough, plain_rates, plain_limit}
-use Rattle.ipcz_world.specs.SettleLimit.{higher, put_among, put_within, numbers_left, router_limit, node_limit, settle_limit, RankIsWithinLimit}
+use Rattle.ipcz_world.specs.SettleLimit.{higher, put_among, put_within, numbers_left, router_limit, node_limit, settle_limit}
+use Rattle.ipcz_world.specs.SettleLimit.{RankIsWithinLimit}
 use Rattle.ipcz_world.specs.SettleLimit.{SettleLimitIsEnough}
 use Rattle.ipcz_world.proofs.facts.LinkTests.{same_end-itself, same_end-tells}
 use Rattle.ipcz_world.proofs.flows.Flowing.{found, total_list-found}
@@ -55,7 +61,8 @@ higher-second a b = go (nat_lt a b) refl
     go false e = grind (arith, e, nat_tests)
 
 -- a terminal among routers
-put_among-has : (e : End) (s : ℕ) (r : Router) (xs : List (ℕ × Router)) → find nat_cmp s xs ≡ Some r → (is_terminal r && same_end r.end e) ≡ true →
+put_among-has : (e : End) (s : ℕ) (r : Router) (xs : List (ℕ × Router)) → find nat_cmp s xs ≡ Some r →
+    (is_terminal r && same_end r.end e) ≡ true →
     next_number r ≤ put_among e xs
 put_among-has e s r [] h is = cc
 put_among-has e s r (x ∷ xs) h is = go _ h (put_among-has e s r xs)
@@ -239,7 +246,8 @@ module _ (w : World) (b : Books) (g : Routes) (law : Lawful w b g) (none : Carry
   )
 
   -- the messages to a node, each of which is under way
-  box-most : (n to : ℕ) (box : List Message) → n < w.count → to < w.count → outbox (node_at w n) to ≡ box → box_worth c box ≤ 38 * length box
+  box-most : (n to : ℕ) (box : List Message) → n < w.count → to < w.count → outbox (node_at w n) to ≡ box →
+      box_worth c box ≤ 38 * length box
   unfolding flow
   box-most n to box l m e = omega (
     arith,
@@ -304,8 +312,16 @@ module _ (w : World) (b : Books) (g : Routes) (law : Lawful w b g) (none : Carry
   mail-most : (k : ℕ) (x : Mail) → slice_get w.mail k ≡ Some x → mail_worth c x ≤ 37 * cond (is_clear x) 0 1
   unfolding mail_worth mail_at messages_in is_clear
   mail-most k mails.Empty at = omega arith
-  mail-most k (mails.Full m) at = omega (arith, message-most m (mailed-bare k m (ap messages_in (placed mails.Empty w.mail k (mails.Full m) at))))
-  mail-most k (mails.Hand m) at = omega (arith, message-most m (mailed-bare k m (ap messages_in (placed mails.Empty w.mail k (mails.Hand m) at))))
+  mail-most k (mails.Full m) at = omega (
+    arith,
+    message-most m
+        (mailed-bare k m (ap messages_in (placed mails.Empty w.mail k (mails.Full m) at))),
+  )
+  mail-most k (mails.Hand m) at = omega (
+    arith,
+    message-most m
+        (mailed-bare k m (ap messages_in (placed mails.Empty w.mail k (mails.Hand m) at))),
+  )
 
   limit-most : plain_limit b w ≤ settle_limit w
   unfolding rank settle_limit

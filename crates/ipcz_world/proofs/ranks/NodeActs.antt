@@ -4,8 +4,10 @@ use Rattle.std.specs.Prelude.{is_some, is_none, List, [], ◌∷◌, length, opt
 use Rattle.std.proofs.Common.{arith, ap, subst, ◌∙◌, sym}
 use Rattle.std.specs.FinMap.{get}
 use Rattle.ipcz_base.specs.Links.{word_of}
-use Rattle.ipcz_world.proofs.Vocabulary.{End, Item, LinkEnd, Message, Edge, opposite, opposite_end, ends_in, inward_edge, Router, Node, Found}
-use Rattle.ipcz_world.proofs.Vocabulary.{with_router, router_in, terminal_of, current_item, output_of, is_possible, RouterAct, commit, Close}
+use Rattle.ipcz_world.proofs.Vocabulary.{End, Item, LinkEnd, Message, Edge, opposite, opposite_end, ends_in, inward_edge, Router, Node}
+use Rattle.ipcz_world.proofs.Vocabulary.{Found}
+use Rattle.ipcz_world.proofs.Vocabulary.{with_router, router_in, terminal_of, current_item, output_of, is_possible, RouterAct, commit}
+use Rattle.ipcz_world.proofs.Vocabulary.{Close}
 use Rattle.ipcz_base.specs.declared.message.Message.TheVariants as messages
 use Rattle.ipcz_edge.specs.Edge.{edge_decays, can_finish}
 use Rattle.ipcz_seq.specs.Queue.{reach}
@@ -148,7 +150,8 @@ module _ (c : Rates) (n : Node) (s : ℕ) (r : Router) (here : get n.routers s �
       less : node_worth c (with_router n s (wake_other r)) + 6 ≤ node_worth c n
       less = changed (wake_other r) 6 (routers.lower-wake c r (and_first _ _ can))
 
-      go : (o : Option LinkEnd) → node_worth c (send (with_router n s (wake_other r)) (message_output (flush_message o))) + 1 ≤ node_worth c n
+      go : (o : Option LinkEnd) → node_worth c (send (with_router n s (wake_other r))
+          (message_output (flush_message o))) + 1 ≤ node_worth c n
       go None = omega (arith, less)
       go (Some e) = omega (
         arith,
@@ -168,7 +171,8 @@ module _ (c : Rates) (n : Node) (s : ℕ) (r : Router) (here : get n.routers s �
   lower-claim : is_possible r acts.Claim ≡ true → (a : Answer) → IsAnswerOf acts.Claim a → Lowers c n s acts.Claim a r
   unfolding is_possible commit_router keep_or_drop apply output_of send
   lower-claim can (answers.Claimed i) is = changed (claim_word r i) 1
-      (routers.lower-claim c r i (unbegun (and_first _ _ can)) (none-is r.spare (and_second (is_ready r) _ can)) (fresh (and_first _ _ can)).0)
+      (routers.lower-claim c r i (unbegun (and_first _ _ can)) (none-is r.spare (and_second (is_ready r) _ can))
+      (fresh (and_first _ _ can)).0)
   lower-claim can answers.NoWord is = changed (run_dry r) 1
       (routers.lower-dry c r (unbegun (and_first _ _ can)) (none-is r.spare (and_second (is_ready r) _ can)) (fresh (and_first _ _ can)).0)
   lower-claim can answers.Plain is = absurd is
@@ -182,8 +186,10 @@ module _ (c : Rates) (n : Node) (s : ℕ) (r : Router) (here : get n.routers s �
   unfolding is_possible commit_router keep_or_drop apply output_of send
   lower-lock can (answers.Locked w) is = changed (take_lock r) 1 (routers.lower-lock c r (unbegun (and_first _ _ can))
       (not-true r.holds (and_second (is_some r.spare) _ (and_second (is_ready r) _ can))))
-  lower-lock can (answers.Waiting w) is = changed (fail_lock r) 1 (routers.lower-try c r (unbegun (and_first _ _ can)) (fresh (and_first _ _ can)).1)
-  lower-lock can (answers.Refused w) is = changed (fail_lock r) 1 (routers.lower-try c r (unbegun (and_first _ _ can)) (fresh (and_first _ _ can)).1)
+  lower-lock can (answers.Waiting w) is = changed (fail_lock r) 1
+      (routers.lower-try c r (unbegun (and_first _ _ can)) (fresh (and_first _ _ can)).1)
+  lower-lock can (answers.Refused w) is = changed (fail_lock r) 1
+      (routers.lower-try c r (unbegun (and_first _ _ can)) (fresh (and_first _ _ can)).1)
   lower-lock can answers.Plain is = absurd is
   lower-lock can (answers.Claimed i) is = absurd is
   lower-lock can answers.NoWord is = absurd is

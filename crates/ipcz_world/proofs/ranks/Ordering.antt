@@ -21,7 +21,11 @@ price-step most zero = omega arith
 price-step most (suc k) =
     let inner : price_below most k * (most + most) ≤ price_below most (suc k) * (most + most) =
     times-more (price_below most k) (price_below most (suc k)) (most + most) (price-step most k) in
-    omega (arith, more-times most (53 + price_below most k * (most + most)) (53 + price_below most (suc k) * (most + most)) (omega (arith, inner)))
+    omega (
+      arith,
+      more-times most (53 + price_below most k * (most + most)) (53 + price_below most (suc k) * (most + most))
+          (omega (arith, inner)),
+    )
 
 price-more : (most k d : ℕ) → price_below most k ≤ price_below most (k + d)
 price-more most k zero = let e : k ≡ k + 0 = omega arith in subst (λ x. price_below most k ≤ price_below most x) e (omega arith)
@@ -39,10 +43,12 @@ module _ (level : ℕ → ℕ) (depth most : ℕ) where
   moves k [] h = omega arith
   moves k (x ∷ xs) h =
       let one : price_below most (depth - level x.pair) * (most + most) ≤ price_below most k * (most + most) =
-      times-more (price_below most (depth - level x.pair)) (price_below most k) (most + most) (price-grows most (depth - level x.pair) k (h 0 x refl)) in
+      times-more (price_below most (depth - level x.pair)) (price_below most k) (most + most)
+      (price-grows most (depth - level x.pair) k (h 0 x refl)) in
       omega (arith, one, moves k xs (λ i d e. h (suc i) d e))
 
-  paid : (l : ℕ) (es : List End) → length es ≤ most → (((i : ℕ) (d : End) → slice_get es i ≡ Some d → (l < level d.pair) × (level d.pair ≤ depth))) →
+  paid : (l : ℕ) (es : List End) → length es ≤ most →
+      (((i : ℕ) (d : End) → slice_get es i ≡ Some d → (l < level d.pair) × (level d.pair ≤ depth))) →
       6 + moving_worth (ordered_rates level depth most) es ≤ price_below most (depth - l)
   paid l [] few h = omega (arith, price-least most (depth - l))
   paid l (x ∷ xs) few h =

@@ -3,7 +3,8 @@ use Rattle.std.specs.Prelude.{◌≡◌, ◌≤◌, ◌<◌, ℕ, ◌+◌, Bool,
 use Rattle.std.proofs.Common.{arith, ap, ◌∙◌, sym}
 use Rattle.std.proofs.lemmas.Bool.{and_from}
 use Rattle.std.proofs.lemmas.Option.{slice_get_within}
-use Rattle.ipcz_world.proofs.Vocabulary.{End, Item, opposite_end, item_at, current_item, ends_in, Router, World, Key, router_at, node_at, router_in}
+use Rattle.ipcz_world.proofs.Vocabulary.{End, Item, opposite_end, item_at, current_item, ends_in, Router, World, Key, router_at, node_at}
+use Rattle.ipcz_world.proofs.Vocabulary.{router_in}
 use Rattle.ipcz_world.proofs.Vocabulary.{Books, read, is_closed, Records, Weight, in_router, at_end, Conserved, Act, after_act, can_take}
 use Rattle.ipcz_base.specs.Items.{same_item}
 use Rattle.ipcz_world.specs.Places.{from_number}
@@ -52,7 +53,12 @@ can_pay : (w : World) (b : Books) (g : Records) (c : Rates) (k : Key) (r : Route
     router_at w k ≡ Some r → IsRated c b → CanPay c r
 can_pay w b g c k r law l here rated = record {
   out = λ item e. pays r.end r.out_queue.current item
-      (omega (arith, this-one r.end r.out_queue.current item, in_out_queue (at_end r.end (this r.out_queue.current item)) r r.out_queue.current item e));
+      (omega (
+        arith,
+        this-one r.end r.out_queue.current item,
+        in_out_queue
+            (at_end r.end (this r.out_queue.current item)) r r.out_queue.current item e,
+      ));
   inner = λ item e. pays (opposite_end r.end) r.in_queue.current item
       (omega (
         arith,

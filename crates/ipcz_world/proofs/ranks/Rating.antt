@@ -1,5 +1,6 @@
 -- A turn keeps rates that fit: a pending close writes the mark, which the caps have left room for, and a discard reads one more.
-use Rattle.std.specs.Prelude.{◌≡◌, ◌⊎◌, ◌≤◌, ◌<◌, ℕ, zero, suc, ◌+◌, Bool, true, false, not, cond, ◌||◌, Option, Some, None, List, [], ◌∷◌, ◌++◌, length, slice_get, refl}
+use Rattle.std.specs.Prelude.{◌≡◌, ◌⊎◌, ◌≤◌, ◌<◌, ℕ, zero, suc, ◌+◌, Bool, true, false, not, cond, ◌||◌, Option, Some, None, List, []}
+use Rattle.std.specs.Prelude.{◌∷◌, ◌++◌, length, slice_get, refl}
 use Rattle.std.proofs.Common.{arith, ap, subst, ◌∙◌, sym, inl, inr}
 use Rattle.std.proofs.lemmas.Option.{slice_get_within}
 use Rattle.ipcz_world.proofs.Vocabulary.{End, Item, opposite_end, same_end, ends_in, World, Books, read, is_closed}
@@ -96,7 +97,8 @@ unclosed-by w b e g law = go (is_closed b e) refl
 
 pub turns_keep_rates : StepKeepsLawful → RepliesPlainly → TurnsKeepRates
 unfolding advance after_turn routes_after
-turns_keep_rates keeps plain w v b g c n reply law rated step = by reply (plain w v b g (Turn n) reply law step) (keeps w v b g (Turn n) reply law step)
+turns_keep_rates keeps plain w v b g c n reply law rated step = by reply (plain w v b g (Turn n) reply law step)
+    (keeps w v b g (Turn n) reply law step)
   where
     same : (d : Books) → d ≡ b → IsRated c d
     same d e = subst (IsRated c) (sym e) rated

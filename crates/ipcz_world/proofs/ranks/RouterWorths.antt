@@ -16,7 +16,8 @@ use Rattle.ipcz_router.specs.Acts.{pop_out, pop_in, rest}
 use Rattle.ipcz_router.specs.Bypass.{relink, outward_onto, bypass_peer, accept_bypass, stop_proxying, proxy_will_stop}
 use Rattle.ipcz_router.specs.Calls.{accept, extend}
 use Rattle.ipcz_router.specs.Closing.{close_router}
-use Rattle.ipcz_router.specs.ActEffects.{finish_out, finish_in, mark_side, wake_other, claim_word, run_dry, take_lock, fail_lock, begin_bypass, drop_lock}
+use Rattle.ipcz_router.specs.ActEffects.{finish_out, finish_in, mark_side, wake_other, claim_word, run_dry, take_lock, fail_lock}
+use Rattle.ipcz_router.specs.ActEffects.{begin_bypass, drop_lock}
 use Rattle.ipcz_world.specs.Ranks.{Rates, worth, worth_left, router_worth, is_unbegun, bypass_worth}
 
 pub worth-most : (n : ℕ) (b : Bool) → worth n b ≤ n
@@ -104,7 +105,8 @@ more-rouse c r = go (is_unbegun r)
     go : (u : Bool) →
         worth_left c r.end r.out_queue.current r.in_queue.current +
         (1 + (worth 1 (edge_decays r.outward) + (worth 1 (edge_decays (inward_edge r)) +
-        (worth 1 (is_proxy r) + (cond u (41 + (worth 1 (is_none r.spare && not r.dry) + (worth 1 (not r.holds) + 1))) 0 + (worth 7 (is_on_central r && not r.marked) + worth 6 r.wake_owed)))))) ≤
+        (worth 1 (is_proxy r) + (cond u (41 + (worth 1 (is_none r.spare && not r.dry) + (worth 1 (not r.holds) + 1))) 0 +
+        (worth 7 (is_on_central r && not r.marked) + worth 6 r.wake_owed)))))) ≤
         worth_left c r.end r.out_queue.current r.in_queue.current +
         (worth 1 r.flagged + (worth 1 (edge_decays r.outward) + (worth 1 (edge_decays (inward_edge r)) +
         (worth 1 (is_proxy r) + (cond u (bypass_worth r) 0 + (worth 7 (is_on_central r && not r.marked) + worth 6 r.wake_owed)))))) + 2
@@ -141,7 +143,8 @@ more-accept_bypass c r sender side fresh length there = go (is_proxy r) refl
     go false e = rw (e, there) (omega arith)
 
 -- the inward edge changes, and has links as before
-pub same-inward : (c : Rates) (r : Router) (o : Edge) (e f : Edge) → r.inward ≡ Some e → o.primary ≡ r.outward.primary → o.decaying ≡ r.outward.decaying →
+pub same-inward : (c : Rates) (r : Router) (o : Edge) (e f : Edge) → r.inward ≡ Some e → o.primary ≡ r.outward.primary →
+    o.decaying ≡ r.outward.decaying →
     f.decaying ≡ e.decaying → router_worth c (record r { outward = o; inward = Some f }) ≡ router_worth c r
 unfolding router_worth
 same-inward c r o e f h p d i = rw (h, p, d, i) refl

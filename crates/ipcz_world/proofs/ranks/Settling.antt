@@ -11,7 +11,8 @@ use Rattle.ipcz_node.specs.declared.act.Act.TheVariants.{Look, Post, Router as O
 use Rattle.ipcz_node.specs.declared.happened.Happened.{Happened}
 use Rattle.ipcz_node.specs.Node.{on_router, flagged_router}
 use Rattle.ipcz_node.specs.Sends.{send}
-use Rattle.ipcz_node.specs.Acts.{commit_router, keep_or_drop, router_turn, close_turn, node_turn, next, first_sender, first_destination, stand_in}
+use Rattle.ipcz_node.specs.Acts.{commit_router, keep_or_drop, router_turn, close_turn, node_turn, next, first_sender, first_destination}
+use Rattle.ipcz_node.specs.Acts.{stand_in}
 use Rattle.ipcz_world.specs.declared.step.Step.TheVariants as steps
 use Rattle.ipcz_world.specs.declared.step.Reply.TheVariants as replies
 use Rattle.ipcz_world.specs.Books.{advance}
@@ -25,7 +26,8 @@ use Rattle.ipcz_world.specs.declared.step.Settled.TheVariants as ends
 use Rattle.ipcz_world.specs.Settling.{AreVisits, HasAct, IsSettle, next_node}
 use Rattle.ipcz_world.specs.Lawful.{Lawful}
 use Rattle.ipcz_world.specs.WorldLaws.{StepKeepsLawful, FirstIsPossible, QuietIsDirect, QuietHasNoProxy}
-use Rattle.ipcz_world.specs.Ranks.{Rates, worth, router_worth, is_unbegun, node_worth, rank, IsRated, is_unlock, uses_up, moving_worth, TurnsKeepRates}
+use Rattle.ipcz_world.specs.Ranks.{Rates, worth, router_worth, is_unbegun, node_worth, rank, IsRated, is_unlock, uses_up, moving_worth}
+use Rattle.ipcz_world.specs.Ranks.{TurnsKeepRates}
 use Rattle.ipcz_world.specs.SettleBounds.{VisitsAreBounded, UnsettledIsBounded, PlainAreRated, PlainLimitIsEnough}
 use Rattle.ipcz_world.specs.SettleBounds.{FitsMost, unlocks_taken, SettledIsDirect, plain_rates}
 use Rattle.ipcz_base.specs.Items.{ends_in}
@@ -47,7 +49,8 @@ flagged-unlock c r up = go (is_unbegun r) refl
 
 -- the router of an act of a router is there and flagged
 abbrev IsFlaggedAct : World → ℕ → Act → Type 0
-IsFlaggedAct w n act = (s : ℕ) (a : RouterAct) → act ≡ OfRouter s a → (r : Router) × (router_in (node_at w n) s ≡ Some r) × (r.flagged ≡ true)
+IsFlaggedAct w n act = (s : ℕ) (a : RouterAct) → act ≡ OfRouter s a → (r : Router) × (router_in (node_at w n) s ≡ Some r) ×
+    (r.flagged ≡ true)
 
 module _ (w : World) (n : ℕ) where
   flagged-router : (o : Option Found) → flagged_router (node_at w n) ≡ o → IsFlaggedAct w n (router_turn o)
@@ -146,7 +149,8 @@ module _ (c : Rates) (w : World) (b : Books) (g : Routes) (n : ℕ) (law : Lawfu
   ]
 
 -- a turn that was taken leaves the world after its act
-turn-leaves : (w u : World) (n : ℕ) (act : Act) (event : Happened) → n < w.count → ActGives w n act (turn_step w n act) (replies.Turned event) u →
+turn-leaves : (w u : World) (n : ℕ) (act : Act) (event : Happened) → n < w.count → ActGives w n act (turn_step w n act)
+    (replies.Turned event) u →
     u ≡ after_act w n act
 unfolding unless
 turn-leaves w u n act event here s = go (turn_lacks_serials w n act) refl s
@@ -185,7 +189,8 @@ visits_are_bounded keeps possible rates n (true ∷ visits) w v b g c law rated 
     )
 
 -- the world after visits is lawful, and the rates fit its books
-visits-keep : StepKeepsLawful → FirstIsPossible → TurnsKeepRates → (n : ℕ) (visits : List Bool) (w v : World) (b : Books) (g : Routes) (c : Rates) →
+visits-keep : StepKeepsLawful → FirstIsPossible → TurnsKeepRates → (n : ℕ) (visits : List Bool) (w v : World) (b : Books) (g : Routes)
+    (c : Rates) →
     Lawful w b g → IsRated c b → AreVisits n visits w v → (d : Books) × (h : Routes) × Lawful v d h × IsRated c d
 visits-keep keeps possible rates n [] w v b g c law rated same = (b, g, subst (λ x. Lawful x b g) (sym same) law, rated)
 visits-keep keeps possible rates n (false ∷ visits) w v b g c law rated (idle, more) =
@@ -226,7 +231,8 @@ settled_is_direct direct proxies limit acts w v b g s law wet =
     (proxies v b g law s.answers.1 wet, λ pair opened. direct v b g pair law s.answers.1 wet opened)
 
 -- the answer of a settle fits its rank
-pub answer_fits : StepKeepsLawful → FirstIsPossible → TurnsKeepRates → (limit : ℕ) (w v : World) (answer : Settled) (s : IsSettle limit w v answer)
+pub answer_fits : StepKeepsLawful → FirstIsPossible → TurnsKeepRates → (limit : ℕ) (w v : World) (answer : Settled)
+    (s : IsSettle limit w v answer)
     (b : Books) (g : Routes) (c : Rates) → Lawful w b g → IsRated c b →
     FitsMost limit (rank c w + 2 * unlocks_taken 0 s.visits w v s.turns) answer
 answer_fits keeps possible rates limit w v (ends.Settled after) s b g c law rated =

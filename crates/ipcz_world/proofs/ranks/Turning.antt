@@ -1,9 +1,11 @@
 -- Turns alone: how many of them use something up, and that a world in which none can is quiet.
-use Rattle.std.specs.Prelude.{◌≡◌, ◌≤◌, ◌<◌, ℕ, ◌+◌, ◌*◌, Bool, true, false, cond, nat_lt, if◌then◌else◌, Option, Some, None, List, [], ◌∷◌, refl}
+use Rattle.std.specs.Prelude.{◌≡◌, ◌≤◌, ◌<◌, ℕ, ◌+◌, ◌*◌, Bool, true, false, cond, nat_lt, if◌then◌else◌, Option, Some, None, List, []}
+use Rattle.std.specs.Prelude.{◌∷◌, refl}
 use Rattle.std.proofs.Common.{arith, ap, subst, ◌∙◌, sym, inl, inr}
 use Rattle.std.proofs.lemmas.Bool.Decides.{nat_tests}
 use Rattle.std.specs.FinMap.{get}
-use Rattle.ipcz_world.proofs.Vocabulary.{Router, Node, router_in, with_router, RouterAct, Act, Close, Hand, commit, World, Key, node_at, router_at, Books}
+use Rattle.ipcz_world.proofs.Vocabulary.{Router, Node, router_in, with_router, RouterAct, Act, Close, Hand, commit, World, Key, node_at}
+use Rattle.ipcz_world.proofs.Vocabulary.{router_at, Books}
 use Rattle.ipcz_world.proofs.Vocabulary.{after_act, can_take, answer_of, unless, output_of}
 use Rattle.ipcz_base.specs.declared.refusal.Refusal.TheVariants as refusals
 use Rattle.ipcz_router.specs.Acts.{rest}
@@ -23,7 +25,8 @@ use Rattle.ipcz_world.specs.Turns.{after_router_act, may_act, turn_event, turn_l
 use Rattle.ipcz_world.specs.Steps.{StepAny, Gives, turn_step, at_node, refuse}
 use Rattle.ipcz_world.specs.Lawful.{Lawful}
 use Rattle.ipcz_world.specs.WorldLaws.{StepKeepsLawful, RepliesPlainly}
-use Rattle.ipcz_world.specs.Ranks.{Rates, worth, router_worth, node_worth, rank, IsRated, IsTaken, AreTurns, times_used, unlock_count, is_unlock, spends}
+use Rattle.ipcz_world.specs.Ranks.{Rates, worth, router_worth, node_worth, rank, IsRated, IsTaken, AreTurns, times_used, unlock_count}
+use Rattle.ipcz_world.specs.Ranks.{is_unlock, spends}
 use Rattle.ipcz_world.specs.Ranks.{spends_at, uses_up, TurnsKeepRates, TurnsAreBounded}
 use Rattle.ipcz_world.proofs.ranks.RouterWorths.{more-unlock, most-rest}
 use Rattle.ipcz_world.proofs.ranks.NodeWorths.{node-with}
@@ -31,7 +34,8 @@ use Rattle.ipcz_world.proofs.ranks.WorldRanks.{IsSameBut, same-touched, rank-set
 use Rattle.ipcz_world.proofs.ranks.Paying.{acts_lower_the_rank}
 
 -- an act of a router that uses nothing up is an unlock or a rest
-unused-router : (c : Rates) (n : Node) (s : ℕ) (act : RouterAct) (a : Answer) (r : Router) → get n.routers s ≡ Some r → spends r act ≡ false →
+unused-router : (c : Rates) (n : Node) (s : ℕ) (act : RouterAct) (a : Answer) (r : Router) → get n.routers s ≡ Some r →
+    spends r act ≡ false →
     node_worth c (commit_router n s act a r) ≤ node_worth c n + 2 * worth 1 (is_unlock (OfRouter s act))
 unfolding spends is_unlock commit_router keep_or_drop apply output_of send
 unused-router c n s acts.Unlock a r here h = omega (arith, node-with c n s (drop_lock r) r here, more-unlock c r)

@@ -2,7 +2,8 @@
 use Rattle.std.specs.Prelude.{◌≡◌, ◌⊎◌, ◌<◌, ℕ, Bool, true, false, cond, ◌&&◌, if◌then◌else◌, Option, Some, None, List, [], ◌∷◌, refl}
 use Rattle.std.proofs.Common.{arith, ap, subst, ◌∙◌, sym, inl, inr}
 use Rattle.std.specs.FinMap.{get}
-use Rattle.ipcz_world.proofs.Vocabulary.{End, Router, is_possible, RouterAct, Act, Close, Hand, Node, Found, World, Key, node_at, router_at, can_take, Books}
+use Rattle.ipcz_world.proofs.Vocabulary.{End, Router, is_possible, RouterAct, Act, Close, Hand, Node, Found, World, Key, node_at}
+use Rattle.ipcz_world.proofs.Vocabulary.{router_at, can_take, Books}
 use Rattle.ipcz_router.specs.ActTable.{table, first_possible, next_act}
 use Rattle.ipcz_router.specs.declared.act.RouterAct.TheVariants as acts
 use Rattle.ipcz_node.specs.declared.act.Act.TheVariants.{Look, Post, Router as OfRouter, Idle}

@@ -1,16 +1,20 @@
 -- Each possible act of a node that uses something up lowers the world's rank.
-use Rattle.std.specs.Prelude.{◌≡◌, ◌≤◌, ◌<◌, ℕ, zero, suc, ◌+◌, Bool, true, false, not, cond, ◌&&◌, ◌||◌, if◌then◌else◌, nat_lt, nat_eq, Option, Some, None}
+use Rattle.std.specs.Prelude.{◌≡◌, ◌≤◌, ◌<◌, ℕ, zero, suc, ◌+◌, Bool, true, false, not, cond, ◌&&◌, ◌||◌, if◌then◌else◌, nat_lt, nat_eq}
+use Rattle.std.specs.Prelude.{Option, Some, None}
 use Rattle.std.specs.Prelude.{is_some, is_none, List, [], ◌∷◌, length, replicate, slice_get, refl}
 use Rattle.std.proofs.Common.{arith, ap, subst, ◌∙◌, sym}
 use Rattle.std.proofs.lemmas.Bool.Decides.{nat_tests}
 use Rattle.std.proofs.lemmas.Option.{slice_get_within}
 use Rattle.std.specs.FinMap.{get}
 use Rattle.std.specs.Ordering.{nat_cmp}
-use Rattle.ipcz_world.proofs.Vocabulary.{End, Item, Message, Side, Word, opposite, opposite_end, ends_in, total_list, Router, Node, Found, bare_node, outbox}
-use Rattle.ipcz_world.proofs.Vocabulary.{router_in, current_item, RouterAct, Act, Close, Hand, commit, primary_word, World, Key, node_at, mail_at, way}
-use Rattle.ipcz_world.proofs.Vocabulary.{router_at, set_node, set_word, word_at, set_claimed, set_mail, answer_of, after_act, can_take, hand_message, Books, read, Records}
+use Rattle.ipcz_world.proofs.Vocabulary.{End, Item, Message, Side, Word, opposite, opposite_end, ends_in, total_list, Router, Node, Found}
+use Rattle.ipcz_world.proofs.Vocabulary.{bare_node, outbox}
+use Rattle.ipcz_world.proofs.Vocabulary.{router_in, current_item, RouterAct, Act, Close, Hand, commit, primary_word, World, Key, node_at}
+use Rattle.ipcz_world.proofs.Vocabulary.{mail_at, way}
+use Rattle.ipcz_world.proofs.Vocabulary.{router_at, set_node, set_word, word_at, set_claimed, set_mail, answer_of, after_act, can_take}
+use Rattle.ipcz_world.proofs.Vocabulary.{hand_message, Books, read, Records}
 use Rattle.ipcz_base.proofs.Totals.{total-empty}
-use Rattle.ipcz_router.specs.Router.{is_on_central}
+use Rattle.ipcz_router.specs.Router.{is_on_central, source_of}
 use Rattle.ipcz_router.specs.ActTable.{may_take, is_possible, is_rest, next_act}
 use Rattle.ipcz_router.specs.ActEffects.{IsAnswerOf}
 use Rattle.ipcz_router.specs.declared.act.RouterAct.TheVariants as acts
@@ -22,12 +26,14 @@ use Rattle.ipcz_node.specs.Hands.{deliver, is_hand_of}
 use Rattle.ipcz_node.specs.Acts.{commit_router, post_of, first_of, rest_of, has_mail_for}
 use Rattle.ipcz_world.specs.declared.mail.Mail.{Mail}
 use Rattle.ipcz_world.specs.declared.mail.Mail.TheVariants as mails
-use Rattle.ipcz_world.specs.WordAnswers.{touch, touch_word, link_answer, word_answer, try_answer, claim_answer}
+use Rattle.ipcz_world.specs.WordAnswers.{source_for, touch, touch_word, link_answer, word_answer, try_answer, claim_answer}
 use Rattle.ipcz_word.specs.Word.{Plan, Locks, Waits, Refuses, plan_of}
-use Rattle.ipcz_world.specs.Turns.{after_router_act, after_hand, after_look, after_post, full_message, may_act, is_full, is_clear, is_first_pending}
+use Rattle.ipcz_world.specs.Turns.{after_router_act, after_hand, after_look, after_post, full_message, may_act, is_full, is_clear}
+use Rattle.ipcz_world.specs.Turns.{is_first_pending}
 use Rattle.ipcz_world.proofs.weights.Totalling.{total_list-put_place}
 use Rattle.ipcz_world.proofs.facts.Tests.{and_first, and_second}
-use Rattle.ipcz_world.specs.Ranks.{Rates, router_worth, message_worth, box_worth, node_worth, mail_worth, rank, moving_worth, spends, spends_at, uses_up}
+use Rattle.ipcz_world.specs.Ranks.{Rates, router_worth, message_worth, box_worth, node_worth, mail_worth, rank, moving_worth, spends}
+use Rattle.ipcz_world.specs.Ranks.{spends_at, uses_up}
 use Rattle.ipcz_world.proofs.ranks.NodeWorths.{node-outbox}
 use Rattle.ipcz_world.proofs.ranks.NodeHands.{node-delivered}
 use Rattle.ipcz_world.proofs.ranks.NodeActs.{CanPay, router-acted, pending-closed}
@@ -65,10 +71,11 @@ pub record IsSameBut (c : Rates) (w v : World) : Type 0 where
   pub rank : rank c v ≡ rank c w
   pub node : (n : ℕ) → node_at v n ≡ node_at w n
 
-same-word : (c : Rates) (w : World) (s : Side) (act : RouterAct) (o : Option ℕ) → IsSameBut c w (touch_word w s act o)
+same-word : (c : Rates) (w : World) (s : Side) (source : Option ℕ) (act : RouterAct) (o : Option ℕ) → IsSameBut c w
+    (touch_word w s source act o)
 unfolding touch_word set_word rank node_at
-same-word c w s act None = record { rank = refl; node = λ n. refl }
-same-word c w s act (Some i) = record { rank = refl; node = λ n. refl }
+same-word c w s source act None = record { rank = refl; node = λ n. refl }
+same-word c w s source act (Some i) = record { rank = refl; node = λ n. refl }
 
 same-claimed : (c : Rates) (w : World) (b : Bool) → IsSameBut c w (if b then set_claimed w (w.claimed + 1) else w)
 unfolding set_claimed rank node_at
@@ -78,10 +85,10 @@ same-claimed c w false = record { rank = refl; node = λ n. refl }
 pub same-touched : (c : Rates) (w : World) (r : Router) (act : RouterAct) → IsSameBut c w (touch w r act)
 unfolding touch
 same-touched c w r acts.Claim = same-claimed c w (nat_lt w.claimed w.size)
-same-touched c w r acts.Mark = same-word c w r.end.side acts.Mark (primary_word r)
-same-touched c w r acts.Wake = same-word c w r.end.side acts.Wake (primary_word r)
-same-touched c w r acts.Lock = same-word c w r.end.side acts.Lock (primary_word r)
-same-touched c w r acts.Unlock = same-word c w r.end.side acts.Unlock (primary_word r)
+same-touched c w r acts.Mark = same-word c w r.end.side (source_of r) acts.Mark (primary_word r)
+same-touched c w r acts.Wake = same-word c w r.end.side (source_of r) acts.Wake (primary_word r)
+same-touched c w r acts.Lock = same-word c w r.end.side (source_of r) acts.Lock (primary_word r)
+same-touched c w r acts.Unlock = same-word c w r.end.side (source_of r) acts.Unlock (primary_word r)
 same-touched c w r acts.SendOut = record { rank = refl; node = λ n. refl }
 same-touched c w r acts.SendIn = record { rank = refl; node = λ n. refl }
 same-touched c w r acts.Discard = record { rank = refl; node = λ n. refl }
@@ -98,13 +105,13 @@ unfolding after_hand hand_message mail_worth
 hand-lowers c w n from mails.Empty e h = cc
 hand-lowers c w n from (mails.Full m) e h = cc
 hand-lowers c w n from (mails.Hand m) e h =
-    let u : World = set_node w n (deliver (node_at w n) from m) in
+    let u : World = set_node w n (deliver (node_at w n) from m (source_for w m)) in
     let here : mail_worth c (mail_at u (way w from n)) ≡ message_worth c m = ap (mail_worth c) (mail-set_node w n _ (way w from n) ∙ e) in
     omega (
       arith,
       rank-set_mail c u (way w from n) mails.Empty,
-      rank-set_node c w n (deliver (node_at w n) from m),
-      node-delivered c (node_at w n) from m,
+      rank-set_node c w n (deliver (node_at w n) from m (source_for w m)),
+      node-delivered c (node_at w n) from m (source_for w m),
       here,
     )
 
@@ -121,7 +128,8 @@ look-lowers c w n from (mails.Hand m) e h = cc
 look-lowers c w n from (mails.Full m) e h =
     let y : Node = record (node_at w n) { hand = Some from } in
     let u : World = set_node w n y in
-    let here : mail_worth c (mail_at u (way w from n)) ≡ message_worth c m + 1 = ap (mail_worth c) (mail-set_node w n y (way w from n) ∙ e) in
+    let here : mail_worth c (mail_at u (way w from n)) ≡ message_worth c m + 1 = ap (mail_worth c)
+    (mail-set_node w n y (way w from n) ∙ e) in
     omega (
       arith,
       rank-set_mail c u (way w from n) (mails.Hand m),
@@ -167,22 +175,24 @@ or_left : (a b : Bool) → b ≡ false → (a || b) ≡ true → a ≡ true
 or_left true b k e = refl
 or_left false b k e = cc
 
-try_is : (x : Word) (s : Side) (p : Plan) → IsAnswerOf acts.Lock (try_answer x s p)
+try_is : (x : Word) (s : Side) (source : Option ℕ) (p : Plan) → IsAnswerOf acts.Lock (try_answer x s source p)
 unfolding try_answer
-try_is x s Locks = tt
-try_is x s Waits = tt
-try_is x s Refuses = tt
+try_is x s source Locks = tt
+try_is x s source Waits = tt
+try_is x s source Refuses = tt
 
 -- the words' answers are of their acts' kinds
 module _ (w : World) (r : Router) where
-  central : (act : RouterAct) (p : Option ℕ) → is_some p ≡ true → ((x : Word) → IsAnswerOf act (word_answer x r.end.side act)) →
-      IsAnswerOf act (link_answer w r.end.side act p)
+  central : (act : RouterAct) (p : Option ℕ) → is_some p ≡ true →
+      ((x : Word) → IsAnswerOf act (word_answer x r.end.side (source_of r) act)) →
+      IsAnswerOf act (link_answer w r.end.side (source_of r) act p)
   unfolding link_answer
   central act None some is = cc
   central act (Some i) some is = is (word_at w i)
 
-  plain : (act : RouterAct) (p : Option ℕ) → IsAnswerOf act answers.Plain → ((x : Word) → word_answer x r.end.side act ≡ answers.Plain) →
-      IsAnswerOf act (link_answer w r.end.side act p)
+  plain : (act : RouterAct) (p : Option ℕ) → IsAnswerOf act answers.Plain →
+      ((x : Word) → word_answer x r.end.side (source_of r) act ≡ answers.Plain) →
+      IsAnswerOf act (link_answer w r.end.side (source_of r) act p)
   unfolding link_answer
   plain act None is same = is
   plain act (Some i) is same = subst (IsAnswerOf act) (sym (same (word_at w i))) is
@@ -203,7 +213,7 @@ module _ (w : World) (r : Router) where
   answered acts.Wake may = central acts.Wake (primary_word r) (and_second _ _ (or_left _ _ refl may)) (λ x. tt)
   answered acts.Claim may = claim_is (nat_lt w.claimed w.size)
   answered acts.Lock may = central acts.Lock (primary_word r) (and_first _ _ (and_second _ _ (and_first _ _ (or_left _ _ refl may))))
-      (λ x. try_is x r.end.side (plan_of x r.end.side))
+      (λ x. try_is x r.end.side (source_of r) (plan_of x r.end.side))
   answered acts.Begin may = plain acts.Begin (primary_word r) tt (λ x. refl)
   answered acts.Unlock may =
       central acts.Unlock (primary_word r) (and_first _ _ (and_second _ _ (and_second _ _ (or_left _ _ refl may)))) (λ x. tt)
@@ -219,7 +229,8 @@ router-lowers c w n s act (Some r) e pay may up =
     let x : Node = node_at w n in
     let a : Answer = answer_of w r act in
     let same : IsSameBut c w (touch w r act) = same-touched c w r act in
-    let done : on_router x (router_in x s) (commit_router x s act a) ≡ commit_router x s act a r = ap (λ o. on_router x o (commit_router x s act a)) e in
+    let done : on_router x (router_in x s) (commit_router x s act a) ≡ commit_router x s act a r = ap
+    (λ o. on_router x o (commit_router x s act a)) e in
     let less : node_worth c (commit_router x s act a r) + 1 ≤ node_worth c x =
     router-acted c x s r e (pay r e) act a may up (answered w r act may) in
     omega (

@@ -1,4 +1,5 @@
 -- What acts are seen to do, and what the run then writes of the routes.
+use Rattle.ipcz_world.specs.WordAnswers.{source_for}
 use Rattle.std.specs.Prelude.{◌≡◌, ◌⊎◌, ℕ, ◌+◌, Bool, true, false, cond, nat_eq, Option, Some, None, List, [], ◌∷◌, refl}
 use Rattle.std.proofs.Common.{arith, ap, ◌∙◌, inl, inr}
 use Rattle.std.proofs.lemmas.Bool.Decides.{nat_tests}
@@ -171,29 +172,31 @@ is_peer (messages.BypassPeer link side old target fresh) = true
 is_peer other = false
 
 pub hand-seen : (w : World) (n from : ℕ) (m : Message) → mail_at w (way w from n) ≡ mails.Hand m →
-    turn_event w n (Hand from) ≡ hand_event (node_at w n) from m
+    turn_event w n (Hand from) ≡ hand_event (node_at w n) from m (source_for w m)
 unfolding turn_event hand_seen hand_message
 hand-seen w n from m e = rw e refl
 
-routes-message : (w : World) (g : Routes) (n from : ℕ) (x : Node) (m : Message) → is_peer m ≡ false →
-    routes_after_turn w g n (hand_event x from m) ≡ g
+routes-message : (w : World) (g : Routes) (n from : ℕ) (x : Node) (o : Option ℕ) (m : Message) → is_peer m ≡ false →
+    routes_after_turn w g n (hand_event x from m o) ≡ g
 unfolding hand_event kind_of routes_after_turn
-routes-message w g n from x (messages.Item link side number item moves) h = refl
-routes-message w g n from x (messages.BypassPeer link side old target fresh) h = cc
-routes-message w g n from x (messages.AcceptBypass old side fresh length) h = refl
-routes-message w g n from x (messages.StopProxying old side in_length out_length) h = refl
-routes-message w g n from x (messages.ProxyWillStop link side in_length) h = refl
-routes-message w g n from x (messages.Flush link side) h = refl
+routes-message w g n from x o (messages.Item link side number item moves) h = refl
+routes-message w g n from x o (messages.BypassPeer link side old target fresh) h = cc
+routes-message w g n from x o (messages.AcceptBypass old side fresh length) h = refl
+routes-message w g n from x o (messages.StopProxying old side in_length out_length) h = refl
+routes-message w g n from x o (messages.ProxyWillStop link side in_length) h = refl
+routes-message w g n from x o (messages.Flush link side) h = refl
 
 -- a hand leaves the routes, but that of a BypassPeer
 pub routes-hand : (w : World) (g : Routes) (n from : ℕ) (m : Message) → mail_at w (way w from n) ≡ mails.Hand m → is_peer m ≡ false →
     routes_after_turn w g n (turn_event w n (Hand from)) ≡ g
-routes-hand w g n from m e h = ap (routes_after_turn w g n) (hand-seen w n from m e) ∙ routes-message w g n from (node_at w n) m h
+routes-hand w g n from m e h = ap (routes_after_turn w g n) (hand-seen w n from m e) ∙ routes-message w g n from (node_at w n)
+    (source_for w m) m h
 
 -- which makes the fresh word that of a link
 pub routes-peer : (w : World) (g : Routes) (n from : ℕ) (link : LinkId) (side : Side) (old target fresh : ℕ) →
     mail_at w (way w from n) ≡ mails.Hand (messages.BypassPeer link side old target fresh) → (node_at w n).hand ≡ Some from →
-    is_unfit (node_at w n) from (messages.BypassPeer link side old target fresh) ≡ false →
+    is_unfit (node_at w n) from (messages.BypassPeer link side old target fresh)
+    (source_for w (messages.BypassPeer link side old target fresh)) ≡ false →
     routes_after_turn w g n (turn_event w n (Hand from)) ≡ add_link g fresh (g.pair old)
 unfolding hand_event kind_of routes_after_turn hand_of hand_message add_fresh
 routes-peer w g n from link side old target fresh e hand fits = ap (routes_after_turn w g n)
@@ -216,7 +219,7 @@ stays-peripherals g n x [] i l = (l, refl)
 stays-peripherals g n x (e ∷ es) i l = stays-peripherals (add_peripheral g (record { node = n; serial = x }) e) n (x + 1) es i l
 
 -- a hand is of another kind
-pub hand_kind : (x : Node) (from : ℕ) (o : Option Message) → kind (hand_seen x from o) ≡ 0
+pub hand_kind : (w : World) (x from : ℕ) (o : Option Message) → kind (hand_seen w x from o) ≡ 0
 unfolding hand_seen hand_event kind
-hand_kind x from None = refl
-hand_kind x from (Some m) = refl
+hand_kind w x from None = refl
+hand_kind w x from (Some m) = refl

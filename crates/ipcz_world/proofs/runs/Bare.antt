@@ -1,4 +1,6 @@
 -- A world without routers, words, messages and books is lawful.
+use Rattle.ipcz_world.proofs.frames.LiveLinks.{first_begun}
+use Rattle.ipcz_world.specs.Bypasses.{LiveLinks}
 use Rattle.ipcz_world.proofs.Vocabulary.{Weight, in_router, at_end, names_end, times, Side, End, LinkId, Central, Peripheral, Descriptor}
 use Rattle.ipcz_world.proofs.Vocabulary.{Message, opposite_end, has_end, has, place_at, total, total_list, Router, Word, empty_word}
 use Rattle.ipcz_world.proofs.Vocabulary.{outbox, Empty, World, Key, node_at, word_at, mail_at, router_at, way, flow, messages_in}
@@ -231,6 +233,13 @@ module _ (w : World) (g : Records) (world : IsBare w) (noted : IsUnnoted g) wher
     by_inner = λ p o h1. absurd (none-some o (sym (noted.by p) ∙ h1));
   }
 
+  live-bare : LiveLinks g
+  live-bare = record {
+    one_live = λ i j a c p d e. absurd (not_linked (g.owner i) (noted.owner i) a);
+    none_live = λ o i s a p. absurd (not_linked (g.owner i) (noted.owner i) a);
+    one_begun = λ o p s t e. absurd (not_begun (g.bypass o).stage (noted.stage o) (first_begun (g.bypass o).stage s));
+  }
+
   words-bare : Words w g
   words-bare = record {
     unused = λ i h1. world.word i;
@@ -240,6 +249,8 @@ module _ (w : World) (g : Records) (world : IsBare w) (noted : IsUnnoted g) wher
     holder = λ i s h1 h2. absurd (not_linked (g.owner i) (noted.owner i) h1);
     held_stable = λ i s t h1. absurd (no_holder (word_at w i) s (world.word i) h1);
     one_holder = λ i s t h1 h2. absurd (no_holder (word_at w i) s (world.word i) h1);
+    source = λ k r e i h1 h2 h3 h4. absurd (no_router k r h1);
+    begun_source = λ o h1 h2. absurd (not_begun (g.bypass o).stage (noted.stage o) h1);
   }
 
   spares-bare : Spares w g
@@ -416,6 +427,7 @@ module _ (w : World) (g : Records) (world : IsBare w) (noted : IsUnnoted g) wher
     words = words-bare;
     spares = spares-bare;
     bypasses = bypasses-bare;
+    live = live-bare;
     stages = stages-bare;
     told = told-bare;
     moves = moves-bare;

@@ -1,4 +1,6 @@
 -- Each step keeps a world bounded: nothing comes to lie beyond its nodes.
+use Rattle.ipcz_world.specs.WordAnswers.{source_for}
+use Rattle.ipcz_router.specs.Router.{source_of}
 use Rattle.std.specs.Prelude.{◌≡◌, ◌≤◌, ◌<◌, ℕ, suc, ◌+◌, ◌*◌, ◌-◌, Bool, true, false, cond, nat_eq, nat_lt, if◌then◌else◌, Option, Some}
 use Rattle.std.specs.Prelude.{None, refl, [], ◌∷◌}
 use Rattle.std.proofs.Common.{arith, ap, subst, ◌∙◌, sym, inl, inr}
@@ -95,11 +97,12 @@ bounded-set_mail w from to y l m b = record {
     go k never true e = absurd (never from to l m (grind (arith, e, nat_tests)))
     go k never false e = ap (λ c. cond c y (mail_at w k)) e ∙ b.mail k never
 
-bounded-touch_word : (w : World) (s : Side) (a : RouterAct) (o : Option ℕ) → ((i : ℕ) → o ≡ Some i → i < w.size) → IsBounded w →
-    IsBounded (touch_word w s a o)
+bounded-touch_word : (w : World) (s : Side) (x : Option ℕ) (a : RouterAct) (o : Option ℕ) → ((i : ℕ) → o ≡ Some i → i < w.size) →
+    IsBounded w →
+    IsBounded (touch_word w s x a o)
 unfolding touch_word
-bounded-touch_word w s a None l b = b
-bounded-touch_word w s a (Some i) l b = bounded-set_word w i _ (l i refl) b
+bounded-touch_word w s x a None l b = b
+bounded-touch_word w s x a (Some i) l b = bounded-set_word w i _ (l i refl) b
 
 bounded-touch : (w : World) (r : Router) (a : RouterAct) → ((i : ℕ) → primary_word r ≡ Some i → i < w.size) → IsBounded w →
     IsBounded (touch w r a)
@@ -110,16 +113,16 @@ bounded-touch w r acts.Discard l b = b
 bounded-touch w r acts.FinishOut l b = b
 bounded-touch w r acts.FinishIn l b = b
 bounded-touch w r acts.Leave l b = b
-bounded-touch w r acts.Mark l b = bounded-touch_word w r.end.side acts.Mark (primary_word r) l b
-bounded-touch w r acts.Wake l b = bounded-touch_word w r.end.side acts.Wake (primary_word r) l b
+bounded-touch w r acts.Mark l b = bounded-touch_word w r.end.side (source_of r) acts.Mark (primary_word r) l b
+bounded-touch w r acts.Wake l b = bounded-touch_word w r.end.side (source_of r) acts.Wake (primary_word r) l b
 bounded-touch w r acts.Claim l b = go (has_unclaimed_word w)
   where
     go : (c : Bool) → IsBounded (if c then set_claimed w (w.claimed + 1) else w)
     go true = bounded-set_claimed w (w.claimed + 1) b
     go false = b
-bounded-touch w r acts.Lock l b = bounded-touch_word w r.end.side acts.Lock (primary_word r) l b
+bounded-touch w r acts.Lock l b = bounded-touch_word w r.end.side (source_of r) acts.Lock (primary_word r) l b
 bounded-touch w r acts.Begin l b = b
-bounded-touch w r acts.Unlock l b = bounded-touch_word w r.end.side acts.Unlock (primary_word r) l b
+bounded-touch w r acts.Unlock l b = bounded-touch_word w r.end.side (source_of r) acts.Unlock (primary_word r) l b
 bounded-touch w r acts.Rest l b = b
 
 module _ (w : World) (books : Books) (g : Records) (law : Inv w books g) (b : IsBounded w) where
@@ -141,8 +144,8 @@ module _ (w : World) (books : Books) (g : Records) (law : Inv w books g) (b : Is
     bounded-hand : (from : ℕ) (o : Option Message) → from < w.count → IsBounded (after_hand w n from o)
     unfolding after_hand
     bounded-hand from None k = b
-    bounded-hand from (Some m) k = at_post from n mails.Empty (deliver (node_at w n) from m) k l
-        (boxed-deliver w books g law n from l boxed m)
+    bounded-hand from (Some m) k = at_post from n mails.Empty (deliver (node_at w n) from m (source_for w m)) k l
+        (boxed-deliver w books g law n from l boxed m (source_for w m))
 
     bounded-look : (from : ℕ) (o : Option Message) → from < w.count → IsBounded (after_look w n from o)
     unfolding after_look commit

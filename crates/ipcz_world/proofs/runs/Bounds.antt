@@ -208,13 +208,13 @@ module _ (w : World) (b : Books) (g : Records) (law : Inv w b g) where
     passes_target None p q t f e h = cc
     passes_target (Some x) p q t f e h = first t (q x.router) (second (p x.router) (t && q x.router) h)
 
-    boxed-handle : (m : Message) → fits (node_at w n) from m ≡ true → IsBoxed w.count (handle (node_at w n) from m)
+    boxed-handle : (m : Message) (o : Option ℕ) → fits (node_at w n) from m o ≡ true → IsBoxed w.count (handle (node_at w n) from m)
     unfolding handle fits passes_at
-    boxed-handle (messages.Item link side number item moves) fit =
+    boxed-handle (messages.Item link side number item moves) o fit =
         boxed-found w.count (node_at w n) (link_router (node_at w n) link side) _ boxed (λ f e.
         let x = with_router (node_at w n) f.serial (accept f.router (outward_has f.router link side) number item) in
         same_boxes w.count (node_at w n) (make_terminals x from moves) (boxes-make x from moves) boxed)
-    boxed-handle (messages.BypassPeer link side old target fresh) fit =
+    boxed-handle (messages.BypassPeer link side old target fresh) o fit =
         boxed-found w.count (node_at w n) (link_router (node_at w n) link side) _ boxed
         (λ f e. boxed-tell w.count (with_router (node_at w n) f.serial (bypass_peer f.router target fresh))
         (Some (accept_message f.router old target fresh)) boxed (λ s h.
@@ -223,25 +223,25 @@ module _ (w : World) (b : Books) (g : Records) (law : Inv w b g) where
         (nat_lt target (node_at w n).count) f e fit in
         let u : target < w.count = subst (λ c. target < c) (law.counts.nodes n l) (grind (arith, t, nat_tests)) in
         subst (λ n. n < w.count) (ap (λ (z : Sending). z.to) (same_Some (accept_message f.router old target fresh) s h)) u))
-    boxed-handle (messages.AcceptBypass old side fresh len) fit =
+    boxed-handle (messages.AcceptBypass old side fresh len) o fit =
         boxed-found w.count (node_at w n) (link_router (node_at w n) (Central old) side) _ boxed
         (λ f e. boxed-tell w.count _ _ boxed (stop_goes f.router f.router.outward.primary old side len
         (found_below (Central old) side f e).primary))
-    boxed-handle (messages.StopProxying old side in_length out_length) fit =
+    boxed-handle (messages.StopProxying old side in_length out_length) o fit =
         boxed-found w.count (node_at w n) (link_router (node_at w n) (Central old) side) _ boxed
         (λ f e. boxed-tell w.count _ _ boxed (will_stop_goes (inward_edge f.router).decaying in_length
         (found_below (Central old) side f e).inner_decaying))
-    boxed-handle (messages.ProxyWillStop link side in_length) fit =
+    boxed-handle (messages.ProxyWillStop link side in_length) o fit =
         boxed-found w.count (node_at w n) (link_router (node_at w n) link side) _ boxed (λ f e. boxed)
-    boxed-handle (messages.Flush link side) fit = boxed-found w.count (node_at w n) (link_router (node_at w n) link side) _ boxed
+    boxed-handle (messages.Flush link side) o fit = boxed-found w.count (node_at w n) (link_router (node_at w n) link side) _ boxed
         (λ f e. boxed)
 
     -- a message in hand
-    pub boxed-deliver : (m : Message) → IsBoxed w.count (deliver (node_at w n) from m)
+    pub boxed-deliver : (m : Message) (o : Option ℕ) → IsBoxed w.count (deliver (node_at w n) from m o)
     unfolding deliver
-    boxed-deliver m = go (fits (node_at w n) from m) refl
+    boxed-deliver m o = go (fits (node_at w n) from m o) refl
       where
-        go : (c : Bool) → fits (node_at w n) from m ≡ c → IsBoxed w.count
+        go : (c : Bool) → fits (node_at w n) from m o ≡ c → IsBoxed w.count
             (if c then handle (node_at w n) from m else add_stray (node_at w n) m)
-        go true e = boxed-handle m e
+        go true e = boxed-handle m o e
         go false e = boxed

@@ -458,9 +458,10 @@ awake-handle n sender (messages.Flush link side) law is = go (link_router n link
     go (Some f) = awake-with n f.serial _ law (awake-flagged _ refl)
 
 -- a message, whether it fits or not
-pub awake-deliver : (n : Node) (sender : ℕ) (m : Message) → AreAwake n → ArePeripheral (moves_of m) → AreAwake (deliver n sender m)
+pub awake-deliver : (n : Node) (sender : ℕ) (m : Message) (o : Option ℕ) → AreAwake n → ArePeripheral (moves_of m) → AreAwake
+    (deliver n sender m o)
 unfolding deliver
-awake-deliver n sender m law is = go (fits n sender m)
+awake-deliver n sender m o law is = go (fits n sender m o)
   where
     go : (b : Bool) → AreAwake (if b then handle n sender m else record n { strays = n.strays ++ m ∷ [] })
     go true = awake-handle n sender m law is

@@ -15,7 +15,7 @@ use Rattle.ipcz_base.specs.declared.parcel.Parcel as parcels
 use Rattle.ipcz_base.specs.declared.item.Item.TheVariants.{Parcel}
 use Rattle.ipcz_base.specs.declared.message.Message.TheVariants as messages
 use Rattle.ipcz_word.specs.Word.{Plan, Locks, Waits, Refuses, plan_of}
-use Rattle.ipcz_router.specs.Router.{outward_has, rouse}
+use Rattle.ipcz_router.specs.Router.{source_of, outward_has, rouse}
 use Rattle.ipcz_router.specs.Calls.{accept}
 use Rattle.ipcz_router.specs.Closing.{close_router}
 use Rattle.ipcz_router.specs.Calls.{take_item, put_item}
@@ -96,7 +96,8 @@ may-possible : (r : Router) (act : RouterAct) → is_rest act ≡ false → may_
 unfolding is_rest
 may-possible r act n h = grind (arith, n, h)
 
-agreed-mark : (w : World) (r : Router) (o : Option ℕ) → IsAgreed r → IsAgreed (apply r acts.Mark (link_answer w r.end.side acts.Mark o))
+agreed-mark : (w : World) (r : Router) (o : Option ℕ) → IsAgreed r → IsAgreed
+    (apply r acts.Mark (link_answer w r.end.side (source_of r) acts.Mark o))
 unfolding link_answer word_answer apply
 agreed-mark w r None law = law
 agreed-mark w r (Some i) law = record { dry = law.dry; wake = λ h. refl; tried_marked = λ h. refl; tried_free = law.tried_free }
@@ -121,7 +122,7 @@ agreed-claim w r law possible = go (has_unclaimed_word w)
         none (Some i) e = absurd (grind (arith, possible, e))
 
 agreed-lock : (w : World) (r : Router) (o : Option ℕ) → IsAgreed r → is_possible r acts.Lock ≡ true →
-    IsAgreed (apply r acts.Lock (link_answer w r.end.side acts.Lock o))
+    IsAgreed (apply r acts.Lock (link_answer w r.end.side (source_of r) acts.Lock o))
 unfolding link_answer word_answer try_answer apply is_possible
 agreed-lock w r None law possible = law
 agreed-lock w r (Some i) law possible = go (plan_of (word_at w i) r.end.side)
@@ -135,7 +136,7 @@ agreed-lock w r (Some i) law possible = go (plan_of (word_at w i) r.end.side)
           λ h. grind (arith, possible);
     }
 
-    go : (p : Plan) → IsAgreed (apply r acts.Lock (try_answer (word_at w i) r.end.side p))
+    go : (p : Plan) → IsAgreed (apply r acts.Lock (try_answer (word_at w i) r.end.side (source_of r) p))
     go Locks = record {
       dry = law.dry;
       wake = law.wake;
@@ -307,9 +308,9 @@ agreed-handle n sender (messages.Flush link side) law = go (link_router n link s
     go None h = law
     go (Some f) h = agreed-with n f.serial (rouse f.router) law (agreed-roused (law f.serial f.router (found_tells n _ f h).0))
 
-agreed-deliver : (n : Node) (sender : ℕ) (m : Message) → AreAgreed n → AreAgreed (deliver n sender m)
+agreed-deliver : (n : Node) (sender : ℕ) (m : Message) (o : Option ℕ) → AreAgreed n → AreAgreed (deliver n sender m o)
 unfolding deliver
-agreed-deliver n sender m law = go (fits n sender m)
+agreed-deliver n sender m o law = go (fits n sender m o)
   where
     go : (b : Bool) → AreAgreed (if b then handle n sender m else record n { strays = n.strays ++ m ∷ [] })
     go true = agreed-handle n sender m law
@@ -335,7 +336,7 @@ agreed-kept = record {
   open_pair = λ n i law. agreed-end (add_end n i A n.number) i B n.number (agreed-end n i A n.number law);
   pending = agreed-pending;
   router = λ w b g n s act r law ln is at may. agreed-router w n s act r (is n) at may;
-  deliver = λ n from m law h. agreed-deliver n from m law;
+  deliver = λ n from m o law h. agreed-deliver n from m o law;
 }
   where
     here : (w : World) (n : ℕ) (x : Node) → AllAgreed w → AreAgreed x → (j : ℕ) (c : Bool) → AreAgreed (cond c x (node_at w j))

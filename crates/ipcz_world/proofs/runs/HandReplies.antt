@@ -114,7 +114,7 @@ kind-flush (messages.Flush link s) f = refl
 module _ (fit : HandsFit) (w : World) (b : Books) (g : Routes) (law : Lawful w b g) where
   -- a message in hand that is said not to fit
   hand_seen-fits : (n from : ℕ) (kind : Handed) (link : LinkId) → n < w.count → (node_at w n).hand ≡ Some from → (o : Option Message) →
-      message_in_hand w n from ≡ o → hand_seen (node_at w n) from o ≡ events.Hand kind link true → kind ≡ Flush
+      message_in_hand w n from ≡ o → hand_seen w n from o ≡ events.Hand kind link true → kind ≡ Flush
   unfolding hand_seen hand_event kind_said unfit_said
   hand_seen-fits n from kind link l hand None here f = cc
   hand_seen-fits n from kind link l hand (Some m) here f =

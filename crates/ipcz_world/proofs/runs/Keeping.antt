@@ -1,4 +1,5 @@
 -- The case analysis: each step, whichever possible act a turn takes, keeps the invariant, with the books and the routes after it.
+use Rattle.ipcz_world.specs.WordAnswers.{source_for}
 use Rattle.std.specs.Prelude.{◌≡◌, ◌<◌, ℕ, Bool, true, false, ◌&&◌, nat_lt, if◌then◌else◌, Option, Some, None, is_some, refl}
 use Rattle.std.proofs.Common.{arith, ap, subst, ◌∙◌, sym, inl, inr}
 use Rattle.std.proofs.lemmas.Bool.Decides.{nat_tests}
@@ -284,7 +285,7 @@ module _ (w : World) (b : Books) (g : Records) (law : Inv w b g) where
       let at : IsPeer g from n o link side target fresh = peer_told w g from n 0 o link side target fresh law.told
       (under_way-hand w n from m is) in
       let fits = peer_fits w b g law n from o link side target fresh is a.found a.is_found a.can a.has in
-      let unfit : is_unfit (node_at w n) from m ≡ false = rw (fits, a.is_found) refl in
+      let unfit : is_unfit (node_at w n) from m (source_for w m) ≡ false = rw (fits, a.is_found) refl in
       let free : is_linked (g.owner fresh) ≡ false = ap is_linked (ap g.owner at.onto ∙ law.bypasses.fresh o at.stage) in
       let own : HasAt w g k a.found.router link side = has_at w g k a.found.router link side law.links a.can.here a.has in
       let pair : a.found.router.end.pair ≡ (g.central o).pair = ap (λ e. e.pair) own.end ∙ ap (λ l. (side_end g l side).pair) at.on_link ∙
@@ -343,7 +344,7 @@ module _ (w : World) (b : Books) (g : Records) (law : Inv w b g) where
       record {
         records = k.records;
         inv = subst (λ c. Inv (after_act w n (Hand from)) c k.records)
-            (sym (books-other w b n _ (hand_kind (node_at w n) from (hand_message (mail_at w (way w from n))))))
+            (sym (books-other w b n _ (hand_kind w n from (hand_message (mail_at w (way w from n))))))
             (subst (λ x. Inv (after_hand w n from (hand_message x)) b k.records) (sym m.1) k.inv);
         routes = k.routes;
         stays = k.stays;

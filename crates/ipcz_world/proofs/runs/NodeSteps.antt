@@ -1,4 +1,6 @@
 -- What is said of each node's routers is kept by every step, if every act and call of a node keeps it.
+use Rattle.ipcz_world.specs.WordAnswers.{source_for}
+use Rattle.ipcz_router.specs.Router.{source_of}
 use Rattle.std.specs.Prelude.{◌≡◌, ◌<◌, ℕ, ◌+◌, Bool, true, false, nat_lt, if◌then◌else◌, Option, Some, None, List, slice_get, refl}
 use Rattle.std.proofs.Common.{arith, sym, ap, subst, inl, inr}
 use Rattle.std.proofs.lemmas.Bool.Decides.{nat_tests}
@@ -47,7 +49,7 @@ pub record IsKept (Q : World → Type 0) (N : Node → Type 0) : Type 0 where
   pub router : (w : World) (b : Books) (g : Records) (n s : ℕ) (act : RouterAct) (r : Router) → Inv w b g → n < w.count → Q w →
       router_in (node_at w n) s ≡ Some r → may_take r act ≡ true →
       N (commit (node_at w n) (OfRouter s act) (answer_of w r act))
-  pub deliver : (n : Node) (from : ℕ) (m : Message) → N n → ArePeripheral (moves_of m) → N (deliver n from m)
+  pub deliver : (n : Node) (from : ℕ) (m : Message) (o : Option ℕ) → N n → ArePeripheral (moves_of m) → N (deliver n from m o)
 
 -- a message in hand is under way
 in-flow : (w : World) (from n : ℕ) (y : Mail) (m : Message) → mail_at w (way w from n) ≡ y → hand_message y ≡ Some m →
@@ -63,7 +65,7 @@ hand-is None from h = cc
 hand-is (Some s) from h = let e : s ≡ from = grind (arith, h, nat_tests) in ap Some e
 
 module _ (Q : World → Type 0) (N : Node → Type 0) (kept : IsKept Q N) where
-  kept-touch_word : (w : World) (r : Router) (act : RouterAct) (o : Option ℕ) → Q w → Q (touch_word w r.end.side act o)
+  kept-touch_word : (w : World) (r : Router) (act : RouterAct) (o : Option ℕ) → Q w → Q (touch_word w r.end.side (source_of r) act o)
   unfolding touch_word
   kept-touch_word w r act None law = law
   kept-touch_word w r act (Some i) law = kept.set_word w i _ law
@@ -94,7 +96,8 @@ module _ (Q : World → Type 0) (N : Node → Type 0) (kept : IsKept Q N) where
   unfolding after_hand can_take
   kept-handed w b g n from law ln can is None e = is
   kept-handed w b g n from law ln can is (Some m) e = kept.set_mail _ _ _
-      (kept.set_node w n (deliver (node_at w n) from m) is (kept.deliver (node_at w n) from m (kept.node_of w n is)
+      (kept.set_node w n (deliver (node_at w n) from m (source_for w m)) is
+      (kept.deliver (node_at w n) from m (source_for w m) (kept.node_of w n is)
       (λ j d h. law.moves.peripheral from n 0 j m d under h)))
     where
       hand : (node_at w n).hand ≡ Some from

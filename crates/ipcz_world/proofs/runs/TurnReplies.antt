@@ -102,7 +102,7 @@ module _ (w : World) (b : Books) (g : Records) (law : Inv w b g) where
   pub turned_plain : (n : ℕ) (act : Act) → can_take w n act ≡ true →
       PlainTurn b (turn_event w n act) (after_turn w b n (turn_event w n act))
   unfolding can_take may_act turn_event event_of after_turn
-  turned_plain n (Hand from) can = plain-other w b n _ (hand_kind (node_at w n) from (hand_message (mail_at w (way w from n))))
+  turned_plain n (Hand from) can = plain-other w b n _ (hand_kind w n from (hand_message (mail_at w (way w from n))))
   turned_plain n (Look from) can = refl
   turned_plain n (Post to) can = refl
   turned_plain n (Close e) can = refl
@@ -164,7 +164,7 @@ module _ (w : World) (b : Books) (g : Records) (law : Inv w b g) where
   unfolding can_take may_act turn_event event_of kind hand_seen hand_event router_seen is_rest
   begin_act_is n (Hand from) s l r can e here = go (hand_message (mail_at w (way w from n))) e
     where
-      go : (o : Option _) → hand_seen (node_at w n) from o ≡ events.Begin s l →
+      go : (o : Option _) → hand_seen w n from o ≡ events.Begin s l →
           (is_possible r acts.Begin ≡ true) × (link_of r.outward.primary ≡ l)
       go None e = cc
       go (Some m) e = cc

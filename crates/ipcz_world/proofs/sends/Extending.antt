@@ -139,6 +139,7 @@ module _ (w v : World) (b : Books) (g : Records) (q : Key) (r : Router) (a : ℕ
       words = words-extended law is t;
       spares = spares-extended law is t;
       bypasses = bypasses-extended law is t;
+      live = record { one_live = law.live.one_live; none_live = law.live.none_live; one_begun = law.live.one_begun };
       stages = stages-extended law is t;
       told = told-extended law is t p away named ends;
       moves = moves-extended law is t p away named ends;

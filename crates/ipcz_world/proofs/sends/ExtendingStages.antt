@@ -1,4 +1,6 @@
 -- A terminal that moves becomes a proxy: who stands where, the words, the bypasses, and where the terminals are.
+use Rattle.ipcz_world.proofs.Vocabulary.{Word}
+use Rattle.ipcz_world.proofs.frames.Sourcing.{sourced-by, had-one}
 use Rattle.std.specs.Prelude.{◌≡◌, ◌≤◌, ℕ, Bool, true, false, not, cond, ◌&&◌, Some, None, is_some, refl}
 use Rattle.std.proofs.Common.{arith, ap, subst, ◌∙◌, sym, inl, inr}
 use Rattle.ipcz_world.proofs.Vocabulary.{Side, A, B, End, Central, opposite, same_side, has, same_link, same_end, opposite_end, Router}
@@ -101,7 +103,15 @@ module _ {w v : World} {b : Books} {g : Records} {q : Key} {r : Router} {a : ℕ
         (ap (λ z. has z.holder s) (sym (t.word i)) ∙ e);
     one_holder = λ i s u e f. law.words.one_holder i s u (ap (λ z. has z.holder s) (sym (t.word i)) ∙ e)
         (ap (λ z. has z.holder u) (sym (t.word i)) ∙ f);
+    source = sourced-by w v (had-one w v q r (extended w q r a) t.router (λ h. absurd (lone_free h)))
+        (λ x z e i at p l. ap (λ (x : Word). x.source) (t.word i)) law.words.source;
+    begun_source = λ o s l. ap (λ (x : Word). x.source) (t.word o) ∙ law.words.begun_source o s l ∙ ap Some
+        (sym (node_same law is t (inner_link (g.bypass o).inner) B
+        (other_link law is t (inner_link (g.bypass o).inner) (law.bypasses.inner o s))));
   }
+    where
+      lone_free : r.holds ≡ true → ⊥
+      lone_free h = grind (arith, law.shape.holds_proxy q r is.here h, no_inward law is t)
 
   spare_same : (x : Key) → spare_of (router_at v x) ≡ spare_of (router_at w x)
   unfolding spare_of

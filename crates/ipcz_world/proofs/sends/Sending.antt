@@ -354,6 +354,7 @@ inv-sent w b g k r y link s to n item law is = record {
   words = words-touched w v k r y g t is.alike law.words;
   spares = spares-touched w v k r y g t is.alike law.spares;
   bypasses = bypasses-touched w v k r y g t is.alike law.bypasses;
+  live = law.live;
   stages = stages-touched w v k r y g t is.alike law.stages;
   told = told-sent w v b g k r y link s to n item is d p law.told;
   moves = moves-sent w v b g k r y link s to n item is d p law.moves;

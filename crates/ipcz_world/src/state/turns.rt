@@ -7,6 +7,7 @@ ghost use Rattle.ipcz_node.specs.RoomyNodes.{IsPossibleAct};
 ghost use Rattle.ipcz_world.specs.Settling.{TakesTurn};
 ghost use Rattle.ipcz_world.specs.Turns.{is_clear, seen_at, next_at, can_take, turn_event};
 ghost use Rattle.ipcz_world.specs.Steps.{StepFirst};
+ghost use Rattle.ipcz_world.specs.WordAnswers.{source_for};
 ghost use Rattle.ipcz_world.specs.Taking.{IsRegular, IsTaken, IsCommitted};
 
 use crate::mail::Mail;
@@ -136,6 +137,21 @@ impl State {
         }
     }
 
+    // The node that may send the message, as the word of the old link names it: asked of an AcceptBypass alone.
+    #[tactic(auto, unfolding(crate::specs::WordAnswers::source_for, crate::specs::World::word_at))]
+    fn source_for(&self, message: &Message) -> Option<u8>
+        ensures { result ≡ source_for self.now message.now }
+    {
+        match message {
+            Message::AcceptBypass { old, .. } => self.words.source(*old),
+            Message::Item { .. }
+            | Message::BypassPeer { .. }
+            | Message::StopProxying { .. }
+            | Message::ProxyWillStop { .. }
+            | Message::Flush { .. } => None,
+        }
+    }
+
     // Handles the message in hand; where that finds no memory or no serials the message stays in hand.
     fn handle(&mut self, n: u8, from: u8) -> Result<Happened, Refusal>
         requires regular { IsRegular self.old }
@@ -147,7 +163,8 @@ impl State {
         let Some(message) = self.mail.take_hand(place) else {
             unreachable!()
         };
-        match self.nodes.node_mut(n).deliver(from, message) {
+        let source = self.source_for(&message);
+        match self.nodes.node_mut(n).deliver(from, message, source) {
             Ok(event) => Ok(event),
             Err((why, message)) => {
                 self.mail.put(place, Mail::Hand(message));
@@ -215,7 +232,9 @@ impl State {
     {
         let node = self.nodes.node_mut(n);
         node.prepare(&Act::Router(serial, act))?;
-        let answer = self.words.answer(act, node.word_of(serial));
+        let answer = self
+            .words
+            .answer(node.source_of(serial), act, node.word_of(serial));
         let (event, _) = node.commit(Act::Router(serial, act), answer);
         Ok(event)
     }
@@ -293,7 +312,8 @@ impl State {
         let Some(message) = self.mail.take_hand(place) else {
             unreachable!()
         };
-        match self.nodes.node_mut(n).deliver_unseen(from, message) {
+        let source = self.source_for(&message);
+        match self.nodes.node_mut(n).deliver_unseen(from, message, source) {
             Ok(()) => Ok(()),
             Err((why, message)) => {
                 self.mail.put(place, Mail::Hand(message));
@@ -315,7 +335,9 @@ impl State {
         if let Err(why) = node.prepare(&Act::Router(serial, act)) {
             return Err(why);
         }
-        let answer = self.words.answer(act, node.word_of(serial));
+        let answer = self
+            .words
+            .answer(node.source_of(serial), act, node.word_of(serial));
         node.commit_unseen(serial, act, answer);
         Ok(())
     }

@@ -21,7 +21,7 @@ const LEGS: [Leg; 6] = [
             "Post(1)",
             "Rest(0)",
             "Claim(2, 2)",
-            "Lock(2, Central(1), 35)",
+            "Lock(2, Central(1), 547)",
             "Begin(2, Central(1))",
             "Rest(2)",
             "Idle",
@@ -99,7 +99,7 @@ fn a_bypass_turn_by_turn(rt: HostRuntime) -> Result<(), Fail> {
             let want = format!(in alloc; "Turned({event})")?;
             assert_eq!(rt; format!(in alloc; "{reply:?}")?.as_str(), want.as_str());
         }
-        assert_eq!(rt; [world.word(0), world.word(1)], [Some(3), Some(35)]);
+        assert_eq!(rt; [world.word(0), world.word(1)], [Some(3), Some(547)]);
         assert_eq!(rt; [world.word(2), world.word(3)], [Some(leg.fresh), None]);
     }
     assert_eq!(rt; world.settle(0), Ok(Settled::Settled { after: 0 }));

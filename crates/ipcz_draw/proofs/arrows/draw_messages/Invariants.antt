@@ -4,4 +4,4 @@ use Rattle.ipcz_draw.proofs.arrows.draw_messages.Given as goal
 
 -- what is open is as before, and few bytes were added for each
 abbrev pub invariant-loop-index : goal.invariant-loop-index
-invariant-loop-index l = Keeps l.fn.out l.out × Grows l.fn.out l.out (4500 * l.index)
+invariant-loop-index l = Keeps l.fn.out l.out × Grows l.fn.out l.out (5500 * l.index)

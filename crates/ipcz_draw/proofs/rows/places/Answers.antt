@@ -1,4 +1,4 @@
-use Rattle.std.proofs.Common.{◌≤◌, ◌+◌, length, arith}
+use Rattle.std.proofs.Common.{◌≤◌, ◌+◌, ◌∷◌, [], ap, length, length-append, arith}
 use Rattle.ipcz_draw.proofs.Following.{follow_one}
 use Rattle.ipcz_draw.proofs.rows.places.Goals as goal
 
@@ -10,4 +10,11 @@ placing-preserved c =
       omega (arith, c.placing.invariant.1, place.few, place.place.some),
       rw c.in_ok-push.ensures.items (follow_one c.args.lines.now 0 136 c.placing.placed.items c.placing.first c.placing.top
           c.place_at-place.result c.placing.invariant.2 place.first place.top place.place),
+      omega (
+        arith,
+        c.placing.invariant.3,
+        place.place.some,
+        ap length c.in_ok-push.ensures.items,
+        length-append c.placing.placed.items (c.place_at-place.result ∷ []),
+      ),
     )

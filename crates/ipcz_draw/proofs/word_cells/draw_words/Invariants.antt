@@ -4,4 +4,4 @@ use Rattle.ipcz_draw.proofs.word_cells.draw_words.Given as goal
 
 -- what is open is as before, and few bytes were added for each
 abbrev pub invariant-loop-index : goal.invariant-loop-index
-invariant-loop-index l = Keeps l.fn.out l.out × Grows l.fn.out l.out (1500 * l.index) × (l.word ≤ l.index)
+invariant-loop-index l = Keeps l.fn.out l.out × Grows l.fn.out l.out (1800 * l.index) × (l.word ≤ l.index)

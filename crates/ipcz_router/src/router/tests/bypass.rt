@@ -6,7 +6,7 @@ use super::{ACROSS, END, carry, letter, plain, puts, step};
 use crate::act::{Answer, Applied, RouterAct};
 use crate::router::Router;
 use crate::sending::Sending;
-use ipcz_base::{Descriptor, End, LinkEnd, LinkId, Message, Parcel, Side};
+use ipcz_base::{Descriptor, End, LinkEnd, LinkId, Message, Parcel, Refusal, Side};
 use ipcz_edge::Edge;
 use std::alloc::Global;
 use std::test::Fail;
@@ -154,9 +154,18 @@ fn z_turns(z: &mut Router) -> bool {
         && z.bypass_peer(INNER, Side::B, 0, 0, 3).is_err()
 }
 
+// Why X refuses an AcceptBypass from node 2 over this side of the old link, whose word names this source.
+fn refused(x: &mut Router, side: Side, source: Option<u8>) -> Option<Refusal> {
+    x.accept_bypass(2, 0, side, 2, 2, source).err()
+}
+
 // X turns to it at its number 5, toward the node that AcceptBypass came from.
 fn x_turns(x: &mut Router) -> bool {
-    let strange = x.marked && x.accept_bypass(2, 0, Side::B, 2, 2).is_err();
+    let strange = x.marked
+        && refused(x, Side::B, Some(2)) == Some(Refusal::Stranger)
+        && refused(x, Side::B, None) == Some(Refusal::Stranger)
+        && refused(x, Side::A, None) == Some(Refusal::Forged)
+        && refused(x, Side::A, Some(1)) == Some(Refusal::Forged);
     let Ok(
         Some(
             Sending {
@@ -169,7 +178,7 @@ fn x_turns(x: &mut Router) -> bool {
                 },
             },
         ),
-    ) = x.accept_bypass(2, 0, Side::A, 2, 2)
+    ) = x.accept_bypass(2, 0, Side::A, 2, 2, Some(2))
     else {
         return false;
     };
@@ -177,7 +186,7 @@ fn x_turns(x: &mut Router) -> bool {
         && x.is_flagged()
         && is_unmarked(x)
         && is_parted(x.outward(), fresh_link(Side::A, 2), Some(5), Some(2))
-        && x.accept_bypass(2, 0, Side::A, 2, 2).is_err()
+        && x.accept_bypass(2, 0, Side::A, 2, 2, Some(2)).is_err()
 }
 
 // Y learns both lengths, the inward ones the other way round.

@@ -1,18 +1,16 @@
-use Rattle.std.proofs.Common.{◌≡◌, ◌<◌, ◌+◌, ◌*◌, ℕ, List, [], ◌∷◌, ◌++◌, Option, Some, None, ap, sym, subst, ◌∙◌, refl, arith}
+use Rattle.std.proofs.Common.{◌≡◌, ℕ, Some, ap, sym, subst, ◌∙◌, refl}
 use Rattle.ipcz_router.specs.declared.act.RouterAct.TheVariants as router_acts
 use Rattle.ipcz_node.specs.declared.act.Act.TheVariants as acts
 use Rattle.ipcz_node.specs.Node.{Node}
-use Rattle.ipcz_node.specs.RoomyNodes.{IsPossibleAct}
 use Rattle.ipcz_rule.specs.Rule.{Mine, saw}
 use Rattle.ipcz_fabric.specs.CellStates.{CellState, part_in}
 use Rattle.ipcz_fabric.specs.Words.{CanWord}
-use Rattle.ipcz_fabric.specs.Outcomes.{is_itself}
 use Rattle.ipcz_world.proofs.code.WordNumbers.{spelled}
 use Rattle.ipcz_fabric.proofs.Seating.{own_sound}
 use Rattle.ipcz_fabric.proofs.Wording.{lock_grows, lock_answers, status_told, acted_cell, raced_cell, tried_cell, refused_tells, tried_tells, raced_tells}
 use Rattle.ipcz_fabric.proofs.Mailing.{told_hit, told_miss}
 use Rattle.ipcz_node.specs.Acts.{commit}
-use Rattle.ipcz_node.specs.Node.{word_side}
+use Rattle.ipcz_node.specs.Node.{word_side, source_in}
 use Rattle.ipcz_fabric.specs.Outcomes.{act_view}
 use Rattle.std.specs.Prelude.{true, false}
 use Rattle.ipcz_world.specs.WordAnswers.{word_answer}
@@ -32,7 +30,7 @@ status_here-found-requires-clause-inside g c =
     (own_sound _ _ _ _ was).primary c.args.serial can.router c.word_here-word.result.0 can.can.there can.primary
 
 pub commit_word-requires-clause-answer : goal.commit_word-requires-clause-answer
-commit_word-requires-clause-answer g c = lock_answers _ _ _ c.answer_act-answered.ensures.answer
+commit_word-requires-clause-answer g c = lock_answers _ _ c.source_of-source.result _ c.answer_act-answered.ensures.answer
 
 pub invariant_of-self : goal.invariant_of-self
 invariant_of-self g c =
@@ -44,8 +42,8 @@ invariant_of-self g c =
     let me = c.self.inside.seat.me in
     let loaded = c.status_here-found.ensures in
     let refused = c.is_refused-refused.ensures in
-    let done = status_told n side c.try_lock-plan.result true _ _ c.try_lock-plan.ensures.plan (sym refused ∙ c.if-refused.true) loaded.done.1 in
-    acted_cell t _ _ _ _ me was _ c.status_here-found.new.seat.me loaded.table loaded.sound c.commit_word.new.state.node i c.args.serial n side router_acts.Lock c.answer_act-answered.result.answer done c.answer_act-answered.ensures.answer
+    let done = status_told n side c.source_of-source.result c.try_lock-plan.result true _ _ c.try_lock-plan.ensures.plan (sym refused ∙ c.if-refused.true) loaded.done.2 in
+    acted_cell t _ _ _ _ me was _ c.status_here-found.new.seat.me loaded.table loaded.sound c.commit_word.new.state.node i c.args.serial n side c.source_of-source.result router_acts.Lock c.answer_act-answered.result.answer done c.answer_act-answered.ensures.answer
     (c.commit_word.ensures ∙ ap (λ (z : Node). commit z (acts.Router c.args.serial router_acts.Lock) c.answer_act-answered.result.answer) c.word_here-word.ensures.node)
 
 pub returns-then-refused : goal.returns-then-refused
@@ -58,15 +56,16 @@ returns-then-refused g c =
     let me = c.self.inside.seat.me in
     let loaded = c.status_here-found.ensures in
     let named : word_side c.args.self.now.part.state c.args.serial ≡ Some (i, side) = ap (λ (z : CellState). word_side z.part.state c.args.serial) (sym c.self.view_is) ∙ (ap (λ (z : Node). word_side z c.args.serial) was.seated.state ∙ c.word_here-word.ensures.named) in
+    let own : c.source_of-source.result ≡ source_in c.args.self.now.part.state c.args.serial = c.source_of-source.ensures ∙ (ap (λ (z : Node). source_in z c.args.serial) (c.word_here-word.ensures.node ∙ sym was.seated.state) ∙ ap (λ (z : CellState). source_in z.part.state c.args.serial) c.self.view_is) in
     let refused = c.is_refused-refused.ensures in
-    let done = status_told n side c.try_lock-plan.result true _ _ c.try_lock-plan.ensures.plan (sym refused ∙ c.if-refused.true) loaded.done.1 in
+    let done = status_told n side c.source_of-source.result c.try_lock-plan.result true _ _ c.try_lock-plan.ensures.plan (sym refused ∙ c.if-refused.true) loaded.done.2 in
     record {
       word = i;
       side = side;
       loaded = n;
       named = named;
       is_word = loaded.done.0;
-      tried = refused_tells i n c.args.serial side c.try_lock-plan.result me c.status_here-found.new.seat.me c.self.inside.state.room c.commit_word.new.state.room c.args.self.now c.self.view_is c.try_lock-plan.ensures.plan (sym refused ∙ c.if-refused.true) done;
+      tried = refused_tells i n c.args.serial side c.source_of-source.result (source_in c.args.self.now.part.state c.args.serial) c.try_lock-plan.result me c.status_here-found.new.seat.me c.self.inside.state.room c.commit_word.new.state.room c.args.self.now own c.self.view_is c.try_lock-plan.ensures.plan (sym refused ∙ c.if-refused.true) done;
       told = (refl, refl);
     }
 
@@ -80,7 +79,7 @@ lock_here-now-requires-clause-can g c =
     let me = c.self.inside.seat.me in
     let loaded = c.status_here-found.ensures in
     let free = sym c.is_refused-refused.ensures ∙ c.if-refused.false in
-    let seen = status_told n side c.try_lock-plan.result false _ _ c.try_lock-plan.ensures.plan free loaded.done.1 in
+    let seen = status_told n side c.source_of-source.result c.try_lock-plan.result false _ _ c.try_lock-plan.ensures.plan free loaded.done.2 in
     subst (λ (m : Mine). CanWord (part_in m.0).state c.args.serial side router_acts.Lock i) (sym seen) (subst (λ (z : Node). CanWord z c.args.serial side router_acts.Lock i) (sym was.seated.state) c.word_here-word.ensures.can)
 
 pub lock_here-now-requires-clause-inside : goal.lock_here-now-requires-clause-inside
@@ -102,9 +101,9 @@ invariant_of-self-then-now-found g c =
     let me = c.self.inside.seat.me in
     let loaded = c.status_here-found.ensures in
     let free = sym c.is_refused-refused.ensures ∙ c.if-refused.false in
-    let seen = status_told n side c.try_lock-plan.result false _ _ c.try_lock-plan.ensures.plan free loaded.done.1 in
+    let seen = status_told n side c.source_of-source.result c.try_lock-plan.result false _ _ c.try_lock-plan.ensures.plan free loaded.done.2 in
     let now = c.lock_here-now.result in
-    let miss = told_miss _ n _ _ c.if-now-found.true c.lock_here-now.ensures.done.1 in
+    let miss = told_miss _ n _ _ c.if-now-found.true c.lock_here-now.ensures.done.2 in
     let done = miss ∙ ap (λ (m : Mine). (saw i now m.0, m.1)) seen in
     raced_cell t _ _ _ _ me was _ c.lock_here-now.new.seat.me (c.lock_here-now.ensures.table ∙ loaded.table) c.lock_here-now.ensures.sound c.word_here-word.new.state.node i n now me.0 done c.word_here-word.ensures.node
 
@@ -118,10 +117,11 @@ returns-then-now-found g c =
     let me = c.self.inside.seat.me in
     let loaded = c.status_here-found.ensures in
     let named : word_side c.args.self.now.part.state c.args.serial ≡ Some (i, side) = ap (λ (z : CellState). word_side z.part.state c.args.serial) (sym c.self.view_is) ∙ (ap (λ (z : Node). word_side z c.args.serial) was.seated.state ∙ c.word_here-word.ensures.named) in
+    let own : c.source_of-source.result ≡ source_in c.args.self.now.part.state c.args.serial = c.source_of-source.ensures ∙ (ap (λ (z : Node). source_in z c.args.serial) (c.word_here-word.ensures.node ∙ sym was.seated.state) ∙ ap (λ (z : CellState). source_in z.part.state c.args.serial) c.self.view_is) in
     let free = sym c.is_refused-refused.ensures ∙ c.if-refused.false in
-    let seen = status_told n side c.try_lock-plan.result false _ _ c.try_lock-plan.ensures.plan free loaded.done.1 in
+    let seen = status_told n side c.source_of-source.result c.try_lock-plan.result false _ _ c.try_lock-plan.ensures.plan free loaded.done.2 in
     let now = c.lock_here-now.result in
-    let miss = told_miss _ n _ _ c.if-now-found.true c.lock_here-now.ensures.done.1 in
+    let miss = told_miss _ n _ _ c.if-now-found.true c.lock_here-now.ensures.done.2 in
     let done = miss ∙ ap (λ (m : Mine). (saw i now m.0, m.1)) seen in
     record {
       word = i;
@@ -129,12 +129,12 @@ returns-then-now-found g c =
       loaded = n;
       named = named;
       is_word = loaded.done.0;
-      tried = raced_tells i n now c.args.serial side me c.lock_here-now.new.seat.me c.self.inside.state.room c.word_here-word.new.state.room c.args.self.now c.self.view_is c.if-now-found.true done;
+      tried = raced_tells i n now c.args.serial side c.source_of-source.result (source_in c.args.self.now.part.state c.args.serial) me c.lock_here-now.new.seat.me c.self.inside.state.room c.word_here-word.new.state.room c.args.self.now own c.self.view_is c.if-now-found.true done;
       told = tt;
     }
 
 pub commit_word-requires-2-clause-answer : goal.commit_word-requires-2-clause-answer
-commit_word-requires-2-clause-answer g c = lock_answers _ _ _ c.answer_act-answered.ensures.answer
+commit_word-requires-2-clause-answer g c = lock_answers _ _ c.source_of-source.result _ c.answer_act-answered.ensures.answer
 
 pub invariant_of-self-2 : goal.invariant_of-self-2
 invariant_of-self-2 g c =
@@ -146,12 +146,12 @@ invariant_of-self-2 g c =
     let me = c.self.inside.seat.me in
     let loaded = c.status_here-found.ensures in
     let free = sym c.is_refused-refused.ensures ∙ c.if-refused.false in
-    let seen = status_told n side c.try_lock-plan.result false _ _ c.try_lock-plan.ensures.plan free loaded.done.1 in
+    let seen = status_told n side c.source_of-source.result c.try_lock-plan.result false _ _ c.try_lock-plan.ensures.plan free loaded.done.2 in
     let now = c.lock_here-now.result in
-    let hit = told_hit _ n _ _ c.if-now-found.false c.lock_here-now.ensures.done.1 in
-    let done = hit ∙ ap (λ (m : Mine). (act_view i c.args.serial side router_acts.Lock now m.0, m.1)) seen in
-    let word = subst (λ (k : ℕ). c.answer_act-answered.result.answer ≡ word_answer (word_of_bits k) side router_acts.Lock) (sym c.if-now-found.false) c.answer_act-answered.ensures.answer in
-    tried_cell t _ _ _ _ me was _ c.lock_here-now.new.seat.me (c.lock_here-now.ensures.table ∙ loaded.table) c.lock_here-now.ensures.sound c.commit_word-2.new.state.node i c.args.serial n now side router_acts.Lock c.answer_act-answered.result.answer done word
+    let hit = told_hit _ n _ _ c.if-now-found.false c.lock_here-now.ensures.done.2 in
+    let done = hit ∙ ap (λ (m : Mine). (act_view i c.args.serial side c.source_of-source.result router_acts.Lock now m.0, m.1)) seen in
+    let word = subst (λ (k : ℕ). c.answer_act-answered.result.answer ≡ word_answer (word_of_bits k) side c.source_of-source.result router_acts.Lock) (sym c.if-now-found.false) c.answer_act-answered.ensures.answer in
+    tried_cell t _ _ _ _ me was _ c.lock_here-now.new.seat.me (c.lock_here-now.ensures.table ∙ loaded.table) c.lock_here-now.ensures.sound c.commit_word-2.new.state.node i c.args.serial n now side c.source_of-source.result router_acts.Lock c.answer_act-answered.result.answer done word
     (c.commit_word-2.ensures ∙ ap (λ (z : Node). commit z (acts.Router c.args.serial router_acts.Lock) c.answer_act-answered.result.answer) c.word_here-word.ensures.node)
 
 pub returns : goal.returns
@@ -164,17 +164,31 @@ returns g c =
     let me = c.self.inside.seat.me in
     let loaded = c.status_here-found.ensures in
     let named : word_side c.args.self.now.part.state c.args.serial ≡ Some (i, side) = ap (λ (z : CellState). word_side z.part.state c.args.serial) (sym c.self.view_is) ∙ (ap (λ (z : Node). word_side z c.args.serial) was.seated.state ∙ c.word_here-word.ensures.named) in
+    let own : c.source_of-source.result ≡ source_in c.args.self.now.part.state c.args.serial = c.source_of-source.ensures ∙ (ap (λ (z : Node). source_in z c.args.serial) (c.word_here-word.ensures.node ∙ sym was.seated.state) ∙ ap (λ (z : CellState). source_in z.part.state c.args.serial) c.self.view_is) in
     let free = sym c.is_refused-refused.ensures ∙ c.if-refused.false in
-    let seen = status_told n side c.try_lock-plan.result false _ _ c.try_lock-plan.ensures.plan free loaded.done.1 in
+    let seen = status_told n side c.source_of-source.result c.try_lock-plan.result false _ _ c.try_lock-plan.ensures.plan free loaded.done.2 in
     let now = c.lock_here-now.result in
-    let hit = told_hit _ n _ _ c.if-now-found.false c.lock_here-now.ensures.done.1 in
-    let done = hit ∙ ap (λ (m : Mine). (act_view i c.args.serial side router_acts.Lock now m.0, m.1)) seen in
+    let hit = told_hit _ n _ _ c.if-now-found.false c.lock_here-now.ensures.done.2 in
+    let done = hit ∙ ap (λ (m : Mine). (act_view i c.args.serial side c.source_of-source.result router_acts.Lock now m.0, m.1)) seen in
     record {
       word = i;
       side = side;
       loaded = n;
       named = named;
       is_word = loaded.done.0;
-      tried = tried_tells i n now c.args.serial side c.try_lock-plan.result me c.lock_here-now.new.seat.me c.self.inside.state.room c.commit_word-2.new.state.room c.args.self.now c.self.view_is c.try_lock-plan.ensures.plan free c.if-now-found.false done;
+      tried = tried_tells i n now c.args.serial side c.source_of-source.result (source_in c.args.self.now.part.state c.args.serial) c.try_lock-plan.result me c.lock_here-now.new.seat.me c.self.inside.state.room c.commit_word-2.new.state.room c.args.self.now own c.self.view_is c.try_lock-plan.ensures.plan free c.if-now-found.false done;
       told = (refl, refl);
     }
+
+pub status_here-found-requires-clause-named : goal.status_here-found-requires-clause-named
+status_here-found-requires-clause-named g c = c.source_of-source.ensures ∙ ap (λ (z : Node). source_in z c.args.serial) (c.word_here-word.ensures.node ∙ sym c.self.invariant.seated.state)
+
+pub lock_here-now-requires-clause-named : goal.lock_here-now-requires-clause-named
+lock_here-now-requires-clause-named g c =
+    let was = c.self.invariant in
+    let side = c.word_here-word.result.1 in
+    let n = c.status_here-found.result in
+    let loaded = c.status_here-found.ensures in
+    let free = sym c.is_refused-refused.ensures ∙ c.if-refused.false in
+    let seen = status_told n side c.source_of-source.result c.try_lock-plan.result false _ _ c.try_lock-plan.ensures.plan free loaded.done.2 in
+    c.source_of-source.ensures ∙ (ap (λ (z : Node). source_in z c.args.serial) (c.word_here-word.ensures.node ∙ sym was.seated.state) ∙ ap (λ (m : Mine). source_in (part_in m.0).state c.args.serial) (sym seen))

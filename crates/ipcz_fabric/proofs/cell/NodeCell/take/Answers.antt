@@ -11,8 +11,7 @@ touch_turn-requires-clause-alone g c = close_alone c.args.act c.in-Close.field-0
 pub returns-in-Hand : goal.returns-in-Hand
 returns-in-Hand g c =
     let t = g.F.FabricName.table in
-    let h = c.mail_handle.ensures in
-    subst (λ (a : Act). Acts t a c.args.self.now c.mail_handle.result c.mail_handle.new.self) (sym c.in-Hand.is) (hand_takes t c.in-Hand.from c.args.self.now c.mail_handle.new.self c.mail_handle.result h.ok h.event h.why h.err h.seen)
+    subst (λ (a : Act). Acts t a c.args.self.now c.mail_handle.result c.mail_handle.new.self) (sym c.in-Hand.is) (hand_takes t c.in-Hand.from c.args.self.now c.mail_handle.new.self c.mail_handle.result c.mail_handle.ensures)
 
 pub returns-in-Idle : goal.returns-in-Idle
 returns-in-Idle g c =

@@ -1,4 +1,4 @@
-use Rattle.std.proofs.Common.{◌≡◌, ◌<◌, ◌+◌, ℕ, List, [], ◌∷◌, ◌++◌, Option, Some, None, ap, sym, subst, ◌∙◌, refl, arith}
+use Rattle.std.proofs.Common.{[], ◌∷◌, ◌++◌, None, ap, sym, subst, ◌∙◌}
 use Rattle.ipcz_router.specs.declared.act.RouterAct.TheVariants as router_acts
 use Rattle.ipcz_node.specs.declared.act.Act.TheVariants as acts
 use Rattle.ipcz_node.specs.Node.{Node, word_side}
@@ -6,7 +6,7 @@ use Rattle.ipcz_node.specs.Acts.{commit}
 use Rattle.ipcz_word.specs.Layout.{word_of_bits}
 use Rattle.ipcz_world.specs.WordAnswers.{word_answer}
 use Rattle.ipcz_world.proofs.code.WordNumbers.{spelled}
-use Rattle.ipcz_rule.specs.Rule.{Mine, saw}
+use Rattle.ipcz_rule.specs.Rule.{Mine}
 use Rattle.ipcz_rule.specs.Steps.{act_part}
 use Rattle.ipcz_fabric.specs.CellStates.{CellState, part_in}
 use Rattle.ipcz_fabric.specs.Words.{CanWord}
@@ -27,13 +27,13 @@ mark_here-found-requires-clause-inside g c =
     (own_sound _ _ _ _ was).primary c.args.serial can.router c.word_here-i.result.0 can.can.there can.primary
 
 pub commit_word-requires-clause-answer : goal.commit_word-requires-clause-answer
-commit_word-requires-clause-answer g c = mark_answers _ _ _ c.answer_act-answered.ensures.answer
+commit_word-requires-clause-answer g c = mark_answers _ _ None _ c.answer_act-answered.ensures.answer
 
 pub invariant_of-self : goal.invariant_of-self
 invariant_of-self g c =
     let was = c.self.invariant in
     let done = c.mark_here-found.ensures in
-    acted_cell g.F.FabricName.table _ _ _ _ c.self.inside.seat.me was _ c.mark_here-found.new.seat.me done.table done.sound c.commit_word.new.state.node c.word_here-i.result.0 c.args.serial c.mark_here-found.result c.word_here-i.result.1 router_acts.Mark c.answer_act-answered.result.answer done.done.1 c.answer_act-answered.ensures.answer
+    acted_cell g.F.FabricName.table _ _ _ _ c.self.inside.seat.me was _ c.mark_here-found.new.seat.me done.table done.sound c.commit_word.new.state.node c.word_here-i.result.0 c.args.serial c.mark_here-found.result c.word_here-i.result.1 None router_acts.Mark c.answer_act-answered.result.answer done.done.2 c.answer_act-answered.ensures.answer
     (c.commit_word.ensures ∙ ap (λ (z : Node). commit z (acts.Router c.args.serial router_acts.Mark) c.answer_act-answered.result.answer) c.word_here-i.ensures.node)
 
 pub returns : goal.returns
@@ -47,6 +47,6 @@ returns g c =
       named = ap (λ (z : CellState). word_side z.part.state c.args.serial) (sym c.self.view_is) ∙ (ap (λ (z : Node). word_side z c.args.serial) was.seated.state ∙ c.word_here-i.ensures.named);
       is_word = done.0;
       after = sym (spelled _ _ c.answer_act-answered.ensures.word c.answer_act-answered.ensures.valid);
-      part = ap (λ (m : Mine). part_in m.0) done.1 ∙ ap (λ (o : CellState). act_part (acts.Router c.args.serial router_acts.Mark) (word_answer (word_of_bits c.mark_here-found.result) side router_acts.Mark) o.part) c.self.view_is;
-      seen = ap (λ (m : Mine). m.0.seen) done.1 ∙ ap (λ (o : CellState). o.seen ++ (c.word_here-i.result.0, c.mark_here-found.result) ∷ []) c.self.view_is;
+      part = ap (λ (m : Mine). part_in m.0) done.2 ∙ ap (λ (o : CellState). act_part (acts.Router c.args.serial router_acts.Mark) (word_answer (word_of_bits c.mark_here-found.result) side None router_acts.Mark) o.part) c.self.view_is;
+      seen = ap (λ (m : Mine). m.0.seen) done.2 ∙ ap (λ (o : CellState). o.seen ++ (c.word_here-i.result.0, c.mark_here-found.result) ∷ []) c.self.view_is;
     }

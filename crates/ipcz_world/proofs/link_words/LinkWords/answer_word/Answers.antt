@@ -9,19 +9,19 @@ use Rattle.ipcz_world.proofs.link_words.LinkWords.answer_word.Goals as goal
 -- the word that is read is that of the table
 read : (c : goal.After-self-1) → word_of_bits c.index.result.now ≡ place_at empty_word c.args.self.now.words c.args.i
 read c =
-    let l = within c.self.inside.bits.items c.self.inside.claimed c.args.i c.args.self.now c.self.view_is c.requires in
+    let l = within c.self.inside.bits.items c.self.inside.claimed c.args.i c.args.self.now c.self.view_is c.requires.within in
     read_word c.self.inside.bits.items c.args.i c.index.result.now l c.index.ensures
     ∙ ap (λ (t : WordTable). place_at empty_word t.words c.args.i) c.self.view_is
 
 pub returns-clause-answer : goal.returns-clause-answer
 unfolding side_answer
-returns-clause-answer c = c.answer_act-answered.ensures.answer ∙ ap (λ x. word_answer x c.args.side c.args.act) (read c)
+returns-clause-answer c = c.answer_act-answered.ensures.answer ∙ ap (λ x. word_answer x c.args.side c.args.source c.args.act) (read c)
 
 pub returns-clause-table : goal.returns-clause-table
 unfolding side_after
 returns-clause-table c =
-    let l = within c.self.inside.bits.items c.self.inside.claimed c.args.i c.args.self.now c.self.view_is c.requires in
-    let after : Word = word_after (place_at empty_word c.args.self.now.words c.args.i) c.args.side c.args.act in
+    let l = within c.self.inside.bits.items c.self.inside.claimed c.args.i c.args.self.now c.self.view_is c.requires.within in
+    let after : Word = word_after (place_at empty_word c.args.self.now.words c.args.i) c.args.side c.args.source c.args.act in
     write_word c.self.inside.bits.items c.self.inside.claimed c.args.i c.answer_act-answered.result.word after l
-    (c.answer_act-answered.ensures.word ∙ ap (λ x. word_after x c.args.side c.args.act) (read c))
+    (c.answer_act-answered.ensures.word ∙ ap (λ x. word_after x c.args.side c.args.source c.args.act) (read c))
     ∙ ap (λ t. put_word t c.args.i after) c.self.view_is

@@ -8,7 +8,8 @@ use Rattle.ipcz_world.proofs.state.State.first_destination.Goals as goal
 
 pub loop-to-init : goal.loop-to-init
 loop-to-init c =
-    ap (first_number (λ i. has_mail_for (node_at c.args.self.now c.args.n) i && place_at false (seen_at c.args.self.now c.args.n).empty i) 0)
+    ap (first_number (λ i. has_mail_for (node_at c.args.self.now c.args.n) i && place_at false
+    (seen_at c.args.self.now c.args.n).empty i) 0)
     (let z : c.args.self.now.count - 0 ≡ c.args.self.now.count = omega arith in z)
 
 pub loop-to-preserved : goal.loop-to-preserved
@@ -28,11 +29,13 @@ returns-then-can_post c =
     (ap (λ b. has_mail_for (node_at c.args.self.now c.args.n) c.loop-to.to && b)
     (sees_empty c.args.self.now c.args.n c.loop-to.to low c.requires.regular.lengths.few) ∙ sym c.can_post.ensures ∙ c.if-can_post.true)
     c.loop-to.invariant
-    ∙ ap (first_number (λ i. has_mail_for (node_at c.args.self.now c.args.n) i && place_at false (seen_at c.args.self.now c.args.n).empty i) 0) (sym (c.requires.regular.sound c.args.n c.requires.node).count_is)
+    ∙ ap (first_number (λ i. has_mail_for (node_at c.args.self.now c.args.n) i && place_at false
+    (seen_at c.args.self.now c.args.n).empty i) 0) (sym (c.requires.regular.sound c.args.n c.requires.node).count_is)
 
 pub returns : goal.returns
 returns c =
     let many : c.self.inside.count ≡ c.args.self.now.count = ap (λ (w : World). w.count) c.self.view_is in
     let all : c.loop-to.to ≡ c.args.self.now.count = omega (arith, many, c.loop-to-test.false, c.loop-to.auto.to-end) in
     none_left _ c.loop-to.to c.args.self.now.count _ all c.loop-to.invariant
-    ∙ ap (first_number (λ i. has_mail_for (node_at c.args.self.now c.args.n) i && place_at false (seen_at c.args.self.now c.args.n).empty i) 0) (sym (c.requires.regular.sound c.args.n c.requires.node).count_is)
+    ∙ ap (first_number (λ i. has_mail_for (node_at c.args.self.now c.args.n) i && place_at false
+    (seen_at c.args.self.now c.args.n).empty i) 0) (sym (c.requires.regular.sound c.args.n c.requires.node).count_is)

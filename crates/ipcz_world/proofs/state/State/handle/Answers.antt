@@ -1,7 +1,13 @@
 use Rattle.std.proofs.Common.{◌<◌, length, subst, sym, ap, ◌∙◌}
 use Rattle.ipcz_world.proofs.Vocabulary.{place_at, put_place, Hand, Empty, World, node_at, mail_at, way}
 use Rattle.ipcz_world.specs.declared.mail.Mail.TheVariants.{Hand as InHand}
+use Rattle.ipcz_node.specs.Hands.{deliver, message_lacks_serials, message_grows}
+use Rattle.ipcz_node.specs.Events.{hand_event}
+use Rattle.ipcz_base.specs.declared.refusal.Refusal.TheVariants.{NumbersEnd, OutOfMemory}
+use Rattle.std.specs.Prelude.{if◌then◌else◌}
 use Rattle.ipcz_world.specs.Mailing.{put_down}
+use Rattle.ipcz_world.specs.World.{word_at}
+use Rattle.ipcz_world.specs.WordAnswers.{source_for}
 use Rattle.ipcz_world.proofs.code.Taken.{has-in-hand, sender-is-node, done-hand, refused-hand, asked, hand-seen, counted, put-within}
 use Rattle.ipcz_world.specs.contracts.state.State.{the_view}
 use Rattle.ipcz_world.proofs.state.State.handle.Goals as goal
@@ -31,7 +37,7 @@ put-requires c =
     put-within c.self.inside.mail c.take_hand.new.self c.way-place.result 0 _ c.take_hand.ensures.mail l
 
 pub returns-in-Ok : goal.returns-in-Ok
-unfolding node_at mail_at
+unfolding node_at mail_at source_for word_at
 returns-in-Ok c =
     let place = c.way-place.ensures.way ∙ ap (λ (w : World). way w c.args.from c.args.n) (sym c.self.view_is) in
     let has = sym (hand-seen (the_view c.self.inside) _ c.args.from c.args.n _ place c.take_hand.ensures.message) ∙ c.in-Some.is in
@@ -40,10 +46,14 @@ returns-in-Ok c =
     rw (← c.self.view_is)
     (done-hand _ c.args.n c.args.from c.in-Some.message c.in-Ok.event c.node_mut.result.now.node c.deliver.new.self.node
     c.take_hand.new.self
-    c.node_mut.ensures.value has c.in-Ok.ensures.ok c.in-Ok.ensures.event c.in-Ok.ensures.allowed kept)
+    c.node_mut.ensures.value has (c.in-Ok.ensures.ok ∙ ap
+    (deliver c.node_mut.result.now.node c.args.from c.in-Some.message) c.source_for-source.ensures)
+    (c.in-Ok.ensures.event ∙ ap (hand_event c.node_mut.result.now.node c.args.from c.in-Some.message) c.source_for-source.ensures)
+    (sym (ap (message_lacks_serials c.node_mut.result.now.node c.args.from c.in-Some.message) c.source_for-source.ensures)
+    ∙ c.in-Ok.ensures.allowed) kept)
 
 pub returns-in-Err : goal.returns-in-Err
-unfolding node_at mail_at
+unfolding node_at mail_at source_for word_at
 returns-in-Err c =
     let a = asked _ _ c.args.n (Hand c.args.from) c.self.view_is c.requires.regular c.requires.node c.requires.possible in
     let place = c.way-place.ensures.way ∙ ap (λ (w : World). way w c.args.from c.args.n) (sym c.self.view_is) in
@@ -59,4 +69,7 @@ returns-in-Err c =
     rw (← c.self.view_is)
     (refused-hand _ c.args.n c.args.from c.in-Some.message c.in-Err.why c.node_mut.result.now.node c.deliver.new.self.node c.put.new.self
     a.regular.lengths a.here (subst (λ k. k < length c.self.inside.mail) place l) c.node_mut.ensures.value has c.in-Err.ensures.err.1
-    c.in-Err.ensures.why c.in-Err.ensures.grows kept)
+    (c.in-Err.ensures.why ∙ ap (λ o. if message_lacks_serials c.node_mut.result.now.node c.args.from c.in-Some.message o then NumbersEnd
+    else OutOfMemory) c.source_for-source.ensures)
+    (λ g. c.in-Err.ensures.grows (ap (message_grows c.node_mut.result.now.node c.args.from c.in-Some.message) c.source_for-source.ensures ∙ g))
+    kept)

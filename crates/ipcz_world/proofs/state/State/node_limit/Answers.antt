@@ -20,7 +20,8 @@ returns c =
     let w = c.args.self.now in
     let items = c.routers-router-items.result.now in
     let x = c.node-node.result.now.node in
-    let node : x ≡ node_at w c.args.n = c.node-node.ensures ∙ ap (λ (v : World). place_at (bare_node 0 0) v.nodes c.args.n) c.self.view_is in
+    let node : x ≡ node_at w c.args.n = c.node-node.ensures ∙ ap
+    (λ (v : World). place_at (bare_node 0 0) v.nodes c.args.n) c.self.view_is in
     let f : ℕ → Router → ℕ = λ s r. router_limit w r in
     let routers : total_list (λ e. router_limit w e.1.router) items ≡ total f x.routers =
     sym (of-entries (router_limit w) (λ x. x.router) items) ∙
@@ -30,6 +31,8 @@ returns c =
     c.loop-router.invariant in
     let boxes = total_list length (map (λ q. q.messages) c.outboxes.result.now) in
     let closes = length c.pending.result.now in
-    let told = c.plus-2.ensures _ _ all (c.plus.ensures _ _ (c.times-messages.ensures _ c.waiting.ensures) (c.times-closes.ensures _ refl)) in
-    let whole : total_list (λ e. router_limit w e.1.router) items + (38 * boxes + 3 * closes) ≡ node_limit w x = omega (arith, routers, ap (total_list length) c.outboxes.ensures, ap length c.pending.ensures) in
+    let told = c.plus-2.ensures _ _ all (c.plus.ensures _ _ (c.times-messages.ensures _ c.waiting.ensures)
+    (c.times-closes.ensures _ refl)) in
+    let whole : total_list (λ e. router_limit w e.1.router) items + (38 * boxes + 3 * closes) ≡ node_limit w x = omega
+    (arith, routers, ap (total_list length) c.outboxes.ensures, ap length c.pending.ensures) in
     subst (λ y. Tells c.plus-2.result (node_limit w y)) node (subst (Tells c.plus-2.result) whole told)

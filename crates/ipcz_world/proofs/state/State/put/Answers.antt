@@ -8,5 +8,6 @@ returns c =
     let p : parcels.Parcel = record { bytes = c.in-Ok.bytes; ends = c.in-Ok-copy_ends.ends } in
     let same : p ≡ record { bytes = c.args.bytes.now; ends = c.args.ends.now } =
     λ j. record { bytes = c.in-Ok.ensures j; ends = c.in-Ok-copy_ends.ensures j } in
-    subst (λ q. PutGives c.args.self.now c.args.n (put_step c.args.self.now c.args.n c.args.at q) c.put_here.result c.put_here.new.self) same
+    subst (λ q. PutGives c.args.self.now c.args.n
+    (put_step c.args.self.now c.args.n c.args.at q) c.put_here.result c.put_here.new.self) same
     c.put_here.ensures

@@ -18,5 +18,6 @@ loop-n-preserved c =
     c.put_among.ensures ∙ ap (put_among e) (sym (entries_are (λ x. x.router) 0 _ c.routers.result.now c.routers.ensures.rising) ∙
     ap entries (c.routers.ensures.routers ∙ ap (λ (x : Node). x.routers) node)) in
     ap (λ z. higher z (put_within e (drop (n + 1) nodes))) (c.higher-count.ensures ∙ ap (higher c.loop-n.count) here) ∙
-    sym (higher-third c.loop-n.count (put_among e (entries (place_at (bare_node 0 0) nodes n).routers)) (put_within e (drop (n + 1) nodes))) ∙
+    sym (higher-third c.loop-n.count (put_among e (entries (place_at (bare_node 0 0) nodes n).routers))
+    (put_within e (drop (n + 1) nodes))) ∙
     ap (higher c.loop-n.count) (sym (put_within-next e (bare_node 0 0) nodes n low)) ∙ c.loop-n.invariant

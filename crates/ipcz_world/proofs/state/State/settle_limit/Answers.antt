@@ -24,4 +24,5 @@ returns c =
     omega (arith, c.loop-n-test.false, c.requires.lengths.nodes, ap (λ (w : World). w.count) c.self.view_is) in
     let mail = ap (λ (v : World). v.mail) c.self.view_is in
     subst (λ ms. Tells c.plus.result (total_list (node_limit w) w.nodes + 37 * total_list (λ m. cond (is_clear m) 0 1) ms)) mail
-    (c.plus.ensures _ _ (tallied-list (node_limit w) w.nodes c.loop-n.n c.loop-n.sum _ high c.loop-n.invariant) (c.times.ensures _ c.full_count.ensures))
+    (c.plus.ensures _ _ (tallied-list (node_limit w) w.nodes c.loop-n.n c.loop-n.sum _ high c.loop-n.invariant)
+    (c.times.ensures _ c.full_count.ensures))

@@ -21,4 +21,5 @@ settle_limit-requires c = lawful-regular _ c.self.invariant
 
 pub returns-clause-enough : goal.returns-clause-enough
 returns-clause-enough c =
-    enough c.args.self.now c.settle_limit.result (subst (λ w. Tells c.settle_limit.result (settle_limit w)) c.self.view_is c.settle_limit.ensures)
+    enough c.args.self.now c.settle_limit.result
+    (subst (λ w. Tells c.settle_limit.result (settle_limit w)) c.self.view_is c.settle_limit.ensures)

@@ -1,0 +1,126 @@
+//! Two threads that each own the cell of a node: no lock stands between them.
+ghost use Rattle.std.specs.Prelude.{◌≡◌};
+
+use ipcz_base::{End, Sequence, Side};
+use ipcz_fabric::{Blank, Fabric, FabricName, NodeCell, start};
+use std::alloc::Global;
+use std::marker::Brand;
+use std::sync::atomic::{AtomicU64, Ordering};
+use std::test::Fail;
+use std::thread::{Threads, join, yield_now};
+
+const TRIES: u64 = 10_000_000;
+
+const PARCELS: u64 = 1000;
+
+const LEFT: End = End {
+    pair: 0,
+    side: Side::A,
+};
+
+const RIGHT: End = End {
+    pair: 0,
+    side: Side::B,
+};
+
+// Puts a number, as text.
+fn puts<F: FabricName>(fabric: &Fabric<F>, cell: &mut NodeCell<F>, alloc: Global, n: u64) -> bool {
+    let Ok(text) = format!(in alloc; "{n}") else {
+        return false;
+    };
+    let Ok(bytes) = Vec::from_slice(alloc, text.as_bytes()) else {
+        return false;
+    };
+    let none = Sequence::from_vec(Vec::new(alloc));
+    cell.put(fabric, LEFT, Sequence::from_vec(bytes), none)
+        .is_ok()
+}
+
+// Puts the numbers in order, and takes turns until the other side has got them.
+fn puts_all<F: FabricName>(
+    fabric: &Fabric<F>,
+    cell: &mut NodeCell<F>,
+    alloc: Global,
+    done: &AtomicU64,
+) -> bool {
+    let mut n = 0u64;
+    for _try in 0..TRIES {
+        if n < PARCELS && puts(fabric, cell, alloc, n) {
+            n = n.saturating_add(1);
+        }
+        let _turned = cell.turn(fabric);
+        if done.load(Ordering::SeqCst) == 1 {
+            return true;
+        }
+        yield_now();
+    }
+    false
+}
+
+// Whether a get gives a number, as text; none where nothing has come.
+fn gets<F: FabricName>(
+    fabric: &Fabric<F>,
+    cell: &mut NodeCell<F>,
+    alloc: Global,
+    n: u64,
+) -> Option<bool> {
+    let Ok((number, parcel)) = cell.get(fabric, RIGHT) else {
+        return None;
+    };
+    let Ok(text) = format!(in alloc; "{n}") else {
+        return Some(false);
+    };
+    Some(number == n && parcel.bytes.as_slice() == text.as_bytes())
+}
+
+// Takes turns and gets the numbers in order.
+fn gets_all<F: FabricName>(
+    fabric: &Fabric<F>,
+    cell: &mut NodeCell<F>,
+    alloc: Global,
+    done: &AtomicU64,
+) -> bool {
+    let mut n = 0u64;
+    for _try in 0..TRIES {
+        let _turned = cell.turn(fabric);
+        match gets(fabric, cell, alloc, n) {
+            Some(true) => n = n.saturating_add(1),
+            Some(false) => return false,
+            None => yield_now(),
+        }
+        if n == PARCELS {
+            done.store(1, Ordering::SeqCst);
+            return true;
+        }
+    }
+    false
+}
+
+// Whether what one thread puts comes to the other, each with a cell of its own.
+fn talk<F: FabricName + Send + Sync, R: Threads>(
+    rt: &R,
+    alloc: Global,
+    blank: Blank,
+) -> Option<bool>
+    requires { blank ≡ F.table }
+{
+    let Ok((fabric, mut cells)) = blank.name::<F>() else {
+        return None;
+    };
+    let mut right = cells.pop()?;
+    let mut left = cells.pop()?;
+    let done = AtomicU64::new(0);
+    let (put, got) = join(
+        rt,
+        || puts_all(&fabric, &mut left, alloc, &done),
+        || gets_all(&fabric, &mut right, alloc, &done),
+    );
+    Some(put && got)
+}
+
+#[test]
+fn two_threads_own_a_cell_each(rt: HostRuntime) -> Result<(), Fail> {
+    let blank = start(rt.alloc(), 2, 4)?;
+    assert!(rt; talk::<Brand, _>(&rt, rt.alloc(), blank) == Some(true));
+    Ok(())
+}

@@ -1,4 +1,0 @@
-use Rattle.ipcz_script.proofs.session.Session.+name_first_pairs.Given as goal
-
-abbrev pub decreases-name_first_pairs : goal.decreases-name_first_pairs
-decreases-name_first_pairs l = l.left

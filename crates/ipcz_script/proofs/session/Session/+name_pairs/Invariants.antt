@@ -1,4 +1,0 @@
-use Rattle.ipcz_script.proofs.session.Session.+name_pairs.Given as goal
-
-abbrev pub decreases-name_pairs : goal.decreases-name_pairs
-decreases-name_pairs l = l.left

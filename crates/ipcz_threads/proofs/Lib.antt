@@ -1,0 +1,4 @@
+mod Asking
+mod Settling
+mod Turning
+mod Writing

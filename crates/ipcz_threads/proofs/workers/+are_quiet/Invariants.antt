@@ -1,0 +1,4 @@
+use Rattle.ipcz_threads.proofs.workers.+are_quiet.Given as goal
+
+abbrev pub decreases-are_quiet : goal.decreases-are_quiet
+decreases-are_quiet g l = l.left

@@ -1,0 +1,4 @@
+pub mod Rounds
+pub mod Stages
+pub mod Transcripts
+pub mod Workers

@@ -1,0 +1,220 @@
+ghost use Rattle.std.specs.Prelude.{◌≡◌, ◌≤◌, ◌↔◌, ◌++◌, false, length, IsTrue, IsErrOf, IfOk, OnOk, vec_len};
+ghost use Rattle.ipcz_fabric.specs.Making.{AreFirst};
+ghost use Rattle.ipcz_world.specs.Lawful.{IsWithinLimits};
+ghost use Rattle.ipcz_script.specs.Lines.{lines_of, refused_line};
+ghost use Rattle.ipcz_script.specs.Transcript.{is_unsettled};
+ghost use Rattle.ipcz_threads.specs.Transcripts.{IsFirst, IsOutput, IsRunOutput, IsTranscript, ReadsAndWrites, Writes};
+
+use crate::lending::lend;
+use crate::session::Session;
+use ipcz_base::Device;
+use ipcz_fabric::{Blank, Fabric, FabricName, Gate, NodeCell, start};
+use ipcz_script::{
+    Command, Labels, Outcome, RunFault, Said, Script, ScriptFault, push_lines, push_refused,
+    read_script, read_up_to, write_whole,
+};
+use std::alloc::{AllocError, Global};
+use std::collections::VecDeque;
+use std::io::{Read, Write};
+use std::marker::Brand;
+use std::thread::Threads;
+
+const MOST_READ: usize = 1_048_577;
+
+#[tactic(auto, unfolding(ipcz_script::specs::Transcript::is_unsettled))]
+fn is_unsettled(said: &Said) -> bool
+    ensures { result ≡ is_unsettled said.now }
+{
+    matches!(said, Said::Unsettled)
+}
+
+// Adds the lines of a command and its answer.
+fn push_answer<'a, F: FabricName, G>(
+    session: &Session<'a, F, G>,
+    command: &Command,
+    said: &Said,
+    text: &mut Vec<u8>,
+) -> Result<(), AllocError>
+    ensures { OnOk result (text.new.items ≡ text.old.items ++ lines_of session.now.labels.titles command.now said.now) }
+{
+    let Ok(()) = push_lines(text, session.titles(), command, said) else {
+        return Err(AllocError);
+    };
+    Ok(())
+}
+
+// Runs the commands in order and gives their lines; and whether some settle came to its limit.
+fn run_commands<'a, R: Threads + Sync, F: FabricName + Send + Sync, G: Gate + Send>(
+    rt: &R,
+    alloc: Global,
+    session: &mut Session<'a, F, G>,
+    commands: &[Command],
+) -> Result<(bool, Vec<u8>), AllocError>
+    ensures { IfOk result (λ written. Writes F.table session.old commands.now written.1.items written.0 session.new) }
+{
+    let mut text = Vec::new(alloc);
+    let mut unsettled = false;
+    for command in commands {
+        let said = session.run(rt, command)?;
+        push_answer(session, command, &said, &mut text)?;
+        let stopped = is_unsettled(&said);
+        unsettled |= stopped;
+    }
+    Ok((unsettled, text))
+}
+
+// A session over the cells of a table at its start.
+fn begin<'a, F: FabricName, G>(
+    alloc: Global,
+    nodes: u8,
+    fabric: &'a Fabric<F>,
+    cells: Vec<NodeCell<F>>,
+    gates: &'a mut [G],
+) -> Result<Session<'a, F, G>, AllocError>
+    requires nodes { (nodes ≡ F.table.count) × (nodes ≤ 8) }
+    requires cells { AreFirst F.table.count F.table.count cells.items }
+    requires many { vec_len cells ≤ 8 }
+    requires gates { length gates.old ≡ 8 }
+    ensures { IfOk result (λ session. IsFirst F.table session) }
+{
+    let room = Vec::with_capacity(alloc, cells.len())?;
+    let labels = Labels::first(alloc, nodes)?;
+    Ok(Session {
+        workers: lend(fabric, VecDeque::from_vec(cells), gates, room),
+        labels,
+        alloc,
+    })
+}
+
+// A transcript of a script, over a table that was made for it; and whether some settle came to its limit.
+fn transcript<R: Threads + Sync, F: FabricName + Send + Sync, G: Gate + Send>(
+    rt: &R,
+    alloc: Global,
+    script: &Script,
+    blank: Blank,
+    gates: &mut [G],
+) -> Result<(bool, Vec<u8>), AllocError>
+    requires within { IsWithinLimits script.now.nodes script.now.words }
+    requires table { blank ≡ F.table }
+    requires size { (F.table.count ≡ script.now.nodes) × (F.table.size ≡ script.now.words) }
+    requires gates { length gates.old ≡ 8 }
+    ensures { IfOk result (λ written. IsTranscript script.now written.1.items written.0) }
+{
+    let Ok((fabric, cells)) = blank.name::<F>() else {
+        return Err(AllocError);
+    };
+    let mut session = begin(alloc, script.nodes, &fabric, cells, gates)?;
+    run_commands(rt, alloc, &mut session, script.commands.as_slice())
+}
+
+fn run_output<R: Threads + Sync, G: Gate + Send>(
+    rt: &R,
+    alloc: Global,
+    script: &Script,
+    gates: &mut [G],
+) -> Result<(Outcome, Vec<u8>), AllocError>
+    requires within { IsWithinLimits script.now.nodes script.now.words }
+    requires gates { length gates.old ≡ 8 }
+    ensures { IfOk result (λ written. IsRunOutput script.now written.0 written.1.items) }
+{
+    let Ok(blank) = start(alloc, script.nodes, script.words) else {
+        return Err(AllocError);
+    };
+    let (unsettled, text) = transcript::<_, Brand, _>(rt, alloc, script, blank, gates)?;
+    if unsettled {
+        return Ok((Outcome::Unsettled, text));
+    }
+    Ok((Outcome::Done, text))
+}
+
+// What is written for these bytes, and how their run ends.
+fn output<R: Threads + Sync, G: Gate + Send>(
+    rt: &R,
+    alloc: Global,
+    input: &[u8],
+    gates: &mut [G],
+) -> Result<(Outcome, Vec<u8>), AllocError>
+    requires gates { length gates.old ≡ 8 }
+    ensures { IfOk result (λ written. IsOutput input.now written.0 written.1.items) }
+{
+    match read_script(alloc, input) {
+        Ok(script) => run_output(rt, alloc, &script, gates),
+        Err(ScriptFault::OutOfMemory) => Err(AllocError),
+        Err(why) => refused_output(alloc, why),
+    }
+}
+
+fn refused_output(alloc: Global, why: ScriptFault) -> Result<(Outcome, Vec<u8>), AllocError>
+    ensures { IfOk result (λ written. (written.0 ≡ Outcome.Refused why) × (written.1.items ≡ refused_line why)) }
+{
+    let mut text = Vec::new(alloc);
+    let Ok(()) = push_refused(&mut text, why) else {
+        return Err(AllocError);
+    };
+    Ok((Outcome::Refused(why), text))
+}
+
+/// Reads a script to its end, runs it with a thread for each node in its settles, and writes its transcript, whole and in one go after the
+/// last command (docs/THREADS.md, "Scripts on threads").
+///
+/// It differs from `run_script` in settle alone. A settle asks whether each node has nothing to do, before the first round and after each.
+/// In a round every node's cell is lent to a worker in a thread of its own, which takes turns: before each it asks the node's gate, and its
+/// round ends where that answers false, at an idle turn, after `limit` turns, and at a turn that is refused `NumbersEnd` or `OutOfMemory`;
+/// one that is refused `Raced` counts, and it goes on. Then all are joined. The settle has settled where no node has anything to do, and
+/// is unsettled after `limit` rounds. Where a turn found no memory the run ends.
+///
+/// Node n has the gate of place n; there are eight. What is read and written, and the answers, are as those of `run_script`.
+pub fn run_gated<R: Threads + Sync, I: Read, W: Write, G: Gate + Send>(
+    rt: &R,
+    alloc: Global,
+    reader: &mut Device<I>,
+    writer: &mut Device<W>,
+    gates: &mut [G],
+) -> Result<Outcome, RunFault>
+    requires reader_works { reader.old.failed ≡ false }
+    requires writer_works { writer.old.failed ≡ false }
+    requires gates { length gates.old ≡ 8 }
+    ensures run { ReadsAndWrites (I.remaining reader.old.inner) (I.remaining reader.new.inner)
+        (W.contents writer.old.inner) (W.contents writer.new.inner) result }
+    ensures read { IsErrOf result RunFault.Read ↔ IsTrue reader.new.failed }
+    ensures write { IsErrOf result RunFault.Write ↔ IsTrue writer.new.failed }
+{
+    let input = read_up_to(alloc, reader, MOST_READ)?;
+    let Ok((outcome, text)) = output(rt, alloc, &input, gates) else {
+        return Err(RunFault::OutOfMemory);
+    };
+    let Ok(()) = write_whole(writer, &text) else {
+        return Err(RunFault::Write);
+    };
+    Ok(outcome)
+}
+
+// A gate that is always open.
+#[derive(Drop)]
+struct OpenGate;
+
+impl Gate for OpenGate {
+    fn pass(&mut self, _node: u8, _turns: u64) -> bool {
+        true
+    }
+}
+
+/// `run_gated` with gates that are open: in each round of a settle every node takes turns in a thread of its own until it is idle.
+pub fn run_threads<R: Threads + Sync, I: Read, W: Write>(
+    rt: &R,
+    alloc: Global,
+    reader: &mut Device<I>,
+    writer: &mut Device<W>,
+) -> Result<Outcome, RunFault>
+    requires reader_works { reader.old.failed ≡ false }
+    requires writer_works { writer.old.failed ≡ false }
+    ensures run { ReadsAndWrites (I.remaining reader.old.inner) (I.remaining reader.new.inner)
+        (W.contents writer.old.inner) (W.contents writer.new.inner) result }
+    ensures read { IsErrOf result RunFault.Read ↔ IsTrue reader.new.failed }
+    ensures write { IsErrOf result RunFault.Write ↔ IsTrue writer.new.failed }
+{
+    let mut gates = [
+        OpenGate, OpenGate, OpenGate, OpenGate, OpenGate, OpenGate, OpenGate, OpenGate,
+    ];
+    run_gated(rt, alloc, reader, writer, &mut gates)
+}

@@ -1,0 +1,149 @@
+//! A node's cell with its gate, as a thread has both for a round.
+ghost use Rattle.std.specs.Prelude.{◌≡◌};
+ghost use Rattle.ipcz_fabric.specs.Opens.{FindsQuiet, OpensPair};
+ghost use Rattle.ipcz_node.specs.Node.{holds_end};
+ghost use Rattle.ipcz_threads.specs.Rounds.{finds_no_memory};
+ghost use Rattle.ipcz_threads.specs.Workers.{CallsWorker, Puts, opened, put};
+
+use crate::call::Call;
+use ipcz_base::{Bytes, End, Ends, Refusal};
+use ipcz_fabric::{Fabric, FabricName, Gate, NodeCell, Worker};
+use ipcz_node::Happened;
+use ipcz_world::Reply;
+use std::marker::Model;
+
+/// A node's cell with what a worker needs that takes its turns: the table, and the gate that it asks before each.
+#[derive(Drop)]
+pub(crate) struct NodeWorker<'a, F: FabricName, G> {
+    pub(crate) fabric: &'a Fabric<F>,
+    pub(crate) cell: NodeCell<F>,
+    pub(crate) gate: &'a mut G,
+    /// Whether some turn in a round found no memory.
+    pub(crate) starved: bool,
+}
+
+impl<'a, F: FabricName, G> Model for NodeWorker<'a, F, G> {
+    ghost use Rattle.std.specs.FinMap.{code};
+    ghost use Rattle.std.specs.FinSet as sets;
+    ghost use Rattle.std.specs.Coded.{codes};
+    ghost use Rattle.ipcz_threads.specs.Workers.{WorkerState};
+
+    ghost Value = { WorkerState };
+
+    ghost coded = { Prim.hlevel (codes, code, sets.code) };
+
+    ghost view = { λ w. record { cell = w.cell; starved = w.starved } };
+}
+
+// What is replied where an open answers this.
+fn opened(answer: Result<(End, End), Refusal>) -> Reply
+    ensures { result ≡ opened answer }
+{
+    match answer {
+        Ok((a, b)) => Reply::Opened(a, b),
+        Err(why) => Reply::Refused(why),
+    }
+}
+
+// What is replied where a put answers this.
+fn put(answer: Result<u64, Refusal>) -> Reply
+    ensures { result ≡ put answer }
+{
+    match answer {
+        Ok(number) => Reply::Put(number),
+        Err(why) => Reply::Refused(why),
+    }
+}
+
+impl<'a, F: FabricName, G> NodeWorker<'a, F, G> {
+    /// Whether callers of the node hold the end.
+    pub(crate) fn holds(&self, end: End) -> bool
+        ensures { result ≡ holds_end self.now.cell.part.state end }
+    {
+        self.cell.holds(end)
+    }
+
+    /// Whether the node has nothing to do, as its cell finds it.
+    pub(crate) fn quiet(&mut self) -> bool
+        ensures quiet { FindsQuiet F.table self.old.cell result self.new.cell }
+        ensures starved { self.new.starved ≡ self.old.starved }
+    {
+        self.cell.quiet(self.fabric)
+    }
+
+    // Opens a pair.
+    fn open(&mut self) -> Result<(End, End), Refusal>
+        ensures opens { OpensPair F.table.size self.old.cell self.new.cell result }
+        ensures starved { self.new.starved ≡ self.old.starved }
+    {
+        self.cell.open_pair(self.fabric)
+    }
+
+    // Puts a parcel at an end.
+    fn put(&mut self, at: End, bytes: Bytes, ends: Ends) -> Result<u64, Refusal>
+        ensures puts { Puts at bytes ends self.old.cell result self.new.cell }
+        ensures starved { self.new.starved ≡ self.old.starved }
+    {
+        match self.cell.put(self.fabric, at, bytes, ends) {
+            Ok(number) => Ok(number),
+            Err(refused) => Err(refused.why),
+        }
+    }
+
+    /// Makes a call on the cell.
+    pub(crate) fn call(&mut self, call: Call) -> Reply
+        ensures { CallsWorker F.table self.old call result self.new }
+    {
+        match call {
+            Call::Open => opened(self.open()),
+            Call::Put { at, bytes, ends } => put(self.put(at, bytes, ends)),
+            Call::Get { at } => match self.cell.get(self.fabric, at) {
+                Ok((number, parcel)) => Reply::Got(number, parcel),
+                Err(why) => Reply::Refused(why),
+            },
+            Call::Close { at } => match self.cell.close(self.fabric, at) {
+                Ok(number) => Reply::Closed(number),
+                Err(why) => Reply::Refused(why),
+            },
+            Call::Turn => match self.cell.turn(self.fabric) {
+                Ok(event) => Reply::Turned(event),
+                Err(why) => Reply::Refused(why),
+            },
+        }
+    }
+}
+
+// Whether a turn found no memory.
+fn finds_no_memory(answer: &Result<Happened, Refusal>) -> bool
+    ensures { result ≡ finds_no_memory answer.now }
+{
+    matches!(answer, Err(Refusal::OutOfMemory))
+}
+
+impl<'a, F: FabricName, G: Gate> Worker for NodeWorker<'a, F, G> {
+    ghost use Rattle.ipcz_threads.specs.Rounds.{Asks, Takes, ends_round};
+
+    ghost asks = { Asks };
+
+    ghost takes = { Takes F.table };
+
+    ghost ends = { ends_round };
+
+    fn may_turn(&mut self, turns: u64) -> bool {
+        let node = self.cell.node();
+        self.gate.pass(node, turns)
+    }
+
+    fn turn(&mut self) -> Result<Happened, Refusal> {
+        let answer = self.cell.turn(self.fabric);
+        self.starved |= finds_no_memory(&answer);
+        answer
+    }
+
+    fn is_last(&self, answer: &Result<Happened, Refusal>) -> bool {
+        matches!(
+            answer,
+            Ok(Happened::Idle) | Err(Refusal::OutOfMemory | Refusal::NumbersEnd)
+        )
+    }
+}
