@@ -1,7 +1,10 @@
 //! `ipcz_bench` prints what the library takes: one number for the measure that its argument names.
 #![tactic(auto)]
 
+mod cells;
+mod clock;
 mod fault;
+mod hubs;
 mod measures;
 mod trial;
 
@@ -9,9 +12,13 @@ use fault::Fault;
 use measures::measure;
 use std::env;
 use std::process::ExitCode;
+use std::sync::Wait;
+use std::thread::Threads;
 
 const USAGE: &str = "usage: ipcz_bench MEASURE [ROUNDS]
 nanoseconds a parcel: one_node two_nodes long_parcels last_pair each_pair waiting_1 waiting_10 waiting_100 waiting_1000
+nanoseconds a parcel between two nodes, by cells, a hub, and cells on two threads: cells hub cells_on_threads
+nanoseconds to and fro between two threads: round_trips
 nanoseconds an act: act
 nanoseconds a move, with ten parcels after it: moves
 bytes a pair: fresh_pairs used_pairs";
@@ -20,7 +27,7 @@ bytes a pair: fresh_pairs used_pairs";
 const ROUNDS: u64 = 100_000;
 
 // Reads the arguments and takes the measure.
-fn number(rt: &HostRuntime) -> Result<u64, Fault> {
+fn number<T: Threads + Wait>(rt: &HostRuntime, threads: &T) -> Result<u64, Fault> {
     let mut arguments = env::args(rt)?;
     let (Some(_), Some(name)) = (arguments.next(), arguments.next()) else {
         return Err(Fault::Usage);
@@ -29,11 +36,11 @@ fn number(rt: &HostRuntime) -> Result<u64, Fault> {
         Some(text) => text.as_str().parse::<u64>().map_err(|_| Fault::Usage)?,
         None => ROUNDS,
     };
-    measure(rt, name.as_str(), rounds)
+    measure(rt, threads, name.as_str(), rounds)
 }
 
 fn main(rt: HostRuntime) -> ExitCode {
-    match number(&rt) {
+    match number(&rt, &rt) {
         Ok(number) => match println!(rt; "{number}") {
             Ok(()) => ExitCode::from(0),
             Err(_) => ExitCode::from(1),

@@ -9,3 +9,5 @@ mod ends;
 mod hubs;
 #[cfg(test)]
 mod owned;
+#[cfg(test)]
+mod race;

@@ -6,8 +6,6 @@
 mod acts;
 mod parts;
 mod reading;
-#[cfg(test)]
-mod tests;
 mod words;
 
 pub use parts::{Answer, End, Fault, Kind, Link, Refusal, Side, Way, WordStep};

@@ -196,24 +196,3 @@ pub fn push_refused(out: &mut Vec<u8>, why: ScriptFault) -> io::Result<()>
         ScriptFault::OutOfMemory => Ok(()),
     }
 }
-
-#[cfg(test)]
-mod tests {
-    use super::*;
-    use ipcz_base::Refusal;
-    use std::test::Fail;
-
-    // A turn is refused where serials end, or where another thread changed the word: no script of one thread comes that far.
-    #[test]
-    fn prints_a_refused_turn(rt: HostRuntime) -> Result<(), Fail> {
-        for (node, why, line) in [
-            (0, Refusal::NumbersEnd, b"n0: NumbersEnd\n".as_slice()),
-            (7, Refusal::Raced, b"n7: Raced\n".as_slice()),
-        ] {
-            let mut out = Vec::new(rt.alloc());
-            push_turn_line(&mut out, node, &Reply::Refused(why))?;
-            assert_eq!(rt; out.as_slice(), line);
-        }
-        Ok(())
-    }
-}

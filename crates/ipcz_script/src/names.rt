@@ -56,28 +56,3 @@ impl Names {
         self.ends.get(name).copied()
     }
 }
-
-#[cfg(test)]
-mod tests {
-    use super::*;
-    use ipcz_base::Side;
-    use std::test::Fail;
-
-    #[test]
-    fn finds_whole_names(rt: HostRuntime) -> Result<(), Fail> {
-        let first = End {
-            pair: 0,
-            side: Side::A,
-        };
-        let second = first.opposite();
-        let mut names = Names::new(rt.alloc());
-        names.bind("abcdefgh1", first)?;
-        names.bind("abcdefgh2", second)?;
-        assert_eq!(rt; names.end_of("abcdefgh1"), Some(first));
-        assert_eq!(rt; names.end_of("abcdefgh2"), Some(second));
-        assert_eq!(rt; names.end_of("abcdefgh"), None);
-        names.bind("abcdefgh1", second)?;
-        assert_eq!(rt; names.end_of("abcdefgh1"), Some(second));
-        Ok(())
-    }
-}

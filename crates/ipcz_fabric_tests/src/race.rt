@@ -1,0 +1,217 @@
+//! Two threads that try for the lock of one link at once, each with the cell of a node.
+ghost use Rattle.std.specs.Prelude.{◌≡◌};
+
+use ipcz_base::{End, LinkId, Refusal, Sequence, Side};
+use ipcz_fabric::{Blank, Fabric, FabricName, NodeCell, start};
+use ipcz_node::Happened;
+use std::alloc::Global;
+use std::marker::Brand;
+use std::sync::atomic::{AtomicU64, Ordering};
+use std::test::Fail;
+use std::thread::{Threads, join, yield_now};
+
+const TRIES: u64 = 10_000_000;
+
+const TURNS: u64 = 100;
+
+// Of four nodes: the first pairs of nodes 0 and 1, of nodes 0 and 2, and of nodes 1 and 3.
+const BETWEEN: u32 = 0;
+
+const TO_NODE_2: u32 = 1;
+
+const TO_NODE_3: u32 = 4;
+
+// Both sides stable, side A holds the lock, and node 2 may answer for its bypass.
+const LOCKED_BY_A: u64 = 787;
+
+// Both sides stable, side B holds the lock, and node 3 may answer for its bypass.
+const LOCKED_BY_B: u64 = 1059;
+
+fn a(pair: u32) -> End {
+    End {
+        pair,
+        side: Side::A,
+    }
+}
+
+// Takes turns until the node claims a word, and so whether it does.
+fn claims<F: FabricName>(fabric: &Fabric<F>, cell: &mut NodeCell<F>) -> bool {
+    for _turn in 0..TURNS {
+        if let Ok(Happened::Claim(..)) = cell.turn(fabric) {
+            return true;
+        }
+    }
+    false
+}
+
+// Puts a byte with these ends.
+fn puts<F: FabricName>(
+    fabric: &Fabric<F>,
+    cell: &mut NodeCell<F>,
+    alloc: Global,
+    at: End,
+    attached: &[End],
+) -> bool {
+    let Ok(bytes) = Vec::from_slice(alloc, b"m") else {
+        return false;
+    };
+    let Ok(ends) = Vec::from_slice(alloc, attached) else {
+        return false;
+    };
+    cell.put(
+        fabric,
+        at,
+        Sequence::from_vec(bytes),
+        Sequence::from_vec(ends),
+    )
+    .is_ok()
+}
+
+// Whether a get gives a byte with these ends.
+fn gets<F: FabricName>(
+    fabric: &Fabric<F>,
+    cell: &mut NodeCell<F>,
+    at: End,
+    attached: &[End],
+) -> bool {
+    let Ok((number, parcel)) = cell.get(fabric, at) else {
+        return false;
+    };
+    number == 0 && parcel.bytes.as_slice() == b"m".as_slice() && parcel.ends.as_slice() == attached
+}
+
+// Waits until both threads are here, and takes a turn that no other thread's step undoes.
+fn tries<F: FabricName>(
+    fabric: &Fabric<F>,
+    cell: &mut NodeCell<F>,
+    here: &AtomicU64,
+) -> Option<Happened> {
+    let _before = here.fetch_add(1, Ordering::SeqCst);
+    for _try in 0..TRIES {
+        if here.load(Ordering::SeqCst) < 2 {
+            yield_now();
+            continue;
+        }
+        match cell.turn(fabric) {
+            Ok(event) => return Some(event),
+            Err(Refusal::Raced) => {}
+            Err(_) => return None,
+        }
+    }
+    None
+}
+
+fn has_locked(event: &Happened, word: u64) -> bool {
+    matches!(event, Happened::Lock(_, LinkId::Central(BETWEEN), after) if *after == word)
+}
+
+fn is_refused(event: &Happened, word: u64) -> bool {
+    matches!(event, Happened::Refused(_, LinkId::Central(BETWEEN), found) if *found == word)
+}
+
+// Whether one side has got the lock, and the other has found just its word.
+fn one_has_locked(of_a: &Happened, of_b: &Happened) -> bool {
+    (has_locked(of_a, LOCKED_BY_A) && is_refused(of_b, LOCKED_BY_A))
+        || (has_locked(of_b, LOCKED_BY_B) && is_refused(of_a, LOCKED_BY_B))
+}
+
+// Takes turns until the node has nothing to do.
+fn acts<F: FabricName>(fabric: &Fabric<F>, cell: &mut NodeCell<F>) {
+    for _turn in 0..TURNS {
+        if let Ok(Happened::Idle) = cell.turn(fabric) {
+            return;
+        }
+    }
+}
+
+// The cells of four nodes.
+#[derive(Drop)]
+struct Cells<F: FabricName> {
+    n0: NodeCell<F>,
+    n1: NodeCell<F>,
+    n2: NodeCell<F>,
+    n3: NodeCell<F>,
+}
+
+fn all_act<F: FabricName>(fabric: &Fabric<F>, cells: &mut Cells<F>) {
+    for _round in 0..20 {
+        acts(fabric, &mut cells.n0);
+        acts(fabric, &mut cells.n1);
+        acts(fabric, &mut cells.n2);
+        acts(fabric, &mut cells.n3);
+    }
+}
+
+// Both ends of the pair between nodes 0 and 1 move on, so that each of these has a proxy on its link, and has claimed a word.
+fn both_move<F: FabricName>(fabric: &Fabric<F>, cells: &mut Cells<F>, alloc: Global) -> bool {
+    puts(fabric, &mut cells.n0, alloc, a(TO_NODE_2), &[a(BETWEEN)])
+        && puts(
+            fabric,
+            &mut cells.n1,
+            alloc,
+            a(TO_NODE_3),
+            &[a(BETWEEN).opposite()],
+        )
+        && claims(fabric, &mut cells.n0)
+        && claims(fabric, &mut cells.n1)
+}
+
+// Whether the moved ends arrive, and what is put at one of them comes to the other.
+fn arrives<F: FabricName>(fabric: &Fabric<F>, cells: &mut Cells<F>, alloc: Global) -> bool {
+    all_act(fabric, cells);
+    let come = gets(
+        fabric,
+        &mut cells.n2,
+        a(TO_NODE_2).opposite(),
+        &[a(BETWEEN)],
+    ) && gets(
+        fabric,
+        &mut cells.n3,
+        a(TO_NODE_3).opposite(),
+        &[a(BETWEEN).opposite()],
+    ) && puts(fabric, &mut cells.n2, alloc, a(BETWEEN), &[]);
+    all_act(fabric, cells);
+    come && gets(fabric, &mut cells.n3, a(BETWEEN).opposite(), &[])
+}
+
+// Whether of two proxies on one link, whose threads try at once, one has the lock, and both are bypassed.
+fn race<F: FabricName + Send + Sync, R: Threads>(
+    rt: &R,
+    alloc: Global,
+    blank: Blank,
+) -> Option<bool>
+    requires { blank ≡ F.table }
+{
+    let Ok((fabric, mut cells)) = blank.name::<F>() else {
+        return None;
+    };
+    let n3 = cells.pop()?;
+    let n2 = cells.pop()?;
+    let n1 = cells.pop()?;
+    let n0 = cells.pop()?;
+    let mut cells = Cells { n0, n1, n2, n3 };
+    if !both_move(&fabric, &mut cells, alloc) {
+        return None;
+    }
+    let here = AtomicU64::new(0);
+    let (n0, n1) = (&mut cells.n0, &mut cells.n1);
+    let (of_a, of_b) = join(
+        rt,
+        || tries(&fabric, n0, &here),
+        || tries(&fabric, n1, &here),
+    );
+    let won = one_has_locked(&of_a?, &of_b?);
+    Some(won && arrives(&fabric, &mut cells, alloc))
+}
+
+fn race_once<R: Threads>(rt: &R, alloc: Global) -> Option<bool> {
+    let blank = start(alloc, 4, 8).ok()?;
+    race::<Brand, R>(rt, alloc, blank)
+}
+
+#[test]
+fn one_of_two_proxies_on_a_link_has_its_lock(rt: HostRuntime) {
+    for _race in 0..200 {
+        assert!(rt; race_once(&rt, rt.alloc()) == Some(true));
+    }
+}

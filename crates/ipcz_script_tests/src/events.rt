@@ -1,0 +1,71 @@
+//! Events of turns that no script shows, and how they print.
+
+use ipcz_base::{End, LinkId, Sequence, Side};
+use ipcz_node::{Handed, Happened};
+use ipcz_script::push_event;
+use std::test::Fail;
+
+const OLD: LinkId = LinkId::Central(3);
+
+const INNER: LinkId = LinkId::Peripheral { node: 1, serial: 2 };
+
+fn unfit(kind: Handed, link: LinkId) -> Happened {
+    Happened::Hand {
+        kind,
+        link,
+        unfit: true,
+    }
+}
+
+// Trusted nodes make no strays, and an unlock wants a begin that finds no memory: a script can show the dropped Flush alone.
+#[test]
+fn prints_what_no_script_shows(rt: HostRuntime) -> Result<(), Fail> {
+    let rows = [
+        (unfit(Handed::Item(7), INNER), "hand item 7 P1.2 stray"),
+        (
+            unfit(Handed::BypassPeer, INNER),
+            "hand BypassPeer P1.2 stray",
+        ),
+        (
+            unfit(Handed::AcceptBypass, OLD),
+            "hand AcceptBypass C3 stray",
+        ),
+        (
+            unfit(Handed::StopProxying, OLD),
+            "hand StopProxying C3 stray",
+        ),
+        (
+            unfit(Handed::ProxyWillStop, INNER),
+            "hand ProxyWillStop P1.2 stray",
+        ),
+        (unfit(Handed::Flush, OLD), "hand Flush C3 dropped"),
+        (Happened::Unlock(4, OLD, 3), "r4 unlock C3 3"),
+    ];
+    for (event, text) in &rows {
+        let mut out = Vec::new(rt.alloc());
+        push_event(&mut out, event)?;
+        assert_eq!(rt; out.as_slice(), text.as_bytes());
+    }
+    Ok(())
+}
+
+#[test]
+fn prints_the_ends_that_moved(rt: HostRuntime) -> Result<(), Fail> {
+    let end = End {
+        pair: 4095,
+        side: Side::A,
+    };
+    let sent = Happened::SendIn {
+        serial: 1,
+        n: 18446744073709551614,
+        link: INNER,
+        moved: Sequence::from_vec(vec![in rt.alloc(); end, end.opposite()]?),
+    };
+    let mut out = Vec::new(rt.alloc());
+    push_event(&mut out, &sent)?;
+    assert_eq!(rt;
+        out.as_slice(),
+        b"r1 send in 18446744073709551614 P1.2 moves 4095A,4095B".as_slice()
+    );
+    Ok(())
+}
