@@ -1,11 +1,13 @@
 //! A proxy, the routers beside it, and its bypass step by step.
-ghost use Rattle.std.specs.Prelude.{◌≤◌};
+ghost use Rattle.std.specs.Prelude.{◌≡◌, ◌≤◌};
 ghost use Rattle.ipcz_base.specs.Limits.{last_number};
 
-use super::{carry, come, letter, plain, puts, step};
+use super::{ACROSS, END, carry, letter, plain, puts, step};
+use crate::act::{Answer, Applied, RouterAct};
+use crate::router::Router;
+use crate::sending::Sending;
 use ipcz_base::{Descriptor, End, LinkEnd, LinkId, Message, Parcel, Refusal, Side};
 use ipcz_edge::Edge;
-use ipcz_router::{Answer, Applied, Router, RouterAct, Sending};
 use std::alloc::Global;
 use std::test::Fail;
 
@@ -101,12 +103,12 @@ fn begins(y: &mut Router) -> bool {
     else {
         return false;
     };
-    claimed && locked && y.word().is_none()
+    claimed && locked && y.word().is_none() && y.spare.is_none() && is_unmarked(y)
 }
 
-// The side of the outward link is marked, where it is a central one.
-fn is_marked(router: &Router) -> bool {
-    !router.is_possible(RouterAct::Mark)
+// The flags that speak of the outward primary link are down.
+fn is_unmarked(router: &Router) -> bool {
+    !router.marked && !router.tried && !router.wake_owed && !router.holds
 }
 
 // The length of the decaying link of an edge to its other end, and from it; the edge has this primary link.
@@ -147,6 +149,7 @@ fn z_turns(z: &mut Router) -> bool {
     };
     strange
         && z.is_flagged()
+        && is_unmarked(z)
         && is_parted(z.outward(), fresh_link(Side::B, 0), Some(2), None)
         && z.bypass_peer(INNER, Side::B, 0, 0, 3).is_err()
 }
@@ -158,7 +161,7 @@ fn refused(x: &mut Router, side: Side, source: Option<u8>) -> Option<Refusal> {
 
 // X turns to it at its number 5, toward the node that AcceptBypass came from.
 fn x_turns(x: &mut Router) -> bool {
-    let strange = is_marked(x)
+    let strange = x.marked
         && refused(x, Side::B, Some(2)) == Some(Refusal::Stranger)
         && refused(x, Side::B, None) == Some(Refusal::Stranger)
         && refused(x, Side::A, None) == Some(Refusal::Forged)
@@ -181,6 +184,7 @@ fn x_turns(x: &mut Router) -> bool {
     };
     strange
         && x.is_flagged()
+        && is_unmarked(x)
         && is_parted(x.outward(), fresh_link(Side::A, 2), Some(5), Some(2))
         && x.accept_bypass(2, 0, Side::A, 2, 2, Some(2)).is_err()
 }
@@ -227,7 +231,7 @@ fn z_stops(z: &mut Router) -> bool {
 fn settles(router: &mut Router, word: u64) -> bool {
     plain(router, RouterAct::FinishOut)
         && step(router, RouterAct::Mark, Answer::Marked(word, false)).is_some()
-        && is_marked(router)
+        && router.marked
         && plain(router, RouterAct::Rest)
 }
 
@@ -261,19 +265,6 @@ fn a_proxy_is_bypassed_step_by_step(rt: HostRuntime) -> Result<(), Fail> {
         carry(&mut chain.z, RouterAct::SendOut, &mut chain.x),
         Some((FRESH, 2))
     );
-    Ok(())
-}
-
-// By the stop nothing goes out over the old link any more, and one item is still to come in over it.
-#[test]
-fn an_item_past_the_length_waits_for_a_primary_link(rt: HostRuntime) -> Result<(), Fail> {
-    let (mut y, _descriptor) = moved(rt.alloc());
-    assert!(rt; begins(&mut y));
-    assert!(rt; y.stop_proxying(0, Side::B, 1, 0).is_ok());
-    assert_eq!(rt; come(&mut y, INNER, 0, letter(rt.alloc(), b'a')?), Ok(()));
-    assert_eq!(rt; y.way_out(), None);
-    assert_eq!(rt; y.next_act(), RouterAct::Rest);
-    assert!(rt; y.stands_on(OLD, Side::B));
     Ok(())
 }
 
@@ -322,9 +313,10 @@ fn a_try_for_the_lock_is_made_once_and_again_when_roused(rt: HostRuntime) {
 #[test]
 fn a_side_is_marked_and_the_other_one_woken(rt: HostRuntime) {
     let alloc = rt.alloc();
-    assert!(rt; is_marked(&outer(alloc)));
+    assert!(rt; outer(alloc).marked);
     let (_proxy, descriptor) = moved(alloc);
     let mut z = Router::from_descriptor(alloc, &descriptor, 1);
+    assert!(rt; !z.marked);
     assert_eq!(rt; z.next_act(), RouterAct::Rest);
     assert!(rt; z.bypass_peer(INNER, Side::B, 0, 0, 2).is_ok());
     assert!(rt; z.proxy_will_stop(INNER, Side::B, 0).is_ok());

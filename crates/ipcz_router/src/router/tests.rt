@@ -1,4 +1,3 @@
-//! Routers by themselves: what is put, what comes, what a moved terminal goes on with.
 ghost use Rattle.std.specs.Prelude.{◌≡◌, ◌<◌, ◌≤◌};
 ghost use Rattle.ipcz_base.specs.Limits.{last_number, no_number};
 ghost use Rattle.ipcz_router.specs.Router.{terminal};
@@ -7,8 +6,9 @@ ghost use Rattle.ipcz_router.specs.declared.act.Answer.TheVariants.{Plain};
 
 mod bypass;
 
+use super::Router;
+use crate::act::{Answer, Applied, RouterAct};
 use ipcz_base::{Descriptor, End, Item, LinkEnd, LinkId, Parcel, Refusal, Sequence, Side};
-use ipcz_router::{Answer, Applied, Router, RouterAct};
 use std::alloc::{AllocError, Global};
 use std::test::Fail;
 
@@ -182,6 +182,19 @@ fn what_does_not_fit_is_refused(rt: HostRuntime) -> Result<(), Fail> {
         come(&mut router, link, 0, letter(alloc, b'a')?),
         Err(Refusal::Passed)
     );
+    Ok(())
+}
+
+#[test]
+fn an_item_past_the_length_waits_for_a_primary_link(rt: HostRuntime) -> Result<(), Fail> {
+    let mut router = terminal_at(rt.alloc(), 5);
+    router.outward.begin_decay();
+    router.outward.set_length_to(5);
+    assert!(rt; router.is_open_terminal());
+    assert_eq!(rt; router.put(letter(rt.alloc(), b'a')?).ok(), Some(5));
+    assert_eq!(rt; router.way_out(), None);
+    assert_eq!(rt; router.next_act(), RouterAct::Rest);
+    assert!(rt; router.stands_on(LinkId::Central(1), Side::A));
     Ok(())
 }
 
