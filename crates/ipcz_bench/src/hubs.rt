@@ -1,4 +1,4 @@
-//! Parcels between two nodes of a hub, with a lock round each cell, on one thread.
+//! Parcels between two nodes of a hub, with a lock round each cell: on one thread, and on two.
 ghost use Rattle.std.specs.Prelude.{◌≡◌};
 
 use crate::clock::share;
@@ -9,7 +9,8 @@ use ipcz_node::Happened;
 use std::alloc::Global;
 use std::marker::Brand;
 use std::sync::Wait;
-use std::thread::yield_now;
+use std::sync::atomic::{AtomicU64, Ordering};
+use std::thread::{Threads, join, yield_now};
 use std::time::Instant;
 
 /// More turns, or looks for a parcel, than any measure takes.
@@ -110,4 +111,72 @@ fn pass_in_turn<F: FabricName, W: Wait>(
 pub fn by_a_hub<W: Wait>(rt: &HostRuntime, waits: &W, rounds: u64) -> Result<u64, Fault> {
     let blank = start(rt.alloc(), 2, 1)?;
     pass_in_turn::<Brand, W>(rt, waits, blank, rounds)
+}
+
+// Puts so many parcels, with turns after each, and goes on with turns until the other thread has got the last.
+fn put_all<F: FabricName, W: Wait>(
+    waits: &W,
+    shared: &Shared<F>,
+    alloc: Global,
+    rounds: u64,
+    done: &AtomicU64,
+) -> Result<(), Fault> {
+    for _round in 0..rounds {
+        put(waits, &shared.hub, alloc, &shared.left)?;
+        let _acted = act(waits, &shared.hub, shared.left.node())?;
+    }
+    for _look in 0..ENOUGH {
+        if done.load(Ordering::SeqCst) == 1 {
+            return Ok(());
+        }
+        let _acted = act(waits, &shared.hub, shared.left.node())?;
+        yield_now();
+    }
+    Err(Fault::System)
+}
+
+// Gets so many parcels, and says so.
+fn get_all<F: FabricName, W: Wait>(
+    waits: &W,
+    shared: &Shared<F>,
+    rounds: u64,
+    done: &AtomicU64,
+) -> Result<(), Fault> {
+    for _round in 0..rounds {
+        await_parcel(waits, &shared.hub, &shared.right)?;
+    }
+    done.store(1, Ordering::SeqCst);
+    Ok(())
+}
+
+fn pass_on_threads<F: FabricName + Send + Sync, T: Threads + Wait + Sync>(
+    rt: &HostRuntime,
+    threads: &T,
+    blank: Blank,
+    rounds: u64,
+) -> Result<u64, Fault>
+    requires { blank ≡ F.table }
+{
+    let shared = shared_of::<F>(blank)?;
+    let alloc = rt.alloc();
+    let done = AtomicU64::new(0);
+    let start = Instant::now(rt)?;
+    let (put, got) = join(
+        threads,
+        || put_all(threads, &shared, alloc, rounds, &done),
+        || get_all(threads, &shared, rounds, &done),
+    );
+    put?;
+    got?;
+    share(rt, start, rounds)
+}
+
+/// Parcels between two threads that share a hub of two nodes: one puts, and the other gets.
+pub fn on_a_hub<T: Threads + Wait + Sync>(
+    rt: &HostRuntime,
+    threads: &T,
+    rounds: u64,
+) -> Result<u64, Fault> {
+    let blank = start(rt.alloc(), 2, 1)?;
+    pass_on_threads::<Brand, T>(rt, threads, blank, rounds)
 }

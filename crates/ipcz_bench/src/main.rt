@@ -17,7 +17,7 @@ use std::thread::Threads;
 
 const USAGE: &str = "usage: ipcz_bench MEASURE [ROUNDS]
 nanoseconds a parcel: one_node two_nodes long_parcels last_pair each_pair waiting_1 waiting_10 waiting_100 waiting_1000
-nanoseconds a parcel between two nodes, by cells, a hub, and cells on two threads: cells hub cells_on_threads
+nanoseconds a parcel between two nodes, by cells or a hub, on one thread and on two: cells hub cells_on_threads hub_on_threads
 nanoseconds to and fro between two threads: round_trips
 nanoseconds an act: act
 nanoseconds a move, with ten parcels after it: moves
@@ -27,7 +27,7 @@ bytes a pair: fresh_pairs used_pairs";
 const ROUNDS: u64 = 100_000;
 
 // Reads the arguments and takes the measure.
-fn number<T: Threads + Wait>(rt: &HostRuntime, threads: &T) -> Result<u64, Fault> {
+fn number<T: Threads + Wait + Sync>(rt: &HostRuntime, threads: &T) -> Result<u64, Fault> {
     let mut arguments = env::args(rt)?;
     let (Some(_), Some(name)) = (arguments.next(), arguments.next()) else {
         return Err(Fault::Usage);

@@ -2,7 +2,7 @@
 use crate::cells::{between_threads, by_cells, round_trips};
 use crate::clock::share;
 use crate::fault::Fault;
-use crate::hubs::by_a_hub;
+use crate::hubs::{by_a_hub, on_a_hub};
 use crate::trial::{Portal, first_pair, get_all, open, open_all, pass, put, put_all, settle};
 use ipcz_world::World;
 use std::fs;
@@ -20,7 +20,7 @@ const PAIRS: u32 = 1000;
 const MOVES: u64 = 4000;
 
 /// Takes a measure of so many rounds, with these handles for threads and locks, and gives nanoseconds or bytes: the rounded-down share of one parcel, act, move or pair.
-pub fn measure<T: Threads + Wait>(
+pub fn measure<T: Threads + Wait + Sync>(
     rt: &HostRuntime,
     threads: &T,
     name: &str,
@@ -41,6 +41,7 @@ pub fn measure<T: Threads + Wait>(
         "cells" => by_cells(rt, rounds),
         "hub" => by_a_hub(rt, threads, rounds),
         "cells_on_threads" => between_threads(rt, threads, rounds),
+        "hub_on_threads" => on_a_hub(rt, threads, rounds),
         "round_trips" => round_trips(rt, threads, rounds),
         "fresh_pairs" => bytes_of_pairs(rt, 0),
         "used_pairs" => bytes_of_pairs(rt, 1),
