@@ -1,3 +1,5 @@
+pub mod BoundCalls
+pub mod BoundNames
 pub mod CallAnswers
 pub mod CommandCount
 pub mod CountedLines
@@ -6,15 +8,21 @@ pub mod EndKeys
 pub mod Feeds
 pub mod JsonLists
 pub mod KnownBytes
+pub mod LinkedPairs
 pub mod LogLines
+pub mod NamedPeers
+pub mod NamedRuns
+pub mod NewNames
 pub mod OneEvent
 pub mod OneSaying
 pub mod OpenNames
 pub mod Pairing
+pub mod ParcelsByName
 pub mod PutData
 pub mod ReadNames
 pub mod ReadingLaws
 pub mod Rows
+pub mod SameCalls
 pub mod SayingNames
 pub mod SayingTexts
 pub mod ScriptRuns

@@ -98,7 +98,7 @@ numbers-read (m ∷ ms) (n ∷ ns) h k e =
 
 -- ---- answers
 
-first : List ℕ → ℕ
+pub first : List ℕ → ℕ
 first [] = 0
 first (b ∷ bs) = b
 
@@ -245,7 +245,7 @@ letter_of Unsettled = 117
 letter_of (Words ws) = 119
 letter_of (Turn node deed) = 110
 
-begins-with : (x : Saying) → first (saying_text x) ≡ letter_of x
+pub begins-with : (x : Saying) → first (saying_text x) ≡ letter_of x
 unfolding first
 begins-with (Open a b r) = refl
 begins-with (Put a r) = refl

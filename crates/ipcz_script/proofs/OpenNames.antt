@@ -62,7 +62,7 @@ title-new titles e name =
     ap (λ o. unwrap_or o []) (get-insert end_total titles e name e ∙ ap (λ c. cond c (Some name) (get titles e))
     ((eq_by_cmp_equiv end_total).refl e))
 
-title-old : (titles : Titles) (d e : End) (name : List ℕ) → eq_by_cmp end_cmp e d ≡ false → title_of (insert titles d name) e ≡ title_of
+pub title-old : (titles : Titles) (d e : End) (name : List ℕ) → eq_by_cmp end_cmp e d ≡ false → title_of (insert titles d name) e ≡ title_of
     titles e
 title-old titles d e name other = ap (λ o. unwrap_or o []) (get-insert end_total titles d name e ∙ ap
     (λ c. cond c (Some name) (get titles e)) other)

@@ -1,7 +1,7 @@
 -- Why the commands of a script that is read have names, and its numbers are within the limits.
 use Rattle.std.proofs.Common.{◌≡◌, ◌≤◌, ℕ, Bool, true, false, List, [], ◌∷◌, ◌++◌, length, Option, Some, None, Result, Ok, Err, refl, sym}
 use Rattle.std.proofs.Common.{◌+◌, arith, subst, codes, inl, inr}
-use Rattle.std.specs.Prelude.{◌&&◌, if◌then◌else◌, nat_le, not, bytes_eq, option_and_then, option_map}
+use Rattle.std.specs.Prelude.{◌&&◌, if◌then◌else◌, nat_le, bytes_eq, option_and_then, option_map}
 use Rattle.std.specs.Option.{option_map_or}
 use Rattle.std.proofs.lemmas.Bool.{and_parts}
 use Rattle.std.proofs.lemmas.Bool.Decides.{nat_tests}
@@ -13,7 +13,7 @@ use Rattle.ipcz_script.specs.declared.command.Command.TheVariants as commands
 use Rattle.ipcz_script.specs.declared.script.Script.{Script}
 use Rattle.ipcz_script.specs.declared.script_fault.ScriptFault.{ScriptFault}
 use Rattle.ipcz_script.specs.declared.script_fault.ScriptFault.TheVariants.{BadShape}
-use Rattle.ipcz_script.specs.ScriptNames.{has_angle, is_name, is_taken}
+use Rattle.ipcz_script.specs.ScriptNames.{is_name, is_taken}
 use Rattle.ipcz_script.specs.Shapes.{close_in, command_in, command_named, command_of, get_in, name_in, names_in, new_name_in}
 use Rattle.ipcz_script.specs.Shapes.{number_within, open_in, open_of, put_in, put_of, settle_in, show_in, turn_in, turn_of, values_of}
 use Rattle.ipcz_script.specs.Scripts.{commands_from, first_pair_count, has_three_members, nodes_in, script_of, values_in, with_commands}
@@ -23,24 +23,24 @@ use Rattle.ipcz_script.specs.ReadBack.{HasNames, HaveNames}
 use Rattle.ipcz_script.specs.ByteLaws.{ScriptsHaveNames}
 
 -- what holds of a thing, where there is one
-abbrev Where : {A : Type 0} → (A → Type 0) → Option A → Type 0
+abbrev pub Where : {A : Type 0} → (A → Type 0) → Option A → Type 0
 Where P None = Unit {0}
 Where P (Some a) = P a
 
-where-then : {A B : Type 0} (P : A → Type 0) (Q : B → Type 0) (f : A → Option B) (o : Option A) → Where P o →
+pub where-then : {A B : Type 0} (P : A → Type 0) (Q : B → Type 0) (f : A → Option B) (o : Option A) → Where P o →
     ((a : A) → P a → Where Q (f a)) → Where Q (option_and_then f o)
 where-then P Q f None h each = tt
 where-then P Q f (Some a) h each = each a h
 
-any : {A : Type 0} (o : Option A) → Where (λ a. Unit {0}) o
+pub any : {A : Type 0} (o : Option A) → Where (λ a. Unit {0}) o
 any None = tt
 any (Some a) = tt
 
-where-if : {A : Type 0} (P : A → Type 0) (c : Bool) (o : Option A) → (c ≡ true → Where P o) → Where P (if c then o else None)
+pub where-if : {A : Type 0} (P : A → Type 0) (c : Bool) (o : Option A) → (c ≡ true → Where P o) → Where P (if c then o else None)
 where-if P true o h = h refl
 where-if P false o h = tt
 
-where-else : {A : Type 0} (P : A → Type 0) (c : Bool) (o q : Option A) → Where P o → Where P q → Where P (if c then o else q)
+pub where-else : {A : Type 0} (P : A → Type 0) (c : Bool) (o q : Option A) → Where P o → Where P q → Where P (if c then o else q)
 where-else P true o q h k = h
 where-else P false o q h k = k
 
@@ -54,7 +54,7 @@ name-is d = where-then (λ a. Unit {0}) IsName _ (as_str d) (any (as_str d)) (λ
 
 new_name-is : (taken : List ℕ → Bool) (d : Data) → Where IsName (new_name_in taken d)
 new_name-is taken d = where-then IsName IsName _ (name_in d) (name-is d)
-    (λ n h. where-if IsName (not (has_angle n) && not (taken n)) (Some n) (λ e. h))
+    (λ n h. where-if IsName _ (Some n) (λ e. h))
 
 -- ---- commands
 
@@ -148,7 +148,7 @@ have-append : (cs ds : List Command) → HaveNames cs → HaveNames ds → HaveN
 have-append [] ds h k = k
 have-append (c ∷ cs) ds h k = (h.0, have-append cs ds h.1 k)
 
-abbrev Reads : {A E : Type 0} → (A → Type 0) → Result A E → Type 0
+abbrev pub Reads : {A E : Type 0} → (A → Type 0) → Result A E → Type 0
 Reads P (Ok a) = P a
 Reads P (Err e) = Unit {0}
 

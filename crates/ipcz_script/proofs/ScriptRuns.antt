@@ -76,7 +76,7 @@ kept-in : (nodes words : ℕ) (w v : World) (puts gots : Parcels) → v ≡ w �
 kept-in nodes words w v puts gots same at = subst (λ x. Kept nodes words x puts gots) (sym same) at
 
 -- a run goes on by a step
-run-more : (w : World) (b : Books) (g : Routes) (xs : List Step) (ys : List Reply) (u : World) (c : Books) (h : Routes) →
+pub run-more : (w : World) (b : Books) (g : Routes) (xs : List Step) (ys : List Reply) (u : World) (c : Books) (h : Routes) →
     RunAny w b g xs ys u c h → (s : Step) (r : Reply) (v : World) → StepAny u s r v →
     RunAny w b g (xs ++ s ∷ []) (ys ++ r ∷ []) v (advance u c s r) (routes_after u h s r)
 run-more w b g [] [] u c h is s r v step =
@@ -139,7 +139,7 @@ kept-turns nodes words (suc left) node w (r ∷ rs) v puts gots at is =
     ] is.3
 
 -- a step that is no turn, as with memory at hand, is one in which a turn would take the first act
-first-step : (w : World) (s : Step) → is_turn s ≡ false → StepFirst w s (first_step w s).reply (first_step w s).world
+pub first-step : (w : World) (s : Step) → is_turn s ≡ false → StepFirst w s (first_step w s).reply (first_step w s).world
 unfolding first_step
 first-step w (steps.Open n) still = inl (refl, refl)
 first-step w (steps.Put n at bytes ends) still = inl (refl, refl)
@@ -148,7 +148,7 @@ first-step w (steps.Close n at) still = inl (refl, refl)
 first-step w (steps.Turn n) still = absurd (let e : true ≡ false = still in cc)
 
 -- names change no world
-name_pair-world : (s : Session) (first second : List ℕ) (r : Reply) → (name_pair s first second r).world ≡ s.world
+pub name_pair-world : (s : Session) (first second : List ℕ) (r : Reply) → (name_pair s first second r).world ≡ s.world
 unfolding name_pair
 name_pair-world s first second (replies.Opened a b) = refl
 name_pair-world s first second (replies.Put n) = refl
@@ -157,7 +157,7 @@ name_pair-world s first second (replies.Closed n) = refl
 name_pair-world s first second (replies.Turned event) = refl
 name_pair-world s first second (replies.Refused why) = refl
 
-bind_pairs-world : (s : Session) (pair : ℕ) (ps : List (ℕ × ℕ)) → (bind_pairs s pair ps).world ≡ s.world
+pub bind_pairs-world : (s : Session) (pair : ℕ) (ps : List (ℕ × ℕ)) → (bind_pairs s pair ps).world ≡ s.world
 bind_pairs-world s pair [] = refl
 bind_pairs-world s pair (p ∷ ps) = bind_pairs-world (bind_pair s pair p.0 p.1) (pair + 1) ps
 

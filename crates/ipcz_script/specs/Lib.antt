@@ -8,6 +8,7 @@ pub mod Faults
 pub mod Labels
 pub mod Lines
 pub mod NamingLaws
+pub mod ParcelsByName
 pub mod ReadBack
 pub mod Reading
 pub mod Sayings

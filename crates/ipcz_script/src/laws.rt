@@ -9,6 +9,7 @@ ghost use Rattle.ipcz_script.specs.ByteLaws.{NoLineStrays, OutputsHaveLines, Scr
 ghost use Rattle.ipcz_script.specs.EventLaws.{TextsAreOneEvent};
 ghost use Rattle.ipcz_script.specs.CountedLines.{LinesAreCounted};
 ghost use Rattle.ipcz_script.specs.NamingLaws.{OpensNameSides};
+ghost use Rattle.ipcz_script.specs.ParcelsByName.{GetsFollowPutsByName};
 ghost use Rattle.ipcz_script.specs.Sayings.{LinesSayAnswers, TextsSayOneThing};
 ghost use Rattle.ipcz_script.specs.SendLines.{SendsTellWhatMoved};
 ghost use Rattle.ipcz_script.specs.SettledLaws.{SettledGetsGiveAll};
@@ -102,6 +103,13 @@ pub fn no_line_strays()
 /// quotes the very data of the put of that number at its peer.
 pub fn lines_are_counted()
     ensures { LinesAreCounted }
+{}
+
+/// By the names alone: read back the bytes that a script's run writes, and set them beside its commands. Of two names that an open's line or
+/// their form shows to be peers, the puts at one whose lines have a number are numbered 0, 1, and so on, and what the lines say the other
+/// got is a front of them: the same numbers, names of portals and data, in order.
+pub fn gets_follow_puts_by_name()
+    ensures { GetsFollowPutsByName }
 {}
 
 /// An open that succeeds gives its first name to side A of the new pair, and its second to side B: so they print.
