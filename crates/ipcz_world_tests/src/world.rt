@@ -1,13 +1,36 @@
 //! Worlds stepped and run, and what they answer, by docs/PROTOCOL.md.
 mod bypass;
+mod calls;
 mod direct;
 mod limits;
 
+ghost use Rattle.ipcz_world.specs.Lawful.{IsWithinLimits};
+
+use self::calls::{Call, given};
 use ipcz_base::{End, Refusal, Sequence, Side};
-use ipcz_node::Happened;
-use ipcz_world::{Reply, Settled, Step, World};
+use ipcz_world::{Reply, Step, World};
 use std::alloc::{AllocError, Global};
 use std::test::Fail;
+
+const A0: End = End {
+    pair: 0,
+    side: Side::A,
+};
+
+const B0: End = End {
+    pair: 0,
+    side: Side::B,
+};
+
+const A1: End = End {
+    pair: 1,
+    side: Side::A,
+};
+
+const B1: End = End {
+    pair: 1,
+    side: Side::B,
+};
 
 // The end of side A of a pair.
 fn a(pair: u32) -> End {
@@ -110,176 +133,200 @@ fn steps_give_what_their_run_gives(rt: HostRuntime) -> Result<(), Fail> {
 }
 
 // The caller that the README shows.
+const HELLO: [Call; 3] = [
+    Call::Put(0, A0, b"hello", &[], 0),
+    Call::Settle(100, Some(6)),
+    Call::Get(1, B0, 0, b"hello", &[]),
+];
+
 #[test]
 fn carries_hello_from_node_to_node(rt: HostRuntime) -> Result<(), Fail> {
-    let alloc = rt.alloc();
-    let left = End {
-        pair: 0,
-        side: Side::A,
-    };
-    let right = End {
-        pair: 0,
-        side: Side::B,
-    };
-    let mut world = World::new(alloc, 2, 4)?;
-    let put = world.step(&Step::Put {
-        node: 0,
-        at: left,
-        bytes: Sequence::from_vec(Vec::from_slice(alloc, b"hello")?),
-        ends: Sequence::from_vec(Vec::new(alloc)),
-    });
-    assert!(rt; is_put(&put, 0));
-    world.settle(100)?;
-    let got = world.step(&Step::Get { node: 1, at: right });
-    assert!(rt; is_got(&got, 0, b"hello", &[]));
+    let mut world = World::new(rt.alloc(), 2, 4)?;
+    assert_eq!(rt; given(&mut world, rt.alloc(), &HELLO)?, HELLO.len());
     Ok(())
 }
 
 // Two sends, a post, a look and a hand for each message, and a rest of each router.
+const TWO_PARCELS: [Call; 3] = [
+    Call::Open(0, A0, B0),
+    Call::Put(0, A0, b"a", &[], 0),
+    Call::Put(0, A0, b"b", &[], 1),
+];
+
+const TEN_ACTS: [[Call; 3]; 4] = [
+    [
+        Call::Settle(100, Some(10)),
+        Call::Settle(u64::MAX, Some(0)),
+        Call::Settle(0, Some(0)),
+    ],
+    [
+        Call::Settle(10, Some(10)),
+        Call::Settle(u64::MAX, Some(0)),
+        Call::Settle(0, Some(0)),
+    ],
+    [
+        Call::Settle(9, None),
+        Call::Settle(u64::MAX, Some(1)),
+        Call::Settle(0, Some(0)),
+    ],
+    [
+        Call::Settle(0, None),
+        Call::Settle(u64::MAX, Some(10)),
+        Call::Settle(0, Some(0)),
+    ],
+];
+
+const BOTH_GOT: [Call; 3] = [
+    Call::Get(0, B0, 0, b"a", &[]),
+    Call::Get(0, B0, 1, b"b", &[]),
+    Call::GetRefused(0, B0, Refusal::Empty),
+];
+
+// How many calls give what they should where two parcels are put, the world settles so, and both are got.
+fn given_after(alloc: Global, settles: &[Call]) -> Result<usize, Refusal> {
+    let mut world = World::new(alloc, 1, 1)?;
+    let before = given(&mut world, alloc, &TWO_PARCELS)?;
+    let between = given(&mut world, alloc, settles)?;
+    let after = given(&mut world, alloc, &BOTH_GOT)?;
+    Ok(before.saturating_add(between).saturating_add(after))
+}
+
 #[test]
 fn settles_after_ten_acts(rt: HostRuntime) -> Result<(), Fail> {
-    let alloc = rt.alloc();
-    let steps = two_parcels(alloc)?;
-    for (limit, want, rest) in [
-        (100, Settled::Settled { after: 10 }, 0),
-        (10, Settled::Settled { after: 10 }, 0),
-        (9, Settled::Unsettled, 1),
-        (0, Settled::Unsettled, 10),
-    ] {
-        let mut world = World::new(alloc, 1, 1)?;
-        world.run(alloc, &steps)?;
-        assert_eq!(rt; world.settle(limit), Ok(want), "{limit}");
-        assert_eq!(rt;
-            world.settle(u64::MAX),
-            Ok(Settled::Settled { after: rest }),
-            "{limit}"
-        );
-        assert_eq!(rt;
-            world.settle(0),
-            Ok(Settled::Settled { after: 0 }),
-            "{limit}"
-        );
-        assert!(rt; is_got(&world.step(&get(0, b(0))), 0, b"a", &[]));
-        assert!(rt; is_got(&world.step(&get(0, b(0))), 1, b"b", &[]));
-        assert!(rt; is_refused(&world.step(&get(0, b(0))), Refusal::Empty));
+    for settles in &TEN_ACTS {
+        assert_eq!(rt; given_after(rt.alloc(), settles)?, 9);
     }
     Ok(())
 }
 
-// The sender sends, posts and rests; the receiver looks, hands and rests.
+// The sender sends, posts and rests; the receiver looks, hands and rests. In three passes node 0 sends, posts and rests, and node 1 looks
+// and hands.
+const PASSES: [Call; 6] = [
+    Call::Put(0, A0, b"a", &[], 0),
+    Call::Settle(5, None),
+    Call::Turns(0, &["Idle"]),
+    Call::Turns(1, &["Rest(0)"]),
+    Call::Settle(0, Some(0)),
+    Call::Get(1, B0, 0, b"a", &[]),
+];
+
 #[test]
 fn settles_two_nodes_in_passes(rt: HostRuntime) -> Result<(), Fail> {
-    let alloc = rt.alloc();
-    let mut world = World::new(alloc, 2, 1)?;
-    assert!(rt; is_put(&world.step(&put(alloc, 0, a(0), b"a", &[])?), 0));
-    // In three passes node 0 sends, posts and rests, and node 1 looks and hands.
-    assert_eq!(rt; world.settle(5), Ok(Settled::Unsettled));
-    assert!(rt; matches!(world.step(&Step::Turn(0)), Reply::Turned(Happened::Idle)));
-    assert!(rt; matches!(world.step(&Step::Turn(1)), Reply::Turned(Happened::Rest(0))));
-    assert_eq!(rt; world.settle(0), Ok(Settled::Settled { after: 0 }));
-    assert!(rt; is_got(&world.step(&get(1, b(0))), 0, b"a", &[]));
+    let mut world = World::new(rt.alloc(), 2, 1)?;
+    assert_eq!(rt; given(&mut world, rt.alloc(), &PASSES)?, PASSES.len());
     Ok(())
 }
+
+// Once the second word is claimed, each is.
+const OPENS: [Call; 14] = [
+    Call::Claimed(1),
+    Call::Word(0, Some(3)),
+    Call::Word(1, None),
+    Call::Holder(A0, Some(0)),
+    Call::Holder(B0, Some(1)),
+    Call::Holder(A1, None),
+    Call::Open(1, A1, B1),
+    Call::Claimed(2),
+    Call::Word(1, Some(3)),
+    Call::Word(2, None),
+    Call::Word(u32::MAX, None),
+    Call::Holder(B1, Some(1)),
+    Call::OpenRefused(1, Refusal::NoWord),
+    Call::Claimed(2),
+];
 
 #[test]
 fn an_open_claims_the_next_word(rt: HostRuntime) -> Result<(), Fail> {
-    let alloc = rt.alloc();
-    let mut world = World::new(alloc, 2, 2)?;
-    assert_eq!(rt; world.claimed(), 1);
-    assert_eq!(rt; world.word(0), Some(3));
-    assert_eq!(rt; world.word(1), None);
-    assert_eq!(rt; world.holder_of(a(0)), Some(0));
-    assert_eq!(rt; world.holder_of(b(0)), Some(1));
-    assert_eq!(rt; world.holder_of(a(1)), None);
-
-    let Reply::Opened(first, second) = world.step(&Step::Open(1)) else {
-        assert!(rt; false, "the open is refused");
-        return Ok(());
-    };
-    assert_eq!(rt; (first, second), (a(1), b(1)));
-    assert_eq!(rt; world.claimed(), 2);
-    assert_eq!(rt; world.word(1), Some(3));
-    assert_eq!(rt; world.word(2), None);
-    assert_eq!(rt; world.word(u32::MAX), None);
-    assert_eq!(rt; world.holder_of(b(1)), Some(1));
-
-    // Each word is claimed.
-    assert!(rt; is_refused(&world.step(&Step::Open(1)), Refusal::NoWord));
-    assert_eq!(rt; world.claimed(), 2);
+    let mut world = World::new(rt.alloc(), 2, 2)?;
+    assert_eq!(rt; given(&mut world, rt.alloc(), &OPENS)?, OPENS.len());
     Ok(())
 }
+
+// How many calls give what they should on a world of so many nodes and words.
+fn given_of(alloc: Global, nodes: u8, words: u32, calls: &[Call]) -> Result<usize, Refusal>
+    requires { IsWithinLimits nodes words }
+{
+    let mut world = World::new(alloc, nodes, words)?;
+    Ok(given(&mut world, alloc, calls)?)
+}
+
+const NO_WORDS: [Call; 2] = [Call::Claimed(0), Call::Word(0, None)];
+
+// The last pair is that of the last two nodes.
+const EIGHT_NODES: [Call; 5] = [
+    Call::Claimed(28),
+    Call::Word(27, Some(3)),
+    Call::Word(28, None),
+    Call::Holder(
+        End {
+            pair: 27,
+            side: Side::A,
+        },
+        Some(6),
+    ),
+    Call::Holder(
+        End {
+            pair: 27,
+            side: Side::B,
+        },
+        Some(7),
+    ),
+];
 
 #[test]
 fn worlds_of_the_limits_are_made(rt: HostRuntime) -> Result<(), Fail> {
-    let alloc = rt.alloc();
-    let empty = World::new(alloc, 1, 0)?;
-    assert_eq!(rt; (empty.claimed(), empty.word(0)), (0, None));
-    let least = World::new(alloc, 8, 28)?;
-    assert_eq!(rt;
-        (least.claimed(), least.word(27), least.word(28)),
-        (28, Some(3), None)
-    );
-    let most = World::new(alloc, 8, 4096)?;
-    assert_eq!(rt;
-        (most.claimed(), most.word(27), most.word(28)),
-        (28, Some(3), None)
-    );
-    // The last pair is that of the last two nodes.
-    assert_eq!(rt; most.holder_of(a(27)), Some(6));
-    assert_eq!(rt; most.holder_of(b(27)), Some(7));
+    assert_eq!(rt; given_of(rt.alloc(), 1, 0, &NO_WORDS)?, 2);
+    assert_eq!(rt; given_of(rt.alloc(), 8, 28, &EIGHT_NODES)?, 5);
+    assert_eq!(rt; given_of(rt.alloc(), 8, 4096, &EIGHT_NODES)?, 5);
     Ok(())
 }
+
+// Calls on a node that isn't there.
+const fn strangers(node: u8) -> [Call; 5] {
+    [
+        Call::OpenRefused(node, Refusal::Stranger),
+        Call::PutRefused(node, A0, &[A0], Refusal::Stranger),
+        Call::GetRefused(node, A0, Refusal::Stranger),
+        Call::CloseRefused(node, A0, Refusal::Stranger),
+        Call::TurnRefused(node, Refusal::Stranger),
+    ]
+}
+
+// Callers of node 1 don't hold the end. Each word is claimed.
+const NOT_HELD: [Call; 5] = [
+    Call::PutRefused(1, A0, &[], Refusal::Stranger),
+    Call::GetRefused(1, A0, Refusal::Stranger),
+    Call::CloseRefused(1, A0, Refusal::Stranger),
+    Call::OpenRefused(0, Refusal::NoWord),
+    Call::Turns(1, &["Idle"]),
+];
 
 #[test]
 fn a_node_that_is_not_there_is_a_stranger(rt: HostRuntime) -> Result<(), Fail> {
-    let alloc = rt.alloc();
-    // Each word is claimed, and a node that isn't there is tested before.
-    let mut world = World::new(alloc, 2, 1)?;
-    let mut steps = Vec::new(alloc);
+    let mut world = World::new(rt.alloc(), 2, 1)?;
     for node in [2, 7, 8, 255] {
-        steps.push(Step::Open(node))?;
-        steps.push(put(alloc, node, a(0), b"\t", &[a(0)])?)?;
-        steps.push(get(node, a(0)))?;
-        steps.push(Step::Close { node, at: a(0) })?;
-        steps.push(Step::Turn(node))?;
+        assert_eq!(rt; given(&mut world, rt.alloc(), &strangers(node))?, 5);
     }
-    // Callers of node 1 don't hold the end.
-    steps.push(put(alloc, 1, a(0), b"a", &[])?)?;
-    steps.push(get(1, a(0)))?;
-    steps.push(Step::Close { node: 1, at: a(0) })?;
-    let replies = world.run(alloc, steps.as_slice())?;
-    assert_eq!(rt; replies.len(), 23);
-    for reply in replies {
-        assert!(rt; is_refused(&reply, Refusal::Stranger));
-    }
-    let replies = world.run(alloc, &[Step::Open(0), Step::Turn(1)])?;
-    assert!(rt;
-        matches!(
-            replies.as_slice(),
-            [
-                Reply::Refused(Refusal::NoWord),
-                Reply::Turned(Happened::Idle)
-            ]
-        )
-    );
+    assert_eq!(rt; given(&mut world, rt.alloc(), &NOT_HELD)?, NOT_HELD.len());
     Ok(())
 }
 
+// The mark comes behind the parcel.
+const CLOSE: [Call; 9] = [
+    Call::Put(0, A0, b"a", &[], 0),
+    Call::Close(0, A0, 1),
+    Call::CloseRefused(0, A0, Refusal::Stranger),
+    Call::Holder(A0, None),
+    Call::Settle(100, Some(10)),
+    Call::PutRefused(1, B0, &[], Refusal::PeerClosed),
+    Call::Get(1, B0, 0, b"a", &[]),
+    Call::GetRefused(1, B0, Refusal::PeerClosed),
+    Call::GetRefused(1, B0, Refusal::PeerClosed),
+];
+
 #[test]
 fn a_close_is_heard_at_the_peer(rt: HostRuntime) -> Result<(), Fail> {
-    let alloc = rt.alloc();
-    let mut world = World::new(alloc, 2, 1)?;
-    assert!(rt; is_put(&world.step(&put(alloc, 0, a(0), b"a", &[])?), 0));
-    let close = Step::Close { node: 0, at: a(0) };
-    assert!(rt; matches!(world.step(&close), Reply::Closed(1)));
-    assert!(rt; is_refused(&world.step(&close), Refusal::Stranger));
-    assert_eq!(rt; world.holder_of(a(0)), None);
-    world.settle(100)?;
-    // The mark has come, behind the parcel.
-    let answer = put(alloc, 1, b(0), b"b", &[])?;
-    assert!(rt; is_refused(&world.step(&answer), Refusal::PeerClosed));
-    assert!(rt; is_got(&world.step(&get(1, b(0))), 0, b"a", &[]));
-    assert!(rt; is_refused(&world.step(&get(1, b(0))), Refusal::PeerClosed));
-    assert!(rt; is_refused(&world.step(&get(1, b(0))), Refusal::PeerClosed));
+    let mut world = World::new(rt.alloc(), 2, 1)?;
+    assert_eq!(rt; given(&mut world, rt.alloc(), &CLOSE)?, CLOSE.len());
     Ok(())
 }

@@ -1,22 +1,18 @@
 //! One bypass, each turn of it with what it is seen to do.
 
-use super::{a, b, get, is_got, is_put, put};
-use ipcz_world::{Settled, Step, World};
-use std::alloc::Global;
+use super::calls::{Call, given};
+use super::{A0, A1, B0, B1};
+use ipcz_world::World;
 use std::test::Fail;
 
-// Turns of a node up to the first idle one, what each is seen to do as its value prints, and the word of the new link after them.
-struct Leg {
-    node: u8,
-    events: &'static [&'static str],
-    fresh: u64,
-}
-
-// The terminal of 1B moves from node 0 to node 1, and the proxy it leaves, router 2, is bypassed: C1 by C2.
-const LEGS: [Leg; 6] = [
-    Leg {
-        node: 0,
-        events: &[
+// The terminal of 1B moves from node 0 to node 1, and the proxy it leaves, router 2, is bypassed: C1 by C2. Then what is put at the moved end
+// comes over the new link.
+const CALLS: [Call; 37] = [
+    Call::Open(0, A1, B1),
+    Call::Put(0, A0, b"m", &[B1], 0),
+    Call::Turns(
+        0,
+        &[
             "SendOut { serial: 0, n: 0, link: Central(0), moved: Sequence { items: [End { pair: 1, side: B }] } }",
             "Post(1)",
             "Rest(0)",
@@ -26,37 +22,46 @@ const LEGS: [Leg; 6] = [
             "Rest(2)",
             "Idle",
         ],
-        fresh: 0,
-    },
-    Leg {
-        node: 1,
-        events: &[
+    ),
+    Call::Word(0, Some(3)),
+    Call::Word(1, Some(547)),
+    Call::Word(2, Some(0)),
+    Call::Word(3, None),
+    Call::Turns(
+        1,
+        &[
             "Look(0)",
             "Hand { kind: Item(0), link: Central(0), unfit: false }",
             "Rest(0)",
             "Idle",
         ],
-        fresh: 0,
-    },
-    Leg {
-        node: 0,
-        events: &["Post(1)", "Idle"],
-        fresh: 0,
-    },
-    Leg {
-        node: 1,
-        events: &[
+    ),
+    Call::Word(0, Some(3)),
+    Call::Word(1, Some(547)),
+    Call::Word(2, Some(0)),
+    Call::Word(3, None),
+    Call::Turns(0, &["Post(1)", "Idle"]),
+    Call::Word(0, Some(3)),
+    Call::Word(1, Some(547)),
+    Call::Word(2, Some(0)),
+    Call::Word(3, None),
+    Call::Turns(
+        1,
+        &[
             "Look(0)",
             "Hand { kind: BypassPeer, link: Peripheral { node: 0, serial: 0 }, unfit: false }",
             "Post(0)",
             "Rest(1)",
             "Idle",
         ],
-        fresh: 0,
-    },
-    Leg {
-        node: 0,
-        events: &[
+    ),
+    Call::Word(0, Some(3)),
+    Call::Word(1, Some(547)),
+    Call::Word(2, Some(0)),
+    Call::Word(3, None),
+    Call::Turns(
+        0,
+        &[
             "Look(1)",
             "Hand { kind: AcceptBypass, link: Central(1), unfit: false }",
             "Post(0)",
@@ -71,11 +76,14 @@ const LEGS: [Leg; 6] = [
             "Leave(2)",
             "Idle",
         ],
-        fresh: 1,
-    },
-    Leg {
-        node: 1,
-        events: &[
+    ),
+    Call::Word(0, Some(3)),
+    Call::Word(1, Some(547)),
+    Call::Word(2, Some(1)),
+    Call::Word(3, None),
+    Call::Turns(
+        1,
+        &[
             "Look(0)",
             "Hand { kind: ProxyWillStop, link: Peripheral { node: 0, serial: 0 }, unfit: false }",
             "FinishOut(1, Peripheral { node: 0, serial: 0 })",
@@ -83,31 +91,21 @@ const LEGS: [Leg; 6] = [
             "Rest(1)",
             "Idle",
         ],
-        fresh: 3,
-    },
+    ),
+    Call::Word(0, Some(3)),
+    Call::Word(1, Some(547)),
+    Call::Word(2, Some(3)),
+    Call::Word(3, None),
+    Call::Settle(0, Some(0)),
+    Call::Get(1, B0, 0, b"m", &[B1]),
+    Call::Put(1, B1, b"r", &[], 0),
+    Call::Settle(100, Some(6)),
+    Call::Get(0, A1, 0, b"r", &[]),
 ];
 
 #[test]
 fn a_bypass_turn_by_turn(rt: HostRuntime) -> Result<(), Fail> {
-    let alloc = rt.alloc();
-    let mut world = World::new(alloc, 2, 4)?;
-    world.run(alloc, &[Step::Open(0)])?;
-    assert!(rt; is_put(&world.step(&put(alloc, 0, a(0), b"m", &[b(1)])?), 0));
-    for leg in &LEGS {
-        for event in leg.events {
-            let reply = world.step(&Step::Turn(leg.node));
-            let want = format!(in alloc; "Turned({event})")?;
-            assert_eq!(rt; format!(in alloc; "{reply:?}")?.as_str(), want.as_str());
-        }
-        assert_eq!(rt; [world.word(0), world.word(1)], [Some(3), Some(547)]);
-        assert_eq!(rt; [world.word(2), world.word(3)], [Some(leg.fresh), None]);
-    }
-    assert_eq!(rt; world.settle(0), Ok(Settled::Settled { after: 0 }));
-
-    // What is put at the moved end comes over the new link.
-    assert!(rt; is_got(&world.step(&get(1, b(0))), 0, b"m", &[b(1)]));
-    assert!(rt; is_put(&world.step(&put(alloc, 1, b(1), b"r", &[])?), 0));
-    world.settle(100)?;
-    assert!(rt; is_got(&world.step(&get(0, a(1))), 0, b"r", &[]));
+    let mut world = World::new(rt.alloc(), 2, 4)?;
+    assert_eq!(rt; given(&mut world, rt.alloc(), &CALLS)?, CALLS.len());
     Ok(())
 }

@@ -1,6 +1,7 @@
 //! The limit of a world is enough for a settle where no parcel that wasn't got carries portals.
 
-use super::{a, b, get, is_got, is_put, put};
+use super::calls::{Call, given};
+use super::{A0, B0, a, b, get, is_got, is_put, put};
 use ipcz_world::{Settled, Step, World};
 use std::alloc::{AllocError, Global};
 use std::test::Fail;
@@ -29,27 +30,35 @@ fn settles_within_its_limit(world: &mut World) -> bool {
     }
 }
 
+// A parcel has to pass both terminals. It is sent, and waits to be posted; then it is in the mailbox, and in hand.
+const CALLS: [Call; 15] = [
+    Call::Limit(2 * TERMINAL),
+    Call::Settle(0, Some(0)),
+    Call::Put(0, A0, b"a", &[], 0),
+    Call::Limit(2 * TERMINAL + 12),
+    Call::Turns(
+        0,
+        &["SendOut { serial: 0, n: 0, link: Central(0), moved: Sequence { items: [] } }"],
+    ),
+    Call::Limit(2 * TERMINAL + 6 + 38),
+    Call::Turns(0, &["Post(1)"]),
+    Call::Limit(2 * TERMINAL + 6 + 37),
+    Call::Turns(1, &["Look(0)"]),
+    Call::Limit(2 * TERMINAL + 6 + 37),
+    Call::Turns(
+        1,
+        &["Hand { kind: Item(0), link: Central(0), unfit: false }"],
+    ),
+    Call::Limit(2 * TERMINAL + 6),
+    Call::Settle(2 * TERMINAL + 6, Some(2)),
+    Call::Get(1, B0, 0, b"a", &[]),
+    Call::Limit(2 * TERMINAL),
+];
+
 #[test]
 fn the_limit_is_read_off_the_world(rt: HostRuntime) -> Result<(), Fail> {
-    let alloc = rt.alloc();
-    let mut world = World::new(alloc, 2, 4)?;
-    assert_eq!(rt; world.settle_limit(), Some(2 * TERMINAL));
-    assert_eq!(rt; world.settle(0), Ok(Settled::Settled { after: 0 }));
-    // A parcel has to pass both terminals.
-    assert!(rt; is_put(&world.step(&put(alloc, 0, a(0), b"a", &[])?), 0));
-    assert_eq!(rt; world.settle_limit(), Some(2 * TERMINAL + 12));
-    // It is sent, and waits to be posted; then it is in the mailbox, and in hand.
-    world.step(&Step::Turn(0));
-    assert_eq!(rt; world.settle_limit(), Some(2 * TERMINAL + 6 + 38));
-    world.step(&Step::Turn(0));
-    assert_eq!(rt; world.settle_limit(), Some(2 * TERMINAL + 6 + 37));
-    world.step(&Step::Turn(1));
-    assert_eq!(rt; world.settle_limit(), Some(2 * TERMINAL + 6 + 37));
-    world.step(&Step::Turn(1));
-    assert_eq!(rt; world.settle_limit(), Some(2 * TERMINAL + 6));
-    assert!(rt; settles_within_its_limit(&mut world));
-    assert!(rt; is_got(&world.step(&get(1, b(0))), 0, b"a", &[]));
-    assert_eq!(rt; world.settle_limit(), Some(2 * TERMINAL));
+    let mut world = World::new(rt.alloc(), 2, 4)?;
+    assert_eq!(rt; given(&mut world, rt.alloc(), &CALLS)?, CALLS.len());
     Ok(())
 }
 
