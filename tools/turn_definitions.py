@@ -1,33 +1,58 @@
 """Turns definitions together with the code that follows them, and shows which of them the law of worlds refuses, and at which lemma.
 
-    python3 tools/turn_definitions.py [NAME..]
+    python3 tools/turn_definitions.py [--below] [--room FOLDER] [NAME..] [NAME+NAME..]
 
 A wrong body is refused by its contract. Here the contract is wrong too, so that the crates below are proved as before; then the law over
-any order of acts must fail. Each turn is made on a copy of the repository, and takes some minutes.
+any order of acts must fail.
+
+Each turn is made on a copy of its own, of the crates that the law stands on. What `rt check` keeps in `out/` is copied with them, so that
+what a turn doesn't touch isn't proved again: prove the crates up to `ipcz_world` before. `--room` keeps the copies in a folder, from which
+the next try of the same turn goes on, each with what the law's check said in `crates/law.txt`. `--below` asks the crates below the law
+alone, for who writes a turn. Names joined by `+` are turned at once, which saves time where each fails at a lemma of its own. Two calls
+may run side by side.
 
 Where a proof says a definition a second time, the turn may change that text too. A turn counts as refused only where a lemma fails that
 says that the law holds: one whose statement ends in a group of the invariant or in a fact that is kept beside it, or one of the folders of
-the laws themselves. Else what fails only says a definition a second time, and is named as a copy of its text.
+the laws themselves, or one of the few that IsAwake rests on. Else what fails only says a definition a second time, and is named as a copy
+of its text.
 """
+import argparse
 import os
 import re
 import shutil
 import subprocess
 import sys
 import tempfile
+import time
 
 HERE = os.path.dirname(os.path.dirname(os.path.abspath(__file__)))
+# the law's crate and those that it stands on
+CRATES = ("ipcz_base", "ipcz_edge", "ipcz_word", "ipcz_seq", "ipcz_router", "ipcz_node", "ipcz_world")
 SPEC, CODE = "ipcz_router/specs/Bypass.antt", "ipcz_router/src/router/bypass.rt"
 EFFECTS, TURNING = "ipcz_router/specs/ActEffects.antt", "ipcz_router/src/router/turns.rt"
 MOVES, MOVING = "ipcz_router/specs/Calls.antt", "ipcz_router/src/router/calls.rt"
 QUEUES = "ipcz_router/specs/Acts.antt"
+TABLE = "ipcz_router/specs/ActTable.antt"
 ROUTER, ROUTING = "ipcz_router/specs/Router.antt", "ipcz_router/src/router.rt"
 ANSWERS, ANSWERING = "ipcz_world/specs/WordAnswers.antt", "ipcz_world/src/word_answers.rt"
 UPDATES = "ipcz_world/specs/Acts.antt"
 HANDS, HANDING = "ipcz_node/specs/Hands.antt", "ipcz_node/src/state/bypass.rt"
+FILING = "ipcz_node/src/directory/bypass.rt"
 # proofs that say a definition a second time
 ACTED, WORD_ACTS = "ipcz_world/proofs/acts/ActedWords.antt", "ipcz_world/proofs/acts/WordActs.antt"
 ROUTER_WAKERS, WORD_WAKERS = "ipcz_world/proofs/owed/RouterWakers.antt", "ipcz_world/proofs/owed/WordWakers.antt"
+STEP_WAKERS, GOING, AGREEING = (
+    "ipcz_world/proofs/owed/StepWakers.antt",
+    "ipcz_world/proofs/owed/Acting.antt",
+    "ipcz_world/proofs/runs/FlagsAgree.antt",
+)
+FLAGGING, WAKING = "ipcz_world/proofs/runs/Flagging.antt", "ipcz_world/proofs/acts/Waking.antt"
+STOPPING, HANDLING = "ipcz_world/proofs/hands/StopProxying.antt", "ipcz_world/proofs/hands/Handling.antt"
+ACT_RANKS = "ipcz_world/proofs/ranks/NodeActs.antt"
+HAND_RANKS, WORTHS = "ipcz_world/proofs/ranks/NodeHands.antt", "ipcz_world/proofs/ranks/RouterWorths.antt"
+CHOOSING, REFILING = "ipcz_node/proofs/Choosing.antt", "ipcz_node/proofs/Refiling.antt"
+PEERS = [f"ipcz_world/proofs/hands/BypassPeer{part}.antt" for part in ("", "Around", "Links", "Messages", "Numbers", "Records", "Stages")]
+SENT = "sent = messages.AcceptBypass o (opposite r.end.side) fresh r.out_queue.current"
 SENDING = "use Rattle.ipcz_router.specs.declared.sending.Sending.{Sending}"
 REACH = (SPEC, SENDING, f"use Rattle.ipcz_seq.specs.Queue.{{reach}}\n{SENDING}")
 
@@ -42,10 +67,12 @@ TURNS = {
         REACH,
         (SPEC, "fresh r.out_queue.current }", "fresh (reach r.out_queue) }"),
         (CODE, "            length: self.out_queue.current(),", "            length: self.out_queue.reach(),"),
+        *[(file, SENT, SENT.replace("r.out_queue.current", "(Rattle.ipcz_seq.specs.Queue.reach r.out_queue)")) for file in PEERS],
     ],
     "an_accept_names_the_side_of_its_own_router": [
         (SPEC, "AcceptBypass old (opposite r.end.side)", "AcceptBypass old r.end.side"),
         (CODE, "            side: self.end.side.opposite(),", "            side: self.end.side,"),
+        *[(file, SENT, SENT.replace("(opposite r.end.side)", "r.end.side")) for file in PEERS],
     ],
     "a_link_decays_up_to_the_reach": [
         REACH,
@@ -59,6 +86,11 @@ TURNS = {
             CODE,
             "            in_length: self.out_queue.current(),\n            out_length: length,",
             "            in_length: length,\n            out_length: self.out_queue.current(),",
+        ),
+        (
+            HAND_RANKS,
+            "(messages.StopProxying old (opposite side) r.out_queue.current length)",
+            "(messages.StopProxying old (opposite side) length r.out_queue.current)",
         ),
     ],
     "a_proxy_has_its_outward_lengths_swapped": [
@@ -77,6 +109,9 @@ TURNS = {
         (SPEC, "ProxyWillStop e.link (opposite e.side) in_length", "ProxyWillStop e.link e.side in_length"),
         (UPDATES, "ProxyWillStop inner.link (opposite inner.side) in_length", "ProxyWillStop inner.link inner.side in_length"),
         (CODE, "            side: link.side.opposite(),\n            in_length", "            side: link.side,\n            in_length"),
+        (STOPPING, "ProxyWillStop e.link (opposite e.side) in_length", "ProxyWillStop e.link e.side in_length"),
+        (HANDLING, "ProxyWillStop fit.1.link (opposite fit.1.side) in_length", "ProxyWillStop fit.1.link fit.1.side in_length"),
+        (HAND_RANKS, "ProxyWillStop e.link (opposite e.side) in_length", "ProxyWillStop e.link e.side in_length"),
     ],
     # who is looked at again
     "a_bypassed_router_is_not_flagged": [
@@ -94,6 +129,78 @@ TURNS = {
             "        self.outward.set_length_from(in_length);\n        let Some",
         ),
     ],
+    "an_item_from_outward_is_not_looked_at": [
+        (
+            MOVES,
+            "rouse (record r { in_queue = push_at r.in_queue n item; mark_seen = r.mark_seen || (is_terminal r && is_mark item) })",
+            "record r { in_queue = push_at r.in_queue n item; mark_seen = r.mark_seen || (is_terminal r && is_mark item); tried = false }",
+        ),
+        (MOVING, "&& is_mark);\n        self.rouse();\n", "&& is_mark);\n        self.tried = false;\n"),
+        (
+            WORTHS,
+            "c r true n item = omega (arith, more-rouse c r)",
+            "c r true n item = omega (arith, more-rouse c r, worth-most 1 r.flagged)",
+        ),
+    ],
+    "an_item_from_inward_is_not_looked_at": [
+        (
+            MOVES,
+            "accept_from_inward r n item = rouse (record r { out_queue = push_at r.out_queue n item })",
+            "accept_from_inward r n item = record r { out_queue = push_at r.out_queue n item; tried = false }",
+        ),
+        (
+            MOVING,
+            "self.out_queue.push(n, item)?;\n        self.rouse();\n",
+            "self.out_queue.push(n, item)?;\n        self.tried = false;\n",
+        ),
+        (
+            MOVING,
+            "Item::Parcel(parcel)) {\n            Ok(()) => Ok(n),\n",
+            "Item::Parcel(parcel)) {\n            Ok(()) => {\n                self.rouse();\n                Ok(n)\n            }\n",
+        ),
+        (
+            WORTHS,
+            "c r false n item = omega (arith, more-rouse c r)",
+            "c r false n item = omega (arith, more-rouse c r, worth-most 1 r.flagged)",
+        ),
+    ],
+    "a_router_that_is_told_its_length_is_not_flagged": [
+        (
+            SPEC,
+            "proxy_will_stop r in_length = rouse (record r { outward = set_length_from r.outward in_length })",
+            "proxy_will_stop r in_length = record r { outward = set_length_from r.outward in_length; tried = false }",
+        ),
+        (
+            CODE,
+            "self.outward.set_length_from(in_length);\n        self.rouse();\n        Ok(None)",
+            "self.outward.set_length_from(in_length);\n        self.tried = false;\n        Ok(None)",
+        ),
+        (
+            WORTHS,
+            "more-will_stop c r n = omega (arith, more-rouse c r)",
+            "more-will_stop c r n = omega (arith, more-rouse c r, worth-most 1 r.flagged)",
+        ),
+    ],
+    "an_unlock_unflags_its_router": [
+        (EFFECTS, "drop_lock r = record r { holds = false; flagged = true }", "drop_lock r = record r { holds = false; flagged = false }"),
+        (
+            TURNING,
+            "                self.holds = false;\n                self.flagged = true;\n",
+            "                self.holds = false;\n                self.flagged = false;\n",
+        ),
+    ],
+    "a_router_rests_at_any_time": [
+        (TABLE, "is_possible r act || (is_rest act && is_rest (next_act r))", "is_possible r act || is_rest act"),
+        (CHOOSING, "a ≡ acts.Rest → (is_rest a && is_rest a) ≡ true", "a ≡ acts.Rest → is_rest a ≡ true"),
+    ],
+    "a_router_rests_before_it_wakes": [
+        (TABLE, "Mark ∷ Wake ∷ Claim", "Mark ∷ Claim"),
+        (TURNING, "        if self.is_possible(RouterAct::Wake) {\n            return RouterAct::Wake;\n        }\n", ""),
+        (FLAGGING, "table 8 acts.Claim", "table 7 acts.Claim"),
+        (FLAGGING, "table 9 acts.Lock", "table 8 acts.Lock"),
+        (FLAGGING, "acts.Begin = first-none r table 10", "acts.Begin = first-none r table 9"),
+        (FLAGGING, "acts.Unlock = first-none r table 10", "acts.Unlock = first-none r table 9"),
+    ],
     # who may answer for a bypass
     "a_lock_names_the_node_across": [
         (ROUTER, "source_of r = option_map (λ e. e.other) (inward_edge r).primary", "source_of r = option_map (λ e. e.other) r.outward.primary"),
@@ -109,10 +216,19 @@ TURNS = {
         (ANSWERS, "tells_waiting x s = has x.waiting (opposite s)", "tells_waiting x s = false"),
         (ANSWERS, "◌+◌, Bool, nat_lt, if", "◌+◌, Bool, false, nat_lt, if"),
         (ANSWERING, "Answer::Marked(marked, other_waits(word, side)),", "Answer::Marked(marked, false),"),
+        (
+            "ipcz_world/proofs/acts/Marking.antt",
+            "(mark_side r (has (word_at w i).waiting (opposite r.end.side)))",
+            "(mark_side r false)",
+        ),
     ],
     "a_wake_stays_in_the_word": [
         (ANSWERS, "woken x s = wake x s", "woken x s = x"),
-        (WORD_WAKERS, "has-without_apart (word_at w i).waiting (opposite t) t (λ e. not_opposite t (sym e)) ∙ waits", "waits"),
+        (
+            WORD_WAKERS,
+            "has-without_apart (word_at w i).waiting (opposite t) t\n            (λ e. not_opposite t (sym e)) ∙ waits",
+            "waits",
+        ),
         (ANSWERING, "let woken = ipcz_word::take_waiting(word, side);", "let woken = word;"),
     ],
     "a_wait_is_only_answered": [
@@ -161,11 +277,50 @@ TURNS = {
         (EFFECTS, "message = Flush e.link (opposite e.side) }", "message = Flush e.link e.side }"),
         (UPDATES, "tells_wake e = messages.Flush e.link (opposite e.side)", "tells_wake e = messages.Flush e.link e.side"),
         (TURNING, "side: link.side.opposite(),", "side: link.side,"),
+        (WAKING, "k.node e.other e.link (opposite e.side) sent", "k.node e.other e.link e.side sent"),
+        (WAKING, "side = opposite e.side;", "side = e.side;"),
+        (ACT_RANKS, "(messages.Flush e.link (opposite e.side))", "(messages.Flush e.link e.side)"),
     ],
     "a_flush_wakes_nobody": [
         (HANDS, "on_found n (link_router n link side) (λ s r. with_router n s (flushed r))", "n"),
         (UPDATES, "free (set_router w k (flushed r)) from k.node", "free w from k.node"),
         (HANDING, "        if let Some(serial) = self.link_serial(link, side) {\n            self.routers.rouse(serial);\n        }\n", ""),
+    ],
+    "a_flush_lets_nobody_try_again": [
+        (HANDS, "flushed r = rouse r", "flushed r = record r { flagged = true }"),
+        (
+            ROUTING,
+            "    // Takes the current item of the out queue out",
+            "    /// Has it looked at again.\n    pub fn flag(&mut self)\n"
+            "        ensures router { self.new.router ≡ record self.old.router { flagged = true } }\n"
+            "        ensures room { KeepsRoom self.old self.new }\n    {\n        self.flagged = true;\n    }\n\n"
+            "    // Takes the current item of the out queue out",
+        ),
+        (FILING, "put_filed self.old.filed serial (rouse r)", "put_filed self.old.filed serial (record r { flagged = true })"),
+        (FILING, "        router.rouse();\n", "        router.flag();\n"),
+        ("ipcz_node/proofs/directory/Directory/rouse/Answers.antt", "let w = c.rouse.new", "let w = c.flag.new"),
+        ("ipcz_node/proofs/directory/Directory/rouse/Answers.antt", "(sym c.rouse.ensures", "(sym c.flag.ensures"),
+        ("ipcz_node/proofs/directory/Directory/rouse/Answers.antt", "ends_inside c.rouse.ensures", "ends_inside c.flag.ensures"),
+        (REFILING, "StaysFiled r (rouse r)", "StaysFiled r (record r { flagged = true })"),
+        (STEP_WAKERS, "with_router n s (rouse r)", "with_router n s (flushed r)"),
+        (STEP_WAKERS, "same_Some (rouse f.0.router)", "same_Some (flushed f.0.router)"),
+        (
+            GOING,
+            "(flushed f.router) (found_tells n _ f e).0\n          (roused f.router _ refl refl refl refl refl refl refl refl))",
+            "(flushed f.router) (found_tells n _ f e).0\n          (left-alone f.router _ refl refl (λ h. h) refl refl refl refl refl))",
+        ),
+        (
+            AGREEING,
+            "(rouse f.router) law (agreed-roused (law f.serial f.router (found_tells n _ f h).0))",
+            "(flushed f.router) law (law f.serial f.router (found_tells n _ f h).0)",
+        ),
+        (
+            HAND_RANKS,
+            "(messages.Flush link side)) ≤ node_worth c n + 2\nunfolding handle on_found",
+            "(messages.Flush link side)) ≤ node_worth c n + 2\nunfolding handle on_found router_worth",
+        ),
+        (HAND_RANKS, "with_router n s (rouse r)", "with_router n s (record r { flagged = true })"),
+        (HAND_RANKS, "(rouse f.router) 2 e (more-rouse c f.router)", "(record f.router { flagged = true }) 2 e (omega arith)"),
     ],
     "a_message_lets_nobody_try_again": [
         (ROUTER, "rouse r = record r { flagged = true; tried = false }", "rouse r = record r { flagged = true }"),
@@ -186,6 +341,14 @@ TURNS = {
             "                self.holds = false;\n                self.flagged = true;\n",
             "                self.holds = false;\n                self.flagged = true;\n                self.tried = true;\n",
         ),
+    ],
+    "a_claim_without_a_word_has_tried": [
+        (EFFECTS, "run_dry r = record r { dry = true }", "run_dry r = record r { tried = true }"),
+        (TURNING, "                self.dry = true;\n", "                self.tried = true;\n"),
+    ],
+    "a_dry_router_has_tried": [
+        (EFFECTS, "run_dry r = record r { dry = true }", "run_dry r = record r { dry = true; tried = true }"),
+        (TURNING, "                self.dry = true;\n", "                self.dry = true;\n                self.tried = true;\n"),
     ],
     # what an act uses up
     "a_wake_stays_owed": [
@@ -223,14 +386,18 @@ TURNS = {
 # stays when the side is woken is never read again
 HARMLESS = {"a_wake_stays_in_the_word"}
 
-# the groups of the invariant, and the facts that are kept beside it: what a lemma of the law comes to
+# what a lemma of the law comes to: the groups of the invariant, what an act of a bypass owes to Positions and what Told weighs, and the
+# facts that are kept beside the invariant
 GROUPS = """
 Inv OpenInv Counts Ordered Shape Links Positions Stands Words Spares BypassRecords Stages Told Moves Terminals EndPlaces
 BooksKept Items Order ProxyNumbers FreshNumbers Conserved HeldOnce HasNoStrays AreFlagged IsAwake AreAwake IsAgreed
-AreAgreed FlagsAgree AreSourced Begins HasWaker HaveWakers HaveWakersOn IsRanked IsOwing IsBounded
+AreAgreed FlagsAgree LengthsOwe ProxyOwes control_weight AreSourced Begins HasWaker HaveWakers HaveWakersOn IsRanked
+IsOwing IsBounded
 """.split()
 # and where each lemma is one
 FOLDERS = ("owed/", "lawful/", "ranks/")
+# what IsAwake rests on: an act but rest leaves its router flagged, an item that comes flags it, where rest comes next no act is possible
+AWAKE = {"apply-flagged", "accept-flagged", "rest-idle"}
 
 
 def check(folder, *more):
@@ -239,19 +406,30 @@ def check(folder, *more):
     return done.returncode == 0, done.stdout.decode(errors="replace")
 
 
+def copy(room):
+    """Copies the crates to a folder, and what is kept of their proofs where it has none, and returns where they are."""
+    os.makedirs(f"{room}/crates", exist_ok=True)
+    with open(f"{HERE}/crates.txt") as file, open(f"{room}/crates.txt", "w") as cut:
+        cut.writelines(line for line in file if line.split(":")[0] in CRATES)
+    for crate in CRATES:
+        kept = f"{room}/crates/{crate}/out"
+        ignored = ("out",) if os.path.isdir(kept) else ()
+        shutil.copytree(
+            f"{HERE}/crates/{crate}", f"{room}/crates/{crate}", ignore=shutil.ignore_patterns(*ignored), dirs_exist_ok=True
+        )
+    return f"{room}/crates"
+
+
 def turn(crates, edits):
-    """Makes the edits and returns what the files held before."""
-    before = {}
+    """Makes the edits."""
     for name, old, new in edits:
         path = f"{crates}/{name}"
         with open(path) as file:
             text = file.read()
         if text.count(old) != 1:
             sys.exit(f"{name} has {text.count(old)} times: {old}")
-        before.setdefault(path, text)
         with open(path, "w") as file:
             file.write(text.replace(old, new))
-    return before
 
 
 def conclusion(path, line, lemma):
@@ -267,29 +445,37 @@ def conclusion(path, line, lemma):
         told.append(lines[at])
         at += 1
     last = " ".join(told).split(" : ", 1)[1].rsplit("→", 1)[-1]
-    return re.match(r"\W*(\w*)", last)[1]
+    return re.match(r"\W*(?:\w+\.)*(\w*)", last)[1]
 
 
 def failures(crates, text):
     """Returns the lemmas that fail, each with its file, and whether it is one of the law; those that only depend on others aren't named."""
     found = []
     for name, line, lemma in re.findall(r"\./proofs/(\S+\.antt):(\d+):\d+: error: `([^`]+)`", text):
-        is_law = name.startswith(FOLDERS) or conclusion(f"{crates}/ipcz_world/proofs/{name}", int(line), lemma) in GROUPS
+        ends_in = conclusion(f"{crates}/ipcz_world/proofs/{name}", int(line), lemma)
+        is_law = name.startswith(FOLDERS) or lemma in AWAKE or ends_in in GROUPS
         found.append((is_law, f"`{lemma}` of {name[:-5]}"))
     return list(dict.fromkeys(found))
 
 
-def verdict(crates, edits):
+def verdict(crates, edits, only_below):
     """Returns what became of the crates below and of the law."""
     files = " ".join(name for name, _, _ in edits)
     below = [crate for crate in ("ipcz_router", "ipcz_node") if f"{crate}/" in files or "ipcz_router/" in files]
     for crate in below:
-        if not check(f"{crates}/{crate}")[0]:
-            return f"NOT TRIED: {crate} is refused before the law"
+        done, text = check(f"{crates}/{crate}")
+        if not done:
+            return f"NOT TRIED: {crate} is refused before the law\n{text if only_below else ''}"
     world = f"{crates}/ipcz_world"
-    if ANSWERING in files and not check(world, "--only", "answer_act")[0]:
-        return "NOT TRIED: the code of the link words doesn't follow"
+    if ANSWERING in files:
+        done, text = check(world, "--only", "answer_act")
+        if not done:
+            return f"NOT TRIED: the code of the link words doesn't follow\n{text if only_below else ''}"
+    if only_below:
+        return "the crates below follow"
     done, text = check(world)
+    with open(f"{crates}/law.txt", "w") as file:
+        file.write(text)
     if done:
         return "NOT REFUSED"
     found = failures(crates, text)
@@ -300,20 +486,31 @@ def verdict(crates, edits):
     return f"NOT REFUSED: only a copy of its text fails, {', '.join(copies) or 'in no lemma'}"
 
 
+def tried(name, room, only_below):
+    """Makes a turn in a folder, or several at once, and returns what became of it."""
+    edits = [edit for part in name.split("+") for edit in TURNS[part]]
+    crates = copy(room)
+    turn(crates, edits)
+    return verdict(crates, edits, only_below)
+
+
 def main():
-    names = sys.argv[1:] or list(TURNS)
-    with tempfile.TemporaryDirectory() as room:
-        shutil.copytree(HERE, f"{room}/copy", symlinks=True, ignore=shutil.ignore_patterns(".git"))
-        crates = f"{room}/copy/crates"
-        wrong = 0
-        for name in names:
-            before = turn(crates, TURNS[name])
-            said = verdict(crates, TURNS[name])
-            wrong += said.startswith("refused") == (name in HARMLESS)
-            print(f"{name}: {said}", flush=True)
-            for path, text in before.items():
-                with open(path, "w") as file:
-                    file.write(text)
+    parser = argparse.ArgumentParser()
+    parser.add_argument("--below", action="store_true")
+    parser.add_argument("--room")
+    parser.add_argument("names", nargs="*")
+    asked = parser.parse_args()
+    wrong = 0
+    for name in asked.names or TURNS:
+        begun = time.monotonic()
+        if asked.room:
+            said = tried(name, f"{asked.room}/{name}", asked.below)
+        else:
+            with tempfile.TemporaryDirectory() as room:
+                said = tried(name, room, asked.below)
+        wanted = "the crates below" if asked.below else "NOT REFUSED" if name in HARMLESS else "refused"
+        wrong += not said.startswith(wanted)
+        print(f"{name}, {(time.monotonic() - begun) / 60:.1f} minutes: {said}", flush=True)
     sys.exit(1 if wrong else 0)
 
 
