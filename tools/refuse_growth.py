@@ -4,11 +4,18 @@
     python3 tools/refuse_growth.py PROGRAM FILE.rt ..     each script of a table of cases; prints what is wrong alone
     python3 tools/refuse_growth.py PROGRAM FILE.json ..   the same of one script, of which a bypass must grow where it begins
     python3 tools/refuse_growth.py --threads PROGRAM ..   the same with the argument `threads`; of a table, the scripts that are marked for it
+    python3 tools/refuse_growth.py --retries PROGRAM      of `ipcz_faults`, which makes each refused call again; prints what is wrong alone
+    python3 tools/refuse_growth.py --counts PROGRAM       the same, and how many growths each of its lines told of
 
 Each run must end with status 3 and write nothing; or, where the growth was that of a bypass's first message, end as ever and write
 the same lines but for two more: after the lock it is given back and got again. Or it ends as ever where the growth could be done
 without.
+
+A run of `ipcz_faults` must end as ever and write the same lines, but that just one of them tells of the growth: `, refused 1` of a
+call that left all as it was, `, unlocked 1` of a lock that was given back and got again, or `, refused beside 1` of what stands
+beside the calls. Each line must tell of calls that were refused, and some line of a lock that was given back.
 """
+import collections
 import os
 import re
 import subprocess
@@ -18,6 +25,8 @@ import tempfile
 HERE = os.path.dirname(os.path.abspath(__file__))
 # The line of a lock that is given back, with its node, router, link and word.
 UNLOCK = re.compile(r"(n\d): (r\d+) unlock (C\d+) (\d+)\n")
+# How a line of `ipcz_faults` tells of one refused growth.
+TELLINGS = ", refused 1", ", unlocked 1", ", refused beside 1"
 
 
 def run(program, script, library, **names):
@@ -59,15 +68,50 @@ def ends_of(program, script, library, count):
     return growths, ends
 
 
+def told_by(lines, written):
+    """Returns the place of the one line that tells of a refused growth, and what it tells; none where the lines differ otherwise."""
+    if len(written) != len(lines):
+        return None
+    others = [place for place, line in enumerate(lines) if written[place] != line]
+    if len(others) != 1:
+        return None
+    [place] = others
+    telling = written[place].removeprefix(lines[place])
+    return (place, telling) if telling in TELLINGS else None
+
+
+def try_retries(program, library, count, tells_counts):
+    """Runs the program that makes refused calls again, and stops at a run that is wrong."""
+    status, text = run(program, b"", library, GROWTHS=count)
+    lines, growths = text.decode().splitlines(), int(open(count).read())
+    if status or not lines:
+        sys.exit(f"status {status} without a refused growth: {text.decode()}")
+    told = collections.Counter()
+    for number in range(1, growths + 1):
+        got, written = run(program, b"", library, REFUSE_GROWTH=str(number))
+        telling = told_by(lines, written.decode().splitlines())
+        if got or not telling:
+            sys.exit(f"growth {number} of {growths}: status {got}\n{written.decode()}")
+        told[telling] += 1
+    for place, line in enumerate(lines):
+        if not told[place, ", refused 1"]:
+            sys.exit(f"no call was refused in {line}")
+        if tells_counts:
+            print(line + "".join(f"{telling[:-2]} {told[place, telling]}" for telling in TELLINGS if told[place, telling]))
+    if not any(told[place, ", unlocked 1"] for place in range(len(lines))):
+        sys.exit("no bypass grew where it began")
+
+
 def main():
     words = sys.argv[1:]
-    on_threads = words[0] == "--threads"
-    if on_threads:
-        words = words[1:]
+    kind = words.pop(0) if words[0].startswith("--") else None
+    on_threads = kind == "--threads"
     program, tables = [words[0], *(["threads"] if on_threads else [])], words[1:]
     with tempfile.TemporaryDirectory() as room:
         library, count = f"{room}/refuse_growth.so", f"{room}/count"
         subprocess.run(["cc", "-O1", "-shared", "-fPIC", "-o", library, f"{HERE}/refuse_growth.c", "-ldl"], check=True)
+        if kind in ("--retries", "--counts"):
+            return try_retries(program, library, count, kind == "--counts")
         for table in tables:
             begins, text = table.endswith(".json"), open(table).read()
             cases = [case for case in text.split("Case {") if not on_threads or "on_threads: true" in case]

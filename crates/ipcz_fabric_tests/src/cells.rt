@@ -3,6 +3,7 @@
 //! Nothing is promised of what stands here: a test's own proof would else work out the whole cell at each call. So a test is a list of calls.
 mod bypass;
 mod parcel;
+mod words;
 
 ghost use Rattle.std.specs.Prelude.{◌≡◌};
 
@@ -35,6 +36,10 @@ const B1: End = End {
 enum Call {
     /// Opens a pair, which has these ends.
     Open(End, End),
+    /// Opens pairs, which have the numbers from the first to the second.
+    OpenAll(u32, u32),
+    /// Opens a pair, which is refused.
+    OpenRefused(Refusal),
     /// Puts these bytes and ends at an end, under this number.
     Put(End, &'static [u8], &'static [End], u64),
     /// Takes turns, which do this as their values print.
@@ -43,6 +48,8 @@ enum Call {
     Get(End, &'static [u8], &'static [End], u64),
     /// Closes an end, whose mark has this number.
     Close(End, u64),
+    /// Loads how many link words were claimed.
+    Claimed(u32),
 }
 
 // A list of these ends.
@@ -50,6 +57,22 @@ fn list(alloc: Global, ends: &[End]) -> Result<Ends, AllocError> {
     let mut list = Vec::new(alloc);
     list.extend_from_slice(ends)?;
     Ok(Sequence::from_vec(list))
+}
+
+// Whether opens give the pairs from one number to another.
+fn opens_all<F: FabricName>(
+    fabric: &Fabric<F>,
+    cell: &mut NodeCell<F>,
+    first: u32,
+    last: u32,
+) -> Result<bool, Refusal> {
+    for pair in first..=last {
+        let (a, b) = cell.open_pair(fabric)?;
+        if a.pair != pair || a.side != Side::A || b != a.opposite() {
+            return Ok(false);
+        }
+    }
+    Ok(true)
 }
 
 // Whether a turn does what its value prints.
@@ -111,6 +134,8 @@ fn gives<F: FabricName>(
             let (a, b) = cell.open_pair(fabric)?;
             Ok(a == first && b == second)
         }
+        Call::OpenAll(first, last) => opens_all(fabric, cell, first, last),
+        Call::OpenRefused(why) => Ok(cell.open_pair(fabric) == Err(why)),
         Call::Put(at, data, ends, number) => {
             Ok(puts(fabric, cell, alloc, at, data, ends, number)?)
         }
@@ -120,6 +145,7 @@ fn gives<F: FabricName>(
             Ok(n == number && parcel.bytes.as_slice() == data && parcel.ends.as_slice() == ends)
         }
         Call::Close(at, number) => Ok(cell.close(fabric, at)? == number),
+        Call::Claimed(count) => Ok(cell.claimed(fabric) == count),
     }
 }
 
