@@ -257,9 +257,7 @@ def compare_pairs(program):
 
 BENCH = os.path.join(os.path.dirname(os.path.abspath(__file__)), "../crates/ipcz_bench/out/ipcz_bench")
 MEASURES = ["one_node", "two_nodes", "long_parcels", "last_pair", "each_pair", "waiting_1", "waiting_10", "waiting_100",
-            "waiting_1000", "act", "moves", "cells", "hub"]
-# these are of bytes, or of threads that wait for each other: their instructions say nothing
-UNCOUNTED = ["fresh_pairs", "used_pairs", "cells_on_threads", "hub_on_threads", "round_trips"]
+            "waiting_1000", "act", "moves", "fresh_pairs", "used_pairs"]
 
 
 def measured(name):
@@ -267,8 +265,8 @@ def measured(name):
 
 
 def show_library():
-    for name in MEASURES + UNCOUNTED:
-        print("%-16s %8d" % (name, min(measured(name) for _ in range(5))), flush=True)
+    for name in MEASURES:
+        print("%-14s %8d" % (name, min(measured(name) for _ in range(5))), flush=True)
 
 
 def instructions(name, rounds):
@@ -279,8 +277,8 @@ def instructions(name, rounds):
 
 
 def show_instructions():
-    for name in MEASURES:
-        print("%-16s %8d" % (name, round((instructions(name, 12000) - instructions(name, 2000)) / 10000)), flush=True)
+    for name in MEASURES[:-2]:
+        print("%-14s %8d" % (name, round((instructions(name, 12000) - instructions(name, 2000)) / 10000)), flush=True)
 
 
 def nested(size):

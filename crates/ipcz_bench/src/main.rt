@@ -1,10 +1,7 @@
 //! `ipcz_bench` prints what the library takes: one number for the measure that its argument names.
 #![tactic(auto)]
 
-mod cells;
-mod clock;
 mod fault;
-mod hubs;
 mod measures;
 mod trial;
 
@@ -12,13 +9,9 @@ use fault::Fault;
 use measures::measure;
 use std::env;
 use std::process::ExitCode;
-use std::sync::Wait;
-use std::thread::Threads;
 
 const USAGE: &str = "usage: ipcz_bench MEASURE [ROUNDS]
 nanoseconds a parcel: one_node two_nodes long_parcels last_pair each_pair waiting_1 waiting_10 waiting_100 waiting_1000
-nanoseconds a parcel between two nodes, by cells or a hub, on one thread and on two: cells hub cells_on_threads hub_on_threads
-nanoseconds to and fro between two threads: round_trips
 nanoseconds an act: act
 nanoseconds a move, with ten parcels after it: moves
 bytes a pair: fresh_pairs used_pairs";
@@ -27,7 +20,7 @@ bytes a pair: fresh_pairs used_pairs";
 const ROUNDS: u64 = 100_000;
 
 // Reads the arguments and takes the measure.
-fn number<T: Threads + Wait + Sync>(rt: &HostRuntime, threads: &T) -> Result<u64, Fault> {
+fn number(rt: &HostRuntime) -> Result<u64, Fault> {
     let mut arguments = env::args(rt)?;
     let (Some(_), Some(name)) = (arguments.next(), arguments.next()) else {
         return Err(Fault::Usage);
@@ -36,11 +29,11 @@ fn number<T: Threads + Wait + Sync>(rt: &HostRuntime, threads: &T) -> Result<u64
         Some(text) => text.as_str().parse::<u64>().map_err(|_| Fault::Usage)?,
         None => ROUNDS,
     };
-    measure(rt, threads, name.as_str(), rounds)
+    measure(rt, name.as_str(), rounds)
 }
 
 fn main(rt: HostRuntime) -> ExitCode {
-    match number(&rt, &rt) {
+    match number(&rt) {
         Ok(number) => match println!(rt; "{number}") {
             Ok(()) => ExitCode::from(0),
             Err(_) => ExitCode::from(1),

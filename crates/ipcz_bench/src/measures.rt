@@ -1,13 +1,8 @@
 //! What each measure does, and how long it takes.
-use crate::cells::{between_threads, by_cells, round_trips};
-use crate::clock::share;
 use crate::fault::Fault;
-use crate::hubs::{by_a_hub, on_a_hub};
 use crate::trial::{Portal, first_pair, get_all, open, open_all, pass, put, put_all, settle};
 use ipcz_world::World;
 use std::fs;
-use std::sync::Wait;
-use std::thread::Threads;
 use std::time::Instant;
 
 /// The bytes of a parcel, but for the long ones.
@@ -19,13 +14,8 @@ const PAIRS: u32 = 1000;
 /// How many moves a world makes: each takes a link word, of 4,096.
 const MOVES: u64 = 4000;
 
-/// Takes a measure of so many rounds, with these handles for threads and locks, and gives nanoseconds or bytes: the rounded-down share of one parcel, act, move or pair.
-pub fn measure<T: Threads + Wait + Sync>(
-    rt: &HostRuntime,
-    threads: &T,
-    name: &str,
-    rounds: u64,
-) -> Result<u64, Fault> {
+/// Takes a measure of so many rounds, and gives nanoseconds or bytes: the rounded-down share of one parcel, act, move or pair.
+pub fn measure(rt: &HostRuntime, name: &str, rounds: u64) -> Result<u64, Fault> {
     match name {
         "one_node" => on_one_node(rt, 1, rounds),
         "last_pair" => on_one_node(rt, 4 * PAIRS, rounds),
@@ -38,13 +28,17 @@ pub fn measure<T: Threads + Wait + Sync>(
         "waiting_1000" => between_two_nodes(rt, SHORT, 1000, rounds),
         "act" => acts_alone(rt, rounds),
         "moves" => moves(rt, rounds),
-        "cells" => by_cells(rt, rounds),
-        "hub" => by_a_hub(rt, threads, rounds),
-        "cells_on_threads" => between_threads(rt, threads, rounds),
-        "hub_on_threads" => on_a_hub(rt, threads, rounds),
-        "round_trips" => round_trips(rt, threads, rounds),
         "fresh_pairs" => bytes_of_pairs(rt, 0),
         "used_pairs" => bytes_of_pairs(rt, 1),
+        _ => Err(Fault::Usage),
+    }
+}
+
+// The share of one in so many nanoseconds.
+fn share(rt: &HostRuntime, start: Instant, count: u64) -> Result<u64, Fault> {
+    let spent = start.elapsed(rt)?.as_nanos();
+    match spent.checked_div(count as u128) {
+        Some(each) if each <= u64::MAX as u128 => Ok(each as u64),
         _ => Err(Fault::Usage),
     }
 }
