@@ -2,6 +2,7 @@
 mod bypass;
 mod direct;
 mod limits;
+mod words;
 
 use ipcz_base::{End, Refusal, Sequence, Side};
 use ipcz_node::Happened;
