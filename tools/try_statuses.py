@@ -17,7 +17,7 @@ DONE = (PAIR % 100).encode()
 AT_ITS_LIMIT = (PAIR % 1).encode()
 PUT = b"open x y ok\nput x 0\n"
 RUN_USAGE = b"usage: ipcz_run [threads]\n"
-DRAW_USAGE = b"usage: ipcz_draw\n"
+DRAW_USAGE = b"usage: ipcz_draw [FROM TO]\n"
 
 
 class Folder:
@@ -62,6 +62,27 @@ RUNS = [
     ("ipcz_draw", [], b"", bytes, 0, None),
     ("ipcz_draw", [], b"words\nsettle\n", bytes, 2, b"refused line 2: not a line of a transcript\n"),
     ("ipcz_draw", ["run.svg"], PUT, bytes, 2, DRAW_USAGE),
+    ("ipcz_draw", ["1", "2"], PUT, bytes, 0, None),
+    ("ipcz_draw", ["2", "2"], PUT, bytes, 0, None),
+    ("ipcz_draw", ["2", "9"], PUT, bytes, 0, None),
+    ("ipcz_draw", ["3", "9"], PUT, bytes, 0, None),
+    ("ipcz_draw", ["1", "18446744073709551615"], PUT, bytes, 0, None),
+    ("ipcz_draw", ["1", "18446744073709551616"], PUT, bytes, 2, DRAW_USAGE),
+    ("ipcz_draw", ["2", "1"], PUT, bytes, 2, DRAW_USAGE),
+    ("ipcz_draw", ["0", "1"], PUT, bytes, 2, DRAW_USAGE),
+    ("ipcz_draw", ["1"], PUT, bytes, 2, DRAW_USAGE),
+    ("ipcz_draw", ["1", "2", "3"], PUT, bytes, 2, DRAW_USAGE),
+    ("ipcz_draw", ["01", "2"], PUT, bytes, 2, DRAW_USAGE),
+    ("ipcz_draw", ["+1", "2"], PUT, bytes, 2, DRAW_USAGE),
+    ("ipcz_draw", ["1", "-2"], PUT, bytes, 2, DRAW_USAGE),
+    ("ipcz_draw", ["1", "end"], PUT, bytes, 2, DRAW_USAGE),
+    ("ipcz_draw", ["", ""], PUT, bytes, 2, DRAW_USAGE),
+    ("ipcz_draw", ["1", b"\xff"], PUT, bytes, 2, DRAW_USAGE),
+    ("ipcz_draw", ["1", "2"], b"words\nsettle\nfly\n", bytes, 2, b"refused line 2: not a line of a transcript\n"),
+    ("ipcz_draw", ["2", "1"], Folder, bytes, 2, DRAW_USAGE),
+    ("ipcz_draw", ["1", "2"], Folder, bytes, 1, b""),
+    ("ipcz_draw", ["1", "2"], PUT, Full, 1, b""),
+    ("ipcz_draw", ["1"], PUT, Full, 1, b""),
     ("ipcz_draw", [], Folder, bytes, 1, b""),
     ("ipcz_draw", [], PUT, Full, 1, b""),
 ]

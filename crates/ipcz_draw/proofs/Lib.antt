@@ -1,3 +1,4 @@
 pub mod Following
 pub mod KnownBytes
+pub mod Seeing
 pub mod Sizing

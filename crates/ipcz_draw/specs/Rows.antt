@@ -57,7 +57,8 @@ Follow read from top [] to bottom = (to ≡ from) × (bottom ≡ top)
 Follow read from top (p ∷ ps) to bottom =
     (p.first ≡ from) × (p.top ≡ top) × IsPlace read p × Follow read (from + p.count) (top + 18 * p.units) ps to bottom
 
--- a picture of these lines: a document with a row for each of them, or for a run of idle ones, in order, the rows one under the other
-abbrev pub IsPicture : List ReadLine → List ℕ → Type 0
-IsPicture read text =
-    (places : List Place) × (bottom : ℕ) × Follow read 0 136 places (length read) bottom × IsDocument text (map (row_at read) places)
+-- a picture of these lines from one on: a document with a row for each of them, or for a run of idle ones, in order, the rows one under
+-- the other
+abbrev pub IsPicture : List ReadLine → ℕ → List ℕ → Type 0
+IsPicture read from text =
+    (places : List Place) × (bottom : ℕ) × Follow read from 136 places (length read) bottom × IsDocument text (map (row_at read) places)

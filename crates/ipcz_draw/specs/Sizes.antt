@@ -8,7 +8,7 @@ use Rattle.ipcz_draw.specs.declared.rows.Place.{Place}
 
 -- the marks of a line: a word's name and cells for each value of a line of words
 abbrev pub most_marks : Line → ℕ
-most_marks (lines.Words values) = 1800 * (length values.now + 1)
+most_marks (lines.Words values) = 1890 * (length values.now + 1)
 most_marks other = 3000
 
 -- the row of a line, with the whole line as its title

@@ -1,9 +1,9 @@
 //! The messages: from the router that made one to the wall of its node, between the walls, and from the wall to the router
-//! that it was handed to.
+//! that it was handed to. Of one that is under way where the rows begin or end, the part within them is drawn.
 
 ghost use Rattle.std.specs.Prelude.{◌*◌, ◌∷◌, List, length};
 ghost use Rattle.ipcz_markup.specs.declared.writer.Tag.{Tag};
-ghost use Rattle.ipcz_markup.specs.Markup.{Grows, InText, InValue, Keeps, Row, Stands};
+ghost use Rattle.ipcz_markup.specs.Markup.{Grows, InText, InValue, Keeps, KeepsValue, Row, Stands};
 
 use crate::arrow_title::{draw_arrow_label, draw_arrow_title, look_of, stroke_of};
 use crate::rows::UNIT;
@@ -71,6 +71,26 @@ fn draw_head(out: &mut Writer, x: u64, y: u64, from_right: bool, look: Look)
     out.end_path();
 }
 
+// A step along a row, where a line has one.
+fn step_along(out: &mut Writer, scene: &Scene, line: usize, to: u64)
+    ensures keeps { KeepsValue out.old out.new }
+    ensures few { Grows out.old out.new 26 }
+{
+    if scene.shows(line) {
+        out.step(b'H', to);
+    }
+}
+
+// Where a path begins and goes along the row of a line; where that has no row, the path begins at the end of its step.
+fn begin_along(out: &mut Writer, scene: &Scene, line: usize, from: u64, to: u64)
+    ensures keeps { KeepsValue out.old out.new }
+    ensures few { Grows out.old out.new 78 }
+{
+    let begin = if scene.shows(line) { from } else { to };
+    out.point(b'M', begin, scene.middle_of(line));
+    step_along(out, scene, line, to);
+}
+
 // From the act that made a message to the wall, where it is posted.
 fn draw_outbox(
     out: &mut Writer,
@@ -78,7 +98,7 @@ fn draw_outbox(
     message: &Message,
     slot: usize,
     wall: Wall,
-    posted: u64,
+    posted: usize,
 )
     ensures keeps { Keeps out.old out.new }
     ensures few { Grows out.old out.new 500 }
@@ -87,13 +107,12 @@ fn draw_outbox(
     out.begin_arrow(look_of(message), Stroke::Thin);
     match (message.made, message.maker) {
         (Some(line), Some(maker)) => {
-            out.point(b'M', scene.across_of(maker), scene.middle_of(line));
-            out.step(b'H', wall.inside(wait));
-            out.step(b'V', posted);
+            begin_along(out, scene, line, scene.across_of(maker), wall.inside(wait));
+            out.step(b'V', scene.middle_of(posted));
         }
-        _ => out.point(b'M', wall.inside(6), posted),
+        _ => out.point(b'M', wall.inside(6), scene.middle_of(posted)),
     }
-    out.step(b'H', wall.across);
+    step_along(out, scene, posted, wall.across);
     out.end_path();
 }
 
@@ -115,49 +134,58 @@ fn draw_way(
     scene: &Scene,
     message: &Message,
     from: Wall,
-    posted: u64,
+    posted: usize,
     to: Wall,
-    looked: u64,
+    looked: usize,
 )
     ensures keeps { Keeps out.old out.new }
     ensures few { Grows out.old out.new 1500 }
 {
     out.begin_arrow(look_of(message), stroke_of(message));
-    out.point(b'M', from.across, posted);
     if message.from == Some(message.to) {
-        out.step(b'H', from.outside(12));
-        out.step(b'V', looked);
-        out.step(b'H', from.across);
+        begin_along(out, scene, posted, from.across, from.outside(12));
+        out.step(b'V', scene.middle_of(looked));
+        step_along(out, scene, looked, from.across);
     } else {
-        out.point(b'L', to.across, looked);
+        out.point(b'M', from.across, scene.middle_of(posted));
+        out.point(b'L', to.across, scene.middle_of(looked));
     }
     end_titled(out, scene, message);
 }
 
+// The line at which a message is lost from sight: a settle, or the one behind the last.
+fn lost_at(scene: &Scene, message: &Message) -> usize {
+    match message.lost {
+        Some(line) => line,
+        None => scene.lines.len(),
+    }
+}
+
+// How far down a message is lost from sight: above a settle, or at the end.
+fn end_of_sight(scene: &Scene, message: &Message) -> u64 {
+    let line = lost_at(scene, message);
+    let top = scene.top_of(line);
+    if scene.shows(line) {
+        top.saturating_add(4)
+    } else {
+        top
+    }
+}
+
 // From a wall to where a message is lost from sight.
-fn draw_lost(out: &mut Writer, scene: &Scene, message: &Message, from: Wall, posted: u64, end: u64)
+fn draw_lost(out: &mut Writer, scene: &Scene, message: &Message, from: Wall, posted: usize)
     ensures keeps { Keeps out.old out.new }
     ensures few { Grows out.old out.new 1500 }
 {
     out.begin_arrow(look_of(message), Stroke::Dotted);
-    out.point(b'M', from.across, posted);
-    out.point(b'L', from.outside(12), end);
+    out.point(b'M', from.across, scene.middle_of(posted));
+    out.point(b'L', from.outside(12), end_of_sight(scene, message));
     end_titled(out, scene, message);
 }
 
-// From the wall to the router that a message was handed to.
-fn draw_hand(
-    out: &mut Writer,
-    scene: &Scene,
-    message: &Message,
-    wall: Wall,
-    looked: u64,
-    handled: u64,
-)
-    ensures keeps { Keeps out.old out.new }
-    ensures few { Grows out.old out.new 1000 }
-{
-    let tip = match message.receiver {
+// Where the arrow of a message ends at the router that it was handed to.
+fn tip_of(scene: &Scene, message: &Message, wall: Wall) -> u64 {
+    match message.receiver {
         Some(router) => {
             let across = scene.across_of(router);
             if wall.is_right {
@@ -167,52 +195,107 @@ fn draw_hand(
             }
         }
         None => wall.inside(14),
-    };
+    }
+}
+
+// From the wall to the router that a message was handed to.
+fn draw_hand(
+    out: &mut Writer,
+    scene: &Scene,
+    message: &Message,
+    wall: Wall,
+    looked: usize,
+    handled: usize,
+)
+    ensures keeps { Keeps out.old out.new }
+    ensures few { Grows out.old out.new 1000 }
+{
+    let tip = tip_of(scene, message, wall);
+    let height = scene.middle_of(handled);
     out.begin_arrow(look_of(message), stroke_of(message));
-    out.point(b'M', wall.across, looked);
-    out.step(b'H', wall.inside(12));
-    out.step(b'V', handled);
-    out.step(b'H', tip);
+    begin_along(out, scene, looked, wall.across, wall.inside(12));
+    out.step(b'V', height);
+    step_along(out, scene, handled, tip);
     out.end_path();
-    draw_head(out, tip, handled, wall.is_right, look_of(message));
+    if scene.shows(handled) {
+        draw_head(out, tip, height, wall.is_right, look_of(message));
+    }
 }
 
 // A message in a node's hand that isn't seen handed on.
-fn draw_held(out: &mut Writer, message: &Message, wall: Wall, looked: u64, end: u64)
+fn draw_held(out: &mut Writer, scene: &Scene, message: &Message, wall: Wall, looked: usize)
     ensures keeps { Keeps out.old out.new }
     ensures few { Grows out.old out.new 500 }
 {
     out.begin_arrow(look_of(message), Stroke::Dotted);
-    out.point(b'M', wall.across, looked);
-    out.step(b'H', wall.inside(12));
-    out.step(b'V', end);
+    begin_along(out, scene, looked, wall.across, wall.inside(12));
+    out.step(b'V', end_of_sight(scene, message));
     out.end_path();
 }
 
+// How far down a message is seen first that comes out of a settle: below that.
+fn begin_of_sight(scene: &Scene, settle: usize) -> u64 {
+    let top = scene.top_of(settle);
+    if scene.shows(settle) {
+        top.saturating_add(2 * UNIT - 4)
+    } else {
+        top
+    }
+}
+
 // The way of a message that comes out of a settle, or out of nowhere.
-fn draw_gained(out: &mut Writer, scene: &Scene, message: &Message, wall: Wall, looked: u64)
+fn draw_gained(out: &mut Writer, scene: &Scene, message: &Message, wall: Wall, looked: usize)
     ensures keeps { Keeps out.old out.new }
     ensures few { Grows out.old out.new 1500 }
 {
     let begin = match message.gained {
-        Some(settle) => scene.top_of(settle).saturating_add(2 * UNIT - 4),
-        None => looked,
+        Some(settle) => begin_of_sight(scene, settle),
+        None => scene.middle_of(looked),
     };
     out.begin_arrow(look_of(message), Stroke::Dotted);
     out.point(b'M', wall.outside(14), begin);
-    out.point(b'L', wall.across, looked);
+    out.point(b'L', wall.across, scene.middle_of(looked));
     end_titled(out, scene, message);
 }
 
-// How far down a message is lost from sight: above a settle, or at the end.
-fn end_of_sight(scene: &Scene, message: &Message) -> u64 {
-    match message.lost {
-        Some(line) => scene.top_of(line).saturating_add(4),
-        None => scene.bottom,
+// The label of a message at a wall, where a line has a row.
+fn draw_label_at(out: &mut Writer, scene: &Scene, message: &Message, wall: Wall, line: usize)
+    ensures keeps { Keeps out.old out.new }
+    ensures few { Grows out.old out.new 500 }
+{
+    if scene.shows(line) {
+        let y = scene.middle_of(line).saturating_sub(3);
+        draw_arrow_label(out, message, wall.outside(4), y, wall.is_right);
     }
 }
 
-// The part of a message's way on its sender's side.
+// The way of a message that was posted, and its label: at the post, or at the look, where only that has a row.
+fn draw_posted(
+    out: &mut Writer,
+    scene: &Scene,
+    message: &Message,
+    wall: Wall,
+    from: u8,
+    posted: usize,
+)
+    ensures keeps { Keeps out.old out.new }
+    ensures few { Grows out.old out.new 2500 }
+{
+    let mut label = (wall, posted);
+    match message.looked {
+        Some(looked) => {
+            let other = Wall::facing(scene, message.to, from);
+            draw_way(out, scene, message, wall, posted, other, looked);
+            if !scene.shows(posted) {
+                label = (other, looked);
+            }
+        }
+        None => draw_lost(out, scene, message, wall, posted),
+    }
+    draw_label_at(out, scene, message, label.0, label.1);
+}
+
+// The part of a message's way on its sender's side, as far as it is seen.
 fn draw_sent(
     out: &mut Writer,
     scene: &Scene,
@@ -225,40 +308,15 @@ fn draw_sent(
     ensures few { Grows out.old out.new 3000 }
 {
     let wall = Wall::facing(scene, from, message.to);
-    let height = scene.middle_of(posted);
-    draw_outbox(out, scene, message, slot, wall, height);
-    match message.looked {
-        Some(looked) => {
-            let other = Wall::facing(scene, message.to, from);
-            draw_way(
-                out,
-                scene,
-                message,
-                wall,
-                height,
-                other,
-                scene.middle_of(looked),
-            );
-        }
-        None => draw_lost(
-            out,
-            scene,
-            message,
-            wall,
-            height,
-            end_of_sight(scene, message),
-        ),
+    if scene.sees(message.made.unwrap_or(posted), posted) {
+        draw_outbox(out, scene, message, slot, wall, posted);
     }
-    draw_arrow_label(
-        out,
-        message,
-        wall.outside(4),
-        height.saturating_sub(3),
-        wall.is_right,
-    );
+    if scene.sees(posted, message.looked.unwrap_or(lost_at(scene, message))) {
+        draw_posted(out, scene, message, wall, from, posted);
+    }
 }
 
-// The part of a message's way on its receiver's side, from the line at which it is seen there first.
+// The part of a message's way on its receiver's side, from the line at which it is seen there first, as far as it is seen.
 fn draw_received(out: &mut Writer, scene: &Scene, message: &Message, seen: usize)
     ensures keeps { Keeps out.old out.new }
     ensures few { Grows out.old out.new 2500 }
@@ -268,13 +326,14 @@ fn draw_received(out: &mut Writer, scene: &Scene, message: &Message, seen: usize
         None => message.to,
     };
     let wall = Wall::facing(scene, message.to, other);
-    let height = scene.middle_of(seen);
-    if message.posted.is_none() {
-        draw_gained(out, scene, message, wall, height);
+    if message.posted.is_none() && scene.sees(message.gained.unwrap_or(seen), seen) {
+        draw_gained(out, scene, message, wall, seen);
     }
-    match message.handled {
-        Some(handled) => draw_hand(out, scene, message, wall, height, scene.middle_of(handled)),
-        None => draw_held(out, message, wall, height, end_of_sight(scene, message)),
+    if scene.sees(seen, message.handled.unwrap_or(lost_at(scene, message))) {
+        match message.handled {
+            Some(handled) => draw_hand(out, scene, message, wall, seen, handled),
+            None => draw_held(out, scene, message, wall, seen),
+        }
     }
 }
 

@@ -53,13 +53,15 @@ fn draw_call(out: &mut Writer, scene: &Scene, call: &Call)
     }
 }
 
-/// All calls whose routers are known.
+/// All calls that are shown whose routers are known.
 pub fn draw_calls(out: &mut Writer, scene: &Scene, calls: &[Call])
     ensures keeps { Keeps out.old out.new }
     ensures few { Grows out.old out.new (740 * length calls.now) }
 {
     for (index, call) in calls.iter().enumerate() {
-        draw_call(out, scene, call);
+        if scene.shows(call.line) {
+            draw_call(out, scene, call);
+        }
     }
 }
 

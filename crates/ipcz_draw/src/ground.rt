@@ -66,13 +66,15 @@ fn draw_line_ground(out: &mut Writer, scene: &Scene, index: usize, line: &Line)
     }
 }
 
-// The ground under each line's row.
+// The ground under each row.
 fn draw_lines_ground(out: &mut Writer, scene: &Scene)
     ensures keeps { Keeps out.old out.new }
     ensures few { Grows out.old out.new (400 * length scene.now.lines.now) }
 {
     for (index, read) in scene.lines.iter().enumerate() {
-        draw_line_ground(out, scene, index, &read.line);
+        if scene.shows(index) {
+            draw_line_ground(out, scene, index, &read.line);
+        }
     }
 }
 

@@ -3,6 +3,7 @@
 ghost use Rattle.std.specs.Prelude.{◌+◌, ◌*◌, length};
 ghost use Rattle.ipcz_markup.specs.Markup.{Grows, Keeps};
 
+use crate::part::Bounds;
 use ipcz_markup::{Class, Look, Stroke, Tag, Writer};
 
 const ARROWS: u64 = 46;
@@ -80,15 +81,43 @@ fn draw_cell_key(out: &mut Writer, x: u64, class: Class, letter: u8, words: &[u8
     out.label(x.saturating_add(20), DISCS + 4, Class::Legend, words);
 }
 
-/// The heading of a picture of so many lines.
-pub fn draw_heading(out: &mut Writer, lines: u64)
+// Which lines have rows, where these aren't all.
+fn write_bounds(out: &mut Writer, lines: usize, bounds: Bounds)
+    ensures keeps { Keeps out.old out.new }
+    ensures few { Grows out.old out.new 120 }
+{
+    let Bounds { first, end } = bounds;
+    if end.saturating_sub(first) == lines {
+        return;
+    }
+    if first < end {
+        out.text(b": lines ");
+        out.number((first as u64).saturating_add(1));
+        out.text(b" to ");
+        out.number(end as u64);
+    } else {
+        out.text(b": none of them");
+    }
+}
+
+/// What a picture is called: how many lines the run has, and which of them have rows, where these aren't all.
+pub fn write_caption(out: &mut Writer, lines: usize, bounds: Bounds)
+    ensures keeps { Keeps out.old out.new }
+    ensures few { Grows out.old out.new 280 }
+{
+    out.text(b"A run of ipcz in ");
+    out.number(lines as u64);
+    out.text(b" lines");
+    write_bounds(out, lines, bounds);
+}
+
+/// The heading of a picture of so many lines, of which those within the bounds have rows.
+pub fn draw_heading(out: &mut Writer, lines: usize, bounds: Bounds)
     ensures keeps { Keeps out.old out.new }
     ensures few { Grows out.old out.new 21000 }
 {
     out.begin_label(16, 26, Class::Heading);
-    out.text(b"A run of ipcz in ");
-    out.number(lines);
-    out.text(b" lines");
+    write_caption(out, lines, bounds);
     out.close(Tag::Text);
     draw_line_keys(out);
     draw_letter_keys(out);

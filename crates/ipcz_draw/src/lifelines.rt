@@ -5,6 +5,7 @@ ghost use Rattle.ipcz_markup.specs.Markup.{Grows, Keeps};
 
 use crate::calls::write_end;
 use crate::lanes::Lane;
+use crate::rows::TOP;
 use crate::scene::Scene;
 use ipcz_lines::End;
 use ipcz_markup::{Class, Tag, Writer};
@@ -48,6 +49,12 @@ fn draw_lifeline(out: &mut Writer, scene: &Scene, index: usize, router: &Router,
     draw_part(out, x, begin, proxy, Class::Router);
     draw_part(out, x, proxy, decaying, Class::Proxy);
     draw_part(out, x, decaying, end, Class::Decaying);
+}
+
+// Whether a router is in sight: its first line has a row, or its lifeline comes in from above.
+fn is_in_sight(scene: &Scene, router: &Router, lane: &Lane) -> bool {
+    scene.shows(router.first)
+        || router.first < scene.bounds.first && TOP < end_of(scene, router, lane)
 }
 
 // The name of a router, above where its lifeline begins, so that a message that is handed to it there has its way.
@@ -115,12 +122,16 @@ pub fn draw_lifelines(out: &mut Writer, scene: &Scene)
     }
 }
 
-/// The names of all routers, and the ends that they serve.
+/// The names of all routers that are in sight, and the ends that they serve.
 pub fn draw_names(out: &mut Writer, scene: &Scene, ends: &[Option<End>], portals: &Portals)
     ensures keeps { Keeps out.old out.new }
     ensures few { Grows out.old out.new (640 * length scene.now.routers.now) }
 {
     for (index, router) in scene.routers.iter().enumerate() {
-        draw_name_and_end(out, scene, index, router, ends, portals);
+        if let Some(lane) = scene.lanes.get(index)
+            && is_in_sight(scene, router, lane)
+        {
+            draw_name_and_end(out, scene, index, router, ends, portals);
+        }
     }
 }

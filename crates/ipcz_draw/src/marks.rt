@@ -7,6 +7,7 @@ ghost use Rattle.ipcz_draw.specs.Marks.{settle_note};
 ghost use Rattle.ipcz_draw.specs.Sizes.{most_marks};
 
 use crate::arrow_title::write_link;
+use crate::known_words::KnownWords;
 use crate::scene::Scene;
 use crate::word_cells::{draw_word, draw_words};
 use ipcz_lines::{Event, Kind, Line, Link, ReadLine, RouterEvent, WordStep};
@@ -239,14 +240,14 @@ fn draw_turn(out: &mut Writer, scene: &Scene, node: u8, event: &Event, text: &[u
     }
 }
 
-/// The marks of a line.
-pub fn draw_marks(out: &mut Writer, scene: &Scene, read: &ReadLine)
+/// The marks of a line, with what the lines above it tell of words' values.
+pub fn draw_marks(out: &mut Writer, scene: &Scene, read: &ReadLine, known: &KnownWords)
     ensures keeps { Keeps out.old out.new }
     ensures few { Grows out.old out.new (most_marks read.now.line) }
 {
     match &read.line {
         Line::Turn { node, event } => draw_turn(out, scene, *node, event, read.text),
-        Line::Words(values) => draw_words(out, scene, values),
+        Line::Words(values) => draw_words(out, scene, values, known),
         Line::Settled | Line::Unsettled => draw_settle(out, scene, &read.line),
         _ => {}
     }

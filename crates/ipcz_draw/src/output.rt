@@ -1,4 +1,4 @@
-//! A transcript to its picture, from bytes to bytes.
+//! A transcript to the picture of a part of it, from bytes to bytes.
 
 ghost use Rattle.std.specs.Prelude.{◌≡◌, ◌↔◌, ◌++◌, false, IsTrue, IsErrOf, IfOk, OnOk};
 ghost use Rattle.ipcz_draw.specs.Outputs.{bad_line, long_line, refused_line, IsOutput, ReadsAndWrites};
@@ -6,6 +6,7 @@ ghost use Rattle.ipcz_draw.specs.Outputs.{bad_line, long_line, refused_line, IsO
 use crate::device::Device;
 use crate::ending::Ending;
 use crate::fault::Fault;
+use crate::part::{Part, bounds_of};
 use crate::picture::picture;
 use crate::whole_io::{read_up_to, write_whole};
 use ipcz_lines::{Unread, read};
@@ -50,13 +51,14 @@ fn refused_output(alloc: Global, line: usize) -> Result<(Ending, Vec<u8>), Alloc
     Ok((Ending::Refused(line), text))
 }
 
-// What is written for these bytes.
-fn output(alloc: Global, input: &[u8]) -> Result<(Ending, Vec<u8>), AllocError>
-    ensures { IfOk result (λ written. IsOutput input.now written.0 written.1.items) }
+// What is written for a part of these bytes' lines.
+fn output(alloc: Global, input: &[u8], part: Option<Part>) -> Result<(Ending, Vec<u8>), AllocError>
+    ensures { IfOk result (λ written. IsOutput input.now part written.0 written.1.items) }
 {
     match read(alloc, input) {
         Ok(lines) => {
-            let text = picture(alloc, lines.as_slice())?;
+            let bounds = bounds_of(part, lines.len());
+            let text = picture(alloc, lines.as_slice(), bounds)?;
             Ok((Ending::Drawn, text))
         }
         Err(Unread::Refused { line }) => refused_output(alloc, line),
@@ -64,25 +66,26 @@ fn output(alloc: Global, input: &[u8]) -> Result<(Ending, Vec<u8>), AllocError>
     }
 }
 
-/// Reads a transcript to its end, and writes its picture, whole and in one go.
+/// Reads a transcript to its end, and writes the picture of a part, or of all of it, whole and in one go.
 ///
 /// At most 262,145 bytes are read. Bytes that are no transcript make one line that says which line is refused.
 /// `Fault::Read` and `Fault::Write` say that the reader or the writer has failed; `Fault::OutOfMemory` that no memory was
 /// found, in which case nothing was written, as after a failed read.
 pub fn draw<R: Read, W: Write>(
     alloc: Global,
+    part: Option<Part>,
     reader: &mut Device<R>,
     writer: &mut Device<W>,
 ) -> Result<Ending, Fault>
     requires reader_works { reader.old.failed ≡ false }
     requires writer_works { writer.old.failed ≡ false }
     ensures run { ReadsAndWrites (R.remaining reader.old.inner) (R.remaining reader.new.inner)
-        (W.contents writer.old.inner) (W.contents writer.new.inner) result }
+        (W.contents writer.old.inner) (W.contents writer.new.inner) part result }
     ensures read { IsErrOf result Fault.Read ↔ IsTrue reader.new.failed }
     ensures write { IsErrOf result Fault.Write ↔ IsTrue writer.new.failed }
 {
     let input = read_up_to(alloc, reader, MOST_READ)?;
-    let Ok((ending, text)) = output(alloc, &input) else {
+    let Ok((ending, text)) = output(alloc, &input, part) else {
         return Err(Fault::OutOfMemory);
     };
     let Ok(()) = write_whole(writer, &text) else {

@@ -1,6 +1,6 @@
-//! A picture: its heading, its ground, and a row for each line.
+//! A picture: its heading, its ground, and a row for each line of a part.
 
-ghost use Rattle.std.specs.Prelude.{◌^◌, ◌≤◌, ◌<◌, ◌∷◌, [], List, length, map, IfOk};
+ghost use Rattle.std.specs.Prelude.{◌≡◌, ◌^◌, ◌≤◌, ◌<◌, ◌∷◌, [], List, length, map, take, IfOk};
 ghost use Rattle.ipcz_markup.specs.declared.writer.Tag.{Tag};
 ghost use Rattle.ipcz_markup.specs.Markup.{Grows, InTag, InText, Keeps, KeepsTag, Row, Stands};
 ghost use Rattle.std.specs.List.{sum_by};
@@ -10,15 +10,17 @@ ghost use Rattle.ipcz_draw.specs.Sizes.{most_picture, most_row};
 use crate::arrows::draw_messages;
 use crate::calls::draw_calls;
 use crate::ground::draw_ground;
-use crate::heading::draw_heading;
+use crate::heading::{draw_heading, write_caption};
+use crate::known_words::{KnownWords, known_before};
 use crate::lanes::lanes;
 use crate::lifelines::{draw_lifelines, draw_names};
 use crate::names::draw_names_again;
 use crate::outboxes::slots;
+use crate::part::Bounds;
 use crate::row::draw_row;
 use crate::rows::{Place, places};
 use crate::scene::Scene;
-use crate::word_bars::draw_word_bars;
+use crate::word_bars::{draw_head_words, draw_word_bars};
 use ipcz_lines::ReadLine;
 use ipcz_markup::{Key, Tag, Writer, style};
 use ipcz_messages::calls::{Portals, calls};
@@ -56,16 +58,14 @@ fn draw_root(out: &mut Writer, width: u64, height: u64)
 }
 
 // What the picture is called.
-fn draw_title(out: &mut Writer, lines: u64)
+fn draw_title(out: &mut Writer, lines: usize, bounds: Bounds)
     ensures keeps { Keeps out.old out.new }
-    ensures few { Grows out.old out.new 300 }
+    ensures few { Grows out.old out.new 320 }
 {
     out.open(Tag::Title);
     out.words(Key::Id, b"t");
     out.enter();
-    out.text(b"A run of ipcz in ");
-    out.number(lines);
-    out.text(b" lines");
+    write_caption(out, lines, bounds);
     out.close(Tag::Title);
 }
 
@@ -84,26 +84,36 @@ fn draw_style(out: &mut Writer)
     out.close(Tag::Style);
 }
 
-// A row for each line, in order.
-fn draw_rows(out: &mut Writer, scene: &Scene, lines: &[ReadLine], placed: &[Place], bottom: u64)
+// A row at each place, in order.
+fn draw_rows(
+    out: &mut Writer,
+    scene: &Scene,
+    lines: &[ReadLine],
+    placed: &[Place],
+    bottom: u64,
+    known: &mut KnownWords,
+)
     requires many { length lines.now < 2 ^ 32 }
-    requires follow { Follow lines.now 0 136 placed.now (length lines.now) bottom }
+    requires part { lines.now ≡ take scene.now.bounds.end scene.now.lines.now }
+    requires follow { Follow lines.now scene.now.bounds.first 136 placed.now (length lines.now) bottom }
     ensures drawn { Stands out.old [] InText (Tag.Svg ∷ []) →
         Stands out.new (map (row_at lines.now) placed.now) InText (Tag.Svg ∷ []) }
-    ensures few { Grows out.old out.new (sum_by most_row lines.now) }
+    ensures few { Grows out.old out.new (sum_by most_row scene.now.lines.now) }
 {
     for place in placed {
-        draw_row(out, scene, lines, place);
+        draw_row(out, scene, lines, place, known);
     }
 }
 
-/// The picture of these lines.
-pub fn picture(alloc: Global, lines: &[ReadLine]) -> Result<Vec<u8>, AllocError>
-    requires { length lines.now < 2 ^ 32 }
-    ensures picture { IfOk result (λ text. IsPicture lines.now text.items) }
+/// The picture of the lines within the bounds; what it tells of them is found from all lines.
+pub fn picture(alloc: Global, lines: &[ReadLine], bounds: Bounds) -> Result<Vec<u8>, AllocError>
+    requires many { length lines.now < 2 ^ 32 }
+    requires within { (bounds.first ≤ bounds.end) × (bounds.end ≤ length lines.now) }
+    ensures picture { IfOk result (λ text. IsPicture (take bounds.end lines.now) bounds.first text.items) }
     ensures few { IfOk result (λ text. length text.items ≤ most_picture lines.now) }
 {
-    let (placed, bottom) = places(alloc, lines)?;
+    let shown = &lines[..bounds.end];
+    let (placed, bottom) = places(alloc, shown, bounds.first)?;
     let mut routers = routers(alloc, lines)?;
     let messages = messages(alloc, lines, &routers)?;
     let moves = Moves::new(alloc, lines)?;
@@ -115,20 +125,22 @@ pub fn picture(alloc: Global, lines: &[ReadLine]) -> Result<Vec<u8>, AllocError>
     see_calls(&mut routers, &calls);
     let lanes = lanes(alloc, lines, &routers)?;
     let slots = slots(alloc, &messages, lines.len())?;
-    let scene = Scene::new(alloc, lines, &routers, &lanes, &placed, bottom)?;
+    let scene = Scene::new(alloc, lines, bounds, &routers, &lanes, &placed, bottom)?;
+    let mut known = known_before(alloc, &lines[..bounds.first], scene.words)?;
     let mut out = Writer::new(alloc);
     draw_root(&mut out, scene.width, bottom.saturating_add(26));
-    draw_title(&mut out, lines.len() as u64);
+    draw_title(&mut out, lines.len(), bounds);
     draw_style(&mut out);
     draw_ground(&mut out, &scene);
-    draw_heading(&mut out, lines.len() as u64);
+    draw_heading(&mut out, lines.len(), bounds);
     draw_word_bars(&mut out, &scene);
+    draw_head_words(&mut out, &scene);
     draw_lifelines(&mut out, &scene);
     draw_messages(&mut out, &scene, &messages, &slots);
     draw_calls(&mut out, &scene, &calls);
     draw_names(&mut out, &scene, &ends, &portals);
     draw_names_again(&mut out, &scene, &placed);
-    draw_rows(&mut out, &scene, lines, &placed, bottom);
+    draw_rows(&mut out, &scene, shown, &placed, bottom, &mut known);
     out.close(Tag::Svg);
     out.finish()
 }

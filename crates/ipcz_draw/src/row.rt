@@ -7,6 +7,7 @@ ghost use Rattle.std.specs.List.{HoldsAt};
 ghost use Rattle.ipcz_draw.specs.Rows.{row_at, IsPlace};
 ghost use Rattle.ipcz_draw.specs.Sizes.{most_place};
 
+use crate::known_words::KnownWords;
 use crate::marks::draw_marks;
 use crate::rows::{Place, UNIT};
 use crate::scene::Scene;
@@ -145,8 +146,14 @@ fn draw_place_gutter(out: &mut Writer, lines: &[ReadLine], place: &Place)
     }
 }
 
-/// The row at a place.
-pub fn draw_row(out: &mut Writer, scene: &Scene, lines: &[ReadLine], place: &Place)
+/// The row at a place, with what the lines above it tell of words' values; what it tells of them itself is known then.
+pub fn draw_row(
+    out: &mut Writer,
+    scene: &Scene,
+    lines: &[ReadLine],
+    place: &Place,
+    known: &mut KnownWords,
+)
     requires many { length lines.now < 2 ^ 32 }
     requires place { IsPlace lines.now place.now }
     ensures draws { (rows : List Row) (u : Tag) (s : List Tag) → Stands out.old rows InText (u ∷ s) →
@@ -156,6 +163,7 @@ pub fn draw_row(out: &mut Writer, scene: &Scene, lines: &[ReadLine], place: &Pla
     begin_place(out, lines, place);
     out.close(Tag::Title);
     draw_place_gutter(out, lines, place);
-    draw_marks(out, scene, &lines[place.first]);
+    draw_marks(out, scene, &lines[place.first], known);
+    known.see(&lines[place.first].line);
     out.close(Tag::G);
 }

@@ -1,6 +1,6 @@
 //! The rows of a picture: a row for each line, and one for each run of idle lines, one under the other.
 
-ghost use Rattle.std.specs.Prelude.{◌≡◌, ◌^◌, ◌≤◌, ◌<◌, ◌==◌, length, count_by, IfOk};
+ghost use Rattle.std.specs.Prelude.{◌≡◌, ◌+◌, ◌^◌, ◌≤◌, ◌<◌, ◌==◌, length, count_by, IfOk};
 ghost use Rattle.std.specs.List.{AllWithin, HoldsAt};
 ghost use Rattle.ipcz_draw.specs.Rows.{is_idle, units_of, value_count, Follow, IsBusy, IsIdle, IsPlace};
 
@@ -107,14 +107,19 @@ fn place_at(lines: &[ReadLine], first: usize, top: u64) -> Place
     }
 }
 
-/// The places of all lines' rows, and how far down the last one ends.
-pub fn places(alloc: Global, lines: &[ReadLine]) -> Result<(Vec<Place>, u64), AllocError>
-    requires { length lines.now < 2 ^ 32 }
-    ensures follow { IfOk result (λ placed. Follow lines.now 0 136 placed.0.items (length lines.now) placed.1) }
-    ensures few { IfOk result (λ placed. length placed.0.items ≤ length lines.now) }
+/// The places of the rows of the lines from one on, and how far down the last one ends.
+pub fn places(
+    alloc: Global,
+    lines: &[ReadLine],
+    from: usize,
+) -> Result<(Vec<Place>, u64), AllocError>
+    requires many { length lines.now < 2 ^ 32 }
+    requires within { from ≤ length lines.now }
+    ensures follow { IfOk result (λ placed. Follow lines.now from 136 placed.0.items (length lines.now) placed.1) }
+    ensures few { IfOk result (λ placed. from + length placed.0.items ≤ length lines.now) }
 {
     let mut placed = Vec::new(alloc);
-    let mut first = 0;
+    let mut first = from;
     let mut top = TOP;
     'placing: while first < lines.len() {
         let place = place_at(lines, first, top);

@@ -1,9 +1,11 @@
 //! Where things stand in a picture.
 
-ghost use Rattle.std.specs.Prelude.{◌≡◌, ◌≤◌, length, IfOk};
+ghost use Rattle.std.specs.Prelude.{◌≡◌, ◌≤◌, ◌<◌, ◌↔◌, length, IfOk, IsTrue};
+ghost use Rattle.ipcz_draw.specs.Parts.{IsWithin, Meets};
 
 use crate::lanes::Lane;
-use crate::rows::{Place, UNIT, value_count};
+use crate::part::Bounds;
+use crate::rows::{Place, TOP, UNIT, value_count};
 use ipcz_lines::{Event, Line, Link, ReadLine, RouterEvent};
 use ipcz_messages::routers::{Router, find};
 use std::alloc::{AllocError, Global};
@@ -28,11 +30,12 @@ pub struct Walls {
     pub right: u64,
 }
 
-/// What is drawn: the lines, how far down each one's row begins, the routers with their lanes, the nodes' walls, where the
-/// link words begin, and the size of it all.
+/// What is drawn: all lines, which of them have rows, how far down the row of each of those begins, the routers with their
+/// lanes, the nodes' walls, where the link words begin, and the size of it all.
 #[derive(Drop)]
 pub struct Scene<'a> {
     pub lines: &'a [ReadLine<'a>],
+    pub bounds: Bounds,
     pub routers: &'a [Router],
     pub lanes: &'a [Lane],
     pub tops: Vec<u64>,
@@ -141,7 +144,7 @@ fn node_walls(
     Ok(walls)
 }
 
-// How far down the row of each line begins.
+// How far down the row of each line begins that has a place.
 fn tops(alloc: Global, placed: &[Place]) -> Result<Vec<u64>, AllocError> {
     let mut tops = Vec::new(alloc);
     for place in placed {
@@ -153,16 +156,18 @@ fn tops(alloc: Global, placed: &[Place]) -> Result<Vec<u64>, AllocError> {
 }
 
 impl<'a> Scene<'a> {
-    /// The scene of these lines.
+    /// The scene of these lines, of which those within the bounds have the places.
     pub fn new(
         alloc: Global,
         lines: &'a [ReadLine<'a>],
+        bounds: Bounds,
         routers: &'a [Router],
         lanes: &'a [Lane],
         placed: &[Place],
         bottom: u64,
     ) -> Result<Self, AllocError>
         ensures lines { IfOk result (λ scene. scene.lines.now ≡ lines.now) }
+        ensures bounds { IfOk result (λ scene. scene.bounds ≡ bounds) }
         ensures routers { IfOk result (λ scene. scene.routers.now ≡ routers.now) }
         ensures nodes { IfOk result (λ scene. length scene.nodes.items ≤ 8) }
     {
@@ -176,6 +181,7 @@ impl<'a> Scene<'a> {
         let beside = words.min(WORDS) as u64 * WORD_COLUMN;
         Ok(Scene {
             lines,
+            bounds,
             routers,
             lanes,
             tops: tops(alloc, placed)?,
@@ -190,17 +196,44 @@ impl<'a> Scene<'a> {
         })
     }
 
-    /// How far down the row of a line begins; behind the last line, where the picture ends.
-    pub fn top_of(&self, line: usize) -> u64 {
-        match self.tops.as_slice().get(line) {
+    /// Whether a line has a row.
+    pub fn shows(&self, line: usize) -> bool
+        ensures { IsTrue result ↔ IsWithin self.now.bounds line }
+    {
+        self.bounds.first <= line && line < self.bounds.end
+    }
+
+    /// Whether something is seen in the rows that goes on from one line to another.
+    pub fn sees(&self, from: usize, to: usize) -> bool
+        ensures { IsTrue result ↔ Meets self.now.bounds from to }
+    {
+        from < self.bounds.end && self.bounds.first <= to
+    }
+
+    /// How far down the row of a line begins; of a line above the rows, where they begin, and of one below them, where the
+    /// picture ends.
+    pub fn top_of(&self, line: usize) -> u64
+        ensures above { line < self.now.bounds.first → result ≡ 136 }
+    {
+        if line < self.bounds.first {
+            return TOP;
+        }
+        match self.tops.as_slice().get(line - self.bounds.first) {
             Some(top) => *top,
             None => self.bottom,
         }
     }
 
-    /// How far down the middle of a line's row is.
-    pub fn middle_of(&self, line: usize) -> u64 {
-        self.top_of(line).saturating_add(UNIT / 2)
+    /// How far down the middle of a line's row is; of a line that has none, where the rows begin or end.
+    pub fn middle_of(&self, line: usize) -> u64
+        ensures above { line < self.now.bounds.first → result ≡ 136 }
+    {
+        let top = self.top_of(line);
+        if self.shows(line) {
+            top.saturating_add(UNIT / 2)
+        } else {
+            top
+        }
     }
 
     /// The walls of a node.

@@ -1,10 +1,14 @@
-//! The bars of link words: how long a value stands, from the step that made it to the next step of a word in its column.
+//! The bars of link words: how long a value stands, from the step that made it to the next step of a word in its column. At
+//! the head of a part stand the values whose bars come in from above.
 
-ghost use Rattle.std.specs.Prelude.{◌≡◌, ◌*◌, ◌<◌, length};
+ghost use Rattle.std.specs.Prelude.{◌≡◌, ◌*◌, ◌<◌, ◌≤◌, length};
 ghost use Rattle.ipcz_markup.specs.Markup.{Grows, Keeps};
 ghost use Rattle.ipcz_draw.specs.Marks.{column_of, ends_bar, IsBarEnd};
 
+use crate::known_words::step_of;
+use crate::rows::{TOP, UNIT};
 use crate::scene::{Scene, WORDS};
+use crate::word_cells::draw_word;
 use ipcz_lines::{Event, Line, ReadLine, RouterEvent};
 use ipcz_markup::{Class, Writer};
 
@@ -47,6 +51,15 @@ fn end_of_bar(lines: &[ReadLine], line: usize, column: usize) -> usize
     lines.len()
 }
 
+// How far down a bar begins: below the cells of its line, or at the head.
+fn begin_of_bar(scene: &Scene, line: usize) -> u64 {
+    if line < scene.bounds.first {
+        TOP
+    } else {
+        scene.top_of(line).saturating_add(16)
+    }
+}
+
 // The bar of a line that changes a word.
 fn draw_bar(out: &mut Writer, scene: &Scene, line: usize, column: usize)
     requires { line < length scene.now.lines.now }
@@ -54,7 +67,7 @@ fn draw_bar(out: &mut Writer, scene: &Scene, line: usize, column: usize)
     ensures few { Grows out.old out.new 327 }
 {
     let end = end_of_bar(scene.lines, line, column);
-    let from = scene.top_of(line).saturating_add(16);
+    let from = begin_of_bar(scene, line);
     let to = scene.top_of(end).saturating_add(2);
     if from < to {
         let x = scene.across_of_word(column).saturating_add(50);
@@ -71,5 +84,32 @@ pub fn draw_word_bars(out: &mut Writer, scene: &Scene)
         if let Some(column) = column_of(&scene.lines[line].line) {
             draw_bar(out, scene, line, column);
         }
+    }
+}
+
+// The value that a line above the rows made, where it stands up to them.
+fn draw_head_word(out: &mut Writer, scene: &Scene, line: usize)
+    requires { line < length scene.now.lines.now }
+    ensures keeps { Keeps out.old out.new }
+    ensures few { Grows out.old out.new 1800 }
+{
+    if let Some((word, value)) = step_of(&scene.lines[line].line) {
+        let column = word as usize % WORDS;
+        let end = end_of_bar(scene.lines, line, column);
+        if scene.sees(line, end) {
+            let x = scene.across_of_word(column);
+            draw_word(out, x, TOP - UNIT / 2, word as u64, value);
+        }
+    }
+}
+
+/// The values of words that stand where the rows begin, above them.
+pub fn draw_head_words(out: &mut Writer, scene: &Scene)
+    requires { scene.now.bounds.first ≤ length scene.now.lines.now }
+    ensures keeps { Keeps out.old out.new }
+    ensures few { Grows out.old out.new (1800 * scene.now.bounds.first) }
+{
+    for line in 0..scene.bounds.first {
+        draw_head_word(out, scene, line);
     }
 }

@@ -10,7 +10,7 @@ mod words;
 
 pub use parts::{Answer, End, Fault, Kind, Link, Refusal, Side, Way, WordStep};
 pub use reading::read;
-pub use words::end;
+pub use words::{end, halves, number, word};
 
 /// What a router did in a turn of its node.
 #[derive(Clone, Copy)]

@@ -3,6 +3,7 @@ mod bypass;
 mod calls;
 mod direct;
 mod limits;
+mod words;
 
 ghost use Rattle.ipcz_world.specs.Lawful.{IsWithinLimits};
 

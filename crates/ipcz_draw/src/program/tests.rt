@@ -34,29 +34,60 @@ impl<'a> Env for Arguments<'a> {
 }
 
 #[test]
-fn counts_each_argument_but_the_name(rt: HostRuntime) -> Result<(), Fail> {
+fn asks_for_what_its_arguments_say(rt: HostRuntime) -> Result<(), Fail> {
     let name = b"ipcz_draw".as_slice();
-    let rows: [(&[&[u8]], bool); 4] = [
-        (&[], false),
-        (&[name], false),
-        (&[name, b"".as_slice()], true),
-        (&[name, b"\xff".as_slice()], true),
+    let part = Asked::Picture(Some(Part { from: 5, to: 20 }));
+    let one = Asked::Picture(Some(Part { from: 7, to: 7 }));
+    let most = Asked::Picture(Some(Part {
+        from: 1,
+        to: 18_446_744_073_709_551_615,
+    }));
+    let rows: [(&[&[u8]], Asked); 15] = [
+        (&[], Asked::Picture(None)),
+        (&[name], Asked::Picture(None)),
+        (&[name, b"5".as_slice(), b"20".as_slice()], part),
+        (&[name, b"7".as_slice(), b"7".as_slice()], one),
+        (
+            &[name, b"1".as_slice(), b"18446744073709551615".as_slice()],
+            most,
+        ),
+        (
+            &[name, b"1".as_slice(), b"18446744073709551616".as_slice()],
+            Asked::Usage,
+        ),
+        (&[name, b"".as_slice()], Asked::Usage),
+        (&[name, b"\xff".as_slice()], Asked::Usage),
+        (&[name, b"5".as_slice()], Asked::Usage),
+        (
+            &[name, b"5".as_slice(), b"20".as_slice(), b"30".as_slice()],
+            Asked::Usage,
+        ),
+        (&[name, b"20".as_slice(), b"5".as_slice()], Asked::Usage),
+        (&[name, b"0".as_slice(), b"5".as_slice()], Asked::Usage),
+        (&[name, b"05".as_slice(), b"20".as_slice()], Asked::Usage),
+        (&[name, b"+5".as_slice(), b"20".as_slice()], Asked::Usage),
+        (&[name, b"5".as_slice(), b"end".as_slice()], Asked::Usage),
     ];
     for (given, want) in rows {
         let arguments = (Arguments { given }, rt.alloc());
-        assert_eq!(rt; has_arguments(&arguments), Ok(want));
+        assert_eq!(rt; asked_for(&arguments), Ok(want));
     }
     Ok(())
 }
 
-// Draws a transcript, with what is written behind what `out` holds, and gives the status.
-fn drawn(alloc: Global, transcript: &[u8], out: &mut Vec<u8>) -> u8 {
+// Draws a part of a transcript, with what is written behind what `out` holds, and gives the status.
+fn drawn_part(alloc: Global, part: Option<Part>, transcript: &[u8], out: &mut Vec<u8>) -> u8 {
     run_program(
         alloc,
-        Ok(false),
+        Ok(Asked::Picture(part)),
         &mut Device::new(transcript),
         &mut Device::new(out),
     )
+}
+
+// Draws all of a transcript.
+fn drawn(alloc: Global, transcript: &[u8], out: &mut Vec<u8>) -> u8 {
+    drawn_part(alloc, None, transcript, out)
 }
 
 // Whether a text stands somewhere in these bytes.
@@ -67,6 +98,17 @@ fn has(bytes: &[u8], text: &[u8]) -> bool {
         }
     }
     false
+}
+
+// How often a text stands in these bytes.
+fn times(bytes: &[u8], text: &[u8]) -> usize {
+    let mut count = 0usize;
+    for i in 0..bytes.len() {
+        if bytes[i..].starts_with(text) {
+            count = count.saturating_add(1);
+        }
+    }
+    count
 }
 
 #[test]
@@ -206,6 +248,167 @@ fn shows_how_long_a_word_stands(rt: HostRuntime) -> Result<(), Fail> {
     Ok(())
 }
 
+// A word that is told anew with the value that is known of it stands back, be it known from a step, a claim or a line of words.
+#[test]
+fn words_that_are_as_they_were_known_stand_back(rt: HostRuntime) -> Result<(), Fail> {
+    let mut out = Vec::new(rt.alloc());
+    let transcript =
+        b"n0: r0 mark C0 1\nn0: r0 claim 1\nwords 1 0 35\nsettled\nwords 1 3 547\nwords 1 3 547\n";
+    assert_eq!(rt; drawn(rt.alloc(), transcript, &mut out), 0);
+    for (text, count) in [
+        (">C0</text>", 4),
+        ("class=\"t9 dim e\">C0</text>", 3),
+        ("class=\"t9 dim e\">S</text>", 5),
+        ("class=\"t9 dim h halo\">-</text>", 4),
+        (">C1</text>", 3),
+        ("class=\"t9 dim e\">-</text>", 1),
+        (">C2<title>C2 35</title></text>", 1),
+        (">C1<title>C1 0 -&gt; 3</title></text>", 1),
+        (">C2<title>C2 35 -&gt; 547</title></text>", 1),
+        (">C2</text>", 1),
+        ("class=\"t9 dim h halo\">S</text>", 1),
+        ("class=\"t9 dim h halo\">SL</text>", 1),
+        ("class=\"t9 dim h halo\">1</text>", 1),
+        // Of lines 3 and 5, and of the heading.
+        ("class=\"kL\"", 3),
+    ] {
+        assert_eq!(rt; times(out.as_slice(), text.as_bytes()), count, "{text}");
+    }
+    Ok(())
+}
+
+// Of a word that is told in a line with fewer values the last value that was told is known still, also above a part.
+#[test]
+fn what_is_known_of_words_is_of_all_lines_above(rt: HostRuntime) -> Result<(), Fail> {
+    let mut out = Vec::new(rt.alloc());
+    let part = Some(Part { from: 3, to: 3 });
+    let transcript = b"words 1 2 3\nwords 1\nwords 1 3 3\nwords 1 2 2\n";
+    assert_eq!(rt; drawn_part(rt.alloc(), part, transcript, &mut out), 0);
+    for (text, count) in [
+        (">C0</text>", 1),
+        (">C1<title>C1 2 -&gt; 3</title></text>", 1),
+        (">C2</text>", 1),
+        ("class=\"t9 dim h halo\">S</text>", 1),
+        ("<title>line 3: words 1 3 3</title>", 1),
+        ("<title>line ", 1),
+    ] {
+        assert_eq!(rt; times(out.as_slice(), text.as_bytes()), count, "{text}");
+    }
+    Ok(())
+}
+
+// A part in whose rows a bar and a word's value come in from above, a message is looked at that was posted above, and one is
+// posted that is looked at below.
+const LONG: &[u8] = b"n0: r0 mark C1 1
+n0: r0 send out 0 C0
+n0: post 1
+n1: r4 rest
+n1: look 0
+n1: r4 rest
+n0: r0 send out 1 C0
+n0: post 1
+n0: idle
+n0: idle
+n0: idle
+n1: hand item 0 C0
+n1: look 0
+n1: hand item 1 C0
+";
+
+#[test]
+fn a_part_begins_with_what_stands_there(rt: HostRuntime) -> Result<(), Fail> {
+    let mut out = Vec::new(rt.alloc());
+    let part = Some(Part { from: 5, to: 10 });
+    assert_eq!(rt; drawn_part(rt.alloc(), part, LONG, &mut out), 0);
+    for (text, count) in [
+        (">A run of ipcz in 14 lines: lines 5 to 10</title>", 1),
+        (">A run of ipcz in 14 lines: lines 5 to 10</text>", 1),
+        (
+            "<g transform=\"translate(0 136)\"><title>line 5: n1: look 0</title>",
+            1,
+        ),
+        (
+            "<g transform=\"translate(0 154)\"><title>line 6: n1: r4 rest</title>",
+            1,
+        ),
+        (
+            "<g transform=\"translate(0 172)\"><title>line 7: n0: r0 send out 1 C0</title>",
+            1,
+        ),
+        (
+            "<g transform=\"translate(0 190)\"><title>line 8: n0: post 1</title>",
+            1,
+        ),
+        (
+            "<g transform=\"translate(0 208)\"><title>lines 9-10: idle x2</title>",
+            1,
+        ),
+        ("<g transform", 5),
+        // The names of both routers, and their bars.
+        (
+            "<text x=\"414\" y=\"130\" class=\"t10 ink b e h halo\">r0</text>",
+            1,
+        ),
+        (
+            "<text x=\"582\" y=\"130\" class=\"t10 ink b e h halo\">r4</text>",
+            1,
+        ),
+        (
+            "<rect x=\"419\" y=\"136\" width=\"6\" height=\"90\" class=\"bar\"/>",
+            1,
+        ),
+        (
+            "<rect x=\"587\" y=\"136\" width=\"6\" height=\"90\" class=\"bar\"/>",
+            1,
+        ),
+        // C1 of line 1, which no line changes again.
+        ("y=\"130\" class=\"t9 f-word e\">C1</text>", 1),
+        ("y=\"136\" width=\"1\" height=\"92\" class=\"f-word\"/>", 1),
+        // Item 0 between the walls up to its look, and in the hand down to the foot; its label stands at the look.
+        ("M460 136L552 145", 1),
+        (
+            "made line 2; posted line 3; looked line 5; handled line 12</title>",
+            1,
+        ),
+        ("M552 145H564V226\"/>", 1),
+        (">item 0</text>", 1),
+        ("y=\"142\" class=\"t9 e h halo f-item\">item 0</text>", 1),
+        // Item 1 from its router to its post, and on its way down to the foot.
+        ("M422 181H454V199H460\"/>", 1),
+        ("M460 199L552 226", 1),
+        (
+            "made line 7; posted line 8; looked line 13; handled line 14</title>",
+            1,
+        ),
+        (">item 1</text>", 1),
+    ] {
+        assert_eq!(rt; times(out.as_slice(), text.as_bytes()), count, "{text}");
+    }
+    Ok(())
+}
+
+// Parts of three lines: within them, over the end and behind it.
+#[test]
+fn a_part_has_the_lines_that_there_are(rt: HostRuntime) -> Result<(), Fail> {
+    let rows = [
+        (1, 3, 3, ">A run of ipcz in 3 lines</title>"),
+        (1, 9, 3, ">A run of ipcz in 3 lines</title>"),
+        (2, 2, 1, ": lines 2 to 2</title>"),
+        (2, 18_446_744_073_709_551_615, 2, ": lines 2 to 3</title>"),
+        (4, 9, 0, ": none of them</title>"),
+        (9, 9, 0, ": none of them</title>"),
+    ];
+    for (from, to, count, caption) in rows {
+        let mut out = Vec::new(rt.alloc());
+        let part = Some(Part { from, to });
+        let transcript = b"settled\nn0: idle\nsettled\n";
+        assert_eq!(rt; drawn_part(rt.alloc(), part, transcript, &mut out), 0);
+        assert_eq!(rt; times(out.as_slice(), b"<g "), count);
+        assert!(rt; has(out.as_slice(), caption.as_bytes()), "{caption}");
+    }
+    Ok(())
+}
+
 #[test]
 fn draws_no_rows_for_no_bytes(rt: HostRuntime) -> Result<(), Fail> {
     let mut out = Vec::new(rt.alloc());
@@ -246,7 +449,7 @@ fn ends_with_status_1_after_a_failed_read_or_write(rt: HostRuntime) -> Result<()
     let mut out = Vec::new(rt.alloc());
     let ended = run_program(
         rt.alloc(),
-        Ok(false),
+        Ok(Asked::Picture(None)),
         &mut Device::new(SlowReader {
             bytes: TRANSCRIPT,
             reads_left: 9,
@@ -257,7 +460,7 @@ fn ends_with_status_1_after_a_failed_read_or_write(rt: HostRuntime) -> Result<()
     assert!(rt; out.is_empty());
     let ended = run_program(
         rt.alloc(),
-        Ok(false),
+        Ok(Asked::Picture(None)),
         &mut Device::new(TRANSCRIPT),
         &mut Device::new(SlowWriter {
             taken: &mut out,
@@ -272,13 +475,18 @@ fn ends_with_status_1_after_a_failed_read_or_write(rt: HostRuntime) -> Result<()
 
 // A reader that would fail at its first read, to see that there is none.
 #[test]
-fn reads_nothing_where_there_are_arguments(rt: HostRuntime) -> Result<(), Fail> {
+fn reads_nothing_where_the_usage_is_asked_for(rt: HostRuntime) -> Result<(), Fail> {
     let rows = [
-        (Ok(true), 9, 2, b"usage: ipcz_draw\n".as_slice()),
-        (Ok(true), 2, 1, b"usage:".as_slice()),
+        (
+            Ok(Asked::Usage),
+            9,
+            2,
+            b"usage: ipcz_draw [FROM TO]\n".as_slice(),
+        ),
+        (Ok(Asked::Usage), 2, 1, b"usage:".as_slice()),
         (Err(AllocError), 9, 3, b"".as_slice()),
     ];
-    for (has_arguments, writes_left, status, text) in rows {
+    for (asked, writes_left, status, text) in rows {
         let mut out = Vec::new(rt.alloc());
         let mut reader = Device::new(SlowReader {
             bytes: TRANSCRIPT,
@@ -286,7 +494,7 @@ fn reads_nothing_where_there_are_arguments(rt: HostRuntime) -> Result<(), Fail> 
         });
         let ended = run_program(
             rt.alloc(),
-            has_arguments,
+            asked,
             &mut reader,
             &mut Device::new(SlowWriter {
                 taken: &mut out,

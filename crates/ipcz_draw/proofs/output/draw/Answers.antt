@@ -14,7 +14,7 @@ returns-in_default-write_whole-clause-run g c = (
     most = c.in_ok-input.ensures.few;
     whole = λ h. c.in_ok-input.ensures.whole (omega (arith, h));
   },
-  subst (λ input. IsOutput input c.in-Ok.ending c.in-Ok.text.items) c.deref.ensures.value c.in-Ok.ensures,
+  subst (λ input. IsOutput input c.args.part c.in-Ok.ending c.in-Ok.text.items) c.deref.ensures.value c.in-Ok.ensures,
   subst (AppendsFront (g.W.Write.contents c.args.writer.now.inner) (g.W.Write.contents c.write_whole.new.device.inner))
       c.deref-2.ensures.value c.write_whole.ensures.front,
 )
@@ -28,7 +28,7 @@ returns-clause-run g c = (
     most = c.in_ok-input.ensures.few;
     whole = λ h. c.in_ok-input.ensures.whole (omega (arith, h));
   },
-  subst (λ input. IsOutput input c.in-Ok.ending c.in-Ok.text.items) c.deref.ensures.value c.in-Ok.ensures,
+  subst (λ input. IsOutput input c.args.part c.in-Ok.ending c.in-Ok.text.items) c.deref.ensures.value c.in-Ok.ensures,
   subst (Appends (g.W.Write.contents c.args.writer.now.inner) (g.W.Write.contents c.write_whole.new.device.inner))
       c.deref-2.ensures.value c.in-Ok-write_whole.ensures.done,
 )

@@ -8,7 +8,7 @@ placing-preserved c =
     let within : c.place_at-place.result.first + c.place_at-place.result.count ≤ length c.args.lines.now = place.place.within in (
       omega (arith, within, place.first),
       omega (arith, c.placing.invariant.1, place.few, place.place.some),
-      rw c.in_ok-push.ensures.items (follow_one c.args.lines.now 0 136 c.placing.placed.items c.placing.first c.placing.top
+      rw c.in_ok-push.ensures.items (follow_one c.args.lines.now c.args.from 136 c.placing.placed.items c.placing.first c.placing.top
           c.place_at-place.result c.placing.invariant.2 place.first place.top place.place),
       omega (
         arith,
