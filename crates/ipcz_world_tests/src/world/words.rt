@@ -1,22 +1,23 @@
 //! Link words that are used up: what an open and a proxy are answered once each word is claimed.
-//!
-//! Nothing is promised of what stands here: the test's own proof would else work out the world at each call.
 
-use super::{a, b, get, is_got, is_put, is_refused, put};
-use ipcz_base::{End, Refusal};
-use ipcz_node::Happened;
+use super::calls::{Call, given};
+use super::{A0, B0, a, b};
+use ipcz_base::{End, Refusal, Side};
 use ipcz_world::{Reply, Step, World};
-use std::alloc::{AllocError, Global};
 use std::test::Fail;
 
 /// As many link words as a world can have.
 const WORDS: u32 = 4096;
 
-/// The pair of the last word.
-const LAST_PAIR: u32 = WORDS - 1;
+const LAST_A: End = End {
+    pair: 4095,
+    side: Side::A,
+};
 
-/// The router of side B of the last pair: node 0 has router 0 for the first pair, and two for each pair that is opened there.
-const LAST_ROUTER: u64 = 2 * LAST_PAIR as u64;
+const LAST_B: End = End {
+    pair: 4095,
+    side: Side::B,
+};
 
 // Whether an open on node 0 gives the pair of this number.
 fn opens(world: &mut World, pair: u32) -> bool {
@@ -36,71 +37,41 @@ fn open_all(world: &mut World) -> bool {
     true
 }
 
-// Whether each word is claimed, and an open on either node finds none and claims none.
-fn are_used_up(world: &mut World) -> bool {
-    is_refused(&world.step(&Step::Open(0)), Refusal::NoWord)
-        && is_refused(&world.step(&Step::Open(1)), Refusal::NoWord)
-        && world.claimed() == WORDS
-        && world.word(LAST_PAIR) == Some(3)
-        && world.word(WORDS).is_none()
-}
-
-// What node 0 does in its next turn.
-fn turned(world: &mut World) -> Option<Happened> {
-    match world.step(&Step::Turn(0)) {
-        Reply::Turned(event) => Some(event),
-        _ => None,
-    }
-}
-
-// Whether the last pair's portal of side B is sent from node 0 to node 1, and leaves a proxy that finds no word, and rests as a proxy.
-fn leaves_a_dry_proxy(world: &mut World) -> bool {
-    matches!(
-        turned(world),
-        Some(Happened::SendOut {
-            serial: 0,
-            n: 0,
-            ..
-        })
-    ) && matches!(turned(world), Some(Happened::Post(1)))
-        && matches!(turned(world), Some(Happened::Rest(0)))
-        && matches!(turned(world), Some(Happened::ClaimNoWord(LAST_ROUTER)))
-        && matches!(turned(world), Some(Happened::Rest(LAST_ROUTER)))
-        && matches!(turned(world), Some(Happened::Idle))
-}
-
-// Whether a parcel is put at this end of node 0, under the first number.
-fn puts(
-    world: &mut World,
-    alloc: Global,
-    at: End,
-    data: &[u8],
-    ends: &[End],
-) -> Result<bool, AllocError> {
-    let step = put(alloc, 0, at, data, ends)?;
-    Ok(is_put(&world.step(&step), 0))
-}
-
-// Whether the first parcel of this end of node 1 is this one.
-fn gets(world: &mut World, at: End, data: &[u8], ends: &[End]) -> bool {
-    is_got(&world.step(&get(1, at)), 0, data, ends)
-}
+// The last pair's portal of side B moves from node 0 to node 1. The proxy that it leaves is router 8190, since node 0 has router 0 for the
+// first pair and two for each other; it finds no word, and rests as a proxy. What is put at the other portal still comes, by the proxy.
+const CALLS: [Call; 16] = [
+    Call::OpenRefused(0, Refusal::NoWord),
+    Call::OpenRefused(1, Refusal::NoWord),
+    Call::Claimed(4096),
+    Call::Word(4095, Some(3)),
+    Call::Word(4096, None),
+    Call::Put(0, A0, b"m", &[LAST_B], 0),
+    Call::Turns(
+        0,
+        &[
+            "SendOut { serial: 0, n: 0, link: Central(0), moved: Sequence { items: [End { pair: 4095, side: B }] } }",
+            "Post(1)",
+            "Rest(0)",
+            "ClaimNoWord(8190)",
+            "Rest(8190)",
+            "Idle",
+        ],
+    ),
+    Call::OpenRefused(0, Refusal::NoWord),
+    Call::OpenRefused(1, Refusal::NoWord),
+    Call::Claimed(4096),
+    Call::Put(0, LAST_A, b"p", &[], 0),
+    Call::Settle(1000, Some(14)),
+    Call::Get(1, B0, 0, b"m", &[LAST_B]),
+    Call::Get(1, LAST_B, 0, b"p", &[]),
+    Call::OpenRefused(0, Refusal::NoWord),
+    Call::Claimed(4096),
+];
 
 #[test]
 fn an_open_and_a_proxy_find_each_word_claimed(rt: HostRuntime) -> Result<(), Fail> {
-    let alloc = rt.alloc();
-    let mut world = World::new(alloc, 2, WORDS)?;
+    let mut world = World::new(rt.alloc(), 2, WORDS)?;
     assert!(rt; open_all(&mut world));
-    assert!(rt; are_used_up(&mut world));
-    assert!(rt; puts(&mut world, alloc, a(0), b"m", &[b(LAST_PAIR)])?);
-    assert!(rt; leaves_a_dry_proxy(&mut world));
-    assert!(rt; are_used_up(&mut world));
-
-    // What is put at the other portal still comes, by the proxy.
-    assert!(rt; puts(&mut world, alloc, a(LAST_PAIR), b"p", &[])?);
-    world.settle(1000)?;
-    assert!(rt; gets(&mut world, b(0), b"m", &[b(LAST_PAIR)]));
-    assert!(rt; gets(&mut world, b(LAST_PAIR), b"p", &[]));
-    assert!(rt; are_used_up(&mut world));
+    assert_eq!(rt; given(&mut world, rt.alloc(), &CALLS)?, CALLS.len());
     Ok(())
 }
