@@ -23,7 +23,12 @@ fn prints_a_refused_turn(rt: HostRuntime) -> Result<(), Fail> {
     ] {
         let mut out = Vec::new(rt.alloc());
         let said = refused(rt.alloc(), why)?;
-        push_lines(&mut out, labels.titles(), &Command::Turn { node, count: 1 }, &said)?;
+        push_lines(
+            &mut out,
+            labels.titles(),
+            &Command::Turn { node, count: 1 },
+            &said,
+        )?;
         assert_eq!(rt; out.as_slice(), line);
     }
     Ok(())
