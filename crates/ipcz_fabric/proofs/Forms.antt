@@ -1,7 +1,6 @@
 -- The kinds of step, in the forms that the calls of a cell use.
-use Rattle.std.specs.Prelude.{◌≡◌, ◌<◌, ◌+◌, ◌*◌, ℕ, Bool, true, false, List, [], ◌∷◌, Option, Some, None, IsSomeAnd, MatchBool, eqb, nat_eq}
-use Rattle.std.proofs.Common.{ap, sym, subst, ◌∙◌, refl, arith}
-use prog.Atomic.{either}
+use Rattle.std.specs.Prelude.{◌≡◌, ℕ, true, false, [], ◌∷◌, Option, Some, None, IsSomeAnd}
+use Rattle.std.proofs.Common.{sym, subst, refl}
 use Rattle.atomic_table.specs.Table.{Allows}
 use Rattle.ipcz_base.specs.declared.end.End.{End}
 use Rattle.ipcz_base.specs.declared.parcel.Parcel as parcels
@@ -17,7 +16,7 @@ use Rattle.ipcz_node.specs.Acts.{act_lacks_serials}
 use Rattle.ipcz_node.specs.RoomyNodes.{IsPossibleAct}
 use Rattle.ipcz_rule.specs.declared.view.Part.{Part}
 use Rattle.ipcz_rule.specs.Rule.{Mine, Rules, with_part}
-use Rattle.ipcz_rule.specs.Steps.{act_part, CanAct, is_touch}
+use Rattle.ipcz_rule.specs.Steps.{act_part, CanAct}
 use Rattle.ipcz_fabric.specs.Parts.{got_part, part_got, is_touch_act}
 use Rattle.ipcz_rule.proofs.Calling.{gets, pending_closes}
 use Rattle.ipcz_rule.proofs.Dropping.{touches_acts}

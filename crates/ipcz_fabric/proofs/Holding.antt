@@ -1,12 +1,12 @@
 -- The walk over the ends that callers of a node hold, and the portals of all cells.
-use Rattle.std.proofs.Common.{◌≡◌, ◌⊎◌, ◌≤◌, ◌+◌, ◌^◌, ℕ, List, [], ◌∷◌, ◌++◌, map, Option, Some, None, refl, sym, subst, ap, ◌∙◌, inl, inr, arith}
+use Rattle.std.proofs.Common.{◌≡◌, ◌⊎◌, ◌≤◌, ◌+◌, ◌^◌, ℕ, List, [], ◌∷◌, ◌++◌, Some, None, refl, sym, subst, ap, ◌∙◌}
 use Rattle.std.proofs.lemmas.List.{append_assoc, append-nil, map-append}
 use Rattle.ipcz_base.specs.declared.end.End.{End}
 use Rattle.ipcz_node.specs.Node.{Node}
 use Rattle.ipcz_node.specs.Finding.{IsNextHeld}
 use Rattle.ipcz_fabric.specs.CellStates.{CellState}
 use Rattle.ipcz_fabric.specs.Portals.{PortalValue, portal_at, portals_at}
-use Rattle.ipcz_fabric.specs.Hubs.{AreHeldFrom, AreFirstPortals, AddsHeld, AddsFirst}
+use Rattle.ipcz_fabric.specs.Hubs.{AreHeldFrom, AddsHeld, AddsFirst}
 
 module _ (n : Node) (node : ℕ) (before : List PortalValue) where
   -- the ends so far have their portals, and with those from a serial on they are all

@@ -1,9 +1,7 @@
 -- What the calls of a node leave of what it has in hand.
-use Rattle.std.specs.Prelude.{◌≡◌, ℕ, Bool, true, false, Option, Some, None, List, [], ◌∷◌}
-use Rattle.std.proofs.Common.{ap, sym, subst, ◌∙◌, refl}
+use Rattle.std.specs.Prelude.{◌≡◌, ℕ, true, Option, Some, None, List, [], ◌∷◌}
+use Rattle.std.proofs.Common.{◌∙◌, refl}
 use Rattle.ipcz_base.specs.declared.end.End.{End}
-use Rattle.ipcz_base.specs.declared.link_end.LinkEnd.{LinkEnd}
-use Rattle.ipcz_base.specs.declared.item.Item.{Item}
 use Rattle.ipcz_base.specs.declared.parcel.Parcel as parcels
 use Rattle.ipcz_router.specs.Router.{Router}
 use Rattle.ipcz_router.specs.declared.act.Answer.{Answer}
@@ -15,12 +13,12 @@ use Rattle.ipcz_router.specs.ActEffects.{apply, output_of}
 use Rattle.ipcz_node.specs.declared.act.Act.{Act}
 use Rattle.ipcz_node.specs.declared.act.Act.TheVariants as acts
 use Rattle.ipcz_node.specs.Node.{Node, Found, release_ends, terminal_of, on_found, on_router, router_in}
-use Rattle.ipcz_node.specs.Sends.{Transfer, transfer_of, move_end, move_ends, move_found, moved_ends, send, send_item}
-use Rattle.ipcz_node.specs.Calls.{put_node, put_at_router, got_at, get_node, get_at_router, close_node, close_end, close_at_router}
+use Rattle.ipcz_node.specs.Sends.{Transfer, move_end, move_ends, move_found, moved_ends, send, send_item}
+use Rattle.ipcz_node.specs.Calls.{put_at_router, got_at, get_at_router, close_at_router}
 use Rattle.ipcz_node.specs.Acts.{commit, commit_router, keep_or_drop, rest_of}
 use Rattle.ipcz_rule.specs.declared.view.Part.{Part}
 use Rattle.ipcz_rule.specs.Rule.{with_state}
-use Rattle.ipcz_rule.specs.Steps.{put_part, get_part, close_part, act_part, written_part, dropped_part}
+use Rattle.ipcz_rule.specs.Steps.{put_part, close_part, act_part, written_part, dropped_part}
 use Rattle.ipcz_fabric.specs.Parts.{got_part, part_got, is_touch_act}
 use Rattle.ipcz_fabric.proofs.Seating.{KeepsHands}
 

@@ -1,8 +1,8 @@
 -- What is read of a closed table, with the parts of all nodes, is the world that was shown.
-use Rattle.std.specs.Prelude.{◌≡◌, ◌≢◌, ◌⊎◌, ◌<◌, ◌≤◌, ◌+◌, ◌*◌, ℕ, zero, suc, Bool, true, false, ◌&&◌, nat_eq, nat_lt, List, [], ◌∷◌, ◌++◌, map, length, slice_index, Option, Some, None, refl}
+use Rattle.std.specs.Prelude.{◌≡◌, ◌<◌, ◌+◌, ◌*◌, ℕ, zero, suc, Bool, true, false, ◌&&◌, nat_eq, nat_lt, List, [], ◌∷◌, map, length, slice_index, Option, Some, refl}
 use Rattle.std.proofs.Common.{arith, ap, ◌∙◌, sym, subst}
 use Rattle.std.proofs.lemmas.Bool.Decides.{nat_tests}
-use mathlib.Core.Option.{some, none, some-injective, some-ne-none}
+use mathlib.Core.Option.{some, some-injective, some-ne-none}
 use lib.ListN.{get_elem?}
 use Rattle.atomic_table.specs.Table.{Final, Seen}
 use Rattle.atomic_table.proofs.Lists.{at_map}
@@ -19,7 +19,7 @@ use Rattle.ipcz_world.specs.Lawfulness.{IsLawful}
 use Rattle.ipcz_world.specs.Parts.{world_of_parts}
 use Rattle.ipcz_rule.specs.declared.view.View.{View}
 use Rattle.ipcz_rule.specs.declared.view.Part.{Part}
-use Rattle.ipcz_rule.specs.Rule.{Slot, St, Rules, InParts, Joined, puts_of, gets_of, drops_of}
+use Rattle.ipcz_rule.specs.Rule.{Slot, St, Rules, InParts, puts_of, gets_of, drops_of}
 use Rattle.ipcz_rule.specs.End.{AreAll, IsShown, view_of, states_of}
 use Rattle.ipcz_rule.proofs.Ending.{some_inside, part_of, is_shown, world_is, is_table, full_box, hand_box, empty_box, homes_many}
 use Rattle.ipcz_fabric.specs.CellStates.{CellState}

@@ -17,7 +17,7 @@ use Rattle.ipcz_rule.proofs.Returning.{unprobes, gives_back}
 use Rattle.ipcz_fabric.specs.TableNames.{TableName}
 use Rattle.ipcz_fabric.specs.CellStates.{first_part, part_in, change_part}
 use Rattle.ipcz_fabric.specs.Cells.{AreOnce, AreBelow, IsCell, probed_slots, hand_slots}
-use Rattle.ipcz_fabric.specs.Mails.{slot_of, mail_word}
+use Rattle.ipcz_fabric.specs.Mails.{mail_word}
 use Rattle.ipcz_fabric.specs.Outcomes.{Tells, IsPicked}
 use Rattle.ipcz_fabric.specs.Ending.{unprobed, given_back, rested}
 

@@ -1,7 +1,6 @@
 -- What a cell keeps, after a step of its seat and a change of its state.
-use Rattle.std.specs.Prelude.{◌≡◌, ◌<◌, ◌+◌, ℕ, List, [], ◌∷◌, ◌++◌, Option, is_some, Result, Ok, Err, OnOk, OnErr}
-use Rattle.std.proofs.Common.{ap, sym, subst, ◌∙◌, arith, refl}
-use mathlib.Core.Option.{some}
+use Rattle.std.specs.Prelude.{◌≡◌, ◌<◌, ℕ, List, [], ◌∷◌, ◌++◌, Option, is_some, Result, Ok, Err, OnOk, OnErr}
+use Rattle.std.proofs.Common.{ap, sym, subst, ◌∙◌, arith}
 use lib.ListN.{get_elem?}
 use Rattle.atomic_table.specs.Seated.{TableId}
 use Rattle.ipcz_base.specs.declared.message.Message.{Message}
@@ -10,10 +9,10 @@ use Rattle.ipcz_world.specs.Soundness.{IsSound}
 use Rattle.ipcz_rule.specs.declared.view.View.{View}
 use Rattle.ipcz_rule.specs.declared.view.Part.{Part}
 use Rattle.atomic_table.specs.Table.{Allows}
-use Rattle.ipcz_rule.specs.Rule.{Slot, Mine, Rules, with_part}
+use Rattle.ipcz_rule.specs.Rule.{Slot, Mine, Rules}
 use Rattle.ipcz_fabric.specs.Outcomes.{Tells, IsPicked}
 use Rattle.ipcz_fabric.specs.TableNames.{TableName}
-use Rattle.ipcz_fabric.specs.CellStates.{part_in, first_part, change_part}
+use Rattle.ipcz_fabric.specs.CellStates.{part_in, first_part}
 use Rattle.ipcz_fabric.specs.Cells.{AreSound, IsSeated, IsCell, held_slots}
 
 -- what a touch leaves of a part

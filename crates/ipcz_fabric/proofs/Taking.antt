@@ -1,6 +1,6 @@
 -- What a list of numbers is without the first that is this one.
-use Rattle.std.specs.Prelude.{◌≡◌, ◌<◌, ◌≤◌, ◌+◌, ◌++◌, ℕ, Bool, true, List, ◌∷◌, length, take, drop}
-use Rattle.std.proofs.Common.{ap, sym, subst, ◌∙◌, arith}
+use Rattle.std.specs.Prelude.{◌≡◌, ◌<◌, ◌+◌, ◌++◌, ℕ, true, List, ◌∷◌, length, take, drop}
+use Rattle.std.proofs.Common.{ap, sym, subst, ◌∙◌}
 use Rattle.ipcz_rule.specs.Rule.{has_number, without_number}
 use Rattle.ipcz_fabric.specs.Cells.{AreOnce, AreBelow, place_in}
 use Rattle.ipcz_fabric.proofs.Onces.{without_split, once_split, below_split, split_at}

@@ -1,7 +1,7 @@
 -- A step of any kind tells its seat that its nodes are sound.
-use Rattle.std.specs.Prelude.{◌≡◌, ◌<◌, ◌+◌, ℕ, zero, suc, List, [], ◌∷◌, length}
-use Rattle.std.proofs.Common.{ap, sym, subst, ◌∙◌, arith, set}
-use mathlib.Core.Option.{some, none, some-ne-none}
+use Rattle.std.specs.Prelude.{◌≡◌, ◌<◌, ℕ, zero, suc, List, [], ◌∷◌, length}
+use Rattle.std.proofs.Common.{sym, subst, arith}
+use mathlib.Core.Option.{some, some-ne-none}
 use lib.ListN.{get_elem?}
 use Rattle.atomic_table.specs.Table.{Allows}
 use Rattle.atomic_table.proofs.Lists.{set_here}
@@ -9,8 +9,7 @@ use Rattle.ipcz_node.specs.Node.{Node}
 use Rattle.ipcz_world.specs.World.{node_at}
 use Rattle.ipcz_world.specs.Soundness.{IsSound}
 use Rattle.ipcz_rule.specs.declared.view.View.{View}
-use Rattle.ipcz_rule.specs.declared.view.Part.{Part}
-use Rattle.ipcz_rule.specs.Rule.{Slot, St, Mine, Rules}
+use Rattle.ipcz_rule.specs.Rule.{St, Mine, Rules}
 use Rattle.ipcz_fabric.specs.Cells.{AreSound}
 use Rattle.ipcz_world.proofs.Whole.{nodes_are_sound}
 

@@ -1,6 +1,6 @@
 -- The slots that a cell holds, brought behind one another.
-use Rattle.std.specs.Prelude.{◌≡◌, ◌+◌, ◌*◌, ◌++◌, ℕ, zero, suc, List, [], ◌∷◌, length, Option, Some, None, Bool, true, false, is_some, cond}
-use Rattle.std.proofs.Common.{ap, sym, subst, ◌∙◌, refl, arith}
+use Rattle.std.specs.Prelude.{◌≡◌, ◌+◌, ◌*◌, ◌++◌, ℕ, suc, List, [], ◌∷◌, length, Option, Some, None, is_some, cond}
+use Rattle.std.proofs.Common.{ap, sym, ◌∙◌, refl, arith}
 use Rattle.std.proofs.Common.{append_assoc, append-nil}
 use Rattle.ipcz_rule.specs.Rule.{Slot}
 use Rattle.ipcz_fabric.specs.Cells.{probed_slots, hand_slots}

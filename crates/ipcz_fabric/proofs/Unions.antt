@@ -1,6 +1,6 @@
 -- Cells that are taken apart, one after the other, into one seat.
-use Rattle.std.specs.Prelude.{◌≡◌, ◌<◌, ◌+◌, ℕ, zero, suc, List, [], ◌∷◌, ◌++◌, map, length, Option, Some, None, option_to_list, refl}
-use Rattle.std.proofs.Common.{arith, ap, ◌∙◌, sym, append-nil, append_assoc}
+use Rattle.std.specs.Prelude.{◌≡◌, List, [], ◌∷◌, ◌++◌, map, Option, Some, option_to_list}
+use Rattle.std.proofs.Common.{ap, ◌∙◌, sym, append-nil, append_assoc}
 use Rattle.std.proofs.lemmas.List.{map-append}
 use Rattle.ipcz_base.specs.declared.message.Message.{Message}
 use Rattle.ipcz_node.specs.Node.{Node}

@@ -1,14 +1,13 @@
-ghost use Rattle.std.specs.Prelude.{◌≡◌, ◌<◌, ◌+◌, ℕ, true, false, if◌then◌else◌, Some, None, OnOk, OnErr, IfOk, IfErr, IsOk, unwrap_or};
+ghost use Rattle.std.specs.Prelude.{◌≡◌, ◌<◌, ◌+◌, true, false, if◌then◌else◌, Some, None, OnOk, OnErr, IfOk, IfErr, IsOk, unwrap_or};
 ghost use Rattle.atomic_table.specs.Table.{Allows};
-ghost use Rattle.ipcz_base.specs.declared.parcel.Parcel.{Parcel as ParcelRecord};
-ghost use Rattle.ipcz_node.specs.Calls.{put_refusal, put_number, put_node, get_refusal, got_at, close_refusal};
+ghost use Rattle.ipcz_node.specs.Calls.{put_refusal, put_number, get_refusal, got_at, close_refusal};
 ghost use Rattle.ipcz_node.specs.RoomyNodes.{IsReadyFor, IsPossibleAct};
-ghost use Rattle.ipcz_node.specs.Acts.{commit, act_lacks_serials, act_grows};
+ghost use Rattle.ipcz_node.specs.Acts.{act_lacks_serials, act_grows};
 ghost use Rattle.ipcz_node.specs.Events.{event_of};
 ghost use Rattle.ipcz_rule.specs.Rule.{Rules};
 ghost use Rattle.ipcz_fabric.specs.CellStates.{part_in, change_part, roomy};
 ghost use Rattle.ipcz_fabric.specs.Cells.{AreSound, IsSeated};
-ghost use Rattle.ipcz_rule.specs.Steps.{put_part, get_part, close_part, act_part};
+ghost use Rattle.ipcz_rule.specs.Steps.{put_part, close_part, act_part};
 ghost use Rattle.ipcz_fabric.specs.Parts.{got_part, is_touch_act};
 ghost use Rattle.ipcz_fabric.specs.Outcomes.{IsPicked, touched};
 

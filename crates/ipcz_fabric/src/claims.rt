@@ -1,7 +1,6 @@
 //! The claim count of a cell.
-ghost use Rattle.std.specs.Prelude.{◌≡◌, ◌<◌, ◌≤◌, ◌+◌, ℕ, [], ◌∷◌, true, false};
+ghost use Rattle.std.specs.Prelude.{◌≡◌, ◌<◌, [], ◌∷◌};
 ghost use Rattle.ipcz_node.specs.RoomyNodes.{IsPossibleAct, IsReadyFor};
-ghost use Rattle.ipcz_node.specs.Acts.{act_lacks_serials, commit};
 ghost use Rattle.ipcz_fabric.specs.CellStates.{part_in};
 ghost use Rattle.ipcz_fabric.specs.Cells.{AreSound};
 ghost use Rattle.ipcz_fabric.specs.Outcomes.{IsPicked};

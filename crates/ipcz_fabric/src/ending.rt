@@ -1,14 +1,13 @@
 //! The way back from a table to a world.
-ghost use Rattle.std.specs.Prelude.{◌≡◌, ◌≢◌, ◌≤◌, ◌<◌, ◌+◌, ◌*◌, ◌++◌, ℕ, Bool, true, false, [], ◌∷◌, List, IfOk, IfErr, Option, Some, None};
+ghost use Rattle.std.specs.Prelude.{◌≡◌, ◌≤◌, ◌<◌, ◌+◌, ◌*◌, ◌++◌, ℕ, true, [], ◌∷◌, IfOk, IfErr, Some, None};
 ghost use Rattle.std.specs.Prelude.{length, map, vec_len, vec_capacity, slice_index};
 ghost use Rattle.std.specs.Slots.{slots_items, slots_len, IsFull};
 ghost use mathlib.Core.Option.{some};
-ghost use lib.ListN.{get_elem?};
-ghost use Rattle.atomic_table.specs.Table.{Final, Seen, rest};
+ghost use Rattle.atomic_table.specs.Table.{rest};
 ghost use Rattle.ipcz_base.specs.Indexed.{place_at};
 ghost use Rattle.ipcz_world.specs.declared.mail.Mail.{Mail as MailValue};
 ghost use Rattle.ipcz_world.specs.declared.mail.Mail.TheVariants as mails;
-ghost use Rattle.ipcz_rule.specs.Rule.{Rules, has_number};
+ghost use Rattle.ipcz_rule.specs.Rule.{has_number};
 ghost use Rattle.ipcz_rule.specs.Steps.{unprobe_part};
 ghost use Rattle.ipcz_rule.specs.Kinds.{together};
 ghost use Rattle.ipcz_rule.specs.End.{AreAll, IsShown, states_of};

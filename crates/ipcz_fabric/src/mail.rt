@@ -1,15 +1,15 @@
 //! The mailboxes of a cell, each in a word of the table with its slot.
-ghost use Rattle.std.specs.Prelude.{◌≡◌, ◌<◌, ◌≤◌, ◌+◌, ◌*◌, ℕ, true, false, [], ◌∷◌, Some, None, OnOk, OnErr, IfOk, IfErr, if◌then◌else◌, cond, is_some, length};
+ghost use Rattle.std.specs.Prelude.{◌≡◌, ◌<◌, ◌≤◌, ◌+◌, true, false, [], ◌∷◌, Some, None, OnOk, OnErr, IfOk, IfErr, if◌then◌else◌, cond, is_some};
 ghost use Rattle.atomic_table.specs.Table.{rest};
-ghost use Rattle.ipcz_node.specs.Acts.{commit, has_mail_for, post_of};
+ghost use Rattle.ipcz_node.specs.Acts.{has_mail_for, post_of};
 ghost use Rattle.ipcz_node.specs.Events.{hand_event};
-ghost use Rattle.ipcz_node.specs.Hands.{deliver, message_lacks_serials};
-ghost use Rattle.ipcz_rule.specs.Rule.{has_number, saw};
-ghost use Rattle.ipcz_rule.specs.Steps.{probe_part, post_part, look_part, old_word, hand_part};
+ghost use Rattle.ipcz_node.specs.Hands.{message_lacks_serials};
+ghost use Rattle.ipcz_rule.specs.Rule.{has_number};
+ghost use Rattle.ipcz_rule.specs.Steps.{post_part, old_word};
 ghost use Rattle.ipcz_base.specs.declared.message.Message.{Message as MessageData};
 ghost use Rattle.ipcz_fabric.specs.CellStates.{part_in, change_part};
 ghost use Rattle.ipcz_fabric.specs.Parts.{handed_part};
-ghost use Rattle.ipcz_fabric.specs.Cells.{AreSound, IsSeated};
+ghost use Rattle.ipcz_fabric.specs.Cells.{AreSound};
 ghost use Rattle.ipcz_fabric.specs.Mails.{slot_of, mail_word, old_named, IsKnown, Probes, Looks, LoadsSource, Handles};
 ghost use Rattle.ipcz_fabric.specs.Outcomes.{IsPicked, probed, posted, looked, sourced, handed, turned_by};
 

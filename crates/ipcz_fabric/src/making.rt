@@ -1,5 +1,5 @@
 //! A table is made and named, and each node gets its cell.
-ghost use Rattle.std.specs.Prelude.{◌≡◌, ◌≤◌, ◌<◌, ◌+◌, ◌*◌, ◌-◌, ℕ, [], ◌∷◌, IfOk, IfErr, length, map, replicate, vec_len, vec_capacity};
+ghost use Rattle.std.specs.Prelude.{◌≡◌, ◌≤◌, ◌<◌, ◌-◌, [], IfOk, IfErr, length, vec_len, vec_capacity};
 ghost use Rattle.ipcz_node.specs.FirstPairs.{first_pairs};
 ghost use Rattle.ipcz_rule.specs.Start.{opening_words, opening_parts, after_deal, dealt};
 ghost use Rattle.ipcz_world.specs.Lawful.{IsWithinLimits};
@@ -30,8 +30,6 @@ pub struct Blank {
 }
 
 impl Model for Blank {
-    ghost use Rattle.std.specs.Coded.{codes};
-    ghost use Rattle.atomic_table.specs.Seated.{table_id_coded};
     ghost use Rattle.ipcz_fabric.specs.TableNames.{TableName, name_coded};
 
     ghost Value = { TableName };

@@ -1,5 +1,5 @@
 //! The nodes whose empty mailbox a cell's seat has.
-ghost use Rattle.std.specs.Prelude.{◌≡◌, ◌<◌, ◌≤◌, ◌++◌, ◌∷◌, [], true, false, length, List, ℕ, IfOk, IfSome, IfNone, MatchOption};
+ghost use Rattle.std.specs.Prelude.{◌≡◌, ◌<◌, ◌≤◌, ◌++◌, ◌∷◌, [], true, false, length, List, ℕ, IfOk, MatchOption};
 ghost use Rattle.ipcz_rule.specs.Rule.{has_number, without_number};
 ghost use Rattle.ipcz_fabric.specs.Cells.{place_in, AreOnce};
 

@@ -1,4 +1,4 @@
-ghost use Rattle.std.specs.Prelude.{◌≡◌, ◌<◌, ◌++◌, [], ◌∷◌, not, nat_eq, length, OnOk, IsOk};
+ghost use Rattle.std.specs.Prelude.{◌≡◌, ◌<◌, ◌++◌, [], ◌∷◌, nat_eq, length, OnOk, IsOk};
 ghost use Rattle.ipcz_node.specs.Acts.{first_of, rest_of};
 
 use ipcz_base::Message;

@@ -10,7 +10,7 @@ use Rattle.ipcz_base.specs.declared.message.Message.TheVariants as messages
 use Rattle.ipcz_base.specs.Ends.{opposite_end}
 use Rattle.ipcz_base.specs.Items.{ends_in}
 use Rattle.ipcz_base.specs.Totals.{total, total_list}
-use Rattle.ipcz_edge.specs.Edge.{Edge, edge_decays}
+use Rattle.ipcz_edge.specs.Edge.{edge_decays}
 use Rattle.ipcz_router.specs.Router.{Router, is_proxy, is_on_central, inward_edge}
 use Rattle.ipcz_router.specs.declared.act.RouterAct.{RouterAct}
 use Rattle.ipcz_router.specs.declared.act.RouterAct.TheVariants as acts

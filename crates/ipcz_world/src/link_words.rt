@@ -1,4 +1,4 @@
-ghost use Rattle.std.specs.Prelude.{◌≡◌, ◌<◌, ◌≤◌, ◌++◌, ◌-◌, Some, None, IfSome, IfOk, length, map, replicate, if◌then◌else◌};
+ghost use Rattle.std.specs.Prelude.{◌≡◌, ◌<◌, ◌≤◌, ◌++◌, ◌-◌, Some, IfSome, IfOk, length, map, replicate, if◌then◌else◌};
 ghost use Rattle.ipcz_word.specs.Layout.{word_of_bits};
 ghost use Rattle.ipcz_word.specs.Laws.{HasNode};
 ghost use Rattle.ipcz_word.specs.Word.{empty_word, open_word};

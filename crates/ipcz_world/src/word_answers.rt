@@ -2,7 +2,7 @@
 
 ghost use Rattle.std.specs.Prelude.{◌≡◌, None};
 ghost use Rattle.ipcz_base.specs.Sides.{opposite};
-ghost use Rattle.ipcz_word.specs.Layout.{word_of_bits, bits_of};
+ghost use Rattle.ipcz_word.specs.Layout.{word_of_bits};
 ghost use Rattle.ipcz_word.specs.Laws.{HasNode};
 ghost use Rattle.ipcz_world.specs.Coding.{IsLinkNumber};
 ghost use Rattle.ipcz_word.specs.SideSets.{has};

@@ -1,9 +1,9 @@
 ghost use Rattle.std.specs.Prelude.{◌≡◌, ◌<◌, ◌&&◌, not, nat_lt, true, Some, is_some, OnOk, OnErr, IsOk, IsSomeAnd};
 ghost use Rattle.ipcz_base.specs.Indexed.{place_at};
 ghost use Rattle.ipcz_base.specs.declared.link_id.LinkId.TheVariants.{Central};
-ghost use Rattle.ipcz_router.specs.Router.{Router as RouterRecord, inward_edge, rouse};
+ghost use Rattle.ipcz_router.specs.Router.{Router as RouterRecord, inward_edge};
 ghost use Rattle.ipcz_router.specs.Bypass.{accept_bypass, accept_message, bypass_peer, fits_accept_bypass, is_source, fits_bypass_peer};
-ghost use Rattle.ipcz_router.specs.Bypass.{fits_proxy_will_stop, fits_stop_proxying, proxy_will_stop, stop_message, stop_proxying};
+ghost use Rattle.ipcz_router.specs.Bypass.{fits_stop_proxying, stop_message, stop_proxying};
 ghost use Rattle.ipcz_router.specs.Bypass.{will_stop_message};
 ghost use Rattle.ipcz_node.specs.Node.{is_named, router_in, with_router};
 ghost use Rattle.ipcz_node.specs.Hands.{fits, handle, tell};

@@ -1,4 +1,4 @@
-ghost use Rattle.std.specs.Prelude.{ℕ, ◌≡◌, ◌<◌, ◌≤◌, ◌+◌, ◌*◌, [], ◌++◌, OnOk, IfOk, IfErr, replicate};
+ghost use Rattle.std.specs.Prelude.{◌≡◌, ◌<◌, ◌≤◌, ◌+◌, ◌*◌, [], ◌++◌, OnOk, IfOk, IfErr, replicate};
 ghost use Rattle.ipcz_base.specs.Limits.{no_number};
 ghost use Rattle.ipcz_node.specs.FirstPairs.{new_node, new_node_from, bare_from, add_pairs, pairs_from, first_pairs_from, add_pair};
 ghost use Rattle.ipcz_node.specs.FirstPairs.{HasSerials};

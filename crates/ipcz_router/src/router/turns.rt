@@ -1,10 +1,10 @@
-ghost use Rattle.std.specs.Prelude.{◌≡◌, Some, None, true, false, option_map};
+ghost use Rattle.std.specs.Prelude.{◌≡◌, true};
 ghost use Rattle.ipcz_base.specs.Links.{word_of};
 ghost use Rattle.ipcz_router.specs.RoomyRouters.{KeepsRoom, LeavesRoom};
-ghost use Rattle.ipcz_router.specs.Router.{is_proxy, is_sink, decays, has_no_link, primary_word, is_on_central, inward_edge};
+ghost use Rattle.ipcz_router.specs.Router.{decays, has_no_link, is_on_central};
 ghost use Rattle.ipcz_router.specs.ActTable.{is_possible, next_act, is_ready, can_begin, may_take};
 ghost use Rattle.ipcz_router.specs.ActEffects.{IsAsked, IsOutputOf, IsBelowNoNumber, apply, output_of, item_output, finish_out};
-ghost use Rattle.ipcz_router.specs.ActEffects.{finish_in, begin_bypass, begin_message, flush_message, peer_message};
+ghost use Rattle.ipcz_router.specs.ActEffects.{finish_in, begin_bypass};
 ghost use Rattle.ipcz_router.specs.Acts.{way_out, way_in, pop_in, pop_out};
 
 use super::Router;

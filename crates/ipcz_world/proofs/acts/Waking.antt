@@ -12,7 +12,6 @@ use Rattle.ipcz_world.proofs.Vocabulary.{word_at, mail_at, way, router_at, set_n
 use Rattle.ipcz_world.proofs.Vocabulary.{hand_message, Books, Records, is_linked, side_node, side_router, key_passes, Counts, Words}
 use Rattle.ipcz_world.proofs.Vocabulary.{IsRecorded, Inv}
 use Rattle.ipcz_base.specs.declared.message.Message.TheVariants as messages
-use Rattle.ipcz_word.specs.Word.{wake}
 use Rattle.ipcz_router.specs.ActEffects.{wake_other, message_output, flush_message}
 use Rattle.ipcz_router.specs.declared.act.Applied.TheVariants as sends
 use Rattle.ipcz_router.specs.declared.act.RouterAct.TheVariants as acts

@@ -1,10 +1,10 @@
 -- What the parts of a world come to after a turn, as the world that the turn leads to.
-use Rattle.std.specs.Prelude.{◌≡◌, ◌<◌, ℕ, true, false, ◌&&◌, not, nat_eq, nat_lt, if◌then◌else◌, Option, Some, None, is_some, is_none}
+use Rattle.std.specs.Prelude.{◌≡◌, ◌<◌, ℕ, true, false, ◌&&◌, nat_lt, if◌then◌else◌, Option, Some, None, is_some, is_none}
 use Rattle.std.specs.Prelude.{IfSome, Result, Ok, Err, length, List, [], ◌∷◌}
 use Rattle.std.proofs.Common.{arith, ap, sym, subst, refl, ◌∙◌}
 use Rattle.std.proofs.lemmas.Bool.Decides.{nat_tests}
 use Rattle.ipcz_world.proofs.Vocabulary.{End, Message, Refusal, place_at, put_place, Side, Router, primary_word, RouterAct, Act, Close}
-use Rattle.ipcz_world.proofs.Vocabulary.{Node, bare_node, outbox, router_in, commit, Empty, World, node_at, mail_at, way, router_at}
+use Rattle.ipcz_world.proofs.Vocabulary.{Node, bare_node, router_in, commit, Empty, World, node_at, mail_at, way, router_at}
 use Rattle.ipcz_world.proofs.Vocabulary.{set_node, set_mail, hand_message, after_act, can_take, answer_of}
 use Rattle.ipcz_base.specs.declared.refusal.Refusal.TheVariants.{NumbersEnd, OutOfMemory}
 use Rattle.ipcz_router.specs.ActTable.{may_take}

@@ -1,5 +1,5 @@
 -- Sums as a loop goes over a list: what was told so far and what is left come to the whole.
-use Rattle.std.specs.Prelude.{◌≡◌, ◌≤◌, ◌<◌, ℕ, zero, suc, ◌+◌, Bool, true, false, cond, ◌&&◌, nat_lt, if◌then◌else◌, Option, Some, None}
+use Rattle.std.specs.Prelude.{◌≡◌, ◌≤◌, ◌<◌, ℕ, zero, suc, ◌+◌, Bool, true, false, nat_lt, Option, Some}
 use Rattle.std.specs.Prelude.{List, [], ◌∷◌}
 use Rattle.std.specs.Prelude.{drop, length, map, refl}
 use Rattle.std.proofs.Common.{arith, ap, subst, ◌∙◌, sym, get_or}

@@ -3,7 +3,7 @@ use Rattle.std.specs.Prelude.{◌≡◌, ℕ, Bool, true, false, not, nat_eq}
 use Rattle.std.proofs.Common.{ap, sym, ◌∙◌, refl, arith}
 use Rattle.std.proofs.lemmas.Bool.Decides.{nat_tests}
 use Rattle.ipcz_world.proofs.Vocabulary.{Side, A, B, opposite, has, Word}
-use Rattle.ipcz_word.specs.Layout.{IsWord, word_of_bits, idle_bits, bits_of, bits_beside}
+use Rattle.ipcz_word.specs.Layout.{IsWord, word_of_bits, bits_of, bits_beside}
 use Rattle.ipcz_word.specs.SideSets.{Sides, without, has-without_here}
 use Rattle.ipcz_word.specs.Word.{wake}
 use Rattle.ipcz_word.proofs.Tables.{number_returns}

@@ -1,10 +1,10 @@
 -- The source that a word names is the node inward of the proxy that holds its lock: what it takes to keep that.
-use Rattle.std.proofs.Common.{◌≡◌, ◌⊎◌, inl, inr, ◌≢◌, ◌∙◌, ℕ, true, false, refl, sym, ap, Some, None, arith, Option}
+use Rattle.std.proofs.Common.{◌≡◌, ◌⊎◌, inl, inr, ◌≢◌, ◌∙◌, ℕ, true, false, refl, sym, ap, Some, arith}
 use Rattle.std.specs.Prelude.{cond, unwrap_or, option_map}
 use Rattle.ipcz_base.specs.declared.link_end.LinkEnd.{LinkEnd}
 use Rattle.ipcz_base.specs.declared.link_id.LinkId.TheVariants.{Central}
 use Rattle.ipcz_edge.specs.Edge.{no_edge}
-use Rattle.ipcz_router.specs.Router.{Router, inward_edge, source_of}
+use Rattle.ipcz_router.specs.Router.{Router, inward_edge}
 use Rattle.ipcz_world.specs.World.{World, Key, router_at, word_at, same_key}
 use Rattle.ipcz_world.specs.Structure.{AreSourced}
 use Rattle.ipcz_world.proofs.frames.Frames.{same_key_tells}

@@ -1,10 +1,6 @@
 -- A message in hand finds its router and fits there: what a node does with it is the update that the bypass's stage expects.
-use Rattle.std.specs.Prelude.{nat_eq, nat_lt}
-use Rattle.ipcz_world.proofs.Vocabulary.{side_node}
-use Rattle.ipcz_world.proofs.Vocabulary.{word_at}
+use Rattle.std.specs.Prelude.{nat_lt}
 use Rattle.ipcz_world.proofs.views.Sources.{accept_source}
-use Rattle.ipcz_router.specs.Bypass.{is_source}
-use Rattle.ipcz_world.proofs.facts.Tests.{nat_eq-itself}
 use Rattle.ipcz_world.specs.WordAnswers.{source_for}
 use Rattle.std.specs.Prelude.{◌≡◌, ◌<◌, ◌≤◌, ℕ, Bool, true, false, nat_lt, nat_le, Option, Some, None, is_some, is_none, refl}
 use Rattle.std.proofs.Common.{arith, ap, subst, ◌∙◌, sym, inl, inr}

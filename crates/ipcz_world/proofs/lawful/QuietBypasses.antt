@@ -15,7 +15,6 @@ use Rattle.ipcz_world.proofs.flows.Flowing.{found}
 use Rattle.ipcz_world.proofs.frames.Opened.{opened}
 use Rattle.ipcz_world.proofs.lawful.OwedLaws.{one_of_four}
 use Rattle.ipcz_world.proofs.lawful.Quiet.{nothing-moves, quiet-flow}
-use Rattle.ipcz_world.proofs.views.Bypassed as bypassed
 
 module _ (w : World) (b : Books) (g : Records) (law : Inv w b g) (quiet : IsQuiet w) where
   -- a bypass that has begun has ended

@@ -9,7 +9,7 @@ use Rattle.std.proofs.lemmas.Option.{none-some, same_Some}
 use Rattle.ipcz_world.proofs.facts.Tests.{not_both}
 use Rattle.ipcz_world.proofs.Vocabulary.{Side, A, B, End, LinkId, Central, Peripheral, LinkEnd, Item, opposite, opposite_end, same_end}
 use Rattle.ipcz_world.proofs.Vocabulary.{Edge, Queue, item_at, current_item, Router, is_terminal, is_possible, inward_edge, World, Key}
-use Rattle.ipcz_world.proofs.Vocabulary.{node_at, router_at, has}
+use Rattle.ipcz_world.proofs.Vocabulary.{node_at, router_at}
 use Rattle.ipcz_world.proofs.Vocabulary.{Books, read, Records, side_length, proxy_side, across_side, inner_link, inner_of, under_way}
 use Rattle.ipcz_world.proofs.Vocabulary.{total, total_list}
 use Rattle.ipcz_world.proofs.Vocabulary.{Standing, view, is_attached, has_primary, Inv, Weight, in_router, at_end, has_link}

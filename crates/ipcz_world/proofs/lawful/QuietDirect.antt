@@ -6,7 +6,7 @@ use Rattle.std.proofs.lemmas.Option.{none-some, same_Some}
 use Rattle.ipcz_world.proofs.facts.Tests.{not_both}
 use Rattle.ipcz_world.proofs.Vocabulary.{Side, A, B, End, Central, Peripheral, LinkEnd, Item, opposite, opposite_end, same_end}
 use Rattle.ipcz_world.proofs.Vocabulary.{Router, is_terminal, is_possible, World, Key, node_at, router_at, word_at, has}
-use Rattle.ipcz_world.proofs.Vocabulary.{Books, read, Records, is_linked, under_way, total, total_list}
+use Rattle.ipcz_world.proofs.Vocabulary.{Books, Records, is_linked, under_way, total, total_list}
 use Rattle.ipcz_world.proofs.Vocabulary.{has_primary, Inv, Weight, is_recorded, in_router, at_end}
 use Rattle.ipcz_world.proofs.Vocabulary.{Terminal, At, side_end, is_nowhere}
 use Rattle.ipcz_base.specs.Ends.{end_at}

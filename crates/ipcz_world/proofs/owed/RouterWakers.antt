@@ -5,7 +5,7 @@ use Rattle.std.proofs.Common.{arith, ap, sym, ◌∙◌, subst, inl, inr}
 use Rattle.std.proofs.lemmas.Bool.Decides.{nat_tests}
 use Rattle.std.proofs.lemmas.Option.{same_Some, none-some}
 use Rattle.ipcz_world.proofs.facts.Tests.{nat_eq-is, nat_eq-itself}
-use Rattle.ipcz_world.proofs.Vocabulary.{Side, Central, LinkEnd, Message, has, opposite, Router, is_possible, primary_word, word_of}
+use Rattle.ipcz_world.proofs.Vocabulary.{Side, Central, LinkEnd, Message, opposite, Router, is_possible, primary_word, word_of}
 use Rattle.ipcz_world.proofs.Vocabulary.{World, Key, node_at, word_at, mail_at, router_at, Books, Records, Inv, IsUnderWay, Word}
 use Rattle.ipcz_world.proofs.Vocabulary.{RouterAct, Node, outbox, commit, router_in, answer_of, after_act, set_node, set_word}
 use Rattle.ipcz_world.proofs.Vocabulary.{set_claimed, way, messages_in}

@@ -7,7 +7,7 @@ use Rattle.ipcz_world.proofs.Vocabulary.{primary_word, word_of}
 use Rattle.ipcz_world.proofs.Vocabulary.{World, Key, word_at, router_at, Books, Records, Inv, has_primary, Word, has_link, side_node}
 use Rattle.ipcz_world.proofs.Vocabulary.{IsRecorded, side_end, same_key, side_router}
 use Rattle.ipcz_base.specs.declared.message.Message.TheVariants as messages
-use Rattle.ipcz_word.specs.Word.{is_held, mark, wake, lock, wait, Plan, Locks, Waits, Refuses, plan_of}
+use Rattle.ipcz_word.specs.Word.{is_held, mark, lock, wait, Plan, Locks, Waits, Refuses, plan_of}
 use Rattle.ipcz_word.specs.SideSets.{has-with_here, has-without_apart}
 use Rattle.ipcz_word.specs.SideSets.{opposite_opposite, not_opposite}
 use Rattle.ipcz_router.specs.ActEffects.{mark_side, wake_other, take_lock, fail_lock, drop_lock}

@@ -2,20 +2,20 @@
 -- tells what its end has put.
 use Rattle.std.specs.Prelude.{◌≡◌, ◌≤◌, ◌<◌, ℕ, zero, suc, ◌+◌, ◌*◌, ◌-◌, Bool, true, false, not, cond, ◌&&◌, if◌then◌else◌, nat_lt}
 use Rattle.std.specs.Prelude.{Option, Some, None}
-use Rattle.std.specs.Prelude.{is_some, is_none, List, [], ◌∷◌, ◌++◌, length, slice_get, refl}
+use Rattle.std.specs.Prelude.{is_none, List, [], ◌∷◌, ◌++◌, length, slice_get, refl}
 use Rattle.std.proofs.Common.{arith, ap, subst, ◌∙◌, sym}
 use Rattle.std.proofs.lemmas.Bool.Decides.{nat_tests}
 use Rattle.std.proofs.lemmas.Bool.{and_parts}
 use Rattle.std.proofs.lemmas.Option.{slice_get_within, same_Some}
 use Rattle.std.specs.Ordering.{nat_cmp}
-use Rattle.std.specs.FinMap.{FinMap, find, get, entries, get-entries}
+use Rattle.std.specs.FinMap.{FinMap, find, entries, get-entries}
 use Rattle.ipcz_base.specs.declared.message.Message.TheVariants as messages
 use Rattle.ipcz_base.specs.Totals.{total_of}
 use Rattle.ipcz_world.proofs.Vocabulary.{End, LinkId, Side, Descriptor, Item, Message, opposite_end, same_end, has_end, ends_in, total}
 use Rattle.ipcz_world.proofs.Vocabulary.{total_list, place_at}
-use Rattle.ipcz_world.proofs.Vocabulary.{Router, Node, Edge, bare_node, inward_edge, is_terminal, outbox, World, Key, node_at, mail_at}
-use Rattle.ipcz_world.proofs.Vocabulary.{way, router_at, Books, read}
-use Rattle.ipcz_world.proofs.Vocabulary.{is_closed, Records, Terminal, At, IsUnderWay, moves_of, under_way, messages_in, flow, at_end}
+use Rattle.ipcz_world.proofs.Vocabulary.{Router, Node, Edge, bare_node, inward_edge, is_terminal, outbox, World, node_at, mail_at}
+use Rattle.ipcz_world.proofs.Vocabulary.{way, router_at, Books}
+use Rattle.ipcz_world.proofs.Vocabulary.{is_closed, Terminal, At, IsUnderWay, moves_of, messages_in, flow, at_end}
 use Rattle.ipcz_world.proofs.Vocabulary.{is_nowhere}
 use Rattle.ipcz_edge.specs.Edge.{edge_decays}
 use Rattle.ipcz_router.specs.Router.{is_proxy, is_on_central}
@@ -31,7 +31,7 @@ use Rattle.ipcz_world.specs.Turns.{is_clear}
 use Rattle.ipcz_world.specs.Routes as routes
 use Rattle.ipcz_world.specs.Routes.{Routes}
 use Rattle.ipcz_world.specs.Lawful.{Lawful}
-use Rattle.ipcz_world.specs.Ranks.{Rates, worth, worth_left, is_unbegun, bypass_worth, router_worth, moves_worth, message_worth}
+use Rattle.ipcz_world.specs.Ranks.{Rates, worth, is_unbegun, bypass_worth, router_worth, moves_worth, message_worth}
 use Rattle.ipcz_world.specs.Ranks.{box_worth, node_worth}
 use Rattle.ipcz_world.specs.Ranks.{mail_worth, rank}
 use Rattle.ipcz_world.specs.SettleBounds.{CarryNone, PlainLimitIsEnough, plain_rates, plain_limit}

@@ -1,19 +1,18 @@
 -- Each act of a node lowers what the node is worth, or makes a message of what it loses.
-use Rattle.std.specs.Prelude.{◌≡◌, ◌≤◌, ◌<◌, ℕ, zero, suc, ◌+◌, Bool, true, false, not, ◌&&◌, ◌||◌, if◌then◌else◌, Option, Some, None}
+use Rattle.std.specs.Prelude.{◌≡◌, ◌≤◌, ◌<◌, ℕ, ◌+◌, Bool, true, false, not, ◌&&◌, ◌||◌, Option, Some, None}
 use Rattle.std.specs.Prelude.{is_some, is_none, List, [], ◌∷◌, length, option_map, refl}
-use Rattle.std.proofs.Common.{arith, ap, subst, ◌∙◌, sym}
+use Rattle.std.proofs.Common.{arith}
 use Rattle.std.specs.FinMap.{get}
 use Rattle.ipcz_base.specs.Links.{word_of}
-use Rattle.ipcz_world.proofs.Vocabulary.{End, Item, LinkEnd, Message, Edge, opposite, opposite_end, ends_in, inward_edge, Router, Node}
+use Rattle.ipcz_world.proofs.Vocabulary.{End, Item, LinkEnd, opposite, opposite_end, ends_in, inward_edge, Router, Node}
 use Rattle.ipcz_world.proofs.Vocabulary.{Found}
-use Rattle.ipcz_world.proofs.Vocabulary.{with_router, router_in, terminal_of, current_item, output_of, is_possible, RouterAct, commit}
+use Rattle.ipcz_world.proofs.Vocabulary.{with_router, terminal_of, current_item, output_of, is_possible, RouterAct, commit}
 use Rattle.ipcz_world.proofs.Vocabulary.{Close}
 use Rattle.ipcz_base.specs.declared.message.Message.TheVariants as messages
-use Rattle.ipcz_edge.specs.Edge.{edge_decays, can_finish}
-use Rattle.ipcz_seq.specs.Queue.{reach}
+use Rattle.ipcz_edge.specs.Edge.{can_finish}
 use Rattle.ipcz_router.specs.Router.{is_proxy, is_on_central, decays}
 use Rattle.ipcz_router.specs.Acts.{way_out, way_in, pop_out, pop_in, rest}
-use Rattle.ipcz_router.specs.ActTable.{is_ready, can_begin, may_take, is_rest, next_act}
+use Rattle.ipcz_router.specs.ActTable.{is_ready, may_take, is_rest}
 use Rattle.ipcz_router.specs.Closing.{close_router}
 use Rattle.ipcz_router.specs.ActEffects.{IsAnswerOf, apply, finish_out, finish_in, mark_side, wake_other, claim_word, run_dry, take_lock}
 use Rattle.ipcz_router.specs.ActEffects.{fail_lock, begin_bypass, peer_message, begin_message, flush_message, item_output, message_output}
@@ -21,10 +20,9 @@ use Rattle.ipcz_router.specs.ActEffects.{discard_output}
 use Rattle.ipcz_router.specs.declared.act.RouterAct.TheVariants as acts
 use Rattle.ipcz_router.specs.declared.act.Answer.{Answer}
 use Rattle.ipcz_router.specs.declared.act.Answer.TheVariants as answers
-use Rattle.ipcz_router.specs.declared.sending.Sending.{Sending}
-use Rattle.ipcz_node.specs.Node.{without_router, on_found, is_terminal_of}
+use Rattle.ipcz_node.specs.Node.{on_found, is_terminal_of}
 use Rattle.ipcz_node.specs.Sends.{send, send_item}
-use Rattle.ipcz_node.specs.Calls.{close_end, close_at_router}
+use Rattle.ipcz_node.specs.Calls.{close_at_router}
 use Rattle.ipcz_node.specs.Acts.{commit_router, keep_or_drop, rest_of}
 use Rattle.ipcz_world.proofs.facts.Finding.{found_tells}
 use Rattle.ipcz_world.proofs.facts.Tests.{and_first, and_second}

@@ -1,7 +1,7 @@
 -- The hand of a message lowers what its node and the message are worth.
 use Rattle.std.specs.Prelude.{◌≡◌, ◌≤◌, ℕ, ◌+◌, Bool, true, false, not, ◌&&◌, if◌then◌else◌, nat_lt, Option, Some, None, is_some, List}
 use Rattle.std.specs.Prelude.{refl}
-use Rattle.std.proofs.Common.{arith, ap, subst, ◌∙◌, sym}
+use Rattle.std.proofs.Common.{arith}
 use Rattle.ipcz_base.specs.declared.side.Side.{Side}
 use Rattle.ipcz_base.specs.declared.link_id.LinkId.{LinkId}
 use Rattle.ipcz_base.specs.declared.link_id.LinkId.TheVariants.{Central}
@@ -10,12 +10,11 @@ use Rattle.ipcz_world.proofs.Vocabulary.{with_router}
 use Rattle.ipcz_base.specs.declared.message.Message.TheVariants as messages
 use Rattle.ipcz_router.specs.Router.{router_has, outward_has, rouse}
 use Rattle.ipcz_router.specs.Calls.{accept}
-use Rattle.ipcz_router.specs.declared.sending.Sending.{Sending}
 use Rattle.ipcz_router.specs.Bypass.{fits_bypass_peer, bypass_peer, accept_message, is_source, fits_accept_bypass, accept_bypass}
 use Rattle.ipcz_router.specs.Bypass.{stop_message}
 use Rattle.ipcz_router.specs.Bypass.{stop_proxying, will_stop_message, proxy_will_stop}
-use Rattle.ipcz_node.specs.Node.{link_router, is_named, on_found, push_out, add_stray}
-use Rattle.ipcz_node.specs.Hands.{fits, passes_at, handle, tell, take_in, deliver, free_hand, make_terminals}
+use Rattle.ipcz_node.specs.Node.{link_router, is_named, on_found, add_stray}
+use Rattle.ipcz_node.specs.Hands.{fits, passes_at, handle, tell, take_in, deliver, free_hand}
 use Rattle.ipcz_world.proofs.facts.Finding.{found_tells}
 use Rattle.ipcz_world.proofs.facts.Tests.{and_first}
 use Rattle.ipcz_world.specs.Ranks.{Rates, router_worth, moves_worth, message_worth, node_worth}

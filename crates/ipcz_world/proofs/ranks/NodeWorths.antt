@@ -1,21 +1,19 @@
 -- What the changes of a node make of its worth: a router, a message to send, ends to close, terminals that move.
-use Rattle.std.specs.Prelude.{◌≡◌, ◌≤◌, ◌<◌, ℕ, zero, suc, ◌+◌, ◌*◌, ◌-◌, Bool, true, false, not, cond, ◌&&◌, if◌then◌else◌, nat_eq}
+use Rattle.std.specs.Prelude.{◌≡◌, ◌≤◌, ℕ, ◌+◌, ◌*◌, ◌-◌, Bool, true, false, nat_eq}
 use Rattle.std.specs.Prelude.{Option, Some, None}
-use Rattle.std.specs.Prelude.{is_some, List, [], ◌∷◌, ◌++◌, length, replicate, refl}
-use Rattle.std.proofs.Common.{arith, ap, subst, ◌∙◌, sym}
+use Rattle.std.specs.Prelude.{List, [], ◌∷◌, ◌++◌, length, refl}
+use Rattle.std.proofs.Common.{arith, subst, sym}
 use Rattle.std.specs.Ordering.{nat_cmp}
 use Rattle.std.specs.Cmp.{nat_cmp_total}
 use Rattle.std.specs.FinMap.{nat_cmp-IsAntisymmetric, get}
 use Rattle.std.proofs.lemmas.List.{length-append}
-use Rattle.ipcz_world.proofs.Vocabulary.{End, Descriptor, Item, Message, LinkEnd, opposite_end, ends_in, place_at, put_place, total_list}
-use Rattle.ipcz_world.proofs.Vocabulary.{total}
-use Rattle.ipcz_world.proofs.Vocabulary.{Router, Node, Found, with_router, from_descriptor, router_in, outbox, terminal_of, bare_node}
-use Rattle.ipcz_base.specs.declared.message.Message.TheVariants as messages
-use Rattle.ipcz_base.proofs.Totals.{total-insert, total-insert_new, total-remove, total-empty}
+use Rattle.ipcz_world.proofs.Vocabulary.{End, Descriptor, Item, Message, LinkEnd, opposite_end, ends_in}
+use Rattle.ipcz_world.proofs.Vocabulary.{Router, Node, Found, with_router, from_descriptor, outbox, terminal_of}
+use Rattle.ipcz_base.proofs.Totals.{total-insert, total-insert_new, total-remove}
 use Rattle.ipcz_router.specs.Router.{proxy_link}
 use Rattle.ipcz_router.specs.Calls.{extend, descriptor_of}
-use Rattle.ipcz_node.specs.Node.{without_router, with_outbox, push_out, add_router, is_terminal_of, outbox_count}
-use Rattle.ipcz_node.specs.Sends.{Transfer, next_link, move_router, move_found, move_end, move_ends, moved_ends, transfer_of, send_item}
+use Rattle.ipcz_node.specs.Node.{without_router, with_outbox, push_out, add_router, is_terminal_of}
+use Rattle.ipcz_node.specs.Sends.{Transfer, next_link, move_router, move_found, move_end, move_ends, send_item}
 use Rattle.ipcz_node.specs.Sends.{item_message}
 use Rattle.ipcz_node.specs.Hands.{make_terminals}
 use Rattle.ipcz_world.proofs.weights.Totalling.{total_list-append, total_list-put_place}

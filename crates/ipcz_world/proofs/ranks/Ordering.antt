@@ -1,8 +1,8 @@
 -- Where parcels carry ends in an order of their pairs there are rates that fit.
-use Rattle.std.specs.Prelude.{◌≡◌, ◌≤◌, ◌<◌, ℕ, zero, suc, ◌+◌, ◌*◌, ◌-◌, Bool, not, Some, List, [], ◌∷◌, length, slice_get, refl}
-use Rattle.std.proofs.Common.{arith, ap, subst, ◌∙◌, sym}
-use Rattle.ipcz_world.proofs.Vocabulary.{End, Item, opposite_end, ends_in, Books, read, is_closed}
-use Rattle.ipcz_world.specs.Ranks.{Rates, worth, moving_worth, IsRated, AreOrdered, price_below, ordered_rates, OrderedAreRated}
+use Rattle.std.specs.Prelude.{◌≡◌, ◌≤◌, ◌<◌, ℕ, zero, suc, ◌+◌, ◌*◌, ◌-◌, not, Some, List, [], ◌∷◌, length, slice_get, refl}
+use Rattle.std.proofs.Common.{arith, subst, sym}
+use Rattle.ipcz_world.proofs.Vocabulary.{End, ends_in, is_closed}
+use Rattle.ipcz_world.specs.Ranks.{moving_worth, price_below, ordered_rates, OrderedAreRated}
 use Rattle.ipcz_world.proofs.ranks.RouterWorths.{worth-most}
 
 times-more : (p q m : ℕ) → p ≤ q → p * m ≤ q * m

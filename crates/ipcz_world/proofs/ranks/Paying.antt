@@ -1,22 +1,18 @@
 -- What stands in a queue was put and isn't read, so that its number is below its end's cap, and its pair's price pays for it.
-use Rattle.std.specs.Prelude.{◌≡◌, ◌≤◌, ◌<◌, ℕ, ◌+◌, Bool, true, false, not, ◌&&◌, nat_eq, Some, drop, length, slice_get, refl}
+use Rattle.std.specs.Prelude.{◌≡◌, ◌≤◌, ◌<◌, ℕ, ◌+◌, Bool, true, false, ◌&&◌, nat_eq, Some, drop, slice_get, refl}
 use Rattle.std.proofs.Common.{arith, ap, ◌∙◌, sym}
 use Rattle.std.proofs.lemmas.Bool.{and_from}
 use Rattle.std.proofs.lemmas.Option.{slice_get_within}
-use Rattle.ipcz_world.proofs.Vocabulary.{End, Item, opposite_end, item_at, current_item, ends_in, Router, World, Key, router_at, node_at}
-use Rattle.ipcz_world.proofs.Vocabulary.{router_in}
-use Rattle.ipcz_world.proofs.Vocabulary.{Books, read, is_closed, Records, Weight, in_router, at_end, Conserved, Act, after_act, can_take}
+use Rattle.ipcz_world.proofs.Vocabulary.{End, Item, opposite_end, ends_in, Router, World, Key, router_at}
+use Rattle.ipcz_world.proofs.Vocabulary.{Books, read, Records, Weight, in_router, at_end, Conserved}
 use Rattle.ipcz_base.specs.Items.{same_item}
-use Rattle.ipcz_world.specs.Places.{from_number}
-use Rattle.ipcz_world.specs.Routes.{Routes}
-use Rattle.ipcz_world.specs.Lawful.{Lawful}
 use Rattle.ipcz_world.proofs.weights.OfRecords.{in_places}
 use Rattle.ipcz_world.proofs.weights.Weights.{in_out_queue, in_in_queue}
 use Rattle.ipcz_world.proofs.weights.Booking.{flag, more_here, in_router-within}
 use Rattle.ipcz_world.proofs.calls.Reading.{from_number-found, slice_get-drop}
 use Rattle.ipcz_world.proofs.facts.Tests.{nat_eq-itself, and_first, and_second, nat_eq-is}
 use Rattle.ipcz_world.proofs.facts.SameItems.{same_item-itself, same_item-tells}
-use Rattle.ipcz_world.specs.Ranks.{Rates, worth, rank, moving_worth, IsRated, uses_up, ActsLowerTheRank}
+use Rattle.ipcz_world.specs.Ranks.{Rates, moving_worth, IsRated, ActsLowerTheRank}
 use Rattle.ipcz_world.proofs.ranks.NodeActs.{CanPay}
 use Rattle.ipcz_world.proofs.ranks.WorldRanks.{rank-acted}
 

@@ -1,20 +1,18 @@
 -- A turn keeps rates that fit: a pending close writes the mark, which the caps have left room for, and a discard reads one more.
-use Rattle.std.specs.Prelude.{◌≡◌, ◌⊎◌, ◌≤◌, ◌<◌, ℕ, zero, suc, ◌+◌, Bool, true, false, not, cond, ◌||◌, Option, Some, None, List, []}
+use Rattle.std.specs.Prelude.{◌≡◌, ◌≤◌, ℕ, zero, suc, ◌+◌, Bool, true, false, not, cond, ◌||◌, Some, List, []}
 use Rattle.std.specs.Prelude.{◌∷◌, ◌++◌, length, slice_get, refl}
 use Rattle.std.proofs.Common.{arith, ap, subst, ◌∙◌, sym, inl, inr}
 use Rattle.std.proofs.lemmas.Option.{slice_get_within}
 use Rattle.ipcz_world.proofs.Vocabulary.{End, Item, opposite_end, same_end, ends_in, World, Books, read, is_closed}
 use Rattle.ipcz_base.specs.declared.item.Item.TheVariants.{Parcel, Mark}
-use Rattle.ipcz_base.specs.Items.{is_mark}
 use Rattle.ipcz_node.specs.declared.happened.Happened.{Happened}
 use Rattle.ipcz_node.specs.declared.happened.Happened.TheVariants as events
 use Rattle.ipcz_world.specs.declared.step.Step.TheVariants.{Turn}
 use Rattle.ipcz_world.specs.declared.step.Reply.{Reply}
 use Rattle.ipcz_world.specs.declared.step.Reply.TheVariants as replies
 use Rattle.ipcz_world.specs.Books.{has_mark, add_put, add_gone, after_turn, advance}
-use Rattle.ipcz_world.specs.Plain.{Plain, PlainTurn, Discards}
+use Rattle.ipcz_world.specs.Plain.{Plain, PlainTurn}
 use Rattle.ipcz_world.specs.Routes.{Routes, routes_after}
-use Rattle.ipcz_world.specs.Steps.{StepAny}
 use Rattle.ipcz_world.specs.Lawful.{Lawful}
 use Rattle.ipcz_world.specs.WorldLaws.{StepKeepsLawful, RepliesPlainly}
 use Rattle.ipcz_world.proofs.flows.Flowing.{slice_get-last}

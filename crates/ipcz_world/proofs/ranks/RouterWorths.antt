@@ -1,19 +1,17 @@
 -- What each act of a router makes of its worth.
-use Rattle.std.specs.Prelude.{◌≡◌, ◌≤◌, ◌<◌, ℕ, zero, suc, ◌+◌, ◌*◌, ◌-◌, Bool, true, false, not, cond, ◌&&◌, ◌||◌, Option, Some, None}
-use Rattle.std.specs.Prelude.{is_some, is_none, List, [], ◌∷◌, refl, option_map}
-use Rattle.std.proofs.Common.{arith, ap, subst, ◌∙◌, sym}
+use Rattle.std.specs.Prelude.{◌≡◌, ◌≤◌, ◌<◌, ℕ, ◌+◌, ◌*◌, ◌-◌, Bool, true, false, not, cond, ◌&&◌, Option, Some, None}
+use Rattle.std.specs.Prelude.{is_some, is_none, refl}
+use Rattle.std.proofs.Common.{arith}
 use Rattle.ipcz_base.specs.declared.side.Side.{Side}
 use Rattle.ipcz_base.specs.declared.link_end.LinkEnd.{LinkEnd}
-use Rattle.ipcz_base.specs.declared.link_id.LinkId.{LinkId}
 use Rattle.ipcz_base.specs.declared.descriptor.Descriptor.{Descriptor}
-use Rattle.ipcz_base.specs.declared.end.End.{End}
 use Rattle.ipcz_base.specs.declared.item.Item.{Item}
 use Rattle.ipcz_base.specs.Ends.{opposite_end}
 use Rattle.ipcz_base.specs.Links.{word_of}
-use Rattle.ipcz_edge.specs.Edge.{Edge, edge_decays, finish, begin_decay, set_length_to, set_length_from}
+use Rattle.ipcz_edge.specs.Edge.{Edge, edge_decays}
 use Rattle.ipcz_router.specs.Router.{Router, is_proxy, is_on_central, inward_edge, rouse, from_descriptor}
 use Rattle.ipcz_router.specs.Acts.{pop_out, pop_in, rest}
-use Rattle.ipcz_router.specs.Bypass.{relink, outward_onto, bypass_peer, accept_bypass, stop_proxying, proxy_will_stop}
+use Rattle.ipcz_router.specs.Bypass.{bypass_peer, accept_bypass, stop_proxying, proxy_will_stop}
 use Rattle.ipcz_router.specs.Calls.{accept, extend}
 use Rattle.ipcz_router.specs.Closing.{close_router}
 use Rattle.ipcz_router.specs.ActEffects.{finish_out, finish_in, mark_side, wake_other, claim_word, run_dry, take_lock, fail_lock}

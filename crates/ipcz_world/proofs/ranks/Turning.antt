@@ -1,13 +1,12 @@
 -- Turns alone: how many of them use something up, and that a world in which none can is quiet.
-use Rattle.std.specs.Prelude.{◌≡◌, ◌≤◌, ◌<◌, ℕ, ◌+◌, ◌*◌, Bool, true, false, cond, nat_lt, if◌then◌else◌, Option, Some, None, List, []}
+use Rattle.std.specs.Prelude.{◌≡◌, ◌≤◌, ℕ, ◌+◌, ◌*◌, Bool, true, false, nat_lt, Option, Some, None, []}
 use Rattle.std.specs.Prelude.{◌∷◌, refl}
-use Rattle.std.proofs.Common.{arith, ap, subst, ◌∙◌, sym, inl, inr}
+use Rattle.std.proofs.Common.{arith, ap, inl}
 use Rattle.std.proofs.lemmas.Bool.Decides.{nat_tests}
 use Rattle.std.specs.FinMap.{get}
-use Rattle.ipcz_world.proofs.Vocabulary.{Router, Node, router_in, with_router, RouterAct, Act, Close, Hand, commit, World, Key, node_at}
+use Rattle.ipcz_world.proofs.Vocabulary.{Router, Node, router_in, RouterAct, Act, Close, Hand, commit, World, node_at}
 use Rattle.ipcz_world.proofs.Vocabulary.{router_at, Books}
 use Rattle.ipcz_world.proofs.Vocabulary.{after_act, can_take, answer_of, unless, output_of}
-use Rattle.ipcz_base.specs.declared.refusal.Refusal.TheVariants as refusals
 use Rattle.ipcz_router.specs.Acts.{rest}
 use Rattle.ipcz_router.specs.ActEffects.{apply, drop_lock}
 use Rattle.ipcz_router.specs.declared.act.RouterAct.TheVariants as acts
@@ -21,11 +20,11 @@ use Rattle.ipcz_world.specs.declared.step.Reply.TheVariants as replies
 use Rattle.ipcz_world.specs.Books.{after_turn, advance}
 use Rattle.ipcz_world.specs.Routes.{Routes, routes_after, routes_after_turn}
 use Rattle.ipcz_world.specs.WordAnswers.{touch}
-use Rattle.ipcz_world.specs.Turns.{after_router_act, may_act, turn_event, turn_lacks_serials}
-use Rattle.ipcz_world.specs.Steps.{StepAny, Gives, turn_step, at_node, refuse}
+use Rattle.ipcz_world.specs.Turns.{after_router_act, may_act, turn_event}
+use Rattle.ipcz_world.specs.Steps.{StepAny}
 use Rattle.ipcz_world.specs.Lawful.{Lawful}
-use Rattle.ipcz_world.specs.WorldLaws.{StepKeepsLawful, RepliesPlainly}
-use Rattle.ipcz_world.specs.Ranks.{Rates, worth, router_worth, node_worth, rank, IsRated, IsTaken, AreTurns, times_used, unlock_count}
+use Rattle.ipcz_world.specs.WorldLaws.{StepKeepsLawful}
+use Rattle.ipcz_world.specs.Ranks.{Rates, worth, node_worth, rank, IsRated, IsTaken}
 use Rattle.ipcz_world.specs.Ranks.{is_unlock, spends}
 use Rattle.ipcz_world.specs.Ranks.{spends_at, uses_up, TurnsKeepRates, TurnsAreBounded}
 use Rattle.ipcz_world.proofs.ranks.RouterWorths.{more-unlock, most-rest}

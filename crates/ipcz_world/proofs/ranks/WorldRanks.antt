@@ -1,38 +1,35 @@
 -- Each possible act of a node that uses something up lowers the world's rank.
-use Rattle.std.specs.Prelude.{◌≡◌, ◌≤◌, ◌<◌, ℕ, zero, suc, ◌+◌, Bool, true, false, not, cond, ◌&&◌, ◌||◌, if◌then◌else◌, nat_lt, nat_eq}
+use Rattle.std.specs.Prelude.{◌≡◌, ◌≤◌, ℕ, zero, suc, ◌+◌, Bool, true, false, not, ◌||◌, if◌then◌else◌, nat_lt, nat_eq}
 use Rattle.std.specs.Prelude.{Option, Some, None}
-use Rattle.std.specs.Prelude.{is_some, is_none, List, [], ◌∷◌, length, replicate, slice_get, refl}
+use Rattle.std.specs.Prelude.{is_some, List, [], ◌∷◌, length, replicate, refl}
 use Rattle.std.proofs.Common.{arith, ap, subst, ◌∙◌, sym}
-use Rattle.std.proofs.lemmas.Bool.Decides.{nat_tests}
-use Rattle.std.proofs.lemmas.Option.{slice_get_within}
-use Rattle.std.specs.FinMap.{get}
 use Rattle.std.specs.Ordering.{nat_cmp}
-use Rattle.ipcz_world.proofs.Vocabulary.{End, Item, Message, Side, Word, opposite, opposite_end, ends_in, total_list, Router, Node, Found}
+use Rattle.ipcz_world.proofs.Vocabulary.{End, Message, Side, Word, total_list, Router, Node}
 use Rattle.ipcz_world.proofs.Vocabulary.{bare_node, outbox}
-use Rattle.ipcz_world.proofs.Vocabulary.{router_in, current_item, RouterAct, Act, Close, Hand, commit, primary_word, World, Key, node_at}
+use Rattle.ipcz_world.proofs.Vocabulary.{router_in, RouterAct, Act, Close, Hand, commit, primary_word, World, node_at}
 use Rattle.ipcz_world.proofs.Vocabulary.{mail_at, way}
 use Rattle.ipcz_world.proofs.Vocabulary.{router_at, set_node, set_word, word_at, set_claimed, set_mail, answer_of, after_act, can_take}
-use Rattle.ipcz_world.proofs.Vocabulary.{hand_message, Books, read, Records}
+use Rattle.ipcz_world.proofs.Vocabulary.{hand_message}
 use Rattle.ipcz_base.proofs.Totals.{total-empty}
-use Rattle.ipcz_router.specs.Router.{is_on_central, source_of}
-use Rattle.ipcz_router.specs.ActTable.{may_take, is_possible, is_rest, next_act}
+use Rattle.ipcz_router.specs.Router.{source_of}
+use Rattle.ipcz_router.specs.ActTable.{may_take, is_possible, is_rest}
 use Rattle.ipcz_router.specs.ActEffects.{IsAnswerOf}
 use Rattle.ipcz_router.specs.declared.act.RouterAct.TheVariants as acts
 use Rattle.ipcz_router.specs.declared.act.Answer.{Answer}
 use Rattle.ipcz_router.specs.declared.act.Answer.TheVariants as answers
 use Rattle.ipcz_node.specs.declared.act.Act.TheVariants.{Look, Post, Router as OfRouter, Idle}
 use Rattle.ipcz_node.specs.Node.{with_outbox, on_router, outbox_count}
-use Rattle.ipcz_node.specs.Hands.{deliver, is_hand_of}
-use Rattle.ipcz_node.specs.Acts.{commit_router, post_of, first_of, rest_of, has_mail_for}
+use Rattle.ipcz_node.specs.Hands.{deliver}
+use Rattle.ipcz_node.specs.Acts.{commit_router, post_of, first_of, rest_of}
 use Rattle.ipcz_world.specs.declared.mail.Mail.{Mail}
 use Rattle.ipcz_world.specs.declared.mail.Mail.TheVariants as mails
-use Rattle.ipcz_world.specs.WordAnswers.{source_for, touch, touch_word, link_answer, word_answer, try_answer, claim_answer}
+use Rattle.ipcz_world.specs.WordAnswers.{source_for, touch, touch_word, link_answer, word_answer, try_answer}
 use Rattle.ipcz_word.specs.Word.{Plan, Locks, Waits, Refuses, plan_of}
 use Rattle.ipcz_world.specs.Turns.{after_router_act, after_hand, after_look, after_post, full_message, may_act, is_full, is_clear}
 use Rattle.ipcz_world.specs.Turns.{is_first_pending}
 use Rattle.ipcz_world.proofs.weights.Totalling.{total_list-put_place}
 use Rattle.ipcz_world.proofs.facts.Tests.{and_first, and_second}
-use Rattle.ipcz_world.specs.Ranks.{Rates, router_worth, message_worth, box_worth, node_worth, mail_worth, rank, moving_worth, spends}
+use Rattle.ipcz_world.specs.Ranks.{Rates, router_worth, message_worth, box_worth, node_worth, mail_worth, rank}
 use Rattle.ipcz_world.specs.Ranks.{spends_at, uses_up}
 use Rattle.ipcz_world.proofs.ranks.NodeWorths.{node-outbox}
 use Rattle.ipcz_world.proofs.ranks.NodeHands.{node-delivered}

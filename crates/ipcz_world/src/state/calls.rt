@@ -1,7 +1,7 @@
 //! What callers do at a node of the world: open, put, get and close.
 
-ghost use Rattle.std.specs.Prelude.{◌≡◌, ◌<◌, ◌≤◌, ◌+◌, Some, None, IfOk, length};
-ghost use Rattle.ipcz_world.specs.World.{node_at, set_claimed};
+ghost use Rattle.std.specs.Prelude.{◌≡◌, ◌<◌, None, IfOk};
+ghost use Rattle.ipcz_world.specs.World.{node_at};
 ghost use Rattle.ipcz_world.specs.Steps.{StepFirst};
 ghost use Rattle.ipcz_world.specs.Steps.{open_with, open_on, put_step, get_step, close_step, Gives, GivesOrNoMemory, PutGives};
 ghost use Rattle.ipcz_world.specs.Taking.{IsRegular};

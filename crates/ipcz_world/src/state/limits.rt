@@ -1,6 +1,6 @@
 //! How many acts are enough for a settle where no item that wasn't read carries an end.
 
-ghost use Rattle.std.specs.Prelude.{ℕ, ◌≡◌, ◌<◌, length, map};
+ghost use Rattle.std.specs.Prelude.{◌≡◌, ◌<◌, length, map};
 ghost use Rattle.ipcz_base.specs.Totals.{total_list};
 ghost use Rattle.ipcz_node.specs.Serials.{entries_by};
 ghost use Rattle.ipcz_world.specs.SettleLimit.{higher, put_among, put_within, router_limit, node_limit, settle_limit};

@@ -1,15 +1,9 @@
-use Rattle.std.proofs.Common.{◌≡◌, ℕ, List, [], ◌∷◌, Some, None, ap, sym, subst, ◌∙◌, arith, refl}
-use Rattle.ipcz_router.specs.declared.act.Answer.TheVariants as answers
+use Rattle.std.proofs.Common.{ap, sym, subst, ◌∙◌, arith}
 use Rattle.ipcz_node.specs.Node.{Node}
-use Rattle.ipcz_node.specs.Calls.{put_refusal, get_refusal, got_at, close_refusal}
 use Rattle.ipcz_node.specs.Acts.{act_lacks_serials}
 use Rattle.ipcz_node.specs.RoomyNodes.{IsPossibleAct}
-use Rattle.ipcz_rule.specs.Rule.{Mine}
-use Rattle.ipcz_fabric.specs.CellStates.{change_part}
-use Rattle.ipcz_rule.proofs.Putting.{puts}
-use Rattle.ipcz_rule.proofs.Calling.{closes}
-use Rattle.ipcz_fabric.proofs.Forms.{gets_found, acts_touch}
-use Rattle.ipcz_fabric.proofs.Seating.{number_inside, reseated, may_by}
+use Rattle.ipcz_fabric.proofs.Forms.{acts_touch}
+use Rattle.ipcz_fabric.proofs.Seating.{number_inside, may_by}
 use Rattle.ipcz_fabric.proofs.cell.act_here.Goals as goal
 
 pub touch-requires-clause-node : goal.touch-requires-clause-node

@@ -1,4 +1,4 @@
-use Rattle.std.proofs.Common.{◌≡◌, ◌<◌, ◌+◌, ℕ, ap, sym, subst, ◌∙◌, arith}
+use Rattle.std.proofs.Common.{◌≡◌, ◌+◌, ℕ, subst, arith}
 use Rattle.atomic_table.specs.Table.{Allows}
 use Rattle.ipcz_rule.specs.Rule.{Rules}
 use Rattle.ipcz_fabric.proofs.cell.touch.Goals as goal

@@ -1,5 +1,5 @@
 use Rattle.std.proofs.Common.{sym, arith}
-use Rattle.ipcz_fabric.proofs.Counting.{count_may, claim_may}
+use Rattle.ipcz_fabric.proofs.Counting.{claim_may}
 use Rattle.ipcz_fabric.proofs.claims.claim_here.Goals as goal
 
 pub exchange_step-requires-clause-inside : goal.exchange_step-requires-clause-inside

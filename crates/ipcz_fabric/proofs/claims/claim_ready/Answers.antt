@@ -1,4 +1,3 @@
-use Rattle.std.proofs.Common.{arith}
 use Rattle.ipcz_router.specs.declared.act.RouterAct.TheVariants as router_acts
 use Rattle.ipcz_fabric.proofs.Forms.{actor}
 use Rattle.ipcz_fabric.proofs.Counting.{claim_grows}

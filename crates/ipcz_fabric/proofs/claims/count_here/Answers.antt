@@ -1,5 +1,5 @@
 use Rattle.std.proofs.Common.{sym, arith}
-use Rattle.ipcz_fabric.proofs.Counting.{count_may, claim_may}
+use Rattle.ipcz_fabric.proofs.Counting.{count_may}
 use Rattle.ipcz_fabric.proofs.claims.count_here.Goals as goal
 
 pub load_step-requires-clause-inside : goal.load_step-requires-clause-inside

@@ -1,6 +1,5 @@
-use Rattle.std.proofs.Common.{◌≡◌, arith, sym, subst, ◌∙◌}
+use Rattle.std.proofs.Common.{arith, sym, subst}
 use Rattle.std.specs.Slots.{slots_items}
-use Rattle.ipcz_world.specs.World.{World}
 use Rattle.ipcz_rule.specs.End.{IsShown}
 use Rattle.ipcz_fabric.proofs.BoxesRead.{read_at}
 use Rattle.ipcz_fabric.proofs.ReadBack.{resized, is_word_table, comes_back}

@@ -1,11 +1,9 @@
-use Rattle.std.proofs.Common.{◌≡◌, ◌+◌, ◌++◌, ◌∷◌, [], length, arith, ap, sym, ◌∙◌}
+use Rattle.std.proofs.Common.{length, arith, ap, sym, ◌∙◌}
 use Rattle.std.specs.Prelude.{Option, option_to_list}
 use Rattle.std.proofs.lemmas.List.{nil_from_length}
-use Rattle.ipcz_rule.specs.declared.view.View.{View}
-use Rattle.ipcz_rule.specs.Rule.{Mine}
 use Rattle.ipcz_fabric.specs.CellStates.{CellState}
 use Rattle.ipcz_fabric.proofs.ReadBack.{order_many}
-use Rattle.ipcz_fabric.proofs.Unions.{union_first, union_more, union_all, cell_taken}
+use Rattle.ipcz_fabric.proofs.Unions.{union_first, cell_taken}
 use Rattle.ipcz_fabric.proofs.ending.join_all.Goals as goal
 
 pub unreachable-requires : goal.unreachable-requires

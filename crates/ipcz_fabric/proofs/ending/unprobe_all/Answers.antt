@@ -1,4 +1,4 @@
-use Rattle.std.proofs.Common.{◌+◌, ◌≤◌, length, arith, ap, sym, refl}
+use Rattle.std.proofs.Common.{length, arith, ap, refl}
 use Rattle.ipcz_fabric.proofs.Resting.{left_first, left_more, left_none}
 use Rattle.ipcz_fabric.proofs.ending.unprobe_all.Goals as goal
 

@@ -1,4 +1,3 @@
-use Rattle.std.proofs.Common.{◌+◌, length}
 use Rattle.ipcz_fabric.proofs.Resting.{IsLeft}
 use Rattle.ipcz_fabric.proofs.ending.unprobe_all.Given as goal
 

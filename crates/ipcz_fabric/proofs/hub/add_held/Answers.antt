@@ -1,7 +1,7 @@
 use Rattle.std.proofs.Common.{◌∙◌, ◌+◌, ◌++◌, ◌∷◌, [], ap, subst, inl, inr, arith}
 use Rattle.ipcz_fabric.specs.Portals.{PortalValue}
 use Rattle.ipcz_fabric.specs.Hubs.{AddsHeld}
-use Rattle.ipcz_fabric.proofs.Holding.{IsWalked, walk_more, walk_end}
+use Rattle.ipcz_fabric.proofs.Holding.{walk_more, walk_end}
 use Rattle.ipcz_fabric.proofs.hub.add_held.Goals as goal
 
 pub returns-in_default : goal.returns-in_default

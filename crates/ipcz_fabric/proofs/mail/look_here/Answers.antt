@@ -1,4 +1,4 @@
-use Rattle.std.proofs.Common.{◌≡◌, ◌+◌, ℕ, ap, sym, ◌∙◌, arith}
+use Rattle.std.proofs.Common.{◌+◌, ℕ, ap, sym, ◌∙◌}
 use Rattle.ipcz_fabric.proofs.Mailing.{look_may}
 use Rattle.ipcz_fabric.proofs.mail.look_here.Goals as goal
 

@@ -1,4 +1,4 @@
-use Rattle.std.proofs.Common.{◌≡◌, ◌+◌, ℕ, ap, sym, ◌∙◌, arith}
+use Rattle.std.proofs.Common.{◌+◌, ℕ, ap, sym, ◌∙◌}
 use Rattle.ipcz_fabric.proofs.Mailing.{post_may}
 use Rattle.ipcz_fabric.proofs.mail.post_here.Goals as goal
 

@@ -1,4 +1,4 @@
-use Rattle.std.proofs.Common.{◌≡◌, ◌<◌, ◌-◌, ℕ, [], ◌∷◌, map, length, arith, ap, sym, subst, ◌∙◌, refl}
+use Rattle.std.proofs.Common.{◌≡◌, ◌<◌, ◌-◌, ℕ, [], map, length, arith, ap, sym, subst, ◌∙◌, refl}
 use Rattle.std.specs.Prelude.{option_to_list, Option}
 use Rattle.std.proofs.lemmas.List.{nil_from_length}
 use Rattle.ipcz_world.specs.World.{numbers_from}

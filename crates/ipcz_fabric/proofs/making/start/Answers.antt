@@ -1,6 +1,6 @@
-use Rattle.std.proofs.Common.{◌≡◌, ◌*◌, ℕ, List, replicate, None, ap, sym, subst, ◌∙◌}
+use Rattle.std.proofs.Common.{◌≡◌, ◌*◌, ℕ, List, ap, sym, subst, ◌∙◌}
 use Rattle.atomic_table.specs.Table.{opening}
-use Rattle.ipcz_rule.specs.Rule.{Slot, Rules}
+use Rattle.ipcz_rule.specs.Rule.{Rules}
 use Rattle.ipcz_rule.specs.Start.{opening_words, opening_view, no_messages}
 use Rattle.ipcz_rule.proofs.Starting.{opens}
 use Rattle.ipcz_fabric.proofs.making.start.Goals as goal

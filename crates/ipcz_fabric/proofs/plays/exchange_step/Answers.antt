@@ -1,4 +1,4 @@
-use Rattle.std.proofs.Common.{ap, sym, ◌∙◌, arith, bit_and, bit_or, eqb}
+use Rattle.std.proofs.Common.{ap, sym, ◌∙◌, arith, eqb}
 use prog.Atomic.{either}
 use Rattle.atomic_table.specs.Seated.{TableId}
 use Rattle.ipcz_fabric.proofs.Telling.{step_may}

@@ -1,5 +1,4 @@
-use Rattle.std.proofs.Common.{ap, sym, ◌∙◌, arith, bit_and, bit_or, eqb}
-use prog.Atomic.{either}
+use Rattle.std.proofs.Common.{ap, sym, ◌∙◌, arith}
 use Rattle.atomic_table.specs.Seated.{TableId}
 use Rattle.ipcz_fabric.proofs.Telling.{step_may}
 use Rattle.ipcz_fabric.proofs.plays.load_step.Goals as goal

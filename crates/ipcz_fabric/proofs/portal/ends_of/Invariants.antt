@@ -1,4 +1,4 @@
-use Rattle.std.proofs.Common.{◌≡◌, map, take}
+use Rattle.std.proofs.Common.{◌≡◌, take}
 use Rattle.ipcz_fabric.specs.Portals.{ends_of}
 use Rattle.ipcz_fabric.proofs.portal.ends_of.Given as goal
 

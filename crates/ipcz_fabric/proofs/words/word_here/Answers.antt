@@ -1,4 +1,4 @@
-use Rattle.std.proofs.Common.{◌≡◌, ℕ, Option, Some, None, ap, sym, subst, ◌∙◌, arith}
+use Rattle.std.proofs.Common.{ap, sym, ◌∙◌}
 use Rattle.ipcz_node.specs.Node.{Node, word_side}
 use Rattle.ipcz_fabric.proofs.Wording.{word_there, can_word}
 use Rattle.ipcz_fabric.proofs.words.word_here.Goals as goal

@@ -1,4 +1,4 @@
-use Rattle.std.proofs.Common.{◌≡◌, ap, sym, ◌∙◌, arith}
+use Rattle.std.proofs.Common.{sym, ◌∙◌}
 use Rattle.ipcz_fabric.proofs.Wording.{word_there, can_word}
 use Rattle.ipcz_fabric.proofs.words.word_named.Goals as goal
 

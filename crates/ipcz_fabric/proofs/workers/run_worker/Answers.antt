@@ -1,5 +1,5 @@
 use Rattle.ipcz_fabric.specs.Workers.{Works}
-use Rattle.std.proofs.Common.{◌∙◌, ap, sym, subst}
+use Rattle.std.proofs.Common.{sym, subst}
 use Rattle.ipcz_fabric.proofs.Working.{goes_on-start, goes_on-stop, goes_on-last, goes_on-turn, goes_on-end}
 use Rattle.ipcz_fabric.proofs.workers.run_worker.Goals as goal
 

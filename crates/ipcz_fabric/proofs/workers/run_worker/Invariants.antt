@@ -1,4 +1,3 @@
-use Rattle.std.proofs.Common.{◌≡◌, ◌-◌}
 use Rattle.ipcz_fabric.proofs.Working.{GoesOn}
 use Rattle.ipcz_fabric.proofs.workers.run_worker.Given as goal
 

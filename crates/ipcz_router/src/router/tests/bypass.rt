@@ -1,5 +1,5 @@
 //! A proxy, the routers beside it, and its bypass step by step.
-ghost use Rattle.std.specs.Prelude.{◌≡◌, ◌≤◌};
+ghost use Rattle.std.specs.Prelude.{◌≤◌};
 ghost use Rattle.ipcz_base.specs.Limits.{last_number};
 
 use super::{ACROSS, END, carry, letter, plain, puts, step};

@@ -1,8 +1,8 @@
-use Rattle.std.proofs.Common.{◌≡◌, List, ap, sym, subst, ◌∙◌, OnOk, arith}
+use Rattle.std.proofs.Common.{List, ap, sym, subst, ◌∙◌, OnOk, arith}
 use lib.ListN.{get_elem?}
 use Rattle.ipcz_node.specs.Node.{Node}
 use Rattle.ipcz_rule.specs.declared.view.Part.{Part}
-use Rattle.ipcz_fabric.specs.CellStates.{CellState, part_in}
+use Rattle.ipcz_fabric.specs.CellStates.{CellState}
 use Rattle.ipcz_fabric.specs.Hubs.{AddsHeld}
 use Rattle.ipcz_fabric.proofs.cell.NodeCell.add_held.Goals as goal
 

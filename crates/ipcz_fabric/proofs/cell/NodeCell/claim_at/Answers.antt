@@ -1,4 +1,4 @@
-use Rattle.std.proofs.Common.{◌≡◌, ℕ, [], ◌∷◌, ◌++◌, Some, ap, sym, subst, ◌∙◌, refl, arith}
+use Rattle.std.proofs.Common.{ℕ, [], ◌∷◌, ◌++◌, Some, ap, sym, ◌∙◌, refl, arith}
 use Rattle.ipcz_node.specs.Node.{Node}
 use Rattle.ipcz_rule.specs.Rule.{Mine}
 use Rattle.ipcz_rule.specs.Steps.{claimed_part}

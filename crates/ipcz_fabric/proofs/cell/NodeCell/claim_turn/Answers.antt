@@ -1,4 +1,4 @@
-use Rattle.std.proofs.Common.{◌<◌, ◌≤◌, arith}
+use Rattle.std.proofs.Common.{arith}
 use Rattle.ipcz_fabric.proofs.TurnParts.{claim_acts, claim_dries, claim_below}
 use Rattle.ipcz_fabric.proofs.cell.NodeCell.claim_turn.Goals as goal
 

@@ -1,4 +1,3 @@
-use Rattle.ipcz_router.specs.declared.act.Answer.TheVariants as answers
 use Rattle.ipcz_fabric.specs.Outcomes.{touched}
 use Rattle.ipcz_rule.specs.Steps.{close_part}
 use Rattle.ipcz_fabric.proofs.cell.NodeCell.close.Given as goal

@@ -1,4 +1,4 @@
-use Rattle.std.proofs.Common.{◌<◌, Bool, subst, arith}
+use Rattle.std.proofs.Common.{Bool, subst, arith}
 use Rattle.ipcz_fabric.specs.Turns.{CanPost}
 use Rattle.ipcz_fabric.proofs.FirstActs.{empty_more, empty_found}
 use Rattle.ipcz_fabric.proofs.cell.NodeCell.first_empty.Goals as goal

@@ -1,4 +1,4 @@
-use Rattle.std.proofs.Common.{◌≡◌, ◌+◌, ◌*◌, ℕ, ap, sym, ◌∙◌, arith}
+use Rattle.std.proofs.Common.{◌≡◌, ◌+◌, ℕ, ap, ◌∙◌, arith}
 use Rattle.ipcz_rule.proofs.WordKinds.{loads}
 use Rattle.ipcz_fabric.specs.CellStates.{CellState, part_in}
 use Rattle.ipcz_fabric.specs.Mails.{mail_word}

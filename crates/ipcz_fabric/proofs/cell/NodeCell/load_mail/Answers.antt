@@ -1,4 +1,4 @@
-use Rattle.std.proofs.Common.{◌≡◌, ◌+◌, ◌*◌, ℕ, ◌∙◌, ap, sym}
+use Rattle.std.proofs.Common.{◌+◌, ◌*◌, ℕ, ◌∙◌, ap}
 use Rattle.ipcz_rule.proofs.WordKinds.{loads}
 use Rattle.ipcz_fabric.specs.CellStates.{part_in}
 use Rattle.ipcz_fabric.proofs.Mailing.{seen_cell, load_tells}

@@ -1,4 +1,4 @@
-use Rattle.std.proofs.Common.{sym, arith, refl}
+use Rattle.std.proofs.Common.{arith, refl}
 use Rattle.ipcz_fabric.proofs.Mailing.{seen_cell, load_tells}
 use Rattle.ipcz_fabric.proofs.OpenSteps.{word_load_may}
 use Rattle.ipcz_fabric.proofs.cell.NodeCell.load_word.Goals as goal

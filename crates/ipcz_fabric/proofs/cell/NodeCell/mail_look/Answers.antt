@@ -1,8 +1,8 @@
-use Rattle.std.proofs.Common.{◌≡◌, ◌+◌, ◌*◌, ℕ, List, [], ◌∷◌, ◌++◌, Option, Some, None, ap, sym, subst, ◌∙◌, refl, arith}
+use Rattle.std.proofs.Common.{◌≡◌, ◌+◌, ◌*◌, ℕ, ◌∷◌, Some, ap, sym, ◌∙◌, arith}
 use Rattle.atomic_table.specs.Table.{rest}
 use Rattle.ipcz_rule.specs.Rule.{Mine}
 use Rattle.ipcz_fabric.specs.CellStates.{CellState, part_in}
-use Rattle.ipcz_fabric.specs.Mails.{mail_word, slot_of}
+use Rattle.ipcz_fabric.specs.Mails.{mail_word}
 use Rattle.ipcz_fabric.proofs.Seating.{number_is, number_inside}
 use Rattle.ipcz_fabric.proofs.Mailing.{told_hit, told_miss, load_tells, look_tells}
 use Rattle.ipcz_fabric.proofs.Posting.{looked_cell}

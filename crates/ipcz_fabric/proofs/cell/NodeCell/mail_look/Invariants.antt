@@ -1,5 +1,5 @@
 use Rattle.ipcz_fabric.specs.Mails.{slot_of, mail_word}
-use Rattle.ipcz_fabric.specs.Outcomes.{posted, looked, handed}
+use Rattle.ipcz_fabric.specs.Outcomes.{looked}
 use Rattle.ipcz_fabric.proofs.cell.NodeCell.mail_look.Given as goal
 
 abbrev pub ghosts-look_here : goal.ghosts-look_here

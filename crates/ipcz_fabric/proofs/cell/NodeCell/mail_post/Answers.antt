@@ -1,4 +1,4 @@
-use Rattle.std.proofs.Common.{◌≡◌, ◌<◌, ◌+◌, ◌-◌, cond, is_some, ◌*◌, ℕ, List, length, [], ◌∷◌, ◌++◌, Option, Some, None, ap, sym, subst, ◌∙◌, refl, arith}
+use Rattle.std.proofs.Common.{◌≡◌, ◌+◌, ◌-◌, cond, is_some, ◌*◌, ℕ, length, None, ap, sym, ◌∙◌, refl, arith}
 use Rattle.ipcz_rule.specs.Rule.{Mine}
 use Rattle.ipcz_fabric.specs.CellStates.{CellState, part_in}
 use Rattle.ipcz_fabric.proofs.Seating.{number_is, number_inside}

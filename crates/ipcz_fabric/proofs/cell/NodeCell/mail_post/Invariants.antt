@@ -1,5 +1,4 @@
-use Rattle.ipcz_fabric.specs.Mails.{slot_of, mail_word}
-use Rattle.ipcz_fabric.specs.Outcomes.{posted, looked, handed}
+use Rattle.ipcz_fabric.specs.Outcomes.{posted}
 use Rattle.ipcz_fabric.proofs.cell.NodeCell.mail_post.Given as goal
 
 abbrev pub ghosts-post_here : goal.ghosts-post_here

@@ -1,11 +1,11 @@
-use Rattle.std.proofs.Common.{◌≡◌, ◌+◌, ◌*◌, ℕ, List, [], ◌∷◌, ◌++◌, false, ap, sym, subst, ◌∙◌, refl, arith}
-use Rattle.ipcz_rule.specs.Rule.{Mine, has_number}
+use Rattle.std.proofs.Common.{◌≡◌, ◌+◌, ◌*◌, ℕ, List, false, ap, sym, subst, ◌∙◌, arith}
+use Rattle.ipcz_rule.specs.Rule.{has_number}
 use Rattle.ipcz_fabric.specs.CellStates.{CellState, part_in}
 use Rattle.ipcz_fabric.specs.Cells.{IsCell}
-use Rattle.ipcz_fabric.specs.Mails.{IsProbed, HasSeen, mail_word, slot_of}
+use Rattle.ipcz_fabric.specs.Mails.{mail_word, slot_of}
 use Rattle.ipcz_fabric.specs.Outcomes.{is_itself}
 use Rattle.ipcz_fabric.proofs.Seating.{number_is, number_inside}
-use Rattle.ipcz_fabric.proofs.Mailing.{told_hit, told_miss, seen_cell, probed_cell, probe_tells, load_tells}
+use Rattle.ipcz_fabric.proofs.Mailing.{told_hit, told_miss, probed_cell, probe_tells, load_tells}
 use Rattle.ipcz_fabric.proofs.cell.NodeCell.mail_probe.Goals as goal
 
 pub probe_here-found-requires-clause-picked : goal.probe_here-found-requires-clause-picked

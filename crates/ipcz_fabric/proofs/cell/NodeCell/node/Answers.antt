@@ -1,4 +1,4 @@
-use Rattle.std.proofs.Common.{◌<◌, ap, sym, ◌∙◌, arith}
+use Rattle.std.proofs.Common.{ap, ◌∙◌, arith}
 use Rattle.ipcz_fabric.specs.CellStates.{CellState}
 use Rattle.ipcz_fabric.proofs.Seating.{number_is, number_inside}
 use Rattle.ipcz_fabric.proofs.cell.NodeCell.node.Goals as goal

@@ -1,8 +1,8 @@
-use Rattle.std.proofs.Common.{◌≡◌, ℕ, [], ◌∷◌, ◌++◌, Ok, Err, ap, sym, ◌∙◌, refl, arith}
+use Rattle.std.proofs.Common.{◌≡◌, [], ◌∷◌, ◌++◌, Err, ap, sym, ◌∙◌, refl, arith}
 use Rattle.ipcz_node.specs.Calls.{serials_refusal}
 use Rattle.ipcz_rule.specs.declared.view.Part.{Part}
 use Rattle.ipcz_fabric.specs.Opens.{UnderWay, Fresh, Lost}
-use Rattle.ipcz_fabric.proofs.OpenSteps.{no_open, same_open, fresh_open, still_ready}
+use Rattle.ipcz_fabric.proofs.OpenSteps.{no_open, same_open, fresh_open}
 use Rattle.ipcz_fabric.proofs.cell.NodeCell.open_pair.Goals as goal
 
 pub returns-then-is_opening : goal.returns-then-is_opening

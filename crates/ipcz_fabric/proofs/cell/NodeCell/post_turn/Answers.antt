@@ -1,6 +1,4 @@
-use Rattle.std.proofs.Common.{Bool, ap, subst, ◌∙◌}
-use Rattle.ipcz_node.specs.Node.{Node}
-use Rattle.ipcz_node.specs.Acts.{has_mail_for}
+use Rattle.std.proofs.Common.{Bool, subst}
 use Rattle.ipcz_fabric.specs.Mails.{Probes, mail_word}
 use Rattle.ipcz_fabric.proofs.TurnActs.{post_acts, probed_can}
 use Rattle.ipcz_fabric.proofs.cell.NodeCell.post_turn.Goals as goal

@@ -1,6 +1,4 @@
-use Rattle.std.proofs.Common.{ap, subst, ◌∙◌}
 use Rattle.std.proofs.lemmas.Result.{err_from_is_err_and}
-use Rattle.ipcz_fabric.specs.CellStates.{CellState}
 use Rattle.ipcz_fabric.proofs.TurnWords.{wake_acts}
 use Rattle.ipcz_fabric.proofs.TurnActs.{after_same, wake_refused}
 use Rattle.ipcz_fabric.proofs.cell.NodeCell.wake_turn.Goals as goal

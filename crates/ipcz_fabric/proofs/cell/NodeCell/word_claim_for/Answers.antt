@@ -1,4 +1,4 @@
-use Rattle.std.proofs.Common.{◌≡◌, ◌<◌, ◌≤◌, ◌+◌, ℕ, List, [], ◌∷◌, ◌++◌, Option, Some, None, ap, sym, subst, ◌∙◌, refl, arith}
+use Rattle.std.proofs.Common.{◌≡◌, ℕ, [], ◌∷◌, ◌++◌, ap, sym, subst, ◌∙◌, refl, arith}
 use Rattle.ipcz_router.specs.declared.act.Answer.TheVariants as answers
 use Rattle.ipcz_router.specs.declared.act.RouterAct.TheVariants as router_acts
 use Rattle.ipcz_node.specs.declared.act.Act.TheVariants as acts
@@ -9,7 +9,6 @@ use Rattle.ipcz_rule.specs.Steps.{act_part}
 use Rattle.ipcz_fabric.specs.CellStates.{CellState, part_in, change_part}
 use Rattle.ipcz_fabric.specs.Claims.{CanClaim, Got, Lost}
 use Rattle.ipcz_fabric.proofs.Mailing.{told_hit, told_miss}
-use Rattle.ipcz_fabric.proofs.Wording.{raced_cell}
 use Rattle.ipcz_fabric.proofs.Counting.{claimed_cell}
 use Rattle.ipcz_fabric.proofs.cell.NodeCell.word_claim_for.Goals as goal
 

@@ -1,4 +1,4 @@
-use Rattle.std.proofs.Common.{◌≡◌, ℕ, [], ◌∷◌, ◌++◌, Some, None, ap, sym, subst, ◌∙◌, refl, arith}
+use Rattle.std.proofs.Common.{[], ◌∷◌, ◌++◌, ap, sym, ◌∙◌, arith}
 use Rattle.ipcz_node.specs.Node.{Node}
 use Rattle.ipcz_node.specs.Calls.{serials_refusal, open_node}
 use Rattle.ipcz_rule.specs.Rule.{Mine}

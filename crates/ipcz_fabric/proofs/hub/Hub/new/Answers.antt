@@ -1,4 +1,4 @@
-use Rattle.std.proofs.Common.{◌≡◌, sym, ◌∙◌, arith}
+use Rattle.std.proofs.Common.{sym, ◌∙◌, arith}
 use Rattle.ipcz_fabric.proofs.ReadBack.{order_many}
 use Rattle.ipcz_fabric.proofs.hub.Hub.new.Goals as goal
 

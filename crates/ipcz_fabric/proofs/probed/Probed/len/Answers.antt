@@ -1,4 +1,4 @@
-use Rattle.std.proofs.Common.{length, List, ℕ, ap, sym, ◌∙◌, arith}
+use Rattle.std.proofs.Common.{length, List, ℕ, ap, arith}
 use Rattle.ipcz_fabric.proofs.Few.{few}
 use Rattle.ipcz_fabric.proofs.probed.Probed.len.Goals as goal
 

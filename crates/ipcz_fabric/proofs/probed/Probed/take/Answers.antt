@@ -1,4 +1,4 @@
-use Rattle.std.proofs.Common.{arith, ap, ◌∙◌}
+use Rattle.std.proofs.Common.{arith}
 use Rattle.ipcz_fabric.proofs.Taking.{taken_once, taken_below, taken_without, taken_place}
 use Rattle.ipcz_fabric.proofs.probed.Probed.take.Goals as goal
 

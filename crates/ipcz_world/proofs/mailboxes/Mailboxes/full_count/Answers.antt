@@ -1,4 +1,4 @@
-use Rattle.std.proofs.Common.{◌≡◌, cond, Some, arith, ap, sym, ◌∙◌}
+use Rattle.std.proofs.Common.{cond, Some, arith}
 use Rattle.ipcz_world.specs.Turns.{is_clear}
 use Rattle.ipcz_world.specs.Tallies.{Tells}
 use Rattle.ipcz_world.proofs.code.Tallying.{tallied-item}

@@ -1,4 +1,4 @@
-use Rattle.std.proofs.Common.{◌≡◌, ◌<◌, ◌-◌, ℕ, Bool, false, ap, sym, ◌∙◌, arith}
+use Rattle.std.proofs.Common.{◌≡◌, ◌<◌, ◌-◌, false, ap, sym, ◌∙◌, arith}
 use Rattle.ipcz_node.specs.Acts.{first_number}
 use Rattle.ipcz_node.proofs.Turns.{passed}
 use Rattle.ipcz_world.proofs.Vocabulary.{place_at, Empty, World, mail_at, way}

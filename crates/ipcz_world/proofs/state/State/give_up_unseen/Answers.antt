@@ -1,4 +1,4 @@
-use Rattle.std.specs.Prelude.{◌≡◌, Result, Ok, Err, OnOk, IfErr}
+use Rattle.std.specs.Prelude.{Result, Ok, Err, OnOk, IfErr}
 use Rattle.std.proofs.Common.{inl, inr, ap, sym, subst, refl, ◌∙◌}
 use Rattle.ipcz_base.specs.declared.refusal.Refusal.{Refusal}
 use Rattle.ipcz_node.specs.Acts.{stand_in}

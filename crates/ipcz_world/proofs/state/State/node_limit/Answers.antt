@@ -2,7 +2,7 @@ use Rattle.std.proofs.Common.{◌≡◌, ◌+◌, ◌*◌, ℕ, length, map, ref
 use Rattle.std.specs.FinMap.{entries}
 use Rattle.ipcz_base.specs.Totals.{total_of, total}
 use Rattle.ipcz_node.proofs.Serials.{entries_are}
-use Rattle.ipcz_world.proofs.Vocabulary.{World, Node, Router, node_at, place_at, bare_node, total_list}
+use Rattle.ipcz_world.proofs.Vocabulary.{World, Router, node_at, place_at, bare_node, total_list}
 use Rattle.ipcz_world.specs.SettleLimit.{router_limit, node_limit}
 use Rattle.ipcz_world.specs.Tallies.{Tells}
 use Rattle.ipcz_world.proofs.code.Tallying.{tallied-item, tallied-list, of-entries}

@@ -1,4 +1,4 @@
-use Rattle.std.proofs.Common.{◌≡◌, ◌<◌, ◌≤◌, ◌+◌, ◌*◌, cond, length, arith, ap, subst, ◌∙◌}
+use Rattle.std.proofs.Common.{◌<◌, ◌≤◌, ◌+◌, ◌*◌, cond, length, arith, ap, subst}
 use Rattle.ipcz_world.specs.Turns.{is_clear}
 use Rattle.ipcz_world.proofs.Vocabulary.{World, node_at, bare_node, total_list}
 use Rattle.ipcz_world.specs.SettleLimit.{node_limit, settle_limit}

@@ -1,4 +1,4 @@
-use Rattle.std.proofs.Common.{length, map, Some, subst, sym, ◌∙◌}
+use Rattle.std.proofs.Common.{length, Some, subst, sym}
 use Rattle.ipcz_world.specs.Tallies.{Tells}
 use Rattle.ipcz_world.proofs.code.Tallying.{tallied-item, tallied-list, of-parts}
 use Rattle.ipcz_world.proofs.state.limits.waiting.Goals as goal

@@ -1,7 +1,5 @@
-use Rattle.std.proofs.Common.{◌≡◌, ◌∙◌, ℕ, IfOk, true, false, sym, ap, subst, arith, inl, inr}
-use Rattle.ipcz_world.specs.declared.step.Step.TheVariants.{Turn}
+use Rattle.std.proofs.Common.{◌≡◌, ◌∙◌, ℕ, IfOk, sym, ap, subst, arith}
 use Rattle.ipcz_world.specs.Lawfulness.{IsLawful}
-use Rattle.ipcz_world.specs.Steps.{StepFirst}
 use Rattle.ipcz_world.specs.Settling.{IsSettle, IsRefusedSettle, next_node}
 use Rattle.ipcz_world.specs.Visiting.{AreIdle, IsNextBusy}
 use Rattle.ipcz_world.proofs.code.Regular.{lawful-regular}
