@@ -14,8 +14,6 @@ mod mailbox;
 mod making;
 pub mod namings;
 mod receivers;
-#[cfg(test)]
-mod tests;
 
 pub use births::note_births;
 use ipcz_lines::{Kind, Link};
