@@ -2,6 +2,7 @@
 
     python3 tools/benchmark.py library
     python3 tools/benchmark.py instructions
+    python3 tools/benchmark.py threads
     python3 tools/benchmark.py crates/ipcz_run/out/ipcz_run [WORKLOAD ..]
     python3 tools/benchmark.py crates/ipcz_run/out/ipcz_run pairs
     python3 tools/benchmark.py crates/ipcz_run/out/ipcz_run waiting
@@ -9,6 +10,9 @@
 
 `library` prints the number of each measure of `ipcz_bench`, the least of five runs. `instructions` counts them with valgrind's
 callgrind, which a busy machine doesn't disturb: for one round, from a run of 2,000 rounds and one of 12,000, subtracted.
+
+`threads` prints those of `ipcz_bench_threads`: what a parcel takes on one thread through worlds, cells and a hub, in turn, the least
+of seven runs each, and the ratios; and what it takes between two threads, the least of nine runs, with their middle.
 
 Each workload is made for a quarter, a half and the whole of 1,048,576 bytes, which is the longest script.
 The table has the `user` time in milliseconds (the least of five runs where a run is short) and the peak
@@ -255,13 +259,15 @@ def compare_pairs(program):
             print("%-28s %6.2f microseconds a parcel, %4.2f times" % (title, cost, cost / one))
 
 
-BENCH = os.path.join(os.path.dirname(os.path.abspath(__file__)), "../crates/ipcz_bench/out/ipcz_bench")
+CRATES = os.path.join(os.path.dirname(os.path.abspath(__file__)), "../crates")
+BENCH = os.path.join(CRATES, "ipcz_bench/out/ipcz_bench")
+BENCH_THREADS = os.path.join(CRATES, "ipcz_bench_threads/out/ipcz_bench_threads")
 MEASURES = ["one_node", "two_nodes", "long_parcels", "last_pair", "each_pair", "waiting_1", "waiting_10", "waiting_100",
             "waiting_1000", "act", "moves", "fresh_pairs", "used_pairs"]
 
 
-def measured(name):
-    return int(subprocess.run([BENCH, name], stdout=subprocess.PIPE, check=True).stdout)
+def measured(name, program=BENCH):
+    return int(subprocess.run([program, name], stdout=subprocess.PIPE, check=True).stdout)
 
 
 def show_library():
@@ -269,16 +275,28 @@ def show_library():
         print("%-14s %8d" % (name, min(measured(name) for _ in range(5))), flush=True)
 
 
-def instructions(name, rounds):
+def show_threads():
+    alone = [("two_nodes", BENCH), ("cells", BENCH_THREADS), ("hub", BENCH_THREADS)]
+    runs = [[measured(name, program) for name, program in alone] for _ in range(7)]
+    times = [min(run[i] for run in runs) for i in range(3)]
+    for (name, _), time in zip(alone, times):
+        print("%-16s %7d ns, %4.2f times a world's" % (name, time, time / times[0]), flush=True)
+    for name in ("cells_on_threads", "hub_on_threads", "round_trips", "hub_round_trips"):
+        times = sorted(measured(name, BENCH_THREADS) for _ in range(9))
+        print("%-16s %7d ns (the middle of nine: %d), %4.2f million a second" % (name, times[0], times[4], 1000 / times[0]), flush=True)
+
+
+def instructions(name, rounds, program=BENCH):
     with tempfile.TemporaryDirectory() as folder:
         done = subprocess.run(["valgrind", "--tool=callgrind", "--callgrind-out-file=" + os.path.join(folder, "out"),
-                               BENCH, name, str(rounds)], stdout=subprocess.DEVNULL, stderr=subprocess.PIPE, text=True, check=True)
+                               program, name, str(rounds)], stdout=subprocess.DEVNULL, stderr=subprocess.PIPE, text=True, check=True)
     return int(done.stderr.split("Collected :")[1].split()[0])
 
 
 def show_instructions():
-    for name in MEASURES[:-2]:
-        print("%-14s %8d" % (name, round((instructions(name, 12000) - instructions(name, 2000)) / 10000)), flush=True)
+    for name, program in [(name, BENCH) for name in MEASURES[:-2]] + [("cells", BENCH_THREADS), ("hub", BENCH_THREADS)]:
+        each = (instructions(name, 12000, program) - instructions(name, 2000, program)) / 10000
+        print("%-14s %8d" % (name, round(each)), flush=True)
 
 
 def nested(size):
@@ -313,6 +331,8 @@ def main():
         return show_library()
     if sys.argv[1:] == ["instructions"]:
         return show_instructions()
+    if sys.argv[1:] == ["threads"]:
+        return show_threads()
     program = os.path.abspath(sys.argv[1])
     wanted = sys.argv[2:]
     if wanted == ["largest"]:

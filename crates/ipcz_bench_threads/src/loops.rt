@@ -1,0 +1,115 @@
+//! The loops of the measures, over any talkers. Each ends by itself, and tells whether it went as it should.
+use crate::talkers::Talker;
+use ipcz_node::Happened;
+use std::thread::yield_now;
+
+/// The bytes of a parcel.
+pub const LENGTH: usize = 16;
+
+// More turns than a loop takes on its way.
+const TURNS: u64 = 1_000_000_000;
+
+// How many parcels may wait to be posted.
+const AHEAD: u64 = 4;
+
+// Takes turns until there is nothing to do.
+fn acts<T: Talker>(talker: &mut T) -> bool {
+    for _turn in 0..TURNS {
+        match talker.turn() {
+            Ok(Happened::Idle) => return true,
+            Ok(_) => {}
+            Err(_) => return false,
+        }
+    }
+    false
+}
+
+/// So many times a put at one talker, the acts of both, and a get at the other.
+pub fn pass<T: Talker>(left: &mut T, right: &mut T, rounds: u64) -> bool {
+    for _round in 0..rounds {
+        if !left.put(LENGTH) || !acts(left) || !acts(right) || !right.get() {
+            return false;
+        }
+    }
+    true
+}
+
+// Lets another thread run, where many turns in a row had nothing to do.
+fn rest(idle: u64) {
+    if idle % 1024 == 1023 {
+        yield_now();
+    }
+}
+
+/// Puts so many parcels, a few ahead of those that were posted, and takes turns until all are posted.
+pub fn put_all<T: Talker>(talker: &mut T, rounds: u64) -> bool {
+    let mut put = 0u64;
+    let mut posted = 0u64;
+    let mut idle = 0u64;
+    for _turn in 0..TURNS {
+        if posted == rounds {
+            return true;
+        }
+        if put < rounds && put < posted.saturating_add(AHEAD) {
+            if !talker.put(LENGTH) {
+                return false;
+            }
+            put = put.saturating_add(1);
+        }
+        match talker.turn() {
+            Ok(Happened::Post(..)) => posted = posted.saturating_add(1),
+            Ok(Happened::Idle) => {
+                idle = idle.wrapping_add(1);
+                rest(idle);
+            }
+            Ok(_) | Err(_) => {}
+        }
+    }
+    false
+}
+
+// Takes turns until a message was handled that brings a parcel, and gets it.
+fn awaits<T: Talker>(talker: &mut T) -> bool {
+    for turn in 0..TURNS {
+        match talker.turn() {
+            Ok(Happened::Hand { .. }) => {
+                if talker.get() {
+                    return true;
+                }
+            }
+            Ok(Happened::Idle) => rest(turn),
+            Ok(_) | Err(_) => {}
+        }
+    }
+    false
+}
+
+/// Takes turns until so many parcels were got.
+pub fn get_all<T: Talker>(talker: &mut T, rounds: u64) -> bool {
+    for _round in 0..rounds {
+        if !awaits(talker) {
+            return false;
+        }
+    }
+    true
+}
+
+/// So many times a put of a byte, and the get of its answer.
+pub fn ask<T: Talker>(talker: &mut T, rounds: u64) -> bool {
+    for _round in 0..rounds {
+        if !talker.put(1) || !awaits(talker) {
+            return false;
+        }
+    }
+    true
+}
+
+/// So many times a get, and the put of a byte as its answer; then the acts that are left.
+pub fn answer<T: Talker>(talker: &mut T, rounds: u64) -> bool {
+    for _round in 0..rounds {
+        if !awaits(talker) || !talker.put(1) {
+            return false;
+        }
+    }
+    acts(talker)
+}

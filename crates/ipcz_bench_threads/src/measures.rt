@@ -1,0 +1,190 @@
+//! What each measure does, and how long it takes.
+ghost use Rattle.std.specs.Prelude.{◌≡◌};
+
+use crate::loops::{answer, ask, get_all, pass, put_all};
+use crate::talkers::{Own, Shared, Talker};
+use ipcz_base::{End, Side};
+use ipcz_fabric::{Blank, Fabric, FabricName, Hub, NodeCell, start};
+use std::alloc::Global;
+use std::marker::Brand;
+use std::sync::Wait;
+use std::thread::{Threads, join};
+use std::time::{Clock, Instant};
+
+const LEFT: End = End {
+    pair: 0,
+    side: Side::A,
+};
+
+const RIGHT: End = End {
+    pair: 0,
+    side: Side::B,
+};
+
+/// How two talkers pass parcels.
+#[derive(Clone, Copy)]
+pub enum Way {
+    /// On one thread, one parcel after the other.
+    Alone,
+    /// One thread puts, another gets.
+    Threads,
+    /// A byte there and back, between two threads.
+    Trips,
+}
+
+/// What is measured.
+#[derive(Clone, Copy)]
+pub enum Measure {
+    /// Cells that a thread owns.
+    Cells(Way),
+    /// Portals of a hub.
+    Hub(Way),
+    /// Each of these, one after the other.
+    All,
+}
+
+impl Measure {
+    /// The measure of a name.
+    pub fn named(name: &str) -> Option<Measure> {
+        match name {
+            "cells" => Some(Measure::Cells(Way::Alone)),
+            "cells_on_threads" => Some(Measure::Cells(Way::Threads)),
+            "round_trips" => Some(Measure::Cells(Way::Trips)),
+            "hub" => Some(Measure::Hub(Way::Alone)),
+            "hub_on_threads" => Some(Measure::Hub(Way::Threads)),
+            "hub_round_trips" => Some(Measure::Hub(Way::Trips)),
+            "all" => Some(Measure::All),
+            _ => None,
+        }
+    }
+}
+
+// Whether two talkers pass so many parcels.
+fn talk<R: Threads, T: Talker + Send>(
+    rt: &R,
+    left: &mut T,
+    right: &mut T,
+    way: Way,
+    rounds: u64,
+) -> bool {
+    let (one, two) = match way {
+        Way::Alone => (pass(left, right, rounds), true),
+        Way::Threads => join(rt, || put_all(left, rounds), || get_all(right, rounds)),
+        Way::Trips => join(rt, || ask(left, rounds), || answer(right, rounds)),
+    };
+    one && two
+}
+
+// The share of one of so many rounds in nanoseconds, where they went as they should.
+fn timed<R: Threads + Clock, T: Talker + Send>(
+    rt: &R,
+    left: &mut T,
+    right: &mut T,
+    way: Way,
+    rounds: u64,
+) -> Option<u64> {
+    let start = Instant::now(rt).ok()?;
+    if !talk(rt, left, right, way, rounds) {
+        return None;
+    }
+    let spent = start.elapsed(rt).ok()?.as_nanos();
+    u64::try_from(spent.checked_div(rounds as u128)?).ok()
+}
+
+// Two cells of one table.
+fn by_cells<F: FabricName + Send + Sync, R: Threads + Wait + Clock + Sync>(
+    rt: &R,
+    alloc: Global,
+    blank: Blank,
+    way: Way,
+    rounds: u64,
+) -> Option<u64>
+    requires { blank ≡ F.table }
+{
+    let (fabric, mut cells) = blank.name::<F>().ok()?;
+    let (right, left) = (cells.pop()?, cells.pop()?);
+    let mut left = Own {
+        fabric: &fabric,
+        cell: left,
+        at: LEFT,
+        alloc,
+    };
+    let mut right = Own {
+        fabric: &fabric,
+        cell: right,
+        at: RIGHT,
+        alloc,
+    };
+    timed(rt, &mut left, &mut right, way, rounds)
+}
+
+// Two portals of one hub.
+fn by_hub<F: FabricName + Send + Sync, R: Threads + Wait + Clock + Sync>(
+    rt: &R,
+    alloc: Global,
+    blank: Blank,
+    way: Way,
+    rounds: u64,
+) -> Option<u64>
+    requires { blank ≡ F.table }
+{
+    let (fabric, cells) = blank.name::<F>().ok()?;
+    let (hub, mut portals) = Hub::new(fabric, cells).ok()?;
+    let (right, left) = (portals.pop()?, portals.pop()?);
+    let mut left = Shared {
+        rt,
+        hub: &hub,
+        portal: left,
+        alloc,
+    };
+    let mut right = Shared {
+        rt,
+        hub: &hub,
+        portal: right,
+        alloc,
+    };
+    timed(rt, &mut left, &mut right, way, rounds)
+}
+
+// What a parcel or a round trip takes between two nodes of a new table.
+fn nanoseconds<R: Threads + Wait + Clock + Sync>(
+    rt: &R,
+    alloc: Global,
+    is_hub: bool,
+    way: Way,
+    rounds: u64,
+) -> Option<u64> {
+    let blank = start(alloc, 2, 4).ok()?;
+    if is_hub {
+        by_hub::<Brand, R>(rt, alloc, blank, way, rounds)
+    } else {
+        by_cells::<Brand, R>(rt, alloc, blank, way, rounds)
+    }
+}
+
+// How many of the measures are taken.
+fn count_all<R: Threads + Wait + Clock + Sync>(rt: &R, alloc: Global, rounds: u64) -> u64 {
+    let mut count = 0u64;
+    for way in [Way::Alone, Way::Threads, Way::Trips] {
+        for is_hub in [false, true] {
+            if nanoseconds(rt, alloc, is_hub, way, rounds).is_some() {
+                count = count.saturating_add(1);
+            }
+        }
+    }
+    count
+}
+
+/// Takes a measure of so many rounds, and gives the rounded-down share of one in nanoseconds; of all measures how many were taken.
+pub fn number<R: Threads + Wait + Clock + Sync>(
+    rt: &R,
+    alloc: Global,
+    measure: Measure,
+    rounds: u64,
+) -> Option<u64> {
+    match measure {
+        Measure::Cells(way) => nanoseconds(rt, alloc, false, way, rounds),
+        Measure::Hub(way) => nanoseconds(rt, alloc, true, way, rounds),
+        Measure::All => Some(count_all(rt, alloc, rounds)),
+    }
+}

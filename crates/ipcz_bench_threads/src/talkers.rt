@@ -1,0 +1,77 @@
+//! A node with one portal, as a measure calls it: a cell that a thread owns, or a portal of a hub.
+use ipcz_base::{End, Refusal, Sequence};
+use ipcz_fabric::{Fabric, FabricName, Hub, NodeCell, Portal};
+use ipcz_node::Happened;
+use std::alloc::Global;
+use std::sync::Wait;
+
+/// What puts, acts and gets at one node.
+pub trait Talker {
+    /// Puts a parcel of so many bytes, and tells whether it was taken.
+    fn put(&mut self, length: usize) -> bool;
+
+    /// Takes a turn.
+    fn turn(&mut self) -> Result<Happened, Refusal>;
+
+    /// Gets a parcel, and tells whether there was one.
+    fn get(&mut self) -> bool;
+}
+
+/// The cell of a node, with an end that its callers hold.
+#[derive(Drop)]
+pub struct Own<'a, F: FabricName> {
+    pub fabric: &'a Fabric<F>,
+    pub cell: NodeCell<F>,
+    pub at: End,
+    pub alloc: Global,
+}
+
+impl<'a, F: FabricName> Talker for Own<'a, F> {
+    fn put(&mut self, length: usize) -> bool {
+        let Ok(bytes) = vec![in self.alloc; b'x'; length] else {
+            return false;
+        };
+        let none = Sequence::from_vec(Vec::new(self.alloc));
+        let put = self
+            .cell
+            .put(self.fabric, self.at, Sequence::from_vec(bytes), none);
+        put.is_ok()
+    }
+
+    fn turn(&mut self) -> Result<Happened, Refusal> {
+        self.cell.turn(self.fabric)
+    }
+
+    fn get(&mut self) -> bool {
+        self.cell.get(self.fabric, self.at).is_ok()
+    }
+}
+
+/// A portal of a hub, with its node.
+#[derive(Drop)]
+pub struct Shared<'a, R, F: FabricName> {
+    pub rt: &'a R,
+    pub hub: &'a Hub<F>,
+    pub portal: Portal<F>,
+    pub alloc: Global,
+}
+
+impl<'a, R: Wait, F: FabricName> Talker for Shared<'a, R, F> {
+    fn put(&mut self, length: usize) -> bool {
+        let Ok(bytes) = vec![in self.alloc; b'x'; length] else {
+            return false;
+        };
+        let put = self
+            .portal
+            .put(self.rt, self.hub, bytes, Vec::new(self.alloc));
+        put.is_ok()
+    }
+
+    fn turn(&mut self) -> Result<Happened, Refusal> {
+        self.hub.turn(self.rt, self.portal.node())
+    }
+
+    fn get(&mut self) -> bool {
+        self.portal.get(self.rt, self.hub).is_ok()
+    }
+}
