@@ -1,9 +1,11 @@
 -- Facts on finite maps.
-use Rattle.std.proofs.Common.{◌≡◌, ℕ, cond, refl, sym, ◌∙◌, ap, None, Some, inl, inr}
+use Rattle.std.proofs.Common.{◌≡◌, ◌<◌, ℕ, Option, cond, refl, sym, ◌∙◌, ap, subst, None, Some, inl, inr}
+use Rattle.std.specs.Prelude.{IsSomeAnd}
 use Rattle.std.specs.Ordering.{nat_cmp, eq_by_cmp}
 use Rattle.std.specs.Cmp.{nat_cmp_total}
 use Rattle.std.specs.FinMap.{FinMap, get, insert, get-insert, remove, get-remove, same_map, nat_cmp-IsAntisymmetric}
 use Rattle.ipcz_seq.proofs.Pairs.{one_or_two, tied}
+use Rattle.ipcz_node.specs.Rooms.{HasOutRoom}
 
 -- to write what stands there changes nothing
 pub insert_same : {V : Type 0} (m : FinMap nat_cmp V) (k : ℕ) (v : V) → get m k ≡ Some v → insert m k v ≡ m
@@ -18,6 +20,20 @@ insert_same {V} m k v here = same_map nat_cmp_total nat_cmp-IsAntisymmetric _ _ 
 -- what was written stands there
 pub insert_here : {V : Type 0} (m : FinMap nat_cmp V) (k : ℕ) (v : V) → get (insert m k v) k ≡ Some v
 insert_here m k v = get-insert nat_cmp_total m k v k ∙ rw (tied k k refl) refl
+
+-- a queue that had room has it still, where one of them got more
+pub room_kept : (rooms : FinMap nat_cmp ℕ) (k was is : ℕ) → get rooms k ≡ Some was → (0 < was → 0 < is) → (q : ℕ) →
+    HasOutRoom rooms q → HasOutRoom (insert rooms k is) q
+room_kept rooms k was is here more q has = subst HasRoom (sym (get-insert nat_cmp_total rooms k is q)) cases
+  where
+    HasRoom : Option ℕ → Type 0
+    HasRoom g = IsSomeAnd g (λ room. 0 < room)
+
+    cases : HasRoom (cond (eq_by_cmp nat_cmp q k) (Some is) (get rooms q))
+    cases = elim (one_or_two q k) [
+      | inl t ↦ rw t.1 (more (subst HasRoom (ap (get rooms) t.0 ∙ here) has))
+      | inr t ↦ rw t.1 has
+    ]
 
 -- to take out what isn't there changes nothing
 pub remove_absent : {V : Type 0} (m : FinMap nat_cmp V) (k : ℕ) → get m k ≡ None → remove m k ≡ m

@@ -57,6 +57,16 @@ pub record RoomyEnds : Type 0 where
   pub ends : EndSet
   pub room : ℕ
 
+-- no room is given up: what there was room for there is room for still
+pub record RoomIsKept (was is : NodeRoom) : Type 0 where
+  pub outboxes : (to : ℕ) → place_at 0 was.outboxes to ≤ place_at 0 is.outboxes to
+  pub routers : was.routers ≤ is.routers
+  pub links : was.links ≤ is.links
+  pub out_rooms : (serial : ℕ) → HasOutRoom was.out_rooms serial → HasOutRoom is.out_rooms serial
+  pub moves : was.moves ≤ is.moves
+  pub pending : was.pending ≤ is.pending
+  pub event_ends : was.event_ends ≤ is.event_ends
+
 -- a node with descriptors that are to travel
 abbrev pub transfer : Node → List Descriptor → Transfer
 transfer n moves = record { node = n; moves = moves }

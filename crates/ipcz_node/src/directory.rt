@@ -120,9 +120,9 @@ impl Directory {
         self.routers.entries()
     }
 
-    /// Makes room for so many routers and so many links of others more. It asks for none where there is room for both.
+    /// Makes room for so many routers and so many links of others more. It asks for none where there is room for both, and no
+    /// room that was made is given up.
     pub fn reserve(&mut self, routers: usize, links: usize) -> Result<(), AllocError>
-        requires { routers < 2 ^ 63 }
         ensures room { OnOk result (routers ≤ self.new.filed.room) }
         ensures links { OnOk result (links ≤ self.new.filed.links) }
         ensures routers { self.new.filed.routers ≡ self.old.filed.routers }
@@ -130,18 +130,36 @@ impl Directory {
         ensures next { self.new.filed.next ≡ self.old.filed.next }
         ensures out_rooms { self.new.out_rooms ≡ self.old.out_rooms }
         ensures full { routers ≤ self.old.filed.room → links ≤ self.old.filed.links → IsOk result }
+        ensures kept { (self.old.filed.room ≤ self.new.filed.room) × (self.old.filed.links ≤ self.new.filed.links) }
     {
         if routers <= self.room && links <= self.more {
             return Ok(());
         }
+        self.grow(routers.max(self.room), links.max(self.more))
+    }
+
+    // Makes room for so many routers and so many links of others, which are no fewer than there is room for.
+    fn grow(&mut self, routers: usize, links: usize) -> Result<(), AllocError>
+        requires room { self.old.filed.room ≤ routers }
+        requires links { self.old.filed.links ≤ links }
+        ensures room { OnOk result (routers ≤ self.new.filed.room) }
+        ensures links { OnOk result (links ≤ self.new.filed.links) }
+        ensures routers { self.new.filed.routers ≡ self.old.filed.routers }
+        ensures held { self.new.filed.held ≡ self.old.filed.held }
+        ensures next { self.new.filed.next ≡ self.old.filed.next }
+        ensures out_rooms { self.new.out_rooms ≡ self.old.out_rooms }
+        ensures kept { (self.old.filed.room ≤ self.new.filed.room) × (self.old.filed.links ≤ self.new.filed.links) }
+    {
         let Some(all) = sum(routers, links) else {
             return Err(AllocError);
         };
         self.routers.reserve(routers)?;
         self.links.reserve(all)?;
         self.terminals.reserve(routers)?;
-        self.flagged
-            .reserve(flags_wanted(self.routers.len(), routers))?;
+        let Some(flags) = flags_wanted(self.routers.len(), routers) else {
+            return Err(AllocError);
+        };
+        self.flagged.reserve(flags)?;
         let Some(ends) = sum(self.ends, routers) else {
             return Err(AllocError);
         };

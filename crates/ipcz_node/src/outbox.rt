@@ -1,4 +1,4 @@
-ghost use Rattle.std.specs.Prelude.{◌≡◌, ◌<◌, ◌++◌, [], ◌∷◌, nat_eq, length, OnOk, IsOk};
+ghost use Rattle.std.specs.Prelude.{◌≤◌, ◌≡◌, ◌<◌, ◌++◌, [], ◌∷◌, nat_eq, length, OnOk, IsOk};
 ghost use Rattle.ipcz_node.specs.Acts.{first_of, rest_of};
 
 use ipcz_base::Message;
@@ -53,6 +53,7 @@ impl Outbox {
         ensures ok { OnOk result (0 < self.new.room) }
         ensures messages { self.new.messages ≡ self.old.messages }
         ensures succeeds { 0 < self.old.room → IsOk result }
+        ensures kept { self.old.room ≤ self.new.room }
     {
         if self.first.is_none() {
             self.is_ready = true;

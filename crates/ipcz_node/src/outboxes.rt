@@ -1,4 +1,4 @@
-ghost use Rattle.std.specs.Prelude.{◌≡◌, ◌<◌, ◌++◌, [], ◌∷◌, not, nat_eq, length, map, replicate, OnOk, IfOk, IsOk};
+ghost use Rattle.std.specs.Prelude.{ℕ, ◌≤◌, ◌≡◌, ◌<◌, ◌++◌, [], ◌∷◌, not, nat_eq, length, map, replicate, OnOk, IfOk, IsOk};
 ghost use Rattle.ipcz_base.specs.Indexed.{place_at, put_place};
 ghost use Rattle.ipcz_node.specs.Acts.{first_of, rest_of, are_empty};
 
@@ -47,6 +47,7 @@ impl Outboxes {
         ensures ok { OnOk result (0 < place_at 0 self.new.room to) }
         ensures messages { self.new.messages ≡ self.old.messages }
         ensures succeeds { 0 < place_at 0 self.old.room to → IsOk result }
+        ensures kept { (other : ℕ) → place_at 0 self.old.room other ≤ place_at 0 self.new.room other }
     {
         self.queues[usize::from(to)].reserve()
     }

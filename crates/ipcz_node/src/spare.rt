@@ -36,6 +36,7 @@ impl<T> Spare<T> {
     pub fn reserve(&mut self, count: usize) -> Result<(), AllocError>
         ensures ok { OnOk result (count ≤ self.new) }
         ensures succeeds { count ≤ self.old → IsOk result }
+        ensures kept { self.old ≤ self.new }
     {
         self.items.reserve(count)
     }

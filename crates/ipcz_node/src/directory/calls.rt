@@ -1,4 +1,4 @@
-ghost use Rattle.std.specs.Prelude.{◌≡◌, Some, None, true};
+ghost use Rattle.std.specs.Prelude.{ℕ, ◌≡◌, Some, None, true};
 ghost use Rattle.std.specs.Prelude.{is_some, OnOk, OnErr, IfOk, IfErr, IsSomeAnd, unwrap_or};
 ghost use Rattle.std.specs.FinMap.{get};
 ghost use Rattle.ipcz_base.specs.declared.item.Item.{Item};
@@ -96,6 +96,7 @@ impl Directory {
         ensures ok { OnOk result (HasOutRoom self.new.out_rooms serial) }
         ensures filed { self.new.filed ≡ self.old.filed }
         ensures full { HasOutRoom self.old.out_rooms serial → IsOk result }
+        ensures kept { (other : ℕ) → HasOutRoom self.old.out_rooms other → HasOutRoom self.new.out_rooms other }
         ensures err { IfErr result (λ e. e ≡ Refusal.OutOfMemory) }
     {
         self.routers.router_mut(serial).reserve_close()

@@ -33,13 +33,15 @@ pub(super) fn make_room(
 }
 
 // How many flags to make room for, beside those that are up: one for each router, where routers are made; else each has its
-// room.
-pub(super) fn flags_wanted(len: usize, routers: usize) -> usize
-    requires len { len < 2 ^ 63 }
-    requires routers { routers < 2 ^ 63 }
-    ensures { 0 < routers → result ≡ len + routers }
+// room. None where that is no number.
+pub(super) fn flags_wanted(len: usize, routers: usize) -> Option<usize>
+    ensures { IfSome result (λ n. 0 < routers → n ≡ len + routers) }
 {
-    if routers == 0 { 0 } else { len + routers }
+    if routers == 0 {
+        Some(0)
+    } else {
+        sum(len, routers)
+    }
 }
 
 // The sum of two numbers, where it fits.

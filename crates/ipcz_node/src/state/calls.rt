@@ -10,7 +10,7 @@ ghost use Rattle.ipcz_node.specs.Calls.{serials_refusal, open_node, are_held_onc
 ghost use Rattle.ipcz_node.specs.Calls.{put_number, get_refusal, got_at, get_node, close_refusal, close_node, close_end};
 ghost use Rattle.ipcz_node.specs.Acts.{is_quiet, rest_of};
 ghost use Rattle.ipcz_node.specs.Finding.{IsNextHeld};
-ghost use Rattle.ipcz_node.specs.RoomyNodes.{CanOpen, IsReadyFor, TakesMore};
+ghost use Rattle.ipcz_node.specs.RoomyNodes.{CanOpen, RoomIsKept, IsReadyFor, TakesMore};
 ghost use Rattle.ipcz_node.specs.declared.act.Act.{Act};
 
 use super::NodeState;
@@ -39,6 +39,7 @@ impl NodeState {
         ensures why { IfErr result (λ e. e ≡ unwrap_or (serials_refusal self.old.node) Refusal.OutOfMemory) }
         ensures allowed { OnOk result (serials_refusal self.old.node ≡ None) }
         ensures full { CanOpen self.old → IsOk result }
+        ensures kept { RoomIsKept self.old.room self.new.room }
     {
         if self.routers.next_serial() > u64::MAX - 2 {
             return Err(Refusal::NumbersEnd);

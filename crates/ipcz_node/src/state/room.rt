@@ -3,7 +3,7 @@ ghost use Rattle.ipcz_base.specs.Limits.{has_serials};
 ghost use Rattle.ipcz_router.specs.declared.outlook.Outlook.{Outlook};
 ghost use Rattle.ipcz_node.specs.declared.act.Act.{Act};
 ghost use Rattle.ipcz_node.specs.Node.{router_in};
-ghost use Rattle.ipcz_node.specs.RoomyNodes.{IsReadyFor};
+ghost use Rattle.ipcz_node.specs.RoomyNodes.{IsReadyFor, RoomIsKept};
 ghost use Rattle.ipcz_node.specs.Acts.{act_grows, act_lacks_serials};
 ghost use Rattle.ipcz_node.specs.Preparing.{IsReadyAs, outlook_at, serials_as};
 
@@ -18,6 +18,7 @@ impl NodeState {
     // Makes room for the ends that are moved by an item to a node.
     fn reserve_moves(&mut self, count: usize) -> Result<(), AllocError>
         ensures node { self.new.node ≡ self.old.node }
+        ensures kept { RoomIsKept self.old.room self.new.room }
         ensures links { OnOk result (count ≤ self.new.room.links) }
         ensures moves { OnOk result (count ≤ self.new.room.moves) }
         ensures event_ends { OnOk result (count ≤ self.new.room.event_ends) }
@@ -46,6 +47,7 @@ impl NodeState {
     fn make_room(&mut self, outlook: Outlook) -> Result<(), AllocError>
         requires { has_serials self.old.node.next_peripheral (serials_as self.old.node outlook) ≡ true }
         ensures node { self.new.node ≡ self.old.node }
+        ensures kept { RoomIsKept self.old.room self.new.room }
         ensures ready { OnOk result (IsReadyAs self.new outlook) }
         ensures nothing { outlook ≡ Outlook.Nothing → IsOk result }
         ensures full { IsReadyAs self.old outlook → IsOk result }
@@ -65,6 +67,7 @@ impl NodeState {
     // Asks for the serials that an act of this outlook takes, and makes room for what it gives.
     fn reserve(&mut self, outlook: Outlook) -> Result<(), Refusal>
         ensures node { self.new.node ≡ self.old.node }
+        ensures kept { RoomIsKept self.old.room self.new.room }
         ensures ready { OnOk result (IsReadyAs self.new outlook) }
         ensures allowed { OnOk result (has_serials self.old.node.next_peripheral (serials_as self.old.node outlook) ≡ true) }
         ensures why { IfErr result
@@ -97,6 +100,7 @@ impl NodeState {
     #[tactic(auto, using(crate::proofs::Preparing::serials_there, crate::proofs::Preparing::gives_nothing, crate::proofs::Preparing::ready_at, crate::proofs::Preparing::wants_at), unfolding(crate::specs::Acts::act_lacks_serials, crate::specs::Acts::act_grows))]
     fn prepare_router(&mut self, serial: u64, act: RouterAct) -> Result<(), Refusal>
         ensures node { self.new.node ≡ self.old.node }
+        ensures kept { RoomIsKept self.old.room self.new.room }
         ensures ready { OnOk result (IsReadyFor self.new (Act.Router serial act)) }
         ensures allowed { OnOk result (act_lacks_serials self.old.node (Act.Router serial act) ≡ false) }
         ensures why { IfErr result
@@ -111,6 +115,7 @@ impl NodeState {
     // Makes room for the mark at the open terminal of an end, where there is one.
     fn prepare_close(&mut self, end: End) -> Result<(), Refusal>
         ensures node { self.new.node ≡ self.old.node }
+        ensures kept { RoomIsKept self.old.room self.new.room }
         ensures ready { OnOk result (IsReadyFor self.new (Act.Close end)) }
         ensures why { IfErr result (λ e. e ≡ Refusal.OutOfMemory) }
         ensures full { IsReadyFor self.old (Act.Close end) → IsOk result }
@@ -125,10 +130,12 @@ impl NodeState {
     ///
     /// It answers `NumbersEnd` where the act would move more ends than serials of peripheral links are left for, else
     /// `OutOfMemory` where there was no room and none was found. An act that makes nothing grow is never refused,
-    /// nor is one that the node is ready for, as after a `prepare` before (docs/PROTOCOL.md, "Turns").
+    /// nor is one that the node is ready for, as after a `prepare` before. What it or an `open_prepare` before it made room for
+    /// stays (docs/PROTOCOL.md, "Turns").
     #[tactic(auto, unfolding(crate::specs::Acts::act_lacks_serials, crate::specs::Acts::act_grows))]
     pub fn prepare(&mut self, act: &Act) -> Result<(), Refusal>
         ensures node { self.new.node ≡ self.old.node }
+        ensures kept { RoomIsKept self.old.room self.new.room }
         ensures ready { OnOk result (IsReadyFor self.new act.now) }
         ensures allowed { OnOk result (act_lacks_serials self.old.node act.now ≡ false) }
         ensures why { IfErr result

@@ -1,7 +1,7 @@
-use Rattle.std.proofs.Common.{◌<◌, [], ℕ, ap, sym, ◌∙◌, arith, subst}
+use Rattle.std.proofs.Common.{◌<◌, [], ℕ, ap, sym, ◌∙◌, arith, subst, ◌≤◌, List, map, slice_set}
 use Rattle.std.specs.Prelude.{OnOk}
 use Rattle.ipcz_base.specs.Indexed.{place_at}
-use Rattle.ipcz_node.proofs.Queues.{kept_map, place_set, place_map}
+use Rattle.ipcz_node.proofs.Queues.{kept_map, place_set, place_map, raised}
 use Rattle.ipcz_node.proofs.outboxes.Outboxes.reserve.Goals as goal
 
 pub returns-clause-ok : goal.returns-clause-ok
@@ -21,3 +21,10 @@ returns-clause-succeeds c h =
     let at = place_map (λ q. q.room) 0 c.self.inside.queues.items c.from.result c.args.to c.index_mut.result.now
     c.index_mut.ensures.value c.from.ensures (omega (arith, c.self.invariant, c.from.ensures)) in
     c.reserve.ensures.succeeds (subst (λ (n : ℕ). 0 < n) (ap (λ v. place_at 0 v.room c.args.to) (sym c.self.view_is) ∙ at) h)
+
+pub returns-clause-kept : goal.returns-clause-kept
+returns-clause-kept c other =
+    subst (λ (v : List ℕ). place_at 0 v other ≤ place_at 0 (map (λ q. q.room) (slice_set c.self.inside.queues.items c.from.result c.reserve.new.self)) other)
+    (ap (λ v. v.room) c.self.view_is)
+    (raised (λ q. q.room) c.self.inside.queues.items c.from.result c.index_mut.result.now c.reserve.new.self c.index_mut.ensures.value
+    c.reserve.ensures.kept other)

@@ -1,7 +1,7 @@
 use Rattle.std.proofs.Common.{arith}
 use Rattle.ipcz_node.proofs.Directories.{same_filed, room_for_some}
 use Rattle.ipcz_node.proofs.Holding.{hold_more}
-use Rattle.ipcz_node.proofs.directory.Directory.reserve.Goals as goal
+use Rattle.ipcz_node.proofs.directory.Directory.grow.Goals as goal
 
 pub invariant_of-self-2 : goal.invariant_of-self-2
 invariant_of-self-2 c = (
@@ -10,7 +10,7 @@ invariant_of-self-2 c = (
         c.self.invariant.0.0,
     room_for_some _ _ _ _ _ c.args.links _ _ _ _ _ c.reserve-2.new.self.room _ _ c.reserve.ensures.routers c.self.invariant.0.1 c.reserve-4.ensures.room
         c.in_ok-reserve.ensures.ok (omega (arith, c.in_ok-reserve-2.ensures.ok, c.in-Some.ensures)) c.in_ok-reserve-3.ensures.ok
-        (λ some. omega (arith, c.in_ok-reserve-4.ensures.ok, c.flags_wanted.ensures some, c.len.ensures.count)),
+        (λ some. omega (arith, c.in_ok-reserve-4.ensures.ok, c.in-Some-flags_wanted.ensures some, c.len.ensures.count)),
   ),
   hold_more _ _ c.self.inside.ends c.args.routers c.self.inside.room _ _ c.reserve.ensures.routers
       (omega (arith, c.in_ok-reserve-5.ensures.ok, c.in-Some-sum.ensures)) c.self.invariant.1,
