@@ -11,3 +11,8 @@ pub mod Ordering
 pub mod Unused
 pub mod Settling
 pub mod Limits
+pub mod RouterStays
+pub mod NodeStays
+pub mod Staying
+pub mod QuietRanks
+pub mod Puts

@@ -16,6 +16,7 @@ pub mod Owed
 pub mod Parts
 pub mod Places
 pub mod Plain
+pub mod PutBounds
 pub mod Ranks
 pub mod Records
 pub mod Remembering

@@ -12,6 +12,7 @@ ghost use Rattle.ipcz_world.specs.SettleBounds.{VisitsAreBounded, UnsettledIsBou
 ghost use Rattle.ipcz_world.specs.WorldLaws.{HandsStandInMail, OpeningWordsAreEmpty, PendingHaveTerminals};
 ghost use Rattle.ipcz_world.specs.WorldLaws.{RunsArePlain, RepliesStrayNothing};
 ghost use Rattle.ipcz_world.specs.SettleLimit.{RankIsWithinLimit, SettleLimitIsEnough};
+ghost use Rattle.ipcz_world.specs.PutBounds.{StayingIsUnused, PutsAreBounded, DirectPutsAreBounded};
 ghost use Rattle.ipcz_world.specs.Theorem.{TheTheoremHolds};
 
 /// The theorem of this repository (specs/Theorem): to their callers the nodes together are the machine over the books alone. Whatever steps
@@ -255,6 +256,24 @@ pub fn the_rank_is_within_the_settle_limit()
 /// So there that number, `settle_limit`, is enough for a settle, with two more for each begin that finds no memory.
 pub fn the_settle_limit_is_enough()
     ensures { SettleLimitIsEnough }
+{}
+
+/// Where no item that wasn't read carries an end: what stays with the terminals, the numbers that weren't put yet and the parcels that weren't
+/// got, is used by no turn, in whatever order; but a sink uses one act for each item that it drops, and a pending close six.
+pub fn what_stays_is_used_by_no_turn()
+    ensures { StayingIsUnused }
+{}
+
+/// Where parcels without ends are put into a quiet world, the turns that follow use up at most six for each parcel, one for each end that they
+/// are put at, and for each proxy that stands six for each parcel of its pair and 57; one more for each item that a sink drops, and two for
+/// each unlock.
+pub fn puts_into_a_quiet_world_are_bounded()
+    ensures { PutsAreBounded }
+{}
+
+/// Where no router of the quiet world has found the words used up, no proxy stands: six for each parcel and one for each end are enough.
+pub fn puts_into_a_direct_world_are_bounded()
+    ensures { DirectPutsAreBounded }
 {}
 
 /// Where a settle has settled and no router has found the words used up, no proxy is left, and each open pair is direct: what an end has put

@@ -87,7 +87,7 @@ module _ (w : World) (b : Books) (g : Records) (law : Inv w b g) (quiet : IsQuie
   idle k r act here = nothing-possible w flagged quiet k r act (law.counts.on_node k r here) here
 
   -- an item that can go doesn't stand in its queue
-  out_stuck : (k : Key) (r : Router) → router_at w k ≡ Some r → is_some (way_out r) ≡ true → current_item r.out_queue ≡ None
+  pub out_stuck : (k : Key) (r : Router) → router_at w k ≡ Some r → is_some (way_out r) ≡ true → current_item r.out_queue ≡ None
   unfolding is_possible
   out_stuck k r here way = go (current_item r.out_queue) refl
     where
@@ -95,7 +95,7 @@ module _ (w : World) (b : Books) (g : Records) (law : Inv w b g) (quiet : IsQuie
       go None e = e
       go (Some z) e = absurd (grind (arith, idle k r acts.SendOut here, way, e))
 
-  in_stuck : (k : Key) (r : Router) → router_at w k ≡ Some r → is_some (way_in r) ≡ true → current_item r.in_queue ≡ None
+  pub in_stuck : (k : Key) (r : Router) → router_at w k ≡ Some r → is_some (way_in r) ≡ true → current_item r.in_queue ≡ None
   unfolding is_possible
   in_stuck k r here way = go (current_item r.in_queue) refl
     where
@@ -285,7 +285,7 @@ module _ (w : World) (b : Books) (g : Records) (law : Inv w b g) (quiet : IsQuie
   delivered e n = delivers_below e (n + 1) n (omega arith)
 
   -- what a terminal lacks wasn't put
-  lacked_given : (e : End) (m : ℕ) → IsLacked w e m → length (b.put (opposite_end e)) ≤ m
+  pub lacked_given : (e : End) (m : ℕ) → IsLacked w e m → length (b.put (opposite_end e)) ≤ m
   lacked_given e m t = go (nat_lt m (length (b.put (opposite_end e)))) refl
     where
       go : (c : Bool) → nat_lt m (length (b.put (opposite_end e))) ≡ c → length (b.put (opposite_end e)) ≤ m

@@ -90,12 +90,12 @@ put_within-has e (x ∷ xs) (suc i) n h =
     omega (arith, put_within-has e xs i n h, higher-second (put_among e (entries x.routers)) (put_within e xs))
 
 -- totals of what is less
-total_list-most : {X : Type 0} (h k : X → ℕ) (xs : List X) → ((i : ℕ) (x : X) → slice_get xs i ≡ Some x → h x ≤ k x) →
+pub total_list-most : {X : Type 0} (h k : X → ℕ) (xs : List X) → ((i : ℕ) (x : X) → slice_get xs i ≡ Some x → h x ≤ k x) →
     total_list h xs ≤ total_list k xs
 total_list-most h k [] less = omega arith
 total_list-most h k (x ∷ xs) less = omega (arith, less 0 x refl, total_list-most h k xs (λ i y e. less (suc i) y e))
 
-total-most : (h k : Router → ℕ) (m : FinMap nat_cmp Router) → ((r : Router) → h r ≤ k r) → total (λ s r. h r) m ≤ total (λ s r. k r) m
+pub total-most : (h k : Router → ℕ) (m : FinMap nat_cmp Router) → ((r : Router) → h r ≤ k r) → total (λ s r. h r) m ≤ total (λ s r. k r) m
 unfolding total
 total-most h k m less = go (entries m)
   where
@@ -295,7 +295,7 @@ module _ (w : World) (b : Books) (g : Routes) (law : Lawful w b g) (none : Carry
               let free : box_worth c box ≡ 0 = ap (box_worth c) none in omega (arith, free)
 
   -- a mailbox
-  mailed-bare : (k : ℕ) (m : Message) → messages_in (mail_at w k) ≡ m ∷ [] → moves_of m ≡ []
+  pub mailed-bare : (k : ℕ) (m : Message) → messages_in (mail_at w k) ≡ m ∷ [] → moves_of m ≡ []
   unfolding flow messages_in
   mailed-bare k m full = go (moves_of m) refl
     where

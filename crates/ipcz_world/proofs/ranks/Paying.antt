@@ -45,7 +45,7 @@ placed w b g k r e n item law l here some =
     weighs true h = refl
     weighs false h = absurd (omega (arith, h))
 
-can_pay : (w : World) (b : Books) (g : Records) (c : Rates) (k : Key) (r : Router) → Conserved w b g → k.node < w.count →
+pub can_pay : (w : World) (b : Books) (g : Records) (c : Rates) (k : Key) (r : Router) → Conserved w b g → k.node < w.count →
     router_at w k ≡ Some r → IsRated c b → CanPay c r
 can_pay w b g c k r law l here rated = record {
   out = λ item e. pays r.end r.out_queue.current item

@@ -81,7 +81,7 @@ unused c w n Idle can h = omega arith
 unused c w n (OfRouter s act) can h = unused-at c w n s act (router_in (node_at w n) s) refl can h
 
 -- a turn
-turned : (c : Rates) (w : World) (b : Books) (g : Routes) (n : ℕ) (act : Act) → Lawful w b g → IsRated c b → IsTaken w n act →
+pub turned : (c : Rates) (w : World) (b : Books) (g : Routes) (n : ℕ) (act : Act) → Lawful w b g → IsRated c b → IsTaken w n act →
     worth 1 (uses_up w n act) + rank c (after_act w n act) ≤ rank c w + 2 * worth 1 (is_unlock act)
 turned c w b g n act law rated is = go (uses_up w n act) refl
   where
@@ -90,7 +90,7 @@ turned c w b g n act law rated is = go (uses_up w n act) refl
     go false e = omega (arith, unused c w n act is.may e)
 
 -- it is a step
-stepped : (w : World) (n : ℕ) (act : Act) → IsTaken w n act → StepAny w (Turn n) (replies.Turned (turn_event w n act)) (after_act w n act)
+pub stepped : (w : World) (n : ℕ) (act : Act) → IsTaken w n act → StepAny w (Turn n) (replies.Turned (turn_event w n act)) (after_act w n act)
 unfolding unless
 stepped w n act is =
     let inside : nat_lt n w.count ≡ true = grind (arith, is.node, nat_tests) in
