@@ -76,12 +76,8 @@ impl HeldEnds {
         ensures ends { self.new.ends ≡ with_ends self.old.ends ends.now }
         ensures room { self.old.room ≤ self.new.room + length ends.now }
     {
-        match ends {
-            [] => {}
-            [end, rest @ ..] => {
-                self.insert(*end);
-                self.insert_all(rest);
-            }
+        for end in ends {
+            self.insert(*end);
         }
     }
 
@@ -90,12 +86,8 @@ impl HeldEnds {
         ensures ends { self.new.ends ≡ without_ends self.old.ends ends.now }
         ensures room { self.old.room ≤ self.new.room }
     {
-        match ends {
-            [] => {}
-            [end, rest @ ..] => {
-                self.remove(*end);
-                self.remove_all(rest);
-            }
+        for end in ends {
+            self.remove(*end);
         }
     }
 }
