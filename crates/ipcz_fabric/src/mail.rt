@@ -10,7 +10,7 @@ ghost use Rattle.ipcz_base.specs.declared.message.Message.{Message as MessageDat
 ghost use Rattle.ipcz_fabric.specs.CellStates.{part_in, change_part};
 ghost use Rattle.ipcz_fabric.specs.Parts.{handed_part};
 ghost use Rattle.ipcz_fabric.specs.Cells.{AreSound};
-ghost use Rattle.ipcz_fabric.specs.Mails.{slot_of, mail_word, old_named, IsKnown, Probes, Looks, LoadsSource, Handles};
+ghost use Rattle.ipcz_fabric.specs.Mails.{slot_of, mail_word, old_named, HasSeen, IsKnown, Probes, Looks, LoadsSource, Handles};
 ghost use Rattle.ipcz_fabric.specs.Outcomes.{IsPicked, probed, posted, looked, sourced, handed, turned_by};
 
 use crate::cell::NodeCell;
@@ -199,6 +199,16 @@ fn hand_here<F: FabricName, X: Outcome>(
 }
 
 impl<F: FabricName> NodeCell<F> {
+    // Loads the word of the mailbox from one node to another.
+    pub(crate) fn load_mail(&mut self, fabric: &Fabric<F>, from: u8, to: u8) -> u64
+        requires from { from < F.table.count }
+        requires to { to < F.table.count }
+        ensures { HasSeen (mail_word F.table from to) result self.old self.new }
+    {
+        let word = word_of(fabric, slot_of(fabric, from, to));
+        load_step::<F, Brand>(&mut self.seat, fabric, word)
+    }
+
     /// Takes the empty mailbox to a node, or has it already. It answers false only where the mailbox was found at another value than 0.
     pub fn mail_probe(&mut self, fabric: &Fabric<F>, to: u8) -> bool
         requires { to < F.table.count }

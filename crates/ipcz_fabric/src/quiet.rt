@@ -1,14 +1,10 @@
 //! Whether a node has nothing to do, as its cell finds it.
 ghost use Rattle.std.specs.Prelude.{◌≡◌, ◌==◌, ◌||◌, ◌<◌, ◌≤◌};
 ghost use Rattle.ipcz_node.specs.Acts.{is_quiet};
-ghost use Rattle.ipcz_fabric.specs.Mails.{mail_word, HasSeen};
 ghost use Rattle.ipcz_fabric.specs.Opens.{FindsFree, FindsQuiet};
 
 use crate::cell::NodeCell;
 use crate::fabric::{Fabric, FabricName};
-use crate::mail::{slot_of, word_of};
-use crate::plays::load_step;
-use std::marker::Brand;
 
 // Whether a mailbox of this word has no message: it is empty, or its sender has taken it.
 fn is_free(found: u64) -> bool
@@ -18,15 +14,6 @@ fn is_free(found: u64) -> bool
 }
 
 impl<F: FabricName> NodeCell<F> {
-    // Loads the word of the mailbox from a node to this one.
-    fn load_box(&mut self, fabric: &Fabric<F>, from: u8) -> u64
-        requires { from < F.table.count }
-        ensures { HasSeen (mail_word F.table from self.old.part.node) result self.old self.new }
-    {
-        let word = word_of(fabric, slot_of(fabric, from, self.state.number()));
-        load_step::<F, Brand>(&mut self.seat, fabric, word)
-    }
-
     // Whether the mailboxes to this node are found free, from a sender on.
     fn are_free(&mut self, fabric: &Fabric<F>, from: u8) -> bool
         requires { from ≤ F.table.count }
@@ -35,7 +22,8 @@ impl<F: FabricName> NodeCell<F> {
         if from == fabric.nodes {
             return true;
         }
-        let here = is_free(self.load_box(fabric, from));
+        let node = self.node();
+        let here = is_free(self.load_mail(fabric, from, node));
         let rest = self.are_free(fabric, from + 1);
         here && rest
     }

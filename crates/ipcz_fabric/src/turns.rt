@@ -2,7 +2,6 @@
 ghost use Rattle.std.specs.Prelude.{◌≡◌, ◌<◌, ℕ, true, None, Some, Ok};
 ghost use Rattle.ipcz_base.specs.declared.side.Side.{Side as SideValue};
 ghost use Rattle.ipcz_node.specs.RoomyNodes.{IsPossibleAct};
-ghost use Rattle.ipcz_fabric.specs.Mails.{mail_word, HasSeen};
 ghost use Rattle.ipcz_fabric.specs.Turns.{nothing_seen, Chooses, FindsFull, CanPost, FindsEmpty};
 ghost use Rattle.ipcz_fabric.specs.TurnEnds.{try_event, IsInside, Acts, Turns};
 ghost use Rattle.ipcz_node.specs.Acts.{next, has_mail_for, stand_in};
@@ -11,26 +10,13 @@ ghost use Rattle.ipcz_fabric.specs.Parts.{is_touch_act};
 
 use crate::cell::NodeCell;
 use crate::fabric::{Fabric, FabricName};
-use crate::mail::{slot_of, word_of};
-use crate::plays::load_step;
 use crate::words::LockTry;
 use ipcz_base::{LinkId, Refusal};
 use ipcz_node::{Act, Happened, MailSeen};
 use ipcz_router::act::RouterAct;
 use ipcz_word::LockPlan;
-use std::marker::Brand;
 
 impl<F: FabricName> NodeCell<F> {
-    // Loads the word of the mailbox from one node to another.
-    fn load_mail(&mut self, fabric: &Fabric<F>, from: u8, to: u8) -> u64
-        requires from { from < F.table.count }
-        requires to { to < F.table.count }
-        ensures { HasSeen (mail_word F.table from to) result self.old self.new }
-    {
-        let word = word_of(fabric, slot_of(fabric, from, to));
-        load_step::<F, Brand>(&mut self.seat, fabric, word)
-    }
-
     // The lowest node whose mailbox to this one is found full. The mailboxes are loaded in order, up to that one.
     fn first_full(&mut self, fabric: &Fabric<F>) -> Option<u8>
         ensures { FindsFull F.table self.old result self.new }
