@@ -1,8 +1,9 @@
 -- What the walk over entries by rising serials finds.
-use Rattle.std.proofs.Common.{◌≡◌, ◌≢◌, ℕ, ◌+◌, ◌≤◌, Bool, true, false, List, [], ◌∷◌, Option, Some, None, length, refl, sym}
+use Rattle.std.proofs.Common.{◌≡◌, ◌≢◌, ℕ, zero, suc, ◌+◌, ◌≤◌, ◌<◌, Bool, true, false, List, [], ◌∷◌, Option, Some, None, length, refl, sym}
 use Rattle.std.proofs.Common.{◌∙◌, ap, subst, get_or, take, drop, ◌-◌}
 use Rattle.std.proofs.lemmas.List.{take_all}
 use Rattle.std.proofs.Common.{arith, inl, inr, true≢false}
+use Rattle.std.specs.List.{AllWithin}
 use Rattle.std.specs.Ordering.{nat_cmp}
 use Rattle.std.specs.FinMap.{find, get, get-from_entries}
 use Rattle.std.specs.Cmp.{nat_cmp_total}
@@ -85,6 +86,17 @@ module _ {X : Type 0} (g : X → Router) where
       passed_over test from f n e es rising o (subst (λ (y : ℕ × X). (from ≤ y.0) → test (g y.1) ≡ false) is skip)
       (subst (λ (l : List (ℕ × X)). IsNext (λ s. find nat_cmp s (entries_by g l)) test from o)
       (take_all (length (e ∷ es) - 1) es (omega arith)) next)
+
+  -- entries of lower serials in front are passed over
+  pub walk_skips : (test : Router → Bool) (from f n i : ℕ) (es : List (ℕ × X)) (o : Option (ℕ × End)) → AreRising f n es → i ≤ length es →
+      AllWithin (λ e. e.0 < from) es 0 i → IsNext (λ s. find nat_cmp s (entries_by g (drop i es))) test from o →
+      IsNext (λ s. find nat_cmp s (entries_by g es)) test from o
+  walk_skips test from f n zero es o rising within lower next = next
+  walk_skips test from f n (suc i) [] o rising within lower next = next
+  walk_skips test from f n (suc i) (e ∷ es) o rising within lower next =
+      passed_over test from f n e es rising o (λ le. absurd (omega (arith, le, lower 0 e (omega arith) (omega arith))))
+      (walk_skips test from (e.0 + 1) n i es o rising.2 (omega (arith, within))
+      (λ k d low high. lower (suc k) d (omega arith) (omega (arith, high))) next)
 
   -- the same of the map that the entries make
   pub next_in_map : (test : Router → Bool) (from : ℕ) (es : List (ℕ × X)) (o : Option (ℕ × End)) →

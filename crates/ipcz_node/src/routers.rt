@@ -1,5 +1,6 @@
 ghost use Rattle.std.specs.Prelude.{◌≡◌, ◌+◌, ◌<◌, ◌≤◌, ◌-◌, ◌^◌, ℕ, Some, None, is_some, true, OnOk, IsOk, IfSome, MatchOption};
 ghost use Rattle.std.specs.Prelude.{option_copied, option_map, length};
+ghost use Rattle.std.specs.List.{AllWithin};
 ghost use Rattle.std.specs.Borrow.{sem};
 ghost use Rattle.std.specs.Ordering.{nat_cmp};
 ghost use Rattle.std.specs.FinMap.{find, get, remove, empty, len};
@@ -136,7 +137,9 @@ impl Routers {
     pub fn first_held(&self, from: u64, ends: &HeldEnds) -> Option<(u64, End)>
         ensures { IsNext (get self.now.routers) (is_terminal_in ends.now.ends) from result }
     {
-        first_in(self.entries.as_slice(), from, ends)
+        let entries = self.entries.as_slice();
+        let place = lower_in(entries, from);
+        first_in(&entries[place..], from, ends)
     }
 
     /// How many routers there are.
@@ -175,6 +178,15 @@ fn likely_place<T>(entries: &[(u64, T)], serial: u64) -> Option<usize>
     } else {
         None
     }
+}
+
+// How many entries have a lower serial. They stand in front.
+fn lower_in<T>(entries: &[(u64, T)], from: u64) -> usize
+    requires { (next : ℕ) × AreRising 0 next entries.now }
+    ensures inside { result ≤ length entries.now }
+    ensures lower { AllWithin (λ e. e.0 < from) entries.now 0 result }
+{
+    entries.partition_point(|entry| entry.0 < from)
 }
 
 // The first entry from a serial on whose router is the open terminal of one of these ends: its serial and that end.

@@ -1,15 +1,33 @@
-use Rattle.std.proofs.Common.{subst}
+use Rattle.std.proofs.Common.{◌≡◌, ◌-◌, ℕ, List, length, take, drop, refl, sym, subst, arith}
+use Rattle.std.proofs.lemmas.List.{take_all, length-drop}
 use Rattle.ipcz_node.specs.Finding.{IsNext, is_terminal_in}
-use Rattle.ipcz_node.specs.Serials.{entries_by}
+use Rattle.ipcz_node.specs.Serials.{entries_by, AreRising}
 use Rattle.std.specs.FinMap.{get, find}
 use Rattle.std.specs.Ordering.{nat_cmp}
-use Rattle.ipcz_node.proofs.Finding.{next_in_map}
+use Rattle.ipcz_node.proofs.Finding.{next_in_map, walk_skips}
+use Rattle.ipcz_node.proofs.Serials.{rising_drop, back_whole}
 use Rattle.ipcz_node.proofs.routers.Routers.first_held.Goals as goal
+
+pub lower_in-place-requires : goal.lower_in-place-requires
+lower_in-place-requires c = (c.self.inside.next, subst (AreRising 0 c.self.inside.next) (sym c.as_slice-entries.ensures.value) c.self.invariant)
+
+pub first_in-requires : goal.first_in-requires
+first_in-requires c =
+    let es = c.as_slice-entries.result.now in
+    let i = c.lower_in-place.result in
+    let rising : AreRising 0 c.self.inside.next es = subst (AreRising 0 c.self.inside.next) (sym c.as_slice-entries.ensures.value) c.self.invariant in
+    let back = rising_drop 0 c.self.inside.next i es rising in
+    (back.0, c.self.inside.next, subst (AreRising back.0 c.self.inside.next) (sym (back_whole i es)) back.1)
 
 pub returns : goal.returns
 returns c =
-    subst (λ v. IsNext (get v.routers) (is_terminal_in c.args.ends.now.ends) c.args.from c.first_in.result) c.self.view_is
-    (next_in_map (λ x. x.router) (is_terminal_in c.args.ends.now.ends) c.args.from c.self.inside.entries.items c.first_in.result
-    (subst (λ es. IsNext (λ s. find nat_cmp s (entries_by (λ x. x.router) es)) (is_terminal_in c.args.ends.now.ends) c.args.from
-    c.first_in.result)
-    c.as_slice.ensures.value c.first_in.ensures))
+    let es = c.as_slice-entries.result.now in
+    let i = c.lower_in-place.result in
+    let test = is_terminal_in c.args.ends.now.ends in
+    let rising : AreRising 0 c.self.inside.next es = subst (AreRising 0 c.self.inside.next) (sym c.as_slice-entries.ensures.value) c.self.invariant in
+    subst (λ v. IsNext (get v.routers) test c.args.from c.first_in.result) c.self.view_is
+    (next_in_map (λ x. x.router) test c.args.from c.self.inside.entries.items c.first_in.result
+    (subst (λ l. IsNext (λ s. find nat_cmp s (entries_by (λ x. x.router) l)) test c.args.from c.first_in.result) c.as_slice-entries.ensures.value
+    (walk_skips (λ x. x.router) test c.args.from 0 c.self.inside.next i es c.first_in.result rising c.lower_in-place.ensures.inside
+    c.lower_in-place.ensures.lower
+    (subst (λ l. IsNext (λ s. find nat_cmp s (entries_by (λ x. x.router) l)) test c.args.from c.first_in.result) (back_whole i es) c.first_in.ensures))))
