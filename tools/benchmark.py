@@ -11,8 +11,9 @@
 `library` prints the number of each measure of `ipcz_bench`, the least of five runs. `instructions` counts them with valgrind's
 callgrind, which a busy machine doesn't disturb: for one round, from a run of 2,000 rounds and one of 12,000, subtracted.
 
-`threads` prints those of `ipcz_bench_threads`: what a parcel takes on one thread through worlds, cells and a hub, in turn, the least
-of seven runs each, and the ratios; and what it takes between two threads, the least of nine runs, with their middle.
+`threads` prints those of `ipcz_bench_threads`: what a parcel takes on one thread through worlds, cells and a hub, in turn, and the
+ratios; and what it takes between two threads. Each is the least of 20 runs of 20,000 rounds, with the middle one. Where `chrt` may,
+the runs have real-time priority, so that a busy machine gives them processors of their own for the moment that they take.
 
 Each workload is made for a quarter, a half and the whole of 1,048,576 bytes, which is the longest script.
 The table has the `user` time in milliseconds (the least of five runs where a run is short) and the peak
@@ -266,8 +267,8 @@ MEASURES = ["one_node", "two_nodes", "long_parcels", "last_pair", "each_pair", "
             "waiting_1000", "act", "moves", "fresh_pairs", "used_pairs"]
 
 
-def measured(name, program=BENCH):
-    return int(subprocess.run([program, name], stdout=subprocess.PIPE, check=True).stdout)
+def measured(name):
+    return int(subprocess.run([BENCH, name], stdout=subprocess.PIPE, check=True).stdout)
 
 
 def show_library():
@@ -275,15 +276,23 @@ def show_library():
         print("%-14s %8d" % (name, min(measured(name) for _ in range(5))), flush=True)
 
 
+REAL_TIME = ["chrt", "-f", "10"]
+
+
 def show_threads():
+    before = REAL_TIME if subprocess.run(REAL_TIME + ["true"], stderr=subprocess.DEVNULL).returncode == 0 else []
+    print("with real-time priority" if before else "with the priority of other programs")
     alone = [("two_nodes", BENCH), ("cells", BENCH_THREADS), ("hub", BENCH_THREADS)]
-    runs = [[measured(name, program) for name, program in alone] for _ in range(7)]
-    times = [min(run[i] for run in runs) for i in range(3)]
-    for (name, _), time in zip(alone, times):
-        print("%-16s %7d ns, %4.2f times a world's" % (name, time, time / times[0]), flush=True)
-    for name in ("cells_on_threads", "hub_on_threads", "round_trips", "hub_round_trips"):
-        times = sorted(measured(name, BENCH_THREADS) for _ in range(9))
-        print("%-16s %7d ns (the middle of nine: %d), %4.2f million a second" % (name, times[0], times[4], 1000 / times[0]), flush=True)
+    pairs = [(name, BENCH_THREADS) for name in ("cells_on_threads", "hub_on_threads", "round_trips", "hub_round_trips")]
+    times = [[] for _ in alone + pairs]
+    for _ in range(20):
+        for (name, program), found in zip(alone + pairs, times):
+            run = subprocess.run(before + [program, name, "20000"], stdout=subprocess.PIPE, check=True)
+            found.append(int(run.stdout))
+    for (name, _), found in zip(alone + pairs, times):
+        low, middle = min(found), sorted(found)[len(found) // 2]
+        print("%-16s %6d ns (the middle one: %d), %4.2f of a world's time, %4.2f million a second"
+              % (name, low, middle, low / min(times[0]), 1000 / low), flush=True)
 
 
 def instructions(name, rounds, program=BENCH):
