@@ -51,18 +51,22 @@ Writes s cs text unsettled t = (log : List Answered) × AreAnswered s cs log t �
 abbrev pub IsTranscript : Script → List ℕ → Bool → Type 0
 IsTranscript script text unsettled = (t : Session) × Writes (new_session script.nodes script.words) script.commands text unsettled t
 
+-- what a run is said to have written, where it says which texts are transcripts of a script, and whether some line of them is `unsettled`
+abbrev pub Transcribes : Type 1
+Transcribes = Script → List ℕ → Bool → Type 0
+
 -- a transcript of a script, by how its run ends
-abbrev pub IsRunOutput : Script → Outcome → List ℕ → Type 0
-IsRunOutput script outcomes.Done text = IsTranscript script text false
-IsRunOutput script outcomes.Unsettled text = IsTranscript script text true
-IsRunOutput script (outcomes.Refused why) text = ⊥
+abbrev pub IsRunOutputBy : Transcribes → Script → Outcome → List ℕ → Type 0
+IsRunOutputBy by script outcomes.Done text = by script text false
+IsRunOutputBy by script outcomes.Unsettled text = by script text true
+IsRunOutputBy by script (outcomes.Refused why) text = ⊥
 
 -- what is written for these bytes and how their run ends: a transcript of the script that they are, or the one line that says why they are
 -- none
-abbrev pub IsOutput : List ℕ → Outcome → List ℕ → Type 0
-IsOutput input outcomes.Done text = (script : Script) × IsScript input (Ok script) × IsTranscript script text false
-IsOutput input outcomes.Unsettled text = (script : Script) × IsScript input (Ok script) × IsTranscript script text true
-IsOutput input (outcomes.Refused why) text = IsScript input (Err why) × (text ≡ refused_line why)
+abbrev pub IsOutputBy : Transcribes → List ℕ → Outcome → List ℕ → Type 0
+IsOutputBy by input outcomes.Done text = (script : Script) × IsScript input (Ok script) × by script text false
+IsOutputBy by input outcomes.Unsettled text = (script : Script) × IsScript input (Ok script) × by script text true
+IsOutputBy by input (outcomes.Refused why) text = IsScript input (Err why) × (text ≡ refused_line why)
 
 -- the bytes that were read: all there are, or one more than a script may have
 pub record IsInput (before after : Option (List ℕ)) (input : List ℕ) : Type 0 where
@@ -71,11 +75,22 @@ pub record IsInput (before after : Option (List ℕ)) (input : List ℕ) : Type 
   pub whole : length input ≤ max_bytes → IsAtEnd after
 
 -- what was read and written, by the answer of the run: the whole output, or after a failed write some front of it, and else nothing
-abbrev pub ReadsAndWrites : Option (List ℕ) → Option (List ℕ) → Option (List ℕ) → Option (List ℕ) → Result Outcome RunFault → Type 0
-ReadsAndWrites before after old new (Ok outcome) =
-    (input : List ℕ) × (text : List ℕ) × IsInput before after input × IsOutput input outcome text × Appends old new text
-ReadsAndWrites before after old new (Err faults.Write) =
-    (input : List ℕ) × (outcome : Outcome) × (text : List ℕ) × IsInput before after input × IsOutput input outcome text
+abbrev pub ReadsAndWritesBy : Transcribes → Option (List ℕ) → Option (List ℕ) → Option (List ℕ) → Option (List ℕ) →
+    Result Outcome RunFault → Type 0
+ReadsAndWritesBy by before after old new (Ok outcome) =
+    (input : List ℕ) × (text : List ℕ) × IsInput before after input × IsOutputBy by input outcome text × Appends old new text
+ReadsAndWritesBy by before after old new (Err faults.Write) =
+    (input : List ℕ) × (outcome : Outcome) × (text : List ℕ) × IsInput before after input × IsOutputBy by input outcome text
     × AppendsFront old new text
-ReadsAndWrites before after old new (Err faults.Read) = ConsumesAtMost before after (max_bytes + 1) × Keeps old new
-ReadsAndWrites before after old new (Err faults.OutOfMemory) = ConsumesAtMost before after (max_bytes + 1) × Keeps old new
+ReadsAndWritesBy by before after old new (Err faults.Read) = ConsumesAtMost before after (max_bytes + 1) × Keeps old new
+ReadsAndWritesBy by before after old new (Err faults.OutOfMemory) = ConsumesAtMost before after (max_bytes + 1) × Keeps old new
+
+-- the same by the transcripts of `run_script`
+abbrev pub IsRunOutput : Script → Outcome → List ℕ → Type 0
+IsRunOutput = IsRunOutputBy IsTranscript
+
+abbrev pub IsOutput : List ℕ → Outcome → List ℕ → Type 0
+IsOutput = IsOutputBy IsTranscript
+
+abbrev pub ReadsAndWrites : Option (List ℕ) → Option (List ℕ) → Option (List ℕ) → Option (List ℕ) → Result Outcome RunFault → Type 0
+ReadsAndWrites = ReadsAndWritesBy IsTranscript

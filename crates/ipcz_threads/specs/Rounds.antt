@@ -1,5 +1,6 @@
 -- Rounds: each worker takes turns until it is idle, or may not, or has taken so many.
-use Rattle.std.specs.Prelude.{◌≡◌, ◌<◌, ◌+◌, ◌||◌, ◌&&◌, ℕ, zero, suc, Bool, true, false, List, [], ◌∷◌, length, slice_get, slice_set, slice_index_or, Some, Ok, Err}
+use Rattle.std.specs.Prelude.{◌≡◌, ◌<◌, ◌+◌, ◌||◌, ◌&&◌, ℕ, zero, suc, Bool, true, false, List, [], ◌∷◌, length, slice_get, slice_set}
+use Rattle.std.specs.Prelude.{slice_index_or, Some, Ok, Err}
 use Rattle.ipcz_base.specs.declared.refusal.Refusal.TheVariants as refusals
 use Rattle.ipcz_node.specs.declared.happened.Happened.TheVariants as events
 use Rattle.ipcz_fabric.specs.Opens.{FindsQuiet}
@@ -41,14 +42,16 @@ pub record IsRound (t : TableName) (limit : ℕ) (ws vs : List WorkerState) : Ty
 
 -- the worker of a number is asked whether its node has nothing to do: what it says, and what is left
 abbrev pub IsAskedAt : TableName → List WorkerState → ℕ → Bool → List WorkerState → Type 0
-IsAskedAt t ws node quiet vs = (w v : WorkerState) × (slice_get ws node ≡ Some w) × FindsQuiet t w.cell quiet v.cell × (v.starved ≡ w.starved)
+IsAskedAt t ws node quiet vs = (w v : WorkerState) × (slice_get ws node ≡ Some w) × FindsQuiet t w.cell quiet v.cell
+    × (v.starved ≡ w.starved)
     × (vs ≡ slice_set ws node v)
 
 -- so many workers from one on are asked, one after the other: whether all of them say so, and what is left
 abbrev pub AreAsked : TableName → ℕ → ℕ → List WorkerState → Bool → List WorkerState → Type 0
 AreAsked t zero node ws quiet vs = (quiet ≡ true) × (vs ≡ ws)
 AreAsked t (suc left) node ws quiet vs =
-    (own others : Bool) × (us : List WorkerState) × IsAskedAt t ws node own us × AreAsked t left (node + 1) us others vs × (quiet ≡ (own && others))
+    (own others : Bool) × (us : List WorkerState) × IsAskedAt t ws node own us × AreAsked t left (node + 1) us others vs
+    × (quiet ≡ (own && others))
 
 -- whether some worker's turn found no memory
 abbrev pub is_some_starved : List WorkerState → Bool
