@@ -1,7 +1,6 @@
 -- Acts of routers as steps on one word: those without another word at the own touch word, and those on the word of a link.
 use Rattle.std.specs.Prelude.{◌≡◌, ◌<◌, ℕ, Bool, true, false, List, [], ◌∷◌, Option, Some, None, refl}
 use Rattle.std.proofs.Common.{ap, ◌∙◌, subst}
-use Rattle.atomic_table.specs.Table.{Allows}
 use Rattle.ipcz_base.specs.declared.end.End.{End}
 use Rattle.ipcz_base.specs.declared.side.Side.{Side}
 use Rattle.ipcz_base.specs.declared.link_id.LinkId.{LinkId}
@@ -32,10 +31,11 @@ use Rattle.ipcz_world.specs.Routes.{Routes, routes_after}
 use Rattle.ipcz_world.specs.Lawful.{Lawful}
 use Rattle.ipcz_world.proofs.frames.Frames.{word-set_node, claimed-set_node}
 use Rattle.ipcz_rule.specs.declared.view.Part.{Part}
-use Rattle.ipcz_rule.specs.Rule.{Mine, Rules, with_part, with_state}
+use Rattle.ipcz_rule.specs.Rule.{Mine, with_part, with_state}
 use Rattle.ipcz_rule.specs.Steps.{CanAct, is_on_word}
 use Rattle.ipcz_rule.proofs.Joins.{joined_same}
-use Rattle.ipcz_rule.proofs.Touching.{touches, set_moves, turn_lawful}
+use Rattle.ipcz_rule.specs.Kinds.{IsTurns}
+use Rattle.ipcz_rule.proofs.Touching.{touches_turn, set_moves, After, turn_after}
 
 -- an act of a router leaves the hand
 
@@ -249,14 +249,14 @@ after_is w n serial r act there = ap (after_router_act w n serial act) there
 abbrev pub act_routes : World → Routes → ℕ → ℕ → RouterAct → Routes
 act_routes w g n serial act = routes_after w g (steps.Turn n) (replies.Turned (turn_event w n (OfRouter serial act)))
 
--- an act of a router that writes no book keeps the world lawful
-pub act_lawful : (w : World) (b : Books) (g : Routes) (n serial : ℕ) (x : Node) (r : Router) (act : RouterAct) → Lawful w b g → n < w.count → node_at w n ≡ x → CanAct x serial r act → is_unwritten act ≡ true →
-    Lawful (after_router_act w n serial act (Some r)) b (act_routes w g n serial act)
-act_lawful w b g n serial x r act lawful inside is can e =
+-- an act of a router that writes no book keeps the world lawful, and is a turn
+pub act_after : (w : World) (b : Books) (g : Routes) (n serial : ℕ) (x : Node) (r : Router) (act : RouterAct) → Lawful w b g → n < w.count → node_at w n ≡ x → CanAct x serial r act → is_unwritten act ≡ true →
+    After w b g n (OfRouter serial act) (after_router_act w n serial act (Some r)) b (act_routes w g n serial act)
+act_after w b g n serial x r act lawful inside is can e =
     let there = here_at w n serial x r is can.there in
-    let kept = turn_lawful w b g n (OfRouter serial act) lawful inside (possible w n serial r act there can.may) (lacks w n serial x act is can.serials) in
-    subst (λ (u : World). Lawful u b (act_routes w g n serial act)) (after_is w n serial r act there)
-    (subst (λ (c : Books). Lawful (after_act w n (OfRouter serial act)) c (act_routes w g n serial act)) (quiet_turn w b n serial r act there e) kept)
+    let kept = turn_after w b g n (OfRouter serial act) lawful inside (possible w n serial r act there can.may) (lacks w n serial x act is can.serials) in
+    subst (λ (u : World). After w b g n (OfRouter serial act) u b (act_routes w g n serial act)) (after_is w n serial r act there)
+    (subst (λ (c : Books). After w b g n (OfRouter serial act) (after_act w n (OfRouter serial act)) c (act_routes w g n serial act)) (quiet_turn w b n serial r act there e) kept)
 
 pub unwritten_touch : (act : RouterAct) → is_plain_touch act ≡ true → is_unwritten act ≡ true
 unwritten_touch acts.SendOut e = refl
@@ -294,16 +294,18 @@ plain_part serial act a p = with_state (commit p.state (OfRouter serial act) a) 
 
 -- send, finish, leave, begin and rest, as a touch
 pub acts_touch : (count size slots id i : ℕ) (m : Mine) (p : Part) (serial : ℕ) (rt : Router) (act : RouterAct) → m.0.parts ≡ p ∷ [] → CanAct p.state serial rt act → is_plain_touch act ≡ true →
-    Allows (Rules count size) slots id m i (λ n. n) (λ n m'. m' ≡ (with_part (plain_part serial act answers.Plain p) m.0, m.1))
+    IsTurns count size slots id m i (λ n. n) (λ n. (p.node, OfRouter serial act) ∷ []) (λ n m'. m' ≡ (with_part (plain_part serial act answers.Plain p) m.0, m.1))
 acts_touch count size slots id i m p serial rt act is can e =
     let p' = plain_part serial act answers.Plain p in
     let v' = with_part p' m.0 in
-    touches count size slots id i m p p' v' is refl (record { node = refl; hand = act_hand p.state serial act answers.Plain; message = refl; probed = refl })
+    touches_turn count size slots id i m p p' v' (OfRouter serial act) is refl (record { node = refl; hand = act_hand p.state serial act answers.Plain; message = refl; probed = refl })
     (λ s r seat inside state.
     let w = r.world in
     let n : ℕ = p.node in
-    let kept = subst (λ (u : World). Lawful u r.books (act_routes w r.routes n serial act)) (after_touch w n serial rt act e)
-    (act_lawful w r.books r.routes n serial p.state rt act r.lawful inside state can (unwritten_touch act e)) in
+    let Kept : World → Type 0 = λ u. After w r.books r.routes n (OfRouter serial act) u r.books (act_routes w r.routes n serial act) in
+    let kept = subst Kept (after_touch w n serial rt act e)
+    (act_after w r.books r.routes n serial p.state rt act r.lawful inside state can (unwritten_touch act e)) in
+    let done : Kept (set_node w n p'.state) = subst (λ (y : Node). Kept (set_node w n (commit y (OfRouter serial act) answers.Plain))) state kept in
     record {
       world = set_node w n p'.state;
       books = r.books;
@@ -312,5 +314,6 @@ acts_touch count size slots id i m p serial rt act is can e =
       words = word-set_node w n p'.state;
       claimed = claimed-set_node w n p'.state;
       joined = joined_same s.views id m.0 v' p p' r.books seat is refl refl refl refl r.joined;
-      lawful = subst (λ (y : Node). Lawful (set_node w n (commit y (OfRouter serial act) answers.Plain)) r.books (act_routes w r.routes n serial act)) state kept;
+      lawful = done.0;
+      known = done.1;
     })

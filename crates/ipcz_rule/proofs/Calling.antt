@@ -29,9 +29,9 @@ use Rattle.ipcz_world.proofs.facts.LinkTests.{same_end-itself}
 use Rattle.ipcz_world.proofs.Whole.{each_step_keeps_lawful, replies_plainly}
 use Rattle.ipcz_rule.specs.Rule.{with_part}
 use Rattle.ipcz_rule.specs.Steps.{get_part, close_part, act_part}
-use Rattle.ipcz_rule.specs.Kinds.{Gets, Closes, PendingCloses}
+use Rattle.ipcz_rule.specs.Kinds.{KeepsRule, IsTurns, Gets, Closes, PendingCloses}
 use Rattle.ipcz_rule.proofs.FromLaws.{terminal_books, pending_terminal}
-use Rattle.ipcz_rule.proofs.Touching.{touches, set_moves, turn_lawful}
+use Rattle.ipcz_rule.proofs.Touching.{touches, touches_turn, set_moves, After, turn_after}
 use Rattle.ipcz_rule.proofs.Adding.{joined_put, joined_got}
 
 -- get
@@ -109,6 +109,7 @@ gets count size slots id i m p at number q is fine got =
       claimed = claimed-set_node w n p'.state;
       joined = joined_got s.views id m.0 v' p p' b at seat is refl r.joined q keeps.none_gone (ap (λ k. p.got ++ ((at, k), q) ∷ []) index) refl refl;
       lawful = subst (λ (y : Node). Lawful (set_node w n (get_node y at)) (add_got b at q) g') state kept.0;
+      known = tt;
     })
 
 -- close
@@ -162,6 +163,7 @@ closes count size slots id i m p at is fine =
       claimed = claimed-set_node w n p'.state;
       joined = joined_put s.views id m.0 v' p p' b at seat is refl r.joined Mark (ap (λ k. p.put ++ ((at, k), Mark) ∷ []) kept.1) refl refl;
       lawful = kept.0;
+      known = tt;
     })
 
 -- a pending close
@@ -201,11 +203,11 @@ unfolding number_at
 number_found None f h = cc
 number_found (Some t) f h = let same : t ≡ f = grind (arith, h) in ap (λ z. next_number z.router) same
 
-pub pending_closes : PendingCloses
-pending_closes count size slots id i m p e is first =
+pub pending_closes_turns : PendingCloses IsTurns
+pending_closes_turns count size slots id i m p e is first =
     let p' = act_part (node_acts.Close e) answers.Plain p in
     let v' = with_part p' m.0 in
-    touches count size slots id i m p p' v' is refl (record { node = refl; hand = pending_hand p.state e; message = refl; probed = refl })
+    touches_turn count size slots id i m p p' v' (node_acts.Close e) is refl (record { node = refl; hand = pending_hand p.state e; message = refl; probed = refl })
     (λ s r seat inside state.
     let w = r.world in
     let b = r.books in
@@ -216,7 +218,11 @@ pending_closes count size slots id i m p e is first =
     let here : terminal_of p.state e ≡ Some f.0 = ap (λ y. terminal_of y e) (sym state) ∙ f.1 in
     let keeps = terminal_books w b g n e f.0 r.lawful f.1 in
     let number : put_number p.state e ≡ length (b.put e) = number_found (terminal_of p.state e) f.0 here ∙ keeps.next in
-    let kept = turn_lawful w b g n (node_acts.Close e) r.lawful inside (pending_can w n e p.state state first) (pending_lacks w n e) in
+    let Kept : World → Books → Type 0 = λ u c. After w b g n (node_acts.Close e) u c g' in
+    let kept = turn_after w b g n (node_acts.Close e) r.lawful inside (pending_can w n e p.state state first) (pending_lacks w n e) in
+    let done : Kept (set_node w n p'.state) (add_put b e Mark) = subst (λ (y : Node). Kept (set_node w n (commit y (node_acts.Close e) answers.Plain)) (add_put b e Mark)) state
+    (subst (λ (c : Books). Kept (set_node w n (commit (node_at w n) (node_acts.Close e) answers.Plain)) c) (pending_written w b n e)
+    (subst (λ (u : World). Kept u (advance w b (steps.Turn n) (replies.Turned (turn_event w n (node_acts.Close e))))) (pending_after w n e) kept)) in
     record {
       world = set_node w n p'.state;
       books = add_put b e Mark;
@@ -225,7 +231,10 @@ pending_closes count size slots id i m p e is first =
       words = word-set_node w n p'.state;
       claimed = claimed-set_node w n p'.state;
       joined = joined_put s.views id m.0 v' p p' b e seat is refl r.joined Mark (ap (λ k. p.put ++ ((e, k), Mark) ∷ []) number) refl refl;
-      lawful = subst (λ (y : Node). Lawful (set_node w n (commit y (node_acts.Close e) answers.Plain)) (add_put b e Mark) g') state
-          (subst (λ (c : Books). Lawful (set_node w n (commit (node_at w n) (node_acts.Close e) answers.Plain)) c g') (pending_written w b n e)
-          (subst (λ (u : World). Lawful u (advance w b (steps.Turn n) (replies.Turned (turn_event w n (node_acts.Close e)))) g') (pending_after w n e) kept));
+      lawful = done.0;
+      known = done.1;
     })
+
+pub pending_closes : PendingCloses KeepsRule
+pending_closes count size slots id i m p e is first s r deep at small =
+    let t = pending_closes_turns count size slots id i m p e is first s r deep at small in (t.0, t.1, t.2, t.3.0, t.4)

@@ -17,7 +17,9 @@ use Rattle.ipcz_world.specs.World.{World, node_at, word_at, set_node, set_claime
 use Rattle.ipcz_world.specs.WordAnswers.{answer_of, touch}
 use Rattle.ipcz_world.specs.Turns.{after_router_act}
 use Rattle.ipcz_world.specs.Steps.{claim_for_open}
+use Rattle.ipcz_world.specs.Books.{Books}
 use Rattle.ipcz_world.specs.Routes.{Routes}
+use Rattle.ipcz_world.specs.Ranks.{AreTurns}
 use Rattle.ipcz_world.specs.Lawful.{Lawful}
 use Rattle.ipcz_world.proofs.frames.Frames.{node-set_node, node-set_claimed, word-set_node, word-set_claimed, mail-set_node, mail-set_claimed, claimed-set_node, claimed-set_claimed, size-set_node, size-set_claimed, count-set_node, count-set_claimed}
 use Rattle.ipcz_world.proofs.Whole.{claim_keeps_lawful}
@@ -25,18 +27,18 @@ use Rattle.ipcz_rule.specs.declared.view.View.{View}
 use Rattle.ipcz_rule.specs.declared.view.Part.{Part}
 use Rattle.ipcz_rule.specs.Rule.{Slot, St, Mine, mailbox, Rules, with_part, saw}
 use Rattle.ipcz_rule.specs.Steps.{CanAct, claimed_part}
-use Rattle.ipcz_rule.specs.Kinds.{Claims, ClaimsForOpen, LoadsForClaim}
-use Rattle.ipcz_rule.proofs.Moved.{ruled, spelled, keeps_sources}
+use Rattle.ipcz_rule.specs.Kinds.{Follows, KeepsRule, IsTurns, turn_where, Claims, ClaimsForOpen, LoadsForClaim}
+use Rattle.ipcz_rule.proofs.Moved.{ruled_with, spelled, keeps_sources}
 use Rattle.ipcz_rule.proofs.Touches.{NodeMoves, others_spell, own_spells, mails_show}
 use Rattle.ipcz_rule.proofs.Joins.{joined_same}
-use Rattle.ipcz_rule.proofs.Touching.{KeepsHands, set_moves}
-use Rattle.ipcz_rule.proofs.Acting.{plain_part, act_routes, act_lawful, act_hand}
+use Rattle.ipcz_rule.proofs.Touching.{KeepsHands, set_moves, Anything, After}
+use Rattle.ipcz_rule.proofs.Acting.{plain_part, act_routes, act_after, act_hand}
 use Rattle.ipcz_rule.proofs.Wording.{sees}
 
 -- the rule after a step on the claim count that leaves n', where the own node is another
 module _ (count size : ℕ) (s : St) (r : Rules count size s) (id : ℕ) (v v' : View) (p p' : Part) (w' : World) (g' : Routes) (n' : ℕ)
     (at : get_elem? s.views id ≡ some v) (is : v.parts ≡ p ∷ []) (is' : v'.parts ≡ p' ∷ []) (moves : NodeMoves r.world w' p.node p'.state) (words : (j : ℕ) → word_at w' j ≡ word_at r.world j) (claimed : n' ≡ w'.claimed)
-    (k : KeepsHands p p') (put : p'.put ≡ p.put) (got : p'.got ≡ p.got) (gone : p'.gone ≡ p.gone) (lawful : Lawful w' r.books g') where
+    (k : KeepsHands p p') (put : p'.put ≡ p.put) (got : p'.got ≡ p.got) (gone : p'.gone ≡ p.gone) (lawful : Lawful w' r.books g') (G : World → Books → Routes → Type 0) (known : G w' r.books g') where
   abbrev w : World
   w = r.world
 
@@ -46,8 +48,8 @@ module _ (count size : ℕ) (s : St) (r : Rules count size s) (id : ℕ) (v v' :
   boxes : (j : ℕ) → slice_index (set s.words size n') (mailbox w j) ≡ slice_index s.words (mailbox w j)
   boxes j = get_or-set_other s.words size (mailbox w j) n' 0 (λ e. let z = r.words in omega arith)
 
-  pub claim_rules : Rules count size record { words = set s.words size n'; homes = s.homes; views = set s.views id v' }
-  claim_rules = ruled s r w' r.books g' (set s.words size n') s.homes id v v' p p' at is is' (record {
+  pub claim_rules : (r' : Rules count size record { words = set s.words size n'; homes = s.homes; views = set s.views id v' }) × G r'.world r'.books r'.routes
+  claim_rules = ruled_with s r w' r.books g' (set s.words size n') s.homes id v v' p p' at is is' (record {
     count = moves.count;
     size = moves.size;
     wide = length-set s.words size n';
@@ -59,7 +61,7 @@ module _ (count size : ℕ) (s : St) (r : Rules count size s) (id : ℕ) (v v' :
     node = k.node;
     own = own_spells s w w' (set s.words size n') p.node p'.state moves boxes p p' refl k.node refl k.hand k.message k.probed (spelled s r id v p at is);
     others = others_spell s w w' (set s.words size n') p.node p'.state moves boxes;
-  }) (joined_same s.views id v v' p p' r.books at is is' put got gone r.joined) lawful
+  }) (joined_same s.views id v v' p p' r.books at is is' put got gone r.joined) lawful G known
 
 claim_after : (w : World) (n serial : ℕ) (x : Node) (rt : Router) → node_at w n ≡ x → w.claimed < w.size →
     after_router_act w n serial acts.Claim (Some rt) ≡ set_node (set_claimed w (w.claimed + 1)) n (commit x (OfRouter serial acts.Claim) (answers.Claimed w.claimed))
@@ -91,7 +93,7 @@ module _ (count size id : ℕ) (m : Mine) (p : Part) (serial : ℕ) (rt : Router
   Told b m' = MatchBool b (m' ≡ (with_part p' (saw size n m.0), m.1)) (m' ≡ (saw size n m.0, m.1))
 
   abbrev F : Bool → Type 0
-  F b = (v : View) × (a : TableAct Slot) × Valid s.homes m.1 a × Rules count size (stepped s size (either b (c + 1) n) id m.1 v a) × Told b (v, carried_after m.1 a)
+  F b = (v : View) × (a : TableAct Slot) × Valid s.homes m.1 a × Follows count size s r (turn_where b p.node (OfRouter serial acts.Claim)) (stepped s size (either b (c + 1) n) id m.1 v a) × Told b (v, carried_after m.1 a)
 
   claims_by : (b : Bool) → eqb n c ≡ b → F b
   claims_by true e =
@@ -100,17 +102,19 @@ module _ (count size id : ℕ) (m : Mine) (p : Part) (serial : ℕ) (rt : Router
       let found : w.claimed ≡ c = sym r.shows.claims ∙ (ap (slice_index s.words) r.words ∙ eqb-true n c e) in
       let room : w.claimed < w.size = let z = r.words in omega arith in
       let g' = act_routes w r.routes p.node serial acts.Claim in
-      let kept = subst (λ (u : World). Lawful u r.books g') (claim_after w p.node serial p.state rt sp.state room)
-      (act_lawful w r.books r.routes p.node serial p.state rt acts.Claim r.lawful sp.inside sp.state can refl) in
+      let Kept : World → Type 0 = λ u. After w r.books r.routes p.node (OfRouter serial acts.Claim) u r.books g' in
+      let kept = subst Kept (claim_after w p.node serial p.state rt sp.state room)
+      (act_after w r.books r.routes p.node serial p.state rt acts.Claim r.lawful sp.inside sp.state can refl) in
       let w' = set_node (set_claimed w (c + 1)) p.node p'.state in
-      let lawful : Lawful w' r.books g' = subst (λ (k : ℕ). Lawful (set_node (set_claimed w (k + 1)) p.node (commit p.state (OfRouter serial acts.Claim) (answers.Claimed k))) r.books g') found kept in
+      let done : Kept w' = subst (λ (k : ℕ). Kept (set_node (set_claimed w (k + 1)) p.node (commit p.state (OfRouter serial acts.Claim) (answers.Claimed k)))) found kept in
       let v' = with_part p' (saw size n m.0) in (
         v',
         keeps,
         tt,
         claim_rules count size s r id m.0 v' p p' w' g' (c + 1) at is refl (claim_moves w (c + 1) p.node p'.state)
             (λ j. word-set_node (set_claimed w (c + 1)) p.node p'.state j ∙ word-set_claimed w (c + 1) j) (sym (claimed-set_node (set_claimed w (c + 1)) p.node p'.state ∙ claimed-set_claimed w (c + 1)))
-            (record { node = refl; hand = act_hand p.state serial acts.Claim (answers.Claimed c); message = refl; probed = refl }) refl refl refl lawful,
+            (record { node = refl; hand = act_hand p.state serial acts.Claim (answers.Claimed c); message = refl; probed = refl }) refl refl refl done.0
+            (AreTurns w r.books r.routes ((p.node, OfRouter serial acts.Claim) ∷ [])) done.1,
         refl,
       )
   claims_by false e = (saw size n m.0, keeps, tt, sees s r size id m.0 (saw size n m.0) p at is is, refl)
@@ -118,8 +122,12 @@ module _ (count size id : ℕ) (m : Mine) (p : Part) (serial : ℕ) (rt : Router
   pub claimed_word : F (eqb n c)
   claimed_word = claims_by (eqb n c) refl
 
-pub claims : Claims
-claims count size slots id c m p serial rt is can small s r deep at low = claimed_word count size id m p serial rt c is can small s r at
+pub claims_turns : Claims IsTurns
+claims_turns count size slots id c m p serial rt is can small s r deep at low = claimed_word count size id m p serial rt c is can small s r at
+
+pub claims : Claims KeepsRule
+claims count size slots id c m p serial rt is can below s r deep at small =
+    let t = claims_turns count size slots id c m p serial rt is can below s r deep at small in (t.0, t.1, t.2, t.3.0, t.4)
 
 dry_after : (w : World) (n serial : ℕ) (x : Node) (rt : Router) → node_at w n ≡ x → nat_lt w.claimed w.size ≡ false →
     after_router_act w n serial acts.Claim (Some rt) ≡ set_node w n (commit x (OfRouter serial acts.Claim) answers.NoWord)
@@ -141,7 +149,7 @@ module _ (count size id : ℕ) (m : Mine) (p : Part) (serial : ℕ) (rt : Router
   DryTold b m' = MatchBool b (m' ≡ (with_part dry_part (saw size seen_count m.0), m.1)) (m' ≡ (saw size seen_count m.0, m.1))
 
   abbrev Dry : Bool → Type 0
-  Dry b = (v : View) × (a : TableAct Slot) × Valid s.homes m.1 a × Rules count size (stepped s size seen_count id m.1 v a) × DryTold b (v, carried_after m.1 a)
+  Dry b = (v : View) × (a : TableAct Slot) × Valid s.homes m.1 a × Follows count size s r (turn_where b p.node (OfRouter serial acts.Claim)) (stepped s size seen_count id m.1 v a) × DryTold b (v, carried_after m.1 a)
 
   dry_by : (b : Bool) → eqb seen_count size ≡ b → Dry b
   dry_by true e =
@@ -150,15 +158,17 @@ module _ (count size id : ℕ) (m : Mine) (p : Part) (serial : ℕ) (rt : Router
       let found : seen_count ≡ w.claimed = ap (slice_index s.words) (sym r.words) ∙ r.shows.claims in
       let all : nat_lt w.claimed w.size ≡ false = let h = sym found ∙ (eqb-true seen_count size e ∙ sym r.words) in grind (arith, nat_tests, h) in
       let g' = act_routes w r.routes p.node serial acts.Claim in
-      let lawful : Lawful (set_node w p.node dry_part.state) r.books g' = subst (λ (u : World). Lawful u r.books g') (dry_after w p.node serial p.state rt sp.state all)
-      (act_lawful w r.books r.routes p.node serial p.state rt acts.Claim r.lawful sp.inside sp.state can refl) in
+      let Kept : World → Type 0 = λ u. After w r.books r.routes p.node (OfRouter serial acts.Claim) u r.books g' in
+      let done : Kept (set_node w p.node dry_part.state) = subst Kept (dry_after w p.node serial p.state rt sp.state all)
+      (act_after w r.books r.routes p.node serial p.state rt acts.Claim r.lawful sp.inside sp.state can refl) in
       let v' = with_part dry_part (saw size seen_count m.0) in (
         v',
         keeps,
         tt,
         claim_rules count size s r id m.0 v' p dry_part (set_node w p.node dry_part.state) g' seen_count at is refl (set_moves w p.node dry_part.state)
             (word-set_node w p.node dry_part.state) (found ∙ sym (claimed-set_node w p.node dry_part.state))
-            (record { node = refl; hand = act_hand p.state serial acts.Claim answers.NoWord; message = refl; probed = refl }) refl refl refl lawful,
+            (record { node = refl; hand = act_hand p.state serial acts.Claim answers.NoWord; message = refl; probed = refl }) refl refl refl done.0
+            (AreTurns w r.books r.routes ((p.node, OfRouter serial acts.Claim) ∷ [])) done.1,
         refl,
       )
   dry_by false e = (saw size seen_count m.0, keeps, tt, sees s r size id m.0 (saw size seen_count m.0) p at is is, refl)
@@ -166,8 +176,12 @@ module _ (count size id : ℕ) (m : Mine) (p : Part) (serial : ℕ) (rt : Router
   pub dry_found : Dry (eqb seen_count size)
   dry_found = dry_by (eqb seen_count size) refl
 
-pub loads_for_claim : LoadsForClaim
-loads_for_claim count size slots id m p serial rt is can s r deep at small = dry_found count size id m p serial rt is can s r at
+pub loads_for_claim_turns : LoadsForClaim IsTurns
+loads_for_claim_turns count size slots id m p serial rt is can s r deep at small = dry_found count size id m p serial rt is can s r at
+
+pub loads_for_claim : LoadsForClaim KeepsRule
+loads_for_claim count size slots id m p serial rt is can s r deep at small =
+    let t = loads_for_claim_turns count size slots id m p serial rt is can s r deep at small in (t.0, t.1, t.2, t.3.0, t.4)
 
 half_moves : (w : World) (c n : ℕ) (x : Node) → NodeMoves w (set_claimed (set_node w n x) c) n x
 half_moves w c n x = record {
@@ -205,12 +219,12 @@ module _ (count size id : ℕ) (m : Mine) (p : Part) (c : ℕ) (is : m.0.parts �
         v',
         keeps,
         tt,
-        claim_rules count size s r id m.0 v' p p' w' r.routes (c + 1) at is refl (half_moves w (c + 1) p.node p'.state)
+        (claim_rules count size s r id m.0 v' p p' w' r.routes (c + 1) at is refl (half_moves w (c + 1) p.node p'.state)
             (λ j. word-set_claimed (set_node w p.node p'.state) (c + 1) j ∙ word-set_node w p.node p'.state j) (sym (claimed-set_claimed (set_node w p.node p'.state) (c + 1)))
-            (record { node = refl; hand = refl; message = refl; probed = refl }) refl refl refl lawful,
+            (record { node = refl; hand = refl; message = refl; probed = refl }) refl refl refl lawful Anything tt).0,
         refl,
       )
-  half_by false e = (saw size count_found m.0, keeps, tt, sees s r size id m.0 (saw size count_found m.0) p at is is, refl)
+  half_by false e = (saw size count_found m.0, keeps, tt, (sees s r size id m.0 (saw size count_found m.0) p at is is).0, refl)
 
   pub half_claimed : Half (eqb count_found c)
   half_claimed = half_by (eqb count_found c) refl

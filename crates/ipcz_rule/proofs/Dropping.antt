@@ -1,7 +1,6 @@
 -- A discard as a step on the own touch word; and all acts of routers that are touches, as one kind.
 use Rattle.std.specs.Prelude.{◌≡◌, ◌⊎◌, ℕ, Bool, true, false, ◌&&◌, ◌||◌, [], ◌∷◌, ◌++◌, Option, Some, None, is_some, refl}
 use Rattle.std.proofs.Common.{ap, ◌∙◌, sym, subst, inl, inr, ⊎_elim}
-use Rattle.atomic_table.specs.Table.{Allows}
 use Rattle.ipcz_seq.specs.Queue.{current_item}
 use Rattle.ipcz_router.specs.Router.{Router, is_terminal, is_sink, source_of}
 use Rattle.ipcz_router.specs.ActTable.{may_take, is_possible, is_rest, next_act}
@@ -9,6 +8,7 @@ use Rattle.ipcz_router.specs.declared.act.RouterAct.{RouterAct}
 use Rattle.ipcz_router.specs.declared.act.RouterAct.TheVariants as acts
 use Rattle.ipcz_router.specs.declared.act.Answer.{Answer}
 use Rattle.ipcz_router.specs.declared.act.Answer.TheVariants as answers
+use Rattle.ipcz_node.specs.declared.act.Act.{Act}
 use Rattle.ipcz_node.specs.declared.act.Act.TheVariants.{Router as OfRouter}
 use Rattle.ipcz_node.specs.Node.{Node, router_in}
 use Rattle.ipcz_node.specs.Acts.{commit}
@@ -19,14 +19,13 @@ use Rattle.ipcz_world.specs.World.{World, node_at, set_node}
 use Rattle.ipcz_world.specs.WordAnswers.{answer_of, link_answer, word_answer, touch}
 use Rattle.ipcz_world.specs.Turns.{router_of, after_act, after_router_act, turn_event, router_seen}
 use Rattle.ipcz_world.specs.Books.{Books, advance, after_turn, after_discard, add_gone, read}
-use Rattle.ipcz_world.specs.Lawful.{Lawful}
 use Rattle.ipcz_world.proofs.frames.Frames.{word-set_node, claimed-set_node}
 use Rattle.ipcz_world.proofs.Whole.{terminals_keep_books}
 use Rattle.ipcz_rule.specs.declared.view.Part.{Part}
-use Rattle.ipcz_rule.specs.Rule.{Mine, Rules, with_part, with_state}
+use Rattle.ipcz_rule.specs.Rule.{Mine, with_part, with_state}
 use Rattle.ipcz_rule.specs.Steps.{CanAct, is_touch, act_part, add_gone_entry}
-use Rattle.ipcz_rule.specs.Kinds.{Touches}
-use Rattle.ipcz_rule.proofs.Touching.{touches, set_moves, turn_lawful}
+use Rattle.ipcz_rule.specs.Kinds.{KeepsRule, IsTurns, Touches}
+use Rattle.ipcz_rule.proofs.Touching.{touches_turn, set_moves, After, turn_after}
 use Rattle.ipcz_rule.proofs.Acting.{is_plain_touch, is_unwritten, plain_part, unwritten_touch, acts_touch, act_routes, act_hand, here_at, possible, lacks, after_is}
 use Rattle.ipcz_rule.proofs.Adding.{joined_gone}
 
@@ -60,12 +59,12 @@ unfolding is_possible is_rest
 sink_discards r h = both_first (is_terminal r) r.closed (both_first (is_sink r) (is_some (current_item r.in_queue)) (either_false (is_possible r acts.Discard) (is_rest (next_act r)) h))
 
 discards : (count size slots id i : ℕ) (m : Mine) (p : Part) (serial : ℕ) (rt : Router) → m.0.parts ≡ p ∷ [] → CanAct p.state serial rt acts.Discard →
-    Allows (Rules count size) slots id m i (λ n. n) (λ n m'. m' ≡ (with_part (add_gone_entry rt.end rt.in_queue.current (with_state (commit p.state (OfRouter serial acts.Discard) answers.Plain) p)) m.0, m.1))
+    IsTurns count size slots id m i (λ n. n) (λ n. (p.node, OfRouter serial acts.Discard) ∷ []) (λ n m'. m' ≡ (with_part (add_gone_entry rt.end rt.in_queue.current (with_state (commit p.state (OfRouter serial acts.Discard) answers.Plain) p)) m.0, m.1))
 discards count size slots id i m p serial rt is can =
     let x = commit p.state (OfRouter serial acts.Discard) answers.Plain in
     let p' = add_gone_entry rt.end rt.in_queue.current (with_state x p) in
     let v' = with_part p' m.0 in
-    touches count size slots id i m p p' v' is refl (record { node = refl; hand = act_hand p.state serial acts.Discard answers.Plain; message = refl; probed = refl })
+    touches_turn count size slots id i m p p' v' (OfRouter serial acts.Discard) is refl (record { node = refl; hand = act_hand p.state serial acts.Discard answers.Plain; message = refl; probed = refl })
     (λ s r seat inside state.
     let w = r.world in
     let b = r.books in
@@ -74,7 +73,11 @@ discards count size slots id i m p serial rt is can =
     let g' = act_routes w g n serial acts.Discard in
     let there = here_at w n serial p.state rt state can.there in
     let current : rt.in_queue.current ≡ read b rt.end = (terminals_keep_books w b g r.lawful).current (record { node = n; serial = serial }) rt there (sink_discards rt can.may) in
-    let kept = turn_lawful w b g n (OfRouter serial acts.Discard) r.lawful inside (possible w n serial rt acts.Discard there can.may) (lacks w n serial p.state acts.Discard state can.serials) in
+    let Kept : World → Books → Type 0 = λ u c. After w b g n (OfRouter serial acts.Discard) u c g' in
+    let kept = turn_after w b g n (OfRouter serial acts.Discard) r.lawful inside (possible w n serial rt acts.Discard there can.may) (lacks w n serial p.state acts.Discard state can.serials) in
+    let done : Kept (set_node w n x) (add_gone b rt.end) = subst (λ (y : Node). Kept (set_node w n (commit y (OfRouter serial acts.Discard) answers.Plain)) (add_gone b rt.end)) state
+    (subst (λ (u : World). Kept u (add_gone b rt.end)) (after_is w n serial rt acts.Discard there ∙ discard_after w n serial rt)
+    (subst (λ (c : Books). Kept (after_act w n (OfRouter serial acts.Discard)) c) (discard_written w b n serial rt there (ap (λ y. router_in y serial) state ∙ can.there)) kept)) in
     record {
       world = set_node w n x;
       books = add_gone b rt.end;
@@ -83,9 +86,8 @@ discards count size slots id i m p serial rt is can =
       words = word-set_node w n x;
       claimed = claimed-set_node w n x;
       joined = joined_gone s.views id m.0 v' p p' b rt.end seat is refl r.joined (ap (λ k. p.gone ++ (rt.end, k) ∷ []) current) refl refl;
-      lawful = subst (λ (y : Node). Lawful (set_node w n (commit y (OfRouter serial acts.Discard) answers.Plain)) (add_gone b rt.end) g') state
-          (subst (λ (u : World). Lawful u (add_gone b rt.end) g') (after_is w n serial rt acts.Discard there ∙ discard_after w n serial rt)
-          (subst (λ (c : Books). Lawful (after_act w n (OfRouter serial acts.Discard)) c g') (discard_written w b n serial rt there (ap (λ y. router_in y serial) state ∙ can.there)) kept));
+      lawful = done.0;
+      known = done.1;
     })
 
 -- the part after an act of a router that writes no book
@@ -125,16 +127,20 @@ touch_writes acts.Begin e = inl refl
 touch_writes acts.Unlock e = cc
 touch_writes acts.Rest e = inl refl
 
--- what a touch leaves of the seat, where its part is this
-abbrev Touch : ℕ → ℕ → ℕ → ℕ → ℕ → Mine → Part → Type 0
-Touch count size slots id i m q = Allows (Rules count size) slots id m i (λ n. n) (λ n m'. m' ≡ (with_part q m.0, m.1))
+-- what a touch is and leaves of the seat, where its part is this
+abbrev Touch : ℕ → ℕ → ℕ → ℕ → ℕ → Mine → ℕ → Act → Part → Type 0
+Touch count size slots id i m n act q = IsTurns count size slots id m i (λ k. k) (λ k. (n, act) ∷ []) (λ k m'. m' ≡ (with_part q m.0, m.1))
 
 -- the acts of routers that are touches
-pub touches_acts : Touches
-touches_acts count size slots id i m p serial rt act is can e = ⊎_elim
-    (λ (plain : is_plain_touch act ≡ true). subst (Touch count size slots id i m) (sym (part_is serial act answers.Plain p (unwritten_touch act plain))) (acts_touch count size slots id i m p serial rt act is can plain))
+pub touches_acts_turns : Touches IsTurns
+touches_acts_turns count size slots id i m p serial rt act is can e = ⊎_elim
+    (λ (plain : is_plain_touch act ≡ true). subst (Touch count size slots id i m p.node (OfRouter serial act)) (sym (part_is serial act answers.Plain p (unwritten_touch act plain))) (acts_touch count size slots id i m p serial rt act is can plain))
     (λ (same : act ≡ acts.Discard). let can' = subst (CanAct p.state serial rt) same can in
-    let done : Touch count size slots id i m (act_part (OfRouter serial acts.Discard) answers.Plain p) =
-    subst (Touch count size slots id i m) (dropped_part_is serial p rt can'.there) (discards count size slots id i m p serial rt is can') in
-    subst (λ (z : RouterAct). Touch count size slots id i m (act_part (OfRouter serial z) answers.Plain p)) (sym same) done)
+    let done : Touch count size slots id i m p.node (OfRouter serial acts.Discard) (act_part (OfRouter serial acts.Discard) answers.Plain p) =
+    subst (Touch count size slots id i m p.node (OfRouter serial acts.Discard)) (dropped_part_is serial p rt can'.there) (discards count size slots id i m p serial rt is can') in
+    subst (λ (z : RouterAct). Touch count size slots id i m p.node (OfRouter serial z) (act_part (OfRouter serial z) answers.Plain p)) (sym same) done)
     (touch_writes act e)
+
+pub touches_acts : Touches KeepsRule
+touches_acts count size slots id i m p serial rt act is can e s r deep at small =
+    let t = touches_acts_turns count size slots id i m p serial rt act is can e s r deep at small in (t.0, t.1, t.2, t.3.0, t.4)

@@ -21,16 +21,16 @@ use Rattle.ipcz_world.specs.WordAnswers.{source_for}
 use Rattle.ipcz_world.specs.declared.mail.Mail.TheVariants as mails
 use Rattle.ipcz_world.specs.World.{World, mail_at, way, set_node, set_mail}
 use Rattle.ipcz_world.specs.Turns.{after_act}
+use Rattle.ipcz_world.specs.Books.{Books}
 use Rattle.ipcz_world.specs.Routes.{hand_of}
-use Rattle.ipcz_world.specs.Lawful.{Lawful}
 use Rattle.ipcz_rule.specs.declared.view.View.{View}
-use Rattle.ipcz_rule.specs.Rule.{Slot, Mine, mailbox, Rules, with_part}
+use Rattle.ipcz_rule.specs.Rule.{Slot, Mine, mailbox, with_part}
 use Rattle.ipcz_rule.specs.Steps.{hand_part, trusted}
-use Rattle.ipcz_rule.specs.Kinds.{Hands}
+use Rattle.ipcz_rule.specs.Kinds.{Follows, KeepsRule, IsTurns, Hands}
 use Rattle.ipcz_rule.proofs.FromLaws.{hand_sender, hand_source}
 use Rattle.ipcz_rule.proofs.Joins.{joined_same}
 use Rattle.ipcz_rule.proofs.Moved.{spelled}
-use Rattle.ipcz_rule.proofs.Touching.{turn_lawful}
+use Rattle.ipcz_rule.proofs.Touching.{After, turn_after}
 use Rattle.ipcz_rule.proofs.Mailing.{way_low, way_second, mail_moves, mail_rules}
 use Rattle.ipcz_rule.proofs.Posting.{in_hand, at_two, hand_after, hand_written, hand_can, hand_lacks, turn_routes, three_stays}
 
@@ -79,8 +79,8 @@ unfolding hand_of
 empty_hand w n None e = refl
 empty_hand w n (Some a) e = cc
 
-pub hands : Hands
-hands count size slots id i k from m p x rest is at_k at_i holds has serials slot s r deep at small =
+pub hands_turns : Hands IsTurns
+hands_turns count size slots id i k from m p x rest is at_k at_i holds has serials slot s r deep at small =
     let w = r.world in
     let n : ℕ = p.node in
     let sp = spelled s r id m.0 p at is in
@@ -101,9 +101,10 @@ hands count size slots id i k from m p x rest is at_k at_i holds has serials slo
     let w' = set_mail (set_node w n p'.state) k mails.Empty in
     let moves = mail_moves w n p'.state k mails.Empty in
     let g' = turn_routes w r.routes n (node_acts.Hand from) in
-    let kept = turn_lawful w r.books r.routes n (node_acts.Hand from) r.lawful n_in (hand_can w n from p.state x sp.state holds full') (hand_lacks w n from p.state x sp.state full' (ap (λ o. message_lacks_serials p.state from x o) src ∙ serials)) in
-    let lawful : Lawful w' r.books g' = subst (λ q. Lawful (set_mail (set_node w n p'.state) q mails.Empty) r.books g') (sym kk)
-    (subst (λ u. Lawful u r.books g') (hand_after w n from p.state x sp.state full' ∙ ap (λ o. set_mail (set_node w n (deliver p.state from x o)) (way w from n) mails.Empty) src) (subst (λ b. Lawful (after_act w n (node_acts.Hand from)) b g') (hand_written w r.books n from x full') kept)) in
+    let Kept : World → Books → Type 0 = λ u b. After w r.books r.routes n (node_acts.Hand from) u b g' in
+    let kept = turn_after w r.books r.routes n (node_acts.Hand from) r.lawful n_in (hand_can w n from p.state x sp.state holds full') (hand_lacks w n from p.state x sp.state full' (ap (λ o. message_lacks_serials p.state from x o) src ∙ serials)) in
+    let done : Kept w' r.books = subst (λ q. Kept (set_mail (set_node w n p'.state) q mails.Empty) r.books) (sym kk)
+    (subst (λ u. Kept u r.books) (hand_after w n from p.state x sp.state full' ∙ ap (λ o. set_mail (set_node w n (deliver p.state from x o)) (way w from n) mails.Empty) src) (subst (Kept (after_act w n (node_acts.Hand from))) (hand_written w r.books n from x full') kept)) in
     let homes' = set s.homes k (some None) in
     let long : i < length s.words = omega (arith, index, inside, wide) in
     let same_three : nat_eq (slice_index s.words i) 3 ≡ nat_eq 0 3 = ap (λ q. nat_eq q 3) two in
@@ -113,7 +114,11 @@ hands count size slots id i k from m p x rest is at_k at_i holds has serials slo
     (λ t l. sp.probed t l ∙ three_stays s.words i 0 (mailbox w (way w n t)) long same_three)
     (λ q sq ne a e same. way_second w.count a from q.node n sq.inside n_in ne (same ∙ kk))
     (λ q ne t l e. same_three)
-    lawful in
+    done.0 ((n, node_acts.Hand from) ∷ []) done.1 in
     let Told : Mine → Type 0 = λ m'. m' ≡ (with_part p' m.0, rest) in
-    let G : List (ℕ × Slot) → Type 0 = λ held. (v : View) × (a : TableAct Slot) × Valid s.homes held a × Rules count size (stepped s i 0 id held v a) × Told (v, carried_after held a) in
+    let G : List (ℕ × Slot) → Type 0 = λ held. (v : View) × (a : TableAct Slot) × Valid s.homes held a × Follows count size s r ((n, node_acts.Hand from) ∷ []) (stepped s i 0 id held v a) × Told (v, carried_after held a) in
     subst G (sym slot) (with_part p' m.0, gives, tt, rules, refl)
+
+pub hands : Hands KeepsRule
+hands count size slots id i k from m p x rest is at_k at_i holds has serials slot s r deep at small =
+    let t = hands_turns count size slots id i k from m p x rest is at_k at_i holds has serials slot s r deep at small in (t.0, t.1, t.2, t.3.0, t.4)

@@ -20,6 +20,7 @@ pub mod Putting
 pub mod QuietParts
 pub mod Returning
 pub mod SettledParts
+pub mod TableRuns
 pub mod RuleLaws
 pub mod Starting
 pub mod TouchActs

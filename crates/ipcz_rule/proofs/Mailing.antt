@@ -1,5 +1,5 @@
 -- Steps on the word of a mailbox.
-use Rattle.std.specs.Prelude.{◌≡◌, ◌≢◌, ◌<◌, ◌+◌, ◌*◌, ℕ, nat_eq, [], ◌∷◌, length, slice_index, Some}
+use Rattle.std.specs.Prelude.{◌≡◌, ◌≢◌, ◌<◌, ◌+◌, ◌*◌, ℕ, nat_eq, List, [], ◌∷◌, length, slice_index, Some}
 use Rattle.std.proofs.Common.{arith, ap, ◌∙◌, sym, set, length-set, get_or-set_same, get_or-set_other}
 use Rattle.std.proofs.lemmas.Bool.Decides.{nat_tests}
 use mathlib.Core.Option.{some}
@@ -7,17 +7,20 @@ use mathlib.Core.Logic.{dite}
 use native.Mathlib.Decide.{ℕ_discrete}
 use lib.ListN.{get_elem?}
 use Rattle.ipcz_word.specs.Layout.{bits_of}
+use Rattle.ipcz_node.specs.declared.act.Act.{Act}
 use Rattle.ipcz_node.specs.Node.{Node}
 use Rattle.ipcz_world.specs.declared.mail.Mail.{Mail}
 use Rattle.ipcz_world.specs.World.{World, node_at, word_at, mail_at, way, set_node, set_mail}
 use Rattle.ipcz_world.specs.Books.{Books}
 use Rattle.ipcz_world.specs.Routes.{Routes, hand_of}
 use Rattle.ipcz_world.specs.Lawful.{Lawful}
+use Rattle.ipcz_world.specs.Ranks.{AreTurns}
 use Rattle.ipcz_world.proofs.frames.Frames.{node-set_node, node-set_mail, word-set_node, word-set_mail, mail-set_node, mail-set_mail, claimed-set_node, claimed-set_mail, size-set_node, size-set_mail, count-set_node, count-set_mail}
 use Rattle.ipcz_rule.specs.declared.view.View.{View}
 use Rattle.ipcz_rule.specs.declared.view.Part.{Part}
 use Rattle.ipcz_rule.specs.Rule.{Homes, St, has_number, mailbox, MailAt, Spells, Rules, Joined}
-use Rattle.ipcz_rule.proofs.Moved.{ruled, spelled, keeps_sources}
+use Rattle.ipcz_rule.specs.Kinds.{Follows}
+use Rattle.ipcz_rule.proofs.Moved.{ruled_with, spelled, keeps_sources}
 use Rattle.ipcz_rule.proofs.Touches.{same_hand, same_box, same_way}
 
 pub way_low : (c a b s t : ℕ) → s < c → a < b → (a * c + s) < b * c + t
@@ -62,7 +65,7 @@ module _ (count size : ℕ) (s : St) (r : Rules count size s) (id : ℕ) (v v' :
     (probed : (to : ℕ) → to < r.world.count → has_number p'.probed to ≡ nat_eq (slice_index (set s.words i n') (mailbox r.world (way r.world p.node to))) 3)
     (hands : (q : Part) → Spells s.words r.world q → q.node ≢ p.node → (from : ℕ) → q.state.hand ≡ Some from → way r.world from q.node ≢ k)
     (threes : (q : Part) → q.node ≢ p.node → (to : ℕ) → to < r.world.count → way r.world q.node to ≡ k → nat_eq (slice_index s.words i) 3 ≡ nat_eq n' 3)
-    (lawful : Lawful w' books' g') where
+    (lawful : Lawful w' books' g') (turns : List (ℕ × Act)) (how : AreTurns r.world r.books r.routes turns w' books' g') where
   abbrev w : World
   w = r.world
 
@@ -110,8 +113,8 @@ module _ (count size : ℕ) (s : St) (r : Rules count size s) (id : ℕ) (v v' :
       rw (box, there, same, moves.mail) shown)
       (λ apart. rw (same_box w w' j moves.count moves.size, box_else j apart, homes_else j apart, moves.mails j apart) (r.shows.mail j (rw (← moves.count) l)))
 
-  pub mail_rules : Rules count size record { words = set s.words i n'; homes = homes; views = set s.views id v' }
-  mail_rules = ruled s r w' books' g' (set s.words i n') homes id v v' p p' at is is' (record {
+  pub mail_rules : Follows count size s r turns record { words = set s.words i n'; homes = homes; views = set s.views id v' }
+  mail_rules = ruled_with s r w' books' g' (set s.words i n') homes id v v' p p' at is is' (record {
     count = moves.count;
     size = moves.size;
     wide = length-set s.words i n';
@@ -123,4 +126,4 @@ module _ (count size : ℕ) (s : St) (r : Rules count size s) (id : ℕ) (v v' :
     node = node;
     own = own;
     others = others;
-  }) joined lawful
+  }) joined lawful (AreTurns r.world r.books r.routes turns) how

@@ -79,6 +79,14 @@ ruled s r w' b' g' words homes id v v' p p' at is is' m joined lawful = record {
   sources = m.sources;
 }
 
+-- the rule after it, with what is known of the world that is shown then
+pub ruled_with : {count size : ℕ} (s : St) (r : Rules count size s) (w' : World) (b' : Books) (g' : Routes) (words : List ℕ) (homes : Homes) (id : ℕ) (v v' : View) (p p' : Part) →
+    get_elem? s.views id ≡ some v → v.parts ≡ p ∷ [] → v'.parts ≡ p' ∷ [] → Moves s r.world w' words homes p p' →
+    Joined (set s.views id v') b' → Lawful w' b' g' → (G : World → Books → Routes → Type 0) → G w' b' g' →
+    (r' : Rules count size record { words = words; homes = homes; views = set s.views id v' }) × G r'.world r'.books r'.routes
+unfolding ruled
+ruled_with s r w' b' g' words homes id v v' p p' at is is' m joined lawful G known = (ruled s r w' b' g' words homes id v v' p p' at is is' m joined lawful, known)
+
 -- where the words stay, so do their sources
 pub keeps_sources : (w w' : World) → ((i : ℕ) → word_at w' i ≡ word_at w i) → ((i : ℕ) → HasNode (word_at w i).source) → (i : ℕ) → HasNode (word_at w' i).source
 keeps_sources w w' same named i = subst (λ (x : Word). HasNode x.source) (sym (same i)) (named i)

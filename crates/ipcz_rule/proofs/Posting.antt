@@ -27,17 +27,16 @@ use Rattle.ipcz_world.specs.World.{World, node_at, mail_at, way, set_node, set_m
 use Rattle.ipcz_world.specs.Turns.{hand_message, is_clear, is_full, full_message, after_act, after_post, after_look, after_hand, turn_event, hand_seen, turn_lacks_serials, hand_lacks_serials, can_take}
 use Rattle.ipcz_world.specs.Books.{Books, advance, after_turn}
 use Rattle.ipcz_world.specs.Routes.{Routes, routes_after, hand_of}
-use Rattle.ipcz_world.specs.Lawful.{Lawful}
 use Rattle.ipcz_rule.specs.declared.view.View.{View}
 use Rattle.ipcz_rule.specs.declared.view.Part.{Part}
 use Rattle.ipcz_rule.specs.Rule.{Slot, St, Mine, has_number, without_number, mailbox, MailAt, Spells, Rules, with_part, saw}
 use Rattle.ipcz_rule.specs.Steps.{post_part, look_part}
-use Rattle.ipcz_rule.specs.Kinds.{Posts, Looks}
+use Rattle.ipcz_rule.specs.Kinds.{Follows, KeepsRule, IsTurns, turn_where, Posts, Looks}
 use Rattle.ipcz_rule.proofs.FromLaws.{hand_stands}
 use Rattle.ipcz_rule.proofs.Joins.{joined_same}
 use Rattle.ipcz_rule.proofs.Moved.{spelled}
 use Rattle.ipcz_rule.proofs.Touches.{same_hand}
-use Rattle.ipcz_rule.proofs.Touching.{turn_lawful}
+use Rattle.ipcz_rule.proofs.Touching.{After, turn_after}
 use Rattle.ipcz_rule.proofs.Wording.{sees}
 use Rattle.ipcz_rule.proofs.Mailing.{way_low, way_first, way_second, mail_moves, mail_rules}
 
@@ -158,8 +157,8 @@ three_stays ws i n' z l same = dite (ℕ_discrete z i)
     (λ ne. ap (λ k. nat_eq k 3) (sym (get_or-set_other ws i z n' 0 ne)))
 
 -- post: the message leaves the outbox, and the slot goes home with it
-pub posts : Posts
-posts count size slots id i k to m p x rest is at_k at_i small_to has full first slot s r deep at small =
+pub posts_turns : Posts IsTurns
+posts_turns count size slots id i k to m p x rest is at_k at_i small_to has full first slot s r deep at small =
     let w = r.world in
     let n : ℕ = p.node in
     let sp = spelled s r id m.0 p at is in
@@ -180,9 +179,10 @@ posts count size slots id i k to m p x rest is at_k at_i small_to has full first
     let w' = set_mail (set_node w n p'.state) k (mails.Full x) in
     let moves = mail_moves w n p'.state k (mails.Full x) in
     let g' = turn_routes w r.routes n (node_acts.Post to) in
-    let kept = turn_lawful w r.books r.routes n (node_acts.Post to) r.lawful n_in (post_can w n to p.state sp.state to_in full empty') (post_lacks w n to) in
-    let lawful : Lawful w' r.books g' = subst (λ q. Lawful (set_mail (set_node w n p'.state) q (mails.Full x)) r.books g') (sym kk)
-    (subst (λ u. Lawful u r.books g') (post_after w n to p.state x sp.state first) (subst (λ b. Lawful (after_act w n (node_acts.Post to)) b g') (post_written w r.books n to) kept)) in
+    let Kept : World → Books → Type 0 = λ u b. After w r.books r.routes n (node_acts.Post to) u b g' in
+    let kept = turn_after w r.books r.routes n (node_acts.Post to) r.lawful n_in (post_can w n to p.state sp.state to_in full empty') (post_lacks w n to) in
+    let done : Kept w' r.books = subst (λ q. Kept (set_mail (set_node w n p'.state) q (mails.Full x)) r.books) (sym kk)
+    (subst (λ u. Kept u r.books) (post_after w n to p.state x sp.state first) (subst (Kept (after_act w n (node_acts.Post to))) (post_written w r.books n to) kept)) in
     let not_hand : (q : Part) → Spells s.words w q → (from : ℕ) → q.state.hand ≡ Some from → way w from q.node ≢ k =
     λ q sq from e same. no_hand (mail_at w (way w from q.node)) (ap (mail_at w) same ∙ empty) (hand_stands w r.books r.routes q.node from r.lawful sq.inside (ap (λ y. y.hand) sq.state ∙ e)) in
     let homes' = set s.homes k (some (Some x)) in
@@ -197,15 +197,19 @@ posts count size slots id i k to m p x rest is at_k at_i small_to has full first
     (λ e. way_second w.count n n t to l to_in ne (omega (arith, e, index, kk))))))))
     (λ q sq ne from e. not_hand q sq from e)
     (λ q ne t l e. absurd (way_first w.count q.node n t to l to_in ne (e ∙ kk)))
-    lawful in
+    done.0 ((n, node_acts.Post to) ∷ []) done.1 in
     let Told : Mine → Type 0 = λ m'. m' ≡ (with_part p' m.0, rest) in
-    let G : List (ℕ × Slot) → Type 0 = λ held. (v : View) × (a : TableAct Slot) × Valid s.homes held a × Rules count size (stepped s i 1 id held v a) × Told (v, carried_after held a) in
+    let G : List (ℕ × Slot) → Type 0 = λ held. (v : View) × (a : TableAct Slot) × Valid s.homes held a × Follows count size s r ((n, node_acts.Post to) ∷ []) (stepped s i 1 id held v a) × Told (v, carried_after held a) in
     subst G (sym slot) (with_part p' m.0, gives, tt, rules, refl)
+
+pub posts : Posts KeepsRule
+posts count size slots id i k to m p x rest is at_k at_i small_to has full first slot s r deep at small =
+    let t = posts_turns count size slots id i k to m p x rest is at_k at_i small_to has full first slot s r deep at small in (t.0, t.1, t.2, t.3.0, t.4)
 
 module _ (count size slots id i k from : ℕ) (m : Mine) (p : Part) (is : m.0.parts ≡ p ∷ []) (at_k : k ≡ from * count + p.node) (at_i : i ≡ size + 1 + count + k) (small_from : from < count)
     (idle : p.state.hand ≡ None) (s : St) (r : Rules count size s) (at : get_elem? s.views id ≡ some m.0) (x : Message) where
   taken : slice_index s.words i ≡ 1 → get_elem? s.homes k ≡ some (some (Some x)) → mail_at r.world k ≡ mails.Full x →
-      Rules count size (stepped s i 2 id m.1 (with_part (look_part from x p) (saw i (slice_index s.words i) m.0)) (takes k (Some x)))
+      Follows count size s r ((p.node, node_acts.Look from) ∷ []) (stepped s i 2 id m.1 (with_part (look_part from x p) (saw i (slice_index s.words i) m.0)) (takes k (Some x)))
   taken one home full =
       let w = r.world in
       let n : ℕ = p.node in
@@ -223,9 +227,10 @@ module _ (count size slots id i k from : ℕ) (m : Mine) (p : Part) (is : m.0.pa
       let w' = set_mail (set_node w n p'.state) k (mails.Hand x) in
       let moves = mail_moves w n p'.state k (mails.Hand x) in
       let g' = turn_routes w r.routes n (node_acts.Look from) in
-      let kept = turn_lawful w r.books r.routes n (node_acts.Look from) r.lawful n_in (look_can w n from p.state x sp.state from_in idle full') (look_lacks w n from) in
-      let lawful : Lawful w' r.books g' = subst (λ q. Lawful (set_mail (set_node w n p'.state) q (mails.Hand x)) r.books g') (sym kk)
-      (subst (λ u. Lawful u r.books g') (look_after w n from p.state x sp.state full') (subst (λ b. Lawful (after_act w n (node_acts.Look from)) b g') (look_written w r.books n from) kept)) in
+      let Kept : World → Books → Type 0 = λ u b. After w r.books r.routes n (node_acts.Look from) u b g' in
+      let kept = turn_after w r.books r.routes n (node_acts.Look from) r.lawful n_in (look_can w n from p.state x sp.state from_in idle full') (look_lacks w n from) in
+      let done : Kept w' r.books = subst (λ q. Kept (set_mail (set_node w n p'.state) q (mails.Hand x)) r.books) (sym kk)
+      (subst (λ u. Kept u r.books) (look_after w n from p.state x sp.state full') (subst (Kept (after_act w n (node_acts.Look from))) (look_written w r.books n from) kept)) in
       let long : i < length s.words = omega (arith, index, inside, wide) in
       let same_three : nat_eq (slice_index s.words i) 3 ≡ nat_eq 2 3 = ap (λ q. nat_eq q 3) one in
       mail_rules count size s r id m.0 (with_part p' (saw i (slice_index s.words i) m.0)) p p' w' g' i k 2 (set s.homes k none) (mails.Hand x) at is refl moves index inside (length-set s.homes k none)
@@ -234,7 +239,7 @@ module _ (count size slots id i k from : ℕ) (m : Mine) (p : Part) (is : m.0.pa
       (λ t l. sp.probed t l ∙ three_stays s.words i 2 (mailbox w (way w n t)) long same_three)
       (λ q sq ne a e same. way_second w.count a from q.node n sq.inside n_in ne (same ∙ kk))
       (λ q ne t l e. same_three)
-      lawful
+      done.0 ((n, node_acts.Look from) ∷ []) done.1
     where
       found : (w' : World) (n from : ℕ) (x : Message) (k : ℕ) → k ≡ way w' from n → mail_at w' k ≡ mails.Hand x → hand_of w' n (Some from) ≡ Some x
       found w' n from x k e h = found_hand w' n from x (ap (mail_at w') (sym e) ∙ h)
@@ -249,7 +254,7 @@ module _ (count size slots id i k from : ℕ) (m : Mine) (p : Part) (is : m.0.pa
   Looked b m' = MatchBool b ((x : Message) × (m' ≡ (with_part (look_part from x p) (saw i n m.0), (k, Some x) ∷ m.1))) (m' ≡ (saw i n m.0, m.1))
 
   abbrev F : Bool → Type 0
-  F b = (v : View) × (a : TableAct Slot) × Valid s.homes m.1 a × Rules count size (stepped s i (either b 2 n) id m.1 v a) × Looked b (v, carried_after m.1 a)
+  F b = (v : View) × (a : TableAct Slot) × Valid s.homes m.1 a × Follows count size s r (turn_where b p.node (node_acts.Look from)) (stepped s i (either b 2 n) id m.1 v a) × Looked b (v, carried_after m.1 a)
 
   looks_by : (b : Bool) → eqb n 1 ≡ b → F b
   looks_by true e =
@@ -267,5 +272,9 @@ module _ (count size slots id i k from : ℕ) (m : Mine) (p : Part) (is : m.0.pa
   pub looked : F (eqb n 1)
   looked = looks_by (eqb n 1) refl
 
-pub looks : Looks
-looks count size slots id i k from m p is at_k at_i small_from idle s r deep at small = looked count size slots id i k from m p is at_k at_i small_from idle s r at
+pub looks_turns : Looks IsTurns
+looks_turns count size slots id i k from m p is at_k at_i small_from idle s r deep at small = looked count size slots id i k from m p is at_k at_i small_from idle s r at
+
+pub looks : Looks KeepsRule
+looks count size slots id i k from m p is at_k at_i small_from idle s r deep at small =
+    let t = looks_turns count size slots id i k from m p is at_k at_i small_from idle s r deep at small in (t.0, t.1, t.2, t.3.0, t.4)

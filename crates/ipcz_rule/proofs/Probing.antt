@@ -15,7 +15,7 @@ use Rattle.ipcz_rule.specs.declared.view.View.{View}
 use Rattle.ipcz_rule.specs.declared.view.Part.{Part}
 use Rattle.ipcz_rule.specs.Rule.{Slot, St, Mine, has_number, mailbox, MailAt, Spells, Rules, with_part, saw}
 use Rattle.ipcz_rule.specs.Steps.{probe_part}
-use Rattle.ipcz_rule.specs.Kinds.{Probes}
+use Rattle.ipcz_rule.specs.Kinds.{Follows, KeepsRule, IsTurns, Probes}
 use Rattle.ipcz_rule.proofs.FromLaws.{hand_stands}
 use Rattle.ipcz_rule.proofs.Joins.{joined_same}
 use Rattle.ipcz_rule.proofs.Moved.{spelled}
@@ -32,7 +32,7 @@ module _ (count size id i k to : ℕ) (m : Mine) (p : Part) (is : m.0.parts ≡ 
   Probed b m' = MatchBool b (m' ≡ (with_part (probe_part to p) (saw i n m.0), (k, None) ∷ m.1)) (m' ≡ (saw i n m.0, m.1))
 
   abbrev F : Bool → Type 0
-  F b = (v : View) × (a : TableAct Slot) × Valid s.homes m.1 a × Rules count size (stepped s i (either b 3 n) id m.1 v a) × Probed b (v, carried_after m.1 a)
+  F b = (v : View) × (a : TableAct Slot) × Valid s.homes m.1 a × Follows count size s r [] (stepped s i (either b 3 n) id m.1 v a) × Probed b (v, carried_after m.1 a)
 
   probes_by : (b : Bool) → eqb n 0 ≡ b → F b
   probes_by true e =
@@ -65,7 +65,7 @@ module _ (count size id i k to : ℕ) (m : Mine) (p : Part) (is : m.0.parts ≡ 
             (λ h. way_second w.count p.node p.node t to l to_in ne (omega (arith, h, index, kk))))))))
             (λ q sq ne from h. not_hand q sq from h)
             (λ q ne t l h. absurd (way_first w.count q.node p.node t to l to_in ne (h ∙ kk)))
-            r.lawful,
+            r.lawful [] (refl, refl, refl),
         refl,
       )
   probes_by false e = (saw i n m.0, keeps, tt, sees s r i id m.0 (saw i n m.0) p at is is, refl)
@@ -73,5 +73,9 @@ module _ (count size id i k to : ℕ) (m : Mine) (p : Part) (is : m.0.parts ≡ 
   pub probed_mail : F (eqb n 0)
   probed_mail = probes_by (eqb n 0) refl
 
-pub probes : Probes
-probes count size slots id i k to m p is at_k at_i small_to s r deep at low = probed_mail count size id i k to m p is at_k at_i small_to s r at
+pub probes_turns : Probes IsTurns
+probes_turns count size slots id i k to m p is at_k at_i small_to s r deep at low = probed_mail count size id i k to m p is at_k at_i small_to s r at
+
+pub probes : Probes KeepsRule
+probes count size slots id i k to m p is at_k at_i small_to s r deep at small =
+    let t = probes_turns count size slots id i k to m p is at_k at_i small_to s r deep at small in (t.0, t.1, t.2, t.3.0, t.4)

@@ -46,4 +46,5 @@ puts count size slots id i m p at bytes ends is fine =
       claimed = claimed-set_node w n p'.state;
       joined = joined_put s.views id m.0 v' p p' b at seat is refl r.joined item (ap (λ k. p.put ++ ((at, k), item) ∷ []) kept.1) refl refl;
       lawful = kept.0;
+      known = tt;
     })

@@ -1,5 +1,5 @@
 -- A probed mailbox is given back, and so is the slot of a message in hand.
-use Rattle.std.specs.Prelude.{◌≡◌, ◌≢◌, ◌<◌, ◌+◌, ◌*◌, ℕ, zero, suc, true, nat_eq, List, length, slice_index, Some, None, is_some, refl}
+use Rattle.std.specs.Prelude.{◌≡◌, ◌≢◌, ◌<◌, ◌+◌, ◌*◌, ℕ, zero, suc, true, nat_eq, List, [], length, slice_index, Some, None, is_some, refl}
 use Rattle.std.proofs.Common.{arith, ap, ◌∙◌, sym, subst, set, length-set, get_or-set_same, get_or-set_other}
 use Rattle.std.proofs.lemmas.Bool.Decides.{nat_tests}
 use mathlib.Core.Option.{some}
@@ -15,17 +15,17 @@ use Rattle.ipcz_world.specs.World.{mail_at, way}
 use Rattle.ipcz_world.specs.Turns.{hand_message}
 use Rattle.ipcz_rule.specs.declared.view.View.{View}
 use Rattle.ipcz_rule.specs.declared.view.Part.{Part}
-use Rattle.ipcz_rule.specs.Rule.{Slot, Mine, has_number, without_number, mailbox, MailAt, Spells, Rules, with_part, saw}
+use Rattle.ipcz_rule.specs.Rule.{Slot, Mine, has_number, without_number, mailbox, MailAt, Spells, with_part, saw}
 use Rattle.ipcz_rule.specs.Steps.{unprobe_part}
-use Rattle.ipcz_rule.specs.Kinds.{Unprobes, GivesBack}
+use Rattle.ipcz_rule.specs.Kinds.{Follows, KeepsRule, IsTurns, Unprobes, GivesBack}
 use Rattle.ipcz_rule.proofs.FromLaws.{hand_stands, hand_sender}
 use Rattle.ipcz_rule.proofs.Joins.{joined_same}
 use Rattle.ipcz_rule.proofs.Moved.{spelled}
 use Rattle.ipcz_rule.proofs.Mailing.{MailMoves, way_low, way_first, way_second, mail_rules}
 use Rattle.ipcz_rule.proofs.Posting.{no_hand, without_itself, without_other, three_stays}
 
-pub unprobes : Unprobes
-unprobes count size slots id i k to m p rest is at_k at_i small_to has slot s r deep at small =
+pub unprobes_turns : Unprobes IsTurns
+unprobes_turns count size slots id i k to m p rest is at_k at_i small_to has slot s r deep at small =
     let w = r.world in
     let n : ℕ = p.node in
     let sp = spelled s r id m.0 p at is in
@@ -57,10 +57,14 @@ unprobes count size slots id i k to m p rest is at_k at_i small_to has slot s r 
     (λ e. way_second w.count n n t to l to_in ne (omega (arith, e, index, kk))))))))
     (λ q sq ne from e. not_hand q sq from e)
     (λ q ne t l e. absurd (way_first w.count q.node n t to l to_in ne (e ∙ kk)))
-    r.lawful in
+    r.lawful [] (refl, refl, refl) in
     let Told : Mine → Type 0 = λ m'. m' ≡ (with_part p' m.0, rest) in
-    let G : List (ℕ × Slot) → Type 0 = λ held. (v : View) × (a : TableAct Slot) × Valid s.homes held a × Rules count size (stepped s i 0 id held v a) × Told (v, carried_after held a) in
+    let G : List (ℕ × Slot) → Type 0 = λ held. (v : View) × (a : TableAct Slot) × Valid s.homes held a × Follows count size s r [] (stepped s i 0 id held v a) × Told (v, carried_after held a) in
     subst G (sym slot) (with_part p' m.0, gives, tt, rules, refl)
+
+pub unprobes : Unprobes KeepsRule
+unprobes count size slots id i k to m p rest is at_k at_i small_to has slot s r deep at small =
+    let t = unprobes_turns count size slots id i k to m p rest is at_k at_i small_to has slot s r deep at small in (t.0, t.1, t.2, t.3.0, t.4)
 
 -- a mailbox at 2 shows its mail whatever its slot
 any_home : (n : ℕ) (home other : maybe.Option (maybe.Option Slot)) (x : Mail) → is_some (hand_message x) ≡ true → MailAt n home x → (n ≡ 2) × MailAt n other x
@@ -76,8 +80,8 @@ any_home (suc (suc zero)) home other x h e = (refl, e)
 any_home (suc (suc (suc zero))) home other x h e = absurd (no_hand x e h)
 any_home (suc (suc (suc (suc n)))) home other x h e = absurd e
 
-pub gives_back : GivesBack
-gives_back count size slots id i k from m p y rest is at_k at_i holds slot s r deep at small =
+pub gives_back_turns : GivesBack IsTurns
+gives_back_turns count size slots id i k from m p y rest is at_k at_i holds slot s r deep at small =
     let w = r.world in
     let n : ℕ = p.node in
     let word : ℕ = slice_index s.words i in
@@ -104,7 +108,11 @@ gives_back count size slots id i k from m p y rest is at_k at_i holds slot s r d
     (λ t l. sp.probed t l ∙ three_stays s.words i word (mailbox w (way w n t)) long refl)
     (λ q sq ne a e same. way_second w.count a from q.node n sq.inside n_in ne (same ∙ kk))
     (λ q ne t l e. refl)
-    r.lawful in
+    r.lawful [] (refl, refl, refl) in
     let Told : Mine → Type 0 = λ m'. m' ≡ (v', rest) in
-    let G : List (ℕ × Slot) → Type 0 = λ held. (v : View) × (a : TableAct Slot) × Valid s.homes held a × Rules count size (stepped s i word id held v a) × Told (v, carried_after held a) in
+    let G : List (ℕ × Slot) → Type 0 = λ held. (v : View) × (a : TableAct Slot) × Valid s.homes held a × Follows count size s r [] (stepped s i word id held v a) × Told (v, carried_after held a) in
     subst G (sym slot) (v', gives, tt, rules, refl)
+
+pub gives_back : GivesBack KeepsRule
+gives_back count size slots id i k from m p y rest is at_k at_i holds slot s r deep at small =
+    let t = gives_back_turns count size slots id i k from m p y rest is at_k at_i holds slot s r deep at small in (t.0, t.1, t.2, t.3.0, t.4)

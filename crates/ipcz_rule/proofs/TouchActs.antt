@@ -1,7 +1,6 @@
 -- All acts of a node that are touches, as one kind.
 use Rattle.std.specs.Prelude.{◌≡◌, ◌⊎◌, ℕ, true, false, [], ◌∷◌, Option, Some, None, IsSomeAnd, refl}
 use Rattle.std.proofs.Common.{sym, subst, inl, inr, ⊎_elim}
-use Rattle.atomic_table.specs.Table.{Allows}
 use Rattle.ipcz_base.specs.declared.end.End.{End}
 use Rattle.ipcz_router.specs.Router.{Router}
 use Rattle.ipcz_router.specs.ActTable.{may_take}
@@ -13,11 +12,11 @@ use Rattle.ipcz_node.specs.Node.{Node, router_in}
 use Rattle.ipcz_node.specs.Acts.{act_lacks_serials}
 use Rattle.ipcz_node.specs.RoomyNodes.{IsPossibleAct}
 use Rattle.ipcz_rule.specs.declared.view.Part.{Part}
-use Rattle.ipcz_rule.specs.Rule.{Mine, Rules, with_part}
+use Rattle.ipcz_rule.specs.Rule.{Mine, with_part}
 use Rattle.ipcz_rule.specs.Steps.{CanAct, is_touch_act, act_part}
-use Rattle.ipcz_rule.specs.Kinds.{TouchActs}
-use Rattle.ipcz_rule.proofs.Calling.{pending_closes}
-use Rattle.ipcz_rule.proofs.Dropping.{touches_acts}
+use Rattle.ipcz_rule.specs.Kinds.{IsTurns, TouchActs}
+use Rattle.ipcz_rule.proofs.Calling.{pending_closes_turns}
+use Rattle.ipcz_rule.proofs.Dropping.{touches_acts_turns}
 
 some_and : (o : Option Router) (act : RouterAct) → IsSomeAnd o (λ r. may_take r act ≡ true) → (r : Router) × (o ≡ Some r) × (may_take r act ≡ true)
 some_and None act h = absurd h
@@ -39,15 +38,15 @@ which acts.Idle e = cc
 -- what is owed of an act that is a touch
 abbrev Touch : ℕ → ℕ → ℕ → ℕ → ℕ → Mine → Part → Act → Type 0
 Touch count size slots id i m p act = IsPossibleAct p.state act → act_lacks_serials p.state act ≡ false → is_touch_act act ≡ true →
-    Allows (Rules count size) slots id m i (λ n. n) (λ n m'. m' ≡ (with_part (act_part act answers.Plain p) m.0, m.1))
+    IsTurns count size slots id m i (λ n. n) (λ n. (p.node, act) ∷ []) (λ n m'. m' ≡ (with_part (act_part act answers.Plain p) m.0, m.1))
 
 touch_close : (count size slots id i : ℕ) (m : Mine) (p : Part) (end : End) → m.0.parts ≡ p ∷ [] → Touch count size slots id i m p (acts.Close end)
-touch_close count size slots id i m p end is can serials e = pending_closes count size slots id i m p end is can
+touch_close count size slots id i m p end is can serials e = pending_closes_turns count size slots id i m p end is can
 
 touch_router : (count size slots id i : ℕ) (m : Mine) (p : Part) (serial : ℕ) (act : RouterAct) → m.0.parts ≡ p ∷ [] → Touch count size slots id i m p (acts.Router serial act)
-touch_router count size slots id i m p serial act is can serials e = let t = can_act p.state serial act can serials in touches_acts count size slots id i m p serial t.0 act is t.1 e
+touch_router count size slots id i m p serial act is can serials e = let t = can_act p.state serial act can serials in touches_acts_turns count size slots id i m p serial t.0 act is t.1 e
 
-pub touch_acts : TouchActs
+pub touch_acts : TouchActs IsTurns
 touch_acts count size slots id i m p act is e can serials = ⊎_elim
     (λ (t : (end : End) × (act ≡ acts.Close end)). subst (Touch count size slots id i m p) (sym t.1) (touch_close count size slots id i m p t.0 is) can serials e)
     (λ (t : (serial : ℕ) × (a : RouterAct) × (act ≡ acts.Router serial a)). subst (Touch count size slots id i m p) (sym t.2) (touch_router count size slots id i m p t.0 t.1 is) can serials e)

@@ -21,16 +21,18 @@ use Rattle.ipcz_world.specs.Books.{Books, advance, add_put}
 use Rattle.ipcz_world.specs.Plain.{Plain}
 use Rattle.ipcz_world.specs.Routes.{Routes, routes_after}
 use Rattle.ipcz_world.specs.Lawful.{Lawful}
+use Rattle.ipcz_world.specs.Ranks.{AreTurns}
 use Rattle.ipcz_world.proofs.frames.Frames.{node-set_node, mail-set_node, size-set_node, count-set_node}
 use Rattle.ipcz_world.proofs.Whole.{each_step_keeps_lawful, replies_plainly}
 use Rattle.ipcz_rule.specs.declared.view.View.{View}
 use Rattle.ipcz_rule.specs.declared.view.Part.{Part}
 use Rattle.ipcz_rule.specs.Rule.{St, Mine, mailbox, Joined, Rules}
-use Rattle.ipcz_rule.proofs.Moved.{ruled, spelled, keeps_sources}
+use Rattle.ipcz_rule.specs.Kinds.{IsTurns}
+use Rattle.ipcz_rule.proofs.Moved.{ruled_with, spelled, keeps_sources}
 use Rattle.ipcz_rule.proofs.Touches.{NodeMoves, others_spell, own_spells, mails_show}
 
--- what a touch owes: the world after it, lawful with the books after it
-pub record Touched (w : World) (views : List View) (p p' : Part) : Type 0 where
+-- what a touch owes: the world after it, lawful with the books after it, and what is known of it
+pub record Touched (w : World) (views : List View) (p p' : Part) (G : World → Books → Routes → Type 0) : Type 0 where
   pub world : World
   pub books : Books
   pub routes : Routes
@@ -39,6 +41,7 @@ pub record Touched (w : World) (views : List View) (p p' : Part) : Type 0 where
   pub claimed : world.claimed ≡ w.claimed
   pub joined : Joined views books
   pub lawful : Lawful world books routes
+  pub known : G world books routes
 
 -- a part that stands for the same node, has the same hand and has probed the same mailboxes
 pub record KeepsHands (p p' : Part) : Type 0 where
@@ -48,14 +51,14 @@ pub record KeepsHands (p p' : Part) : Type 0 where
   pub probed : p'.probed ≡ p.probed
 
 -- touch: any word of the table stays, and the own node changes
-pub touches : (count size slots id i : ℕ) (m : Mine) (p p' : Part) (v' : View) → m.0.parts ≡ p ∷ [] → v'.parts ≡ p' ∷ [] → KeepsHands p p' →
-    ((s : St) (r : Rules count size s) → get_elem? s.views id ≡ some m.0 → p.node < r.world.count → node_at r.world p.node ≡ p.state → Touched r.world (set s.views id v') p p') →
-    Allows (Rules count size) slots id m i (λ n. n) (λ n m'. m' ≡ (v', m.1))
-touches count size slots id i m p p' v' is is' k owes s r deep at small =
+touched : (count size id i : ℕ) (m : Mine) (p p' : Part) (v' : View) → m.0.parts ≡ p ∷ [] → v'.parts ≡ p' ∷ [] → KeepsHands p p' →
+    (s : St) (r : Rules count size s) → get_elem? s.views id ≡ some m.0 → (G : World → Books → Routes → Type 0) → Touched r.world (set s.views id v') p p' G →
+    (r' : Rules count size record { words = set s.words i (slice_index s.words i); homes = s.homes; views = set s.views id v' }) × G r'.world r'.books r'.routes
+touched count size id i m p p' v' is is' k s r at G t =
     let sp = spelled s r id m.0 p at is in
-    let t = owes s r at sp.inside sp.state in
     let same : (j : ℕ) → slice_index s.words (mailbox r.world j) ≡ slice_index s.words (mailbox r.world j) = λ j. refl in
-    let rules : Rules count size record { words = s.words; homes = s.homes; views = set s.views id v' } = ruled s r t.world t.books t.routes s.words s.homes id m.0 v' p p' at is is' (record {
+    let After : List ℕ → Type 0 = λ ws. (r' : Rules count size record { words = ws; homes = s.homes; views = set s.views id v' }) × G r'.world r'.books r'.routes in
+    let rules : After s.words = ruled_with s r t.world t.books t.routes s.words s.homes id m.0 v' p p' at is is' (record {
       count = t.moves.count;
       size = t.moves.size;
       wide = refl;
@@ -67,8 +70,29 @@ touches count size slots id i m p p' v' is is' k owes s r deep at small =
       node = k.node;
       own = own_spells s r.world t.world s.words p.node p'.state t.moves same p p' refl k.node refl k.hand k.message k.probed sp;
       others = others_spell s r.world t.world s.words p.node p'.state t.moves same;
-    }) t.joined t.lawful in
-    (v', keeps, tt, subst (λ (ws : List ℕ). Rules count size record { words = ws; homes = s.homes; views = set s.views id v' }) (sym (set-get_or s.words i 0)) rules, refl)
+    }) t.joined t.lawful G t.known in
+    subst After (sym (set-get_or s.words i 0)) rules
+
+-- nothing more is said of the world after a call
+abbrev pub Anything : World → Books → Routes → Type 0
+Anything w b g = Unit {0}
+
+-- touch, of a call
+pub touches : (count size slots id i : ℕ) (m : Mine) (p p' : Part) (v' : View) → m.0.parts ≡ p ∷ [] → v'.parts ≡ p' ∷ [] → KeepsHands p p' →
+    ((s : St) (r : Rules count size s) → get_elem? s.views id ≡ some m.0 → p.node < r.world.count → node_at r.world p.node ≡ p.state → Touched r.world (set s.views id v') p p' Anything) →
+    Allows (Rules count size) slots id m i (λ n. n) (λ n m'. m' ≡ (v', m.1))
+touches count size slots id i m p p' v' is is' k owes s r deep at small =
+    let sp = spelled s r id m.0 p at is in
+    (v', keeps, tt, (touched count size id i m p p' v' is is' k s r at Anything (owes s r at sp.inside sp.state)).0, refl)
+
+-- touch, of an act
+pub touches_turn : (count size slots id i : ℕ) (m : Mine) (p p' : Part) (v' : View) (act : Act) → m.0.parts ≡ p ∷ [] → v'.parts ≡ p' ∷ [] → KeepsHands p p' →
+    ((s : St) (r : Rules count size s) → get_elem? s.views id ≡ some m.0 → p.node < r.world.count → node_at r.world p.node ≡ p.state →
+    Touched r.world (set s.views id v') p p' (AreTurns r.world r.books r.routes ((p.node, act) ∷ []))) →
+    IsTurns count size slots id m i (λ n. n) (λ n. (p.node, act) ∷ []) (λ n m'. m' ≡ (v', m.1))
+touches_turn count size slots id i m p p' v' act is is' k owes s r deep at small =
+    let sp = spelled s r id m.0 p at is in
+    (v', keeps, tt, touched count size id i m p p' v' is is' k s r at (AreTurns r.world r.books r.routes ((p.node, act) ∷ [])) (owes s r at sp.inside sp.state), refl)
 
 -- the node of a number is another
 pub set_moves : (w : World) (n : ℕ) (x : Node) → NodeMoves w (set_node w n x) n x
@@ -98,12 +122,21 @@ unfolding advance
 put_written w b n at bytes ends = refl
 
 -- a turn that takes a possible act which doesn't want serials keeps the world lawful
-pub turn_lawful : (w : World) (b : Books) (g : Routes) (n : ℕ) (act : Act) → Lawful w b g → n < w.count → can_take w n act ≡ true → turn_lacks_serials w n act ≡ false →
+turn_lawful : (w : World) (b : Books) (g : Routes) (n : ℕ) (act : Act) → Lawful w b g → n < w.count → can_take w n act ≡ true → turn_lacks_serials w n act ≡ false →
     Lawful (after_act w n act) (advance w b (steps.Turn n) (replies.Turned (turn_event w n act))) (routes_after w g (steps.Turn n) (replies.Turned (turn_event w n act)))
 turn_lawful w b g n act lawful inside can lacks =
     let done = turn_gives w n act inside lacks in
     subst (λ (e : Effect). Lawful e.world (advance w b (steps.Turn n) e.reply) (routes_after w g (steps.Turn n) e.reply)) done
     (each_step_keeps_lawful w (turn_step w n act).world b g (steps.Turn n) (turn_step w n act).reply lawful (act, (λ l. can), inl (refl, refl)))
+
+-- what a turn leaves: a lawful world, to which that turn leads
+abbrev pub After : World → Books → Routes → ℕ → Act → World → Books → Routes → Type 0
+After w b g n act u c h = Lawful u c h × AreTurns w b g ((n, act) ∷ []) u c h
+
+pub turn_after : (w : World) (b : Books) (g : Routes) (n : ℕ) (act : Act) → Lawful w b g → n < w.count → can_take w n act ≡ true → turn_lacks_serials w n act ≡ false →
+    After w b g n act (after_act w n act) (advance w b (steps.Turn n) (replies.Turned (turn_event w n act))) (routes_after w g (steps.Turn n) (replies.Turned (turn_event w n act)))
+unfolding advance routes_after
+turn_after w b g n act lawful inside can lacks = (turn_lawful w b g n act lawful inside can lacks, (record { node = inside; may = can; serials = lacks }, (refl, refl, refl)))
 
 -- a put that isn't refused keeps the world lawful
 pub put_lawful : (w : World) (b : Books) (g : Routes) (n : ℕ) (at : End) (bytes : List ℕ) (ends : List End) → Lawful w b g → n < w.count →

@@ -17,7 +17,7 @@ use Rattle.ipcz_world.specs.Coding.{IsLinkNumber}
 use Rattle.ipcz_world.specs.World.{word_at}
 use Rattle.ipcz_world.specs.WordAnswers.{word_after}
 use Rattle.ipcz_rule.specs.Rule.{saw}
-use Rattle.ipcz_rule.specs.Kinds.{Loads, Marks, Wakes, Unlocks, TriesLock, LoadsForLock, LoadsForHand, is_refusal}
+use Rattle.ipcz_rule.specs.Kinds.{KeepsRule, IsTurns, Loads, Marks, Wakes, Unlocks, TriesLock, LoadsForLock, LoadsForHand, is_refusal}
 use Rattle.ipcz_rule.proofs.Known.{number_alone}
 use Rattle.ipcz_rule.proofs.Moved.{spelled}
 use Rattle.ipcz_rule.proofs.OldLinks.{old_link}
@@ -52,36 +52,64 @@ refusal_fits : (s : Side) (o : Option ℕ) (x : Word) → is_refusal (plan_of (w
 unfolding word_after
 refusal_fits s o x h = ap bits_of (sym (by_refusal s o x (plan_of x s) (ap (λ z. is_refusal (plan_of z s)) (sym (sets_return x)) ∙ h)))
 
-pub loads : Loads
-loads count size slots id i m p is s r deep at small = (saw i (slice_index s.words i) m.0, keeps, tt, sees s r i id m.0 (saw i (slice_index s.words i) m.0) p at is is, refl)
+pub loads_turns : Loads IsTurns
+loads_turns count size slots id i m p is s r deep at small = (saw i (slice_index s.words i) m.0, keeps, tt, sees s r i id m.0 (saw i (slice_index s.words i) m.0) p at is is, refl)
 
-pub marks : Marks
-marks count size slots id i m p serial rt is can primary =
+pub loads : Loads KeepsRule
+loads count size slots id i m p is s r deep at small =
+    let t = loads_turns count size slots id i m p is s r deep at small in (t.0, t.1, t.2, t.3.0, t.4)
+
+pub marks_turns : Marks IsTurns
+marks_turns count size slots id i m p serial rt is can primary =
     word_acts count size slots id m p serial rt acts.Mark i (λ n. bit_or n (stable_bit rt.end.side)) (λ n. true) is can refl primary (λ x valid h. mark_fits rt.end.side (source_of rt) x valid) (λ n h. cc)
 
-pub wakes : Wakes
-wakes count size slots id i m p serial rt is can primary =
+pub marks : Marks KeepsRule
+marks count size slots id i m p serial rt is can primary s r deep at small =
+    let t = marks_turns count size slots id i m p serial rt is can primary s r deep at small in (t.0, t.1, t.2, t.3.0, t.4)
+
+pub wakes_turns : Wakes IsTurns
+wakes_turns count size slots id i m p serial rt is can primary =
     word_acts count size slots id m p serial rt acts.Wake i (λ n. bit_and n (18446744073709551615 - waiting_bit (opposite rt.end.side))) (λ n. true) is can refl primary (λ x valid h. wake_fits rt.end.side (source_of rt) x valid) (λ n h. cc)
 
-pub unlocks : Unlocks
-unlocks count size slots id i m p serial rt is can primary =
+pub wakes : Wakes KeepsRule
+wakes count size slots id i m p serial rt is can primary s r deep at small =
+    let t = wakes_turns count size slots id i m p serial rt is can primary s r deep at small in (t.0, t.1, t.2, t.3.0, t.4)
+
+pub unlocks_turns : Unlocks IsTurns
+unlocks_turns count size slots id i m p serial rt is can primary =
     word_acts count size slots id m p serial rt acts.Unlock i (λ n. bit_and n (18446744073709486335 - locked_bit rt.end.side)) (λ n. true) is can refl primary (λ x valid h. unlock_fits rt.end.side (source_of rt) x valid) (λ n h. cc)
 
-pub tries_lock : TriesLock
-tries_lock count size slots id i old m p serial rt is can primary =
+pub unlocks : Unlocks KeepsRule
+unlocks count size slots id i m p serial rt is can primary s r deep at small =
+    let t = unlocks_turns count size slots id i m p serial rt is can primary s r deep at small in (t.0, t.1, t.2, t.3.0, t.4)
+
+pub tries_lock_turns : TriesLock IsTurns
+tries_lock_turns count size slots id i old m p serial rt is can primary =
     word_acts count size slots id m p serial rt acts.Lock i (λ n. either (eqb n old) (bits_of (word_after (word_of_bits old) rt.end.side (source_of rt) acts.Lock)) n) (λ n. eqb n old) is can refl primary
     (λ x valid e. ap (λ b. either b (bits_of (word_after (word_of_bits old) rt.end.side (source_of rt) acts.Lock)) (bits_of x)) e
     ∙ ap (λ z. bits_of (word_after z rt.end.side (source_of rt) acts.Lock)) (ap word_of_bits (sym (eqb-true (bits_of x) old e)) ∙ sets_return x))
     (λ n e. ap (λ b. either b (bits_of (word_after (word_of_bits old) rt.end.side (source_of rt) acts.Lock)) n) e)
 
-pub loads_for_lock : LoadsForLock
-loads_for_lock count size slots id i m p serial rt is can primary =
+pub tries_lock : TriesLock KeepsRule
+tries_lock count size slots id i old m p serial rt is can primary s r deep at small =
+    let t = tries_lock_turns count size slots id i old m p serial rt is can primary s r deep at small in (t.0, t.1, t.2, t.3.0, t.4)
+
+pub loads_for_lock_turns : LoadsForLock IsTurns
+loads_for_lock_turns count size slots id i m p serial rt is can primary =
     word_acts count size slots id m p serial rt acts.Lock i (λ n. n) (λ n. is_refusal (plan_of (word_of_bits n) rt.end.side)) is can refl primary (λ x valid e. refusal_fits rt.end.side (source_of rt) x e) (λ n e. refl)
 
-pub loads_for_hand : LoadsForHand
-loads_for_hand count size slots id from old m p x is holds has named s r deep at small =
+pub loads_for_lock : LoadsForLock KeepsRule
+loads_for_lock count size slots id i m p serial rt is can primary s r deep at small =
+    let t = loads_for_lock_turns count size slots id i m p serial rt is can primary s r deep at small in (t.0, t.1, t.2, t.3.0, t.4)
+
+pub loads_for_hand_turns : LoadsForHand IsTurns
+loads_for_hand_turns count size slots id from old m p x is holds has named s r deep at small =
     let w = r.world in
     let n : ℕ = slice_index s.words old in
     let t = old_link s r p from old x (spelled s r id m.0 p at is) holds has named in
     let found : word_of_bits n ≡ word_at w old = ap word_of_bits (r.shows.links old (rw r.words t.0)) ∙ sets_return (word_at w old) in
     (saw old n m.0, keeps, tt, sees s r old id m.0 (saw old n m.0) p at is is, (ap (λ (z : Word). z.source) found ∙ t.1, refl))
+
+pub loads_for_hand : LoadsForHand KeepsRule
+loads_for_hand count size slots id from old m p x is holds has named s r deep at small =
+    let t = loads_for_hand_turns count size slots id from old m p x is holds has named s r deep at small in (t.0, t.1, t.2, t.3.0, t.4)

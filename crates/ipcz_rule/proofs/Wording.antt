@@ -7,7 +7,7 @@ use mathlib.Core.Option.{some}
 use mathlib.Core.Logic.{dite}
 use native.Mathlib.Decide.{ℕ_discrete}
 use lib.ListN.{get_elem?}
-use Rattle.atomic_table.specs.Table.{Act as TableAct, Allows, Valid, stepped, carried_after, keeps}
+use Rattle.atomic_table.specs.Table.{Act as TableAct, Valid, stepped, carried_after, keeps}
 use Rattle.ipcz_base.specs.declared.side.Side.{Side}
 use Rattle.ipcz_word.specs.Laws.{HasNode}
 use Rattle.ipcz_word.specs.Word.{Word, Plan, Locks, Waits, Refuses, plan_of, word_by_plan}
@@ -22,17 +22,19 @@ use Rattle.ipcz_node.specs.Acts.{commit}
 use Rattle.ipcz_world.specs.Coding.{IsLinkNumber}
 use Rattle.ipcz_world.specs.World.{World, node_at, word_at, set_node, set_word}
 use Rattle.ipcz_world.specs.WordAnswers.{word_answer, word_after}
-use Rattle.ipcz_world.specs.Lawful.{Lawful}
+use Rattle.ipcz_world.specs.Ranks.{AreTurns}
 use Rattle.ipcz_world.proofs.frames.Frames.{node-set_node, node-set_word, word-set_node, word-set_word, mail-set_node, mail-set_word, claimed-set_node, claimed-set_word, size-set_node, size-set_word, count-set_node, count-set_word}
 use Rattle.ipcz_rule.specs.declared.view.View.{View}
 use Rattle.ipcz_rule.specs.declared.view.Part.{Part}
 use Rattle.ipcz_rule.specs.Rule.{Slot, St, Mine, mailbox, Rules, with_part, saw}
 use Rattle.ipcz_rule.specs.Steps.{CanAct, is_on_word}
 use Rattle.ipcz_rule.proofs.Known.{sound_part, named_part, found_word}
-use Rattle.ipcz_rule.proofs.Moved.{ruled, spelled, named_beside}
+use Rattle.ipcz_rule.specs.Kinds.{Follows, IsTurns, turn_where}
+use Rattle.ipcz_rule.proofs.Moved.{ruled_with, spelled, named_beside}
 use Rattle.ipcz_rule.proofs.Touches.{NodeMoves, others_spell, own_spells, mails_show}
 use Rattle.ipcz_rule.proofs.Joins.{joined_same}
-use Rattle.ipcz_rule.proofs.Acting.{plain_part, act_routes, act_lawful, act_hand, after_word, unwritten_word}
+use Rattle.ipcz_rule.proofs.Touching.{After}
+use Rattle.ipcz_rule.proofs.Acting.{plain_part, act_routes, act_after, act_hand, after_word, unwritten_word}
 
 -- a word and a node are others
 word_moves : (w : World) (i : ℕ) (y : Word) (n : ℕ) (x : Node) → NodeMoves w (set_node (set_word w i y) n x) n x
@@ -91,12 +93,12 @@ module _ (count size : ℕ) (s : St) (r : Rules count size s) (id : ℕ) (v v' :
   wide : i < length s.words
   wide = let e = r.shows.wide in let l = below in omega arith
 
-  lawful : Lawful w' r.books (act_routes w r.routes p.node serial act)
-  lawful =
+  after : After w r.books r.routes p.node (OfRouter serial act) w' r.books (act_routes w r.routes p.node serial act)
+  after =
       let sp = spelled s r id v p at is in
-      let kept = act_lawful w r.books r.routes p.node serial p.state rt act r.lawful sp.inside sp.state can (unwritten_word act on) in
-      let moved = subst (λ (u : World). Lawful u r.books (act_routes w r.routes p.node serial act)) (after_word w p.node serial rt act i on primary) kept in
-      subst (λ (z : Node). Lawful (set_node (set_word w i y) p.node (commit z (OfRouter serial act) (word_answer (word_at w i) rt.end.side (source_of rt) act))) r.books (act_routes w r.routes p.node serial act)) sp.state moved
+      let kept = act_after w r.books r.routes p.node serial p.state rt act r.lawful sp.inside sp.state can (unwritten_word act on) in
+      let moved = subst (λ (u : World). After w r.books r.routes p.node (OfRouter serial act) u r.books (act_routes w r.routes p.node serial act)) (after_word w p.node serial rt act i on primary) kept in
+      subst (λ (z : Node). After w r.books r.routes p.node (OfRouter serial act) (set_node (set_word w i y) p.node (commit z (OfRouter serial act) (word_answer (word_at w i) rt.end.side (source_of rt) act))) r.books (act_routes w r.routes p.node serial act)) sp.state moved
 
   links : (j : ℕ) → j < w'.size → slice_index (set s.words i n') j ≡ bits_of (word_at w' j)
   links j l = dite (ℕ_discrete j i)
@@ -112,11 +114,11 @@ module _ (count size : ℕ) (s : St) (r : Rules count size s) (id : ℕ) (v v' :
   boxes : (k : ℕ) → slice_index (set s.words i n') (mailbox w k) ≡ slice_index s.words (mailbox w k)
   boxes k = get_or-set_other s.words i (mailbox w k) n' 0 (λ e. let l = below in omega arith)
 
-  pub word_rules : Rules count size record { words = set s.words i n'; homes = s.homes; views = set s.views id v' }
+  pub word_rules : Follows count size s r ((p.node, OfRouter serial act) ∷ []) record { words = set s.words i n'; homes = s.homes; views = set s.views id v' }
   word_rules =
       let sp = spelled s r id v p at is in
       let moves = word_moves w i y p.node p'.state in
-      ruled s r w' r.books (act_routes w r.routes p.node serial act) (set s.words i n') s.homes id v v' p p' at is is' (record {
+      ruled_with s r w' r.books (act_routes w r.routes p.node serial act) (set s.words i n') s.homes id v v' p p' at is is' (record {
         count = moves.count;
         size = moves.size;
         wide = length-set s.words i n';
@@ -128,20 +130,20 @@ module _ (count size : ℕ) (s : St) (r : Rules count size s) (id : ℕ) (v v' :
         node = refl;
         own = own_spells s w w' (set s.words i n') p.node p'.state moves boxes p p' refl refl refl (act_hand p.state serial act (word_answer (word_at r.world i) rt.end.side (source_of rt) act)) refl refl sp;
         others = others_spell s w w' (set s.words i n') p.node p'.state moves boxes;
-      }) (joined_same s.views id v v' p p' r.books at is is' refl refl refl r.joined) lawful
+      }) (joined_same s.views id v v' p p' r.books at is is' refl refl refl r.joined) after.0 (AreTurns w r.books r.routes ((p.node, OfRouter serial act) ∷ [])) after.1
 
 same_moves : (w : World) (n : ℕ) (x : Node) → node_at w n ≡ x → NodeMoves w w n x
 same_moves w n x is = record { count = refl; size = refl; here = is; apart = λ j ne. refl; mail = λ k. refl }
 
 -- nothing changes but what was seen
 pub sees : {count size : ℕ} (s : St) (r : Rules count size s) (i id : ℕ) (v v' : View) (p : Part) → get_elem? s.views id ≡ some v → v.parts ≡ p ∷ [] → v'.parts ≡ p ∷ [] →
-    Rules count size record { words = set s.words i (slice_index s.words i); homes = s.homes; views = set s.views id v' }
+    Follows count size s r [] record { words = set s.words i (slice_index s.words i); homes = s.homes; views = set s.views id v' }
 sees {count} {size} s r i id v v' p at is is' =
     let sp = spelled s r id v p at is in
     let w = r.world in
     let moves = same_moves w p.node p.state sp.state in
     let same : (j : ℕ) → slice_index s.words (mailbox w j) ≡ slice_index s.words (mailbox w j) = λ j. refl in
-    let rules : Rules count size record { words = s.words; homes = s.homes; views = set s.views id v' } = ruled s r w r.books r.routes s.words s.homes id v v' p p at is is' (record {
+    let rules : Follows count size s r [] record { words = s.words; homes = s.homes; views = set s.views id v' } = ruled_with s r w r.books r.routes s.words s.homes id v v' p p at is is' (record {
       count = refl;
       size = refl;
       wide = refl;
@@ -153,8 +155,8 @@ sees {count} {size} s r i id v v' p at is is' =
       node = refl;
       own = sp;
       others = λ q ne h. h;
-    }) (joined_same s.views id v v' p p r.books at is is' refl refl refl r.joined) r.lawful in
-    subst (λ (ws : List ℕ). Rules count size record { words = ws; homes = s.homes; views = set s.views id v' }) (sym (set-get_or s.words i 0)) rules
+    }) (joined_same s.views id v v' p p r.books at is is' refl refl refl r.joined) r.lawful (AreTurns r.world r.books r.routes []) (refl, refl, refl) in
+    subst (λ (ws : List ℕ). Follows count size s r [] record { words = ws; homes = s.homes; views = set s.views id v' }) (sym (set-get_or s.words i 0)) rules
 
 -- the view after an act of a router on the word i, where it was found at n
 abbrev pub plain_view : ℕ → ℕ → ℕ → Side → Option ℕ → RouterAct → Part → View → View
@@ -171,7 +173,7 @@ module _ (count size id : ℕ) (m : Mine) (p : Part) (serial : ℕ) (rt : Router
   Told b m' = MatchBool b (m' ≡ (plain_view i n serial rt.end.side (source_of rt) act p m.0, m.1)) (m' ≡ (saw i n m.0, m.1))
 
   abbrev F : Bool → Type 0
-  F b = (v : View) × (a : TableAct Slot) × Valid s.homes m.1 a × Rules count size (stepped s i (f n) id m.1 v a) × Told b (v, carried_after m.1 a)
+  F b = (v : View) × (a : TableAct Slot) × Valid s.homes m.1 a × Follows count size s r (turn_where b p.node (OfRouter serial act)) (stepped s i (f n) id m.1 v a) × Told b (v, carried_after m.1 a)
 
   spelled_word : n ≡ bits_of (word_at r.world i)
   spelled_word = r.shows.links i (rw r.words inside)
@@ -192,7 +194,7 @@ module _ (count size id : ℕ) (m : Mine) (p : Part) (serial : ℕ) (rt : Router
     saw i n m.0,
     keeps,
     tt,
-    subst (λ (k : ℕ). Rules count size (stepped s i k id m.1 (saw i n m.0) keeps)) (sym (stays n e)) (sees s r i id m.0 (saw i n m.0) p at is is),
+    subst (λ (k : ℕ). Follows count size s r [] (stepped s i k id m.1 (saw i n m.0) keeps)) (sym (stays n e)) (sees s r i id m.0 (saw i n m.0) p at is is),
     refl,
   )
 
@@ -204,6 +206,6 @@ pub word_acts : (count size slots id : ℕ) (m : Mine) (p : Part) (serial : ℕ)
     m.0.parts ≡ p ∷ [] → CanAct p.state serial rt act → is_on_word act ≡ true → primary_word rt ≡ Some i →
     ((x : Word) → IsLinkNumber (bits_of x) → hit (bits_of x) ≡ true → f (bits_of x) ≡ bits_of (word_after x rt.end.side (source_of rt) act)) →
     ((n : ℕ) → hit n ≡ false → f n ≡ n) →
-    Allows (Rules count size) slots id m i f (λ n m'. MatchBool (hit n) (m' ≡ (plain_view i n serial rt.end.side (source_of rt) act p m.0, m.1)) (m' ≡ (saw i n m.0, m.1)))
+    IsTurns count size slots id m i f (λ n. turn_where (hit n) p.node (OfRouter serial act)) (λ n m'. MatchBool (hit n) (m' ≡ (plain_view i n serial rt.end.side (source_of rt) act p m.0, m.1)) (m' ≡ (saw i n m.0, m.1)))
 word_acts count size slots id m p serial rt act i f hit is can on primary fits stays s r deep at small =
     by_test count size id m p serial rt act i f hit is can on primary ((sound_part s r id m.0 p at is).primary serial rt i can.there primary) fits stays s r at

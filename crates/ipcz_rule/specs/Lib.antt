@@ -4,3 +4,4 @@ pub mod Rule
 pub mod RuleLaws
 pub mod Start
 pub mod Steps
+pub mod TableRuns

@@ -1,12 +1,12 @@
 //! The kinds of atomic step of a seat with one node (specs/Kinds). Each function does nothing: its contract says that the step keeps the
-//! rule of the table, and what it leaves of its seat.
+//! rule of the table, what it leaves of its seat, and, but for a call's, which turns of the shown world it is: none, or one act of its node.
 
 ghost use Rattle.ipcz_rule.specs.Kinds.{Loads, Puts, Gets, Closes, PendingCloses, Touches, TouchActs, Marks, Wakes, Unlocks, TriesLock, LoadsForLock};
-ghost use Rattle.ipcz_rule.specs.Kinds.{LoadsForClaim, Claims, ClaimsForOpen, Opens, Probes, Unprobes, Posts, Looks, LoadsForHand, Hands, GivesBack, JoinsParts};
+ghost use Rattle.ipcz_rule.specs.Kinds.{IsTurns, LoadsForClaim, Claims, ClaimsForOpen, Opens, Probes, Unprobes, Posts, Looks, LoadsForHand, Hands, GivesBack, JoinsParts};
 
 /// A load of any word changes nothing but what was seen.
 pub fn a_load_keeps_the_rule()
-    ensures { Loads }
+    ensures { Loads IsTurns }
 {}
 
 /// A touch is a put that the node doesn't refuse: the node's part gains the item under its number.
@@ -26,52 +26,52 @@ pub fn a_close_keeps_the_rule()
 
 /// A touch is a close that is pending.
 pub fn a_pending_close_keeps_the_rule()
-    ensures { PendingCloses }
+    ensures { PendingCloses IsTurns }
 {}
 
 /// A touch is an act of a router that asks no word: a send, a discard, a finish, a leave, a begin, a rest.
 pub fn an_act_of_a_router_keeps_the_rule()
-    ensures { Touches }
+    ensures { Touches IsTurns }
 {}
 
 /// A touch is any possible act of the node that asks no word and no mailbox.
 pub fn a_touch_keeps_the_rule()
-    ensures { TouchActs }
+    ensures { TouchActs IsTurns }
 {}
 
 /// A mark of the own side.
 pub fn a_mark_keeps_the_rule()
-    ensures { Marks }
+    ensures { Marks IsTurns }
 {}
 
 /// A wake of the other side.
 pub fn a_wake_keeps_the_rule()
-    ensures { Wakes }
+    ensures { Wakes IsTurns }
 {}
 
 /// An unlock.
 pub fn an_unlock_keeps_the_rule()
-    ensures { Unlocks }
+    ensures { Unlocks IsTurns }
 {}
 
 /// A lock or a wait: an exchange, which is a load where the word has changed.
 pub fn a_try_for_the_lock_keeps_the_rule()
-    ensures { TriesLock }
+    ensures { TriesLock IsTurns }
 {}
 
 /// A load before the try for a lock: where the lock is refused that is the router's answer.
 pub fn a_load_for_the_lock_keeps_the_rule()
-    ensures { LoadsForLock }
+    ensures { LoadsForLock IsTurns }
 {}
 
 /// A load before a claim: where each word was claimed that is the router's answer.
 pub fn a_load_for_a_claim_keeps_the_rule()
-    ensures { LoadsForClaim }
+    ensures { LoadsForClaim IsTurns }
 {}
 
 /// A claim of a proxy's spare.
 pub fn a_claim_keeps_the_rule()
-    ensures { Claims }
+    ensures { Claims IsTurns }
 {}
 
 /// The first half of an open.
@@ -86,37 +86,37 @@ pub fn an_open_keeps_the_rule()
 
 /// A probe takes the slot of an empty mailbox.
 pub fn a_probe_keeps_the_rule()
-    ensures { Probes }
+    ensures { Probes IsTurns }
 {}
 
 /// A probed mailbox is given back.
 pub fn an_unprobe_keeps_the_rule()
-    ensures { Unprobes }
+    ensures { Unprobes IsTurns }
 {}
 
 /// A post: the first message of an outbox goes home with the slot.
 pub fn a_post_keeps_the_rule()
-    ensures { Posts }
+    ensures { Posts IsTurns }
 {}
 
 /// A look takes the message of a full mailbox into the hand.
 pub fn a_look_keeps_the_rule()
-    ensures { Looks }
+    ensures { Looks IsTurns }
 {}
 
 /// A load of the old link's word before an AcceptBypass in hand is handled: the source that it names is the sender.
 pub fn a_load_for_a_hand_keeps_the_rule()
-    ensures { LoadsForHand }
+    ensures { LoadsForHand IsTurns }
 {}
 
 /// The message in hand is handled, and its slot goes home empty.
 pub fn a_hand_keeps_the_rule()
-    ensures { Hands }
+    ensures { Hands IsTurns }
 {}
 
 /// The slot of the message in hand goes home, while the message stays in hand.
 pub fn giving_a_slot_back_keeps_the_rule()
-    ensures { GivesBack }
+    ensures { GivesBack IsTurns }
 {}
 
 /// A seat takes in the parts of another.

@@ -1,5 +1,5 @@
-use Rattle.ipcz_rule.proofs.WordKinds.{loads_for_lock}
+use Rattle.ipcz_rule.proofs.WordKinds.{loads_for_lock_turns}
 use Rattle.ipcz_rule.proofs.kinds.a_load_for_the_lock_keeps_the_rule.Goals as goal
 
 pub returns : goal.returns
-returns c = loads_for_lock
+returns c = loads_for_lock_turns

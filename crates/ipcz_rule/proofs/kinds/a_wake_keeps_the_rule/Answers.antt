@@ -1,5 +1,5 @@
-use Rattle.ipcz_rule.proofs.WordKinds.{wakes}
+use Rattle.ipcz_rule.proofs.WordKinds.{wakes_turns}
 use Rattle.ipcz_rule.proofs.kinds.a_wake_keeps_the_rule.Goals as goal
 
 pub returns : goal.returns
-returns c = wakes
+returns c = wakes_turns
