@@ -8,6 +8,8 @@ mod ends;
 #[cfg(test)]
 mod hubs;
 #[cfg(test)]
+mod opens;
+#[cfg(test)]
 mod owned;
 #[cfg(test)]
 mod race;
