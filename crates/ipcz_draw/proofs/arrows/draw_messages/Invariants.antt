@@ -1,7 +1,0 @@
-use Rattle.std.proofs.Common.{◌*◌}
-use Rattle.ipcz_markup.specs.Markup.{Grows, Keeps}
-use Rattle.ipcz_draw.proofs.arrows.draw_messages.Given as goal
-
--- what is open is as before, and few bytes were added for each
-abbrev pub invariant-loop-index : goal.invariant-loop-index
-invariant-loop-index l = Keeps l.fn.out l.out × Grows l.fn.out l.out (5500 * l.index)

@@ -1,0 +1,595 @@
+//! What the program draws, and with which status it ends.
+//!
+//! Nothing is promised of the functions here, and what is wanted stands in lists: a test's own proof would else work out each of them.
+
+use crate::slow_devices::{SlowReader, SlowWriter};
+use ipcz_picture::device::Device;
+use ipcz_picture::part::Part;
+use ipcz_picture::program::{Asked, asked_for, run_program};
+use std::alloc::{AllocError, Global};
+use std::env::{Env, FillError};
+
+const TRANSCRIPT: &[u8] =
+    b"open x y ok\nput 0>1 0\nn0: idle\nn1: idle\nsettled\nget x 0 [] \"<&\"\n";
+
+// The arguments that a program is given, its name first.
+#[derive(Drop)]
+struct Arguments<'a> {
+    given: &'a [&'a [u8]],
+}
+
+impl<'a> Env for Arguments<'a> {
+    fn arg(&self, i: usize, buf: &mut [u8]) -> Result<usize, FillError> {
+        let Some(argument) = self.given.get(i) else {
+            return Err(FillError::NotPresent);
+        };
+        if argument.len() > buf.len() {
+            return Err(FillError::TooLong);
+        }
+        buf[..argument.len()].copy_from_slice(argument);
+        Ok(argument.len())
+    }
+
+    fn var(&self, _name: &str, _buf: &mut [u8]) -> Result<usize, FillError> {
+        Err(FillError::NotPresent)
+    }
+
+    fn var_at(&self, _i: usize, _buf: &mut [u8]) -> Result<usize, FillError> {
+        Err(FillError::NotPresent)
+    }
+}
+
+const NAME: &[u8] = b"ipcz_draw";
+
+const FIVE_TO_TWENTY: Asked = Asked::Picture(Some(Part { from: 5, to: 20 }));
+
+const SEVENTH: Asked = Asked::Picture(Some(Part { from: 7, to: 7 }));
+
+const TO_THE_LAST: Asked = Asked::Picture(Some(Part {
+    from: 1,
+    to: 18_446_744_073_709_551_615,
+}));
+
+const ASKED: [(&[&[u8]], Asked); 15] = [
+    (&[], Asked::Picture(None)),
+    (&[NAME], Asked::Picture(None)),
+    (&[NAME, b"5", b"20"], FIVE_TO_TWENTY),
+    (&[NAME, b"7", b"7"], SEVENTH),
+    (&[NAME, b"1", b"18446744073709551615"], TO_THE_LAST),
+    (&[NAME, b"1", b"18446744073709551616"], Asked::Usage),
+    (&[NAME, b""], Asked::Usage),
+    (&[NAME, b"\xff"], Asked::Usage),
+    (&[NAME, b"5"], Asked::Usage),
+    (&[NAME, b"5", b"20", b"30"], Asked::Usage),
+    (&[NAME, b"20", b"5"], Asked::Usage),
+    (&[NAME, b"0", b"5"], Asked::Usage),
+    (&[NAME, b"05", b"20"], Asked::Usage),
+    (&[NAME, b"+5", b"20"], Asked::Usage),
+    (&[NAME, b"5", b"end"], Asked::Usage),
+];
+
+// Whether this is asked for by these arguments.
+fn is_asked(alloc: Global, given: &[&[u8]], want: Asked) -> bool {
+    let arguments = (Arguments { given }, alloc);
+    asked_for(&arguments) == Ok(want)
+}
+
+// The first arguments that ask for something else.
+fn first_other_asked(alloc: Global) -> Option<usize> {
+    for (i, row) in ASKED.iter().enumerate() {
+        let (given, want) = *row;
+        if !is_asked(alloc, given, want) {
+            return Some(i);
+        }
+    }
+    None
+}
+
+#[test]
+fn asks_for_what_its_arguments_say(rt: HostRuntime) {
+    assert_eq!(rt; first_other_asked(rt.alloc()), None);
+}
+
+// Draws a part of a transcript, with what is written behind what `out` holds, and gives the status.
+fn drawn_part(alloc: Global, part: Option<Part>, transcript: &[u8], out: &mut Vec<u8>) -> u8 {
+    run_program(
+        alloc,
+        Ok(Asked::Picture(part)),
+        &mut Device::new(transcript),
+        &mut Device::new(out),
+    )
+}
+
+// Draws all of a transcript.
+fn drawn(alloc: Global, transcript: &[u8], out: &mut Vec<u8>) -> u8 {
+    drawn_part(alloc, None, transcript, out)
+}
+
+// Whether a text stands somewhere in these bytes.
+fn has(bytes: &[u8], text: &[u8]) -> bool {
+    for i in 0..bytes.len() {
+        if bytes[i..].starts_with(text) {
+            return true;
+        }
+    }
+    false
+}
+
+// How often a text stands in these bytes.
+fn times(bytes: &[u8], text: &[u8]) -> usize {
+    let mut count = 0usize;
+    for i in 0..bytes.len() {
+        if bytes[i..].starts_with(text) {
+            count = count.saturating_add(1);
+        }
+    }
+    count
+}
+
+// Whether a transcript is drawn, and a text stands in its picture.
+fn shows(alloc: Global, transcript: &[u8], text: &str) -> bool {
+    let mut out = Vec::new(alloc);
+    drawn(alloc, transcript, &mut out) == 0 && has(&out, text.as_bytes())
+}
+
+// The first text that doesn't stand in the picture of a transcript.
+fn first_lacking(alloc: Global, transcript: &[u8], texts: &[&str]) -> Option<usize> {
+    for (i, text) in texts.iter().enumerate() {
+        if !shows(alloc, transcript, *text) {
+            return Some(i);
+        }
+    }
+    None
+}
+
+// Whether a text stands in some bytes so often.
+fn stands(bytes: &[u8], row: (&str, usize)) -> bool {
+    let (text, count) = row;
+    times(bytes, text.as_bytes()) == count
+}
+
+// The first text that doesn't stand so often in the picture of a part of a transcript; behind the last where that isn't drawn.
+fn first_other(
+    alloc: Global,
+    part: Option<Part>,
+    transcript: &[u8],
+    texts: &[(&str, usize)],
+) -> Option<usize> {
+    let mut out = Vec::new(alloc);
+    if drawn_part(alloc, part, transcript, &mut out) != 0 {
+        return Some(texts.len());
+    }
+    for (i, row) in texts.iter().enumerate() {
+        if !stands(&out, *row) {
+            return Some(i);
+        }
+    }
+    None
+}
+
+const TITLES: [&str; 5] = [
+    "<g transform=\"translate(0 136)\"><title>line 1: open x y ok</title>",
+    "<g transform=\"translate(0 154)\"><title>line 2: put 0&gt;1 0</title>",
+    "<g transform=\"translate(0 172)\"><title>lines 3-4: idle x2</title>",
+    "<g transform=\"translate(0 190)\"><title>line 5: settled</title>",
+    "<g transform=\"translate(0 226)\"><title>line 6: get x 0 [] &quot;&lt;&amp;&quot;</title>",
+];
+
+// Whether a transcript is drawn as one root.
+fn is_one_root(alloc: Global, transcript: &[u8]) -> bool {
+    let mut out = Vec::new(alloc);
+    drawn(alloc, transcript, &mut out) == 0
+        && out.starts_with(b"<svg xmlns=")
+        && out.ends_with(b"</g></svg>\n")
+}
+
+#[test]
+fn draws_a_row_for_each_line_and_one_for_idle_ones(rt: HostRuntime) {
+    assert!(rt; is_one_root(rt.alloc(), TRANSCRIPT));
+    assert_eq!(rt; first_lacking(rt.alloc(), TRANSCRIPT, &TITLES), None);
+}
+
+// Two items that wait in one outbox, a flush that never arrives, and a name that stands again.
+const WAITING: &[u8] = b"n0: r0 send out 0 C0
+n0: r0 send out 1 C0
+n0: post 1
+n1: look 0
+n0: post 1
+n1: hand item 0 C0
+n1: look 0
+n1: hand item 1 C0
+n1: r0 wake C2 3
+n1: post 0
+n1: look 1
+n0: idle
+words
+words
+words
+words
+words
+words
+";
+
+const MADE: [&str; 8] = [
+    "<title>item 0 C0 from n0 r0 to n1; made line 1; posted line 3; looked line 4; handled line 6</title>",
+    "<title>item 1 C0 from n0 r0 to n1; made line 2; posted line 5; looked line 7; handled line 8</title>",
+    "<title>Flush C2 from n1 r0 to n0; made line 9; posted line 10; not seen handled</title>",
+    "M422 145H454V181H460",
+    "M422 163H450V217H460",
+    ">Flush</text>",
+    "<text x=\"414\" y=\"419\" class=\"t10 ink b e h halo\">r0</text>",
+    "<text x=\"387\" y=\"419\" class=\"t9 dim b h halo\">n0</text>",
+];
+
+#[test]
+fn says_who_made_what_and_for_whom(rt: HostRuntime) {
+    assert_eq!(rt; first_lacking(rt.alloc(), WAITING, &MADE), None);
+}
+
+const WRONG: [(&[u8], &str); 6] = [
+    (b"n1: hand Flush C2 dropped\n", ">dropped</text>"),
+    (b"n1: hand item 0 C2 stray\n", ">stray</text>"),
+    (b"unsettled\n", "class=\"fn\""),
+    (b"unsettled\n", ">unsettled: the limit came first; "),
+    (b"settled\n", "class=\"bn\""),
+    (b"get x PeerClosed\n", "class=\"t11 f-bad\">get x"),
+];
+
+// The first line that isn't shown so.
+fn first_unshown(alloc: Global) -> Option<usize> {
+    for (i, row) in WRONG.iter().enumerate() {
+        let (transcript, text) = *row;
+        if !shows(alloc, transcript, text) {
+            return Some(i);
+        }
+    }
+    None
+}
+
+#[test]
+fn tells_what_is_wrong_in_the_transcripts_words(rt: HostRuntime) {
+    assert_eq!(rt; first_unshown(rt.alloc()), None);
+}
+
+const SOURCES: [(&[u8], Option<&str>); 6] = [
+    (b"n0: r1 lock C1 547\n", Some(">1</text>")),
+    (b"n0: r1 lock C1 4095\n", Some(">14</text>")),
+    (b"words 3 547 3\n", Some(">1</text>")),
+    (b"words 3 291 3\n", Some(">0</text>")),
+    (b"n0: r1 lock C1 35\n", None),
+    (b"words 3 35 3\n", None),
+];
+
+// Whether a picture has this source behind the cells of a word, or none.
+fn has_source(picture: &[u8], node: Option<&str>) -> bool {
+    let is_there = has(picture, b"class=\"t9 f-word b\"");
+    match node {
+        Some(node) => is_there && has(picture, node.as_bytes()),
+        None => !is_there,
+    }
+}
+
+// Whether a transcript is drawn with the cells of a word that is locked, and this source.
+fn tells_source(alloc: Global, transcript: &[u8], node: Option<&str>) -> bool {
+    let mut out = Vec::new(alloc);
+    drawn(alloc, transcript, &mut out) == 0
+        && (has(&out, b">SL</text>") || has(&out, b">SWL</text>"))
+        && has_source(&out, node)
+}
+
+// The first word that tells another source.
+fn first_other_source(alloc: Global) -> Option<usize> {
+    for (i, row) in SOURCES.iter().enumerate() {
+        let (transcript, node) = *row;
+        if !tells_source(alloc, transcript, node) {
+            return Some(i);
+        }
+    }
+    None
+}
+
+// The node that may answer stands behind a word's cells, where the word tells one.
+#[test]
+fn shows_the_node_that_may_answer(rt: HostRuntime) {
+    assert_eq!(rt; first_other_source(rt.alloc()), None);
+}
+
+const CALLS: &[u8] =
+    b"open x y ok\nput 0>1 0\nclose 0>1 1\nn0: r0 send out 0 C0 moves 1B\nn0: post 1\nn1: look 0\nn1: hand item 0 C0\nn1: r0 rest\nn0: r2 claim 2\nn0: r2 finish in P0.0\nget y PeerClosed\n";
+
+const CALLED: [&str; 5] = [
+    "class=\"f-call\"/><text x=\"430\" y=\"167\" class=\"t9 f-call h halo\">put</text>",
+    "class=\"f-call\"/><text x=\"430\" y=\"185\" class=\"t9 f-call h halo\">close</text>",
+    ">0A 0&gt;1</text>",
+    ">0B 1&gt;0</text>",
+    ">1B y</text>",
+];
+
+// A router of the first pair, with the end and the portal that it serves and the calls there, and the proxy of an opened portal.
+#[test]
+fn calls_stand_at_the_routers_of_their_portals(rt: HostRuntime) {
+    assert_eq!(rt; first_lacking(rt.alloc(), CALLS, &CALLED), None);
+    assert_eq!(rt;
+        first_other(rt.alloc(), None, CALLS, &[(">get</text>", 0)]),
+        None
+    );
+}
+
+const BARS: [&str; 3] = [
+    "y=\"152\" width=\"1\" height=\"22\" class=\"f-word\"",
+    "y=\"170\" width=\"1\" height=\"22\" class=\"f-word\"",
+    "y=\"188\" width=\"1\" height=\"4\" class=\"f-word\"",
+];
+
+// A bar from one step of a word to the next in its column, and from that one to a settle.
+#[test]
+fn shows_how_long_a_word_stands(rt: HostRuntime) {
+    let transcript = b"n0: r0 mark C1 1\nn0: r0 mark C2 1\nn0: r1 mark C7 1\nsettled\n";
+    assert_eq!(rt; first_lacking(rt.alloc(), transcript, &BARS), None);
+}
+
+const KNOWN: [(&str, usize); 14] = [
+    (">C0</text>", 4),
+    ("class=\"t9 dim e\">C0</text>", 3),
+    ("class=\"t9 dim e\">S</text>", 5),
+    ("class=\"t9 dim h halo\">-</text>", 4),
+    (">C1</text>", 3),
+    ("class=\"t9 dim e\">-</text>", 1),
+    (">C2<title>C2 35</title></text>", 1),
+    (">C1<title>C1 0 -&gt; 3</title></text>", 1),
+    (">C2<title>C2 35 -&gt; 547</title></text>", 1),
+    (">C2</text>", 1),
+    ("class=\"t9 dim h halo\">S</text>", 1),
+    ("class=\"t9 dim h halo\">SL</text>", 1),
+    ("class=\"t9 dim h halo\">1</text>", 1),
+    // Of lines 3 and 5, and of the heading.
+    ("class=\"kL\"", 3),
+];
+
+// A word that is told anew with the value that is known of it stands back, be it known from a step, a claim or a line of words.
+#[test]
+fn words_that_are_as_they_were_known_stand_back(rt: HostRuntime) {
+    let transcript =
+        b"n0: r0 mark C0 1\nn0: r0 claim 1\nwords 1 0 35\nsettled\nwords 1 3 547\nwords 1 3 547\n";
+    assert_eq!(rt; first_other(rt.alloc(), None, transcript, &KNOWN), None);
+}
+
+const ABOVE: [(&str, usize); 6] = [
+    (">C0</text>", 1),
+    (">C1<title>C1 2 -&gt; 3</title></text>", 1),
+    (">C2</text>", 1),
+    ("class=\"t9 dim h halo\">S</text>", 1),
+    ("<title>line 3: words 1 3 3</title>", 1),
+    ("<title>line ", 1),
+];
+
+// Of a word that is told in a line with fewer values the last value that was told is known still, also above a part.
+#[test]
+fn what_is_known_of_words_is_of_all_lines_above(rt: HostRuntime) {
+    let part = Some(Part { from: 3, to: 3 });
+    let transcript = b"words 1 2 3\nwords 1\nwords 1 3 3\nwords 1 2 2\n";
+    assert_eq!(rt; first_other(rt.alloc(), part, transcript, &ABOVE), None);
+}
+
+// A part in whose rows a bar and a word's value come in from above, a message is looked at that was posted above, and one is
+// posted that is looked at below.
+const LONG: &[u8] = b"n0: r0 mark C1 1
+n0: r0 send out 0 C0
+n0: post 1
+n1: r4 rest
+n1: look 0
+n1: r4 rest
+n0: r0 send out 1 C0
+n0: post 1
+n0: idle
+n0: idle
+n0: idle
+n1: hand item 0 C0
+n1: look 0
+n1: hand item 1 C0
+";
+
+const PART: [(&str, usize); 23] = [
+    (">A run of ipcz in 14 lines: lines 5 to 10</title>", 1),
+    (">A run of ipcz in 14 lines: lines 5 to 10</text>", 1),
+    (
+        "<g transform=\"translate(0 136)\"><title>line 5: n1: look 0</title>",
+        1,
+    ),
+    (
+        "<g transform=\"translate(0 154)\"><title>line 6: n1: r4 rest</title>",
+        1,
+    ),
+    (
+        "<g transform=\"translate(0 172)\"><title>line 7: n0: r0 send out 1 C0</title>",
+        1,
+    ),
+    (
+        "<g transform=\"translate(0 190)\"><title>line 8: n0: post 1</title>",
+        1,
+    ),
+    (
+        "<g transform=\"translate(0 208)\"><title>lines 9-10: idle x2</title>",
+        1,
+    ),
+    ("<g transform", 5),
+    // The names of both routers, and their bars.
+    (
+        "<text x=\"414\" y=\"130\" class=\"t10 ink b e h halo\">r0</text>",
+        1,
+    ),
+    (
+        "<text x=\"582\" y=\"130\" class=\"t10 ink b e h halo\">r4</text>",
+        1,
+    ),
+    (
+        "<rect x=\"419\" y=\"136\" width=\"6\" height=\"90\" class=\"bar\"/>",
+        1,
+    ),
+    (
+        "<rect x=\"587\" y=\"136\" width=\"6\" height=\"90\" class=\"bar\"/>",
+        1,
+    ),
+    // C1 of line 1, which no line changes again.
+    ("y=\"130\" class=\"t9 f-word e\">C1</text>", 1),
+    ("y=\"136\" width=\"1\" height=\"92\" class=\"f-word\"/>", 1),
+    // Item 0 between the walls up to its look, and in the hand down to the foot; its label stands at the look.
+    ("M460 136L552 145", 1),
+    (
+        "made line 2; posted line 3; looked line 5; handled line 12</title>",
+        1,
+    ),
+    ("M552 145H564V226\"/>", 1),
+    (">item 0</text>", 1),
+    ("y=\"142\" class=\"t9 e h halo f-item\">item 0</text>", 1),
+    // Item 1 from its router to its post, and on its way down to the foot.
+    ("M422 181H454V199H460\"/>", 1),
+    ("M460 199L552 226", 1),
+    (
+        "made line 7; posted line 8; looked line 13; handled line 14</title>",
+        1,
+    ),
+    (">item 1</text>", 1),
+];
+
+#[test]
+fn a_part_begins_with_what_stands_there(rt: HostRuntime) {
+    let part = Some(Part { from: 5, to: 10 });
+    assert_eq!(rt; first_other(rt.alloc(), part, LONG, &PART), None);
+}
+
+// A first and a last line, and how many lines of three are drawn then, with which caption.
+const PARTS: [(u64, u64, usize, &str); 6] = [
+    (1, 3, 3, ">A run of ipcz in 3 lines</title>"),
+    (1, 9, 3, ">A run of ipcz in 3 lines</title>"),
+    (2, 2, 1, ": lines 2 to 2</title>"),
+    (2, 18_446_744_073_709_551_615, 2, ": lines 2 to 3</title>"),
+    (4, 9, 0, ": none of them</title>"),
+    (9, 9, 0, ": none of them</title>"),
+];
+
+// Whether a part of three lines has so many, and this caption.
+fn has_lines(alloc: Global, part: Part, count: usize, caption: &str) -> bool {
+    let mut out = Vec::new(alloc);
+    let transcript = b"settled\nn0: idle\nsettled\n";
+    drawn_part(alloc, Some(part), transcript, &mut out) == 0
+        && times(&out, b"<g ") == count
+        && has(&out, caption.as_bytes())
+}
+
+// The first part that has others.
+fn first_other_part(alloc: Global) -> Option<usize> {
+    for (i, row) in PARTS.iter().enumerate() {
+        let (from, to, count, caption) = *row;
+        if !has_lines(alloc, Part { from, to }, count, caption) {
+            return Some(i);
+        }
+    }
+    None
+}
+
+// Parts of three lines: within them, over the end and behind it.
+#[test]
+fn a_part_has_the_lines_that_there_are(rt: HostRuntime) {
+    assert_eq!(rt; first_other_part(rt.alloc()), None);
+}
+
+#[test]
+fn draws_no_rows_for_no_bytes(rt: HostRuntime) {
+    assert!(rt; shows(rt.alloc(), b"", "A run of ipcz in 0 lines"));
+    assert_eq!(rt; first_other(rt.alloc(), None, b"", &[("<g", 0)]), None);
+}
+
+// Whether a transcript is refused with this line.
+fn refuses(alloc: Global, transcript: &[u8], line: &[u8]) -> bool {
+    let mut out = Vec::new(alloc);
+    drawn(alloc, transcript, &mut out) == 2 && out.as_slice() == line
+}
+
+#[test]
+fn says_which_line_is_refused(rt: HostRuntime) {
+    let alloc = rt.alloc();
+    let second = b"refused line 2: not a line of a transcript\n";
+    assert!(rt; refuses(alloc, b"settled\nfly\n", second));
+    assert!(rt;
+        refuses(
+            alloc,
+            b"settled",
+            b"refused line 1: not a line of a transcript\n"
+        )
+    );
+    assert!(rt; refuses(alloc, b"settled\nn0: idle\x07\n", second));
+    let long = vec![in alloc; b'x'; 262_145].expect(&rt, "memory");
+    assert!(rt; refuses(alloc, &long, b"refused line 0: more than 262144 bytes\n"));
+}
+
+// Whether the program ends with this status where its reader fails at its tenth read, and writes nothing.
+fn ends_after_a_failed_read(alloc: Global, status: u8) -> bool {
+    let mut out = Vec::new(alloc);
+    let ended = run_program(
+        alloc,
+        Ok(Asked::Picture(None)),
+        &mut Device::new(SlowReader {
+            bytes: TRANSCRIPT,
+            reads_left: 9,
+        }),
+        &mut Device::new(&mut out),
+    );
+    ended == status && out.is_empty()
+}
+
+// Whether the program ends with this status where its writer fails at its third write, and what is written up to there is this.
+fn ends_after_a_failed_write(alloc: Global, status: u8, text: &[u8]) -> bool {
+    let mut out = Vec::new(alloc);
+    let ended = run_program(
+        alloc,
+        Ok(Asked::Picture(None)),
+        &mut Device::new(TRANSCRIPT),
+        &mut Device::new(SlowWriter {
+            taken: &mut out,
+            writes_left: 2,
+            fails: true,
+        }),
+    );
+    ended == status && out.as_slice() == text
+}
+
+#[test]
+fn ends_with_status_1_after_a_failed_read_or_write(rt: HostRuntime) {
+    assert!(rt; ends_after_a_failed_read(rt.alloc(), 1));
+    assert!(rt; ends_after_a_failed_write(rt.alloc(), 1, b"<svg x"));
+}
+
+// Whether the program ends with this status and this text, and its reader, which would fail at its first read, hasn't failed.
+fn reads_nothing(
+    alloc: Global,
+    asked: Result<Asked, AllocError>,
+    writes_left: usize,
+    status: u8,
+    text: &[u8],
+) -> bool {
+    let mut out = Vec::new(alloc);
+    let mut reader = Device::new(SlowReader {
+        bytes: TRANSCRIPT,
+        reads_left: 0,
+    });
+    let ended = run_program(
+        alloc,
+        asked,
+        &mut reader,
+        &mut Device::new(SlowWriter {
+            taken: &mut out,
+            writes_left,
+            fails: true,
+        }),
+    );
+    ended == status && !reader.failed() && out.as_slice() == text
+}
+
+#[test]
+fn reads_nothing_where_the_usage_is_asked_for(rt: HostRuntime) {
+    let usage = b"usage: ipcz_draw [FROM TO]\n";
+    assert!(rt; reads_nothing(rt.alloc(), Ok(Asked::Usage), 9, 2, usage));
+    assert!(rt; reads_nothing(rt.alloc(), Ok(Asked::Usage), 2, 1, b"usage:"));
+    assert!(rt; reads_nothing(rt.alloc(), Err(AllocError), 9, 3, b""));
+}

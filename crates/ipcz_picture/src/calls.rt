@@ -1,0 +1,94 @@
+//! The calls of callers, at the routers of their portals, and what portals routers serve.
+
+ghost use Rattle.std.specs.Prelude.{◌≡◌, ◌*◌, ◌≤◌, length};
+ghost use Rattle.ipcz_markup.specs.Markup.{Grows, Keeps};
+ghost use Rattle.ipcz_picture.specs.Marks.{call_verb};
+
+use crate::scene::Scene;
+use ipcz_lines::{End, Line, Side};
+use ipcz_markup::{Class, Writer};
+use ipcz_messages::calls::{Call, Portals};
+
+// The front of a text that has room.
+fn front(text: &[u8], room: usize) -> &[u8]
+    ensures few { length result.now ≤ room }
+{
+    &text[..text.len().min(room)]
+}
+
+// What a call is.
+fn verb_of(line: &Line) -> &'static [u8]
+    ensures same { result.now ≡ call_verb line.now }
+    ensures few { length result.now ≤ 5 }
+{
+    match line {
+        Line::Put { .. } => b"put",
+        Line::Close { .. } => b"close",
+        _ => b"get",
+    }
+}
+
+// A call at a router.
+fn draw_call(out: &mut Writer, scene: &Scene, call: &Call)
+    ensures keeps { Keeps out.old out.new }
+    ensures few { Grows out.old out.new 740 }
+{
+    let x = scene.across_of(call.router);
+    let y = scene.middle_of(call.line);
+    out.pill(
+        x.saturating_sub(4),
+        y.saturating_sub(4),
+        8,
+        8,
+        1,
+        Class::CallDot,
+    );
+    if let Some(read) = scene.lines.get(call.line) {
+        out.label(
+            x.saturating_add(8),
+            y.saturating_add(4),
+            Class::CallNote,
+            verb_of(&read.line),
+        );
+    }
+}
+
+/// All calls that are shown whose routers are known.
+pub fn draw_calls(out: &mut Writer, scene: &Scene, calls: &[Call])
+    ensures keeps { Keeps out.old out.new }
+    ensures few { Grows out.old out.new (740 * length calls.now) }
+{
+    for (index, call) in calls.iter().enumerate() {
+        if scene.shows(call.line) {
+            draw_call(out, scene, call);
+        }
+    }
+}
+
+// The letter of a side.
+fn letter_of(side: Side) -> &'static [u8]
+    ensures { length result.now ≤ 1 }
+{
+    match side {
+        Side::A => b"A",
+        Side::B => b"B",
+    }
+}
+
+/// An end, and the portal that it is, as far as its name is known and has room.
+pub fn write_end(out: &mut Writer, end: End, portals: &Portals)
+    ensures keeps { Keeps out.old out.new }
+    ensures few { Grows out.old out.new 80 }
+{
+    out.number(end.pair as u64);
+    out.text(letter_of(end.side));
+    if let Some((one, other)) = portals.nodes_of(end) {
+        out.text(b" ");
+        out.number(one as u64);
+        out.text(b">");
+        out.number(other as u64);
+    } else if let Some(name) = portals.name_of(end) {
+        out.text(b" ");
+        out.text(front(name, 6));
+    }
+}

@@ -1,0 +1,116 @@
+//! The program, but for its arguments and devices.
+
+ghost use Rattle.std.specs.Prelude.{◌≡◌, false, Ok, OnErr, Option};
+ghost use Rattle.ipcz_picture.specs.Outputs.{status, usage, Draws, WritesUsage};
+
+use crate::device::Device;
+use crate::ending::Ending;
+use crate::fault::Fault;
+use crate::output::draw;
+use crate::part::{Part, part_of};
+use crate::whole_io::write_whole;
+use std::alloc::{AllocError, Global};
+use std::env;
+use std::env::Env;
+use std::io::{ErrorKind, Read, Write};
+
+const USAGE: &[u8] = b"usage: ipcz_draw [FROM TO]\n";
+
+/// What the arguments of the program ask for.
+#[derive(Clone, Copy, Debug, PartialEq, Eq)]
+pub enum Asked {
+    /// A picture of a part, or of all where there are no arguments.
+    Picture(Option<Part>),
+    /// How the program is called.
+    Usage,
+}
+
+/// What the arguments of the program beside its name ask for, or that no memory was found to look at them.
+///
+/// One that is not UTF-8 counts.
+pub fn asked_for(rt: &(impl Env + Alloc)) -> Result<Asked, AllocError> {
+    let mut arguments = match env::args(rt) {
+        Ok(arguments) => arguments,
+        Err(why) if why.kind() == ErrorKind::OutOfMemory => return Err(AllocError),
+        Err(_) => return Ok(Asked::Usage),
+    };
+    let _name = arguments.next();
+    let Some(from) = arguments.next() else {
+        return Ok(Asked::Picture(None));
+    };
+    let (Some(to), None) = (arguments.next(), arguments.next()) else {
+        return Ok(Asked::Usage);
+    };
+    match part_of(from.as_bytes(), to.as_bytes()) {
+        Some(part) => Ok(Asked::Picture(Some(part))),
+        None => Ok(Asked::Usage),
+    }
+}
+
+// The status: 0 drawn, 1 a read or write failed, 2 a line was refused, 3 want of memory.
+#[tactic(auto, unfolding(crate::specs::Outputs::status))]
+fn status_of(ending: Result<Ending, Fault>) -> u8
+    ensures { result ≡ status ending }
+{
+    match ending {
+        Ok(Ending::Drawn) => 0,
+        Err(Fault::Read | Fault::Write) => 1,
+        Ok(Ending::Refused(_)) => 2,
+        Err(Fault::OutOfMemory) => 3,
+    }
+}
+
+// Writes the usage line, and gives the status: 2, or 1 where a write failed.
+fn write_usage<W: Write>(writer: &mut Device<W>) -> u8
+    requires { writer.old.failed ≡ false }
+    ensures { WritesUsage (W.contents writer.old.inner) (W.contents writer.new.inner) writer.new.failed result }
+{
+    match write_whole(writer, USAGE) {
+        Ok(()) => 2,
+        Err(_) => 1,
+    }
+}
+
+// Draws a part of the transcript that the reader gives, or all of it, and gives the status.
+fn draw_to_status<R: Read, W: Write>(
+    alloc: Global,
+    part: Option<Part>,
+    reader: &mut Device<R>,
+    writer: &mut Device<W>,
+) -> u8
+    requires reader_works { reader.old.failed ≡ false }
+    requires writer_works { writer.old.failed ≡ false }
+    ensures { Draws part (R.remaining reader.old.inner) (R.remaining reader.new.inner)
+        (W.contents writer.old.inner) (W.contents writer.new.inner) reader.new.failed writer.new.failed result }
+{
+    status_of(draw(alloc, part, reader, writer))
+}
+
+/// The program but for its arguments and devices, which it is given: it draws the transcript that the reader gives, and
+/// answers the status.
+///
+/// `asked` is what `asked_for` answered. Where the usage is asked for, its line is written, nothing is read, and the status is
+/// 2, or 1 where a write failed. Where no memory was found to look at the arguments nothing is read or written, and the
+/// status is 3. Else the status is 0 where the transcript, or the part that is asked for, was drawn, 1 where a read or a write
+/// failed, 2 where a line was refused, and 3 where no memory was found.
+pub fn run_program<R: Read, W: Write>(
+    alloc: Global,
+    asked: Result<Asked, AllocError>,
+    reader: &mut Device<R>,
+    writer: &mut Device<W>,
+) -> u8
+    requires reader_works { reader.old.failed ≡ false }
+    requires writer_works { writer.old.failed ≡ false }
+    ensures picture { (part : Option Part) → asked ≡ Ok (Asked.Picture part) → Draws part (R.remaining reader.old.inner) (R.remaining reader.new.inner)
+        (W.contents writer.old.inner) (W.contents writer.new.inner) reader.new.failed writer.new.failed result }
+    ensures usage { asked ≡ Ok Asked.Usage →
+        WritesUsage (W.contents writer.old.inner) (W.contents writer.new.inner) writer.new.failed result }
+    ensures unread { asked ≡ Ok Asked.Usage → reader.new ≡ reader.old }
+    ensures no_memory { OnErr asked ((result ≡ 3) × (reader.new ≡ reader.old) × (writer.new ≡ writer.old)) }
+{
+    match asked {
+        Ok(Asked::Picture(part)) => draw_to_status(alloc, part, reader, writer),
+        Ok(Asked::Usage) => write_usage(writer),
+        Err(AllocError) => 3,
+    }
+}

@@ -1,0 +1,274 @@
+//! Where things stand in a picture.
+
+ghost use Rattle.std.specs.Prelude.{◌≡◌, ◌≤◌, ◌<◌, ◌↔◌, length, IfOk, IsTrue};
+ghost use Rattle.ipcz_picture.specs.Parts.{IsWithin, Meets};
+
+use crate::lanes::Lane;
+use crate::part::Bounds;
+use crate::rows::{Place, TOP, UNIT, value_count};
+use ipcz_lines::{Event, Line, Link, ReadLine, RouterEvent};
+use ipcz_messages::routers::{Router, find};
+use std::alloc::{AllocError, Global};
+
+const COLUMN: u64 = 62;
+
+const PAD: u64 = 38;
+
+const GAP: u64 = 92;
+
+const FIRST_BAND: u64 = 384;
+
+const WORD_COLUMN: u64 = 88;
+
+/// How many words stand side by side.
+pub const WORDS: usize = 6;
+
+/// The walls of a node's band.
+#[derive(Clone, Copy, Debug)]
+pub struct Walls {
+    pub left: u64,
+    pub right: u64,
+}
+
+/// What is drawn: all lines, which of them have rows, how far down the row of each of those begins, the routers with their
+/// lanes, the nodes' walls, where the link words begin, and the size of it all.
+#[derive(Drop)]
+pub struct Scene<'a> {
+    pub lines: &'a [ReadLine<'a>],
+    pub bounds: Bounds,
+    pub routers: &'a [Router],
+    pub lanes: &'a [Lane],
+    pub tops: Vec<u64>,
+    pub nodes: Vec<Walls>,
+    pub words: usize,
+    pub words_left: u64,
+    pub width: u64,
+    pub bottom: u64,
+}
+
+// One more than the greatest node that a line names, or 0.
+fn nodes_of_link(link: &Link) -> u8 {
+    match link {
+        Link::Peripheral { node, .. } => node.saturating_add(1),
+        Link::Central(_) => 0,
+    }
+}
+
+fn nodes_of_act(event: &RouterEvent) -> u8 {
+    match event {
+        RouterEvent::Send { link, .. }
+        | RouterEvent::Finish { link, .. }
+        | RouterEvent::Retire { link, .. } => nodes_of_link(link),
+        _ => 0,
+    }
+}
+
+fn nodes_of_event(event: &Event) -> u8 {
+    match event {
+        Event::Look { sender } => sender.saturating_add(1),
+        Event::Post { destination } => destination.saturating_add(1),
+        Event::Hand { link, .. } => nodes_of_link(link),
+        Event::Router { event, .. } => nodes_of_act(event),
+        _ => 0,
+    }
+}
+
+// How many nodes the lines name: one more than the greatest.
+fn node_count(lines: &[ReadLine]) -> u8
+    ensures few { result ≤ 8 }
+{
+    let mut count = 0;
+    for read in lines {
+        if let Line::Turn { node, event } = &read.line {
+            count = count.max(node.saturating_add(1)).max(nodes_of_event(event));
+        }
+    }
+    count.min(8)
+}
+
+// One more than the greatest word that a line tells the value of, or 0.
+fn words_of_line(line: &Line) -> usize {
+    match line {
+        Line::Turn {
+            event: Event::Router {
+                event: RouterEvent::Word { word, .. } | RouterEvent::Claim { word: Some(word) },
+                ..
+            },
+            ..
+        } => *word as usize + 1,
+        Line::Words(values) => value_count(values),
+        _ => 0,
+    }
+}
+
+fn word_count(lines: &[ReadLine]) -> usize {
+    let mut count = 0;
+    for read in lines {
+        count = count.max(words_of_line(&read.line));
+    }
+    count
+}
+
+// How many columns the routers of a node take, at least one.
+fn column_count(routers: &[Router], lanes: &[Lane], node: u8) -> usize {
+    let mut count = 1usize;
+    for (router, lane) in routers.iter().zip(lanes) {
+        if router.node == node {
+            count = count.max(lane.column.saturating_add(1));
+        }
+    }
+    count
+}
+
+// The walls of the nodes.
+fn node_walls(
+    alloc: Global,
+    lines: &[ReadLine],
+    routers: &[Router],
+    lanes: &[Lane],
+) -> Result<Vec<Walls>, AllocError>
+    ensures few { IfOk result (λ walls. length walls.items ≤ 8) }
+{
+    let mut walls = Vec::new(alloc);
+    let mut left = FIRST_BAND;
+    for node in 0..node_count(lines) {
+        let columns = column_count(routers, lanes, node) as u64;
+        let width = columns
+            .saturating_sub(1)
+            .saturating_mul(COLUMN)
+            .saturating_add(2 * PAD);
+        let right = left.saturating_add(width);
+        walls.push(Walls { left, right })?;
+        left = right.saturating_add(GAP);
+    }
+    Ok(walls)
+}
+
+// How far down the row of each line begins that has a place.
+fn tops(alloc: Global, placed: &[Place]) -> Result<Vec<u64>, AllocError> {
+    let mut tops = Vec::new(alloc);
+    for place in placed {
+        for _ in 0..place.count {
+            tops.push(place.top)?;
+        }
+    }
+    Ok(tops)
+}
+
+impl<'a> Scene<'a> {
+    /// The scene of these lines, of which those within the bounds have the places.
+    pub fn new(
+        alloc: Global,
+        lines: &'a [ReadLine<'a>],
+        bounds: Bounds,
+        routers: &'a [Router],
+        lanes: &'a [Lane],
+        placed: &[Place],
+        bottom: u64,
+    ) -> Result<Self, AllocError>
+        ensures lines { IfOk result (λ scene. scene.lines.now ≡ lines.now) }
+        ensures bounds { IfOk result (λ scene. scene.bounds ≡ bounds) }
+        ensures routers { IfOk result (λ scene. scene.routers.now ≡ routers.now) }
+        ensures nodes { IfOk result (λ scene. length scene.nodes.items ≤ 8) }
+    {
+        let nodes = node_walls(alloc, lines, routers, lanes)?;
+        let words = word_count(lines);
+        let inner = match nodes.as_slice().last() {
+            Some(walls) => walls.right,
+            None => FIRST_BAND - 34,
+        };
+        let words_left = inner.saturating_add(66);
+        let beside = words.min(WORDS) as u64 * WORD_COLUMN;
+        Ok(Scene {
+            lines,
+            bounds,
+            routers,
+            lanes,
+            tops: tops(alloc, placed)?,
+            nodes,
+            words,
+            words_left,
+            width: words_left
+                .saturating_add(beside)
+                .saturating_add(16)
+                .max(930),
+            bottom,
+        })
+    }
+
+    /// Whether a line has a row.
+    pub fn shows(&self, line: usize) -> bool
+        ensures { IsTrue result ↔ IsWithin self.now.bounds line }
+    {
+        self.bounds.first <= line && line < self.bounds.end
+    }
+
+    /// Whether something is seen in the rows that goes on from one line to another.
+    pub fn sees(&self, from: usize, to: usize) -> bool
+        ensures { IsTrue result ↔ Meets self.now.bounds from to }
+    {
+        from < self.bounds.end && self.bounds.first <= to
+    }
+
+    /// How far down the row of a line begins; of a line above the rows, where they begin, and of one below them, where the
+    /// picture ends.
+    pub fn top_of(&self, line: usize) -> u64
+        ensures above { line < self.now.bounds.first → result ≡ 136 }
+    {
+        if line < self.bounds.first {
+            return TOP;
+        }
+        match self.tops.as_slice().get(line - self.bounds.first) {
+            Some(top) => *top,
+            None => self.bottom,
+        }
+    }
+
+    /// How far down the middle of a line's row is; of a line that has none, where the rows begin or end.
+    pub fn middle_of(&self, line: usize) -> u64
+        ensures above { line < self.now.bounds.first → result ≡ 136 }
+    {
+        let top = self.top_of(line);
+        if self.shows(line) {
+            top.saturating_add(UNIT / 2)
+        } else {
+            top
+        }
+    }
+
+    /// The walls of a node.
+    pub fn walls_of(&self, node: u8) -> Walls {
+        match self.nodes.as_slice().get(node as usize) {
+            Some(walls) => *walls,
+            None => Walls { left: 0, right: 0 },
+        }
+    }
+
+    /// How far to the right a router stands.
+    pub fn across_of(&self, router: usize) -> u64 {
+        match (self.routers.get(router), self.lanes.get(router)) {
+            (Some(router), Some(lane)) => {
+                let walls = self.walls_of(router.node);
+                walls
+                    .left
+                    .saturating_add(PAD)
+                    .saturating_add((lane.column as u64).saturating_mul(COLUMN))
+            }
+            _ => 0,
+        }
+    }
+
+    /// How far to the right the router of a node with a serial stands.
+    pub fn across_of_serial(&self, node: u8, serial: u64) -> u64 {
+        match find(self.routers, node, serial) {
+            Some(router) => self.across_of(router),
+            None => 0,
+        }
+    }
+
+    /// How far to the right the column of a word begins.
+    pub fn across_of_word(&self, word: usize) -> u64 {
+        self.words_left
+            .saturating_add((word % WORDS) as u64 * WORD_COLUMN)
+    }
+}
