@@ -11,8 +11,6 @@ ghost use Rattle.ipcz_router.specs.Calls.{next_number};
 mod bypass;
 mod calls;
 mod outlook;
-#[cfg(test)]
-mod tests;
 mod turns;
 
 use crate::filing::Filing;
