@@ -84,6 +84,19 @@ pub(crate) fn make_room<T>(pairs: &mut VecDeque<(u64, T)>) -> Result<(), Refusal
     if pairs.len() < pairs.capacity() {
         return Ok(());
     }
+    grow(pairs)
+}
+
+// Makes room where there is none.
+fn grow<T>(pairs: &mut VecDeque<(u64, T)>) -> Result<(), Refusal>
+    requires { deque_capacity pairs.old ≤ deque_len pairs.old }
+    ensures pairs { pairs.new.items ≡ pairs.old.items }
+    ensures len { deque_len pairs.new ≡ deque_len pairs.old }
+    ensures capacity { deque_capacity pairs.old ≤ deque_capacity pairs.new }
+    ensures ok { OnOk result (deque_len pairs.new < deque_capacity pairs.new) }
+    ensures first { deque_capacity pairs.old ≡ 0 → OnOk result (deque_capacity pairs.new ≡ 1) }
+    ensures err { IfErr result (λ e. e ≡ Refusal.OutOfMemory) }
+{
     let grown = if pairs.capacity() == 0 {
         pairs.reserve_exact(1)
     } else {
