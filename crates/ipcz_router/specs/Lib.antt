@@ -3,6 +3,7 @@ pub mod ActTable
 pub mod Acts
 pub mod Bypass
 pub mod Calls
+pub mod Carrying
 pub mod Closing
 pub mod Numbers
 pub mod RoomyRouters
