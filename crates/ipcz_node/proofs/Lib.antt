@@ -1,4 +1,5 @@
 pub mod AtRouter
+pub mod Carrying
 pub mod Choosing
 pub mod Directories
 pub mod Finding

@@ -22,6 +22,7 @@ ghost use Rattle.ipcz_node.specs.Serials.{map_by, AreRising};
 mod bypass;
 mod calls;
 mod filing;
+mod passing;
 mod room;
 
 use self::filing::{follow, refile};

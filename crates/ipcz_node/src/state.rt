@@ -1,5 +1,6 @@
-ghost use Rattle.std.specs.Prelude.{◌≡◌, ◌-◌, Some, None, true, map, vec_len};
+ghost use Rattle.std.specs.Prelude.{◌≡◌, ◌≤◌, ◌-◌, Some, None, true, map, vec_len};
 ghost use Rattle.std.specs.Prelude.{vec_capacity, IfSome, IfNone, IsSomeAnd};
+ghost use Rattle.ipcz_base.specs.Limits.{no_number};
 ghost use Rattle.ipcz_router.specs.Router.{IsOpenTerminal, router_has};
 ghost use Rattle.ipcz_node.specs.Serials.{map_by, AreRising};
 ghost use Rattle.ipcz_node.specs.Node.{router_in, terminal_of, link_router, found, is_named};
@@ -9,6 +10,7 @@ mod bypass;
 mod calls;
 mod first_pairs;
 mod hands;
+mod passing;
 mod room;
 mod sends;
 mod turn;
@@ -156,5 +158,18 @@ impl NodeState {
             Some(_) => true,
             None => false,
         }
+    }
+    // The next serials are numbers of 64 bits. It does nothing, and is there for what a caller has to prove.
+    fn counts_serials(&self)
+        ensures routers { self.now.node.next_router ≤ no_number }
+        ensures links { self.now.node.next_peripheral ≤ no_number }
+    {
+        let _serials = (self.routers.next_serial(), self.next_link());
+    }
+    // The serial of the next peripheral link.
+    fn next_link(&self) -> u64
+        ensures { result ≡ self.now.node.next_peripheral }
+    {
+        self.next_peripheral
     }
 }

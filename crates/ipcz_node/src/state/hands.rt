@@ -1,5 +1,6 @@
 ghost use Rattle.std.specs.Prelude.{◌≡◌, ◌<◌, ◌≤◌, ◌+◌, ◌^◌, Some, is_some, true, false, length, if◌then◌else◌, IsOk, OnOk, IfOk, IfErr};
-ghost use Rattle.std.specs.Prelude.{IfSome, IfNone, IsSomeAnd};
+ghost use Rattle.std.specs.Prelude.{IfSome, IfNone, IsSomeAnd, IsTrue, ℕ, Option, []};
+ghost use Rattle.ipcz_base.specs.Items.{ends_in};
 ghost use Rattle.ipcz_base.specs.Limits.{no_number, has_serials};
 ghost use Rattle.ipcz_router.specs.Router.{Router as RouterRecord, outward_has, router_has};
 ghost use Rattle.ipcz_router.specs.Calls.{has_place_for};
@@ -147,6 +148,8 @@ impl NodeState {
         requires number { n < no_number }
         requires numbers { AreLow moves }
         requires serials { has_serials self.old.node.next_router (length moves) ≡ true }
+        ensures place { (r : RouterRecord) → router_in self.old.node serial ≡ Some r →
+            OnOk result (has_place_for r (outward_has r link side) n ≡ true) }
         ensures ok { (r : RouterRecord) → router_in self.old.node serial ≡ Some r →
             OnOk result (self.new.node ≡ take_in self.old.node sender link side n item moves serial r) }
         ensures err { IfErr result (λ m. (m ≡ Message.Item link side n item moves) × (self.new.node ≡ self.old.node)) }
@@ -442,8 +445,89 @@ impl NodeState {
             message_lacks_serials self.old.node from message source ≡ false → IsOk result }
         ensures err { IfErr result (λ e. (e.1 ≡ message) × (self.new.node ≡ self.old.node)) }
     {
+        match self.take_at_once(from, message) {
+            Ok(()) => Ok(()),
+            Err(message) => self.deliver_any(from, message, source),
+        }
+    }
+
+    // The same for each message.
+    fn deliver_any(
+        &mut self,
+        from: u8,
+        message: Message,
+        source: Option<u8>,
+    ) -> Result<(), (Refusal, Message)>
+        requires { from < self.old.node.count }
+        ensures ok { OnOk result (self.new.node ≡ deliver self.old.node from message source) }
+        ensures allowed { OnOk result (message_lacks_serials self.old.node from message source ≡ false) }
+        ensures why { IfErr result
+            (λ e. e.0 ≡ (if message_lacks_serials self.old.node from message source then Refusal.NumbersEnd else Refusal.OutOfMemory)) }
+        ensures grows { message_grows self.old.node from message source ≡ false → IsOk result }
+        ensures full { fits self.old.node from message source ≡ true → brings_item message ≡ false → HasRoomFor self.old message →
+            message_lacks_serials self.old.node from message source ≡ false → IsOk result }
+        ensures err { IfErr result (λ e. (e.1 ≡ message) × (self.new.node ≡ self.old.node)) }
+    {
         let fits = self.fits(from, &message, source);
         self.take_from_hand(from, message, source, fits)
+    }
+
+    // Gives an item without ends and moves to its router and empties the hand, where the item has its place there; hands each other
+    // message back.
+    #[tactic(auto, unfolding(crate::specs::Telling::brings_item))]
+    fn take_at_once(&mut self, from: u8, message: Message) -> Result<(), Message>
+        ensures ok { (source : Option ℕ) → OnOk result (self.new.node ≡ deliver self.old.node from message source) }
+        ensures allowed { (source : Option ℕ) → OnOk result (message_lacks_serials self.old.node from message source ≡ false) }
+        ensures err { IfErr result (λ m. (m ≡ message) × (self.new.node ≡ self.old.node)) }
+        ensures kept { brings_item message ≡ false → self.new ≡ self.old }
+    {
+        match message {
+            Message::Item {
+                link,
+                side,
+                n,
+                item,
+                moves,
+            } => self.take_alone(from, link, side, n, item, moves),
+            other => Err(other),
+        }
+    }
+
+    // The same of an item.
+    fn take_alone(
+        &mut self,
+        from: u8,
+        link: LinkId,
+        side: Side,
+        n: u64,
+        item: Item,
+        moves: Moves,
+    ) -> Result<(), Message>
+        ensures ok { (source : Option ℕ) →
+            OnOk result (self.new.node ≡ deliver self.old.node from (Message.Item link side n item moves) source) }
+        ensures allowed { (source : Option ℕ) →
+            OnOk result (message_lacks_serials self.old.node from (Message.Item link side n item moves) source ≡ false) }
+        ensures err { IfErr result (λ m. (m ≡ Message.Item link side n item moves) × (self.new.node ≡ self.old.node)) }
+    {
+        self.counts_serials();
+        if is_alone(n, &item, &moves) {
+            if let Some(serial) = self.link_serial(link, side) {
+                return match self.take_item(serial, from, link, side, n, item, moves) {
+                    Ok(()) => {
+                        self.free_hand(from);
+                        Ok(())
+                    }
+                    Err(message) => Err(message),
+                };
+            }
+        }
+        Err(Message::Item {
+            link,
+            side,
+            n,
+            item,
+            moves,
+        })
     }
 
     // Receives a message of which it is known whether it fits, and empties the hand.
@@ -491,4 +575,15 @@ fn serials_in(message: &Message) -> usize
         Message::Item { moves, .. } => moves.as_slice().len(),
         _ => 0,
     }
+}
+
+// Whether an item of a number comes without ends and moves.
+fn is_alone(n: u64, item: &Item, moves: &Moves) -> bool
+    ensures { IsTrue result → (n < no_number) × (moves.now ≡ []) × (ends_in item.now ≡ []) }
+{
+    let ends = match item {
+        Item::Parcel(parcel) => parcel.ends.len(),
+        Item::Mark => 0,
+    };
+    n < u64::MAX && moves.is_empty() && ends == 0
 }

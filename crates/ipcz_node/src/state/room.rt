@@ -87,7 +87,7 @@ impl NodeState {
     }
 
     // The outlook of an act of the router of the serial.
-    fn outlook(&self, serial: u64, act: RouterAct) -> Outlook
+    pub(super) fn outlook(&self, serial: u64, act: RouterAct) -> Outlook
         ensures { result ≡ outlook_at (router_in self.now.node serial) act }
     {
         match self.routers.router(serial) {
@@ -98,7 +98,7 @@ impl NodeState {
 
     // Makes room for what an act of the router of the serial gives.
     #[tactic(auto, using(crate::proofs::Preparing::serials_there, crate::proofs::Preparing::gives_nothing, crate::proofs::Preparing::ready_at, crate::proofs::Preparing::wants_at), unfolding(crate::specs::Acts::act_lacks_serials, crate::specs::Acts::act_grows))]
-    fn prepare_router(&mut self, serial: u64, act: RouterAct) -> Result<(), Refusal>
+    pub(super) fn prepare_router(&mut self, serial: u64, act: RouterAct) -> Result<(), Refusal>
         ensures node { self.new.node ≡ self.old.node }
         ensures kept { RoomIsKept self.old.room self.new.room }
         ensures ready { OnOk result (IsReadyFor self.new (Act.Router serial act)) }

@@ -1,0 +1,146 @@
+-- What a node sends and takes of an item that brings no end and no moves.
+use Rattle.std.proofs.Common.{◌≡◌, ◌≤◌, ◌||◌, ◌&&◌, ℕ, Bool, true, false, not, List, [], length, Option, Some, None, if◌then◌else◌, nat_eq, nat_le, ap, sym}
+use Rattle.std.proofs.Common.{refl, ◌∙◌, ◌∷◌, ◌+◌, arith}
+use Rattle.std.proofs.lemmas.Bool.Decides.{nat_tests}
+use Rattle.ipcz_base.specs.declared.end.End.{End}
+use Rattle.ipcz_base.specs.declared.message.Message.{Message}
+use Rattle.ipcz_base.specs.declared.message.Message.TheVariants as messages
+use Rattle.ipcz_base.specs.declared.descriptor.Descriptor.{Descriptor}
+use Rattle.ipcz_base.specs.declared.item.Item.{Item}
+use Rattle.ipcz_base.specs.declared.link_id.LinkId.{LinkId}
+use Rattle.ipcz_base.specs.declared.side.Side.{Side}
+use Rattle.ipcz_base.specs.Items.{ends_in}
+use Rattle.ipcz_base.specs.Limits.{no_number, has_serials}
+use Rattle.ipcz_router.specs.Router.{Router, outward_has}
+use Rattle.ipcz_router.specs.Calls.{has_place_for}
+use Rattle.ipcz_router.specs.ActTable.{is_possible, is_rest, may_take}
+use Rattle.ipcz_router.specs.ActEffects.{apply, output_of}
+use Rattle.ipcz_router.specs.Carrying.{carried_by}
+use Rattle.ipcz_router.specs.Outlooks.{outlook_of}
+use Rattle.ipcz_router.specs.declared.act.RouterAct.TheVariants as acts
+use Rattle.ipcz_router.specs.declared.act.Answer.TheVariants.{Plain}
+use Rattle.ipcz_router.specs.declared.act.Applied.{Applied}
+use Rattle.ipcz_router.specs.declared.act.Applied.TheVariants as outputs
+use Rattle.ipcz_router.specs.declared.outlook.Outlook.{Outlook}
+use Rattle.ipcz_router.specs.declared.outlook.Outlook.TheVariants as outlooks
+use Rattle.ipcz_node.specs.declared.act.Act.TheVariants.{Router as OfRouter}
+use Rattle.ipcz_node.specs.Node.{Node, router_in, with_router, on_router, on_found, push_out, add_stray, found, link_router}
+use Rattle.ipcz_node.specs.Hands.{deliver, fit_moves, fits, fits_from, fits_item, free_hand, handle, message_lacks_serials, serials_in, take_in}
+use Rattle.ipcz_node.specs.Acts.{act_lacks_serials, commit, commit_router, keep_or_drop, serials_at}
+use Rattle.ipcz_node.specs.Preparing.{outlook_at, serials_as}
+use Rattle.ipcz_node.specs.Sends.{send, serials_for, send_item, post_item, item_message, move_ends}
+use Rattle.ipcz_node.proofs.Preparing.{serials_there}
+
+-- a send is taken where it is possible
+pub may_send : (r : Router) → may_take r acts.SendOut ≡ true → is_possible r acts.SendOut ≡ true
+unfolding is_rest
+may_send r h = go (is_possible r acts.SendOut) h
+  where
+    go : (c : Bool) → (c || false) ≡ true → c ≡ true
+    go true e = refl
+    go false e = e
+
+no_ends : (es : List End) → length es ≡ 0 → es ≡ []
+no_ends [] h = refl
+no_ends (e ∷ es) h = absurd (omega (arith, h))
+
+none_move : (b : Bool) (es : List End) → es ≡ [] → (if b then [] else es) ≡ []
+none_move true es h = refl
+none_move false es h = h
+
+-- such an item goes into the outbox, and nothing else changes
+sent_alone : (n : Node) (a : Applied) (to : ℕ) (m : Message) → outlook_of a ≡ outlooks.Item to 0 → Some m ≡ carried_by a →
+    send n a ≡ push_out n to m
+unfolding send send_item carried_by
+sent_alone n outputs.Nothing to m out is = cc
+sent_alone n (outputs.Message i k) to m out is = cc
+sent_alone n (outputs.Discarded number item) to m out is = cc
+sent_alone n (outputs.Sent link number item) to m out is =
+    let none : length (ends_in item) ≡ 0 = cc in
+    let other : link.other ≡ to = cc in
+    let same : m ≡ item_message link number item [] = cc in
+    ap (λ es. post_item (move_ends (record { node = n; moves = [] }) link.other es) link number item)
+    (none_move (nat_eq link.other n.number) (ends_in item) (no_ends (ends_in item) none))
+    ∙ ap (λ i. push_out n i (item_message link number item [])) other ∙ ap (push_out n to) (sym same)
+
+-- that is what the act does with the node
+pub committed_alone : (n : Node) (serial : ℕ) (r : Router) (to : ℕ) (m : Message) → router_in n serial ≡ Some r →
+    outlook_at (router_in n serial) acts.SendOut ≡ outlooks.Item to 0 → Some m ≡ carried_by (output_of r acts.SendOut) →
+    push_out (with_router n serial (apply r acts.SendOut Plain)) to m ≡ commit n (OfRouter serial acts.SendOut) Plain
+unfolding commit commit_router keep_or_drop on_router
+committed_alone n serial r to m here out is =
+    sym (ap (λ o. on_router n o (commit_router n serial acts.SendOut Plain)) here
+    ∙ sent_alone (with_router n serial (apply r acts.SendOut Plain)) (output_of r acts.SendOut) to m
+    (sym (ap (λ o. outlook_at o acts.SendOut) here) ∙ out) is)
+
+zero_of : (b : Bool) → ◌≡◌ {A = ℕ} (if b then 0 else 0) 0
+zero_of true = refl
+zero_of false = refl
+
+-- serials are left for nothing
+pub enough : (k : ℕ) → k ≤ no_number → has_serials k 0 ≡ true
+enough k h = grind (arith, nat_tests)
+
+-- and it takes no serials
+pub lacks_none : (n : Node) (serial to : ℕ) → n.next_peripheral ≤ no_number →
+    outlook_at (router_in n serial) acts.SendOut ≡ outlooks.Item to 0 → act_lacks_serials n (OfRouter serial acts.SendOut) ≡ false
+unfolding act_lacks_serials
+lacks_none n serial to h out =
+    ap (λ k. not (has_serials n.next_peripheral k))
+    (sym (serials_there n (router_in n serial) acts.SendOut) ∙ ap (serials_as n) out ∙ zero_of (nat_eq to n.number))
+    ∙ ap not (enough n.next_peripheral h)
+
+nothing_for : (n : Node) (o : Option Router) → serials_at n o acts.Rest ≡ 0
+unfolding serials_at serials_for output_of
+nothing_for n None = refl
+nothing_for n (Some r) = refl
+
+-- nor does a rest
+pub rests_without : (n : Node) (serial : ℕ) → n.next_peripheral ≤ no_number → act_lacks_serials n (OfRouter serial acts.Rest) ≡ false
+unfolding act_lacks_serials
+rests_without n serial h = ap (λ k. not (has_serials n.next_peripheral k)) (nothing_for n (router_in n serial))
+    ∙ ap not (enough n.next_peripheral h)
+
+and_false : (b : Bool) → (b && false) ≡ false
+and_false true = refl
+and_false false = refl
+
+-- an item that comes without ends and moves fits where it has its place
+fits_alone : (n : Node) (sender : ℕ) (item : Item) (moves : List Descriptor) → ends_in item ≡ [] → moves ≡ [] →
+    fits_from n sender item moves ≡ true
+fits_alone n sender item moves ends none = go (nat_eq sender n.number)
+  where
+    go : (b : Bool) → (if b then nat_eq (length moves) 0 else fit_moves n (ends_in item) moves) ≡ true
+    go true = ap (λ ds. nat_eq (length ds) 0) none
+    go false = ap (λ es. fit_moves n es moves) ends ∙ ap (fit_moves n []) none
+
+placed_alone : (n : Node) (sender : ℕ) (link : LinkId) (side : Side) (number : ℕ) (item : Item) (moves : List Descriptor)
+    (source : Option ℕ) (s : ℕ) (r : Router) → link_router n link side ≡ Some (found s r) →
+    has_place_for r (outward_has r link side) number ≡ true → ends_in item ≡ [] → moves ≡ [] →
+    fits n sender (messages.Item link side number item moves) source ≡ true
+unfolding fits fits_item
+placed_alone n sender link side number item moves source s r here place ends none =
+    ap (fits_item n sender link side number item moves) here ∙ ap (λ b. b && fits_from n sender item moves) place
+    ∙ fits_alone n sender item moves ends none
+
+-- its router takes it
+pub taken_alone : (n : Node) (sender : ℕ) (link : LinkId) (side : Side) (number : ℕ) (item : Item) (moves : List Descriptor)
+    (source : Option ℕ) (s : ℕ) (r : Router) → link_router n link side ≡ Some (found s r) →
+    has_place_for r (outward_has r link side) number ≡ true → ends_in item ≡ [] → moves ≡ [] →
+    free_hand (take_in n sender link side number item moves s r) sender ≡ deliver n sender (messages.Item link side number item moves) source
+unfolding deliver handle on_found
+taken_alone n sender link side number item moves source s r here place ends none =
+    let m : Message = messages.Item link side number item moves in
+    sym (ap (λ b. free_hand (if b then handle n sender m else add_stray n m) sender)
+    (placed_alone n sender link side number item moves source s r here place ends none)
+    ∙ ap (λ o. free_hand (on_found n o (take_in n sender link side number item moves)) sender) here)
+
+-- and takes no serials for it
+pub takes_none : (n : Node) (sender : ℕ) (link : LinkId) (side : Side) (number : ℕ) (item : Item) (moves : List Descriptor)
+    (source : Option ℕ) → n.next_router ≤ no_number → moves ≡ [] →
+    message_lacks_serials n sender (messages.Item link side number item moves) source ≡ false
+unfolding serials_in
+takes_none n sender link side number item moves source h none =
+    ap (λ ds. fits n sender (messages.Item link side number item moves) source && not (has_serials n.next_router (length ds))) none
+    ∙ ap (λ b. fits n sender (messages.Item link side number item moves) source && b) (ap not (enough n.next_router h))
+    ∙ and_false (fits n sender (messages.Item link side number item moves) source)
