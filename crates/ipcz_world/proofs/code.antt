@@ -13,3 +13,4 @@ pub mod Taken
 pub mod Tallying
 pub mod Visiting
 pub mod WordNumbers
+pub mod Wordless

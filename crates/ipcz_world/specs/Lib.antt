@@ -37,3 +37,4 @@ pub mod Whereabouts
 pub mod WordAnswers
 pub mod World
 pub mod WorldLaws
+pub mod Wordless

@@ -8,6 +8,7 @@ ghost use Rattle.ipcz_world.specs.Settling.{TakesTurn};
 ghost use Rattle.ipcz_world.specs.Turns.{is_clear, seen_at, next_at, can_take, turn_event};
 ghost use Rattle.ipcz_world.specs.Steps.{StepFirst};
 ghost use Rattle.ipcz_world.specs.WordAnswers.{source_for};
+ghost use Rattle.ipcz_world.specs.Wordless.{is_wordless};
 ghost use Rattle.ipcz_world.specs.Taking.{IsRegular, IsTaken, IsCommitted};
 
 use crate::mail::Mail;
@@ -331,6 +332,38 @@ impl State {
             (IsTaken self.old n (Act.Router serial act) (Ok (turn_event self.old n (Act.Router serial act))) self.new) }
         ensures refused { IfErr result (λ why. IsTaken self.old n (Act.Router serial act) (Err why) self.new) }
     {
+        if is_wordless(act) {
+            self.take_plain_act(n, serial, act)
+        } else {
+            self.take_word_act_unseen(n, serial, act)
+        }
+    }
+
+    // The same of an act that touches no word.
+    fn take_plain_act(&mut self, n: u8, serial: u64, act: RouterAct) -> Result<(), Refusal>
+        requires regular { IsRegular self.old }
+        requires node { n < self.old.count }
+        requires possible { can_take self.old n (Act.Router serial act) ≡ true }
+        requires wordless { is_wordless act ≡ true }
+        ensures taken { OnOk result
+            (IsTaken self.old n (Act.Router serial act) (Ok (turn_event self.old n (Act.Router serial act))) self.new) }
+        ensures refused { IfErr result (λ why. IsTaken self.old n (Act.Router serial act) (Err why) self.new) }
+    {
+        if let Err(why) = self.nodes.node_mut(n).act_plainly(serial, act) {
+            return Err(why);
+        }
+        Ok(())
+    }
+
+    // The same of each act, with what the link words answer to it.
+    fn take_word_act_unseen(&mut self, n: u8, serial: u64, act: RouterAct) -> Result<(), Refusal>
+        requires regular { IsRegular self.old }
+        requires node { n < self.old.count }
+        requires possible { can_take self.old n (Act.Router serial act) ≡ true }
+        ensures taken { OnOk result
+            (IsTaken self.old n (Act.Router serial act) (Ok (turn_event self.old n (Act.Router serial act))) self.new) }
+        ensures refused { IfErr result (λ why. IsTaken self.old n (Act.Router serial act) (Err why) self.new) }
+    {
         let node = self.nodes.node_mut(n);
         if let Err(why) = node.prepare(&Act::Router(serial, act)) {
             return Err(why);
@@ -340,6 +373,28 @@ impl State {
             .answer(node.source_of(serial), act, node.word_of(serial));
         node.commit_unseen(serial, act, answer);
         Ok(())
+    }
+}
+
+// Whether an act touches no link word.
+#[tactic(auto, unfolding(crate::specs::Wordless::is_wordless))]
+fn is_wordless(act: RouterAct) -> bool
+    ensures { result ≡ is_wordless act }
+{
+    match act {
+        RouterAct::Mark
+        | RouterAct::Wake
+        | RouterAct::Claim
+        | RouterAct::Lock
+        | RouterAct::Unlock => false,
+        RouterAct::SendOut
+        | RouterAct::SendIn
+        | RouterAct::Discard
+        | RouterAct::FinishOut
+        | RouterAct::FinishIn
+        | RouterAct::Leave
+        | RouterAct::Begin
+        | RouterAct::Rest => true,
     }
 }
 

@@ -9,7 +9,7 @@ use Rattle.ipcz_word.specs.Laws.{HasNode}
 use Rattle.ipcz_world.proofs.Vocabulary.{node_at}
 use Rattle.ipcz_world.specs.Coding.{table_answer, table_after}
 use Rattle.ipcz_world.proofs.code.Taken.{asked, link-within, source-is-node, router-may, answer-kind, done-router, refused-router, unseen}
-use Rattle.ipcz_world.proofs.state.State.take_router_act_unseen.Goals as goal
+use Rattle.ipcz_world.proofs.state.State.take_word_act_unseen.Goals as goal
 
 pub returns-in-Err-clause-refused : goal.returns-in-Err-clause-refused
 unfolding node_at

@@ -1,0 +1,110 @@
+-- What an act that touches no link word makes of the world: its node's part alone.
+use Rattle.std.specs.Prelude.{◌≡◌, ◌<◌, ℕ, true, false, Option, Some, None, Ok}
+use Rattle.std.proofs.Common.{ap, sym, refl, true≢false, ◌∙◌}
+use Rattle.ipcz_world.proofs.Vocabulary.{put_place, Side, Word, Router, primary_word, RouterAct}
+use Rattle.ipcz_world.proofs.Vocabulary.{Node, bare_node, commit, World, node_at, router_at, set_node, after_act, can_take, answer_of}
+use Rattle.ipcz_router.specs.Router.{source_of}
+use Rattle.ipcz_router.specs.ActEffects.{IsAnswerOf}
+use Rattle.ipcz_router.specs.declared.act.RouterAct.TheVariants as acts
+use Rattle.ipcz_router.specs.declared.act.Answer.TheVariants.{Plain}
+use Rattle.ipcz_node.specs.declared.act.Act.TheVariants.{Router as OfRouter}
+use Rattle.ipcz_node.specs.Acts.{act_lacks_serials}
+use Rattle.ipcz_world.specs.Turns.{after_router_act, turn_event, turn_lacks_serials}
+use Rattle.ipcz_world.specs.WordAnswers.{word_answer, link_answer, touch}
+use Rattle.ipcz_world.specs.Wordless.{is_wordless}
+use Rattle.ipcz_world.specs.Taking.{IsRegular, IsTaken}
+use Rattle.ipcz_world.proofs.code.Taken.{router-stands, with_node}
+
+-- a word answers nothing to it
+plain-word : (x : Word) (s : Side) (source : Option ℕ) (act : RouterAct) → is_wordless act ≡ true → word_answer x s source act ≡ Plain
+unfolding word_answer is_wordless
+plain-word x s source acts.SendOut h = refl
+plain-word x s source acts.SendIn h = refl
+plain-word x s source acts.Discard h = refl
+plain-word x s source acts.FinishOut h = refl
+plain-word x s source acts.FinishIn h = refl
+plain-word x s source acts.Leave h = refl
+plain-word x s source acts.Mark h = absurd (true≢false (sym h))
+plain-word x s source acts.Wake h = absurd (true≢false (sym h))
+plain-word x s source acts.Claim h = absurd (true≢false (sym h))
+plain-word x s source acts.Lock h = absurd (true≢false (sym h))
+plain-word x s source acts.Begin h = refl
+plain-word x s source acts.Unlock h = absurd (true≢false (sym h))
+plain-word x s source acts.Rest h = refl
+
+plain-link : (w : World) (s : Side) (source : Option ℕ) (act : RouterAct) (p : Option ℕ) → is_wordless act ≡ true →
+    link_answer w s source act p ≡ Plain
+unfolding link_answer
+plain-link w s source act None h = refl
+plain-link w s source act (Some i) h = plain-word _ s source act h
+
+plain-answer : (w : World) (r : Router) (act : RouterAct) → is_wordless act ≡ true → answer_of w r act ≡ Plain
+unfolding answer_of is_wordless
+plain-answer w r acts.SendOut h = plain-link w r.end.side (source_of r) acts.SendOut (primary_word r) h
+plain-answer w r acts.SendIn h = plain-link w r.end.side (source_of r) acts.SendIn (primary_word r) h
+plain-answer w r acts.Discard h = plain-link w r.end.side (source_of r) acts.Discard (primary_word r) h
+plain-answer w r acts.FinishOut h = plain-link w r.end.side (source_of r) acts.FinishOut (primary_word r) h
+plain-answer w r acts.FinishIn h = plain-link w r.end.side (source_of r) acts.FinishIn (primary_word r) h
+plain-answer w r acts.Leave h = plain-link w r.end.side (source_of r) acts.Leave (primary_word r) h
+plain-answer w r acts.Mark h = absurd (true≢false (sym h))
+plain-answer w r acts.Wake h = absurd (true≢false (sym h))
+plain-answer w r acts.Claim h = absurd (true≢false (sym h))
+plain-answer w r acts.Lock h = absurd (true≢false (sym h))
+plain-answer w r acts.Begin h = plain-link w r.end.side (source_of r) acts.Begin (primary_word r) h
+plain-answer w r acts.Unlock h = absurd (true≢false (sym h))
+plain-answer w r acts.Rest h = plain-link w r.end.side (source_of r) acts.Rest (primary_word r) h
+
+-- no word is changed
+untouched : (w : World) (r : Router) (act : RouterAct) → is_wordless act ≡ true → w ≡ touch w r act
+unfolding touch is_wordless
+untouched w r acts.SendOut h = refl
+untouched w r acts.SendIn h = refl
+untouched w r acts.Discard h = refl
+untouched w r acts.FinishOut h = refl
+untouched w r acts.FinishIn h = refl
+untouched w r acts.Leave h = refl
+untouched w r acts.Mark h = absurd (true≢false (sym h))
+untouched w r acts.Wake h = absurd (true≢false (sym h))
+untouched w r acts.Claim h = absurd (true≢false (sym h))
+untouched w r acts.Lock h = absurd (true≢false (sym h))
+untouched w r acts.Begin h = refl
+untouched w r acts.Unlock h = absurd (true≢false (sym h))
+untouched w r acts.Rest h = refl
+
+-- such an act may be told that it touches no word
+pub may_be_told : (act : RouterAct) → is_wordless act ≡ true → IsAnswerOf act Plain
+unfolding is_wordless
+may_be_told acts.SendOut h = tt
+may_be_told acts.SendIn h = tt
+may_be_told acts.Discard h = tt
+may_be_told acts.FinishOut h = tt
+may_be_told acts.FinishIn h = tt
+may_be_told acts.Leave h = tt
+may_be_told acts.Mark h = absurd (true≢false (sym h))
+may_be_told acts.Wake h = absurd (true≢false (sym h))
+may_be_told acts.Claim h = absurd (true≢false (sym h))
+may_be_told acts.Lock h = absurd (true≢false (sym h))
+may_be_told acts.Begin h = tt
+may_be_told acts.Unlock h = absurd (true≢false (sym h))
+may_be_told acts.Rest h = tt
+
+-- it changes its node alone
+pub done-plain : (w : World) (n serial : ℕ) (act : RouterAct) → IsRegular w → n < w.count → can_take w n (OfRouter serial act) ≡ true →
+    is_wordless act ≡ true → (old x : Node) → old ≡ node_at w n → x ≡ commit old (OfRouter serial act) Plain →
+    act_lacks_serials old (OfRouter serial act) ≡ false →
+    IsTaken w n (OfRouter serial act) (Ok (turn_event w n (OfRouter serial act))) (with_node w n x)
+unfolding after_act turn_lacks_serials after_router_act router_at set_node
+done-plain w n serial act is l h plain old x e is-x low =
+    let s = router-stands w n serial act is l h in
+    let made : x ≡ commit (node_at w n) (OfRouter serial act) (answer_of w s.0 act) =
+    is-x ∙ ap (λ y. commit y (OfRouter serial act) Plain) e ∙ ap (commit (node_at w n) (OfRouter serial act)) (sym (plain-answer w s.0 act plain))
+    in
+    let words : w ≡ touch w s.0 act = untouched w s.0 act plain in
+    record {
+      event = refl;
+      done = rw s.1 (λ j. record (words j) { nodes = put_place (bare_node 0 0) (words j).nodes n (made j) });
+      allowed = sym (ap (λ y. act_lacks_serials y (OfRouter serial act)) e) ∙ low;
+      why = tt;
+      grows = λ g k. refl;
+      left = tt;
+    }
