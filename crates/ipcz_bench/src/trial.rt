@@ -83,10 +83,7 @@ pub fn settle(world: &mut World) -> Result<u64, Fault> {
 
 /// Takes a parcel.
 pub fn get(world: &mut World, at: Portal) -> Result<(), Fault> {
-    match world.step(&Step::Get {
-        node: at.node,
-        at: at.end,
-    }) {
+    match world.get(at.node, at.end) {
         Reply::Got(_, _) => Ok(()),
         Reply::Refused(why) => Err(Fault::Refused(why)),
         _ => Err(Fault::Refused(Refusal::Stranger)),

@@ -132,6 +132,17 @@ impl World {
         self.state.put_given(node, at, bytes, ends)
     }
 
+    /// Gets the next parcel at an end, as the step `Get` does.
+    pub fn get(&mut self, node: u8, at: End) -> Reply
+        ensures step { StepFirst self.old (Step.Get node at) result self.new }
+        ensures lawful { (b : Books) → (g : Routes) → Lawful self.old b g →
+            Lawful self.new (advance self.old b (Step.Get node at) result) (routes_after self.old g (Step.Get node at) result) }
+        ensures plain { (b : Books) → (g : Routes) → Lawful self.old b g →
+            Plain b (Step.Get node at) result (advance self.old b (Step.Get node at) result) }
+    {
+        self.state.get_given(node, at)
+    }
+
     /// Takes each of these steps, in their order, and gives their replies. Refused `OutOfMemory` where there is no room for the replies:
     /// then no step is taken. A step that is refused is a reply like any other, and the steps after it are taken.
     pub fn run(&mut self, alloc: Global, steps: &[Step]) -> Result<Vec<Reply>, Refusal>

@@ -109,6 +109,17 @@ impl State {
         }
     }
 
+    /// Gets the next parcel at an end; one for a node that isn't there is refused.
+    pub(crate) fn get_given(&mut self, n: u8, at: End) -> Reply
+        requires { IsRegular self.old }
+        ensures { StepFirst self.old (Step.Get n at) result self.new }
+    {
+        if n >= self.count {
+            return Reply::Refused(Refusal::Stranger);
+        }
+        self.get(n, at)
+    }
+
     /// Closes an end.
     pub(crate) fn close(&mut self, n: u8, at: End) -> Reply
         requires regular { IsRegular self.old }

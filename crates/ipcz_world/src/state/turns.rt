@@ -271,7 +271,10 @@ impl State {
         let Some(other) = stand_in(act) else {
             return Err(why);
         };
-        self.take_unseen(n, other)
+        match self.take(n, other) {
+            Ok(_) => Ok(()),
+            Err(why) => Err(why),
+        }
     }
 
     // Takes an act as `take` does, but doesn't tell what happened.
