@@ -1,6 +1,6 @@
 -- What a node sends and takes of an item that brings no end and no moves.
-use Rattle.std.proofs.Common.{◌≡◌, ◌≤◌, ◌||◌, ◌&&◌, ℕ, Bool, true, false, not, List, [], length, Option, Some, None, if◌then◌else◌, nat_eq, nat_le, ap, sym}
-use Rattle.std.proofs.Common.{refl, ◌∙◌, ◌∷◌, ◌+◌, arith}
+use Rattle.std.proofs.Common.{◌≡◌, ◌≤◌, ◌||◌, ◌&&◌, ℕ, Bool, true, false, not, List, [], length, Option, Some, None, if◌then◌else◌, nat_eq, ap, sym}
+use Rattle.std.proofs.Common.{refl, ◌∙◌, ◌∷◌, arith}
 use Rattle.std.proofs.lemmas.Bool.Decides.{nat_tests}
 use Rattle.ipcz_base.specs.declared.end.End.{End}
 use Rattle.ipcz_base.specs.declared.message.Message.{Message}
@@ -21,7 +21,6 @@ use Rattle.ipcz_router.specs.declared.act.RouterAct.TheVariants as acts
 use Rattle.ipcz_router.specs.declared.act.Answer.TheVariants.{Plain}
 use Rattle.ipcz_router.specs.declared.act.Applied.{Applied}
 use Rattle.ipcz_router.specs.declared.act.Applied.TheVariants as outputs
-use Rattle.ipcz_router.specs.declared.outlook.Outlook.{Outlook}
 use Rattle.ipcz_router.specs.declared.outlook.Outlook.TheVariants as outlooks
 use Rattle.ipcz_node.specs.declared.act.Act.TheVariants.{Router as OfRouter}
 use Rattle.ipcz_node.specs.Node.{Node, router_in, with_router, on_router, on_found, push_out, add_stray, found, link_router}

@@ -10,8 +10,8 @@ ghost use Rattle.ipcz_router.specs.Calls.{next_number};
 
 mod bypass;
 mod calls;
-mod passing;
 mod outlook;
+mod passing;
 mod turns;
 
 use crate::filing::Filing;

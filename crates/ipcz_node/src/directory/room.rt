@@ -1,4 +1,4 @@
-ghost use Rattle.std.specs.Prelude.{◌≡◌, ◌+◌, ◌<◌, ◌≤◌, ◌^◌, ◌||◌};
+ghost use Rattle.std.specs.Prelude.{◌≡◌, ◌+◌, ◌<◌, ◌≤◌, ◌||◌};
 ghost use Rattle.ipcz_base.specs.Links.{has_link};
 ghost use Rattle.ipcz_node.specs.Directories.{takes_inside, ends_given, ends_taken};
 ghost use Rattle.std.specs.Prelude.{length, IfSome, IfNone};

@@ -271,10 +271,10 @@ impl State {
         let Some(other) = stand_in(act) else {
             return Err(why);
         };
-        match self.take(n, other) {
-            Ok(_) => Ok(()),
-            Err(why) => Err(why),
+        if let Err(why) = self.take(n, other) {
+            return Err(why);
         }
+        Ok(())
     }
 
     // Takes an act as `take` does, but doesn't tell what happened.

@@ -15,11 +15,11 @@ returns-in_default-stand_in-clause-refused c =
     step-refused c.args.self.now c.args.n c.args.act c.requires.node c.args.self.now c.args.why (inl c.requires.first)
     (inl c.in_default-stand_in.ensures.none) c.requires.refused
 
-pub returns-in-Ok-clause-turned : goal.returns-in-Ok-clause-turned
-returns-in-Ok-clause-turned c = (
+pub returns-clause-turned : goal.returns-clause-turned
+returns-clause-turned c = (
   _,
   step-taken c.args.self.now c.args.n c.in-Some.other c.requires.node _ _ (inr (c.in-Some.ensures.other ∙ ap stand_in c.requires.first))
-      c.in-Ok.ensures,
+      c.in_default-take.ensures,
 )
 
 pub returns-in-Err-clause-refused : goal.returns-in-Err-clause-refused

@@ -1,4 +1,4 @@
-use Rattle.std.proofs.Common.{subst, sym, ◌∙◌}
+use Rattle.std.proofs.Common.{subst, sym}
 use Rattle.ipcz_node.specs.declared.act.Act.TheVariants.{Router}
 use Rattle.ipcz_node.specs.RoomyNodes.{IsPossibleAct}
 use Rattle.ipcz_world.proofs.Vocabulary.{node_at}
