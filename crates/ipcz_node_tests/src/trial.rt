@@ -17,7 +17,7 @@ mod two_nodes;
 
 use self::deeds::Deed;
 use self::letters::{Letter, listed};
-use ipcz_base::{End, LinkId, Message, Refusal, Sequence, Side};
+use ipcz_base::{End, LinkId, Message, Parcel, Refusal, Sequence, Side};
 use ipcz_node::{Act, Happened, MailSeen, NodeState};
 use std::alloc::Global;
 
@@ -117,6 +117,40 @@ struct Trial {
     posted: Option<Message>,
 }
 
+// The number of what was got.
+fn number_of(got: Result<(u64, Parcel), Refusal>) -> Result<u64, Refusal> {
+    match got {
+        Ok((number, _)) => Ok(number),
+        Err(why) => Err(why),
+    }
+}
+
+// Whether this was got.
+fn is_got(got: Result<(u64, Parcel), Refusal>, number: u64, bytes: &[u8], ends: &[End]) -> bool {
+    match got {
+        Ok((n, parcel)) => {
+            n == number && parcel.bytes.as_slice() == bytes && parcel.ends.as_slice() == ends
+        }
+        Err(_) => false,
+    }
+}
+
+// Whether a message fitted, where it was delivered.
+fn fitted(answer: Result<Happened, (Refusal, Message)>) -> Option<bool> {
+    match answer {
+        Ok(Happened::Hand { unfit, .. }) => Some(!unfit),
+        _ => None,
+    }
+}
+
+// Why a message was refused, where it was handed back.
+fn handed_back(answer: Result<Happened, (Refusal, Message)>, letter: &Letter) -> Option<Refusal> {
+    match answer {
+        Err((why, back)) => { if letter.is(&back) { Some(why) } else { None } }
+        Ok(_) => None,
+    }
+}
+
 impl Trial {
     // The node of a number among so many.
     fn new(alloc: Global, number: u8, count: u8) -> Option<Trial> {
@@ -174,20 +208,12 @@ impl Trial {
 
     // Takes the next parcel of an end; its number.
     fn get(&mut self, at: End) -> Result<u64, Refusal> {
-        match self.node.get(at) {
-            Ok((number, _)) => Ok(number),
-            Err(why) => Err(why),
-        }
+        number_of(self.node.get(at))
     }
 
     // Takes the next parcel of an end; whether it is this one.
     fn gets(&mut self, at: End, number: u64, bytes: &[u8], ends: &[End]) -> bool {
-        match self.node.get(at) {
-            Ok((n, parcel)) => {
-                n == number && parcel.bytes.as_slice() == bytes && parcel.ends.as_slice() == ends
-            }
-            Err(_) => false,
-        }
+        is_got(self.node.get(at), number, bytes, ends)
     }
 
     // Delivers a message where the word of an old link names this source; whether it fitted, where it
@@ -196,10 +222,7 @@ impl Trial {
         if from >= self.node.count() {
             return None;
         }
-        match self.node.deliver(from, message, source) {
-            Ok(Happened::Hand { unfit, .. }) => Some(!unfit),
-            _ => None,
-        }
+        fitted(self.node.deliver(from, message, source))
     }
 
     // Delivers a message that is made; whether it fitted.
@@ -258,10 +281,7 @@ impl Trial {
         if from >= self.node.count() {
             return None;
         }
-        match self.node.deliver(from, message, Some(from)) {
-            Err((why, back)) => { if letter.is(&back) { Some(why) } else { None } }
-            Ok(_) => None,
-        }
+        handed_back(self.node.deliver(from, message, Some(from)), letter)
     }
 
     // Whether a call gives what its step says.
