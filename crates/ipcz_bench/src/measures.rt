@@ -1,5 +1,6 @@
 //! What each measure does, and how long it takes.
 use crate::fault::Fault;
+use crate::limits::looseness_at;
 use crate::trial::{Portal, first_pair, get_all, open, open_all, pass, put, put_all, settle};
 use ipcz_world::World;
 use std::fs;
@@ -30,6 +31,12 @@ pub fn measure(rt: &HostRuntime, name: &str, rounds: u64) -> Result<u64, Fault> 
         "moves" => moves(rt, rounds),
         "fresh_pairs" => bytes_of_pairs(rt, 0),
         "used_pairs" => bytes_of_pairs(rt, 1),
+        "limit_least" => looseness_at(rt.alloc(), rounds, false, 0),
+        "limit_median" => looseness_at(rt.alloc(), rounds, false, 50),
+        "limit_worst" => looseness_at(rt.alloc(), rounds, false, 100),
+        "moved_least" => looseness_at(rt.alloc(), rounds, true, 0),
+        "moved_median" => looseness_at(rt.alloc(), rounds, true, 50),
+        "moved_worst" => looseness_at(rt.alloc(), rounds, true, 100),
         _ => Err(Fault::Usage),
     }
 }
