@@ -1,5 +1,5 @@
 //! Whether a node has nothing to do, as its cell finds it.
-ghost use Rattle.std.specs.Prelude.{◌≡◌, ◌==◌, ◌||◌, ◌<◌, ◌≤◌};
+ghost use Rattle.std.specs.Prelude.{◌≡◌, ◌==◌, ◌||◌, ◌≤◌};
 ghost use Rattle.ipcz_node.specs.Acts.{is_quiet};
 ghost use Rattle.ipcz_fabric.specs.Opens.{FindsFree, FindsQuiet};
 

@@ -1,4 +1,4 @@
-use Rattle.std.proofs.Common.{◌≡◌, ◌≤◌, ◌+◌, drop}
+use Rattle.std.proofs.Common.{◌≡◌, ◌≤◌, drop}
 use Rattle.ipcz_node.specs.Node.{without_ends}
 use Rattle.ipcz_node.proofs.held_ends.HeldEnds.remove_all.Given as goal
 

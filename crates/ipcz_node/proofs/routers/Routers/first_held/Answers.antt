@@ -1,5 +1,4 @@
-use Rattle.std.proofs.Common.{◌≡◌, ◌-◌, ℕ, List, length, take, drop, refl, sym, subst, arith}
-use Rattle.std.proofs.lemmas.List.{take_all, length-drop}
+use Rattle.std.proofs.Common.{sym, subst}
 use Rattle.ipcz_node.specs.Finding.{IsNext, is_terminal_in}
 use Rattle.ipcz_node.specs.Serials.{entries_by, AreRising}
 use Rattle.std.specs.FinMap.{get, find}
