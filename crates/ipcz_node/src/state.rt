@@ -159,6 +159,7 @@ impl NodeState {
             None => false,
         }
     }
+
     // The next serials are numbers of 64 bits. It does nothing, and is there for what a caller has to prove.
     fn counts_serials(&self)
         ensures routers { self.now.node.next_router ≤ no_number }
@@ -166,6 +167,7 @@ impl NodeState {
     {
         let _serials = (self.routers.next_serial(), self.next_link());
     }
+
     // The serial of the next peripheral link.
     fn next_link(&self) -> u64
         ensures { result ≡ self.now.node.next_peripheral }
