@@ -219,8 +219,11 @@ impl<F: FabricName> Subject for Cells<F> {
     }
 }
 
-// Names a table, a second time where no memory was found.
-fn name<F: FabricName>(blank: Blank, met: &mut Met) -> Result<(Fabric<F>, Vec<NodeCell<F>>), Wrong>
+/// Names a table, a second time where no memory was found.
+pub fn name<F: FabricName>(
+    blank: Blank,
+    met: &mut Met,
+) -> Result<(Fabric<F>, Vec<NodeCell<F>>), Wrong>
     requires { blank ≡ F.table }
 {
     match blank.name::<F>() {
@@ -235,8 +238,8 @@ fn name<F: FabricName>(blank: Blank, met: &mut Met) -> Result<(Fabric<F>, Vec<No
     }
 }
 
-// Turns cells into a world, a second time where no memory was found.
-fn finish_again<F: FabricName>(
+/// Turns cells into a world, a second time where no memory was found.
+pub fn finish_again<F: FabricName>(
     fabric: Fabric<F>,
     cells: Vec<NodeCell<F>>,
     met: &mut Met,
@@ -296,19 +299,19 @@ fn make_table(alloc: Global, nodes: u8, words: u32) -> Result<Blank, Refusal> {
     }
 }
 
-// Makes a table, a second time where no memory was found.
-fn make_again(row: &Row, alloc: Global, met: &mut Met) -> Result<Blank, Wrong> {
-    match make_table(alloc, row.nodes, row.words) {
+/// Makes a table, a second time where no memory was found.
+pub fn make_again(alloc: Global, nodes: u8, words: u32, met: &mut Met) -> Result<Blank, Wrong> {
+    match make_table(alloc, nodes, words) {
         Ok(blank) => return Ok(blank),
         Err(Refusal::OutOfMemory) => met.add_beside(),
         Err(_) => return Err(Wrong::Answer),
     }
-    make_table(alloc, row.nodes, row.words).map_err(|_| Wrong::RefusedAgain)
+    make_table(alloc, nodes, words).map_err(|_| Wrong::RefusedAgain)
 }
 
 /// Runs a row on cells: how often memory was refused on the way, or at which move it goes wrong, counted from 1.
 pub fn run_on_cells(alloc: Global, row: &Row) -> Result<Met, (usize, Wrong)> {
     let mut met = Met::none();
-    let blank = make_again(row, alloc, &mut met).map_err(|why| (0, why))?;
+    let blank = make_again(alloc, row.nodes, row.words, &mut met).map_err(|why| (0, why))?;
     run_on::<Brand>(alloc, blank, row, met)
 }

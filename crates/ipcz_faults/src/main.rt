@@ -1,4 +1,4 @@
-//! `ipcz_faults` runs worked rows on a world and its twin and on the cells of a table, and prints a line for each: that all went as the row
+//! `ipcz_faults` runs worked rows on a world and its twin and on the cells of a table, and one on a hub, and prints a line for each: that all went as the row
 //! says, and which growths of memory were refused on the way. Such a call is to leave all as it was, and to succeed when it is made again.
 //!
 //! Run alone it meets none; `tools/refuse_growth.py` runs it once for each growth, with that one refused (docs/GATE.md).
@@ -7,6 +7,7 @@
 mod alike;
 mod asking;
 mod cells;
+mod hub;
 mod line;
 mod met;
 mod moves;
@@ -16,6 +17,7 @@ mod trial;
 mod twins;
 
 use cells::run_on_cells;
+use hub::run_on_hub;
 use met::{Met, Wrong};
 use moves::Row;
 use rows::ROWS;
@@ -62,8 +64,21 @@ fn print_rows(rt: &HostRuntime) -> Result<bool, io::Error> {
     Ok(went_well)
 }
 
+// Prints how each row went, and how the move of a portal on a hub did, by what that answered; whether all went well.
+fn print_all(rt: &HostRuntime, on_hub: Result<Met, Wrong>) -> Result<bool, io::Error> {
+    let rows = print_rows(rt)?;
+    let hub = print_ending(
+        rt,
+        "a portal moves",
+        "on a hub",
+        on_hub.map_err(|why| (0, why)),
+    )?;
+    Ok(rows && hub)
+}
+
 fn main(rt: HostRuntime) -> ExitCode {
-    match print_rows(&rt) {
+    let on_hub = run_on_hub(&rt, rt.alloc());
+    match print_all(&rt, on_hub) {
         Ok(true) => ExitCode::from(0),
         Ok(false) | Err(_) => ExitCode::from(1),
     }
