@@ -15,4 +15,7 @@ pub mod RouterStays
 pub mod NodeStays
 pub mod Staying
 pub mod QuietRanks
+pub mod CalmRouters
+pub mod CalmNodes
+pub mod CalmWorlds
 pub mod Puts

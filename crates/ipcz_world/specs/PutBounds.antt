@@ -90,27 +90,24 @@ abbrev pub puts_into : ℕ → List PlainPut → ℕ
 puts_into pair [] = 0
 puts_into pair (p ∷ ps) = worth 1 (nat_eq p.at.pair pair) + puts_into pair ps
 
--- acts enough for a proxy: six for each parcel that is put into its pair, and 57 whether or not it passes anything
+-- acts enough for a proxy: six for each parcel that is put into its pair
 unfoldable pub proxy_share : List PlainPut → Router → ℕ
-proxy_share ps r = cond (is_proxy r) (6 * puts_into r.end.pair ps + 57) 0
+proxy_share ps r = cond (is_proxy r) (6 * puts_into r.end.pair ps) 0
 
 -- acts enough for the proxies of a world
 unfoldable pub proxy_shares : List PlainPut → World → ℕ
 proxy_shares ps w = total_list (λ n. total (λ serial r. proxy_share ps r) n.routers) w.nodes
 
 -- law: where parcels without ends are put into a quiet world, no more of the turns that follow use something up than six for each parcel, one
--- for each end that they are put at, and the shares of the proxies that stand; with one for each item that a sink drops, and two for each
--- unlock
+-- for each end that they are put at, and the shares of the proxies that stand; with one for each item that a sink drops
 abbrev pub PutsAreBounded : Type 0
 PutsAreBounded =
     (w u v : World) (b d e : Books) (g h : Routes) (puts : List PlainPut) (turns : List (ℕ × Act)) → Lawful w b g → CarryNone b → IsQuiet w →
     ArePuts w b puts u d → AreTurns u d g turns v e h →
-    times_used u turns ≤
-    6 * length puts + (end_count puts + (proxy_shares puts w + (discard_count turns + 2 * unlock_count turns)))
+    times_used u turns ≤ 6 * length puts + (end_count puts + (proxy_shares puts w + discard_count turns))
 
 -- law: where no router of the quiet world has found the words used up, there are no such shares, since no proxy stands
 abbrev pub DirectPutsAreBounded : Type 0
 DirectPutsAreBounded =
     (w u v : World) (b d e : Books) (g h : Routes) (puts : List PlainPut) (turns : List (ℕ × Act)) → Lawful w b g → CarryNone b → IsQuiet w →
-    IsWet w → ArePuts w b puts u d → AreTurns u d g turns v e h →
-    times_used u turns ≤ 6 * length puts + (end_count puts + (discard_count turns + 2 * unlock_count turns))
+    IsWet w → ArePuts w b puts u d → AreTurns u d g turns v e h → times_used u turns ≤ 6 * length puts + (end_count puts + discard_count turns)

@@ -265,8 +265,8 @@ pub fn what_stays_is_used_by_no_turn()
 {}
 
 /// Where parcels without ends are put into a quiet world, the turns that follow use up at most six for each parcel, one for each end that they
-/// are put at, and for each proxy that stands six for each parcel of its pair and 57; one more for each item that a sink drops, and two for
-/// each unlock.
+/// are put at, and for each proxy that stands six for each parcel of its pair; one more for each item that a sink drops. A proxy stands there
+/// only since the words are used up: no turn is an act of its bypass.
 pub fn puts_into_a_quiet_world_are_bounded()
     ensures { PutsAreBounded }
 {}

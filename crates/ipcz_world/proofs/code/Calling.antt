@@ -2,7 +2,7 @@
 use Rattle.std.specs.Prelude.{◌≡◌, ◌<◌, ◌+◌, ℕ, true, false, nat_lt, Option, Some, None, unwrap_or, length}
 use Rattle.std.proofs.Common.{arith, ap, sym, subst, refl, inl, inr, ◌∙◌}
 use Rattle.std.proofs.lemmas.Bool.Decides.{nat_tests}
-use Rattle.ipcz_world.proofs.Vocabulary.{Refusal, Reply, A, End, Item, put_place, current_item, empty_word, open_word, Node, Found}
+use Rattle.ipcz_world.proofs.Vocabulary.{Refusal, Reply, End, Item, put_place, current_item, empty_word, open_word, Node, Found}
 use Rattle.ipcz_world.proofs.Vocabulary.{bare_node, terminal_of, World, node_at, set_node, set_word, set_claimed, unless}
 use Rattle.ipcz_base.specs.declared.refusal.Refusal.TheVariants.{OutOfMemory, NoWord}
 use Rattle.ipcz_world.specs.declared.step.Reply.TheVariants.{Put, Got, Closed, Refused}

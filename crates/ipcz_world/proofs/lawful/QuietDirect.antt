@@ -7,7 +7,7 @@ use Rattle.ipcz_world.proofs.facts.Tests.{not_both}
 use Rattle.ipcz_world.proofs.Vocabulary.{Side, A, B, End, Central, Peripheral, LinkEnd, Item, opposite, opposite_end, same_end}
 use Rattle.ipcz_world.proofs.Vocabulary.{Router, is_terminal, is_possible, World, Key, node_at, router_at, word_at, has}
 use Rattle.ipcz_world.proofs.Vocabulary.{Books, Records, is_linked, under_way, total, total_list}
-use Rattle.ipcz_world.proofs.Vocabulary.{has_primary, Inv, Weight, is_recorded, in_router, at_end}
+use Rattle.ipcz_world.proofs.Vocabulary.{has_primary, word_of, Inv, Weight, is_recorded, in_router, at_end}
 use Rattle.ipcz_world.proofs.Vocabulary.{Terminal, At, side_end, is_nowhere}
 use Rattle.ipcz_base.specs.Ends.{end_at}
 use Rattle.ipcz_base.specs.declared.message.Message.TheVariants as messages
@@ -23,7 +23,7 @@ use Rattle.ipcz_world.specs.Places.{unread_weight}
 use Rattle.ipcz_world.specs.Records.{Nowhere, Moving}
 use Rattle.ipcz_world.specs.Settling.{IsQuiet}
 use Rattle.ipcz_world.specs.World.{remove_router}
-use Rattle.ipcz_world.proofs.facts.Lengths.{side_is}
+use Rattle.ipcz_world.proofs.facts.Lengths.{side_is, has_link-tells}
 use Rattle.ipcz_world.proofs.facts.LinkTests.{opposite_end-twice, same_end-tells, same_end-itself}
 use Rattle.ipcz_world.proofs.facts.Tests.{some_is, and_second}
 use Rattle.ipcz_world.proofs.flows.Flowing.{found}
@@ -40,14 +40,15 @@ use Rattle.ipcz_world.proofs.weights.Weights.{places-remove_router}
 use Rattle.ipcz_world.proofs.lawful.QuietDelivery.{primed, inward_proxy, idle, none_begun, still, calm, marked, free}
 
 module _ (w : World) (b : Books) (g : Records) (law : Inv w b g) (quiet : IsQuiet w) (ranked : IsRanked w) (flagged : AreFlagged w)
-    (wakers : HaveWakers w) (wet : IsWet w) where
+    (wakers : HaveWakers w) where
   links : LinkLaw w
   links = link_law w b g law
 
-  -- no proxy is left on a central link: it could claim, lock or begin, or has a waker
-  not_central : (k : Key) (r : Router) → router_at w k ≡ Some r → is_proxy r ≡ true → HasAcross w b g law quiet ranked k r → ⊥
+  -- no proxy is left on a central link that hasn't found the words used up: it could claim, lock or begin, or has a waker
+  not_central : (k : Key) (r : Router) → router_at w k ≡ Some r → is_proxy r ≡ true → r.dry ≡ false →
+      HasAcross w b g law quiet ranked k r → ⊥
   unfolding is_possible
-  not_central k r here proxy h = go r.tried r.spare refl refl
+  not_central k r here proxy dry h = go r.tried r.spare refl refl
     where
       may : is_possible r acts.Claim ≡ false → is_possible r acts.Lock ≡ false → r.marked ≡ true → is_on_central r ≡ true →
           decays r ≡ false →
@@ -74,10 +75,36 @@ module _ (w : World) (b : Books) (g : Records) (law : Inv w b g) (quiet : IsQuie
       go true o e f = waker (wakers h.word k r h.side here e h.own)
       go false o e f = may (idle w b g law quiet ranked flagged k r acts.Claim here)
           (idle w b g law quiet ranked flagged k r acts.Lock here) (marked w b g law quiet ranked flagged h.word h.side k r here h.own)
-          (ap is_some (on-central h.word h.side r h.own)) (calm w b g law quiet ranked flagged k r here) (wet k r here)
+          (ap is_some (on-central h.word h.side r h.own)) (calm w b g law quiet ranked flagged k r here) dry
           (free w b g law quiet ranked flagged k r here) o f e
 
-  -- nor anywhere
+  -- so each proxy on a central link has
+  pub central_dry : (k : Key) (r : Router) → router_at w k ≡ Some r → is_proxy r ≡ true → is_on_central r ≡ true → r.dry ≡ true
+  unfolding word_of
+  central_dry k r here proxy on = go r.dry refl
+    where
+      p : (p : LinkEnd) × (r.outward.primary ≡ Some p)
+      p = some_is r.outward.primary (primed r (law.shape.role k r here) (none_begun w b g law quiet ranked flagged k r here))
+
+      go : (t : Bool) → r.dry ≡ t → r.dry ≡ true
+      go true e = e
+      go false e = elim (outer_router w b g law quiet ranked k r p.0 here p.1) [
+        | inl h ↦ absurd (not_peripheral r h.node h.serial h.own on)
+        | inr h ↦ absurd (not_central k r here proxy e h)
+      ]
+        where
+          not_peripheral : (z : Router) (n s : ℕ) → has_primary (Peripheral n s) B z ≡ true → is_on_central z ≡ true → ⊥
+          not_peripheral z n s a c =
+              let t = has_link-tells z.outward.primary (Peripheral n s) B a in
+              let no : is_on_central z ≡ false = ap (λ o. is_some (word_of o)) t.there ∙ of_link t.end t.on_link in
+              let odd : false ≡ true = sym no ∙ c in cc
+            where
+              of_link : (e : LinkEnd) → e.link ≡ Peripheral n s → is_some (word_of (Some e)) ≡ false
+              of_link e q = rw q refl
+
+module _ (w : World) (b : Books) (g : Records) (law : Inv w b g) (quiet : IsQuiet w) (ranked : IsRanked w) (flagged : AreFlagged w)
+    (wakers : HaveWakers w) (wet : IsWet w) where
+  -- where no router has found the words used up none is left anywhere
   no_proxy_below : (n : ℕ) (k : Key) (r : Router) → router_at w k ≡ Some r → is_proxy r ≡ true → ranked.rank k < n → ⊥
   no_proxy_below zero k r here proxy l = omega (arith, l)
   no_proxy_below (suc n) k r here proxy l =
@@ -89,7 +116,7 @@ module _ (w : World) (b : Books) (g : Records) (law : Inv w b g) (quiet : IsQuie
       go : HasOuter w b g law quiet ranked k r ⊎ HasAcross w b g law quiet ranked k r →
           ((q : Key) (z : Router) → router_at w q ≡ Some z → is_proxy z ≡ true → ranked.rank q < n → ⊥) → ⊥
       go (inl h) more = more h.key h.router h.here (inward_proxy h.router (Peripheral h.node h.serial) h.on) (omega (arith, l, h.lower))
-      go (inr h) more = not_central k r here proxy h
+      go (inr h) more = not_central w b g law quiet ranked flagged wakers k r here proxy (wet k r here) h
 
   pub no_proxies : (k : Key) (r : Router) → router_at w k ≡ Some r → is_terminal r ≡ true
   no_proxies k r here = go (is_terminal r) refl
@@ -171,12 +198,12 @@ module _ (w : World) (b : Books) (g : Records) (law : Inv w b g) (quiet : IsQuie
     where
       stable : (s : Side) → has (word_at w route.word).stable s ≡ true
       stable s = let x = route.stands s in
-          sym (links.marked x.key x.router route.word s x.here x.on)
+          sym ((links w b g law quiet ranked flagged wakers).marked x.key x.router route.word s x.here x.on)
           ∙ marked w b g law quiet ranked flagged route.word s x.key x.router x.here x.on
 
       unheld : (s : Side) → has (word_at w route.word).holder s ≡ false
       unheld s = let x = route.stands s in
-          sym (links.holds x.key x.router route.word s x.here x.on) ∙ free w b g law quiet ranked flagged x.key x.router x.here
+          sym ((links w b g law quiet ranked flagged wakers).holds x.key x.router route.word s x.here x.on) ∙ free w b g law quiet ranked flagged x.key x.router x.here
 
       go : has (word_at w route.word).stable A ≡ true → has (word_at w route.word).stable B ≡ true →
           has (word_at w route.word).holder A ≡ false → has (word_at w route.word).holder B ≡ false → is_free (word_at w route.word) ≡ true

@@ -61,7 +61,7 @@ keeps-same : (c : Rates) (n : Node) (s : ℕ) (y r : Router) → get n.routers s
 keeps-same c n s y r e h = omega (arith, stays-with c n s y r e, h)
 
 -- an item without ends is sent
-sent-bare : (n : Node) (link : LinkEnd) (i : ℕ) (item : Item) → ends_in item ≡ [] →
+pub sent-bare : (n : Node) (link : LinkEnd) (i : ℕ) (item : Item) → ends_in item ≡ [] →
     send_item n link i item ≡ push_out n link.other (item_message link i item [])
 unfolding send_item
 sent-bare n link i item bare = go (nat_eq link.other n.number) refl
@@ -153,7 +153,7 @@ pub record IsBare (c : Rates) (r : Router) : Type 0 where
   pub inner : (item : Item) → current_item r.in_queue ≡ Some item → ends_in item ≡ []
   pub price : c.price r.end.pair ≡ 6
 
-or-none : (b : Bool) → (b || false) ≡ true → b ≡ true
+pub or-none : (b : Bool) → (b || false) ≡ true → b ≡ true
 or-none true h = refl
 or-none false h = cc
 

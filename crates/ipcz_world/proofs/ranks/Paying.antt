@@ -3,7 +3,7 @@ use Rattle.std.specs.Prelude.{◌≡◌, ◌≤◌, ◌<◌, ℕ, ◌+◌, Bool,
 use Rattle.std.proofs.Common.{arith, ap, ◌∙◌, sym}
 use Rattle.std.proofs.lemmas.Bool.{and_from}
 use Rattle.std.proofs.lemmas.Option.{slice_get_within}
-use Rattle.ipcz_world.proofs.Vocabulary.{End, Item, opposite_end, ends_in, Router, World, Key, router_at}
+use Rattle.ipcz_world.proofs.Vocabulary.{End, Item, opposite_end, ends_in, current_item, Router, World, Key, router_at}
 use Rattle.ipcz_world.proofs.Vocabulary.{Books, read, Records, Weight, in_router, at_end, Conserved}
 use Rattle.ipcz_base.specs.Items.{same_item}
 use Rattle.ipcz_world.proofs.weights.OfRecords.{in_places}
@@ -45,28 +45,45 @@ placed w b g k r e n item law l here some =
     weighs true h = refl
     weighs false h = absurd (omega (arith, h))
 
-pub can_pay : (w : World) (b : Books) (g : Records) (c : Rates) (k : Key) (r : Router) → Conserved w b g → k.node < w.count →
-    router_at w k ≡ Some r → IsRated c b → CanPay c r
-can_pay w b g c k r law l here rated = record {
-  out = λ item e. pays r.end r.out_queue.current item
+-- what comes next out of a router's queues was put by the end that it is of, and isn't read
+pub record ComesOfPuts (b : Books) (r : Router) : Type 0 where
+  pub out : (item : Item) → current_item r.out_queue ≡ Some item →
+      (read b (opposite_end r.end) ≤ r.out_queue.current) × (slice_get (b.put r.end) r.out_queue.current ≡ Some item)
+  pub inner : (item : Item) → current_item r.in_queue ≡ Some item →
+      (read b (opposite_end (opposite_end r.end)) ≤ r.in_queue.current) ×
+      (slice_get (b.put (opposite_end r.end)) r.in_queue.current ≡ Some item)
+
+pub comes_of_puts : (w : World) (b : Books) (g : Records) (k : Key) (r : Router) → Conserved w b g → k.node < w.count →
+    router_at w k ≡ Some r → ComesOfPuts b r
+comes_of_puts w b g k r law l here = record {
+  out = λ item e. placed w b g k r r.end r.out_queue.current item law l here
       (omega (
         arith,
         this-one r.end r.out_queue.current item,
         in_out_queue
             (at_end r.end (this r.out_queue.current item)) r r.out_queue.current item e,
       ));
-  inner = λ item e. pays (opposite_end r.end) r.in_queue.current item
+  inner = λ item e. placed w b g k r (opposite_end r.end) r.in_queue.current item law l here
       (omega (
         arith,
         this-one (opposite_end r.end) r.in_queue.current item,
         in_in_queue (at_end (opposite_end r.end) (this r.in_queue.current item)) r r.in_queue.current item e,
       ));
 }
+
+pub can_pay : (w : World) (b : Books) (g : Records) (c : Rates) (k : Key) (r : Router) → Conserved w b g → k.node < w.count →
+    router_at w k ≡ Some r → IsRated c b → CanPay c r
+can_pay w b g c k r law l here rated = record {
+  out = λ item e. pays r.end r.out_queue.current item (come.out item e);
+  inner = λ item e. pays (opposite_end r.end) r.in_queue.current item (come.inner item e);
+}
   where
-    pays : (e : End) (n : ℕ) (item : Item) → 1 ≤ in_router (at_end e (this n item)) r →
+    come : ComesOfPuts b r
+    come = comes_of_puts w b g k r law l here
+
+    pays : (e : End) (n : ℕ) (item : Item) → (read b (opposite_end e) ≤ n) × (slice_get (b.put e) n ≡ Some item) →
         (n < c.cap e) × (6 + moving_worth c (ends_in item) ≤ c.price e.pair)
-    pays e n item some = let p = placed w b g k r e n item law l here some in
-        (omega (arith, slice_get_within (b.put e) n item p.1, rated.capped e), rated.pays e n item p.0 p.1)
+    pays e n item p = (omega (arith, slice_get_within (b.put e) n item p.1, rated.capped e), rated.pays e n item p.0 p.1)
 
 pub acts_lower_the_rank : ActsLowerTheRank
 unfolding router_at

@@ -31,10 +31,13 @@ use Rattle.ipcz_world.proofs.ranks.RouterStays.{less-put}
 use Rattle.ipcz_world.proofs.ranks.NodeWorths.{node-with}
 use Rattle.ipcz_world.proofs.ranks.NodeStays.{stays-with}
 use Rattle.ipcz_world.proofs.ranks.WorldRanks.{rank-set_node}
-use Rattle.ipcz_world.proofs.ranks.Staying.{stays-set_node, pending-set_node, nothing-behind, turns-paid, stays-within}
+use Rattle.ipcz_world.proofs.ranks.Staying.{stays-set_node, pending-set_node, nothing-behind, turns-paid}
 use Rattle.ipcz_world.proofs.ranks.Settling.{plain_are_rated}
-use Rattle.ipcz_world.proofs.ranks.QuietRanks.{quiet-rank, quiet-pending, placed, list-none}
+use Rattle.ipcz_world.proofs.ranks.QuietRanks.{quiet-rank, quiet-pending, quiet-stir, placed, list-none}
 use Rattle.ipcz_world.proofs.lawful.Quiet.{total-zero}
+use Rattle.ipcz_world.proofs.ranks.CalmRouters.{calm-put, keeps-terminal}
+use Rattle.ipcz_world.proofs.ranks.CalmNodes.{passes-with}
+use Rattle.ipcz_world.proofs.ranks.CalmWorlds.{PassesOn, by-node, turns-pass, keeps-within}
 
 -- a put that isn't refused has found its terminal
 unrefused : (c : Bool) (why : Refusal) (o : Option Refusal) → (if c then Some why else o) ≡ None → o ≡ None
@@ -98,11 +101,12 @@ put-keeps keeps w b g p law is =
     (keeps w it.world b g step it.reply law (inl (refl, refl)))
 
 -- what one put makes of rank and of what stays
-record Raises (c : Rates) (w v : World) (k : ℕ) : Type 0 where
+record Raises (c : Rates) (marks : End → ℕ) (w v : World) (k : ℕ) : Type 0 where
   rank : rank c v + stays c w ≤ rank c w + stays c v + (6 + k)
   pending : pending_closes v ≡ pending_closes w
+  passes : PassesOn c marks w v
 
-module _ (c : Rates) (six : (pair : ℕ) → c.price pair ≡ 6) (w : World) (b : Books) (g : Routes) (law : Lawful w b g) (p : PlainPut) (is : IsTakenPut w p) where
+module _ (c : Rates) (marks : End → ℕ) (six : (pair : ℕ) → c.price pair ≡ 6) (w : World) (b : Books) (g : Routes) (law : Lawful w b g) (p : PlainPut) (is : IsTakenPut w p) where
   abbrev it : IsPutAt w p
   it = put-at w p is
 
@@ -112,7 +116,7 @@ module _ (c : Rates) (six : (pair : ℕ) → c.price pair ≡ 6) (w : World) (b 
   abbrev key : Key
   key = record { node = p.node; serial = it.serial }
 
-  raised : (k : ℕ) → worth 1 (not it.router.flagged) ≤ k → Raises c w (after_put w p) k
+  raised : (k : ℕ) → worth 1 (not it.router.flagged) ≤ k → Raises c marks w (after_put w p) k
   raised k h =
       let x : Node = node_at w p.node in
       let y : Router = put_item it.router item in
@@ -131,6 +135,9 @@ module _ (c : Rates) (six : (pair : ℕ) → c.price pair ≡ 6) (w : World) (b 
           h,
         );
         pending = ap pending_closes it.after ∙ omega (arith, pending-set_node w p.node z);
+        passes = subst (PassesOn c marks w) (sym it.after) (by-node c marks w p.node z (passes-with c marks x it.serial y it.router it.here
+            (calm-put it.router item)
+            (omega (arith, keeps-terminal c marks it.router it.terminal))));
       }
 
   stands : router_at w key ≡ Some it.router
@@ -187,33 +194,45 @@ module _ (c : Rates) (six : (pair : ℕ) → c.price pair ≡ 6) (w : World) (b 
       go false = omega arith
 
 -- what puts make of them
-record HavePut (c : Rates) (w u : World) (d : Books) (g : Routes) (k : ℕ) : Type 0 where
+record HavePut (c : Rates) (marks : End → ℕ) (w u : World) (d : Books) (g : Routes) (k : ℕ) : Type 0 where
   lawful : Lawful u d g
   raised : rank c u + stays c w ≤ rank c w + stays c u + k
   pending : pending_closes u ≡ pending_closes w
+  passes : PassesOn c marks w u
 
-puts-raise : StepKeepsLawful → (c : Rates) → ((pair : ℕ) → c.price pair ≡ 6) → (w u : World) (b d : Books) (g : Routes) (known : List End)
-    (ps : List PlainPut) → Lawful w b g → AreRoused w known → ArePuts w b ps u d → HavePut c w u d g (6 * length ps + ends_beside known ps)
-puts-raise keeps c six w u b d g known [] law roused_before run = record {
+puts-raise : StepKeepsLawful → (c : Rates) (marks : End → ℕ) → ((pair : ℕ) → c.price pair ≡ 6) → (w u : World) (b d : Books) (g : Routes) (known : List End)
+    (ps : List PlainPut) → Lawful w b g → AreRoused w known → ArePuts w b ps u d → HavePut c marks w u d g (6 * length ps + ends_beside known ps)
+puts-raise keeps c marks six w u b d g known [] law roused_before run = record {
   lawful = subst (λ x. Lawful x d g) (sym run.0) (subst (λ x. Lawful w x g) (sym run.1) law);
   raised = omega (arith, ap (rank c) run.0, ap (stays c) run.0);
   pending = ap pending_closes run.0;
+  passes = subst (PassesOn c marks w) (sym run.0) (record { stir = omega arith; keeps = omega arith });
 }
-puts-raise keeps c six w u b d g known (p ∷ ps) law roused_before run = go (has_end p.at known) refl
-    (λ ends up. puts-raise keeps c six (after_put w p) u (add_put b p.at (Parcel (plain_parcel p))) d g ends ps
+puts-raise keeps c marks six w u b d g known (p ∷ ps) law roused_before run = go (has_end p.at known) refl
+    (λ ends up. puts-raise keeps c marks six (after_put w p) u (add_put b p.at (Parcel (plain_parcel p))) d g ends ps
     (put-keeps keeps w b g p law run.0) up run.1)
   where
     go : (t : Bool) → has_end p.at known ≡ t →
-        ((ends : List End) → AreRoused (after_put w p) ends → HavePut c (after_put w p) u d g (6 * length ps + ends_beside ends ps)) →
-        HavePut c w u d g (6 * length (p ∷ ps) + cond (has_end p.at known) (ends_beside known ps) (1 + ends_beside (p.at ∷ known) ps))
+        ((ends : List End) → AreRoused (after_put w p) ends → HavePut c marks (after_put w p) u d g (6 * length ps + ends_beside ends ps)) →
+        HavePut c marks w u d g (6 * length (p ∷ ps) + cond (has_end p.at known) (ends_beside known ps) (1 + ends_beside (p.at ∷ known) ps))
     go true e more =
-        let one = raised c six w b g law p run.0 0 (flagged-known c six w b g law p run.0 known e roused_before) in
-        let rest = more known (still-roused c six w b g law p run.0 known e roused_before) in
-        rw e record { lawful = rest.lawful; raised = omega (arith, one.rank, rest.raised); pending = rest.pending ∙ one.pending }
+        let one = raised c marks six w b g law p run.0 0 (flagged-known c marks six w b g law p run.0 known e roused_before) in
+        let rest = more known (still-roused c marks six w b g law p run.0 known e roused_before) in
+        rw e record {
+          lawful = rest.lawful;
+          raised = omega (arith, one.rank, rest.raised);
+          pending = rest.pending ∙ one.pending;
+          passes = record { stir = omega (arith, one.passes.stir, rest.passes.stir); keeps = omega (arith, one.passes.keeps, rest.passes.keeps) };
+        }
     go false e more =
-        let one = raised c six w b g law p run.0 1 (one-most c six w b g law p run.0) in
-        let rest = more (p.at ∷ known) (roused c six w b g law p run.0 known roused_before) in
-        rw e record { lawful = rest.lawful; raised = omega (arith, one.rank, rest.raised); pending = rest.pending ∙ one.pending }
+        let one = raised c marks six w b g law p run.0 1 (one-most c marks six w b g law p run.0) in
+        let rest = more (p.at ∷ known) (roused c marks six w b g law p run.0 known roused_before) in
+        rw e record {
+          lawful = rest.lawful;
+          raised = omega (arith, one.rank, rest.raised);
+          pending = rest.pending ∙ one.pending;
+          passes = record { stir = omega (arith, one.passes.stir, rest.passes.stir); keeps = omega (arith, one.passes.keeps, rest.passes.keeps) };
+        }
 
 -- parcels without ends leave the books without items that carry ends
 put-carries : (b : Books) (p : PlainPut) → CarryNone b → CarryNone (add_put b p.at (Parcel (plain_parcel p)))
@@ -235,22 +254,25 @@ puts-carry w u b d (p ∷ ps) none run =
 pub puts_are_bounded : StepKeepsLawful → TurnsKeepRates → PutsAreBounded
 puts_are_bounded keeps rates w u v b d e g h ps turns law none quiet puts run =
     let c : Rates = plain_rates d in
+    let marks : End → ℕ = λ x. worth 1 (not (is_closed d x)) in
     let six : (pair : ℕ) → c.price pair ≡ 6 = λ pair. refl in
     let nobody : AreRoused w [] = λ k r here t has. cc in
-    let put = puts-raise keeps c six w u b d g [] ps law nobody puts in
+    let rated = plain_are_rated d (puts-carry w u b d ps none puts) in
+    let put = puts-raise keeps c marks six w u b d g [] ps law nobody puts in
+    let passed = turns-pass keeps rates u v d e g h c marks turns put.lawful rated six (λ x. omega arith)
+    (omega (arith, put.passes.stir, quiet-stir w b g law quiet)) run in
     omega (
       arith,
-      turns-paid keeps rates u v d e g h c turns put.lawful (plain_are_rated d (puts-carry w u b d ps none puts)) six run,
-      stays-within c v,
-      quiet-rank w b g law quiet u d ps puts c six (λ x. room (not (is_closed d x)) (length (d.put x))),
+      turns-paid keeps rates u v d e g h c turns put.lawful rated six run,
+      keeps-within c marks v six,
+      quiet-rank w b g law quiet u d ps puts c six marks (λ x. omega arith),
       quiet-pending w b g law quiet,
       put.pending,
       put.raised,
+      put.passes.keeps,
+      passed.keeps,
+      passed.unlocks,
     )
-  where
-    room : (t : Bool) (n : ℕ) → n + worth 1 t ≤ n + 1
-    room true n = omega arith
-    room false n = omega arith
 
 -- where no proxy stands there are no shares
 no-shares : (ps : List PlainPut) (w : World) → ((n s : ℕ) (r : Router) → n < w.count → router_in (node_at w n) s ≡ Some r → is_terminal r ≡ true) →

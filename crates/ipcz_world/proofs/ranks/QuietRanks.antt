@@ -1,5 +1,6 @@
--- The rank of a quiet world: what stays with its terminals, and the shares of the proxies that stand.
-use Rattle.std.specs.Prelude.{◌≡◌, ◌≤◌, ◌<◌, ℕ, zero, suc, ◌+◌, ◌*◌, Bool, true, false, not, cond, ◌&&◌, ◌||◌, nat_eq, Option, Some, None}
+-- The rank of a quiet world: what stays with its terminals, what its proxies keep, and their shares of what is put. A quiet world can do no
+-- more than pass items.
+use Rattle.std.specs.Prelude.{◌≡◌, ◌≤◌, ◌<◌, ℕ, zero, suc, ◌+◌, ◌*◌, ◌-◌, Bool, true, false, not, cond, ◌&&◌, ◌||◌, nat_eq, Option, Some, None}
 use Rattle.std.specs.Prelude.{is_some, is_none, T, List, [], ◌∷◌, ◌++◌, length, slice_get, refl}
 use Rattle.std.proofs.Common.{arith, ap, subst, ◌∙◌, sym}
 use Rattle.std.proofs.lemmas.Bool.Decides.{nat_tests}
@@ -35,21 +36,25 @@ use Rattle.ipcz_world.proofs.facts.Finding.{find_above, found_there}
 use Rattle.ipcz_world.proofs.facts.LinkTests.{opposite_end-twice, same_end-tells}
 use Rattle.ipcz_world.proofs.facts.Reaching.{is_reach, reach_one, left, right}
 use Rattle.ipcz_world.proofs.facts.Tests.{and_first, and_second, nat_eq-is, none_is}
-use Rattle.ipcz_world.proofs.lawful.Quiet.{choose-some, out-delivered}
+use Rattle.ipcz_world.proofs.lawful.Quiet.{choose-some, out-delivered, total-zero}
 use Rattle.ipcz_world.proofs.lawful.QuietRoutes.{inward_lacks, outward_lacks}
-use Rattle.ipcz_world.proofs.lawful.QuietDelivery.{primed, idle, out_stuck, in_stuck, lacked_given, none_begun, calm}
+use Rattle.ipcz_world.proofs.lawful.QuietDelivery.{primed, free, idle, out_stuck, in_stuck, lacked_given, none_begun, calm}
 use Rattle.ipcz_world.proofs.weights.Booking.{length-more}
 use Rattle.ipcz_world.proofs.ranks.RouterWorths.{worth-most}
+use Rattle.ipcz_world.proofs.lawful.QuietDirect.{central_dry}
+use Rattle.ipcz_world.proofs.ranks.CalmRouters.{is_calm, lesser, router_keeps}
+use Rattle.ipcz_world.proofs.ranks.CalmNodes.{message_stir, router_stir, node_stir, node_keeps}
+use Rattle.ipcz_world.proofs.ranks.CalmWorlds.{mail_stir, stir, keeps}
 
--- totals of what is no more than two others together
-two-of : (h k l : Router → ℕ) (es : List (ℕ × Router)) → T (is_sorted nat_cmp es) →
-    ((s : ℕ) (r : Router) → find nat_cmp s es ≡ Some r → h r ≤ k r + l r) →
-    total_of (λ s r. h r) es ≤ total_of (λ s r. k r) es + total_of (λ s r. l r) es
-two-of h k l [] sorted less = omega arith
-two-of h k l (e ∷ es) sorted less = omega (
+-- totals of what is no more than three others together
+three-of : (h k l m : Router → ℕ) (es : List (ℕ × Router)) → T (is_sorted nat_cmp es) →
+    ((s : ℕ) (r : Router) → find nat_cmp s es ≡ Some r → h r ≤ k r + (l r + m r)) →
+    total_of (λ s r. h r) es ≤ total_of (λ s r. k r) es + (total_of (λ s r. l r) es + total_of (λ s r. m r) es)
+three-of h k l m [] sorted less = omega arith
+three-of h k l m (e ∷ es) sorted less = omega (
   arith,
   less e.0 e.1 here,
-  two-of h k l es (right (below_all nat_cmp e.0 es) (is_sorted nat_cmp es) sorted) (λ s r p. less s r (later s r p)),
+  three-of h k l m es (right (below_all nat_cmp e.0 es) (is_sorted nat_cmp es) sorted) (λ s r p. less s r (later s r p)),
 )
   where
     here : cond (eq_by_cmp nat_cmp e.0 e.0) (Some e.1) (find nat_cmp e.0 es) ≡ Some e.1
@@ -61,15 +66,15 @@ two-of h k l (e ∷ es) sorted less = omega (
         let apart : eq_by_cmp nat_cmp s e.0 ≡ false = grind (arith, above, nat_tests) in
         ap (λ b. cond b (Some e.1) (find nat_cmp s es)) apart ∙ p
 
-total-two : (h k l : Router → ℕ) (m : FinMap nat_cmp Router) → ((s : ℕ) (r : Router) → get m s ≡ Some r → h r ≤ k r + l r) →
-    total (λ s r. h r) m ≤ total (λ s r. k r) m + total (λ s r. l r) m
+total-three : (h k l m : Router → ℕ) (rs : FinMap nat_cmp Router) → ((s : ℕ) (r : Router) → get rs s ≡ Some r → h r ≤ k r + (l r + m r)) →
+    total (λ s r. h r) rs ≤ total (λ s r. k r) rs + (total (λ s r. l r) rs + total (λ s r. m r) rs)
 unfolding total
-total-two h k l m less = two-of h k l (entries m) (entries_sorted m) (λ s r p. less s r (get-entries m s ∙ p))
+total-three h k l m rs less = three-of h k l m (entries rs) (entries_sorted rs) (λ s r p. less s r (get-entries rs s ∙ p))
 
-list-two : {X : Type 0} (h k l : X → ℕ) (xs : List X) → ((i : ℕ) (x : X) → slice_get xs i ≡ Some x → h x ≤ k x + l x) →
-    total_list h xs ≤ total_list k xs + total_list l xs
-list-two h k l [] less = omega arith
-list-two h k l (x ∷ xs) less = omega (arith, less 0 x refl, list-two h k l xs (λ i y e. less (suc i) y e))
+list-three : {X : Type 0} (h k l m : X → ℕ) (xs : List X) → ((i : ℕ) (x : X) → slice_get xs i ≡ Some x → h x ≤ k x + (l x + m x)) →
+    total_list h xs ≤ total_list k xs + (total_list l xs + total_list m xs)
+list-three h k l m [] less = omega arith
+list-three h k l m (x ∷ xs) less = omega (arith, less 0 x refl, list-three h k l m xs (λ i y e. less (suc i) y e))
 
 pub list-none : {X : Type 0} (h : X → ℕ) (xs : List X) → ((i : ℕ) (x : X) → slice_get xs i ≡ Some x → h x ≡ 0) → total_list h xs ≡ 0
 list-none h [] none = refl
@@ -224,25 +229,19 @@ module _ (w : World) (b : Books) (g : Routes) (law : Lawful w b g) (quiet : IsQu
           by r p e = grind (arith, p, e)
 
   module _ (u : World) (d : Books) (ps : List PlainPut) (run : ArePuts w b ps u d) (c : Rates) (six : (pair : ℕ) → c.price pair ≡ 6)
-      (caps : (e : End) → c.cap e ≤ length (d.put e) + 1) where
-    cap-most : (e : End) → c.cap e ≤ length (b.put e) + puts_at e ps + 1
+      (marks : End → ℕ) (caps : (e : End) → c.cap e ≤ length (d.put e) + marks e) where
+    cap-most : (e : End) → c.cap e ≤ length (b.put e) + puts_at e ps + marks e
     cap-most e = omega (arith, caps e, puts-counted w u b d e ps run)
 
-    bypass-most : (r : Router) → bypass_worth r ≤ 44
-    bypass-most r = omega (arith, worth-most 1 (is_none r.spare && not r.dry), worth-most 1 (not r.holds), worth-most 1 (not r.tried))
-
-    begun-most : (r : Router) (t : Bool) → cond t (bypass_worth r) 0 ≤ 44
-    begun-most r true = bypass-most r
-    begun-most r false = omega arith
-
-    at-rest : (k : Key) (r : Router) → router_at w k ≡ Some r → router_worth c r ≤ router_stays c r + proxy_share ps r
-    unfolding router_worth router_stays proxy_share
+    at-rest : (k : Key) (r : Router) → router_at w k ≡ Some r →
+        router_worth c r ≤ router_stays c r + (router_keeps c marks r + proxy_share ps r)
+    unfolding router_worth router_stays router_keeps proxy_share
     at-rest k r here = go r.inward refl
       where
         s : IsStill r
         s = quiet-still k r here
 
-        go : (o : Option Edge) → r.inward ≡ o → router_worth c r ≤ router_stays c r + proxy_share ps r
+        go : (o : Option Edge) → r.inward ≡ o → router_worth c r ≤ router_stays c r + (router_keeps c marks r + proxy_share ps r)
         go None e =
             let t : is_terminal r ≡ true = ap is_none e in
             let next = sent-all k r here t in
@@ -250,19 +249,19 @@ module _ (w : World) (b : Books) (g : Routes) (law : Lawful w b g) (quiet : IsQu
         go (Some x) e =
             let p : is_proxy r ≡ true = ap is_some e in
             let all = passed-all k r here p in
-            let left : worth_left c r.end r.out_queue.current r.in_queue.current ≤ 6 * (puts_into r.end.pair ps + 2) =
+            let kept : ℕ = lesser (marks r.end) (c.cap r.end - r.out_queue.current) +
+            lesser (marks (opposite_end r.end)) (c.cap (opposite_end r.end) - r.in_queue.current) in
+            let left : worth_left c r.end r.out_queue.current r.in_queue.current ≤ 6 * (puts_into r.end.pair ps + kept) =
             rw (six r.end.pair) (omega (arith, cap-most r.end, cap-most (opposite_end r.end), all.0, all.1, puts-apart r.end ps)) in
-            let share : cond (is_proxy r) (6 * puts_into r.end.pair ps + 57) 0 ≡ 6 * puts_into r.end.pair ps + 57 =
-            ap (λ t. cond t (6 * puts_into r.end.pair ps + 57) 0) p in
             omega (
               arith,
               left,
-              share,
+              ap (λ t. cond t (6 * puts_into r.end.pair ps) 0) p,
+              ap (λ t. cond t (6 * kept + (1 + cond (is_unbegun r) (bypass_worth r) 0)) 0) p,
               ap (λ z. worth 1 z) s.flagged,
               ap (λ z. worth 1 z) s.outward,
               ap (λ z. worth 1 z) s.inward,
               worth-most 1 (is_proxy r),
-              begun-most r (is_unbegun r),
               ap (λ z. worth 7 z) s.marked,
               ap (λ z. worth 6 z) s.wake,
             )
@@ -273,8 +272,8 @@ module _ (w : World) (b : Books) (g : Routes) (law : Lawful w b g) (quiet : IsQu
     boxes-none ((m ∷ ms) ∷ bs) h = absurd (grind (arith, h, nat_tests))
 
     node-rest : (i : ℕ) (n : Node) → slice_get w.nodes i ≡ Some n →
-        node_worth c n ≤ node_stays c n + total (λ serial r. proxy_share ps r) n.routers
-    unfolding node_worth router_at node_at
+        node_worth c n ≤ node_stays c n + (node_keeps c marks n + total (λ serial r. proxy_share ps r) n.routers)
+    unfolding node_worth node_keeps router_at node_at
     node-rest i n at =
         let is : node_at w i ≡ n = placed (bare_node 0 0) w.nodes i n at in
         let l : i < w.count = omega (arith, slice_get_within w.nodes i n at, law.bounded.nodes) in
@@ -283,7 +282,7 @@ module _ (w : World) (b : Books) (g : Routes) (law : Lawful w b g) (quiet : IsQu
           arith,
           still.ends,
           boxes-none n.outboxes still.boxes,
-          total-two (router_worth c) (router_stays c) (proxy_share ps) n.routers
+          total-three (router_worth c) (router_stays c) (router_keeps c marks) (proxy_share ps) n.routers
               (λ s r e. at-rest (record { node = i; serial = s }) r (ap (λ (x : Node). get x.routers s) is ∙ e)),
         )
 
@@ -297,11 +296,11 @@ module _ (w : World) (b : Books) (g : Routes) (law : Lawful w b g) (quiet : IsQu
         go (mails.Hand m) h = cc
 
     -- what a quiet world's rank is, at rates that leave room for what will be put
-    pub quiet-rank : rank c w ≤ stays c w + proxy_shares ps w
-    unfolding rank stays proxy_shares
+    pub quiet-rank : rank c w ≤ stays c w + (keeps c marks w + proxy_shares ps w)
+    unfolding rank stays keeps proxy_shares
     quiet-rank = omega (
       arith,
-      list-two (node_worth c) (node_stays c) (λ n. total (λ serial r. proxy_share ps r) n.routers) w.nodes node-rest,
+      list-three (node_worth c) (node_stays c) (node_keeps c marks) (λ n. total (λ serial r. proxy_share ps r) n.routers) w.nodes node-rest,
       list-none (mail_worth c) w.mail mail-none,
     )
 
@@ -312,3 +311,59 @@ module _ (w : World) (b : Books) (g : Routes) (law : Lawful w b g) (quiet : IsQu
       let is : node_at w i ≡ n = placed (bare_node 0 0) w.nodes i n at in
       let l : i < w.count = omega (arith, slice_get_within w.nodes i n at, law.bounded.nodes) in
       (quiet-node n (subst (λ x. is_quiet x ≡ true) is (quiet.nodes i l))).ends)
+
+  -- each router does no more than pass items
+  quiet-calm : (k : Key) (r : Router) → router_at w k ≡ Some r → is_calm r ≡ true
+  unfolding is_calm
+  quiet-calm k r here = go r.inward refl
+    where
+      s : IsStill r
+      s = quiet-still k r here
+
+      off : decays r ≡ false
+      off = calm w b law.records law.inv quiet law.ranked law.flagged k r here
+
+      go : (o : Option Edge) → r.inward ≡ o → is_calm r ≡ true
+      go None e = grind (arith, e, off, s.marked, s.wake)
+      go (Some x) e =
+          by (is_on_central r) refl (free w b law.records law.inv quiet law.ranked law.flagged k r here)
+          (primed r (law.inv.shape.role k r here) (none_begun w b law.records law.inv quiet law.ranked law.flagged k r here))
+        where
+          by : (t : Bool) → is_on_central r ≡ t → r.holds ≡ false → is_some r.outward.primary ≡ true → is_calm r ≡ true
+          by false q f p = grind (arith, e, off, s.marked, s.wake, q, f, p)
+          by true q f p =
+              let dry = central_dry w b law.records law.inv quiet law.ranked law.flagged law.wakers k r here (ap is_some e) q in
+              grind (arith, e, off, s.marked, s.wake, q, f, p, dry)
+
+  still-boxes : (boxes : List (List Message)) → are_empty boxes ≡ true → total_list (total_list message_stir) boxes ≡ 0
+  still-boxes [] h = refl
+  still-boxes ([] ∷ bs) h = omega (arith, still-boxes bs h)
+  still-boxes ((m ∷ ms) ∷ bs) h = absurd (grind (arith, h, nat_tests))
+
+  still-node : (i : ℕ) (n : Node) → slice_get w.nodes i ≡ Some n → node_stir n ≡ 0
+  unfolding node_stir router_at node_at
+  still-node i n at =
+      let is : node_at w i ≡ n = placed (bare_node 0 0) w.nodes i n at in
+      let l : i < w.count = omega (arith, slice_get_within w.nodes i n at, law.bounded.nodes) in
+      let quiet : IsQuietNode n = quiet-node n (subst (λ x. is_quiet x ≡ true) is (quiet.nodes i l)) in
+      omega (
+        arith,
+        quiet.ends,
+        still-boxes n.outboxes quiet.boxes,
+        total-zero (λ s r. router_stir r) n.routers (λ s r e.
+            ap (λ t. worth 1 (not t)) (quiet-calm (record { node = i; serial = s }) r (ap (λ (x : Node). get x.routers s) is ∙ e))),
+      )
+
+  still-mail : (k : ℕ) (x : Mail) → slice_get w.mail k ≡ Some x → mail_stir x ≡ 0
+  unfolding mail_stir mail_at is_clear
+  still-mail k x at = go x (ap is_clear (sym (placed mails.Empty w.mail k x at)) ∙ quiet.mail k)
+    where
+      go : (y : Mail) → is_clear y ≡ true → mail_stir y ≡ 0
+      go mails.Empty h = refl
+      go (mails.Full m) h = cc
+      go (mails.Hand m) h = cc
+
+  -- so nothing else is astir
+  pub quiet-stir : stir w ≡ 0
+  unfolding stir
+  quiet-stir = omega (arith, list-none node_stir w.nodes still-node, list-none mail_stir w.mail still-mail)

@@ -131,14 +131,14 @@ nothing-behind w b g law n s r l here t = go (item_at r.out_queue (next_number r
     ))
 
 module _ (c : Rates) (w : World) (b : Books) (g : Routes) (law : Lawful w b g) (rated : IsRated c b) (six : (pair : ℕ) → c.price pair ≡ 6) where
-  none : CarryNone b
+  pub none : CarryNone b
   none e n item l at = no-ends c (ends_in item) (c.price e.pair) (six e.pair) (rated.pays e n item l at)
 
   paying : (n s : ℕ) (r : Router) → n < w.count → router_in (node_at w n) s ≡ Some r → CanPay c r
   unfolding router_at
   paying n s r l here = can_pay w b law.records c (record { node = n; serial = s }) r law.conserved l here rated
 
-  bare : (n s : ℕ) (r : Router) → n < w.count → router_in (node_at w n) s ≡ Some r → IsBare c r
+  pub bare : (n s : ℕ) (r : Router) → n < w.count → router_in (node_at w n) s ≡ Some r → IsBare c r
   bare n s r l here = let pay = paying n s r l here in record {
     out = λ item e. no-ends c (ends_in item) (c.price r.end.pair) (six r.end.pair) (pay.out item e).1;
     inner = λ item e. no-ends c (ends_in item) (c.price r.end.pair) (six r.end.pair) (pay.inner item e).1;

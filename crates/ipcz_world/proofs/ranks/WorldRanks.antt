@@ -36,7 +36,7 @@ use Rattle.ipcz_world.proofs.ranks.NodeHands.{node-delivered}
 use Rattle.ipcz_world.proofs.ranks.NodeActs.{CanPay, router-acted, pending-closed}
 
 -- what is worth nothing, many times over
-none-worth : (h : List Message → ℕ) (k : ℕ) → h [] ≡ 0 → total_list h (replicate k []) ≡ 0
+pub none-worth : (h : List Message → ℕ) (k : ℕ) → h [] ≡ 0 → total_list h (replicate k []) ≡ 0
 none-worth h zero e = refl
 none-worth h (suc k) e = omega (arith, e, none-worth h k e)
 
