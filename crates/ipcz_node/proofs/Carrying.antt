@@ -1,5 +1,5 @@
 -- What a node sends and takes of an item that brings no end and no moves.
-use Rattle.std.proofs.Common.{◌≡◌, ◌≤◌, ◌||◌, ◌&&◌, ℕ, Bool, true, false, not, List, [], length, Option, Some, None, if◌then◌else◌, nat_eq, ap, sym}
+use Rattle.std.proofs.Common.{◌≡◌, ◌≤◌, ◌||◌, ◌&&◌, ℕ, Bool, true, false, not, List, [], length, Option, Some, None, if◌then◌else◌, nat_eq, ap, sym, is_some}
 use Rattle.std.proofs.Common.{refl, ◌∙◌, ◌∷◌, arith}
 use Rattle.std.proofs.lemmas.Bool.Decides.{nat_tests}
 use Rattle.ipcz_base.specs.declared.end.End.{End}
@@ -8,6 +8,7 @@ use Rattle.ipcz_base.specs.declared.message.Message.TheVariants as messages
 use Rattle.ipcz_base.specs.declared.descriptor.Descriptor.{Descriptor}
 use Rattle.ipcz_base.specs.declared.item.Item.{Item}
 use Rattle.ipcz_base.specs.declared.link_id.LinkId.{LinkId}
+use Rattle.ipcz_base.specs.declared.link_end.LinkEnd.{LinkEnd}
 use Rattle.ipcz_base.specs.declared.side.Side.{Side}
 use Rattle.ipcz_base.specs.Items.{ends_in}
 use Rattle.ipcz_base.specs.Limits.{no_number, has_serials}
@@ -23,8 +24,11 @@ use Rattle.ipcz_router.specs.declared.act.Applied.{Applied}
 use Rattle.ipcz_router.specs.declared.act.Applied.TheVariants as outputs
 use Rattle.ipcz_router.specs.declared.outlook.Outlook.TheVariants as outlooks
 use Rattle.ipcz_node.specs.declared.act.Act.TheVariants.{Router as OfRouter}
-use Rattle.ipcz_node.specs.Node.{Node, router_in, with_router, on_router, on_found, push_out, add_stray, found, link_router}
+use Rattle.ipcz_node.specs.Node.{Node, Found, router_in, with_router, on_router, on_found, push_out, add_stray, found, link_router, is_named}
 use Rattle.ipcz_node.specs.Hands.{deliver, fit_moves, fits, fits_from, fits_item, free_hand, handle, message_lacks_serials, serials_in, take_in}
+use Rattle.ipcz_node.specs.Hands.{is_unfit, link_asked, side_asked}
+use Rattle.ipcz_node.specs.Events.{event_at, event_of, router_event, send_event}
+use Rattle.ipcz_node.specs.declared.happened.Happened.TheVariants as events
 use Rattle.ipcz_node.specs.Acts.{act_lacks_serials, commit, commit_router, keep_or_drop, serials_at}
 use Rattle.ipcz_node.specs.Preparing.{outlook_at, serials_as}
 use Rattle.ipcz_node.specs.Sends.{send, serials_for, send_item, post_item, item_message, move_ends}
@@ -72,6 +76,30 @@ committed_alone n serial r to m here out is =
     ∙ sent_alone (with_router n serial (apply r acts.SendOut Plain)) (output_of r acts.SendOut) to m
     (sym (ap (λ o. outlook_at o acts.SendOut) here) ∙ out) is)
 
+-- what was sent is told by the number and the link of the message that carries it
+told_alone : (n : Node) (serial : ℕ) (a : Applied) (to : ℕ) (m : Message) (s : ℕ × LinkId) → outlook_of a ≡ outlooks.Item to 0 →
+    Some m ≡ carried_by a →
+    ((link : LinkEnd) (number : ℕ) (item : Item) → Some m ≡ carried_by (outputs.Sent link number item) → s ≡ (number, link.link)) →
+    events.SendOut serial s.0 s.1 [] ≡ send_event n (λ number link ends. events.SendOut serial number link ends) a
+unfolding send_event carried_by
+told_alone n serial outputs.Nothing to m s out is told = cc
+told_alone n serial (outputs.Message i k) to m s out is told = cc
+told_alone n serial (outputs.Discarded number item) to m s out is told = cc
+told_alone n serial (outputs.Sent link number item) to m s out is told =
+    let none : length (ends_in item) ≡ 0 = cc in
+    ap (λ (t : ℕ × LinkId). events.SendOut serial t.0 t.1 []) (told link number item is)
+    ∙ ap (events.SendOut serial number link.link) (sym (none_move (nat_eq link.other n.number) (ends_in item) (no_ends (ends_in item) none)))
+
+-- that is the event of the act
+pub event_alone : (n : Node) (serial : ℕ) (r : Router) (to : ℕ) (m : Message) (s : ℕ × LinkId) → router_in n serial ≡ Some r →
+    outlook_at (router_in n serial) acts.SendOut ≡ outlooks.Item to 0 → Some m ≡ carried_by (output_of r acts.SendOut) →
+    ((link : LinkEnd) (number : ℕ) (item : Item) → Some m ≡ carried_by (outputs.Sent link number item) → s ≡ (number, link.link)) →
+    events.SendOut serial s.0 s.1 [] ≡ event_of n (OfRouter serial acts.SendOut) Plain
+unfolding event_of event_at router_event
+event_alone n serial r to m s here out is told =
+    told_alone n serial (output_of r acts.SendOut) to m s (sym (ap (λ o. outlook_at o acts.SendOut) here) ∙ out) is told
+    ∙ sym (ap (λ o. event_at n serial o acts.SendOut Plain) here)
+
 zero_of : (b : Bool) → ◌≡◌ {A = ℕ} (if b then 0 else 0) 0
 zero_of true = refl
 zero_of false = refl
@@ -88,6 +116,12 @@ lacks_none n serial to h out =
     ap (λ k. not (has_serials n.next_peripheral k))
     (sym (serials_there n (router_in n serial) acts.SendOut) ∙ ap (serials_as n) out ∙ zero_of (nat_eq to n.number))
     ∙ ap not (enough n.next_peripheral h)
+
+-- a rest is told by its serial alone
+pub event_rest : (n : Node) (serial : ℕ) (r : Router) → router_in n serial ≡ Some r →
+    events.Rest serial ≡ event_of n (OfRouter serial acts.Rest) Plain
+unfolding event_of event_at router_event
+event_rest n serial r here = sym (ap (λ o. event_at n serial o acts.Rest Plain) here)
 
 nothing_for : (n : Node) (o : Option Router) → serials_at n o acts.Rest ≡ 0
 unfolding serials_at serials_for output_of
@@ -121,6 +155,16 @@ unfolding fits fits_item
 placed_alone n sender link side number item moves source s r here place ends none =
     ap (fits_item n sender link side number item moves) here ∙ ap (λ b. b && fits_from n sender item moves) place
     ∙ fits_alone n sender item moves ends none
+
+-- and its router is there
+pub fit_alone : (n : Node) (sender : ℕ) (link : LinkId) (side : Side) (number : ℕ) (item : Item) (moves : List Descriptor)
+    (source : Option ℕ) (s : ℕ) (r : Router) → link_router n link side ≡ Some (found s r) →
+    has_place_for r (outward_has r link side) number ≡ true → ends_in item ≡ [] → moves ≡ [] →
+    is_unfit n sender (messages.Item link side number item moves) source ≡ false
+unfolding link_asked side_asked
+fit_alone n sender link side number item moves source s r here place ends none =
+    ap (λ b. not (b && is_named n link side)) (placed_alone n sender link side number item moves source s r here place ends none)
+    ∙ ap (λ (o : Option Found). not (is_some o)) here
 
 -- its router takes it
 pub taken_alone : (n : Node) (sender : ℕ) (link : LinkId) (side : Side) (number : ℕ) (item : Item) (moves : List Descriptor)

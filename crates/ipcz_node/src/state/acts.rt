@@ -148,7 +148,7 @@ impl NodeState {
 impl NodeState {
     // A router does its act, and what it does is told.
     #[tactic(auto, unfolding(crate::specs::Acts::commit, crate::specs::Events::event_of, crate::specs::Events::event_at, crate::specs::Node::on_router))]
-    fn commit_router(&mut self, serial: u64, act: RouterAct, answer: Answer) -> Happened
+    pub(super) fn commit_router(&mut self, serial: u64, act: RouterAct, answer: Answer) -> Happened
         requires possible { IsPossibleAct self.old.node (Act.Router serial act) }
         requires answer { Answers (Act.Router serial act) answer }
         requires ready { IsReadyFor self.old (Act.Router serial act) }

@@ -7,7 +7,7 @@ ghost use Rattle.ipcz_router.specs.Calls.{has_place_for};
 ghost use Rattle.ipcz_node.specs.Node.{router_in, link_router, found, add_stray};
 ghost use Rattle.ipcz_node.specs.RoomyNodes.{AreLow};
 ghost use Rattle.ipcz_node.specs.Hands.{has_moved, fit_moves, fits_from, fits_item, make_terminals, take_in, free_hand, fits, handle};
-ghost use Rattle.ipcz_node.specs.Hands.{deliver, message_lacks_serials, message_grows, grows_where_it_fits, serials_in};
+ghost use Rattle.ipcz_node.specs.Hands.{deliver, message_lacks_serials, message_grows, grows_where_it_fits, serials_in, is_unfit};
 ghost use Rattle.ipcz_node.specs.Events.{hand_event};
 ghost use Rattle.ipcz_node.specs.Telling.{HasRoomFor, brings_item};
 
@@ -422,6 +422,35 @@ impl NodeState {
             message_lacks_serials self.old.node from message source ≡ false → IsOk result }
         ensures err { IfErr result (λ e. (e.1 ≡ message) × (self.new.node ≡ self.old.node)) }
     {
+        let (kind, link) = (kind_of(&message), link_asked(&message));
+        match self.take_at_once(from, message) {
+            Ok(()) => Ok(Happened::Hand {
+                kind,
+                link,
+                unfit: false,
+            }),
+            Err(message) => self.deliver_any_told(from, message, source),
+        }
+    }
+
+    // The same for each message.
+    fn deliver_any_told(
+        &mut self,
+        from: u8,
+        message: Message,
+        source: Option<u8>,
+    ) -> Result<Happened, (Refusal, Message)>
+        requires { from < self.old.node.count }
+        ensures ok { OnOk result (self.new.node ≡ deliver self.old.node from message source) }
+        ensures event { IfOk result (λ h. h ≡ hand_event self.old.node from message source) }
+        ensures allowed { OnOk result (message_lacks_serials self.old.node from message source ≡ false) }
+        ensures why { IfErr result
+            (λ e. e.0 ≡ (if message_lacks_serials self.old.node from message source then Refusal.NumbersEnd else Refusal.OutOfMemory)) }
+        ensures grows { message_grows self.old.node from message source ≡ false → IsOk result }
+        ensures full { fits self.old.node from message source ≡ true → brings_item message ≡ false → HasRoomFor self.old message →
+            message_lacks_serials self.old.node from message source ≡ false → IsOk result }
+        ensures err { IfErr result (λ e. (e.1 ≡ message) × (self.new.node ≡ self.old.node)) }
+    {
         let has_place = self.fits(from, &message, source);
         let event = self.hand_event(from, &message, source, has_place);
         self.take_from_hand(from, message, source, has_place)?;
@@ -478,6 +507,7 @@ impl NodeState {
     fn take_at_once(&mut self, from: u8, message: Message) -> Result<(), Message>
         ensures ok { (source : Option ℕ) → OnOk result (self.new.node ≡ deliver self.old.node from message source) }
         ensures allowed { (source : Option ℕ) → OnOk result (message_lacks_serials self.old.node from message source ≡ false) }
+        ensures fit { (source : Option ℕ) → OnOk result (is_unfit self.old.node from message source ≡ false) }
         ensures err { IfErr result (λ m. (m ≡ message) × (self.new.node ≡ self.old.node)) }
         ensures kept { brings_item message ≡ false → self.new ≡ self.old }
     {
@@ -507,6 +537,8 @@ impl NodeState {
             OnOk result (self.new.node ≡ deliver self.old.node from (Message.Item link side n item moves) source) }
         ensures allowed { (source : Option ℕ) →
             OnOk result (message_lacks_serials self.old.node from (Message.Item link side n item moves) source ≡ false) }
+        ensures fit { (source : Option ℕ) →
+            OnOk result (is_unfit self.old.node from (Message.Item link side n item moves) source ≡ false) }
         ensures err { IfErr result (λ m. (m ≡ Message.Item link side n item moves) × (self.new.node ≡ self.old.node)) }
     {
         self.counts_serials();

@@ -1,18 +1,23 @@
 //! The acts of routers that touch no link word, each prepared and done in one go; those that most parcels take have a way of their own.
 
-ghost use Rattle.std.specs.Prelude.{◌≡◌, false, true, is_some, if◌then◌else◌, IsOk, OnOk, OnErr, IfErr, IsSomeAnd};
+ghost use Rattle.std.specs.Prelude.{ℕ, ◌≡◌, false, true, [], Some, is_some, if◌then◌else◌, IsOk, OnOk, OnErr, IfOk, IfErr, IsSomeAnd};
 ghost use Rattle.ipcz_router.specs.ActTable.{may_take};
 ghost use Rattle.ipcz_router.specs.ActEffects.{IsAnswerOf};
 ghost use Rattle.ipcz_node.specs.Node.{router_in};
 ghost use Rattle.ipcz_node.specs.RoomyNodes.{IsPossibleAct};
 ghost use Rattle.ipcz_node.specs.Acts.{commit, act_grows, act_lacks_serials};
 ghost use Rattle.ipcz_node.specs.Preparing.{outlook_at};
+ghost use Rattle.ipcz_node.specs.Events.{event_of};
+ghost use Rattle.ipcz_router.specs.Carrying.{carried_by};
+ghost use Rattle.ipcz_base.specs.declared.item.Item.{Item as ItemValue};
+ghost use Rattle.ipcz_base.specs.declared.link_end.LinkEnd.{LinkEnd as LinkEndValue};
 
 use super::NodeState;
 use crate::act::Act;
-use ipcz_base::Refusal;
+use crate::happened::Happened;
+use ipcz_base::{Ends, LinkId, Message, Refusal};
 use ipcz_router::Outlook;
-use ipcz_router::act::{Answer, RouterAct};
+use ipcz_router::act::{Answer, Applied, RouterAct};
 
 impl NodeState {
     /// Lets a router do a possible act that touches no link word: makes room for it, as `prepare` does, and does it, as `commit_unseen`
@@ -59,6 +64,70 @@ impl NodeState {
         Ok(())
     }
 
+    /// Lets a router do a possible act that touches no link word, as `act_plainly` does, and tells what happened, as `commit` does.
+    pub fn act_told(&mut self, serial: u64, act: RouterAct) -> Result<Happened, Refusal>
+        requires possible { IsPossibleAct self.old.node (Act.Router serial act) }
+        requires plain { IsAnswerOf act Answer.Plain }
+        ensures ok { OnOk result (self.new.node ≡ commit self.old.node (Act.Router serial act) Answer.Plain) }
+        ensures event { IfOk result (λ h. h ≡ event_of self.old.node (Act.Router serial act) Answer.Plain) }
+        ensures allowed { OnOk result (act_lacks_serials self.old.node (Act.Router serial act) ≡ false) }
+        ensures why { IfErr result
+            (λ e. e ≡ (if act_lacks_serials self.old.node (Act.Router serial act) then Refusal.NumbersEnd else Refusal.OutOfMemory)) }
+        ensures grows { act_grows (Act.Router serial act) ≡ false → IsOk result }
+        ensures err { OnErr result (self.new.node ≡ self.old.node) }
+    {
+        match act {
+            RouterAct::SendOut => self.send_out_told(serial),
+            RouterAct::Rest => {
+                self.rest(serial);
+                Ok(Happened::Rest(serial))
+            }
+            _ => self.act_prepared_told(serial, act),
+        }
+    }
+
+    // The same by `prepare` and `commit`.
+    fn act_prepared_told(&mut self, serial: u64, act: RouterAct) -> Result<Happened, Refusal>
+        requires possible { IsPossibleAct self.old.node (Act.Router serial act) }
+        requires plain { IsAnswerOf act Answer.Plain }
+        ensures ok { OnOk result (self.new.node ≡ commit self.old.node (Act.Router serial act) Answer.Plain) }
+        ensures event { IfOk result (λ h. h ≡ event_of self.old.node (Act.Router serial act) Answer.Plain) }
+        ensures allowed { OnOk result (act_lacks_serials self.old.node (Act.Router serial act) ≡ false) }
+        ensures why { IfErr result
+            (λ e. e ≡ (if act_lacks_serials self.old.node (Act.Router serial act) then Refusal.NumbersEnd else Refusal.OutOfMemory)) }
+        ensures grows { act_grows (Act.Router serial act) ≡ false → IsOk result }
+        ensures err { OnErr result (self.new.node ≡ self.old.node) }
+    {
+        self.prepare_router(serial, act)?;
+        Ok(self.commit_router(serial, act, Answer::Plain))
+    }
+
+    // A router sends outward, and what it sent is told.
+    fn send_out_told(&mut self, serial: u64) -> Result<Happened, Refusal>
+        requires { IsPossibleAct self.old.node (Act.Router serial RouterAct.SendOut) }
+        ensures ok { OnOk result (self.new.node ≡ commit self.old.node (Act.Router serial RouterAct.SendOut) Answer.Plain) }
+        ensures event { IfOk result (λ h. h ≡ event_of self.old.node (Act.Router serial RouterAct.SendOut) Answer.Plain) }
+        ensures allowed { OnOk result (act_lacks_serials self.old.node (Act.Router serial RouterAct.SendOut) ≡ false) }
+        ensures why { IfErr result
+            (λ e. e ≡ (if act_lacks_serials self.old.node (Act.Router serial RouterAct.SendOut)
+            then Refusal.NumbersEnd else Refusal.OutOfMemory)) }
+        ensures err { OnErr result (self.new.node ≡ self.old.node) }
+    {
+        match self.outlook(serial, RouterAct::SendOut) {
+            Outlook::Item(to, 0) => {
+                let (n, link) = self.send_alone(serial, to)?;
+                let moved = Ends::from_vec(Vec::new(self.alloc));
+                Ok(Happened::SendOut {
+                    serial,
+                    n,
+                    link,
+                    moved,
+                })
+            }
+            _ => self.act_prepared_told(serial, RouterAct::SendOut),
+        }
+    }
+
     // A router sends outward.
     fn send_out(&mut self, serial: u64) -> Result<(), Refusal>
         requires { IsPossibleAct self.old.node (Act.Router serial RouterAct.SendOut) }
@@ -70,17 +139,22 @@ impl NodeState {
         ensures err { OnErr result (self.new.node ≡ self.old.node) }
     {
         match self.outlook(serial, RouterAct::SendOut) {
-            Outlook::Item(to, 0) => self.send_alone(serial, to),
+            Outlook::Item(to, 0) => match self.send_alone(serial, to) {
+                Ok(_) => Ok(()),
+                Err(why) => Err(why),
+            },
             _ => self.act_prepared(serial, RouterAct::SendOut),
         }
     }
 
-    // A router sends an item without ends outward, to a node.
+    // A router sends an item without ends outward, to a node. It gives the number of the item and its link.
     #[tactic(auto, using(crate::proofs::Carrying::lacks_none))]
-    fn send_alone(&mut self, serial: u64, to: u8) -> Result<(), Refusal>
+    fn send_alone(&mut self, serial: u64, to: u8) -> Result<(u64, LinkId), Refusal>
         requires possible { IsSomeAnd (router_in self.old.node serial) (λ r. may_take r RouterAct.SendOut ≡ true) }
         requires alone { outlook_at (router_in self.old.node serial) RouterAct.SendOut ≡ Outlook.Item to 0 }
         ensures ok { OnOk result (self.new.node ≡ commit self.old.node (Act.Router serial RouterAct.SendOut) Answer.Plain) }
+        ensures sent { IfOk result
+            (λ s. Happened.SendOut serial s.0 s.1 [] ≡ event_of self.old.node (Act.Router serial RouterAct.SendOut) Answer.Plain) }
         ensures allowed { act_lacks_serials self.old.node (Act.Router serial RouterAct.SendOut) ≡ false }
         ensures why { IfErr result (λ e. e ≡ Refusal.OutOfMemory) }
         ensures err { OnErr result (self.new.node ≡ self.old.node) }
@@ -90,8 +164,9 @@ impl NodeState {
             return Err(Refusal::OutOfMemory);
         }
         let message = self.routers.send_out(self.alloc, serial);
+        let sent = sent_as(&message);
         self.outboxes.push(to, message);
-        Ok(())
+        Ok(sent)
     }
 
     // A router rests.
@@ -103,5 +178,17 @@ impl NodeState {
     {
         self.counts_serials();
         self.routers.rest(serial);
+    }
+}
+
+// The number and the link of the item that a message carries.
+#[tactic(auto, unfolding(ipcz_router::specs::Carrying::carried_by))]
+fn sent_as(message: &Message) -> (u64, LinkId)
+    ensures { (link : LinkEndValue) → (n : ℕ) → (item : ItemValue) → Some message.now ≡ carried_by (Applied.Sent link n item) →
+        result ≡ (n, link.link) }
+{
+    match message {
+        Message::Item { link, n, .. } => (*n, *link),
+        _ => (0, LinkId::Central(0)),
     }
 }

@@ -9,10 +9,12 @@ use Rattle.ipcz_router.specs.declared.outlook.Outlook.TheVariants.{Item}
 use Rattle.ipcz_node.specs.declared.act.Act.TheVariants.{Router as OfRouter}
 use Rattle.ipcz_node.specs.Node.{router_in}
 use Rattle.ipcz_node.specs.Acts.{commit}
+use Rattle.ipcz_node.specs.Events.{event_of}
+use Rattle.ipcz_node.specs.declared.happened.Happened.TheVariants as events
 use Rattle.ipcz_node.specs.Preparing.{outlook_at}
 use Rattle.ipcz_node.specs.contracts.state.NodeState.{the_view}
 use Rattle.ipcz_node.proofs.AtRouter.{taken}
-use Rattle.ipcz_node.proofs.Carrying.{committed_alone, lacks_none}
+use Rattle.ipcz_node.proofs.Carrying.{committed_alone, event_alone, lacks_none}
 use Rattle.ipcz_node.proofs.state.NodeState.send_alone.Goals as goal
 
 pub returns-then-is_err-clause-allowed : goal.returns-then-is_err-clause-allowed
@@ -36,3 +38,14 @@ returns-clause-ok c =
     (subst (λ x. outlook_at (router_in x.node c.args.serial) SendOut ≡ Item c.args.to 0) (sym c.self.view_is) c.requires.alone)
     (c.send_out-message.ensures.message here.0 here.1)
     ∙ ap (λ x. commit x.node (OfRouter c.args.serial SendOut) Plain) c.self.view_is
+
+pub returns-clause-sent : goal.returns-clause-sent
+returns-clause-sent c =
+    let v = the_view c.self.inside in
+    let here = taken (router_in v.node c.args.serial) (λ (r : Router). may_take r SendOut ≡ true)
+    (subst (λ x. IsSomeAnd (router_in x.node c.args.serial) (λ (r : Router). may_take r SendOut ≡ true)) (sym c.self.view_is)
+    c.requires.possible) in
+    event_alone v.node c.args.serial here.0 c.args.to c.send_out-message.result c.sent_as-sent.result here.1
+    (subst (λ x. outlook_at (router_in x.node c.args.serial) SendOut ≡ Item c.args.to 0) (sym c.self.view_is) c.requires.alone)
+    (c.send_out-message.ensures.message here.0 here.1) c.sent_as-sent.ensures
+    ∙ ap (λ x. event_of x.node (OfRouter c.args.serial SendOut) Plain) c.self.view_is

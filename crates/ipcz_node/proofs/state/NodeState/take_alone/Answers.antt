@@ -4,7 +4,7 @@ use Rattle.ipcz_router.specs.Router.{Router}
 use Rattle.ipcz_node.specs.Node.{router_in, link_router, found}
 use Rattle.ipcz_node.specs.Hands.{free_hand}
 use Rattle.ipcz_node.proofs.AtRouter.{taken}
-use Rattle.ipcz_node.proofs.Carrying.{enough, taken_alone, takes_none}
+use Rattle.ipcz_node.proofs.Carrying.{enough, fit_alone, taken_alone, takes_none}
 use Rattle.ipcz_node.proofs.state.NodeState.take_alone.Goals as goal
 
 pub take_item-requires-clause-serials : goal.take_item-requires-clause-serials
@@ -25,3 +25,11 @@ pub returns-in-Ok-clause-allowed : goal.returns-in-Ok-clause-allowed
 returns-in-Ok-clause-allowed c source =
     takes_none c.args.self.now.node c.args.from c.args.link c.args.side c.args.n c.args.item c.args.moves source c.counts_serials.ensures.routers
     (c.if-is_alone.ensures refl).1
+
+pub returns-in-Ok-clause-fit : goal.returns-in-Ok-clause-fit
+returns-in-Ok-clause-fit c source =
+    let node = c.args.self.now.node in
+    let t = taken (router_in node c.in-Some.serial) (λ (r : Router). link_router node c.args.link c.args.side ≡ Some (found c.in-Some.serial r))
+    c.in-Some.ensures.found in
+    fit_alone node c.args.from c.args.link c.args.side c.args.n c.args.item c.args.moves source c.in-Some.serial t.0 t.2
+    (c.in-Ok.ensures.place t.0 t.1) (c.if-is_alone.ensures refl).2 (c.if-is_alone.ensures refl).1

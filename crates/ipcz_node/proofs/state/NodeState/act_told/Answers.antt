@@ -1,0 +1,28 @@
+use Rattle.std.proofs.Common.{◌≡◌, true, false, true≢false, ap, sym, ◌∙◌}
+use Rattle.ipcz_node.specs.declared.act.Act.TheVariants.{Router}
+use Rattle.ipcz_router.specs.Router.{Router as RouterRecord}
+use Rattle.ipcz_router.specs.ActTable.{may_take}
+use Rattle.ipcz_router.specs.declared.act.Answer.TheVariants.{Plain}
+use Rattle.ipcz_node.specs.Node.{router_in}
+use Rattle.ipcz_node.specs.Events.{event_of}
+use Rattle.ipcz_node.proofs.AtRouter.{taken}
+use Rattle.ipcz_node.proofs.Carrying.{event_rest}
+use Rattle.ipcz_node.specs.Acts.{act_grows, act_lacks_serials, router_act_grows}
+use Rattle.ipcz_node.proofs.state.NodeState.act_told.Goals as goal
+
+-- a send makes something grow
+pub returns-in-SendOut-clause-grows : goal.returns-in-SendOut-clause-grows
+unfolding act_grows router_act_grows
+returns-in-SendOut-clause-grows c none =
+    let grows : true ≡ false = sym (ap (λ a. act_grows (Router c.args.serial a)) c.in-SendOut.is) ∙ none in
+    absurd (true≢false grows)
+
+pub returns-in-Rest-clause-allowed : goal.returns-in-Rest-clause-allowed
+returns-in-Rest-clause-allowed c =
+    ap (λ a. act_lacks_serials c.args.self.now.node (Router c.args.serial a)) c.in-Rest.is ∙ c.rest.ensures.allowed
+
+pub returns-in-Rest-clause-event : goal.returns-in-Rest-clause-event
+returns-in-Rest-clause-event c =
+    let here = taken (router_in c.args.self.now.node c.args.serial) (λ (r : RouterRecord). may_take r c.args.act ≡ true) c.requires.possible in
+    event_rest c.args.self.now.node c.args.serial here.0 here.1
+    ∙ sym (ap (λ a. event_of c.args.self.now.node (Router c.args.serial a) Plain) c.in-Rest.is)
