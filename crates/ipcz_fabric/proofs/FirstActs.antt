@@ -219,21 +219,22 @@ module _ (t : TableName) (a b c : CellState) (o q : Option ℕ) (none : o ≡ No
         };
       }
 
-  pub else_chosen : (act : Act) → q ≡ None → act ≡ next c.part.state nothing_seen → Chooses t a act c
+  pub else_chosen : (act : Act) → q ≡ None → act ≡ close_turn c.part.state.pending (router_turn (flagged_router c.part.state)) → Chooses t a act c
   else_chosen act e is =
       let h = after None e in
       let same = before.looked.part in
       let found = before.found ++ h.found in
       let looked = looked_more before.found h.found a b c before.looked h.looked in
-      let own : act ≡ next a.part.state nothing_seen = is ∙ ap (λ (p : Part). next p.state nothing_seen) looked.part in
+      let own : act ≡ close_turn a.part.state.pending (router_turn (flagged_router a.part.state)) =
+      is ∙ ap (λ (p : Part). close_turn p.state.pending (router_turn (flagged_router p.state))) looked.part in
       let first : IsFirstElse t a.part found act = record {
         idle = idle;
         none = none_full_more t a.part.node t.count before.found h.found before.first;
         lowest = λ k low. shut_later t a.part k before.found h.found (subst (λ (p : Part). IsShut t p k h.found) same (h.first k low));
-        first = own;
+        first = own ∙ sym (next_is a.part.state idle);
       } in
       record {
         found = found;
         looked = looked;
-        first = rest_first t a.part found act a.part.state.pending (flagged_router a.part.state) first (own ∙ next_is a.part.state idle);
+        first = rest_first t a.part found act a.part.state.pending (flagged_router a.part.state) first own;
       }

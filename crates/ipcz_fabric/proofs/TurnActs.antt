@@ -1,5 +1,5 @@
 -- What a turn tells of an act that it has done.
-use Rattle.std.specs.Prelude.{◌≡◌, ◌≢◌, ◌⊎◌, ℕ, Bool, true, false, ◌||◌, nat_eq, if◌then◌else◌, MatchBool, List, [], ◌∷◌, ◌++◌, Option, Some, None, Result, Ok, Err, IsSomeAnd}
+use Rattle.std.specs.Prelude.{◌≡◌, ◌≢◌, ◌⊎◌, ℕ, Bool, true, false, ◌||◌, nat_eq, if◌then◌else◌, MatchBool, List, [], ◌∷◌, ◌++◌, Option, Some, None, Result, Ok, Err, OnOk, OnErr, IfOk, IfErr, IsOk, IsSomeAnd}
 use Rattle.std.proofs.Common.{ap, sym, subst, ◌∙◌, refl, inl, inr, arith, append-nil}
 use Rattle.std.proofs.lemmas.Bool.Decides.{nat_tests}
 use Rattle.ipcz_base.specs.declared.refusal.Refusal.{Refusal}
@@ -154,6 +154,14 @@ prepare_refused t act old new why lacks none may alone part seen is grows = reco
 pub touch_refused : (t : TableName) (act : Act) (old new : CellState) (why : Refusal) → is_touch_act act ≡ true → act ≡ stand_in act → new.part ≡ old.part → new.seen ≡ old.seen →
     why ≡ (if act_lacks_serials old.part.state act then refusals.NumbersEnd else refusals.OutOfMemory) → (act_grows act ≡ false → false ≡ true) → Acts t act old (Err why) new
 touch_refused t act old new why touch alone part seen is grows = prepare_refused t act old new why (touch_lacks old.part act touch) (touch_sees t.size old.part act touch) (touch_grows act touch) alone part seen is grows
+
+-- an act that is made ready and done in one go
+pub told_acts : (t : TableName) (act : Act) (old new : CellState) (r : Result Happened Refusal) → is_touch_act act ≡ true → act ≡ stand_in act →
+    IfOk r (λ h. h ≡ event_of old.part.state act answers.Plain) → OnOk r (new.part ≡ act_part act answers.Plain old.part) →
+    IfErr r (λ e. e ≡ (if act_lacks_serials old.part.state act then refusals.NumbersEnd else refusals.OutOfMemory)) →
+    (act_grows act ≡ false → IsOk r) → OnErr r (new.part ≡ old.part) → new.seen ≡ old.seen → Acts t act old r new
+told_acts t act old new (Ok event) touch alone is part why grows same seen = touch_acts t act old old new event touch refl refl is part seen
+told_acts t act old new (Err e) touch alone is part why grows same seen = touch_refused t act old new e touch alone same seen why grows
 
 -- a begin that found no memory is an unlock
 pub begin_unlocks : (t : TableName) (serial : ℕ) (old mid new : CellState) (event : Happened) → mid.part ≡ old.part → mid.seen ≡ old.seen → Acts t (acts.Router serial router_acts.Unlock) mid (Ok event) new → Acts t (acts.Router serial router_acts.Begin) old (Ok event) new

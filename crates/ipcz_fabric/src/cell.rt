@@ -7,7 +7,7 @@ ghost use Rattle.ipcz_node.specs.Events.{event_of};
 ghost use Rattle.ipcz_rule.specs.Rule.{Rules};
 ghost use Rattle.ipcz_fabric.specs.CellStates.{part_in, change_part, roomy};
 ghost use Rattle.ipcz_fabric.specs.Cells.{AreSound, IsSeated};
-ghost use Rattle.ipcz_rule.specs.Steps.{put_part, close_part, act_part};
+ghost use Rattle.ipcz_rule.specs.Steps.{put_part, close_part, act_part, is_touch};
 ghost use Rattle.ipcz_fabric.specs.Parts.{got_part, is_touch_act};
 ghost use Rattle.ipcz_fabric.specs.Outcomes.{IsPicked, touched};
 
@@ -17,7 +17,7 @@ use crate::probed::Probed;
 use atomic_table::Seat;
 use ipcz_base::{Bytes, End, Ends, Message, Parcel, Refusal};
 use ipcz_node::{Act, Happened, NodeState, PutRefused};
-use ipcz_router::act::Answer;
+use ipcz_router::act::{Answer, RouterAct};
 use ipcz_rule::View;
 use std::marker::{Brand, Model, PhantomData};
 
@@ -158,6 +158,33 @@ fn act_here<F: FabricName, X: Outcome>(
     event
 }
 
+// An act of a router that touches no word, made ready and done, as a step on the touch word. X is what it tells.
+fn told_here<F: FabricName, X: Outcome>(
+    state: &mut NodeState,
+    seat: &mut Seat<Option<Message>, View>,
+    fabric: &Fabric<F>,
+    serial: u64,
+    act: RouterAct,
+) -> Result<Happened, Refusal>
+    requires picked { IsPicked X.tells (touched (act_part (Act.Router serial act) Answer.Plain)) }
+    requires seated { IsSeated F.table state.old.node seat.old.table_id seat.old.me }
+    requires touch { is_touch act ≡ true }
+    requires possible { IsPossibleAct state.old.node (Act.Router serial act) }
+    ensures event { IfOk result (λ h. h ≡ event_of state.old.node (Act.Router serial act) Answer.Plain) }
+    ensures why { IfErr result
+        (λ e. e ≡ (if act_lacks_serials state.old.node (Act.Router serial act) then Refusal.NumbersEnd else Refusal.OutOfMemory)) }
+    ensures grows { act_grows (Act.Router serial act) ≡ false → IsOk result }
+    ensures seated { IsSeated F.table state.new.node seat.new.table_id seat.new.me }
+    ensures done { OnOk result
+        (seat.new.me ≡ (change_part (act_part (Act.Router serial act) Answer.Plain) seat.old.me.0, seat.old.me.1)) }
+    ensures err { OnErr result ((state.new.node ≡ state.old.node) × (seat.new.me ≡ seat.old.me)) }
+{
+    let node = state.number();
+    let event = state.act_told(serial, act)?;
+    touch::<F, X>(seat, fabric, node);
+    Ok(event)
+}
+
 impl<F: FabricName> NodeCell<F> {
     /// Puts a parcel at an end that callers of this node hold, as `NodeState::put`.
     pub fn put(
@@ -225,5 +252,25 @@ impl<F: FabricName> NodeCell<F> {
         ensures seen { self.new.seen ≡ self.old.seen }
     {
         act_here::<F, Brand>(&mut self.state, &mut self.seat, fabric, act)
+    }
+
+    // Makes room for a possible act of a router that touches no word, and does it.
+    pub(crate) fn act_told(
+        &mut self,
+        fabric: &Fabric<F>,
+        serial: u64,
+        act: RouterAct,
+    ) -> Result<Happened, Refusal>
+        requires touch { is_touch act ≡ true }
+        requires possible { IsPossibleAct self.old.part.state (Act.Router serial act) }
+        ensures event { IfOk result (λ h. h ≡ event_of self.old.part.state (Act.Router serial act) Answer.Plain) }
+        ensures ok { OnOk result (self.new.part ≡ act_part (Act.Router serial act) Answer.Plain self.old.part) }
+        ensures why { IfErr result
+            (λ e. e ≡ (if act_lacks_serials self.old.part.state (Act.Router serial act) then Refusal.NumbersEnd else Refusal.OutOfMemory)) }
+        ensures grows { act_grows (Act.Router serial act) ≡ false → IsOk result }
+        ensures err { OnErr result (self.new.part ≡ self.old.part) }
+        ensures seen { self.new.seen ≡ self.old.seen }
+    {
+        told_here::<F, Brand>(&mut self.state, &mut self.seat, fabric, serial, act)
     }
 }

@@ -237,9 +237,9 @@ impl<F: FabricName> NodeCell<F> {
         let slot = slot_of(fabric, node, to);
         let place = self.probed.take(to);
         turn_over(&mut self.seat, place);
-        let (_, message) = self.state.commit(Act::Post(to), Answer::Plain);
+        let message = self.state.post(to);
         let table = &fabric.table;
-        table.shared.exchange(&mut self.seat, slot, message);
+        table.shared.exchange(&mut self.seat, slot, Some(message));
         post_here::<F, Brand>(node, &mut self.seat, fabric, to);
         let held = hand_count(&self.message);
         let behind = self.probed.len() - place;
@@ -262,7 +262,7 @@ impl<F: FabricName> NodeCell<F> {
         let table = &fabric.table;
         self.message = table.shared.exchange(&mut self.seat, slot, None);
         turn_over(&mut self.seat, 1);
-        self.state.commit(Act::Look(from), Answer::Plain);
+        self.state.look(from);
         true
     }
 

@@ -2,17 +2,18 @@
 ghost use Rattle.std.specs.Prelude.{◌≡◌, ◌<◌, ℕ, true, None, Some, Ok};
 ghost use Rattle.ipcz_base.specs.declared.side.Side.{Side as SideValue};
 ghost use Rattle.ipcz_node.specs.RoomyNodes.{IsPossibleAct};
-ghost use Rattle.ipcz_fabric.specs.Turns.{nothing_seen, Chooses, FindsFull, CanPost, FindsEmpty};
+ghost use Rattle.ipcz_fabric.specs.Turns.{Chooses, FindsFull, CanPost, FindsEmpty};
 ghost use Rattle.ipcz_fabric.specs.TurnEnds.{try_event, IsInside, Acts, Turns};
-ghost use Rattle.ipcz_node.specs.Acts.{next, has_mail_for, stand_in};
-ghost use Rattle.ipcz_node.specs.Node.{word_side};
+ghost use Rattle.ipcz_node.specs.Acts.{close_turn, has_mail_for, router_turn, stand_in};
+ghost use Rattle.ipcz_node.specs.Node.{flagged_router, word_side};
+ghost use Rattle.ipcz_rule.specs.Steps.{is_touch};
 ghost use Rattle.ipcz_fabric.specs.Parts.{is_touch_act};
 
 use crate::cell::NodeCell;
 use crate::fabric::{Fabric, FabricName};
 use crate::words::LockTry;
 use ipcz_base::{LinkId, Refusal};
-use ipcz_node::{Act, Happened, MailSeen};
+use ipcz_node::{Act, Happened};
 use ipcz_router::act::RouterAct;
 use ipcz_word::LockPlan;
 
@@ -65,15 +66,12 @@ impl<F: FabricName> NodeCell<F> {
         self.state.hand()
     }
 
-    // The first possible act without any mailbox.
+    // The first possible act of a node that has no message in hand and sees no mailbox.
     fn next_else(&self) -> Act
-        ensures act { result ≡ next self.now.part.state nothing_seen }
+        ensures act { result ≡ close_turn self.now.part.state.pending (router_turn (flagged_router self.now.part.state)) }
         ensures possible { IsPossibleAct self.now.part.state result }
     {
-        self.state.next(&MailSeen {
-            full: [false; 8],
-            empty: [false; 8],
-        })
+        self.state.next_own()
     }
 
     /// The act that a turn would take, for the mailboxes as it finds them: the first of those in docs/PROTOCOL.md, "Turns". A mailbox that
@@ -153,6 +151,21 @@ impl<F: FabricName> NodeCell<F> {
     {
         self.prepare(&act)?;
         Ok(self.touch_act(fabric, act))
+    }
+
+    // An act of a router that touches no word.
+    fn plain_turn(
+        &mut self,
+        fabric: &Fabric<F>,
+        serial: u64,
+        act: RouterAct,
+    ) -> Result<Happened, Refusal>
+        requires touch { is_touch act ≡ true }
+        requires alone { Act.Router serial act ≡ stand_in (Act.Router serial act) }
+        requires possible { IsPossibleAct self.old.part.state (Act.Router serial act) }
+        ensures { Acts F.table (Act.Router serial act) self.old result self.new }
+    {
+        self.act_told(fabric, serial, act)
     }
 
     // A router's side becomes stable.
@@ -246,7 +259,7 @@ impl<F: FabricName> NodeCell<F> {
             | RouterAct::FinishOut
             | RouterAct::FinishIn
             | RouterAct::Leave
-            | RouterAct::Rest => self.touch_turn(fabric, Act::Router(serial, act)),
+            | RouterAct::Rest => self.plain_turn(fabric, serial, act),
         }
     }
 

@@ -34,7 +34,7 @@ post_here-requires-clause-node g c =
 pub post_here-requires-clause-slot : goal.post_here-requires-clause-slot
 post_here-requires-clause-slot g c =
     let was = c.self.invariant in
-    post_slot c.self.inside.seat.me c.turn_over.new.seat.me c.exchange.new.seat.me c.self.inside.state.node _ c.slot_of-slot.result c.args.to _ _ c.turn_over.ensures.me c.exchange.ensures.3 was.seated.state c.commit-message.ensures.message
+    post_slot c.self.inside.seat.me c.turn_over.new.seat.me c.exchange.new.seat.me c.self.inside.state.node _ c.slot_of-slot.result c.args.to _ _ c.turn_over.ensures.me c.exchange.ensures.3 was.seated.state c.post-message.ensures.message
     (ap (λ (z : CellState). has_mail_for z.part.state c.args.to) c.self.view_is ∙ c.requires.mail) c.slot_of-slot.ensures.slot
 
 pub invariant_of-self : goal.invariant_of-self
@@ -48,7 +48,7 @@ invariant_of-self g c =
     let both = append_length place.0 place.1 in
     let held = c.hand_count-held.ensures in
     let left : c.len.result - c.take-place.result + c.hand_count-held.result ≡ length place.1 + cond (is_some c.self.inside.message) 1 0 = omega (arith, many, before, now, both, held) in
-    posted_cell t c.self.inside.state.node c.commit-message.new.self.node c.self.inside.message c.self.inside.probed c.self.inside.seat.table_id c.turn_over-2.new.seat.table_id c.self.inside.seat.me was
+    posted_cell t c.self.inside.state.node c.post-message.new.self.node c.self.inside.message c.self.inside.probed c.self.inside.seat.table_id c.turn_over-2.new.seat.table_id c.self.inside.seat.me was
     (c.turn_over-2.ensures.table ∙ (c.post_here.ensures.table ∙ (c.exchange.ensures.0 ∙ c.turn_over.ensures.table))) c.turn_over.new.seat.me c.exchange.new.seat.me c.post_here.new.seat.me c.turn_over-2.new.seat.me c.args.to c.take-place.result _ c.slot_of-slot.result _
     place.0 place.1 c.take-place.new.self c.post_here.ensures.sound place.2 place.3 c.take-place.ensures.without place.4 left c.turn_over.ensures.me c.exchange.ensures.3 c.post_here.ensures.done c.turn_over-2.ensures.me
-    c.commit-message.ensures.node
+    c.post-message.ensures.node
