@@ -13,7 +13,7 @@ use Rattle.ipcz_base.specs.declared.side.Side.{Side}
 use Rattle.ipcz_base.specs.Items.{ends_in}
 use Rattle.ipcz_base.specs.Limits.{no_number, has_serials}
 use Rattle.ipcz_router.specs.Router.{Router, outward_has}
-use Rattle.ipcz_router.specs.Calls.{has_place_for}
+use Rattle.ipcz_router.specs.Calls.{accept, has_place_for}
 use Rattle.ipcz_router.specs.ActTable.{is_possible, is_rest, may_take}
 use Rattle.ipcz_router.specs.ActEffects.{apply, output_of}
 use Rattle.ipcz_router.specs.Carrying.{carried_by}
@@ -29,6 +29,7 @@ use Rattle.ipcz_node.specs.Hands.{deliver, fit_moves, fits, fits_from, fits_item
 use Rattle.ipcz_node.specs.Hands.{is_unfit, link_asked, side_asked}
 use Rattle.ipcz_node.specs.Events.{event_at, event_of, router_event, send_event}
 use Rattle.ipcz_node.specs.declared.happened.Happened.TheVariants as events
+use Rattle.ipcz_node.specs.Hands.{grows_where_it_fits, message_grows}
 use Rattle.ipcz_node.specs.Acts.{act_lacks_serials, commit, commit_router, keep_or_drop, serials_at}
 use Rattle.ipcz_node.specs.Preparing.{outlook_at, serials_as}
 use Rattle.ipcz_node.specs.Sends.{send, serials_for, send_item, post_item, item_message, move_ends}
@@ -170,13 +171,25 @@ fit_alone n sender link side number item moves source s r here place ends none =
 pub taken_alone : (n : Node) (sender : ℕ) (link : LinkId) (side : Side) (number : ℕ) (item : Item) (moves : List Descriptor)
     (source : Option ℕ) (s : ℕ) (r : Router) → link_router n link side ≡ Some (found s r) →
     has_place_for r (outward_has r link side) number ≡ true → ends_in item ≡ [] → moves ≡ [] →
-    free_hand (take_in n sender link side number item moves s r) sender ≡ deliver n sender (messages.Item link side number item moves) source
+    free_hand (with_router n s (accept r (outward_has r link side) number item)) sender
+    ≡ deliver n sender (messages.Item link side number item moves) source
 unfolding deliver handle on_found
 taken_alone n sender link side number item moves source s r here place ends none =
     let m : Message = messages.Item link side number item moves in
     sym (ap (λ b. free_hand (if b then handle n sender m else add_stray n m) sender)
     (placed_alone n sender link side number item moves source s r here place ends none)
-    ∙ ap (λ o. free_hand (on_found n o (take_in n sender link side number item moves)) sender) here)
+    ∙ ap (λ o. free_hand (on_found n o (take_in n sender link side number item moves)) sender) here
+    ∙ ap (λ ds. free_hand (take_in n sender link side number item ds s r) sender) none)
+
+or_true : (b : Bool) → (b || true) ≡ true
+or_true true = refl
+or_true false = refl
+
+-- something grows with it
+pub item_grows : (n : Node) (sender : ℕ) (link : LinkId) (side : Side) (number : ℕ) (item : Item) (moves : List Descriptor)
+    (source : Option ℕ) → message_grows n sender (messages.Item link side number item moves) source ≡ true
+unfolding grows_where_it_fits
+item_grows n sender link side number item moves source = or_true (not (fits n sender (messages.Item link side number item moves) source))
 
 -- and takes no serials for it
 pub takes_none : (n : Node) (sender : ℕ) (link : LinkId) (side : Side) (number : ℕ) (item : Item) (moves : List Descriptor)

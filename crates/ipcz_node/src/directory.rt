@@ -26,7 +26,8 @@ mod passing;
 mod room;
 
 use self::filing::{follow, refile};
-use self::room::{count_ends, ends_taken, flags_wanted, is_outward, make_room, sum};
+pub(crate) use self::room::count_ends;
+use self::room::{ends_taken, flags_wanted, is_outward, make_room, sum};
 use crate::held_ends::HeldEnds;
 use crate::index::Index;
 use crate::routers::Routers;

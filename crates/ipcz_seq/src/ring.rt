@@ -1,14 +1,15 @@
 //! Pairs of a number and an item in a ring, by rising numbers: where a number stands, and where the first gap is.
 
-ghost use Rattle.std.specs.Prelude.{◌≡◌, ◌<◌, ◌≤◌, option_copied, IsSome, MatchResult, OnOk, IfErr};
+ghost use Rattle.std.specs.Prelude.{◌≡◌, ◌+◌, ◌<◌, ◌≤◌, insert, option_copied, IsSome, MatchResult, OnOk, OnErr, IfErr};
 ghost use Rattle.std.specs.Ordering.{nat_cmp};
 ghost use Rattle.std.specs.List.Sorted.{IsBinarySearchResult, IsSearchInRange};
 ghost use Rattle.std.specs.FinMap.{find};
-ghost use Rattle.std.specs.VecDeque.{deque_len, deque_capacity};
+ghost use Rattle.std.specs.VecDeque.{deque_len, deque_capacity, DequeUnchanged};
 ghost use Rattle.ipcz_seq.specs.Pairs.{AreWaiting, IsPlaceFor, IsGapAt, queue_of};
 ghost use Rattle.ipcz_seq.specs.Queue.{IsReach};
 
 use ipcz_base::Refusal;
+use std::alloc::AllocFailed;
 use std::collections::VecDeque;
 
 // Where a pair with the number stands, or else where one would go.
@@ -24,6 +25,7 @@ pub(crate) fn place_of<T>(pairs: &VecDeque<(u64, T)>, n: u64) -> Result<usize, u
 }
 
 // The same by halving.
+#[inline(never)]
 fn searched_place<T>(pairs: &VecDeque<(u64, T)>, n: u64) -> Result<usize, usize>
     ensures bound { IsSearchInRange result (deque_len pairs.now) }
     ensures position { IsBinarySearchResult (λ e. nat_cmp e.0 n) pairs.now.items result }
@@ -72,6 +74,7 @@ fn gap_of<T>(pairs: &VecDeque<(u64, T)>, current: u64) -> usize
 }
 
 // Makes room for one pair more. The first buffer holds one, since most queues never hold more.
+#[inline(always)]
 pub(crate) fn make_room<T>(pairs: &mut VecDeque<(u64, T)>) -> Result<(), Refusal>
     ensures pairs { pairs.new.items ≡ pairs.old.items }
     ensures len { deque_len pairs.new ≡ deque_len pairs.old }
@@ -88,6 +91,8 @@ pub(crate) fn make_room<T>(pairs: &mut VecDeque<(u64, T)>) -> Result<(), Refusal
 }
 
 // Makes room where there is none.
+#[cold]
+#[inline(never)]
 fn grow<T>(pairs: &mut VecDeque<(u64, T)>) -> Result<(), Refusal>
     requires { deque_capacity pairs.old ≤ deque_len pairs.old }
     ensures pairs { pairs.new.items ≡ pairs.old.items }
@@ -106,4 +111,23 @@ fn grow<T>(pairs: &mut VecDeque<(u64, T)>) -> Result<(), Refusal>
         Ok(()) => Ok(()),
         Err(_) => Err(Refusal::OutOfMemory),
     }
+}
+
+// Inserts a pair before others. Most come behind all that are there, so this stands apart.
+#[cold]
+#[inline(never)]
+pub(crate) fn insert_between<T>(
+    pairs: &mut VecDeque<(u64, T)>,
+    place: usize,
+    pair: (u64, T),
+) -> Result<(), AllocFailed<(u64, T)>>
+    requires { place ≤ deque_len pairs.old }
+    ensures items { OnOk result (pairs.new.items ≡ insert pairs.old.items place pair) }
+    ensures len { OnOk result (deque_len pairs.new ≡ deque_len pairs.old + 1) }
+    ensures value_returned { IfErr result (λ y. y.value ≡ pair) }
+    ensures unchanged { OnErr result (DequeUnchanged pairs.old pairs.new) }
+    ensures full { OnErr result (deque_capacity pairs.old ≤ deque_len pairs.old) }
+    ensures capacity { deque_capacity pairs.old ≤ deque_capacity pairs.new }
+{
+    pairs.insert(place, pair)
 }

@@ -89,28 +89,35 @@ impl Mailboxes {
     }
 
     /// Takes the message of a full mailbox into the hand.
-    #[tactic(auto, using(crate::proofs::code::Slots::place_read, crate::proofs::code::Slots::place_written))]
+    #[tactic(auto, using(crate::proofs::code::Slots::place_read, crate::proofs::code::Slots::place_written), unfolding(crate::specs::Mailing::taken_up))]
     pub(crate) fn take_up(&mut self, k: usize)
         requires { k < length self.old }
         ensures { self.new ≡ put_place Mail.Empty self.old k (taken_up (place_at Mail.Empty self.old k)) }
     {
         let place = &mut self.boxes[k];
-        let mail = mem::replace(place, Mail::Empty);
-        *place = take_up(mail);
+        match mem::replace(place, Mail::Empty) {
+            Mail::Empty => {}
+            Mail::Full(message) => *place = Mail::Hand(message),
+            Mail::Hand(message) => *place = Mail::Hand(message),
+        }
     }
 
     /// Takes the message in hand out of its mailbox, which is empty then; a mailbox without one stays as it is.
-    #[tactic(auto, using(crate::proofs::code::Slots::place_read, crate::proofs::code::Slots::place_written))]
+    #[tactic(auto, using(crate::proofs::code::Slots::place_read, crate::proofs::code::Slots::place_written), unfolding(crate::specs::Mailing::put_down, crate::specs::Turns::hand_message))]
     pub(crate) fn take_hand(&mut self, k: usize) -> Option<Message>
         requires { k < length self.old }
         ensures message { result ≡ hand_message (place_at Mail.Empty self.old k) }
         ensures mail { self.new ≡ put_place Mail.Empty self.old k (put_down (place_at Mail.Empty self.old k)) }
     {
         let place = &mut self.boxes[k];
-        let mail = mem::replace(place, Mail::Empty);
-        let (message, left) = put_down(mail);
-        *place = left;
-        message
+        match mem::replace(place, Mail::Empty) {
+            Mail::Empty => None,
+            Mail::Full(message) => {
+                *place = Mail::Full(message);
+                None
+            }
+            Mail::Hand(message) => Some(message),
+        }
     }
 }
 
@@ -133,30 +140,5 @@ fn is_clear(mail: &Mail) -> bool
     match mail {
         Mail::Empty => true,
         Mail::Full(_) | Mail::Hand(_) => false,
-    }
-}
-
-// What was in the hand, and what is left of it.
-#[tactic(auto, unfolding(crate::specs::Mailing::put_down, crate::specs::Turns::hand_message))]
-fn put_down(mail: Mail) -> (Option<Message>, Mail)
-    ensures message { result.0 ≡ hand_message mail }
-    ensures left { result.1 ≡ put_down mail }
-{
-    match mail {
-        Mail::Empty => (None, Mail::Empty),
-        Mail::Full(message) => (None, Mail::Full(message)),
-        Mail::Hand(message) => (Some(message), Mail::Empty),
-    }
-}
-
-// What was full is in the hand.
-#[tactic(auto, unfolding(crate::specs::Mailing::taken_up))]
-fn take_up(mail: Mail) -> Mail
-    ensures { result ≡ taken_up mail }
-{
-    match mail {
-        Mail::Empty => Mail::Empty,
-        Mail::Full(message) => Mail::Hand(message),
-        Mail::Hand(message) => Mail::Hand(message),
     }
 }

@@ -101,6 +101,7 @@ fn file_link(links: &mut Index<(LinkId, Side)>, serial: u64, new: Option<LinkEnd
 
 // Keeps the set of flagged serials after what was done with the router of a serial. That is all that is to be filed where its links
 // stay, and whether it is an open terminal.
+#[inline(always)]
 pub(super) fn follow(flagged: &mut SortedSet<u64>, serial: u64, was_flagged: bool, is_flagged: bool)
     requires was { has nat_cmp flagged.old.members serial ≡ was_flagged }
     requires room { was_flagged ≡ false → 0 < flagged.old.room }

@@ -1,8 +1,11 @@
-//! The acts that most parcels take, each by a call of its own: a send outward and a rest.
+//! What most parcels take, each by a call of its own: a send outward, an item without ends that comes, and a rest.
 
-ghost use Rattle.std.specs.Prelude.{◌≡◌, Some, true, is_some, IsSomeAnd};
+ghost use Rattle.std.specs.Prelude.{◌≡◌, ◌<◌, [], Some, true, is_some, IsSomeAnd, OnOk, OnErr, IfErr};
 ghost use Rattle.std.specs.FinMap.{get};
-ghost use Rattle.ipcz_router.specs.Router.{Router as RouterRecord};
+ghost use Rattle.ipcz_base.specs.Items.{ends_in};
+ghost use Rattle.ipcz_base.specs.Limits.{no_number};
+ghost use Rattle.ipcz_router.specs.Router.{Router as RouterRecord, outward_has, router_has};
+ghost use Rattle.ipcz_router.specs.Calls.{accept, accept_refusal, has_place_for};
 ghost use Rattle.ipcz_router.specs.ActTable.{may_take};
 ghost use Rattle.ipcz_router.specs.ActEffects.{apply, output_of};
 ghost use Rattle.ipcz_router.specs.Carrying.{carried_by};
@@ -10,9 +13,11 @@ ghost use Rattle.ipcz_node.specs.Rooms.{put_filed};
 
 use super::Directory;
 use super::filing::follow;
-use ipcz_base::Message;
+use ipcz_base::{Item, LinkId, Message, Refusal, Side};
+use ipcz_router::Router;
 use ipcz_router::act::{Answer, RouterAct};
 use std::alloc::Global;
+use std::mem;
 
 impl Directory {
     /// Does the act `SendOut` of the router of the serial, as `Router::send_out`.
@@ -31,6 +36,36 @@ impl Directory {
         message
     }
 
+    /// Gives an item without ends to the router of the serial, as `accept` does; `item` is left as it is where it is refused, and counts for
+    /// nothing where it is taken.
+    #[tactic(auto, using(crate::proofs::Written::insert_same))]
+    pub fn accept_alone(
+        &mut self,
+        serial: u64,
+        link: LinkId,
+        side: Side,
+        n: u64,
+        item: &mut Item,
+    ) -> Result<(), Refusal>
+        requires stands { IsSomeAnd (get self.old.filed.routers serial) (λ r. router_has r link side ≡ true) }
+        requires number { n < no_number }
+        requires alone { ends_in item.old ≡ [] }
+        ensures place { (r : RouterRecord) → get self.old.filed.routers serial ≡ Some r →
+            OnOk result (has_place_for r (outward_has r link side) n ≡ true) }
+        ensures ok { (r : RouterRecord) → get self.old.filed.routers serial ≡ Some r →
+            OnOk result (self.new.filed ≡ put_filed self.old.filed serial (accept r (outward_has r link side) n item.old)) }
+        ensures why { (r : RouterRecord) → get self.old.filed.routers serial ≡ Some r →
+            IfErr result (λ e. e ≡ accept_refusal r link side n) }
+        ensures err { OnErr result ((item.new ≡ item.old) × (self.new.filed ≡ self.old.filed)) }
+    {
+        let router = self.routers.router_mut(serial);
+        let was = router.is_flagged();
+        let answer = accept_from(router, link, side, n, item);
+        let is = router.is_flagged();
+        follow(&mut self.flagged, serial, was, is);
+        answer
+    }
+
     /// Does the act `Rest` of the router of the serial, as `Router::rest`.
     pub fn rest(&mut self, serial: u64)
         requires { is_some (get self.old.filed.routers serial) ≡ true }
@@ -42,5 +77,29 @@ impl Directory {
         router.rest();
         let is = router.is_flagged();
         follow(&mut self.flagged, serial, was, is);
+    }
+}
+
+// Gives an item to a router, as `Router::accept`; where that refuses it, it is put back.
+fn accept_from(
+    router: &mut Router,
+    link: LinkId,
+    side: Side,
+    n: u64,
+    item: &mut Item,
+) -> Result<(), Refusal>
+    requires { n < no_number }
+    ensures stands { OnOk result (router_has router.old.router link side ≡ true) }
+    ensures place { OnOk result (has_place_for router.old.router (outward_has router.old.router link side) n ≡ true) }
+    ensures ok { OnOk result (router.new.router ≡ accept router.old.router (outward_has router.old.router link side) n item.old) }
+    ensures why { IfErr result (λ e. e ≡ accept_refusal router.old.router link side n) }
+    ensures err { OnErr result ((item.new ≡ item.old) × (router.new.router ≡ router.old.router)) }
+{
+    match router.accept(link, side, n, mem::replace(item, Item::Mark)) {
+        Ok(()) => Ok(()),
+        Err((why, refused)) => {
+            *item = refused;
+            Err(why)
+        }
     }
 }

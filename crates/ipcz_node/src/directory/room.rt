@@ -1,4 +1,4 @@
-ghost use Rattle.std.specs.Prelude.{◌≡◌, ◌+◌, ◌<◌, ◌≤◌, ◌||◌};
+ghost use Rattle.std.specs.Prelude.{◌≡◌, ◌+◌, ◌<◌, ◌≤◌, ◌^◌, ◌||◌};
 ghost use Rattle.ipcz_base.specs.Links.{has_link};
 ghost use Rattle.ipcz_node.specs.Directories.{takes_inside, ends_given, ends_taken};
 ghost use Rattle.std.specs.Prelude.{length, IfSome, IfNone};
@@ -35,7 +35,8 @@ pub(super) fn make_room(
 // How many flags to make room for, beside those that are up: one for each router, where routers are made; else each has its
 // room. None where that is no number.
 pub(super) fn flags_wanted(len: usize, routers: usize) -> Option<usize>
-    ensures { IfSome result (λ n. 0 < routers → n ≡ len + routers) }
+    ensures some { IfSome result (λ n. 0 < routers → n ≡ len + routers) }
+    ensures none { IfNone result (2 ^ 64 ≤ len + routers) }
 {
     if routers == 0 {
         Some(0)
@@ -46,13 +47,14 @@ pub(super) fn flags_wanted(len: usize, routers: usize) -> Option<usize>
 
 // The sum of two numbers, where it fits.
 pub(super) fn sum(a: usize, b: usize) -> Option<usize>
-    ensures { IfSome result (λ n. n ≡ a + b) }
+    ensures some { IfSome result (λ n. n ≡ a + b) }
+    ensures none { IfNone result (2 ^ 64 ≤ a + b) }
 {
     a.checked_add(b)
 }
 
 // How many ends travel with an item.
-pub(super) fn count_ends(item: &Item) -> usize
+pub(crate) fn count_ends(item: &Item) -> usize
     ensures { result ≡ length (ends_in item.now) }
 {
     match item {

@@ -1,4 +1,4 @@
-ghost use Rattle.std.specs.Prelude.{◌≡◌, ◌<◌, ◌≤◌, ◌+◌, ◌^◌, Some, is_some, true, false, length, if◌then◌else◌, IsOk, OnOk, IfOk, IfErr};
+ghost use Rattle.std.specs.Prelude.{◌≡◌, ◌<◌, ◌≤◌, ◌+◌, ◌^◌, Some, is_some, true, false, length, if◌then◌else◌, Ok, IsOk, OnOk, OnErr, IfOk, IfErr};
 ghost use Rattle.std.specs.Prelude.{IfSome, IfNone, IsSomeAnd, IsTrue, ℕ, Option, []};
 ghost use Rattle.ipcz_base.specs.Items.{ends_in};
 ghost use Rattle.ipcz_base.specs.Limits.{no_number, has_serials};
@@ -12,6 +12,7 @@ ghost use Rattle.ipcz_node.specs.Events.{hand_event};
 ghost use Rattle.ipcz_node.specs.Telling.{HasRoomFor, brings_item};
 
 use super::NodeState;
+use crate::directory::count_ends;
 use crate::happened::{Happened, kind_of, link_asked, side_asked};
 use ipcz_base::{Descriptor, End, Item, LinkId, Message, Moves, Refusal, Side};
 
@@ -423,17 +424,20 @@ impl NodeState {
         ensures err { IfErr result (λ e. (e.1 ≡ message) × (self.new.node ≡ self.old.node)) }
     {
         let (kind, link) = (kind_of(&message), link_asked(&message));
-        match self.take_at_once(from, message) {
-            Ok(()) => Ok(Happened::Hand {
+        let mut message = message;
+        match self.take_at_once(from, &mut message) {
+            Ok(true) => Ok(Happened::Hand {
                 kind,
                 link,
                 unfit: false,
             }),
-            Err(message) => self.deliver_any_told(from, message, source),
+            Ok(false) => self.deliver_any_told(from, message, source),
+            Err(why) => Err((why, message)),
         }
     }
 
     // The same for each message.
+    #[inline(never)]
     fn deliver_any_told(
         &mut self,
         from: u8,
@@ -474,13 +478,16 @@ impl NodeState {
             message_lacks_serials self.old.node from message source ≡ false → IsOk result }
         ensures err { IfErr result (λ e. (e.1 ≡ message) × (self.new.node ≡ self.old.node)) }
     {
-        match self.take_at_once(from, message) {
-            Ok(()) => Ok(()),
-            Err(message) => self.deliver_any(from, message, source),
+        let mut message = message;
+        match self.take_at_once(from, &mut message) {
+            Ok(true) => Ok(()),
+            Ok(false) => self.deliver_any(from, message, source),
+            Err(why) => Err((why, message)),
         }
     }
 
     // The same for each message.
+    #[inline(never)]
     fn deliver_any(
         &mut self,
         from: u8,
@@ -501,15 +508,20 @@ impl NodeState {
         self.take_from_hand(from, message, source, fits)
     }
 
-    // Gives an item without ends and moves to its router and empties the hand, where the item has its place there; hands each other
-    // message back.
+    // Gives an item without ends and moves to its router and empties the hand, where the item has its place there, and tells whether it
+    // did. Each other message stays as it is. It answers `OutOfMemory` where there was no room for such an item and none was found.
     #[tactic(auto, unfolding(crate::specs::Telling::brings_item))]
-    fn take_at_once(&mut self, from: u8, message: Message) -> Result<(), Message>
-        ensures ok { (source : Option ℕ) → OnOk result (self.new.node ≡ deliver self.old.node from message source) }
-        ensures allowed { (source : Option ℕ) → OnOk result (message_lacks_serials self.old.node from message source ≡ false) }
-        ensures fit { (source : Option ℕ) → OnOk result (is_unfit self.old.node from message source ≡ false) }
-        ensures err { IfErr result (λ m. (m ≡ message) × (self.new.node ≡ self.old.node)) }
-        ensures kept { brings_item message ≡ false → self.new ≡ self.old }
+    fn take_at_once(&mut self, from: u8, message: &mut Message) -> Result<bool, Refusal>
+        ensures taken { (source : Option ℕ) → IfOk result (λ taken. taken ≡ true → self.new.node ≡ deliver self.old.node from message.old source) }
+        ensures allowed { (source : Option ℕ) →
+            IfOk result (λ taken. taken ≡ true → message_lacks_serials self.old.node from message.old source ≡ false) }
+        ensures fit { (source : Option ℕ) → IfOk result (λ taken. taken ≡ true → is_unfit self.old.node from message.old source ≡ false) }
+        ensures left { IfOk result (λ taken. taken ≡ false → (message.new ≡ message.old) × (self.new.node ≡ self.old.node)) }
+        ensures why { (source : Option ℕ) →
+            IfErr result (λ e. (e ≡ Refusal.OutOfMemory) × (message_lacks_serials self.old.node from message.old source ≡ false) ×
+            (message_grows self.old.node from message.old source ≡ true)) }
+        ensures err { OnErr result ((message.new ≡ message.old) × (self.new.node ≡ self.old.node)) }
+        ensures kept { brings_item message.old ≡ false → (result ≡ Ok false) × (self.new ≡ self.old) }
     {
         match message {
             Message::Item {
@@ -518,8 +530,8 @@ impl NodeState {
                 n,
                 item,
                 moves,
-            } => self.take_alone(from, link, side, n, item, moves),
-            other => Err(other),
+            } => self.take_alone(from, *link, *side, *n, item, moves),
+            _ => Ok(false),
         }
     }
 
@@ -530,36 +542,37 @@ impl NodeState {
         link: LinkId,
         side: Side,
         n: u64,
-        item: Item,
-        moves: Moves,
-    ) -> Result<(), Message>
-        ensures ok { (source : Option ℕ) →
-            OnOk result (self.new.node ≡ deliver self.old.node from (Message.Item link side n item moves) source) }
+        item: &mut Item,
+        moves: &Moves,
+    ) -> Result<bool, Refusal>
+        ensures taken { (source : Option ℕ) →
+            IfOk result (λ taken. taken ≡ true → self.new.node ≡ deliver self.old.node from (Message.Item link side n item.old moves.now) source) }
         ensures allowed { (source : Option ℕ) →
-            OnOk result (message_lacks_serials self.old.node from (Message.Item link side n item moves) source ≡ false) }
+            IfOk result (λ taken. taken ≡ true → message_lacks_serials self.old.node from (Message.Item link side n item.old moves.now) source ≡ false) }
         ensures fit { (source : Option ℕ) →
-            OnOk result (is_unfit self.old.node from (Message.Item link side n item moves) source ≡ false) }
-        ensures err { IfErr result (λ m. (m ≡ Message.Item link side n item moves) × (self.new.node ≡ self.old.node)) }
+            IfOk result (λ taken. taken ≡ true → is_unfit self.old.node from (Message.Item link side n item.old moves.now) source ≡ false) }
+        ensures left { IfOk result (λ taken. taken ≡ false → (item.new ≡ item.old) × (self.new.node ≡ self.old.node)) }
+        ensures why { (source : Option ℕ) →
+            IfErr result (λ e. (e ≡ Refusal.OutOfMemory) ×
+            (message_lacks_serials self.old.node from (Message.Item link side n item.old moves.now) source ≡ false) ×
+            (message_grows self.old.node from (Message.Item link side n item.old moves.now) source ≡ true)) }
+        ensures err { OnErr result ((item.new ≡ item.old) × (self.new.node ≡ self.old.node)) }
     {
         self.counts_serials();
-        if is_alone(n, &item, &moves) {
-            if let Some(serial) = self.link_serial(link, side) {
-                return match self.take_item(serial, from, link, side, n, item, moves) {
-                    Ok(()) => {
-                        self.free_hand(from);
-                        Ok(())
-                    }
-                    Err(message) => Err(message),
-                };
-            }
+        if !is_alone(n, item, moves) {
+            return Ok(false);
         }
-        Err(Message::Item {
-            link,
-            side,
-            n,
-            item,
-            moves,
-        })
+        let Some(serial) = self.link_serial(link, side) else {
+            return Ok(false);
+        };
+        match self.routers.accept_alone(serial, link, side, n, item) {
+            Ok(()) => {
+                self.free_hand(from);
+                Ok(true)
+            }
+            Err(Refusal::OutOfMemory) => Err(Refusal::OutOfMemory),
+            Err(_) => Ok(false),
+        }
     }
 
     // Receives a message of which it is known whether it fits, and empties the hand.
@@ -613,9 +626,6 @@ fn serials_in(message: &Message) -> usize
 fn is_alone(n: u64, item: &Item, moves: &Moves) -> bool
     ensures { IsTrue result → (n < no_number) × (moves.now ≡ []) × (ends_in item.now ≡ []) }
 {
-    let ends = match item {
-        Item::Parcel(parcel) => parcel.ends.len(),
-        Item::Mark => 0,
-    };
+    let ends = count_ends(item);
     n < u64::MAX && moves.is_empty() && ends == 0
 }

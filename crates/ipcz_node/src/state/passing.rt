@@ -47,6 +47,7 @@ impl NodeState {
     }
 
     // The same by `prepare` and `commit_unseen`.
+    #[inline(never)]
     fn act_prepared(&mut self, serial: u64, act: RouterAct) -> Result<(), Refusal>
         requires possible { IsPossibleAct self.old.node (Act.Router serial act) }
         requires plain { IsAnswerOf act Answer.Plain }
@@ -87,6 +88,7 @@ impl NodeState {
     }
 
     // The same by `prepare` and `commit`.
+    #[inline(never)]
     fn act_prepared_told(&mut self, serial: u64, act: RouterAct) -> Result<Happened, Refusal>
         requires possible { IsPossibleAct self.old.node (Act.Router serial act) }
         requires plain { IsAnswerOf act Answer.Plain }

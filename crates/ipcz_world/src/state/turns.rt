@@ -130,8 +130,14 @@ impl State {
     {
         match act {
             Act::Hand(from) => self.handle(n, from),
-            Act::Look(from) => Ok(self.look(n, from)),
-            Act::Post(to) => Ok(self.post(n, to)),
+            Act::Look(from) => {
+                self.look(n, from);
+                Ok(Happened::Look(from))
+            }
+            Act::Post(to) => {
+                self.post(n, to);
+                Ok(Happened::Post(to))
+            }
             Act::Close(end) => self.close_pending(n, end),
             Act::Router(serial, act) => self.take_router_act(n, serial, act),
             Act::Idle => Ok(Happened::Idle),
@@ -175,29 +181,27 @@ impl State {
     }
 
     // Takes the message of a full mailbox into the hand.
-    fn look(&mut self, n: u8, from: u8) -> Happened
+    fn look(&mut self, n: u8, from: u8)
         requires regular { IsRegular self.old }
         requires node { n < self.old.count }
         requires possible { can_take self.old n (Act.Look from) ≡ true }
-        ensures { IsTaken self.old n (Act.Look from) (Ok result) self.new }
+        ensures { IsTaken self.old n (Act.Look from) (Ok (Happened.Look from)) self.new }
     {
         let place = self.way(from, n);
         self.nodes.node_mut(n).look(from);
         self.mail.take_up(place);
-        Happened::Look(from)
     }
 
     // Posts the first message for a node into its empty mailbox.
-    fn post(&mut self, n: u8, to: u8) -> Happened
+    fn post(&mut self, n: u8, to: u8)
         requires regular { IsRegular self.old }
         requires node { n < self.old.count }
         requires possible { can_take self.old n (Act.Post to) ≡ true }
-        ensures { IsTaken self.old n (Act.Post to) (Ok result) self.new }
+        ensures { IsTaken self.old n (Act.Post to) (Ok (Happened.Post to)) self.new }
     {
         let place = self.way(n, to);
         let message = self.nodes.node_mut(n).post(to);
         self.mail.put(place, Mail::Full(message));
-        Happened::Post(to)
     }
 
     // Closes an end that travelled in a parcel which a sink has dropped.
@@ -289,11 +293,11 @@ impl State {
             Act::Hand(from) => self.handle_unseen(n, from),
             Act::Router(serial, act) => self.take_router_act_unseen(n, serial, act),
             Act::Look(from) => {
-                let _seen = self.look(n, from);
+                self.look(n, from);
                 Ok(())
             }
             Act::Post(to) => {
-                let _seen = self.post(n, to);
+                self.post(n, to);
                 Ok(())
             }
             Act::Close(end) => match self.close_pending(n, end) {

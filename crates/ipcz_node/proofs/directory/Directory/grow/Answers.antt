@@ -9,9 +9,9 @@ invariant_of-self-2 c = (
     same_filed _ _ _ _ _ _ _ _ c.reserve.ensures.routers c.reserve-2.ensures.members c.reserve-3.ensures.members c.reserve-4.ensures.members
         c.self.invariant.0.0,
     room_for_some _ _ _ _ _ c.args.links _ _ _ _ _ c.reserve-2.new.self.room _ _ c.reserve.ensures.routers c.self.invariant.0.1 c.reserve-4.ensures.room
-        c.in_ok-reserve.ensures.ok (omega (arith, c.in_ok-reserve-2.ensures.ok, c.in-Some.ensures)) c.in_ok-reserve-3.ensures.ok
-        (λ some. omega (arith, c.in_ok-reserve-4.ensures.ok, c.in-Some-flags_wanted.ensures some, c.len.ensures.count)),
+        c.in_ok-reserve.ensures.ok (omega (arith, c.in_ok-reserve-2.ensures.ok, c.in-Some.ensures.some)) c.in_ok-reserve-3.ensures.ok
+        (λ some. omega (arith, c.in_ok-reserve-4.ensures.ok, c.in-Some-flags_wanted.ensures.some some, c.len.ensures.count)),
   ),
   hold_more _ _ c.self.inside.ends c.args.routers c.self.inside.room _ _ c.reserve.ensures.routers
-      (omega (arith, c.in_ok-reserve-5.ensures.ok, c.in-Some-sum.ensures)) c.self.invariant.1,
+      (omega (arith, c.in_ok-reserve-5.ensures.ok, c.in-Some-sum.ensures.some)) c.self.invariant.1,
 )
