@@ -80,6 +80,7 @@ impl Mailboxes {
     }
 
     /// Leaves this in a mailbox.
+    #[inline(always)]
     #[tactic(auto, using(crate::proofs::code::Slots::place_written))]
     pub(crate) fn put(&mut self, k: usize, mail: Mail)
         requires { k < length self.old }

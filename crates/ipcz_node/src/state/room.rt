@@ -87,6 +87,7 @@ impl NodeState {
     }
 
     // The outlook of an act of the router of the serial.
+    #[inline(always)]
     pub(super) fn outlook(&self, serial: u64, act: RouterAct) -> Outlook
         ensures { result ≡ outlook_at (router_in self.now.node serial) act }
     {

@@ -8,6 +8,7 @@ use crate::outlook::Outlook;
 
 impl Router {
     /// What an act is about to give its node, as far as the node needs room for it. It takes no memory.
+    #[inline(always)]
     #[tactic(auto, unfolding(crate::specs::ActEffects::output_of, crate::specs::ActEffects::item_output, crate::specs::ActEffects::discard_output, crate::specs::Outlooks::item_outlook, crate::specs::Outlooks::closing_outlook))]
     pub fn outlook(&self, act: RouterAct) -> Outlook
         ensures { result ≡ outlook_of (output_of self.now.router act) }

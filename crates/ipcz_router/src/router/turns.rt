@@ -83,6 +83,18 @@ impl Router {
         self.inward.is_some() && self.holds && self.is_on_central() && !self.decays()
     }
 
+    // Where nothing decays, which is mostly so, the reach isn't asked.
+    #[tactic(auto, unfolding(crate::specs::ActTable::is_possible, ipcz_edge::specs::Edge::can_finish))]
+    fn can_finish_out(&self) -> bool
+        ensures { result ≡ is_possible self.now.router RouterAct.FinishOut }
+    {
+        if !self.outward.decays() {
+            return false;
+        }
+        self.outward
+            .can_finish(self.out_queue.current(), self.in_queue.reach())
+    }
+
     #[tactic(auto, unfolding(crate::specs::ActTable::is_possible, ipcz_edge::specs::Edge::can_finish))]
     fn can_finish_in(&self) -> bool
         ensures { result ≡ is_possible self.now.router RouterAct.FinishIn }
@@ -105,10 +117,7 @@ impl Router {
             RouterAct::Discard => {
                 self.inward.is_none() && self.closed && self.in_queue.next().is_some()
             }
-            RouterAct::FinishOut => {
-                self.outward
-                    .can_finish(self.out_queue.current(), self.in_queue.reach())
-            }
+            RouterAct::FinishOut => self.can_finish_out(),
             RouterAct::FinishIn => self.can_finish_in(),
             RouterAct::Leave => self.inward.is_some() && self.has_no_link(),
             RouterAct::Mark => self.is_on_central() && !self.marked && !self.decays(),

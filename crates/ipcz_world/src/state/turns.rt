@@ -69,6 +69,7 @@ impl State {
     }
 
     /// The first possible act of a node.
+    #[inline(always)]
     #[tactic(auto, unfolding(crate::specs::Turns::next_at, crate::specs::World::node_at, ipcz_node::specs::Acts::next, ipcz_node::specs::Acts::node_turn))]
     pub(crate) fn next(&self, n: u8) -> Act
         requires regular { IsRegular self.now }
@@ -261,6 +262,7 @@ impl State {
     }
 
     // The first act was refused: where that is for want of memory, what stands in for it is taken.
+    #[inline(never)]
     fn give_up_unseen(&mut self, n: u8, act: Act, why: Refusal) -> Result<(), Refusal>
         requires regular { IsRegular self.old }
         requires node { n < self.old.count }
@@ -300,11 +302,23 @@ impl State {
                 self.post(n, to);
                 Ok(())
             }
-            Act::Close(end) => match self.close_pending(n, end) {
-                Ok(_) => Ok(()),
-                Err(why) => Err(why),
-            },
+            Act::Close(end) => self.close_pending_unseen(n, end),
             Act::Idle => Ok(()),
+        }
+    }
+
+    // Closes an end as `close_pending` does, but doesn't tell what happened.
+    #[inline(never)]
+    fn close_pending_unseen(&mut self, n: u8, end: End) -> Result<(), Refusal>
+        requires regular { IsRegular self.old }
+        requires node { n < self.old.count }
+        requires possible { can_take self.old n (Act.Close end) ≡ true }
+        ensures taken { OnOk result (IsTaken self.old n (Act.Close end) (Ok (turn_event self.old n (Act.Close end))) self.new) }
+        ensures refused { IfErr result (λ why. IsTaken self.old n (Act.Close end) (Err why) self.new) }
+    {
+        match self.close_pending(n, end) {
+            Ok(_) => Ok(()),
+            Err(why) => Err(why),
         }
     }
 
@@ -363,6 +377,7 @@ impl State {
     }
 
     // The same of each act, with what the link words answer to it.
+    #[inline(never)]
     fn take_word_act_unseen(&mut self, n: u8, serial: u64, act: RouterAct) -> Result<(), Refusal>
         requires regular { IsRegular self.old }
         requires node { n < self.old.count }
