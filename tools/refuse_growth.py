@@ -13,8 +13,7 @@ without.
 
 A run of `ipcz_faults` must end as ever and write the same lines, but that just one of them tells of the growth: `, refused 1` of a
 call that left all as it was, `, unlocked 1` of a lock that was given back and got again, or `, refused beside 1` of what stands
-beside the calls. Each line must tell of calls that were refused, and some line of a lock that was given back. Or it writes the very
-same lines, where the call asks for its room once more by another way: a settle does so for an item without portals.
+beside the calls. Each line must tell of calls that were refused, and some line of a lock that was given back.
 """
 import collections
 import os
@@ -87,12 +86,9 @@ def try_retries(program, library, count, tells_counts):
     lines, growths = text.decode().splitlines(), int(open(count).read())
     if status or not lines:
         sys.exit(f"status {status} without a refused growth: {text.decode()}")
-    told, asked_again = collections.Counter(), 0
+    told = collections.Counter()
     for number in range(1, growths + 1):
         got, written = run(program, b"", library, REFUSE_GROWTH=str(number))
-        if not got and written == text:
-            asked_again += 1
-            continue
         telling = told_by(lines, written.decode().splitlines())
         if got or not telling:
             sys.exit(f"growth {number} of {growths}: status {got}\n{written.decode()}")
@@ -104,8 +100,6 @@ def try_retries(program, library, count, tells_counts):
             print(line + "".join(f"{telling[:-2]} {told[place, telling]}" for telling in TELLINGS if told[place, telling]))
     if not any(told[place, ", unlocked 1"] for place in range(len(lines))):
         sys.exit("no bypass grew where it began")
-    if tells_counts:
-        print(f"{asked_again} of {growths} growths were asked for again by the call itself")
 
 
 def main():
