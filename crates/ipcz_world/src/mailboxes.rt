@@ -1,4 +1,5 @@
-ghost use Rattle.std.specs.Prelude.{◌≡◌, ◌<◌, IfOk, cond, length, replicate, List};
+ghost use Rattle.std.specs.Prelude.{ℕ, ◌≡◌, ◌<◌, true, false, Option, Some, IfOk, IfErr, OnErr, cond, length, replicate, List};
+ghost use Rattle.ipcz_node.specs.Hands.{deliver, message_grows, message_lacks_serials};
 ghost use Rattle.ipcz_base.specs.Totals.{total_list};
 ghost use Rattle.ipcz_world.specs.Tallies.{Tells};
 ghost use Rattle.ipcz_base.specs.Indexed.{place_at, put_place};
@@ -7,7 +8,8 @@ ghost use Rattle.ipcz_world.specs.Mailing.{taken_up, put_down};
 
 use crate::mail::Mail;
 use crate::tallies::plus;
-use ipcz_base::Message;
+use ipcz_base::{Message, Refusal};
+use ipcz_node::NodeState;
 use std::alloc::{AllocError, Global};
 use std::marker::Model;
 use std::mem;
@@ -101,6 +103,39 @@ impl Mailboxes {
             Mail::Full(message) => *place = Mail::Hand(message),
             Mail::Hand(message) => *place = Mail::Hand(message),
         }
+    }
+
+    /// Hands the message in hand in a mailbox to a node, where it is one that the node takes at once, and tells whether it did: the mailbox is
+    /// empty then. Else all stays as it is.
+    #[tactic(auto, using(crate::proofs::code::Slots::place_read, crate::proofs::code::Slots::place_written, crate::proofs::code::Slots::set_same), unfolding(crate::specs::Mailing::put_down, crate::specs::Turns::hand_message))]
+    pub(crate) fn hand_over(
+        &mut self,
+        k: usize,
+        node: &mut NodeState,
+        from: u8,
+    ) -> Result<bool, Refusal>
+        requires { k < length self.old }
+        ensures taken { (m : Message) → (source : Option ℕ) → hand_message (place_at Mail.Empty self.old k) ≡ Some m →
+            IfOk result (λ taken. taken ≡ true → node.new.node ≡ deliver node.old.node from m source) }
+        ensures allowed { (m : Message) → (source : Option ℕ) → hand_message (place_at Mail.Empty self.old k) ≡ Some m →
+            IfOk result (λ taken. taken ≡ true → message_lacks_serials node.old.node from m source ≡ false) }
+        ensures mail { IfOk result
+            (λ taken. taken ≡ true → self.new ≡ put_place Mail.Empty self.old k (put_down (place_at Mail.Empty self.old k))) }
+        ensures left { IfOk result (λ taken. taken ≡ false → (self.new ≡ self.old) × (node.new.node ≡ node.old.node)) }
+        ensures why { (m : Message) → (source : Option ℕ) → hand_message (place_at Mail.Empty self.old k) ≡ Some m →
+            IfErr result (λ e. (e ≡ Refusal.OutOfMemory) × (message_lacks_serials node.old.node from m source ≡ false) ×
+            (message_grows node.old.node from m source ≡ true)) }
+        ensures err { OnErr result ((self.new ≡ self.old) × (node.new.node ≡ node.old.node)) }
+    {
+        let place = &mut self.boxes[k];
+        let Mail::Hand(message) = place else {
+            return Ok(false);
+        };
+        if !node.deliver_at_once(from, message)? {
+            return Ok(false);
+        }
+        *place = Mail::Empty;
+        Ok(true)
     }
 
     /// Takes the message in hand out of its mailbox, which is empty then; a mailbox without one stays as it is.

@@ -425,7 +425,7 @@ impl NodeState {
     {
         let (kind, link) = (kind_of(&message), link_asked(&message));
         let mut message = message;
-        match self.take_at_once(from, &mut message) {
+        match self.deliver_at_once(from, &mut message) {
             Ok(true) => Ok(Happened::Hand {
                 kind,
                 link,
@@ -479,7 +479,7 @@ impl NodeState {
         ensures err { IfErr result (λ e. (e.1 ≡ message) × (self.new.node ≡ self.old.node)) }
     {
         let mut message = message;
-        match self.take_at_once(from, &mut message) {
+        match self.deliver_at_once(from, &mut message) {
             Ok(true) => Ok(()),
             Ok(false) => self.deliver_any(from, message, source),
             Err(why) => Err((why, message)),
@@ -508,10 +508,13 @@ impl NodeState {
         self.take_from_hand(from, message, source, fits)
     }
 
-    // Gives an item without ends and moves to its router and empties the hand, where the item has its place there, and tells whether it
-    // did. Each other message stays as it is. It answers `OutOfMemory` where there was no room for such an item and none was found.
+    /// Delivers a message from the node `from` as `deliver` does, but only an item without ends and moves that has its place at a router here,
+    /// and tells whether it was one: what is left of the message counts for nothing then. Each other message stays as it is, to be
+    /// delivered.
+    ///
+    /// It answers `OutOfMemory` where there was no room for such an item and none was found; then nothing has changed.
     #[tactic(auto, unfolding(crate::specs::Telling::brings_item))]
-    fn take_at_once(&mut self, from: u8, message: &mut Message) -> Result<bool, Refusal>
+    pub fn deliver_at_once(&mut self, from: u8, message: &mut Message) -> Result<bool, Refusal>
         ensures taken { (source : Option ℕ) → IfOk result (λ taken. taken ≡ true → self.new.node ≡ deliver self.old.node from message.old source) }
         ensures allowed { (source : Option ℕ) →
             IfOk result (λ taken. taken ≡ true → message_lacks_serials self.old.node from message.old source ≡ false) }

@@ -283,6 +283,36 @@ refused-hand w n from m why old x mail has l within e is same because grows kept
   };
 }
 
+-- a node and the mailboxes that are written back as they were leave the world
+pub unchanged-both : (w : World) (n : ℕ) (old x : Node) (mail : List Mail) → HasLengths w → n < w.count → old ≡ node_at w n → x ≡ old →
+    mail ≡ w.mail → ◌≡◌ {A = World} (record (with_node w n x) { mail = mail }) w
+unfolding node_at
+unchanged-both w n old x mail has l e same kept = λ j. record w {
+  nodes = (ap (put_place (bare_node 0 0) w.nodes n) (same ∙ e) ∙ put-same (bare_node 0 0) w.nodes n (omega (arith, l, has.nodes))) j;
+  mail = kept j;
+}
+
+-- a message that finds no room stays where it is
+pub kept-hand : (w : World) (n from : ℕ) (m : Message) (why : Refusal) (old x : Node) (mail : List Mail) → HasLengths w → n < w.count →
+    old ≡ node_at w n → hand_message (mail_at w (way w from n)) ≡ Some m → x ≡ old →
+    why ≡ (if message_lacks_serials old from m (source_for w m) then NumbersEnd else OutOfMemory) →
+    (message_grows old from m (source_for w m) ≡ false → false ≡ true) → mail ≡ w.mail →
+    IsTaken w n (OfHand from) (Err why) (record (with_node w n x) { mail = mail })
+unfolding turn_lacks_serials hand_lacks_serials turn_grows hand_grows
+kept-hand w n from m why old x mail has l e is same because grows kept = record {
+  event = tt;
+  done = tt;
+  allowed = tt;
+  why = rw is (because ∙ ap (λ y. if message_lacks_serials y from m (source_for w m) then NumbersEnd else OutOfMemory) e);
+  grows = rw is (λ g k. grows (ap (λ y. message_grows y from m (source_for w m)) e ∙ g));
+  left = unchanged-both w n old x mail has l e same kept;
+}
+
+-- a message is there, where it isn't so that none is
+pub some-there : (o : Option Message) → (o ≡ None → ⊥) → (m : Message) × (o ≡ Some m)
+some-there None not_none = absurd (not_none refl)
+some-there (Some m) not_none = (m, refl)
+
 -- nothing is done
 pub done-idle : (w : World) (n : ℕ) → IsTaken w n Idle (Ok events.Idle) w
 unfolding turn_event after_act turn_lacks_serials event_of act_lacks_serials

@@ -34,7 +34,6 @@ impl State {
     }
 
     // The first node from one number up to another that has an act, where one has, with that act.
-    #[inline(never)]
     fn first_busy(&self, from: u8, to: u8) -> Option<(u8, Act)>
         requires regular { IsRegular self.now }
         requires nodes { to ≤ self.now.count }

@@ -69,7 +69,7 @@ impl State {
     }
 
     /// The first possible act of a node.
-    #[inline(always)]
+    #[inline(never)]
     #[tactic(auto, unfolding(crate::specs::Turns::next_at, crate::specs::World::node_at, ipcz_node::specs::Acts::next, ipcz_node::specs::Acts::node_turn))]
     pub(crate) fn next(&self, n: u8) -> Act
         requires regular { IsRegular self.now }
@@ -324,6 +324,23 @@ impl State {
 
     // Handles the message in hand as `handle` does, but doesn't tell what happened.
     fn handle_unseen(&mut self, n: u8, from: u8) -> Result<(), Refusal>
+        requires regular { IsRegular self.old }
+        requires node { n < self.old.count }
+        requires possible { can_take self.old n (Act.Hand from) ≡ true }
+        ensures taken { OnOk result (IsTaken self.old n (Act.Hand from) (Ok (turn_event self.old n (Act.Hand from))) self.new) }
+        ensures refused { IfErr result (λ why. IsTaken self.old n (Act.Hand from) (Err why) self.new) }
+    {
+        let place = self.way(from, n);
+        match self.mail.hand_over(place, self.nodes.node_mut(n), from) {
+            Ok(true) => Ok(()),
+            Ok(false) => self.handle_any_unseen(n, from),
+            Err(why) => Err(why),
+        }
+    }
+
+    // The same for each message.
+    #[inline(never)]
+    fn handle_any_unseen(&mut self, n: u8, from: u8) -> Result<(), Refusal>
         requires regular { IsRegular self.old }
         requires node { n < self.old.count }
         requires possible { can_take self.old n (Act.Hand from) ≡ true }

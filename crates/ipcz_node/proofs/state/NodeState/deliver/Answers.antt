@@ -1,4 +1,4 @@
-use Rattle.std.proofs.Common.{◌≡◌, false, refl, ap, sym, ◌∙◌}
+use Rattle.std.proofs.Common.{false, ap, sym, ◌∙◌}
 use Rattle.ipcz_node.specs.declared.happened.Happened.TheVariants.{Hand}
 use Rattle.ipcz_node.specs.Events.{hand_event, kind_of}
 use Rattle.ipcz_node.specs.Hands.{link_asked}

@@ -10,7 +10,6 @@ use Rattle.ipcz_node.specs.declared.act.Act.TheVariants.{Router as OfRouter}
 use Rattle.ipcz_node.specs.Node.{router_in}
 use Rattle.ipcz_node.specs.Acts.{commit}
 use Rattle.ipcz_node.specs.Events.{event_of}
-use Rattle.ipcz_node.specs.declared.happened.Happened.TheVariants as events
 use Rattle.ipcz_node.specs.Preparing.{outlook_at}
 use Rattle.ipcz_node.specs.contracts.state.NodeState.{the_view}
 use Rattle.ipcz_node.proofs.AtRouter.{taken}
