@@ -24,13 +24,7 @@ impl NodeState {
         requires { length ends.now ≤ self.old.room.pending }
         ensures { self.new.node ≡ record self.old.node { pending = self.old.node.pending ++ ends.now } }
     {
-        match ends {
-            [] => {}
-            [end, rest @ ..] => {
-                self.pending.push_reserved(*end);
-                self.keep_pending(rest);
-            }
-        }
+        copy_ends(&mut self.pending, ends);
     }
 
     // Does with the node what an act of a router gives it.
@@ -232,11 +226,7 @@ fn copy_ends(copy: &mut Vec<End>, ends: &[End])
     requires { vec_len copy.old + length ends.now ≤ vec_capacity copy.old }
     ensures { copy.new.items ≡ copy.old.items ++ ends.now }
 {
-    match ends {
-        [] => {}
-        [end, rest @ ..] => {
-            copy.push_reserved(*end);
-            copy_ends(copy, rest);
-        }
+    for end in ends {
+        copy.push_reserved(*end);
     }
 }

@@ -1,12 +1,12 @@
 ghost use Rattle.std.specs.Prelude.{◌≡◌, ◌<◌, ◌≤◌, ◌+◌, ◌^◌, Some, is_some, true, false, length, if◌then◌else◌, Ok, IsOk, OnOk, OnErr, IfOk, IfErr};
 ghost use Rattle.std.specs.Prelude.{IfSome, IfNone, IsSomeAnd, IsTrue, ℕ, Option, []};
 ghost use Rattle.ipcz_base.specs.Items.{ends_in};
-ghost use Rattle.ipcz_base.specs.Limits.{no_number, has_serials};
-ghost use Rattle.ipcz_router.specs.Router.{Router as RouterRecord, outward_has, router_has};
+ghost use Rattle.ipcz_base.specs.Limits.{no_number, last_number, has_serials};
+ghost use Rattle.ipcz_router.specs.Router.{Router as RouterRecord, outward_has, router_has, from_descriptor};
 ghost use Rattle.ipcz_router.specs.Calls.{has_place_for};
-ghost use Rattle.ipcz_node.specs.Node.{router_in, link_router, found, add_stray};
+ghost use Rattle.ipcz_node.specs.Node.{router_in, link_router, found, add_router, add_stray};
 ghost use Rattle.ipcz_node.specs.RoomyNodes.{AreLow};
-ghost use Rattle.ipcz_node.specs.Hands.{has_moved, fit_moves, fits_from, fits_item, make_terminals, take_in, free_hand, fits, handle};
+ghost use Rattle.ipcz_node.specs.Hands.{has_moved, is_new_move, fit_moves, fits_from, fits_item, make_terminals, take_in, free_hand, fits, handle};
 ghost use Rattle.ipcz_node.specs.Hands.{deliver, message_lacks_serials, message_grows, grows_where_it_fits, serials_in, is_unfit};
 ghost use Rattle.ipcz_node.specs.Events.{hand_event};
 ghost use Rattle.ipcz_node.specs.Telling.{HasRoomFor, brings_item};
@@ -17,26 +17,29 @@ use crate::happened::{Happened, kind_of, link_asked, side_asked};
 use ipcz_base::{Descriptor, End, Item, LinkId, Message, Moves, Refusal, Side};
 
 impl NodeState {
+    // Whether a move can be made a terminal here.
+    fn is_new_move(&self, d: &Descriptor) -> bool
+        ensures { result ≡ is_new_move self.now.node d.now }
+    {
+        !self.is_named(d.link, Side::B) && d.next_out <= u64::MAX - 2
+    }
+
     // Whether the moves are one for each end, and each can be made a terminal here.
     fn fit_moves(&self, ends: &[End], moves: &[Descriptor]) -> bool
         ensures { result ≡ fit_moves self.now.node ends.now moves.now }
     {
-        match ends {
-            [] => match moves {
-                [] => true,
-                [_first, _rest @ ..] => false,
-            },
-            [end, ends @ ..] => match moves {
-                [] => false,
-                [d, moves @ ..] => {
-                    d.end == *end
-                        && !self.is_named(d.link, Side::B)
-                        && d.next_out <= u64::MAX - 2
-                        && !has_moved(d.link, moves)
-                        && self.fit_moves(ends, moves)
-                }
-            },
+        let (mut ends, mut moves) = (ends, moves);
+        while let [end, later_ends @ ..] = ends {
+            let [d, later_moves @ ..] = moves else {
+                return false;
+            };
+            if d.end != *end || !self.is_new_move(d) || has_moved(d.link, later_moves) {
+                return false;
+            }
+            ends = later_ends;
+            moves = later_moves;
         }
+        moves.is_empty()
     }
 
     // Whether an item's moves fit, as it came from a node.
@@ -52,6 +55,17 @@ impl NodeState {
         }
     }
 
+    // Makes the terminal that a move says.
+    fn make_terminal(&mut self, sender: u8, d: &Descriptor)
+        requires room { 0 < self.old.room.routers }
+        requires serials { self.old.node.next_router < no_number }
+        requires numbers { d.now.next_out ≤ last_number }
+        ensures node { self.new.node ≡ add_router self.old.node (from_descriptor d.now sender) }
+        ensures room { self.old.room.routers ≤ self.new.room.routers + 1 }
+    {
+        self.routers.add_terminal(self.alloc, d, sender);
+    }
+
     // Makes the terminals that the moves say, in order.
     fn make_terminals(&mut self, sender: u8, moves: &[Descriptor])
         requires room { length moves.now ≤ self.old.room.routers }
@@ -59,12 +73,10 @@ impl NodeState {
         requires numbers { AreLow moves.now }
         ensures { self.new.node ≡ make_terminals self.old.node sender moves.now }
     {
-        match moves {
-            [] => {}
-            [d, rest @ ..] => {
-                self.routers.add_terminal(self.alloc, d, sender);
-                self.make_terminals(sender, rest);
-            }
+        let mut moves = moves;
+        while let [d, later @ ..] = moves {
+            self.make_terminal(sender, d);
+            moves = later;
         }
     }
 
@@ -607,10 +619,14 @@ impl NodeState {
 fn has_moved(link: LinkId, moves: &[Descriptor]) -> bool
     ensures { result ≡ has_moved link moves.now }
 {
-    match moves {
-        [] => false,
-        [d, rest @ ..] => d.link == link || has_moved(link, rest),
+    let mut moves = moves;
+    while let [moved, later @ ..] = moves {
+        if moved.link == link {
+            return true;
+        }
+        moves = later;
     }
+    false
 }
 
 // How many serials of routers a message takes.

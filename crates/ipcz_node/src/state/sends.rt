@@ -59,12 +59,10 @@ impl NodeState {
         ensures transfer { transfer self.new.node moves.new.items ≡ move_ends (transfer self.old.node moves.old.items) to ends.now }
         ensures outboxes { self.new.room.outboxes ≡ self.old.room.outboxes }
     {
-        match ends {
-            [] => {}
-            [end, rest @ ..] => {
-                self.move_end(*end, to, moves);
-                self.move_ends(rest, to, moves);
-            }
+        let mut ends = ends;
+        while let [end, later @ ..] = ends {
+            self.move_end(*end, to, moves);
+            ends = later;
         }
     }
 
