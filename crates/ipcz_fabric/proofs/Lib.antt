@@ -13,6 +13,7 @@ pub mod Wording
 pub mod FirstCells
 pub mod Resting
 pub mod BoxesRead
+pub mod Races
 pub mod ReadBack
 pub mod Unions
 pub mod Counting

@@ -1,6 +1,6 @@
 -- A turn from its parts: the choice of an act, and the act.
-use Rattle.std.specs.Prelude.{◌≡◌, ◌≢◌, ◌<◌, ℕ, Bool, true, false, if◌then◌else◌, List, [], ◌∷◌, ◌++◌, Option, Some, None, Result, Ok, Err, MatchResult}
-use Rattle.std.proofs.Common.{ap, sym, subst, ◌∙◌, refl, arith, append_assoc, append-nil}
+use Rattle.std.specs.Prelude.{◌≡◌, ◌≢◌, ◌<◌, ◌≤◌, ℕ, Bool, true, false, if◌then◌else◌, List, [], ◌∷◌, ◌++◌, Option, Some, None, Result, Ok, Err, MatchResult}
+use Rattle.std.proofs.Common.{ap, sym, subst, ◌∙◌, refl, inl, inr, arith, append_assoc, append-nil}
 use Rattle.ipcz_base.specs.declared.message.Message.{Message}
 use Rattle.ipcz_base.specs.declared.refusal.Refusal.{Refusal}
 use Rattle.ipcz_base.specs.declared.refusal.Refusal.TheVariants as refusals
@@ -24,6 +24,7 @@ use Rattle.ipcz_rule.specs.Steps.{old_word}
 use Rattle.ipcz_fabric.specs.Claims.{Answered, Got as Claimed, Dry as WasDry, Lost as WasLost}
 use Rattle.ipcz_fabric.specs.Mails.{mail_word, old_named, OldLoaded, source_found, Handles}
 use Rattle.ipcz_fabric.specs.Turns.{IsFirst, Chooses}
+use Rattle.ipcz_rule.specs.Races.{IsWaitedFor}
 use Rattle.ipcz_fabric.specs.TurnEnds.{IsTaken, IsLost, IsRefused, NoSerials, NoMemory, LostIt, hand_lacks_serials, IsInside, Acts, EndsRaced, Turns, Got, Dry}
 use Rattle.ipcz_fabric.proofs.TurnWords.{seen_two}
 use Rattle.ipcz_fabric.proofs.TurnActs.{acts_whole}
@@ -114,7 +115,7 @@ claim_lost t serial old new why not (WasDry e part seen) = absurd (not (ap (refu
 claim_lost t serial old new why not (WasLost n found e other part seen) = record {
   found = (t.size, n) ∷ (t.size, found) ∷ [];
   seen = seen ∙ seen_two old.seen (t.size, n) (t.size, found);
-  outcome = (part, LostIt (ap (refusal_in why) e) (t.size, n, found, other, refl));
+  outcome = (part, LostIt (ap (refusal_in why) e) (t.size, n, found, omega arith, other, refl));
 }
 
 -- what was claimed is one of the table's words
@@ -124,22 +125,24 @@ claim_below size serial count old new (WasDry e part seen) = cc
 claim_below size serial count old new (WasLost n found e other part seen) = cc
 
 -- an act that was lost to another thread ends with a load and an exchange of one word
-ends_with : (loads found before : Seen) (word n m : ℕ) → m ≢ n → loads ≡ before ++ (word, n) ∷ [] → found ≡ (word, m) ∷ [] → EndsRaced (loads ++ found)
-ends_with loads found before word n m other last is = record {
+ends_with : (t : TableName) (p : Part) (loads found before : Seen) (word n m : ℕ) → IsWaitedFor t.count t.size p word n → m ≢ n → loads ≡ before ++ (word, n) ∷ [] →
+    found ≡ (word, m) ∷ [] → EndsRaced t p (loads ++ found)
+ends_with t p loads found before word n m waits other last is = record {
   before = before;
   word = word;
   loaded = n;
   exchanged = m;
   differ = other;
+  of = inr waits;
   last = (λ j. last j ++ is j) ∙ append_assoc before ((word, n) ∷ []) ((word, m) ∷ []);
 }
 
-lost_ends : (t : TableName) (p : Part) (loads found : Seen) (act : Act) → IsFirst t p loads act → IsLost t p act found → EndsRaced (loads ++ found)
+lost_ends : (t : TableName) (p : Part) (loads found : Seen) (act : Act) → IsFirst t p loads act → IsLost t p act found → EndsRaced t p (loads ++ found)
 lost_ends t p loads found (acts.Hand sender) first lost = absurd lost
-lost_ends t p loads found (acts.Look sender) first lost = ends_with loads found first.full.before (mail_word t sender p.node) 1 lost.0 lost.1 first.full.last lost.2
-lost_ends t p loads found (acts.Post to) first lost = let load = first.can.free lost.2 in ends_with loads found load.before (mail_word t p.node to) 0 lost.0 lost.1 load.last lost.3
+lost_ends t p loads found (acts.Look sender) first lost = ends_with t p loads found first.full.before (mail_word t sender p.node) 1 lost.0 (inl (sender, first.inside, refl, refl)) lost.1 first.full.last lost.2
+lost_ends t p loads found (acts.Post to) first lost = let load = first.can.free lost.2 in ends_with t p loads found load.before (mail_word t p.node to) 0 lost.0 (inr (to, first.inside, refl, refl)) lost.1 load.last lost.3
 lost_ends t p loads found (acts.Close end) first lost = absurd lost
-lost_ends t p loads found (acts.Router serial act) first lost = record { before = loads; word = lost.0; loaded = lost.1; exchanged = lost.2; differ = lost.3; last = ap (λ (l : Seen). loads ++ l) lost.4 }
+lost_ends t p loads found (acts.Router serial act) first lost = record { before = loads; word = lost.0; loaded = lost.1; exchanged = lost.2; differ = lost.4; of = inl lost.3; last = ap (λ (l : Seen). loads ++ l) lost.5 }
 lost_ends t p loads found acts.Idle first lost = absurd lost
 
 refused_by : (size : ℕ) (p : Part) (act : Act) (L M : Type 0) (why : Refusal) (seen : Seen) → (L → M) → IsRefused size p act L why seen → IsRefused size p act M why seen
@@ -168,6 +171,6 @@ turn_done t act old mid new answer c h = record {
 }
   where
     go : (r : Result Happened Refusal) → MatchResult r (λ event. IsTaken t old.part act event new.part h.found) (λ why. (new.part ≡ old.part) × IsRefused t.size old.part act (IsLost t old.part act h.found) why h.found) →
-        MatchResult r (λ event. IsTaken t old.part act event new.part h.found) (λ why. (new.part ≡ old.part) × IsRefused t.size old.part act (EndsRaced (c.found ++ h.found)) why h.found)
+        MatchResult r (λ event. IsTaken t old.part act event new.part h.found) (λ why. (new.part ≡ old.part) × IsRefused t.size old.part act (EndsRaced t old.part (c.found ++ h.found)) why h.found)
     go (Ok event) d = d
-    go (Err why) d = (d.0, refused_by t.size old.part act (IsLost t old.part act h.found) (EndsRaced (c.found ++ h.found)) why h.found (lost_ends t old.part c.found h.found act c.first) d.1)
+    go (Err why) d = (d.0, refused_by t.size old.part act (IsLost t old.part act h.found) (EndsRaced t old.part (c.found ++ h.found)) why h.found (lost_ends t old.part c.found h.found act c.first) d.1)

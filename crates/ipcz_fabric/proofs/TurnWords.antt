@@ -1,6 +1,6 @@
 -- What a turn tells of an act on a link's word: its event, its answer and what was seen.
-use Rattle.std.specs.Prelude.{◌≡◌, ℕ, List, [], ◌∷◌, ◌++◌, Option, Some, None, option_map, Ok, Err}
-use Rattle.std.proofs.Common.{ap, sym, ◌∙◌, refl, inl, append_assoc}
+use Rattle.std.specs.Prelude.{◌≡◌, ◌≤◌, ℕ, List, [], ◌∷◌, ◌++◌, Option, Some, None, option_map, Ok, Err}
+use Rattle.std.proofs.Common.{arith, ap, sym, ◌∙◌, refl, inl, append_assoc}
 use Rattle.ipcz_base.specs.declared.link_end.LinkEnd.{LinkEnd}
 use Rattle.ipcz_base.specs.declared.link_id.LinkId.{LinkId}
 use Rattle.ipcz_base.specs.declared.link_id.LinkId.TheVariants.{Central, Peripheral}
@@ -157,7 +157,7 @@ seen_of_plan i n (plans.Lock new) l = seen_two l (i, n) (i, n)
 seen_of_plan i n (plans.Wait new) l = seen_two l (i, n) (i, n)
 seen_of_plan i n plans.Refused l = refl
 
-pub lock_acts : (t : TableName) (serial : ℕ) (old new : CellState) (try : LockTry) (event : Happened) → LocksWord serial old (Ok try) new → event ≡ try_event serial try.word try.found try.plan →
+pub lock_acts : (t : TableName) (serial : ℕ) (old new : CellState) (try : LockTry) (event : Happened) → LocksWord t.size serial old (Ok try) new → event ≡ try_event serial try.word try.found try.plan →
     Acts t (acts.Router serial router_acts.Lock) old (Ok event) new
 lock_acts t serial old new try event h e =
     let told = h.told in
@@ -182,11 +182,12 @@ lock_acts t serial old new try event h e =
       };
     }
 
-pub lock_lost : (t : TableName) (serial : ℕ) (old new : CellState) (why : Refusal) → LocksWord serial old (Err why) new → Acts t (acts.Router serial router_acts.Lock) old (Err why) new
+pub lock_lost : (t : TableName) (serial : ℕ) (old new : CellState) (why : Refusal) → LocksWord t.size serial old (Err why) new → Acts t (acts.Router serial router_acts.Lock) old (Err why) new
 lock_lost t serial old new why h =
     let tried = h.tried in
+    let below : h.word ≤ t.size = let l = h.inside in omega arith in
     let seen = (h.word, h.loaded) ∷ (h.word, tried.1.0) ∷ [] in record {
       found = seen;
       seen = tried.1.3 ∙ seen_two old.seen (h.word, h.loaded) (h.word, tried.1.0);
-      outcome = (tried.1.2, LostIt tried.0 (h.word, h.loaded, tried.1.0, tried.1.1, refl));
+      outcome = (tried.1.2, LostIt tried.0 (h.word, h.loaded, tried.1.0, below, tried.1.1, refl));
     }

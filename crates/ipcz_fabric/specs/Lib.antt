@@ -1,3 +1,4 @@
+pub mod Races
 pub mod TableNames
 pub mod CellStates
 pub mod Cells

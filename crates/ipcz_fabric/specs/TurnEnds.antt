@@ -1,5 +1,5 @@
 -- What a turn of a cell answers and leaves.
-use Rattle.std.specs.Prelude.{◌≡◌, ◌≢◌, ◌<◌, ◌⊎◌, ℕ, [], ◌∷◌, ◌++◌, List, Bool, true, false, if◌then◌else◌, Option, Some, None, Result, MatchResult}
+use Rattle.std.specs.Prelude.{◌≡◌, ◌≢◌, ◌<◌, ◌≤◌, ◌⊎◌, ℕ, [], ◌∷◌, ◌++◌, List, Bool, true, false, if◌then◌else◌, Option, Some, None, Result, MatchResult}
 use Rattle.ipcz_base.specs.declared.message.Message.{Message}
 use Rattle.ipcz_base.specs.declared.refusal.Refusal.{Refusal}
 use Rattle.ipcz_base.specs.declared.refusal.Refusal.TheVariants.{NumbersEnd, OutOfMemory, Raced}
@@ -25,6 +25,7 @@ use Rattle.ipcz_world.specs.Coding.{IsLinkNumber}
 use Rattle.ipcz_world.specs.WordAnswers.{word_answer}
 use Rattle.ipcz_rule.specs.declared.view.Part.{Part}
 use Rattle.ipcz_rule.specs.Rule.{has_number}
+use Rattle.ipcz_rule.specs.Races.{IsWaitedFor}
 use Rattle.ipcz_rule.specs.Steps.{act_part, post_part, look_part, hand_part}
 use Rattle.ipcz_fabric.specs.TableNames.{TableName}
 use Rattle.ipcz_fabric.specs.CellStates.{CellState}
@@ -128,7 +129,7 @@ may_grow other = act_grows other
 abbrev pub IsLost : TableName → Part → Act → List (ℕ × ℕ) → Type 0
 IsLost t p (acts.Look from) seen = (n : ℕ) × (n ≢ 1) × (seen ≡ (mail_word t from p.node, n) ∷ [])
 IsLost t p (acts.Post to) seen = (n : ℕ) × (n ≢ 0) × (has_number p.probed to ≡ false) × (seen ≡ (mail_word t p.node to, n) ∷ [])
-IsLost t p (acts.Router serial act) seen = (word n found : ℕ) × (found ≢ n) × (seen ≡ (word, n) ∷ (word, found) ∷ [])
+IsLost t p (acts.Router serial act) seen = (word n found : ℕ) × (word ≤ t.size) × (found ≢ n) × (seen ≡ (word, n) ∷ (word, found) ∷ [])
 IsLost t p other seen = ⊥
 
 -- why an act was refused, where Lost is what it means that it was lost to another thread
@@ -151,13 +152,15 @@ pub record Acts (t : TableName) (act : Act) (old : CellState) (answer : Result H
   pub outcome : MatchResult answer (λ event. IsTaken t old.part act event new.part found)
       (λ why. (new.part ≡ old.part) × IsRefused t.size old.part act (IsLost t old.part act found) why found)
 
--- the last of what was seen is a load and an exchange of one word, which have found different numbers
-pub record EndsRaced (seen : List (ℕ × ℕ)) : Type 0 where
+-- the last of what was seen is a load and an exchange of one word, which have found different numbers: it is a link word or the claim count, or
+-- a mailbox that the node waits for
+pub record EndsRaced (t : TableName) (p : Part) (seen : List (ℕ × ℕ)) : Type 0 where
   pub before : List (ℕ × ℕ)
   pub word : ℕ
   pub loaded : ℕ
   pub exchanged : ℕ
   pub differ : exchanged ≢ loaded
+  pub of : (word ≤ t.size) ⊎ IsWaitedFor t.count t.size p word loaded
   pub last : seen ≡ before ++ (word, loaded) ∷ (word, exchanged) ∷ []
 
 -- a turn: the first act for the mailboxes as its loads have found them was done, or nothing was
@@ -168,4 +171,4 @@ pub record Turns (t : TableName) (old : CellState) (answer : Result Happened Ref
   pub first : IsFirst t old.part loads act
   pub seen : new.seen ≡ old.seen ++ (loads ++ found)
   pub outcome : MatchResult answer (λ event. IsTaken t old.part act event new.part found)
-      (λ why. (new.part ≡ old.part) × IsRefused t.size old.part act (EndsRaced (loads ++ found)) why found)
+      (λ why. (new.part ≡ old.part) × IsRefused t.size old.part act (EndsRaced t old.part (loads ++ found)) why found)

@@ -1,5 +1,5 @@
 -- The link words of a cell: what the calls on them ask, answer and leave.
-use Rattle.std.specs.Prelude.{◌≡◌, ◌≢◌, ℕ, [], ◌∷◌, ◌++◌, List, Bool, true, false, Option, Some, None, Result, Ok, Err, MatchResult, IfOk}
+use Rattle.std.specs.Prelude.{◌≡◌, ◌≢◌, ◌<◌, ℕ, [], ◌∷◌, ◌++◌, List, Bool, true, false, Option, Some, None, Result, Ok, Err, MatchResult, IfOk}
 use Rattle.ipcz_base.specs.declared.side.Side.{Side}
 use Rattle.ipcz_base.specs.declared.refusal.Refusal.{Refusal}
 use Rattle.ipcz_base.specs.declared.refusal.Refusal.TheVariants.{Raced}
@@ -47,11 +47,12 @@ Tried i n serial side source old answer new = MatchResult answer
 
 -- what a try for the lock answers and leaves, where a lock names the node inward of its router: Raced only where the load and the exchange
 -- found different words
-pub record TriesLock (serial : ℕ) (old : CellState) (answer : Result LockPlan Refusal) (new : CellState) : Type 0 where
+pub record TriesLock (size serial : ℕ) (old : CellState) (answer : Result LockPlan Refusal) (new : CellState) : Type 0 where
   pub word : ℕ
   pub side : Side
   pub loaded : ℕ
   pub named : word_side old.part.state serial ≡ Some (word, side)
+  pub inside : word < size
   pub is_word : IsLinkNumber loaded
   pub tried : Tried word loaded serial side (source_in old.part.state serial) old answer new
 
@@ -61,11 +62,12 @@ plan_in (Ok try) = Ok try.plan
 plan_in (Err why) = Err why
 
 -- the same try, with the word and what the load has found
-pub record LocksWord (serial : ℕ) (old : CellState) (answer : Result LockTry Refusal) (new : CellState) : Type 0 where
+pub record LocksWord (size serial : ℕ) (old : CellState) (answer : Result LockTry Refusal) (new : CellState) : Type 0 where
   pub word : ℕ
   pub side : Side
   pub loaded : ℕ
   pub named : word_side old.part.state serial ≡ Some (word, side)
+  pub inside : word < size
   pub is_word : IsLinkNumber loaded
   pub tried : Tried word loaded serial side (source_in old.part.state serial) old (plan_in answer) new
   pub told : IfOk answer (λ try. (try.word ≡ word) × (try.found ≡ loaded))

@@ -8,6 +8,7 @@ mod ending;
 mod fabric;
 mod holds;
 mod hub;
+pub mod laws;
 mod mail;
 mod making;
 mod opens;

@@ -237,7 +237,7 @@ impl<F: FabricName> NodeCell<F> {
     // names the node inward of the router.
     pub(crate) fn lock_word(&mut self, fabric: &Fabric<F>, serial: u64) -> Result<LockTry, Refusal>
         requires { IsPossibleAct self.old.part.state (Act.Router serial RouterAct.Lock) }
-        ensures { LocksWord serial self.old result self.new }
+        ensures { LocksWord F.table.size serial self.old result self.new }
     {
         let (word, side) = word_here(&mut self.state, serial, RouterAct::Lock);
         let source = self.state.source_of(serial);
@@ -271,7 +271,7 @@ impl<F: FabricName> NodeCell<F> {
     /// where the exchange found another word than the load; then nothing but what was seen has changed. It takes no memory.
     pub fn word_try_lock(&mut self, fabric: &Fabric<F>, serial: u64) -> Result<LockPlan, Refusal>
         requires { IsPossibleAct self.old.part.state (Act.Router serial RouterAct.Lock) }
-        ensures { TriesLock serial self.old result self.new }
+        ensures { TriesLock F.table.size serial self.old result self.new }
     {
         let tried = self.lock_word(fabric, serial)?;
         Ok(tried.plan)

@@ -11,6 +11,7 @@ pub mod Joining
 pub mod Joins
 pub mod Known
 pub mod Mailing
+pub mod MailRaces
 pub mod Moved
 pub mod OldLinks
 pub mod Opening
@@ -18,6 +19,7 @@ pub mod Posting
 pub mod Probing
 pub mod Putting
 pub mod QuietParts
+pub mod Races
 pub mod Returning
 pub mod SettledParts
 pub mod TableRuns

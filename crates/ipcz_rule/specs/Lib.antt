@@ -1,5 +1,6 @@
 pub mod End
 pub mod Kinds
+pub mod Races
 pub mod Rule
 pub mod RuleLaws
 pub mod Start

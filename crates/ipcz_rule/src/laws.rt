@@ -2,6 +2,7 @@
 
 ghost use Rattle.ipcz_rule.specs.RuleLaws.{RuleGivesHeadline, RuleOwes, ShownHasLengths, PartsAreSound, PartsHandsFit, LinksAreWords, OldLinksAreWords};
 ghost use Rattle.ipcz_rule.specs.RuleLaws.{RuleBoundsTurns};
+ghost use Rattle.ipcz_rule.specs.Races.{RacedIsOvertaken, WaitedForStays};
 ghost use Rattle.ipcz_rule.specs.TableRuns.{StepsAreTurns, StepsAreBounded, OvertakenByActs};
 ghost use Rattle.ipcz_rule.specs.RuleLaws.{PutsAreOnce, GetsFollowPuts, QuietPartsShowQuiet, SettledPartsAreDirect};
 
@@ -85,4 +86,16 @@ pub fn steps_of_turns_are_bounded()
 /// answered `Raced` there only where another seat has taken an act, or was in a call, between its load and its exchange.
 pub fn another_number_is_found_only_behind_an_act()
     ensures { OvertakenByActs }
+{}
+
+/// Where a seat only loads, and has found a link word or the claim count at one number and then at another, another seat has taken an act on
+/// that word between.
+pub fn who_finds_two_numbers_was_overtaken()
+    ensures { RacedIsOvertaken }
+{}
+
+/// Where a seat only loads, it finds a mailbox again as it has found it: one to its node full, and one from its node empty. So no exchange of
+/// such a mailbox's word finds another number than the load.
+pub fn a_mailbox_that_is_waited_for_stays()
+    ensures { WaitedForStays }
 {}

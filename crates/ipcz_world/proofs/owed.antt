@@ -9,3 +9,4 @@ pub mod StartWakers
 pub mod StepWakers
 pub mod Tracking
 pub mod WordWakers
+pub mod WaitedMail

@@ -86,7 +86,7 @@ mail-claim_next w j = go (has_unclaimed_word w)
     go true = mail-set_claimed w (w.claimed + 1) j
     go false = refl
 
-mail-touch : (w : World) (r : Router) (a : RouterAct) (j : ℕ) → mail_at (touch w r a) j ≡ mail_at w j
+pub mail-touch : (w : World) (r : Router) (a : RouterAct) (j : ℕ) → mail_at (touch w r a) j ≡ mail_at w j
 unfolding touch
 mail-touch w r acts.SendOut j = refl
 mail-touch w r acts.SendIn j = refl
