@@ -10,9 +10,9 @@ use lib.ListN.{get_elem?}
 use Rattle.atomic_table.proofs.Lists.{set_else}
 use Rattle.ipcz_node.specs.declared.act.Act.{Act}
 use Rattle.ipcz_rule.specs.declared.view.View.{View}
-use Rattle.ipcz_rule.specs.Rule.{saw}
+use Rattle.ipcz_rule.specs.Rule.{Mine, saw}
 use Rattle.ipcz_rule.specs.TableRuns.{TurnStep, Ruled, after_step, AreSteps}
-use Rattle.ipcz_rule.specs.Races.{IsLoad, IsOneAtMost, OnlyLoads, IsOvertaken, RacedIsOvertaken}
+use Rattle.ipcz_rule.specs.Races.{IsLoad, IsOneAtMost, OnlyLoads, IsOvertaken, RacedIsOvertaken, SightsAreLoads}
 use Rattle.ipcz_rule.proofs.TableRuns.{overtaken_by_acts}
 
 put-there : {A : Type 0} (l : List A) (i : ℕ) (a b : A) → get_elem? l i ≡ some b → get_elem? (set l i a) i ≡ some a
@@ -177,3 +177,24 @@ raced_is_overtaken count size id i n found p q steps run v v' before h low apart
       own = λ k p turns steps q t more e load g. rw e (k, refl, g);
       other = λ k p turns steps q t more e g. rw e (inr g);
     }
+
+pub sights_are_loads : SightsAreLoads
+sights_are_loads count size id i me change acts hit p kind there small miss same none =
+    let done = kind p.0 p.1 refl there small in (
+      record {
+        seat = id;
+        me = me;
+        word = i;
+        change = change;
+        acts = acts;
+        allowed = λ s r long at few. let d = kind s r long at few in (d.0, d.1, d.2, d.3, tt);
+        there = there;
+        small = small;
+        is = none;
+      },
+      record {
+        none = refl;
+        same = same;
+        view = ap (λ (m : Mine). m.0) (done.4 miss);
+      },
+    )

@@ -1,12 +1,13 @@
 -- What lies between two steps of a seat that only loads. Where it has found a link word or the claim count at two numbers, another seat has
 -- taken an act between; and a mailbox that its node waits for stays as it was found.
-use Rattle.std.specs.Prelude.{◌≡◌, ◌≢◌, ◌≤◌, ◌<◌, ◌⊎◌, ◌+◌, ◌*◌, ℕ, suc, nat_eq, List, [], ◌∷◌, ◌++◌, length, slice_index, MatchBool, refl}
+use Rattle.std.specs.Prelude.{◌≡◌, ◌≢◌, ◌≤◌, ◌<◌, ◌⊎◌, ◌+◌, ◌*◌, ℕ, suc, nat_eq, Bool, false, List, [], ◌∷◌, ◌++◌, length, slice_index, MatchBool, refl}
 use mathlib.Core.Option.{some}
 use lib.ListN.{get_elem?}
 use Rattle.ipcz_node.specs.declared.act.Act.{Act}
 use Rattle.ipcz_rule.specs.declared.view.View.{View}
 use Rattle.ipcz_rule.specs.declared.view.Part.{Part}
-use Rattle.ipcz_rule.specs.Rule.{saw}
+use Rattle.ipcz_rule.specs.Rule.{Mine, saw}
+use Rattle.ipcz_rule.specs.Kinds.{IsTurns}
 use Rattle.ipcz_rule.specs.TableRuns.{TurnStep, Ruled, after_step, AreSteps}
 
 -- a step is a load: no act, it leaves the word as it was found, and its seat has that number seen and nothing else changed. So is an exchange
@@ -15,6 +16,16 @@ pub record IsLoad (count size : ℕ) (p : Ruled count size) (turns : List (ℕ �
   pub none : turns ≡ []
   pub same : t.change (slice_index p.0.words t.word) ≡ slice_index p.0.words t.word
   pub view : (t.allowed p.0 p.1 refl t.there t.small).0 ≡ saw t.word (slice_index p.0.words t.word) t.me.0
+
+-- so a step of a kind is one wherever a test of the number found fails, where it tells that this number was seen then and nothing else of its
+-- seat has changed, that the word is left, and that it is no act
+abbrev pub SightsAreLoads : Type 0
+SightsAreLoads =
+    (count size id i : ℕ) (me : Mine) (change : ℕ → ℕ) (acts : ℕ → List (ℕ × Act)) (hit : ℕ → Bool) (p : Ruled count size) →
+    IsTurns count size (length p.0.homes) id me i change acts (λ n left. hit n ≡ false → left ≡ (saw i n me.0, me.1)) →
+    get_elem? p.0.views id ≡ some me.0 → slice_index p.0.words i < 18446744073709551616 → hit (slice_index p.0.words i) ≡ false →
+    change (slice_index p.0.words i) ≡ slice_index p.0.words i → acts (slice_index p.0.words i) ≡ [] →
+    (t : TurnStep count size p.0 []) × IsLoad count size p [] t
 
 -- a step is no act, or one
 abbrev pub IsOneAtMost : List (ℕ × Act) → Type 0

@@ -2,7 +2,7 @@
 
 ghost use Rattle.ipcz_rule.specs.RuleLaws.{RuleGivesHeadline, RuleOwes, ShownHasLengths, PartsAreSound, PartsHandsFit, LinksAreWords, OldLinksAreWords};
 ghost use Rattle.ipcz_rule.specs.RuleLaws.{RuleBoundsTurns};
-ghost use Rattle.ipcz_rule.specs.Races.{RacedIsOvertaken, WaitedForStays};
+ghost use Rattle.ipcz_rule.specs.Races.{SightsAreLoads, RacedIsOvertaken, WaitedForStays};
 ghost use Rattle.ipcz_rule.specs.TableRuns.{StepsAreTurns, StepsAreBounded, OvertakenByActs};
 ghost use Rattle.ipcz_rule.specs.RuleLaws.{PutsAreOnce, GetsFollowPuts, QuietPartsShowQuiet, SettledPartsAreDirect};
 
@@ -86,6 +86,12 @@ pub fn steps_of_turns_are_bounded()
 /// answered `Raced` there only where another seat has taken an act, or was in a call, between its load and its exchange.
 pub fn another_number_is_found_only_behind_an_act()
     ensures { OvertakenByActs }
+{}
+
+/// A step of a kind is a load wherever it is no act, leaves the word, and tells that nothing but what was seen has changed: so is an exchange
+/// that finds another number than the one that it was for.
+pub fn a_step_that_only_sees_is_a_load()
+    ensures { SightsAreLoads }
 {}
 
 /// Where a seat only loads, and has found a link word or the claim count at one number and then at another, another seat has taken an act on
