@@ -98,9 +98,10 @@ impl Outbox {
         ensures room { self.new.messages ≡ [] → self.new.room ≡ 0 }
     {
         let message = self.first.take();
-        self.first = self.rest.pop_front();
-        if self.first.is_none() {
+        if self.rest.is_empty() {
             self.give_back(alloc);
+        } else {
+            self.first = self.rest.pop_front();
         }
         message
     }

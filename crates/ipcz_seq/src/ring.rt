@@ -19,8 +19,9 @@ pub(crate) fn place_of<T>(pairs: &VecDeque<(u64, T)>, n: u64) -> Result<usize, u
     ensures bound { IsSearchInRange result (deque_len pairs.now) }
 {
     match pairs.back() {
+        None => Err(0),
         Some(last) if last.0 < n => Err(pairs.len()),
-        _ => searched_place(pairs, n),
+        Some(_) => searched_place(pairs, n),
     }
 }
 

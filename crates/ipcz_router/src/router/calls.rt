@@ -97,6 +97,7 @@ impl Router {
     /// the out queue. A refused call hands the item back. It answers `Stranger` where no edge has the link at that side,
     /// else `Passed` where `n` has left the queue, else `Occupied` where `n` is in it, else `OutOfMemory` where there was no
     /// room and none was found.
+    #[inline(always)]
     #[tactic(auto, unfolding(crate::specs::Calls::accept))]
     pub fn accept(
         &mut self,
@@ -191,6 +192,7 @@ impl Router {
     }
 
     // An item comes into the out queue, and the router is flagged. At an open terminal it is one that its callers put.
+    #[inline(always)]
     fn push_out(&mut self, n: u64, item: Item) -> Result<(), (Refusal, Item)>
         requires number { n < no_number }
         requires put { IsOpenTerminal self.old.router → n < last_number }
@@ -207,6 +209,7 @@ impl Router {
     }
 
     // An item comes into the in queue, and the router is flagged.
+    #[inline(always)]
     fn push_in(&mut self, n: u64, item: Item) -> Result<(), (Refusal, Item)>
         requires { n < no_number }
         ensures place { OnOk result (has_place self.old.router.in_queue n ≡ true) }

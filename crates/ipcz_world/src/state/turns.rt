@@ -194,6 +194,7 @@ impl State {
     }
 
     // Posts the first message for a node into its empty mailbox.
+    #[inline(always)]
     fn post(&mut self, n: u8, to: u8)
         requires regular { IsRegular self.old }
         requires node { n < self.old.count }

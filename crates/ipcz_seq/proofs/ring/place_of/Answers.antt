@@ -12,8 +12,8 @@ returns-in-Some-clause-place g c =
     (place_at_end 0 c.args.n q.items _ c.in-Some.last.now c.requires (omega (arith, some, q.ok.0))
     (subst (λ e. e.0 < c.args.n) c.in-Some.ensures.lookup c.if-last-n.true))
 
-pub returns-in_default-clause-place : goal.returns-in_default-clause-place
-returns-in_default-clause-place g c =
+pub returns-in-Some-2-clause-place : goal.returns-in-Some-2-clause-place
+returns-in-Some-2-clause-place g c =
     let q = c.args.pairs.now in
     place_from_search 0 c.args.n q.items _ c.requires (subst (IsSearchInRange c.searched_place.result)
     q.ok.0 c.searched_place.ensures.bound) c.searched_place.ensures.position
