@@ -258,12 +258,24 @@ impl State {
     {
         match self.take_unseen(n, act) {
             Ok(()) => Ok(()),
-            Err(why) => self.give_up_unseen(n, act, why),
+            Err(why) => self.give_up_first(n, why),
         }
     }
 
-    // The first act was refused: where that is for want of memory, what stands in for it is taken.
+    // The first act was refused: it is looked for once more, so that a turn which is taken keeps no copy of its act.
     #[inline(never)]
+    fn give_up_first(&mut self, n: u8, why: Refusal) -> Result<(), Refusal>
+        requires regular { IsRegular self.old }
+        requires node { n < self.old.count }
+        requires refused { IsTaken self.old n (next_at self.old n) (Err why) self.old }
+        ensures turned { OnOk result (TakesTurn self.old n self.new) }
+        ensures refused { IfErr result (λ why. StepFirst self.old (Step.Turn n) (Reply.Refused why) self.new) }
+    {
+        let act = self.next(n);
+        self.give_up_unseen(n, act, why)
+    }
+
+    // The first act was refused: where that is for want of memory, what stands in for it is taken.
     fn give_up_unseen(&mut self, n: u8, act: Act, why: Refusal) -> Result<(), Refusal>
         requires regular { IsRegular self.old }
         requires node { n < self.old.count }
