@@ -1,6 +1,7 @@
 //! The loops of the measures, over any talkers. Each ends by itself, and tells whether it went as it should.
 use crate::talkers::Talker;
 use ipcz_node::Happened;
+use std::hint::spin_loop;
 use std::thread::yield_now;
 
 /// The bytes of a parcel.
@@ -34,8 +35,9 @@ pub fn pass<T: Talker>(left: &mut T, right: &mut T, rounds: u64) -> bool {
     true
 }
 
-// Lets another thread run, where many turns in a row had nothing to do.
+// Waits a moment where a turn had nothing to do, and lets another thread run where many in a row had nothing.
 fn rest(idle: u64) {
+    spin_loop();
     if idle % 1024 == 1023 {
         yield_now();
     }

@@ -19,15 +19,21 @@ CanClaim x serial = (r : Router) × CanAct x serial r router_acts.Claim
 -- a load of the claim count, which finds at most as many as there are: where it finds all of them it is the claim's NoWord
 abbrev pub counted : ℕ → ℕ → Tells
 counted size serial m n m' = (n ≤ size) ×
-    MatchBool (eqb n size) (m' ≡ (change_part (act_part (acts.Router serial router_acts.Claim) answers.NoWord) (saw size n m.0), m.1)) (m' ≡ (saw size n m.0, m.1))
+    MatchBool (eqb n size) (m' ≡ (change_part (act_part (acts.Router serial router_acts.Claim) answers.NoWord) (saw size n m.0), m.1))
+    (m' ≡ (saw size n m.0, m.1))
 
 -- an exchange of the claim count for the next
 abbrev pub claimed : ℕ → ℕ → ℕ → Tells
-claimed size serial c m n m' = MatchBool (eqb n c) (m' ≡ (change_part (act_part (acts.Router serial router_acts.Claim) (answers.Claimed c)) (saw size n m.0), m.1)) (m' ≡ (saw size n m.0, m.1))
+claimed size serial c m n m' = MatchBool (eqb n c)
+    (m' ≡ (change_part (act_part (acts.Router serial router_acts.Claim) (answers.Claimed c)) (saw size n m.0), m.1))
+    (m' ≡ (saw size n m.0, m.1))
 
--- what a proxy's claim answers and leaves: NoWord only where the load found that each word was claimed, and then it is dry; Raced only where the
--- load and the exchange found different counts
+-- what a proxy's claim answers and leaves: NoWord only where the load found that each word was claimed, and then it is dry; Raced only
+-- where the load and the exchange found different counts
 pub data Answered (size serial : ℕ) (old new : CellState) (answer : Result ℕ Refusal) : Type 0 where
-  Got : (n : ℕ) → answer ≡ Ok n → n < size → new.part ≡ act_part (acts.Router serial router_acts.Claim) (answers.Claimed n) old.part → new.seen ≡ (old.seen ++ (size, n) ∷ []) ++ (size, n) ∷ [] → Answered size serial old new answer
-  Dry : answer ≡ Err NoWord → new.part ≡ act_part (acts.Router serial router_acts.Claim) answers.NoWord old.part → new.seen ≡ old.seen ++ (size, size) ∷ [] → Answered size serial old new answer
-  Lost : (n found : ℕ) → answer ≡ Err Raced → found ≢ n → new.part ≡ old.part → new.seen ≡ (old.seen ++ (size, n) ∷ []) ++ (size, found) ∷ [] → Answered size serial old new answer
+  Got : (n : ℕ) → answer ≡ Ok n → n < size → new.part ≡ act_part (acts.Router serial router_acts.Claim) (answers.Claimed n) old.part →
+      new.seen ≡ (old.seen ++ (size, n) ∷ []) ++ (size, n) ∷ [] → Answered size serial old new answer
+  Dry : answer ≡ Err NoWord → new.part ≡ act_part (acts.Router serial router_acts.Claim) answers.NoWord old.part →
+      new.seen ≡ old.seen ++ (size, size) ∷ [] → Answered size serial old new answer
+  Lost : (n found : ℕ) → answer ≡ Err Raced → found ≢ n → new.part ≡ old.part →
+      new.seen ≡ (old.seen ++ (size, n) ∷ []) ++ (size, found) ∷ [] → Answered size serial old new answer

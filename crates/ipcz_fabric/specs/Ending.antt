@@ -1,5 +1,6 @@
 -- The way back from a table to a world: what its steps tell, and what is read of the words and slots.
-use Rattle.std.specs.Prelude.{◌≡◌, ◌≢◌, ◌<◌, ◌+◌, ◌*◌, ℕ, Bool, nat_eq, nat_lt, ◌&&◌, if◌then◌else◌, List, [], ◌∷◌, map, slice_index, Option, Some, None}
+use Rattle.std.specs.Prelude.{◌≡◌, ◌≢◌, ◌<◌, ◌+◌, ◌*◌, ℕ, Bool, nat_eq, nat_lt, ◌&&◌, if◌then◌else◌, List, [], ◌∷◌, map, slice_index}
+use Rattle.std.specs.Prelude.{Option, Some, None}
 use mathlib.Core.Option.{some}
 use lib.ListN.{get_elem?}
 use Rattle.atomic_table.specs.Table.{rest}
@@ -55,7 +56,8 @@ hand_left word hand = if nat_eq word 2 then None else hand
 
 -- the words of the mailboxes from one on, the slots and the messages in the nodes' hands come to these mailboxes, of so many nodes
 pub record Reads (n first : ℕ) (words : List ℕ) (slots : List Slot) (hands : List (Option Message)) (mail : ℕ → Mail) : Type 0 where
-  pub full : (k : ℕ) → k < n * n → slice_index words (first + k) ≡ 1 → (x : Message) × (get_elem? slots k ≡ some (Some x)) × (mail k ≡ mails.Full x)
+  pub full : (k : ℕ) → k < n * n → slice_index words (first + k) ≡ 1 → (x : Message) × (get_elem? slots k ≡ some (Some x)) ×
+      (mail k ≡ mails.Full x)
   pub hand : (from to : ℕ) → from < n → to < n → slice_index words (first + (from * n + to)) ≡ 2 →
       (x : Message) × (get_elem? hands to ≡ some (Some x)) × (mail (from * n + to) ≡ mails.Hand x)
   pub once : (from from' to : ℕ) → from < n → from' < n → to < n → slice_index words (first + (from * n + to)) ≡ 2 →

@@ -1,5 +1,6 @@
 -- The mailboxes of a cell: what the calls on them answer and leave.
-use Rattle.std.specs.Prelude.{◌≡◌, ◌≢◌, ◌<◌, ◌+◌, ◌*◌, ℕ, [], ◌∷◌, ◌++◌, Bool, false, nat_lt, if◌then◌else◌, List, Option, Some, None, MatchBool, IfSome, Result, MatchResult}
+use Rattle.std.specs.Prelude.{◌≡◌, ◌≢◌, ◌<◌, ◌+◌, ◌*◌, ℕ, [], ◌∷◌, ◌++◌, Bool, false, nat_lt, if◌then◌else◌, List, Option, Some, None}
+use Rattle.std.specs.Prelude.{MatchBool, IfSome, Result, MatchResult}
 use Rattle.ipcz_base.specs.declared.message.Message.{Message}
 use Rattle.ipcz_base.specs.declared.refusal.Refusal.{Refusal}
 use Rattle.ipcz_base.specs.declared.refusal.Refusal.TheVariants.{NumbersEnd, OutOfMemory}
@@ -33,7 +34,8 @@ IsProbed i to old new = MatchBool (has_number old.part.probed to) ((new.part ≡
 
 -- what a probe answers and leaves: it fails only where the mailbox wasn't taken yet and was found at another value than 0
 abbrev pub Probes : ℕ → ℕ → CellState → Bool → CellState → Type 0
-Probes i to old answer new = MatchBool answer (IsProbed i to old new) ((has_number old.part.probed to ≡ false) × ((n : ℕ) × (n ≢ 0) × HasSeen i n old new))
+Probes i to old answer new = MatchBool answer (IsProbed i to old new) ((has_number old.part.probed to ≡ false) ×
+    ((n : ℕ) × (n ≢ 0) × HasSeen i n old new))
 
 -- the word of the old link that the message in hand names, where it is an AcceptBypass
 abbrev pub old_named : Option Message → Option ℕ
@@ -78,5 +80,6 @@ pub record Handles (size from : ℕ) (old : CellState) (answer : Result Happened
 
 -- what a look answers and leaves: it fails only where the mailbox was found at another value than 1
 abbrev pub Looks : ℕ → ℕ → CellState → Bool → CellState → Type 0
-Looks i from old answer new = MatchBool answer ((x : Message) × (new.part ≡ look_part from x old.part) × (new.seen ≡ old.seen ++ (i, 1) ∷ []))
+Looks i from old answer new = MatchBool answer ((x : Message) × (new.part ≡ look_part from x old.part) ×
+    (new.seen ≡ old.seen ++ (i, 1) ∷ []))
     ((n : ℕ) × (n ≢ 1) × HasSeen i n old new)

@@ -1,5 +1,6 @@
 -- The claim count, a link word and an open at a cell: what the calls on them answer and leave.
-use Rattle.std.specs.Prelude.{◌≡◌, ◌≢◌, ◌<◌, ◌≤◌, ◌+◌, ℕ, [], ◌∷◌, ◌++◌, Bool, true, ◌&&◌, ◌||◌, ◌==◌, List, length, is_some, Option, Some, None}
+use Rattle.std.specs.Prelude.{◌≡◌, ◌≢◌, ◌<◌, ◌≤◌, ◌+◌, ℕ, [], ◌∷◌, ◌++◌, Bool, true, ◌&&◌, ◌||◌, ◌==◌, List, length, is_some, Option, Some}
+use Rattle.std.specs.Prelude.{None}
 use Rattle.std.specs.Prelude.{Result, Ok, Err, MatchBool, MatchOption, MatchResult, eqb, unwrap_or}
 use Rattle.ipcz_base.specs.declared.end.End.{End}
 use Rattle.ipcz_base.specs.declared.side.Side.TheVariants.{A, B}
@@ -50,14 +51,20 @@ ClaimsAt size c old answer new = MatchResult answer
 
 -- the cell after a word was claimed for an open: a load and an exchange of the claim count have found the same
 abbrev pub claimed_for_open : ℕ → ℕ → CellState → CellState
-claimed_for_open size n old = record { part = claimed_part n old.part; seen = (old.seen ++ (size, n) ∷ []) ++ (size, n) ∷ []; room = old.room }
+claimed_for_open size n old = record {
+  part = claimed_part n old.part;
+  seen = (old.seen ++ (size, n) ∷ []) ++ (size, n) ∷ [];
+  room = old.room;
+}
 
--- what the claim of a word for an open answers and leaves: NoWord only where the load found that each word was claimed, Raced only where the load
--- and the exchange found different counts
+-- what the claim of a word for an open answers and leaves: NoWord only where the load found that each word was claimed, Raced only where
+-- the load and the exchange found different counts
 pub data ClaimsForOpen (size : ℕ) (old new : CellState) (answer : Result ℕ Refusal) : Type 0 where
-  Claimed : (n : ℕ) → answer ≡ Ok n → n < size → new.part ≡ claimed_part n old.part → new.seen ≡ (old.seen ++ (size, n) ∷ []) ++ (size, n) ∷ [] → ClaimsForOpen size old new answer
+  Claimed : (n : ℕ) → answer ≡ Ok n → n < size → new.part ≡ claimed_part n old.part →
+      new.seen ≡ (old.seen ++ (size, n) ∷ []) ++ (size, n) ∷ [] → ClaimsForOpen size old new answer
   Exhausted : answer ≡ Err NoWord → HasSeen size size old new → ClaimsForOpen size old new answer
-  Outrun : (n found : ℕ) → answer ≡ Err Raced → found ≢ n → new.part ≡ old.part → new.seen ≡ (old.seen ++ (size, n) ∷ []) ++ (size, found) ∷ [] → ClaimsForOpen size old new answer
+  Outrun : (n found : ℕ) → answer ≡ Err Raced → found ≢ n → new.part ≡ old.part →
+      new.seen ≡ (old.seen ++ (size, n) ∷ []) ++ (size, found) ∷ [] → ClaimsForOpen size old new answer
 
 -- who may claim a word: a proxy whose act it is, or the node for an open where none is under way
 abbrev pub MayClaim : Node → Option ℕ → Type 0
@@ -77,11 +84,12 @@ pub record OpensWord (old : CellState) (ends : End × End) (new : CellState) : T
   pub part : new.part ≡ open_part word old.part
   pub seen : new.seen ≡ old.seen ++ (word, 0) ∷ []
 
--- what the open of a pair answers and leaves: an open under way is used; else a word is claimed for it. NoWord only where the load found that each
--- word was claimed, Raced only where the load and the exchange found different counts. A refused open leaves the node's part
+-- what the open of a pair answers and leaves: an open under way is used; else a word is claimed for it. NoWord only where the load found
+-- that each word was claimed, Raced only where the load and the exchange found different counts. A refused open leaves the node's part
 pub data OpensPair (size : ℕ) (old new : CellState) (answer : Result (End × End) Refusal) : Type 0 where
   UnderWay : (ends : End × End) → answer ≡ Ok ends → OpensWord old ends new → OpensPair size old new answer
-  Fresh : (n : ℕ) (ends : End × End) → answer ≡ Ok ends → old.part.state.opening ≡ None → n < size → OpensWord (claimed_for_open size n old) ends new →
+  Fresh : (n : ℕ) (ends : End × End) → answer ≡ Ok ends → old.part.state.opening ≡ None → n < size →
+      OpensWord (claimed_for_open size n old) ends new →
       OpensPair size old new answer
   NoneLeft : answer ≡ Err NoWord → old.part.state.opening ≡ None → HasSeen size size old new → OpensPair size old new answer
   Unready : answer ≡ Err (unwrap_or (serials_refusal old.part.state) OutOfMemory) → new.part ≡ old.part →

@@ -48,7 +48,8 @@ posted to m n m' = m' ≡ (change_part (post_part to) m.0, rest m.1)
 
 -- an exchange 1 to 2 of the mailbox word i
 abbrev pub looked : ℕ → ℕ → ℕ → Tells
-looked i k from m n m' = MatchBool (eqb n 1) ((x : Message) × (m' ≡ (change_part (look_part from x) (saw i n m.0), (k, Some x) ∷ m.1))) (m' ≡ (saw i n m.0, m.1))
+looked i k from m n m' = MatchBool (eqb n 1) ((x : Message) × (m' ≡ (change_part (look_part from x) (saw i n m.0), (k, Some x) ∷ m.1)))
+    (m' ≡ (saw i n m.0, m.1))
 
 -- a load of the old link's word i before an AcceptBypass from a node is handled: it is the word of a link, and names this node
 abbrev pub sourced : ℕ → ℕ → Tells

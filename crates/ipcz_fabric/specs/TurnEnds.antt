@@ -1,5 +1,6 @@
 -- What a turn of a cell answers and leaves.
-use Rattle.std.specs.Prelude.{◌≡◌, ◌≢◌, ◌<◌, ◌≤◌, ◌⊎◌, ℕ, [], ◌∷◌, ◌++◌, List, Bool, true, false, if◌then◌else◌, Option, Some, None, Result, MatchResult}
+use Rattle.std.specs.Prelude.{◌≡◌, ◌≢◌, ◌<◌, ◌≤◌, ◌⊎◌, ℕ, [], ◌∷◌, ◌++◌, List, Bool, true, false, if◌then◌else◌, Option, Some, None, Result}
+use Rattle.std.specs.Prelude.{MatchResult}
 use Rattle.ipcz_base.specs.declared.message.Message.{Message}
 use Rattle.ipcz_base.specs.declared.refusal.Refusal.{Refusal}
 use Rattle.ipcz_base.specs.declared.refusal.Refusal.TheVariants.{NumbersEnd, OutOfMemory, Raced}
@@ -71,7 +72,8 @@ try_event serial word found plans.Refused = events.Refused serial (Central word)
 abbrev pub IsAnswered : TableName → Part → Act → Answer → List (ℕ × ℕ) → Type 0
 IsAnswered t p (acts.Hand from) answer seen = (answer ≡ answers.Plain) × OldLoaded t.size (old_named p.message) seen
 IsAnswered t p (acts.Look from) answer seen = (answer ≡ answers.Plain) × (seen ≡ (mail_word t from p.node, 1) ∷ [])
-IsAnswered t p (acts.Post to) answer seen = (answer ≡ answers.Plain) × (seen ≡ (if has_number p.probed to then [] else (mail_word t p.node to, 0) ∷ []))
+IsAnswered t p (acts.Post to) answer seen = (answer ≡ answers.Plain) ×
+    (seen ≡ (if has_number p.probed to then [] else (mail_word t p.node to, 0) ∷ []))
 IsAnswered t p (acts.Router serial router_acts.Mark) answer seen = FoundWord p.state serial router_acts.Mark answer seen
 IsAnswered t p (acts.Router serial router_acts.Wake) answer seen = FoundWord p.state serial router_acts.Wake answer seen
 IsAnswered t p (acts.Router serial router_acts.Unlock) answer seen = FoundWord p.state serial router_acts.Unlock answer seen
@@ -152,8 +154,8 @@ pub record Acts (t : TableName) (act : Act) (old : CellState) (answer : Result H
   pub outcome : MatchResult answer (λ event. IsTaken t old.part act event new.part found)
       (λ why. (new.part ≡ old.part) × IsRefused t.size old.part act (IsLost t old.part act found) why found)
 
--- the last of what was seen is a load and an exchange of one word, which have found different numbers: it is a link word or the claim count, or
--- a mailbox that the node waits for
+-- the last of what was seen is a load and an exchange of one word, which have found different numbers: it is a link word or the claim
+-- count, or a mailbox that the node waits for
 pub record EndsRaced (t : TableName) (p : Part) (seen : List (ℕ × ℕ)) : Type 0 where
   pub before : List (ℕ × ℕ)
   pub word : ℕ

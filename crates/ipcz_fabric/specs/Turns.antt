@@ -1,5 +1,6 @@
 -- A turn of a cell: which act it takes by what its own loads have found of the mailboxes, and what it answers and leaves.
-use Rattle.std.specs.Prelude.{◌≡◌, ◌≢◌, ◌<◌, ℕ, [], ◌∷◌, ◌++◌, List, Bool, true, false, replicate, Option, Some, None, MatchBool, MatchOption}
+use Rattle.std.specs.Prelude.{◌≡◌, ◌≢◌, ◌<◌, ℕ, [], ◌∷◌, ◌++◌, List, Bool, true, false, replicate, Option, Some, None, MatchBool}
+use Rattle.std.specs.Prelude.{MatchOption}
 use Rattle.ipcz_node.specs.declared.act.Act.{Act}
 use Rattle.ipcz_node.specs.declared.act.Act.TheVariants.{Hand, Look, Post}
 use Rattle.ipcz_node.specs.declared.act.MailSeen.{MailSeen}
@@ -51,8 +52,8 @@ pub record IsFirstLook (t : TableName) (p : Part) (found : List (ℕ × ℕ)) (f
   pub none : NoneFull t p.node from found
   pub full : IsLast found (mail_word t from p.node) 1
 
--- to post to a node comes first: nothing is in hand, no mailbox to this node is full, and this is the lowest destination that a message can be
--- posted to
+-- to post to a node comes first: nothing is in hand, no mailbox to this node is full, and this is the lowest destination that a message can
+-- be posted to
 pub record IsFirstPost (t : TableName) (p : Part) (found : List (ℕ × ℕ)) (to : ℕ) : Type 0 where
   pub inside : to < t.count
   pub idle : p.state.hand ≡ None
@@ -64,8 +65,8 @@ pub record IsFirstPost (t : TableName) (p : Part) (found : List (ℕ × ℕ)) (t
 abbrev pub nothing_seen : MailSeen
 nothing_seen = record { full = replicate 8 false; empty = replicate 8 false }
 
--- an act that is about no mailbox comes first: nothing is in hand, no mailbox to this node is full, there is none to post to, and the act is
--- what comes first without any
+-- an act that is about no mailbox comes first: nothing is in hand, no mailbox to this node is full, there is none to post to, and the act
+-- is what comes first without any
 pub record IsFirstElse (t : TableName) (p : Part) (found : List (ℕ × ℕ)) (act : Act) : Type 0 where
   pub idle : p.state.hand ≡ None
   pub none : NoneFull t p.node t.count found
@@ -107,4 +108,5 @@ pub record CanPost (t : TableName) (to : ℕ) (old : CellState) (answer : Bool) 
 pub record FindsEmpty (t : TableName) (old : CellState) (answer : Option ℕ) (new : CellState) : Type 0 where
   pub found : List (ℕ × ℕ)
   pub looked : HasLooked found old new
-  pub first : MatchOption answer (NoneEmpty t old.part t.count found) (λ to. (to < t.count) × NoneEmpty t old.part to found × IsOpen t old.part to found)
+  pub first : MatchOption answer (NoneEmpty t old.part t.count found) (λ to. (to < t.count) × NoneEmpty t old.part to found ×
+      IsOpen t old.part to found)

@@ -80,7 +80,8 @@ fn unprobe_all<F: FabricName>(
     requires whole { seat.old.me.0.parts ≡ part_in seat.old.me.0 ∷ [] }
     requires node { ((part_in seat.old.me.0).node ≡ node) × (node < F.table.count) }
     requires probed { ((part_in seat.old.me.0).probed ≡ probed) × AreBelow F.table.count probed }
-    requires slots { seat.old.me.1 ≡ probed_slots F.table.count node probed ++ hand_slots F.table.count node (part_in seat.old.me.0).state.hand }
+    requires slots { seat.old.me.1 ≡ probed_slots F.table.count node probed ++ hand_slots F.table.count node
+        (part_in seat.old.me.0).state.hand }
     ensures table { seat.new.table_id ≡ F.table.id }
     ensures done { seat.new.me.0.parts ≡ rested (part_in seat.old.me.0) ∷ [] }
     ensures slots { seat.new.me.1 ≡ hand_slots F.table.count node (part_in seat.old.me.0).state.hand }

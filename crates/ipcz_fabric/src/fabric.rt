@@ -34,6 +34,7 @@ impl<F: FabricName> Model for Fabric<F> {
 
     ghost view = { λ _. 0 };
 
-    ghost invariant = { λ f. (f.table.shared.table_id ≡ F.table.id) × (f.table.shared.key.nodes ≡ F.table.count) × (f.table.shared.key.words ≡ F.table.size)
+    ghost invariant = { λ f. (f.table.shared.table_id ≡ F.table.id) × (f.table.shared.key.nodes ≡ F.table.count) ×
+        (f.table.shared.key.words ≡ F.table.size)
         × (f.nodes ≡ F.table.count) × (f.words ≡ F.table.size) × IsLaidOut F.table };
 }

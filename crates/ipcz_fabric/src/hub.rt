@@ -125,8 +125,8 @@ impl<F: FabricName> Hub<F> {
     /// A hub of a table's cells, and a portal for each end that callers of their nodes hold: by node, and then by the serial of the end's
     /// terminal.
     ///
-    /// Refused `Stranger` where the cells' nodes aren't 0, 1, and so on to the last, in order; else `OutOfMemory`. A refusal gives the fabric
-    /// and the cells back, as they were.
+    /// Refused `Stranger` where the cells' nodes aren't 0, 1, and so on to the last, in order; else `OutOfMemory`. A refusal gives the
+    /// fabric and the cells back, as they were.
     pub fn new(
         fabric: Fabric<F>,
         cells: Vec<NodeCell<F>>,
@@ -197,10 +197,10 @@ impl<F: FabricName> Hub<F> {
     pub fn turn<R: Wait>(&self, rt: &R, node: u8) -> Result<Happened, Refusal>
         ensures stranger { F.table.count ≤ node → result ≡ Err Refusal.Stranger }
     {
-        if node >= self.fabric.nodes {
-            return Err(Refusal::Stranger);
+        if node < self.fabric.nodes {
+            return self.cell(node).lock(rt).turn(&self.fabric);
         }
-        self.cell(node).lock(rt).turn(&self.fabric)
+        Err(Refusal::Stranger)
     }
 
     // How many nodes there are.

@@ -1,5 +1,6 @@
 //! The mailboxes of a cell, each in a word of the table with its slot.
-ghost use Rattle.std.specs.Prelude.{◌≡◌, ◌<◌, ◌≤◌, ◌+◌, true, false, [], ◌∷◌, Some, None, OnOk, OnErr, IfOk, IfErr, if◌then◌else◌, cond, is_some};
+ghost use Rattle.std.specs.Prelude.{◌≡◌, ◌<◌, ◌≤◌, ◌+◌, true, false, [], ◌∷◌, Some, None, OnOk, OnErr, IfOk, IfErr, if◌then◌else◌, cond};
+ghost use Rattle.std.specs.Prelude.{is_some};
 ghost use Rattle.atomic_table.specs.Table.{rest};
 ghost use Rattle.ipcz_node.specs.Acts.{has_mail_for, post_of};
 ghost use Rattle.ipcz_node.specs.Events.{hand_event};

@@ -105,8 +105,8 @@ impl<F: FabricName> Portal<F> {
         self.end
     }
 
-    /// Puts a parcel, under the lock of the portal's node, and answers its number: its bytes, and portals, which are used up. What else holds
-    /// of it is what `NodeCell::put` says.
+    /// Puts a parcel, under the lock of the portal's node, and answers its number: its bytes, and portals, which are used up. What else
+    /// holds of it is what `NodeCell::put` says.
     ///
     /// A refused put gives bytes and portals back. Room for the list of ends is taken first, so `OutOfMemory` comes before all else; then
     /// the refusals are those of `NodeState::put`, in their order. A portal of another node is a `Stranger`.

@@ -78,7 +78,8 @@ impl Probed {
     pub(crate) fn take(&mut self, to: u8) -> usize
         requires { has_number self.old to ≡ true }
         ensures without { self.new ≡ without_number self.old to }
-        ensures place { (before : List ℕ) × (after : List ℕ) × (self.old ≡ before ++ to ∷ after) × (self.new ≡ before ++ after) × (result ≡ length before) }
+        ensures place { (before : List ℕ) × (after : List ℕ) × (self.old ≡ before ++ to ∷ after) × (self.new ≡ before ++ after) ×
+            (result ≡ length before) }
     {
         let place = place_of(self.tos.as_slice(), to);
         self.tos.remove(place);

@@ -35,8 +35,8 @@ impl<F: FabricName> NodeCell<F> {
         self.state.quiet()
     }
 
-    /// Whether the node has nothing to do: by itself, as `NodeState::quiet`, and since each mailbox to it was loaded and no message was found
-    /// in it. Another node may post meanwhile: of the table it says only what the loads have found. It takes no memory.
+    /// Whether the node has nothing to do: by itself, as `NodeState::quiet`, and since each mailbox to it was loaded and no message was
+    /// found in it. Another node may post meanwhile: of the table it says only what the loads have found. It takes no memory.
     pub fn quiet(&mut self, fabric: &Fabric<F>) -> bool
         ensures { FindsQuiet F.table self.old result self.new }
     {

@@ -46,8 +46,8 @@ impl<F: FabricName> NodeCell<F> {
         self.load_mail(fabric, node, to) == 0
     }
 
-    // The lowest node that messages wait for and whose mailbox is this node's already, or is found empty. The mailboxes are loaded in order,
-    // up to that one.
+    // The lowest node that messages wait for and whose mailbox is this node's already, or is found empty. The mailboxes are loaded in
+    // order, up to that one.
     fn first_empty(&mut self, fabric: &Fabric<F>) -> Option<u8>
         ensures { FindsEmpty F.table self.old result self.new }
     {
@@ -108,7 +108,8 @@ fn try_event(serial: u64, tried: LockTry) -> Happened
 impl<F: FabricName> NodeCell<F> {
     // The link of a router's word, for its events.
     fn word_link(&self, serial: u64) -> LinkId
-        ensures { (word : ℕ) → (side : SideValue) → word_side self.now.part.state serial ≡ Some (word, side) → result ≡ LinkId.Central word }
+        ensures { (word : ℕ) → (side : SideValue) → word_side self.now.part.state serial ≡ Some (word, side) →
+            result ≡ LinkId.Central word }
     {
         match self.state.word_of(serial) {
             Some((word, _)) => LinkId::Central(word),
@@ -282,9 +283,9 @@ impl<F: FabricName> NodeCell<F> {
     /// Takes one turn: the first act that is possible for the mailboxes as it finds them, as `act` answers it, is done whole, and what it
     /// did is told.
     ///
-    /// It is refused `NumbersEnd` where the act wants more serials than are left, `OutOfMemory` where it wants memory and none is found, and
-    /// `Raced` where another thread came between the load of a word and its exchange: then the turn may be taken again. A begin for which no
-    /// memory is found is done as an unlock. A refused turn changes nothing. A claim that finds no word is an act done.
+    /// It is refused `NumbersEnd` where the act wants more serials than are left, `OutOfMemory` where it wants memory and none is found,
+    /// and `Raced` where another thread came between the load of a word and its exchange: then the turn may be taken again. A begin for
+    /// which no memory is found is done as an unlock. A refused turn changes nothing. A claim that finds no word is an act done.
     pub fn turn(&mut self, fabric: &Fabric<F>) -> Result<Happened, Refusal>
         ensures { Turns F.table self.old result self.new }
     {

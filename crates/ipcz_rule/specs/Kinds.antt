@@ -1,8 +1,9 @@
 -- The kinds of atomic step of a seat with one node: what each needs of the node, and what it leaves of the seat. Each keeps the rule.
 -- Beside that it keeps the rule it is said of a step that a turn takes which turns of the shown world it is: none, or one act of its node.
--- In each the seat is `id`, the table has so many slots, and `i` is the word. What a step tells that may find its word changed is by a test of
--- the number found: where it fails the step was a load.
-use Rattle.std.specs.Prelude.{◌≡◌, ◌<◌, cond, length, slice_index, ◌+◌, ◌*◌, ◌-◌, ℕ, Bool, true, false, eqb, List, [], ◌∷◌, ◌++◌, Some, None, MatchBool, bit_and, bit_or}
+-- In each the seat is `id`, the table has so many slots, and `i` is the word. What a step tells that may find its word changed is by a test
+-- of the number found: where it fails the step was a load.
+use Rattle.std.specs.Prelude.{◌≡◌, ◌<◌, cond, length, slice_index, ◌+◌, ◌*◌, ◌-◌, ℕ, Bool, true, false, eqb, List, [], ◌∷◌, ◌++◌, Some}
+use Rattle.std.specs.Prelude.{None, MatchBool, bit_and, bit_or}
 use prog.Atomic.{either}
 use mathlib.Core.Option.{some}
 use lib.ListN.{get_elem?}
@@ -28,15 +29,16 @@ use Rattle.ipcz_rule.specs.declared.view.View.{View}
 use Rattle.ipcz_rule.specs.declared.view.Part.{Part}
 use Rattle.ipcz_world.specs.Ranks.{AreTurns}
 use Rattle.ipcz_rule.specs.Rule.{Slot, St, Mine, Rules, has_number, with_part, saw}
-use Rattle.ipcz_rule.specs.Steps.{put_part, get_part, close_part, claimed_part, open_part, act_part, acted_view, CanAct, is_touch, is_touch_act}
+use Rattle.ipcz_rule.specs.Steps.{put_part, get_part, close_part, claimed_part, open_part, act_part, acted_view, CanAct, is_touch}
+use Rattle.ipcz_rule.specs.Steps.{is_touch_act}
 use Rattle.ipcz_rule.specs.Steps.{probe_part, unprobe_part, post_part, look_part, old_word, trusted, hand_part}
 
 -- the rule after a step, and the turns that lead from the world that was shown to the one that is shown then
 abbrev pub Follows : (count size : ℕ) (s : St) → Rules count size s → List (ℕ × Act) → St → Type 0
 Follows count size s r turns s' = (r' : Rules count size s') × AreTurns r.world r.books r.routes turns r'.world r'.books r'.routes
 
--- what may be said of a step of a seat on a word: of the seat's number and what it has, of what the word becomes, of the turns that the step is,
--- and of what it leaves of the seat, by the number found
+-- what may be said of a step of a seat on a word: of the seat's number and what it has, of what the word becomes, of the turns that the
+-- step is, and of what it leaves of the seat, by the number found
 abbrev pub Form : Type 1
 Form = (count size slots id : ℕ) → Mine → ℕ → (ℕ → ℕ) → (ℕ → List (ℕ × Act)) → (ℕ → Mine → Type 0) → Type 0
 
@@ -47,8 +49,10 @@ KeepsRule count size slots id me i f turns told = Allows (Rules count size) slot
 -- that it keeps the rule and is these turns, whatever world the rule shows before
 abbrev pub IsTurns : Form
 IsTurns count size slots id me i f turns told =
-    (s : St) (r : Rules count size s) → length s.homes ≡ slots → get_elem? s.views id ≡ some me.0 → slice_index s.words i < 18446744073709551616 →
-    (v : View) × (a : TableAct Slot) × Valid s.homes me.1 a × Follows count size s r (turns (slice_index s.words i)) (stepped s i (f (slice_index s.words i)) id me.1 v a) ×
+    (s : St) (r : Rules count size s) → length s.homes ≡ slots → get_elem? s.views id ≡ some me.0 →
+    slice_index s.words i < 18446744073709551616 →
+    (v : View) × (a : TableAct Slot) × Valid s.homes me.1 a ×
+    Follows count size s r (turns (slice_index s.words i)) (stepped s i (f (slice_index s.words i)) id me.1 v a) ×
     told (slice_index s.words i) (v, carried_after me.1 a)
 
 -- one act of a node where a test holds, else nothing
@@ -57,16 +61,19 @@ turn_where hit n act = cond hit ((n, act) ∷ []) []
 
 -- a load of any word
 abbrev pub Loads : Form → Type 0
-Loads F = (count size slots id i : ℕ) (m : Mine) (p : Part) → m.0.parts ≡ p ∷ [] → F count size slots id m i (λ n. n) (λ n. []) (λ n m'. m' ≡ (saw i n m.0, m.1))
+Loads F = (count size slots id i : ℕ) (m : Mine) (p : Part) → m.0.parts ≡ p ∷ [] →
+    F count size slots id m i (λ n. n) (λ n. []) (λ n m'. m' ≡ (saw i n m.0, m.1))
 
 -- touch, of a put
 abbrev pub Puts : Type 0
-Puts = (count size slots id i : ℕ) (m : Mine) (p : Part) (at : End) (bytes : List ℕ) (ends : List End) → m.0.parts ≡ p ∷ [] → put_refusal p.state at bytes ends ≡ None →
+Puts = (count size slots id i : ℕ) (m : Mine) (p : Part) (at : End) (bytes : List ℕ) (ends : List End) → m.0.parts ≡ p ∷ [] →
+    put_refusal p.state at bytes ends ≡ None →
     Allows (Rules count size) slots id m i (λ n. n) (λ n m'. m' ≡ (with_part (put_part at bytes ends p) m.0, m.1))
 
 -- touch, of a get
 abbrev pub Gets : Type 0
-Gets = (count size slots id i : ℕ) (m : Mine) (p : Part) (at : End) (number : ℕ) (q : parcels.Parcel) → m.0.parts ≡ p ∷ [] → get_refusal p.state at ≡ None → got_at p.state at ≡ Some (number, q) →
+Gets = (count size slots id i : ℕ) (m : Mine) (p : Part) (at : End) (number : ℕ) (q : parcels.Parcel) → m.0.parts ≡ p ∷ [] →
+    get_refusal p.state at ≡ None → got_at p.state at ≡ Some (number, q) →
     Allows (Rules count size) slots id m i (λ n. n) (λ n m'. m' ≡ (with_part (get_part at number q p) m.0, m.1))
 
 -- touch, of a close
@@ -77,43 +84,57 @@ Closes = (count size slots id i : ℕ) (m : Mine) (p : Part) (at : End) → m.0.
 -- touch, of a close that is pending
 abbrev pub PendingCloses : Form → Type 0
 PendingCloses F = (count size slots id i : ℕ) (m : Mine) (p : Part) (e : End) → m.0.parts ≡ p ∷ [] → first_of p.state.pending ≡ Some e →
-    F count size slots id m i (λ n. n) (λ n. (p.node, acts.Close e) ∷ []) (λ n m'. m' ≡ (with_part (act_part (acts.Close e) answers.Plain p) m.0, m.1))
+    F count size slots id m i (λ n. n) (λ n. (p.node, acts.Close e) ∷ [])
+    (λ n m'. m' ≡ (with_part (act_part (acts.Close e) answers.Plain p) m.0, m.1))
 
 -- touch, of an act of a router: send, discard, finish, leave, begin, rest
 abbrev pub Touches : Form → Type 0
-Touches F = (count size slots id i : ℕ) (m : Mine) (p : Part) (serial : ℕ) (r : Router) (act : RouterAct) → m.0.parts ≡ p ∷ [] → CanAct p.state serial r act → is_touch act ≡ true →
-    F count size slots id m i (λ n. n) (λ n. (p.node, acts.Router serial act) ∷ []) (λ n m'. m' ≡ (with_part (act_part (acts.Router serial act) answers.Plain p) m.0, m.1))
+Touches F = (count size slots id i : ℕ) (m : Mine) (p : Part) (serial : ℕ) (r : Router) (act : RouterAct) → m.0.parts ≡ p ∷ [] →
+    CanAct p.state serial r act → is_touch act ≡ true →
+    F count size slots id m i (λ n. n) (λ n. (p.node, acts.Router serial act) ∷ []) (λ n m'. m' ≡
+    (with_part (act_part (acts.Router serial act) answers.Plain p) m.0, m.1))
 
 -- touch, of any of these acts
 abbrev pub TouchActs : Form → Type 0
-TouchActs F = (count size slots id i : ℕ) (m : Mine) (p : Part) (act : Act) → m.0.parts ≡ p ∷ [] → is_touch_act act ≡ true → IsPossibleAct p.state act → act_lacks_serials p.state act ≡ false →
+TouchActs F = (count size slots id i : ℕ) (m : Mine) (p : Part) (act : Act) → m.0.parts ≡ p ∷ [] → is_touch_act act ≡ true →
+    IsPossibleAct p.state act → act_lacks_serials p.state act ≡ false →
     F count size slots id m i (λ n. n) (λ n. (p.node, act) ∷ []) (λ n m'. m' ≡ (with_part (act_part act answers.Plain p) m.0, m.1))
 
 -- what an act of a router leaves of the seat where the test holds of the number found; else the step was a load
 abbrev pub Acted : ℕ → ℕ → Router → RouterAct → (ℕ → Bool) → Mine → Part → ℕ → Mine → Type 0
-Acted i serial r act hit m p n m' = MatchBool (hit n) (m' ≡ (acted_view i n serial r.end.side (source_of r) act p m.0, m.1)) (m' ≡ (saw i n m.0, m.1))
+Acted i serial r act hit m p n m' = MatchBool (hit n) (m' ≡ (acted_view i n serial r.end.side (source_of r) act p m.0, m.1))
+    (m' ≡ (saw i n m.0, m.1))
 
 -- mark
 abbrev pub Marks : Form → Type 0
-Marks F = (count size slots id i : ℕ) (m : Mine) (p : Part) (serial : ℕ) (r : Router) → m.0.parts ≡ p ∷ [] → CanAct p.state serial r router_acts.Mark → primary_word r ≡ Some i →
-    F count size slots id m i (λ n. bit_or n (stable_bit r.end.side)) (λ n. (p.node, acts.Router serial router_acts.Mark) ∷ []) (λ n m'. m' ≡ (acted_view i n serial r.end.side (source_of r) router_acts.Mark p m.0, m.1))
+Marks F = (count size slots id i : ℕ) (m : Mine) (p : Part) (serial : ℕ) (r : Router) → m.0.parts ≡ p ∷ [] →
+    CanAct p.state serial r router_acts.Mark → primary_word r ≡ Some i →
+    F count size slots id m i (λ n. bit_or n (stable_bit r.end.side)) (λ n. (p.node, acts.Router serial router_acts.Mark) ∷ [])
+    (λ n m'. m' ≡ (acted_view i n serial r.end.side (source_of r) router_acts.Mark p m.0, m.1))
 
 -- wake
 abbrev pub Wakes : Form → Type 0
-Wakes F = (count size slots id i : ℕ) (m : Mine) (p : Part) (serial : ℕ) (r : Router) → m.0.parts ≡ p ∷ [] → CanAct p.state serial r router_acts.Wake → primary_word r ≡ Some i →
-    F count size slots id m i (λ n. bit_and n (18446744073709551615 - waiting_bit (opposite r.end.side))) (λ n. (p.node, acts.Router serial router_acts.Wake) ∷ [])
+Wakes F = (count size slots id i : ℕ) (m : Mine) (p : Part) (serial : ℕ) (r : Router) → m.0.parts ≡ p ∷ [] →
+    CanAct p.state serial r router_acts.Wake → primary_word r ≡ Some i →
+    F count size slots id m i (λ n. bit_and n (18446744073709551615 - waiting_bit (opposite r.end.side)))
+    (λ n. (p.node, acts.Router serial router_acts.Wake) ∷ [])
     (λ n m'. m' ≡ (acted_view i n serial r.end.side (source_of r) router_acts.Wake p m.0, m.1))
 
 -- unlock: the mask clears bits 8 to 15 too, where the source stands
 abbrev pub Unlocks : Form → Type 0
-Unlocks F = (count size slots id i : ℕ) (m : Mine) (p : Part) (serial : ℕ) (r : Router) → m.0.parts ≡ p ∷ [] → CanAct p.state serial r router_acts.Unlock → primary_word r ≡ Some i →
-    F count size slots id m i (λ n. bit_and n (18446744073709486335 - locked_bit r.end.side)) (λ n. (p.node, acts.Router serial router_acts.Unlock) ∷ [])
+Unlocks F = (count size slots id i : ℕ) (m : Mine) (p : Part) (serial : ℕ) (r : Router) → m.0.parts ≡ p ∷ [] →
+    CanAct p.state serial r router_acts.Unlock → primary_word r ≡ Some i →
+    F count size slots id m i (λ n. bit_and n (18446744073709486335 - locked_bit r.end.side))
+    (λ n. (p.node, acts.Router serial router_acts.Unlock) ∷ [])
     (λ n m'. m' ≡ (acted_view i n serial r.end.side (source_of r) router_acts.Unlock p m.0, m.1))
 
 -- lock or wait: the word is exchanged for that after the plan, where it is what was found before
 abbrev pub TriesLock : Form → Type 0
-TriesLock F = (count size slots id i old : ℕ) (m : Mine) (p : Part) (serial : ℕ) (r : Router) → m.0.parts ≡ p ∷ [] → CanAct p.state serial r router_acts.Lock → primary_word r ≡ Some i →
-    F count size slots id m i (λ n. either (eqb n old) (bits_of (word_after (word_of_bits old) r.end.side (source_of r) router_acts.Lock)) n) (λ n. turn_where (eqb n old) p.node (acts.Router serial router_acts.Lock))
+TriesLock F = (count size slots id i old : ℕ) (m : Mine) (p : Part) (serial : ℕ) (r : Router) → m.0.parts ≡ p ∷ [] →
+    CanAct p.state serial r router_acts.Lock → primary_word r ≡ Some i →
+    F count size slots id m i (λ n. either (eqb n old)
+    (bits_of (word_after (word_of_bits old) r.end.side (source_of r) router_acts.Lock)) n)
+    (λ n. turn_where (eqb n old) p.node (acts.Router serial router_acts.Lock))
     (Acted i serial r router_acts.Lock (λ n. eqb n old) m p)
 
 -- whether a plan is that the lock is refused
@@ -123,20 +144,29 @@ is_refusal other = false
 
 -- a load of a link's word by a router that wants its lock: where the plan is Refused it is the lock's refusal
 abbrev pub LoadsForLock : Form → Type 0
-LoadsForLock F = (count size slots id i : ℕ) (m : Mine) (p : Part) (serial : ℕ) (r : Router) → m.0.parts ≡ p ∷ [] → CanAct p.state serial r router_acts.Lock → primary_word r ≡ Some i →
-    F count size slots id m i (λ n. n) (λ n. turn_where (is_refusal (plan_of (word_of_bits n) r.end.side)) p.node (acts.Router serial router_acts.Lock)) (Acted i serial r router_acts.Lock (λ n. is_refusal (plan_of (word_of_bits n) r.end.side)) m p)
+LoadsForLock F = (count size slots id i : ℕ) (m : Mine) (p : Part) (serial : ℕ) (r : Router) → m.0.parts ≡ p ∷ [] →
+    CanAct p.state serial r router_acts.Lock → primary_word r ≡ Some i →
+    F count size slots id m i (λ n. n)
+    (λ n. turn_where (is_refusal (plan_of (word_of_bits n) r.end.side)) p.node (acts.Router serial router_acts.Lock))
+    (Acted i serial r router_acts.Lock (λ n. is_refusal (plan_of (word_of_bits n) r.end.side)) m p)
 
 -- a load of the claim count by a proxy that wants a word: where it finds that each was claimed it is the claim's NoWord
 abbrev pub LoadsForClaim : Form → Type 0
-LoadsForClaim F = (count size slots id : ℕ) (m : Mine) (p : Part) (serial : ℕ) (r : Router) → m.0.parts ≡ p ∷ [] → CanAct p.state serial r router_acts.Claim →
+LoadsForClaim F = (count size slots id : ℕ) (m : Mine) (p : Part) (serial : ℕ) (r : Router) → m.0.parts ≡ p ∷ [] →
+    CanAct p.state serial r router_acts.Claim →
     F count size slots id m size (λ n. n) (λ n. turn_where (eqb n size) p.node (acts.Router serial router_acts.Claim))
-    (λ n m'. MatchBool (eqb n size) (m' ≡ (with_part (act_part (acts.Router serial router_acts.Claim) answers.NoWord p) (saw size n m.0), m.1)) (m' ≡ (saw size n m.0, m.1)))
+    (λ n m'. MatchBool (eqb n size)
+    (m' ≡ (with_part (act_part (acts.Router serial router_acts.Claim) answers.NoWord p) (saw size n m.0), m.1))
+    (m' ≡ (saw size n m.0, m.1)))
 
 -- claim: the count is exchanged for the next, where it is what was found before
 abbrev pub Claims : Form → Type 0
-Claims F = (count size slots id c : ℕ) (m : Mine) (p : Part) (serial : ℕ) (r : Router) → m.0.parts ≡ p ∷ [] → CanAct p.state serial r router_acts.Claim → c < size →
+Claims F = (count size slots id c : ℕ) (m : Mine) (p : Part) (serial : ℕ) (r : Router) → m.0.parts ≡ p ∷ [] →
+    CanAct p.state serial r router_acts.Claim → c < size →
     F count size slots id m size (λ n. either (eqb n c) (c + 1) n) (λ n. turn_where (eqb n c) p.node (acts.Router serial router_acts.Claim))
-    (λ n m'. MatchBool (eqb n c) (m' ≡ (with_part (act_part (acts.Router serial router_acts.Claim) (answers.Claimed c) p) (saw size n m.0), m.1)) (m' ≡ (saw size n m.0, m.1)))
+    (λ n m'. MatchBool (eqb n c)
+    (m' ≡ (with_part (act_part (acts.Router serial router_acts.Claim) (answers.Claimed c) p) (saw size n m.0), m.1))
+    (m' ≡ (saw size n m.0, m.1)))
 
 -- the first half of an open: a claim for it
 abbrev pub ClaimsForOpen : Type 0
@@ -152,42 +182,51 @@ Opens = (count size slots id i : ℕ) (m : Mine) (p : Part) → m.0.parts ≡ p 
 
 -- probe: the slot of an empty mailbox is taken, and its word is 3
 abbrev pub Probes : Form → Type 0
-Probes F = (count size slots id i k to : ℕ) (m : Mine) (p : Part) → m.0.parts ≡ p ∷ [] → k ≡ p.node * count + to → i ≡ size + 1 + count + k → to < count →
+Probes F = (count size slots id i k to : ℕ) (m : Mine) (p : Part) → m.0.parts ≡ p ∷ [] → k ≡ p.node * count + to →
+    i ≡ size + 1 + count + k → to < count →
     F count size slots id m i (λ n. either (eqb n 0) 3 n) (λ n. [])
     (λ n m'. MatchBool (eqb n 0) (m' ≡ (with_part (probe_part to p) (saw i n m.0), (k, None) ∷ m.1)) (m' ≡ (saw i n m.0, m.1)))
 
 -- a probed mailbox is given back
 abbrev pub Unprobes : Form → Type 0
-Unprobes F = (count size slots id i k to : ℕ) (m : Mine) (p : Part) (rest : List (ℕ × Slot)) → m.0.parts ≡ p ∷ [] → k ≡ p.node * count + to → i ≡ size + 1 + count + k → to < count →
+Unprobes F = (count size slots id i k to : ℕ) (m : Mine) (p : Part) (rest : List (ℕ × Slot)) → m.0.parts ≡ p ∷ [] →
+    k ≡ p.node * count + to → i ≡ size + 1 + count + k → to < count →
     has_number p.probed to ≡ true → m.1 ≡ (k, None) ∷ rest →
     F count size slots id m i (λ n. 0) (λ n. []) (λ n m'. m' ≡ (with_part (unprobe_part to p) m.0, rest))
 
 -- post: the message leaves the outbox, and the slot goes home with it
 abbrev pub Posts : Form → Type 0
-Posts F = (count size slots id i k to : ℕ) (m : Mine) (p : Part) (x : Message) (rest : List (ℕ × Slot)) → m.0.parts ≡ p ∷ [] → k ≡ p.node * count + to → i ≡ size + 1 + count + k → to < count →
+Posts F = (count size slots id i k to : ℕ) (m : Mine) (p : Part) (x : Message) (rest : List (ℕ × Slot)) → m.0.parts ≡ p ∷ [] →
+    k ≡ p.node * count + to → i ≡ size + 1 + count + k → to < count →
     has_number p.probed to ≡ true → has_mail_for p.state to ≡ true → post_of p.state (acts.Post to) ≡ Some x → m.1 ≡ (k, Some x) ∷ rest →
     F count size slots id m i (λ n. 1) (λ n. (p.node, acts.Post to) ∷ []) (λ n m'. m' ≡ (with_part (post_part to p) m.0, rest))
 
 -- look: where the mailbox is full its message is taken into the hand
 abbrev pub Looks : Form → Type 0
-Looks F = (count size slots id i k from : ℕ) (m : Mine) (p : Part) → m.0.parts ≡ p ∷ [] → k ≡ from * count + p.node → i ≡ size + 1 + count + k → from < count → p.state.hand ≡ None →
+Looks F = (count size slots id i k from : ℕ) (m : Mine) (p : Part) → m.0.parts ≡ p ∷ [] → k ≡ from * count + p.node →
+    i ≡ size + 1 + count + k → from < count → p.state.hand ≡ None →
     F count size slots id m i (λ n. either (eqb n 1) 2 n) (λ n. turn_where (eqb n 1) p.node (acts.Look from))
-    (λ n m'. MatchBool (eqb n 1) ((x : Message) × (m' ≡ (with_part (look_part from x p) (saw i n m.0), (k, Some x) ∷ m.1))) (m' ≡ (saw i n m.0, m.1)))
+    (λ n m'. MatchBool (eqb n 1) ((x : Message) × (m' ≡ (with_part (look_part from x p) (saw i n m.0), (k, Some x) ∷ m.1)))
+    (m' ≡ (saw i n m.0, m.1)))
 
 -- handle: the message in hand is handled, and its slot goes home empty
 abbrev pub Hands : Form → Type 0
-Hands F = (count size slots id i k from : ℕ) (m : Mine) (p : Part) (x : Message) (rest : List (ℕ × Slot)) → m.0.parts ≡ p ∷ [] → k ≡ from * count + p.node → i ≡ size + 1 + count + k →
+Hands F = (count size slots id i k from : ℕ) (m : Mine) (p : Part) (x : Message) (rest : List (ℕ × Slot)) → m.0.parts ≡ p ∷ [] →
+    k ≡ from * count + p.node → i ≡ size + 1 + count + k →
     p.state.hand ≡ Some from → p.message ≡ Some x → message_lacks_serials p.state from x (trusted from x) ≡ false → m.1 ≡ (k, None) ∷ rest →
-    F count size slots id m i (λ n. 0) (λ n. (p.node, acts.Hand from) ∷ []) (λ n m'. m' ≡ (with_part (hand_part from (trusted from x) x p) m.0, rest))
+    F count size slots id m i (λ n. 0) (λ n. (p.node, acts.Hand from) ∷ [])
+    (λ n m'. m' ≡ (with_part (hand_part from (trusted from x) x p) m.0, rest))
 
 -- a load of the old link's word before an AcceptBypass in hand is handled: it names the sender
 abbrev pub LoadsForHand : Form → Type 0
-LoadsForHand F = (count size slots id from old : ℕ) (m : Mine) (p : Part) (x : Message) → m.0.parts ≡ p ∷ [] → p.state.hand ≡ Some from → p.message ≡ Some x → old_word x ≡ Some old →
+LoadsForHand F = (count size slots id from old : ℕ) (m : Mine) (p : Part) (x : Message) → m.0.parts ≡ p ∷ [] → p.state.hand ≡ Some from →
+    p.message ≡ Some x → old_word x ≡ Some old →
     F count size slots id m old (λ n. n) (λ n. []) (λ n m'. ((word_of_bits n).source ≡ Some from) × (m' ≡ (saw old n m.0, m.1)))
 
 -- the slot of the message in hand is given back, while the message stays in hand: a load
 abbrev pub GivesBack : Form → Type 0
-GivesBack F = (count size slots id i k from : ℕ) (m : Mine) (p : Part) (s : Slot) (rest : List (ℕ × Slot)) → m.0.parts ≡ p ∷ [] → k ≡ from * count + p.node → i ≡ size + 1 + count + k →
+GivesBack F = (count size slots id i k from : ℕ) (m : Mine) (p : Part) (s : Slot) (rest : List (ℕ × Slot)) → m.0.parts ≡ p ∷ [] →
+    k ≡ from * count + p.node → i ≡ size + 1 + count + k →
     p.state.hand ≡ Some from → m.1 ≡ (k, s) ∷ rest →
     F count size slots id m i (λ n. n) (λ n. []) (λ n m'. m' ≡ (saw i n m.0, rest))
 

@@ -30,7 +30,8 @@ use Rattle.ipcz_rule.specs.Steps.{old_word, trusted}
 
 -- the sentence holds of the shown world with the joined books; its link lengths agree, and no message but a Flush finds its router gone
 abbrev pub RuleGivesHeadline : Type 0
-RuleGivesHeadline = (count size : ℕ) (s : St) (r : Rules count size s) → Headline r.world r.books r.routes × LengthLaw r.world × StrayLaw r.world
+RuleGivesHeadline = (count size : ℕ) (s : St) (r : Rules count size s) → Headline r.world r.books r.routes × LengthLaw r.world ×
+    StrayLaw r.world
 
 -- a router of the shown world that could act is flagged, flags agree, and an unknown length is under way
 abbrev pub RuleOwes : Type 0
@@ -42,12 +43,14 @@ ShownHasLengths = (count size : ℕ) (s : St) (r : Rules count size s) → HasLe
 
 -- each part is that of a node of the table, which is sound and has no strays
 abbrev pub PartsAreSound : Type 0
-PartsAreSound = (count size : ℕ) (s : St) (r : Rules count size s) (id : ℕ) (v : View) (j : ℕ) (p : Part) → get_elem? s.views id ≡ some v → get_elem? v.parts j ≡ some p →
+PartsAreSound = (count size : ℕ) (s : St) (r : Rules count size s) (id : ℕ) (v : View) (j : ℕ) (p : Part) → get_elem? s.views id ≡ some v →
+    get_elem? v.parts j ≡ some p →
     (p.node < count) × IsSound count size p.node p.state × (p.state.strays ≡ [])
 
 -- the message in a node's hand fits there, but a Flush may find its router gone
 abbrev pub PartsHandsFit : Type 0
-PartsHandsFit = (count size : ℕ) (s : St) (r : Rules count size s) (id : ℕ) (v : View) (j : ℕ) (p : Part) (from : ℕ) (x : Message) → get_elem? s.views id ≡ some v → get_elem? v.parts j ≡ some p →
+PartsHandsFit = (count size : ℕ) (s : St) (r : Rules count size s) (id : ℕ) (v : View) (j : ℕ) (p : Part) (from : ℕ) (x : Message) →
+    get_elem? s.views id ≡ some v → get_elem? v.parts j ≡ some p →
     p.state.hand ≡ Some from → p.message ≡ Some x → is_unfit p.state from x (trusted from x) ≡ true → is_flush x ≡ true
 
 -- what stands at a link is the number of a link word, of which bits 6 and 7 are none
@@ -56,22 +59,26 @@ LinksAreWords = (count size : ℕ) (s : St) (r : Rules count size s) (i : ℕ) �
 
 -- the old link that an AcceptBypass in hand names has a word of the table
 abbrev pub OldLinksAreWords : Type 0
-OldLinksAreWords = (count size : ℕ) (s : St) (r : Rules count size s) (id : ℕ) (v : View) (j : ℕ) (p : Part) (from old : ℕ) (x : Message) → get_elem? s.views id ≡ some v →
+OldLinksAreWords = (count size : ℕ) (s : St) (r : Rules count size s) (id : ℕ) (v : View) (j : ℕ) (p : Part) (from old : ℕ) (x : Message) →
+    get_elem? s.views id ≡ some v →
     get_elem? v.parts j ≡ some p → p.state.hand ≡ Some from → p.message ≡ Some x → old_word x ≡ Some old → old < size
 
 -- the views say of each number that an end has put at most one item
 abbrev pub PutsAreOnce : Type 0
-PutsAreOnce = (count size : ℕ) (s : St) → Rules count size s → (e : End) (n : ℕ) (x y : Item) → InParts s.views puts_of ((e, n), x) → InParts s.views puts_of ((e, n), y) → x ≡ y
+PutsAreOnce = (count size : ℕ) (s : St) → Rules count size s → (e : End) (n : ℕ) (x y : Item) → InParts s.views puts_of ((e, n), x) →
+    InParts s.views puts_of ((e, n), y) → x ≡ y
 
 -- what a portal has got under a number is what its peer has put under it, and it has got all numbers before
 abbrev pub GetsFollowPuts : Type 0
-GetsFollowPuts = (count size : ℕ) (s : St) → Rules count size s → (e : End) (n : ℕ) (q : parcels.Parcel) → InParts s.views gets_of ((e, n), q) →
+GetsFollowPuts = (count size : ℕ) (s : St) → Rules count size s → (e : End) (n : ℕ) (q : parcels.Parcel) →
+    InParts s.views gets_of ((e, n), q) →
     InParts s.views puts_of ((opposite_end e, n), Parcel q) × ((k : ℕ) → k < n → (p : parcels.Parcel) × InParts s.views gets_of ((e, k), p))
 
 -- each node of the table has a part in a view, of which this holds
 abbrev pub EachNode : List View → ℕ → (Part → Type 0) → Type 0
 EachNode views count P =
-    (n : ℕ) → n < count → (id : ℕ) × (v : View) × (j : ℕ) × (p : Part) × (get_elem? views id ≡ some v) × (get_elem? v.parts j ≡ some p) × (p.node ≡ n) × P p
+    (n : ℕ) → n < count → (id : ℕ) × (v : View) × (j : ℕ) × (p : Part) × (get_elem? views id ≡ some v) × (get_elem? v.parts j ≡ some p) ×
+    (p.node ≡ n) × P p
 
 -- where each node is quiet by its part, and no mailbox is full, the shown world is quiet
 abbrev pub QuietPartsShowQuiet : Type 0
@@ -93,5 +100,6 @@ SettledPartsAreDirect = (count size : ℕ) (s : St) (r : Rules count size s) →
 -- whatever turns the nodes take from the shown world, no more of them use something up than its rank, and two for each unlock, by all rates
 -- that fit the joined books
 abbrev pub RuleBoundsTurns : Type 0
-RuleBoundsTurns = (count size : ℕ) (s : St) (r : Rules count size s) (c : Rates) (turns : List (ℕ × Act)) (v : World) (d : Books) (h : Routes) → IsRated c r.books →
+RuleBoundsTurns = (count size : ℕ) (s : St) (r : Rules count size s) (c : Rates) (turns : List (ℕ × Act)) (v : World) (d : Books)
+    (h : Routes) → IsRated c r.books →
     AreTurns r.world r.books r.routes turns v d h → times_used r.world turns + rank c v ≤ rank c r.world + 2 * unlock_count turns

@@ -27,20 +27,47 @@ use Rattle.ipcz_rule.specs.Rule.{with_part, with_state, saw, without_number}
 
 -- the part with an item more that was put
 abbrev pub add_put_entry : End → ℕ → Item → Part → Part
-add_put_entry e n item p = record { node = p.node; state = p.state; message = p.message; probed = p.probed; put = p.put ++ ((e, n), item) ∷ []; got = p.got; gone = p.gone }
+add_put_entry e n item p = record {
+  node = p.node;
+  state = p.state;
+  message = p.message;
+  probed = p.probed;
+  put = p.put ++ ((e, n), item) ∷
+      [];
+  got = p.got;
+  gone = p.gone;
+}
 
 -- the part with a parcel more that was got
 abbrev pub add_got_entry : End → ℕ → parcels.Parcel → Part → Part
-add_got_entry e n q p = record { node = p.node; state = p.state; message = p.message; probed = p.probed; put = p.put; got = p.got ++ ((e, n), q) ∷ []; gone = p.gone }
+add_got_entry e n q p = record {
+  node = p.node;
+  state = p.state;
+  message = p.message;
+  probed = p.probed;
+  put = p.put;
+  got = p.got ++
+      ((e, n), q) ∷ [];
+  gone = p.gone;
+}
 
 -- the part with an item more that was dropped
 abbrev pub add_gone_entry : End → ℕ → Part → Part
-add_gone_entry e n p = record { node = p.node; state = p.state; message = p.message; probed = p.probed; put = p.put; got = p.got; gone = p.gone ++ (e, n) ∷ [] }
+add_gone_entry e n p = record {
+  node = p.node;
+  state = p.state;
+  message = p.message;
+  probed = p.probed;
+  put = p.put;
+  got = p.got;
+  gone = p.gone ++ (e, n) ∷ [];
+}
 
 -- the part after a put
 abbrev pub put_part : End → List ℕ → List End → Part → Part
 put_part at bytes ends p =
-    add_put_entry at (put_number p.state at) (Parcel (record { bytes = bytes; ends = ends })) (with_state (put_node p.state at (record { bytes = bytes; ends = ends })) p)
+    add_put_entry at (put_number p.state at) (Parcel (record { bytes = bytes; ends = ends }))
+    (with_state (put_node p.state at (record { bytes = bytes; ends = ends })) p)
 
 -- the part after a get of the parcel of a number
 abbrev pub get_part : End → ℕ → parcels.Parcel → Part → Part
@@ -114,15 +141,33 @@ is_on_word other = false
 
 -- the view after an act of a router of a side on the word i, where it was found at n
 abbrev pub acted_view : ℕ → ℕ → ℕ → Side → Option ℕ → RouterAct → Part → View → View
-acted_view i n serial side source act p v = with_part (act_part (acts.Router serial act) (word_answer (word_of_bits n) side source act) p) (saw i n v)
+acted_view i n serial side source act p v = with_part (act_part (acts.Router serial act) (word_answer (word_of_bits n) side source act) p)
+    (saw i n v)
 
 -- the part of a node that has probed the mailbox to another
 abbrev pub probe_part : ℕ → Part → Part
-probe_part to p = record { node = p.node; state = p.state; message = p.message; probed = to ∷ p.probed; put = p.put; got = p.got; gone = p.gone }
+probe_part to p = record {
+  node = p.node;
+  state = p.state;
+  message = p.message;
+  probed = to ∷
+      p.probed;
+  put = p.put;
+  got = p.got;
+  gone = p.gone;
+}
 
 -- the part of a node that has given back the mailbox to another
 abbrev pub unprobe_part : ℕ → Part → Part
-unprobe_part to p = record { node = p.node; state = p.state; message = p.message; probed = without_number p.probed to; put = p.put; got = p.got; gone = p.gone }
+unprobe_part to p = record {
+  node = p.node;
+  state = p.state;
+  message = p.message;
+  probed = without_number p.probed to;
+  put = p.put;
+  got = p.got;
+  gone = p.gone;
+}
 
 -- the part of a node that has posted to another
 abbrev pub post_part : ℕ → Part → Part

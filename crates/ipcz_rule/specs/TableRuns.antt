@@ -8,8 +8,8 @@ use Rattle.ipcz_world.specs.Ranks.{Rates, IsRated, AreTurns, rank, times_used, u
 use Rattle.ipcz_rule.specs.Rule.{St, Mine, Rules}
 use Rattle.ipcz_rule.specs.Kinds.{IsTurns}
 
--- a step of a seat on a word of the table, of a kind that a turn takes, whatever it leaves of the seat: for the number found it is these turns of
--- the shown world, none or one
+-- a step of a seat on a word of the table, of a kind that a turn takes, whatever it leaves of the seat: for the number found it is these
+-- turns of the shown world, none or one
 pub record TurnStep (count size : ℕ) (s : St) (turns : List (ℕ × Act)) : Type 0 where
   pub seat : ℕ
   pub me : Mine
@@ -34,7 +34,8 @@ after_step count size p turns t =
 -- steps one after the other, of any seats, each with the turns that it is; and the table behind them
 abbrev pub AreSteps : (count size : ℕ) → Ruled count size → List (List (ℕ × Act)) → Ruled count size → Type 0
 AreSteps count size p [] q = q ≡ p
-AreSteps count size p (turns ∷ steps) q = (t : TurnStep count size p.0 turns) × AreSteps count size (after_step count size p turns t) steps q
+AreSteps count size p (turns ∷ steps) q = (t : TurnStep count size p.0 turns) ×
+    AreSteps count size (after_step count size p turns t) steps q
 
 -- the turns of all steps, in their order
 abbrev pub all_turns : List (List (ℕ × Act)) → List (ℕ × Act)
@@ -47,11 +48,12 @@ StepsAreTurns =
     (count size : ℕ) (p q : Ruled count size) (steps : List (List (ℕ × Act))) → AreSteps count size p steps q →
     AreTurns p.1.world p.1.books p.1.routes (all_turns steps) q.1.world q.1.books q.1.routes
 
--- so no more of the steps use something up than the rank of the shown world at the start, and two for each unlock, by all rates that fit the
--- joined books
+-- so no more of the steps use something up than the rank of the shown world at the start, and two for each unlock, by all rates that fit
+-- the joined books
 abbrev pub StepsAreBounded : Type 0
 StepsAreBounded =
-    (count size : ℕ) (p q : Ruled count size) (steps : List (List (ℕ × Act))) (c : Rates) → IsRated c p.1.books → AreSteps count size p steps q →
+    (count size : ℕ) (p q : Ruled count size) (steps : List (List (ℕ × Act))) (c : Rates) → IsRated c p.1.books →
+    AreSteps count size p steps q →
     times_used p.1.world (all_turns steps) + rank c q.1.world ≤ rank c p.1.world + 2 * unlock_count (all_turns steps)
 
 -- where a link word or the claim count has another number behind steps, one of them is an act

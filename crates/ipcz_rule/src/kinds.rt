@@ -1,8 +1,11 @@
 //! The kinds of atomic step of a seat with one node (specs/Kinds). Each function does nothing: its contract says that the step keeps the
-//! rule of the table, what it leaves of its seat, and, but for a call's, which turns of the shown world it is: none, or one act of its node.
+//! rule of the table, what it leaves of its seat, and, but for a call's, which turns of the shown world it is: none, or one act of its
+//! node.
 
-ghost use Rattle.ipcz_rule.specs.Kinds.{Loads, Puts, Gets, Closes, PendingCloses, Touches, TouchActs, Marks, Wakes, Unlocks, TriesLock, LoadsForLock};
-ghost use Rattle.ipcz_rule.specs.Kinds.{IsTurns, LoadsForClaim, Claims, ClaimsForOpen, Opens, Probes, Unprobes, Posts, Looks, LoadsForHand, Hands, GivesBack, JoinsParts};
+ghost use Rattle.ipcz_rule.specs.Kinds.{Loads, Puts, Gets, Closes, PendingCloses, Touches, TouchActs, Marks, Wakes, Unlocks, TriesLock};
+ghost use Rattle.ipcz_rule.specs.Kinds.{LoadsForLock};
+ghost use Rattle.ipcz_rule.specs.Kinds.{IsTurns, LoadsForClaim, Claims, ClaimsForOpen, Opens, Probes, Unprobes, Posts, Looks, LoadsForHand};
+ghost use Rattle.ipcz_rule.specs.Kinds.{Hands, GivesBack, JoinsParts};
 
 /// A load of any word changes nothing but what was seen.
 pub fn a_load_keeps_the_rule()

@@ -1,13 +1,15 @@
 //! What the rule of the table says (specs/RuleLaws). Each function does nothing: its contract is the law.
 
-ghost use Rattle.ipcz_rule.specs.RuleLaws.{RuleGivesHeadline, RuleOwes, ShownHasLengths, PartsAreSound, PartsHandsFit, LinksAreWords, OldLinksAreWords};
+ghost use Rattle.ipcz_rule.specs.RuleLaws.{RuleGivesHeadline, RuleOwes, ShownHasLengths, PartsAreSound, PartsHandsFit, LinksAreWords};
+ghost use Rattle.ipcz_rule.specs.RuleLaws.{OldLinksAreWords};
 ghost use Rattle.ipcz_rule.specs.RuleLaws.{RuleBoundsTurns};
 ghost use Rattle.ipcz_rule.specs.Races.{SightsAreLoads, RacedIsOvertaken, WaitedForStays};
 ghost use Rattle.ipcz_rule.specs.TableRuns.{StepsAreTurns, StepsAreBounded, OvertakenByActs};
 ghost use Rattle.ipcz_rule.specs.RuleLaws.{PutsAreOnce, GetsFollowPuts, QuietPartsShowQuiet, SettledPartsAreDirect};
 
 /// Where the rule holds, the world that words, slots and views show has each portal's gets a prefix of its peer's puts, each item that was
-/// neither got nor dropped in one place, locks and words in order, link lengths that agree, and no message but a Flush whose router is gone.
+/// neither got nor dropped in one place, locks and words in order, link lengths that agree, and no message but a Flush whose router is
+/// gone.
 pub fn what_is_shown_gives_the_headline()
     ensures { RuleGivesHeadline }
 {}
@@ -64,26 +66,26 @@ pub fn settled_parts_are_direct()
     ensures { SettledPartsAreDirect }
 {}
 
-/// Where the rule holds, whatever turns the nodes take from the shown world, no more of them use something up than its rank, and two for each
-/// unlock, by all rates that fit the books: so while no caller calls, a fabric whose seats go on trying comes to its end.
+/// Where the rule holds, whatever turns the nodes take from the shown world, no more of them use something up than its rank, and two for
+/// each unlock, by all rates that fit the books: so while no caller calls, a fabric whose seats go on trying comes to its end.
 pub fn what_is_shown_becomes_quiet_within_its_rank()
     ensures { RuleBoundsTurns }
 {}
 
-/// What any list of steps that turns take comes to, of any seats and in whatever order, is a run of turns of the shown world: each step is none,
-/// or one act of its node, by what it found.
+/// What any list of steps that turns take comes to, of any seats and in whatever order, is a run of turns of the shown world: each step is
+/// none, or one act of its node, by what it found.
 pub fn steps_of_turns_are_turns_of_what_is_shown()
     ensures { StepsAreTurns }
 {}
 
-/// So between calls no run of steps, by any threads, has more acts that use something up than the rank of the world that is shown at its start,
-/// and two for each unlock.
+/// So between calls no run of steps, by any threads, has more acts that use something up than the rank of the world that is shown at its
+/// start, and two for each unlock.
 pub fn steps_of_turns_are_bounded()
     ensures { StepsAreBounded }
 {}
 
-/// Where a link word or the claim count has another number behind steps of turns than before them, one of these steps is an act. So a call is
-/// answered `Raced` there only where another seat has taken an act, or was in a call, between its load and its exchange.
+/// Where a link word or the claim count has another number behind steps of turns than before them, one of these steps is an act. So a call
+/// is answered `Raced` there only where another seat has taken an act, or was in a call, between its load and its exchange.
 pub fn another_number_is_found_only_behind_an_act()
     ensures { OvertakenByActs }
 {}
