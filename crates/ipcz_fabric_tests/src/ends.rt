@@ -1,8 +1,11 @@
 //! How a table ends: the way back from its cells to a world.
 ghost use Rattle.std.specs.Prelude.{◌≡◌};
 
-use ipcz_base::Refusal;
-use ipcz_fabric::{Blank, FabricName, finish, start};
+use crate::opens::opens_and_claims;
+use ipcz_base::{End, Refusal, Sequence, Side};
+use ipcz_fabric::{Blank, Fabric, FabricName, NodeCell, finish, start};
+use ipcz_node::Happened;
+use ipcz_world::{Reply, Step, World};
 use std::alloc::Global;
 use std::marker::Brand;
 use std::test::Fail;
@@ -33,5 +36,153 @@ fn refused_first<F: FabricName>(alloc: Global, blank: Blank) -> Option<Refusal>
 fn cells_in_another_order_are_handed_back(rt: HostRuntime) -> Result<(), Fail> {
     let blank = start(rt.alloc(), 2, 4)?;
     assert!(rt; refused_first::<Brand>(rt.alloc(), blank) == Some(Refusal::Stranger));
+    Ok(())
+}
+
+const A0: End = End {
+    pair: 0,
+    side: Side::A,
+};
+
+// The world that two cells show.
+fn ended<F: FabricName>(
+    fabric: Fabric<F>,
+    left: NodeCell<F>,
+    right: NodeCell<F>,
+    alloc: Global,
+) -> Option<World> {
+    let mut cells = Vec::new(alloc);
+    cells.push(left).ok()?;
+    cells.push(right).ok()?;
+    match finish(fabric, cells) {
+        Ok(world) => Some(world),
+        Err(_) => None,
+    }
+}
+
+// Puts a parcel without bytes at the end 0A of a cell's node, and takes so many turns.
+fn puts_and_acts<F: FabricName>(
+    fabric: &Fabric<F>,
+    cell: &mut NodeCell<F>,
+    turns: u64,
+    alloc: Global,
+) -> bool {
+    let bytes = Sequence::from_vec(Vec::new(alloc));
+    let ends = Sequence::from_vec(Vec::new(alloc));
+    if cell.put(fabric, A0, bytes, ends).is_err() {
+        return false;
+    }
+    for _turn in 0..turns {
+        if cell.turn(fabric).is_err() {
+            return false;
+        }
+    }
+    true
+}
+
+// Whether a node of a world has nothing to do.
+fn is_idle(world: &mut World, node: u8) -> bool {
+    match world.step(&Step::Turn(node)) {
+        Reply::Turned(Happened::Idle) => true,
+        _ => false,
+    }
+}
+
+// Whether a node's next act in a world is a post to another.
+fn posts(world: &mut World, node: u8, other: u8) -> bool {
+    match world.step(&Step::Turn(node)) {
+        Reply::Turned(Happened::Post(to)) => to == other,
+        _ => false,
+    }
+}
+
+// Whether a node's next act in a world is the hand of a message.
+fn hands(world: &mut World, node: u8) -> bool {
+    match world.step(&Step::Turn(node)) {
+        Reply::Turned(Happened::Hand { .. }) => true,
+        _ => false,
+    }
+}
+
+// Whether an open on the first node of a world gives the pair 2 by the word 2, which was claimed for it and was empty till then.
+fn opens_by_claim(world: &mut World) -> bool {
+    if world.claimed() != 3 || world.word(2) != Some(0) {
+        return false;
+    }
+    match world.step(&Step::Open(0)) {
+        Reply::Opened(a, b) => {
+            a.pair == 2 && b == a.opposite() && world.word(2) == Some(3) && world.claimed() == 3
+        }
+        _ => false,
+    }
+}
+
+// Whether a word that is claimed for an open by itself is that of the open in the world that the cells show.
+fn claim_lives_on<F: FabricName>(alloc: Global, blank: Blank) -> Option<bool>
+    requires { blank ≡ F.table }
+{
+    let Ok((fabric, mut cells)) = blank.name::<F>() else {
+        return None;
+    };
+    let right = cells.pop()?;
+    let mut left = cells.pop()?;
+    let claimed = opens_and_claims(&fabric, &mut left, 1, 2);
+    let mut world = ended(fabric, left, right, alloc)?;
+    Some(claimed && opens_by_claim(&mut world))
+}
+
+// Whether a message whose mailbox its node has taken and not filled is in the outbox alone: the other node finds nothing until it is posted.
+fn probe_leaves_no_message<F: FabricName>(alloc: Global, blank: Blank) -> Option<bool>
+    requires named { blank ≡ F.table }
+    requires nodes { blank.count ≡ 2 }
+{
+    let Ok((fabric, mut cells)) = blank.name::<F>() else {
+        return None;
+    };
+    let right = cells.pop()?;
+    let mut left = cells.pop()?;
+    let sent = puts_and_acts(&fabric, &mut left, 1, alloc);
+    let taken = left.mail_probe(&fabric, 1);
+    let mut world = ended(fabric, left, right, alloc)?;
+    let nothing = is_idle(&mut world, 1);
+    Some(sent && taken && nothing && posts(&mut world, 0, 1))
+}
+
+// Whether a message that a cell has in hand is in hand in the world, whose next act is to handle it.
+fn hand_is_handled<F: FabricName>(alloc: Global, blank: Blank) -> Option<bool>
+    requires { blank ≡ F.table }
+{
+    let Ok((fabric, mut cells)) = blank.name::<F>() else {
+        return None;
+    };
+    let mut right = cells.pop()?;
+    let mut left = cells.pop()?;
+    let posted = puts_and_acts(&fabric, &mut left, 2, alloc);
+    let looked = match right.turn(&fabric) {
+        Ok(Happened::Look(0)) => true,
+        _ => false,
+    };
+    let mut world = ended(fabric, left, right, alloc)?;
+    Some(posted && looked && hands(&mut world, 1))
+}
+
+#[test]
+fn an_open_under_way_lives_on_in_the_world(rt: HostRuntime) -> Result<(), Fail> {
+    let blank = start(rt.alloc(), 2, 4)?;
+    assert!(rt; claim_lives_on::<Brand>(rt.alloc(), blank) == Some(true));
+    Ok(())
+}
+
+#[test]
+fn a_mailbox_that_was_taken_is_empty_in_the_world(rt: HostRuntime) -> Result<(), Fail> {
+    let blank = start(rt.alloc(), 2, 4)?;
+    assert!(rt; probe_leaves_no_message::<Brand>(rt.alloc(), blank) == Some(true));
+    Ok(())
+}
+
+#[test]
+fn a_message_in_hand_is_handled_in_the_world(rt: HostRuntime) -> Result<(), Fail> {
+    let blank = start(rt.alloc(), 2, 4)?;
+    assert!(rt; hand_is_handled::<Brand>(rt.alloc(), blank) == Some(true));
     Ok(())
 }

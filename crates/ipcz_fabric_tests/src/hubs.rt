@@ -43,6 +43,49 @@ impl<'a> Gate for Meeting<'a> {
     }
 }
 
+// When it is asked it takes a turn of the node itself.
+#[derive(Drop)]
+struct Taking<'a, R, F: FabricName> {
+    rt: &'a R,
+    hub: &'a Hub<F>,
+    taken: u64,
+}
+
+impl<'a, R: Wait, F: FabricName> Gate for Taking<'a, R, F> {
+    fn pass(&mut self, node: u8, _turns: u64) -> bool {
+        if self.hub.turn(self.rt, node).is_ok() {
+            self.taken = self.taken.saturating_add(1);
+        }
+        true
+    }
+}
+
+// How many of ten turns a worker takes, and how many its gate, which calls the hub: the worker holds no lock while it asks.
+fn takes_twice<F: FabricName, R: Wait>(rt: &R, blank: Blank) -> Option<(u64, u64)>
+    requires { blank ≡ F.table }
+{
+    let Ok((fabric, cells)) = blank.name::<F>() else {
+        return None;
+    };
+    let Ok((hub, _portals)) = Hub::new(fabric, cells) else {
+        return None;
+    };
+    let mut gate = Taking {
+        rt,
+        hub: &hub,
+        taken: 0,
+    };
+    let turns = work(rt, &hub, 0, &mut gate, 10);
+    Some((turns, gate.taken))
+}
+
+#[test]
+fn a_gate_may_call_the_hub(rt: HostRuntime) -> Result<(), Fail> {
+    let blank = start(rt.alloc(), 2, 4)?;
+    assert!(rt; takes_twice::<Brand, _>(&rt, blank) == Some((10, 10)));
+    Ok(())
+}
+
 // In which order two workers take turns.
 #[derive(Clone, Copy, PartialEq, Eq)]
 enum Order {

@@ -24,7 +24,7 @@ fn opens<F: FabricName>(fabric: &Fabric<F>, cell: &mut NodeCell<F>, pair: u32) -
 }
 
 // Whether an open gives a pair, and the claim of a word behind it another word.
-fn opens_and_claims<F: FabricName>(
+pub(crate) fn opens_and_claims<F: FabricName>(
     fabric: &Fabric<F>,
     cell: &mut NodeCell<F>,
     pair: u32,
