@@ -9,6 +9,7 @@ pub mod Happenings
 pub mod Held
 pub mod Holding
 pub mod Indexes
+pub mod LinkPlaces
 pub mod Preparing
 pub mod Queues
 pub mod Refiling

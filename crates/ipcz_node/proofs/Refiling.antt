@@ -37,8 +37,11 @@ use Rattle.ipcz_node.specs.Indexes.{is_filed}
 use Rattle.ipcz_base.specs.Orders.{end_cmp}
 use Rattle.ipcz_base.specs.Ends.{same_end}
 use Rattle.std.proofs.Common.{◌<◌}
-use Rattle.ipcz_node.specs.Directories.{link_end_cmp, AreFiled, HaveRoom, CanRefile, AreRefiled, keeps_links}
-use Rattle.ipcz_node.proofs.Directories.{link_end_ties, can_refile, refiled}
+use Rattle.ipcz_node.specs.Directories.{AreFiled, HaveRoom, CanRefile, AreRefiled, keeps_links}
+use Rattle.ipcz_node.proofs.Directories.{can_refile, refiled}
+use Rattle.ipcz_node.specs.declared.link_place.LinkPlace.{LinkPlace}
+use Rattle.ipcz_node.specs.LinkPlaces.{place_cmp, link_place}
+use Rattle.ipcz_node.proofs.LinkPlaces.{places_tie}
 
 -- one link fewer, and one more, at one key: has it the kept ones, is the serial the one, has the link
 abbrev pub less_one : Bool → Bool → Bool → Bool → Bool
@@ -134,8 +137,8 @@ under_is f e link side h =
 
 -- a link that is taken away, since it isn't kept
 pub dropped : (f : Filing) (e : LinkEnd) (link : LinkId) (side : Side) (same : Bool) → is_under f e.link e.side ≡ false
-    → (is_eq (link_end_cmp (e.link, e.side) (link, side)) && same) ≡ (not (is_under f link side) && (same && is_at link side e))
-dropped f e link side same none = ap (λ b. b && same) (link_end_ties (e.link, e.side) (link, side)) ∙ go (is_at link side e) refl same
+    → (is_eq (place_cmp (link_place e.link e.side) (link_place link side)) && same) ≡ (not (is_under f link side) && (same && is_at link side e))
+dropped f e link side same none = ap (λ b. b && same) (places_tie e.link e.side link side) ∙ go (is_at link side e) refl same
   where
     go : (b : Bool) → is_at link side e ≡ b → (same : Bool) → (b && same) ≡ (not (is_under f link side) && (same && b))
     go true at true = sym (ap (λ u. not u && true) (under_is f e link side at ∙ none))
@@ -177,12 +180,13 @@ nothing false false = refl
 
 module _ (f : Filing) (o : Option LinkEnd) (link : LinkId) (side : Side) (same old : Bool) where
   module _ (e : LinkEnd) (is : o ≡ Some e) where
-    pub file_one : (new : Bool) → is_under f e.link e.side ≡ false →
-        new ≡ ((is_eq (link_end_cmp (e.link, e.side) (link, side)) && same) || old) →
+    pub file_one : (p : LinkPlace) (new : Bool) → p ≡ link_place e.link e.side → is_under f e.link e.side ≡ false →
+        new ≡ ((is_eq (place_cmp p (link_place link side)) && same) || old) →
         new ≡ more_one (is_under f link side) same (has_link o link side) old
     unfolding has_link
-    file_one new none made =
-        made ∙ ap (λ b. b || old) (dropped f e link side same none ∙
+    file_one p new at none made =
+        made ∙ ap (λ q. (is_eq (place_cmp q (link_place link side)) && same) || old) at ∙
+        ap (λ b. b || old) (dropped f e link side same none ∙
         ap (λ p. not (is_under f link side) && (same && has_link p link side)) (sym is))
 
     pub file_kept : is_under f e.link e.side ≡ true → old ≡ more_one (is_under f link side) same (has_link o link side) old
@@ -190,12 +194,13 @@ module _ (f : Filing) (o : Option LinkEnd) (link : LinkId) (side : Side) (same o
     file_kept some = sym (ap (λ p. (not (is_under f link side) && (same && has_link p link side)) || old) is ∙
         ap (λ b. b || old) (kept f e link side same some))
 
-    pub drop_one : (new : Bool) → is_under f e.link e.side ≡ false →
-        new ≡ (not (is_eq (link_end_cmp (e.link, e.side) (link, side)) && same) && old) →
+    pub drop_one : (p : LinkPlace) (new : Bool) → p ≡ link_place e.link e.side → is_under f e.link e.side ≡ false →
+        new ≡ (not (is_eq (place_cmp p (link_place link side)) && same) && old) →
         new ≡ less_one (is_under f link side) same (has_link o link side) old
     unfolding has_link
-    drop_one new none made =
-        made ∙ ap (λ b. not b && old) (dropped f e link side same none ∙
+    drop_one p new at none made =
+        made ∙ ap (λ q. not (is_eq (place_cmp q (link_place link side)) && same) && old) at ∙
+        ap (λ b. not b && old) (dropped f e link side same none ∙
         ap (λ p. not (is_under f link side) && (same && has_link p link side)) (sym is))
 
     pub drop_kept : is_under f e.link e.side ≡ true → old ≡ less_one (is_under f link side) same (has_link o link side) old
@@ -399,7 +404,7 @@ left_after P Q (Ok a) h = tt
 left_after P Q (Err e) h = h.1
 
 module _ (m : FinMap nat_cmp Router) (s : ℕ) (r w : Router) (was is : Filing) (taken : ℕ) (fits : FilesWithin taken r w)
-    (links to_links : RoomySet ((LinkId × Side) × ℕ)) (terminals to_terminals : RoomySet (End × ℕ)) (flagged to_flagged : RoomySet ℕ)
+    (links to_links : RoomySet (LinkPlace × ℕ)) (terminals to_terminals : RoomySet (End × ℕ)) (flagged to_flagged : RoomySet ℕ)
     (room more less in_routers : ℕ) (here : get m s ≡ Some r) (was_is : was ≡ filing_of r) (is_is : is ≡ filing_of w)
     (enough : less + taken ≤ more)
     (held : AreFiled m links.members terminals.members flagged.members ×
@@ -487,7 +492,7 @@ kept_at P b s q is = go (s == q) refl
     go true e = at_serial P b s q is e
     go false e = refl
 
-module _ (m : FinMap nat_cmp Router) (s : ℕ) (r w : Router) (stays : StaysFiled r w) (links : RoomySet ((LinkId × Side) × ℕ))
+module _ (m : FinMap nat_cmp Router) (s : ℕ) (r w : Router) (stays : StaysFiled r w) (links : RoomySet (LinkPlace × ℕ))
     (terminals : RoomySet (End × ℕ)) (flagged to_flagged : RoomySet ℕ) (room more in_routers : ℕ) (here : get m s ≡ Some r)
     (held : AreFiled m links.members terminals.members flagged.members ×
     HaveRoom m room more in_routers links.room terminals.room flagged.room) where
@@ -518,7 +523,7 @@ module _ (m : FinMap nat_cmp Router) (s : ℕ) (r w : Router) (stays : StaysFile
   flag_changed was is was_is is_is members flag_rooms =
       changed m s r w (filing_of r) (filing_of w) 0 in_place links links terminals terminals flagged to_flagged room more more in_routers
       here refl refl (omega arith) held (record {
-        by_link = λ link side q. kept_at (is_filed link_end_cmp links.members (link, side)) (is_under (filing_of w) link side) s q
+        by_link = λ link side q. kept_at (is_filed place_cmp links.members (link_place link side)) (is_under (filing_of w) link side) s q
             (can.by_link link side ∙ sym (ap (λ f. is_under f link side) stays));
         by_end = λ end q. kept_at (is_filed end_cmp terminals.members end) (is_open_terminal w && same_end w.end end) s q
             (can.by_end end ∙ sym (ap (λ f. f.is_open && same_end f.end end) stays));

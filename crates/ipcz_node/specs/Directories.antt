@@ -2,14 +2,13 @@
 -- (ipcz: a node link finds a router by its sublink. The other two are this project's own.)
 use Rattle.std.specs.Prelude.{◌≡◌, ◌==◌, ℕ, ◌+◌, ◌≤◌, ◌<◌, ◌&&◌, Bool, true, false, if◌then◌else◌, List, length}
 use Rattle.std.specs.Option.{option_map_or}
-use Rattle.std.specs.declared.cmp.Ordering.{Ordering}
-use Rattle.std.specs.Ordering.{nat_cmp, ordering_then}
+use Rattle.std.specs.Ordering.{nat_cmp}
 use Rattle.std.specs.FinMap.{FinMap, get}
 use Rattle.ipcz_base.specs.declared.side.Side.{Side}
 use Rattle.ipcz_base.specs.declared.end.End.{End}
 use Rattle.ipcz_base.specs.declared.link_id.LinkId.{LinkId}
 use Rattle.ipcz_base.specs.Totals.{total}
-use Rattle.ipcz_base.specs.Orders.{side_cmp, end_cmp, link_cmp}
+use Rattle.ipcz_base.specs.Orders.{end_cmp}
 use Rattle.ipcz_base.specs.declared.item.Item.{Item}
 use Rattle.ipcz_base.specs.Items.{ends_in}
 use Rattle.ipcz_router.specs.declared.act.RouterAct.{RouterAct}
@@ -22,21 +21,19 @@ use Rattle.ipcz_node.specs.Node.{is_terminal_of}
 use Rattle.ipcz_base.specs.Ends.{same_end}
 use Rattle.ipcz_router.specs.declared.filing.Filing.{Filing}
 use Rattle.ipcz_router.specs.Filings.{is_under, link_gain}
+use Rattle.ipcz_node.specs.declared.link_place.LinkPlace.{LinkPlace}
+use Rattle.ipcz_node.specs.LinkPlaces.{place_cmp, link_place}
 use Rattle.ipcz_node.specs.SortedSets.{RoomySet, has}
 use Rattle.ipcz_node.specs.Indexes.{is_filed}
-
--- the order of links, each at a side
-abbrev pub link_end_cmp : LinkId × Side → LinkId × Side → Ordering
-link_end_cmp a b = ordering_then (link_cmp a.0 b.0) (side_cmp a.1 b.1)
 
 -- whether the router of a serial passes a test
 abbrev pub passes : (Router → Bool) → FinMap nat_cmp Router → ℕ → Bool
 passes test routers serial = option_map_or test (get routers serial) false
 
 -- each router is filed under exactly its links, the end that it is the open terminal of, and its flag
-pub record AreFiled (routers : FinMap nat_cmp Router) (links : List ((LinkId × Side) × ℕ)) (terminals : List (End × ℕ))
+pub record AreFiled (routers : FinMap nat_cmp Router) (links : List (LinkPlace × ℕ)) (terminals : List (End × ℕ))
     (flagged : List ℕ) : Type 0 where
-  pub by_link : (link : LinkId) (side : Side) (serial : ℕ) → is_filed link_end_cmp links (link, side) serial ≡
+  pub by_link : (link : LinkId) (side : Side) (serial : ℕ) → is_filed place_cmp links (link_place link side) serial ≡
       passes (λ r. router_has r link side) routers serial
   pub by_end : (end : End) (serial : ℕ) → is_filed end_cmp terminals end serial ≡ passes (is_terminal_of end) routers serial
   pub by_flag : (serial : ℕ) → has nat_cmp flagged serial ≡ passes (λ r. r.flagged) routers serial
@@ -92,9 +89,9 @@ ends_taken act given = if takes_inside act then ends_given given else 0
 
 -- what is filed under a serial is what the filing says, and there is room for another filing, which is of no terminal that the first isn't
 -- of
-pub record CanRefile (links : RoomySet ((LinkId × Side) × ℕ)) (terminals : RoomySet (End × ℕ)) (flagged : RoomySet ℕ) (serial : ℕ)
+pub record CanRefile (links : RoomySet (LinkPlace × ℕ)) (terminals : RoomySet (End × ℕ)) (flagged : RoomySet ℕ) (serial : ℕ)
     (was is : Filing) : Type 0 where
-  pub by_link : (link : LinkId) (side : Side) → is_filed link_end_cmp links.members (link, side) serial ≡ is_under was link side
+  pub by_link : (link : LinkId) (side : Side) → is_filed place_cmp links.members (link_place link side) serial ≡ is_under was link side
   pub by_end : (end : End) → is_filed end_cmp terminals.members end serial ≡ (was.is_open && same_end was.end end)
   pub by_flag : has nat_cmp flagged.members serial ≡ was.flagged
   pub link_room : link_gain was is ≤ links.room
@@ -103,10 +100,10 @@ pub record CanRefile (links : RoomySet ((LinkId × Side) × ℕ)) (terminals : R
   pub stays : is.end ≡ was.end
 
 -- what is filed under a serial is what the second filing says, and nothing else has changed
-pub record AreRefiled (links new_links : RoomySet ((LinkId × Side) × ℕ)) (terminals new_terminals : RoomySet (End × ℕ))
+pub record AreRefiled (links new_links : RoomySet (LinkPlace × ℕ)) (terminals new_terminals : RoomySet (End × ℕ))
     (flagged new_flagged : RoomySet ℕ) (serial : ℕ) (was is : Filing) : Type 0 where
-  pub by_link : (link : LinkId) (side : Side) (s : ℕ) → is_filed link_end_cmp new_links.members (link, side) s ≡
-      (if serial == s then is_under is link side else is_filed link_end_cmp links.members (link, side) s)
+  pub by_link : (link : LinkId) (side : Side) (s : ℕ) → is_filed place_cmp new_links.members (link_place link side) s ≡
+      (if serial == s then is_under is link side else is_filed place_cmp links.members (link_place link side) s)
   pub by_end : (end : End) (s : ℕ) → is_filed end_cmp new_terminals.members end s ≡
       (if serial == s then is.is_open && same_end is.end end else is_filed end_cmp terminals.members end s)
   pub by_flag : (s : ℕ) → has nat_cmp new_flagged.members s ≡ (if serial == s then is.flagged else has nat_cmp flagged.members s)

@@ -7,6 +7,7 @@ pub mod FirstPairs
 pub mod Hands
 pub mod Indexes
 pub mod Lending
+pub mod LinkPlaces
 pub mod Node
 pub mod Preparing
 pub mod Rooms

@@ -30,6 +30,7 @@ pub(crate) use self::room::count_ends;
 use self::room::{ends_taken, flags_wanted, is_outward, make_room, sum};
 use crate::held_ends::HeldEnds;
 use crate::index::Index;
+use crate::link_place::LinkPlace;
 use crate::routers::Routers;
 use crate::sorted_set::SortedSet;
 use ipcz_base::{Descriptor, End, Item, LinkEnd, LinkId, Parcel, Refusal, Side};
@@ -46,7 +47,7 @@ use std::marker::Model;
 #[derive(Drop)]
 pub struct Directory {
     routers: Routers,
-    links: Index<(LinkId, Side)>,
+    links: Index<LinkPlace>,
     terminals: Index<End>,
     flagged: SortedSet<u64>,
     held: HeldEnds,
@@ -179,7 +180,8 @@ impl Directory {
         ensures { self.new.filed ≡ add_filed self.old.filed (from_descriptor descriptor.now from) }
     {
         let serial = self.routers.next_serial();
-        self.links.add((descriptor.link, Side::B), serial);
+        self.links
+            .add(LinkPlace::of(descriptor.link, Side::B), serial);
         self.terminals.add(descriptor.end, serial);
         self.routers
             .add(Router::from_descriptor(alloc, descriptor, from));
@@ -200,7 +202,7 @@ impl Directory {
             side,
             other,
         };
-        self.links.add((link.link, side), serial);
+        self.links.add(LinkPlace::of(link.link, side), serial);
         self.terminals.add(end, serial);
         self.routers.add(Router::terminal(alloc, end, link, 0));
         self.held.insert(end);
@@ -403,7 +405,7 @@ impl Directory {
     pub fn first_on(&self, link: LinkId, side: Side) -> Option<u64>
         ensures { IsFound (λ r. router_has r link side) self.now.filed.routers result }
     {
-        self.links.first((link, side))
+        self.links.first(LinkPlace::of(link, side))
     }
 
     /// The first open terminal of the end.

@@ -6,6 +6,7 @@ mod directory;
 mod happened;
 mod held_ends;
 mod index;
+mod link_place;
 mod outbox;
 mod outboxes;
 mod routers;

@@ -5,18 +5,20 @@ ghost use Rattle.ipcz_base.specs.Orders.{end_cmp};
 ghost use Rattle.ipcz_base.specs.Ends.{same_end};
 ghost use Rattle.ipcz_base.specs.declared.end.End.{End as EndRecord};
 ghost use Rattle.ipcz_router.specs.Filings.{is_under, gained_by, link_gain};
-ghost use Rattle.ipcz_node.specs.Directories.{link_end_cmp, CanRefile, AreRefiled};
+ghost use Rattle.ipcz_node.specs.LinkPlaces.{place_cmp, link_place};
+ghost use Rattle.ipcz_node.specs.Directories.{CanRefile, AreRefiled};
 ghost use Rattle.ipcz_node.specs.SortedSets.{has};
 ghost use Rattle.ipcz_node.specs.Indexes.{is_filed};
 
 use crate::index::Index;
+use crate::link_place::LinkPlace;
 use crate::sorted_set::SortedSet;
 use ipcz_base::{End, LinkEnd, LinkId, Side};
 use ipcz_router::Filing;
 
 // Files what was done with the router of a serial, from where it was filed to where it is to be.
 pub(super) fn refile(
-    links: &mut Index<(LinkId, Side)>,
+    links: &mut Index<LinkPlace>,
     terminals: &mut Index<End>,
     flagged: &mut SortedSet<u64>,
     serial: u64,
@@ -46,12 +48,12 @@ fn close_end(terminals: &mut Index<End>, serial: u64, was: &Filing, is: &Filing)
 }
 
 // The links alone: those that are kept stay, so that room is wanted for new ones alone.
-fn relink(links: &mut Index<(LinkId, Side)>, serial: u64, was: &Filing, is: &Filing)
+fn relink(links: &mut Index<LinkPlace>, serial: u64, was: &Filing, is: &Filing)
     requires room { link_gain was.now is.now ≤ links.old.room }
-    requires filed { (link : LinkId) (side : Side) → is_filed link_end_cmp links.old.members (link, side) serial ≡
+    requires filed { (link : LinkId) (side : Side) → is_filed place_cmp links.old.members (link_place link side) serial ≡
         is_under was.now link side }
-    ensures members { (link : LinkId) (side : Side) (s : ℕ) → is_filed link_end_cmp links.new.members (link, side) s
-        ≡ (if serial == s then is_under is.now link side else is_filed link_end_cmp links.old.members (link, side) s) }
+    ensures members { (link : LinkId) (side : Side) (s : ℕ) → is_filed place_cmp links.new.members (link_place link side) s
+        ≡ (if serial == s then is_under is.now link side else is_filed place_cmp links.old.members (link_place link side) s) }
     ensures room { links.old.room ≤ links.new.room + link_gain was.now is.now }
 {
     drop_link(links, serial, was.outward, is);
@@ -65,16 +67,16 @@ fn relink(links: &mut Index<(LinkId, Side)>, serial: u64, was: &Filing, is: &Fil
 }
 
 // Takes a link away, where the filing hasn't it.
-fn drop_link(links: &mut Index<(LinkId, Side)>, serial: u64, old: Option<LinkEnd>, kept: &Filing)
-    ensures members { (link : LinkId) (side : Side) (s : ℕ) → is_filed link_end_cmp links.new.members (link, side) s
+fn drop_link(links: &mut Index<LinkPlace>, serial: u64, old: Option<LinkEnd>, kept: &Filing)
+    ensures members { (link : LinkId) (side : Side) (s : ℕ) → is_filed place_cmp links.new.members (link_place link side) s
         ≡ (not (not (is_under kept.now link side) && (serial == s && has_link old link side)) &&
-        is_filed link_end_cmp links.old.members (link, side) s) }
+        is_filed place_cmp links.old.members (link_place link side) s) }
     ensures room { links.old.room ≤ links.new.room }
 {
     match old {
         Some(e) => {
             if !kept.is_under(e.link, e.side) {
-                links.remove((e.link, e.side), serial);
+                links.remove(LinkPlace::of(e.link, e.side), serial);
             }
         }
         None => {}
@@ -82,17 +84,17 @@ fn drop_link(links: &mut Index<(LinkId, Side)>, serial: u64, old: Option<LinkEnd
 }
 
 // Files a link, where the filing hadn't it.
-fn file_link(links: &mut Index<(LinkId, Side)>, serial: u64, new: Option<LinkEnd>, was: &Filing)
+fn file_link(links: &mut Index<LinkPlace>, serial: u64, new: Option<LinkEnd>, was: &Filing)
     requires { gained_by was.now new ≤ links.old.room }
-    ensures members { (link : LinkId) (side : Side) (s : ℕ) → is_filed link_end_cmp links.new.members (link, side) s
+    ensures members { (link : LinkId) (side : Side) (s : ℕ) → is_filed place_cmp links.new.members (link_place link side) s
         ≡ ((not (is_under was.now link side) && (serial == s && has_link new link side)) ||
-        is_filed link_end_cmp links.old.members (link, side) s) }
+        is_filed place_cmp links.old.members (link_place link side) s) }
     ensures room { links.old.room ≤ links.new.room + gained_by was.now new }
 {
     match new {
         Some(e) => {
             if !was.is_under(e.link, e.side) {
-                links.add((e.link, e.side), serial);
+                links.add(LinkPlace::of(e.link, e.side), serial);
             }
         }
         None => {}

@@ -1,10 +1,10 @@
-use Rattle.std.proofs.Common.{◌≡◌, ◌==◌, ◌&&◌, ◌||◌, ◌<◌, ℕ, ap, subst, sym, ◌∙◌, arith}
+use Rattle.std.proofs.Common.{◌≡◌, ◌==◌, ◌&&◌, ◌||◌, ◌<◌, ℕ, ap, subst, subst₂, sym, ◌∙◌, arith}
 use Rattle.std.specs.Ordering.{is_eq}
 use Rattle.ipcz_base.specs.Orders.{end_cmp}
 use Rattle.ipcz_base.specs.Ends.{end_at}
 use Rattle.ipcz_base.specs.Links.{central_end}
 use Rattle.ipcz_node.specs.Indexes.{is_filed}
-use Rattle.ipcz_node.specs.Directories.{link_end_cmp}
+use Rattle.ipcz_node.specs.LinkPlaces.{place_cmp}
 use Rattle.ipcz_node.specs.Directories.{ends_inside}
 use Rattle.ipcz_node.proofs.Holding.{hold_added, fresh_inside}
 use Rattle.ipcz_node.proofs.Directories.{filed_added, room_added}
@@ -17,9 +17,9 @@ invariant_of-self c =
     let at = central_end c.args.pair c.args.side c.args.other in
     let next = c.self.inside.routers.next in
     let added = ap (λ v. v.routers) c.add-3.ensures in
-    let to_links = subst (λ n. (key : _) (s : ℕ) → is_filed link_end_cmp c.add.new.self.members key s ≡
-    ((is_eq (link_end_cmp (at.link, at.side) key) && n == s) || is_filed link_end_cmp c.self.inside.links.members key s))
-    c.next_serial-serial.ensures.next c.add.ensures.members in
+    let to_links = subst₂ (λ n p. (key : _) (s : ℕ) → is_filed place_cmp c.add.new.self.members key s ≡
+    ((is_eq (place_cmp p key) && n == s) || is_filed place_cmp c.self.inside.links.members key s))
+    c.next_serial-serial.ensures.next c.of.ensures c.add.ensures.members in
     let to_terminals = subst (λ n. (key : _) (s : ℕ) → is_filed end_cmp c.add-2.new.self.members key s ≡
     ((is_eq (end_cmp pair key) && n == s) || is_filed end_cmp c.self.inside.terminals.members key s))
     c.next_serial-serial.ensures.next c.add-2.ensures.members in

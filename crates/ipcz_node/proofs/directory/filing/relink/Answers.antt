@@ -3,7 +3,7 @@ use Rattle.ipcz_base.specs.declared.link_end.LinkEnd.{LinkEnd}
 use Rattle.ipcz_base.specs.Links.{has_link}
 use Rattle.ipcz_router.specs.Filings.{is_under}
 use Rattle.ipcz_node.specs.Indexes.{is_filed}
-use Rattle.ipcz_node.specs.Directories.{link_end_cmp}
+use Rattle.ipcz_node.specs.LinkPlaces.{place_cmp, link_place}
 use Rattle.ipcz_node.proofs.Refiling.{less_one, more_one, relinked, at_serial}
 use Rattle.ipcz_node.proofs.directory.filing.relink.Goals as goal
 
@@ -22,5 +22,5 @@ returns-clause-members c = λ link side s.
     ∙ ap (less c.args.was.now.inward_decaying) (c.drop_link-3.ensures.members link side s
     ∙ ap (less c.args.was.now.inward) (c.drop_link-2.ensures.members link side s
     ∙ ap (less c.args.was.now.outward_decaying) (c.drop_link.ensures.members link side s)))))))
-    ∙ relinked is was same _ _ _ _ _ _ _ _ (is_filed link_end_cmp c.args.links.now.members (link, side) s) refl refl
-    (at_serial (is_filed link_end_cmp c.args.links.now.members (link, side)) was c.args.serial s (c.requires.filed link side))
+    ∙ relinked is was same _ _ _ _ _ _ _ _ (is_filed place_cmp c.args.links.now.members (link_place link side) s) refl refl
+    (at_serial (is_filed place_cmp c.args.links.now.members (link_place link side)) was c.args.serial s (c.requires.filed link side))
