@@ -35,10 +35,11 @@ pub record FiledRouters : Type 0 where
   pub room : ℕ
   pub links : ℕ
 
--- the same, and how many items more the out queue of each router takes
+-- the same, how many items more the out queue of each router takes, and how many of the ends that wait there is room to hold
 pub record RoomyDirectory : Type 0 where
   pub filed : FiledRouters
   pub out_rooms : FinMap nat_cmp ℕ
+  pub ends : ℕ
 
 -- the routers with this one under the serial
 abbrev pub put_filed : FiledRouters → ℕ → Router → FiledRouters

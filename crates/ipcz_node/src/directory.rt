@@ -1,5 +1,5 @@
 ghost use Rattle.std.specs.Prelude.{◌≡◌, ◌+◌, ◌<◌, ◌≤◌, ◌-◌, ◌^◌, Some, true};
-ghost use Rattle.std.specs.Prelude.{is_some, OnOk, IfErr, IsSomeAnd, option_copied, option_map};
+ghost use Rattle.std.specs.Prelude.{is_some, OnOk, OnErr, IfErr, IsSomeAnd, option_copied, option_map};
 ghost use Rattle.std.specs.FinMap.{get, empty};
 ghost use Rattle.ipcz_base.specs.Limits.{last_number, no_number};
 ghost use Rattle.ipcz_router.specs.Router.{Router as RouterRecord, IsOpenTerminal, outward_has, router_has, proxy_link, from_descriptor};
@@ -14,7 +14,7 @@ ghost use Rattle.std.specs.Prelude.{[], ◌∷◌};
 ghost use Rattle.ipcz_base.specs.Ends.{end_at};
 ghost use Rattle.ipcz_node.specs.Finding.{IsFound, IsNext, is_terminal_in};
 ghost use Rattle.ipcz_node.specs.Rooms.{put_filed, link_filed, add_filed, drop_filed, hold_filed};
-ghost use Rattle.ipcz_node.specs.Directories.{ends_brought};
+ghost use Rattle.ipcz_node.specs.Directories.{ends_brought, ends_taken};
 ghost use Rattle.ipcz_node.specs.Directories.{keeps_links};
 ghost use Rattle.std.specs.FinSet as sets;
 ghost use Rattle.ipcz_node.specs.Serials.{map_by, AreRising};
@@ -75,6 +75,7 @@ impl Model for Directory {
         links = a.more;
       };
       out_rooms = a.routers.out_rooms;
+      ends = a.ends;
     } };
 
     ghost invariant = { λ a. (AreFiled a.routers.routers a.links.members a.terminals.members a.flagged.members ×
@@ -88,6 +89,7 @@ impl Directory {
         ensures routers { result.filed.routers ≡ empty }
         ensures next { result.filed.next ≡ first }
         ensures held { result.filed.held ≡ sets.empty }
+        ensures ends { result.ends ≡ 0 }
     {
         Directory {
             routers: Routers::new(alloc, first),
@@ -132,6 +134,7 @@ impl Directory {
         ensures held { self.new.filed.held ≡ self.old.filed.held }
         ensures next { self.new.filed.next ≡ self.old.filed.next }
         ensures out_rooms { self.new.out_rooms ≡ self.old.out_rooms }
+        ensures ends { self.new.ends ≡ self.old.ends }
         ensures full { routers ≤ self.old.filed.room → links ≤ self.old.filed.links → IsOk result }
         ensures kept { (self.old.filed.room ≤ self.new.filed.room) × (self.old.filed.links ≤ self.new.filed.links) }
     {
@@ -151,6 +154,7 @@ impl Directory {
         ensures held { self.new.filed.held ≡ self.old.filed.held }
         ensures next { self.new.filed.next ≡ self.old.filed.next }
         ensures out_rooms { self.new.out_rooms ≡ self.old.out_rooms }
+        ensures ends { self.new.ends ≡ self.old.ends }
         ensures kept { (self.old.filed.room ≤ self.new.filed.room) × (self.old.filed.links ≤ self.new.filed.links) }
     {
         let Some(all) = sum(routers, links) else {
@@ -285,7 +289,10 @@ impl Directory {
             OnOk result (self.new.filed ≡ put_filed self.old.filed serial (accept r (outward_has r link side) n item)) }
         ensures why { (r : RouterRecord) → get self.old.filed.routers serial ≡ Some r →
             IfErr result (λ e. e.0 ≡ accept_refusal r link side n) }
+        ensures ends { (r : RouterRecord) → get self.old.filed.routers serial ≡ Some r →
+            OnOk result (self.new.ends ≡ self.old.ends + ends_brought r (outward_has r link side) n item) }
         ensures err { IfErr result (λ e. (e.1 ≡ item) × (self.new.filed ≡ self.old.filed)) }
+        ensures err_ends { OnErr result (self.new.ends ≡ self.old.ends) }
     {
         let ends = self.ends_to_come(serial, link, side, n, &item);
         let Some(all) = make_room(&mut self.held, self.ends, self.room, ends) else {
@@ -330,6 +337,7 @@ impl Directory {
         ensures output { (r : RouterRecord) → get self.old.filed.routers serial ≡ Some r → result ≡ output_of r act }
         ensures number { IsBelowNoNumber result }
         ensures room { (self.new.filed.room ≡ self.old.filed.room) × (self.new.filed.links ≡ self.old.filed.links) }
+        ensures ends { self.new.ends ≡ self.old.ends - ends_taken act result }
     {
         if keeps_links(act) {
             self.act_in_place(serial, act, answer)
@@ -348,6 +356,7 @@ impl Directory {
         ensures output { (r : RouterRecord) → get self.old.filed.routers serial ≡ Some r → result ≡ output_of r act }
         ensures number { IsBelowNoNumber result }
         ensures room { (self.new.filed.room ≡ self.old.filed.room) × (self.new.filed.links ≡ self.old.filed.links) }
+        ensures ends { self.new.ends ≡ self.old.ends - ends_taken act result }
     {
         let router = self.routers.router_mut(serial);
         let was = router.is_flagged();
@@ -367,6 +376,7 @@ impl Directory {
         ensures output { (r : RouterRecord) → get self.old.filed.routers serial ≡ Some r → result ≡ output_of r act }
         ensures number { IsBelowNoNumber result }
         ensures room { (self.new.filed.room ≡ self.old.filed.room) × (self.new.filed.links ≡ self.old.filed.links) }
+        ensures ends { self.new.ends ≡ self.old.ends - ends_taken act result }
     {
         let router = self.routers.router_mut(serial);
         let was = router.filing();

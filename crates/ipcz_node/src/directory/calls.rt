@@ -1,4 +1,4 @@
-ghost use Rattle.std.specs.Prelude.{ℕ, ◌≡◌, Some, None, true};
+ghost use Rattle.std.specs.Prelude.{ℕ, ◌≡◌, ◌-◌, length, Some, None, true};
 ghost use Rattle.std.specs.Prelude.{is_some, OnOk, OnErr, IfOk, IfErr, IsSomeAnd, unwrap_or};
 ghost use Rattle.std.specs.FinMap.{get};
 ghost use Rattle.ipcz_base.specs.declared.item.Item.{Item};
@@ -51,6 +51,8 @@ impl Directory {
             (ends_found (current_item r.in_queue))) }
         ensures why { (r : RouterRecord) → get self.old.filed.routers serial ≡ Some r → IfErr result (λ e. router_get_refusal r ≡ Some e) }
         ensures err { OnErr result (self.new.filed ≡ self.old.filed) }
+        ensures ends { IfOk result (λ g. self.new.ends ≡ self.old.ends - length g.1.ends) }
+        ensures err_ends { OnErr result (self.new.ends ≡ self.old.ends) }
     {
         let router = self.routers.router_mut(serial);
         let was = router.is_flagged();
