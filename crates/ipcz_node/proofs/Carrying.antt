@@ -1,5 +1,5 @@
 -- What a node sends and takes of an item that brings no end and no moves.
-use Rattle.std.proofs.Common.{◌≡◌, ◌≤◌, ◌||◌, ◌&&◌, ℕ, Bool, true, false, not, List, [], length, Option, Some, None, if◌then◌else◌, nat_eq, ap, sym, is_some}
+use Rattle.std.proofs.Common.{◌≡◌, ◌≤◌, ◌||◌, ◌&&◌, ℕ, Bool, true, false, not, nat_lt, nat_le, ◌<◌, is_none, true≢false, ap₂, List, [], length, Option, Some, None, if◌then◌else◌, nat_eq, ap, sym, is_some}
 use Rattle.std.proofs.Common.{refl, ◌∙◌, ◌∷◌, arith}
 use Rattle.std.proofs.lemmas.Bool.Decides.{nat_tests}
 use Rattle.ipcz_base.specs.declared.end.End.{End}
@@ -12,8 +12,8 @@ use Rattle.ipcz_base.specs.declared.link_end.LinkEnd.{LinkEnd}
 use Rattle.ipcz_base.specs.declared.side.Side.{Side}
 use Rattle.ipcz_base.specs.Items.{ends_in}
 use Rattle.ipcz_base.specs.Limits.{no_number, has_serials}
-use Rattle.ipcz_router.specs.Router.{Router, outward_has}
-use Rattle.ipcz_router.specs.Calls.{accept, has_place_for}
+use Rattle.ipcz_router.specs.Router.{Router, outward_has, inward_has, router_has}
+use Rattle.ipcz_router.specs.Calls.{accept, accept_refusal, has_place_for}
 use Rattle.ipcz_router.specs.ActTable.{is_possible, is_rest, may_take}
 use Rattle.ipcz_router.specs.ActEffects.{apply, output_of}
 use Rattle.ipcz_router.specs.Carrying.{carried_by}
@@ -33,6 +33,10 @@ use Rattle.ipcz_node.specs.Hands.{grows_where_it_fits, message_grows}
 use Rattle.ipcz_node.specs.Acts.{act_lacks_serials, commit, commit_router, keep_or_drop, serials_at}
 use Rattle.ipcz_node.specs.Preparing.{outlook_at, serials_as}
 use Rattle.ipcz_node.specs.Sends.{send, serials_for, send_item, post_item, item_message, move_ends}
+use Rattle.ipcz_base.specs.declared.refusal.Refusal.{Refusal}
+use Rattle.ipcz_base.specs.declared.refusal.Refusal.TheVariants as refusals
+use Rattle.ipcz_seq.specs.Queue.{Queue, has_place, item_at, push_refusal}
+use Rattle.ipcz_node.specs.Telling.{is_lone}
 use Rattle.ipcz_node.proofs.Preparing.{serials_there}
 
 -- a send is taken where it is possible
@@ -200,3 +204,114 @@ takes_none n sender link side number item moves source h none =
     ap (λ ds. fits n sender (messages.Item link side number item moves) source && not (has_serials n.next_router (length ds))) none
     ∙ ap (λ b. fits n sender (messages.Item link side number item moves) source && b) (ap not (enough n.next_router h))
     ∙ and_false (fits n sender (messages.Item link side number item moves) source)
+
+-- a queue is out of memory exactly where a push has its place
+not_before : (n m : ℕ) → nat_le m n ≡ not (nat_lt n m)
+not_before n m = grind (arith, nat_tests)
+
+none_not : {X : Type 0} (o : Option X) → is_none o ≡ not (is_some o)
+none_not None = refl
+none_not (Some x) = refl
+
+abbrev refused : (passed taken : Bool) → Refusal
+refused passed taken = if passed then refusals.Passed else if taken then refusals.Occupied else refusals.OutOfMemory
+
+memory_is_free : (passed taken : Bool) → refused passed taken ≡ refusals.OutOfMemory → (not passed && not taken) ≡ true
+memory_is_free true taken h = cc
+memory_is_free false true h = cc
+memory_is_free false false h = refl
+
+other_is_not : (passed taken : Bool) → (refused passed taken ≡ refusals.OutOfMemory → ⊥) → (not passed && not taken) ≡ false
+other_is_not true taken h = refl
+other_is_not false true h = refl
+other_is_not false false h = absurd (h refl)
+
+place_is : {X : Type 0} (q : Queue X) (n : ℕ) → has_place q n ≡ (not (nat_lt n q.current) && not (is_some (item_at q n)))
+place_is q n = ap₂ (λ a b. a && b) (not_before n q.current) (none_not (item_at q n))
+
+wanted_place : {X : Type 0} (q : Queue X) (n : ℕ) → push_refusal q n ≡ refusals.OutOfMemory → has_place q n ≡ true
+wanted_place q n h = place_is q n ∙ memory_is_free (nat_lt n q.current) (is_some (item_at q n)) h
+
+no_place : {X : Type 0} (q : Queue X) (n : ℕ) → (push_refusal q n ≡ refusals.OutOfMemory → ⊥) → has_place q n ≡ false
+no_place q n h = place_is q n ∙ other_is_not (nat_lt n q.current) (is_some (item_at q n)) h
+
+below_last : (n : ℕ) → n < no_number → nat_lt n no_number ≡ true
+below_last n h = grind (arith, nat_tests)
+
+-- a router is out of memory for an item exactly where that has its place
+pub place_wanted : (r : Router) (link : LinkId) (side : Side) (n : ℕ) → n < no_number →
+    accept_refusal r link side n ≡ refusals.OutOfMemory → has_place_for r (outward_has r link side) n ≡ true
+place_wanted r link side n low h =
+    ap (λ b. b && (if outward_has r link side then has_place r.in_queue n else has_place r.out_queue n)) (below_last n low)
+    ∙ go (outward_has r link side) (inward_has r link side) h
+  where
+    go : (out in_ : Bool) → (if out then push_refusal r.in_queue n else if in_ then push_refusal r.out_queue n else refusals.Stranger) ≡
+        refusals.OutOfMemory → (if out then has_place r.in_queue n else has_place r.out_queue n) ≡ true
+    go true in_ is = wanted_place r.in_queue n is
+    go false true is = wanted_place r.out_queue n is
+    go false false is = cc
+
+pub place_refused : (r : Router) (link : LinkId) (side : Side) (n : ℕ) → router_has r link side ≡ true →
+    (accept_refusal r link side n ≡ refusals.OutOfMemory → ⊥) → has_place_for r (outward_has r link side) n ≡ false
+place_refused r link side n has h = go (nat_lt n no_number) (outward_has r link side) (inward_has r link side) has h
+  where
+    go : (low out in_ : Bool) → (out || in_) ≡ true →
+        ((if out then push_refusal r.in_queue n else if in_ then push_refusal r.out_queue n else refusals.Stranger) ≡ refusals.OutOfMemory → ⊥) →
+        (low && (if out then has_place r.in_queue n else has_place r.out_queue n)) ≡ false
+    go false out in_ some is = refl
+    go true true in_ some is = no_place r.in_queue n is
+    go true false true some is = no_place r.out_queue n is
+    go true false false some is = absurd (true≢false (sym some))
+
+-- an item that comes without ends and moves is taken exactly where it has its place
+lone : (moves : List Descriptor) (item : Item) → moves ≡ [] → ends_in item ≡ [] →
+    (nat_eq (length moves) 0 && nat_eq (length (ends_in item)) 0) ≡ true
+lone moves item none ends = ap (λ ds. nat_eq (length ds) 0 && nat_eq (length (ends_in item)) 0) none ∙ ap (λ es. nat_eq (length es) 0) ends
+
+pub lone_fits : (n : Node) (sender : ℕ) (link : LinkId) (side : Side) (number : ℕ) (item : Item) (moves : List Descriptor)
+    (source : Option ℕ) (s : ℕ) (r : Router) → link_router n link side ≡ Some (found s r) →
+    has_place_for r (outward_has r link side) number ≡ true → ends_in item ≡ [] → moves ≡ [] →
+    (is_lone (messages.Item link side number item moves) && fits n sender (messages.Item link side number item moves) source) ≡ true
+unfolding is_lone
+lone_fits n sender link side number item moves source s r here place ends none =
+    ap (λ b. b && fits n sender (messages.Item link side number item moves) source) (lone moves item none ends)
+    ∙ placed_alone n sender link side number item moves source s r here place ends none
+
+-- not where it isn't one, or its number is none
+pub not_lone : (n : Node) (sender : ℕ) (link : LinkId) (side : Side) (number : ℕ) (item : Item) (moves : List Descriptor)
+    (source : Option ℕ) → (nat_lt number no_number && (nat_eq (length moves) 0 && nat_eq (length (ends_in item)) 0)) ≡ false →
+    false ≡ (is_lone (messages.Item link side number item moves) && fits n sender (messages.Item link side number item moves) source)
+unfolding is_lone fits fits_item
+not_lone n sender link side number item moves source not_one = go (link_router n link side)
+  where
+    both : (below it place from : Bool) → (below && it) ≡ false → false ≡ (it && ((below && place) && from))
+    both true true place from h = absurd (true≢false h)
+    both true false place from h = refl
+    both false true place from h = refl
+    both false false place from h = refl
+
+    go : (o : Option Found) → false ≡ ((nat_eq (length moves) 0 && nat_eq (length (ends_in item)) 0) &&
+        fits_item n sender link side number item moves o)
+    go None = sym (and_false (nat_eq (length moves) 0 && nat_eq (length (ends_in item)) 0))
+    go (Some f) = both (nat_lt number no_number) (nat_eq (length moves) 0 && nat_eq (length (ends_in item)) 0)
+        (if outward_has f.router link side then has_place f.router.in_queue number else has_place f.router.out_queue number)
+        (fits_from n sender item moves) not_one
+
+-- nor where no router is there, or it has no place
+pub lone_without_router : (n : Node) (sender : ℕ) (link : LinkId) (side : Side) (number : ℕ) (item : Item) (moves : List Descriptor)
+    (source : Option ℕ) → link_router n link side ≡ None →
+    false ≡ (is_lone (messages.Item link side number item moves) && fits n sender (messages.Item link side number item moves) source)
+unfolding fits fits_item
+lone_without_router n sender link side number item moves source none =
+    sym (ap (λ o. is_lone (messages.Item link side number item moves) && fits_item n sender link side number item moves o) none
+    ∙ and_false (is_lone (messages.Item link side number item moves)))
+
+pub lone_without_place : (n : Node) (sender : ℕ) (link : LinkId) (side : Side) (number : ℕ) (item : Item) (moves : List Descriptor)
+    (source : Option ℕ) (s : ℕ) (r : Router) → link_router n link side ≡ Some (found s r) →
+    has_place_for r (outward_has r link side) number ≡ false →
+    false ≡ (is_lone (messages.Item link side number item moves) && fits n sender (messages.Item link side number item moves) source)
+unfolding fits fits_item
+lone_without_place n sender link side number item moves source s r here place =
+    sym (ap (λ o. is_lone (messages.Item link side number item moves) && fits_item n sender link side number item moves o) here
+    ∙ ap (λ b. is_lone (messages.Item link side number item moves) && (b && fits_from n sender item moves)) place
+    ∙ and_false (is_lone (messages.Item link side number item moves)))

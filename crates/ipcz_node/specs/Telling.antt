@@ -1,7 +1,8 @@
 -- The room that a node wants for what it tells other nodes.
-use Rattle.std.specs.Prelude.{◌<◌, Bool, true, false, Option, IfSome}
+use Rattle.std.specs.Prelude.{◌<◌, ◌&&◌, Bool, true, false, Option, IfSome, length, nat_eq}
 use Rattle.ipcz_base.specs.declared.link_end.LinkEnd.{LinkEnd}
 use Rattle.ipcz_base.specs.Indexed.{place_at}
+use Rattle.ipcz_base.specs.Items.{ends_in}
 use Rattle.ipcz_base.specs.declared.link_id.LinkId.TheVariants.{Central}
 use Rattle.ipcz_base.specs.declared.message.Message.{Message}
 use Rattle.ipcz_base.specs.declared.message.Message.TheVariants as messages
@@ -17,6 +18,11 @@ HasRoomToTell k sending = IfSome sending (λ s. 0 < place_at 0 k.room.outboxes s
 -- there is room for a message toward the node of a link end, where there is one
 abbrev pub HasRoomToward : RoomyNode → Option LinkEnd → Type 0
 HasRoomToward k end = IfSome end (λ e. 0 < place_at 0 k.room.outboxes e.other)
+
+-- whether a message brings an item without ends and moves
+unfoldable pub is_lone : Message → Bool
+is_lone (messages.Item link side number item moves) = nat_eq (length moves) 0 && nat_eq (length (ends_in item)) 0
+is_lone other = false
 
 -- whether a message brings an item
 unfoldable pub brings_item : Message → Bool

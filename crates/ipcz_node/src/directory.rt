@@ -363,7 +363,8 @@ impl Directory {
         let applied = router.apply(act, answer);
         let is = router.is_flagged();
         follow(&mut self.flagged, serial, was, is);
-        self.ends = self.ends.saturating_sub(ends_taken(act, &applied));
+        let taken = ends_taken(act, &applied);
+        self.ends = self.ends.saturating_sub(taken);
         applied
     }
 

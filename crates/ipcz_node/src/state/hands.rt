@@ -9,7 +9,8 @@ ghost use Rattle.ipcz_node.specs.RoomyNodes.{AreLow};
 ghost use Rattle.ipcz_node.specs.Hands.{has_moved, is_new_move, fit_moves, fits_from, fits_item, make_terminals, take_in, free_hand, fits, handle};
 ghost use Rattle.ipcz_node.specs.Hands.{deliver, message_lacks_serials, message_grows, grows_where_it_fits, serials_in, is_unfit};
 ghost use Rattle.ipcz_node.specs.Events.{hand_event};
-ghost use Rattle.ipcz_node.specs.Telling.{HasRoomFor, brings_item};
+ghost use Rattle.ipcz_node.specs.Telling.{HasRoomFor, brings_item, is_lone};
+ghost use Rattle.std.specs.Prelude.{◌&&◌, nat_eq, nat_lt};
 
 use super::NodeState;
 use crate::directory::count_ends;
@@ -525,16 +526,20 @@ impl NodeState {
     /// delivered.
     ///
     /// It answers `OutOfMemory` where there was no room for such an item and none was found; then nothing has changed.
-    #[tactic(auto, unfolding(crate::specs::Telling::brings_item))]
+    #[tactic(auto, unfolding(crate::specs::Telling::brings_item, crate::specs::Telling::is_lone))]
     pub fn deliver_at_once(&mut self, from: u8, message: &mut Message) -> Result<bool, Refusal>
         ensures taken { (source : Option ℕ) → IfOk result (λ taken. taken ≡ true → self.new.node ≡ deliver self.old.node from message.old source) }
         ensures allowed { (source : Option ℕ) →
             IfOk result (λ taken. taken ≡ true → message_lacks_serials self.old.node from message.old source ≡ false) }
         ensures fit { (source : Option ℕ) → IfOk result (λ taken. taken ≡ true → is_unfit self.old.node from message.old source ≡ false) }
+        ensures when { (source : Option ℕ) →
+            IfOk result (λ taken. taken ≡ (is_lone message.old && fits self.old.node from message.old source)) }
         ensures left { IfOk result (λ taken. taken ≡ false → (message.new ≡ message.old) × (self.new.node ≡ self.old.node)) }
         ensures why { (source : Option ℕ) →
             IfErr result (λ e. (e ≡ Refusal.OutOfMemory) × (message_lacks_serials self.old.node from message.old source ≡ false) ×
             (message_grows self.old.node from message.old source ≡ true)) }
+        ensures wanted { (source : Option ℕ) →
+            OnErr result ((is_lone message.old && fits self.old.node from message.old source) ≡ true) }
         ensures err { OnErr result ((message.new ≡ message.old) × (self.new.node ≡ self.old.node)) }
         ensures kept { brings_item message.old ≡ false → (result ≡ Ok false) × (self.new ≡ self.old) }
     {
@@ -566,11 +571,17 @@ impl NodeState {
             IfOk result (λ taken. taken ≡ true → message_lacks_serials self.old.node from (Message.Item link side n item.old moves.now) source ≡ false) }
         ensures fit { (source : Option ℕ) →
             IfOk result (λ taken. taken ≡ true → is_unfit self.old.node from (Message.Item link side n item.old moves.now) source ≡ false) }
+        ensures when { (source : Option ℕ) →
+            IfOk result (λ taken. taken ≡ (is_lone (Message.Item link side n item.old moves.now) &&
+            fits self.old.node from (Message.Item link side n item.old moves.now) source)) }
         ensures left { IfOk result (λ taken. taken ≡ false → (item.new ≡ item.old) × (self.new.node ≡ self.old.node)) }
         ensures why { (source : Option ℕ) →
             IfErr result (λ e. (e ≡ Refusal.OutOfMemory) ×
             (message_lacks_serials self.old.node from (Message.Item link side n item.old moves.now) source ≡ false) ×
             (message_grows self.old.node from (Message.Item link side n item.old moves.now) source ≡ true)) }
+        ensures wanted { (source : Option ℕ) →
+            OnErr result ((is_lone (Message.Item link side n item.old moves.now) &&
+            fits self.old.node from (Message.Item link side n item.old moves.now) source) ≡ true) }
         ensures err { OnErr result ((item.new ≡ item.old) × (self.new.node ≡ self.old.node)) }
     {
         self.counts_serials();
@@ -585,8 +596,10 @@ impl NodeState {
                 self.free_hand(from);
                 Ok(true)
             }
-            Err(Refusal::OutOfMemory) => Err(Refusal::OutOfMemory),
-            Err(_) => Ok(false),
+            Err(why) => match why {
+                Refusal::OutOfMemory => Err(why),
+                _ => Ok(false),
+            },
         }
     }
 
@@ -643,7 +656,8 @@ fn serials_in(message: &Message) -> usize
 
 // Whether an item of a number comes without ends and moves.
 fn is_alone(n: u64, item: &Item, moves: &Moves) -> bool
-    ensures { IsTrue result → (n < no_number) × (moves.now ≡ []) × (ends_in item.now ≡ []) }
+    ensures alone { IsTrue result → (n < no_number) × (moves.now ≡ []) × (ends_in item.now ≡ []) }
+    ensures same { result ≡ (nat_lt n no_number && (nat_eq (length moves.now) 0 && nat_eq (length (ends_in item.now)) 0)) }
 {
     let ends = count_ends(item);
     n < u64::MAX && moves.is_empty() && ends == 0

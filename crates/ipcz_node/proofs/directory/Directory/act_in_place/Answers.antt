@@ -24,18 +24,18 @@ invariant_of-self c =
     let w = c.apply-applied.new.self.router in
     let stays : StaysFiled r w = subst (StaysFiled r) (sym c.apply-applied.ensures.router)
     (act_stays r c.args.act c.args.answer c.requires.keeps) in
-    let fewer : ends_inside w + c.ends_taken.result ≤ ends_inside r =
+    let fewer : ends_inside w + c.ends_taken-taken.result ≤ ends_inside r =
     omega (
       arith,
       act_inside r c.args.act c.args.answer,
       ap ends_inside c.apply-applied.ensures.router,
-      c.ends_taken.ensures,
+      c.ends_taken-taken.ensures,
       ap (ends_taken c.args.act) c.apply-applied.ensures.output,
     ) in (
       flag_changed _ c.args.serial r w stays _ _ _ _ c.self.inside.room c.self.inside.more c.self.inside.routers.room
           (sym c.router_mut-router.ensures.value) c.self.invariant.0 _ _ c.is_flagged-was.ensures c.is_flagged-is.ensures
           c.follow.ensures.members c.follow.ensures.room,
-      hold_spent _ c.args.serial r w c.self.inside.ends _ c.ends_taken.result c.self.inside.room c.self.inside.held.room
+      hold_spent _ c.args.serial r w c.self.inside.ends _ c.ends_taken-taken.result c.self.inside.room c.self.inside.held.room
           c.self.inside.held.room (sym c.router_mut-router.ensures.value) fewer c.saturating_sub-self-inside.ensures (omega arith)
           c.self.invariant.1,
     )
