@@ -1,6 +1,6 @@
 -- Steps on the claim count: a claim of a proxy, one that finds no word, and the first half of an open.
-use Rattle.std.specs.Prelude.{◌≡◌, ◌<◌, ◌+◌, ℕ, Bool, true, false, nat_lt, [], ◌∷◌, length, slice_index, Some, None, refl, MatchBool, if◌then◌else◌}
-use Rattle.std.proofs.Common.{arith, ap, ◌∙◌, sym, subst, set, length-set, get_or-set_same, get_or-set_other, eqb, eqb-true}
+use Rattle.std.specs.Prelude.{◌≡◌, ◌≤◌, ◌<◌, ◌+◌, ℕ, Bool, true, false, nat_lt, [], ◌∷◌, length, slice_index, Some, None, refl, MatchBool, if◌then◌else◌}
+use Rattle.std.proofs.Common.{arith, ap, ◌∙◌, sym, inr, subst, set, length-set, get_or-set_same, get_or-set_other, eqb, eqb-true}
 use Rattle.std.proofs.lemmas.Bool.Decides.{nat_tests}
 use prog.Atomic.{either}
 use mathlib.Core.Option.{some}
@@ -28,6 +28,7 @@ use Rattle.ipcz_rule.specs.declared.view.Part.{Part}
 use Rattle.ipcz_rule.specs.Rule.{Slot, St, Mine, mailbox, Rules, with_part, saw}
 use Rattle.ipcz_rule.specs.Steps.{CanAct, claimed_part}
 use Rattle.ipcz_rule.specs.Kinds.{Follows, KeepsRule, IsTurns, turn_where, Claims, ClaimsForOpen, LoadsForClaim}
+use Rattle.ipcz_rule.proofs.Counts.{Sees}
 use Rattle.ipcz_rule.proofs.Moved.{ruled_with, spelled, keeps_sources}
 use Rattle.ipcz_rule.proofs.Touches.{NodeMoves, others_spell, own_spells, mails_show}
 use Rattle.ipcz_rule.proofs.Joins.{joined_same}
@@ -37,7 +38,7 @@ use Rattle.ipcz_rule.proofs.Wording.{sees}
 
 -- the rule after a step on the claim count that leaves n', where the own node is another
 module _ (count size : ℕ) (s : St) (r : Rules count size s) (id : ℕ) (v v' : View) (p p' : Part) (w' : World) (g' : Routes) (n' : ℕ)
-    (at : get_elem? s.views id ≡ some v) (is : v.parts ≡ p ∷ []) (is' : v'.parts ≡ p' ∷ []) (moves : NodeMoves r.world w' p.node p'.state) (words : (j : ℕ) → word_at w' j ≡ word_at r.world j) (claimed : n' ≡ w'.claimed)
+    (at : get_elem? s.views id ≡ some v) (is : v.parts ≡ p ∷ []) (is' : v'.parts ≡ p' ∷ []) (sight : Sees s.words v v') (moves : NodeMoves r.world w' p.node p'.state) (words : (j : ℕ) → word_at w' j ≡ word_at r.world j) (claimed : n' ≡ w'.claimed) (up : r.world.claimed ≤ n')
     (k : KeepsHands p p') (put : p'.put ≡ p.put) (got : p'.got ≡ p.got) (gone : p'.gone ≡ p.gone) (lawful : Lawful w' r.books g') (G : World → Books → Routes → Type 0) (known : G w' r.books g') where
   abbrev w : World
   w = r.world
@@ -49,7 +50,7 @@ module _ (count size : ℕ) (s : St) (r : Rules count size s) (id : ℕ) (v v' :
   boxes j = get_or-set_other s.words size (mailbox w j) n' 0 (λ e. let z = r.words in omega arith)
 
   pub claim_rules : (r' : Rules count size record { words = set s.words size n'; homes = s.homes; views = set s.views id v' }) × G r'.world r'.books r'.routes
-  claim_rules = ruled_with s r w' r.books g' (set s.words size n') s.homes id v v' p p' at is is' (record {
+  claim_rules = ruled_with s r w' r.books g' (set s.words size n') s.homes id v v' p p' at is is' sight (record {
     count = moves.count;
     size = moves.size;
     wide = length-set s.words size n';
@@ -57,6 +58,7 @@ module _ (count size : ℕ) (s : St) (r : Rules count size s) (id : ℕ) (v v' :
     links = λ j l. let l' : j < w.size = rw (← moves.size) l in get_or-set_other s.words size j n' 0 (λ e. let z = r.words in omega arith) ∙ (r.shows.links j l' ∙ ap bits_of (sym (words j)));
     sources = keeps_sources w w' words r.sources;
     claims = ap (slice_index (set s.words size n')) (moves.size ∙ r.words) ∙ (get_or-set_same s.words size n' 0 wide ∙ claimed);
+    grows = omega (arith, up, claimed);
     mail = mails_show s w w' (set s.words size n') p.node p'.state moves boxes r.owner r.shows;
     node = k.node;
     own = own_spells s w w' (set s.words size n') p.node p'.state moves boxes p p' refl k.node refl k.hand k.message k.probed (spelled s r id v p at is);
@@ -111,13 +113,13 @@ module _ (count size id : ℕ) (m : Mine) (p : Part) (serial : ℕ) (rt : Router
         v',
         keeps,
         tt,
-        claim_rules count size s r id m.0 v' p p' w' g' (c + 1) at is refl (claim_moves w (c + 1) p.node p'.state)
-            (λ j. word-set_node (set_claimed w (c + 1)) p.node p'.state j ∙ word-set_claimed w (c + 1) j) (sym (claimed-set_node (set_claimed w (c + 1)) p.node p'.state ∙ claimed-set_claimed w (c + 1)))
+        claim_rules count size s r id m.0 v' p p' w' g' (c + 1) at is refl (inr (size, refl)) (claim_moves w (c + 1) p.node p'.state)
+            (λ j. word-set_node (set_claimed w (c + 1)) p.node p'.state j ∙ word-set_claimed w (c + 1) j) (sym (claimed-set_node (set_claimed w (c + 1)) p.node p'.state ∙ claimed-set_claimed w (c + 1))) (omega (arith, found))
             (record { node = refl; hand = act_hand p.state serial acts.Claim (answers.Claimed c); message = refl; probed = refl }) refl refl refl done.0
             (AreTurns w r.books r.routes ((p.node, OfRouter serial acts.Claim) ∷ [])) done.1,
         refl,
       )
-  claims_by false e = (saw size n m.0, keeps, tt, sees s r size id m.0 (saw size n m.0) p at is is, refl)
+  claims_by false e = (saw size n m.0, keeps, tt, sees s r size id m.0 (saw size n m.0) p at is is (inr (size, refl)), refl)
 
   pub claimed_word : F (eqb n c)
   claimed_word = claims_by (eqb n c) refl
@@ -165,13 +167,13 @@ module _ (count size id : ℕ) (m : Mine) (p : Part) (serial : ℕ) (rt : Router
         v',
         keeps,
         tt,
-        claim_rules count size s r id m.0 v' p dry_part (set_node w p.node dry_part.state) g' seen_count at is refl (set_moves w p.node dry_part.state)
-            (word-set_node w p.node dry_part.state) (found ∙ sym (claimed-set_node w p.node dry_part.state))
+        claim_rules count size s r id m.0 v' p dry_part (set_node w p.node dry_part.state) g' seen_count at is refl (inr (size, refl)) (set_moves w p.node dry_part.state)
+            (word-set_node w p.node dry_part.state) (found ∙ sym (claimed-set_node w p.node dry_part.state)) (omega (arith, found))
             (record { node = refl; hand = act_hand p.state serial acts.Claim answers.NoWord; message = refl; probed = refl }) refl refl refl done.0
             (AreTurns w r.books r.routes ((p.node, OfRouter serial acts.Claim) ∷ [])) done.1,
         refl,
       )
-  dry_by false e = (saw size seen_count m.0, keeps, tt, sees s r size id m.0 (saw size seen_count m.0) p at is is, refl)
+  dry_by false e = (saw size seen_count m.0, keeps, tt, sees s r size id m.0 (saw size seen_count m.0) p at is is (inr (size, refl)), refl)
 
   pub dry_found : Dry (eqb seen_count size)
   dry_found = dry_by (eqb seen_count size) refl
@@ -219,12 +221,12 @@ module _ (count size id : ℕ) (m : Mine) (p : Part) (c : ℕ) (is : m.0.parts �
         v',
         keeps,
         tt,
-        (claim_rules count size s r id m.0 v' p p' w' r.routes (c + 1) at is refl (half_moves w (c + 1) p.node p'.state)
-            (λ j. word-set_claimed (set_node w p.node p'.state) (c + 1) j ∙ word-set_node w p.node p'.state j) (sym (claimed-set_claimed (set_node w p.node p'.state) (c + 1)))
+        (claim_rules count size s r id m.0 v' p p' w' r.routes (c + 1) at is refl (inr (size, refl)) (half_moves w (c + 1) p.node p'.state)
+            (λ j. word-set_claimed (set_node w p.node p'.state) (c + 1) j ∙ word-set_node w p.node p'.state j) (sym (claimed-set_claimed (set_node w p.node p'.state) (c + 1))) (omega (arith, found))
             (record { node = refl; hand = refl; message = refl; probed = refl }) refl refl refl lawful Anything tt).0,
         refl,
       )
-  half_by false e = (saw size count_found m.0, keeps, tt, (sees s r size id m.0 (saw size count_found m.0) p at is is).0, refl)
+  half_by false e = (saw size count_found m.0, keeps, tt, (sees s r size id m.0 (saw size count_found m.0) p at is is (inr (size, refl))).0, refl)
 
   pub half_claimed : Half (eqb count_found c)
   half_claimed = half_by (eqb count_found c) refl

@@ -7,7 +7,7 @@ use mathlib.Core.Logic.{dite}
 use native.Mathlib.Decide.{ℕ_discrete}
 use lib.ListN.{get_elem?}
 use Rattle.atomic_table.specs.Table.{Splits}
-use Rattle.atomic_table.proofs.Lists.{at_set, set_here, set_else, at_longer, at_last}
+use Rattle.atomic_table.proofs.Lists.{at_set, set_here, set_else, at_longer, at_last, at_snoc}
 use Rattle.ipcz_rule.specs.declared.view.View.{View}
 use Rattle.ipcz_rule.specs.declared.view.Part.{Part}
 use Rattle.ipcz_rule.specs.Rule.{Spells, InParts, Rules, puts_of, gets_of, drops_of}
@@ -155,6 +155,13 @@ deals count size id v p ps is others s r at =
       lengths = r.lengths;
       strays = r.strays;
       sources = r.sources;
+      counted = λ a x k n seat there. ⊎_elim
+          (λ (before : get_elem? (set s.views id (after_deal v)) a ≡ some x). ⊎_elim
+          (λ (t : (a ≡ id) × (after_deal v ≡ x)). r.counted id v k n at (ap (λ (z : View). get_elem? z.seen k) t.1 ∙ there))
+          (λ (t : (a ≢ id) × (get_elem? s.views a ≡ some x)). r.counted a x k n t.1 there)
+          (at_set s.views id a (after_deal v) x before))
+          (λ (new : dealt v ≡ x). r.counted id v k n at (ap (λ (z : View). get_elem? z.seen k) new ∙ there))
+          (at_snoc (set s.views id (after_deal v)) (dealt v) x a seat);
     }
 
 -- the parts of the nodes from one on

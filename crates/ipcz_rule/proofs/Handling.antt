@@ -1,6 +1,6 @@
 -- Handle: the message in hand is handled, and its slot goes home empty.
 use Rattle.std.specs.Prelude.{◌≡◌, ◌<◌, ◌+◌, ◌*◌, ℕ, Bool, true, false, nat_eq, List, [], ◌∷◌, length, slice_index, Option, Some, None, refl, if◌then◌else◌}
-use Rattle.std.proofs.Common.{arith, ap, ◌∙◌, sym, subst, set, length-set}
+use Rattle.std.proofs.Common.{arith, ap, ◌∙◌, sym, inl, subst, set, length-set}
 use Rattle.std.proofs.lemmas.Bool.Decides.{nat_tests}
 use mathlib.Core.Option.{some}
 use lib.ListN.{get_elem?}
@@ -108,7 +108,7 @@ hands_turns count size slots id i k from m p x rest is at_k at_i holds has seria
     let homes' = set s.homes k (some None) in
     let long : i < length s.words = omega (arith, index, inside, wide) in
     let same_three : nat_eq (slice_index s.words i) 3 ≡ nat_eq 0 3 = ap (λ q. nat_eq q 3) two in
-    let rules = mail_rules count size s r id m.0 (with_part p' m.0) p p' w' g' i k 0 homes' mails.Empty at is refl moves index inside (length-set s.homes k (some None))
+    let rules = mail_rules count size s r id m.0 (with_part p' m.0) p p' w' g' i k 0 homes' mails.Empty at is refl (inl refl) moves index inside (length-set s.homes k (some None))
     (λ j ne. set_else s.homes k j (some None) ne) (set_here s.homes k (some None) (omega (arith, inside, deep_is)), refl) refl r.books (joined_same s.views id m.0 (with_part p' m.0) p p' r.books at is refl refl refl refl r.joined)
     (empty_hand w' n (deliver p.state from x (trusted from x)).hand (deliver_hand p.state from x (trusted from x) holds))
     (λ t l. sp.probed t l ∙ three_stays s.words i 0 (mailbox w (way w n t)) long same_three)

@@ -110,4 +110,11 @@ joins count size id v other w s r at apart at_other =
       lengths = r.lengths;
       strays = r.strays;
       sources = r.sources;
+      counted = λ a x k n seat there. ⊎_elim
+          (λ (t : (a ≡ other) × (spent ≡ x)). absurd (some-ne-none (r.world.size, n) (sym (subst (λ (z : View). get_elem? z.seen k ≡ some (r.world.size, n)) (sym t.1) there))))
+          (λ (t : (a ≢ other) × (get_elem? vs1 a ≡ some x)). ⊎_elim
+          (λ (y : (a ≡ id) × (together v w ≡ x)). r.counted id v k n at (ap (λ (z : View). get_elem? z.seen k) y.1 ∙ there))
+          (λ (y : (a ≢ id) × (get_elem? s.views a ≡ some x)). r.counted a x k n y.1 there)
+          (at_set s.views id a (together v w) x t.1))
+          (at_set vs1 other a spent x seat);
     }

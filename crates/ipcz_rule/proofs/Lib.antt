@@ -2,6 +2,7 @@ pub mod Acting
 pub mod Adding
 pub mod Calling
 pub mod Claiming
+pub mod Counts
 pub mod Dealing
 pub mod Dropping
 pub mod Ending

@@ -20,6 +20,7 @@ use Rattle.ipcz_rule.specs.declared.view.View.{View}
 use Rattle.ipcz_rule.specs.declared.view.Part.{Part}
 use Rattle.ipcz_rule.specs.Rule.{Homes, St, has_number, mailbox, MailAt, Spells, Rules, Joined}
 use Rattle.ipcz_rule.specs.Kinds.{Follows}
+use Rattle.ipcz_rule.proofs.Counts.{Sees}
 use Rattle.ipcz_rule.proofs.Moved.{ruled_with, spelled, keeps_sources}
 use Rattle.ipcz_rule.proofs.Touches.{same_hand, same_box, same_way}
 
@@ -57,7 +58,7 @@ mail_moves w n x k mail = record {
 
 -- the rule after a step on the word i of the mailbox k, which shows this mail now
 module _ (count size : ℕ) (s : St) (r : Rules count size s) (id : ℕ) (v v' : View) (p p' : Part) (w' : World) (g' : Routes) (i k n' : ℕ) (homes : Homes) (mail : Mail)
-    (at : get_elem? s.views id ≡ some v) (is : v.parts ≡ p ∷ []) (is' : v'.parts ≡ p' ∷ []) (moves : MailMoves r.world w' p.node p'.state k mail)
+    (at : get_elem? s.views id ≡ some v) (is : v.parts ≡ p ∷ []) (is' : v'.parts ≡ p' ∷ []) (sight : Sees s.words v v') (moves : MailMoves r.world w' p.node p'.state k mail)
     (index : i ≡ mailbox r.world k) (inside : k < r.world.count * r.world.count)
     (deep : length homes ≡ length s.homes) (homes_else : (j : ℕ) → j ≢ k → get_elem? homes j ≡ get_elem? s.homes j) (shown : MailAt n' (get_elem? homes k) mail)
     (node : p'.node ≡ p.node) (books' : Books) (joined : Joined (set s.views id v') books')
@@ -114,7 +115,7 @@ module _ (count size : ℕ) (s : St) (r : Rules count size s) (id : ℕ) (v v' :
       (λ apart. rw (same_box w w' j moves.count moves.size, box_else j apart, homes_else j apart, moves.mails j apart) (r.shows.mail j (rw (← moves.count) l)))
 
   pub mail_rules : Follows count size s r turns record { words = set s.words i n'; homes = homes; views = set s.views id v' }
-  mail_rules = ruled_with s r w' books' g' (set s.words i n') homes id v v' p p' at is is' (record {
+  mail_rules = ruled_with s r w' books' g' (set s.words i n') homes id v v' p p' at is is' sight (record {
     count = moves.count;
     size = moves.size;
     wide = length-set s.words i n';
@@ -122,6 +123,7 @@ module _ (count size : ℕ) (s : St) (r : Rules count size s) (id : ℕ) (v v' :
     links = λ j l. let l' : j < w.size = rw (← moves.size) l in else j (λ e. let x = index in omega arith) ∙ (r.shows.links j l' ∙ ap bits_of (sym (moves.words j)));
     sources = keeps_sources w w' moves.words r.sources;
     claims = ap (slice_index (set s.words i n')) moves.size ∙ (else w.size (λ e. let x = index in omega arith) ∙ (r.shows.claims ∙ sym moves.claimed));
+    grows = let same = moves.claimed in omega (arith, same);
     mail = mails_shown;
     node = node;
     own = own;

@@ -1,5 +1,5 @@
 -- A step of a seat: what it owes, and the rule after it.
-use Rattle.std.specs.Prelude.{◌≡◌, ◌≢◌, ◌<◌, ◌+◌, ◌*◌, ℕ, zero, suc, Bool, true, false, cond, nat_eq, List, [], ◌∷◌, length, slice_index}
+use Rattle.std.specs.Prelude.{◌≡◌, ◌≢◌, ◌≤◌, ◌<◌, ◌+◌, ◌*◌, ℕ, zero, suc, Bool, true, false, cond, nat_eq, List, [], ◌∷◌, length, slice_index}
 use Rattle.std.proofs.Common.{ap, ◌∙◌, sym, subst, ⊎_elim, set}
 use mathlib.Core.Option.{some, some-injective, some-ne-none}
 use lib.ListN.{get_elem?}
@@ -15,6 +15,7 @@ use Rattle.ipcz_world.proofs.Whole.{lawful_worlds_stray_nothing}
 use Rattle.ipcz_rule.specs.declared.view.View.{View}
 use Rattle.ipcz_rule.specs.declared.view.Part.{Part}
 use Rattle.ipcz_rule.specs.Rule.{Homes, St, mailbox, MailAt, Spells, Shows, Joined, Rules}
+use Rattle.ipcz_rule.proofs.Counts.{Sees, keeps_counts}
 
 -- the one part of a list of one
 pub only : (ps : List Part) (p q : Part) (k : ℕ) → ps ≡ p ∷ [] → get_elem? ps k ≡ some q → p ≡ q
@@ -33,6 +34,7 @@ pub record Moves (s : St) (w w' : World) (words : List ℕ) (homes : Homes) (p p
   pub links : (j : ℕ) → j < w'.size → slice_index words j ≡ bits_of (word_at w' j)
   pub sources : (j : ℕ) → HasNode (word_at w' j).source
   pub claims : slice_index words w'.size ≡ w'.claimed
+  pub grows : w.claimed ≤ w'.claimed
   pub mail : (k : ℕ) → k < w'.count * w'.count → MailAt (slice_index words (mailbox w' k)) (get_elem? homes k) (mail_at w' k)
   pub node : p'.node ≡ p.node
   pub own : Spells words w' p'
@@ -61,10 +63,10 @@ shown s w w' owner words homes id v v' p p' r at is is' m =
 
 -- the rule after such a step, where the new world is lawful with the new books
 pub ruled : {count size : ℕ} (s : St) (r : Rules count size s) (w' : World) (b' : Books) (g' : Routes) (words : List ℕ) (homes : Homes) (id : ℕ) (v v' : View) (p p' : Part) →
-    get_elem? s.views id ≡ some v → v.parts ≡ p ∷ [] → v'.parts ≡ p' ∷ [] → Moves s r.world w' words homes p p' →
+    get_elem? s.views id ≡ some v → v.parts ≡ p ∷ [] → v'.parts ≡ p' ∷ [] → Sees s.words v v' → Moves s r.world w' words homes p p' →
     Joined (set s.views id v') b' → Lawful w' b' g' →
     Rules count size record { words = words; homes = homes; views = set s.views id v' }
-ruled s r w' b' g' words homes id v v' p p' at is is' m joined lawful = record {
+ruled s r w' b' g' words homes id v v' p p' at is is' sight m joined lawful = record {
   world = w';
   books = b';
   routes = g';
@@ -77,15 +79,16 @@ ruled s r w' b' g' words homes id v v' p p' at is is' m joined lawful = record {
   lengths = (lawful_worlds_stray_nothing w' b' g' lawful).0;
   strays = (lawful_worlds_stray_nothing w' b' g' lawful).1;
   sources = m.sources;
+  counted = keeps_counts s.views s.words r.world w' id v v' at sight m.size m.grows r.shows.claims r.counted;
 }
 
 -- the rule after it, with what is known of the world that is shown then
 pub ruled_with : {count size : ℕ} (s : St) (r : Rules count size s) (w' : World) (b' : Books) (g' : Routes) (words : List ℕ) (homes : Homes) (id : ℕ) (v v' : View) (p p' : Part) →
-    get_elem? s.views id ≡ some v → v.parts ≡ p ∷ [] → v'.parts ≡ p' ∷ [] → Moves s r.world w' words homes p p' →
+    get_elem? s.views id ≡ some v → v.parts ≡ p ∷ [] → v'.parts ≡ p' ∷ [] → Sees s.words v v' → Moves s r.world w' words homes p p' →
     Joined (set s.views id v') b' → Lawful w' b' g' → (G : World → Books → Routes → Type 0) → G w' b' g' →
     (r' : Rules count size record { words = words; homes = homes; views = set s.views id v' }) × G r'.world r'.books r'.routes
 unfolding ruled
-ruled_with s r w' b' g' words homes id v v' p p' at is is' m joined lawful G known = (ruled s r w' b' g' words homes id v v' p p' at is is' m joined lawful, known)
+ruled_with s r w' b' g' words homes id v v' p p' at is is' sight m joined lawful G known = (ruled s r w' b' g' words homes id v v' p p' at is is' sight m joined lawful, known)
 
 -- where the words stay, so do their sources
 pub keeps_sources : (w w' : World) → ((i : ℕ) → word_at w' i ≡ word_at w i) → ((i : ℕ) → HasNode (word_at w i).source) → (i : ℕ) → HasNode (word_at w' i).source

@@ -19,11 +19,12 @@ use Rattle.ipcz_world.proofs.Whole.{each_step_keeps_lawful}
 use Rattle.ipcz_rule.specs.declared.view.View.{View}
 use Rattle.ipcz_rule.specs.declared.view.Part.{Part}
 use Rattle.ipcz_rule.specs.Rule.{St, mailbox, Rules, with_part, with_state, saw}
+use Rattle.ipcz_rule.proofs.Counts.{Sees}
 use Rattle.ipcz_rule.proofs.Moved.{ruled, spelled, named_beside}
 use Rattle.ipcz_rule.proofs.Touches.{NodeMoves, others_spell, own_spells, mails_show}
 use Rattle.ipcz_rule.proofs.Joins.{joined_same}
 use Rattle.std.specs.Prelude.{nat_lt, if◌then◌else◌}
-use Rattle.std.proofs.Common.{inl}
+use Rattle.std.proofs.Common.{inl, inr}
 use Rattle.ipcz_base.specs.declared.side.Side.TheVariants.{A, B}
 use Rattle.ipcz_base.specs.declared.refusal.Refusal.TheVariants as refusals
 use Rattle.ipcz_base.specs.Ends.{end_at}
@@ -76,7 +77,7 @@ open_named = tt
 
 module _ (count size : ℕ) (s : St) (r : Rules count size s) (id : ℕ) (v v' : View) (p : Part) (i n' : ℕ)
     (at : get_elem? s.views id ≡ some v) (is : v.parts ≡ p ∷ []) (opening : p.state.opening ≡ Some i) (fine : serials_refusal p.state ≡ None) (inside : i < size)
-    (new : n' ≡ bits_of open_word) (is' : v'.parts ≡ with_state (open_node p.state i) p ∷ []) where
+    (new : n' ≡ bits_of open_word) (is' : v'.parts ≡ with_state (open_node p.state i) p ∷ []) (sight : Sees s.words v v') where
   abbrev w : World
   w = r.world
 
@@ -119,7 +120,7 @@ module _ (count size : ℕ) (s : St) (r : Rules count size s) (id : ℕ) (v v' :
   open_rules =
       let sp = spelled s r id v p at is in
       let moves = open_moves w i open_word p.node p'.state in
-      ruled s r w' r.books g' (set s.words i n') s.homes id v v' p p' at is is' (record {
+      ruled s r w' r.books g' (set s.words i n') s.homes id v v' p p' at is is' sight (record {
         count = moves.count;
         size = moves.size;
         wide = length-set s.words i n';
@@ -127,6 +128,7 @@ module _ (count size : ℕ) (s : St) (r : Rules count size s) (id : ℕ) (v v' :
         links = links;
         sources = sources;
         claims = ap (slice_index (set s.words i n')) moves.size ∙ (get_or-set_other s.words i w.size n' 0 (λ e. let l = below in omega arith) ∙ (r.shows.claims ∙ sym (claimed-set_word (set_node w p.node p'.state) i open_word ∙ claimed-set_node w p.node p'.state)));
+        grows = let same = claimed-set_word (set_node w p.node p'.state) i open_word ∙ claimed-set_node w p.node p'.state in omega (arith, same);
         mail = mails_show s w w' (set s.words i n') p.node p'.state moves boxes r.owner r.shows;
         node = refl;
         own = own_spells s w w' (set s.words i n') p.node p'.state moves boxes p p' refl refl refl refl refl refl sp;
@@ -144,4 +146,4 @@ opens count size slots id i m p is opening fine s r deep at small =
     let zero_here : n ≡ 0 = r.shows.links i (rw r.words inside) ∙ ap bits_of empty ∙ empty_bits in
     let v' = with_part (open_part i p) (saw i n m.0) in
     let G : Bool → Type 0 = λ b. Rules count size (stepped s i (either b (bits_of open_word) n) id m.1 v' keeps) in
-    (v', keeps, tt, subst G (sym (eq-eqb n 0 zero_here)) (open_rules count size s r id m.0 v' p i (bits_of open_word) at is opening fine inside refl refl), (zero_here, refl))
+    (v', keeps, tt, subst G (sym (eq-eqb n 0 zero_here)) (open_rules count size s r id m.0 v' p i (bits_of open_word) at is opening fine inside refl refl (inr (i, refl))), (zero_here, refl))

@@ -1,6 +1,8 @@
 -- What the rule says of the world that is shown and of each part.
-use Rattle.std.specs.Prelude.{◌≡◌, ◌<◌, ℕ, zero, suc, List, [], ◌∷◌, length, map, take, slice_get, Option, Some, refl}
-use Rattle.std.proofs.Common.{arith, ap, ◌∙◌, sym}
+use Rattle.std.specs.Prelude.{◌≡◌, ◌≤◌, ◌<◌, ℕ, zero, suc, List, [], ◌∷◌, length, map, take, slice_get, slice_index, Option, Some, refl}
+use Rattle.std.proofs.Common.{arith, ap, ◌∙◌, sym, subst}
+use mathlib.Core.Option.{some}
+use lib.ListN.{get_elem?}
 use Rattle.ipcz_base.specs.declared.item.Item.TheVariants.{Parcel}
 use Rattle.ipcz_base.specs.Ends.{opposite_end}
 use Rattle.ipcz_node.specs.Node.{Node}
@@ -14,7 +16,7 @@ use Rattle.ipcz_world.proofs.Whole.{lawful_worlds_give_the_headline, lawful_worl
 use Rattle.ipcz_world.proofs.Whole.{each_step_keeps_lawful, replies_plainly}
 use Rattle.ipcz_world.proofs.ranks.Rating.{turns_keep_rates}
 use Rattle.ipcz_world.proofs.ranks.Turning.{turns_are_bounded}
-use Rattle.ipcz_rule.specs.RuleLaws.{RuleGivesHeadline, RuleOwes, RuleBoundsTurns, ShownHasLengths, PartsAreSound, PartsHandsFit, LinksAreWords, PutsAreOnce, GetsFollowPuts}
+use Rattle.ipcz_rule.specs.RuleLaws.{RuleGivesHeadline, RuleOwes, RuleBoundsTurns, ShownHasLengths, PartsAreSound, PartsHandsFit, LinksAreWords, CountsWereReached, PutsAreOnce, GetsFollowPuts}
 use Rattle.ipcz_rule.proofs.Known.{sound_spelled, no_strays, found_word}
 use Rattle.ipcz_rule.specs.Steps.{trusted}
 use Rattle.ipcz_rule.proofs.FromLaws.{hand_sender, hand_source}
@@ -56,6 +58,14 @@ parts_hands_fit count size s r id v j p from x seat there hand message unfit =
 
 pub links_are_words : LinksAreWords
 links_are_words count size s r i inside = found_word s r i inside
+
+pub counts_were_reached : CountsWereReached
+counts_were_reached count size s r id v k n at seen =
+    let stands : slice_index s.words size ≡ r.world.claimed = ap (slice_index s.words) (sym r.words) ∙ r.shows.claims in
+    let low = r.counted id v k n at (subst (λ (c : ℕ). get_elem? v.seen k ≡ some (c, n)) (sym r.words) seen) in
+    let most : r.world.claimed ≤ r.world.size = (lists_have_lengths r.world r.books r.routes r.lawful).claimed in
+    let all = r.words in
+    (omega (arith, stands, low), omega (arith, stands, most, all))
 
 -- lists by index
 

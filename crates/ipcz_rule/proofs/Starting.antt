@@ -225,8 +225,13 @@ module _ (count size : ℕ) (limits : IsWithinLimits count size) where
     lengths = (lawful_worlds_stray_nothing w no_books (first_routes count) law).0;
     strays = (lawful_worlds_stray_nothing w no_books (first_routes count) law).1;
     sources = sources;
+    counted = λ id v k n at there. absurd (nothing_seen id v k n at there);
   }
     where
+      nothing_seen : (id : ℕ) (v : View) (k n : ℕ) → get_elem? (opening_view count ∷ []) id ≡ some v → get_elem? v.seen k ≡ some (size, n) → ⊥
+      nothing_seen (suc id) v k n at there = some-ne-none v (sym at)
+      nothing_seen zero v k n at there = some-ne-none (size, n) (sym (ap (λ (z : View). get_elem? z.seen k) (some-injective (opening_view count) v at) ∙ there))
+
       law : Lawful (new_world count size) no_books (first_routes count)
       law = world_starts_lawful count size limits
 

@@ -51,14 +51,14 @@ pub record KeepsHands (p p' : Part) : Type 0 where
   pub probed : p'.probed ≡ p.probed
 
 -- touch: any word of the table stays, and the own node changes
-touched : (count size id i : ℕ) (m : Mine) (p p' : Part) (v' : View) → m.0.parts ≡ p ∷ [] → v'.parts ≡ p' ∷ [] → KeepsHands p p' →
+touched : (count size id i : ℕ) (m : Mine) (p p' : Part) (v' : View) → m.0.parts ≡ p ∷ [] → v'.parts ≡ p' ∷ [] → v'.seen ≡ m.0.seen → KeepsHands p p' →
     (s : St) (r : Rules count size s) → get_elem? s.views id ≡ some m.0 → (G : World → Books → Routes → Type 0) → Touched r.world (set s.views id v') p p' G →
     (r' : Rules count size record { words = set s.words i (slice_index s.words i); homes = s.homes; views = set s.views id v' }) × G r'.world r'.books r'.routes
-touched count size id i m p p' v' is is' k s r at G t =
+touched count size id i m p p' v' is is' same_seen k s r at G t =
     let sp = spelled s r id m.0 p at is in
     let same : (j : ℕ) → slice_index s.words (mailbox r.world j) ≡ slice_index s.words (mailbox r.world j) = λ j. refl in
     let After : List ℕ → Type 0 = λ ws. (r' : Rules count size record { words = ws; homes = s.homes; views = set s.views id v' }) × G r'.world r'.books r'.routes in
-    let rules : After s.words = ruled_with s r t.world t.books t.routes s.words s.homes id m.0 v' p p' at is is' (record {
+    let rules : After s.words = ruled_with s r t.world t.books t.routes s.words s.homes id m.0 v' p p' at is is' (inl same_seen) (record {
       count = t.moves.count;
       size = t.moves.size;
       wide = refl;
@@ -66,6 +66,7 @@ touched count size id i m p p' v' is is' k s r at G t =
       links = λ j l. r.shows.links j (rw (← t.moves.size) l) ∙ ap bits_of (sym (t.words j));
       sources = keeps_sources r.world t.world t.words r.sources;
       claims = ap (slice_index s.words) t.moves.size ∙ (r.shows.claims ∙ sym t.claimed);
+      grows = let kept = t.claimed in omega (arith, kept);
       mail = mails_show s r.world t.world s.words p.node p'.state t.moves same r.owner r.shows;
       node = k.node;
       own = own_spells s r.world t.world s.words p.node p'.state t.moves same p p' refl k.node refl k.hand k.message k.probed sp;
@@ -78,21 +79,21 @@ abbrev pub Anything : World → Books → Routes → Type 0
 Anything w b g = Unit {0}
 
 -- touch, of a call
-pub touches : (count size slots id i : ℕ) (m : Mine) (p p' : Part) (v' : View) → m.0.parts ≡ p ∷ [] → v'.parts ≡ p' ∷ [] → KeepsHands p p' →
+pub touches : (count size slots id i : ℕ) (m : Mine) (p p' : Part) (v' : View) → m.0.parts ≡ p ∷ [] → v'.parts ≡ p' ∷ [] → v'.seen ≡ m.0.seen → KeepsHands p p' →
     ((s : St) (r : Rules count size s) → get_elem? s.views id ≡ some m.0 → p.node < r.world.count → node_at r.world p.node ≡ p.state → Touched r.world (set s.views id v') p p' Anything) →
     Allows (Rules count size) slots id m i (λ n. n) (λ n m'. m' ≡ (v', m.1))
-touches count size slots id i m p p' v' is is' k owes s r deep at small =
+touches count size slots id i m p p' v' is is' same_seen k owes s r deep at small =
     let sp = spelled s r id m.0 p at is in
-    (v', keeps, tt, (touched count size id i m p p' v' is is' k s r at Anything (owes s r at sp.inside sp.state)).0, refl)
+    (v', keeps, tt, (touched count size id i m p p' v' is is' same_seen k s r at Anything (owes s r at sp.inside sp.state)).0, refl)
 
 -- touch, of an act
-pub touches_turn : (count size slots id i : ℕ) (m : Mine) (p p' : Part) (v' : View) (act : Act) → m.0.parts ≡ p ∷ [] → v'.parts ≡ p' ∷ [] → KeepsHands p p' →
+pub touches_turn : (count size slots id i : ℕ) (m : Mine) (p p' : Part) (v' : View) (act : Act) → m.0.parts ≡ p ∷ [] → v'.parts ≡ p' ∷ [] → v'.seen ≡ m.0.seen → KeepsHands p p' →
     ((s : St) (r : Rules count size s) → get_elem? s.views id ≡ some m.0 → p.node < r.world.count → node_at r.world p.node ≡ p.state →
     Touched r.world (set s.views id v') p p' (AreTurns r.world r.books r.routes ((p.node, act) ∷ []))) →
     IsTurns count size slots id m i (λ n. n) (λ n. (p.node, act) ∷ []) (λ n m'. m' ≡ (v', m.1))
-touches_turn count size slots id i m p p' v' act is is' k owes s r deep at small =
+touches_turn count size slots id i m p p' v' act is is' same_seen k owes s r deep at small =
     let sp = spelled s r id m.0 p at is in
-    (v', keeps, tt, touched count size id i m p p' v' is is' k s r at (AreTurns r.world r.books r.routes ((p.node, act) ∷ [])) (owes s r at sp.inside sp.state), refl)
+    (v', keeps, tt, touched count size id i m p p' v' is is' same_seen k s r at (AreTurns r.world r.books r.routes ((p.node, act) ∷ [])) (owes s r at sp.inside sp.state), refl)
 
 -- the node of a number is another
 pub set_moves : (w : World) (n : ℕ) (x : Node) → NodeMoves w (set_node w n x) n x

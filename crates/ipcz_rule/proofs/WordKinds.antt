@@ -1,6 +1,6 @@
 -- The kinds of step on the word of a link, with the masks and the plans of ipcz_word; and loads.
 use Rattle.std.specs.Prelude.{◌≡◌, ◌<◌, ◌-◌, ℕ, true, eqb, bit_and, bit_or, Option, refl, slice_index}
-use Rattle.std.proofs.Common.{ap, ◌∙◌, sym, eqb-true}
+use Rattle.std.proofs.Common.{ap, ◌∙◌, sym, inr, eqb-true}
 use prog.Atomic.{either}
 use Rattle.atomic_table.specs.Table.{keeps}
 use Rattle.ipcz_base.specs.declared.side.Side.{Side}
@@ -53,7 +53,7 @@ unfolding word_after
 refusal_fits s o x h = ap bits_of (sym (by_refusal s o x (plan_of x s) (ap (λ z. is_refusal (plan_of z s)) (sym (sets_return x)) ∙ h)))
 
 pub loads_turns : Loads IsTurns
-loads_turns count size slots id i m p is s r deep at small = (saw i (slice_index s.words i) m.0, keeps, tt, sees s r i id m.0 (saw i (slice_index s.words i) m.0) p at is is, refl)
+loads_turns count size slots id i m p is s r deep at small = (saw i (slice_index s.words i) m.0, keeps, tt, sees s r i id m.0 (saw i (slice_index s.words i) m.0) p at is is (inr (i, refl)), refl)
 
 pub loads : Loads KeepsRule
 loads count size slots id i m p is s r deep at small =
@@ -108,7 +108,7 @@ loads_for_hand_turns count size slots id from old m p x is holds has named s r d
     let n : ℕ = slice_index s.words old in
     let t = old_link s r p from old x (spelled s r id m.0 p at is) holds has named in
     let found : word_of_bits n ≡ word_at w old = ap word_of_bits (r.shows.links old (rw r.words t.0)) ∙ sets_return (word_at w old) in
-    (saw old n m.0, keeps, tt, sees s r old id m.0 (saw old n m.0) p at is is, (ap (λ (z : Word). z.source) found ∙ t.1, refl))
+    (saw old n m.0, keeps, tt, sees s r old id m.0 (saw old n m.0) p at is is (inr (old, refl)), (ap (λ (z : Word). z.source) found ∙ t.1, refl))
 
 pub loads_for_hand : LoadsForHand KeepsRule
 loads_for_hand count size slots id from old m p x is holds has named s r deep at small =

@@ -1,6 +1,6 @@
 -- Steps on the word of a link: mark, wake, lock, wait, unlock, and loads of it.
 use Rattle.std.specs.Prelude.{◌≡◌, ◌<◌, ℕ, Bool, true, false, cond, nat_eq, List, [], ◌∷◌, length, slice_index, Option, Some, refl, MatchBool}
-use Rattle.std.proofs.Common.{arith, ap, ◌∙◌, sym, subst, set, length-set, get_or-set_same, get_or-set_other}
+use Rattle.std.proofs.Common.{arith, ap, ◌∙◌, sym, inr, subst, set, length-set, get_or-set_same, get_or-set_other}
 use Rattle.std.proofs.lemmas.Bool.Decides.{nat_tests}
 use Rattle.std.proofs.lemmas.List.{set-get_or}
 use mathlib.Core.Option.{some}
@@ -28,6 +28,7 @@ use Rattle.ipcz_rule.specs.declared.view.View.{View}
 use Rattle.ipcz_rule.specs.declared.view.Part.{Part}
 use Rattle.ipcz_rule.specs.Rule.{Slot, St, Mine, mailbox, Rules, with_part, saw}
 use Rattle.ipcz_rule.specs.Steps.{CanAct, is_on_word}
+use Rattle.ipcz_rule.proofs.Counts.{Sees}
 use Rattle.ipcz_rule.proofs.Known.{sound_part, named_part, found_word}
 use Rattle.ipcz_rule.specs.Kinds.{Follows, IsTurns, turn_where}
 use Rattle.ipcz_rule.proofs.Moved.{ruled_with, spelled, named_beside}
@@ -74,7 +75,7 @@ named_after x s o acts.Rest old new = old
 
 module _ (count size : ℕ) (s : St) (r : Rules count size s) (id : ℕ) (v v' : View) (p : Part) (serial : ℕ) (rt : Router) (act : RouterAct) (i n' : ℕ)
     (at : get_elem? s.views id ≡ some v) (is : v.parts ≡ p ∷ []) (can : CanAct p.state serial rt act) (on : is_on_word act ≡ true) (primary : primary_word rt ≡ Some i) (inside : i < size)
-    (new : n' ≡ bits_of (word_after (word_at r.world i) rt.end.side (source_of rt) act)) (is' : v'.parts ≡ plain_part serial act (word_answer (word_at r.world i) rt.end.side (source_of rt) act) p ∷ []) where
+    (new : n' ≡ bits_of (word_after (word_at r.world i) rt.end.side (source_of rt) act)) (is' : v'.parts ≡ plain_part serial act (word_answer (word_at r.world i) rt.end.side (source_of rt) act) p ∷ []) (sight : Sees s.words v v') where
   abbrev w : World
   w = r.world
 
@@ -118,7 +119,7 @@ module _ (count size : ℕ) (s : St) (r : Rules count size s) (id : ℕ) (v v' :
   word_rules =
       let sp = spelled s r id v p at is in
       let moves = word_moves w i y p.node p'.state in
-      ruled_with s r w' r.books (act_routes w r.routes p.node serial act) (set s.words i n') s.homes id v v' p p' at is is' (record {
+      ruled_with s r w' r.books (act_routes w r.routes p.node serial act) (set s.words i n') s.homes id v v' p p' at is is' sight (record {
         count = moves.count;
         size = moves.size;
         wide = length-set s.words i n';
@@ -126,6 +127,7 @@ module _ (count size : ℕ) (s : St) (r : Rules count size s) (id : ℕ) (v v' :
         links = links;
         sources = sources;
         claims = ap (slice_index (set s.words i n')) moves.size ∙ (get_or-set_other s.words i w.size n' 0 (λ e. let l = below in omega arith) ∙ (r.shows.claims ∙ sym (claimed-set_node (set_word w i y) p.node p'.state ∙ claimed-set_word w i y)));
+        grows = let same = claimed-set_node (set_word w i y) p.node p'.state ∙ claimed-set_word w i y in omega (arith, same);
         mail = mails_show s w w' (set s.words i n') p.node p'.state moves boxes r.owner r.shows;
         node = refl;
         own = own_spells s w w' (set s.words i n') p.node p'.state moves boxes p p' refl refl refl (act_hand p.state serial act (word_answer (word_at r.world i) rt.end.side (source_of rt) act)) refl refl sp;
@@ -136,14 +138,14 @@ same_moves : (w : World) (n : ℕ) (x : Node) → node_at w n ≡ x → NodeMove
 same_moves w n x is = record { count = refl; size = refl; here = is; apart = λ j ne. refl; mail = λ k. refl }
 
 -- nothing changes but what was seen
-pub sees : {count size : ℕ} (s : St) (r : Rules count size s) (i id : ℕ) (v v' : View) (p : Part) → get_elem? s.views id ≡ some v → v.parts ≡ p ∷ [] → v'.parts ≡ p ∷ [] →
+pub sees : {count size : ℕ} (s : St) (r : Rules count size s) (i id : ℕ) (v v' : View) (p : Part) → get_elem? s.views id ≡ some v → v.parts ≡ p ∷ [] → v'.parts ≡ p ∷ [] → Sees s.words v v' →
     Follows count size s r [] record { words = set s.words i (slice_index s.words i); homes = s.homes; views = set s.views id v' }
-sees {count} {size} s r i id v v' p at is is' =
+sees {count} {size} s r i id v v' p at is is' sight =
     let sp = spelled s r id v p at is in
     let w = r.world in
     let moves = same_moves w p.node p.state sp.state in
     let same : (j : ℕ) → slice_index s.words (mailbox w j) ≡ slice_index s.words (mailbox w j) = λ j. refl in
-    let rules : Follows count size s r [] record { words = s.words; homes = s.homes; views = set s.views id v' } = ruled_with s r w r.books r.routes s.words s.homes id v v' p p at is is' (record {
+    let rules : Follows count size s r [] record { words = s.words; homes = s.homes; views = set s.views id v' } = ruled_with s r w r.books r.routes s.words s.homes id v v' p p at is is' sight (record {
       count = refl;
       size = refl;
       wide = refl;
@@ -151,6 +153,7 @@ sees {count} {size} s r i id v v' p at is is' =
       links = r.shows.links;
       sources = r.sources;
       claims = r.shows.claims;
+      grows = omega arith;
       mail = r.shows.mail;
       node = refl;
       own = sp;
@@ -187,14 +190,14 @@ module _ (count size id : ℕ) (m : Mine) (p : Part) (serial : ℕ) (rt : Router
     keeps,
     tt,
     word_rules count size s r id m.0 (plain_view i n serial rt.end.side (source_of rt) act p m.0) p serial rt act i (f n) at is can on primary inside
-        (ap f spelled_word ∙ fits (word_at r.world i) (subst IsLinkNumber spelled_word (found_word s r i inside)) (ap hit (sym spelled_word) ∙ e)) (ap (λ x. plain_part serial act (word_answer x rt.end.side (source_of rt) act) p ∷ []) back),
+        (ap f spelled_word ∙ fits (word_at r.world i) (subst IsLinkNumber spelled_word (found_word s r i inside)) (ap hit (sym spelled_word) ∙ e)) (ap (λ x. plain_part serial act (word_answer x rt.end.side (source_of rt) act) p ∷ []) back) (inr (i, refl)),
     refl,
   )
   by false e = (
     saw i n m.0,
     keeps,
     tt,
-    subst (λ (k : ℕ). Follows count size s r [] (stepped s i k id m.1 (saw i n m.0) keeps)) (sym (stays n e)) (sees s r i id m.0 (saw i n m.0) p at is is),
+    subst (λ (k : ℕ). Follows count size s r [] (stepped s i k id m.1 (saw i n m.0) keeps)) (sym (stays n e)) (sees s r i id m.0 (saw i n m.0) p at is is (inr (i, refl))),
     refl,
   )
 

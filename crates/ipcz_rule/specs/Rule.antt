@@ -108,6 +108,10 @@ pub record Joined (views : List View) (b : Books) : Type 0 where
   pub gone : (e : End) (n : ℕ) → length (b.got e) ≤ n → n < read b e → InParts views drops_of (e, n)
   pub gone_only : (e : End) (n : ℕ) → InParts views drops_of (e, n) → (length (b.got e) ≤ n) × (n < read b e)
 
+-- no view has seen the claim count above what it is
+abbrev pub HasSeenCounts : List View → World → Type 0
+HasSeenCounts views w = (id : ℕ) (v : View) (k n : ℕ) → get_elem? views id ≡ some v → get_elem? v.seen k ≡ some (w.size, n) → n ≤ w.claimed
+
 -- the rule of a table for so many nodes and words
 pub record Rules (count size : ℕ) (s : St) : Type 0 where
   pub world : World
@@ -124,6 +128,7 @@ pub record Rules (count size : ℕ) (s : St) : Type 0 where
   pub strays : StrayLaw world
   -- each link word names a node as its source, or none
   pub sources : (i : ℕ) → HasNode (word_at world i).source
+  pub counted : HasSeenCounts s.views world
 
 -- the view with another part, its only one
 abbrev pub with_part : Part → View → View

@@ -63,6 +63,11 @@ OldLinksAreWords = (count size : ℕ) (s : St) (r : Rules count size s) (id : �
     get_elem? s.views id ≡ some v →
     get_elem? v.parts j ≡ some p → p.state.hand ≡ Some from → p.message ≡ Some x → old_word x ≡ Some old → old < size
 
+-- a claim count that a view has seen is at most the one that stands in the table, and that is at most the number of link words
+abbrev pub CountsWereReached : Type 0
+CountsWereReached = (count size : ℕ) (s : St) → Rules count size s → (id : ℕ) (v : View) (k n : ℕ) → get_elem? s.views id ≡ some v →
+    get_elem? v.seen k ≡ some (size, n) → (n ≤ slice_index s.words size) × (slice_index s.words size ≤ size)
+
 -- the views say of each number that an end has put at most one item
 abbrev pub PutsAreOnce : Type 0
 PutsAreOnce = (count size : ℕ) (s : St) → Rules count size s → (e : End) (n : ℕ) (x y : Item) → InParts s.views puts_of ((e, n), x) →

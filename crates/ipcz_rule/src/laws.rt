@@ -1,7 +1,7 @@
 //! What the rule of the table says (specs/RuleLaws). Each function does nothing: its contract is the law.
 
 ghost use Rattle.ipcz_rule.specs.RuleLaws.{RuleGivesHeadline, RuleOwes, ShownHasLengths, PartsAreSound, PartsHandsFit, LinksAreWords};
-ghost use Rattle.ipcz_rule.specs.RuleLaws.{OldLinksAreWords};
+ghost use Rattle.ipcz_rule.specs.RuleLaws.{OldLinksAreWords, CountsWereReached};
 ghost use Rattle.ipcz_rule.specs.RuleLaws.{RuleBoundsTurns};
 ghost use Rattle.ipcz_rule.specs.Races.{SightsAreLoads, RacedIsOvertaken, WaitedForStays};
 ghost use Rattle.ipcz_rule.specs.TableRuns.{StepsAreTurns, StepsAreBounded, OvertakenByActs};
@@ -42,6 +42,11 @@ pub fn each_link_has_a_link_word()
 /// The old link that an AcceptBypass in a node's hand names has a link word of the table.
 pub fn each_old_link_has_a_link_word()
     ensures { OldLinksAreWords }
+{}
+
+/// A claim count that a seat has seen was reached: the table shows no less, and no more than there are link words.
+pub fn each_count_seen_was_reached()
+    ensures { CountsWereReached }
 {}
 
 /// The views say of each number of an end at most one item that was put under it.
