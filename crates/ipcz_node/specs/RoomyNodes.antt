@@ -22,7 +22,7 @@ use Rattle.ipcz_node.specs.Rooms.{HasOutRoom}
 use Rattle.ipcz_base.specs.declared.end.End.{End}
 
 -- how many messages more each outbox takes, how many routers and links of others the directory, and how many descriptors are at hand,
--- and how many ends an event can tell
+-- how many messages more are kept as strays, and how many ends an event can tell
 pub record NodeRoom : Type 0 where
   pub outboxes : List ℕ
   pub routers : ℕ
@@ -31,6 +31,7 @@ pub record NodeRoom : Type 0 where
   pub out_rooms : FinMap nat_cmp ℕ
   pub moves : ℕ
   pub pending : ℕ
+  pub strays : ℕ
   pub event_ends : ℕ
 
 pub record RoomyNode : Type 0 where
@@ -65,6 +66,7 @@ pub record RoomIsKept (was is : NodeRoom) : Type 0 where
   pub out_rooms : (serial : ℕ) → HasOutRoom was.out_rooms serial → HasOutRoom is.out_rooms serial
   pub moves : was.moves ≤ is.moves
   pub pending : was.pending ≤ is.pending
+  pub strays : was.strays ≤ is.strays
   pub event_ends : was.event_ends ≤ is.event_ends
 
 -- a node with descriptors that are to travel

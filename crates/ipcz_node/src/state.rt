@@ -74,6 +74,7 @@ impl Model for NodeState {
         out_rooms = a.routers.out_rooms;
         moves = a.moves;
         pending = vec_capacity a.pending - vec_len a.pending;
+        strays = vec_capacity a.strays - vec_len a.strays;
         event_ends = a.event_ends;
       };
     } };

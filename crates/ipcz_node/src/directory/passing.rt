@@ -57,6 +57,7 @@ impl Directory {
         ensures why { (r : RouterRecord) → get self.old.filed.routers serial ≡ Some r →
             IfErr result (λ e. e ≡ accept_refusal r link side n) }
         ensures err { OnErr result ((item.new ≡ item.old) × (self.new.filed ≡ self.old.filed)) }
+        ensures kept { IfErr result (λ e. (e ≡ Refusal.OutOfMemory → ⊥) → self.new ≡ self.old) }
     {
         let router = self.routers.router_mut(serial);
         let was = router.is_flagged();
@@ -94,6 +95,7 @@ fn accept_from(
     ensures ok { OnOk result (router.new.router ≡ accept router.old.router (outward_has router.old.router link side) n item.old) }
     ensures why { IfErr result (λ e. e ≡ accept_refusal router.old.router link side n) }
     ensures err { OnErr result ((item.new ≡ item.old) × (router.new.router ≡ router.old.router)) }
+    ensures kept { IfErr result (λ e. (e ≡ Refusal.OutOfMemory → ⊥) → router.new ≡ router.old) }
 {
     match router.accept(link, side, n, mem::replace(item, Item::Mark)) {
         Ok(()) => Ok(()),

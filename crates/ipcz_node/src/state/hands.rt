@@ -84,6 +84,7 @@ impl NodeState {
     fn keep_stray(&mut self, message: Message) -> Result<(), (Refusal, Message)>
         ensures ok { OnOk result (self.new.node ≡ add_stray self.old.node message) }
         ensures why { IfErr result (λ e. e.0 ≡ Refusal.OutOfMemory) }
+        ensures full { 0 < self.old.room.strays → IsOk result }
         ensures err { IfErr result (λ e. (e.1 ≡ message) × (self.new.node ≡ self.old.node)) }
     {
         match self.strays.push(message) {
@@ -374,6 +375,7 @@ impl NodeState {
         ensures grows { message_grows self.old.node sender message source ≡ false → IsOk result }
         ensures full { fits self.old.node sender message source ≡ true → brings_item message ≡ false → HasRoomFor self.old message →
             message_lacks_serials self.old.node sender message source ≡ false → IsOk result }
+        ensures stray { fits self.old.node sender message source ≡ false → 0 < self.old.room.strays → IsOk result }
         ensures err { IfErr result (λ e. (e.1 ≡ message) × (self.new.node ≡ self.old.node)) }
     {
         if !has_place {
@@ -418,7 +420,7 @@ impl NodeState {
     /// A refused message is handed back, and nothing has changed. It is `NumbersEnd` where the message fits and would make
     /// more routers than serials are left for, and otherwise `OutOfMemory`. A message that makes nothing grow, as a Flush or a
     /// ProxyWillStop that fits, is never refused, nor is one that brings no item, fits, and has room for what it makes a router
-    /// take and tell.
+    /// take and tell, nor one that doesn't fit where there is room for a stray more.
     pub fn deliver(
         &mut self,
         from: u8,
@@ -434,6 +436,7 @@ impl NodeState {
         ensures grows { message_grows self.old.node from message source ≡ false → IsOk result }
         ensures full { fits self.old.node from message source ≡ true → brings_item message ≡ false → HasRoomFor self.old message →
             message_lacks_serials self.old.node from message source ≡ false → IsOk result }
+        ensures stray { fits self.old.node from message source ≡ false → 0 < self.old.room.strays → IsOk result }
         ensures err { IfErr result (λ e. (e.1 ≡ message) × (self.new.node ≡ self.old.node)) }
     {
         let (kind, link) = (kind_of(&message), link_asked(&message));
@@ -466,6 +469,7 @@ impl NodeState {
         ensures grows { message_grows self.old.node from message source ≡ false → IsOk result }
         ensures full { fits self.old.node from message source ≡ true → brings_item message ≡ false → HasRoomFor self.old message →
             message_lacks_serials self.old.node from message source ≡ false → IsOk result }
+        ensures stray { fits self.old.node from message source ≡ false → 0 < self.old.room.strays → IsOk result }
         ensures err { IfErr result (λ e. (e.1 ≡ message) × (self.new.node ≡ self.old.node)) }
     {
         let has_place = self.fits(from, &message, source);
@@ -489,6 +493,7 @@ impl NodeState {
         ensures grows { message_grows self.old.node from message source ≡ false → IsOk result }
         ensures full { fits self.old.node from message source ≡ true → brings_item message ≡ false → HasRoomFor self.old message →
             message_lacks_serials self.old.node from message source ≡ false → IsOk result }
+        ensures stray { fits self.old.node from message source ≡ false → 0 < self.old.room.strays → IsOk result }
         ensures err { IfErr result (λ e. (e.1 ≡ message) × (self.new.node ≡ self.old.node)) }
     {
         let mut message = message;
@@ -515,6 +520,7 @@ impl NodeState {
         ensures grows { message_grows self.old.node from message source ≡ false → IsOk result }
         ensures full { fits self.old.node from message source ≡ true → brings_item message ≡ false → HasRoomFor self.old message →
             message_lacks_serials self.old.node from message source ≡ false → IsOk result }
+        ensures stray { fits self.old.node from message source ≡ false → 0 < self.old.room.strays → IsOk result }
         ensures err { IfErr result (λ e. (e.1 ≡ message) × (self.new.node ≡ self.old.node)) }
     {
         let fits = self.fits(from, &message, source);
@@ -523,7 +529,7 @@ impl NodeState {
 
     /// Delivers a message from the node `from` as `deliver` does, but only an item without ends and moves that has its place at a router here,
     /// and tells whether it was one: what is left of the message counts for nothing then. Each other message stays as it is, to be
-    /// delivered.
+    /// delivered, and so does the node with all its room.
     ///
     /// It answers `OutOfMemory` where there was no room for such an item and none was found; then nothing has changed.
     #[tactic(auto, unfolding(crate::specs::Telling::brings_item, crate::specs::Telling::is_lone))]
@@ -534,14 +540,14 @@ impl NodeState {
         ensures fit { (source : Option ℕ) → IfOk result (λ taken. taken ≡ true → is_unfit self.old.node from message.old source ≡ false) }
         ensures when { (source : Option ℕ) →
             IfOk result (λ taken. taken ≡ (is_lone message.old && fits self.old.node from message.old source)) }
-        ensures left { IfOk result (λ taken. taken ≡ false → (message.new ≡ message.old) × (self.new.node ≡ self.old.node)) }
+        ensures left { IfOk result (λ taken. taken ≡ false → (message.new ≡ message.old) × (self.new ≡ self.old)) }
         ensures why { (source : Option ℕ) →
             IfErr result (λ e. (e ≡ Refusal.OutOfMemory) × (message_lacks_serials self.old.node from message.old source ≡ false) ×
             (message_grows self.old.node from message.old source ≡ true)) }
         ensures wanted { (source : Option ℕ) →
             OnErr result ((is_lone message.old && fits self.old.node from message.old source) ≡ true) }
         ensures err { OnErr result ((message.new ≡ message.old) × (self.new.node ≡ self.old.node)) }
-        ensures kept { brings_item message.old ≡ false → (result ≡ Ok false) × (self.new ≡ self.old) }
+        ensures other { brings_item message.old ≡ false → result ≡ Ok false }
     {
         match message {
             Message::Item {
@@ -574,7 +580,7 @@ impl NodeState {
         ensures when { (source : Option ℕ) →
             IfOk result (λ taken. taken ≡ (is_lone (Message.Item link side n item.old moves.now) &&
             fits self.old.node from (Message.Item link side n item.old moves.now) source)) }
-        ensures left { IfOk result (λ taken. taken ≡ false → (item.new ≡ item.old) × (self.new.node ≡ self.old.node)) }
+        ensures left { IfOk result (λ taken. taken ≡ false → (item.new ≡ item.old) × (self.new ≡ self.old)) }
         ensures why { (source : Option ℕ) →
             IfErr result (λ e. (e ≡ Refusal.OutOfMemory) ×
             (message_lacks_serials self.old.node from (Message.Item link side n item.old moves.now) source ≡ false) ×
@@ -620,6 +626,7 @@ impl NodeState {
         ensures grows { message_grows self.old.node from message source ≡ false → IsOk result }
         ensures full { fits self.old.node from message source ≡ true → brings_item message ≡ false → HasRoomFor self.old message →
             message_lacks_serials self.old.node from message source ≡ false → IsOk result }
+        ensures stray { fits self.old.node from message source ≡ false → 0 < self.old.room.strays → IsOk result }
         ensures err { IfErr result (λ e. (e.1 ≡ message) × (self.new.node ≡ self.old.node)) }
     {
         self.receive(from, message, source, has_place)?;

@@ -114,6 +114,7 @@ impl Router {
             OnOk result (self.new.router ≡ accept self.old.router from_outward n item) }
         ensures why { IfErr result (λ e. e.0 ≡ accept_refusal self.old.router link side n) }
         ensures err { IfErr result (λ e. (e.1 ≡ item) × (self.new.router ≡ self.old.router)) }
+        ensures kept { IfErr result (λ e. (e.0 ≡ Refusal.OutOfMemory → ⊥) → self.new ≡ self.old) }
         ensures full { let from_outward = outward_has self.old.router link side in
             IfErr result (λ e. e.0 ≡ Refusal.OutOfMemory → room_for self.old from_outward ≡ 0) }
         ensures room { LeavesRoomBut self.old self.new (outward_has self.old.router link side) }
@@ -200,6 +201,7 @@ impl Router {
         ensures ok { OnOk result (self.new.router ≡ accept_from_inward self.old.router n item) }
         ensures why { IfErr result (λ e. e.0 ≡ push_refusal self.old.router.out_queue n) }
         ensures err { IfErr result (λ e. (e.1 ≡ item) × (self.new.router ≡ self.old.router)) }
+        ensures kept { IfErr result (λ e. (e.0 ≡ Refusal.OutOfMemory → ⊥) → self.new ≡ self.old) }
         ensures full { IfErr result (λ e. e.0 ≡ Refusal.OutOfMemory → self.old.out_room ≡ 0) }
         ensures room { LeavesRoom self.old self.new 1 0 }
     {
@@ -216,6 +218,7 @@ impl Router {
         ensures ok { OnOk result (self.new.router ≡ accept_from_outward self.old.router n item) }
         ensures why { IfErr result (λ e. e.0 ≡ push_refusal self.old.router.in_queue n) }
         ensures err { IfErr result (λ e. (e.1 ≡ item) × (self.new.router ≡ self.old.router)) }
+        ensures kept { IfErr result (λ e. (e.0 ≡ Refusal.OutOfMemory → ⊥) → self.new ≡ self.old) }
         ensures full { IfErr result (λ e. e.0 ≡ Refusal.OutOfMemory → self.old.in_room ≡ 0) }
         ensures room { LeavesRoom self.old self.new 0 1 }
     {
