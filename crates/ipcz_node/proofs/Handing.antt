@@ -11,6 +11,8 @@ use Rattle.ipcz_base.specs.Limits.{last_number, no_number}
 use Rattle.ipcz_base.specs.declared.side.Side.{Side}
 use Rattle.ipcz_base.specs.declared.link_id.LinkId.{LinkId}
 use Rattle.ipcz_base.specs.declared.side.Side.TheVariants.{B}
+use Rattle.ipcz_router.specs.Router.{outward_has}
+use Rattle.ipcz_router.specs.Calls.{has_place_for}
 use Rattle.ipcz_node.specs.Node.{Node, Found, is_named, link_router}
 use Rattle.ipcz_node.specs.Hands.{fit_moves, fits_from, fits_item, fits, is_new_move, has_moved, grows_where_it_fits, serials_in}
 use Rattle.ipcz_base.specs.declared.message.Message.{Message}
@@ -66,6 +68,15 @@ pub item_placed : (n : Node) (sender : ℕ) (link : LinkId) (side : Side) (numbe
     fits n sender (messages.Item link side number item moves) None ≡ true → (number < no_number) × AreLow moves
 unfolding fits
 item_placed n sender link side number item moves h = fits_placed n sender link side number item moves (link_router n link side) h
+
+-- and has its place at the router that has its link
+pub item_has_place : (n : Node) (sender : ℕ) (link : LinkId) (side : Side) (number : ℕ) (item : Item) (moves : List Descriptor) (f : Found) →
+    link_router n link side ≡ Some f → fits n sender (messages.Item link side number item moves) None ≡ true →
+    has_place_for f.router (outward_has f.router link side) number ≡ true
+unfolding fits fits_item
+item_has_place n sender link side number item moves f here h =
+    first_of_both (has_place_for f.router (outward_has f.router link side) number) _
+    (sym (ap (fits_item n sender link side number item moves) here) ∙ h)
 
 -- and a router has its link
 pub item_found : (n : Node) (sender : ℕ) (link : LinkId) (side : Side) (number : ℕ) (item : Item) (moves : List Descriptor) →

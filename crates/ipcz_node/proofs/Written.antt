@@ -5,7 +5,7 @@ use Rattle.std.specs.Ordering.{nat_cmp, eq_by_cmp}
 use Rattle.std.specs.Cmp.{nat_cmp_total}
 use Rattle.std.specs.FinMap.{FinMap, get, insert, get-insert, remove, get-remove, same_map, nat_cmp-IsAntisymmetric}
 use Rattle.ipcz_seq.proofs.Pairs.{one_or_two, tied}
-use Rattle.ipcz_node.specs.Rooms.{HasOutRoom}
+use Rattle.ipcz_node.specs.Rooms.{HasQueueRoom}
 
 -- to write what stands there changes nothing
 pub insert_same : {V : Type 0} (m : FinMap nat_cmp V) (k : ℕ) (v : V) → get m k ≡ Some v → insert m k v ≡ m
@@ -23,7 +23,7 @@ insert_here m k v = get-insert nat_cmp_total m k v k ∙ rw (tied k k refl) refl
 
 -- a queue that had room has it still, where one of them got more
 pub room_kept : (rooms : FinMap nat_cmp ℕ) (k was is : ℕ) → get rooms k ≡ Some was → (0 < was → 0 < is) → (q : ℕ) →
-    HasOutRoom rooms q → HasOutRoom (insert rooms k is) q
+    HasQueueRoom rooms q → HasQueueRoom (insert rooms k is) q
 room_kept rooms k was is here more q has = subst HasRoom (sym (get-insert nat_cmp_total rooms k is q)) cases
   where
     HasRoom : Option ℕ → Type 0

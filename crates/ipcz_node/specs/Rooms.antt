@@ -1,5 +1,5 @@
 -- Routers with the room that is made for more.
-use Rattle.std.specs.Prelude.{ℕ, ◌+◌, ◌-◌, ◌<◌, List, IsSomeAnd}
+use Rattle.std.specs.Prelude.{ℕ, ◌+◌, ◌-◌, ◌<◌, Bool, if◌then◌else◌, List, IsSomeAnd}
 use Rattle.std.specs.Ordering.{nat_cmp}
 use Rattle.std.specs.FinMap.{FinMap, get, insert, remove}
 use Rattle.ipcz_router.specs.Router.{Router}
@@ -7,22 +7,29 @@ use Rattle.ipcz_router.specs.RoomyRouters.{RoomyRouter}
 use Rattle.ipcz_node.specs.Node.{EndSet, with_ends, without_ends}
 use Rattle.ipcz_base.specs.declared.end.End.{End}
 
--- the routers by serial, how many items more the out queue of each takes, the serial of the next one, and the room for more
+-- the routers by serial, how many items more the out queue and the in queue of each take, the serial of the next one, and the room for
+-- more
 pub record RoutersValue : Type 0 where
   pub routers : FinMap nat_cmp Router
   pub out_rooms : FinMap nat_cmp ℕ
+  pub in_rooms : FinMap nat_cmp ℕ
   pub next : ℕ
   pub room : ℕ
 
 -- the routers with this one under the serial
 abbrev pub put_router : RoutersValue → ℕ → RoomyRouter → RoutersValue
-put_router v serial r = record v { routers = insert v.routers serial r.router; out_rooms = insert v.out_rooms serial r.out_room }
+put_router v serial r = record v {
+  routers = insert v.routers serial r.router;
+  out_rooms = insert v.out_rooms serial r.out_room;
+  in_rooms = insert v.in_rooms serial r.in_room;
+}
 
 -- the routers with one more under the next serial
 abbrev pub routers_with : RoutersValue → RoomyRouter → RoutersValue
 routers_with v r = record {
   routers = insert v.routers v.next r.router;
   out_rooms = insert v.out_rooms v.next r.out_room;
+  in_rooms = insert v.in_rooms v.next r.in_room;
   next = v.next + 1;
   room = v.room - 1;
 }
@@ -35,11 +42,14 @@ pub record FiledRouters : Type 0 where
   pub room : ℕ
   pub links : ℕ
 
--- the same, how many items more the out queue of each router takes, and how many of the ends that wait there is room to hold
+-- the same, how many items more the out queue and the in queue of each router take, how many of the ends that wait there is room to hold,
+-- and how many ends more may come to wait
 pub record RoomyDirectory : Type 0 where
   pub filed : FiledRouters
   pub out_rooms : FinMap nat_cmp ℕ
+  pub in_rooms : FinMap nat_cmp ℕ
   pub ends : ℕ
+  pub more_ends : ℕ
 
 -- the routers with this one under the serial
 abbrev pub put_filed : FiledRouters → ℕ → Router → FiledRouters
@@ -65,6 +75,10 @@ hold_filed v ends = record v { held = with_ends v.held ends }
 abbrev pub release_filed : FiledRouters → List End → FiledRouters
 release_filed v ends = record v { held = without_ends v.held ends }
 
--- the out queue of the router of a serial takes an item more without memory
-abbrev pub HasOutRoom : FinMap nat_cmp ℕ → ℕ → Type 0
-HasOutRoom rooms serial = IsSomeAnd (get rooms serial) (λ room. 0 < room)
+-- of the queues of one kind, that of the router of a serial takes an item more without memory
+abbrev pub HasQueueRoom : FinMap nat_cmp ℕ → ℕ → Type 0
+HasQueueRoom rooms serial = IsSomeAnd (get rooms serial) (λ room. 0 < room)
+
+-- how many items more the queues take that an item comes into, over a link of the outward edge or not
+abbrev pub rooms_for : FinMap nat_cmp ℕ → FinMap nat_cmp ℕ → Bool → FinMap nat_cmp ℕ
+rooms_for in_rooms out_rooms from_outward = if from_outward then in_rooms else out_rooms

@@ -18,20 +18,27 @@ use Rattle.ipcz_node.specs.Node.{Node, EndSet, router_in, terminal_of}
 use Rattle.ipcz_node.specs.Acts.{first_of, has_mail_for}
 use Rattle.ipcz_node.specs.Events.{moved_by}
 use Rattle.ipcz_node.specs.Sends.{Transfer, moved_ends}
-use Rattle.ipcz_node.specs.Rooms.{HasOutRoom}
+use Rattle.ipcz_node.specs.Rooms.{HasQueueRoom}
 use Rattle.ipcz_base.specs.declared.end.End.{End}
 
--- how many messages more each outbox takes, how many routers and links of others the directory, and how many descriptors are at hand,
--- how many messages more are kept as strays, and how many ends an event can tell
+-- the room that a node has made
 pub record NodeRoom : Type 0 where
+  -- how many messages more each outbox takes
   pub outboxes : List ℕ
+  -- how many routers and links of others the directory takes
   pub routers : ℕ
   pub links : ℕ
-  -- how many items more the out queue of each router takes
+  -- how many items more the out queue and the in queue of each router take
   pub out_rooms : FinMap nat_cmp ℕ
+  pub in_rooms : FinMap nat_cmp ℕ
+  -- how many ends more may come to wait in the in queues
+  pub ends : ℕ
+  -- how many descriptors are at hand
   pub moves : ℕ
+  -- how many ends more can be left to be closed, and how many messages more be kept as strays
   pub pending : ℕ
   pub strays : ℕ
+  -- how many ends an event can tell
   pub event_ends : ℕ
 
 pub record RoomyNode : Type 0 where
@@ -58,12 +65,14 @@ pub record RoomyEnds : Type 0 where
   pub ends : EndSet
   pub room : ℕ
 
--- no room is given up: what there was room for there is room for still
+-- no room is given up: what there was room for there is room for still. The ends of routers that room is made for may come out of the room
+-- for ends that come with items, which isn't told of here
 pub record RoomIsKept (was is : NodeRoom) : Type 0 where
   pub outboxes : (to : ℕ) → place_at 0 was.outboxes to ≤ place_at 0 is.outboxes to
   pub routers : was.routers ≤ is.routers
   pub links : was.links ≤ is.links
-  pub out_rooms : (serial : ℕ) → HasOutRoom was.out_rooms serial → HasOutRoom is.out_rooms serial
+  pub out_rooms : (serial : ℕ) → HasQueueRoom was.out_rooms serial → HasQueueRoom is.out_rooms serial
+  pub in_rooms : (serial : ℕ) → HasQueueRoom was.in_rooms serial → HasQueueRoom is.in_rooms serial
   pub moves : was.moves ≤ is.moves
   pub pending : was.pending ≤ is.pending
   pub strays : was.strays ≤ is.strays
@@ -115,4 +124,4 @@ CanOpen k = (2 ≤ k.room.routers) × (k.node.next_router + 2 ≤ no_number)
 
 -- the terminal of an end, where there is one, takes an item more without memory
 abbrev pub TakesMore : RoomyNode → End → Type 0
-TakesMore k at = IfSome (terminal_of k.node at) (λ f. HasOutRoom k.room.out_rooms f.serial)
+TakesMore k at = IfSome (terminal_of k.node at) (λ f. HasQueueRoom k.room.out_rooms f.serial)

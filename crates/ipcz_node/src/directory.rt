@@ -13,7 +13,7 @@ ghost use Rattle.std.specs.Prelude.{is_none, IsOk};
 ghost use Rattle.std.specs.Prelude.{[], ◌∷◌};
 ghost use Rattle.ipcz_base.specs.Ends.{end_at};
 ghost use Rattle.ipcz_node.specs.Finding.{IsFound, IsNext, is_terminal_in};
-ghost use Rattle.ipcz_node.specs.Rooms.{put_filed, link_filed, add_filed, drop_filed, hold_filed};
+ghost use Rattle.ipcz_node.specs.Rooms.{put_filed, link_filed, add_filed, drop_filed, hold_filed, HasQueueRoom, rooms_for};
 ghost use Rattle.ipcz_node.specs.Directories.{ends_brought, ends_taken};
 ghost use Rattle.ipcz_node.specs.Directories.{keeps_links};
 ghost use Rattle.std.specs.FinSet as sets;
@@ -61,6 +61,7 @@ impl Model for Directory {
     ghost use Rattle.std.specs.Coded.{codes};
     ghost use Rattle.ipcz_node.specs.Rooms.{RoomyDirectory};
     ghost use Rattle.ipcz_node.specs.Directories.{AreFiled, HaveRoom, CanHold};
+    ghost use Rattle.std.specs.Prelude.{◌+◌, ◌-◌};
 
     ghost Value = { RoomyDirectory };
 
@@ -75,7 +76,9 @@ impl Model for Directory {
         links = a.more;
       };
       out_rooms = a.routers.out_rooms;
+      in_rooms = a.routers.in_rooms;
       ends = a.ends;
+      more_ends = a.held.room - (a.ends + a.room);
     } };
 
     ghost invariant = { λ a. (AreFiled a.routers.routers a.links.members a.terminals.members a.flagged.members ×
@@ -134,8 +137,9 @@ impl Directory {
         ensures held { self.new.filed.held ≡ self.old.filed.held }
         ensures next { self.new.filed.next ≡ self.old.filed.next }
         ensures out_rooms { self.new.out_rooms ≡ self.old.out_rooms }
+        ensures in_rooms { self.new.in_rooms ≡ self.old.in_rooms }
         ensures ends { self.new.ends ≡ self.old.ends }
-        ensures full { routers ≤ self.old.filed.room → links ≤ self.old.filed.links → IsOk result }
+        ensures full { routers ≤ self.old.filed.room → links ≤ self.old.filed.links → IsOk result × (self.new ≡ self.old) }
         ensures kept { (self.old.filed.room ≤ self.new.filed.room) × (self.old.filed.links ≤ self.new.filed.links) }
     {
         if routers <= self.room && links <= self.more {
@@ -154,6 +158,7 @@ impl Directory {
         ensures held { self.new.filed.held ≡ self.old.filed.held }
         ensures next { self.new.filed.next ≡ self.old.filed.next }
         ensures out_rooms { self.new.out_rooms ≡ self.old.out_rooms }
+        ensures in_rooms { self.new.in_rooms ≡ self.old.in_rooms }
         ensures ends { self.new.ends ≡ self.old.ends }
         ensures kept { (self.old.filed.room ≤ self.new.filed.room) × (self.old.filed.links ≤ self.new.filed.links) }
     {
@@ -291,6 +296,9 @@ impl Directory {
             IfErr result (λ e. e.0 ≡ accept_refusal r link side n) }
         ensures ends { (r : RouterRecord) → get self.old.filed.routers serial ≡ Some r →
             OnOk result (self.new.ends ≡ self.old.ends + ends_brought r (outward_has r link side) n item) }
+        ensures full { (r : RouterRecord) → get self.old.filed.routers serial ≡ Some r →
+            HasQueueRoom (rooms_for self.old.in_rooms self.old.out_rooms (outward_has r link side)) serial →
+            ends_brought r (outward_has r link side) n item ≤ self.old.more_ends → IfErr result (λ e. e.0 ≡ Refusal.OutOfMemory → ⊥) }
         ensures err { IfErr result (λ e. (e.1 ≡ item) × (self.new.filed ≡ self.old.filed)) }
         ensures err_ends { OnErr result (self.new.ends ≡ self.old.ends) }
     {

@@ -36,6 +36,13 @@ impl HeldEnds {
         }
     }
 
+    /// How many ends more there is room for.
+    pub fn room(&self) -> usize
+        ensures { result ≡ self.now.room }
+    {
+        self.ends.room()
+    }
+
     /// Makes room for so many ends more.
     pub fn reserve(&mut self, more: usize) -> Result<(), AllocError>
         ensures ok { OnOk result (more ≤ self.new.room) }

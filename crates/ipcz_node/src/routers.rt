@@ -35,6 +35,7 @@ impl Model for Routers {
     ghost view = { λ a. record {
       routers = map_by (λ x. x.router) a.entries.items;
       out_rooms = map_by (λ x. x.out_room) a.entries.items;
+      in_rooms = map_by (λ x. x.in_room) a.entries.items;
       next = a.next;
       room = vec_capacity a.entries - vec_len a.entries;
     } };
@@ -70,6 +71,7 @@ impl Routers {
         ensures* writes_back { sem 𝓛 (LendsRouter self.entry serial result) }
         ensures value { Some result.now.router ≡ get self.old.routers serial }
         ensures room { Some result.now.out_room ≡ get self.old.out_rooms serial }
+        ensures in_room { Some result.now.in_room ≡ get self.old.in_rooms serial }
     {
         let Some(place) = place_of(&self.entries, serial) else {
             unreachable!()
@@ -101,6 +103,7 @@ impl Routers {
         ensures ok { OnOk result (more ≤ self.new.room) }
         ensures routers { self.new.routers ≡ self.old.routers }
         ensures out_rooms { self.new.out_rooms ≡ self.old.out_rooms }
+        ensures in_rooms { self.new.in_rooms ≡ self.old.in_rooms }
         ensures next { self.new.next ≡ self.old.next }
         ensures room { self.old.room ≤ self.new.room }
         ensures succeeds { more ≤ self.old.room → IsOk result }

@@ -36,6 +36,13 @@ impl<T: Ord + Drop> SortedSet<T> {
         }
     }
 
+    /// How many more there is room for.
+    pub fn room(&self) -> usize
+        ensures { result ≡ self.now.room }
+    {
+        self.items.capacity() - self.items.len()
+    }
+
     /// Makes room for so many more.
     pub fn reserve(&mut self, more: usize) -> Result<(), AllocError>
         ensures ok { OnOk result (more ≤ self.new.room) }

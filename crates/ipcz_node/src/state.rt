@@ -72,6 +72,8 @@ impl Model for NodeState {
         routers = a.routers.filed.room;
         links = a.routers.filed.links;
         out_rooms = a.routers.out_rooms;
+        in_rooms = a.routers.in_rooms;
+        ends = a.routers.more_ends;
         moves = a.moves;
         pending = vec_capacity a.pending - vec_len a.pending;
         strays = vec_capacity a.strays - vec_len a.strays;

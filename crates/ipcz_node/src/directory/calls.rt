@@ -5,7 +5,7 @@ ghost use Rattle.ipcz_base.specs.declared.item.Item.{Item};
 ghost use Rattle.ipcz_seq.specs.Queue.{current_item};
 ghost use Rattle.ipcz_router.specs.Router.{Router as RouterRecord, IsOpenTerminal};
 ghost use Rattle.ipcz_router.specs.Calls.{next_number, put_item, router_put_refusal, router_get_refusal, take_item};
-ghost use Rattle.ipcz_node.specs.Rooms.{put_filed, hold_filed, release_filed, HasOutRoom};
+ghost use Rattle.ipcz_node.specs.Rooms.{put_filed, hold_filed, release_filed, HasQueueRoom};
 ghost use Rattle.std.specs.FinSet as sets;
 ghost use Rattle.std.specs.Prelude.{IsOk};
 ghost use Rattle.ipcz_router.specs.Closing.{close_router};
@@ -28,7 +28,7 @@ impl Directory {
         ensures why { (r : RouterRecord) → get self.old.filed.routers serial ≡ Some r →
             IfErr result (λ e. e.0 ≡ unwrap_or (router_put_refusal r) Refusal.OutOfMemory) }
         ensures full { (r : RouterRecord) → get self.old.filed.routers serial ≡ Some r → router_put_refusal r ≡ None →
-            HasOutRoom self.old.out_rooms serial → IsOk result }
+            HasQueueRoom self.old.out_rooms serial → IsOk result }
         ensures err { IfErr result (λ e. (e.1 ≡ parcel) × (self.new.filed ≡ self.old.filed)) }
     {
         let router = self.routers.router_mut(serial);
@@ -72,7 +72,7 @@ impl Directory {
         ensures number { (r : RouterRecord) → get self.old.filed.routers serial ≡ Some r → IfOk result (λ n. n ≡ next_number r) }
         ensures ok { (r : RouterRecord) → get self.old.filed.routers serial ≡ Some r →
             OnOk result (self.new.filed ≡ put_filed self.old.filed serial (close_router r)) }
-        ensures full { HasOutRoom self.old.out_rooms serial → IsOk result }
+        ensures full { HasQueueRoom self.old.out_rooms serial → IsOk result }
         ensures err { IfErr result (λ e. (e ≡ Refusal.OutOfMemory) × (self.new.filed ≡ self.old.filed)) }
     {
         let router = self.routers.router_mut(serial);
@@ -95,10 +95,11 @@ impl Directory {
     #[tactic(auto, using(crate::proofs::Written::insert_same, crate::proofs::Written::insert_here))]
     pub fn reserve_out(&mut self, serial: u64) -> Result<(), Refusal>
         requires { is_some (get self.old.filed.routers serial) ≡ true }
-        ensures ok { OnOk result (HasOutRoom self.new.out_rooms serial) }
+        ensures ok { OnOk result (HasQueueRoom self.new.out_rooms serial) }
         ensures filed { self.new.filed ≡ self.old.filed }
-        ensures full { HasOutRoom self.old.out_rooms serial → IsOk result }
-        ensures kept { (other : ℕ) → HasOutRoom self.old.out_rooms other → HasOutRoom self.new.out_rooms other }
+        ensures full { HasQueueRoom self.old.out_rooms serial → IsOk result }
+        ensures kept { (other : ℕ) → HasQueueRoom self.old.out_rooms other → HasQueueRoom self.new.out_rooms other }
+        ensures in_rooms { self.new.in_rooms ≡ self.old.in_rooms }
         ensures err { IfErr result (λ e. e ≡ Refusal.OutOfMemory) }
     {
         self.routers.router_mut(serial).reserve_close()

@@ -9,7 +9,8 @@ ghost use Rattle.ipcz_router.specs.Calls.{accept, accept_refusal, has_place_for}
 ghost use Rattle.ipcz_router.specs.ActTable.{may_take};
 ghost use Rattle.ipcz_router.specs.ActEffects.{apply, output_of};
 ghost use Rattle.ipcz_router.specs.Carrying.{carried_by};
-ghost use Rattle.ipcz_node.specs.Rooms.{put_filed};
+ghost use Rattle.ipcz_router.specs.RoomyRouters.{room_for};
+ghost use Rattle.ipcz_node.specs.Rooms.{put_filed, HasQueueRoom, rooms_for};
 
 use super::Directory;
 use super::filing::follow;
@@ -56,6 +57,9 @@ impl Directory {
             OnOk result (self.new.filed ≡ put_filed self.old.filed serial (accept r (outward_has r link side) n item.old)) }
         ensures why { (r : RouterRecord) → get self.old.filed.routers serial ≡ Some r →
             IfErr result (λ e. e ≡ accept_refusal r link side n) }
+        ensures full { (r : RouterRecord) → get self.old.filed.routers serial ≡ Some r →
+            HasQueueRoom (rooms_for self.old.in_rooms self.old.out_rooms (outward_has r link side)) serial →
+            IfErr result (λ e. e ≡ Refusal.OutOfMemory → ⊥) }
         ensures err { OnErr result ((item.new ≡ item.old) × (self.new.filed ≡ self.old.filed)) }
         ensures kept { IfErr result (λ e. (e ≡ Refusal.OutOfMemory → ⊥) → self.new ≡ self.old) }
     {
@@ -94,6 +98,7 @@ fn accept_from(
     ensures place { OnOk result (has_place_for router.old.router (outward_has router.old.router link side) n ≡ true) }
     ensures ok { OnOk result (router.new.router ≡ accept router.old.router (outward_has router.old.router link side) n item.old) }
     ensures why { IfErr result (λ e. e ≡ accept_refusal router.old.router link side n) }
+    ensures full { IfErr result (λ e. e ≡ Refusal.OutOfMemory → room_for router.old (outward_has router.old.router link side) ≡ 0) }
     ensures err { OnErr result ((item.new ≡ item.old) × (router.new.router ≡ router.old.router)) }
     ensures kept { IfErr result (λ e. (e ≡ Refusal.OutOfMemory → ⊥) → router.new ≡ router.old) }
 {

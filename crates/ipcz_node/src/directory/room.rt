@@ -18,12 +18,12 @@ pub(super) fn make_room(
 ) -> Option<usize>
     requires { ends + beside ≤ held.old.room }
     ensures some { IfSome result (λ all. (all ≡ ends + more) × (all + beside ≤ held.new.room)) }
-    ensures none { IfNone result (0 < more) }
+    ensures none { IfNone result (held.old.room < ends + beside + more) }
     ensures ends { held.new.ends ≡ held.old.ends }
     ensures room { held.old.room ≤ held.new.room }
 {
-    if more == 0 {
-        return Some(ends);
+    if more <= held.room() - ends - beside {
+        return Some(ends + more);
     }
     let all = sum(ends, more)?;
     match held.reserve(sum(all, beside)?) {

@@ -52,7 +52,11 @@ impl NodeState {
         ensures node { (r : RouterRecord) → router_in self.old.node serial ≡ Some r →
             self.new.node ≡ keep_or_drop self.old.node serial (apply r act answer) act }
         ensures output { (r : RouterRecord) → router_in self.old.node serial ≡ Some r → result ≡ output_of r act }
-        ensures room { self.new.room ≡ record self.old.room { out_rooms = self.new.room.out_rooms } }
+        ensures room { self.new.room ≡ record self.old.room {
+          out_rooms = self.new.room.out_rooms;
+          in_rooms = self.new.room.in_rooms;
+          ends = self.new.room.ends;
+        } }
         ensures number { self.new.node.number ≡ self.old.node.number }
         ensures serial { self.new.node.next_peripheral ≡ self.old.node.next_peripheral }
     {

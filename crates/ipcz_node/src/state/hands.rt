@@ -9,7 +9,7 @@ ghost use Rattle.ipcz_node.specs.RoomyNodes.{AreLow};
 ghost use Rattle.ipcz_node.specs.Hands.{has_moved, is_new_move, fit_moves, fits_from, fits_item, make_terminals, take_in, free_hand, fits, handle};
 ghost use Rattle.ipcz_node.specs.Hands.{deliver, message_lacks_serials, message_grows, grows_where_it_fits, serials_in, is_unfit};
 ghost use Rattle.ipcz_node.specs.Events.{hand_event};
-ghost use Rattle.ipcz_node.specs.Telling.{HasRoomFor, brings_item, is_lone};
+ghost use Rattle.ipcz_node.specs.Telling.{HasRoomFor, HasRoomForItem, brings_item, is_lone};
 ghost use Rattle.std.specs.Prelude.{◌&&◌, nat_eq, nat_lt};
 
 use super::NodeState;
@@ -167,6 +167,9 @@ impl NodeState {
             OnOk result (has_place_for r (outward_has r link side) n ≡ true) }
         ensures ok { (r : RouterRecord) → router_in self.old.node serial ≡ Some r →
             OnOk result (self.new.node ≡ take_in self.old.node sender link side n item moves serial r) }
+        ensures full { (r : RouterRecord) → router_in self.old.node serial ≡ Some r →
+            has_place_for r (outward_has r link side) n ≡ true → HasRoomForItem self.old link side n item (found serial r) →
+            length moves ≤ self.old.room.routers → IsOk result }
         ensures err { IfErr result (λ m. (m ≡ Message.Item link side n item moves) × (self.new.node ≡ self.old.node)) }
     {
         let count = moves.as_slice().len();
@@ -222,6 +225,7 @@ impl NodeState {
         requires fits { fits self.old.node sender (Message.Item link side n item moves) None ≡ true }
         requires serials { has_serials self.old.node.next_router (length moves) ≡ true }
         ensures ok { OnOk result (self.new.node ≡ handle self.old.node sender (Message.Item link side n item moves)) }
+        ensures full { HasRoomFor self.old (Message.Item link side n item moves) → IsOk result }
         ensures err { IfErr result (λ m. (m ≡ Message.Item link side n item moves) × (self.new.node ≡ self.old.node)) }
     {
         match self.link_serial(link, side) {
@@ -280,7 +284,7 @@ impl NodeState {
         requires serials { has_serials self.old.node.next_router (serials_in message) ≡ true }
         ensures ok { OnOk result (self.new.node ≡ handle self.old.node sender message) }
         ensures grows { grows_where_it_fits message ≡ false → IsOk result }
-        ensures full { brings_item message ≡ false → HasRoomFor self.old message → IsOk result }
+        ensures full { HasRoomFor self.old message → IsOk result }
         ensures err { IfErr result (λ m. (m ≡ message) × (self.new.node ≡ self.old.node)) }
     {
         match message {
@@ -373,7 +377,7 @@ impl NodeState {
         ensures why { IfErr result
             (λ e. e.0 ≡ (if message_lacks_serials self.old.node sender message source then Refusal.NumbersEnd else Refusal.OutOfMemory)) }
         ensures grows { message_grows self.old.node sender message source ≡ false → IsOk result }
-        ensures full { fits self.old.node sender message source ≡ true → brings_item message ≡ false → HasRoomFor self.old message →
+        ensures full { fits self.old.node sender message source ≡ true → HasRoomFor self.old message →
             message_lacks_serials self.old.node sender message source ≡ false → IsOk result }
         ensures stray { fits self.old.node sender message source ≡ false → 0 < self.old.room.strays → IsOk result }
         ensures err { IfErr result (λ e. (e.1 ≡ message) × (self.new.node ≡ self.old.node)) }
@@ -419,8 +423,8 @@ impl NodeState {
     ///
     /// A refused message is handed back, and nothing has changed. It is `NumbersEnd` where the message fits and would make
     /// more routers than serials are left for, and otherwise `OutOfMemory`. A message that makes nothing grow, as a Flush or a
-    /// ProxyWillStop that fits, is never refused, nor is one that brings no item, fits, and has room for what it makes a router
-    /// take and tell, nor one that doesn't fit where there is room for a stray more.
+    /// ProxyWillStop that fits, is never refused. No other is refused `OutOfMemory` where it fits and there is room for what it
+    /// makes a router take and tell, nor where it doesn't fit and there is room for a stray more.
     pub fn deliver(
         &mut self,
         from: u8,
@@ -434,7 +438,7 @@ impl NodeState {
         ensures why { IfErr result
             (λ e. e.0 ≡ (if message_lacks_serials self.old.node from message source then Refusal.NumbersEnd else Refusal.OutOfMemory)) }
         ensures grows { message_grows self.old.node from message source ≡ false → IsOk result }
-        ensures full { fits self.old.node from message source ≡ true → brings_item message ≡ false → HasRoomFor self.old message →
+        ensures full { fits self.old.node from message source ≡ true → HasRoomFor self.old message →
             message_lacks_serials self.old.node from message source ≡ false → IsOk result }
         ensures stray { fits self.old.node from message source ≡ false → 0 < self.old.room.strays → IsOk result }
         ensures err { IfErr result (λ e. (e.1 ≡ message) × (self.new.node ≡ self.old.node)) }
@@ -467,7 +471,7 @@ impl NodeState {
         ensures why { IfErr result
             (λ e. e.0 ≡ (if message_lacks_serials self.old.node from message source then Refusal.NumbersEnd else Refusal.OutOfMemory)) }
         ensures grows { message_grows self.old.node from message source ≡ false → IsOk result }
-        ensures full { fits self.old.node from message source ≡ true → brings_item message ≡ false → HasRoomFor self.old message →
+        ensures full { fits self.old.node from message source ≡ true → HasRoomFor self.old message →
             message_lacks_serials self.old.node from message source ≡ false → IsOk result }
         ensures stray { fits self.old.node from message source ≡ false → 0 < self.old.room.strays → IsOk result }
         ensures err { IfErr result (λ e. (e.1 ≡ message) × (self.new.node ≡ self.old.node)) }
@@ -491,7 +495,7 @@ impl NodeState {
         ensures why { IfErr result
             (λ e. e.0 ≡ (if message_lacks_serials self.old.node from message source then Refusal.NumbersEnd else Refusal.OutOfMemory)) }
         ensures grows { message_grows self.old.node from message source ≡ false → IsOk result }
-        ensures full { fits self.old.node from message source ≡ true → brings_item message ≡ false → HasRoomFor self.old message →
+        ensures full { fits self.old.node from message source ≡ true → HasRoomFor self.old message →
             message_lacks_serials self.old.node from message source ≡ false → IsOk result }
         ensures stray { fits self.old.node from message source ≡ false → 0 < self.old.room.strays → IsOk result }
         ensures err { IfErr result (λ e. (e.1 ≡ message) × (self.new.node ≡ self.old.node)) }
@@ -518,7 +522,7 @@ impl NodeState {
         ensures why { IfErr result
             (λ e. e.0 ≡ (if message_lacks_serials self.old.node from message source then Refusal.NumbersEnd else Refusal.OutOfMemory)) }
         ensures grows { message_grows self.old.node from message source ≡ false → IsOk result }
-        ensures full { fits self.old.node from message source ≡ true → brings_item message ≡ false → HasRoomFor self.old message →
+        ensures full { fits self.old.node from message source ≡ true → HasRoomFor self.old message →
             message_lacks_serials self.old.node from message source ≡ false → IsOk result }
         ensures stray { fits self.old.node from message source ≡ false → 0 < self.old.room.strays → IsOk result }
         ensures err { IfErr result (λ e. (e.1 ≡ message) × (self.new.node ≡ self.old.node)) }
@@ -546,6 +550,7 @@ impl NodeState {
             (message_grows self.old.node from message.old source ≡ true)) }
         ensures wanted { (source : Option ℕ) →
             OnErr result ((is_lone message.old && fits self.old.node from message.old source) ≡ true) }
+        ensures full { HasRoomFor self.old message.old → IsOk result }
         ensures err { OnErr result ((message.new ≡ message.old) × (self.new.node ≡ self.old.node)) }
         ensures other { brings_item message.old ≡ false → result ≡ Ok false }
     {
@@ -588,6 +593,7 @@ impl NodeState {
         ensures wanted { (source : Option ℕ) →
             OnErr result ((is_lone (Message.Item link side n item.old moves.now) &&
             fits self.old.node from (Message.Item link side n item.old moves.now) source) ≡ true) }
+        ensures full { HasRoomFor self.old (Message.Item link side n item.old moves.now) → IsOk result }
         ensures err { OnErr result ((item.new ≡ item.old) × (self.new.node ≡ self.old.node)) }
     {
         self.counts_serials();
@@ -624,7 +630,7 @@ impl NodeState {
         ensures why { IfErr result
             (λ e. e.0 ≡ (if message_lacks_serials self.old.node from message source then Refusal.NumbersEnd else Refusal.OutOfMemory)) }
         ensures grows { message_grows self.old.node from message source ≡ false → IsOk result }
-        ensures full { fits self.old.node from message source ≡ true → brings_item message ≡ false → HasRoomFor self.old message →
+        ensures full { fits self.old.node from message source ≡ true → HasRoomFor self.old message →
             message_lacks_serials self.old.node from message source ≡ false → IsOk result }
         ensures stray { fits self.old.node from message source ≡ false → 0 < self.old.room.strays → IsOk result }
         ensures err { IfErr result (λ e. (e.1 ≡ message) × (self.new.node ≡ self.old.node)) }

@@ -19,6 +19,8 @@ returns c =
           map_push (λ x. x.router) 0 c.self.inside.next c.self.inside.entries.items c.args.router c.self.invariant) j;
       out_rooms = (ap (map_by (λ x. x.out_room)) c.push_reserved.ensures.items ∙
           map_push (λ x. x.out_room) 0 c.self.inside.next c.self.inside.entries.items c.args.router c.self.invariant) j;
+      in_rooms = (ap (map_by (λ x. x.in_room)) c.push_reserved.ensures.items ∙
+          map_push (λ x. x.in_room) 0 c.self.inside.next c.self.inside.entries.items c.args.router c.self.invariant) j;
       next = c.self.inside.next + 1;
       room = left j;
     })

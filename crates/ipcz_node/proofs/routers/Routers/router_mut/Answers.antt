@@ -41,6 +41,8 @@ returns c =
                   c.self.invariant at_i key j;
               out_rooms = map_put (λ x. x.out_room) 0 c.self.inside.next c.args.serial _ c.self.inside.entries.items c.in-Some.place w
                   c.self.invariant at_i key j;
+              in_rooms = map_put (λ x. x.in_room) 0 c.self.inside.next c.args.serial _ c.self.inside.entries.items c.in-Some.place w
+                  c.self.invariant at_i key j;
               next = c.self.inside.next;
               room = vec_capacity c.self.inside.entries - vec_len c.self.inside.entries;
             })
@@ -54,5 +56,8 @@ returns c =
         room = read_value (λ x. x.out_room) 0 c.self.inside.next c.args.serial c.self.inside.entries.items c.in-Some.place
             c.index_mut-entry.result.now c.self.invariant at_i c.index_mut-entry.ensures.value
             ∙ ap (λ v. get v.out_rooms c.args.serial) c.self.view_is;
+        in_room = read_value (λ x. x.in_room) 0 c.self.inside.next c.args.serial c.self.inside.entries.items c.in-Some.place
+            c.index_mut-entry.result.now c.self.invariant at_i c.index_mut-entry.ensures.value
+            ∙ ap (λ v. get v.in_rooms c.args.serial) c.self.view_is;
       },
     )

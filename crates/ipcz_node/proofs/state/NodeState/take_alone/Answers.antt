@@ -7,6 +7,9 @@ use Rattle.ipcz_node.specs.Hands.{deliver, fits, free_hand, is_unfit}
 use Rattle.ipcz_node.specs.Telling.{is_lone}
 use Rattle.ipcz_node.specs.contracts.state.NodeState.{the_view}
 use Rattle.ipcz_node.proofs.AtRouter.{taken}
+use Rattle.ipcz_node.specs.RoomyNodes.{RoomyNode}
+use Rattle.ipcz_node.specs.Telling.{HasRoomFor}
+use Rattle.ipcz_node.proofs.Telling.{room_for_item}
 use Rattle.ipcz_node.proofs.Carrying.{fit_alone, item_grows, lone_fits, lone_without_place, lone_without_router, not_lone, place_refused, place_wanted, taken_alone, takes_none}
 use Rattle.ipcz_node.proofs.state.NodeState.take_alone.Goals.{in-OutOfMemory, in_default-why}
 use Rattle.ipcz_node.proofs.state.NodeState.take_alone.Goals as goal
@@ -123,3 +126,20 @@ returns-after-why-clause-why c source = elim c.match-why.branch [
   )
   | in_default-why w ↦ rw w.result-is tt
 ]
+
+-- the router wants no memory where there is room for the item
+pub returns-after-why-clause-full : goal.returns-after-why-clause-full
+returns-after-why-clause-full c room =
+    let v = the_view c.self.inside in
+    let t = taken (router_in v.node c.in-Some.serial)
+    (λ (r : Router). link_router v.node c.args.link c.args.side ≡ Some (found c.in-Some.serial r))
+    (subst (λ x. IsSomeAnd (router_in x.node c.in-Some.serial)
+    (λ (r : Router). link_router x.node c.args.link c.args.side ≡ Some (found c.in-Some.serial r))) (sym c.self.view_is)
+    c.in-Some.ensures.found) in
+    let m = messages.Item c.args.link c.args.side c.args.n c.args.item.now c.args.moves.now in
+    let here = room_for_item v c.args.link c.args.side c.args.n c.args.item.now c.args.moves.now (found c.in-Some.serial t.0) t.2
+    (subst (λ (x : RoomyNode). HasRoomFor x m) (sym c.self.view_is) room) in
+    elim c.match-why.branch [
+      | in-OutOfMemory w ↦ absurd (c.in-Err.ensures.full t.0 t.1 here.1.0 w.in-OutOfMemory.is)
+      | in_default-why w ↦ rw w.result-is refl
+    ]
