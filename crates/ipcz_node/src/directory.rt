@@ -57,11 +57,11 @@ pub struct Directory {
 }
 
 impl Model for Directory {
+    ghost use Rattle.std.specs.Prelude.{◌+◌, ◌-◌};
     ghost use Rattle.std.specs.FinMap.{code};
     ghost use Rattle.std.specs.Coded.{codes};
     ghost use Rattle.ipcz_node.specs.Rooms.{RoomyDirectory};
     ghost use Rattle.ipcz_node.specs.Directories.{AreFiled, HaveRoom, CanHold};
-    ghost use Rattle.std.specs.Prelude.{◌+◌, ◌-◌};
 
     ghost Value = { RoomyDirectory };
 

@@ -1,10 +1,11 @@
 //! The acts of routers that touch no link word, each prepared and done in one go; those that most parcels take have a way of their own.
 
-ghost use Rattle.std.specs.Prelude.{ℕ, ◌≡◌, false, true, [], Some, is_some, if◌then◌else◌, IsOk, OnOk, OnErr, IfOk, IfErr, IsSomeAnd};
+ghost use Rattle.std.specs.Prelude.{ℕ, ◌≡◌, ◌<◌, false, true, [], Some, is_some, if◌then◌else◌, IsOk, OnOk, OnErr, IfOk, IfErr, IsSomeAnd};
 ghost use Rattle.ipcz_router.specs.ActTable.{may_take};
 ghost use Rattle.ipcz_router.specs.ActEffects.{IsAnswerOf};
 ghost use Rattle.ipcz_node.specs.Node.{router_in};
-ghost use Rattle.ipcz_node.specs.RoomyNodes.{IsPossibleAct};
+ghost use Rattle.ipcz_base.specs.Indexed.{place_at};
+ghost use Rattle.ipcz_node.specs.RoomyNodes.{IsPossibleAct, IsReadyFor};
 ghost use Rattle.ipcz_node.specs.Acts.{commit, act_grows, act_lacks_serials};
 ghost use Rattle.ipcz_node.specs.Preparing.{outlook_at};
 ghost use Rattle.ipcz_node.specs.Events.{event_of};
@@ -25,7 +26,7 @@ impl NodeState {
     ///
     /// It answers `NumbersEnd` where the act would move more ends than serials of peripheral links are left for, else `OutOfMemory` where
     /// there was no room and none was found; then what is to be seen of the node stays as it is. An act that makes nothing grow is never
-    /// refused.
+    /// refused, nor is one that the node is ready for, as after a `prepare`.
     pub fn act_plainly(&mut self, serial: u64, act: RouterAct) -> Result<(), Refusal>
         requires possible { IsPossibleAct self.old.node (Act.Router serial act) }
         requires plain { IsAnswerOf act Answer.Plain }
@@ -34,6 +35,7 @@ impl NodeState {
         ensures why { IfErr result
             (λ e. e ≡ (if act_lacks_serials self.old.node (Act.Router serial act) then Refusal.NumbersEnd else Refusal.OutOfMemory)) }
         ensures grows { act_grows (Act.Router serial act) ≡ false → IsOk result }
+        ensures full { IsReadyFor self.old (Act.Router serial act) → IsOk result }
         ensures err { OnErr result (self.new.node ≡ self.old.node) }
     {
         match act {
@@ -56,6 +58,7 @@ impl NodeState {
         ensures why { IfErr result
             (λ e. e ≡ (if act_lacks_serials self.old.node (Act.Router serial act) then Refusal.NumbersEnd else Refusal.OutOfMemory)) }
         ensures grows { act_grows (Act.Router serial act) ≡ false → IsOk result }
+        ensures full { IsReadyFor self.old (Act.Router serial act) → IsOk result }
         ensures err { OnErr result (self.new.node ≡ self.old.node) }
     {
         if let Err(why) = self.prepare_router(serial, act) {
@@ -75,6 +78,7 @@ impl NodeState {
         ensures why { IfErr result
             (λ e. e ≡ (if act_lacks_serials self.old.node (Act.Router serial act) then Refusal.NumbersEnd else Refusal.OutOfMemory)) }
         ensures grows { act_grows (Act.Router serial act) ≡ false → IsOk result }
+        ensures full { IsReadyFor self.old (Act.Router serial act) → IsOk result }
         ensures err { OnErr result (self.new.node ≡ self.old.node) }
     {
         match act {
@@ -98,6 +102,7 @@ impl NodeState {
         ensures why { IfErr result
             (λ e. e ≡ (if act_lacks_serials self.old.node (Act.Router serial act) then Refusal.NumbersEnd else Refusal.OutOfMemory)) }
         ensures grows { act_grows (Act.Router serial act) ≡ false → IsOk result }
+        ensures full { IsReadyFor self.old (Act.Router serial act) → IsOk result }
         ensures err { OnErr result (self.new.node ≡ self.old.node) }
     {
         self.prepare_router(serial, act)?;
@@ -105,6 +110,7 @@ impl NodeState {
     }
 
     // A router sends outward, and what it sent is told.
+    #[tactic(auto, using(crate::proofs::Preparing::wants_at))]
     fn send_out_told(&mut self, serial: u64) -> Result<Happened, Refusal>
         requires { IsPossibleAct self.old.node (Act.Router serial RouterAct.SendOut) }
         ensures ok { OnOk result (self.new.node ≡ commit self.old.node (Act.Router serial RouterAct.SendOut) Answer.Plain) }
@@ -113,6 +119,7 @@ impl NodeState {
         ensures why { IfErr result
             (λ e. e ≡ (if act_lacks_serials self.old.node (Act.Router serial RouterAct.SendOut)
             then Refusal.NumbersEnd else Refusal.OutOfMemory)) }
+        ensures full { IsReadyFor self.old (Act.Router serial RouterAct.SendOut) → IsOk result }
         ensures err { OnErr result (self.new.node ≡ self.old.node) }
     {
         match self.outlook(serial, RouterAct::SendOut) {
@@ -131,6 +138,7 @@ impl NodeState {
     }
 
     // A router sends outward.
+    #[tactic(auto, using(crate::proofs::Preparing::wants_at))]
     fn send_out(&mut self, serial: u64) -> Result<(), Refusal>
         requires { IsPossibleAct self.old.node (Act.Router serial RouterAct.SendOut) }
         ensures ok { OnOk result (self.new.node ≡ commit self.old.node (Act.Router serial RouterAct.SendOut) Answer.Plain) }
@@ -138,6 +146,7 @@ impl NodeState {
         ensures why { IfErr result
             (λ e. e ≡ (if act_lacks_serials self.old.node (Act.Router serial RouterAct.SendOut)
             then Refusal.NumbersEnd else Refusal.OutOfMemory)) }
+        ensures full { IsReadyFor self.old (Act.Router serial RouterAct.SendOut) → IsOk result }
         ensures err { OnErr result (self.new.node ≡ self.old.node) }
     {
         match self.outlook(serial, RouterAct::SendOut) {
@@ -159,6 +168,7 @@ impl NodeState {
             (λ s. Happened.SendOut serial s.0 s.1 [] ≡ event_of self.old.node (Act.Router serial RouterAct.SendOut) Answer.Plain) }
         ensures allowed { act_lacks_serials self.old.node (Act.Router serial RouterAct.SendOut) ≡ false }
         ensures why { IfErr result (λ e. e ≡ Refusal.OutOfMemory) }
+        ensures full { 0 < place_at 0 self.old.room.outboxes to → IsOk result }
         ensures err { OnErr result (self.new.node ≡ self.old.node) }
     {
         self.counts_serials();
