@@ -407,7 +407,7 @@ impl Directory {
     pub fn first_flagged(&self) -> Option<u64>
         ensures { IsFound (λ r. r.flagged) self.now.filed.routers result }
     {
-        match self.flagged.first_from(&0) {
+        match self.flagged.first() {
             Some(serial) => Some(*serial),
             None => None,
         }

@@ -175,7 +175,7 @@ fn likely_place<T>(entries: &[(u64, T)], serial: u64) -> Option<usize>
     ensures within { IfSome result (λ i. i < length entries.now) }
 {
     let first = entries.first()?.0;
-    let place = usize::try_from(serial.checked_sub(first)?).ok()?;
+    let place = serial.wrapping_sub(first) as usize;
     if entries.get(place)?.0 == serial {
         Some(place)
     } else {

@@ -1,4 +1,4 @@
-ghost use Rattle.std.specs.Prelude.{◌≡◌, ◌+◌, ◌-◌, ◌<◌, ◌≤◌, ◌||◌, ◌&&◌, not, true, false, [], if◌then◌else◌, OnOk, IfOk, IfErr, IfSome, IsOk};
+ghost use Rattle.std.specs.Prelude.{◌≡◌, ◌+◌, ◌-◌, ◌<◌, ◌≤◌, ◌||◌, ◌&&◌, not, true, false, [], if◌then◌else◌, length, IsTrue, OnOk, IfOk, IfErr, IfSome, IsOk};
 ghost use Rattle.std.specs.Prelude.{IfNone};
 ghost use Rattle.std.specs.Ordering.{is_eq, is_lt};
 ghost use Rattle.std.specs.List.Sorted.{IsStrictlySortedBy};
@@ -54,7 +54,22 @@ impl<T: Ord + Drop> SortedSet<T> {
     }
 
     /// Adds a value. One that is there stays.
+    #[inline(always)]
     pub fn insert(&mut self, value: T)
+        requires { 0 < self.old.room }
+        ensures members { (x : T) → has T.cmp self.new.members x ≡ (is_eq (T.cmp value x) || has T.cmp self.old.members x) }
+        ensures room { self.new.room ≡ (if has T.cmp self.old.members value then self.old.room else self.old.room - 1) }
+    {
+        if self.is_above_all(&value) {
+            self.items.push_reserved(value);
+        } else {
+            self.insert_by_search(value);
+        }
+    }
+
+    // The same for each value.
+    #[inline(never)]
+    fn insert_by_search(&mut self, value: T)
         requires { 0 < self.old.room }
         ensures members { (x : T) → has T.cmp self.new.members x ≡ (is_eq (T.cmp value x) || has T.cmp self.old.members x) }
         ensures room { self.new.room ≡ (if has T.cmp self.old.members value then self.old.room else self.old.room - 1) }
@@ -71,7 +86,9 @@ impl<T: Ord + Drop> SortedSet<T> {
         ensures members { (x : T) → has T.cmp self.new.members x ≡ (not (is_eq (T.cmp value.now x)) && has T.cmp self.old.members x) }
         ensures room { self.new.room ≡ (if has T.cmp self.old.members value.now then self.old.room + 1 else self.old.room) }
     {
-        if let Ok(at) = self.place_of(value) {
+        if self.is_first(value) {
+            self.items.remove(0);
+        } else if let Ok(at) = self.place_of(value) {
             self.items.remove(at);
         }
     }
@@ -95,6 +112,35 @@ impl<T: Ord + Drop> SortedSet<T> {
     {
         let (Ok(at) | Err(at)) = self.place_of(value);
         self.items.get(at)
+    }
+
+    /// The least member.
+    pub fn first(&self) -> Option<&T>
+        ensures member { IfSome result (λ x. has T.cmp self.now.members x.now ≡ true) }
+        ensures least { IfSome result (λ x. (y : T) → has T.cmp self.now.members y ≡ true → is_lt (T.cmp y x.now) ≡ false) }
+        ensures none { IfNone result (self.now.members ≡ []) }
+    {
+        self.items.first()
+    }
+
+    // Whether the value is greater than each member.
+    fn is_above_all(&self, value: &T) -> bool
+        ensures { IsTrue result → IsGapFor T.cmp self.now.members value.now (length self.now.members) }
+    {
+        match self.items.last() {
+            Some(last) => last.cmp(value).is_lt(),
+            None => true,
+        }
+    }
+
+    // Whether the value is the least member.
+    fn is_first(&self, value: &T) -> bool
+        ensures { IsTrue result → IsPlaceOf T.cmp self.now.members value.now 0 }
+    {
+        match self.items.first() {
+            Some(first) => first.cmp(value).is_eq(),
+            None => false,
+        }
     }
 
     // Where the value is, or where it would go.

@@ -195,7 +195,7 @@ impl World {
                 Err(why) => return Err(why),
             }
         }
-        match self.state.next_busy(from) {
+        match self.state.last_busy(from) {
             None => Ok(Settled::Settled { after: limit }),
             Some(_) => Ok(Settled::Unsettled),
         }

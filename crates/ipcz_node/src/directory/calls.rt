@@ -18,6 +18,7 @@ use ipcz_base::{End, Parcel, Refusal, Side};
 
 impl Directory {
     /// Puts a parcel into the router of the serial, as `Router::put`.
+    #[inline(always)]
     #[tactic(auto, using(crate::proofs::Written::insert_same))]
     pub fn put(&mut self, serial: u64, parcel: Parcel) -> Result<u64, (Refusal, Parcel)>
         requires { IsSomeAnd (get self.old.filed.routers serial) IsOpenTerminal }

@@ -4,8 +4,10 @@ ghost use Rattle.ipcz_base.specs.Ends.{has_end, end_at};
 ghost use Rattle.ipcz_base.specs.Limits.{is_printable};
 ghost use Rattle.ipcz_base.specs.declared.side.Side.TheVariants.{A, B};
 ghost use Rattle.ipcz_router.specs.Router.{Router as RouterRecord, IsOpenTerminal};
-ghost use Rattle.ipcz_router.specs.Calls.{router_put_refusal};
-ghost use Rattle.ipcz_node.specs.Node.{router_in, terminal_of, found, holds_end, source_in, word_side};
+ghost use Rattle.ipcz_base.specs.declared.item.Item.{Item};
+ghost use Rattle.ipcz_router.specs.Calls.{next_number, put_item, router_put_refusal};
+ghost use Rattle.ipcz_node.specs.Rooms.{HasOutRoom};
+ghost use Rattle.ipcz_node.specs.Node.{router_in, terminal_of, found, with_router, holds_end, source_in, word_side};
 ghost use Rattle.ipcz_node.specs.Calls.{serials_refusal, open_node, are_held_once, refusal_at, are_too_many, put_refusal, put_node};
 ghost use Rattle.ipcz_node.specs.Calls.{put_number, get_refusal, got_at, get_node, close_refusal, close_node, close_end};
 ghost use Rattle.ipcz_node.specs.Acts.{is_quiet, rest_of};
@@ -102,6 +104,9 @@ impl NodeState {
             Ok(serial) => serial,
             Err(why) => return Err(PutRefused { why, bytes, ends }),
         };
+        if ends.as_slice().is_empty() {
+            return self.put_alone(serial, bytes, ends);
+        }
         if self.routers.reserve_out(serial).is_err() {
             return Err(PutRefused {
                 why: Refusal::OutOfMemory,
@@ -114,6 +119,27 @@ impl NodeState {
             unreachable!()
         };
         Ok(n)
+    }
+
+    // Puts a parcel without ends at a terminal that takes it. No end is to be held no more, so the terminal finds room as it takes it.
+    fn put_alone(&mut self, serial: u64, bytes: Bytes, ends: Ends) -> Result<u64, PutRefused>
+        requires open { IsSomeAnd (router_in self.old.node serial) IsOpenTerminal }
+        requires free { IsSomeAnd (router_in self.old.node serial) (λ r. router_put_refusal r ≡ None) }
+        ensures number { (r : RouterRecord) → router_in self.old.node serial ≡ Some r → IfOk result (λ n. n ≡ next_number r) }
+        ensures ok { (r : RouterRecord) → router_in self.old.node serial ≡ Some r →
+            OnOk result (self.new.node ≡ with_router self.old.node serial (put_item r (Item.Parcel (record { bytes = bytes; ends = ends })))) }
+        ensures why { IfErr result (λ e. e.why ≡ Refusal.OutOfMemory) }
+        ensures full { HasOutRoom self.old.room.out_rooms serial → IsOk result }
+        ensures err { IfErr result (λ e. (e.bytes ≡ bytes) × (e.ends ≡ ends) × (self.new.node ≡ self.old.node)) }
+    {
+        match self.routers.put(serial, Parcel { bytes, ends }) {
+            Ok(n) => Ok(n),
+            Err((why, parcel)) => Err(PutRefused {
+                why,
+                bytes: parcel.bytes,
+                ends: parcel.ends,
+            }),
+        }
     }
 
     // Where a parcel can be put, memory aside.

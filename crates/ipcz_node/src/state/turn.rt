@@ -34,6 +34,7 @@ impl NodeState {
 
     /// The first possible act of the node that needs no mailbox and no message in hand: to close the first end that is still to be closed,
     /// the first act of the flagged router of the lowest serial, or none. It takes no memory.
+    #[inline(always)]
     #[tactic(auto, unfolding(crate::specs::Acts::close_turn, crate::specs::Acts::first_of))]
     pub fn next_own(&self) -> Act
         ensures act { result ≡ close_turn self.now.node.pending (router_turn (flagged_router self.now.node)) }

@@ -11,6 +11,7 @@ use ipcz_node::Act;
 
 impl State {
     /// The next node that has an act, in passes over the nodes from this one on, with that act; none where each node is idle.
+    #[inline(always)]
     pub(crate) fn next_busy(&self, n: u8) -> Option<(u8, Act)>
         requires regular { IsRegular self.now }
         requires place { n ≤ self.now.count }
@@ -24,6 +25,18 @@ impl State {
         }
     }
 
+    /// The same by a call of its own: it is asked for once, where `next_busy` is asked for before each act.
+    #[inline(never)]
+    pub(crate) fn last_busy(&self, n: u8) -> Option<(u8, Act)>
+        requires regular { IsRegular self.now }
+        requires place { n ≤ self.now.count }
+        ensures some { IfSome result (λ found. IsNextBusy self.now n found.0) }
+        ensures act { IfSome result (λ found. found.1 ≡ next_at self.now found.0) }
+        ensures none { IfNone result (AreIdle self.now 0 self.now.count) }
+    {
+        self.next_busy(n)
+    }
+
     /// The node after this one in a pass, or the first one of the next pass.
     pub(crate) fn next_node(&self, n: u8) -> u8
         requires node { n < self.now.count }
@@ -34,6 +47,7 @@ impl State {
     }
 
     // The first node from one number up to another that has an act, where one has, with that act.
+    #[inline(always)]
     fn first_busy(&self, from: u8, to: u8) -> Option<(u8, Act)>
         requires regular { IsRegular self.now }
         requires nodes { to ≤ self.now.count }

@@ -69,7 +69,7 @@ impl State {
     }
 
     /// The first possible act of a node.
-    #[inline(never)]
+    #[inline(always)]
     #[tactic(auto, unfolding(crate::specs::Turns::next_at, crate::specs::World::node_at, ipcz_node::specs::Acts::next, ipcz_node::specs::Acts::node_turn))]
     pub(crate) fn next(&self, n: u8) -> Act
         requires regular { IsRegular self.now }

@@ -11,7 +11,7 @@ returns-in-Some c =
     let flags = c.self.inside.flagged.members in
     subst (λ v. IsFound (λ r. r.flagged) v.filed.routers (Some c.in-Some.serial.now)) c.self.view_is
     (found_filed (λ r. r.flagged) c.self.inside.routers.routers (Some c.in-Some.serial.now) (has nat_cmp flags) c.self.invariant.0.0.by_flag
-    (least_number flags c.in-Some.serial.now c.in-Some.ensures.member.0 c.in-Some.ensures.least))
+    (least_number flags c.in-Some.serial.now c.in-Some.ensures.member c.in-Some.ensures.least))
 
 pub returns-in-None : goal.returns-in-None
 returns-in-None c =

@@ -5,7 +5,7 @@ use Rattle.ipcz_world.specs.Visiting.{AreIdle, IsNextBusy}
 use Rattle.ipcz_world.proofs.code.Regular.{lawful-regular}
 use Rattle.ipcz_world.proofs.code.Running.{visits-lead}
 use Rattle.ipcz_world.proofs.code.Visiting.{OnWay, on_way-turn, settled, unsettled, refused}
-use Rattle.ipcz_world.proofs.world.World.settle.Goals.{in-None, in-Some-next_busy}
+use Rattle.ipcz_world.proofs.world.World.settle.Goals.{in-None, in-Some-last_busy}
 use Rattle.ipcz_world.proofs.world.World.settle.Goals as goal
 use Rattle.ipcz_base.specs.declared.refusal.Refusal.{Refusal}
 use Rattle.ipcz_world.specs.World.{World}
@@ -38,8 +38,8 @@ lawful-refused limit w v why s = record {
 pub next_busy-requires-clause-regular : goal.next_busy-requires-clause-regular
 next_busy-requires-clause-regular c = lawful-regular _ c.self.invariant
 
-pub next_busy-requires-2-clause-regular : goal.next_busy-requires-2-clause-regular
-next_busy-requires-2-clause-regular c = lawful-regular _ c.self-2.invariant
+pub last_busy-requires-clause-regular : goal.last_busy-requires-clause-regular
+last_busy-requires-clause-regular c = lawful-regular _ c.self-2.invariant
 
 pub returns-in_default-clause-settles : goal.returns-in_default-clause-settles
 returns-in_default-clause-settles c =
@@ -66,14 +66,14 @@ loop-acts-preserved c =
 pub returns-clause-settles : goal.returns-clause-settles
 returns-clause-settles c =
     let all : c.loop-acts.acts ≡ c.args.limit = omega (arith, c.loop-acts.auto.acts-end, c.loop-acts-test.false) in
-    elim c.match-next_busy-2.branch [
+    elim c.match-last_busy.branch [
       | in-None w ↦ subst (λ r. IfOk r (λ answer. IsLawfulSettle c.args.limit c.args.self.now c.loop-acts.self answer)) (sym w.result-is)
           (lawful _ _ _ _ (settled c.args.limit c.args.limit c.loop-acts.from c.args.self.now c.loop-acts.self
           (subst (λ k. OnWay c.args.self.now k c.loop-acts.self c.loop-acts.from) all c.loop-acts.invariant) (omega arith)
           (subst IsLawful c.self-2.view_is c.self-2.invariant) (subst (λ v. AreIdle v 0 v.count) c.self-2.view_is w.in-None.ensures.none)))
-      | in-Some-next_busy w ↦ subst (λ r. IfOk r (λ answer. IsLawfulSettle c.args.limit c.args.self.now c.loop-acts.self answer))
+      | in-Some-last_busy w ↦ subst (λ r. IfOk r (λ answer. IsLawfulSettle c.args.limit c.args.self.now c.loop-acts.self answer))
           (sym w.result-is)
-          (lawful _ _ _ _ (unsettled c.args.limit c.loop-acts.acts c.loop-acts.from w.in-Some-next_busy.field-0.0 c.args.self.now c.loop-acts.self
+          (lawful _ _ _ _ (unsettled c.args.limit c.loop-acts.acts c.loop-acts.from w.in-Some-last_busy.field-0.0 c.args.self.now c.loop-acts.self
           c.loop-acts.invariant all
-          (subst (λ v. IsNextBusy v c.loop-acts.from w.in-Some-next_busy.field-0.0) c.self-2.view_is w.in-Some-next_busy.ensures.some)))
+          (subst (λ v. IsNextBusy v c.loop-acts.from w.in-Some-last_busy.field-0.0) c.self-2.view_is w.in-Some-last_busy.ensures.some)))
     ]
