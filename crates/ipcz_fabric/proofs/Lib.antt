@@ -26,3 +26,4 @@ pub mod OpenSteps
 pub mod Working
 pub mod Portaling
 pub mod Holding
+pub mod HubAnswers

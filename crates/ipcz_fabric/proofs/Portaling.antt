@@ -1,6 +1,6 @@
--- Why a get or a close at a portal is refused, and the portals that a get gives.
-use Rattle.std.proofs.Common.{◌≡◌, ◌≤◌, ◌<◌, ◌+◌, ℕ, zero, suc, List, [], ◌∷◌, ◌++◌, All, take, length, slice_index_or, refl, sym, subst, ap, ◌∙◌, arith, Bool, true, false, not, if◌then◌else◌, Option, Some, None, inl, inr}
-use Rattle.std.specs.Prelude.{unwrap_or}
+-- Why a call of a portal is refused, what one that isn't answers, and the portals that a get gives.
+use Rattle.std.proofs.Common.{◌≡◌, ◌⊎◌, ◌≤◌, ◌<◌, ◌+◌, ℕ, zero, suc, List, [], ◌∷◌, ◌++◌, All, take, length, slice_index_or, refl, sym, subst, ap, ◌∙◌, arith, Bool, true, false, not, if◌then◌else◌, Option, Some, None, inl, inr}
+use Rattle.std.specs.Prelude.{nat_le, unwrap_or}
 use Rattle.std.proofs.lemmas.List.{map_more}
 use Rattle.std.proofs.Math.Seq.{take-length}
 use Rattle.ipcz_base.specs.declared.end.End.{End}
@@ -8,12 +8,14 @@ use Rattle.ipcz_base.specs.declared.item.Item.{Item}
 use Rattle.ipcz_base.specs.declared.item.Item.TheVariants as items
 use Rattle.ipcz_base.specs.declared.refusal.Refusal.{Refusal}
 use Rattle.ipcz_base.specs.declared.refusal.Refusal.TheVariants as refusals
+use Rattle.ipcz_base.specs.Ends.{opposite_end, has_end}
+use Rattle.ipcz_base.specs.Limits.{is_printable, last_number}
 use Rattle.ipcz_seq.specs.Queue.{current_item}
 use Rattle.ipcz_router.specs.Router.{Router}
-use Rattle.ipcz_router.specs.Calls.{item_refusal, router_get_refusal}
+use Rattle.ipcz_router.specs.Calls.{item_refusal, next_number, router_get_refusal, router_put_refusal}
 use Rattle.ipcz_node.specs.Node.{Node, Found, terminal_of, holds_end}
-use Rattle.ipcz_node.specs.Calls.{refusal_at, get_refusal, close_refusal}
-use Rattle.ipcz_fabric.specs.Portals.{PortalValue, ends_of, portals_at, IsGetRefusal, IsCloseRefusal}
+use Rattle.ipcz_node.specs.Calls.{refusal_at, are_held_once, are_too_many, put_refusal, get_refusal, close_refusal}
+use Rattle.ipcz_fabric.specs.Portals.{PortalValue, ends_of, portals_at, parcel_refusal, IsPutRefusal, IsGetRefusal, IsCloseRefusal}
 
 item_why : (o : Option Item) (e : Refusal) → item_refusal o ≡ Some e → IsGetRefusal e
 unfolding item_refusal
@@ -49,6 +51,74 @@ pub close_why : (n : Node) (at : End) (e : Refusal) → e ≡ unwrap_or (close_r
 unfolding close_refusal
 close_why n at e h = kept_why (holds_end n at) (terminal_of n at) e h
 
+-- a parcel that is put somewhere fits
+fits_by : (held many printable self peer each : Bool) (at : Option Refusal) →
+    (if not held then Some refusals.Stranger else if many then Some refusals.TooMany else if not printable then Some refusals.BadData
+    else if self then Some refusals.SelfAttach else if peer then Some refusals.PeerAttach else if not each then Some refusals.Stranger else at) ≡ None →
+    (if many then Some refusals.TooMany else if not printable then Some refusals.BadData else if self then Some refusals.SelfAttach
+    else if peer then Some refusals.PeerAttach else None) ≡ None
+fits_by false many printable self peer each at e = cc
+fits_by true true printable self peer each at e = cc
+fits_by true false false self peer each at e = cc
+fits_by true false true true peer each at e = cc
+fits_by true false true false true each at e = cc
+fits_by true false true false false each at e = refl
+
+pub put_here : (n : Node) (at at' : End) (bytes bytes' : List ℕ) (ends ends' : List End) → at ≡ at' → bytes ≡ bytes' → ends ≡ ends' →
+    put_refusal n at bytes ends ≡ put_refusal n at' bytes' ends'
+put_here n at at' bytes bytes' ends ends' same_at same_bytes same_ends = λ j. put_refusal n (same_at j) (same_bytes j) (same_ends j)
+
+pub put_fits : (n : Node) (at : End) (bytes : List ℕ) (ends : List End) → put_refusal n at bytes ends ≡ None → parcel_refusal at bytes ends ≡ None
+unfolding put_refusal
+put_fits n at bytes ends e = fits_by (holds_end n at) (are_too_many bytes ends) (is_printable bytes) (has_end at ends) (has_end (opposite_end at) ends)
+    (are_held_once n ends) (refusal_at (terminal_of n at) router_put_refusal) e
+
+IsRouterRefusal : Refusal → Type 0
+IsRouterRefusal why = (why ≡ refusals.OutOfMemory) ⊎ (why ≡ refusals.Stranger) ⊎ (why ≡ refusals.PeerClosed) ⊎ (why ≡ refusals.NumbersEnd)
+
+numbers_why : (closed full : Bool) (e : Refusal) →
+    e ≡ unwrap_or (if closed then Some refusals.PeerClosed else if full then Some refusals.NumbersEnd else None) refusals.OutOfMemory → IsRouterRefusal e
+unfolding IsRouterRefusal
+numbers_why true full e h = inr (inr (inl h))
+numbers_why false true e h = inr (inr (inr h))
+numbers_why false false e h = inl h
+
+router_why : (t : Option Found) (e : Refusal) → e ≡ unwrap_or (refusal_at t router_put_refusal) refusals.OutOfMemory → IsRouterRefusal e
+unfolding refusal_at IsRouterRefusal
+router_why None e h = inr (inl h)
+router_why (Some f) e h = numbers_why f.router.mark_seen (nat_le last_number (next_number f.router)) e h
+
+PutRefusedFor : Option Refusal → Refusal → Type 0
+PutRefusedFor parcel why = (why ≡ refusals.OutOfMemory) ⊎ (why ≡ refusals.Stranger) ⊎ (parcel ≡ Some why) ⊎
+    ((parcel ≡ None) × ((why ≡ refusals.PeerClosed) ⊎ (why ≡ refusals.NumbersEnd)))
+
+fitting_why : (e : Refusal) → IsRouterRefusal e → PutRefusedFor None e
+unfolding IsRouterRefusal PutRefusedFor
+fitting_why e (inl h) = inl h
+fitting_why e (inr (inl h)) = inr (inl h)
+fitting_why e (inr (inr h)) = inr (inr (inr (refl, h)))
+
+put_why_by : (held many printable self peer each : Bool) (at : Option Refusal) (e : Refusal) → (e ≡ unwrap_or at refusals.OutOfMemory → IsRouterRefusal e) →
+    e ≡ unwrap_or (if not held then Some refusals.Stranger else if many then Some refusals.TooMany else if not printable then Some refusals.BadData
+    else if self then Some refusals.SelfAttach else if peer then Some refusals.PeerAttach else if not each then Some refusals.Stranger else at) refusals.OutOfMemory →
+    PutRefusedFor (if many then Some refusals.TooMany else if not printable then Some refusals.BadData else if self then Some refusals.SelfAttach
+    else if peer then Some refusals.PeerAttach else None) e
+unfolding PutRefusedFor
+put_why_by false many printable self peer each at e rest h = inr (inl h)
+put_why_by true true printable self peer each at e rest h = inr (inr (inl (ap Some (sym h))))
+put_why_by true false false self peer each at e rest h = inr (inr (inl (ap Some (sym h))))
+put_why_by true false true true peer each at e rest h = inr (inr (inl (ap Some (sym h))))
+put_why_by true false true false true each at e rest h = inr (inr (inl (ap Some (sym h))))
+put_why_by true false true false false false at e rest h = inr (inl h)
+put_why_by true false true false false true at e rest h = fitting_why e (rest h)
+
+-- a put at a node is refused for one of these
+pub put_why : (n : Node) (at : End) (bytes : List ℕ) (ends : List End) (e : Refusal) → e ≡ unwrap_or (put_refusal n at bytes ends) refusals.OutOfMemory →
+    IsPutRefusal at bytes ends e
+unfolding put_refusal PutRefusedFor
+put_why n at bytes ends e h = put_why_by (holds_end n at) (are_too_many bytes ends) (is_printable bytes) (has_end at ends) (has_end (opposite_end at) ends)
+    (are_held_once n ends) (refusal_at (terminal_of n at) router_put_refusal) e (router_why (terminal_of n at) e) h
+
 one_more : (node : ℕ) (e : End) (es : List End) → All (λ (p : PortalValue). p.node ≡ node) (portals_at node es) → (k : ℕ) (d : PortalValue) →
     k < length (portals_at node (e ∷ es)) → (slice_index_or (portals_at node (e ∷ es)) k d).node ≡ node
 one_more node e es others zero d h = refl
@@ -63,6 +133,11 @@ pub are_there : (node there : ℕ) (ends : List End) (before after : List Portal
     All (λ (p : PortalValue). p.node ≡ there) after
 are_there node there ends before after here none is = subst (λ (n : ℕ). All (λ (p : PortalValue). p.node ≡ n) after) here
     (subst (All (λ (p : PortalValue). p.node ≡ node)) (sym (is ∙ ap (λ (l : List PortalValue). l ++ portals_at node (take 8 ends)) none)) (all_there node (take 8 ends)))
+
+-- the portals of a get are those of the parcel's ends
+pub portals_here : (node there : ℕ) (ends those : List End) (before after : List PortalValue) → node ≡ there → before ≡ [] → ends ≡ those →
+    after ≡ before ++ portals_at node (take 8 ends) → after ≡ portals_at there (take 8 those)
+portals_here node there ends those before after here none same is = is ∙ (λ j. none j ++ portals_at (here j) (take 8 (same j)))
 
 -- the ends of one portal more
 pub ends_more : (portals : List PortalValue) (i : ℕ) (p : PortalValue) (ends after : List End) → i < length portals → p ≡ slice_index_or portals i p → ends ≡ ends_of (take i portals) →

@@ -100,7 +100,7 @@ unready : (n : Node) → ◌≡◌ {A = Result (End × End) Refusal} (Err Raced)
 unready n e = grind (arith, e)
 
 pub raced_open_is_overtaken : RacedOpenIsOvertaken
-raced_open_is_overtaken t id p q steps run old new call (opens.UnderWay made e h) = cc
+raced_open_is_overtaken t id p q steps run old new call (opens.UnderWay made e l h) = cc
 raced_open_is_overtaken t id p q steps run old new call (opens.Fresh n made e idle l h) = cc
 raced_open_is_overtaken t id p q steps run old new call (opens.NoneLeft e idle h) = cc
 raced_open_is_overtaken t id p q steps run old new call (opens.Unready e part seen) = absurd (unready old.part.state e)

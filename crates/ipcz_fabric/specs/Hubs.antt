@@ -1,11 +1,20 @@
 -- The portals that a hub begins with: one for each end that callers of its nodes hold, by node and then by the serial of the end's
--- terminal.
-use Rattle.std.specs.Prelude.{◌≡◌, ◌⊎◌, ◌≤◌, ◌+◌, ◌^◌, ℕ, List, [], ◌∷◌, ◌++◌, Some, None}
+-- terminal. What its calls answer: what stands under a lock has no name, so they say that there is a state of a cell in which the call of
+-- the cell answers so.
+use Rattle.std.specs.Prelude.{◌≡◌, ◌⊎◌, ◌<◌, ◌≤◌, ◌+◌, ◌^◌, ℕ, List, [], ◌∷◌, ◌++◌, Some, None, Result, Ok, Err}
 use Rattle.ipcz_base.specs.declared.end.End.{End}
+use Rattle.ipcz_base.specs.declared.side.Side.TheVariants.{A, B}
+use Rattle.ipcz_base.specs.declared.refusal.Refusal.{Refusal}
+use Rattle.ipcz_base.specs.declared.refusal.Refusal.TheVariants as refusals
+use Rattle.ipcz_base.specs.Ends.{end_at}
+use Rattle.ipcz_node.specs.declared.happened.Happened.{Happened}
 use Rattle.ipcz_node.specs.Node.{Node}
 use Rattle.ipcz_node.specs.Finding.{IsNextHeld}
+use Rattle.ipcz_fabric.specs.TableNames.{TableName}
 use Rattle.ipcz_fabric.specs.CellStates.{CellState}
-use Rattle.ipcz_fabric.specs.Portals.{PortalValue, portals_at}
+use Rattle.ipcz_fabric.specs.Opens.{OpensPair}
+use Rattle.ipcz_fabric.specs.Portals.{PortalValue, portal_at, portals_at}
+use Rattle.ipcz_fabric.specs.TurnEnds.{Turns}
 
 -- these are the ends that callers of a node hold whose terminals have a serial from this one on, by rising serials; a serial is below
 -- 2 ^ 64
@@ -27,3 +36,31 @@ AddsHeld n node before after = (ends : List End) × AreHeldFrom n 0 ends × (aft
 -- so many portals more are the first portals of these cells
 abbrev pub AddsFirst : List CellState → List PortalValue → List PortalValue → Type 0
 AddsFirst cells before after = (more : List PortalValue) × AreFirstPortals cells more × (after ≡ before ++ more)
+
+-- why a turn may be refused
+abbrev pub IsTurnRefusal : Refusal → Type 0
+IsTurnRefusal why = (why ≡ refusals.NumbersEnd) ⊎ (why ≡ refusals.OutOfMemory) ⊎ (why ≡ refusals.Raced)
+
+-- why the open of a pair may be refused
+abbrev pub IsOpenRefusal : Refusal → Type 0
+IsOpenRefusal why = (why ≡ refusals.NoWord) ⊎ (why ≡ refusals.NumbersEnd) ⊎ (why ≡ refusals.OutOfMemory) ⊎ (why ≡ refusals.Raced)
+
+-- a turn of a cell answers this
+abbrev pub IsTurnAnswer : TableName → Result Happened Refusal → Type 0
+IsTurnAnswer t answer = (old new : CellState) × Turns t old answer new
+
+-- portals of both sides of a pair, at a node: the pair is that of a link word
+pub record ArePair (size node : ℕ) (portals : PortalValue × PortalValue) : Type 0 where
+  pub pair : ℕ
+  pub inside : pair < size
+  pub are : portals ≡ (portal_at node (end_at pair A), portal_at node (end_at pair B))
+
+-- the portals of the ends that an open answers, at a node
+abbrev pub opened_portals : ℕ → Result (End × End) Refusal → Result (PortalValue × PortalValue) Refusal
+opened_portals node (Ok ends) = Ok (portal_at node ends.0, portal_at node ends.1)
+opened_portals node (Err why) = Err why
+
+-- the open of a pair at a cell answers these portals' ends
+abbrev pub IsOpenAnswer : TableName → ℕ → Result (PortalValue × PortalValue) Refusal → Type 0
+IsOpenAnswer t node answer = (old new : CellState) × (ends : Result (End × End) Refusal) × OpensPair t.size old new ends ×
+    (answer ≡ opened_portals node ends)

@@ -87,7 +87,7 @@ pub record OpensWord (old : CellState) (ends : End × End) (new : CellState) : T
 -- what the open of a pair answers and leaves: an open under way is used; else a word is claimed for it. NoWord only where the load found
 -- that each word was claimed, Raced only where the load and the exchange found different counts. A refused open leaves the node's part
 pub data OpensPair (size : ℕ) (old new : CellState) (answer : Result (End × End) Refusal) : Type 0 where
-  UnderWay : (ends : End × End) → answer ≡ Ok ends → OpensWord old ends new → OpensPair size old new answer
+  UnderWay : (ends : End × End) → answer ≡ Ok ends → ends.0.pair < size → OpensWord old ends new → OpensPair size old new answer
   Fresh : (n : ℕ) (ends : End × End) → answer ≡ Ok ends → old.part.state.opening ≡ None → n < size →
       OpensWord (claimed_for_open size n old) ends new →
       OpensPair size old new answer

@@ -1,7 +1,8 @@
 //! Hubs: cells that threads share, each behind a lock of its own. There is no other lock.
 ghost use Rattle.std.specs.Prelude.{◌≡◌, ◌≤◌, ◌<◌, OnOk, IfOk, IfErr, Err, vec_len, vec_capacity};
 ghost use Rattle.ipcz_fabric.specs.Ending.{FinishRefuses};
-ghost use Rattle.ipcz_fabric.specs.Hubs.{AddsFirst, AddsHeld, AreFirstPortals};
+ghost use Rattle.ipcz_fabric.specs.Hubs.{AddsFirst, AddsHeld, AreFirstPortals, ArePair};
+ghost use Rattle.ipcz_fabric.specs.Hubs.{IsOpenAnswer, IsOpenRefusal, IsTurnAnswer, IsTurnRefusal};
 
 use crate::cell::NodeCell;
 use crate::ending::is_in_order;
@@ -173,13 +174,16 @@ impl<F: FabricName> Hub<F> {
     }
 
     /// Opens a pair at a node, under that node's lock, and gives its portals, of side A and of side B. What else holds of it is what
-    /// `NodeCell::open_pair` says.
+    /// `NodeCell::open_pair` says, of the state in which the call found the node: it has no name here, so `answer` says that there is one.
     ///
     /// It answers `Stranger` where there is no node of that number; else `NoWord`, `NumbersEnd`, `OutOfMemory` or `Raced`, as
     /// `NodeCell::open_pair`.
     pub fn open_pair<R: Wait>(&self, rt: &R, node: u8) -> Result<(Portal<F>, Portal<F>), Refusal>
         ensures here { IfOk result (λ p. (p.0.node ≡ node) × (p.1.node ≡ node)) }
+        ensures pair { IfOk result (ArePair F.table.size node) }
         ensures stranger { F.table.count ≤ node → result ≡ Err Refusal.Stranger }
+        ensures why { node < F.table.count → IfErr result IsOpenRefusal }
+        ensures answer { node < F.table.count → IsOpenAnswer F.table node result }
     {
         if node >= self.fabric.nodes {
             return Err(Refusal::Stranger);
@@ -191,11 +195,14 @@ impl<F: FabricName> Hub<F> {
         }
     }
 
-    /// Takes one turn of a node, under that node's lock, and tells what it did. What else holds of it is what `NodeCell::turn` says.
+    /// Takes one turn of a node, under that node's lock, and tells what it did. What else holds of it is what `NodeCell::turn` says, of the
+    /// state in which the call found the node: it has no name here, so `answer` says that there is one.
     ///
     /// It answers `Stranger` where there is no node of that number; else `NumbersEnd`, `OutOfMemory` or `Raced`, as `NodeCell::turn`.
     pub fn turn<R: Wait>(&self, rt: &R, node: u8) -> Result<Happened, Refusal>
         ensures stranger { F.table.count ≤ node → result ≡ Err Refusal.Stranger }
+        ensures why { node < F.table.count → IfErr result IsTurnRefusal }
+        ensures answer { node < F.table.count → IsTurnAnswer F.table result }
     {
         if node < self.fabric.nodes {
             return self.cell(node).lock(rt).turn(&self.fabric);

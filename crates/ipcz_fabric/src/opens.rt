@@ -143,7 +143,8 @@ impl<F: FabricName> NodeCell<F> {
     pub fn word_open(&mut self, fabric: &Fabric<F>) -> (End, End)
         requires under_way { is_some self.old.part.state.opening ≡ true }
         requires ready { CanOpen (roomy self.old) }
-        ensures { OpensWord self.old result self.new }
+        ensures opens { OpensWord self.old result self.new }
+        ensures inside { result.0.pair < F.table.size }
     {
         let Some(word) = self.state.opening() else {
             unreachable!()

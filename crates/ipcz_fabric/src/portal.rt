@@ -1,6 +1,7 @@
 //! Portals: ends that callers own. A portal can't be copied, and travels in parcels.
-ghost use Rattle.std.specs.Prelude.{◌≡◌, ◌≤◌, ◌<◌, ◌+◌, ◌++◌, All, IfOk, IfErr, take, vec_len, vec_capacity};
-ghost use Rattle.ipcz_fabric.specs.Portals.{ends_of, portals_at, IsGetRefusal, IsCloseRefusal};
+ghost use Rattle.std.specs.Prelude.{◌≡◌, ◌≤◌, ◌<◌, ◌+◌, ◌++◌, None, All, OnOk, IfOk, IfErr, take, vec_len, vec_capacity};
+ghost use Rattle.ipcz_fabric.specs.Portals.{ends_of, portals_at, parcel_refusal};
+ghost use Rattle.ipcz_fabric.specs.Portals.{IsPut, IsPutRefusal, IsGot, IsGetRefusal, IsClosed, IsCloseRefusal};
 
 use crate::fabric::FabricName;
 use crate::hub::Hub;
@@ -106,7 +107,7 @@ impl<F: FabricName> Portal<F> {
     }
 
     /// Puts a parcel, under the lock of the portal's node, and answers its number: its bytes, and portals, which are used up. What else
-    /// holds of it is what `NodeCell::put` says.
+    /// holds of it is what `NodeCell::put` says, of the state in which the call found the node.
     ///
     /// A refused put gives bytes and portals back. Room for the list of ends is taken first, so `OutOfMemory` comes before all else; then
     /// the refusals are those of `NodeState::put`, in their order. A portal of another node is a `Stranger`.
@@ -117,6 +118,9 @@ impl<F: FabricName> Portal<F> {
         bytes: Vec<u8>,
         portals: Vec<Portal<F>>,
     ) -> Result<u64, PortalPutRefused<F>>
+        ensures number { IfOk result (IsPut self.now.end bytes.items (ends_of portals.items)) }
+        ensures fits { OnOk result (parcel_refusal self.now.end bytes.items (ends_of portals.items) ≡ None) }
+        ensures why { IfErr result (λ e. IsPutRefusal self.now.end bytes.items (ends_of portals.items) e.why) }
         ensures back { IfErr result (λ e. (e.bytes.items ≡ bytes.items) × (e.portals.items ≡ portals.items)) }
     {
         let Ok(ends) = ends_of(hub.allocator(), portals.as_slice()) else {
@@ -140,11 +144,13 @@ impl<F: FabricName> Portal<F> {
         }
     }
 
-    /// Takes the next parcel, under the lock of the portal's node. What else holds of it is what `NodeCell::get` says.
+    /// Takes the next parcel, under the lock of the portal's node. What else holds of it is what `NodeCell::get` says, of the state in which
+    /// the call found the node.
     ///
     /// Room for eight portals is taken first, so `OutOfMemory` comes before all else, and no parcel is lost; then the refusals are those of
     /// `NodeState::get`: `Stranger`, `Empty`, `PeerClosed`.
     pub fn get<R: Wait>(&self, rt: &R, hub: &Hub<F>) -> Result<Got<F>, Refusal>
+        ensures got { IfOk result (λ g. IsGot self.now.node self.now.end g.n g.bytes.items g.portals.items) }
         ensures here { IfOk result (λ g. All (λ p. p.node ≡ self.now.node) g.portals.items) }
         ensures few { IfOk result (λ g. vec_len g.portals ≤ 8) }
         ensures why { IfErr result IsGetRefusal }
@@ -172,6 +178,7 @@ impl<F: FabricName> Portal<F> {
     /// A refused close gives the portal back. It answers `Stranger` where callers of the node don't hold the end any more, else
     /// `OutOfMemory`.
     pub fn close<R: Wait>(self, rt: &R, hub: &Hub<F>) -> Result<u64, (Refusal, Portal<F>)>
+        ensures number { IfOk result (IsClosed self.end) }
         ensures back { IfErr result (λ e. e.1 ≡ self) }
         ensures why { IfErr result (λ e. IsCloseRefusal e.0) }
     {

@@ -7,7 +7,8 @@ use Rattle.ipcz_fabric.proofs.cell.NodeCell.open_pair.Goals as goal
 
 pub returns-then-is_opening : goal.returns-then-is_opening
 returns-then-is_opening g c =
-    UnderWay c.word_open.result refl (same_open _ _ _ _ c.open_prepare.ensures.part c.open_prepare.ensures.seen c.word_open.ensures)
+    UnderWay c.word_open.result refl c.word_open.ensures.inside
+    (same_open _ _ _ _ c.open_prepare.ensures.part c.open_prepare.ensures.seen c.word_open.ensures.opens)
 
 pub returns-in-Ok : goal.returns-in-Ok
 returns-in-Ok g c =
@@ -17,7 +18,7 @@ returns-in-Ok g c =
     let other = (λ (e : n ≡ size). c.if-count-from.false (e ∙ sym (c.from.ensures ∙ c.fabric.invariant.4))) in
     Fresh n c.word_open-in-Ok.result refl (no_open _ (sym c.is_opening.ensures ∙ c.if-is_opening.false)) (omega (arith, most, other))
     (fresh_open size n _ c.args.self.now c.load_count-count.new.self c.open_prepare-2.new.self c.claim_at.new.self c.word_open-in-Ok.new.self c.word_open-in-Ok.result
-    c.load_count-count.ensures.seen c.open_prepare-2.ensures.part c.open_prepare-2.ensures.seen c.in-Ok.ensures.claims c.word_open-in-Ok.ensures)
+    c.load_count-count.ensures.seen c.open_prepare-2.ensures.part c.open_prepare-2.ensures.seen c.in-Ok.ensures.claims c.word_open-in-Ok.ensures.opens)
 
 pub returns-in-Err : goal.returns-in-Err
 returns-in-Err g c =

@@ -1,4 +1,5 @@
 use Rattle.std.proofs.Common.{[], ◌∷◌, ◌++◌, ap, sym, ◌∙◌, arith}
+use Rattle.ipcz_base.specs.declared.end.End.{End}
 use Rattle.ipcz_node.specs.Node.{Node}
 use Rattle.ipcz_node.specs.Calls.{serials_refusal, open_node}
 use Rattle.ipcz_rule.specs.Rule.{Mine}
@@ -31,8 +32,15 @@ invariant_of-self g c =
     changed_cell g.F.FabricName.table _ _ _ _ c.self.inside.seat.me was _ c.exchange_step.new.seat.me done.table done.sound (open_part c.in-Some.word) _ c.open_commit.new.self.node done.done.1
     (ap (λ (z : Node). open_node z c.in-Some.word) was.seated.state ∙ sym c.open_commit.ensures.node) (open_keeps c.in-Some.word _)
 
-pub returns : goal.returns
-returns g c =
+pub returns-clause-inside : goal.returns-clause-inside
+returns-clause-inside g c =
+    let was = c.self.invariant.seated in
+    let is = ap (λ (e : End × End). e.0.pair) c.open_commit.ensures.ends in
+    let less = (own_sound _ _ _ _ was).opening c.in-Some.word (ap (λ (z : Node). z.opening) was.state ∙ sym c.in-Some.ensures) in
+    omega (arith, is, less)
+
+pub returns-clause-opens : goal.returns-clause-opens
+returns-clause-opens g c =
     let done = c.exchange_step.ensures.done in
     let i = c.in-Some.word in record {
       word = i;
