@@ -10,10 +10,11 @@ use Rattle.ipcz_world.proofs.Whole.{lists_have_lengths}
 use Rattle.ipcz_rule.specs.Rule.{Mine, Rules, saw}
 use Rattle.ipcz_rule.specs.Steps.{act_part}
 use Rattle.ipcz_rule.proofs.Claiming.{claims, loads_for_claim}
+use Rattle.ipcz_rule.proofs.RuleLaws.{counts_were_reached}
 use Rattle.ipcz_fabric.specs.TableNames.{TableName}
 use Rattle.ipcz_fabric.specs.CellStates.{part_in, change_part}
 use Rattle.ipcz_fabric.specs.Outcomes.{Tells, IsPicked}
-use Rattle.ipcz_fabric.specs.Claims.{CanClaim, counted, claimed}
+use Rattle.ipcz_fabric.specs.Claims.{AreReached, CanClaim, counted, claimed}
 use Rattle.atomic_table.specs.Seated.{TableId}
 use Rattle.ipcz_base.specs.declared.message.Message.{Message}
 use Rattle.ipcz_router.specs.declared.act.Answer.{Answer}
@@ -23,14 +24,15 @@ use Rattle.ipcz_fabric.specs.Cells.{AreSound, IsCell}
 use Rattle.ipcz_fabric.proofs.Keeping.{router_act_keeps, act_state}
 use Rattle.ipcz_fabric.proofs.Seating.{may_by, reseated, touched_cell}
 
--- a step at the claim count tells that what it finds is at most the number of words
-pub counts_told : (count size slots id : ℕ) (m : Mine) (f : ℕ → ℕ) (then : ℕ → Mine → Type 0) → Allows (Rules count size) slots id m size f then → Allows (Rules count size) slots id m size f (λ n m'. (n ≤ size) × then n m')
+-- a step at the claim count tells that what it finds is at most the number of words, and at least each count that was seen
+pub counts_told : (count size slots id : ℕ) (m : Mine) (f : ℕ → ℕ) (then : ℕ → Mine → Type 0) → Allows (Rules count size) slots id m size f then →
+    Allows (Rules count size) slots id m size f (λ n m'. (n ≤ size) × AreReached size m.0.seen n × then n m')
 counts_told count size slots id m f then may s r deep at small =
     let h = may s r deep at small in
     let most = (lists_have_lengths r.world r.books r.routes r.lawful).claimed in
     let is = ap (slice_index s.words) (sym r.words) ∙ r.shows.claims in
     let size_is = r.words in
-    (h.0, h.1, h.2, h.3, (omega (arith, most, is, size_is), h.4))
+    (h.0, h.1, h.2, h.3, (omega (arith, most, is, size_is), (λ k earlier e. (counts_were_reached count size s r id m.0 k earlier at e).0), h.4))
 
 pub count_may : (t : TableName) (id word serial : ℕ) (m : Mine) (told : Tells) → IsPicked told (counted t.size serial) → m.0.parts ≡ part_in m.0 ∷ [] → CanClaim (part_in m.0).state serial → t.size ≡ word →
     Allows (Rules t.count t.size) t.id.slots id m word (λ n. n) (told m)

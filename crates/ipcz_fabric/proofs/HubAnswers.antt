@@ -1,19 +1,14 @@
 -- What the calls of a hub answer, where the calls of its cells answer so.
-use Rattle.std.specs.Prelude.{◌≡◌, ◌<◌, ℕ, List, Bool, true, false, if◌then◌else◌, Option, Some, None, Result, Ok, Err, unwrap_or}
+use Rattle.std.specs.Prelude.{◌≡◌, ◌<◌, ℕ, Bool, true, false, if◌then◌else◌, Option, Some, None, Result, Ok, Err, unwrap_or}
 use Rattle.std.proofs.Common.{arith, ap, sym, subst, ◌∙◌, inl, inr}
 use Rattle.ipcz_base.specs.declared.end.End.{End}
 use Rattle.ipcz_base.specs.declared.refusal.Refusal.{Refusal}
 use Rattle.ipcz_base.specs.declared.refusal.Refusal.TheVariants as refusals
 use Rattle.ipcz_base.specs.Limits.{has_serials}
-use Rattle.ipcz_node.specs.declared.act.Act.{Act}
-use Rattle.ipcz_node.specs.declared.happened.Happened.{Happened}
-use Rattle.ipcz_rule.specs.declared.view.Part.{Part}
-use Rattle.ipcz_fabric.specs.TableNames.{TableName}
 use Rattle.ipcz_fabric.specs.CellStates.{CellState}
-use Rattle.ipcz_fabric.specs.Hubs.{ArePair, IsOpenRefusal, IsTurnRefusal}
+use Rattle.ipcz_fabric.specs.Hubs.{ArePair, IsOpenRefusal}
 use Rattle.ipcz_fabric.specs.Opens.{OpensPair, OpensWord, UnderWay, Fresh, NoneLeft, Unready, Lost}
 use Rattle.ipcz_fabric.specs.Portals.{PortalValue, portal_at}
-use Rattle.ipcz_fabric.specs.TurnEnds.{Turns, IsRefused, NoSerials, NoMemory, LostIt}
 
 abbrev ends_in : End × End → Result (End × End) Refusal → End × End
 ends_in other (Ok ends) = ends
@@ -34,7 +29,7 @@ serials_why false why e = inr (inl e)
 -- the open of a pair at a cell is refused for one of these
 pub open_why : (size : ℕ) (old new : CellState) (why : Refusal) → OpensPair size old new (Err why) → IsOpenRefusal why
 open_why size old new why (UnderWay ends e inside how) = cc
-open_why size old new why (Fresh n ends e idle few how) = cc
+open_why size old new why (Fresh n ends e idle few reached how) = cc
 open_why size old new why (NoneLeft e idle seen) = inl (ap (refusal_in why) e)
 open_why size old new why (Unready e part seen) = serials_why (has_serials old.part.state.next_router 2) why (ap (refusal_in why) e)
 open_why size old new why (Lost n found e idle fine few apart part seen) = inr (inr (inr (ap (refusal_in why) e)))
@@ -49,7 +44,7 @@ pair_on size node old new a b ends same how inside = record {
 
 ends_pair : (size node : ℕ) (old new : CellState) (a b : End) → OpensPair size old new (Ok (a, b)) → ArePair size node (portal_at node a, portal_at node b)
 ends_pair size node old new a b (UnderWay ends e inside how) = pair_on size node old new a b ends (ap (ends_in (a, b)) e) how inside
-ends_pair size node old new a b (Fresh n ends e idle few how) =
+ends_pair size node old new a b (Fresh n ends e idle few reached how) =
     let word : n ≡ how.word = ap word_in how.under_way in
     let is : ends.0.pair ≡ how.word = ap (λ (x : End × End). x.0.pair) how.ends_are in
     pair_on size node _ new a b ends (ap (ends_in (a, b)) e) how (omega (arith, word, is, few))

@@ -26,7 +26,7 @@ use Rattle.ipcz_fabric.specs.CellStates.{CellState, part_in, change_part, roomy}
 use Rattle.ipcz_fabric.specs.Cells.{AreSound, IsCell}
 use Rattle.ipcz_fabric.specs.Outcomes.{loaded}
 use Rattle.ipcz_fabric.specs.Mails.{HasSeen, mail_word}
-use Rattle.ipcz_fabric.specs.Claims.{Answered, Got as Won, Dry, Lost as Missed}
+use Rattle.ipcz_fabric.specs.Claims.{AreReached, Answered, Got as Won, Dry, Lost as Missed}
 use Rattle.ipcz_fabric.specs.Opens.{count_loaded, word_loaded, open_claimed, opened, ClaimsAt, ClaimsForOpen, Claimed, Outrun, OpensWord, claimed_for_open}
 use Rattle.ipcz_fabric.specs.Opens.{box_loads, FindsFree}
 use Rattle.ipcz_fabric.proofs.Seating.{KeepsHands, reseated, touched_cell}
@@ -82,15 +82,15 @@ pub open_keeps : (i : ℕ) (p : Part) → KeepsHands p (open_part i p)
 open_keeps i p = record { node = refl; hand = refl; message = refl; probed = refl }
 
 -- a load of the claim count, and then an exchange of it
-pub for_open : (size n : ℕ) (s0 s1 s2 : CellState) (answer : Result ℕ Refusal) → n < size → HasSeen size n s0 s1 → ClaimsAt size n s1 answer s2 → ClaimsForOpen size s0 s2 answer
-for_open size n s0 s1 s2 (Ok w) few load at =
-    Claimed n (ap Ok at.0) few (at.1 ∙ ap (claimed_part n) load.part) (at.2 ∙ ap (λ l. l ++ (size, n) ∷ []) load.seen)
-for_open size n s0 s1 s2 (Err e) few load at =
+pub for_open : (size n : ℕ) (s0 s1 s2 : CellState) (answer : Result ℕ Refusal) → n < size → AreReached size s0.seen n → HasSeen size n s0 s1 → ClaimsAt size n s1 answer s2 → ClaimsForOpen size s0 s2 answer
+for_open size n s0 s1 s2 (Ok w) few reached load at =
+    Claimed n (ap Ok at.0) few reached (at.1 ∙ ap (claimed_part n) load.part) (at.2 ∙ ap (λ l. l ++ (size, n) ∷ []) load.seen)
+for_open size n s0 s1 s2 (Err e) few reached load at =
     Outrun n at.1 (ap Err at.0) at.2 (at.3.part ∙ load.part) (at.3.seen ∙ ap (λ l. l ++ (size, at.1) ∷ []) load.seen)
 
 -- a claimed word is below the number of words
 pub claim_small : (size serial : ℕ) (old new : CellState) (answer : Result ℕ Refusal) → size < 4294967296 → Answered size serial old new answer → IfOk answer (λ n. n < 4294967296)
-claim_small size serial old new answer few (Won n e less part seen) = subst (λ (r : Result ℕ Refusal). IfOk r (λ n. n < 4294967296)) (sym e) (omega (arith, few, less))
+claim_small size serial old new answer few (Won n e less reached part seen) = subst (λ (r : Result ℕ Refusal). IfOk r (λ n. n < 4294967296)) (sym e) (omega (arith, few, less))
 claim_small size serial old new answer few (Dry e part seen) = subst (λ (r : Result ℕ Refusal). IfOk r (λ n. n < 4294967296)) (sym e) tt
 claim_small size serial old new answer few (Missed n found e other part seen) = subst (λ (r : Result ℕ Refusal). IfOk r (λ n. n < 4294967296)) (sym e) tt
 

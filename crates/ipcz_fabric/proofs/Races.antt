@@ -73,12 +73,12 @@ module _ (t : TableName) (id : ℕ) (p q : Ruled t.count t.size) (steps : List (
   low = omega arith
 
   claimed : (serial : ℕ) → Answered t.size serial old new (Err Raced) → IsOvertakenCall t id p steps q run old new
-  claimed serial (Got n e l part seen) = cc
+  claimed serial (Got n e l reached part seen) = cc
   claimed serial (Dry e part seen) = cc
   claimed serial (Lost n found e apart part seen) = overtaken [] t.size n found (two t.size n found seen) apart low
 
   claimed_for_open : ClaimsForOpen t.size old new (Err Raced) → IsOvertakenCall t id p steps q run old new
-  claimed_for_open (opens.Claimed n e l part seen) = cc
+  claimed_for_open (opens.Claimed n e l reached part seen) = cc
   claimed_for_open (opens.Exhausted e seen) = cc
   claimed_for_open (opens.Outrun n found e apart part seen) = overtaken [] t.size n found (two t.size n found seen) apart low
 
@@ -101,7 +101,7 @@ unready n e = grind (arith, e)
 
 pub raced_open_is_overtaken : RacedOpenIsOvertaken
 raced_open_is_overtaken t id p q steps run old new call (opens.UnderWay made e l h) = cc
-raced_open_is_overtaken t id p q steps run old new call (opens.Fresh n made e idle l h) = cc
+raced_open_is_overtaken t id p q steps run old new call (opens.Fresh n made e idle l reached h) = cc
 raced_open_is_overtaken t id p q steps run old new call (opens.NoneLeft e idle h) = cc
 raced_open_is_overtaken t id p q steps run old new call (opens.Unready e part seen) = absurd (unready old.part.state e)
 raced_open_is_overtaken t id p q steps run old new call (opens.Lost n found e idle fine l apart part seen) =

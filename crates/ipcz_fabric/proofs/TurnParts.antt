@@ -85,7 +85,7 @@ refusal_in d (Err why) = why
 pub claim_acts : (t : TableName) (serial word count : ℕ) (old new : CellState) → IsPossibleAct old.part.state (acts.Router serial router_acts.Claim) → word ≡ count → Answered t.size serial old new (Ok count) →
     Acts t (acts.Router serial router_acts.Claim) old (Ok (events.Claim serial word)) new
 unfolding word_event
-claim_acts t serial word count old new may is (Claimed n e low part seen) =
+claim_acts t serial word count old new may is (Claimed n e low reached part seen) =
     let same : word ≡ n = is ∙ ap (number_in 0) e in
     acts_whole t (acts.Router serial router_acts.Claim) old new (events.Claim serial word) ((t.size, n) ∷ (t.size, n) ∷ []) (seen ∙ seen_two old.seen (t.size, n) (t.size, n)) (record {
       answer = answers.Claimed n;
@@ -99,7 +99,7 @@ claim_acts t serial word count old new may is (WasLost n found e other part seen
 pub claim_dries : (t : TableName) (serial : ℕ) (old new : CellState) (why : Refusal) → why ≡ refusals.NoWord → IsPossibleAct old.part.state (acts.Router serial router_acts.Claim) → Answered t.size serial old new (Err why) →
     Acts t (acts.Router serial router_acts.Claim) old (Ok (events.ClaimNoWord serial)) new
 unfolding word_event
-claim_dries t serial old new why dry may (Claimed n e low part seen) = cc
+claim_dries t serial old new why dry may (Claimed n e low reached part seen) = cc
 claim_dries t serial old new why dry may (WasDry e part seen) =
     acts_whole t (acts.Router serial router_acts.Claim) old new (events.ClaimNoWord serial) ((t.size, t.size) ∷ []) seen (record {
       answer = answers.NoWord;
@@ -110,7 +110,7 @@ claim_dries t serial old new why dry may (WasDry e part seen) =
 claim_dries t serial old new why dry may (WasLost n found e other part seen) = absurd (let bad : refusals.NoWord ≡ refusals.Raced = sym dry ∙ ap (refusal_in why) e in cc)
 
 pub claim_lost : (t : TableName) (serial : ℕ) (old new : CellState) (why : Refusal) → why ≢ refusals.NoWord → Answered t.size serial old new (Err why) → Acts t (acts.Router serial router_acts.Claim) old (Err why) new
-claim_lost t serial old new why not (Claimed n e low part seen) = cc
+claim_lost t serial old new why not (Claimed n e low reached part seen) = cc
 claim_lost t serial old new why not (WasDry e part seen) = absurd (not (ap (refusal_in why) e))
 claim_lost t serial old new why not (WasLost n found e other part seen) = record {
   found = (t.size, n) ∷ (t.size, found) ∷ [];
@@ -120,7 +120,7 @@ claim_lost t serial old new why not (WasLost n found e other part seen) = record
 
 -- what was claimed is one of the table's words
 pub claim_below : (size serial count : ℕ) (old new : CellState) → Answered size serial old new (Ok count) → count < size
-claim_below size serial count old new (Claimed n e low part seen) = let same : count ≡ n = ap (number_in 0) e in omega (arith, same, low)
+claim_below size serial count old new (Claimed n e low reached part seen) = let same : count ≡ n = ap (number_in 0) e in omega (arith, same, low)
 claim_below size serial count old new (WasDry e part seen) = cc
 claim_below size serial count old new (WasLost n found e other part seen) = cc
 

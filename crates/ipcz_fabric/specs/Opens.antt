@@ -20,11 +20,11 @@ use Rattle.ipcz_fabric.specs.TableNames.{TableName}
 use Rattle.ipcz_fabric.specs.CellStates.{CellState, change_part}
 use Rattle.ipcz_fabric.specs.Outcomes.{Tells, loaded}
 use Rattle.ipcz_fabric.specs.Mails.{mail_word, HasSeen}
-use Rattle.ipcz_fabric.specs.Claims.{Answered}
+use Rattle.ipcz_fabric.specs.Claims.{AreReached, Answered}
 
--- a load of the claim count finds at most as many as there are
+-- a load of the claim count finds at most as many as there are, and at least each that was seen
 abbrev pub count_loaded : ℕ → Tells
-count_loaded size m n m' = (n ≤ size) × loaded size m n m'
+count_loaded size m n m' = (n ≤ size) × AreReached size m.0.seen n × loaded size m n m'
 
 -- a load of a link's word finds a link word
 abbrev pub word_loaded : ℕ → Tells
@@ -38,9 +38,9 @@ open_claimed size c m n m' = MatchBool (eqb n c) (m' ≡ (change_part (claimed_p
 abbrev pub opened : ℕ → Tells
 opened i m n m' = (n ≡ 0) × (m' ≡ (change_part (open_part i) (saw i n m.0), m.1))
 
--- what is read of the link word i: none from the loaded claim count on
+-- what is read of the link word i: none from the loaded claim count on, which is at least each that was seen
 abbrev pub ReadsWord : ℕ → ℕ → CellState → Option ℕ → CellState → Type 0
-ReadsWord size i old answer new = (count : ℕ) × (count ≤ size) × MatchOption answer ((count ≤ i) × HasSeen size count old new)
+ReadsWord size i old answer new = (count : ℕ) × (count ≤ size) × AreReached size old.seen count × MatchOption answer ((count ≤ i) × HasSeen size count old new)
     (λ word. (i < count) × IsLinkNumber word × (new.part ≡ old.part) × (new.seen ≡ (old.seen ++ (size, count) ∷ []) ++ (i, word) ∷ []))
 
 -- what an exchange of the claim count, which was found at c, answers and leaves
@@ -57,10 +57,10 @@ claimed_for_open size n old = record {
   room = old.room;
 }
 
--- what the claim of a word for an open answers and leaves: NoWord only where the load found that each word was claimed, Raced only where
+-- what the claim of a word for an open answers and leaves: a word that no count that was seen has passed; NoWord only where the load found that each word was claimed, Raced only where
 -- the load and the exchange found different counts
 pub data ClaimsForOpen (size : ℕ) (old new : CellState) (answer : Result ℕ Refusal) : Type 0 where
-  Claimed : (n : ℕ) → answer ≡ Ok n → n < size → new.part ≡ claimed_part n old.part →
+  Claimed : (n : ℕ) → answer ≡ Ok n → n < size → AreReached size old.seen n → new.part ≡ claimed_part n old.part →
       new.seen ≡ (old.seen ++ (size, n) ∷ []) ++ (size, n) ∷ [] → ClaimsForOpen size old new answer
   Exhausted : answer ≡ Err NoWord → HasSeen size size old new → ClaimsForOpen size old new answer
   Outrun : (n found : ℕ) → answer ≡ Err Raced → found ≢ n → new.part ≡ old.part →
@@ -84,11 +84,12 @@ pub record OpensWord (old : CellState) (ends : End × End) (new : CellState) : T
   pub part : new.part ≡ open_part word old.part
   pub seen : new.seen ≡ old.seen ++ (word, 0) ∷ []
 
--- what the open of a pair answers and leaves: an open under way is used; else a word is claimed for it. NoWord only where the load found
+-- what the open of a pair answers and leaves: an open under way is used; else a word is claimed for it, which no count that
+-- was seen has passed. NoWord only where the load found
 -- that each word was claimed, Raced only where the load and the exchange found different counts. A refused open leaves the node's part
 pub data OpensPair (size : ℕ) (old new : CellState) (answer : Result (End × End) Refusal) : Type 0 where
   UnderWay : (ends : End × End) → answer ≡ Ok ends → ends.0.pair < size → OpensWord old ends new → OpensPair size old new answer
-  Fresh : (n : ℕ) (ends : End × End) → answer ≡ Ok ends → old.part.state.opening ≡ None → n < size →
+  Fresh : (n : ℕ) (ends : End × End) → answer ≡ Ok ends → old.part.state.opening ≡ None → n < size → AreReached size old.seen n →
       OpensWord (claimed_for_open size n old) ends new →
       OpensPair size old new answer
   NoneLeft : answer ≡ Err NoWord → old.part.state.opening ≡ None → HasSeen size size old new → OpensPair size old new answer

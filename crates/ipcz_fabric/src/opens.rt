@@ -5,6 +5,7 @@ ghost use Rattle.ipcz_node.specs.Calls.{serials_refusal};
 ghost use Rattle.ipcz_node.specs.RoomyNodes.{CanOpen};
 ghost use Rattle.ipcz_fabric.specs.CellStates.{roomy};
 ghost use Rattle.ipcz_fabric.specs.Mails.{HasSeen};
+ghost use Rattle.ipcz_fabric.specs.Claims.{AreReached};
 ghost use Rattle.ipcz_fabric.specs.Opens.{ReadsWord, ClaimsAt, MayClaim, ClaimsWord, ClaimsForOpen, OpensWord, OpensPair};
 
 use crate::cell::NodeCell;
@@ -30,6 +31,7 @@ impl<F: FabricName> NodeCell<F> {
     fn load_count(&mut self, fabric: &Fabric<F>) -> u64
         ensures seen { HasSeen F.table.size result self.old self.new }
         ensures most { result ≤ F.table.size }
+        ensures reached { AreReached F.table.size self.old.seen result }
         ensures small { F.table.size < 2 ^ 32 }
     {
         load_step::<F, Brand>(&mut self.seat, fabric, fabric.words as usize)
@@ -45,10 +47,12 @@ impl<F: FabricName> NodeCell<F> {
         load_step::<F, Brand>(&mut self.seat, fabric, i as usize)
     }
 
-    /// How many link words were claimed when the count was loaded. It takes no memory.
+    /// How many link words were claimed when the count was loaded: as many as at each load and exchange of it before, or more. It takes no
+    /// memory.
     pub fn claimed(&mut self, fabric: &Fabric<F>) -> u32
         ensures seen { HasSeen F.table.size result self.old self.new }
         ensures most { result ≤ F.table.size }
+        ensures reached { AreReached F.table.size self.old.seen result }
     {
         let count = self.load_count(fabric);
         let Ok(words) = u32::try_from(count) else {
@@ -57,8 +61,8 @@ impl<F: FabricName> NodeCell<F> {
         words
     }
 
-    /// A link word as it was loaded, or none for one that wasn't claimed yet by the claim count that was loaded before it. It takes no
-    /// memory.
+    /// A link word as it was loaded, or none for one that wasn't claimed yet by the claim count that was loaded before it: so there is one
+    /// where an earlier count was above its number. It takes no memory.
     pub fn word(&mut self, fabric: &Fabric<F>, i: u32) -> Option<u64>
         ensures { ReadsWord F.table.size i self.old result self.new }
     {

@@ -16,7 +16,7 @@ returns-in-Ok g c =
     let n = c.load_count-count.result in
     let most = c.load_count-count.ensures.most in
     let other = (λ (e : n ≡ size). c.if-count-from.false (e ∙ sym (c.from.ensures ∙ c.fabric.invariant.4))) in
-    Fresh n c.word_open-in-Ok.result refl (no_open _ (sym c.is_opening.ensures ∙ c.if-is_opening.false)) (omega (arith, most, other))
+    Fresh n c.word_open-in-Ok.result refl (no_open _ (sym c.is_opening.ensures ∙ c.if-is_opening.false)) (omega (arith, most, other)) c.load_count-count.ensures.reached
     (fresh_open size n _ c.args.self.now c.load_count-count.new.self c.open_prepare-2.new.self c.claim_at.new.self c.word_open-in-Ok.new.self c.word_open-in-Ok.result
     c.load_count-count.ensures.seen c.open_prepare-2.ensures.part c.open_prepare-2.ensures.seen c.in-Ok.ensures.claims c.word_open-in-Ok.ensures.opens)
 

@@ -2,7 +2,7 @@ use Rattle.std.proofs.Common.{[], ◌∷◌, ◌++◌, ap, ◌∙◌, arith}
 use Rattle.ipcz_fabric.proofs.cell.NodeCell.word.Goals as goal
 
 pub returns-then-count-from : goal.returns-then-count-from
-returns-then-count-from g c = let count = c.load_count-count.ensures in (c.load_count-count.result, count.most, ((let less = c.if-count-from.true in let is = c.from.ensures in omega (arith, less, is)), count.seen))
+returns-then-count-from g c = let count = c.load_count-count.ensures in (c.load_count-count.result, count.most, count.reached, ((let less = c.if-count-from.true in let is = c.from.ensures in omega (arith, less, is)), count.seen))
 
 pub returns : goal.returns
 returns g c =
@@ -10,6 +10,7 @@ returns g c =
     let word = c.load_word.ensures in (
       c.load_count-count.result,
       count.most,
+      count.reached,
       (
         (let more = c.if-count-from.false in let is = c.from.ensures in omega (arith, more, is)),
         word.word,

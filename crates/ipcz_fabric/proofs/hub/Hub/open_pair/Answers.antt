@@ -1,6 +1,4 @@
-use Rattle.std.proofs.Common.{Ok, Err, ap, refl}
-use Rattle.ipcz_base.specs.declared.end.End.{End}
-use Rattle.ipcz_fabric.specs.Portals.{PortalValue}
+use Rattle.std.proofs.Common.{Ok, Err, refl}
 use Rattle.ipcz_fabric.proofs.HubAnswers.{open_why, pair_of}
 use Rattle.ipcz_fabric.proofs.hub.Hub.open_pair.Goals as goal
 
