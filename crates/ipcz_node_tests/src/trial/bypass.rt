@@ -16,7 +16,7 @@ const INWARD: LinkId = LinkId::Peripheral { node: 0, serial: 0 };
 
 // Node 0 of two, from which 1B moves to node 1: router 1 serves 1A, and router 2 is the proxy of
 // 1B, on C1.
-const MOVES: [Step; 5] = [
+static MOVES: [Step; 5] = [
     Open(1),
     Put(A0, &[B1], Ok(0)),
     Turn(SendOut(0, 0, C0, &[B1])),
@@ -27,7 +27,7 @@ const MOVES: [Step; 5] = [
 const FLUSH: Letter = Letter::Flush(C1, Side::B);
 
 // Each word is claimed. What comes then is passed on, and no word is claimed again.
-const FINDS_NO_WORD: [Step; 11] = [
+static FINDS_NO_WORD: [Step; 11] = [
     Turn(ClaimNoWord(2)),
     Turn(Rest(2)),
     Turn(Idle),
@@ -51,7 +51,7 @@ fn a_proxy_that_has_found_no_word_claims_none_again(rt: HostRuntime) {
 
 // Another side holds the lock, then the side of 1A isn't stable, and then the lock is got. Given
 // back, it is tried for again with the word that was claimed.
-const LOCKS: [Step; 18] = [
+static LOCKS: [Step; 18] = [
     Turn(Claim(2, 2)),
     Turn(Refused(2, C1, 19)),
     Turn(Rest(2)),
@@ -78,7 +78,7 @@ fn a_lock_is_tried_for_again_after_a_flush_and_after_an_unlock(rt: HostRuntime) 
 }
 
 // A word is found, the lock is got, and the bypass begins.
-const BEGINS: [Step; 6] = [
+static BEGINS: [Step; 6] = [
     Turn(Claim(2, 2)),
     Turn(Lock(2, C1, 547)),
     Turn(Begin(2, C1)),
@@ -92,7 +92,7 @@ const STOP: Letter = Letter::StopProxying(1, Side::B, 1, 2);
 
 // One item has gone out when the proxy is told both lengths, which it is once; it tells node 1 how
 // many items come from it. It leaves once one item has come in and a second one has gone out.
-const LEAVES: [Step; 21] = [
+static LEAVES: [Step; 21] = [
     Deliver(1, Letter::Parcel(INWARD, Side::A, 0, &[], &[]), true),
     Turn(SendOut(2, 0, C1, &[])),
     Turn(Post(0)),

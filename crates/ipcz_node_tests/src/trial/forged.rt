@@ -16,50 +16,48 @@ const INWARD: LinkId = LinkId::Peripheral { node: 0, serial: 0 };
 
 // Node 0 of two. A parcel comes for 0A, 1B moves to node 1, and its proxy is bypassed: router 1 serves 1A, which gets the fresh
 // link C2 and uses it both ways.
-const OF_NODE_0: [Step; 37] = [
-    Open(1),
-    Deliver(1, Parcel(C0, A, 0, &[], &[]), true),
-    GetParcel(A0, 0, b"a", &[]),
-    Deliver(1, Parcel(C0, A, 1, &[], &[]), true),
-    Put(A0, &[B1], Ok(0)),
-    Turn(SendOut(0, 0, C0, &[B1])),
-    Turn(Post(1)),
-    Turn(Rest(0)),
-    Turn(Claim(2, 2)),
-    Turn(Lock(2, C1, 547)),
-    Turn(Begin(2, C1)),
-    Turn(Post(1)),
-    Posted(BypassPeer(INWARD, B, 1, 0, 2)),
-    Turn(Rest(2)),
-    Turn(Idle),
-    Deliver(1, AcceptBypass(1, A, 2, 0), true),
-    Turn(Post(0)),
-    Posted(StopProxying(1, B, 0, 0)),
-    Return,
-    Turn(Post(1)),
-    Posted(ProxyWillStop(INWARD, B, 0)),
-    Turn(FinishOut(1, C1)),
-    Turn(Mark(1, C2, 1)),
-    Turn(Rest(1)),
-    Turn(FinishOut(2, C1)),
-    Turn(FinishIn(2, INWARD)),
-    Turn(Leave(2)),
-    Turn(Idle),
-    Put(A1, &[], Ok(0)),
-    Turn(SendOut(1, 0, C2, &[])),
-    Turn(Post(1)),
-    Posted(Parcel(C2, B, 0, &[], &[])),
-    Deliver(1, Parcel(C2, A, 0, &[], &[]), true),
-    GetParcel(A1, 0, b"a", &[]),
-    Get(A0, Ok(1)),
-    Turn(Rest(1)),
-    Quiet(true),
-];
-
-const RUN_OF_NODE_0: Run = Run {
+static RUN_OF_NODE_0: Run = Run {
     node: 0,
     first: 0,
-    steps: &OF_NODE_0,
+    steps: &[
+        Open(1),
+        Deliver(1, Parcel(C0, A, 0, &[], &[]), true),
+        GetParcel(A0, 0, b"a", &[]),
+        Deliver(1, Parcel(C0, A, 1, &[], &[]), true),
+        Put(A0, &[B1], Ok(0)),
+        Turn(SendOut(0, 0, C0, &[B1])),
+        Turn(Post(1)),
+        Turn(Rest(0)),
+        Turn(Claim(2, 2)),
+        Turn(Lock(2, C1, 547)),
+        Turn(Begin(2, C1)),
+        Turn(Post(1)),
+        Posted(BypassPeer(INWARD, B, 1, 0, 2)),
+        Turn(Rest(2)),
+        Turn(Idle),
+        Deliver(1, AcceptBypass(1, A, 2, 0), true),
+        Turn(Post(0)),
+        Posted(StopProxying(1, B, 0, 0)),
+        Return,
+        Turn(Post(1)),
+        Posted(ProxyWillStop(INWARD, B, 0)),
+        Turn(FinishOut(1, C1)),
+        Turn(Mark(1, C2, 1)),
+        Turn(Rest(1)),
+        Turn(FinishOut(2, C1)),
+        Turn(FinishIn(2, INWARD)),
+        Turn(Leave(2)),
+        Turn(Idle),
+        Put(A1, &[], Ok(0)),
+        Turn(SendOut(1, 0, C2, &[])),
+        Turn(Post(1)),
+        Posted(Parcel(C2, B, 0, &[], &[])),
+        Deliver(1, Parcel(C2, A, 0, &[], &[]), true),
+        GetParcel(A1, 0, b"a", &[]),
+        Get(A0, Ok(1)),
+        Turn(Rest(1)),
+        Quiet(true),
+    ],
 };
 
 // After the bypass began, and after its AcceptBypass came.
@@ -67,7 +65,7 @@ const BEGAN: usize = 14;
 
 const ACCEPTED: usize = 16;
 
-const OF_NODE_0_ASIDE: [Aside; 15] = [
+static OF_NODE_0_ASIDE: [Aside; 15] = [
     Aside {
         why: "the number has passed",
         after: 3,
@@ -161,37 +159,35 @@ const MOVED_1B: Descriptor = Descriptor {
 };
 
 // Node 1 of two. 1B moves here from node 0; it puts over the link of the move, and then over the fresh one.
-const OF_NODE_1: [Step; 24] = [
-    Deliver(0, Parcel(C0, B, 0, &[B1], &[MOVED_1B]), true),
-    Turn(Rest(0)),
-    Get(B0, Ok(0)),
-    Put(B1, &[], Ok(0)),
-    Turn(SendOut(1, 0, INWARD, &[])),
-    Turn(Post(0)),
-    Turn(Rest(1)),
-    Turn(Idle),
-    Deliver(0, BypassPeer(INWARD, B, 1, 0, 2), true),
-    Turn(Post(0)),
-    Posted(AcceptBypass(1, A, 2, 1)),
-    Turn(Rest(1)),
-    Put(B1, &[], Ok(1)),
-    Turn(SendOut(1, 1, C2, &[])),
-    Turn(Post(0)),
-    Turn(Rest(1)),
-    Deliver(0, ProxyWillStop(INWARD, B, 0), true),
-    Turn(FinishOut(1, INWARD)),
-    Turn(Mark(1, C2, 3)),
-    Turn(Rest(1)),
-    Deliver(0, Parcel(C2, B, 0, &[], &[]), true),
-    Turn(Rest(1)),
-    GetParcel(B1, 0, b"a", &[]),
-    Quiet(true),
-];
-
-const RUN_OF_NODE_1: Run = Run {
+static RUN_OF_NODE_1: Run = Run {
     node: 1,
     first: 0,
-    steps: &OF_NODE_1,
+    steps: &[
+        Deliver(0, Parcel(C0, B, 0, &[B1], &[MOVED_1B]), true),
+        Turn(Rest(0)),
+        Get(B0, Ok(0)),
+        Put(B1, &[], Ok(0)),
+        Turn(SendOut(1, 0, INWARD, &[])),
+        Turn(Post(0)),
+        Turn(Rest(1)),
+        Turn(Idle),
+        Deliver(0, BypassPeer(INWARD, B, 1, 0, 2), true),
+        Turn(Post(0)),
+        Posted(AcceptBypass(1, A, 2, 1)),
+        Turn(Rest(1)),
+        Put(B1, &[], Ok(1)),
+        Turn(SendOut(1, 1, C2, &[])),
+        Turn(Post(0)),
+        Turn(Rest(1)),
+        Deliver(0, ProxyWillStop(INWARD, B, 0), true),
+        Turn(FinishOut(1, INWARD)),
+        Turn(Mark(1, C2, 3)),
+        Turn(Rest(1)),
+        Deliver(0, Parcel(C2, B, 0, &[], &[]), true),
+        Turn(Rest(1)),
+        GetParcel(B1, 0, b"a", &[]),
+        Quiet(true),
+    ],
 };
 
 // After 1B came, and after its BypassPeer came.
@@ -233,7 +229,7 @@ const HIGH: Descriptor = Descriptor {
     next_in: 0,
 };
 
-const ITEMS_ASIDE: [Aside; 11] = [
+static ITEMS_ASIDE: [Aside; 11] = [
     Aside {
         why: "no router has the link",
         after: CAME,
@@ -299,7 +295,7 @@ fn an_item_that_is_forged_changes_nothing(rt: HostRuntime) {
     );
 }
 
-const OF_NODE_1_ASIDE: [Aside; 9] = [
+static OF_NODE_1_ASIDE: [Aside; 9] = [
     Aside {
         why: "no router has the link as outward primary link",
         after: CAME,

@@ -10,7 +10,7 @@ use std::test::Fail;
 const INWARD: LinkId = LinkId::Peripheral { node: 0, serial: 0 };
 
 // Four parcels are put at 1A, and one of them is got at 1B.
-const ONE_OF_FOUR: [Step; 21] = [
+static ONE_OF_FOUR: [Step; 21] = [
     Open(1),
     Put(A1, &[], Ok(0)),
     Put(A1, &[], Ok(1)),
@@ -43,7 +43,7 @@ const MOVED_1B: Descriptor = Descriptor {
 
 // Then 1B moves from node 0 to node 1. What its callers had not got follows over the link of the
 // move.
-const MOVES_1B: [Step; 22] = [
+static MOVES_1B: [Step; 22] = [
     Put(A0, &[B1], Ok(0)),
     Holds(B1, false),
     Turn(SendOut(0, 0, C0, &[B1])),
@@ -112,7 +112,7 @@ const MOVED_5A_ON: Descriptor = Descriptor {
 
 // On node 1 of three 0B moves on to node 2, and then a parcel with 5A comes for it from node 0.
 // Router 0 serves 0B, router 1 serves 2A, and router 2 is the terminal of 5A.
-const MOVES_ON: [Step; 10] = [
+static MOVES_ON: [Step; 10] = [
     Put(A2, &[B0], Ok(0)),
     Turn(SendOut(1, 0, C2, &[B0])),
     Turn(Post(2)),
@@ -132,7 +132,7 @@ fn a_proxy_moves_the_ends_that_it_passes_on(rt: HostRuntime) {
 
 // 0A goes from 1A to 1B, both on node 0. It has its terminal, and no caller holds it until the
 // parcel is got.
-const GOES_WITHIN: [Step; 14] = [
+static GOES_WITHIN: [Step; 14] = [
     Open(1),
     Put(A1, &[A0], Ok(0)),
     Holds(A0, false),

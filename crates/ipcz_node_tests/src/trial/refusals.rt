@@ -8,7 +8,7 @@ use std::test::Fail;
 
 // Each row has the causes of the rows after it too, as far as they can be had at once. 0B is held
 // on node 1.
-const REFUSED: [Step; 17] = [
+static REFUSED: [Step; 17] = [
     Open(1),
     PutBytes(B0, 0x7F, 257, &[B0, A0], Err(Refusal::Stranger)),
     Quiet(true),
@@ -63,7 +63,7 @@ const MOVED_5A: Descriptor = Descriptor {
 };
 
 // 5A comes from node 1 with one number left for a put.
-const TAKES_THE_LAST: [Step; 9] = [
+static TAKES_THE_LAST: [Step; 9] = [
     Deliver(1, Letter::Parcel(C0, Side::A, 0, &[A5], &[MOVED_5A]), true),
     Holds(A5, false),
     Get(A0, Ok(0)),
@@ -113,7 +113,7 @@ const B4: End = End {
 const EIGHT: &[End] = &[A1, B1, A2, B2, A3, B3, A4, B4];
 
 // No byte, the most of the least value, one of the greatest, and the most bytes with the most ends.
-const ACCEPTED: [Step; 17] = [
+static ACCEPTED: [Step; 17] = [
     Open(1),
     Open(2),
     Open(3),
@@ -140,7 +140,7 @@ fn a_put_of_the_most_bytes_and_ends_is_accepted(rt: HostRuntime) {
 
 // The mark of 0B comes before the parcel in front of it. What is tested before it is refused before
 // it.
-const CLOSED: [Step; 14] = [
+static CLOSED: [Step; 14] = [
     Put(A0, &[], Ok(0)),
     Deliver(1, Letter::Mark(C0, Side::A, 1), true),
     Put(A0, &[], Err(Refusal::PeerClosed)),

@@ -24,7 +24,7 @@ fn first_wrong(alloc: Global, count: u8, first: u64, steps: &[Step]) -> Option<u
 }
 
 // The pair has the last serials but one; no other can be opened, and this one is used as ever.
-const LAST_PAIR: [Step; 9] = [
+static LAST_PAIR: [Step; 9] = [
     HeldFrom(0, None),
     Open(0),
     HeldFrom(0, Some((18446744073709551613, A0))),
@@ -36,7 +36,7 @@ const LAST_PAIR: [Step; 9] = [
     Posted(Parcel(C0, B, 0, &[], &[])),
 ];
 
-const NO_PAIR: [Step; 3] = [
+static NO_PAIR: [Step; 3] = [
     OpenRefused(Refusal::NumbersEnd),
     HeldFrom(0, None),
     Quiet(true),
@@ -72,7 +72,7 @@ const MAIL: MailSeen = MailSeen {
 };
 
 // The router of 0A has the last serial. A parcel without ends comes all the same.
-const HAND: Run = Run {
+static HAND: Run = Run {
     node: 0,
     first: 18446744073709551614,
     steps: &[
@@ -88,7 +88,7 @@ const HAND: Run = Run {
     ],
 };
 
-const HAND_ASIDE: [Aside; 1] = [Aside {
+static HAND_ASIDE: [Aside; 1] = [Aside {
     why: "no serial is left for the terminal of the end",
     after: 4,
     step: DeliverRefused(1, Parcel(C0, A, 0, &[A5], &[MOVED_5A]), Refusal::NumbersEnd),
@@ -134,7 +134,7 @@ const MOVED_0A: Descriptor = Descriptor {
 // 1B gets parcels from node 0 itself, which moves no end: with 1A, with 0A, with none, and with an end that isn't there, as no
 // trusted node sends one. Then 1B moves to node 1, and what it got follows. The links of the moved ends take the last serials; what
 // needs none is still sent, and what needs one waits and stops no mail.
-const SENDS: Run = Run {
+static SENDS: Run = Run {
     node: 0,
     first: 18446744073709551612,
     steps: &[
@@ -171,7 +171,7 @@ const SENDS: Run = Run {
     ],
 };
 
-const SENDS_ASIDE: [Aside; 1] = [Aside {
+static SENDS_ASIDE: [Aside; 1] = [Aside {
     why: "no serial is left for the link of the end",
     after: 23,
     step: TurnRefused(Refusal::NumbersEnd),

@@ -39,7 +39,7 @@ const MOVE_6B: Descriptor = Descriptor {
 const FIRST: Letter = Letter::Parcel(C0, Side::A, 0, &[], &[]);
 
 // At first its number is free, then it is occupied, and then it has passed.
-const COMES_ONCE: [Step; 8] = [
+static COMES_ONCE: [Step; 8] = [
     Deliver(1, Letter::StopProxying(0, Side::A, 0, 0), false),
     Deliver(1, FIRST, true),
     Deliver(1, FIRST, false),
@@ -57,7 +57,7 @@ fn an_item_comes_once(rt: HostRuntime) {
 
 const OWN_PERIPHERAL: LinkId = LinkId::Peripheral { node: 0, serial: 0 };
 
-const HAS_A_PLACE: [Step; 6] = [
+static HAS_A_PLACE: [Step; 6] = [
     Deliver(1, Letter::Parcel(C0, Side::B, 0, &[], &[]), false),
     Deliver(
         1,
@@ -115,7 +115,7 @@ const HERE: Descriptor = Descriptor {
     next_in: 0,
 };
 
-const HAS_ITS_MOVES: [Step; 13] = [
+static HAS_ITS_MOVES: [Step; 13] = [
     // One move for each end, in order.
     Deliver(1, Letter::Parcel(C0, Side::A, 0, &[A5], &[]), false),
     Deliver(1, Letter::Parcel(C0, Side::A, 0, &[], &[MOVE_5A]), false),
@@ -162,12 +162,12 @@ fn an_item_has_its_moves(rt: HostRuntime) {
 }
 
 // The terminal of 5A moves here from node 1.
-const MOVES: [Step; 1] = [Deliver(1, Letter::Parcel(C0, Side::A, 0, &[A5], &[MOVE_5A]), true)];
+static MOVES: [Step; 1] = [Deliver(1, Letter::Parcel(C0, Side::A, 0, &[A5], &[MOVE_5A]), true)];
 
 // Its bypass: the link to node 1 decays, and the fresh one is C2.
 const BYPASS_BY_2: Letter = Letter::BypassPeer(FROM_NODE_1, Side::B, 9, 1, 2);
 
-const HAS_ITS_TERMINAL: [Step; 8] = [
+static HAS_ITS_TERMINAL: [Step; 8] = [
     // No router here has the link at the side.
     Deliver(
         1,
@@ -196,7 +196,7 @@ fn a_bypass_peer_has_its_terminal(rt: HostRuntime) {
 }
 
 // The router of 5A has C2 as primary link, and its old one decays.
-const DOES_NOT_DECAY: [Step; 11] = [
+static DOES_NOT_DECAY: [Step; 11] = [
     Deliver(1, BYPASS_BY_2, true),
     // No router here has the old link at the side.
     Deliver(1, Letter::AcceptBypass(3, Side::A, 4, 0), false),
@@ -225,7 +225,7 @@ fn an_accept_bypass_has_a_router_that_does_not_decay(rt: HostRuntime) {
 
 // The word of the old link names the node that may send its AcceptBypass: no node, this one, and then
 // the sender, whose message fits. The answer goes to the other side of the old link.
-const IS_OF_THE_SOURCE: [Step; 10] = [
+static IS_OF_THE_SOURCE: [Step; 10] = [
     DeliverWhere(None, 1, Letter::AcceptBypass(0, Side::A, 2, 0), false),
     DeliverWhere(Some(0), 1, Letter::AcceptBypass(0, Side::A, 2, 0), false),
     Strays(2),
@@ -244,7 +244,7 @@ fn an_accept_bypass_is_of_the_source_that_the_word_names(rt: HostRuntime) {
     assert_eq!(rt; first_wrong(rt.alloc(), 0, 2, &[&IS_OF_THE_SOURCE]), None);
 }
 
-const TELLS_A_LENGTH: [Step; 6] = [
+static TELLS_A_LENGTH: [Step; 6] = [
     // The link doesn't decay yet.
     Deliver(1, Letter::ProxyWillStop(FROM_NODE_1, Side::B, 0), false),
     Deliver(1, BYPASS_BY_2, true),
@@ -263,7 +263,7 @@ fn a_proxy_will_stop_tells_an_unknown_length(rt: HostRuntime) {
     );
 }
 
-const IS_DROPPED: [Step; 5] = [
+static IS_DROPPED: [Step; 5] = [
     Deliver(1, Letter::Flush(C0, Side::B), false),
     Quiet(true),
     Deliver(1, Letter::Flush(C0, Side::A), true),

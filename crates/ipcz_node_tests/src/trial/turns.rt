@@ -60,7 +60,7 @@ const TO_3_AND_7: MailSeen = MailSeen {
 
 // Node 1 of three: router 0 serves 0B, toward node 0, and router 1 serves 2A, toward node 2. Each
 // of the outboxes to these has a message at the end, and router 1 is flagged.
-const FILLS_OUTBOXES: [Step; 13] = [
+static FILLS_OUTBOXES: [Step; 13] = [
     First(Act::Idle),
     Quiet(true),
     Put(A2, &[], Ok(0)),
@@ -76,7 +76,7 @@ const FILLS_OUTBOXES: [Step; 13] = [
     First(Act::Router(1, RouterAct::Rest)),
 ];
 
-const CHOOSES: [Step; 20] = [
+static CHOOSES: [Step; 20] = [
     See(CLEAR),
     First(Act::Post(0)),
     See(TO_1_AND_2),
@@ -110,7 +110,7 @@ fn a_look_comes_before_a_post_and_both_before_routers(rt: HostRuntime) {
 }
 
 // The lowest destination comes first, and over one link the lower number.
-const POSTS: [Step; 17] = [
+static POSTS: [Step; 17] = [
     Put(A2, &[], Ok(0)),
     Put(A2, &[], Ok(1)),
     Put(B0, &[], Ok(0)),
@@ -137,7 +137,7 @@ fn posts_go_by_destination_and_then_in_the_order_of_sending(rt: HostRuntime) {
 
 // Whatever else has come or waits, also where a message of another node is delivered, or the act is
 // committed.
-const STAYS_IN_HAND: [Step; 17] = [
+static STAYS_IN_HAND: [Step; 17] = [
     See(FROM_0_AND_2),
     Turn(Look(0)),
     Deliver(2, Letter::Parcel(C2, Side::A, 0, &[], &[]), true),
@@ -163,7 +163,7 @@ fn a_message_stays_in_hand_until_it_is_delivered(rt: HostRuntime) {
 }
 
 // A message that doesn't fit is out of the hand, too.
-const STRAYS_FROM_HAND: [Step; 6] = [
+static STRAYS_FROM_HAND: [Step; 6] = [
     See(FROM_0_AND_2),
     Turn(Look(0)),
     Deliver(2, Letter::StopProxying(2, Side::A, 0, 0), false),
@@ -179,7 +179,7 @@ fn a_stray_leaves_the_hand(rt: HostRuntime) {
 
 // The terminal of 1B is closed, and a parcel that carries 0A comes to it. The mark of 1B is sent
 // before anything is dropped, and posted; the mark of 0A goes to node 1.
-const DROPS: [Step; 24] = [
+static DROPS: [Step; 24] = [
     Open(1),
     Put(A1, &[A0], Ok(0)),
     Close(B1, Ok(0)),

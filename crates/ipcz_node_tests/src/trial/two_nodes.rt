@@ -201,7 +201,7 @@ fn turn(trial: &mut Option<Trial>, mail: &mut Mail, words: &mut Words) -> Option
 }
 
 // The pair of C1 opens on node 0, and both its ends are to move to node 1.
-const START: [Step; 2] = [Open(1), Put(A0, &[A1, B1], Ok(0))];
+static START: [Step; 2] = [Open(1), Put(A0, &[A1, B1], Ok(0))];
 
 impl Pair {
     // Two nodes with their first pair on C0, and the word of C1 for a pair that node 0 opens.
@@ -295,7 +295,7 @@ const P1: LinkId = LinkId::Peripheral { node: 0, serial: 1 };
 
 // Both ends of C1 move from node 0 to node 1. The proxy of 1A is bypassed by C2, while that of 1B
 // is refused the lock of C1; then that waits for the lock of C2 until 1A's new terminal is stable.
-const LEGS: [Leg; 10] = [
+static LEGS: [Leg; 10] = [
     Leg {
         node: 0,
         deeds: &[
