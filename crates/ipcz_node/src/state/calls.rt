@@ -6,7 +6,7 @@ ghost use Rattle.ipcz_base.specs.declared.side.Side.TheVariants.{A, B};
 ghost use Rattle.ipcz_router.specs.Router.{Router as RouterRecord, IsOpenTerminal};
 ghost use Rattle.ipcz_base.specs.declared.item.Item.{Item};
 ghost use Rattle.ipcz_router.specs.Calls.{next_number, put_item, router_put_refusal};
-ghost use Rattle.ipcz_node.specs.Rooms.{HasOutRoom};
+ghost use Rattle.ipcz_node.specs.Rooms.{HasQueueRoom};
 ghost use Rattle.ipcz_node.specs.Node.{router_in, terminal_of, found, with_router, holds_end, source_in, word_side};
 ghost use Rattle.ipcz_node.specs.Calls.{serials_refusal, open_node, are_held_once, refusal_at, are_too_many, put_refusal, put_node};
 ghost use Rattle.ipcz_node.specs.Calls.{put_number, get_refusal, got_at, get_node, close_refusal, close_node, close_end};
@@ -129,7 +129,7 @@ impl NodeState {
         ensures ok { (r : RouterRecord) → router_in self.old.node serial ≡ Some r →
             OnOk result (self.new.node ≡ with_router self.old.node serial (put_item r (Item.Parcel (record { bytes = bytes; ends = ends })))) }
         ensures why { IfErr result (λ e. e.why ≡ Refusal.OutOfMemory) }
-        ensures full { HasOutRoom self.old.room.out_rooms serial → IsOk result }
+        ensures full { HasQueueRoom self.old.room.out_rooms serial → IsOk result }
         ensures err { IfErr result (λ e. (e.bytes ≡ bytes) × (e.ends ≡ ends) × (self.new.node ≡ self.old.node)) }
     {
         match self.routers.put(serial, Parcel { bytes, ends }) {
