@@ -35,8 +35,8 @@ claimed size serial c m n m' = MatchBool (eqb n c)
     (m' ≡ (change_part (act_part (acts.Router serial router_acts.Claim) (answers.Claimed c)) (saw size n m.0), m.1))
     (m' ≡ (saw size n m.0, m.1))
 
--- what a proxy's claim answers and leaves: a word that no count that was seen has passed; NoWord only where the load found that each word was claimed, and then it is dry; Raced only
--- where the load and the exchange found different counts
+-- what a proxy's claim answers and leaves: a word that no count that was seen has passed; NoWord only where the load found that each word
+-- was claimed, and then it is dry; Raced only where the load and the exchange found different counts
 pub data Answered (size serial : ℕ) (old new : CellState) (answer : Result ℕ Refusal) : Type 0 where
   Got : (n : ℕ) → answer ≡ Ok n → n < size → AreReached size old.seen n → new.part ≡ act_part (acts.Router serial router_acts.Claim) (answers.Claimed n) old.part →
       new.seen ≡ (old.seen ++ (size, n) ∷ []) ++ (size, n) ∷ [] → Answered size serial old new answer

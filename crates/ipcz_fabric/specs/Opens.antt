@@ -57,8 +57,8 @@ claimed_for_open size n old = record {
   room = old.room;
 }
 
--- what the claim of a word for an open answers and leaves: a word that no count that was seen has passed; NoWord only where the load found that each word was claimed, Raced only where
--- the load and the exchange found different counts
+-- what the claim of a word for an open answers and leaves: a word that no count that was seen has passed; NoWord only where the load found
+-- that each word was claimed, Raced only where the load and the exchange found different counts
 pub data ClaimsForOpen (size : ℕ) (old new : CellState) (answer : Result ℕ Refusal) : Type 0 where
   Claimed : (n : ℕ) → answer ≡ Ok n → n < size → AreReached size old.seen n → new.part ≡ claimed_part n old.part →
       new.seen ≡ (old.seen ++ (size, n) ∷ []) ++ (size, n) ∷ [] → ClaimsForOpen size old new answer
