@@ -4,7 +4,7 @@ use Rattle.std.proofs.lemmas.List.{append_assoc, append-nil, map-append}
 use Rattle.ipcz_base.specs.declared.end.End.{End}
 use Rattle.ipcz_node.specs.Node.{Node}
 use Rattle.ipcz_node.specs.Finding.{IsNextHeld}
-use Rattle.ipcz_fabric.specs.CellStates.{CellState}
+use Rattle.ipcz_cell.specs.CellStates.{CellState}
 use Rattle.ipcz_fabric.specs.Portals.{PortalValue, portal_at, portals_at}
 use Rattle.ipcz_fabric.specs.Hubs.{AreHeldFrom, AddsHeld, AddsFirst}
 

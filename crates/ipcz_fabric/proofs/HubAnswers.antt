@@ -5,9 +5,9 @@ use Rattle.ipcz_base.specs.declared.end.End.{End}
 use Rattle.ipcz_base.specs.declared.refusal.Refusal.{Refusal}
 use Rattle.ipcz_base.specs.declared.refusal.Refusal.TheVariants as refusals
 use Rattle.ipcz_base.specs.Limits.{has_serials}
-use Rattle.ipcz_fabric.specs.CellStates.{CellState}
+use Rattle.ipcz_cell.specs.CellStates.{CellState}
 use Rattle.ipcz_fabric.specs.Hubs.{ArePair, IsOpenRefusal}
-use Rattle.ipcz_fabric.specs.Opens.{OpensPair, OpensWord, UnderWay, Fresh, NoneLeft, Unready, Lost}
+use Rattle.ipcz_cell.specs.Opens.{OpensPair, OpensWord, UnderWay, Fresh, NoneLeft, Unready, Lost}
 use Rattle.ipcz_fabric.specs.Portals.{PortalValue, portal_at}
 
 abbrev ends_in : End × End → Result (End × End) Refusal → End × End

@@ -10,11 +10,11 @@ use Rattle.ipcz_base.specs.Ends.{end_at}
 use Rattle.ipcz_node.specs.declared.happened.Happened.{Happened}
 use Rattle.ipcz_node.specs.Node.{Node}
 use Rattle.ipcz_node.specs.Finding.{IsNextHeld}
-use Rattle.ipcz_fabric.specs.TableNames.{TableName}
-use Rattle.ipcz_fabric.specs.CellStates.{CellState}
-use Rattle.ipcz_fabric.specs.Opens.{OpensPair}
+use Rattle.ipcz_cell.specs.TableNames.{TableName}
+use Rattle.ipcz_cell.specs.CellStates.{CellState}
+use Rattle.ipcz_cell.specs.Opens.{OpensPair}
 use Rattle.ipcz_fabric.specs.Portals.{PortalValue, portal_at, portals_at}
-use Rattle.ipcz_fabric.specs.TurnEnds.{Turns}
+use Rattle.ipcz_cell.specs.TurnEnds.{Turns}
 
 -- these are the ends that callers of a node hold whose terminals have a serial from this one on, by rising serials; a serial is below
 -- 2 ^ 64

@@ -1,15 +1,13 @@
 //! Hubs: cells that threads share, each behind a lock of its own. There is no other lock.
 ghost use Rattle.std.specs.Prelude.{◌≡◌, ◌≤◌, ◌<◌, OnOk, IfOk, IfErr, Err, vec_len, vec_capacity};
-ghost use Rattle.ipcz_fabric.specs.Ending.{FinishRefuses};
+ghost use Rattle.ipcz_cell.specs.Ending.{FinishRefuses};
 ghost use Rattle.ipcz_fabric.specs.Hubs.{AddsFirst, AddsHeld, AreFirstPortals, ArePair};
 ghost use Rattle.ipcz_fabric.specs.Hubs.{IsOpenAnswer, IsOpenRefusal, IsTurnAnswer, IsTurnRefusal};
 
-use crate::cell::NodeCell;
-use crate::ending::is_in_order;
-use crate::fabric::{Fabric, FabricName};
 use crate::portal::Portal;
 use ipcz_base::Refusal;
-use ipcz_node::{Happened, NodeState};
+use ipcz_cell::{Fabric, FabricName, NodeCell};
+use ipcz_node::Happened;
 use std::alloc::{AllocError, Global};
 use std::collections::VecDeque;
 use std::marker::Model;
@@ -75,18 +73,17 @@ fn unlock_all<F: FabricName>(
     cells
 }
 
-// Adds a portal for each end that callers of a node hold, by the serial of the end's terminal.
+// Adds a portal for each end that callers of a cell's node hold, by the serial of the end's terminal.
 fn add_held<F: FabricName>(
-    state: &NodeState,
+    cell: &NodeCell<F>,
     portals: &mut Vec<Portal<F>>,
 ) -> Result<(), AllocError>
-    requires { state.now.node.number < F.table.count }
-    ensures { OnOk result (AddsHeld state.now.node state.now.node.number portals.old.items portals.new.items) }
+    ensures { OnOk result (AddsHeld cell.now.part.state cell.now.part.node portals.old.items portals.new.items) }
 {
-    let node = state.number();
+    let node = cell.node();
     let mut from = 0;
     loop {
-        let Some((serial, end)) = state.held_from(from) else {
+        let Some((serial, end)) = cell.held_from(from) else {
             return Ok(());
         };
         portals.push(Portal::new(node, end))?;
@@ -107,18 +104,9 @@ fn add_first<F: FabricName>(
     match cells {
         [] => Ok(()),
         [cell, rest @ ..] => {
-            cell.add_held(portals)?;
+            add_held(cell, portals)?;
             add_first(rest, portals)
         }
-    }
-}
-
-impl<F: FabricName> NodeCell<F> {
-    // Adds a portal for each end that callers of the cell's node hold.
-    fn add_held(&self, portals: &mut Vec<Portal<F>>) -> Result<(), AllocError>
-        ensures { OnOk result (AddsHeld self.now.part.state self.now.part.node portals.old.items portals.new.items) }
-    {
-        add_held(&self.state, portals)
     }
 }
 
@@ -137,7 +125,7 @@ impl<F: FabricName> Hub<F> {
         ensures why { IfErr result (λ e. FinishRefuses F.table.count cells.items e.0) }
         ensures back { IfErr result (λ e. e.2.items ≡ cells.items) }
     {
-        if !is_in_order(cells.as_slice(), 0, fabric.nodes) {
+        if !fabric.are_all(cells.as_slice()) {
             return Err((Refusal::Stranger, fabric, cells));
         }
         let alloc = *cells.allocator();
@@ -185,7 +173,7 @@ impl<F: FabricName> Hub<F> {
         ensures why { node < F.table.count → IfErr result IsOpenRefusal }
         ensures answer { node < F.table.count → IsOpenAnswer F.table node result }
     {
-        if node >= self.fabric.nodes {
+        if node >= self.fabric.nodes() {
             return Err(Refusal::Stranger);
         }
         let opened = self.cell(node).lock(rt).open_pair(&self.fabric);
@@ -204,7 +192,7 @@ impl<F: FabricName> Hub<F> {
         ensures why { node < F.table.count → IfErr result IsTurnRefusal }
         ensures answer { node < F.table.count → IsTurnAnswer F.table result }
     {
-        if node < self.fabric.nodes {
+        if node < self.fabric.nodes() {
             return self.cell(node).lock(rt).turn(&self.fabric);
         }
         Err(Refusal::Stranger)
@@ -214,7 +202,7 @@ impl<F: FabricName> Hub<F> {
     pub(crate) fn nodes(&self) -> u8
         ensures { result ≡ F.table.count }
     {
-        self.fabric.nodes
+        self.fabric.nodes()
     }
 
     /// Takes the cells out of their locks, and gives the table and as many cells as were put in. It waits for nothing.

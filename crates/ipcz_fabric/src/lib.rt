@@ -1,29 +1,12 @@
-//! Nodes on one table, each with a seat of its own: a thread that owns a node's cell acts on the table without any lock
-//! (docs/THREADS.md).
+//! Nodes that threads share: a hub keeps the cells of a table (`ipcz_cell`), a lock round each, and callers have portals in place of ends
+//! (docs/THREADS.md). What a caller needs of cells is passed on.
 #![tactic(auto)]
 
-mod cell;
-mod claims;
-mod ending;
-mod fabric;
-mod holds;
 mod hub;
-pub mod laws;
-mod mail;
-mod making;
-mod opens;
-mod plays;
 mod portal;
-mod probed;
-mod quiet;
-mod turns;
-mod words;
 mod workers;
 
-pub use cell::NodeCell;
-pub use ending::finish;
-pub use fabric::{Fabric, FabricName};
 pub use hub::Hub;
-pub use making::{Blank, start};
+pub use ipcz_cell::{Blank, Fabric, FabricName, NodeCell, finish, start};
 pub use portal::{Got, Portal, PortalPutRefused};
 pub use workers::{Gate, Worker, run_worker, work};

@@ -3,9 +3,9 @@ ghost use Rattle.std.specs.Prelude.{◌≡◌, ◌≤◌, ◌<◌, ◌+◌, ◌+
 ghost use Rattle.ipcz_fabric.specs.Portals.{ends_of, portals_at, parcel_refusal};
 ghost use Rattle.ipcz_fabric.specs.Portals.{IsPut, IsPutRefusal, IsGot, IsGetRefusal, IsClosed, IsCloseRefusal};
 
-use crate::fabric::FabricName;
 use crate::hub::Hub;
 use ipcz_base::{Bytes, End, Ends, Refusal};
+use ipcz_cell::FabricName;
 use std::alloc::{AllocError, Global};
 use std::marker::{Model, PhantomData};
 use std::sync::Wait;

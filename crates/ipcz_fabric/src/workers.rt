@@ -2,9 +2,9 @@
 ghost use Rattle.std.specs.Prelude.{◌≡◌, ◌≤◌, ◌<◌, ◌-◌, ◌^◌};
 ghost use Rattle.ipcz_fabric.specs.Workers.{Works, counted};
 
-use crate::fabric::FabricName;
 use crate::hub::Hub;
 use ipcz_base::Refusal;
+use ipcz_cell::FabricName;
 use ipcz_node::Happened;
 use std::sync::Wait;
 

@@ -1,6 +1,6 @@
 -- Workers that are asked one after the other.
 use Rattle.std.proofs.Common.{◌≡◌, ◌+◌, ◌-◌, ◌&&◌, ℕ, zero, suc, Bool, List, refl, subst, arith}
-use Rattle.ipcz_fabric.specs.TableNames.{TableName}
+use Rattle.ipcz_cell.specs.TableNames.{TableName}
 use Rattle.ipcz_threads.specs.Workers.{WorkerState}
 use Rattle.ipcz_threads.specs.Rounds.{IsAskedAt, AreAsked}
 

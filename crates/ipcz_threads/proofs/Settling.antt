@@ -1,6 +1,6 @@
 -- Rounds, one after the other.
 use Rattle.std.proofs.Common.{◌≡◌, ℕ, zero, suc, Bool, true, false, List, length, refl, subst}
-use Rattle.ipcz_fabric.specs.TableNames.{TableName}
+use Rattle.ipcz_cell.specs.TableNames.{TableName}
 use Rattle.ipcz_threads.specs.Workers.{WorkerState}
 use Rattle.ipcz_threads.specs.Rounds.{AreAsked, IsRound, is_some_starved}
 use Rattle.ipcz_threads.specs.Stages.{Settles}

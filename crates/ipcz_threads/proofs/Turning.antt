@@ -3,7 +3,7 @@ use Rattle.std.proofs.Common.{◌≡◌, ◌∙◌, ◌++◌, ap, sym, refl, sub
 use Rattle.std.specs.Prelude.{MatchBool}
 use Rattle.ipcz_world.specs.declared.step.Reply.{Reply}
 use Rattle.ipcz_script.specs.Sessions.{is_idle_reply, is_want}
-use Rattle.ipcz_fabric.specs.TableNames.{TableName}
+use Rattle.ipcz_cell.specs.TableNames.{TableName}
 use Rattle.ipcz_threads.specs.declared.call.Call.TheVariants.{Turn}
 use Rattle.ipcz_threads.specs.Workers.{WorkerState, CallsAt}
 use Rattle.ipcz_threads.specs.Stages.{AreTurns}

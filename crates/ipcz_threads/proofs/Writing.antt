@@ -6,7 +6,7 @@ use Rattle.ipcz_script.specs.declared.said.Said.{Said}
 use Rattle.ipcz_script.specs.Lines.{lines_of}
 use Rattle.ipcz_script.specs.Transcript.{is_unsettled}
 use Rattle.ipcz_script.proofs.Writing.{either, or_none}
-use Rattle.ipcz_fabric.specs.TableNames.{TableName}
+use Rattle.ipcz_cell.specs.TableNames.{TableName}
 use Rattle.ipcz_threads.specs.Stages.{Stage, Runs}
 use Rattle.ipcz_threads.specs.Transcripts.{Writes}
 

@@ -3,9 +3,9 @@ use Rattle.std.specs.Prelude.{◌≡◌, ◌<◌, ◌+◌, ◌||◌, ◌&&◌, �
 use Rattle.std.specs.Prelude.{slice_index_or, Some, Ok, Err}
 use Rattle.ipcz_base.specs.declared.refusal.Refusal.TheVariants as refusals
 use Rattle.ipcz_node.specs.declared.happened.Happened.TheVariants as events
-use Rattle.ipcz_fabric.specs.Opens.{FindsQuiet}
-use Rattle.ipcz_fabric.specs.TableNames.{TableName}
-use Rattle.ipcz_fabric.specs.TurnEnds.{Turns}
+use Rattle.ipcz_cell.specs.Opens.{FindsQuiet}
+use Rattle.ipcz_cell.specs.TableNames.{TableName}
+use Rattle.ipcz_cell.specs.TurnEnds.{Turns}
 use Rattle.ipcz_fabric.specs.Workers.{Answer, Works}
 use Rattle.ipcz_threads.specs.Workers.{WorkerState}
 

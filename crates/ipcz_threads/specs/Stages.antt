@@ -10,7 +10,7 @@ use Rattle.ipcz_script.specs.declared.said.Said.{Said}
 use Rattle.ipcz_script.specs.declared.said.Said.TheVariants as said
 use Rattle.ipcz_script.specs.Labels.{Labels, bind, ends_of}
 use Rattle.ipcz_script.specs.Sessions.{answer_to, is_want, is_idle_reply}
-use Rattle.ipcz_fabric.specs.TableNames.{TableName}
+use Rattle.ipcz_cell.specs.TableNames.{TableName}
 use Rattle.ipcz_threads.specs.declared.call.Call.{Call}
 use Rattle.ipcz_threads.specs.declared.call.Call.TheVariants as calls
 use Rattle.ipcz_threads.specs.Workers.{WorkerState, CallsAt, holder_from}

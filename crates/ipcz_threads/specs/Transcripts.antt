@@ -8,8 +8,8 @@ use Rattle.ipcz_script.specs.declared.run_fault.RunFault.{RunFault}
 use Rattle.ipcz_script.specs.Labels.{first_labels}
 use Rattle.ipcz_script.specs.Lines.{lines_of}
 use Rattle.ipcz_script.specs.Transcript.{is_unsettled, IsRunOutputBy, IsOutputBy, ReadsAndWritesBy}
-use Rattle.ipcz_fabric.specs.Making.{AreFirst}
-use Rattle.ipcz_fabric.specs.TableNames.{TableName}
+use Rattle.ipcz_cell.specs.Making.{AreFirst}
+use Rattle.ipcz_cell.specs.TableNames.{TableName}
 use Rattle.ipcz_threads.specs.Stages.{Stage, Runs}
 
 -- a command that was run: what it was answered, and the stages before and after it

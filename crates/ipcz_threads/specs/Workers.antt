@@ -11,11 +11,11 @@ use Rattle.ipcz_node.specs.declared.happened.Happened.{Happened}
 use Rattle.ipcz_world.specs.declared.step.Reply.{Reply}
 use Rattle.ipcz_world.specs.declared.step.Reply.TheVariants as replies
 use Rattle.ipcz_rule.specs.Steps.{put_part, close_part}
-use Rattle.ipcz_fabric.specs.CellStates.{CellState}
-use Rattle.ipcz_fabric.specs.Opens.{OpensPair}
-use Rattle.ipcz_fabric.specs.Parts.{got_part}
-use Rattle.ipcz_fabric.specs.TableNames.{TableName}
-use Rattle.ipcz_fabric.specs.TurnEnds.{Turns}
+use Rattle.ipcz_cell.specs.CellStates.{CellState}
+use Rattle.ipcz_cell.specs.Opens.{OpensPair}
+use Rattle.ipcz_cell.specs.Parts.{got_part}
+use Rattle.ipcz_cell.specs.TableNames.{TableName}
+use Rattle.ipcz_cell.specs.TurnEnds.{Turns}
 use Rattle.ipcz_threads.specs.declared.call.Call.{Call}
 use Rattle.ipcz_threads.specs.declared.call.Call.TheVariants as calls
 

@@ -1,5 +1,5 @@
 ghost use Rattle.std.specs.Prelude.{◌≡◌, ◌≤◌, ◌↔◌, ◌++◌, false, length, IsTrue, IsErrOf, IfOk, OnOk, vec_len};
-ghost use Rattle.ipcz_fabric.specs.Making.{AreFirst};
+ghost use Rattle.ipcz_cell.specs.Making.{AreFirst};
 ghost use Rattle.ipcz_world.specs.Lawful.{IsWithinLimits};
 ghost use Rattle.ipcz_script.specs.Lines.{lines_of, refused_line};
 ghost use Rattle.ipcz_script.specs.Transcript.{is_unsettled};

@@ -1,6 +1,6 @@
 //! A node's cell with its gate, as a thread has both for a round.
 ghost use Rattle.std.specs.Prelude.{◌≡◌};
-ghost use Rattle.ipcz_fabric.specs.Opens.{FindsQuiet, OpensPair};
+ghost use Rattle.ipcz_cell.specs.Opens.{FindsQuiet, OpensPair};
 ghost use Rattle.ipcz_node.specs.Node.{holds_end};
 ghost use Rattle.ipcz_threads.specs.Rounds.{finds_no_memory};
 ghost use Rattle.ipcz_threads.specs.Workers.{CallsWorker, Puts, opened, put};

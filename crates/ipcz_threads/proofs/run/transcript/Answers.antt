@@ -2,7 +2,7 @@ use Rattle.std.proofs.Common.{◌≡◌, ℕ, Bool, List, subst}
 use Rattle.std.proofs.lemmas.Result.{IfOk-weaker}
 use Rattle.ipcz_script.specs.declared.command.Command.{Command}
 use Rattle.ipcz_script.specs.declared.script.Script.{Script}
-use Rattle.ipcz_fabric.specs.TableNames.{TableName}
+use Rattle.ipcz_cell.specs.TableNames.{TableName}
 use Rattle.ipcz_threads.specs.Stages.{Stage}
 use Rattle.ipcz_threads.specs.Transcripts.{IsFirst, IsTranscript, Writes}
 use Rattle.ipcz_threads.proofs.run.transcript.Goals as goal

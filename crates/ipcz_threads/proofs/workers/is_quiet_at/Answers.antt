@@ -1,6 +1,6 @@
 use Rattle.std.proofs.Common.{◌≡◌, length, refl, sym, subst, arith}
 use Rattle.std.proofs.lemmas.Option.{slice_get_read}
-use Rattle.ipcz_fabric.specs.Opens.{FindsQuiet}
+use Rattle.ipcz_cell.specs.Opens.{FindsQuiet}
 use Rattle.ipcz_threads.proofs.workers.is_quiet_at.Goals as goal
 
 pub returns-clause-asked : goal.returns-clause-asked

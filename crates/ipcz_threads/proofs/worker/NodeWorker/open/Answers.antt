@@ -1,5 +1,5 @@
 use Rattle.std.proofs.Common.{subst}
-use Rattle.ipcz_fabric.specs.Opens.{OpensPair}
+use Rattle.ipcz_cell.specs.Opens.{OpensPair}
 use Rattle.ipcz_threads.proofs.worker.NodeWorker.open.Goals as goal
 
 pub returns-clause-opens : goal.returns-clause-opens

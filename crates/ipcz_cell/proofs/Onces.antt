@@ -1,0 +1,78 @@
+-- Lists of numbers of which none stands twice.
+use Rattle.std.specs.Prelude.{◌≡◌, ◌<◌, ◌+◌, ◌++◌, ℕ, suc, Bool, true, false, ◌||◌, cond, nat_eq, List, [], ◌∷◌, length, take, drop}
+use Rattle.std.proofs.Common.{ap, subst, ◌∙◌, refl, arith}
+use Rattle.std.proofs.lemmas.Bool.Decides.{nat_tests}
+use Rattle.ipcz_rule.specs.Rule.{has_number, without_number}
+use Rattle.ipcz_cell.proofs.Few.{few}
+use Rattle.ipcz_cell.specs.Cells.{AreOnce, AreBelow, place_in}
+
+without_by : (j : ℕ) (js : List ℕ) (i : ℕ) (b : Bool) → nat_eq i j ≡ b → (b || has_number js i) ≡ false → (has_number js i ≡ false → without_number js i ≡ js) → cond (nat_eq j i) (without_number js i) (j ∷ without_number js i) ≡ j ∷ js
+without_by j js i true h e f = absurd cc
+without_by j js i false h e f =
+    let other : nat_eq j i ≡ false = grind (arith, nat_tests, h) in
+    ap (λ (b : Bool). cond b (without_number js i) (j ∷ without_number js i)) other ∙ ap (λ l. j ∷ l) (f e)
+
+-- without a number that isn't there
+pub without_absent : (xs : List ℕ) (i : ℕ) → has_number xs i ≡ false → without_number xs i ≡ xs
+without_absent [] i e = refl
+without_absent (j ∷ js) i e = without_by j js i (nat_eq i j) refl e (λ h. without_absent js i h)
+
+-- what a number leaves that stands there once
+pub without_split : (before after : List ℕ) (i : ℕ) → AreOnce (before ++ i ∷ after) → without_number (before ++ i ∷ after) i ≡ before ++ after
+without_split [] after i once = let same : nat_eq i i ≡ true = grind (arith, nat_tests) in ap (λ (b : Bool). cond b (without_number after i) (i ∷ without_number after i)) same ∙ without_absent after i once.0
+without_split (j ∷ js) after i once =
+    let other : nat_eq j i ≡ false = apart (nat_eq j i) refl in
+    ap (λ (b : Bool). cond b (without_number (js ++ i ∷ after) i) (j ∷ without_number (js ++ i ∷ after) i)) other ∙ ap (λ l. j ∷ l) (without_split js after i once.1)
+  where
+    there : (xs : List ℕ) (k : ℕ) → has_number (xs ++ i ∷ after) i ≡ true
+    there [] k = let same : nat_eq i i ≡ true = grind (arith, nat_tests) in ap (λ (b : Bool). b || has_number after i) same
+    there (x ∷ xs) k = or_true (nat_eq i x) (has_number (xs ++ i ∷ after) i) (there xs k)
+      where
+        or_true : (a b : Bool) → b ≡ true → (a || b) ≡ true
+        or_true true b e = refl
+        or_true false b e = e
+
+    apart : (b : Bool) → nat_eq j i ≡ b → nat_eq j i ≡ false
+    apart true h = absurd (let same : j ≡ i = grind (arith, nat_tests, h) in let has = there js 0 in let hasnt : has_number (js ++ i ∷ after) i ≡ false = subst (λ (k : ℕ). has_number (js ++ i ∷ after) k ≡ false) same once.0 in grind (arith, has, hasnt))
+    apart false h = h
+
+-- parts of a list of which none stands twice
+absent_part : (before after : List ℕ) (i k : ℕ) → has_number (before ++ i ∷ after) k ≡ false → has_number (before ++ after) k ≡ false
+absent_part [] after i k e = second (nat_eq k i) (has_number after k) e
+  where
+    second : (a b : Bool) → (a || b) ≡ false → b ≡ false
+    second true b e = absurd cc
+    second false b e = e
+absent_part (j ∷ js) after i k e = both (nat_eq k j) (has_number (js ++ i ∷ after) k) (has_number (js ++ after) k) e (λ h. absent_part js after i k h)
+  where
+    both : (a b c : Bool) → (a || b) ≡ false → (b ≡ false → c ≡ false) → (a || c) ≡ false
+    both true b c e f = absurd cc
+    both false b c e f = f e
+
+pub once_split : (before after : List ℕ) (i : ℕ) → AreOnce (before ++ i ∷ after) → AreOnce (before ++ after)
+once_split [] after i once = once.1
+once_split (j ∷ js) after i once = (absent_part js after i j once.0, once_split js after i once.1)
+
+pub below_split : (n : ℕ) (before after : List ℕ) (i : ℕ) → AreBelow n (before ++ i ∷ after) → AreBelow n (before ++ after)
+below_split n [] after i low = low.1
+below_split n (j ∷ js) after i low = (low.0, below_split n js after i low.1)
+
+-- a list that has a number is what stands before it, it, and what stands behind it
+abbrev IsSplit : List ℕ → ℕ → ℕ → Type 0
+IsSplit xs i p = (xs ≡ take p xs ++ i ∷ drop (suc p) xs) × (length (take p xs) ≡ p) × (p < length xs)
+
+split_by : (j : ℕ) (js : List ℕ) (i : ℕ) (b : Bool) → nat_eq i j ≡ b → (b || has_number js i) ≡ true → (has_number js i ≡ true → IsSplit js i (place_in js i)) →
+    IsSplit (j ∷ js) i (cond b 0 (suc (place_in js i)))
+split_by j js i true h e f = let same : j ≡ i = grind (arith, nat_tests, h) in (ap (λ k. k ∷ js) same, refl, omega arith)
+split_by j js i false h e f = let t = f e in (ap (λ l. j ∷ l) t.0, ap suc t.1, let l = t.2 in omega arith)
+
+split_in : (xs : List ℕ) (i : ℕ) → has_number xs i ≡ true → IsSplit xs i (place_in xs i)
+split_in [] i e = absurd cc
+split_in (j ∷ js) i e = split_by j js i (nat_eq i j) refl e (λ h. split_in js i h)
+
+pub split_at : (xs : List ℕ) (i d : ℕ) → has_number xs i ≡ true → d ≡ place_in xs i + 1 → (xs ≡ take (place_in xs i) xs ++ i ∷ drop d xs) × (length (take (place_in xs i) xs) ≡ place_in xs i) × (place_in xs i < length xs)
+split_at xs i d e same = let t = split_in xs i e in let next : suc (place_in xs i) ≡ d = omega (arith, same) in (t.0 ∙ ap (λ (k : ℕ). take (place_in xs i) xs ++ i ∷ drop k xs) next, t.1, t.2)
+
+-- one that isn't there is left out, so they are fewer
+pub fewer : (n to : ℕ) (xs : List ℕ) → AreOnce xs → AreBelow n xs → to < n → has_number xs to ≡ false → length xs < n
+fewer n to xs once low small absent = few n (to ∷ xs) (absent, once) (small, low)

@@ -1,0 +1,93 @@
+-- What a cell keeps, after a step of its seat and a change of its state.
+use Rattle.std.specs.Prelude.{◌≡◌, ◌<◌, ℕ, List, [], ◌∷◌, ◌++◌, Option, is_some, Result, Ok, Err, OnOk, OnErr}
+use Rattle.std.proofs.Common.{ap, sym, subst, ◌∙◌, arith}
+use lib.ListN.{get_elem?}
+use Rattle.atomic_table.specs.Seated.{TableId}
+use Rattle.ipcz_base.specs.declared.message.Message.{Message}
+use Rattle.ipcz_node.specs.Node.{Node}
+use Rattle.ipcz_world.specs.Soundness.{IsSound}
+use Rattle.ipcz_rule.specs.declared.view.View.{View}
+use Rattle.ipcz_rule.specs.declared.view.Part.{Part}
+use Rattle.atomic_table.specs.Table.{Allows}
+use Rattle.ipcz_rule.specs.Rule.{Slot, Mine, Rules}
+use Rattle.ipcz_cell.specs.Outcomes.{Tells, IsPicked}
+use Rattle.ipcz_cell.specs.TableNames.{TableName}
+use Rattle.ipcz_cell.specs.CellStates.{part_in, first_part}
+use Rattle.ipcz_cell.specs.Cells.{AreSound, IsSeated, IsCell, held_slots}
+
+-- what a touch leaves of a part
+pub record KeepsHands (p p' : Part) : Type 0 where
+  pub node : p'.node ≡ p.node
+  pub hand : p'.state.hand ≡ p.state.hand
+  pub message : p'.message ≡ p.message
+  pub probed : p'.probed ≡ p.probed
+
+module _ (t : TableName) (n : Node) (id : TableId) (me : Mine) (was : IsSeated t n id me) where
+  -- the node of a seat is sound
+  pub own_sound : IsSound t.count t.size (part_in me.0).node (part_in me.0).state
+  own_sound = (was.sound 0 (part_in me.0) (ap (λ (l : List Part). get_elem? l 0) was.whole)).1
+
+  pub own_inside : (part_in me.0).node < t.count
+  own_inside = (was.sound 0 (part_in me.0) (ap (λ (l : List Part). get_elem? l 0) was.whole)).0
+
+  pub number_is : n.number ≡ (part_in me.0).node
+  number_is = ap (λ (z : Node). z.number) (sym was.state) ∙ own_sound.number_is
+
+  pub number_inside : n.number < t.count
+  number_inside = let e = number_is in let h = own_inside in omega arith
+
+  -- the seat after a step that changes its part
+  pub reseated : (n' : Node) (id' : TableId) (me' : Mine) (p' : Part) (v' : View) (c' : List (ℕ × Slot)) → id' ≡ id → me' ≡ (v', c') → v'.parts ≡ p' ∷ [] → p'.state ≡ n' → AreSound t.count t.size me'.0 → IsSeated t n' id' me'
+  reseated n' id' me' p' v' c' same done is state sound =
+      let parts : me'.0.parts ≡ p' ∷ [] = ap (λ (m : Mine). m.0.parts) done ∙ is in record {
+        named = same ∙ was.named;
+        whole = parts ∙ ap (λ (l : List Part). first_part l ∷ []) (sym parts);
+        state = ap (λ (l : List Part). (first_part l).state) parts ∙ state;
+        sound = sound;
+      }
+
+  -- the same seat
+  pub stays_seated : (n' : Node) (id' : TableId) (me' : Mine) → id' ≡ id → me' ≡ me → n' ≡ n → IsSeated t n' id' me'
+  stays_seated n' id' me' same done state =
+      let named : IsSeated t n id' me = record { named = same ∙ was.named; whole = was.whole; state = was.state; sound = was.sound } in
+      subst (λ (m : Mine). IsSeated t n' id' m) (sym done) (subst (λ (z : Node). IsSeated t z id' me) (sym state) named)
+
+-- a cell after a touch
+pub touched_cell : (t : TableName) (n n' : Node) (hand : Option Message) (tos : List ℕ) (id id' : TableId) (me me' : Mine) (p' : Part) (v' : View) → IsCell t n hand tos id me → IsSeated t n' id' me' →
+    me' ≡ (v', me.1) → v'.parts ≡ p' ∷ [] → KeepsHands (part_in me.0) p' → IsCell t n' hand tos id' me'
+touched_cell t n n' hand tos id id' me me' p' v' was seated done is keeps =
+    let part : part_in me'.0 ≡ p' = ap (λ (m : Mine). part_in m.0) done ∙ ap first_part is in record {
+      seated = seated;
+      message = ap (λ (p : Part). p.message) part ∙ (keeps.message ∙ was.message);
+      probed = ap (λ (p : Part). p.probed) part ∙ (keeps.probed ∙ was.probed);
+      slots = ap (λ (m : Mine). m.1) done ∙ (was.slots ∙ (same_slots ∙ ap (held_slots t.count) (sym part)));
+      holding = was.holding ∙ ap is_some (ap (λ (z : Node). z.hand) (sym was.seated.state) ∙ (sym keeps.hand ∙ (ap (λ (q : Part). q.state.hand) (sym part) ∙ ap (λ (z : Node). z.hand) seated.state)));
+      below = was.below;
+    }
+  where
+    p : Part
+    p = part_in me.0
+
+    same_slots : held_slots t.count (part_in me.0) ≡ held_slots t.count p'
+    same_slots = λ i. Rattle.ipcz_cell.specs.Cells.probed_slots t.count (sym keeps.node i) (sym keeps.probed i) ++ Rattle.ipcz_cell.specs.Cells.hand_slots t.count (sym keeps.node i) (sym keeps.hand i)
+
+-- a cell whose seat and state are as they were
+pub same_cell : (t : TableName) (n n' : Node) (hand : Option Message) (tos : List ℕ) (id id' : TableId) (me me' : Mine) → IsCell t n hand tos id me → IsSeated t n' id' me' → me' ≡ me → IsCell t n' hand tos id' me'
+same_cell t n n' hand tos id id' me me' was seated same = record {
+  seated = seated;
+  message = ap (λ (m : Mine). (part_in m.0).message) same ∙ was.message;
+  probed = ap (λ (m : Mine). (part_in m.0).probed) same ∙ was.probed;
+  slots = ap (λ (m : Mine). m.1) same ∙ (was.slots ∙ ap (λ (m : Mine). held_slots t.count (part_in m.0)) (sym same));
+  holding = was.holding ∙ ap is_some (ap (λ (z : Node). z.hand) (sym was.seated.state) ∙ (ap (λ (m : Mine). (part_in m.0).state.hand) (sym same) ∙ ap (λ (z : Node). z.hand) seated.state));
+  below = was.below;
+}
+
+-- a cell after a touch, or as it was
+pub touched_or_same : {X E : Type 0} (r : Result X E) (t : TableName) (n n' : Node) (hand : Option Message) (tos : List ℕ) (id id' : TableId) (me me' : Mine) (p' : Part) (v' : View) (Same : Type 0) → IsCell t n hand tos id me → IsSeated t n' id' me' →
+    OnOk r (me' ≡ (v', me.1)) → OnErr r (Same × (me' ≡ me)) → v'.parts ≡ p' ∷ [] → KeepsHands (part_in me.0) p' → IsCell t n' hand tos id' me'
+touched_or_same (Ok x) t n n' hand tos id id' me me' p' v' Same was seated done same is keeps = touched_cell t n n' hand tos id id' me me' p' v' was seated done is keeps
+touched_or_same (Err x) t n n' hand tos id id' me me' p' v' Same was seated done same is keeps = same_cell t n n' hand tos id id' me me' was seated same.1
+
+-- what may be told by a name of it
+pub may_by : (count size slots id : ℕ) (m : Mine) (i : ℕ) (f : ℕ → ℕ) (t u : Tells) → IsPicked t u → Allows (Rules count size) slots id m i f (u m) → Allows (Rules count size) slots id m i f (t m)
+may_by count size slots id m i f t u e may s r deep at small = let h = may s r deep at small in (h.0, h.1, h.2, h.3, e.said m _ _ h.4)

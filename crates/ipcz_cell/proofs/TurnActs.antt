@@ -1,0 +1,229 @@
+-- What a turn tells of an act that it has done.
+use Rattle.std.specs.Prelude.{◌≡◌, ◌≢◌, ◌⊎◌, ℕ, Bool, true, false, ◌||◌, nat_eq, if◌then◌else◌, MatchBool, List, [], ◌∷◌, ◌++◌, Option, Some, None, Result, Ok, Err, OnOk, OnErr, IfOk, IfErr, IsOk, IsSomeAnd}
+use Rattle.std.proofs.Common.{ap, sym, subst, ◌∙◌, refl, inl, inr, arith, append-nil}
+use Rattle.std.proofs.lemmas.Bool.Decides.{nat_tests}
+use Rattle.ipcz_base.specs.declared.refusal.Refusal.{Refusal}
+use Rattle.ipcz_base.specs.declared.refusal.Refusal.TheVariants as refusals
+use Rattle.ipcz_base.specs.declared.end.End.{End}
+use Rattle.ipcz_router.specs.Router.{Router}
+use Rattle.ipcz_router.specs.ActTable.{may_take}
+use Rattle.ipcz_node.proofs.Choosing.{unlock_may}
+use Rattle.ipcz_rule.specs.Steps.{is_touch}
+use Rattle.ipcz_router.specs.declared.act.Answer.TheVariants as answers
+use Rattle.ipcz_router.specs.declared.act.RouterAct.{RouterAct}
+use Rattle.ipcz_router.specs.declared.act.RouterAct.TheVariants as router_acts
+use Rattle.ipcz_node.specs.declared.act.Act.{Act}
+use Rattle.ipcz_node.specs.declared.act.Act.TheVariants as acts
+use Rattle.ipcz_node.specs.declared.happened.Happened.{Happened}
+use Rattle.ipcz_node.specs.declared.happened.Happened.TheVariants as events
+use Rattle.ipcz_node.specs.Acts.{act_lacks_serials, act_grows, stand_in}
+use Rattle.ipcz_node.specs.Events.{event_of}
+use Rattle.ipcz_rule.specs.declared.view.Part.{Part}
+use Rattle.ipcz_rule.specs.Rule.{has_number}
+use Rattle.ipcz_rule.specs.Steps.{act_part, post_part, probe_part}
+use Rattle.ipcz_cell.specs.TableNames.{TableName}
+use Rattle.ipcz_cell.specs.CellStates.{CellState}
+use Rattle.ipcz_cell.specs.Parts.{is_touch_act}
+use Rattle.ipcz_cell.specs.Mails.{Probes, IsProbed, Looks, mail_word}
+use Rattle.ipcz_cell.specs.TurnEnds.{IsAnswered, IsDone, IsTaken, IsLost, IsRefused, NoSerials, NoMemory, LostIt, lacks_serials, IsSeenBefore, may_grow, Acts}
+
+abbrev Seen : Type 0
+Seen = List (ℕ × ℕ)
+
+-- an act that was done whole
+pub acts_whole : (t : TableName) (act : Act) (old new : CellState) (event : Happened) (seen : Seen) → new.seen ≡ old.seen ++ seen → IsDone t old.part act event new.part seen → Acts t act old (Ok event) new
+acts_whole t act old new event seen e done = record { found = seen; seen = e; outcome = record { taken = act; which = inl refl; done = done } }
+
+-- a look
+pub look_acts : (t : TableName) (from : ℕ) (old new : CellState) → Looks (mail_word t from old.part.node) from old true new → Acts t (acts.Look from) old (Ok (events.Look from)) new
+unfolding event_of
+look_acts t sender old new h = acts_whole t (acts.Look sender) old new (events.Look sender) ((mail_word t sender old.part.node, 1) ∷ []) h.2
+    (record { answer = answers.Plain; answered = (refl, refl); part = (h.0, h.1); event_is = refl })
+
+pub look_lost : (t : TableName) (from : ℕ) (old new : CellState) → Looks (mail_word t from old.part.node) from old false new → Acts t (acts.Look from) old (Err refusals.Raced) new
+look_lost t sender old new h = record {
+  found = (mail_word t sender old.part.node, h.0) ∷ [];
+  seen = h.2.seen;
+  outcome = (h.2.part, LostIt refl (h.0, h.1, refl));
+}
+
+-- a post: the mailbox is probed, and then has the message
+abbrev probe_seen : Bool → ℕ → Seen
+probe_seen b word = if b then [] else (word, 0) ∷ []
+
+probed_there : (b : Bool) (i to : ℕ) (old mid : CellState) → has_number old.part.probed to ≡ b → IsProbed i to old mid → (mid.seen ≡ old.seen ++ probe_seen b i) × (post_part to mid.part ≡ post_part to old.part) × (has_number mid.part.probed to ≡ true) × (mid.part.state ≡ old.part.state)
+probed_there true i to old mid e h =
+    let k = subst (λ (b : Bool). MatchBool b ((mid.part ≡ old.part) × (mid.seen ≡ old.seen)) ((mid.part ≡ probe_part to old.part) × (mid.seen ≡ old.seen ++ (i, 0) ∷ []))) e h in
+    (k.1 ∙ sym (append-nil old.seen), ap (post_part to) k.0, ap (λ (p : Part). has_number p.probed to) k.0 ∙ e, ap (λ (p : Part). p.state) k.0)
+probed_there false i to old mid e h =
+    let k = subst (λ (b : Bool). MatchBool b ((mid.part ≡ old.part) × (mid.seen ≡ old.seen)) ((mid.part ≡ probe_part to old.part) × (mid.seen ≡ old.seen ++ (i, 0) ∷ []))) e h in
+    let own : nat_eq to to ≡ true = grind (arith, nat_tests) in
+    (k.1, ap (post_part to) k.0 ∙ posted own, ap (λ (p : Part). has_number p.probed to) k.0 ∙ ap (λ (b : Bool). b || has_number old.part.probed to) own, ap (λ (p : Part). p.state) k.0)
+  where
+    posted : nat_eq to to ≡ true → post_part to (probe_part to old.part) ≡ post_part to old.part
+    posted own = rw own refl
+
+pub probed_can : (i to : ℕ) (old mid : CellState) → Probes i to old true mid → (has_number mid.part.probed to ≡ true) × (mid.part.state ≡ old.part.state)
+probed_can i to old mid h = let k = probed_there (has_number old.part.probed to) i to old mid refl h in (k.2, k.3)
+
+pub post_acts : (t : TableName) (to : ℕ) (old mid new : CellState) → Probes (mail_word t old.part.node to) to old true mid → new.part ≡ post_part to mid.part → new.seen ≡ mid.seen → Acts t (acts.Post to) old (Ok (events.Post to)) new
+unfolding event_of
+post_acts t to old mid new h part seen =
+    let word = mail_word t old.part.node to in
+    let k = probed_there (has_number old.part.probed to) word to old mid refl h in
+    acts_whole t (acts.Post to) old new (events.Post to) (probe_seen (has_number old.part.probed to) word) (seen ∙ k.0) (record { answer = answers.Plain; answered = (refl, refl); part = part ∙ k.1; event_is = refl })
+
+pub post_lost : (t : TableName) (to : ℕ) (old new : CellState) → Probes (mail_word t old.part.node to) to old false new → Acts t (acts.Post to) old (Err refusals.Raced) new
+post_lost t to old new h = record {
+  found = (mail_word t old.part.node to, h.1.0) ∷ [];
+  seen = h.1.2.seen;
+  outcome = (h.1.2.part, LostIt refl (h.1.0, h.1.1, h.0, refl));
+}
+
+-- an act that touches no word and no mailbox is answered nothing and sees nothing
+touch_done : (t : TableName) (p p' : Part) (act : Act) (event : Happened) → is_touch_act act ≡ true → p' ≡ act_part act answers.Plain p → event ≡ event_of p.state act answers.Plain → IsDone t p act event p' []
+touch_done t p p' (acts.Hand sender) event touch part is = cc
+touch_done t p p' (acts.Look sender) event touch part is = cc
+touch_done t p p' (acts.Post to) event touch part is = cc
+touch_done t p p' acts.Idle event touch part is = cc
+touch_done t p p' (acts.Close end) event touch part is = record { answer = answers.Plain; answered = (refl, refl); part = part; event_is = is }
+touch_done t p p' (acts.Router serial act) event touch part is = record { answer = answers.Plain; answered = plain act touch; part = part; event_is = is }
+  where
+    plain : (act : RouterAct) → is_touch_act (acts.Router serial act) ≡ true → IsAnswered t p (acts.Router serial act) answers.Plain []
+    plain router_acts.SendOut e = (refl, refl)
+    plain router_acts.SendIn e = (refl, refl)
+    plain router_acts.Discard e = (refl, refl)
+    plain router_acts.FinishOut e = (refl, refl)
+    plain router_acts.FinishIn e = (refl, refl)
+    plain router_acts.Leave e = (refl, refl)
+    plain router_acts.Begin e = (refl, refl)
+    plain router_acts.Rest e = (refl, refl)
+    plain router_acts.Mark e = cc
+    plain router_acts.Wake e = cc
+    plain router_acts.Claim e = cc
+    plain router_acts.Lock e = cc
+    plain router_acts.Unlock e = cc
+
+pub touch_acts : (t : TableName) (act : Act) (old mid new : CellState) (event : Happened) → is_touch_act act ≡ true → mid.part ≡ old.part → mid.seen ≡ old.seen → event ≡ event_of mid.part.state act answers.Plain →
+    new.part ≡ act_part act answers.Plain mid.part → new.seen ≡ mid.seen → Acts t act old (Ok event) new
+touch_acts t act old mid new event touch same kept is part seen =
+    acts_whole t act old new event [] (seen ∙ (kept ∙ sym (append-nil old.seen)))
+    (touch_done t old.part new.part act event touch (part ∙ ap (act_part act answers.Plain) same) (is ∙ ap (λ (p : Part). event_of p.state act answers.Plain) same))
+
+-- it is refused before anything is done
+touch_lacks : (p : Part) (act : Act) → is_touch_act act ≡ true → lacks_serials p act [] ≡ act_lacks_serials p.state act
+touch_lacks p (acts.Hand sender) e = cc
+touch_lacks p (acts.Look sender) e = refl
+touch_lacks p (acts.Post to) e = refl
+touch_lacks p acts.Idle e = refl
+touch_lacks p (acts.Close end) e = refl
+touch_lacks p (acts.Router serial act) e = refl
+
+touch_sees : (size : ℕ) (p : Part) (act : Act) → is_touch_act act ≡ true → IsSeenBefore size p act []
+touch_sees size p (acts.Hand sender) e = cc
+touch_sees size p (acts.Look sender) e = refl
+touch_sees size p (acts.Post to) e = refl
+touch_sees size p acts.Idle e = refl
+touch_sees size p (acts.Close end) e = refl
+touch_sees size p (acts.Router serial act) e = refl
+
+touch_grows : (act : Act) → is_touch_act act ≡ true → act_grows act ≡ true → may_grow act ≡ true
+touch_grows (acts.Hand sender) e g = refl
+touch_grows (acts.Look sender) e g = g
+touch_grows (acts.Post to) e g = g
+touch_grows acts.Idle e g = g
+touch_grows (acts.Close end) e g = g
+touch_grows (acts.Router serial act) e g = g
+
+grown : (b : Bool) → (b ≡ false → false ≡ true) → b ≡ true
+grown true h = refl
+grown false h = h refl
+
+pub prepare_refused : (t : TableName) (act : Act) (old new : CellState) (why : Refusal) → lacks_serials old.part act [] ≡ act_lacks_serials old.part.state act → IsSeenBefore t.size old.part act [] → (act_grows act ≡ true → may_grow act ≡ true) → act ≡ stand_in act → new.part ≡ old.part → new.seen ≡ old.seen →
+    why ≡ (if act_lacks_serials old.part.state act then refusals.NumbersEnd else refusals.OutOfMemory) → (act_grows act ≡ false → false ≡ true) → Acts t act old (Err why) new
+prepare_refused t act old new why lacks none may alone part seen is grows = record {
+  found = [];
+  seen = seen ∙ sym (append-nil old.seen);
+  outcome = (part, go (act_lacks_serials old.part.state act) refl);
+}
+  where
+    go : (b : Bool) → act_lacks_serials old.part.state act ≡ b → IsRefused t.size old.part act (IsLost t old.part act []) why []
+    go true e = NoSerials (is ∙ ap (λ (b : Bool). if b then refusals.NumbersEnd else refusals.OutOfMemory) e) (lacks ∙ e) none
+    go false e = NoMemory (is ∙ ap (λ (b : Bool). if b then refusals.NumbersEnd else refusals.OutOfMemory) e) (lacks ∙ e) (may (grown (act_grows act) grows)) alone none
+
+pub touch_refused : (t : TableName) (act : Act) (old new : CellState) (why : Refusal) → is_touch_act act ≡ true → act ≡ stand_in act → new.part ≡ old.part → new.seen ≡ old.seen →
+    why ≡ (if act_lacks_serials old.part.state act then refusals.NumbersEnd else refusals.OutOfMemory) → (act_grows act ≡ false → false ≡ true) → Acts t act old (Err why) new
+touch_refused t act old new why touch alone part seen is grows = prepare_refused t act old new why (touch_lacks old.part act touch) (touch_sees t.size old.part act touch) (touch_grows act touch) alone part seen is grows
+
+-- an act that is made ready and done in one go
+pub told_acts : (t : TableName) (act : Act) (old new : CellState) (r : Result Happened Refusal) → is_touch_act act ≡ true → act ≡ stand_in act →
+    IfOk r (λ h. h ≡ event_of old.part.state act answers.Plain) → OnOk r (new.part ≡ act_part act answers.Plain old.part) →
+    IfErr r (λ e. e ≡ (if act_lacks_serials old.part.state act then refusals.NumbersEnd else refusals.OutOfMemory)) →
+    (act_grows act ≡ false → IsOk r) → OnErr r (new.part ≡ old.part) → new.seen ≡ old.seen → Acts t act old r new
+told_acts t act old new (Ok event) touch alone is part why grows same seen = touch_acts t act old old new event touch refl refl is part seen
+told_acts t act old new (Err e) touch alone is part why grows same seen = touch_refused t act old new e touch alone same seen why grows
+
+-- a begin that found no memory is an unlock
+pub begin_unlocks : (t : TableName) (serial : ℕ) (old mid new : CellState) (event : Happened) → mid.part ≡ old.part → mid.seen ≡ old.seen → Acts t (acts.Router serial router_acts.Unlock) mid (Ok event) new → Acts t (acts.Router serial router_acts.Begin) old (Ok event) new
+unfolding stand_in
+begin_unlocks t serial old mid new event same kept h = record {
+  found = h.found;
+  seen = h.seen ∙ ap (λ (l : Seen). l ++ h.found) kept;
+  outcome = record {
+    taken = acts.Router serial router_acts.Unlock;
+    which = inr refl;
+    done = subst (λ (p : Part). IsDone t p (acts.Router serial router_acts.Unlock) event new.part h.found) same (subst (λ (a : Act). IsDone t mid.part a event new.part h.found) (unlocked h.outcome.which) h.outcome.done);
+  };
+}
+  where
+    unlocked : {a : Act} → (a ≡ acts.Router serial router_acts.Unlock) ⊎ (a ≡ acts.Router serial router_acts.Unlock) → a ≡ acts.Router serial router_acts.Unlock
+    unlocked (inl e) = e
+    unlocked (inr e) = e
+
+-- the same act, after a preparation
+pub after_same : (t : TableName) (act : Act) (old mid new : CellState) (answer : Result Happened Refusal) → mid.part ≡ old.part → mid.seen ≡ old.seen → Acts t act mid answer new → Acts t act old answer new
+after_same t act old mid new answer same kept h = record {
+  found = h.found;
+  seen = h.seen ∙ ap (λ (l : Seen). l ++ h.found) kept;
+  outcome = subst (λ (p : Part). Rattle.std.specs.Prelude.MatchResult answer (λ event. IsTaken t p act event new.part h.found) (λ why. (new.part ≡ p) × IsRefused t.size p act (IsLost t p act h.found) why h.found)) same h.outcome;
+}
+
+-- a wake, for which there was no room
+pub wake_refused : (t : TableName) (serial : ℕ) (old new : CellState) (why : Refusal) → new.part ≡ old.part → new.seen ≡ old.seen →
+    why ≡ (if act_lacks_serials old.part.state (acts.Router serial router_acts.Wake) then refusals.NumbersEnd else refusals.OutOfMemory) → (act_grows (acts.Router serial router_acts.Wake) ≡ false → false ≡ true) →
+    Acts t (acts.Router serial router_acts.Wake) old (Err why) new
+unfolding stand_in
+wake_refused t serial old new why part seen is grows = prepare_refused t (acts.Router serial router_acts.Wake) old new why refl refl (λ g. g) refl part seen is grows
+
+-- a begin that is refused wants serials
+pub begin_refused : (t : TableName) (serial : ℕ) (old new : CellState) (why : Refusal) → why ≢ refusals.OutOfMemory → new.part ≡ old.part → new.seen ≡ old.seen →
+    why ≡ (if act_lacks_serials old.part.state (acts.Router serial router_acts.Begin) then refusals.NumbersEnd else refusals.OutOfMemory) → Acts t (acts.Router serial router_acts.Begin) old (Err why) new
+begin_refused t serial old new why not part seen is = record { found = []; seen = seen ∙ sym (append-nil old.seen); outcome = (part, go (act_lacks_serials old.part.state (acts.Router serial router_acts.Begin)) refl) }
+  where
+    go : (b : Bool) → act_lacks_serials old.part.state (acts.Router serial router_acts.Begin) ≡ b → IsRefused t.size old.part (acts.Router serial router_acts.Begin) (IsLost t old.part (acts.Router serial router_acts.Begin) []) why []
+    go true e = NoSerials (is ∙ ap (λ (b : Bool). if b then refusals.NumbersEnd else refusals.OutOfMemory) e) e refl
+    go false e = absurd (not (is ∙ ap (λ (b : Bool). if b then refusals.NumbersEnd else refusals.OutOfMemory) e))
+
+-- where a proxy may begin, it may give its lock back
+pub begin_can_unlock : (o : Option Router) → IsSomeAnd o (λ r. may_take r router_acts.Begin ≡ true) → IsSomeAnd o (λ r. may_take r router_acts.Unlock ≡ true)
+begin_can_unlock None h = h
+begin_can_unlock (Some r) h = unlock_may r h
+
+-- these acts of a router are touches, and none stands in for them
+abbrev IsPlain : RouterAct → Type 0
+IsPlain act = (is_touch act ≡ true) × ((serial : ℕ) → acts.Router serial act ≡ stand_in (acts.Router serial act))
+
+pub plain_acts : (act : RouterAct) → (act ≡ router_acts.SendOut) ⊎ ((act ≡ router_acts.SendIn) ⊎ ((act ≡ router_acts.Discard) ⊎ ((act ≡ router_acts.FinishOut) ⊎ ((act ≡ router_acts.FinishIn) ⊎ ((act ≡ router_acts.Leave) ⊎ (act ≡ router_acts.Rest)))))) → IsPlain act
+unfolding stand_in
+plain_acts act (inl e) = subst IsPlain (sym e) (refl, λ s. refl)
+plain_acts act (inr (inl e)) = subst IsPlain (sym e) (refl, λ s. refl)
+plain_acts act (inr (inr (inl e))) = subst IsPlain (sym e) (refl, λ s. refl)
+plain_acts act (inr (inr (inr (inl e)))) = subst IsPlain (sym e) (refl, λ s. refl)
+plain_acts act (inr (inr (inr (inr (inl e))))) = subst IsPlain (sym e) (refl, λ s. refl)
+plain_acts act (inr (inr (inr (inr (inr (inl e)))))) = subst IsPlain (sym e) (refl, λ s. refl)
+plain_acts act (inr (inr (inr (inr (inr (inr e)))))) = subst IsPlain (sym e) (refl, λ s. refl)
+
+-- nor does one for a close
+pub close_alone : (act : Act) (e : End) → act ≡ acts.Close e → act ≡ stand_in act
+unfolding stand_in
+close_alone act e is = subst (λ (a : Act). a ≡ stand_in a) (sym is) refl

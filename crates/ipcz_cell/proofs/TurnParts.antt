@@ -1,0 +1,176 @@
+-- A turn from its parts: the choice of an act, and the act.
+use Rattle.std.specs.Prelude.{◌≡◌, ◌≢◌, ◌<◌, ℕ, Bool, true, false, if◌then◌else◌, List, [], ◌∷◌, ◌++◌, Option, Some, None, Result, Ok, Err, MatchResult}
+use Rattle.std.proofs.Common.{ap, sym, subst, ◌∙◌, refl, inl, inr, arith, append_assoc, append-nil}
+use Rattle.ipcz_base.specs.declared.message.Message.{Message}
+use Rattle.ipcz_base.specs.declared.refusal.Refusal.{Refusal}
+use Rattle.ipcz_base.specs.declared.refusal.Refusal.TheVariants as refusals
+use Rattle.ipcz_router.specs.Router.{Router}
+use Rattle.ipcz_router.specs.declared.act.Answer.{Answer}
+use Rattle.ipcz_router.specs.declared.act.Answer.TheVariants as answers
+use Rattle.ipcz_router.specs.declared.act.RouterAct.TheVariants as router_acts
+use Rattle.ipcz_node.specs.declared.act.Act.{Act}
+use Rattle.ipcz_node.specs.declared.act.Act.TheVariants as acts
+use Rattle.ipcz_node.specs.declared.happened.Happened.{Happened}
+use Rattle.ipcz_node.specs.declared.happened.Happened.TheVariants as events
+use Rattle.ipcz_node.specs.Node.{Node, router_in}
+use Rattle.ipcz_node.specs.Acts.{commit, stand_in}
+use Rattle.ipcz_node.specs.RoomyNodes.{IsPossibleAct}
+use Rattle.ipcz_node.specs.Events.{event_of, event_at, router_event, word_event, link_of}
+use Rattle.ipcz_node.specs.Hands.{message_lacks_serials}
+use Rattle.ipcz_rule.specs.declared.view.Part.{Part}
+use Rattle.ipcz_cell.specs.TableNames.{TableName}
+use Rattle.ipcz_cell.specs.CellStates.{CellState}
+use Rattle.ipcz_rule.specs.Steps.{old_word}
+use Rattle.ipcz_cell.specs.Claims.{Answered, Got as Claimed, Dry as WasDry, Lost as WasLost}
+use Rattle.ipcz_cell.specs.Mails.{mail_word, old_named, OldLoaded, source_found, Handles}
+use Rattle.ipcz_cell.specs.Turns.{IsFirst, Chooses}
+use Rattle.ipcz_rule.specs.Races.{IsWaitedFor}
+use Rattle.ipcz_cell.specs.TurnEnds.{IsTaken, IsLost, IsRefused, NoSerials, NoMemory, LostIt, hand_lacks_serials, IsInside, Acts, EndsRaced, Turns, Got, Dry}
+use Rattle.ipcz_cell.proofs.TurnWords.{seen_two}
+use Rattle.ipcz_cell.proofs.TurnActs.{acts_whole}
+
+abbrev Seen : Type 0
+Seen = List (ℕ × ℕ)
+
+-- what was loaded for the message in hand
+pub hand_loaded : (size : ℕ) (o : Option Message) (x : Message) (found : Seen) → o ≡ Some x → OldLoaded size (old_word x) found → OldLoaded size (old_named o) found
+hand_loaded size o x found e h = subst (λ (q : Option Message). OldLoaded size (old_named q) found) (sym e) h
+
+-- the message in hand is handled
+pub hand_takes : (t : TableName) (from : ℕ) (old new : CellState) (r : Result Happened Refusal) → Handles t.size from old r new → Acts t (acts.Hand from) old r new
+unfolding stand_in
+hand_takes t sender old new (Ok event) h = acts_whole t (acts.Hand sender) old new event h.found h.seen (record {
+  answer = answers.Plain;
+  answered = (refl, hand_loaded t.size old.part.message h.message h.found h.in_hand h.loaded);
+  part = (h.message, h.in_hand, h.outcome.1);
+  event_is = (h.message, h.in_hand, h.outcome.0);
+})
+hand_takes t sender old new (Err why) h = record { found = h.found; seen = h.seen; outcome = (h.outcome.1, go (message_lacks_serials old.part.state sender h.message (source_found h.found)) refl) }
+  where
+    lacks : (b : Bool) → message_lacks_serials old.part.state sender h.message (source_found h.found) ≡ b → hand_lacks_serials old.part.state sender (source_found h.found) old.part.message ≡ b
+    lacks b f = ap (hand_lacks_serials old.part.state sender (source_found h.found)) h.in_hand ∙ f
+
+    why_is : (b : Bool) → message_lacks_serials old.part.state sender h.message (source_found h.found) ≡ b → why ≡ (if b then refusals.NumbersEnd else refusals.OutOfMemory)
+    why_is b f = h.outcome.0 ∙ ap (λ (b : Bool). if b then refusals.NumbersEnd else refusals.OutOfMemory) f
+
+    loaded : OldLoaded t.size (old_named old.part.message) h.found
+    loaded = hand_loaded t.size old.part.message h.message h.found h.in_hand h.loaded
+
+    go : (b : Bool) → message_lacks_serials old.part.state sender h.message (source_found h.found) ≡ b → IsRefused t.size old.part (acts.Hand sender) (IsLost t old.part (acts.Hand sender) h.found) why h.found
+    go true f = NoSerials (why_is true f) (lacks true f) loaded
+    go false f = NoMemory (why_is false f) (lacks false f) refl refl loaded
+
+-- nothing is done
+pub idle_acts : (t : TableName) (old : CellState) → Acts t acts.Idle old (Ok events.Idle) old
+unfolding event_of commit
+idle_acts t old = acts_whole t acts.Idle old old events.Idle [] (sym (append-nil old.seen)) (record { answer = answers.Plain; answered = (refl, refl); part = refl; event_is = refl })
+
+-- what a claim is seen to be
+claim_event : (n : Node) (serial : ℕ) (answer : Answer) (event : Happened) → IsPossibleAct n (acts.Router serial router_acts.Claim) → ((r : Router) → event ≡ word_event serial (link_of r.outward.primary) answer) → event ≡ event_of n (acts.Router serial router_acts.Claim) answer
+unfolding event_of event_at router_event
+claim_event n serial answer event may is = go (router_in n serial) refl may
+  where
+    go : (o : Option Router) → router_in n serial ≡ o → Rattle.std.specs.Prelude.IsSomeAnd o (λ r. Rattle.ipcz_router.specs.ActTable.may_take r router_acts.Claim ≡ true) → event ≡ event_at n serial (router_in n serial) router_acts.Claim answer
+    go None e h = absurd h
+    go (Some r) e h = is r ∙ sym (ap (λ (o : Option Router). event_at n serial o router_acts.Claim answer) e)
+
+abbrev number_in : ℕ → Result ℕ Refusal → ℕ
+number_in d (Ok n) = n
+number_in d (Err why) = d
+
+abbrev refusal_in : Refusal → Result ℕ Refusal → Refusal
+refusal_in d (Ok n) = d
+refusal_in d (Err why) = why
+
+pub claim_acts : (t : TableName) (serial word count : ℕ) (old new : CellState) → IsPossibleAct old.part.state (acts.Router serial router_acts.Claim) → word ≡ count → Answered t.size serial old new (Ok count) →
+    Acts t (acts.Router serial router_acts.Claim) old (Ok (events.Claim serial word)) new
+unfolding word_event
+claim_acts t serial word count old new may is (Claimed n e low reached part seen) =
+    let same : word ≡ n = is ∙ ap (number_in 0) e in
+    acts_whole t (acts.Router serial router_acts.Claim) old new (events.Claim serial word) ((t.size, n) ∷ (t.size, n) ∷ []) (seen ∙ seen_two old.seen (t.size, n) (t.size, n)) (record {
+      answer = answers.Claimed n;
+      answered = Got n low refl refl;
+      part = part;
+      event_is = claim_event old.part.state serial (answers.Claimed n) (events.Claim serial word) may (λ r. ap (events.Claim serial) same);
+    })
+claim_acts t serial word count old new may is (WasDry e part seen) = cc
+claim_acts t serial word count old new may is (WasLost n found e other part seen) = cc
+
+pub claim_dries : (t : TableName) (serial : ℕ) (old new : CellState) (why : Refusal) → why ≡ refusals.NoWord → IsPossibleAct old.part.state (acts.Router serial router_acts.Claim) → Answered t.size serial old new (Err why) →
+    Acts t (acts.Router serial router_acts.Claim) old (Ok (events.ClaimNoWord serial)) new
+unfolding word_event
+claim_dries t serial old new why dry may (Claimed n e low reached part seen) = cc
+claim_dries t serial old new why dry may (WasDry e part seen) =
+    acts_whole t (acts.Router serial router_acts.Claim) old new (events.ClaimNoWord serial) ((t.size, t.size) ∷ []) seen (record {
+      answer = answers.NoWord;
+      answered = Dry refl refl;
+      part = part;
+      event_is = claim_event old.part.state serial answers.NoWord (events.ClaimNoWord serial) may (λ r. refl);
+    })
+claim_dries t serial old new why dry may (WasLost n found e other part seen) = absurd (let bad : refusals.NoWord ≡ refusals.Raced = sym dry ∙ ap (refusal_in why) e in cc)
+
+pub claim_lost : (t : TableName) (serial : ℕ) (old new : CellState) (why : Refusal) → why ≢ refusals.NoWord → Answered t.size serial old new (Err why) → Acts t (acts.Router serial router_acts.Claim) old (Err why) new
+claim_lost t serial old new why not (Claimed n e low reached part seen) = cc
+claim_lost t serial old new why not (WasDry e part seen) = absurd (not (ap (refusal_in why) e))
+claim_lost t serial old new why not (WasLost n found e other part seen) = record {
+  found = (t.size, n) ∷ (t.size, found) ∷ [];
+  seen = seen ∙ seen_two old.seen (t.size, n) (t.size, found);
+  outcome = (part, LostIt (ap (refusal_in why) e) (t.size, n, found, omega arith, other, refl));
+}
+
+-- what was claimed is one of the table's words
+pub claim_below : (size serial count : ℕ) (old new : CellState) → Answered size serial old new (Ok count) → count < size
+claim_below size serial count old new (Claimed n e low reached part seen) = let same : count ≡ n = ap (number_in 0) e in omega (arith, same, low)
+claim_below size serial count old new (WasDry e part seen) = cc
+claim_below size serial count old new (WasLost n found e other part seen) = cc
+
+-- an act that was lost to another thread ends with a load and an exchange of one word
+ends_with : (t : TableName) (p : Part) (loads found before : Seen) (word n m : ℕ) → IsWaitedFor t.count t.size p word n → m ≢ n → loads ≡ before ++ (word, n) ∷ [] →
+    found ≡ (word, m) ∷ [] → EndsRaced t p (loads ++ found)
+ends_with t p loads found before word n m waits other last is = record {
+  before = before;
+  word = word;
+  loaded = n;
+  exchanged = m;
+  differ = other;
+  of = inr waits;
+  last = (λ j. last j ++ is j) ∙ append_assoc before ((word, n) ∷ []) ((word, m) ∷ []);
+}
+
+lost_ends : (t : TableName) (p : Part) (loads found : Seen) (act : Act) → IsFirst t p loads act → IsLost t p act found → EndsRaced t p (loads ++ found)
+lost_ends t p loads found (acts.Hand sender) first lost = absurd lost
+lost_ends t p loads found (acts.Look sender) first lost = ends_with t p loads found first.full.before (mail_word t sender p.node) 1 lost.0 (inl (sender, first.inside, refl, refl)) lost.1 first.full.last lost.2
+lost_ends t p loads found (acts.Post to) first lost = let load = first.can.free lost.2 in ends_with t p loads found load.before (mail_word t p.node to) 0 lost.0 (inr (to, first.inside, refl, refl)) lost.1 load.last lost.3
+lost_ends t p loads found (acts.Close end) first lost = absurd lost
+lost_ends t p loads found (acts.Router serial act) first lost = record { before = loads; word = lost.0; loaded = lost.1; exchanged = lost.2; differ = lost.4; of = inl lost.3; last = ap (λ (l : Seen). loads ++ l) lost.5 }
+lost_ends t p loads found acts.Idle first lost = absurd lost
+
+refused_by : (size : ℕ) (p : Part) (act : Act) (L M : Type 0) (why : Refusal) (seen : Seen) → (L → M) → IsRefused size p act L why seen → IsRefused size p act M why seen
+refused_by size p act L M why seen f (NoSerials a b c) = NoSerials a b c
+refused_by size p act L M why seen f (NoMemory a b c d e) = NoMemory a b c d e
+refused_by size p act L M why seen f (LostIt a l) = LostIt a (f l)
+
+-- the node that the first act is about is one of the table's
+pub inside_of : (t : TableName) (p : Part) (loads : Seen) (act : Act) → IsFirst t p loads act → IsInside t.count act
+inside_of t p loads (acts.Hand sender) first = tt
+inside_of t p loads (acts.Look sender) first = first.inside
+inside_of t p loads (acts.Post to) first = first.inside
+inside_of t p loads (acts.Close end) first = tt
+inside_of t p loads (acts.Router serial act) first = tt
+inside_of t p loads acts.Idle first = tt
+
+-- a turn
+pub turn_done : (t : TableName) (act : Act) (old mid new : CellState) (answer : Result Happened Refusal) → Chooses t old act mid → Acts t act mid answer new → Turns t old answer new
+turn_done t act old mid new answer c h = record {
+  act = act;
+  loads = c.found;
+  found = h.found;
+  first = c.first;
+  seen = h.seen ∙ (ap (λ (l : Seen). l ++ h.found) c.looked.seen ∙ append_assoc old.seen c.found h.found);
+  outcome = go answer (subst (λ (p : Part). MatchResult answer (λ event. IsTaken t p act event new.part h.found) (λ why. (new.part ≡ p) × IsRefused t.size p act (IsLost t p act h.found) why h.found)) c.looked.part h.outcome);
+}
+  where
+    go : (r : Result Happened Refusal) → MatchResult r (λ event. IsTaken t old.part act event new.part h.found) (λ why. (new.part ≡ old.part) × IsRefused t.size old.part act (IsLost t old.part act h.found) why h.found) →
+        MatchResult r (λ event. IsTaken t old.part act event new.part h.found) (λ why. (new.part ≡ old.part) × IsRefused t.size old.part act (EndsRaced t old.part (c.found ++ h.found)) why h.found)
+    go (Ok event) d = d
+    go (Err why) d = (d.0, refused_by t.size old.part act (IsLost t old.part act h.found) (EndsRaced t old.part (c.found ++ h.found)) why h.found (lost_ends t old.part c.found h.found act c.first) d.1)

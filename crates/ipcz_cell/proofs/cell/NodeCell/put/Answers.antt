@@ -1,0 +1,9 @@
+use Rattle.std.proofs.Common.{refl}
+use Rattle.ipcz_cell.proofs.Seating.{touched_or_same}
+use Rattle.ipcz_cell.proofs.Keeping.{put_keeps}
+use Rattle.ipcz_cell.proofs.cell.NodeCell.put.Goals as goal
+
+pub invariant_of-self : goal.invariant_of-self
+invariant_of-self g c =
+    let done = c.put_here.ensures in
+    touched_or_same c.put_here.result _ _ _ _ _ _ _ _ _ _ _ _ c.self.invariant done.seated done.done done.err refl (put_keeps _ _ _ _)

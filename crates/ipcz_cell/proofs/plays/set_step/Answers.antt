@@ -1,0 +1,14 @@
+use Rattle.std.proofs.Common.{ap, sym, ◌∙◌, arith, bit_or}
+use Rattle.atomic_table.specs.Seated.{TableId}
+use Rattle.ipcz_cell.proofs.Telling.{step_may}
+use Rattle.ipcz_cell.proofs.plays.set_step.Goals as goal
+
+pub fetch_or-requires : goal.fetch_or-requires
+fetch_or-requires g c =
+    let f = c.fabric.invariant in
+    let wide = ap (λ (z : TableId). z.words) f.0 in
+    let inside = c.requires.inside in (
+      c.requires.own ∙ sym f.0,
+      omega (arith, wide, inside),
+      step_may _ _ _ _ _ _ _ _ _ (λ n. bit_or n c.args.bits) (g.X.Outcome.tells c.args.seat.now.me) f.1 f.2 (ap (λ (z : TableId). z.slots) f.0) c.requires.may,
+    )

@@ -1,0 +1,15 @@
+pub mod Races
+pub mod TableNames
+pub mod CellStates
+pub mod Cells
+pub mod Parts
+pub mod Outcomes
+pub mod Mails
+pub mod Words
+pub mod Making
+pub mod Blanks
+pub mod Ending
+pub mod Claims
+pub mod Turns
+pub mod TurnEnds
+pub mod Opens

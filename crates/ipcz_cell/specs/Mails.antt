@@ -1,0 +1,85 @@
+-- The mailboxes of a cell: what the calls on them answer and leave.
+use Rattle.std.specs.Prelude.{◌≡◌, ◌≢◌, ◌<◌, ◌+◌, ◌*◌, ℕ, [], ◌∷◌, ◌++◌, Bool, false, nat_lt, if◌then◌else◌, List, Option, Some, None}
+use Rattle.std.specs.Prelude.{MatchBool, IfSome, Result, MatchResult}
+use Rattle.ipcz_base.specs.declared.message.Message.{Message}
+use Rattle.ipcz_base.specs.declared.refusal.Refusal.{Refusal}
+use Rattle.ipcz_base.specs.declared.refusal.Refusal.TheVariants.{NumbersEnd, OutOfMemory}
+use Rattle.ipcz_word.specs.Layout.{word_of_bits}
+use Rattle.ipcz_node.specs.declared.happened.Happened.{Happened}
+use Rattle.ipcz_node.specs.Events.{hand_event}
+use Rattle.ipcz_node.specs.Hands.{message_lacks_serials}
+use Rattle.ipcz_world.specs.Coding.{IsLinkNumber}
+use Rattle.ipcz_rule.specs.Rule.{has_number}
+use Rattle.ipcz_rule.specs.Steps.{probe_part, look_part, old_word, trusted, hand_part}
+use Rattle.ipcz_cell.specs.TableNames.{TableName}
+use Rattle.ipcz_cell.specs.CellStates.{CellState}
+
+-- the slot of the mailbox from one node to another
+abbrev pub slot_of : TableName → ℕ → ℕ → ℕ
+slot_of t from to = from * t.count + to
+
+-- its word
+abbrev pub mail_word : TableName → ℕ → ℕ → ℕ
+mail_word t from to = t.size + 1 + t.count + slot_of t from to
+
+-- a load or an exchange of the word i found n, and nothing else has changed
+pub record HasSeen (i n : ℕ) (old new : CellState) : Type 0 where
+  pub part : new.part ≡ old.part
+  pub seen : new.seen ≡ old.seen ++ (i, n) ∷ []
+
+-- the mailbox was taken: it was taken already, or it was found empty
+abbrev pub IsProbed : ℕ → ℕ → CellState → CellState → Type 0
+IsProbed i to old new = MatchBool (has_number old.part.probed to) ((new.part ≡ old.part) × (new.seen ≡ old.seen))
+    ((new.part ≡ probe_part to old.part) × (new.seen ≡ old.seen ++ (i, 0) ∷ []))
+
+-- what a probe answers and leaves: it fails only where the mailbox wasn't taken yet and was found at another value than 0
+abbrev pub Probes : ℕ → ℕ → CellState → Bool → CellState → Type 0
+Probes i to old answer new = MatchBool answer (IsProbed i to old new) ((has_number old.part.probed to ≡ false) ×
+    ((n : ℕ) × (n ≢ 0) × HasSeen i n old new))
+
+-- the word of the old link that the message in hand names, where it is an AcceptBypass
+abbrev pub old_named : Option Message → Option ℕ
+old_named None = None
+old_named (Some x) = old_word x
+
+-- what is loaded before a message is handled: the word of the old link that an AcceptBypass names, where it is one of the table's words
+abbrev pub OldLoaded : ℕ → Option ℕ → List (ℕ × ℕ) → Type 0
+OldLoaded size None found = found ≡ []
+OldLoaded size (Some old) found = MatchBool (nat_lt old size) ((n : ℕ) × IsLinkNumber n × (found ≡ (old, n) ∷ [])) (found ≡ [])
+
+-- the source that such a load tells; without a load none
+abbrev pub source_found : List (ℕ × ℕ) → Option ℕ
+source_found [] = None
+source_found (load ∷ loads) = (word_of_bits load.1).source
+
+-- a source is the one that a message in hand has by the rule, where the old link that the message names has a word of the table
+abbrev pub IsKnown : ℕ → ℕ → Message → Option ℕ → Type 0
+IsKnown size from x source = IfSome (old_word x) (λ old. old < size) → source ≡ trusted from x
+
+-- the load before the message in hand is handled, and the source that it tells
+pub record LoadsSource (size from : ℕ) (old : CellState) (answer : Option ℕ) (new : CellState) : Type 0 where
+  pub found : List (ℕ × ℕ)
+  pub loaded : OldLoaded size (old_named old.part.message) found
+  pub part : new.part ≡ old.part
+  pub seen : new.seen ≡ old.seen ++ found
+  pub told : answer ≡ source_found found
+  pub known : (x : Message) → old.part.message ≡ Some x → IsKnown size from x answer
+
+-- what handling the message in hand loads, answers and leaves: the source is that of the old link's word, as the load has found it
+pub record Handles (size from : ℕ) (old : CellState) (answer : Result Happened Refusal) (new : CellState) : Type 0 where
+  pub message : Message
+  pub in_hand : old.part.message ≡ Some message
+  pub found : List (ℕ × ℕ)
+  pub loaded : OldLoaded size (old_word message) found
+  pub seen : new.seen ≡ old.seen ++ found
+  pub outcome : MatchResult answer
+      (λ event. (event ≡ hand_event old.part.state from message (source_found found)) ×
+      (new.part ≡ hand_part from (source_found found) message old.part))
+      (λ why. (why ≡ (if message_lacks_serials old.part.state from message (source_found found) then NumbersEnd else OutOfMemory)) ×
+      (new.part ≡ old.part))
+
+-- what a look answers and leaves: it fails only where the mailbox was found at another value than 1
+abbrev pub Looks : ℕ → ℕ → CellState → Bool → CellState → Type 0
+Looks i from old answer new = MatchBool answer ((x : Message) × (new.part ≡ look_part from x old.part) ×
+    (new.seen ≡ old.seen ++ (i, 1) ∷ []))
+    ((n : ℕ) × (n ≢ 1) × HasSeen i n old new)

@@ -1,0 +1,112 @@
+-- A turn of a cell: which act it takes by what its own loads have found of the mailboxes, and what it answers and leaves.
+use Rattle.std.specs.Prelude.{◌≡◌, ◌≢◌, ◌<◌, ℕ, [], ◌∷◌, ◌++◌, List, Bool, true, false, replicate, Option, Some, None, MatchBool}
+use Rattle.std.specs.Prelude.{MatchOption}
+use Rattle.ipcz_node.specs.declared.act.Act.{Act}
+use Rattle.ipcz_node.specs.declared.act.Act.TheVariants.{Hand, Look, Post}
+use Rattle.ipcz_node.specs.declared.act.MailSeen.{MailSeen}
+use Rattle.ipcz_node.specs.Acts.{has_mail_for, next}
+use Rattle.ipcz_rule.specs.declared.view.Part.{Part}
+use Rattle.ipcz_rule.specs.Rule.{has_number}
+use Rattle.ipcz_cell.specs.TableNames.{TableName}
+use Rattle.ipcz_cell.specs.CellStates.{CellState}
+use Rattle.ipcz_cell.specs.Mails.{mail_word}
+
+-- one of these loads found the word at a number
+pub record WasFound (found : List (ℕ × ℕ)) (word n : ℕ) : Type 0 where
+  pub before : List (ℕ × ℕ)
+  pub after : List (ℕ × ℕ)
+  pub there : found ≡ before ++ (word, n) ∷ after
+
+-- one of these loads found the word at another number
+pub record WasFoundOther (found : List (ℕ × ℕ)) (word n : ℕ) : Type 0 where
+  pub at : ℕ
+  pub other : at ≢ n
+  pub load : WasFound found word at
+
+-- the last of these loads found the word at a number
+pub record IsLast (found : List (ℕ × ℕ)) (word n : ℕ) : Type 0 where
+  pub before : List (ℕ × ℕ)
+  pub last : found ≡ before ++ (word, n) ∷ []
+
+-- the mailbox to a node from each that is below another was loaded, and was not found full
+abbrev pub NoneFull : TableName → ℕ → ℕ → List (ℕ × ℕ) → Type 0
+NoneFull t node end found = (from : ℕ) → from < end → WasFoundOther found (mail_word t from node) 1
+
+-- messages wait for a node whose mailbox is this node's already, or was found empty by the last load
+pub record IsOpen (t : TableName) (p : Part) (to : ℕ) (found : List (ℕ × ℕ)) : Type 0 where
+  pub mail : has_mail_for p.state to ≡ true
+  pub free : has_number p.probed to ≡ false → IsLast found (mail_word t p.node to) 0
+
+-- where messages wait for a node, its mailbox isn't this node's already, and was not found empty
+abbrev pub IsShut : TableName → Part → ℕ → List (ℕ × ℕ) → Type 0
+IsShut t p to found = has_mail_for p.state to ≡ true → (has_number p.probed to ≡ false) × WasFoundOther found (mail_word t p.node to) 0
+
+-- no message can be posted to a node below another
+abbrev pub NoneEmpty : TableName → Part → ℕ → List (ℕ × ℕ) → Type 0
+NoneEmpty t p end found = (to : ℕ) → to < end → IsShut t p to found
+
+-- to look into a mailbox comes first: nothing is in hand, no mailbox of a lower sender is full, and this one is, by the last load
+pub record IsFirstLook (t : TableName) (p : Part) (found : List (ℕ × ℕ)) (from : ℕ) : Type 0 where
+  pub inside : from < t.count
+  pub idle : p.state.hand ≡ None
+  pub none : NoneFull t p.node from found
+  pub full : IsLast found (mail_word t from p.node) 1
+
+-- to post to a node comes first: nothing is in hand, no mailbox to this node is full, and this is the lowest destination that a message can
+-- be posted to
+pub record IsFirstPost (t : TableName) (p : Part) (found : List (ℕ × ℕ)) (to : ℕ) : Type 0 where
+  pub inside : to < t.count
+  pub idle : p.state.hand ≡ None
+  pub none : NoneFull t p.node t.count found
+  pub lowest : NoneEmpty t p to found
+  pub can : IsOpen t p to found
+
+-- no mailbox was seen full, and none empty
+abbrev pub nothing_seen : MailSeen
+nothing_seen = record { full = replicate 8 false; empty = replicate 8 false }
+
+-- an act that is about no mailbox comes first: nothing is in hand, no mailbox to this node is full, there is none to post to, and the act
+-- is what comes first without any
+pub record IsFirstElse (t : TableName) (p : Part) (found : List (ℕ × ℕ)) (act : Act) : Type 0 where
+  pub idle : p.state.hand ≡ None
+  pub none : NoneFull t p.node t.count found
+  pub lowest : NoneEmpty t p t.count found
+  pub first : act ≡ next p.state nothing_seen
+
+-- an act is the first one for the mailboxes as these loads have found them, among which each mailbox is that the act depends on
+abbrev pub IsFirst : TableName → Part → List (ℕ × ℕ) → Act → Type 0
+IsFirst t p found (Hand from) = p.state.hand ≡ Some from
+IsFirst t p found (Look from) = IsFirstLook t p found from
+IsFirst t p found (Post to) = IsFirstPost t p found to
+IsFirst t p found other = IsFirstElse t p found other
+
+-- the loads of a cell have found so much, and nothing else has changed
+pub record HasLooked (found : List (ℕ × ℕ)) (old new : CellState) : Type 0 where
+  pub part : new.part ≡ old.part
+  pub seen : new.seen ≡ old.seen ++ found
+
+-- the first act for the mailboxes as they are found by loads now
+pub record Chooses (t : TableName) (old : CellState) (act : Act) (new : CellState) : Type 0 where
+  pub found : List (ℕ × ℕ)
+  pub looked : HasLooked found old new
+  pub first : IsFirst t old.part found act
+
+-- which mailbox to a node is the first that is found full
+pub record FindsFull (t : TableName) (old : CellState) (answer : Option ℕ) (new : CellState) : Type 0 where
+  pub found : List (ℕ × ℕ)
+  pub looked : HasLooked found old new
+  pub first : MatchOption answer (NoneFull t old.part.node t.count found)
+      (λ from. (from < t.count) × NoneFull t old.part.node from found × IsLast found (mail_word t from old.part.node) 1)
+
+-- whether a message can be posted to a node
+pub record CanPost (t : TableName) (to : ℕ) (old : CellState) (answer : Bool) (new : CellState) : Type 0 where
+  pub found : List (ℕ × ℕ)
+  pub looked : HasLooked found old new
+  pub can : MatchBool answer (IsOpen t old.part to found) (IsShut t old.part to found)
+
+-- which destination is the first that can be posted to
+pub record FindsEmpty (t : TableName) (old : CellState) (answer : Option ℕ) (new : CellState) : Type 0 where
+  pub found : List (ℕ × ℕ)
+  pub looked : HasLooked found old new
+  pub first : MatchOption answer (NoneEmpty t old.part t.count found) (λ to. (to < t.count) × NoneEmpty t old.part to found ×
+      IsOpen t old.part to found)

@@ -1,0 +1,276 @@
+ghost use Rattle.std.specs.Prelude.{◌≡◌, ◌<◌, ◌+◌, true, false, if◌then◌else◌, Some, None, OnOk, OnErr, IfOk, IfErr, IsOk, unwrap_or};
+ghost use Rattle.atomic_table.specs.Table.{Allows};
+ghost use Rattle.ipcz_node.specs.Calls.{put_refusal, put_number, get_refusal, got_at, close_refusal};
+ghost use Rattle.ipcz_node.specs.RoomyNodes.{IsReadyFor, IsPossibleAct};
+ghost use Rattle.ipcz_node.specs.Acts.{act_lacks_serials, act_grows};
+ghost use Rattle.ipcz_node.specs.Events.{event_of};
+ghost use Rattle.ipcz_rule.specs.Rule.{Rules};
+ghost use Rattle.ipcz_cell.specs.CellStates.{part_in, change_part, roomy};
+ghost use Rattle.ipcz_cell.specs.Cells.{AreSound, IsSeated};
+ghost use Rattle.ipcz_rule.specs.Steps.{put_part, close_part, act_part, is_touch};
+ghost use Rattle.ipcz_cell.specs.Parts.{got_part, is_touch_act};
+ghost use Rattle.ipcz_cell.specs.Outcomes.{IsPicked, touched};
+
+use crate::fabric::{Fabric, FabricName};
+use crate::plays::{Outcome, load_step};
+use crate::probed::Probed;
+use atomic_table::Seat;
+use ipcz_base::{Bytes, End, Ends, Message, Parcel, Refusal};
+use ipcz_node::{Act, Happened, NodeState, PutRefused};
+use ipcz_router::act::{Answer, RouterAct};
+use ipcz_rule::View;
+use std::marker::{Brand, Model, PhantomData};
+
+/// A node's state with its seat at the table that F names.
+#[derive(Drop)]
+pub struct NodeCell<F: FabricName> {
+    pub(crate) state: NodeState,
+    pub(crate) message: Option<Message>,
+    pub(crate) probed: Probed,
+    pub(crate) seat: Seat<Option<Message>, View>,
+    pub(crate) of: PhantomData<F>,
+}
+
+impl<F: FabricName> Model for NodeCell<F> {
+    ghost use Rattle.std.specs.FinMap.{code};
+    ghost use Rattle.std.specs.FinSet as sets;
+    ghost use Rattle.std.specs.Coded.{codes};
+    ghost use Rattle.ipcz_cell.specs.CellStates.{CellState, part_in};
+
+    ghost Value = { CellState };
+
+    ghost coded = { Prim.hlevel (codes, code, sets.code) };
+
+    ghost use Rattle.ipcz_cell.specs.Cells.{IsCell};
+
+    ghost view = { λ c. record { part = part_in c.seat.me.0; seen = c.seat.me.0.seen; room = c.state.room } };
+
+    ghost invariant = { λ c. IsCell F.table c.state.node c.message c.probed c.seat.table_id c.seat.me };
+}
+
+// A step on the node's touch word.
+fn touch<F: FabricName, X: Outcome>(
+    seat: &mut Seat<Option<Message>, View>,
+    fabric: &Fabric<F>,
+    node: u8,
+) -> u64
+    requires own { seat.old.table_id ≡ F.table.id }
+    requires node { node < F.table.count }
+    requires may { Allows (Rules F.table.count F.table.size) F.table.id.slots seat.old.id seat.old.me (F.table.size + 1 + node) (λ n. n)
+        (X.tells seat.old.me) }
+    ensures table { seat.new.table_id ≡ seat.old.table_id }
+    ensures done { X.tells seat.old.me result seat.new.me }
+    ensures sound { AreSound F.table.count F.table.size seat.new.me.0 }
+{
+    let word = fabric.words as usize + 1 + node as usize;
+    load_step::<F, X>(seat, fabric, word)
+}
+
+// A put, as a step on the touch word. X is what it tells.
+fn put_here<F: FabricName, X: Outcome>(
+    state: &mut NodeState,
+    seat: &mut Seat<Option<Message>, View>,
+    fabric: &Fabric<F>,
+    at: End,
+    bytes: Bytes,
+    ends: Ends,
+) -> Result<u64, PutRefused>
+    requires picked { IsPicked X.tells (touched (put_part at bytes ends)) }
+    requires seated { IsSeated F.table state.old.node seat.old.table_id seat.old.me }
+    ensures allowed { OnOk result (put_refusal state.old.node at bytes ends ≡ None) }
+    ensures number { IfOk result (λ n. n ≡ put_number state.old.node at) }
+    ensures why { IfErr result (λ e. e.why ≡ unwrap_or (put_refusal state.old.node at bytes ends) Refusal.OutOfMemory) }
+    ensures back { IfErr result (λ e. (e.bytes ≡ bytes) × (e.ends ≡ ends)) }
+    ensures seated { IsSeated F.table state.new.node seat.new.table_id seat.new.me }
+    ensures done { OnOk result (seat.new.me ≡ (change_part (put_part at bytes ends) seat.old.me.0, seat.old.me.1)) }
+    ensures err { OnErr result ((state.new.node ≡ state.old.node) × (seat.new.me ≡ seat.old.me)) }
+{
+    let node = state.number();
+    let n = state.put(at, bytes, ends)?;
+    touch::<F, X>(seat, fabric, node);
+    Ok(n)
+}
+
+// A get, as a step on the touch word. X is what it tells.
+fn get_here<F: FabricName, X: Outcome>(
+    state: &mut NodeState,
+    seat: &mut Seat<Option<Message>, View>,
+    fabric: &Fabric<F>,
+    at: End,
+) -> Result<(u64, Parcel), Refusal>
+    requires picked { IsPicked X.tells (touched (got_part at)) }
+    requires seated { IsSeated F.table state.old.node seat.old.table_id seat.old.me }
+    ensures allowed { OnOk result (get_refusal state.old.node at ≡ None) }
+    ensures parcel { IfOk result (λ g. got_at state.old.node at ≡ Some g) }
+    ensures why { IfErr result (λ e. get_refusal state.old.node at ≡ Some e) }
+    ensures seated { IsSeated F.table state.new.node seat.new.table_id seat.new.me }
+    ensures done { OnOk result (seat.new.me ≡ (change_part (got_part at) seat.old.me.0, seat.old.me.1)) }
+    ensures err { OnErr result ((state.new.node ≡ state.old.node) × (seat.new.me ≡ seat.old.me)) }
+{
+    let node = state.number();
+    let got = state.get(at)?;
+    touch::<F, X>(seat, fabric, node);
+    Ok(got)
+}
+
+// A caller's close, as a step on the touch word. X is what it tells.
+fn close_here<F: FabricName, X: Outcome>(
+    state: &mut NodeState,
+    seat: &mut Seat<Option<Message>, View>,
+    fabric: &Fabric<F>,
+    at: End,
+) -> Result<u64, Refusal>
+    requires picked { IsPicked X.tells (touched (close_part at)) }
+    requires seated { IsSeated F.table state.old.node seat.old.table_id seat.old.me }
+    ensures allowed { OnOk result (close_refusal state.old.node at ≡ None) }
+    ensures number { IfOk result (λ n. n ≡ put_number state.old.node at) }
+    ensures why { IfErr result (λ e. e ≡ unwrap_or (close_refusal state.old.node at) Refusal.OutOfMemory) }
+    ensures seated { IsSeated F.table state.new.node seat.new.table_id seat.new.me }
+    ensures done { OnOk result (seat.new.me ≡ (change_part (close_part at) seat.old.me.0, seat.old.me.1)) }
+    ensures err { OnErr result ((state.new.node ≡ state.old.node) × (seat.new.me ≡ seat.old.me)) }
+{
+    let node = state.number();
+    let n = state.close(at)?;
+    touch::<F, X>(seat, fabric, node);
+    Ok(n)
+}
+
+// An act that touches no word, as a step on the touch word. X is what it tells.
+fn act_here<F: FabricName, X: Outcome>(
+    state: &mut NodeState,
+    seat: &mut Seat<Option<Message>, View>,
+    fabric: &Fabric<F>,
+    act: Act,
+) -> Happened
+    requires picked { IsPicked X.tells (touched (act_part act Answer.Plain)) }
+    requires seated { IsSeated F.table state.old.node seat.old.table_id seat.old.me }
+    requires touch { is_touch_act act ≡ true }
+    requires possible { IsPossibleAct state.old.node act }
+    requires serials { act_lacks_serials state.old.node act ≡ false }
+    requires ready { IsReadyFor state.old act }
+    ensures event { result ≡ event_of state.old.node act Answer.Plain }
+    ensures seated { IsSeated F.table state.new.node seat.new.table_id seat.new.me }
+    ensures done { seat.new.me ≡ (change_part (act_part act Answer.Plain) seat.old.me.0, seat.old.me.1) }
+{
+    let node = state.number();
+    let (event, _) = state.commit(act, Answer::Plain);
+    touch::<F, X>(seat, fabric, node);
+    event
+}
+
+// An act of a router that touches no word, made ready and done, as a step on the touch word. X is what it tells.
+fn told_here<F: FabricName, X: Outcome>(
+    state: &mut NodeState,
+    seat: &mut Seat<Option<Message>, View>,
+    fabric: &Fabric<F>,
+    serial: u64,
+    act: RouterAct,
+) -> Result<Happened, Refusal>
+    requires picked { IsPicked X.tells (touched (act_part (Act.Router serial act) Answer.Plain)) }
+    requires seated { IsSeated F.table state.old.node seat.old.table_id seat.old.me }
+    requires touch { is_touch act ≡ true }
+    requires possible { IsPossibleAct state.old.node (Act.Router serial act) }
+    ensures event { IfOk result (λ h. h ≡ event_of state.old.node (Act.Router serial act) Answer.Plain) }
+    ensures why { IfErr result
+        (λ e. e ≡ (if act_lacks_serials state.old.node (Act.Router serial act) then Refusal.NumbersEnd else Refusal.OutOfMemory)) }
+    ensures grows { act_grows (Act.Router serial act) ≡ false → IsOk result }
+    ensures seated { IsSeated F.table state.new.node seat.new.table_id seat.new.me }
+    ensures done { OnOk result
+        (seat.new.me ≡ (change_part (act_part (Act.Router serial act) Answer.Plain) seat.old.me.0, seat.old.me.1)) }
+    ensures err { OnErr result ((state.new.node ≡ state.old.node) × (seat.new.me ≡ seat.old.me)) }
+{
+    let node = state.number();
+    let event = state.act_told(serial, act)?;
+    touch::<F, X>(seat, fabric, node);
+    Ok(event)
+}
+
+impl<F: FabricName> NodeCell<F> {
+    /// Puts a parcel at an end that callers of this node hold, as `NodeState::put`.
+    pub fn put(
+        &mut self,
+        fabric: &Fabric<F>,
+        at: End,
+        bytes: Bytes,
+        ends: Ends,
+    ) -> Result<u64, PutRefused>
+        ensures allowed { OnOk result (put_refusal self.old.part.state at bytes ends ≡ None) }
+        ensures number { IfOk result (λ n. n ≡ put_number self.old.part.state at) }
+        ensures ok { OnOk result (self.new.part ≡ put_part at bytes ends self.old.part) }
+        ensures why { IfErr result (λ e. e.why ≡ unwrap_or (put_refusal self.old.part.state at bytes ends) Refusal.OutOfMemory) }
+        ensures err { IfErr result (λ e. (e.bytes ≡ bytes) × (e.ends ≡ ends) × (self.new.part ≡ self.old.part)) }
+        ensures seen { self.new.seen ≡ self.old.seen }
+    {
+        put_here::<F, Brand>(&mut self.state, &mut self.seat, fabric, at, bytes, ends)
+    }
+
+    /// Takes the next parcel at an end that callers of this node hold, as `NodeState::get`. It takes no memory.
+    pub fn get(&mut self, fabric: &Fabric<F>, at: End) -> Result<(u64, Parcel), Refusal>
+        ensures allowed { OnOk result (get_refusal self.old.part.state at ≡ None) }
+        ensures parcel { IfOk result (λ g. got_at self.old.part.state at ≡ Some g) }
+        ensures ok { OnOk result (self.new.part ≡ got_part at self.old.part) }
+        ensures why { IfErr result (λ e. get_refusal self.old.part.state at ≡ Some e) }
+        ensures err { OnErr result (self.new.part ≡ self.old.part) }
+        ensures seen { self.new.seen ≡ self.old.seen }
+    {
+        get_here::<F, Brand>(&mut self.state, &mut self.seat, fabric, at)
+    }
+
+    /// Closes an end that callers of this node hold, as `NodeState::close`.
+    pub fn close(&mut self, fabric: &Fabric<F>, at: End) -> Result<u64, Refusal>
+        ensures allowed { OnOk result (close_refusal self.old.part.state at ≡ None) }
+        ensures number { IfOk result (λ n. n ≡ put_number self.old.part.state at) }
+        ensures ok { OnOk result (self.new.part ≡ close_part at self.old.part) }
+        ensures why { IfErr result (λ e. e ≡ unwrap_or (close_refusal self.old.part.state at) Refusal.OutOfMemory) }
+        ensures err { OnErr result (self.new.part ≡ self.old.part) }
+        ensures seen { self.new.seen ≡ self.old.seen }
+    {
+        close_here::<F, Brand>(&mut self.state, &mut self.seat, fabric, at)
+    }
+
+    /// Makes all the room that an act wants, as `NodeState::prepare`.
+    pub fn prepare(&mut self, act: &Act) -> Result<(), Refusal>
+        ensures part { self.new.part ≡ self.old.part }
+        ensures seen { self.new.seen ≡ self.old.seen }
+        ensures ready { OnOk result (IsReadyFor (roomy self.new) act.now) }
+        ensures allowed { OnOk result (act_lacks_serials self.old.part.state act.now ≡ false) }
+        ensures why { IfErr result
+            (λ e. e ≡ (if act_lacks_serials self.old.part.state act.now then Refusal.NumbersEnd else Refusal.OutOfMemory)) }
+        ensures grows { act_grows act.now ≡ false → IsOk result }
+    {
+        self.state.prepare(act)
+    }
+
+    /// Does a possible act that touches no word and no mailbox, for which `prepare` made room. It takes no memory.
+    pub fn touch_act(&mut self, fabric: &Fabric<F>, act: Act) -> Happened
+        requires touch { is_touch_act act ≡ true }
+        requires possible { IsPossibleAct self.old.part.state act }
+        requires serials { act_lacks_serials self.old.part.state act ≡ false }
+        requires ready { IsReadyFor (roomy self.old) act }
+        ensures event { result ≡ event_of self.old.part.state act Answer.Plain }
+        ensures part { self.new.part ≡ act_part act Answer.Plain self.old.part }
+        ensures seen { self.new.seen ≡ self.old.seen }
+    {
+        act_here::<F, Brand>(&mut self.state, &mut self.seat, fabric, act)
+    }
+
+    // Makes room for a possible act of a router that touches no word, and does it.
+    pub(crate) fn act_told(
+        &mut self,
+        fabric: &Fabric<F>,
+        serial: u64,
+        act: RouterAct,
+    ) -> Result<Happened, Refusal>
+        requires touch { is_touch act ≡ true }
+        requires possible { IsPossibleAct self.old.part.state (Act.Router serial act) }
+        ensures event { IfOk result (λ h. h ≡ event_of self.old.part.state (Act.Router serial act) Answer.Plain) }
+        ensures ok { OnOk result (self.new.part ≡ act_part (Act.Router serial act) Answer.Plain self.old.part) }
+        ensures why { IfErr result
+            (λ e. e ≡ (if act_lacks_serials self.old.part.state (Act.Router serial act) then Refusal.NumbersEnd else Refusal.OutOfMemory)) }
+        ensures grows { act_grows (Act.Router serial act) ≡ false → IsOk result }
+        ensures err { OnErr result (self.new.part ≡ self.old.part) }
+        ensures seen { self.new.seen ≡ self.old.seen }
+    {
+        told_here::<F, Brand>(&mut self.state, &mut self.seat, fabric, serial, act)
+    }
+}

@@ -1,0 +1,51 @@
+ghost use Rattle.std.specs.Prelude.{◌≡◌};
+
+use atomic_table::Table;
+use ipcz_base::Message;
+use ipcz_rule::{FabricLaw, Size, View};
+use std::alloc::Global;
+use std::marker::{Brand, Model, PhantomData};
+
+/// Names a table.
+pub trait FabricName {
+    ghost use Rattle.ipcz_cell.specs.TableNames.{TableName};
+
+    ghost table: { TableName };
+}
+
+impl FabricName for Brand {
+    ghost use Rattle.ipcz_cell.specs.TableNames.{no_table};
+
+    ghost table = { no_table };
+}
+
+/// The table that F names.
+#[derive(Drop)]
+pub struct Fabric<F: FabricName> {
+    pub(crate) table: Table<Option<Message>, View, Size, FabricLaw, Global>,
+    pub(crate) nodes: u8,
+    pub(crate) words: u32,
+    pub(crate) of: PhantomData<F>,
+}
+
+impl<F: FabricName> Model for Fabric<F> {
+    ghost use Rattle.std.specs.Prelude.{◌≡◌, ℕ};
+    ghost use Rattle.ipcz_cell.specs.TableNames.{IsLaidOut};
+
+    ghost Value = { ℕ };
+
+    ghost view = { λ _. 0 };
+
+    ghost invariant = { λ f. (f.table.shared.table_id ≡ F.table.id) × (f.table.shared.key.nodes ≡ F.table.count) ×
+        (f.table.shared.key.words ≡ F.table.size)
+        × (f.nodes ≡ F.table.count) × (f.words ≡ F.table.size) × IsLaidOut F.table };
+}
+
+impl<F: FabricName> Fabric<F> {
+    /// How many nodes the table has: 1 to 8, numbered from 0 on.
+    pub fn nodes(&self) -> u8
+        ensures { result ≡ F.table.count }
+    {
+        self.nodes
+    }
+}

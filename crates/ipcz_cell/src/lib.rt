@@ -1,0 +1,23 @@
+//! Nodes on one table, each with a seat of its own: a thread that owns a node's cell acts on the table without any lock
+//! (docs/THREADS.md).
+#![tactic(auto)]
+
+mod cell;
+mod claims;
+mod ending;
+mod fabric;
+mod holds;
+pub mod laws;
+mod mail;
+mod making;
+mod opens;
+mod plays;
+mod probed;
+mod quiet;
+mod turns;
+mod words;
+
+pub use cell::NodeCell;
+pub use ending::finish;
+pub use fabric::{Fabric, FabricName};
+pub use making::{Blank, start};

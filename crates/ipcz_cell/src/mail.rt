@@ -1,0 +1,331 @@
+//! The mailboxes of a cell, each in a word of the table with its slot.
+ghost use Rattle.std.specs.Prelude.{◌≡◌, ◌<◌, ◌≤◌, ◌+◌, true, false, [], ◌∷◌, Some, None, OnOk, OnErr, IfOk, IfErr, if◌then◌else◌, cond};
+ghost use Rattle.std.specs.Prelude.{is_some};
+ghost use Rattle.atomic_table.specs.Table.{rest};
+ghost use Rattle.ipcz_node.specs.Acts.{has_mail_for, post_of};
+ghost use Rattle.ipcz_node.specs.Events.{hand_event};
+ghost use Rattle.ipcz_node.specs.Hands.{message_lacks_serials};
+ghost use Rattle.ipcz_rule.specs.Rule.{has_number};
+ghost use Rattle.ipcz_rule.specs.Steps.{post_part, old_word};
+ghost use Rattle.ipcz_base.specs.declared.message.Message.{Message as MessageData};
+ghost use Rattle.ipcz_cell.specs.CellStates.{part_in, change_part};
+ghost use Rattle.ipcz_cell.specs.Parts.{handed_part};
+ghost use Rattle.ipcz_cell.specs.Cells.{AreSound};
+ghost use Rattle.ipcz_cell.specs.Mails.{slot_of, mail_word, old_named, HasSeen, IsKnown, Probes, Looks, LoadsSource, Handles};
+ghost use Rattle.ipcz_cell.specs.Outcomes.{IsPicked, probed, posted, looked, sourced, handed, turned_by};
+
+use crate::cell::NodeCell;
+use crate::fabric::{Fabric, FabricName};
+use crate::plays::{Outcome, exchange_step, load_step, store_step};
+use atomic_table::Seat;
+use ipcz_base::{Message, Refusal};
+use ipcz_node::{Act, Happened, NodeState};
+use ipcz_router::act::Answer;
+use ipcz_rule::View;
+use ipcz_word::source;
+use std::marker::Brand;
+use std::mem;
+
+// The slot of the mailbox from one node to another.
+pub(crate) fn slot_of<F: FabricName>(fabric: &Fabric<F>, from: u8, to: u8) -> usize
+    requires from { from < F.table.count }
+    requires to { to < F.table.count }
+    ensures slot { result ≡ slot_of F.table from to }
+    ensures inside { result < F.table.id.slots }
+    ensures few { F.table.count ≤ 8 }
+{
+    from as usize * fabric.nodes as usize + to as usize
+}
+
+// The word of the mailbox of a slot.
+pub(crate) fn word_of<F: FabricName>(fabric: &Fabric<F>, slot: usize) -> usize
+    requires { slot < F.table.id.slots }
+    ensures word { result ≡ F.table.size + 1 + F.table.count + slot }
+    ensures inside { result < F.table.id.words }
+{
+    fabric.words as usize + 1 + fabric.nodes as usize + slot
+}
+
+// Brings so many slots behind the others. It does nothing.
+fn turn_over(seat: &mut Seat<Option<Message>, View>, n: usize)
+    ensures table { seat.new.table_id ≡ seat.old.table_id }
+    ensures id { seat.new.id ≡ seat.old.id }
+    ensures me { seat.new.me ≡ (seat.old.me.0, turned_by n seat.old.me.1) }
+{
+    if n > 0 {
+        seat.turn();
+        turn_over(seat, n - 1);
+    }
+}
+
+// How many slots the hand has.
+fn hand_count(message: &Option<Message>) -> usize
+    ensures { result ≡ cond (is_some message.now) 1 0 }
+{
+    if message.is_some() { 1 } else { 0 }
+}
+
+// An exchange 0 to 3. X is what it tells.
+fn probe_here<F: FabricName, X: Outcome>(
+    node: u8,
+    seat: &mut Seat<Option<Message>, View>,
+    fabric: &Fabric<F>,
+    to: u8,
+) -> u64
+    requires picked { IsPicked X.tells (probed (mail_word F.table node to) (slot_of F.table node to) to) }
+    requires own { seat.old.table_id ≡ F.table.id }
+    requires whole { seat.old.me.0.parts ≡ part_in seat.old.me.0 ∷ [] }
+    requires node { ((part_in seat.old.me.0).node ≡ node) × (node < F.table.count) }
+    requires to { to < F.table.count }
+    ensures table { seat.new.table_id ≡ seat.old.table_id }
+    ensures done { probed (mail_word F.table node to) (slot_of F.table node to) to seat.old.me result seat.new.me }
+    ensures sound { AreSound F.table.count F.table.size seat.new.me.0 }
+    ensures small { to < 8 }
+{
+    let slot = slot_of(fabric, node, to);
+    let word = word_of(fabric, slot);
+    exchange_step::<F, X>(seat, fabric, word, 0, 3)
+}
+
+// A store 1 at a mailbox that was probed, whose slot has the message. X is what it tells.
+fn post_here<F: FabricName, X: Outcome>(
+    node: u8,
+    seat: &mut Seat<Option<Message>, View>,
+    fabric: &Fabric<F>,
+    to: u8,
+)
+    requires picked { IsPicked X.tells (posted to) }
+    requires own { seat.old.table_id ≡ F.table.id }
+    requires whole { seat.old.me.0.parts ≡ part_in seat.old.me.0 ∷ [] }
+    requires node { ((part_in seat.old.me.0).node ≡ node) × (node < F.table.count) }
+    requires to { to < F.table.count }
+    requires probed { has_number (part_in seat.old.me.0).probed to ≡ true }
+    requires mail { has_mail_for (part_in seat.old.me.0).state to ≡ true }
+    requires slot { (x : MessageData) × (post_of (part_in seat.old.me.0).state (Act.Post to) ≡ Some x) ×
+        (seat.old.me.1 ≡ (slot_of F.table node to, Some x) ∷ rest seat.old.me.1) }
+    ensures table { seat.new.table_id ≡ seat.old.table_id }
+    ensures done { seat.new.me ≡ (change_part (post_part to) seat.old.me.0, rest seat.old.me.1) }
+    ensures sound { AreSound F.table.count F.table.size seat.new.me.0 }
+{
+    let slot = slot_of(fabric, node, to);
+    let word = word_of(fabric, slot);
+    store_step::<F, X>(seat, fabric, word, 1);
+}
+
+// An exchange 1 to 2. X is what it tells.
+fn look_here<F: FabricName, X: Outcome>(
+    node: u8,
+    seat: &mut Seat<Option<Message>, View>,
+    fabric: &Fabric<F>,
+    from: u8,
+) -> u64
+    requires picked { IsPicked X.tells (looked (mail_word F.table from node) (slot_of F.table from node) from) }
+    requires own { seat.old.table_id ≡ F.table.id }
+    requires whole { seat.old.me.0.parts ≡ part_in seat.old.me.0 ∷ [] }
+    requires node { ((part_in seat.old.me.0).node ≡ node) × (node < F.table.count) }
+    requires from { from < F.table.count }
+    requires idle { (part_in seat.old.me.0).state.hand ≡ None }
+    ensures table { seat.new.table_id ≡ seat.old.table_id }
+    ensures done { looked (mail_word F.table from node) (slot_of F.table from node) from seat.old.me result seat.new.me }
+    ensures sound { AreSound F.table.count F.table.size seat.new.me.0 }
+{
+    let slot = slot_of(fabric, from, node);
+    let word = word_of(fabric, slot);
+    exchange_step::<F, X>(seat, fabric, word, 1, 2)
+}
+
+// The word of the old link that the message in hand names, where it is an AcceptBypass.
+fn old_word(message: &Option<Message>) -> Option<u32>
+    ensures { result ≡ old_named message.now }
+{
+    match message {
+        Some(Message::AcceptBypass { old, .. }) => Some(*old),
+        Some(
+            Message::Item { .. }
+            | Message::BypassPeer { .. }
+            | Message::StopProxying { .. }
+            | Message::ProxyWillStop { .. }
+            | Message::Flush { .. },
+        )
+        | None => None,
+    }
+}
+
+// A load of the old link's word before an AcceptBypass in hand is handled. X is what it tells.
+fn source_here<F: FabricName, X: Outcome>(
+    seat: &mut Seat<Option<Message>, View>,
+    fabric: &Fabric<F>,
+    from: u8,
+    old: u32,
+) -> u64
+    requires picked { IsPicked X.tells (sourced old from) }
+    requires own { seat.old.table_id ≡ F.table.id }
+    requires whole { seat.old.me.0.parts ≡ part_in seat.old.me.0 ∷ [] }
+    requires hand { (part_in seat.old.me.0).state.hand ≡ Some from }
+    requires message { (x : MessageData) × ((part_in seat.old.me.0).message ≡ Some x) × (old_word x ≡ Some old) }
+    requires inside { old < F.table.size }
+    ensures table { seat.new.table_id ≡ seat.old.table_id }
+    ensures done { sourced old from seat.old.me result seat.new.me }
+    ensures sound { AreSound F.table.count F.table.size seat.new.me.0 }
+{
+    let (_nodes, _from) = (fabric.nodes, from);
+    load_step::<F, X>(seat, fabric, old as usize)
+}
+
+// A store 0 at the mailbox whose message is in hand, for which the source is known. X is what it tells.
+fn hand_here<F: FabricName, X: Outcome>(
+    node: u8,
+    seat: &mut Seat<Option<Message>, View>,
+    fabric: &Fabric<F>,
+    from: u8,
+    source: Option<u8>,
+)
+    requires picked { IsPicked X.tells (handed from source) }
+    requires own { seat.old.table_id ≡ F.table.id }
+    requires whole { seat.old.me.0.parts ≡ part_in seat.old.me.0 ∷ [] }
+    requires node { ((part_in seat.old.me.0).node ≡ node) × (node < F.table.count) }
+    requires from { from < F.table.count }
+    requires hand { (part_in seat.old.me.0).state.hand ≡ Some from }
+    requires message { (x : MessageData) × ((part_in seat.old.me.0).message ≡ Some x) ×
+        (message_lacks_serials (part_in seat.old.me.0).state from x source ≡ false) × IsKnown F.table.size from x source }
+    requires slot { seat.old.me.1 ≡ (slot_of F.table from node, None) ∷ rest seat.old.me.1 }
+    ensures table { seat.new.table_id ≡ seat.old.table_id }
+    ensures done { seat.new.me ≡ (change_part (handed_part from source) seat.old.me.0, rest seat.old.me.1) }
+    ensures sound { AreSound F.table.count F.table.size seat.new.me.0 }
+{
+    let _source = source;
+    let slot = slot_of(fabric, from, node);
+    let word = word_of(fabric, slot);
+    store_step::<F, X>(seat, fabric, word, 0);
+}
+
+impl<F: FabricName> NodeCell<F> {
+    // Loads the word of the mailbox from one node to another.
+    pub(crate) fn load_mail(&mut self, fabric: &Fabric<F>, from: u8, to: u8) -> u64
+        requires from { from < F.table.count }
+        requires to { to < F.table.count }
+        ensures { HasSeen (mail_word F.table from to) result self.old self.new }
+    {
+        let word = word_of(fabric, slot_of(fabric, from, to));
+        load_step::<F, Brand>(&mut self.seat, fabric, word)
+    }
+
+    /// Takes the empty mailbox to a node, or has it already. It answers false only where the mailbox was found at another value than 0.
+    pub fn mail_probe(&mut self, fabric: &Fabric<F>, to: u8) -> bool
+        requires { to < F.table.count }
+        ensures { Probes (mail_word F.table self.old.part.node to) to self.old result self.new }
+    {
+        if self.probed.has(to) {
+            return true;
+        }
+        let found = probe_here::<F, Brand>(self.state.number(), &mut self.seat, fabric, to);
+        if found != 0 {
+            return false;
+        }
+        self.probed.add(to);
+        true
+    }
+
+    /// Posts the first message for a node into its mailbox, which was taken by a probe. It takes no memory.
+    pub fn mail_post(&mut self, fabric: &Fabric<F>, to: u8)
+        requires to { to < F.table.count }
+        requires probed { has_number self.old.part.probed to ≡ true }
+        requires mail { has_mail_for self.old.part.state to ≡ true }
+        ensures part { self.new.part ≡ post_part to self.old.part }
+        ensures seen { self.new.seen ≡ self.old.seen }
+    {
+        let node = self.state.number();
+        let slot = slot_of(fabric, node, to);
+        let place = self.probed.take(to);
+        turn_over(&mut self.seat, place);
+        let message = self.state.post(to);
+        let table = &fabric.table;
+        table.shared.exchange(&mut self.seat, slot, Some(message));
+        post_here::<F, Brand>(node, &mut self.seat, fabric, to);
+        let held = hand_count(&self.message);
+        let behind = self.probed.len() - place;
+        turn_over(&mut self.seat, behind + held);
+    }
+
+    /// Takes the message of a full mailbox into the hand. It answers false only where the mailbox was found at another value than 1. It
+    /// takes no memory.
+    pub fn mail_look(&mut self, fabric: &Fabric<F>, from: u8) -> bool
+        requires from { from < F.table.count }
+        requires idle { self.old.part.state.hand ≡ None }
+        ensures { Looks (mail_word F.table from self.old.part.node) from self.old result self.new }
+    {
+        let node = self.state.number();
+        let found = look_here::<F, Brand>(node, &mut self.seat, fabric, from);
+        if found != 1 {
+            return false;
+        }
+        let slot = slot_of(fabric, from, node);
+        let table = &fabric.table;
+        self.message = table.shared.exchange(&mut self.seat, slot, None);
+        turn_over(&mut self.seat, 1);
+        self.state.look(from);
+        true
+    }
+
+    // Loads the word of the old link that the message in hand names, where it is an AcceptBypass, and tells the source. Another message
+    // has none, and neither has an AcceptBypass whose old link has no word of the table: then nothing is loaded. By the rule of the table
+    // there is no such AcceptBypass.
+    fn load_source(&mut self, fabric: &Fabric<F>, from: u8) -> Option<u8>
+        requires { self.old.part.state.hand ≡ Some from }
+        ensures { LoadsSource F.table.size from self.old result self.new }
+    {
+        let Some(old) = old_word(&self.message) else {
+            return None;
+        };
+        if old >= fabric.words {
+            return None;
+        }
+        let found = source_here::<F, Brand>(&mut self.seat, fabric, from, old);
+        source(found)
+    }
+
+    // Handles the message in hand, for which the source is known.
+    fn handle(
+        &mut self,
+        fabric: &Fabric<F>,
+        from: u8,
+        source: Option<u8>,
+    ) -> Result<Happened, Refusal>
+        requires hand { self.old.part.state.hand ≡ Some from }
+        requires known { (x : MessageData) → self.old.part.message ≡ Some x → IsKnown F.table.size from x source }
+        ensures ok { OnOk result (self.new.part ≡ handed_part from source self.old.part) }
+        ensures event { IfOk result
+            (λ h. (x : MessageData) × (self.old.part.message ≡ Some x) × (h ≡ hand_event self.old.part.state from x source)) }
+        ensures why { IfErr result (λ e. (x : MessageData) × (self.old.part.message ≡ Some x) ×
+            (e ≡ (if message_lacks_serials self.old.part.state from x source then Refusal.NumbersEnd else Refusal.OutOfMemory))) }
+        ensures err { OnErr result (self.new.part ≡ self.old.part) }
+        ensures seen { self.new.seen ≡ self.old.seen }
+    {
+        let node = self.state.number();
+        let Some(message) = mem::replace(&mut self.message, None) else {
+            unreachable!()
+        };
+        match self.state.deliver(from, message, source) {
+            Ok(event) => {
+                turn_over(&mut self.seat, self.probed.len());
+                hand_here::<F, Brand>(node, &mut self.seat, fabric, from, source);
+                Ok(event)
+            }
+            Err((why, message)) => {
+                self.message = Some(message);
+                Err(why)
+            }
+        }
+    }
+
+    /// Handles the message in hand. An AcceptBypass is taken only where the word of the old link names its sender as the source: one load
+    /// of that word tells it. A refused message stays in hand. It answers `NumbersEnd` where the message fits and would make more routers
+    /// than serials are left for, and otherwise `OutOfMemory`.
+    pub fn mail_handle(&mut self, fabric: &Fabric<F>, from: u8) -> Result<Happened, Refusal>
+        requires { self.old.part.state.hand ≡ Some from }
+        ensures { Handles F.table.size from self.old result self.new }
+    {
+        let source = self.load_source(fabric, from);
+        self.handle(fabric, from, source)
+    }
+}

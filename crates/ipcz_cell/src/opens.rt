@@ -1,0 +1,183 @@
+//! The claim count, the link words and the opens of a cell.
+ghost use Rattle.std.specs.Prelude.{◌≡◌, ◌<◌, ◌≤◌, ◌^◌, true, is_some, None, OnOk, IfOk, IfErr, unwrap_or};
+ghost use Rattle.ipcz_world.specs.Coding.{IsLinkNumber};
+ghost use Rattle.ipcz_node.specs.Calls.{serials_refusal};
+ghost use Rattle.ipcz_node.specs.RoomyNodes.{CanOpen};
+ghost use Rattle.ipcz_cell.specs.CellStates.{roomy};
+ghost use Rattle.ipcz_cell.specs.Mails.{HasSeen};
+ghost use Rattle.ipcz_cell.specs.Claims.{AreReached};
+ghost use Rattle.ipcz_cell.specs.Opens.{ReadsWord, ClaimsAt, MayClaim, ClaimsWord, ClaimsForOpen, OpensWord, OpensPair};
+
+use crate::cell::NodeCell;
+use crate::fabric::{Fabric, FabricName};
+use crate::plays::{exchange_step, load_step};
+use ipcz_base::{End, Refusal};
+use std::marker::Brand;
+
+// The same answer, with its number as that of a word.
+fn narrow(claimed: Result<u64, Refusal>) -> Result<u32, Refusal>
+    requires { IfOk claimed (λ n. n < 2 ^ 32) }
+    ensures { result ≡ claimed }
+{
+    let n = claimed?;
+    let Ok(word) = u32::try_from(n) else {
+        unreachable!()
+    };
+    Ok(word)
+}
+
+impl<F: FabricName> NodeCell<F> {
+    // Loads the claim count.
+    fn load_count(&mut self, fabric: &Fabric<F>) -> u64
+        ensures seen { HasSeen F.table.size result self.old self.new }
+        ensures most { result ≤ F.table.size }
+        ensures reached { AreReached F.table.size self.old.seen result }
+        ensures small { F.table.size < 2 ^ 32 }
+    {
+        load_step::<F, Brand>(&mut self.seat, fabric, fabric.words as usize)
+    }
+
+    // Loads a link's word.
+    fn load_word(&mut self, fabric: &Fabric<F>, i: u32) -> u64
+        requires { i < F.table.size }
+        ensures seen { HasSeen i result self.old self.new }
+        ensures word { IsLinkNumber result }
+    {
+        let _words = fabric.words;
+        load_step::<F, Brand>(&mut self.seat, fabric, i as usize)
+    }
+
+    /// How many link words were claimed when the count was loaded: as many as at each load and exchange of it before, or more. It takes no
+    /// memory.
+    pub fn claimed(&mut self, fabric: &Fabric<F>) -> u32
+        ensures seen { HasSeen F.table.size result self.old self.new }
+        ensures most { result ≤ F.table.size }
+        ensures reached { AreReached F.table.size self.old.seen result }
+    {
+        let count = self.load_count(fabric);
+        let Ok(words) = u32::try_from(count) else {
+            unreachable!()
+        };
+        words
+    }
+
+    /// A link word as it was loaded, or none for one that wasn't claimed yet by the claim count that was loaded before it: so there is one
+    /// where an earlier count was above its number. It takes no memory.
+    pub fn word(&mut self, fabric: &Fabric<F>, i: u32) -> Option<u64>
+        ensures { ReadsWord F.table.size i self.old result self.new }
+    {
+        let count = self.load_count(fabric);
+        if count <= u64::from(i) {
+            return None;
+        }
+        Some(self.load_word(fabric, i))
+    }
+
+    // Exchanges the claim count for the next, for an open.
+    fn claim_at(&mut self, fabric: &Fabric<F>, count: u64) -> Result<u32, Refusal>
+        requires free { self.old.part.state.opening ≡ None }
+        requires few { count < F.table.size }
+        ensures claims { ClaimsAt F.table.size count self.old result self.new }
+        ensures room { self.new.room ≡ self.old.room }
+    {
+        let word = fabric.words as usize;
+        let now = exchange_step::<F, Brand>(&mut self.seat, fabric, word, count, count + 1);
+        if now != count {
+            return Err(Refusal::Raced);
+        }
+        let Ok(claimed) = u32::try_from(count) else {
+            unreachable!()
+        };
+        self.state.claim_open(claimed);
+        Ok(claimed)
+    }
+
+    // Claims a word for an open.
+    fn claim_for_open(&mut self, fabric: &Fabric<F>) -> Result<u32, Refusal>
+        requires { self.old.part.state.opening ≡ None }
+        ensures { ClaimsForOpen F.table.size self.old self.new result }
+    {
+        let count = self.load_count(fabric);
+        if count == u64::from(fabric.words) {
+            return Err(Refusal::NoWord);
+        }
+        self.claim_at(fabric, count)
+    }
+
+    /// Claims a link word: for the bypass of the proxy of a serial, whose act this is to be, or, with none, for an open, where none is
+    /// under way; that open is under way then, until `word_open` or `open_pair` does it. It answers the word.
+    ///
+    /// It loads the claim count, and exchanges it for the next. It answers `NoWord` where the load found that each word was claimed; a
+    /// proxy is dry then, and its act is done. It answers `Raced` only where the exchange found another count than the load; then nothing
+    /// but what was seen has changed. It takes no memory.
+    pub fn word_claim(&mut self, fabric: &Fabric<F>, serial: Option<u64>) -> Result<u32, Refusal>
+        requires { MayClaim self.old.part.state serial }
+        ensures { ClaimsWord F.table.size serial self.old self.new result }
+    {
+        match serial {
+            Some(serial) => {
+                let _words = fabric.words;
+                narrow(self.word_claim_for(fabric, serial))
+            }
+            None => self.claim_for_open(fabric),
+        }
+    }
+
+    /// Makes room for a pair, as `NodeState::open_prepare`. It answers `NumbersEnd` where too few serials are left for two routers, and
+    /// otherwise `OutOfMemory`.
+    pub fn open_prepare(&mut self) -> Result<(), Refusal>
+        ensures part { self.new.part ≡ self.old.part }
+        ensures seen { self.new.seen ≡ self.old.seen }
+        ensures ready { OnOk result (CanOpen (roomy self.new)) }
+        ensures allowed { OnOk result (serials_refusal self.old.part.state ≡ None) }
+        ensures why { IfErr result (λ e. e ≡ unwrap_or (serials_refusal self.old.part.state) Refusal.OutOfMemory) }
+    {
+        self.state.open_prepare()
+    }
+
+    // Whether an open is under way.
+    fn is_opening(&self) -> bool
+        ensures { result ≡ is_some self.now.part.state.opening }
+    {
+        self.state.opening().is_some()
+    }
+
+    /// Opens the pair on the word of the open that is under way, for which `open_prepare` made room: its ends of sides A and B, both held
+    /// here. It takes no memory.
+    pub fn word_open(&mut self, fabric: &Fabric<F>) -> (End, End)
+        requires under_way { is_some self.old.part.state.opening ≡ true }
+        requires ready { CanOpen (roomy self.old) }
+        ensures opens { OpensWord self.old result self.new }
+        ensures inside { result.0.pair < F.table.size }
+    {
+        let Some(word) = self.state.opening() else {
+            unreachable!()
+        };
+        let _words = fabric.words;
+        exchange_step::<F, Brand>(&mut self.seat, fabric, word as usize, 0, 3);
+        self.state.open_commit(word)
+    }
+
+    /// Opens a pair, on a word that it claims, or on that of the open under way, and answers its ends of sides A and B, both held here.
+    ///
+    /// It answers, the first of these: `NoWord` where no open is under way and each link word was claimed, `NumbersEnd` where too few
+    /// serials are left for two routers, `OutOfMemory`, and `Raced` where another node has claimed a word meanwhile; the caller may try
+    /// again. A refused open changes nothing but what was seen.
+    pub fn open_pair(&mut self, fabric: &Fabric<F>) -> Result<(End, End), Refusal>
+        ensures { OpensPair F.table.size self.old self.new result }
+    {
+        if self.is_opening() {
+            self.open_prepare()?;
+            return Ok(self.word_open(fabric));
+        }
+        let count = self.load_count(fabric);
+        if count == u64::from(fabric.words) {
+            return Err(Refusal::NoWord);
+        }
+        self.open_prepare()?;
+        match self.claim_at(fabric, count) {
+            Ok(_) => Ok(self.word_open(fabric)),
+            Err(why) => Err(why),
+        }
+    }
+}

@@ -1,0 +1,295 @@
+//! The turns of a cell.
+ghost use Rattle.std.specs.Prelude.{◌≡◌, ◌<◌, ℕ, true, None, Some, Ok};
+ghost use Rattle.ipcz_base.specs.declared.side.Side.{Side as SideValue};
+ghost use Rattle.ipcz_node.specs.RoomyNodes.{IsPossibleAct};
+ghost use Rattle.ipcz_cell.specs.Turns.{Chooses, FindsFull, CanPost, FindsEmpty};
+ghost use Rattle.ipcz_cell.specs.TurnEnds.{try_event, IsInside, Acts, Turns};
+ghost use Rattle.ipcz_node.specs.Acts.{close_turn, has_mail_for, router_turn, stand_in};
+ghost use Rattle.ipcz_node.specs.Node.{flagged_router, word_side};
+ghost use Rattle.ipcz_rule.specs.Steps.{is_touch};
+ghost use Rattle.ipcz_cell.specs.Parts.{is_touch_act};
+
+use crate::cell::NodeCell;
+use crate::fabric::{Fabric, FabricName};
+use crate::words::LockTry;
+use ipcz_base::{LinkId, Refusal};
+use ipcz_node::{Act, Happened};
+use ipcz_router::act::RouterAct;
+use ipcz_word::LockPlan;
+
+impl<F: FabricName> NodeCell<F> {
+    // The lowest node whose mailbox to this one is found full. The mailboxes are loaded in order, up to that one.
+    fn first_full(&mut self, fabric: &Fabric<F>) -> Option<u8>
+        ensures { FindsFull F.table self.old result self.new }
+    {
+        let node = self.node();
+        for from in 0..fabric.nodes {
+            if self.load_mail(fabric, from, node) == 1 {
+                return Some(from);
+            }
+        }
+        None
+    }
+
+    // Whether messages wait for a node and its mailbox is this node's already, or is found empty.
+    fn can_post(&mut self, fabric: &Fabric<F>, to: u8) -> bool
+        requires { to < F.table.count }
+        ensures { CanPost F.table to self.old result self.new }
+    {
+        if !self.state.has_mail_for(to) {
+            return false;
+        }
+        if self.probed.has(to) {
+            return true;
+        }
+        let node = self.node();
+        self.load_mail(fabric, node, to) == 0
+    }
+
+    // The lowest node that messages wait for and whose mailbox is this node's already, or is found empty. The mailboxes are loaded in
+    // order, up to that one.
+    fn first_empty(&mut self, fabric: &Fabric<F>) -> Option<u8>
+        ensures { FindsEmpty F.table self.old result self.new }
+    {
+        for to in 0..fabric.nodes {
+            if self.can_post(fabric, to) {
+                return Some(to);
+            }
+        }
+        None
+    }
+
+    // The sender of the message in hand, where there is one.
+    fn hand(&self) -> Option<u8>
+        ensures { result ≡ self.now.part.state.hand }
+    {
+        self.state.hand()
+    }
+
+    // The first possible act of a node that has no message in hand and sees no mailbox.
+    fn next_else(&self) -> Act
+        ensures act { result ≡ close_turn self.now.part.state.pending (router_turn (flagged_router self.now.part.state)) }
+        ensures possible { IsPossibleAct self.now.part.state result }
+    {
+        self.state.next_own()
+    }
+
+    /// The act that a turn would take, for the mailboxes as it finds them: the first of those in docs/PROTOCOL.md, "Turns". A mailbox that
+    /// was probed counts as empty. It takes no memory.
+    pub fn act(&mut self, fabric: &Fabric<F>) -> Act
+        ensures first { Chooses F.table self.old result self.new }
+        ensures possible { IsPossibleAct self.old.part.state result }
+    {
+        if let Some(from) = self.hand() {
+            return Act::Hand(from);
+        }
+        if let Some(from) = self.first_full(fabric) {
+            return Act::Look(from);
+        }
+        if let Some(to) = self.first_empty(fabric) {
+            return Act::Post(to);
+        }
+        self.next_else()
+    }
+}
+
+// What a try for the lock is seen to do.
+fn try_event(serial: u64, tried: LockTry) -> Happened
+    ensures { result ≡ try_event serial tried.word tried.found tried.plan }
+{
+    let link = LinkId::Central(tried.word);
+    match tried.plan {
+        LockPlan::Lock(new) => Happened::Lock(serial, link, new),
+        LockPlan::Wait(new) => Happened::Wait(serial, link, new),
+        LockPlan::Refused => Happened::Refused(serial, link, tried.found),
+    }
+}
+
+impl<F: FabricName> NodeCell<F> {
+    // The link of a router's word, for its events.
+    fn word_link(&self, serial: u64) -> LinkId
+        ensures { (word : ℕ) → (side : SideValue) → word_side self.now.part.state serial ≡ Some (word, side) →
+            result ≡ LinkId.Central word }
+    {
+        match self.state.word_of(serial) {
+            Some((word, _)) => LinkId::Central(word),
+            None => LinkId::Central(0),
+        }
+    }
+
+    // Looks into the mailbox of a node.
+    fn look_turn(&mut self, fabric: &Fabric<F>, from: u8) -> Result<Happened, Refusal>
+        requires inside { from < F.table.count }
+        requires idle { self.old.part.state.hand ≡ None }
+        ensures { Acts F.table (Act.Look from) self.old result self.new }
+    {
+        if self.mail_look(fabric, from) {
+            Ok(Happened::Look(from))
+        } else {
+            Err(Refusal::Raced)
+        }
+    }
+
+    // Posts the first message for a node, whose mailbox it takes first where it hasn't got it.
+    fn post_turn(&mut self, fabric: &Fabric<F>, to: u8) -> Result<Happened, Refusal>
+        requires inside { to < F.table.count }
+        requires mail { has_mail_for self.old.part.state to ≡ true }
+        ensures { Acts F.table (Act.Post to) self.old result self.new }
+    {
+        if !self.mail_probe(fabric, to) {
+            return Err(Refusal::Raced);
+        }
+        self.mail_post(fabric, to);
+        Ok(Happened::Post(to))
+    }
+
+    // An act that touches no word and no mailbox.
+    fn touch_turn(&mut self, fabric: &Fabric<F>, act: Act) -> Result<Happened, Refusal>
+        requires touch { is_touch_act act ≡ true }
+        requires alone { act ≡ stand_in act }
+        requires possible { IsPossibleAct self.old.part.state act }
+        ensures { Acts F.table act self.old result self.new }
+    {
+        self.prepare(&act)?;
+        Ok(self.touch_act(fabric, act))
+    }
+
+    // An act of a router that touches no word.
+    fn plain_turn(
+        &mut self,
+        fabric: &Fabric<F>,
+        serial: u64,
+        act: RouterAct,
+    ) -> Result<Happened, Refusal>
+        requires touch { is_touch act ≡ true }
+        requires alone { Act.Router serial act ≡ stand_in (Act.Router serial act) }
+        requires possible { IsPossibleAct self.old.part.state (Act.Router serial act) }
+        ensures { Acts F.table (Act.Router serial act) self.old result self.new }
+    {
+        self.act_told(fabric, serial, act)
+    }
+
+    // A router's side becomes stable.
+    fn mark_turn(&mut self, fabric: &Fabric<F>, serial: u64) -> Happened
+        requires { IsPossibleAct self.old.part.state (Act.Router serial RouterAct.Mark) }
+        ensures { Acts F.table (Act.Router serial RouterAct.Mark) self.old (Ok result) self.new }
+    {
+        let link = self.word_link(serial);
+        Happened::Mark(serial, link, self.word_mark(fabric, serial))
+    }
+
+    // A router gives its lock back.
+    fn unlock_turn(&mut self, fabric: &Fabric<F>, serial: u64) -> Happened
+        requires { IsPossibleAct self.old.part.state (Act.Router serial RouterAct.Unlock) }
+        ensures { Acts F.table (Act.Router serial RouterAct.Unlock) self.old (Ok result) self.new }
+    {
+        let link = self.word_link(serial);
+        Happened::Unlock(serial, link, self.word_unlock(fabric, serial))
+    }
+
+    // A router wakes the one across, for which it sends a Flush.
+    fn wake_turn(&mut self, fabric: &Fabric<F>, serial: u64) -> Result<Happened, Refusal>
+        requires { IsPossibleAct self.old.part.state (Act.Router serial RouterAct.Wake) }
+        ensures { Acts F.table (Act.Router serial RouterAct.Wake) self.old result self.new }
+    {
+        self.prepare(&Act::Router(serial, RouterAct::Wake))?;
+        let link = self.word_link(serial);
+        Ok(Happened::Wake(serial, link, self.word_take_waiting(fabric, serial)))
+    }
+
+    // A router tries for the lock.
+    fn lock_turn(&mut self, fabric: &Fabric<F>, serial: u64) -> Result<Happened, Refusal>
+        requires { IsPossibleAct self.old.part.state (Act.Router serial RouterAct.Lock) }
+        ensures { Acts F.table (Act.Router serial RouterAct.Lock) self.old result self.new }
+    {
+        let tried = self.lock_word(fabric, serial)?;
+        Ok(try_event(serial, tried))
+    }
+
+    // A proxy claims a word.
+    fn claim_turn(&mut self, fabric: &Fabric<F>, serial: u64) -> Result<Happened, Refusal>
+        requires { IsPossibleAct self.old.part.state (Act.Router serial RouterAct.Claim) }
+        ensures { Acts F.table (Act.Router serial RouterAct.Claim) self.old result self.new }
+    {
+        let _words = fabric.words;
+        match self.word_claim_for(fabric, serial) {
+            Ok(count) => {
+                let Ok(word) = u32::try_from(count) else {
+                    unreachable!()
+                };
+                Ok(Happened::Claim(serial, word))
+            }
+            Err(Refusal::NoWord) => Ok(Happened::ClaimNoWord(serial)),
+            Err(why) => Err(why),
+        }
+    }
+
+    // A proxy begins its bypass, or gives its lock back where no memory is found for that.
+    fn begin_turn(&mut self, fabric: &Fabric<F>, serial: u64) -> Result<Happened, Refusal>
+        requires { IsPossibleAct self.old.part.state (Act.Router serial RouterAct.Begin) }
+        ensures { Acts F.table (Act.Router serial RouterAct.Begin) self.old result self.new }
+    {
+        let begin = Act::Router(serial, RouterAct::Begin);
+        match self.prepare(&begin) {
+            Ok(()) => Ok(self.touch_act(fabric, begin)),
+            Err(Refusal::OutOfMemory) => Ok(self.unlock_turn(fabric, serial)),
+            Err(why) => Err(why),
+        }
+    }
+
+    // An act of a router.
+    fn router_turn(
+        &mut self,
+        fabric: &Fabric<F>,
+        serial: u64,
+        act: RouterAct,
+    ) -> Result<Happened, Refusal>
+        requires { IsPossibleAct self.old.part.state (Act.Router serial act) }
+        ensures { Acts F.table (Act.Router serial act) self.old result self.new }
+    {
+        match act {
+            RouterAct::Mark => Ok(self.mark_turn(fabric, serial)),
+            RouterAct::Unlock => Ok(self.unlock_turn(fabric, serial)),
+            RouterAct::Wake => self.wake_turn(fabric, serial),
+            RouterAct::Lock => self.lock_turn(fabric, serial),
+            RouterAct::Claim => self.claim_turn(fabric, serial),
+            RouterAct::Begin => self.begin_turn(fabric, serial),
+            RouterAct::SendOut
+            | RouterAct::SendIn
+            | RouterAct::Discard
+            | RouterAct::FinishOut
+            | RouterAct::FinishIn
+            | RouterAct::Leave
+            | RouterAct::Rest => self.plain_turn(fabric, serial, act),
+        }
+    }
+
+    // An act, by its kind.
+    fn take(&mut self, fabric: &Fabric<F>, act: Act) -> Result<Happened, Refusal>
+        requires possible { IsPossibleAct self.old.part.state act }
+        requires inside { IsInside F.table.count act }
+        ensures { Acts F.table act self.old result self.new }
+    {
+        match act {
+            Act::Hand(from) => self.mail_handle(fabric, from),
+            Act::Look(from) => self.look_turn(fabric, from),
+            Act::Post(to) => self.post_turn(fabric, to),
+            Act::Close(_) => self.touch_turn(fabric, act),
+            Act::Router(serial, act) => self.router_turn(fabric, serial, act),
+            Act::Idle => Ok(Happened::Idle),
+        }
+    }
+
+    /// Takes one turn: the first act that is possible for the mailboxes as it finds them, as `act` answers it, is done whole, and what it
+    /// did is told.
+    ///
+    /// It is refused `NumbersEnd` where the act wants more serials than are left, `OutOfMemory` where it wants memory and none is found,
+    /// and `Raced` where another thread came between the load of a word and its exchange: then the turn may be taken again. A begin for
+    /// which no memory is found is done as an unlock. A refused turn changes nothing. A claim that finds no word is an act done.
+    pub fn turn(&mut self, fabric: &Fabric<F>) -> Result<Happened, Refusal>
+        ensures { Turns F.table self.old result self.new }
+    {
+        let act = self.act(fabric);
+        self.take(fabric, act)
+    }
+}

@@ -1,5 +1,0 @@
-use Rattle.ipcz_fabric.specs.Opens.{open_claimed}
-use Rattle.ipcz_fabric.proofs.cell.NodeCell.claim_at.Given as goal
-
-abbrev pub ghosts-exchange_step : goal.ghosts-exchange_step
-ghosts-exchange_step g a = record { tells = open_claimed a.word a.old }

@@ -1,9 +1,0 @@
-use Rattle.std.proofs.Common.{refl}
-use Rattle.ipcz_fabric.proofs.Seating.{touched_or_same}
-use Rattle.ipcz_fabric.proofs.Keeping.{close_keeps}
-use Rattle.ipcz_fabric.proofs.cell.NodeCell.close.Goals as goal
-
-pub invariant_of-self : goal.invariant_of-self
-invariant_of-self g c =
-    let done = c.close_here.ensures in
-    touched_or_same c.close_here.result _ _ _ _ _ _ _ _ _ _ _ _ c.self.invariant done.seated done.done done.err refl (close_keeps _ _)

@@ -1,5 +1,0 @@
-use Rattle.ipcz_fabric.specs.Outcomes.{handed}
-use Rattle.ipcz_fabric.proofs.cell.NodeCell.handle.Given as goal
-
-abbrev pub ghosts-hand_here : goal.ghosts-hand_here
-ghosts-hand_here g a = record { tells = handed a.from a.source }

@@ -1,5 +1,0 @@
-use Rattle.ipcz_fabric.specs.Opens.{count_loaded}
-use Rattle.ipcz_fabric.proofs.cell.NodeCell.load_count.Given as goal
-
-abbrev pub ghosts-load_step : goal.ghosts-load_step
-ghosts-load_step g a = record { tells = count_loaded a.word }

@@ -1,5 +1,0 @@
-use Rattle.ipcz_fabric.specs.Outcomes.{sourced}
-use Rattle.ipcz_fabric.proofs.cell.NodeCell.load_source.Given as goal
-
-abbrev pub ghosts-source_here : goal.ghosts-source_here
-ghosts-source_here g a = record { tells = sourced a.old a.from }

@@ -1,5 +1,0 @@
-use Rattle.ipcz_fabric.specs.Outcomes.{posted}
-use Rattle.ipcz_fabric.proofs.cell.NodeCell.mail_post.Given as goal
-
-abbrev pub ghosts-post_here : goal.ghosts-post_here
-ghosts-post_here g a = record { tells = posted a.to }

@@ -1,6 +1,0 @@
-use Rattle.ipcz_fabric.specs.Outcomes.{touched}
-use Rattle.ipcz_rule.specs.Steps.{put_part}
-use Rattle.ipcz_fabric.proofs.cell.NodeCell.put.Given as goal
-
-abbrev pub ghosts-put_here : goal.ghosts-put_here
-ghosts-put_here g a = record { tells = touched (put_part a.at a.bytes a.ends) }

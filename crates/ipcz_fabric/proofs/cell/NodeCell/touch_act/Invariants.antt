@@ -1,7 +1,0 @@
-use Rattle.ipcz_router.specs.declared.act.Answer.TheVariants as answers
-use Rattle.ipcz_fabric.specs.Outcomes.{touched}
-use Rattle.ipcz_rule.specs.Steps.{act_part}
-use Rattle.ipcz_fabric.proofs.cell.NodeCell.touch_act.Given as goal
-
-abbrev pub ghosts-act_here : goal.ghosts-act_here
-ghosts-act_here g a = record { tells = touched (act_part a.act answers.Plain) }

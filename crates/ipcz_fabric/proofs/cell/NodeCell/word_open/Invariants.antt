@@ -1,5 +1,0 @@
-use Rattle.ipcz_fabric.specs.Opens.{opened}
-use Rattle.ipcz_fabric.proofs.cell.NodeCell.word_open.Given as goal
-
-abbrev pub ghosts-exchange_step : goal.ghosts-exchange_step
-ghosts-exchange_step g a = record { tells = opened a.word }

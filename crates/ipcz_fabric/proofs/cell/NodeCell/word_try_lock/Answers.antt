@@ -1,5 +1,0 @@
-use Rattle.ipcz_fabric.proofs.LockTries.{try_told}
-use Rattle.ipcz_fabric.proofs.cell.NodeCell.word_try_lock.Goals as goal
-
-pub returns : goal.returns
-returns g c = try_told _ _ _ _ _ c.in_ok-tried.ensures

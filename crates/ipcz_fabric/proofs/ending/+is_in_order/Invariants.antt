@@ -1,5 +1,0 @@
-use Rattle.std.proofs.Common.{length}
-use Rattle.ipcz_fabric.proofs.ending.+is_in_order.Given as goal
-
-abbrev pub decreases-is_in_order : goal.decreases-is_in_order
-decreases-is_in_order g l = length l.cells.now

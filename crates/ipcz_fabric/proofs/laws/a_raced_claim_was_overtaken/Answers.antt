@@ -1,5 +1,0 @@
-use Rattle.ipcz_fabric.proofs.Races.{raced_claim_is_overtaken}
-use Rattle.ipcz_fabric.proofs.laws.a_raced_claim_was_overtaken.Goals as goal
-
-pub returns : goal.returns
-returns c = raced_claim_is_overtaken

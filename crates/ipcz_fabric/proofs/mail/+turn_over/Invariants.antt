@@ -1,4 +1,0 @@
-use Rattle.ipcz_fabric.proofs.mail.+turn_over.Given as goal
-
-abbrev pub decreases-turn_over : goal.decreases-turn_over
-decreases-turn_over l = l.n
