@@ -1,3 +1,4 @@
+//! Cells: a node's state with its seat at the table. Here are its puts, gets and closes, and the acts that take no link word and no mailbox.
 ghost use Rattle.std.specs.Prelude.{◌≡◌, ◌<◌, ◌+◌, true, false, if◌then◌else◌, Some, None, OnOk, OnErr, IfOk, IfErr, IsOk, unwrap_or};
 ghost use Rattle.atomic_table.specs.Table.{Allows};
 ghost use Rattle.ipcz_node.specs.Calls.{put_refusal, put_number, get_refusal, got_at, close_refusal};

@@ -1,3 +1,4 @@
+//! A table of atomic words under a name, which the types of its cells carry.
 ghost use Rattle.std.specs.Prelude.{◌≡◌};
 
 use atomic_table::Table;
