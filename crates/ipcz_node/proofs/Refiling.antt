@@ -517,7 +517,7 @@ module _ (m : FinMap nat_cmp Router) (s : ℕ) (r w : Router) (stays : StaysFile
   -- it stands among the others once its flag is followed
   pub flag_changed : (was is : Bool) → was ≡ r.flagged → is ≡ w.flagged
       → ((q : ℕ) → has nat_cmp to_flagged.members q ≡ (if s == q then is else has nat_cmp flagged.members q))
-      → to_flagged.room + (if is then 1 else 0) ≡ flagged.room + (if was then 1 else 0)
+      → flagged.room + (if was then 1 else 0) ≤ to_flagged.room + (if is then 1 else 0)
       → AreFiled (insert m s w) links.members terminals.members to_flagged.members ×
       HaveRoom (insert m s w) room more in_routers links.room terminals.room to_flagged.room
   flag_changed was is was_is is_is members flag_rooms =
@@ -530,8 +530,8 @@ module _ (m : FinMap nat_cmp Router) (s : ℕ) (r w : Router) (stays : StaysFile
         by_flag = λ q. members q ∙ ap (λ f. if s == q then f else has nat_cmp flagged.members q) is_is;
         link_room = omega arith;
         end_room = omega arith;
-        flag_room = sym (ap (λ f. to_flagged.room + (if f then 1 else 0)) is_is) ∙ flag_rooms ∙
-            ap (λ f. flagged.room + (if f then 1 else 0)) was_is;
+        flag_room = subst (λ f. flagged.room + (if r.flagged then 1 else 0) ≤ to_flagged.room + (if f then 1 else 0)) is_is
+            (subst (λ f. flagged.room + (if f then 1 else 0) ≤ to_flagged.room + (if is then 1 else 0)) was_is flag_rooms);
       })
 
 -- a router that is away is filed nowhere

@@ -109,4 +109,4 @@ pub record AreRefiled (links new_links : RoomySet (LinkPlace × ℕ)) (terminals
   pub by_flag : (s : ℕ) → has nat_cmp new_flagged.members s ≡ (if serial == s then is.flagged else has nat_cmp flagged.members s)
   pub link_room : links.room ≤ new_links.room + link_gain was is
   pub end_room : terminals.room ≤ new_terminals.room
-  pub flag_room : new_flagged.room + (if is.flagged then 1 else 0) ≡ flagged.room + (if was.flagged then 1 else 0)
+  pub flag_room : flagged.room + (if was.flagged then 1 else 0) ≤ new_flagged.room + (if is.flagged then 1 else 0)

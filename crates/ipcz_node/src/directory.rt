@@ -28,11 +28,11 @@ mod room;
 use self::filing::{follow, refile};
 pub(crate) use self::room::count_ends;
 use self::room::{ends_taken, flags_wanted, is_outward, make_room, sum};
+use crate::flags::Flags;
 use crate::held_ends::HeldEnds;
 use crate::index::Index;
 use crate::link_place::LinkPlace;
 use crate::routers::Routers;
-use crate::sorted_set::SortedSet;
 use ipcz_base::{Descriptor, End, Item, LinkEnd, LinkId, Parcel, Refusal, Side};
 use ipcz_router::act::{Answer, Applied, RouterAct};
 use ipcz_router::{Filing, Router, Sending};
@@ -49,7 +49,7 @@ pub struct Directory {
     routers: Routers,
     links: Index<LinkPlace>,
     terminals: Index<End>,
-    flagged: SortedSet<u64>,
+    flagged: Flags,
     held: HeldEnds,
     room: usize,
     more: usize,
@@ -98,7 +98,7 @@ impl Directory {
             routers: Routers::new(alloc, first),
             links: Index::new(alloc),
             terminals: Index::new(alloc),
-            flagged: SortedSet::new(alloc),
+            flagged: Flags::new(alloc),
             held: HeldEnds::new(alloc),
             room: 0,
             more: 0,
@@ -407,10 +407,7 @@ impl Directory {
     pub fn first_flagged(&self) -> Option<u64>
         ensures { IsFound (λ r. r.flagged) self.now.filed.routers result }
     {
-        match self.flagged.first() {
-            Some(serial) => Some(*serial),
-            None => None,
-        }
+        self.flagged.first()
     }
 
     /// Whether no router is flagged.

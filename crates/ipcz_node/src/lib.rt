@@ -3,6 +3,7 @@
 
 mod act;
 mod directory;
+mod flags;
 mod happened;
 mod held_ends;
 mod index;

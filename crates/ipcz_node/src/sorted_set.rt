@@ -86,9 +86,7 @@ impl<T: Ord + Drop> SortedSet<T> {
         ensures members { (x : T) → has T.cmp self.new.members x ≡ (not (is_eq (T.cmp value.now x)) && has T.cmp self.old.members x) }
         ensures room { self.new.room ≡ (if has T.cmp self.old.members value.now then self.old.room + 1 else self.old.room) }
     {
-        if self.is_first(value) {
-            self.items.remove(0);
-        } else if let Ok(at) = self.place_of(value) {
+        if let Ok(at) = self.place_of(value) {
             self.items.remove(at);
         }
     }
@@ -114,15 +112,6 @@ impl<T: Ord + Drop> SortedSet<T> {
         self.items.get(at)
     }
 
-    /// The least member.
-    pub fn first(&self) -> Option<&T>
-        ensures member { IfSome result (λ x. has T.cmp self.now.members x.now ≡ true) }
-        ensures least { IfSome result (λ x. (y : T) → has T.cmp self.now.members y ≡ true → is_lt (T.cmp y x.now) ≡ false) }
-        ensures none { IfNone result (self.now.members ≡ []) }
-    {
-        self.items.first()
-    }
-
     // Whether the value is greater than each member.
     fn is_above_all(&self, value: &T) -> bool
         ensures { IsTrue result → IsGapFor T.cmp self.now.members value.now (length self.now.members) }
@@ -130,16 +119,6 @@ impl<T: Ord + Drop> SortedSet<T> {
         match self.items.last() {
             Some(last) => last.cmp(value).is_lt(),
             None => true,
-        }
-    }
-
-    // Whether the value is the least member.
-    fn is_first(&self, value: &T) -> bool
-        ensures { IsTrue result → IsPlaceOf T.cmp self.now.members value.now 0 }
-    {
-        match self.items.first() {
-            Some(first) => first.cmp(value).is_eq(),
-            None => false,
         }
     }
 

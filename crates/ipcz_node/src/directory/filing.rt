@@ -10,9 +10,9 @@ ghost use Rattle.ipcz_node.specs.Directories.{CanRefile, AreRefiled};
 ghost use Rattle.ipcz_node.specs.SortedSets.{has};
 ghost use Rattle.ipcz_node.specs.Indexes.{is_filed};
 
+use crate::flags::Flags;
 use crate::index::Index;
 use crate::link_place::LinkPlace;
-use crate::sorted_set::SortedSet;
 use ipcz_base::{End, LinkEnd, LinkId, Side};
 use ipcz_router::Filing;
 
@@ -20,7 +20,7 @@ use ipcz_router::Filing;
 pub(super) fn refile(
     links: &mut Index<LinkPlace>,
     terminals: &mut Index<End>,
-    flagged: &mut SortedSet<u64>,
+    flagged: &mut Flags,
     serial: u64,
     was: &Filing,
     is: &Filing,
@@ -104,16 +104,16 @@ fn file_link(links: &mut Index<LinkPlace>, serial: u64, new: Option<LinkEnd>, wa
 // Keeps the set of flagged serials after what was done with the router of a serial. That is all that is to be filed where its links
 // stay, and whether it is an open terminal.
 #[inline(always)]
-pub(super) fn follow(flagged: &mut SortedSet<u64>, serial: u64, was_flagged: bool, is_flagged: bool)
+pub(super) fn follow(flagged: &mut Flags, serial: u64, was_flagged: bool, is_flagged: bool)
     requires was { has nat_cmp flagged.old.members serial ≡ was_flagged }
     requires room { was_flagged ≡ false → 0 < flagged.old.room }
     ensures members { (s : ℕ) → has nat_cmp flagged.new.members s ≡
         (if serial == s then is_flagged else has nat_cmp flagged.old.members s) }
-    ensures room { flagged.new.room + (if is_flagged then 1 else 0) ≡ flagged.old.room + (if was_flagged then 1 else 0) }
+    ensures room { flagged.old.room + (if was_flagged then 1 else 0) ≤ flagged.new.room + (if is_flagged then 1 else 0) }
 {
     match (was_flagged, is_flagged) {
         (false, true) => flagged.insert(serial),
-        (true, false) => flagged.remove(&serial),
+        (true, false) => flagged.remove(serial),
         (true, true) | (false, false) => {}
     }
 }
