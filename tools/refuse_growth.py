@@ -8,12 +8,13 @@
     python3 tools/refuse_growth.py --counts PROGRAM       the same, and how many growths each of its lines told of
 
 Each run must end with status 3 and write nothing; or, where the growth was that of a bypass's first message, end as ever and write
-the same lines but for two more: after the lock it is given back and got again. Or it ends as ever where the growth could be done
-without.
+the same lines but for two more: after the lock it is given back, with the word as it was before, and got again. Or it ends as ever
+where the growth could be done without.
 
 A run of `ipcz_faults` must end as ever and write the same lines, but that just one of them tells of the growth: `, refused 1` of a
 call that left all as it was, `, unlocked 1` of a lock that was given back and got again, or `, refused beside 1` of what stands
-beside the calls. Each line must tell of calls that were refused, and some line of a lock that was given back.
+beside the calls. Each line must tell of calls that were refused, and those of a bypass that grows where it begins of a lock that was
+given back.
 """
 import collections
 import os
@@ -23,8 +24,13 @@ import sys
 import tempfile
 
 HERE = os.path.dirname(os.path.abspath(__file__))
-# The line of a lock that is given back, with its node, router, link and word.
+# The line of a lock that is got, or that is given back, with its node, router, link and word.
+LOCK = re.compile(r"(n\d): (r\d+) lock (C\d+) (\d+)\n")
 UNLOCK = re.compile(r"(n\d): (r\d+) unlock (C\d+) (\d+)\n")
+# The bits of a link word that a lock leaves as they were: which sides are stable, and which wait.
+LEFT_BY_A_LOCK = 15
+# The row of `ipcz_faults` of which a bypass must grow where it begins.
+GROWING = "a bypass that grows where it begins"
 # How a line of `ipcz_faults` tells of one refused growth.
 TELLINGS = ", refused 1", ", unlocked 1", ", refused beside 1"
 
@@ -42,8 +48,11 @@ def without_unlock(text):
     if len(places) != 1 or not 0 < places[0] < len(lines) - 2:
         return None
     before, unlock, again, begin = lines[places[0] - 1 : places[0] + 3]
-    node, router, link, _ = UNLOCK.fullmatch(unlock).groups()
-    if again != before or not again.startswith(f"{node}: {router} lock {link} ") or begin != f"{node}: {router} begin {link}\n":
+    *asker, word = UNLOCK.fullmatch(unlock).groups()
+    locked = LOCK.fullmatch(again)
+    if again != before or not locked or [*locked.groups()][:3] != asker or int(word) != int(locked[4]) & LEFT_BY_A_LOCK:
+        return None
+    if begin != "{}: {} begin {}\n".format(*asker):
         return None
     return "".join(lines[: places[0]] + lines[places[0] + 2 :]).encode()
 
@@ -98,8 +107,12 @@ def try_retries(program, library, count, tells_counts):
             sys.exit(f"no call was refused in {line}")
         if tells_counts:
             print(line + "".join(f"{telling[:-2]} {told[place, telling]}" for telling in TELLINGS if told[place, telling]))
-    if not any(told[place, ", unlocked 1"] for place in range(len(lines))):
-        sys.exit("no bypass grew where it began")
+    growing = [place for place, line in enumerate(lines) if line.startswith(GROWING)]
+    for place in growing:
+        if not told[place, ", unlocked 1"]:
+            sys.exit(f"no lock was given back in {lines[place]}")
+    if not growing:
+        sys.exit(f"no row is {GROWING}")
 
 
 def main():
