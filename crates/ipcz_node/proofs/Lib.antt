@@ -6,6 +6,7 @@ pub mod Finding
 pub mod FirstPairs
 pub mod Handing
 pub mod Happenings
+pub mod Hearing
 pub mod Held
 pub mod Holding
 pub mod Indexes
