@@ -36,8 +36,8 @@ TABLE = "ipcz_router/specs/ActTable.antt"
 ROUTER, ROUTING = "ipcz_router/specs/Router.antt", "ipcz_router/src/router.rt"
 ANSWERS, ANSWERING = "ipcz_world/specs/WordAnswers.antt", "ipcz_world/src/word_answers.rt"
 UPDATES = "ipcz_world/specs/Acts.antt"
-HANDS, HANDING = "ipcz_node/specs/Hands.antt", "ipcz_node/src/state/bypass.rt"
-FILING = "ipcz_node/src/directory/bypass.rt"
+HANDS = "ipcz_node/specs/Hands.antt"
+HEARING, HEARD = "ipcz_router/specs/Hearing.antt", "ipcz_router/src/router/hearing.rt"
 # proofs that say a definition a second time
 ACTED, WORD_ACTS = "ipcz_world/proofs/acts/ActedWords.antt", "ipcz_world/proofs/acts/WordActs.antt"
 ROUTER_WAKERS, WORD_WAKERS = "ipcz_world/proofs/owed/RouterWakers.antt", "ipcz_world/proofs/owed/WordWakers.antt"
@@ -50,7 +50,7 @@ FLAGGING, WAKING = "ipcz_world/proofs/runs/Flagging.antt", "ipcz_world/proofs/ac
 STOPPING, HANDLING = "ipcz_world/proofs/hands/StopProxying.antt", "ipcz_world/proofs/hands/Handling.antt"
 ACT_RANKS = "ipcz_world/proofs/ranks/NodeActs.antt"
 HAND_RANKS, WORTHS = "ipcz_world/proofs/ranks/NodeHands.antt", "ipcz_world/proofs/ranks/RouterWorths.antt"
-CHOOSING, REFILING = "ipcz_node/proofs/Choosing.antt", "ipcz_node/proofs/Refiling.antt"
+CHOOSING = "ipcz_node/proofs/Choosing.antt"
 PEERS = [f"ipcz_world/proofs/hands/BypassPeer{part}.antt" for part in ("", "Around", "Links", "Messages", "Numbers", "Records", "Stages")]
 SENT = "sent = messages.AcceptBypass o (opposite r.end.side) fresh r.out_queue.current"
 SENDING = "use Rattle.ipcz_router.specs.declared.sending.Sending.{Sending}"
@@ -282,26 +282,14 @@ TURNS = {
         (ACT_RANKS, "(messages.Flush e.link (opposite e.side))", "(messages.Flush e.link e.side)"),
     ],
     "a_flush_wakes_nobody": [
-        (HANDS, "on_found n (link_router n link side) (λ s r. with_router n s (flushed r))", "n"),
-        (UPDATES, "free (set_router w k (flushed r)) from k.node", "free w from k.node"),
-        (HANDING, "        if let Some(serial) = self.link_serial(link, side) {\n            self.routers.rouse(serial);\n        }\n", ""),
+        (HANDS, "flushed r = rouse r", "flushed r = r"),
+        (HEARING, "(messages.Flush link side) = rouse r", "(messages.Flush link side) = r"),
+        (HEARD, "                self.rouse();\n", ""),
     ],
     "a_flush_lets_nobody_try_again": [
         (HANDS, "flushed r = rouse r", "flushed r = record r { flagged = true }"),
-        (
-            ROUTING,
-            "    // Takes the current item of the out queue out",
-            "    /// Has it looked at again.\n    pub fn flag(&mut self)\n"
-            "        ensures router { self.new.router ≡ record self.old.router { flagged = true } }\n"
-            "        ensures room { KeepsRoom self.old self.new }\n    {\n        self.flagged = true;\n    }\n\n"
-            "    // Takes the current item of the out queue out",
-        ),
-        (FILING, "put_filed self.old.filed serial (rouse r)", "put_filed self.old.filed serial (record r { flagged = true })"),
-        (FILING, "        router.rouse();\n", "        router.flag();\n"),
-        ("ipcz_node/proofs/directory/Directory/rouse/Answers.antt", "let w = c.rouse.new", "let w = c.flag.new"),
-        ("ipcz_node/proofs/directory/Directory/rouse/Answers.antt", "(sym c.rouse.ensures", "(sym c.flag.ensures"),
-        ("ipcz_node/proofs/directory/Directory/rouse/Answers.antt", "ends_inside c.rouse.ensures", "ends_inside c.flag.ensures"),
-        (REFILING, "StaysFiled r (rouse r)", "StaysFiled r (record r { flagged = true })"),
+        (HEARING, "(messages.Flush link side) = rouse r", "(messages.Flush link side) = record r { flagged = true }"),
+        (HEARD, "                self.rouse();\n", "                self.flagged = true;\n"),
         (STEP_WAKERS, "with_router n s (rouse r)", "with_router n s (flushed r)"),
         (STEP_WAKERS, "same_Some (rouse f.0.router)", "same_Some (flushed f.0.router)"),
         (

@@ -7,6 +7,7 @@ pub mod FirstPairs
 pub mod FlagSets
 pub mod Handing
 pub mod Happenings
+pub mod Hearing
 pub mod Held
 pub mod Holding
 pub mod Indexes

@@ -19,7 +19,7 @@ use Rattle.std.specs.Ordering.{nat_cmp}
 use Rattle.std.specs.FinMap.{FinMap, get, insert}
 use Rattle.ipcz_base.specs.declared.end.End.{End}
 use Rattle.ipcz_base.specs.declared.item.Item.{Item}
-use Rattle.ipcz_router.specs.Router.{Router, is_open_terminal, rouse}
+use Rattle.ipcz_router.specs.Router.{Router, is_open_terminal}
 use Rattle.ipcz_router.specs.Calls.{put_item, take_item, accept, extend}
 use Rattle.ipcz_router.specs.Filings.{filing_of}
 use Rattle.std.specs.Prelude.{option_map}
@@ -437,9 +437,6 @@ put_stays r item = refl
 
 pub take_stays : (r : Router) → StaysFiled r (take_item r)
 take_stays r = refl
-
-pub rouse_stays : (r : Router) → StaysFiled r (rouse r)
-rouse_stays r = refl
 
 pub accept_stays : (r : Router) (from_outward : Bool) (n : ℕ) (item : Item) → StaysFiled r (accept r from_outward n item)
 unfolding accept

@@ -5,6 +5,7 @@ pub mod Events
 pub mod Finding
 pub mod FirstPairs
 pub mod Hands
+pub mod Hearing
 pub mod Indexes
 pub mod Lending
 pub mod LinkPlaces

@@ -2,7 +2,9 @@
 use Rattle.std.specs.Prelude.{ℕ, ◌+◌, ◌-◌, ◌<◌, Bool, if◌then◌else◌, List, IsSomeAnd}
 use Rattle.std.specs.Ordering.{nat_cmp}
 use Rattle.std.specs.FinMap.{FinMap, get, insert, remove}
+use Rattle.ipcz_base.specs.declared.message.Message.{Message}
 use Rattle.ipcz_router.specs.Router.{Router}
+use Rattle.ipcz_router.specs.Hearing.{hear, links_brought}
 use Rattle.ipcz_router.specs.RoomyRouters.{RoomyRouter}
 use Rattle.ipcz_node.specs.Node.{EndSet, with_ends, without_ends}
 use Rattle.ipcz_base.specs.declared.end.End.{End}
@@ -58,6 +60,13 @@ put_filed v serial r = record v { routers = insert v.routers serial r }
 -- the same, with a link more
 abbrev pub link_filed : FiledRouters → ℕ → Router → FiledRouters
 link_filed v serial r = record v { routers = insert v.routers serial r; links = v.links - 1 }
+
+-- the routers with this one after a message from a node that it hears, and with the links fewer to come that the message may bring
+abbrev pub hear_filed : FiledRouters → ℕ → Router → ℕ → Message → FiledRouters
+hear_filed v serial r sender m = record v {
+  routers = insert v.routers serial (hear r sender m);
+  links = v.links - links_brought m;
+}
 
 -- the routers with one more under the next serial
 abbrev pub add_filed : FiledRouters → Router → FiledRouters

@@ -19,9 +19,9 @@ ghost use Rattle.ipcz_node.specs.Directories.{keeps_links};
 ghost use Rattle.std.specs.FinSet as sets;
 ghost use Rattle.ipcz_node.specs.Serials.{map_by, AreRising};
 
-mod bypass;
 mod calls;
 mod filing;
+mod hearing;
 mod passing;
 mod room;
 

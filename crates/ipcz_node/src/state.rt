@@ -6,10 +6,10 @@ ghost use Rattle.ipcz_node.specs.Serials.{map_by, AreRising};
 ghost use Rattle.ipcz_node.specs.Node.{router_in, terminal_of, link_router, found, is_named};
 
 mod acts;
-mod bypass;
 mod calls;
 mod first_pairs;
 mod hands;
+mod hearing;
 mod passing;
 mod room;
 mod sends;

@@ -5,6 +5,7 @@ pub mod Bypass
 pub mod Calls
 pub mod Carrying
 pub mod Closing
+pub mod Hearing
 pub mod Numbers
 pub mod RoomyRouters
 pub mod Outlooks

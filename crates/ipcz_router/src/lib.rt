@@ -2,6 +2,7 @@
 #![tactic(auto)]
 
 pub mod act;
+mod brought;
 mod filing;
 mod outlook;
 mod router;
@@ -9,6 +10,7 @@ mod sending;
 mod source;
 
 pub use act::{Answer, Applied, RouterAct};
+pub use brought::links_brought;
 pub use filing::Filing;
 pub use outlook::Outlook;
 pub use router::Router;

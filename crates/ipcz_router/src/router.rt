@@ -10,6 +10,7 @@ ghost use Rattle.ipcz_router.specs.Calls.{next_number};
 
 mod bypass;
 mod calls;
+mod hearing;
 mod outlook;
 mod passing;
 mod turns;

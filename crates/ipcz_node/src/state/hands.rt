@@ -16,6 +16,8 @@ use super::NodeState;
 use crate::directory::count_ends;
 use crate::happened::{Happened, kind_of, link_asked, side_asked};
 use ipcz_base::{Descriptor, End, Item, LinkId, Message, Moves, Refusal, Side};
+use std::alloc::AllocError;
+use std::mem;
 
 impl NodeState {
     // Whether a move can be made a terminal here.
@@ -148,7 +150,8 @@ impl NodeState {
         }
     }
 
-    // The router of the serial takes the item, and its moves become terminals.
+    // The router of the serial takes the item, and its moves become terminals. The item is left as it is where it is refused, and counts for
+    // nothing where it is taken.
     fn take_item(
         &mut self,
         serial: u64,
@@ -156,40 +159,30 @@ impl NodeState {
         link: LinkId,
         side: Side,
         n: u64,
-        item: Item,
-        moves: Moves,
-    ) -> Result<(), Message>
+        item: &mut Item,
+        moves: &Moves,
+    ) -> Result<(), AllocError>
         requires stands { IsSomeAnd (router_in self.old.node serial) (λ r. router_has r link side ≡ true) }
         requires number { n < no_number }
-        requires numbers { AreLow moves }
-        requires serials { has_serials self.old.node.next_router (length moves) ≡ true }
+        requires numbers { AreLow moves.now }
+        requires serials { has_serials self.old.node.next_router (length moves.now) ≡ true }
         ensures place { (r : RouterRecord) → router_in self.old.node serial ≡ Some r →
             OnOk result (has_place_for r (outward_has r link side) n ≡ true) }
         ensures ok { (r : RouterRecord) → router_in self.old.node serial ≡ Some r →
-            OnOk result (self.new.node ≡ take_in self.old.node sender link side n item moves serial r) }
+            OnOk result (self.new.node ≡ take_in self.old.node sender link side n item.old moves.now serial r) }
         ensures full { (r : RouterRecord) → router_in self.old.node serial ≡ Some r →
-            has_place_for r (outward_has r link side) n ≡ true → HasRoomForItem self.old link side n item (found serial r) →
-            length moves ≤ self.old.room.routers → IsOk result }
-        ensures err { IfErr result (λ m. (m ≡ Message.Item link side n item moves) × (self.new.node ≡ self.old.node)) }
+            has_place_for r (outward_has r link side) n ≡ true → HasRoomForItem self.old link side n item.old (found serial r) →
+            length moves.now ≤ self.old.room.routers → IsOk result }
+        ensures err { OnErr result ((item.new ≡ item.old) × (self.new.node ≡ self.old.node)) }
     {
         let count = moves.as_slice().len();
         if count > 0 && self.routers.reserve(count, 0).is_err() {
-            return Err(Message::Item {
-                link,
-                side,
-                n,
-                item,
-                moves,
-            });
+            return Err(AllocError);
         }
-        if let Err((_, item)) = self.routers.accept(serial, link, side, n, item) {
-            return Err(Message::Item {
-                link,
-                side,
-                n,
-                item,
-                moves,
-            });
+        let given = mem::replace(item, Item::Mark);
+        if let Err((_, refused)) = self.routers.accept(serial, link, side, n, given) {
+            *item = refused;
+            return Err(AllocError);
         }
         self.make_terminals(sender, moves.as_slice());
         Ok(())
@@ -219,14 +212,14 @@ impl NodeState {
         link: LinkId,
         side: Side,
         n: u64,
-        item: Item,
-        moves: Moves,
-    ) -> Result<(), Message>
-        requires fits { fits self.old.node sender (Message.Item link side n item moves) None ≡ true }
-        requires serials { has_serials self.old.node.next_router (length moves) ≡ true }
-        ensures ok { OnOk result (self.new.node ≡ handle self.old.node sender (Message.Item link side n item moves)) }
-        ensures full { HasRoomFor self.old (Message.Item link side n item moves) → IsOk result }
-        ensures err { IfErr result (λ m. (m ≡ Message.Item link side n item moves) × (self.new.node ≡ self.old.node)) }
+        item: &mut Item,
+        moves: &Moves,
+    ) -> Result<(), AllocError>
+        requires fits { fits self.old.node sender (Message.Item link side n item.old moves.now) None ≡ true }
+        requires serials { has_serials self.old.node.next_router (length moves.now) ≡ true }
+        ensures ok { OnOk result (self.new.node ≡ handle self.old.node sender (Message.Item link side n item.old moves.now)) }
+        ensures full { HasRoomFor self.old (Message.Item link side n item.old moves.now) → IsOk result }
+        ensures err { OnErr result ((item.new ≡ item.old) × (self.new.node ≡ self.old.node)) }
     {
         match self.link_serial(link, side) {
             Some(serial) => self.take_item(serial, sender, link, side, n, item, moves),
@@ -237,7 +230,7 @@ impl NodeState {
 
 impl NodeState {
     // Whether a message from a node fits.
-    #[tactic(auto, unfolding(crate::specs::Hands::fits))]
+    #[tactic(auto, unfolding(crate::specs::Hands::fits, crate::specs::Telling::brings_item))]
     fn fits(&self, sender: u8, message: &Message, source: Option<u8>) -> bool
         ensures { result ≡ fits self.now.node sender message.now source }
     {
@@ -248,44 +241,26 @@ impl NodeState {
                 n,
                 item,
                 moves,
-            } => { self.fits_item(sender, *link, *side, *n, item, moves) }
-            Message::BypassPeer {
-                link,
-                side,
-                old,
-                target,
-                fresh,
-            } => { self.fits_bypass_peer(sender, *link, *side, *old, *target, *fresh) }
-            Message::AcceptBypass {
-                old,
-                side,
-                fresh,
-                length,
-            } => { self.fits_accept_bypass(sender, *old, *side, *fresh, *length, source) }
-            Message::StopProxying {
-                old,
-                side,
-                in_length,
-                out_length,
-            } => { self.fits_stop_proxying(sender, *old, *side, *in_length, *out_length) }
-            Message::ProxyWillStop {
-                link,
-                side,
-                in_length,
-            } => { self.fits_proxy_will_stop(sender, *link, *side, *in_length) }
-            Message::Flush { .. } => true,
+            } => self.fits_item(sender, *link, *side, *n, item, moves),
+            _ => self.is_heard(sender, message, source),
         }
     }
 
-    // Handles a message that fits, and for which there are serials.
+    // Handles a message that fits, and for which there are serials. It is left as it is where there is no room for what it makes grow, and
+    // counts for nothing where it is handled.
     #[tactic(auto, unfolding(crate::specs::Hands::fits, crate::specs::Hands::serials_in, crate::specs::Hands::grows_where_it_fits, crate::specs::Telling::brings_item))]
-    fn handle(&mut self, sender: u8, message: Message, source: Option<u8>) -> Result<(), Message>
-        requires fits { fits self.old.node sender message source ≡ true }
-        requires serials { has_serials self.old.node.next_router (serials_in message) ≡ true }
-        ensures ok { OnOk result (self.new.node ≡ handle self.old.node sender message) }
-        ensures grows { grows_where_it_fits message ≡ false → IsOk result }
-        ensures full { HasRoomFor self.old message → IsOk result }
-        ensures err { IfErr result (λ m. (m ≡ message) × (self.new.node ≡ self.old.node)) }
+    fn handle(
+        &mut self,
+        sender: u8,
+        message: &mut Message,
+        source: Option<u8>,
+    ) -> Result<(), AllocError>
+        requires fits { fits self.old.node sender message.old source ≡ true }
+        requires serials { has_serials self.old.node.next_router (serials_in message.old) ≡ true }
+        ensures ok { OnOk result (self.new.node ≡ handle self.old.node sender message.old) }
+        ensures grows { grows_where_it_fits message.old ≡ false → IsOk result }
+        ensures full { HasRoomFor self.old message.old → IsOk result }
+        ensures err { OnErr result ((message.new ≡ message.old) × (self.new.node ≡ self.old.node)) }
     {
         match message {
             Message::Item {
@@ -294,69 +269,8 @@ impl NodeState {
                 n,
                 item,
                 moves,
-            } => { self.handle_item(sender, link, side, n, item, moves) }
-            Message::BypassPeer {
-                link,
-                side,
-                old,
-                target,
-                fresh,
-            } => {
-                match self.handle_bypass_peer(sender, link, side, old, target, fresh) {
-                    Ok(()) => Ok(()),
-                    Err(_) => Err(Message::BypassPeer {
-                        link,
-                        side,
-                        old,
-                        target,
-                        fresh,
-                    }),
-                }
-            }
-            Message::AcceptBypass {
-                old,
-                side,
-                fresh,
-                length,
-            } => {
-                match self.handle_accept_bypass(sender, old, side, fresh, length, source) {
-                    Ok(()) => Ok(()),
-                    Err(_) => Err(Message::AcceptBypass {
-                        old,
-                        side,
-                        fresh,
-                        length,
-                    }),
-                }
-            }
-            Message::StopProxying {
-                old,
-                side,
-                in_length,
-                out_length,
-            } => {
-                match self.handle_stop_proxying(sender, old, side, in_length, out_length) {
-                    Ok(()) => Ok(()),
-                    Err(_) => Err(Message::StopProxying {
-                        old,
-                        side,
-                        in_length,
-                        out_length,
-                    }),
-                }
-            }
-            Message::ProxyWillStop {
-                link,
-                side,
-                in_length,
-            } => {
-                self.handle_proxy_will_stop(sender, link, side, in_length);
-                Ok(())
-            }
-            Message::Flush { link, side } => {
-                self.handle_flush(sender, link, side);
-                Ok(())
-            }
+            } => self.handle_item(sender, *link, *side, *n, item, moves),
+            _ => self.hear(sender, message, source),
         }
     }
 
@@ -389,9 +303,10 @@ impl NodeState {
         if self.routers.next_serial() > u64::MAX - count as u64 {
             return Err((Refusal::NumbersEnd, message));
         }
-        match self.handle(sender, message, source) {
+        let mut message = message;
+        match self.handle(sender, &mut message, source) {
             Ok(()) => Ok(()),
-            Err(message) => Err((Refusal::OutOfMemory, message)),
+            Err(_) => Err((Refusal::OutOfMemory, message)),
         }
     }
 

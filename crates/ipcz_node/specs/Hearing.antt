@@ -1,0 +1,25 @@
+-- What a node does with a message that brings no item, told by the message whole.
+use Rattle.std.specs.Prelude.{◌≤◌, ◌&&◌, Bool, true, false, not, nat_lt}
+use Rattle.ipcz_base.specs.declared.link_id.LinkId.TheVariants.{Central}
+use Rattle.ipcz_base.specs.declared.message.Message.{Message}
+use Rattle.ipcz_base.specs.declared.message.Message.TheVariants as messages
+use Rattle.ipcz_router.specs.Router.{Router}
+use Rattle.ipcz_router.specs.Hearing.{answer_to, links_brought}
+use Rattle.ipcz_node.specs.Node.{Node, is_named}
+use Rattle.ipcz_node.specs.RoomyNodes.{RoomyNode}
+use Rattle.ipcz_node.specs.Telling.{HasRoomToTell}
+
+-- whether what a message brings to a router is new here: no router has its fresh link, and the node that this leads to is there
+unfoldable pub is_news : Node → Router → Message → Bool
+is_news n r (messages.BypassPeer link side old target fresh) = nat_lt target n.count && not (is_named n (Central fresh) r.end.side)
+is_news n r (messages.AcceptBypass old side fresh length) = not (is_named n (Central fresh) side)
+is_news n r other = true
+
+-- whether a message is dropped where no router here has the link that it asks for
+unfoldable pub is_dropped : Message → Bool
+is_dropped (messages.Flush link side) = true
+is_dropped other = false
+
+-- there is room for what a message makes a router take and tell
+abbrev pub HasRoomToHear : RoomyNode → Message → Router → Type 0
+HasRoomToHear k m r = (links_brought m ≤ k.room.links) × HasRoomToTell k (answer_to r m)
