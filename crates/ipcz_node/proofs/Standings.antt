@@ -5,7 +5,7 @@ use Rattle.ipcz_base.specs.declared.message.Message.{Message}
 use Rattle.ipcz_base.specs.declared.message.Message.TheVariants as messages
 use Rattle.ipcz_base.specs.Links.{central_end}
 use Rattle.ipcz_edge.specs.Edge.{Edge}
-use Rattle.ipcz_router.specs.Router.{Router, is_terminal, rouse}
+use Rattle.ipcz_router.specs.Router.{Router, is_terminal}
 use Rattle.ipcz_router.specs.Calls.{take_item}
 use Rattle.ipcz_router.specs.Closing.{close_router}
 use Rattle.ipcz_router.specs.Filings.{filing_of}
@@ -30,9 +30,6 @@ accept_bypass_standing r sender side fresh length = record {
 }
 
 -- a router whose links stay
-pub rouse_standing : (r : Router) → FilesWithin 0 r (rouse r)
-rouse_standing r = record { few = omega (arith, same_links (filing_of r)); closes = λ h. h; stays = refl }
-
 pub proxy_will_stop_standing : (r : Router) (in_length : ℕ) → FilesWithin 0 r (proxy_will_stop r in_length)
 proxy_will_stop_standing r in_length = record { few = omega (arith, same_links (filing_of r)); closes = λ h. h; stays = refl }
 
@@ -55,7 +52,8 @@ hear_standing r sender (messages.BypassPeer link side old target fresh) = bypass
 hear_standing r sender (messages.AcceptBypass old side fresh length) = accept_bypass_standing r sender side fresh length
 hear_standing r sender (messages.StopProxying old side in_length out_length) = stop_proxying_standing r in_length out_length
 hear_standing r sender (messages.ProxyWillStop link side in_length) = proxy_will_stop_standing r in_length
-hear_standing r sender (messages.Flush link side) = rouse_standing r
+hear_standing r sender (messages.Flush link side) =
+    record { few = omega (arith, same_links (filing_of r)); closes = λ h. h; stays = refl }
 
 -- and no ends
 pub hear_inside : (r : Router) (sender : ℕ) (m : Message) → ends_inside (hear r sender m) ≡ ends_inside r

@@ -1,5 +1,6 @@
 pub mod Acts
 pub mod Calls
+pub mod Deliveries
 pub mod Directories
 pub mod Events
 pub mod Finding

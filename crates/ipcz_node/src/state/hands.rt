@@ -8,6 +8,7 @@ ghost use Rattle.ipcz_node.specs.Node.{router_in, link_router, found, add_router
 ghost use Rattle.ipcz_node.specs.RoomyNodes.{AreLow};
 ghost use Rattle.ipcz_node.specs.Hands.{has_moved, is_new_move, fit_moves, fits_from, fits_item, make_terminals, take_in, free_hand, fits, handle};
 ghost use Rattle.ipcz_node.specs.Hands.{deliver, message_lacks_serials, message_grows, grows_where_it_fits, serials_in, is_unfit};
+ghost use Rattle.ipcz_node.specs.Deliveries.{IsDelivered};
 ghost use Rattle.ipcz_node.specs.Events.{hand_event};
 ghost use Rattle.ipcz_node.specs.Telling.{HasRoomFor, HasRoomForItem, brings_item, is_lone};
 ghost use Rattle.std.specs.Prelude.{◌&&◌, nat_eq, nat_lt};
@@ -284,17 +285,9 @@ impl NodeState {
         has_place: bool,
     ) -> Result<(), (Refusal, Message)>
         requires { has_place ≡ fits self.old.node sender message source }
-        ensures ok { OnOk result
-            (self.new.node ≡ (if fits self.old.node sender message source then handle self.old.node sender message else add_stray self.old.node
-            message)) }
-        ensures allowed { OnOk result (message_lacks_serials self.old.node sender message source ≡ false) }
-        ensures why { IfErr result
-            (λ e. e.0 ≡ (if message_lacks_serials self.old.node sender message source then Refusal.NumbersEnd else Refusal.OutOfMemory)) }
-        ensures grows { message_grows self.old.node sender message source ≡ false → IsOk result }
-        ensures full { fits self.old.node sender message source ≡ true → HasRoomFor self.old message →
-            message_lacks_serials self.old.node sender message source ≡ false → IsOk result }
-        ensures stray { fits self.old.node sender message source ≡ false → 0 < self.old.room.strays → IsOk result }
-        ensures err { IfErr result (λ e. (e.1 ≡ message) × (self.new.node ≡ self.old.node)) }
+        ensures { IsDelivered self.old sender message source
+            (if fits self.old.node sender message source then handle self.old.node sender message else add_stray self.old.node message)
+            result self.new }
     {
         if !has_place {
             return self.keep_stray(message);
@@ -380,16 +373,8 @@ impl NodeState {
         source: Option<u8>,
     ) -> Result<Happened, (Refusal, Message)>
         requires { from < self.old.node.count }
-        ensures ok { OnOk result (self.new.node ≡ deliver self.old.node from message source) }
+        ensures delivered { IsDelivered self.old from message source (deliver self.old.node from message source) result self.new }
         ensures event { IfOk result (λ h. h ≡ hand_event self.old.node from message source) }
-        ensures allowed { OnOk result (message_lacks_serials self.old.node from message source ≡ false) }
-        ensures why { IfErr result
-            (λ e. e.0 ≡ (if message_lacks_serials self.old.node from message source then Refusal.NumbersEnd else Refusal.OutOfMemory)) }
-        ensures grows { message_grows self.old.node from message source ≡ false → IsOk result }
-        ensures full { fits self.old.node from message source ≡ true → HasRoomFor self.old message →
-            message_lacks_serials self.old.node from message source ≡ false → IsOk result }
-        ensures stray { fits self.old.node from message source ≡ false → 0 < self.old.room.strays → IsOk result }
-        ensures err { IfErr result (λ e. (e.1 ≡ message) × (self.new.node ≡ self.old.node)) }
     {
         let has_place = self.fits(from, &message, source);
         let event = self.hand_event(from, &message, source, has_place);
@@ -432,15 +417,7 @@ impl NodeState {
         source: Option<u8>,
     ) -> Result<(), (Refusal, Message)>
         requires { from < self.old.node.count }
-        ensures ok { OnOk result (self.new.node ≡ deliver self.old.node from message source) }
-        ensures allowed { OnOk result (message_lacks_serials self.old.node from message source ≡ false) }
-        ensures why { IfErr result
-            (λ e. e.0 ≡ (if message_lacks_serials self.old.node from message source then Refusal.NumbersEnd else Refusal.OutOfMemory)) }
-        ensures grows { message_grows self.old.node from message source ≡ false → IsOk result }
-        ensures full { fits self.old.node from message source ≡ true → HasRoomFor self.old message →
-            message_lacks_serials self.old.node from message source ≡ false → IsOk result }
-        ensures stray { fits self.old.node from message source ≡ false → 0 < self.old.room.strays → IsOk result }
-        ensures err { IfErr result (λ e. (e.1 ≡ message) × (self.new.node ≡ self.old.node)) }
+        ensures { IsDelivered self.old from message source (deliver self.old.node from message source) result self.new }
     {
         let fits = self.fits(from, &message, source);
         self.take_from_hand(from, message, source, fits)
@@ -540,15 +517,7 @@ impl NodeState {
         has_place: bool,
     ) -> Result<(), (Refusal, Message)>
         requires { has_place ≡ fits self.old.node from message source }
-        ensures ok { OnOk result (self.new.node ≡ deliver self.old.node from message source) }
-        ensures allowed { OnOk result (message_lacks_serials self.old.node from message source ≡ false) }
-        ensures why { IfErr result
-            (λ e. e.0 ≡ (if message_lacks_serials self.old.node from message source then Refusal.NumbersEnd else Refusal.OutOfMemory)) }
-        ensures grows { message_grows self.old.node from message source ≡ false → IsOk result }
-        ensures full { fits self.old.node from message source ≡ true → HasRoomFor self.old message →
-            message_lacks_serials self.old.node from message source ≡ false → IsOk result }
-        ensures stray { fits self.old.node from message source ≡ false → 0 < self.old.room.strays → IsOk result }
-        ensures err { IfErr result (λ e. (e.1 ≡ message) × (self.new.node ≡ self.old.node)) }
+        ensures { IsDelivered self.old from message source (deliver self.old.node from message source) result self.new }
     {
         self.receive(from, message, source, has_place)?;
         self.free_hand(from);

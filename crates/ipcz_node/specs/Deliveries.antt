@@ -1,0 +1,21 @@
+-- What comes of a message that is delivered to a node: it is taken or kept as a stray, or it is handed back.
+use Rattle.std.specs.Prelude.{◌≡◌, ◌<◌, ℕ, true, false, if◌then◌else◌, Option, Result, OnOk, IfErr, IsOk}
+use Rattle.ipcz_base.specs.declared.message.Message.{Message}
+use Rattle.ipcz_base.specs.declared.refusal.Refusal.{Refusal}
+use Rattle.ipcz_base.specs.declared.refusal.Refusal.TheVariants.{NumbersEnd, OutOfMemory}
+use Rattle.ipcz_node.specs.Node.{Node}
+use Rattle.ipcz_node.specs.Hands.{fits, message_lacks_serials, message_grows}
+use Rattle.ipcz_node.specs.RoomyNodes.{RoomyNode}
+use Rattle.ipcz_node.specs.Telling.{HasRoomFor}
+
+-- a node took a message from a sender, and is as it is then, or the message is handed back and the node is as it was: only for want of
+-- serials, or where there was no room for what the message makes grow
+pub record IsDelivered {A : Type 0} (old : RoomyNode) (sender : ℕ) (m : Message) (source : Option ℕ) (after : Node)
+    (result : Result A (Refusal × Message)) (new : RoomyNode) : Type 0 where
+  pub ok : OnOk result (new.node ≡ after)
+  pub allowed : OnOk result (message_lacks_serials old.node sender m source ≡ false)
+  pub why : IfErr result (λ e. e.0 ≡ (if message_lacks_serials old.node sender m source then NumbersEnd else OutOfMemory))
+  pub grows : message_grows old.node sender m source ≡ false → IsOk result
+  pub full : fits old.node sender m source ≡ true → HasRoomFor old m → message_lacks_serials old.node sender m source ≡ false → IsOk result
+  pub stray : fits old.node sender m source ≡ false → 0 < old.room.strays → IsOk result
+  pub err : IfErr result (λ e. (e.1 ≡ m) × (new.node ≡ old.node))
