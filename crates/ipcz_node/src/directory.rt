@@ -418,6 +418,7 @@ impl Directory {
     }
 
     /// The first router that has the link at the side.
+    #[inline(always)]
     pub fn first_on(&self, link: LinkId, side: Side) -> Option<u64>
         ensures { IsFound (λ r. router_has r link side) self.now.filed.routers result }
     {
@@ -425,6 +426,7 @@ impl Directory {
     }
 
     /// The first open terminal of the end.
+    #[inline(always)]
     pub fn terminal_of(&self, end: End) -> Option<u64>
         ensures { IsFound (is_terminal_of end) self.now.filed.routers result }
     {

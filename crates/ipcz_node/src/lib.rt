@@ -8,6 +8,7 @@ mod happened;
 mod held_ends;
 mod index;
 mod link_place;
+mod numbered;
 mod outbox;
 mod outboxes;
 mod routers;

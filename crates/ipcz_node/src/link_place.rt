@@ -38,4 +38,14 @@ impl LinkPlace {
             },
         }
     }
+
+    /// The number of the link, among those of its maker.
+    pub fn link_number(&self) -> u64 {
+        self.number
+    }
+
+    /// The side.
+    pub fn side(&self) -> Side {
+        self.side
+    }
 }

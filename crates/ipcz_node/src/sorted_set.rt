@@ -2,8 +2,11 @@ ghost use Rattle.std.specs.Prelude.{◌≡◌, ◌+◌, ◌-◌, ◌<◌, ◌≤
 ghost use Rattle.std.specs.Prelude.{IfNone};
 ghost use Rattle.std.specs.Ordering.{is_eq, is_lt};
 ghost use Rattle.std.specs.List.Sorted.{IsStrictlySortedBy};
+ghost use Rattle.std.specs.List.{AllWithin, HoldsAt};
+ghost use Rattle.std.specs.declared.cmp.Ordering.TheVariants.{Less};
 ghost use Rattle.ipcz_node.specs.SortedSets.{has, IsPlaceOf, IsGapFor};
 
+use crate::numbered::Numbered;
 use std::alloc::{AllocError, Global};
 use std::marker::Model;
 
@@ -26,7 +29,7 @@ impl<T: Ord> Model for SortedSet<T> {
     ghost invariant = { λ a. IsStrictlySortedBy T.cmp a.items.items };
 }
 
-impl<T: Ord + Drop> SortedSet<T> {
+impl<T: Ord + Numbered + Drop> SortedSet<T> {
     /// An empty set.
     pub fn new(alloc: Global) -> Self
         ensures { result.members ≡ [] }
@@ -102,14 +105,14 @@ impl<T: Ord + Drop> SortedSet<T> {
     }
 
     /// The least member that is no less than the value.
+    #[inline(always)]
     pub fn first_from(&self, value: &T) -> Option<&T>
         ensures member { IfSome result (λ x. (has T.cmp self.now.members x.now ≡ true) × (is_lt (T.cmp x.now value.now) ≡ false)) }
         ensures least { IfSome result (λ x. (y : T) → has T.cmp self.now.members y ≡ true → is_lt (T.cmp y value.now) ≡ false →
             is_lt (T.cmp y x.now) ≡ false) }
         ensures none { IfNone result ((y : T) → has T.cmp self.now.members y ≡ true → is_lt (T.cmp y value.now) ≡ true) }
     {
-        let (Ok(at) | Err(at)) = self.place_of(value);
-        self.items.get(at)
+        self.items.get(self.place_from(value))
     }
 
     // Whether the value is greater than each member.
@@ -123,11 +126,85 @@ impl<T: Ord + Drop> SortedSet<T> {
     }
 
     // Where the value is, or where it would go.
+    #[inline(always)]
     fn place_of(&self, value: &T) -> Result<usize, usize>
         ensures sorted { IsStrictlySortedBy T.cmp self.now.members }
         ensures found { IfOk result (IsPlaceOf T.cmp self.now.members value.now) }
         ensures absent { IfErr result (IsGapFor T.cmp self.now.members value.now) }
     {
+        let _ = &self.items;
+        match self.likely_place(value) {
+            Some(place) => Ok(place),
+            None => self.searched_place(value),
+        }
+    }
+
+    // The same by halving.
+    #[cold]
+    #[inline(never)]
+    fn searched_place(&self, value: &T) -> Result<usize, usize>
+        ensures sorted { IsStrictlySortedBy T.cmp self.now.members }
+        ensures found { IfOk result (IsPlaceOf T.cmp self.now.members value.now) }
+        ensures absent { IfErr result (IsGapFor T.cmp self.now.members value.now) }
+    {
         self.items.binary_search(value)
+    }
+
+    // Where the value is, if the numbers rise by one from it to the last member.
+    #[inline(always)]
+    fn likely_place(&self, value: &T) -> Option<usize>
+        ensures { IfSome result (IsPlaceOf T.cmp self.now.members value.now) }
+    {
+        let place = self.guess(value)?;
+        if self.items[place].cmp(value).is_eq() {
+            Some(place)
+        } else {
+            None
+        }
+    }
+
+    // Where the least member is that is no less than the value, if there is one; else how many members there are.
+    #[inline(always)]
+    fn place_from(&self, value: &T) -> usize
+        ensures before { AllWithin (λ y. T.cmp y value.now ≡ Less) self.now.members 0 result }
+        ensures here { result < length self.now.members → HoldsAt (λ y. is_lt (T.cmp y value.now) ≡ false) self.now.members result }
+    {
+        match self.likely_place_from(value) {
+            Some(place) => place,
+            None => {
+                let (Ok(place) | Err(place)) = self.searched_place(value);
+                place
+            }
+        }
+    }
+
+    // The same, if the numbers rise by one from there to the last member.
+    #[inline(always)]
+    fn likely_place_from(&self, value: &T) -> Option<usize>
+        ensures before { IfSome result (AllWithin (λ y. T.cmp y value.now ≡ Less) self.now.members 0) }
+        ensures here { IfSome result (HoldsAt (λ y. is_lt (T.cmp y value.now) ≡ false) self.now.members) }
+    {
+        let place = self.guess(value)?;
+        if self.items[place].cmp(value).is_lt() {
+            return None;
+        }
+        if place > 0 && !self.items[place - 1].cmp(value).is_lt() {
+            return None;
+        }
+        Some(place)
+    }
+
+    // A place, by how far the value's number is from the last member's.
+    #[inline(always)]
+    fn guess(&self, value: &T) -> Option<usize>
+        ensures { IfSome result (λ i. i < length self.now.members) }
+    {
+        let last = self.items.last()?;
+        let back = last.number().wrapping_sub(value.number()) as usize;
+        if back < self.items.len() {
+            Some(self.items.len() - 1 - back)
+        } else {
+            None
+        }
     }
 }

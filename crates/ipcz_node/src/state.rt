@@ -134,6 +134,7 @@ impl NodeState {
     }
 
     // The serial of the open terminal of an end.
+    #[inline(always)]
     fn terminal_serial(&self, at: End) -> Option<u64>
         ensures none { IfNone result (terminal_of self.now.node at ≡ None) }
         ensures open { IfSome result (λ serial. IsSomeAnd (router_in self.now.node serial) IsOpenTerminal) }
@@ -144,6 +145,7 @@ impl NodeState {
     }
 
     // The serial of the router that has the link at the side.
+    #[inline(always)]
     fn link_serial(&self, link: LinkId, side: Side) -> Option<u64>
         ensures none { IfNone result (link_router self.now.node link side ≡ None) }
         ensures stands { IfSome result (λ serial. IsSomeAnd (router_in self.now.node serial) (λ r. router_has r link side ≡ true)) }

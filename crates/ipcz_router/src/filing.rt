@@ -19,6 +19,7 @@ pub struct Filing {
 
 impl Filing {
     /// Whether it is filed under this link at this side.
+    #[inline(always)]
     pub fn is_under(&self, link: LinkId, side: Side) -> bool
         ensures { result ≡ is_under self.now link side }
     {

@@ -67,6 +67,7 @@ fn relink(links: &mut Index<LinkPlace>, serial: u64, was: &Filing, is: &Filing)
 }
 
 // Takes a link away, where the filing hasn't it.
+#[inline(always)]
 fn drop_link(links: &mut Index<LinkPlace>, serial: u64, old: Option<LinkEnd>, kept: &Filing)
     ensures members { (link : LinkId) (side : Side) (s : ℕ) → is_filed place_cmp links.new.members (link_place link side) s
         ≡ (not (not (is_under kept.now link side) && (serial == s && has_link old link side)) &&
@@ -84,6 +85,7 @@ fn drop_link(links: &mut Index<LinkPlace>, serial: u64, old: Option<LinkEnd>, ke
 }
 
 // Files a link, where the filing hadn't it.
+#[inline(always)]
 fn file_link(links: &mut Index<LinkPlace>, serial: u64, new: Option<LinkEnd>, was: &Filing)
     requires { gained_by was.now new ≤ links.old.room }
     ensures members { (link : LinkId) (side : Side) (s : ℕ) → is_filed place_cmp links.new.members (link_place link side) s

@@ -102,11 +102,9 @@ fn accept_from(
     ensures err { OnErr result ((item.new ≡ item.old) × (router.new.router ≡ router.old.router)) }
     ensures kept { IfErr result (λ e. (e ≡ Refusal.OutOfMemory → ⊥) → router.new ≡ router.old) }
 {
-    match router.accept(link, side, n, mem::replace(item, Item::Mark)) {
-        Ok(()) => Ok(()),
-        Err((why, refused)) => {
-            *item = refused;
-            Err(why)
-        }
-    }
+    router.reserve_for(link, side, n)?;
+    let Ok(()) = router.accept(link, side, n, mem::replace(item, Item::Mark)) else {
+        unreachable!()
+    };
+    Ok(())
 }

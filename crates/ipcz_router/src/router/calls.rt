@@ -31,6 +31,7 @@ impl Router {
     /// A refused call hands the parcel back. It answers `PeerClosed` where the peer's mark has come, even behind a gap, else
     /// `NumbersEnd` where the number would be [`LAST`] or more, else `OutOfMemory` where there was no room and none was
     /// found.
+    #[inline(always)]
     pub fn put(&mut self, parcel: Parcel) -> Result<u64, (Refusal, Parcel)>
         requires { IsOpenTerminal self.old.router }
         ensures allowed { OnOk result (router_put_refusal self.old.router ≡ None) }
@@ -44,12 +45,14 @@ impl Router {
         if let Some(why) = self.put_refusal() {
             return Err((why, parcel));
         }
-        let n = self.out_queue.reach();
-        match self.push_out(n, Item::Parcel(parcel)) {
-            Ok(()) => Ok(n),
-            Err((why, Item::Parcel(parcel))) => Err((why, parcel)),
-            Err((_, Item::Mark)) => unreachable!(),
+        if let Err(why) = self.reserve_close() {
+            return Err((why, parcel));
         }
+        let n = self.out_queue.reach();
+        let Ok(()) = self.push_out(n, Item::Parcel(parcel)) else {
+            unreachable!()
+        };
+        Ok(n)
     }
 
     /// Takes the parcel of the in queue's current number out, with that number.
@@ -88,6 +91,27 @@ impl Router {
             self.in_queue.has_place(n)
         } else {
             self.out_queue.has_place(n)
+        }
+    }
+
+    /// Makes room for the item of a number that comes over `link`, for the router on `side` of it, where it has its place: `accept` isn't
+    /// refused then. It answers as `accept` where that is refused; the router stays as it was.
+    #[inline(always)]
+    pub fn reserve_for(&mut self, link: LinkId, side: Side, n: u64) -> Result<(), Refusal>
+        ensures router { self.new.router ≡ self.old.router }
+        ensures place { OnOk result (accept_refusal self.old.router link side n ≡ Refusal.OutOfMemory) }
+        ensures ok { OnOk result (0 < room_for self.new (outward_has self.old.router link side)) }
+        ensures why { IfErr result (λ e. e ≡ accept_refusal self.old.router link side n) }
+        ensures kept { IfErr result (λ e. (e ≡ Refusal.OutOfMemory → ⊥) → self.new ≡ self.old) }
+        ensures full { IfErr result (λ e. e ≡ Refusal.OutOfMemory → room_for self.old (outward_has self.old.router link side) ≡ 0) }
+        ensures room { LeavesRoom self.old self.new 0 0 }
+    {
+        if self.outward.has(link, side) {
+            self.in_queue.reserve_for(n)
+        } else if self.inward_has(link, side) {
+            self.out_queue.reserve_for(n)
+        } else {
+            Err(Refusal::Stranger)
         }
     }
 
