@@ -8,12 +8,6 @@ pub trait Numbered {
     fn number(&self) -> u64;
 }
 
-impl Numbered for u64 {
-    fn number(&self) -> u64 {
-        *self
-    }
-}
-
 impl Numbered for End {
     fn number(&self) -> u64 {
         number_of(u64::from(self.pair), self.side)
