@@ -43,17 +43,19 @@ impl<'a> Gate for Meeting<'a> {
     }
 }
 
-// When it is asked it takes a turn of the node itself.
+// When it is asked it takes a turn of its node itself, where it is told that node and as many turns as it has taken.
 #[derive(Drop)]
 struct Taking<'a, R, F: FabricName> {
     rt: &'a R,
     hub: &'a Hub<F>,
+    node: u8,
     taken: u64,
 }
 
 impl<'a, R: Wait, F: FabricName> Gate for Taking<'a, R, F> {
-    fn pass(&mut self, node: u8, _turns: u64) -> bool {
-        if self.hub.turn(self.rt, node).is_ok() {
+    fn pass(&mut self, node: u8, turns: u64) -> bool {
+        let told = node == self.node && turns == self.taken;
+        if told && self.hub.turn(self.rt, node).is_ok() {
             self.taken = self.taken.saturating_add(1);
         }
         true
@@ -73,9 +75,10 @@ fn takes_twice<F: FabricName, R: Wait>(rt: &R, blank: Blank) -> Option<(u64, u64
     let mut gate = Taking {
         rt,
         hub: &hub,
+        node: 1,
         taken: 0,
     };
-    let turns = work(rt, &hub, 0, &mut gate, 10);
+    let turns = work(rt, &hub, 1, &mut gate, 10);
     Some((turns, gate.taken))
 }
 

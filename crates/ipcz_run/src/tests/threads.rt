@@ -60,17 +60,22 @@ fn writes_the_same_transcript_each_time(rt: HostRuntime) -> Result<(), Fail> {
 }
 
 // When it is first asked, a gate of the first two nodes says so, and then looks whether the other was asked, too. The others are open.
+// Each notes whether it was told another node, or another number of turns than one more each time in a round, and the most of them.
 #[derive(Drop)]
 struct Meeting<'a> {
     flags: Option<(&'a AtomicU64, &'a AtomicU64)>,
     missed: u64,
     node: u8,
     strayed: bool,
+    next: u64,
+    most: u64,
 }
 
 impl<'a> Gate for Meeting<'a> {
-    fn pass(&mut self, node: u8, _turns: u64) -> bool {
-        self.strayed |= node != self.node;
+    fn pass(&mut self, node: u8, turns: u64) -> bool {
+        self.strayed |= node != self.node || (turns != 0 && turns != self.next);
+        self.next = turns.saturating_add(1);
+        self.most = self.most.max(turns);
         let Some((own, other)) = self.flags.take() else {
             return true;
         };
@@ -91,6 +96,8 @@ fn gate_of<'a>(node: u8, flags: Option<(&'a AtomicU64, &'a AtomicU64)>) -> Meeti
         missed: 0,
         node,
         strayed: false,
+        next: 0,
+        most: 0,
     }
 }
 
@@ -121,5 +128,6 @@ fn workers_of_a_round_run_at_once(rt: HostRuntime) -> Result<(), Fail> {
     for gate in &gates {
         assert!(rt; gate.missed == 0 && !gate.strayed);
     }
+    assert!(rt; gates[0].most > 0);
     Ok(())
 }
