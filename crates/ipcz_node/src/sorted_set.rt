@@ -128,11 +128,9 @@ impl<T: Ord + Numbered + Drop> SortedSet<T> {
     // Where the value is, or where it would go.
     #[inline(always)]
     fn place_of(&self, value: &T) -> Result<usize, usize>
-        ensures sorted { IsStrictlySortedBy T.cmp self.now.members }
         ensures found { IfOk result (IsPlaceOf T.cmp self.now.members value.now) }
         ensures absent { IfErr result (IsGapFor T.cmp self.now.members value.now) }
     {
-        let _ = &self.items;
         match self.likely_place(value) {
             Some(place) => Ok(place),
             None => self.searched_place(value),
