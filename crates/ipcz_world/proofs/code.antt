@@ -2,6 +2,7 @@ pub mod Beginning
 pub mod Calling
 pub mod FirstTurns
 pub mod Kept
+pub mod Marks
 pub mod Regular
 pub mod RouterActs
 pub mod Running

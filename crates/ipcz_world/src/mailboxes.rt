@@ -1,10 +1,10 @@
-ghost use Rattle.std.specs.Prelude.{ℕ, ◌≡◌, ◌<◌, true, false, Option, Some, IfOk, IfErr, OnErr, cond, length, replicate, List};
+ghost use Rattle.std.specs.Prelude.{ℕ, ◌≡◌, ◌<◌, ◌≤◌, true, false, Option, Some, IfOk, IfErr, OnErr, cond, length, replicate, List};
 ghost use Rattle.ipcz_node.specs.Hands.{deliver, message_grows, message_lacks_serials};
 ghost use Rattle.ipcz_base.specs.Totals.{total_list};
 ghost use Rattle.ipcz_world.specs.Tallies.{Tells};
 ghost use Rattle.ipcz_base.specs.Indexed.{place_at, put_place};
 ghost use Rattle.ipcz_world.specs.Turns.{is_full, is_clear, hand_message};
-ghost use Rattle.ipcz_world.specs.Mailing.{taken_up, put_down};
+ghost use Rattle.ipcz_world.specs.Mailing.{taken_up, put_down, as_marked, count_full};
 
 use crate::mail::Mail;
 use crate::tallies::plus;
@@ -15,53 +15,78 @@ use std::marker::Model;
 use std::mem;
 
 /// The mailboxes between the nodes, one for each ordered pair of nodes, by number.
+///
+/// A look moves no message: it marks its mailbox, where the message stays until it is handed. How many are full is kept, so that where none
+/// is a node's next act is found without a look at each.
 #[derive(Drop)]
 pub(crate) struct Mailboxes {
     boxes: Vec<Mail>,
+    marks: [bool; 64],
+    full: usize,
 }
 
 impl Model for Mailboxes {
     ghost use Rattle.std.specs.Prelude.{List};
     ghost use Rattle.std.specs.Coded.{codes};
     ghost use Rattle.ipcz_world.specs.declared.mail.Mail.{Mail};
+    ghost use Rattle.ipcz_world.specs.Mailing.{as_they_stand, AreKept};
 
     ghost Value = { List Mail };
 
     ghost coded = { Prim.hlevel codes };
 
-    ghost view = { λ a. a.boxes.items };
+    ghost view = { λ a. as_they_stand a.boxes.items a.marks };
+
+    ghost invariant = { λ a. AreKept a.boxes.items a.marks a.full };
 }
 
 impl Mailboxes {
     /// So many mailboxes, each empty.
     pub(crate) fn new(alloc: Global, count: usize) -> Result<Mailboxes, AllocError>
+        requires { count ≤ 64 }
         ensures { IfOk result (λ mail. mail ≡ replicate count Mail.Empty) }
     {
         let mut boxes = Vec::new(alloc);
         for _k in 0..count {
             boxes.push(Mail::Empty)?;
         }
-        Ok(Mailboxes { boxes })
+        Ok(Mailboxes {
+            boxes,
+            marks: [false; 64],
+            full: 0,
+        })
     }
 
     /// These mailboxes, by number.
     pub(crate) fn of(boxes: Vec<Mail>) -> Mailboxes
+        requires { length boxes.items ≤ 64 }
         ensures { result ≡ boxes.items }
     {
-        Mailboxes { boxes }
+        let full = count_full(boxes.as_slice());
+        Mailboxes {
+            boxes,
+            marks: [false; 64],
+            full,
+        }
+    }
+
+    /// Whether any mailbox is full.
+    #[inline(always)]
+    pub(crate) fn has_full(&self) -> bool
+        ensures { result ≡ false → (k : ℕ) → is_full (place_at Mail.Empty self.now k) ≡ false }
+    {
+        self.full > 0
     }
 
     /// Whether a mailbox is full.
-    #[tactic(auto, using(crate::proofs::code::Slots::place_read))]
     pub(crate) fn is_full(&self, k: usize) -> bool
         requires { k < length self.now }
         ensures { result ≡ is_full (place_at Mail.Empty self.now k) }
     {
-        is_full(&self.boxes[k])
+        !self.marks[k] && is_full(&self.boxes[k])
     }
 
     /// Whether a mailbox is empty.
-    #[tactic(auto, using(crate::proofs::code::Slots::place_read))]
     pub(crate) fn is_clear(&self, k: usize) -> bool
         requires { k < length self.now }
         ensures { result ≡ is_clear (place_at Mail.Empty self.now k) }
@@ -81,33 +106,41 @@ impl Mailboxes {
         sum
     }
 
-    /// Leaves this in a mailbox.
+    /// Leaves a message in an empty mailbox.
     #[inline(always)]
-    #[tactic(auto, using(crate::proofs::code::Slots::place_written))]
-    pub(crate) fn put(&mut self, k: usize, mail: Mail)
-        requires { k < length self.old }
-        ensures { self.new ≡ put_place Mail.Empty self.old k mail }
+    pub(crate) fn post(&mut self, k: usize, message: Message)
+        requires place { k < length self.old }
+        requires clear { is_clear (place_at Mail.Empty self.old k) ≡ true }
+        ensures { self.new ≡ put_place Mail.Empty self.old k (Mail.Full message) }
     {
-        self.boxes[k] = mail;
+        let place = &mut self.boxes[k];
+        let Mail::Empty = place else { unreachable!() };
+        *place = Mail::Full(message);
+        self.marks[k] = false;
+        self.full += 1;
+    }
+
+    /// Leaves a message that was in hand in its mailbox, which is empty.
+    pub(crate) fn put_back(&mut self, k: usize, message: Message)
+        requires place { k < length self.old }
+        requires clear { is_clear (place_at Mail.Empty self.old k) ≡ true }
+        ensures { self.new ≡ put_place Mail.Empty self.old k (Mail.Hand message) }
+    {
+        self.boxes[k] = Mail::Hand(message);
     }
 
     /// Takes the message of a full mailbox into the hand.
-    #[tactic(auto, using(crate::proofs::code::Slots::place_read, crate::proofs::code::Slots::place_written), unfolding(crate::specs::Mailing::taken_up))]
     pub(crate) fn take_up(&mut self, k: usize)
-        requires { k < length self.old }
+        requires place { k < length self.old }
+        requires full { is_full (place_at Mail.Empty self.old k) ≡ true }
         ensures { self.new ≡ put_place Mail.Empty self.old k (taken_up (place_at Mail.Empty self.old k)) }
     {
-        let place = &mut self.boxes[k];
-        match mem::replace(place, Mail::Empty) {
-            Mail::Empty => {}
-            Mail::Full(message) => *place = Mail::Hand(message),
-            Mail::Hand(message) => *place = Mail::Hand(message),
-        }
+        self.marks[k] = true;
+        self.full -= 1;
     }
 
     /// Hands the message in hand in a mailbox to a node, where it is one that the node takes at once, and tells whether it did: the mailbox is
     /// empty then. Else all stays as it is.
-    #[tactic(auto, using(crate::proofs::code::Slots::place_read, crate::proofs::code::Slots::place_written, crate::proofs::code::Slots::set_same), unfolding(crate::specs::Mailing::put_down, crate::specs::Turns::hand_message))]
     pub(crate) fn hand_over(
         &mut self,
         k: usize,
@@ -128,10 +161,11 @@ impl Mailboxes {
         ensures err { OnErr result ((self.new ≡ self.old) × (node.new.node ≡ node.old.node)) }
     {
         let place = &mut self.boxes[k];
-        let Mail::Hand(message) = place else {
-            return Ok(false);
+        let taken = match hand_at(place, self.marks[k], node, from) {
+            Ok(taken) => taken,
+            Err(why) => return Err(why),
         };
-        if !node.deliver_at_once(from, message)? {
+        if !taken {
             return Ok(false);
         }
         *place = Mail::Empty;
@@ -139,21 +173,75 @@ impl Mailboxes {
     }
 
     /// Takes the message in hand out of its mailbox, which is empty then; a mailbox without one stays as it is.
-    #[tactic(auto, using(crate::proofs::code::Slots::place_read, crate::proofs::code::Slots::place_written), unfolding(crate::specs::Mailing::put_down, crate::specs::Turns::hand_message))]
     pub(crate) fn take_hand(&mut self, k: usize) -> Option<Message>
         requires { k < length self.old }
         ensures message { result ≡ hand_message (place_at Mail.Empty self.old k) }
         ensures mail { self.new ≡ put_place Mail.Empty self.old k (put_down (place_at Mail.Empty self.old k)) }
     {
         let place = &mut self.boxes[k];
-        match mem::replace(place, Mail::Empty) {
-            Mail::Empty => None,
-            Mail::Full(message) => {
-                *place = Mail::Full(message);
-                None
-            }
-            Mail::Hand(message) => Some(message),
+        take_from(place, self.marks[k])
+    }
+}
+
+// How many of these are full.
+fn count_full(boxes: &[Mail]) -> usize
+    requires { length boxes.now ≤ 64 }
+    ensures { result ≡ count_full boxes.now }
+{
+    let mut sum = 0;
+    for mail in boxes {
+        if is_full(mail) {
+            sum += 1;
         }
+    }
+    sum
+}
+
+// Hands the message in hand in a mailbox, which may be marked, to a node, where it is one that the node takes at once, and tells whether it
+// did: what is left of the message counts for nothing then. Else all stays as it is.
+#[inline(always)]
+#[tactic(auto, unfolding(crate::specs::Mailing::as_marked, crate::specs::Mailing::taken_up, crate::specs::Turns::hand_message, crate::specs::Turns::is_full))]
+fn hand_at(place: &mut Mail, marked: bool, node: &mut NodeState, from: u8) -> Result<bool, Refusal>
+    ensures taken { (m : Message) → (source : Option ℕ) → hand_message (as_marked marked place.old) ≡ Some m →
+        IfOk result (λ taken. taken ≡ true → node.new.node ≡ deliver node.old.node from m source) }
+    ensures allowed { (m : Message) → (source : Option ℕ) → hand_message (as_marked marked place.old) ≡ Some m →
+        IfOk result (λ taken. taken ≡ true → message_lacks_serials node.old.node from m source ≡ false) }
+    ensures hand { IfOk result (λ taken. taken ≡ true → is_full (as_marked marked place.old) ≡ false) }
+    ensures left { IfOk result (λ taken. taken ≡ false → (place.new ≡ place.old) × (node.new.node ≡ node.old.node)) }
+    ensures why { (m : Message) → (source : Option ℕ) → hand_message (as_marked marked place.old) ≡ Some m →
+        IfErr result (λ e. (e ≡ Refusal.OutOfMemory) × (message_lacks_serials node.old.node from m source ≡ false) ×
+        (message_grows node.old.node from m source ≡ true)) }
+    ensures err { OnErr result ((place.new ≡ place.old) × (node.new.node ≡ node.old.node)) }
+{
+    match place {
+        Mail::Empty => Ok(false),
+        Mail::Full(message) => {
+            if marked {
+                node.deliver_at_once(from, message)
+            } else {
+                Ok(false)
+            }
+        }
+        Mail::Hand(message) => node.deliver_at_once(from, message),
+    }
+}
+
+// Takes the message in hand out of a mailbox, which may be marked.
+#[tactic(auto, unfolding(crate::specs::Mailing::as_marked, crate::specs::Mailing::taken_up, crate::specs::Mailing::put_down, crate::specs::Turns::hand_message))]
+fn take_from(place: &mut Mail, marked: bool) -> Option<Message>
+    ensures message { result ≡ hand_message (as_marked marked place.old) }
+    ensures place { as_marked marked place.new ≡ put_down (as_marked marked place.old) }
+{
+    match mem::replace(place, Mail::Empty) {
+        Mail::Empty => None,
+        Mail::Full(message) => {
+            if marked {
+                return Some(message);
+            }
+            *place = Mail::Full(message);
+            None
+        }
+        Mail::Hand(message) => Some(message),
     }
 }
 

@@ -49,3 +49,17 @@ passes test from end found low holds is =
 pub none_left : (test : ℕ → Bool) (from end : ℕ) (found : Option ℕ) → from ≡ end → first_number test from (end - from) ≡ found →
     None ≡ found
 none_left test from end found e is = sym (ap (first_number test from) (let z : end - from ≡ 0 = omega (arith, e) in z)) ∙ is
+
+-- no number passes
+no_number : (test : ℕ → Bool) (from left : ℕ) → ((i : ℕ) → i < from + left → test i ≡ false) → first_number test from left ≡ None
+no_number test from zero fails = refl
+no_number test from (suc left) fails =
+    ap (λ b. if b then Some from else first_number test (from + 1) left) (fails from (omega arith)) ∙
+    no_number test (from + 1) left (λ i l. fails i (omega (arith, l)))
+
+-- where no mailbox is full, none to a node is
+pub no_sender : (w : World) (n : ℕ) → w.count ≤ 8 → ((k : ℕ) → is_full (mail_at w k) ≡ false) →
+    first_number (λ i. place_at false (seen_at w n).full i) 0 w.count ≡ None
+no_sender w n few none =
+    no_number (λ i. place_at false (seen_at w n).full i) 0 w.count
+    (λ i l. sees_full w n i (omega (arith, l)) few ∙ none (way w i n))

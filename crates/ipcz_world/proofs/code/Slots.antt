@@ -57,12 +57,3 @@ place-beyond d (x ∷ xs) (suc i) l = place-beyond d xs i (omega arith)
 -- the element of a list, as code reads it
 pub place_read : {X : Type 0} (d : X) (xs : List X) (i : ℕ) (x : X) → x ≡ get_or xs i x → i < length xs → place_at d xs i ≡ x
 place_read d xs i x e l = sym (get-place d x xs i l) ∙ sym e
-
--- a list, as code writes it
-pub place_written : {X : Type 0} (d : X) (xs : List X) (i : ℕ) (y : X) → i < length xs → put_place d xs i y ≡ set xs i y
-place_written d xs i y l = sym (set-place d xs i y l)
-
--- an element that is written back leaves the list, as code writes it
-pub set_same : {X : Type 0} (xs : List X) (i : ℕ) (x y : X) → x ≡ get_or xs i x → i < length xs → y ≡ x → set xs i y ≡ xs
-set_same xs i x y e l same =
-    ap (set xs i) (same ∙ e ∙ get-place x x xs i l) ∙ set-place x xs i (place_at x xs i) l ∙ put-same x xs i l

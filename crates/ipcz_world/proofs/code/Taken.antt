@@ -175,6 +175,18 @@ posts-to-node w n to h =
     let t = (and_parts (nat_lt to w.count) (has_mail_for (node_at w n) to && is_clear (mail_at w (way w n to))) h).0 in
     grind (arith, t, nat_tests)
 
+pub posts-to-clear : (w : World) (n to : ℕ) → can_take w n (Post to) ≡ true → is_clear (mail_at w (way w n to)) ≡ true
+unfolding can_take
+posts-to-clear w n to h =
+    (and_parts (has_mail_for (node_at w n) to) (is_clear (mail_at w (way w n to)))
+    (and_parts (nat_lt to w.count) (has_mail_for (node_at w n) to && is_clear (mail_at w (way w n to))) h).1).1
+
+pub looks-to-full : (w : World) (n from : ℕ) → can_take w n (Look from) ≡ true → is_full (mail_at w (way w from n)) ≡ true
+unfolding can_take
+looks-to-full w n from h =
+    (and_parts (is_none (node_at w n).hand) (is_full (mail_at w (way w from n)))
+    (and_parts (nat_lt from w.count) (is_none (node_at w n).hand && is_full (mail_at w (way w from n))) h).1).1
+
 -- an act that touches no word leaves the mailboxes
 pub mail-stays : (w u : World) (n : ℕ) (act : Act) (r : Happened × Option Message) (k : ℕ) → IsCommitted w n act (Ok r) u →
     k < length w.mail → k < length u.mail

@@ -11,7 +11,6 @@ ghost use Rattle.ipcz_world.specs.WordAnswers.{source_for};
 ghost use Rattle.ipcz_world.specs.Wordless.{is_wordless};
 ghost use Rattle.ipcz_world.specs.Taking.{IsRegular, IsTaken, IsCommitted};
 
-use crate::mail::Mail;
 use crate::state::State;
 use crate::step::{Reply, Step};
 use ipcz_base::{End, Message, Refusal};
@@ -35,6 +34,9 @@ impl State {
         requires node { n < self.now.count }
         ensures { result ≡ first_sender (node_at self.now n) (seen_at self.now n) }
     {
+        if !self.mail.has_full() {
+            return None;
+        }
         for from in 0..self.count {
             if self.mail.is_full(self.way(from, n)) {
                 return Some(from);
@@ -175,7 +177,7 @@ impl State {
         match self.nodes.node_mut(n).deliver(from, message, source) {
             Ok(event) => Ok(event),
             Err((why, message)) => {
-                self.mail.put(place, Mail::Hand(message));
+                self.mail.put_back(place, message);
                 Err(why)
             }
         }
@@ -203,7 +205,7 @@ impl State {
     {
         let place = self.way(n, to);
         let message = self.nodes.node_mut(n).post(to);
-        self.mail.put(place, Mail::Full(message));
+        self.mail.post(place, message);
     }
 
     // Closes an end that travelled in a parcel which a sink has dropped.
@@ -368,7 +370,7 @@ impl State {
         match self.nodes.node_mut(n).deliver_unseen(from, message, source) {
             Ok(()) => Ok(()),
             Err((why, message)) => {
-                self.mail.put(place, Mail::Hand(message));
+                self.mail.put_back(place, message);
                 Err(why)
             }
         }

@@ -1,10 +1,18 @@
-use Rattle.std.proofs.Common.{◌≡◌, ◌<◌, ◌-◌, false, ap, sym, ◌∙◌, arith}
+use Rattle.std.proofs.Common.{◌≡◌, ◌<◌, ◌-◌, ℕ, false, ap, subst, sym, ◌∙◌, arith}
 use Rattle.ipcz_node.specs.Acts.{first_number}
 use Rattle.ipcz_node.proofs.Turns.{passed}
 use Rattle.ipcz_world.proofs.Vocabulary.{place_at, Empty, World, mail_at, way}
 use Rattle.ipcz_world.specs.Turns.{is_full, seen_at}
-use Rattle.ipcz_world.proofs.code.SeenMail.{sees_full, passes, none_left}
+use Rattle.ipcz_world.proofs.code.SeenMail.{sees_full, no_sender, passes, none_left}
 use Rattle.ipcz_world.proofs.state.State.first_sender.Goals as goal
+
+pub returns-then-not-has_full : goal.returns-then-not-has_full
+unfolding mail_at
+returns-then-not-has_full c =
+    let none = λ (k : ℕ). subst (λ (w : World). is_full (mail_at w k) ≡ false) c.self.view_is (c.has_full.ensures c.if-not-has_full.true k) in
+    sym (no_sender c.args.self.now c.args.n c.requires.regular.lengths.few none)
+    ∙ ap (first_number (λ i. place_at false (seen_at c.args.self.now c.args.n).full i) 0)
+    (sym (c.requires.regular.sound c.args.n c.requires.node).count_is)
 
 pub loop-from-init : goal.loop-from-init
 loop-from-init c =

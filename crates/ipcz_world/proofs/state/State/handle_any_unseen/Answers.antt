@@ -8,6 +8,7 @@ use Rattle.std.specs.Prelude.{if◌then◌else◌}
 use Rattle.ipcz_world.specs.Mailing.{put_down}
 use Rattle.ipcz_world.specs.World.{word_at}
 use Rattle.ipcz_world.specs.WordAnswers.{source_for}
+use Rattle.ipcz_world.proofs.code.Marks.{cleared}
 use Rattle.ipcz_world.proofs.code.Taken.{has-in-hand, sender-is-node, done-hand, refused-hand, asked, hand-seen, counted, put-within}
 use Rattle.ipcz_world.proofs.code.Taken.{unseen}
 use Rattle.ipcz_world.specs.contracts.state.State.{the_view}
@@ -31,11 +32,16 @@ deliver_unseen-requires c =
     counted _ c.args.n c.args.from c.node_mut.result.now.node a.regular a.here c.node_mut.ensures.value
     (sender-is-node _ c.args.n c.args.from a.regular a.here a.may)
 
-pub put-requires : goal.put-requires
-put-requires c =
+pub put_back-requires-clause-place : goal.put_back-requires-clause-place
+put_back-requires-clause-place c =
     let l : c.way-place.result < length c.self.inside.mail = subst (λ (w : World). c.way-place.result < length w.mail) (sym c.self.view_is)
     (c.way-place.ensures.within c.requires.regular) in
     put-within c.self.inside.mail c.take_hand.new.self c.way-place.result 0 _ c.take_hand.ensures.mail l
+
+pub put_back-requires-clause-clear : goal.put_back-requires-clause-clear
+put_back-requires-clause-clear c =
+    cleared c.self.inside.mail c.take_hand.new.self c.way-place.result c.in-Some.message c.take_hand.ensures.mail
+    (sym c.take_hand.ensures.message ∙ c.in-Some.is)
 
 pub returns-in-Ok-clause-taken : goal.returns-in-Ok-clause-taken
 unfolding node_at mail_at source_for word_at
@@ -62,14 +68,14 @@ returns-in-Err-clause-refused c =
     let l : c.way-place.result < length c.self.inside.mail = subst (λ (w : World). c.way-place.result < length w.mail) (sym c.self.view_is)
     (c.way-place.ensures.within c.requires.regular) in
     let has = sym (hand-seen (the_view c.self.inside) _ c.args.from c.args.n _ place c.take_hand.ensures.message) ∙ c.in-Some.is in
-    let kept = c.put.ensures ∙ ap (λ mail. put_place Empty mail c.way-place.result (InHand c.in-Err.message)) c.take_hand.ensures.mail
+    let kept = c.put_back.ensures ∙ ap (λ mail. put_place Empty mail c.way-place.result (InHand c.in-Err.message)) c.take_hand.ensures.mail
     ∙ ap (λ m. put_place Empty
     (put_place Empty c.self.inside.mail c.way-place.result (put_down (place_at Empty c.self.inside.mail c.way-place.result)))
     c.way-place.result (InHand m)) c.in-Err.ensures.err.0
     ∙ ap (λ k. put_place Empty (put_place Empty c.self.inside.mail k (put_down (place_at Empty c.self.inside.mail k))) k
     (InHand c.in-Some.message)) place in
     rw (← c.self.view_is)
-    (refused-hand _ c.args.n c.args.from c.in-Some.message c.in-Err.why c.node_mut.result.now.node c.deliver_unseen.new.self.node c.put.new.self
+    (refused-hand _ c.args.n c.args.from c.in-Some.message c.in-Err.why c.node_mut.result.now.node c.deliver_unseen.new.self.node c.put_back.new.self
     a.regular.lengths a.here (subst (λ k. k < length c.self.inside.mail) place l) c.node_mut.ensures.value has c.in-Err.ensures.err.1
     (c.in-Err.ensures.why ∙ ap (λ o. if message_lacks_serials c.node_mut.result.now.node c.args.from c.in-Some.message o then NumbersEnd
     else OutOfMemory) c.source_for-source.ensures)

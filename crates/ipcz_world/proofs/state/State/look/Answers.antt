@@ -1,9 +1,10 @@
 use Rattle.std.proofs.Common.{◌<◌, length, subst, sym, ap, ◌∙◌}
 use Rattle.ipcz_node.specs.declared.act.Act.TheVariants.{Look}
 use Rattle.ipcz_node.specs.RoomyNodes.{IsPossibleAct}
-use Rattle.ipcz_world.proofs.Vocabulary.{place_at, put_place, Empty, World, node_at, way}
+use Rattle.ipcz_world.proofs.Vocabulary.{place_at, put_place, Empty, World, mail_at, node_at, way}
 use Rattle.ipcz_world.specs.Mailing.{taken_up}
-use Rattle.ipcz_world.proofs.code.Taken.{asked, look-may, done-look, looks-to-node}
+use Rattle.ipcz_world.specs.Turns.{is_full}
+use Rattle.ipcz_world.proofs.code.Taken.{asked, look-may, done-look, looks-to-full, looks-to-node}
 use Rattle.ipcz_world.proofs.state.State.look.Goals as goal
 
 pub way-place-requires-clause-from : goal.way-place-requires-clause-from
@@ -15,8 +16,15 @@ look-requires c =
     let a = asked _ _ c.args.n (Look c.args.from) c.self.view_is c.requires.regular c.requires.node c.requires.possible in
     subst (λ y. IsPossibleAct y (Look c.args.from)) (sym c.node_mut.ensures.value) (look-may _ c.args.n c.args.from a.may)
 
-pub take_up-requires : goal.take_up-requires
-take_up-requires c =
+pub take_up-requires-clause-full : goal.take_up-requires-clause-full
+unfolding mail_at
+take_up-requires-clause-full c =
+    let a = asked _ _ c.args.n (Look c.args.from) c.self.view_is c.requires.regular c.requires.node c.requires.possible in
+    let place = c.way-place.ensures.way ∙ ap (λ (w : World). way w c.args.from c.args.n) (sym c.self.view_is) in
+    ap (λ k. is_full (place_at Empty c.self.inside.mail k)) place ∙ looks-to-full _ c.args.n c.args.from a.may
+
+pub take_up-requires-clause-place : goal.take_up-requires-clause-place
+take_up-requires-clause-place c =
     subst (λ (w : World). c.way-place.result < length w.mail) (sym c.self.view_is) (c.way-place.ensures.within c.requires.regular)
 
 pub returns : goal.returns

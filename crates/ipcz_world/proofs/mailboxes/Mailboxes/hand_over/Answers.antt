@@ -1,0 +1,53 @@
+use Rattle.std.proofs.Common.{◌∙◌, ◌<◌, length, arith, ap, sym}
+use Rattle.ipcz_world.specs.Turns.{is_full, hand_message}
+use Rattle.ipcz_world.proofs.code.Marks.{gone, kept-gone, seen-read, within}
+use Rattle.ipcz_world.proofs.mailboxes.Mailboxes.hand_over.Goals as goal
+
+pub index_mut-place-requires : goal.index_mut-place-requires
+index_mut-place-requires c =
+    omega (arith, within _ c.self.inside.marks _ c.args.k c.self.view_is c.requires, c.self.inside.boxes.ok)
+
+pub bounds-self-inside-k : goal.bounds-self-inside-k
+bounds-self-inside-k c = omega (arith, within _ c.self.inside.marks _ c.args.k c.self.view_is c.requires, c.self.invariant.few)
+
+pub returns-clause-taken : goal.returns-clause-taken
+returns-clause-taken c = λ m source e t.
+    let l = within _ c.self.inside.marks _ c.args.k c.self.view_is c.requires in
+    let many : c.args.k < length c.self.inside.marks = omega (arith, l, c.self.invariant.few, c.self.invariant.marked) in
+    let seen = seen-read c.self.inside.boxes.items c.self.inside.marks c.args.self.now c.args.k c.index_mut-place.result.now c.self.view_is l many
+    c.index_mut-place.ensures.value in
+    c.in-Ok.ensures.taken m source (ap hand_message (sym seen) ∙ e) c.if-not-taken.false
+
+pub returns-clause-allowed : goal.returns-clause-allowed
+returns-clause-allowed c = λ m source e t.
+    let l = within _ c.self.inside.marks _ c.args.k c.self.view_is c.requires in
+    let many : c.args.k < length c.self.inside.marks = omega (arith, l, c.self.invariant.few, c.self.invariant.marked) in
+    let seen = seen-read c.self.inside.boxes.items c.self.inside.marks c.args.self.now c.args.k c.index_mut-place.result.now c.self.view_is l many
+    c.index_mut-place.ensures.value in
+    c.in-Ok.ensures.allowed m source (ap hand_message (sym seen) ∙ e) c.if-not-taken.false
+
+pub returns-in-Err-clause-why : goal.returns-in-Err-clause-why
+returns-in-Err-clause-why c = λ m source e.
+    let l = within _ c.self.inside.marks _ c.args.k c.self.view_is c.requires in
+    let many : c.args.k < length c.self.inside.marks = omega (arith, l, c.self.invariant.few, c.self.invariant.marked) in
+    let seen = seen-read c.self.inside.boxes.items c.self.inside.marks c.args.self.now c.args.k c.index_mut-place.result.now c.self.view_is l many
+    c.index_mut-place.ensures.value in
+    c.in-Err.ensures.why m source (ap hand_message (sym seen) ∙ e)
+
+pub invariant_of-self-2 : goal.invariant_of-self-2
+invariant_of-self-2 c =
+    let l = within _ c.self.inside.marks _ c.args.k c.self.view_is c.requires in
+    let many : c.args.k < length c.self.inside.marks = omega (arith, l, c.self.invariant.few, c.self.invariant.marked) in
+    let seen = seen-read c.self.inside.boxes.items c.self.inside.marks c.args.self.now c.args.k c.index_mut-place.result.now c.self.view_is l many
+    c.index_mut-place.ensures.value in
+    kept-gone c.self.inside.boxes.items c.self.inside.marks c.args.self.now c.args.k c.self.inside.full c.self.invariant c.self.view_is l many
+    (ap is_full seen ∙ c.in-Ok.ensures.hand c.if-not-taken.false)
+
+pub returns-clause-mail : goal.returns-clause-mail
+returns-clause-mail c = λ t.
+    let l = within _ c.self.inside.marks _ c.args.k c.self.view_is c.requires in
+    let many : c.args.k < length c.self.inside.marks = omega (arith, l, c.self.invariant.few, c.self.invariant.marked) in
+    let seen = seen-read c.self.inside.boxes.items c.self.inside.marks c.args.self.now c.args.k c.index_mut-place.result.now c.self.view_is l many
+    c.index_mut-place.ensures.value in
+    gone c.self.inside.boxes.items c.self.inside.marks c.args.self.now c.args.k c.self.view_is l many
+    (ap is_full seen ∙ c.in-Ok.ensures.hand c.if-not-taken.false)
