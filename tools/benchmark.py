@@ -2,6 +2,7 @@
 
     python3 tools/benchmark.py library
     python3 tools/benchmark.py instructions
+    python3 tools/benchmark.py compare OTHER
     python3 tools/benchmark.py threads
     python3 tools/benchmark.py crates/ipcz_run/out/ipcz_run [WORKLOAD ..]
     python3 tools/benchmark.py crates/ipcz_run/out/ipcz_run pairs
@@ -10,6 +11,7 @@
 
 `library` prints the number of each measure of `ipcz_bench`, the least of five runs. `instructions` counts them with valgrind's
 callgrind, which a busy machine doesn't disturb: for one round, from a run of 2,000 rounds and one of 12,000, subtracted.
+`compare` prints both, and the same of another build of `ipcz_bench` before: the runs of the two take turns.
 
 `threads` prints those of `ipcz_bench_threads`: what a parcel takes on one thread through worlds, cells and a hub, in turn, and the
 ratios; and what it takes between two threads. Each is the least of 20 runs of 20,000 rounds, with the middle one. Where `chrt` may,
@@ -308,6 +310,19 @@ def show_instructions():
         print("%-14s %8d" % (name, round(each)), flush=True)
 
 
+def show_compared(other):
+    for name in MEASURES:
+        counts = []
+        if name not in MEASURES[-2:]:
+            counts = [round((instructions(name, 12000, it) - instructions(name, 2000, it)) / 10000) for it in (other, BENCH)]
+        times = [[], []]
+        for _ in range(5):
+            for found, program in zip(times, (other, BENCH)):
+                found.append(int(subprocess.run([program, name], stdout=subprocess.PIPE, check=True).stdout))
+        print("%-14s instructions %16s   nanoseconds or bytes %8d %8d"
+              % (name, " ".join("%8d" % it for it in counts), min(times[0]), min(times[1])), flush=True)
+
+
 def nested(size):
     """A list of objects that are nested 124 deep, by members without a name: what takes most memory to read."""
     one = '{"":' * 124 + "1" + "}" * 124
@@ -340,6 +355,8 @@ def main():
         return show_library()
     if sys.argv[1:] == ["instructions"]:
         return show_instructions()
+    if sys.argv[1:2] == ["compare"] and len(sys.argv) == 3:
+        return show_compared(sys.argv[2])
     if sys.argv[1:] == ["threads"]:
         return show_threads()
     program = os.path.abspath(sys.argv[1])
