@@ -281,9 +281,15 @@ def show_library():
 REAL_TIME = ["chrt", "-f", "10"]
 
 
-def show_threads():
+def prefix():
+    """What gives a run real-time priority, where that may be had."""
     before = REAL_TIME if subprocess.run(REAL_TIME + ["true"], stderr=subprocess.DEVNULL).returncode == 0 else []
-    print("with real-time priority" if before else "with the priority of other programs")
+    print("with real-time priority" if before else "with the priority of other programs", flush=True)
+    return before
+
+
+def show_threads():
+    before = prefix()
     alone = [("two_nodes", BENCH), ("cells", BENCH_THREADS), ("hub", BENCH_THREADS)]
     pairs = [(name, BENCH_THREADS) for name in ("cells_on_threads", "hub_on_threads", "round_trips", "hub_round_trips")]
     times = [[] for _ in alone + pairs]
@@ -311,6 +317,7 @@ def show_instructions():
 
 
 def show_compared(other):
+    before = prefix()
     for name in MEASURES:
         counts = []
         if name not in MEASURES[-2:]:
@@ -318,7 +325,7 @@ def show_compared(other):
         times = [[], []]
         for _ in range(5):
             for found, program in zip(times, (other, BENCH)):
-                found.append(int(subprocess.run([program, name], stdout=subprocess.PIPE, check=True).stdout))
+                found.append(int(subprocess.run(before + [program, name], stdout=subprocess.PIPE, check=True).stdout))
         print("%-14s instructions %16s   nanoseconds or bytes %8d %8d"
               % (name, " ".join("%8d" % it for it in counts), min(times[0]), min(times[1])), flush=True)
 
