@@ -4,7 +4,6 @@ pub mod Choosing
 pub mod Directories
 pub mod Finding
 pub mod FirstPairs
-pub mod FlagSets
 pub mod Handing
 pub mod Happenings
 pub mod Hearing
@@ -16,6 +15,7 @@ pub mod Preparing
 pub mod Queues
 pub mod Refiling
 pub mod Serials
+pub mod SerialSets
 pub mod SortedSets
 pub mod Standings
 pub mod Telling

@@ -12,6 +12,7 @@ mod numbered;
 mod outbox;
 mod outboxes;
 mod routers;
+mod serial_ring;
 mod sorted_set;
 mod spare;
 mod state;

@@ -4,8 +4,8 @@ use Rattle.std.specs.Ordering.{nat_cmp}
 use Rattle.std.proofs.lemmas.List.Edits.{insert_end}
 use Rattle.ipcz_node.specs.SortedSets.{IsGapFor}
 use Rattle.ipcz_node.proofs.SortedSets.{sorted_insert}
-use Rattle.ipcz_node.proofs.FlagSets.{added}
-use Rattle.ipcz_node.proofs.flags.Flags.insert.Goals as goal
+use Rattle.ipcz_node.proofs.SerialSets.{added}
+use Rattle.ipcz_node.proofs.serial_ring.SerialRing.insert.Goals as goal
 
 -- a push is an insert behind the last serial
 pushed : (c : goal.After-push_back_reserved) →

@@ -1,6 +1,6 @@
 use Rattle.std.proofs.Common.{ap}
-use Rattle.ipcz_node.proofs.FlagSets.{lowest}
-use Rattle.ipcz_node.proofs.flags.Flags.first.Goals as goal
+use Rattle.ipcz_node.proofs.SerialSets.{lowest}
+use Rattle.ipcz_node.proofs.serial_ring.SerialRing.first.Goals as goal
 
 pub returns-in-Some-clause-least : goal.returns-in-Some-clause-least
 returns-in-Some-clause-least c = λ s there.

@@ -1,7 +1,7 @@
 use Rattle.std.specs.Cmp.{nat_cmp_total}
-use Rattle.ipcz_node.proofs.FlagSets.{above_last}
+use Rattle.ipcz_node.proofs.SerialSets.{above_last}
 use Rattle.ipcz_node.proofs.SortedSets.{gap_at_back}
-use Rattle.ipcz_node.proofs.flags.Flags.is_above_all.Goals as goal
+use Rattle.ipcz_node.proofs.serial_ring.SerialRing.is_above_all.Goals as goal
 
 pub returns-in-Some : goal.returns-in-Some
 returns-in-Some c above =

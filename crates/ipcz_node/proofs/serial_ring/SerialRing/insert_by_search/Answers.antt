@@ -3,8 +3,8 @@ use Rattle.std.specs.Cmp.{nat_cmp_total}
 use Rattle.std.specs.Ordering.{nat_cmp}
 use Rattle.ipcz_node.specs.SortedSets.{IsGapFor}
 use Rattle.ipcz_node.proofs.SortedSets.{sorted_insert}
-use Rattle.ipcz_node.proofs.FlagSets.{added, present}
-use Rattle.ipcz_node.proofs.flags.Flags.insert_by_search.Goals as goal
+use Rattle.ipcz_node.proofs.SerialSets.{added, present}
+use Rattle.ipcz_node.proofs.serial_ring.SerialRing.insert_by_search.Goals as goal
 
 -- the serial goes into its gap
 pub invariant_of-self : goal.invariant_of-self

@@ -2,7 +2,7 @@ use Rattle.std.proofs.Common.{subst}
 use Rattle.std.specs.Cmp.{nat_cmp_total}
 use Rattle.std.specs.List.Sorted.{IsSearchInRange}
 use Rattle.ipcz_node.proofs.SortedSets.{gap_from_search}
-use Rattle.ipcz_node.proofs.flags.Flags.place_of.Goals as goal
+use Rattle.ipcz_node.proofs.serial_ring.SerialRing.place_of.Goals as goal
 
 pub returns-clause-absent : goal.returns-clause-absent
 returns-clause-absent c =

@@ -3,8 +3,8 @@ use Rattle.std.specs.Cmp.{nat_cmp_total}
 use Rattle.std.specs.Ordering.{nat_cmp}
 use Rattle.ipcz_node.specs.SortedSets.{IsPlaceOf}
 use Rattle.ipcz_node.proofs.SortedSets.{has_in_gap, sorted_remove}
-use Rattle.ipcz_node.proofs.FlagSets.{taken}
-use Rattle.ipcz_node.proofs.flags.Flags.remove.Goals as goal
+use Rattle.ipcz_node.proofs.SerialSets.{taken}
+use Rattle.ipcz_node.proofs.serial_ring.SerialRing.remove.Goals as goal
 
 -- the serial was the lowest
 pub invariant_of-self : goal.invariant_of-self
