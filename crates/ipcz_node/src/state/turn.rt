@@ -1,9 +1,6 @@
-ghost use Rattle.std.specs.Prelude.{◌≡◌, false, true, is_some, Some};
-ghost use Rattle.ipcz_router.specs.Router.{Router as RouterRecord};
-ghost use Rattle.ipcz_router.specs.ActTable.{next_act};
-ghost use Rattle.ipcz_node.specs.declared.act.Act.{Act};
+ghost use Rattle.std.specs.Prelude.{◌≡◌, false};
 ghost use Rattle.ipcz_base.specs.Indexed.{place_at};
-ghost use Rattle.ipcz_node.specs.Node.{flagged_router, router_in};
+ghost use Rattle.ipcz_node.specs.Node.{flagged_router};
 ghost use Rattle.ipcz_node.specs.RoomyNodes.{IsPossibleAct};
 ghost use Rattle.ipcz_node.specs.Acts.{next, first_sender, first_destination, has_mail_for, close_turn, router_turn};
 
@@ -81,26 +78,14 @@ impl NodeState {
     }
 
     // The first act of the flagged router of the lowest serial.
-    #[inline(always)]
-    #[tactic(auto, unfolding(crate::specs::Acts::router_turn))]
+    #[tactic(auto, using(crate::proofs::Choosing::next_may), unfolding(crate::specs::Acts::router_turn))]
     fn router_turn(&self) -> Act
         ensures act { result ≡ router_turn (flagged_router self.now.node) }
         ensures possible { IsPossibleAct self.now.node result }
     {
-        match self.routers.first_flagged() {
-            Some(serial) => self.first_act(serial),
-            None => Act::Idle,
-        }
-    }
-
-    // The first act of the router of a serial, or its rest. It stands apart from the test for one that is flagged, since most nodes have none.
-    #[inline(never)]
-    #[tactic(auto, using(crate::proofs::Choosing::next_may))]
-    fn first_act(&self, serial: u64) -> Act
-        requires { is_some (router_in self.now.node serial) ≡ true }
-        ensures act { (r : RouterRecord) → router_in self.now.node serial ≡ Some r → result ≡ Act.Router serial (next_act r) }
-        ensures possible { IsPossibleAct self.now.node result }
-    {
+        let Some(serial) = self.routers.first_flagged() else {
+            return Act::Idle;
+        };
         match self.routers.router(serial) {
             Some(router) => Act::Router(serial, router.next_act()),
             None => unreachable!(),
