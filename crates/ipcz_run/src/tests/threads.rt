@@ -13,8 +13,12 @@ const LOOKS: u64 = 100_000_000;
 
 const ROUNDS: u64 = 200;
 
-// The place among the cases of a portal that moves with what waits in it.
-const MOVED: usize = 2;
+// The case of a portal that moves with what waits in it, without the words.
+const MOVED: &[u8] =
+    br#"{"nodes":2,"words":4,"commands":[["open",0,"x","y"],["put","x","a"],["put","x","b"],["put","x","c"],["put","x","d"],["settle",100],["get","y"],["put","0>1","m",["y"]],["settle",1000],["get","1>0"],["get","y"],["get","y"],["get","y"],["get","y"]]}"#;
+
+const MOVED_TRANSCRIPT: &[u8] =
+    b"open x y ok\nput x 0\nput x 1\nput x 2\nput x 3\nsettled\nget y 0 [] \"a\"\nput 0>1 0\nsettled\nget 1>0 0 [y] \"m\"\nget y 1 [] \"b\"\nget y 2 [] \"c\"\nget y 3 [] \"d\"\nget y Empty\n";
 
 // Runs the script with its settles on threads, with its transcript behind what `out` holds.
 fn run<R: Threads + Sync>(
@@ -49,11 +53,10 @@ fn writes_the_same_transcripts_on_threads(rt: HostRuntime) -> Result<(), Fail> {
 
 #[test]
 fn writes_the_same_transcript_each_time(rt: HostRuntime) -> Result<(), Fail> {
-    let moved = &CASES[MOVED];
     for _round in 0..ROUNDS {
         let mut out = Vec::new(rt.alloc());
-        let ending = run(&rt, rt.alloc(), moved.script.as_bytes(), &mut out);
-        assert_eq!(rt; out.as_slice(), moved.transcript.as_bytes());
+        let ending = run(&rt, rt.alloc(), MOVED, &mut out);
+        assert_eq!(rt; out.as_slice(), MOVED_TRANSCRIPT);
         assert_eq!(rt; ending, Ok(Outcome::Done));
     }
     Ok(())
@@ -114,17 +117,16 @@ fn workers_of_a_round_run_at_once(rt: HostRuntime) -> Result<(), Fail> {
         gate_of(6, None),
         gate_of(7, None),
     ];
-    let moved = &CASES[MOVED];
     let mut out = Vec::new(rt.alloc());
     let ending = run_gated(
         &rt,
         rt.alloc(),
-        &mut Device::new(moved.script.as_bytes()),
+        &mut Device::new(MOVED),
         &mut Device::new(&mut out),
         &mut gates,
     );
     assert_eq!(rt; ending, Ok(Outcome::Done));
-    assert_eq!(rt; out.as_slice(), moved.transcript.as_bytes());
+    assert_eq!(rt; out.as_slice(), MOVED_TRANSCRIPT);
     for gate in &gates {
         assert!(rt; gate.missed == 0 && !gate.strayed);
     }
