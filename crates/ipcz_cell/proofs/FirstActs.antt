@@ -9,7 +9,8 @@ use Rattle.ipcz_base.specs.Indexed.{place_at}
 use Rattle.ipcz_node.specs.declared.act.Act.{Act}
 use Rattle.ipcz_node.specs.declared.act.Act.TheVariants as acts
 use Rattle.ipcz_node.specs.Node.{Node, Found, flagged_router}
-use Rattle.ipcz_node.specs.Acts.{has_mail_for, first_number, next, node_turn, close_turn, router_turn}
+use Rattle.ipcz_node.specs.Acts.{are_empty, has_mail_for, first_number, next, node_turn, close_turn, router_turn}
+use Rattle.ipcz_node.proofs.Mailing.{no_mail_for}
 use Rattle.ipcz_rule.specs.declared.view.Part.{Part}
 use Rattle.ipcz_rule.specs.Rule.{has_number}
 use Rattle.ipcz_cell.specs.TableNames.{TableName}
@@ -139,6 +140,14 @@ module _ (t : TableName) (a b c : CellState) (end : ℕ) (l : LooksEmpty t a b e
 
 pub empty_end : (t : TableName) (a b : CellState) (end : ℕ) → end ≡ t.count → LooksEmpty t a b end → FindsEmpty t a None b
 empty_end t a b end is l = record { found = l.found; looked = l.looked; first = subst (λ (k : ℕ). NoneEmpty t a.part k l.found) is l.none }
+
+-- no message waits
+pub empty_mailless : (t : TableName) (a : CellState) → are_empty a.part.state.outboxes ≡ true → FindsEmpty t a None a
+empty_mailless t a none = record {
+  found = [];
+  looked = looked_none a;
+  first = λ to low mail. absurd (let bad = sym (no_mail_for a.part.state to none) ∙ mail in cc);
+}
 
 -- whether a message can be posted
 pub post_mailless : (t : TableName) (to : ℕ) (a : CellState) → has_mail_for a.part.state to ≡ false → CanPost t to a false a

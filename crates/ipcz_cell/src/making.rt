@@ -1,6 +1,5 @@
 //! A table is made and named, and each node gets its cell.
-ghost use Rattle.std.specs.Prelude.{◌≡◌, ◌≤◌, ◌<◌, ◌-◌, [], IfOk, IfErr, length, vec_len, vec_capacity};
-ghost use Rattle.ipcz_node.specs.FirstPairs.{first_pairs};
+ghost use Rattle.std.specs.Prelude.{◌≡◌, ◌≤◌, ◌<◌, ◌-◌, [], IfOk, IfErr, vec_len, vec_capacity};
 ghost use Rattle.ipcz_rule.specs.Start.{opening_words, opening_parts, after_deal, dealt};
 ghost use Rattle.ipcz_world.specs.Lawful.{IsWithinLimits};
 ghost use Rattle.ipcz_cell.specs.Making.{AreBodies, AreFirst};
@@ -12,7 +11,7 @@ use crate::plays::Deal;
 use crate::probed::Probed;
 use atomic_table::{Seat, Table};
 use ipcz_base::{Message, Refusal};
-use ipcz_node::NodeState;
+use ipcz_node::{NodeState, first_pair_count};
 use ipcz_rule::{FabricLaw, Size, View};
 use ipcz_word::{EMPTY_WORD, OPEN_WORD};
 use std::alloc::{AllocError, Global};
@@ -80,23 +79,6 @@ fn opening_words(alloc: Global, nodes: u8, words: u32) -> Result<Vec<u64>, Alloc
     numbers.push(u64::from(pairs))?;
     numbers.resize(words as usize + 1 + count + count * count, 0)?;
     Ok(numbers)
-}
-
-// How many first pairs so many nodes have: each node has one with each of those behind it.
-fn first_pair_count(nodes: u8) -> u32
-    requires { nodes ≤ 8 }
-    ensures { result ≡ length (first_pairs nodes) }
-{
-    match nodes {
-        0 | 1 => 0,
-        2 => 1,
-        3 => 3,
-        4 => 6,
-        5 => 10,
-        6 => 15,
-        7 => 21,
-        _ => 28,
-    }
 }
 
 // What a cell has beside its seat.

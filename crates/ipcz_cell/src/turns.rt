@@ -51,6 +51,9 @@ impl<F: FabricName> NodeCell<F> {
     fn first_empty(&mut self, fabric: &Fabric<F>) -> Option<u8>
         ensures { FindsEmpty F.table self.old result self.new }
     {
+        if !self.state.has_mail() {
+            return None;
+        }
         for to in 0..fabric.nodes {
             if self.can_post(fabric, to) {
                 return Some(to);

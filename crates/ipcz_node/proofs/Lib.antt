@@ -11,6 +11,7 @@ pub mod Held
 pub mod Holding
 pub mod Indexes
 pub mod LinkPlaces
+pub mod Mailing
 pub mod Preparing
 pub mod Queues
 pub mod Refiling

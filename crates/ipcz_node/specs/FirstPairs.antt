@@ -1,6 +1,6 @@
 -- The first pairs: one for each two nodes, numbered in the order of their nodes; and a node at the start, with its ends of them.
 -- (This project's own: ipcz's nodes are joined by ConnectNode, which gives the first portals.)
-use Rattle.std.specs.Prelude.{◌≡◌, ◌<◌, ◌≤◌, ℕ, zero, suc, ◌+◌, nat_eq, if◌then◌else◌, List, [], ◌∷◌, ◌++◌}
+use Rattle.std.specs.Prelude.{◌≡◌, ◌<◌, ◌≤◌, ℕ, zero, suc, ◌+◌, nat_eq, if◌then◌else◌, List, [], ◌∷◌, ◌++◌, length}
 use Rattle.ipcz_base.specs.Limits.{no_number}
 use Rattle.ipcz_base.specs.declared.side.Side.TheVariants.{A, B}
 use Rattle.ipcz_node.specs.Node.{Node, bare_node, add_end}
@@ -18,6 +18,10 @@ first_pairs_from i (suc left) = pairs_from i (i + 1) left ++ first_pairs_from (i
 -- the two nodes of each first pair, that of side A first, in the order of the pairs' numbers
 abbrev pub first_pairs : ℕ → List (ℕ × ℕ)
 first_pairs count = first_pairs_from 0 count
+
+-- how many first pairs so many nodes have
+abbrev pub first_pair_count : ℕ → ℕ
+first_pair_count count = length (first_pairs count)
 
 -- the node with its end of a pair of nodes, where it has one
 abbrev pub add_pair : Node → ℕ → ℕ × ℕ → Node

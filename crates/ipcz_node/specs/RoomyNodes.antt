@@ -1,10 +1,11 @@
 -- The node with the room that it has made.
 use Rattle.std.specs.Prelude.{◌≡◌, ℕ, ◌≤◌, ◌<◌, ◌+◌, Bool, true, length, Option, Some, None, List, [], ◌∷◌, IfSome, IsSomeAnd}
-use Rattle.std.specs.Prelude.{if◌then◌else◌}
+use Rattle.std.specs.Prelude.{if◌then◌else◌, nat_eq}
 use Rattle.std.specs.Ordering.{nat_cmp}
 use Rattle.std.specs.FinMap.{FinMap, get}
 use Rattle.ipcz_base.specs.Limits.{last_number, no_number}
 use Rattle.ipcz_base.specs.Indexed.{place_at}
+use Rattle.ipcz_base.specs.Totals.{total_list}
 use Rattle.ipcz_base.specs.Items.{ends_in}
 use Rattle.ipcz_router.specs.declared.act.Applied.{Applied}
 use Rattle.ipcz_router.specs.declared.act.Applied.TheVariants as outputs
@@ -49,6 +50,14 @@ pub record RoomyNode : Type 0 where
 pub record OutboxesValue : Type 0 where
   pub messages : List (List Message)
   pub room : List ℕ
+
+-- one for an outbox in which messages wait, and none for an empty one
+abbrev pub one_with_mail : List Message → ℕ
+one_with_mail box = if nat_eq (length box) 0 then 0 else 1
+
+-- in how many outboxes messages wait
+abbrev pub boxes_with_mail : List (List Message) → ℕ
+boxes_with_mail boxes = total_list one_with_mail boxes
 
 -- the messages for one destination, and the room for more
 pub record OutboxValue : Type 0 where

@@ -25,7 +25,7 @@ mod hearing;
 mod passing;
 mod room;
 
-use self::filing::{follow, refile};
+use self::filing::{Files, follow};
 pub(crate) use self::room::count_ends;
 use self::room::{ends_taken, flags_wanted, is_outward, make_room, sum};
 use crate::flags::Flags;
@@ -47,9 +47,7 @@ use std::marker::Model;
 #[derive(Drop)]
 pub struct Directory {
     routers: Routers,
-    links: Index<LinkPlace>,
-    terminals: Index<End>,
-    flagged: Flags,
+    files: Files,
     held: HeldEnds,
     room: usize,
     more: usize,
@@ -81,8 +79,8 @@ impl Model for Directory {
       more_ends = a.held.room - (a.ends + a.room);
     } };
 
-    ghost invariant = { λ a. (AreFiled a.routers.routers a.links.members a.terminals.members a.flagged.members ×
-        HaveRoom a.routers.routers a.room a.more a.routers.room a.links.room a.terminals.room a.flagged.room)
+    ghost invariant = { λ a. (AreFiled a.routers.routers a.files.links.members a.files.terminals.members a.files.flagged.members ×
+        HaveRoom a.routers.routers a.room a.more a.routers.room a.files.links.room a.files.terminals.room a.files.flagged.room)
         × CanHold a.routers.routers a.ends a.room a.held.room };
 }
 
@@ -96,9 +94,11 @@ impl Directory {
     {
         Directory {
             routers: Routers::new(alloc, first),
-            links: Index::new(alloc),
-            terminals: Index::new(alloc),
-            flagged: Flags::new(alloc),
+            files: Files {
+                links: Index::new(alloc),
+                terminals: Index::new(alloc),
+                flagged: Flags::new(alloc),
+            },
             held: HeldEnds::new(alloc),
             room: 0,
             more: 0,
@@ -166,12 +166,12 @@ impl Directory {
             return Err(AllocError);
         };
         self.routers.reserve(routers)?;
-        self.links.reserve(all)?;
-        self.terminals.reserve(routers)?;
+        self.files.links.reserve(all)?;
+        self.files.terminals.reserve(routers)?;
         let Some(flags) = flags_wanted(self.routers.len(), routers) else {
             return Err(AllocError);
         };
-        self.flagged.reserve(flags)?;
+        self.files.flagged.reserve(flags)?;
         let Some(ends) = sum(self.ends, routers) else {
             return Err(AllocError);
         };
@@ -189,9 +189,10 @@ impl Directory {
         ensures { self.new.filed ≡ add_filed self.old.filed (from_descriptor descriptor.now from) }
     {
         let serial = self.routers.next_serial();
-        self.links
+        self.files
+            .links
             .add(LinkPlace::of(descriptor.link, Side::B), serial);
-        self.terminals.add(descriptor.end, serial);
+        self.files.terminals.add(descriptor.end, serial);
         self.routers
             .add(Router::from_descriptor(alloc, descriptor, from));
         self.room -= 1;
@@ -211,8 +212,8 @@ impl Directory {
             side,
             other,
         };
-        self.links.add(LinkPlace::of(link.link, side), serial);
-        self.terminals.add(end, serial);
+        self.files.links.add(LinkPlace::of(link.link, side), serial);
+        self.files.terminals.add(end, serial);
         self.routers.add(Router::terminal(alloc, end, link, 0));
         self.held.insert(end);
         self.room -= 1;
@@ -235,14 +236,7 @@ impl Directory {
             is_open: false,
             flagged: false,
         };
-        refile(
-            &mut self.links,
-            &mut self.terminals,
-            &mut self.flagged,
-            serial,
-            &was,
-            &nowhere,
-        );
+        self.files.refile(serial, &was, &nowhere);
         router
     }
 
@@ -264,14 +258,7 @@ impl Directory {
             other: to,
         });
         let is = router.filing();
-        refile(
-            &mut self.links,
-            &mut self.terminals,
-            &mut self.flagged,
-            serial,
-            &was,
-            &is,
-        );
+        self.files.refile(serial, &was, &is);
         self.more -= 1;
         descriptor
     }
@@ -310,7 +297,7 @@ impl Directory {
         let was = router.is_flagged();
         let answer = router.accept(link, side, n, item);
         let is = router.is_flagged();
-        follow(&mut self.flagged, serial, was, is);
+        follow(&mut self.files.flagged, serial, was, is);
         answer?;
         self.ends = all;
         Ok(())
@@ -370,7 +357,7 @@ impl Directory {
         let was = router.is_flagged();
         let applied = router.apply(act, answer);
         let is = router.is_flagged();
-        follow(&mut self.flagged, serial, was, is);
+        follow(&mut self.files.flagged, serial, was, is);
         let taken = ends_taken(act, &applied);
         self.ends = self.ends.saturating_sub(taken);
         applied
@@ -391,14 +378,7 @@ impl Directory {
         let was = router.filing();
         let applied = router.apply(act, answer);
         let is = router.filing();
-        refile(
-            &mut self.links,
-            &mut self.terminals,
-            &mut self.flagged,
-            serial,
-            &was,
-            &is,
-        );
+        self.files.refile(serial, &was, &is);
         self.ends = self.ends.saturating_sub(ends_taken(act, &applied));
         applied
     }
@@ -407,7 +387,7 @@ impl Directory {
     pub fn first_flagged(&self) -> Option<u64>
         ensures { IsFound (λ r. r.flagged) self.now.filed.routers result }
     {
-        self.flagged.first()
+        self.files.flagged.first()
     }
 
     /// Whether no router is flagged.
@@ -422,7 +402,7 @@ impl Directory {
     pub fn first_on(&self, link: LinkId, side: Side) -> Option<u64>
         ensures { IsFound (λ r. router_has r link side) self.now.filed.routers result }
     {
-        self.links.first(LinkPlace::of(link, side))
+        self.files.links.first(LinkPlace::of(link, side))
     }
 
     /// The first open terminal of the end.
@@ -430,7 +410,7 @@ impl Directory {
     pub fn terminal_of(&self, end: End) -> Option<u64>
         ensures { IsFound (is_terminal_of end) self.now.filed.routers result }
     {
-        self.terminals.first(end)
+        self.files.terminals.first(end)
     }
 
     /// The first router from a serial on that is the open terminal of an end which callers hold: its serial and that end.

@@ -1,6 +1,7 @@
 ghost use Rattle.std.specs.Prelude.{ℕ, ◌≤◌, ◌≡◌, ◌<◌, ◌++◌, [], ◌∷◌, not, nat_eq, length, map, replicate, OnOk, IfOk, IsOk};
 ghost use Rattle.ipcz_base.specs.Indexed.{place_at, put_place};
 ghost use Rattle.ipcz_node.specs.Acts.{first_of, rest_of, are_empty};
+ghost use Rattle.ipcz_node.specs.RoomyNodes.{one_with_mail};
 
 use crate::outbox::Outbox;
 use ipcz_base::Message;
@@ -8,15 +9,18 @@ use std::alloc::{AllocError, Global};
 use std::marker::Model;
 
 /// Messages that wait to be posted, by destination: a queue for each number that a node could have.
+///
+/// In how many queues messages wait is kept, so that a node without mail is known without a look at each.
 #[derive(Drop)]
 pub struct Outboxes {
     queues: Vec<Outbox>,
+    waiting: usize,
 }
 
 impl Model for Outboxes {
     ghost use Rattle.std.specs.Prelude.{map, ◌≡◌, length};
     ghost use Rattle.std.specs.Coded.{codes};
-    ghost use Rattle.ipcz_node.specs.RoomyNodes.{OutboxesValue};
+    ghost use Rattle.ipcz_node.specs.RoomyNodes.{OutboxesValue, boxes_with_mail};
 
     ghost Value = { OutboxesValue };
 
@@ -27,7 +31,7 @@ impl Model for Outboxes {
       room = map (λ q. q.room) a.queues.items;
     } };
 
-    ghost invariant = { λ a. length a.queues.items ≡ 256 };
+    ghost invariant = { λ a. (length a.queues.items ≡ 256) × (a.waiting ≡ boxes_with_mail (map (λ q. q.messages) a.queues.items)) };
 }
 
 impl Outboxes {
@@ -39,7 +43,7 @@ impl Outboxes {
         for _i in 0..256usize {
             queues.push_reserved(Outbox::new(alloc));
         }
-        Ok(Outboxes { queues })
+        Ok(Outboxes { queues, waiting: 0 })
     }
 
     /// Makes room for a message more to a node.
@@ -57,7 +61,9 @@ impl Outboxes {
         requires { 0 < place_at 0 self.old.room to }
         ensures { self.new.messages ≡ put_place [] self.old.messages to (place_at [] self.old.messages to ++ message ∷ []) }
     {
-        self.queues[usize::from(to)].push(message);
+        let queue = &mut self.queues[usize::from(to)];
+        self.waiting += 1 - count(queue);
+        queue.push(message);
     }
 
     /// Whether a message waits for a node.
@@ -78,7 +84,7 @@ impl Outboxes {
     pub fn are_empty(&self) -> bool
         ensures { result ≡ are_empty self.now.messages }
     {
-        are_empty(self.queues.as_slice())
+        self.waiting == 0
     }
 
     /// Takes the first message for a node out, where there is one. What is left empty gives its room back.
@@ -87,18 +93,17 @@ impl Outboxes {
         ensures message { result ≡ first_of (place_at [] self.old.messages to) }
         ensures room { rest_of (place_at [] self.old.messages to) ≡ [] → place_at 0 self.new.room to ≡ 0 }
     {
-        self.queues[usize::from(to)].pop(alloc)
+        let queue = &mut self.queues[usize::from(to)];
+        let before = count(queue);
+        let message = queue.pop(alloc);
+        self.waiting = self.waiting + count(queue) - before;
+        message
     }
 }
 
-// Whether no message waits in any of the queues.
-fn are_empty(queues: &[Outbox]) -> bool
-    ensures { result ≡ are_empty (map (λ q. q.messages) queues.now) }
+// One for a queue in which messages wait, and none for an empty one.
+fn count(queue: &Outbox) -> usize
+    ensures { result ≡ one_with_mail queue.now.messages }
 {
-    for queue in queues {
-        if !queue.is_empty() {
-            return false;
-        }
-    }
-    true
+    if queue.is_empty() { 0 } else { 1 }
 }

@@ -16,6 +16,7 @@ mod sends;
 mod turn;
 
 pub use self::calls::PutRefused;
+pub use self::first_pairs::first_pair_count;
 use crate::directory::Directory;
 use crate::outbox::Outbox;
 use crate::outboxes::Outboxes;

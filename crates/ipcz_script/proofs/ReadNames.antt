@@ -16,7 +16,8 @@ use Rattle.ipcz_script.specs.declared.script_fault.ScriptFault.TheVariants.{BadS
 use Rattle.ipcz_script.specs.ScriptNames.{is_name, is_taken}
 use Rattle.ipcz_script.specs.Shapes.{close_in, command_in, command_named, command_of, get_in, name_in, names_in, new_name_in}
 use Rattle.ipcz_script.specs.Shapes.{number_within, open_in, open_of, put_in, put_of, settle_in, show_in, turn_in, turn_of, values_of}
-use Rattle.ipcz_script.specs.Scripts.{commands_from, first_pair_count, has_three_members, nodes_in, script_of, values_in, with_commands}
+use Rattle.ipcz_node.specs.FirstPairs.{first_pair_count}
+use Rattle.ipcz_script.specs.Scripts.{commands_from, has_three_members, nodes_in, script_of, values_in, with_commands}
 use Rattle.ipcz_script.specs.Scripts.{with_members, words_in}
 use Rattle.ipcz_script.specs.Reading.{script_from}
 use Rattle.ipcz_script.specs.ReadBack.{HasNames, HaveNames}

@@ -5,7 +5,7 @@ use Rattle.std.specs.Option.{option_map_or}
 use Rattle.serde_json.specs.Data.{Data}
 use Rattle.serde_json.specs.Events.{members_len}
 use Rattle.serde_json.specs.Find.{get, as_object}
-use Rattle.ipcz_node.specs.FirstPairs.{first_pairs}
+use Rattle.ipcz_node.specs.FirstPairs.{first_pair_count}
 use Rattle.ipcz_script.specs.declared.command.Command.{Command}
 use Rattle.ipcz_script.specs.declared.script.Script.{Script}
 use Rattle.ipcz_script.specs.declared.script_fault.ScriptFault.{ScriptFault}
@@ -24,10 +24,6 @@ commands_from nodes before (d ∷ ds) = option_map_or (λ command. commands_from
 -- 1 to 8 nodes
 abbrev pub nodes_in : Data → Option ℕ
 nodes_in d = option_and_then (number_within 1 8) (get (codes "nodes") d)
-
--- how many first pairs so many nodes have
-abbrev pub first_pair_count : ℕ → ℕ
-first_pair_count nodes = length (first_pairs nodes)
 
 -- link words, at least one for each first pair, and at most 4096
 abbrev pub words_in : Data → ℕ → Option ℕ

@@ -5,9 +5,10 @@ ghost use Rattle.serde_json.specs.View.{view};
 ghost use Rattle.ipcz_script.specs.declared.script.Script.{Script};
 ghost use Rattle.ipcz_script.specs.declared.script_fault.ScriptFault.{ScriptFault};
 ghost use Rattle.ipcz_script.specs.declared.script_fault.ScriptFault.TheVariants as fault;
+ghost use Rattle.ipcz_node.specs.FirstPairs.{first_pair_count};
 ghost use Rattle.ipcz_script.specs.Faults.{Gives};
 ghost use Rattle.ipcz_script.specs.Reading.{max_bytes, IsScript, IsAnswer};
-ghost use Rattle.ipcz_script.specs.Scripts.{commands_from, first_pair_count, nodes_in, words_in, values_in, has_three_members, script_of};
+ghost use Rattle.ipcz_script.specs.Scripts.{commands_from, nodes_in, words_in, values_in, has_three_members, script_of};
 ghost use Rattle.ipcz_world.specs.Lawful.{IsWithinLimits};
 ghost use Rattle.ipcz_script.specs.Shapes.{command_of};
 
@@ -17,6 +18,7 @@ use crate::script::Script;
 use crate::script_fault::ScriptFault;
 use crate::shapes::{command_in, number_within, values_of};
 use ipcz_base::Sequence;
+use ipcz_node::first_pair_count;
 use serde_json::Value;
 use std::alloc::{AllocError, Global};
 
@@ -68,23 +70,6 @@ fn nodes_in(value: &Value) -> Option<u8>
 {
     let nodes = number_within(1, MAX_NODES, value.get("nodes")?)?;
     Some(nodes as u8)
-}
-
-// How many first pairs so many nodes have: each node has one with each of those behind it.
-fn first_pair_count(nodes: u8) -> u32
-    requires { nodes ≤ 8 }
-    ensures { result ≡ first_pair_count nodes }
-{
-    match nodes {
-        0 | 1 => 0,
-        2 => 1,
-        3 => 3,
-        4 => 6,
-        5 => 10,
-        6 => 15,
-        7 => 21,
-        _ => 28,
-    }
 }
 
 fn words_in(value: &Value, nodes: u8) -> Option<u32>

@@ -1,6 +1,5 @@
 ghost use Rattle.std.specs.Prelude.{◌≡◌, ◌<◌, ◌≤◌, IfOk, IfErr, length, map};
 ghost use Rattle.ipcz_word.specs.Layout.{word_of_bits};
-ghost use Rattle.ipcz_node.specs.FirstPairs.{first_pairs};
 ghost use Rattle.ipcz_world.specs.Coding.{claimed_word, table_of, IsTable};
 ghost use Rattle.ipcz_world.specs.Holding.{holder_of};
 ghost use Rattle.ipcz_world.specs.Lawful.{IsWithinLimits};
@@ -20,7 +19,7 @@ use crate::mailboxes::Mailboxes;
 use crate::nodes::Nodes;
 use crate::step::{Reply, Step};
 use ipcz_base::{End, Refusal};
-use ipcz_node::NodeState;
+use ipcz_node::{NodeState, first_pair_count};
 use std::alloc::Global;
 use std::marker::Model;
 
@@ -181,22 +180,5 @@ fn node_of(step: &Step) -> u8
     match step {
         Step::Open(node) | Step::Turn(node) => *node,
         Step::Put { node, .. } | Step::Get { node, .. } | Step::Close { node, .. } => *node,
-    }
-}
-
-// How many first pairs so many nodes have: each node has one with each of those behind it.
-fn first_pair_count(nodes: u8) -> u32
-    requires { nodes ≤ 8 }
-    ensures { result ≡ length (first_pairs nodes) }
-{
-    match nodes {
-        0 | 1 => 0,
-        2 => 1,
-        3 => 3,
-        4 => 6,
-        5 => 10,
-        6 => 15,
-        7 => 21,
-        _ => 28,
     }
 }

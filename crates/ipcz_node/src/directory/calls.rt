@@ -13,7 +13,7 @@ ghost use Rattle.ipcz_node.specs.Node.{source_at, word_at};
 ghost use Rattle.ipcz_node.specs.Calls.{got_from, ends_found};
 
 use super::Directory;
-use super::filing::{follow, refile};
+use super::filing::follow;
 use ipcz_base::{End, Parcel, Refusal, Side};
 
 impl Directory {
@@ -36,7 +36,7 @@ impl Directory {
         let was = router.is_flagged();
         let answer = router.put(parcel);
         let is = router.is_flagged();
-        follow(&mut self.flagged, serial, was, is);
+        follow(&mut self.files.flagged, serial, was, is);
         answer
     }
 
@@ -59,7 +59,7 @@ impl Directory {
         let was = router.is_flagged();
         let answer = router.get();
         let is = router.is_flagged();
-        follow(&mut self.flagged, serial, was, is);
+        follow(&mut self.files.flagged, serial, was, is);
         let (n, parcel) = answer?;
         self.held.insert_all(parcel.ends.as_slice());
         self.ends = self.ends.saturating_sub(parcel.ends.len());
@@ -80,14 +80,7 @@ impl Directory {
         let was = router.filing();
         let answer = router.close();
         let is = router.filing();
-        refile(
-            &mut self.links,
-            &mut self.terminals,
-            &mut self.flagged,
-            serial,
-            &was,
-            &is,
-        );
+        self.files.refile(serial, &was, &is);
         answer
     }
 

@@ -16,21 +16,25 @@ use crate::link_place::LinkPlace;
 use ipcz_base::{End, LinkEnd, LinkId, Side};
 use ipcz_router::Filing;
 
-// Files what was done with the router of a serial, from where it was filed to where it is to be.
-pub(super) fn refile(
-    links: &mut Index<LinkPlace>,
-    terminals: &mut Index<End>,
-    flagged: &mut Flags,
-    serial: u64,
-    was: &Filing,
-    is: &Filing,
-)
-    requires { CanRefile links.old terminals.old flagged.old serial was.now is.now }
-    ensures { AreRefiled links.old links.new terminals.old terminals.new flagged.old flagged.new serial was.now is.now }
-{
-    relink(links, serial, was, is);
-    close_end(terminals, serial, was, is);
-    follow(flagged, serial, was.flagged, is.flagged);
+/// Where the routers of a node are filed: by their links, by the ends whose open terminals they are, and by their flags.
+#[derive(Drop)]
+pub(super) struct Files {
+    pub(super) links: Index<LinkPlace>,
+    pub(super) terminals: Index<End>,
+    pub(super) flagged: Flags,
+}
+
+impl Files {
+    /// Files what was done with the router of a serial, from where it was filed to where it is to be.
+    pub(super) fn refile(&mut self, serial: u64, was: &Filing, is: &Filing)
+        requires { CanRefile self.old.links self.old.terminals self.old.flagged serial was.now is.now }
+        ensures { AreRefiled self.old.links self.new.links self.old.terminals self.new.terminals self.old.flagged self.new.flagged
+            serial was.now is.now }
+    {
+        relink(&mut self.links, serial, was, is);
+        close_end(&mut self.terminals, serial, was, is);
+        follow(&mut self.flagged, serial, was.flagged, is.flagged);
+    }
 }
 
 // The terminals alone.

@@ -7,7 +7,6 @@ ghost use Rattle.ipcz_router.specs.Hearing.{hears, hear, answer_to, links_brough
 ghost use Rattle.ipcz_node.specs.Rooms.{hear_filed};
 
 use super::Directory;
-use super::filing::refile;
 use ipcz_base::Message;
 use ipcz_router::{Router, Sending, links_brought};
 
@@ -31,14 +30,7 @@ impl Directory {
         let was = router.filing();
         let answer = hear(router, sender, message, source);
         let is = router.filing();
-        refile(
-            &mut self.links,
-            &mut self.terminals,
-            &mut self.flagged,
-            serial,
-            &was,
-            &is,
-        );
+        self.files.refile(serial, &was, &is);
         self.more -= links_brought(message);
         answer
     }

@@ -33,7 +33,7 @@ impl Directory {
         let was = router.is_flagged();
         let message = router.send_out(alloc);
         let is = router.is_flagged();
-        follow(&mut self.flagged, serial, was, is);
+        follow(&mut self.files.flagged, serial, was, is);
         message
     }
 
@@ -67,7 +67,7 @@ impl Directory {
         let was = router.is_flagged();
         let answer = accept_from(router, link, side, n, item);
         let is = router.is_flagged();
-        follow(&mut self.flagged, serial, was, is);
+        follow(&mut self.files.flagged, serial, was, is);
         answer
     }
 
@@ -81,7 +81,7 @@ impl Directory {
         let was = router.is_flagged();
         router.rest();
         let is = router.is_flagged();
-        follow(&mut self.flagged, serial, was, is);
+        follow(&mut self.files.flagged, serial, was, is);
     }
 }
 

@@ -1,6 +1,6 @@
 ghost use Rattle.std.specs.Prelude.{◌≡◌, ◌<◌, ◌≤◌, ◌+◌, ◌*◌, [], ◌++◌, OnOk, IfOk, IfErr, replicate};
 ghost use Rattle.ipcz_base.specs.Limits.{no_number};
-ghost use Rattle.ipcz_node.specs.FirstPairs.{new_node, new_node_from, bare_from, add_pairs, pairs_from, first_pairs_from, add_pair};
+ghost use Rattle.ipcz_node.specs.FirstPairs.{new_node, new_node_from, bare_from, add_pairs, pairs_from, first_pairs_from, first_pair_count, add_pair};
 ghost use Rattle.ipcz_node.specs.FirstPairs.{HasSerials};
 
 use super::NodeState;
@@ -101,5 +101,24 @@ impl NodeState {
             self.routers.add_end(self.alloc, pair, Side::B, i);
         }
         Ok(())
+    }
+}
+
+/// How many first pairs so many nodes have: each node has one with each of those behind it.
+///
+/// `nodes` is at most 8.
+pub fn first_pair_count(nodes: u8) -> u32
+    requires { nodes ≤ 8 }
+    ensures { result ≡ first_pair_count nodes }
+{
+    match nodes {
+        0 | 1 => 0,
+        2 => 1,
+        3 => 3,
+        4 => 6,
+        5 => 10,
+        6 => 15,
+        7 => 21,
+        _ => 28,
     }
 }

@@ -1,8 +1,8 @@
-ghost use Rattle.std.specs.Prelude.{◌≡◌, false};
+ghost use Rattle.std.specs.Prelude.{◌≡◌, false, not};
 ghost use Rattle.ipcz_base.specs.Indexed.{place_at};
 ghost use Rattle.ipcz_node.specs.Node.{flagged_router};
 ghost use Rattle.ipcz_node.specs.RoomyNodes.{IsPossibleAct};
-ghost use Rattle.ipcz_node.specs.Acts.{next, first_sender, first_destination, has_mail_for, close_turn, router_turn};
+ghost use Rattle.ipcz_node.specs.Acts.{next, first_sender, first_destination, has_mail_for, are_empty, close_turn, router_turn};
 
 use super::NodeState;
 use crate::act::{Act, MailSeen};
@@ -44,6 +44,14 @@ impl NodeState {
             [end, _rest @ ..] => Act::Close(*end),
             [] => self.router_turn(),
         }
+    }
+
+    /// Whether any message waits to be posted. It takes no memory.
+    #[inline(always)]
+    pub fn has_mail(&self) -> bool
+        ensures { result ≡ not (are_empty self.now.node.outboxes) }
+    {
+        !self.outboxes.are_empty()
     }
 
     /// Whether a message waits to be posted to a node. It takes no memory.

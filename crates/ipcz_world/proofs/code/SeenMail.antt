@@ -1,12 +1,13 @@
 -- What a node sees of the mailboxes, looked up one after the other.
-use Rattle.std.specs.Prelude.{◌≡◌, ◌<◌, ◌≤◌, ℕ, zero, suc, ◌+◌, ◌-◌, Bool, true, false, ◌&&◌, nat_lt, map, if◌then◌else◌, Option, Some}
+use Rattle.std.specs.Prelude.{◌≡◌, ◌<◌, ◌≤◌, ℕ, zero, suc, ◌+◌, ◌-◌, Bool, true, false, not, ◌&&◌, nat_lt, map, if◌then◌else◌, Option, Some}
 use Rattle.std.specs.Prelude.{None}
 use Rattle.std.proofs.Common.{arith, ap, refl, sym, ◌∙◌}
 use Rattle.std.proofs.lemmas.Bool.Decides.{nat_tests}
 use Rattle.ipcz_base.specs.Indexed.{place_at}
-use Rattle.ipcz_node.specs.Acts.{first_number}
+use Rattle.ipcz_node.specs.Acts.{first_number, has_mail_for, are_empty}
 use Rattle.ipcz_node.proofs.Turns.{first_step}
-use Rattle.ipcz_world.specs.World.{World, mail_at, way, numbers_from}
+use Rattle.ipcz_node.proofs.Mailing.{no_mail_for}
+use Rattle.ipcz_world.specs.World.{World, mail_at, node_at, way, numbers_from}
 use Rattle.ipcz_world.specs.Turns.{is_full, is_clear, seen_at}
 
 -- what is said of a number in a list over so many numbers
@@ -63,3 +64,14 @@ pub no_sender : (w : World) (n : ℕ) → w.count ≤ 8 → ((k : ℕ) → is_fu
 no_sender w n few none =
     no_number (λ i. place_at false (seen_at w n).full i) 0 w.count
     (λ i l. sees_full w n i (omega (arith, l)) few ∙ none (way w i n))
+
+-- where no message waits, there is no destination
+pub no_destination : (w : World) (n : ℕ) → not (are_empty (node_at w n).outboxes) ≡ false →
+    first_number (λ i. has_mail_for (node_at w n) i && place_at false (seen_at w n).empty i) 0 w.count ≡ None
+no_destination w n none =
+    no_number (λ i. has_mail_for (node_at w n) i && place_at false (seen_at w n).empty i) 0 w.count
+    (λ i l. ap (λ b. b && place_at false (seen_at w n).empty i) (no_mail_for (node_at w n) i (all (are_empty (node_at w n).outboxes) none)))
+  where
+    all : (b : Bool) → not b ≡ false → b ≡ true
+    all true h = refl
+    all false h = cc

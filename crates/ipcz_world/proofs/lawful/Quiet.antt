@@ -24,6 +24,7 @@ use Rattle.ipcz_router.specs.declared.act.RouterAct.TheVariants as acts
 use Rattle.ipcz_node.specs.Node.{find_router, holds_end}
 use Rattle.ipcz_node.specs.Calls.{get_node, get_refusal, refusal_at}
 use Rattle.ipcz_node.specs.Acts.{is_quiet, are_empty}
+use Rattle.ipcz_node.proofs.Mailing.{empty_box}
 use Rattle.ipcz_world.specs.declared.mail.Mail.{Mail}
 use Rattle.ipcz_world.specs.declared.mail.Mail.TheVariants as mails
 use Rattle.ipcz_world.specs.declared.step.Reply.TheVariants as replies
@@ -84,17 +85,6 @@ total_below-zero zero f h = refl
 total_below-zero (suc c) f h = omega (arith, h c (omega arith), total_below-zero c f (λ j l. h j (omega arith)))
 
 -- nothing is under way in a quiet world
-quiet-box : (boxes : List (List Message)) (to : ℕ) → are_empty boxes ≡ true → place_at [] boxes to ≡ []
-unfolding place_at
-quiet-box [] to h = refl
-quiet-box ([] ∷ bs) zero h = refl
-quiet-box ((m ∷ ms) ∷ bs) zero h = absurd (grind (arith, h, nat_tests))
-quiet-box (b ∷ bs) (suc to) h = quiet-box bs to (second (nat_eq (length b) 0) (are_empty bs) h)
-  where
-    second : (x y : Bool) → (x && y) ≡ true → y ≡ true
-    second true y e = e
-    second false y e = cc
-
 quiet-mail : (y : Mail) → is_clear y ≡ true → messages_in y ≡ []
 unfolding is_clear messages_in
 quiet-mail mails.Empty h = refl
@@ -117,7 +107,7 @@ is-still n h = record { boxes = grind (arith, h); flags = go (find_router n (λ 
 pub quiet-flow : (w : World) → IsQuiet w → (from to : ℕ) → from < w.count → flow w from to ≡ []
 quiet-flow w quiet from to l = flow_is w from to ∙ ap (λ ms. ms ++ place_at [] (node_at w from).outboxes to)
     (quiet-mail (mail_at w (way w from to)) (quiet.mail (way w from to)))
-    ∙ quiet-box (node_at w from).outboxes to (is-still (node_at w from) (quiet.nodes from l)).boxes
+    ∙ empty_box (node_at w from).outboxes to (is-still (node_at w from) (quiet.nodes from l)).boxes
 
 pub nothing-moves : (w : World) → IsQuiet w → (from to i : ℕ) (m : Message) → IsUnderWay w from to i m → ⊥
 nothing-moves w quiet from to i m u = grind (arith, ap (λ ms. slice_get ms i) (quiet-flow w quiet from to u.sender), u.place)

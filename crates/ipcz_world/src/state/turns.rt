@@ -51,6 +51,9 @@ impl State {
         requires node { n < self.now.count }
         ensures { result ≡ first_destination (node_at self.now n) (seen_at self.now n) }
     {
+        if !self.nodes.node(n).has_mail() {
+            return None;
+        }
         for to in 0..self.count {
             if self.can_post(n, to) {
                 return Some(to);

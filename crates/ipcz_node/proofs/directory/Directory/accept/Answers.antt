@@ -9,14 +9,14 @@ use Rattle.ipcz_node.proofs.directory.Directory.accept.Goals as goal
 pub follow-requires-clause-was : goal.follow-requires-clause-was
 follow-requires-clause-was c =
     let r = c.router_mut-router.result.now.router in
-    flag_was _ c.args.serial r r (same_stays r) c.self.inside.links c.self.inside.terminals c.self.inside.flagged c.self.inside.flagged
+    flag_was _ c.args.serial r r (same_stays r) c.self.inside.files.links c.self.inside.files.terminals c.self.inside.files.flagged c.self.inside.files.flagged
     c.self.inside.room c.self.inside.more c.self.inside.routers.room (sym c.router_mut-router.ensures.value) c.self.invariant.0
     ∙ sym c.is_flagged-was.ensures
 
 pub follow-requires-clause-room : goal.follow-requires-clause-room
 follow-requires-clause-room c down =
     let r = c.router_mut-router.result.now.router in
-    flag_room _ c.args.serial r r (same_stays r) c.self.inside.links c.self.inside.terminals c.self.inside.flagged c.self.inside.flagged
+    flag_room _ c.args.serial r r (same_stays r) c.self.inside.files.links c.self.inside.files.terminals c.self.inside.files.flagged c.self.inside.files.flagged
     c.self.inside.room c.self.inside.more c.self.inside.routers.room (sym c.router_mut-router.ensures.value) c.self.invariant.0
     (sym c.is_flagged-was.ensures ∙ down)
 

@@ -9,7 +9,7 @@ refile-requires c =
     let r = c.router_mut-router.result.now.router in
     let w = c.apply-applied.new.self.router in
     let fits : FilesWithin 0 r w = subst (FilesWithin 0 r) (sym c.apply-applied.ensures.router) (act_standing r _ _) in
-    can_change _ c.args.serial r w _ _ 0 fits _ c.self.inside.links _ c.self.inside.terminals _ c.self.inside.flagged c.self.inside.room
+    can_change _ c.args.serial r w _ _ 0 fits _ c.self.inside.files.links _ c.self.inside.files.terminals _ c.self.inside.files.flagged c.self.inside.room
     c.self.inside.more c.self.inside.more c.self.inside.routers.room (sym c.router_mut-router.ensures.value)
     c.filing-was.ensures c.filing-is.ensures (omega arith) c.self.invariant.0
 

@@ -16,10 +16,10 @@ invariant_of-self c =
     let next = c.self.inside.routers.next in
     let added = ap (λ v. v.routers) c.add-3.ensures in
     let to_links = subst₂ (λ n p. (key : _) (s : ℕ) → is_filed place_cmp c.add.new.self.members key s ≡
-    ((is_eq (place_cmp p key) && n == s) || is_filed place_cmp c.self.inside.links.members key s))
+    ((is_eq (place_cmp p key) && n == s) || is_filed place_cmp c.self.inside.files.links.members key s))
     c.next_serial-serial.ensures.next c.of.ensures c.add.ensures.members in
     let to_terminals = subst (λ n. (key : _) (s : ℕ) → is_filed end_cmp c.add-2.new.self.members key s ≡
-    ((is_eq (end_cmp d.end key) && n == s) || is_filed end_cmp c.self.inside.terminals.members key s))
+    ((is_eq (end_cmp d.end key) && n == s) || is_filed end_cmp c.self.inside.files.terminals.members key s))
     c.next_serial-serial.ensures.next c.add-2.ensures.members in
     let some : 0 < c.self.inside.room = subst (λ v. 0 < v.filed.room) (sym c.self.view_is) c.requires.room in (
       (

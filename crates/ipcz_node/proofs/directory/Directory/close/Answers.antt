@@ -16,7 +16,7 @@ refile-requires c =
     c.close-answer.result c.close-answer.ensures.err in
     let fits : FilesWithin 0 r w = after (FilesWithin 0 r) c.close-answer.result r w (close_router r) c.close-answer.ensures.ok left
     (close_standing r) (same_standing r) in
-    can_change _ c.args.serial r w _ _ 0 fits _ c.self.inside.links _ c.self.inside.terminals _ c.self.inside.flagged c.self.inside.room
+    can_change _ c.args.serial r w _ _ 0 fits _ c.self.inside.files.links _ c.self.inside.files.terminals _ c.self.inside.files.flagged c.self.inside.room
     c.self.inside.more c.self.inside.more c.self.inside.routers.room (sym c.router_mut-router.ensures.value)
     c.filing-was.ensures c.filing-is.ensures (omega arith) c.self.invariant.0
 

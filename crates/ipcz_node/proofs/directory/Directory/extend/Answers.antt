@@ -10,7 +10,7 @@ refile-requires c =
     let w = c.extend_to-descriptor.new.self.router in
     let some : 0 < c.self.inside.more = subst (λ v. 0 < v.filed.links) (sym c.self.view_is) c.requires.room in
     let fits : FilesWithin 1 r w = subst (FilesWithin 1 r) (sym c.extend_to-descriptor.ensures.router) (extend_standing r _) in
-    can_change _ c.args.serial r w _ _ 1 fits _ c.self.inside.links _ c.self.inside.terminals _ c.self.inside.flagged c.self.inside.room
+    can_change _ c.args.serial r w _ _ 1 fits _ c.self.inside.files.links _ c.self.inside.files.terminals _ c.self.inside.files.flagged c.self.inside.room
     c.self.inside.more (c.self.inside.more - 1) c.self.inside.routers.room (sym c.router_mut-router.ensures.value)
     c.filing-was.ensures c.filing-is.ensures (omega (arith, some)) c.self.invariant.0
 

@@ -8,5 +8,5 @@ use Rattle.ipcz_node.proofs.directory.Directory.first_flagged.Goals as goal
 pub returns : goal.returns
 returns c =
     subst (λ v. IsFound (λ r. r.flagged) v.filed.routers c.first.result) c.self.view_is
-    (found_filed (λ r. r.flagged) c.self.inside.routers.routers c.first.result (has nat_cmp c.self.inside.flagged.members)
+    (found_filed (λ r. r.flagged) c.self.inside.routers.routers c.first.result (has nat_cmp c.self.inside.files.flagged.members)
     c.self.invariant.0.0.by_flag c.first.ensures)

@@ -12,4 +12,4 @@ returns c =
     subst (λ v. IsFound (λ r. router_has r c.args.link c.args.side) v.filed.routers c.first.result) c.self.view_is
     (found_filed (λ r. router_has r c.args.link c.args.side) c.self.inside.routers.routers c.first.result _
     (by.by_link c.args.link c.args.side)
-    (subst (λ p. IsLeast (is_filed place_cmp c.self.inside.links.members p) c.first.result) c.of.ensures c.first.ensures))
+    (subst (λ p. IsLeast (is_filed place_cmp c.self.inside.files.links.members p) c.first.result) c.of.ensures c.first.ensures))

@@ -14,7 +14,7 @@ refile-requires c =
     let enough : links_brought m ≤ c.self.inside.more = subst (λ v. links_brought m ≤ v.filed.links) (sym c.self.view_is) c.requires.room in
     let fits : FilesWithin (links_brought m) r w = subst (FilesWithin (links_brought m) r) (sym c.hear-answer.ensures.router)
     (hear_standing r c.args.sender m) in
-    can_change _ c.args.serial r w _ _ (links_brought m) fits _ c.self.inside.links _ c.self.inside.terminals _ c.self.inside.flagged
+    can_change _ c.args.serial r w _ _ (links_brought m) fits _ c.self.inside.files.links _ c.self.inside.files.terminals _ c.self.inside.files.flagged
     c.self.inside.room c.self.inside.more (c.self.inside.more - links_brought m) c.self.inside.routers.room
     (sym c.router_mut-router.ensures.value) c.filing-was.ensures c.filing-is.ensures (omega (arith, enough)) c.self.invariant.0
 

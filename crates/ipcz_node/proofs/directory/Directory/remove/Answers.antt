@@ -17,9 +17,9 @@ invariant_of-self c =
     (sym c.remove-router.ensures.router) c.filing-was.ensures
     (under_nowhere c.filing-was.result.end) refl refl refl (omega (arith, c.remove-router.ensures.room))
     c.self.invariant.0 c.refile.ensures in (
-      subst (λ m. AreFiled m c.refile.new.links.members c.refile.new.terminals.members c.refile.new.flagged.members ×
-          HaveRoom m c.self.inside.room c.self.inside.more c.remove-router.new.self.room c.refile.new.links.room c.refile.new.terminals.room
-          c.refile.new.flagged.room)
+      subst (λ m. AreFiled m c.refile.new.self.links.members c.refile.new.self.terminals.members c.refile.new.self.flagged.members ×
+          HaveRoom m c.self.inside.room c.self.inside.more c.remove-router.new.self.room c.refile.new.self.links.room c.refile.new.self.terminals.room
+          c.refile.new.self.flagged.room)
           (sym c.remove-router.ensures.routers) held,
       hold_dropped _ _ c.args.serial c.remove-router.result.router c.self.inside.ends c.self.inside.room c.self.inside.held.room
           (sym c.remove-router.ensures.router) c.remove-router.ensures.routers c.self.invariant.1,

@@ -1,10 +1,19 @@
-use Rattle.std.proofs.Common.{◌≡◌, ◌<◌, ◌-◌, ◌&&◌, false, ap, sym, ◌∙◌, arith}
-use Rattle.ipcz_node.specs.Acts.{first_number, has_mail_for}
+use Rattle.std.proofs.Common.{◌≡◌, ◌<◌, ◌-◌, ◌&&◌, false, not, ap, sym, ◌∙◌, arith}
+use Rattle.ipcz_node.specs.Acts.{first_number, has_mail_for, are_empty}
 use Rattle.ipcz_node.proofs.Turns.{passed}
-use Rattle.ipcz_world.proofs.Vocabulary.{place_at, World, node_at}
+use Rattle.ipcz_world.proofs.Vocabulary.{place_at, World, Node, node_at}
 use Rattle.ipcz_world.specs.Turns.{seen_at}
-use Rattle.ipcz_world.proofs.code.SeenMail.{sees_empty, passes, none_left}
+use Rattle.ipcz_world.proofs.code.SeenMail.{sees_empty, passes, none_left, no_destination}
 use Rattle.ipcz_world.proofs.state.State.first_destination.Goals as goal
+
+pub returns-then-not-has_mail : goal.returns-then-not-has_mail
+unfolding node_at
+returns-then-not-has_mail c =
+    let at = c.node.ensures ∙ ap (λ (w : World). node_at w c.args.n) c.self.view_is in
+    let none = ap (λ (x : Node). not (are_empty x.outboxes)) (sym at) ∙ sym c.has_mail.ensures ∙ c.if-not-has_mail.true in
+    sym (no_destination c.args.self.now c.args.n none)
+    ∙ ap (first_number (λ i. has_mail_for (node_at c.args.self.now c.args.n) i && place_at false
+    (seen_at c.args.self.now c.args.n).empty i) 0) (sym (c.requires.regular.sound c.args.n c.requires.node).count_is)
 
 pub loop-to-init : goal.loop-to-init
 loop-to-init c =
