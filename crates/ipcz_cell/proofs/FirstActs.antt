@@ -1,5 +1,5 @@
 -- What the loads of a turn have found, and which act comes first by it.
-use Rattle.std.specs.Prelude.{◌≡◌, ◌≢◌, ◌<◌, ◌+◌, ℕ, zero, suc, Bool, true, false, ◌&&◌, List, [], ◌∷◌, ◌++◌, replicate, eqb, MatchBool, Option, Some, None}
+use Rattle.std.specs.Prelude.{◌≡◌, ◌≢◌, ◌<◌, ◌+◌, ℕ, zero, suc, Bool, true, false, not, ◌&&◌, List, [], ◌∷◌, ◌++◌, replicate, eqb, MatchBool, Option, Some, None}
 use Rattle.std.proofs.Common.{ap, sym, subst, ◌∙◌, refl, arith, append_assoc, append-nil}
 use Rattle.std.proofs.lemmas.Bool.Decides.{nat_tests}
 use mathlib.Core.Logic.{dite}
@@ -142,12 +142,16 @@ pub empty_end : (t : TableName) (a b : CellState) (end : ℕ) → end ≡ t.coun
 empty_end t a b end is l = record { found = l.found; looked = l.looked; first = subst (λ (k : ℕ). NoneEmpty t a.part k l.found) is l.none }
 
 -- no message waits
-pub empty_mailless : (t : TableName) (a : CellState) → are_empty a.part.state.outboxes ≡ true → FindsEmpty t a None a
+pub empty_mailless : (t : TableName) (a : CellState) → not (are_empty a.part.state.outboxes) ≡ false → FindsEmpty t a None a
 empty_mailless t a none = record {
   found = [];
   looked = looked_none a;
-  first = λ to low mail. absurd (let bad = sym (no_mail_for a.part.state to none) ∙ mail in cc);
+  first = λ to low mail. absurd (let bad = sym (no_mail_for a.part.state to (all (are_empty a.part.state.outboxes) none)) ∙ mail in cc);
 }
+  where
+    all : (b : Bool) → not b ≡ false → b ≡ true
+    all true h = refl
+    all false h = cc
 
 -- whether a message can be posted
 pub post_mailless : (t : TableName) (to : ℕ) (a : CellState) → has_mail_for a.part.state to ≡ false → CanPost t to a false a

@@ -1,10 +1,10 @@
 //! The turns of a cell.
-ghost use Rattle.std.specs.Prelude.{◌≡◌, ◌<◌, ℕ, true, None, Some, Ok};
+ghost use Rattle.std.specs.Prelude.{◌≡◌, ◌<◌, ℕ, true, not, None, Some, Ok};
 ghost use Rattle.ipcz_base.specs.declared.side.Side.{Side as SideValue};
 ghost use Rattle.ipcz_node.specs.RoomyNodes.{IsPossibleAct};
 ghost use Rattle.ipcz_cell.specs.Turns.{Chooses, FindsFull, CanPost, FindsEmpty};
 ghost use Rattle.ipcz_cell.specs.TurnEnds.{try_event, IsInside, Acts, Turns};
-ghost use Rattle.ipcz_node.specs.Acts.{close_turn, has_mail_for, router_turn, stand_in};
+ghost use Rattle.ipcz_node.specs.Acts.{are_empty, close_turn, has_mail_for, router_turn, stand_in};
 ghost use Rattle.ipcz_node.specs.Node.{flagged_router, word_side};
 ghost use Rattle.ipcz_rule.specs.Steps.{is_touch};
 ghost use Rattle.ipcz_cell.specs.Parts.{is_touch_act};
@@ -31,6 +31,13 @@ impl<F: FabricName> NodeCell<F> {
         None
     }
 
+    // Whether any message waits to be posted.
+    fn has_mail(&self) -> bool
+        ensures { result ≡ not (are_empty self.now.part.state.outboxes) }
+    {
+        self.state.has_mail()
+    }
+
     // Whether messages wait for a node and its mailbox is this node's already, or is found empty.
     fn can_post(&mut self, fabric: &Fabric<F>, to: u8) -> bool
         requires { to < F.table.count }
@@ -51,7 +58,7 @@ impl<F: FabricName> NodeCell<F> {
     fn first_empty(&mut self, fabric: &Fabric<F>) -> Option<u8>
         ensures { FindsEmpty F.table self.old result self.new }
     {
-        if !self.state.has_mail() {
+        if !self.has_mail() {
             return None;
         }
         for to in 0..fabric.nodes {

@@ -1,7 +1,11 @@
-use Rattle.std.proofs.Common.{Bool, subst, arith}
+use Rattle.std.proofs.Common.{Bool, sym, ◌∙◌, subst, arith}
 use Rattle.ipcz_cell.specs.Turns.{CanPost}
-use Rattle.ipcz_cell.proofs.FirstActs.{empty_more, empty_found}
+use Rattle.ipcz_cell.proofs.FirstActs.{empty_more, empty_found, empty_mailless}
 use Rattle.ipcz_cell.proofs.cell.NodeCell.first_empty.Goals as goal
+
+pub returns-then-not-has_mail : goal.returns-then-not-has_mail
+returns-then-not-has_mail g c =
+    empty_mailless g.F.FabricName.table c.args.self.now (sym c.has_mail.ensures ∙ c.if-not-has_mail.true)
 
 pub returns-then-can_post : goal.returns-then-can_post
 returns-then-can_post g c =
