@@ -1,4 +1,4 @@
-//! The script of one bypass, in its parts, and its transcript (docs/PROTOCOL.md, "Worked examples").
+//! The script of one bypass, in its parts, and its transcript (docs/PROTOCOL.md, "Bypass").
 
 use std::alloc::{AllocError, Global};
 

@@ -1,14 +1,13 @@
 -- The theorem of this repository, on one page: what holds after any list of steps, in any order, of the nodes and their callers together.
 --
 -- Its premises:
---   The nodes trust each other. A turn of a node takes an act of the tables whose conditions hold, whichever that is; callers open, put,
--- get
---   and close as they like, and a step that is refused is a step as any other. That the calls of `World` take such steps is proved.
+--   The nodes trust each other. A turn of a node takes an act of the tables whose conditions hold, whichever that is; callers open,
+--   put, get and close as they like, and a step that is refused is a step as any other. That the calls of `World` take such steps is
+--   proved.
 --   Link words and mailboxes keep what is written to them, and no node is lost.
---   Nothing is said of when a node takes a turn, or whether: where it matters that the world is quiet, or which turns were taken, it is
--- said.
--- Beside them one trusts what checks this page and makes the program of it (README, "What is trusted").
--- (IronFleet's and Verdi's theorems are of this form: for each run of the hosts there is one of a small machine with the same replies.)
+--   Nothing is said of when a node takes a turn, or whether: where it matters that the world is quiet, or which turns were taken, it
+--   is said.
+-- Beside them one trusts what checks this page and makes the program of it (docs/PROVED.md, "What is trusted").
 use Rattle.std.specs.Prelude.{◌≡◌, ◌≤◌, ◌<◌, ℕ, ◌+◌, ◌*◌, true, false, Some, List, length, map, take, slice_get}
 use Rattle.ipcz_base.specs.declared.end.End.{End}
 use Rattle.ipcz_base.specs.declared.item.Item.TheVariants.{Parcel}

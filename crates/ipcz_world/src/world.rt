@@ -90,7 +90,7 @@ impl World {
         self.state.claimed()
     }
 
-    /// The number of a link word, from 0 to 63 (docs/PROTOCOL.md, "Link words"); none exactly from the claim count on.
+    /// The number of a link word, below 4096 (docs/PROTOCOL.md, "Link words"); none exactly from the claim count on.
     #[tactic(auto, unfolding(crate::specs::World::word_at))]
     pub fn word(&self, i: u32) -> Option<u64>
         ensures { result ≡ shown_word self.now i }
