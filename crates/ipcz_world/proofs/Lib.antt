@@ -1,6 +1,7 @@
 pub mod Vocabulary
 pub mod Whole
 pub mod WholeTheorem
+pub mod OwnTurns
 pub mod acts
 pub mod begins
 pub mod calls

@@ -75,7 +75,7 @@ impl State {
 
     /// The first possible act of a node.
     #[inline(always)]
-    #[tactic(auto, unfolding(crate::specs::Turns::next_at, crate::specs::World::node_at, ipcz_node::specs::Acts::next, ipcz_node::specs::Acts::node_turn))]
+    #[tactic(auto, using(crate::proofs::OwnTurns::idle_own), unfolding(crate::specs::Turns::next_at, crate::specs::World::node_at, ipcz_node::specs::Acts::next, ipcz_node::specs::Acts::node_turn))]
     pub(crate) fn next(&self, n: u8) -> Act
         requires regular { IsRegular self.now }
         requires node { n < self.now.count }
@@ -90,6 +90,9 @@ impl State {
         }
         if let Some(to) = self.first_destination(n) {
             return Act::Post(to);
+        }
+        if node.quiet() {
+            return Act::Idle;
         }
         node.next_own()
     }
