@@ -25,7 +25,7 @@ use Rattle.ipcz_cell.specs.Claims.{Answered, Got as Claimed, Dry as WasDry, Lost
 use Rattle.ipcz_cell.specs.Mails.{mail_word, old_named, OldLoaded, source_found, Handles}
 use Rattle.ipcz_cell.specs.Turns.{IsFirst, Chooses}
 use Rattle.ipcz_rule.specs.Races.{IsWaitedFor}
-use Rattle.ipcz_cell.specs.TurnEnds.{IsTaken, IsLost, IsRefused, NoSerials, NoMemory, LostIt, hand_lacks_serials, IsInside, Acts, EndsRaced, Turns, Got, Dry}
+use Rattle.ipcz_cell.specs.TurnEnds.{IsTaken, IsLost, IsRefused, NoSerials, NoMemory, LostIt, hand_lacks_serials, Acts, EndsRaced, Turns, Got, Dry}
 use Rattle.ipcz_cell.proofs.TurnWords.{seen_two}
 use Rattle.ipcz_cell.proofs.TurnActs.{acts_whole}
 
@@ -149,15 +149,6 @@ refused_by : (size : ℕ) (p : Part) (act : Act) (L M : Type 0) (why : Refusal) 
 refused_by size p act L M why seen f (NoSerials a b c) = NoSerials a b c
 refused_by size p act L M why seen f (NoMemory a b c d e) = NoMemory a b c d e
 refused_by size p act L M why seen f (LostIt a l) = LostIt a (f l)
-
--- the node that the first act is about is one of the table's
-pub inside_of : (t : TableName) (p : Part) (loads : Seen) (act : Act) → IsFirst t p loads act → IsInside t.count act
-inside_of t p loads (acts.Hand sender) first = tt
-inside_of t p loads (acts.Look sender) first = first.inside
-inside_of t p loads (acts.Post to) first = first.inside
-inside_of t p loads (acts.Close end) first = tt
-inside_of t p loads (acts.Router serial act) first = tt
-inside_of t p loads acts.Idle first = tt
 
 -- a turn
 pub turn_done : (t : TableName) (act : Act) (old mid new : CellState) (answer : Result Happened Refusal) → Chooses t old act mid → Acts t act mid answer new → Turns t old answer new

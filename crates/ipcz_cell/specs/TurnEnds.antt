@@ -141,12 +141,6 @@ pub data IsRefused (size : ℕ) (p : Part) (act : Act) (Lost : Type 0) (why : Re
       IsSeenBefore size p act seen → IsRefused size p act Lost why seen
   LostIt : why ≡ Raced → Lost → IsRefused size p act Lost why seen
 
--- the node that an act is about is one of the table's
-abbrev pub IsInside : ℕ → Act → Type 0
-IsInside count (acts.Look from) = from < count
-IsInside count (acts.Post to) = to < count
-IsInside count other = Unit {0}
-
 -- what was done of an act: all of it, or nothing
 pub record Acts (t : TableName) (act : Act) (old : CellState) (answer : Result Happened Refusal) (new : CellState) : Type 0 where
   pub found : List (ℕ × ℕ)

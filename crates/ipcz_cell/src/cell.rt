@@ -181,9 +181,11 @@ fn told_here<F: FabricName, X: Outcome>(
     ensures err { OnErr result ((state.new.node ≡ state.old.node) × (seat.new.me ≡ seat.old.me)) }
 {
     let node = state.number();
-    let event = state.act_told(serial, act)?;
-    touch::<F, X>(seat, fabric, node);
-    Ok(event)
+    let told = state.act_told(serial, act);
+    if told.is_ok() {
+        touch::<F, X>(seat, fabric, node);
+    }
+    told
 }
 
 impl<F: FabricName> NodeCell<F> {

@@ -4,13 +4,14 @@ ghost use Rattle.std.specs.Prelude.{is_some};
 ghost use Rattle.atomic_table.specs.Table.{rest};
 ghost use Rattle.ipcz_node.specs.Acts.{has_mail_for, post_of};
 ghost use Rattle.ipcz_node.specs.Events.{hand_event};
-ghost use Rattle.ipcz_node.specs.Hands.{message_lacks_serials};
+ghost use Rattle.ipcz_node.specs.Hands.{is_unfit, message_lacks_serials};
 ghost use Rattle.ipcz_rule.specs.Rule.{has_number};
 ghost use Rattle.ipcz_rule.specs.Steps.{post_part, old_word};
 ghost use Rattle.ipcz_base.specs.declared.message.Message.{Message as MessageData};
 ghost use Rattle.ipcz_cell.specs.CellStates.{part_in, change_part};
 ghost use Rattle.ipcz_cell.specs.Parts.{handed_part};
 ghost use Rattle.ipcz_cell.specs.Cells.{AreSound};
+ghost use Rattle.ipcz_cell.specs.TableNames.{IsLaidOut};
 ghost use Rattle.ipcz_cell.specs.Mails.{slot_of, mail_word, old_named, HasSeen, IsKnown, Probes, Looks, LoadsSource, Handles};
 ghost use Rattle.ipcz_cell.specs.Outcomes.{IsPicked, probed, posted, looked, sourced, handed, turned_by};
 
@@ -19,7 +20,7 @@ use crate::fabric::{Fabric, FabricName};
 use crate::plays::{Outcome, exchange_step, load_step, store_step};
 use atomic_table::Seat;
 use ipcz_base::{Message, Refusal};
-use ipcz_node::{Act, Happened, NodeState};
+use ipcz_node::{Act, Handed, Happened, NodeState};
 use ipcz_router::act::Answer;
 use ipcz_rule::View;
 use ipcz_word::source;
@@ -44,6 +45,20 @@ pub(crate) fn word_of<F: FabricName>(fabric: &Fabric<F>, slot: usize) -> usize
     ensures inside { result < F.table.id.words }
 {
     fabric.words as usize + 1 + fabric.nodes as usize + slot
+}
+
+// The word of the mailbox from one node to another, in a table of so many link words and nodes.
+pub(crate) fn mail_word<F: FabricName>(words: u32, nodes: u8, from: u8, to: u8) -> usize
+    requires laid_out { IsLaidOut F.table }
+    requires size { words ≡ F.table.size }
+    requires count { nodes ≡ F.table.count }
+    requires from { from < F.table.count }
+    requires to { to < F.table.count }
+    ensures word { result ≡ mail_word F.table from to }
+    ensures inside { result < F.table.id.words }
+{
+    let slot = from as usize * nodes as usize + to as usize;
+    words as usize + 1 + nodes as usize + slot
 }
 
 // Brings so many slots behind the others. It does nothing.
@@ -200,14 +215,22 @@ fn hand_here<F: FabricName, X: Outcome>(
 }
 
 impl<F: FabricName> NodeCell<F> {
+    // Loads a word of the table.
+    pub(crate) fn load_at(&mut self, fabric: &Fabric<F>, word: usize) -> u64
+        requires { word < F.table.id.words }
+        ensures { HasSeen word result self.old self.new }
+    {
+        load_step::<F, Brand>(&mut self.seat, fabric, word)
+    }
+
     // Loads the word of the mailbox from one node to another.
     pub(crate) fn load_mail(&mut self, fabric: &Fabric<F>, from: u8, to: u8) -> u64
         requires from { from < F.table.count }
         requires to { to < F.table.count }
         ensures { HasSeen (mail_word F.table from to) result self.old self.new }
     {
-        let word = word_of(fabric, slot_of(fabric, from, to));
-        load_step::<F, Brand>(&mut self.seat, fabric, word)
+        let word = mail_word::<F>(fabric.words, fabric.nodes, from, to);
+        self.load_at(fabric, word)
     }
 
     /// Takes the empty mailbox to a node, or has it already. It answers false only where the mailbox was found at another value than 0.
@@ -284,8 +307,44 @@ impl<F: FabricName> NodeCell<F> {
         source(found)
     }
 
-    // Handles the message in hand, for which the source is known.
-    fn handle(
+    // Handles the message in hand where it stands, where it is an item without ends and moves that has its place here, and tells whether
+    // it was one. For such an item there is no source.
+    fn handle_alone(
+        &mut self,
+        fabric: &Fabric<F>,
+        from: u8,
+        source: Option<u8>,
+    ) -> Result<bool, Refusal>
+        requires hand { self.old.part.state.hand ≡ Some from }
+        requires known { (x : MessageData) → self.old.part.message ≡ Some x → IsKnown F.table.size from x source }
+        ensures taken { IfOk result (λ taken. taken ≡ true → self.new.part ≡ handed_part from source self.old.part) }
+        ensures fit { IfOk result
+            (λ taken. taken ≡ true → (x : MessageData) × (self.old.part.message ≡ Some x) × (is_unfit self.old.part.state from x source ≡ false)) }
+        ensures left { IfOk result (λ taken. taken ≡ false → self.new.part ≡ self.old.part) }
+        ensures why { IfErr result (λ e. (x : MessageData) × (self.old.part.message ≡ Some x) ×
+            (e ≡ Refusal.OutOfMemory) × (message_lacks_serials self.old.part.state from x source ≡ false)) }
+        ensures err { OnErr result (self.new.part ≡ self.old.part) }
+        ensures seen { self.new.seen ≡ self.old.seen }
+    {
+        let node = self.state.number();
+        let Some(message) = &mut self.message else {
+            return Ok(false);
+        };
+        match self.state.deliver_at_once(from, message) {
+            Ok(true) => {
+                self.message = None;
+                turn_over(&mut self.seat, self.probed.len());
+                hand_here::<F, Brand>(node, &mut self.seat, fabric, from, source);
+                Ok(true)
+            }
+            Ok(false) => Ok(false),
+            Err(why) => Err(why),
+        }
+    }
+
+    // Handles the message in hand, whatever it is, for which the source is known.
+    #[inline(never)]
+    fn handle_any(
         &mut self,
         fabric: &Fabric<F>,
         from: u8,
@@ -316,6 +375,37 @@ impl<F: FabricName> NodeCell<F> {
                 Err(why)
             }
         }
+    }
+
+    // Handles the message in hand, for which the source is known.
+    #[tactic(auto, unfolding(ipcz_node::specs::Events::hand_event, ipcz_node::specs::Events::kind_of, ipcz_node::specs::Hands::link_asked))]
+    fn handle(
+        &mut self,
+        fabric: &Fabric<F>,
+        from: u8,
+        source: Option<u8>,
+    ) -> Result<Happened, Refusal>
+        requires hand { self.old.part.state.hand ≡ Some from }
+        requires known { (x : MessageData) → self.old.part.message ≡ Some x → IsKnown F.table.size from x source }
+        ensures ok { OnOk result (self.new.part ≡ handed_part from source self.old.part) }
+        ensures event { IfOk result
+            (λ h. (x : MessageData) × (self.old.part.message ≡ Some x) × (h ≡ hand_event self.old.part.state from x source)) }
+        ensures why { IfErr result (λ e. (x : MessageData) × (self.old.part.message ≡ Some x) ×
+            (e ≡ (if message_lacks_serials self.old.part.state from x source then Refusal.NumbersEnd else Refusal.OutOfMemory))) }
+        ensures err { OnErr result (self.new.part ≡ self.old.part) }
+        ensures seen { self.new.seen ≡ self.old.seen }
+    {
+        if let Some(Message::Item { link, n, .. }) = &self.message {
+            let event = Happened::Hand {
+                kind: Handed::Item(*n),
+                link: *link,
+                unfit: false,
+            };
+            if self.handle_alone(fabric, from, source)? {
+                return Ok(event);
+            }
+        }
+        self.handle_any(fabric, from, source)
     }
 
     /// Handles the message in hand. An AcceptBypass is taken only where the word of the old link names its sender as the source: one load

@@ -3,14 +3,14 @@ ghost use Rattle.std.specs.Prelude.{◌≡◌, ◌<◌, ℕ, true, not, None, So
 ghost use Rattle.ipcz_base.specs.declared.side.Side.{Side as SideValue};
 ghost use Rattle.ipcz_node.specs.RoomyNodes.{IsPossibleAct};
 ghost use Rattle.ipcz_cell.specs.Turns.{Chooses, FindsFull, CanPost, FindsEmpty};
-ghost use Rattle.ipcz_cell.specs.TurnEnds.{try_event, IsInside, Acts, Turns};
+ghost use Rattle.ipcz_cell.specs.TurnEnds.{try_event, Acts, Turns};
 ghost use Rattle.ipcz_node.specs.Acts.{are_empty, close_turn, has_mail_for, router_turn, stand_in};
 ghost use Rattle.ipcz_node.specs.Node.{flagged_router, word_side};
-ghost use Rattle.ipcz_rule.specs.Steps.{is_touch};
 ghost use Rattle.ipcz_cell.specs.Parts.{is_touch_act};
 
 use crate::cell::NodeCell;
 use crate::fabric::{Fabric, FabricName};
+use crate::mail::mail_word;
 use crate::words::LockTry;
 use ipcz_base::{LinkId, Refusal};
 use ipcz_node::{Act, Happened};
@@ -18,13 +18,16 @@ use ipcz_router::act::RouterAct;
 use ipcz_word::LockPlan;
 
 impl<F: FabricName> NodeCell<F> {
-    // The lowest node whose mailbox to this one is found full. The mailboxes are loaded in order, up to that one.
+    // The lowest node whose mailbox to this one is found full. The mailboxes are loaded in order, up to that one. The table's numbers are
+    // read once, not again after each load.
     fn first_full(&mut self, fabric: &Fabric<F>) -> Option<u8>
         ensures { FindsFull F.table self.old result self.new }
     {
         let node = self.node();
-        for from in 0..fabric.nodes {
-            if self.load_mail(fabric, from, node) == 1 {
+        let (words, nodes) = (fabric.words, fabric.nodes);
+        for from in 0..nodes {
+            let word = mail_word::<F>(words, nodes, from, node);
+            if self.load_at(fabric, word) == 1 {
                 return Some(from);
             }
         }
@@ -164,21 +167,6 @@ impl<F: FabricName> NodeCell<F> {
         Ok(self.touch_act(fabric, act))
     }
 
-    // An act of a router that touches no word.
-    fn plain_turn(
-        &mut self,
-        fabric: &Fabric<F>,
-        serial: u64,
-        act: RouterAct,
-    ) -> Result<Happened, Refusal>
-        requires touch { is_touch act ≡ true }
-        requires alone { Act.Router serial act ≡ stand_in (Act.Router serial act) }
-        requires possible { IsPossibleAct self.old.part.state (Act.Router serial act) }
-        ensures { Acts F.table (Act.Router serial act) self.old result self.new }
-    {
-        self.act_told(fabric, serial, act)
-    }
-
     // A router's side becomes stable.
     fn mark_turn(&mut self, fabric: &Fabric<F>, serial: u64) -> Happened
         requires { IsPossibleAct self.old.part.state (Act.Router serial RouterAct.Mark) }
@@ -270,23 +258,7 @@ impl<F: FabricName> NodeCell<F> {
             | RouterAct::FinishOut
             | RouterAct::FinishIn
             | RouterAct::Leave
-            | RouterAct::Rest => self.plain_turn(fabric, serial, act),
-        }
-    }
-
-    // An act, by its kind.
-    fn take(&mut self, fabric: &Fabric<F>, act: Act) -> Result<Happened, Refusal>
-        requires possible { IsPossibleAct self.old.part.state act }
-        requires inside { IsInside F.table.count act }
-        ensures { Acts F.table act self.old result self.new }
-    {
-        match act {
-            Act::Hand(from) => self.mail_handle(fabric, from),
-            Act::Look(from) => self.look_turn(fabric, from),
-            Act::Post(to) => self.post_turn(fabric, to),
-            Act::Close(_) => self.touch_turn(fabric, act),
-            Act::Router(serial, act) => self.router_turn(fabric, serial, act),
-            Act::Idle => Ok(Happened::Idle),
+            | RouterAct::Rest => self.act_told(fabric, serial, act),
         }
     }
 
@@ -300,6 +272,13 @@ impl<F: FabricName> NodeCell<F> {
         ensures { Turns F.table self.old result self.new }
     {
         let act = self.act(fabric);
-        self.take(fabric, act)
+        match act {
+            Act::Hand(from) => self.mail_handle(fabric, from),
+            Act::Look(from) => self.look_turn(fabric, from),
+            Act::Post(to) => self.post_turn(fabric, to),
+            Act::Close(_) => self.touch_turn(fabric, act),
+            Act::Router(serial, act) => self.router_turn(fabric, serial, act),
+            Act::Idle => Ok(Happened::Idle),
+        }
     }
 }

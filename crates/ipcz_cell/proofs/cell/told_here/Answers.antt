@@ -1,3 +1,4 @@
+use Rattle.std.specs.Prelude.{◌≡◌, true, Result, Ok, Err, OnOk, is_ok}
 use Rattle.std.proofs.Common.{ap, sym, subst, ◌∙◌, arith}
 use Rattle.ipcz_node.specs.declared.act.Act.TheVariants.{Router}
 use Rattle.ipcz_node.specs.Node.{Node}
@@ -10,7 +11,13 @@ use Rattle.ipcz_cell.proofs.cell.told_here.Goals as goal
 pub touch-requires-clause-node : goal.touch-requires-clause-node
 touch-requires-clause-node g c = let number = number_inside _ _ _ _ c.requires.seated in let e = c.number-node.ensures in omega (arith, number, e)
 
+-- what holds of an answer that is Ok
+holds_of_ok : {A B : Type 0} {P : Type 0} (r : Result A B) → is_ok r ≡ true → OnOk r P → P
+holds_of_ok (Ok a) e h = h
+holds_of_ok (Err b) e h = absurd cc
+
 pub touch-requires-clause-may : goal.touch-requires-clause-may
 touch-requires-clause-may g c =
     let was = c.requires.seated in
-    may_by _ _ _ _ _ _ (λ n. n) _ _ c.requires.picked ((acts_touch _ _ _ _ _ _ _ (Router c.args.serial c.args.act) was.whole c.requires.touch (subst (λ (z : Node). IsPossibleAct z (Router c.args.serial c.args.act)) (sym was.state) c.requires.possible) (ap (λ (z : Node). act_lacks_serials z (Router c.args.serial c.args.act)) was.state ∙ c.in_ok-event.ensures.allowed)))
+    let allowed = holds_of_ok c.act_told-told.result (sym c.is_ok.ensures.value ∙ c.if-is_ok.true) c.act_told-told.ensures.allowed in
+    may_by _ _ _ _ _ _ (λ n. n) _ _ c.requires.picked ((acts_touch _ _ _ _ _ _ _ (Router c.args.serial c.args.act) was.whole c.requires.touch (subst (λ (z : Node). IsPossibleAct z (Router c.args.serial c.args.act)) (sym was.state) c.requires.possible) (ap (λ (z : Node). act_lacks_serials z (Router c.args.serial c.args.act)) was.state ∙ allowed)))

@@ -1,5 +1,9 @@
+use Rattle.std.proofs.Common.{ℕ, subst}
+use Rattle.ipcz_cell.specs.Mails.{HasSeen}
 use Rattle.ipcz_cell.proofs.FirstActs.{full_more}
 use Rattle.ipcz_cell.proofs.cell.NodeCell.first_full.Goals as goal
 
 pub loop-from-preserved : goal.loop-from-preserved
-loop-from-preserved g c = full_more g.F.FabricName.table c.args.self.now c.loop-from.self c.load_mail.new.self c.loop-from.from c.load_mail.result c.node-node.result c.node-node.ensures.node c.loop-from.invariant c.load_mail.ensures c.if-load_mail-eq1.false
+loop-from-preserved g c =
+    full_more g.F.FabricName.table c.args.self.now c.loop-from.self c.load_at.new.self c.loop-from.from c.load_at.result c.node-node.result c.node-node.ensures.node c.loop-from.invariant
+    (subst (λ (i : ℕ). HasSeen i c.load_at.result c.loop-from.self c.load_at.new.self) c.mail_word-word.ensures.word c.load_at.ensures) c.if-load_at-eq1.false

@@ -1,5 +1,13 @@
-use Rattle.ipcz_cell.proofs.TurnActs.{plain_acts}
+use Rattle.ipcz_node.specs.declared.act.Act.TheVariants.{Router}
+use Rattle.ipcz_cell.proofs.TurnActs.{plain_acts, told_acts}
 use Rattle.ipcz_cell.proofs.cell.NodeCell.router_turn.Goals as goal
 
-pub plain_turn-requires : goal.plain_turn-requires
-plain_turn-requires g c = let plain = plain_acts c.args.act c.in-SendOut.is in record { touch = plain.0; alone = plain.1 c.args.serial; possible = c.requires }
+pub act_told-requires : goal.act_told-requires
+act_told-requires g c = let plain = plain_acts c.args.act c.in-SendOut.is in record { touch = plain.0; possible = c.requires }
+
+pub returns-in-SendOut : goal.returns-in-SendOut
+returns-in-SendOut g c =
+    let told = c.act_told.ensures in
+    let plain = plain_acts c.args.act c.in-SendOut.is in
+    told_acts g.F.FabricName.table (Router c.args.serial c.args.act) c.args.self.now c.act_told.new.self c.act_told.result plain.0 (plain.1 c.args.serial)
+    told.event told.ok told.why told.grows told.err told.seen

@@ -1,5 +1,5 @@
 use Rattle.ipcz_cell.specs.Outcomes.{loaded}
-use Rattle.ipcz_cell.proofs.cell.NodeCell.load_mail.Given as goal
+use Rattle.ipcz_cell.proofs.cell.NodeCell.load_at.Given as goal
 
 abbrev pub ghosts-load_step : goal.ghosts-load_step
 ghosts-load_step g a = record { tells = loaded a.word }

@@ -1,0 +1,18 @@
+use Rattle.std.proofs.Common.{refl}
+use Rattle.ipcz_rule.proofs.WordKinds.{loads}
+use Rattle.ipcz_cell.specs.CellStates.{part_in}
+use Rattle.ipcz_cell.proofs.Mailing.{seen_cell, load_tells}
+use Rattle.ipcz_cell.proofs.cell.NodeCell.load_at.Goals as goal
+
+pub load_step-requires-clause-may : goal.load_step-requires-clause-may
+load_step-requires-clause-may g c =
+    let t = g.F.FabricName.table in
+    loads t.count t.size t.id.slots c.self.inside.seat.id c.args.word c.self.inside.seat.me (part_in c.self.inside.seat.me.0) c.self.invariant.seated.whole
+
+pub invariant_of-self : goal.invariant_of-self
+invariant_of-self g c =
+    let done = c.load_step.ensures in
+    seen_cell g.F.FabricName.table _ _ _ _ _ c.self.invariant _ c.load_step.new.seat.me done.table done.sound c.args.word c.load_step.result done.done
+
+pub returns : goal.returns
+returns g c = load_tells c.args.word c.args.word c.load_step.result c.self.inside.seat.me c.load_step.new.seat.me c.self.inside.state.room c.self.inside.state.room _ c.self.view_is refl c.load_step.ensures.done
