@@ -4,6 +4,7 @@
 use super::alike::are_alike;
 use super::letters::Letter;
 use super::{Step, Trial};
+use ipcz_base::Message;
 use std::alloc::Global;
 
 /// Steps of a node of two whose serials are counted from the first one on.
@@ -32,14 +33,20 @@ impl Aside {
     }
 }
 
+// Whether a list has a stray alone, or nothing where there is to be none.
+fn is_alone(stray: Option<Letter>, strays: &[Message]) -> bool {
+    match stray {
+        None => strays.is_empty(),
+        Some(letter) => match strays.first() {
+            Some(message) => strays.len() == 1 && letter.is(message),
+            None => false,
+        },
+    }
+}
+
 // Whether the one node has no stray, and the other at most the one that it is to have.
 fn have_strays(plain: &Trial, tried: &Trial, stray: Option<Letter>) -> bool {
-    let right = match (tried.node.strays(), stray) {
-        ([], None) => true,
-        ([message], Some(letter)) => letter.is(message),
-        _ => false,
-    };
-    right && plain.node.strays().is_empty()
+    plain.node.strays().is_empty() && is_alone(stray, tried.node.strays())
 }
 
 // Whether the step gives what it says on both nodes, which are alike then.
