@@ -44,50 +44,66 @@ fn is_alone(stray: Option<Letter>, strays: &[Message]) -> bool {
     }
 }
 
-// Whether the one node has no stray, and the other at most the one that it is to have.
-fn have_strays(plain: &Trial, tried: &Trial, stray: Option<Letter>) -> bool {
-    plain.node.strays().is_empty() && is_alone(stray, tried.node.strays())
+// A node that goes without a step aside, and one that goes with it.
+#[derive(Drop)]
+struct Twins {
+    plain: Trial,
+    tried: Trial,
 }
 
-// Whether the step gives what it says on both nodes, which are alike then.
-fn goes_on(plain: &mut Trial, tried: &mut Trial, step: &Step, stray: Option<Letter>) -> bool {
-    plain.goes(step)
-        && tried.goes(step)
-        && are_alike(&plain.node, &tried.node)
-        && have_strays(plain, tried, stray)
-}
+impl Twins {
+    fn new(alloc: Global, run: &Run) -> Option<Twins> {
+        Some(Twins {
+            plain: Trial::new_from(alloc, run.node, 2, run.first)?,
+            tried: Trial::new_from(alloc, run.node, 2, run.first)?,
+        })
+    }
 
-// Whether the step aside gives what it says, and changes nothing.
-fn goes_aside(plain: &Trial, tried: &mut Trial, aside: &Aside) -> bool {
-    tried.goes(&aside.step)
-        && are_alike(&plain.node, &tried.node)
-        && have_strays(plain, tried, aside.stray())
-}
+    // Whether the nodes are alike, where the one has no stray, and the other at most the one that it is to have.
+    fn are_alike(&self, stray: Option<Letter>) -> bool {
+        are_alike(&self.plain.node, &self.tried.node)
+            && self.plain.node.strays().is_empty()
+            && is_alone(stray, self.tried.node.strays())
+    }
 
-// The place of the first step of a run that doesn't go as without the step aside.
-fn first_wrong(alloc: Global, run: &Run, aside: &Aside) -> Option<usize> {
-    let Some(mut plain) = Trial::new_from(alloc, run.node, 2, run.first) else {
-        return Some(0);
-    };
-    let Some(mut tried) = Trial::new_from(alloc, run.node, 2, run.first) else {
-        return Some(0);
-    };
-    let mut stray = None;
-    for (i, step) in run.steps.iter().enumerate() {
-        if i == aside.after {
-            stray = aside.stray();
-            if !goes_aside(&plain, &mut tried, aside) {
+    // Whether the step aside gives what it says, and changes nothing.
+    fn goes_aside(&mut self, aside: &Aside) -> bool {
+        self.tried.goes(&aside.step) && self.are_alike(aside.stray())
+    }
+
+    // Whether a step gives what it says on both nodes, which are alike then.
+    fn goes_on(&mut self, step: &Step, stray: Option<Letter>) -> bool {
+        self.plain.goes(step) && self.tried.goes(step) && self.are_alike(stray)
+    }
+
+    // Whether the step at a place goes as without the step aside, which is made right before it at its own place.
+    fn goes(&mut self, at: usize, step: &Step, aside: &Aside) -> bool {
+        if at < aside.after {
+            return self.goes_on(step, None);
+        }
+        (at > aside.after || self.goes_aside(aside)) && self.goes_on(step, aside.stray())
+    }
+
+    // The place of the first step of a run that doesn't go as without the step aside.
+    fn first_wrong(&mut self, run: &Run, aside: &Aside) -> Option<usize> {
+        for (i, step) in run.steps.iter().enumerate() {
+            if !self.goes(i, step, aside) {
                 return Some(i);
             }
         }
-        if !goes_on(&mut plain, &mut tried, step, stray) {
-            return Some(i);
+        if aside.after < run.steps.len() {
+            None
+        } else {
+            Some(run.steps.len())
         }
     }
-    if aside.after < run.steps.len() {
-        None
-    } else {
-        Some(run.steps.len())
+}
+
+// The same, on new nodes.
+fn first_wrong(alloc: Global, run: &Run, aside: &Aside) -> Option<usize> {
+    match Twins::new(alloc, run) {
+        Some(mut twins) => twins.first_wrong(run, aside),
+        None => Some(0),
     }
 }
 
