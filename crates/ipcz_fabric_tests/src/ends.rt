@@ -2,6 +2,7 @@
 ghost use Rattle.std.specs.Prelude.{◌≡◌};
 
 use crate::opens::opens_and_claims;
+use crate::two_nodes::{TwoNodes, cells_of};
 use ipcz_base::{End, Refusal, Sequence, Side};
 use ipcz_fabric::{Blank, Fabric, FabricName, NodeCell, finish, start};
 use ipcz_node::Happened;
@@ -45,16 +46,11 @@ const A0: End = End {
 };
 
 // The world that two cells show.
-fn ended<F: FabricName>(
-    fabric: Fabric<F>,
-    left: NodeCell<F>,
-    right: NodeCell<F>,
-    alloc: Global,
-) -> Option<World> {
+fn ended<F: FabricName>(two: TwoNodes<F>, alloc: Global) -> Option<World> {
     let mut cells = Vec::new(alloc);
-    cells.push(left).ok()?;
-    cells.push(right).ok()?;
-    match finish(fabric, cells) {
+    cells.push(two.left).ok()?;
+    cells.push(two.right).ok()?;
+    match finish(two.fabric, cells) {
         Ok(world) => Some(world),
         Err(_) => None,
     }
@@ -121,13 +117,9 @@ fn opens_by_claim(world: &mut World) -> bool {
 fn claim_lives_on<F: FabricName>(alloc: Global, blank: Blank) -> Option<bool>
     requires { blank ≡ F.table }
 {
-    let Ok((fabric, mut cells)) = blank.name::<F>() else {
-        return None;
-    };
-    let right = cells.pop()?;
-    let mut left = cells.pop()?;
-    let claimed = opens_and_claims(&fabric, &mut left, 1, 2);
-    let mut world = ended(fabric, left, right, alloc)?;
+    let mut two = cells_of::<F>(blank)?;
+    let claimed = opens_and_claims(&two.fabric, &mut two.left, 1, 2);
+    let mut world = ended(two, alloc)?;
     Some(claimed && opens_by_claim(&mut world))
 }
 
@@ -136,33 +128,30 @@ fn probe_leaves_no_message<F: FabricName>(alloc: Global, blank: Blank) -> Option
     requires named { blank ≡ F.table }
     requires nodes { blank.count ≡ 2 }
 {
-    let Ok((fabric, mut cells)) = blank.name::<F>() else {
-        return None;
-    };
-    let right = cells.pop()?;
-    let mut left = cells.pop()?;
-    let sent = puts_and_acts(&fabric, &mut left, 1, alloc);
-    let taken = left.mail_probe(&fabric, 1);
-    let mut world = ended(fabric, left, right, alloc)?;
+    let mut two = cells_of::<F>(blank)?;
+    let sent = puts_and_acts(&two.fabric, &mut two.left, 1, alloc);
+    let taken = two.left.mail_probe(&two.fabric, 1);
+    let mut world = ended(two, alloc)?;
     let nothing = is_idle(&mut world, 1);
     Some(sent && taken && nothing && posts(&mut world, 0, 1))
+}
+
+// Whether a cell's next act is a look at the mailbox of the first node.
+fn looks<F: FabricName>(fabric: &Fabric<F>, cell: &mut NodeCell<F>) -> bool {
+    match cell.turn(fabric) {
+        Ok(Happened::Look(from)) => from == 0,
+        _ => false,
+    }
 }
 
 // Whether a message that a cell has in hand is in hand in the world, whose next act is to handle it.
 fn hand_is_handled<F: FabricName>(alloc: Global, blank: Blank) -> Option<bool>
     requires { blank ≡ F.table }
 {
-    let Ok((fabric, mut cells)) = blank.name::<F>() else {
-        return None;
-    };
-    let mut right = cells.pop()?;
-    let mut left = cells.pop()?;
-    let posted = puts_and_acts(&fabric, &mut left, 2, alloc);
-    let looked = match right.turn(&fabric) {
-        Ok(Happened::Look(0)) => true,
-        _ => false,
-    };
-    let mut world = ended(fabric, left, right, alloc)?;
+    let mut two = cells_of::<F>(blank)?;
+    let posted = puts_and_acts(&two.fabric, &mut two.left, 2, alloc);
+    let looked = looks(&two.fabric, &mut two.right);
+    let mut world = ended(two, alloc)?;
     Some(posted && looked && hands(&mut world, 1))
 }
 

@@ -15,3 +15,5 @@ mod opens;
 mod owned;
 #[cfg(test)]
 mod race;
+#[cfg(test)]
+mod two_nodes;

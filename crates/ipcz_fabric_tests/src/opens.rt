@@ -1,24 +1,21 @@
 //! A word that is claimed for an open by itself, and the open that uses it.
 ghost use Rattle.std.specs.Prelude.{◌≡◌};
 
+use crate::two_nodes::{TwoNodes, cells_of};
 use ipcz_base::{End, Refusal, Side};
 use ipcz_fabric::{Blank, Fabric, FabricName, NodeCell, start};
 use std::marker::Brand;
 use std::test::Fail;
 
 // Whether these are the ends of a pair.
-fn is_pair(ends: (End, End), pair: u32) -> bool {
-    let a = End {
-        pair,
-        side: Side::A,
-    };
-    ends.0 == a && ends.1 == a.opposite()
+fn is_pair(a: End, b: End, pair: u32) -> bool {
+    a.pair == pair && a.side == Side::A && b == a.opposite()
 }
 
 // Whether an open gives a pair.
 fn opens<F: FabricName>(fabric: &Fabric<F>, cell: &mut NodeCell<F>, pair: u32) -> bool {
     match cell.open_pair(fabric) {
-        Ok(ends) => is_pair(ends, pair),
+        Ok((a, b)) => is_pair(a, b, pair),
         Err(_) => false,
     }
 }
@@ -30,11 +27,11 @@ pub(crate) fn opens_and_claims<F: FabricName>(
     pair: u32,
     word: u32,
 ) -> bool {
-    let Ok(ends) = cell.open_pair(fabric) else {
+    let Ok((a, b)) = cell.open_pair(fabric) else {
         return false;
     };
     let claimed = cell.word_claim(fabric, None);
-    is_pair(ends, pair) && claimed == Ok(word)
+    is_pair(a, b, pair) && claimed == Ok(word)
 }
 
 // Whether the other node finds a word claimed, and opens the next, the last.
@@ -55,18 +52,21 @@ fn under_way_is_opened<F: FabricName>(fabric: &Fabric<F>, cell: &mut NodeCell<F>
         && cell.claimed(fabric) == 4
 }
 
-// Whether of four words, of which the first pair has one, a claim for an open by itself leaves its word to that node's next open.
+// Whether a claim by one node for an open by itself leaves its word to that node's next open, though the other node opens meanwhile.
+fn keeps_claim<F: FabricName>(cells: &mut TwoNodes<F>) -> bool {
+    opens_and_claims(&cells.fabric, &mut cells.left, 1, 2)
+        && next_is_the_last(&cells.fabric, &mut cells.right)
+        && under_way_is_opened(&cells.fabric, &mut cells.left)
+}
+
+// The same of four words, of which the first pair has one.
 fn claim_is_kept<F: FabricName>(blank: Blank) -> Option<bool>
     requires { blank ≡ F.table }
 {
-    let Ok((fabric, mut cells)) = blank.name::<F>() else {
-        return None;
-    };
-    let mut right = cells.pop()?;
-    let mut left = cells.pop()?;
-    let claims = opens_and_claims(&fabric, &mut left, 1, 2);
-    let last = next_is_the_last(&fabric, &mut right);
-    Some(claims && last && under_way_is_opened(&fabric, &mut left))
+    match cells_of::<F>(blank) {
+        Some(mut cells) => Some(keeps_claim(&mut cells)),
+        None => None,
+    }
 }
 
 #[test]

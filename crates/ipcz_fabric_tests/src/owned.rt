@@ -1,6 +1,7 @@
 //! Two threads that each own the cell of a node: no lock stands between them.
 ghost use Rattle.std.specs.Prelude.{◌≡◌};
 
+use crate::two_nodes::{TwoNodes, cells_of};
 use ipcz_base::{End, Sequence, Side};
 use ipcz_fabric::{Blank, Fabric, FabricName, NodeCell, start};
 use std::alloc::Global;
@@ -97,6 +98,22 @@ fn gets_all<F: FabricName>(
 }
 
 // Whether what one thread puts comes to the other, each with a cell of its own.
+fn talks<F: FabricName + Send + Sync, R: Threads>(
+    rt: &R,
+    alloc: Global,
+    cells: &mut TwoNodes<F>,
+) -> bool {
+    let done = AtomicU64::new(0);
+    let (fabric, left, right) = (&cells.fabric, &mut cells.left, &mut cells.right);
+    let (put, got) = join(
+        rt,
+        || puts_all(fabric, left, alloc, &done),
+        || gets_all(fabric, right, alloc, &done),
+    );
+    put && got
+}
+
+// The same, with the cells of a table of two nodes.
 fn talk<F: FabricName + Send + Sync, R: Threads>(
     rt: &R,
     alloc: Global,
@@ -104,18 +121,10 @@ fn talk<F: FabricName + Send + Sync, R: Threads>(
 ) -> Option<bool>
     requires { blank ≡ F.table }
 {
-    let Ok((fabric, mut cells)) = blank.name::<F>() else {
-        return None;
-    };
-    let mut right = cells.pop()?;
-    let mut left = cells.pop()?;
-    let done = AtomicU64::new(0);
-    let (put, got) = join(
-        rt,
-        || puts_all(&fabric, &mut left, alloc, &done),
-        || gets_all(&fabric, &mut right, alloc, &done),
-    );
-    Some(put && got)
+    match cells_of::<F>(blank) {
+        Some(mut cells) => Some(talks(rt, alloc, &mut cells)),
+        None => None,
+    }
 }
 
 #[test]
