@@ -85,6 +85,7 @@ RUNS = [
     ("ipcz_draw", ["1"], PUT, Full, 1, b""),
     ("ipcz_draw", [], Folder, bytes, 1, b""),
     ("ipcz_draw", [], PUT, Full, 1, b""),
+    ("ipcz_draw", [], PUT, Closed, 1, b""),
 ]
 
 

@@ -4,7 +4,7 @@ ghost use Rattle.std.specs.Prelude.{◌≡◌};
 use crate::loops::{answer, ask, get_all, pass, put_all};
 use crate::talkers::{Own, Shared, Talker};
 use ipcz_base::{End, Side};
-use ipcz_fabric::{Blank, Fabric, FabricName, Hub, NodeCell, start};
+use ipcz_fabric::{Blank, Fabric, FabricName, Hub, NodeCell, Portal, start};
 use std::alloc::Global;
 use std::marker::Brand;
 use std::sync::Wait;
@@ -91,8 +91,48 @@ fn timed<R: Threads + Clock, T: Talker + Send>(
     u64::try_from(spent.checked_div(rounds as u128)?).ok()
 }
 
+// The share of one round between two cells.
+fn timed_cells<F: FabricName + Send + Sync, R: Threads + Clock>(
+    rt: &R,
+    alloc: Global,
+    fabric: &Fabric<F>,
+    left: &mut NodeCell<F>,
+    right: &mut NodeCell<F>,
+    way: Way,
+    rounds: u64,
+) -> Option<u64> {
+    let mut left = Own {
+        fabric,
+        cell: left,
+        at: LEFT,
+        alloc,
+    };
+    let mut right = Own {
+        fabric,
+        cell: right,
+        at: RIGHT,
+        alloc,
+    };
+    timed(rt, &mut left, &mut right, way, rounds)
+}
+
+// The same of cells, where they are two.
+fn timed_two<F: FabricName + Send + Sync, R: Threads + Clock>(
+    rt: &R,
+    alloc: Global,
+    fabric: &Fabric<F>,
+    cells: &mut [NodeCell<F>],
+    way: Way,
+    rounds: u64,
+) -> Option<u64> {
+    match cells {
+        [left, right] => timed_cells(rt, alloc, fabric, left, right, way, rounds),
+        _ => None,
+    }
+}
+
 // Two cells of one table.
-fn by_cells<F: FabricName + Send + Sync, R: Threads + Wait + Clock + Sync>(
+fn by_cells<F: FabricName + Send + Sync, R: Threads + Clock>(
     rt: &R,
     alloc: Global,
     blank: Blank,
@@ -102,17 +142,31 @@ fn by_cells<F: FabricName + Send + Sync, R: Threads + Wait + Clock + Sync>(
     requires { blank ≡ F.table }
 {
     let (fabric, mut cells) = blank.name::<F>().ok()?;
-    let (right, left) = (cells.pop()?, cells.pop()?);
-    let mut left = Own {
-        fabric: &fabric,
-        cell: left,
-        at: LEFT,
+    timed_two(rt, alloc, &fabric, cells.as_mut_slice(), way, rounds)
+}
+
+// The share of one round between two portals of a hub.
+fn timed_portals<F: FabricName + Send + Sync, R: Threads + Wait + Clock + Sync>(
+    rt: &R,
+    alloc: Global,
+    hub: &Hub<F>,
+    portals: &[Portal<F>],
+    way: Way,
+    rounds: u64,
+) -> Option<u64> {
+    let [left, right] = portals else {
+        return None;
+    };
+    let mut left = Shared {
+        rt,
+        hub,
+        portal: left,
         alloc,
     };
-    let mut right = Own {
-        fabric: &fabric,
-        cell: right,
-        at: RIGHT,
+    let mut right = Shared {
+        rt,
+        hub,
+        portal: right,
         alloc,
     };
     timed(rt, &mut left, &mut right, way, rounds)
@@ -129,21 +183,8 @@ fn by_hub<F: FabricName + Send + Sync, R: Threads + Wait + Clock + Sync>(
     requires { blank ≡ F.table }
 {
     let (fabric, cells) = blank.name::<F>().ok()?;
-    let (hub, mut portals) = Hub::new(fabric, cells).ok()?;
-    let (right, left) = (portals.pop()?, portals.pop()?);
-    let mut left = Shared {
-        rt,
-        hub: &hub,
-        portal: left,
-        alloc,
-    };
-    let mut right = Shared {
-        rt,
-        hub: &hub,
-        portal: right,
-        alloc,
-    };
-    timed(rt, &mut left, &mut right, way, rounds)
+    let (hub, portals) = Hub::new(fabric, cells).ok()?;
+    timed_portals(rt, alloc, &hub, portals.as_slice(), way, rounds)
 }
 
 // What a parcel or a round trip takes between two nodes of a new table.

@@ -21,7 +21,7 @@ pub trait Talker {
 #[derive(Drop)]
 pub struct Own<'a, F: FabricName> {
     pub fabric: &'a Fabric<F>,
-    pub cell: NodeCell<F>,
+    pub cell: &'a mut NodeCell<F>,
     pub at: End,
     pub alloc: Global,
 }
@@ -52,7 +52,7 @@ impl<'a, F: FabricName> Talker for Own<'a, F> {
 pub struct Shared<'a, R, F: FabricName> {
     pub rt: &'a R,
     pub hub: &'a Hub<F>,
-    pub portal: Portal<F>,
+    pub portal: &'a Portal<F>,
     pub alloc: Global,
 }
 

@@ -59,6 +59,16 @@ fn list(alloc: Global, ends: &[End]) -> Result<Ends, AllocError> {
     Ok(Sequence::from_vec(list))
 }
 
+// Whether an open gives a pair.
+fn opens<F: FabricName>(
+    fabric: &Fabric<F>,
+    cell: &mut NodeCell<F>,
+    pair: u32,
+) -> Result<bool, Refusal> {
+    let (a, b) = cell.open_pair(fabric)?;
+    Ok(a.pair == pair && a.side == Side::A && b == a.opposite())
+}
+
 // Whether opens give the pairs from one number to another.
 fn opens_all<F: FabricName>(
     fabric: &Fabric<F>,
@@ -67,8 +77,7 @@ fn opens_all<F: FabricName>(
     last: u32,
 ) -> Result<bool, Refusal> {
     for pair in first..=last {
-        let (a, b) = cell.open_pair(fabric)?;
-        if a.pair != pair || a.side != Side::A || b != a.opposite() {
+        if !opens(fabric, cell, pair)? {
             return Ok(false);
         }
     }

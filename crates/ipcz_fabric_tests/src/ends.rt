@@ -1,8 +1,7 @@
 //! How a table ends: the way back from its cells to a world.
-ghost use Rattle.std.specs.Prelude.{◌≡◌};
+ghost use Rattle.std.specs.Prelude.{◌≡◌, ◌<◌};
 
 use crate::opens::opens_and_claims;
-use crate::two_nodes::{TwoNodes, cells_of};
 use ipcz_base::{End, Refusal, Sequence, Side};
 use ipcz_fabric::{Blank, Fabric, FabricName, NodeCell, finish, start};
 use ipcz_node::Happened;
@@ -12,31 +11,24 @@ use std::marker::Brand;
 use std::test::Fail;
 
 // Why the cells of two nodes in the other order give no world, where the cells that come back give one in their order.
-fn refused_first<F: FabricName>(alloc: Global, blank: Blank) -> Option<Refusal>
+fn refused_first<F: FabricName>(blank: Blank) -> Option<Refusal>
     requires { blank ≡ F.table }
 {
-    let Ok((fabric, mut cells)) = blank.name::<F>() else {
-        return None;
-    };
-    let mut turned = Vec::new(alloc);
-    turned.push(cells.pop()?).ok()?;
-    turned.push(cells.pop()?).ok()?;
-    let Err((why, fabric, mut back)) = finish(fabric, turned) else {
-        return None;
-    };
-    let mut ordered = Vec::new(alloc);
-    ordered.push(back.pop()?).ok()?;
-    ordered.push(back.pop()?).ok()?;
-    match finish(fabric, ordered) {
-        Ok(_) => Some(why),
-        Err(_) => None,
+    let (fabric, mut cells) = blank.name::<F>().ok()?;
+    cells.as_mut_slice().reverse();
+    match finish(fabric, cells) {
+        Ok(_) => None,
+        Err((why, fabric, mut back)) => {
+            back.as_mut_slice().reverse();
+            finish(fabric, back).is_ok().then_some(why)
+        }
     }
 }
 
 #[test]
 fn cells_in_another_order_are_handed_back(rt: HostRuntime) -> Result<(), Fail> {
     let blank = start(rt.alloc(), 2, 4)?;
-    assert!(rt; refused_first::<Brand>(rt.alloc(), blank) == Some(Refusal::Stranger));
+    assert!(rt; refused_first::<Brand>(blank) == Some(Refusal::Stranger));
     Ok(())
 }
 
@@ -45,12 +37,9 @@ const A0: End = End {
     side: Side::A,
 };
 
-// The world that two cells show.
-fn ended<F: FabricName>(two: TwoNodes<F>, alloc: Global) -> Option<World> {
-    let mut cells = Vec::new(alloc);
-    cells.push(two.left).ok()?;
-    cells.push(two.right).ok()?;
-    match finish(two.fabric, cells) {
+// The world that cells show.
+fn ended<F: FabricName>(fabric: Fabric<F>, cells: Vec<NodeCell<F>>) -> Option<World> {
+    match finish(fabric, cells) {
         Ok(world) => Some(world),
         Err(_) => None,
     }
@@ -113,14 +102,32 @@ fn opens_by_claim(world: &mut World) -> bool {
     }
 }
 
+// Whether the first cell opens the pair 1 and then claims the word 2 for an open by itself.
+fn first_claims<F: FabricName>(fabric: &Fabric<F>, cells: &mut [NodeCell<F>]) -> bool {
+    match cells {
+        [first, _] => opens_and_claims(fabric, first, 1, 2),
+        _ => false,
+    }
+}
+
 // Whether a word that is claimed for an open by itself is that of the open in the world that the cells show.
-fn claim_lives_on<F: FabricName>(alloc: Global, blank: Blank) -> Option<bool>
+fn claim_lives_on<F: FabricName>(blank: Blank) -> Option<bool>
     requires { blank ≡ F.table }
 {
-    let mut two = cells_of::<F>(blank)?;
-    let claimed = opens_and_claims(&two.fabric, &mut two.left, 1, 2);
-    let mut world = ended(two, alloc)?;
+    let (fabric, mut cells) = blank.name::<F>().ok()?;
+    let claimed = first_claims(&fabric, cells.as_mut_slice());
+    let mut world = ended(fabric, cells)?;
     Some(claimed && opens_by_claim(&mut world))
+}
+
+// Whether the first cell sends a parcel, and then takes the mailbox to the other node.
+fn first_probes<F: FabricName>(fabric: &Fabric<F>, cells: &mut [NodeCell<F>], alloc: Global) -> bool
+    requires { 1 < F.table.count }
+{
+    match cells {
+        [first, _] => puts_and_acts(fabric, first, 1, alloc) && first.mail_probe(fabric, 1),
+        _ => false,
+    }
 }
 
 // Whether a message whose mailbox its node has taken and not filled is in the outbox alone: the other node finds nothing until it is posted.
@@ -128,12 +135,10 @@ fn probe_leaves_no_message<F: FabricName>(alloc: Global, blank: Blank) -> Option
     requires named { blank ≡ F.table }
     requires nodes { blank.count ≡ 2 }
 {
-    let mut two = cells_of::<F>(blank)?;
-    let sent = puts_and_acts(&two.fabric, &mut two.left, 1, alloc);
-    let taken = two.left.mail_probe(&two.fabric, 1);
-    let mut world = ended(two, alloc)?;
-    let nothing = is_idle(&mut world, 1);
-    Some(sent && taken && nothing && posts(&mut world, 0, 1))
+    let (fabric, mut cells) = blank.name::<F>().ok()?;
+    let taken = first_probes(&fabric, cells.as_mut_slice(), alloc);
+    let mut world = ended(fabric, cells)?;
+    Some(taken && is_idle(&mut world, 1) && posts(&mut world, 0, 1))
 }
 
 // Whether a cell's next act is a look at the mailbox of the first node.
@@ -144,21 +149,32 @@ fn looks<F: FabricName>(fabric: &Fabric<F>, cell: &mut NodeCell<F>) -> bool {
     }
 }
 
+// Whether the first cell posts a parcel, and the second looks at its mailbox.
+fn second_looks<F: FabricName>(
+    fabric: &Fabric<F>,
+    cells: &mut [NodeCell<F>],
+    alloc: Global,
+) -> bool {
+    match cells {
+        [first, second] => puts_and_acts(fabric, first, 2, alloc) && looks(fabric, second),
+        _ => false,
+    }
+}
+
 // Whether a message that a cell has in hand is in hand in the world, whose next act is to handle it.
 fn hand_is_handled<F: FabricName>(alloc: Global, blank: Blank) -> Option<bool>
     requires { blank ≡ F.table }
 {
-    let mut two = cells_of::<F>(blank)?;
-    let posted = puts_and_acts(&two.fabric, &mut two.left, 2, alloc);
-    let looked = looks(&two.fabric, &mut two.right);
-    let mut world = ended(two, alloc)?;
-    Some(posted && looked && hands(&mut world, 1))
+    let (fabric, mut cells) = blank.name::<F>().ok()?;
+    let looked = second_looks(&fabric, cells.as_mut_slice(), alloc);
+    let mut world = ended(fabric, cells)?;
+    Some(looked && hands(&mut world, 1))
 }
 
 #[test]
 fn an_open_under_way_lives_on_in_the_world(rt: HostRuntime) -> Result<(), Fail> {
     let blank = start(rt.alloc(), 2, 4)?;
-    assert!(rt; claim_lives_on::<Brand>(rt.alloc(), blank) == Some(true));
+    assert!(rt; claim_lives_on::<Brand>(blank) == Some(true));
     Ok(())
 }
 

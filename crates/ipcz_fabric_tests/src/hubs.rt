@@ -418,6 +418,44 @@ fn all_call<F: FabricName + Send + Sync, R: Threads + Wait + Sync>(
     left && right
 }
 
+// Takes ten turns of each node.
+fn act<F: FabricName, R: Wait>(rt: &R, hub: &Hub<F>) {
+    for _turn in 0..10u64 {
+        let _ = hub.turn(rt, 0);
+        let _ = hub.turn(rt, 1);
+    }
+}
+
+// Sends a portal from one node to the other, and gets it there.
+fn moves<F: FabricName, R: Wait>(
+    rt: &R,
+    hub: &Hub<F>,
+    alloc: Global,
+    here: &Portal<F>,
+    there: &Portal<F>,
+    moved: Portal<F>,
+) -> Option<Portal<F>> {
+    if !sends(rt, hub, alloc, here, moved) {
+        return None;
+    }
+    act(rt, hub);
+    match there.get(rt, hub) {
+        Ok(mut got) => got.portals.pop(),
+        Err(_) => None,
+    }
+}
+
+// Opens a pair on node 0, as a list.
+fn pair<F: FabricName, R: Wait>(rt: &R, hub: &Hub<F>, alloc: Global) -> Option<Vec<Portal<F>>> {
+    let (a, b) = hub.open_pair(rt, 0).ok()?;
+    let mut pair = Vec::new(alloc);
+    if pair.push(a).is_ok() && pair.push(b).is_ok() {
+        Some(pair)
+    } else {
+        None
+    }
+}
+
 // Opens both pairs on node 0, and moves the second portal of the first pair to node 1.
 fn holds<F: FabricName, R: Wait>(
     rt: &R,
@@ -426,24 +464,9 @@ fn holds<F: FabricName, R: Wait>(
     here: Portal<F>,
     there: Portal<F>,
 ) -> Option<Held<F>> {
-    let Ok((a0, a1)) = hub.open_pair(rt, 0) else {
-        return None;
-    };
-    let Ok((b0, b1)) = hub.open_pair(rt, 0) else {
-        return None;
-    };
-    let mut b = Vec::new(alloc);
-    if b.push(b0).is_err() || b.push(b1).is_err() || !sends(rt, hub, alloc, &here, a1) {
-        return None;
-    }
-    for _turn in 0..10u64 {
-        let _ = hub.turn(rt, 0);
-        let _ = hub.turn(rt, 1);
-    }
-    let Ok(mut got) = there.get(rt, hub) else {
-        return None;
-    };
-    let a1 = got.portals.pop()?;
+    let (a0, moved) = hub.open_pair(rt, 0).ok()?;
+    let a1 = moves(rt, hub, alloc, &here, &there, moved)?;
+    let b = pair(rt, hub, alloc)?;
     Some(Held {
         here,
         there,

@@ -15,5 +15,3 @@ mod opens;
 mod owned;
 #[cfg(test)]
 mod race;
-#[cfg(test)]
-mod two_nodes;

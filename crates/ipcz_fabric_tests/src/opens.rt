@@ -1,7 +1,6 @@
 //! A word that is claimed for an open by itself, and the open that uses it.
 ghost use Rattle.std.specs.Prelude.{◌≡◌};
 
-use crate::two_nodes::{TwoNodes, cells_of};
 use ipcz_base::{End, Refusal, Side};
 use ipcz_fabric::{Blank, Fabric, FabricName, NodeCell, start};
 use std::marker::Brand;
@@ -53,19 +52,22 @@ fn under_way_is_opened<F: FabricName>(fabric: &Fabric<F>, cell: &mut NodeCell<F>
 }
 
 // Whether a claim by one node for an open by itself leaves its word to that node's next open, though the other node opens meanwhile.
-fn keeps_claim<F: FabricName>(cells: &mut TwoNodes<F>) -> bool {
-    opens_and_claims(&cells.fabric, &mut cells.left, 1, 2)
-        && next_is_the_last(&cells.fabric, &mut cells.right)
-        && under_way_is_opened(&cells.fabric, &mut cells.left)
+fn keeps_claim<F: FabricName>(fabric: &Fabric<F>, cells: &mut [NodeCell<F>]) -> bool {
+    let [left, right] = cells else {
+        return false;
+    };
+    opens_and_claims(fabric, left, 1, 2)
+        && next_is_the_last(fabric, right)
+        && under_way_is_opened(fabric, left)
 }
 
 // The same of four words, of which the first pair has one.
 fn claim_is_kept<F: FabricName>(blank: Blank) -> Option<bool>
     requires { blank ≡ F.table }
 {
-    match cells_of::<F>(blank) {
-        Some(mut cells) => Some(keeps_claim(&mut cells)),
-        None => None,
+    match blank.name::<F>() {
+        Ok((fabric, mut cells)) => Some(keeps_claim(&fabric, cells.as_mut_slice())),
+        Err(_) => None,
     }
 }
 

@@ -1,7 +1,6 @@
 //! Two threads that each own the cell of a node: no lock stands between them.
 ghost use Rattle.std.specs.Prelude.{◌≡◌};
 
-use crate::two_nodes::{TwoNodes, cells_of};
 use ipcz_base::{End, Sequence, Side};
 use ipcz_fabric::{Blank, Fabric, FabricName, NodeCell, start};
 use std::alloc::Global;
@@ -101,16 +100,30 @@ fn gets_all<F: FabricName>(
 fn talks<F: FabricName + Send + Sync, R: Threads>(
     rt: &R,
     alloc: Global,
-    cells: &mut TwoNodes<F>,
+    fabric: &Fabric<F>,
+    left: &mut NodeCell<F>,
+    right: &mut NodeCell<F>,
 ) -> bool {
     let done = AtomicU64::new(0);
-    let (fabric, left, right) = (&cells.fabric, &mut cells.left, &mut cells.right);
     let (put, got) = join(
         rt,
         || puts_all(fabric, left, alloc, &done),
         || gets_all(fabric, right, alloc, &done),
     );
     put && got
+}
+
+// The same of cells, where they are two.
+fn both_talk<F: FabricName + Send + Sync, R: Threads>(
+    rt: &R,
+    alloc: Global,
+    fabric: &Fabric<F>,
+    cells: &mut [NodeCell<F>],
+) -> bool {
+    match cells {
+        [left, right] => talks(rt, alloc, fabric, left, right),
+        _ => false,
+    }
 }
 
 // The same, with the cells of a table of two nodes.
@@ -121,10 +134,8 @@ fn talk<F: FabricName + Send + Sync, R: Threads>(
 ) -> Option<bool>
     requires { blank ≡ F.table }
 {
-    match cells_of::<F>(blank) {
-        Some(mut cells) => Some(talks(rt, alloc, &mut cells)),
-        None => None,
-    }
+    let (fabric, mut cells) = blank.name::<F>().ok()?;
+    Some(both_talk(rt, alloc, &fabric, cells.as_mut_slice()))
 }
 
 #[test]

@@ -124,57 +124,86 @@ fn acts<F: FabricName>(fabric: &Fabric<F>, cell: &mut NodeCell<F>) {
     }
 }
 
-// The cells of four nodes.
-#[derive(Drop)]
-struct Cells<F: FabricName> {
-    n0: NodeCell<F>,
-    n1: NodeCell<F>,
-    n2: NodeCell<F>,
-    n3: NodeCell<F>,
-}
-
-fn all_act<F: FabricName>(fabric: &Fabric<F>, cells: &mut Cells<F>) {
+fn all_act<F: FabricName>(fabric: &Fabric<F>, cells: &mut [NodeCell<F>]) {
     for _round in 0..20 {
-        acts(fabric, &mut cells.n0);
-        acts(fabric, &mut cells.n1);
-        acts(fabric, &mut cells.n2);
-        acts(fabric, &mut cells.n3);
+        for cell in cells.iter_mut() {
+            acts(fabric, cell);
+        }
     }
 }
 
 // Both ends of the pair between nodes 0 and 1 move on, so that each of these has a proxy on its link, and has claimed a word.
-fn both_move<F: FabricName>(fabric: &Fabric<F>, cells: &mut Cells<F>, alloc: Global) -> bool {
-    puts(fabric, &mut cells.n0, alloc, a(TO_NODE_2), &[a(BETWEEN)])
-        && puts(
-            fabric,
-            &mut cells.n1,
-            alloc,
-            a(TO_NODE_3),
-            &[a(BETWEEN).opposite()],
-        )
-        && claims(fabric, &mut cells.n0)
-        && claims(fabric, &mut cells.n1)
+fn both_move<F: FabricName>(fabric: &Fabric<F>, cells: &mut [NodeCell<F>], alloc: Global) -> bool {
+    let [n0, n1, ..] = cells else {
+        return false;
+    };
+    let (moved, other) = (a(BETWEEN), a(BETWEEN).opposite());
+    puts(fabric, n0, alloc, a(TO_NODE_2), &[moved])
+        && puts(fabric, n1, alloc, a(TO_NODE_3), &[other])
+        && claims(fabric, n0)
+        && claims(fabric, n1)
+}
+
+// Whether of two proxies on one link, whose threads try at once, one has the lock.
+fn both_try<F: FabricName + Send + Sync, R: Threads>(
+    rt: &R,
+    fabric: &Fabric<F>,
+    n0: &mut NodeCell<F>,
+    n1: &mut NodeCell<F>,
+) -> bool {
+    let here = AtomicU64::new(0);
+    let tried = join(rt, || tries(fabric, n0, &here), || tries(fabric, n1, &here));
+    match &tried {
+        (Some(of_a), Some(of_b)) => one_has_locked(of_a, of_b),
+        _ => false,
+    }
+}
+
+// The same of the first two of these cells.
+fn first_try<F: FabricName + Send + Sync, R: Threads>(
+    rt: &R,
+    fabric: &Fabric<F>,
+    cells: &mut [NodeCell<F>],
+) -> bool {
+    match cells {
+        [n0, n1, ..] => both_try(rt, fabric, n0, n1),
+        _ => false,
+    }
+}
+
+// Whether the moved ends have come to nodes 2 and 3, where a byte is put at the first.
+fn come<F: FabricName>(fabric: &Fabric<F>, cells: &mut [NodeCell<F>], alloc: Global) -> bool {
+    let [_, _, n2, n3] = cells else {
+        return false;
+    };
+    let (moved, other) = (a(BETWEEN), a(BETWEEN).opposite());
+    gets(fabric, n2, a(TO_NODE_2).opposite(), &[moved])
+        && gets(fabric, n3, a(TO_NODE_3).opposite(), &[other])
+        && puts(fabric, n2, alloc, moved, &[])
 }
 
 // Whether the moved ends arrive, and what is put at one of them comes to the other.
-fn arrives<F: FabricName>(fabric: &Fabric<F>, cells: &mut Cells<F>, alloc: Global) -> bool {
+fn arrives<F: FabricName>(fabric: &Fabric<F>, cells: &mut [NodeCell<F>], alloc: Global) -> bool {
     all_act(fabric, cells);
-    let come = gets(
-        fabric,
-        &mut cells.n2,
-        a(TO_NODE_2).opposite(),
-        &[a(BETWEEN)],
-    ) && gets(
-        fabric,
-        &mut cells.n3,
-        a(TO_NODE_3).opposite(),
-        &[a(BETWEEN).opposite()],
-    ) && puts(fabric, &mut cells.n2, alloc, a(BETWEEN), &[]);
+    let come = come(fabric, cells, alloc);
     all_act(fabric, cells);
-    come && gets(fabric, &mut cells.n3, a(BETWEEN).opposite(), &[])
+    match cells {
+        [_, _, _, n3] => come && gets(fabric, n3, a(BETWEEN).opposite(), &[]),
+        _ => false,
+    }
 }
 
 // Whether of two proxies on one link, whose threads try at once, one has the lock, and both are bypassed.
+fn both_are_bypassed<F: FabricName + Send + Sync, R: Threads>(
+    rt: &R,
+    alloc: Global,
+    fabric: &Fabric<F>,
+    cells: &mut [NodeCell<F>],
+) -> bool {
+    both_move(fabric, cells, alloc) && first_try(rt, fabric, cells) && arrives(fabric, cells, alloc)
+}
+
+// The same, with the cells of a table of four nodes.
 fn race<F: FabricName + Send + Sync, R: Threads>(
     rt: &R,
     alloc: Global,
@@ -182,26 +211,15 @@ fn race<F: FabricName + Send + Sync, R: Threads>(
 ) -> Option<bool>
     requires { blank ≡ F.table }
 {
-    let Ok((fabric, mut cells)) = blank.name::<F>() else {
-        return None;
-    };
-    let n3 = cells.pop()?;
-    let n2 = cells.pop()?;
-    let n1 = cells.pop()?;
-    let n0 = cells.pop()?;
-    let mut cells = Cells { n0, n1, n2, n3 };
-    if !both_move(&fabric, &mut cells, alloc) {
-        return None;
+    match blank.name::<F>() {
+        Ok((fabric, mut cells)) => Some(both_are_bypassed(
+            rt,
+            alloc,
+            &fabric,
+            cells.as_mut_slice(),
+        )),
+        Err(_) => None,
     }
-    let here = AtomicU64::new(0);
-    let (n0, n1) = (&mut cells.n0, &mut cells.n1);
-    let (of_a, of_b) = join(
-        rt,
-        || tries(&fabric, n0, &here),
-        || tries(&fabric, n1, &here),
-    );
-    let won = one_has_locked(&of_a?, &of_b?);
-    Some(won && arrives(&fabric, &mut cells, alloc))
 }
 
 fn race_once<R: Threads>(rt: &R, alloc: Global) -> Option<bool> {

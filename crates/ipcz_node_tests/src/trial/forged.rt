@@ -215,6 +215,13 @@ const MOVED_6B: Descriptor = Descriptor {
     next_in: 0,
 };
 
+const ON_THE_SAME_LINK: Descriptor = Descriptor {
+    end: B6,
+    link: NEXT_INWARD,
+    next_out: 0,
+    next_in: 0,
+};
+
 const NAMED: Descriptor = Descriptor {
     end: A5,
     link: INWARD,
@@ -229,7 +236,7 @@ const HIGH: Descriptor = Descriptor {
     next_in: 0,
 };
 
-static ITEMS_ASIDE: [Aside; 11] = [
+static ITEMS_ASIDE: [Aside; 12] = [
     Aside {
         why: "no router has the link",
         after: CAME,
@@ -274,6 +281,15 @@ static ITEMS_ASIDE: [Aside; 11] = [
         why: "the link of a move is named here at side B",
         after: CAME,
         step: Deliver(0, Parcel(C0, B, 1, &[A5], &[NAMED]), false),
+    },
+    Aside {
+        why: "two moves have one link",
+        after: CAME,
+        step: Deliver(
+            0,
+            Parcel(C0, B, 1, &[A5, B6], &[MOVED_5A, ON_THE_SAME_LINK]),
+            false,
+        ),
     },
     Aside {
         why: "the next number of a move is above the last",
