@@ -1,0 +1,179 @@
+//! Gap queues by lists of calls, which say what each call answers.
+use ipcz_base::Refusal;
+use ipcz_seq::GapQueue;
+use std::alloc::Global;
+
+/// A call on a queue of words, with what it answers.
+#[derive(Clone, Copy)]
+enum Step {
+    /// Adds a word under a number; a word that is refused is handed back.
+    Push(u64, &'static str, Result<(), Refusal>),
+    Pop(Option<&'static str>),
+    Next(Option<&'static str>),
+    Reserve,
+    ReserveFor(u64, Result<(), Refusal>),
+    HasRoom(bool),
+    HasPlace(u64, bool),
+    Current(u64),
+    Reach(u64),
+    Len(usize),
+    IsEmpty(bool),
+}
+
+// Adds a word; whether this comes of it.
+fn pushes(
+    queue: &mut GapQueue<&'static str>,
+    n: u64,
+    word: &'static str,
+    want: Result<(), Refusal>,
+) -> bool {
+    if n == u64::MAX {
+        return false;
+    }
+    match queue.push(n, word) {
+        Ok(()) => want.is_ok(),
+        Err((why, back)) => want == Err(why) && back == word,
+    }
+}
+
+// Whether a call answers what its step says.
+fn answers(queue: &mut GapQueue<&'static str>, step: Step) -> bool {
+    match step {
+        Step::Push(n, word, want) => pushes(queue, n, word, want),
+        Step::Pop(want) => queue.pop() == want,
+        Step::Reserve => queue.reserve().is_ok(),
+        Step::ReserveFor(n, want) => queue.reserve_for(n) == want,
+        _ => is(queue, step),
+    }
+}
+
+// Whether a queue is as a step says that only looks.
+fn is(queue: &GapQueue<&'static str>, step: Step) -> bool {
+    match step {
+        Step::Next(want) => queue.next() == want.as_ref(),
+        Step::HasRoom(want) => queue.has_room() == want,
+        Step::HasPlace(n, want) => queue.has_place(n) == want,
+        Step::Current(want) => queue.current() == want,
+        Step::Reach(want) => queue.reach() == want,
+        Step::Len(want) => queue.len() == want,
+        Step::IsEmpty(want) => queue.is_empty() == want,
+        _ => false,
+    }
+}
+
+// How many steps answer what they say, from an empty queue on whose first item is that of a number, up to the first that doesn't.
+fn answered(alloc: Global, first: u64, steps: &[Step]) -> usize {
+    let mut queue = GapQueue::new_at(alloc, first);
+    for (i, step) in steps.iter().enumerate() {
+        if !answers(&mut queue, *step) {
+            return i;
+        }
+    }
+    steps.len()
+}
+
+#[test]
+fn items_leave_in_the_order_of_their_numbers(rt: HostRuntime) {
+    let steps = [
+        Step::IsEmpty(true),
+        // The item of 5 hasn't come, so that of 7 waits.
+        Step::Push(7, "seven", Ok(())),
+        Step::Reach(5),
+        Step::Next(None),
+        Step::Pop(None),
+        Step::Push(7, "again", Err(Refusal::Occupied)),
+        Step::Push(4, "late", Err(Refusal::Passed)),
+        Step::Push(5, "five", Ok(())),
+        Step::Reach(6),
+        Step::Next(Some("five")),
+        Step::Pop(Some("five")),
+        Step::Current(6),
+        Step::Push(6, "six", Ok(())),
+        Step::Reach(8),
+        Step::Pop(Some("six")),
+        Step::Pop(Some("seven")),
+        Step::Current(8),
+        Step::Len(0),
+    ];
+    assert_eq!(rt; answered(rt.alloc(), 5, steps.as_slice()), 18);
+}
+
+#[test]
+fn room_is_made_before_it_is_wanted(rt: HostRuntime) {
+    let steps = [
+        Step::HasRoom(false),
+        Step::Reserve,
+        Step::HasRoom(true),
+        Step::Push(0, "zero", Ok(())),
+        // The first buffer holds one item, and a pop gives its room back.
+        Step::HasRoom(false),
+        Step::Pop(Some("zero")),
+        Step::HasRoom(true),
+        Step::Push(1, "one", Ok(())),
+        Step::HasRoom(false),
+        // Room is made for the item of a number that has its place alone.
+        Step::ReserveFor(0, Err(Refusal::Passed)),
+        Step::ReserveFor(1, Err(Refusal::Occupied)),
+        Step::HasRoom(false),
+        Step::ReserveFor(2, Ok(())),
+        Step::HasRoom(true),
+        Step::Len(1),
+    ];
+    assert_eq!(rt; answered(rt.alloc(), 0, steps.as_slice()), 15);
+}
+
+#[test]
+fn gaps_hold_back_what_is_behind_them(rt: HostRuntime) {
+    let steps = [
+        Step::Push(20, "a", Ok(())),
+        Step::Push(23, "d", Ok(())),
+        Step::Push(27, "h", Ok(())),
+        Step::Push(21, "b", Ok(())),
+        Step::Reach(22),
+        // 19 has passed, 23 is taken, and 22 is free.
+        Step::HasPlace(19, false),
+        Step::HasPlace(23, false),
+        Step::HasPlace(22, true),
+        Step::HasPlace(u64::MAX, true),
+        Step::Push(22, "c", Ok(())),
+        Step::Reach(24),
+        Step::Pop(Some("a")),
+        Step::Reach(24),
+        Step::HasPlace(20, false),
+        Step::Len(4),
+        Step::IsEmpty(false),
+    ];
+    assert_eq!(rt; answered(rt.alloc(), 20, steps.as_slice()), 16);
+}
+
+// Puts items under the numbers from 999 down to 1; whether each is taken.
+fn come_backwards(queue: &mut GapQueue<u64>) -> bool {
+    for n in (1..1000).rev() {
+        if queue.push(n, n).is_err() {
+            return false;
+        }
+    }
+    true
+}
+
+// Takes a thousand items out; whether they leave in order from that of 0 on.
+fn leave_in_order(queue: &mut GapQueue<u64>) -> bool {
+    for n in 0..1000 {
+        if queue.pop() != Some(n) {
+            return false;
+        }
+    }
+    true
+}
+
+#[test]
+fn items_that_come_backwards_leave_in_order(rt: HostRuntime) {
+    let mut queue: GapQueue<u64> = GapQueue::new_at(rt.alloc(), 0);
+    assert!(rt; come_backwards(&mut queue));
+    assert_eq!(rt; queue.reach(), 0);
+    assert_eq!(rt; queue.next(), None);
+    assert_eq!(rt; queue.push(0, 0), Ok(()));
+    assert_eq!(rt; queue.reach(), 1000);
+    assert!(rt; leave_in_order(&mut queue));
+    assert_eq!(rt; queue.push(999, 999), Err((Refusal::Passed, 999)));
+}
