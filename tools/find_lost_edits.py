@@ -2,7 +2,7 @@
 
     python3 tools/find_lost_edits.py    prints each, and fails where there is one
 
-The gate tries the edits of `must-fail`, and tells of one that it can't make, but doesn't fail for it; those of `further-edits` it doesn't try.
+The gate tries the edits of `must-fail`, and with some kits it doesn't fail for one that it can't make; those of `further-edits` it doesn't try.
 """
 import pathlib
 import sys
