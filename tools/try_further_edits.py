@@ -3,8 +3,8 @@
     python3 tools/try_further_edits.py [NAME..]    those of these crates, or of all; fails where one isn't refused
 
 Many edits are made at once, no two in one function, and the crate is checked once: an edit is refused where a clause of the function that it
-changes isn't proved. Between functions stand contracts alone, so the other edits have no part in that. What isn't refused so, and what
-turns a definition or what else stands outside functions, is tried by `rt must-fail`, one edit after the other.
+changes isn't proved, or a goal of it that a file answers. Between functions stand contracts alone, so the other edits have no part in that.
+What isn't refused so, and what turns a definition or what else stands outside functions, is tried by `rt must-fail`, one edit after the other.
 
 All of it happens on a copy of the repository. It begins with what `rt check` has kept in the crates' folders `out`, which are copied, too:
 check the crates before, or it proves them first.
@@ -20,6 +20,10 @@ import tempfile
 TOP = pathlib.Path(__file__).resolve().parent.parent
 HEAD = re.compile(r"^(?:[ \t]*(?:///?|#\[)[^\n]*\n)*[ \t]*(?:pub(?:\(\w+\))? )?(?:const )?fn \w+", re.M)
 NOTE = re.compile(r"^note: (src/\S+?):(\d+):\d+: (it is not proved [^;\n]*)", re.M)
+# (an error that says that a name is gone tells nothing of what is promised)
+GONE = r"has no field|is not in scope|has no `|was not admitted"
+ANSWER = re.compile(rf"^\./proofs/(\S+)/Answers\.antt:\d+:\d+: error: ((?!.*(?:{GONE})).*)", re.M)
+NAME = re.compile(r"^[ \t]*(?:pub(?:\(\w+\))? )?(?:const )?fn (\w+)", re.M)
 
 
 def changes(edit):
@@ -66,6 +70,17 @@ def batches(crate, edits):
     return parted
 
 
+def answered(crate, batch, path):
+    """The one function that a batch changes whose answers stand in this folder of proofs, by its name and its file's, or none."""
+    *modules, name = path.split("/")
+    fits = set()
+    for file, at in set().union(*batch.values()):
+        is_named = NAME.search((crate / file).read_text(), at)[1] == name
+        if is_named and pathlib.Path(file).stem in (*modules, "lib", "main"):
+            fits.add((file, at))
+    return fits.pop() if len(fits) == 1 else None
+
+
 def failing(crate, batch):
     """Makes the edits of a batch, checks the crate, and gives what isn't proved by the functions in which it fails; the files are left as they were."""
     was = {file: (crate / file).read_text() for edit in batch for file, _, _ in changes(edit)}
@@ -81,6 +96,8 @@ def failing(crate, batch):
         text = (crate / file).read_text()
         at = sum(map(len, text.splitlines(True)[: int(line)])) - 1
         found.setdefault(function_at(file, text, at), what)
+    for path, what in ANSWER.findall(done.stdout):
+        found.setdefault(answered(crate, batch, path), what)
     return found
 
 
