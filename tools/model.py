@@ -1,4 +1,4 @@
-"""The protocol once more, in Python: written from docs/PROTOCOL.md, and not from the crates, to compare the program with. It is plain and slow.
+"""The protocol once more, in Python: after docs/PROTOCOL.md and not after the crates, to compare the program with. It is plain and slow.
 
     python3 tools/model.py < script.json     prints the transcript of a script, as `ipcz_run` does, with its status
 
