@@ -153,7 +153,7 @@ class Node:
         return found[0]
 
     def asked(self, link, side):
-        """The router that has a link at a side, with the edge that has it, or two times none."""
+        """The router that has a link at a side, and its edge that has it; none and none where no router here does."""
         for router in self.routers.values():
             for edge in router.edges():
                 if any(at.link == link and at.side == side for at in edge.links()):
@@ -455,9 +455,9 @@ class World:
 
     def is_idle(self, number):
         node = self.nodes[number]
-        gets = any(self.mailboxes[sender, number] for sender in range(len(self.nodes)))
-        posts = any(box and not self.mailboxes[number, receiver] for receiver, box in enumerate(node.outboxes))
-        return not (gets or posts or node.pending_closes or any(router.flagged for router in node.routers.values()))
+        has_mail = any(self.mailboxes[sender, number] for sender in range(len(self.nodes)))
+        can_post = any(box and not self.mailboxes[number, receiver] for receiver, box in enumerate(node.outboxes))
+        return not (has_mail or can_post or node.pending_closes or any(router.flagged for router in node.routers.values()))
 
     def settle(self, limit):
         """Whether it settles."""
@@ -475,7 +475,7 @@ class World:
                 return True
 
 
-# In the order of the table
+# In the order of the table of docs/PROTOCOL.md, "Turns"
 ROUTER_ACTS = [
     World.send_out, World.send_in, World.discard, World.finish_out, World.finish_in, World.leave, World.mark, World.wake, World.claim,
     World.lock, World.begin, World.rest,
