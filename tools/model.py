@@ -37,9 +37,13 @@ class LinkEnd:
 
 @dataclass
 class Item:
-    """A parcel, or the mark, which has no bytes."""
+    """A parcel, or the mark or Gone, which have no bytes."""
     data: bytes | None = None
     ends: list = field(default_factory=list)
+    is_gone: bool = False
+
+    def is_mark(self):
+        return self.data is None and not self.is_gone
 
 
 @dataclass
@@ -108,7 +112,7 @@ class Router:
         self.outward, self.inward = Edge(primary), None
         self.out_queue, self.in_queue = GapQueue(next_out), GapQueue(next_in)
         self.spare = None
-        self.flagged = self.closed = self.mark_seen = self.dry = False
+        self.flagged = self.closed = self.mark_seen = self.dry = self.mark_dropped = self.gone_sent = False
         self.marked, self.tried, self.wake_owed, self.holds = is_marked, False, False, False
 
     def flag(self):
@@ -282,7 +286,7 @@ class World:
             event = act(self, node, router)
             if event:
                 break
-        if event == "leave":
+        if event.endswith("leave") or event.startswith("retire"):
             del node.routers[serial]
         return f"r{serial} {event}"
 
@@ -292,7 +296,10 @@ class World:
         return self.send_item(node, "send out", router.out_queue, router.outward)
 
     def send_in(self, node, router):
-        return self.send_item(node, "send in", router.in_queue, router.inward) if router.is_proxy() else None
+        item = router.in_queue.next()
+        event = self.send_item(node, "send in", router.in_queue, router.inward) if router.is_proxy() else None
+        router.gone_sent |= event is not None and item.is_gone
+        return event
 
     def send_item(self, node, name, queue, edge):
         number, item = queue.current, queue.next()
@@ -319,8 +326,9 @@ class World:
         if not router.is_sink() or item is None:
             return None
         router.in_queue.pop()
+        router.mark_dropped |= item.is_mark()
         node.pending_closes += item.ends
-        return f"discard {number}"
+        return f"discard {number}" + (" leave" if item.is_gone else "")
 
     def finish_out(self, node, router):
         if not router.outward.can_finish(router.out_queue.current, router.in_queue.reach()):
@@ -333,7 +341,7 @@ class World:
         return f"finish in {printed(router.inward.finish().link)}"
 
     def leave(self, node, router):
-        has_left = router.is_proxy() and not any(edge.links() for edge in router.edges())
+        has_left = router.is_proxy() and (router.gone_sent or not any(edge.links() for edge in router.edges()))
         return "leave" if has_left else None
 
     def mark(self, node, router):
@@ -353,7 +361,7 @@ class World:
         return self.changed("wake", at, self.word(at) & ~WAITING[OPPOSITE[at.side]])
 
     def claim(self, node, router):
-        if not self.could_try(router) or router.spare is not None or router.dry:
+        if not router.is_proxy() or not self.could_try(router) or router.spare is not None or router.dry:
             return None
         if len(self.words) == self.most_words:
             router.dry = True
@@ -363,7 +371,8 @@ class World:
         return f"claim {router.spare}"
 
     def lock(self, node, router):
-        if not self.could_try(router) or router.spare is None or router.holds:
+        bypasses = router.is_proxy() and router.spare is not None
+        if not self.could_try(router) or not (bypasses or self.is_done(router)) or router.holds:
             return None
         at = router.outward.primary
         word = self.word(at)
@@ -373,8 +382,8 @@ class World:
         if not word & STABLE[OPPOSITE[at.side]]:
             return self.changed("wait", at, word | WAITING[at.side])
         router.tried, router.holds = False, True
-        source = router.inward.primary.other
-        return self.changed("lock", at, word % 256 + LOCKED[at.side] + 256 * (source + 1))
+        code = router.inward.primary.other + 1 if bypasses else 0
+        return self.changed("lock", at, word % 256 + LOCKED[at.side] + 256 * code)
 
     def begin(self, node, router):
         if not router.is_proxy() or not router.holds:
@@ -387,12 +396,23 @@ class World:
         router.lose_primary()
         return f"begin {printed(at.link)}"
 
+    def retire(self, node, router):
+        if not self.is_done(router) or not router.holds:
+            return None
+        at, number = router.outward.primary, router.out_queue.reach()
+        node.send("item", at.other, at.link, OPPOSITE[at.side], number=number, item=Item(is_gone=True), moves=[])
+        return f"retire {number} {printed(at.link)}"
+
     def rest(self, node, router):
         router.flagged = False
         return "rest"
 
+    def is_done(self, router):
+        """A sink that has discarded the peer's mark and has nothing to send."""
+        return router.is_sink() and router.mark_dropped and not router.out_queue.items
+
     def could_try(self, router):
-        return router.is_proxy() and router.is_settled() and router.marked and not router.tried
+        return router.is_settled() and router.marked and not router.tried
 
     def word(self, at):
         return self.words[at.link[1]]
@@ -419,7 +439,7 @@ class World:
         comes_in = edge is router.outward
         queue = router.in_queue if comes_in else router.out_queue
         queue.push(number, item)
-        if item.data is None and comes_in and not router.is_proxy():
+        if item.is_mark() and comes_in and not router.is_proxy():
             router.mark_seen = True
         for end, link, next_out, next_in in moves:
             node.add(Router(end, LinkEnd(link, "B", sender), False, next_out, next_in))
@@ -478,7 +498,7 @@ class World:
 # In the order of the table of docs/PROTOCOL.md, "Turns"
 ROUTER_ACTS = [
     World.send_out, World.send_in, World.discard, World.finish_out, World.finish_in, World.leave, World.mark, World.wake, World.claim,
-    World.lock, World.begin, World.rest,
+    World.lock, World.begin, World.retire, World.rest,
 ]
 HEARD = {
     "BypassPeer": World.hear_bypass_peer, "AcceptBypass": World.hear_accept_bypass, "StopProxying": World.hear_stop_proxying,

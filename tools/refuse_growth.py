@@ -2,13 +2,13 @@
 
     python3 tools/refuse_growth.py PROGRAM < SCRIPT       a line of how the runs ended
     python3 tools/refuse_growth.py PROGRAM FILE.rt ..     each script of a table of cases; prints what is wrong alone
-    python3 tools/refuse_growth.py PROGRAM FILE.json ..   the same of one script, of which a bypass must grow where it begins
+    python3 tools/refuse_growth.py PROGRAM FILE.json ..   the same of one script, of which a bypass or a retiring sink must grow
     python3 tools/refuse_growth.py --threads PROGRAM ..   the same with the argument `threads`; of a table, the scripts that are marked for it
     python3 tools/refuse_growth.py --retries PROGRAM      of `ipcz_faults`, which makes each refused call again; prints what is wrong alone
     python3 tools/refuse_growth.py --counts PROGRAM       the same, and how many growths each of its lines told of
 
-Each run must end with status 3 and write nothing; or, where the growth was that of a bypass's first message, end as ever and write
-the same lines but for two more: after the lock it is given back, with the word as it was before, and got again. Or it ends as ever
+Each run must end with status 3 and write nothing; or, where the growth was that of a bypass's first message or of Gone, end as ever and
+write the same lines but for two more: after the lock it is given back, with the word as it was before, and got again. Or it ends as ever
 where the growth could be done without.
 
 A run of `ipcz_faults` must end as ever and write the same lines, but that just one of them tells of the growth: `, refused 1` of a
@@ -52,7 +52,8 @@ def without_unlock(text):
     locked = LOCK.fullmatch(again)
     if again != before or not locked or [*locked.groups()][:3] != asker or int(word) != int(locked[4]) & LEFT_BY_A_LOCK:
         return None
-    if begin != "{}: {} begin {}\n".format(*asker):
+    node, router, link = asker
+    if not re.fullmatch(f"{node}: {router} (begin|retire \\d+) {link}\n", begin):
         return None
     return "".join(lines[: places[0]] + lines[places[0] + 2 :]).encode()
 
@@ -134,7 +135,7 @@ def main():
             for script in scripts:
                 _, ends = ends_of(program, script.encode(), library, count)
                 if begins and not ends["with an unlock"]:
-                    sys.exit(f"no bypass of {table} grew where it began")
+                    sys.exit(f"no bypass and no sink of {table} grew where it had locked")
         if not tables:
             growths, ends = ends_of(program, sys.stdin.buffer.read(), library, count)
             print(f"{growths} growths: " + ", ".join(f"{n} {end}" for end, n in ends.items()))

@@ -1,14 +1,16 @@
 ghost use Rattle.std.specs.Prelude.{◌≡◌};
-ghost use Rattle.ipcz_base.specs.Items.{is_mark};
+ghost use Rattle.ipcz_base.specs.Items.{is_mark, is_gone_item};
 
 use crate::parcel::Parcel;
 
-/// What stands in a router's queues and travels over its links: a parcel, or the mark that says that its portal was closed
-/// (docs/PROTOCOL.md, "Parcels and items").
+/// What stands in a router's queues and travels over its links: a parcel, the mark that says that its portal was closed, or what says that its
+/// sink has left (docs/PROTOCOL.md, "Parcels and items").
 #[derive(Debug, Drop)]
 pub enum Item {
     Parcel(Parcel),
     Mark,
+    /// The sink that put it has left. No portal gets it.
+    Gone,
 }
 
 impl Item {
@@ -19,6 +21,17 @@ impl Item {
         match self {
             Item::Parcel(_) => false,
             Item::Mark => true,
+            Item::Gone => false,
+        }
+    }
+
+    /// Whether it says that its sink has left.
+    pub fn is_gone(&self) -> bool
+        ensures { result ≡ is_gone_item self.now }
+    {
+        match self {
+            Item::Parcel(_) | Item::Mark => false,
+            Item::Gone => true,
         }
     }
 }

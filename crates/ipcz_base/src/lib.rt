@@ -14,8 +14,6 @@ mod parcel;
 mod refusal;
 mod sequence;
 mod side;
-#[cfg(test)]
-mod tests;
 
 pub use descriptor::Descriptor;
 pub use device::Device;

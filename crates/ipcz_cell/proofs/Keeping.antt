@@ -1,5 +1,5 @@
 -- What the calls of a node leave of what it has in hand.
-use Rattle.std.specs.Prelude.{◌≡◌, ℕ, true, Option, Some, None, List, [], ◌∷◌}
+use Rattle.std.specs.Prelude.{◌≡◌, ℕ, Bool, true, false, Option, Some, None, List, [], ◌∷◌}
 use Rattle.std.proofs.Common.{◌∙◌, refl}
 use Rattle.ipcz_base.specs.declared.end.End.{End}
 use Rattle.ipcz_base.specs.declared.parcel.Parcel as parcels
@@ -9,7 +9,7 @@ use Rattle.ipcz_router.specs.declared.act.Applied.{Applied}
 use Rattle.ipcz_router.specs.declared.act.Applied.TheVariants as outputs
 use Rattle.ipcz_router.specs.declared.act.RouterAct.{RouterAct}
 use Rattle.ipcz_router.specs.declared.act.RouterAct.TheVariants as router_acts
-use Rattle.ipcz_router.specs.ActEffects.{apply, output_of}
+use Rattle.ipcz_router.specs.ActEffects.{apply, leaves_by, output_of}
 use Rattle.ipcz_node.specs.declared.act.Act.{Act}
 use Rattle.ipcz_node.specs.declared.act.Act.TheVariants as acts
 use Rattle.ipcz_node.specs.Node.{Node, Found, release_ends, terminal_of, on_found, on_router, router_in}
@@ -18,7 +18,7 @@ use Rattle.ipcz_node.specs.Calls.{put_at_router, got_at, get_at_router, close_at
 use Rattle.ipcz_node.specs.Acts.{commit, commit_router, keep_or_drop, rest_of}
 use Rattle.ipcz_rule.specs.declared.view.Part.{Part}
 use Rattle.ipcz_rule.specs.Rule.{with_state}
-use Rattle.ipcz_rule.specs.Steps.{put_part, close_part, act_part, written_part, dropped_part}
+use Rattle.ipcz_rule.specs.Steps.{put_part, close_part, act_part, written_part, dropped_part, retired_part}
 use Rattle.ipcz_cell.specs.Parts.{got_part, part_got, is_touch_act}
 use Rattle.ipcz_cell.proofs.Seating.{KeepsHands}
 
@@ -67,26 +67,15 @@ send_hand n (outputs.Sent link number item) = moves_hand (record { node = n; mov
 send_hand n (outputs.Message to message) = refl
 send_hand n (outputs.Discarded number item) = refl
 
-keep_hand : (n : Node) (serial : ℕ) (r : Router) (act : RouterAct) → (keep_or_drop n serial r act).hand ≡ n.hand
+keep_hand : (n : Node) (serial : ℕ) (r : Router) (leaves : Bool) → (keep_or_drop n serial r leaves).hand ≡ n.hand
 unfolding keep_or_drop
-keep_hand n serial r router_acts.SendOut = refl
-keep_hand n serial r router_acts.SendIn = refl
-keep_hand n serial r router_acts.Discard = refl
-keep_hand n serial r router_acts.FinishOut = refl
-keep_hand n serial r router_acts.FinishIn = refl
-keep_hand n serial r router_acts.Leave = refl
-keep_hand n serial r router_acts.Mark = refl
-keep_hand n serial r router_acts.Wake = refl
-keep_hand n serial r router_acts.Claim = refl
-keep_hand n serial r router_acts.Lock = refl
-keep_hand n serial r router_acts.Begin = refl
-keep_hand n serial r router_acts.Unlock = refl
-keep_hand n serial r router_acts.Rest = refl
+keep_hand n serial r true = refl
+keep_hand n serial r false = refl
 
 router_hand : (n : Node) (serial : ℕ) (act : RouterAct) (answer : Answer) (r : Option Router) → (on_router n r (commit_router n serial act answer)).hand ≡ n.hand
 unfolding on_router commit_router
 router_hand n serial act answer None = refl
-router_hand n serial act answer (Some r) = send_hand (keep_or_drop n serial (apply r act answer) act) (output_of r act) ∙ keep_hand n serial (apply r act answer) act
+router_hand n serial act answer (Some r) = send_hand (keep_or_drop n serial (apply r act answer) (leaves_by r act)) (output_of r act) ∙ keep_hand n serial (apply r act answer) (leaves_by r act)
 
 same_hands : (p : Part) → KeepsHands p p
 same_hands p = record { node = refl; hand = refl; message = refl; probed = refl }
@@ -94,6 +83,10 @@ same_hands p = record { node = refl; hand = refl; message = refl; probed = refl 
 dropped_keeps : (r : Option Router) (p : Part) → KeepsHands p (dropped_part r p)
 dropped_keeps None p = same_hands p
 dropped_keeps (Some r) p = record { node = refl; hand = refl; message = refl; probed = refl }
+
+retired_keeps : (r : Option Router) (p : Part) → KeepsHands p (retired_part r p)
+retired_keeps None p = same_hands p
+retired_keeps (Some r) p = record { node = refl; hand = refl; message = refl; probed = refl }
 
 -- what is written into the books leaves the hand
 pub written_keeps : (n : Node) (act : Act) (p : Part) → KeepsHands p (written_part n act p)
@@ -113,6 +106,7 @@ written_keeps n (acts.Router serial router_acts.Wake) p = same_hands p
 written_keeps n (acts.Router serial router_acts.Claim) p = same_hands p
 written_keeps n (acts.Router serial router_acts.Lock) p = same_hands p
 written_keeps n (acts.Router serial router_acts.Begin) p = same_hands p
+written_keeps n (acts.Router serial router_acts.Retire) p = retired_keeps (router_in n serial) p
 written_keeps n (acts.Router serial router_acts.Unlock) p = same_hands p
 written_keeps n (acts.Router serial router_acts.Rest) p = same_hands p
 
@@ -138,6 +132,11 @@ written_state n (acts.Router serial router_acts.Wake) p = refl
 written_state n (acts.Router serial router_acts.Claim) p = refl
 written_state n (acts.Router serial router_acts.Lock) p = refl
 written_state n (acts.Router serial router_acts.Begin) p = refl
+written_state n (acts.Router serial router_acts.Retire) p = go (router_in n serial)
+  where
+    go : (o : Option Router) → (retired_part o p).state ≡ p.state
+    go None = refl
+    go (Some r) = refl
 written_state n (acts.Router serial router_acts.Unlock) p = refl
 written_state n (acts.Router serial router_acts.Rest) p = refl
 

@@ -7,7 +7,7 @@ use Rattle.ipcz_base.specs.declared.refusal.Refusal.TheVariants as refusals
 use Rattle.ipcz_base.specs.declared.end.End.{End}
 use Rattle.ipcz_router.specs.Router.{Router}
 use Rattle.ipcz_router.specs.ActTable.{may_take}
-use Rattle.ipcz_node.proofs.Choosing.{unlock_may}
+use Rattle.ipcz_node.proofs.Choosing.{unlock_may, retire_may}
 use Rattle.ipcz_rule.specs.Steps.{is_touch}
 use Rattle.ipcz_router.specs.declared.act.Answer.TheVariants as answers
 use Rattle.ipcz_router.specs.declared.act.RouterAct.{RouterAct}
@@ -97,6 +97,7 @@ touch_done t p p' (acts.Router serial act) event touch part is = record { answer
     plain router_acts.FinishIn e = (refl, refl)
     plain router_acts.Leave e = (refl, refl)
     plain router_acts.Begin e = (refl, refl)
+    plain router_acts.Retire e = (refl, refl)
     plain router_acts.Rest e = (refl, refl)
     plain router_acts.Mark e = cc
     plain router_acts.Wake e = cc
@@ -163,15 +164,15 @@ pub told_acts : (t : TableName) (act : Act) (old new : CellState) (r : Result Ha
 told_acts t act old new (Ok event) touch alone is part why grows same seen = touch_acts t act old old new event touch refl refl is part seen
 told_acts t act old new (Err e) touch alone is part why grows same seen = touch_refused t act old new e touch alone same seen why grows
 
--- a begin that found no memory is an unlock
-pub begin_unlocks : (t : TableName) (serial : ℕ) (old mid new : CellState) (event : Happened) → mid.part ≡ old.part → mid.seen ≡ old.seen → Acts t (acts.Router serial router_acts.Unlock) mid (Ok event) new → Acts t (acts.Router serial router_acts.Begin) old (Ok event) new
+-- a begin or a retire that found no memory is an unlock
+pub stood_in : (t : TableName) (serial : ℕ) (act : RouterAct) (old mid new : CellState) (event : Happened) → acts.Router serial router_acts.Unlock ≡ stand_in (acts.Router serial act) → mid.part ≡ old.part → mid.seen ≡ old.seen → Acts t (acts.Router serial router_acts.Unlock) mid (Ok event) new → Acts t (acts.Router serial act) old (Ok event) new
 unfolding stand_in
-begin_unlocks t serial old mid new event same kept h = record {
+stood_in t serial act old mid new event in_place same kept h = record {
   found = h.found;
   seen = h.seen ∙ ap (λ (l : Seen). l ++ h.found) kept;
   outcome = record {
     taken = acts.Router serial router_acts.Unlock;
-    which = inr refl;
+    which = inr in_place;
     done = subst (λ (p : Part). IsDone t p (acts.Router serial router_acts.Unlock) event new.part h.found) same (subst (λ (a : Act). IsDone t mid.part a event new.part h.found) (unlocked h.outcome.which) h.outcome.done);
   };
 }
@@ -195,19 +196,30 @@ pub wake_refused : (t : TableName) (serial : ℕ) (old new : CellState) (why : R
 unfolding stand_in
 wake_refused t serial old new why part seen is grows = prepare_refused t (acts.Router serial router_acts.Wake) old new why refl refl (λ g. g) refl part seen is grows
 
--- a begin that is refused wants serials
-pub begin_refused : (t : TableName) (serial : ℕ) (old new : CellState) (why : Refusal) → why ≢ refusals.OutOfMemory → new.part ≡ old.part → new.seen ≡ old.seen →
-    why ≡ (if act_lacks_serials old.part.state (acts.Router serial router_acts.Begin) then refusals.NumbersEnd else refusals.OutOfMemory) → Acts t (acts.Router serial router_acts.Begin) old (Err why) new
-begin_refused t serial old new why not part seen is = record { found = []; seen = seen ∙ sym (append-nil old.seen); outcome = (part, go (act_lacks_serials old.part.state (acts.Router serial router_acts.Begin)) refl) }
+-- a begin or a retire that is refused wants serials
+pub held_refused : (t : TableName) (serial : ℕ) (act : RouterAct) (old new : CellState) (why : Refusal) → why ≢ refusals.OutOfMemory → new.part ≡ old.part → new.seen ≡ old.seen →
+    why ≡ (if act_lacks_serials old.part.state (acts.Router serial act) then refusals.NumbersEnd else refusals.OutOfMemory) → Acts t (acts.Router serial act) old (Err why) new
+held_refused t serial act old new why not part seen is = record { found = []; seen = seen ∙ sym (append-nil old.seen); outcome = (part, go (act_lacks_serials old.part.state (acts.Router serial act)) refl) }
   where
-    go : (b : Bool) → act_lacks_serials old.part.state (acts.Router serial router_acts.Begin) ≡ b → IsRefused t.size old.part (acts.Router serial router_acts.Begin) (IsLost t old.part (acts.Router serial router_acts.Begin) []) why []
+    go : (b : Bool) → act_lacks_serials old.part.state (acts.Router serial act) ≡ b → IsRefused t.size old.part (acts.Router serial act) (IsLost t old.part (acts.Router serial act) []) why []
     go true e = NoSerials (is ∙ ap (λ (b : Bool). if b then refusals.NumbersEnd else refusals.OutOfMemory) e) e refl
     go false e = absurd (not (is ∙ ap (λ (b : Bool). if b then refusals.NumbersEnd else refusals.OutOfMemory) e))
 
--- where a proxy may begin, it may give its lock back
-pub begin_can_unlock : (o : Option Router) → IsSomeAnd o (λ r. may_take r router_acts.Begin ≡ true) → IsSomeAnd o (λ r. may_take r router_acts.Unlock ≡ true)
-begin_can_unlock None h = h
-begin_can_unlock (Some r) h = unlock_may r h
+-- a begin and a retire are done under the lock: each is a touch, and an unlock stands in for it
+pub held_touch : (act : RouterAct) → (act ≡ router_acts.Begin) ⊎ (act ≡ router_acts.Retire) → is_touch act ≡ true
+held_touch act (inl e) = ap is_touch e
+held_touch act (inr e) = ap is_touch e
+
+pub held_stand_in : (act : RouterAct) (serial : ℕ) → (act ≡ router_acts.Begin) ⊎ (act ≡ router_acts.Retire) → acts.Router serial router_acts.Unlock ≡ stand_in (acts.Router serial act)
+unfolding stand_in
+held_stand_in act serial (inl e) = subst (λ (a : RouterAct). acts.Router serial router_acts.Unlock ≡ stand_in (acts.Router serial a)) (sym e) refl
+held_stand_in act serial (inr e) = subst (λ (a : RouterAct). acts.Router serial router_acts.Unlock ≡ stand_in (acts.Router serial a)) (sym e) refl
+
+-- where a router may begin or retire, it may give its lock back
+pub may_unlock : (act : RouterAct) → (act ≡ router_acts.Begin) ⊎ (act ≡ router_acts.Retire) → (o : Option Router) → IsSomeAnd o (λ r. may_take r act ≡ true) → IsSomeAnd o (λ r. may_take r router_acts.Unlock ≡ true)
+may_unlock act which None h = h
+may_unlock act (inl is) (Some r) h = unlock_may r (ap (may_take r) (sym is) ∙ h)
+may_unlock act (inr is) (Some r) h = retire_may r (ap (may_take r) (sym is) ∙ h)
 
 -- these acts of a router are touches, and none stands in for them
 abbrev IsPlain : RouterAct → Type 0

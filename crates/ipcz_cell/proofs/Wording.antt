@@ -1,5 +1,5 @@
 -- The steps on link words.
-use Rattle.std.specs.Prelude.{◌≡◌, ◌≢◌, ◌<◌, ◌++◌, ℕ, Bool, true, false, ◌&&◌, ◌||◌, List, [], ◌∷◌, Option, Some, None, is_some, option_map, MatchBool, Ok, Err, eqb, bit_and, bit_or, ◌-◌}
+use Rattle.std.specs.Prelude.{◌≡◌, ◌≢◌, ◌<◌, ◌++◌, ℕ, Bool, true, false, not, ◌&&◌, ◌||◌, List, [], ◌∷◌, Option, Some, None, is_some, option_map, MatchBool, Ok, Err, eqb, bit_and, bit_or, ◌-◌}
 use Rattle.std.proofs.Common.{ap, sym, subst, ◌∙◌, refl}
 use prog.Atomic.{either}
 use mathlib.Core.Option.{some}
@@ -19,8 +19,8 @@ use Rattle.ipcz_base.specs.declared.refusal.Refusal.TheVariants.{Raced}
 use Rattle.ipcz_cell.proofs.Mailing.{shown}
 use Rattle.ipcz_router.specs.ActEffects.{IsAnswerOf}
 use Rattle.ipcz_rule.specs.Kinds.{is_refusal}
-use Rattle.ipcz_router.specs.Router.{Router, primary_word, source_of}
-use Rattle.ipcz_router.specs.ActTable.{may_take, is_possible, is_rest}
+use Rattle.ipcz_router.specs.Router.{Router, primary_word, is_on_central, is_proxy, source_of}
+use Rattle.ipcz_router.specs.ActTable.{may_take, is_possible, is_ready, is_done, is_leaving, can_begin, can_retire, is_rest}
 use Rattle.ipcz_router.specs.declared.act.RouterAct.{RouterAct}
 use Rattle.ipcz_router.specs.declared.act.RouterAct.TheVariants as router_acts
 use Rattle.ipcz_router.specs.declared.act.Answer.{Answer}
@@ -116,13 +116,22 @@ or_true : (a b : Bool) → b ≡ false → (a || b) ≡ true → a ≡ true
 or_true true b f e = refl
 or_true false b f e = absurd (let bad = sym f ∙ e in cc)
 
+-- a try or an unlock is that of a proxy or of a sink: either way this holds
+either_true : (a b c : Bool) → (a ≡ true → c ≡ true) → (b ≡ true → c ≡ true) → (a || b) ≡ true → c ≡ true
+either_true true b c one other e = one refl
+either_true false b c one other e = other e
+
 -- a router that may do an act on a word has one
 has_word : (r : Router) (act : RouterAct) → is_on_word act ≡ true → may_take r act ≡ true → is_some (primary_word r) ≡ true
 unfolding is_possible is_rest
 has_word r router_acts.Mark w e = first_true _ _ (or_true _ false refl e)
 has_word r router_acts.Wake w e = second_true _ _ (or_true _ false refl e)
-has_word r router_acts.Lock w e = first_true _ _ (second_true _ _ (first_true _ _ (or_true _ false refl e)))
-has_word r router_acts.Unlock w e = first_true _ _ (second_true _ _ (second_true _ _ (or_true _ false refl e)))
+has_word r router_acts.Lock w e = either_true (is_ready r && (is_some r.spare && not r.holds)) (is_leaving r && not r.holds) (is_on_central r)
+    (λ h. first_true _ _ (second_true (is_proxy r) _ (first_true (is_ready r) _ h)))
+    (λ h. first_true _ _ (second_true (is_done r) _ (first_true (is_leaving r) _ h))) (or_true _ false refl e)
+has_word r router_acts.Unlock w e = either_true (can_begin r) (can_retire r) (is_on_central r)
+    (λ h. first_true _ _ (second_true r.holds _ (second_true (is_proxy r) _ h)))
+    (λ h. first_true _ _ (second_true r.holds _ (second_true (is_done r) _ h))) (or_true _ false refl e)
 has_word r router_acts.SendOut w e = cc
 has_word r router_acts.SendIn w e = cc
 has_word r router_acts.Discard w e = cc
@@ -131,6 +140,7 @@ has_word r router_acts.FinishIn w e = cc
 has_word r router_acts.Leave w e = cc
 has_word r router_acts.Claim w e = cc
 has_word r router_acts.Begin w e = cc
+has_word r router_acts.Retire w e = cc
 has_word r router_acts.Rest w e = cc
 
 none_mapped : (s : Side) (o : Option ℕ) (named : Option (ℕ × Side)) → is_some o ≡ true → with_side s o ≡ named → named ≡ None → ⊥

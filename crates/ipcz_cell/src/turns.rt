@@ -1,5 +1,5 @@
 //! The turns of a cell.
-ghost use Rattle.std.specs.Prelude.{◌≡◌, ◌<◌, ℕ, true, not, None, Some, Ok};
+ghost use Rattle.std.specs.Prelude.{◌≡◌, ◌<◌, ◌⊎◌, ℕ, true, not, None, Some, Ok};
 ghost use Rattle.ipcz_base.specs.declared.side.Side.{Side as SideValue};
 ghost use Rattle.ipcz_node.specs.RoomyNodes.{IsPossibleAct};
 ghost use Rattle.ipcz_cell.specs.Turns.{Chooses, FindsFull, CanPost, FindsEmpty};
@@ -222,14 +222,20 @@ impl<F: FabricName> NodeCell<F> {
         }
     }
 
-    // A proxy begins its bypass, or gives its lock back where no memory is found for that.
-    fn begin_turn(&mut self, fabric: &Fabric<F>, serial: u64) -> Result<Happened, Refusal>
-        requires { IsPossibleAct self.old.part.state (Act.Router serial RouterAct.Begin) }
-        ensures { Acts F.table (Act.Router serial RouterAct.Begin) self.old result self.new }
+    // A proxy begins its bypass or a sink retires, each under its lock; or it gives its lock back where no memory is found for that.
+    fn held_turn(
+        &mut self,
+        fabric: &Fabric<F>,
+        serial: u64,
+        act: RouterAct,
+    ) -> Result<Happened, Refusal>
+        requires held { (act ≡ RouterAct.Begin) ⊎ (act ≡ RouterAct.Retire) }
+        requires possible { IsPossibleAct self.old.part.state (Act.Router serial act) }
+        ensures { Acts F.table (Act.Router serial act) self.old result self.new }
     {
-        let begin = Act::Router(serial, RouterAct::Begin);
-        match self.prepare(&begin) {
-            Ok(()) => Ok(self.touch_act(fabric, begin)),
+        let held = Act::Router(serial, act);
+        match self.prepare(&held) {
+            Ok(()) => Ok(self.touch_act(fabric, held)),
             Err(Refusal::OutOfMemory) => Ok(self.unlock_turn(fabric, serial)),
             Err(why) => Err(why),
         }
@@ -251,7 +257,7 @@ impl<F: FabricName> NodeCell<F> {
             RouterAct::Wake => self.wake_turn(fabric, serial),
             RouterAct::Lock => self.lock_turn(fabric, serial),
             RouterAct::Claim => self.claim_turn(fabric, serial),
-            RouterAct::Begin => self.begin_turn(fabric, serial),
+            RouterAct::Begin | RouterAct::Retire => self.held_turn(fabric, serial, act),
             RouterAct::SendOut
             | RouterAct::SendIn
             | RouterAct::Discard
@@ -266,8 +272,8 @@ impl<F: FabricName> NodeCell<F> {
     /// did is told.
     ///
     /// It is refused `NumbersEnd` where the act wants more serials than are left, `OutOfMemory` where it wants memory and none is found,
-    /// and `Raced` where another thread came between the load of a word and its exchange: then the turn may be taken again. A begin for
-    /// which no memory is found is done as an unlock. A refused turn changes nothing. A claim that finds no word is an act done.
+    /// and `Raced` where another thread came between the load of a word and its exchange: then the turn may be taken again. A begin or a
+    /// retire for which no memory is found is done as an unlock. A refused turn changes nothing. A claim that finds no word is an act done.
     pub fn turn(&mut self, fabric: &Fabric<F>) -> Result<Happened, Refusal>
         ensures { Turns F.table self.old result self.new }
     {

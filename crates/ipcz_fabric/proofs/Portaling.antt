@@ -22,6 +22,7 @@ unfolding item_refusal
 item_why None e h = inr (inr (inl cc))
 item_why (Some (items.Parcel p)) e h = cc
 item_why (Some items.Mark) e h = inr (inr (inr cc))
+item_why (Some items.Gone) e h = inr (inr (inr cc))
 
 terminal_why : (t : Option Found) (e : Refusal) → refusal_at t router_get_refusal ≡ Some e → IsGetRefusal e
 unfolding refusal_at

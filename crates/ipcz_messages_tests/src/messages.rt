@@ -1,6 +1,6 @@
-//! The messages of a run with one bypass and of one with two proxies, and of transcripts that no run makes.
+//! The messages of a run with one bypass, of one with two proxies and of one that closes both ends, and of transcripts that no run makes.
 
-use crate::told::{ONE_BYPASS, TWO_PROXIES, Told, name_of, told_by};
+use crate::told::{BOTH_CLOSED, ONE_BYPASS, TWO_PROXIES, Told, name_of, told_by};
 use ipcz_lines::{Kind, Link, read};
 use ipcz_messages::messages::{Message, messages};
 use ipcz_messages::routers::Router;
@@ -120,6 +120,56 @@ fn one_bypass_is_five_messages(rt: HostRuntime) {
     assert_eq!(rt; told.messages.len(), ONE_ROWS.len());
     assert_eq!(rt; rows_told(&told, &ONE_ROWS), ONE_ROWS.len());
     assert!(rt; first_moves(&told.messages, b"1B"));
+}
+
+const CLOSED_ROWS: [Row; 3] = [
+    (
+        0,
+        0,
+        Kind::Item(0),
+        Link::Central(0),
+        [3, 4, 5, 6],
+        (0, 0),
+        (0, 1),
+    ),
+    (
+        0,
+        0,
+        Kind::Item(0),
+        Link::Central(0),
+        [8, 9, 10, 11],
+        (0, 1),
+        (0, 0),
+    ),
+    (
+        0,
+        0,
+        Kind::Item(1),
+        Link::Central(0),
+        [14, 15, 16, 17],
+        (0, 0),
+        (0, 1),
+    ),
+];
+
+// The line at which a router left, by its serial.
+fn left_at(routers: &[Router], serial: u64) -> Option<usize> {
+    for router in routers {
+        if router.serial == serial {
+            return router.left;
+        }
+    }
+    None
+}
+
+// A retire makes a message and is the last of its router, as is the discard of that message.
+#[test]
+fn both_closed_are_three_messages(rt: HostRuntime) {
+    let told = told_by(rt.alloc(), BOTH_CLOSED).expect(&rt, "the transcript");
+    assert_eq!(rt; told.messages.len(), CLOSED_ROWS.len());
+    assert_eq!(rt; rows_told(&told, &CLOSED_ROWS), CLOSED_ROWS.len());
+    assert!(rt; left_at(&told.routers, 0) == Some(14));
+    assert!(rt; left_at(&told.routers, 1) == Some(19));
 }
 
 const TWO_ROWS: [Row; 6] = [

@@ -1,4 +1,4 @@
-//! What a transcript tells, and the transcripts of a run with one bypass and of one with two proxies.
+//! What a transcript tells, and the transcripts of a run with one bypass, of one with two proxies, and of one that closes both ends.
 
 use ipcz_lines::{ReadLine, read};
 use ipcz_messages::messages::{Message, messages};
@@ -109,6 +109,30 @@ n0: r2 rest
 n0: idle
 settled
 words 3 19 35 3
+";
+
+pub const BOTH_CLOSED: &[u8] = b"open x y ok
+close x 0
+close y 0
+n0: r0 send out 0 C0
+n0: post 0
+n0: look 0
+n0: hand item 0 C0
+n0: r0 rest
+n0: r1 send out 0 C0
+n0: post 0
+n0: look 0
+n0: hand item 0 C0
+n0: r0 discard 0
+n0: r0 lock C0 19
+n0: r0 retire 1 C0
+n0: post 0
+n0: look 0
+n0: hand item 1 C0
+n0: r1 discard 0
+n0: r1 discard 1 leave
+n0: idle
+words 19
 ";
 
 /// The lines of a transcript, and what they tell of routers and messages.

@@ -15,7 +15,7 @@ use Rattle.ipcz_base.specs.Limits.{no_number, has_serials}
 use Rattle.ipcz_router.specs.Router.{Router, outward_has, inward_has, router_has}
 use Rattle.ipcz_router.specs.Calls.{accept, accept_refusal, has_place_for}
 use Rattle.ipcz_router.specs.ActTable.{is_possible, is_rest, may_take}
-use Rattle.ipcz_router.specs.ActEffects.{apply, output_of}
+use Rattle.ipcz_router.specs.ActEffects.{apply, leaves_by, output_of}
 use Rattle.ipcz_router.specs.Carrying.{carried_by}
 use Rattle.ipcz_router.specs.Outlooks.{outlook_of}
 use Rattle.ipcz_router.specs.declared.act.RouterAct.TheVariants as acts
@@ -75,7 +75,7 @@ sent_alone n (outputs.Sent link number item) to m out is =
 pub committed_alone : (n : Node) (serial : ℕ) (r : Router) (to : ℕ) (m : Message) → router_in n serial ≡ Some r →
     outlook_at (router_in n serial) acts.SendOut ≡ outlooks.Item to 0 → Some m ≡ carried_by (output_of r acts.SendOut) →
     push_out (with_router n serial (apply r acts.SendOut Plain)) to m ≡ commit n (OfRouter serial acts.SendOut) Plain
-unfolding commit commit_router keep_or_drop on_router
+unfolding commit commit_router keep_or_drop leaves_by on_router
 committed_alone n serial r to m here out is =
     sym (ap (λ o. on_router n o (commit_router n serial acts.SendOut Plain)) here
     ∙ sent_alone (with_router n serial (apply r acts.SendOut Plain)) (output_of r acts.SendOut) to m

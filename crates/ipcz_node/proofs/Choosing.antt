@@ -1,9 +1,9 @@
 -- The act that comes first is one that can be done.
-use Rattle.std.proofs.Common.{◌≡◌, ◌⊎◌, ◌&&◌, Bool, true, false, if◌then◌else◌, ℕ, List, [], ◌∷◌, Some, inl, inr, refl, not, nat_eq}
+use Rattle.std.proofs.Common.{◌≡◌, ◌⊎◌, ◌&&◌, ◌||◌, Bool, true, false, if◌then◌else◌, ℕ, List, [], ◌∷◌, Some, inl, inr, refl, not, nat_eq}
 use Rattle.std.proofs.Common.{length, is_some}
 use Rattle.std.proofs.lemmas.Bool.{and_parts, or_left, or_right}
 use Rattle.ipcz_router.specs.Router.{Router}
-use Rattle.ipcz_router.specs.ActTable.{is_possible, first_possible, table, next_act, is_rest, may_take}
+use Rattle.ipcz_router.specs.ActTable.{is_possible, can_begin, can_retire, first_possible, table, next_act, is_rest, may_take}
 use Rattle.ipcz_router.specs.declared.act.RouterAct.{RouterAct}
 use Rattle.ipcz_router.specs.declared.act.RouterAct.TheVariants as acts
 use Rattle.ipcz_base.specs.Indexed.{place_at}
@@ -42,7 +42,20 @@ mail_waits n seen to is =
 -- where a bypass can begin, the lock can be given back in its place
 pub unlock_may : (r : Router) → may_take r acts.Begin ≡ true → may_take r acts.Unlock ≡ true
 unfolding is_possible is_rest
-unlock_may r h = h
+unlock_may r h = in_place (can_begin r) (can_retire r) (is_rest (next_act r)) h
+  where
+    in_place : (a b c : Bool) → (a || (false && c)) ≡ true → ((a || b) || (false && c)) ≡ true
+    in_place true b c e = refl
+    in_place false b c e = cc
+
+-- and where a sink can retire
+pub retire_may : (r : Router) → may_take r acts.Retire ≡ true → may_take r acts.Unlock ≡ true
+unfolding is_possible is_rest
+retire_may r h = in_place (can_begin r) (can_retire r) (is_rest (next_act r)) h
+  where
+    in_place : (a b c : Bool) → (b || (false && c)) ≡ true → ((a || b) || (false && c)) ≡ true
+    in_place true b c e = refl
+    in_place false b c e = e
 
 -- where mail waits, there is a first message
 pub mail_is_first : (n : Node) (to : ℕ) → has_mail_for n to ≡ true → is_some (first_of (outbox n to)) ≡ true

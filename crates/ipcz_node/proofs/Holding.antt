@@ -21,7 +21,7 @@ use Rattle.ipcz_router.specs.Acts.{way_in}
 use Rattle.ipcz_router.specs.ActEffects.{apply, output_of, item_output, discard_output}
 use Rattle.ipcz_router.specs.declared.act.RouterAct.{RouterAct}
 use Rattle.ipcz_router.specs.declared.act.RouterAct.TheVariants.{SendOut, SendIn, Discard, FinishOut, FinishIn, Leave, Mark, Wake, Claim}
-use Rattle.ipcz_router.specs.declared.act.RouterAct.TheVariants.{Lock, Begin, Unlock, Rest}
+use Rattle.ipcz_router.specs.declared.act.RouterAct.TheVariants.{Lock, Begin, Retire, Unlock, Rest}
 use Rattle.ipcz_router.specs.declared.act.Answer.{Answer}
 use Rattle.ipcz_router.specs.declared.act.Answer.TheVariants.{Plain, Claimed, NoWord, Marked, Word, Locked, Waiting, Refused}
 use Rattle.ipcz_node.specs.Directories.{CanHold, ends_inside, ends_brought, ends_taken, takes_inside, ends_given}
@@ -179,6 +179,7 @@ act_inside r Lock NoWord = omega arith
 act_inside r Lock (Marked w b) = omega arith
 act_inside r Lock (Word w) = omega arith
 act_inside r Begin a = omega arith
+act_inside r Retire a = omega arith
 act_inside r Unlock a = omega arith
 act_inside r Rest a = omega arith
 

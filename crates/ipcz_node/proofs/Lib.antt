@@ -10,6 +10,7 @@ pub mod Hearing
 pub mod Held
 pub mod Holding
 pub mod Indexes
+pub mod Leaving
 pub mod LinkPlaces
 pub mod Mailing
 pub mod Preparing

@@ -82,6 +82,7 @@ gives_nothing (Some r) acts.SendIn h = absurd (true≢false h)
 gives_nothing (Some r) acts.Discard h = absurd (true≢false h)
 gives_nothing (Some r) acts.Wake h = absurd (true≢false h)
 gives_nothing (Some r) acts.Begin h = absurd (true≢false h)
+gives_nothing (Some r) acts.Retire h = absurd (true≢false h)
 gives_nothing (Some r) acts.FinishOut h = refl
 gives_nothing (Some r) acts.FinishIn h = refl
 gives_nothing (Some r) acts.Leave h = refl

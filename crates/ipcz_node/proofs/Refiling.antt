@@ -29,7 +29,7 @@ use Rattle.ipcz_router.specs.Bypass.{bypass_peer}
 use Rattle.ipcz_router.specs.ActEffects.{apply, finish_in, begin_bypass}
 use Rattle.ipcz_router.specs.declared.act.RouterAct.{RouterAct}
 use Rattle.ipcz_router.specs.declared.act.RouterAct.TheVariants.{SendOut, SendIn, Discard, FinishOut, FinishIn, Leave, Mark, Wake, Claim}
-use Rattle.ipcz_router.specs.declared.act.RouterAct.TheVariants.{Lock, Begin, Unlock, Rest}
+use Rattle.ipcz_router.specs.declared.act.RouterAct.TheVariants.{Lock, Begin, Retire, Unlock, Rest}
 use Rattle.ipcz_router.specs.declared.act.Answer.{Answer}
 use Rattle.ipcz_router.specs.declared.act.Answer.TheVariants.{Plain, Claimed, NoWord, Marked, Word, Locked, Waiting, Refused}
 use Rattle.ipcz_node.specs.SortedSets.{RoomySet, has}
@@ -376,6 +376,7 @@ act_standing r Begin a = beginning r.inward refl
       closes = λ h. refl;
       stays = refl;
     })
+act_standing r Retire a = same_standing r
 act_standing r Unlock a = record { few = omega (arith, same_links (filing_of r)); closes = λ h. h; stays = refl }
 act_standing r Rest a = record { few = omega (arith, same_links (filing_of r)); closes = λ h. h; stays = refl }
 
@@ -478,6 +479,7 @@ act_stays r Lock NoWord keeps = refl
 act_stays r Lock (Marked w b) keeps = refl
 act_stays r Lock (Word w) keeps = refl
 act_stays r Begin a keeps = absurd (true≢false (sym keeps))
+act_stays r Retire a keeps = refl
 act_stays r Unlock a keeps = refl
 act_stays r Rest a keeps = refl
 

@@ -44,3 +44,16 @@ remove_absent m k none = same_map nat_cmp_total nat_cmp-IsAntisymmetric _ _ (λ 
       | inl t ↦ rw t.1 (sym (ap (get m) t.0 ∙ none))
       | inr t ↦ rw t.1 refl
     ]
+
+-- to take out what was just written takes out what stood there
+pub remove_written : {V : Type 0} (m : FinMap nat_cmp V) (k : ℕ) (v : V) → remove (insert m k v) k ≡ remove m k
+remove_written {V} m k v = same_map nat_cmp_total nat_cmp-IsAntisymmetric _ _
+    (λ q. get-remove nat_cmp_total (insert m k v) k q ∙ ap (cond (eq_by_cmp nat_cmp q k) None) (get-insert nat_cmp_total m k v q) ∙ cases q
+    ∙ sym (get-remove nat_cmp_total m k q))
+  where
+    cases : (q : ℕ) → cond (eq_by_cmp nat_cmp q k) None (cond (eq_by_cmp nat_cmp q k) (Some v) (get m q)) ≡
+        cond (eq_by_cmp nat_cmp q k) None (get m q)
+    cases q = elim (one_or_two q k) [
+      | inl t ↦ rw t.1 refl
+      | inr t ↦ rw t.1 refl
+    ]

@@ -5,7 +5,7 @@ use Rattle.ipcz_base.specs.declared.side.Side.TheVariants.{A, B}
 use Rattle.ipcz_base.specs.declared.end.End.{End}
 use Rattle.ipcz_base.specs.declared.parcel.Parcel as parcels
 use Rattle.ipcz_base.specs.declared.item.Item.{Item}
-use Rattle.ipcz_base.specs.declared.item.Item.TheVariants.{Parcel, Mark}
+use Rattle.ipcz_base.specs.declared.item.Item.TheVariants.{Parcel, Mark, Gone}
 use Rattle.ipcz_base.specs.declared.refusal.Refusal.{Refusal}
 use Rattle.ipcz_base.specs.declared.refusal.Refusal.TheVariants.{Stranger, TooMany, BadData, SelfAttach, PeerAttach, NumbersEnd}
 use Rattle.ipcz_base.specs.Ends.{opposite_end, has_end}
@@ -82,6 +82,7 @@ unfoldable pub item_got : ℕ → Option Item → Option (ℕ × parcels.Parcel)
 item_got number None = None
 item_got number (Some (Parcel p)) = Some (number, p)
 item_got number (Some Mark) = None
+item_got number (Some Gone) = None
 
 -- what a get gives at a terminal
 abbrev pub got_from : Router → Option (ℕ × parcels.Parcel)

@@ -1,5 +1,5 @@
 -- What an act is seen to do, as the transcript prints it.
-use Rattle.std.specs.Prelude.{ℕ, Option, Some, None, List, []}
+use Rattle.std.specs.Prelude.{ℕ, if◌then◌else◌, Option, Some, None, List, []}
 use Rattle.ipcz_base.specs.declared.end.End.{End}
 use Rattle.ipcz_base.specs.declared.link_id.LinkId.{LinkId}
 use Rattle.ipcz_base.specs.declared.link_id.LinkId.TheVariants.{Central}
@@ -7,6 +7,9 @@ use Rattle.ipcz_base.specs.declared.link_end.LinkEnd.{LinkEnd}
 use Rattle.ipcz_base.specs.declared.message.Message.{Message}
 use Rattle.ipcz_base.specs.declared.message.Message.TheVariants as messages
 use Rattle.ipcz_router.specs.Router.{Router, inward_edge}
+use Rattle.ipcz_router.specs.Acts.{has_gone_next}
+use Rattle.ipcz_router.specs.Calls.{next_number}
+use Rattle.ipcz_base.specs.Items.{is_gone_item}
 use Rattle.ipcz_router.specs.ActEffects.{output_of}
 use Rattle.ipcz_router.specs.declared.act.RouterAct.{RouterAct}
 use Rattle.ipcz_router.specs.declared.act.RouterAct.TheVariants as acts
@@ -67,7 +70,8 @@ unlock_event serial link other = events.Idle
 unfoldable pub router_event : Node → ℕ → Router → RouterAct → Answer → Happened
 router_event n s r acts.SendOut a = send_event n (λ number link ends. events.SendOut s number link ends) (output_of r acts.SendOut)
 router_event n s r acts.SendIn a = send_event n (λ number link ends. events.SendIn s number link ends) (output_of r acts.SendIn)
-router_event n s r acts.Discard a = events.Discard s r.in_queue.current
+router_event n s r acts.Discard a =
+    if has_gone_next r then events.DiscardLeave s r.in_queue.current else events.Discard s r.in_queue.current
 router_event n s r acts.FinishOut a = events.FinishOut s (link_of r.outward.decaying)
 router_event n s r acts.FinishIn a = events.FinishIn s (link_of (inward_edge r).decaying)
 router_event n s r acts.Leave a = events.Leave s
@@ -76,6 +80,7 @@ router_event n s r acts.Wake a = word_event s (link_of r.outward.primary) a
 router_event n s r acts.Claim a = word_event s (link_of r.outward.primary) a
 router_event n s r acts.Lock a = word_event s (link_of r.outward.primary) a
 router_event n s r acts.Begin a = events.Begin s (link_of r.outward.primary)
+router_event n s r acts.Retire a = events.Retire s (next_number r) (link_of r.outward.primary)
 router_event n s r acts.Unlock a = unlock_event s (link_of r.outward.primary) a
 router_event n s r acts.Rest a = events.Rest s
 
@@ -111,8 +116,14 @@ sent_event event other moved = events.Idle
 
 -- an item that was dropped as an event
 unfoldable pub dropped_event : ℕ → Applied → Happened
-dropped_event serial (outputs.Discarded number item) = events.Discard serial number
+dropped_event serial (outputs.Discarded number item) =
+    if is_gone_item item then events.DiscardLeave serial number else events.Discard serial number
 dropped_event serial other = events.Idle
+
+-- Gone as an event
+unfoldable pub retired_event : ℕ → Applied → Happened
+retired_event serial (outputs.Sent link number item) = events.Retire serial number link.link
+retired_event serial other = events.Idle
 
 -- what an act is seen to do, by the link that it is about, by what it gave and by the ends that this moved
 unfoldable pub act_event : ℕ → LinkId → RouterAct → Answer → Applied → List End → Happened
@@ -127,5 +138,6 @@ act_event s link acts.Wake a output moved = word_event s link a
 act_event s link acts.Claim a output moved = word_event s link a
 act_event s link acts.Lock a output moved = word_event s link a
 act_event s link acts.Begin a output moved = events.Begin s link
+act_event s link acts.Retire a output moved = retired_event s output
 act_event s link acts.Unlock a output moved = unlock_event s link a
 act_event s link acts.Rest a output moved = events.Rest s

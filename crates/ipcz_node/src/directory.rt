@@ -17,6 +17,7 @@ ghost use Rattle.ipcz_node.specs.Rooms.{put_filed, link_filed, add_filed, drop_f
 ghost use Rattle.ipcz_node.specs.Directories.{ends_brought, ends_taken};
 ghost use Rattle.ipcz_node.specs.Directories.{keeps_links};
 ghost use Rattle.std.specs.FinSet as sets;
+ghost use Rattle.std.specs.FinMap as map;
 ghost use Rattle.ipcz_node.specs.Serials.{map_by, AreRising};
 
 mod calls;
@@ -126,6 +127,13 @@ impl Directory {
         ensures rising { AreRising 0 self.now.filed.next result.now }
     {
         self.routers.entries()
+    }
+
+    /// How many routers there are.
+    pub fn len(&self) -> usize
+        ensures { result ≡ map.len self.now.filed.routers }
+    {
+        self.routers.len()
     }
 
     /// Makes room for so many routers and so many links of others more. It asks for none where there is room for both, and no
@@ -238,6 +246,16 @@ impl Directory {
         };
         self.files.refile(serial, &was, &nowhere);
         router
+    }
+
+    /// Takes the router of a serial out and lets it go. It stands apart, since a function pays at its start for the place of a router that
+    /// it may take out.
+    #[inline(never)]
+    pub fn drop_router(&mut self, serial: u64)
+        requires { is_some (get self.old.filed.routers serial) ≡ true }
+        ensures { self.new.filed ≡ drop_filed self.old.filed serial }
+    {
+        let _left = self.remove(serial);
     }
 
     /// Makes the terminal of the serial a proxy, as `Router::extend_to`.

@@ -1,6 +1,6 @@
 ghost use Rattle.std.specs.Prelude.{◌≡◌};
 ghost use Rattle.ipcz_node.specs.Hands.{link_asked, side_asked};
-ghost use Rattle.ipcz_node.specs.Events.{act_event, dropped_event, kind_of, link_of, sent_event, unlock_event, word_event};
+ghost use Rattle.ipcz_node.specs.Events.{act_event, dropped_event, kind_of, link_of, retired_event, sent_event, unlock_event, word_event};
 
 use ipcz_base::{End, Ends, LinkEnd, LinkId, Message, Side};
 use ipcz_router::act::{Answer, Applied, RouterAct};
@@ -42,6 +42,8 @@ pub enum Happened {
         moved: Ends,
     },
     Discard(u64, u64),
+    /// The discard of Gone, by which a sink leaves.
+    DiscardLeave(u64, u64),
     FinishOut(u64, LinkId),
     FinishIn(u64, LinkId),
     Leave(u64),
@@ -53,6 +55,8 @@ pub enum Happened {
     Wait(u64, LinkId, u64),
     Refused(u64, LinkId, u64),
     Begin(u64, LinkId),
+    /// The number of Gone, and the link that it goes over.
+    Retire(u64, u64, LinkId),
     Unlock(u64, LinkId, u64),
     Rest(u64),
     Idle,
@@ -103,7 +107,19 @@ fn dropped_event(serial: u64, applied: &Applied) -> Happened
     ensures { result ≡ dropped_event serial applied.now }
 {
     match applied {
+        Applied::Discarded(n, item) if item.is_gone() => Happened::DiscardLeave(serial, *n),
         Applied::Discarded(n, _) => Happened::Discard(serial, *n),
+        _ => Happened::Idle,
+    }
+}
+
+// What a retirement is seen to do: Gone with its number.
+#[tactic(auto, unfolding(crate::specs::Events::retired_event))]
+fn retired_event(serial: u64, applied: &Applied) -> Happened
+    ensures { result ≡ retired_event serial applied.now }
+{
+    match applied {
+        Applied::Sent(link, n, _) => Happened::Retire(serial, *n, link.link),
         _ => Happened::Idle,
     }
 }
@@ -163,6 +179,7 @@ pub(crate) fn act_event(
             word_event(serial, link, answer)
         }
         RouterAct::Begin => Happened::Begin(serial, link),
+        RouterAct::Retire => retired_event(serial, applied),
         RouterAct::Unlock => unlock_event(serial, link, answer),
         RouterAct::Rest => Happened::Rest(serial),
     }

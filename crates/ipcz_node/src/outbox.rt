@@ -1,4 +1,4 @@
-ghost use Rattle.std.specs.Prelude.{◌≤◌, ◌≡◌, ◌<◌, ◌++◌, [], ◌∷◌, nat_eq, length, OnOk, IsOk};
+ghost use Rattle.std.specs.Prelude.{◌≤◌, ◌≡◌, ◌<◌, ◌++◌, [], ◌∷◌, nat_eq, length, slice_get, option_copied, OnOk, IsOk};
 ghost use Rattle.ipcz_node.specs.Acts.{first_of, rest_of};
 
 use ipcz_base::Message;
@@ -88,6 +88,17 @@ impl Outbox {
     {
         let rest = self.rest.len();
         if self.first.is_some() { rest + 1 } else { 0 }
+    }
+
+    /// The message at an index, of which the first is 0.
+    pub fn get(&self, i: usize) -> Option<&Message>
+        ensures { option_copied result ≡ slice_get self.now.messages i }
+    {
+        if i == 0 {
+            self.first.as_ref()
+        } else {
+            self.rest.get(i - 1)
+        }
     }
 
     /// Takes the first message out, where there is one. What is left empty gives its room back.

@@ -1,5 +1,6 @@
 ghost use Rattle.std.specs.Prelude.{◌≡◌, ◌≤◌, ◌-◌, Some, None, true, map, vec_len};
 ghost use Rattle.std.specs.Prelude.{vec_capacity, IfSome, IfNone, IsSomeAnd};
+ghost use Rattle.std.specs.FinMap.{len};
 ghost use Rattle.ipcz_base.specs.Limits.{no_number};
 ghost use Rattle.ipcz_router.specs.Router.{IsOpenTerminal, router_has};
 ghost use Rattle.ipcz_node.specs.Serials.{map_by, AreRising};
@@ -118,6 +119,13 @@ impl NodeState {
         ensures rising { AreRising 0 self.now.node.next_router result.now }
     {
         self.routers.entries()
+    }
+
+    /// How many routers it has.
+    pub fn router_count(&self) -> usize
+        ensures { result ≡ len self.now.node.routers }
+    {
+        self.routers.len()
     }
 
     /// The messages that wait to be posted, by destination: a queue for each number that a node could have.

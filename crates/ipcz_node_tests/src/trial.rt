@@ -10,6 +10,7 @@ mod forged;
 mod letters;
 mod moves;
 mod refusals;
+mod retiring;
 mod serials;
 mod strays;
 mod turns;
@@ -82,7 +83,7 @@ enum Step {
     First(Act),
     /// Does the first possible act, with the answer of the words that is told.
     Turn(Deed),
-    /// Gives the lock back in place of the begin that comes first; the word after it.
+    /// Gives the lock back in place of the begin or the retire that comes first; the word after it.
     Unlock(u64),
     /// The message that was posted last.
     Posted(Letter),
@@ -104,6 +105,8 @@ enum Step {
     HeldFrom(u64, Option<(u64, End)>),
     /// How many messages didn't fit.
     Strays(usize),
+    /// How many routers there are.
+    Routers(usize),
     /// Whether the node has nothing to do until a message comes.
     Quiet(bool),
 }
@@ -303,6 +306,7 @@ impl Trial {
             }
             Step::Return => self.deliver_back() == Some(true),
             Step::Strays(count) => self.node.strays().len() == *count,
+            Step::Routers(count) => self.node.routers().len() == *count,
             Step::Quiet(want) => self.node.quiet() == *want,
             _ => self.calls(step),
         }

@@ -3,6 +3,7 @@
 use Rattle.std.specs.Prelude.{◌≡◌, ℕ, ◌<◌, Bool, true, false, Option, Some, None, option_map}
 use Rattle.ipcz_base.specs.declared.link_end.LinkEnd.{LinkEnd}
 use Rattle.ipcz_base.specs.declared.item.Item.{Item}
+use Rattle.ipcz_base.specs.declared.item.Item.TheVariants.{Gone}
 use Rattle.ipcz_base.specs.declared.message.Message.TheVariants.{BypassPeer, Flush}
 use Rattle.ipcz_base.specs.Limits.{no_number}
 use Rattle.ipcz_base.specs.Links.{word_of}
@@ -11,7 +12,7 @@ use Rattle.ipcz_edge.specs.Edge.{begin_decay, finish}
 use Rattle.ipcz_seq.specs.Queue.{current_item}
 use Rattle.ipcz_router.specs.declared.act.RouterAct.{RouterAct}
 use Rattle.ipcz_router.specs.declared.act.RouterAct.TheVariants.{SendOut, SendIn, Discard, FinishOut, FinishIn, Leave, Mark, Wake, Claim}
-use Rattle.ipcz_router.specs.declared.act.RouterAct.TheVariants.{Lock, Begin, Unlock, Rest}
+use Rattle.ipcz_router.specs.declared.act.RouterAct.TheVariants.{Lock, Begin, Retire, Unlock, Rest}
 use Rattle.ipcz_router.specs.declared.act.Answer.{Answer}
 use Rattle.ipcz_router.specs.declared.act.Answer.TheVariants.{Plain, Claimed, NoWord, Marked, Word, Locked, Waiting, Refused}
 use Rattle.ipcz_router.specs.declared.act.Applied.{Applied}
@@ -20,7 +21,8 @@ use Rattle.ipcz_router.specs.Router.{Router, inward_edge}
 use Rattle.ipcz_router.specs.ActTable.{may_take}
 use Rattle.ipcz_router.specs.declared.sending.Sending.{Sending}
 use Rattle.ipcz_router.specs.Bypass.{relink}
-use Rattle.ipcz_router.specs.Acts.{way_out, way_in, pop_out, pop_in, rest}
+use Rattle.ipcz_router.specs.Acts.{way_out, way_in, pop_out, send_on, drop_item, has_gone_next, rest}
+use Rattle.ipcz_router.specs.Calls.{next_number}
 
 -- an answer is of an act's kind: what a claim, a mark, a wake, a try for the lock or an unlock may be told; to each other act, that it
 -- touches no word
@@ -88,8 +90,8 @@ begin_bypass r = record (relink r (begin_decay r.outward)) { inward = option_map
 -- the router after an act with its answer; an answer of another kind does nothing
 unfoldable pub apply : Router → RouterAct → Answer → Router
 apply r SendOut a = pop_out r
-apply r SendIn a = pop_in r
-apply r Discard a = pop_in r
+apply r SendIn a = send_on r
+apply r Discard a = drop_item r
 apply r FinishOut a = finish_out r
 apply r FinishIn a = finish_in r
 apply r Leave a = r
@@ -104,8 +106,16 @@ apply r Lock (Waiting word) = fail_lock r
 apply r Lock (Refused word) = fail_lock r
 apply r Lock other = r
 apply r Begin a = begin_bypass r
+apply r Retire a = r
 apply r Unlock a = drop_lock r
 apply r Rest a = rest r
+
+-- whether a router leaves its node by an act: by a leave, a retire, or the discard of Gone
+unfoldable pub leaves_by : Router → RouterAct → Bool
+leaves_by r Leave = true
+leaves_by r Retire = true
+leaves_by r Discard = has_gone_next r
+leaves_by r other = false
 
 -- what tells the router inward that the bypass begins
 abbrev pub peer_message : LinkEnd → LinkEnd → ℕ → ℕ → Sending
@@ -140,6 +150,11 @@ unfoldable pub discard_output : ℕ → Option Item → Applied
 discard_output n None = Nothing
 discard_output n (Some item) = Discarded n item
 
+-- Gone with the number after the mark, over the link of a sink that retires, where there is one
+unfoldable pub retire_output : Option LinkEnd → ℕ → Applied
+retire_output None n = Nothing
+retire_output (Some e) n = Sent e n Gone
+
 -- what an act gives to the node
 unfoldable pub output_of : Router → RouterAct → Applied
 output_of r SendOut = item_output (way_out r) r.out_queue.current (current_item r.out_queue)
@@ -147,6 +162,7 @@ output_of r SendIn = item_output (way_in r) r.in_queue.current (current_item r.i
 output_of r Discard = discard_output r.in_queue.current (current_item r.in_queue)
 output_of r Wake = message_output (flush_message r.outward.primary)
 output_of r Begin = message_output (begin_message (inward_edge r).primary r.outward.primary r.spare)
+output_of r Retire = retire_output r.outward.primary (next_number r)
 output_of r other = Nothing
 
 -- what a node is given is of an act's kind: an item that is sent, one that is dropped, or a message; a begin whose inward edge has no
@@ -161,6 +177,8 @@ IsOutputOf Discard other = ⊥
 IsOutputOf Wake (Message to message) = Unit {0}
 IsOutputOf Wake other = ⊥
 IsOutputOf Begin (Message to message) = Unit {0}
+IsOutputOf Retire (Sent link n item) = Unit {0}
+IsOutputOf Retire other = ⊥
 IsOutputOf act Nothing = Unit {0}
 IsOutputOf act other = ⊥
 

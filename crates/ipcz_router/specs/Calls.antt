@@ -6,7 +6,7 @@ use Rattle.ipcz_base.specs.declared.link_id.LinkId.{LinkId}
 use Rattle.ipcz_base.specs.declared.link_end.LinkEnd.{LinkEnd}
 use Rattle.ipcz_base.specs.declared.descriptor.Descriptor.{Descriptor}
 use Rattle.ipcz_base.specs.declared.item.Item.{Item}
-use Rattle.ipcz_base.specs.declared.item.Item.TheVariants.{Parcel, Mark}
+use Rattle.ipcz_base.specs.declared.item.Item.TheVariants.{Parcel, Mark, Gone}
 use Rattle.ipcz_base.specs.declared.refusal.Refusal.{Refusal}
 use Rattle.ipcz_base.specs.declared.refusal.Refusal.TheVariants.{Empty, PeerClosed, NumbersEnd, Stranger}
 use Rattle.ipcz_base.specs.Items.{is_mark}
@@ -32,6 +32,7 @@ unfoldable pub item_refusal : Option Item → Option Refusal
 item_refusal None = Some Empty
 item_refusal (Some (Parcel p)) = None
 item_refusal (Some Mark) = Some PeerClosed
+item_refusal (Some Gone) = Some PeerClosed
 
 -- why a get at a terminal is refused
 abbrev pub router_get_refusal : Router → Option Refusal

@@ -37,6 +37,10 @@ pub record Router : Type 0 where
   pub holds : Bool
   -- the other side was waiting when this side was marked
   pub wake_owed : Bool
+  -- this sink has discarded the peer's mark
+  pub mark_dropped : Bool
+  -- this proxy has sent Gone inward
+  pub gone_sent : Bool
 
 -- whether it has an inward edge
 abbrev pub is_proxy : Router → Bool
@@ -115,6 +119,8 @@ new_terminal end link next_out next_in is_marked = record {
   dry = false;
   holds = false;
   wake_owed = false;
+  mark_dropped = false;
+  gone_sent = false;
 }
 
 -- a terminal on a link, marked where the link is central, since its word has both sides stable

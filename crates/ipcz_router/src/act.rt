@@ -27,7 +27,9 @@ pub enum RouterAct {
     Lock,
     /// Begins its bypass, under that lock.
     Begin,
-    /// Gives that lock back, where a bypass finds no memory to begin.
+    /// Leaves its node under that lock, since both ends of its pair are closed, and tells the other side by [`Item::Gone`].
+    Retire,
+    /// Gives that lock back, where a bypass finds no memory to begin, or a sink none to retire.
     Unlock,
     /// Takes its flag away, since nothing else is possible.
     Rest,

@@ -59,6 +59,6 @@ fn ends_count(item: &Item) -> usize
 {
     match item {
         Item::Parcel(parcel) => parcel.ends.len(),
-        Item::Mark => 0,
+        Item::Mark | Item::Gone => 0,
     }
 }

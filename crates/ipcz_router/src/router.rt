@@ -1,6 +1,7 @@
 ghost use Rattle.std.specs.Prelude.{◌≡◌, ◌<◌, ◌≤◌, true, false, OnSome, IfNone, option_copied};
 ghost use Rattle.ipcz_base.specs.Limits.{last_number, no_number};
 ghost use Rattle.ipcz_seq.specs.Queue.{current_item};
+ghost use Rattle.ipcz_seq.specs.Last.{last_entry};
 ghost use Rattle.ipcz_router.specs.Router.{is_terminal, is_open_terminal, inward_has, router_has, new_terminal, terminal};
 ghost use Rattle.ipcz_router.specs.Router.{from_descriptor, rouse, source_of, word_side};
 ghost use Rattle.ipcz_router.specs.RoomyRouters.{KeepsRoom, LeavesRoom};
@@ -42,12 +43,14 @@ pub struct Router {
     dry: bool,
     holds: bool,
     wake_owed: bool,
+    mark_dropped: bool,
+    gone_sent: bool,
 }
 
 impl Model for Router {
     ghost use Rattle.ipcz_router.specs.Numbers.{KeepsNumbers};
     ghost use Rattle.ipcz_router.specs.RoomyRouters.{RoomyRouter};
-    ghost use Rattle.std.specs.Prelude.{◌&&◌, is_none, not};
+    ghost use Rattle.std.specs.Prelude.{is_none};
     ghost use Rattle.std.specs.FinMap.{code};
     ghost use Rattle.std.specs.Coded.{codes};
 
@@ -71,12 +74,14 @@ impl Model for Router {
         dry = a.dry;
         holds = a.holds;
         wake_owed = a.wake_owed;
+        mark_dropped = a.mark_dropped;
+        gone_sent = a.gone_sent;
       };
       out_room = a.out_queue.room;
       in_room = a.in_queue.room;
     } };
 
-    ghost invariant = { λ a. KeepsNumbers (is_none a.inward && not a.closed) a.out_queue.queue a.in_queue.queue };
+    ghost invariant = { λ a. KeepsNumbers (is_none a.inward) a.closed a.out_queue.queue a.in_queue.queue };
 }
 
 impl Router {
@@ -142,6 +147,8 @@ impl Router {
             dry: false,
             holds: false,
             wake_owed: false,
+            mark_dropped: false,
+            gone_sent: false,
         }
     }
 
@@ -262,6 +269,20 @@ impl Router {
         ensures { option_copied result ≡ current_item self.now.router.in_queue }
     {
         self.in_queue.next()
+    }
+
+    /// The item of the highest number in the out queue, with that number.
+    pub fn out_last(&self) -> Option<&(u64, Item)>
+        ensures { option_copied result ≡ last_entry self.now.router.out_queue }
+    {
+        self.out_queue.last()
+    }
+
+    /// The item of the highest number in the in queue, with that number.
+    pub fn in_last(&self) -> Option<&(u64, Item)>
+        ensures { option_copied result ≡ last_entry self.now.router.in_queue }
+    {
+        self.in_queue.last()
     }
 
     /// Where its node files it.

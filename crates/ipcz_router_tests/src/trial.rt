@@ -5,6 +5,7 @@
 mod bypass;
 mod calls;
 mod deeds;
+mod retiring;
 mod sights;
 
 use self::deeds::{Deed, Given};
@@ -37,9 +38,11 @@ enum Step {
     /// A parcel of one byte comes over a link, or a mark where there is no byte, for the router on this side of it, under this
     /// number.
     Come(usize, LinkId, Side, u64, Option<u8>, Result<(), Refusal>),
+    /// Gone comes over a link, for the router on this side of it, under this number, and is taken.
+    GoneComes(usize, LinkId, Side, u64),
     /// Does the first possible act, which is this one, and gives this.
     Act(usize, Deed, Given),
-    /// Gives the lock back in place of the begin that comes first; the word after it.
+    /// Gives the lock back in place of the begin or the retire that comes first; the word after it.
     Unlock(usize, u64),
     /// The first possible act sends an item over this link under this number, to that router, which takes it.
     Carry(usize, Deed, usize, LinkId, u64),
@@ -82,6 +85,11 @@ fn item_of(alloc: Global, byte: Option<u8>) -> Result<Item, AllocError> {
 // Whether a parcel has this byte alone.
 fn is_letter(parcel: &Parcel, byte: u8) -> bool {
     parcel.bytes.as_slice() == [byte].as_slice()
+}
+
+// Gone comes over a link; whether it is taken.
+fn gone_comes(router: &mut Router, link: LinkId, side: Side, n: u64) -> bool {
+    n != u64::MAX && router.accept(link, side, n, Item::Gone).is_ok()
 }
 
 // Whether an item has this byte, or is a mark.
@@ -259,7 +267,7 @@ impl Trial {
         let place = match step {
             Step::Put(place, _, _) | Step::Get(place, _) => *place,
             Step::Close(place, _) | Step::ReserveClose(place) => *place,
-            Step::Come(place, _, _, _, _, _) => *place,
+            Step::Come(place, _, _, _, _, _) | Step::GoneComes(place, _, _, _) => *place,
             _ => return self.hears(step),
         };
         let alloc = self.alloc;
@@ -273,6 +281,7 @@ impl Trial {
             Step::Come(_, link, side, n, byte, want) => {
                 comes(router, alloc, (*link, *side), *n, *byte, *want)
             }
+            Step::GoneComes(_, link, side, n) => Ok(gone_comes(router, *link, *side, *n)),
             _ => Ok(router.reserve_close().is_ok()),
         }
     }

@@ -7,7 +7,7 @@ use Rattle.ipcz_base.specs.declared.link_id.LinkId.{LinkId}
 use Rattle.ipcz_word.specs.Word.{Word}
 use Rattle.ipcz_router.specs.Router.{Router, primary_word, source_of}
 use Rattle.ipcz_router.specs.ActTable.{may_take}
-use Rattle.ipcz_router.specs.ActEffects.{apply, output_of}
+use Rattle.ipcz_router.specs.ActEffects.{apply, leaves_by, output_of}
 use Rattle.ipcz_router.specs.declared.act.RouterAct.{RouterAct}
 use Rattle.ipcz_router.specs.declared.act.RouterAct.TheVariants as acts
 use Rattle.ipcz_router.specs.declared.act.Answer.{Answer}
@@ -55,21 +55,10 @@ send_hand n (outputs.Sent link number item) = move_ends_hand (record { node = n;
 send_hand n (outputs.Message to message) = refl
 send_hand n (outputs.Discarded number item) = refl
 
-keep_hand : (n : Node) (serial : ℕ) (r : Router) (act : RouterAct) → (keep_or_drop n serial r act).hand ≡ n.hand
+keep_hand : (n : Node) (serial : ℕ) (r : Router) (leaves : Bool) → (keep_or_drop n serial r leaves).hand ≡ n.hand
 unfolding keep_or_drop
-keep_hand n serial r acts.SendOut = refl
-keep_hand n serial r acts.SendIn = refl
-keep_hand n serial r acts.Discard = refl
-keep_hand n serial r acts.FinishOut = refl
-keep_hand n serial r acts.FinishIn = refl
-keep_hand n serial r acts.Leave = refl
-keep_hand n serial r acts.Mark = refl
-keep_hand n serial r acts.Wake = refl
-keep_hand n serial r acts.Claim = refl
-keep_hand n serial r acts.Lock = refl
-keep_hand n serial r acts.Begin = refl
-keep_hand n serial r acts.Unlock = refl
-keep_hand n serial r acts.Rest = refl
+keep_hand n serial r true = refl
+keep_hand n serial r false = refl
 
 pub act_hand : (n : Node) (serial : ℕ) (act : RouterAct) (a : Answer) → (commit n (OfRouter serial act) a).hand ≡ n.hand
 unfolding commit on_router commit_router
@@ -77,7 +66,7 @@ act_hand n serial act a = go (router_in n serial)
   where
     go : (f : Option Router) → (on_router n f (commit_router n serial act a)).hand ≡ n.hand
     go None = refl
-    go (Some r) = send_hand (keep_or_drop n serial (apply r act a) act) (output_of r act) ∙ keep_hand n serial (apply r act a) act
+    go (Some r) = send_hand (keep_or_drop n serial (apply r act a) (leaves_by r act)) (output_of r act) ∙ keep_hand n serial (apply r act a) (leaves_by r act)
 
 -- acts that touch no other word and write no book
 abbrev pub is_plain_touch : RouterAct → Bool
@@ -103,6 +92,7 @@ plain_touch x s o acts.Wake e = cc
 plain_touch x s o acts.Claim e = cc
 plain_touch x s o acts.Lock e = cc
 plain_touch x s o acts.Begin e = refl
+plain_touch x s o acts.Retire e = cc
 plain_touch x s o acts.Unlock e = cc
 plain_touch x s o acts.Rest e = refl
 
@@ -124,6 +114,7 @@ after_touch w n serial r acts.Wake e = cc
 after_touch w n serial r acts.Claim e = cc
 after_touch w n serial r acts.Lock e = cc
 after_touch w n serial r acts.Begin e = ap (λ a. set_node w n (commit (node_at w n) (OfRouter serial acts.Begin) a)) (plain_link w r.end.side (source_of r) acts.Begin (primary_word r) e)
+after_touch w n serial r acts.Retire e = cc
 after_touch w n serial r acts.Unlock e = cc
 after_touch w n serial r acts.Rest e = ap (λ a. set_node w n (commit (node_at w n) (OfRouter serial acts.Rest) a)) (plain_link w r.end.side (source_of r) acts.Rest (primary_word r) e)
 
@@ -140,6 +131,7 @@ touch_is w r acts.Wake e = refl
 touch_is w r acts.Claim e = cc
 touch_is w r acts.Lock e = refl
 touch_is w r acts.Begin e = cc
+touch_is w r acts.Retire e = cc
 touch_is w r acts.Unlock e = refl
 touch_is w r acts.Rest e = cc
 
@@ -156,6 +148,7 @@ answer_is w r acts.Wake e = refl
 answer_is w r acts.Claim e = cc
 answer_is w r acts.Lock e = refl
 answer_is w r acts.Begin e = cc
+answer_is w r acts.Retire e = cc
 answer_is w r acts.Unlock e = refl
 answer_is w r acts.Rest e = cc
 
@@ -201,6 +194,7 @@ quiet_send w b x n event (outputs.Discarded number item) h = refl
 -- acts that write no book
 abbrev pub is_unwritten : RouterAct → Bool
 is_unwritten acts.Discard = false
+is_unwritten acts.Retire = false
 is_unwritten other = true
 
 quiet_act : (w : World) (b : Books) (x : Node) (n serial : ℕ) (r : Router) (act : RouterAct) (a : Answer) → is_unwritten act ≡ true → after_turn w b n (router_event x serial r act a) ≡ b
@@ -216,6 +210,7 @@ quiet_act w b x n serial r acts.Wake a e = quiet_word w b n serial (link_of r.ou
 quiet_act w b x n serial r acts.Claim a e = quiet_word w b n serial (link_of r.outward.primary) a
 quiet_act w b x n serial r acts.Lock a e = quiet_word w b n serial (link_of r.outward.primary) a
 quiet_act w b x n serial r acts.Begin a e = refl
+quiet_act w b x n serial r acts.Retire a e = cc
 quiet_act w b x n serial r acts.Unlock a e = quiet_unlock w b n serial (link_of r.outward.primary) a
 quiet_act w b x n serial r acts.Rest a e = refl
 
@@ -270,6 +265,7 @@ unwritten_touch acts.Wake e = refl
 unwritten_touch acts.Claim e = refl
 unwritten_touch acts.Lock e = refl
 unwritten_touch acts.Begin e = refl
+unwritten_touch acts.Retire e = cc
 unwritten_touch acts.Unlock e = refl
 unwritten_touch acts.Rest e = refl
 
@@ -285,6 +281,7 @@ unwritten_word acts.Wake e = refl
 unwritten_word acts.Claim e = refl
 unwritten_word acts.Lock e = refl
 unwritten_word acts.Begin e = refl
+unwritten_word acts.Retire e = cc
 unwritten_word acts.Unlock e = refl
 unwritten_word acts.Rest e = refl
 

@@ -4,7 +4,7 @@ use Rattle.std.proofs.Common.{arith, ap, ◌∙◌, sym, subst, inl}
 use Rattle.std.proofs.lemmas.Bool.Decides.{nat_tests}
 use Rattle.ipcz_base.specs.declared.end.End.{End}
 use Rattle.ipcz_base.specs.declared.item.Item.{Item}
-use Rattle.ipcz_base.specs.declared.item.Item.TheVariants.{Parcel, Mark}
+use Rattle.ipcz_base.specs.declared.item.Item.TheVariants.{Parcel, Mark, Gone}
 use Rattle.ipcz_base.specs.declared.parcel.Parcel as parcels
 use Rattle.ipcz_base.specs.Ends.{same_end, has_end}
 use Rattle.ipcz_seq.specs.Queue.{current_item}
@@ -46,6 +46,7 @@ unfolding item_got got_reply
 reply_item number k None q h = cc
 reply_item number k (Some (Parcel p)) q h = grind (arith, h)
 reply_item number k (Some Mark) q h = cc
+reply_item number k (Some Gone) q h = cc
 
 reply_is : (f : Option Found) (number : ℕ) (q : parcels.Parcel) → got_at_found f ≡ Some (number, q) → get_reply f ≡ replies.Got number q
 unfolding got_at_found get_reply

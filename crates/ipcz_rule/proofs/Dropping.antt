@@ -1,8 +1,9 @@
--- A discard as a step on the own touch word; and all acts of routers that are touches, as one kind.
-use Rattle.std.specs.Prelude.{◌≡◌, ◌⊎◌, ℕ, Bool, true, false, ◌&&◌, ◌||◌, [], ◌∷◌, ◌++◌, Option, Some, None, is_some, refl}
-use Rattle.std.proofs.Common.{ap, ◌∙◌, sym, subst, inl, inr, ⊎_elim}
+-- A discard as a step on the own touch word; and all acts of routers that are touches, with a retire, as one kind.
+use Rattle.std.specs.Prelude.{◌≡◌, ◌⊎◌, ℕ, Bool, true, false, if◌then◌else◌, [], ◌∷◌, ◌++◌, Option, Some, None, is_some, refl}
+use Rattle.std.proofs.Common.{ap, ◌∙◌, sym, subst, inl, inr}
 use Rattle.ipcz_seq.specs.Queue.{current_item}
 use Rattle.ipcz_router.specs.Router.{Router, is_terminal, is_sink, source_of}
+use Rattle.ipcz_router.specs.Acts.{has_gone_next}
 use Rattle.ipcz_router.specs.ActTable.{may_take, is_possible, is_rest, next_act}
 use Rattle.ipcz_router.specs.declared.act.RouterAct.{RouterAct}
 use Rattle.ipcz_router.specs.declared.act.RouterAct.TheVariants as acts
@@ -10,6 +11,7 @@ use Rattle.ipcz_router.specs.declared.act.Answer.{Answer}
 use Rattle.ipcz_router.specs.declared.act.Answer.TheVariants as answers
 use Rattle.ipcz_node.specs.declared.act.Act.{Act}
 use Rattle.ipcz_node.specs.declared.act.Act.TheVariants.{Router as OfRouter}
+use Rattle.ipcz_node.specs.declared.happened.Happened.TheVariants as events
 use Rattle.ipcz_node.specs.Node.{Node, router_in}
 use Rattle.ipcz_node.specs.Acts.{commit}
 use Rattle.ipcz_node.specs.Events.{event_of, event_at, router_event}
@@ -28,6 +30,7 @@ use Rattle.ipcz_rule.specs.Kinds.{KeepsRule, IsTurns, Touches}
 use Rattle.ipcz_rule.proofs.Touching.{touches_turn, set_moves, After, turn_after}
 use Rattle.ipcz_rule.proofs.Acting.{is_plain_touch, is_unwritten, plain_part, unwritten_touch, acts_touch, act_routes, act_hand, here_at, possible, lacks, after_is}
 use Rattle.ipcz_rule.proofs.Adding.{joined_gone}
+use Rattle.ipcz_rule.proofs.Retiring.{both_first, either_false, retires, retired_part_is}
 
 link_plain : (w : World) (r : Router) (i : Option ℕ) → link_answer w r.end.side (source_of r) acts.Discard i ≡ answers.Plain
 unfolding link_answer word_answer
@@ -38,20 +41,19 @@ discard_after : (w : World) (n serial : ℕ) (r : Router) → after_router_act w
 unfolding after_router_act touch answer_of
 discard_after w n serial r = ap (λ a. set_node w n (commit (node_at w n) (OfRouter serial acts.Discard) a)) (link_plain w r _)
 
+-- whether Gone is discarded or another item, one item more is gone
+discard_told : (w : World) (b : Books) (n serial number : ℕ) (r : Router) (leaves : Bool) → router_of w n serial ≡ Some r →
+    after_turn w b n (if leaves then events.DiscardLeave serial number else events.Discard serial number) ≡ add_gone b r.end
+unfolding after_turn after_discard
+discard_told w b n serial number r true there = ap (after_discard b) there
+discard_told w b n serial number r false there = ap (after_discard b) there
+
 discard_written : (w : World) (b : Books) (n serial : ℕ) (r : Router) → router_of w n serial ≡ Some r → router_in (node_at w n) serial ≡ Some r →
     advance w b (steps.Turn n) (replies.Turned (turn_event w n (OfRouter serial acts.Discard))) ≡ add_gone b r.end
-unfolding advance turn_event router_seen event_of event_at router_event after_turn after_discard
+unfolding advance turn_event router_seen event_of event_at router_event
 discard_written w b n serial r there here =
     ap (λ o. after_turn w b n (router_seen w n serial acts.Discard o)) there
-    ∙ (ap (λ o. after_turn w b n (event_at (node_at w n) serial o acts.Discard (answer_of w r acts.Discard))) here ∙ ap (after_discard b) there)
-
-both_first : (x y : Bool) → (x && y) ≡ true → x ≡ true
-both_first true y q = refl
-both_first false y q = cc
-
-either_false : (x y : Bool) → (x || (false && y)) ≡ true → x ≡ true
-either_false true y q = refl
-either_false false y q = cc
+    ∙ (ap (λ o. after_turn w b n (event_at (node_at w n) serial o acts.Discard (answer_of w r acts.Discard))) here ∙ discard_told w b n serial r.in_queue.current r (has_gone_next r) there)
 
 -- what may discard is a sink
 sink_discards : (r : Router) → may_take r acts.Discard ≡ true → is_terminal r ≡ true
@@ -103,6 +105,7 @@ part_is serial acts.Wake a p e = refl
 part_is serial acts.Claim a p e = refl
 part_is serial acts.Lock a p e = refl
 part_is serial acts.Begin a p e = refl
+part_is serial acts.Retire a p e = cc
 part_is serial acts.Unlock a p e = refl
 part_is serial acts.Rest a p e = refl
 
@@ -111,11 +114,11 @@ pub dropped_part_is : (serial : ℕ) (p : Part) (r : Router) → router_in p.sta
     add_gone_entry r.end r.in_queue.current (plain_part serial acts.Discard answers.Plain p) ≡ act_part (OfRouter serial acts.Discard) answers.Plain p
 dropped_part_is serial p r there = rw there refl
 
--- a touch writes no book, or is a discard
-touch_writes : (act : RouterAct) → is_touch act ≡ true → (is_plain_touch act ≡ true) ⊎ (act ≡ acts.Discard)
+-- a touch writes no book, or is a discard, or a retire
+touch_writes : (act : RouterAct) → is_touch act ≡ true → (is_plain_touch act ≡ true) ⊎ ((act ≡ acts.Discard) ⊎ (act ≡ acts.Retire))
 touch_writes acts.SendOut e = inl refl
 touch_writes acts.SendIn e = inl refl
-touch_writes acts.Discard e = inr refl
+touch_writes acts.Discard e = inr (inl refl)
 touch_writes acts.FinishOut e = inl refl
 touch_writes acts.FinishIn e = inl refl
 touch_writes acts.Leave e = inl refl
@@ -124,6 +127,7 @@ touch_writes acts.Wake e = cc
 touch_writes acts.Claim e = cc
 touch_writes acts.Lock e = cc
 touch_writes acts.Begin e = inl refl
+touch_writes acts.Retire e = inr (inr refl)
 touch_writes acts.Unlock e = cc
 touch_writes acts.Rest e = inl refl
 
@@ -131,15 +135,25 @@ touch_writes acts.Rest e = inl refl
 abbrev Touch : ℕ → ℕ → ℕ → ℕ → ℕ → Mine → ℕ → Act → Part → Type 0
 Touch count size slots id i m n act q = IsTurns count size slots id m i (λ k. k) (λ k. (n, act) ∷ []) (λ k m'. m' ≡ (with_part q m.0, m.1))
 
+-- a touch by its act
+abbrev Acted : ℕ → ℕ → ℕ → ℕ → ℕ → Mine → Part → ℕ → RouterAct → Type 0
+Acted count size slots id i m p serial act = Touch count size slots id i m p.node (OfRouter serial act) (act_part (OfRouter serial act) answers.Plain p)
+
+discard_acts : (count size slots id i : ℕ) (m : Mine) (p : Part) (serial : ℕ) (rt : Router) → m.0.parts ≡ p ∷ [] → CanAct p.state serial rt acts.Discard → Acted count size slots id i m p serial acts.Discard
+discard_acts count size slots id i m p serial rt is can =
+    subst (Touch count size slots id i m p.node (OfRouter serial acts.Discard)) (dropped_part_is serial p rt can.there) (discards count size slots id i m p serial rt is can)
+
+retire_acts : (count size slots id i : ℕ) (m : Mine) (p : Part) (serial : ℕ) (rt : Router) → m.0.parts ≡ p ∷ [] → CanAct p.state serial rt acts.Retire → Acted count size slots id i m p serial acts.Retire
+retire_acts count size slots id i m p serial rt is can =
+    subst (Touch count size slots id i m p.node (OfRouter serial acts.Retire)) (retired_part_is serial p rt can.there) (retires count size slots id i m p serial rt is can)
+
 -- the acts of routers that are touches
 pub touches_acts_turns : Touches IsTurns
-touches_acts_turns count size slots id i m p serial rt act is can e = ⊎_elim
-    (λ (plain : is_plain_touch act ≡ true). subst (Touch count size slots id i m p.node (OfRouter serial act)) (sym (part_is serial act answers.Plain p (unwritten_touch act plain))) (acts_touch count size slots id i m p serial rt act is can plain))
-    (λ (same : act ≡ acts.Discard). let can' = subst (CanAct p.state serial rt) same can in
-    let done : Touch count size slots id i m p.node (OfRouter serial acts.Discard) (act_part (OfRouter serial acts.Discard) answers.Plain p) =
-    subst (Touch count size slots id i m p.node (OfRouter serial acts.Discard)) (dropped_part_is serial p rt can'.there) (discards count size slots id i m p serial rt is can') in
-    subst (λ (z : RouterAct). Touch count size slots id i m p.node (OfRouter serial z) (act_part (OfRouter serial z) answers.Plain p)) (sym same) done)
-    (touch_writes act e)
+touches_acts_turns count size slots id i m p serial rt act is can e = elim (touch_writes act e) [
+  | inl plain ↦ subst (Touch count size slots id i m p.node (OfRouter serial act)) (sym (part_is serial act answers.Plain p (unwritten_touch act plain))) (acts_touch count size slots id i m p serial rt act is can plain)
+  | inr (inl same) ↦ subst (Acted count size slots id i m p serial) (sym same) (discard_acts count size slots id i m p serial rt is (subst (CanAct p.state serial rt) same can))
+  | inr (inr same) ↦ subst (Acted count size slots id i m p serial) (sym same) (retire_acts count size slots id i m p serial rt is (subst (CanAct p.state serial rt) same can))
+]
 
 pub touches_acts : Touches KeepsRule
 touches_acts count size slots id i m p serial rt act is can e s r deep at small =

@@ -21,6 +21,7 @@ pub mod Probing
 pub mod Putting
 pub mod QuietParts
 pub mod Races
+pub mod Retiring
 pub mod Returning
 pub mod SettledParts
 pub mod TableRuns

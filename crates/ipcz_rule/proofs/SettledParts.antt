@@ -1,4 +1,4 @@
--- Where each node is settled by its part and no mailbox is full, each open pair of the shown world is direct.
+-- Where each node is settled by its part and no mailbox is full, each open pair of the shown world is direct of which an end isn't closed.
 use Rattle.std.specs.Prelude.{◌≡◌, ◌<◌, ◌≤◌, ℕ, false, length, Option, Some, None, refl}
 use Rattle.std.specs.FinMap.{get-empty}
 use Rattle.std.specs.Ordering.{nat_cmp}
@@ -7,7 +7,7 @@ use Rattle.ipcz_router.specs.Router.{Router}
 use Rattle.ipcz_node.specs.Node.{Node, router_in, bare_node}
 use Rattle.ipcz_world.specs.World.{World, Key, node_at, router_at}
 use Rattle.ipcz_world.specs.Owed.{IsWet}
-use Rattle.ipcz_world.proofs.Whole.{lists_have_lengths, each_quiet_is_direct, quiet_has_no_proxy}
+use Rattle.ipcz_world.proofs.Whole.{lists_have_lengths, each_quiet_is_direct, closed_pairs_are_gone, quiet_has_no_proxy}
 use Rattle.ipcz_rule.specs.RuleLaws.{SettledPartsAreDirect}
 use Rattle.ipcz_rule.proofs.QuietParts.{place_beyond, below_or, quiet_parts_show_quiet}
 
@@ -29,7 +29,7 @@ bare_has_none serial = get-empty nat_cmp serial
 pub settled_parts_are_direct : SettledPartsAreDirect
 settled_parts_are_direct count size s r each full =
     let quiet = quiet_parts_show_quiet count size s r (λ n l. let t = each n l in (t.0, t.1, t.2, t.3, t.4, t.5, t.6, t.7.quiet)) full in
-    (quiet_has_no_proxy r.world r.books r.routes r.lawful quiet wet, λ pair open_pair. each_quiet_is_direct r.world r.books r.routes pair r.lawful quiet wet open_pair)
+    (quiet_has_no_proxy r.world r.books r.routes r.lawful quiet wet, closed_pairs_are_gone r.world r.books r.routes r.lawful quiet wet, λ pair side open_pair open_end. each_quiet_is_direct r.world r.books r.routes pair side r.lawful quiet wet open_pair open_end)
   where
     on_node : (k : Key) (q : Router) → router_at r.world k ≡ Some q → k.node < r.world.count → q.dry ≡ false
     on_node k q here l =

@@ -70,6 +70,7 @@ named_after x s o acts.Wake old new = old
 named_after x s o acts.Claim old new = old
 named_after x s o acts.Lock old new = by_plan_named x s o (plan_of x s) old new
 named_after x s o acts.Begin old new = old
+named_after x s o acts.Retire old new = old
 named_after x s o acts.Unlock old new = tt
 named_after x s o acts.Rest old new = old
 

@@ -87,7 +87,7 @@ PendingCloses F = (count size slots id i : ℕ) (m : Mine) (p : Part) (e : End) 
     F count size slots id m i (λ n. n) (λ n. (p.node, acts.Close e) ∷ [])
     (λ n m'. m' ≡ (with_part (act_part (acts.Close e) answers.Plain p) m.0, m.1))
 
--- touch, of an act of a router: send, discard, finish, leave, begin, rest
+-- touch, of an act of a router: send, discard, finish, leave, begin, retire, rest
 abbrev pub Touches : Form → Type 0
 Touches F = (count size slots id i : ℕ) (m : Mine) (p : Part) (serial : ℕ) (r : Router) (act : RouterAct) → m.0.parts ≡ p ∷ [] →
     CanAct p.state serial r act → is_touch act ≡ true →

@@ -2,12 +2,13 @@
 use Rattle.std.specs.Prelude.{◌≡◌, ◌≢◌, ◌≤◌, ◌<◌, ◌+◌, ◌*◌, ℕ, true, false, List, [], Some, slice_index}
 use mathlib.Core.Option.{some}
 use lib.ListN.{get_elem?}
+use Rattle.ipcz_base.specs.declared.side.Side.{Side}
 use Rattle.ipcz_base.specs.declared.end.End.{End}
 use Rattle.ipcz_base.specs.declared.item.Item.{Item}
 use Rattle.ipcz_base.specs.declared.item.Item.TheVariants.{Parcel}
 use Rattle.ipcz_base.specs.declared.parcel.Parcel as parcels
 use Rattle.ipcz_base.specs.declared.message.Message.{Message}
-use Rattle.ipcz_base.specs.Ends.{opposite_end}
+use Rattle.ipcz_base.specs.Ends.{opposite_end, end_at}
 use Rattle.ipcz_router.specs.Router.{Router}
 use Rattle.ipcz_node.specs.declared.act.Act.{Act}
 use Rattle.ipcz_node.specs.Node.{Node, router_in}
@@ -15,9 +16,9 @@ use Rattle.ipcz_node.specs.Acts.{is_quiet}
 use Rattle.ipcz_node.specs.Hands.{is_unfit}
 use Rattle.ipcz_world.specs.Laws.{LengthLaw, StrayLaw, is_flush}
 use Rattle.ipcz_world.specs.Lawful.{Headline}
-use Rattle.ipcz_world.specs.Owed.{Owed, IsDirect, HasNoProxies}
+use Rattle.ipcz_world.specs.Owed.{Owed, IsDirect, HasNoProxies, HasNoClosedPairs}
 use Rattle.ipcz_world.specs.Ranks.{Rates, IsRated, AreTurns, rank, times_used, unlock_count}
-use Rattle.ipcz_world.specs.Books.{Books}
+use Rattle.ipcz_world.specs.Books.{Books, is_closed}
 use Rattle.ipcz_world.specs.Routes.{Routes, is_opened}
 use Rattle.ipcz_world.specs.Coding.{IsLinkNumber}
 use Rattle.ipcz_world.specs.World.{World}
@@ -95,12 +96,13 @@ pub record IsSettled (n : Node) : Type 0 where
   pub quiet : is_quiet n ≡ true
   pub wet : (serial : ℕ) (r : Router) → router_in n serial ≡ Some r → r.dry ≡ false
 
--- where that holds of each node by its part, and no mailbox is full, the shown world has no proxy, and each open pair in it is direct: two
--- terminals on one free link, and all that was put has come
+-- where that holds of each node by its part, and no mailbox is full, the shown world has no proxy and no router of a pair with both ends
+-- closed, and each open pair in it of which an end isn't closed is direct: two terminals on one free link, and all that was put has come
 abbrev pub SettledPartsAreDirect : Type 0
 SettledPartsAreDirect = (count size : ℕ) (s : St) (r : Rules count size s) → EachNode s.views count (λ p. IsSettled p.state) →
     ((k : ℕ) → k < count * count → slice_index s.words (size + 1 + count + k) ≢ 1) →
-    HasNoProxies r.world × ((pair : ℕ) → is_opened r.routes pair ≡ true → IsDirect r.world r.books pair)
+    HasNoProxies r.world × HasNoClosedPairs r.world r.books ×
+    ((pair : ℕ) (side : Side) → is_opened r.routes pair ≡ true → is_closed r.books (end_at pair side) ≡ false → IsDirect r.world r.books pair)
 
 -- whatever turns the nodes take from the shown world, no more of them use something up than its rank, and two for each unlock, by all rates
 -- that fit the joined books

@@ -2,7 +2,7 @@
 use Rattle.std.specs.Prelude.{◌≡◌, ℕ, Bool, true, false, Option, Some, None, List, [], ◌∷◌, ◌++◌}
 use Rattle.ipcz_base.specs.declared.end.End.{End}
 use Rattle.ipcz_base.specs.declared.item.Item.{Item}
-use Rattle.ipcz_base.specs.declared.item.Item.TheVariants.{Parcel, Mark}
+use Rattle.ipcz_base.specs.declared.item.Item.TheVariants.{Parcel, Mark, Gone}
 use Rattle.ipcz_base.specs.declared.parcel.Parcel as parcels
 use Rattle.ipcz_base.specs.declared.message.Message.{Message}
 use Rattle.ipcz_base.specs.declared.message.Message.TheVariants as messages
@@ -18,6 +18,7 @@ use Rattle.ipcz_node.specs.declared.act.Act.{Act}
 use Rattle.ipcz_node.specs.declared.act.Act.TheVariants as acts
 use Rattle.ipcz_node.specs.Node.{Node, router_in}
 use Rattle.ipcz_node.specs.Acts.{commit, act_lacks_serials}
+use Rattle.ipcz_router.specs.Calls.{next_number}
 use Rattle.ipcz_node.specs.Calls.{put_node, put_number, get_node, close_node, open_node}
 use Rattle.ipcz_node.specs.Hands.{deliver}
 use Rattle.ipcz_world.specs.WordAnswers.{word_answer}
@@ -90,13 +91,19 @@ abbrev pub dropped_part : Option Router → Part → Part
 dropped_part None p = p
 dropped_part (Some r) p = add_gone_entry r.end r.in_queue.current p
 
--- what an act of a node writes into its part of the books: a pending close its mark, a discard that an item is gone
+-- the part with Gone put at the end of the router that stands there
+abbrev pub retired_part : Option Router → Part → Part
+retired_part None p = p
+retired_part (Some r) p = add_put_entry r.end (next_number r) Gone p
+
+-- what an act of a node writes into its part of the books: a pending close its mark, a discard that an item is gone, a retire Gone
 abbrev pub written_part : Node → Act → Part → Part
 written_part n (acts.Hand from) p = p
 written_part n (acts.Look from) p = p
 written_part n (acts.Post to) p = p
 written_part n (acts.Close e) p = add_put_entry e (put_number n e) Mark p
 written_part n (acts.Router serial router_acts.Discard) p = dropped_part (router_in n serial) p
+written_part n (acts.Router serial router_acts.Retire) p = retired_part (router_in n serial) p
 written_part n (acts.Router serial other) p = p
 written_part n acts.Idle p = p
 
@@ -119,6 +126,7 @@ is_touch router_acts.FinishOut = true
 is_touch router_acts.FinishIn = true
 is_touch router_acts.Leave = true
 is_touch router_acts.Begin = true
+is_touch router_acts.Retire = true
 is_touch router_acts.Rest = true
 is_touch other = false
 

@@ -32,7 +32,7 @@ pub fn a_pending_close_keeps_the_rule()
     ensures { PendingCloses IsTurns }
 {}
 
-/// A touch is an act of a router that asks no word: a send, a discard, a finish, a leave, a begin, a rest.
+/// A touch is an act of a router that asks no word: a send, a discard, a finish, a leave, a begin, a retire, a rest.
 pub fn an_act_of_a_router_keeps_the_rule()
     ensures { Touches IsTurns }
 {}

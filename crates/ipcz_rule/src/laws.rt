@@ -65,8 +65,9 @@ pub fn quiet_parts_show_a_quiet_world()
     ensures { QuietPartsShowQuiet }
 {}
 
-/// Where each node is quiet by its part with no router that lacks a word, and no mailbox is full, the shown world has no proxy, and each
-/// open pair in it is direct: two terminals on one free link, and all that was put has come.
+/// Where each node is quiet by its part with no router that lacks a word, and no mailbox is full, the shown world has no proxy and no router
+/// of a pair with both ends closed, and each open pair in it of which an end isn't closed is direct: two terminals on one free link, and all
+/// that was put has come.
 pub fn settled_parts_are_direct()
     ensures { SettledPartsAreDirect }
 {}

@@ -3,7 +3,7 @@ use Rattle.std.proofs.Common.{ℕ, Bool, true, false, List, Option, Some, None, 
 use Rattle.std.specs.Prelude.{if◌then◌else◌, nat_lt}
 use Rattle.ipcz_base.specs.declared.end.End.{End}
 use Rattle.ipcz_base.specs.declared.item.Item.{Item}
-use Rattle.ipcz_base.specs.declared.item.Item.TheVariants.{Parcel, Mark}
+use Rattle.ipcz_base.specs.declared.item.Item.TheVariants.{Parcel, Mark, Gone}
 use Rattle.ipcz_base.specs.declared.parcel.Parcel as parcels
 use Rattle.ipcz_base.specs.declared.refusal.Refusal.{Refusal}
 use Rattle.ipcz_base.specs.declared.refusal.Refusal.TheVariants as refusals
@@ -53,6 +53,7 @@ module _ (P : Said → Type 0) (refused : (why : Refusal) → P (said.Refused wh
   item-answers got k None = refused refusals.Empty
   item-answers got k (Some (Parcel p)) = got k p
   item-answers got k (Some Mark) = refused refusals.PeerClosed
+  item-answers got k (Some Gone) = refused refusals.PeerClosed
 
   found-answers : ((k : ℕ) (p : parcels.Parcel) → P (said.Got k p)) → (o : Option Found) → P (answer_to (get_reply o))
   unfolding get_reply answer_to

@@ -59,6 +59,7 @@ event_words (events.SendOut s n link moved) =
     router s ∷ codes "send" ∷ codes "out" ∷ decimal n ∷ link_text link ∷ moved_words moved
 event_words (events.SendIn s n link moved) = router s ∷ codes "send" ∷ codes "in" ∷ decimal n ∷ link_text link ∷ moved_words moved
 event_words (events.Discard s n) = router s ∷ codes "discard" ∷ decimal n ∷ []
+event_words (events.DiscardLeave s n) = router s ∷ codes "discard" ∷ decimal n ∷ codes "leave" ∷ []
 event_words (events.FinishOut s link) = router s ∷ codes "finish" ∷ codes "out" ∷ link_text link ∷ []
 event_words (events.FinishIn s link) = router s ∷ codes "finish" ∷ codes "in" ∷ link_text link ∷ []
 event_words (events.Leave s) = router s ∷ codes "leave" ∷ []
@@ -70,6 +71,7 @@ event_words (events.Lock s link word) = router s ∷ codes "lock" ∷ link_text 
 event_words (events.Wait s link word) = router s ∷ codes "wait" ∷ link_text link ∷ decimal word ∷ []
 event_words (events.Refused s link word) = router s ∷ codes "refused" ∷ link_text link ∷ decimal word ∷ []
 event_words (events.Begin s link) = router s ∷ codes "begin" ∷ link_text link ∷ []
+event_words (events.Retire s n link) = router s ∷ codes "retire" ∷ decimal n ∷ link_text link ∷ []
 event_words (events.Unlock s link word) = router s ∷ codes "unlock" ∷ link_text link ∷ decimal word ∷ []
 event_words (events.Rest s) = router s ∷ codes "rest" ∷ []
 event_words events.Idle = codes "idle" ∷ []
@@ -113,6 +115,10 @@ sent-spaced s n way link [] =
     ∙ ap (λ l. router s ++ 32 ∷ (codes "send " ++ (way ++ 32 ∷ (decimal n ++ 32 ∷ l)))) (append-nil (link_text link))
 sent-spaced s n way link (e ∷ es) = sent-words (router s) way (decimal n) (link_text link) (moved_text (e ∷ es))
 
+-- a text behind two more
+behind_two : (x v n l : List ℕ) → x ++ v ++ n ++ l ≡ x ++ (v ++ (n ++ l))
+behind_two x v n l = append_assoc (x ++ v) n l ∙ append_assoc x v (n ++ l)
+
 words-text : (e : Happened) → event_text e ≡ spaced (event_words e)
 words-text (events.Hand kind link unfit) = hand-words kind link unfit
 words-text (events.Look sender) = refl
@@ -121,6 +127,7 @@ words-text (events.Close end) = refl
 words-text (events.SendOut s n link moved) = sent-spaced s n (codes "out") link moved
 words-text (events.SendIn s n link moved) = sent-spaced s n (codes "in") link moved
 words-text (events.Discard s n) = append_assoc (router s) (codes " discard ") (decimal n)
+words-text (events.DiscardLeave s n) = behind_two (router s) (codes " discard ") (decimal n) (codes " leave")
 words-text (events.FinishOut s link) = numbered (router s) (codes "finish out") (link_text link)
 words-text (events.FinishIn s link) = numbered (router s) (codes "finish in") (link_text link)
 words-text (events.Leave s) = refl
@@ -132,6 +139,9 @@ words-text (events.Lock s link word) = opened (router s) (codes "lock") (link_te
 words-text (events.Wait s link word) = opened (router s) (codes "wait") (link_text link) (decimal word)
 words-text (events.Refused s link word) = opened (router s) (codes "refused") (link_text link) (decimal word)
 words-text (events.Begin s link) = numbered (router s) (codes "begin") (link_text link)
+words-text (events.Retire s n link) =
+    append_assoc (router s ++ codes " retire " ++ decimal n) (codes " ") (link_text link)
+    ∙ behind_two (router s) (codes " retire ") (decimal n) (32 ∷ link_text link)
 words-text (events.Unlock s link word) = opened (router s) (codes "unlock") (link_text link) (decimal word)
 words-text (events.Rest s) = refl
 words-text events.Idle = refl
@@ -198,12 +208,14 @@ are-words (events.Close end) = ((refl, λ h. cc), (end-word end, tt))
 are-words (events.SendOut s n link moved) = (named s, ((refl, λ h. cc), ((refl, λ h. cc), (number n, (link-word link, moved-are moved)))))
 are-words (events.SendIn s n link moved) = (named s, ((refl, λ h. cc), ((refl, λ h. cc), (number n, (link-word link, moved-are moved)))))
 are-words (events.Discard s n) = (named s, ((refl, λ h. cc), (number n, tt)))
+are-words (events.DiscardLeave s n) = (named s, ((refl, λ h. cc), (number n, ((refl, λ h. cc), tt))))
 are-words (events.FinishOut s link) = (named s, ((refl, λ h. cc), ((refl, λ h. cc), (link-word link, tt))))
 are-words (events.FinishIn s link) = (named s, ((refl, λ h. cc), ((refl, λ h. cc), (link-word link, tt))))
 are-words (events.Leave s) = (named s, ((refl, λ h. cc), tt))
 are-words (events.Claim s word) = (named s, ((refl, λ h. cc), (number word, tt)))
 are-words (events.ClaimNoWord s) = (named s, ((refl, λ h. cc), ((refl, λ h. cc), tt)))
 are-words (events.Begin s link) = (named s, ((refl, λ h. cc), (link-word link, tt)))
+are-words (events.Retire s n link) = (named s, ((refl, λ h. cc), (number n, (link-word link, tt))))
 are-words (events.Rest s) = (named s, ((refl, λ h. cc), tt))
 are-words events.Idle = ((refl, λ h. cc), tt)
 are-words (events.Mark s link word) = (named s, ((refl, λ h. cc), (link-word link, (number word, tt))))
@@ -316,6 +328,14 @@ same_event (events.Discard s m) (events.Discard t n) h k e =
     let serials = same_number s t h.0 k.0 ss in
     let numbers = same_number m n h.1 k.1 ns in
     λ i. events.Discard (serials i) (numbers i)
+same_event (events.DiscardLeave s m) (events.DiscardLeave t n) h k e =
+    let ss : decimal s ≡ decimal t = cc in
+    let ns : decimal m ≡ decimal n = cc in
+    let serials = same_number s t h.0 k.0 ss in
+    let numbers = same_number m n h.1 k.1 ns in
+    λ i. events.DiscardLeave (serials i) (numbers i)
+same_event (events.Discard s m) (events.DiscardLeave t n) h k e = cc
+same_event (events.DiscardLeave s m) (events.Discard t n) h k e = cc
 same_event (events.Claim s m) (events.Claim t n) h k e =
     let ss : decimal s ≡ decimal t = cc in
     let ns : decimal m ≡ decimal n = cc in
@@ -340,6 +360,14 @@ same_event (events.Begin s l) (events.Begin t m) h k e =
     let serials = same_number s t h.0 k.0 ss in
     let links = same_link l m h.1 k.1 ls in
     λ i. events.Begin (serials i) (links i)
+same_event (events.Retire s x l) (events.Retire t y m) h k e =
+    let ss : decimal s ≡ decimal t = cc in
+    let ns : decimal x ≡ decimal y = cc in
+    let ls : link_text l ≡ link_text m = cc in
+    let serials = same_number s t h.0 k.0 ss in
+    let numbers = same_number x y h.1 k.1 ns in
+    let links = same_link l m h.2 k.2 ls in
+    λ i. events.Retire (serials i) (numbers i) (links i)
 same_event (events.Mark s l v) (events.Mark t m w) h k e =
     let ss : decimal s ≡ decimal t = cc in
     let ls : link_text l ≡ link_text m = cc in

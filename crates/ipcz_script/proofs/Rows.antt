@@ -172,6 +172,8 @@ event-lacks (events.SendOut serial n link moved) = sent-lacks serial (codes "out
 event-lacks (events.SendIn serial n link moved) = sent-lacks serial (codes "in") n link moved refl
 event-lacks (events.Discard serial n) = both (decimal serial ++ codes " discard ") (decimal n)
     (word (decimal serial) (codes " discard ") refl (number serial)) (number n)
+event-lacks (events.DiscardLeave serial n) = word (decimal serial ++ codes " discard " ++ decimal n) (codes " leave") refl
+    (both (decimal serial ++ codes " discard ") (decimal n) (word (decimal serial) (codes " discard ") refl (number serial)) (number n))
 event-lacks (events.FinishOut serial link) = link_event-lacks serial (codes "finish out") link refl
 event-lacks (events.FinishIn serial link) = link_event-lacks serial (codes "finish in") link refl
 event-lacks (events.Leave serial) = word (decimal serial) (codes " leave") refl (number serial)
@@ -184,6 +186,10 @@ event-lacks (events.Lock serial link word) = word_text-lacks serial (codes "lock
 event-lacks (events.Wait serial link word) = word_text-lacks serial (codes "wait") link word refl
 event-lacks (events.Refused serial link word) = word_text-lacks serial (codes "refused") link word refl
 event-lacks (events.Begin serial link) = link_event-lacks serial (codes "begin") link refl
+event-lacks (events.Retire serial n link) = both (decimal serial ++ codes " retire " ++ decimal n ++ codes " ") (link_text link)
+    (word (decimal serial ++ codes " retire " ++ decimal n) (codes " ") refl
+    (both (decimal serial ++ codes " retire ") (decimal n) (word (decimal serial) (codes " retire ") refl (number serial)) (number n)))
+    (link-lacks link)
 event-lacks (events.Unlock serial link word) = word_text-lacks serial (codes "unlock") link word refl
 event-lacks (events.Rest serial) = word (decimal serial) (codes " rest") refl (number serial)
 event-lacks events.Idle = refl

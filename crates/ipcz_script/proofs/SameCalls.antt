@@ -6,13 +6,13 @@ use Rattle.std.specs.List.{AllByRecursion}
 use Rattle.ipcz_base.specs.declared.end.End.{End}
 use Rattle.ipcz_base.specs.declared.parcel.Parcel as parcels
 use Rattle.ipcz_base.specs.declared.item.Item.{Item}
-use Rattle.ipcz_base.specs.declared.item.Item.TheVariants.{Mark}
+use Rattle.ipcz_base.specs.declared.item.Item.TheVariants.{Mark, Gone}
 use Rattle.ipcz_base.specs.declared.item.Item.TheVariants as items
 use Rattle.ipcz_base.specs.Ends.{opposite_end}
 use Rattle.ipcz_base.specs.Limits.{last_number}
 use Rattle.ipcz_world.specs.declared.step.Reply.{Reply}
 use Rattle.ipcz_world.specs.World.{World}
-use Rattle.ipcz_world.specs.Books.{is_closed}
+use Rattle.ipcz_world.specs.Books.{is_closed, is_retired}
 use Rattle.ipcz_world.specs.Lawful.{IsWithinLimits}
 use Rattle.ipcz_script.specs.declared.command.Command.{Command}
 use Rattle.ipcz_script.specs.declared.command.Command.TheVariants as commands
@@ -137,17 +137,20 @@ parcels-fewer : (xs : List Item) → length (parcels_in xs) ≤ length xs
 parcels-fewer [] = omega arith
 parcels-fewer (items.Parcel p ∷ xs) = omega (arith, parcels-fewer xs)
 parcels-fewer (Mark ∷ xs) = omega (arith, parcels-fewer xs)
+parcels-fewer (Gone ∷ xs) = omega (arith, parcels-fewer xs)
 
 -- an end's parcels are fewer than 2 ^ 64
 kept-bits : (nodes words : ℕ) (w : World) (puts gots : End → List parcels.Parcel) → Kept nodes words w puts gots → (e : End) →
     HasBits (length (puts e))
 kept-bits nodes words w puts gots at e =
-    subst (λ ps. HasBits (length ps)) (at.put e) (go (is_closed at.books e)
+    subst (λ ps. HasBits (length ps)) (at.put e) (go (is_closed at.books e) (is_retired at.books e)
     ((lawful nodes words w at.books at.routes at.reached).inv.books_kept.numbers e))
   where
-    go : (c : Bool) → length (at.books.put e) ≤ last_number + cond c 1 0 → HasBits (length (parcels_in (at.books.put e)))
-    go true h = omega (arith, h, parcels-fewer (at.books.put e))
-    go false h = omega (arith, h, parcels-fewer (at.books.put e))
+    go : (c l : Bool) → length (at.books.put e) ≤ last_number + cond c 1 0 + cond l 1 0 → HasBits (length (parcels_in (at.books.put e)))
+    go true true h = omega (arith, h, parcels-fewer (at.books.put e))
+    go true false h = omega (arith, h, parcels-fewer (at.books.put e))
+    go false true h = omega (arith, h, parcels-fewer (at.books.put e))
+    go false false h = omega (arith, h, parcels-fewer (at.books.put e))
 
 get-within : (ps : List parcels.Parcel) (n : ℕ) (p : parcels.Parcel) → slice_get ps n ≡ Some p → n < length ps
 get-within [] n p h = cc

@@ -12,7 +12,7 @@ use Rattle.ipcz_world.specs.declared.step.Step.TheVariants as steps
 use Rattle.ipcz_world.specs.declared.step.Reply.{Reply}
 use Rattle.ipcz_world.specs.declared.step.Reply.TheVariants as replies
 use Rattle.ipcz_world.specs.World.{World, new_world, node_at}
-use Rattle.ipcz_world.specs.Books.{Books, no_books, advance, is_closed, read}
+use Rattle.ipcz_world.specs.Books.{Books, no_books, advance, is_closed, is_retired, read}
 use Rattle.ipcz_world.specs.Plain.{Plain}
 use Rattle.ipcz_world.specs.Routes.{Routes, first_routes, routes_after}
 use Rattle.ipcz_world.specs.Steps.{StepAny, StepFirst, first_step}
@@ -337,7 +337,7 @@ scripts_arrive = after _ (λ nodes words w b g is. let law = lawful nodes words 
   ends = ends_stand_once w b g law;
   held = λ n e l. held_have_terminals w b g n e law l;
   all_got = λ quiet n e v direct. each_quiet_delivers w v b g n e law quiet direct;
-  one_node = λ one pair. one_node_is_direct words w b g pair (subst (λ x. IsReached x words w b g) one is);
+  one_node = λ one pair s. one_node_is_direct words w b g pair s (subst (λ x. IsReached x words w b g) one is);
 })
 
 pub scripts_answer_plainly : ScriptsAnswerPlainly
@@ -363,9 +363,20 @@ module _ (nodes words : ℕ) (s : Session) (earlier : List Answered) (at : Kept 
       let t = first_number-tells (λ i. holds_end (node_at s.world i) e) 0 s.world.count n there in
       held_are_open s.world at.books at.routes n e law (omega (arith, t.0)) t.1
 
+  -- and its sink hasn't retired
+  unretired : (e : End) (n : ℕ) → holder_of s.world e ≡ Some n → is_retired at.books e ≡ false
+  unretired e n there = go (is_retired at.books e) refl
+    where
+      go : (c : Bool) → is_retired at.books e ≡ c → is_retired at.books e ≡ false
+      go false h = h
+      go true h =
+          let closed : is_closed at.books e ≡ true = (ends_stand_once s.world at.books at.routes law).retired_closed e h in
+          let unmarked : is_closed at.books e ≡ false = unclosed e n there in
+          cc
+
   -- so its items are the parcels that were said
   put-count : (e : End) (n : ℕ) → holder_of s.world e ≡ Some n → length (at.books.put e) ≡ length (puts_in earlier e)
-  put-count e n there = unmarked-length (at.books.put e) (unclosed e n there) ∙ ap length (at.put e)
+  put-count e n there = unmarked-length (at.books.put e) (unclosed e n there) (unretired e n there) ∙ ap length (at.put e)
 
   -- and it has dropped nothing
   got-count : (e : End) (n : ℕ) → holder_of s.world e ≡ Some n → read at.books e ≡ length (gots_in earlier e)

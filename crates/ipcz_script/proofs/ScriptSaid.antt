@@ -7,7 +7,7 @@ use Rattle.std.specs.Option.{option_map_or}
 use Rattle.ipcz_base.specs.declared.end.End.{End}
 use Rattle.ipcz_base.specs.declared.parcel.Parcel as parcels
 use Rattle.ipcz_base.specs.declared.item.Item.{Item}
-use Rattle.ipcz_base.specs.declared.item.Item.TheVariants.{Parcel, Mark}
+use Rattle.ipcz_base.specs.declared.item.Item.TheVariants.{Parcel, Mark, Gone}
 use Rattle.ipcz_base.specs.Ends.{same_end}
 use Rattle.ipcz_router.specs.Router.{Router}
 use Rattle.ipcz_node.specs.declared.happened.Happened.{Happened}
@@ -17,7 +17,7 @@ use Rattle.ipcz_world.specs.declared.step.Reply.{Reply}
 use Rattle.ipcz_world.specs.declared.step.Reply.TheVariants as replies
 use Rattle.ipcz_world.specs.World.{World}
 use Rattle.ipcz_world.specs.Turns.{router_of}
-use Rattle.ipcz_world.specs.Books.{Books, add_put, add_got, advance, after_discard, after_turn, has_mark}
+use Rattle.ipcz_world.specs.Books.{Books, add_put, add_got, advance, after_discard, after_retire, after_turn, has_gone, has_mark}
 use Rattle.ipcz_world.proofs.facts.LinkTests.{same_end-tells}
 use Rattle.ipcz_script.specs.declared.command.Command.TheVariants as commands
 use Rattle.ipcz_script.specs.Bindings.{Bindings}
@@ -30,17 +30,26 @@ parcels-more : (items : List Item) (p : parcels.Parcel) → parcels_in (items ++
 parcels-more [] p = refl
 parcels-more (Parcel q ∷ items) p = ap (λ l. q ∷ l) (parcels-more items p)
 parcels-more (Mark ∷ items) p = parcels-more items p
+parcels-more (Gone ∷ items) p = parcels-more items p
 
 parcels-mark : (items : List Item) → parcels_in (items ++ Mark ∷ []) ≡ parcels_in items
 parcels-mark [] = refl
 parcels-mark (Parcel q ∷ items) = ap (λ l. q ∷ l) (parcels-mark items)
 parcels-mark (Mark ∷ items) = parcels-mark items
+parcels-mark (Gone ∷ items) = parcels-mark items
 
--- without a mark all items are parcels
-pub unmarked-length : (items : List Item) → has_mark items ≡ false → length items ≡ length (parcels_in items)
-unmarked-length [] h = refl
-unmarked-length (Parcel q ∷ items) h = ap suc (unmarked-length items h)
-unmarked-length (Mark ∷ items) h = cc
+parcels-gone : (items : List Item) → parcels_in (items ++ Gone ∷ []) ≡ parcels_in items
+parcels-gone [] = refl
+parcels-gone (Parcel q ∷ items) = ap (λ l. q ∷ l) (parcels-gone items)
+parcels-gone (Mark ∷ items) = parcels-gone items
+parcels-gone (Gone ∷ items) = parcels-gone items
+
+-- without a mark and Gone all items are parcels
+pub unmarked-length : (items : List Item) → has_mark items ≡ false → has_gone items ≡ false → length items ≡ length (parcels_in items)
+unmarked-length [] h k = refl
+unmarked-length (Parcel q ∷ items) h k = ap suc (unmarked-length items h k)
+unmarked-length (Mark ∷ items) h k = cc
+unmarked-length (Gone ∷ items) h k = cc
 
 -- a prefix of parcels among items is one of their parcels
 pub parcels-follow : (ps : List parcels.Parcel) (items : List Item) → take (length ps) items ≡ map Parcel ps →
@@ -48,6 +57,7 @@ pub parcels-follow : (ps : List parcels.Parcel) (items : List Item) → take (le
 parcels-follow [] items h = refl
 parcels-follow (p ∷ ps) [] h = cc
 parcels-follow (p ∷ ps) (Mark ∷ items) h = cc
+parcels-follow (p ∷ ps) (Gone ∷ items) h = cc
 parcels-follow (p ∷ ps) (Parcel q ∷ items) h =
     let same : q ≡ p = cc in
     let more : take (length ps) items ≡ map Parcel ps = cc in
@@ -95,16 +105,33 @@ mark-more b at = record {
     go e true h = parcels-mark (b.put at) ∙ ap (λ d. parcels_in (b.put d)) (sym (same_end-tells e at h))
     go e false h = refl
 
+gone-more : (b : Books) (at : End) → Adds b (add_put b at Gone) none none
+gone-more b at = record {
+  put = λ e. go e (same_end e at) refl ∙ sym (append-nil (parcels_in (b.put e)));
+  got = λ e. sym (append-nil (b.got e));
+}
+  where
+    go : (e : End) (c : Bool) → same_end e at ≡ c → parcels_in (cond c (b.put at ++ Gone ∷ []) (b.put e)) ≡ parcels_in (b.put e)
+    go e true h = parcels-gone (b.put at) ∙ ap (λ d. parcels_in (b.put d)) (sym (same_end-tells e at h))
+    go e false h = refl
+
 discard-more : (b : Books) (o : Option Router) → Adds b (after_discard b o) none none
 unfolding after_discard
 discard-more b None = nothing-more b
 discard-more b (Some r) = record { put = λ e. sym (append-nil (parcels_in (b.put e))); got = λ e. sym (append-nil (b.got e)) }
+
+retire-more : (b : Books) (o : Option Router) → Adds b (after_retire b o) none none
+unfolding after_retire
+retire-more b None = nothing-more b
+retire-more b (Some r) = gone-more b r.end
 
 -- a turn adds no parcel
 event-more : (w : World) (b : Books) (n : ℕ) (event : Happened) → Adds b (after_turn w b n event) none none
 unfolding after_turn
 event-more w b n (events.Close e) = mark-more b e
 event-more w b n (events.Discard serial number) = discard-more b (router_of w n serial)
+event-more w b n (events.DiscardLeave serial number) = discard-more b (router_of w n serial)
+event-more w b n (events.Retire serial number link) = retire-more b (router_of w n serial)
 event-more w b n (events.Hand kind link unfit) = nothing-more b
 event-more w b n (events.Look from) = nothing-more b
 event-more w b n (events.Post to) = nothing-more b

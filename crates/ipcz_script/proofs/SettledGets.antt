@@ -1,5 +1,5 @@
 -- Why gets give all that was put, once a settle has settled.
-use Rattle.std.proofs.Common.{◌≡◌, ◌∙◌, ◌++◌, ◌+◌, ◌<◌, ap, sym, refl, subst, arith, length, take, ℕ, Bool, true, false, List, [], ◌∷◌}
+use Rattle.std.proofs.Common.{◌≡◌, ◌∙◌, ◌++◌, ◌+◌, ◌<◌, ◌≤◌, ap, sym, refl, subst, arith, length, take, ℕ, Bool, true, false, List, [], ◌∷◌}
 use Rattle.std.proofs.Common.{map, cond}
 use Rattle.std.proofs.Common.{Option, Some, None}
 use Rattle.std.specs.Prelude.{slice_get, nat_lt, IsSome}
@@ -8,7 +8,7 @@ use Rattle.std.proofs.lemmas.Bool.Decides.{nat_tests}
 use Rattle.ipcz_base.specs.declared.end.End.{End}
 use Rattle.ipcz_base.specs.declared.parcel.Parcel as parcels
 use Rattle.ipcz_base.specs.declared.item.Item.{Item}
-use Rattle.ipcz_base.specs.declared.item.Item.TheVariants.{Parcel, Mark}
+use Rattle.ipcz_base.specs.declared.item.Item.TheVariants.{Parcel, Mark, Gone}
 use Rattle.ipcz_base.specs.declared.refusal.Refusal.{Refusal}
 use Rattle.ipcz_base.specs.declared.refusal.Refusal.TheVariants as refusals
 use Rattle.ipcz_base.specs.Ends.{opposite_end}
@@ -20,7 +20,7 @@ use Rattle.ipcz_world.specs.declared.step.Reply.{Reply}
 use Rattle.ipcz_world.specs.declared.step.Reply.TheVariants as replies
 use Rattle.ipcz_world.specs.World.{World, node_at}
 use Rattle.ipcz_world.specs.Holding.{holder_of}
-use Rattle.ipcz_world.specs.Books.{Books, advance, is_closed, has_mark, next_item}
+use Rattle.ipcz_world.specs.Books.{Books, advance, is_closed, has_gone, has_mark, next_item}
 use Rattle.ipcz_world.specs.Plain.{Plain}
 use Rattle.ipcz_world.specs.Routes.{is_opened}
 use Rattle.ipcz_world.specs.Owed.{IsWet}
@@ -102,25 +102,39 @@ parcels-next : (ps : List parcels.Parcel) (items : List Item) (p : parcels.Parce
 parcels-next [] [] p front next = cc
 parcels-next [] (Parcel q ∷ items) p front next = cc
 parcels-next [] (Mark ∷ items) p front next = cc
+parcels-next [] (Gone ∷ items) p front next = cc
 parcels-next (q ∷ ps) [] p front next = cc
 parcels-next (q ∷ ps) (Mark ∷ items) p front next = cc
+parcels-next (q ∷ ps) (Gone ∷ items) p front next = cc
 parcels-next (q ∷ ps) (Parcel r ∷ items) p front next =
     let more : take (length ps) items ≡ map Parcel ps = cc in
     parcels-next ps items p more next
 
--- a mark behind parcels that are a prefix, where it is the last item
+-- a mark behind parcels that are a prefix, where nothing but Gone comes after it
 record EndsMarked (ps : List parcels.Parcel) (items : List Item) : Type 0 where
   all : ps ≡ parcels_in items
   marked : has_mark items ≡ true
 
+-- there is room for it
+one-gone : (items : List Item) → cond (has_gone items) 1 0 ≤ length items
+one-gone [] = omega arith
+one-gone (Parcel q ∷ items) = omega (arith, one-gone items)
+one-gone (Mark ∷ items) = omega (arith, one-gone items)
+one-gone (Gone ∷ items) = omega arith
+
 parcels-marked : (ps : List parcels.Parcel) (items : List Item) → take (length ps) items ≡ map Parcel ps →
-    slice_get items (length ps) ≡ Some Mark → length ps + 1 ≡ length items → EndsMarked ps items
+    slice_get items (length ps) ≡ Some Mark → length ps + 1 + cond (has_gone items) 1 0 ≡ length items → EndsMarked ps items
 parcels-marked [] [] front next last = cc
 parcels-marked [] (Parcel q ∷ items) front next last = cc
+parcels-marked [] (Gone ∷ items) front next last = cc
 parcels-marked [] (Mark ∷ []) front next last = record { all = refl; marked = refl }
-parcels-marked [] (Mark ∷ (x ∷ items)) front next last = absurd (omega (arith, last))
+parcels-marked [] (Mark ∷ (Gone ∷ [])) front next last = record { all = refl; marked = refl }
+parcels-marked [] (Mark ∷ (Gone ∷ (x ∷ items))) front next last = absurd (omega (arith, last))
+parcels-marked [] (Mark ∷ (Mark ∷ items)) front next last = absurd (omega (arith, last, one-gone items))
+parcels-marked [] (Mark ∷ (Parcel q ∷ items)) front next last = absurd (omega (arith, last, one-gone items))
 parcels-marked (q ∷ ps) [] front next last = cc
 parcels-marked (q ∷ ps) (Mark ∷ items) front next last = cc
+parcels-marked (q ∷ ps) (Gone ∷ items) front next last = cc
 parcels-marked (q ∷ ps) (Parcel r ∷ items) front next last =
     let same : r ≡ q = cc in
     let front_more : take (length ps) items ≡ map Parcel ps = cc in
@@ -188,6 +202,7 @@ module _ (nodes words : ℕ) (s : Session) (log : List Answered) (at : Kept node
         answered f None i is = cc
         answered f (Some (Parcel p)) i is = cc
         answered f (Some Mark) i is = cc
+        answered f (Some Gone) i is = cc
 
         same : (f : Found) → terminal_of (node_at w n) e ≡ Some f → (first_step w (steps.Get n e)).reply ≡
             (unless w (item_refusal (current_item f.router.in_queue))
@@ -227,7 +242,7 @@ module _ (nodes words : ℕ) (s : Session) (log : List Answered) (at : Kept node
     empty quiet wet h = got-all (sym (parcels-all (at.books.got e)) ∙ ap parcels_in
         (each_quiet_delivers w (first_step w (steps.Get n e)).world
         at.books at.routes n e law quiet
-        (each_quiet_is_direct w at.books at.routes e.pair law quiet wet opened).route (sym h, refl)))
+        (each_quiet_is_direct w at.books at.routes e.pair e.side law quiet wet opened unclosed).route (sym h, refl)))
 
     gives : IsQuiet w → IsWet w → (reply : Reply) (c : Books) → (first_step w (steps.Get n e)).reply ≡ reply → Plain at.books
         (steps.Get n e) reply c →

@@ -192,6 +192,8 @@ event-ends (events.Close end) only = behind (codes "close ") (end_text end) (end
 event-ends (events.SendOut serial n link moved) only = sent-ends serial (codes "out") n link moved
 event-ends (events.SendIn serial n link moved) only = sent-ends serial (codes "in") n link moved
 event-ends (events.Discard serial n) only = behind (codes "r" ++ decimal serial ++ codes " discard ") (decimal n) (number n)
+event-ends (events.DiscardLeave serial n) only =
+    behind (codes "r" ++ decimal serial ++ codes " discard " ++ decimal n) (codes " leave") (three _ _ _ _ refl)
 event-ends (events.FinishOut serial link) only = link_event-ends serial (codes "finish out") link
 event-ends (events.FinishIn serial link) only = link_event-ends serial (codes "finish in") link
 event-ends (events.Leave serial) only = behind (codes "r" ++ decimal serial) (codes " leave") (three _ _ _ _ refl)
@@ -203,6 +205,8 @@ event-ends (events.Lock serial link word) only = word_text-ends serial (codes "l
 event-ends (events.Wait serial link word) only = word_text-ends serial (codes "wait") link word
 event-ends (events.Refused serial link word) only = word_text-ends serial (codes "refused") link word
 event-ends (events.Begin serial link) only = link_event-ends serial (codes "begin") link
+event-ends (events.Retire serial n link) only =
+    behind (codes "r" ++ decimal serial ++ codes " retire " ++ decimal n ++ codes " ") (link_text link) (link-ends link)
 event-ends (events.Unlock serial link word) only = word_text-ends serial (codes "unlock") link word
 event-ends (events.Rest serial) only = behind (codes "r" ++ decimal serial) (codes " rest") (three _ _ _ _ refl)
 event-ends events.Idle only = three _ _ _ _ refl

@@ -5,7 +5,7 @@ use Rattle.std.specs.FinMap.{get}
 use Rattle.ipcz_base.specs.declared.end.End.{End}
 use Rattle.ipcz_base.specs.declared.parcel.Parcel as parcels
 use Rattle.ipcz_base.specs.declared.item.Item.{Item}
-use Rattle.ipcz_base.specs.declared.item.Item.TheVariants.{Parcel, Mark}
+use Rattle.ipcz_base.specs.declared.item.Item.TheVariants.{Parcel, Mark, Gone}
 use Rattle.ipcz_base.specs.Ends.{same_end}
 use Rattle.ipcz_world.specs.Books.{Books}
 use Rattle.ipcz_script.specs.declared.command.Command.{Command}
@@ -49,8 +49,10 @@ abbrev pub parcels_in : List Item → List parcels.Parcel
 parcels_in [] = []
 parcels_in (Parcel p ∷ items) = p ∷ parcels_in items
 parcels_in (Mark ∷ items) = parcels_in items
+parcels_in (Gone ∷ items) = parcels_in items
 
--- the books of a run have just the parcels that its answers say; the marks of closes that were pending are in no answer
+-- the books of a run have just the parcels that its answers say; the marks of closes that were pending are in no answer,
+-- nor is Gone of a sink that has retired
 pub record AreSaid (b : Books) (log : List Answered) : Type 0 where
   pub puts : (e : End) → parcels_in (b.put e) ≡ puts_in log e
   pub gots : (e : End) → b.got e ≡ gots_in log e

@@ -1,9 +1,10 @@
 -- What holds of every script, as functions promise it.
-use Rattle.std.specs.Prelude.{◌≡◌, ◌<◌, ℕ, true, IsSome, List, ◌∷◌, ◌++◌, length, map, take}
+use Rattle.std.specs.Prelude.{◌≡◌, ◌<◌, ℕ, true, false, IsSome, List, ◌∷◌, ◌++◌, length, map, take}
+use Rattle.ipcz_base.specs.declared.side.Side.{Side}
 use Rattle.ipcz_base.specs.declared.end.End.{End}
 use Rattle.ipcz_base.specs.declared.item.Item.TheVariants.{Parcel}
 use Rattle.ipcz_base.specs.declared.refusal.Refusal.TheVariants.{Empty}
-use Rattle.ipcz_base.specs.Ends.{opposite_end}
+use Rattle.ipcz_base.specs.Ends.{end_at, opposite_end}
 use Rattle.ipcz_node.specs.Node.{holds_end, terminal_of}
 use Rattle.ipcz_world.specs.declared.step.Step.{Step}
 use Rattle.ipcz_world.specs.declared.step.Step.TheVariants.{Get}
@@ -12,7 +13,7 @@ use Rattle.ipcz_world.specs.declared.step.Reply.TheVariants.{Refused}
 use Rattle.ipcz_world.specs.World.{World, node_at}
 use Rattle.ipcz_world.specs.Steps.{StepAny}
 use Rattle.ipcz_world.specs.Settling.{IsQuiet}
-use Rattle.ipcz_world.specs.Books.{Books, advance}
+use Rattle.ipcz_world.specs.Books.{Books, advance, is_closed}
 use Rattle.ipcz_world.specs.Plain.{Plain}
 use Rattle.ipcz_world.specs.Routes.{Routes, is_opened}
 use Rattle.ipcz_world.specs.Laws.{StrayLaw, EndLaw}
@@ -59,10 +60,11 @@ pub record NothingIsStuck (nodes words : ℕ) (w : World) (b : Books) (g : Route
   -- each end of an open pair is in one place, and where callers hold it it has its terminal
   pub ends : EndLaw w b g
   pub held : (n : ℕ) (e : End) → n < w.count → holds_end (node_at w n) e ≡ true → IsSome (terminal_of (node_at w n) e)
-  -- where nothing waits, a get on a direct pair is Empty only where all that the peer has put was got; on one node each pair is direct
+  -- where nothing waits, a get on a direct pair is Empty only where all that the peer has put was got; on one node each pair is
+  -- direct of which an end isn't closed
   pub all_got : IsQuiet w → (n : ℕ) (e : End) (v : World) → IsDirectPair w e.pair → StepAny w (Get n e) (Refused Empty) v →
       map Parcel (b.got e) ≡ b.put (opposite_end e)
-  pub one_node : nodes ≡ 1 → (pair : ℕ) → is_opened g pair ≡ true → IsDirectPair w pair
+  pub one_node : nodes ≡ 1 → (pair : ℕ) (s : Side) → is_opened g pair ≡ true → is_closed b (end_at pair s) ≡ false → IsDirectPair w pair
 
 -- law: after every script nothing is stuck
 abbrev pub ScriptsArrive : Type 0

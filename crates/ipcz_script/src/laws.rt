@@ -43,7 +43,8 @@ pub fn scripts_deliver()
 {}
 
 /// After every script nothing is stuck, by such books: no node has a stray, each end is in one place and a held one has its terminal, and
-/// where nothing waits a get on a pair without proxies is Empty only where all that the peer put was got; of one node each pair is such.
+/// where nothing waits a get on a pair without proxies is Empty only where all that the peer put was got; of one node each open pair is
+/// such of which an end isn't closed.
 #[tactic(auto, using(crate::proofs::ScriptRuns::scripts_arrive))]
 pub fn scripts_arrive()
     ensures { ScriptsArrive }

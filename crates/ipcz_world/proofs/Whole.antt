@@ -3,17 +3,17 @@ use Rattle.ipcz_world.specs.Steps.{claim_for_open, AnyAct}
 use Rattle.ipcz_world.specs.Remembering.{opening_records}
 use Rattle.std.proofs.Common.{◌∙◌, arith, ap, subst, sym}
 use Rattle.ipcz_world.specs.declared.step.Step.TheVariants as steps
-use Rattle.std.specs.Prelude.{◌≡◌, true, false, nat_eq, is_some, ℕ, ◌<◌}
+use Rattle.std.specs.Prelude.{◌≡◌, refl, Bool, true, false, nat_eq, is_some, ℕ, ◌<◌}
 use Rattle.std.proofs.lemmas.Bool.Decides.{nat_tests}
-use Rattle.ipcz_world.proofs.Vocabulary.{World, node_at, Books, is_closed, End}
+use Rattle.ipcz_world.proofs.Vocabulary.{World, node_at, Books, is_closed, End, opposite_end}
 use Rattle.ipcz_world.specs.World.{new_world}
 use Rattle.ipcz_world.specs.Books.{no_books}
 use Rattle.ipcz_world.specs.Routes.{first_routes, Routes}
 use Rattle.ipcz_world.specs.WorldLaws.{LawfulGivesHeadline, LawfulStraysNothing, LawfulOwes, TerminalsKeepBooks, EndsStandOnce}
 use Rattle.ipcz_world.specs.WorldLaws.{ListsHaveLengths, NodesAreSound, QuietDelivers, OneNodeIsDirect, StartsLawful, StepKeepsLawful}
 use Rattle.ipcz_world.specs.WorldLaws.{FirstIsPossible, ClaimKeepsLawful, RepliesPlainly, BeginsLocked, LinksStay, HeadlineHolds}
-use Rattle.ipcz_world.specs.WorldLaws.{NothingIsForgotten, QuietIsDirect, QuietHasNoProxy}
-use Rattle.ipcz_world.proofs.lawful.QuietDirect.{no_proxies, pair_direct}
+use Rattle.ipcz_world.specs.WorldLaws.{NothingIsForgotten, QuietIsDirect, ClosedPairsAreGone, QuietHasNoProxy}
+use Rattle.ipcz_world.proofs.lawful.QuietDirect.{no_proxies, pair_direct, none_closed}
 use Rattle.ipcz_world.specs.WorldLaws.{ItemsStandOnce, NothingStrays, GetsStayQuiet, HeldHaveTerminals, HandsFit}
 use Rattle.ipcz_world.specs.WorldLaws.{HandsStandInMail, OpeningWordsAreEmpty, PendingHaveTerminals, RunsArePlain, RepliesStrayNothing}
 use Rattle.ipcz_world.specs.Records.{is_linked}
@@ -38,6 +38,7 @@ use Rattle.ipcz_world.proofs.runs.FlaggedSteps.{flagged-claim_for_open}
 use Rattle.ipcz_world.proofs.runs.FlagsAgree.{agreed-claim_for_open}
 use Rattle.ipcz_world.proofs.owed.StepWakers.{claim_for_open_owing}
 use Rattle.ipcz_world.proofs.owed.Remembering.{remembered}
+use Rattle.ipcz_world.proofs.owed.GoneReading.{unread-step, claim_for_open_router}
 use Rattle.ipcz_world.proofs.lawful.OwedLaws as owed
 use Rattle.ipcz_world.proofs.lawful.LengthLaws.{length_law}
 use Rattle.ipcz_world.proofs.lawful.StrayLaws.{stray_law}
@@ -60,7 +61,7 @@ world_starts_lawful = starts_lawful starts_kept
 
 -- each step keeps a world lawful, whichever possible act a turn takes
 pub each_step_keeps_lawful : StepKeepsLawful
-each_step_keeps_lawful = step_keeps_lawful steps_keep
+each_step_keeps_lawful = step_keeps_lawful steps_keep unread-step
 
 -- a step in which a turn takes the first act is one in which it takes a possible act
 pub first_acts_are_possible : FirstIsPossible
@@ -72,11 +73,12 @@ claim_keeps_lawful w b g n law l room none = let t = claim-kept w b law.records 
     lawful_by (claim_for_open w n) b (opening_records law.records n w.claimed) g t.0 (t.1 ∙ law.routes)
     (flagged-claim_for_open w n law.flagged) (agreed-claim_for_open w n law.agreed)
     (claim_for_open_owing w b law.records law.inv law.agreed (record { wakers = law.wakers; ranked = law.ranked }) n)
+    (λ k r here. law.unread k r (claim_for_open_router w n k r here))
     (bounded-claim_for_open w b law.records law.inv law.bounded n l)
 
 -- the word of a link stays that for good, and of the same pair
 pub links_stay : LinksStay
-links_stay = links_stay_by steps_keep
+links_stay = links_stay_by steps_keep unread-step
 
 -- the sentence holds after every list of steps from the start
 pub the_headline_holds : HeadlineHolds
@@ -116,15 +118,15 @@ each_quiet_delivers = quiet_delivers
 pub each_get_stays_quiet : GetsStayQuiet
 each_get_stays_quiet = gets_stay_quiet
 
--- on one node each open pair is direct
+-- on one node each open pair is direct of which an end isn't closed
 pub one_node_is_direct : OneNodeIsDirect
-one_node_is_direct words w b g pair is tells =
+one_node_is_direct words w b g pair s is tells open_ =
     let law = reached_lawful world_starts_lawful each_step_keeps_lawful 1 words w b g is in
     let alone = run_keeps IsAlone HasNone alone-kept each_step_keeps_lawful (new_world 1 words) no_books (first_routes 1) is.steps
     is.replies w b g (world_starts_lawful 1 words is.limits) (alone-new words) is.run in
     let t = and_parts (g.is_link pair) (nat_eq (g.pair pair) pair) tells in
     let own : g.pair pair ≡ pair = grind (arith, nat_tests, t.1) in
-    direct w b law.records law.inv alone pair (ap (λ z. z.is_link pair) law.routes ∙ t.0) (ap (λ z. z.pair pair) law.routes ∙ own)
+    direct w b law.records law.inv alone pair (ap (λ z. z.is_link pair) law.routes ∙ t.0) (ap (λ z. z.pair pair) law.routes ∙ own) s open_
 
 -- the sentence holds of every lawful world
 pub lawful_worlds_give_the_headline : LawfulGivesHeadline
@@ -149,17 +151,25 @@ pub nothing_is_forgotten : NothingIsForgotten
 nothing_is_forgotten nodes words w b g is = lawful_worlds_owe w b g
     (reached_lawful world_starts_lawful each_step_keeps_lawful nodes words w b g is)
 
--- where nothing waits and words are left, each open pair is direct
+-- where nothing waits and words are left, each open pair is direct of which an end isn't closed
 pub each_quiet_is_direct : QuietIsDirect
-each_quiet_is_direct w b g pair law quiet wet tells =
+each_quiet_is_direct w b g pair s law quiet wet tells open_ =
     let t = and_parts (g.is_link pair) (nat_eq (g.pair pair) pair) tells in
     let own : g.pair pair ≡ pair = grind (arith, nat_tests, t.1) in
-    pair_direct w b law.records law.inv quiet law.ranked law.flagged law.wakers wet pair
-    (ap (λ z. z.is_link pair) law.routes ∙ t.0) (ap (λ z. z.pair pair) law.routes ∙ own)
+    pair_direct w b law.records law.inv quiet law.ranked law.flagged law.wakers law.unread wet pair s
+    (ap (λ z. z.is_link pair) law.routes ∙ t.0) (ap (λ z. z.pair pair) law.routes ∙ own) open_
+
+-- and of a pair with both ends closed no router is left
+pub closed_pairs_are_gone : ClosedPairsAreGone
+closed_pairs_are_gone w b g law quiet wet k r here closed = go (is_closed b (opposite_end r.end)) refl
+  where
+    go : (c : Bool) → is_closed b (opposite_end r.end) ≡ c → is_closed b (opposite_end r.end) ≡ false
+    go false e = e
+    go true e = absurd (none_closed w b law.records law.inv quiet law.ranked law.flagged law.wakers law.unread wet k r here closed e)
 
 -- and no proxy is left
 pub quiet_has_no_proxy : QuietHasNoProxy
-quiet_has_no_proxy w b g law quiet wet = no_proxies w b law.records law.inv quiet law.ranked law.flagged law.wakers wet
+quiet_has_no_proxy w b g law quiet wet = no_proxies w b law.records law.inv quiet law.ranked law.flagged law.wakers law.unread wet
 
 -- a terminal's numbers are those of its end's books
 pub terminals_keep_books : TerminalsKeepBooks

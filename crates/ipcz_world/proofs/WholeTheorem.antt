@@ -17,7 +17,7 @@ use Rattle.ipcz_world.proofs.ranks.Unused.{unused_is_quiet}
 use Rattle.ipcz_world.proofs.Whole.{world_starts_lawful, each_step_keeps_lawful, runs_are_plain, lawful_worlds_give_the_headline}
 use Rattle.ipcz_world.proofs.Whole.{each_item_stands_once, ends_stand_once, lawful_worlds_stray_nothing, only_flushes_stray}
 use Rattle.ipcz_world.proofs.Whole.{lawful_worlds_owe}
-use Rattle.ipcz_world.proofs.Whole.{quiet_has_no_proxy, each_quiet_is_direct, replies_plainly}
+use Rattle.ipcz_world.proofs.Whole.{quiet_has_no_proxy, each_quiet_is_direct, closed_pairs_are_gone, replies_plainly}
 
 -- the replies of a run from a lawful world
 replies_fit : (w v : World) (b c : Books) (g h : Routes) (steps : List Step) (replies : List Reply) → Lawful w b g →
@@ -52,7 +52,8 @@ the_theorem_holds nodes words steps replies w b g limits run =
       owed = lawful_worlds_owe w b g law;
       quiet_is_direct = λ quiet wet. (
         quiet_has_no_proxy w b g law quiet wet,
-        λ pair opened. each_quiet_is_direct w b g pair law quiet wet opened,
+        closed_pairs_are_gone w b g law quiet wet,
+        λ pair s opened open_. each_quiet_is_direct w b g pair s law quiet wet opened open_,
       );
       left_alone = λ turns c v d h rated taken. turns_are_bounded each_step_keeps_lawful
           (turns_keep_rates each_step_keeps_lawful replies_plainly)

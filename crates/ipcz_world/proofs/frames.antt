@@ -3,7 +3,9 @@
 pub mod Calling
 pub mod Changing
 pub mod Counting
+pub mod Departing
 pub mod Draining
+pub mod Ended
 pub mod Filling
 pub mod FillingNumbers
 pub mod FirstLink
@@ -12,9 +14,11 @@ pub mod FirstLinkItems
 pub mod FirstLinkLinks
 pub mod FirstLinkStages
 pub mod Frames
+pub mod GonesKept
 pub mod FreshPairs
 pub mod GivenUp
 pub mod GivingUp
+pub mod NearInv
 pub mod OneChange
 pub mod OneRouter
 pub mod Opened
@@ -27,4 +31,6 @@ pub mod StandingRules
 pub mod Sourcing
 pub mod Touching
 pub mod Unmoved
+pub mod LeftOff
+pub mod LeftRecords
 pub mod LiveLinks

@@ -7,6 +7,7 @@ pub mod ExtendingLinks
 pub mod ExtendingNodes
 pub mod ExtendingPlaces
 pub mod ExtendingStages
+pub mod GoneSent
 pub mod Moved
 pub mod MovingEnds
 pub mod Sending

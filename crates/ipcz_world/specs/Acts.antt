@@ -1,16 +1,17 @@
 -- The acts of routers as updates of the world, with the router, the word and the links as arguments: the form that preservation is shown
 -- for.
-use Rattle.std.specs.Prelude.{◌≡◌, ◌+◌, ◌++◌, ℕ, true, Some, None}
+use Rattle.std.specs.Prelude.{◌≡◌, ◌+◌, ◌++◌, ℕ, true, Some, None, []}
 use Rattle.ipcz_base.specs.declared.side.Side.{Side}
 use Rattle.ipcz_base.specs.declared.link_end.LinkEnd.{LinkEnd}
 use Rattle.ipcz_base.specs.declared.item.Item.{Item}
+use Rattle.ipcz_base.specs.declared.item.Item.TheVariants.{Gone}
 use Rattle.ipcz_base.specs.declared.message.Message.{Message}
 use Rattle.ipcz_base.specs.declared.message.Message.TheVariants as messages
 use Rattle.ipcz_base.specs.Sides.{opposite}
 use Rattle.ipcz_word.specs.Word.{Plan, Locks, Waits, Refuses, mark, lock, wait, unlock}
 use Rattle.ipcz_router.specs.Router.{Router, primary_word, source_of}
 use Rattle.ipcz_router.specs.Bypass.{bypass_peer, accept_message, accept_bypass, stop_proxying, proxy_will_stop}
-use Rattle.ipcz_router.specs.Acts.{pop_in, rest}
+use Rattle.ipcz_router.specs.Acts.{drop_item, rest}
 use Rattle.ipcz_router.specs.ActEffects.{mark_side, wake_other, take_lock, fail_lock, drop_lock, claim_word, run_dry, begin_bypass}
 use Rattle.ipcz_router.specs.ActEffects.{finish_out, finish_in, peer_message}
 use Rattle.ipcz_router.specs.ActTable.{is_possible}
@@ -90,7 +91,15 @@ rest_act w k r = set_router w k (rest r)
 -- a sink discards an item, and its ends are to be closed
 abbrev pub discard_act : World → Key → Router → Item → World
 discard_act w k r item =
-    set_node w k.node (record (node_at (set_router w k (pop_in r)) k.node) { pending = (node_at w k.node).pending ++ ends_in item })
+    set_node w k.node (record (node_at (set_router w k (drop_item r)) k.node) { pending = (node_at w k.node).pending ++ ends_in item })
+
+-- a sink that is sent Gone discards it and leaves
+abbrev pub discard_leave_act : World → Key → World
+discard_leave_act w k = remove_router w k
+
+-- a sink leaves under its lock, and sends Gone
+abbrev pub retire_act : World → Key → LinkEnd → ℕ → World
+retire_act w k e n = push_message (remove_router w k) k.node e.other (messages.Item e.link (opposite e.side) n Gone [])
 
 -- a message is in the hand of a node, and the router that it asks stands there
 pub record CanHand (w : World) (from : ℕ) (k : Key) (r : Router) (m : Message) : Type 0 where

@@ -15,7 +15,7 @@ use Rattle.ipcz_base.specs.Links.{is_central}
 use Rattle.ipcz_router.specs.Router.{Router}
 use Rattle.ipcz_base.specs.Items.{ends_in}
 use Rattle.ipcz_world.specs.World.{World, Key, router_at}
-use Rattle.ipcz_world.specs.Records.{Records, Fresh, Linked, Terminal, Nowhere, At, Moving, is_linked, is_begun, is_recorded}
+use Rattle.ipcz_world.specs.Records.{Records, Fresh, Linked, Terminal, Nowhere, At, Moving, Retired, is_linked, is_begun, is_recorded}
 use Rattle.ipcz_world.specs.Records.{inner_link, side_node, side_router, side_end, bypass_of, proxy_side, across_side, terminal_descriptor}
 use Rattle.ipcz_base.specs.Totals.{total_list}
 use Rattle.ipcz_world.specs.Flows.{IsUnderWay, is_made_before, under_way, of_end, moves_of}
@@ -150,6 +150,7 @@ unfoldable pub move_weight : (Descriptor → ℕ) → Terminal → ℕ
 move_weight h Nowhere = 0
 move_weight h (At k) = 0
 move_weight h (Moving d) = h d
+move_weight h Retired = 0
 
 -- the link of the descriptor that will make an end's terminal
 abbrev pub moving_link : Terminal → Option LinkId

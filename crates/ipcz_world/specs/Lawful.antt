@@ -20,7 +20,7 @@ use Rattle.ipcz_world.specs.Records.{Records, routes_of}
 use Rattle.ipcz_world.specs.Whereabouts.{Conserved, HeldOnce}
 use Rattle.ipcz_world.specs.Inv.{Inv}
 use Rattle.ipcz_world.specs.Laws.{There, LinkLaw, BypassLaw, WordLaw}
-use Rattle.ipcz_world.specs.Owed.{AreFlagged, FlagsAgree, HaveWakers, IsRanked}
+use Rattle.ipcz_world.specs.Owed.{GoneUnread, AreFlagged, FlagsAgree, HaveWakers, IsRanked}
 use Rattle.ipcz_world.specs.Settling.{IsBounded}
 
 -- the sentence: what holds after any list of steps of trusted nodes
@@ -64,6 +64,8 @@ pub record Lawful (w : World) (b : Books) (g : Routes) : Type 0 where
   -- who has tried for a lock has a waker, and no proxies stand in a ring
   pub wakers : HaveWakers w
   pub ranked : IsRanked w
+  -- no terminal stands that has read Gone
+  pub unread : GoneUnread w b
   -- the world's lists have their lengths and nothing lies beyond its nodes, so that what its nodes see is all that waits
   pub bounded : IsBounded w
 

@@ -11,7 +11,7 @@ use Rattle.ipcz_base.specs.declared.link_id.LinkId.TheVariants.{Central}
 use Rattle.ipcz_base.specs.declared.link_end.LinkEnd.{LinkEnd}
 use Rattle.ipcz_base.specs.declared.descriptor.Descriptor.{Descriptor}
 use Rattle.ipcz_base.specs.declared.item.Item.{Item}
-use Rattle.ipcz_base.specs.declared.item.Item.TheVariants.{Mark}
+use Rattle.ipcz_base.specs.declared.item.Item.TheVariants.{Mark, Gone}
 use Rattle.ipcz_base.specs.declared.message.Message.{Message}
 use Rattle.ipcz_base.specs.declared.message.Message.TheVariants as messages
 use Rattle.ipcz_base.specs.Ends.{has_end}
@@ -26,12 +26,12 @@ use Rattle.ipcz_router.specs.Calls.{next_number}
 use Rattle.ipcz_node.specs.Node.{is_named}
 use Rattle.ipcz_node.specs.Hands.{link_asked, side_asked}
 use Rattle.ipcz_world.specs.World.{World, Key, node_at, word_at, router_at}
-use Rattle.ipcz_world.specs.Books.{Books, read, is_closed}
+use Rattle.ipcz_world.specs.Books.{Books, read, is_closed, is_retired}
 use Rattle.ipcz_world.specs.Plain.{IsUnwritten}
 use Rattle.ipcz_world.specs.Routes.{Routes, is_opened}
 use Rattle.ipcz_world.specs.Places.{in_places, names_end}
 use Rattle.ipcz_world.specs.Whereabouts.{times_held, times_closed}
-use Rattle.ipcz_world.specs.Records.{Owner, Unclaimed, Spare, Opening, Fresh, Linked, is_linked, is_unclaimed}
+use Rattle.ipcz_world.specs.Records.{Owner, Unclaimed, Spare, Opening, Fresh, Linked, is_linked, is_unclaimed, is_lost_owner}
 use Rattle.ipcz_world.specs.Flows.{IsUnderWay, is_made_before, under_way, moves_of}
 use Rattle.ipcz_world.specs.Standing.{has_primary, has_inward_primary, is_attached, spare_of, sending_queue, fed_queue}
 use Rattle.ipcz_world.specs.Inv.{HasNoStrays}
@@ -108,8 +108,8 @@ pub record IsOnLink (w : World) (i : ℕ) : Type 0 where
   pub here : router_at w key ≡ Some router
   pub on : router_has router (Central i) side ≡ true
 
--- each claimed word is one of: the spare of one router, for one open under way, the fresh word of one BypassPeer, each of these 0, or the
--- link of one pair with at most one router a side. The others are 0 and named nowhere
+-- each claimed word is one of: the spare of one router, for one open under way, the fresh word of one BypassPeer, the spare that a proxy left
+-- which Gone took away, each of these 0, or the link of one pair with at most one router a side. The others are 0 and named nowhere
 pub record WordLaw (w : World) (g : Routes) : Type 0 where
   pub owner : ℕ → Owner
   pub unclaimed : (i : ℕ) → w.claimed ≤ i → owner i ≡ Unclaimed
@@ -124,6 +124,8 @@ pub record WordLaw (w : World) (g : Routes) : Type 0 where
   pub fresh : (from to j : ℕ) (link : LinkId) (s : Side) (old target i : ℕ) →
       IsUnderWay w from to j (messages.BypassPeer link s old target i) → owner i ≡ Fresh old
   pub fresh_back : (old i : ℕ) → owner i ≡ Fresh old → under_way (λ from to m. fresh_count i m) w ≡ 1
+  -- lost: exactly the words that the run has seen go with a proxy
+  pub is_lost : (i : ℕ) → is_lost_owner (owner i) ≡ g.lost i
   -- of a link: exactly the words that the run has made links of; each is or was in use; and only these are named
   pub is_link : (i : ℕ) → is_linked (owner i) ≡ g.is_link i
   pub linked_back : (i : ℕ) → owner i ≡ Linked → (has (word_at w i).stable A ≡ true) ⊎ IsOnLink w i
@@ -217,10 +219,13 @@ pub record TerminalLaw (w : World) (b : Books) : Type 0 where
   pub gone_closed : (e : End) → is_closed b e ≡ false → b.gone e ≡ 0
 
 -- each end of an open pair is held by callers, in a parcel, pending or closed: one of these, once; another end is nowhere, and of it
--- nothing is written. What moves with a message is in its parcel, and the mark that a close puts is its end's last item
+-- nothing is written. What moves with a message is in its parcel; the mark that a close puts is its end's last item, or Gone comes right
+-- after it and is last, where its sink has retired
 pub record EndLaw (w : World) (b : Books) (g : Routes) : Type 0 where
   pub once : (e : End) → in_places (names_end e) g w + (times_held w e + times_closed b e) ≡ cond (is_opened g e.pair) 1 0
   pub unopened : (e : End) → is_opened g e.pair ≡ false → IsUnwritten b e
   pub moving : (from to i : ℕ) (link : LinkId) (s : Side) (n : ℕ) (item : Item) (moves : List Descriptor) (j : ℕ) (d : Descriptor) →
       IsUnderWay w from to i (messages.Item link s n item moves) → slice_get moves j ≡ Some d → has_end d.end (ends_in item) ≡ true
-  pub mark_last : (e : End) (n : ℕ) → slice_get (b.put e) n ≡ Some Mark → n + 1 ≡ length (b.put e)
+  pub mark_last : (e : End) (n : ℕ) → slice_get (b.put e) n ≡ Some Mark → n + 1 + cond (is_retired b e) 1 0 ≡ length (b.put e)
+  pub gone_last : (e : End) (n : ℕ) → slice_get (b.put e) n ≡ Some Gone → n + 1 ≡ length (b.put e)
+  pub retired_closed : (e : End) → is_retired b e ≡ true → is_closed b e ≡ true

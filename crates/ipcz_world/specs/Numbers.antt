@@ -1,5 +1,5 @@
 -- What always holds of the numbers of items: on each link they lie between the receiver's and the sender's, and below the link's length.
-use Rattle.std.specs.Prelude.{◌≡◌, ◌<◌, ◌≤◌, ℕ, Bool, true, false, nat_le, Option, Some, None, is_some, List}
+use Rattle.std.specs.Prelude.{◌≡◌, ◌<◌, ◌≤◌, ℕ, Bool, true, false, ◌||◌, nat_le, Option, Some, None, is_some, List}
 use Rattle.ipcz_base.specs.declared.side.Side.{Side}
 use Rattle.ipcz_base.specs.declared.side.Side.TheVariants.{B}
 use Rattle.ipcz_base.specs.declared.link_id.LinkId.{LinkId}
@@ -12,7 +12,7 @@ use Rattle.ipcz_base.specs.Sides.{opposite}
 use Rattle.ipcz_seq.specs.Queue.{Queue, item_at}
 use Rattle.ipcz_router.specs.Router.{Router, inward_edge}
 use Rattle.ipcz_world.specs.World.{World, Key, router_at}
-use Rattle.ipcz_world.specs.Records.{Records, is_recorded, side_node, side_length, across_side}
+use Rattle.ipcz_world.specs.Records.{Records, is_recorded, is_left, side_node, side_length, across_side}
 use Rattle.ipcz_world.specs.Flows.{IsUnderWay, is_made_before}
 use Rattle.ipcz_world.specs.Standing.{View, Awaited, Waiting, Standing, Gone, view, next_sent, taking_queue, may_have_sent, is_gone}
 use Rattle.ipcz_world.specs.Standing.{is_awaited}
@@ -40,7 +40,7 @@ pub record Items (w : World) (g : Records) : Type 0 where
       IsItemUnderWay w from to i link s n item moves → may_have_sent (view w g link (opposite s)) ≡ true
   pub sender_gone : (from to i : ℕ) (link : LinkId) (s : Side) (n : ℕ) (item : Item) (moves : List Descriptor) →
       IsItemUnderWay w from to i link s n item moves → is_gone (view w g link (opposite s)) ≡ true →
-      is_some (side_length g link (opposite s)) ≡ true
+      (is_some (side_length g link (opposite s)) || is_left g link (opposite s)) ≡ true
   -- not yet passed at the receiver, who is there, or is made by a message before it
   pub not_passed : (from to i : ℕ) (link : LinkId) (s : Side) (n : ℕ) (item : Item) (moves : List Descriptor) (q : Queue Item) →
       IsItemUnderWay w from to i link s n item moves → taking_queue link s (view w g link s) ≡ Some q → q.current ≤ n

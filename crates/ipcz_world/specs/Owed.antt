@@ -1,6 +1,6 @@
 -- What is owed to a router that could act or that waits, how proxies are ranked, and when the route of a pair is direct.
 -- (ipcz: that a flush is asked for wherever a router may have something to do, and that routes become direct in the end.)
-use Rattle.std.specs.Prelude.{◌≡◌, ◌⊎◌, ◌<◌, ℕ, Bool, true, false, ◌||◌, Some, None}
+use Rattle.std.specs.Prelude.{◌≡◌, ◌⊎◌, ◌<◌, ℕ, Bool, true, false, ◌||◌, Some, None, length}
 use Rattle.ipcz_base.specs.declared.side.Side.{Side}
 use Rattle.ipcz_base.specs.declared.side.Side.TheVariants.{A, B}
 use Rattle.ipcz_base.specs.declared.link_id.LinkId.{LinkId}
@@ -21,7 +21,7 @@ use Rattle.ipcz_router.specs.ActTable.{is_possible}
 use Rattle.ipcz_router.specs.declared.act.RouterAct.{RouterAct}
 use Rattle.ipcz_router.specs.declared.act.RouterAct.TheVariants.{Lock}
 use Rattle.ipcz_world.specs.World.{World, Key, word_at, router_at}
-use Rattle.ipcz_world.specs.Books.{Books}
+use Rattle.ipcz_world.specs.Books.{Books, is_closed, is_retired}
 use Rattle.ipcz_world.specs.Flows.{IsUnderWay}
 use Rattle.ipcz_world.specs.Places.{unread_weight}
 use Rattle.ipcz_world.specs.Standing.{has_primary}
@@ -158,9 +158,19 @@ pub record IsDirect (w : World) (b : Books) (pair : ℕ) : Type 0 where
   pub delivered : (s : Side) (h : ℕ → Item → ℕ) →
       total h (route.stands s).router.in_queue.items ≡ unread_weight h b (opposite_end (end_at pair s))
 
+-- a terminal whose peer's sink has retired hasn't read Gone: it leaves when it does
+abbrev pub GoneUnread : World → Books → Type 0
+GoneUnread w b = (k : Key) (r : Router) → router_at w k ≡ Some r → is_terminal r ≡ true → is_retired b (opposite_end r.end) ≡ true →
+    r.in_queue.current < length (b.put (opposite_end r.end))
+
 -- no router has found the words used up
 abbrev pub IsWet : World → Type 0
 IsWet w = (k : Key) (r : Router) → router_at w k ≡ Some r → r.dry ≡ false
+
+-- each router that stands is of a pair of which an end isn't closed
+abbrev pub HasNoClosedPairs : World → Books → Type 0
+HasNoClosedPairs w b =
+    (k : Key) (r : Router) → router_at w k ≡ Some r → is_closed b r.end ≡ true → is_closed b (opposite_end r.end) ≡ false
 
 -- no proxy stands
 abbrev pub HasNoProxies : World → Type 0

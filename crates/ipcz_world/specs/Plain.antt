@@ -1,7 +1,7 @@
 -- The machine over the books alone: which replies it allows, and what they write.
 use Rattle.std.specs.Prelude.{◌≡◌, ◌<◌, ℕ, true, Some, List, [], ◌∷◌, length}
 use Rattle.ipcz_base.specs.declared.end.End.{End}
-use Rattle.ipcz_base.specs.declared.item.Item.TheVariants.{Parcel, Mark}
+use Rattle.ipcz_base.specs.declared.item.Item.TheVariants.{Parcel, Mark, Gone}
 use Rattle.ipcz_base.specs.declared.refusal.Refusal.{Refusal}
 use Rattle.ipcz_base.specs.declared.refusal.Refusal.TheVariants.{OutOfMemory, Empty, PeerClosed, NoWord, SelfAttach, PeerAttach, Stranger}
 use Rattle.ipcz_base.specs.declared.refusal.Refusal.TheVariants.{NumbersEnd, BadData, TooMany}
@@ -53,11 +53,27 @@ pub record Discards (b : Books) (number : ℕ) (c : Books) : Type 0 where
   pub put : read b end < length (b.put (opposite_end end))
   pub books : c ≡ add_gone b end
 
--- what a turn may be seen to do, and what that writes: a pending close writes the mark, a discard that an item is gone, and nothing else is
--- written
+-- the sink of an end whose mark is its last item retires, once it has dropped all that its peer put, the mark too: Gone comes after its own
+-- mark
+pub record Retires (b : Books) (number : ℕ) (c : Books) : Type 0 where
+  pub end : End
+  pub closed : is_closed b end ≡ true
+  pub peer_closed : is_closed b (opposite_end end) ≡ true
+  pub next : number ≡ length (b.put end)
+  pub books : c ≡ add_put b end Gone
+
+-- the sink of an end that is sent Gone drops it
+pub record Drops (b : Books) (number : ℕ) (c : Books) : Type 0 where
+  pub discards : Discards b number c
+  pub gone : next_item b discards.end ≡ Some Gone
+
+-- what a turn may be seen to do, and what that writes: a pending close writes the mark, a retire Gone, a discard that an item is gone, and
+-- nothing else is written
 abbrev pub PlainTurn : Books → Happened → Books → Type 0
 PlainTurn b (events.Close e) c = c ≡ add_put b e Mark
 PlainTurn b (events.Discard serial number) c = Discards b number c
+PlainTurn b (events.DiscardLeave serial number) c = Drops b number c
+PlainTurn b (events.Retire serial number link) c = Retires b number c
 PlainTurn b other c = c ≡ b
 
 -- what the machine over books alone allows: an open gives both ends of a pair of which nothing is written; a put or a close gets the next

@@ -46,12 +46,23 @@ abbrev pub discard_count : List (ℕ × Act) → ℕ
 discard_count [] = 0
 discard_count (t ∷ ts) = worth 1 (is_discard t.1) + discard_count ts
 
--- law: what stays with the terminals is used by no turn, but for one act for each item that a sink drops, and six for each pending close
+-- whether an act is a retire: a sink leaves, and sends Gone
+unfoldable pub is_retire : Act → Bool
+is_retire (OfRouter serial acts.Retire) = true
+is_retire other = false
+
+-- how many of the turns are
+abbrev pub retire_count : List (ℕ × Act) → ℕ
+retire_count [] = 0
+retire_count (t ∷ ts) = worth 1 (is_retire t.1) + retire_count ts
+
+-- law: what stays with the terminals is used by no turn, but for one act for each item that a sink drops, and six for each pending close and
+-- for each sink that retires
 abbrev pub StayingIsUnused : Type 0
 StayingIsUnused =
     (w v : World) (b d : Books) (g h : Routes) (turns : List (ℕ × Act)) → Lawful w b g → CarryNone b → AreTurns w b g turns v d h →
     times_used w turns + stays (plain_rates b) w ≤
-    plain_limit b w + (6 * pending_closes w + (discard_count turns + 2 * unlock_count turns))
+    plain_limit b w + (6 * pending_closes w + (6 * retire_count turns + (discard_count turns + 2 * unlock_count turns)))
 
 -- a put of a parcel that carries no end: at which node, at which end, and its bytes
 pub record PlainPut : Type 0 where

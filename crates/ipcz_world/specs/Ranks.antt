@@ -11,7 +11,7 @@ use Rattle.ipcz_base.specs.Ends.{opposite_end}
 use Rattle.ipcz_base.specs.Items.{ends_in}
 use Rattle.ipcz_base.specs.Totals.{total, total_list}
 use Rattle.ipcz_edge.specs.Edge.{edge_decays}
-use Rattle.ipcz_router.specs.Router.{Router, is_proxy, is_on_central, inward_edge}
+use Rattle.ipcz_router.specs.Router.{Router, is_proxy, is_terminal, is_on_central, inward_edge}
 use Rattle.ipcz_router.specs.declared.act.RouterAct.{RouterAct}
 use Rattle.ipcz_router.specs.declared.act.RouterAct.TheVariants as acts
 use Rattle.ipcz_node.specs.declared.act.Act.{Act}
@@ -20,7 +20,7 @@ use Rattle.ipcz_node.specs.Node.{Node}
 use Rattle.ipcz_world.specs.declared.mail.Mail.{Mail}
 use Rattle.ipcz_world.specs.declared.mail.Mail.TheVariants as mails
 use Rattle.ipcz_world.specs.World.{World}
-use Rattle.ipcz_world.specs.Books.{Books, read, is_closed, after_turn, advance}
+use Rattle.ipcz_world.specs.Books.{Books, read, is_closed, is_retired, after_turn, advance}
 use Rattle.ipcz_world.specs.Routes.{Routes, routes_after_turn}
 use Rattle.ipcz_world.specs.declared.step.Step.TheVariants.{Turn}
 use Rattle.ipcz_world.specs.declared.step.Reply.{Reply}
@@ -29,7 +29,7 @@ use Rattle.ipcz_world.specs.Settling.{IsQuiet}
 use Rattle.ipcz_world.specs.Turns.{router_of, can_take, after_act, turn_event, turn_lacks_serials}
 use Rattle.ipcz_world.specs.Lawful.{Lawful}
 
--- what the numbers of items are worth while no caller puts: how many items each end can ever have, its mark with them, and by pair what one
+-- what the numbers of items are worth while no caller puts: how many items each end can ever have, its mark and Gone with them, and by pair what one
 -- number that an item of it passes at a router is worth
 pub record Rates : Type 0 where
   pub cap : End → ℕ
@@ -58,16 +58,22 @@ is_unbegun r = is_proxy r && is_some r.outward.primary
 abbrev pub bypass_worth : Router → ℕ
 bypass_worth r = 41 + (worth 1 (is_none r.spare && not r.dry) + (worth 1 (not r.holds) + worth 1 (not r.tried)))
 
--- the worth of a router: its numbers, its flag, its links that decay, its leaving, its bypass, its side that isn't marked, a wake
+-- what a terminal's lock is worth, for when it is a sink that is done: to lock, a failed try
+abbrev pub sink_worth : Router → ℕ
+sink_worth r = worth 1 (not r.holds) + worth 1 (not (r.tried && r.closed))
+
+-- the worth of a router: its numbers, its flag, its links that decay, its leaving, its bypass, its lock as a terminal, its side that isn't
+-- marked, a wake
 unfoldable pub router_worth : Rates → Router → ℕ
 router_worth c r =
     worth_left c r.end r.out_queue.current r.in_queue.current +
     (worth 1 r.flagged + (worth 1 (edge_decays r.outward) + (worth 1 (edge_decays (inward_edge r)) +
-    (worth 1 (is_proxy r) + (cond (is_unbegun r) (bypass_worth r) 0 + (worth 7 (is_on_central r && not r.marked) + worth 6 r.wake_owed))))))
+    (worth 1 (is_proxy r) + (cond (is_unbegun r) (bypass_worth r) 0 + (cond (is_terminal r) (sink_worth r) 0 +
+    (worth 7 (is_on_central r && not r.marked) + worth 6 r.wake_owed)))))))
 
 -- the worth of the routers that descriptors will make
 abbrev pub moves_worth : Rates → List Descriptor → ℕ
-moves_worth c ds = total_list (λ d. 7 + worth_left c d.end d.next_out d.next_in) ds
+moves_worth c ds = total_list (λ d. 9 + worth_left c d.end d.next_out d.next_in) ds
 
 -- the worth of a message in hand
 unfoldable pub message_worth : Rates → Message → ℕ
@@ -98,12 +104,18 @@ rank c w = total_list (node_worth c) w.nodes + total_list (mail_worth c) w.mail
 
 -- what the moves of these ends are worth: each makes a proxy and a terminal that its numbers have still to pass
 abbrev pub moving_worth : Rates → List End → ℕ
-moving_worth c ends = total_list (λ e. 53 + c.price e.pair * (c.cap e + c.cap (opposite_end e))) ends
+moving_worth c ends = total_list (λ e. 55 + c.price e.pair * (c.cap e + c.cap (opposite_end e))) ends
 
--- the rates fit the books: the caps leave room for what each end has put, and for its mark where it isn't closed; and a pair's price pays
--- for the sending of an item, and, for each of its items that wasn't read, for the moves of the ends that travel with it
+-- how many items an end may put without a call: its mark where it isn't closed, and Gone where it hasn't retired
+abbrev pub may_put : Books → End → ℕ
+may_put b e = worth 1 (not (is_closed b e)) + worth 1 (not (is_retired b e))
+
+-- the rates fit the books: the number of each item that wasn't read is below its end's cap, and while no sink of the pair has retired the cap
+-- leaves room for what the end has put, and for its mark and Gone; and a pair's price pays for the sending of an item, and, for each of its
+-- items that wasn't read, for the moves of the ends that travel with it
 pub record IsRated (c : Rates) (b : Books) : Type 0 where
-  pub capped : (e : End) → length (b.put e) + worth 1 (not (is_closed b e)) ≤ c.cap e
+  pub capped : (e : End) (n : ℕ) (item : Item) → read b (opposite_end e) ≤ n → slice_get (b.put e) n ≡ Some item → n < c.cap e
+  pub room : (e : End) → is_retired b e ≡ false → is_retired b (opposite_end e) ≡ false → length (b.put e) + may_put b e ≤ c.cap e
   pub least : (pair : ℕ) → 6 ≤ c.price pair
   pub pays : (e : End) (n : ℕ) (item : Item) → read b (opposite_end e) ≤ n → slice_get (b.put e) n ≡ Some item →
       6 + moving_worth c (ends_in item) ≤ c.price e.pair
@@ -160,7 +172,7 @@ abbrev pub times_used : World → List (ℕ × Act) → ℕ
 times_used w [] = 0
 times_used w (t ∷ ts) = worth 1 (uses_up w t.0 t.1) + times_used (after_act w t.0 t.1) ts
 
--- how many are unlocks: begins that found no memory
+-- how many are unlocks: begins and retires that found no memory
 abbrev pub unlock_count : List (ℕ × Act) → ℕ
 unlock_count [] = 0
 unlock_count (t ∷ ts) = worth 1 (is_unlock t.1) + unlock_count ts
@@ -180,11 +192,10 @@ UnusedIsQuiet =
     ((n : ℕ) (act : Act) → n < w.count → can_take w n act ≡ true → uses_up w n act ≡ false) → IsQuiet w
 
 -- the parcels that weren't read carry ends in an order of their pairs: each end that travels with an item is of a pair of a higher level;
--- no
--- end has put as many items as `most`, and no item carries more ends
+-- each end has put at least two items fewer than `most`, and no item carries more ends
 pub record AreOrdered (level : ℕ → ℕ) (depth most : ℕ) (b : Books) : Type 0 where
   pub within : (pair : ℕ) → level pair ≤ depth
-  pub puts : (e : End) → length (b.put e) < most
+  pub puts : (e : End) → length (b.put e) + 2 ≤ most
   pub ends : (e : End) (n : ℕ) (item : Item) → read b (opposite_end e) ≤ n → slice_get (b.put e) n ≡ Some item →
       length (ends_in item) ≤ most
   pub higher : (e : End) (n i : ℕ) (item : Item) (d : End) → read b (opposite_end e) ≤ n → slice_get (b.put e) n ≡ Some item →
@@ -193,7 +204,7 @@ pub record AreOrdered (level : ℕ → ℕ) (depth most : ℕ) (b : Books) : Typ
 -- the price of a pair with so many levels above it
 abbrev pub price_below : ℕ → ℕ → ℕ
 price_below most zero = 6
-price_below most (suc k) = 6 + most * (53 + price_below most k * (most + most))
+price_below most (suc k) = 6 + most * (55 + price_below most k * (most + most))
 
 -- the rates of such an order
 abbrev pub ordered_rates : (ℕ → ℕ) → ℕ → ℕ → Rates

@@ -7,6 +7,7 @@ use Rattle.ipcz_base.specs.declared.link_id.LinkId.{LinkId}
 use Rattle.ipcz_base.specs.declared.link_id.LinkId.TheVariants.{Central, Peripheral}
 use Rattle.ipcz_base.specs.declared.descriptor.Descriptor.{Descriptor}
 use Rattle.ipcz_base.specs.Sides.{opposite, same_side}
+use Rattle.ipcz_word.specs.SideSets.{Sides, has}
 use Rattle.ipcz_base.specs.Ends.{end_at, same_end}
 use Rattle.ipcz_world.specs.World.{World, Key, same_key, node_at}
 use Rattle.ipcz_world.specs.Routes.{Routes}
@@ -23,21 +24,27 @@ pub data Owner : Type 0 where
   Fresh : (old : ℕ) → Owner
   -- the word of a link
   Linked : Owner
+  -- nothing any more: it was the spare of a proxy that Gone took away
+  Lost : Owner
 
--- a central link: its pair, the node and router of each side (none: it is awaited), and the bypass that made it
+-- a central link: its pair, the node and router of each side (none: it is awaited), the bypass that made it, and the sides that left it by
+-- retiring or with Gone
 pub record CentralRecord : Type 0 where
   pub pair : ℕ
   pub node : Side → ℕ
   pub router : Side → Option ℕ
   pub born : Option ℕ
+  pub left : Sides
 
--- a peripheral link: its end, the proxy, the node and router inward (none: a descriptor is under way), and the bypass that takes it away
+-- a peripheral link: its end, the proxy, the node and router inward (none: a descriptor is under way), the bypass that takes it away, and the
+-- sides that left it with Gone
 pub record PeripheralRecord : Type 0 where
   pub end : End
   pub proxy : ℕ
   pub node : ℕ
   pub router : Option ℕ
   pub by : Option ℕ
+  pub left : Sides
 
 -- a bypass, named by its old word: how far it is (0: none, 1 begun, 2 taken, 3 accepted, 4 told, 5 ended), the proxy, its inward link, the
 -- fresh word, and the lengths toward the router inward's old link and the old link
@@ -59,6 +66,8 @@ pub data Terminal : Type 0 where
   At : (key : Key) → Terminal
   -- under way, to be made from a descriptor
   Moving : (descriptor : Descriptor) → Terminal
+  -- its sink has left
+  Retired : Terminal
 
 -- all that is remembered; the peripheral link of a key is the one of that node and serial
 pub record Records : Type 0 where
@@ -79,6 +88,11 @@ is_linked other = false
 unfoldable pub is_unclaimed : Owner → Bool
 is_unclaimed Unclaimed = true
 is_unclaimed other = false
+
+-- whether the word was lost
+unfoldable pub is_lost_owner : Owner → Bool
+is_lost_owner Lost = true
+is_lost_owner other = false
 
 -- the records with another owner of a word
 abbrev pub set_owner : Records → ℕ → Owner → Records
@@ -134,6 +148,11 @@ side_router g (Peripheral n x) A = Some (record { node = n; serial = (g.peripher
 side_router g (Peripheral n x) B =
     key_at (g.peripheral (record { node = n; serial = x })).node (g.peripheral (record { node = n; serial = x })).router
 
+-- whether the router of a link's side has left it by retiring or with Gone
+unfoldable pub is_left : Records → LinkId → Side → Bool
+is_left g (Central i) s = has (g.central i).left s
+is_left g (Peripheral n x) s = has (g.peripheral (record { node = n; serial = x })).left s
+
 -- the end of the routers of a link's side
 unfoldable pub side_end : Records → LinkId → Side → End
 side_end g (Central i) s = end_at (g.central i).pair s
@@ -141,7 +160,7 @@ side_end g (Peripheral n x) s = (g.peripheral (record { node = n; serial = x }))
 
 -- the routes that the records tell
 abbrev pub routes_of : Records → Routes
-routes_of g = record { is_link = λ i. is_linked (g.owner i); pair = λ i. (g.central i).pair; end = λ k. (g.peripheral k).end }
+routes_of g = record { is_link = λ i. is_linked (g.owner i); pair = λ i. (g.central i).pair; end = λ k. (g.peripheral k).end; lost = λ i. is_lost_owner (g.owner i) }
 
 -- whether a bypass has begun
 abbrev pub is_begun : Bypass → Bool
@@ -186,12 +205,14 @@ unfoldable pub terminal_node : Terminal → Option ℕ
 terminal_node Nowhere = None
 terminal_node (At k) = Some k.node
 terminal_node (Moving d) = None
+terminal_node Retired = None
 
 -- the descriptor that will make an end's terminal
 unfoldable pub terminal_descriptor : Terminal → Option Descriptor
 terminal_descriptor Nowhere = None
 terminal_descriptor (At k) = None
 terminal_descriptor (Moving d) = Some d
+terminal_descriptor Retired = None
 
 -- whether an end's pair isn't opened
 unfoldable pub is_nowhere : Terminal → Bool

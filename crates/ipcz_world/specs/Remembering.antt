@@ -15,8 +15,9 @@ use Rattle.ipcz_router.specs.declared.act.RouterAct.{RouterAct}
 use Rattle.ipcz_router.specs.declared.act.RouterAct.TheVariants.{SendOut, SendIn}
 use Rattle.ipcz_router.specs.declared.act.Answer.TheVariants.{Plain}
 use Rattle.ipcz_router.specs.Acts.{way_out, way_in}
-use Rattle.ipcz_router.specs.ActEffects.{apply}
-use Rattle.ipcz_router.specs.Router.{Router, primary_word, inward_edge}
+use Rattle.ipcz_router.specs.ActEffects.{apply, leaves_by}
+use Rattle.ipcz_router.specs.Router.{Router, is_terminal, primary_word, inward_edge}
+use Rattle.ipcz_word.specs.SideSets.{none, with}
 use Rattle.ipcz_router.specs.Calls.{descriptor_of}
 use Rattle.ipcz_node.specs.Node.{Node, Found, terminal_of, link_router}
 use Rattle.ipcz_node.specs.Sends.{Transfer, next_link, move_end}
@@ -32,7 +33,7 @@ use Rattle.ipcz_world.specs.declared.step.Reply.TheVariants as replies
 use Rattle.ipcz_world.specs.World.{World, Key, node_at}
 use Rattle.ipcz_world.specs.Turns.{router_of}
 use Rattle.ipcz_world.specs.Routes.{hand_of}
-use Rattle.ipcz_world.specs.Records.{Records, Unclaimed, Spare, Opening, Fresh, Linked, Nowhere, At, Moving, set_owner, set_central}
+use Rattle.ipcz_world.specs.Records.{Records, Unclaimed, Spare, Opening, Fresh, Linked, Lost, Nowhere, At, Moving, Retired, set_owner, set_central}
 use Rattle.ipcz_world.specs.Records.{set_peripheral, set_bypass, set_begun, set_terminal, at_side}
 
 -- a pair is opened on a word at a node, its terminals under these serials
@@ -43,6 +44,7 @@ open_records g n i serial =
       node = λ s. n;
       router = at_side (λ s. Some serial) B (Some (serial + 1));
       born = None;
+      left = none;
     })) (record { pair = i; side = A }) (At (record { node = n; serial = serial }))) (record { pair = i; side = B })
     (At (record { node = n; serial = serial + 1 }))
 
@@ -70,6 +72,7 @@ taken_records g k r o fresh target =
       node = at_side (λ s. target) r.end.side k.node;
       router = at_side (λ s. None) r.end.side (Some k.serial);
       born = Some o;
+      left = none;
     })
 
 -- the router across accepts
@@ -91,7 +94,7 @@ ended_records g (Some o) = set_bypass g o (record (g.bypass o) { stage = 5 })
 abbrev pub move_records : Records → Node → ℕ → ℕ → Router → Records
 move_records g n to serial r =
     set_terminal (set_peripheral g (record { node = n.number; serial = n.next_peripheral })
-    (record { end = r.end; proxy = serial; node = to; router = None; by = None }))
+    (record { end = r.end; proxy = serial; node = to; router = None; by = None; left = none }))
     r.end (Moving (descriptor_of r (next_link n)))
 
 -- the terminal that was found moves
@@ -167,12 +170,42 @@ node_across n (Some e) = e.other
 unfoldable pub sent_records : World → Records → ℕ → ℕ → RouterAct → List End → Option Router → Records
 sent_records w g n serial act moved None = g
 sent_records w g n serial act moved (Some r) =
-    moves_records g (record { node = keep_or_drop (node_at w n) serial (apply r act Plain) act; moves = [] }) (node_across n (way_of r act))
+    moves_records g (record { node = keep_or_drop (node_at w n) serial (apply r act Plain) (leaves_by r act); moves = [] }) (node_across n (way_of r act))
     moved
   where
     way_of : Router → RouterAct → Option LinkEnd
     way_of q SendIn = way_in q
     way_of q other = way_out q
+
+-- a side of a link is left
+unfoldable pub left_link : Records → LinkId → Side → Records
+left_link g (Central i) s = set_central g i (record (g.central i) { left = with (g.central i).left s })
+left_link g (Peripheral n x) s =
+    set_peripheral g (record { node = n; serial = x })
+    (record (g.peripheral (record { node = n; serial = x })) { left = with (g.peripheral (record { node = n; serial = x })).left s })
+
+-- the side of a link end is left, where there is one
+unfoldable pub left_end : Records → Option LinkEnd → Records
+left_end g None = g
+left_end g (Some e) = left_link g e.link e.side
+
+-- a word that was the spare of a router is lost, where there is one
+unfoldable pub lost_word : Records → Option ℕ → Records
+lost_word g None = g
+lost_word g (Some i) = set_owner g i Lost
+
+-- the end of a terminal has none any more
+abbrev pub retired_end : Records → Router → Records
+retired_end g r = if is_terminal r then set_terminal g r.end Retired else g
+
+-- a router leaves: what it still had is left and lost
+abbrev pub leave_records : Records → Router → Records
+leave_records g r = retired_end (lost_word (left_end (left_end g r.outward.primary) (inward_edge r).primary) r.spare) r
+
+-- the router that stands there leaves
+unfoldable pub router_left_records : Records → Option Router → Records
+router_left_records g None = g
+router_left_records g (Some r) = leave_records g r
 
 -- the records after what a turn of a node was seen to do
 unfoldable pub records_after_turn : World → Records → ℕ → Happened → Records
@@ -181,6 +214,9 @@ records_after_turn w g n (events.SendOut serial number link moved) = sent_record
 records_after_turn w g n (events.SendIn serial number link moved) = sent_records w g n serial SendIn moved (router_of w n serial)
 records_after_turn w g n (events.Claim serial i) = claim_records g (record { node = n; serial = serial }) i
 records_after_turn w g n (events.Begin serial link) = router_begun_records g (record { node = n; serial = serial }) (router_of w n serial)
+records_after_turn w g n (events.Leave serial) = router_left_records g (router_of w n serial)
+records_after_turn w g n (events.DiscardLeave serial number) = router_left_records g (router_of w n serial)
+records_after_turn w g n (events.Retire serial number link) = router_left_records g (router_of w n serial)
 records_after_turn w g n other = g
 
 -- the records after a step of a world and its reply
@@ -221,8 +257,9 @@ first_records count = record {
     node = λ s. (first_key count i s).node;
     router = λ s. Some (first_key count i s).serial;
     born = None;
+    left = none;
   };
-  peripheral = λ k. record { end = end_at 0 A; proxy = 0; node = 0; router = None; by = None };
+  peripheral = λ k. record { end = end_at 0 A; proxy = 0; node = 0; router = None; by = None; left = none };
   bypass = λ o. record {
     stage = 0;
     proxy = record { node = 0; serial = 0 };

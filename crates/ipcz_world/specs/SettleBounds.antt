@@ -1,20 +1,21 @@
 -- What a settle comes to: how many acts its turns can take, and what its answer tells.
-use Rattle.std.specs.Prelude.{◌≡◌, ◌≤◌, ◌<◌, ℕ, ◌+◌, ◌*◌, Bool, true, false, not, Some, List, [], ◌∷◌, length, slice_get}
+use Rattle.std.specs.Prelude.{◌≡◌, ◌≤◌, ◌<◌, ℕ, ◌+◌, ◌*◌, Bool, true, false, cond, ◌&&◌, ◌||◌, nat_eq, Some, List, [], ◌∷◌, length, slice_get}
+use Rattle.ipcz_base.specs.declared.side.Side.{Side}
 use Rattle.ipcz_base.specs.declared.end.End.{End}
 use Rattle.ipcz_base.specs.declared.item.Item.{Item}
 use Rattle.ipcz_base.specs.declared.refusal.Refusal.{Refusal}
-use Rattle.ipcz_base.specs.Ends.{opposite_end}
+use Rattle.ipcz_base.specs.Ends.{opposite_end, end_at}
 use Rattle.ipcz_base.specs.Items.{ends_in}
 use Rattle.ipcz_world.specs.declared.step.Settled.{Settled}
 use Rattle.ipcz_world.specs.declared.step.Settled.TheVariants as ends
 use Rattle.ipcz_world.specs.World.{World}
-use Rattle.ipcz_world.specs.Books.{Books, read, is_closed}
+use Rattle.ipcz_world.specs.Books.{Books, read, is_closed, is_retired}
 use Rattle.ipcz_world.specs.Routes.{Routes, is_opened}
 use Rattle.ipcz_world.specs.Settling.{AreVisits, act_count, next_node, IsSettle, IsRefusedSettle}
 use Rattle.ipcz_world.specs.FirstRuns.{KeepsLaw, turns_of, replies_of}
 use Rattle.ipcz_world.specs.Lawful.{Lawful}
-use Rattle.ipcz_world.specs.Owed.{IsWet, IsDirect, HasNoProxies}
-use Rattle.ipcz_world.specs.Ranks.{Rates, worth, rank, IsRated, is_unlock}
+use Rattle.ipcz_world.specs.Owed.{IsWet, IsDirect, HasNoProxies, HasNoClosedPairs}
+use Rattle.ipcz_world.specs.Ranks.{Rates, worth, rank, IsRated, may_put, is_unlock}
 
 -- how many of these visits took an unlock: a begin that found no memory
 abbrev pub unlocks_taken : (n : ℕ) (visits : List Bool) (w v : World) → AreVisits n visits w v → ℕ
@@ -61,9 +62,14 @@ abbrev pub CarryNone : Books → Type 0
 CarryNone b =
     (e : End) (n : ℕ) (item : Item) → read b (opposite_end e) ≤ n → slice_get (b.put e) n ≡ Some item → ends_in item ≡ []
 
--- the rates of such books: each end has put what it will have put, but for its mark, and nothing is to be paid but the passing of numbers
+-- whether a sink of an end's pair has retired, and all that the end has put was read: it puts nothing more
+abbrev pub is_over : Books → End → Bool
+is_over b e = (is_retired b e || is_retired b (opposite_end e)) && nat_eq (read b (opposite_end e)) (length (b.put e))
+
+-- the rates of such books: each end has put what it will have put, but for its mark and Gone, an end that is over has nothing left, and
+-- nothing is to be paid but the passing of numbers
 abbrev pub plain_rates : Books → Rates
-plain_rates b = record { cap = λ e. length (b.put e) + worth 1 (not (is_closed b e)); price = λ pair. 6 }
+plain_rates b = record { cap = λ e. cond (is_over b e) 0 (length (b.put e) + may_put b e); price = λ pair. 6 }
 
 -- law: they fit
 abbrev pub PlainAreRated : Type 0
@@ -79,8 +85,10 @@ PlainLimitIsEnough =
     (limit : ℕ) (w v : World) (b : Books) (g : Routes) → Lawful w b g → CarryNone b → (s : IsSettle limit w v ends.Unsettled) →
     limit < plain_limit b w + 2 * unlocks_taken 0 s.visits w v s.turns
 
--- law: where a settle has settled and no router has found the words used up, no proxy is left, and each open pair is direct
+-- law: where a settle has settled and no router has found the words used up, no proxy is left, nor a router of a pair with both ends closed,
+-- and each other open pair is direct
 abbrev pub SettledIsDirect : Type 0
 SettledIsDirect =
     (limit acts : ℕ) (w v : World) (b : Books) (g : Routes) → IsSettle limit w v (ends.Settled acts) → Lawful v b g → IsWet v →
-    HasNoProxies v × ((pair : ℕ) → is_opened g pair ≡ true → IsDirect v b pair)
+    HasNoProxies v × HasNoClosedPairs v b × ((pair : ℕ) (s : Side) → is_opened g pair ≡ true → is_closed b (end_at pair s) ≡ false →
+    IsDirect v b pair)

@@ -1,13 +1,22 @@
 -- A limit that is enough for a settle where no item that wasn't read carries an end: by routers, the numbers that have still to pass them,
 -- messages and pending closes.
-use Rattle.std.specs.Prelude.{◌≤◌, ◌<◌, ℕ, ◌+◌, ◌*◌, ◌-◌, ◌&&◌, cond, nat_lt, if◌then◌else◌, List, [], ◌∷◌, length}
+use Rattle.std.specs.Prelude.{◌≤◌, ◌<◌, ℕ, ◌+◌, ◌*◌, ◌-◌, Bool, false, ◌&&◌, ◌||◌, is_some, cond, nat_lt, if◌then◌else◌, Option, Some, None, List, [], ◌∷◌, length}
 use Rattle.std.specs.FinMap.{entries}
 use Rattle.ipcz_base.specs.declared.end.End.{End}
+use Rattle.ipcz_base.specs.declared.item.Item.{Item}
+use Rattle.ipcz_base.specs.declared.message.Message.{Message}
+use Rattle.ipcz_base.specs.declared.message.Message.TheVariants as messages
 use Rattle.ipcz_base.specs.Ends.{opposite_end, same_end}
+use Rattle.ipcz_base.specs.Items.{is_gone_item}
 use Rattle.ipcz_base.specs.Totals.{total, total_list}
 use Rattle.ipcz_router.specs.Router.{Router, is_terminal}
 use Rattle.ipcz_router.specs.Calls.{next_number}
-use Rattle.ipcz_node.specs.Node.{Node}
+use Rattle.ipcz_base.specs.Limits.{no_number}
+use Rattle.ipcz_seq.specs.Queue.{Queue}
+use Rattle.ipcz_seq.specs.Last.{last_of}
+use Rattle.ipcz_node.specs.Node.{Node, find_router}
+use Rattle.ipcz_world.specs.declared.mail.Mail.{Mail}
+use Rattle.ipcz_world.specs.declared.mail.Mail.TheVariants as mails
 use Rattle.ipcz_world.specs.declared.step.Settled.TheVariants as ends
 use Rattle.ipcz_world.specs.World.{World}
 use Rattle.ipcz_world.specs.Books.{Books}
@@ -31,15 +40,64 @@ abbrev pub put_within : End → List Node → ℕ
 put_within e [] = 0
 put_within e (n ∷ ns) = higher (put_among e (entries n.routers)) (put_within e ns)
 
+-- the highest of some numbers of a list
+abbrev pub highest : {X : Type 0} → (X → ℕ) → List X → ℕ
+highest h [] = 0
+highest h (x ∷ xs) = higher (h x) (highest h xs)
+
+-- the number after an item's where it is Gone, else none; no item of a lawful world has the number that no item has
+unfoldable pub after_gone : ℕ → Item → ℕ
+after_gone n item = cond (is_gone_item item) (if nat_lt n no_number then n + 1 else n) 0
+
+-- of the last entry of a queue, since Gone is the last item of its end; the highest in a router's queues, of a message, in a mailbox, and in
+-- a node's routers and outboxes
+abbrev pub gone_last : Option (ℕ × Item) → ℕ
+gone_last None = 0
+gone_last (Some x) = after_gone x.0 x.1
+
+abbrev pub last_gone : List (ℕ × Item) → ℕ
+last_gone es = gone_last (last_of es)
+
+unfoldable pub gone_queued : Queue Item → ℕ
+gone_queued q = last_gone (entries q.items)
+
+unfoldable pub gone_held : Router → ℕ
+gone_held r = higher (gone_queued r.out_queue) (gone_queued r.in_queue)
+
+unfoldable pub gone_message : Message → ℕ
+gone_message (messages.Item link s n item moves) = after_gone n item
+gone_message other = 0
+
+unfoldable pub gone_mailed : Mail → ℕ
+gone_mailed mails.Empty = 0
+gone_mailed (mails.Full m) = gone_message m
+gone_mailed (mails.Hand m) = gone_message m
+
+unfoldable pub gone_at : Node → ℕ
+gone_at n = higher (highest (λ (x : ℕ × Router). gone_held x.1) (entries n.routers)) (highest (λ box. highest gone_message box) n.outboxes)
+
+-- the number after the highest one of a Gone that stands anywhere
+unfoldable pub gone_most : World → ℕ
+gone_most w = higher (highest gone_at w.nodes) (highest gone_mailed w.mail)
+
+-- whether an end's terminal stands in one of these nodes
+abbrev pub has_within : End → List Node → Bool
+has_within e [] = false
+has_within e (n ∷ ns) = is_some (find_router n (λ r. is_terminal r && same_end r.end e)) || has_within e ns
+
+-- how many items an end has put that its peer hasn't read all: as its terminal tells, or where none stands, as a Gone that wasn't read
+unfoldable pub put_most : World → End → ℕ
+put_most w e = if has_within e w.nodes then put_within e w.nodes else gone_most w
+
 -- how many numbers have still to pass a router: those that its end has put and it hasn't sent, those that the peer has put and it hasn't
--- passed on, and a mark of each
+-- passed on, and a mark and Gone of each
 unfoldable pub numbers_left : World → Router → ℕ
 numbers_left w r =
-    (put_within r.end w.nodes - r.out_queue.current) + (put_within (opposite_end r.end) w.nodes - r.in_queue.current) + 2
+    (put_most w r.end - r.out_queue.current) + (put_most w (opposite_end r.end) - r.in_queue.current) + 4
 
--- acts enough for a router: six for each of these numbers, and 15 for a terminal's flag, link and word, 61 for a proxy's and its bypass
+-- acts enough for a router: six for each of these numbers, and 17 for a terminal's flag, link, word and lock, 61 for a proxy's and its bypass
 unfoldable pub router_limit : World → Router → ℕ
-router_limit w r = 6 * numbers_left w r + cond (is_terminal r) 15 61
+router_limit w r = 6 * numbers_left w r + cond (is_terminal r) 17 61
 
 -- acts enough for a node: its routers, 38 for each message that waits to be posted, 3 for each end that is to be closed
 unfoldable pub node_limit : World → Node → ℕ

@@ -4,7 +4,7 @@ use Rattle.ipcz_base.specs.declared.side.Side.TheVariants.{A, B}
 use Rattle.ipcz_base.specs.declared.end.End.{End}
 use Rattle.ipcz_base.specs.declared.parcel.Parcel as parcels
 use Rattle.ipcz_base.specs.declared.item.Item.{Item}
-use Rattle.ipcz_base.specs.declared.item.Item.TheVariants.{Parcel, Mark}
+use Rattle.ipcz_base.specs.declared.item.Item.TheVariants.{Parcel, Mark, Gone}
 use Rattle.ipcz_base.specs.declared.refusal.Refusal.{Refusal}
 use Rattle.ipcz_base.specs.declared.refusal.Refusal.TheVariants as refusals
 use Rattle.ipcz_base.specs.Ends.{end_at}
@@ -76,6 +76,7 @@ unfoldable pub got_reply : ℕ → Option Item → Reply
 got_reply number None = replies.Refused refusals.Empty
 got_reply number (Some (Parcel p)) = replies.Got number p
 got_reply number (Some Mark) = replies.Refused refusals.PeerClosed
+got_reply number (Some Gone) = replies.Refused refusals.PeerClosed
 
 -- the reply of a get at the terminal that was found
 unfoldable pub get_reply : Option Found → Reply
@@ -144,7 +145,7 @@ GivesOrNoMemory w done reply v = Gives done reply v ⊎ ((is_refused done.reply 
 abbrev pub PutGives : World → ℕ → Effect → Reply → World → Type 0
 PutGives w n done reply v = Gives done reply v ⊎ ((n < w.count) × FindsNoMemory w reply v)
 
--- the effect of an act, or want of memory where the act makes something grow and nothing else refuses; a begin that finds none is an unlock
+-- the effect of an act, or want of memory where the act makes something grow and nothing else refuses; a begin or a retire that finds none is an unlock
 abbrev pub ActGives : World → ℕ → Act → Effect → Reply → World → Type 0
 ActGives w n act done reply v =
     Gives done reply v ⊎ ((turn_grows w n act ≡ true) × (act ≡ stand_in act) × (is_refused done.reply ≡ false) × FindsNoMemory w reply v)

@@ -1,5 +1,5 @@
 -- What always holds of counters, routers, links and words.
-use Rattle.std.specs.Prelude.{◌≡◌, ◌<◌, ◌≤◌, ℕ, Bool, true, false, ◌&&◌, nat_le, if◌then◌else◌, Option, Some, None, is_some, is_none}
+use Rattle.std.specs.Prelude.{◌≡◌, ◌<◌, ◌≤◌, ℕ, Bool, true, false, ◌&&◌, ◌||◌, nat_le, if◌then◌else◌, Option, Some, None, is_some, is_none}
 use Rattle.std.specs.Prelude.{option_map}
 use Rattle.ipcz_base.specs.declared.side.Side.{Side}
 use Rattle.ipcz_base.specs.declared.side.Side.TheVariants.{A, B}
@@ -11,11 +11,12 @@ use Rattle.ipcz_base.specs.Sides.{opposite, same_side}
 use Rattle.ipcz_word.specs.SideSets.{has}
 use Rattle.ipcz_seq.specs.Queue.{item_at}
 use Rattle.ipcz_word.specs.Word.{empty_word}
-use Rattle.ipcz_router.specs.Router.{Router, is_proxy, is_terminal, inward_edge, decays, is_on_central, source_of}
+use Rattle.ipcz_router.specs.Router.{Router, is_proxy, is_terminal, inward_edge, decays, is_on_central, source_of, is_sink}
+use Rattle.ipcz_router.specs.ActTable.{is_done}
 use Rattle.ipcz_world.specs.World.{World, Key, node_at, word_at, mail_at, way, router_at}
 use Rattle.ipcz_world.specs.Turns.{hand_message}
 use Rattle.ipcz_world.specs.Records.{Records, Spare, Opening, Fresh, is_linked, is_unclaimed, is_begun, is_recorded, inner_link, side_node}
-use Rattle.ipcz_world.specs.Records.{side_router, side_end, bypass_of, proxy_side, across_side, known_from}
+use Rattle.ipcz_world.specs.Records.{is_left, side_router, side_end, bypass_of, proxy_side, across_side, known_from}
 use Rattle.ipcz_world.specs.Standing.{key_passes, has_primary, has_inward_primary, spare_of}
 
 -- nodes know their numbers, and counters are above what they have counted
@@ -58,8 +59,12 @@ pub record Shape (w : World) : Type 0 where
   pub marked_central : (k : Key) (r : Router) → router_at w k ≡ Some r → r.marked ≡ true → is_on_central r ≡ true
   pub marked_still : (k : Key) (r : Router) → router_at w k ≡ Some r → r.marked ≡ true → decays r ≡ false
   pub holds_marked : (k : Key) (r : Router) → router_at w k ≡ Some r → r.holds ≡ true → r.marked ≡ true
-  pub holds_proxy : (k : Key) (r : Router) → router_at w k ≡ Some r → r.holds ≡ true → is_proxy r ≡ true
-  pub holds_spare : (k : Key) (r : Router) → router_at w k ≡ Some r → r.holds ≡ true → is_some r.spare ≡ true
+  -- who holds a lock is a proxy with a spare, or a sink that is done
+  pub holds_fit : (k : Key) (r : Router) → router_at w k ≡ Some r → r.holds ≡ true → (is_proxy r || is_done r) ≡ true
+  pub holds_spare : (k : Key) (r : Router) → router_at w k ≡ Some r → r.holds ≡ true → is_proxy r ≡ true → is_some r.spare ≡ true
+  -- only a sink has dropped the mark, and only a proxy that hasn't begun has sent Gone inward
+  pub dropped_sink : (k : Key) (r : Router) → router_at w k ≡ Some r → r.mark_dropped ≡ true → is_sink r ≡ true
+  pub sent_proxy : (k : Key) (r : Router) → router_at w k ≡ Some r → r.gone_sent ≡ true → is_some (inward_edge r).primary ≡ true
   pub spare_proxy : (k : Key) (r : Router) (i : ℕ) → router_at w k ≡ Some r → r.spare ≡ Some i → is_proxy r ≡ true
   pub spare_primary : (k : Key) (r : Router) (i : ℕ) → router_at w k ≡ Some r → r.spare ≡ Some i → is_some r.outward.primary ≡ true
 
@@ -162,18 +167,23 @@ pub record Positions (w : World) (g : Records) : Type 0 where
 -- who stands at the sides of a link that isn't being bypassed
 pub record Stands (w : World) (g : Records) : Type 0 where
   pub central : (i : ℕ) (s : Side) (k : Key) → is_linked (g.owner i) ≡ true → is_begun (g.bypass i) ≡ false →
-      side_router g (Central i) s ≡ Some k → key_passes w (Some k) (has_primary (Central i) s) ≡ true
+      is_left g (Central i) s ≡ false → side_router g (Central i) s ≡ Some k → key_passes w (Some k) (has_primary (Central i) s) ≡ true
   pub awaited : (i : ℕ) (s : Side) → is_linked (g.owner i) ≡ true → (g.central i).router s ≡ None → is_some (g.central i).born ≡ true
   pub awaited_stage : (i : ℕ) (s : Side) (o : ℕ) → is_linked (g.owner i) ≡ true → (g.central i).router s ≡ None →
       (g.central i).born ≡ Some o → (g.bypass o).stage ≡ 2
   pub awaited_side : (i : ℕ) (s : Side) (o : ℕ) → is_linked (g.owner i) ≡ true → (g.central i).router s ≡ None →
       (g.central i).born ≡ Some o → s ≡ across_side g o
-  pub proxy : (p : Key) → is_recorded w g (inner_link p) ≡ true → (g.peripheral p).by ≡ None →
+  pub proxy : (p : Key) → is_recorded w g (inner_link p) ≡ true → (g.peripheral p).by ≡ None → is_left g (inner_link p) A ≡ false →
       key_passes w (side_router g (inner_link p) A) (has_inward_primary (inner_link p) A) ≡ true
   pub inner : (p : Key) (k : Key) → is_recorded w g (inner_link p) ≡ true → (g.peripheral p).by ≡ None →
-      side_router g (inner_link p) B ≡ Some k → key_passes w (Some k) (has_primary (inner_link p) B) ≡ true
+      is_left g (inner_link p) B ≡ false → side_router g (inner_link p) B ≡ Some k → key_passes w (Some k) (has_primary (inner_link p) B) ≡ true
   pub by_begun : (p : Key) (o : ℕ) → (g.peripheral p).by ≡ Some o → is_begun (g.bypass o) ≡ true
   pub by_inner : (p : Key) (o : ℕ) → (g.peripheral p).by ≡ Some o → (g.bypass o).inner ≡ p
+  -- a side that was left is that of a link that is recorded, whose router was known and has left, and which nobody bypasses
+  pub left_recorded : (link : LinkId) (s : Side) → is_left g link s ≡ true → is_recorded w g link ≡ true
+  pub left_known : (link : LinkId) (s : Side) → is_left g link s ≡ true → is_some (side_router g link s) ≡ true
+  pub left_gone : (link : LinkId) (s : Side) → is_left g link s ≡ true → key_passes w (side_router g link s) (λ r. true) ≡ false
+  pub left_live : (link : LinkId) (s : Side) → is_left g link s ≡ true → bypass_of g link ≡ None
 
 -- each proxy that holds the lock of its link has the word name the node inward of it
 abbrev pub AreSourced : World → Type 0
@@ -185,12 +195,15 @@ pub record Words (w : World) (g : Records) : Type 0 where
   pub unused : (i : ℕ) → is_linked (g.owner i) ≡ false → word_at w i ≡ empty_word
   pub begun_stable : (i : ℕ) (s : Side) → is_begun (g.bypass i) ≡ true → has (word_at w i).stable s ≡ true
   pub begun_holder : (i : ℕ) (s : Side) → is_begun (g.bypass i) ≡ true → has (word_at w i).holder s ≡ same_side s (proxy_side g i)
-  pub stable : (i : ℕ) (s : Side) → is_linked (g.owner i) ≡ true → is_begun (g.bypass i) ≡ false →
+  pub stable : (i : ℕ) (s : Side) → is_linked (g.owner i) ≡ true → is_begun (g.bypass i) ≡ false → is_left g (Central i) s ≡ false →
       has (word_at w i).stable s ≡ key_passes w (side_router g (Central i) s) (λ r. r.marked)
-  pub holder : (i : ℕ) (s : Side) → is_linked (g.owner i) ≡ true → is_begun (g.bypass i) ≡ false →
+  pub holder : (i : ℕ) (s : Side) → is_linked (g.owner i) ≡ true → is_begun (g.bypass i) ≡ false → is_left g (Central i) s ≡ false →
       has (word_at w i).holder s ≡ key_passes w (side_router g (Central i) s) (λ r. r.holds)
   pub held_stable : (i : ℕ) (s t : Side) → has (word_at w i).holder s ≡ true → has (word_at w i).stable t ≡ true
   pub one_holder : (i : ℕ) (s t : Side) → has (word_at w i).holder s ≡ true → has (word_at w i).holder t ≡ true → s ≡ t
+  -- the side that was left first holds the lock for good
+  pub left_held : (i : ℕ) (s : Side) → is_left g (Central i) s ≡ true →
+      ((is_left g (Central i) A && has (word_at w i).holder A) || (is_left g (Central i) B && has (word_at w i).holder B)) ≡ true
   pub source : AreSourced w
   pub begun_source : (o : ℕ) → is_begun (g.bypass o) ≡ true → (g.bypass o).stage ≤ 2 →
       (word_at w o).source ≡ Some (side_node g (inner_link (g.bypass o).inner) B)

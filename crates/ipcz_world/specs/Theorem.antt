@@ -9,9 +9,10 @@
 --   is said.
 -- Beside them one trusts what checks this page and makes the program of it (docs/PROVED.md, "What is trusted").
 use Rattle.std.specs.Prelude.{◌≡◌, ◌≤◌, ◌<◌, ℕ, ◌+◌, ◌*◌, true, false, Some, List, length, map, take, slice_get}
+use Rattle.ipcz_base.specs.declared.side.Side.{Side}
 use Rattle.ipcz_base.specs.declared.end.End.{End}
 use Rattle.ipcz_base.specs.declared.item.Item.TheVariants.{Parcel}
-use Rattle.ipcz_base.specs.Ends.{opposite_end}
+use Rattle.ipcz_base.specs.Ends.{opposite_end, end_at}
 use Rattle.ipcz_node.specs.declared.act.Act.{Act}
 use Rattle.ipcz_world.specs.declared.step.Step.{Step}
 use Rattle.ipcz_world.specs.declared.step.Reply.{Reply}
@@ -21,7 +22,7 @@ use Rattle.ipcz_world.specs.Plain.{PlainRun}
 use Rattle.ipcz_world.specs.Routes.{Routes, first_routes, is_opened}
 use Rattle.ipcz_world.specs.Laws.{LinkLaw, BypassLaw, WordLaw, LengthLaw, StrayLaw, EndLaw}
 use Rattle.ipcz_world.specs.Lawful.{EachOnce, RunAny, IsWithinLimits}
-use Rattle.ipcz_world.specs.Owed.{Owed, IsWet, IsDirect, HasNoProxies}
+use Rattle.ipcz_world.specs.Owed.{Owed, IsWet, IsDirect, HasNoProxies, HasNoClosedPairs}
 use Rattle.ipcz_world.specs.Settling.{IsQuiet}
 use Rattle.ipcz_world.specs.Turns.{can_take}
 use Rattle.ipcz_world.specs.Ranks.{Rates, IsRated, AreTurns, rank, uses_up, times_used, unlock_count}
@@ -51,10 +52,12 @@ pub record Theorem (steps : List Step) (replies : List Reply) (w : World) (b : B
   pub replies_fit : (i : ℕ) (reply : Reply) → slice_get replies i ≡ Some reply → OnlyFlushesStray reply
   -- no router that waits is forgotten
   pub owed : Owed w
-  -- where nothing waits and words were left no proxy is, and each open pair is two terminals on one free link, with all delivered
-  pub quiet_is_direct : IsQuiet w → IsWet w → HasNoProxies w × ((pair : ℕ) → is_opened g pair ≡ true → IsDirect w b pair)
+  -- where nothing waits and words were left no proxy is, each open pair of which an end isn't closed is two terminals on one free link, with
+  -- all delivered, and of a pair with both ends closed no router is left
+  pub quiet_is_direct : IsQuiet w → IsWet w → HasNoProxies w × HasNoClosedPairs w b × ((pair : ℕ) (s : Side) → is_opened g pair ≡ true →
+      is_closed b (end_at pair s) ≡ false → IsDirect w b pair)
   -- left alone it becomes quiet: whatever turns the nodes take from here, no more of them use something up than the world's rank, and two
-  -- for each begin that found no memory, by all rates that fit the books
+  -- for each begin or retire that found no memory, by all rates that fit the books
   pub left_alone : (turns : List (ℕ × Act)) (c : Rates) (v : World) (d : Books) (h : Routes) → IsRated c b → AreTurns w b g turns v d h →
       times_used w turns + rank c v ≤ rank c w + 2 * unlock_count turns
   -- and where no node has an act that uses something up, it is quiet

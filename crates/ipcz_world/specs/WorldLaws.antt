@@ -1,12 +1,13 @@
 -- The laws of worlds and their runs, as functions promise them.
-use Rattle.std.specs.Prelude.{◌≡◌, ◌↔◌, ◌<◌, ℕ, true, Some, None, IsSome, map}
+use Rattle.std.specs.Prelude.{◌≡◌, ◌↔◌, ◌<◌, ℕ, true, false, Some, None, IsSome, map}
+use Rattle.ipcz_base.specs.declared.side.Side.{Side}
 use Rattle.ipcz_base.specs.declared.end.End.{End}
 use Rattle.ipcz_base.specs.declared.item.Item.TheVariants.{Parcel}
 use Rattle.ipcz_base.specs.declared.link_id.LinkId.{LinkId}
 use Rattle.ipcz_base.specs.declared.link_id.LinkId.TheVariants.{Central}
 use Rattle.ipcz_base.specs.declared.refusal.Refusal.TheVariants.{Empty}
 use Rattle.ipcz_base.specs.declared.message.Message.{Message}
-use Rattle.ipcz_base.specs.Ends.{opposite_end, has_end}
+use Rattle.ipcz_base.specs.Ends.{opposite_end, end_at, has_end}
 use Rattle.ipcz_node.specs.Hands.{is_unfit}
 use Rattle.ipcz_node.specs.Node.{holds_end, terminal_of}
 use Rattle.ipcz_word.specs.SideSets.{has}
@@ -24,11 +25,11 @@ use Rattle.ipcz_world.specs.Turns.{router_of, message_in_hand}
 use Rattle.ipcz_world.specs.WordAnswers.{source_for}
 use Rattle.ipcz_world.specs.Steps.{StepAny, StepFirst, claim_for_open}
 use Rattle.ipcz_world.specs.Settling.{IsQuiet}
-use Rattle.ipcz_world.specs.Books.{Books, no_books, advance}
+use Rattle.ipcz_world.specs.Books.{Books, no_books, is_closed, advance}
 use Rattle.ipcz_world.specs.Plain.{Plain, PlainRun}
 use Rattle.ipcz_world.specs.Routes.{Routes, first_routes, routes_after, is_opened}
 use Rattle.ipcz_world.specs.Laws.{KeepsLinks, LengthLaw, StrayLaw, TerminalLaw, EndLaw, is_flush}
-use Rattle.ipcz_world.specs.Owed.{Owed, IsDirectPair, IsDirect, IsWet, HasNoProxies}
+use Rattle.ipcz_world.specs.Owed.{Owed, IsDirectPair, IsDirect, IsWet, HasNoProxies, HasNoClosedPairs}
 use Rattle.ipcz_world.specs.Soundness.{HasLengths, IsSound}
 use Rattle.ipcz_world.specs.Lawful.{Headline, EachOnce, Lawful, IsWithinLimits, IsReached}
 
@@ -111,10 +112,11 @@ QuietDelivers =
 abbrev pub GetsStayQuiet : Type 0
 GetsStayQuiet = (w v : World) (n : ℕ) (e : End) (reply : Reply) → IsQuiet w → StepAny w (Get n e) reply v → IsQuiet v
 
--- law: after every list of steps of a world of one node each open pair is direct
+-- law: after every list of steps of a world of one node each open pair is direct of which an end isn't closed
 abbrev pub OneNodeIsDirect : Type 0
 OneNodeIsDirect =
-    (words : ℕ) (w : World) (b : Books) (g : Routes) (pair : ℕ) → IsReached 1 words w b g → is_opened g pair ≡ true → IsDirectPair w pair
+    (words : ℕ) (w : World) (b : Books) (g : Routes) (pair : ℕ) (s : Side) → IsReached 1 words w b g → is_opened g pair ≡ true →
+    is_closed b (end_at pair s) ≡ false → IsDirectPair w pair
 
 -- law: after every list of steps from the start no message but a Flush finds its router gone
 abbrev pub NothingStrays : Type 0
@@ -137,10 +139,16 @@ LawfulOwes = (w : World) (b : Books) (g : Routes) → Lawful w b g → Owed w
 abbrev pub NothingIsForgotten : Type 0
 NothingIsForgotten = (nodes words : ℕ) (w : World) (b : Books) (g : Routes) → IsReached nodes words w b g → Owed w
 
--- law: in a lawful world where nothing waits and no router has found the words used up, each open pair is direct and all is delivered
+-- law: in a lawful world where nothing waits and no router has found the words used up, each open pair of which an end isn't closed is direct
+-- and all is delivered
 abbrev pub QuietIsDirect : Type 0
 QuietIsDirect =
-    (w : World) (b : Books) (g : Routes) (pair : ℕ) → Lawful w b g → IsQuiet w → IsWet w → is_opened g pair ≡ true → IsDirect w b pair
+    (w : World) (b : Books) (g : Routes) (pair : ℕ) (s : Side) → Lawful w b g → IsQuiet w → IsWet w → is_opened g pair ≡ true →
+    is_closed b (end_at pair s) ≡ false → IsDirect w b pair
+
+-- law: and of a pair with both ends closed no router is left
+abbrev pub ClosedPairsAreGone : Type 0
+ClosedPairsAreGone = (w : World) (b : Books) (g : Routes) → Lawful w b g → IsQuiet w → IsWet w → HasNoClosedPairs w b
 
 -- law: and no proxy is left
 abbrev pub QuietHasNoProxy : Type 0

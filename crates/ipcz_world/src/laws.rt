@@ -6,7 +6,7 @@ ghost use Rattle.ipcz_world.specs.WorldLaws.{BeginsLocked, LinksStay, LawfulGive
 ghost use Rattle.ipcz_world.specs.WorldLaws.{LawfulStraysNothing, NothingStrays, LawfulOwes, TerminalsKeepBooks, ListsHaveLengths};
 ghost use Rattle.ipcz_world.specs.WorldLaws.{EndsStandOnce, HandsFit};
 ghost use Rattle.ipcz_world.specs.WorldLaws.{NodesAreSound, QuietDelivers, OneNodeIsDirect};
-ghost use Rattle.ipcz_world.specs.WorldLaws.{GetsStayQuiet, HeldHaveTerminals, NothingIsForgotten, QuietIsDirect, QuietHasNoProxy};
+ghost use Rattle.ipcz_world.specs.WorldLaws.{GetsStayQuiet, HeldHaveTerminals, NothingIsForgotten, QuietIsDirect, ClosedPairsAreGone, QuietHasNoProxy};
 ghost use Rattle.ipcz_world.specs.Ranks.{ActsLowerTheRank, TurnsKeepRates, TurnsAreBounded, OrderedAreRated, UnusedIsQuiet};
 ghost use Rattle.ipcz_world.specs.SettleBounds.{VisitsAreBounded, UnsettledIsBounded, PlainAreRated, PlainLimitIsEnough, SettledIsDirect};
 ghost use Rattle.ipcz_world.specs.WorldLaws.{HandsStandInMail, OpeningWordsAreEmpty, PendingHaveTerminals};
@@ -123,11 +123,16 @@ pub fn nothing_is_forgotten_after_any_run()
     ensures { NothingIsForgotten }
 {}
 
-/// In a lawful world where nothing waits and no router has found the words used up, each open pair is direct: its routers are two
-/// terminals on one link, stable on both sides and free, and what an end has put and its peer hasn't got stands in the in queue of the
-/// peer's terminal.
+/// In a lawful world where nothing waits and no router has found the words used up, each open pair of which an end isn't closed is direct:
+/// its routers are two terminals on one link, stable on both sides and free, and what an end has put and its peer hasn't got stands in the
+/// in queue of the peer's terminal.
 pub fn a_quiet_world_is_direct()
     ensures { QuietIsDirect }
+{}
+
+/// In such a world no router is left of a pair with both ends closed.
+pub fn a_quiet_world_has_no_closed_pair()
+    ensures { ClosedPairsAreGone }
 {}
 
 /// In such a world no proxy is left.
@@ -178,7 +183,7 @@ pub fn a_get_leaves_a_quiet_world_quiet()
     ensures { GetsStayQuiet }
 {}
 
-/// After every list of steps of a world of one node, the two terminals of each open pair share one link.
+/// After every list of steps of a world of one node, the two terminals of each open pair of which an end isn't closed share one link.
 pub fn on_one_node_each_pair_is_direct()
     ensures { OneNodeIsDirect }
 {}
@@ -242,24 +247,25 @@ pub fn parcels_without_ends_have_rates()
     ensures { PlainAreRated }
 {}
 
-/// So there a limit that one can reckon, `plain_limit`, is enough for a settle, with two more for each begin that finds no memory.
+/// So there a limit that one can reckon, `plain_limit`, is enough for a settle, with two more for each begin or retire that finds no memory.
 pub fn the_plain_limit_is_enough()
     ensures { PlainLimitIsEnough }
 {}
 
 /// Where no item that wasn't read carries an end, the rank is no more than a number that is read off the world: 6 for each number that has
-/// still to pass a router, 15 for each terminal and 61 for each proxy, 38 for each message under way, and 3 for each pending close.
+/// still to pass a router, 17 for each terminal and 61 for each proxy, 38 for each message under way, and 3 for each pending close. What an end
+/// has put its terminal tells, and where none stands a Gone that wasn't read.
 pub fn the_rank_is_within_the_settle_limit()
     ensures { RankIsWithinLimit }
 {}
 
-/// So there that number, `settle_limit`, is enough for a settle, with two more for each begin that finds no memory.
+/// So there that number, `settle_limit`, is enough for a settle, with two more for each begin or retire that finds no memory.
 pub fn the_settle_limit_is_enough()
     ensures { SettleLimitIsEnough }
 {}
 
 /// Where no item that wasn't read carries an end: what stays with the terminals, the numbers that weren't put yet and the parcels that weren't
-/// got, is used by no turn, in whatever order; but a sink uses one act for each item that it drops, and a pending close six.
+/// got, is used by no turn, in whatever order; but a sink uses one act for each item that it drops, and a pending close six, as does a retire.
 pub fn what_stays_is_used_by_no_turn()
     ensures { StayingIsUnused }
 {}
@@ -276,8 +282,8 @@ pub fn puts_into_a_direct_world_are_bounded()
     ensures { DirectPutsAreBounded }
 {}
 
-/// Where a settle has settled and no router has found the words used up, no proxy is left, and each open pair is direct: what an end has put
-/// and its peer hasn't got stands in the in queue of the peer's terminal.
+/// Where a settle has settled and no router has found the words used up, no proxy is left, nor a router of a pair with both ends closed, and
+/// each other open pair is direct: what an end has put and its peer hasn't got stands in the in queue of the peer's terminal.
 pub fn a_settled_world_is_direct()
     ensures { SettledIsDirect }
 {}

@@ -197,6 +197,7 @@ fn is_claim(act: RouterAct) -> bool
         | RouterAct::Wake
         | RouterAct::Lock
         | RouterAct::Begin
+        | RouterAct::Retire
         | RouterAct::Unlock
         | RouterAct::Rest => false,
     }

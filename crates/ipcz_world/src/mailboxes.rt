@@ -4,10 +4,11 @@ ghost use Rattle.ipcz_base.specs.Totals.{total_list};
 ghost use Rattle.ipcz_world.specs.Tallies.{Tells};
 ghost use Rattle.ipcz_base.specs.Indexed.{place_at, put_place};
 ghost use Rattle.ipcz_world.specs.Turns.{is_full, is_clear, hand_message};
+ghost use Rattle.ipcz_world.specs.SettleLimit.{highest, gone_mailed};
 ghost use Rattle.ipcz_world.specs.Mailing.{taken_up, put_down, as_marked, count_full};
 
 use crate::mail::Mail;
-use crate::tallies::plus;
+use crate::tallies::{gone_message, higher, plus};
 use ipcz_base::{Message, Refusal};
 use ipcz_node::NodeState;
 use std::alloc::{AllocError, Global};
@@ -104,6 +105,17 @@ impl Mailboxes {
             sum = plus(sum, Some(one));
         }
         sum
+    }
+
+    /// The number after the highest one of a Gone in any of them.
+    pub(crate) fn gone_most(&self) -> u64
+        ensures { result ≡ highest gone_mailed self.now }
+    {
+        let mut most = 0;
+        for mail in self.boxes.as_slice() {
+            most = higher(most, gone_mailed(mail));
+        }
+        most
     }
 
     /// Leaves a message in an empty mailbox.
@@ -253,6 +265,17 @@ fn is_full(mail: &Mail) -> bool
     match mail {
         Mail::Full(_) => true,
         Mail::Empty | Mail::Hand(_) => false,
+    }
+}
+
+// The number after that of the Gone in it, where it has one.
+#[tactic(auto, unfolding(crate::specs::SettleLimit::gone_mailed))]
+fn gone_mailed(mail: &Mail) -> u64
+    ensures { result ≡ gone_mailed mail.now }
+{
+    match mail {
+        Mail::Empty => 0,
+        Mail::Full(message) | Mail::Hand(message) => gone_message(message),
     }
 }
 

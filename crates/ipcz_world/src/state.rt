@@ -1,7 +1,7 @@
 ghost use Rattle.std.specs.Prelude.{◌≡◌, ◌<◌, ◌≤◌, IfOk, IfErr, length, map};
 ghost use Rattle.ipcz_word.specs.Layout.{word_of_bits};
 ghost use Rattle.ipcz_world.specs.Coding.{claimed_word, table_of, IsTable};
-ghost use Rattle.ipcz_world.specs.Holding.{holder_of};
+ghost use Rattle.ipcz_world.specs.Holding.{holder_of, routers_at};
 ghost use Rattle.ipcz_world.specs.Lawful.{IsWithinLimits};
 ghost use Rattle.ipcz_world.specs.Parts.{world_of_parts};
 ghost use Rattle.ipcz_world.specs.Steps.{StepFirst};
@@ -127,6 +127,19 @@ impl State {
             }
         }
         None
+    }
+
+    /// How many routers a node has, where it is there.
+    #[tactic(auto, unfolding(crate::specs::World::node_at))]
+    pub(crate) fn routers(&self, node: u8) -> Option<usize>
+        requires { IsRegular self.now }
+        ensures { result ≡ routers_at self.now node }
+    {
+        if node < self.count {
+            Some(self.nodes.node(node).router_count())
+        } else {
+            None
+        }
     }
 
     /// Takes a step; one for a node that isn't there is refused.

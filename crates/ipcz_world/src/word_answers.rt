@@ -43,6 +43,7 @@ pub fn answer_act(word: u64, side: Side, source: Option<u8>, act: RouterAct) -> 
         | RouterAct::Leave
         | RouterAct::Claim
         | RouterAct::Begin
+        | RouterAct::Retire
         | RouterAct::Rest => Answered {
             answer: Answer::Plain,
             word,

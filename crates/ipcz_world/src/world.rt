@@ -2,7 +2,7 @@ ghost use Rattle.std.specs.Prelude.{◌≡◌, ◌<◌, ◌≤◌, IfOk, IfErr, 
 ghost use Rattle.ipcz_word.specs.Layout.{word_of_bits};
 ghost use Rattle.ipcz_world.specs.Books.{Books, advance, no_books};
 ghost use Rattle.ipcz_world.specs.Coding.{IsTable};
-ghost use Rattle.ipcz_world.specs.Holding.{holder_of, shown_word};
+ghost use Rattle.ipcz_world.specs.Holding.{holder_of, routers_at, shown_word};
 ghost use Rattle.ipcz_world.specs.Lawful.{IsWithinLimits, Lawful};
 ghost use Rattle.ipcz_world.specs.Lawfulness.{IsLawful};
 ghost use Rattle.ipcz_world.specs.Parts.{world_of_parts};
@@ -105,11 +105,19 @@ impl World {
         self.state.holder_of(end)
     }
 
+    /// How many routers a node has; none where it isn't one of the world's.
+    pub fn routers(&self, node: u8) -> Option<usize>
+        ensures { result ≡ routers_at self.now node }
+    {
+        self.state.routers(node)
+    }
+
     /// Takes a step and answers it (docs/PROTOCOL.md, "Turns"). A turn takes the node's first possible act.
     ///
     /// Refused `Stranger` where the node isn't one of the world's; a put is refused `OutOfMemory` next, where its lists find no room; then
     /// as the node refuses the call; an open is refused `NoWord` where each word is claimed, before `NumbersEnd` and `OutOfMemory`. A
-    /// turn is refused `NumbersEnd` or `OutOfMemory`, but a bypass that finds no memory to begin gives its lock back instead. A refusal
+    /// turn is refused `NumbersEnd` or `OutOfMemory`, but a router that finds no memory to begin its bypass, or to retire, gives its lock back
+    /// instead. A refusal
     /// changes nothing.
     pub fn step(&mut self, step: &Step) -> Reply
         ensures step { StepFirst self.old step.now result self.new }

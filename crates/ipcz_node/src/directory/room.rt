@@ -59,7 +59,7 @@ pub(crate) fn count_ends(item: &Item) -> usize
 {
     match item {
         Item::Parcel(parcel) => parcel.ends.len(),
-        Item::Mark => 0,
+        Item::Mark | Item::Gone => 0,
     }
 }
 

@@ -1,12 +1,12 @@
 ghost use Rattle.std.specs.Prelude.{ℕ, ◌≡◌, ◌≤◌, ◌+◌, ◌++◌, Some, true, is_some, length, vec_capacity, vec_len, IsSomeAnd};
 ghost use Rattle.ipcz_router.specs.Router.{Router as RouterRecord};
 ghost use Rattle.ipcz_router.specs.ActTable.{may_take};
-ghost use Rattle.ipcz_router.specs.ActEffects.{IsAnswerOf, apply, output_of};
+ghost use Rattle.ipcz_router.specs.ActEffects.{IsAnswerOf, apply, leaves_by, output_of};
 ghost use Rattle.ipcz_node.specs.declared.act.Act.{Act};
 ghost use Rattle.ipcz_node.specs.Node.{router_in};
 ghost use Rattle.ipcz_node.specs.Sends.{send};
 ghost use Rattle.ipcz_node.specs.RoomyNodes.{IsReady, CanTell, IsReadyFor, IsPossibleAct};
-ghost use Rattle.ipcz_node.specs.Acts.{keep_or_drop, commit_router, commit, post_of, Answers, rest_of};
+ghost use Rattle.ipcz_node.specs.Acts.{has_left, keep_or_drop, commit_router, commit, post_of, Answers, rest_of};
 ghost use Rattle.std.specs.Prelude.{[]};
 ghost use Rattle.ipcz_base.specs.Indexed.{place_at};
 ghost use Rattle.ipcz_node.specs.Node.{outbox};
@@ -40,17 +40,17 @@ impl NodeState {
             Applied::Discarded(_, Item::Parcel(parcel)) => self.keep_pending(
                 parcel.ends.as_slice(),
             ),
-            Applied::Discarded(_, Item::Mark) => {}
+            Applied::Discarded(_, Item::Mark | Item::Gone) => {}
         }
     }
 
-    // A router does its act, and leaves where that is the act.
-    #[tactic(auto, unfolding(crate::specs::Acts::keep_or_drop, ipcz_router::specs::ActEffects::output_of))]
+    // A router does its act, and leaves where that is what the act is for.
+    #[tactic(auto, unfolding(crate::specs::Acts::keep_or_drop, ipcz_router::specs::ActEffects::leaves_by, ipcz_router::specs::ActEffects::output_of))]
     fn act_router(&mut self, serial: u64, act: RouterAct, answer: Answer) -> Applied
         requires possible { IsSomeAnd (router_in self.old.node serial) (λ r. may_take r act ≡ true) }
         requires answer { IsAnswerOf act answer }
         ensures node { (r : RouterRecord) → router_in self.old.node serial ≡ Some r →
-            self.new.node ≡ keep_or_drop self.old.node serial (apply r act answer) act }
+            self.new.node ≡ keep_or_drop self.old.node serial (apply r act answer) (leaves_by r act) }
         ensures output { (r : RouterRecord) → router_in self.old.node serial ≡ Some r → result ≡ output_of r act }
         ensures room { self.new.room ≡ record self.old.room {
           out_rooms = self.new.room.out_rooms;
@@ -61,10 +61,14 @@ impl NodeState {
         ensures serial { self.new.node.next_peripheral ≡ self.old.node.next_peripheral }
     {
         if act == RouterAct::Leave {
-            let _left = self.routers.remove(serial);
+            self.routers.drop_router(serial);
             return Applied::Nothing;
         }
-        self.routers.act(serial, act, answer)
+        let applied = self.routers.act(serial, act, answer);
+        if has_left(act, &applied) {
+            self.routers.drop_router(serial);
+        }
+        applied
     }
 }
 
@@ -222,6 +226,18 @@ impl NodeState {
             Act::Hand(_) => (Happened::Idle, None),
             Act::Idle => (Happened::Idle, None),
         }
+    }
+}
+
+// Whether a router leaves by an act that gave its node this.
+#[tactic(auto, unfolding(crate::specs::Acts::has_left))]
+fn has_left(act: RouterAct, given: &Applied) -> bool
+    ensures { result ≡ has_left act given.now }
+{
+    match (act, given) {
+        (RouterAct::Leave | RouterAct::Retire, _) => true,
+        (RouterAct::Discard, Applied::Discarded(_, item)) => item.is_gone(),
+        (_, _) => false,
     }
 }
 

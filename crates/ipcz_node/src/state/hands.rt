@@ -55,7 +55,7 @@ impl NodeState {
         }
         match item {
             Item::Parcel(parcel) => self.fit_moves(parcel.ends.as_slice(), moves.as_slice()),
-            Item::Mark => moves.is_empty(),
+            Item::Mark | Item::Gone => moves.is_empty(),
         }
     }
 

@@ -80,7 +80,7 @@ impl NodeState {
         }
         match item {
             Item::Parcel(parcel) => self.move_ends(parcel.ends.as_slice(), link.other, moves),
-            Item::Mark => {}
+            Item::Mark | Item::Gone => {}
         }
     }
 

@@ -8,7 +8,7 @@ use ipcz_router::Router;
 fn same_item(one: Option<&Item>, other: Option<&Item>) -> bool {
     match (one, other) {
         (None, None) => true,
-        (Some(Item::Mark), Some(Item::Mark)) => true,
+        (Some(Item::Mark), Some(Item::Mark)) | (Some(Item::Gone), Some(Item::Gone)) => true,
         (Some(Item::Parcel(parcel)), Some(Item::Parcel(twin))) => {
             parcel.bytes.as_slice() == twin.bytes.as_slice()
                 && parcel.ends.as_slice() == twin.ends.as_slice()

@@ -22,6 +22,7 @@ pub(super) enum Deed {
     SendOut(u64, u64, LinkId, &'static [End]),
     SendIn(u64, u64, LinkId, &'static [End]),
     Discard(u64, u64),
+    DiscardLeave(u64, u64),
     FinishOut(u64, LinkId),
     FinishIn(u64, LinkId),
     Leave(u64),
@@ -33,6 +34,7 @@ pub(super) enum Deed {
     Wait(u64, LinkId, u64),
     Refused(u64, LinkId, u64),
     Begin(u64, LinkId),
+    Retire(u64, u64, LinkId),
     Rest(u64),
     Idle,
 }
@@ -101,6 +103,12 @@ impl Deed {
         match (self, event) {
             (Deed::Discard(of, number), Happened::Discard(serial, n)) => {
                 *of == *serial && *number == *n
+            }
+            (Deed::DiscardLeave(of, number), Happened::DiscardLeave(serial, n)) => {
+                *of == *serial && *number == *n
+            }
+            (Deed::Retire(of, number, on), Happened::Retire(serial, n, link)) => {
+                *of == *serial && *number == *n && *on == *link
             }
             (Deed::FinishOut(of, on), Happened::FinishOut(serial, link)) => {
                 *of == *serial && *on == *link
@@ -193,13 +201,13 @@ fn take(
     Ok(node.commit(act, answer))
 }
 
-// In place of a begin that comes first, the lock is given back; what that is seen to do.
-#[tactic(auto, using(ipcz_node::proofs::Choosing::unlock_may))]
+// In place of a begin or a retire that comes first, the lock is given back; what that is seen to do.
+#[tactic(auto, using(ipcz_node::proofs::Choosing::unlock_may, ipcz_node::proofs::Choosing::retire_may))]
 fn unlock(node: &mut NodeState, seen: &MailSeen, word: u64) -> Option<Happened> {
     let Act::Router(serial, act) = node.next(seen) else {
         return None;
     };
-    if act != RouterAct::Begin {
+    if act != RouterAct::Begin && act != RouterAct::Retire {
         return None;
     }
     let unlock = Act::Router(serial, RouterAct::Unlock);
@@ -224,8 +232,8 @@ impl Trial {
         take(&mut self.node, &self.seen, Answer::Plain).err()
     }
 
-    /// Gives the lock back in place of the begin that comes first; whether the word after it is
-    /// told.
+    /// Gives the lock back in place of the begin or the retire that comes first; whether the word
+    /// after it is told.
     pub(super) fn unlocks(&mut self, word: u64) -> bool {
         let event = unlock(&mut self.node, &self.seen, word);
         matches!(event, Some(Happened::Unlock(_, _, after)) if after == word)

@@ -9,6 +9,7 @@ use std::alloc::{AllocError, Global};
 pub(super) enum Letter {
     Parcel(LinkId, Side, u64, &'static [End], &'static [Descriptor]),
     Mark(LinkId, Side, u64),
+    Gone(LinkId, Side, u64),
     BypassPeer(LinkId, Side, u32, u8, u32),
     AcceptBypass(u32, Side, u32, u64),
     StopProxying(u32, Side, u64, u64),
@@ -40,7 +41,7 @@ fn is_parcel(item: &Item, ends: &[End]) -> bool {
         Item::Parcel(parcel) => {
             parcel.bytes.as_slice() == b"a".as_slice() && parcel.ends.as_slice() == ends
         }
-        Item::Mark => false,
+        Item::Mark | Item::Gone => false,
     }
 }
 
@@ -60,6 +61,13 @@ impl Letter {
                 side,
                 n,
                 item: Item::Mark,
+                moves: Sequence::from_vec(Vec::new(alloc)),
+            }),
+            Letter::Gone(link, side, n) => Ok(Message::Item {
+                link,
+                side,
+                n,
+                item: Item::Gone,
                 moves: Sequence::from_vec(Vec::new(alloc)),
             }),
             _ => Ok(self.plain_message()),
@@ -95,6 +103,7 @@ impl Letter {
             },
             Letter::Parcel(link, side, ..)
             | Letter::Mark(link, side, _)
+            | Letter::Gone(link, side, _)
             | Letter::Flush(link, side) => Message::Flush { link, side },
         }
     }
@@ -156,6 +165,10 @@ impl Letter {
                 && *side == of
                 && *n == number
                 && what.is_mark(),
+            Letter::Gone(link, side, n) => *link == on
+                && *side == of
+                && *n == number
+                && what.is_gone(),
             _ => false,
         }
     }

@@ -1,7 +1,7 @@
 ghost use Rattle.std.specs.Prelude.{◌≡◌, ◌<◌, ◌≤◌, Some, None, true, IsOk, IfOk, IfErr, OnOk, OnErr, unwrap_or};
 ghost use Rattle.ipcz_base.specs.Limits.{last_number, no_number};
 ghost use Rattle.ipcz_seq.specs.Queue.{current_item, has_place, push_refusal};
-ghost use Rattle.ipcz_router.specs.Router.{IsOpenTerminal, outward_has, router_has};
+ghost use Rattle.ipcz_router.specs.Router.{IsOpenTerminal, is_terminal, outward_has, router_has};
 ghost use Rattle.ipcz_router.specs.RoomyRouters.{room_for, KeepsRoom, LeavesRoom, LeavesRoomBut};
 ghost use Rattle.ipcz_router.specs.Closing.{close_router};
 ghost use Rattle.ipcz_router.specs.Calls.{next_number, put_item, router_put_refusal, router_get_refusal, take_item, has_place_for};
@@ -57,7 +57,7 @@ impl Router {
 
     /// Takes the parcel of the in queue's current number out, with that number.
     ///
-    /// It answers `Empty` where that item hasn't come, whatever stands behind it, and `PeerClosed` where it is the mark,
+    /// It answers `Empty` where that item hasn't come, whatever stands behind it, and `PeerClosed` where it is the mark, or Gone,
     /// which stays.
     #[tactic(auto, unfolding(crate::specs::Calls::item_refusal))]
     pub fn get(&mut self) -> Result<(u64, Parcel), Refusal>
@@ -69,13 +69,13 @@ impl Router {
         ensures err { IfErr result (λ _. self.new.router ≡ self.old.router) }
         ensures room { LeavesRoom self.old self.new 0 0 }
     {
-        if let Some(Item::Mark) = self.in_queue.next() {
+        if let Some(Item::Mark | Item::Gone) = self.in_queue.next() {
             return Err(Refusal::PeerClosed);
         }
         let n = self.in_queue.current();
         match self.pop_in() {
             Some(Item::Parcel(parcel)) => Ok((n, parcel)),
-            Some(Item::Mark) => unreachable!(),
+            Some(Item::Mark | Item::Gone) => unreachable!(),
             None => Err(Refusal::Empty),
         }
     }
@@ -216,11 +216,11 @@ impl Router {
         self.out_queue.reserve()
     }
 
-    // An item comes into the out queue, and the router is flagged. At an open terminal it is one that its callers put.
+    // An item comes into the out queue, and the router is flagged. At a terminal it is one that its callers put.
     #[inline(always)]
     fn push_out(&mut self, n: u64, item: Item) -> Result<(), (Refusal, Item)>
         requires number { n < no_number }
-        requires put { IsOpenTerminal self.old.router → n < last_number }
+        requires put { is_terminal self.old.router ≡ true → n < last_number }
         ensures place { OnOk result (has_place self.old.router.out_queue n ≡ true) }
         ensures ok { OnOk result (self.new.router ≡ accept_from_inward self.old.router n item) }
         ensures why { IfErr result (λ e. e.0 ≡ push_refusal self.old.router.out_queue n) }

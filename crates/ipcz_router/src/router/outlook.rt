@@ -19,6 +19,7 @@ impl Router {
             RouterAct::Discard => Outlook::of_dropped(self.in_queue.next()),
             RouterAct::Wake => self.wake_outlook(),
             RouterAct::Begin => Outlook::of(&self.begin_output()),
+            RouterAct::Retire => self.retire_outlook(),
             _ => Outlook::Nothing,
         }
     }
@@ -29,6 +30,16 @@ impl Router {
     {
         match self.outward.primary() {
             Some(link) => Outlook::Message(link.other),
+            None => Outlook::Nothing,
+        }
+    }
+
+    #[tactic(auto, unfolding(crate::specs::ActEffects::output_of, crate::specs::ActEffects::retire_output))]
+    fn retire_outlook(&self) -> Outlook
+        ensures { result ≡ outlook_of (output_of self.now.router RouterAct.Retire) }
+    {
+        match self.outward.primary() {
+            Some(link) => Outlook::Item(link.other, 0),
             None => Outlook::Nothing,
         }
     }

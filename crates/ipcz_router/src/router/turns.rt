@@ -1,11 +1,12 @@
-ghost use Rattle.std.specs.Prelude.{◌≡◌, true};
+ghost use Rattle.std.specs.Prelude.{◌≡◌, ◌||◌, true, [], ◌∷◌};
 ghost use Rattle.ipcz_base.specs.Links.{word_of};
 ghost use Rattle.ipcz_router.specs.RoomyRouters.{KeepsRoom, LeavesRoom};
 ghost use Rattle.ipcz_router.specs.Router.{decays, has_no_link, is_on_central};
-ghost use Rattle.ipcz_router.specs.ActTable.{is_possible, next_act, is_ready, can_begin, may_take};
-ghost use Rattle.ipcz_router.specs.ActEffects.{IsAsked, IsOutputOf, IsBelowNoNumber, apply, output_of, item_output, finish_out};
-ghost use Rattle.ipcz_router.specs.ActEffects.{finish_in, begin_bypass};
-ghost use Rattle.ipcz_router.specs.Acts.{way_out, way_in, pop_in, pop_out};
+ghost use Rattle.ipcz_router.specs.ActTable.{first_possible, is_possible, is_rest, next_act, is_ready, can_begin, is_done, is_leaving, can_retire};
+ghost use Rattle.ipcz_router.specs.ActTable.{may_take};
+ghost use Rattle.ipcz_router.specs.ActEffects.{IsAsked, IsOutputOf, IsBelowNoNumber, apply, output_of, item_output, finish_out, mark_side};
+ghost use Rattle.ipcz_router.specs.ActEffects.{finish_in, begin_bypass, wake_other, claim_word, fail_lock, drop_lock};
+ghost use Rattle.ipcz_router.specs.Acts.{way_out, way_in, pop_out, send_on, drop_item};
 
 use super::Router;
 use crate::act::{Answer, Applied, RouterAct};
@@ -83,6 +84,25 @@ impl Router {
         self.inward.is_some() && self.holds && self.is_on_central() && !self.decays()
     }
 
+    // Whether it is a sink that has discarded the peer's mark and has sent all that was put at it, so that it has only to leave.
+    fn is_done(&self) -> bool
+        ensures { result ≡ is_done self.now.router }
+    {
+        self.mark_dropped && self.inward.is_none() && self.closed && self.out_queue.is_empty()
+    }
+
+    fn is_leaving(&self) -> bool
+        ensures { result ≡ is_leaving self.now.router }
+    {
+        self.is_done() && self.is_on_central() && self.marked && !self.decays() && !self.tried
+    }
+
+    fn can_retire(&self) -> bool
+        ensures { result ≡ can_retire self.now.router }
+    {
+        self.is_done() && self.holds && self.is_on_central() && !self.decays()
+    }
+
     // Where nothing decays, which is mostly so, the reach isn't asked.
     #[tactic(auto, unfolding(crate::specs::ActTable::is_possible, ipcz_edge::specs::Edge::can_finish))]
     fn can_finish_out(&self) -> bool
@@ -106,7 +126,7 @@ impl Router {
     }
 
     /// Whether an act is possible, `Rest` aside: docs/PROTOCOL.md, "Turns", has the condition of each. `Unlock` is possible
-    /// where `Begin` is, in whose place it is taken.
+    /// where `Begin` or `Retire` is, in whose place it is taken.
     #[tactic(auto, unfolding(crate::specs::ActTable::is_possible))]
     pub fn is_possible(&self, act: RouterAct) -> bool
         ensures { result ≡ is_possible self.now.router act }
@@ -119,19 +139,23 @@ impl Router {
             }
             RouterAct::FinishOut => self.can_finish_out(),
             RouterAct::FinishIn => self.can_finish_in(),
-            RouterAct::Leave => self.inward.is_some() && self.has_no_link(),
+            RouterAct::Leave => self.inward.is_some() && (self.has_no_link() || self.gone_sent),
             RouterAct::Mark => self.is_on_central() && !self.marked && !self.decays(),
             RouterAct::Wake => self.wake_owed && self.is_on_central(),
             RouterAct::Claim => self.is_ready() && self.spare.is_none(),
-            RouterAct::Lock => self.is_ready() && self.spare.is_some() && !self.holds,
+            RouterAct::Lock => {
+                (self.is_ready() && self.spare.is_some() && !self.holds)
+                    || (self.is_leaving() && !self.holds)
+            }
             RouterAct::Begin => self.can_begin(),
-            RouterAct::Unlock => self.can_begin(),
+            RouterAct::Retire => self.can_retire(),
+            RouterAct::Unlock => self.can_begin() || self.can_retire(),
             RouterAct::Rest => false,
         }
     }
 
     /// The first possible act in the order of [`RouterAct`], `Unlock` left out, else `Rest`.
-    #[tactic(auto, unfolding(crate::specs::ActTable::next_act, crate::specs::ActTable::is_rest))]
+    #[tactic(auto, unfolding(crate::specs::ActTable::next_act, crate::specs::ActTable::is_possible, crate::specs::ActTable::is_rest))]
     pub fn next_act(&self) -> RouterAct
         ensures first { result ≡ next_act self.now.router }
         ensures possible { may_take self.now.router result ≡ true }
@@ -160,6 +184,21 @@ impl Router {
         if self.is_possible(RouterAct::Wake) {
             return RouterAct::Wake;
         }
+        if self.inward.is_none() && !self.mark_dropped {
+            return RouterAct::Rest;
+        }
+        self.next_to_go()
+    }
+
+    // The first possible act of those by which a router gets out of the way, else `Rest`. It stands apart, since a terminal in use has none
+    // of them.
+    #[inline(never)]
+    #[tactic(auto, unfolding(crate::specs::ActTable::is_rest))]
+    fn next_to_go(&self) -> RouterAct
+        ensures first { result ≡ first_possible self.now.router
+            (RouterAct.Claim ∷ RouterAct.Lock ∷ RouterAct.Begin ∷ RouterAct.Retire ∷ []) }
+        ensures possible { (is_possible self.now.router result || is_rest result) ≡ true }
+    {
         if self.is_possible(RouterAct::Claim) {
             return RouterAct::Claim;
         }
@@ -168,6 +207,9 @@ impl Router {
         }
         if self.is_possible(RouterAct::Begin) {
             return RouterAct::Begin;
+        }
+        if self.is_possible(RouterAct::Retire) {
+            return RouterAct::Retire;
         }
         RouterAct::Rest
     }
@@ -185,33 +227,38 @@ impl Router {
         item_output(link, n, self.pop_out())
     }
 
-    #[tactic(auto, unfolding(crate::specs::ActTable::is_possible, crate::specs::ActEffects::item_output, crate::specs::ActEffects::output_of))]
+    #[tactic(auto, unfolding(crate::specs::ActTable::is_possible, crate::specs::Acts::item_passes, crate::specs::ActEffects::item_output, crate::specs::ActEffects::output_of))]
     fn do_send_in(&mut self) -> Applied
         requires { is_possible self.old.router RouterAct.SendIn ≡ true }
-        ensures router { self.new.router ≡ pop_in self.old.router }
+        ensures router { self.new.router ≡ send_on self.old.router }
         ensures sent { result ≡ output_of self.old.router RouterAct.SendIn }
         ensures kind { IsOutputOf RouterAct.SendIn result }
         ensures number { IsBelowNoNumber result }
         ensures room { LeavesRoom self.old self.new 0 0 }
     {
         let (link, n) = (self.way_in(), self.in_queue.current());
-        item_output(link, n, self.pop_in())
+        let Some(item) = self.pop_in() else {
+            unreachable!()
+        };
+        self.gone_sent = self.gone_sent || item.is_gone();
+        item_output(link, n, Some(item))
     }
 
-    #[tactic(auto, unfolding(crate::specs::ActTable::is_possible, crate::specs::ActEffects::discard_output, crate::specs::ActEffects::output_of))]
+    #[tactic(auto, unfolding(crate::specs::ActTable::is_possible, crate::specs::Acts::item_passes, crate::specs::ActEffects::discard_output, crate::specs::ActEffects::output_of))]
     fn discard(&mut self) -> Applied
         requires { is_possible self.old.router RouterAct.Discard ≡ true }
-        ensures router { self.new.router ≡ pop_in self.old.router }
+        ensures router { self.new.router ≡ drop_item self.old.router }
         ensures dropped { result ≡ output_of self.old.router RouterAct.Discard }
         ensures kind { IsOutputOf RouterAct.Discard result }
         ensures number { IsBelowNoNumber result }
         ensures room { LeavesRoom self.old self.new 0 0 }
     {
         let n = self.in_queue.current();
-        match self.pop_in() {
-            Some(item) => Applied::Discarded(n, item),
-            None => unreachable!(),
-        }
+        let Some(item) = self.pop_in() else {
+            unreachable!()
+        };
+        self.mark_dropped = self.mark_dropped || item.is_mark();
+        Applied::Discarded(n, item)
     }
 
     #[tactic(auto, unfolding(crate::specs::ActTable::is_possible))]
@@ -286,6 +333,19 @@ impl Router {
         self.holds = false;
     }
 
+    #[tactic(auto, using(crate::proofs::Numbers::reach_ends), unfolding(ipcz_base::specs::Links::word_of, crate::specs::ActEffects::retire_output, crate::specs::ActEffects::output_of))]
+    fn retire_output(&self) -> Applied
+        requires { can_retire self.now.router ≡ true }
+        ensures output { result ≡ output_of self.now.router RouterAct.Retire }
+        ensures kind { IsOutputOf RouterAct.Retire result }
+        ensures number { IsBelowNoNumber result }
+    {
+        let Some(link) = self.outward.primary() else {
+            unreachable!()
+        };
+        Applied::Sent(link, self.out_queue.reach(), Item::Gone)
+    }
+
     #[tactic(auto, unfolding(ipcz_base::specs::Links::word_of, crate::specs::ActTable::is_possible, crate::specs::ActEffects::flush_message, crate::specs::ActEffects::message_output, crate::specs::ActEffects::output_of))]
     fn wake_output(&self) -> Applied
         requires { is_possible self.now.router RouterAct.Wake ≡ true }
@@ -305,10 +365,52 @@ impl Router {
         )
     }
 
+    // Its side is marked, and the wake is owed where the other side was waiting.
+    fn mark_side(&mut self, was_waiting: bool)
+        ensures router { self.new.router ≡ mark_side self.old.router was_waiting }
+        ensures room { KeepsRoom self.old self.new }
+    {
+        self.marked = true;
+        self.wake_owed = was_waiting;
+    }
+
+    // The other side is woken.
+    fn wake_other(&mut self)
+        ensures router { self.new.router ≡ wake_other self.old.router }
+        ensures room { KeepsRoom self.old self.new }
+    {
+        self.wake_owed = false;
+    }
+
+    // A word is claimed for the link of its bypass.
+    fn claim_word(&mut self, word: u32)
+        ensures router { self.new.router ≡ claim_word self.old.router word }
+        ensures room { KeepsRoom self.old self.new }
+    {
+        self.spare = Some(word);
+    }
+
+    // The lock is not got.
+    fn fail_lock(&mut self)
+        ensures router { self.new.router ≡ fail_lock self.old.router }
+        ensures room { KeepsRoom self.old self.new }
+    {
+        self.tried = true;
+    }
+
+    // The lock is given back, and the router stays flagged.
+    fn drop_lock(&mut self)
+        ensures router { self.new.router ≡ drop_lock self.old.router }
+        ensures room { KeepsRoom self.old self.new }
+    {
+        self.holds = false;
+        self.flagged = true;
+    }
+
     /// Does an act that is possible, with an answer of its kind, and answers what its node is to do with it: an item to send,
     /// one that was dropped, a message, or nothing. A begin that nobody inward could be told of gives nothing.
     ///
-    /// `Leave` changes nothing here: it is for the node to take the router out.
+    /// `Leave` and `Retire` change nothing here: it is for the node to take the router out, as it is where Gone is discarded.
     #[tactic(auto, unfolding(crate::specs::ActTable::is_possible, crate::specs::ActTable::is_rest, crate::specs::ActEffects::apply, crate::specs::ActEffects::output_of))]
     pub fn apply(&mut self, act: RouterAct, answer: Answer) -> Applied
         requires { IsAsked self.old.router act answer }
@@ -332,17 +434,16 @@ impl Router {
             }
             (RouterAct::Leave, _) => Applied::Nothing,
             (RouterAct::Mark, Answer::Marked(_, was_waiting)) => {
-                self.marked = true;
-                self.wake_owed = was_waiting;
+                self.mark_side(was_waiting);
                 Applied::Nothing
             }
             (RouterAct::Wake, _) => {
                 let output = self.wake_output();
-                self.wake_owed = false;
+                self.wake_other();
                 output
             }
             (RouterAct::Claim, Answer::Claimed(word)) => {
-                self.spare = Some(word);
+                self.claim_word(word);
                 Applied::Nothing
             }
             (RouterAct::Claim, Answer::NoWord) => {
@@ -353,12 +454,8 @@ impl Router {
                 self.holds = true;
                 Applied::Nothing
             }
-            (RouterAct::Lock, Answer::Waiting(_)) => {
-                self.tried = true;
-                Applied::Nothing
-            }
-            (RouterAct::Lock, Answer::Refused(_)) => {
-                self.tried = true;
+            (RouterAct::Lock, Answer::Waiting(_) | Answer::Refused(_)) => {
+                self.fail_lock();
                 Applied::Nothing
             }
             (RouterAct::Begin, _) => {
@@ -366,9 +463,9 @@ impl Router {
                 self.begin();
                 output
             }
+            (RouterAct::Retire, _) => self.retire_output(),
             (RouterAct::Unlock, _) => {
-                self.holds = false;
-                self.flagged = true;
+                self.drop_lock();
                 Applied::Nothing
             }
             (RouterAct::Rest, _) => {

@@ -278,10 +278,10 @@ const BEHIND_A_GAP: [Step; 18] = [
     Close(0, Ok(0)),
     Is(0, Flagged(true)),
     Is(0, Open(false)),
-    // The sink sends its own mark and drops the peer's.
+    // The sink sends its own mark and drops the peer's, and then would leave.
     Act(0, Plain(RouterAct::SendOut), Sent(ACROSS, 0, None)),
     Act(0, Plain(RouterAct::Discard), Discarded(1, None)),
-    Act(0, Plain(RouterAct::Rest), Nothing),
+    Is(0, Next(RouterAct::Lock)),
 ];
 
 #[test]

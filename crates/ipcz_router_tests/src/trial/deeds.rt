@@ -32,8 +32,12 @@ pub(super) enum Given {
     Nothing,
     /// An item of this byte, or a mark, under its number over a link.
     Sent(LinkEnd, u64, Option<u8>),
+    /// Gone under its number over a link.
+    SentGone(LinkEnd, u64),
     /// An item that is dropped.
     Discarded(u64, Option<u8>),
+    /// Gone that is dropped.
+    DiscardedGone(u64),
     /// A message as it prints, and the node that it is for.
     Told(u8, &'static str),
 }
@@ -93,10 +97,12 @@ fn is_given(applied: Applied, alloc: Global, given: Given) -> Result<bool, Alloc
             Given::Sent(over, number, byte) => {
                 Ok(link == over && n == number && is_item(&item, byte))
             }
+            Given::SentGone(over, number) => Ok(link == over && n == number && item.is_gone()),
             _ => Ok(false),
         },
         Applied::Discarded(n, item) => match given {
             Given::Discarded(number, byte) => Ok(n == number && is_item(&item, byte)),
+            Given::DiscardedGone(number) => Ok(n == number && item.is_gone()),
             _ => Ok(false),
         },
         Applied::Message(to, message) => match given {
@@ -121,9 +127,9 @@ pub(super) fn gives(
     }
 }
 
-/// In place of the begin that comes first, gives the lock back; whether that gives nothing.
+/// In place of the begin or the retire that comes first, gives the lock back; whether that gives nothing.
 pub(super) fn unlocks(router: &mut Router, word: u64) -> bool {
-    router.next_act() == RouterAct::Begin
+    matches!(router.next_act(), RouterAct::Begin | RouterAct::Retire)
         && router.is_possible(RouterAct::Unlock)
         && matches!(
             router.apply(RouterAct::Unlock, Answer::Word(word)),

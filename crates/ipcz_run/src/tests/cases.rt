@@ -9,7 +9,7 @@ pub struct Case {
     pub on_threads: bool,
 }
 
-pub const CASES: [Case; 25] = [
+pub const CASES: [Case; 28] = [
     Case {
         shows: "two parcels on one pair",
         script: r#"{"nodes":1,"words":1,"commands":[["open",0,"x","y"],["put","x","a"],["put","x","b"],["get","y"],["settle",100],["get","y"],["get","y"],["get","y"]]}"#,
@@ -174,7 +174,7 @@ pub const CASES: [Case; 25] = [
     Case {
         shows: "a portal is closed after a move",
         script: r#"{"nodes":2,"words":4,"commands":[["open",0,"x","y"],["put","y","a"],["settle",100],["put","0>1","m",["y"]],["settle",1000],["get","1>0"],["close","y"],["get","x"],["settle",100],["get","x"],["put","x","b"],["close","x"],["settle",100],["get","x"],["close","y"],["show"]]}"#,
-        transcript: "open x y ok\nput y 0\nsettled\nput 0>1 0\nsettled\nget 1>0 0 [y] \"m\"\nclose y 1\nget x 0 [] \"a\"\nsettled\nget x PeerClosed\nput x PeerClosed\nclose x 0\nsettled\nget x Away\nclose y Away\nwords 3 547 3\n",
+        transcript: "open x y ok\nput y 0\nsettled\nput 0>1 0\nsettled\nget 1>0 0 [y] \"m\"\nclose y 1\nget x 0 [] \"a\"\nsettled\nget x PeerClosed\nput x PeerClosed\nclose x 0\nsettled\nget x Away\nclose y Away\nwords 3 547 19\n",
         unsettled: false,
         on_threads: false,
     },
@@ -182,6 +182,27 @@ pub const CASES: [Case; 25] = [
         shows: "a moved portal takes puts until the mark has come to it again",
         script: r#"{"nodes":2,"words":4,"commands":[["open",0,"x","y"],["close","x"],["put","y","a"],["settle",100],["put","y","b"],["get","y"],["put","0>1","m",["y"]],["turn",0,2],["turn",1,2],["get","1>0"],["get","y"],["put","y","c"],["settle",1000],["put","y","d"],["get","y"],["show"]]}"#,
         transcript: "open x y ok\nclose x 0\nput y 0\nsettled\nput y PeerClosed\nget y PeerClosed\nput 0>1 0\nn0: r0 send out 0 C0 moves 1B\nn0: post 1\nn1: look 0\nn1: hand item 0 C0\nget 1>0 0 [y] \"m\"\nget y Empty\nput y 1\nsettled\nput y PeerClosed\nget y PeerClosed\nwords 3 547 3\n",
+        unsettled: false,
+        on_threads: false,
+    },
+    Case {
+        shows: "a closed pair leaves its node",
+        script: r#"{"nodes":1,"words":1,"commands":[["open",0,"x","y"],["close","x"],["close","y"],["turn",0,30],["show"]]}"#,
+        transcript: "open x y ok\nclose x 0\nclose y 0\nn0: r0 send out 0 C0\nn0: post 0\nn0: look 0\nn0: hand item 0 C0\nn0: r0 rest\nn0: r1 send out 0 C0\nn0: post 0\nn0: look 0\nn0: hand item 0 C0\nn0: r0 discard 0\nn0: r0 lock C0 19\nn0: r0 retire 1 C0\nn0: post 0\nn0: look 0\nn0: hand item 1 C0\nn0: r1 discard 0\nn0: r1 discard 1 leave\nn0: idle\nwords 19\n",
+        unsettled: false,
+        on_threads: false,
+    },
+    Case {
+        shows: "a proxy without a word leaves behind Gone",
+        script: r#"{"nodes":2,"words":2,"commands":[["open",0,"x","y"],["put","0>1","m",["y"]],["settle",1000],["get","1>0"],["close","x"],["close","y"],["settle",1000],["show"]]}"#,
+        transcript: "open x y ok\nput 0>1 0\nsettled\nget 1>0 0 [y] \"m\"\nclose x 0\nclose y 0\nsettled\nwords 3 19\n",
+        unsettled: false,
+        on_threads: false,
+    },
+    Case {
+        shows: "a closed pair leaves two nodes after a bypass",
+        script: r#"{"nodes":2,"words":8,"commands":[["open",0,"x","y"],["put","0>1","m",["y"]],["settle",1000],["get","1>0"],["close","x"],["close","y"],["turn",0,30],["turn",1,30],["turn",0,30],["turn",1,30],["turn",0,30],["show"]]}"#,
+        transcript: "open x y ok\nput 0>1 0\nsettled\nget 1>0 0 [y] \"m\"\nclose x 0\nclose y 0\nn0: r1 send out 0 C2\nn0: post 1\nn0: r1 rest\nn0: idle\nn1: look 0\nn1: hand item 0 C2\nn1: r1 send out 0 C2\nn1: post 0\nn1: r1 discard 0\nn1: r1 lock C2 35\nn1: r1 retire 1 C2\nn1: idle\nn0: look 1\nn0: hand item 0 C2\nn0: r1 discard 0\nn0: r1 refused C2 35\nn0: r1 rest\nn0: idle\nn1: post 0\nn1: idle\nn0: look 1\nn0: hand item 1 C2\nn0: r1 discard 1 leave\nn0: idle\nwords 3 547 35\n",
         unsettled: false,
         on_threads: false,
     },

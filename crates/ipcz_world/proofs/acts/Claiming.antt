@@ -1,4 +1,6 @@
 -- A proxy claims a word: the invariant is kept.
+use Rattle.ipcz_world.proofs.frames.GivingUp.{stays_bare}
+use Rattle.ipcz_world.proofs.Vocabulary.{A, B}
 use Rattle.ipcz_world.proofs.frames.LiveLinks.{live-kept}
 use Rattle.ipcz_world.proofs.frames.Sourcing.{sourced-by, had-one}
 use Rattle.ipcz_word.specs.Word.{Word}
@@ -29,10 +31,19 @@ use Rattle.ipcz_world.proofs.frames.Owners.{linked-owned, recorded-owned, links-
 use Rattle.ipcz_world.proofs.frames.Owners.{moves-owned, told-owned, terminals-owned, items-owned, order-owned, proxy_numbers-owned}
 use Rattle.ipcz_world.proofs.frames.Owners.{fresh_numbers-owned}
 use Rattle.ipcz_world.proofs.frames.RecordRules.{unclaimed-is}
+use Rattle.ipcz_world.proofs.frames.Owners.{retired-owned}
+use Rattle.ipcz_world.proofs.frames.GonesKept.{gones-by}
+use Rattle.ipcz_world.proofs.frames.GivenUp.{part_gone}
+use Rattle.ipcz_world.proofs.frames.GivingUp.{sink-part}
+use Rattle.ipcz_world.specs.Records.{is_left}
+use Rattle.ipcz_router.specs.Router.{is_proxy}
+use Rattle.ipcz_router.specs.ActTable.{is_done}
+use Rattle.std.proofs.lemmas.Bool.{or_left}
+use Rattle.std.specs.Prelude.{◌||◌, ◌&&◌}
 
 pub inv-claim : (w : World) (b : Books) (g : Records) (k : Key) (r : Router) → Inv w b g → CanAct w k r acts.Claim → w.claimed < w.size →
     Inv (claim_act w k r) b (claim_records g k w.claimed)
-unfolding is_possible is_unclaimed is_linked spare_of source' word_of side_router side_node
+unfolding is_possible is_unclaimed is_linked spare_of source' word_of side_router side_node is_left
 inv-claim w b g k r law can left = record {
   counts = record {
     node = λ n e. grind (arith, (one.nodes n).node, one.count, law.counts.node n, e);
@@ -71,27 +82,28 @@ inv-claim w b g k r law can left = record {
       law.shape.holds_marked q z,
       law.shape.holds_marked k r can.here,
     );
-    holds_proxy = λ q z at m. grind (
-      arith,
-      one.routers q,
-      same_key_tells q k,
-      law.shape.holds_proxy q z,
-      law.shape.holds_proxy k r can.here,
-    );
+    holds_fit = λ q z at m. let o = was gives q z at in elim (same_key_tells q k) [
+      | inl e ↦ let f : y ≡ z = grind (arith, one.routers q, e.0, at) in or_left (is_proxy z) (is_done z) (rw (← f) ready)
+      | inr e ↦ law.shape.holds_fit q z (grind (arith, one.routers q, e.0, at)) m
+    ];
+    dropped_sink = λ q z at m. let o = was gives q z at in sink-part o.router z o.part
+        (law.shape.dropped_sink q o.router o.at (sym o.part.mark_dropped ∙ m));
+    sent_proxy = λ q z at m. let o = was gives q z at in ap is_some o.part.inward_primary ∙
+        law.shape.sent_proxy q o.router o.at (sym o.part.gone_sent ∙ m);
     holds_spare = λ q z at m. grind (arith, one.routers q, same_key_tells q k, law.shape.holds_spare q z);
     spare_proxy = λ q z j at m. grind (arith, one.routers q, same_key_tells q k, law.shape.spare_proxy q z j, can.possible);
     spare_primary = λ q z j at m. grind (arith, one.routers q, same_key_tells q k, law.shape.spare_primary q z j, primary);
   };
   links = links-owned v b g i (Spare k) unlinked refl (links-gives w v g k r (Some y) gives law.links);
   positions = positions-owned v b g i (Spare k) unlinked refl (positions-gives w v g k r (Some y) gives law.positions);
-  stands = stands-owned v b g i (Spare k) unlinked refl (stands-gives w v g k r (Some y) gives law.stands);
+  stands = stands-owned v b g i (Spare k) unlinked refl (stands-gives w v g k r (Some y) gives (stays_bare r y) law.stands);
   words = record {
     unused = λ j a. grind (arith, frames, law.words.unused j, linked j, a);
     begun_stable = λ j s a. grind (arith, frames, law.words.begun_stable j s, a);
     begun_holder = λ j s a. grind (arith, frames, law.words.begun_holder j s, a);
-    stable = λ j s l a. ap (λ x. has x.stable s) (word j) ∙ law.words.stable j s (sym (linked j) ∙ l) a ∙ sym
+    stable = λ j s l a n. ap (λ x. has x.stable s) (word j) ∙ law.words.stable j s (sym (linked j) ∙ l) a n ∙ sym
         (flag (λ z. z.marked) refl (side_router g (Central j) s));
-    holder = λ j s l a. ap (λ x. has x.holder s) (word j) ∙ law.words.holder j s (sym (linked j) ∙ l) a ∙ sym
+    holder = λ j s l a n. ap (λ x. has x.holder s) (word j) ∙ law.words.holder j s (sym (linked j) ∙ l) a n ∙ sym
         (flag (λ z. z.holds) refl (side_router g (Central j) s));
     held_stable = λ j s t a. grind (arith, frames, law.words.held_stable j s t, a);
     one_holder = λ j s t a d. grind (arith, frames, law.words.one_holder j s t, a, d);
@@ -99,6 +111,8 @@ inv-claim w b g k r law can left = record {
         (λ h. record { router = r; at = can.here; primary = refl; inward = refl; holds = λ h. h }))
         (λ q z e j at p l. ap (λ (x : Word). x.source) (word j)) law.words.source;
     begun_source = λ o h l. ap (λ (x : Word). x.source) (word o) ∙ law.words.begun_source o h l;
+    left_held = λ j s h. ap (λ (x : Word). (has (g.central j).left A && has x.holder A) || (has (g.central j).left B && has x.holder B)) (word j) ∙
+        law.words.left_held j s h;
   };
   spares = record {
     spare = λ q z j at e. grind (arith, one.routers q, same_key_tells q k, law.spares.spare q z j, mine, e, at, nat_tests);
@@ -131,16 +145,26 @@ inv-claim w b g k r law can left = record {
     born_fresh = λ j o l e. law.bypasses.born_fresh j o (sym (linked j) ∙ l) e;
     born_stage = λ j o l e. law.bypasses.born_stage j o (sym (linked j) ∙ l) e;
   };
-  stages = stages-owned v b g i (Spare k) unlinked refl (stages-flags w v g k r (Some y) gives settled law.stages
+  stages = stages-owned v b g i (Spare k) unlinked refl (stages-flags w v g k r (Some y) gives (stays_bare r y) settled law.stages
       (λ o a d. flag (λ z. z.marked) refl _ ∙ law.stages.across_marked o a d)
       (λ o a d. flag (λ z. not z.holds) refl _ ∙ law.stages.across_free o a d));
   told = told-owned v b g i (Spare k) unlinked refl (told-same w v g (same-messages one) law.told);
   moves = moves-owned v b g i (Spare k) unlinked refl (moves-same w v g (same-messages one) law.moves);
-  terminals = terminals-owned v b g i (Spare k) unlinked refl (terminals-gives w v g k r (Some y) gives law.terminals);
+  terminals = terminals-owned v b g i (Spare k) unlinked refl (terminals-gives w v g k r (Some y) gives (stays_bare r y).no_terminal law.terminals);
   end_places = let e = end_places-gives w v g k r (Some y) gives law.end_places in
       record { held = e.held; pending = e.pending; out = e.out; inn = e.inn; within = e.within };
   books_kept = let e = books-gives w v b g k r (Some y) gives law.books_kept in
-      record { own_pair = e.own_pair; mark_last = e.mark_last; numbers = e.numbers; mark_seen = e.mark_seen };
+      record {
+        own_pair = e.own_pair;
+        mark_last = e.mark_last;
+        gone_last = e.gone_last;
+        retired_closed = e.retired_closed;
+        numbers = e.numbers;
+        mark_seen = e.mark_seen;
+      };
+  retired_ends = retired-owned v b g i (Spare k) unlinked refl law.retired_ends;
+  gones = gones-by w v b g (claim_records g k i) (λ q z at. let o = was gives q z at in
+      record { router = o.router; at = o.at; alike = part_gone o.router z o.part }) (λ l s h. h) law.gones;
   items = items-owned v b g i (Spare k) unlinked refl (items-gives w v g k r (Some y) gives settled law.items);
   order = order-owned v b g i (Spare k) unlinked refl (order-gives w v g k r (Some y) gives law.order);
   proxy_numbers = proxy_numbers-owned v b g i (Spare k) unlinked refl
@@ -187,7 +211,7 @@ inv-claim w b g k r law can left = record {
     linked j = linked-owned v b g i (Spare k) unlinked refl j
 
     same : IsFlagged r y
-    same = record { end = refl; outward = refl; inward = refl; out_queue = refl; in_queue = refl; closed = refl; mark_seen = refl }
+    same = record { end = refl; outward = refl; inward = refl; out_queue = refl; in_queue = refl; closed = refl; mark_seen = refl; mark_dropped = refl; gone_sent = refl }
 
     gives : Gives w v k r (Some y)
     gives = stays w v k r y one can.here (flagged-part r y same)
@@ -200,6 +224,9 @@ inv-claim w b g k r law can left = record {
 
     word : (j : ℕ) → word_at v j ≡ word_at w j
     word j = grind (arith, frames)
+
+    ready : is_proxy r ≡ true
+    ready = grind (arith, can.possible)
 
     primary : is_some r.outward.primary ≡ true
     primary = go r.outward.primary refl

@@ -1,4 +1,6 @@
 -- A router gives a decaying link up: the invariant is kept, for all that was to come over the link has come.
+use Rattle.std.proofs.lemmas.Bool.{or_left}
+use Rattle.ipcz_world.proofs.frames.GivingUp.{stays_bare}
 use Rattle.ipcz_world.proofs.Vocabulary.{in_router, at_end, Side, A, B, End, LinkId, Central, Peripheral, LinkEnd, Descriptor, Item}
 use Rattle.ipcz_world.proofs.Vocabulary.{opposite, opposite_end, has_link, item_at, Edge, Router, is_terminal, inward_edge, is_possible}
 use Rattle.ipcz_world.proofs.Vocabulary.{World, Key, router_at, Books, read, Records, inner_link, is_begun, is_recorded, proxy_side}
@@ -371,6 +373,8 @@ out-part r = record {
   terminal = refl;
   closed = refl;
   mark_seen = refl;
+  mark_dropped = refl;
+  gone_sent = refl;
   primary = refl;
   inward_primary = refl;
   decaying = λ e h. absurd (grind (arith, h));
@@ -390,6 +394,8 @@ in-part r = record {
   terminal = terminal r.inward refl;
   closed = refl;
   mark_seen = refl;
+  mark_dropped = refl;
+  gone_sent = refl;
   primary = refl;
   inward_primary = ap (λ e. e.primary) (inward-finish r);
   decaying = λ e h. h;
@@ -412,7 +418,7 @@ pub inv-finish_out : (w : World) (b : Books) (g : Records) (k : Key) (r : Router
     Inv (finish_out_act w k r) b g
 inv-finish_out w b g k r law can = inv-gives w (finish_out_act w k r) b g k r (Some (finish_out r))
     (stays w (finish_out_act w k r) k r (finish_out r) (set-router w k (finish_out r)) can.here (out-part r))
-    (keeps_all w (finish_out_act w k r) r (finish_out r) (words-set_router w k (finish_out r))
+    (stays_bare r (finish_out r)) (keeps_all w (finish_out_act w k r) r (finish_out r) (words-set_router w k (finish_out r))
     (record { spare = refl; marked = refl; holds = refl })) settled law
   where
     done : IsDone r.outward r.out_queue.current (reach r.in_queue)
@@ -443,7 +449,7 @@ inv-finish_out w b g k r law can = inv-gives w (finish_out_act w k r) b g k r (S
       own_old = λ o e a c h. absurd (early o c h);
       own_inner = λ o e a c h. grind (arith, standing_rules, h);
       inner = λ o e a c h. absurd (early_inner o c a h);
-      known = λ l s up. (come l s up.had up.hasnt).known;
+      known = λ l s up. or_left _ _ (come l s up.had up.hasnt).known;
       nothing = λ from to i l s n item moves u up. nothing-comes w b g k r l s from to i n item moves law can.here up.before
           (come l s up.had up.hasnt) u;
       across_gone = λ o q at a up. across-sent w b g r o q law up.before (come _ _ up.had up.hasnt) at a;
@@ -466,7 +472,7 @@ pub inv-finish_in : (w : World) (b : Books) (g : Records) (k : Key) (r : Router)
     Inv (finish_in_act w k r) b g
 inv-finish_in w b g k r law can = inv-gives w (finish_in_act w k r) b g k r (Some (finish_in r))
     (stays w (finish_in_act w k r) k r (finish_in r) (set-router w k (finish_in r)) can.here (in-part r))
-    (keeps_all w (finish_in_act w k r) r (finish_in r) (words-set_router w k (finish_in r))
+    (stays_bare r (finish_in r)) (keeps_all w (finish_in_act w k r) r (finish_in r) (words-set_router w k (finish_in r))
     (record { spare = refl; marked = refl; holds = refl })) settled law
   where
     done : IsDone (inward_edge r) r.in_queue.current (reach r.out_queue)
@@ -490,7 +496,7 @@ inv-finish_in w b g k r law can = inv-gives w (finish_in_act w k r) b g k r (Som
       own_old = λ o e a c h. grind (arith, standing_rules, h);
       own_inner = λ o e a c h. absurd (early o e a c);
       inner = λ o e a c h. grind (arith, standing_rules, h);
-      known = λ l s up. (come l s up.had up.hasnt).known;
+      known = λ l s up. or_left _ _ (come l s up.had up.hasnt).known;
       nothing = λ from to i l s n item moves u up. nothing-comes w b g k r l s from to i n item moves law can.here up.before
           (come l s up.had up.hasnt) u;
       across_gone = λ o q at a up. across-sent w b g r o q law up.before (come _ _ up.had up.hasnt) at a;

@@ -1,4 +1,5 @@
 -- A router changes in flags alone, and a word with it: the invariant is kept.
+use Rattle.ipcz_world.proofs.frames.GivingUp.{stays_bare}
 use Rattle.ipcz_world.proofs.frames.Sourcing.{central_word}
 use Rattle.ipcz_world.proofs.facts.Tests.{nat_eq-itself}
 use Rattle.ipcz_edge.specs.Edge.{Edge}
@@ -7,12 +8,16 @@ use Rattle.std.specs.Prelude.{◌≡◌, ◌≢◌, ◌⊎◌, ◌≤◌, ℕ, B
 use Rattle.std.proofs.Common.{arith, sym, ◌∙◌, ap, inl, inr}
 use Rattle.std.proofs.lemmas.Bool.Decides.{nat_tests}
 use Rattle.std.proofs.lemmas.Option.{same_Some, none-some}
-use Rattle.ipcz_world.proofs.Vocabulary.{Side, A, B, LinkId, Central, Peripheral, LinkEnd, opposite, has, word_of, Word, Router}
+use Rattle.ipcz_world.proofs.Vocabulary.{End, Side, A, B, LinkId, Central, Peripheral, LinkEnd, opposite, has, word_of, Word, Router}
 use Rattle.ipcz_world.proofs.Vocabulary.{primary_word, World, Key, same_key, word_at, router_at, Books, Records, is_recorded, is_linked}
 use Rattle.ipcz_world.proofs.Vocabulary.{is_begun, side_router, side_end, across_side, is_attached, passes, key_passes, has_primary}
 use Rattle.ipcz_world.proofs.Vocabulary.{Shape, Words, IsRecorded, Inv}
 use Rattle.ipcz_world.proofs.facts.Lengths.{HasEnd, has_link-tells}
-use Rattle.ipcz_router.specs.Router.{is_proxy, decays, is_on_central}
+use Rattle.ipcz_router.specs.Router.{is_proxy, decays, is_on_central, is_sink, inward_edge}
+use Rattle.ipcz_router.specs.ActTable.{is_done}
+use Rattle.ipcz_world.specs.Records.{is_left}
+use Rattle.ipcz_world.proofs.views.LeftSides.{not_left}
+use Rattle.std.specs.Prelude.{◌||◌, ◌&&◌}
 use Rattle.ipcz_router.specs.ActEffects.{run_dry}
 use Rattle.ipcz_router.specs.Acts.{rest}
 use Rattle.ipcz_world.proofs.frames.Frames.{same_key_tells, same_key-itself}
@@ -35,6 +40,8 @@ pub record IsFlagged (r y : Router) : Type 0 where
   pub in_queue : y.in_queue ≡ r.in_queue
   pub closed : y.closed ≡ r.closed
   pub mark_seen : y.mark_seen ≡ r.mark_seen
+  pub mark_dropped : y.mark_dropped ≡ r.mark_dropped
+  pub gone_sent : y.gone_sent ≡ r.gone_sent
 
 pub flagged-part : (r y : Router) → IsFlagged r y → IsPart r y
 flagged-part r y same = record {
@@ -45,6 +52,8 @@ flagged-part r y same = record {
   terminal = ap is_none same.inward;
   closed = same.closed;
   mark_seen = same.mark_seen;
+  mark_dropped = same.mark_dropped;
+  gone_sent = same.gone_sent;
   primary = ap (λ e. e.primary) same.outward;
   inward_primary = grind (arith, same.inward);
   decaying = λ e h. grind (arith, same.outward, h);
@@ -83,7 +92,7 @@ flagged-settled w v b g k r y law here same = record {
 pub inv-flagged : (w v : World) (b : Books) (g : Records) (k : Key) (r y : Router) → Inv w b g → router_at w k ≡ Some r →
     SameButRouter w v k (Some y) → SameWords w v → IsFlagged r y → HasSameFlags r y → Inv v b g
 inv-flagged w v b g k r y law here one words same flags =
-    inv-gives w v b g k r (Some y) (stays w v k r y one here (flagged-part r y same)) (keeps_all w v r y words flags)
+    inv-gives w v b g k r (Some y) (stays w v k r y one here (flagged-part r y same)) (stays_bare r y) (keeps_all w v r y words flags)
     (flagged-settled w v b g k r y law here same) law
 
 pub inv-rest : (w : World) (b : Books) (g : Records) (k : Key) (r : Router) → Inv w b g → router_at w k ≡ Some r → Inv (rest_act w k r) b g
@@ -91,7 +100,7 @@ inv-rest w b g k r law here = inv-flagged w (rest_act w k r) b g k r (rest r) la
     (words-set_router w k (rest r)) flagged flags
   where
     flagged : IsFlagged r (rest r)
-    flagged = record { end = refl; outward = refl; inward = refl; out_queue = refl; in_queue = refl; closed = refl; mark_seen = refl }
+    flagged = record { end = refl; outward = refl; inward = refl; out_queue = refl; in_queue = refl; closed = refl; mark_seen = refl; mark_dropped = refl; gone_sent = refl }
 
     flags : HasSameFlags r (rest r)
     flags = record { spare = refl; marked = refl; holds = refl }
@@ -101,7 +110,7 @@ inv-dry w b g k r law here = inv-flagged w (dry_act w k r) b g k r (run_dry r) l
     (words-set_router w k (run_dry r)) flagged flags
   where
     flagged : IsFlagged r (run_dry r)
-    flagged = record { end = refl; outward = refl; inward = refl; out_queue = refl; in_queue = refl; closed = refl; mark_seen = refl }
+    flagged = record { end = refl; outward = refl; inward = refl; out_queue = refl; in_queue = refl; closed = refl; mark_seen = refl; mark_dropped = refl; gone_sent = refl }
 
     flags : HasSameFlags r (run_dry r)
     flags = record { spare = refl; marked = refl; holds = refl }
@@ -171,10 +180,11 @@ words-touched w v b g k r y i x law here on live one same words touch = record {
   unused = λ j h. grind (arith, words j, law.words.unused j, on.linked, nat_tests, h);
   begun_stable = λ j s h. grind (arith, words j, law.words.begun_stable j s, live, nat_tests, h);
   begun_holder = λ j s h. grind (arith, words j, law.words.begun_holder j s, live, nat_tests, h);
-  stable = λ j s l h. agree (λ z. has z.stable) (λ z. z.marked) law.words.stable touch.stable touch.stable_other j s l h
+  stable = λ j s l h n. agree (λ z. has z.stable) (λ z. z.marked) law.words.stable touch.stable touch.stable_other j s l h n
       (side_router g (Central j) s) refl;
-  holder = λ j s l h. agree (λ z. has z.holder) (λ z. z.holds) law.words.holder touch.holder touch.holder_other j s l h
+  holder = λ j s l h n. agree (λ z. has z.holder) (λ z. z.holds) law.words.holder touch.holder touch.holder_other j s l h n
       (side_router g (Central j) s) refl;
+  left_held = λ j s h. left j s h (nat_eq j i) refl;
   held_stable = λ j s t h. grind (arith, words j, law.words.held_stable j s t, touch.held_stable s t, nat_tests, h);
   one_holder = λ j s t a c. grind (arith, words j, law.words.one_holder j s t, touch.one_holder s t, nat_tests, a, c);
   source = λ q z e j at h p l. sourced q z e j at h p l (same_key_tells q k) (nat_eq j i) refl;
@@ -186,7 +196,8 @@ words-touched w v b g k r y i x law here on live one same words touch = record {
     -- the router of a live link's side is this one only there
     only : (j : ℕ) (s : Side) → is_linked (g.owner j) ≡ true → is_begun (g.bypass j) ≡ false → side_router g (Central j) s ≡ Some k →
         SameAs i j y.end.side s
-    only j s l h e = let a : SameAs i j r.end.side s = only-word on here j s (law.stands.central j s k l h e) in
+    only j s l h e = let a : SameAs i j r.end.side s = only-word on here j s
+        (law.stands.central j s k l h (not_left w g (Central j) s k r law.stands e here) e) in
         record { word = a.word; side = a.side ∙ sym (ap (λ z. z.side) same.end) }
 
     known : side_router g (Central i) y.end.side ≡ Some k
@@ -212,26 +223,55 @@ words-touched w v b g k r y i x law here on live one same words touch = record {
         keys (inl a) = inl (a.1, only j s l h (e ∙ ap Some a.1))
         keys (inr a) = inr (a.0, other a.0 a.1 (side_is s y.end.side) (nat_eq j i) refl)
 
+    -- a side that was left holds the lock still
+    left : (j : ℕ) (s : Side) → is_left g (Central j) s ≡ true → (c : Bool) → nat_eq j i ≡ c →
+        ((is_left g (Central j) A && has (word_at v j).holder A) || (is_left g (Central j) B && has (word_at v j).holder B)) ≡ true
+    left j s h false e = rw (words j ∙ ap (λ c. cond c x (word_at w j)) e) (law.words.left_held j s h)
+    left j s h true e = let z : j ≡ i = grind (arith, e, nat_tests) in
+        rw (z, words i ∙ ap (λ c. cond c x (word_at w i)) (nat_eq-itself i)) (across r.end.side refl)
+      where
+        stays : is_left g (Central i) r.end.side ≡ false
+        stays = not_left w g (Central i) r.end.side k r law.stands on.known here
+
+        other : has x.holder (opposite r.end.side) ≡ has (word_at w i).holder (opposite r.end.side)
+        other = ap (λ (d : End). has x.holder (opposite d.side)) (sym same.end) ∙ touch.holder_other ∙
+            ap (λ (d : End). has (word_at w i).holder (opposite d.side)) same.end
+
+        at_i : is_left g (Central i) s ≡ true
+        at_i = let z : j ≡ i = grind (arith, e, nat_tests) in ap (λ n. is_left g (Central n) s) (sym z) ∙ h
+
+        across : (t : Side) → r.end.side ≡ t →
+            ((is_left g (Central i) A && has x.holder A) || (is_left g (Central i) B && has x.holder B)) ≡ true
+        across A f = let a : is_left g (Central i) A ≡ false = ap (is_left g (Central i)) (sym f) ∙ stays in
+            let o : has x.holder B ≡ has (word_at w i).holder B = ap (λ t. has x.holder (opposite t)) (sym f) ∙ other ∙
+            ap (λ t. has (word_at w i).holder (opposite t)) f in
+            rw (a, o) (rw (a) at (law.words.left_held i s at_i))
+        across B f = let a : is_left g (Central i) B ≡ false = ap (is_left g (Central i)) (sym f) ∙ stays in
+            let o : has x.holder A ≡ has (word_at w i).holder A = ap (λ t. has x.holder (opposite t)) (sym f) ∙ other ∙
+            ap (λ t. has (word_at w i).holder (opposite t)) f in
+            rw (a, o) (rw (a) at (law.words.left_held i s at_i))
+
     -- a bit of the words tells a flag of the routers
     agree : (bit : Word → Side → Bool) (flag : Router → Bool) → ((j : ℕ) (s : Side) → is_linked (g.owner j) ≡ true →
-        is_begun (g.bypass j) ≡ false → bit (word_at w j) s ≡ key_passes w (side_router g (Central j) s) flag) →
+        is_begun (g.bypass j) ≡ false → is_left g (Central j) s ≡ false → bit (word_at w j) s ≡
+        key_passes w (side_router g (Central j) s) flag) →
         bit x y.end.side ≡ flag y → bit x (opposite y.end.side) ≡ bit (word_at w i) (opposite y.end.side) → (j : ℕ) (s : Side) →
-        is_linked (g.owner j) ≡ true → is_begun (g.bypass j) ≡ false → (q : Option Key) → side_router g (Central j) s ≡ q →
-        bit (word_at v j) s ≡ key_passes v q flag
-    agree bit flag old mine other j s l h None e = none (nat_eq j i) refl (side_is s y.end.side)
+        is_linked (g.owner j) ≡ true → is_begun (g.bypass j) ≡ false → is_left g (Central j) s ≡ false → (q : Option Key) →
+        side_router g (Central j) s ≡ q → bit (word_at v j) s ≡ key_passes v q flag
+    agree bit flag old mine other j s l h u None e = none (nat_eq j i) refl (side_is s y.end.side)
       where
         none : (c : Bool) → nat_eq j i ≡ c → (s ≡ y.end.side) ⊎ (s ≡ opposite y.end.side) → bit (word_at v j) s ≡ key_passes v None flag
-        none false m t = grind (arith, standing_rules, words j, old j s l h, e, m)
+        none false m t = grind (arith, standing_rules, words j, old j s l h u, e, m)
         none true m (inl t) = let z : j ≡ i = grind (arith, m, nat_tests) in
             absurd (none-some k (sym e ∙ ap (λ n. side_router g (Central n) s) z ∙ ap (side_router g (Central i)) t ∙ known))
         none true m (inr t) = let z : j ≡ i = grind (arith, m, nat_tests) in
-            grind (arith, standing_rules, words j, old j s l h, e, m, z, t, other)
-    agree bit flag old mine other j s l h (Some q) e = some (case j s l h q e)
+            grind (arith, standing_rules, words j, old j s l h u, e, m, z, t, other)
+    agree bit flag old mine other j s l h u (Some q) e = some (case j s l h q e)
       where
         some : Case j s q → bit (word_at v j) s ≡ key_passes v (Some q) flag
         some (inl a) = grind (arith, standing_rules, words j, a.0, a.1.word, a.1.side, one.routers q, same_key-itself k, mine, nat_tests)
-        some (inr (a, inl m)) = grind (arith, standing_rules, words j, old j s l h, e, m, a, one.routers q)
-        some (inr (a, inr m)) = grind (arith, standing_rules, words j, old j s l h, e, m.0, m.1, a, one.routers q, other, nat_tests)
+        some (inr (a, inl m)) = grind (arith, standing_rules, words j, old j s l h u, e, m, a, one.routers q)
+        some (inr (a, inr m)) = grind (arith, standing_rules, words j, old j s l h u, e, m.0, m.1, a, one.routers q, other, nat_tests)
 
     apart : (o : ℕ) → is_begun (g.bypass o) ≡ true → nat_eq o i ≡ false
     apart o h = grind (arith, live, nat_tests, h)
@@ -260,7 +300,7 @@ words-touched w v b g k r y i x law here on live one same words touch = record {
         passed = grind (arith, standing_rules, at_i, there, h)
 
         held : has (word_at w i).holder e.side ≡ true
-        held = law.words.holder i e.side on.linked live ∙ passed
+        held = law.words.holder i e.side on.linked live (not_left w g (Central i) e.side q z law.stands at_i there) ∙ passed
 
         go : (e.side ≡ y.end.side) ⊎ (e.side ≡ opposite y.end.side) → has (word_at w i).holder (opposite y.end.side) ≡ true
         go (inl t) = absurd (ne (same_Some q k (sym at_i ∙ ap (side_router g (Central i)) t ∙ known)))
@@ -287,8 +327,8 @@ pub record IsShaped (r y : Router) : Type 0 where
   pub central : y.marked ≡ true → is_on_central r ≡ true
   pub still : y.marked ≡ true → decays r ≡ false
   pub marked : y.holds ≡ true → y.marked ≡ true
-  pub proxy : y.holds ≡ true → is_proxy r ≡ true
-  pub word : y.holds ≡ true → is_some r.spare ≡ true
+  pub fit : y.holds ≡ true → (is_proxy r || is_done r) ≡ true
+  pub word : y.holds ≡ true → is_proxy r ≡ true → is_some r.spare ≡ true
 
 pub shape-touched : (w v : World) (k : Key) (r y : Router) → Shape w → router_at w k ≡ Some r → SameButRouter w v k (Some y) →
     IsFlagged r y → IsShaped r y → Shape v
@@ -297,8 +337,10 @@ shape-touched w v k r y law here one same is = record {
   marked_central = λ q z at m. grind (arith, one.routers q, same_key_tells q k, law.marked_central q z, is.central, same.outward);
   marked_still = λ q z at m. grind (arith, one.routers q, same_key_tells q k, law.marked_still q z, is.still, same.outward, same.inward);
   holds_marked = λ q z at m. grind (arith, one.routers q, same_key_tells q k, law.holds_marked q z, is.marked);
-  holds_proxy = λ q z at m. grind (arith, one.routers q, same_key_tells q k, law.holds_proxy q z, is.proxy, same.inward);
-  holds_spare = λ q z at m. grind (arith, one.routers q, same_key_tells q k, law.holds_spare q z, is.word, is.spare);
+  holds_fit = λ q z at m. fit q z at m (same_key_tells q k);
+  holds_spare = λ q z at m. grind (arith, one.routers q, same_key_tells q k, law.holds_spare q z, is.word, is.spare, same.inward);
+  dropped_sink = λ q z at m. sink q z at m (same_key_tells q k);
+  sent_proxy = λ q z at m. sent q z at m (same_key_tells q k);
   spare_proxy = λ q z j at m. grind (
     arith,
     one.routers q,
@@ -318,18 +360,36 @@ shape-touched w v k r y law here one same is = record {
     same.outward,
   );
 }
+  where
+    fit : (q : Key) (z : Router) → router_at v q ≡ Some z → z.holds ≡ true →
+        ((same_key q k ≡ true) × (q ≡ k)) ⊎ ((same_key q k ≡ false) × (q ≢ k)) → (is_proxy z || is_done z) ≡ true
+    fit q z at m (inl e) = let f : y ≡ z = grind (arith, one.routers q, e.0, at) in
+        rw (← f) (rw (same.inward, same.closed, same.mark_dropped, same.out_queue) (is.fit (ap (λ x. x.holds) f ∙ m)))
+    fit q z at m (inr e) = law.holds_fit q z (grind (arith, one.routers q, e.0, at)) m
+
+    sink : (q : Key) (z : Router) → router_at v q ≡ Some z → z.mark_dropped ≡ true →
+        ((same_key q k ≡ true) × (q ≡ k)) ⊎ ((same_key q k ≡ false) × (q ≢ k)) → is_sink z ≡ true
+    sink q z at m (inl e) = let f : y ≡ z = grind (arith, one.routers q, e.0, at) in
+        rw (← f) (rw (same.inward, same.closed) (law.dropped_sink k r here (sym same.mark_dropped ∙ ap (λ x. x.mark_dropped) f ∙ m)))
+    sink q z at m (inr e) = law.dropped_sink q z (grind (arith, one.routers q, e.0, at)) m
+
+    sent : (q : Key) (z : Router) → router_at v q ≡ Some z → z.gone_sent ≡ true →
+        ((same_key q k ≡ true) × (q ≡ k)) ⊎ ((same_key q k ≡ false) × (q ≢ k)) → is_some (inward_edge z).primary ≡ true
+    sent q z at m (inl e) = let f : y ≡ z = grind (arith, one.routers q, e.0, at) in
+        rw (← f) (rw (same.inward) (law.sent_proxy k r here (sym same.gone_sent ∙ ap (λ x. x.gone_sent) f ∙ m)))
+    sent q z at m (inr e) = law.sent_proxy q z (grind (arith, one.routers q, e.0, at)) m
 
 -- an act on a word of a live link, and on its router's flags
 pub inv-touched : (w v : World) (b : Books) (g : Records) (k : Key) (r y : Router) (i : ℕ) (x : Word) → Inv w b g → router_at w k ≡ Some r →
     primary_word r ≡ Some i → is_begun (g.bypass i) ≡ false → SameButRouter w v k (Some y) → v.claimed ≡ w.claimed → IsFlagged r y →
     ((j : ℕ) → word_at v j ≡ cond (nat_eq j i) x (word_at w j)) → IsShaped r y → Touches (word_at w i) x y → Inv v b g
-inv-touched w v b g k r y i x law here at live one claimed same words is touch = inv-flags w v b g k r (Some y) gives settled law (record {
+inv-touched w v b g k r y i x law here at live one claimed same words is touch = inv-flags w v b g k r (Some y) gives (stays_bare r y) settled law (record {
   counts = counts-gives w v g k r (Some y) gives claimed law.counts;
   shape = shape-touched w v k r y law.shape here one same is;
   words = words-touched w v b g k r y i x law here on live one same words touch;
   spares = spares-gives w v g k r (Some y) gives (λ z e. ap (λ t. t.spare) (sym (same_Some y z e)) ∙ is.spare)
       (λ e. absurd (none-some y (sym e))) law.spares;
-  stages = stages-flags w v g k r (Some y) gives settled law.stages
+  stages = stages-flags w v g k r (Some y) gives (stays_bare r y) settled law.stages
       (λ o a c. passes-still gives _ _ (law.stages.across_marked o a c) (λ e t. absurd (other o a c e)))
       (λ o a c. passes-still gives _ _ (law.stages.across_free o a c) (λ e t. absurd (other o a c e)));
 })

@@ -1,4 +1,25 @@
--- A proxy without links leaves: the invariant is kept, for its queues are empty.
+-- A proxy leaves, without links or when it has sent Gone inward: the invariant is kept, for its queues are empty.
+use Rattle.ipcz_world.proofs.frames.NearInv.{inv-near, near-inv}
+use Rattle.std.specs.Prelude.{◌≢◌, ◌⊎◌, ◌<◌, ◌||◌, length}
+use Rattle.std.proofs.Common.{ap, sym, subst, ◌∙◌, inl, inr}
+use Rattle.std.proofs.lemmas.Bool.{and_parts}
+use Rattle.ipcz_base.specs.Ends.{end_at}
+use Rattle.ipcz_router.specs.Router.{has_no_link}
+use Rattle.ipcz_world.proofs.Vocabulary.{LinkEnd, opposite, is_terminal, is_linked, is_begun, is_recorded, side_end, read, IsRecorded, Terminals}
+use Rattle.ipcz_world.specs.Books.{is_retired}
+use Rattle.ipcz_world.specs.Records.{is_left}
+use Rattle.ipcz_world.specs.Structure.{is_begun_router}
+use Rattle.ipcz_world.specs.Remembering.{left_end, lost_word, leave_records}
+use Rattle.ipcz_world.proofs.calls.Reading.{in_numbers, slice_get-below}
+use Rattle.ipcz_world.proofs.facts.LinkTests.{opposite_end-twice}
+use Rattle.ipcz_world.proofs.facts.Tests.{not_both}
+use Rattle.ipcz_world.proofs.frames.Departing.{IsLeaver, h, h_is, is_off_here, near-departed, retired-departed, gones-departed}
+use Rattle.ipcz_world.proofs.frames.GivingUp.{IsBare}
+use Rattle.ipcz_world.proofs.frames.GivenUp.{terminals-gives}
+use Rattle.ipcz_world.proofs.frames.LeftOff.{terminals-off}
+use Rattle.ipcz_world.proofs.frames.LeftRecords.{off_of}
+use Rattle.ipcz_world.proofs.frames.Touching.{either}
+use Rattle.ipcz_world.proofs.weights.Booking.{out_numbers}
 use Rattle.std.specs.Prelude.{◌≡◌, ◌≤◌, ℕ, Bool, true, false, nat_le, Option, Some, None, refl}
 use Rattle.std.proofs.Common.{arith}
 use Rattle.std.proofs.lemmas.Bool.Decides.{nat_tests}
@@ -23,15 +44,22 @@ pub record HasNoLink (r : Router) : Type 0 where
   pub inward_primary : (inward_edge r).primary ≡ None
   pub inward_decaying : (inward_edge r).decaying ≡ None
 
-pub leave-tells : (r : Router) → is_possible r acts.Leave ≡ true → HasNoLink r
-unfolding is_possible
-leave-tells r e = record {
-  proxy = grind (arith, e);
+pub no_link-tells : (r : Router) → is_proxy r ≡ true → has_no_link r ≡ true → HasNoLink r
+no_link-tells r p e = record {
+  proxy = p;
   primary = none_is _ (grind (arith, e));
   decaying = none_is _ (grind (arith, e));
   inward_primary = none_is _ (grind (arith, e));
   inward_decaying = none_is _ (grind (arith, e));
 }
+
+-- who leaves is a proxy that has no link, or has sent Gone
+pub leave-tells : (r : Router) → is_possible r acts.Leave ≡ true → HasNoLink r ⊎ ((is_proxy r ≡ true) × (r.gone_sent ≡ true))
+unfolding is_possible
+leave-tells r e = elim (either (has_no_link r) r.gone_sent p.1) [ inl f ↦ inl (no_link-tells r p.0 f) | inr f ↦ inr (p.0, f) ]
+  where
+    p : (is_proxy r ≡ true) × ((has_no_link r || r.gone_sent) ≡ true)
+    p = and_parts (is_proxy r) (has_no_link r || r.gone_sent) e
 
 not_attached : (l : LinkId) (s : Side) (r : Router) → HasNoLink r → is_attached l s r ≡ false
 unfolding is_attached has_link
@@ -70,7 +98,7 @@ leaver-told w b g k r law here bare = go (g.begun k) refl
           bare.decaying,
         ))
 
-no_item : (o : Option Item) → ((item : Item) → o ≡ Some item → ⊥) → o ≡ None
+pub no_item : (o : Option Item) → ((item : Item) → o ≡ Some item → ⊥) → o ≡ None
 no_item None h = refl
 no_item (Some item) h = absurd (h item refl)
 
@@ -108,12 +136,10 @@ leaver-weighs f r out inn = omega (
   total-none (f (opposite_end r.end)) r.in_queue.items inn,
 )
 
-pub inv-leave : (w : World) (b : Books) (g : Records) (k : Key) (r : Router) → Inv w b g → CanAct w k r acts.Leave → Inv (leave_act w k) b g
-inv-leave w b g k r law can = inv-gives w (leave_act w k) b g k r None gives keeps settled law
+inv-leave_bare : (w : World) (b : Books) (g : Records) (k : Key) (r : Router) → Inv w b g → CanAct w k r acts.Leave → HasNoLink r →
+    Inv (leave_act w k) b g
+inv-leave_bare w b g k r law can bare = inv-gives w (leave_act w k) b g k r None gives is_bare keeps settled law
   where
-    bare : HasNoLink r
-    bare = leave-tells r can.possible
-
     told : IsTold g k
     told = leaver-told w b g k r law can.here bare
 
@@ -129,14 +155,19 @@ inv-leave w b g k r law can = inv-gives w (leave_act w k) b g k r None gives kee
       one = remove-router w k r can.here;
       here = can.here;
       part = λ y e. absurd (grind (arith, e));
-      no_primary = λ e. bare.primary;
-      no_inward = λ e. bare.inward_primary;
-      no_terminal = λ e. grind (arith, bare.proxy);
       no_item = λ e f. leaver-weighs f r (leaver-out w b g k r law can.here bare told) (leaver-in w b g k r law can.here bare told);
     }
 
+    is_bare : IsBare r None
+    is_bare = record {
+      no_primary = λ e. bare.primary;
+      no_inward = λ e. bare.inward_primary;
+      no_terminal = λ e. grind (arith, bare.proxy);
+      no_spare = λ e. spare r.spare refl;
+    }
+
     keeps : Keeps w (leave_act w k) r None
-    keeps = record { words = words-remove_router w k; flags = λ y e. absurd (grind (arith, e)); no_spare = λ e. spare r.spare refl }
+    keeps = record { words = words-remove_router w k; flags = λ y e. absurd (grind (arith, e)) }
 
     settled : Settled w (leave_act w k) g k r None
     settled = record {
@@ -150,3 +181,113 @@ inv-leave w b g k r law can = inv-gives w (leave_act w k) b g k r None gives kee
       out_finished = λ o y e a f. absurd (grind (arith, f));
       in_finished = λ o y e a f. absurd (grind (arith, f));
     }
+
+-- a router whose peer's end has retired leaves with its links, once nothing comes any more
+module _ (w : World) (b : Books) (g : Records) (k : Key) (r : Router) (law : Inv w b g) (here : router_at w k ≡ Some r)
+    (begun : is_begun_router r ≡ false) (retired : is_retired b (opposite_end r.end) ≡ true)
+    (all : r.in_queue.current ≡ length (b.put (opposite_end r.end))) where
+  on_node : k.node < w.count
+  on_node = law.counts.on_node k r here
+
+  out_read : read b (opposite_end r.end) ≡ length (b.put r.end)
+  out_read = law.retired_ends.all_read (opposite_end r.end) retired ∙ ap (λ d. length (b.put d)) (opposite_end-twice r.end)
+
+  none_out : (n : ℕ) → item_at r.out_queue n ≡ None
+  none_out n = no_item (item_at r.out_queue n) (λ item e. let o = out_numbers w b g k r n item law.conserved on_node here e in
+      omega (arith, o.0, o.1, out_read))
+
+  none_in : (n : ℕ) → item_at r.in_queue n ≡ None
+  none_in n = no_item (item_at r.in_queue n) (λ item e.
+      let put = in_numbers w b g k r n item law.conserved on_node here e in
+      omega (arith, slice_get-below n (b.put (opposite_end r.end)) item put, law.ordered.inn k r n item here e, all))
+
+  unbypassed : (o : ℕ) → 1 ≤ (g.bypass o).stage → (g.bypass o).stage ≤ 4 → (g.central o).pair ≢ r.end.pair
+  unbypassed o l m p = not_both (is_retired b (opposite_end r.end)) retired (ap (λ n. is_retired b (end_at n (opposite r.end.side))) (sym p) ∙
+      law.retired_ends.no_bypass o (opposite r.end.side) l m)
+
+  pub gone_leaver : IsLeaver w b g k r
+  unfolding is_recorded side_end
+  gone_leaver = record {
+    here = here;
+    still = law.gones.still k r (opposite r.end.side) here begun retired;
+    begun = begun;
+    unbypassed = unbypassed;
+    empty = λ f. leaver-weighs f r none_out none_in;
+    in_all = omega (arith, all);
+    out_all = λ t. omega (arith, out_read);
+    locked = λ i e p l. inr (opposite r.end.side, left i e p l);
+  }
+    where
+      left : (i : ℕ) (e : LinkEnd) → r.outward.primary ≡ Some e → e.link ≡ Central i → is_left g (Central i) (opposite r.end.side) ≡ true
+      left i e p l = law.retired_ends.left (opposite_end r.end) i retired linked (unbegun (is_begun (g.bypass i)) refl) pair
+        where
+          rec : IsRecorded w g k r e
+          rec = law.links.primary k r e here p
+
+          linked : is_linked (g.owner i) ≡ true
+          linked = sym (ap (is_recorded w g) l) ∙ rec.recorded
+
+          pair : (g.central i).pair ≡ r.end.pair
+          pair = sym (ap (λ z. z.pair) rec.end ∙ ap (λ l. (side_end g l e.side).pair) l)
+
+          unbegun : (c : Bool) → is_begun (g.bypass i) ≡ c → is_begun (g.bypass i) ≡ false
+          unbegun false f = f
+          unbegun true f = let low = law.positions.primary_old k r e i here p l f in
+              absurd (unbypassed i (grind (arith, f, nat_tests)) (omega (arith, low)) pair)
+
+-- a proxy that has sent Gone leaves
+module _ (w : World) (b : Books) (g : Records) (k : Key) (r : Router) (law : Inv w b g) (here : router_at w k ≡ Some r)
+    (proxy : is_proxy r ≡ true) (sent : r.gone_sent ≡ true) where
+  begun : is_begun_router r ≡ false
+  begun = grind (arith, law.shape.sent_proxy k r here sent)
+
+  leaver : IsLeaver w b g k r
+  leaver = let s = law.gones.sent k r here sent in gone_leaver w b g k r law here begun s.0 s.1
+
+  gives : Gives w (leave_act w k) k r None
+  gives = record {
+    one = remove-router w k r here;
+    here = here;
+    part = λ y e. absurd (grind (arith, e));
+    no_item = λ e. leaver.empty;
+  }
+
+  keeps : Keeps w (leave_act w k) r None
+  keeps = record { words = words-remove_router w k; flags = λ y e. absurd (grind (arith, e)) }
+
+  terminals : Terminals (leave_act w k) (off_of g r)
+  terminals = subst (Terminals (leave_act w k)) (sym (h_is (near-inv law) leaver gives keeps))
+      (terminals-gives w (leave_act w k) (h (near-inv law) leaver gives keeps) k r None gives (λ e. grind (arith, proxy))
+      (terminals-off (is_off_here (near-inv law) leaver gives keeps) w law.terminals))
+
+  inv-leave_gone : Inv (leave_act w k) b (off_of g r)
+  inv-leave_gone = let s = law.gones.sent k r here sent in
+      subst (Inv (leave_act w k) b) (sym (h_is (near-inv law) leaver gives keeps)) (inv-near (near-departed (near-inv law) leaver gives keeps)
+      (subst (Terminals (leave_act w k)) (h_is (near-inv law) leaver gives keeps) terminals)
+      (retired-departed (near-inv law) leaver gives keeps law.retired_ends law.gones s.0)
+      (gones-departed (near-inv law) leaver gives keeps law.retired_ends law.gones s.0))
+
+-- no link and no spare is left
+empty_records : (g : Records) (p q : Option LinkEnd) (s : Option ℕ) → p ≡ None → q ≡ None → s ≡ None →
+    lost_word (left_end (left_end g p) q) s ≡ g
+unfolding lost_word left_end
+empty_records g p q s a c d = rw (a, c, d) refl
+
+-- a proxy leaves
+pub inv-leave : (w : World) (b : Books) (g : Records) (k : Key) (r : Router) → Inv w b g → CanAct w k r acts.Leave →
+    Inv (leave_act w k) b (leave_records g r)
+inv-leave w b g k r law can = elim (leave-tells r can.possible) [
+  | inl bare ↦ subst (Inv (leave_act w k) b) (sym (bare_records g r bare (no_spare bare r.spare refl))) (inv-leave_bare w b g k r law can bare)
+  | inr f ↦ subst (Inv (leave_act w k) b) (sym (proxy_records g r f.0)) (inv-leave_gone w b g k r law can.here f.0 f.1)
+]
+  where
+    no_spare : HasNoLink r → (o : Option ℕ) → r.spare ≡ o → r.spare ≡ None
+    no_spare bare None e = e
+    no_spare bare (Some i) e = absurd (grind (arith, law.shape.spare_primary k r i can.here e, bare.primary))
+
+    proxy_records : (g : Records) (r : Router) → is_proxy r ≡ true → leave_records g r ≡ off_of g r
+    proxy_records g r p = let lone : is_terminal r ≡ false = grind (arith, p) in rw lone refl
+
+    bare_records : (g : Records) (r : Router) → HasNoLink r → r.spare ≡ None → leave_records g r ≡ g
+    bare_records g r bare s = proxy_records g r bare.proxy ∙ empty_records g r.outward.primary (inward_edge r).primary r.spare bare.primary
+        bare.inward_primary s

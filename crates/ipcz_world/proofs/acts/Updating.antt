@@ -1,4 +1,20 @@
 -- What a node computes, as updates of the world: the acts of routers, and the hands.
+use Rattle.std.specs.Prelude.{Bool, false, if◌then◌else◌}
+use Rattle.ipcz_base.specs.declared.message.Message.TheVariants as messages
+use Rattle.ipcz_router.specs.Calls.{next_number}
+use Rattle.ipcz_router.specs.ActEffects.{retire_output}
+use Rattle.ipcz_node.specs.Sends.{send_item, post_item, move_ends}
+use Rattle.ipcz_world.proofs.Vocabulary.{opposite}
+use Rattle.ipcz_world.specs.Acts.{retire_act}
+use Rattle.std.specs.Prelude.{◌++◌}
+use Rattle.ipcz_base.specs.declared.item.Item.TheVariants.{Gone}
+use Rattle.ipcz_router.specs.Acts.{has_gone_next, item_passes}
+use Rattle.ipcz_router.specs.ActEffects.{discard_output}
+use Rattle.ipcz_node.specs.Node.{without_router}
+use Rattle.ipcz_world.proofs.Vocabulary.{End, current_item}
+use Rattle.ipcz_world.specs.Acts.{discard_leave_act}
+use Rattle.ipcz_world.proofs.facts.Drained.{gone_next-tells}
+use Rattle.ipcz_router.specs.ActEffects.{leaves_by}
 use Rattle.ipcz_world.specs.WordAnswers.{source_for}
 use Rattle.std.specs.Prelude.{◌≡◌, ℕ, zero, suc, true, nat_eq, Some, None, List, [], ◌∷◌, refl}
 use Rattle.std.proofs.Common.{arith, ap, ◌∙◌, sym}
@@ -43,17 +59,31 @@ push-set_node w n x to m = ap (λ z. set_node (set_node w n x) n (push_out z to 
 
 pub acted-leave : (w : World) (n s : ℕ) (r : Router) → router_at w (record { node = n; serial = s }) ≡ Some r →
     after_act w n (OfRouter s acts.Leave) ≡ leave_act w (record { node = n; serial = s })
-unfolding after_act after_router_act touch commit on_router commit_router keep_or_drop apply output_of send router_at
+unfolding after_act after_router_act touch commit on_router commit_router keep_or_drop leaves_by apply output_of send router_at
 acted-leave w n s r here = let inside : router_in (node_at w n) s ≡ Some r = here in rw (here, inside) refl
+
+and_none : (es : List End) → es ++ [] ≡ es
+and_none [] = refl
+and_none (e ∷ es) = ap (λ t. e ∷ t) (and_none es)
+
+-- a sink that drops Gone leaves
+pub acted-discard_leave : (w : World) (n s : ℕ) (r : Router) → router_at w (record { node = n; serial = s }) ≡ Some r →
+    has_gone_next r ≡ true → after_act w n (OfRouter s acts.Discard) ≡ discard_leave_act w (record { node = n; serial = s })
+unfolding after_act after_router_act touch commit on_router commit_router keep_or_drop leaves_by apply output_of discard_output send router_at
+    item_passes
+acted-discard_leave w n s r here next =
+    let inside : router_in (node_at w n) s ≡ Some r = here in
+    let at : current_item r.in_queue ≡ Some Gone = gone_next-tells r next in
+    rw (here, inside, at) (ap (λ ps. set_node w n (record (without_router (node_at w n) s) { pending = ps })) (and_none (node_at w n).pending))
 
 pub acted-finish_out : (w : World) (n s : ℕ) (r : Router) → router_at w (record { node = n; serial = s }) ≡ Some r →
     after_act w n (OfRouter s acts.FinishOut) ≡ finish_out_act w (record { node = n; serial = s }) r
-unfolding after_act after_router_act touch commit on_router commit_router keep_or_drop apply output_of send router_at
+unfolding after_act after_router_act touch commit on_router commit_router keep_or_drop leaves_by apply output_of send router_at
 acted-finish_out w n s r here = let inside : router_in (node_at w n) s ≡ Some r = here in rw (here, inside) refl
 
 pub acted-finish_in : (w : World) (n s : ℕ) (r : Router) → router_at w (record { node = n; serial = s }) ≡ Some r →
     after_act w n (OfRouter s acts.FinishIn) ≡ finish_in_act w (record { node = n; serial = s }) r
-unfolding after_act after_router_act touch commit on_router commit_router keep_or_drop apply output_of send router_at
+unfolding after_act after_router_act touch commit on_router commit_router keep_or_drop leaves_by apply output_of send router_at
 acted-finish_in w n s r here = let inside : router_in (node_at w n) s ≡ Some r = here in rw (here, inside) refl
 
 -- a word that changes after a message more, or before
@@ -67,7 +97,7 @@ wake_computed : (w : World) (n s i : ℕ) (r : Router) (e : LinkEnd) → router_
     after_act w n (OfRouter s acts.Wake) ≡ set_word (set_node w n
     (push_out (with_router (node_at w n) s (wake_other r)) e.other (tells_wake e))) i
     (woken (word_at w i) r.end.side)
-unfolding after_act after_router_act touch touch_word word_after commit on_router commit_router keep_or_drop apply output_of message_output
+unfolding after_act after_router_act touch touch_word word_after commit on_router commit_router keep_or_drop leaves_by apply output_of message_output
     flush_message send router_at set_word set_node
 wake_computed w n s i r e here word on = let inside : router_in (node_at w n) s ≡ Some r = here in rw (here, inside, word, on) refl
 
@@ -101,3 +131,24 @@ handed-is w n from m x fit is hand =
     let own : nat_eq from from ≡ true = grind (arith, nat_tests) in
     let freed_hand : free_hand x from ≡ record x { hand = None } = rw (hand, own) refl in
     rw (fit, is) (ap (λ z. set_mail (set_node w n z) (way w from n) mails.Empty) freed_hand ∙ sym (freed w n from x))
+
+-- a sink that retires
+pub acted-retire : (w : World) (n s : ℕ) (r : Router) (e : LinkEnd) → router_at w (record { node = n; serial = s }) ≡ Some r →
+    r.outward.primary ≡ Some e → after_act w n (OfRouter s acts.Retire) ≡ retire_act w (record { node = n; serial = s }) e (next_number r)
+unfolding after_act after_router_act touch commit on_router commit_router keep_or_drop leaves_by apply output_of retire_output send send_item
+    router_at
+acted-retire w n s r e here primary = let inside : router_in (node_at w n) s ≡ Some r = here in
+    rw (here, inside, primary) (go (nat_eq e.other (node_at w n).number)) ∙
+    sym (ap (λ x. set_node (set_node w n left) n (push_out x e.other m))
+    (node-here w n left) ∙ set-twice w n left (push_out left e.other m))
+  where
+    left : Node
+    left = without_router (node_at w n) s
+
+    m : Message
+    m = messages.Item e.link (opposite e.side) (next_number r) Gone []
+
+    go : (c : Bool) → set_node w n (post_item (move_ends (record { node = left; moves = [] }) e.other (if c then [] else [])) e (next_number r) Gone)
+        ≡ set_node w n (push_out left e.other m)
+    go true = refl
+    go false = refl

@@ -1,4 +1,6 @@
 -- A wake keeps the invariant, and so does the hand of the Flush that it sends, whether a router has the link or not.
+use Rattle.ipcz_world.proofs.frames.GivingUp.{stays_bare}
+use Rattle.ipcz_world.proofs.Vocabulary.{A, B}
 use Rattle.ipcz_world.proofs.frames.Frames.{router-set_word}
 use Rattle.ipcz_world.specs.WordAnswers.{source_for}
 use Rattle.ipcz_world.proofs.frames.Sourcing.{sourced-by, had-itself}
@@ -49,8 +51,9 @@ word-waits w g i x linked stable holder source law = record {
   unused = λ j h. grind (arith, word j, law.unused j h, nat_tests, h, linked);
   begun_stable = λ j s h. says_stable j s ∙ law.begun_stable j s h;
   begun_holder = λ j s h. says_holder j s ∙ law.begun_holder j s h;
-  stable = λ j s a b. says_stable j s ∙ law.stable j s a b ∙ sym (known (side_router g (Central j) s) _);
-  holder = λ j s a b. says_holder j s ∙ law.holder j s a b ∙ sym (known (side_router g (Central j) s) _);
+  stable = λ j s a b n. says_stable j s ∙ law.stable j s a b n ∙ sym (known (side_router g (Central j) s) _);
+  holder = λ j s a b n. says_holder j s ∙ law.holder j s a b n ∙ sym (known (side_router g (Central j) s) _);
+  left_held = λ j s h. rw (says_holder j A, says_holder j B) (law.left_held j s h);
   held_stable = λ j s t h. says_stable j t ∙ law.held_stable j s t (sym (says_holder j s) ∙ h);
   one_holder = λ j s t a b. law.one_holder j s t (sym (says_holder j s) ∙ a) (sym (says_holder j t) ∙ b);
   source = sourced-by w (set_word w i x) (λ q z at h. had-itself w q z (sym (router-set_word w i x q) ∙ at))
@@ -78,17 +81,17 @@ word-waits w g i x linked stable holder source law = record {
 inv-waits : (w : World) (b : Books) (g : Records) (k : Key) (r y : Router) (i : ℕ) (x : Word) → Inv w b g → router_at w k ≡ Some r →
     primary_word r ≡ Some i → IsFlagged r y → HasSameFlags r y → x.stable ≡ (word_at w i).stable → x.holder ≡ (word_at w i).holder →
     x.source ≡ (word_at w i).source → Inv (set_word (set_router w k y) i x) b g
-inv-waits w b g k r y i x law here at same flags stable holder source = inv-flags w v b g k r (Some y) gives settled law (record {
+inv-waits w b g k r y i x law here at same flags stable holder source = inv-flags w v b g k r (Some y) gives (stays_bare r y) settled law (record {
   counts = counts-gives w v g k r (Some y) gives (claimed-set_word u i x ∙ claimed-set_node w k.node _) law.counts;
   shape = shape-touched w v k r y law.shape here one same shaped;
   words = word-waits u g i x on.linked (grind (arith, stable, word-set_node w k.node (with_router (node_at w k.node) k.serial y) i))
       (grind (arith, holder, word-set_node w k.node (with_router (node_at w k.node) k.serial y) i))
       (grind (arith, source, word-set_node w k.node (with_router (node_at w k.node) k.serial y) i))
       (words-gives w u g k r (Some y) (stays w u k r y (set-router w k y) here (flagged-part r y same))
-      (keeps_all w u r y (words-set_router w k y) flags) law.stands law.words);
+      (stays_bare r y) (keeps_all w u r y (words-set_router w k y) flags) law.stands law.words);
   spares = spares-gives w v g k r (Some y) gives (λ z e. ap (λ t. t.spare) (sym (same_Some y z e)) ∙ flags.spare)
       (λ e. absurd (none-some y (sym e))) law.spares;
-  stages = stages-flags w v g k r (Some y) gives settled law.stages
+  stages = stages-flags w v g k r (Some y) gives (stays_bare r y) settled law.stages
       (λ o a c. passes-still gives _ _ (law.stages.across_marked o a c) (λ e t. grind (arith, standing_rules, flags.marked, t)))
       (λ o a c. passes-still gives _ _ (law.stages.across_free o a c) (λ e t. grind (arith, standing_rules, flags.holds, t)));
 })
@@ -117,7 +120,7 @@ inv-waits w b g k r y i x law here at same flags stable holder source = inv-flag
       central = λ h. law.shape.marked_central k r here (sym flags.marked ∙ h);
       still = λ h. law.shape.marked_still k r here (sym flags.marked ∙ h);
       marked = λ h. flags.marked ∙ law.shape.holds_marked k r here (sym flags.holds ∙ h);
-      proxy = λ h. law.shape.holds_proxy k r here (sym flags.holds ∙ h);
+      fit = λ h. law.shape.holds_fit k r here (sym flags.holds ∙ h);
       word = λ h. law.shape.holds_spare k r here (sym flags.holds ∙ h);
     }
 
@@ -188,7 +191,7 @@ inv-wake w b g k r i e law can at = inv-push_flush v b g k.node e.other e.link (
     v = set_word (set_router w k y) i (woken (word_at w i) r.end.side)
 
     flagged : IsFlagged r y
-    flagged = record { end = refl; outward = refl; inward = refl; out_queue = refl; in_queue = refl; closed = refl; mark_seen = refl }
+    flagged = record { end = refl; outward = refl; inward = refl; out_queue = refl; in_queue = refl; closed = refl; mark_seen = refl; mark_dropped = refl; gone_sent = refl }
 
     sent : Inv v b g
     sent = inv-waits w b g k r y i (woken (word_at w i) r.end.side) law can.here can.word flagged
@@ -330,7 +333,7 @@ inv-flush w b g from k r l s law can = inv-flush_lost u b g from k.node l s rous
 
     roused_there : Inv u b g
     roused_there = inv-flagged w u b g k r y law can.here (set-router w k y) (words-set_router w k y)
-        (record { end = refl; outward = refl; inward = refl; out_queue = refl; in_queue = refl; closed = refl; mark_seen = refl })
+        (record { end = refl; outward = refl; inward = refl; out_queue = refl; in_queue = refl; closed = refl; mark_seen = refl; mark_dropped = refl; gone_sent = refl })
         (record { spare = refl; marked = refl; holds = refl })
 
     there : router_at u k ≡ Some y

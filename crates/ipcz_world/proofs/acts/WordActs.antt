@@ -1,4 +1,6 @@
 -- The acts on words: a mark, a try for the lock, and its return keep the invariant.
+use Rattle.ipcz_world.proofs.views.LeftSides.{not_left}
+use Rattle.ipcz_world.specs.Records.{is_left}
 use Rattle.ipcz_router.specs.Router.{source_of}
 use Rattle.std.specs.Prelude.{◌≡◌, ◌⊎◌, ◌≤◌, ℕ, Bool, true, false, cond, nat_eq, Some, refl}
 use Rattle.std.proofs.Common.{arith, sym, ◌∙◌, ap, inl, inr}
@@ -59,9 +61,12 @@ pub record Says (x : Word) (r : Router) : Type 0 where
 pub word-says : (w : World) (b : Books) (g : Records) (k : Key) (r : Router) (i : ℕ) → Inv w b g → router_at w k ≡ Some r →
     OnWord w g k r i → is_begun (g.bypass i) ≡ false → Says (word_at w i) r
 word-says w b g k r i law here on live = record {
-  stable = law.words.stable i r.end.side on.linked live ∙ grind (arith, standing_rules, on.known, here);
-  holder = law.words.holder i r.end.side on.linked live ∙ grind (arith, standing_rules, on.known, here);
+  stable = law.words.stable i r.end.side on.linked live here_still ∙ grind (arith, standing_rules, on.known, here);
+  holder = law.words.holder i r.end.side on.linked live here_still ∙ grind (arith, standing_rules, on.known, here);
 }
+  where
+    here_still : is_left g (Central i) r.end.side ≡ false
+    here_still = not_left w g (Central i) r.end.side k r law.stands on.known here
 
 -- a router that holds the lock has the word name the node inward of it
 pub had_source : (w : World) (b : Books) (g : Records) (k : Key) (r : Router) (i : ℕ) → Inv w b g → router_at w k ≡ Some r →
@@ -91,7 +96,7 @@ inv-mark w b g k r i law can =
     says = word-says w b g k r i law can.here on live
 
     flagged : IsFlagged r y
-    flagged = record { end = refl; outward = refl; inward = refl; out_queue = refl; in_queue = refl; closed = refl; mark_seen = refl }
+    flagged = record { end = refl; outward = refl; inward = refl; out_queue = refl; in_queue = refl; closed = refl; mark_seen = refl; mark_dropped = refl; gone_sent = refl }
 
     shaped : IsShaped r y
     shaped = record {
@@ -99,7 +104,7 @@ inv-mark w b g k r i law can =
       central = λ h. grind (arith, can.possible);
       still = λ h. grind (arith, can.possible);
       marked = λ h. refl;
-      proxy = law.shape.holds_proxy k r can.here;
+      fit = law.shape.holds_fit k r can.here;
       word = law.shape.holds_spare k r can.here;
     }
 
@@ -147,7 +152,7 @@ inv-unlock w b g k r i law can =
     says = word-says w b g k r i law can.here on live
 
     flagged : IsFlagged r y
-    flagged = record { end = refl; outward = refl; inward = refl; out_queue = refl; in_queue = refl; closed = refl; mark_seen = refl }
+    flagged = record { end = refl; outward = refl; inward = refl; out_queue = refl; in_queue = refl; closed = refl; mark_seen = refl; mark_dropped = refl; gone_sent = refl }
 
     shaped : IsShaped r y
     shaped = record {
@@ -155,8 +160,8 @@ inv-unlock w b g k r i law can =
       central = law.shape.marked_central k r can.here;
       still = law.shape.marked_still k r can.here;
       marked = λ h. absurd (grind (arith, h));
-      proxy = λ h. absurd (grind (arith, h));
-      word = λ h. absurd (grind (arith, h));
+      fit = λ h. absurd (grind (arith, h));
+      word = λ h p. absurd (grind (arith, h));
     }
 
     touches : Touches (word_at w i) x y
@@ -240,7 +245,7 @@ inv-lock w b g k r i Refuses law can planned = inv-flagged w (lock_act w k r i R
     }
 
     flagged : IsFlagged r (fail_lock r)
-    flagged = record { end = refl; outward = refl; inward = refl; out_queue = refl; in_queue = refl; closed = refl; mark_seen = refl }
+    flagged = record { end = refl; outward = refl; inward = refl; out_queue = refl; in_queue = refl; closed = refl; mark_seen = refl; mark_dropped = refl; gone_sent = refl }
 inv-lock w b g k r i Waits law can planned =
     inv-touched w (lock_act w k r i Waits) b g k r (fail_lock r) i x law can.here can.word live (set-both w k (fail_lock r) i x)
     (claimed-both w k (fail_lock r) i x) flagged (word-both w k (fail_lock r) i x) shaped touches
@@ -258,7 +263,7 @@ inv-lock w b g k r i Waits law can planned =
     says = word-says w b g k r i law can.here on live
 
     flagged : IsFlagged r (fail_lock r)
-    flagged = record { end = refl; outward = refl; inward = refl; out_queue = refl; in_queue = refl; closed = refl; mark_seen = refl }
+    flagged = record { end = refl; outward = refl; inward = refl; out_queue = refl; in_queue = refl; closed = refl; mark_seen = refl; mark_dropped = refl; gone_sent = refl }
 
     shaped : IsShaped r (fail_lock r)
     shaped = record {
@@ -266,7 +271,7 @@ inv-lock w b g k r i Waits law can planned =
       central = law.shape.marked_central k r can.here;
       still = law.shape.marked_still k r can.here;
       marked = law.shape.holds_marked k r can.here;
-      proxy = law.shape.holds_proxy k r can.here;
+      fit = law.shape.holds_fit k r can.here;
       word = law.shape.holds_spare k r can.here;
     }
 
@@ -301,7 +306,7 @@ inv-lock w b g k r i Locks law can planned =
     says = word-says w b g k r i law can.here on live
 
     flagged : IsFlagged r (take_lock r)
-    flagged = record { end = refl; outward = refl; inward = refl; out_queue = refl; in_queue = refl; closed = refl; mark_seen = refl }
+    flagged = record { end = refl; outward = refl; inward = refl; out_queue = refl; in_queue = refl; closed = refl; mark_seen = refl; mark_dropped = refl; gone_sent = refl }
 
     shaped : IsShaped r (take_lock r)
     shaped = record {
@@ -309,8 +314,8 @@ inv-lock w b g k r i Locks law can planned =
       central = law.shape.marked_central k r can.here;
       still = law.shape.marked_still k r can.here;
       marked = λ h. sym says.stable ∙ free.mine;
-      proxy = λ h. grind (arith, can.possible);
-      word = λ h. grind (arith, can.possible);
+      fit = λ h. grind (arith, can.possible);
+      word = λ h p. grind (arith, can.possible, p);
     }
 
     touches : Touches (word_at w i) x (take_lock r)

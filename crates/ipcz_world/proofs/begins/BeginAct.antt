@@ -1,5 +1,6 @@
 -- A bypass begins: the invariant is kept, every begin that is possible is one of these, and a node's begin is this update.
-use Rattle.ipcz_world.proofs.begins.BegunStages.{live-begun}
+use Rattle.ipcz_router.specs.ActEffects.{leaves_by}
+use Rattle.ipcz_world.proofs.begins.BegunStages.{live-begun, retired-begun, gones-begun}
 use Rattle.std.specs.Prelude.{◌≡◌, ◌<◌, ℕ, Option, Some, None, refl}
 use Rattle.std.proofs.Common.{arith, sym, ◌∙◌, ap, subst}
 use Rattle.ipcz_world.proofs.Vocabulary.{B, LinkId, Central, Peripheral, LinkEnd, word_of, Router, inward_edge, is_possible, output_of}
@@ -48,6 +49,8 @@ inv-begin w b g k r p into out o fresh law can = record {
   terminals = terminals-begun law is c new;
   end_places = end_places-begun law is c new;
   books_kept = books-begun law is c new;
+  retired_ends = retired-begun law is c new;
+  gones = gones-begun law is c new;
   items = items-begun law is c new;
   order = order-begun law is c new;
   proxy_numbers = proxy_numbers-begun law is c new;
@@ -114,7 +117,7 @@ begin-sends w k r p into out o fresh can = rw (can.inner, can.outer, can.spare) 
 pub acted-begin : (w : World) (n s : ℕ) (r : Router) (p : Key) (into out : LinkEnd) (o fresh : ℕ) →
     CanBegin w (record { node = n; serial = s }) r p into out o fresh →
     after_act w n (OfRouter s acts.Begin) ≡ begin_act w (record { node = n; serial = s }) r into out o fresh
-unfolding after_act after_router_act touch commit on_router commit_router keep_or_drop apply send router_at
+unfolding after_act after_router_act touch commit on_router commit_router keep_or_drop leaves_by apply send router_at
 acted-begin w n s r p into out o fresh can =
     let inside : router_in (node_at w n) s ≡ Some r = can.here in
     rw (can.here, inside) (ap (λ a. set_node w n (send (with_router (node_at w n) s (begin_bypass r)) a))

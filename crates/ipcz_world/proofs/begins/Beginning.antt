@@ -1,4 +1,6 @@
 -- A bypass begins: what it rests on, and what the records say after it.
+use Rattle.ipcz_world.specs.Records.{is_left}
+use Rattle.ipcz_world.proofs.views.LeftSides.{not_left, held_stays}
 use Rattle.std.specs.Prelude.{option_map}
 use Rattle.std.specs.Prelude.{◌≡◌, ◌⊎◌, ℕ, true, false, Option, Some, None, is_some, refl}
 use Rattle.std.proofs.Common.{arith, sym, ◌∙◌, ap, inl, inr}
@@ -73,8 +75,8 @@ is_nothing (Some x) e = absurd (grind (arith, e))
 
 -- both sides of a held link stand, marked, and only one holds it
 across-of : (w : World) (b : Books) (g : Records) (o : ℕ) (t s : Side) → Inv w b g → is_linked (g.owner o) ≡ true →
-    is_begun (g.bypass o) ≡ false → has (word_at w o).holder t ≡ true → (s ≡ t → ⊥) → HasAcross w g o s
-across-of w b g o t s law linked live held apart = go (side_router g (Central o) s) refl
+    is_begun (g.bypass o) ≡ false → has (word_at w o).holder t ≡ true → is_left g (Central o) s ≡ false → (s ≡ t → ⊥) → HasAcross w g o s
+across-of w b g o t s law linked live held still apart = go (side_router g (Central o) s) refl
   where
     stable : has (word_at w o).stable s ≡ true
     stable = law.words.held_stable o t s held
@@ -83,19 +85,19 @@ across-of w b g o t s law linked live held apart = go (side_router g (Central o)
     free = not_true _ (λ h. apart (law.words.one_holder o s t h held))
 
     at : (q : Key) → side_router g (Central o) s ≡ Some q → (x : Option Router) → router_at w q ≡ x → HasAcross w g o s
-    at q e None f = absurd (grind (arith, standing_rules, law.words.stable o s linked live, stable, e, f))
+    at q e None f = absurd (grind (arith, standing_rules, law.words.stable o s linked live still, stable, e, f))
     at q e (Some z) f = record {
       key = q;
       router = z;
       known = e;
       at = f;
-      primary = grind (arith, standing_rules, law.stands.central o s q linked live e, f);
-      marked = grind (arith, standing_rules, law.words.stable o s linked live, stable, e, f);
-      free = grind (arith, standing_rules, law.words.holder o s linked live, free, e, f);
+      primary = grind (arith, standing_rules, law.stands.central o s q linked live still e, f);
+      marked = grind (arith, standing_rules, law.words.stable o s linked live still, stable, e, f);
+      free = grind (arith, standing_rules, law.words.holder o s linked live still, free, e, f);
     }
 
     go : (q : Option Key) → side_router g (Central o) s ≡ q → HasAcross w g o s
-    go None e = absurd (grind (arith, standing_rules, law.words.stable o s linked live, stable, e))
+    go None e = absurd (grind (arith, standing_rules, law.words.stable o s linked live still, stable, e))
     go (Some q) e = at q e (router_at w q) refl
 
 pub begins-of : (w : World) (b : Books) (g : Records) (k : Key) (r : Router) (p : Key) (inner outer : LinkEnd) (o fresh : ℕ) → Inv w b g →
@@ -128,6 +130,7 @@ begins-of w b g k r p inner outer o fresh law can = record {
   live = live;
   owner = law.spares.spare k r fresh can.here can.spare;
   across = across-of w b g o r.end.side (opposite r.end.side) law on.linked live held
+      (held_stays w g o r.end.side (opposite r.end.side) law.words held (not_left w g (Central o) r.end.side k r law.stands on.known can.here))
       (λ e. grind (arith, same_side-opposite r.end.side, same_side-itself r.end.side, e));
   stable = λ s. law.words.held_stable o r.end.side s held;
   holder = holder;

@@ -1,4 +1,10 @@
 -- A proxy begins: what it was and is, and what the records say of the links around it before and after.
+use Rattle.ipcz_world.proofs.facts.Lengths.{same_side-itself}
+use Rattle.ipcz_world.proofs.Vocabulary.{End, opposite_end, side_end}
+use Rattle.ipcz_world.specs.Records.{is_left}
+use Rattle.ipcz_world.specs.Books.{is_retired}
+use Rattle.ipcz_base.specs.Ends as ends
+use Rattle.ipcz_world.proofs.views.LeftSides.{not_left, held_unretired}
 use Rattle.std.specs.Prelude.{◌≡◌, ◌≢◌, ◌⊎◌, ℕ, Bool, true, false, cond, nat_eq, Option, Some, None, is_some, refl}
 use Rattle.std.proofs.Common.{arith, sym, ◌∙◌, ap, inl, inr}
 use Rattle.std.proofs.lemmas.Bool.Decides.{nat_tests}
@@ -28,6 +34,8 @@ pub record IsBegunFrom (r y : Router) (into out : LinkEnd) : Type 0 where
   pub marked : y.marked ≡ false
   pub holds : y.holds ≡ false
   pub mark_seen : y.mark_seen ≡ r.mark_seen
+  pub mark_dropped : y.mark_dropped ≡ r.mark_dropped
+  pub gone_sent : y.gone_sent ≡ r.gone_sent
   pub primary : y.outward.primary ≡ None
   pub decaying : y.outward.decaying ≡ Some out
   pub length_to : y.outward.length_to ≡ None
@@ -53,6 +61,8 @@ begun-from {r = r} {into = into} {out = out} is = go r.inward refl
       marked = refl;
       holds = refl;
       mark_seen = refl;
+      mark_dropped = refl;
+      gone_sent = refl;
       primary = refl;
       decaying = is.outer;
       length_to = refl;
@@ -77,6 +87,35 @@ module _ {w v : World} {b : Books} {g : Records} {k : Key} {r y : Router} {p : K
           ((router_at w q ≡ Some z) × (q ≢ k)) ⊎ ((q ≡ k) × (z ≡ y))
       go (inl e) = inr (e.1, grind (arith, e, c.routers q, at))
       go (inr e) = inl (grind (arith, e, c.routers q, at), e.1)
+
+  -- no end of its pair has retired, since it holds the lock
+  pub unretired : (s : Side) → is_retired b (ends.end_at r.end.pair s) ≡ false
+  unretired s = ap (λ n. is_retired b (ends.end_at n s)) (sym is.pair) ∙ held_unretired w b g o r.end.side law.words law.retired_ends
+      (is.holder r.end.side ∙ same_side-itself r.end.side) (not_left w g (Central o) r.end.side k r law.stands is.known is.here) is.linked
+      is.live s
+
+  pub unretired_end : (e : End) → e.pair ≡ r.end.pair → is_retired b e ≡ false
+  unretired_end e p = ap (λ n. is_retired b (ends.end_at n e.side)) p ∙ unretired e.side
+
+  -- none of its links has a side that was left
+  pub none_left : (l : LinkId) (s : Side) → (side_end g l s).pair ≡ r.end.pair → is_left g l s ≡ false
+  none_left l s p = go (is_left g l s) refl
+    where
+      go : (c : Bool) → is_left g l s ≡ c → c ≡ false
+      go false e = refl
+      go true e = sym (law.retired_ends.left_of l s e) ∙ rw (unretired_end (side_end g l s) p, unretired_end (opposite_end (side_end g l s)) p) refl
+
+  pub inner_unleft : is_left g (inner_link p) B ≡ false
+  unfolding side_end
+  inner_unleft = none_left (inner_link p) B (ap (λ e. e.pair) is.inner_end)
+
+  pub central_unleft : (i : ℕ) (s : Side) → (g.central i).pair ≡ r.end.pair → is_left g (Central i) s ≡ false
+  unfolding side_end
+  central_unleft i s p = none_left (Central i) s p
+
+  -- so it hasn't sent Gone
+  pub unsent : {X : Type 0} → r.gone_sent ≡ true → X
+  unsent h = let t = law.gones.sent k r is.here h in absurd (grind (arith, t.0, unretired_end (opposite_end r.end) refl))
 
   pub rec-begun : (l : LinkId) → is_recorded v after l ≡ is_recorded w g l
   unfolding is_recorded

@@ -1,4 +1,5 @@
 -- A proxy begins: its links decay, as their records and the bypass say; the counters go on.
+use Rattle.ipcz_world.proofs.begins.BegunAround.{unsent}
 use Rattle.std.specs.Prelude.{◌≡◌, ◌≢◌, ◌⊎◌, ◌≤◌, ℕ, ◌+◌, ◌*◌, Bool, true, false, nat_eq, Some, None, is_some, refl}
 use Rattle.std.proofs.Common.{arith, sym, ◌∙◌, ap, subst, inl, inr}
 use Rattle.std.proofs.lemmas.Bool.Decides.{nat_tests}
@@ -91,10 +92,18 @@ module _ {w v : World} {b : Books} {g : Records} {k : Key} {r y : Router} {p : K
       | inr e ↦ absurd
           (grind (arith, e.1, new.holds, n))
     ];
-    holds_proxy = λ q z at n. elim (before q z at) [
-      | inl e ↦ law.shape.holds_proxy q z e.0 n
+    holds_fit = λ q z at n. elim (before q z at) [
+      | inl e ↦ law.shape.holds_fit q z e.0 n
       | inr e ↦ absurd
           (grind (arith, e.1, new.holds, n))
+    ];
+    dropped_sink = λ q z at n. elim (before q z at) [
+      | inl e ↦ law.shape.dropped_sink q z e.0 n
+      | inr e ↦ absurd (grind (arith, law.shape.dropped_sink k r is.here (sym new.mark_dropped ∙ ap (λ t. t.mark_dropped) (sym e.1) ∙ n), is.proxy))
+    ];
+    sent_proxy = λ q z at n. elim (before q z at) [
+      | inl e ↦ law.shape.sent_proxy q z e.0 n
+      | inr e ↦ unsent law is c new (sym new.gone_sent ∙ ap (λ t. t.gone_sent) (sym e.1) ∙ n)
     ];
     holds_spare = λ q z at n. elim (before q z at) [
       | inl e ↦ law.shape.holds_spare q z e.0 n

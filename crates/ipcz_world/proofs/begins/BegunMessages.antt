@@ -1,4 +1,5 @@
 -- A proxy begins: its message is the one of the first stage, and the messages of the other bypasses are as they were.
+use Rattle.ipcz_world.specs.Records.{Retired}
 use Rattle.std.specs.Prelude.{◌≡◌, ◌≤◌, ℕ, ◌+◌, Bool, true, false, cond, nat_eq, Option, Some, None, is_some, slice_get, refl}
 use Rattle.std.proofs.Common.{arith, sym, ◌∙◌, ap, subst, inl, inr}
 use Rattle.std.proofs.lemmas.Bool.Decides.{nat_tests}
@@ -182,6 +183,7 @@ module _ {w v : World} {b : Books} {g : Records} {k : Key} {r y : Router} {p : K
               descriptor : (t : Terminal) → g.terminal (g.peripheral p).end ≡ t →
                   is_made_by (inner_link p) B (flow w k.node into.other) ≡ true
               descriptor Nowhere e = absurd (none-some (inner_link p) (ap moving_link (sym e) ∙ moving))
+              descriptor Retired e = absurd (none-some (inner_link p) (ap moving_link (sym e) ∙ moving))
               descriptor (At q) e = absurd (none-some (inner_link p) (ap moving_link (sym e) ∙ moving))
               descriptor (Moving d) e = carried (found (λ from to m. total_list (of_end (g.peripheral p).end weigh) (moves_of m)) w
                   (omega (arith, law.moves.one (g.peripheral p).end weigh, ap (move_weight weigh) e, weighs)))

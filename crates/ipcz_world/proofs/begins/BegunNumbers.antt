@@ -1,4 +1,7 @@
 -- A proxy begins: no item moves, so numbers and places are as they were.
+use Rattle.std.specs.Prelude.{◌||◌}
+use Rattle.ipcz_world.specs.Records.{is_left}
+use Rattle.ipcz_world.proofs.begins.BegunRecords.{left-begun}
 use Rattle.ipcz_world.proofs.weights.OfRecords.{holds, held_times, source, in_message, in_node, in_places}
 use Rattle.ipcz_world.proofs.Vocabulary.{Weight, in_router, at_end, names_end, times, Side, A, B, End, LinkId, Central, Peripheral}
 use Rattle.ipcz_world.proofs.Vocabulary.{LinkEnd, Descriptor, Item, Message, opposite, same_end, has_end, opposite_end, has_link}
@@ -201,6 +204,8 @@ module _ {w v : World} {b : Books} {g : Records} {k : Key} {r y : Router} {p : K
   books-begun = record {
     own_pair = law.books_kept.own_pair;
     mark_last = law.books_kept.mark_last;
+    gone_last = law.books_kept.gone_last;
+    retired_closed = law.books_kept.retired_closed;
     numbers = law.books_kept.numbers;
     mark_seen = λ q z at e. elim (was_there q z at) [
       | inl a ↦ law.books_kept.mark_seen q z a.0 e
@@ -300,7 +305,8 @@ module _ {w v : World} {b : Books} {g : Records} {k : Key} {r y : Router} {p : K
     by_sender = λ from to i l s n item moves u. item-came from to i l s n item moves u
         (λ e. sent-same l (opposite s) ∙ law.items.by_sender from to e.at l s n item moves e.was);
     sender_gone = λ from to i l s n item moves u f. item-came from to i l s n item moves u
-        (λ e. ap is_some (len l (opposite s)) ∙ law.items.sender_gone from to e.at l s n item moves e.was
+        (λ e. ap (λ z. is_some z || is_left after l (opposite s)) (len l (opposite s)) ∙
+        ap (λ z. is_some (side_length g l (opposite s)) || z) (left-begun g k o fresh p l (opposite s)) ∙ law.items.sender_gone from to e.at l s n item moves e.was
         (sym (gone-same l (opposite s)) ∙ f));
     not_passed = λ from to i l s n item moves q u f. item-came from to i l s n item moves u
         (λ e. law.items.not_passed from to e.at l s n item moves q e.was (sym (taking-same l s) ∙ f));

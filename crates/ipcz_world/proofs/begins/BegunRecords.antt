@@ -1,4 +1,6 @@
 -- The records after a bypass has begun, against those before.
+use Rattle.ipcz_word.specs.SideSets.{has}
+use Rattle.ipcz_world.specs.Records.{is_left}
 use Rattle.ipcz_world.specs.Routes.{source as source'}
 use Rattle.std.specs.Prelude.{◌≡◌, ◌≢◌, ◌⊎◌, ℕ, Bool, true, false, cond, nat_eq, Option, Some, None, refl}
 use Rattle.std.proofs.Common.{arith, sym, ap, subst, inl, inr}
@@ -22,8 +24,17 @@ pub inner_router : (g : Records) (k : Key) (o fresh : ℕ) (p q : Key) →
     ((begin_records g k o fresh p).peripheral q).router ≡ (g.peripheral q).router
 inner_router g k o fresh p q = grind (arith, same_key_tells q p)
 
+left_at : (g : Records) (k : Key) (o fresh : ℕ) (p q : Key) → ((begin_records g k o fresh p).peripheral q).left ≡ (g.peripheral q).left
+left_at g k o fresh p q = grind (arith, same_key_tells q p)
+
 pub end_at : (g : Records) (k : Key) (o fresh : ℕ) (p q : Key) → ((begin_records g k o fresh p).peripheral q).end ≡ (g.peripheral q).end
 end_at g k o fresh p q = grind (arith, same_key_tells q p)
+
+pub left-begun : (g : Records) (k : Key) (o fresh : ℕ) (p : Key) (l : LinkId) (s : Side) →
+    is_left (begin_records g k o fresh p) l s ≡ is_left g l s
+unfolding is_left
+left-begun g k o fresh p (Central i) s = refl
+left-begun g k o fresh p (Peripheral n x) s = ap (λ z. has z s) (left_at g k o fresh p (record { node = n; serial = x }))
 
 pub router-begun : (g : Records) (k : Key) (o fresh : ℕ) (p : Key) (l : LinkId) (s : Side) →
     side_router (begin_records g k o fresh p) l s ≡ side_router g l s

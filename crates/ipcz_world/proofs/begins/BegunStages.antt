@@ -1,4 +1,14 @@
 -- A proxy begins: who stands where, the words, and the bypass at its first stage.
+use Rattle.ipcz_base.specs.Ends as ends
+use Rattle.ipcz_base.specs.Ends.{opposite_end}
+use Rattle.ipcz_world.proofs.frames.RecordRules.{bypass_of-inner}
+use Rattle.ipcz_world.proofs.Vocabulary.{Peripheral, bypass_of, is_terminal}
+use Rattle.ipcz_world.specs.Books.{is_retired, is_closed}
+use Rattle.ipcz_world.specs.Whereabouts.{RetiredEnds, Gones}
+use Rattle.ipcz_world.specs.Records.{is_left}
+use Rattle.ipcz_world.proofs.views.LeftSides.{not_left}
+use Rattle.ipcz_world.proofs.begins.BegunRecords.{left-begun}
+use Rattle.ipcz_world.proofs.begins.BegunAround.{none_left, central_unleft, inner_unleft, unretired, unsent, by-central}
 use Rattle.ipcz_world.proofs.frames.LiveLinks.{same_word}
 use Rattle.ipcz_world.specs.Bypasses.{LiveLinks}
 use Rattle.std.proofs.Common.{true≢false}
@@ -25,6 +35,10 @@ use Rattle.ipcz_world.proofs.begins.BegunRecords.{router-begun, node-begun, end-
 use Rattle.ipcz_world.proofs.begins.BegunRecords.{side-begun, by-inner, end_at}
 use Rattle.ipcz_world.proofs.begins.BegunWorld.{Sends}
 use Rattle.ipcz_world.proofs.begins.BegunAround.{IsBegunFrom, rec-begun, not-begun, not-inner, word_same, key_same, side-here}
+
+inner-side_end : (g : Records) (q : Key) (s : Side) → side_end g (inner_link q) s ≡ (g.peripheral q).end
+unfolding side_end
+inner-side_end g q s = refl
 
 module _ {w v : World} {b : Books} {g : Records} {k : Key} {r y : Router} {p : Key} {into out : LinkEnd} {o fresh to : ℕ} {m : Message}
     (law : Inv w b g) (is : Begins w g k r p into out o fresh) (c : Sends w v k y to m) (new : IsBegunFrom r y into out) where
@@ -80,15 +94,15 @@ module _ {w v : World} {b : Books} {g : Records} {k : Key} {r y : Router} {p : K
   not-here : (i : ℕ) (s : Side) → is_linked (g.owner i) ≡ true → is_begun (g.bypass i) ≡ false → nat_eq i o ≡ false →
       side_router g (Central i) s ≡ Some k → ⊥
   not-here i s l a n e = let f : Central i ≡ Central o = had-primary (Central i) s
-      (grind (arith, standing_rules, law.stands.central i s k l a e, is.here)) in grind (arith, word_same law is c new i o f, n, nat_tests)
+      (grind (arith, standing_rules, law.stands.central i s k l a (not_left w g (Central i) s k r law.stands e is.here) e, is.here)) in grind (arith, word_same law is c new i o f, n, nat_tests)
 
   pub stands-begun : Stands v after
   stands-begun = record {
-    central = λ i s q a f e. let n : nat_eq i o ≡ false = word-not i f in let l : is_linked (g.owner i) ≡ true =
+    central = λ i s q a f nl e. let n : nat_eq i o ≡ false = word-not i f in let l : is_linked (g.owner i) ≡ true =
         sym (linked-begun g k o fresh p i is.owner) ∙ a in let t : is_begun (g.bypass i) ≡ false =
         ap is_begun (sym (begun-else g k o fresh p i n)) ∙ f in
         let x : side_router g (Central i) s ≡ Some q = sym (router-begun g k o fresh p (Central i) s) ∙ e in
-        passes-begun _ (Some q) (law.stands.central i s q l t x) (λ u h. absurd (not-here i s l t n (x ∙ u)));
+        passes-begun _ (Some q) (law.stands.central i s q l t (sym (left-begun g k o fresh p (Central i) s) ∙ nl) x) (λ u h. absurd (not-here i s l t n (x ∙ u)));
     awaited = λ i s a e. law.stands.awaited i s (sym (linked-begun g k o fresh p i is.owner) ∙ a) e;
     awaited_stage = λ i s j a e d. let t : (g.bypass j).stage ≡ 2 =
         law.stands.awaited_stage i s j (sym (linked-begun g k o fresh p i is.owner) ∙ a) e d in
@@ -97,12 +111,18 @@ module _ {w v : World} {b : Books} {g : Records} {k : Key} {r y : Router} {p : K
         let t : (g.bypass j).stage ≡ 2 = law.stands.awaited_stage i s j l e d in
         law.stands.awaited_side i s j l e d ∙
         ap opposite (sym (side-begun g k o fresh p j (not-begun law is c new j (grind (arith, t, nat_tests)))));
-    proxy = λ i a f. proxy i a f (same_key_tells i p);
-    inner = λ i q a f e. let x : side_router g (inner_link i) B ≡ Some q = sym (router-begun g k o fresh p (inner_link i) B) ∙ e in
-        passes-begun _ (Some q) (law.stands.inner i q (sym (rec-begun law is c new (inner_link i)) ∙ a) (old-free i f) x)
+    proxy = λ i a f nl. proxy i a f (sym (left-begun g k o fresh p (inner_link i) A) ∙ nl) (same_key_tells i p);
+    inner = λ i q a f nl e. let x : side_router g (inner_link i) B ≡ Some q = sym (router-begun g k o fresh p (inner_link i) B) ∙ e in
+        passes-begun _ (Some q) (law.stands.inner i q (sym (rec-begun law is c new (inner_link i)) ∙ a) (old-free i f)
+        (sym (left-begun g k o fresh p (inner_link i) B) ∙ nl) x)
         (λ u h. absurd (other-kind i (had-primary (inner_link i) B h)));
     by_begun = λ i j e. by i j e (same_key_tells i p);
     by_inner = λ i j e. inner i j e (same_key_tells i p);
+    left_recorded = λ l s h. rec-begun law is c new l ∙ law.stands.left_recorded l s (was_left l s h);
+    left_known = λ l s h. ap is_some (router-begun g k o fresh p l s) ∙ law.stands.left_known l s (was_left l s h);
+    left_gone = λ l s h. ap (λ q. key_passes v q (λ z. true)) (router-begun g k o fresh p l s) ∙
+        passes-else (λ z. true) (side_router g l s) (stood l s (was_left l s h)) ∙ law.stands.left_gone l s (was_left l s h);
+    left_live = λ l s h. unbegun l s (was_left l s h);
   }
     where
       other-kind : (i : Key) → inner_link i ≡ Central o → ⊥
@@ -115,13 +135,39 @@ module _ {w v : World} {b : Books} {g : Records} {k : Key} {r y : Router} {p : K
           go (inl a) = absurd (grind (arith, f, by-inner g k o fresh p i, a))
           go (inr a) = grind (arith, f, by-inner g k o fresh p i, a)
 
-      proxy : (i : Key) → is_recorded v after (inner_link i) ≡ true → (after.peripheral i).by ≡ None →
+      was_left : (l : LinkId) (s : Side) → is_left after l s ≡ true → is_left g l s ≡ true
+      was_left l s h = sym (left-begun g k o fresh p l s) ∙ h
+
+      stood : (l : LinkId) (s : Side) → is_left g l s ≡ true → side_router g l s ≡ Some k → ⊥
+      stood l s h e = true≢false (sym h ∙ not_left w g l s k r law.stands e is.here)
+
+      apart : (l : LinkId) (s : Side) → is_left g l s ≡ true → (side_end g l s).pair ≡ r.end.pair → ⊥
+      apart l s h e = true≢false (sym h ∙ none_left law is c new l s e)
+
+      unbegun : (l : LinkId) (s : Side) → is_left g l s ≡ true → bypass_of after l ≡ None
+      unbegun (Central i) s h = by-central law is c new i (old_apart (nat_eq i o) refl) ∙ law.stands.left_live (Central i) s h
+        where
+          old_apart : (t : Bool) → nat_eq i o ≡ t → nat_eq i o ≡ false
+          old_apart true e = let f : i ≡ o = grind (arith, e, nat_tests) in
+              absurd (true≢false (sym h ∙ central_unleft law is c new i s (ap (λ n. (g.central n).pair) f ∙ is.pair)))
+          old_apart false e = e
+      unbegun (Peripheral n x) s h = bypass_of-inner after q ∙ by-inner g k o fresh p q ∙ ap (λ t. cond t (Some o) (g.peripheral q).by)
+          (new_apart (same_key_tells q p)) ∙ sym (bypass_of-inner g q) ∙ law.stands.left_live (Peripheral n x) s h
+        where
+          q : Key
+          q = record { node = n; serial = x }
+
+          new_apart : ((same_key q p ≡ true) × (q ≡ p)) ⊎ ((same_key q p ≡ false) × (q ≢ p)) → same_key q p ≡ false
+          new_apart (inl e) = absurd (apart (Peripheral n x) s h (ap (λ t. t.pair) (inner-side_end g q s ∙ ap (λ z. (g.peripheral z).end) e.1 ∙ is.inner_end)))
+          new_apart (inr e) = e.0
+
+      proxy : (i : Key) → is_recorded v after (inner_link i) ≡ true → (after.peripheral i).by ≡ None → is_left g (inner_link i) A ≡ false →
           ((same_key i p ≡ true) × (i ≡ p)) ⊎ ((same_key i p ≡ false) × (i ≢ p)) →
           key_passes v (side_router after (inner_link i) A) (has_inward_primary (inner_link i) A) ≡ true
-      proxy i a f (inl e) = absurd (grind (arith, f, by-inner g k o fresh p i, e))
-      proxy i a f (inr e) = ap (λ t. key_passes v t (has_inward_primary (inner_link i) A)) (router-begun g k o fresh p (inner_link i) A)
+      proxy i a f nl (inl e) = absurd (grind (arith, f, by-inner g k o fresh p i, e))
+      proxy i a f nl (inr e) = ap (λ t. key_passes v t (has_inward_primary (inner_link i) A)) (router-begun g k o fresh p (inner_link i) A)
           ∙ passes-begun _ (side_router g (inner_link i) A) (law.stands.proxy i (sym (rec-begun law is c new (inner_link i)) ∙ a)
-          (old-free i f))
+          (old-free i f) nl)
           (λ u h. absurd (e.1 (key_same law is c new i p (had-inward (inner_link i) A h))))
 
       by : (i : Key) (j : ℕ) → (after.peripheral i).by ≡ Some j → ((same_key i p ≡ true) × (i ≡ p)) ⊎ ((same_key i p ≡ false) × (i ≢ p)) →
@@ -136,6 +182,80 @@ module _ {w v : World} {b : Books} {g : Records} {k : Key} {r y : Router} {p : K
           ap (λ t. (after.bypass t).inner) n ∙ ap (λ t. t.inner) (begun-here g k o fresh p) ∙ sym a.1
       inner i j e (inr a) = let f : (g.peripheral i).by ≡ Some j = grind (arith, e, by-inner g k o fresh p i, a) in
           ap (λ t. t.inner) (begun-else g k o fresh p j (not-begun law is c new j (law.stands.by_begun i j f))) ∙ law.stands.by_inner i j f
+
+  late-else : (j : ℕ) → 2 ≤ (after.bypass j).stage → nat_eq j o ≡ false
+  late-else j a = go (nat_eq j o) refl
+    where
+      go : (t : Bool) → nat_eq j o ≡ t → nat_eq j o ≡ false
+      go true e = absurd (let f : j ≡ o = grind (arith, e, nat_tests) in grind (arith, a, f, begun-here g k o fresh p))
+      go false e = e
+
+  -- no end of its pair has retired
+  pub retired-begun : RetiredEnds b after
+  retired-begun = record {
+    retired = law.retired_ends.retired;
+    peer_closed = law.retired_ends.peer_closed;
+    peer_stays = law.retired_ends.peer_stays;
+    all_read = law.retired_ends.all_read;
+    gone_read = law.retired_ends.gone_read;
+    no_bypass = by_word o {P = λ j. (s : Side) → 1 ≤ (after.bypass j).stage → (after.bypass j).stage ≤ 4 →
+        is_retired b (ends.end_at (g.central j).pair s) ≡ false}
+        (λ s l m. ap (λ n. is_retired b (ends.end_at n s)) is.pair ∙ unretired law is c new s)
+        (λ j n s l m. let e = ap (λ t. t.stage) (begun-else g k o fresh p j n) in
+        law.retired_ends.no_bypass j s (subst (λ t. 1 ≤ t) e l) (subst (λ t. t ≤ 4) e m));
+    left = λ e i a l n q. left-begun g k o fresh p (Central i) e.side ∙
+        law.retired_ends.left e i a (sym (linked-begun g k o fresh p i is.owner) ∙ l)
+        (ap is_begun (sym (begun-else g k o fresh p i (word-not i n))) ∙ n) q;
+    left_of = λ l s h. rw (end-begun g k o fresh p l s) (law.retired_ends.left_of l s (sym (left-begun g k o fresh p l s) ∙ h));
+    accepted = λ j l. let n = begun-else g k o fresh p j (late-else j (omega (arith, l))) in
+        rw (n, side-begun g k o fresh p j (late-else j (omega (arith, l)))) (law.retired_ends.accepted j (subst (λ t. 3 ≤ t.stage) n l));
+  }
+
+  pub gones-begun : Gones v b after
+  gones-begun = record {
+    sent = λ q z at h. elim (before q z at) [
+      | inl a ↦ law.gones.sent q z a.0 h
+      | inr a ↦ unsent law is c new (sym new.gone_sent ∙ ap (λ t. t.gone_sent) (sym a.1) ∙ h)
+    ];
+    sent_back = λ q z at n i h e. elim (before q z at) [
+      | inl a ↦ law.gones.sent_back q z a.0 n i h e
+      | inr a ↦ absurd (true≢false (sym i ∙ ap is_some (ap (λ t. (inward_edge t).primary) a.1 ∙ new.inward_primary)))
+    ];
+    left_primary = λ q z e at m l. elim (before q z at) [
+      | inl a ↦ law.gones.left_primary q z e a.0 m (sym (left-begun g k o fresh p e.link (opposite e.side)) ∙ l)
+      | inr a ↦ absurd (none-some e (sym (ap (λ t. t.outward.primary) a.1 ∙ new.primary) ∙ m))
+    ];
+    left_inner = λ q z e at m l. elim (before q z at) [
+      | inl a ↦ law.gones.left_inner q z e a.0 m (sym (left-begun g k o fresh p e.link (opposite e.side)) ∙ l)
+      | inr a ↦ absurd (none-some e (sym (ap (λ t. (inward_edge t).primary) a.1 ∙ new.inward_primary) ∙ m))
+    ];
+    out_put = λ q z at. elim (before q z at) [
+      | inl a ↦ law.gones.out_put q z a.0
+      | inr a ↦ rw (a.1, new.end, new.out_queue) (law.gones.out_put k r is.here)
+    ];
+    in_put = λ q z at. elim (before q z at) [
+      | inl a ↦ law.gones.in_put q z a.0
+      | inr a ↦ rw (a.1, new.end, new.in_queue) (law.gones.in_put k r is.here)
+    ];
+    still = λ q z s at n i. elim (before q z at) [
+      | inl a ↦ law.gones.still q z s a.0 n i
+      | inr a ↦ absurd (true≢false (sym i ∙ ap (λ t. is_retired b (ends.end_at t.end.pair s)) a.1 ∙
+          ap (λ t. is_retired b (ends.end_at t.pair s)) new.end ∙ unretired law is c new s))
+    ];
+    dropped = λ q z n at t i m. elim (before q z at) [
+      | inl a ↦ law.gones.dropped q z n a.0 t i m
+      | inr a ↦ absurd (true≢false (sym t ∙ ap is_terminal a.1 ∙ new.terminal))
+    ];
+    dropped_closed = λ q z at m. elim (before q z at) [
+      | inl a ↦ law.gones.dropped_closed q z a.0 m
+      | inr a ↦ ap (λ t. is_closed b (opposite_end t.end)) a.1 ∙ ap (λ t. is_closed b (opposite_end t)) new.end ∙
+          law.gones.dropped_closed k r is.here (sym (ap (λ t. t.mark_dropped) a.1 ∙ new.mark_dropped) ∙ m)
+    ];
+    dropped_back = λ q z n at t i l d. elim (before q z at) [
+      | inl a ↦ law.gones.dropped_back q z n a.0 t i l d
+      | inr a ↦ absurd (true≢false (sym t ∙ ap is_terminal a.1 ∙ new.terminal))
+    ];
+  }
 
   -- the link that was live is so no more
   pub live-begun : LiveLinks after
@@ -204,8 +324,12 @@ module _ {w v : World} {b : Books} {g : Records} {k : Key} {r y : Router} {p : K
         (λ s a. ap (λ z. has z.holder s) (c.words o) ∙ is.holder s ∙ ap (same_side s) (sym (side-here law is c new)))
         (λ i n s a. ap (λ z. has z.holder s) (c.words i) ∙ law.words.begun_holder i s (ap is_begun (sym (begun-else g k o fresh p i n)) ∙ a)
         ∙ ap (same_side s) (sym (side-begun g k o fresh p i n)));
-    stable = λ i s a f. flag (λ z. has z.stable s) (λ z. z.marked) i s a f (law.words.stable i s);
-    holder = λ i s a f. flag (λ z. has z.holder s) (λ z. z.holds) i s a f (law.words.holder i s);
+    stable = λ i s a f nl. flag (λ z. has z.stable s) (λ z. z.marked) i s a f
+        (λ l t. law.words.stable i s l t (sym (left-begun g k o fresh p (Central i) s) ∙ nl));
+    holder = λ i s a f nl. flag (λ z. has z.holder s) (λ z. z.holds) i s a f
+        (λ l t. law.words.holder i s l t (sym (left-begun g k o fresh p (Central i) s) ∙ nl));
+    left_held = λ i s h. rw (left-begun g k o fresh p (Central i) A, left-begun g k o fresh p (Central i) B, c.words i)
+        (law.words.left_held i s (sym (left-begun g k o fresh p (Central i) s) ∙ h));
     held_stable = λ i s t h. ap (λ z. has z.stable t) (c.words i) ∙ law.words.held_stable i s t
         (sym (ap (λ z. has z.holder s) (c.words i)) ∙ h);
     one_holder = λ i s t a d. law.words.one_holder i s t (sym (ap (λ z. has z.holder s) (c.words i)) ∙ a)
@@ -286,13 +410,6 @@ module _ {w v : World} {b : Books} {g : Records} {k : Key} {r y : Router} {p : K
       named j i e false n = let x : g.owner i ≡ Fresh j = grind (arith, e, n) in let f : (g.bypass j).stage ≡ 1 = law.spares.fresh j i x in
           ap (λ t. t.fresh) (begun-else g k o fresh p j (not-begun law is c new j (grind (arith, f, nat_tests)))) ∙
           law.spares.fresh_back j i x
-
-  late-else : (j : ℕ) → 2 ≤ (after.bypass j).stage → nat_eq j o ≡ false
-  late-else j a = go (nat_eq j o) refl
-    where
-      go : (t : Bool) → nat_eq j o ≡ t → nat_eq j o ≡ false
-      go true e = absurd (let f : j ≡ o = grind (arith, e, nat_tests) in grind (arith, a, f, begun-here g k o fresh p))
-      go false e = e
 
   late-old : (j n : ℕ) → 2 ≤ n → n ≤ (after.bypass j).stage → n ≤ (g.bypass j).stage
   late-old j n a d = subst (λ t. n ≤ t.stage) (begun-else g k o fresh p j (late-else j (omega (arith, a, d)))) d
@@ -451,7 +568,7 @@ module _ {w v : World} {b : Books} {g : Records} {k : Key} {r y : Router} {p : K
         key_passes v (Some q) (has_primary (inner_of after j) B) ≡ true}
         (λ q a e. ap (λ t. key_passes v (Some q) (has_primary (inner_link t.inner) B)) (begun-here g k o fresh p)
         ∙ passes-begun _ (Some q) (law.stands.inner p q is.inner_recorded is.inner_free
-        (sym (router-begun g k o fresh p (inner_link p) B) ∙ ap (λ t. side_router after (inner_link t.inner) B)
+        (inner_unleft law is c new) (sym (router-begun g k o fresh p (inner_link p) B) ∙ ap (λ t. side_router after (inner_link t.inner) B)
         (sym (begun-here g k o fresh p)) ∙ e)) (λ u h. absurd (kinds p (had-primary (inner_link p) B h))))
         (λ j n q a e. ap (λ t. key_passes v (Some q) (has_primary (inner_link t.inner) B)) (begun-else g k o fresh p j n)
         ∙ passes-begun _ (Some q) (law.stages.inner_primary j q (sym (ap (λ t. t.stage) (begun-else g k o fresh p j n)) ∙ a)
@@ -516,7 +633,7 @@ module _ {w v : World} {b : Books} {g : Records} {k : Key} {r y : Router} {p : K
       fresh-not : (j : ℕ) → nat_eq j o ≡ false → 3 ≤ (after.bypass j).stage → (after.bypass j).stage ≤ 4 → fresh_of g j ≡ Central o → ⊥
       fresh-not j n a d e = unmarked (side_router g (inner_of g j) B) (inner_of g j) B
           (ap (λ q. key_passes w q (λ z. z.marked)) (sym (ap (λ l. side_router g l (proxy_side g j)) (sym e) ∙ law.bypasses.fresh_inner j
-          (late-old j 2 (omega arith) (omega (arith, a))))) ∙ sym (law.words.stable o (proxy_side g j) is.linked is.live) ∙ is.stable
+          (late-old j 2 (omega arith) (omega (arith, a))))) ∙ sym (law.words.stable o (proxy_side g j) is.linked is.live (central_unleft law is c new o (proxy_side g j) is.pair)) ∙ is.stable
           (proxy_side g j))
           (law.stages.inner_decaying j (late-old j 2 (omega arith) (omega (arith, a))) (early j 4 n d))
 

@@ -8,7 +8,7 @@ use Rattle.ipcz_world.proofs.Vocabulary.{A, B, End, Item, Refusal, opposite_end,
 use Rattle.ipcz_world.proofs.Vocabulary.{Reply, World, Key, node_at, router_at, set_claimed, unless, Books, read, is_closed, Records}
 use Rattle.ipcz_world.proofs.Vocabulary.{is_linked, Inv}
 use Rattle.ipcz_base.specs.declared.parcel.Parcel as parcels
-use Rattle.ipcz_base.specs.declared.item.Item.TheVariants.{Parcel, Mark}
+use Rattle.ipcz_base.specs.declared.item.Item.TheVariants.{Parcel, Mark, Gone}
 use Rattle.ipcz_base.specs.declared.refusal.Refusal.TheVariants as refusals
 use Rattle.ipcz_base.specs.Ends.{end_at}
 use Rattle.ipcz_base.specs.Limits.{last_number, is_printable, has_serials}
@@ -24,7 +24,13 @@ use Rattle.ipcz_world.specs.Steps.{close_step, Scheduler, StepBy, Gives}
 use Rattle.ipcz_world.specs.Books.{next_item, has_mark, advance}
 use Rattle.ipcz_world.specs.Plain.{IsUnwritten, MayRefuse, Plain}
 use Rattle.ipcz_world.proofs.facts.Finding.{IsTerminalOf, terminal_tells}
-use Rattle.ipcz_world.proofs.calls.Puts.{router_found}
+use Rattle.ipcz_world.proofs.calls.Puts.{router_found, not_false}
+use Rattle.ipcz_world.proofs.weights.OfRecords.{holds, holds_times}
+use Rattle.ipcz_world.proofs.weights.Holding.{times_held-at}
+use Rattle.ipcz_world.proofs.frames.Calling.{held_unclosed}
+use Rattle.ipcz_world.proofs.facts.Drained.{gone_found}
+use Rattle.ipcz_world.proofs.facts.LinkTests.{opposite_end-twice}
+use Rattle.ipcz_world.proofs.facts.Tests.{not_both}
 use Rattle.ipcz_world.proofs.calls.Gets.{get_tells}
 use Rattle.ipcz_world.proofs.calls.Reading.{in_numbers}
 use Rattle.ipcz_world.proofs.frames.RecordRules.{unclaimed-is}
@@ -187,27 +193,35 @@ module _ (w : World) (b : Books) (g : Records) (law : Inv w b g) where
     unfolding advance
     get_refused why h = (h, refl)
 
-    item_why : (f : Found) → terminal_of (node_at w n) at ≡ Some f → (o : Option Item) → current_item f.router.in_queue ≡ o →
+    item_why : (f : Found) → terminal_of (node_at w n) at ≡ Some f → (o : Option Item) → holds at (node_at w n).held ≡ true → current_item f.router.in_queue ≡ o →
         (x : Refusal) → item_refusal o ≡ Some x → MayRefuse b (Get n at) x
     unfolding item_refusal
-    item_why f e None q x h = subst (MayRefuse b (Get n at)) (same_Some refusals.Empty x h) tt
-    item_why f e (Some (Parcel p)) q x h = cc
-    item_why f e (Some Mark) q x h = subst (MayRefuse b (Get n at)) (same_Some refusals.PeerClosed x h) (next_is f Mark e q).1
+    item_why f e None held q x h = subst (MayRefuse b (Get n at)) (same_Some refusals.Empty x h) tt
+    item_why f e (Some (Parcel p)) held q x h = cc
+    item_why f e (Some Mark) held q x h = subst (MayRefuse b (Get n at)) (same_Some refusals.PeerClosed x h) (next_is f Mark e q).1
+    item_why f e (Some Gone) held q x h = absurd (not_both (is_closed b at) (ap (is_closed b) (sym (opposite_end-twice at)) ∙
+        law.retired_ends.peer_closed (opposite_end at) (gone_found (b.put (opposite_end at)) (read b at) (next_is f Gone e q).1))
+        (held_unclosed w b g at law.held_once (omega (
+          arith,
+          holds_times at (node_at w n).held held,
+          times_held-at w n at
+              (law.counts.on_node (record { node = n; serial = f.serial }) f.router (at_terminal n at f e).0),
+        ))))
 
-    get_at : (o : Option Found) → terminal_of (node_at w n) at ≡ o → (x : Refusal) → refusal_at o router_get_refusal ≡ Some x →
+    get_at : holds_end (node_at w n) at ≡ true → (o : Option Found) → terminal_of (node_at w n) at ≡ o → (x : Refusal) → refusal_at o router_get_refusal ≡ Some x →
         MayRefuse b (Get n at) x
     unfolding refusal_at
-    get_at None e x h = subst (MayRefuse b (Get n at)) (same_Some refusals.Stranger x h) tt
-    get_at (Some f) e x h = item_why f e (current_item f.router.in_queue) refl x h
+    get_at held None e x h = subst (MayRefuse b (Get n at)) (same_Some refusals.Stranger x h) tt
+    get_at held (Some f) e x h = item_why f e (current_item f.router.in_queue) held refl x h
 
     get_whys : (x : Refusal) → get_refusal (node_at w n) at ≡ Some x → MayRefuse b (Get n at) x
     unfolding get_refusal
-    get_whys x h = go (not (holds_end (node_at w n) at)) h
+    get_whys x h = go (not (holds_end (node_at w n) at)) refl h
       where
-        go : (c : Bool) → (if c then Some refusals.Stranger else refusal_at (terminal_of (node_at w n) at) router_get_refusal) ≡ Some x →
+        go : (c : Bool) → not (holds_end (node_at w n) at) ≡ c → (if c then Some refusals.Stranger else refusal_at (terminal_of (node_at w n) at) router_get_refusal) ≡ Some x →
             MayRefuse b (Get n at) x
-        go true h = subst (MayRefuse b (Get n at)) (same_Some refusals.Stranger x h) tt
-        go false h = get_at (terminal_of (node_at w n) at) refl x h
+        go true e h = subst (MayRefuse b (Get n at)) (same_Some refusals.Stranger x h) tt
+        go false e h = get_at (not_false (holds_end (node_at w n) at) e) (terminal_of (node_at w n) at) refl x h
 
     got_fine : (number : ℕ) (p : parcels.Parcel) (v : World) → number ≡ read b at → next_item b at ≡ Some (Parcel p) →
         IsFine (Get n at) (record { reply = replies.Got number p; world = v })

@@ -1,4 +1,7 @@
 -- The steps of callers: each keeps the invariant, with the books, the records and the routes that the run writes.
+use Rattle.ipcz_word.specs.SideSets.{none}
+use Rattle.ipcz_world.proofs.facts.Lost.{not_lost}
+use Rattle.ipcz_world.specs.Records.{is_lost_owner}
 use Rattle.std.specs.Prelude.{◌≡◌, ◌<◌, ◌+◌, ℕ, Bool, true, false, cond, nat_eq, nat_lt, Option, Some, None, List, refl}
 use Rattle.std.proofs.Common.{arith, ap, subst, ◌∙◌, sym, inl, inr}
 use Rattle.std.proofs.lemmas.Bool.Decides.{nat_tests}
@@ -125,15 +128,20 @@ module _ (w : World) (b : Books) (g : Records) (law : Inv w b g) where
       twice true j = refl
       twice false j = refl
 
-  linked_routes : (i : ℕ) (c : CentralRecord) → routes_of (set_central (set_owner g i Linked) i c) ≡ add_link (routes_of g) i c.pair
-  unfolding is_linked
-  linked_routes i c = λ t. record {
+  linked_routes : (i : ℕ) (c : CentralRecord) → is_lost_owner (g.owner i) ≡ false → routes_of (set_central (set_owner g i Linked) i c) ≡ add_link (routes_of g) i c.pair
+  unfolding is_linked is_lost_owner
+  linked_routes i c free = λ t. record {
     is_link = λ j. link (nat_eq j i) j t;
     pair = λ j. pair (nat_eq j i) j t;
     end =
         λ k. (g.peripheral k).end;
+    lost = λ j. lost j (nat_eq j i) refl t;
   }
     where
+      lost : (j : ℕ) (d : Bool) → nat_eq j i ≡ d → is_lost_owner (cond d Linked (g.owner j)) ≡ is_lost_owner (g.owner j)
+      lost j true e = let s : j ≡ i = grind (arith, e, nat_tests) in sym (ap (λ x. is_lost_owner (g.owner x)) s ∙ free)
+      lost j false e = refl
+
       link : (d : Bool) (j : ℕ) → is_linked (cond d Linked (g.owner j)) ≡ cond d true (is_linked (g.owner j))
       link true j = refl
       link false j = refl
@@ -142,33 +150,35 @@ module _ (w : World) (b : Books) (g : Records) (law : Inv w b g) where
       pair true j = refl
       pair false j = refl
 
-  open_routes : (n i serial : ℕ) → routes_of (open_records g n i serial) ≡ add_link (routes_of g) i i
-  open_routes n i serial = linked_routes i (record {
+  open_routes : (n i serial : ℕ) → is_lost_owner (g.owner i) ≡ false →
+      routes_of (open_records g n i serial) ≡ add_link (routes_of g) i i
+  open_routes n i serial free = linked_routes i (record {
     pair = i;
     node = λ s. n;
     router = at_side (λ s. Some serial) B (Some (serial + 1));
     born = None;
-  })
+    left = none;
+  }) free
 
-  open_done : (n i : ℕ) (v : World) (serial : ℕ) → (node_at w n).next_router ≡ serial → Inv v b (open_records g n i serial) →
+  open_done : (n i : ℕ) (v : World) (serial : ℕ) → is_lost_owner (g.owner i) ≡ false → (node_at w n).next_router ≡ serial → Inv v b (open_records g n i serial) →
       Follows w v b g (Open n) (opened_reply i)
   unfolding advance records_after routes_after
-  open_done n i v serial e inv = record {
+  open_done n i v serial free e inv = record {
     inv = subst (λ s. Inv v b (open_records g n i s)) (sym e) inv;
     routes =
-        open_routes n i (node_at w n).next_router;
+        open_routes n i (node_at w n).next_router free;
   }
 
   on_word : (n : ℕ) → n < w.count → (o : Option ℕ) → (node_at w n).opening ≡ o → Keeps (Open n) (open_on w n o)
-  unfolding open_on
+  unfolding open_on is_lost_owner
   on_word n l (Some i) e = unless_by w (serials_refusal (node_at w n)) _ (Keeps (Open n)) (open_refused n)
-      (λ h. open_done n i (set_word (set_node w n (open_node (node_at w n) i)) i open_word) (node_at w n).next_router refl
-      (inv-opened w b g n i law l e))
+      (λ h. open_done n i (set_word (set_node w n (open_node (node_at w n) i)) i open_word) (node_at w n).next_router
+      (ap is_lost_owner (law.spares.opening n i e)) refl (inv-opened w b g n i law l e))
   on_word n l None e = cond_by (has_unclaimed_word w) (open_with w (set_claimed w (w.claimed + 1)) n w.claimed)
       (refuse w refusals.NoWord) (Keeps (Open n))
       (λ room. unless_by w (serials_refusal (node_at w n)) _ (Keeps (Open n)) (open_refused n)
       (λ h. open_done n w.claimed (set_word (set_node (set_claimed w (w.claimed + 1)) n (open_node (node_at w n) w.claimed)) w.claimed
-      open_word) (node_at w n).next_router refl
+      open_word) (node_at w n).next_router (not_lost (g.owner w.claimed) (law.counts.unclaimed w.claimed ∙ grind (arith, nat_tests))) refl
       (subst (Inv (set_word (set_node (set_claimed w (w.claimed + 1)) n (open_node (node_at w n) w.claimed)) w.claimed open_word) b)
       (halves_same n w.claimed (node_at w n).next_router) (inv-open w b g n law l (grind (arith, room, nat_tests)) e))))
       (open_refused n refusals.NoWord)

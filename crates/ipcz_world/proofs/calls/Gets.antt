@@ -1,7 +1,13 @@
 -- A caller's get and a sink's discard keep the invariant with the books after them.
+use Rattle.ipcz_base.specs.declared.item.Item.TheVariants.{Gone}
+use Rattle.ipcz_router.specs.ActEffects.{leaves_by}
 use Rattle.ipcz_world.proofs.weights.OfRecords.{holds, held_times, holds_times}
 use Rattle.std.specs.Prelude.{◌≡◌, ◌⊎◌, ◌≤◌, ◌<◌, ◌+◌, ℕ, zero, suc, true, false, cond, not, Option, Some, None, is_some, List, []}
 use Rattle.std.specs.Prelude.{◌∷◌, ◌++◌, length, take, map, slice_get, refl}
+use Rattle.ipcz_base.specs.Items.{is_mark, is_gone_item}
+use Rattle.ipcz_router.specs.Acts.{drop_item, item_passes, has_gone_next}
+use Rattle.std.specs.Prelude.{Bool, ◌||◌}
+use Rattle.ipcz_world.proofs.frames.Touching.{either}
 use Rattle.std.proofs.Common.{arith, ap, subst, ◌∙◌, sym, inl, inr}
 use Rattle.ipcz_world.proofs.Vocabulary.{End, Item, opposite_end, same_end, has_end, current_item, Router, is_terminal, is_possible}
 use Rattle.ipcz_world.proofs.Vocabulary.{output_of, Node, Found, terminal_of, with_router, router_in, ends_in, commit, World, Key}
@@ -45,6 +51,25 @@ map-more (q ∷ ps) p = ap (λ t. Parcel q ∷ t) (map-more ps p)
 read_weight : (f : Weight) (r : Router) (item : Item) → current_item r.in_queue ≡ Some item →
     in_router f (take_item r) + f (opposite_end r.end) r.in_queue.current item ≡ in_router f r
 read_weight f r item e = omega (arith, in_router-is f r, in_router-is f (take_item r), in_popped (f (opposite_end r.end)) r.in_queue item e)
+
+drop_weight : (f : Weight) (r : Router) (item : Item) → current_item r.in_queue ≡ Some item →
+    in_router f (drop_item r) + f (opposite_end r.end) r.in_queue.current item ≡ in_router f r
+drop_weight f r item e = omega (arith, in_router-is f r, in_router-is f (drop_item r), in_popped (f (opposite_end r.end)) r.in_queue item e)
+
+or_right : (a b : Bool) → b ≡ true → (a || b) ≡ true
+or_right true b h = refl
+or_right false b h = h
+
+is_mark-tells : (item : Item) → is_mark item ≡ true → item ≡ Mark
+is_mark-tells (Parcel p) h = cc
+is_mark-tells Mark h = refl
+is_mark-tells Gone h = cc
+
+-- a mark that a sink drops is noted
+pub noted_by : (r : Router) (item : Item) → current_item r.in_queue ≡ Some item →
+    item_passes is_mark (current_item r.in_queue) ≡ is_mark item
+unfolding item_passes
+noted_by r item at = rw at refl
 
 module _ (w : World) (b : Books) (g : Records) (k : Key) (r : Router) (law : Inv w b g) (here : router_at w k ≡ Some r)
     (t : is_terminal r ≡ true) where
@@ -127,9 +152,13 @@ module _ (w : World) (b : Books) (g : Records) (k : Key) (r : Router) (law : Inv
           (ap (slice_get (b.put (opposite_end r.end))) (sym all) ∙ next)
           ∙ ap (λ z. z ++ Parcel p ∷ []) was ∙ sym (map-more (b.got r.end) p) ∙ ap (map Parcel) (sym got_here)
 
-      is_got : IsRead w (set_node w k.node x) b g k r (Parcel p) got b.gone
+      is_got : IsRead w (set_node w k.node x) b g k r (Parcel p) r.mark_dropped got b.gone
       is_got = record {
         touched = call-touched w k r (take_item r) x call;
+        noted = λ h. inl h;
+        keeps = λ h. h;
+        notes = λ c h. absurd cc;
+        sink = λ h. and_second (is_terminal r) r.closed (law.shape.dropped_sink k r here h);
         terminal = t;
         item_is = at;
         hands = call-hands w k r (take_item r) x call;
@@ -151,17 +180,17 @@ module _ (w : World) (b : Books) (g : Records) (k : Key) (r : Router) (law : Inv
 
       pub inv-got_at : Inv (set_node w k.node (record (with_router (node_at w k.node) k.serial (take_item r))
           { held = with_ends (node_at w k.node).held p.ends })) (add_got b r.end p) g
-      inv-got_at = inv-read_by w (set_node w k.node x) b g k r (Parcel p) got b.gone law is_got
+      inv-got_at = inv-read_by w (set_node w k.node x) b g k r (Parcel p) r.mark_dropped got b.gone law is_got
 
   -- a sink drops an item
   module _ (item : Item) (at : current_item r.in_queue ≡ Some item) (sink : r.closed ≡ true) where
     abbrev z : Node
-    z = record (with_router (node_at w k.node) k.serial (take_item r)) { pending = (node_at w k.node).pending ++ ends_in item }
+    z = record (with_router (node_at w k.node) k.serial (drop_item r)) { pending = (node_at w k.node).pending ++ ends_in item }
 
     abbrev gone : End → ℕ
     gone = λ d. cond (same_end d r.end) (b.gone r.end + 1) (b.gone d)
 
-    drop_call : IsCall w k r (take_item r) z
+    drop_call : IsCall w k r (drop_item r) z
     drop_call = record {
       here = here;
       alike = record {
@@ -186,14 +215,14 @@ module _ (w : World) (b : Books) (g : Records) (k : Key) (r : Router) (law : Inv
 
     now_held : (m : ℕ) (d : End) → holds d (node_at (set_node w k.node z) m).held ≡ true →
         (holds d (node_at w m).held ≡ true) ⊎ ((m ≡ k.node) × (has_end d (ends_in item) ≡ true))
-    now_held m d h = elim (call-held_more w k r (take_item r) z drop_call m d h) [
+    now_held m d h = elim (call-held_more w k r (drop_item r) z drop_call m d h) [
       | inl o ↦ inl o
       | inr o ↦ inl (ap (λ j. holds d (node_at w j).held) o.0 ∙ o.1)
     ]
 
     now_pending : (m : ℕ) (d : End) → has_end d (node_at (set_node w k.node z) m).pending ≡ true →
         (has_end d (node_at w m).pending ≡ true) ⊎ ((m ≡ k.node) × (has_end d (ends_in item) ≡ true))
-    now_pending m d h = elim (call-pending_more w k r (take_item r) z drop_call m d h) [
+    now_pending m d h = elim (call-pending_more w k r (drop_item r) z drop_call m d h) [
       | inl o ↦ inl o
       | inr o ↦ elim (has-append d (node_at w k.node).pending (ends_in item) o.1) [
         | inl a ↦ inl (ap (λ j. has_end d (node_at w j).pending) o.0 ∙ a)
@@ -201,21 +230,28 @@ module _ (w : World) (b : Books) (g : Records) (k : Key) (r : Router) (law : Inv
       ]
     ]
 
-    is_dropped : IsRead w (set_node w k.node z) b g k r item b.got gone
+    is_dropped : IsRead w (set_node w k.node z) b g k r item (r.mark_dropped || item_passes is_mark (current_item r.in_queue)) b.got gone
     is_dropped = record {
-      touched = call-touched w k r (take_item r) z drop_call;
+      touched = call-touched w k r (drop_item r) z drop_call;
+      noted = λ h. elim (either r.mark_dropped (item_passes is_mark (current_item r.in_queue)) h) [
+        | inl a ↦ inl a
+        | inr a ↦ inr (is_mark-tells item (sym (noted_by r item at) ∙ a))
+      ];
+      keeps = λ h. rw h refl;
+      notes = λ c h. or_right r.mark_dropped (item_passes is_mark (current_item r.in_queue)) (noted_by r item at ∙ ap is_mark h);
+      sink = λ h. sink;
       terminal = t;
       item_is = at;
-      hands = call-hands w k r (take_item r) z drop_call;
-      flows = call-flows w k r (take_item r) z drop_call;
+      hands = call-hands w k r (drop_item r) z drop_call;
+      flows = call-flows w k r (drop_item r) z drop_call;
       held = now_held;
       pending = now_pending;
       times = λ d. omega (
         arith,
-        call-times w k r (take_item r) z drop_call d on_node,
+        call-times w k r (drop_item r) z drop_call d on_node,
         times-append d (node_at w k.node).pending (ends_in item),
       );
-      places = λ f. omega (arith, call-places w k r (take_item r) z drop_call f g on_node, read_weight f r item at);
+      places = λ f. omega (arith, call-places w k r (drop_item r) z drop_call f g on_node, drop_weight f r item at);
       read_here = omega (arith, gone_here);
       got_other = λ e ne. refl;
       gone_other = λ e ne. more_same b.gone (b.gone r.end + 1) e r.end ne;
@@ -223,15 +259,17 @@ module _ (w : World) (b : Books) (g : Records) (k : Key) (r : Router) (law : Inv
       gone_closed = λ h. absurd (not_both (is_closed b r.end) is_closed_here h);
     }
 
-    pub inv-dropped_at : Inv (set_node w k.node (record (with_router (node_at w k.node) k.serial (take_item r))
+    pub inv-dropped_at : Inv (set_node w k.node (record (with_router (node_at w k.node) k.serial (drop_item r))
         { pending = (node_at w k.node).pending ++ ends_in item })) (add_gone b r.end) g
-    inv-dropped_at = inv-read_by w (set_node w k.node z) b g k r item b.got gone law is_dropped
+    inv-dropped_at = inv-read_by w (set_node w k.node z) b g k r item (r.mark_dropped || item_passes is_mark (current_item r.in_queue)) b.got gone law
+        is_dropped
 
 parcel_of : (o : Option Item) → item_refusal o ≡ None → (p : parcels.Parcel) × (o ≡ Some (Parcel p))
 unfolding item_refusal
 parcel_of None h = cc
 parcel_of (Some (Parcel p)) h = (p, refl)
 parcel_of (Some Mark) h = cc
+parcel_of (Some Gone) h = cc
 
 -- what a get finds, where it isn't refused
 pub record IsGet (n : Node) (at : End) : Type 0 where
@@ -265,25 +303,26 @@ inv-get w b g n at law is =
 
 -- the computed discard is the update
 pub acted-discard : (w : World) (n s : ℕ) (r : Router) (item : Item) → router_at w (record { node = n; serial = s }) ≡ Some r →
-    current_item r.in_queue ≡ Some item →
-    after_act w n (OfRouter s Discard) ≡ set_node w n (record (with_router (node_at w n) s (take_item r))
+    current_item r.in_queue ≡ Some item → is_gone_item item ≡ false →
+    after_act w n (OfRouter s Discard) ≡ set_node w n (record (with_router (node_at w n) s (drop_item r))
     { pending = (node_at w n).pending ++ ends_in item })
-unfolding after_act after_router_act touch commit on_router commit_router keep_or_drop apply output_of discard_output send router_at
-acted-discard w n s r item here at = let inside : router_in (node_at w n) s ≡ Some r = here in rw (here, inside, at) refl
+unfolding after_act after_router_act touch commit on_router commit_router keep_or_drop leaves_by apply output_of discard_output send router_at
+    item_passes
+acted-discard w n s r item here at other = let inside : router_in (node_at w n) s ≡ Some r = here in rw (here, inside, at, other) refl
 
 some_item : (o : Option Item) → is_some o ≡ true → (item : Item) × (o ≡ Some item)
 some_item None h = cc
 some_item (Some item) h = (item, refl)
 
--- a sink's discard that is possible
+-- a sink's discard that is possible, of another item than Gone
 pub inv-discard : (w : World) (b : Books) (g : Records) (n s : ℕ) (r : Router) → Inv w b g →
-    router_at w (record { node = n; serial = s }) ≡ Some r → is_possible r Discard ≡ true →
+    router_at w (record { node = n; serial = s }) ≡ Some r → is_possible r Discard ≡ true → has_gone_next r ≡ false →
     Inv (after_act w n (OfRouter s Discard)) (after_discard b (router_at w (record { node = n; serial = s }))) g
-unfolding is_possible after_discard
-inv-discard w b g n s r law here can =
+unfolding is_possible after_discard item_passes
+inv-discard w b g n s r law here can other =
     let sink = and_first (is_sink r) (is_some (current_item r.in_queue)) can in let item =
     some_item (current_item r.in_queue) (and_second (is_sink r) (is_some (current_item r.in_queue)) can) in
     let done = inv-dropped_at w b g (record { node = n; serial = s }) r law here (and_first (is_terminal r) r.closed sink) item.0 item.1
     (and_second (is_terminal r) r.closed sink) in
     subst (λ o. Inv (after_act w n (OfRouter s Discard)) (after_discard b o) g) (sym here)
-    (subst (λ v. Inv v (add_gone b r.end) g) (sym (acted-discard w n s r item.0 here item.1)) done)
+    (subst (λ v. Inv v (add_gone b r.end) g) (sym (acted-discard w n s r item.0 here item.1 (sym (ap (item_passes is_gone_item) item.1) ∙ other))) done)

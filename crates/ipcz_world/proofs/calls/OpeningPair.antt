@@ -1,4 +1,5 @@
 -- An open makes a pair on the word that was claimed for it: its two terminals join, and the invariant is kept.
+use Rattle.ipcz_word.specs.SideSets.{none}
 use Rattle.ipcz_world.proofs.weights.OfRecords.{holds, held_times}
 use Rattle.std.specs.Prelude.{◌≡◌, ◌≢◌, ◌⊎◌, ◌≤◌, ◌<◌, ◌+◌, ◌*◌, ℕ, Bool, true, false, cond, ◌||◌, nat_eq, nat_le, Option, Some, None, refl}
 use Rattle.std.specs.Prelude.{[], ◌∷◌, ◌++◌}
@@ -55,7 +56,7 @@ module _ (w : World) (b : Books) (g : Records) (n i : ℕ) (law : Inv w b g) (l 
   owner' = λ j. cond (nat_eq j i) Linked (g.owner j)
 
   abbrev link : CentralRecord
-  link = record { pair = i; node = λ s. n; router = at_side (λ t. Some s) B (Some (s + 1)); born = None }
+  link = record { pair = i; node = λ s. n; router = at_side (λ t. Some s) B (Some (s + 1)); born = None; left = none }
 
   abbrev central' : ℕ → CentralRecord
   central' = λ j. cond (nat_eq j i) link (g.central j)
@@ -463,6 +464,7 @@ module _ (w : World) (b : Books) (g : Records) (n i : ℕ) (law : Inv w b g) (l 
     node = λ t. refl;
     router = λ t. router t;
     born = refl;
+    left = refl;
     terminal = λ t. terminal t;
     word = word_here;
   })

@@ -1,4 +1,9 @@
 -- A caller's put and close, and a close that is pending, keep the invariant with the books after them.
+use Rattle.std.specs.Prelude.{is_some, unwrap_or}
+use Rattle.ipcz_edge.specs.Edge.{no_edge}
+use Rattle.ipcz_router.specs.ActTable.{is_done}
+use Rattle.ipcz_world.proofs.frames.Touching.{IsAlike}
+use Rattle.ipcz_world.proofs.frames.GonesKept.{open_unretired}
 use Rattle.ipcz_world.proofs.weights.OfRecords.{holds, held_times, holds_times}
 use Rattle.std.specs.Prelude.{◌≡◌, ◌≢◌, ◌≤◌, ◌<◌, ◌+◌, ℕ, Bool, true, false, cond, not, ◌&&◌, ◌||◌, nat_lt, nat_le, Option, Some, None}
 use Rattle.std.specs.Prelude.{List, [], ◌∷◌, length, refl}
@@ -56,6 +61,34 @@ pub record CanPut (n : Node) (r : Router) (p : parcels.Parcel) : Type 0 where
   pub once : are_held_once n p.ends ≡ true
   pub number : next_number r < last_number
 
+done_dropped : (r : Router) → is_done r ≡ true → r.mark_dropped ≡ true
+done_dropped r h = grind (arith, h)
+
+-- a terminal that is open is alike in all but its queues, as it hasn't closed
+pub open_alike : (w : World) (b : Books) (g : Records) (k : Key) (r y : Router) → Inv w b g → router_at w k ≡ Some r →
+    is_terminal r ≡ true → is_closed b r.end ≡ false → y.end ≡ r.end → y.outward ≡ r.outward → y.inward ≡ r.inward → y.spare ≡ r.spare →
+    y.marked ≡ r.marked → y.holds ≡ r.holds → y.mark_dropped ≡ r.mark_dropped → y.gone_sent ≡ r.gone_sent → IsAlike r y
+open_alike w b g k r y law here t unclosed end outward inward spare marked holds_same dropped sent = record {
+  end = end;
+  outward = outward;
+  inward = inward;
+  spare = spare;
+  marked = marked;
+  holds = holds_same;
+  done = λ h. absurd (undone h);
+  dropped = λ h f. absurd (undropped (sym dropped ∙ h));
+  sent = λ h f. ap (λ o. is_some (unwrap_or o no_edge).primary) inward ∙ f (sym sent ∙ h);
+}
+  where
+    open_here : r.closed ≡ false
+    open_here = law.conserved.sink k r here t ∙ unclosed
+
+    undropped : r.mark_dropped ≡ true → ⊥
+    undropped h = grind (arith, law.shape.dropped_sink k r here h, open_here)
+
+    undone : is_done r ≡ true → ⊥
+    undone h = undropped (done_dropped r h)
+
 module _ (w : World) (b : Books) (g : Records) (k : Key) (r : Router) (law : Inv w b g) (here : router_at w k ≡ Some r) where
   on_node : k.node < w.count
   on_node = law.counts.on_node k r here
@@ -106,12 +139,15 @@ module _ (w : World) (b : Books) (g : Records) (k : Key) (r : Router) (law : Inv
     is_put : IsPut w (set_node w k.node put) b g k r (put_item r (Parcel p)) (Parcel p)
     is_put = record {
       touched = call-touched w k r (put_item r (Parcel p)) put is_call;
-      alike = record { end = refl; outward = refl; inward = refl; spare = refl; marked = refl; holds = refl };
+      alike = open_alike w b g k r (put_item r (Parcel p)) law here can.terminal unclosed refl refl refl refl refl refl refl refl;
       terminal = can.terminal;
       out = refl;
       inn = refl;
       mark_seen = refl;
       closed = law.conserved.sink k r here can.terminal ∙ unclosed;
+      mark_dropped = refl;
+      gone_sent = refl;
+      no_gone = refl;
       hands = call-hands w k r (put_item r (Parcel p)) put is_call;
       flows = call-flows w k r (put_item r (Parcel p)) put is_call;
       unclosed = unclosed;
@@ -142,16 +178,24 @@ module _ (w : World) (b : Books) (g : Records) (k : Key) (r : Router) (law : Inv
     is_closing : IsPut w (set_node w k.node x) b g k r (close_router r) Mark
     is_closing = record {
       touched = call-touched w k r (close_router r) x is_call;
-      alike = record { end = refl; outward = refl; inward = refl; spare = refl; marked = refl; holds = refl };
+      alike = open_alike w b g k r (close_router r) law here t was_unclosed refl refl refl refl refl refl refl refl;
       terminal = t;
       out = refl;
       inn = refl;
       mark_seen = refl;
       closed = refl;
+      mark_dropped = refl;
+      gone_sent = refl;
+      no_gone = refl;
       hands = call-hands w k r (close_router r) x is_call;
       flows = call-flows w k r (close_router r) x is_call;
       unclosed = was_unclosed;
-      room = omega (arith, law.books_kept.numbers r.end, ap flag was_unclosed);
+      room = omega (
+        arith,
+        law.books_kept.numbers r.end,
+        ap flag was_unclosed,
+        ap flag (open_unretired (record { retired_closed = law.books_kept.retired_closed }) law.retired_ends r.end was_unclosed).0,
+      );
       ends = λ d h. cc;
       pairs = λ d h. absurd cc;
       held = λ m d. call-held w k r (close_router r) x is_call m d (held d);

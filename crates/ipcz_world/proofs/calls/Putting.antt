@@ -1,4 +1,19 @@
 -- A terminal puts an item, a parcel or its mark: all that holds is kept, with the books after it.
+use Rattle.std.specs.Prelude.{is_none, is_some, unwrap_or}
+use Rattle.ipcz_base.specs.declared.item.Item.TheVariants.{Gone}
+use Rattle.ipcz_base.specs.Items.{is_gone_item}
+use Rattle.ipcz_base.specs.Ends.{end_at}
+use Rattle.ipcz_router.specs.Router.{decays}
+use Rattle.ipcz_world.proofs.Vocabulary.{LinkEnd, inward_edge, side_end, across_side}
+use Rattle.ipcz_world.specs.Books.{has_gone, is_retired}
+use Rattle.ipcz_world.specs.Records.{is_left}
+use Rattle.ipcz_world.specs.Structure.{IsRecorded}
+use Rattle.ipcz_world.specs.Whereabouts.{RetiredEnds}
+use Rattle.ipcz_world.proofs.facts.Drained.{has_gone-more, gone_found, no_mark}
+use Rattle.ipcz_world.proofs.facts.LinkTests.{opposite_end-twice}
+use Rattle.ipcz_world.proofs.facts.Tests.{not_both}
+use Rattle.ipcz_world.proofs.frames.Touching.{either}
+use Rattle.ipcz_world.proofs.frames.GonesKept.{IsGoneRight, right-of, gones-all, open_unretired}
 use Rattle.ipcz_world.proofs.weights.OfRecords.{holds, in_places}
 use Rattle.std.specs.Prelude.{◌≡◌, ◌≢◌, ◌⊎◌, ◌≤◌, ◌<◌, ◌+◌, ℕ, suc, Bool, true, false, cond, ◌&&◌, ◌||◌, Option, Some, None, refl, List, []}
 use Rattle.std.specs.Prelude.{◌∷◌, ◌++◌, length, take, drop, map, slice_get}
@@ -45,6 +60,9 @@ pub record IsPut (w v : World) (b : Books) (g : Records) (k : Key) (r y : Router
   pub inn : y.in_queue ≡ r.in_queue
   pub mark_seen : y.mark_seen ≡ r.mark_seen
   pub closed : y.closed ≡ is_mark item
+  pub mark_dropped : y.mark_dropped ≡ r.mark_dropped
+  pub gone_sent : y.gone_sent ≡ r.gone_sent
+  pub no_gone : is_gone_item item ≡ false
   pub hands : HasSameHands w v
   pub flows : (from to : ℕ) → flow v from to ≡ flow w from to
   pub unclosed : is_closed b r.end ≡ false
@@ -59,6 +77,43 @@ pub record IsPut (w v : World) (b : Books) (g : Records) (k : Key) (r y : Router
 pub no_link : (l : LinkId) (s : Side) → edge_has no_edge l s ≡ true → ⊥
 unfolding has_link
 no_link l s h = cc
+
+-- two routers alike in what tells of Gone and of the marks, but for closing
+pub record IsPutLike (x y : Router) : Type 0 where
+  pub end : y.end ≡ x.end
+  pub current : y.in_queue.current ≡ x.in_queue.current
+  pub out : y.out_queue.current ≡ x.out_queue.current
+  pub terminal : is_terminal y ≡ is_terminal x
+  pub inner : (inward_edge y).primary ≡ (inward_edge x).primary
+  pub primary : y.outward.primary ≡ x.outward.primary
+  pub sent : y.gone_sent ≡ x.gone_sent
+  pub dropped : y.mark_dropped ≡ x.mark_dropped
+  pub still : decays y ≡ decays x
+
+pub put_like-itself : (x : Router) → IsPutLike x x
+put_like-itself x = record {
+  end = refl;
+  current = refl;
+  out = refl;
+  terminal = refl;
+  inner = refl;
+  primary = refl;
+  sent = refl;
+  dropped = refl;
+  still = refl;
+}
+
+decays-alike : (r y : Router) → IsAlike r y → decays y ≡ decays r
+decays-alike r y a = rw (a.outward, a.inward) refl
+
+begun-like : (x y : Router) → IsPutLike x y → is_begun_router y ≡ is_begun_router x
+begun-like x y a = grind (arith, a.terminal, a.inner)
+
+-- a link that belongs inward at a side has one end
+end_around : (g : Records) (l : LinkId) (s : Side) → is_outward l s ≡ false → side_end g l (opposite s) ≡ side_end g l s
+unfolding is_outward side_end
+end_around g (Central i) s h = cc
+end_around g (Peripheral n x) s h = refl
 
 -- a terminal has links outward only
 pub terminal_outward : (l : LinkId) (s : Side) (r : Router) → is_terminal r ≡ true → is_attached l s r ≡ true → is_outward l s ≡ true
@@ -248,6 +303,49 @@ module _ (w v : World) (b : Books) (g : Records) (k : Key) (r y : Router) (item 
     closed_here : is_closed after r.end ≡ is_mark item
     closed_here = ap has_mark put_here ∙ has_mark-more (b.put r.end) item ∙ ap (λ c. c || is_mark item) is.unclosed
 
+    -- no end of the terminal's pair has retired
+    free : (is_retired b r.end ≡ false) × (is_retired b (opposite_end r.end) ≡ false)
+    free = open_unretired (record { retired_closed = law.books_kept.retired_closed }) law.retired_ends r.end is.unclosed
+
+    gone_here : has_gone (b.put r.end ++ item ∷ []) ≡ false
+    gone_here = has_gone-more (b.put r.end) item ∙ ap (λ c. c || is_gone_item item) free.0 ∙ is.no_gone
+
+    gone_after : (d : End) → is_retired after d ≡ is_retired b d
+    gone_after d = put_by d (λ xs. has_gone xs ≡ is_retired b d) (λ ne. refl) (λ same. gone_here ∙ sym free.0 ∙ ap (is_retired b) (sym same))
+
+    was_retired : (d : End) → is_retired after d ≡ true → is_retired b d ≡ true
+    was_retired d h = sym (gone_after d) ∙ h
+
+    retired_other : (d : End) → is_retired b d ≡ true → d ≢ r.end
+    retired_other d h e = not_both (is_retired b d) h (ap (is_retired b) e ∙ free.0)
+
+    peer_other : (d : End) → is_retired b d ≡ true → opposite_end d ≢ r.end
+    peer_other d h e = not_both (is_retired b d) h
+        (ap (is_retired b) (sym (opposite_end-twice d) ∙ ap opposite_end e) ∙ free.1)
+
+    longer : (d : End) (n : ℕ) → n ≤ length (b.put d) → n ≤ length (after.put d)
+    longer d n l = put_by d (λ xs. n ≤ length xs) (λ ne. l)
+        (λ same. omega (arith, l, length-more (b.put r.end) item, ap (λ e. length (b.put e)) same))
+
+    retired-put : RetiredEnds after g
+    retired-put = record {
+      retired = λ e h. law.retired_ends.retired e (was_retired e h);
+      peer_closed = λ e h. closed_more (opposite_end e) (law.retired_ends.peer_closed e (was_retired e h));
+      peer_stays = λ e h. gone_after (opposite_end e) ∙ law.retired_ends.peer_stays e (was_retired e h);
+      all_read = λ e h. law.retired_ends.all_read e (was_retired e h) ∙
+          ap length (sym (put_same (opposite_end e) (peer_other e (was_retired e h))));
+      gone_read = λ e t h. let o = law.retired_ends.gone_read e t (sym (gone_after e) ∙ h) in (
+        gone_after (opposite_end e) ∙ o.0,
+        o.1 ∙ ap length (sym (put_same (opposite_end e) (retired_other (opposite_end e) o.0))),
+      );
+      no_bypass = λ o s l m. gone_after (end_at (g.central o).pair s) ∙ law.retired_ends.no_bypass o s l m;
+      left = λ e i h. law.retired_ends.left e i (was_retired e h);
+      left_of = λ link s h. rw (gone_after (side_end g link s), gone_after (opposite_end (side_end g link s)))
+          (law.retired_ends.left_of link s h);
+      accepted = λ o l. let e = end_at (g.central o).pair (across_side g o) in
+          omega (arith, longer e _ (law.retired_ends.accepted o l), ap flag (gone_after e));
+    }
+
     books_kept-put : BooksKept v after g
     books_kept-put = record {
       own_pair = λ e d n z h has. elim (end_tells e r.end) [
@@ -258,13 +356,21 @@ module _ (w v : World) (b : Books) (g : Records) (k : Key) (r y : Router) (item 
             ]
         | inr f ↦ law.books_kept.own_pair e d n z (ap (λ xs. slice_get xs n) (sym (put_same e f.1)) ∙ h) has
       ];
-      mark_last = λ e n. put_by e (λ xs. slice_get xs n ≡ Some Mark → suc n ≡ length xs) (λ ne. law.books_kept.mark_last e n)
+      mark_last = λ e n. put_by e (λ xs. slice_get xs n ≡ Some Mark → suc n + cond (has_gone xs) 1 0 ≡ length xs)
+          (λ ne. law.books_kept.mark_last e n)
           (λ same h. elim (slice_get-last (b.put r.end) item Mark n h) [
             | inl o ↦ absurd (grind (arith, mark_found (b.put r.end) n o, is.unclosed))
-            | inr o ↦ omega (arith, o.0, length-more (b.put r.end) item)
+            | inr o ↦ omega (arith, o.0, length-more (b.put r.end) item, ap flag gone_here)
           ]);
-      numbers = λ e. put_by e (λ xs. length xs ≤ last_number + cond (has_mark xs) 1 0) (λ ne. law.books_kept.numbers e)
-          (λ same. grind (arith, length-more (b.put r.end) item, is.room, has_mark-more (b.put r.end) item, is.unclosed));
+      gone_last = λ e n. put_by e (λ xs. slice_get xs n ≡ Some Gone → suc n ≡ length xs) (λ ne. law.books_kept.gone_last e n)
+          (λ same h. elim (slice_get-last (b.put r.end) item Gone n h) [
+            | inl o ↦ absurd (not_both (has_gone (b.put r.end)) (gone_found (b.put r.end) n o) free.0)
+            | inr o ↦ absurd (not_both (is_gone_item item) (ap is_gone_item (sym o.1)) is.no_gone)
+          ]);
+      retired_closed = λ e h. closed_more e (law.books_kept.retired_closed e (was_retired e h));
+      numbers = λ e. put_by e (λ xs. length xs ≤ last_number + cond (has_mark xs) 1 0 + cond (has_gone xs) 1 0)
+          (λ ne. law.books_kept.numbers e)
+          (λ same. omega (arith, length-more (b.put r.end) item, is.room, ap flag (sym (ap has_mark put_here) ∙ closed_here), ap flag gone_here));
       mark_seen = λ q x at m. closed_more (opposite_end x.end) (was_seen q x at m (same_key q k) refl);
     }
       where
@@ -397,6 +503,126 @@ module _ (w v : World) (b : Books) (g : Records) (k : Key) (r y : Router) (item 
         none true c h = ap flag h
         none false c h = refl
 
+    -- a router that was there before, but for its out queue
+    record WasPut (q : Key) (x : Router) : Type 0 where
+      pub router : Router
+      pub at : router_at w q ≡ Some router
+      pub like : IsPutLike router x
+      pub closed : x.closed ≡ true → (router.closed ≡ true) ⊎ (router ≡ r)
+
+    was : (q : Key) (x : Router) → router_at v q ≡ Some x → WasPut q x
+    was q x at = go (same_key q k) refl
+      where
+        go : (c : Bool) → same_key q k ≡ c → WasPut q x
+        go true c = let it : y ≡ x = grind (arith, is.touched.router q, c, at) in record {
+          router = r;
+          at = ap (router_at w) (grind (arith, same_key_tells q k, c)) ∙ here;
+          like = subst (IsPutLike r) it (record {
+            end = is.alike.end;
+            current = ap (λ p. p.current) is.inn;
+            out = ap (λ p. p.current) is.out;
+            terminal = ap is_none is.alike.inward;
+            inner = ap (λ o. (unwrap_or o no_edge).primary) is.alike.inward;
+            primary = ap (λ e. e.primary) is.alike.outward;
+            sent = is.gone_sent;
+            dropped = is.mark_dropped;
+            still = decays-alike r y is.alike;
+          });
+          closed = λ h. inr refl;
+        }
+        go false c = record { router = x; at = grind (arith, is.touched.router q, c, at); like = put_like-itself x; closed = λ h. inl h }
+
+    right-put : (q : Key) (x : Router) → router_at v q ≡ Some x → IsGoneRight after g x
+    right-put q x at = record {
+      sent = λ h. let s = o.sent (sym z.like.sent ∙ h) in (
+        ap (λ e. is_retired after (opposite_end e)) z.like.end ∙ gone_after (opposite_end z.router.end) ∙ s.0,
+        z.like.current ∙ s.1 ∙ ap length (sym (put_same (opposite_end z.router.end) (retired_other (opposite_end z.router.end) s.0))) ∙
+            ap (λ e. length (after.put (opposite_end e))) (sym z.like.end),
+      );
+      sent_back = λ n i h c. let t : is_retired b (opposite_end z.router.end) ≡ true =
+          was_retired (opposite_end z.router.end) (ap (λ e. is_retired after (opposite_end e)) (sym z.like.end) ∙ h) in
+          z.like.sent ∙ o.sent_back (sym z.like.terminal ∙ n) (ap is_some (sym z.like.inner) ∙ i) t
+          (sym z.like.current ∙ c ∙ ap (λ e. length (after.put (opposite_end e))) z.like.end ∙
+          ap length (put_same (opposite_end z.router.end) (retired_other (opposite_end z.router.end) t)));
+      left_primary = λ e p l. ap (λ d. is_retired after (opposite_end d)) z.like.end ∙ gone_after (opposite_end z.router.end) ∙
+          o.left_primary e (sym z.like.primary ∙ p) l;
+      left_inner = λ e p l. omega (
+        arith,
+        inner e (sym z.like.inner ∙ p) l,
+        ap (λ d. length (after.put (opposite_end d))) z.like.end,
+        z.like.current,
+      );
+      out_put = omega (arith, longer z.router.end _ o.out_put, ap (λ d. length (after.put d)) z.like.end, z.like.out);
+      in_put = omega (
+        arith,
+        longer (opposite_end z.router.end) _ o.in_put,
+        ap (λ d. length (after.put (opposite_end d))) z.like.end,
+        z.like.current,
+      );
+      still = λ s n h. still-of (o.still s (sym (begun-like z.router x z.like) ∙ n)
+          (sym (gone_after (end_at z.router.end.pair s)) ∙ ap (λ d. is_retired after (end_at d.pair s)) (sym z.like.end) ∙ h));
+      dropped = λ n t h m. dropped n (sym z.like.terminal ∙ t) (ap (λ d. slice_get (after.put (opposite_end d)) n) (sym z.like.end) ∙ h)
+          (sym z.like.dropped ∙ m);
+      dropped_closed = λ m. ap (λ d. is_closed after (opposite_end d)) z.like.end ∙
+          closed_more (opposite_end z.router.end) (o.dropped_closed (sym z.like.dropped ∙ m));
+      dropped_back = λ n t h l c. z.like.dropped ∙ back n (sym z.like.terminal ∙ t)
+          (ap (λ d. slice_get (after.put (opposite_end d)) n) (sym z.like.end) ∙ h) (omega (arith, l, z.like.current)) (z.closed c);
+    }
+      where
+        z : WasPut q x
+        z = was q x at
+
+        o : IsGoneRight b g z.router
+        o = right-of law.gones q z.router z.at
+
+        still-of : decays z.router ≡ false → decays x ≡ false
+        still-of h = z.like.still ∙ h
+
+        inner : (e : LinkEnd) → (inward_edge z.router).primary ≡ Some e → is_left g e.link (opposite e.side) ≡ true →
+            length (after.put (opposite_end z.router.end)) ≤ z.router.in_queue.current
+        inner e p l = put_by (opposite_end z.router.end) (λ xs. length xs ≤ z.router.in_queue.current) (λ ne. o.left_inner e p l)
+            (λ same. absurd (none same))
+          where
+            rec : IsRecorded w g q z.router e
+            rec = law.links.inward_primary q z.router e z.at p
+
+            end : side_end g e.link (opposite e.side) ≡ z.router.end
+            end = end_around g e.link e.side (law.links.inward_primary_inward q z.router e z.at p) ∙ sym rec.end
+
+            none : opposite_end z.router.end ≡ r.end → ⊥
+            none same = let e' : z.router.end ≡ opposite_end r.end = sym (opposite_end-twice z.router.end) ∙ ap opposite_end same in
+                elim (either _ _ (law.retired_ends.left_of e.link (opposite e.side) l)) [
+                  | inl h ↦ not_both _ h (ap (is_retired b) (end ∙ e') ∙ free.1)
+                  | inr h ↦ not_both _ h (ap (λ d. is_retired b (opposite_end d)) end ∙ ap (is_retired b) same ∙ free.0)
+                ]
+
+        unmarked : (n : ℕ) → opposite_end z.router.end ≡ r.end → z.router.mark_dropped ≡ true → ⊥
+        unmarked n same m = not_both (is_closed b r.end) (ap (is_closed b) (sym same) ∙ o.dropped_closed m) is.unclosed
+
+        dropped : (n : ℕ) → is_terminal z.router ≡ true → slice_get (after.put (opposite_end z.router.end)) n ≡ Some Mark →
+            z.router.mark_dropped ≡ true → n < x.in_queue.current
+        dropped n t h m = put_by (opposite_end z.router.end) (λ xs. slice_get xs n ≡ Some Mark → n < x.in_queue.current)
+            (λ ne i. omega (arith, o.dropped n t i m, z.like.current)) (λ same i. absurd (unmarked n same m)) h
+
+        back : (n : ℕ) → is_terminal z.router ≡ true → slice_get (after.put (opposite_end z.router.end)) n ≡ Some Mark →
+            n < z.router.in_queue.current → (z.router.closed ≡ true) ⊎ (z.router ≡ r) → z.router.mark_dropped ≡ true
+        back n t h l c = put_by (opposite_end z.router.end) (λ xs. slice_get xs n ≡ Some Mark → z.router.mark_dropped ≡ true)
+            (λ ne i. elim c [
+              | inl f ↦ o.dropped_back n t i l f
+              | inr f ↦ absurd (unread n (ap (λ x. slice_get (b.put (opposite_end x.end)) n) (sym f) ∙ i)
+                  (subst (λ x. n < x.in_queue.current) f l))
+            ])
+            (λ same i. elim (slice_get-last (b.put r.end) item Mark n i) [
+              | inl f ↦ absurd (not_both (is_closed b r.end) (mark_found (b.put r.end) n f) is.unclosed)
+              | inr f ↦ absurd (omega (arith, l, f.0, o.in_put, ap (λ e. length (b.put e)) same))
+            ]) h
+          where
+            unread : (n : ℕ) → slice_get (b.put (opposite_end r.end)) n ≡ Some Mark → n < r.in_queue.current → ⊥
+            unread n i l = no_mark (b.got r.end) (b.put (opposite_end r.end)) n
+                (subst (λ e. take (length (b.got e)) (b.put (opposite_end r.end)) ≡ map Parcel (b.got e)) (opposite_end-twice r.end)
+                (law.conserved.prefix (opposite_end r.end)))
+                (omega (arith, l, law.conserved.current k r here is.terminal, law.conserved.gone_closed r.end is.unclosed)) i
+
     pub inv-put_by : Inv v (add_put b r.end item) g
     inv-put_by = record {
       counts = counts-touched w v k r y g is.touched is.alike law.counts (hands-same w v g law.counts is.touched.count is.hands);
@@ -415,6 +641,8 @@ module _ (w v : World) (b : Books) (g : Records) (k : Key) (r y : Router) (item 
       terminals = terminals-touched w v k r y g is.touched is.alike law.terminals;
       end_places = end_places-put;
       books_kept = books_kept-put;
+      retired_ends = retired-put;
+      gones = gones-all right-put;
       items = items-put;
       order = order-put;
       proxy_numbers = proxy_numbers-put;

@@ -1,4 +1,13 @@
 -- A terminal's in queue loses its current item, got by a caller or discarded by a sink: all that holds is kept, with the books after it.
+use Rattle.std.specs.Prelude.{Option, None, is_some, nat_lt}
+use Rattle.std.proofs.lemmas.Bool.Decides.{nat_tests}
+use Rattle.ipcz_base.specs.declared.item.Item.TheVariants.{Mark}
+use Rattle.ipcz_world.proofs.Vocabulary.{Edge, inward_edge}
+use Rattle.ipcz_world.specs.Records.{Retired}
+use Rattle.ipcz_world.specs.Whereabouts.{RetiredEnds, Gones}
+use Rattle.ipcz_world.proofs.weights.Booking.{mark_found}
+use Rattle.ipcz_world.proofs.facts.Tests.{not_both}
+use Rattle.ipcz_world.proofs.frames.GonesKept.{IsGoneRight, right-of, right-books, gones-one, gones-all}
 use Rattle.ipcz_world.proofs.weights.OfRecords.{holds, in_places}
 use Rattle.std.specs.Prelude.{◌≡◌, ◌≢◌, ◌⊎◌, ◌≤◌, ◌<◌, ◌+◌, ℕ, zero, suc, Bool, true, false, cond, ◌&&◌, nat_eq, Some, refl, List, [], ◌∷◌}
 use Rattle.std.specs.Prelude.{length, take, drop, map, slice_get}
@@ -53,7 +62,7 @@ drop-at k [] x h = cc
 drop-at zero (y ∷ xs) x h = let e : y ≡ x = cc in ap (λ z. z ∷ xs) e
 drop-at (suc k) (y ∷ xs) x h = drop-at k xs x h
 
-slice_get-below : {X : Type 0} (k : ℕ) (xs : List X) (x : X) → slice_get xs k ≡ Some x → k < length xs
+pub slice_get-below : {X : Type 0} (k : ℕ) (xs : List X) (x : X) → slice_get xs k ≡ Some x → k < length xs
 slice_get-below k [] x h = cc
 slice_get-below zero (y ∷ xs) x h = omega arith
 slice_get-below (suc k) (y ∷ xs) x h = omega (arith, slice_get-below k xs x h)
@@ -82,9 +91,13 @@ in_numbers w b g k r n item law l here at =
     weighs false h = absurd (omega (arith, h))
 
 -- a terminal's current item leaves for a caller or a sink, and the item's ends are held or pending then
-pub record IsRead (w v : World) (b : Books) (g : Records) (k : Key) (r : Router) (item : Item) (got : End → List parcels.Parcel)
+pub record IsRead (w v : World) (b : Books) (g : Records) (k : Key) (r : Router) (item : Item) (m : Bool) (got : End → List parcels.Parcel)
     (gone : End → ℕ) : Type 0 where
-  pub touched : IsTouched w v k r (take_item r)
+  pub touched : IsTouched w v k r (record (take_item r) { mark_dropped = m })
+  pub noted : (m ≡ true) → (r.mark_dropped ≡ true) ⊎ (item ≡ Mark)
+  pub keeps : r.mark_dropped ≡ true → m ≡ true
+  pub notes : r.closed ≡ true → item ≡ Mark → m ≡ true
+  pub sink : m ≡ true → r.closed ≡ true
   pub terminal : is_terminal r ≡ true
   pub item_is : current_item r.in_queue ≡ Some item
   pub hands : HasSameHands w v
@@ -103,13 +116,13 @@ pub record IsRead (w v : World) (b : Books) (g : Records) (k : Key) (r : Router)
       take (length (got r.end)) (b.put (opposite_end r.end)) ≡ map Parcel (got r.end)
   pub gone_closed : is_closed b r.end ≡ false → gone r.end ≡ 0
 
-module _ (w v : World) (b : Books) (g : Records) (k : Key) (r : Router) (item : Item) (got : End → List parcels.Parcel) (gone : End → ℕ)
-    (law : Inv w b g) (is : IsRead w v b g k r item got gone) where
+module _ (w v : World) (b : Books) (g : Records) (k : Key) (r : Router) (item : Item) (m : Bool) (got : End → List parcels.Parcel)
+    (gone : End → ℕ) (law : Inv w b g) (is : IsRead w v b g k r item m got gone) where
   abbrev after : Books
   after = record b { got = got; gone = gone }
 
   abbrev y : Router
-  y = take_item r
+  y = record (take_item r) { mark_dropped = m }
 
   here : router_at w k ≡ Some r
   here = is.touched.here
@@ -121,7 +134,17 @@ module _ (w v : World) (b : Books) (g : Records) (k : Key) (r : Router) (item : 
   stands = law.terminals.terminal k r here is.terminal
 
   alike : IsAlike r y
-  alike = record { end = refl; outward = refl; inward = refl; spare = refl; marked = refl; holds = refl }
+  alike = record {
+    end = refl;
+    outward = refl;
+    inward = refl;
+    spare = refl;
+    marked = refl;
+    holds = refl;
+    done = λ h. grind (arith, h, is.keeps);
+    dropped = λ h f. and_from (is_terminal r) r.closed is.terminal (is.sink h);
+    sent = λ h f. f h;
+  }
 
   draining : IsDraining w v k r y
   draining = record { touched = is.touched; alike = alike; out = drained_same r.out_queue; inn = drained_pop r.in_queue item is.item_is }
@@ -181,6 +204,8 @@ module _ (w v : World) (b : Books) (g : Records) (k : Key) (r : Router) (item : 
   books_kept-read = record {
     own_pair = law.books_kept.own_pair;
     mark_last = law.books_kept.mark_last;
+    gone_last = law.books_kept.gone_last;
+    retired_closed = law.books_kept.retired_closed;
     numbers = law.books_kept.numbers;
     mark_seen = λ q x at m. seen q x at m (same_key q k) refl;
   }
@@ -280,6 +305,72 @@ module _ (w v : World) (b : Books) (g : Records) (k : Key) (r : Router) (item : 
         (under-same w v from to i (messages.Item l s n z moves) same u) h;
   }
 
+  -- no end that has retired is the terminal's
+  not_here : (e : End) → g.terminal e ≡ Retired → e ≢ r.end
+  not_here e h f = let two : At k ≡ Retired = sym stands ∙ ap g.terminal (sym f) ∙ h in cc
+
+  retired-read : RetiredEnds after g
+  retired-read = record {
+    retired = law.retired_ends.retired;
+    peer_closed = law.retired_ends.peer_closed;
+    peer_stays = law.retired_ends.peer_stays;
+    all_read = λ e h. read_other e (not_here e (law.retired_ends.retired e h)) ∙ law.retired_ends.all_read e h;
+    gone_read = λ e t h. let o = law.retired_ends.gone_read e t h in (o.0, read_other e (not_here e t) ∙ o.1);
+    no_bypass = law.retired_ends.no_bypass;
+    left = law.retired_ends.left;
+    left_of = law.retired_ends.left_of;
+    accepted = law.retired_ends.accepted;
+  }
+
+  right-read : IsGoneRight b g y
+  right-read = record {
+    sent = λ h. absurd (no_inward (law.shape.sent_proxy k r here h));
+    sent_back = λ n. absurd (not_both (is_terminal r) is.terminal n);
+    left_primary = o.left_primary;
+    left_inner = λ e p l. omega (arith, o.left_inner e p l);
+    out_put = o.out_put;
+    in_put = omega (arith, low);
+    still = o.still;
+    dropped = λ n t i h. elim (is.noted h) [
+      | inl a ↦ omega (arith, o.dropped n t i a)
+      | inr a ↦ omega (
+        arith,
+        law.books_kept.mark_last (opposite_end r.end) n i,
+        law.books_kept.mark_last (opposite_end r.end) r.in_queue.current (put ∙ ap Some a),
+      )
+    ];
+    dropped_closed = λ h. elim (is.noted h) [
+      | inl a ↦ o.dropped_closed a
+      | inr a ↦ mark_found (b.put (opposite_end r.end)) r.in_queue.current (put ∙ ap Some a)
+    ];
+    dropped_back = λ n t i l c. back n t i l c (nat_lt n r.in_queue.current) refl;
+  }
+    where
+      o : IsGoneRight b g r
+      o = right-of law.gones k r here
+
+      put : slice_get (b.put (opposite_end r.end)) r.in_queue.current ≡ Some item
+      put = ap (slice_get (b.put (opposite_end r.end))) number ∙ was_put
+
+      low : r.in_queue.current < length (b.put (opposite_end r.end))
+      low = slice_get-below r.in_queue.current (b.put (opposite_end r.end)) item put
+
+      no_inward : is_some (inward_edge r).primary ≡ true → ⊥
+      no_inward h = lone r.inward refl
+        where
+          lone : (x : Option Edge) → r.inward ≡ x → ⊥
+          lone None e = grind (arith, e, h)
+          lone (Some x) e = grind (arith, e, is.terminal)
+
+      back : (n : ℕ) → is_terminal r ≡ true → slice_get (b.put (opposite_end r.end)) n ≡ Some Mark → n < r.in_queue.current + 1 →
+          r.closed ≡ true → (c : Bool) → nat_lt n r.in_queue.current ≡ c → m ≡ true
+      back n t i l c true e = is.keeps (o.dropped_back n t i (grind (arith, e, nat_tests)) c)
+      back n t i l c false e = let same : n ≡ r.in_queue.current = grind (arith, e, l, nat_tests) in
+          let two : Some Mark ≡ Some item = sym i ∙ ap (slice_get (b.put (opposite_end r.end))) same ∙ put in is.notes c (cc)
+
+  gones-read : Gones v after g
+  gones-read = gones-all (λ q z at. right-books (right-of (gones-one w v b g k y is.touched.router right-read law.gones) q z at))
+
   pub inv-read_by : Inv v (record b { got = got; gone = gone }) g
   inv-read_by = record {
     counts = counts-touched w v k r y g is.touched alike law.counts (hands-same w v g law.counts is.touched.count is.hands);
@@ -298,6 +389,8 @@ module _ (w v : World) (b : Books) (g : Records) (k : Key) (r : Router) (item : 
     terminals = terminals-touched w v k r y g is.touched alike law.terminals;
     end_places = end_places-read;
     books_kept = books_kept-read;
+    retired_ends = retired-read;
+    gones = gones-read;
     items = items-read;
     order = order-drained w v k r y g draining law.order;
     proxy_numbers = proxy_numbers-drained w v k r y g draining law.proxy_numbers;

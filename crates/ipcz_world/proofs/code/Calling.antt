@@ -6,7 +6,7 @@ use Rattle.ipcz_world.proofs.Vocabulary.{Refusal, Reply, End, Item, put_place, c
 use Rattle.ipcz_world.proofs.Vocabulary.{bare_node, terminal_of, World, node_at, set_node, set_word, set_claimed, unless}
 use Rattle.ipcz_base.specs.declared.refusal.Refusal.TheVariants.{OutOfMemory, NoWord}
 use Rattle.ipcz_world.specs.declared.step.Reply.TheVariants.{Put, Got, Closed, Refused}
-use Rattle.ipcz_base.specs.declared.item.Item.TheVariants.{Parcel as OfParcel, Mark}
+use Rattle.ipcz_base.specs.declared.item.Item.TheVariants.{Parcel as OfParcel, Mark, Gone}
 use Rattle.ipcz_base.specs.declared.parcel.Parcel as parcels
 use Rattle.ipcz_node.specs.Calls.{put_refusal, put_node, put_number, get_refusal, get_node, got_at, got_at_found, item_got, close_refusal}
 use Rattle.ipcz_node.specs.Calls.{close_node, serials_refusal, open_node}
@@ -122,6 +122,7 @@ unfolding item_got got_reply
 item-replies None k number p is = cc
 item-replies (Some (OfParcel q)) k number p is = got-is number k p q is
 item-replies (Some Mark) k number p is = cc
+item-replies (Some Gone) k number p is = cc
 
 found-replies : (f : Option Found) (number : ℕ) (p : parcels.Parcel) → got_at_found f ≡ Some (number, p) → get_reply f ≡ Got number p
 unfolding got_at_found get_reply

@@ -69,5 +69,6 @@ stands-alone (OfRouter s acts.Wake) = refl
 stands-alone (OfRouter s acts.Claim) = refl
 stands-alone (OfRouter s acts.Lock) = refl
 stands-alone (OfRouter s acts.Begin) = refl
+stands-alone (OfRouter s acts.Retire) = refl
 stands-alone (OfRouter s acts.Unlock) = refl
 stands-alone (OfRouter s acts.Rest) = refl

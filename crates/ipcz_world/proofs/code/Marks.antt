@@ -6,6 +6,7 @@ use Rattle.ipcz_world.specs.declared.mail.Mail.{Mail}
 use Rattle.ipcz_world.specs.declared.mail.Mail.TheVariants.{Empty, Full, Hand}
 use Rattle.ipcz_world.specs.Mailing.{taken_up, put_down, as_marked, as_they_stand, count_full, AreKept}
 use Rattle.ipcz_world.specs.Turns.{is_full, is_clear, hand_message}
+use Rattle.ipcz_world.specs.SettleLimit.{higher, highest, gone_mailed}
 use Rattle.ipcz_world.proofs.Vocabulary.{place_at, put_place, total_list}
 use Rattle.ipcz_world.proofs.code.Slots.{get-place, length-put, place_read, put-same, set-place}
 use Rattle.ipcz_world.proofs.weights.Totalling.{total_list-put_place}
@@ -141,6 +142,20 @@ clear-stand [] hs = refl
 clear-stand (m ∷ ms) [] = ap (λ n. cond (is_clear m) 0 1 + n) (clear-stand ms [])
 clear-stand (m ∷ ms) (h ∷ hs) =
     let e = ap {B = ℕ} (λ (b : Bool). cond b 0 1) (clear-marked h m) in omega (arith, e, clear-stand ms hs)
+
+-- the Gone in a mailbox is seen without its mark
+gone-marked : (h : Bool) (m : Mail) → gone_mailed (as_marked h m) ≡ gone_mailed m
+unfolding as_marked taken_up gone_mailed
+gone-marked false m = refl
+gone-marked true Empty = refl
+gone-marked true (Full m) = refl
+gone-marked true (Hand m) = refl
+
+pub gone-stand : (ms : List Mail) (hs : List Bool) → highest gone_mailed (as_they_stand ms hs) ≡ highest gone_mailed ms
+gone-stand [] hs = refl
+gone-stand (m ∷ ms) [] = ap (higher (gone_mailed m)) (gone-stand ms [])
+gone-stand (m ∷ ms) (h ∷ hs) = ap (λ n. higher n (highest gone_mailed (as_they_stand ms hs))) (gone-marked h m) ∙
+    ap (higher (gone_mailed m)) (gone-stand ms hs)
 
 -- what a mailbox is seen to be, by what was left in it and its mark
 pub within : (ms : List Mail) (hs : List Bool) (now : List Mail) (k : ℕ) → as_they_stand ms hs ≡ now → k < length now → k < length ms

@@ -1,12 +1,12 @@
 -- What the table of link words answers to an act of a router, and what the act makes of the world.
-use Rattle.std.specs.Prelude.{◌≡◌, ◌<◌, ◌+◌, ℕ, Bool, true, false, ◌||◌, nat_lt, if◌then◌else◌, Option, Some, None, is_some, option_map}
+use Rattle.std.specs.Prelude.{◌≡◌, ◌<◌, ◌+◌, ℕ, Bool, true, false, not, ◌&&◌, ◌||◌, nat_lt, if◌then◌else◌, Option, Some, None, is_some, option_map}
 use Rattle.std.specs.Prelude.{IfSome, length}
 use Rattle.std.proofs.Common.{arith, ap, sym, subst, refl, ◌∙◌}
 use Rattle.ipcz_world.proofs.Vocabulary.{Side, place_at, put_place, has, Word, empty_word, Router, primary_word, is_possible, RouterAct}
 use Rattle.ipcz_world.proofs.Vocabulary.{World, word_at, set_word, set_claimed, answer_of}
 use Rattle.ipcz_word.specs.Word.{plan_of, Plan, Locks, Waits, Refuses}
 use Rattle.ipcz_router.specs.Router.{source_of}
-use Rattle.ipcz_router.specs.ActTable.{may_take, is_rest}
+use Rattle.ipcz_router.specs.ActTable.{may_take, is_rest, is_ready, is_leaving, can_begin, can_retire}
 use Rattle.ipcz_router.specs.ActEffects.{IsAnswerOf}
 use Rattle.ipcz_router.specs.declared.act.RouterAct.TheVariants as acts
 use Rattle.ipcz_router.specs.declared.act.Answer.TheVariants as answers
@@ -51,6 +51,7 @@ module _ (w : World) (r : Router) where
   answers-as acts.Claim has = on_claim has
   answers-as acts.Lock has = on_link acts.Lock (primary_word r)
   answers-as acts.Begin has = on_link acts.Begin (primary_word r)
+  answers-as acts.Retire has = on_link acts.Retire (primary_word r)
   answers-as acts.Unlock has = on_link acts.Unlock (primary_word r)
   answers-as acts.Rest has = on_link acts.Rest (primary_word r)
 
@@ -103,12 +104,18 @@ module _ (w : World) (r : Router) where
   touches-as acts.Claim has l = claims has
   touches-as acts.Lock has l = touched acts.Lock (primary_word r) has l
   touches-as acts.Begin has l = still acts.Begin (primary_word r) has l (λ x. refl)
+  touches-as acts.Retire has l = still acts.Retire (primary_word r) has l (λ x. refl)
   touches-as acts.Unlock has l = touched acts.Unlock (primary_word r) has l
   touches-as acts.Rest has l = still acts.Rest (primary_word r) has l (λ x. refl)
 
 or_left : (a b : Bool) → b ≡ false → (a || b) ≡ true → a ≡ true
 or_left true b k e = refl
 or_left false b k e = cc
+
+-- what follows of each of two follows of either
+either : {P : Type 0} (a b : Bool) → (a || b) ≡ true → (a ≡ true → P) → (b ≡ true → P) → P
+either true b e first second = first refl
+either false b e first second = second e
 
 try_is : (x : Word) (s : Side) (source : Option ℕ) (p : Plan) → IsAnswerOf acts.Lock (try_answer x s source p)
 unfolding try_answer
@@ -148,9 +155,15 @@ module _ (t : WordTable) (r : Router) where
   answers-kind acts.Mark may = central acts.Mark (primary_word r) (and_first _ _ (or_left _ _ refl may)) (λ x. tt)
   answers-kind acts.Wake may = central acts.Wake (primary_word r) (and_second _ _ (or_left _ _ refl may)) (λ x. tt)
   answers-kind acts.Claim may = claim_is (has_unclaimed t)
-  answers-kind acts.Lock may = central acts.Lock (primary_word r) (and_first _ _ (and_second _ _ (and_first _ _ (or_left _ _ refl may))))
+  answers-kind acts.Lock may = central acts.Lock (primary_word r)
+      (either (is_ready r && (is_some r.spare && not r.holds)) (is_leaving r && not r.holds) (or_left _ _ refl may)
+      (λ ready. and_first _ _ (and_second _ _ (and_first _ _ ready)))
+      (λ leaving. and_first _ _ (and_second _ _ (and_first _ _ leaving))))
       (λ x. try_is x r.end.side (source_of r) (plan_of x r.end.side))
   answers-kind acts.Begin may = plain acts.Begin (primary_word r) tt (λ x. refl)
+  answers-kind acts.Retire may = plain acts.Retire (primary_word r) tt (λ x. refl)
   answers-kind acts.Unlock may =
-      central acts.Unlock (primary_word r) (and_first _ _ (and_second _ _ (and_second _ _ (or_left _ _ refl may)))) (λ x. tt)
+      central acts.Unlock (primary_word r)
+      (either (can_begin r) (can_retire r) (or_left _ _ refl may) (λ begins. and_first _ _ (and_second _ _ (and_second _ _ begins)))
+      (λ retires. and_first _ _ (and_second _ _ (and_second _ _ retires)))) (λ x. tt)
   answers-kind acts.Rest may = plain acts.Rest (primary_word r) tt (λ x. refl)

@@ -1,13 +1,18 @@
 -- Sums as a loop goes over a list: what was told so far and what is left come to the whole.
-use Rattle.std.specs.Prelude.{◌≡◌, ◌≤◌, ◌<◌, ℕ, zero, suc, ◌+◌, Bool, true, false, nat_lt, Option, Some}
+use Rattle.std.specs.Prelude.{◌≡◌, ◌≤◌, ◌<◌, ℕ, zero, suc, ◌+◌, Bool, true, false, nat_lt, ◌&&◌, ◌||◌, is_some, Option, Some}
 use Rattle.std.specs.Prelude.{List, [], ◌∷◌}
 use Rattle.std.specs.Prelude.{drop, length, map, refl}
 use Rattle.std.proofs.Common.{arith, ap, subst, ◌∙◌, sym, get_or}
 use Rattle.std.proofs.lemmas.Bool.Decides.{nat_tests}
+use Rattle.std.proofs.lemmas.Option.{same_Some}
+use Rattle.std.specs.List.{slice_get}
 use Rattle.ipcz_base.specs.Totals.{total_list, total_of}
 use Rattle.ipcz_node.specs.Serials.{entries_by}
 use Rattle.ipcz_world.specs.Tallies.{Tells}
-use Rattle.ipcz_world.specs.SettleLimit.{higher, put_among, put_within}
+use Rattle.ipcz_world.specs.SettleLimit.{higher, highest, put_among, put_within, has_within}
+use Rattle.ipcz_base.specs.Ends.{same_end}
+use Rattle.ipcz_router.specs.Router.{is_terminal}
+use Rattle.ipcz_node.specs.Node.{find_router}
 use Rattle.std.specs.FinMap.{entries}
 use Rattle.ipcz_world.proofs.Vocabulary.{End, Node, place_at}
 
@@ -76,6 +81,48 @@ put_within-next e d (n ∷ ns) (suc i) l =
     let one : suc (i + 1) ≡ suc i + 1 = omega arith in
     put_within-next e d ns i (omega (arith, l)) ∙
     ap (λ j. higher (put_among e (entries (place_at d ns i).routers)) (put_within e (drop j (n ∷ ns)))) one
+
+-- the highest of the items that are left
+pub highest-next : {X : Type 0} (h : X → ℕ) (d : X) (xs : List X) (i : ℕ) → i < length xs →
+    highest h (drop i xs) ≡ higher (h (place_at d xs i)) (highest h (drop (i + 1) xs))
+unfolding place_at
+highest-next h d [] i l = absurd (omega (arith, l))
+highest-next h d (x ∷ xs) zero l = refl
+highest-next h d (x ∷ xs) (suc i) l =
+    let one : suc (i + 1) ≡ suc i + 1 = omega arith in
+    highest-next h d xs i (omega (arith, l)) ∙ ap (λ j. higher (h (place_at d xs i)) (highest h (drop j (x ∷ xs)))) one
+
+pub highest-item : {X : Type 0} (h : X → ℕ) (xs : List X) (i : ℕ) (x : X) → Some x ≡ slice_get xs i →
+    highest h (drop i xs) ≡ higher (h x) (highest h (drop (i + 1) xs))
+highest-item h [] i x e = cc
+highest-item h (y ∷ xs) zero x e = ap (λ z. higher (h z) (highest h xs)) (same_Some y x (sym e))
+highest-item h (y ∷ xs) (suc i) x e =
+    let one : suc (i + 1) ≡ suc i + 1 = omega arith in
+    highest-item h xs i x e ∙ ap (λ j. higher (h x) (highest h (drop j (y ∷ xs)))) one
+
+pub highest-none : {X : Type 0} (h : X → ℕ) (xs : List X) (i : ℕ) → length xs ≤ i → highest h (drop i xs) ≡ 0
+highest-none h [] zero l = refl
+highest-none h [] (suc i) l = refl
+highest-none h (x ∷ xs) zero l = absurd (omega (arith, l))
+highest-none h (x ∷ xs) (suc i) l = highest-none h xs i (omega (arith, l))
+
+pub higher-none : (a : ℕ) → higher a 0 ≡ a
+higher-none a = go (nat_lt a 0) refl
+  where
+    go : (c : Bool) → nat_lt a 0 ≡ c → higher a 0 ≡ a
+    go true q = grind (arith, q, nat_tests)
+    go false q = grind (arith, q, nat_tests)
+
+-- whether an end's terminal is in one of the nodes that are left
+pub has_within-next : (e : End) (d : Node) (ns : List Node) (i : ℕ) → i < length ns →
+    has_within e (drop i ns) ≡ (is_some (find_router (place_at d ns i) (λ r. is_terminal r && same_end r.end e)) || has_within e (drop (i + 1) ns))
+unfolding place_at
+has_within-next e d [] i l = absurd (omega (arith, l))
+has_within-next e d (n ∷ ns) zero l = refl
+has_within-next e d (n ∷ ns) (suc i) l =
+    let one : suc (i + 1) ≡ suc i + 1 = omega arith in
+    has_within-next e d ns i (omega (arith, l)) ∙
+    ap (λ j. is_some (find_router (place_at d ns i) (λ r. is_terminal r && same_end r.end e)) || has_within e (drop j (n ∷ ns))) one
 
 -- a list of parts, and entries with a part of each
 pub of-parts : {X V : Type 0} (h : V → ℕ) (g : X → V) (xs : List X) → total_list h (map g xs) ≡ total_list (λ x. h (g x)) xs

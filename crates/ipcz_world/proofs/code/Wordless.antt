@@ -29,6 +29,7 @@ plain-word x s source acts.Wake h = absurd (true≢false (sym h))
 plain-word x s source acts.Claim h = absurd (true≢false (sym h))
 plain-word x s source acts.Lock h = absurd (true≢false (sym h))
 plain-word x s source acts.Begin h = refl
+plain-word x s source acts.Retire h = refl
 plain-word x s source acts.Unlock h = absurd (true≢false (sym h))
 plain-word x s source acts.Rest h = refl
 
@@ -51,6 +52,7 @@ plain-answer w r acts.Wake h = absurd (true≢false (sym h))
 plain-answer w r acts.Claim h = absurd (true≢false (sym h))
 plain-answer w r acts.Lock h = absurd (true≢false (sym h))
 plain-answer w r acts.Begin h = plain-link w r.end.side (source_of r) acts.Begin (primary_word r) h
+plain-answer w r acts.Retire h = plain-link w r.end.side (source_of r) acts.Retire (primary_word r) h
 plain-answer w r acts.Unlock h = absurd (true≢false (sym h))
 plain-answer w r acts.Rest h = plain-link w r.end.side (source_of r) acts.Rest (primary_word r) h
 
@@ -68,6 +70,7 @@ untouched w r acts.Wake h = absurd (true≢false (sym h))
 untouched w r acts.Claim h = absurd (true≢false (sym h))
 untouched w r acts.Lock h = absurd (true≢false (sym h))
 untouched w r acts.Begin h = refl
+untouched w r acts.Retire h = refl
 untouched w r acts.Unlock h = absurd (true≢false (sym h))
 untouched w r acts.Rest h = refl
 
@@ -85,6 +88,7 @@ may_be_told acts.Wake h = absurd (true≢false (sym h))
 may_be_told acts.Claim h = absurd (true≢false (sym h))
 may_be_told acts.Lock h = absurd (true≢false (sym h))
 may_be_told acts.Begin h = tt
+may_be_told acts.Retire h = tt
 may_be_told acts.Unlock h = absurd (true≢false (sym h))
 may_be_told acts.Rest h = tt
 

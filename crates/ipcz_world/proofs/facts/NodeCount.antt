@@ -36,6 +36,7 @@ count-touch w r acts.Wake = count-touch_word w r.end.side (source_of r) acts.Wak
 count-touch w r acts.Claim = count-claim_next w
 count-touch w r acts.Lock = count-touch_word w r.end.side (source_of r) acts.Lock (primary_word r)
 count-touch w r acts.Begin = refl
+count-touch w r acts.Retire = refl
 count-touch w r acts.Unlock = count-touch_word w r.end.side (source_of r) acts.Unlock (primary_word r)
 count-touch w r acts.Rest = refl
 

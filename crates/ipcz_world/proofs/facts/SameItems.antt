@@ -1,4 +1,5 @@
 -- What the test of items tells: that two are one, and that one is itself.
+use Rattle.ipcz_base.specs.declared.item.Item.TheVariants.{Gone}
 use Rattle.std.specs.Prelude.{◌≡◌, ℕ, true, nat_eq, List, [], ◌∷◌, bytes_eq, refl}
 use Rattle.std.specs.Cmp.Lexicographic.{pointwise}
 use Rattle.std.proofs.Common.{arith, ap}
@@ -31,6 +32,11 @@ same_item-tells (Parcel p) (Parcel q) h =
 same_item-tells (Parcel p) Mark h = cc
 same_item-tells Mark (Parcel q) h = cc
 same_item-tells Mark Mark h = refl
+same_item-tells (Parcel p) Gone h = cc
+same_item-tells Mark Gone h = cc
+same_item-tells Gone (Parcel q) h = cc
+same_item-tells Gone Mark h = cc
+same_item-tells Gone Gone h = refl
 
 same_bytes-itself : (bs : List ℕ) → bytes_eq bs bs ≡ true
 same_bytes-itself [] = refl
@@ -43,3 +49,4 @@ same_ends-itself (e ∷ es) = rw (same_end-itself e, same_ends-itself es) refl
 pub same_item-itself : (x : Item) → same_item x x ≡ true
 same_item-itself (Parcel p) = rw (same_bytes-itself p.bytes, same_ends-itself p.ends) refl
 same_item-itself Mark = refl
+same_item-itself Gone = refl

@@ -1,4 +1,5 @@
 -- A link's side that is awaited is made by a message under way from the node of its other side.
+use Rattle.ipcz_world.specs.Records.{Retired}
 use Rattle.std.specs.Prelude.{◌≡◌, ◌≤◌, ℕ, zero, suc, Bool, true, false, cond, ◌&&◌, Option, Some, None, is_some, refl, List, [], ◌∷◌}
 use Rattle.std.specs.Prelude.{slice_get}
 use Rattle.std.proofs.Common.{arith, ap, subst, ◌∙◌, sym}
@@ -120,6 +121,7 @@ pub moving_known : (t : Terminal) (link : LinkId) → moving_link t ≡ Some lin
 unfolding terminal_descriptor
 moving_known Nowhere link h = cc
 moving_known (At k) link h = cc
+moving_known Retired link h = cc
 moving_known (Moving d) link h = (d, refl, grind (arith, h))
 
 has_moved-at : (link : LinkId) (ds : List Descriptor) (j : ℕ) (d : Descriptor) → slice_get ds j ≡ Some d → same_link d.link link ≡ true →

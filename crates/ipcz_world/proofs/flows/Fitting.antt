@@ -1,4 +1,6 @@
 -- What is said of an item under way, message by message.
+use Rattle.std.specs.Prelude.{◌||◌}
+use Rattle.ipcz_world.specs.Records.{is_left}
 use Rattle.std.specs.Prelude.{◌≡◌, ◌≤◌, ◌<◌, ℕ, true, false, Some, None, is_some, refl, List}
 use Rattle.std.proofs.Common.{arith, subst, ◌∙◌, sym}
 use Rattle.ipcz_world.proofs.Vocabulary.{Side, LinkId, Central, Descriptor, Item, opposite, Queue, item_at, Router, World, Key, Records}
@@ -17,7 +19,8 @@ pub record ItemFits (w : World) (g : Records) (from to i : ℕ) (link : LinkId) 
   pub below_length : (length : ℕ) → side_length g link (opposite s) ≡ Some length → n < length
   pub was_sent : (u : ℕ) → next_sent link (opposite s) (view w g link (opposite s)) ≡ Some u → n < u
   pub by_sender : may_have_sent (view w g link (opposite s)) ≡ true
-  pub sender_gone : is_gone (view w g link (opposite s)) ≡ true → is_some (side_length g link (opposite s)) ≡ true
+  pub sender_gone : is_gone (view w g link (opposite s)) ≡ true →
+      (is_some (side_length g link (opposite s)) || is_left g link (opposite s)) ≡ true
   pub not_passed : (q : Queue Item) → taking_queue link s (view w g link s) ≡ Some q → q.current ≤ n
   pub behind : is_awaited (view w g link s) ≡ true → is_made_before w from to i link s ≡ true
   pub not_awaited_low : (c o : ℕ) → link ≡ Central c → (g.central c).router s ≡ None → (g.central c).born ≡ Some o →

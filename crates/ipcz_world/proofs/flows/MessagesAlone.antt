@@ -1,4 +1,5 @@
 -- Messages alone move: where routers and words are the same, and nothing is under way but what was and Flushes, the invariant is kept.
+use Rattle.ipcz_world.proofs.frames.GonesKept.{gones-by, gone_like-itself}
 use Rattle.ipcz_world.proofs.frames.Sourcing.{sourced-by, had-itself}
 use Rattle.ipcz_word.specs.Word.{Word}
 use Rattle.ipcz_world.proofs.weights.OfRecords.{holds, held_times, in_node, in_message, in_places}
@@ -166,7 +167,9 @@ module _ (w v : World) (g : Records) (p : Passes w v g) where
     marked_central = λ q r at. law.marked_central q r (back q r at);
     marked_still = λ q r at. law.marked_still q r (back q r at);
     holds_marked = λ q r at. law.holds_marked q r (back q r at);
-    holds_proxy = λ q r at. law.holds_proxy q r (back q r at);
+    holds_fit = λ q r at. law.holds_fit q r (back q r at);
+    dropped_sink = λ q r at. law.dropped_sink q r (back q r at);
+    sent_proxy = λ q r at. law.sent_proxy q r (back q r at);
     holds_spare = λ q r at. law.holds_spare q r (back q r at);
     spare_proxy = λ q r i at. law.spare_proxy q r i (back q r at);
     spare_primary = λ q r i at. law.spare_primary q r i (back q r at);
@@ -217,14 +220,18 @@ module _ (w v : World) (g : Records) (p : Passes w v g) where
 
   stands-passes : Stands w g → Stands v g
   stands-passes law = record {
-    central = λ i s q a b e. known (Some q) _ ∙ law.central i s q a b e;
+    central = λ i s q a b n e. known (Some q) _ ∙ law.central i s q a b n e;
     awaited = law.awaited;
     awaited_stage = law.awaited_stage;
     awaited_side = law.awaited_side;
-    proxy = λ q a b. known (side_router g (inner_link q) A) _ ∙ law.proxy q (was_recorded _ a) b;
-    inner = λ q k a b e. known (Some k) _ ∙ law.inner q k (was_recorded _ a) b e;
+    proxy = λ q a b n. known (side_router g (inner_link q) A) _ ∙ law.proxy q (was_recorded _ a) b n;
+    inner = λ q k a b n e. known (Some k) _ ∙ law.inner q k (was_recorded _ a) b n e;
     by_begun = law.by_begun;
     by_inner = law.by_inner;
+    left_recorded = λ l s h. recorded l ∙ law.left_recorded l s h;
+    left_known = law.left_known;
+    left_gone = λ l s h. known (side_router g l s) _ ∙ law.left_gone l s h;
+    left_live = law.left_live;
   }
 
   words-passes : Words w g → Words v g
@@ -232,14 +239,15 @@ module _ (w v : World) (g : Records) (p : Passes w v g) where
     unused = λ i h. p.words i ∙ law.unused i h;
     begun_stable = λ i s h. ap (λ z. has z.stable s) (p.words i) ∙ law.begun_stable i s h;
     begun_holder = λ i s h. ap (λ z. has z.holder s) (p.words i) ∙ law.begun_holder i s h;
-    stable = λ i s a b. ap (λ z. has z.stable s) (p.words i) ∙ law.stable i s a b ∙ sym (known (side_router g (Central i) s) _);
-    holder = λ i s a b. ap (λ z. has z.holder s) (p.words i) ∙ law.holder i s a b ∙ sym (known (side_router g (Central i) s) _);
+    stable = λ i s a b n. ap (λ z. has z.stable s) (p.words i) ∙ law.stable i s a b n ∙ sym (known (side_router g (Central i) s) _);
+    holder = λ i s a b n. ap (λ z. has z.holder s) (p.words i) ∙ law.holder i s a b n ∙ sym (known (side_router g (Central i) s) _);
     held_stable = λ i s t h. ap (λ z. has z.stable t) (p.words i) ∙ law.held_stable i s t (sym (ap (λ z. has z.holder s) (p.words i)) ∙ h);
     one_holder = λ i s t a b. law.one_holder i s t (sym (ap (λ z. has z.holder s) (p.words i)) ∙ a)
         (sym (ap (λ z. has z.holder t) (p.words i)) ∙ b);
     source = sourced-by w v (λ q r at h. had-itself w q r (back q r at))
         (λ q r e i at m l. ap (λ (z : Word). z.source) (p.words i)) law.source;
     begun_source = λ o h l. ap (λ (z : Word). z.source) (p.words o) ∙ law.begun_source o h l;
+    left_held = λ i s h. rw (p.words i) (law.left_held i s h);
   }
 
   spares-passes : Spares w g → Spares v g
@@ -346,6 +354,8 @@ module _ (w v : World) (g : Records) (p : Passes w v g) where
   books-passes b law = record {
     own_pair = law.own_pair;
     mark_last = law.mark_last;
+    gone_last = law.gone_last;
+    retired_closed = law.retired_closed;
     numbers = law.numbers;
     mark_seen =
         λ q r at. law.mark_seen q r (back q r at);
@@ -449,6 +459,8 @@ module _ (w v : World) (g : Records) (p : Passes w v g) where
     terminals = terminals-passes law.terminals;
     end_places = end_places-passes law.end_places;
     books_kept = books-passes b law.books_kept;
+    retired_ends = law.retired_ends;
+    gones = gones-by w v b g g (λ q r at. record { router = r; at = back q r at; alike = gone_like-itself r }) (λ l s h. h) law.gones;
     items = items-passes law.items;
     order = order-passes law.order;
     proxy_numbers = proxy_numbers-passes law.proxy_numbers;

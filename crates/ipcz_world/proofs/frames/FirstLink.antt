@@ -7,7 +7,7 @@ use Rattle.ipcz_world.specs.Records.{CentralRecord}
 use Rattle.ipcz_world.proofs.frames.FreshPairs.{IsGrown}
 use Rattle.ipcz_world.proofs.frames.FirstLinkLinks.{counts-grown, ordered-grown, shape-grown, links-grown, positions-grown}
 use Rattle.ipcz_world.proofs.frames.FirstLinkStages.{stands-grown, words-grown, spares-grown, bypasses-grown, stages-grown, told-grown}
-use Rattle.ipcz_world.proofs.frames.FirstLinkItems.{moves-grown, terminals-grown, end_places-grown, books_kept-grown, items-grown}
+use Rattle.ipcz_world.proofs.frames.FirstLinkItems.{moves-grown, terminals-grown, end_places-grown, books_kept-grown, items-grown, retired-grown, gones-grown}
 use Rattle.ipcz_world.proofs.frames.FirstLinkItems.{order-grown, proxy_numbers-grown, fresh_numbers-grown, conserved-grown, held_once-grown}
 
 module _ (w v : World) (b : Books) (g : Records) (owner' : ℕ → Owner) (central' : ℕ → CentralRecord) (terminal' : End → Terminal) (i : ℕ)
@@ -32,6 +32,8 @@ module _ (w v : World) (b : Books) (g : Records) (owner' : ℕ → Owner) (centr
     terminals = terminals-grown law is;
     end_places = end_places-grown law is;
     books_kept = books_kept-grown law is;
+    retired_ends = retired-grown law is;
+    gones = gones-grown law is;
     items = items-grown law is;
     order = order-grown law is;
     proxy_numbers = proxy_numbers-grown law is;

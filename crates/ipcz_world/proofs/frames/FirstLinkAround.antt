@@ -1,4 +1,6 @@
 -- A word becomes a pair's first link: what the records say of the links and bypasses that were there, and of the new link.
+use Rattle.ipcz_word.specs.SideSets.{has, has-none}
+use Rattle.ipcz_world.specs.Records.{is_left}
 use Rattle.std.specs.Prelude.{◌≡◌, ◌≢◌, ◌⊎◌, ◌≤◌, ℕ, Bool, true, false, nat_eq, Option, Some, None, refl}
 use Rattle.std.proofs.Common.{arith, ap, ◌∙◌, sym, inl, inr}
 use Rattle.std.proofs.lemmas.Bool.Decides.{nat_tests}
@@ -81,6 +83,33 @@ module _ {w v : World} {b : Books} {g : Records} {owner' : ℕ → Owner} {centr
   unfolding bypass_of
   bypass_kept (Central j) = refl
   bypass_kept (Peripheral n x) = refl
+
+  -- nobody has left the word
+  pub left_before : (s : Side) → is_left g (Central i) s ≡ false
+  left_before s = go (is_left g (Central i) s) refl
+    where
+      go : (c : Bool) → is_left g (Central i) s ≡ c → c ≡ false
+      go false e = refl
+      go true e = absurd (recorded_apart (Central i) (law.stands.left_recorded (Central i) s e) refl)
+
+  left_after : (s : Side) → is_left h (Central i) s ≡ false
+  unfolding is_left
+  left_after s = go (is_linked (owner' i)) refl
+    where
+      go : (c : Bool) → is_linked (owner' i) ≡ c → has (central' i).left s ≡ false
+      go true e = ap (λ x. has x s) (is.linked e).left ∙ has-none s
+      go false e = ap (λ (c : CentralRecord). has c.left s) (is.still e) ∙ left_before s
+
+  -- the same sides are left
+  pub left_same : (l : LinkId) (s : Side) → is_left h l s ≡ is_left g l s
+  unfolding is_left
+  left_same (Central j) s = go (nat_eq j i) refl
+    where
+      go : (c : Bool) → nat_eq j i ≡ c → has (central' j).left s ≡ has (g.central j).left s
+      go true e = let z : j ≡ i = grind (arith, e, nat_tests) in ap (λ n. has (central' n).left s) z ∙ left_after s ∙ sym (left_before s) ∙
+          ap (λ n. has (g.central n).left s) (sym z)
+      go false e = ap (λ (c : CentralRecord). has c.left s) (is.central j (λ z. grind (arith, e, z, nat_tests)))
+  left_same (Peripheral n x) s = refl
 
   -- an end of an opened pair has its terminal where it was
   pub terminal_kept : (e : End) → is_nowhere (g.terminal e) ≡ false → terminal' e ≡ g.terminal e

@@ -1,4 +1,15 @@
 -- A word becomes a pair's first link: the terminals and descriptors, the numbers of items and their places.
+use Rattle.ipcz_world.proofs.Vocabulary.{inward_edge, opposite_end, LinkEnd}
+use Rattle.std.specs.Prelude.{nat_le}
+use Rattle.std.proofs.lemmas.Option.{same_Some}
+use Rattle.ipcz_world.proofs.frames.FirstLinkAround.{left_same, left_before, by_word, begun_apart}
+use Rattle.ipcz_router.specs.Router.{decays}
+use Rattle.ipcz_world.proofs.frames.GonesKept.{gones-new, gone_like-itself, retired_somewhere}
+use Rattle.std.specs.Prelude.{◌||◌}
+use Rattle.ipcz_base.specs.Ends.{end_at}
+use Rattle.ipcz_world.specs.Books.{is_retired}
+use Rattle.ipcz_world.specs.Records.{is_left, Retired, side_length}
+use Rattle.ipcz_world.specs.Whereabouts.{RetiredEnds, Gones}
 use Rattle.std.specs.Prelude.{◌≡◌, ◌≢◌, ◌≤◌, ℕ, Bool, true, false, ◌&&◌, nat_eq, Some, is_some, refl, [], length, slice_get}
 use Rattle.std.proofs.Common.{arith, ap, subst, ◌∙◌, sym, inl, inr}
 use Rattle.std.proofs.lemmas.Bool.Decides.{nat_tests}
@@ -158,6 +169,8 @@ module _ {w v : World} {b : Books} {g : Records} {owner' : ℕ → Owner} {centr
   books_kept-grown = record {
     own_pair = law.books_kept.own_pair;
     mark_last = law.books_kept.mark_last;
+    gone_last = law.books_kept.gone_last;
+    retired_closed = law.books_kept.retired_closed;
     numbers = law.books_kept.numbers;
     mark_seen = λ q x a m. elim (is.was q x a) [
       | inl o ↦ law.books_kept.mark_seen q x o m
@@ -165,6 +178,63 @@ module _ {w v : World} {b : Books} {g : Records} {owner' : ℕ → Owner} {centr
           (not_both x.mark_seen m (ap (λ (x : Router). x.mark_seen) o.0.is))
     ];
   }
+
+  pub retired-grown : RetiredEnds b h
+  retired-grown = record {
+    retired = λ e a. let t : g.terminal e ≡ Retired = law.retired_ends.retired e a in
+        terminal_kept law is e (ap is_nowhere t ∙ retired_somewhere) ∙ t;
+    peer_closed = law.retired_ends.peer_closed;
+    peer_stays = law.retired_ends.peer_stays;
+    all_read = law.retired_ends.all_read;
+    gone_read = λ e t n. law.retired_ends.gone_read e (was e t) n;
+    no_bypass = λ o s l m. ap (λ (c : CentralRecord). is_retired b (end_at c.pair s)) (is.central o (begun_apart law is o (early (g.bypass o).stage l))) ∙
+        law.retired_ends.no_bypass o s l m;
+    left = λ e j a l n p. elim (by_word law is j l) [
+      | inl o ↦ left_same law is (Central j) e.side ∙ law.retired_ends.left e j a o.1 n
+          (ap (λ (c : CentralRecord). c.pair) (sym (is.central j o.0)) ∙ p)
+      | inr o ↦ absurd (never e a (sym p ∙ ap (λ n. (central' n).pair) o.0 ∙ (is.linked o.1).pair))
+    ];
+    left_of = λ l s e. let before : is_left g l s ≡ true = sym (left_same law is l s) ∙ e in
+        ap (λ d. is_retired b d || is_retired b (opposite_end d)) (end_kept law is l s
+        (recorded_apart law is l (law.stands.left_recorded l s before))) ∙ law.retired_ends.left_of l s before;
+    accepted = λ o l. rw (is.central o (begun_apart law is o (late (g.bypass o).stage l))) (law.retired_ends.accepted o l);
+  }
+    where
+      early : (n : ℕ) → 1 ≤ n → nat_le 1 n ≡ true
+      early n l = grind (arith, l, nat_tests)
+
+      late : (n : ℕ) → 3 ≤ n → nat_le 1 n ≡ true
+      late n l = grind (arith, l, nat_tests)
+
+      was : (e : End) → terminal' e ≡ Retired → g.terminal e ≡ Retired
+      was e t = elim (is.terminal e) [ inl s ↦ sym s ∙ t | inr s ↦ absurd (at_retired (at e.side) (sym s.1 ∙ t)) ]
+        where
+          at_retired : (q : Key) → At q ≡ Retired → ⊥
+          at_retired q x = cc
+
+      never : (e : End) → is_retired b e ≡ true → e.pair ≡ i → ⊥
+      never e a p = not_both (is_nowhere (g.terminal e)) (law.terminals.unopened e (ap (λ j. is_linked (g.owner j)) p ∙ is.free))
+          (ap is_nowhere (law.retired_ends.retired e a) ∙ retired_somewhere)
+
+  pub gones-grown : Gones v b h
+  gones-grown = gones-new w v b g h (λ q x a. elim (is.was q x a) [
+    | inl o ↦ inl (record { router = x; at = o; alike = gone_like-itself x })
+    | inr o ↦ inr (record {
+      terminal = ap is_terminal o.0.is;
+      sent = ap (λ (x : Router). x.gone_sent) o.0.is;
+      dropped = ap (λ (x : Router). x.mark_dropped) o.0.is;
+      closed = ap (λ (x : Router). x.closed) o.0.is;
+      still = ap decays o.0.is;
+      left = λ e p. new_left e (o.0.side) (sym (ap (λ (x : Router). x.outward.primary) o.0.is) ∙ p);
+      inner = ap (λ (x : Router). (inward_edge x).primary) o.0.is;
+      out_put = subst (λ (x : Router). x.out_queue.current ≤ length (b.put x.end)) (sym o.0.is) (omega arith);
+      in_put = subst (λ (x : Router). x.in_queue.current ≤ length (b.put (opposite_end x.end))) (sym o.0.is) (omega arith);
+    })
+  ]) (λ l s n. sym (left_same law is l s) ∙ n) law.gones
+    where
+      new_left : (e : LinkEnd) (s : Side) → (fresh_at i at s).outward.primary ≡ Some e → is_left h e.link (opposite e.side) ≡ false
+      new_left e s p = let z = same_Some _ e p in ap (λ (e : LinkEnd). is_left h e.link (opposite e.side)) (sym z) ∙
+          left_same law is (Central i) (opposite s) ∙ left_before law is (opposite s)
 
   pub items-grown : Items v h
   items-grown = items_by v h (λ from to j l s n item moves u.
@@ -176,7 +246,8 @@ module _ {w v : World} {b : Books} {g : Records} {owner' : ℕ → Owner} {centr
         below_length = λ len e. fit.below_length len (sym (length_kept law is l (opposite s)) ∙ e);
         was_sent = λ x e. fit.was_sent x (ap (next_sent l (opposite s)) (sym (view_kept law is l (opposite s) fit.recorded)) ∙ e);
         by_sender = ap may_have_sent (view_kept law is l (opposite s) fit.recorded) ∙ fit.by_sender;
-        sender_gone = λ e. ap is_some (length_kept law is l (opposite s)) ∙ fit.sender_gone
+        sender_gone = λ e. ap (λ c. is_some (side_length h l (opposite s)) || c) (left_same law is l (opposite s)) ∙
+            ap (λ o. is_some o || is_left g l (opposite s)) (length_kept law is l (opposite s)) ∙ fit.sender_gone
             (ap is_gone (sym (view_kept law is l (opposite s) fit.recorded)) ∙ e);
         not_passed = λ q e. fit.not_passed q (ap (taking_queue l s) (sym (view_kept law is l s fit.recorded)) ∙ e);
         behind = λ e. made-same w v from to j l s (same law is) ∙ fit.behind (ap is_awaited (sym (view_kept law is l s fit.recorded)) ∙ e);

@@ -83,10 +83,18 @@ module _ {w v : World} {b : Books} {g : Records} {owner' : ℕ → Owner} {centr
       | inr o ↦ absurd
           (not_both x.holds m (ap (λ (x : Router). x.holds) o.0.is))
     ];
-    holds_proxy = λ q x e m. elim (is.was q x e) [
-      | inl o ↦ law.shape.holds_proxy q x o m
+    holds_fit = λ q x e m. elim (is.was q x e) [
+      | inl o ↦ law.shape.holds_fit q x o m
       | inr o ↦ absurd
           (not_both x.holds m (ap (λ (x : Router). x.holds) o.0.is))
+    ];
+    dropped_sink = λ q x e m. elim (is.was q x e) [
+      | inl o ↦ law.shape.dropped_sink q x o m
+      | inr o ↦ absurd (not_both x.mark_dropped m (ap (λ (x : Router). x.mark_dropped) o.0.is))
+    ];
+    sent_proxy = λ q x e m. elim (is.was q x e) [
+      | inl o ↦ law.shape.sent_proxy q x o m
+      | inr o ↦ absurd (not_both x.gone_sent m (ap (λ (x : Router). x.gone_sent) o.0.is))
     ];
     holds_spare = λ q x e m. elim (is.was q x e) [
       | inl o ↦ law.shape.holds_spare q x o m

@@ -25,7 +25,8 @@ use Rattle.ipcz_world.proofs.facts.Tests.{not_both}
 use Rattle.ipcz_world.proofs.frames.FirstLinkAround.{begun_apart, linked_kept, recorded_apart, recorded_kept, recorded_inner, router_kept}
 use Rattle.ipcz_world.proofs.frames.FirstLinkAround.{node_kept, end_kept, bypass_kept, kept, passes_kept, passes_same, new_router}
 use Rattle.ipcz_world.proofs.frames.FirstLinkAround.{not_inner, begun_link, by_word, central_apart, central_recorded, new_passes}
-use Rattle.ipcz_world.proofs.frames.FirstLinkAround.{fresh_link, proxy_same, same}
+use Rattle.ipcz_world.proofs.frames.FirstLinkAround.{fresh_link, proxy_same, same, left_same}
+use Rattle.ipcz_world.specs.Records.{is_left}
 
 module _ {w v : World} {b : Books} {g : Records} {owner' : ℕ → Owner} {central' : ℕ → CentralRecord} {terminal' : End → Terminal} {i : ℕ}
     {at : Side → Key} (law : Inv w b g) (is : IsGrown w v g owner' central' terminal' i at) where
@@ -34,8 +35,8 @@ module _ {w v : World} {b : Books} {g : Records} {owner' : ℕ → Owner} {centr
 
   pub stands-grown : Stands v h
   stands-grown = record {
-    central = λ j s q l nb e. elim (by_word law is j l) [
-      | inl o ↦ passes_kept law is (Some q) (has_primary (Central j) s) (law.stands.central j s q o.1 nb
+    central = λ j s q l nb nl e. elim (by_word law is j l) [
+      | inl o ↦ passes_kept law is (Some q) (has_primary (Central j) s) (law.stands.central j s q o.1 nb (sym (left_same law is (Central j) s) ∙ nl)
           (sym (router_kept law is (Central j) s (central_apart law is j o.0)) ∙ e))
       | inr o ↦ ap (λ j. key_passes v (Some q) (has_primary (Central j) s)) o.0 ∙ ap (λ k. key_passes v k (has_primary (Central i) s))
           (sym e ∙ ap (λ j. side_router h (Central j) s) o.0 ∙ new_router law is o.1 s) ∙
@@ -57,16 +58,24 @@ module _ {w v : World} {b : Books} {g : Records} {owner' : ℕ → Owner} {centr
           (ap (λ (c : CentralRecord). c.born) (sym (is.central j o.0)) ∙ born)
       | inr o ↦ absurd (known j s o e)
     ];
-    proxy = λ p r nb. ap (λ o. key_passes v o (has_inward_primary (inner_link p) A))
+    proxy = λ p r nb nl. ap (λ o. key_passes v o (has_inward_primary (inner_link p) A))
         (router_kept law is (inner_link p) A (not_inner law is p)) ∙
         passes_kept law is (side_router g (inner_link p) A) (has_inward_primary (inner_link p) A)
-        (law.stands.proxy p (recorded_inner law is p r) nb);
-    inner = λ p q r nb e. passes_kept law is (Some q) (has_primary (inner_link p) B)
-        (law.stands.inner p q (recorded_inner law is p r) nb (sym (router_kept law is (inner_link p) B (not_inner law is p)) ∙ e));
+        (law.stands.proxy p (recorded_inner law is p r) nb (sym (left_same law is (inner_link p) A) ∙ nl));
+    inner = λ p q r nb nl e. passes_kept law is (Some q) (has_primary (inner_link p) B)
+        (law.stands.inner p q (recorded_inner law is p r) nb (sym (left_same law is (inner_link p) B) ∙ nl) (sym (router_kept law is (inner_link p) B (not_inner law is p)) ∙ e));
     by_begun = law.stands.by_begun;
     by_inner = law.stands.by_inner;
+    left_recorded = λ l s e. recorded_kept law is l (law.stands.left_recorded l s (sym (left_same law is l s) ∙ e));
+    left_known = λ l s e. ap is_some (router_kept law is l s (left_apart l s e)) ∙ law.stands.left_known l s (sym (left_same law is l s) ∙ e);
+    left_gone = λ l s e. passes_same law is l s (λ r. true) (law.stands.left_recorded l s (sym (left_same law is l s) ∙ e)) ∙
+        law.stands.left_gone l s (sym (left_same law is l s) ∙ e);
+    left_live = λ l s e. bypass_kept law is l ∙ law.stands.left_live l s (sym (left_same law is l s) ∙ e);
   }
     where
+      left_apart : (l : LinkId) (s : Side) → is_left h l s ≡ true → l ≢ Central i
+      left_apart l s e = recorded_apart law is l (law.stands.left_recorded l s (sym (left_same law is l s) ∙ e))
+
       known : (j : ℕ) (s : Side) → (j ≡ i) × (is_linked (owner' i) ≡ true) → (central' j).router s ≡ None → ⊥
       known j s o e = let r = (is.linked o.1).router s in let two : Some (at s).serial ≡ None =
           sym r ∙ ap (λ j. (central' j).router s) (sym o.0) ∙ e in cc
@@ -80,15 +89,18 @@ module _ {w v : World} {b : Books} {g : Records} {owner' : ℕ → Owner} {centr
     ];
     begun_stable = λ j s c. ap (λ (x : Word). has x.stable s) (is.word j (begun_apart law is j c)) ∙ law.words.begun_stable j s c;
     begun_holder = λ j s c. ap (λ (x : Word). has x.holder s) (is.word j (begun_apart law is j c)) ∙ law.words.begun_holder j s c;
-    stable = λ j s l nb. elim (by_word law is j l) [
-      | inl o ↦ ap (λ (x : Word). has x.stable s) (is.word j o.0) ∙ law.words.stable j s o.1 nb ∙ sym
+    stable = λ j s l nb nl. elim (by_word law is j l) [
+      | inl o ↦ ap (λ (x : Word). has x.stable s) (is.word j o.0) ∙ law.words.stable j s o.1 nb (sym (left_same law is (Central j) s) ∙ nl) ∙ sym
           (passes_same law is (Central j) s (λ r. r.marked) (central_recorded law is j o.1))
       | inr o ↦ ap (λ j. has (word_at v j).stable s) o.0 ∙ ap (λ (x : Word). has x.stable s) (is.linked o.1).word ∙ has-both s ∙ sym
           (ap (λ j. key_passes v (side_router h (Central j) s) (λ r. r.marked)) o.0 ∙ ap (λ k. key_passes v k (λ r. r.marked))
           (new_router law is o.1 s) ∙ new_passes law is o.1 s (λ r. r.marked) ∙ fresh_marked i at s)
     ];
-    holder = λ j s l nb. elim (by_word law is j l) [
-      | inl o ↦ ap (λ (x : Word). has x.holder s) (is.word j o.0) ∙ law.words.holder j s o.1 nb ∙ sym
+    left_held = λ j s e. let n = left_same law is (Central j) in
+        rw (n A, n B, is.word j (λ m. recorded_apart law is (Central j) (law.stands.left_recorded (Central j) s (sym (n s) ∙ e)) (ap Central m)))
+        (law.words.left_held j s (sym (n s) ∙ e));
+    holder = λ j s l nb nl. elim (by_word law is j l) [
+      | inl o ↦ ap (λ (x : Word). has x.holder s) (is.word j o.0) ∙ law.words.holder j s o.1 nb (sym (left_same law is (Central j) s) ∙ nl) ∙ sym
           (passes_same law is (Central j) s (λ r. r.holds) (central_recorded law is j o.1))
       | inr o ↦ ap (λ j. has (word_at v j).holder s) o.0 ∙ ap (λ (x : Word). has x.holder s) (is.linked o.1).word ∙ has-none s ∙ sym
           (ap (λ j. key_passes v (side_router h (Central j) s) (λ r. r.holds)) o.0 ∙ ap (λ k. key_passes v k (λ r. r.holds))

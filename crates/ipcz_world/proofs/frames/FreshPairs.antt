@@ -1,4 +1,6 @@
 -- A word that gets its owner, and the terminals of a pair that is new on it: the relation, and small facts of fresh terminals.
+use Rattle.ipcz_word.specs.SideSets.{none}
+use Rattle.ipcz_world.specs.Records.{Retired}
 use Rattle.ipcz_world.proofs.weights.OfRecords.{holds, in_places}
 use Rattle.std.specs.Prelude.{◌≡◌, ◌≢◌, ◌⊎◌, ◌≤◌, ◌<◌, ◌+◌, ℕ, Bool, true, false, cond, nat_le, Some, None, refl}
 use Rattle.std.specs.Ordering.{nat_cmp}
@@ -38,6 +40,7 @@ pub record IsPair (v : World) (c : CentralRecord) (t : End → Terminal) (i : �
   pub node : (s : Side) → c.node s ≡ (at s).node
   pub router : (s : Side) → c.router s ≡ Some (at s).serial
   pub born : c.born ≡ None
+  pub left : c.left ≡ none
   pub terminal : (s : Side) → t (end_of i s) ≡ At (at s)
   pub word : word_at v i ≡ open_word
 
@@ -136,12 +139,14 @@ pub move_none : (f : Descriptor → ℕ) (t : Terminal) → is_nowhere t ≡ tru
 unfolding move_weight is_nowhere
 move_none f Nowhere n = refl
 move_none f (At k) n = cc
+move_none f Retired n = cc
 move_none f (Moving d) n = cc
 
 pub known_somewhere : (t : Terminal) (m : ℕ) → terminal_node t ≡ Some m → is_nowhere t ≡ false
 unfolding terminal_node is_nowhere
 known_somewhere Nowhere m e = cc
 known_somewhere (At k) m e = refl
+known_somewhere Retired m e = refl
 known_somewhere (Moving d) m e = refl
 
 pub inner_end : (g : Records) (p : Key) → side_end g (inner_link p) A ≡ (g.peripheral p).end

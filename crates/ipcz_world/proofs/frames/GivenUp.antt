@@ -3,7 +3,7 @@ use Rattle.ipcz_world.proofs.frames.Sourcing.{sourced-by}
 use Rattle.ipcz_world.proofs.frames.GivingUp.{WasSame, was_same}
 use Rattle.ipcz_word.specs.Word.{Word}
 use Rattle.ipcz_world.proofs.weights.OfRecords.{holds, held_times}
-use Rattle.std.specs.Prelude.{◌<◌, ◌≡◌, ◌≢◌, ◌⊎◌, ◌≤◌, ℕ, ◌+◌, Bool, true, false, not, ◌&&◌, Option, Some, None, is_some, List, refl}
+use Rattle.std.specs.Prelude.{◌<◌, ◌≡◌, ◌≢◌, ◌⊎◌, ◌≤◌, ℕ, ◌+◌, Bool, true, false, not, ◌&&◌, ◌||◌, Option, Some, None, is_some, List, refl}
 use Rattle.std.proofs.Common.{arith, sym, ◌∙◌, ap, subst, inl, inr}
 use Rattle.std.proofs.lemmas.Option.{same_Some, none-some}
 use Rattle.ipcz_world.proofs.Vocabulary.{Side, A, B, End, LinkId, Central, LinkEnd, Descriptor, Item, Message, opposite, has, same_end}
@@ -24,25 +24,31 @@ use Rattle.ipcz_world.proofs.frames.OneRouter.{SameWords, SameButRouter}
 use Rattle.ipcz_world.proofs.flows.SameMessages.{recorded-same, under-same, made-same, bypasses-same, told-same, moves-same}
 use Rattle.ipcz_world.proofs.views.Views.{IsPart, Seen, GivesUp, seen, next_sent-seen, taking-seen, may_have_sent-seen}
 use Rattle.ipcz_world.proofs.views.Views.{awaited-seen, gone-seen, standing-seen}
-use Rattle.ipcz_world.proofs.frames.GivingUp.{Gives, HasSameFlags, Keeps, same-messages, was, passes-still, passes-primary, counts-gives}
+use Rattle.ipcz_world.proofs.frames.GivingUp.{Gives, IsBare, HasSameFlags, Keeps, same-messages, was, passes-still, passes-primary, counts-gives}
 use Rattle.ipcz_world.proofs.frames.GivingUp.{ordered-gives, shape-gives, links-gives, begun_part, positions-gives, stands-gives}
 use Rattle.ipcz_world.proofs.frames.GivingUp.{flag-still}
+use Rattle.ipcz_world.proofs.frames.GonesKept.{IsGoneLike, gones-by}
+use Rattle.ipcz_world.specs.Whereabouts.{Gones}
+use Rattle.ipcz_world.specs.Records.{is_left}
+use Rattle.ipcz_router.specs.Router.{decays}
 
 pub has_some : (o : Option LinkEnd) (l : LinkId) (s : Side) → has_link o l s ≡ true → is_some o ≡ true
 unfolding has_link
 has_some None l s h = grind (arith, h)
 has_some (Some e) l s h = refl
 
-pub words-gives : (w v : World) (g : Records) (k : Key) (r : Router) (x : Option Router) → Gives w v k r x → Keeps w v r x → Stands w g →
+pub words-gives : (w v : World) (g : Records) (k : Key) (r : Router) (x : Option Router) → Gives w v k r x → IsBare r x → Keeps w v r x → Stands w g →
     Words w g → Words v g
-words-gives w v g k r x c keeps stands law = record {
+words-gives w v g k r x c bare keeps stands law = record {
   unused = λ i h. keeps.words.words i ∙ law.unused i h;
   begun_stable = λ i s h. ap (λ z. has z.stable s) (keeps.words.words i) ∙ law.begun_stable i s h;
   begun_holder = λ i s h. ap (λ z. has z.holder s) (keeps.words.words i) ∙ law.begun_holder i s h;
-  stable = λ i s a b. ap (λ z. has z.stable s) (keeps.words.words i) ∙ law.stable i s a b ∙ sym
-      (flag-still c keeps _ (side_router g (Central i) s) (λ y p. p.marked) (there i s a b));
-  holder = λ i s a b. ap (λ z. has z.holder s) (keeps.words.words i) ∙ law.holder i s a b ∙ sym
-      (flag-still c keeps _ (side_router g (Central i) s) (λ y p. p.holds) (there i s a b));
+  stable = λ i s a b n. ap (λ z. has z.stable s) (keeps.words.words i) ∙ law.stable i s a b n ∙ sym
+      (flag-still c bare keeps _ (side_router g (Central i) s) (λ y p. p.marked) (there i s a b n));
+  holder = λ i s a b n. ap (λ z. has z.holder s) (keeps.words.words i) ∙ law.holder i s a b n ∙ sym
+      (flag-still c bare keeps _ (side_router g (Central i) s) (λ y p. p.holds) (there i s a b n));
+  left_held = λ i s h. ap (λ (z : Word). (is_left g (Central i) A && has z.holder A) || (is_left g (Central i) B && has z.holder B))
+      (keeps.words.words i) ∙ law.left_held i s h;
   held_stable = λ i s t h. ap (λ z. has z.stable t) (keeps.words.words i) ∙ law.held_stable i s t
       (sym (ap (λ z. has z.holder s) (keeps.words.words i)) ∙ h);
   one_holder = λ i s t a b. law.one_holder i s t (sym (ap (λ z. has z.holder s) (keeps.words.words i)) ∙ a)
@@ -53,9 +59,9 @@ words-gives w v g k r x c keeps stands law = record {
   begun_source = λ o h l. ap (λ (z : Word). z.source) (keeps.words.words o) ∙ law.begun_source o h l;
 }
   where
-    there : (i : ℕ) (s : Side) → is_linked (g.owner i) ≡ true → is_begun (g.bypass i) ≡ false → side_router g (Central i) s ≡ Some k →
-        is_some r.outward.primary ≡ true
-    there i s a b e = has_some r.outward.primary (Central i) s (grind (arith, standing_rules, stands.central i s k a b e, c.here))
+    there : (i : ℕ) (s : Side) → is_linked (g.owner i) ≡ true → is_begun (g.bypass i) ≡ false → is_left g (Central i) s ≡ false →
+        side_router g (Central i) s ≡ Some k → is_some r.outward.primary ≡ true
+    there i s a b n e = has_some r.outward.primary (Central i) s (grind (arith, standing_rules, stands.central i s k a b n e, c.here))
 
 pub spares-gives : (w v : World) (g : Records) (k : Key) (r : Router) (x : Option Router) → Gives w v k r x →
     ((y : Router) → x ≡ Some y → y.spare ≡ r.spare) → (x ≡ None → r.spare ≡ None) → Spares w g → Spares v g
@@ -89,7 +95,8 @@ pub record Settled (w v : World) (g : Records) (k : Key) (r : Router) (x : Optio
       has_inward_decaying (inner_of g o) A r ≡ true → passes x (has_inward_decaying (inner_of g o) A) ≡ true
   pub inner : (o : ℕ) → side_router g (inner_of g o) B ≡ Some k → 2 ≤ (g.bypass o).stage → (g.bypass o).stage ≤ 4 →
       has_decaying (inner_of g o) B r ≡ true → passes x (has_decaying (inner_of g o) B) ≡ true
-  pub known : (l : LinkId) (s : Side) → GivesUp l s r x (view w g l s) (view v g l s) → is_some (side_length g l s) ≡ true
+  pub known : (l : LinkId) (s : Side) → GivesUp l s r x (view w g l s) (view v g l s) →
+      (is_some (side_length g l s) || is_left g l s) ≡ true
   pub nothing : (from to i : ℕ) (l : LinkId) (s : Side) (n : ℕ) (item : Item) (moves : List Descriptor) →
       IsItemUnderWay w from to i l s n item moves → GivesUp l s r x (view w g l s) (view v g l s) → ⊥
   pub across_gone : (o : ℕ) (q : Router) → router_at w (g.bypass o).proxy ≡ Some q → 3 ≤ (g.bypass o).stage →
@@ -102,38 +109,39 @@ pub record Settled (w v : World) (g : Records) (k : Key) (r : Router) (x : Optio
   pub in_finished : (o : ℕ) (y : Router) → (g.bypass o).proxy ≡ k → 4 ≤ (g.bypass o).stage → x ≡ Some y → (inward_edge y).decaying ≡ None →
       (g.bypass o).accepted_at ≤ r.in_queue.current
 
-pub stages-flags : (w v : World) (g : Records) (k : Key) (r : Router) (x : Option Router) → Gives w v k r x → Settled w v g k r x →
+pub stages-flags : (w v : World) (g : Records) (k : Key) (r : Router) (x : Option Router) → Gives w v k r x → IsBare r x → Settled w v g k r x →
     Stages w g → ((o : ℕ) → is_begun (g.bypass o) ≡ true → (g.bypass o).stage ≤ 2 →
     key_passes v (side_router g (Central o) (across_side g o)) (λ z. z.marked) ≡ true) →
     ((o : ℕ) → is_begun (g.bypass o) ≡ true → (g.bypass o).stage ≤ 2 →
     key_passes v (side_router g (Central o) (across_side g o)) (λ z. not z.holds) ≡ true) → Stages v g
-stages-flags w v g k r x c is law marked free = record {
+stages-flags w v g k r x c bare is law marked free = record {
   proxy_old = λ o a b. passes-still c _ _ (law.proxy_old o a b) (λ e. is.own_old o (same_Some _ _ e) a b);
   proxy_inner = λ o a b. passes-still c _ _ (law.proxy_inner o a b) (λ e. is.own_inner o (same_Some _ _ e) a b);
   proxy_begun = λ o y a at. let p = was c _ y at in begun_part p.router y p.part ∙ law.proxy_begun o p.router a p.at;
   proxy_end = λ o y a at. let p = was c _ y at in p.part.end ∙ law.proxy_end o p.router a p.at;
-  across_old = λ o a b. passes-still c _ _ (law.across_old o a b) (λ e. passes-primary c _ _);
+  across_old = λ o a b. passes-still c _ _ (law.across_old o a b) (λ e. passes-primary c bare _ _);
   across_marked = marked;
   across_free = free;
-  across_fresh = λ o a b. passes-still c _ _ (law.across_fresh o a b) (λ e. passes-primary c _ _);
-  inner_primary = λ o q a e. passes-still c _ _ (law.inner_primary o q a e) (λ f. passes-primary c _ _);
+  across_fresh = λ o a b. passes-still c _ _ (law.across_fresh o a b) (λ e. passes-primary c bare _ _);
+  inner_primary = λ o q a e. passes-still c _ _ (law.inner_primary o q a e) (λ f. passes-primary c bare _ _);
   inner_decaying = λ o a b. passes-still c _ _ (law.inner_decaying o a b) (λ e. is.inner o e a b);
 }
 
-pub stages-gives : (w v : World) (g : Records) (k : Key) (r : Router) (x : Option Router) → Gives w v k r x → Keeps w v r x →
+pub stages-gives : (w v : World) (g : Records) (k : Key) (r : Router) (x : Option Router) → Gives w v k r x → IsBare r x → Keeps w v r x →
     Settled w v g k r x → Stages w g → Stages v g
-stages-gives w v g k r x c keeps is law =
-    stages-flags w v g k r x c is law (λ o a b. flag-still c keeps _ _ (λ y p. p.marked) (there o a b) ∙ law.across_marked o a b)
-    (λ o a b. flag-still c keeps _ _ (λ y p. ap not p.holds) (there o a b) ∙ law.across_free o a b)
+stages-gives w v g k r x c bare keeps is law =
+    stages-flags w v g k r x c bare is law (λ o a b. flag-still c bare keeps _ _ (λ y p. p.marked) (there o a b) ∙ law.across_marked o a b)
+    (λ o a b. flag-still c bare keeps _ _ (λ y p. ap not p.holds) (there o a b) ∙ law.across_free o a b)
   where
     there : (o : ℕ) → is_begun (g.bypass o) ≡ true → (g.bypass o).stage ≤ 2 → side_router g (Central o) (across_side g o) ≡ Some k →
         is_some r.outward.primary ≡ true
     there o a b e = has_some r.outward.primary (Central o) (across_side g o)
         (grind (arith, standing_rules, law.across_old o a b, e, c.here))
 
-pub terminals-gives : (w v : World) (g : Records) (k : Key) (r : Router) (x : Option Router) → Gives w v k r x → Terminals w g →
+pub terminals-gives : (w v : World) (g : Records) (k : Key) (r : Router) (x : Option Router) → Gives w v k r x →
+    (x ≡ None → is_terminal r ≡ false) → Terminals w g →
     Terminals v g
-terminals-gives w v g k r x c law = record {
+terminals-gives w v g k r x c lone law = record {
   terminal = λ q y at h. let o = was c q y at in ap g.terminal o.part.end ∙ law.terminal q o.router o.at (sym o.part.terminal ∙ h);
   stands = λ e q h. passes-still c _ _ (law.stands e q h) (λ f. terminal_passes e x refl);
   opened = λ q y at. let o = was c q y at in ap (λ e. is_nowhere (g.terminal e)) o.part.end ∙ law.opened q o.router o.at;
@@ -145,7 +153,7 @@ terminals-gives w v g k r x c law = record {
   where
     terminal_passes : (e : End) (z : Option Router) → x ≡ z → is_terminal r && same_end r.end e ≡ true →
         passes z (λ y. is_terminal y && same_end y.end e) ≡ true
-    terminal_passes e None f h = absurd (grind (arith, c.no_terminal f, h))
+    terminal_passes e None f h = absurd (grind (arith, lone f, h))
     terminal_passes e (Some y) f h = grind (arith, standing_rules, (c.part y f).terminal, (c.part y f).end, h)
 
 pub end_places-gives : (w v : World) (g : Records) (k : Key) (r : Router) (x : Option Router) → Gives w v k r x → EndPlaces w g →
@@ -164,10 +172,36 @@ pub books-gives : (w v : World) (b : Books) (g : Records) (k : Key) (r : Router)
 books-gives w v b g k r x c law = record {
   own_pair = law.own_pair;
   mark_last = law.mark_last;
+  gone_last = law.gone_last;
+  retired_closed = law.retired_closed;
   numbers = law.numbers;
   mark_seen = λ q y at h. let o = was c q y at in ap (λ e. is_closed b (opposite_end e)) o.part.end ∙ law.mark_seen q o.router o.at
       (sym o.part.mark_seen ∙ h);
 }
+
+pub part_gone : (r y : Router) → IsPart r y → IsGoneLike r y
+part_gone r y p = record {
+  end = p.end;
+  current = ap (λ q. q.current) p.in_queue;
+  out = ap (λ q. q.current) p.out_queue;
+  terminal = p.terminal;
+  inner = p.inward_primary;
+  primary = p.primary;
+  sent = p.gone_sent;
+  dropped = p.mark_dropped;
+  closed = p.closed;
+  still = λ h. still y.outward.decaying (inward_edge y).decaying refl refl h;
+}
+  where
+    still : (d e : Option LinkEnd) → y.outward.decaying ≡ d → (inward_edge y).decaying ≡ e → decays r ≡ false → decays y ≡ false
+    still None None a b h = grind (arith, a, b)
+    still (Some z) e a b h = absurd (grind (arith, p.decaying z a, h))
+    still None (Some z) a b h = absurd (grind (arith, p.inward_decaying z b, h))
+
+pub gones-gives : (w v : World) (b : Books) (g : Records) (k : Key) (r : Router) (x : Option Router) → Gives w v k r x → Gones w b g →
+    Gones v b g
+gones-gives w v b g k r x c law = gones-by w v b g g (λ q y at. let o = was c q y at in
+    record { router = o.router; at = o.at; alike = part_gone o.router y o.part }) (λ l s h. h) law
 
 see : {w v : World} {k : Key} {r : Router} {x : Option Router} → Gives w v k r x → (g : Records) (l : LinkId) (s : Side) →
     Seen l s r x (view w g l s) (view v g l s)
@@ -326,15 +360,15 @@ pub record ByFlags (v : World) (g : Records) : Type 0 where
   pub stages : Stages v g
 
 -- the whole invariant is kept, if these groups are
-pub inv-flags : (w v : World) (b : Books) (g : Records) (k : Key) (r : Router) (x : Option Router) → Gives w v k r x → Settled w v g k r x →
+pub inv-flags : (w v : World) (b : Books) (g : Records) (k : Key) (r : Router) (x : Option Router) → Gives w v k r x → IsBare r x → Settled w v g k r x →
     Inv w b g → ByFlags v g → Inv v b g
-inv-flags w v b g k r x c is law flags = record {
+inv-flags w v b g k r x c bare is law flags = record {
   counts = flags.counts;
   ordered = ordered-gives w v k r x c law.ordered;
   shape = flags.shape;
   links = links-gives w v g k r x c law.links;
   positions = positions-gives w v g k r x c law.positions;
-  stands = stands-gives w v g k r x c law.stands;
+  stands = stands-gives w v g k r x c bare law.stands;
   words = flags.words;
   spares = flags.spares;
   bypasses = bypasses-same w v g (same-messages c.one) law.bypasses;
@@ -342,9 +376,11 @@ inv-flags w v b g k r x c is law flags = record {
   stages = flags.stages;
   told = told-same w v g (same-messages c.one) law.told;
   moves = moves-same w v g (same-messages c.one) law.moves;
-  terminals = terminals-gives w v g k r x c law.terminals;
+  terminals = terminals-gives w v g k r x c bare.no_terminal law.terminals;
   end_places = end_places-gives w v g k r x c law.end_places;
   books_kept = books-gives w v b g k r x c law.books_kept;
+  retired_ends = law.retired_ends;
+  gones = gones-gives w v b g k r x c law.gones;
   items = items-gives w v g k r x c is law.items;
   order = order-gives w v g k r x c law.order;
   proxy_numbers = proxy_numbers-gives w v g k r x c is law.proxy_numbers;
@@ -355,14 +391,14 @@ inv-flags w v b g k r x c is law flags = record {
 }
 
 -- the whole invariant is kept where no word and no flag of a word changes
-pub inv-gives : (w v : World) (b : Books) (g : Records) (k : Key) (r : Router) (x : Option Router) → Gives w v k r x → Keeps w v r x →
+pub inv-gives : (w v : World) (b : Books) (g : Records) (k : Key) (r : Router) (x : Option Router) → Gives w v k r x → IsBare r x → Keeps w v r x →
     Settled w v g k r x → Inv w b g → Inv v b g
-inv-gives w v b g k r x c keeps is law = inv-flags w v b g k r x c is law (record {
+inv-gives w v b g k r x c bare keeps is law = inv-flags w v b g k r x c bare is law (record {
   counts = counts-gives w v g k r x c keeps.words.claimed law.counts;
   shape = shape-gives w v k r x c keeps law.shape;
-  words = words-gives w v g k r x c keeps law.stands law.words;
-  spares = spares-gives w v g k r x c (λ y e. (keeps.flags y e).spare) keeps.no_spare law.spares;
-  stages = stages-gives w v g k r x c keeps is law.stages;
+  words = words-gives w v g k r x c bare keeps law.stands law.words;
+  spares = spares-gives w v g k r x c (λ y e. (keeps.flags y e).spare) bare.no_spare law.spares;
+  stages = stages-gives w v g k r x c bare keeps is law.stages;
 })
 
 -- a router that stays a part of itself
@@ -372,9 +408,6 @@ stays w v k r y one here part = record {
   one = one;
   here = here;
   part = λ z e. subst (IsPart r) (same_Some y z e) part;
-  no_primary = λ e. absurd (none-some y (sym e));
-  no_inward = λ e. absurd (none-some y (sym e));
-  no_terminal = λ e. absurd (none-some y (sym e));
   no_item = λ e. absurd (none-some y (sym e));
 }
 
@@ -383,6 +416,4 @@ pub keeps_all : (w v : World) (r y : Router) → SameWords w v → HasSameFlags 
 keeps_all w v r y words flags = record {
   words = words;
   flags = λ z e. subst (HasSameFlags r) (same_Some y z e) flags;
-  no_spare =
-      λ e. absurd (none-some y (sym e));
 }

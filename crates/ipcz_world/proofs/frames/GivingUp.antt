@@ -1,10 +1,12 @@
 -- A router gives decaying links up, or leaves: the relation, and what is said of shapes, links and who stands there is kept.
-use Rattle.std.specs.Prelude.{◌≡◌, ◌≢◌, ◌⊎◌, ℕ, ◌+◌, ◌*◌, Bool, true, false, Option, Some, None, is_some, refl}
+use Rattle.std.specs.Prelude.{◌≡◌, ◌≢◌, ◌⊎◌, ℕ, ◌+◌, ◌*◌, ◌||◌, Bool, true, false, Option, Some, None, is_some, refl}
+use Rattle.std.proofs.lemmas.Option.{none-some}
 use Rattle.std.proofs.Common.{arith, sym, ◌∙◌, ap, inl, inr}
 use Rattle.ipcz_world.proofs.Vocabulary.{Side, A, B, LinkId, Central, LinkEnd, has_link, Router, is_terminal, inward_edge, World, Key}
 use Rattle.ipcz_world.proofs.Vocabulary.{same_key, mail_at, way, router_at, Records, inner_link, side_router, Weight, in_router, passes}
 use Rattle.ipcz_world.proofs.Vocabulary.{key_passes, has_primary, Counts, Ordered, Shape, Links, IsRecorded, Positions, Stands}
-use Rattle.ipcz_router.specs.Router.{decays}
+use Rattle.ipcz_router.specs.Router.{decays, is_proxy, is_sink}
+use Rattle.ipcz_router.specs.ActTable.{is_done}
 use Rattle.ipcz_world.proofs.frames.Frames.{same_key_tells}
 use Rattle.ipcz_world.specs.Standing.{has_inward_primary}
 use Rattle.ipcz_world.proofs.frames.StandingRules.{standing_rules}
@@ -14,15 +16,27 @@ use Rattle.ipcz_world.proofs.frames.OneRouter.{SameWords, SameButRouter}
 use Rattle.ipcz_world.proofs.flows.SameMessages.{SameMessages, recorded-same}
 use Rattle.ipcz_world.proofs.views.Views.{IsPart, part-itself}
 
--- a router becomes a part of itself, or leaves with empty queues and without links that count
+-- a router becomes a part of itself, or leaves with empty queues
 pub record Gives (w v : World) (k : Key) (r : Router) (x : Option Router) : Type 0 where
   pub one : SameButRouter w v k x
   pub here : router_at w k ≡ Some r
   pub part : (y : Router) → x ≡ Some y → IsPart r y
+  pub no_item : x ≡ None → (f : Weight) → in_router f r ≡ 0
+
+-- who leaves is a proxy without links that count and without a spare
+pub record IsBare (r : Router) (x : Option Router) : Type 0 where
   pub no_primary : x ≡ None → r.outward.primary ≡ None
   pub no_inward : x ≡ None → (inward_edge r).primary ≡ None
   pub no_terminal : x ≡ None → is_terminal r ≡ false
-  pub no_item : x ≡ None → (f : Weight) → in_router f r ≡ 0
+  pub no_spare : x ≡ None → r.spare ≡ None
+
+pub stays_bare : (r y : Router) → IsBare r (Some y)
+stays_bare r y = record {
+  no_primary = λ e. absurd (none-some y (sym e));
+  no_inward = λ e. absurd (none-some y (sym e));
+  no_terminal = λ e. absurd (none-some y (sym e));
+  no_spare = λ e. absurd (none-some y (sym e));
+}
 
 -- the same spare word, and the same flags of the primary link
 pub record HasSameFlags (r y : Router) : Type 0 where
@@ -34,7 +48,6 @@ pub record HasSameFlags (r y : Router) : Type 0 where
 pub record Keeps (w v : World) (r : Router) (x : Option Router) : Type 0 where
   pub words : SameWords w v
   pub flags : (y : Router) → x ≡ Some y → HasSameFlags r y
-  pub no_spare : x ≡ None → r.spare ≡ None
 
 pub same-messages : {w v : World} {k : Key} {x : Option Router} → SameButRouter w v k x → SameMessages w v
 same-messages one = record { count = one.count; flows = one.flows; peripheral = λ n. (one.nodes n).next_peripheral }
@@ -87,17 +100,17 @@ passes-still {w} {v} {k} {r} {x} c test (Some q) h still = go (same_key_tells q 
         grind (arith, standing_rules, e, c.one.routers q, still (ap Some e.1) t)
     go (inr e) = grind (arith, standing_rules, e, h, c.one.routers q)
 
-pub passes-primary : {w v : World} {k : Key} {r : Router} {x : Option Router} → Gives w v k r x → (l : LinkId) (s : Side) →
+pub passes-primary : {w v : World} {k : Key} {r : Router} {x : Option Router} → Gives w v k r x → IsBare r x → (l : LinkId) (s : Side) →
     has_primary l s r ≡ true → passes x (has_primary l s) ≡ true
 unfolding has_link
-passes-primary {x = None} c l s h = absurd (grind (arith, c.no_primary refl, h))
-passes-primary {x = Some y} c l s h = grind (arith, standing_rules, (c.part y refl).primary, h)
+passes-primary {x = None} c bare l s h = absurd (grind (arith, bare.no_primary refl, h))
+passes-primary {x = Some y} c bare l s h = grind (arith, standing_rules, (c.part y refl).primary, h)
 
-passes-inward : {w v : World} {k : Key} {r : Router} {x : Option Router} → Gives w v k r x → (l : LinkId) (s : Side) →
+passes-inward : {w v : World} {k : Key} {r : Router} {x : Option Router} → Gives w v k r x → IsBare r x → (l : LinkId) (s : Side) →
     has_inward_primary l s r ≡ true → passes x (has_inward_primary l s) ≡ true
 unfolding has_link
-passes-inward {x = None} c l s h = absurd (grind (arith, c.no_inward refl, h))
-passes-inward {x = Some y} c l s h = grind (arith, standing_rules, (c.part y refl).inward_primary, h)
+passes-inward {x = None} c bare l s h = absurd (grind (arith, bare.no_inward refl, h))
+passes-inward {x = Some y} c bare l s h = grind (arith, standing_rules, (c.part y refl).inward_primary, h)
 
 pub counts-gives : (w v : World) (g : Records) (k : Key) (r : Router) (x : Option Router) → Gives w v k r x → v.claimed ≡ w.claimed →
     Counts w g → Counts v g
@@ -131,6 +144,9 @@ ordered-gives w v k r x c law = record {
   inn = λ q y n item at i. let o = was c q y at in grind (arith, o.part.in_queue, law.inn q o.router n item o.at, i);
 }
 
+pub sink-part : (x y : Router) → IsPart x y → is_sink x ≡ true → is_sink y ≡ true
+sink-part x y p h = rw (p.terminal, p.closed) h
+
 pub shape-gives : (w v : World) (k : Key) (r : Router) (x : Option Router) → Gives w v k r x → Keeps w v r x → Shape w → Shape v
 shape-gives w v k r x c keeps law = record {
   role = λ q y at. let o = was_same c keeps q y at in role q y o;
@@ -139,16 +155,22 @@ shape-gives w v k r x c keeps law = record {
   marked_still = λ q y at m. let o = was_same c keeps q y at in still q y o m;
   holds_marked = λ q y at m. let o = was_same c keeps q y at in grind
       (arith, o.flags.holds, o.flags.marked, law.holds_marked q o.router o.at, m);
-  holds_proxy = λ q y at m. let o = was_same c keeps q y at in grind
-      (arith, o.flags.holds, o.part.proxy, law.holds_proxy q o.router o.at, m);
+  holds_fit = λ q y at m. let o = was_same c keeps q y at in fit o.router y o.part (law.holds_fit q o.router o.at (sym o.flags.holds ∙ m));
   holds_spare = λ q y at m. let o = was_same c keeps q y at in grind
-      (arith, o.flags.holds, o.flags.spare, law.holds_spare q o.router o.at, m);
+      (arith, o.flags.holds, o.flags.spare, o.part.proxy, law.holds_spare q o.router o.at, m);
+  dropped_sink = λ q y at m. let o = was_same c keeps q y at in
+      sink-part o.router y o.part (law.dropped_sink q o.router o.at (sym o.part.mark_dropped ∙ m));
+  sent_proxy = λ q y at m. let o = was_same c keeps q y at in
+      ap is_some o.part.inward_primary ∙ law.sent_proxy q o.router o.at (sym o.part.gone_sent ∙ m);
   spare_proxy = λ q y i at m. let o = was_same c keeps q y at in grind
       (arith, o.flags.spare, o.part.proxy, law.spare_proxy q o.router i o.at, m);
   spare_primary = λ q y i at m. let o = was_same c keeps q y at in
       grind (arith, o.flags.spare, o.part.primary, law.spare_primary q o.router i o.at, m);
 }
   where
+    fit : (x y : Router) → IsPart x y → (is_proxy x || is_done x) ≡ true → (is_proxy y || is_done y) ≡ true
+    fit x y p h = rw (p.proxy, p.closed, p.mark_dropped, p.out_queue) h
+
     role : (q : Key) (y : Router) → WasSame w q y → has_role y ≡ true
     role q y o = go (inward_edge y).decaying refl
       where
@@ -239,31 +261,44 @@ positions-gives w v g k r x c law = record {
   proxy_begun = law.proxy_begun;
 }
 
-pub stands-gives : (w v : World) (g : Records) (k : Key) (r : Router) (x : Option Router) → Gives w v k r x → Stands w g → Stands v g
-stands-gives w v g k r x c law = record {
-  central = λ i s q a b e. passes-still c (has_primary (Central i) s) (Some q) (law.central i s q a b e)
-      (λ f. passes-primary c (Central i) s);
+pub stands-gives : (w v : World) (g : Records) (k : Key) (r : Router) (x : Option Router) → Gives w v k r x → IsBare r x → Stands w g → Stands v g
+stands-gives w v g k r x c bare law = record {
+  central = λ i s q a b n e. passes-still c (has_primary (Central i) s) (Some q) (law.central i s q a b n e)
+      (λ f. passes-primary c bare (Central i) s);
   awaited = law.awaited;
   awaited_stage = law.awaited_stage;
   awaited_side = law.awaited_side;
-  proxy = λ p a b. passes-still c (has_inward_primary (inner_link p) A) (side_router g (inner_link p) A)
-      (law.proxy p (sym (recorded-same w v g _ (same-messages c.one)) ∙ a) b) (λ f. passes-inward c (inner_link p) A);
-  inner = λ p q a b e. passes-still c (has_primary (inner_link p) B) (Some q)
-      (law.inner p q (sym (recorded-same w v g _ (same-messages c.one)) ∙ a) b e) (λ f. passes-primary c (inner_link p) B);
+  proxy = λ p a b n. passes-still c (has_inward_primary (inner_link p) A) (side_router g (inner_link p) A)
+      (law.proxy p (sym (recorded-same w v g _ (same-messages c.one)) ∙ a) b n) (λ f. passes-inward c bare (inner_link p) A);
+  inner = λ p q a b n e. passes-still c (has_primary (inner_link p) B) (Some q)
+      (law.inner p q (sym (recorded-same w v g _ (same-messages c.one)) ∙ a) b n e) (λ f. passes-primary c bare (inner_link p) B);
   by_begun = law.by_begun;
   by_inner = law.by_inner;
+  left_recorded = λ l s h. recorded-same w v g l (same-messages c.one) ∙ law.left_recorded l s h;
+  left_known = law.left_known;
+  left_gone = λ l s h. nobody (side_router g l s) (law.left_gone l s h);
+  left_live = law.left_live;
 }
+  where
+    -- where nobody stood, nobody stands
+    nobody : (o : Option Key) → key_passes w o (λ z. true) ≡ false → key_passes v o (λ z. true) ≡ false
+    nobody None h = grind (arith, standing_rules)
+    nobody (Some q) h = go (same_key_tells q k)
+      where
+        go : ((same_key q k ≡ true) × (q ≡ k)) ⊎ ((same_key q k ≡ false) × (q ≢ k)) → key_passes v (Some q) (λ z. true) ≡ false
+        go (inl e) = absurd (grind (arith, standing_rules, h, e.1, c.here))
+        go (inr e) = grind (arith, standing_rules, h, c.one.routers q, e.0)
 
 -- a router with a primary link stays, and its flags with it
-pub flag-still : {w v : World} {k : Key} {r : Router} {x : Option Router} → Gives w v k r x → Keeps w v r x →
+pub flag-still : {w v : World} {k : Key} {r : Router} {x : Option Router} → Gives w v k r x → IsBare r x → Keeps w v r x →
     (test : Router → Bool) (o : Option Key) → ((y : Router) → HasSameFlags r y → test y ≡ test r) →
     (o ≡ Some k → is_some r.outward.primary ≡ true) →
     key_passes v o test ≡ key_passes w o test
-flag-still c keeps test None flag there = grind (arith, standing_rules)
-flag-still {w} {v} {k} {r} {x} c keeps test (Some q) flag there = go (same_key_tells q k) x refl
+flag-still c bare keeps test None flag there = grind (arith, standing_rules)
+flag-still {w} {v} {k} {r} {x} c bare keeps test (Some q) flag there = go (same_key_tells q k) x refl
   where
     go : ((same_key q k ≡ true) × (q ≡ k)) ⊎ ((same_key q k ≡ false) × (q ≢ k)) → (z : Option Router) → x ≡ z →
         key_passes v (Some q) test ≡ key_passes w (Some q) test
-    go (inl e) None f = absurd (grind (arith, there (ap Some e.1), c.no_primary f))
+    go (inl e) None f = absurd (grind (arith, there (ap Some e.1), bare.no_primary f))
     go (inl e) (Some y) f = grind (arith, standing_rules, e, f, c.one.routers q, c.here, flag y (keeps.flags y f))
     go (inr e) z f = grind (arith, standing_rules, e, c.one.routers q)

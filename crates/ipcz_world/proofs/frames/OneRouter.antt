@@ -1,7 +1,7 @@
 -- Worlds that differ in one router, and in words, alone.
 use Rattle.ipcz_world.specs.Places.{in_places as in_places'}
-use Rattle.std.specs.Prelude.{◌≡◌, ◌<◌, ℕ, ◌+◌, ◌*◌, cond, Option, Some, None, [], refl}
-use Rattle.std.proofs.Common.{arith, ap}
+use Rattle.std.specs.Prelude.{Bool, true, false, ◌≡◌, ◌<◌, ℕ, ◌+◌, ◌*◌, cond, Option, Some, None, [], refl}
+use Rattle.std.proofs.Common.{sym, ◌∙◌, arith, ap}
 use Rattle.std.proofs.lemmas.Bool.Decides.{nat_tests}
 use Rattle.ipcz_world.proofs.Vocabulary.{Router, Node, with_router, place_at, Word, set_word, set_claimed, World, Key, same_key, node_at}
 use Rattle.ipcz_world.proofs.Vocabulary.{word_at, mail_at, way, router_at, set_node, set_router, flow, Records, Weight, under_way}
@@ -9,7 +9,7 @@ use Rattle.ipcz_node.specs.Node.{without_router}
 use Rattle.std.specs.Ordering.{nat_cmp}
 use Rattle.std.specs.FinMap.{FinMap}
 use Rattle.ipcz_world.specs.World.{remove_router}
-use Rattle.ipcz_world.proofs.frames.Frames.{frames, router-set_router, router-remove_router, word-set_node, mail-set_node, claimed-set_node}
+use Rattle.ipcz_world.proofs.frames.Frames.{same_key-itself, frames, router-set_router, router-remove_router, word-set_node, mail-set_node, claimed-set_node}
 use Rattle.ipcz_world.proofs.frames.Frames.{size-set_node, count-set_node}
 use Rattle.ipcz_world.proofs.weights.OfRecords.{in_places}
 use Rattle.ipcz_world.proofs.weights.Weights.{in_option, places-set_router, places-remove_router}
@@ -148,3 +148,34 @@ set-claimed w v k x i one = record {
       one.flows;
   places = one.places;
 }
+
+-- a router changes and then leaves
+pub replaced : (w u v : World) (k : Key) (y : Router) → k.node < w.count → SameButRouter w u k (Some y) → SameButRouter w v k None →
+    SameButRouter u v k None
+replaced w u v k y on a c = record {
+  routers = λ q. c.routers q ∙ go q (same_key q k) refl;
+  nodes = λ n. let x = a.nodes n in let y = c.nodes n in record {
+    node = y.node ∙ sym x.node;
+    nodes = y.nodes ∙ sym x.nodes;
+    outboxes = y.outboxes ∙ sym x.outboxes;
+    pending = y.pending ∙ sym x.pending;
+    strays = y.strays ∙ sym x.strays;
+    held = y.held ∙ sym x.held;
+    hand = y.hand ∙ sym x.hand;
+    opening = y.opening ∙ sym x.opening;
+    next_router = y.next_router ∙ sym x.next_router;
+    next_peripheral = y.next_peripheral ∙ sym x.next_peripheral;
+  };
+  mail = λ i. c.mail i ∙ sym (a.mail i);
+  size = c.size ∙ sym a.size;
+  count = c.count ∙ sym a.count;
+  flows = λ from to. c.flows from to ∙ sym (a.flows from to);
+  places = λ f g l. omega (arith, c.places f g on, a.places f g on, ap (in_option f) stands);
+}
+  where
+    go : (q : Key) (b : Bool) → same_key q k ≡ b → cond (same_key q k) None (router_at w q) ≡ cond (same_key q k) None (router_at u q)
+    go q true e = rw e refl
+    go q false e = rw e (sym (a.routers q ∙ ap (λ b. cond b (Some y) (router_at w q)) e))
+
+    stands : router_at u k ≡ Some y
+    stands = a.routers k ∙ ap (λ b. cond b (Some y) (router_at w k)) (same_key-itself k)

@@ -1,4 +1,5 @@
 -- The invariant while the moves of an item under way are in the making: all clauses but that an item has one descriptor per end.
+use Rattle.ipcz_world.specs.Whereabouts.{RetiredEnds, Gones}
 use Rattle.ipcz_world.specs.Bypasses.{LiveLinks}
 use Rattle.std.specs.Prelude.{◌≡◌, ◌≢◌, ℕ, false, true, None, Some, List, [], map, slice_get}
 use Rattle.ipcz_world.proofs.Vocabulary.{Side, A, B, End, LinkId, Descriptor, Item, Message, is_central, ends_in, World, Key, Books}
@@ -58,6 +59,8 @@ pub record OpenInv (w : World) (b : Books) (g : Records) : Type 0 where
   pub fresh_numbers : FreshNumbers w g
   pub conserved : Conserved w b g
   pub held_once : HeldOnce w b g
+  pub retired_ends : RetiredEnds b g
+  pub gones : Gones w b g
   pub no_strays : HasNoStrays w
 
 pub opened : (w : World) (b : Books) (g : Records) → Inv w b g → OpenInv w b g
@@ -94,6 +97,8 @@ opened w b g law = record {
   fresh_numbers = law.fresh_numbers;
   conserved = law.conserved;
   held_once = law.held_once;
+  retired_ends = law.retired_ends;
+  gones = law.gones;
   no_strays = law.no_strays;
 }
 
@@ -132,5 +137,7 @@ closed w b g law ends = record {
   fresh_numbers = law.fresh_numbers;
   conserved = law.conserved;
   held_once = law.held_once;
+  retired_ends = law.retired_ends;
+  gones = law.gones;
   no_strays = law.no_strays;
 }

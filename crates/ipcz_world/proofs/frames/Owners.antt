@@ -1,4 +1,6 @@
 -- A word that is no link's gets another owner: what is said of all else is kept.
+use Rattle.ipcz_world.specs.Whereabouts.{RetiredEnds, Gones}
+use Rattle.ipcz_world.specs.Records.{is_left}
 use Rattle.std.specs.Prelude.{◌≡◌, ℕ, Bool, true, false, cond, nat_eq, refl}
 use Rattle.std.proofs.Common.{arith, sym, ◌∙◌, ap}
 use Rattle.std.proofs.lemmas.Bool.Decides.{nat_tests}
@@ -81,16 +83,49 @@ module _ (v : World) (b : Books) (g : Records) (i : ℕ) (x : Owner) (free : is_
     }
 
     pub stands-owned : Stands v g → Stands v owned
-    unfolding side_router
+    unfolding side_router is_left bypass_of
     stands-owned law = record {
-      central = λ j s q a d e. law.central j s q (sym (linked-owned j) ∙ a) d e;
+      central = λ j s q a d n e. law.central j s q (sym (linked-owned j) ∙ a) d n e;
       awaited = λ j s a e. law.awaited j s (sym (linked-owned j) ∙ a) e;
       awaited_stage = λ j s o a e d. law.awaited_stage j s o (sym (linked-owned j) ∙ a) e d;
       awaited_side = λ j s o a e d. law.awaited_side j s o (sym (linked-owned j) ∙ a) e d;
-      proxy = λ p a e. law.proxy p (sym (recorded-owned (inner_link p)) ∙ a) e;
-      inner = λ p q a e d. law.inner p q (sym (recorded-owned (inner_link p)) ∙ a) e d;
+      proxy = λ p a e n. law.proxy p (sym (recorded-owned (inner_link p)) ∙ a) e n;
+      inner = λ p q a e n d. law.inner p q (sym (recorded-owned (inner_link p)) ∙ a) e n d;
       by_begun = law.by_begun;
       by_inner = law.by_inner;
+      left_recorded = λ l s h. recorded-owned l ∙ law.left_recorded l s h;
+      left_known = law.left_known;
+      left_gone = law.left_gone;
+      left_live = law.left_live;
+    }
+
+    pub retired-owned : RetiredEnds b g → RetiredEnds b owned
+    unfolding is_left side_end
+    retired-owned law = record {
+      retired = law.retired;
+      peer_closed = law.peer_closed;
+      peer_stays = law.peer_stays;
+      all_read = law.all_read;
+      gone_read = law.gone_read;
+      no_bypass = law.no_bypass;
+      left = λ e j h a d p. law.left e j h (sym (linked-owned j) ∙ a) d p;
+      left_of = law.left_of;
+      accepted = law.accepted;
+    }
+
+    pub gones-owned : Gones v b g → Gones v b owned
+    unfolding is_left
+    gones-owned law = record {
+      sent = law.sent;
+      sent_back = law.sent_back;
+      left_primary = law.left_primary;
+      left_inner = law.left_inner;
+      out_put = law.out_put;
+      in_put = law.in_put;
+      still = law.still;
+      dropped = law.dropped;
+      dropped_closed = law.dropped_closed;
+      dropped_back = law.dropped_back;
     }
 
     pub stages-owned : Stages v g → Stages v owned
@@ -148,7 +183,7 @@ module _ (v : World) (b : Books) (g : Records) (i : ℕ) (x : Owner) (free : is_
     }
 
     pub items-owned : Items v g → Items v owned
-    unfolding side_node side_router side_end view_by length_by bypass_of bypass_length
+    unfolding side_node side_router side_end view_by length_by bypass_of bypass_length is_left
     items-owned law = record {
       recorded = λ from to j l s n item moves u. recorded-owned l ∙ law.recorded from to j l s n item moves u;
       sender = law.sender;

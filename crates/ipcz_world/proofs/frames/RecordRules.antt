@@ -1,4 +1,5 @@
 -- What each function of a link reads in the records, by the kind of the link.
+use Rattle.ipcz_world.specs.Records.{Lost}
 use Rattle.std.specs.Prelude.{◌≡◌, refl, ℕ, ◌&&◌, nat_lt, if◌then◌else◌, Some, None, true}
 use Rattle.ipcz_world.proofs.Vocabulary.{Side, A, B, Central, World, Key, node_at, Records, inner_link, is_linked, is_begun, is_recorded}
 use Rattle.ipcz_world.proofs.Vocabulary.{side_node, side_router, bypass_of, Owner, Spare, Fresh, Linked, Opening, is_unclaimed}
@@ -78,5 +79,6 @@ unfolding is_unclaimed
 unclaimed-is Unclaimed e = refl
 unclaimed-is (Spare k) e = absurd (grind (arith, e))
 unclaimed-is (Opening n) e = absurd (grind (arith, e))
+unclaimed-is Lost e = absurd (grind (arith, e))
 unclaimed-is (Fresh o) e = absurd (grind (arith, e))
 unclaimed-is Linked e = absurd (grind (arith, e))

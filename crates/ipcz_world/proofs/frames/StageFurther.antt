@@ -1,4 +1,14 @@
 -- The record of a bypass goes a stage further, from 3 or 4: links, words and stages are as before.
+use Rattle.ipcz_world.proofs.Vocabulary.{opposite_end}
+use Rattle.std.specs.Prelude.{◌||◌}
+use Rattle.ipcz_router.specs.ActTable.{is_done}
+use Rattle.ipcz_router.specs.Router.{is_sink}
+use Rattle.ipcz_world.proofs.frames.Sealing.{retired_ends_of, gones_of}
+use Rattle.ipcz_world.proofs.frames.GonesKept.{IsGoneLike, gones-by}
+use Rattle.ipcz_world.specs.Books.{is_retired}
+use Rattle.ipcz_world.specs.Whereabouts.{RetiredEnds, Gones}
+use Rattle.ipcz_world.specs.Records.{is_left}
+use Rattle.ipcz_world.proofs.frames.Unmoved.{is_left-agree, bypass_of-agree}
 use Rattle.ipcz_world.proofs.frames.Sourcing.{sourced-by}
 use Rattle.ipcz_word.specs.Word.{Word}
 use Rattle.std.specs.Prelude.{◌≡◌, ◌≢◌, ◌⊎◌, ◌≤◌, ℕ, suc, Bool, true, false, cond, nat_eq, is_some, is_none, not, Option, Some, None, List}
@@ -46,11 +56,31 @@ some_none (Some y) = refl
 proxy_like : (r x : Router) → IsLike r x → is_proxy x ≡ is_proxy r
 proxy_like r x like = some_none x.inward ∙ ap not like.terminal ∙ sym (some_none r.inward)
 
+sink_like : (r x : Router) → IsLike r x → is_sink r ≡ true → is_sink x ≡ true
+sink_like r x like h = rw (like.terminal, like.closed) h
+
+fit_like : (r x : Router) → IsLike r x → (is_proxy r || is_done r) ≡ true → (is_proxy x || is_done x) ≡ true
+fit_like r x like h = rw (proxy_like r x like, like.closed, like.mark_dropped, like.out_queue) h
+
 role_like : (r x : Router) → IsLike r x → IsLinkedLike r x → has_role x ≡ has_role r
 role_like r x like linked = rw (like.terminal, linked.primary, linked.inward_primary, linked.inward_decaying) refl
 
 decays_like : (r x : Router) → IsLinkedLike r x → decays x ≡ decays r
 decays_like r x linked = rw (linked.decaying, linked.inward_decaying) refl
+
+pub gone_like : (r x : Router) → IsLike r x → IsLinkedLike r x → IsGoneLike r x
+gone_like r x like linked = record {
+  end = like.end;
+  current = ap (λ q. q.current) like.in_queue;
+  out = ap (λ q. q.current) like.out_queue;
+  terminal = like.terminal;
+  inner = linked.inward_primary;
+  primary = linked.primary;
+  sent = like.gone_sent;
+  dropped = like.mark_dropped;
+  closed = like.closed;
+  still = λ h. decays_like r x linked ∙ h;
+}
 
 pub begun_like : (r x : Router) → IsLike r x → IsLinkedLike r x → is_begun_router x ≡ is_begun_router r
 begun_like r x like linked = rw (proxy_like r x like, linked.inward_primary) refl
@@ -73,6 +103,7 @@ module _ {w v : World} {b : Books} {g : Records} {k : Key} {r x : Router} {o s :
     pair = λ i. refl;
     node = λ i t. refl;
     born = λ i. refl;
+    left = λ i. refl;
     peripheral = λ p. refl;
     terminal = λ t. refl;
     begun = λ q. refl;
@@ -105,6 +136,9 @@ module _ {w v : World} {b : Books} {g : Records} {k : Key} {r x : Router} {o s :
   router_same (Central i) t = refl
   router_same (Peripheral n p) A = refl
   router_same (Peripheral n p) B = refl
+
+  pub left_same : (link : LinkId) (t : Side) → is_left h link t ≡ is_left g link t
+  left_same = is_left-agree g h agree
 
   pub proxy_side_same : (j : ℕ) → proxy_side h j ≡ proxy_side g j
   proxy_side_same j = proxy_side-agree g h agree j
@@ -177,7 +211,7 @@ module _ {w v : World} {b : Books} {g : Records} {k : Key} {r x : Router} {o s :
       go (inr m) = record {
         router = t;
         here_before = grind (arith, c.router q, e, m.0);
-        alike = record { end = refl; out_queue = refl; in_queue = refl; terminal = refl; closed = refl; mark_seen = refl; spare = refl };
+        alike = record { end = refl; out_queue = refl; in_queue = refl; terminal = refl; closed = refl; mark_seen = refl; mark_dropped = refl; gone_sent = refl; spare = refl };
         linked_alike = record {
           primary = refl;
           decaying = refl;
@@ -200,10 +234,15 @@ module _ {w v : World} {b : Books} {g : Records} {k : Key} {r x : Router} {o s :
         decays_like z.router t z.linked_alike ∙ (shape_of law).marked_still q z.router z.here_before (sym z.linked_alike.marked ∙ m);
     holds_marked = λ q t e m. let z : Was q t = was_router q t e in
         z.linked_alike.marked ∙ (shape_of law).holds_marked q z.router z.here_before (sym z.linked_alike.holds ∙ m);
-    holds_proxy = λ q t e m. let z : Was q t = was_router q t e in
-        proxy_like z.router t z.alike ∙ (shape_of law).holds_proxy q z.router z.here_before (sym z.linked_alike.holds ∙ m);
-    holds_spare = λ q t e m. let z : Was q t = was_router q t e in
-        ap is_some z.alike.spare ∙ (shape_of law).holds_spare q z.router z.here_before (sym z.linked_alike.holds ∙ m);
+    holds_fit = λ q t e m. let z : Was q t = was_router q t e in
+        fit_like z.router t z.alike ((shape_of law).holds_fit q z.router z.here_before (sym z.linked_alike.holds ∙ m));
+    holds_spare = λ q t e m a. let z : Was q t = was_router q t e in
+        ap is_some z.alike.spare ∙ (shape_of law).holds_spare q z.router z.here_before (sym z.linked_alike.holds ∙ m)
+        (sym (proxy_like z.router t z.alike) ∙ a);
+    dropped_sink = λ q t e m. let z : Was q t = was_router q t e in
+        sink_like z.router t z.alike ((shape_of law).dropped_sink q z.router z.here_before (sym z.alike.mark_dropped ∙ m));
+    sent_proxy = λ q t e m. let z : Was q t = was_router q t e in ap is_some z.linked_alike.inward_primary ∙
+        (shape_of law).sent_proxy q z.router z.here_before (sym z.alike.gone_sent ∙ m);
     spare_proxy = λ q t i e m. let z : Was q t = was_router q t e in
         proxy_like z.router t z.alike ∙ (shape_of law).spare_proxy q z.router i z.here_before (sym z.alike.spare ∙ m);
     spare_primary = λ q t i e m. let z : Was q t = was_router q t e in
@@ -242,22 +281,47 @@ module _ {w v : World} {b : Books} {g : Records} {k : Key} {r x : Router} {o s :
 
   pub stands-further : Stands v h
   stands-further = record {
-    central = λ i t q l n m. key_passes-kept w v g h k r x c agree (Some q) (has_primary (Central i) t)
+    central = λ i t q l n nl m. key_passes-kept w v g h k r x c agree (Some q) (has_primary (Central i) t)
         (ap (λ u. has_link u (Central i) t) linked.primary) ∙ (stands_of law).central i t q l (sym (agree.is_begun i) ∙ n)
+        (sym (left_same (Central i) t) ∙ nl)
         (sym (router_same (Central i) t) ∙ m);
     awaited = λ i t l n. (stands_of law).awaited i t l n;
     awaited_stage = λ i t j l n m. let e : (g.bypass j).stage ≡ 2 = (stands_of law).awaited_stage i t j l n m in
         grind (arith, at_o j, e, at, late);
     awaited_side = λ i t j l n m. (stands_of law).awaited_side i t j l n m ∙ sym (across_side_same j);
-    proxy = λ p l n. passes_same (inner_link p) A (has_inward_primary (inner_link p) A)
+    proxy = λ p l n nl. passes_same (inner_link p) A (has_inward_primary (inner_link p) A)
         (ap (λ u. has_link u (inner_link p) A) linked.inward_primary) ∙ (stands_of law).proxy p
-        (sym (recorded_same (inner_link p)) ∙ l) n;
-    inner = λ p q l n m. key_passes-kept w v g h k r x c agree (Some q) (has_primary (inner_link p) B)
+        (sym (recorded_same (inner_link p)) ∙ l) n (sym (left_same (inner_link p) A) ∙ nl);
+    inner = λ p q l n nl m. key_passes-kept w v g h k r x c agree (Some q) (has_primary (inner_link p) B)
         (ap (λ u. has_link u (inner_link p) B) linked.primary) ∙ (stands_of law).inner p q (sym (recorded_same (inner_link p)) ∙ l) n
+        (sym (left_same (inner_link p) B) ∙ nl)
         (sym (router_same (inner_link p) B) ∙ m);
     by_begun = λ p j n. agree.is_begun j ∙ (stands_of law).by_begun p j n;
     by_inner = λ p j n. agree.inner j ∙ (stands_of law).by_inner p j n;
+    left_recorded = λ l t n. recorded_same l ∙ (stands_of law).left_recorded l t (sym (left_same l t) ∙ n);
+    left_known = λ l t n. ap is_some (router_same l t) ∙ (stands_of law).left_known l t (sym (left_same l t) ∙ n);
+    left_gone = λ l t n. passes_same l t (λ y. true) refl ∙ (stands_of law).left_gone l t (sym (left_same l t) ∙ n);
+    left_live = λ l t n. bypass_of-agree g h agree l ∙ (stands_of law).left_live l t (sym (left_same l t) ∙ n);
   }
+
+  pub retired-further : RetiredEnds b h
+  retired-further = record {
+    retired = (retired_ends_of law).retired;
+    peer_closed = (retired_ends_of law).peer_closed;
+    peer_stays = (retired_ends_of law).peer_stays;
+    all_read = (retired_ends_of law).all_read;
+    gone_read = (retired_ends_of law).gone_read;
+    no_bypass = λ j t l m. (retired_ends_of law).no_bypass j t (at_least j 1 (omega arith) l) (at_most j 4 m);
+    left = λ e i a l n p. left_same (Central i) e.side ∙ (retired_ends_of law).left e i a l (sym (agree.is_begun i) ∙ n) p;
+    left_of = λ l t n. ap (λ d. is_retired b d || is_retired b (opposite_end d)) (side_end-agree g h agree l t) ∙
+        (retired_ends_of law).left_of l t (sym (left_same l t) ∙ n);
+    accepted = λ j l. rw (accepted_same j, across_side_same j) ((retired_ends_of law).accepted j (at_least j 3 (omega arith) l));
+  }
+
+  pub gones-further : Gones v b h
+  gones-further = gones-by w v b g h (λ q t e. let z : Was q t = was_router q t e in
+      record { router = z.router; at = z.here_before; alike = gone_like z.router t z.alike z.linked_alike })
+      (λ l t n. sym (left_same l t) ∙ n) (gones_of law)
 
   pub words-further : ((i : ℕ) → word_at v i ≡ word_at w i) → Words v h
   words-further same = record {
@@ -265,9 +329,13 @@ module _ {w v : World} {b : Books} {g : Records} {k : Key} {r x : Router} {o s :
     begun_stable = λ i t n. ap (λ u. has u.stable t) (same i) ∙ (words_of law).begun_stable i t (sym (agree.is_begun i) ∙ n);
     begun_holder = λ i t n. ap (λ u. has u.holder t) (same i) ∙ (words_of law).begun_holder i t (sym (agree.is_begun i) ∙ n) ∙ ap
         (same_side t) (sym (proxy_side_same i));
-    stable = λ i t l n. ap (λ u. has u.stable t) (same i) ∙ (words_of law).stable i t l (sym (agree.is_begun i) ∙ n) ∙ sym
+    left_held = λ i t n. rw (left_same (Central i) A, left_same (Central i) B, same i)
+        ((words_of law).left_held i t (sym (left_same (Central i) t) ∙ n));
+    stable = λ i t l n nl. ap (λ u. has u.stable t) (same i) ∙ (words_of law).stable i t l (sym (agree.is_begun i) ∙ n)
+        (sym (left_same (Central i) t) ∙ nl) ∙ sym
         (passes_same (Central i) t (λ y. y.marked) linked.marked);
-    holder = λ i t l n. ap (λ u. has u.holder t) (same i) ∙ (words_of law).holder i t l (sym (agree.is_begun i) ∙ n) ∙ sym
+    holder = λ i t l n nl. ap (λ u. has u.holder t) (same i) ∙ (words_of law).holder i t l (sym (agree.is_begun i) ∙ n)
+        (sym (left_same (Central i) t) ∙ nl) ∙ sym
         (passes_same (Central i) t (λ y. y.holds) linked.holds);
     held_stable = λ i t u a. ap (λ z. has z.stable u) (same i) ∙ (words_of law).held_stable i t u
         (ap (λ z. has z.holder t) (sym (same i)) ∙ a);

@@ -1,4 +1,7 @@
 -- The record of a bypass goes a stage further, from 3 or 4: the numbers of items against the lengths that are known then.
+use Rattle.std.specs.Prelude.{◌||◌}
+use Rattle.ipcz_world.specs.Records.{is_left, side_length}
+use Rattle.ipcz_world.proofs.frames.StageFurther.{left_same}
 use Rattle.std.specs.Prelude.{◌≡◌, ◌≢◌, ◌⊎◌, ◌≤◌, ℕ, suc, true, false, nat_eq, is_some, Some, None, option_map}
 use Rattle.std.proofs.Common.{arith, ap, ◌∙◌, sym, inl, inr}
 use Rattle.std.proofs.lemmas.Option.{same_Some}
@@ -37,7 +40,9 @@ module _ {w v : World} {b : Books} {g : Records} {k : Key} {r x : Router} {o s :
     by_sender = λ a d i l t n m ms u. (view_same law c like linked carried at late early l (opposite t)).sent ∙
         (items_of law).by_sender a d (carried.place a d i) l t n m ms
         (carried.was a d i l t n m ms u);
-    sender_gone = λ a d i l t n m ms u e. ap is_some (length_same law c like linked carried at late early l (opposite t)) ∙
+    sender_gone = λ a d i l t n m ms u e. ap (λ z. is_some z || is_left h l (opposite t))
+        (length_same law c like linked carried at late early l (opposite t)) ∙
+        ap (λ z. is_some (side_length g l (opposite t)) || z) (left_same law c like linked carried at late early l (opposite t)) ∙
         (items_of law).sender_gone a d
         (carried.place a d i) l t
         n m ms (carried.was a d i l t n m ms u) (sym (view_same law c like linked carried at late early l (opposite t)).gone ∙ e);

@@ -3,7 +3,10 @@ use Rattle.std.proofs.Common.{ap}
 use Rattle.ipcz_world.proofs.frames.Sourcing.{sourced-by, had-one, inward-same}
 use Rattle.ipcz_edge.specs.Edge.{Edge}
 use Rattle.ipcz_word.specs.Word.{Word}
-use Rattle.std.specs.Prelude.{◌≡◌, ◌<◌, ℕ, Bool, true, false, Some, is_some, refl}
+use Rattle.std.specs.Prelude.{◌≡◌, ◌≢◌, ◌⊎◌, ◌<◌, ℕ, ◌&&◌, ◌||◌, Bool, true, false, Some, is_some, refl}
+use Rattle.std.proofs.Common.{inl, inr}
+use Rattle.std.proofs.lemmas.Bool.{or_left, or_right}
+use Rattle.ipcz_world.proofs.Vocabulary.{has}
 use Rattle.std.proofs.Common.{arith, ◌∙◌, sym}
 use Rattle.ipcz_world.proofs.Vocabulary.{A, B, LinkId, Central, Peripheral, LinkEnd, Router, World, Key, same_key, node_at, word_at}
 use Rattle.ipcz_world.proofs.Vocabulary.{mail_at, way, router_at, hand_message, Records, is_recorded, inner_link, side_router}
@@ -13,6 +16,10 @@ use Rattle.ipcz_world.proofs.frames.Frames.{same_key_tells}
 use Rattle.ipcz_world.specs.Standing.{spare_of}
 use Rattle.ipcz_world.specs.Bypasses.{fresh_of}
 use Rattle.ipcz_world.proofs.frames.OneChange.{OneChanges, passes-same}
+use Rattle.ipcz_router.specs.Router.{is_sink, is_proxy}
+use Rattle.ipcz_router.specs.ActTable.{is_done}
+use Rattle.ipcz_world.proofs.Vocabulary.{inward_edge}
+use Rattle.ipcz_world.specs.Records.{is_left}
 
 -- two routers with the same end, links and flags of bypasses
 pub record IsAlike (r y : Router) : Type 0 where
@@ -22,6 +29,26 @@ pub record IsAlike (r y : Router) : Type 0 where
   pub spare : y.spare ≡ r.spare
   pub marked : y.marked ≡ r.marked
   pub holds : y.holds ≡ r.holds
+  pub done : is_done r ≡ true → is_done y ≡ true
+  pub dropped : y.mark_dropped ≡ true → (r.mark_dropped ≡ true → is_sink r ≡ true) → is_sink y ≡ true
+  pub sent : y.gone_sent ≡ true → (r.gone_sent ≡ true → is_some (inward_edge r).primary ≡ true) → is_some (inward_edge y).primary ≡ true
+
+pub alike-itself : (r : Router) → IsAlike r r
+alike-itself r = record {
+  end = refl;
+  outward = refl;
+  inward = refl;
+  spare = refl;
+  marked = refl;
+  holds = refl;
+  done = λ h. h;
+  dropped = λ h f. f h;
+  sent = λ h f. f h;
+}
+
+pub either : (a b : Bool) → (a || b) ≡ true → (a ≡ true) ⊎ (b ≡ true)
+either true b h = inl refl
+either false b h = inr h
 
 -- one router changes in its queues: the words are as they were, while messages and hands may move on
 pub record IsTouched (w v : World) (k : Key) (r y : Router) : Type 0 where
@@ -76,47 +103,33 @@ module _ (w v : World) (k : Key) (r y : Router) (g : Records) (t : IsTouched w v
     in_hand = hands.in_hand;
   }
 
+  -- what stood there before, alike
+  pub before : (q : Key) (x : Router) → router_at v q ≡ Some x → (z : Router) × (router_at w q ≡ Some z) × IsAlike z x
+  before q x at = go (same_key_tells q k)
+    where
+      go : ((same_key q k ≡ true) × (q ≡ k)) ⊎ ((same_key q k ≡ false) × (q ≢ k)) → (z : Router) × (router_at w q ≡ Some z) × IsAlike z x
+      go (inl e) = let f : y ≡ x = grind (arith, t.router q, e.0, at) in (r, rw e.1 t.here, rw (← f) a)
+      go (inr e) = (x, grind (arith, t.router q, e.0, at), alike-itself x)
+
+  fit : (z x : Router) → IsAlike z x → (is_proxy z || is_done z) ≡ true → (is_proxy x || is_done x) ≡ true
+  fit z x o h = elim (either (is_proxy z) (is_done z) h) [
+    | inl p ↦ or_left _ _ (ap is_some o.inward ∙ p)
+    | inr d ↦ or_right _ _ (o.done d)
+  ]
+
   pub shape-touched : Shape w → Shape v
   shape-touched law = record {
     role = λ q x at. grind (arith, t.router q, same_key_tells q k, t.here, law.role q x, law.role k r);
     marked_central = λ q x at m. grind (arith, t.router q, same_key_tells q k, t.here, law.marked_central q x, law.marked_central k r);
     marked_still = λ q x at m. grind (arith, t.router q, same_key_tells q k, t.here, law.marked_still q x, law.marked_still k r);
     holds_marked = λ q x at m. grind (arith, t.router q, same_key_tells q k, t.here, law.holds_marked q x, law.holds_marked k r);
-    holds_proxy = λ q x at m. grind (arith, t.router q, same_key_tells q k, t.here, law.holds_proxy q x, law.holds_proxy k r);
+    holds_fit = λ q x at m. let o = before q x at in fit o.0 x o.2 (law.holds_fit q o.0 o.1 (sym o.2.holds ∙ m));
     holds_spare = λ q x at m. grind (arith, t.router q, same_key_tells q k, t.here, law.holds_spare q x, law.holds_spare k r);
+    dropped_sink = λ q x at m. let o = before q x at in o.2.dropped m (law.dropped_sink q o.0 o.1);
+    sent_proxy = λ q x at m. let o = before q x at in o.2.sent m (law.sent_proxy q o.0 o.1);
     spare_proxy = λ q x j at m. grind (arith, t.router q, same_key_tells q k, t.here, law.spare_proxy q x j, law.spare_proxy k r j);
     spare_primary = λ q x j at m. grind (arith, t.router q, same_key_tells q k, t.here, law.spare_primary q x j, law.spare_primary k r j);
   }
-
-  -- what stood there before, alike
-  pub before : (q : Key) (x : Router) → router_at v q ≡ Some x → (z : Router) × (router_at w q ≡ Some z) × IsAlike z x
-  before q x at = go (same_key q k) refl
-    where
-      go : (b : Bool) → same_key q k ≡ b → (z : Router) × (router_at w q ≡ Some z) × IsAlike z x
-      go true e = (
-        r,
-        grind (arith, t.here, same_key_tells q k, e),
-        record {
-          end = grind (arith, t.router q, e, at, a.end);
-          outward = grind (arith, t.router q, e, at, a.outward);
-          inward = grind (arith, t.router q, e, at, a.inward);
-          spare = grind (arith, t.router q, e, at, a.spare);
-          marked = grind (arith, t.router q, e, at, a.marked);
-          holds = grind (arith, t.router q, e, at, a.holds);
-        },
-      )
-      go false e = (
-        x,
-        grind (arith, t.router q, e, at),
-        record {
-          end = refl;
-          outward = refl;
-          inward = refl;
-          spare = refl;
-          marked = refl;
-          holds = refl;
-        },
-      )
 
   is_recorded-touched : (q : Key) (z x : Router) (e : LinkEnd) → IsAlike z x → IsRecorded w g q z e → IsRecorded v g q x e
   is_recorded-touched q z x e same is = record {
@@ -256,16 +269,20 @@ module _ (w v : World) (k : Key) (r y : Router) (g : Records) (t : IsTouched w v
 
   pub stands-touched : Stands w g → Stands v g
   stands-touched law = record {
-    central = λ i s q l b is. passes-same t.one _ (grind (arith, a.outward)) (Some q) ∙ law.central i s q l b is;
+    central = λ i s q l b n is. passes-same t.one _ (grind (arith, a.outward)) (Some q) ∙ law.central i s q l b n is;
     awaited = law.awaited;
     awaited_stage = law.awaited_stage;
     awaited_side = law.awaited_side;
-    proxy = λ p h b. passes-same t.one _ (grind (arith, a.inward)) (side_router g (inner_link p) A) ∙ law.proxy p
-        (sym (recorded_same w v k r y g t (inner_link p)) ∙ h) b;
-    inner = λ p q h b is. passes-same t.one _ (grind (arith, a.outward)) (Some q) ∙ law.inner p q
-        (sym (recorded_same w v k r y g t (inner_link p)) ∙ h) b is;
+    proxy = λ p h b n. passes-same t.one _ (grind (arith, a.inward)) (side_router g (inner_link p) A) ∙ law.proxy p
+        (sym (recorded_same w v k r y g t (inner_link p)) ∙ h) b n;
+    inner = λ p q h b n is. passes-same t.one _ (grind (arith, a.outward)) (Some q) ∙ law.inner p q
+        (sym (recorded_same w v k r y g t (inner_link p)) ∙ h) b n is;
     by_begun = law.by_begun;
     by_inner = law.by_inner;
+    left_recorded = λ l s h. recorded_same w v k r y g t l ∙ law.left_recorded l s h;
+    left_known = law.left_known;
+    left_gone = λ l s h. passes-same t.one (λ x. true) refl (side_router g l s) ∙ law.left_gone l s h;
+    left_live = law.left_live;
   }
 
   pub words-touched : Words w g → Words v g
@@ -273,14 +290,14 @@ module _ (w v : World) (k : Key) (r y : Router) (g : Records) (t : IsTouched w v
     unused = λ i h. t.word i ∙ law.unused i h;
     begun_stable = λ i s h. grind (arith, t.word i, law.begun_stable i s);
     begun_holder = λ i s h. grind (arith, t.word i, law.begun_holder i s);
-    stable = λ i s l h. grind (
+    stable = λ i s l h n. grind (
       arith,
       t.word i,
       law.stable i s,
       passes-same t.one (λ x. x.marked) a.marked
           (side_router g (Central i) s),
     );
-    holder = λ i s l h. grind (
+    holder = λ i s l h n. grind (
       arith,
       t.word i,
       law.holder i s,
@@ -289,6 +306,8 @@ module _ (w v : World) (k : Key) (r y : Router) (g : Records) (t : IsTouched w v
     );
     held_stable = λ i s u h. grind (arith, t.word i, law.held_stable i s u);
     one_holder = λ i s u h j. grind (arith, t.word i, law.one_holder i s u);
+    left_held = λ i s h. ap (λ (x : Word). (is_left g (Central i) A && has x.holder A) || (is_left g (Central i) B && has x.holder B)) (t.word i) ∙
+        law.left_held i s h;
     source = sourced-by w v (had-one w v k r y t.router
         (λ h. record {
           router = r;

@@ -1,4 +1,6 @@
 -- What an act keeps that changes one router's links and flags, and no item, terminal or end.
+use Rattle.ipcz_world.proofs.Vocabulary.{has}
+use Rattle.ipcz_world.specs.Records.{is_left}
 use Rattle.ipcz_world.proofs.weights.OfRecords.{holds, held_times, source, in_message, in_places}
 use Rattle.ipcz_world.proofs.Vocabulary.{Weight, in_router, times, at_end, names_end, Side, A, B, End, LinkId, Central, Peripheral}
 use Rattle.ipcz_world.proofs.Vocabulary.{Descriptor, Item, Message, opposite, is_central, same_end, has_end, opposite_end, total}
@@ -28,6 +30,8 @@ pub record IsLike (r x : Router) : Type 0 where
   pub terminal : is_terminal x ≡ is_terminal r
   pub closed : x.closed ≡ r.closed
   pub mark_seen : x.mark_seen ≡ r.mark_seen
+  pub mark_dropped : x.mark_dropped ≡ r.mark_dropped
+  pub gone_sent : x.gone_sent ≡ r.gone_sent
   pub spare : x.spare ≡ r.spare
 
 -- one router changes in its links: what callers hold is as it was, while messages, hands and words may move on
@@ -38,7 +42,7 @@ pub record Changed (w v : World) (k : Key) (r x : Router) : Type 0 where
   pub pending : (n : ℕ) → (node_at v n).pending ≡ (node_at w n).pending
 
 pub like-itself : (t : Router) → IsLike t t
-like-itself t = record { end = refl; out_queue = refl; in_queue = refl; terminal = refl; closed = refl; mark_seen = refl; spare = refl }
+like-itself t = record { end = refl; out_queue = refl; in_queue = refl; terminal = refl; closed = refl; mark_seen = refl; mark_dropped = refl; gone_sent = refl; spare = refl }
 
 -- what a router was before: alike, with the same inward edge
 pub record WasLike (w : World) (q : Key) (t : Router) : Type 0 where
@@ -68,6 +72,7 @@ pub record Agree (g h : Records) : Type 0 where
   pub pair : (i : ℕ) → (h.central i).pair ≡ (g.central i).pair
   pub node : (i : ℕ) (s : Side) → (h.central i).node s ≡ (g.central i).node s
   pub born : (i : ℕ) → (h.central i).born ≡ (g.central i).born
+  pub left : (i : ℕ) → (h.central i).left ≡ (g.central i).left
   pub peripheral : (p : Key) → h.peripheral p ≡ g.peripheral p
   pub terminal : (e : End) → h.terminal e ≡ g.terminal e
   pub begun : (q : Key) → h.begun q ≡ g.begun q
@@ -87,6 +92,11 @@ module _ (g h : Records) (a : Agree g h) where
   unfolding side_end
   side_end-agree (Central i) s = grind (arith, a.pair i)
   side_end-agree (Peripheral n p) s = ap (λ c. c.end) (a.peripheral (record { node = n; serial = p }))
+
+  pub is_left-agree : (link : LinkId) (s : Side) → is_left h link s ≡ is_left g link s
+  unfolding is_left
+  is_left-agree (Central i) s = ap (λ x. has x s) (a.left i)
+  is_left-agree (Peripheral n p) s = ap (λ c. has c.left s) (a.peripheral (record { node = n; serial = p }))
 
   pub source-agree : (link : LinkId) (s : Side) → source h link s ≡ source g link s
   unfolding source'
@@ -237,6 +247,8 @@ module _ (w v : World) (g h : Records) (k : Key) (r x : Router) (c : Changed w v
   books_kept-kept b like law = record {
     own_pair = law.own_pair;
     mark_last = law.mark_last;
+    gone_last = law.gone_last;
+    retired_closed = law.retired_closed;
     numbers = law.numbers;
     mark_seen = λ q y at m. grind (
       arith,

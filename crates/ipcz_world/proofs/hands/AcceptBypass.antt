@@ -17,7 +17,7 @@ use Rattle.ipcz_world.proofs.hands.AcceptBypassAround.{CanAccept, here, on, is, 
 use Rattle.ipcz_world.proofs.hands.AcceptBypassViews.{at_o, like, changed, agree, carried, places}
 use Rattle.ipcz_world.proofs.hands.AcceptBypassNumbers.{items-accept, order-accept, proxy_numbers-accept, fresh_numbers-accept}
 use Rattle.ipcz_world.proofs.hands.AcceptBypassLinks.{counts-accept, links-accept, positions-accept}
-use Rattle.ipcz_world.proofs.hands.AcceptBypassStages.{stands-accept, words-accept, stages-accept, told-accept, descriptors}
+use Rattle.ipcz_world.proofs.hands.AcceptBypassStages.{retired-accept, gones-accept, stands-accept, words-accept, stages-accept, told-accept, descriptors}
 use Rattle.ipcz_world.specs.Acts.{tells_stop}
 
 module _ (w : World) (b : Books) (g : Records) (from : ℕ) (k : Key) (r : Router) (e : LinkEnd) (o : ℕ) (side : Side) (fresh length : ℕ)
@@ -67,6 +67,8 @@ module _ (w : World) (b : Books) (g : Records) (from : ℕ) (k : Key) (r : Route
     terminals = terminals-kept w v g h k r x (changed law can) (agree law can) (like law can) (terminals_of law);
     end_places = end_places-kept w v g h k r x (changed law can) (agree law can) (like law can) (carried law can) (end_places_of law);
     books_kept = books_kept-kept w v g h k r x (changed law can) (agree law can) b (like law can) (books_kept_of law);
+    retired_ends = retired-accept law can;
+    gones = gones-accept law can;
     items = items-accept law can;
     order = order-accept law can;
     proxy_numbers = proxy_numbers-accept law can;

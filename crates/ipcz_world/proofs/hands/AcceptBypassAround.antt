@@ -1,4 +1,5 @@
 -- Who stands around a bypass when the router across has the message that asks it to accept.
+use Rattle.ipcz_world.proofs.views.LeftSides.{not_left}
 use Rattle.std.specs.Prelude.{◌≡◌, ◌≢◌, ◌⊎◌, ◌<◌, ◌≤◌, ℕ, Bool, true, false, cond, ◌&&◌, nat_eq, is_some, Option, Some, None, refl}
 use Rattle.std.proofs.Common.{arith, ap, ◌∙◌, sym, inl, inr}
 use Rattle.std.proofs.lemmas.Bool.Decides.{nat_tests}
@@ -283,7 +284,7 @@ module _ {w : World} {b : Books} {g : Records} {from : ℕ} {k : Key} {r : Route
   pub z_known_some : is_some (side_router g (inner_of g o) B) ≡ true
   z_known_some = (bypasses_of law).inner_known o two
 
-  abbrev zk : Key
+  abbrev pub zk : Key
   zk = from_some (side_router g (inner_of g o) B) z_known_some
 
   pub z_known : side_router g (inner_of g o) B ≡ Some zk
@@ -292,7 +293,7 @@ module _ {w : World} {b : Books} {g : Records} {from : ℕ} {k : Key} {r : Route
   pub z_stood : Stood w zk (has_decaying (inner_of g o) B)
   z_stood = stood w zk (has_decaying (inner_of g o) B) (rw z_known at ((stages_of law).inner_decaying o two (omega (arith, is.stage))))
 
-  abbrev z : Router
+  abbrev pub z : Router
   z = z_stood.router
 
   pub z_here : router_at w zk ≡ Some z
@@ -359,7 +360,7 @@ module _ {w : World} {b : Books} {g : Records} {from : ℕ} {k : Key} {r : Route
 
   z_on : has_link z.outward.primary (Central fresh) (opposite side) ≡ true
   z_on = sym (passed w zk z (has_primary (Central fresh) (opposite side)) z_here) ∙ (stands_of law).central fresh (opposite side) zk
-      fresh_linked fresh_live fresh_known
+      fresh_linked fresh_live (not_left w g (Central fresh) (opposite side) zk z (stands_of law) fresh_known z_here) fresh_known
 
   pub view_z : view w g (Central fresh) (opposite side) ≡ Standing z
   view_z = view-standing w g (Central fresh) (opposite side) zk z fresh_known z_here

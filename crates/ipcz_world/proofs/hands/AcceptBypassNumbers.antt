@@ -1,4 +1,7 @@
 -- The router across takes the fresh link: numbers of items, under way and in queues.
+use Rattle.std.proofs.lemmas.Bool.{or_left, or_right}
+use Rattle.ipcz_world.proofs.frames.Unmoved.{is_left-agree}
+use Rattle.ipcz_world.proofs.frames.Touching.{either}
 use Rattle.std.specs.Prelude.{◌≡◌, ◌≢◌, ◌⊎◌, ◌<◌, ◌≤◌, ℕ, Bool, true, false, cond, nat_eq, Some, None, option_map, unwrap_or, List}
 use Rattle.std.specs.Prelude.{refl}
 use Rattle.std.proofs.Common.{arith, ap, ◌∙◌, sym, inl, inr}
@@ -77,9 +80,12 @@ module _ {w : World} {b : Books} {g : Records} {from : ℕ} {k : Key} {r : Route
         (was law can a c i link s n item moves u) (sym (same_from a c i link s n item moves u).next ∙ f);
     by_sender = λ a c i link s n item moves u. (same_from a c i link s n item moves u).sent ∙ (items_of law).by_sender a c (before a c i)
         link s n item moves (was law can a c i link s n item moves u);
-    sender_gone = λ a c i link s n item moves u f. some_grown law can link (opposite s) (grown law can link (opposite s))
+    sender_gone = λ a c i link s n item moves u f. elim (either _ _
         ((items_of law).sender_gone a c (before a c i) link s n item moves (was law can a c i link s n item moves u)
-        (sym (same_from a c i link s n item moves u).gone ∙ f));
+        (sym (same_from a c i link s n item moves u).gone ∙ f))) [
+          | inl d ↦ or_left _ _ (some_grown law can link (opposite s) (grown law can link (opposite s)) d)
+          | inr d ↦ or_right _ _ (is_left-agree g h (agree law can) link (opposite s) ∙ d)
+        ];
     not_passed = λ a c i link s n item moves q u f. not_passed_at a c i link s n item moves q u f (is_new law can link s) refl;
     behind = λ a c i link s n item moves u f. behind_at a c i link s n item moves u f (is_new law can link s) refl;
     not_awaited_low = λ a c i d s n item moves j u none born. rw (taken_after law can j)

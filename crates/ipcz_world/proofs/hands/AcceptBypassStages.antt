@@ -1,4 +1,21 @@
 -- The router across takes the fresh link: who stands where, the words, and the bypass a stage further with its next message.
+use Rattle.ipcz_world.proofs.weights.Booking.{flag}
+use Rattle.std.specs.Prelude.{◌||◌, length as list_length}
+use Rattle.std.proofs.Common.{subst}
+use Rattle.ipcz_world.proofs.Vocabulary.{IsRecorded, opposite_end}
+use Rattle.ipcz_world.proofs.frames.Sealing.{links_of}
+use Rattle.ipcz_world.proofs.hands.AcceptBypassAround.{z_here, fresh_known}
+use Rattle.ipcz_world.proofs.hands.AcceptBypassAround as around
+use Rattle.std.proofs.Common.{true≢false}
+use Rattle.ipcz_world.proofs.frames.OneChange.{passes-same}
+use Rattle.ipcz_world.proofs.frames.Unmoved.{is_left-agree}
+use Rattle.ipcz_world.proofs.frames.Sealing.{retired_ends_of, gones_of}
+use Rattle.ipcz_world.proofs.frames.GonesKept.{gones-hand}
+use Rattle.ipcz_world.specs.Whereabouts.{RetiredEnds, Gones}
+use Rattle.ipcz_world.specs.Records.{is_left}
+use Rattle.ipcz_world.specs.Books.{is_retired}
+use Rattle.ipcz_base.specs.Ends as ends
+use Rattle.ipcz_world.proofs.views.LeftSides.{not_left}
 use Rattle.ipcz_world.proofs.frames.Sourcing.{sourced-by, had-one}
 use Rattle.ipcz_word.specs.Word.{Word}
 use Rattle.ipcz_world.proofs.frames.Unmoved.{side_node-agree}
@@ -34,6 +51,10 @@ use Rattle.ipcz_world.proofs.hands.AcceptBypassNumbers.{router_j, was_proxy, two
 use Rattle.ipcz_world.proofs.hands.AcceptBypassLinks.{known_after, central_is, not_both}
 use Rattle.ipcz_world.proofs.facts.Tests.{nat_eq-itself}
 use Rattle.ipcz_world.specs.Acts.{tells_stop}
+
+old_end : (g : Records) (o : ℕ) (s : Side) → side_end g (Central o) s ≡ ends.end_at (g.central o).pair s
+unfolding side_end
+old_end g o s = refl
 
 module _ {w : World} {b : Books} {g : Records} {from : ℕ} {k : Key} {r : Router} {e : LinkEnd} {o : ℕ} {side : Side} {fresh length : ℕ}
     (law : Sealed w b g) (can : Closed (CanAccept w from k r e o side fresh length)) where
@@ -88,43 +109,135 @@ module _ {w : World} {b : Books} {g : Records} {from : ℕ} {k : Key} {r : Route
   at_x : (test : Router → Bool) → key_passes v (Some k) test ≡ test x
   at_x test = passed v k x test (router_j law can k ∙ ap (λ t. cond t (Some x) (router_at w k)) (same_key-itself k))
 
+  left_same : (l : LinkId) (s : Side) → is_left h l s ≡ is_left g l s
+  left_same l s = is_left-agree g h (agree law can) l s
+
+  -- no end of the pair has retired, since its bypass is under way
+  unretired : (s : Side) → is_retired b (ends.end_at r.end.pair s) ≡ false
+  unretired s = let rec : IsRecorded w g k r e = (links_of law).primary k r e (here law can) (on law can) in
+      ap (λ n. is_retired b (ends.end_at n s)) (ap (λ t. t.pair) rec.end ∙ ap (λ l. (side_end g l e.side).pair) (on_old law can) ∙ ap (λ t. t.pair) (old_end g o e.side)) ∙
+      (retired_ends_of law).no_bypass o s (omega (arith, (is law can).stage)) (omega (arith, (is law can).stage))
+
+  pub retired-accept : RetiredEnds b h
+  retired-accept = record {
+    retired = λ t a. (agree law can).terminal t ∙ (retired_ends_of law).retired t a;
+    peer_closed = (retired_ends_of law).peer_closed;
+    peer_stays = (retired_ends_of law).peer_stays;
+    all_read = (retired_ends_of law).all_read;
+    gone_read = λ t a n. (retired_ends_of law).gone_read t (sym ((agree law can).terminal t) ∙ a) n;
+    no_bypass = λ j s l m. ap (λ n. is_retired b (ends.end_at n s)) ((agree law can).pair j) ∙ bypassed j s l m (at_o law can j);
+    left = λ t i a l n p. left_same (Central i) t.side ∙ (retired_ends_of law).left t i a l (sym ((agree law can).is_begun i) ∙ n)
+        (sym ((agree law can).pair i) ∙ p);
+    left_of = λ l s n. ap (λ d. is_retired b d || is_retired b (opposite_end d)) (side_end-agree g h (agree law can) l s) ∙
+        (retired_ends_of law).left_of l s (sym (left_same l s) ∙ n);
+    accepted = λ j l. rw ((agree law can).pair j, across_side-after law can j) (low j l (at_o law can j));
+  }
+    where
+      across_end : r.end ≡ ends.end_at (g.central o).pair (across_side g o)
+      across_end = let rec : IsRecorded w g k r e = (links_of law).primary k r e (here law can) (on law can) in
+          rec.end ∙ ap (λ l. side_end g l e.side) (on_old law can) ∙ old_end g o e.side ∙
+          ap (ends.end_at (g.central o).pair) (at_side law can ∙ (is law can).at_side)
+
+      low : (j : ℕ) → 3 ≤ (h.bypass j).stage → ((nat_eq j o ≡ true) × (j ≡ o)) ⊎ ((nat_eq j o ≡ false) × (j ≢ o)) →
+          (h.bypass j).accepted_at + cond (is_retired b (ends.end_at (g.central j).pair (across_side g j))) 1 0 ≤
+          list_length (b.put (ends.end_at (g.central j).pair (across_side g j)))
+      low j l (inl c) = subst (λ n. (h.bypass n).accepted_at + cond (is_retired b (ends.end_at (g.central n).pair (across_side g n))) 1 0 ≤
+          list_length (b.put (ends.end_at (g.central n).pair (across_side g n)))) (sym c.1) first
+        where
+          number : (h.bypass o).accepted_at ≡ r.out_queue.current
+          number = rw (nat_eq-itself o) refl
+
+          free : is_retired b (ends.end_at (g.central o).pair (across_side g o)) ≡ false
+          free = (retired_ends_of law).no_bypass o (across_side g o) (omega (arith, (is law can).stage)) (omega (arith, (is law can).stage))
+
+          first : (h.bypass o).accepted_at + cond (is_retired b (ends.end_at (g.central o).pair (across_side g o))) 1 0 ≤
+              list_length (b.put (ends.end_at (g.central o).pair (across_side g o)))
+          first = omega (
+            arith,
+            number,
+            ap flag free,
+            subst (λ d. r.out_queue.current ≤ list_length (b.put d)) across_end
+                ((gones_of law).out_put k r (here law can)),
+          )
+      low j l (inr c) = rw c.0 ((retired_ends_of law).accepted j (rw c.0 at l))
+
+      bypassed : (j : ℕ) (s : Side) → 1 ≤ (h.bypass j).stage → (h.bypass j).stage ≤ 4 →
+          ((nat_eq j o ≡ true) × (j ≡ o)) ⊎ ((nat_eq j o ≡ false) × (j ≢ o)) → is_retired b (ends.end_at (g.central j).pair s) ≡ false
+      bypassed j s l m (inl c) = (retired_ends_of law).no_bypass j s
+          (subst (λ n. 1 ≤ (g.bypass n).stage) (sym c.1) (omega (arith, (is law can).stage)))
+          (subst (λ n. (g.bypass n).stage ≤ 4) (sym c.1) (omega (arith, (is law can).stage)))
+      bypassed j s l m (inr c) = (retired_ends_of law).no_bypass j s (rw c.0 at l) (rw c.0 at m)
+
+  pub gones-accept : Gones v b h
+  gones-accept = gones-hand w v b g h k r x (router_j law can) (here law can)
+      (record { end = refl; current = refl; out = refl; inner = refl; terminal = refl; sent = refl; dropped = refl; closed = refl }) unretired
+      (λ l s n. sym (left_same l s) ∙ n) mine (gones_of law)
+    where
+      mine : (d : LinkEnd) → x.outward.primary ≡ Some d → is_left h d.link (opposite d.side) ≡ false
+      mine d p = let f = same_Some _ d p in ap (λ (t : LinkEnd). is_left h t.link (opposite t.side)) (sym f) ∙
+          left_same (Central fresh) (opposite side) ∙ not_left w g (Central fresh) (opposite side) (around.zk law can) (around.z law can) (stands_of law)
+          (fresh_known law can) (z_here law can)
+
   -- a link that isn't being bypassed has another router
   live_apart : (i : ℕ) (s : Side) → is_linked (g.owner i) ≡ true → is_begun (g.bypass i) ≡ false → side_router g (Central i) s ≡ Some k → ⊥
   live_apart i s l b' known' = let p : has_primary (Central i) s r ≡ true =
-      sym (passed w k r (has_primary (Central i) s) (here law can)) ∙ (stands_of law).central i s k l b' known' in
+      sym (passed w k r (has_primary (Central i) s) (here law can)) ∙ (stands_of law).central i s k l b'
+      (not_left w g (Central i) s k r (stands_of law) known' (here law can)) known' in
       grind (arith, (only_old i s p).0, b', begun law can)
 
   pub stands-accept : Stands v h
   stands-accept = record {
-    central = λ i s q l b' known'. central_at i s q l (sym ((agree law can).is_begun i) ∙ b') known' (is_new law can (Central i) s) refl;
+    central = λ i s q l b' nl known'. central_at i s q l (sym ((agree law can).is_begun i) ∙ b') (sym (left_same (Central i) s) ∙ nl) known' (is_new law can (Central i) s) refl;
     awaited = λ i s l none. ap is_some ((agree law can).born i) ∙ (stands_of law).awaited i s l (none_before law can i s none);
     awaited_stage = λ i s j l none born. awaited_stage_at i s j l none (sym ((agree law can).born i) ∙ born) (at_o law can j);
     awaited_side = λ i s j l none born. (stands_of law).awaited_side i s j l (none_before law can i s none)
         (sym ((agree law can).born i) ∙ born) ∙ sym
         (across_side-after law can j);
-    proxy = λ p rec by. ap (λ q. key_passes v q (has_inward_primary (inner_link p) A)) (side_router-inner-agree g h (agree law can) p A) ∙
+    proxy = λ p rec by nl. ap (λ q. key_passes v q (has_inward_primary (inner_link p) A)) (side_router-inner-agree g h (agree law can) p A) ∙
         keep
         (side_router g (inner_link p) A) (has_inward_primary (inner_link p) A)
-        ((stands_of law).proxy p (sym (is_recorded-kept w v g h k r x (changed law can) (agree law can) (inner_link p)) ∙ rec) by)
+        ((stands_of law).proxy p (sym (is_recorded-kept w v g h k r x (changed law can) (agree law can) (inner_link p)) ∙ rec) by
+        (sym (left_same (inner_link p) A) ∙ nl))
         (λ m t. t);
-    inner = λ p q rec by known'. keep (Some q) (has_primary (inner_link p) B)
-        ((stands_of law).inner p q (sym (is_recorded-kept w v g h k r x (changed law can) (agree law can) (inner_link p)) ∙ rec) by
+    inner = λ p q rec by nl known'. keep (Some q) (has_primary (inner_link p) B)
+        ((stands_of law).inner p q (sym (is_recorded-kept w v g h k r x (changed law can) (agree law can) (inner_link p)) ∙ rec) by (sym (left_same (inner_link p) B) ∙ nl)
         (sym (side_router-inner-agree g h (agree law can) p B) ∙ known')) (λ m t. absurd (not_inner p B t));
     by_begun = λ p j by. (agree law can).is_begun j ∙ (stands_of law).by_begun p j by;
     by_inner = λ p j by. (agree law can).inner j ∙ (stands_of law).by_inner p j by;
+    left_recorded = λ l s n. is_recorded-kept w v g h k r x (changed law can) (agree law can) l ∙
+        (stands_of law).left_recorded l s (sym (left_same l s) ∙ n);
+    left_known = λ l s n. known_left l s (sym (left_same l s) ∙ n);
+    left_gone = λ l s n. gone_left l s (sym (left_same l s) ∙ n);
+    left_live = λ l s n. bypass_of-agree g h (agree law can) l ∙ (stands_of law).left_live l s (sym (left_same l s) ∙ n);
   }
     where
+      left_old : (l : LinkId) (s : Side) → is_left g l s ≡ true → side_router h l s ≡ side_router g l s
+      left_old l s n = go (is_new law can l s) refl
+        where
+          go : (t : Bool) → is_new law can l s ≡ t → side_router h l s ≡ side_router g l s
+          go false t = router_of law can l s ∙ ap (λ c. cond c (Some k) (side_router g l s)) t
+          go true t = let new : (l ≡ Central fresh) × (s ≡ side) = new_at law can l s t in
+              let known2 : is_some (side_router g (Central fresh) side) ≡ true = rw (new.0, new.1) at ((stands_of law).left_known l s n) in
+              absurd (true≢false (sym known2 ∙ ap is_some (fresh_awaited law can)))
+
+      known_left : (l : LinkId) (s : Side) → is_left g l s ≡ true → is_some (side_router h l s) ≡ true
+      known_left l s n = ap is_some (left_old l s n) ∙ (stands_of law).left_known l s n
+
+      gone_left : (l : LinkId) (s : Side) → is_left g l s ≡ true → key_passes v (side_router h l s) (λ y. true) ≡ false
+      gone_left l s n = ap (λ q. key_passes v q (λ y. true)) (left_old l s n) ∙
+          passes-same (changed law can).one (λ y. true) refl (side_router g l s) ∙ (stands_of law).left_gone l s n
+
       central_at : (i : ℕ) (s : Side) (q : Key) → is_linked (g.owner i) ≡ true → is_begun (g.bypass i) ≡ false →
-          side_router h (Central i) s ≡ Some q → (t : Bool) → is_new law can (Central i) s ≡ t →
+          is_left g (Central i) s ≡ false → side_router h (Central i) s ≡ Some q → (t : Bool) → is_new law can (Central i) s ≡ t →
           key_passes v (Some q) (has_primary (Central i) s) ≡ true
-      central_at i s q l b' known' true t = let new : (Central i ≡ Central fresh) × (s ≡ side) = new_at law can (Central i) s t in
+      central_at i s q l b' nl known' true t = let new : (Central i ≡ Central fresh) × (s ≡ side) = new_at law can (Central i) s t in
           let q_is : k ≡ q = same_Some k q
           (sym (router_of law can (Central i) s ∙ ap (λ c. cond c (Some k) (side_router g (Central i) s)) t) ∙
           known') in
           rw (← q_is, new.0, new.1) (at_x (has_primary (Central fresh) side) ∙ x_on_fresh)
-      central_at i s q l b' known' false t = let known2 : side_router g (Central i) s ≡ Some q =
+      central_at i s q l b' nl known' false t = let known2 : side_router g (Central i) s ≡ Some q =
           sym (router_of law can (Central i) s ∙ ap (λ c. cond c (Some k) (side_router g (Central i) s)) t) ∙ known' in
-          keep (Some q) (has_primary (Central i) s) ((stands_of law).central i s q l b' known2)
+          keep (Some q) (has_primary (Central i) s) ((stands_of law).central i s q l b' nl known2)
           (λ m p. absurd (live_apart i s l b' (known2 ∙ m)))
 
       awaited_stage_at : (i : ℕ) (s : Side) (j : ℕ) → is_linked (g.owner i) ≡ true → (h.central i).router s ≡ None →
@@ -148,10 +261,14 @@ module _ {w : World} {b : Books} {g : Records} {from : ℕ} {k : Key} {r : Route
     begun_holder = λ i s b'. ap (λ c. has c.holder s) (word_same i) ∙
         (words_of law).begun_holder i s (sym ((agree law can).is_begun i) ∙ b') ∙ ap
         (same_side s) (sym (proxy_side-agree g h (agree law can) i));
-    stable = λ i s l b'. ap (λ c. has c.stable s) (word_same i) ∙ (words_of law).stable i s l (sym ((agree law can).is_begun i) ∙ b') ∙
+    left_held = λ i s n. rw (left_same (Central i) A, left_same (Central i) B, word_same i)
+        ((words_of law).left_held i s (sym (left_same (Central i) s) ∙ n));
+    stable = λ i s l b' nl. ap (λ c. has c.stable s) (word_same i) ∙ (words_of law).stable i s l (sym ((agree law can).is_begun i) ∙ b')
+        (sym (left_same (Central i) s) ∙ nl) ∙
         test_at i s
         (λ y. y.marked) refl l (sym ((agree law can).is_begun i) ∙ b') (is_new law can (Central i) s) refl;
-    holder = λ i s l b'. ap (λ c. has c.holder s) (word_same i) ∙ (words_of law).holder i s l (sym ((agree law can).is_begun i) ∙ b') ∙
+    holder = λ i s l b' nl. ap (λ c. has c.holder s) (word_same i) ∙ (words_of law).holder i s l (sym ((agree law can).is_begun i) ∙ b')
+        (sym (left_same (Central i) s) ∙ nl) ∙
         test_at i s
         (λ y. y.holds) refl l (sym ((agree law can).is_begun i) ∙ b') (is_new law can (Central i) s) refl;
     held_stable = λ i s t a. ap (λ c. has c.stable t) (word_same i) ∙ (words_of law).held_stable i s t

@@ -56,7 +56,7 @@ module _ {w : World} {b : Books} {g : Records} {from : ℕ} {k : Key} {r : Route
   at_o j = grind (arith, nat_tests)
 
   pub like : IsLike r x
-  like = record { end = refl; out_queue = refl; in_queue = refl; terminal = refl; closed = refl; mark_seen = refl; spare = refl }
+  like = record { end = refl; out_queue = refl; in_queue = refl; terminal = refl; closed = refl; mark_seen = refl; mark_dropped = refl; gone_sent = refl; spare = refl }
 
   pub changed : Changed w v k r x
   changed = changed-handed_on w from k r x e.other sent (here law can)
@@ -67,6 +67,7 @@ module _ {w : World} {b : Books} {g : Records} {from : ℕ} {k : Key} {r : Route
     pair = λ i. grind (arith, nat_tests);
     node = λ i s. grind (arith, nat_tests);
     born = λ i. grind (arith, nat_tests);
+    left = λ i. grind (arith, nat_tests);
     peripheral = λ p. refl;
     terminal = λ t. refl;
     begun = λ q. refl;

@@ -1,5 +1,5 @@
 -- The router inward is told of a bypass and takes the fresh link: the invariant is kept.
-use Rattle.ipcz_world.proofs.hands.BypassPeerStages.{live-peer}
+use Rattle.ipcz_world.proofs.hands.BypassPeerStages.{retired-peer, gones-peer, live-peer}
 use Rattle.std.specs.Prelude.{ℕ, ◌+◌}
 use Rattle.std.proofs.Common.{ap, ◌∙◌, sym}
 use Rattle.ipcz_world.proofs.Vocabulary.{Side, LinkId, Message, opposite, EndPlaces, BooksKept, Conserved, HeldOnce, times_held, Router}
@@ -59,10 +59,14 @@ module _ (w : World) (b : Books) (g : Records) (from : ℕ) (k : Key) (r : Route
     books_kept = record {
       own_pair = in_books.own_pair;
       mark_last = in_books.mark_last;
+      gone_last = in_books.gone_last;
+      retired_closed = in_books.retired_closed;
       numbers = in_books.numbers;
       mark_seen =
           in_books.mark_seen;
     };
+    retired_ends = retired-peer law can;
+    gones = gones-peer law can;
     items = items-peer law can;
     order = order-peer law can;
     proxy_numbers = proxy_numbers-peer law can;

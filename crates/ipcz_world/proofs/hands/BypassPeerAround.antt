@@ -1,4 +1,7 @@
 -- The router inward has the message that begins its bypass and takes the fresh link: who stands around it, before and after.
+use Rattle.ipcz_world.proofs.frames.Sealing.{stands_of}
+use Rattle.ipcz_word.specs.SideSets.{has, has-none}
+use Rattle.ipcz_world.specs.Records.{is_left}
 use Rattle.ipcz_world.specs.Routes.{source as source'}
 use Rattle.std.specs.Prelude.{◌≡◌, ◌≢◌, ◌⊎◌, ◌<◌, ◌≤◌, ℕ, Bool, true, false, cond, ◌||◌, nat_eq, if◌then◌else◌, is_some, Option, Some, None}
 use Rattle.std.specs.Prelude.{refl}
@@ -164,7 +167,7 @@ module _ {w : World} {b : Books} {g : Records} {from : ℕ} {k : Key} {r : Route
   h = taken_records g k r o fresh target
 
   pub like : IsLike r x
-  like = record { end = refl; out_queue = refl; in_queue = refl; terminal = refl; closed = refl; mark_seen = refl; spare = refl }
+  like = record { end = refl; out_queue = refl; in_queue = refl; terminal = refl; closed = refl; mark_seen = refl; mark_dropped = refl; gone_sent = refl; spare = refl }
 
   pub changed : Changed w v k r x
   changed = changed-handed_on w from k r x target sent here
@@ -253,6 +256,31 @@ module _ {w : World} {b : Books} {g : Records} {from : ℕ} {k : Key} {r : Route
   source_same (Central i) s m = rw m refl
   source_same (Peripheral n p) A m = refl
   source_same (Peripheral n p) B m = refl
+
+  -- the sides that were left are the same
+  pub left_recorded : (l : LinkId) (s : Side) → is_left g l s ≡ true → same_link l (Central fresh) ≡ false
+  left_recorded l s m = apart l ((stands_of law).left_recorded l s m)
+
+  pub fresh_left : (s : Side) → is_left g (Central fresh) s ≡ false
+  fresh_left s = go (is_left g (Central fresh) s) refl
+    where
+      go : (c : Bool) → is_left g (Central fresh) s ≡ c → c ≡ false
+      go false m = refl
+      go true m = absurd (grind (arith, sym ((stands_of law).left_recorded (Central fresh) s m) ∙ is_recorded-central w g fresh, not_linked))
+
+  fresh_left' : (s : Side) → is_left h (Central fresh) s ≡ false
+  unfolding is_left
+  fresh_left' s = rw (itself fresh) (has-none s)
+
+  pub left_same : (l : LinkId) (s : Side) → is_left h l s ≡ is_left g l s
+  unfolding is_left
+  left_same (Central i) s = go (at_fresh i)
+    where
+      go : ((nat_eq i fresh ≡ true) × (i ≡ fresh)) ⊎ ((nat_eq i fresh ≡ false) × (i ≢ fresh)) →
+          has (h.central i).left s ≡ has (g.central i).left s
+      go (inl t) = ap (λ n. has (h.central n).left s) t.1 ∙ fresh_left' s ∙ sym (fresh_left s) ∙ ap (λ n. has (g.central n).left s) (sym t.1)
+      go (inr t) = ap (λ c. has c.left s) (central_same i t.0)
+  left_same (Peripheral n p) s = refl
 
   pub bypass_same : (l : LinkId) → bypass_of h l ≡ bypass_of g l
   unfolding bypass_of

@@ -282,7 +282,9 @@ module _ {w : World} {b : Books} {g : Records} {from : ℕ} {k : Key} {r : Route
     marked_central = λ q t a m. grind (arith, split law can q t a, (shape_of law).marked_central q t, m);
     marked_still = λ q t a m. grind (arith, split law can q t a, (shape_of law).marked_still q t, m);
     holds_marked = λ q t a m. grind (arith, split law can q t a, (shape_of law).holds_marked q t, m);
-    holds_proxy = λ q t a m. grind (arith, split law can q t a, (shape_of law).holds_proxy q t, m);
+    holds_fit = λ q t a m. grind (arith, split law can q t a, (shape_of law).holds_fit q t, m);
+    dropped_sink = λ q t a m. grind (arith, split law can q t a, (shape_of law).dropped_sink q t, (shape_of law).dropped_sink k r (here law can), m);
+    sent_proxy = λ q t a m. grind (arith, split law can q t a, (shape_of law).sent_proxy q t, (shape_of law).sent_proxy k r (here law can), m);
     holds_spare = λ q t a m. grind (arith, split law can q t a, (shape_of law).holds_spare q t, m);
     spare_proxy = λ q t j a m. grind (
       arith,

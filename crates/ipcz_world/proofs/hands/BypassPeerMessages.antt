@@ -56,6 +56,7 @@ module _ {w : World} {b : Books} {g : Records} {from : ℕ} {k : Key} {r : Route
     pair = λ i. refl;
     node = λ i s. refl;
     born = λ i. refl;
+    left = λ i. refl;
     peripheral = λ p. refl;
     terminal =
         λ t. refl;

@@ -1,4 +1,7 @@
 -- The router inward takes the fresh link: numbers of items, under way and in queues.
+use Rattle.std.proofs.lemmas.Bool.{or_left, or_right}
+use Rattle.ipcz_world.proofs.hands.BypassPeerAround.{left_same}
+use Rattle.ipcz_world.proofs.frames.Touching.{either}
 use Rattle.std.specs.Prelude.{◌≡◌, ◌≢◌, ◌⊎◌, ◌<◌, ◌≤◌, ℕ, true, false, nat_eq, is_some, Option, Some, None, option_map, unwrap_or, List}
 use Rattle.std.specs.Prelude.{refl}
 use Rattle.std.proofs.Common.{arith, ap, ◌∙◌, sym, inl, inr}
@@ -194,9 +197,12 @@ module _ {w : World} {b : Books} {g : Records} {from : ℕ} {k : Key} {r : Route
     by_sender = λ a c i l s n item moves u. (view_same law can l (opposite s) (item_apart a c i l s n item moves u)).sent ∙
         (items_of law).by_sender
         a c (before a c i) l s n item moves (was a c i l s n item moves u);
-    sender_gone = λ a c i l s n item moves u f. some_grown l (opposite s) (grown l (opposite s))
+    sender_gone = λ a c i l s n item moves u f. elim (either _ _
         ((items_of law).sender_gone a c (before a c i) l s n item moves (was a c i l s n item moves u)
-        (sym (view_same law can l (opposite s) (item_apart a c i l s n item moves u)).gone ∙ f));
+        (sym (view_same law can l (opposite s) (item_apart a c i l s n item moves u)).gone ∙ f))) [
+          | inl d ↦ or_left _ _ (some_grown l (opposite s) (grown l (opposite s)) d)
+          | inr d ↦ or_right _ _ (left_same law can l (opposite s) ∙ d)
+        ];
     not_passed = λ a c i l s n item moves q u f. (items_of law).not_passed a c (before a c i) l s n item moves q
         (was a c i l s n item moves u) (sym (view_same law can l s (item_apart a c i l s n item moves u)).taking ∙ f);
     behind = λ a c i l s n item moves u f. made a c i l s ((was a c i l s n item moves u).receiver)

@@ -1,4 +1,16 @@
 -- The router inward takes the fresh link: who stands where, the words, and where the terminals are.
+use Rattle.ipcz_world.proofs.hands.BypassPeerAround.{left_same, left_recorded, fresh_left, r_pair, end_same, bypass_same, recorded_more, begun_apart, accepted_same}
+use Rattle.ipcz_world.proofs.Vocabulary.{opposite_end, End}
+use Rattle.std.proofs.Common.{subst}
+use Rattle.std.specs.Prelude.{◌||◌, nat_le}
+use Rattle.ipcz_world.proofs.frames.OneChange.{passes-same}
+use Rattle.ipcz_world.proofs.frames.Sealing.{retired_ends_of, gones_of}
+use Rattle.ipcz_world.proofs.frames.GonesKept.{gones-hand}
+use Rattle.ipcz_world.specs.Whereabouts.{RetiredEnds, Gones}
+use Rattle.ipcz_world.specs.Records.{is_left}
+use Rattle.ipcz_world.specs.Books.{is_retired}
+use Rattle.ipcz_base.specs.Ends as ends
+use Rattle.ipcz_world.proofs.views.LeftSides.{not_left}
 use Rattle.ipcz_world.proofs.frames.LiveLinks.{first_begun}
 use Rattle.ipcz_world.specs.Bypasses.{LiveLinks}
 use Rattle.ipcz_world.proofs.frames.Sealing.{live_of}
@@ -85,20 +97,27 @@ module _ {w : World} {b : Books} {g : Records} {from : ℕ} {k : Key} {r : Route
 
   pub stands-peer : Stands v h
   stands-peer = record {
-    central = λ i s q l n m. central_at i s q l (sym (is_begun_same law can i) ∙ n) m (at_fresh law can i);
+    central = λ i s q l n nl m. central_at i s q l (sym (is_begun_same law can i) ∙ n) (sym (left_same law can (Central i) s) ∙ nl) m
+        (at_fresh law can i);
     awaited = λ i s l n. awaited_at i s l n (at_fresh law can i);
     awaited_stage = λ i s j l n m. awaited_stage_at i s j l n m (at_fresh law can i);
     awaited_side = λ i s j l n m. awaited_side_at i s j l n m (at_fresh law can i);
-    proxy = λ p rec by. keep (side_router h (inner_link p) A) (has_inward_primary (inner_link p) A)
+    proxy = λ p rec by nl. keep (side_router h (inner_link p) A) (has_inward_primary (inner_link p) A)
         (ap (λ q. key_passes w q (has_inward_primary (inner_link p) A)) (router_same law can (inner_link p) A refl) ∙
         (stands_of law).proxy p
-        (back p rec) by) (λ m t. t);
-    inner = λ p q rec by m. keep (Some q) (has_primary (inner_link p) B)
-        ((stands_of law).inner p q (back p rec) by (sym (router_same law can (inner_link p) B refl) ∙ m))
+        (back p rec) by (sym (left_same law can (inner_link p) A) ∙ nl)) (λ m t. t);
+    inner = λ p q rec by nl m. keep (Some q) (has_primary (inner_link p) B)
+        ((stands_of law).inner p q (back p rec) by (sym (left_same law can (inner_link p) B) ∙ nl) (sym (router_same law can (inner_link p) B refl) ∙ m))
         (λ n t. absurd (none-some o (sym by ∙ ap (λ i. (g.peripheral i).by)
         (inner_is law can p (g.bypass o).inner (only_inner (inner_link p) B t).0) ∙ by_o law can)));
     by_begun = λ p j n. is_begun_same law can j ∙ (stands_of law).by_begun p j n;
     by_inner = λ p j n. inner_same law can j ∙ (stands_of law).by_inner p j n;
+    left_recorded = λ l s n. recorded_more law can l ((stands_of law).left_recorded l s (was_left l s n));
+    left_known = λ l s n. ap is_some (router_same law can l s (left_recorded law can l s (was_left l s n))) ∙
+        (stands_of law).left_known l s (was_left l s n);
+    left_gone = λ l s n. ap (λ q. key_passes v q (λ y. true)) (router_same law can l s (left_recorded law can l s (was_left l s n))) ∙
+        passes-same (changed law can).one (λ y. true) refl (side_router g l s) ∙ (stands_of law).left_gone l s (was_left l s n);
+    left_live = λ l s n. bypass_same law can l ∙ (stands_of law).left_live l s (was_left l s n);
   }
     where
       back : (p : Key) → is_recorded v h (inner_link p) ≡ true → is_recorded w g (inner_link p) ≡ true
@@ -108,9 +127,12 @@ module _ {w : World} {b : Books} {g : Records} {from : ℕ} {k : Key} {r : Route
           go (inl t) = t
           go (inr t) = absurd (central_not_inner law can fresh p (sym t))
 
+      was_left : (l : LinkId) (s : Side) → is_left h l s ≡ true → is_left g l s ≡ true
+      was_left l s n = sym (left_same law can l s) ∙ n
+
       central_at : (i : ℕ) (s : Side) (q : Key) → is_linked (h.owner i) ≡ true → is_begun (g.bypass i) ≡ false →
-          side_router h (Central i) s ≡ Some q → New i → key_passes v (Some q) (has_primary (Central i) s) ≡ true
-      central_at i s q l n m (inl t) = new_at s q (ap (λ c. side_router h (Central c) s) (sym t.1) ∙ m) (side_is s r.end.side)
+          is_left g (Central i) s ≡ false → side_router h (Central i) s ≡ Some q → New i → key_passes v (Some q) (has_primary (Central i) s) ≡ true
+      central_at i s q l n nl m (inl t) = new_at s q (ap (λ c. side_router h (Central c) s) (sym t.1) ∙ m) (side_is s r.end.side)
         where
           new_at : (s : Side) (q : Key) → side_router h (Central fresh) s ≡ Some q →
               ((same_side s r.end.side ≡ true) × (s ≡ r.end.side)) ⊎ ((same_side s r.end.side ≡ false) × (s ≡ opposite r.end.side)) →
@@ -118,8 +140,8 @@ module _ {w : World} {b : Books} {g : Records} {from : ℕ} {k : Key} {r : Route
           new_at s q m (inl a) = let same : k ≡ q = same_Some k q (sym (ap (side_router h (Central fresh)) a.1 ∙ x_known law can) ∙ m) in
               rw (t.1, a.1, ← same) (passed v k x (has_primary (Central fresh) r.end.side) (at_k law can) ∙ x_on_fresh law can)
           new_at s q m (inr a) = absurd (none-some q (sym (ap (side_router h (Central fresh)) a.1 ∙ beyond_none law can) ∙ m))
-      central_at i s q l n m (inr t) = keep (Some q) (has_primary (Central i) s)
-          ((stands_of law).central i s q (linked_back law can i l t.0) n (sym (router_same law can (Central i) s t.0) ∙ m))
+      central_at i s q l n nl m (inr t) = keep (Some q) (has_primary (Central i) s)
+          ((stands_of law).central i s q (linked_back law can i l t.0) n nl (sym (router_same law can (Central i) s t.0) ∙ m))
           (λ c p. absurd (not_central i s p))
 
       router_before : (i : ℕ) (s : Side) → nat_eq i fresh ≡ false → (h.central i).router s ≡ None → (g.central i).router s ≡ None
@@ -159,6 +181,62 @@ module _ {w : World} {b : Books} {g : Records} {from : ℕ} {k : Key} {r : Route
           other_side s n (inr a) = a.1
       awaited_side_at i s j l n m (inr t) = (stands_of law).awaited_side i s j (linked_back law can i l t.0) (router_before i s t.0 n)
           (born_before i j t.0 m) ∙ sym (across_side_same law can j)
+
+  -- no end of the pair has retired, since its bypass is under way
+  unretired : (s : Side) → is_retired b (ends.end_at r.end.pair s) ≡ false
+  unretired s = ap (λ n. is_retired b (ends.end_at n s)) (r_pair law can) ∙
+      (retired_ends_of law).no_bypass o s (omega (arith, (is law can).stage)) (omega (arith, (is law can).stage))
+
+  pub retired-peer : RetiredEnds b h
+  unfolding is_linked
+  retired-peer = record {
+    retired = (retired_ends_of law).retired;
+    peer_closed = (retired_ends_of law).peer_closed;
+    peer_stays = (retired_ends_of law).peer_stays;
+    all_read = (retired_ends_of law).all_read;
+    gone_read = (retired_ends_of law).gone_read;
+    no_bypass = λ j s l m. let n : is_begun (g.bypass j) ≡ true = sym (is_begun_same law can j) ∙ first_begun' (h.bypass j).stage l in
+        ap (λ c. is_retired b (ends.end_at c.pair s)) (central_same law can j (begun_apart law can j n)) ∙ bypassed j s l m (at_o law can j);
+    left = λ t i a l n p. live t i a l n p (at_fresh law can i);
+    left_of = λ l s n. let m : is_left g l s ≡ true = sym (left_same law can l s) ∙ n in
+        ap (λ d. is_retired b d || is_retired b (opposite_end d)) (end_same law can l s (left_recorded law can l s m)) ∙
+        (retired_ends_of law).left_of l s m;
+    accepted = λ j l. let n : is_begun (g.bypass j) ≡ true = sym (is_begun_same law can j) ∙ first_begun' (h.bypass j).stage (omega (arith, l)) in
+        rw (central_same law can j (begun_apart law can j n), accepted_same law can j, across_side_same law can j)
+        ((retired_ends_of law).accepted j (was_late j l));
+  }
+    where
+      was_late : (j : ℕ) → 3 ≤ (h.bypass j).stage → 3 ≤ (g.bypass j).stage
+      was_late j l = grind (arith, stage_at law can j, at_o law can j, l)
+
+      first_begun' : (n : ℕ) → 1 ≤ n → nat_le 1 n ≡ true
+      first_begun' n l = grind (arith, l, nat_tests)
+
+      bypassed : (j : ℕ) (s : Side) → 1 ≤ (h.bypass j).stage → (h.bypass j).stage ≤ 4 →
+          ((nat_eq j o ≡ true) × (j ≡ o)) ⊎ ((nat_eq j o ≡ false) × (j ≢ o)) → is_retired b (ends.end_at (g.central j).pair s) ≡ false
+      bypassed j s l m (inl c) = (retired_ends_of law).no_bypass j s
+          (subst (λ n. 1 ≤ (g.bypass n).stage) (sym c.1) (omega (arith, (is law can).stage)))
+          (subst (λ n. (g.bypass n).stage ≤ 4) (sym c.1) (omega (arith, (is law can).stage)))
+      bypassed j s l m (inr c) = (retired_ends_of law).no_bypass j s (rw (two law can j c.0) at l) (rw (two law can j c.0) at m)
+
+      fresh_pair : (h.central fresh).pair ≡ r.end.pair
+      fresh_pair = rw (nat_eq-itself fresh) refl
+
+      live : (t : End) (i : ℕ) → is_retired b t ≡ true → is_linked (h.owner i) ≡ true → is_begun (h.bypass i) ≡ false →
+          (h.central i).pair ≡ t.pair → New i → is_left h (Central i) t.side ≡ true
+      live t i a l n p (inl c) = let q : t.pair ≡ r.end.pair = sym p ∙ ap (λ m. (h.central m).pair) c.1 ∙ fresh_pair in
+          absurd (true≢false (sym a ∙ ap (λ m. is_retired b (ends.end_at m t.side)) q ∙ unretired t.side))
+      live t i a l n p (inr c) = left_same law can (Central i) t.side ∙ (retired_ends_of law).left t i a (linked_back law can i l c.0)
+          (sym (is_begun_same law can i) ∙ n) (ap (λ z. z.pair) (sym (central_same law can i c.0)) ∙ p)
+
+  pub gones-peer : Gones v b h
+  gones-peer = gones-hand w v b g h k r x (router_j law can) (here law can)
+      (record { end = refl; current = refl; out = refl; inner = refl; terminal = refl; sent = refl; dropped = refl; closed = refl }) unretired
+      (λ l s n. sym (left_same law can l s) ∙ n) mine (gones_of law)
+    where
+      mine : (d : LinkEnd) → x.outward.primary ≡ Some d → is_left h d.link (opposite d.side) ≡ false
+      mine d p = let f = same_Some _ d p in ap (λ (t : LinkEnd). is_left h t.link (opposite t.side)) (sym f) ∙
+          left_same law can (Central fresh) (opposite r.end.side) ∙ fresh_left law can (opposite r.end.side)
 
   -- the fresh link is the pair's live one from now on
   pub live-peer : LiveLinks h
@@ -231,8 +309,12 @@ module _ {w : World} {b : Books} {g : Records} {from : ℕ} {k : Key} {r : Route
     begun_holder = λ i s n. ap (λ c. has c.holder s) (word_same i) ∙ (words_of law).begun_holder i s (sym (is_begun_same law can i) ∙ n) ∙
         ap
         (same_side s) (sym (proxy_side_same law can i));
-    stable = λ i s l n. ap (λ c. has c.stable s) (word_same i) ∙ stable_at i s l (sym (is_begun_same law can i) ∙ n) (at_fresh law can i);
-    holder = λ i s l n. ap (λ c. has c.holder s) (word_same i) ∙ holder_at i s l (sym (is_begun_same law can i) ∙ n) (at_fresh law can i);
+    stable = λ i s l n nl. ap (λ c. has c.stable s) (word_same i) ∙ stable_at i s l (sym (is_begun_same law can i) ∙ n)
+        (sym (left_same law can (Central i) s) ∙ nl) (at_fresh law can i);
+    holder = λ i s l n nl. ap (λ c. has c.holder s) (word_same i) ∙ holder_at i s l (sym (is_begun_same law can i) ∙ n)
+        (sym (left_same law can (Central i) s) ∙ nl) (at_fresh law can i);
+    left_held = λ i s n. rw (left_same law can (Central i) A, left_same law can (Central i) B, word_same i)
+        ((words_of law).left_held i s (sym (left_same law can (Central i) s) ∙ n));
     held_stable = λ i s t a. ap (λ c. has c.stable t) (word_same i) ∙ (words_of law).held_stable i s t
         (ap (λ c. has c.holder s) (sym (word_same i)) ∙ a);
     one_holder = λ i s t a d. (words_of law).one_holder i s t (ap (λ c. has c.holder s) (sym (word_same i)) ∙ a)
@@ -273,26 +355,27 @@ module _ {w : World} {b : Books} {g : Records} {from : ℕ} {k : Key} {r : Route
               key_passes w (Some q) test ≡ key_passes v (Some q) test
           go (inl c) = absurd (not_central i s (sym (passed w k r (has_primary (Central i) s) (here law can)) ∙
               (stands_of law).central i s k l n
+              (not_left w g (Central i) s k r (stands_of law) (m ∙ ap Some c.1) (here law can))
               (m ∙ ap Some c.1)))
           go (inr c) = grind (arith, standing_rules, router_j law can q, c.0)
 
       empty_at : word_at w fresh ≡ empty_word
       empty_at = (words_of law).unused fresh (not_linked law can)
 
-      stable_at : (i : ℕ) (s : Side) → is_linked (h.owner i) ≡ true → is_begun (g.bypass i) ≡ false → New i →
+      stable_at : (i : ℕ) (s : Side) → is_linked (h.owner i) ≡ true → is_begun (g.bypass i) ≡ false → is_left g (Central i) s ≡ false → New i →
           has (word_at w i).stable s ≡ key_passes v (side_router h (Central i) s) (λ y. y.marked)
-      stable_at i s l n (inl t) = ap (λ j. has (word_at w j).stable s) t.1 ∙ ap (λ c. has c.stable s) empty_at ∙ none_stable s ∙ sym
+      stable_at i s l n nl (inl t) = ap (λ j. has (word_at w j).stable s) t.1 ∙ ap (λ c. has c.stable s) empty_at ∙ none_stable s ∙ sym
           (ap (λ j. key_passes v (side_router h (Central j) s) (λ y. y.marked)) t.1 ∙ new_test s (λ y. y.marked) refl
           (side_is s r.end.side))
-      stable_at i s l n (inr t) = (words_of law).stable i s (linked_back law can i l t.0) n ∙ old_test i s (λ y. y.marked)
+      stable_at i s l n nl (inr t) = (words_of law).stable i s (linked_back law can i l t.0) n nl ∙ old_test i s (λ y. y.marked)
           (side_router g (Central i) s) refl (linked_back law can i l t.0) n ∙ ap (λ q. key_passes v q (λ y. y.marked))
           (sym (router_same law can (Central i) s t.0))
 
-      holder_at : (i : ℕ) (s : Side) → is_linked (h.owner i) ≡ true → is_begun (g.bypass i) ≡ false → New i →
+      holder_at : (i : ℕ) (s : Side) → is_linked (h.owner i) ≡ true → is_begun (g.bypass i) ≡ false → is_left g (Central i) s ≡ false → New i →
           has (word_at w i).holder s ≡ key_passes v (side_router h (Central i) s) (λ y. y.holds)
-      holder_at i s l n (inl t) = ap (λ j. has (word_at w j).holder s) t.1 ∙ ap (λ c. has c.holder s) empty_at ∙ none_holder s ∙ sym
+      holder_at i s l n nl (inl t) = ap (λ j. has (word_at w j).holder s) t.1 ∙ ap (λ c. has c.holder s) empty_at ∙ none_holder s ∙ sym
           (ap (λ j. key_passes v (side_router h (Central j) s) (λ y. y.holds)) t.1 ∙ new_test s (λ y. y.holds) refl (side_is s r.end.side))
-      holder_at i s l n (inr t) = (words_of law).holder i s (linked_back law can i l t.0) n ∙ old_test i s (λ y. y.holds)
+      holder_at i s l n nl (inr t) = (words_of law).holder i s (linked_back law can i l t.0) n nl ∙ old_test i s (λ y. y.holds)
           (side_router g (Central i) s) refl (linked_back law can i l t.0) n ∙ ap (λ q. key_passes v q (λ y. y.holds))
           (sym (router_same law can (Central i) s t.0))
 

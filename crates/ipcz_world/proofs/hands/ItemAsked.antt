@@ -1,4 +1,6 @@
 -- An item in the hand of a node finds the router that it is for, and fits there, so it is never kept as a stray.
+use Rattle.ipcz_world.specs.Books.{is_retired}
+use Rattle.ipcz_world.proofs.frames.GonesKept.{open_unretired}
 use Rattle.ipcz_world.specs.WordAnswers.{source_for}
 use Rattle.std.specs.Prelude.{◌≡◌, ◌≢◌, ◌≤◌, ◌<◌, ◌+◌, ℕ, suc, Bool, true, false, cond, not, ◌&&◌, ◌||◌, nat_eq, nat_le, nat_lt, is_some}
 use Rattle.std.specs.Prelude.{if◌then◌else◌, Option, Some, None, refl, List, [], ◌∷◌, ◌++◌, map, length, drop, slice_get}
@@ -81,13 +83,16 @@ link_missing w g n l s law none = go (link_router (node_at w n) l s) refl
         let t = found_tells (node_at w n) (λ y. router_has y l s) f e in
         let h = (has_at w g (record { node = n; serial = f.serial }) f.router l s law t.0 t.1).router in absurd (grind (arith, h, none))
 
-low_number : (m len : ℕ) (c : Bool) → m < len → len ≤ last_number + cond c 1 0 → nat_lt m no_number ≡ true
-low_number m len true l e = grind (arith, l, e, nat_tests)
-low_number m len false l e = grind (arith, l, e, nat_tests)
+low_number : (m len : ℕ) (c d : Bool) → m < len → len ≤ last_number + cond c 1 0 + cond d 1 0 → nat_lt m no_number ≡ true
+low_number m len true true l e = grind (arith, l, e, nat_tests)
+low_number m len true false l e = grind (arith, l, e, nat_tests)
+low_number m len false true l e = grind (arith, l, e, nat_tests)
+low_number m len false false l e = grind (arith, l, e, nat_tests)
 
-low_next : (m len : ℕ) (c : Bool) → m ≡ len → c ≡ false → len ≤ last_number + cond c 1 0 → m ≤ last_number
-low_next m len true e f h = absurd (grind (arith, f))
-low_next m len false e f h = omega (arith, e, h)
+low_next : (m len : ℕ) (c d : Bool) → m ≡ len → c ≡ false → d ≡ false → len ≤ last_number + cond c 1 0 + cond d 1 0 → m ≤ last_number
+low_next m len true d e f g h = absurd (grind (arith, f))
+low_next m len false true e f g h = absurd (grind (arith, g))
+low_next m len false false e f g h = omega (arith, e, h)
 
 le_true : (m n : ℕ) → m ≤ n → nat_le m n ≡ true
 le_true m n h = grind (arith, h, nat_tests)
@@ -191,7 +196,7 @@ module _ (w : World) (b : Books) (g : Records) (from n : ℕ) (l : LinkId) (s : 
 
   -- the number is of an item that was put
   numbered : nat_lt number no_number ≡ true
-  numbered = low_number number (length (b.put e)) (is_closed b e)
+  numbered = low_number number (length (b.put e)) (is_closed b e) (is_retired b e)
       (omega (arith, range.1, length-drop (read b (opposite_end e)) (b.put e) (law.conserved.read_put e))) (law.books_kept.numbers e)
     where
       e : End
@@ -229,8 +234,9 @@ module _ (w : World) (b : Books) (g : Records) (from n : ℕ) (l : LinkId) (s : 
       let unnamed = link_missing w g n d.link B law.links (law.moves.awaited from n 0 j (messages.Item l s number item moves) d under
       (descriptor j d h)) in
       let unclosed = law.conserved.move_open from n 0 j (messages.Item l s number item moves) d under (descriptor j d h) in
-      let low : d.next_out ≤ last_number = low_next d.next_out (length (b.put d.end)) (is_closed b d.end)
+      let low : d.next_out ≤ last_number = low_next d.next_out (length (b.put d.end)) (is_closed b d.end) (is_retired b d.end)
       (law.conserved.move_out from n 0 j (messages.Item l s number item moves) d under (descriptor j d h)) unclosed
+      (open_unretired (record { retired_closed = law.books_kept.retired_closed }) law.retired_ends d.end unclosed).0
       (law.books_kept.numbers d.end) in
       and_from (not (is_named (node_at w n) d.link B)) (nat_le d.next_out last_number) (ap not unnamed) (le_true d.next_out last_number low)
 

@@ -1,4 +1,16 @@
 -- A descriptor of a message in hand becomes a terminal: the invariant is kept, with one end less under way.
+use Rattle.std.specs.Prelude.{Bool, true, false, refl}
+use Rattle.ipcz_world.proofs.Vocabulary.{LinkEnd, opposite, opposite_end, same_end, A, End, Central}
+use Rattle.ipcz_world.proofs.facts.LinkTests.{same_end-itself, same_end-tells, opposite_end-twice}
+use Rattle.std.proofs.lemmas.Option.{same_Some}
+use Rattle.std.specs.Prelude.{◌||◌}
+use Rattle.std.proofs.Common.{true≢false}
+use Rattle.ipcz_world.proofs.frames.GonesKept.{IsGoneRight, right-of, right-left, gones-one, gones-all, open_unretired}
+use Rattle.ipcz_world.proofs.sends.ExtendingAround.{inner_end_is}
+use Rattle.ipcz_world.specs.Records.{is_left, At, Retired, side_end}
+use Rattle.ipcz_world.specs.Books.{is_retired, read}
+use Rattle.ipcz_world.specs.Whereabouts.{RetiredEnds, Gones}
+use Rattle.ipcz_world.proofs.hands.MaterializingAround.{left_same, end_same, side_same, end_is}
 use Rattle.std.specs.Prelude.{◌≡◌, ◌≢◌, ◌⊎◌, ℕ, suc, true, cond, Some, List, ◌∷◌, length, slice_get}
 use Rattle.std.proofs.Common.{arith, ap, subst, ◌∙◌, sym, inl, inr}
 use Rattle.ipcz_world.proofs.Vocabulary.{Side, LinkId, Descriptor, Item, Message, has_end, from_descriptor, ends_in, World, Key, node_at}
@@ -115,6 +127,75 @@ module _ (w v : World) (b : Books) (g : Records) (a : ℕ) (q p : Key) (d : Desc
             ap (λ i. has_end c.end (ends_in i)) item_is ∙ law.held_once.moves_in_parcel from to i l s n item (d ∷ moves) (suc j) c f.3
             (ap (λ ms. slice_get ms j) (sym list_is) ∙ e)
 
+    unclosed : is_closed b d.end ≡ false
+    unclosed = law.conserved.move_open a q.node is.index is.place is.message d is.under_way is.descriptor
+
+    free : (is_retired b d.end ≡ false) × (is_retired b (opposite_end d.end) ≡ false)
+    free = open_unretired (record { retired_closed = law.books_kept.retired_closed }) law.retired_ends d.end unclosed
+
+    same_at : (e : End) → (e ≡ d.end → ⊥) → h2.terminal e ≡ g.terminal e
+    same_at e apart = go (same_end e d.end) refl
+      where
+        go : (c : Bool) → same_end e d.end ≡ c → h2.terminal e ≡ g.terminal e
+        go true c = absurd (apart (same_end-tells e d.end c))
+        go false c = rw c refl
+
+    retired-made : RetiredEnds b h2
+    retired-made = record {
+      retired = λ e h. same_at e (λ f. true≢false (sym h ∙ ap (is_retired b) f ∙ free.0)) ∙ law.retired_ends.retired e h;
+      peer_closed = law.retired_ends.peer_closed;
+      peer_stays = law.retired_ends.peer_stays;
+      all_read = law.retired_ends.all_read;
+      gone_read = λ e h n. law.retired_ends.gone_read e (sym (same_at e (λ f. at_retired (sym (ap h2.terminal f ∙ now) ∙ h))) ∙ h) n;
+      no_bypass = law.retired_ends.no_bypass;
+      left = λ e i h l c m. left_same law is t (Central i) e.side ∙ law.retired_ends.left e i h l c m;
+      left_of = λ x u h. ap (λ c. is_retired b c || is_retired b (opposite_end c)) (end_same law is t x u) ∙
+          law.retired_ends.left_of x u (sym (left_same law is t x u) ∙ h);
+      accepted = λ o l. rw (side_same law is t o) (law.retired_ends.accepted o l);
+    }
+      where
+        now : h2.terminal d.end ≡ At q
+        now = grind (arith, same_end-itself d.end)
+
+        at_retired : At q ≡ Retired → ⊥
+        at_retired h = cc
+
+    gones-made : Gones v b h2
+    gones-made = gones-one w v b h2 q (from_descriptor d a) t.router mine (gones-all (λ x z at. right-left same_left (right-of law.gones x z at)))
+      where
+        same_left : (x : LinkId) (u : Side) → is_left h2 x u ≡ true → is_left g x u ≡ true
+        same_left x u h = sym (left_same law is t x u) ∙ h
+
+        -- the proxy hasn't left, since the end is open
+        proxy_stays : is_left h2 d.link A ≡ false
+        proxy_stays = go (is_left g d.link A) refl
+          where
+            go : (c : Bool) → is_left g d.link A ≡ c → is_left h2 d.link A ≡ false
+            go false c = left_same law is t d.link A ∙ c
+            go true c = let e : side_end g d.link A ≡ d.end = ap (λ x. side_end g x A) is.link ∙ inner_end_is g p A ∙ end_is law is t in
+                absurd (true≢false (sym (law.retired_ends.left_of d.link A c) ∙
+                ap (λ z. is_retired b z || is_retired b (opposite_end z)) e ∙ ap (λ z. z || is_retired b (opposite_end d.end)) free.0 ∙ free.1))
+
+        mine : IsGoneRight b h2 (from_descriptor d a)
+        mine = record {
+          sent = λ h. absurd cc;
+          sent_back = λ n i h c. absurd cc;
+          left_primary = λ e f h. let z = same_Some _ e f in
+              absurd (true≢false (sym h ∙ ap (λ (c : LinkEnd). is_left h2 c.link (opposite c.side)) (sym z) ∙ proxy_stays));
+          left_inner = λ e f h. absurd cc;
+          out_put = omega (arith, law.conserved.move_out a q.node is.index is.place is.message d is.under_way is.descriptor);
+          in_put = omega (
+            arith,
+            law.conserved.move_in a q.node is.index is.place is.message d is.under_way is.descriptor,
+            law.conserved.read_put (opposite_end d.end),
+            ap (read b) (opposite_end-twice d.end),
+          );
+          still = λ u n h. refl;
+          dropped = λ m f i h. absurd cc;
+          dropped_closed = λ h. absurd cc;
+          dropped_back = λ m f i l c. absurd cc;
+        }
+
     -- All together. The terminal goes on where its end was: its next numbers are those of the descriptor, which are what the end has put
     -- and read. It has no items, so nothing has come to a place or left one, and its end is under way no longer.
     pub inv-made : Hands v → OpenInv v b h2
@@ -141,5 +222,7 @@ module _ (w v : World) (b : Books) (g : Records) (a : ℕ) (q p : Key) (d : Desc
       fresh_numbers = fresh_numbers-made law is t r away ends;
       conserved = conserved-made;
       held_once = held_once-made;
+      retired_ends = retired-made;
+      gones = gones-made;
       no_strays = λ j. t.strays j ∙ law.no_strays j;
     }

@@ -1,4 +1,6 @@
 -- A descriptor becomes a terminal: what the records say of what was there, and of the terminal.
+use Rattle.ipcz_word.specs.SideSets.{has}
+use Rattle.ipcz_world.specs.Records.{is_left}
 use Rattle.ipcz_world.specs.Routes.{source as source'}
 use Rattle.std.specs.Prelude.{◌≡◌, ◌⊎◌, ◌<◌, ◌+◌, ℕ, Bool, true, false, cond, ◌&&◌, nat_eq, Option, Some, None, refl, slice_get}
 use Rattle.std.specs.Ordering.{nat_cmp}
@@ -138,6 +140,11 @@ module _ {w v : World} {b : Books} {g : Records} {a : ℕ} {q p : Key} {d : Desc
   unfolding side_end
   end_same (Central i) s = refl
   end_same (Peripheral n x) s = peripheral_same (λ z. z.end) (λ z o. refl) (record { node = n; serial = x })
+
+  pub left_same : (link : LinkId) (s : Side) → is_left h link s ≡ is_left g link s
+  unfolding is_left
+  left_same (Central i) s = refl
+  left_same (Peripheral n x) s = peripheral_same (λ z. has z.left s) (λ z o. refl) (record { node = n; serial = x })
 
   pub source_same : (link : LinkId) (s : Side) → source h link s ≡ source g link s
   unfolding source'

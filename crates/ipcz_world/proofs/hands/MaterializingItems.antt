@@ -1,5 +1,6 @@
 -- A descriptor becomes a terminal, and the message that carried it has it no more: what is said of items and numbers is kept.
-use Rattle.std.specs.Prelude.{◌≡◌, ◌⊎◌, ◌≤◌, ℕ, suc, Bool, true, false, cond, ◌&&◌, nat_eq, Option, Some, None, is_some, refl, List, []}
+use Rattle.ipcz_world.proofs.hands.MaterializingAround.{left_same}
+use Rattle.std.specs.Prelude.{◌≡◌, ◌⊎◌, ◌≤◌, ℕ, suc, Bool, true, false, cond, ◌&&◌, nat_eq, Option, Some, None, refl, List, []}
 use Rattle.std.specs.Prelude.{◌∷◌, slice_get}
 use Rattle.std.proofs.Common.{arith, ap, ◌∙◌, sym, inl, inr}
 use Rattle.std.proofs.lemmas.Bool.Decides.{nat_tests}
@@ -255,7 +256,7 @@ module _ (w v : World) (b : Books) (g : Records) (a : ℕ) (q p : Key) (d : Desc
     below_length = λ len e. fit.below_length len (sym (length_same link (opposite s)) ∙ e);
     was_sent = λ u e. fit.was_sent u (sym (sent_same link (opposite s) fit.recorded) ∙ e);
     by_sender = may_still link (opposite s) fit.recorded fit.by_sender;
-    sender_gone = λ e. ap is_some (length_same link (opposite s)) ∙ fit.sender_gone (sym (gone_same link (opposite s) fit.recorded) ∙ e);
+    sender_gone = λ e. rw (length_same link (opposite s), left_same law is t link (opposite s)) (fit.sender_gone (sym (gone_same link (opposite s) fit.recorded) ∙ e));
     not_passed = λ z e. fit.not_passed z (sym (taken_same link s fit.recorded) ∙ e);
     behind = λ e. made e (fit.behind (awaited_back link s fit.recorded e));
     not_awaited_low = fit.not_awaited_low;

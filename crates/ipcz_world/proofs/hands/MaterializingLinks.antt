@@ -97,8 +97,12 @@ module _ {w v : World} {b : Books} {g : Records} {a : ℕ} {q p : Key} {d : Desc
       | inl o ↦ law.shape.holds_marked x z o.0 m
       | inr o ↦ absurd (grind (arith, o.0, m))
     ];
-    holds_proxy = λ x z at m.
-        elim (was_there law is t x z at) [ inl o ↦ law.shape.holds_proxy x z o.0 m | inr o ↦ absurd (grind (arith, o.0, m)) ];
+    holds_fit = λ x z at m.
+        elim (was_there law is t x z at) [ inl o ↦ law.shape.holds_fit x z o.0 m | inr o ↦ absurd (grind (arith, o.0, m)) ];
+    dropped_sink = λ x z at m.
+        elim (was_there law is t x z at) [ inl o ↦ law.shape.dropped_sink x z o.0 m | inr o ↦ absurd (grind (arith, o.0, m)) ];
+    sent_proxy = λ x z at m.
+        elim (was_there law is t x z at) [ inl o ↦ law.shape.sent_proxy x z o.0 m | inr o ↦ absurd (grind (arith, o.0, m)) ];
     holds_spare = λ x z at m.
         elim (was_there law is t x z at) [ inl o ↦ law.shape.holds_spare x z o.0 m | inr o ↦ absurd (grind (arith, o.0, m)) ];
     spare_proxy = λ x z j at m. elim (was_there law is t x z at) [

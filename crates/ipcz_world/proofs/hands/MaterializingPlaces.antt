@@ -296,6 +296,8 @@ module _ {w v : World} {b : Books} {g : Records} {a : ℕ} {q p : Key} {d : Desc
   books_kept-made = record {
     own_pair = law.books_kept.own_pair;
     mark_last = law.books_kept.mark_last;
+    gone_last = law.books_kept.gone_last;
+    retired_closed = law.books_kept.retired_closed;
     numbers = law.books_kept.numbers;
     mark_seen = λ x z at e. elim (was_there law is t x z at)
         [ inl o ↦ law.books_kept.mark_seen x z o.0 e | inr o ↦ absurd (grind (arith, o.0, e)) ];

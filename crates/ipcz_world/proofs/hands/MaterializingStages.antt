@@ -1,11 +1,14 @@
 -- A descriptor becomes a terminal: who stands where, the words, the bypasses, and where the terminals are.
+use Rattle.ipcz_world.proofs.Vocabulary.{LinkId, A, B}
+use Rattle.ipcz_world.specs.Records.{is_left}
+use Rattle.ipcz_world.proofs.hands.MaterializingAround.{left_same, bypass_same, router_kept, recorded_same}
 use Rattle.ipcz_world.proofs.frames.Sourcing.{sourced-by, had-itself}
 use Rattle.ipcz_word.specs.Word.{Word}
 use Rattle.std.specs.Prelude.{◌≡◌, ◌⊎◌, ◌≤◌, ℕ, Bool, true, false, not, ◌&&◌, Option, Some, None, is_some, refl}
 use Rattle.std.proofs.Common.{arith, ap, subst, ◌∙◌, sym, inl, inr}
 use Rattle.ipcz_world.proofs.Vocabulary.{Side, A, B, End, Central, Descriptor, opposite, same_side, has, same_link, same_end}
 use Rattle.ipcz_world.proofs.Vocabulary.{opposite_end, Router, is_terminal, from_descriptor, World, Key, router_at, Books, Records, At}
-use Rattle.ipcz_world.proofs.Vocabulary.{is_begun, inner_link, side_node, side_router, side_end, proxy_side, across_side, is_nowhere}
+use Rattle.ipcz_world.proofs.Vocabulary.{is_begun, inner_link, side_node, side_router, side_end, proxy_side, across_side, is_nowhere, is_recorded}
 use Rattle.ipcz_world.proofs.Vocabulary.{key_passes, has_primary, has_decaying, has_inward_decaying, Stands, Words, Spares, BypassRecords}
 use Rattle.ipcz_world.proofs.Vocabulary.{Stages, inner_of, moving_link, Terminals}
 use Rattle.ipcz_world.proofs.frames.Frames.{same_key-itself}
@@ -58,24 +61,43 @@ module _ {w v : World} {b : Books} {g : Records} {a : ℕ} {q p : Key} {d : Desc
 
   pub stands-made : Stands v h
   stands-made = record {
-    central = λ i s x l c e. passes_kept law is t (Some x) (has_primary (Central i) s)
-        (law.stands.central i s x l c (sym (central_kept i s) ∙ e));
+    central = λ i s x l c nl e. passes_kept law is t (Some x) (has_primary (Central i) s)
+        (law.stands.central i s x l c (sym (left_same law is t (Central i) s) ∙ nl) (sym (central_kept i s) ∙ e));
     awaited = law.stands.awaited;
     awaited_stage = law.stands.awaited_stage;
     awaited_side = λ i s o l none born. law.stands.awaited_side i s o l none born ∙ ap opposite (sym (side_same law is t o));
-    proxy = λ k e by. ap (λ z. key_passes v z (has_inward_primary (inner_link k) A)) (proxy_kept k) ∙ passes_kept law is t
+    proxy = λ k e by nl. ap (λ z. key_passes v z (has_inward_primary (inner_link k) A)) (proxy_kept k) ∙ passes_kept law is t
         (side_router g (inner_link k) A) (has_inward_primary (inner_link k) A)
-        (law.stands.proxy k (sym (recorded_same law is t (inner_link k)) ∙ e) (sym (by_same law is t k) ∙ by));
-    inner = λ k x e by f. elim (inner_case k) [
+        (law.stands.proxy k (sym (recorded_same law is t (inner_link k)) ∙ e) (sym (by_same law is t k) ∙ by)
+        (sym (left_same law is t (inner_link k) A) ∙ nl));
+    inner = λ k x e by nl f. elim (inner_case k) [
       | inl o ↦ let key : q ≡ x = same_some (sym (router_new law is t) ∙ ap (λ k. side_router h (inner_link k) B) (sym o) ∙ f) in
           subst (λ k. key_passes v (Some x) (has_primary (inner_link k) B) ≡ true) (sym o)
           (subst (λ x. key_passes v (Some x) (has_primary (inner_link p) B) ≡ true) key has_new)
       | inr o ↦ passes_kept law is t (Some x) (has_primary (inner_link k) B)
-          (law.stands.inner k x (sym (recorded_same law is t (inner_link k)) ∙ e) (sym (by_same law is t k) ∙ by) (sym o ∙ f))
+          (law.stands.inner k x (sym (recorded_same law is t (inner_link k)) ∙ e) (sym (by_same law is t k) ∙ by)
+          (sym (left_same law is t (inner_link k) B) ∙ nl) (sym o ∙ f))
     ];
     by_begun = λ k o e. law.stands.by_begun k o (sym (by_same law is t k) ∙ e);
     by_inner = λ k o e. law.stands.by_inner k o (sym (by_same law is t k) ∙ e);
+    left_recorded = λ l s n. recorded_same law is t l ∙ law.stands.left_recorded l s (sym (left_same law is t l s) ∙ n);
+    left_known = λ l s n. known_left l s (side_router g l s) refl (law.stands.left_known l s (sym (left_same law is t l s) ∙ n));
+    left_gone = λ l s n. let o : is_left g l s ≡ true = sym (left_same law is t l s) ∙ n in
+        gone_left l s (law.stands.left_recorded l s o) (side_router g l s) refl (law.stands.left_known l s o) (law.stands.left_gone l s o);
+    left_live = λ l s n. bypass_same law is t l ∙ law.stands.left_live l s (sym (left_same law is t l s) ∙ n);
   }
+    where
+      known_left : (l : LinkId) (s : Side) (o : Option Key) → side_router g l s ≡ o → is_some (side_router g l s) ≡ true →
+          is_some (side_router h l s) ≡ true
+      known_left l s None e k = absurd (grind (arith, e, k))
+      known_left l s (Some x) e k = ap is_some (router_kept law is t l s x e)
+
+      gone_left : (l : LinkId) (s : Side) → is_recorded w g l ≡ true → (o : Option Key) → side_router g l s ≡ o →
+          is_some (side_router g l s) ≡ true → key_passes w (side_router g l s) (λ z. true) ≡ false →
+          key_passes v (side_router h l s) (λ z. true) ≡ false
+      gone_left l s rec None e k f = absurd (grind (arith, e, k))
+      gone_left l s rec (Some x) e k f = ap (λ o. key_passes v o (λ z. true)) (router_kept law is t l s x e) ∙
+          passes_same law is t l s (λ z. true) rec (Some x) e ∙ ap (λ o. key_passes w o (λ z. true)) (sym e) ∙ f
 
   pub words-made : Words v h
   words-made = record {
@@ -83,10 +105,12 @@ module _ {w v : World} {b : Books} {g : Records} {a : ℕ} {q p : Key} {d : Desc
     begun_stable = λ i s e. ap (λ z. has z.stable s) (t.word i) ∙ law.words.begun_stable i s e;
     begun_holder = λ i s e. ap (λ z. has z.holder s) (t.word i) ∙ law.words.begun_holder i s e ∙
         ap (same_side s) (sym (side_same law is t i));
-    stable = λ i s l c. ap (λ z. has z.stable s) (t.word i) ∙ law.words.stable i s l c ∙ sym
+    left_held = λ i s n. rw (left_same law is t (Central i) A, left_same law is t (Central i) B, t.word i)
+        (law.words.left_held i s (sym (left_same law is t (Central i) s) ∙ n));
+    stable = λ i s l c nl. ap (λ z. has z.stable s) (t.word i) ∙ law.words.stable i s l c (sym (left_same law is t (Central i) s) ∙ nl) ∙ sym
         (ap (λ o. key_passes v o (λ x. x.marked)) (central_kept i s) ∙ passes_same law is t (Central i) s (λ x. x.marked)
         (is_recorded-central w g i ∙ l) (side_router g (Central i) s) refl);
-    holder = λ i s l c. ap (λ z. has z.holder s) (t.word i) ∙ law.words.holder i s l c ∙ sym
+    holder = λ i s l c nl. ap (λ z. has z.holder s) (t.word i) ∙ law.words.holder i s l c (sym (left_same law is t (Central i) s) ∙ nl) ∙ sym
         (ap (λ o. key_passes v o (λ x. x.holds)) (central_kept i s) ∙ passes_same law is t (Central i) s (λ x. x.holds)
         (is_recorded-central w g i ∙ l) (side_router g (Central i) s) refl);
     held_stable = λ i s u e. ap (λ z. has z.stable u) (t.word i) ∙ law.words.held_stable i s u

@@ -81,7 +81,7 @@ module _ (w : World) (b : Books) (g : Records) (from : ℕ) (k : Key) (r : Route
   v = handed w from k x
 
   like : IsLike r x
-  like = record { end = refl; out_queue = refl; in_queue = refl; terminal = refl; closed = refl; mark_seen = refl; spare = refl }
+  like = record { end = refl; out_queue = refl; in_queue = refl; terminal = refl; closed = refl; mark_seen = refl; mark_dropped = refl; gone_sent = refl; spare = refl }
 
   linked : IsLinkedLike r x
   linked = record { primary = refl; decaying = refl; inward_primary = refl; inward_decaying = refl; marked = refl; holds = refl }
@@ -324,6 +324,8 @@ module _ (w : World) (b : Books) (g : Records) (from : ℕ) (k : Key) (r : Route
     terminals = terminals-kept w v g h k r x changed agree like (terminals_of law);
     end_places = end_places-kept w v g h k r x changed agree like carried (end_places_of law);
     books_kept = books_kept-kept w v g h k r x changed agree b like (books_kept_of law);
+    retired_ends = further.retired-further law changed like linked carried is.stage late early;
+    gones = further.gones-further law changed like linked carried is.stage late early;
     items = numbers.items-further law changed like linked carried is.stage late early
         (record { made = λ a c i l s n item moves u. made a c i l s (messages.Item l s n item moves) u });
     order = numbers.order-further law changed like linked carried is.stage late early;

@@ -135,6 +135,8 @@ module _ (w : World) (b : Books) (g : Records) (from : ℕ) (k : Key) (r : Route
     closed =
         refl;
     mark_seen = refl;
+    mark_dropped = refl;
+    gone_sent = refl;
     spare = refl;
   }
 
@@ -470,6 +472,8 @@ module _ (w : World) (b : Books) (g : Records) (from : ℕ) (k : Key) (r : Route
     terminals = terminals-kept w v g h k r x changed agree like (terminals_of law);
     end_places = end_places-kept w v g h k r x changed agree like carried (end_places_of law);
     books_kept = books_kept-kept w v g h k r x changed agree b like (books_kept_of law);
+    retired_ends = further.retired-further law changed like linked carried is.stage late early;
+    gones = further.gones-further law changed like linked carried is.stage late early;
     items = numbers.items-further law changed like linked carried is.stage late early
         (record { made = λ a c i l s n item moves u. made a c i l s (carried.was a c i l s n item moves u).receiver });
     order = numbers.order-further law changed like linked carried is.stage late early;

@@ -1,4 +1,7 @@
 -- A router takes the item of the message in hand, which moves no end: all that holds is kept.
+use Rattle.ipcz_world.proofs.calls.Putting.{terminal_outward}
+use Rattle.std.proofs.Common.{true≢false}
+use Rattle.ipcz_world.proofs.frames.GonesKept.{IsGoneLike, gones-by, was-gone}
 use Rattle.ipcz_world.proofs.weights.OfRecords.{holds, source, in_message, in_places}
 use Rattle.ipcz_world.specs.Routes.{source as source'}
 use Rattle.std.specs.Prelude.{◌≡◌, ◌⊎◌, ◌≤◌, ◌<◌, ◌+◌, ℕ, zero, suc, Bool, true, false, not, cond, ◌&&◌, ◌||◌, nat_eq, Option, Some, None}
@@ -69,6 +72,7 @@ pub record IsAccepted (r y : Router) (n : ℕ) (item : Item) (from_outward : Boo
   pub out_item : (m : ℕ) (x : Item) → item_at y.out_queue m ≡ Some x → (item_at r.out_queue m ≡ Some x) ⊎ (x ≡ item)
   pub in_item : (m : ℕ) (x : Item) → item_at y.in_queue m ≡ Some x → (item_at r.in_queue m ≡ Some x) ⊎ (x ≡ item)
   pub out_same : from_outward ≡ true → y.out_queue ≡ r.out_queue
+  pub gone : IsGoneLike r y
 
 or_tells : (a b c : Bool) → (a || (b && c)) ≡ true → (a ≡ true) ⊎ (c ≡ true)
 or_tells true b c h = inl refl
@@ -78,10 +82,32 @@ or_tells false false c h = cc
 pushed_item : (q : Queue Item) (n m : ℕ) (item x : Item) → item_at (push_at q n item) m ≡ Some x → (item_at q m ≡ Some x) ⊎ (x ≡ item)
 pushed_item q n m item x h = grind (arith, get-insert nat_cmp_total q.items n item m, nat_tests, h)
 
-pub accepted : (r : Router) (b : Bool) (n : ℕ) (item : Item) → IsAccepted r (accept r b n item) n item b
+pub accepted : (r : Router) (b : Bool) (n : ℕ) (item : Item) → (b ≡ false → is_terminal r ≡ false) → IsAccepted r (accept r b n item) n item b
 unfolding accept
-accepted r true n item = record {
-  alike = record { end = refl; outward = refl; inward = refl; spare = refl; marked = refl; holds = refl };
+accepted r true n item proxy = record {
+  alike = record {
+    end = refl;
+    outward = refl;
+    inward = refl;
+    spare = refl;
+    marked = refl;
+    holds = refl;
+    done = λ h. h;
+    dropped = λ h f. f h;
+    sent = λ h f. f h;
+  };
+  gone = record {
+    end = refl;
+    current = refl;
+    out = refl;
+    terminal = refl;
+    inner = refl;
+    primary = refl;
+    sent = refl;
+    dropped = refl;
+    closed = refl;
+    still = λ h. h;
+  };
   closed = refl;
   out = filled_same r.out_queue n false;
   inn = filled_push r.in_queue n item;
@@ -90,8 +116,30 @@ accepted r true n item = record {
   in_item = λ m x h. pushed_item r.in_queue n m item x h;
   out_same = λ h. refl;
 }
-accepted r false n item = record {
-  alike = record { end = refl; outward = refl; inward = refl; spare = refl; marked = refl; holds = refl };
+accepted r false n item proxy = record {
+  alike = record {
+    end = refl;
+    outward = refl;
+    inward = refl;
+    spare = refl;
+    marked = refl;
+    holds = refl;
+    done = λ h. absurd (grind (arith, h, proxy refl));
+    dropped = λ h f. f h;
+    sent = λ h f. f h;
+  };
+  gone = record {
+    end = refl;
+    current = refl;
+    out = refl;
+    terminal = refl;
+    inner = refl;
+    primary = refl;
+    sent = refl;
+    dropped = refl;
+    closed = refl;
+    still = λ h. h;
+  };
   closed = refl;
   out = filled_push r.out_queue n item;
   inn = filled_same r.in_queue n false;
@@ -248,6 +296,8 @@ module _ (w v : World) (b : Books) (g : Records) (from : ℕ) (k : Key) (r y : R
   books_kept-taken = record {
     own_pair = law.books_kept.own_pair;
     mark_last = law.books_kept.mark_last;
+    gone_last = law.books_kept.gone_last;
+    retired_closed = law.books_kept.retired_closed;
     numbers = law.books_kept.numbers;
     mark_seen = λ q x at m. seen_at q x at m (same_key q k) refl;
   }
@@ -424,6 +474,8 @@ inv-taken w b g from k r l s n item law is = record {
   terminals = terminals-touched w v k r y g t a.alike law.terminals;
   end_places = end_places-taken w v b g from k r y l s n item law is a t p ends;
   books_kept = books_kept-taken w v b g from k r y l s n item law is a t p;
+  retired_ends = law.retired_ends;
+  gones = gones-by w v b g g (was-gone w v k r y t.router is.here a.gone) (λ x u h. h) law.gones;
   items = items-taken w v b g from k r y l s n item law is a t p;
   order = order-filled w v b g k r y from k.node 0 l s n item [] law is.here was is.router is.attached filling;
   proxy_numbers = proxy_numbers-filled w v b g k r y from k.node 0 l s n item [] law is.here was is.router is.attached filling;
@@ -442,8 +494,16 @@ inv-taken w b g from k r l s n item law is = record {
     v : World
     v = take_act w from k y
 
+    -- a link that isn't outward is one of a proxy
+    inward_proxy : is_outward l s ≡ false → is_terminal r ≡ false
+    inward_proxy o = go (is_terminal r) refl
+      where
+        go : (c : Bool) → is_terminal r ≡ c → c ≡ false
+        go false e = refl
+        go true e = absurd (true≢false (sym (terminal_outward l s r e is.attached) ∙ o))
+
     a : IsAccepted r y n item (is_outward l s)
-    a = accepted r (is_outward l s) n item
+    a = accepted r (is_outward l s) n item inward_proxy
 
     on_node : k.node < w.count
     on_node = law.counts.on_node k r is.here

@@ -59,4 +59,6 @@ module _ (w : World) (b : Books) (g : Records) (law : Inv w b g) where
     unopened = unwritten;
     moving = law.held_once.moves_in_parcel;
     mark_last = λ e n is. let last = law.books_kept.mark_last e n is in omega (arith, last);
+    gone_last = λ e n is. let last = law.books_kept.gone_last e n is in omega (arith, last);
+    retired_closed = law.books_kept.retired_closed;
   }

@@ -1,10 +1,15 @@
 -- The laws of links and of bypasses, from the invariant.
+use Rattle.std.specs.Prelude.{◌&&◌}
+use Rattle.ipcz_world.proofs.frames.Touching.{either}
+use Rattle.std.proofs.lemmas.Bool.{and_parts}
+use Rattle.ipcz_world.specs.Records.{is_left}
+use Rattle.ipcz_world.proofs.views.LeftSides.{not_left}
 use Rattle.std.proofs.lemmas.Bool.Decides.{nat_tests}
 use Rattle.ipcz_world.proofs.views.Telling.{peer_told, accept_told}
 use Rattle.std.proofs.Common.{true≢false}
 use Rattle.ipcz_world.proofs.weights.OfRecords.{none_stable}
 use Rattle.std.specs.Prelude.{◌≡◌, ◌≤◌, ℕ, Bool, true, false, not, Option, Some, None, is_some, refl}
-use Rattle.std.proofs.Common.{arith, ap, subst, ◌∙◌, sym}
+use Rattle.std.proofs.Common.{arith, ap, subst, ◌∙◌, sym, inl, inr}
 use Rattle.std.proofs.lemmas.Option.{same_Some}
 use Rattle.ipcz_world.proofs.Vocabulary.{Side, A, B, Central, LinkEnd, has, opposite, same_side, Router, inward_edge, World, Key, word_at}
 use Rattle.ipcz_world.proofs.Vocabulary.{router_at, Books, Records, is_linked, is_begun, side_router, proxy_side, across_side, bypass_of}
@@ -80,7 +85,7 @@ stable_is w b g k r i s law here on = go (is_begun (g.bypass i)) refl
   where
     go : (c : Bool) → is_begun (g.bypass i) ≡ c → r.marked ≡ has (word_at w i).stable s
     go true e = let across = across_there w b g k r i s law here on e in across.1 ∙ sym (law.words.begun_stable i s e)
-    go false e = sym (law.words.stable i s on.linked e ∙ passes-at w _ k r (λ x. x.marked) on.router here)
+    go false e = sym (law.words.stable i s on.linked e (not_left w g (Central i) s k r law.stands on.router here) ∙ passes-at w _ k r (λ x. x.marked) on.router here)
 
 pub holder_is : (w : World) (b : Books) (g : Records) (k : Key) (r : Router) (i : ℕ) (s : Side) → Inv w b g → router_at w k ≡ Some r →
     IsOn w g k r i s → r.holds ≡ has (word_at w i).holder s
@@ -90,7 +95,7 @@ holder_is w b g k r i s law here on = go (is_begun (g.bypass i)) refl
     go true e = let across = across_there w b g k r i s law here on e in
         across.2 ∙ sym (law.words.begun_holder i s e ∙ ap (λ t. same_side t (proxy_side g i)) across.0 ∙ same_side-opposite
         (proxy_side g i))
-    go false e = sym (law.words.holder i s on.linked e ∙ passes-at w _ k r (λ x. x.holds) on.router here)
+    go false e = sym (law.words.holder i s on.linked e (not_left w g (Central i) s k r law.stands on.router here) ∙ passes-at w _ k r (λ x. x.holds) on.router here)
 
 -- what a free word says
 record IsFree (w : World) (i : ℕ) : Type 0 where
@@ -114,16 +119,29 @@ free_there w b g i s law h = go (is_linked (g.owner i)) (is_begun (g.bypass i)) 
     free : IsFree w i
     free = free_tells w i h
 
+    -- who has left holds the lock
+    still : is_left g (Central i) s ≡ false
+    still = left (is_left g (Central i) s) refl
+      where
+        none : (t : Side) {X : Type 0} → (is_left g (Central i) t && has (word_at w i).holder t) ≡ true → X
+        none t h = let p = and_parts (is_left g (Central i) t) (has (word_at w i).holder t) h in
+            absurd (true≢false (sym p.1 ∙ free.unheld t))
+
+        left : (c : Bool) → is_left g (Central i) s ≡ c → c ≡ false
+        left false e = refl
+        left true e = elim (either (is_left g (Central i) A && has (word_at w i).holder A) (is_left g (Central i) B && has (word_at w i).holder B)
+            (law.words.left_held i s e)) [ inl h ↦ none A h | inr h ↦ none B h ]
+
     at : is_linked (g.owner i) ≡ true → is_begun (g.bypass i) ≡ false → There w i s
     at l n =
         let p : Passes w (side_router g (Central i) s) (λ r. r.marked) =
-        passes-tells w _ _ (sym (law.words.stable i s l n) ∙ free.stable s) in
+        passes-tells w _ _ (sym (law.words.stable i s l n still) ∙ free.stable s) in
         record {
           key = p.key;
           router = p.router;
           here = p.here;
           on = sym (passes-at w (Some p.key) p.key p.router (has_primary (Central i) s) refl p.here) ∙ law.stands.central i s p.key l n
-              p.known;
+              still p.known;
           still = law.shape.marked_still p.key p.router p.here p.passed;
         }
 

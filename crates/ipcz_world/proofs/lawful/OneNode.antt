@@ -1,5 +1,5 @@
 -- On one node no terminal moves, so no peripheral link is ever made and no bypass begins: each open pair is direct.
-use Rattle.std.specs.Prelude.{◌≡◌, ◌⊎◌, ◌<◌, ℕ, zero, suc, ◌+◌, Bool, true, false, cond, ◌&&◌, nat_eq, if◌then◌else◌, Option, Some, None}
+use Rattle.std.specs.Prelude.{◌≡◌, ◌⊎◌, ◌<◌, ◌≤◌, is_some, ℕ, zero, suc, ◌+◌, Bool, true, false, cond, ◌&&◌, nat_eq, if◌then◌else◌, Option, Some, None}
 use Rattle.std.specs.Prelude.{List, [], ◌∷◌, ◌++◌, refl}
 use Rattle.std.proofs.Common.{arith, sym, ◌∙◌, ap, subst, inl, inr}
 use Rattle.std.proofs.lemmas.Bool.Decides.{nat_tests}
@@ -8,8 +8,17 @@ use Rattle.ipcz_world.proofs.Vocabulary.{Side, A, B, End, LinkId, Central, Perip
 use Rattle.ipcz_world.proofs.Vocabulary.{ends_in, opposite, Edge, Router, is_terminal, inward_edge, from_descriptor, bypass_peer}
 use Rattle.ipcz_world.proofs.Vocabulary.{output_of, RouterAct, Close, Node, Found, router_in, with_router, bare_node, terminal_of, commit}
 use Rattle.ipcz_world.proofs.Vocabulary.{World, Key, node_at, router_at, answer_of, Books, Records, is_linked, is_recorded, bypass_of}
-use Rattle.ipcz_world.proofs.Vocabulary.{is_begun, side_router, side_end, has_primary, IsRecorded, is_outward, Inv}
-use Rattle.ipcz_world.proofs.facts.Lengths.{HasEnd, has_link-tells}
+use Rattle.ipcz_world.proofs.Vocabulary.{is_begun, side_end, IsRecorded, is_outward, Inv}
+use Rattle.ipcz_world.proofs.facts.Lengths.{has_link-some, side_is}
+use Rattle.ipcz_world.proofs.facts.LinkTests.{same_end-tells}
+use Rattle.ipcz_world.proofs.facts.Tests.{not_both, and_second}
+use Rattle.ipcz_world.proofs.flows.Flowing.{found}
+use Rattle.ipcz_world.proofs.Vocabulary.{same_end, same_side, has_link, Terminal, At, is_nowhere, total_list}
+use Rattle.ipcz_world.specs.Books.{is_closed, is_retired}
+use Rattle.ipcz_world.specs.Bypasses.{move_weight}
+use Rattle.ipcz_world.specs.Flows.{IsUnderWay, of_end, moves_of}
+use Rattle.ipcz_world.specs.Records.{Nowhere, Moving, Retired}
+use Rattle.ipcz_world.specs.Structure.{has_role}
 use Rattle.ipcz_base.specs.declared.parcel.Parcel as parcels
 use Rattle.ipcz_base.specs.declared.message.Message.TheVariants as messages
 use Rattle.ipcz_base.specs.Ends.{end_at}
@@ -18,7 +27,7 @@ use Rattle.ipcz_router.specs.declared.sending.Sending.{Sending}
 use Rattle.ipcz_router.specs.Bypass.{accept_message, accept_bypass, stop_proxying, proxy_will_stop, stop_message}
 use Rattle.ipcz_router.specs.Bypass.{will_stop_message}
 use Rattle.ipcz_router.specs.Acts.{way_out, way_in}
-use Rattle.ipcz_router.specs.ActEffects.{apply, item_output, message_output, discard_output}
+use Rattle.ipcz_router.specs.ActEffects.{apply, leaves_by, item_output, message_output, discard_output, retire_output}
 use Rattle.ipcz_router.specs.declared.act.RouterAct.TheVariants as acts
 use Rattle.ipcz_router.specs.declared.act.Answer.{Answer}
 use Rattle.ipcz_router.specs.declared.act.Applied.{Applied}
@@ -50,37 +59,15 @@ pub record IsAlone (w : World) : Type 0 where
 abbrev pub HasNone : Node → Type 0
 HasNone n = n.next_peripheral ≡ 0
 
-keep-number : (n : Node) (s : ℕ) (y : Router) (act : RouterAct) → (keep_or_drop n s y act).number ≡ n.number
+keep-number : (n : Node) (s : ℕ) (y : Router) (leaves : Bool) → (keep_or_drop n s y leaves).number ≡ n.number
 unfolding keep_or_drop
-keep-number n s y acts.Leave = refl
-keep-number n s y acts.SendOut = refl
-keep-number n s y acts.SendIn = refl
-keep-number n s y acts.Discard = refl
-keep-number n s y acts.FinishOut = refl
-keep-number n s y acts.FinishIn = refl
-keep-number n s y acts.Mark = refl
-keep-number n s y acts.Wake = refl
-keep-number n s y acts.Claim = refl
-keep-number n s y acts.Lock = refl
-keep-number n s y acts.Begin = refl
-keep-number n s y acts.Unlock = refl
-keep-number n s y acts.Rest = refl
+keep-number n s y true = refl
+keep-number n s y false = refl
 
-keep-serial : (n : Node) (s : ℕ) (y : Router) (act : RouterAct) → (keep_or_drop n s y act).next_peripheral ≡ n.next_peripheral
+keep-serial : (n : Node) (s : ℕ) (y : Router) (leaves : Bool) → (keep_or_drop n s y leaves).next_peripheral ≡ n.next_peripheral
 unfolding keep_or_drop
-keep-serial n s y acts.Leave = refl
-keep-serial n s y acts.SendOut = refl
-keep-serial n s y acts.SendIn = refl
-keep-serial n s y acts.Discard = refl
-keep-serial n s y acts.FinishOut = refl
-keep-serial n s y acts.FinishIn = refl
-keep-serial n s y acts.Mark = refl
-keep-serial n s y acts.Wake = refl
-keep-serial n s y acts.Claim = refl
-keep-serial n s y acts.Lock = refl
-keep-serial n s y acts.Begin = refl
-keep-serial n s y acts.Unlock = refl
-keep-serial n s y acts.Rest = refl
+keep-serial n s y true = refl
+keep-serial n s y false = refl
 
 -- the link over which an item is sent
 abbrev link_sent : Applied → Option LinkEnd
@@ -103,12 +90,18 @@ unfolding discard_output
 discard-link n None link h = cc
 discard-link n (Some x) link h = cc
 
--- an item is sent outward or inward
+retire-link : (o : Option LinkEnd) (n : ℕ) (link : LinkEnd) → link_sent (retire_output o n) ≡ Some link → o ≡ Some link
+unfolding retire_output
+retire-link None n link h = cc
+retire-link (Some e) n link h = h
+
+-- an item is sent outward or inward, or Gone over the primary link
 sent-over : (r : Router) (act : RouterAct) (link : LinkEnd) → link_sent (output_of r act) ≡ Some link →
-    (way_out r ≡ Some link) ⊎ (way_in r ≡ Some link)
+    (way_out r ≡ Some link) ⊎ ((way_in r ≡ Some link) ⊎ (r.outward.primary ≡ Some link))
 unfolding output_of
 sent-over r acts.SendOut link h = inl (item-link (way_out r) _ _ link h)
-sent-over r acts.SendIn link h = inr (item-link (way_in r) _ _ link h)
+sent-over r acts.SendIn link h = inr (inl (item-link (way_in r) _ _ link h))
+sent-over r acts.Retire link h = inr (inr (retire-link r.outward.primary _ link h))
 sent-over r acts.Discard link h = absurd (discard-link _ _ link h)
 sent-over r acts.FinishOut link h = cc
 sent-over r acts.FinishIn link h = cc
@@ -232,15 +225,18 @@ router-serial w b g n s act a law ln is = go (router_in (node_at w n) s) refl
   where
     -- every link leads to this node
     stays : (r : Router) → router_at w (record { node = n; serial = s }) ≡ Some r → (link : LinkEnd) →
-        (way_out r ≡ Some link) ⊎ (way_in r ≡ Some link) → link.other < w.count
+        (way_out r ≡ Some link) ⊎ ((way_in r ≡ Some link) ⊎ (r.outward.primary ≡ Some link)) → link.other < w.count
     stays r here link h = elim h [
       | inl e ↦ elim (choose-in r.outward r.out_queue.current link e) [
         | inl d ↦ at (law.links.decaying (record { node = n; serial = s }) r link here d)
         | inr d ↦ at (law.links.primary (record { node = n; serial = s }) r link here d)
       ]
-      | inr e ↦ elim (choose-in (inward_edge r) r.in_queue.current link e) [
-        | inl d ↦ at (law.links.inward_decaying (record { node = n; serial = s }) r link here d)
-        | inr d ↦ at (law.links.inward_primary (record { node = n; serial = s }) r link here d)
+      | inr f ↦ elim f [
+        | inl e ↦ elim (choose-in (inward_edge r) r.in_queue.current link e) [
+          | inl d ↦ at (law.links.inward_decaying (record { node = n; serial = s }) r link here d)
+          | inr d ↦ at (law.links.inward_primary (record { node = n; serial = s }) r link here d)
+        ]
+        | inr d ↦ at (law.links.primary (record { node = n; serial = s }) r link here d)
       ]
     ]
       where
@@ -250,10 +246,10 @@ router-serial w b g n s act a law ln is = go (router_in (node_at w n) s) refl
     go : (o : Option Router) → router_in (node_at w n) s ≡ o → HasNone (on_router (node_at w n) o (commit_router (node_at w n) s act a))
     go None e = is.none n
     go (Some r) e =
-        send-serial (keep_or_drop (node_at w n) s (apply r act a) act) (output_of r act)
+        send-serial (keep_or_drop (node_at w n) s (apply r act a) (leaves_by r act)) (output_of r act)
         (λ link h. let l : link.other < w.count = stays r e link (sent-over r act link h) in
-        grind (arith, nat_tests, l, ln, is.one, keep-number (node_at w n) s (apply r act a) act, law.counts.node n ln))
-        ∙ keep-serial (node_at w n) s (apply r act a) act ∙ is.none n
+        grind (arith, nat_tests, l, ln, is.one, keep-number (node_at w n) s (apply r act a) (leaves_by r act), law.counts.node n ln))
+        ∙ keep-serial (node_at w n) s (apply r act a) (leaves_by r act) ∙ is.none n
 
 pub alone-kept : IsKept IsAlone HasNone
 alone-kept = record {
@@ -362,35 +358,92 @@ module _ (w : World) (b : Books) (g : Records) (law : Inv w b g) (alone : IsAlon
       at (Central i) z = grind (arith, law.positions.decaying k r d here q, z, not_begun i)
       at (Peripheral n y) z = not_recorded n y (ap (is_recorded w g) (sym z) ∙ (law.links.decaying k r d here q).recorded)
 
-  module _ (pair : ℕ) (linked : is_linked (g.owner pair) ≡ true) (own : (g.central pair).pair ≡ pair) where
-    -- the router of a side is known
-    known : (s : Side) → (k : Key) × (side_router g (Central pair) s ≡ Some k)
-    unfolding side_router
-    known s = go ((g.central pair).router s) refl
+  module _ (pair : ℕ) (linked : is_linked (g.owner pair) ≡ true) (own : (g.central pair).pair ≡ pair) (t : Side)
+      (open_ : is_closed b (end_at pair t) ≡ false) where
+    -- both ends are closed where a sink has retired
+    retired_none : (s : Side) → is_retired b (end_at pair s) ≡ true → ⊥
+    retired_none s h = go (side_is t s)
       where
-        go : (o : Option ℕ) → (g.central pair).router s ≡ o → (k : Key) × (side_router g (Central pair) s ≡ Some k)
-        go None e = let t = some_is (g.central pair).born (law.stands.awaited pair s linked e) in
-            let stage = law.bypasses.born_stage pair t.0 linked t.1 in absurd (never t.0 (grind (arith, nat_tests, stage)))
-        go (Some x) e = (record { node = (g.central pair).node s; serial = x }, rw e refl)
+        go : ((same_side t s ≡ true) × (t ≡ s)) ⊎ ((same_side t s ≡ false) × (t ≡ opposite s)) → ⊥
+        go (inl e) = not_both (is_closed b (end_at pair t)) (ap (λ z. is_closed b (end_at pair z)) e.1
+            ∙ law.books_kept.retired_closed (end_at pair s) h) open_
+        go (inr e) = not_both (is_closed b (end_at pair t)) (ap (λ z. is_closed b (end_at pair z)) e.1
+            ∙ law.retired_ends.peer_closed (end_at pair s) h) open_
+
+    -- so the terminal of each side stands
+    stands : (s : Side) → (k : Key) × (g.terminal (end_at pair s) ≡ At k)
+    unfolding side_end is_recorded is_nowhere move_weight moves_of
+    stands s = go (g.terminal (end_at pair s)) refl
+      where
+        opened : is_nowhere (g.terminal (end_at pair s)) ≡ false
+        opened = ap (λ z. is_nowhere (g.terminal (end_at z s))) (sym own) ∙ law.terminals.link_opened (Central pair) s linked
+
+        gone : g.terminal (end_at pair s) ≡ Retired → (c : Bool) → is_retired b (end_at pair s) ≡ c → ⊥
+        gone e true f = retired_none s f
+        gone e false f = retired_none (opposite s) (law.retired_ends.gone_read (end_at pair s) e f).0
+
+        -- an item stays on the one node, so it takes no terminal along
+        still_there : (from to i : ℕ) (m : Message) → IsUnderWay w from to i m → 1 ≤ total_list (of_end (end_at pair s) (λ x. 1)) (moves_of m) → ⊥
+        still_there from to i (messages.Item link side n item moves) up some =
+            let same : from ≡ to = omega (arith, up.sender, up.receiver, alone.one) in
+            bare moves (law.moves.within to i link side n item moves (subst (λ z. IsUnderWay w z to i (messages.Item link side n item moves)) same up)) some
+          where
+            bare : (ds : List Descriptor) → ds ≡ [] → 1 ≤ total_list (of_end (end_at pair s) (λ x. 1)) ds → ⊥
+            bare [] e l = omega (arith, l)
+            bare (d ∷ ds) e l = cc
+        still_there from to i (messages.BypassPeer link side old target fresh) up some = omega (arith, some)
+        still_there from to i (messages.AcceptBypass old side fresh len) up some = omega (arith, some)
+        still_there from to i (messages.StopProxying old side in_length out_length) up some = omega (arith, some)
+        still_there from to i (messages.ProxyWillStop link side in_length) up some = omega (arith, some)
+        still_there from to i (messages.Flush link side) up some = omega (arith, some)
+
+        go : (z : Terminal) → g.terminal (end_at pair s) ≡ z → (k : Key) × (g.terminal (end_at pair s) ≡ At k)
+        go (At k) e = (k, e)
+        go Nowhere e = absurd (not_both (is_nowhere (g.terminal (end_at pair s))) (ap is_nowhere e) opened)
+        go Retired e = absurd (gone e (is_retired b (end_at pair s)) refl)
+        go (Moving d) e =
+            let weight = law.moves.one (end_at pair s) (λ x. 1) ∙ ap (move_weight (λ x. 1)) e in
+            let u = found (λ from to m. total_list (of_end (end_at pair s) (λ x. 1)) (moves_of m)) w (omega (arith, weight)) in
+            absurd (still_there u.0 u.1 u.2 u.3 u.4 u.5)
 
     on_link : (s : Side) → IsTerminalOn w pair pair s
-    unfolding side_end
-    on_link s =
-        let k = known s in
-        let t = passes_tells w k.0 (has_primary (Central pair) s) (law.stands.central pair s k.0 linked (not_begun pair) k.1) in
-        let e : HasEnd t.0.outward.primary (Central pair) s = has_link-tells t.0.outward.primary (Central pair) s t.2 in
-        let at : IsRecorded w g k.0 t.0 e.end = law.links.primary k.0 t.0 e.end t.1 e.there in
-        record {
-          key = k.0;
-          router = t.0;
-          here = t.1;
-          end =
-              at.end ∙ ap (λ l. side_end g l e.end.side) e.on_link ∙ ap (λ z. side_end g (Central pair) z) e.at_side
-              ∙ ap (λ p. end_at p s) own;
-          terminal = terminal k.0 t.0 t.1;
-          on = t.2;
-          still = still k.0 t.0 t.1 t.0.outward.decaying refl;
-        }
+    unfolding side_end is_outward is_recorded
+    on_link s = go p.0.link refl
+      where
+        k : Key
+        k = (stands s).0
+
+        q : (r : Router) × (router_at w k ≡ Some r) × ((is_terminal r && same_end r.end (end_at pair s)) ≡ true)
+        q = passes_tells w k (λ r. is_terminal r && same_end r.end (end_at pair s)) (law.terminals.stands (end_at pair s) k (stands s).1)
+
+        is_end : q.0.end ≡ end_at pair s
+        is_end = same_end-tells q.0.end (end_at pair s) (and_second (is_terminal q.0) (same_end q.0.end (end_at pair s)) q.2)
+
+        p : (p : LinkEnd) × (q.0.outward.primary ≡ Some p)
+        p = some_is q.0.outward.primary (primed q.0 (law.shape.role k q.0 q.1) (terminal k q.0 q.1))
+          where
+            primed : (r : Router) → has_role r ≡ true → is_terminal r ≡ true → is_some r.outward.primary ≡ true
+            primed r h e = grind (arith, h, e)
+
+        at : IsRecorded w g k q.0 p.0
+        at = law.links.primary k q.0 p.0 q.1 p.1
+
+        go : (l : LinkId) → p.0.link ≡ l → IsTerminalOn w pair pair s
+        go (Peripheral n x) e = absurd (not_recorded n x (ap (is_recorded w g) (sym e) ∙ at.recorded))
+        go (Central i) e =
+            let ends : end_at pair s ≡ end_at (g.central i).pair p.0.side = sym is_end ∙ at.end ∙ ap (λ l. side_end g l p.0.side) e in
+            let linked_too : is_linked (g.owner i) ≡ true = ap (is_recorded w g) (sym e) ∙ at.recorded in
+            let same : i ≡ pair = law.live.one_live i pair linked_too linked (ap (λ (z : End). z.pair) (sym ends) ∙ sym own) (not_begun i) (not_begun pair) in
+            let side : p.0.side ≡ s = ap (λ (z : End). z.side) (sym ends) in
+            record {
+              key = k;
+              router = q.0;
+              here = q.1;
+              end = is_end;
+              terminal = terminal k q.0 q.1;
+              on = ap (λ o. has_link o (Central pair) s) p.1 ∙ has_link-some p.0 (Central pair) s (e ∙ ap Central same) side;
+              still = still k q.0 q.1 q.0.outward.decaying refl;
+            }
 
     pub direct : IsDirectPair w pair
     direct = record {

@@ -1,4 +1,6 @@
 -- In a quiet world each item that a pair without proxies has put and not read stands in the in queue of its receiving terminal.
+use Rattle.ipcz_world.specs.Records.{Retired}
+use Rattle.ipcz_base.specs.declared.item.Item.TheVariants.{Gone}
 use Rattle.ipcz_world.proofs.Vocabulary.{Weight, in_router, at_end, End, Item, Message, Refusal, opposite_end, same_end, place_at, total}
 use Rattle.ipcz_world.proofs.Vocabulary.{total_below, total_list, Edge, item_at, current_item, Router, is_terminal, is_possible}
 use Rattle.ipcz_world.proofs.Vocabulary.{RouterAct, Node, Found, terminal_of, Reply, World, Key, node_at, mail_at, way, router_at}
@@ -185,6 +187,7 @@ abbrev pub key_of : Terminal → Option Key
 key_of Nowhere = None
 key_of (At k) = Some k
 key_of (Moving d) = None
+key_of Retired = None
 
 -- what wasn't read stands at the terminal
 pub stands-at : (w : World) (b : Books) (g : Records) (k : Key) (r : Router) (n : ℕ) (x : Item) → Inv w b g → AreFlagged w → IsQuiet w →
@@ -285,6 +288,7 @@ unfolding item_refusal
 empty-tells None h = refl
 empty-tells (Some (Parcel p)) h = cc
 empty-tells (Some Mark) h = cc
+empty-tells (Some Gone) h = cc
 
 -- what a get finds that is refused as empty: the terminal of the end, which callers hold, and nothing at its current number
 record IsEmpty (n : Node) (e : End) : Type 0 where
@@ -346,6 +350,7 @@ unfolding got_reply
 got-empty number None h = refl
 got-empty number (Some (Parcel p)) h = cc
 got-empty number (Some Mark) h = cc
+got-empty number (Some Gone) h = cc
 
 -- a get that isn't refused has an item to give
 refused-is : (w : World) (n : ℕ) (e : End) (v : World) → (unless w (get_refusal (node_at w n) e)

@@ -1,7 +1,7 @@
 -- In a quiet world all is delivered, no link decays, routers on central links are marked, and nobody holds a lock.
-use Rattle.std.specs.Prelude.{◌≡◌, ◌⊎◌, ◌≤◌, ◌<◌, ℕ, zero, suc, ◌+◌, Bool, true, false, cond, ◌&&◌, nat_eq, nat_le, nat_lt, Option, Some}
+use Rattle.std.specs.Prelude.{◌≡◌, ◌⊎◌, ◌≤◌, ◌<◌, ℕ, zero, suc, ◌+◌, Bool, true, false, cond, not, ◌&&◌, ◌||◌, nat_eq, nat_le, nat_lt, Option, Some}
 use Rattle.std.specs.Prelude.{None}
-use Rattle.std.specs.Prelude.{is_some, length, slice_get, refl}
+use Rattle.std.specs.Prelude.{is_some, [], length, slice_get, refl}
 use Rattle.std.proofs.Common.{arith, ap, subst, ◌∙◌, sym, inl, inr}
 use Rattle.std.proofs.lemmas.Bool.Decides.{nat_tests}
 use Rattle.std.proofs.lemmas.Bool.{or_left}
@@ -22,7 +22,7 @@ use Rattle.ipcz_router.specs.Router.{is_proxy, decays, is_on_central}
 use Rattle.ipcz_router.specs.Acts.{way_out, way_in}
 use Rattle.ipcz_router.specs.declared.act.RouterAct.{RouterAct}
 use Rattle.ipcz_router.specs.declared.act.RouterAct.TheVariants as acts
-use Rattle.ipcz_world.specs.Owed.{AreFlagged, IsRanked}
+use Rattle.ipcz_world.specs.Owed.{AreFlagged, IsRanked, GoneUnread}
 use Rattle.ipcz_world.specs.Places.{just}
 use Rattle.ipcz_world.specs.Records.{routes_of}
 use Rattle.ipcz_world.specs.Settling.{IsQuiet}
@@ -42,7 +42,15 @@ use Rattle.ipcz_world.proofs.lawful.Quiet.{key_of}
 use Rattle.ipcz_world.proofs.lawful.QuietBypasses.{settled}
 use Rattle.ipcz_world.proofs.lawful.QuietRoutes.{IsLacked, inward_lacks, outward_lacks, outward_given, HasOuter, HasAcross, outer_router}
 use Rattle.ipcz_world.proofs.lawful.QuietRoutes.{HasBegun, begun_tells, StandsOver, across_stands, inner_stands, begun_out_lacks}
-use Rattle.ipcz_world.proofs.lawful.QuietRoutes.{begun_in_lacks, not_begun}
+use Rattle.ipcz_world.proofs.lawful.QuietRoutes.{begun_in_lacks, not_begun, standing_end, HasTerminal, inward_terminal}
+use Rattle.ipcz_router.specs.ActTable.{is_done}
+use Rattle.ipcz_world.specs.Books.{is_closed, is_retired}
+use Rattle.ipcz_world.specs.Records.{Terminal, Nowhere, At, Moving, Retired}
+use Rattle.ipcz_world.specs.Bypasses.{move_weight}
+use Rattle.ipcz_world.specs.Flows.{of_end, moves_of}
+use Rattle.ipcz_world.proofs.Vocabulary.{is_nowhere}
+use Rattle.ipcz_world.proofs.sends.Moved.{passes_tells}
+use Rattle.std.proofs.lemmas.Bool.{and_parts}
 use Rattle.ipcz_world.proofs.views.Bypassed as bypassed
 use Rattle.ipcz_world.proofs.weights.OfRecords.{in_node, in_message}
 use Rattle.ipcz_world.proofs.weights.Weighing.{in_places-is, in_router-is}
@@ -188,22 +196,24 @@ module _ (w : World) (b : Books) (g : Records) (law : Inv w b g) (quiet : IsQuie
               by false f =
                   let first : is_some y.outward.primary ≡ true = primed y (law.shape.role q y at) f in
                   let none : current_item y.out_queue ≡ None = out_stuck q y at (choose-some y.outward y.out_queue.current first) in
-                  clash y.out_queue.current (behind y.out_queue n z low h none)
-                  (subst (λ d. IsLacked w d y.out_queue.current) over
-                  (outward_lacks w b g law quiet ranked (ranked.rank q + 1) q y y.out_queue.current at first (omega arith)
-                  (record { current = omega arith; none = none })))
+                  elim (outward_lacks w b g law quiet ranked flagged (ranked.rank q + 1) q y y.out_queue.current at first (omega arith)
+                  (record { current = omega arith; none = none })) [
+                    | inl lacked ↦ clash y.out_queue.current (behind y.out_queue n z low h none)
+                        (subst (λ d. IsLacked w d y.out_queue.current) over lacked)
+                    | inr gone ↦ standing_end w b g law quiet ranked flagged k r here terminal (ap (is_retired b) (end ∙ sym over) ∙ gone)
+                  ]
               by true f =
-                  let is = begun_tells w b g law quiet ranked q y at f in
+                  let is = begun_tells w b g law quiet ranked flagged q y at f in
                   let proxy = ap (router_at w) is.by.proxy ∙ at in
                   let short : n < (g.bypass is.old).taken_at = law.proxy_numbers.out_items is.old y n z proxy (omega (arith, is.stage)) h in
                   let none : current_item y.out_queue ≡ None = out_stuck q y at
                   (way is (omega (arith, low, short)) y.outward.decaying refl) in
                   clash y.out_queue.current (behind y.out_queue n z low h none)
                   (subst (λ d. IsLacked w d y.out_queue.current) over
-                  (begun_out_lacks w b g law quiet ranked q y at is y.out_queue.current (omega (arith, low, short))
+                  (begun_out_lacks w b g law quiet ranked flagged q y at is y.out_queue.current (omega (arith, low, short))
                   (record { current = omega arith; none = none })))
                 where
-                  way : (is : HasBegun w b g law quiet ranked q y) → y.out_queue.current < (g.bypass is.old).taken_at →
+                  way : (is : HasBegun w b g law quiet ranked flagged q y) → y.out_queue.current < (g.bypass is.old).taken_at →
                       (o : Option LinkEnd) →
                       y.outward.decaying ≡ o → is_some (way_out y) ≡ true
                   way is l None a = absurd (omega (
@@ -242,13 +252,13 @@ module _ (w : World) (b : Books) (g : Records) (law : Inv w b g) (quiet : IsQuie
                   (choose-some (inward_edge y) y.in_queue.current (inner t f)) in
                   clash y.in_queue.current (behind y.in_queue n z low h none)
                   (subst (λ d. IsLacked w d y.in_queue.current) is
-                  (inward_lacks w b g law quiet ranked ranked.limit q y y.in_queue.current at f (omega arith)
+                  (inward_lacks w b g law quiet ranked flagged ranked.limit q y y.in_queue.current at f (omega arith)
                   (record { current = omega arith; none = none })))
                 where
                   inner : is_terminal y ≡ false → is_begun_router y ≡ false → is_some (inward_edge y).primary ≡ true
                   inner t f = grind (arith, t, f)
               by false true t f =
-                  let begun = begun_tells w b g law quiet ranked q y at f in
+                  let begun = begun_tells w b g law quiet ranked flagged q y at f in
                   let proxy = ap (router_at w) begun.by.proxy ∙ at in
                   let short : n < (g.bypass begun.old).accepted_at = law.proxy_numbers.in_items begun.old y n z proxy
                   (omega (arith, begun.stage)) h in
@@ -256,10 +266,10 @@ module _ (w : World) (b : Books) (g : Records) (law : Inv w b g) (quiet : IsQuie
                   (way begun (omega (arith, low, short)) (inward_edge y).decaying refl) in
                   clash y.in_queue.current (behind y.in_queue n z low h none)
                   (subst (λ d. IsLacked w d y.in_queue.current) is
-                  (begun_in_lacks w b g law quiet ranked q y at begun y.in_queue.current (omega (arith, low, short))
+                  (begun_in_lacks w b g law quiet ranked flagged q y at begun y.in_queue.current (omega (arith, low, short))
                   (record { current = omega arith; none = none })))
                 where
-                  way : (is : HasBegun w b g law quiet ranked q y) → y.in_queue.current < (g.bypass is.old).accepted_at →
+                  way : (is : HasBegun w b g law quiet ranked flagged q y) → y.in_queue.current < (g.bypass is.old).accepted_at →
                       (o : Option LinkEnd) →
                       (inward_edge y).decaying ≡ o → is_some (way_in y) ≡ true
                   way is l None a = absurd (omega (
@@ -294,6 +304,66 @@ module _ (w : World) (b : Books) (g : Records) (law : Inv w b g) (quiet : IsQuie
           (omega (arith, t.lacks.current, law.conserved.current t.key t.router t.here t.terminal, ap (read b) t.end))
           (grind (arith, f, nat_tests)) t.lacks.none)
 
+  -- a sink has read all that its peer put
+  pub sink_read : (k : Key) (r : Router) → router_at w k ≡ Some r → is_terminal r ≡ true → is_closed b r.end ≡ true →
+      read b r.end ≡ length (b.put (opposite_end r.end))
+  unfolding is_possible
+  sink_read k r here terminal closed = go (nat_lt (read b r.end) (length (b.put (opposite_end r.end)))) refl
+    where
+      most : read b r.end ≤ length (b.put (opposite_end r.end))
+      most = omega (arith, law.conserved.read_put (opposite_end r.end), ap (read b) (opposite_end-twice r.end))
+
+      sinks : is_possible r acts.Discard ≡ false → r.closed ≡ true → is_some (current_item r.in_queue) ≡ true → ⊥
+      sinks h c s = grind (arith, h, c, s, terminal)
+
+      look : (o : Option Item) → current_item r.in_queue ≡ o → nat_lt (read b r.end) (length (b.put (opposite_end r.end))) ≡ true → ⊥
+      look None e l = delivered r.end (read b r.end) k r here terminal refl (omega arith) (grind (arith, l, nat_tests))
+          (ap (item_at r.in_queue) (sym (law.conserved.current k r here terminal)) ∙ e)
+      look (Some x) e l = sinks (idle k r acts.Discard here) (law.conserved.sink k r here terminal ∙ closed) (ap is_some e)
+
+      go : (c : Bool) → nat_lt (read b r.end) (length (b.put (opposite_end r.end))) ≡ c → read b r.end ≡ length (b.put (opposite_end r.end))
+      go false e = let l : length (b.put (opposite_end r.end)) ≤ read b r.end = grind (arith, e, nat_tests) in omega (arith, l, most)
+      go true e = absurd (look (current_item r.in_queue) refl e)
+
+  -- so a closed end has
+  pub closed_read : (e : End) → is_closed b e ≡ true → read b e ≡ length (b.put (opposite_end e))
+  unfolding is_nowhere move_weight
+  closed_read e closed = go (g.terminal e) refl
+    where
+      gone : g.terminal e ≡ Retired → (c : Bool) → is_retired b e ≡ c → read b e ≡ length (b.put (opposite_end e))
+      gone q true h = law.retired_ends.all_read e h
+      gone q false h = (law.retired_ends.gone_read e q h).1
+
+      go : (t : Terminal) → g.terminal e ≡ t → read b e ≡ length (b.put (opposite_end e))
+      go (At k) q =
+          let t = passes_tells w k (λ r. is_terminal r && same_end r.end e) (law.terminals.stands e k q) in
+          let p = and_parts (is_terminal t.0) (same_end t.0.end e) t.2 in
+          let end : t.0.end ≡ e = same_end-tells t.0.end e p.1 in
+          subst (λ d. read b d ≡ length (b.put (opposite_end d))) end (sink_read k t.0 t.1 p.0 (ap (is_closed b) end ∙ closed))
+      go Nowhere q =
+          let none : b.put (opposite_end e) ≡ [] = law.conserved.unopened_put (opposite_end e) (law.terminals.both e ∙ ap is_nowhere q) in
+          let most : read b e ≤ length (b.put (opposite_end e)) = omega (arith, law.conserved.read_put (opposite_end e), ap (read b) (opposite_end-twice e)) in
+          omega (arith, most, ap length none)
+      go Retired q = gone q (is_retired b e) refl
+      go (Moving d) q =
+          let weight = law.moves.one e (λ x. 1) ∙ ap (move_weight (λ x. 1)) q in
+          let t = found (λ from to m. total_list (of_end e (λ x. 1)) (moves_of m)) w (omega (arith, weight)) in
+          absurd (nothing-moves w quiet t.0 t.1 t.2 t.3 t.4)
+
+  -- where a sink has retired no router of its peer is left: Gone has come to the peer's sink
+  pub stayer_gone : GoneUnread w b → (k : Key) (r : Router) → router_at w k ≡ Some r → is_begun_router r ≡ false →
+      is_retired b (opposite_end r.end) ≡ true → ⊥
+  stayer_gone unread k r here whole gone = omega (
+    arith,
+    unread t.key t.router t.here t.terminal (ap (λ d. is_retired b (opposite_end d)) t.end ∙ gone),
+    law.conserved.current t.key t.router t.here t.terminal,
+    sink_read t.key t.router t.here t.terminal (ap (is_closed b) (t.end ∙ sym (opposite_end-twice r.end))
+        ∙ law.retired_ends.peer_closed (opposite_end r.end) gone),
+  )
+    where
+      t : HasTerminal w b g law quiet ranked flagged r.end
+      t = inward_terminal w b g law quiet ranked flagged ranked.limit k r here whole (omega arith)
+
   -- an outward decaying link can be given up
   finishes : (e : Edge) (d : LinkEnd) (a c sent received : ℕ) → e.decaying ≡ Some d → e.length_to ≡ Some a → e.length_from ≡ Some c →
       a ≤ sent →
@@ -324,16 +394,17 @@ module _ (w : World) (b : Books) (g : Records) (law : Inv w b g) (quiet : IsQuie
           by false e = omega (
             arith,
             low,
-            lacked_given r.end (reach r.in_queue) (inward_lacks w b g law quiet ranked ranked.limit k r (reach r.in_queue) here whole
+            lacked_given r.end (reach r.in_queue) (inward_lacks w b g law quiet ranked flagged ranked.limit k r (reach r.in_queue) here whole
                 (omega arith)
                 (record { current = (is_reach r.in_queue).from; none = (is_reach r.in_queue).absent })),
-            across (outer_router w b g law quiet ranked k r p.0 here p.1),
+            across (outer_router w b g law quiet ranked flagged k r p.0 here p.1),
           )
             where
               low : reach r.in_queue < c
               low = grind (arith, e, nat_tests)
 
-              across : HasOuter w b g law quiet ranked k r ⊎ HasAcross w b g law quiet ranked k r → c ≤ length (b.put (opposite_end r.end))
+              across : HasOuter w b g law quiet ranked flagged k r ⊎
+                  (HasAcross w b g law quiet ranked flagged k r ⊎ (is_retired b (opposite_end r.end) ≡ true)) → c ≤ length (b.put (opposite_end r.end))
               across (inl h) =
                   let t : HasEnd r.outward.primary (Peripheral h.node h.serial) B = has_link-tells r.outward.primary
                   (Peripheral h.node h.serial) B h.own in
@@ -341,7 +412,11 @@ module _ (w : World) (b : Books) (g : Records) (law : Inv w b g) (quiet : IsQuie
                 where
                   apart : (n x : ℕ) → Peripheral n x ≡ Central fresh → ⊥
                   apart n x e = cc
-              across (inr h) =
+              across (inr (inr gone)) = absurd (decays_not r d dec (law.gones.still k r (opposite r.end.side) here whole gone))
+                where
+                  decays_not : (r : Router) (d : LinkEnd) → r.outward.decaying ≡ Some d → decays r ≡ false → ⊥
+                  decays_not r d e h = grind (arith, e, h)
+              across (inr (inl h)) =
                   let t : HasEnd r.outward.primary (Central h.word) h.side = has_link-tells r.outward.primary
                   (Central h.word) h.side h.own in
                   let same : t.end ≡ p.0 = same_Some t.end p.0 (sym t.there ∙ p.1) in
@@ -356,8 +431,8 @@ module _ (w : World) (b : Books) (g : Records) (law : Inv w b g) (quiet : IsQuie
                   omega (
                     arith,
                     law.fresh_numbers.other k r h.router p.0 d c here p.1 dec len stands,
-                    outward_given w b g law quiet ranked ranked.limit h.key h.router h.here
-                        (not_begun w b g law quiet ranked h.key h.router (Central h.word) (opposite h.side) h.here h.on) (omega arith),
+                    outward_given w b g law quiet ranked flagged ranked.limit h.key h.router h.here
+                        (not_begun w b g law quiet ranked flagged h.key h.router (Central h.word) (opposite h.side) h.here h.on) (omega arith),
                     ap (λ z. length (b.put z)) h.end,
                   )
 
@@ -394,12 +469,12 @@ module _ (w : World) (b : Books) (g : Records) (law : Inv w b g) (quiet : IsQuie
 
       go : (c : Bool) → is_begun_router r ≡ c → is_begun_router r ≡ false
       go false e = e
-      go true e = absurd (over (across_stands w b g law quiet ranked k r here is) (inner_stands w b g law quiet ranked k r here is))
+      go true e = absurd (over (across_stands w b g law quiet ranked flagged k r here is) (inner_stands w b g law quiet ranked flagged k r here is))
         where
-          is : HasBegun w b g law quiet ranked k r
-          is = begun_tells w b g law quiet ranked k r here e
+          is : HasBegun w b g law quiet ranked flagged k r
+          is = begun_tells w b g law quiet ranked flagged k r here e
 
-          lone : (l : LinkId) (s : Side) → StandsOver w b g law quiet ranked k r here is l s → ⊥
+          lone : (l : LinkId) (s : Side) → StandsOver w b g law quiet ranked flagged k r here is l s → ⊥
           lone l s x = none-some x.end (sym (still x.key x.router x.here
               (whole x.router x.primary (law.shape.role x.key x.router x.here))) ∙ x.decaying)
             where
@@ -411,9 +486,9 @@ module _ (w : World) (b : Books) (g : Records) (law : Inv w b g) (quiet : IsQuie
                   at false true f k = grind (arith, f, k)
                   at false false f k = absurd (grind (arith, f, k, h, p))
 
-          over : StandsOver w b g law quiet ranked k r here is (Central is.old) (across_side g is.old) ⊎
+          over : StandsOver w b g law quiet ranked flagged k r here is (Central is.old) (across_side g is.old) ⊎
               ((g.bypass is.old).taken_at ≤ r.out_queue.current) →
-              StandsOver w b g law quiet ranked k r here is (inner_of g is.old) B ⊎ ((g.bypass is.old).accepted_at ≤ r.in_queue.current) → ⊥
+              StandsOver w b g law quiet ranked flagged k r here is (inner_of g is.old) B ⊎ ((g.bypass is.old).accepted_at ≤ r.in_queue.current) → ⊥
           over (inl x) other = lone (Central is.old) (across_side g is.old) x
           over (inr a) (inl x) = lone (inner_of g is.old) B x
           over (inr taken) (inr accepted) = links r.outward.decaying (inward_edge r).decaying refl refl
@@ -470,7 +545,19 @@ module _ (w : World) (b : Books) (g : Records) (law : Inv w b g) (quiet : IsQuie
       begins : is_possible r acts.Begin ≡ false → is_proxy r ≡ true → r.holds ≡ true → is_on_central r ≡ true → decays r ≡ false → ⊥
       begins h p q c d = grind (arith, h, p, q, c, d)
 
+      retires : is_possible r acts.Retire ≡ false → (is_done r ≡ true) → r.holds ≡ true → is_on_central r ≡ true → decays r ≡ false → ⊥
+      retires h p q c d = no (is_done r) r.holds (is_on_central r) (decays r) h p q c d
+        where
+          no : (a c e f : Bool) → (a && (c && (e && not f))) ≡ false → a ≡ true → c ≡ true → e ≡ true → f ≡ false → ⊥
+          no a c e f h x y z v = grind (arith, h, x, y, z, v)
+
+      by : (p s : Bool) → (p || s) ≡ true → is_proxy r ≡ p → is_done r ≡ s → r.holds ≡ true → ⊥
+      by true s h p q e = begins (idle k r acts.Begin here) p e
+          (law.shape.marked_central k r here (law.shape.holds_marked k r here e)) (calm k r here)
+      by false true h p q e = retires (idle k r acts.Retire here) q e
+          (law.shape.marked_central k r here (law.shape.holds_marked k r here e)) (calm k r here)
+      by false false h p q e = cc
+
       go : (c : Bool) → r.holds ≡ c → r.holds ≡ false
       go false e = e
-      go true e = absurd (begins (idle k r acts.Begin here) (law.shape.holds_proxy k r here e) e
-          (law.shape.marked_central k r here (law.shape.holds_marked k r here e)) (calm k r here))
+      go true e = absurd (by (is_proxy r) (is_done r) (law.shape.holds_fit k r here e) refl refl e)

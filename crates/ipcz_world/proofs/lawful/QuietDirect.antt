@@ -1,6 +1,9 @@
 -- In a quiet world whose words aren't used up no proxy is left, and each open pair is direct.
-use Rattle.std.specs.Prelude.{◌≡◌, ◌⊎◌, ◌<◌, ℕ, zero, suc, ◌+◌, Bool, true, false, cond, ◌&&◌, Option, Some, None}
-use Rattle.std.specs.Prelude.{is_some, slice_get, refl}
+use Rattle.std.specs.Prelude.{◌≡◌, ◌⊎◌, ◌<◌, ℕ, zero, suc, ◌+◌, Bool, true, false, cond, not, ◌&&◌, ◌||◌, nat_eq, Option, Some, None}
+use Rattle.std.specs.Prelude.{is_some, List, [], ◌∷◌, length, slice_get, refl}
+use Rattle.std.specs.Ordering.{nat_cmp, is_eq}
+use Rattle.std.specs.Cmp.{nat_cmp_total, tied_itself}
+use Rattle.std.specs.FinMap.{entries, find, get-entries, len-entries}
 use Rattle.std.proofs.Common.{arith, ap, subst, ◌∙◌, sym, inl, inr}
 use Rattle.std.proofs.lemmas.Option.{none-some, same_Some}
 use Rattle.ipcz_world.proofs.facts.Tests.{not_both}
@@ -17,15 +20,21 @@ use Rattle.ipcz_router.specs.Router.{is_proxy, decays, is_on_central}
 use Rattle.ipcz_router.specs.declared.act.RouterAct.TheVariants as acts
 use Rattle.ipcz_world.specs.Bypasses.{move_weight}
 use Rattle.ipcz_world.specs.Flows.{of_end, moves_of}
-use Rattle.ipcz_world.specs.Owed.{AreFlagged, HaveWakers, HasWaker, IsRanked, IsWet, IsTerminalOn, IsDirectPair, IsDirect}
+use Rattle.ipcz_world.specs.Owed.{GoneUnread, AreFlagged, HaveWakers, HasWaker, IsRanked, IsWet, IsTerminalOn, IsDirectPair, IsDirect}
 use Rattle.ipcz_world.specs.Laws.{LinkLaw}
 use Rattle.ipcz_world.specs.Places.{unread_weight}
-use Rattle.ipcz_world.specs.Records.{Nowhere, Moving}
+use Rattle.ipcz_base.specs.declared.item.Item.TheVariants.{Parcel, Mark, Gone}
+use Rattle.ipcz_base.specs.Items.{is_mark}
+use Rattle.ipcz_seq.specs.Queue.{Queue, item_at, is_drained}
+use Rattle.ipcz_router.specs.ActTable.{is_ready, is_leaving, is_done}
+use Rattle.ipcz_world.specs.Books.{has_mark, is_closed, is_retired}
+use Rattle.ipcz_world.specs.Records.{Nowhere, Moving, Retired}
 use Rattle.ipcz_world.specs.Settling.{IsQuiet}
 use Rattle.ipcz_world.specs.World.{remove_router}
 use Rattle.ipcz_world.proofs.facts.Lengths.{side_is, has_link-tells}
 use Rattle.ipcz_world.proofs.facts.LinkTests.{opposite_end-twice, same_end-tells, same_end-itself}
 use Rattle.ipcz_world.proofs.facts.Tests.{some_is, and_second}
+use Rattle.std.proofs.lemmas.Option.{slice_get_within}
 use Rattle.ipcz_world.proofs.flows.Flowing.{found}
 use Rattle.ipcz_world.proofs.frames.Frames.{same_key_tells}
 use Rattle.ipcz_world.proofs.frames.OneRouter.{SameButRouter, remove-router}
@@ -37,24 +46,64 @@ use Rattle.ipcz_world.proofs.sends.Moved.{passes_tells}
 use Rattle.ipcz_world.proofs.weights.OfRecords.{in_places, in_node, in_message}
 use Rattle.ipcz_world.proofs.weights.Weighing.{in_places-is, in_router-is}
 use Rattle.ipcz_world.proofs.weights.Weights.{places-remove_router}
-use Rattle.ipcz_world.proofs.lawful.QuietDelivery.{primed, inward_proxy, idle, none_begun, still, calm, marked, free}
+use Rattle.ipcz_world.proofs.lawful.QuietDelivery.{primed, inward_proxy, idle, none_begun, still, calm, marked, free, sink_read, stayer_gone}
+
+-- a mark is found in a list that has one
+pub mark_at : (xs : List Item) → has_mark xs ≡ true → (n : ℕ) × (slice_get xs n ≡ Some Mark)
+mark_at [] h = cc
+mark_at (x ∷ xs) h = go (is_mark x) refl h (λ q. mark_at xs q)
+  where
+    is : (x : Item) → is_mark x ≡ true → x ≡ Mark
+    is (Parcel p) e = cc
+    is Mark e = refl
+    is Gone e = cc
+
+    go : (c : Bool) → is_mark x ≡ c → (c || has_mark xs) ≡ true → (has_mark xs ≡ true → (n : ℕ) × (slice_get xs n ≡ Some Mark)) →
+        (n : ℕ) × (slice_get (x ∷ xs) n ≡ Some Mark)
+    go true e q more = (0, ap Some (is x e))
+    go false e q more = let t = more q in (suc t.0, t.1)
+
+-- a queue without items is drained
+empty_drained : (q : Queue Item) → ((m : ℕ) → item_at q m ≡ None) → is_drained q ≡ true
+empty_drained q none = ap (λ n. nat_eq n 0) (len-entries q.items ∙ zero_by (entries q.items) (λ m. sym (get-entries q.items m) ∙ none m))
+  where
+    zero_by : (es : List (ℕ × Item)) → ((m : ℕ) → find nat_cmp m es ≡ None) → length es ≡ 0
+    zero_by [] h = refl
+    zero_by (e ∷ es) h = absurd (none-some e.1 (sym (h e.0) ∙
+        ap (λ b. cond b (Some e.1) (find nat_cmp e.0 es)) (ap is_eq (tied_itself nat_cmp_total e.0))))
 
 module _ (w : World) (b : Books) (g : Records) (law : Inv w b g) (quiet : IsQuiet w) (ranked : IsRanked w) (flagged : AreFlagged w)
-    (wakers : HaveWakers w) where
+    (wakers : HaveWakers w) (unread : GoneUnread w b) where
   links : LinkLaw w
   links = link_law w b g law
 
-  -- no proxy is left on a central link that hasn't found the words used up: it could claim, lock or begin, or has a waker
-  not_central : (k : Key) (r : Router) → router_at w k ≡ Some r → is_proxy r ≡ true → r.dry ≡ false →
-      HasAcross w b g law quiet ranked k r → ⊥
+  -- who could go on under the lock of its link: a proxy that hasn't found the words used up, or a sink that is done
+  abbrev IsEager : Router → Type 0
+  IsEager r = ((is_proxy r ≡ true) × (r.dry ≡ false)) ⊎ (is_done r ≡ true)
+
+  -- no such router is left on a central link: it could claim, lock, begin or retire, or has a waker
+  not_central : (k : Key) (r : Router) → router_at w k ≡ Some r → IsEager r → HasAcross w b g law quiet ranked flagged k r → ⊥
   unfolding is_possible
-  not_central k r here proxy dry h = go r.tried r.spare refl refl
+  not_central k r here eager h = go r.tried refl eager
     where
       may : is_possible r acts.Claim ≡ false → is_possible r acts.Lock ≡ false → r.marked ≡ true → is_on_central r ≡ true →
-          decays r ≡ false →
+          decays r ≡ false → is_proxy r ≡ true →
           r.dry ≡ false → r.holds ≡ false → (o : Option ℕ) → r.spare ≡ o → r.tried ≡ false → ⊥
-      may a c m z d y f None e t = grind (arith, a, m, z, d, y, f, e, t, proxy)
-      may a c m z d y f (Some j) e t = grind (arith, c, m, z, d, y, f, e, t, proxy)
+      may a c m z d p y f None e t = grind (arith, a, m, z, d, y, f, e, t, p)
+      may a c m z d p y f (Some j) e t = no (is_leaving r && not r.holds) m z d p y f e t c
+        where
+          no : (x : Bool) → r.marked ≡ true → is_on_central r ≡ true → decays r ≡ false → is_proxy r ≡ true → r.dry ≡ false →
+              r.holds ≡ false → r.spare ≡ Some j → r.tried ≡ false → ((is_ready r && (is_some r.spare && not r.holds)) || x) ≡ false → ⊥
+          no x m z d p y f e t c = grind (arith, m, z, d, p, y, f, e, t, c)
+
+      lets : is_possible r acts.Lock ≡ false → r.marked ≡ true → is_on_central r ≡ true → decays r ≡ false → is_done r ≡ true →
+          r.holds ≡ false → r.tried ≡ false → ⊥
+      lets c m z d s f t = no (is_ready r && (is_some r.spare && not r.holds)) (is_done r) (is_on_central r) r.marked (decays r) r.tried
+          r.holds c s z m d t f
+        where
+          no : (x s z m d t f : Bool) → (x || ((s && (z && (m && (not d && not t)))) && not f)) ≡ false → s ≡ true → z ≡ true → m ≡ true →
+              d ≡ false → t ≡ false → f ≡ false → ⊥
+          no x s z m d t f h a c e i j l = grind (arith, h, a, c, e, i, j, l)
 
       wakes : (z : Router) → is_possible z acts.Wake ≡ false → z.wake_owed ≡ true → is_on_central z ≡ true → ⊥
       wakes z h a c = grind (arith, h, a, c)
@@ -71,12 +120,49 @@ module _ (w : World) (b : Books) (g : Records) (law : Inv w b g) (quiet : IsQuie
       waker (inr (inr (inr (waits, inr p)))) = wakes p.router (idle w b g law quiet ranked flagged p.key p.router acts.Wake p.here) p.passes
           (ap is_some (on-central h.word (opposite h.side) p.router p.on))
 
-      go : (t : Bool) (o : Option ℕ) → r.tried ≡ t → r.spare ≡ o → ⊥
-      go true o e f = waker (wakers h.word k r h.side here e h.own)
-      go false o e f = may (idle w b g law quiet ranked flagged k r acts.Claim here)
-          (idle w b g law quiet ranked flagged k r acts.Lock here) (marked w b g law quiet ranked flagged h.word h.side k r here h.own)
-          (ap is_some (on-central h.word h.side r h.own)) (calm w b g law quiet ranked flagged k r here) dry
-          (free w b g law quiet ranked flagged k r here) o f e
+      own_mark : r.marked ≡ true
+      own_mark = marked w b g law quiet ranked flagged h.word h.side k r here h.own
+
+      own_link : is_on_central r ≡ true
+      own_link = ap is_some (on-central h.word h.side r h.own)
+
+      go : (t : Bool) → r.tried ≡ t → IsEager r → ⊥
+      go true e m = waker (wakers h.word k r h.side here e h.own)
+      go false e (inl m) = may (idle w b g law quiet ranked flagged k r acts.Claim here) (idle w b g law quiet ranked flagged k r acts.Lock here)
+          own_mark own_link (calm w b g law quiet ranked flagged k r here) m.0 m.1 (free w b g law quiet ranked flagged k r here) r.spare refl e
+      go false e (inr m) = lets (idle w b g law quiet ranked flagged k r acts.Lock here) own_mark own_link
+          (calm w b g law quiet ranked flagged k r here) m (free w b g law quiet ranked flagged k r here) e
+
+  -- no sink stands on a central link that has dropped the mark: all that it has put was sent
+  pub central_undone : (k : Key) (r : Router) → router_at w k ≡ Some r → is_terminal r ≡ true → r.closed ≡ true → r.mark_dropped ≡ true →
+      is_on_central r ≡ true → ⊥
+  unfolding word_of
+  central_undone k r here terminal closed dropped on = elim (outer_router w b g law quiet ranked flagged k r p.0 here p.1) [
+    | inl h ↦ not_peripheral r h.node h.serial h.own on
+    | inr h ↦ elim h [
+      | inl a ↦ not_central k r here (inr done) a
+      | inr gone ↦ stayer_gone w b g law quiet ranked flagged unread k r here (none_begun w b g law quiet ranked flagged k r here) gone
+    ]
+  ]
+    where
+      p : (p : LinkEnd) × (r.outward.primary ≡ Some p)
+      p = some_is r.outward.primary (primed r (law.shape.role k r here) (none_begun w b g law quiet ranked flagged k r here))
+
+      done : is_done r ≡ true
+      done = all (is_terminal r) r.closed r.mark_dropped (is_drained r.out_queue) terminal closed dropped
+          (empty_drained r.out_queue (λ m. out-delivered w b g k r law flagged quiet here terminal m))
+        where
+          all : (a c d e : Bool) → a ≡ true → c ≡ true → d ≡ true → e ≡ true → ((a && c) && (d && e)) ≡ true
+          all a c d e x y z v = rw (x, y, z, v) refl
+
+      not_peripheral : (z : Router) (n s : ℕ) → has_primary (Peripheral n s) B z ≡ true → is_on_central z ≡ true → ⊥
+      not_peripheral z n s a c =
+          let t = has_link-tells z.outward.primary (Peripheral n s) B a in
+          let no : is_on_central z ≡ false = ap (λ o. is_some (word_of o)) t.there ∙ of_link t.end t.on_link in
+          let odd : false ≡ true = sym no ∙ c in cc
+        where
+          of_link : (e : LinkEnd) → e.link ≡ Peripheral n s → is_some (word_of (Some e)) ≡ false
+          of_link e q = rw q refl
 
   -- so each proxy on a central link has
   pub central_dry : (k : Key) (r : Router) → router_at w k ≡ Some r → is_proxy r ≡ true → is_on_central r ≡ true → r.dry ≡ true
@@ -88,9 +174,12 @@ module _ (w : World) (b : Books) (g : Records) (law : Inv w b g) (quiet : IsQuie
 
       go : (t : Bool) → r.dry ≡ t → r.dry ≡ true
       go true e = e
-      go false e = elim (outer_router w b g law quiet ranked k r p.0 here p.1) [
+      go false e = elim (outer_router w b g law quiet ranked flagged k r p.0 here p.1) [
         | inl h ↦ absurd (not_peripheral r h.node h.serial h.own on)
-        | inr h ↦ absurd (not_central k r here proxy e h)
+        | inr h ↦ elim h [
+          | inl a ↦ absurd (not_central k r here (inl (proxy, e)) a)
+          | inr gone ↦ absurd (stayer_gone w b g law quiet ranked flagged unread k r here (none_begun w b g law quiet ranked flagged k r here) gone)
+        ]
       ]
         where
           not_peripheral : (z : Router) (n s : ℕ) → has_primary (Peripheral n s) B z ≡ true → is_on_central z ≡ true → ⊥
@@ -103,20 +192,21 @@ module _ (w : World) (b : Books) (g : Records) (law : Inv w b g) (quiet : IsQuie
               of_link e q = rw q refl
 
 module _ (w : World) (b : Books) (g : Records) (law : Inv w b g) (quiet : IsQuiet w) (ranked : IsRanked w) (flagged : AreFlagged w)
-    (wakers : HaveWakers w) (wet : IsWet w) where
+    (wakers : HaveWakers w) (unread : GoneUnread w b) (wet : IsWet w) where
   -- where no router has found the words used up none is left anywhere
   no_proxy_below : (n : ℕ) (k : Key) (r : Router) → router_at w k ≡ Some r → is_proxy r ≡ true → ranked.rank k < n → ⊥
   no_proxy_below zero k r here proxy l = omega (arith, l)
   no_proxy_below (suc n) k r here proxy l =
-      go (outer_router w b g law quiet ranked k r p.0 here p.1) (λ q z at is low. no_proxy_below n q z at is low)
+      go (outer_router w b g law quiet ranked flagged k r p.0 here p.1) (λ q z at is low. no_proxy_below n q z at is low)
     where
       p : (p : LinkEnd) × (r.outward.primary ≡ Some p)
       p = some_is r.outward.primary (primed r (law.shape.role k r here) (none_begun w b g law quiet ranked flagged k r here))
 
-      go : HasOuter w b g law quiet ranked k r ⊎ HasAcross w b g law quiet ranked k r →
-          ((q : Key) (z : Router) → router_at w q ≡ Some z → is_proxy z ≡ true → ranked.rank q < n → ⊥) → ⊥
+      go : HasOuter w b g law quiet ranked flagged k r ⊎
+          (HasAcross w b g law quiet ranked flagged k r ⊎ (is_retired b (opposite_end r.end) ≡ true)) → ((q : Key) (z : Router) → router_at w q ≡ Some z → is_proxy z ≡ true → ranked.rank q < n → ⊥) → ⊥
       go (inl h) more = more h.key h.router h.here (inward_proxy h.router (Peripheral h.node h.serial) h.on) (omega (arith, l, h.lower))
-      go (inr h) more = not_central w b g law quiet ranked flagged wakers k r here proxy (wet k r here) h
+      go (inr (inl h)) more = not_central w b g law quiet ranked flagged wakers unread k r here (inl (proxy, wet k r here)) h
+      go (inr (inr gone)) more = stayer_gone w b g law quiet ranked flagged unread k r here (none_begun w b g law quiet ranked flagged k r here) gone
 
   pub no_proxies : (k : Key) (r : Router) → router_at w k ≡ Some r → is_terminal r ≡ true
   no_proxies k r here = go (is_terminal r) refl
@@ -131,7 +221,7 @@ module _ (w : World) (b : Books) (g : Records) (law : Inv w b g) (quiet : IsQuie
   -- a pair's terminal that stands, and the one across from it
   terminal_on : (pair : ℕ) (s : Side) (k : Key) → g.terminal (end_at pair s) ≡ At k →
       (i : ℕ) × IsTerminalOn w pair i s × IsTerminalOn w pair i (opposite s)
-  terminal_on pair s k at = go (outer_router w b g law quiet ranked k t.0 p.0 t.1 p.1)
+  terminal_on pair s k at = go (outer_router w b g law quiet ranked flagged k t.0 p.0 t.1 p.1)
     where
       t : (r : Router) × (router_at w k ≡ Some r) × ((is_terminal r && same_end r.end (end_at pair s)) ≡ true)
       t = passes_tells w k (λ r. is_terminal r && same_end r.end (end_at pair s)) (law.terminals.stands (end_at pair s) k at)
@@ -142,14 +232,16 @@ module _ (w : World) (b : Books) (g : Records) (law : Inv w b g) (quiet : IsQuie
       p : (p : LinkEnd) × (t.0.outward.primary ≡ Some p)
       p = some_is t.0.outward.primary (primed t.0 (law.shape.role k t.0 t.1) (none_begun w b g law quiet ranked flagged k t.0 t.1))
 
-      go : HasOuter w b g law quiet ranked k t.0 ⊎ HasAcross w b g law quiet ranked k t.0 →
+      go : HasOuter w b g law quiet ranked flagged k t.0 ⊎
+          (HasAcross w b g law quiet ranked flagged k t.0 ⊎ (is_retired b (opposite_end t.0.end) ≡ true)) →
           (i : ℕ) × IsTerminalOn w pair i s × IsTerminalOn w pair i (opposite s)
       go (inl h) = absurd (not_both (is_proxy h.router) (inward_proxy h.router (Peripheral h.node h.serial) h.on)
           (terminal_not h.router (no_proxies h.key h.router h.here)))
         where
           terminal_not : (z : Router) → is_terminal z ≡ true → is_proxy z ≡ false
           terminal_not z e = grind (arith, e)
-      go (inr h) = (
+      go (inr (inr gone)) = absurd (stayer_gone w b g law quiet ranked flagged unread k t.0 t.1 (none_begun w b g law quiet ranked flagged k t.0 t.1) gone)
+      go (inr (inl h)) = (
         h.word,
         record {
           key = k;
@@ -198,12 +290,12 @@ module _ (w : World) (b : Books) (g : Records) (law : Inv w b g) (quiet : IsQuie
     where
       stable : (s : Side) → has (word_at w route.word).stable s ≡ true
       stable s = let x = route.stands s in
-          sym ((links w b g law quiet ranked flagged wakers).marked x.key x.router route.word s x.here x.on)
+          sym ((links w b g law quiet ranked flagged wakers unread).marked x.key x.router route.word s x.here x.on)
           ∙ marked w b g law quiet ranked flagged route.word s x.key x.router x.here x.on
 
       unheld : (s : Side) → has (word_at w route.word).holder s ≡ false
       unheld s = let x = route.stands s in
-          sym ((links w b g law quiet ranked flagged wakers).holds x.key x.router route.word s x.here x.on) ∙ free w b g law quiet ranked flagged x.key x.router x.here
+          sym ((links w b g law quiet ranked flagged wakers unread).holds x.key x.router route.word s x.here x.on) ∙ free w b g law quiet ranked flagged x.key x.router x.here
 
       go : has (word_at w route.word).stable A ≡ true → has (word_at w route.word).stable B ≡ true →
           has (word_at w route.word).holder A ≡ false → has (word_at w route.word).holder B ≡ false → is_free (word_at w route.word) ≡ true
@@ -290,18 +382,70 @@ module _ (w : World) (b : Books) (g : Records) (law : Inv w b g) (quiet : IsQuie
         all_there x.key x.router h x.here ∙ ap (λ e. unread_weight h b (opposite_end e)) x.end;
   }
 
-  -- each open pair is direct
-  pub pair_direct : (pair : ℕ) → is_linked (g.owner pair) ≡ true → (g.central pair).pair ≡ pair → IsDirect w b pair
+  -- each open pair is direct of which an end isn't closed
+  pub pair_direct : (pair : ℕ) (s : Side) → is_linked (g.owner pair) ≡ true → (g.central pair).pair ≡ pair →
+      is_closed b (end_at pair s) ≡ false → IsDirect w b pair
   unfolding side_end is_recorded is_nowhere move_weight
-  pair_direct pair linked own = go (g.terminal (end_at pair A)) refl
+  pair_direct pair s linked own open_ = go (g.terminal (end_at pair s)) refl
     where
-      opened : is_nowhere (g.terminal (end_at pair A)) ≡ false
-      opened = ap (λ z. is_nowhere (g.terminal (end_at z A))) (sym own) ∙ law.terminals.link_opened (Central pair) A linked
+      opened : is_nowhere (g.terminal (end_at pair s)) ≡ false
+      opened = ap (λ z. is_nowhere (g.terminal (end_at z s))) (sym own) ∙ law.terminals.link_opened (Central pair) s linked
 
-      go : (t : Terminal) → g.terminal (end_at pair A) ≡ t → IsDirect w b pair
-      go (At k) e = is_direct pair (direct_from pair A k e)
-      go Nowhere e = absurd (not_both (is_nowhere (g.terminal (end_at pair A))) (ap is_nowhere e) opened)
+      gone : g.terminal (end_at pair s) ≡ Retired → (c : Bool) → is_retired b (end_at pair s) ≡ c → ⊥
+      gone e true f = not_both (is_closed b (end_at pair s)) (law.books_kept.retired_closed (end_at pair s) f) open_
+      gone e false f = not_both (is_closed b (end_at pair s))
+          (ap (is_closed b) (sym (opposite_end-twice (end_at pair s)))
+          ∙ law.retired_ends.peer_closed (opposite_end (end_at pair s)) (law.retired_ends.gone_read (end_at pair s) e f).0) open_
+
+      go : (t : Terminal) → g.terminal (end_at pair s) ≡ t → IsDirect w b pair
+      go (At k) e = is_direct pair (direct_from pair s k e)
+      go Nowhere e = absurd (not_both (is_nowhere (g.terminal (end_at pair s))) (ap is_nowhere e) opened)
+      go Retired e = absurd (gone e (is_retired b (end_at pair s)) refl)
       go (Moving d) e =
-          let weight = law.moves.one (end_at pair A) (λ x. 1) ∙ ap (move_weight (λ x. 1)) e in
-          let t = found (λ from to m. total_list (of_end (end_at pair A) (λ x. 1)) (moves_of m)) w (omega (arith, weight)) in
+          let weight = law.moves.one (end_at pair s) (λ x. 1) ∙ ap (move_weight (λ x. 1)) e in
+          let t = found (λ from to m. total_list (of_end (end_at pair s) (λ x. 1)) (moves_of m)) w (omega (arith, weight)) in
           absurd (nothing-moves w quiet t.0 t.1 t.2 t.3 t.4)
+
+  -- no router is left of a pair with both ends closed: a sink that has read all would lock and retire
+  pub none_closed : (k : Key) (r : Router) → router_at w k ≡ Some r → is_closed b r.end ≡ true → is_closed b (opposite_end r.end) ≡ true → ⊥
+  none_closed k r here closed other = go (outer_router w b g law quiet ranked flagged k r p.0 here p.1)
+    where
+      terminal : is_terminal r ≡ true
+      terminal = no_proxies k r here
+
+      p : (p : LinkEnd) × (r.outward.primary ≡ Some p)
+      p = some_is r.outward.primary (primed r (law.shape.role k r here) (none_begun w b g law quiet ranked flagged k r here))
+
+      sink : r.closed ≡ true
+      sink = law.conserved.sink k r here terminal ∙ closed
+
+      mark : (n : ℕ) × (slice_get (b.put (opposite_end r.end)) n ≡ Some Mark)
+      mark = mark_at (b.put (opposite_end r.end)) other
+
+      dropped : r.mark_dropped ≡ true
+      dropped = law.gones.dropped_back k r mark.0 here terminal mark.1
+          (omega (
+            arith,
+            slice_get_within (b.put (opposite_end r.end)) mark.0 Mark mark.1,
+            law.conserved.current k r here terminal,
+            sink_read w b g law quiet ranked flagged k r here terminal closed,
+          )) sink
+
+      drained : is_drained r.out_queue ≡ true
+      drained = empty_drained r.out_queue (λ m. out-delivered w b g k r law flagged quiet here terminal m)
+
+      done : is_done r ≡ true
+      done = all (is_terminal r) r.closed r.mark_dropped (is_drained r.out_queue) terminal sink dropped drained
+        where
+          all : (a c d e : Bool) → a ≡ true → c ≡ true → d ≡ true → e ≡ true → ((a && c) && (d && e)) ≡ true
+          all a c d e x y z v = rw (x, y, z, v) refl
+
+      go : HasOuter w b g law quiet ranked flagged k r ⊎
+          (HasAcross w b g law quiet ranked flagged k r ⊎ (is_retired b (opposite_end r.end) ≡ true)) → ⊥
+      go (inl h) = not_both (is_proxy h.router) (inward_proxy h.router (Peripheral h.node h.serial) h.on)
+          (terminal_not h.router (no_proxies h.key h.router h.here))
+        where
+          terminal_not : (z : Router) → is_terminal z ≡ true → is_proxy z ≡ false
+          terminal_not z e = grind (arith, e)
+      go (inr (inl h)) = not_central w b g law quiet ranked flagged wakers unread k r here (inr done) h
+      go (inr (inr gone)) = stayer_gone w b g law quiet ranked flagged unread k r here (none_begun w b g law quiet ranked flagged k r here) gone

@@ -1,5 +1,5 @@
 -- In a quiet world what is lacking in a queue is lacking all the way to the terminal that the queue leads to.
-use Rattle.std.specs.Prelude.{◌≡◌, ◌⊎◌, ◌≤◌, ◌<◌, ℕ, zero, suc, ◌+◌, Bool, true, false, nat_le, Option, Some, None}
+use Rattle.std.specs.Prelude.{◌≡◌, ◌⊎◌, ◌≤◌, ◌<◌, ℕ, zero, suc, ◌+◌, Bool, true, false, ◌||◌, nat_le, Option, Some, None}
 use Rattle.std.specs.Prelude.{is_some, length, refl}
 use Rattle.std.proofs.Common.{arith, ap, subst, ◌∙◌, sym, inl, inr}
 use Rattle.std.proofs.lemmas.Bool.Decides.{nat_tests}
@@ -8,14 +8,17 @@ use Rattle.std.proofs.lemmas.Option.{none-some}
 use Rattle.ipcz_world.proofs.facts.Tests.{or_second}
 use Rattle.ipcz_world.proofs.Vocabulary.{Side, A, B, End, LinkId, Central, Peripheral, LinkEnd, Item, opposite, opposite_end, has_link}
 use Rattle.ipcz_world.proofs.Vocabulary.{Queue, item_at, Router, is_terminal, inward_edge, World, Key, router_at, Books, Records}
-use Rattle.ipcz_world.proofs.Vocabulary.{is_begun, is_recorded}
+use Rattle.ipcz_world.proofs.Vocabulary.{is_begun, is_recorded, is_possible}
 use Rattle.ipcz_world.proofs.Vocabulary.{side_router, side_end, side_length, bypass_of, proxy_side, across_side, is_linked, inner_of}
 use Rattle.ipcz_world.proofs.Vocabulary.{Standing, view, view_by, router_view, is_attached, sending_queue, fed_queue}
 use Rattle.ipcz_world.proofs.Vocabulary.{next_sent, taking_queue, has_passed, has_primary, has_decaying, is_outward, is_gone, Inv}
 use Rattle.ipcz_world.proofs.Vocabulary.{IsRecorded}
 use Rattle.ipcz_base.specs.Ends.{end_at}
-use Rattle.ipcz_router.specs.Router.{outward_has}
-use Rattle.ipcz_world.specs.Owed.{IsRanked}
+use Rattle.ipcz_router.specs.Router.{outward_has, is_proxy}
+use Rattle.ipcz_router.specs.declared.act.RouterAct.TheVariants as acts
+use Rattle.ipcz_world.specs.Books.{is_retired}
+use Rattle.ipcz_world.specs.Owed.{AreFlagged, IsRanked}
+use Rattle.ipcz_world.specs.Records.{At, Retired, is_left}
 use Rattle.ipcz_world.specs.Settling.{IsQuiet}
 use Rattle.ipcz_world.specs.Standing.{has_inward_primary}
 use Rattle.ipcz_world.specs.Structure.{is_begun_router, has_role, link_in}
@@ -26,9 +29,12 @@ use Rattle.ipcz_world.proofs.facts.Reaching.{is_reach}
 use Rattle.ipcz_world.proofs.facts.Tests.{some_is}
 use Rattle.ipcz_world.proofs.frames.RecordRules.{bypass_of-inner}
 use Rattle.ipcz_world.proofs.lawful.LengthLaws.{attached_view}
-use Rattle.ipcz_world.proofs.lawful.LinkLaws.{Passes, passes-tells}
+use Rattle.ipcz_world.proofs.lawful.LinkLaws.{Passes, passes-tells, on_tells}
 use Rattle.ipcz_world.proofs.lawful.QuietBypasses.{settled, known_side, primary_live}
 use Rattle.ipcz_world.proofs.sends.Moved.{passes_tells}
+use Rattle.ipcz_world.proofs.facts.Tests.{not_both}
+use Rattle.ipcz_world.proofs.views.LeftSides.{not_left}
+use Rattle.ipcz_world.proofs.lawful.Quiet.{nothing-possible}
 use Rattle.ipcz_world.proofs.views.Bypassed as bypassed
 
 -- a queue hasn't passed a number, and has no item of it
@@ -50,7 +56,8 @@ unfolding has_passed
 passed-later None u m l h = refl
 passed-later (Some n) u m l h = grind (arith, nat_tests, l, h)
 
-module _ (w : World) (b : Books) (g : Records) (law : Inv w b g) (quiet : IsQuiet w) (ranked : IsRanked w) where
+module _ (w : World) (b : Books) (g : Records) (law : Inv w b g) (quiet : IsQuiet w) (ranked : IsRanked w)
+    (flagged : AreFlagged w) where
   -- what a sender lacks the receiver lacks too, below the link's length
   pub hop : (link : LinkId) (s : Side) (j k : Key) (x z : Router) (m : ℕ) → router_at w j ≡ Some x → router_at w k ≡ Some z →
       is_attached link (opposite s) x ≡ true → is_attached link s z ≡ true → has_passed (side_length g link (opposite s)) m ≡ false →
@@ -88,6 +95,182 @@ module _ (w : World) (b : Books) (g : Records) (law : Inv w b g) (quiet : IsQuie
         lacks.current,
         law.order.stored link s (sending_queue link (opposite s) x).current (fed_queue link s z) m item recorded sent taken e short,
       ))
+
+  -- a proxy that has sent Gone inward would leave
+  unsent : (k : Key) (r : Router) (e : LinkEnd) → router_at w k ≡ Some r → (inward_edge r).primary ≡ Some e → r.gone_sent ≡ true → ⊥
+  unfolding is_possible
+  unsent k r e here on sent = leaves r (nothing-possible w flagged quiet k r acts.Leave (law.counts.on_node k r here) here) sent
+      (proxy r e on)
+    where
+      leaves : (r : Router) → is_possible r acts.Leave ≡ false → r.gone_sent ≡ true → is_proxy r ≡ true → ⊥
+      leaves r h s p = grind (arith, h, s, p)
+
+      proxy : (r : Router) (e : LinkEnd) → (inward_edge r).primary ≡ Some e → is_proxy r ≡ true
+      proxy r e h = grind (arith, h)
+
+  -- an end whose terminal stands hasn't retired
+  pub standing_end : (k : Key) (r : Router) → router_at w k ≡ Some r → is_terminal r ≡ true → is_retired b r.end ≡ true → ⊥
+  standing_end k r here terminal retired = apart k (sym (law.terminals.terminal k r here terminal) ∙ law.retired_ends.retired r.end retired)
+    where
+      apart : (k : Key) → At k ≡ Retired → ⊥
+      apart k e = cc
+
+  -- what stands across the outward primary link of a router: its proxy, or over a central link the router of the peer's side
+  pub record HasOuter (k : Key) (r : Router) : Type 0 where
+    pub node : ℕ
+    pub serial : ℕ
+    pub key : Key
+    pub router : Router
+    pub here : router_at w key ≡ Some router
+    pub own : has_primary (Peripheral node serial) B r ≡ true
+    pub on : has_inward_primary (Peripheral node serial) A router ≡ true
+    pub live : side_length g (Peripheral node serial) B ≡ None
+    pub end : router.end ≡ r.end
+    pub lower : ranked.rank key < ranked.rank k
+
+  pub record HasAcross (k : Key) (r : Router) : Type 0 where
+    pub word : ℕ
+    pub side : Side
+    pub key : Key
+    pub router : Router
+    pub here : router_at w key ≡ Some router
+    pub own : has_primary (Central word) side r ≡ true
+    pub on : has_primary (Central word) (opposite side) router ≡ true
+    pub unbegun : is_begun (g.bypass word) ≡ false
+    pub linked : is_linked (g.owner word) ≡ true
+    pub end : router.end ≡ opposite_end r.end
+    pub own_end : r.end ≡ end_at (g.central word).pair side
+
+  pub outer_router : (k : Key) (r : Router) (e : LinkEnd) → router_at w k ≡ Some r → r.outward.primary ≡ Some e →
+      HasOuter k r ⊎ (HasAcross k r ⊎ (is_retired b (opposite_end r.end) ≡ true))
+  unfolding is_outward side_end bypass_of is_recorded
+  outer_router k r e here on = go e.link e.side refl refl
+    where
+      rec : IsRecorded w g k r e
+      rec = law.links.primary k r e here on
+
+      left : (l : LinkId) (s : Side) → e.link ≡ l → e.side ≡ s → is_left g l (opposite s) ≡ true → is_retired b (opposite_end r.end) ≡ true
+      left l s p q h = law.gones.left_primary k r e here on (ap (λ z. is_left g z (opposite e.side)) p ∙ ap (λ z. is_left g l (opposite z)) q ∙ h)
+
+      go : (l : LinkId) (s : Side) → e.link ≡ l → e.side ≡ s → HasOuter k r ⊎ (HasAcross k r ⊎ (is_retired b (opposite_end r.end) ≡ true))
+      go (Peripheral n x) A l t = absurd (grind (arith, law.links.primary_outward k r e here on, l, t))
+      go (Peripheral n x) B l t = by (is_left g (Peripheral n x) A) refl
+        where
+          p : Key
+          p = record { node = n; serial = x }
+
+          own : has_primary (Peripheral n x) B r ≡ true
+          own = ap (λ o. has_link o (Peripheral n x) B) on ∙ has_link-some e (Peripheral n x) B l t
+
+          recorded : is_recorded w g (Peripheral n x) ≡ true
+          recorded = subst (λ z. is_recorded w g z ≡ true) l rec.recorded
+
+          live : (g.peripheral p).by ≡ None
+          live = sym (bypass_of-inner g p) ∙ ap (bypass_of g) (sym l) ∙ primary_live w b g law quiet k r e here on
+
+          by : (c : Bool) → is_left g (Peripheral n x) A ≡ c → HasOuter k r ⊎ (HasAcross k r ⊎ (is_retired b (opposite_end r.end) ≡ true))
+          by true f = inr (inr (left (Peripheral n x) B l t f))
+          by false stays = inl (record {
+            node = n;
+            serial = x;
+            key = proxy.key;
+            router = proxy.router;
+            here = proxy.here;
+            own = own;
+            on = proxy.passed;
+            live = length-none g p B live;
+            end = far.end ∙ ap (λ z. side_end g z d.end.side) d.on_link ∙ sym (rec.end ∙ ap (λ z. side_end g z e.side) l);
+            lower = ranked.rises proxy.key k proxy.router r n x proxy.here here
+                (or_left (has_link (inward_edge proxy.router).primary (Peripheral n x) A)
+                (has_link (inward_edge proxy.router).decaying (Peripheral n x) A)
+                proxy.passed)
+                (or_left (has_link r.outward.primary (Peripheral n x) B) (has_link r.outward.decaying (Peripheral n x) B) own);
+          })
+            where
+              proxy : Passes w (side_router g (Peripheral n x) A) (has_inward_primary (Peripheral n x) A)
+              proxy = passes-tells w (side_router g (Peripheral n x) A) (has_inward_primary (Peripheral n x) A)
+                  (law.stands.proxy p recorded live stays)
+
+              d : HasEnd (inward_edge proxy.router).primary (Peripheral n x) A
+              d = has_link-tells (inward_edge proxy.router).primary (Peripheral n x) A proxy.passed
+
+              far : IsRecorded w g proxy.key proxy.router d.end
+              far = law.links.inward_primary proxy.key proxy.router d.end proxy.here d.there
+      go (Central i) s l t = by (is_left g (Central i) (opposite s)) refl
+        where
+          own : has_primary (Central i) s r ≡ true
+          own = ap (λ o. has_link o (Central i) s) on ∙ has_link-some e (Central i) s l t
+
+          own_end : r.end ≡ end_at (g.central i).pair s
+          own_end = rec.end ∙ ap (λ z. side_end g z e.side) l ∙ ap (λ z. side_end g (Central i) z) t
+
+          recorded : is_recorded w g (Central i) ≡ true
+          recorded = subst (λ z. is_recorded w g z ≡ true) l rec.recorded
+
+          linked : is_linked (g.owner i) ≡ true
+          linked = recorded
+
+          unbegun : (c : Bool) → is_begun (g.bypass i) ≡ c → is_begun (g.bypass i) ≡ false
+          unbegun false f = f
+          unbegun true f = absurd (omega (arith, settled w b g law quiet i f, law.positions.primary_old k r e i here on l f))
+
+          across : (q : Key) × (side_router g (Central i) (opposite s) ≡ Some q)
+          across = known_side w b g law quiet (Central i) (opposite s) recorded
+
+          by : (c : Bool) → is_left g (Central i) (opposite s) ≡ c →
+              HasOuter k r ⊎ (HasAcross k r ⊎ (is_retired b (opposite_end r.end) ≡ true))
+          by true f = inr (inr (left (Central i) s l t f))
+          by false stays = inr (inl (record {
+            word = i;
+            side = s;
+            key = across.0;
+            router = stands.0;
+            here = stands.1;
+            own = own;
+            on = stands.2;
+            unbegun = unbegun (is_begun (g.bypass i)) refl;
+            linked = linked;
+            end = far.end ∙ ap (λ z. side_end g z d.end.side) d.on_link ∙ ap (λ z. side_end g (Central i) z) d.at_side
+                ∙ sym (ap opposite_end own_end);
+            own_end = own_end;
+          }))
+            where
+              stands : (z : Router) × (router_at w across.0 ≡ Some z) × (has_primary (Central i) (opposite s) z ≡ true)
+              stands = passes_tells w across.0 (has_primary (Central i) (opposite s))
+                  (law.stands.central i (opposite s) across.0 linked (unbegun (is_begun (g.bypass i)) refl) stays across.1)
+
+              d : HasEnd stands.0.outward.primary (Central i) (opposite s)
+              d = has_link-tells stands.0.outward.primary (Central i) (opposite s) stands.2
+
+              far : IsRecorded w g across.0 stands.0 d.end
+              far = law.links.primary across.0 stands.0 d.end stands.1 d.there
+
+  whole_inward : (k : Key) (z : Router) (l : LinkId) → router_at w k ≡ Some z → has_inward_primary l A z ≡ true →
+      (is_begun_router z ≡ false) × (is_some z.outward.primary ≡ true)
+  whole_inward k z l here on =
+      let e : HasEnd (inward_edge z).primary l A = has_link-tells (inward_edge z).primary l A on in
+      (grind (arith, e.there), role z (law.shape.role k z here) e.end e.there)
+    where
+      role : (z : Router) → has_role z ≡ true → (e : LinkEnd) → (inward_edge z).primary ≡ Some e → is_some z.outward.primary ≡ true
+      role z h e q = grind (arith, h, q)
+
+  -- no end of a router with an outward primary link has retired: the pair's live link is left by a retired end
+  own_unretired : (n : ℕ) (k : Key) (r : Router) → router_at w k ≡ Some r → is_some r.outward.primary ≡ true → ranked.rank k < n →
+      is_retired b r.end ≡ true → ⊥
+  own_unretired zero k r here has l retired = omega (arith, l)
+  own_unretired (suc n) k r here has l retired =
+      let e = some_is r.outward.primary has in
+      go (outer_router k r e.0 here e.1) (λ q z at primed lower gone. own_unretired n q z at primed lower gone)
+    where
+      go : HasOuter k r ⊎ (HasAcross k r ⊎ (is_retired b (opposite_end r.end) ≡ true)) →
+          ((q : Key) (z : Router) → router_at w q ≡ Some z → is_some z.outward.primary ≡ true → ranked.rank q < n → is_retired b z.end ≡ true → ⊥) → ⊥
+      go (inl h) more = more h.key h.router h.here (whole_inward h.key h.router (Peripheral h.node h.serial) h.here h.on).1
+          (omega (arith, l, h.lower)) (ap (is_retired b) h.end ∙ retired)
+      go (inr (inl h)) more = not_both (is_left g (Central h.word) h.side)
+          (ap (λ (d : End). is_left g (Central h.word) d.side) (sym h.own_end)
+          ∙ law.retired_ends.left r.end h.word retired h.linked h.unbegun (ap (λ (d : End). d.pair) (sym h.own_end)))
+          (not_left w g (Central h.word) h.side k r law.stands (on_tells w b g k r h.word h.side law here h.own).router here)
+      go (inr (inr gone)) more = not_both (is_retired b (opposite_end r.end)) gone (law.retired_ends.peer_stays r.end retired)
 
   -- a proxy that hasn't begun has a router inward
   pub record HasInner (k : Key) (r : Router) : Type 0 where
@@ -142,11 +325,39 @@ module _ (w : World) (b : Books) (g : Records) (law : Inv w b g) (quiet : IsQuie
           live : (g.peripheral p).by ≡ None
           live = sym (bypass_of-inner g p) ∙ ap (bypass_of g) (sym l) ∙ law.positions.inward_primary k r e here on
 
+          stays : is_left g (Peripheral n x) B ≡ false
+          stays = by (is_left g (Peripheral n x) B) refl
+            where
+              by : (c : Bool) → is_left g (Peripheral n x) B ≡ c → c ≡ false
+              by false f = refl
+              by true f = absurd (gone (is_retired b r.end) refl)
+                where
+                  own_end : side_end g (Peripheral n x) B ≡ r.end
+                  own_end = sym (rec.end ∙ ap (λ z. side_end g z e.side) l)
+
+                  all_passed : r.in_queue.current ≡ length (b.put (opposite_end r.end))
+                  all_passed = omega (
+                    arith,
+                    law.gones.in_put k r here,
+                    law.gones.left_inner k r e here on
+                        (ap (λ z. is_left g z (opposite e.side)) l ∙ ap (λ z. is_left g (Peripheral n x) (opposite z)) t ∙ f),
+                  )
+
+                  proxy : (r : Router) (e : LinkEnd) → (inward_edge r).primary ≡ Some e → is_terminal r ≡ false
+                  proxy r e h = grind (arith, h)
+
+                  gone : (c : Bool) → is_retired b r.end ≡ c → ⊥
+                  gone true h = own_unretired (ranked.rank k + 1) k r here (whole_inward k r (Peripheral n x) here own).1 (omega arith) h
+                  gone false h = unsent k r e here on (law.gones.sent_back k r here (proxy r e on) (ap is_some on)
+                      (or_second (is_retired b r.end) (is_retired b (opposite_end r.end))
+                      (ap (λ d. is_retired b d || is_retired b (opposite_end d)) (sym own_end)
+                      ∙ law.retired_ends.left_of (Peripheral n x) B f) h) all_passed)
+
           inner : (q : Key) × (side_router g (Peripheral n x) B ≡ Some q)
           inner = known_side w b g law quiet (Peripheral n x) B recorded
 
           stands : (z : Router) × (router_at w inner.0 ≡ Some z) × (has_primary (Peripheral n x) B z ≡ true)
-          stands = passes_tells w inner.0 (has_primary (Peripheral n x) B) (law.stands.inner p inner.0 recorded live inner.1)
+          stands = passes_tells w inner.0 (has_primary (Peripheral n x) B) (law.stands.inner p inner.0 recorded live stays inner.1)
 
           d : HasEnd stands.0.outward.primary (Peripheral n x) B
           d = has_link-tells stands.0.outward.primary (Peripheral n x) B stands.2
@@ -194,6 +405,30 @@ module _ (w : World) (b : Books) (g : Records) (law : Inv w b g) (quiet : IsQuie
           (has_link h.router.outward.decaying (Peripheral h.node h.serial) B) h.on)
           (ap (λ o. has_passed o m) h.live ∙ has_passed-none m) lacks)
 
+  -- a terminal of an end stands
+  pub record HasTerminal (e : End) : Type 0 where
+    pub key : Key
+    pub router : Router
+    pub here : router_at w key ≡ Some router
+    pub terminal : is_terminal router ≡ true
+    pub end : router.end ≡ e
+
+  -- inward of each router that hasn't begun its terminal stands
+  pub inward_terminal : (n : ℕ) (k : Key) (r : Router) → router_at w k ≡ Some r → is_begun_router r ≡ false →
+      ranked.limit ≤ ranked.rank k + n → HasTerminal r.end
+  inward_terminal zero k r here whole l = absurd (omega (arith, l, ranked.below k r here))
+  inward_terminal (suc n) k r here whole l = go (is_terminal r) (inward_edge r).primary refl refl
+      (λ q z at ready higher end. subst HasTerminal end (inward_terminal n q z at ready higher))
+    where
+      go : (c : Bool) (o : Option LinkEnd) → is_terminal r ≡ c → (inward_edge r).primary ≡ o →
+          ((q : Key) (z : Router) → router_at w q ≡ Some z → is_begun_router z ≡ false → ranked.limit ≤ ranked.rank q + n → z.end ≡ r.end →
+          HasTerminal r.end) → HasTerminal r.end
+      go true o t p more = record { key = k; router = r; here = here; terminal = t; end = refl }
+      go false None t p more = absurd (grind (arith, t, p, whole))
+      go false (Some e) t p more =
+          let h : HasInner k r = inner_router k r e here p in
+          more h.key h.router h.here (not_begun h.key h.router (Peripheral h.node h.serial) B h.here h.on) (omega (arith, l, h.higher)) h.end
+
   -- no router has sent more outward than its terminal was given
   pub outward_given : (n : ℕ) (k : Key) (r : Router) → router_at w k ≡ Some r → is_begun_router r ≡ false →
       ranked.limit ≤ ranked.rank k + n → r.out_queue.current ≤ length (b.put r.end)
@@ -227,145 +462,23 @@ module _ (w : World) (b : Books) (g : Records) (law : Inv w b g) (quiet : IsQuie
             more h.key h.router h.here (not_begun h.key h.router (Peripheral h.node h.serial) B h.here h.on) (omega (arith, l, h.higher)),
           )
 
-  -- what stands across the outward primary link of a router: its proxy, or over a central link the router of the peer's side
-  pub record HasOuter (k : Key) (r : Router) : Type 0 where
-    pub node : ℕ
-    pub serial : ℕ
-    pub key : Key
-    pub router : Router
-    pub here : router_at w key ≡ Some router
-    pub own : has_primary (Peripheral node serial) B r ≡ true
-    pub on : has_inward_primary (Peripheral node serial) A router ≡ true
-    pub live : side_length g (Peripheral node serial) B ≡ None
-    pub end : router.end ≡ r.end
-    pub lower : ranked.rank key < ranked.rank k
-
-  pub record HasAcross (k : Key) (r : Router) : Type 0 where
-    pub word : ℕ
-    pub side : Side
-    pub key : Key
-    pub router : Router
-    pub here : router_at w key ≡ Some router
-    pub own : has_primary (Central word) side r ≡ true
-    pub on : has_primary (Central word) (opposite side) router ≡ true
-    pub unbegun : is_begun (g.bypass word) ≡ false
-    pub linked : is_linked (g.owner word) ≡ true
-    pub end : router.end ≡ opposite_end r.end
-    pub own_end : r.end ≡ end_at (g.central word).pair side
-
-  pub outer_router : (k : Key) (r : Router) (e : LinkEnd) → router_at w k ≡ Some r → r.outward.primary ≡ Some e →
-      HasOuter k r ⊎ HasAcross k r
-  unfolding is_outward side_end bypass_of is_recorded
-  outer_router k r e here on = go e.link e.side refl refl
-    where
-      rec : IsRecorded w g k r e
-      rec = law.links.primary k r e here on
-
-      go : (l : LinkId) (s : Side) → e.link ≡ l → e.side ≡ s → HasOuter k r ⊎ HasAcross k r
-      go (Peripheral n x) A l t = absurd (grind (arith, law.links.primary_outward k r e here on, l, t))
-      go (Peripheral n x) B l t = inl (record {
-        node = n;
-        serial = x;
-        key = proxy.key;
-        router = proxy.router;
-        here = proxy.here;
-        own = own;
-        on = proxy.passed;
-        live = length-none g p B live;
-        end = far.end ∙ ap (λ z. side_end g z d.end.side) d.on_link ∙ sym (rec.end ∙ ap (λ z. side_end g z e.side) l);
-        lower = ranked.rises proxy.key k proxy.router r n x proxy.here here
-            (or_left (has_link (inward_edge proxy.router).primary (Peripheral n x) A)
-            (has_link (inward_edge proxy.router).decaying (Peripheral n x) A)
-            proxy.passed)
-            (or_left (has_link r.outward.primary (Peripheral n x) B) (has_link r.outward.decaying (Peripheral n x) B) own);
-      })
-        where
-          p : Key
-          p = record { node = n; serial = x }
-
-          own : has_primary (Peripheral n x) B r ≡ true
-          own = ap (λ o. has_link o (Peripheral n x) B) on ∙ has_link-some e (Peripheral n x) B l t
-
-          recorded : is_recorded w g (Peripheral n x) ≡ true
-          recorded = subst (λ z. is_recorded w g z ≡ true) l rec.recorded
-
-          live : (g.peripheral p).by ≡ None
-          live = sym (bypass_of-inner g p) ∙ ap (bypass_of g) (sym l) ∙ primary_live w b g law quiet k r e here on
-
-          proxy : Passes w (side_router g (Peripheral n x) A) (has_inward_primary (Peripheral n x) A)
-          proxy = passes-tells w (side_router g (Peripheral n x) A) (has_inward_primary (Peripheral n x) A)
-              (law.stands.proxy p recorded live)
-
-          d : HasEnd (inward_edge proxy.router).primary (Peripheral n x) A
-          d = has_link-tells (inward_edge proxy.router).primary (Peripheral n x) A proxy.passed
-
-          far : IsRecorded w g proxy.key proxy.router d.end
-          far = law.links.inward_primary proxy.key proxy.router d.end proxy.here d.there
-      go (Central i) s l t = inr (record {
-        word = i;
-        side = s;
-        key = across.0;
-        router = stands.0;
-        here = stands.1;
-        own = own;
-        on = stands.2;
-        unbegun = unbegun (is_begun (g.bypass i)) refl;
-        linked = linked;
-        end = far.end ∙ ap (λ z. side_end g z d.end.side) d.on_link ∙ ap (λ z. side_end g (Central i) z) d.at_side
-            ∙ sym (ap opposite_end own_end);
-        own_end = own_end;
-      })
-        where
-          own : has_primary (Central i) s r ≡ true
-          own = ap (λ o. has_link o (Central i) s) on ∙ has_link-some e (Central i) s l t
-
-          own_end : r.end ≡ end_at (g.central i).pair s
-          own_end = rec.end ∙ ap (λ z. side_end g z e.side) l ∙ ap (λ z. side_end g (Central i) z) t
-
-          recorded : is_recorded w g (Central i) ≡ true
-          recorded = subst (λ z. is_recorded w g z ≡ true) l rec.recorded
-
-          linked : is_linked (g.owner i) ≡ true
-          linked = recorded
-
-          unbegun : (c : Bool) → is_begun (g.bypass i) ≡ c → is_begun (g.bypass i) ≡ false
-          unbegun false f = f
-          unbegun true f = absurd (omega (arith, settled w b g law quiet i f, law.positions.primary_old k r e i here on l f))
-
-          across : (q : Key) × (side_router g (Central i) (opposite s) ≡ Some q)
-          across = known_side w b g law quiet (Central i) (opposite s) recorded
-
-          stands : (z : Router) × (router_at w across.0 ≡ Some z) × (has_primary (Central i) (opposite s) z ≡ true)
-          stands = passes_tells w across.0 (has_primary (Central i) (opposite s))
-              (law.stands.central i (opposite s) across.0 linked (unbegun (is_begun (g.bypass i)) refl) across.1)
-
-          d : HasEnd stands.0.outward.primary (Central i) (opposite s)
-          d = has_link-tells stands.0.outward.primary (Central i) (opposite s) stands.2
-
-          far : IsRecorded w g across.0 stands.0 d.end
-          far = law.links.primary across.0 stands.0 d.end stands.1 d.there
-
-  whole_inward : (k : Key) (z : Router) (l : LinkId) → router_at w k ≡ Some z → has_inward_primary l A z ≡ true →
-      (is_begun_router z ≡ false) × (is_some z.outward.primary ≡ true)
-  whole_inward k z l here on =
-      let e : HasEnd (inward_edge z).primary l A = has_link-tells (inward_edge z).primary l A on in
-      (grind (arith, e.there), role z (law.shape.role k z here) e.end e.there)
-    where
-      role : (z : Router) → has_role z ≡ true → (e : LinkEnd) → (inward_edge z).primary ≡ Some e → is_some z.outward.primary ≡ true
-      role z h e q = grind (arith, h, q)
-
-  -- what the out queue of a router lacks the peer's terminal lacks
+  -- what the out queue of a router lacks the peer's terminal lacks, or the peer's sink has retired
   pub outward_lacks : (n : ℕ) (k : Key) (r : Router) (m : ℕ) → router_at w k ≡ Some r → is_some r.outward.primary ≡ true →
-      ranked.rank k < n → Lacks r.out_queue m → IsLacked w (opposite_end r.end) m
+      ranked.rank k < n → Lacks r.out_queue m →
+      IsLacked w (opposite_end r.end) m ⊎ (is_retired b (opposite_end r.end) ≡ true)
   unfolding is_attached sending_queue fed_queue
   outward_lacks zero k r m here has l lacks = absurd (omega (arith, l))
   outward_lacks (suc n) k r m here has l lacks =
       let e = some_is r.outward.primary has in
       go (outer_router k r e.0 here e.1)
-      (λ q z at primed lower end less. subst (λ d. IsLacked w (opposite_end d) m) end (outward_lacks n q z m at primed lower less))
+      (λ q z at primed lower end less. subst (λ d. IsLacked w (opposite_end d) m ⊎ (is_retired b (opposite_end d) ≡ true)) end
+      (outward_lacks n q z m at primed lower less))
     where
-      go : HasOuter k r ⊎ HasAcross k r → ((q : Key) (z : Router) → router_at w q ≡ Some z → is_some z.outward.primary ≡ true →
-          ranked.rank q < n → z.end ≡ r.end → Lacks z.out_queue m → IsLacked w (opposite_end r.end) m) → IsLacked w (opposite_end r.end) m
+      go : HasOuter k r ⊎ (HasAcross k r ⊎ (is_retired b (opposite_end r.end) ≡ true)) →
+          ((q : Key) (z : Router) → router_at w q ≡ Some z → is_some z.outward.primary ≡ true → ranked.rank q < n → z.end ≡ r.end →
+          Lacks z.out_queue m → IsLacked w (opposite_end r.end) m ⊎ (is_retired b (opposite_end r.end) ≡ true)) →
+          IsLacked w (opposite_end r.end) m ⊎ (is_retired b (opposite_end r.end) ≡ true)
+      go (inr (inr gone)) more = inr gone
       go (inl h) more =
           more h.key h.router h.here (whole_inward h.key h.router (Peripheral h.node h.serial) h.here h.on).1
           (omega (arith, l, h.lower)) h.end
@@ -375,14 +488,14 @@ module _ (w : World) (b : Books) (g : Records) (law : Inv w b g) (quiet : IsQuie
           (or_left (has_link (inward_edge h.router).primary (Peripheral h.node h.serial) A)
           (has_link (inward_edge h.router).decaying (Peripheral h.node h.serial) A) h.on)
           (ap (λ o. has_passed o m) h.live ∙ has_passed-none m) lacks)
-      go (inr h) more = subst (λ d. IsLacked w d m) h.end (inward_lacks ranked.limit h.key h.router m h.here
+      go (inr (inl h)) more = inl (subst (λ d. IsLacked w d m) h.end (inward_lacks ranked.limit h.key h.router m h.here
           (not_begun h.key h.router (Central h.word) (opposite h.side) h.here h.on) (omega arith)
           (hop (Central h.word) (opposite h.side) k h.key r h.router m here h.here
           (subst (λ s. outward_has r (Central h.word) s ≡ true) (sym (opposite-twice h.side))
           (or_left (has_link r.outward.primary (Central h.word) h.side) (has_link r.outward.decaying (Central h.word) h.side) h.own))
           (or_left (has_link h.router.outward.primary (Central h.word) (opposite h.side))
           (has_link h.router.outward.decaying (Central h.word) (opposite h.side)) h.on)
-          (ap (λ o. has_passed o m) (length-live g h.word (opposite (opposite h.side)) h.unbegun) ∙ has_passed-none m) lacks))
+          (ap (λ o. has_passed o m) (length-live g h.word (opposite (opposite h.side)) h.unbegun) ∙ has_passed-none m) lacks)))
 
   -- a proxy that has begun a bypass
   pub record HasBegun (k : Key) (r : Router) : Type 0 where

@@ -1,4 +1,5 @@
 -- The words that a node names are words of the world, and so each of its nodes is sound.
+use Rattle.ipcz_world.specs.Records.{Lost}
 use Rattle.std.specs.Prelude.{◌≡◌, ◌<◌, ℕ, true, false, Some, refl}
 use Rattle.std.proofs.Common.{arith, ap}
 use Rattle.std.proofs.lemmas.Bool.Decides.{nat_tests}
@@ -15,6 +16,7 @@ linked_claimed Unclaimed e = cc
 linked_claimed (Spare k) e = refl
 linked_claimed (Opening n) e = refl
 linked_claimed (Fresh o) e = refl
+linked_claimed Lost e = refl
 linked_claimed Linked e = refl
 
 module _ (w : World) (b : Books) (g : Records) (law : Inv w b g) where

@@ -1,11 +1,15 @@
 -- The law of words, from the invariant.
+use Rattle.ipcz_world.specs.Records.{is_left}
+use Rattle.ipcz_world.proofs.frames.Touching.{either}
+use Rattle.ipcz_world.proofs.facts.Tests.{and_second}
+use Rattle.ipcz_world.specs.Records.{Lost}
 use Rattle.ipcz_world.proofs.Vocabulary.{Records, Owner, Spare, Opening, Fresh, Linked, is_linked, is_begun, is_recorded, side_router}
 use Rattle.ipcz_world.proofs.Vocabulary.{side_end, across_side, Side, A, B, LinkId, Central, Peripheral, LinkEnd, Message, has, same_link}
 use Rattle.ipcz_world.proofs.Vocabulary.{has_link, Router, router_has, inward_edge, World, Key, word_at, router_at, flow, Books}
 use Rattle.ipcz_world.proofs.Vocabulary.{IsUnderWay, under_way, has_primary, IsRecorded, Links, of_bypass, control_weight, Inv}
 use Rattle.ipcz_world.proofs.facts.Lengths.{HasEnd, has_link-tells}
 use Rattle.ipcz_world.specs.Records.{routes_of, Unclaimed}
-use Rattle.std.specs.Prelude.{◌≡◌, ◌⊎◌, ℕ, Bool, true, false, cond, nat_eq, Option, Some, None, refl}
+use Rattle.std.specs.Prelude.{◌≡◌, ◌⊎◌, ◌&&◌, ℕ, Bool, true, false, cond, nat_eq, Option, Some, None, refl}
 use Rattle.std.proofs.Common.{arith, ap, subst, ◌∙◌, sym, inl, inr}
 use Rattle.std.proofs.lemmas.Bool.Decides.{nat_tests}
 use Rattle.std.proofs.lemmas.Option.{same_Some}
@@ -58,6 +62,7 @@ is_link Unclaimed e = cc
 is_link (Spare k) e = cc
 is_link (Opening n) e = cc
 is_link (Fresh o) e = cc
+is_link Lost e = cc
 is_link Linked e = refl
 
 pub under_way-agree : (w : World) (f h : ℕ → ℕ → Message → ℕ) → ((from to i : ℕ) (m : Message) → IsUnderWay w from to i m →
@@ -149,9 +154,18 @@ module _ (w : World) (b : Books) (g : Records) (law : Inv w b g) where
       linked : is_linked (g.owner i) ≡ true
       linked = rw own refl
 
-      stands : (s : Side) (k : Key) → is_begun (g.bypass i) ≡ false → side_router g (Central i) s ≡ Some k → IsOnLink w i
-      stands s k n e =
-          let p : Passes w (Some k) (has_primary (Central i) s) = passes-tells w (Some k) _ (law.stands.central i s k linked n e) in
+      -- a side that was left is one of a word whose lock is held
+      held : (s : Side) → is_left g (Central i) s ≡ true → has (word_at w i).stable A ≡ true
+      held s h = elim (either (is_left g (Central i) A && has (word_at w i).holder A) (is_left g (Central i) B && has (word_at w i).holder B)
+          (law.words.left_held i s h)) [
+            | inl a ↦ law.words.held_stable i A A (and_second (is_left g (Central i) A) (has (word_at w i).holder A) a)
+            | inr a ↦ law.words.held_stable i B A (and_second (is_left g (Central i) B) (has (word_at w i).holder B) a)
+          ]
+
+      stands : (s : Side) (k : Key) → is_begun (g.bypass i) ≡ false → is_left g (Central i) s ≡ false →
+          side_router g (Central i) s ≡ Some k → IsOnLink w i
+      stands s k n l e =
+          let p : Passes w (Some k) (has_primary (Central i) s) = passes-tells w (Some k) _ (law.stands.central i s k linked n l e) in
           record { key = p.key; router = p.router; side = s; here = p.here; on = grind (arith, p.passed) }
 
       -- not both sides are awaited
@@ -164,20 +178,28 @@ module _ (w : World) (b : Books) (g : Records) (law : Inv w b g) where
           apart : (t : Side) → A ≡ t → B ≡ t → ⊥
           apart t x y = cc
 
-      some : (n : is_begun (g.bypass i) ≡ false) (p q : Option ℕ) → (g.central i).router A ≡ p → (g.central i).router B ≡ q → IsOnLink w i
-      some n (Some x) q e f = stands A (record { node = (g.central i).node A; serial = x }) n (rw e refl)
-      some n None (Some x) e f = stands B (record { node = (g.central i).node B; serial = x }) n (rw f refl)
-      some n None None e f = absurd (awaited n (g.central i).born refl e f)
+      some : (n : is_begun (g.bypass i) ≡ false) (a : is_left g (Central i) A ≡ false) (c : is_left g (Central i) B ≡ false)
+          (p q : Option ℕ) → (g.central i).router A ≡ p → (g.central i).router B ≡ q → IsOnLink w i
+      some n a c (Some x) q e f = stands A (record { node = (g.central i).node A; serial = x }) n a (rw e refl)
+      some n a c None (Some x) e f = stands B (record { node = (g.central i).node B; serial = x }) n c (rw f refl)
+      some n a c None None e f = absurd (awaited n (g.central i).born refl e f)
 
       go : (c : Bool) → is_begun (g.bypass i) ≡ c → (has (word_at w i).stable A ≡ true) ⊎ IsOnLink w i
       go true e = inl (law.words.begun_stable i A e)
-      go false e = inr (some e ((g.central i).router A) ((g.central i).router B) refl refl)
+      go false e = on (is_left g (Central i) A) (is_left g (Central i) B) refl refl
+        where
+          on : (a c : Bool) → is_left g (Central i) A ≡ a → is_left g (Central i) B ≡ c →
+              (has (word_at w i).stable A ≡ true) ⊎ IsOnLink w i
+          on true c p q = inl (held A p)
+          on false true p q = inl (held B q)
+          on false false p q = inr (some e p q ((g.central i).router A) ((g.central i).router B) refl refl)
 
   pub word_law : WordLaw w (routes_of g)
   unfolding is_linked side_end
   word_law = record {
     owner = g.owner;
     is_link = λ i. refl;
+    is_lost = λ i. refl;
     unclaimed = λ i l. unclaimed-is (g.owner i) (grind (arith, law.counts.unclaimed i, l, nat_tests));
     claimed = λ i l. grind (arith, law.counts.unclaimed i, l, nat_tests);
     unused = law.words.unused;

@@ -1,15 +1,16 @@
 -- What each act and call of a node leaves of its routers.
-use Rattle.std.specs.Prelude.{◌≡◌, ℕ, Bool, true, false, ◌&&◌, not, nat_lt, if◌then◌else◌}
-use Rattle.std.specs.Prelude.{Option, Some, None, is_some, List, [], ◌∷◌, ◌++◌, slice_get, refl}
+use Rattle.ipcz_router.specs.ActEffects.{leaves_by}
+use Rattle.std.specs.Prelude.{◌≡◌, ◌⊎◌, nat_eq, length, ℕ, Bool, true, false, ◌&&◌, not, nat_lt, if◌then◌else◌}
+use Rattle.std.specs.Prelude.{Option, Some, None, is_some, is_none, option_map, List, [], ◌∷◌, ◌++◌, slice_get, refl}
 use Rattle.std.proofs.Common.{arith, ap, sym, ◌∙◌, subst, inl, inr}
 use Rattle.std.proofs.lemmas.Bool.Decides.{nat_tests}
 use Rattle.std.proofs.lemmas.Bool.{or_left}
 use Rattle.std.proofs.lemmas.Option.{same_Some}
+use Rattle.std.specs.Ordering.{nat_cmp}
 use Rattle.ipcz_world.proofs.facts.Tests.{false-true, or_second}
 use Rattle.ipcz_world.proofs.Vocabulary.{Side, A, B, End, LinkId, Central, Peripheral, LinkEnd, Descriptor, Item, Message, is_central}
 use Rattle.ipcz_world.proofs.Vocabulary.{has_link}
 use Rattle.ipcz_world.proofs.Vocabulary.{word_of, place_at, Edge, Router, inward_edge, primary_word, from_descriptor, bypass_peer}
-use Rattle.ipcz_world.proofs.Vocabulary.{is_terminal}
 use Rattle.ipcz_world.proofs.Vocabulary.{is_possible, output_of, RouterAct, Close, Node, Found, router_in, with_router, terminal_of, commit}
 use Rattle.ipcz_world.proofs.Vocabulary.{World, answer_of}
 use Rattle.ipcz_base.specs.declared.parcel.Parcel as parcels
@@ -22,6 +23,13 @@ use Rattle.ipcz_router.specs.Closing.{close_router}
 use Rattle.ipcz_router.specs.Bypass.{accept_message, accept_bypass, stop_proxying, proxy_will_stop, stop_message, will_stop_message}
 use Rattle.ipcz_router.specs.Bypass.{fits_bypass_peer, fits_accept_bypass}
 use Rattle.ipcz_router.specs.ActTable.{is_rest, may_take}
+use Rattle.std.specs.FinMap.{entries, find, get-entries, len, len-entries}
+use Rattle.ipcz_seq.specs.Queue.{Queue, current_item, is_drained}
+use Rattle.ipcz_router.specs.Acts.{drop_item}
+use Rattle.ipcz_router.specs.ActTable.{is_done}
+use Rattle.ipcz_router.specs.Router.{is_open_terminal, router_has, is_proxy}
+use Rattle.ipcz_node.specs.Node.{is_terminal_of}
+use Rattle.ipcz_world.proofs.owed.Following.{IsReadyProxy, able-tells}
 use Rattle.ipcz_router.specs.ActEffects.{apply}
 use Rattle.ipcz_router.specs.declared.act.RouterAct.TheVariants as acts
 use Rattle.ipcz_router.specs.declared.act.Answer.{Answer}
@@ -57,36 +65,32 @@ unfoldable pub is_begin : RouterAct → Bool
 is_begin acts.Begin = true
 is_begin other = false
 
--- whether an act is leave
-unfoldable pub is_leave : RouterAct → Bool
-is_leave acts.Leave = true
-is_leave other = false
-
 -- an act on a word leaves the links
 pub record HasSameEdges (x y : Router) : Type 0 where
   pub outward : y.outward ≡ x.outward
   pub inward : y.inward ≡ x.inward
+  pub end : y.end ≡ x.end
 
 same-edges : (r : Router) (act : RouterAct) (a : Answer) → is_wordy act ≡ true → HasSameEdges r (apply r act a)
 unfolding apply is_wordy
-same-edges r acts.Mark answers.Plain h = record { outward = refl; inward = refl }
-same-edges r acts.Mark (answers.Claimed i) h = record { outward = refl; inward = refl }
-same-edges r acts.Mark answers.NoWord h = record { outward = refl; inward = refl }
-same-edges r acts.Mark (answers.Marked w was) h = record { outward = refl; inward = refl }
-same-edges r acts.Mark (answers.Word w) h = record { outward = refl; inward = refl }
-same-edges r acts.Mark (answers.Locked w) h = record { outward = refl; inward = refl }
-same-edges r acts.Mark (answers.Waiting w) h = record { outward = refl; inward = refl }
-same-edges r acts.Mark (answers.Refused w) h = record { outward = refl; inward = refl }
-same-edges r acts.Lock answers.Plain h = record { outward = refl; inward = refl }
-same-edges r acts.Lock (answers.Claimed i) h = record { outward = refl; inward = refl }
-same-edges r acts.Lock answers.NoWord h = record { outward = refl; inward = refl }
-same-edges r acts.Lock (answers.Marked w was) h = record { outward = refl; inward = refl }
-same-edges r acts.Lock (answers.Word w) h = record { outward = refl; inward = refl }
-same-edges r acts.Lock (answers.Locked w) h = record { outward = refl; inward = refl }
-same-edges r acts.Lock (answers.Waiting w) h = record { outward = refl; inward = refl }
-same-edges r acts.Lock (answers.Refused w) h = record { outward = refl; inward = refl }
-same-edges r acts.Wake a h = record { outward = refl; inward = refl }
-same-edges r acts.Unlock a h = record { outward = refl; inward = refl }
+same-edges r acts.Mark answers.Plain h = record { outward = refl; inward = refl; end = refl }
+same-edges r acts.Mark (answers.Claimed i) h = record { outward = refl; inward = refl; end = refl }
+same-edges r acts.Mark answers.NoWord h = record { outward = refl; inward = refl; end = refl }
+same-edges r acts.Mark (answers.Marked w was) h = record { outward = refl; inward = refl; end = refl }
+same-edges r acts.Mark (answers.Word w) h = record { outward = refl; inward = refl; end = refl }
+same-edges r acts.Mark (answers.Locked w) h = record { outward = refl; inward = refl; end = refl }
+same-edges r acts.Mark (answers.Waiting w) h = record { outward = refl; inward = refl; end = refl }
+same-edges r acts.Mark (answers.Refused w) h = record { outward = refl; inward = refl; end = refl }
+same-edges r acts.Lock answers.Plain h = record { outward = refl; inward = refl; end = refl }
+same-edges r acts.Lock (answers.Claimed i) h = record { outward = refl; inward = refl; end = refl }
+same-edges r acts.Lock answers.NoWord h = record { outward = refl; inward = refl; end = refl }
+same-edges r acts.Lock (answers.Marked w was) h = record { outward = refl; inward = refl; end = refl }
+same-edges r acts.Lock (answers.Word w) h = record { outward = refl; inward = refl; end = refl }
+same-edges r acts.Lock (answers.Locked w) h = record { outward = refl; inward = refl; end = refl }
+same-edges r acts.Lock (answers.Waiting w) h = record { outward = refl; inward = refl; end = refl }
+same-edges r acts.Lock (answers.Refused w) h = record { outward = refl; inward = refl; end = refl }
+same-edges r acts.Wake a h = record { outward = refl; inward = refl; end = refl }
+same-edges r acts.Unlock a h = record { outward = refl; inward = refl; end = refl }
 same-edges r acts.SendOut a h = cc
 same-edges r acts.SendIn a h = cc
 same-edges r acts.Discard a h = cc
@@ -95,6 +99,7 @@ same-edges r acts.FinishIn a h = cc
 same-edges r acts.Leave a h = cc
 same-edges r acts.Claim a h = cc
 same-edges r acts.Begin a h = cc
+same-edges r acts.Retire a h = cc
 same-edges r acts.Rest a h = cc
 
 has-link-same : (o p : Option LinkEnd) (l : LinkId) (s : Side) → o ≡ p → has_link o l s ≡ true → has_link p l s ≡ true
@@ -108,11 +113,51 @@ central-is : (word : ℕ) (s : Side) (other : ℕ) → is_central (central_end w
 unfolding is_central
 central-is word s other = refl
 
+-- a drained queue has no current item
+drained-empty : (q : Queue Item) → is_drained q ≡ true → current_item q ≡ None
+drained-empty q h = get-entries q.items q.current ∙ none (entries q.items) (sym (len-entries q.items) ∙ zero_is (len q.items) h)
+  where
+    zero_is : (n : ℕ) → nat_eq n 0 ≡ true → n ≡ 0
+    zero_is n h = grind (arith, h, nat_tests)
+
+    none : (es : List (ℕ × Item)) → length es ≡ 0 → find nat_cmp q.current es ≡ None
+    none [] e = refl
+    none (x ∷ es) e = cc
+
+-- a sink that is done sends nothing
+done-sends : (r : Router) → is_done r ≡ true → is_possible r acts.SendOut ≡ true → ⊥
+unfolding is_possible
+done-sends r h p = go (drained-empty r.out_queue (grind (arith, h)))
+  where
+    go : current_item r.out_queue ≡ None → ⊥
+    go e = grind (arith, e, p)
+
+-- and stays so where it drops something
+done-drops : (r : Router) → is_done r ≡ true → is_done (drop_item r) ≡ true
+done-drops r h = grind (arith, h)
+
+-- a sink is no proxy
+done-proxy : (r : Router) → is_done r ≡ true → is_proxy r ≡ true → ⊥
+done-proxy r h p = grind (arith, h, p)
+
+-- who has a link, and not outward, is a proxy
+inward-proxy : (r : Router) (l : LinkId) (s : Side) → router_has r l s ≡ true → outward_has r l s ≡ false → is_proxy r ≡ true
+unfolding has_link
+inward-proxy r l s h o = go (or_second (outward_has r l s) (inward_has r l s) h o) r.inward refl
+  where
+    go : inward_has r l s ≡ true → (x : Option Edge) → r.inward ≡ x → is_proxy r ≡ true
+    go q None e = absurd (grind (arith, q, e))
+    go q (Some x) e = grind (arith, e)
+
+-- an open terminal isn't a sink
+open-undone : (r : Router) → is_open_terminal r ≡ true → is_done r ≡ true → ⊥
+open-undone r o h = grind (arith, o, h)
+
 module _ (i : ℕ) (held : Bool) where
   -- all as it was but queues, the flag, and the try forgotten
-  left-alone : (x y : Router) → y.outward ≡ x.outward → y.inward ≡ x.inward → (y.tried ≡ true → x.tried ≡ true) → y.marked ≡ x.marked →
-      y.dry ≡ x.dry → y.spare ≡ x.spare → y.holds ≡ x.holds → y.wake_owed ≡ x.wake_owed → IsLeft i held x y
-  left-alone x y out inn tried marked dry spare holds wake = record {
+  left-alone : (x y : Router) → y.end ≡ x.end → y.outward ≡ x.outward → y.inward ≡ x.inward → (y.tried ≡ true → x.tried ≡ true) → y.marked ≡ x.marked →
+      y.dry ≡ x.dry → y.spare ≡ x.spare → y.holds ≡ x.holds → y.wake_owed ≡ x.wake_owed → (is_done x ≡ true → is_done y ≡ true) → IsLeft i held x y
+  left-alone x y end out inn tried marked dry spare holds wake done = record {
     primary = ap (λ (e : Edge). e.primary) out;
     decaying = λ l s h. has-link-same y.outward.decaying x.outward.decaying l s (ap (λ (e : Edge). e.decaying) out) h;
     inward = λ l s h. subst (λ e. inward_has (record y { inward = e }) l s ≡ true) inn h;
@@ -125,6 +170,8 @@ module _ (i : ℕ) (held : Bool) where
     spare = spare;
     holds = holds;
     wake = wake;
+    end = end;
+    done = done;
   }
 
   -- the outward edge gives up its decaying link
@@ -142,6 +189,8 @@ module _ (i : ℕ) (held : Bool) where
     spare = refl;
     holds = refl;
     wake = refl;
+    end = refl;
+    done = λ h. h;
   }
 
   left-finish_in : (r : Router) → IsLeft i held r (apply r acts.FinishIn answers.Plain)
@@ -164,6 +213,8 @@ module _ (i : ℕ) (held : Bool) where
         spare = refl;
         holds = refl;
         wake = refl;
+        end = refl;
+        done = λ h. grind (arith, e, h);
       }
       go (Some x) e = record {
         primary = refl;
@@ -177,6 +228,8 @@ module _ (i : ℕ) (held : Bool) where
         spare = refl;
         holds = refl;
         wake = refl;
+        end = refl;
+        done = λ h. grind (arith, e, h);
       }
 
   -- both primary links decay
@@ -187,8 +240,14 @@ module _ (i : ℕ) (held : Bool) where
     off = off;
     outward = λ n c h. or_left (has_link r.outward.primary (Peripheral n c) B) (has_link r.outward.decaying (Peripheral n c) B) h;
     inward = λ l s h. inward l s r.inward refl h;
+    end = refl;
+    terminal = λ h. mapped _ r.inward h;
   }
     where
+      mapped : (f : Edge → Edge) (o : Option Edge) → is_none (option_map f o) ≡ true → is_none o ≡ true
+      mapped f None h = refl
+      mapped f (Some x) h = cc
+
       inward : (l : LinkId) (s : Side) (o : Option Edge) → r.inward ≡ o → inward_has (apply r acts.Begin answers.Plain) l s ≡ true →
           inward_has r l s ≡ true
       inward l s None e h = grind (arith, e, h)
@@ -201,6 +260,8 @@ module _ (i : ℕ) (held : Bool) where
     off = λ s on. absurd (apart (on-central i s r on));
     outward = λ n c h. subst (λ e. outward_has (record r { outward = e }) (Peripheral n c) B ≡ true) same.outward h;
     inward = λ l s h. subst (λ e. inward_has (record r { inward = e }) l s ≡ true) same.inward h;
+    end = same.end;
+    terminal = λ h. ap is_none (sym same.inward) ∙ h;
   })
     where
       same : HasSameEdges r (apply r act a)
@@ -222,6 +283,8 @@ module _ (i : ℕ) (held : Bool) where
         owing = λ s free on h. (h, on);
         outward = λ n c h. h;
         inward = λ n c h. inl h;
+        end = refl;
+        terminal = λ h. h;
       }
       go false = record {
         tried = λ s h on. (h, on);
@@ -229,6 +292,8 @@ module _ (i : ℕ) (held : Bool) where
         owing = λ s free on h. (h, on);
         outward = λ n c h. h;
         inward = λ n c h. inl h;
+        end = refl;
+        terminal = λ h. h;
       }
 
   -- a router after an act that it may take
@@ -237,11 +302,13 @@ module _ (i : ℕ) (held : Bool) where
       Follows i held number base r (apply r act (answer_of w r act))
   unfolding is_wordy is_begin apply is_rest
   follows-apply number base w r acts.SendOut may apart begins =
-      follows-left i held number base r _ (left-alone r _ refl refl (λ h. h) refl refl refl refl refl)
+      follows-left i held number base r _ (left-alone r _ refl refl refl (λ h. h) refl refl refl refl refl
+      (λ h. absurd (done-sends r h (may-possible r acts.SendOut refl may))))
   follows-apply number base w r acts.SendIn may apart begins =
-      follows-left i held number base r _ (left-alone r _ refl refl (λ h. h) refl refl refl refl refl)
+      follows-left i held number base r _ (left-alone r _ refl refl refl (λ h. h) refl refl refl refl refl (λ h. h))
   follows-apply number base w r acts.Discard may apart begins =
-      follows-left i held number base r _ (left-alone r _ refl refl (λ h. h) refl refl refl refl refl)
+      follows-left i held number base r _ (left-alone r _ refl refl refl (λ h. h) refl refl refl refl refl (λ h. done-drops r h))
+  follows-apply number base w r acts.Retire may apart begins = follows-itself i held number base r
   follows-apply number base w r acts.FinishOut may apart begins = follows-left i held number base r _ (left-finish_out r)
   follows-apply number base w r acts.FinishIn may apart begins = follows-left i held number base r _ (left-finish_in r)
   follows-apply number base w r acts.Leave may apart begins = follows-itself i held number base r
@@ -254,19 +321,28 @@ module _ (i : ℕ) (held : Bool) where
   follows-apply number base w r acts.Unlock may apart begins =
       follows-wordy number base r acts.Unlock (answer_of w r acts.Unlock) refl (apart refl)
   follows-apply number base w r acts.Rest may apart begins =
-      follows-left i held number base r _ (left-alone r _ refl refl (λ h. h) refl refl refl refl refl)
+      follows-left i held number base r _ (left-alone r _ refl refl refl (λ h. h) refl refl refl refl refl (λ h. h))
 
   -- a router that is moved: no terminal of this word's link could try, and its new link has the next serial
-  follows-extend : (n : Node) (to : ℕ) (r : Router) → is_terminal r ≡ true →
+  follows-extend : (n : Node) (to : ℕ) (r : Router) → is_open_terminal r ≡ true →
       Follows i held n.number n.next_peripheral r (extend r (record { link = next_link n; side = A; other = to }))
-  unfolding is_possible has_link
+  unfolding has_link
   follows-extend n to r t = record {
     tried = λ s h on. cc;
-    able = λ s free on h. absurd (grind (arith, t, h));
+    able = λ s free on h. absurd (unable (able-tells r h).kind);
     owing = λ s free on h. (h, on);
     outward = λ a c h. h;
     inward = λ a c h. inr (grind (arith, nat_tests, h), grind (arith, nat_tests, h));
+    end = refl;
+    terminal = λ h. cc;
   }
+    where
+      unable : IsReadyProxy r ⊎ (is_done r ≡ true) → ⊥
+      unable (inl k) = proxy_not r t k.proxy
+        where
+          proxy_not : (r : Router) → is_open_terminal r ≡ true → is_proxy r ≡ true → ⊥
+          proxy_not r t p = grind (arith, t, p)
+      unable (inr k) = open-undone r t k
 
   move-changes : (n : Node) (m : Transfer) (to : ℕ) (e : End) → Changes i held n m.node →
       Changes i held n (move_found m to (terminal_of m.node e)).node
@@ -277,8 +353,7 @@ module _ (i : ℕ) (held : Bool) where
       go None h = c
       go (Some f) h =
           let t = terminal_tells m.node e f h in
-          changes-else i held n _ _ (changes-with i held n m.node f.serial f.router _ c t.here
-          (follows-extend m.node to f.router t.terminal))
+          changes-else i held n _ _ (changes-with i held n m.node f.serial f.router _ c t.here (follows-extend m.node to f.router (and_first _ _ (found_tells m.node (is_terminal_of e) f h).1)))
           refl refl refl (omega arith) refl
 
   moves-change : (n : Node) (m : Transfer) (to : ℕ) (es : List End) → Changes i held n m.node → Changes i held n (move_ends m to es).node
@@ -293,41 +368,23 @@ module _ (i : ℕ) (held : Bool) where
   send-changes n m (sends.Message to message) c = changes-push i held n m to message c
   send-changes n m (sends.Discarded number item) c = changes-else i held n m _ c refl refl refl (omega arith) refl
 
-  off-leaving : (r : Router) → is_possible r acts.Leave ≡ true → IsOff i held r
-  unfolding is_possible
-  off-leaving r h s on =
-      let e : HasEnd r.outward.primary (Central i) s = has_link-tells r.outward.primary (Central i) s on in
-      absurd (grind (arith, h, e.there))
-
-  keep-changes : (n : Node) (s : ℕ) (r y : Router) (act : RouterAct) → router_in n s ≡ Some r → may_take r act ≡ true →
-      Follows i held n.number n.next_peripheral r y → Changes i held n (keep_or_drop n s y act)
-  unfolding keep_or_drop is_rest
-  keep-changes n s r y acts.Leave here may f = changes-without i held n s r here (off-leaving r (may-possible r acts.Leave refl may))
-  keep-changes n s r y acts.SendOut here may f = changes-with i held n n s r y (changes-itself i held n) here f
-  keep-changes n s r y acts.SendIn here may f = changes-with i held n n s r y (changes-itself i held n) here f
-  keep-changes n s r y acts.Discard here may f = changes-with i held n n s r y (changes-itself i held n) here f
-  keep-changes n s r y acts.FinishOut here may f = changes-with i held n n s r y (changes-itself i held n) here f
-  keep-changes n s r y acts.FinishIn here may f = changes-with i held n n s r y (changes-itself i held n) here f
-  keep-changes n s r y acts.Mark here may f = changes-with i held n n s r y (changes-itself i held n) here f
-  keep-changes n s r y acts.Wake here may f = changes-with i held n n s r y (changes-itself i held n) here f
-  keep-changes n s r y acts.Claim here may f = changes-with i held n n s r y (changes-itself i held n) here f
-  keep-changes n s r y acts.Lock here may f = changes-with i held n n s r y (changes-itself i held n) here f
-  keep-changes n s r y acts.Begin here may f = changes-with i held n n s r y (changes-itself i held n) here f
-  keep-changes n s r y acts.Unlock here may f = changes-with i held n n s r y (changes-itself i held n) here f
-  keep-changes n s r y acts.Rest here may f = changes-with i held n n s r y (changes-itself i held n) here f
+  keep-changes : (n : Node) (s : ℕ) (r y : Router) (c : Bool) → router_in n s ≡ Some r → (c ≡ true → IsOff i held r) →
+      Follows i held n.number n.next_peripheral r y → Changes i held n (keep_or_drop n s y c)
+  unfolding keep_or_drop
+  keep-changes n s r y true here leaves f = changes-without i held n s r here (leaves refl)
+  keep-changes n s r y false here leaves f = changes-with i held n n s r y (changes-itself i held n) here f
 
   -- an act of a router
   pub act-changes : (w : World) (n : Node) (s : ℕ) (act : RouterAct) (r : Router) → router_in n s ≡ Some r → may_take r act ≡ true →
-      (is_wordy act ≡ true → primary_word r ≡ Some i → ⊥) → (is_begin act ≡ true → IsOff i held r) →
-      Changes i held n (commit n (OfRouter s act) (answer_of w r act))
+      (is_wordy act ≡ true → primary_word r ≡ Some i → ⊥) → (is_begin act ≡ true → IsOff i held r) → (leaves_by r act ≡ true → IsOff i held r) → Changes i held n (commit n (OfRouter s act) (answer_of w r act))
   unfolding commit on_router commit_router
-  act-changes w n s act r here may apart begins = go (router_in n s) refl
+  act-changes w n s act r here may apart begins leaves = go (router_in n s) refl
     where
       go : (o : Option Router) → router_in n s ≡ o → Changes i held n (on_router n o (commit_router n s act (answer_of w r act)))
       go None e = changes-itself i held n
       go (Some q) e = let z : r ≡ q = same_Some r q (sym here ∙ e) in
-          send-changes n _ (output_of q act) (subst (λ x. Changes i held n (keep_or_drop n s (apply x act (answer_of w r act)) act)) z
-          (keep-changes n s r (apply r act (answer_of w r act)) act here may
+          send-changes n _ (output_of q act) (subst (λ x. Changes i held n (keep_or_drop n s (apply x act (answer_of w r act)) (leaves_by x act))) z
+          (keep-changes n s r (apply r act (answer_of w r act)) (leaves_by r act) here leaves
           (follows-apply n.number n.next_peripheral w r act may apart begins)))
 
   -- a router at a call, or which is told something: the try may be forgotten
@@ -335,9 +392,9 @@ module _ (i : ℕ) (held : Bool) where
   told-changes n s r y here is = changes-with i held n n s r y (changes-itself i held n) here
       (follows-left i held n.number n.next_peripheral r y is)
 
-  roused : (r y : Router) → y.outward ≡ r.outward → y.inward ≡ r.inward → y.tried ≡ false → y.marked ≡ r.marked → y.dry ≡ r.dry →
-      y.spare ≡ r.spare → y.holds ≡ r.holds → y.wake_owed ≡ r.wake_owed → IsLeft i held r y
-  roused r y a b tried c d e f g = left-alone r y a b (λ h. false-true (sym tried ∙ h)) c d e f g
+  roused : (r y : Router) → y.end ≡ r.end → y.outward ≡ r.outward → y.inward ≡ r.inward → y.tried ≡ false → y.marked ≡ r.marked → y.dry ≡ r.dry →
+      y.spare ≡ r.spare → y.holds ≡ r.holds → y.wake_owed ≡ r.wake_owed → (is_done r ≡ true → is_done y ≡ true) → IsLeft i held r y
+  roused r y end a b tried c d e f g done = left-alone r y end a b (λ h. false-true (sym tried ∙ h)) c d e f g done
 
   -- calls
   pub put-changes : (n : Node) (e : End) (p : parcels.Parcel) → Changes i held n (put_node n e p)
@@ -347,7 +404,8 @@ module _ (i : ℕ) (held : Bool) where
       go : (o : Option Found) → terminal_of n e ≡ o → Changes i held n (on_found n o (put_at_router n p))
       go None h = changes-itself i held n
       go (Some f) h = changes-else i held n _ _ (told-changes n f.serial f.router (put_item f.router (Parcel p)) (found_tells n _ f h).0
-          (roused f.router _ refl refl refl refl refl refl refl refl)) refl refl refl (omega arith) refl
+          (roused f.router _ refl refl refl refl refl refl refl refl refl
+          (λ d. absurd (open-undone f.router (and_first _ _ (found_tells n (is_terminal_of e) f h).1) d)))) refl refl refl (omega arith) refl
 
   pub get-changes : (n : Node) (e : End) → Changes i held n (get_node n e)
   unfolding on_found
@@ -356,7 +414,8 @@ module _ (i : ℕ) (held : Bool) where
       go : (o : Option Found) → terminal_of n e ≡ o → Changes i held n (on_found n o (get_at_router n))
       go None h = changes-itself i held n
       go (Some f) h = changes-else i held n _ _ (told-changes n f.serial f.router (take_item f.router) (found_tells n _ f h).0
-          (left-alone f.router _ refl refl (λ h. h) refl refl refl refl refl)) refl refl refl (omega arith) refl
+          (left-alone f.router _ refl refl refl (λ h. h) refl refl refl refl refl
+          (λ d. absurd (open-undone f.router (and_first _ _ (found_tells n (is_terminal_of e) f h).1) d)))) refl refl refl (omega arith) refl
 
   close_end-changes : (n : Node) (e : End) → Changes i held n (close_end n e)
   unfolding on_found
@@ -365,7 +424,8 @@ module _ (i : ℕ) (held : Bool) where
       go : (o : Option Found) → terminal_of n e ≡ o → Changes i held n (on_found n o (close_at_router n))
       go None h = changes-itself i held n
       go (Some f) h = told-changes n f.serial f.router (close_router f.router) (found_tells n _ f h).0
-          (roused f.router _ refl refl refl refl refl refl refl refl)
+          (roused f.router _ refl refl refl refl refl refl refl refl refl
+          (λ d. absurd (open-undone f.router (and_first _ _ (found_tells n (is_terminal_of e) f h).1) d)))
 
   -- from a node that differs in what doesn't count
   from-else : (n m o : Node) → Changes i held m o → m.routers ≡ n.routers → m.outboxes ≡ n.outboxes → m.next_router ≡ n.next_router →
@@ -395,7 +455,7 @@ module _ (i : ℕ) (held : Bool) where
 
   -- a pair is opened
   new-is : (pair : ℕ) (side : Side) (other : ℕ) → IsNew (new_end pair side other)
-  new-is pair side other = record { untried = refl; terminal = refl }
+  new-is pair side other = record { untried = refl; terminal = refl; unclosed = refl }
 
   goes-else : (n m o : Node) → Goes i held n m → o.routers ≡ m.routers → o.outboxes ≡ m.outboxes → o.next_router ≡ m.next_router →
       o.next_peripheral ≡ m.next_peripheral → o.number ≡ m.number → Goes i held n o
@@ -429,12 +489,13 @@ module _ (i : ℕ) (held : Bool) where
   make-goes : (n m : Node) (sender : ℕ) (ds : List Descriptor) → Goes i held n m → IsCounted n → Goes i held n (make_terminals m sender ds)
   make-goes n m sender [] c counted = c
   make-goes n m sender (d ∷ ds) c counted = make-goes n (add_router m (from_descriptor d sender)) sender ds
-      (goes-add i held n m (from_descriptor d sender) c counted (record { untried = refl; terminal = refl })) counted
+      (goes-add i held n m (from_descriptor d sender) c counted (record { untried = refl; terminal = refl; unclosed = refl })) counted
 
-  accept-left : (r : Router) (from_outward : Bool) (n : ℕ) (item : Item) → IsLeft i held r (accept r from_outward n item)
+  accept-left : (r : Router) (from_outward : Bool) (n : ℕ) (item : Item) → (from_outward ≡ false → is_proxy r ≡ true) →
+      IsLeft i held r (accept r from_outward n item)
   unfolding accept
-  accept-left r true n item = roused r _ refl refl refl refl refl refl refl refl
-  accept-left r false n item = roused r _ refl refl refl refl refl refl refl refl
+  accept-left r true n item p = roused r _ refl refl refl refl refl refl refl refl refl (λ h. h)
+  accept-left r false n item p = roused r _ refl refl refl refl refl refl refl refl refl (λ h. absurd (done-proxy r h (p refl)))
 
   -- the link that a message of a bypass takes away is held
   abbrev pub NeedsHeld : Message → Type 0
@@ -442,10 +503,10 @@ module _ (i : ℕ) (held : Bool) where
   NeedsHeld other = Unit {0}
 
   -- the outward primary link becomes a decaying one, for a new central link
-  relinked : (r y : Router) → y.tried ≡ false → y.inward ≡ r.inward → y.outward.decaying ≡ r.outward.primary →
+  relinked : (r y : Router) → y.end ≡ r.end → y.tried ≡ false → y.inward ≡ r.inward → y.outward.decaying ≡ r.outward.primary →
       (p : LinkEnd) → y.outward.primary ≡ Some p → is_central p.link ≡ true → IsOff i held r → IsAside i held r y
   unfolding has_link is_central
-  relinked r y tried inn dec p prim central off = record {
+  relinked r y end tried inn dec p prim central off = record {
     untried = λ s h on. false-true (sym tried ∙ h);
     off = off;
     outward = λ n c h. or_left (has_link r.outward.primary (Peripheral n c) B) (has_link r.outward.decaying (Peripheral n c) B)
@@ -453,6 +514,8 @@ module _ (i : ℕ) (held : Bool) where
         (or_second (has_link y.outward.primary (Peripheral n c) B) (has_link y.outward.decaying (Peripheral n c) B) h (not_primary n c
         (has_link y.outward.primary (Peripheral n c) B) refl)));
     inward = λ l s h. subst (λ e. inward_has (record y { inward = e }) l s ≡ true) inn h;
+    end = end;
+    terminal = λ h. ap is_none (sym inn) ∙ h;
   }
     where
       not_primary : (n c : ℕ) (d : Bool) → has_link y.outward.primary (Peripheral n c) B ≡ d → has_link y.outward.primary
@@ -492,8 +555,14 @@ module _ (i : ℕ) (held : Bool) where
     spare = refl;
     holds = refl;
     wake = refl;
+    end = refl;
+    done = λ h. done o e h;
   }
     where
+      done : (o : Option Edge) → r.inward ≡ o → is_done r ≡ true → is_done (stop_proxying r in_length out_length) ≡ true
+      done None e h = grind (arith, e, h)
+      done (Some x) e h = absurd (grind (arith, e, h))
+
       proxy : (o : Option Edge) → r.inward ≡ o → is_some (stop_proxying r in_length out_length).inward ≡ is_some r.inward
       proxy None e = grind (arith, e)
       proxy (Some x) e = grind (arith, e)
@@ -507,15 +576,15 @@ module _ (i : ℕ) (held : Bool) where
       still None e h = grind (arith, e, h)
       still (Some x) e h = grind (arith, e, h)
 
-  handle-goes : (n : Node) (sender : ℕ) (m : Message) (source : Option ℕ) → IsCounted n → NeedsHeld m → fits n sender m source ≡ true →
-      Goes i held n (handle n sender m)
+  handle-goes : (n : Node) (sender : ℕ) (m : Message) (source : Option ℕ) → IsCounted n → NeedsHeld m → fits n sender m source ≡ true → Goes i held n (handle n sender m)
   unfolding handle on_found fits passes_at
   handle-goes n sender (messages.Item link side number item moves) source counted held_ h = go (link_router n link side) refl
     where
       go : (o : Option Found) → link_router n link side ≡ o → Goes i held n (on_found n o (take_in n sender link side number item moves))
       go None e = goes-by i held n n (changes-itself i held n)
       go (Some f) e = make-goes n _ sender moves (goes-by i held n _ (told-changes n f.serial f.router _ (found_tells n _ f e).0
-          (accept-left f.router (outward_has f.router link side) number item))) counted
+          (accept-left f.router (outward_has f.router link side) number item
+          (λ z. inward-proxy f.router link side (found_tells n _ f e).1 z)))) counted
   handle-goes n sender (messages.BypassPeer link side old target fresh) source counted held_ h = go (link_router n link side) refl
     where
       off : (r : Router) → fits_bypass_peer r link side ≡ true → IsOff i held r
@@ -531,7 +600,7 @@ module _ (i : ℕ) (held : Bool) where
       go (Some f) e = goes-by i held n _ (changes-tell i held n _ (Some (accept_message f.router old target fresh))
           (changes-with i held n n f.serial f.router (bypass_peer f.router target fresh) (changes-itself i held n) (found_tells n _ f e).0
           (follows-aside i held n.number n.next_peripheral f.router _
-          (relinked f.router _ refl refl refl (central_end fresh f.router.end.side target) refl
+          (relinked f.router _ refl refl refl refl (central_end fresh f.router.end.side target) refl
           (central-is fresh f.router.end.side target) (off f.router (fit f e))))))
         where
           fit : (f : Found) → link_router n link side ≡ Some f → fits_bypass_peer f.router link side ≡ true
@@ -546,7 +615,7 @@ module _ (i : ℕ) (held : Bool) where
       go (Some f) e = goes-by i held n _ (changes-tell i held n _ (stop_message f.router f.router.outward.primary old side length)
           (changes-with i held n n f.serial f.router (accept_bypass f.router sender side fresh length) (changes-itself i held n)
           (found_tells n _ f e).0 (follows-aside i held n.number n.next_peripheral f.router _
-          (relinked f.router _ refl refl refl (central_end fresh side sender) refl (central-is fresh side sender) off))))
+          (relinked f.router _ refl refl refl refl (central_end fresh side sender) refl (central-is fresh side sender) off))))
         where
           fit : has_link f.router.outward.primary (Central old) side ≡ true
           fit = and_first _ _ (and_first _ _ (subst
@@ -582,6 +651,8 @@ module _ (i : ℕ) (held : Bool) where
         spare = refl;
         holds = refl;
         wake = refl;
+        end = refl;
+        done = λ h. h;
       }
 
       go : (o : Option Found) → link_router n link side ≡ o → Goes i held n
@@ -594,7 +665,7 @@ module _ (i : ℕ) (held : Bool) where
       go : (o : Option Found) → link_router n link side ≡ o → Goes i held n (on_found n o (λ s r. with_router n s (flushed r)))
       go None e = goes-by i held n n (changes-itself i held n)
       go (Some f) e = goes-by i held n _ (told-changes n f.serial f.router (flushed f.router) (found_tells n _ f e).0
-          (roused f.router _ refl refl refl refl refl refl refl refl))
+          (roused f.router _ refl refl refl refl refl refl refl refl refl (λ h. h)))
 
   -- a message is delivered
   pub deliver-goes : (n : Node) (sender : ℕ) (m : Message) (source : Option ℕ) → IsCounted n → NeedsHeld m → Goes i held n

@@ -1,41 +1,97 @@
 -- What becomes of one router: whether it tries or could try for the lock of a word, and which peripheral links it has.
-use Rattle.std.specs.Prelude.{◌≡◌, ◌⊎◌, ◌≤◌, ℕ, Bool, true, false, Some, is_some, refl}
+use Rattle.std.specs.Prelude.{◌≡◌, not, ◌&&◌, ◌⊎◌, ◌≤◌, ℕ, Bool, true, false, ◌||◌, Some, is_some, refl}
 use Rattle.std.proofs.Common.{arith, ap, sym, ◌∙◌, inl, inr}
 use Rattle.std.proofs.lemmas.Bool.{or_left, or_right}
-use Rattle.ipcz_world.proofs.facts.Tests.{or_second}
 use Rattle.ipcz_world.proofs.Vocabulary.{Side, A, B, LinkId, Central, Peripheral, has_link, word_of, Router, is_possible}
 use Rattle.ipcz_world.proofs.Vocabulary.{primary_word, has_primary}
-use Rattle.ipcz_router.specs.Router.{outward_has, inward_has, is_proxy, decays, is_on_central}
+use Rattle.ipcz_router.specs.Router.{outward_has, inward_has, is_terminal, is_proxy, decays, is_on_central}
 use Rattle.ipcz_router.specs.declared.act.RouterAct.TheVariants as acts
+use Rattle.ipcz_router.specs.ActTable.{is_ready, is_leaving, is_done}
 use Rattle.ipcz_world.proofs.facts.Lengths.{HasEnd, has_link-tells}
 
--- what a try for the lock needs
-pub record IsAble (r : Router) : Type 0 where
+-- a proxy with a spare
+pub record IsReadyProxy (r : Router) : Type 0 where
   pub proxy : is_proxy r ≡ true
+  pub wet : r.dry ≡ false
+  pub spare : is_some r.spare ≡ true
+
+proxy_bools : (p m d y t s x z : Bool) → ((p && (z && (m && (not d && (not y && not t))))) && (s && not x)) ≡ true →
+    (p ≡ true) × (m ≡ true) × (d ≡ false) × (y ≡ false) × (t ≡ false) × (s ≡ true) × (x ≡ false) × (z ≡ true)
+proxy_bools p m d y t s x z h = (
+  grind (arith, h),
+  grind (arith, h),
+  grind (arith, h),
+  grind (arith, h),
+  grind (arith, h),
+  grind (arith, h),
+  grind (arith, h),
+  grind (arith, h),
+)
+
+sink_bools : (p z m d t x : Bool) → ((p && (z && (m && (not d && not t)))) && not x) ≡ true →
+    (p ≡ true) × (z ≡ true) × (m ≡ true) × (d ≡ false) × (t ≡ false) × (x ≡ false)
+sink_bools p z m d t x h = (grind (arith, h), grind (arith, h), grind (arith, h), grind (arith, h), grind (arith, h), grind (arith, h))
+
+-- what a try for the lock needs: of both kinds of routers
+pub record IsAble (r : Router) : Type 0 where
   pub central : is_on_central r ≡ true
   pub marked : r.marked ≡ true
   pub still : decays r ≡ false
-  pub wet : r.dry ≡ false
   pub untried : r.tried ≡ false
-  pub spare : is_some r.spare ≡ true
   pub free : r.holds ≡ false
+  pub kind : IsReadyProxy r ⊎ (is_done r ≡ true)
 
 pub able-tells : (r : Router) → is_possible r acts.Lock ≡ true → IsAble r
 unfolding is_possible
-able-tells r h = record {
-  proxy = grind (arith, h);
-  central = grind (arith, h);
-  marked = grind (arith, h);
-  still = grind (arith, h);
-  wet = grind (arith, h);
-  untried = grind (arith, h);
-  spare = grind (arith, h);
-  free = grind (arith, h);
-}
+able-tells r h = go (is_ready r && (is_some r.spare && not r.holds)) (is_leaving r && not r.holds) h refl refl
+  where
+    go : (a c : Bool) → (a || c) ≡ true → (is_ready r && (is_some r.spare && not r.holds)) ≡ a → (is_leaving r && not r.holds) ≡ c → IsAble r
+    go true c h e f = by_proxy (is_proxy r) r.marked (decays r) r.dry r.tried (is_some r.spare) r.holds (is_on_central r) refl refl refl refl refl refl refl refl e
+      where
+        by_proxy : (p m d y t s x z : Bool) → is_proxy r ≡ p → r.marked ≡ m → decays r ≡ d → r.dry ≡ y → r.tried ≡ t → is_some r.spare ≡ s →
+            r.holds ≡ x → is_on_central r ≡ z → (is_ready r && (is_some r.spare && not r.holds)) ≡ true → IsAble r
+        by_proxy p m d y t s x z ep em ed ey et es ex ez k =
+            let q : ((p && (z && (m && (not d && (not y && not t))))) && (s && not x)) ≡ true = rw (ep, em, ed, ey, et, es, ex, ez) at k in
+            let v = proxy_bools p m d y t s x z q in record {
+              central = ez ∙ v.7;
+              marked = em ∙ v.1;
+              still = ed ∙ v.2;
+              untried = et ∙ v.4;
+              free = ex ∙ v.6;
+              kind = inl (record { proxy = ep ∙ v.0; wet = ey ∙ v.3; spare = es ∙ v.5 });
+            }
+    go false true h e f = by_sink (is_done r) (is_on_central r) r.marked (decays r) r.tried r.holds refl refl refl refl refl refl f
+      where
+        by_sink : (p z m d t x : Bool) → is_done r ≡ p → is_on_central r ≡ z → r.marked ≡ m → decays r ≡ d → r.tried ≡ t → r.holds ≡ x →
+            (is_leaving r && not r.holds) ≡ true → IsAble r
+        by_sink p z m d t x ep ez em ed et ex k =
+            let q : ((p && (z && (m && (not d && not t)))) && not x) ≡ true = rw (ep, ez, em, ed, et, ex) at k in
+            let v = sink_bools p z m d t x q in record {
+              central = ez ∙ v.1;
+              marked = em ∙ v.2;
+              still = ed ∙ v.3;
+              untried = et ∙ v.4;
+              free = ex ∙ v.5;
+              kind = inr (ep ∙ v.0);
+            }
+    go false false h e f = cc
 
 pub able-is : (r : Router) → IsAble r → is_possible r acts.Lock ≡ true
 unfolding is_possible
-able-is r is = grind (arith, is.proxy, is.central, is.marked, is.still, is.wet, is.untried, is.spare, is.free)
+able-is r is = elim is.kind [
+  | inl k ↦ or_left (is_ready r && (is_some r.spare && not r.holds)) (is_leaving r && not r.holds) (proxy_is (is_proxy r) r.marked (decays r) r.dry
+      r.tried (is_some r.spare) r.holds (is_on_central r) k.proxy is.marked is.still k.wet is.untried k.spare is.free is.central)
+  | inr k ↦ or_right (is_ready r && (is_some r.spare && not r.holds)) (is_leaving r && not r.holds) (sink_is (is_done r) (is_on_central r) r.marked
+      (decays r) r.tried r.holds k is.central is.marked is.still is.untried is.free)
+]
+  where
+    proxy_is : (p m d y t s x z : Bool) → p ≡ true → m ≡ true → d ≡ false → y ≡ false → t ≡ false → s ≡ true → x ≡ false → z ≡ true →
+        ((p && (z && (m && (not d && (not y && not t))))) && (s && not x)) ≡ true
+    proxy_is p m d y t s x z a e f h i j k l = rw (a, e, f, h, i, j, k, l) refl
+
+    sink_is : (p z m d t x : Bool) → p ≡ true → z ≡ true → m ≡ true → d ≡ false → t ≡ false → x ≡ false →
+        ((p && (z && (m && (not d && not t)))) && not x) ≡ true
+    sink_is p z m d t x a e f h i j = rw (a, e, f, h, i, j) refl
 
 -- a router on a word's link is on a central one
 pub on-central : (i : ℕ) (s : Side) (r : Router) → has_primary (Central i) s r ≡ true → primary_word r ≡ Some i
@@ -60,6 +116,9 @@ pub record Follows (i : ℕ) (held : Bool) (number base : ℕ) (x y : Router) : 
   pub outward : (n c : ℕ) → outward_has y (Peripheral n c) B ≡ true → outward_has x (Peripheral n c) B ≡ true
   pub inward : (n c : ℕ) → inward_has y (Peripheral n c) A ≡ true →
       (inward_has x (Peripheral n c) A ≡ true) ⊎ ((n ≡ number) × (base ≤ c))
+  -- it stays of its end, and who is a terminal was one
+  pub end : y.end ≡ x.end
+  pub terminal : is_terminal y ≡ true → is_terminal x ≡ true
 
 module _ (i : ℕ) (held : Bool) where
   pub follows-itself : (number base : ℕ) (x : Router) → Follows i held number base x x
@@ -69,6 +128,8 @@ module _ (i : ℕ) (held : Bool) where
     owing = λ s free on h. (h, on);
     outward = λ n c h. h;
     inward = λ n c h. inl h;
+    end = refl;
+    terminal = λ h. h;
   }
 
   pub follows-after : (number base later : ℕ) (x y z : Router) → base ≤ later → Follows i held number base x y →
@@ -82,6 +143,8 @@ module _ (i : ℕ) (held : Bool) where
       | inl a ↦ p.inward n c a
       | inr a ↦ inr (a.0, omega (arith, l, a.1))
     ];
+    end = q.end ∙ p.end;
+    terminal = λ h. p.terminal (q.terminal h);
   }
 
   -- queues and the flag change, the try may be forgotten, and decaying links may be given up or get lengths
@@ -97,6 +160,9 @@ module _ (i : ℕ) (held : Bool) where
     pub spare : y.spare ≡ x.spare
     pub holds : y.holds ≡ x.holds
     pub wake : y.wake_owed ≡ x.wake_owed
+    pub end : y.end ≡ x.end
+    -- a sink that is done stays so
+    pub done : is_done x ≡ true → is_done y ≡ true
 
   pub on-kept : (x y : Router) (s : Side) → y.outward.primary ≡ x.outward.primary → has_primary (Central i) s y ≡ has_primary
       (Central i) s x
@@ -109,6 +175,8 @@ module _ (i : ℕ) (held : Bool) where
     owing = λ s free on h. (is.wake ∙ h, on-kept x y s is.primary ∙ on);
     outward = λ n c h. outward n c h;
     inward = λ n c h. inl (is.inward (Peripheral n c) A h);
+    end = is.end;
+    terminal = λ h. ap not (sym is.proxy) ∙ h;
   }
     where
       untried : x.tried ≡ false → (c : Bool) → y.tried ≡ c → y.tried ≡ false
@@ -117,14 +185,15 @@ module _ (i : ℕ) (held : Bool) where
 
       still : IsAble x → IsAble y
       still a = record {
-        proxy = is.proxy ∙ a.proxy;
         central = ap (λ p. is_some (word_of p)) is.primary ∙ a.central;
         marked = is.marked ∙ a.marked;
         still = is.still a.still;
-        wet = is.dry ∙ a.wet;
         untried = untried a.untried y.tried refl;
-        spare = ap is_some is.spare ∙ a.spare;
         free = is.holds ∙ a.free;
+        kind = elim a.kind [
+          | inl k ↦ inl (record { proxy = is.proxy ∙ k.proxy; wet = is.dry ∙ k.wet; spare = ap is_some is.spare ∙ k.spare })
+          | inr k ↦ inr (is.done k)
+        ];
       }
 
       outward : (n c : ℕ) → outward_has y (Peripheral n c) B ≡ true → outward_has x (Peripheral n c) B ≡ true
@@ -134,8 +203,12 @@ module _ (i : ℕ) (held : Bool) where
           go true e = or_left (has_link x.outward.primary (Peripheral n c) B) (has_link x.outward.decaying (Peripheral n c) B)
               (ap (λ p. has_link p (Peripheral n c) B) (sym is.primary) ∙ e)
           go false e = or_right (has_link x.outward.primary (Peripheral n c) B) (has_link x.outward.decaying (Peripheral n c) B)
-              (is.decaying (Peripheral n c) B (or_second (has_link y.outward.primary (Peripheral n c) B)
+              (is.decaying (Peripheral n c) B (second (has_link y.outward.primary (Peripheral n c) B)
               (has_link y.outward.decaying (Peripheral n c) B) h e))
+            where
+              second : (p q : Bool) → (p || q) ≡ true → p ≡ false → q ≡ true
+              second true q a b = cc
+              second false q a b = a
 
   -- a router whose part in this word's link doesn't count: it tries there no more, and it wasn't on the link, or the word is held
   pub record IsAside (x y : Router) : Type 0 where
@@ -143,6 +216,8 @@ module _ (i : ℕ) (held : Bool) where
     pub off : (s : Side) → has_primary (Central i) s x ≡ true → held ≡ true
     pub outward : (n c : ℕ) → outward_has y (Peripheral n c) B ≡ true → outward_has x (Peripheral n c) B ≡ true
     pub inward : (l : LinkId) (s : Side) → inward_has y l s ≡ true → inward_has x l s ≡ true
+    pub end : y.end ≡ x.end
+    pub terminal : is_terminal y ≡ true → is_terminal x ≡ true
 
   pub follows-aside : (number base : ℕ) (x y : Router) → IsAside x y → Follows i held number base x y
   follows-aside number base x y is = record {
@@ -151,4 +226,6 @@ module _ (i : ℕ) (held : Bool) where
     owing = λ s free on h. absurd (grind (arith, is.off s on, free));
     outward = is.outward;
     inward = λ n c h. inl (is.inward (Peripheral n c) A h);
+    end = is.end;
+    terminal = is.terminal;
   }

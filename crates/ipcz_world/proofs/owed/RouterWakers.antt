@@ -33,11 +33,13 @@ use Rattle.ipcz_world.proofs.frames.Frames.{node-set_node, node-set_word, node-s
 use Rattle.ipcz_world.proofs.frames.Frames.{word-set_node, word-set_word, word-set_claimed, router-set_word, router-set_router}
 use Rattle.ipcz_world.proofs.frames.Frames.{count-set_node, count-set_word}
 use Rattle.ipcz_world.proofs.lawful.LinkLaws.{link_law}
+use Rattle.ipcz_world.proofs.owed.Departures.{leaving_held}
+use Rattle.ipcz_router.specs.ActEffects.{leaves_by}
 use Rattle.ipcz_world.proofs.owed.Following.{able-tells}
 use Rattle.ipcz_world.proofs.owed.Going.{IsOff, Changes, goes-by}
 use Rattle.ipcz_world.proofs.owed.Acting.{is_wordy, is_begin, act-changes}
 use Rattle.ipcz_world.proofs.owed.Moving.{Stays, Never, stays-node}
-use Rattle.ipcz_world.proofs.owed.Tracking.{tracks-node, KeepsFlush, HaveWakersOn, wakers-tracked, ranked-tracked, held-is}
+use Rattle.ipcz_world.proofs.owed.Tracking.{Came, came-tracked, tracks-node, KeepsFlush, HaveWakersOn, wakers-tracked, ranked-tracked, held-is}
 use Rattle.ipcz_world.proofs.owed.WordWakers.{IsOnWord, wakers-mark, wakers-locked, wakers-waits, wakers-refused, wakers-unlock}
 use Rattle.ipcz_world.proofs.owed.WordWakers.{wakers-wake}
 use Rattle.ipcz_world.specs.World.{has_unclaimed_word}
@@ -70,6 +72,7 @@ node-touch w r acts.Wake j = node-touch_word w r.end.side (source_of r) acts.Wak
 node-touch w r acts.Claim j = node-claim_next w j
 node-touch w r acts.Lock j = node-touch_word w r.end.side (source_of r) acts.Lock (primary_word r) j
 node-touch w r acts.Begin j = refl
+node-touch w r acts.Retire j = refl
 node-touch w r acts.Unlock j = node-touch_word w r.end.side (source_of r) acts.Unlock (primary_word r) j
 node-touch w r acts.Rest j = refl
 
@@ -99,6 +102,7 @@ mail-touch w r acts.Wake j = mail-touch_word w r.end.side (source_of r) acts.Wak
 mail-touch w r acts.Claim j = mail-claim_next w j
 mail-touch w r acts.Lock j = mail-touch_word w r.end.side (source_of r) acts.Lock (primary_word r) j
 mail-touch w r acts.Begin j = refl
+mail-touch w r acts.Retire j = refl
 mail-touch w r acts.Unlock j = mail-touch_word w r.end.side (source_of r) acts.Unlock (primary_word r) j
 mail-touch w r acts.Rest j = refl
 
@@ -138,6 +142,7 @@ word-touch w r acts.Wake i apart = word-touch_word w r.end.side (source_of r) ac
 word-touch w r acts.Claim i apart = word-claim_next w i
 word-touch w r acts.Lock i apart = word-touch_word w r.end.side (source_of r) acts.Lock (primary_word r) i (apart refl)
 word-touch w r acts.Begin i apart = refl
+word-touch w r acts.Retire i apart = refl
 word-touch w r acts.Unlock i apart = word-touch_word w r.end.side (source_of r) acts.Unlock (primary_word r) i (apart refl)
 word-touch w r acts.Rest i apart = refl
 
@@ -191,6 +196,7 @@ begin_holds r acts.Discard may h = cc
 begin_holds r acts.FinishOut may h = cc
 begin_holds r acts.FinishIn may h = cc
 begin_holds r acts.Leave may h = cc
+begin_holds r acts.Retire may h = cc
 begin_holds r acts.Mark may h = cc
 begin_holds r acts.Wake may h = cc
 begin_holds r acts.Claim may h = cc
@@ -235,9 +241,15 @@ module _ (w : World) (b : Books) (g : Records) (law : Inv w b g) (flags : FlagsA
       holds : (a : RouterAct) → act ≡ a → is_begin a ≡ true → r.holds ≡ true
       holds a q h = begin_holds r a (subst (λ z. may_take r z ≡ true) q may) h
 
+  leaves : (i : ℕ) → leaves_by r act ≡ true → IsOff i (is_held (word_at w i)) r
+  leaves i e side on = elim (leaving_held w b g law k r act here may e i side on) [
+    | inl h ↦ held-is (word_at w i) side h
+    | inr h ↦ held-is (word_at w i) (opposite side) h
+  ]
+
   changes : (i : ℕ) → (is_wordy act ≡ true → primary_word r ≡ Some i → ⊥) →
       Changes i (is_held (word_at w i)) (node_at w n) x
-  changes i apart = act-changes i (is_held (word_at w i)) w (node_at w n) s act r inside may apart (begins i)
+  changes i apart = act-changes i (is_held (word_at w i)) w (node_at w n) s act r inside may apart (begins i) (leaves i)
 
   -- the word of another link
   elsewhere : (o : Option ℕ) → primary_word r ≡ o → (i : ℕ) × (primary_word r ≡ Some i → ⊥)
@@ -254,6 +266,11 @@ module _ (w : World) (b : Books) (g : Records) (law : Inv w b g) (flags : FlagsA
   ranked-router ranked = let t = elsewhere (primary_word r) refl in
       ranked-tracked w v b g t.0 (is_held (word_at w t.0)) law (tracks-node t.0 (is_held (word_at w t.0)) w v n x nodes
       (goes-by t.0 (is_held (word_at w t.0)) (node_at w n) x (changes t.0 (λ h. t.1)))) ranked
+
+  pub came-router : Came w v
+  came-router = let t = elsewhere (primary_word r) refl in
+      came-tracked t.0 (is_held (word_at w t.0)) w v (tracks-node t.0 (is_held (word_at w t.0)) w v n x nodes
+      (goes-by t.0 (is_held (word_at w t.0)) (node_at w n) x (changes t.0 (λ h. t.1))))
 
   keeps : (i : ℕ) → KeepsFlush i w v
   keeps i q z side at tried on f = elim (stays f.from q.node f.place (messages.Flush (Central i) side) f.under_way) [
@@ -424,6 +441,7 @@ wakers-router w b g law flags wakers n s act r here may i = go (primary_word r) 
     own link acts.Leave e = other acts.Leave e refl
     own link acts.Claim e = other acts.Claim e refl
     own link acts.Begin e = other acts.Begin e refl
+    own link acts.Retire e = other acts.Retire e refl
     own link acts.Rest e = other acts.Rest e refl
 
     go : (o : Option ℕ) → primary_word r ≡ o → HaveWakersOn i (after_act w n (OfRouter s act))

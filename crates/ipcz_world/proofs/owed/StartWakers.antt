@@ -32,7 +32,7 @@ new-ends n pair side other law s r at = go (nat_eq s n.next_router) refl
 
     go : (c : Bool) → nat_eq s n.next_router ≡ c → IsNew r
     go true e = subst IsNew (same_Some y r (grind (arith, e, get-insert nat_cmp_total n.routers n.next_router y s, at, nat_tests)))
-        (record { untried = refl; terminal = refl })
+        (record { untried = refl; terminal = refl; unclosed = refl })
     go false e = law s r (grind (arith, e, get-insert nat_cmp_total n.routers n.next_router y s, at, nat_tests))
 
 new-pairs : (n : Node) (pair : ℕ) (ps : List (ℕ × ℕ)) → AreNew n → AreNew (add_pairs n pair ps)

@@ -51,8 +51,8 @@ use Rattle.ipcz_world.proofs.owed.Going.{IsCounted, Goes, Changes, goes-by, chan
 use Rattle.ipcz_world.proofs.owed.Acting.{NeedsHeld, deliver-goes, put-changes, get-changes, close-changes, pending-changes, open-goes}
 use Rattle.ipcz_world.proofs.owed.Moving.{Stays, Never, Handed, stays-node, stays-look, stays-post, stays-hand}
 use Rattle.ipcz_world.proofs.owed.Tracking.{Tracks, tracks-node, tracks-same, KeepsFlush, HaveWakersOn, wakers-tracked, ranked-tracked}
-use Rattle.ipcz_world.proofs.owed.Tracking.{held-is}
-use Rattle.ipcz_world.proofs.owed.RouterWakers.{wakers-router, ranked-router}
+use Rattle.ipcz_world.proofs.owed.Tracking.{held-is, Came, came-tracked}
+use Rattle.ipcz_world.proofs.owed.RouterWakers.{wakers-router, ranked-router, came-router}
 use Rattle.ipcz_world.specs.World.{has_unclaimed_word}
 use Rattle.ipcz_node.specs.Hands.{flushed}
 
@@ -80,6 +80,16 @@ below : (a b : ℕ) (c : Bool) → (nat_lt a b && c) ≡ true → a < b
 below a b c h = grind (arith, h, nat_tests)
 
 module _ (w : World) (b : Books) (g : Records) (law : Inv w b g) (flags : FlagsAgree w) (is : IsOwing w) where
+  -- what a step leaves: what is owed, and where terminals come from: those of the same ends, or they are new and open
+  pub record Owes (v : World) : Type 0 where
+    pub wakers : HaveWakers v
+    pub ranked : IsRanked v
+    pub came : Came w v
+
+  -- nothing changes
+  same : Owes w
+  same = record { wakers = is.wakers; ranked = is.ranked; came = λ k y here t. inl (y, here, refl, t) }
+
   counted : (n : ℕ) → IsCounted (node_at w n)
   unfolding router_at
   counted n s x at = law.counts.serial (record { node = n; serial = s }) x at
@@ -93,39 +103,40 @@ module _ (w : World) (b : Books) (g : Records) (law : Inv w b g) (flags : FlagsA
   -- one node changes
   by_node : (v : World) (n : ℕ) (x : Node) → ((j : ℕ) → node_at v j ≡ cond (nat_eq j n) x (node_at w j)) →
       ((i : ℕ) → word_at v i ≡ word_at w i) → ((i : ℕ) → Goes i (is_held (word_at w i)) (node_at w n) x) →
-      ((i : ℕ) → KeepsFlush i w v) → IsOwing v
+      ((i : ℕ) → KeepsFlush i w v) → Owes v
   by_node v n x nodes words goes keeps = record {
     wakers = λ i. wakers-tracked i w v b g law flags (tracks-node i (is_held (word_at w i)) w v n x nodes (goes i)) (words i) (keeps i)
         (is.wakers i);
     ranked = ranked-tracked w v b g 0 (is_held (word_at w 0)) law (tracks-node 0 (is_held (word_at w 0)) w v n x nodes (goes 0)) is.ranked;
+    came = came-tracked 0 (is_held (word_at w 0)) w v (tracks-node 0 (is_held (word_at w 0)) w v n x nodes (goes 0));
   }
 
   -- at a call
-  by_call : (n : ℕ) (x : Node) → ((i : ℕ) → Changes i (is_held (word_at w i)) (node_at w n) x) → IsOwing (set_node w n x)
+  by_call : (n : ℕ) (x : Node) → ((i : ℕ) → Changes i (is_held (word_at w i)) (node_at w n) x) → Owes (set_node w n x)
   by_call n x changes = by_node (set_node w n x) n x (node-set_node w n x) (word-set_node w n x)
       (λ i. goes-by i (is_held (word_at w i)) (node_at w n) x (changes i))
       (λ i. keeps-by i (set_node w n x) (stays-node w (set_node w n x) n x (count-set_node w n x) (node-set_node w n x)
       (mail-set_node w n x)
       (changes 0).boxes))
 
-  put_owing : (n : ℕ) (e : End) (p : parcels.Parcel) → IsOwing (set_node w n (put_node (node_at w n) e p))
+  put_owing : (n : ℕ) (e : End) (p : parcels.Parcel) → Owes (set_node w n (put_node (node_at w n) e p))
   put_owing n e p = by_call n _ (λ i. put-changes i (is_held (word_at w i)) (node_at w n) e p)
 
-  get_owing : (n : ℕ) (e : End) → IsOwing (set_node w n (get_node (node_at w n) e))
+  get_owing : (n : ℕ) (e : End) → Owes (set_node w n (get_node (node_at w n) e))
   get_owing n e = by_call n _ (λ i. get-changes i (is_held (word_at w i)) (node_at w n) e)
 
-  close_owing : (n : ℕ) (e : End) → IsOwing (set_node w n (close_node (node_at w n) e))
+  close_owing : (n : ℕ) (e : End) → Owes (set_node w n (close_node (node_at w n) e))
   close_owing n e = by_call n _ (λ i. close-changes i (is_held (word_at w i)) (node_at w n) e)
 
-  pending_owing : (n : ℕ) (e : End) (a : Answer) → IsOwing (set_node w n (commit (node_at w n) (Close e) a))
+  pending_owing : (n : ℕ) (e : End) (a : Answer) → Owes (set_node w n (commit (node_at w n) (Close e) a))
   pending_owing n e a = by_call n _ (λ i. pending-changes i (is_held (word_at w i)) (node_at w n) e a)
 
   -- a pair is opened on a word that is no link's
   open_owing : (counted_world : World) (n i : ℕ) → ((j : ℕ) → node_at counted_world j ≡ node_at w j) →
       ((j : ℕ) → word_at counted_world j ≡ word_at w j) → ((j : ℕ) → mail_at counted_world j ≡ mail_at w j) →
       counted_world.count ≡ w.count → is_linked (g.owner i) ≡ false →
-      IsOwing (set_word (set_node counted_world n (open_node (node_at w n) i)) i open_word)
-  open_owing u n i nodes_are words_are mails_are count_is unlinked = record { wakers = wakers; ranked = ranked }
+      Owes (set_word (set_node counted_world n (open_node (node_at w n) i)) i open_word)
+  open_owing u n i nodes_are words_are mails_are count_is unlinked = record { wakers = wakers; ranked = ranked; came = came-tracked 0 (is_held (word_at w 0)) w v (tracks 0) }
     where
       x : Node
       x = open_node (node_at w n) i
@@ -165,7 +176,7 @@ module _ (w : World) (b : Books) (g : Records) (law : Inv w b g) (flags : FlagsA
             | inr t ↦ false-true (sym t.1.untried ∙ tried)
           ]
 
-  claim_owing : (n : ℕ) → IsOwing (claim_for_open w n)
+  claim_owing : (n : ℕ) → Owes (claim_for_open w n)
   claim_owing n = by_node (claim_for_open w n) n x (λ j. node-set_claimed u (w.claimed + 1) j ∙ node-set_node w n x j)
       (λ i. word-set_claimed u (w.claimed + 1) i ∙ word-set_node w n x i)
       (λ i. goes-by i (is_held (word_at w i)) (node_at w n) x (same i)) (λ i. keeps-by i (claim_for_open w n) stays)
@@ -256,7 +267,7 @@ module _ (w : World) (b : Books) (g : Records) (law : Inv w b g) (flags : FlagsA
         untried : flushed f.0.router ≡ z → ⊥
         untried e = false-true (ap (λ a. a.tried) e ∙ tried)
 
-    hand_owing : IsOwing v
+    hand_owing : Owes v
     hand_owing = by_node v n x nodes (λ i. word-set_mail (set_node w n x) (way w from n) mails.Empty i ∙ word-set_node w n x i) goes keeps
       where
         keeps : (i : ℕ) → KeepsFlush i w v
@@ -268,8 +279,8 @@ module _ (w : World) (b : Books) (g : Records) (law : Inv w b g) (flags : FlagsA
           ]
         ]
 
-  look_owing : (n from : ℕ) (m : Message) → n < w.count → mail_at w (way w from n) ≡ mails.Full m → IsOwing (after_act w n (Look from))
-  look_owing n from m ln full = subst IsOwing (sym (acted-look w n from m full)) (by_node v n x
+  look_owing : (n from : ℕ) (m : Message) → n < w.count → mail_at w (way w from n) ≡ mails.Full m → Owes (after_act w n (Look from))
+  look_owing n from m ln full = subst Owes (sym (acted-look w n from m full)) (by_node v n x
       (λ j. node-set_mail (set_node w n x) (way w from n) (mails.Hand m) j ∙ node-set_node w n x j)
       (λ i. word-set_mail (set_node w n x) (way w from n) (mails.Hand m) i ∙ word-set_node w n x i)
       (λ i. goes-by i (is_held (word_at w i)) (node_at w n) x (changes-else i (is_held (word_at w i)) (node_at w n) (node_at w n) x
@@ -283,13 +294,14 @@ module _ (w : World) (b : Books) (g : Records) (law : Inv w b g) (flags : FlagsA
       v = set_mail (set_node w n x) (way w from n) (mails.Hand m)
 
   post_owing : (n to : ℕ) (m : Message) (rest : List Message) → to < w.count → outbox (node_at w n) to ≡ m ∷ rest →
-      mail_at w (way w n to) ≡ mails.Empty → IsOwing (after_act w n (Post to))
+      mail_at w (way w n to) ≡ mails.Empty → Owes (after_act w n (Post to))
   unfolding router_at
-  post_owing n to m rest lt waits clear = subst IsOwing (sym (acted-post w n to m rest waits)) (record {
-    wakers = λ i. wakers-tracked i w v b g law flags (tracks-same i (is_held (word_at w i)) w v same)
+  post_owing n to m rest lt waits clear = subst Owes (sym (acted-post w n to m rest waits)) (record {
+    wakers = λ i. wakers-tracked i w v b g law flags (tracks-same i (is_held (word_at w i)) w v same_routers)
         (word-set_mail (set_node w n x) (way w n to) (mails.Full m) i ∙ word-set_node w n x i)
         (keeps-by i v (stays-post w n to m rest lt waits clear)) (is.wakers i);
-    ranked = ranked-tracked w v b g 0 true law (tracks-same 0 true w v same) is.ranked;
+    ranked = ranked-tracked w v b g 0 true law (tracks-same 0 true w v same_routers) is.ranked;
+    came = came-tracked 0 true w v (tracks-same 0 true w v same_routers);
   })
     where
       x : Node
@@ -298,8 +310,8 @@ module _ (w : World) (b : Books) (g : Records) (law : Inv w b g) (flags : FlagsA
       v : World
       v = set_mail (set_node w n x) (way w n to) (mails.Full m)
 
-      same : (k : Key) → router_in (node_at v k.node) k.serial ≡ router_in (node_at w k.node) k.serial
-      same k = ap (λ a. router_in a k.serial) (node-set_mail (set_node w n x) (way w n to) (mails.Full m) k.node
+      same_routers : (k : Key) → router_in (node_at v k.node) k.serial ≡ router_in (node_at w k.node) k.serial
+      same_routers k = ap (λ a. router_in a k.serial) (node-set_mail (set_node w n x) (way w n to) (mails.Full m) k.node
           ∙ node-set_node w n x k.node)
           ∙ go (nat_eq k.node n) refl
         where
@@ -309,17 +321,17 @@ module _ (w : World) (b : Books) (g : Records) (law : Inv w b g) (flags : FlagsA
           go false e = refl
 
   -- any act that a turn may take
-  pub act_owing : (n : ℕ) (act : Act) → n < w.count → can_take w n act ≡ true → IsOwing (after_act w n act)
+  pub act_owing : (n : ℕ) (act : Act) → n < w.count → can_take w n act ≡ true → Owes (after_act w n act)
   unfolding can_take may_act after_act after_hand hand_message is_full is_clear commit
   act_owing n (Hand from) l can =
       let t = and_parts (is_hand_of (node_at w n).hand from) (is_some (hand_message (mail_at w (way w from n)))) can in
       let m = hand_tells (mail_at w (way w from n)) t.1 in
       let hand : (node_at w n).hand ≡ Some from = hand-is (node_at w n).hand from t.0 in
       let is : IsInHand w n from m.0 = record { node = l; sender = law.counts.hand_from n from l hand; mail = m.1; hand = hand } in
-      subst (λ y. IsOwing (after_hand w n from (hand_message y))) (sym m.1) (hand_owing n from m.0 is)
+      subst (λ y. Owes (after_hand w n from (hand_message y))) (sym m.1) (hand_owing n from m.0 is)
   act_owing n (Look from) l can = at (node_at w n).hand (mail_at w (way w from n)) refl refl
     where
-      at : (h : Option ℕ) (y : Mail) → (node_at w n).hand ≡ h → mail_at w (way w from n) ≡ y → IsOwing (after_act w n (Look from))
+      at : (h : Option ℕ) (y : Mail) → (node_at w n).hand ≡ h → mail_at w (way w from n) ≡ y → Owes (after_act w n (Look from))
       at (Some p) y e f = absurd (grind (arith, can, e))
       at None mails.Empty e f = absurd (grind (arith, can, e, f))
       at None (mails.Hand m) e f = absurd (grind (arith, can, e, f))
@@ -329,7 +341,7 @@ module _ (w : World) (b : Books) (g : Records) (law : Inv w b g) (flags : FlagsA
       lt : to < w.count
       lt = below to w.count _ can
 
-      at : (ms : List Message) (y : Mail) → outbox (node_at w n) to ≡ ms → mail_at w (way w n to) ≡ y → IsOwing (after_act w n (Post to))
+      at : (ms : List Message) (y : Mail) → outbox (node_at w n) to ≡ ms → mail_at w (way w n to) ≡ y → Owes (after_act w n (Post to))
       at [] y e f = absurd (grind (arith, can, ap (λ ms. nat_eq (length ms) 0) e))
       at (m ∷ rest) (mails.Full k) e f = absurd (grind (arith, can, f))
       at (m ∷ rest) (mails.Hand k) e f = absurd (grind (arith, can, f))
@@ -338,60 +350,70 @@ module _ (w : World) (b : Books) (g : Records) (law : Inv w b g) (flags : FlagsA
   act_owing n (OfRouter s act) l can = go (router_at w (record { node = n; serial = s })) refl can
     where
       go : (o : Option Router) → router_at w (record { node = n; serial = s }) ≡ o → may_act o act ≡ true →
-          IsOwing (after_act w n (OfRouter s act))
+          Owes (after_act w n (OfRouter s act))
       go None e h = cc
       go (Some r) e h = record {
         wakers = wakers-router w b g law flags is.wakers n s act r e h;
         ranked = ranked-router w b g law flags n s act r e h is.ranked;
+        came = came-router w b g law flags n s act r e h;
       }
-  act_owing n Idle l can = is
+  act_owing n Idle l can = same
 
   -- a refusal leaves the world
-  unless_owing : (o : Option Refusal) (done : Effect) → (o ≡ None → IsOwing done.world) → IsOwing (unless w o done).world
+  unless_owing : (o : Option Refusal) (done : Effect) → (o ≡ None → Owes done.world) → Owes (unless w o done).world
   unfolding unless
   unless_owing None done after = after refl
-  unless_owing (Some why) done after = is
+  unless_owing (Some why) done after = same
 
-  node_owing : (n : ℕ) (done : Effect) → (n < w.count → IsOwing done.world) → IsOwing (at_node w n done).world
+  node_owing : (n : ℕ) (done : Effect) → (n < w.count → Owes done.world) → Owes (at_node w n done).world
   node_owing n done after = go (nat_lt n w.count) refl
     where
-      go : (c : Bool) → nat_lt n w.count ≡ c → IsOwing (if c then done else refuse w refusals.Stranger).world
+      go : (c : Bool) → nat_lt n w.count ≡ c → Owes (if c then done else refuse w refusals.Stranger).world
       go true e = after (grind (arith, e, nat_tests))
-      go false e = is
+      go false e = same
 
-  opened_owing : (n : ℕ) (o : Option ℕ) → (node_at w n).opening ≡ o → IsOwing (open_on w n o).world
+  opened_owing : (n : ℕ) (o : Option ℕ) → (node_at w n).opening ≡ o → Owes (open_on w n o).world
   unfolding open_on is_linked
   opened_owing n (Some i) e = unless_owing (serials_refusal (node_at w n)) _ (λ h. open_owing w n i (λ j. refl) (λ j. refl) (λ j. refl) refl
       (ap is_linked (law.spares.opening n i e)))
   opened_owing n None e = go (has_unclaimed_word w)
     where
-      go : (c : Bool) → IsOwing (if c then open_with w (set_claimed w (w.claimed + 1)) n w.claimed else refuse w refusals.NoWord).world
+      go : (c : Bool) → Owes (if c then open_with w (set_claimed w (w.claimed + 1)) n w.claimed else refuse w refusals.NoWord).world
       go true = unless_owing (serials_refusal (node_at w n)) _ (λ h. open_owing (set_claimed w (w.claimed + 1)) n w.claimed
           (node-set_claimed w (w.claimed + 1)) (word-set_claimed w (w.claimed + 1)) (mail-set_claimed w (w.claimed + 1))
           (count-set_claimed w (w.claimed + 1)) (next_not_linked w b g law))
-      go false = is
+      go false = same
 
-  given_owing : (v : World) (done : Effect) (reply : Reply) → IsOwing done.world → GivesOrNoMemory w done reply v → IsOwing v
-  given_owing v done reply after (inl h) = subst IsOwing (sym h.1) after
-  given_owing v done reply after (inr (fine, (e, f))) = subst IsOwing (sym f) is
+  given_owing : (v : World) (done : Effect) (reply : Reply) → Owes done.world → GivesOrNoMemory w done reply v → Owes v
+  given_owing v done reply after (inl h) = subst Owes (sym h.1) after
+  given_owing v done reply after (inr (fine, (e, f))) = subst Owes (sym f) same
 
   -- any step
-  pub step_owing : (v : World) (step : Step) (reply : Reply) → StepAny w step reply v → IsOwing v
-  step_owing v (steps.Open n) reply h = given_owing v (open_step w n) reply
+  step_owes : (v : World) (step : Step) (reply : Reply) → StepAny w step reply v → Owes v
+  step_owes v (steps.Open n) reply h = given_owing v (open_step w n) reply
       (node_owing n _ (λ l. opened_owing n (node_at w n).opening refl)) h
-  step_owing v (steps.Put n at bytes ends) reply (inr (l, (e, f))) = subst IsOwing (sym f) is
-  step_owing v (steps.Put n at bytes ends) reply (inl h) =
-      subst IsOwing (sym h.1) (node_owing n _ (λ l. unless_owing (put_refusal (node_at w n) at bytes ends) _
+  step_owes v (steps.Put n at bytes ends) reply (inr (l, (e, f))) = subst Owes (sym f) same
+  step_owes v (steps.Put n at bytes ends) reply (inl h) =
+      subst Owes (sym h.1) (node_owing n _ (λ l. unless_owing (put_refusal (node_at w n) at bytes ends) _
       (λ e. put_owing n at (record { bytes = bytes; ends = ends }))))
-  step_owing v (steps.Get n at) reply h = subst IsOwing (sym h.1)
+  step_owes v (steps.Get n at) reply h = subst Owes (sym h.1)
       (node_owing n _ (λ l. unless_owing (get_refusal (node_at w n) at) _ (λ e. get_owing n at)))
-  step_owing v (steps.Close n at) reply h = given_owing v (close_step w n at) reply
+  step_owes v (steps.Close n at) reply h = given_owing v (close_step w n at) reply
       (node_owing n _ (λ l. unless_owing (close_refusal (node_at w n) at) _ (λ e. close_owing n at))) h
-  step_owing v (steps.Turn n) reply (act, may, inr (grows, own, fine, (e, f))) = subst IsOwing (sym f) is
-  step_owing v (steps.Turn n) reply (act, may, inl (e, f)) =
-      subst IsOwing (sym f) (node_owing n _ (λ l. unless_owing (if turn_lacks_serials w n act then Some refusals.NumbersEnd else None) _
+  step_owes v (steps.Turn n) reply (act, may, inr (grows, own, fine, (e, f))) = subst Owes (sym f) same
+  step_owes v (steps.Turn n) reply (act, may, inl (e, f)) =
+      subst Owes (sym f) (node_owing n _ (λ l. unless_owing (if turn_lacks_serials w n act then Some refusals.NumbersEnd else None) _
       (λ e. act_owing n act l (may l))))
+
+  pub step_owing : (v : World) (step : Step) (reply : Reply) → StepAny w step reply v → IsOwing v
+  step_owing v step reply s = let o = step_owes v step reply s in record { wakers = o.wakers; ranked = o.ranked }
+
+  pub step_came : (v : World) (step : Step) (reply : Reply) → StepAny w step reply v → Came w v
+  step_came v step reply s = (step_owes v step reply s).came
 
   -- the first half of an open
   pub claim_for_open_owing : (n : ℕ) → IsOwing (claim_for_open w n)
-  claim_for_open_owing n = claim_owing n
+  claim_for_open_owing n = let o = claim_owing n in record { wakers = o.wakers; ranked = o.ranked }
+
+  pub claim_for_open_came : (n : ℕ) → Came w (claim_for_open w n)
+  claim_for_open_came n = (claim_owing n).came

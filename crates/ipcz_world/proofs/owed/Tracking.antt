@@ -25,6 +25,17 @@ pub record Tracks (i : ℕ) (held : Bool) (w v : World) : Type 0 where
       ((y : Router) × (router_at v k ≡ Some y) × Follows i held (node_at w k.node).number (node_at w k.node).next_peripheral x y)
       ⊎ IsOff i held x
 
+-- each terminal of a world was one of the same end in the world before, or it is new and open
+abbrev pub Came : World → World → Type 0
+Came w v = (k : Key) (y : Router) → router_at v k ≡ Some y → is_terminal y ≡ true →
+    ((x : Router) × (router_at w k ≡ Some x) × (y.end ≡ x.end) × (is_terminal x ≡ true)) ⊎ (y.closed ≡ false)
+
+pub came-tracked : (i : ℕ) (held : Bool) (w v : World) → Tracks i held w v → Came w v
+came-tracked i held w v tracks k y at t = elim (tracks.routers k y at) [
+  | inl o ↦ inl (o.0, o.1, o.2.end, o.2.terminal t)
+  | inr new ↦ inr new.1.unclosed
+]
+
 pub tracks-node : (i : ℕ) (held : Bool) (w v : World) (n : ℕ) (x : Node) → ((j : ℕ) → node_at v j ≡ cond (nat_eq j n) x (node_at w j)) →
     Goes i held (node_at w n) x → Tracks i held w v
 unfolding router_at

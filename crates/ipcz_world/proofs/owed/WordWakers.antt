@@ -1,5 +1,5 @@
 -- Acts on a word leave a waker to who has tried on its link: mark, lock, unlock and wake.
-use Rattle.std.specs.Prelude.{◌≡◌, ◌⊎◌, ℕ, Bool, true, false, ◌||◌, not, cond, if◌then◌else◌, Option, Some, None, is_some, refl}
+use Rattle.std.specs.Prelude.{◌≡◌, ◌⊎◌, ◌&&◌, ℕ, Bool, true, false, ◌||◌, not, cond, if◌then◌else◌, Option, Some, None, is_some, refl}
 use Rattle.std.proofs.Common.{arith, ap, sym, ◌∙◌, subst, inl, inr}
 use Rattle.std.proofs.lemmas.Option.{same_Some, none-some}
 use Rattle.ipcz_world.proofs.Vocabulary.{Side, A, B, LinkId, Central, Peripheral, LinkEnd, has, opposite, Router, is_possible}
@@ -19,6 +19,9 @@ use Rattle.ipcz_world.proofs.lawful.LinkLaws.{link_law, on_tells}
 use Rattle.ipcz_world.proofs.facts.Lengths.{HasEnd, has_link-tells, side_is, has_link-some}
 use Rattle.ipcz_world.proofs.frames.Frames.{same_key_tells}
 use Rattle.ipcz_world.proofs.owed.Following.{IsAble, able-tells, able-is}
+use Rattle.ipcz_world.proofs.owed.Following.{IsReadyProxy}
+use Rattle.ipcz_router.specs.ActTable.{is_done}
+use Rattle.ipcz_router.specs.Router.{is_proxy, decays, is_on_central}
 use Rattle.ipcz_world.proofs.owed.Moving.{Stays, Never}
 use Rattle.ipcz_world.proofs.owed.Tracking.{HaveWakersOn}
 use Rattle.ipcz_world.specs.WordAnswers.{tells_waiting, woken}
@@ -256,14 +259,23 @@ module _ (w v : World) (b : Books) (g : Records) (law : Inv w b g) (flags : Flag
       }))))
     where
       holds : r.holds ≡ true
-      holds = grind (arith, possible)
+      holds = held_by (is_proxy r) (is_done r) r.holds (is_on_central r) (decays r) possible
+        where
+          held_by : (p d h c e : Bool) → ((p && (h && (c && not e))) || (d && (h && (c && not e)))) ≡ true → h ≡ true
+          held_by p d true c e q = refl
+          held_by p d false c e q = grind (arith, q)
 
-      spare : is_some r.spare ≡ true
-      spare = law.shape.holds_spare k r is.here holds
+      wet : is_some r.spare ≡ true → (c : Bool) → r.dry ≡ c → r.dry ≡ false
+      wet spare false e = e
+      wet spare true e = not_both (is_some r.spare) spare (ap is_some (flags.dry k r is.here e))
 
-      wet : (c : Bool) → r.dry ≡ c → r.dry ≡ false
-      wet false e = e
-      wet true e = not_both (is_some r.spare) spare (ap is_some (flags.dry k r is.here e))
+      kind : (c : Bool) → is_proxy r ≡ c → IsReadyProxy (drop_lock r) ⊎ (is_done (drop_lock r) ≡ true)
+      kind true e = let spare = law.shape.holds_spare k r is.here holds e in inl (record { proxy = e; wet = wet spare r.dry refl; spare = spare })
+      kind false e = inr (fits (is_proxy r) (is_done r) (law.shape.holds_fit k r is.here holds) e)
+        where
+          fits : (p d : Bool) → (p || d) ≡ true → p ≡ false → d ≡ true
+          fits true d h q = cc
+          fits false d h q = h
 
       untried : (c : Bool) → r.tried ≡ c → r.tried ≡ false
       untried false e = e
@@ -271,14 +283,12 @@ module _ (w v : World) (b : Books) (g : Records) (law : Inv w b g) (flags : Flag
 
       able : IsAble (drop_lock r)
       able = record {
-        proxy = law.shape.holds_proxy k r is.here holds;
         central = ap is_some is.link;
         marked = law.shape.holds_marked k r is.here holds;
         still = law.shape.marked_still k r is.here (law.shape.holds_marked k r is.here holds);
-        wet = wet r.dry refl;
         untried = untried r.tried refl;
-        spare = spare;
         free = refl;
+        kind = kind (is_proxy r) refl;
       }
 
   -- wake, which sends a Flush
@@ -306,14 +316,15 @@ module _ (w v : World) (b : Books) (g : Records) (law : Inv w b g) (flags : Flag
 
       able : is_possible r acts.Lock ≡ true → is_possible y acts.Lock ≡ true
       able h = let a = able-tells r h in subst (λ z. is_possible z acts.Lock ≡ true) (sym is_y) (able-is (wake_other r) (record {
-        proxy = a.proxy;
         central = a.central;
         marked = a.marked;
         still = a.still;
-        wet = a.wet;
         untried = a.untried;
-        spare = a.spare;
         free = a.free;
+        kind = elim a.kind [
+          | inl k ↦ inl (record { proxy = k.proxy; wet = k.wet; spare = k.spare })
+          | inr k ↦ inr k
+        ];
       }))
 
       node_of : (q : Key) (o : Option ℕ) (n : ℕ) → key_at n o ≡ Some q → q.node ≡ n

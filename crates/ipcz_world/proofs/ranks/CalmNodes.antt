@@ -10,11 +10,12 @@ use Rattle.ipcz_base.proofs.Totals.{total-insert, total-remove}
 use Rattle.ipcz_base.specs.declared.message.Message.TheVariants as messages
 use Rattle.ipcz_world.proofs.Vocabulary.{End, Item, Message, LinkEnd, opposite_end, ends_in, total, total_list, Router, Node, Found, with_router, RouterAct}
 use Rattle.ipcz_world.proofs.Vocabulary.{current_item, output_of, is_possible, moves_of}
-use Rattle.ipcz_router.specs.Router.{router_has, outward_has}
-use Rattle.ipcz_router.specs.Acts.{way_out, way_in, pop_out, pop_in, rest}
+use Rattle.ipcz_router.specs.Router.{router_has, outward_has, is_sink}
+use Rattle.ipcz_router.specs.Acts.{way_out, way_in, pop_out, send_on, drop_item, has_gone_next, item_passes, rest}
+use Rattle.ipcz_base.specs.Items.{is_mark}
 use Rattle.ipcz_router.specs.ActTable.{may_take, is_rest}
 use Rattle.ipcz_router.specs.Calls.{accept}
-use Rattle.ipcz_router.specs.ActEffects.{apply, item_output, discard_output}
+use Rattle.ipcz_router.specs.ActEffects.{apply, leaves_by, item_output, discard_output}
 use Rattle.ipcz_router.specs.declared.act.RouterAct.TheVariants as acts
 use Rattle.ipcz_router.specs.declared.act.Answer.{Answer}
 use Rattle.ipcz_node.specs.Node.{link_router, on_found, add_stray, push_out, outbox}
@@ -22,7 +23,7 @@ use Rattle.ipcz_node.specs.Sends.{send, send_item, item_message}
 use Rattle.ipcz_node.specs.Acts.{commit_router, keep_or_drop}
 use Rattle.ipcz_node.specs.Hands.{fits, handle, take_in, deliver, free_hand}
 use Rattle.ipcz_world.proofs.facts.Finding.{found_tells}
-use Rattle.ipcz_world.proofs.facts.Tests.{and_second}
+use Rattle.ipcz_world.proofs.facts.Tests.{and_first, and_second}
 use Rattle.ipcz_world.proofs.weights.Totalling.{total_list-put_place, total_list-append}
 use Rattle.ipcz_world.specs.Ranks.{Rates, worth}
 use Rattle.ipcz_world.proofs.ranks.NodeStays.{IsBare, sent-bare, or-none}
@@ -133,6 +134,9 @@ module _ (c : Rates) (marks : End → ℕ) (n : Node) where
 
   -- the numbers of what leaves a router are below what was put
   pub record IsPut (r : Router) : Type 0 where
+    -- what comes in is no Gone, nor at a sink a mark
+    pub no_gone : has_gone_next r ≡ false
+    pub no_mark : is_sink r ≡ true → item_passes is_mark (current_item r.in_queue) ≡ false
     pub out : (item : Item) → current_item r.out_queue ≡ Some item → r.out_queue.current + 1 + marks r.end ≤ c.cap r.end
     pub inner : (item : Item) → current_item r.in_queue ≡ Some item →
         r.in_queue.current + 1 + marks (opposite_end r.end) ≤ c.cap (opposite_end r.end)
@@ -144,7 +148,7 @@ module _ (c : Rates) (marks : End → ℕ) (n : Node) where
         (passes-push (with_router n s y) link i item (passes-with s y r here same h))
 
     passes-send_out : is_possible r acts.SendOut ≡ true → (a : Answer) → Passes c marks n (commit_router n s acts.SendOut a r)
-    unfolding is_possible commit_router keep_or_drop apply output_of item_output send
+    unfolding is_possible commit_router keep_or_drop leaves_by apply output_of item_output send
     passes-send_out can a = go (current_item r.out_queue) refl (way_out r) can
       where
         go : (o : Option Item) → current_item r.out_queue ≡ o → (l : Option LinkEnd) → (is_some o && is_some l) ≡ true →
@@ -155,30 +159,32 @@ module _ (c : Rates) (marks : End → ℕ) (n : Node) where
             (routers.keeps-pop_out c marks r (put.out item e))
 
     passes-send_in : is_possible r acts.SendIn ≡ true → (a : Answer) → Passes c marks n (commit_router n s acts.SendIn a r)
-    unfolding is_possible commit_router keep_or_drop apply output_of item_output send
+    unfolding is_possible commit_router keep_or_drop leaves_by apply output_of item_output send
     passes-send_in can a = go (current_item r.in_queue) refl (way_in r) can
       where
         go : (o : Option Item) → current_item r.in_queue ≡ o → (l : Option LinkEnd) → (is_some o && is_some l) ≡ true →
-            Passes c marks n (send (with_router n s (pop_in r)) (item_output l r.in_queue.current o))
+            Passes c marks n (send (with_router n s (send_on r)) (item_output l r.in_queue.current o))
         go None e l h = cc
         go (Some item) e None h = cc
-        go (Some item) e (Some l) h = sent (pop_in r) l r.in_queue.current item (bare.inner item e) (routers.calm-pop_in r)
-            (routers.keeps-pop_in c marks r (put.inner item e))
+        go (Some item) e (Some l) h = sent (send_on r) l r.in_queue.current item (bare.inner item e) (routers.calm-send_on r put.no_gone)
+            (routers.keeps-send_on c marks r (put.inner item e))
 
     passes-discard : is_possible r acts.Discard ≡ true → (a : Answer) → Passes c marks n (commit_router n s acts.Discard a r)
-    unfolding is_possible commit_router keep_or_drop apply output_of discard_output send
-    passes-discard can a = go (current_item r.in_queue) refl (and_second _ _ can)
+    unfolding is_possible commit_router keep_or_drop leaves_by apply output_of discard_output send
+    passes-discard can a = subst
+        (λ z. Passes c marks n (send (keep_or_drop n s (drop_item r) z) (discard_output r.in_queue.current (current_item r.in_queue))))
+        (sym put.no_gone) (go (current_item r.in_queue) refl (and_second _ _ can))
       where
         go : (o : Option Item) → current_item r.in_queue ≡ o → is_some o ≡ true →
-            Passes c marks n (send (with_router n s (pop_in r)) (discard_output r.in_queue.current o))
+            Passes c marks n (send (with_router n s (drop_item r)) (discard_output r.in_queue.current o))
         go None e h = cc
-        go (Some item) e h = passes-dropped (with_router n s (pop_in r)) (ends_in item) (bare.inner item e)
-            (passes-with s (pop_in r) r here (routers.calm-pop_in r) (routers.keeps-pop_in c marks r (put.inner item e)))
+        go (Some item) e h = passes-dropped (with_router n s (drop_item r)) (ends_in item) (bare.inner item e)
+            (passes-with s (drop_item r) r here (routers.calm-drop r (put.no_mark (and_first _ _ can))) (routers.keeps-drop c marks r (put.inner item e)))
 
     -- an act that passes an item, or a rest
     pub passes-acted : (act : RouterAct) (a : Answer) → may_take r act ≡ true → is_passing act ≡ true →
         Passes c marks n (commit_router n s act a r)
-    unfolding is_rest is_passing commit_router keep_or_drop apply output_of send
+    unfolding is_rest is_passing commit_router keep_or_drop leaves_by apply output_of send
     passes-acted acts.SendOut a may is = passes-send_out (or-none _ may) a
     passes-acted acts.SendIn a may is = passes-send_in (or-none _ may) a
     passes-acted acts.Discard a may is = passes-discard (or-none _ may) a
@@ -192,4 +198,5 @@ module _ (c : Rates) (marks : End → ℕ) (n : Node) where
     passes-acted acts.Claim a may is = cc
     passes-acted acts.Lock a may is = cc
     passes-acted acts.Begin a may is = cc
+    passes-acted acts.Retire a may is = cc
     passes-acted acts.Unlock a may is = cc

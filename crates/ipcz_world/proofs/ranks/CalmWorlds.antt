@@ -1,13 +1,14 @@
 -- Worlds that do nothing but pass items, and how they stay so: no turn takes an act of a bypass, and what the rank holds for proxies stays.
-use Rattle.std.specs.Prelude.{◌≡◌, ◌≤◌, ◌<◌, ℕ, ◌+◌, true, false, Option, Some, None}
+use Rattle.std.specs.Prelude.{◌≡◌, ◌≤◌, ◌<◌, ℕ, ◌+◌, Bool, true, false, cond, if◌then◌else◌, slice_get, Option, Some, None}
 use Rattle.std.specs.Prelude.{List, [], ◌∷◌, length, refl}
 use Rattle.std.proofs.Common.{arith, ap, subst, sym, ◌∙◌}
-use Rattle.std.proofs.lemmas.Option.{same_Some, slice_get_within}
+use Rattle.std.proofs.lemmas.Option.{same_Some}
 use Rattle.std.specs.Ordering.{nat_cmp}
 use Rattle.std.specs.FinMap.{entries}
 use Rattle.ipcz_base.specs.Totals.{total_of}
 use Rattle.ipcz_base.proofs.Totals.{total-empty}
 use Rattle.ipcz_world.proofs.Vocabulary.{End, LinkId, Message, opposite_end, total, total_list, Router, Node, bare_node, RouterAct, Act, Close, Hand, outbox}
+use Rattle.ipcz_world.proofs.Vocabulary.{Item, same_end, is_terminal, current_item, is_closed, read}
 use Rattle.ipcz_world.proofs.Vocabulary.{router_in, commit, World, node_at, mail_at, way, router_at, Books, answer_of}
 use Rattle.ipcz_world.proofs.Vocabulary.{set_node, set_mail, after_act, can_take, hand_message, messages_in, output_of}
 use Rattle.ipcz_router.specs.declared.act.RouterAct.TheVariants as acts
@@ -27,7 +28,12 @@ use Rattle.ipcz_world.specs.declared.mail.Mail.{Mail}
 use Rattle.ipcz_world.specs.declared.mail.Mail.TheVariants as mails
 use Rattle.ipcz_world.specs.declared.step.Step.TheVariants.{Turn}
 use Rattle.ipcz_world.specs.declared.step.Reply.TheVariants as replies
-use Rattle.ipcz_world.specs.Books.{after_turn, after_discard, advance}
+use Rattle.ipcz_world.specs.Books.{after_turn, after_discard, after_retire, has_mark, advance}
+use Rattle.ipcz_base.specs.Items.{is_mark, is_gone_item}
+use Rattle.ipcz_router.specs.Acts.{has_gone_next, item_passes}
+use Rattle.ipcz_router.specs.Router.{is_sink}
+use Rattle.ipcz_world.proofs.facts.Tests.{and_first, and_second}
+use Rattle.ipcz_world.proofs.facts.LinkTests.{same_end-tells, opposite_end-twice}
 use Rattle.ipcz_world.specs.Routes.{Routes, routes_after, routes_after_turn}
 use Rattle.ipcz_world.specs.WordAnswers.{source_for, touch}
 use Rattle.ipcz_world.specs.Turns.{after_router_act, after_hand, after_look, after_post, full_message, may_act, turn_event, is_first_pending}
@@ -35,11 +41,11 @@ use Rattle.ipcz_world.specs.Turns.{hand_seen, router_seen, router_of}
 use Rattle.ipcz_world.specs.Lawful.{Lawful}
 use Rattle.ipcz_world.specs.WorldLaws.{StepKeepsLawful}
 use Rattle.ipcz_world.specs.Ranks.{Rates, worth, router_worth, node_worth, rank, IsRated, AreTurns, TurnsKeepRates, is_unlock, unlock_count}
-use Rattle.ipcz_world.specs.PutBounds.{router_stays, node_stays, stays}
+use Rattle.ipcz_world.specs.PutBounds.{router_stays, node_stays, stays, is_retire, retire_count}
 use Rattle.ipcz_world.proofs.weights.Totalling.{total_list-put_place}
 use Rattle.ipcz_world.proofs.ranks.Limits.{mailed-bare}
 use Rattle.ipcz_world.proofs.ranks.WorldRanks.{none-worth}
-use Rattle.ipcz_world.proofs.ranks.Paying.{comes_of_puts}
+use Rattle.ipcz_world.proofs.ranks.Paying.{ComesOfPuts, comes_of_puts}
 use Rattle.ipcz_world.proofs.ranks.Turning.{stepped}
 use Rattle.ipcz_world.proofs.ranks.Staying.{none, bare}
 use Rattle.ipcz_world.proofs.ranks.CalmRouters.{is_passing, router_keeps, calm-passes, keeps-most}
@@ -116,6 +122,7 @@ untouched w r acts.Wake is = cc
 untouched w r acts.Claim is = cc
 untouched w r acts.Lock is = cc
 untouched w r acts.Begin is = cc
+untouched w r acts.Retire is = cc
 untouched w r acts.Unlock is = cc
 
 -- where nothing is astir, none of its nodes is, and what is in its mailboxes is items
@@ -154,7 +161,11 @@ router-put : (w : World) (b : Books) (n : ℕ) (x : Node) (s : ℕ) (r : Router)
 unfolding router_event after_turn is_passing
 router-put w b n x s r acts.SendOut a is = sent-put w b n x (λ i link ends. events.SendOut s i link ends) (output_of r acts.SendOut) (λ i link ends. refl)
 router-put w b n x s r acts.SendIn a is = sent-put w b n x (λ i link ends. events.SendIn s i link ends) (output_of r acts.SendIn) (λ i link ends. refl)
-router-put w b n x s r acts.Discard a is = discarded-put b (router_of w n s)
+router-put w b n x s r acts.Discard a is = go (has_gone_next r)
+  where
+    go : (t : Bool) → (after_turn w b n (if t then events.DiscardLeave s r.in_queue.current else events.Discard s r.in_queue.current)).put ≡ b.put
+    go true = discarded-put b (router_of w n s)
+    go false = discarded-put b (router_of w n s)
 router-put w b n x s r acts.Rest a is = refl
 router-put w b n x s r acts.FinishOut a is = cc
 router-put w b n x s r acts.FinishIn a is = cc
@@ -164,6 +175,7 @@ router-put w b n x s r acts.Wake a is = cc
 router-put w b n x s r acts.Claim a is = cc
 router-put w b n x s r acts.Lock a is = cc
 router-put w b n x s r acts.Begin a is = cc
+router-put w b n x s r acts.Retire a is = cc
 router-put w b n x s r acts.Unlock a is = cc
 
 module _ (w : World) (still : stir w ≡ 0) where
@@ -196,12 +208,39 @@ module _ (w : World) (still : stir w ≡ 0) where
       go acts.Claim is = refl
       go acts.Lock is = refl
       go acts.Begin is = refl
+      go acts.Retire is = refl
       go acts.Unlock is = cc
   unlocked n (Hand from) can = refl
   unlocked n (Look from) can = refl
   unlocked n (Post to) can = refl
   unlocked n (Close end) can = refl
   unlocked n Idle can = refl
+
+  -- nor a retire
+  pub unretired : (n : ℕ) (act : Act) → can_take w n act ≡ true → is_retire act ≡ false
+  unfolding is_retire can_take is_passing router_at
+  unretired n (OfRouter s act) can = go act (passing n s act (router_in (node_at w n) s) refl can)
+    where
+      go : (act : RouterAct) → is_passing act ≡ true → is_retire (OfRouter s act) ≡ false
+      go acts.SendOut is = refl
+      go acts.SendIn is = refl
+      go acts.Discard is = refl
+      go acts.Rest is = refl
+      go acts.FinishOut is = refl
+      go acts.FinishIn is = refl
+      go acts.Leave is = refl
+      go acts.Mark is = refl
+      go acts.Wake is = refl
+      go acts.Claim is = refl
+      go acts.Lock is = refl
+      go acts.Begin is = refl
+      go acts.Retire is = cc
+      go acts.Unlock is = refl
+  unretired n (Hand from) can = refl
+  unretired n (Look from) can = refl
+  unretired n (Post to) can = refl
+  unretired n (Close end) can = refl
+  unretired n Idle can = refl
 
   pub same-put : (b : Books) (n : ℕ) (act : Act) → can_take w n act ≡ true → (after_turn w b n (turn_event w n act)).put ≡ b.put
   unfolding turn_event can_take router_at event_of event_at router_seen hand_seen hand_event after_turn
@@ -245,15 +284,85 @@ picked c marks n to m e = (
     first [] h = cc
     first (x ∷ xs) h = omega (arith, ap message_stir (same_Some x m h))
 
+-- the caps leave room for so many items of each end that are still to come, beside those that weren't read
+abbrev pub IsRoomy : Rates → (End → ℕ) → Books → Type 0
+IsRoomy c marks b =
+    (e : End) (n : ℕ) (x : Item) → read b (opposite_end e) ≤ n → slice_get (b.put e) n ≡ Some x → n + 1 + marks e ≤ c.cap e
+
+-- no Gone is unread, nor a mark where the reader is closed
+abbrev pub IsDull : Books → Type 0
+IsDull b =
+    (e : End) (n : ℕ) (x : Item) → read b (opposite_end e) ≤ n → slice_get (b.put e) n ≡ Some x →
+    (is_gone_item x ≡ false) × (is_closed b (opposite_end e) ≡ true → is_mark x ≡ false)
+
+discard-reads : (b : Books) (o : Option Router) (d : End) → read b d ≤ read (after_discard b o) d
+unfolding after_discard
+discard-reads b None d = omega arith
+discard-reads b (Some r) d = go (same_end d r.end) refl
+  where
+    go : (t : Bool) → same_end d r.end ≡ t → length (b.got d) + b.gone d ≤ length (b.got d) + cond t (b.gone r.end + 1) (b.gone d)
+    go false e = omega arith
+    go true e = let same : b.gone d ≡ b.gone r.end = ap b.gone (same_end-tells d r.end e) in omega (arith, same)
+
+retire-reads : (b : Books) (o : Option Router) (d : End) → read b d ≤ read (after_retire b o) d
+unfolding after_retire
+retire-reads b None d = omega arith
+retire-reads b (Some r) d = omega arith
+
+-- a turn reads, and no turn takes back what was read
+read-grows : (w : World) (b : Books) (n : ℕ) (event : Happened) (d : End) → read b d ≤ read (after_turn w b n event) d
+unfolding after_turn
+read-grows w b n (events.Close e) d = omega arith
+read-grows w b n (events.Discard s m) d = discard-reads b (router_of w n s) d
+read-grows w b n (events.DiscardLeave s m) d = discard-reads b (router_of w n s) d
+read-grows w b n (events.Retire s m l) d = retire-reads b (router_of w n s) d
+read-grows w b n (events.Hand k l u) d = omega arith
+read-grows w b n (events.Look m) d = omega arith
+read-grows w b n (events.Post m) d = omega arith
+read-grows w b n (events.SendOut s m l es) d = omega arith
+read-grows w b n (events.SendIn s m l es) d = omega arith
+read-grows w b n (events.FinishOut s l) d = omega arith
+read-grows w b n (events.FinishIn s l) d = omega arith
+read-grows w b n (events.Leave s) d = omega arith
+read-grows w b n (events.Mark s l x) d = omega arith
+read-grows w b n (events.Wake s l x) d = omega arith
+read-grows w b n (events.Claim s i) d = omega arith
+read-grows w b n (events.ClaimNoWord s) d = omega arith
+read-grows w b n (events.Lock s l x) d = omega arith
+read-grows w b n (events.Wait s l x) d = omega arith
+read-grows w b n (events.Refused s l x) d = omega arith
+read-grows w b n (events.Begin s l) d = omega arith
+read-grows w b n (events.Unlock s l x) d = omega arith
+read-grows w b n (events.Rest s) d = omega arith
+read-grows w b n events.Idle d = omega arith
+
 module _ (c : Rates) (w : World) (b : Books) (g : Routes) (law : Lawful w b g) (rated : IsRated c b) (six : (pair : ℕ) → c.price pair ≡ 6)
-    (marks : End → ℕ) (room : (e : End) → length (b.put e) + marks e ≤ c.cap e) (still : stir w ≡ 0) where
+    (marks : End → ℕ) (room : IsRoomy c marks b) (dull : IsDull b) (still : stir w ≡ 0) where
   put : (n s : ℕ) (r : Router) → n < w.count → router_in (node_at w n) s ≡ Some r → IsPut c marks (node_at w n) r
-  unfolding router_at
-  put n s r l here =
-      let come = comes_of_puts w b law.records (record { node = n; serial = s }) r law.conserved l here in record {
-        out = λ item e. omega (arith, slice_get_within (b.put r.end) r.out_queue.current item (come.out item e).1, room r.end);
-        inner = λ item e. omega (arith, slice_get_within (b.put (opposite_end r.end)) r.in_queue.current item (come.inner item e).1, room (opposite_end r.end));
-      }
+  unfolding router_at item_passes
+  put n s r l here = record {
+    no_gone = gone (current_item r.in_queue) refl;
+    no_mark = λ sink. mark sink (current_item r.in_queue) refl;
+    out = λ item e. room r.end r.out_queue.current item (come.out item e).0 (come.out item e).1;
+    inner = λ item e. room (opposite_end r.end) r.in_queue.current item (come.inner item e).0 (come.inner item e).1;
+  }
+    where
+      come : ComesOfPuts b r
+      come = comes_of_puts w b law.records (record { node = n; serial = s }) r law.conserved l here
+
+      told : (x : Item) → current_item r.in_queue ≡ Some x →
+          (is_gone_item x ≡ false) × (is_closed b (opposite_end (opposite_end r.end)) ≡ true → is_mark x ≡ false)
+      told x e = dull (opposite_end r.end) r.in_queue.current x (come.inner x e).0 (come.inner x e).1
+
+      gone : (o : Option Item) → current_item r.in_queue ≡ o → has_gone_next r ≡ false
+      gone None e = ap (item_passes is_gone_item) e
+      gone (Some x) e = ap (item_passes is_gone_item) e ∙ (told x e).0
+
+      mark : is_sink r ≡ true → (o : Option Item) → current_item r.in_queue ≡ o → item_passes is_mark (current_item r.in_queue) ≡ false
+      mark sink None e = ap (item_passes is_mark) e
+      mark sink (Some x) e = ap (item_passes is_mark) e ∙ (told x e).1 (ap (is_closed b) (opposite_end-twice r.end)
+          ∙ sym (law.conserved.sink (record { node = n; serial = s }) r here (and_first (is_terminal r) r.closed sink))
+          ∙ and_second (is_terminal r) r.closed sink)
 
   handed : (n from : ℕ) (x : Mail) → mail_at w (way w from n) ≡ x → PassesOn c marks w (after_hand w n from (hand_message x))
   unfolding after_hand hand_message messages_in mail_stir
@@ -316,26 +425,34 @@ module _ (c : Rates) (w : World) (b : Books) (g : Routes) (law : Lawful w b g) (
 -- so do turns: none of them is an unlock, and proxies keep what the rank holds for them
 pub record HavePassed (c : Rates) (marks : End → ℕ) (w v : World) (turns : List (ℕ × Act)) : Type 0 where
   pub unlocks : unlock_count turns ≡ 0
+  pub retires : retire_count turns ≡ 0
   pub keeps : keeps c marks w ≤ keeps c marks v
 
 pub turns-pass : StepKeepsLawful → TurnsKeepRates → (w v : World) (b d : Books) (g h : Routes) (c : Rates) (marks : End → ℕ)
     (turns : List (ℕ × Act)) → Lawful w b g → IsRated c b → ((pair : ℕ) → c.price pair ≡ 6) →
-    ((e : End) → length (b.put e) + marks e ≤ c.cap e) → stir w ≡ 0 → AreTurns w b g turns v d h → HavePassed c marks w v turns
+    IsRoomy c marks b → IsDull b → stir w ≡ 0 → AreTurns w b g turns v d h → HavePassed c marks w v turns
 unfolding advance routes_after
-turns-pass keep rates w v b d g h c marks [] law rated six room still run =
-    record { unlocks = refl; keeps = omega (arith, ap (keeps c marks) run.0) }
-turns-pass keep rates w v b d g h c marks (t ∷ ts) law rated six room still run =
+turns-pass keep rates w v b d g h c marks [] law rated six room dull still run =
+    record { unlocks = refl; retires = refl; keeps = omega (arith, ap (keeps c marks) run.0) }
+turns-pass keep rates w v b d g h c marks (t ∷ ts) law rated six room dull still run =
     let step = stepped w t.0 t.1 run.0 in
-    let one = passed c w b g law rated six marks room still t.0 t.1 run.0.node run.0.may in
+    let one = passed c w b g law rated six marks room dull still t.0 t.1 run.0.node run.0.may in
     let same = same-put w still b t.0 t.1 run.0.may in
     let more = turns-pass keep rates (after_act w t.0 t.1) v (after_turn w b t.0 (turn_event w t.0 t.1)) d
     (routes_after_turn w g t.0 (turn_event w t.0 t.1)) h c marks ts
     (keep w (after_act w t.0 t.1) b g (Turn t.0) (replies.Turned (turn_event w t.0 t.1)) law step)
     (rates w (after_act w t.0 t.1) b g c t.0 (replies.Turned (turn_event w t.0 t.1)) law rated step) six
-    (λ e. omega (arith, room e, ap (λ put. length (put e)) same)) (omega (arith, one.stir, still)) run.1 in record {
+    (λ e n x l at. room e n x (reads e n l) (ap (λ put. slice_get (put e) n) (sym same) ∙ at))
+    (λ e n x l at. let d = dull e n x (reads e n l) (ap (λ put. slice_get (put e) n) (sym same) ∙ at) in
+    (d.0, λ k. d.1 (ap (λ put. has_mark (put (opposite_end e))) (sym same) ∙ k)))
+    (omega (arith, one.stir, still)) run.1 in record {
       unlocks = omega (arith, more.unlocks, ap (λ u. worth 1 u) (unlocked w still t.0 t.1 run.0.may));
+      retires = omega (arith, more.retires, ap (λ u. worth 1 u) (unretired w still t.0 t.1 run.0.may));
       keeps = omega (arith, one.keeps, more.keeps);
     }
+  where
+    reads : (e : End) (n : ℕ) → read (after_turn w b t.0 (turn_event w t.0 t.1)) (opposite_end e) ≤ n → read b (opposite_end e) ≤ n
+    reads e n l = omega (arith, l, read-grows w b t.0 (turn_event w t.0 t.1) (opposite_end e))
 
 -- what proxies keep and what stays with terminals are within the rank
 pub keeps-within : (c : Rates) (marks : End → ℕ) (w : World) → ((pair : ℕ) → c.price pair ≡ 6) → stays c w + keeps c marks w ≤ rank c w

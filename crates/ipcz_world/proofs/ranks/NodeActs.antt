@@ -1,7 +1,7 @@
 -- Each act of a node lowers what the node is worth, or makes a message of what it loses.
 use Rattle.std.specs.Prelude.{◌≡◌, ◌≤◌, ◌<◌, ℕ, ◌+◌, Bool, true, false, not, ◌&&◌, ◌||◌, Option, Some, None}
 use Rattle.std.specs.Prelude.{is_some, is_none, List, [], ◌∷◌, length, option_map, refl}
-use Rattle.std.proofs.Common.{arith}
+use Rattle.std.proofs.Common.{arith, inl, inr}
 use Rattle.std.specs.FinMap.{get}
 use Rattle.ipcz_base.specs.Links.{word_of}
 use Rattle.ipcz_world.proofs.Vocabulary.{End, Item, LinkEnd, opposite, opposite_end, ends_in, inward_edge, Router, Node}
@@ -10,13 +10,18 @@ use Rattle.ipcz_world.proofs.Vocabulary.{with_router, terminal_of, current_item,
 use Rattle.ipcz_world.proofs.Vocabulary.{Close}
 use Rattle.ipcz_base.specs.declared.message.Message.TheVariants as messages
 use Rattle.ipcz_edge.specs.Edge.{can_finish}
-use Rattle.ipcz_router.specs.Router.{is_proxy, is_on_central, decays}
-use Rattle.ipcz_router.specs.Acts.{way_out, way_in, pop_out, pop_in, rest}
+use Rattle.ipcz_router.specs.Router.{is_proxy, is_terminal, is_sink, is_on_central, decays}
+use Rattle.ipcz_router.specs.Acts.{way_out, way_in, pop_out, send_on, drop_item, has_gone_next, rest}
+use Rattle.ipcz_router.specs.Calls.{next_number}
+use Rattle.ipcz_router.specs.ActEffects.{retire_output}
+use Rattle.ipcz_base.specs.declared.item.Item.TheVariants.{Gone}
+use Rattle.ipcz_node.specs.Node.{without_router}
+use Rattle.ipcz_world.proofs.owed.Following.{IsAble, able-tells}
 use Rattle.ipcz_router.specs.ActTable.{is_ready, may_take, is_rest}
 use Rattle.ipcz_router.specs.Closing.{close_router}
 use Rattle.ipcz_router.specs.ActEffects.{IsAnswerOf, apply, finish_out, finish_in, mark_side, wake_other, claim_word, run_dry, take_lock}
 use Rattle.ipcz_router.specs.ActEffects.{fail_lock, begin_bypass, peer_message, begin_message, flush_message, item_output, message_output}
-use Rattle.ipcz_router.specs.ActEffects.{discard_output}
+use Rattle.ipcz_router.specs.ActEffects.{discard_output, leaves_by}
 use Rattle.ipcz_router.specs.declared.act.RouterAct.TheVariants as acts
 use Rattle.ipcz_router.specs.declared.act.Answer.{Answer}
 use Rattle.ipcz_router.specs.declared.act.Answer.TheVariants as answers
@@ -61,6 +66,8 @@ pub record CanPay (c : Rates) (r : Router) : Type 0 where
       (r.out_queue.current < c.cap r.end) × (6 + moving_worth c (ends_in item) ≤ c.price r.end.pair)
   pub inner : (item : Item) → current_item r.in_queue ≡ Some item →
       (r.in_queue.current < c.cap (opposite_end r.end)) × (6 + moving_worth c (ends_in item) ≤ c.price r.end.pair)
+  -- and there is room for the Gone of a sink that can retire
+  pub gone : is_possible r acts.Retire ≡ true → (r.out_queue.current < c.cap r.end) × (6 ≤ c.price r.end.pair)
 
 -- the act lowers the node's worth
 abbrev pub Lowers : Rates → Node → ℕ → RouterAct → Answer → Router → Type 0
@@ -76,7 +83,7 @@ module _ (c : Rates) (n : Node) (s : ℕ) (r : Router) (here : get n.routers s �
   sent y link i item h = omega (arith, node-sent c (with_router n s y) link i item, changed y (6 + moving_worth c (ends_in item)) h)
 
   lower-send_out : CanPay c r → is_possible r acts.SendOut ≡ true → (a : Answer) → Lowers c n s acts.SendOut a r
-  unfolding is_possible commit_router keep_or_drop apply output_of item_output send
+  unfolding is_possible commit_router keep_or_drop leaves_by apply output_of item_output send
   lower-send_out pay can a = go (current_item r.out_queue) refl (way_out r) can
     where
       go : (o : Option Item) → current_item r.out_queue ≡ o → (l : Option LinkEnd) → (is_some o && is_some l) ≡ true →
@@ -87,50 +94,69 @@ module _ (c : Rates) (n : Node) (s : ℕ) (r : Router) (here : get n.routers s �
           sent (pop_out r) l r.out_queue.current item (omega (arith, routers.lower-pop_out c r p.0, p.1))
 
   lower-send_in : CanPay c r → is_possible r acts.SendIn ≡ true → (a : Answer) → Lowers c n s acts.SendIn a r
-  unfolding is_possible commit_router keep_or_drop apply output_of item_output send
+  unfolding is_possible commit_router keep_or_drop leaves_by apply output_of item_output send
   lower-send_in pay can a = go (current_item r.in_queue) refl (way_in r) can
     where
       go : (o : Option Item) → current_item r.in_queue ≡ o → (l : Option LinkEnd) → (is_some o && is_some l) ≡ true →
-          node_worth c (send (with_router n s (pop_in r)) (item_output l r.in_queue.current o)) + 1 ≤ node_worth c n
+          node_worth c (send (with_router n s (send_on r)) (item_output l r.in_queue.current o)) + 1 ≤ node_worth c n
       go None e l h = cc
       go (Some item) e None h = cc
       go (Some item) e (Some l) h = let p = pay.inner item e in
-          sent (pop_in r) l r.in_queue.current item (omega (arith, routers.lower-pop_in c r p.0, p.1))
+          sent (send_on r) l r.in_queue.current item (omega (arith, routers.lower-send_on c r p.0, p.1))
+
+  -- a sink drops an item, and stays or leaves
+  dropped : (leaves : Bool) → r.in_queue.current < c.cap (opposite_end r.end) →
+      node_worth c (keep_or_drop n s (drop_item r) leaves) + c.price r.end.pair ≤ node_worth c n
+  unfolding keep_or_drop
+  dropped true low = omega (arith, node-without c n s r here, routers.lower-drop c r low)
+  dropped false low = changed (drop_item r) (c.price r.end.pair) (routers.lower-drop c r low)
 
   lower-discard : CanPay c r → is_possible r acts.Discard ≡ true → (a : Answer) → Lowers c n s acts.Discard a r
-  unfolding is_possible commit_router keep_or_drop apply output_of discard_output send
+  unfolding is_possible commit_router leaves_by apply output_of discard_output send
   lower-discard pay can a = go (current_item r.in_queue) refl (and_second _ _ can)
     where
       go : (o : Option Item) → current_item r.in_queue ≡ o → is_some o ≡ true →
-          node_worth c (send (with_router n s (pop_in r)) (discard_output r.in_queue.current o)) + 1 ≤ node_worth c n
+          node_worth c (send (keep_or_drop n s (drop_item r) (has_gone_next r)) (discard_output r.in_queue.current o)) + 1 ≤ node_worth c n
       go None e h = cc
       go (Some item) e h = let p = pay.inner item e in
           omega (
             arith,
-            node-pending c (with_router n s (pop_in r)) (ends_in item),
+            node-pending c (keep_or_drop n s (drop_item r) (has_gone_next r)) (ends_in item),
             closing-most c (ends_in item),
-            changed (pop_in r) (c.price r.end.pair) (routers.lower-pop_in c r p.0),
+            dropped (has_gone_next r) p.0,
             p.1,
           )
 
+  -- a sink retires: what it was worth pays for Gone
+  lower-retire : CanPay c r → is_possible r acts.Retire ≡ true → (a : Answer) → Lowers c n s acts.Retire a r
+  unfolding commit_router keep_or_drop leaves_by apply output_of retire_output send
+  lower-retire pay can a = go r.outward.primary
+    where
+      enough : 6 ≤ router_worth c r
+      enough = let p = pay.gone can in omega (arith, routers.lower-pop_out c r p.0, p.1)
+
+      go : (o : Option LinkEnd) → node_worth c (send (without_router n s) (retire_output o (next_number r))) + 1 ≤ node_worth c n
+      go None = omega (arith, node-without c n s r here, enough)
+      go (Some e) = omega (arith, node-without c n s r here, enough, node-sent c (without_router n s) e (next_number r) Gone)
+
   lower-finish_out : is_possible r acts.FinishOut ≡ true → (a : Answer) → Lowers c n s acts.FinishOut a r
-  unfolding is_possible commit_router keep_or_drop apply output_of send can_finish
+  unfolding is_possible commit_router keep_or_drop leaves_by apply output_of send can_finish
   lower-finish_out can a = changed (finish_out r) 1 (routers.lower-finish_out c r (and_first _ _ can))
 
   lower-finish_in : is_possible r acts.FinishIn ≡ true → (a : Answer) → Lowers c n s acts.FinishIn a r
-  unfolding is_possible commit_router keep_or_drop apply output_of send can_finish
+  unfolding is_possible commit_router keep_or_drop leaves_by apply output_of send can_finish
   lower-finish_in can a = changed (finish_in r) 1 (routers.lower-finish_in c r (and_first _ _ can))
 
   lower-leave : is_possible r acts.Leave ≡ true → (a : Answer) → Lowers c n s acts.Leave a r
-  unfolding is_possible commit_router keep_or_drop apply output_of send
+  unfolding is_possible commit_router keep_or_drop leaves_by apply output_of send
   lower-leave can a = omega (arith, node-without c n s r here, routers.proxy-some c r (and_first _ _ can))
 
   lower-rest : r.flagged ≡ true → (a : Answer) → Lowers c n s acts.Rest a r
-  unfolding commit_router keep_or_drop apply output_of send
+  unfolding commit_router keep_or_drop leaves_by apply output_of send
   lower-rest up a = changed (rest r) 1 (routers.lower-rest c r up)
 
   lower-mark : is_possible r acts.Mark ≡ true → (a : Answer) → IsAnswerOf acts.Mark a → Lowers c n s acts.Mark a r
-  unfolding is_possible commit_router keep_or_drop apply output_of send
+  unfolding is_possible commit_router keep_or_drop leaves_by apply output_of send
   lower-mark can (answers.Marked word was) is = changed (mark_side r was) 1
       (routers.lower-mark c r was (and_first _ _ can) (not-true r.marked (and_first _ _ (and_second (is_on_central r) _ can))))
   lower-mark can answers.Plain is = absurd is
@@ -142,7 +168,7 @@ module _ (c : Rates) (n : Node) (s : ℕ) (r : Router) (here : get n.routers s �
   lower-mark can (answers.Refused w) is = absurd is
 
   lower-wake : is_possible r acts.Wake ≡ true → (a : Answer) → Lowers c n s acts.Wake a r
-  unfolding is_possible commit_router keep_or_drop apply output_of message_output flush_message send message_worth
+  unfolding is_possible commit_router keep_or_drop leaves_by apply output_of message_output flush_message send message_worth
   lower-wake can a = go r.outward.primary
     where
       less : node_worth c (with_router n s (wake_other r)) + 6 ≤ node_worth c n
@@ -167,7 +193,7 @@ module _ (c : Rates) (n : Node) (s : ℕ) (r : Router) (here : get n.routers s �
       (not-true r.dry (and_first _ _ last), not-true r.tried (and_second (not r.dry) _ last))
 
   lower-claim : is_possible r acts.Claim ≡ true → (a : Answer) → IsAnswerOf acts.Claim a → Lowers c n s acts.Claim a r
-  unfolding is_possible commit_router keep_or_drop apply output_of send
+  unfolding is_possible commit_router keep_or_drop leaves_by apply output_of send
   lower-claim can (answers.Claimed i) is = changed (claim_word r i) 1
       (routers.lower-claim c r i (unbegun (and_first _ _ can)) (none-is r.spare (and_second (is_ready r) _ can))
       (fresh (and_first _ _ can)).0)
@@ -180,14 +206,18 @@ module _ (c : Rates) (n : Node) (s : ℕ) (r : Router) (here : get n.routers s �
   lower-claim can (answers.Waiting w) is = absurd is
   lower-claim can (answers.Refused w) is = absurd is
 
+  -- who may try for the lock is a proxy that hasn't begun, or a terminal
+  locker : IsAble r → routers.IsLocker r
+  locker is = elim is.kind [
+    | inl k ↦ inl (both (is_proxy r) _ k.proxy (routers.central-some r is.central))
+    | inr k ↦ inr (and_first (is_terminal r) r.closed (and_first (is_sink r) _ k), and_second (is_terminal r) r.closed (and_first (is_sink r) _ k))
+  ]
+
   lower-lock : is_possible r acts.Lock ≡ true → (a : Answer) → IsAnswerOf acts.Lock a → Lowers c n s acts.Lock a r
-  unfolding is_possible commit_router keep_or_drop apply output_of send
-  lower-lock can (answers.Locked w) is = changed (take_lock r) 1 (routers.lower-lock c r (unbegun (and_first _ _ can))
-      (not-true r.holds (and_second (is_some r.spare) _ (and_second (is_ready r) _ can))))
-  lower-lock can (answers.Waiting w) is = changed (fail_lock r) 1
-      (routers.lower-try c r (unbegun (and_first _ _ can)) (fresh (and_first _ _ can)).1)
-  lower-lock can (answers.Refused w) is = changed (fail_lock r) 1
-      (routers.lower-try c r (unbegun (and_first _ _ can)) (fresh (and_first _ _ can)).1)
+  unfolding commit_router keep_or_drop leaves_by apply output_of send
+  lower-lock can (answers.Locked w) is = let k = able-tells r can in changed (take_lock r) 1 (routers.lower-lock c r (locker k) k.free)
+  lower-lock can (answers.Waiting w) is = let k = able-tells r can in changed (fail_lock r) 1 (routers.lower-try c r (locker k) k.untried)
+  lower-lock can (answers.Refused w) is = let k = able-tells r can in changed (fail_lock r) 1 (routers.lower-try c r (locker k) k.untried)
   lower-lock can answers.Plain is = absurd is
   lower-lock can (answers.Claimed i) is = absurd is
   lower-lock can answers.NoWord is = absurd is
@@ -195,7 +225,7 @@ module _ (c : Rates) (n : Node) (s : ℕ) (r : Router) (here : get n.routers s �
   lower-lock can (answers.Word w) is = absurd is
 
   lower-begin : is_possible r acts.Begin ≡ true → (a : Answer) → Lowers c n s acts.Begin a r
-  unfolding is_possible commit_router keep_or_drop apply output_of message_output begin_message send message_worth
+  unfolding is_possible commit_router keep_or_drop leaves_by apply output_of message_output begin_message send message_worth
   lower-begin can a = go (inward_edge r).primary r.outward.primary r.spare
     where
       start : is_unbegun r ≡ true
@@ -236,6 +266,7 @@ module _ (c : Rates) (n : Node) (s : ℕ) (r : Router) (here : get n.routers s �
   router-acted pay acts.Claim a may up is = lower-claim (or-none _ may) a is
   router-acted pay acts.Lock a may up is = lower-lock (or-none _ may) a is
   router-acted pay acts.Begin a may up is = lower-begin (or-none _ may) a
+  router-acted pay acts.Retire a may up is = lower-retire pay (or-none _ may) a
   router-acted pay acts.Unlock a may up is = cc
   router-acted pay acts.Rest a may up is = lower-rest up a
 

@@ -1,5 +1,5 @@
 -- What each act of a node leaves of what stays with its terminals, and of its pending closes.
-use Rattle.std.specs.Prelude.{◌≡◌, ◌≤◌, ℕ, ◌+◌, ◌*◌, Bool, true, false, ◌&&◌, ◌||◌, if◌then◌else◌, nat_eq, Option, Some, None, is_some}
+use Rattle.std.specs.Prelude.{◌≡◌, ◌≤◌, ℕ, ◌+◌, ◌*◌, Bool, true, false, cond, ◌&&◌, ◌||◌, ◌++◌, if◌then◌else◌, nat_eq, Option, Some, None, is_some}
 use Rattle.std.specs.Prelude.{List, [], ◌∷◌, length, refl}
 use Rattle.std.proofs.Common.{arith, ap, subst, sym, ◌∙◌}
 use Rattle.std.specs.Ordering.{nat_cmp}
@@ -8,7 +8,7 @@ use Rattle.std.specs.FinMap.{nat_cmp-IsAntisymmetric, get}
 use Rattle.std.proofs.lemmas.List.{length-append}
 use Rattle.ipcz_base.proofs.Totals.{total-insert, total-remove}
 use Rattle.ipcz_base.specs.declared.message.Message.TheVariants as messages
-use Rattle.ipcz_base.specs.declared.item.Item.TheVariants.{Mark}
+use Rattle.ipcz_base.specs.declared.item.Item.TheVariants.{Mark, Gone}
 use Rattle.ipcz_base.specs.declared.side.Side.{Side}
 use Rattle.ipcz_base.specs.declared.link_id.LinkId.{LinkId}
 use Rattle.ipcz_base.specs.declared.link_id.LinkId.TheVariants.{Central}
@@ -17,16 +17,16 @@ use Rattle.ipcz_world.proofs.Vocabulary.{has_link, current_item, item_at, is_ter
 use Rattle.ipcz_edge.specs.Edge.{Edge}
 use Rattle.ipcz_router.specs.declared.sending.Sending.{Sending}
 use Rattle.ipcz_router.specs.Router.{is_proxy, router_has, outward_has, rouse}
-use Rattle.ipcz_router.specs.Acts.{way_out, way_in, pop_out, pop_in}
+use Rattle.ipcz_router.specs.Acts.{way_out, way_in, pop_out, send_on, drop_item, has_gone_next}
 use Rattle.ipcz_router.specs.ActTable.{may_take, is_rest}
 use Rattle.ipcz_router.specs.Calls.{accept, next_number}
 use Rattle.ipcz_router.specs.Closing.{close_router}
 use Rattle.ipcz_router.specs.Bypass.{bypass_peer, accept_message, accept_bypass, stop_message, stop_proxying, will_stop_message, proxy_will_stop}
+use Rattle.ipcz_router.specs.ActEffects.{leaves_by, retire_output}
 use Rattle.ipcz_router.specs.ActEffects.{IsAnswerOf, apply, item_output, message_output, discard_output, flush_message, begin_message}
 use Rattle.ipcz_router.specs.declared.act.RouterAct.TheVariants as acts
 use Rattle.ipcz_router.specs.declared.act.Answer.{Answer}
 use Rattle.ipcz_router.specs.declared.act.Answer.TheVariants as answers
-use Rattle.ipcz_node.specs.declared.act.Act.TheVariants.{Router as OfRouter}
 use Rattle.ipcz_node.specs.Node.{link_router, on_found, add_stray, push_out, without_router, is_terminal_of}
 use Rattle.ipcz_node.specs.Sends.{send, send_item, item_message}
 use Rattle.ipcz_node.specs.Calls.{close_at_router}
@@ -34,8 +34,8 @@ use Rattle.ipcz_node.specs.Acts.{commit_router, keep_or_drop, rest_of}
 use Rattle.ipcz_node.specs.Hands.{fits, handle, tell, take_in, deliver, free_hand}
 use Rattle.ipcz_world.proofs.facts.Finding.{found_tells}
 use Rattle.ipcz_world.proofs.facts.Tests.{and_first, and_second}
-use Rattle.ipcz_world.specs.Ranks.{Rates, worth}
-use Rattle.ipcz_world.specs.PutBounds.{router_stays, node_stays, is_discard}
+use Rattle.ipcz_world.specs.Ranks.{Rates}
+use Rattle.ipcz_world.specs.PutBounds.{router_stays, node_stays}
 use Rattle.ipcz_world.proofs.ranks.RouterStays as routers
 
 -- what stays in a node isn't less in another but for so much and for six for each close that is done
@@ -157,10 +157,16 @@ pub or-none : (b : Bool) → (b || false) ≡ true → b ≡ true
 or-none true h = refl
 or-none false h = cc
 
+-- what of what stays an act of a router takes: the number of an item that a sink drops, and all that a sink has which leaves
+unfoldable pub lost_by : Rates → Router → RouterAct → ℕ
+lost_by c r acts.Discard = cond (has_gone_next r) (router_stays c r) 6
+lost_by c r acts.Retire = router_stays c r
+lost_by c r other = 0
+
 module _ (c : Rates) (n : Node) (s : ℕ) (r : Router) (here : get n.routers s ≡ Some r) where
   -- the act keeps what stays
   abbrev Keeps : RouterAct → Answer → Type 0
-  Keeps act a = KeepsBut c n (commit_router n s act a r) (6 * worth 1 (is_discard (OfRouter s act)))
+  Keeps act a = KeepsBut c n (commit_router n s act a r) (lost_by c r act)
 
   changed : (y : Router) → router_stays c y ≡ router_stays c r → KeepsBut c n (with_router n s y) 0
   changed y h = keeps-same c n s y r here h
@@ -170,7 +176,7 @@ module _ (c : Rates) (n : Node) (s : ℕ) (r : Router) (here : get n.routers s �
   sent y link i item bare h = subst (λ x. KeepsBut c n x 0) (sym (sent-bare (with_router n s y) link i item bare)) (changed y h)
 
   keeps-send_out : IsBare c r → is_possible r acts.SendOut ≡ true → (a : Answer) → Keeps acts.SendOut a
-  unfolding is_possible commit_router keep_or_drop apply output_of item_output send is_discard
+  unfolding is_possible commit_router keep_or_drop leaves_by apply output_of item_output send lost_by
   keeps-send_out bare can a = go (current_item r.out_queue) refl (way_out r) can
     where
       go : (o : Option Item) → current_item r.out_queue ≡ o → (l : Option LinkEnd) → (is_some o && is_some l) ≡ true →
@@ -180,31 +186,49 @@ module _ (c : Rates) (n : Node) (s : ℕ) (r : Router) (here : get n.routers s �
       go (Some item) e (Some l) h = sent (pop_out r) l r.out_queue.current item (bare.out item e) (routers.same-pop_out c r item e)
 
   keeps-send_in : IsBare c r → is_possible r acts.SendIn ≡ true → (a : Answer) → Keeps acts.SendIn a
-  unfolding is_possible commit_router keep_or_drop apply output_of item_output send is_discard
+  unfolding is_possible commit_router keep_or_drop leaves_by apply output_of item_output send lost_by
   keeps-send_in bare can a =
       let proxy : is_proxy r ≡ true = routers.sender-proxy r (and_second (is_some (current_item r.in_queue)) _ can) in
       go proxy (current_item r.in_queue) refl (way_in r) can
     where
       go : is_proxy r ≡ true → (o : Option Item) → current_item r.in_queue ≡ o → (l : Option LinkEnd) → (is_some o && is_some l) ≡ true →
-          KeepsBut c n (send (with_router n s (pop_in r)) (item_output l r.in_queue.current o)) 0
+          KeepsBut c n (send (with_router n s (send_on r)) (item_output l r.in_queue.current o)) 0
       go p None e l h = cc
       go p (Some item) e None h = cc
-      go p (Some item) e (Some l) h = sent (pop_in r) l r.in_queue.current item (bare.inner item e)
-          (routers.proxy-stays c (pop_in r) p ∙ sym (routers.proxy-stays c r p))
+      go p (Some item) e (Some l) h = sent (send_on r) l r.in_queue.current item (bare.inner item e)
+          (routers.proxy-stays c (send_on r) p ∙ sym (routers.proxy-stays c r p))
 
-  keeps-discard : IsBare c r → is_possible r acts.Discard ≡ true → (a : Answer) → Keeps acts.Discard a
-  unfolding is_possible commit_router keep_or_drop apply output_of discard_output send is_discard
+  -- a sink drops an item, and stays or leaves
+  keeps-discard : IsBare c r → is_possible r acts.Discard ≡ true → (a : Answer) →
+      KeepsBut c n (commit_router n s acts.Discard a r) (cond (has_gone_next r) (router_stays c r) 6)
+  unfolding is_possible commit_router keep_or_drop leaves_by apply output_of discard_output send
   keeps-discard bare can a = go (current_item r.in_queue) refl (and_second _ _ can)
     where
-      go : (o : Option Item) → current_item r.in_queue ≡ o → is_some o ≡ true →
-          KeepsBut c n (send (with_router n s (pop_in r)) (discard_output r.in_queue.current o)) 6
-      go None e h = cc
-      go (Some item) e h = omega (
+      by : (t : Bool) (item : Item) → ends_in item ≡ [] →
+          KeepsBut c n (record (keep_or_drop n s (drop_item r) t) { pending = (keep_or_drop n s (drop_item r) t).pending ++ ends_in item }) (cond t (router_stays c r) 6)
+      by true item free = omega (arith, stays-without c n s r here, length-append n.pending (ends_in item), ap length free)
+      by false item free = omega (
         arith,
-        keeps-with c n s (pop_in r) r 6 here (routers.less-pop_in c r bare.price),
+        keeps-with c n s (drop_item r) r 6 here (routers.less-drop c r bare.price),
         length-append n.pending (ends_in item),
-        ap length (bare.inner item e),
+        ap length free,
       )
+
+      go : (o : Option Item) → current_item r.in_queue ≡ o → is_some o ≡ true →
+          KeepsBut c n (send (keep_or_drop n s (drop_item r) (has_gone_next r)) (discard_output r.in_queue.current o))
+          (cond (has_gone_next r) (router_stays c r) 6)
+      go None e h = cc
+      go (Some item) e h = by (has_gone_next r) item (bare.inner item e)
+
+  -- a sink retires
+  keeps-retire : (a : Answer) → KeepsBut c n (commit_router n s acts.Retire a r) (router_stays c r)
+  unfolding commit_router keep_or_drop leaves_by apply output_of retire_output send
+  keeps-retire a = go r.outward.primary
+    where
+      go : (o : Option LinkEnd) → KeepsBut c n (send (without_router n s) (retire_output o (next_number r))) (router_stays c r)
+      go None = omega (arith, stays-without c n s r here)
+      go (Some e) = subst (λ x. KeepsBut c n x (router_stays c r)) (sym (sent-bare (without_router n s) e (next_number r) Gone refl))
+          (omega (arith, stays-without c n s r here))
 
   messaged : (x : Node) (o : Option Sending) → KeepsBut c n x 0 → KeepsBut c n (send x (message_output o)) 0
   unfolding send message_output
@@ -213,10 +237,11 @@ module _ (c : Rates) (n : Node) (s : ℕ) (r : Router) (here : get n.routers s �
 
   -- any act that may be taken
   pub router-keeps : IsBare c r → (act : RouterAct) (a : Answer) → may_take r act ≡ true → IsAnswerOf act a → Keeps act a
-  unfolding is_rest is_possible commit_router keep_or_drop apply output_of send is_discard router_stays
+  unfolding is_rest is_possible commit_router keep_or_drop leaves_by apply output_of send router_stays lost_by
   router-keeps bare acts.SendOut a may is = keeps-send_out bare (or-none _ may) a
   router-keeps bare acts.SendIn a may is = keeps-send_in bare (or-none _ may) a
   router-keeps bare acts.Discard a may is = keeps-discard bare (or-none _ may) a
+  router-keeps bare acts.Retire a may is = keeps-retire a
   router-keeps bare acts.FinishOut a may is = changed _ refl
   router-keeps bare acts.FinishIn a may is = changed _ (routers.same-finish_in c r)
   router-keeps bare acts.Leave a may is =

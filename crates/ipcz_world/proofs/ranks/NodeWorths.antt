@@ -105,7 +105,7 @@ abbrev pub transfer_worth : Rates → Transfer → ℕ
 transfer_worth c t = node_worth c t.node + moves_worth c t.moves
 
 abbrev pub end_worth : Rates → End → ℕ
-end_worth c e = 53 + c.price e.pair * (c.cap e + c.cap (opposite_end e))
+end_worth c e = 55 + c.price e.pair * (c.cap e + c.cap (opposite_end e))
 
 -- a field that isn't weighed
 node-numbered : (c : Rates) (n : Node) (i : ℕ) → node_worth c (record n { next_peripheral = i }) ≡ node_worth c n
@@ -126,7 +126,7 @@ transfer-router c t to s r e here is =
       node-numbered c (with_router t.node s (extend r link)) (t.node.next_peripheral + 1),
       node-with c t.node s (extend r link) r here,
       more-extend c r link,
-      total_list-append (λ d. 7 + worth_left c d.end d.next_out d.next_in) t.moves (d ∷ []),
+      total_list-append (λ d. 9 + worth_left c d.end d.next_out d.next_in) t.moves (d ∷ []),
     )
 
 transfer-end : (c : Rates) (t : Transfer) (to : ℕ) (e : End) → transfer_worth c (move_end t to e) ≤ transfer_worth c t + end_worth c e

@@ -3,6 +3,8 @@ use Rattle.std.specs.Prelude.{◌≡◌, ◌≤◌, ◌<◌, ℕ, zero, suc, ◌
 use Rattle.std.proofs.Common.{arith, subst, sym}
 use Rattle.ipcz_world.proofs.Vocabulary.{End, ends_in, is_closed}
 use Rattle.ipcz_world.specs.Ranks.{moving_worth, price_below, ordered_rates, OrderedAreRated}
+use Rattle.std.proofs.lemmas.Option.{slice_get_within}
+use Rattle.ipcz_world.specs.Books.{is_retired}
 use Rattle.ipcz_world.proofs.ranks.RouterWorths.{worth-most}
 
 times-more : (p q m : ℕ) → p ≤ q → p * m ≤ q * m
@@ -23,7 +25,7 @@ price-step most (suc k) =
     times-more (price_below most k) (price_below most (suc k)) (most + most) (price-step most k) in
     omega (
       arith,
-      more-times most (53 + price_below most k * (most + most)) (53 + price_below most (suc k) * (most + most))
+      more-times most (55 + price_below most k * (most + most)) (55 + price_below most (suc k) * (most + most))
           (omega (arith, inner)),
     )
 
@@ -39,7 +41,7 @@ price-grows most j k h = let e : j + (k - j) ≡ k = omega (arith, h) in
 module _ (level : ℕ → ℕ) (depth most : ℕ) where
   -- the moves of ends of higher levels
   moves : (k : ℕ) (es : List End) → ((i : ℕ) (d : End) → slice_get es i ≡ Some d → depth - level d.pair ≤ k) →
-      moving_worth (ordered_rates level depth most) es ≤ length es * (53 + price_below most k * (most + most))
+      moving_worth (ordered_rates level depth most) es ≤ length es * (55 + price_below most k * (most + most))
   moves k [] h = omega arith
   moves k (x ∷ xs) h =
       let one : price_below most (depth - level x.pair) * (most + most) ≤ price_below most k * (most + most) =
@@ -55,15 +57,16 @@ module _ (level : ℕ → ℕ) (depth most : ℕ) where
       let first = h 0 x refl in
       let k : ℕ = depth - suc l in
       let whole : depth - l ≡ suc k = omega (arith, first.0, first.1) in
-      let all : moving_worth (ordered_rates level depth most) (x ∷ xs) ≤ length (x ∷ xs) * (53 + price_below most k * (most + most)) =
+      let all : moving_worth (ordered_rates level depth most) (x ∷ xs) ≤ length (x ∷ xs) * (55 + price_below most k * (most + most)) =
       moves k (x ∷ xs) (λ i d e. let t = h i d e in omega (arith, t.0, t.1)) in
-      let bound : length (x ∷ xs) * (53 + price_below most k * (most + most)) ≤ most * (53 + price_below most k * (most + most)) =
-      times-more (length (x ∷ xs)) most (53 + price_below most k * (most + most)) few in
+      let bound : length (x ∷ xs) * (55 + price_below most k * (most + most)) ≤ most * (55 + price_below most k * (most + most)) =
+      times-more (length (x ∷ xs)) most (55 + price_below most k * (most + most)) few in
       subst (λ y. 6 + moving_worth (ordered_rates level depth most) (x ∷ xs) ≤ price_below most y) (sym whole) (omega (arith, all, bound))
 
 pub ordered_are_rated : OrderedAreRated
 ordered_are_rated level depth most b law = record {
-  capped = λ e. omega (arith, law.puts e, worth-most 1 (not (is_closed b e)));
+  capped = λ e n item l at. omega (arith, law.puts e, slice_get_within (b.put e) n item at);
+  room = λ e h k. omega (arith, law.puts e, worth-most 1 (not (is_closed b e)), worth-most 1 (not (is_retired b e)));
   least = λ pair. price-least most (depth - level pair);
   pays = λ e n item l at. paid level depth most (level e.pair) (ends_in item) (law.ends e n item l at)
       (λ i d x. (law.higher e n i item d l at x, law.within d.pair));

@@ -1,8 +1,7 @@
 -- What stands in a queue was put and isn't read, so that its number is below its end's cap, and its pair's price pays for it.
-use Rattle.std.specs.Prelude.{◌≡◌, ◌≤◌, ◌<◌, ℕ, ◌+◌, Bool, true, false, ◌&&◌, nat_eq, Some, drop, slice_get, refl}
+use Rattle.std.specs.Prelude.{◌≡◌, ◌≤◌, ◌<◌, ℕ, ◌+◌, Bool, true, false, not, ◌&&◌, nat_eq, Some, drop, slice_get, refl}
 use Rattle.std.proofs.Common.{arith, ap, ◌∙◌, sym}
 use Rattle.std.proofs.lemmas.Bool.{and_from}
-use Rattle.std.proofs.lemmas.Option.{slice_get_within}
 use Rattle.ipcz_world.proofs.Vocabulary.{End, Item, opposite_end, ends_in, current_item, Router, World, Key, router_at}
 use Rattle.ipcz_world.proofs.Vocabulary.{Books, read, Records, Weight, in_router, at_end, Conserved}
 use Rattle.ipcz_base.specs.Items.{same_item}
@@ -12,7 +11,15 @@ use Rattle.ipcz_world.proofs.weights.Booking.{flag, more_here, in_router-within}
 use Rattle.ipcz_world.proofs.calls.Reading.{from_number-found, slice_get-drop}
 use Rattle.ipcz_world.proofs.facts.Tests.{nat_eq-itself, and_first, and_second, nat_eq-is}
 use Rattle.ipcz_world.proofs.facts.SameItems.{same_item-itself, same_item-tells}
-use Rattle.ipcz_world.specs.Ranks.{Rates, moving_worth, IsRated, ActsLowerTheRank}
+use Rattle.ipcz_world.specs.Ranks.{Rates, worth, moving_worth, IsRated, ActsLowerTheRank}
+use Rattle.ipcz_router.specs.ActTable.{is_done}
+use Rattle.ipcz_router.specs.Router.{is_terminal, is_sink}
+use Rattle.ipcz_world.proofs.Vocabulary.{Inv, At, is_possible}
+use Rattle.ipcz_world.proofs.owed.Departures.{peer_unretired}
+use Rattle.ipcz_router.specs.declared.act.RouterAct.TheVariants as acts
+use Rattle.ipcz_world.proofs.facts.Reaching.{is_reach}
+use Rattle.ipcz_world.specs.Books.{is_retired}
+use Rattle.ipcz_world.specs.Records.{Retired}
 use Rattle.ipcz_world.proofs.ranks.NodeActs.{CanPay}
 use Rattle.ipcz_world.proofs.ranks.WorldRanks.{rank-acted}
 
@@ -71,24 +78,46 @@ comes_of_puts w b g k r law l here = record {
       ));
 }
 
-pub can_pay : (w : World) (b : Books) (g : Records) (c : Rates) (k : Key) (r : Router) → Conserved w b g → k.node < w.count →
+pub can_pay : (w : World) (b : Books) (g : Records) (c : Rates) (k : Key) (r : Router) → Inv w b g → k.node < w.count →
     router_at w k ≡ Some r → IsRated c b → CanPay c r
+unfolding is_possible
 can_pay w b g c k r law l here rated = record {
   out = λ item e. pays r.end r.out_queue.current item (come.out item e);
   inner = λ item e. pays (opposite_end r.end) r.in_queue.current item (come.inner item e);
+  gone = λ can. (room can, rated.least r.end.pair);
 }
   where
     come : ComesOfPuts b r
-    come = comes_of_puts w b g k r law l here
+    come = comes_of_puts w b g k r law.conserved l here
 
     pays : (e : End) (n : ℕ) (item : Item) → (read b (opposite_end e) ≤ n) × (slice_get (b.put e) n ≡ Some item) →
         (n < c.cap e) × (6 + moving_worth c (ends_in item) ≤ c.price e.pair)
-    pays e n item p = (omega (arith, slice_get_within (b.put e) n item p.1, rated.capped e), rated.pays e n item p.0 p.1)
+    pays e n item p = (rated.capped e n item p.0 p.1, rated.pays e n item p.0 p.1)
+
+    -- a terminal's end hasn't retired
+    unretired : is_terminal r ≡ true → (t : Bool) → is_retired b r.end ≡ t → is_retired b r.end ≡ false
+    unretired h false e = e
+    unretired h true e = absurd (apart k (sym (law.terminals.terminal k r here h) ∙ law.retired_ends.retired r.end e))
+      where
+        apart : (q : Key) → At q ≡ Retired → ⊥
+        apart q e = cc
+
+    room : is_possible r acts.Retire ≡ true → r.out_queue.current < c.cap r.end
+    room can =
+        let h : is_terminal r ≡ true = and_first (is_terminal r) _ (and_first (is_sink r) _ (and_first (is_done r) _ can)) in
+        let none : is_retired b r.end ≡ false = unretired h (is_retired b r.end) refl in
+        omega (
+          arith,
+          (is_reach r.out_queue).from,
+          law.conserved.reach k r here h,
+          ap (λ t. worth 1 (not t)) none,
+          rated.room r.end none (peer_unretired w b g k r law here can),
+        )
 
 pub acts_lower_the_rank : ActsLowerTheRank
 unfolding router_at
 acts_lower_the_rank w b g c n act law rated l can up = omega (
   arith,
   rank-acted c w n act (λ s r here.
-      can_pay w b law.records c (record { node = n; serial = s }) r law.conserved l here rated) can up,
+      can_pay w b law.records c (record { node = n; serial = s }) r law.inv l here rated) can up,
 )

@@ -1,12 +1,12 @@
 -- Parcels that are put into a quiet world: what each put makes of the rank and of what stays, and how many acts they take in all.
-use Rattle.std.specs.Prelude.{◌≡◌, ◌≤◌, ◌<◌, ℕ, ◌+◌, ◌*◌, Bool, true, false, not, cond, ◌||◌, nat_lt, if◌then◌else◌, Option, Some, None}
+use Rattle.std.specs.Prelude.{◌≡◌, ◌≤◌, ◌<◌, ℕ, ◌+◌, ◌*◌, Bool, true, false, not, cond, ◌&&◌, ◌||◌, nat_eq, nat_lt, if◌then◌else◌, Option, Some, None}
 use Rattle.std.specs.Prelude.{List, [], ◌∷◌, ◌++◌, length, slice_get, refl}
 use Rattle.std.proofs.Common.{arith, ap, subst, ◌∙◌, sym, inl, inr}
 use Rattle.std.proofs.lemmas.Bool.Decides.{nat_tests}
 use Rattle.std.proofs.lemmas.Option.{same_Some, slice_get_within}
 use Rattle.std.specs.FinMap.{get}
 use Rattle.ipcz_world.proofs.Vocabulary.{End, Item, Refusal, has_end, ends_in, same_end, Router, Node, Found, Edge, terminal_of, with_router}
-use Rattle.ipcz_world.proofs.Vocabulary.{is_terminal, World, Key, node_at, router_at, set_node, set_router, same_key, Books, is_closed, At, unless, total, bare_node, router_in}
+use Rattle.ipcz_world.proofs.Vocabulary.{is_terminal, World, Key, node_at, router_at, set_node, set_router, same_key, Books, read, opposite_end, At, unless, total, bare_node, router_in}
 use Rattle.ipcz_base.specs.declared.item.Item.TheVariants.{Parcel}
 use Rattle.ipcz_router.specs.Calls.{put_item}
 use Rattle.ipcz_node.specs.Node.{on_found, is_terminal_of}
@@ -18,13 +18,15 @@ use Rattle.ipcz_world.specs.Routes.{Routes, routes_after}
 use Rattle.ipcz_world.specs.Steps.{Effect, put_step}
 use Rattle.ipcz_world.specs.Lawful.{Lawful}
 use Rattle.ipcz_world.specs.WorldLaws.{StepKeepsLawful, QuietHasNoProxy}
-use Rattle.ipcz_world.specs.Ranks.{Rates, worth, router_worth, rank, TurnsKeepRates}
-use Rattle.ipcz_world.specs.SettleBounds.{CarryNone, plain_rates}
+use Rattle.ipcz_world.specs.Books.{is_retired}
+use Rattle.ipcz_world.specs.Ranks.{Rates, worth, may_put, router_worth, rank, TurnsKeepRates}
+use Rattle.ipcz_world.specs.SettleBounds.{CarryNone, is_over, plain_rates}
 use Rattle.ipcz_world.specs.PutBounds.{stays, pending_closes, PlainPut, plain_parcel, after_put, IsTakenPut, ArePuts, ends_beside}
 use Rattle.ipcz_world.specs.PutBounds.{proxy_share, proxy_shares, PutsAreBounded, DirectPutsAreBounded}
 use Rattle.ipcz_world.proofs.facts.Finding.{found_tells}
 use Rattle.ipcz_world.proofs.facts.LinkTests.{same_end-tells}
-use Rattle.ipcz_world.proofs.facts.Tests.{and_first, and_second}
+use Rattle.ipcz_world.proofs.facts.Tests.{and_first, and_second, nat_eq-is}
+use Rattle.ipcz_world.proofs.ranks.RouterWorths.{worth-most}
 use Rattle.ipcz_world.proofs.flows.Flowing.{slice_get-last}
 use Rattle.ipcz_world.proofs.frames.Frames.{same_key-itself, router-set_router}
 use Rattle.ipcz_world.proofs.ranks.RouterStays.{less-put}
@@ -33,11 +35,11 @@ use Rattle.ipcz_world.proofs.ranks.NodeStays.{stays-with}
 use Rattle.ipcz_world.proofs.ranks.WorldRanks.{rank-set_node}
 use Rattle.ipcz_world.proofs.ranks.Staying.{stays-set_node, pending-set_node, nothing-behind, turns-paid}
 use Rattle.ipcz_world.proofs.ranks.Settling.{plain_are_rated}
-use Rattle.ipcz_world.proofs.ranks.QuietRanks.{quiet-rank, quiet-pending, quiet-stir, placed, list-none}
+use Rattle.ipcz_world.proofs.ranks.QuietRanks.{quiet-rank, quiet-pending, quiet-stir, quiet-dull, puts-dull, placed, list-none}
 use Rattle.ipcz_world.proofs.lawful.Quiet.{total-zero}
 use Rattle.ipcz_world.proofs.ranks.CalmRouters.{calm-put, keeps-terminal}
 use Rattle.ipcz_world.proofs.ranks.CalmNodes.{passes-with}
-use Rattle.ipcz_world.proofs.ranks.CalmWorlds.{PassesOn, by-node, turns-pass, keeps-within}
+use Rattle.ipcz_world.proofs.ranks.CalmWorlds.{PassesOn, IsRoomy, by-node, turns-pass, keeps-within}
 
 -- a put that isn't refused has found its terminal
 unrefused : (c : Bool) (why : Refusal) (o : Option Refusal) → (if c then Some why else o) ≡ None → o ≡ None
@@ -53,14 +55,22 @@ put-found n at bytes fine = go (terminal_of n at) refl
     go None e = absurd (grind (arith, fine, e))
 
 -- a put flags its terminal, and no more
-put-worth : (c : Rates) (r : Router) (item : Item) → is_terminal r ≡ true → router_worth c (put_item r item) ≤ router_worth c r + worth 1 (not r.flagged)
+put-worth : (c : Rates) (r : Router) (item : Item) → is_terminal r ≡ true → r.closed ≡ false →
+    router_worth c (put_item r item) ≤ router_worth c r + worth 1 (not r.flagged)
 unfolding router_worth
-put-worth c r item t = go r.inward refl r.flagged refl
+put-worth c r item t open_ = go r.inward refl r.flagged refl
   where
+    and-false : (a : Bool) → (a && false) ≡ false
+    and-false true = refl
+    and-false false = refl
+
+    same : worth 1 (not (r.tried && false)) ≡ 1
+    same = ap (λ a. worth 1 (not a)) (and-false r.tried)
+
     go : (o : Option Edge) → r.inward ≡ o → (f : Bool) → r.flagged ≡ f → router_worth c (put_item r item) ≤ router_worth c r + worth 1 (not r.flagged)
     go (Some x) e f q = absurd (grind (arith, e, t))
-    go None e true q = rw (e, q) (omega arith)
-    go None e false q = rw (e, q) (omega arith)
+    go None e true q = rw (e, q, open_) (omega (arith, same))
+    go None e false q = rw (e, q, open_) (omega (arith, same))
 
 -- where a put is taken: the terminal, and what the world becomes
 record IsPutAt (w : World) (p : PlainPut) : Type 0 where
@@ -69,6 +79,7 @@ record IsPutAt (w : World) (p : PlainPut) : Type 0 where
   here : get (node_at w p.node).routers serial ≡ Some router
   end : router.end ≡ p.at
   terminal : is_terminal router ≡ true
+  unclosed : router.closed ≡ false
   after : after_put w p ≡ set_router w (record { node = p.node; serial = serial }) (put_item router (Parcel (plain_parcel p)))
 
 put-at : (w : World) (p : PlainPut) → IsTakenPut w p → IsPutAt w p
@@ -81,8 +92,13 @@ put-at w p is =
       here = t.0;
       end = same_end-tells f.0.router.end p.at (and_second _ _ t.1);
       terminal = and_first _ _ (and_first _ _ t.1);
+      unclosed = unclosed f.0.router.closed (and_second _ _ (and_first _ _ t.1));
       after = ap (λ o. set_node w p.node (on_found (node_at w p.node) o (put_at_router (node_at w p.node) (plain_parcel p)))) f.1;
     }
+  where
+    unclosed : (a : Bool) → not a ≡ true → a ≡ false
+    unclosed true h = cc
+    unclosed false h = refl
 
 -- the terminals of these ends are flagged
 abbrev AreRoused : World → List End → Type 0
@@ -129,7 +145,7 @@ module _ (c : Rates) (marks : End → ℕ) (six : (pair : ℕ) → c.price pair 
           stays-set_node c w p.node z,
           node-with c x it.serial y it.router it.here,
           stays-with c x it.serial y it.router it.here,
-          put-worth c it.router item it.terminal,
+          put-worth c it.router item it.terminal it.unclosed,
           less-put c it.router y item (six it.router.end.pair)
               (nothing-behind w b g law p.node it.serial it.router is.node it.here it.terminal) refl refl refl refl,
           h,
@@ -137,7 +153,12 @@ module _ (c : Rates) (marks : End → ℕ) (six : (pair : ℕ) → c.price pair 
         pending = ap pending_closes it.after ∙ omega (arith, pending-set_node w p.node z);
         passes = subst (PassesOn c marks w) (sym it.after) (by-node c marks w p.node z (passes-with c marks x it.serial y it.router it.here
             (calm-put it.router item)
-            (omega (arith, keeps-terminal c marks it.router it.terminal))));
+            (omega (
+              arith,
+              keeps-terminal c marks it.router it.terminal,
+              keeps-terminal c marks y it.terminal,
+              worth-most 1 (not (it.router.tried && it.router.closed)),
+            ))));
       }
 
   stands : router_at w key ≡ Some it.router
@@ -251,27 +272,49 @@ puts-carry w u b d [] none run = subst CarryNone (sym run.1) none
 puts-carry w u b d (p ∷ ps) none run =
     puts-carry (after_put w p) u (add_put b p.at (Parcel (plain_parcel p))) d ps (put-carries b p none) run.1
 
+-- the plain rates leave room for marks and Gones, and no more
+plain-room : (b : Books) → IsRoomy (plain_rates b) (may_put b) b
+plain-room b e n x unread put = go (is_over b e) refl
+  where
+    go : (t : Bool) → is_over b e ≡ t → n + 1 + may_put b e ≤ cond t 0 (length (b.put e) + may_put b e)
+    go false q = omega (arith, slice_get_within (b.put e) n x put)
+    go true q = absurd (omega (
+      arith,
+      unread,
+      slice_get_within (b.put e) n x put,
+      nat_eq-is (read b (opposite_end e)) (length (b.put e))
+          (and_second (is_retired b e || is_retired b (opposite_end e)) (nat_eq (read b (opposite_end e)) (length (b.put e))) q),
+    ))
+
+plain-caps : (b : Books) (e : End) → (plain_rates b).cap e ≤ length (b.put e) + may_put b e
+plain-caps b e = go (is_over b e)
+  where
+    go : (t : Bool) → cond t 0 (length (b.put e) + may_put b e) ≤ length (b.put e) + may_put b e
+    go true = omega arith
+    go false = omega arith
+
 pub puts_are_bounded : StepKeepsLawful → TurnsKeepRates → PutsAreBounded
 puts_are_bounded keeps rates w u v b d e g h ps turns law none quiet puts run =
     let c : Rates = plain_rates d in
-    let marks : End → ℕ = λ x. worth 1 (not (is_closed d x)) in
+    let marks : End → ℕ = λ x. may_put d x in
     let six : (pair : ℕ) → c.price pair ≡ 6 = λ pair. refl in
     let nobody : AreRoused w [] = λ k r here t has. cc in
     let rated = plain_are_rated d (puts-carry w u b d ps none puts) in
     let put = puts-raise keeps c marks six w u b d g [] ps law nobody puts in
-    let passed = turns-pass keeps rates u v d e g h c marks turns put.lawful rated six (λ x. omega arith)
-    (omega (arith, put.passes.stir, quiet-stir w b g law quiet)) run in
+    let passed = turns-pass keeps rates u v d e g h c marks turns put.lawful rated six (plain-room d)
+    (puts-dull w u b d ps (quiet-dull w b g law quiet) puts) (omega (arith, put.passes.stir, quiet-stir w b g law quiet)) run in
     omega (
       arith,
       turns-paid keeps rates u v d e g h c turns put.lawful rated six run,
       keeps-within c marks v six,
-      quiet-rank w b g law quiet u d ps puts c six marks (λ x. omega arith),
+      quiet-rank w b g law quiet u d ps puts c six marks (plain-caps d),
       quiet-pending w b g law quiet,
       put.pending,
       put.raised,
       put.passes.keeps,
       passed.keeps,
       passed.unlocks,
+      passed.retires,
     )
 
 -- where no proxy stands there are no shares

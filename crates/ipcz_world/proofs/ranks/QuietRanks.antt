@@ -2,7 +2,7 @@
 -- more than pass items.
 use Rattle.std.specs.Prelude.{◌≡◌, ◌≤◌, ◌<◌, ℕ, zero, suc, ◌+◌, ◌*◌, ◌-◌, Bool, true, false, not, cond, ◌&&◌, ◌||◌, nat_eq, Option, Some, None}
 use Rattle.std.specs.Prelude.{is_some, is_none, T, List, [], ◌∷◌, ◌++◌, length, slice_get, refl}
-use Rattle.std.proofs.Common.{arith, ap, subst, ◌∙◌, sym}
+use Rattle.std.proofs.Common.{arith, ap, subst, ◌∙◌, sym, inl, inr}
 use Rattle.std.proofs.lemmas.Bool.Decides.{nat_tests}
 use Rattle.std.proofs.lemmas.Option.{none-some, same_Some, slice_get_within}
 use Rattle.std.specs.Ordering.{nat_cmp, eq_by_cmp, is_eq}
@@ -12,8 +12,9 @@ use Rattle.std.specs.FinMap.Entries.{below_all}
 use Rattle.ipcz_base.specs.Totals.{total_of}
 use Rattle.ipcz_world.proofs.Vocabulary.{A, B, End, Side, Message, opposite, opposite_end, same_end, same_side, total, total_list, place_at, Router, Node, Edge}
 use Rattle.ipcz_world.proofs.Vocabulary.{is_terminal, is_possible, inward_edge, bare_node, World, Key, node_at, mail_at, router_at}
-use Rattle.ipcz_world.proofs.Vocabulary.{Books}
-use Rattle.ipcz_base.specs.declared.item.Item.TheVariants.{Parcel}
+use Rattle.ipcz_world.proofs.Vocabulary.{Books, Item, is_closed}
+use Rattle.ipcz_base.specs.Items.{is_mark, is_gone_item}
+use Rattle.ipcz_base.specs.declared.item.Item.TheVariants.{Parcel, Mark, Gone}
 use Rattle.ipcz_edge.specs.Edge.{edge_decays}
 use Rattle.ipcz_seq.specs.Queue.{reach}
 use Rattle.ipcz_router.specs.Router.{is_proxy, is_on_central, decays}
@@ -23,13 +24,13 @@ use Rattle.ipcz_node.specs.Node.{flagged_router}
 use Rattle.ipcz_node.specs.Acts.{is_quiet, are_empty}
 use Rattle.ipcz_world.specs.declared.mail.Mail.{Mail}
 use Rattle.ipcz_world.specs.declared.mail.Mail.TheVariants as mails
-use Rattle.ipcz_world.specs.Books.{add_put}
+use Rattle.ipcz_world.specs.Books.{add_put, has_mark}
 use Rattle.ipcz_world.specs.Routes.{Routes}
 use Rattle.ipcz_world.specs.Turns.{is_clear}
 use Rattle.ipcz_world.specs.Settling.{IsQuiet}
 use Rattle.ipcz_world.specs.Lawful.{Lawful}
 use Rattle.ipcz_world.specs.Structure.{is_begun_router}
-use Rattle.ipcz_world.specs.Ranks.{Rates, worth, worth_left, is_unbegun, bypass_worth, router_worth, box_worth, node_worth, mail_worth, rank}
+use Rattle.ipcz_world.specs.Ranks.{Rates, worth, worth_left, is_unbegun, bypass_worth, sink_worth, router_worth, box_worth, node_worth, mail_worth, rank}
 use Rattle.ipcz_world.specs.PutBounds.{router_stays, node_stays, stays, pending_closes, PlainPut, plain_parcel, after_put, ArePuts, puts_into, proxy_share}
 use Rattle.ipcz_world.specs.PutBounds.{proxy_shares}
 use Rattle.ipcz_world.proofs.facts.Finding.{find_above, found_there}
@@ -38,13 +39,15 @@ use Rattle.ipcz_world.proofs.facts.Reaching.{is_reach, reach_one, left, right}
 use Rattle.ipcz_world.proofs.facts.Tests.{and_first, and_second, nat_eq-is, none_is}
 use Rattle.ipcz_world.proofs.lawful.Quiet.{choose-some, out-delivered, total-zero}
 use Rattle.ipcz_world.proofs.lawful.QuietRoutes.{inward_lacks, outward_lacks}
-use Rattle.ipcz_world.proofs.lawful.QuietDelivery.{primed, free, idle, out_stuck, in_stuck, lacked_given, none_begun, calm}
-use Rattle.ipcz_world.proofs.weights.Booking.{length-more}
+use Rattle.ipcz_world.proofs.lawful.QuietDelivery.{primed, free, idle, out_stuck, in_stuck, lacked_given, none_begun, calm, closed_read, stayer_gone}
+use Rattle.ipcz_world.proofs.weights.Booking.{length-more, has_mark-more}
+use Rattle.ipcz_world.proofs.flows.Flowing.{slice_get-last}
+use Rattle.ipcz_world.proofs.facts.Drained.{gone_found}
 use Rattle.ipcz_world.proofs.ranks.RouterWorths.{worth-most}
-use Rattle.ipcz_world.proofs.lawful.QuietDirect.{central_dry}
+use Rattle.ipcz_world.proofs.lawful.QuietDirect.{central_dry, central_undone}
 use Rattle.ipcz_world.proofs.ranks.CalmRouters.{is_calm, lesser, router_keeps}
 use Rattle.ipcz_world.proofs.ranks.CalmNodes.{message_stir, router_stir, node_stir, node_keeps}
-use Rattle.ipcz_world.proofs.ranks.CalmWorlds.{mail_stir, stir, keeps}
+use Rattle.ipcz_world.proofs.ranks.CalmWorlds.{mail_stir, stir, keeps, IsDull}
 
 -- totals of what is no more than three others together
 three-of : (h k l m : Router → ℕ) (es : List (ℕ × Router)) → T (is_sorted nat_cmp es) →
@@ -199,16 +202,18 @@ module _ (w : World) (b : Books) (g : Routes) (law : Lawful w b g) (quiet : IsQu
   passed-all : (k : Key) (r : Router) → router_at w k ≡ Some r → is_proxy r ≡ true →
       (length (b.put r.end) ≤ r.out_queue.current) × (length (b.put (opposite_end r.end)) ≤ r.in_queue.current)
   passed-all k r here proxy = (
-    subst (λ e. length (b.put e) ≤ r.out_queue.current) (opposite_end-twice r.end)
-        (lacked_given w b law.records law.inv quiet law.ranked law.flagged (opposite_end r.end) r.out_queue.current
-        (outward_lacks w b law.records law.inv quiet law.ranked (law.ranked.rank k + 1) k r r.out_queue.current here first (omega arith)
+    elim (outward_lacks w b law.records law.inv quiet law.ranked law.flagged (law.ranked.rank k + 1) k r r.out_queue.current here first (omega arith)
         (record {
           current = omega arith;
           none = out_stuck w b law.records law.inv quiet law.ranked law.flagged k r here
               (choose-some r.outward r.out_queue.current first);
-        }))),
+        })) [
+          | inl lacked ↦ subst (λ e. length (b.put e) ≤ r.out_queue.current) (opposite_end-twice r.end)
+              (lacked_given w b law.records law.inv quiet law.ranked law.flagged (opposite_end r.end) r.out_queue.current lacked)
+          | inr gone ↦ absurd (stayer_gone w b law.records law.inv quiet law.ranked law.flagged law.unread k r here whole gone)
+        ],
     lacked_given w b law.records law.inv quiet law.ranked law.flagged r.end r.in_queue.current
-        (inward_lacks w b law.records law.inv quiet law.ranked law.ranked.limit k r r.in_queue.current here whole (omega arith)
+        (inward_lacks w b law.records law.inv quiet law.ranked law.flagged law.ranked.limit k r r.in_queue.current here whole (omega arith)
         (record {
           current = omega arith;
           none = in_stuck w b law.records law.inv quiet law.ranked law.flagged k r here
@@ -257,7 +262,8 @@ module _ (w : World) (b : Books) (g : Routes) (law : Lawful w b g) (quiet : IsQu
               arith,
               left,
               ap (λ t. cond t (6 * puts_into r.end.pair ps) 0) p,
-              ap (λ t. cond t (6 * kept + (1 + cond (is_unbegun r) (bypass_worth r) 0)) 0) p,
+              ap (λ t. cond t (6 * kept + (1 + cond (is_unbegun r) (bypass_worth r) 0)) (sink_worth r)) p,
+              ap (λ o. cond (is_none o) (sink_worth r) 0) e,
               ap (λ z. worth 1 z) s.flagged,
               ap (λ z. worth 1 z) s.outward,
               ap (λ z. worth 1 z) s.inward,
@@ -314,7 +320,7 @@ module _ (w : World) (b : Books) (g : Routes) (law : Lawful w b g) (quiet : IsQu
 
   -- each router does no more than pass items
   quiet-calm : (k : Key) (r : Router) → router_at w k ≡ Some r → is_calm r ≡ true
-  unfolding is_calm
+  unfolding is_calm is_possible
   quiet-calm k r here = go r.inward refl
     where
       s : IsStill r
@@ -324,16 +330,33 @@ module _ (w : World) (b : Books) (g : Routes) (law : Lawful w b g) (quiet : IsQu
       off = calm w b law.records law.inv quiet law.ranked law.flagged k r here
 
       go : (o : Option Edge) → r.inward ≡ o → is_calm r ≡ true
-      go None e = grind (arith, e, off, s.marked, s.wake)
+      go None e = alone (is_on_central r) r.closed r.mark_dropped refl refl refl
+        where
+          terminal : is_terminal r ≡ true
+          terminal = ap is_none e
+
+          alone : (z c d : Bool) → is_on_central r ≡ z → r.closed ≡ c → r.mark_dropped ≡ d → is_calm r ≡ true
+          alone true true true p q h = absurd (central_undone w b law.records law.inv quiet law.ranked law.flagged law.wakers law.unread k r here terminal q h p)
+          alone true true false p q h = grind (arith, e, off, s.marked, s.wake, p, q, h)
+          alone true false d p q h = grind (arith, e, off, s.marked, s.wake, p, q)
+          alone false c d p q h = grind (arith, e, off, s.marked, s.wake, p)
       go (Some x) e =
           by (is_on_central r) refl (free w b law.records law.inv quiet law.ranked law.flagged k r here)
           (primed r (law.inv.shape.role k r here) (none_begun w b law.records law.inv quiet law.ranked law.flagged k r here))
+          (unsent r.gone_sent refl)
         where
-          by : (t : Bool) → is_on_central r ≡ t → r.holds ≡ false → is_some r.outward.primary ≡ true → is_calm r ≡ true
-          by false q f p = grind (arith, e, off, s.marked, s.wake, q, f, p)
-          by true q f p =
-              let dry = central_dry w b law.records law.inv quiet law.ranked law.flagged law.wakers k r here (ap is_some e) q in
-              grind (arith, e, off, s.marked, s.wake, q, f, p, dry)
+          leaves : is_possible r acts.Leave ≡ false → is_proxy r ≡ true → r.gone_sent ≡ true → ⊥
+          leaves h p s = grind (arith, h, p, s)
+
+          unsent : (t : Bool) → r.gone_sent ≡ t → r.gone_sent ≡ false
+          unsent false q = q
+          unsent true q = absurd (leaves (idle w b law.records law.inv quiet law.ranked law.flagged k r acts.Leave here) (ap is_some e) q)
+
+          by : (t : Bool) → is_on_central r ≡ t → r.holds ≡ false → is_some r.outward.primary ≡ true → r.gone_sent ≡ false → is_calm r ≡ true
+          by false q f p u = grind (arith, e, off, s.marked, s.wake, q, f, p, u)
+          by true q f p u =
+              let dry = central_dry w b law.records law.inv quiet law.ranked law.flagged law.wakers law.unread k r here (ap is_some e) q in
+              grind (arith, e, off, s.marked, s.wake, q, f, p, dry, u)
 
   still-boxes : (boxes : List (List Message)) → are_empty boxes ≡ true → total_list (total_list message_stir) boxes ≡ 0
   still-boxes [] h = refl
@@ -367,3 +390,55 @@ module _ (w : World) (b : Books) (g : Routes) (law : Lawful w b g) (quiet : IsQu
   pub quiet-stir : stir w ≡ 0
   unfolding stir
   quiet-stir = omega (arith, list-none node_stir w.nodes still-node, list-none mail_stir w.mail still-mail)
+
+  -- and what isn't read is no Gone, nor a mark for a closed end
+  pub quiet-dull : IsDull b
+  quiet-dull e n x unread put = (gone (is_gone_item x) refl, λ closed. absurd (read_on closed))
+    where
+      read_on : is_closed b (opposite_end e) ≡ true → ⊥
+      read_on closed = omega (
+        arith,
+        unread,
+        closed_read w b law.records law.inv quiet law.ranked law.flagged (opposite_end e) closed,
+        ap (λ d. length (b.put d)) (opposite_end-twice e),
+        slice_get_within (b.put e) n x put,
+      )
+
+      is : (y : Item) → is_gone_item y ≡ true → y ≡ Gone
+      is (Parcel p) h = cc
+      is Mark h = cc
+      is Gone h = refl
+
+      gone : (t : Bool) → is_gone_item x ≡ t → is_gone_item x ≡ false
+      gone false h = h
+      gone true h = absurd (read_on (law.inv.retired_ends.peer_closed e (gone_found (b.put e) n (put ∙ ap Some (is x h)))))
+
+-- parcels keep it so
+pub puts-dull : (w u : World) (b d : Books) (ps : List PlainPut) → IsDull b → ArePuts w b ps u d → IsDull d
+puts-dull w u b d [] dull run = subst IsDull (sym run.1) dull
+puts-dull w u b d (p ∷ ps) dull run = puts-dull (after_put w p) u (add_put b p.at (Parcel (plain_parcel p))) d ps now run.1
+  where
+    now : IsDull (add_put b p.at (Parcel (plain_parcel p)))
+    now e n x unread put = go (same_end e p.at) refl put
+      where
+        older : is_closed (add_put b p.at (Parcel (plain_parcel p))) (opposite_end e) ≡ true → is_closed b (opposite_end e) ≡ true
+        older h = by (same_end (opposite_end e) p.at) refl h
+          where
+            or-false : (a : Bool) → (a || false) ≡ a
+            or-false true = refl
+            or-false false = refl
+
+            by : (t : Bool) → same_end (opposite_end e) p.at ≡ t →
+                has_mark (cond t (b.put p.at ++ Parcel (plain_parcel p) ∷ []) (b.put (opposite_end e))) ≡ true → is_closed b (opposite_end e) ≡ true
+            by false q h = h
+            by true q h = ap (is_closed b) (same_end-tells (opposite_end e) p.at q) ∙
+                sym (has_mark-more (b.put p.at) (Parcel (plain_parcel p)) ∙ or-false (has_mark (b.put p.at))) ∙ h
+
+        go : (t : Bool) → same_end e p.at ≡ t → slice_get (cond t (b.put p.at ++ Parcel (plain_parcel p) ∷ []) (b.put e)) n ≡ Some x →
+            (is_gone_item x ≡ false) × (is_closed (add_put b p.at (Parcel (plain_parcel p))) (opposite_end e) ≡ true → is_mark x ≡ false)
+        go false q h = let d = dull e n x unread h in (d.0, λ k. d.1 (older k))
+        go true q h = let is : e ≡ p.at = same_end-tells e p.at q in
+            elim (slice_get-last (b.put p.at) (Parcel (plain_parcel p)) x n h) [
+              | inl k ↦ let d = dull e n x unread (ap (λ z. slice_get (b.put z) n) is ∙ k) in (d.0, λ c. d.1 (older c))
+              | inr k ↦ (ap is_gone_item k.1, λ c. ap is_mark k.1)
+            ]

@@ -6,7 +6,7 @@ use Rattle.ipcz_base.specs.Ends.{opposite_end}
 use Rattle.ipcz_edge.specs.Edge.{Edge, choose}
 use Rattle.ipcz_seq.specs.Queue.{current_item, item_at, push_at}
 use Rattle.ipcz_router.specs.Router.{Router, is_terminal, is_proxy}
-use Rattle.ipcz_router.specs.Acts.{pop_out, pop_in, way_in}
+use Rattle.ipcz_router.specs.Acts.{pop_out, pop_in, drop_item, way_in}
 use Rattle.ipcz_router.specs.Calls.{accept, next_number}
 use Rattle.ipcz_router.specs.Bypass.{stop_proxying}
 use Rattle.ipcz_router.specs.ActEffects.{finish_in, begin_bypass}
@@ -15,7 +15,21 @@ use Rattle.ipcz_world.proofs.weights.Booking.{reach-push}
 use Rattle.ipcz_world.specs.Ranks.{Rates, worth_left, router_worth}
 use Rattle.ipcz_world.specs.PutBounds.{router_stays}
 
--- it is no more than the router's worth
+-- it is no more than its numbers are worth
+pub stays-left : (c : Rates) (r : Router) → router_stays c r ≤ worth_left c r.end r.out_queue.current r.in_queue.current
+unfolding router_stays
+stays-left c r = go (is_terminal r) (is_reach r.out_queue).from
+  where
+    times : (p x y z : ℕ) → x ≤ y → p * (x + z) ≤ p * (y + z)
+    times p x y z h = let e : y ≡ x + (y - x) = omega (arith, h) in rw e (omega arith)
+
+    go : (t : Bool) → r.out_queue.current ≤ next_number r → cond t (worth_left c r.end (next_number r) r.in_queue.current) 0 ≤
+        worth_left c r.end r.out_queue.current r.in_queue.current
+    go true h = times (c.price r.end.pair) (c.cap r.end - next_number r) (c.cap r.end - r.out_queue.current)
+        (c.cap (opposite_end r.end) - r.in_queue.current) (omega (arith, h))
+    go false h = omega arith
+
+-- nor than the router's worth
 pub stays-most : (c : Rates) (r : Router) → router_stays c r ≤ router_worth c r
 unfolding router_stays router_worth
 stays-most c r = go (is_terminal r) (is_reach r.out_queue).from
@@ -94,6 +108,10 @@ less-pop_in c r six = go (is_terminal r)
         cond t (worth_left c r.end (next_number r) (r.in_queue.current + 1)) 0 + 6
     go true = rw six (omega arith)
     go false = omega arith
+
+pub less-drop : (c : Rates) (r : Router) → c.price r.end.pair ≡ 6 → router_stays c r ≤ router_stays c (drop_item r) + 6
+unfolding router_stays
+less-drop c r six = less-pop_in c r six
 
 -- the mark, or another item, is put
 pub less-put : (c : Rates) (r y : Router) (item : Item) → c.price r.end.pair ≡ 6 → item_at r.out_queue (next_number r + 1) ≡ None →

@@ -1,7 +1,8 @@
 -- What each act of a router makes of its worth.
-use Rattle.std.specs.Prelude.{◌≡◌, ◌≤◌, ◌<◌, ℕ, ◌+◌, ◌*◌, ◌-◌, Bool, true, false, not, cond, ◌&&◌, Option, Some, None}
+use Rattle.std.specs.Prelude.{◌≡◌, ◌⊎◌, ◌≤◌, ◌<◌, ℕ, ◌+◌, ◌*◌, ◌-◌, Bool, true, false, not, cond, ◌&&◌, Option, Some, None}
 use Rattle.std.specs.Prelude.{is_some, is_none, refl}
-use Rattle.std.proofs.Common.{arith}
+use Rattle.std.proofs.Common.{arith, ap, ◌∙◌, inl, inr}
+use Rattle.ipcz_world.proofs.facts.Tests.{not_both, and_first}
 use Rattle.ipcz_base.specs.declared.side.Side.{Side}
 use Rattle.ipcz_base.specs.declared.link_end.LinkEnd.{LinkEnd}
 use Rattle.ipcz_base.specs.declared.descriptor.Descriptor.{Descriptor}
@@ -9,14 +10,14 @@ use Rattle.ipcz_base.specs.declared.item.Item.{Item}
 use Rattle.ipcz_base.specs.Ends.{opposite_end}
 use Rattle.ipcz_base.specs.Links.{word_of}
 use Rattle.ipcz_edge.specs.Edge.{Edge, edge_decays}
-use Rattle.ipcz_router.specs.Router.{Router, is_proxy, is_on_central, inward_edge, rouse, from_descriptor}
-use Rattle.ipcz_router.specs.Acts.{pop_out, pop_in, rest}
+use Rattle.ipcz_router.specs.Router.{Router, is_proxy, is_terminal, is_on_central, inward_edge, rouse, from_descriptor}
+use Rattle.ipcz_router.specs.Acts.{pop_out, pop_in, send_on, drop_item, rest}
 use Rattle.ipcz_router.specs.Bypass.{bypass_peer, accept_bypass, stop_proxying, proxy_will_stop}
 use Rattle.ipcz_router.specs.Calls.{accept, extend}
 use Rattle.ipcz_router.specs.Closing.{close_router}
 use Rattle.ipcz_router.specs.ActEffects.{finish_out, finish_in, mark_side, wake_other, claim_word, run_dry, take_lock, fail_lock}
 use Rattle.ipcz_router.specs.ActEffects.{begin_bypass, drop_lock}
-use Rattle.ipcz_world.specs.Ranks.{Rates, worth, worth_left, router_worth, is_unbegun, bypass_worth}
+use Rattle.ipcz_world.specs.Ranks.{Rates, worth, worth_left, router_worth, is_unbegun}
 
 pub worth-most : (n : ℕ) (b : Bool) → worth n b ≤ n
 worth-most n true = omega arith
@@ -61,6 +62,16 @@ lower-pop_in c r h = omega (
   passed-in (c.price r.end.pair) (c.cap (opposite_end r.end)) r.in_queue.current (c.cap r.end - r.out_queue.current) h,
 )
 
+pub lower-send_on : (c : Rates) (r : Router) → r.in_queue.current < c.cap (opposite_end r.end) →
+    router_worth c (send_on r) + c.price r.end.pair ≤ router_worth c r
+unfolding router_worth
+lower-send_on c r h = omega (arith, lower-pop_in c r h)
+
+pub lower-drop : (c : Rates) (r : Router) → r.in_queue.current < c.cap (opposite_end r.end) →
+    router_worth c (drop_item r) + c.price r.end.pair ≤ router_worth c r
+unfolding router_worth
+lower-drop c r h = omega (arith, lower-pop_in c r h)
+
 -- the side is marked, and a wake may be owed
 pub lower-mark : (c : Rates) (r : Router) (was : Bool) → is_on_central r ≡ true → r.marked ≡ false →
     router_worth c (mark_side r was) + 1 ≤ router_worth c r
@@ -83,33 +94,50 @@ pub lower-dry : (c : Rates) (r : Router) → is_unbegun r ≡ true → r.spare �
 unfolding router_worth
 lower-dry c r u s d = rw (u, s, d) (omega arith)
 
--- the lock is got, or not
-pub lower-lock : (c : Rates) (r : Router) → is_unbegun r ≡ true → r.holds ≡ false → router_worth c (take_lock r) + 1 ≤ router_worth c r
-unfolding router_worth
-lower-lock c r u h = rw (u, h) (omega arith)
+-- a terminal is no proxy
+pub terminal-proxy : (r : Router) → is_terminal r ≡ not (is_proxy r)
+terminal-proxy r = go r.inward
+  where
+    go : (o : Option Edge) → is_none o ≡ not (is_some o)
+    go None = refl
+    go (Some x) = refl
 
-pub lower-try : (c : Rates) (r : Router) → is_unbegun r ≡ true → r.tried ≡ false → router_worth c (fail_lock r) + 1 ≤ router_worth c r
+pub unbegun-terminal : (r : Router) → is_unbegun r ≡ true → is_terminal r ≡ false
+unbegun-terminal r u = terminal-proxy r ∙ ap not (and_first (is_proxy r) (is_some r.outward.primary) u)
+
+-- who may try for a lock: a proxy that hasn't begun, or a sink
+abbrev pub IsLocker : Router → Type 0
+IsLocker r = (is_unbegun r ≡ true) ⊎ ((is_terminal r ≡ true) × (r.closed ≡ true))
+
+-- the lock is got, or not
+pub lower-lock : (c : Rates) (r : Router) → IsLocker r → r.holds ≡ false → router_worth c (take_lock r) + 1 ≤ router_worth c r
 unfolding router_worth
-lower-try c r u h = rw (u, h) (omega arith)
+lower-lock c r (inl u) h = let t = unbegun-terminal r u in rw (u, t, h) (omega arith)
+lower-lock c r (inr s) h = go (is_unbegun r) refl s.0
+  where
+    go : (a : Bool) → is_unbegun r ≡ a → is_terminal r ≡ true → router_worth c (take_lock r) + 1 ≤ router_worth c r
+    go true e t = absurd (not_both (is_terminal r) t (unbegun-terminal r e))
+    go false e t = rw (e, t, h) (omega arith)
+
+pub lower-try : (c : Rates) (r : Router) → IsLocker r → r.tried ≡ false → router_worth c (fail_lock r) + 1 ≤ router_worth c r
+unfolding router_worth
+lower-try c r (inl u) h = let t = unbegun-terminal r u in rw (u, t, h) (omega arith)
+lower-try c r (inr s) h = go (is_unbegun r) refl s.0 s.1
+  where
+    go : (a : Bool) → is_unbegun r ≡ a → is_terminal r ≡ true → r.closed ≡ true → router_worth c (fail_lock r) + 1 ≤ router_worth c r
+    go true e t k = absurd (not_both (is_terminal r) t (unbegun-terminal r e))
+    go false e t k = rw (e, t, h, k) (omega arith)
 
 -- a router is roused
 pub more-rouse : (c : Rates) (r : Router) → router_worth c (rouse r) ≤ router_worth c r + 2
 unfolding router_worth
-more-rouse c r = go (is_unbegun r)
+more-rouse c r = go (is_unbegun r) (is_terminal r) refl refl
   where
-    bypass : ℕ
-    bypass = 41 + (worth 1 (is_none r.spare && not r.dry) + (worth 1 (not r.holds) + 1))
-
-    go : (u : Bool) →
-        worth_left c r.end r.out_queue.current r.in_queue.current +
-        (1 + (worth 1 (edge_decays r.outward) + (worth 1 (edge_decays (inward_edge r)) +
-        (worth 1 (is_proxy r) + (cond u (41 + (worth 1 (is_none r.spare && not r.dry) + (worth 1 (not r.holds) + 1))) 0 +
-        (worth 7 (is_on_central r && not r.marked) + worth 6 r.wake_owed)))))) ≤
-        worth_left c r.end r.out_queue.current r.in_queue.current +
-        (worth 1 r.flagged + (worth 1 (edge_decays r.outward) + (worth 1 (edge_decays (inward_edge r)) +
-        (worth 1 (is_proxy r) + (cond u (bypass_worth r) 0 + (worth 7 (is_on_central r && not r.marked) + worth 6 r.wake_owed)))))) + 2
-    go true = omega arith
-    go false = omega arith
+    go : (u t : Bool) → is_unbegun r ≡ u → is_terminal r ≡ t → router_worth c (rouse r) ≤ router_worth c r + 2
+    go true true e f = absurd (not_both (is_terminal r) f (unbegun-terminal r e))
+    go true false e f = rw (e, f) (omega arith)
+    go false true e f = rw (e, f) (omega arith)
+    go false false e f = rw (e, f) (omega arith)
 
 -- an item comes; a terminal is closed
 pub more-accept : (c : Rates) (r : Router) (b : Bool) (n : ℕ) (item : Item) → router_worth c (accept r b n item) ≤ router_worth c r + 2
@@ -162,7 +190,7 @@ more-extend c r link = go (is_some r.outward.primary) refl
 
 -- a terminal that a descriptor makes
 pub worth-moved : (c : Rates) (d : Descriptor) (sender : ℕ) →
-    router_worth c (from_descriptor d sender) ≤ 7 + worth_left c d.end d.next_out d.next_in
+    router_worth c (from_descriptor d sender) ≤ 9 + worth_left c d.end d.next_out d.next_in
 unfolding router_worth
 worth-moved c d sender = omega (arith, worth-most 7 (is_on_central (from_descriptor d sender) && not (from_descriptor d sender).marked))
 
@@ -215,11 +243,13 @@ central-some r h = go r.outward.primary h
 -- the lock is given back; a rest is worth nothing more
 pub more-unlock : (c : Rates) (r : Router) → router_worth c (drop_lock r) ≤ router_worth c r + 2
 unfolding router_worth
-more-unlock c r = go (is_unbegun r) refl
+more-unlock c r = go (is_unbegun r) (is_terminal r) refl refl
   where
-    go : (u : Bool) → is_unbegun r ≡ u → router_worth c (drop_lock r) ≤ router_worth c r + 2
-    go true e = rw e (omega arith)
-    go false e = rw e (omega arith)
+    go : (u t : Bool) → is_unbegun r ≡ u → is_terminal r ≡ t → router_worth c (drop_lock r) ≤ router_worth c r + 2
+    go true true e f = absurd (not_both (is_terminal r) f (unbegun-terminal r e))
+    go true false e f = rw (e, f) (omega arith)
+    go false true e f = rw (e, f) (omega arith)
+    go false false e f = rw (e, f) (omega arith)
 
 pub most-rest : (c : Rates) (r : Router) → router_worth c (rest r) ≤ router_worth c r
 unfolding router_worth

@@ -1,10 +1,10 @@
 -- The turns of a settle: each takes the first act of a node, or the unlock that stands in for a begin, and is paid by the rank.
-use Rattle.std.specs.Prelude.{◌≡◌, ◌⊎◌, ◌≤◌, ◌<◌, ℕ, ◌+◌, ◌*◌, Bool, true, false, nat_lt, Option, Some, None, List, [], ◌∷◌, refl}
+use Rattle.std.specs.Prelude.{◌≡◌, ◌⊎◌, ◌≤◌, ◌<◌, ℕ, ◌+◌, ◌*◌, Bool, true, false, cond, ◌&&◌, ◌||◌, nat_eq, nat_lt, Option, Some, None, List, [], ◌∷◌, length, refl}
 use Rattle.std.proofs.Common.{arith, ap, subst, ◌∙◌, sym, inl, inr}
 use Rattle.std.proofs.lemmas.Bool.Decides.{nat_tests}
-use Rattle.ipcz_world.proofs.Vocabulary.{End, Router, Node, Found, router_in, RouterAct, Act, Close, Hand, World, node_at, router_at, Books}
+use Rattle.ipcz_world.proofs.Vocabulary.{End, Router, Node, Found, router_in, RouterAct, Act, Close, Hand, World, node_at, router_at, Books, read, opposite_end, is_terminal}
 use Rattle.ipcz_world.proofs.Vocabulary.{after_act, answer_of, unless, commit, output_of}
-use Rattle.ipcz_router.specs.ActEffects.{apply, drop_lock}
+use Rattle.ipcz_router.specs.ActEffects.{apply, drop_lock, leaves_by}
 use Rattle.ipcz_router.specs.declared.act.RouterAct.TheVariants as acts
 use Rattle.ipcz_router.specs.declared.act.Answer.{Answer}
 use Rattle.ipcz_node.specs.declared.act.Act.TheVariants.{Look, Post, Router as OfRouter, Idle}
@@ -25,11 +25,16 @@ use Rattle.ipcz_world.specs.declared.step.Settled.{Settled}
 use Rattle.ipcz_world.specs.declared.step.Settled.TheVariants as ends
 use Rattle.ipcz_world.specs.Settling.{AreVisits, HasAct, IsSettle, next_node}
 use Rattle.ipcz_world.specs.Lawful.{Lawful}
-use Rattle.ipcz_world.specs.WorldLaws.{StepKeepsLawful, FirstIsPossible, QuietIsDirect, QuietHasNoProxy}
+use Rattle.ipcz_world.specs.WorldLaws.{StepKeepsLawful, FirstIsPossible, QuietIsDirect, ClosedPairsAreGone, QuietHasNoProxy}
 use Rattle.ipcz_world.specs.Ranks.{Rates, worth, router_worth, is_unbegun, node_worth, rank, IsRated, is_unlock, uses_up, moving_worth}
 use Rattle.ipcz_world.specs.Ranks.{TurnsKeepRates}
 use Rattle.ipcz_world.specs.SettleBounds.{VisitsAreBounded, UnsettledIsBounded, PlainAreRated, PlainLimitIsEnough}
-use Rattle.ipcz_world.specs.SettleBounds.{FitsMost, unlocks_taken, SettledIsDirect, plain_rates}
+use Rattle.ipcz_world.specs.SettleBounds.{FitsMost, unlocks_taken, SettledIsDirect, is_over, plain_rates}
+use Rattle.ipcz_world.specs.Books.{is_retired}
+use Rattle.ipcz_world.specs.Ranks.{may_put}
+use Rattle.std.proofs.lemmas.Option.{slice_get_within}
+use Rattle.ipcz_world.proofs.facts.Tests.{nat_eq-is, and_second, not_both}
+use Rattle.ipcz_world.proofs.ranks.RouterWorths.{unbegun-terminal}
 use Rattle.ipcz_base.specs.Items.{ends_in}
 use Rattle.ipcz_world.proofs.facts.Finding.{found_tells}
 use Rattle.ipcz_world.proofs.runs.Choosing.{next_possible}
@@ -41,11 +46,13 @@ use Rattle.ipcz_world.proofs.ranks.Unused.{used}
 -- a flagged router gives its lock back
 flagged-unlock : (c : Rates) (r : Router) → r.flagged ≡ true → router_worth c (drop_lock r) ≤ router_worth c r + 1
 unfolding router_worth
-flagged-unlock c r up = go (is_unbegun r) refl
+flagged-unlock c r up = go (is_unbegun r) (is_terminal r) refl refl
   where
-    go : (u : Bool) → is_unbegun r ≡ u → router_worth c (drop_lock r) ≤ router_worth c r + 1
-    go true e = rw (e, up) (omega arith)
-    go false e = rw (e, up) (omega arith)
+    go : (u t : Bool) → is_unbegun r ≡ u → is_terminal r ≡ t → router_worth c (drop_lock r) ≤ router_worth c r + 1
+    go true true e f = absurd (not_both (is_terminal r) f (unbegun-terminal r e))
+    go true false e f = rw (e, f, up) (omega arith)
+    go false true e f = rw (e, f, up) (omega arith)
+    go false false e f = rw (e, f, up) (omega arith)
 
 -- the router of an act of a router is there and flagged
 abbrev IsFlaggedAct : World → ℕ → Act → Type 0
@@ -82,7 +89,7 @@ module _ (w : World) (n : ℕ) where
 -- an unlock of a flagged router
 unlocked : (c : Rates) (w : World) (n s : ℕ) (r : Router) → router_in (node_at w n) s ≡ Some r → r.flagged ≡ true →
     rank c (after_act w n (OfRouter s acts.Unlock)) ≤ rank c w + 1
-unfolding after_act router_at after_router_act commit on_router commit_router keep_or_drop apply output_of send
+unfolding after_act router_at after_router_act commit on_router commit_router keep_or_drop leaves_by apply output_of send
 unlocked c w n s r e up =
     let x : Node = node_at w n in
     let a : Answer = answer_of w r acts.Unlock in
@@ -102,8 +109,8 @@ unlocked c w n s r e up =
       flagged-unlock c r up,
     )
 
--- what a begin that stands for itself is, or the unlock in its place
-stood-in : (act : Act) → (stand_in act ≡ act) ⊎ ((s : ℕ) × (act ≡ OfRouter s acts.Begin) × (stand_in act ≡ OfRouter s acts.Unlock))
+-- what an act that stands for itself is, or the unlock in the place of a begin or a retire
+stood-in : (act : Act) → (stand_in act ≡ act) ⊎ ((s : ℕ) × (a : RouterAct) × (act ≡ OfRouter s a) × (stand_in act ≡ OfRouter s acts.Unlock))
 unfolding stand_in
 stood-in (Hand from) = inl refl
 stood-in (Look from) = inl refl
@@ -122,7 +129,8 @@ stood-in (OfRouter s acts.Claim) = inl refl
 stood-in (OfRouter s acts.Lock) = inl refl
 stood-in (OfRouter s acts.Unlock) = inl refl
 stood-in (OfRouter s acts.Rest) = inl refl
-stood-in (OfRouter s acts.Begin) = inr (s, refl, refl)
+stood-in (OfRouter s acts.Begin) = inr (s, acts.Begin, refl, refl)
+stood-in (OfRouter s acts.Retire) = inr (s, acts.Retire, refl, refl)
 
 module _ (c : Rates) (w : World) (b : Books) (g : Routes) (n : ℕ) (law : Lawful w b g) (rated : IsRated c b) (has : HasAct w n) where
   spent : uses_up w n (next_at w n) ≡ true
@@ -142,8 +150,8 @@ module _ (c : Rates) (w : World) (b : Books) (g : Routes) (n : ℕ) (law : Lawfu
   first-paid act (inr e) = elim (stood-in (next_at w n)) [
     | inl same ↦ omega (arith, ap (λ a. rank c (after_act w n a)) (e ∙ same), first-lowers)
     | inr k ↦
-        let is : act ≡ OfRouter k.0 acts.Unlock = e ∙ k.2 in
-        let f = flagged-first w n k.0 acts.Begin k.1 in
+        let is : act ≡ OfRouter k.0 acts.Unlock = e ∙ k.3 in
+        let f = flagged-first w n k.0 k.1 k.2 in
         let one : worth 1 (is_unlock act) ≡ 1 = ap (λ a. worth 1 (is_unlock a)) is in
         omega (arith, ap (λ a. rank c (after_act w n a)) is, one, unlocked c w n k.0 f.0 f.1 f.2)
   ]
@@ -215,20 +223,41 @@ unsettled_is_bounded keeps possible rates limit w v b g c law rated s =
 -- where no item carries an end
 pub plain_are_rated : PlainAreRated
 plain_are_rated b none = record {
-  capped = λ e. omega arith;
+  capped = λ e n item l at. caps e n (is_over b e) refl l (slice_get_within (b.put e) n item at);
+  room = λ e h k. open_room e (is_retired b e) (is_retired b (opposite_end e)) h k;
   least = λ pair. omega arith;
   pays = λ e n item l at.
       let free : moving_worth (plain_rates b) (ends_in item) ≡ 0 = ap (moving_worth (plain_rates b)) (none e n item l at) in
       omega (arith, free);
 }
+  where
+    caps : (e : End) (n : ℕ) (t : Bool) → is_over b e ≡ t → read b (opposite_end e) ≤ n → n < length (b.put e) →
+        n < cond t 0 (length (b.put e) + may_put b e)
+    caps e n false q l at = omega (arith, at)
+    caps e n true q l at = absurd (omega (
+      arith,
+      l,
+      at,
+      nat_eq-is (read b (opposite_end e)) (length (b.put e))
+          (and_second (is_retired b e || is_retired b (opposite_end e)) (nat_eq (read b (opposite_end e)) (length (b.put e))) q),
+    ))
+
+    open_room : (e : End) (t u : Bool) → t ≡ false → u ≡ false →
+        length (b.put e) + may_put b e ≤ cond ((t || u) && nat_eq (read b (opposite_end e)) (length (b.put e))) 0 (length (b.put e) + may_put b e)
+    open_room e true u h k = cc
+    open_room e false true h k = cc
+    open_room e false false h k = omega arith
 
 pub plain_limit_is_enough : StepKeepsLawful → FirstIsPossible → TurnsKeepRates → PlainLimitIsEnough
 plain_limit_is_enough keeps possible rates limit w v b g law none s =
     unsettled_is_bounded keeps possible rates limit w v b g (plain_rates b) law (plain_are_rated b none) s
 
-pub settled_is_direct : QuietIsDirect → QuietHasNoProxy → SettledIsDirect
-settled_is_direct direct proxies limit acts w v b g s law wet =
-    (proxies v b g law s.answers.1 wet, λ pair opened. direct v b g pair law s.answers.1 wet opened)
+pub settled_is_direct : QuietIsDirect → ClosedPairsAreGone → QuietHasNoProxy → SettledIsDirect
+settled_is_direct direct gone proxies limit acts w v b g s law wet = (
+  proxies v b g law s.answers.1 wet,
+  gone v b g law s.answers.1 wet,
+  λ pair s_ opened open_. direct v b g pair s_ law s.answers.1 wet opened open_,
+)
 
 -- the answer of a settle fits its rank
 pub answer_fits : StepKeepsLawful → FirstIsPossible → TurnsKeepRates → (limit : ℕ) (w v : World) (answer : Settled)

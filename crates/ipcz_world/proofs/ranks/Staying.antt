@@ -1,5 +1,5 @@
 -- What stays with the terminals is used by no turn, where no unread item carries an end.
-use Rattle.std.specs.Prelude.{◌≡◌, ◌≤◌, ◌<◌, ℕ, ◌+◌, ◌*◌, Bool, true, false, ◌||◌, if◌then◌else◌, nat_lt, Option, Some, None, is_some}
+use Rattle.std.specs.Prelude.{◌≡◌, ◌≤◌, ◌<◌, ℕ, ◌+◌, ◌*◌, Bool, true, false, cond, ◌||◌, ◌++◌, if◌then◌else◌, nat_lt, Option, Some, None, is_some}
 use Rattle.std.specs.Prelude.{List, [], ◌∷◌, length, refl}
 use Rattle.std.proofs.Common.{arith, ap, subst, sym}
 use Rattle.std.specs.Ordering.{nat_cmp}
@@ -9,16 +9,19 @@ use Rattle.ipcz_world.proofs.Vocabulary.{router_in, commit, World, node_at, mail
 use Rattle.ipcz_world.proofs.Vocabulary.{set_node, set_word, set_claimed, set_mail, after_act, can_take, hand_message, messages_in, output_of, primary_word}
 use Rattle.ipcz_world.proofs.Vocabulary.{place_at, with_router}
 use Rattle.ipcz_router.specs.Router.{source_of}
-use Rattle.ipcz_router.specs.Acts.{pop_in}
+use Rattle.ipcz_router.specs.Acts.{drop_item, has_gone_next}
+use Rattle.ipcz_base.specs.Ends.{opposite_end}
+use Rattle.ipcz_base.specs.declared.item.Item.TheVariants.{Gone}
+use Rattle.ipcz_base.specs.declared.link_end.LinkEnd.{LinkEnd}
 use Rattle.ipcz_router.specs.ActTable.{is_possible, may_take, is_rest}
-use Rattle.ipcz_router.specs.ActEffects.{apply, discard_output}
+use Rattle.ipcz_router.specs.ActEffects.{apply, leaves_by, discard_output, retire_output}
 use Rattle.ipcz_router.specs.Calls.{next_number}
 use Rattle.ipcz_router.specs.declared.act.RouterAct.TheVariants as acts
 use Rattle.ipcz_router.specs.declared.act.Answer.{Answer}
 use Rattle.ipcz_router.specs.declared.act.Answer.TheVariants as answers
 use Rattle.ipcz_seq.specs.Queue.{current_item}
 use Rattle.ipcz_node.specs.declared.act.Act.TheVariants.{Look, Post, Router as OfRouter, Idle}
-use Rattle.ipcz_node.specs.Node.{on_router}
+use Rattle.ipcz_node.specs.Node.{on_router, without_router}
 use Rattle.ipcz_node.specs.Sends.{send}
 use Rattle.ipcz_node.specs.Hands.{deliver}
 use Rattle.ipcz_node.specs.Acts.{commit_router, keep_or_drop, post_of}
@@ -35,15 +38,15 @@ use Rattle.ipcz_world.specs.WorldLaws.{StepKeepsLawful}
 use Rattle.ipcz_world.specs.SettleBounds.{CarryNone, plain_rates}
 use Rattle.ipcz_world.specs.Ranks.{Rates, worth, moving_worth, router_worth, node_worth, rank, IsRated, IsTaken, AreTurns, is_unlock, uses_up, times_used, unlock_count}
 use Rattle.ipcz_world.specs.Ranks.{TurnsKeepRates}
-use Rattle.ipcz_world.specs.PutBounds.{router_stays, node_stays, stays, pending_closes, is_discard, discard_count, StayingIsUnused}
+use Rattle.ipcz_world.specs.PutBounds.{router_stays, node_stays, stays, pending_closes, is_discard, discard_count, is_retire, retire_count, StayingIsUnused}
 use Rattle.ipcz_world.proofs.facts.Tests.{and_second}
 use Rattle.ipcz_world.proofs.weights.Booking.{out_numbers}
 use Rattle.ipcz_world.proofs.weights.Totalling.{total_list-put_place}
 use Rattle.ipcz_world.proofs.ranks.RouterStays.{stays-most}
-use Rattle.ipcz_world.proofs.ranks.RouterWorths.{lower-pop_in, worth-most}
-use Rattle.ipcz_world.proofs.ranks.NodeWorths.{node-with, node-pending}
+use Rattle.ipcz_world.proofs.ranks.RouterWorths.{lower-drop, worth-most}
+use Rattle.ipcz_world.proofs.ranks.NodeWorths.{node-with, node-without, node-pending, node-sent}
 use Rattle.ipcz_world.proofs.ranks.NodeActs.{CanPay}
-use Rattle.ipcz_world.proofs.ranks.NodeStays.{KeepsBut, IsBare, router-keeps, keeps-closed, keeps-delivered}
+use Rattle.ipcz_world.proofs.ranks.NodeStays.{KeepsBut, IsBare, lost_by, router-keeps, keeps-closed, keeps-delivered}
 use Rattle.ipcz_world.proofs.ranks.WorldRanks.{IsSameBut, same-touched, rank-set_node, answered}
 use Rattle.ipcz_world.proofs.ranks.Paying.{can_pay}
 use Rattle.ipcz_world.proofs.ranks.Turning.{turned, stepped}
@@ -109,6 +112,7 @@ touched-nodes w r acts.FinishOut = refl
 touched-nodes w r acts.FinishIn = refl
 touched-nodes w r acts.Leave = refl
 touched-nodes w r acts.Begin = refl
+touched-nodes w r acts.Retire = refl
 touched-nodes w r acts.Rest = refl
 
 -- where each number is worth six no more, no item carries an end
@@ -136,7 +140,7 @@ module _ (c : Rates) (w : World) (b : Books) (g : Routes) (law : Lawful w b g) (
 
   paying : (n s : ℕ) (r : Router) → n < w.count → router_in (node_at w n) s ≡ Some r → CanPay c r
   unfolding router_at
-  paying n s r l here = can_pay w b law.records c (record { node = n; serial = s }) r law.conserved l here rated
+  paying n s r l here = can_pay w b law.records c (record { node = n; serial = s }) r law.inv l here rated
 
   pub bare : (n s : ℕ) (r : Router) → n < w.count → router_in (node_at w n) s ≡ Some r → IsBare c r
   bare n s r l here = let pay = paying n s r l here in record {
@@ -170,8 +174,13 @@ module _ (c : Rates) (w : World) (b : Books) (g : Routes) (law : Lawful w b g) (
       same : (x : Node) → KeepsBut c x (commit x (Post to) answers.Plain) 0
       same x = omega arith
 
+  -- what of what stays an act takes
+  abbrev lost_at : Option Router → RouterAct → ℕ
+  lost_at None act = 0
+  lost_at (Some r) act = lost_by c r act
+
   routed : (n s : ℕ) (act : RouterAct) (o : Option Router) → n < w.count → router_in (node_at w n) s ≡ o → may_act o act ≡ true →
-      KeepsWorld c w (after_router_act w n s act o) (6 * worth 1 (is_discard (OfRouter s act)))
+      KeepsWorld c w (after_router_act w n s act o) (lost_at o act)
   unfolding after_router_act may_act commit on_router
   routed n s act None l e may = cc
   routed n s act (Some r) l e may =
@@ -205,8 +214,12 @@ module _ (c : Rates) (w : World) (b : Books) (g : Routes) (law : Lawful w b g) (
       some (x ∷ xs) h = omega arith
 
   -- an act of a node
-  kept : (n : ℕ) (act : Act) → n < w.count → can_take w n act ≡ true → KeepsWorld c w (after_act w n act) (6 * worth 1 (is_discard act))
-  unfolding after_act can_take router_at is_discard
+  abbrev lost_of : ℕ → Act → ℕ
+  lost_of n (OfRouter s act) = lost_at (router_in (node_at w n) s) act
+  lost_of n other = 0
+
+  kept : (n : ℕ) (act : Act) → n < w.count → can_take w n act ≡ true → KeepsWorld c w (after_act w n act) (lost_of n act)
+  unfolding after_act can_take router_at
   kept n (Hand from) l can = handed n from (mail_at w (way w from n)) refl
   kept n (Look from) l can = looked n from (mail_at w (way w from n))
   kept n (Post to) l can = posted n to (post_of (node_at w n) (Post to))
@@ -214,63 +227,100 @@ module _ (c : Rates) (w : World) (b : Books) (g : Routes) (law : Lawful w b g) (
   kept n (OfRouter s act) l can = routed n s act (router_in (node_at w n) s) l refl can
   kept n Idle l can = omega arith
 
-  -- a discard lowers the rank by six
-  dropped : (n s : ℕ) (o : Option Router) → n < w.count → router_in (node_at w n) s ≡ o → may_act o acts.Discard ≡ true →
-      rank c (after_router_act w n s acts.Discard o) + 6 ≤ rank c w
-  unfolding after_router_act may_act commit on_router is_possible is_rest send discard_output commit_router keep_or_drop apply output_of
-  dropped n s None l e may = cc
-  dropped n s (Some r) l e may =
+  -- an act of a router lowers the rank as it lowers its node's worth
+  ranked : (n s : ℕ) (act : RouterAct) (r : Router) (k m : ℕ) → router_in (node_at w n) s ≡ Some r →
+      ((a : Answer) → node_worth c (commit_router (node_at w n) s act a r) + k ≤ node_worth c (node_at w n) + m) →
+      rank c (after_router_act w n s act (Some r)) + k ≤ rank c w + m
+  unfolding after_router_act commit on_router
+  ranked n s act r k m e less =
       let x : Node = node_at w n in
-      let a : Answer = answer_of w r acts.Discard in
-      let same : IsSameBut c w (touch w r acts.Discard) = same-touched c w r acts.Discard in
-      let done : on_router x (router_in x s) (commit_router x s acts.Discard a) ≡ commit_router x s acts.Discard a r =
-      ap (λ o. on_router x o (commit_router x s acts.Discard a)) e in
+      let a : Answer = answer_of w r act in
+      let same : IsSameBut c w (touch w r act) = same-touched c w r act in
+      let done : on_router x (router_in x s) (commit_router x s act a) ≡ commit_router x s act a r =
+      ap (λ o. on_router x o (commit_router x s act a)) e in
       omega (
         arith,
-        rank-set_node c (touch w r acts.Discard) n (on_router x (router_in x s) (commit_router x s acts.Discard a)),
+        rank-set_node c (touch w r act) n (on_router x (router_in x s) (commit_router x s act a)),
         ap (node_worth c) (same.node n),
         ap (node_worth c) done,
         same.rank,
-        lowered x r a e (paying n s r l e) (bare n s r l e) (item_there r may),
+        less a,
       )
+
+  -- a discard lowers the rank by six, or by what the router was worth that leaves
+  dropped : (n s : ℕ) (o : Option Router) → n < w.count → router_in (node_at w n) s ≡ o → may_act o acts.Discard ≡ true →
+      rank c (after_router_act w n s acts.Discard o) + lost_at o acts.Discard ≤ rank c w
+  unfolding may_act is_possible is_rest send discard_output commit_router keep_or_drop leaves_by apply output_of lost_by
+  dropped n s None l e may = cc
+  dropped n s (Some r) l e may = omega (
+    arith,
+    ranked n s acts.Discard r (cond (has_gone_next r) (router_stays c r) 6) 0 e
+        (λ a. omega (arith, lowered a (paying n s r l e) (bare n s r l e) (item_there may))),
+  )
     where
-      item_there : (r : Router) → may_take r acts.Discard ≡ true → is_some (current_item r.in_queue) ≡ true
-      item_there r may = go (is_possible r acts.Discard) refl may
+      x : Node
+      x = node_at w n
+
+      item_there : may_take r acts.Discard ≡ true → is_some (current_item r.in_queue) ≡ true
+      item_there may = go (is_possible r acts.Discard) refl may
         where
           go : (t : Bool) → is_possible r acts.Discard ≡ t → (t || false) ≡ true → is_some (current_item r.in_queue) ≡ true
           go true q h = and_second _ _ q
           go false q h = cc
 
-      lowered : (x : Node) (r : Router) (a : Answer) → router_in x s ≡ Some r → CanPay c r → IsBare c r →
-          is_some (current_item r.in_queue) ≡ true → node_worth c (commit_router x s acts.Discard a r) + 6 ≤ node_worth c x
-      lowered x r a here pay is h = go (current_item r.in_queue) refl h
+      by : (t : Bool) (item : Item) → ends_in item ≡ [] → r.in_queue.current < c.cap (opposite_end r.end) →
+          node_worth c (record (keep_or_drop x s (drop_item r) t) { pending = (keep_or_drop x s (drop_item r) t).pending ++ ends_in item }) +
+          cond t (router_stays c r) 6 ≤ node_worth c x
+      by true item free low = omega (
+        arith,
+        node-pending c (without_router x s) (ends_in item),
+        ap length free,
+        node-without c x s r e,
+        stays-most c r,
+      )
+      by false item free low = omega (
+        arith,
+        node-pending c (with_router x s (drop_item r)) (ends_in item),
+        ap length free,
+        node-with c x s (drop_item r) r e,
+        lower-drop c r low,
+        six r.end.pair,
+      )
+
+      lowered : (a : Answer) → CanPay c r → IsBare c r → is_some (current_item r.in_queue) ≡ true →
+          node_worth c (commit_router x s acts.Discard a r) + cond (has_gone_next r) (router_stays c r) 6 ≤ node_worth c x
+      lowered a pay is h = go (current_item r.in_queue) refl h
         where
           go : (o : Option Item) → current_item r.in_queue ≡ o → is_some o ≡ true →
-              node_worth c (send (with_router x s (pop_in r)) (discard_output r.in_queue.current o)) + 6 ≤ node_worth c x
+              node_worth c (send (keep_or_drop x s (drop_item r) (has_gone_next r)) (discard_output r.in_queue.current o)) +
+              cond (has_gone_next r) (router_stays c r) 6 ≤ node_worth c x
           go None q k = cc
-          go (Some item) q k = omega (
-            arith,
-            node-pending c (with_router x s (pop_in r)) (ends_in item),
-            ap length (is.inner item q),
-            node-with c x s (pop_in r) r here,
-            lower-pop_in c r (pay.inner item q).0,
-            six r.end.pair,
-          )
+          go (Some item) q k = by (has_gone_next r) item (is.inner item q) (pay.inner item q).0
 
-  dropped-act : (n s : ℕ) → n < w.count → can_take w n (OfRouter s acts.Discard) ≡ true →
-      rank c (after_act w n (OfRouter s acts.Discard)) + 6 ≤ rank c w
-  unfolding after_act can_take router_at
-  dropped-act n s l can = dropped n s (router_in (node_at w n) s) l refl can
+  -- a retire lowers the rank by what the router was worth, but for its message
+  left : (n s : ℕ) (o : Option Router) → n < w.count → router_in (node_at w n) s ≡ o → may_act o acts.Retire ≡ true →
+      rank c (after_router_act w n s acts.Retire o) + lost_at o acts.Retire ≤ rank c w + 5
+  unfolding may_act send commit_router keep_or_drop leaves_by apply output_of retire_output lost_by
+  left n s None l e may = cc
+  left n s (Some r) l e may = omega (arith, ranked n s acts.Retire r (router_stays c r) 5 e (λ a. go r.outward.primary))
+    where
+      x : Node
+      x = node_at w n
+
+      go : (o : Option LinkEnd) → node_worth c (send (without_router x s) (retire_output o (next_number r))) + router_stays c r ≤ node_worth c x + 5
+      go None = omega (arith, node-without c x s r e, stays-most c r)
+      go (Some d) = omega (arith, node-without c x s r e, stays-most c r, node-sent c (without_router x s) d (next_number r) Gone)
 
   -- a turn pays for itself out of what doesn't stay
   abbrev Paid : ℕ → Act → Type 0
   Paid n act =
       worth 1 (uses_up w n act) + (rank c (after_act w n act) + (stays c w + 6 * pending_closes (after_act w n act))) ≤
-      rank c w + (stays c (after_act w n act) + (6 * pending_closes w + (worth 1 (is_discard act) + 2 * worth 1 (is_unlock act))))
+      rank c w + (stays c (after_act w n act) + (6 * pending_closes w + (6 * worth 1 (is_retire act) +
+      (worth 1 (is_discard act) + 2 * worth 1 (is_unlock act)))))
 
   paid : (n : ℕ) (act : Act) → IsTaken w n act → Paid n act
-  unfolding is_discard is_unlock
-  paid n act is = go (is_discard act) refl
+  unfolding is_discard is_retire is_unlock lost_by after_act can_take router_at
+  paid n act is = go (is_discard act) (is_retire act) refl refl
     where
       discard-is : (a : Act) → is_discard a ≡ true → (s : ℕ) × (a ≡ OfRouter s acts.Discard)
       discard-is (Hand from) h = cc
@@ -289,26 +339,82 @@ module _ (c : Rates) (w : World) (b : Books) (g : Routes) (law : Lawful w b g) (
       discard-is (OfRouter s acts.Claim) h = cc
       discard-is (OfRouter s acts.Lock) h = cc
       discard-is (OfRouter s acts.Begin) h = cc
+      discard-is (OfRouter s acts.Retire) h = cc
       discard-is (OfRouter s acts.Unlock) h = cc
       discard-is (OfRouter s acts.Rest) h = cc
+
+      retire-is : (a : Act) → is_retire a ≡ true → (s : ℕ) × (a ≡ OfRouter s acts.Retire)
+      retire-is (Hand from) h = cc
+      retire-is (Look from) h = cc
+      retire-is (Post to) h = cc
+      retire-is (Close end) h = cc
+      retire-is Idle h = cc
+      retire-is (OfRouter s acts.Retire) h = (s, refl)
+      retire-is (OfRouter s acts.SendOut) h = cc
+      retire-is (OfRouter s acts.SendIn) h = cc
+      retire-is (OfRouter s acts.Discard) h = cc
+      retire-is (OfRouter s acts.FinishOut) h = cc
+      retire-is (OfRouter s acts.FinishIn) h = cc
+      retire-is (OfRouter s acts.Leave) h = cc
+      retire-is (OfRouter s acts.Mark) h = cc
+      retire-is (OfRouter s acts.Wake) h = cc
+      retire-is (OfRouter s acts.Claim) h = cc
+      retire-is (OfRouter s acts.Lock) h = cc
+      retire-is (OfRouter s acts.Begin) h = cc
+      retire-is (OfRouter s acts.Unlock) h = cc
+      retire-is (OfRouter s acts.Rest) h = cc
+
+      none-lost : (a : Act) → is_discard a ≡ false → is_retire a ≡ false → lost_of n a ≡ 0
+      none-lost (Hand from) h k = refl
+      none-lost (Look from) h k = refl
+      none-lost (Post to) h k = refl
+      none-lost (Close end) h k = refl
+      none-lost Idle h k = refl
+      none-lost (OfRouter s act) h k = by (router_in (node_at w n) s) act h k
+        where
+          by : (o : Option Router) (act : RouterAct) → is_discard (OfRouter s act) ≡ false → is_retire (OfRouter s act) ≡ false → lost_at o act ≡ 0
+          by None act h k = refl
+          by (Some r) acts.Discard h k = cc
+          by (Some r) acts.Retire h k = cc
+          by (Some r) acts.SendOut h k = refl
+          by (Some r) acts.SendIn h k = refl
+          by (Some r) acts.FinishOut h k = refl
+          by (Some r) acts.FinishIn h k = refl
+          by (Some r) acts.Leave h k = refl
+          by (Some r) acts.Mark h k = refl
+          by (Some r) acts.Wake h k = refl
+          by (Some r) acts.Claim h k = refl
+          by (Some r) acts.Lock h k = refl
+          by (Some r) acts.Begin h k = refl
+          by (Some r) acts.Unlock h k = refl
+          by (Some r) acts.Rest h k = refl
 
       discarded : (s : ℕ) → IsTaken w n (OfRouter s acts.Discard) → Paid n (OfRouter s acts.Discard)
       discarded s d = omega (
         arith,
         kept n (OfRouter s acts.Discard) d.node d.may,
-        dropped-act n s d.node d.may,
+        dropped n s (router_in (node_at w n) s) d.node refl d.may,
         worth-most 1 (uses_up w n (OfRouter s acts.Discard)),
       )
 
-      go : (t : Bool) → is_discard act ≡ t → Paid n act
-      go true e = let a = discard-is act e in subst (λ x. IsTaken w n x → Paid n x) (sym a.1) (discarded a.0) is
-      go false e = omega (arith, kept n act is.node is.may, turned c w b g n act law rated is, ap (λ x. worth 1 x) e)
+      retired : (s : ℕ) → IsTaken w n (OfRouter s acts.Retire) → Paid n (OfRouter s acts.Retire)
+      retired s d = omega (
+        arith,
+        kept n (OfRouter s acts.Retire) d.node d.may,
+        left n s (router_in (node_at w n) s) d.node refl d.may,
+        worth-most 1 (uses_up w n (OfRouter s acts.Retire)),
+      )
+
+      go : (t u : Bool) → is_discard act ≡ t → is_retire act ≡ u → Paid n act
+      go true u e f = let a = discard-is act e in subst (λ x. IsTaken w n x → Paid n x) (sym a.1) (discarded a.0) is
+      go false true e f = let a = retire-is act f in subst (λ x. IsTaken w n x → Paid n x) (sym a.1) (retired a.0) is
+      go false false e f = omega (arith, kept n act is.node is.may, none-lost act e f, turned c w b g n act law rated is, ap (λ x. worth 1 x) e, ap (λ x. worth 1 x) f)
 
 -- so do turns
 pub turns-paid : StepKeepsLawful → TurnsKeepRates → (w v : World) (b d : Books) (g h : Routes) (c : Rates) (turns : List (ℕ × Act)) →
     Lawful w b g → IsRated c b → ((pair : ℕ) → c.price pair ≡ 6) → AreTurns w b g turns v d h →
     times_used w turns + (rank c v + (stays c w + 6 * pending_closes v)) ≤
-    rank c w + (stays c v + (6 * pending_closes w + (discard_count turns + 2 * unlock_count turns)))
+    rank c w + (stays c v + (6 * pending_closes w + (6 * retire_count turns + (discard_count turns + 2 * unlock_count turns))))
 unfolding advance routes_after
 turns-paid keeps rates w v b d g h c [] law rated six run =
     let same : rank c v ≡ rank c w = ap (rank c) run.0 in

@@ -1,4 +1,5 @@
 -- Turns alone: how many of them use something up, and that a world in which none can is quiet.
+use Rattle.ipcz_router.specs.ActEffects.{leaves_by}
 use Rattle.std.specs.Prelude.{◌≡◌, ◌≤◌, ℕ, ◌+◌, ◌*◌, Bool, true, false, nat_lt, Option, Some, None, []}
 use Rattle.std.specs.Prelude.{◌∷◌, refl}
 use Rattle.std.proofs.Common.{arith, ap, inl}
@@ -36,7 +37,7 @@ use Rattle.ipcz_world.proofs.ranks.Paying.{acts_lower_the_rank}
 unused-router : (c : Rates) (n : Node) (s : ℕ) (act : RouterAct) (a : Answer) (r : Router) → get n.routers s ≡ Some r →
     spends r act ≡ false →
     node_worth c (commit_router n s act a r) ≤ node_worth c n + 2 * worth 1 (is_unlock (OfRouter s act))
-unfolding spends is_unlock commit_router keep_or_drop apply output_of send
+unfolding spends is_unlock commit_router keep_or_drop leaves_by apply output_of send
 unused-router c n s acts.Unlock a r here h = omega (arith, node-with c n s (drop_lock r) r here, more-unlock c r)
 unused-router c n s acts.Rest a r here h = omega (arith, node-with c n s (rest r) r here, most-rest c r)
 unused-router c n s acts.SendOut a r here h = cc
@@ -50,6 +51,7 @@ unused-router c n s acts.Wake a r here h = cc
 unused-router c n s acts.Claim a r here h = cc
 unused-router c n s acts.Lock a r here h = cc
 unused-router c n s acts.Begin a r here h = cc
+unused-router c n s acts.Retire a r here h = cc
 
 unused-at : (c : Rates) (w : World) (n s : ℕ) (act : RouterAct) (o : Option Router) → router_in (node_at w n) s ≡ o → may_act o act ≡ true →
     spends_at o act ≡ false → rank c (after_router_act w n s act o) ≤ rank c w + 2 * worth 1 (is_unlock (OfRouter s act))

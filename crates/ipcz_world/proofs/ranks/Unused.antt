@@ -38,6 +38,7 @@ spends-always r acts.Wake h = refl
 spends-always r acts.Claim h = refl
 spends-always r acts.Lock h = refl
 spends-always r acts.Begin h = refl
+spends-always r acts.Retire h = refl
 spends-always r acts.Unlock h = cc
 spends-always r acts.Rest h = cc
 

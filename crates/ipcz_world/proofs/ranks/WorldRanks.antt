@@ -1,5 +1,5 @@
 -- Each possible act of a node that uses something up lowers the world's rank.
-use Rattle.std.specs.Prelude.{◌≡◌, ◌≤◌, ℕ, zero, suc, ◌+◌, Bool, true, false, not, ◌||◌, if◌then◌else◌, nat_lt, nat_eq}
+use Rattle.std.specs.Prelude.{◌≡◌, ◌≤◌, ℕ, zero, suc, ◌+◌, Bool, true, false, not, ◌&&◌, ◌||◌, if◌then◌else◌, nat_lt, nat_eq}
 use Rattle.std.specs.Prelude.{Option, Some, None}
 use Rattle.std.specs.Prelude.{is_some, List, [], ◌∷◌, length, replicate, refl}
 use Rattle.std.proofs.Common.{arith, ap, subst, ◌∙◌, sym}
@@ -11,8 +11,9 @@ use Rattle.ipcz_world.proofs.Vocabulary.{mail_at, way}
 use Rattle.ipcz_world.proofs.Vocabulary.{router_at, set_node, set_word, word_at, set_claimed, set_mail, answer_of, after_act, can_take}
 use Rattle.ipcz_world.proofs.Vocabulary.{hand_message}
 use Rattle.ipcz_base.proofs.Totals.{total-empty}
-use Rattle.ipcz_router.specs.Router.{source_of}
-use Rattle.ipcz_router.specs.ActTable.{may_take, is_possible, is_rest}
+use Rattle.ipcz_router.specs.Router.{source_of, is_proxy, decays, is_on_central}
+use Rattle.ipcz_router.specs.ActTable.{may_take, is_possible, is_rest, is_done}
+use Rattle.ipcz_world.proofs.owed.Following.{able-tells}
 use Rattle.ipcz_router.specs.ActEffects.{IsAnswerOf}
 use Rattle.ipcz_router.specs.declared.act.RouterAct.TheVariants as acts
 use Rattle.ipcz_router.specs.declared.act.Answer.{Answer}
@@ -93,6 +94,7 @@ same-touched c w r acts.FinishOut = record { rank = refl; node = λ n. refl }
 same-touched c w r acts.FinishIn = record { rank = refl; node = λ n. refl }
 same-touched c w r acts.Leave = record { rank = refl; node = λ n. refl }
 same-touched c w r acts.Begin = record { rank = refl; node = λ n. refl }
+same-touched c w r acts.Retire = record { rank = refl; node = λ n. refl }
 same-touched c w r acts.Rest = record { rank = refl; node = λ n. refl }
 
 -- a message in hand is handled
@@ -209,11 +211,16 @@ module _ (w : World) (r : Router) where
   answered acts.Mark may = central acts.Mark (primary_word r) (and_first _ _ (or_left _ _ refl may)) (λ x. tt)
   answered acts.Wake may = central acts.Wake (primary_word r) (and_second _ _ (or_left _ _ refl may)) (λ x. tt)
   answered acts.Claim may = claim_is (nat_lt w.claimed w.size)
-  answered acts.Lock may = central acts.Lock (primary_word r) (and_first _ _ (and_second _ _ (and_first _ _ (or_left _ _ refl may))))
+  answered acts.Lock may = central acts.Lock (primary_word r) (able-tells r (or_left _ _ refl may)).central
       (λ x. try_is x r.end.side (source_of r) (plan_of x r.end.side))
   answered acts.Begin may = plain acts.Begin (primary_word r) tt (λ x. refl)
+  answered acts.Retire may = plain acts.Retire (primary_word r) tt (λ x. refl)
   answered acts.Unlock may =
-      central acts.Unlock (primary_word r) (and_first _ _ (and_second _ _ (and_second _ _ (or_left _ _ refl may)))) (λ x. tt)
+      central acts.Unlock (primary_word r) (unlocks (is_proxy r) (is_done r) r.holds (is_on_central r) (decays r) (or_left _ _ refl may)) (λ x. tt)
+    where
+      unlocks : (p d h c e : Bool) → ((p && (h && (c && not e))) || (d && (h && (c && not e)))) ≡ true → c ≡ true
+      unlocks p d h true e q = refl
+      unlocks p d h false e q = grind (arith, q)
   answered acts.Rest may = plain acts.Rest (primary_word r) tt (λ x. refl)
 
 -- a router acts

@@ -1,4 +1,7 @@
 -- What acts are seen to do, and what the run then writes of the routes.
+use Rattle.ipcz_world.specs.Routes.{lose_spare, spare_in}
+use Rattle.ipcz_router.specs.Calls.{next_number}
+use Rattle.ipcz_router.specs.Acts.{has_gone_next}
 use Rattle.ipcz_world.specs.WordAnswers.{source_for}
 use Rattle.std.specs.Prelude.{◌≡◌, ◌⊎◌, ℕ, ◌+◌, Bool, true, false, cond, nat_eq, Option, Some, None, List, [], ◌∷◌, refl}
 use Rattle.std.proofs.Common.{arith, ap, ◌∙◌, inl, inr}
@@ -26,11 +29,13 @@ use Rattle.ipcz_world.specs.Turns.{turn_event, router_seen, hand_seen}
 use Rattle.ipcz_world.specs.Routes.{Routes, add_link, add_fresh, add_peripheral, add_peripherals, hand_of, routes_after_turn}
 use Rattle.ipcz_world.specs.Laws.{KeepsLinks}
 
--- of what kind an event is: a close, a discard, a begin, or another
+-- of what kind an event is: a close, a discard, a begin, a discard of Gone, a retire, or another
 unfoldable pub kind : Happened → ℕ
 kind (events.Close e) = 1
 kind (events.Discard serial number) = 2
 kind (events.Begin serial link) = 3
+kind (events.DiscardLeave serial number) = 4
+kind (events.Retire serial number link) = 5
 kind other = 0
 
 kind-send : (n : Node) (event : ℕ → LinkId → List End → Happened) (a : Applied) →
@@ -65,12 +70,24 @@ kind-unlock serial link (answers.Refused x) = refl
 
 -- what an act of a router is seen to do
 pub router_kind : (n : Node) (s : ℕ) (r : Router) (act : RouterAct) (a : Answer) →
-    (kind (router_event n s r act a) ≡ 0) ⊎ (((act ≡ acts.Discard) × (router_event n s r act a ≡ events.Discard s r.in_queue.current)) ⊎
-    ((act ≡ acts.Begin) × (router_event n s r act a ≡ events.Begin s (link_of r.outward.primary))))
+    (kind (router_event n s r act a) ≡ 0) ⊎
+    (((act ≡ acts.Discard) × (has_gone_next r ≡ false) × (router_event n s r act a ≡ events.Discard s r.in_queue.current)) ⊎
+    (((act ≡ acts.Begin) × (router_event n s r act a ≡ events.Begin s (link_of r.outward.primary))) ⊎
+    (((act ≡ acts.Discard) × (has_gone_next r ≡ true) × (router_event n s r act a ≡ events.DiscardLeave s r.in_queue.current)) ⊎
+    ((act ≡ acts.Retire) × (router_event n s r act a ≡ events.Retire s (next_number r) (link_of r.outward.primary))))))
 unfolding router_event kind
 router_kind n s r acts.SendOut a = inl (kind-send n _ (output_of r acts.SendOut) (λ m l e. refl))
 router_kind n s r acts.SendIn a = inl (kind-send n _ (output_of r acts.SendIn) (λ m l e. refl))
-router_kind n s r acts.Discard a = inr (inl (refl, refl))
+router_kind n s r acts.Discard a = go (has_gone_next r) refl
+  where
+    go : (c : Bool) → has_gone_next r ≡ c → (kind (router_event n s r acts.Discard a) ≡ 0) ⊎
+        (((acts.Discard ≡ acts.Discard) × (has_gone_next r ≡ false) × (router_event n s r acts.Discard a ≡ events.Discard s r.in_queue.current)) ⊎
+        (((acts.Discard ≡ acts.Begin) × (router_event n s r acts.Discard a ≡ events.Begin s (link_of r.outward.primary))) ⊎
+        (((acts.Discard ≡ acts.Discard) × (has_gone_next r ≡ true) ×
+        (router_event n s r acts.Discard a ≡ events.DiscardLeave s r.in_queue.current)) ⊎
+        ((acts.Discard ≡ acts.Retire) × (router_event n s r acts.Discard a ≡ events.Retire s (next_number r) (link_of r.outward.primary))))))
+    go true e = inr (inr (inr (inl (refl, e, rw e refl))))
+    go false e = inr (inl (refl, e, rw e refl))
 router_kind n s r acts.FinishOut a = inl refl
 router_kind n s r acts.FinishIn a = inl refl
 router_kind n s r acts.Leave a = inl refl
@@ -78,7 +95,8 @@ router_kind n s r acts.Mark a = inl (kind-word s (link_of r.outward.primary) a)
 router_kind n s r acts.Wake a = inl (kind-word s (link_of r.outward.primary) a)
 router_kind n s r acts.Claim a = inl (kind-word s (link_of r.outward.primary) a)
 router_kind n s r acts.Lock a = inl (kind-word s (link_of r.outward.primary) a)
-router_kind n s r acts.Begin a = inr (inr (refl, refl))
+router_kind n s r acts.Begin a = inr (inr (inl (refl, refl)))
+router_kind n s r acts.Retire a = inr (inr (inr (inr (refl, refl))))
 router_kind n s r acts.Unlock a = inl (kind-unlock s (link_of r.outward.primary) a)
 router_kind n s r acts.Rest a = inl refl
 
@@ -120,27 +138,33 @@ routes-unlock w g n s l (answers.Locked x) = refl
 routes-unlock w g n s l (answers.Waiting x) = refl
 routes-unlock w g n s l (answers.Refused x) = refl
 
--- whether an act sends an item
+-- whether an act sends an item or lets a proxy leave
 abbrev pub is_send : RouterAct → Bool
 is_send acts.SendOut = true
 is_send acts.SendIn = true
+is_send acts.Leave = true
 is_send other = false
 
--- so does each act of a router that sends no item
+-- so does each act of a router that sends no item and lets no proxy leave
 routes-act : (w : World) (g : Routes) (n s : ℕ) (x : Node) (r : Router) (a : RouterAct) (t : Answer) → is_send a ≡ false →
     routes_after_turn w g n (router_event x s r a t) ≡ g
 unfolding router_event routes_after_turn
 routes-act w g n s x r acts.SendOut t h = cc
 routes-act w g n s x r acts.SendIn t h = cc
-routes-act w g n s x r acts.Discard t h = refl
+routes-act w g n s x r acts.Discard t h = go (has_gone_next r) refl
+  where
+    go : (c : Bool) → has_gone_next r ≡ c → routes_after_turn w g n (router_event x s r acts.Discard t) ≡ g
+    go true e = rw e refl
+    go false e = rw e refl
 routes-act w g n s x r acts.FinishOut t h = refl
 routes-act w g n s x r acts.FinishIn t h = refl
-routes-act w g n s x r acts.Leave t h = refl
+routes-act w g n s x r acts.Leave t h = cc
 routes-act w g n s x r acts.Mark t h = routes-word w g n s (link_of r.outward.primary) t
 routes-act w g n s x r acts.Wake t h = routes-word w g n s (link_of r.outward.primary) t
 routes-act w g n s x r acts.Claim t h = routes-word w g n s (link_of r.outward.primary) t
 routes-act w g n s x r acts.Lock t h = routes-word w g n s (link_of r.outward.primary) t
 routes-act w g n s x r acts.Begin t h = refl
+routes-act w g n s x r acts.Retire t h = refl
 routes-act w g n s x r acts.Unlock t h = routes-unlock w g n s (link_of r.outward.primary) t
 routes-act w g n s x r acts.Rest t h = refl
 
@@ -148,6 +172,12 @@ pub routes-still : (w : World) (g : Routes) (n s : ℕ) (r : Router) (a : Router
     router_at w (record { node = n; serial = s }) ≡ Some r → is_send a ≡ false → routes_after_turn w g n (turn_event w n (OfRouter s a)) ≡ g
 routes-still w g n s r a here h = ap (routes_after_turn w g n) (seen_event w n s a r here) ∙ routes-act w g n s (node_at w n) r a
     (answer_of w r a) h
+
+-- a proxy that leaves loses its spare
+pub routes-leave : (w : World) (g : Routes) (n s : ℕ) (r : Router) → router_at w (record { node = n; serial = s }) ≡ Some r →
+    routes_after_turn w g n (turn_event w n (OfRouter s acts.Leave)) ≡ lose_spare g r.spare
+unfolding router_event routes_after_turn spare_in router_at
+routes-leave w g n s r here = ap (routes_after_turn w g n) (seen_event w n s acts.Leave r here) ∙ ap (λ o. lose_spare g (spare_in o)) here
 
 -- a send writes a peripheral link for each end that moves
 pub routes-send_out : (w : World) (g : Routes) (n s : ℕ) (r : Router) (e : LinkEnd) (item : Item) →
@@ -213,6 +243,11 @@ stays-link g i p h j l = go (nat_eq j i) refl
     go : (c : Bool) → nat_eq j i ≡ c → (cond c true (g.is_link j) ≡ true) × (cond c p (g.pair j) ≡ g.pair j)
     go true e = let s : j ≡ i = grind (arith, e, nat_tests) in absurd (grind (arith, l, h, ap g.is_link s))
     go false e = (l, refl)
+
+pub stays-lost : (g : Routes) (o : Option ℕ) → KeepsLinks g (lose_spare g o)
+unfolding lose_spare
+stays-lost g None i l = (l, refl)
+stays-lost g (Some j) i l = (l, refl)
 
 pub stays-peripherals : (g : Routes) (n x : ℕ) (es : List End) → KeepsLinks g (add_peripherals g n x es)
 stays-peripherals g n x [] i l = (l, refl)

@@ -1,4 +1,6 @@
 -- A world without routers, words, messages and books is lawful.
+use Rattle.std.specs.Prelude.{false}
+use Rattle.ipcz_world.specs.Whereabouts.{RetiredEnds, Gones}
 use Rattle.ipcz_world.proofs.frames.LiveLinks.{first_begun}
 use Rattle.ipcz_world.specs.Bypasses.{LiveLinks}
 use Rattle.ipcz_world.proofs.Vocabulary.{Weight, in_router, at_end, names_end, times, Side, End, LinkId, Central, Peripheral, Descriptor}
@@ -18,7 +20,7 @@ use Rattle.std.proofs.lemmas.Bool.Decides.{nat_tests}
 use Rattle.std.proofs.lemmas.Option.{none-some}
 use Rattle.ipcz_base.proofs.Totals.{total-empty}
 use Rattle.ipcz_world.specs.Books.{no_books}
-use Rattle.ipcz_world.specs.Records.{Unclaimed, Nowhere}
+use Rattle.ipcz_world.specs.Records.{Unclaimed, Nowhere, Retired, is_left}
 use Rattle.ipcz_world.proofs.weights.OfRecords.{in_message, in_places, holds, held_times, none_holder}
 use Rattle.ipcz_world.specs.Bypasses.{Moves, move_weight}
 use Rattle.std.specs.FinSet as sets
@@ -51,6 +53,7 @@ pub record IsUnnoted (g : Records) : Type 0 where
   pub by : (p : Key) → (g.peripheral p).by ≡ None
   pub begun : (k : Key) → g.begun k ≡ None
   pub terminal : (e : End) → g.terminal e ≡ Nowhere
+  pub left : (l : LinkId) (s : Side) → is_left g l s ≡ false
 
 not_linked : (o : Owner) → o ≡ Unclaimed → is_linked o ≡ true → ⊥
 unfolding is_linked
@@ -85,6 +88,9 @@ not_begun n e h = grind (arith, e, h, nat_tests)
 
 nowhere_at : (k : Key) → Nowhere ≡ At k → ⊥
 nowhere_at k h = cc
+
+nowhere_retired : Nowhere ≡ Retired → ⊥
+nowhere_retired h = cc
 
 no_link : (w : World) (g : Records) (l : LinkId) → ((n : ℕ) → (node_at w n).next_peripheral ≡ 0) → ((i : ℕ) → g.owner i ≡ Unclaimed) →
     is_recorded w g l ≡ true → ⊥
@@ -175,8 +181,10 @@ module _ (w : World) (g : Records) (world : IsBare w) (noted : IsUnnoted g) wher
     marked_central = λ k r h1 h2. absurd (no_router k r h1);
     marked_still = λ k r h1 h2. absurd (no_router k r h1);
     holds_marked = λ k r h1 h2. absurd (no_router k r h1);
-    holds_proxy = λ k r h1 h2. absurd (no_router k r h1);
+    holds_fit = λ k r h1 h2. absurd (no_router k r h1);
     holds_spare = λ k r h1 h2. absurd (no_router k r h1);
+    dropped_sink = λ k r h1 h2. absurd (no_router k r h1);
+    sent_proxy = λ k r h1 h2. absurd (no_router k r h1);
     spare_proxy = λ k r i h1 h2. absurd (no_router k r h1);
     spare_primary = λ k r i h1 h2. absurd (no_router k r h1);
   }
@@ -223,14 +231,18 @@ module _ (w : World) (g : Records) (world : IsBare w) (noted : IsUnnoted g) wher
 
   stands-bare : Stands w g
   stands-bare = record {
-    central = λ i s k h1 h2 h3. absurd (not_linked (g.owner i) (noted.owner i) h1);
+    central = λ i s k h1 h2 h3 h4. absurd (not_linked (g.owner i) (noted.owner i) h1);
     awaited = λ i s h1 h2. absurd (not_linked (g.owner i) (noted.owner i) h1);
     awaited_stage = λ i s o h1 h2 h3. absurd (not_linked (g.owner i) (noted.owner i) h1);
     awaited_side = λ i s o h1 h2 h3. absurd (not_linked (g.owner i) (noted.owner i) h1);
-    proxy = λ p h1 h2. absurd (no_link w g (inner_link p) (world.next_peripheral) (noted.owner) h1);
-    inner = λ p k h1 h2 h3. absurd (no_link w g (inner_link p) (world.next_peripheral) (noted.owner) h1);
+    proxy = λ p h1 h2 h3. absurd (no_link w g (inner_link p) (world.next_peripheral) (noted.owner) h1);
+    inner = λ p k h1 h2 h3 h4. absurd (no_link w g (inner_link p) (world.next_peripheral) (noted.owner) h1);
     by_begun = λ p o h1. absurd (none-some o (sym (noted.by p) ∙ h1));
     by_inner = λ p o h1. absurd (none-some o (sym (noted.by p) ∙ h1));
+    left_recorded = λ l s h1. absurd (not_both (is_left g l s) h1 (noted.left l s));
+    left_known = λ l s h1. absurd (not_both (is_left g l s) h1 (noted.left l s));
+    left_gone = λ l s h1. absurd (not_both (is_left g l s) h1 (noted.left l s));
+    left_live = λ l s h1. absurd (not_both (is_left g l s) h1 (noted.left l s));
   }
 
   live-bare : LiveLinks g
@@ -245,12 +257,13 @@ module _ (w : World) (g : Records) (world : IsBare w) (noted : IsUnnoted g) wher
     unused = λ i h1. world.word i;
     begun_stable = λ i s h1. absurd (not_begun (g.bypass i).stage (noted.stage i) h1);
     begun_holder = λ i s h1. absurd (not_begun (g.bypass i).stage (noted.stage i) h1);
-    stable = λ i s h1 h2. absurd (not_linked (g.owner i) (noted.owner i) h1);
-    holder = λ i s h1 h2. absurd (not_linked (g.owner i) (noted.owner i) h1);
+    stable = λ i s h1 h2 h3. absurd (not_linked (g.owner i) (noted.owner i) h1);
+    holder = λ i s h1 h2 h3. absurd (not_linked (g.owner i) (noted.owner i) h1);
     held_stable = λ i s t h1. absurd (no_holder (word_at w i) s (world.word i) h1);
     one_holder = λ i s t h1 h2. absurd (no_holder (word_at w i) s (world.word i) h1);
     source = λ k r e i h1 h2 h3 h4. absurd (no_router k r h1);
     begun_source = λ o h1 h2. absurd (not_begun (g.bypass o).stage (noted.stage o) h1);
+    left_held = λ i s h1. absurd (not_both (is_left g (Central i) s) h1 (noted.left (Central i) s));
   }
 
   spares-bare : Spares w g
@@ -350,8 +363,37 @@ module _ (w : World) (g : Records) (world : IsBare w) (noted : IsUnnoted g) wher
   books_kept-bare = record {
     own_pair = λ e d n item h1 h2. cc;
     mark_last = λ e n h1. cc;
+    gone_last = λ e n h1. cc;
+    retired_closed = λ e h1. cc;
     numbers = λ e. omega arith;
     mark_seen = λ k r h1 h2. absurd (no_router k r h1);
+  }
+
+  retired-bare : RetiredEnds no_books g
+  retired-bare = record {
+    retired = λ e h1. cc;
+    peer_closed = λ e h1. cc;
+    peer_stays = λ e h1. cc;
+    all_read = λ e h1. cc;
+    gone_read = λ e h1 h2. absurd (nowhere_retired (sym (noted.terminal e) ∙ h1));
+    no_bypass = λ o s h1 h2. refl;
+    left = λ e i h1 h2 h3 h4. cc;
+    left_of = λ l s h1. absurd (not_both (is_left g l s) h1 (noted.left l s));
+    accepted = λ o h1. absurd (omega (arith, noted.stage o, h1));
+  }
+
+  gones-bare : Gones w no_books g
+  gones-bare = record {
+    sent = λ k r h1 h2. absurd (no_router k r h1);
+    sent_back = λ k r h1 h2 h3 h4 h5. absurd (no_router k r h1);
+    left_primary = λ k r e h1 h2 h3. absurd (no_router k r h1);
+    left_inner = λ k r e h1 h2 h3. absurd (no_router k r h1);
+    out_put = λ k r h1. absurd (no_router k r h1);
+    in_put = λ k r h1. absurd (no_router k r h1);
+    still = λ k r s h1 h2 h3. absurd (no_router k r h1);
+    dropped = λ k r n h1 h2 h3 h4. absurd (no_router k r h1);
+    dropped_closed = λ k r h1 h2. absurd (no_router k r h1);
+    dropped_back = λ k r n h1 h2 h3 h4 h5. absurd (no_router k r h1);
   }
 
   conserved-bare : Conserved w no_books g
@@ -434,6 +476,8 @@ module _ (w : World) (g : Records) (world : IsBare w) (noted : IsUnnoted g) wher
     terminals = terminals-bare;
     end_places = end_places-bare;
     books_kept = books_kept-bare;
+    retired_ends = retired-bare;
+    gones = gones-bare;
     items = items-bare;
     order = order-bare;
     proxy_numbers = proxy_numbers-bare;

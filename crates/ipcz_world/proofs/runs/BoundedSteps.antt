@@ -122,6 +122,7 @@ bounded-touch w r acts.Claim l b = go (has_unclaimed_word w)
     go false = b
 bounded-touch w r acts.Lock l b = bounded-touch_word w r.end.side (source_of r) acts.Lock (primary_word r) l b
 bounded-touch w r acts.Begin l b = b
+bounded-touch w r acts.Retire l b = b
 bounded-touch w r acts.Unlock l b = bounded-touch_word w r.end.side (source_of r) acts.Unlock (primary_word r) l b
 bounded-touch w r acts.Rest l b = b
 

@@ -1,4 +1,6 @@
 -- Nothing comes to lie beyond the world's nodes: each step keeps a world bounded.
+use Rattle.ipcz_router.specs.ActEffects.{leaves_by, retire_output}
+use Rattle.ipcz_router.specs.Calls.{next_number}
 use Rattle.std.specs.Prelude.{◌≡◌, ◌≤◌, ◌<◌, ℕ, Bool, true, false, cond, not, ◌&&◌, nat_eq, nat_lt, if◌then◌else◌, Option, Some, None}
 use Rattle.std.specs.Prelude.{option_map, refl, List, [], ◌∷◌}
 use Rattle.std.proofs.Common.{arith, ap, subst, ◌∙◌, sym}
@@ -92,6 +94,11 @@ begin_goes c (Some e) (Some d) (Some i) h = go (word_of (Some d))
     go None = tt
     go (Some j) = h e refl
 
+retire_goes : (c : ℕ) (o : Option LinkEnd) (n : ℕ) → ((e : LinkEnd) → o ≡ Some e → e.other < c) → Goes c (retire_output o n)
+unfolding retire_output
+retire_goes c None n b = tt
+retire_goes c (Some e) n b = b e refl
+
 output_goes : (c : ℕ) (r : Router) (act : RouterAct) → AreBelow c r → Goes c (output_of r act)
 unfolding output_of
 output_goes c r acts.SendOut b = item_goes c (way_out r) r.out_queue.current (current_item r.out_queue)
@@ -107,6 +114,7 @@ output_goes c r acts.Wake b = flush_goes c r.outward.primary b.primary
 output_goes c r acts.Claim b = tt
 output_goes c r acts.Lock b = tt
 output_goes c r acts.Begin b = begin_goes c (inward_edge r).primary r.outward.primary r.spare b.inner_primary
+output_goes c r acts.Retire b = retire_goes c r.outward.primary (next_number r) b.primary
 output_goes c r acts.Unlock b = tt
 output_goes c r acts.Rest b = tt
 
@@ -119,21 +127,10 @@ boxed-send c x (outputs.Sent link n item) h g = let m = transfer_of x link item 
 boxed-send c x (outputs.Message to m) h g = boxed-with c x to _ g h
 boxed-send c x (outputs.Discarded n item) h g = h
 
-boxes-keep : (x : Node) (s : ℕ) (r : Router) (act : RouterAct) → (keep_or_drop x s r act).outboxes ≡ x.outboxes
+boxes-keep : (x : Node) (s : ℕ) (r : Router) (leaves : Bool) → (keep_or_drop x s r leaves).outboxes ≡ x.outboxes
 unfolding keep_or_drop
-boxes-keep x s r acts.SendOut = refl
-boxes-keep x s r acts.SendIn = refl
-boxes-keep x s r acts.Discard = refl
-boxes-keep x s r acts.FinishOut = refl
-boxes-keep x s r acts.FinishIn = refl
-boxes-keep x s r acts.Leave = refl
-boxes-keep x s r acts.Mark = refl
-boxes-keep x s r acts.Wake = refl
-boxes-keep x s r acts.Claim = refl
-boxes-keep x s r acts.Lock = refl
-boxes-keep x s r acts.Begin = refl
-boxes-keep x s r acts.Unlock = refl
-boxes-keep x s r acts.Rest = refl
+boxes-keep x s r true = refl
+boxes-keep x s r false = refl
 
 module _ (w : World) (b : Books) (g : Records) (law : Inv w b g) where
   link_below : (k : Key) (r : Router) (e : LinkEnd) → IsRecorded w g k r e → e.other < w.count
@@ -152,8 +149,8 @@ module _ (w : World) (b : Books) (g : Records) (law : Inv w b g) where
       IsBoxed w.count (node_at w n) → IsBoxed w.count (commit_router (node_at w n) s act a r)
   unfolding commit_router
   boxed-router n s act a r here h =
-      let x = keep_or_drop (node_at w n) s (apply r act a) act in
-      boxed-send w.count x (output_of r act) (same_boxes w.count (node_at w n) x (boxes-keep (node_at w n) s (apply r act a) act) h)
+      let x = keep_or_drop (node_at w n) s (apply r act a) (leaves_by r act) in
+      boxed-send w.count x (output_of r act) (same_boxes w.count (node_at w n) x (boxes-keep (node_at w n) s (apply r act a) (leaves_by r act)) h)
       (output_goes w.count r act (are_below (record { node = n; serial = s }) r here))
 
   pub boxed-tell : (c : ℕ) (x : Node) (o : Option Sending) → IsBoxed c x → ((s : Sending) → o ≡ Some s → s.to < c) → IsBoxed c (tell x o)

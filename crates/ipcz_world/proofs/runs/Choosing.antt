@@ -1,4 +1,5 @@
 -- The first possible act of a node is one that a turn may take, and so is what stands in for it.
+use Rattle.ipcz_node.proofs.Choosing.{unlock_may, retire_may}
 use Rattle.std.specs.Prelude.{◌≡◌, ◌<◌, ℕ, zero, suc, ◌+◌, Bool, true, false, ◌&&◌, nat_eq, nat_lt, Option, Some, None}
 use Rattle.std.specs.Prelude.{List, [], ◌∷◌, map, refl}
 use Rattle.std.proofs.Common.{arith, ap, subst, ◌∙◌, sym, inl, inr}
@@ -34,7 +35,12 @@ seen_is f a (suc c) (suc i) e = let z : (a + 1) + i ≡ a + suc i = omega arith 
 begin_unlocks : (o : Option Router) → may_act o acts.Begin ≡ true → may_act o acts.Unlock ≡ true
 unfolding may_act is_possible is_rest
 begin_unlocks None h = cc
-begin_unlocks (Some r) h = h
+begin_unlocks (Some r) h = unlock_may r h
+
+retire_unlocks : (o : Option Router) → may_act o acts.Retire ≡ true → may_act o acts.Unlock ≡ true
+unfolding may_act is_possible is_rest
+retire_unlocks None h = cc
+retire_unlocks (Some r) h = retire_may r h
 
 module _ (w : World) (b : Books) (g : Records) (law : Inv w b g) (n : ℕ) (here : n < w.count) where
   abbrev node : Node
@@ -117,6 +123,7 @@ module _ (w : World) (b : Books) (g : Records) (law : Inv w b g) (n : ℕ) (here
   stands_in (OfRouter s acts.FinishOut) h = h
   stands_in (OfRouter s acts.FinishIn) h = h
   stands_in (OfRouter s acts.Leave) h = h
+  stands_in (OfRouter s acts.Retire) h = retire_unlocks (router_at w (record { node = n; serial = s })) h
   stands_in (OfRouter s acts.Mark) h = h
   stands_in (OfRouter s acts.Wake) h = h
   stands_in (OfRouter s acts.Claim) h = h

@@ -1,4 +1,5 @@
 -- A router with a possible act is flagged: at a node this stays so, whatever the node does.
+use Rattle.ipcz_router.specs.ActEffects.{leaves_by}
 use Rattle.std.specs.Prelude.{◌≡◌, ℕ, zero, suc, ◌+◌, Bool, true, false, cond, nat_eq, if◌then◌else◌, Option, Some, None, is_some, List, []}
 use Rattle.std.specs.Prelude.{◌∷◌, ◌++◌, slice_get, refl}
 use Rattle.std.proofs.Common.{arith, sym, ◌∙◌, ap, subst}
@@ -125,12 +126,14 @@ apply-flagged r acts.Wake a n h = h
 apply-flagged r acts.Claim a n h = flagged-claim r a h
 apply-flagged r acts.Lock a n h = flagged-lock r a h
 apply-flagged r acts.Begin a n h = h
+apply-flagged r acts.Retire a n h = h
 apply-flagged r acts.Unlock a n h = refl
 apply-flagged r acts.Rest a n h = cc
 
 rest-impossible : (r : Router) (act : RouterAct) → is_rest act ≡ true → is_possible r act ≡ false
 unfolding is_possible is_rest
 rest-impossible r acts.Rest h = refl
+rest-impossible r acts.Retire h = cc
 rest-impossible r acts.SendOut h = cc
 rest-impossible r acts.SendIn h = cc
 rest-impossible r acts.Discard h = cc
@@ -170,7 +173,8 @@ rest-idle r h acts.Wake = first-none r table 7 acts.Wake h refl
 rest-idle r h acts.Claim = first-none r table 8 acts.Claim h refl
 rest-idle r h acts.Lock = first-none r table 9 acts.Lock h refl
 rest-idle r h acts.Begin = first-none r table 10 acts.Begin h refl
-rest-idle r h acts.Unlock = first-none r table 10 acts.Begin h refl
+rest-idle r h acts.Retire = first-none r table 11 acts.Retire h refl
+rest-idle r h acts.Unlock = grind (arith, first-none r table 10 acts.Begin h refl, first-none r table 11 acts.Retire h refl)
 rest-idle r h acts.Rest = refl
 
 -- the flag itself makes nothing possible
@@ -187,6 +191,7 @@ rest-possible r acts.Wake = refl
 rest-possible r acts.Claim = refl
 rest-possible r acts.Lock = refl
 rest-possible r acts.Begin = refl
+rest-possible r acts.Retire = refl
 rest-possible r acts.Unlock = refl
 rest-possible r acts.Rest = refl
 
@@ -204,6 +209,7 @@ resting r acts.Wake a h = cc
 resting r acts.Claim a h = cc
 resting r acts.Lock a h = cc
 resting r acts.Begin a h = cc
+resting r acts.Retire a h = cc
 resting r acts.Unlock a h = cc
 
 -- a router after an act that it may take
@@ -218,21 +224,10 @@ awake-apply r act a law may = go (is_rest act) (is_possible r act) refl refl
         next : is_rest (next_act r) ≡ true
         next = grind (arith, may, e, rest-impossible r act e)
 
-awake-keep : (n : Node) (s : ℕ) (y : Router) (act : RouterAct) → AreAwake n → IsAwake y → AreAwake (keep_or_drop n s y act)
+awake-keep : (n : Node) (s : ℕ) (y : Router) (leaves : Bool) → AreAwake n → IsAwake y → AreAwake (keep_or_drop n s y leaves)
 unfolding keep_or_drop
-awake-keep n s y acts.Leave law is = awake-without n s law
-awake-keep n s y acts.SendOut law is = awake-with n s y law is
-awake-keep n s y acts.SendIn law is = awake-with n s y law is
-awake-keep n s y acts.Discard law is = awake-with n s y law is
-awake-keep n s y acts.FinishOut law is = awake-with n s y law is
-awake-keep n s y acts.FinishIn law is = awake-with n s y law is
-awake-keep n s y acts.Mark law is = awake-with n s y law is
-awake-keep n s y acts.Wake law is = awake-with n s y law is
-awake-keep n s y acts.Claim law is = awake-with n s y law is
-awake-keep n s y acts.Lock law is = awake-with n s y law is
-awake-keep n s y acts.Begin law is = awake-with n s y law is
-awake-keep n s y acts.Unlock law is = awake-with n s y law is
-awake-keep n s y acts.Rest law is = awake-with n s y law is
+awake-keep n s y true law is = awake-without n s law
+awake-keep n s y false law is = awake-with n s y law is
 
 -- terminals that move become proxies, and are flagged
 awake-move : (m : Transfer) (to : ℕ) (o : Option Found) → AreAwake m.node → AreAwake (move_found m to o).node
@@ -259,7 +254,7 @@ awake-router n s act r a law here may = go (router_in n s) refl
   where
     go : (o : Option Router) → router_in n s ≡ o → AreAwake (on_router n o (commit_router n s act a))
     go None e = law
-    go (Some q) e = awake-send _ (output_of q act) (awake-keep n s (apply q act a) act law
+    go (Some q) e = awake-send _ (output_of q act) (awake-keep n s (apply q act a) (leaves_by q act) law
         (awake-apply q act a (law s q e) (ap (λ z. may_take z act) (same_Some q r (sym e ∙ here)) ∙ may)))
 
 -- a close
@@ -316,6 +311,7 @@ take-tells r acts.Wake item t at h = h
 take-tells r acts.Claim item t at h = h
 take-tells r acts.Lock item t at h = h
 take-tells r acts.Begin item t at h = h
+take-tells r acts.Retire item t at h = h
 take-tells r acts.Unlock item t at h = h
 take-tells r acts.Rest item t at h = h
 
@@ -358,6 +354,7 @@ new-idle end link a c m h acts.Wake = refl
 new-idle end link a c m h acts.Claim = refl
 new-idle end link a c m h acts.Lock = refl
 new-idle end link a c m h acts.Begin = refl
+new-idle end link a c m h acts.Retire = refl
 new-idle end link a c m h acts.Unlock = refl
 new-idle end link a c m h acts.Rest = refl
 

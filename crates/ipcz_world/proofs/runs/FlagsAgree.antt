@@ -1,4 +1,5 @@
 -- What the flags of a router have to do with each other, in every world that steps lead to.
+use Rattle.ipcz_router.specs.ActEffects.{leaves_by}
 use Rattle.std.specs.Prelude.{◌≡◌, ℕ, zero, suc, ◌+◌, Bool, true, false, cond, nat_eq, if◌then◌else◌, Option, Some, None, List, []}
 use Rattle.std.specs.Prelude.{◌∷◌, ◌++◌, refl}
 use Rattle.std.proofs.Common.{arith, sym, ◌∙◌, subst}
@@ -155,6 +156,7 @@ agreed-apply w r acts.Discard law may = law
 agreed-apply w r acts.FinishOut law may = law
 agreed-apply w r acts.FinishIn law may = law
 agreed-apply w r acts.Leave law may = law
+agreed-apply w r acts.Retire law may = law
 agreed-apply w r acts.Mark law may = agreed-mark w r (primary_word r) law
 agreed-apply w r acts.Wake law may = record {
   dry = law.dry;
@@ -169,21 +171,10 @@ agreed-apply w r acts.Begin law may = record { dry = λ h. refl; wake = false-tr
 agreed-apply w r acts.Unlock law may = record { dry = law.dry; wake = law.wake; tried_marked = law.tried_marked; tried_free = λ h. refl }
 agreed-apply w r acts.Rest law may = law
 
-agreed-keep : (n : Node) (s : ℕ) (y : Router) (act : RouterAct) → AreAgreed n → IsAgreed y → AreAgreed (keep_or_drop n s y act)
+agreed-keep : (n : Node) (s : ℕ) (y : Router) (leaves : Bool) → AreAgreed n → IsAgreed y → AreAgreed (keep_or_drop n s y leaves)
 unfolding keep_or_drop
-agreed-keep n s y acts.Leave law is = agreed-without n s law
-agreed-keep n s y acts.SendOut law is = agreed-with n s y law is
-agreed-keep n s y acts.SendIn law is = agreed-with n s y law is
-agreed-keep n s y acts.Discard law is = agreed-with n s y law is
-agreed-keep n s y acts.FinishOut law is = agreed-with n s y law is
-agreed-keep n s y acts.FinishIn law is = agreed-with n s y law is
-agreed-keep n s y acts.Mark law is = agreed-with n s y law is
-agreed-keep n s y acts.Wake law is = agreed-with n s y law is
-agreed-keep n s y acts.Claim law is = agreed-with n s y law is
-agreed-keep n s y acts.Lock law is = agreed-with n s y law is
-agreed-keep n s y acts.Begin law is = agreed-with n s y law is
-agreed-keep n s y acts.Unlock law is = agreed-with n s y law is
-agreed-keep n s y acts.Rest law is = agreed-with n s y law is
+agreed-keep n s y true law is = agreed-without n s law
+agreed-keep n s y false law is = agreed-with n s y law is
 
 agreed-move : (m : Transfer) (to : ℕ) (e : End) → AreAgreed m.node → AreAgreed (move_found m to (terminal_of m.node e)).node
 unfolding move_found
@@ -213,7 +204,7 @@ agreed-router w n s act r law here may = go (router_in (node_at w n) s) refl
         (on_router (node_at w n) o (commit_router (node_at w n) s act (answer_of w r act)))
     go None e = law
     go (Some q) e = let z : r ≡ q = same_Some r q (sym here ∙ e) in
-        agreed-send _ (output_of q act) (agreed-keep (node_at w n) s (apply q act (answer_of w r act)) act law
+        agreed-send _ (output_of q act) (agreed-keep (node_at w n) s (apply q act (answer_of w r act)) (leaves_by q act) law
         (subst (λ x. IsAgreed (apply x act (answer_of w r act))) z (agreed-apply w r act (law s r here) may)))
 
 agreed-close_end : (n : Node) (e : End) → AreAgreed n → AreAgreed (close_end n e)

@@ -1,4 +1,5 @@
 -- What turns answer of a message in hand: it fitted, or it was a Flush.
+use Rattle.ipcz_router.specs.Acts.{has_gone_next}
 use Rattle.std.specs.Prelude.{◌≡◌, ◌<◌, ℕ, Bool, true, false, Option, Some, None, List, refl}
 use Rattle.std.proofs.Common.{arith, ap, subst, ◌∙◌, sym, inl, inr}
 use Rattle.std.proofs.lemmas.Bool.Decides.{nat_tests}
@@ -85,7 +86,11 @@ hand-router : (n : Node) (s : ℕ) (r : Router) (act : RouterAct) (a : Answer) �
 unfolding router_event is_hand
 hand-router n s r acts.SendOut a = hand-send n _ (output_of r acts.SendOut) (λ m l e. refl)
 hand-router n s r acts.SendIn a = hand-send n _ (output_of r acts.SendIn) (λ m l e. refl)
-hand-router n s r acts.Discard a = refl
+hand-router n s r acts.Discard a = go (has_gone_next r) refl
+  where
+    go : (c : Bool) → has_gone_next r ≡ c → is_hand (router_event n s r acts.Discard a) ≡ false
+    go true e = rw e refl
+    go false e = rw e refl
 hand-router n s r acts.FinishOut a = refl
 hand-router n s r acts.FinishIn a = refl
 hand-router n s r acts.Leave a = refl
@@ -94,6 +99,7 @@ hand-router n s r acts.Wake a = hand-word s (link_of r.outward.primary) a
 hand-router n s r acts.Claim a = hand-word s (link_of r.outward.primary) a
 hand-router n s r acts.Lock a = hand-word s (link_of r.outward.primary) a
 hand-router n s r acts.Begin a = refl
+hand-router n s r acts.Retire a = refl
 hand-router n s r acts.Unlock a = hand-unlock s (link_of r.outward.primary) a
 hand-router n s r acts.Rest a = refl
 

@@ -1,4 +1,21 @@
 -- The case analysis: each step, whichever possible act a turn takes, keeps the invariant, with the books and the routes after it.
+use Rattle.ipcz_world.proofs.acts.Retiring as retiring
+use Rattle.ipcz_router.specs.ActTable.{can_begin, can_retire}
+use Rattle.ipcz_world.proofs.frames.Touching.{either}
+use Rattle.ipcz_router.specs.Calls.{next_number}
+use Rattle.ipcz_world.specs.Books.{after_retire}
+use Rattle.ipcz_world.proofs.acts.Flags.{on-word}
+use Rattle.ipcz_world.proofs.acts.Retire.{inv-retire}
+use Rattle.ipcz_world.proofs.acts.Updating.{acted-retire}
+use Rattle.ipcz_world.specs.Routes.{lose_spare}
+use Rattle.ipcz_world.proofs.acts.Updating.{acted-discard_leave}
+use Rattle.ipcz_world.proofs.acts.DroppingGone.{inv-discard_leave}
+use Rattle.ipcz_world.proofs.routes.Routing.{routes-left, routes-left_terminal}
+use Rattle.ipcz_world.proofs.routes.Seeing.{routes-leave, stays-lost}
+use Rattle.ipcz_world.specs.Remembering.{leave_records}
+use Rattle.ipcz_world.proofs.Vocabulary.{Node}
+use Rattle.ipcz_world.specs.Records.{is_lost_owner}
+use Rattle.ipcz_router.specs.Acts.{has_gone_next}
 use Rattle.ipcz_world.specs.WordAnswers.{source_for}
 use Rattle.std.specs.Prelude.{◌≡◌, ◌<◌, ℕ, Bool, true, false, ◌&&◌, nat_lt, if◌then◌else◌, Option, Some, None, is_some, refl}
 use Rattle.std.proofs.Common.{arith, ap, subst, ◌∙◌, sym, inl, inr}
@@ -32,7 +49,7 @@ use Rattle.ipcz_world.proofs.acts.ActedWords.{acted-rest, acted-unlock, acted-lo
 use Rattle.ipcz_world.proofs.acts.Updating.{acted-leave, acted-finish_out, acted-finish_in, acted-wake}
 use Rattle.ipcz_world.proofs.hands.Handling.{IsInHand, asked_at, found_asked, named, peer_is, accept_is, stop_is, will_stop_is, flush_is}
 use Rattle.ipcz_world.proofs.hands.Handling.{dropped_is, peer_fits, under_way-hand}
-use Rattle.ipcz_router.specs.Acts.{pop_out, pop_in}
+use Rattle.ipcz_router.specs.Acts.{pop_out, send_on}
 use Rattle.ipcz_world.specs.declared.step.Step.TheVariants as steps
 use Rattle.ipcz_world.specs.Routes.{Routes, routes_after, routes_after_turn, add_link, add_peripherals}
 use Rattle.ipcz_world.specs.Steps.{Effect, refuse, open_on, open_step}
@@ -80,6 +97,8 @@ books-other w b n (events.Close e) h = cc
 books-other w b n (events.SendOut s m link ends) h = refl
 books-other w b n (events.SendIn s m link ends) h = refl
 books-other w b n (events.Discard s m) h = cc
+books-other w b n (events.DiscardLeave s m) h = cc
+books-other w b n (events.Retire s m link) h = cc
 books-other w b n (events.FinishOut s link) h = refl
 books-other w b n (events.FinishIn s link) h = refl
 books-other w b n (events.Leave s) h = refl
@@ -95,9 +114,40 @@ books-other w b n (events.Unlock s link x) h = refl
 books-other w b n (events.Rest s) h = refl
 books-other w b n events.Idle h = refl
 
-kind-discard : (n s : ℕ) (w : World) (r : Router) (a : Answer) → kind (router_event (node_at w n) s r acts.Discard a) ≡ 0 → ⊥
-unfolding kind router_event
-kind-discard n s w r a h = cc
+event_discard : (n : Node) (s : ℕ) (r : Router) (a : Answer) → has_gone_next r ≡ false →
+    router_event n s r acts.Discard a ≡ events.Discard s r.in_queue.current
+unfolding router_event
+event_discard n s r a other = rw other refl
+
+event_discard_leave : (n : Node) (s : ℕ) (r : Router) (a : Answer) → has_gone_next r ≡ true →
+    router_event n s r acts.Discard a ≡ events.DiscardLeave s r.in_queue.current
+unfolding router_event
+event_discard_leave n s r a next = rw next refl
+
+books-discard_leave : (w : World) (b : Books) (n s m : ℕ) → after_turn w b n (events.DiscardLeave s m) ≡ after_discard b
+    (router_at w (record { node = n; serial = s }))
+unfolding after_turn
+books-discard_leave w b n s m = refl
+
+retire_word : (r : Router) → can_retire r ≡ true → is_some (primary_word r) ≡ true
+retire_word r h = grind (arith, h)
+
+begin_word : (r : Router) → can_begin r ≡ true → is_some (primary_word r) ≡ true
+begin_word r h = grind (arith, h)
+
+unlock_word : (r : Router) → is_possible r acts.Unlock ≡ true → is_some (primary_word r) ≡ true
+unfolding is_possible
+unlock_word r h = elim (either (can_begin r) (can_retire r) h) [ inl f ↦ begin_word r f | inr f ↦ retire_word r f ]
+
+event_retire : (n : Node) (s : ℕ) (r : Router) (a : Answer) →
+    router_event n s r acts.Retire a ≡ events.Retire s (next_number r) (link_of r.outward.primary)
+unfolding router_event
+event_retire n s r a = refl
+
+books-retire : (w : World) (b : Books) (n s m : ℕ) (l : LinkId) → after_turn w b n (events.Retire s m l) ≡ after_retire b
+    (router_at w (record { node = n; serial = s }))
+unfolding after_turn
+books-retire w b n s m l = refl
 
 books-begin : (w : World) (b : Books) (n s : ℕ) (l : LinkId) → after_turn w b n (events.Begin s l) ≡ b
 unfolding after_turn
@@ -170,9 +220,14 @@ module _ (w : World) (b : Books) (g : Records) (law : Inv w b g) where
           after_turn w b n (turn_event w n (OfRouter s a)) ≡ b
       quiet a h = books-other w b n (turn_event w n (OfRouter s a)) (ap kind (seen_event w n s a r here) ∙ h)
 
-      calm : (a : RouterAct) → (a ≡ acts.Discard → ⊥) → (a ≡ acts.Begin → ⊥) → after_turn w b n (turn_event w n (OfRouter s a)) ≡ b
-      calm a p q = elim (router_kind (node_at w n) s r a (answer_of w r a))
-          [ inl e ↦ quiet a e | inr (inl e) ↦ absurd (p e.0) | inr (inr e) ↦ absurd (q e.0) ]
+      calm : (a : RouterAct) → (a ≡ acts.Discard → ⊥) → (a ≡ acts.Begin → ⊥) → (a ≡ acts.Retire → ⊥) → after_turn w b n (turn_event w n (OfRouter s a)) ≡ b
+      calm a p q u = elim (router_kind (node_at w n) s r a (answer_of w r a)) [
+        | inl e ↦ quiet a e
+        | inr (inl e) ↦ absurd (p e.0)
+        | inr (inr (inl e)) ↦ absurd (q e.0)
+        | inr (inr (inr (inl e))) ↦ absurd (p e.0)
+        | inr (inr (inr (inr e))) ↦ absurd (u e.0)
+      ]
 
       quietly : (a : RouterAct) → is_send a ≡ false → routes_after_turn w (routes_of g) n (turn_event w n (OfRouter s a)) ≡ routes_of g
       quietly a h = routes-still w (routes_of g) n s r a here h
@@ -184,23 +239,26 @@ module _ (w : World) (b : Books) (g : Records) (law : Inv w b g) where
       begun_books = elim (router_kind (node_at w n) s r acts.Begin (answer_of w r acts.Begin)) [
         | inl e ↦ quiet acts.Begin e
         | inr (inl e) ↦ cc
-        | inr (inr e) ↦ ap (after_turn w b n) (seen_event w n s acts.Begin r here ∙ e.1) ∙
+        | inr (inr (inl e)) ↦ ap (after_turn w b n) (seen_event w n s acts.Begin r here ∙ e.1) ∙
             begin_leaves (link_of r.outward.primary)
+        | inr (inr (inr (inl e))) ↦ cc
+        | inr (inr (inr (inr e))) ↦ cc
       ]
         where
           begin_leaves : (l : LinkId) → after_turn w b n (events.Begin s l) ≡ b
           begin_leaves l = books-begin w b n s l
 
-      discarded : after_turn w b n (turn_event w n (OfRouter s acts.Discard)) ≡ after_discard b (router_at w k)
-      discarded = elim (router_kind (node_at w n) s r acts.Discard (answer_of w r acts.Discard)) [
-        | inl e ↦ absurd (discard_kind e)
-        | inr (inl e) ↦ ap (after_turn w b n) (seen_event w n s acts.Discard r here ∙ e.1) ∙
-            books-discard w b n s r.in_queue.current
-        | inr (inr e) ↦ cc
-      ]
-        where
-          discard_kind : kind (router_event (node_at w n) s r acts.Discard (answer_of w r acts.Discard)) ≡ 0 → ⊥
-          discard_kind h = kind-discard n s w r (answer_of w r acts.Discard) h
+      discarded : has_gone_next r ≡ false → after_turn w b n (turn_event w n (OfRouter s acts.Discard)) ≡ after_discard b (router_at w k)
+      discarded other = ap (after_turn w b n) (seen_event w n s acts.Discard r here ∙ event_discard (node_at w n) s r _ other) ∙
+          books-discard w b n s r.in_queue.current
+
+      dropped : has_gone_next r ≡ true → after_turn w b n (turn_event w n (OfRouter s acts.Discard)) ≡ after_discard b (router_at w k)
+      dropped next = ap (after_turn w b n) (seen_event w n s acts.Discard r here ∙ event_discard_leave (node_at w n) s r _ next) ∙
+          books-discard_leave w b n s r.in_queue.current
+
+      retired : after_turn w b n (turn_event w n (OfRouter s acts.Retire)) ≡ after_retire b (router_at w k)
+      retired = ap (after_turn w b n) (seen_event w n s acts.Retire r here ∙ event_retire (node_at w n) s r _) ∙
+          books-retire w b n s (next_number r) (link_of r.outward.primary)
 
       go : (a : RouterAct) → act ≡ a → Kept g (after_act w n (OfRouter s a)) (after_turn w b n (turn_event w n (OfRouter s a)))
           (routes_after_turn w (routes_of g) n (turn_event w n (OfRouter s a)))
@@ -208,34 +266,43 @@ module _ (w : World) (b : Books) (g : Records) (law : Inv w b g) where
           let c = out_chosen w k (may_send acts.SendOut e) in
           kept_to _ _ _ b _ (add_peripherals (routes_of g) n (node_at w n).next_peripheral (moved_ends (node_at w n) c.1 c.2))
           (sent_records w g k (pop_out c.0) c.1 c.2)
-          (acted-sent_out w k c.0 c.1 c.2 c.3 c.4 c.5) (calm acts.SendOut (λ x. cc) (λ x. cc))
+          (acted-sent_out w k c.0 c.1 c.2 c.3 c.4 c.5) (calm acts.SendOut (λ x. cc) (λ x. cc) (λ x. cc))
           (routes-send_out w (routes_of g) n s c.0 c.1 c.2 c.3 c.4 c.5) (routes-sent_out w b g k c.0 c.1 c.2 law c.3 c.4 c.5)
           (stays-peripherals (routes_of g) n (node_at w n).next_peripheral (moved_ends (node_at w n) c.1 c.2))
           (inv-sent_out w b g k c.0 c.1 c.2 law c.3 c.4 c.5)
       go acts.SendIn e =
           let c = in_chosen w k (may_send acts.SendIn e) in
           kept_to _ _ _ b _ (add_peripherals (routes_of g) n (node_at w n).next_peripheral (moved_ends (node_at w n) c.1 c.2))
-          (sent_records w g k (pop_in c.0) c.1 c.2)
-          (acted-sent_in w k c.0 c.1 c.2 c.3 c.4 c.5) (calm acts.SendIn (λ x. cc) (λ x. cc))
+          (sent_records w g k (send_on c.0) c.1 c.2)
+          (acted-sent_in w k c.0 c.1 c.2 c.3 c.4 c.5) (calm acts.SendIn (λ x. cc) (λ x. cc) (λ x. cc))
           (routes-send_in w (routes_of g) n s c.0 c.1 c.2 c.3 c.4 c.5) (routes-sent_in w b g k c.0 c.1 c.2 law c.3 c.4 c.5)
           (stays-peripherals (routes_of g) n (node_at w n).next_peripheral (moved_ends (node_at w n) c.1 c.2))
           (inv-sent_in w b g k c.0 c.1 c.2 law c.3 c.4 c.5)
-      go acts.Discard e = kept_as _ _ _ _ _ g refl discarded (quietly acts.Discard refl) refl
-          (inv-discard w b g n s r law here (can acts.Discard e refl))
-      go acts.FinishOut e = kept_as _ _ _ b _ g (acted-finish_out w n s r here) (calm acts.FinishOut (λ x. cc) (λ x. cc))
+      go acts.Discard e = drop (has_gone_next r) refl
+        where
+          drop : (c : Bool) → has_gone_next r ≡ c → Kept g (after_act w n (OfRouter s acts.Discard))
+              (after_turn w b n (turn_event w n (OfRouter s acts.Discard)))
+              (routes_after_turn w (routes_of g) n (turn_event w n (OfRouter s acts.Discard)))
+          drop false f = kept_as _ _ _ _ _ g refl (discarded f) (quietly acts.Discard refl) refl
+              (inv-discard w b g n s r law here (can acts.Discard e refl) f)
+          drop true f = kept_as _ _ _ _ _ (leave_records g r) (acted-discard_leave w n s r here f) (dropped f) (quietly acts.Discard refl)
+              (routes-left_terminal w b g k r law here (grind (arith, can acts.Discard e refl)))
+              (inv-discard_leave w b g k r law here (can acts.Discard e refl) f)
+      go acts.FinishOut e = kept_as _ _ _ b _ g (acted-finish_out w n s r here) (calm acts.FinishOut (λ x. cc) (λ x. cc) (λ x. cc))
           (quietly acts.FinishOut refl) refl (inv-finish_out w b g k r law (able acts.FinishOut e refl))
-      go acts.FinishIn e = kept_as _ _ _ b _ g (acted-finish_in w n s r here) (calm acts.FinishIn (λ x. cc) (λ x. cc))
+      go acts.FinishIn e = kept_as _ _ _ b _ g (acted-finish_in w n s r here) (calm acts.FinishIn (λ x. cc) (λ x. cc) (λ x. cc))
           (quietly acts.FinishIn refl) refl (inv-finish_in w b g k r law (able acts.FinishIn e refl))
-      go acts.Leave e = kept_as _ _ _ b _ g (acted-leave w n s r here) (calm acts.Leave (λ x. cc) (λ x. cc)) (quietly acts.Leave refl) refl
-          (inv-leave w b g k r law (able acts.Leave e refl))
+      go acts.Leave e = kept_to _ _ _ b _ (lose_spare (routes_of g) r.spare) (leave_records g r) (acted-leave w n s r here)
+          (calm acts.Leave (λ x. cc) (λ x. cc) (λ x. cc)) (routes-leave w (routes_of g) n s r here) (routes-left w b g k r law here)
+          (stays-lost (routes_of g) r.spare) (inv-leave w b g k r law (able acts.Leave e refl))
       go acts.Mark e =
           let i = word_of_act r (grind (arith, can acts.Mark e refl)) in
-          kept_as _ _ _ b _ g (acted-mark w n s i.0 r here i.1) (calm acts.Mark (λ x. cc) (λ x. cc)) (quietly acts.Mark refl) refl
+          kept_as _ _ _ b _ g (acted-mark w n s i.0 r here i.1) (calm acts.Mark (λ x. cc) (λ x. cc) (λ x. cc)) (quietly acts.Mark refl) refl
           (inv-mark w b g k r i.0 law (record { here = here; possible = can acts.Mark e refl; word = i.1 }))
       go acts.Wake e =
           let i = word_of_act r (grind (arith, can acts.Wake e refl)) in
           let l = primary_of r i.0 i.1 in
-          kept_as _ _ _ b _ g (acted-wake w n s i.0 r l.0 here i.1 l.1) (calm acts.Wake (λ x. cc) (λ x. cc)) (quietly acts.Wake refl) refl
+          kept_as _ _ _ b _ g (acted-wake w n s i.0 r l.0 here i.1 l.1) (calm acts.Wake (λ x. cc) (λ x. cc) (λ x. cc)) (quietly acts.Wake refl) refl
           (inv-wake w b g k r i.0 l.0 law (record { here = here; possible = can acts.Wake e refl; word = i.1 }) l.1)
       go acts.Claim e = claim (has_unclaimed_word w) refl
         where
@@ -243,14 +310,14 @@ module _ (w : World) (b : Books) (g : Records) (law : Inv w b g) where
               (after_turn w b n (turn_event w n (OfRouter s acts.Claim)))
               (routes_after_turn w (routes_of g) n (turn_event w n (OfRouter s acts.Claim)))
           claim true q = let l : w.claimed < w.size = grind (arith, q, nat_tests) in
-              kept_as _ _ _ b _ (claim_records g k w.claimed) (acted-claim w n s r here q) (calm acts.Claim (λ x. cc) (λ x. cc))
+              kept_as _ _ _ b _ (claim_records g k w.claimed) (acted-claim w n s r here q) (calm acts.Claim (λ x. cc) (λ x. cc) (λ x. cc))
               (quietly acts.Claim refl) (routes-claim w b g k law) (inv-claim w b g k r law (able acts.Claim e refl) l)
-          claim false q = kept_as _ _ _ b _ g (acted-dry w n s r here q) (calm acts.Claim (λ x. cc) (λ x. cc))
+          claim false q = kept_as _ _ _ b _ g (acted-dry w n s r here q) (calm acts.Claim (λ x. cc) (λ x. cc) (λ x. cc))
               (quietly acts.Claim refl) refl (inv-dry w b g k r law here)
       go acts.Lock e =
           let i = word_of_act r (grind (arith, can acts.Lock e refl)) in
           kept_as _ _ _ b _ g (acted-lock w n s i.0 r (plan_of (word_at w i.0) r.end.side) here i.1 refl)
-          (calm acts.Lock (λ x. cc) (λ x. cc)) (quietly acts.Lock refl) refl
+          (calm acts.Lock (λ x. cc) (λ x. cc) (λ x. cc)) (quietly acts.Lock refl) refl
           (inv-lock w b g k r i.0 (plan_of (word_at w i.0) r.end.side) law
           (record { here = here; possible = can acts.Lock e refl; word = i.1 }) refl)
       go acts.Begin e =
@@ -259,11 +326,17 @@ module _ (w : World) (b : Books) (g : Records) (law : Inv w b g) where
           begun_books (quietly acts.Begin refl)
           (routes-begin g k c.old c.fresh c.inner (law.spares.spare k r c.fresh here c.can.spare))
           (inv-begin w b g k r c.inner c.into c.out c.old c.fresh law c.can)
+      go acts.Retire e =
+          let i = word_of_act r (retire_word r (can acts.Retire e refl)) in
+          let on = on-word w b g k r i.0 law here i.1 in
+          kept_as _ _ _ _ _ (leave_records g r) (acted-retire w n s r on.end here on.primary) retired (quietly acts.Retire refl)
+          (routes-left_terminal w b g k r law here (retiring.terminal w b g k r i.0 law here on (can acts.Retire e refl)))
+          (inv-retire w b g k r i.0 law here on (can acts.Retire e refl))
       go acts.Unlock e =
-          let i = word_of_act r (grind (arith, can acts.Unlock e refl)) in
-          kept_as _ _ _ b _ g (acted-unlock w n s i.0 r here i.1) (calm acts.Unlock (λ x. cc) (λ x. cc)) (quietly acts.Unlock refl) refl
+          let i = word_of_act r (unlock_word r (can acts.Unlock e refl)) in
+          kept_as _ _ _ b _ g (acted-unlock w n s i.0 r here i.1) (calm acts.Unlock (λ x. cc) (λ x. cc) (λ x. cc)) (quietly acts.Unlock refl) refl
           (inv-unlock w b g k r i.0 law (record { here = here; possible = can acts.Unlock e refl; word = i.1 }))
-      go acts.Rest e = kept_as _ _ _ b _ g (acted-rest w n s r here) (calm acts.Rest (λ x. cc) (λ x. cc)) (quietly acts.Rest refl) refl
+      go acts.Rest e = kept_as _ _ _ b _ g (acted-rest w n s r here) (calm acts.Rest (λ x. cc) (λ x. cc) (λ x. cc)) (quietly acts.Rest refl) refl
           (inv-rest w b g k r law here)
 
   -- a message in hand
@@ -271,7 +344,7 @@ module _ (w : World) (b : Books) (g : Records) (law : Inv w b g) where
   Taken n from m = Kept g (after_hand w n from (Some m)) b (routes_after_turn w (routes_of g) n (turn_event w n (Hand from)))
 
   hand_kept : (n from : ℕ) (m : Message) → IsInHand w n from m → Taken n from m
-  unfolding is_flush link_asked side_asked is_linked side_end after_act hand_message
+  unfolding is_lost_owner is_flush link_asked side_asked is_linked side_end after_act hand_message
   hand_kept n from (messages.Item link side number item moves) is =
       kept_as _ _ b b _ (made_records g n (node_at w n).next_router moves) refl refl
       (routes-hand w (routes_of g) n from (messages.Item link side number item moves) is.mail refl)
@@ -287,13 +360,14 @@ module _ (w : World) (b : Books) (g : Records) (law : Inv w b g) where
       let fits = peer_fits w b g law n from o link side target fresh is a.found a.is_found a.can a.has in
       let unfit : is_unfit (node_at w n) from m (source_for w m) ≡ false = rw (fits, a.is_found) refl in
       let free : is_linked (g.owner fresh) ≡ false = ap is_linked (ap g.owner at.onto ∙ law.bypasses.fresh o at.stage) in
+      let unlost : is_lost_owner (g.owner fresh) ≡ false = ap is_lost_owner (ap g.owner at.onto ∙ law.bypasses.fresh o at.stage) in
       let own : HasAt w g k a.found.router link side = has_at w g k a.found.router link side law.links a.can.here a.has in
       let pair : a.found.router.end.pair ≡ (g.central o).pair = ap (λ e. e.pair) own.end ∙ ap (λ l. (side_end g l side).pair) at.on_link ∙
       law.bypasses.pair o (grind (arith, at.stage, nat_tests)) in
       kept_to _ _ b b _ (add_link (routes_of g) fresh (g.central o).pair) (taken_records g k a.found.router o fresh target)
       (peer_is w b g law n from o link side target fresh is a) refl
       (routes-peer w (routes_of g) n from link side o target fresh is.mail is.hand unfit)
-      (routes-taken g k a.found.router o fresh target pair) (stays-link (routes_of g) fresh (g.central o).pair free)
+      (routes-taken g k a.found.router o fresh target pair unlost) (stays-link (routes_of g) fresh (g.central o).pair free)
       (inv-peer w b g from k a.found.router o link side target fresh (sealed law) (closed (record { hand = a.can; has = a.has })))
   hand_kept n from (messages.AcceptBypass o side fresh length) is =
       let m = messages.AcceptBypass o side fresh length in

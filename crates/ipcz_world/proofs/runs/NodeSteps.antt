@@ -88,6 +88,7 @@ module _ (Q : World → Type 0) (N : Node → Type 0) (kept : IsKept Q N) where
   kept-touch w r acts.FinishIn law = law
   kept-touch w r acts.Leave law = law
   kept-touch w r acts.Begin law = law
+  kept-touch w r acts.Retire law = law
   kept-touch w r acts.Rest law = law
 
   -- a message in hand

@@ -24,7 +24,9 @@ use Rattle.ipcz_world.proofs.lawful.StrayLaws.{stray_law}
 use Rattle.ipcz_world.proofs.routes.Seeing.{stays-same}
 use Rattle.ipcz_world.proofs.runs.NodeSteps.{IsKept, kept-step}
 use Rattle.ipcz_world.specs.Owed.{AreFlagged, FlagsAgree}
-use Rattle.ipcz_world.proofs.owed.StepWakers.{IsOwing, step_owing}
+use Rattle.ipcz_world.proofs.owed.StepWakers.{IsOwing, step_owing, step_came}
+use Rattle.ipcz_world.proofs.owed.Tracking.{Came}
+use Rattle.ipcz_world.specs.Owed.{GoneUnread}
 use Rattle.ipcz_world.proofs.owed.StartWakers.{owing-start}
 use Rattle.ipcz_world.specs.Settling.{IsBounded}
 use Rattle.ipcz_world.specs.Steps.{AnyAct}
@@ -35,8 +37,8 @@ use Rattle.ipcz_world.proofs.runs.FlagsAgree.{agreed-step, agreed-start}
 
 -- the laws, from the invariant
 pub lawful_by : (w : World) (b : Books) (g : Records) (h : Routes) → Inv w b g → routes_of g ≡ h → AreFlagged w → FlagsAgree w →
-    IsOwing w → IsBounded w → Lawful w b h
-lawful_by w b g h law e flagged agreed owing bounded = record {
+    IsOwing w → GoneUnread w b → IsBounded w → Lawful w b h
+lawful_by w b g h law e flagged agreed owing unread bounded = record {
   records = g;
   routes = e;
   inv = law;
@@ -49,6 +51,7 @@ lawful_by w b g h law e flagged agreed owing bounded = record {
   agreed = agreed;
   wakers = owing.wakers;
   ranked = owing.ranked;
+  unread = unread;
   bounded = bounded;
 }
 
@@ -151,24 +154,31 @@ module _ (w : World) (b : Books) (g : Records) (law : Inv w b g) where
   step_kept keep v (steps.Turn n) reply (act, may, inr (grows, own, fine, (e, f))) =
       refused (steps.Turn n) reply v refusals.OutOfMemory e f refl refl
 
+-- each step keeps it that no terminal stands which has read Gone
+abbrev pub UnreadKept : Type 0
+UnreadKept = (w v : World) (b : Books) (g h : Records) (step : Step) (reply : Reply) → Inv w b g → Inv v (advance w b step reply) h →
+    Came w v → GoneUnread w b → StepAny w step reply v → GoneUnread v (advance w b step reply)
+
 -- each step keeps a world lawful, and the words of links what they are
-pub step_keeps : StepsKeep → (w v : World) (b : Books) (g : Routes) (step : Step) (reply : Reply) → Lawful w b g → StepAny w step reply v →
+pub step_keeps : StepsKeep → UnreadKept → (w v : World) (b : Books) (g : Routes) (step : Step) (reply : Reply) → Lawful w b g → StepAny w step reply v →
     Lawful v (advance w b step reply) (routes_after w g step reply) × KeepsLinks g (routes_after w g step reply)
-step_keeps keep w v b g step reply law s =
+step_keeps keep unread w v b g step reply law s =
     let k = step_kept w b law.records law.inv keep v step reply s in
     subst (λ z. Lawful v (advance w b step reply) (routes_after w z step reply) × KeepsLinks z (routes_after w z step reply)) law.routes (
       lawful_by v (advance w b step reply) k.records (routes_after w (routes_of law.records) step reply) k.inv k.routes
           (flagged-step w v b law.records step reply law.inv law.flagged s) (agreed-step w v b law.records step reply law.inv law.agreed s)
           (step_owing w b law.records law.inv law.agreed (record { wakers = law.wakers; ranked = law.ranked }) v step reply s)
+          (unread w v b law.records k.records step reply law.inv k.inv
+          (step_came w b law.records law.inv law.agreed (record { wakers = law.wakers; ranked = law.ranked }) v step reply s) law.unread s)
           (bounded-step w b law.records law.inv law.bounded AnyAct (λ n act m l. m l) step reply v s),
       k.stays,
     )
 
-pub step_keeps_lawful : StepsKeep → StepKeepsLawful
-step_keeps_lawful keep w v b g step reply law s = (step_keeps keep w v b g step reply law s).0
+pub step_keeps_lawful : StepsKeep → UnreadKept → StepKeepsLawful
+step_keeps_lawful keep unread w v b g step reply law s = (step_keeps keep unread w v b g step reply law s).0
 
-pub links_stay_by : StepsKeep → LinksStay
-links_stay_by keep w v b g step reply law s = (step_keeps keep w v b g step reply law s).1
+pub links_stay_by : StepsKeep → UnreadKept → LinksStay
+links_stay_by keep unread w v b g step reply law s = (step_keeps keep unread w v b g step reply law s).1
 
 -- the opening world has records for which the invariant holds, and which tell the first routes
 abbrev pub StartsKept : Type 0
@@ -177,7 +187,7 @@ StartsKept = (nodes words : ℕ) → IsWithinLimits nodes words → Started (new
 pub starts_lawful : StartsKept → StartsLawful
 starts_lawful start nodes words limits = let k = start nodes words limits in
     lawful_by (new_world nodes words) no_books k.records (first_routes nodes) k.inv k.routes (flagged-new nodes words)
-    (agreed-start nodes words) (owing-start nodes words) (starts_bounded nodes words limits)
+    (agreed-start nodes words) (owing-start nodes words) (λ k r here t retired. cc) (starts_bounded nodes words limits)
 
 -- a run keeps a world lawful
 pub run_keeps_lawful : StepKeepsLawful → (w : World) (b : Books) (g : Routes) (asked : List Step) (said : List Reply) (v : World)

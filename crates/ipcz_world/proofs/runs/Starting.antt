@@ -1,4 +1,9 @@
 -- The opening world keeps the invariant: on a world without routers the terminals of one first pair after the other come to stand.
+use Rattle.ipcz_world.specs.Records.{is_lost_owner}
+use Rattle.ipcz_word.specs.SideSets.{has-none}
+use Rattle.ipcz_world.proofs.Vocabulary.{LinkId, Central, Peripheral, Side}
+use Rattle.ipcz_world.specs.Records.{is_left}
+use Rattle.ipcz_word.specs.SideSets.{none}
 use Rattle.std.specs.Prelude.{◌≡◌, ◌⊎◌, ◌≤◌, ◌<◌, ◌+◌, ◌-◌, ◌*◌, ℕ, zero, suc, Bool, true, false, cond, nat_le, nat_lt, Some, None, refl}
 use Rattle.std.specs.Prelude.{List, [], ◌∷◌, ◌++◌, length, replicate, slice_get}
 use Rattle.std.proofs.Common.{arith, ap, subst, ◌∙◌, sym, inl, inr}
@@ -49,8 +54,8 @@ module _ (nodes words : ℕ) where
   nothing : Records
   nothing = record {
     owner = λ i. Unclaimed;
-    central = λ i. record { pair = i; node = λ s. 0; router = λ s. None; born = None };
-    peripheral = λ k. record { end = record { pair = 0; side = A }; proxy = 0; node = 0; router = None; by = None };
+    central = λ i. record { pair = i; node = λ s. 0; router = λ s. None; born = None; left = none };
+    peripheral = λ k. record { end = record { pair = 0; side = A }; proxy = 0; node = 0; router = None; by = None; left = none };
     bypass = λ o. record {
       stage = 0;
       proxy = record { node = 0; serial = 0 };
@@ -63,9 +68,14 @@ module _ (nodes words : ℕ) where
     terminal = λ e. Nowhere;
   }
 
+  nothing_left : (l : LinkId) (s : Side) → is_left nothing l s ≡ false
+  unfolding nothing is_left
+  nothing_left (Central i) s = has-none s
+  nothing_left (Peripheral n x) s = has-none s
+
   unnoted : IsUnnoted nothing
   unfolding nothing
-  unnoted = record { owner = λ i. refl; stage = λ o. refl; by = λ p. refl; begun = λ k. refl; terminal = λ e. refl }
+  unnoted = record { owner = λ i. refl; stage = λ o. refl; by = λ p. refl; begun = λ k. refl; terminal = λ e. refl; left = nothing_left }
 
   bare_at : (n : ℕ) → (m : ℕ) × (k : ℕ) × (node_at (start nodes words []) n ≡ bare_node m k)
   bare_at n = go (nat_lt n nodes) refl
@@ -132,6 +142,11 @@ linked_by j n = go (nat_lt j n)
     go true = refl
     go false = refl
 
+lost_by : (c : Bool) → is_lost_owner (cond c Linked Unclaimed) ≡ false
+unfolding is_lost_owner
+lost_by true = refl
+lost_by false = refl
+
 -- the opening world has records for which the invariant holds, with the routes at the start
 pub starts : (nodes words : ℕ) → IsWithinLimits nodes words → (g : Records) × (routes_of g ≡ first_routes nodes) × Inv
     (new_world nodes words) no_books g
@@ -142,6 +157,7 @@ starts nodes words limits =
         is_link = λ i. (ap is_linked (b.owner i) ∙ linked_by i (length (first_pairs nodes))) t;
         pair = λ i. b.pair i t;
         end = λ k. b.end k t;
+        lost = λ i. (ap is_lost_owner (b.owner i) ∙ lost_by (nat_lt i (length (first_pairs nodes)))) t;
       }),
       rw (world_is nodes words) b.inv,
     )

@@ -1,4 +1,5 @@
 -- A world that begins with some pairs: one pair more, between two nodes, keeps the invariant.
+use Rattle.ipcz_word.specs.SideSets.{none}
 use Rattle.ipcz_world.proofs.weights.OfRecords.{holds, held_times, in_message, in_places}
 use Rattle.ipcz_world.proofs.Vocabulary.{Weight, in_router, times, Side, A, B, End, opposite_end, same_end, opposite, total, total_list}
 use Rattle.ipcz_world.proofs.Vocabulary.{Router, empty_word, open_word, Node, bare_node, outbox, Empty, World, Key, node_at, word_at}
@@ -169,7 +170,7 @@ module _ (nodes words : ℕ) where
       owner' j = cond (nat_eq j pair) Linked (g.owner j)
 
       abbrev central' : ℕ → CentralRecord
-      central' j = cond (nat_eq j pair) (record { pair = pair; node = node_of; router = λ s. Some (at s).serial; born = None })
+      central' j = cond (nat_eq j pair) (record { pair = pair; node = node_of; router = λ s. Some (at s).serial; born = None; left = none })
           (g.central j)
 
       abbrev terminal' : End → Terminal
@@ -449,6 +450,7 @@ module _ (nodes words : ℕ) where
           node = λ s. ap (λ c. c.node s) central_here;
           router = λ s. ap (λ c. c.router s) central_here;
           born = ap (λ c. c.born) central_here;
+          left = ap (λ c. c.left) central_here;
           terminal = λ s. new_terminal (end_of pair s) itself;
           word = new_word;
         };
@@ -463,7 +465,7 @@ module _ (nodes words : ℕ) where
           linked_here : owner' pair ≡ Linked
           linked_here = rw itself refl
 
-          central_here : central' pair ≡ record { pair = pair; node = node_of; router = λ s. Some (at s).serial; born = None }
+          central_here : central' pair ≡ record { pair = pair; node = node_of; router = λ s. Some (at s).serial; born = None; left = none }
           central_here = rw itself refl
 
           either_terminal : (e : End) (c : Bool) → nat_eq e.pair pair ≡ c →

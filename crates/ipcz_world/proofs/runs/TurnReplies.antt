@@ -19,8 +19,13 @@ use Rattle.ipcz_world.specs.declared.step.Step.TheVariants as steps
 use Rattle.ipcz_world.specs.declared.step.Reply.TheVariants as replies
 use Rattle.ipcz_world.specs.Turns.{turn_event, hand_seen, router_seen, may_act}
 use Rattle.ipcz_world.specs.Steps.{turn_step, StepAny}
-use Rattle.ipcz_world.specs.Books.{after_turn, after_discard, advance}
-use Rattle.ipcz_world.specs.Plain.{Discards, PlainTurn, Plain}
+use Rattle.ipcz_world.specs.Books.{after_turn, after_discard, after_retire, advance}
+use Rattle.ipcz_base.specs.declared.item.Item.TheVariants.{Gone}
+use Rattle.ipcz_router.specs.Acts.{has_gone_next}
+use Rattle.ipcz_router.specs.Calls.{next_number}
+use Rattle.ipcz_world.proofs.facts.Drained.{gone_next-tells}
+use Rattle.std.specs.Prelude.{slice_get}
+use Rattle.ipcz_world.specs.Plain.{Discards, Drops, Retires, PlainTurn, Plain}
 use Rattle.ipcz_world.specs.WorldLaws.{BeginsUnderLock, BeginsLocked}
 use Rattle.ipcz_world.proofs.lawful.LinkLaws.{IsOn, on_tells, holder_is}
 use Rattle.ipcz_world.proofs.facts.LinkTests.{has_link-is}
@@ -38,6 +43,8 @@ plain-other w b n (events.Close e) h = cc
 plain-other w b n (events.SendOut s m link ends) h = refl
 plain-other w b n (events.SendIn s m link ends) h = refl
 plain-other w b n (events.Discard s m) h = cc
+plain-other w b n (events.DiscardLeave s m) h = cc
+plain-other w b n (events.Retire s m link) h = cc
 plain-other w b n (events.FinishOut s link) h = refl
 plain-other w b n (events.FinishIn s link) h = refl
 plain-other w b n (events.Leave s) h = refl
@@ -84,6 +91,51 @@ module _ (w : World) (b : Books) (g : Records) (law : Inv w b g) where
             books = rw here refl;
           }
 
+  -- a sink drops Gone
+  drops : (n s : ℕ) (r : Router) → router_at w (record { node = n; serial = s }) ≡ Some r → is_possible r acts.Discard ≡ true →
+      has_gone_next r ≡ true → Drops b r.in_queue.current (after_turn w b n (events.DiscardLeave s r.in_queue.current))
+  unfolding is_possible after_turn after_discard
+  drops n s r here can gone = record {
+    discards = record {
+      end = r.end;
+      closed = sym (law.conserved.sink k r here terminal) ∙ grind (arith, can);
+      next = cur;
+      put = let l : r.in_queue.current < length (b.put (opposite_end r.end)) = slice_get_within _ _ _ put in omega (arith, l, cur);
+      books = rw here refl;
+    };
+    gone = ap (slice_get (b.put (opposite_end r.end))) (sym cur) ∙ put;
+  }
+    where
+      k : Key
+      k = record { node = n; serial = s }
+
+      terminal : is_terminal r ≡ true
+      terminal = grind (arith, can)
+
+      cur : r.in_queue.current ≡ read b r.end
+      cur = law.conserved.current k r here terminal
+
+      put : slice_get (b.put (opposite_end r.end)) r.in_queue.current ≡ Some Gone
+      put = (in_queue-put w b g k r r.in_queue.current Gone law here (gone_next-tells r gone)).1
+
+  -- a sink retires
+  retires : (n s : ℕ) (r : Router) (l : LinkId) → router_at w (record { node = n; serial = s }) ≡ Some r →
+      is_possible r acts.Retire ≡ true → Retires b (next_number r) (after_turn w b n (events.Retire s (next_number r) l))
+  unfolding is_possible after_turn after_retire
+  retires n s r l here can = record {
+    end = r.end;
+    closed = sym (law.conserved.sink k r here terminal) ∙ grind (arith, can);
+    peer_closed = law.gones.dropped_closed k r here (grind (arith, can));
+    next = law.conserved.reach k r here terminal;
+    books = rw here refl;
+  }
+    where
+      k : Key
+      k = record { node = n; serial = s }
+
+      terminal : is_terminal r ≡ true
+      terminal = grind (arith, can)
+
   begins : (n s : ℕ) (l : LinkId) → PlainTurn b (events.Begin s l) (after_turn w b n (events.Begin s l))
   unfolding after_turn
   begins n s l = refl
@@ -93,10 +145,14 @@ module _ (w : World) (b : Books) (g : Records) (law : Inv w b g) where
   unfolding is_rest
   of_router n s a r here may = elim (router_kind (node_at w n) s r a (answer_of w r a)) [
     | inl e ↦ plain-other w b n (turn_event w n (OfRouter s a)) (ap kind (seen_event w n s a r here) ∙ e)
-    | inr (inl e) ↦ subst (λ v. PlainTurn b v (after_turn w b n v)) (sym (seen_event w n s a r here ∙ e.1))
+    | inr (inl e) ↦ subst (λ v. PlainTurn b v (after_turn w b n v)) (sym (seen_event w n s a r here ∙ e.2))
         (discards n s r here (subst (λ x. is_possible r x ≡ true) e.0 (taken_possible r a may (ap is_rest e.0))))
-    | inr (inr e) ↦ subst (λ v. PlainTurn b v (after_turn w b n v)) (sym (seen_event w n s a r here ∙ e.1))
+    | inr (inr (inl e)) ↦ subst (λ v. PlainTurn b v (after_turn w b n v)) (sym (seen_event w n s a r here ∙ e.1))
         (begins n s (link_of r.outward.primary))
+    | inr (inr (inr (inl e))) ↦ subst (λ v. PlainTurn b v (after_turn w b n v)) (sym (seen_event w n s a r here ∙ e.2))
+        (drops n s r here (subst (λ x. is_possible r x ≡ true) e.0 (taken_possible r a may (ap is_rest e.0))) e.1)
+    | inr (inr (inr (inr e))) ↦ subst (λ v. PlainTurn b v (after_turn w b n v)) (sym (seen_event w n s a r here ∙ e.1))
+        (retires n s r (link_of r.outward.primary) here (subst (λ x. is_possible r x ≡ true) e.0 (taken_possible r a may (ap is_rest e.0))))
   ]
 
   pub turned_plain : (n : ℕ) (act : Act) → can_take w n act ≡ true →
@@ -179,8 +235,10 @@ module _ (w : World) (b : Books) (g : Records) (law : Inv w b g) where
       go None q may f = cc
       go (Some y) q may f = elim (router_kind (node_at w n) x y a (answer_of w y a)) [
         | inl t ↦ absurd (grind (arith, t, sym (ap kind (seen_event w n x a y q)), ap kind e))
-        | inr (inl t) ↦ absurd (grind (arith, ap kind t.1, ap kind (seen_event w n x a y q), ap kind e))
-        | inr (inr t) ↦
+        | inr (inl t) ↦ absurd (grind (arith, ap kind t.2, ap kind (seen_event w n x a y q), ap kind e))
+        | inr (inr (inr (inl t))) ↦ absurd (grind (arith, ap kind t.2, ap kind (seen_event w n x a y q), ap kind e))
+        | inr (inr (inr (inr t))) ↦ absurd (grind (arith, ap kind t.1, ap kind (seen_event w n x a y q), ap kind e))
+        | inr (inr (inl t)) ↦
             let same : events.Begin x (link_of y.outward.primary) ≡ events.Begin s l = sym t.1 ∙ sym (seen_event w n x a y q) ∙ e in
             let serial : x ≡ s = grind (arith, same) in
             let link : link_of y.outward.primary ≡ l = grind (arith, same) in

@@ -1,4 +1,16 @@
 -- A terminal whose end moves becomes a proxy: the invariant is kept, with one more of the ends moved.
+use Rattle.std.specs.Prelude.{Bool, true, refl}
+use Rattle.ipcz_world.proofs.Vocabulary.{LinkEnd, opposite, opposite_end, same_end, End, Central}
+use Rattle.ipcz_world.proofs.facts.LinkTests.{same_end-itself, same_end-tells}
+use Rattle.std.proofs.lemmas.Option.{same_Some}
+use Rattle.std.specs.Prelude.{◌||◌}
+use Rattle.std.proofs.Common.{true≢false}
+use Rattle.ipcz_router.specs.Router.{decays}
+use Rattle.ipcz_world.proofs.frames.GonesKept.{IsGoneRight, right-of, right-left, gones-one, gones-all, open_unretired}
+use Rattle.ipcz_world.specs.Records.{is_left, Moving, Retired}
+use Rattle.ipcz_world.specs.Books.{is_retired}
+use Rattle.ipcz_world.specs.Whereabouts.{RetiredEnds, Gones}
+use Rattle.ipcz_world.proofs.sends.ExtendingAround.{left_same, new_left, end_same, side_same, stage_begun}
 use Rattle.std.specs.Prelude.{◌≡◌, ◌≢◌, ◌⊎◌, ℕ, true, false, cond, Some, List, [], ◌∷◌, ◌++◌, length, slice_get}
 use Rattle.std.proofs.Common.{arith, ap, subst, ◌∙◌, sym, inl, inr}
 use Rattle.ipcz_world.proofs.Vocabulary.{Side, LinkId, Descriptor, Item, Message, has_end, Router, ends_in, World, Key, node_at, Books}
@@ -125,6 +137,70 @@ module _ (w v : World) (b : Books) (g : Records) (q : Key) (r : Router) (a : ℕ
               | inr new ↦ ap (λ d. has_end d.end (ends_in item)) new ∙ named
             ]
 
+    unclosed : is_closed b r.end ≡ false
+    unclosed = not_closed law is t p away named ends
+
+    still_open : r.closed ≡ false
+    still_open = law.conserved.sink q r is.here is.lone ∙ unclosed
+
+    free : (is_retired b r.end ≡ false) × (is_retired b (opposite_end r.end) ≡ false)
+    free = open_unretired (record { retired_closed = law.books_kept.retired_closed }) law.retired_ends r.end unclosed
+
+    same_at : (e : End) → (e ≡ r.end → ⊥) → h2.terminal e ≡ g.terminal e
+    same_at e apart = go (same_end e r.end) refl
+      where
+        go : (c : Bool) → same_end e r.end ≡ c → h2.terminal e ≡ g.terminal e
+        go true c = absurd (apart (same_end-tells e r.end c))
+        go false c = rw c refl
+
+    retired-extended : RetiredEnds b h2
+    retired-extended = record {
+      retired = λ e h. same_at e (λ f. true≢false (sym h ∙ ap (is_retired b) f ∙ free.0)) ∙ law.retired_ends.retired e h;
+      peer_closed = law.retired_ends.peer_closed;
+      peer_stays = law.retired_ends.peer_stays;
+      all_read = law.retired_ends.all_read;
+      gone_read = λ e h n. law.retired_ends.gone_read e (sym (same_at e (λ f. moves_on (sym (ap h2.terminal f ∙ now) ∙ h))) ∙ h) n;
+      no_bypass = law.retired_ends.no_bypass;
+      left = λ e i h l c m. left_same law is t (Central i) e.side ∙ law.retired_ends.left e i h l c m;
+      left_of = λ x u h. let o : is_left g x u ≡ true = sym (left_same law is t x u) ∙ h in
+          ap (λ d. is_retired b d || is_retired b (opposite_end d)) (end_same law is t x u (other_link law is t x (law.stands.left_recorded x u o)))
+          ∙ law.retired_ends.left_of x u o;
+      accepted = λ o l. rw (side_same law is t o (stage_begun (g.bypass o).stage 3 (omega arith) l)) (law.retired_ends.accepted o l);
+    }
+      where
+        now : h2.terminal r.end ≡ Moving e2
+        now = grind (arith, same_end-itself r.end)
+
+        moves_on : Moving e2 ≡ Retired → ⊥
+        moves_on h = cc
+
+    gones-extended : Gones v b h2
+    gones-extended = gones-one w v b h2 q (extended w q r a) t.router mine (gones-all (λ x z at. right-left same_left (right-of law.gones x z at)))
+      where
+        same_left : (x : LinkId) (u : Side) → is_left h2 x u ≡ true → is_left g x u ≡ true
+        same_left x u h = sym (left_same law is t x u) ∙ h
+
+        o : IsGoneRight b h2 r
+        o = right-left same_left (right-of law.gones q r is.here)
+
+        mine : IsGoneRight b h2 (extended w q r a)
+        mine = record {
+          sent = o.sent;
+          sent_back = λ n i h c. absurd (true≢false (sym h ∙ free.1));
+          left_primary = o.left_primary;
+          left_inner = λ e f h. let z = same_Some _ e f in
+              absurd (true≢false (sym h ∙ ap (λ (d : LinkEnd). is_left h2 d.link (opposite d.side)) (sym z) ∙ new_left law is t));
+          out_put = o.out_put;
+          in_put = o.in_put;
+          still = λ u n h. still (o.still u (grind (arith, is.lone)) h);
+          dropped = λ m f. absurd cc;
+          dropped_closed = o.dropped_closed;
+          dropped_back = λ m f. absurd cc;
+        }
+          where
+            still : decays r ≡ false → decays (extended w q r a) ≡ false
+            still h = grind (arith, h)
+
     -- All together. Nothing is lost: the queues stay with the proxy, and the descriptor says how many items its end has put and how many it
     -- has read, so that the terminal made of it goes on just there (move_out, move_in). The end was held at this node; now it is in one
     -- message, once.
@@ -132,11 +208,11 @@ module _ (w v : World) (b : Books) (g : Records) (q : Key) (r : Router) (a : ℕ
     inv-extended hands = record {
       counts = counts-extended law is t hands;
       ordered = ordered-extended law is t;
-      shape = shape-extended law is t;
+      shape = shape-extended law is t still_open;
       links = links-extended law is t;
       positions = positions-extended law is t;
       stands = stands-extended law is t;
-      words = words-extended law is t;
+      words = words-extended law is t still_open;
       spares = spares-extended law is t;
       bypasses = bypasses-extended law is t;
       live = record { one_live = law.live.one_live; none_live = law.live.none_live; one_begun = law.live.one_begun };
@@ -152,5 +228,7 @@ module _ (w v : World) (b : Books) (g : Records) (q : Key) (r : Router) (a : ℕ
       fresh_numbers = fresh_numbers-extended law is t p away named ends;
       conserved = conserved-extended;
       held_once = held_once-extended;
+      retired_ends = retired-extended;
+      gones = gones-extended;
       no_strays = λ j. t.strays j ∙ law.no_strays j;
     }

@@ -1,8 +1,12 @@
 -- A terminal that moves becomes a proxy with a new peripheral link: what the records say of what was there, and of the new link.
+use Rattle.ipcz_world.specs.Standing.{passes}
+use Rattle.ipcz_word.specs.SideSets.{has, has-none}
+use Rattle.ipcz_world.specs.Records.{is_left}
+use Rattle.ipcz_word.specs.SideSets.{none}
 use Rattle.ipcz_world.specs.Routes.{source as source'}
-use Rattle.std.specs.Prelude.{◌≡◌, ◌⊎◌, ◌≤◌, ◌<◌, ◌+◌, ℕ, Bool, true, false, cond, ◌&&◌, nat_eq, nat_le, nat_lt, Option, Some, None}
+use Rattle.std.specs.Prelude.{◌≡◌, ◌≢◌, ◌⊎◌, ◌≤◌, ◌<◌, ◌+◌, ℕ, Bool, true, false, cond, ◌&&◌, nat_eq, nat_le, nat_lt, Option, Some, None}
 use Rattle.std.specs.Prelude.{is_none, refl}
-use Rattle.std.proofs.Common.{arith, ap, ◌∙◌, inl, inr}
+use Rattle.std.proofs.Common.{arith, ap, ◌∙◌, sym, inl, inr}
 use Rattle.std.proofs.lemmas.Bool.Decides.{nat_tests}
 use Rattle.ipcz_world.proofs.Vocabulary.{Side, A, B, LinkId, Central, Peripheral, same_link, has_link, Edge, Router, is_terminal, World}
 use Rattle.ipcz_world.proofs.Vocabulary.{Key, same_key, node_at, word_at, router_at, Books, Records, is_recorded, is_begun, bypass_of}
@@ -34,6 +38,7 @@ extended_records w g q r to =
       node = to;
       router = None;
       by = None;
+      left = none;
     })) r.end (Moving (descriptor_of r (inner_link (next_key w q.node))))
 
 -- the worlds differ in the router of one key, in the count of peripheral links of its node, in flows and in hands
@@ -194,6 +199,39 @@ module _ {w v : World} {b : Books} {g : Records} {q : Key} {r : Router} {a : ℕ
   bypass_same (Central i) = refl
   bypass_same (Peripheral n x) = by_same (record { node = n; serial = x })
 
+  -- no more sides are left
+  pub left_same : (link : LinkId) (s : Side) → is_left h link s ≡ is_left g link s
+  unfolding is_left
+  left_same (Central i) s = refl
+  left_same (Peripheral n x) s = go (same_key_tells (record { node = n; serial = x }) p)
+    where
+      k : Key
+      k = record { node = n; serial = x }
+
+      old : (k : Key) → k ≡ p → has (g.peripheral k).left s ≡ false
+      old k f = none (is_left g (inner_link k) s) refl
+        where
+          none : (c : Bool) → is_left g (inner_link k) s ≡ c → c ≡ false
+          none false e = refl
+          none true e = absurd (grind (arith, law.stands.left_recorded (inner_link k) s e, ap (λ z. is_recorded w g (inner_link z)) f, unrecorded))
+
+      new_here : (k : Key) → same_key k p ≡ true → h.peripheral k ≡ record { end = r.end; proxy = q.serial; node = a; router = None; by = None; left = none }
+      new_here k e = rw e refl
+
+      go : ((same_key k p ≡ true) × (k ≡ p)) ⊎ ((same_key k p ≡ false) × (k ≢ p)) → has (h.peripheral k).left s ≡ has (g.peripheral k).left s
+      go (inl e) = ap (λ z. has z.left s) (new_here k e.0) ∙ has-none s ∙ sym (old k e.1)
+      go (inr e) = ap (λ z. has z.left s) (old_here k e.0)
+        where
+          old_here : (k : Key) → same_key k p ≡ false → h.peripheral k ≡ g.peripheral k
+          old_here k e = rw e refl
+
+  pub new_left : is_left h (inner_link p) B ≡ false
+  new_left = left_same (inner_link p) B ∙ none (is_left g (inner_link p) B) refl
+    where
+      none : (c : Bool) → is_left g (inner_link p) B ≡ c → c ≡ false
+      none false e = refl
+      none true e = absurd (grind (arith, law.stands.left_recorded (inner_link p) B e, unrecorded))
+
   pub side_same : (o : ℕ) → is_begun (g.bypass o) ≡ true → proxy_side h o ≡ proxy_side g o
   side_same o e = grind (arith, other_key (g.bypass o).inner (law.bypasses.inner o e))
 
@@ -205,6 +243,18 @@ module _ {w v : World} {b : Books} {g : Records} {q : Key} {r : Router} {a : ℕ
       go true e = inr (grind (arith, t.router x, e, at), grind (arith, e, same_key_tells x q))
       go false e = inl (grind (arith, t.router x, e, at), e)
 
+  key_of : (x : Key) → same_key x q ≡ true → x ≡ q
+  key_of x c = grind (arith, c, same_key_tells x q)
+
+  passes_at : (u : World) (x : Key) (z : Router) (test : Router → Bool) → router_at u x ≡ Some z → key_passes u (Some x) test ≡ test z
+  unfolding key_passes passes
+  passes_at u x z test at = rw at refl
+
+  passes_alike : (u u' : World) (x : Key) (test : Router → Bool) → router_at u x ≡ router_at u' x →
+      key_passes u (Some x) test ≡ key_passes u' (Some x) test
+  unfolding key_passes passes
+  passes_alike u u' x test at = rw at refl
+
   -- a test that the terminal passes only where the proxy does
   pub passes_kept : (o : Option Key) (test : Router → Bool) → (test r ≡ true → test y ≡ true) → key_passes w o test ≡ true →
       key_passes v o test ≡ true
@@ -212,9 +262,17 @@ module _ {w v : World} {b : Books} {g : Records} {q : Key} {r : Router} {a : ℕ
   passes_kept (Some x) test f e = go (same_key x q) refl
     where
       go : (c : Bool) → same_key x q ≡ c → key_passes v (Some x) test ≡ true
-      go true c = grind (arith, standing_rules, t.router x, c, f, e, is.here, same_key_tells x q)
-      go false c = grind (arith, standing_rules, t.router x, c, e)
+      go true c = let b : router_at w x ≡ Some r = ap (router_at w) (key_of x c) ∙ is.here in
+          let a : router_at v x ≡ Some y = t.router x ∙ ap (λ b. cond b (Some y) (router_at w x)) c in
+          passes_at v x y test a ∙ f (sym (passes_at w x r test b) ∙ e)
+      go false c = passes_alike v w x test (t.router x ∙ ap (λ b. cond b (Some y) (router_at w x)) c) ∙ e
 
   pub passes_equal : (o : Option Key) (test : Router → Bool) → test y ≡ test r → key_passes v o test ≡ key_passes w o test
   passes_equal None test f = grind (arith, standing_rules)
-  passes_equal (Some x) test f = grind (arith, standing_rules, t.router x, is.here, same_key_tells x q, f)
+  passes_equal (Some x) test f = go (same_key x q) refl
+    where
+      go : (c : Bool) → same_key x q ≡ c → key_passes v (Some x) test ≡ key_passes w (Some x) test
+      go true c = let b : router_at w x ≡ Some r = ap (router_at w) (key_of x c) ∙ is.here in
+          let a : router_at v x ≡ Some y = t.router x ∙ ap (λ b. cond b (Some y) (router_at w x)) c in
+          passes_at v x y test a ∙ f ∙ sym (passes_at w x r test b)
+      go false c = passes_alike v w x test (t.router x ∙ ap (λ b. cond b (Some y) (router_at w x)) c)

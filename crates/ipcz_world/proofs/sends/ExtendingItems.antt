@@ -1,5 +1,6 @@
 -- A terminal becomes a proxy, and the item under way carries its descriptor: what is said of items, ends and numbers is kept.
-use Rattle.std.specs.Prelude.{◌≡◌, ◌⊎◌, ◌≤◌, ◌<◌, ◌+◌, ℕ, Bool, true, false, cond, nat_eq, nat_lt, Option, Some, None, is_some, refl, List}
+use Rattle.ipcz_world.proofs.sends.ExtendingAround.{left_same}
+use Rattle.std.specs.Prelude.{◌≡◌, ◌⊎◌, ◌≤◌, ◌<◌, ◌+◌, ℕ, Bool, true, false, cond, nat_eq, nat_lt, Option, Some, None, refl, List}
 use Rattle.std.specs.Prelude.{[], ◌∷◌, ◌++◌, length, drop}
 use Rattle.std.specs.Ordering.{nat_cmp}
 use Rattle.std.specs.Cmp.{nat_cmp_total}
@@ -322,7 +323,7 @@ module _ (w v : World) (b : Books) (g : Records) (q : Key) (r : Router) (a : ℕ
     below_length = λ len e. fit.below_length len (sym (length_same link (opposite s)) ∙ e);
     was_sent = λ u e. fit.was_sent u (sym (sent_same link (opposite s) fit.recorded) ∙ e);
     by_sender = read_same may_have_sent link (opposite s) fit.recorded (grind (arith, view_rules)) ∙ fit.by_sender;
-    sender_gone = λ e. ap is_some (length_same link (opposite s)) ∙ fit.sender_gone (sym (gone_same link (opposite s) fit.recorded) ∙ e);
+    sender_gone = λ e. rw (length_same link (opposite s), left_same law is t link (opposite s)) (fit.sender_gone (sym (gone_same link (opposite s) fit.recorded) ∙ e));
     not_passed = λ z e. fit.not_passed z (sym (taken_same link s fit.recorded) ∙ e);
     behind = λ e. made (fit.behind (sym (read_same is_awaited link s fit.recorded (grind (arith, view_rules))) ∙ e));
     not_awaited_low = fit.not_awaited_low;

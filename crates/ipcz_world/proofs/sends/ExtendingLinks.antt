@@ -1,5 +1,8 @@
 -- A terminal that moves becomes a proxy: each link is as its record says, and primary or decaying as its bypass says.
-use Rattle.std.specs.Prelude.{◌≡◌, ◌<◌, ℕ, true, false, Option, Some, None, is_some, refl}
+use Rattle.std.specs.Prelude.{◌≡◌, ◌<◌, ℕ, Bool, true, false, cond, Option, Some, None, is_some, unwrap_or, option_map, refl}
+use Rattle.ipcz_world.proofs.facts.Tests.{not_both, and_second}
+use Rattle.ipcz_world.proofs.Vocabulary.{same_key, is_terminal}
+use Rattle.ipcz_router.specs.Router.{is_sink, is_proxy}
 use Rattle.std.proofs.Common.{arith, ap, subst, ◌∙◌, sym, inl, inr}
 use Rattle.ipcz_world.proofs.Vocabulary.{Side, A, B, Central, LinkEnd, opposite, Router, inward_edge, World, Key, node_at, router_at}
 use Rattle.ipcz_world.proofs.Vocabulary.{Books, Records, is_begun, bypass_of, inner_link, side_node, side_router, side_end, proxy_side}
@@ -69,8 +72,8 @@ module _ {w v : World} {b : Books} {g : Records} {q : Key} {r : Router} {a : ℕ
       new_node A = grind (arith, side_node-proxy h p, t.count, law.counts.on_node q r is.here)
       new_node B = grind (arith, side_node-inner h p, t.count, same_key-itself p, is.receiver)
 
-  pub shape-extended : Shape v
-  shape-extended = record {
+  pub shape-extended : r.closed ≡ false → Shape v
+  shape-extended unclosed = record {
     role = λ x z at. grind (arith, t.router x, same_key_tells x q, is.here, law.shape.role x z, law.shape.role q r, is.lone);
     marked_central = λ x z at m. grind (
       arith,
@@ -97,8 +100,10 @@ module _ {w v : World} {b : Books} {g : Records} {q : Key} {r : Router} {a : ℕ
       law.shape.holds_marked x z,
       law.shape.holds_marked q r,
     );
-    holds_proxy = λ x z at m. grind (arith, t.router x, same_key_tells x q, is.here, law.shape.holds_proxy x z);
-    holds_spare = λ x z at m. grind (arith, t.router x, same_key_tells x q, is.here, law.shape.holds_spare x z, law.shape.holds_spare q r);
+    holds_fit = λ x z at m. grind (arith, t.router x, same_key_tells x q, is.here, law.shape.holds_fit x z);
+    dropped_sink = λ x z at m. dropped_after x z at m (same_key x q) refl;
+    sent_proxy = λ x z at m. sent_after x z at m (same_key x q) refl;
+    holds_spare = λ x z at m p. held_after x z at m p (same_key x q) refl;
     spare_proxy = λ x z j at m. grind (arith, t.router x, same_key_tells x q, is.here, law.shape.spare_proxy x z j);
     spare_primary = λ x z j at m. grind (
       arith,
@@ -109,6 +114,26 @@ module _ {w v : World} {b : Books} {g : Records} {q : Key} {r : Router} {a : ℕ
       law.shape.spare_primary q r j,
     );
   }
+    where
+      held_after : (x : Key) (z : Router) → router_at v x ≡ Some z → z.holds ≡ true → is_proxy z ≡ true → (c : Bool) → same_key x q ≡ c →
+          is_some z.spare ≡ true
+      held_after x z at m p true c = let it : Some (extended w q r a) ≡ Some z = sym (t.router x ∙ ap (λ b. cond b (Some (extended w q r a)) (router_at w x)) c) ∙ at in
+          let f : r.holds ≡ true = ap (λ o. unwrap_or (option_map (λ x. x.holds) o) false) it ∙ m in
+          absurd (grind (arith, law.shape.holds_fit q r is.here f, no_inward law is t, unclosed))
+      held_after x z at m p false c = law.shape.holds_spare x z (sym (t.router x ∙ ap (λ b. cond b (Some (extended w q r a)) (router_at w x)) c) ∙ at) m p
+
+      sent_after : (x : Key) (z : Router) → router_at v x ≡ Some z → z.gone_sent ≡ true → (c : Bool) → same_key x q ≡ c →
+          is_some (inward_edge z).primary ≡ true
+      sent_after x z at m true c = ap (λ o. is_some (inward_edge (unwrap_or o z)).primary)
+          (sym (sym (t.router x ∙ ap (λ b. cond b (Some (extended w q r a)) (router_at w x)) c) ∙ at))
+      sent_after x z at m false c = law.shape.sent_proxy x z (sym (t.router x ∙ ap (λ b. cond b (Some (extended w q r a)) (router_at w x)) c) ∙ at) m
+
+      dropped_after : (x : Key) (z : Router) → router_at v x ≡ Some z → z.mark_dropped ≡ true → (c : Bool) → same_key x q ≡ c →
+          is_sink z ≡ true
+      dropped_after x z at m true c = let it : Some (extended w q r a) ≡ Some z = sym (t.router x ∙ ap (λ b. cond b (Some (extended w q r a)) (router_at w x)) c) ∙ at in
+          let f : r.mark_dropped ≡ true = ap (λ o. unwrap_or (option_map (λ x. x.mark_dropped) o) false) it ∙ m in
+          absurd (not_both r.closed (and_second (is_terminal r) r.closed (law.shape.dropped_sink q r is.here f)) unclosed)
+      dropped_after x z at m false c = law.shape.dropped_sink x z (sym (t.router x ∙ ap (λ b. cond b (Some (extended w q r a)) (router_at w x)) c) ∙ at) m
 
   -- a link end of a router is still as its record says
   still_recorded : (x : Key) (z u : Router) (e : LinkEnd) → u.end ≡ z.end → IsRecorded w g x z e → IsRecorded v h x u e

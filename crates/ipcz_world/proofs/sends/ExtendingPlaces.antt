@@ -1,4 +1,5 @@
 -- A terminal becomes a proxy, and the message that takes its end along gets the descriptor: the messages, and the place of each end.
+use Rattle.ipcz_word.specs.SideSets.{none}
 use Rattle.ipcz_world.proofs.weights.OfRecords.{holds, held_times, holds_times, in_message, in_places}
 use Rattle.std.specs.Prelude.{◌≡◌, ◌≢◌, ◌⊎◌, ◌≤◌, ◌<◌, ◌+◌, ℕ, Bool, true, false, cond, Some, None, is_some, refl, List, [], ◌∷◌}
 use Rattle.std.specs.Prelude.{◌++◌, length, slice_get}
@@ -217,7 +218,7 @@ module _ {w v : World} {b : Books} {g : Records} {q : Key} {r : Router} {a : ℕ
   }
     where
       new_peripheral : {X : Type 0} (f : PeripheralRecord → X) → f (h2.peripheral k) ≡ f
-          (record { end = r.end; proxy = q.serial; node = a; router = None; by = None })
+          (record { end = r.end; proxy = q.serial; node = a; router = None; by = None; left = none })
       new_peripheral f = ap f (grind (arith, same_key-itself k))
 
       new_terminal : h2.terminal r.end ≡ Moving e2
@@ -381,6 +382,8 @@ module _ {w v : World} {b : Books} {g : Records} {q : Key} {r : Router} {a : ℕ
   books_kept-extended = record {
     own_pair = law.books_kept.own_pair;
     mark_last = law.books_kept.mark_last;
+    gone_last = law.books_kept.gone_last;
+    retired_closed = law.books_kept.retired_closed;
     numbers = law.books_kept.numbers;
     mark_seen = λ x z at e. grind (
       arith,

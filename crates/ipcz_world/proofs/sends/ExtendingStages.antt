@@ -1,4 +1,7 @@
 -- A terminal that moves becomes a proxy: who stands where, the words, the bypasses, and where the terminals are.
+use Rattle.ipcz_world.proofs.Vocabulary.{LinkId, same_link, A, B}
+use Rattle.ipcz_world.specs.Records.{is_left}
+use Rattle.ipcz_world.proofs.sends.ExtendingAround.{left_same, bypass_same}
 use Rattle.ipcz_world.proofs.Vocabulary.{Word}
 use Rattle.ipcz_world.proofs.frames.Sourcing.{sourced-by, had-one}
 use Rattle.std.specs.Prelude.{◌≡◌, ◌≤◌, ℕ, Bool, true, false, not, cond, ◌&&◌, Some, None, is_some, refl}
@@ -50,31 +53,42 @@ module _ {w v : World} {b : Books} {g : Records} {q : Key} {r : Router} {a : ℕ
 
   pub stands-extended : Stands v h
   stands-extended = record {
-    central = λ i s x l c e. passes_kept law is t (Some x) (has_primary (Central i) s) (λ f. f)
-        (law.stands.central i s x l c (sym (router_same law is t (Central i) s refl) ∙ e));
+    central = λ i s x l c nl e. passes_kept law is t (Some x) (has_primary (Central i) s) (λ f. f)
+        (law.stands.central i s x l c (sym (left_same law is t (Central i) s) ∙ nl) (sym (router_same law is t (Central i) s refl) ∙ e));
     awaited = law.stands.awaited;
     awaited_stage = law.stands.awaited_stage;
     awaited_side = λ i s o l none born. law.stands.awaited_side i s o l none born ∙ ap opposite
         (sym (side_same law is t o (fresh_begun i s o l none born)));
-    proxy = λ x e by. elim (recorded_back law is t (inner_link x) e) [
+    proxy = λ x e by nl. elim (recorded_back law is t (inner_link x) e) [
       | inl o ↦ ap (λ z. key_passes v z (has_inward_primary (inner_link x) A))
           (router_same law is t (inner_link x) A (other_link law is t (inner_link x) o))
           ∙
           passes_kept law is t (side_router g (inner_link x) A) (has_inward_primary (inner_link x) A) (λ f. absurd (no_inward_link x f))
-          (law.stands.proxy x o (sym (by_same law is t x) ∙ by))
+          (law.stands.proxy x o (sym (by_same law is t x) ∙ by) (sym (left_same law is t (inner_link x) A) ∙ nl))
       | inr n ↦ let s : x ≡ p = inner_one x p n in subst (λ k. key_passes v (side_router h (inner_link k) A)
           (has_inward_primary (inner_link k) A) ≡ true) (sym s) has_new
     ];
-    inner = λ x k e by f. elim (recorded_back law is t (inner_link x) e) [
+    inner = λ x k e by nl f. elim (recorded_back law is t (inner_link x) e) [
       | inl o ↦ passes_kept law is t (Some k) (has_primary (inner_link x) B) (λ f. f)
-          (law.stands.inner x k o (sym (by_same law is t x) ∙ by)
+          (law.stands.inner x k o (sym (by_same law is t x) ∙ by) (sym (left_same law is t (inner_link x) B) ∙ nl)
           (sym (router_same law is t (inner_link x) B (other_link law is t (inner_link x) o)) ∙ f))
       | inr n ↦ absurd (no_inner k (ap (λ l. side_router h l B) (sym n) ∙ f))
     ];
     by_begun = λ x o e. law.stands.by_begun x o (sym (by_same law is t x) ∙ e);
     by_inner = λ x o e. law.stands.by_inner x o (sym (by_same law is t x) ∙ e);
+    left_recorded = λ l s n. recorded_more law is t l (law.stands.left_recorded l s (was_left l s n));
+    left_known = λ l s n. ap is_some (router_same law is t l s (left_other l s n)) ∙ law.stands.left_known l s (was_left l s n);
+    left_gone = λ l s n. ap (λ o. key_passes v o (λ z. true)) (router_same law is t l s (left_other l s n)) ∙
+        passes_equal law is t (side_router g l s) (λ z. true) refl ∙ law.stands.left_gone l s (was_left l s n);
+    left_live = λ l s n. bypass_same law is t l ∙ law.stands.left_live l s (was_left l s n);
   }
     where
+      was_left : (l : LinkId) (s : Side) → is_left h l s ≡ true → is_left g l s ≡ true
+      was_left l s n = sym (left_same law is t l s) ∙ n
+
+      left_other : (l : LinkId) (s : Side) → is_left h l s ≡ true → same_link l (inner_link p) ≡ false
+      left_other l s n = other_link law is t l (law.stands.left_recorded l s (was_left l s n))
+
       fresh_begun : (i : ℕ) (s : Side) (o : ℕ) → is_linked (g.owner i) ≡ true → (g.central i).router s ≡ None →
           (g.central i).born ≡ Some o → is_begun (g.bypass o) ≡ true
       fresh_begun i s o l none born = two_begun (g.bypass o).stage (law.stands.awaited_stage i s o l none born)
@@ -85,17 +99,19 @@ module _ {w v : World} {b : Books} {g : Records} {q : Key} {r : Router} {a : ℕ
       no_inner : (k : Key) → side_router h (inner_link p) B ≡ Some k → ⊥
       no_inner k f = grind (arith, side_router-inner h p, f, same_key-itself p)
 
-  pub words-extended : Words v h
-  words-extended = record {
+  pub words-extended : r.closed ≡ false → Words v h
+  words-extended unclosed = record {
     unused = λ i e. t.word i ∙ law.words.unused i e;
     begun_stable = λ i s e. ap (λ z. has z.stable s) (t.word i) ∙ law.words.begun_stable i s e;
     begun_holder = λ i s e. ap (λ z. has z.holder s) (t.word i) ∙ law.words.begun_holder i s e ∙
         ap (same_side s) (sym (side_same law is t i e));
-    stable = λ i s l c. ap (λ z. has z.stable s) (t.word i) ∙ law.words.stable i s l c ∙ sym
+    left_held = λ i s n. rw (left_same law is t (Central i) A, left_same law is t (Central i) B, t.word i)
+        (law.words.left_held i s (sym (left_same law is t (Central i) s) ∙ n));
+    stable = λ i s l c nl. ap (λ z. has z.stable s) (t.word i) ∙ law.words.stable i s l c (sym (left_same law is t (Central i) s) ∙ nl) ∙ sym
         (ap (λ o. key_passes v o (λ x. x.marked)) (router_same law is t (Central i) s refl) ∙
         passes_equal law is t (side_router g (Central i) s)
         (λ x. x.marked) refl);
-    holder = λ i s l c. ap (λ z. has z.holder s) (t.word i) ∙ law.words.holder i s l c ∙ sym
+    holder = λ i s l c nl. ap (λ z. has z.holder s) (t.word i) ∙ law.words.holder i s l c (sym (left_same law is t (Central i) s) ∙ nl) ∙ sym
         (ap (λ o. key_passes v o (λ x. x.holds)) (router_same law is t (Central i) s refl) ∙
         passes_equal law is t (side_router g (Central i) s)
         (λ x. x.holds) refl);
@@ -111,7 +127,7 @@ module _ {w v : World} {b : Books} {g : Records} {q : Key} {r : Router} {a : ℕ
   }
     where
       lone_free : r.holds ≡ true → ⊥
-      lone_free h = grind (arith, law.shape.holds_proxy q r is.here h, no_inward law is t)
+      lone_free h = grind (arith, law.shape.holds_fit q r is.here h, no_inward law is t, unclosed)
 
   spare_same : (x : Key) → spare_of (router_at v x) ≡ spare_of (router_at w x)
   unfolding spare_of

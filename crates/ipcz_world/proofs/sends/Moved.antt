@@ -1,4 +1,5 @@
 -- Each end of an item that is sent to another node has its terminal there, so a send that moves terminals keeps all that holds.
+use Rattle.ipcz_world.specs.Records.{Retired}
 use Rattle.std.specs.Prelude.{◌+◌, not, ◌≡◌, ◌≢◌, ◌≤◌, ℕ, Bool, true, false, cond, ◌&&◌, nat_eq, Option, Some, None, refl, List, [], ◌∷◌}
 use Rattle.std.specs.Prelude.{◌++◌, map}
 use Rattle.std.specs.Cmp.{nat_cmp_total}
@@ -101,6 +102,7 @@ moved_all m to (e ∷ es) has once =
 pub terminal_at : (t : Terminal) (n : ℕ) → terminal_node t ≡ Some n → (q : Key) × (t ≡ At q) × (q.node ≡ n)
 unfolding terminal_node
 terminal_at Nowhere n h = cc
+terminal_at Retired n h = cc
 terminal_at (At k) n h = (k, refl, grind (arith, h))
 terminal_at (IsMoving d) n h = cc
 

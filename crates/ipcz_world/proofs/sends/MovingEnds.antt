@@ -1,4 +1,5 @@
 -- A send moves the terminals of its item's ends, one after the other: each step keeps all but that the item has a descriptor for each end.
+use Rattle.ipcz_word.specs.SideSets.{none}
 use Rattle.std.specs.Prelude.{◌≡◌, ◌≢◌, ◌<◌, ℕ, Bool, true, false, cond, nat_eq, Option, Some, None, refl, List, [], ◌∷◌, ◌++◌}
 use Rattle.std.specs.FinMap.{get}
 use Rattle.std.proofs.Common.{arith, ap, subst, ◌∙◌, sym}
@@ -86,6 +87,7 @@ module _ (w : World) (b : Books) (n a : ℕ) (l : LinkId) (s : Side) (number : �
         node = a;
         router = None;
         by = None;
+        left = none;
       })) f.router.end (IsMoving (descriptor_of f.router (inner_link k))))
       (keys m ∙ ap (λ z. record { node = z; serial = m.node.next_peripheral }) (sym at))
 

@@ -1,4 +1,5 @@
 -- A router sends the current item of a queue, without ends that move: all that holds is kept.
+use Rattle.ipcz_world.proofs.frames.GonesKept.{IsGoneRight, gones-one}
 use Rattle.ipcz_world.proofs.weights.OfRecords.{holds, held_times, source, in_message, in_places}
 use Rattle.std.specs.Prelude.{◌≡◌, ◌⊎◌, ◌≤◌, ◌<◌, ◌+◌, ℕ, true, false, Option, Some, None, refl, List, [], length, slice_get}
 use Rattle.std.proofs.Common.{arith, ap, subst, ◌∙◌, sym, inl, inr}
@@ -38,15 +39,12 @@ abbrev pub send_act : World → Key → Router → LinkId → Side → ℕ → �
 send_act w k y link s to n item = set_node w k.node (push_out (with_router (node_at w k.node) k.serial y) to
     (messages.Item link s n item []))
 
--- what a send rests on: the router stands at the other side of the link, is below the link's length, and the receiver isn't gone
-pub record IsSend (w : World) (g : Records) (k : Key) (r y : Router) (link : LinkId) (s : Side) (to n : ℕ) (item : Item) : Type 0 where
+-- an item leaves for a link's other side, where the router stands, below the link's length, and the receiver isn't gone
+pub record IsSent (w : World) (g : Records) (k : Key) (r y : Router) (link : LinkId) (s : Side) (to n : ℕ) (item : Item) : Type 0 where
   pub here : router_at w k ≡ Some r
   pub alike : IsAlike r y
   pub closed : y.closed ≡ r.closed
-  pub out : IsDrained r.out_queue y.out_queue
-  pub inn : IsDrained r.in_queue y.in_queue
   pub mark_seen : y.mark_seen ≡ r.mark_seen
-  pub next : reach y.out_queue ≡ reach r.out_queue
   pub current : is_terminal r ≡ true → y.in_queue.current ≡ r.in_queue.current
   pub router : side_router g link (opposite s) ≡ Some k
   pub attached : is_attached link (opposite s) r ≡ true
@@ -58,9 +56,18 @@ pub record IsSend (w : World) (g : Records) (k : Key) (r y : Router) (link : Lin
   pub there : is_gone (view w g link s) ≡ false
   pub low : (c o : ℕ) → link ≡ Central c → (g.central c).router s ≡ None → (g.central c).born ≡ Some o → (g.bypass o).taken_at ≤ n
   pub made : is_awaited (view w g link s) ≡ true → is_made_by link s (flow w k.node to) ≡ true
-  pub weight : (f : Weight) → in_router f y + f (source g link s) n item ≡ in_router f r
   pub ends : (e : End) → has_end e (ends_in item) ≡ true → terminal_node (g.terminal e) ≡ Some k.node
   pub fresh : (c : ℕ) → link ≡ Central c → r.out_queue.current ≡ n
+
+-- what a send rests on: the item is the current one of the queue that feeds the link
+pub record IsSend (w : World) (g : Records) (k : Key) (r y : Router) (link : LinkId) (s : Side) (to n : ℕ) (item : Item) : Type 0 where
+  pub sent : IsSent w g k r y link s to n item
+  pub open sent use *
+  pub out : IsDrained r.out_queue y.out_queue
+  pub inn : IsDrained r.in_queue y.in_queue
+  pub next : reach y.out_queue ≡ reach r.out_queue
+  pub weight : (f : Weight) → in_router f y + f (source g link s) n item ≡ in_router f r
+  pub right : (b : Books) → OpenInv w b g → IsGoneRight b g y
 
 pub not_passed_by : (length : Option ℕ) (n : ℕ) → ((l : ℕ) → length ≡ Some l → n < l) → has_passed length n ≡ false
 unfolding has_passed
@@ -83,7 +90,7 @@ times_same w v same e = ap (λ c. total_below c (λ n. held_times e (node_at v n
     (λ n. held_times e (node_at w n).held + times e (node_at w n).pending) (λ j. grind (arith, same.held j, same.pending j))
 
 module _ (w v : World) (b : Books) (g : Records) (k : Key) (r y : Router) (link : LinkId) (s : Side) (to n : ℕ) (item : Item)
-    (is : IsSend w g k r y link s to n item) (d : IsDraining w v k r y) (p : IsPushed w v k.node to (messages.Item link s n item [])) where
+    (is : IsSent w g k r y link s to n item) (d : IsDraining w v k r y) (p : IsPushed w v k.node to (messages.Item link s n item [])) where
   stands : view w g link (opposite s) ≡ Standing r
   stands = view-standing w g link (opposite s) k r is.router is.here is.attached
 
@@ -244,6 +251,8 @@ module _ (w v : World) (b : Books) (g : Records) (k : Key) (r y : Router) (link 
   books_kept-sent law = record {
     own_pair = law.own_pair;
     mark_last = law.mark_last;
+    gone_last = law.gone_last;
+    retired_closed = law.retired_closed;
     numbers = law.numbers;
     mark_seen = λ q x at m. grind (
       arith,
@@ -257,8 +266,8 @@ module _ (w v : World) (b : Books) (g : Records) (k : Key) (r y : Router) (link 
     );
   }
 
-  pub conserved-sent : ((f : Weight) → in_places f g v ≡ in_places f g w) → Conserved w b g → Conserved v b g
-  conserved-sent places law = record {
+  pub conserved-sent : reach y.out_queue ≡ reach r.out_queue → ((f : Weight) → in_places f g v ≡ in_places f g w) → Conserved w b g → Conserved v b g
+  conserved-sent next places law = record {
     exact = λ e h. places (at_end e h) ∙ law.exact e h;
     read_put = law.read_put;
     prefix = law.prefix;
@@ -270,7 +279,7 @@ module _ (w v : World) (b : Books) (g : Records) (k : Key) (r y : Router) (link 
       d.touched.here,
       d.alike.end,
       d.alike.inward,
-      is.next,
+      next,
       law.reach q x,
       law.reach k r,
     );
@@ -303,9 +312,9 @@ module _ (w v : World) (b : Books) (g : Records) (k : Key) (r y : Router) (link 
     unopened_got = law.unopened_got;
   }
 
-  pub held_once-sent : ((f : Weight) → in_places f g v ≡ in_places f g w) → HasSameEnds w v → HeldOnce w b g → HeldOnce v b g
+  pub held_once-sent : ((e : End) → in_places (names_end e) g v ≡ in_places (names_end e) g w) → HasSameEnds w v → HeldOnce w b g → HeldOnce v b g
   held_once-sent places same law = record {
-    once = λ e. grind (arith, places (names_end e), times_same w v same e, law.once e);
+    once = λ e. grind (arith, places e, times_same w v same e, law.once e);
     moves_in_parcel = λ from to' i l t m x moves j e u h. elim (came_pushed w v k.node to (messages.Item link s n item []) p from to' i
         (messages.Item l t m x moves) u) [
           | inl c ↦ law.moves_in_parcel from to' c.at l t m x moves j e c.was h
@@ -356,17 +365,19 @@ inv-sent w b g k r y link s to n item law is = record {
   bypasses = bypasses-touched w v k r y g t is.alike law.bypasses;
   live = law.live;
   stages = stages-touched w v k r y g t is.alike law.stages;
-  told = told-sent w v b g k r y link s to n item is d p law.told;
-  moves = moves-sent w v b g k r y link s to n item is d p law.moves;
+  told = told-sent w v b g k r y link s to n item is.sent d p law.told;
+  moves = moves-sent w v b g k r y link s to n item is.sent d p law.moves;
   terminals = terminals-touched w v k r y g t is.alike law.terminals;
-  end_places = end_places-sent w v b g k r y link s to n item is d p ends law.end_places;
-  books_kept = books_kept-sent w v b g k r y link s to n item is d p law.books_kept;
-  items = items-sent w v b g k r y link s to n item is d p law.counts law.links law.order law.conserved law.items;
+  end_places = end_places-sent w v b g k r y link s to n item is.sent d p ends law.end_places;
+  books_kept = books_kept-sent w v b g k r y link s to n item is.sent d p law.books_kept;
+  retired_ends = law.retired_ends;
+  gones = gones-one w v b g k y t.router (is.right b law) law.gones;
+  items = items-sent w v b g k r y link s to n item is.sent d p law.counts law.links law.order law.conserved law.items;
   order = order-drained w v k r y g d law.order;
   proxy_numbers = proxy_numbers-drained w v k r y g d law.proxy_numbers;
-  fresh_numbers = fresh_numbers-sent w v b g k r y link s to n item is d p law.positions law.links law.fresh_numbers;
-  conserved = conserved-sent w v b g k r y link s to n item is d p places law.conserved;
-  held_once = held_once-sent w v b g k r y link s to n item is d p places ends law.held_once;
+  fresh_numbers = fresh_numbers-sent w v b g k r y link s to n item is.sent d p law.positions law.links law.fresh_numbers;
+  conserved = conserved-sent w v b g k r y link s to n item is.sent d p is.next places law.conserved;
+  held_once = held_once-sent w v b g k r y link s to n item is.sent d p (λ e. places (names_end e)) ends law.held_once;
   no_strays = λ j. t.strays j ∙ law.no_strays j;
 }
   where
@@ -411,7 +422,7 @@ pub closed-sent : (w : World) (b : Books) (g : Records) (k : Key) (r y : Router)
     Inv w b g → IsSend w g k r y link s to n item → (k.node ≡ to) ⊎ (ends_in item ≡ []) → Inv (send_act w k y link s to n item) b g
 closed-sent w b g k r y link s to n item law is plain =
     closed v b g (inv-sent w b g k r y link s to n item (opened w b g law) is)
-    (ends-sent w v b g k r y link s to n item is (draining w b g k r y link s to n item (opened w b g law) is)
+    (ends-sent w v b g k r y link s to n item is.sent (draining w b g k r y link s to n item (opened w b g law) is)
     (pushed w b g k r y link s to n item (opened w b g law) is) plain law.moves.ends)
   where
     v : World

@@ -1,10 +1,11 @@
 -- What a node's send of an item does to the world keeps all that holds, whether or not terminals move along.
+use Rattle.ipcz_router.specs.ActEffects.{leaves_by}
 use Rattle.std.specs.Prelude.{◌≡◌, ◌≢◌, ℕ, Bool, true, false, ◌&&◌, nat_eq, if◌then◌else◌, Option, Some, None, is_some, refl, []}
 use Rattle.std.proofs.Common.{arith, subst, ◌∙◌, sym, inl}
 use Rattle.std.proofs.lemmas.Bool.Decides.{nat_tests}
 use Rattle.ipcz_world.proofs.Vocabulary.{LinkEnd, Item, opposite, current_item, Router, output_of, is_possible, router_in, ends_in}
 use Rattle.ipcz_world.proofs.Vocabulary.{commit, World, Key, node_at, router_at, after_act, can_take, Books, Records, Inv}
-use Rattle.ipcz_router.specs.Acts.{way_out, way_in, pop_out, pop_in}
+use Rattle.ipcz_router.specs.Acts.{way_out, way_in, pop_out, send_on}
 use Rattle.ipcz_router.specs.ActEffects.{apply, item_output}
 use Rattle.ipcz_router.specs.ActTable.{is_rest}
 use Rattle.ipcz_router.specs.declared.act.RouterAct.TheVariants as acts
@@ -34,14 +35,14 @@ sent_records w g k y e item = moves_records g (before_moves w k y) e.other (move
 pub acted-sent_out : (w : World) (k : Key) (r : Router) (e : LinkEnd) (item : Item) → router_at w k ≡ Some r → way_out r ≡ Some e →
     current_item r.out_queue ≡ Some item → after_act w k.node (OfRouter k.serial acts.SendOut) ≡ sent_act w k (pop_out r) e
     r.out_queue.current item
-unfolding after_act after_router_act touch commit on_router commit_router keep_or_drop apply output_of item_output send send_item router_at
+unfolding after_act after_router_act touch commit on_router commit_router keep_or_drop leaves_by apply output_of item_output send send_item router_at
 acted-sent_out w k r e item here chosen at = let inside : router_in (node_at w k.node) k.serial ≡ Some r = here in
     rw (here, inside, chosen, at) refl
 
 pub acted-sent_in : (w : World) (k : Key) (r : Router) (e : LinkEnd) (item : Item) → router_at w k ≡ Some r → way_in r ≡ Some e →
-    current_item r.in_queue ≡ Some item → after_act w k.node (OfRouter k.serial acts.SendIn) ≡ sent_act w k (pop_in r) e r.in_queue.current
+    current_item r.in_queue ≡ Some item → after_act w k.node (OfRouter k.serial acts.SendIn) ≡ sent_act w k (send_on r) e r.in_queue.current
     item
-unfolding after_act after_router_act touch commit on_router commit_router keep_or_drop apply output_of item_output send send_item router_at
+unfolding after_act after_router_act touch commit on_router commit_router keep_or_drop leaves_by apply output_of item_output send send_item router_at
 acted-sent_in w k r e item here chosen at = let inside : router_in (node_at w k.node) k.serial ≡ Some r = here in
     rw (here, inside, chosen, at) refl
 
@@ -65,15 +66,15 @@ inv-sent_out w b g k r e item law here chosen at =
 
 pub inv-sent_in : (w : World) (b : Books) (g : Records) (k : Key) (r : Router) (e : LinkEnd) (item : Item) → Inv w b g →
     router_at w k ≡ Some r → way_in r ≡ Some e → current_item r.in_queue ≡ Some item →
-    Inv (sent_act w k (pop_in r) e r.in_queue.current item) b (sent_records w g k (pop_in r) e item)
+    Inv (sent_act w k (send_on r) e r.in_queue.current item) b (sent_records w g k (send_on r) e item)
 inv-sent_in w b g k r e item law here chosen at =
     let node = law.counts.node k.node (law.counts.on_node k r here) in
     by_way (nat_eq e.other (node_at w k.node).number) e.other (node_at w k.node).number refl
     (λ c. Inv (posted_world w k.node e.other e.link (opposite e.side) r.in_queue.current item
-    (move_ends (before_moves w k (pop_in r)) e.other (if c then [] else ends_in item))) b
-    (moves_records g (before_moves w k (pop_in r)) e.other (if c then [] else ends_in item)))
+    (move_ends (before_moves w k (send_on r)) e.other (if c then [] else ends_in item))) b
+    (moves_records g (before_moves w k (send_on r)) e.other (if c then [] else ends_in item)))
     (λ q. inv-send_in w b g k r e item law here chosen at (inl (sym node ∙ q)))
-    (λ ne. inv-moved w b g k r (pop_in r) e.link (opposite e.side) e.other r.in_queue.current item law
+    (λ ne. inv-moved w b g k r (send_on r) e.link (opposite e.side) e.other r.in_queue.current item law
     (is_send_in w b g k r e item (opened w b g law) here chosen at) (λ q. ne (node ∙ q)))
 
 -- a send that may be taken sends an item
@@ -121,7 +122,7 @@ pub step-send_in : (w : World) (b : Books) (g : Records) (n s : ℕ) → Inv w b
     (h : Records) × Inv (after_act w n (OfRouter s acts.SendIn)) b h
 step-send_in w b g n s law can =
     let k : Key = record { node = n; serial = s } in let c = in_chosen w k can in (
-      sent_records w g k (pop_in c.0) c.1 c.2,
-      subst (λ v. Inv v b (sent_records w g k (pop_in c.0) c.1 c.2))
+      sent_records w g k (send_on c.0) c.1 c.2,
+      subst (λ v. Inv v b (sent_records w g k (send_on c.0) c.1 c.2))
           (sym (acted-sent_in w k c.0 c.1 c.2 c.3 c.4 c.5)) (inv-sent_in w b g k c.0 c.1 c.2 law c.3 c.4 c.5),
     )

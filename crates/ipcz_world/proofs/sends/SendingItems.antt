@@ -1,4 +1,21 @@
 -- The sends of a router, out and in, keep all that holds.
+use Rattle.ipcz_world.proofs.weights.Booking.{flag}
+use Rattle.ipcz_world.specs.Structure.{is_begun_router}
+use Rattle.std.proofs.lemmas.Option.{none-some}
+use Rattle.std.proofs.Common.{true≢false}
+use Rattle.std.specs.Prelude.{cond, suc, ◌+◌, length, slice_get, is_some}
+use Rattle.ipcz_seq.specs.Queue.{is_drained}
+use Rattle.ipcz_router.specs.ActTable.{is_done}
+use Rattle.ipcz_base.specs.declared.item.Item.TheVariants.{Parcel, Mark, Gone}
+use Rattle.ipcz_base.specs.Ends.{end_at}
+use Rattle.ipcz_world.specs.Records.{is_left, across_side}
+use Rattle.ipcz_world.specs.Books.{is_retired, read}
+use Rattle.ipcz_world.proofs.frames.Touching.{either}
+use Rattle.ipcz_world.proofs.frames.GonesKept.{IsGoneRight, right-of}
+use Rattle.ipcz_world.proofs.facts.LinkTests.{opposite_end-twice}
+use Rattle.ipcz_world.proofs.weights.Booking.{out_numbers}
+use Rattle.ipcz_world.proofs.calls.Reading.{in_numbers, slice_get-below}
+use Rattle.ipcz_world.proofs.facts.Drained.{drained_item, gone_found, gone_stands, next_gone}
 use Rattle.ipcz_world.specs.Routes.{source as source'}
 use Rattle.std.specs.Prelude.{◌≡◌, ◌⊎◌, ◌≤◌, ◌<◌, ℕ, Bool, true, false, ◌||◌, nat_le, Option, Some, None, refl, []}
 use Rattle.std.proofs.Common.{arith, ap, subst, ◌∙◌, sym, inl, inr}
@@ -8,7 +25,7 @@ use Rattle.ipcz_world.proofs.Vocabulary.{has_link, item_at, current_item, Router
 use Rattle.ipcz_world.proofs.Vocabulary.{router_at, flow, Books, Records, is_begun, is_recorded, inner_link, side_node, side_router}
 use Rattle.ipcz_world.proofs.Vocabulary.{side_end, side_length, bypass_of, terminal_descriptor, view, view_by, is_attached, is_gone}
 use Rattle.ipcz_world.proofs.Vocabulary.{sending_queue, key_passes, has_primary, has_decaying, IsRecorded, is_outward, Inv}
-use Rattle.ipcz_router.specs.Acts.{way_out, way_in, pop_out, pop_in}
+use Rattle.ipcz_router.specs.Acts.{way_out, way_in, pop_out, send_on, has_gone_next, item_passes}
 use Rattle.ipcz_world.proofs.frames.RecordRules.{record_rules, bypass_of-inner}
 use Rattle.ipcz_world.proofs.weights.OfRecords.{source}
 use Rattle.ipcz_world.specs.Standing.{awaited_view}
@@ -99,29 +116,43 @@ pub is_send_out : (w : World) (b : Books) (g : Records) (k : Key) (r : Router) (
     router_at w k ≡ Some r → way_out r ≡ Some e → current_item r.out_queue ≡ Some item →
     IsSend w g k r (pop_out r) e.link (opposite e.side) e.other r.out_queue.current item
 is_send_out w b g k r e item law here chosen at = record {
-  here = here;
-  alike = record { end = refl; outward = refl; inward = refl; spare = refl; marked = refl; holds = refl };
-  closed = refl;
+  sent = record {
+    here = here;
+    alike = record {
+      end = refl;
+      outward = refl;
+      inward = refl;
+      spare = refl;
+      marked = refl;
+      holds = refl;
+      done = λ h. absurd (undone h);
+      dropped = λ h f. f h;
+      sent = λ h f. f h;
+    };
+    closed = refl;
+    mark_seen = refl;
+    current = λ t. refl;
+    router = ap (side_router g e.link) (opposite-twice e.side) ∙ rec.router;
+    attached = subst (λ t. is_attached e.link t r ≡ true) (sym (opposite-twice e.side)) (attached-out r e out has);
+    sends = ap (λ t. (sending_queue e.link t r).current) (opposite-twice e.side) ∙
+        ap (λ q. q.current) (sending_queue-out e.link e.side r out);
+    rises = ap (λ t. (sending_queue e.link t (pop_out r)).current) (opposite-twice e.side) ∙ ap (λ q. q.current)
+        (sending_queue-out e.link e.side (pop_out r) out);
+    recorded = rec.recorded;
+    receiver = rec.other;
+    below = λ len h. below_out w g k r e item len law.positions law.fresh_numbers law.proxy_numbers here out chosen at
+        (ap (side_length g e.link) (sym (opposite-twice e.side)) ∙ h);
+    there = there;
+    low = λ c o l none born. low_out w g k r c o (opposite e.side) law.positions law.fresh_numbers law.stands law.bypasses law.stages here
+        (grind (arith, record_rules, rec.recorded, l)) (ap (λ z. side_router g z (opposite (opposite e.side))) (sym l) ∙ ap
+        (side_router g e.link) (opposite-twice e.side) ∙ rec.router) none born;
+    made = λ h. made_way w b g k r e law rec there (awaited_none w g e.link (opposite e.side) h);
+    ends = λ d h. law.end_places.out k r r.out_queue.current item d here at h;
+    fresh = λ c l. refl;
+  };
   out = drained_pop r.out_queue item at;
   inn = drained_same r.in_queue;
-  mark_seen = refl;
   next = reach-pop r.out_queue item at;
-  current = λ t. refl;
-  router = ap (side_router g e.link) (opposite-twice e.side) ∙ rec.router;
-  attached = subst (λ t. is_attached e.link t r ≡ true) (sym (opposite-twice e.side)) (attached-out r e out has);
-  sends = ap (λ t. (sending_queue e.link t r).current) (opposite-twice e.side) ∙
-      ap (λ q. q.current) (sending_queue-out e.link e.side r out);
-  rises = ap (λ t. (sending_queue e.link t (pop_out r)).current) (opposite-twice e.side) ∙ ap (λ q. q.current)
-      (sending_queue-out e.link e.side (pop_out r) out);
-  recorded = rec.recorded;
-  receiver = rec.other;
-  below = λ len h. below_out w g k r e item len law.positions law.fresh_numbers law.proxy_numbers here out chosen at
-      (ap (side_length g e.link) (sym (opposite-twice e.side)) ∙ h);
-  there = there;
-  low = λ c o l none born. low_out w g k r c o (opposite e.side) law.positions law.fresh_numbers law.stands law.bypasses law.stages here
-      (grind (arith, record_rules, rec.recorded, l)) (ap (λ z. side_router g z (opposite (opposite e.side))) (sym l) ∙ ap
-      (side_router g e.link) (opposite-twice e.side) ∙ rec.router) none born;
-  made = λ h. made_way w b g k r e law rec there (awaited_none w g e.link (opposite e.side) h);
   weight = λ f. omega (
     arith,
     in_router-is f r,
@@ -129,10 +160,25 @@ is_send_out w b g k r e item law here chosen at = record {
     in_popped (f r.end) r.out_queue item at,
     ap (λ d. f d r.out_queue.current item) (source-out g e.link e.side out ∙ sym rec.end),
   );
-  ends = λ d h. law.end_places.out k r r.out_queue.current item d here at h;
-  fresh = λ c l. refl;
+  right = λ c inv. let o = right-of inv.gones k r here in let n = out_numbers w c g k r r.out_queue.current item inv.conserved
+      (inv.counts.on_node k r here) here at in record {
+        sent = o.sent;
+        sent_back = o.sent_back;
+        left_primary = o.left_primary;
+        left_inner = o.left_inner;
+        out_put = omega (arith, n.1);
+        in_put = o.in_put;
+        still = o.still;
+        dropped = o.dropped;
+        dropped_closed = o.dropped_closed;
+        dropped_back = o.dropped_back;
+      };
 }
   where
+    undone : is_done r ≡ true → ⊥
+    undone h = let d : is_drained r.out_queue ≡ true = grind (arith, h) in
+        none-some item (sym (drained_item r.out_queue r.out_queue.current d) ∙ at)
+
     rec : IsRecorded w g k r e
     rec = elim (choose-tells r.outward r.out_queue.current e chosen)
         [ inl on ↦ law.links.primary k r e here on | inr off ↦ law.links.decaying k r e here off.0 ]
@@ -149,9 +195,20 @@ is_send_out w b g k r e item law here chosen at = record {
           (has_link-end r.outward.decaying e off.0)
     ]
 
+    -- nobody has left across, since that one's end has read all that was put here
+    unleft : r.outward.primary ≡ Some e → is_left g e.link (opposite e.side) ≡ false
+    unleft on = go (is_left g e.link (opposite e.side)) refl
+      where
+        go : (c : Bool) → is_left g e.link (opposite e.side) ≡ c → c ≡ false
+        go false l = refl
+        go true l = let n = out_numbers w b g k r r.out_queue.current item law.conserved (law.counts.on_node k r here) here at in
+            let all : read b (opposite_end r.end) ≡ length (b.put (opposite_end (opposite_end r.end))) =
+            law.retired_ends.all_read (opposite_end r.end) (law.gones.left_primary k r e here on l) in
+            absurd (omega (arith, n.0, n.1, all, ap (λ d. length (b.put d)) (opposite_end-twice r.end)))
+
     there : is_gone (view w g e.link (opposite e.side)) ≡ false
     there = there_out w g k r e item law.positions law.fresh_numbers law.proxy_numbers law.stands law.bypasses law.stages here out chosen at
-        rec.recorded
+        rec.recorded unleft
 
 -- what a proxy sends inward lies below the link's length
 below_in : (w : World) (b : Books) (g : Records) (k : Key) (r : Router) (e : LinkEnd) (item : Item) (len : ℕ) → OpenInv w b g →
@@ -195,12 +252,22 @@ stage_cases n a b = go (nat_le n 1) (nat_le n 4) refl refl
     go false true e f = inr (inl (grind (arith, e, nat_tests), grind (arith, f, nat_tests)))
     go false false e f = inr (inr (grind (arith, e, f, b, nat_tests)))
 
+bare_proxy : (r : Router) (e : LinkEnd) → (inward_edge r).decaying ≡ Some e → is_terminal r ≡ false
+bare_proxy r e h = go r.inward refl
+  where
+    go : (o : Option Edge) → r.inward ≡ o → is_terminal r ≡ false
+    go None q = absurd (grind (arith, q, h))
+    go (Some x) q = grind (arith, q)
+
+begun_bare : (r : Router) (e : LinkEnd) → (inward_edge r).primary ≡ None → (inward_edge r).decaying ≡ Some e → is_begun_router r ≡ true
+begun_bare r e p h = grind (arith, p, bare_proxy r e h)
+
 -- the router inward isn't gone
 there_in : (w : World) (b : Books) (g : Records) (k : Key) (r : Router) (e : LinkEnd) (item : Item) (p : Key) → OpenInv w b g →
     router_at w k ≡ Some r → way_in r ≡ Some e → item_at r.in_queue r.in_queue.current ≡ Some item → is_recorded w g e.link ≡ true →
     e.link ≡ inner_link p → is_gone (view w g (inner_link p) B) ≡ false
 there_in w b g k r e item p law here chosen at rec l = elim (choose-tells (inward_edge r) r.in_queue.current e chosen) [
-  | inl on ↦ live (sym (bypass_of-inner g p) ∙ ap (bypass_of g) (sym l) ∙ law.positions.inward_primary k r e here on)
+  | inl on ↦ live (unleft on) (sym (bypass_of-inner g p) ∙ ap (bypass_of g) (sym l) ∙ law.positions.inward_primary k r e here on)
       (side_router g (inner_link p) B) refl
   | inr off ↦ begun (g.begun k) refl (sym (bypass_of-inner g p) ∙ ap (bypass_of g) (sym l) ∙ law.positions.inward_decaying k r e here off.0)
       off.0
@@ -209,14 +276,35 @@ there_in w b g k r e item p law here chosen at rec l = elim (choose-tells (inwar
     recorded : is_recorded w g (inner_link p) ≡ true
     recorded = ap (is_recorded w g) (sym l) ∙ rec
 
-    live : (g.peripheral p).by ≡ None → (o : Option Key) → side_router g (inner_link p) B ≡ o → is_gone (view w g (inner_link p) B) ≡ false
-    live by None s = awaited_view-inner w g p s
-    live by (Some q) s = not_gone w g (inner_link p) B q (has_primary (inner_link p) B) s (law.stands.inner p q recorded by s)
+    -- the side inward hasn't been left, since the proxy has still something of the peer
+    unleft : (inward_edge r).primary ≡ Some e → is_left g (inner_link p) B ≡ false
+    unleft on = go (is_left g (inner_link p) B) refl
+      where
+        go : (c : Bool) → is_left g (inner_link p) B ≡ c → c ≡ false
+        go false q = refl
+        go true q = let side = (inward_link e.link e.side (law.links.inward_primary_inward k r e here on)).2 in
+            let past : length (b.put (opposite_end r.end)) ≤ r.in_queue.current = law.gones.left_inner k r e here on
+            (ap (λ x. is_left g x (opposite e.side)) l ∙ ap (λ t. is_left g (inner_link p) (opposite t)) side ∙ q) in
+            let low = slice_get-below r.in_queue.current (b.put (opposite_end r.end)) item
+            (in_numbers w b g k r r.in_queue.current item law.conserved (law.counts.on_node k r here) here at) in
+            absurd (omega (arith, past, low))
+
+    live : is_left g (inner_link p) B ≡ false → (g.peripheral p).by ≡ None → (o : Option Key) → side_router g (inner_link p) B ≡ o → is_gone (view w g (inner_link p) B) ≡ false
+    live nl by None s = awaited_view-inner w g p s
+    live nl by (Some q) s = not_gone w g (inner_link p) B q (has_primary (inner_link p) B) s (law.stands.inner p q recorded by nl s)
         (attached-inner_primary p)
+
+    -- an inward link decays at a proxy that has begun alone
+    none_begun : g.begun k ≡ None → (inward_edge r).decaying ≡ Some e → ⊥
+    none_begun s off = go (inward_edge r).primary refl
+      where
+        go : (o : Option LinkEnd) → (inward_edge r).primary ≡ o → ⊥
+        go None q = grind (arith, law.positions.begun k r here (begun_bare r e q off), s)
+        go (Some d) q = grind (arith, law.shape.role k r here, q, off, bare_proxy r e off)
 
     begun : (o : Option ℕ) → g.begun k ≡ o → (g.peripheral p).by ≡ g.begun k → (inward_edge r).decaying ≡ Some e →
         is_gone (view w g (inner_link p) B) ≡ false
-    begun None s by off = live (by ∙ s) (side_router g (inner_link p) B) refl
+    begun None s by off = absurd (none_begun s off)
     begun (Some o) s by off = staged (side_router g (inner_link p) B) refl
       where
         is : (g.bypass o).inner ≡ p
@@ -250,39 +338,156 @@ there_in w b g k r e item p law here chosen at rec l = elim (choose-tells (inwar
           | inr (inr five) ↦ last (is_gone (view w g (inner_link p) B)) refl five
         ]
 
+-- Gone goes inward only where the proxy hasn't begun: else it would be past the length of what the proxy gets
+gone_tells : (w : World) (b : Books) (g : Records) (k : Key) (r : Router) (item : Item) → OpenInv w b g → router_at w k ≡ Some r →
+    item_at r.in_queue r.in_queue.current ≡ Some item → has_gone_next r ≡ true →
+    (is_retired b (opposite_end r.end) ≡ true) × (suc r.in_queue.current ≡ length (b.put (opposite_end r.end)))
+unfolding item_passes
+gone_tells w b g k r item law here at gone = (
+  gone_found (b.put (opposite_end r.end)) r.in_queue.current put,
+  law.books_kept.gone_last (opposite_end r.end) r.in_queue.current put,
+)
+  where
+    is : item ≡ Gone
+    is = go item refl
+      where
+        go : (x : Item) → item ≡ x → x ≡ Gone
+        go (Parcel p) e = absurd (grind (arith, gone, at, e))
+        go Mark e = absurd (grind (arith, gone, at, e))
+        go Gone e = refl
+
+    put : slice_get (b.put (opposite_end r.end)) r.in_queue.current ≡ Some Gone
+    put = in_numbers w b g k r r.in_queue.current Gone law.conserved (law.counts.on_node k r here) here (at ∙ ap Some is)
+
+gone_inner : (w : World) (b : Books) (g : Records) (k : Key) (r : Router) (item : Item) → OpenInv w b g → router_at w k ≡ Some r →
+    is_terminal r ≡ false → item_at r.in_queue r.in_queue.current ≡ Some item → has_gone_next r ≡ true →
+    is_some (inward_edge r).primary ≡ true
+unfolding side_end
+gone_inner w b g k r item law here proxy at gone = go (inward_edge r).primary refl
+  where
+    tells : (is_retired b (opposite_end r.end) ≡ true) × (suc r.in_queue.current ≡ length (b.put (opposite_end r.end)))
+    tells = gone_tells w b g k r item law here at gone
+
+    staged : (o : ℕ) → g.begun k ≡ Some o → is_some (inward_edge r).primary ≡ true
+    staged o s = elim (stage_cases (g.bypass o).stage (grind (arith, begun, nat_tests)) (law.bypasses.stage o)) [
+      | inl one ↦ early (omega (arith, one)) (omega (arith, one))
+      | inr (inl mid) ↦ early (omega (arith, mid.0)) mid.1
+      | inr (inr five) ↦ late five
+    ]
+      where
+        begun : is_begun (g.bypass o) ≡ true
+        begun = law.positions.begun_stage k o s
+
+        stands : router_at w (g.bypass o).proxy ≡ Some r
+        stands = ap (router_at w) (law.positions.begun_proxy k o s) ∙ here
+
+        end : r.end ≡ (g.peripheral (g.bypass o).inner).end
+        end = law.stages.proxy_end o r begun stands
+
+        across : end_at (g.central o).pair (across_side g o) ≡ opposite_end r.end
+        across = ap (λ n. end_at n (across_side g o)) (sym (law.bypasses.pair o begun)) ∙ ap opposite_end (sym end)
+
+        early : 1 ≤ (g.bypass o).stage → (g.bypass o).stage ≤ 4 → is_some (inward_edge r).primary ≡ true
+        early l m = absurd (true≢false (sym tells.0 ∙ ap (is_retired b) (sym across) ∙ law.retired_ends.no_bypass o (across_side g o) l m))
+
+        late : (g.bypass o).stage ≡ 5 → is_some (inward_edge r).primary ≡ true
+        late five = let low : r.in_queue.current < (g.bypass o).accepted_at =
+            law.proxy_numbers.in_items o r r.in_queue.current item stands (omega (arith, five)) at in
+            let most : (g.bypass o).accepted_at + cond (is_retired b (opposite_end r.end)) 1 0 ≤ length (b.put (opposite_end r.end)) =
+            subst (λ d. (g.bypass o).accepted_at + cond (is_retired b d) 1 0 ≤ length (b.put d)) across
+            (law.retired_ends.accepted o (omega (arith, five))) in
+            absurd (omega (arith, low, most, tells.1, ap flag tells.0))
+
+    go : (o : Option LinkEnd) → (inward_edge r).primary ≡ o → is_some (inward_edge r).primary ≡ true
+    go (Some e) q = ap is_some q
+    go None q = begins (g.begun k) refl
+      where
+        begun : is_begun_router r ≡ true
+        begun = grind (arith, proxy, q)
+
+        begins : (o : Option ℕ) → g.begun k ≡ o → is_some (inward_edge r).primary ≡ true
+        begins None s = absurd (grind (arith, law.positions.begun k r here begun, s))
+        begins (Some o) s = staged o s
+
+right_in : (w : World) (b : Books) (g : Records) (k : Key) (r : Router) (item : Item) → OpenInv w b g → router_at w k ≡ Some r →
+    is_terminal r ≡ false → item_at r.in_queue r.in_queue.current ≡ Some item → IsGoneRight b g (send_on r)
+right_in w b g k r item law here proxy at = record {
+  sent = λ h. elim (either r.gone_sent (has_gone_next r) h) [
+    | inl a ↦ let t = o.sent a in absurd (omega (arith, t.1, low))
+    | inr a ↦ let t = gone_tells w b g k r item law here at a in (t.0, omega (arith, t.1))
+  ];
+  sent_back = λ n i s c. or_right r.gone_sent (has_gone_next r) (last s (omega (arith, c)));
+  left_primary = o.left_primary;
+  left_inner = λ e p l. let t = o.left_inner e p l in omega (arith, t);
+  out_put = o.out_put;
+  in_put = omega (arith, low);
+  still = o.still;
+  dropped = λ n t i m. absurd (true≢false (sym t ∙ proxy));
+  dropped_closed = o.dropped_closed;
+  dropped_back = λ n t i l d. absurd (true≢false (sym t ∙ proxy));
+}
+  where
+    o : IsGoneRight b g r
+    o = right-of law.gones k r here
+
+    put : slice_get (b.put (opposite_end r.end)) r.in_queue.current ≡ Some item
+    put = in_numbers w b g k r r.in_queue.current item law.conserved (law.counts.on_node k r here) here at
+
+    low : r.in_queue.current < length (b.put (opposite_end r.end))
+    low = slice_get-below r.in_queue.current (b.put (opposite_end r.end)) item put
+
+    -- the last item of a retired end is Gone
+    last : is_retired b (opposite_end r.end) ≡ true → suc r.in_queue.current ≡ length (b.put (opposite_end r.end)) → has_gone_next r ≡ true
+    last s c = let f = gone_stands (b.put (opposite_end r.end)) s in
+        let n : f.0 ≡ r.in_queue.current = omega (arith, law.books_kept.gone_last (opposite_end r.end) f.0 f.1, c) in
+        next_gone r (at ∙ sym put ∙ ap (slice_get (b.put (opposite_end r.end))) (sym n) ∙ f.1)
+
 -- what a send in rests on
 pub is_send_in : (w : World) (b : Books) (g : Records) (k : Key) (r : Router) (e : LinkEnd) (item : Item) → OpenInv w b g →
     router_at w k ≡ Some r → way_in r ≡ Some e → current_item r.in_queue ≡ Some item →
-    IsSend w g k r (pop_in r) e.link (opposite e.side) e.other r.in_queue.current item
+    IsSend w g k r (send_on r) e.link (opposite e.side) e.other r.in_queue.current item
 is_send_in w b g k r e item law here chosen at = record {
-  here = here;
-  alike = record { end = refl; outward = refl; inward = refl; spare = refl; marked = refl; holds = refl };
-  closed = refl;
+  sent = record {
+    here = here;
+    alike = record {
+      end = refl;
+      outward = refl;
+      inward = refl;
+      spare = refl;
+      marked = refl;
+      holds = refl;
+      done = λ h. absurd (no_edge (grind (arith, h)));
+      dropped = λ h f. f h;
+      sent = λ h f. elim (either r.gone_sent (has_gone_next r) h) [ inl a ↦ f a | inr a ↦ gone_inner w b g k r item law here proxy at a ];
+    };
+    closed = refl;
+    mark_seen = refl;
+    current = λ t. absurd (no_edge t);
+    router = ap (side_router g e.link) (opposite-twice e.side) ∙ rec.router;
+    attached = subst (λ t. is_attached e.link t r ≡ true) (sym (opposite-twice e.side)) (attached-in r e out has);
+    sends = ap (λ t. (sending_queue e.link t r).current) (opposite-twice e.side) ∙ ap (λ q. q.current) (sending_queue-in e.link e.side r out);
+    rises = ap (λ t. (sending_queue e.link t (send_on r)).current) (opposite-twice e.side) ∙ ap (λ q. q.current)
+        (sending_queue-in e.link e.side (send_on r) out);
+    recorded = rec.recorded;
+    receiver = rec.other;
+    below = λ len h. below_in w b g k r e item len law here out chosen at (ap (side_length g e.link) (sym (opposite-twice e.side)) ∙ h);
+    there = there;
+    low = λ c o l none born. absurd (grind (arith, l, p.1));
+    made = λ h. made_way w b g k r e law rec there (awaited_none w g e.link (opposite e.side) h);
+    ends = λ d h. law.end_places.inn k r r.in_queue.current item d here at h;
+    fresh = λ c l. absurd (grind (arith, l, p.1));
+  };
   out = drained_same r.out_queue;
   inn = drained_pop r.in_queue item at;
-  mark_seen = refl;
   next = refl;
-  current = λ t. absurd (no_edge t);
-  router = ap (side_router g e.link) (opposite-twice e.side) ∙ rec.router;
-  attached = subst (λ t. is_attached e.link t r ≡ true) (sym (opposite-twice e.side)) (attached-in r e out has);
-  sends = ap (λ t. (sending_queue e.link t r).current) (opposite-twice e.side) ∙ ap (λ q. q.current) (sending_queue-in e.link e.side r out);
-  rises = ap (λ t. (sending_queue e.link t (pop_in r)).current) (opposite-twice e.side) ∙ ap (λ q. q.current)
-      (sending_queue-in e.link e.side (pop_in r) out);
-  recorded = rec.recorded;
-  receiver = rec.other;
-  below = λ len h. below_in w b g k r e item len law here out chosen at (ap (side_length g e.link) (sym (opposite-twice e.side)) ∙ h);
-  there = there;
-  low = λ c o l none born. absurd (grind (arith, l, p.1));
-  made = λ h. made_way w b g k r e law rec there (awaited_none w g e.link (opposite e.side) h);
   weight = λ f. omega (
     arith,
     in_router-is f r,
-    in_router-is f (pop_in r),
+    in_router-is f (send_on r),
     in_popped (f (opposite_end r.end)) r.in_queue item at,
     ap (λ d. f d r.in_queue.current item) (source-in g e.link e.side out ∙ ap opposite_end (sym rec.end)),
   );
-  ends = λ d h. law.end_places.inn k r r.in_queue.current item d here at h;
-  fresh = λ c l. absurd (grind (arith, l, p.1));
+  right = λ c inv. right_in w c g k r item inv here proxy at;
 }
   where
     rec : IsRecorded w g k r e
@@ -313,6 +518,13 @@ is_send_in w b g k r e item law here chosen at = record {
         bare None q t h = grind (arith, q, h)
         bare (Some x) q t h = grind (arith, q, t)
 
+    proxy : is_terminal r ≡ false
+    proxy = go (is_terminal r) refl
+      where
+        go : (c : Bool) → is_terminal r ≡ c → c ≡ false
+        go false t = refl
+        go true t = absurd (no_edge t)
+
     p : (p : Key) × (e.link ≡ inner_link p) × (e.side ≡ A)
     p = inward_link e.link e.side out
 
@@ -329,7 +541,7 @@ inv-send_out w b g k r e item law here chosen at plain =
 
 pub inv-send_in : (w : World) (b : Books) (g : Records) (k : Key) (r : Router) (e : LinkEnd) (item : Item) → Inv w b g →
     router_at w k ≡ Some r → way_in r ≡ Some e → current_item r.in_queue ≡ Some item → (k.node ≡ e.other) ⊎ (ends_in item ≡ []) →
-    Inv (send_act w k (pop_in r) e.link (opposite e.side) e.other r.in_queue.current item) b g
+    Inv (send_act w k (send_on r) e.link (opposite e.side) e.other r.in_queue.current item) b g
 inv-send_in w b g k r e item law here chosen at plain =
-    closed-sent w b g k r (pop_in r) e.link (opposite e.side) e.other r.in_queue.current item law
+    closed-sent w b g k r (send_on r) e.link (opposite e.side) e.other r.in_queue.current item law
     (is_send_in w b g k r e item (opened w b g law) here chosen at) plain

@@ -1,4 +1,5 @@
 -- A router sends the current item of its out queue over the link that it chooses.
+use Rattle.ipcz_world.specs.Records.{is_left}
 use Rattle.std.specs.Prelude.{◌≡◌, ◌⊎◌, ◌≤◌, ◌<◌, ℕ, Bool, true, false, nat_le, if◌then◌else◌, Option, Some, None, is_some, refl}
 use Rattle.std.proofs.Common.{arith, ap, subst, ◌∙◌, sym, inl, inr}
 use Rattle.std.proofs.lemmas.Bool.Decides.{nat_tests}
@@ -214,9 +215,9 @@ pub there_out : (w : World) (g : Records) (k : Key) (r : Router) (e : LinkEnd) (
     ProxyNumbers w g → Stands w g → BypassRecords w g → Stages w g → router_at w k ≡ Some r → is_outward e.link e.side ≡ true →
     way_out r ≡ Some e →
     item_at r.out_queue r.out_queue.current ≡ Some item → is_recorded w g e.link ≡ true →
-    is_gone (view w g e.link (opposite e.side)) ≡ false
+    (r.outward.primary ≡ Some e → is_left g e.link (opposite e.side) ≡ false) → is_gone (view w g e.link (opposite e.side)) ≡ false
 unfolding is_outward
-there_out w g k r e item law fresh proxy stands bypasses stages here out chosen at rec =
+there_out w g k r e item law fresh proxy stands bypasses stages here out chosen at rec unleft =
     elim (choose-tells r.outward r.out_queue.current e chosen) [
       | inl on ↦ primary on e.link refl e.side refl out rec
       | inr off ↦ own off.0 (decaying_own w g k r e law fresh here off.0 out off.1)
@@ -249,11 +250,18 @@ there_out w g k r e item law fresh proxy stands bypasses stages here out chosen 
         (across is.old is.begun is.proxy (side_router g (Central is.old) (across_side g is.old)) refl))
 
     -- a central link that isn't being bypassed
-    free : (i : ℕ) (t : Side) → is_linked (g.owner i) ≡ true → is_begun (g.bypass i) ≡ false → (q : Option Key) →
+    free : (i : ℕ) (t : Side) → is_linked (g.owner i) ≡ true → is_begun (g.bypass i) ≡ false → is_left g (Central i) t ≡ false → (q : Option Key) →
         side_router g (Central i) t ≡ q → is_gone (view w g (Central i) t) ≡ false
-    free i t linked live None s = awaited_view-none w g i t s
-    free i t linked live (Some q) s = not_gone w g (Central i) t q (has_primary (Central i) t) s (stands.central i t q linked live s)
+    free i t linked live nl None s = awaited_view-none w g i t s
+    free i t linked live nl (Some q) s = not_gone w g (Central i) t q (has_primary (Central i) t) s (stands.central i t q linked live nl s)
         (attached-primary i t)
+
+    proxy_unleft : (p : Key) → e.link ≡ inner_link p → r.outward.primary ≡ Some e → is_left g (inner_link p) A ≡ false
+    proxy_unleft p el on = ap (λ x. is_left g x A) (sym el) ∙ ap (λ s. is_left g e.link (opposite s)) (sym (side_b p el e.side refl out)) ∙ unleft on
+      where
+        side_b : (p : Key) → e.link ≡ inner_link p → (t : Side) → e.side ≡ t → is_outward e.link e.side ≡ true → e.side ≡ B
+        side_b p el A et o = absurd (grind (arith, o, el, et))
+        side_b p el B et o = et
 
     -- the proxy of a peripheral link
     proxied : (p : Key) → is_recorded w g (inner_link p) ≡ true → r.outward.primary ≡ Some e → e.link ≡ inner_link p → (o : Option ℕ) →
@@ -262,7 +270,7 @@ there_out w g k r e item law fresh proxy stands bypasses stages here out chosen 
         let q : Key = record { node = p.node; serial = (g.peripheral p).proxy } in let is : side_router g (inner_link p) A ≡ Some q =
         side_router-proxy g p in
         not_gone w g (inner_link p) A q (has_inward_primary (inner_link p) A) is
-        (ap (λ z. key_passes w z (has_inward_primary (inner_link p) A)) (sym is) ∙ stands.proxy p h by) (attached-inward_primary p)
+        (ap (λ z. key_passes w z (has_inward_primary (inner_link p) A)) (sym is) ∙ stands.proxy p h by (proxy_unleft p el on)) (attached-inward_primary p)
     proxied p h on el (Some o) by =
         let is : (g.bypass o).inner ≡ p = stands.by_inner p o by in let begun = stands.by_begun p o by in let stage =
         law.primary_inner k r e p o here on el by in
@@ -276,7 +284,8 @@ there_out w g k r e item law fresh proxy stands bypasses stages here out chosen 
     primary on (Central i) el t et o h = by_begun (is_begun (g.bypass i)) refl
       where
         by_begun : (b : Bool) → is_begun (g.bypass i) ≡ b → is_gone (view w g (Central i) (opposite t)) ≡ false
-        by_begun false b = free i (opposite t) (sym (is_recorded-central w g i) ∙ h) b (side_router g (Central i) (opposite t)) refl
+        by_begun false b = free i (opposite t) (sym (is_recorded-central w g i) ∙ h) b
+            (ap (λ x. is_left g x (opposite t)) (sym el) ∙ ap (λ s. is_left g e.link (opposite s)) (sym et) ∙ unleft on) (side_router g (Central i) (opposite t)) refl
         by_begun true b =
             let side : opposite t ≡ proxy_side g i = ap opposite (sym et ∙ law.primary_across k r e i here on el b) ∙
             opposite-twice (proxy_side g i)

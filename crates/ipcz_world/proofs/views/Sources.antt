@@ -1,4 +1,5 @@
 -- An AcceptBypass under way comes from the node that the old link's word names.
+use Rattle.ipcz_world.specs.Records.{Lost}
 use Rattle.std.specs.Prelude.{◌≡◌, ℕ, true, false, nat_eq, nat_lt, Some, refl}
 use Rattle.std.proofs.Common.{◌∙◌, arith, ap, sym}
 use Rattle.std.proofs.lemmas.Bool.Decides.{nat_tests}
@@ -16,6 +17,7 @@ used_by Unclaimed e = cc
 used_by (Spare k) e = refl
 used_by (Opening n) e = refl
 used_by (Fresh o) e = refl
+used_by Lost e = refl
 used_by Linked e = refl
 
 -- the old link's word names the sender

@@ -63,6 +63,8 @@ pub record IsPart (r y : Router) : Type 0 where
   pub terminal : is_terminal y ≡ is_terminal r
   pub closed : y.closed ≡ r.closed
   pub mark_seen : y.mark_seen ≡ r.mark_seen
+  pub mark_dropped : y.mark_dropped ≡ r.mark_dropped
+  pub gone_sent : y.gone_sent ≡ r.gone_sent
   pub primary : y.outward.primary ≡ r.outward.primary
   pub inward_primary : (inward_edge y).primary ≡ (inward_edge r).primary
   pub decaying : (e : LinkEnd) → y.outward.decaying ≡ Some e → r.outward.decaying ≡ Some e
@@ -81,6 +83,8 @@ part-itself r = record {
   terminal = refl;
   closed = refl;
   mark_seen = refl;
+  mark_dropped = refl;
+  gone_sent = refl;
   primary = refl;
   inward_primary = refl;
   decaying = λ e h. h;

@@ -454,11 +454,12 @@ fn is_wordless(act: RouterAct) -> bool
         | RouterAct::FinishIn
         | RouterAct::Leave
         | RouterAct::Begin
+        | RouterAct::Retire
         | RouterAct::Rest => true,
     }
 }
 
-// The act that stands in for one which found no memory, where there is another: an unlock for a begin.
+// The act that stands in for one which found no memory, where there is another: an unlock for a begin or a retire.
 #[tactic(auto, unfolding(ipcz_node::specs::Acts::stand_in))]
 fn stand_in(act: Act) -> Option<Act>
     ensures other { IfSome result (λ other. other ≡ stand_in act) }
@@ -480,7 +481,7 @@ fn other_act(act: RouterAct) -> Option<RouterAct>
     ensures none { IfNone result ((serial : ℕ) → Act.Router serial act ≡ stand_in (Act.Router serial act)) }
 {
     match act {
-        RouterAct::Begin => Some(RouterAct::Unlock),
+        RouterAct::Begin | RouterAct::Retire => Some(RouterAct::Unlock),
         RouterAct::SendOut
         | RouterAct::SendIn
         | RouterAct::Discard
