@@ -117,8 +117,7 @@ impl World {
     /// Refused `Stranger` where the node isn't one of the world's; a put is refused `OutOfMemory` next, where its lists find no room; then
     /// as the node refuses the call; an open is refused `NoWord` where each word is claimed, before `NumbersEnd` and `OutOfMemory`. A
     /// turn is refused `NumbersEnd` or `OutOfMemory`, but a router that finds no memory to begin its bypass, or to retire, gives its lock back
-    /// instead. A refusal
-    /// changes nothing.
+    /// instead. A refusal changes nothing.
     pub fn step(&mut self, step: &Step) -> Reply
         ensures step { StepFirst self.old step.now result self.new }
         ensures lawful { (b : Books) → (g : Routes) → Lawful self.old b g →
