@@ -3,6 +3,8 @@ mod bypass;
 mod calls;
 mod direct;
 mod limits;
+mod retiring;
+mod soak;
 mod words;
 
 ghost use Rattle.ipcz_world.specs.Lawful.{IsWithinLimits};

@@ -40,6 +40,10 @@ pub enum Call {
     Holder(End, Option<u8>),
     /// The limit that the world tells.
     Limit(u64),
+    /// Settles within so many acts.
+    SettleWithin(u64),
+    /// How many routers a node has, or none where it isn't one of the world's.
+    Routers(u8, Option<usize>),
 }
 
 // Whether a turn does what its value prints.
@@ -86,6 +90,11 @@ fn settles(world: &mut World, limit: u64, want: Option<u64>) -> bool {
     }
 }
 
+// Whether nothing waits after so many acts at most.
+fn settles_within(world: &mut World, limit: u64) -> bool {
+    matches!(world.settle(limit), Ok(Settled::Settled { .. }))
+}
+
 // Whether a call gives what it should.
 fn gives(world: &mut World, alloc: Global, call: Call) -> Result<bool, AllocError> {
     match call {
@@ -104,6 +113,8 @@ fn gives(world: &mut World, alloc: Global, call: Call) -> Result<bool, AllocErro
         Call::Word(i, word) => Ok(world.word(i) == word),
         Call::Holder(end, node) => Ok(world.holder_of(end) == node),
         Call::Limit(limit) => Ok(world.settle_limit() == Some(limit)),
+        Call::SettleWithin(limit) => Ok(settles_within(world, limit)),
+        Call::Routers(node, count) => Ok(world.routers(node) == count),
         _ => refuses(world, alloc, call),
     }
 }

@@ -6,10 +6,11 @@ use ipcz_world::{Settled, Step, World};
 use std::alloc::{AllocError, Global};
 use std::test::Fail;
 
-// The limits of terminals and proxies that have passed all that was put: 6 for each of the two marks, and 15 or 61.
-const TERMINAL: u64 = 27;
+// The limits of terminals and proxies that have passed all that was put: 6 for each of the two marks and for Gone of each end, and 17
+// or 61.
+const TERMINAL: u64 = 41;
 
-const PROXY: u64 = 73;
+const PROXY: u64 = 85;
 
 // Takes so many turns of two nodes: twenty of the one, then twenty of the other, and again.
 fn take_turns(world: &mut World, count: usize) {

@@ -1,0 +1,227 @@
+//! Pairs whose both ends are closed: no router of theirs is left.
+
+ghost use Rattle.ipcz_world.specs.Lawful.{IsWithinLimits};
+
+use super::calls::{Call, given};
+use super::{A0, A1, B0, B1};
+use ipcz_base::Refusal;
+use ipcz_world::World;
+use std::alloc::Global;
+use std::test::Fail;
+
+// Both ends of a pair on one node are closed, and the first one retires. A word stays locked for good.
+const ONE_NODE: [Call; 12] = [
+    Call::Routers(0, Some(0)),
+    Call::Routers(1, None),
+    Call::Open(0, A0, B0),
+    Call::Routers(0, Some(2)),
+    Call::Close(0, A0, 0),
+    Call::Close(0, B0, 0),
+    // A sink is a router, though no caller holds its end.
+    Call::Routers(0, Some(2)),
+    Call::Turns(
+        0,
+        &[
+            "SendOut { serial: 0, n: 0, link: Central(0), moved: Sequence { items: [] } }",
+            "Post(0)",
+            "Look(0)",
+            "Hand { kind: Item(0), link: Central(0), unfit: false }",
+            "Rest(0)",
+            "SendOut { serial: 1, n: 0, link: Central(0), moved: Sequence { items: [] } }",
+            "Post(0)",
+            "Look(0)",
+            "Hand { kind: Item(0), link: Central(0), unfit: false }",
+            "Discard(0, 0)",
+            "Lock(0, Central(0), 19)",
+            "Retire(0, 1, Central(0))",
+        ],
+    ),
+    Call::Routers(0, Some(1)),
+    Call::Turns(
+        0,
+        &[
+            "Post(0)",
+            "Look(0)",
+            "Hand { kind: Item(1), link: Central(0), unfit: false }",
+            "Discard(1, 0)",
+            "DiscardLeave(1, 1)",
+            "Idle",
+        ],
+    ),
+    Call::Routers(0, Some(0)),
+    Call::Word(0, Some(19)),
+];
+
+// How many calls give what they should, on a world of so many words.
+fn given_on_one_node(alloc: Global, calls: &[Call]) -> Result<usize, Refusal> {
+    let mut world = World::new(alloc, 1, 1)?;
+    Ok(given(&mut world, alloc, calls)?)
+}
+
+#[test]
+fn a_closed_pair_leaves_one_node(rt: HostRuntime) -> Result<(), Fail> {
+    assert_eq!(rt; given_on_one_node(rt.alloc(), &ONE_NODE)?, ONE_NODE.len());
+    Ok(())
+}
+
+// The end 1B moves from node 0 to node 1, where it is got.
+const MOVES: [Call; 4] = [
+    Call::Open(0, A1, B1),
+    Call::Put(0, A0, b"m", &[B1], 0),
+    Call::SettleWithin(1000),
+    Call::Get(1, B0, 0, b"m", &[B1]),
+];
+
+// The proxy that it left, router 2 of node 0, has found no word, and leaves behind Gone.
+const WITHOUT_A_WORD: [Call; 10] = [
+    Call::Routers(0, Some(3)),
+    Call::Routers(1, Some(2)),
+    Call::Close(0, A1, 0),
+    Call::Close(1, B1, 0),
+    Call::SettleWithin(1000),
+    Call::Claimed(2),
+    Call::Word(0, Some(3)),
+    Call::Word(1, Some(19)),
+    Call::Routers(0, Some(1)),
+    Call::Routers(1, Some(1)),
+];
+
+// Its proxy was bypassed, and the two terminals share a link. That of node 1 is the first to lock it.
+const AFTER_A_BYPASS: [Call; 15] = [
+    Call::Routers(0, Some(2)),
+    Call::Routers(1, Some(2)),
+    Call::Close(0, A1, 0),
+    Call::Close(1, B1, 0),
+    Call::Turns(
+        0,
+        &[
+            "SendOut { serial: 1, n: 0, link: Central(2), moved: Sequence { items: [] } }",
+            "Post(1)",
+            "Rest(1)",
+            "Idle",
+        ],
+    ),
+    Call::Turns(
+        1,
+        &[
+            "Look(0)",
+            "Hand { kind: Item(0), link: Central(2), unfit: false }",
+            "SendOut { serial: 1, n: 0, link: Central(2), moved: Sequence { items: [] } }",
+            "Post(0)",
+            "Discard(1, 0)",
+            "Lock(1, Central(2), 35)",
+            "Retire(1, 1, Central(2))",
+            "Idle",
+        ],
+    ),
+    Call::Turns(
+        0,
+        &[
+            "Look(1)",
+            "Hand { kind: Item(0), link: Central(2), unfit: false }",
+            "Discard(1, 0)",
+            "Refused(1, Central(2), 35)",
+            "Rest(1)",
+            "Idle",
+        ],
+    ),
+    Call::Turns(1, &["Post(0)", "Idle"]),
+    Call::Turns(
+        0,
+        &[
+            "Look(1)",
+            "Hand { kind: Item(1), link: Central(2), unfit: false }",
+            "DiscardLeave(1, 1)",
+            "Idle",
+        ],
+    ),
+    Call::Word(0, Some(3)),
+    Call::Word(1, Some(547)),
+    Call::Word(2, Some(35)),
+    Call::Routers(0, Some(1)),
+    Call::Routers(1, Some(1)),
+    Call::Routers(2, None),
+];
+
+// How many calls after the move give what they should, on a world of two nodes and so many words.
+fn given_after_the_move(alloc: Global, words: u32, calls: &[Call]) -> Result<usize, Refusal>
+    requires { IsWithinLimits 2 words }
+{
+    let mut world = World::new(alloc, 2, words)?;
+    if given(&mut world, alloc, &MOVES)? < MOVES.len() {
+        return Err(Refusal::Empty);
+    }
+    Ok(given(&mut world, alloc, calls)?)
+}
+
+#[test]
+fn a_proxy_without_a_word_leaves_behind_gone(rt: HostRuntime) -> Result<(), Fail> {
+    assert_eq!(rt;
+        given_after_the_move(rt.alloc(), 2, &WITHOUT_A_WORD)?,
+        WITHOUT_A_WORD.len()
+    );
+    Ok(())
+}
+
+#[test]
+fn a_closed_pair_leaves_two_nodes_after_a_bypass(rt: HostRuntime) -> Result<(), Fail> {
+    assert_eq!(rt;
+        given_after_the_move(rt.alloc(), 8, &AFTER_A_BYPASS)?,
+        AFTER_A_BYPASS.len()
+    );
+    Ok(())
+}
+
+// The limits of a terminal that has nothing to pass, and of each number that it has still to pass.
+const TERMINAL: u64 = 41;
+
+const NUMBER: u64 = 6;
+
+// Once the first sink has retired, what its end has put is told by Gone alone: in an outbox, in a mailbox, in hand, and in the queue of
+// the other sink, which has the mark and Gone still to drop.
+const LIMITS: [Call; 20] = [
+    Call::Open(0, A0, B0),
+    Call::Close(0, A0, 0),
+    Call::Close(0, B0, 0),
+    Call::Turns(
+        0,
+        &[
+            "SendOut { serial: 0, n: 0, link: Central(0), moved: Sequence { items: [] } }",
+            "Post(0)",
+            "Look(0)",
+            "Hand { kind: Item(0), link: Central(0), unfit: false }",
+            "Rest(0)",
+            "SendOut { serial: 1, n: 0, link: Central(0), moved: Sequence { items: [] } }",
+            "Post(0)",
+            "Look(0)",
+            "Hand { kind: Item(0), link: Central(0), unfit: false }",
+            "Discard(0, 0)",
+            "Lock(0, Central(0), 19)",
+        ],
+    ),
+    Call::Limit(2 * TERMINAL + NUMBER),
+    Call::Turns(0, &["Retire(0, 1, Central(0))"]),
+    Call::Limit(TERMINAL + 2 * NUMBER + 38),
+    Call::Turns(0, &["Post(0)"]),
+    Call::Limit(TERMINAL + 2 * NUMBER + 37),
+    Call::Turns(0, &["Look(0)"]),
+    Call::Limit(TERMINAL + 2 * NUMBER + 37),
+    Call::Turns(
+        0,
+        &["Hand { kind: Item(1), link: Central(0), unfit: false }"],
+    ),
+    Call::Limit(TERMINAL + 2 * NUMBER),
+    Call::Turns(0, &["Discard(1, 0)"]),
+    Call::Limit(TERMINAL + NUMBER),
+    Call::Settle(1, Some(1)),
+    Call::Limit(0),
+    Call::Routers(0, Some(0)),
+    Call::Settle(0, Some(0)),
+    Call::Word(0, Some(19)),
+];
+
+#[test]
+fn the_limit_counts_what_gone_tells(rt: HostRuntime) -> Result<(), Fail> {
+    assert_eq!(rt; given_on_one_node(rt.alloc(), &LIMITS)?, LIMITS.len());
+    Ok(())
+}
