@@ -155,8 +155,8 @@ TURNS = {
         ),
         (
             MOVING,
-            "Item::Parcel(parcel)) {\n            Ok(()) => Ok(n),\n",
-            "Item::Parcel(parcel)) {\n            Ok(()) => {\n                self.rouse();\n                Ok(n)\n            }\n",
+            "            unreachable!()\n        };\n        Ok(n)\n",
+            "            unreachable!()\n        };\n        self.rouse();\n        Ok(n)\n",
         ),
         (
             WORTHS,
@@ -185,8 +185,8 @@ TURNS = {
         (EFFECTS, "drop_lock r = record r { holds = false; flagged = true }", "drop_lock r = record r { holds = false; flagged = false }"),
         (
             TURNING,
-            "                self.holds = false;\n                self.flagged = true;\n",
-            "                self.holds = false;\n                self.flagged = false;\n",
+            "        self.holds = false;\n        self.flagged = true;\n",
+            "        self.holds = false;\n        self.flagged = false;\n",
         ),
     ],
     "a_router_rests_at_any_time": [
@@ -199,7 +199,9 @@ TURNS = {
         (FLAGGING, "table 8 acts.Claim", "table 7 acts.Claim"),
         (FLAGGING, "table 9 acts.Lock", "table 8 acts.Lock"),
         (FLAGGING, "acts.Begin = first-none r table 10", "acts.Begin = first-none r table 9"),
-        (FLAGGING, "acts.Unlock = first-none r table 10", "acts.Unlock = first-none r table 9"),
+        (FLAGGING, "acts.Retire = first-none r table 11", "acts.Retire = first-none r table 10"),
+        (FLAGGING, "(arith, first-none r table 10 acts.Begin h refl", "(arith, first-none r table 9 acts.Begin h refl"),
+        (FLAGGING, "acts.Begin h refl, first-none r table 11", "acts.Begin h refl, first-none r table 10"),
     ],
     # who may answer for a bypass
     "a_lock_names_the_node_across": [
@@ -216,11 +218,6 @@ TURNS = {
         (ANSWERS, "tells_waiting x s = has x.waiting (opposite s)", "tells_waiting x s = false"),
         (ANSWERS, "◌+◌, Bool, nat_lt, if", "◌+◌, Bool, false, nat_lt, if"),
         (ANSWERING, "Answer::Marked(marked, other_waits(word, side)),", "Answer::Marked(marked, false),"),
-        (
-            "ipcz_world/proofs/acts/Marking.antt",
-            "(mark_side r (has (word_at w i).waiting (opposite r.end.side)))",
-            "(mark_side r false)",
-        ),
     ],
     "a_wake_stays_in_the_word": [
         (ANSWERS, "woken x s = wake x s", "woken x s = x"),
@@ -294,8 +291,8 @@ TURNS = {
         (STEP_WAKERS, "same_Some (rouse f.0.router)", "same_Some (flushed f.0.router)"),
         (
             GOING,
-            "(flushed f.router) (found_tells n _ f e).0\n          (roused f.router _ refl refl refl refl refl refl refl refl))",
-            "(flushed f.router) (found_tells n _ f e).0\n          (left-alone f.router _ refl refl (λ h. h) refl refl refl refl refl))",
+            "(flushed f.router) (found_tells n _ f e).0\n          (roused f.router _ refl refl refl refl refl refl refl refl refl (λ h. h)))",
+            "(flushed f.router) (found_tells n _ f e).0\n          (left-alone f.router _ refl refl refl (λ h. h) refl refl refl refl refl (λ h. h)))",
         ),
         (
             AGREEING,
@@ -326,8 +323,8 @@ TURNS = {
         ),
         (
             TURNING,
-            "                self.holds = false;\n                self.flagged = true;\n",
-            "                self.holds = false;\n                self.flagged = true;\n                self.tried = true;\n",
+            "        self.holds = false;\n        self.flagged = true;\n",
+            "        self.holds = false;\n        self.flagged = true;\n        self.tried = true;\n",
         ),
     ],
     "a_claim_without_a_word_has_tried": [
@@ -343,8 +340,8 @@ TURNS = {
         (EFFECTS, "wake_other r = record r { wake_owed = false }", "wake_other r = r"),
         (
             TURNING,
-            "let output = self.wake_output();\n                self.wake_owed = false;\n                output\n",
-            "self.wake_output()\n",
+            "    {\n        self.wake_owed = false;\n    }\n",
+            "    {\n        let _owed = self.wake_owed;\n    }\n",
         ),
     ],
     "a_rest_leaves_its_router_flagged": [
@@ -357,16 +354,7 @@ TURNS = {
     ],
     "a_try_in_vain_is_made_again": [
         (EFFECTS, "fail_lock r = record r { tried = true }", "fail_lock r = r"),
-        (
-            TURNING,
-            "(RouterAct::Lock, Answer::Waiting(_)) => {\n                self.tried = true;\n",
-            "(RouterAct::Lock, Answer::Waiting(_)) => {\n",
-        ),
-        (
-            TURNING,
-            "(RouterAct::Lock, Answer::Refused(_)) => {\n                self.tried = true;\n",
-            "(RouterAct::Lock, Answer::Refused(_)) => {\n",
-        ),
+        (TURNING, "    {\n        self.tried = true;\n    }\n", "    {\n        let _tried = self.tried;\n    }\n"),
     ],
 }
 
@@ -502,4 +490,5 @@ def main():
     sys.exit(1 if wrong else 0)
 
 
-main()
+if __name__ == "__main__":
+    main()
