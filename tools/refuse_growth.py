@@ -13,8 +13,8 @@ where the growth could be done without.
 
 A run of `ipcz_faults` must end as ever and write the same lines, but that just one of them tells of the growth: `, refused 1` of a
 call that left all as it was, `, unlocked 1` of a lock that was given back and got again, or `, refused beside 1` of what stands
-beside the calls. Each line must tell of calls that were refused, and those of a bypass that grows where it begins of a lock that was
-given back.
+beside the calls. Each line must tell of calls that were refused, and those of a bypass that grows where it begins, and of a sink that
+grows where it retires, of a lock that was given back.
 """
 import collections
 import os
@@ -29,8 +29,8 @@ LOCK = re.compile(r"(n\d): (r\d+) lock (C\d+) (\d+)\n")
 UNLOCK = re.compile(r"(n\d): (r\d+) unlock (C\d+) (\d+)\n")
 # The bits of a link word that a lock leaves as they were: which sides are stable, and which wait.
 LEFT_BY_A_LOCK = 15
-# The row of `ipcz_faults` of which a bypass must grow where it begins.
-GROWING = "a bypass that grows where it begins"
+# The rows of `ipcz_faults` of which a bypass must grow where it begins, or a sink where it retires.
+GROWING = ("a bypass that grows where it begins", "a sink that grows where it retires")
 # How a line of `ipcz_faults` tells of one refused growth.
 TELLINGS = ", refused 1", ", unlocked 1", ", refused beside 1"
 
@@ -108,12 +108,13 @@ def try_retries(program, library, count, tells_counts):
             sys.exit(f"no call was refused in {line}")
         if tells_counts:
             print(line + "".join(f"{telling[:-2]} {told[place, telling]}" for telling in TELLINGS if told[place, telling]))
-    growing = [place for place, line in enumerate(lines) if line.startswith(GROWING)]
-    for place in growing:
-        if not told[place, ", unlocked 1"]:
-            sys.exit(f"no lock was given back in {lines[place]}")
-    if not growing:
-        sys.exit(f"no row is {GROWING}")
+    for row in GROWING:
+        growing = [place for place, line in enumerate(lines) if line.startswith(row)]
+        for place in growing:
+            if not told[place, ", unlocked 1"]:
+                sys.exit(f"no lock was given back in {lines[place]}")
+        if not growing:
+            sys.exit(f"no row is {row}")
 
 
 def main():

@@ -32,11 +32,22 @@ fn have_same_holders(world: &World, twin: &World) -> bool {
     true
 }
 
-/// Whether two worlds are alike in all that can be read of them: the claimed words and their numbers, who holds each end, how many acts are
-/// enough to settle, which is read off each router, queue and message, and whether an act is possible.
+// Whether each node has as many routers in both worlds.
+fn have_as_many_routers(world: &World, twin: &World) -> bool {
+    for node in 0..8u8 {
+        if world.routers(node) != twin.routers(node) {
+            return false;
+        }
+    }
+    true
+}
+
+/// Whether two worlds are alike in all that can be read of them: the claimed words and their numbers, who holds each end, how many routers
+/// each node has, how many acts are enough to settle, which is read off each router, queue and message, and whether an act is possible.
 pub fn are_alike(world: &mut World, twin: &mut World) -> bool {
     have_same_words(world, twin)
         && have_same_holders(world, twin)
+        && have_as_many_routers(world, twin)
         && world.settle_limit() == twin.settle_limit()
         && world.settle(0) == twin.settle(0)
 }

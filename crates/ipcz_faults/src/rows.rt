@@ -1,5 +1,6 @@
 //! The rows: what is asked of a world, and what comes of it by docs/PROTOCOL.md.
 mod bypass;
+mod retiring;
 
 use crate::moves::Ask::{Close, Get, Open, Put};
 use crate::moves::Move::{Call, Holder, Settle, Turns, Words};
@@ -33,7 +34,7 @@ const A2: End = End {
 };
 
 /// The rows, each on a world of its own.
-pub const ROWS: [Row; 7] = [
+pub const ROWS: [Row; 9] = [
     Row {
         name: "two parcels on one pair",
         nodes: 1,
@@ -75,6 +76,18 @@ pub const ROWS: [Row; 7] = [
         nodes: 2,
         words: 4,
         moves: &bypass::GROWING,
+    },
+    Row {
+        name: "a closed pair leaves its node",
+        nodes: 1,
+        words: 1,
+        moves: &retiring::ONE_NODE,
+    },
+    Row {
+        name: "a sink that grows where it retires",
+        nodes: 2,
+        words: 1,
+        moves: &retiring::GROWING,
     },
 ];
 

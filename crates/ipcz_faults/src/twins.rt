@@ -116,7 +116,8 @@ impl Twins {
         }
     }
 
-    // Asks one of the two. A begin that finds no memory is a lock that is given back: the turn after it gets the lock again, and the next begins.
+    // Asks one of the two. A begin or a retire that finds no memory is a lock that is given back: the turn after it gets the lock again, and
+    // the next begins or retires.
     fn ask_on(&mut self, which: Which, ask: Ask) -> Result<Reply, Wrong> {
         let reply = self.ask(which, ask)?;
         let Reply::Turned(Happened::Unlock(serial, link, _)) = reply else {
