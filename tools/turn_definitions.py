@@ -37,6 +37,7 @@ ROUTER, ROUTING = "ipcz_router/specs/Router.antt", "ipcz_router/src/router.rt"
 ANSWERS, ANSWERING = "ipcz_world/specs/WordAnswers.antt", "ipcz_world/src/word_answers.rt"
 UPDATES = "ipcz_world/specs/Acts.antt"
 HANDS = "ipcz_node/specs/Hands.antt"
+LEAVING, LEFT, NODE_ACTING = "ipcz_node/specs/Acts.antt", "ipcz_node/proofs/Leaving.antt", "ipcz_node/src/state/acts.rt"
 HEARING, HEARD = "ipcz_router/specs/Hearing.antt", "ipcz_router/src/router/hearing.rt"
 # proofs that say a definition a second time
 ACTED, WORD_ACTS = "ipcz_world/proofs/acts/ActedWords.antt", "ipcz_world/proofs/acts/WordActs.antt"
@@ -334,6 +335,37 @@ TURNS = {
     "a_dry_router_has_tried": [
         (EFFECTS, "run_dry r = record r { dry = true }", "run_dry r = record r { dry = true; tried = true }"),
         (TURNING, "                self.dry = true;\n", "                self.dry = true;\n                self.tried = true;\n"),
+    ],
+    # who may leave a closed pair, and what it leaves behind
+    "a_sink_retires_with_items_to_send": [
+        (TABLE, "is_done r = is_sink r && (r.mark_dropped && is_drained r.out_queue)", "is_done r = is_sink r && r.mark_dropped"),
+        (TURNING, "self.closed && self.out_queue.is_empty()", "self.closed"),
+    ],
+    "a_sink_retires_before_the_mark_is_discarded": [
+        (TABLE, "is_done r = is_sink r && (r.mark_dropped &&", "is_done r = is_sink r && (r.mark_seen &&"),
+        (TURNING, "self.mark_dropped && self.inward.is_none()", "self.mark_seen && self.inward.is_none()"),
+        (TURNING, "if self.inward.is_none() && !self.mark_dropped {", "if self.inward.is_none() && !self.mark_seen {"),
+    ],
+    "a_sink_retires_without_the_lock": [
+        (TABLE, "can_retire r = is_done r && (r.holds && (is_on_central r && not (decays r)))", "can_retire r = is_done r && (is_on_central r && not (decays r))"),
+        (TURNING, "self.is_done() && self.holds && self.is_on_central()", "self.is_done() && self.is_on_central()"),
+    ],
+    "a_proxy_leaves_before_it_has_sent_gone": [
+        (TABLE, "(has_no_link r || r.gone_sent)", "(has_no_link r || has_gone_next r)"),
+        (TABLE, "Acts.{way_out, way_in}", "Acts.{way_out, way_in, has_gone_next}"),
+        (TURNING, "(self.has_no_link() || self.gone_sent)", "(self.has_no_link() || matches!(self.in_queue.next(), Some(Item::Gone)))"),
+    ],
+    "a_sink_that_is_sent_gone_stays": [
+        (EFFECTS, "leaves_by r Discard = has_gone_next r", "leaves_by r Discard = false"),
+        (LEAVING, "has_left acts.Discard (outputs.Discarded number item) = is_gone_item item\n", ""),
+        (NODE_ACTING, "(RouterAct::Discard, Applied::Discarded(_, item)) => item.is_gone(),\n        ", ""),
+        (LEFT, "(discard_output number item) ≡ item_passes is_gone_item item\n", "(discard_output number item) ≡ false\n"),
+        (LEFT, "use Rattle.std.proofs.Common.{", "use Rattle.std.specs.Prelude.{false}\nuse Rattle.std.proofs.Common.{"),
+    ],
+    "gone_has_the_number_of_the_mark": [
+        (EFFECTS, "output_of r Retire = retire_output r.outward.primary (next_number r)", "output_of r Retire = retire_output r.outward.primary (next_number r - 1)"),
+        (EFFECTS, "Prelude.{◌≡◌, ℕ, ◌<◌,", "Prelude.{◌≡◌, ◌-◌, ℕ, ◌<◌,"),
+        (TURNING, "Applied::Sent(link, self.out_queue.reach(), Item::Gone)", "Applied::Sent(link, self.out_queue.reach().saturating_sub(1), Item::Gone)"),
     ],
     # what an act uses up
     "a_wake_stays_owed": [
