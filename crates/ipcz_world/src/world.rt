@@ -182,8 +182,8 @@ impl World {
 
     /// Lets the nodes take turns, one node after the other in passes over them, until no node has an act; at most `limit` acts are taken.
     /// Settled, with how many acts were taken, where nothing waits any more; `Unsettled` where `limit` acts were taken and a node still has
-    /// one. A node that is idle takes no turn. A limit of the world's rank, and two more for each begin that finds no memory, is enough
-    /// (docs/LAW.md). The turns that were taken keep the law, as steps with what each was seen to do.
+    /// one. A node that is idle takes no turn. A limit of the world's rank, and two more for each begin or retire that finds no
+    /// memory, is enough (docs/LAW.md). The turns that were taken keep the law, as steps with what each was seen to do.
     ///
     /// Refused `NumbersEnd` or `OutOfMemory` as the first turn that is refused, of the next node that has an act: the turns before it
     /// stand, and that one changes nothing.
