@@ -80,7 +80,25 @@ impl SerialRing {
         }
     }
 
+    /// Takes the lowest serial out, where there is one.
+    #[inline(always)]
+    pub fn take_first(&mut self) -> Option<u64>
+        ensures member { IfSome result (λ serial. has nat_cmp self.old.members serial ≡ true) }
+        ensures least { IfSome result (λ serial. (s : ℕ) → has nat_cmp self.old.members s ≡ true → serial ≤ s) }
+        ensures members { IfSome result
+            (λ serial. (s : ℕ) → has nat_cmp self.new.members s ≡ (not (serial == s) && has nat_cmp self.old.members s)) }
+        ensures room { IfSome result (λ _. self.old.room + 1 ≤ self.new.room) }
+        ensures none { IfNone result ((self.old.members ≡ []) × (self.new ≡ self.old)) }
+    {
+        let Some(serial) = self.first() else {
+            return None;
+        };
+        self.remove(serial);
+        Some(serial)
+    }
+
     /// Takes a serial away that is there.
+    #[inline(never)]
     pub fn remove(&mut self, serial: u64)
         requires { has nat_cmp self.old.members serial ≡ true }
         ensures members { (s : ℕ) → has nat_cmp self.new.members s ≡ (not (serial == s) && has nat_cmp self.old.members s) }

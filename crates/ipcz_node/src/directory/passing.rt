@@ -15,10 +15,8 @@ ghost use Rattle.ipcz_node.specs.Rooms.{put_filed, HasQueueRoom, rooms_for};
 use super::Directory;
 use super::filing::follow;
 use ipcz_base::{Item, LinkId, Message, Refusal, Side};
-use ipcz_router::Router;
 use ipcz_router::act::{Answer, RouterAct};
 use std::alloc::Global;
-use std::mem;
 
 impl Directory {
     /// Does the act `SendOut` of the router of the serial, as `Router::send_out`.
@@ -65,7 +63,7 @@ impl Directory {
     {
         let router = self.routers.router_mut(serial);
         let was = router.is_flagged();
-        let answer = accept_from(router, link, side, n, item);
+        let answer = router.accept_from(link, side, n, item);
         let is = router.is_flagged();
         follow(&mut self.files.flagged, serial, was, is);
         answer
@@ -83,28 +81,4 @@ impl Directory {
         let is = router.is_flagged();
         follow(&mut self.files.flagged, serial, was, is);
     }
-}
-
-// Gives an item to a router, as `Router::accept`; where that refuses it, it is put back.
-fn accept_from(
-    router: &mut Router,
-    link: LinkId,
-    side: Side,
-    n: u64,
-    item: &mut Item,
-) -> Result<(), Refusal>
-    requires { n < no_number }
-    ensures stands { OnOk result (router_has router.old.router link side ≡ true) }
-    ensures place { OnOk result (has_place_for router.old.router (outward_has router.old.router link side) n ≡ true) }
-    ensures ok { OnOk result (router.new.router ≡ accept router.old.router (outward_has router.old.router link side) n item.old) }
-    ensures why { IfErr result (λ e. e ≡ accept_refusal router.old.router link side n) }
-    ensures full { IfErr result (λ e. e ≡ Refusal.OutOfMemory → room_for router.old (outward_has router.old.router link side) ≡ 0) }
-    ensures err { OnErr result ((item.new ≡ item.old) × (router.new.router ≡ router.old.router)) }
-    ensures kept { IfErr result (λ e. (e ≡ Refusal.OutOfMemory → ⊥) → router.new ≡ router.old) }
-{
-    router.reserve_for(link, side, n)?;
-    let Ok(()) = router.accept(link, side, n, mem::replace(item, Item::Mark)) else {
-        unreachable!()
-    };
-    Ok(())
 }

@@ -1,4 +1,4 @@
-ghost use Rattle.std.specs.Prelude.{◌≡◌, ◌<◌, ◌≤◌, Some, None, true, IsOk, IfOk, IfErr, OnOk, OnErr, unwrap_or};
+ghost use Rattle.std.specs.Prelude.{◌≡◌, ◌<◌, ◌≤◌, Some, None, true, false, IsOk, IfOk, IfErr, OnOk, OnErr, unwrap_or};
 ghost use Rattle.ipcz_base.specs.Limits.{last_number, no_number};
 ghost use Rattle.ipcz_seq.specs.Queue.{current_item, has_place, push_refusal};
 ghost use Rattle.ipcz_router.specs.Router.{IsOpenTerminal, is_terminal, outward_has, router_has};
@@ -10,6 +10,7 @@ ghost use Rattle.ipcz_router.specs.Calls.{accept, accept_from_outward, accept_fr
 use super::Router;
 use ipcz_base::{Descriptor, Item, LAST, LinkEnd, LinkId, Parcel, Refusal, Side};
 use ipcz_edge::Edge;
+use std::mem;
 
 impl Router {
     /// Why a put would be refused, memory aside: `PeerClosed` where the peer's mark has come, even behind a gap, else
@@ -17,9 +18,18 @@ impl Router {
     pub fn put_refusal(&self) -> Option<Refusal>
         ensures { result ≡ router_put_refusal self.now.router }
     {
+        self.refusal_at(self.out_queue.reach())
+    }
+
+    // The same where the next number is known.
+    #[inline(always)]
+    fn refusal_at(&self, n: u64) -> Option<Refusal>
+        requires { n ≡ next_number self.now.router }
+        ensures { result ≡ router_put_refusal self.now.router }
+    {
         if self.mark_seen {
             Some(Refusal::PeerClosed)
-        } else if self.out_queue.reach() >= LAST {
+        } else if n >= LAST {
             Some(Refusal::NumbersEnd)
         } else {
             None
@@ -42,16 +52,14 @@ impl Router {
         ensures full { 0 < self.old.out_room → router_put_refusal self.old.router ≡ None → IsOk result }
         ensures room { LeavesRoom self.old self.new 1 0 }
     {
-        if let Some(why) = self.put_refusal() {
+        let n = self.out_queue.reach();
+        if let Some(why) = self.refusal_at(n) {
             return Err((why, parcel));
         }
         if let Err(why) = self.reserve_close() {
             return Err((why, parcel));
         }
-        let n = self.out_queue.reach();
-        let Ok(()) = self.push_out(n, Item::Parcel(parcel)) else {
-            unreachable!()
-        };
+        self.push_out_ready(n, Item::Parcel(parcel));
         Ok(n)
     }
 
@@ -94,27 +102,6 @@ impl Router {
         }
     }
 
-    /// Makes room for the item of a number that comes over `link`, for the router on `side` of it, where it has its place: `accept` isn't
-    /// refused then. It answers as `accept` where that is refused; the router stays as it was.
-    #[inline(always)]
-    pub fn reserve_for(&mut self, link: LinkId, side: Side, n: u64) -> Result<(), Refusal>
-        ensures router { self.new.router ≡ self.old.router }
-        ensures place { OnOk result (accept_refusal self.old.router link side n ≡ Refusal.OutOfMemory) }
-        ensures ok { OnOk result (0 < room_for self.new (outward_has self.old.router link side)) }
-        ensures why { IfErr result (λ e. e ≡ accept_refusal self.old.router link side n) }
-        ensures kept { IfErr result (λ e. (e ≡ Refusal.OutOfMemory → ⊥) → self.new ≡ self.old) }
-        ensures full { IfErr result (λ e. e ≡ Refusal.OutOfMemory → room_for self.old (outward_has self.old.router link side) ≡ 0) }
-        ensures room { LeavesRoom self.old self.new 0 0 }
-    {
-        if self.outward.has(link, side) {
-            self.in_queue.reserve_for(n)
-        } else if self.inward_has(link, side) {
-            self.out_queue.reserve_for(n)
-        } else {
-            Err(Refusal::Stranger)
-        }
-    }
-
     /// Takes in the item with number `n` that came over `link`, for the router on `side` of it. The router is flagged.
     ///
     /// What comes over a link of the outward edge goes into the in queue, what comes over a link of the inward edge into
@@ -143,13 +130,76 @@ impl Router {
             IfErr result (λ e. e.0 ≡ Refusal.OutOfMemory → room_for self.old from_outward ≡ 0) }
         ensures room { LeavesRoomBut self.old self.new (outward_has self.old.router link side) }
     {
-        if self.outward.has(link, side) {
-            self.push_in(n, item)
-        } else if self.inward_has(link, side) {
-            self.push_out(n, item)
-        } else {
-            Err((Refusal::Stranger, item))
+        let mut item = item;
+        match self.accept_from(link, side, n, &mut item) {
+            Ok(()) => Ok(()),
+            Err(why) => Err((why, item)),
         }
+    }
+
+    /// Takes in an item as `accept` does, from where it lies: `item` is left as it is where it is refused, and counts for nothing where it is
+    /// taken.
+    #[inline(always)]
+    #[tactic(auto, unfolding(crate::specs::Calls::accept))]
+    pub fn accept_from(
+        &mut self,
+        link: LinkId,
+        side: Side,
+        n: u64,
+        item: &mut Item,
+    ) -> Result<(), Refusal>
+        requires { n < no_number }
+        ensures stands { OnOk result (router_has self.old.router link side ≡ true) }
+        ensures place { OnOk result (has_place_for self.old.router (outward_has self.old.router link side) n ≡ true) }
+        ensures ok { OnOk result (self.new.router ≡ accept self.old.router (outward_has self.old.router link side) n item.old) }
+        ensures why { IfErr result (λ e. e ≡ accept_refusal self.old.router link side n) }
+        ensures full { IfErr result (λ e. e ≡ Refusal.OutOfMemory → room_for self.old (outward_has self.old.router link side) ≡ 0) }
+        ensures err { OnErr result ((item.new ≡ item.old) × (self.new.router ≡ self.old.router)) }
+        ensures kept { IfErr result (λ e. (e ≡ Refusal.OutOfMemory → ⊥) → self.new ≡ self.old) }
+        ensures room { LeavesRoomBut self.old self.new (outward_has self.old.router link side) }
+    {
+        if self.outward.has(link, side) {
+            self.take_in(n, item)
+        } else if self.inward_has(link, side) {
+            self.take_out(n, item)
+        } else {
+            Err(Refusal::Stranger)
+        }
+    }
+
+    // An item is taken into the in queue from where it lies, and the router is flagged.
+    #[inline(always)]
+    fn take_in(&mut self, n: u64, item: &mut Item) -> Result<(), Refusal>
+        requires { n < no_number }
+        ensures place { OnOk result (has_place self.old.router.in_queue n ≡ true) }
+        ensures ok { OnOk result (self.new.router ≡ accept_from_outward self.old.router n item.old) }
+        ensures why { IfErr result (λ e. e ≡ push_refusal self.old.router.in_queue n) }
+        ensures full { IfErr result (λ e. e ≡ Refusal.OutOfMemory → self.old.in_room ≡ 0) }
+        ensures err { OnErr result ((item.new ≡ item.old) × (self.new.router ≡ self.old.router)) }
+        ensures kept { IfErr result (λ e. (e ≡ Refusal.OutOfMemory → ⊥) → self.new ≡ self.old) }
+        ensures room { LeavesRoom self.old self.new 0 1 }
+    {
+        self.in_queue.reserve_for(n)?;
+        self.push_in_ready(n, mem::replace(item, Item::Mark));
+        Ok(())
+    }
+
+    // An item is taken into the out queue of a proxy from where it lies, and the router is flagged.
+    #[inline(always)]
+    fn take_out(&mut self, n: u64, item: &mut Item) -> Result<(), Refusal>
+        requires number { n < no_number }
+        requires proxy { is_terminal self.old.router ≡ false }
+        ensures place { OnOk result (has_place self.old.router.out_queue n ≡ true) }
+        ensures ok { OnOk result (self.new.router ≡ accept_from_inward self.old.router n item.old) }
+        ensures why { IfErr result (λ e. e ≡ push_refusal self.old.router.out_queue n) }
+        ensures full { IfErr result (λ e. e ≡ Refusal.OutOfMemory → self.old.out_room ≡ 0) }
+        ensures err { OnErr result ((item.new ≡ item.old) × (self.new.router ≡ self.old.router)) }
+        ensures kept { IfErr result (λ e. (e ≡ Refusal.OutOfMemory → ⊥) → self.new ≡ self.old) }
+        ensures room { LeavesRoom self.old self.new 1 0 }
+    {
+        self.out_queue.reserve_for(n)?;
+        self.push_out_ready(n, mem::replace(item, Item::Mark));
+        Ok(())
     }
 
     /// Makes the terminal a proxy, whose inward primary link is `link`: the new peripheral link to the moved terminal, of
@@ -216,40 +266,33 @@ impl Router {
         self.out_queue.reserve()
     }
 
-    // An item comes into the out queue, and the router is flagged. At a terminal it is one that its callers put.
+    // An item comes into the out queue, where it has its place and there is room, and the router is flagged. At a terminal it is one that its
+    // callers put.
     #[inline(always)]
-    fn push_out(&mut self, n: u64, item: Item) -> Result<(), (Refusal, Item)>
+    fn push_out_ready(&mut self, n: u64, item: Item)
         requires number { n < no_number }
         requires put { is_terminal self.old.router ≡ true → n < last_number }
-        ensures place { OnOk result (has_place self.old.router.out_queue n ≡ true) }
-        ensures ok { OnOk result (self.new.router ≡ accept_from_inward self.old.router n item) }
-        ensures why { IfErr result (λ e. e.0 ≡ push_refusal self.old.router.out_queue n) }
-        ensures err { IfErr result (λ e. (e.1 ≡ item) × (self.new.router ≡ self.old.router)) }
-        ensures kept { IfErr result (λ e. (e.0 ≡ Refusal.OutOfMemory → ⊥) → self.new ≡ self.old) }
-        ensures full { IfErr result (λ e. e.0 ≡ Refusal.OutOfMemory → self.old.out_room ≡ 0) }
+        requires place { has_place self.old.router.out_queue n ≡ true }
+        requires room { 0 < self.old.out_room }
+        ensures router { self.new.router ≡ accept_from_inward self.old.router n item }
         ensures room { LeavesRoom self.old self.new 1 0 }
     {
-        self.out_queue.push(n, item)?;
+        self.out_queue.push_ready(n, item);
         self.rouse();
-        Ok(())
     }
 
-    // An item comes into the in queue, and the router is flagged.
+    // An item comes into the in queue, where it has its place and there is room, and the router is flagged.
     #[inline(always)]
-    fn push_in(&mut self, n: u64, item: Item) -> Result<(), (Refusal, Item)>
-        requires { n < no_number }
-        ensures place { OnOk result (has_place self.old.router.in_queue n ≡ true) }
-        ensures ok { OnOk result (self.new.router ≡ accept_from_outward self.old.router n item) }
-        ensures why { IfErr result (λ e. e.0 ≡ push_refusal self.old.router.in_queue n) }
-        ensures err { IfErr result (λ e. (e.1 ≡ item) × (self.new.router ≡ self.old.router)) }
-        ensures kept { IfErr result (λ e. (e.0 ≡ Refusal.OutOfMemory → ⊥) → self.new ≡ self.old) }
-        ensures full { IfErr result (λ e. e.0 ≡ Refusal.OutOfMemory → self.old.in_room ≡ 0) }
+    fn push_in_ready(&mut self, n: u64, item: Item)
+        requires number { n < no_number }
+        requires place { has_place self.old.router.in_queue n ≡ true }
+        requires room { 0 < self.old.in_room }
+        ensures router { self.new.router ≡ accept_from_outward self.old.router n item }
         ensures room { LeavesRoom self.old self.new 0 1 }
     {
         let is_mark = item.is_mark();
-        self.in_queue.push(n, item)?;
+        self.in_queue.push_ready(n, item);
         self.mark_seen = self.mark_seen || (self.inward.is_none() && is_mark);
         self.rouse();
-        Ok(())
     }
 }

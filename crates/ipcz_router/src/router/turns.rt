@@ -1,7 +1,8 @@
-ghost use Rattle.std.specs.Prelude.{◌≡◌, ◌||◌, true, [], ◌∷◌};
+ghost use Rattle.std.specs.Prelude.{◌≡◌, ◌||◌, true, false, [], ◌∷◌};
+ghost use Rattle.ipcz_edge.specs.Edge.{edge_decays};
 ghost use Rattle.ipcz_base.specs.Links.{word_of};
 ghost use Rattle.ipcz_router.specs.RoomyRouters.{KeepsRoom, LeavesRoom};
-ghost use Rattle.ipcz_router.specs.Router.{decays, has_no_link, is_on_central};
+ghost use Rattle.ipcz_router.specs.Router.{decays, has_no_link, is_on_central, is_terminal};
 ghost use Rattle.ipcz_router.specs.ActTable.{first_possible, is_possible, is_rest, next_act, is_ready, can_begin, is_done, is_leaving, can_retire};
 ghost use Rattle.ipcz_router.specs.ActTable.{may_take};
 ghost use Rattle.ipcz_router.specs.ActEffects.{IsAsked, IsOutputOf, IsBelowNoNumber, apply, output_of, item_output, finish_out, mark_side};
@@ -155,7 +156,7 @@ impl Router {
     }
 
     /// The first possible act in the order of [`RouterAct`], `Unlock` left out, else `Rest`.
-    #[tactic(auto, unfolding(crate::specs::ActTable::next_act, crate::specs::ActTable::is_possible, crate::specs::ActTable::is_rest))]
+    #[tactic(auto, unfolding(crate::specs::ActTable::next_act, crate::specs::ActTable::is_rest))]
     pub fn next_act(&self) -> RouterAct
         ensures first { result ≡ next_act self.now.router }
         ensures possible { may_take self.now.router result ≡ true }
@@ -163,6 +164,40 @@ impl Router {
         if self.is_possible(RouterAct::SendOut) {
             return RouterAct::SendOut;
         }
+        if self.is_terminal() && !self.closed && !self.outward.decays() {
+            return self.next_at_terminal();
+        }
+        self.next_later()
+    }
+
+    // The first possible act, in that order, of an open terminal where nothing decays, behind a send outward: these are most routers.
+    #[inline(always)]
+    #[tactic(auto, using(crate::proofs::NextActs::terminal_next), unfolding(crate::specs::ActTable::is_rest))]
+    fn next_at_terminal(&self) -> RouterAct
+        requires terminal { is_terminal self.now.router ≡ true }
+        requires open { self.now.router.closed ≡ false }
+        requires whole { edge_decays self.now.router.outward ≡ false }
+        requires sent { is_possible self.now.router RouterAct.SendOut ≡ false }
+        ensures first { result ≡ next_act self.now.router }
+        ensures possible { may_take self.now.router result ≡ true }
+    {
+        if self.is_possible(RouterAct::Mark) {
+            return RouterAct::Mark;
+        }
+        if self.is_possible(RouterAct::Wake) {
+            return RouterAct::Wake;
+        }
+        RouterAct::Rest
+    }
+
+    // The first possible act, in that order, behind a send outward.
+    #[inline(never)]
+    #[tactic(auto, unfolding(crate::specs::ActTable::next_act, crate::specs::ActTable::is_rest))]
+    fn next_later(&self) -> RouterAct
+        requires sent { is_possible self.now.router RouterAct.SendOut ≡ false }
+        ensures first { result ≡ next_act self.now.router }
+        ensures possible { may_take self.now.router result ≡ true }
+    {
         if self.is_possible(RouterAct::SendIn) {
             return RouterAct::SendIn;
         }
@@ -184,15 +219,10 @@ impl Router {
         if self.is_possible(RouterAct::Wake) {
             return RouterAct::Wake;
         }
-        if self.inward.is_none() && !self.mark_dropped {
-            return RouterAct::Rest;
-        }
         self.next_to_go()
     }
 
-    // The first possible act of those by which a router gets out of the way, else `Rest`. It stands apart, since a terminal in use has none
-    // of them.
-    #[inline(never)]
+    // The first possible act of those by which a router gets out of the way, else `Rest`.
     #[tactic(auto, unfolding(crate::specs::ActTable::is_rest))]
     fn next_to_go(&self) -> RouterAct
         ensures first { result ≡ first_possible self.now.router

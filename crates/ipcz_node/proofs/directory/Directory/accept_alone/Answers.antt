@@ -46,7 +46,7 @@ follow-requires-clause-room c down =
 pub invariant_of-self : goal.invariant_of-self
 invariant_of-self c =
     let r = c.router_mut-router.result.now.router in
-    let w = c.accept_from-answer.new.router.router in
+    let w = c.accept_from-answer.new.self.router in
     let here = sym c.router_mut-router.ensures.value in
     let stays = stays_with _ _ r w (outward_has r c.args.link c.args.side) c.args.n c.args.item.now c.accept_from-answer.result c.requires.alone
     c.accept_from-answer.ensures.place c.accept_from-answer.ensures.ok c.accept_from-answer.ensures.err in (
