@@ -53,6 +53,10 @@ ACT_RANKS = "ipcz_world/proofs/ranks/NodeActs.antt"
 HAND_RANKS, WORTHS = "ipcz_world/proofs/ranks/NodeHands.antt", "ipcz_world/proofs/ranks/RouterWorths.antt"
 CHOOSING = "ipcz_node/proofs/Choosing.antt"
 PEERS = [f"ipcz_world/proofs/hands/BypassPeer{part}.antt" for part in ("", "Around", "Links", "Messages", "Numbers", "Records", "Stages")]
+NEXT, NEXT_AT = "ipcz_router/proofs/NextActs.antt", "ipcz_router/proofs/router/Router/next_at_terminal/Answers.antt"
+IF_WAKE = "        if self.is_possible(RouterAct::Wake) {\n            return RouterAct::Wake;\n        }\n"
+NEXT_IS = "next_act r ≡ (if is_possible r Mark then Mark else if is_possible r Wake then Wake else Rest)"
+WAKES = "sym c.is_possible-2.ensures ∙ c.if-is_possible-2.{} in\n    sym (rw "
 SENT = "sent = messages.AcceptBypass o (opposite r.end.side) fresh r.out_queue.current"
 SENDING = "use Rattle.ipcz_router.specs.declared.sending.Sending.{Sending}"
 REACH = (SPEC, SENDING, f"use Rattle.ipcz_seq.specs.Queue.{{reach}}\n{SENDING}")
@@ -151,13 +155,13 @@ TURNS = {
         ),
         (
             MOVING,
-            "self.out_queue.push(n, item)?;\n        self.rouse();\n",
-            "self.out_queue.push(n, item)?;\n        self.tried = false;\n",
+            "self.out_queue.push_ready(n, item);\n        self.rouse();\n",
+            "self.out_queue.push_ready(n, item);\n        self.tried = false;\n",
         ),
         (
             MOVING,
-            "            unreachable!()\n        };\n        Ok(n)\n",
-            "            unreachable!()\n        };\n        self.rouse();\n        Ok(n)\n",
+            "self.push_out_ready(n, Item::Parcel(parcel));\n        Ok(n)\n",
+            "self.push_out_ready(n, Item::Parcel(parcel));\n        self.rouse();\n        Ok(n)\n",
         ),
         (
             WORTHS,
@@ -196,7 +200,12 @@ TURNS = {
     ],
     "a_router_rests_before_it_wakes": [
         (TABLE, "Mark ∷ Wake ∷ Claim", "Mark ∷ Claim"),
-        (TURNING, "        if self.is_possible(RouterAct::Wake) {\n            return RouterAct::Wake;\n        }\n", ""),
+        (TURNING, f"{IF_WAKE}        self.next_to_go()\n", "        self.next_to_go()\n"),
+        (TURNING, f"{IF_WAKE}        RouterAct::Rest\n", IF_WAKE.replace("return RouterAct::Wake", "return RouterAct::Rest") + "        RouterAct::Rest\n"),
+        (NEXT, f"is_possible r SendOut ≡ false → {NEXT_IS}", "is_possible r SendOut ≡ false → next_act r ≡ (if is_possible r Mark then Mark else Rest)"),
+        (NEXT, f"true →\n        {NEXT_IS}", "true →\n        next_act r ≡ (if is_possible r Mark then Mark else Rest)"),
+        (NEXT_AT, f"≡ true = {WAKES.format('true')}(marks, wakes)", f"≡ true = {WAKES.format('true')}marks"),
+        (NEXT_AT, f"≡ false = {WAKES.format('false')}(marks, wakes)", f"≡ false = {WAKES.format('false')}marks"),
         (FLAGGING, "table 8 acts.Claim", "table 7 acts.Claim"),
         (FLAGGING, "table 9 acts.Lock", "table 8 acts.Lock"),
         (FLAGGING, "acts.Begin = first-none r table 10", "acts.Begin = first-none r table 9"),
@@ -344,7 +353,6 @@ TURNS = {
     "a_sink_retires_before_the_mark_is_discarded": [
         (TABLE, "is_done r = is_sink r && (r.mark_dropped &&", "is_done r = is_sink r && (r.mark_seen &&"),
         (TURNING, "self.mark_dropped && self.inward.is_none()", "self.mark_seen && self.inward.is_none()"),
-        (TURNING, "if self.inward.is_none() && !self.mark_dropped {", "if self.inward.is_none() && !self.mark_seen {"),
     ],
     "a_sink_retires_without_the_lock": [
         (TABLE, "can_retire r = is_done r && (r.holds && (is_on_central r && not (decays r)))", "can_retire r = is_done r && (is_on_central r && not (decays r))"),
