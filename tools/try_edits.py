@@ -111,7 +111,7 @@ def make_libraries(names):
 # ---- Functions ----
 
 HEAD = re.compile(r"([ \t]*)(?:pub(?:\([^)]*\))? )?(?:const |unsafe )*fn (\w+)")
-IMPL = re.compile(r"(?:unsafe )?impl\b(?:<.*?>)? (?:(?P<of>[\w:]+)(?:<.*>)? for )?(?:[\w:]+::)?(?P<type>\w+)(?:<.*>)?(?: where .*)? \{")
+IMPL = re.compile(r"(?:unsafe )?impl\b(?:<.*?>)? (?:(?P<of>[\w:]+)(?:<(?P<with>.*)>)? for )?(?:[\w:]+::)?(?P<type>\w+)(?:<.*>)?(?: where .*)? \{")
 TYPE = re.compile(r"^(?:pub(?:\([^)]*\))? )?(?:struct|enum) (\w+)", re.M)
 
 
@@ -156,14 +156,16 @@ def functions_in(crate, file, text):
     lines, owner, found = text.split("\n"), None, []
     for at, line in enumerate(lines):
         if it := IMPL.match(line):
-            owner = it["type"], (it["of"] or "").split("::")[-1]
+            owner = it["type"], (it["of"] or "").split("::")[-1] + (it["with"] or "")
         elif line == "}":
             owner = None
         elif (it := HEAD.match(line)) and bool(it[1]) == bool(owner) and (braces := body(lines, at, it[1])):
             modules, inner = [module_of(file)], ()
             if owner:
                 modules, inner = modules_of(crate, owner[0]), ("".join(owner),)
-            name = "::".join((crate.name, *modules[0], *inner, it[2])) if len(modules) == 1 else None
+            name = "::".join((crate.name, *(modules[0] if modules else ()), *inner, it[2]))
+            # (what rattle makes of a trait with other parameters than one name isn't clear from the text)
+            name = name if len(modules) == 1 and re.fullmatch(r"[\w:]+", name) else None
             found.append(Function(file, owner, it[2], name, *braces))
     return found
 
