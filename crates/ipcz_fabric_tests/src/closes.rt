@@ -6,13 +6,14 @@ use ipcz_fabric::{Blank, Fabric, FabricName, NodeCell, finish, start};
 use ipcz_node::Happened;
 use std::alloc::Global;
 use std::marker::Brand;
+use std::sync::atomic::{AtomicU64, Ordering};
 use std::test::Fail;
 use std::thread::{Threads, join, yield_now};
 
 const TRIES: u64 = 10_000_000;
 
 /// How many pairs are opened: each takes a word, and one more for its bypass.
-const PAIRS: u64 = 100;
+const PAIRS: u64 = 200;
 
 const LEFT: End = End {
     pair: 0,
@@ -103,22 +104,40 @@ fn gets_and_closes<F: FabricName>(fabric: &Fabric<F>, cell: &mut NodeCell<F>) ->
     matches!(came, Some(Ok((0, _)))) && cell.close(fabric, end) == Ok(0)
 }
 
-fn sends_all<F: FabricName>(fabric: &Fabric<F>, cell: &mut NodeCell<F>, alloc: Global) -> bool {
+fn sends_all<F: FabricName>(
+    fabric: &Fabric<F>,
+    cell: &mut NodeCell<F>,
+    alloc: Global,
+    done: &AtomicU64,
+) -> bool {
     for _pair in 0..PAIRS {
         if !sends_and_closes(fabric, cell, alloc) {
             return false;
         }
     }
+    done.store(1, Ordering::SeqCst);
     true
 }
 
-fn gets_all<F: FabricName>(fabric: &Fabric<F>, cell: &mut NodeCell<F>) -> bool {
+// Takes turns until the other thread has heard of the last close.
+fn acts_until<F: FabricName>(fabric: &Fabric<F>, cell: &mut NodeCell<F>, done: &AtomicU64) -> bool {
+    for _try in 0..TRIES {
+        if done.load(Ordering::SeqCst) == 1 {
+            return true;
+        }
+        let _turned = cell.turn(fabric);
+        yield_now();
+    }
+    false
+}
+
+fn gets_all<F: FabricName>(fabric: &Fabric<F>, cell: &mut NodeCell<F>, done: &AtomicU64) -> bool {
     for _pair in 0..PAIRS {
         if !gets_and_closes(fabric, cell) {
             return false;
         }
     }
-    true
+    acts_until(fabric, cell, done)
 }
 
 // Whether each pair goes to the other thread and is closed there, each thread with a cell of its own.
@@ -129,10 +148,11 @@ fn both_close<F: FabricName + Send + Sync, R: Threads>(
     left: &mut NodeCell<F>,
     right: &mut NodeCell<F>,
 ) -> bool {
+    let done = AtomicU64::new(0);
     let (sent, got) = join(
         rt,
-        || sends_all(fabric, left, alloc),
-        || gets_all(fabric, right),
+        || sends_all(fabric, left, alloc, &done),
+        || gets_all(fabric, right, &done),
     );
     sent && got
 }
