@@ -21,7 +21,8 @@ not be proved. Where the crate has laws these are asked first, with all else tak
 
 All of it happens on copies. The libraries below are made by `rt lib`, and a check begins with what `rt check` kept in the folders `out`. With
 `--beside` both are from nothing: a crate is tried once that run has built the libraries below it. Then what is as it must be is kept for later
-runs on this machine, by the sums of all that it was made from: the edit, the crate, the libraries below, the kit and this tool.
+runs on this machine, by the sums of all that it was made from: the edit, the crate, the libraries below, the kit and this tool. Where the
+variable EDIT_LOGS names a folder, what each check said is written there; EDIT_SECONDS is the most that one may take.
 """
 import argparse
 import bisect
@@ -111,7 +112,7 @@ def make_libraries(names):
 # ---- Functions ----
 
 HEAD = re.compile(r"([ \t]*)(?:pub(?:\([^)]*\))? )?(?:const |unsafe )*fn (\w+)")
-IMPL = re.compile(r"(?:unsafe )?impl\b(?:<.*?>)? (?:(?P<of>[\w:]+)(?:<.*>)? for )?(?:[\w:]+::)?(?P<type>\w+)(?:<.*>)?(?: where .*)? \{")
+IMPL = re.compile(r"(?:unsafe )?impl\b(?:<.*?>)? (?:(?P<of>[\w:]+)(?:<(?P<with>.*)>)? for )?(?:[\w:]+::)?(?P<type>\w+)(?:<.*>)?(?: where .*)? \{")
 TYPE = re.compile(r"^(?:pub(?:\([^)]*\))? )?(?:struct|enum) (\w+)", re.M)
 
 
@@ -156,14 +157,16 @@ def functions_in(crate, file, text):
     lines, owner, found = text.split("\n"), None, []
     for at, line in enumerate(lines):
         if it := IMPL.match(line):
-            owner = it["type"], (it["of"] or "").split("::")[-1]
+            owner = it["type"], (it["of"] or "").split("::")[-1] + (it["with"] or "")
         elif line == "}":
             owner = None
         elif (it := HEAD.match(line)) and bool(it[1]) == bool(owner) and (braces := body(lines, at, it[1])):
             modules, inner = [module_of(file)], ()
             if owner:
                 modules, inner = modules_of(crate, owner[0]), ("".join(owner),)
-            name = "::".join((crate.name, *modules[0], *inner, it[2])) if len(modules) == 1 else None
+            name = "::".join((crate.name, *(modules[0] if modules else ()), *inner, it[2]))
+            # (what rattle makes of a trait with other parameters than one name isn't clear from the text)
+            name = name if len(modules) == 1 and re.fullmatch(r"[\w:]+", name) else None
             found.append(Function(file, owner, it[2], name, *braces))
     return found
 
@@ -308,8 +311,8 @@ class Said:
             for name in [it for it in self.functions if it == function.name or "::fn::" in it and it.replace("::fn::", "::").startswith(f"{function.name}::")]:
                 if own := OPEN.match(self.functions[name]):
                     return self.noted(function) or own[0]
-                if self.functions[name].startswith("not proved") and (found := self.answered(name)):
-                    return found
+                if self.functions[name].startswith("not proved") and (found := [it for it in self.answered(name) if not GONE.search(it)]):
+                    return found[0]
         return None
 
     def noted(self, function):
@@ -321,13 +324,10 @@ class Said:
         return None
 
     def answered(self, name):
-        """Returns the first error among the function's answers that tells more than that a name is gone."""
+        """Returns the errors among the function's answers."""
         path = "/".join(name.split("::")[1:])
-        for where, what in ANSWER.findall(self.text):
-            # (the answers of a function that calls itself stand under its name with a plus)
-            if where.replace("+", "") == path and not GONE.search(what):
-                return f"proofs/{where}: {what[:160]}"
-        return None
+        # (the answers of a function that calls itself stand under its name with a plus)
+        return [f"proofs/{where}: {what[:160]}" for where, what in ANSWER.findall(self.text) if where.replace("+", "") == path]
 
     def verdict(self, edit):
         """Returns what an edit comes to that was tried alone, and why."""
@@ -349,8 +349,8 @@ class Said:
             return REFUSED, goal
         if all(WELL.match(it) for it in told.values()):
             return MISSED, "each goal of the functions that it changes is proved"
-        if any(it.startswith("not proved") for it in told.values()):
-            return NAMES, "a proof names what it took away, and no goal was asked: change a value and keep the names"
+        if lost := [it for name in told for it in self.answered(name)]:
+            return NAMES, f"change a value and keep the names, so that a goal is asked: {lost[0]}"
         return UNKNOWN, "; ".join(f"{name}: {it}" for name, it in told.items())
 
     def of_others(self):
@@ -382,10 +382,12 @@ def words(name, *flags):
 RUNNING = set()
 
 
-def end_all(*_):
+def end_all(room):
+    """Ends this tool with all that it has started."""
     for it in list(RUNNING):
         with contextlib.suppress(ProcessLookupError):
             os.killpg(it.pid, signal.SIGKILL)
+    shutil.rmtree(room, ignore_errors=True)
     os._exit(1)
 
 
@@ -477,14 +479,10 @@ class Trial:
         with self.lock:
             self.verdicts[edit] = what, why
             print(f"{edit.name}: {what}: {why}", flush=True)
-
-    def keep(self):
-        """Keeps what is as it must be, where nothing that it was made from has changed meanwhile."""
-        failed = self.failed()
-        if self.sum == sum_below(self.crate):
-            with contextlib.suppress(OSError):
-                KEPT.mkdir(mode=0o700, parents=True, exist_ok=True)
-                for edit in [it for it in self.edits if it not in failed]:
+            # (it is kept where nothing that it was made from has changed meanwhile)
+            if self.beside and edit not in self.failed() and self.sum == sum_below(self.crate) and self.beside.are_its_own(self.crate.name):
+                with contextlib.suppress(OSError):
+                    KEPT.mkdir(mode=0o700, parents=True, exist_ok=True)
                     new = KEPT / f"new-{os.getpid()}-{self.crate.name}"
                     new.write_text(json.dumps(self.verdicts[edit]))
                     new.replace(self.place(edit))
@@ -587,9 +585,9 @@ class Trial:
         if self.beside and not self.beside.awaits(name):
             print(f"{name}: none of its edits was tried, since a library below it isn't proved", flush=True)
             return
+        self.sum = self.beside and sum_below(self.crate)
         for edit in [it for it in self.edits if it.fault]:
             self.tell(edit, BAD, edit.fault)
-        self.sum = self.beside and sum_below(self.crate)
         edits = [it for it in self.edits if not it.fault and not (self.beside and self.is_known(it))]
         kept = self.crate / "out" / "incremental"
         self.room.mkdir()
@@ -607,8 +605,6 @@ class Trial:
         if self.beside and not self.beside.are_its_own(name):
             print(f"{name}: none of its edits counts, since its libraries were replaced by older ones", flush=True)
             self.verdicts.clear()
-        elif self.beside:
-            self.keep()
         count, failed = len(self.edits), len(self.failed())
         print(f"{name}: {count - failed} as they must be, {self.earlier} of them by an earlier run, {failed} failed, in {self.seconds:.0f} s of a processor", flush=True)
 
@@ -636,7 +632,6 @@ def main():
     given.add_argument("--beside", type=pathlib.Path)
     given.add_argument("--kit", action="store_true")
     asked = given.parse_args()
-    signal.signal(signal.SIGTERM, end_all)
     folders = (*FOLDERS, "must-fail") if asked.since else FOLDERS
     names = asked.names or [it for it in USED if any((TOP / "crates" / it / folder).is_dir() for folder in folders)]
     if asked.kit:
@@ -645,6 +640,7 @@ def main():
     jobs = max(1, PROCESSORS // 2) if beside else PROCESSORS
     turns = threading.Semaphore(jobs)
     with tempfile.TemporaryDirectory(prefix="try-edits-") as room:
+        signal.signal(signal.SIGTERM, lambda *_: end_all(room))
         trials = [Trial(it, folders, room, turns, beside) for it in names]
         for it in trials if asked.since else ():
             it.edits = [edit for edit in it.edits if edit.has_changed(it.crate, asked.since)]

@@ -3,12 +3,13 @@
 //! Nothing is promised of what stands here: a test's own proof would else work out the whole cell at each call. So a test is a list of calls.
 mod bypass;
 mod parcel;
+mod retiring;
 mod words;
 
 ghost use Rattle.std.specs.Prelude.{◌≡◌};
 
 use ipcz_base::{End, Ends, Refusal, Sequence, Side};
-use ipcz_fabric::{Blank, Fabric, FabricName, NodeCell};
+use ipcz_fabric::{Blank, Fabric, FabricName, NodeCell, finish};
 use std::alloc::{AllocError, Global};
 
 const A0: End = End {
@@ -50,6 +51,8 @@ enum Call {
     Close(End, u64),
     /// Loads how many link words were claimed.
     Claimed(u32),
+    /// Loads a link word.
+    Word(u32, u64),
 }
 
 // A list of these ends.
@@ -155,10 +158,29 @@ fn gives<F: FabricName>(
         }
         Call::Close(at, number) => Ok(cell.close(fabric, at)? == number),
         Call::Claimed(count) => Ok(cell.claimed(fabric) == count),
+        Call::Word(i, word) => Ok(cell.word(fabric, i) == Some(word)),
     }
 }
 
-// How many of these calls on the cells of nodes give what they should, up to the first that doesn't.
+// How many of these calls on cells give what they should, up to the first that doesn't.
+fn make_all<F: FabricName>(
+    fabric: &Fabric<F>,
+    cells: &mut [NodeCell<F>],
+    alloc: Global,
+    calls: &[(usize, Call)],
+) -> Result<usize, Refusal> {
+    for (i, (node, call)) in calls.iter().enumerate() {
+        let Some(cell) = cells.get_mut(*node) else {
+            return Ok(i);
+        };
+        if !gives(fabric, cell, alloc, *call)? {
+            return Ok(i);
+        }
+    }
+    Ok(calls.len())
+}
+
+// The same, of the cells of a table.
 fn run<F: FabricName>(
     blank: Blank,
     alloc: Global,
@@ -166,17 +188,27 @@ fn run<F: FabricName>(
 ) -> Result<usize, Refusal>
     requires { blank ≡ F.table }
 {
-    let (fabric, mut cells) = match blank.name::<F>() {
-        Ok(named) => named,
-        Err((why, _)) => return Err(why),
-    };
-    for (i, (node, call)) in calls.iter().enumerate() {
-        let Some(cell) = cells.as_mut_slice().get_mut(*node) else {
-            return Ok(i);
-        };
-        if !gives(&fabric, cell, alloc, *call)? {
-            return Ok(i);
-        }
+    match blank.name::<F>() {
+        Ok((fabric, mut cells)) => make_all(&fabric, cells.as_mut_slice(), alloc, calls),
+        Err((why, _)) => Err(why),
     }
-    Ok(calls.len())
+}
+
+// How many routers the first two nodes have in the world that the cells of a table show, where first these calls and then those give
+// what they should.
+fn routers_after<F: FabricName>(
+    blank: Blank,
+    alloc: Global,
+    first: &[(usize, Call)],
+    then: &[(usize, Call)],
+) -> Option<[Option<usize>; 2]>
+    requires { blank ≡ F.table }
+{
+    let (fabric, mut cells) = blank.name::<F>().ok()?;
+    let went = make_all(&fabric, cells.as_mut_slice(), alloc, first) == Ok(first.len())
+        && make_all(&fabric, cells.as_mut_slice(), alloc, then) == Ok(then.len());
+    match finish(fabric, cells) {
+        Ok(world) if went => Some([world.routers(0), world.routers(1)]),
+        _ => None,
+    }
 }

@@ -4,6 +4,8 @@
 #[cfg(test)]
 mod cells;
 #[cfg(test)]
+mod closes;
+#[cfg(test)]
 mod counts;
 #[cfg(test)]
 mod ends;

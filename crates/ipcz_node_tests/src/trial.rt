@@ -107,6 +107,12 @@ enum Step {
     Strays(usize),
     /// How many routers there are.
     Routers(usize),
+    /// The word and the side that an act of a router is about.
+    Word(u64, Option<(u32, Side)>),
+    /// The node that a router's lock names as its source.
+    Source(u64, Option<u8>),
+    /// The message that waits for a node at a place, counted from 0.
+    Waits(u8, usize, Option<Letter>),
     /// Whether the node has nothing to do until a message comes.
     Quiet(bool),
 }
@@ -249,6 +255,18 @@ impl Trial {
         }
     }
 
+    // Whether the message that waits for a node at a place is this one.
+    fn has_waiting(&self, to: u8, place: usize, letter: Option<&Letter>) -> bool {
+        let Some(outbox) = self.node.outboxes().get(to as usize) else {
+            return false;
+        };
+        match (outbox.get(place), letter) {
+            (Some(message), Some(letter)) => letter.is(message),
+            (None, None) => true,
+            _ => false,
+        }
+    }
+
     // Whether a call of a portal gives what its step says.
     fn calls(&mut self, step: &Step) -> bool {
         match step {
@@ -306,8 +324,11 @@ impl Trial {
             }
             Step::Return => self.deliver_back() == Some(true),
             Step::Strays(count) => self.node.strays().len() == *count,
-            Step::Routers(count) => self.node.routers().len() == *count,
+            Step::Routers(count) => self.node.router_count() == *count,
             Step::Quiet(want) => self.node.quiet() == *want,
+            Step::Word(serial, want) => self.node.word_of(*serial) == *want,
+            Step::Source(serial, want) => self.node.source_of(*serial) == *want,
+            Step::Waits(to, place, letter) => self.has_waiting(*to, *place, letter.as_ref()),
             _ => self.calls(step),
         }
     }

@@ -49,6 +49,29 @@ fn prints_what_no_script_shows(rt: HostRuntime) -> Result<(), Fail> {
     Ok(())
 }
 
+// With the greatest number that Gone can have.
+#[test]
+fn prints_how_a_pair_leaves(rt: HostRuntime) -> Result<(), Fail> {
+    let rows = [
+        (
+            Happened::Retire(7, 18446744073709551614, OLD),
+            "r7 retire 18446744073709551614 C3",
+        ),
+        (
+            Happened::DiscardLeave(18446744073709551614, 2),
+            "r18446744073709551614 discard 2 leave",
+        ),
+        (Happened::Discard(8, 2), "r8 discard 2"),
+        (Happened::Leave(8), "r8 leave"),
+    ];
+    for (event, text) in &rows {
+        let mut out = Vec::new(rt.alloc());
+        push_event(&mut out, event)?;
+        assert_eq!(rt; out.as_slice(), text.as_bytes());
+    }
+    Ok(())
+}
+
 #[test]
 fn prints_the_ends_that_moved(rt: HostRuntime) -> Result<(), Fail> {
     let end = End {

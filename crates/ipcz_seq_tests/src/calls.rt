@@ -10,6 +10,8 @@ enum Step {
     Push(u64, &'static str, Result<(), Refusal>),
     Pop(Option<&'static str>),
     Next(Option<&'static str>),
+    /// The word of the highest number, with that number.
+    Last(Option<(u64, &'static str)>),
     Reserve,
     ReserveFor(u64, Result<(), Refusal>),
     HasRoom(bool),
@@ -51,6 +53,7 @@ fn answers(queue: &mut GapQueue<&'static str>, step: Step) -> bool {
 fn is(queue: &GapQueue<&'static str>, step: Step) -> bool {
     match step {
         Step::Next(want) => queue.next() == want.as_ref(),
+        Step::Last(want) => queue.last() == want.as_ref(),
         Step::HasRoom(want) => queue.has_room() == want,
         Step::HasPlace(n, want) => queue.has_place(n) == want,
         Step::Current(want) => queue.current() == want,
@@ -76,6 +79,7 @@ fn answered(alloc: Global, first: u64, steps: &[Step]) -> usize {
 fn items_leave_in_the_order_of_their_numbers(rt: HostRuntime) {
     let steps = [
         Step::IsEmpty(true),
+        Step::Last(None),
         // The item of 5 hasn't come, so that of 7 waits.
         Step::Push(7, "seven", Ok(())),
         Step::Reach(5),
@@ -89,13 +93,15 @@ fn items_leave_in_the_order_of_their_numbers(rt: HostRuntime) {
         Step::Pop(Some("five")),
         Step::Current(6),
         Step::Push(6, "six", Ok(())),
+        Step::Last(Some((7, "seven"))),
         Step::Reach(8),
         Step::Pop(Some("six")),
         Step::Pop(Some("seven")),
+        Step::Last(None),
         Step::Current(8),
         Step::Len(0),
     ];
-    assert_eq!(rt; answered(rt.alloc(), 5, steps.as_slice()), 18);
+    assert_eq!(rt; answered(rt.alloc(), 5, steps.as_slice()), 21);
 }
 
 #[test]

@@ -1,14 +1,13 @@
 //! One bypass, each turn of it with what it is seen to do.
 
 use super::Call::{Get, Open, Put, Turns};
-use super::{A0, A1, B0, B1, Call, run};
+use super::{A0, A1, B0, B1, Call, routers_after};
 use ipcz_fabric::start;
 use std::marker::Brand;
 use std::test::Fail;
 
-// The terminal of 1B moves from node 0 to node 1, and the proxy it leaves, router 2, is bypassed: C1 by C2. Then what is put at the moved end
-// comes over the new link.
-const CALLS: [(usize, Call); 13] = [
+// The terminal of 1B moves from node 0 to node 1, and the proxy it leaves, router 2, is bypassed: C1 by C2.
+pub(super) const CALLS: [(usize, Call); 9] = [
     (0, Open(A1, B1)),
     (0, Put(A0, b"m", &[B1], 0)),
     (
@@ -74,6 +73,10 @@ const CALLS: [(usize, Call); 13] = [
         ]),
     ),
     (1, Get(B0, b"m", &[B1], 0)),
+];
+
+// Then what is put at the moved end comes over the new link.
+const PARCEL: [(usize, Call); 4] = [
     (1, Put(B1, b"r", &[], 0)),
     (
         1,
@@ -100,6 +103,9 @@ const CALLS: [(usize, Call); 13] = [
 fn a_bypass_turn_by_turn(rt: HostRuntime) -> Result<(), Fail> {
     let alloc = rt.alloc();
     let blank = start(alloc, 2, 4)?;
-    assert_eq!(rt; run::<Brand>(blank, alloc, &CALLS), Ok(CALLS.len()));
+    assert_eq!(rt;
+        routers_after::<Brand>(blank, alloc, &CALLS, &PARCEL),
+        Some([Some(2), Some(2)])
+    );
     Ok(())
 }

@@ -1,12 +1,12 @@
 //! A pair whose both ends are closed leaves its routers: a sink retires under the lock, and Gone takes the others away.
 
 use super::Step::{
-    self, Close, Deliver, First, GetParcel, Open, Posted, Put, Quiet, Return, Routers, See, Strays,
-    Turn, Unlock,
+    self, Close, Deliver, First, GetParcel, Open, Posted, Put, Quiet, Return, Routers, See, Source,
+    Strays, Turn, Unlock, Waits, Word,
 };
 use super::deeds::Deed::{
     ClaimNoWord, Discard, DiscardLeave, Idle, Leave, Lock, Post, Refused, Rest, Retire, SendIn,
-    SendOut,
+    SendOut, Wait,
 };
 use super::letters::Letter;
 use super::{A0, A1, B0, B1, C0, C1, JAMMED, first_wrong};
@@ -34,10 +34,15 @@ static LOCKS: [Step; 15] = [
     First(Act::Router(0, RouterAct::Retire)),
 ];
 
-static RETIRES: [Step; 12] = [
+static RETIRES: [Step; 16] = [
     Routers(2),
+    Word(0, Some((0, Side::A))),
+    // A sink has no source: nobody is to be told of a new link.
+    Source(0, None),
     Turn(Retire(0, 1, C0)),
     Routers(1),
+    Word(0, None),
+    Source(0, None),
     Turn(Post(0)),
     Posted(Letter::Gone(C0, Side::B, 1)),
     Return,
@@ -176,16 +181,46 @@ fn a_sink_that_is_refused_the_lock_leaves_where_gone_comes(rt: HostRuntime) {
     assert_eq!(rt; first_wrong(rt.alloc(), 0, 2, &[&STAYS_FOR_GONE]), None);
 }
 
-// The item that waits before Gone in the outbox stays there; the sink has left before either is posted.
-static LEAVES_BEFORE_IT_POSTS: [Step; 10] = [
+// A sink that has to wait rests until a Flush wakes it.
+static WAITS_FOR_THE_OTHER_SIDE: [Step; 13] = [
+    Close(A0, Ok(0)),
+    Turn(SendOut(0, 0, C0, &[])),
+    Turn(Post(1)),
+    Deliver(1, Letter::Mark(C0, Side::A, 0), true),
+    Turn(Discard(0, 0)),
+    Turn(Wait(0, C0, 5)),
+    Turn(Rest(0)),
+    Turn(Idle),
+    Quiet(true),
+    Deliver(1, Letter::Flush(C0, Side::A), true),
+    Turn(Lock(0, C0, 19)),
+    Turn(Retire(0, 1, C0)),
+    Routers(0),
+];
+
+#[test]
+fn a_sink_that_waits_is_woken_by_a_flush(rt: HostRuntime) {
+    assert_eq!(rt;
+        first_wrong(rt.alloc(), 0, 2, &[&WAITS_FOR_THE_OTHER_SIDE]),
+        None
+    );
+}
+
+// The mark waits before Gone in the outbox; the sink has left before either is posted.
+static LEAVES_BEFORE_IT_POSTS: [Step; 15] = [
     See(JAMMED),
     Close(A0, Ok(0)),
     Turn(SendOut(0, 0, C0, &[])),
     Deliver(1, Letter::Mark(C0, Side::A, 0), true),
     Turn(Discard(0, 0)),
     Turn(Lock(0, C0, 19)),
+    Waits(1, 1, None),
     Turn(Retire(0, 1, C0)),
     Routers(0),
+    Waits(1, 0, Some(Letter::Mark(C0, Side::B, 0))),
+    Waits(1, 1, Some(Letter::Gone(C0, Side::B, 1))),
+    Waits(1, 2, None),
+    Waits(0, 0, None),
     Turn(Idle),
     Quiet(false),
 ];

@@ -1,10 +1,10 @@
 //! What a sink does when its peer is closed, too: it locks its link and retires, or Gone comes to it; and a proxy that Gone passes.
 
 use super::Step::{self, Act, Close, Come, Get, GoneComes, Is, Move, Put, Rouse, Terminal, Unlock};
-use super::deeds::Deed::{ClaimNoWord, Lock, Plain, Refused, Wait};
+use super::deeds::Deed::{Claim, ClaimNoWord, Lock, Plain, Refused, Wait};
 use super::deeds::Given::{Discarded, DiscardedGone, Nothing, Sent, SentGone};
 use super::given;
-use super::sights::Sight::{Flagged, Next, Open, Possible, Proxy, PutRefused};
+use super::sights::Sight::{Flagged, InLast, Next, Open, OutLast, Possible, Proxy, PutRefused};
 use ipcz_base::{Descriptor, End, LinkEnd, LinkId, Refusal, Side};
 use ipcz_router::act::RouterAct;
 use std::test::Fail;
@@ -144,10 +144,26 @@ static GONE_COMES: [Step; 17] = [
     Get(1, Err(Refusal::PeerClosed)),
 ];
 
-static GONE_STAYS: [Step; 4] = [
+static GONE_STAYS: [Step; 7] = [
     Terminal(A0, ACROSS, 0),
+    Is(0, InLast(None)),
     GoneComes(0, C0, Side::A, 0),
     Is(0, Open(true)),
+    Get(0, Err(Refusal::PeerClosed)),
+    Get(0, Err(Refusal::PeerClosed)),
+    Is(0, InLast(Some((0, true)))),
+];
+
+// Behind the peer's mark no put is taken, and Gone changes nothing of it.
+static NO_PUT: [Step; 9] = [
+    Terminal(A0, ACROSS, 0),
+    Put(0, b'a', Ok(0)),
+    Is(0, OutLast(Some(0))),
+    Come(0, C0, Side::A, 0, None, Ok(())),
+    Is(0, InLast(Some((0, false)))),
+    Put(0, b'b', Err(Refusal::PeerClosed)),
+    GoneComes(0, C0, Side::A, 1),
+    Put(0, b'c', Err(Refusal::PeerClosed)),
     Get(0, Err(Refusal::PeerClosed)),
 ];
 
@@ -155,6 +171,7 @@ static GONE_STAYS: [Step; 4] = [
 fn gone_is_discarded_in_its_turn_and_is_no_parcel(rt: HostRuntime) {
     assert_eq!(rt; given(rt.alloc(), &GONE_COMES), Ok(GONE_COMES.len()));
     assert_eq!(rt; given(rt.alloc(), &GONE_STAYS), Ok(GONE_STAYS.len()));
+    assert_eq!(rt; given(rt.alloc(), &NO_PUT), Ok(NO_PUT.len()));
 }
 
 // A proxy sends Gone inward like any item, and leaves though both its links are there; its own act comes in between.
@@ -178,7 +195,31 @@ static PASSES: [Step; 17] = [
     Act(0, Plain(RouterAct::Leave), Nothing),
 ];
 
+// One that has claimed a word and not got the lock leaves in the same way. What it sends in comes before any try for the lock.
+static PASSES_WITH_A_WORD: [Step; 16] = [
+    Terminal(A0, ACROSS, 0),
+    Is(0, Open(true)),
+    Move(0, AWAY, UNUSED, 0),
+    Act(0, Claim(2), Nothing),
+    Act(0, Refused(35), Nothing),
+    Act(0, Plain(RouterAct::Rest), Nothing),
+    Come(0, C0, Side::A, 0, None, Ok(())),
+    GoneComes(0, C0, Side::A, 1),
+    Rouse(0),
+    Is(0, Possible(RouterAct::Lock, true)),
+    Act(0, Plain(RouterAct::SendIn), Sent(AWAY, 0, None)),
+    Act(0, Plain(RouterAct::SendIn), SentGone(AWAY, 1)),
+    Is(0, Possible(RouterAct::Lock, true)),
+    Is(0, Next(RouterAct::Leave)),
+    Is(0, InLast(None)),
+    Act(0, Plain(RouterAct::Leave), Nothing),
+];
+
 #[test]
 fn a_proxy_leaves_once_gone_has_passed(rt: HostRuntime) {
     assert_eq!(rt; given(rt.alloc(), &PASSES), Ok(PASSES.len()));
+    assert_eq!(rt;
+        given(rt.alloc(), &PASSES_WITH_A_WORD),
+        Ok(PASSES_WITH_A_WORD.len())
+    );
 }

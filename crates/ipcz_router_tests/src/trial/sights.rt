@@ -24,6 +24,10 @@ pub(super) enum Sight {
     Word(Option<(u32, Side)>),
     /// Why a put would be refused.
     PutRefused(Refusal),
+    /// The highest number that stands in the out queue.
+    OutLast(Option<u64>),
+    /// The highest number that stands in the in queue, and whether it is that of Gone.
+    InLast(Option<(u64, bool)>),
     /// The outward edge decays: its primary link, and the lengths to its other end and from it.
     Outward(Option<LinkEnd>, Option<u64>, Option<u64>),
     /// The inward edge decays and has no primary link; the lengths to its other end and from it.
@@ -38,6 +42,20 @@ fn is_parted(edge: Edge, primary: Option<LinkEnd>, to: Option<u64>, from: Option
         && edge.length_from() == from
 }
 
+fn out_last(router: &Router) -> Option<u64> {
+    match router.out_last() {
+        Some(entry) => Some(entry.0),
+        None => None,
+    }
+}
+
+fn in_last(router: &Router) -> Option<(u64, bool)> {
+    match router.in_last() {
+        Some(entry) => Some((entry.0, entry.1.is_gone())),
+        None => None,
+    }
+}
+
 impl Sight {
     /// Whether a router is so.
     pub(super) fn is(&self, router: &Router) -> bool {
@@ -49,6 +67,8 @@ impl Sight {
             Sight::Next(act) => router.next_act() == act,
             Sight::Possible(act, want) => router.is_possible(act) == want,
             Sight::PutRefused(why) => router.put_refusal() == Some(why),
+            Sight::OutLast(n) => out_last(router) == n,
+            Sight::InLast(last) => in_last(router) == last,
             _ => self.is_of_links(router),
         }
     }
