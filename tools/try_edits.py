@@ -379,22 +379,24 @@ def words(name, *flags):
     return [*found, "--links", f"{name}=", "--jobs", "1", *flags]
 
 
-RUNNING = set()
+RUNNING, STARTING = set(), threading.Lock()
 
 
 def end_all(room):
     """Ends this tool with all that it has started."""
-    for it in list(RUNNING):
-        with contextlib.suppress(ProcessLookupError):
-            os.killpg(it.pid, signal.SIGKILL)
-    shutil.rmtree(room, ignore_errors=True)
-    os._exit(1)
+    with STARTING:
+        for it in RUNNING:
+            with contextlib.suppress(ProcessLookupError):
+                os.killpg(it.pid, signal.SIGKILL)
+        shutil.rmtree(room, ignore_errors=True)
+        os._exit(1)
 
 
 def ran(command, room):
     """Returns a command's status, what it said, whether it took too long, and the seconds of a processor that it took."""
-    it = subprocess.Popen(command, cwd=room, stdin=subprocess.DEVNULL, stdout=subprocess.PIPE, stderr=subprocess.STDOUT, start_new_session=True)
-    RUNNING.add(it)
+    with STARTING:
+        it = subprocess.Popen(command, cwd=room, stdin=subprocess.DEVNULL, stdout=subprocess.PIPE, stderr=subprocess.STDOUT, start_new_session=True)
+        RUNNING.add(it)
     late = threading.Event()
 
     def end():
@@ -407,7 +409,8 @@ def ran(command, room):
     text = it.stdout.read().decode(errors="replace")
     _, status, used = os.wait4(it.pid, 0)
     timer.cancel()
-    RUNNING.discard(it)
+    with STARTING:
+        RUNNING.discard(it)
     it.stdout.close()
     it.returncode = os.waitstatus_to_exitcode(status)
     return it.returncode, text, late.is_set(), used.ru_utime + used.ru_stime
