@@ -283,7 +283,7 @@ WELL = re.compile(r"^(?:proved|no holes|depends on a hole)\b")
 NOTE = re.compile(r"^note: (src/\S+?):(\d+):\d+: (it is not proved [^;\n]*)", re.M)
 # An error in the answers of a function, at a goal or a lemma; and what says only that a name is gone.
 ANSWER = re.compile(r"^(?:\./)?proofs/(\S+)/(?:Answers|Invariants|Proof)\.antt:\d+:\d+: error: (`[^`]+`: .*)$", re.M)
-GONE = re.compile(r"has no field|is not in scope|has no `|(?:was|is) not admitted")
+GONE = re.compile(r"has no field|record `[^`]+` \(nearest: |is not in scope|has no `|is no constructor of|write one of its constructors|(?:was|is) not admitted")
 # An error or an unproved goal anywhere.
 PLACED = re.compile(r"^(?:note: (?=.*: it is not proved ))?(?:\./)?((?:src|specs|proofs)/\S+?):(\d+):\d+: ((?:error: |it is not proved ).*)$", re.M)
 UNREAD = re.compile(r"is not in scope|has no field|is no name|operand is missing|expected the end|cannot continue")
