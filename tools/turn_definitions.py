@@ -37,6 +37,7 @@ ROUTER, ROUTING = "ipcz_router/specs/Router.antt", "ipcz_router/src/router.rt"
 ANSWERS, ANSWERING = "ipcz_world/specs/WordAnswers.antt", "ipcz_world/src/word_answers.rt"
 UPDATES = "ipcz_world/specs/Acts.antt"
 HANDS = "ipcz_node/specs/Hands.antt"
+LEAVING, LEFT, NODE_ACTING = "ipcz_node/specs/Acts.antt", "ipcz_node/proofs/Leaving.antt", "ipcz_node/src/state/acts.rt"
 HEARING, HEARD = "ipcz_router/specs/Hearing.antt", "ipcz_router/src/router/hearing.rt"
 # proofs that say a definition a second time
 ACTED, WORD_ACTS = "ipcz_world/proofs/acts/ActedWords.antt", "ipcz_world/proofs/acts/WordActs.antt"
@@ -155,8 +156,8 @@ TURNS = {
         ),
         (
             MOVING,
-            "Item::Parcel(parcel)) {\n            Ok(()) => Ok(n),\n",
-            "Item::Parcel(parcel)) {\n            Ok(()) => {\n                self.rouse();\n                Ok(n)\n            }\n",
+            "            unreachable!()\n        };\n        Ok(n)\n",
+            "            unreachable!()\n        };\n        self.rouse();\n        Ok(n)\n",
         ),
         (
             WORTHS,
@@ -185,8 +186,8 @@ TURNS = {
         (EFFECTS, "drop_lock r = record r { holds = false; flagged = true }", "drop_lock r = record r { holds = false; flagged = false }"),
         (
             TURNING,
-            "                self.holds = false;\n                self.flagged = true;\n",
-            "                self.holds = false;\n                self.flagged = false;\n",
+            "        self.holds = false;\n        self.flagged = true;\n",
+            "        self.holds = false;\n        self.flagged = false;\n",
         ),
     ],
     "a_router_rests_at_any_time": [
@@ -199,7 +200,9 @@ TURNS = {
         (FLAGGING, "table 8 acts.Claim", "table 7 acts.Claim"),
         (FLAGGING, "table 9 acts.Lock", "table 8 acts.Lock"),
         (FLAGGING, "acts.Begin = first-none r table 10", "acts.Begin = first-none r table 9"),
-        (FLAGGING, "acts.Unlock = first-none r table 10", "acts.Unlock = first-none r table 9"),
+        (FLAGGING, "acts.Retire = first-none r table 11", "acts.Retire = first-none r table 10"),
+        (FLAGGING, "(arith, first-none r table 10 acts.Begin h refl", "(arith, first-none r table 9 acts.Begin h refl"),
+        (FLAGGING, "acts.Begin h refl, first-none r table 11", "acts.Begin h refl, first-none r table 10"),
     ],
     # who may answer for a bypass
     "a_lock_names_the_node_across": [
@@ -216,11 +219,6 @@ TURNS = {
         (ANSWERS, "tells_waiting x s = has x.waiting (opposite s)", "tells_waiting x s = false"),
         (ANSWERS, "◌+◌, Bool, nat_lt, if", "◌+◌, Bool, false, nat_lt, if"),
         (ANSWERING, "Answer::Marked(marked, other_waits(word, side)),", "Answer::Marked(marked, false),"),
-        (
-            "ipcz_world/proofs/acts/Marking.antt",
-            "(mark_side r (has (word_at w i).waiting (opposite r.end.side)))",
-            "(mark_side r false)",
-        ),
     ],
     "a_wake_stays_in_the_word": [
         (ANSWERS, "woken x s = wake x s", "woken x s = x"),
@@ -294,8 +292,8 @@ TURNS = {
         (STEP_WAKERS, "same_Some (rouse f.0.router)", "same_Some (flushed f.0.router)"),
         (
             GOING,
-            "(flushed f.router) (found_tells n _ f e).0\n          (roused f.router _ refl refl refl refl refl refl refl refl))",
-            "(flushed f.router) (found_tells n _ f e).0\n          (left-alone f.router _ refl refl (λ h. h) refl refl refl refl refl))",
+            "(flushed f.router) (found_tells n _ f e).0\n          (roused f.router _ refl refl refl refl refl refl refl refl refl (λ h. h)))",
+            "(flushed f.router) (found_tells n _ f e).0\n          (left-alone f.router _ refl refl refl (λ h. h) refl refl refl refl refl (λ h. h)))",
         ),
         (
             AGREEING,
@@ -326,8 +324,8 @@ TURNS = {
         ),
         (
             TURNING,
-            "                self.holds = false;\n                self.flagged = true;\n",
-            "                self.holds = false;\n                self.flagged = true;\n                self.tried = true;\n",
+            "        self.holds = false;\n        self.flagged = true;\n",
+            "        self.holds = false;\n        self.flagged = true;\n        self.tried = true;\n",
         ),
     ],
     "a_claim_without_a_word_has_tried": [
@@ -338,13 +336,44 @@ TURNS = {
         (EFFECTS, "run_dry r = record r { dry = true }", "run_dry r = record r { dry = true; tried = true }"),
         (TURNING, "                self.dry = true;\n", "                self.dry = true;\n                self.tried = true;\n"),
     ],
+    # who may leave a closed pair, and what it leaves behind
+    "a_sink_retires_with_items_to_send": [
+        (TABLE, "is_done r = is_sink r && (r.mark_dropped && is_drained r.out_queue)", "is_done r = is_sink r && r.mark_dropped"),
+        (TURNING, "self.closed && self.out_queue.is_empty()", "self.closed"),
+    ],
+    "a_sink_retires_before_the_mark_is_discarded": [
+        (TABLE, "is_done r = is_sink r && (r.mark_dropped &&", "is_done r = is_sink r && (r.mark_seen &&"),
+        (TURNING, "self.mark_dropped && self.inward.is_none()", "self.mark_seen && self.inward.is_none()"),
+        (TURNING, "if self.inward.is_none() && !self.mark_dropped {", "if self.inward.is_none() && !self.mark_seen {"),
+    ],
+    "a_sink_retires_without_the_lock": [
+        (TABLE, "can_retire r = is_done r && (r.holds && (is_on_central r && not (decays r)))", "can_retire r = is_done r && (is_on_central r && not (decays r))"),
+        (TURNING, "self.is_done() && self.holds && self.is_on_central()", "self.is_done() && self.is_on_central()"),
+    ],
+    "a_proxy_leaves_before_it_has_sent_gone": [
+        (TABLE, "(has_no_link r || r.gone_sent)", "(has_no_link r || has_gone_next r)"),
+        (TABLE, "Acts.{way_out, way_in}", "Acts.{way_out, way_in, has_gone_next}"),
+        (TURNING, "(self.has_no_link() || self.gone_sent)", "(self.has_no_link() || matches!(self.in_queue.next(), Some(Item::Gone)))"),
+    ],
+    "a_sink_that_is_sent_gone_stays": [
+        (EFFECTS, "leaves_by r Discard = has_gone_next r", "leaves_by r Discard = false"),
+        (LEAVING, "has_left acts.Discard (outputs.Discarded number item) = is_gone_item item\n", ""),
+        (NODE_ACTING, "(RouterAct::Discard, Applied::Discarded(_, item)) => item.is_gone(),\n        ", ""),
+        (LEFT, "(discard_output number item) ≡ item_passes is_gone_item item\n", "(discard_output number item) ≡ false\n"),
+        (LEFT, "use Rattle.std.proofs.Common.{", "use Rattle.std.specs.Prelude.{false}\nuse Rattle.std.proofs.Common.{"),
+    ],
+    "gone_has_the_number_of_the_mark": [
+        (EFFECTS, "output_of r Retire = retire_output r.outward.primary (next_number r)", "output_of r Retire = retire_output r.outward.primary (next_number r - 1)"),
+        (EFFECTS, "Prelude.{◌≡◌, ℕ, ◌<◌,", "Prelude.{◌≡◌, ◌-◌, ℕ, ◌<◌,"),
+        (TURNING, "Applied::Sent(link, self.out_queue.reach(), Item::Gone)", "Applied::Sent(link, self.out_queue.reach().saturating_sub(1), Item::Gone)"),
+    ],
     # what an act uses up
     "a_wake_stays_owed": [
         (EFFECTS, "wake_other r = record r { wake_owed = false }", "wake_other r = r"),
         (
             TURNING,
-            "let output = self.wake_output();\n                self.wake_owed = false;\n                output\n",
-            "self.wake_output()\n",
+            "    {\n        self.wake_owed = false;\n    }\n",
+            "    {\n        let _owed = self.wake_owed;\n    }\n",
         ),
     ],
     "a_rest_leaves_its_router_flagged": [
@@ -357,16 +386,7 @@ TURNS = {
     ],
     "a_try_in_vain_is_made_again": [
         (EFFECTS, "fail_lock r = record r { tried = true }", "fail_lock r = r"),
-        (
-            TURNING,
-            "(RouterAct::Lock, Answer::Waiting(_)) => {\n                self.tried = true;\n",
-            "(RouterAct::Lock, Answer::Waiting(_)) => {\n",
-        ),
-        (
-            TURNING,
-            "(RouterAct::Lock, Answer::Refused(_)) => {\n                self.tried = true;\n",
-            "(RouterAct::Lock, Answer::Refused(_)) => {\n",
-        ),
+        (TURNING, "    {\n        self.tried = true;\n    }\n", "    {\n        let _tried = self.tried;\n    }\n"),
     ],
 }
 
@@ -502,4 +522,5 @@ def main():
     sys.exit(1 if wrong else 0)
 
 
-main()
+if __name__ == "__main__":
+    main()

@@ -172,7 +172,8 @@ impl<F: FabricName> Cells<F> {
 }
 
 impl<F: FabricName> Subject for Cells<F> {
-    // A begin that finds no memory is a lock that is given back: the turn after it gets the lock again, and the next begins.
+    // A begin or a retire that finds no memory is a lock that is given back: the turn after it gets the lock again, and the next begins or
+    // retires.
     fn take(&mut self, what: Ask) -> Result<Reply, Wrong> {
         let before = self.reading(node_of(what));
         let reply = self.ask(what)?;

@@ -1,18 +1,19 @@
 -- The machine over the books alone: which replies it allows, and what they write.
-use Rattle.std.specs.Prelude.{◌≡◌, ◌<◌, ℕ, true, Some, List, [], ◌∷◌, length}
+use Rattle.std.specs.Prelude.{◌≡◌, ◌<◌, ℕ, true, false, Some, List, [], ◌∷◌, length}
+use Rattle.ipcz_base.specs.declared.side.Side.{Side}
 use Rattle.ipcz_base.specs.declared.end.End.{End}
 use Rattle.ipcz_base.specs.declared.item.Item.TheVariants.{Parcel, Mark, Gone}
 use Rattle.ipcz_base.specs.declared.refusal.Refusal.{Refusal}
 use Rattle.ipcz_base.specs.declared.refusal.Refusal.TheVariants.{OutOfMemory, Empty, PeerClosed, NoWord, SelfAttach, PeerAttach, Stranger}
 use Rattle.ipcz_base.specs.declared.refusal.Refusal.TheVariants.{NumbersEnd, BadData, TooMany}
-use Rattle.ipcz_base.specs.Ends.{opposite_end}
+use Rattle.ipcz_base.specs.Ends.{opposite_end, end_at}
 use Rattle.ipcz_node.specs.declared.happened.Happened.{Happened}
 use Rattle.ipcz_node.specs.declared.happened.Happened.TheVariants as events
 use Rattle.ipcz_world.specs.declared.step.Step.{Step}
 use Rattle.ipcz_world.specs.declared.step.Step.TheVariants.{Open, Put, Get, Close, Turn}
 use Rattle.ipcz_world.specs.declared.step.Reply.{Reply}
 use Rattle.ipcz_world.specs.declared.step.Reply.TheVariants as replies
-use Rattle.ipcz_world.specs.Books.{Books, read, next_item, is_closed, add_put, add_got, add_gone}
+use Rattle.ipcz_world.specs.Books.{Books, read, next_item, is_closed, is_retired, add_put, add_got, add_gone}
 
 -- the books have nothing of an end
 pub record IsUnwritten (b : Books) (e : End) : Type 0 where
@@ -53,12 +54,14 @@ pub record Discards (b : Books) (number : ℕ) (c : Books) : Type 0 where
   pub put : read b end < length (b.put (opposite_end end))
   pub books : c ≡ add_gone b end
 
--- the sink of an end whose mark is its last item retires, once it has dropped all that its peer put, the mark too: Gone comes after its own
--- mark
+-- the sink of an end retires: both ends are closed, neither sink has retired before, and it has dropped all that its peer put, the mark too;
+-- Gone comes right after its own mark
 pub record Retires (b : Books) (number : ℕ) (c : Books) : Type 0 where
   pub end : End
   pub closed : is_closed b end ≡ true
   pub peer_closed : is_closed b (opposite_end end) ≡ true
+  pub neither : (s : Side) → is_retired b (end_at end.pair s) ≡ false
+  pub all_read : read b end ≡ length (b.put (opposite_end end))
   pub next : number ≡ length (b.put end)
   pub books : c ≡ add_put b end Gone
 

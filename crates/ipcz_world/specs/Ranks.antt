@@ -29,8 +29,8 @@ use Rattle.ipcz_world.specs.Settling.{IsQuiet}
 use Rattle.ipcz_world.specs.Turns.{router_of, can_take, after_act, turn_event, turn_lacks_serials}
 use Rattle.ipcz_world.specs.Lawful.{Lawful}
 
--- what the numbers of items are worth while no caller puts: how many items each end can ever have, its mark and Gone with them, and by pair what one
--- number that an item of it passes at a router is worth
+-- what the numbers of items are worth while no caller puts: how many items each end can ever have, its mark and Gone with them, and by pair
+-- what one number that an item of it passes at a router is worth
 pub record Rates : Type 0 where
   pub cap : End → ℕ
   pub price : ℕ → ℕ

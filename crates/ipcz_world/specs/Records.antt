@@ -160,7 +160,12 @@ side_end g (Peripheral n x) s = (g.peripheral (record { node = n; serial = x }))
 
 -- the routes that the records tell
 abbrev pub routes_of : Records → Routes
-routes_of g = record { is_link = λ i. is_linked (g.owner i); pair = λ i. (g.central i).pair; end = λ k. (g.peripheral k).end; lost = λ i. is_lost_owner (g.owner i) }
+routes_of g = record {
+  is_link = λ i. is_linked (g.owner i);
+  pair = λ i. (g.central i).pair;
+  end = λ k. (g.peripheral k).end;
+  lost = λ i. is_lost_owner (g.owner i);
+}
 
 -- whether a bypass has begun
 abbrev pub is_begun : Bypass → Bool

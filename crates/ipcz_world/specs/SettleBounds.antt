@@ -17,7 +17,7 @@ use Rattle.ipcz_world.specs.Lawful.{Lawful}
 use Rattle.ipcz_world.specs.Owed.{IsWet, IsDirect, HasNoProxies, HasNoClosedPairs}
 use Rattle.ipcz_world.specs.Ranks.{Rates, worth, rank, IsRated, may_put, is_unlock}
 
--- how many of these visits took an unlock: a begin that found no memory
+-- how many of these visits took an unlock: a begin or a retire that found no memory
 abbrev pub unlocks_taken : (n : ℕ) (visits : List Bool) (w v : World) → AreVisits n visits w v → ℕ
 unlocks_taken n [] w v same = 0
 unlocks_taken n (true ∷ visits) w v (has, (u, (event, (act, may, gives)), more)) =
@@ -79,7 +79,7 @@ PlainAreRated = (b : Books) → CarryNone b → IsRated (plain_rates b) b
 abbrev pub plain_limit : Books → World → ℕ
 plain_limit b w = rank (plain_rates b) w
 
--- law: so it is, with two more for each begin that finds no memory
+-- law: so it is, with two more for each begin or retire that finds no memory
 abbrev pub PlainLimitIsEnough : Type 0
 PlainLimitIsEnough =
     (limit : ℕ) (w v : World) (b : Books) (g : Routes) → Lawful w b g → CarryNone b → (s : IsSettle limit w v ends.Unsettled) →

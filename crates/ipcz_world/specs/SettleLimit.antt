@@ -111,7 +111,7 @@ settle_limit w = total_list (node_limit w) w.nodes + 37 * total_list (λ m. cond
 abbrev pub RankIsWithinLimit : Type 0
 RankIsWithinLimit = (w : World) (b : Books) (g : Routes) → Lawful w b g → CarryNone b → plain_limit b w ≤ settle_limit w
 
--- law: so there it is enough for a settle, with two more for each begin that finds no memory
+-- law: so there it is enough for a settle, with two more for each begin or retire that finds no memory
 abbrev pub SettleLimitIsEnough : Type 0
 SettleLimitIsEnough =
     (limit : ℕ) (w v : World) (b : Books) (g : Routes) → Lawful w b g → CarryNone b → (s : IsSettle limit w v ends.Unsettled) →

@@ -145,7 +145,8 @@ GivesOrNoMemory w done reply v = Gives done reply v ⊎ ((is_refused done.reply 
 abbrev pub PutGives : World → ℕ → Effect → Reply → World → Type 0
 PutGives w n done reply v = Gives done reply v ⊎ ((n < w.count) × FindsNoMemory w reply v)
 
--- the effect of an act, or want of memory where the act makes something grow and nothing else refuses; a begin or a retire that finds none is an unlock
+-- the effect of an act, or want of memory where the act makes something grow and nothing else refuses; a begin or a retire that finds none
+-- is an unlock
 abbrev pub ActGives : World → ℕ → Act → Effect → Reply → World → Type 0
 ActGives w n act done reply v =
     Gives done reply v ⊎ ((turn_grows w n act ≡ true) × (act ≡ stand_in act) × (is_refused done.reply ≡ false) × FindsNoMemory w reply v)

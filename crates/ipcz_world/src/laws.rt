@@ -149,7 +149,7 @@ pub fn terminals_keep_their_books()
 
 /// In a lawful world each end of an open pair is held by the callers of one node, in the list of one parcel, among the closes that are
 /// pending, or closed: one of these, once. Another end is in none of these, and of it nothing is written. The mark that a close puts is
-/// its end's last item.
+/// its end's last item, or Gone comes right after it and is last.
 pub fn each_end_is_in_one_place()
     ensures { EndsStandOnce }
 {}
@@ -230,8 +230,8 @@ pub fn a_world_without_acts_is_quiet()
     ensures { UnusedIsQuiet }
 {}
 
-/// The turns of a settle take no more acts than the rank falls by, and two more for each begin that finds no memory: for all books with which
-/// the world is lawful, and all rates that fit them.
+/// The turns of a settle take no more acts than the rank falls by, and two more for each begin or retire that finds no memory: for all
+/// books with which the world is lawful, and all rates that fit them.
 pub fn visits_are_bounded()
     ensures { VisitsAreBounded }
 {}

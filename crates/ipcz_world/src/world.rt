@@ -117,8 +117,7 @@ impl World {
     /// Refused `Stranger` where the node isn't one of the world's; a put is refused `OutOfMemory` next, where its lists find no room; then
     /// as the node refuses the call; an open is refused `NoWord` where each word is claimed, before `NumbersEnd` and `OutOfMemory`. A
     /// turn is refused `NumbersEnd` or `OutOfMemory`, but a router that finds no memory to begin its bypass, or to retire, gives its lock back
-    /// instead. A refusal
-    /// changes nothing.
+    /// instead. A refusal changes nothing.
     pub fn step(&mut self, step: &Step) -> Reply
         ensures step { StepFirst self.old step.now result self.new }
         ensures lawful { (b : Books) → (g : Routes) → Lawful self.old b g →
@@ -183,8 +182,8 @@ impl World {
 
     /// Lets the nodes take turns, one node after the other in passes over them, until no node has an act; at most `limit` acts are taken.
     /// Settled, with how many acts were taken, where nothing waits any more; `Unsettled` where `limit` acts were taken and a node still has
-    /// one. A node that is idle takes no turn. A limit of the world's rank, and two more for each begin that finds no memory, is enough
-    /// (docs/LAW.md). The turns that were taken keep the law, as steps with what each was seen to do.
+    /// one. A node that is idle takes no turn. A limit of the world's rank, and two more for each begin or retire that finds no
+    /// memory, is enough (docs/LAW.md). The turns that were taken keep the law, as steps with what each was seen to do.
     ///
     /// Refused `NumbersEnd` or `OutOfMemory` as the first turn that is refused, of the next node that has an act: the turns before it
     /// stand, and that one changes nothing.

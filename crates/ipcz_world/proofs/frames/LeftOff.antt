@@ -9,7 +9,7 @@ use Rattle.std.proofs.lemmas.Bool.{or_left}
 use Rattle.ipcz_word.specs.SideSets.{Sides}
 use Rattle.ipcz_world.proofs.Vocabulary.{Side, LinkId, Central, Peripheral, LinkEnd, Router, World, Key, Books, Records, Owner, is_linked}
 use Rattle.ipcz_world.proofs.Vocabulary.{is_recorded, inner_link, bypass_of, side_length, side_router, side_node, side_end, view_by}
-use Rattle.ipcz_world.proofs.Vocabulary.{Counts, Links, IsRecorded, Positions, Stages, Told, of_bypass, control_weight, Terminals, Items}
+use Rattle.ipcz_world.proofs.Vocabulary.{Counts, Links, IsRecorded, Positions, Told, of_bypass, control_weight, Terminals, Items}
 use Rattle.ipcz_world.proofs.Vocabulary.{Order, ProxyNumbers, FreshNumbers, BypassRecords, EndPlaces, BooksKept, Conserved, HeldOnce, opposite}
 use Rattle.ipcz_world.specs.Records.{bypass_length, length_by, is_left, is_unclaimed, Fresh, Linked}
 use Rattle.ipcz_world.specs.Bypasses.{Moves, LiveLinks}
@@ -133,21 +133,6 @@ module _ {g : Records} {owner : ℕ → Owner} {central : ℕ → Sides} {periph
       one_live = λ i j a c. law.one_live i j (sym (is.linked i) ∙ a) (sym (is.linked j) ∙ c);
       none_live = λ o i a c. law.none_live o i a (sym (is.linked i) ∙ c);
       one_begun = law.one_begun;
-    }
-
-    pub stages-off : Stages v g → Stages v h
-    unfolding side_router side_end
-    stages-off law = record {
-      proxy_old = law.proxy_old;
-      proxy_inner = law.proxy_inner;
-      proxy_begun = law.proxy_begun;
-      proxy_end = law.proxy_end;
-      across_old = law.across_old;
-      across_marked = law.across_marked;
-      across_free = law.across_free;
-      across_fresh = law.across_fresh;
-      inner_primary = law.inner_primary;
-      inner_decaying = law.inner_decaying;
     }
 
     pub moves-off : Moves v g → Moves v h

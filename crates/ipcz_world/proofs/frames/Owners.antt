@@ -1,5 +1,5 @@
 -- A word that is no link's gets another owner: what is said of all else is kept.
-use Rattle.ipcz_world.specs.Whereabouts.{RetiredEnds, Gones}
+use Rattle.ipcz_world.specs.Whereabouts.{RetiredEnds}
 use Rattle.ipcz_world.specs.Records.{is_left}
 use Rattle.std.specs.Prelude.{◌≡◌, ℕ, Bool, true, false, cond, nat_eq, refl}
 use Rattle.std.proofs.Common.{arith, sym, ◌∙◌, ap}
@@ -111,21 +111,6 @@ module _ (v : World) (b : Books) (g : Records) (i : ℕ) (x : Owner) (free : is_
       left = λ e j h a d p. law.left e j h (sym (linked-owned j) ∙ a) d p;
       left_of = law.left_of;
       accepted = law.accepted;
-    }
-
-    pub gones-owned : Gones v b g → Gones v b owned
-    unfolding is_left
-    gones-owned law = record {
-      sent = law.sent;
-      sent_back = law.sent_back;
-      left_primary = law.left_primary;
-      left_inner = law.left_inner;
-      out_put = law.out_put;
-      in_put = law.in_put;
-      still = law.still;
-      dropped = law.dropped;
-      dropped_closed = law.dropped_closed;
-      dropped_back = law.dropped_back;
     }
 
     pub stages-owned : Stages v g → Stages v owned

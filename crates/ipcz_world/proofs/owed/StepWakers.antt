@@ -414,6 +414,3 @@ module _ (w : World) (b : Books) (g : Records) (law : Inv w b g) (flags : FlagsA
   -- the first half of an open
   pub claim_for_open_owing : (n : ℕ) → IsOwing (claim_for_open w n)
   claim_for_open_owing n = let o = claim_owing n in record { wakers = o.wakers; ranked = o.ranked }
-
-  pub claim_for_open_came : (n : ℕ) → Came w (claim_for_open w n)
-  claim_for_open_came n = (claim_owing n).came

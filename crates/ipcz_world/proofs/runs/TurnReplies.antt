@@ -22,13 +22,17 @@ use Rattle.ipcz_world.specs.Steps.{turn_step, StepAny}
 use Rattle.ipcz_world.specs.Books.{after_turn, after_discard, after_retire, advance}
 use Rattle.ipcz_base.specs.declared.item.Item.TheVariants.{Gone}
 use Rattle.ipcz_router.specs.Acts.{has_gone_next}
+use Rattle.ipcz_router.specs.Router.{primary_word}
 use Rattle.ipcz_router.specs.Calls.{next_number}
+use Rattle.ipcz_world.proofs.acts.Flags.{OnWord, on-word}
+use Rattle.ipcz_world.proofs.acts.Retiring as retiring
 use Rattle.ipcz_world.proofs.facts.Drained.{gone_next-tells}
+use Rattle.ipcz_world.proofs.facts.LinkTests.{opposite_end-twice, has_link-is}
+use Rattle.ipcz_world.proofs.facts.Tests.{some_is}
 use Rattle.std.specs.Prelude.{slice_get}
 use Rattle.ipcz_world.specs.Plain.{Discards, Drops, Retires, PlainTurn, Plain}
 use Rattle.ipcz_world.specs.WorldLaws.{BeginsUnderLock, BeginsLocked}
 use Rattle.ipcz_world.proofs.lawful.LinkLaws.{IsOn, on_tells, holder_is}
-use Rattle.ipcz_world.proofs.facts.LinkTests.{has_link-is}
 use Rattle.ipcz_world.proofs.lawful.EachOnce.{in_queue-put}
 use Rattle.ipcz_world.proofs.runs.Running.{turn_reply}
 use Rattle.ipcz_world.proofs.routes.Seeing.{kind, router_kind, seen_event, taken_possible, hand_kind}
@@ -126,6 +130,14 @@ module _ (w : World) (b : Books) (g : Records) (law : Inv w b g) where
     end = r.end;
     closed = sym (law.conserved.sink k r here terminal) ∙ grind (arith, can);
     peer_closed = law.gones.dropped_closed k r here (grind (arith, can));
+    neither = retiring.unretired w b g k r word.0 law here on can;
+    all_read = omega (
+      arith,
+      law.conserved.current k r here terminal,
+      retiring.all w b g k r word.0 law here on can,
+      law.conserved.read_put (opposite_end r.end),
+      ap (read b) (opposite_end-twice r.end),
+    );
     next = law.conserved.reach k r here terminal;
     books = rw here refl;
   }
@@ -135,6 +147,12 @@ module _ (w : World) (b : Books) (g : Records) (law : Inv w b g) where
 
       terminal : is_terminal r ≡ true
       terminal = grind (arith, can)
+
+      word : (i : ℕ) × (primary_word r ≡ Some i)
+      word = some_is (primary_word r) (grind (arith, can))
+
+      on : OnWord w g k r word.0
+      on = on-word w b g k r word.0 law here word.1
 
   begins : (n s : ℕ) (l : LinkId) → PlainTurn b (events.Begin s l) (after_turn w b n (events.Begin s l))
   unfolding after_turn

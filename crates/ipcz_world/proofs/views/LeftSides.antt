@@ -1,5 +1,5 @@
 -- Who stands at a link's side hasn't left it.
-use Rattle.std.specs.Prelude.{◌≡◌, ◌⊎◌, ◌&&◌, ◌||◌, ℕ, Bool, true, false, Some, None, is_some, refl}
+use Rattle.std.specs.Prelude.{◌≡◌, ◌⊎◌, ◌&&◌, ◌||◌, ℕ, Bool, true, false, Some, refl}
 use Rattle.std.proofs.Common.{sym, ◌∙◌, ap, inl, inr}
 use Rattle.std.proofs.lemmas.Bool.{and_parts}
 use Rattle.ipcz_world.proofs.Vocabulary.{Side, A, B, LinkId, Central, Router, World, Key, router_at, word_at, has, Books, Records, side_router, is_linked, is_begun}
@@ -20,14 +20,6 @@ not_left w g link s k r law at here = go (is_left g link s) refl
     go false e = refl
     go true e = let t : key_passes w (Some k) (λ x. true) ≡ true = rw (here) refl in
         sym t ∙ ap (λ o. key_passes w o (λ x. true)) (sym at) ∙ law.left_gone link s e
-
--- nor has one left it that is awaited
-pub awaited_not_left : (w : World) (g : Records) (link : LinkId) (s : Side) → Stands w g → side_router g link s ≡ None → is_left g link s ≡ false
-awaited_not_left w g link s law at = go (is_left g link s) refl
-  where
-    go : (c : Bool) → is_left g link s ≡ c → c ≡ false
-    go false e = refl
-    go true e = sym (law.left_known link s e) ∙ ap is_some at
 
 -- who holds the lock of a link where it stands has nobody left across
 pub held_stays : (w : World) (g : Records) (i : ℕ) (t s : Side) → Words w g → has (word_at w i).holder t ≡ true →

@@ -1,0 +1,86 @@
+"""Tests `tools/try_edits.py` by edits that are planted in a copy of `ipcz_edge`: it must tell each of them as it is.
+
+    python3 tools/test_try_edits.py    prints what is told otherwise, and fails where there is something
+
+By hand, and not in the gate: it takes some minutes of a processor. It begins with what `rt check` kept in the folders `out` of `ipcz_base` and
+`ipcz_edge`, or proves them first.
+"""
+import os
+import pathlib
+import re
+import shutil
+import subprocess
+import sys
+import tempfile
+
+TOP = pathlib.Path(__file__).resolve().parent.parent
+CRATES = ("ipcz_base", "ipcz_edge")
+EDGE, SPEC, LINK_END = "src/edge.rt", "specs/Edge.antt", "Some(LinkEnd { link, side, other })"
+# What is planted: what must be told of it, and its file, old text and new one.
+PLANTED = {
+    # (all others of bodies stand beside this one: what calls it has no proof, and is no nearer to a goal that fails)
+    "wrong_callee": ("refused", "src/link_slot.rt", f"Kept::End {{ side, other, link }} => {LINK_END}", "Kept::End { .. } => None"),
+    "harmless_in_what_calls_it": ("NOT REFUSED", EDGE, "        self.primary.end()", "        let slot = &self.primary; slot.end()"),
+    "harmless_two_calls_above_it": ("NOT REFUSED", EDGE, "self.primary().is_none() &&", "!self.primary().is_some() &&"),
+    "wrong_in_what_calls_it": ("refused", EDGE, "is_link(self.primary(), link, side) ||", "self.decays() ||"),
+    "does_not_compile": ("BAD EDIT", EDGE, "        self.length_from = Some(length);", "        self.length_from = Some(true);"),
+    "stands_nowhere": ("BAD EDIT", EDGE, "self.tertiary.end()", "self.primary.end()"),
+    "stands_twice": ("BAD EDIT", EDGE, "LinkSlot::of(None)", "LinkSlot::of(Some(link))"),
+    "changes_nothing": ("BAD EDIT", EDGE, "n < length", "n < length"),
+    "harmless_clause": ("NOT REFUSED", EDGE, "ensures { result ≡ edge_of link }", "ensures { edge_of link ≡ result }"),
+    "wrong_definition": ("refused", SPEC, re.search(r"^choose e n = .*$", (TOP / "crates/ipcz_edge" / SPEC).read_text(), re.M)[0], "choose e n = e.primary"),
+    "cannot_be_read": ("BAD EDIT", EDGE, "ensures { result ≡ is_short_of n length }", "ensures { result ≡ is_shorter_than n length }"),
+}
+
+
+def plant(folder):
+    folder.mkdir()
+    for name, (_, file, old, new) in PLANTED.items():
+        (folder / f"{name}.edit").write_text(f"file: {file}\nold: {old}\nnew: {new}\n")
+
+
+def tried(room, **more):
+    """Returns what the tool says, its status, and what it tells of each edit."""
+    words = [sys.executable, "tools/try_edits.py", "ipcz_edge"]
+    ran = subprocess.run(words, cwd=room, stdout=subprocess.PIPE, stderr=subprocess.STDOUT, text=True, env={**os.environ, **more})
+    return ran.stdout, ran.returncode, dict(re.findall(r"^ipcz_edge/(\w+): ([A-Za-z ]+): ", ran.stdout, re.M))
+
+
+def main():
+    failed, texts = [], []
+    with tempfile.TemporaryDirectory() as room:
+        room = pathlib.Path(room)
+        crate = room / "crates" / "ipcz_edge"
+        shutil.copytree(TOP / "tools", room / "tools")
+        lines = (TOP / "crates.txt").read_text().split("\n")
+        (room / "crates.txt").write_text("".join(f"{line}\n" for line in lines if line.partition(":")[0] in CRATES))
+        shutil.copy(TOP / "HANDLES", room)
+        for name in CRATES:
+            shutil.copytree(TOP / "crates" / name, room / "crates" / name, ignore=shutil.ignore_patterns("edits", "harmless-edits", "must-fail"))
+        plant(crate / "edits")
+        text, status, told = tried(room)
+        failed += [f"{name}: {told.get(name)}, and not {wanted}" for name, (wanted, *_) in PLANTED.items() if told.get(name) != wanted]
+        count = sum(wanted == "refused" for wanted, *_ in PLANTED.values())
+        if status != 1 or not re.search(rf"^edits: {count} as they must be, {len(PLANTED) - count} failed", text, re.M):
+            failed.append(f"status {status}, and the last line doesn't tell {count} as they must be")
+        texts.append(text)
+        for name in PLANTED:
+            if name != "wrong_callee":
+                (crate / "edits" / f"{name}.edit").unlink()
+        # a check that takes too long tells nothing of its edits
+        text, status, told = tried(room, EDIT_SECONDS="1")
+        if status != 1 or told.get("wrong_callee") != "NOT TRIED":
+            failed.append(f"after a second: status {status}, {told}")
+        texts.append(text)
+        # a wrong body where harmless ones belong isn't as it must be
+        (crate / "edits").rename(crate / "harmless-edits")
+        text, status, told = tried(room)
+        if status != 1 or told.get("wrong_callee") != "refused":
+            failed.append(f"a wrong body among the harmless ones: status {status}, {told}")
+        texts.append(text)
+    print(*(texts + failed if failed else []), sep="\n", end="")
+    sys.exit(bool(failed))
+
+
+if __name__ == "__main__":
+    main()

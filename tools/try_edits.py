@@ -1,0 +1,667 @@
+"""Has the prover refuse the wrong bodies and wrong definitions of the folders `edits`, many in one check.
+
+    python3 tools/try_edits.py [NAME..]                   those of these crates, or of all
+    python3 tools/try_edits.py --since COMMIT [NAME..]    those, and of `must-fail`, that have changed since, or whose function or else file has
+    python3 tools/try_edits.py --beside FOLDER            beside an `rt ci` here, as .ci/run does
+    python3 tools/try_edits.py --kit NAME..               has `rt must-fail` try these crates' in a copy, one after the other
+
+Each edit has one line, and so has each crate, with the processor's seconds; the last line counts them, and it fails where one edit isn't as it
+must be. An edit is `refused` where a goal of a function that it changes isn't proved, and the line names the goal. Those of `harmless-edits`
+mean the same as what stands, and must be NOT REFUSED. All else fails: a BAD EDIT can't be made, compiled or read; ONLY NAMES are gone, so that
+the text of a proof doesn't fit and no goal was asked; ONLY A LIMIT of the prover was met; and NOT TRIED is what nothing is known of.
+
+**Edits of bodies.** A function is proved over the contracts of those that it calls, and not over their bodies, so whether a goal of its own is
+proved has nothing to do with any other body. So edits that change nothing but bodies are made together, no two in one function. The check is
+asked for the functions that they change alone; each other function is taken by its contract, as one whose proof is a hole, since `rt ci` proves
+it as it is. What only calls what isn't proved has no such goal, and rattle's line of the function tells the two apart. Whatever isn't refused so
+is tried once more, alone.
+
+**Other edits** (a definition, a clause, a type, a constant) are tried one by one: the crate, over what a check of it as it stands has proved, must
+not be proved. Where the crate has laws these are asked first, with all else taken by its contract, and the whole crate only where they are proved.
+
+All of it happens on copies. The libraries below are made by `rt lib`, and a check begins with what `rt check` kept in the folders `out`. With
+`--beside` both are from nothing: a crate is tried once that run has built the libraries below it. Then what is as it must be is kept for later
+runs on this machine, by the sums of all that it was made from: the edit, the crate, the libraries below, the kit and this tool. Where the
+variable EDIT_LOGS names a folder, what each check said is written there; EDIT_SECONDS is the most that one may take.
+"""
+import argparse
+import bisect
+import contextlib
+import dataclasses
+import functools
+import hashlib
+import itertools
+import json
+import os
+import pathlib
+import re
+import shutil
+import signal
+import subprocess
+import sys
+import tempfile
+import threading
+import time
+from concurrent.futures import ThreadPoolExecutor
+
+TOP = pathlib.Path(__file__).resolve().parent.parent
+KIT = pathlib.Path(subprocess.run(["rt", "doc"], stdout=subprocess.PIPE, text=True, check=True).stdout.strip()).parent
+PARTS = ("src", "specs", "proofs")
+REFUSED, MISSED, BAD, NAMES, LIMIT, UNKNOWN = "refused", "NOT REFUSED", "BAD EDIT", "ONLY NAMES", "ONLY A LIMIT", "NOT TRIED"
+HARMLESS = "harmless-edits"
+FOLDERS = ("edits", HARMLESS)
+PROCESSORS = int(os.environ.get("RT_JOBS") or min(4, len(os.sched_getaffinity(0))))
+# A check that hasn't ended after so many seconds is ended.
+MOST_SECONDS = int(os.environ.get("EDIT_SECONDS", "3600"))
+KEPT = pathlib.Path(os.environ.get("XDG_CACHE_HOME") or pathlib.Path.home() / ".cache", "ipcz-edits")
+
+
+# ---- Crates ----
+
+
+def read_crates():
+    """Returns the libraries that crates.txt lists of each crate."""
+    lines = (line.partition("#")[0].partition(":") for line in (TOP / "crates.txt").read_text().split("\n"))
+    return {name.split()[0]: used.split() for name, colon, used in lines if colon}
+
+
+USED = read_crates()
+
+
+def below(name):
+    """Returns the repository's libraries below a crate, each after those that it uses."""
+    return list(dict.fromkeys(it for used in USED[name] if used in USED for it in (*below(used), used)))
+
+
+def library(name):
+    return TOP / "crates" / name / "out" / "rlib"
+
+
+class Beside:
+    """An `rt ci` that goes on beside: the folder has `begun`, made before it, its `log`, and `ended` once it has ended."""
+
+    def __init__(self, folder):
+        self.folder, self.begun = folder, (folder / "begun").stat().st_mtime
+
+    def has_ended(self):
+        return (self.folder / "ended").exists()
+
+    def awaits(self, name):
+        """Waits for the libraries below a crate, and returns whether the run has built them."""
+        while True:
+            has_ended = self.has_ended()
+            built = re.findall(r"^rt: (\w+) (?:proved$|is kept: )", (self.folder / "log").read_text(errors="replace"), re.M)
+            if set(built).issuperset(below(name)):
+                return True
+            if has_ended:
+                return False
+            time.sleep(2)
+
+    def are_its_own(self, name):
+        """Returns whether the libraries that stand below a crate are this run's: at its end `rt ci` puts back what it found, which is older."""
+        return all(library(it).is_dir() and library(it).stat().st_mtime >= self.begun for it in below(name))
+
+
+def make_libraries(names):
+    for name in dict.fromkeys(it for name in names for it in below(name)):
+        done = subprocess.run(["rt", "lib", "--jobs", "1"], cwd=TOP / "crates" / name, stdout=subprocess.PIPE, stderr=subprocess.STDOUT, text=True)
+        if done.returncode:
+            sys.exit(f"{done.stdout}\ntry_edits: the library {name} isn't proved, so nothing was tried")
+
+
+# ---- Functions ----
+
+HEAD = re.compile(r"([ \t]*)(?:pub(?:\([^)]*\))? )?(?:const |unsafe )*fn (\w+)")
+IMPL = re.compile(r"(?:unsafe )?impl\b(?:<.*?>)? (?:(?P<of>[\w:]+)(?:<(?P<with>.*)>)? for )?(?:[\w:]+::)?(?P<type>\w+)(?:<.*>)?(?: where .*)? \{")
+TYPE = re.compile(r"^(?:pub(?:\([^)]*\))? )?(?:struct|enum) (\w+)", re.M)
+
+
+def module_of(file):
+    return [it for it in pathlib.Path(file).with_suffix("").parts[1:] if it not in ("lib", "main", "mod")]
+
+
+@functools.lru_cache(maxsize=None)
+def modules_of(crate, name):
+    """Returns the modules in which a crate declares a type of the name."""
+    files = sorted((crate / "src").glob("**/*.rt"))
+    return [module_of(it.relative_to(crate)) for it in files if name in TYPE.findall(it.read_text())]
+
+
+@dataclasses.dataclass(frozen=True)
+class Function:
+    """A function with a body: where it stands, rattle's name of it, if that is clear from the text, and the lines of its body's braces."""
+
+    file: str
+    owner: tuple
+    short: str
+    name: str = dataclasses.field(compare=False)
+    begin: int = dataclasses.field(compare=False)
+    end: int = dataclasses.field(compare=False)
+
+
+def body(lines, at, indent):
+    """Returns the lines of the braces of the body of the function whose head is there, or none where it has no body."""
+    for begin in range(at, len(lines)):
+        line, is_last_of_head = lines[begin], begin == at or lines[begin].startswith(indent + ")")
+        if line == indent + "{" or line.endswith(" {") and is_last_of_head:
+            return next(((begin, end) for end in range(begin + 1, len(lines)) if lines[end] == indent + "}"), None)
+        if line == indent + "{}" or line.endswith(" {}") and is_last_of_head:
+            return begin, begin
+        if line.endswith(";") and not line.startswith(indent + " "):
+            return None
+    return None
+
+
+def functions_in(crate, file, text):
+    """Returns the functions of a file that `rt fmt` has laid out."""
+    lines, owner, found = text.split("\n"), None, []
+    for at, line in enumerate(lines):
+        if it := IMPL.match(line):
+            owner = it["type"], (it["of"] or "").split("::")[-1] + (it["with"] or "")
+        elif line == "}":
+            owner = None
+        elif (it := HEAD.match(line)) and bool(it[1]) == bool(owner) and (braces := body(lines, at, it[1])):
+            modules, inner = [module_of(file)], ()
+            if owner:
+                modules, inner = modules_of(crate, owner[0]), ("".join(owner),)
+            name = "::".join((crate.name, *(modules[0] if modules else ()), *inner, it[2]))
+            # (what rattle makes of a trait with other parameters than one name isn't clear from the text)
+            name = name if len(modules) == 1 and re.fullmatch(r"[\w:]+", name) else None
+            found.append(Function(file, owner, it[2], name, *braces))
+    return found
+
+
+def functions_of(crate):
+    files = [str(it.relative_to(crate)) for it in sorted((crate / "src").glob("**/*.rt"))]
+    return [it for file in files for it in functions_in(crate, file, (crate / file).read_text())]
+
+
+def function_round(crate, file, text, place, length):
+    """Returns the function in whose body a text stands whole, or none."""
+    begins = list(itertools.accumulate((len(line) + 1 for line in text.split("\n")), initial=0))
+    first, last = (bisect.bisect_right(begins, it) - 1 for it in (place, place + length - 1))
+    return next((it for it in functions_in(crate, file, text) if it.begin < first and last < it.end), None)
+
+
+def text_of(crate, file, text, function):
+    """Returns the lines of a function, from behind the body before it on."""
+    last = 0
+    for it in functions_in(crate, file, text):
+        if it == function:
+            return text.split("\n")[last : it.end + 1]
+        last = it.end + 1
+    return None
+
+
+# ---- Edits ----
+
+
+def changes(text):
+    """Yields the file, the old text and the new one of each change of an edit."""
+    file = old = None
+    for line in text.split("\n"):
+        if line.startswith("file: "):
+            file = line.removeprefix("file: ").strip()
+        elif line.startswith("old: "):
+            old = line.removeprefix("old: ")
+        elif line.startswith("new:"):
+            yield file, old, line.removeprefix("new:").removeprefix(" ")
+            old = None
+
+
+class Edit:
+    """The lines that an edit changes, what keeps it from being made, and the functions whose bodies it changes, if it changes nothing else."""
+
+    def __init__(self, crate, path):
+        self.path, self.name, self.is_harmless = path, f"{crate.name}/{path.stem}", path.parent.name == HARMLESS
+        self.lines, self.functions = {}, frozenset()
+        texts, rounds = {}, set()
+        self.fault = self.apply(crate, texts, rounds) if path.suffix == ".edit" else "its name doesn't end in .edit"
+        for file, text in texts.items():
+            was = (crate / file).read_text().split("\n")
+            self.lines[file] = {at: line for at, line in enumerate(text.split("\n")) if line != was[at]}
+        if not self.fault and not any(self.lines.values()):
+            self.fault = "it changes nothing"
+        if not self.fault and all(it and it.name for it in rounds):
+            self.functions = frozenset(rounds)
+
+    def apply(self, crate, texts, rounds):
+        """Makes the changes in texts, notes what functions they stand in, and returns what keeps it from that."""
+        for file, old, new in changes(self.path.read_text()):
+            if not file or not old or file.split("/")[0] not in PARTS or not (crate / file).is_file():
+                return f"there is no file {file}, or no old text"
+            text = texts.setdefault(file, (crate / file).read_text())
+            if text.count(old) != 1:
+                return f"{file} has {text.count(old)} times: {old}"
+            # (a change leaves the number of lines as it is, so the bodies stand where they stood)
+            rounds.add(function_round(crate, file, text, text.index(old), len(old)) if file.startswith("src/") else None)
+            texts[file] = text.replace(old, new)
+        return None
+
+    def has_changed(self, crate, commit):
+        """Returns whether the edit, or what it changes, isn't what it was at a commit."""
+        paths = [str(it.relative_to(TOP)) for it in (self.path, *(crate / file for file in self.lines))]
+        told = subprocess.run(["git", "diff", "--name-only", commit, "--", *paths], cwd=TOP, stdout=subprocess.PIPE, text=True, check=True)
+        files = told.stdout.split()
+        is_new = subprocess.run(["git", "cat-file", "-e", f"{commit}:{paths[0]}"], cwd=TOP, stderr=subprocess.DEVNULL).returncode != 0
+        if self.fault or is_new or paths[0] in files or not self.functions:
+            return bool(self.fault or is_new or files)
+        for it in self.functions:
+            path = str((crate / it.file).relative_to(TOP))
+            shown = subprocess.run(["git", "show", f"{commit}:{path}"], cwd=TOP, stdout=subprocess.PIPE, stderr=subprocess.DEVNULL, text=True)
+            now, then = ((crate / it.file).read_text(), shown.stdout) if path in files else ("", "")
+            if text_of(crate, it.file, now, it) != text_of(crate, it.file, then, it):
+                return True
+        return False
+
+    def make(self, room):
+        """Makes the edit in a copy of the crate. What others of other functions change there are other lines."""
+        for file, found in self.lines.items():
+            lines = (room / file).read_text().split("\n")
+            for at, line in found.items():
+                lines[at] = line
+            (room / file).write_text("\n".join(lines))
+
+
+def parted(edits):
+    """Parts edits of bodies so that no function is changed by two of a batch."""
+    batches = []
+    for edit in edits:
+        batch = next((it for it in batches if not any(edit.functions & other.functions for other in it)), None)
+        if batch is None:
+            batches.append(batch := [])
+        batch.append(edit)
+    return batches
+
+
+# ---- Checks ----
+
+FUNCTION = re.compile(r"^fn (\S+): (.*)$", re.M)
+# What rattle says of a function: a goal of its own isn't proved, or it is proved but for the holes.
+OPEN = re.compile(r"^no proof: .*? did not prove `[^`]+`")
+WELL = re.compile(r"^(?:proved|no holes|depends on a hole)\b")
+NOTE = re.compile(r"^note: (src/\S+?):(\d+):\d+: (it is not proved [^;\n]*)", re.M)
+# An error in the answers of a function, at a goal or a lemma; and what says only that a name is gone.
+ANSWER = re.compile(r"^(?:\./)?proofs/(\S+)/(?:Answers|Invariants|Proof)\.antt:\d+:\d+: error: (`[^`]+`: .*)$", re.M)
+GONE = re.compile(r"has no field|is not in scope|has no `|(?:was|is) not admitted")
+# An error or an unproved goal anywhere.
+PLACED = re.compile(r"^(?:note: (?=.*: it is not proved ))?(?:\./)?((?:src|specs|proofs)/\S+?):(\d+):\d+: ((?:error: |it is not proved ).*)$", re.M)
+UNREAD = re.compile(r"is not in scope|has no field|is no name|operand is missing|expected the end|cannot continue")
+LIMITS = re.compile(r"antt ran out of (?:stack|the (?:steps|memory) that the check of one declaration may (?:take|use))|(?:outgrew the memory limit|stopped at the step limit) \(")
+# What can't be taken by its contract, for instance one of several functions that call each other and have one proof.
+RESERVED = re.compile(r"^\./proofs/(\S+)/Proof\.antt: error\[reserved-name\]", re.M)
+
+
+class Said:
+    """What a check of a crate with some edits said."""
+
+    def __init__(self, crate, status, text, is_late):
+        self.crate, self.status, self.text, self.is_late = crate, status, text, is_late
+        self.last = text.strip().rpartition("\n")[2][:200]
+        self.is_proved = status == 0 and self.last.startswith("logic=proved")
+        # (with any other last line rattle has judged nothing)
+        self.is_judged = status in (0, 1) and self.last.startswith(("logic=not-proved", "only="))
+        self.functions = dict(FUNCTION.findall(text))
+        self.placed = PLACED.findall(text)
+
+    def open_goal(self, edit):
+        """Returns the first unproved goal of a function's own, of those that the edit changes, or none."""
+        for function in edit.functions:
+            # (its closures have lines of their own)
+            for name in [it for it in self.functions if it == function.name or "::fn::" in it and it.replace("::fn::", "::").startswith(f"{function.name}::")]:
+                if own := OPEN.match(self.functions[name]):
+                    return self.noted(function) or own[0]
+                if self.functions[name].startswith("not proved") and (found := [it for it in self.answered(name) if not GONE.search(it)]):
+                    return found[0]
+        return None
+
+    def noted(self, function):
+        """Returns the first unproved goal that is placed in the function."""
+        for file, line, what in NOTE.findall(self.text):
+            near = [it for it in functions_in(self.crate, file, (self.crate / file).read_text()) if int(line) <= it.end + 1]
+            if near and near[0] == function:
+                return f"{file}:{line}: {what}"
+        return None
+
+    def answered(self, name):
+        """Returns the errors among the function's answers."""
+        path = "/".join(name.split("::")[1:])
+        # (the answers of a function that calls itself stand under its name with a plus)
+        return [f"proofs/{where}: {what[:160]}" for where, what in ANSWER.findall(self.text) if where.replace("+", "") == path]
+
+    def verdict(self, edit):
+        """Returns what an edit comes to that was tried alone, and why."""
+        if self.is_proved:
+            return MISSED, "the crate is proved with it"
+        if self.is_judged:
+            return self.of_bodies(edit) if edit.functions else self.of_others()
+        if self.is_late:
+            return UNKNOWN, f"its check had not ended after {MOST_SECONDS} seconds"
+        if self.status == 3 and (limit := LIMITS.search(self.text)):
+            return LIMIT, f"{limit[0]}: choose a change that it refuses sooner"
+        if self.status == 1 and (found := re.search(r"^.*\berror\[[\w-]+\].*$", self.text, re.M)):
+            return BAD, f"it doesn't reach the prover: {found[0][:200]}"
+        return UNKNOWN, f"its check ended with status {self.status}: {self.last}"
+
+    def of_bodies(self, edit):
+        told = {it.name: self.functions.get(it.name, "nothing is told of it") for it in edit.functions}
+        if goal := self.open_goal(edit):
+            return REFUSED, goal
+        if all(WELL.match(it) for it in told.values()):
+            return MISSED, "each goal of the functions that it changes is proved"
+        if lost := [it for name in told for it in self.answered(name)]:
+            return NAMES, f"change a value and keep the names, so that a goal is asked: {lost[0]}"
+        return UNKNOWN, "; ".join(f"{name}: {it}" for name, it in told.items())
+
+    def of_others(self):
+        asked = [it for it in self.placed if re.match(r"error: `[^`]+`: |it is not proved ", it[2])]
+        texts = [it for it in self.placed if it[0].startswith(("src/", "specs/"))]
+        unread = [it for it in texts if it not in asked or UNREAD.search(re.sub(r"`[^`]*`", "", it[2]))]
+        for what, found in (BAD, unread), (REFUSED, [it for it in asked if not GONE.search(it[2])]), (NAMES, self.placed):
+            if found and self.status:
+                return what, "{}:{}: {}".format(*found[0])[:200]
+        return UNKNOWN, self.last
+
+
+def words(name, *flags):
+    """Returns the command by which a crate is checked, as `rt` does it."""
+    root = "src/main.rt" if (TOP / "crates" / name / "src/main.rt").is_file() else "src/lib.rt"
+    found = [f"{KIT}/bin/rattle", "check", "--crate-name", name, root]
+    for it in dict.fromkeys(("std", *(it for it in USED[name] if it not in USED))):
+        found += ["--extern", f"{it}={KIT}/rlibs/{it}.rlib"]
+    found += ["-L", f"dependency={KIT}/rlibs"]
+    for it in USED[name]:
+        if it in USED:
+            found += ["--extern", f"{it}={library(it)}/{it}.rlib"]
+    for it in below(name):
+        found += ["-L", f"dependency={library(it)}"]
+    found += ["--antt-project", f"{KIT}/rattle/logic/antt-project.json", "--logic-built", f"{KIT}/logic_built"]
+    return [*found, "--links", f"{name}=", "--jobs", "1", *flags]
+
+
+RUNNING = set()
+
+
+def end_all(room):
+    """Ends this tool with all that it has started."""
+    for it in list(RUNNING):
+        with contextlib.suppress(ProcessLookupError):
+            os.killpg(it.pid, signal.SIGKILL)
+    shutil.rmtree(room, ignore_errors=True)
+    os._exit(1)
+
+
+def ran(command, room):
+    """Returns a command's status, what it said, whether it took too long, and the seconds of a processor that it took."""
+    it = subprocess.Popen(command, cwd=room, stdin=subprocess.DEVNULL, stdout=subprocess.PIPE, stderr=subprocess.STDOUT, start_new_session=True)
+    RUNNING.add(it)
+    late = threading.Event()
+
+    def end():
+        late.set()
+        with contextlib.suppress(ProcessLookupError):
+            os.killpg(it.pid, signal.SIGKILL)
+
+    timer = threading.Timer(MOST_SECONDS, end)
+    timer.start()
+    text = it.stdout.read().decode(errors="replace")
+    _, status, used = os.wait4(it.pid, 0)
+    timer.cancel()
+    RUNNING.discard(it)
+    it.stdout.close()
+    it.returncode = os.waitstatus_to_exitcode(status)
+    return it.returncode, text, late.is_set(), used.ru_utime + used.ru_stime
+
+
+def linked(folder, to):
+    """Copies what checks kept, by links where these can be made: a check replaces such a file, and writes into none."""
+
+    def copy(one, other):
+        if one.endswith(".oantt"):
+            with contextlib.suppress(OSError):
+                return os.link(one, other)
+        return shutil.copy2(one, other)
+
+    shutil.copytree(folder, to, symlinks=True, copy_function=copy)
+
+
+def sum_of(*folders):
+    """Returns a sum of all files of some folders."""
+    found = hashlib.sha256()
+    for folder in folders:
+        for path in sorted(it for it in folder.glob("**/*") if it.is_file()):
+            found.update(f"{path.relative_to(folder)} {hashlib.sha256(path.read_bytes()).hexdigest()}\n".encode())
+    return found.hexdigest()
+
+
+@functools.lru_cache(maxsize=None)
+def sum_of_library(name):
+    return sum_of(library(name))
+
+
+def sum_below(crate):
+    """Returns a sum of what the verdict on an edit of the crate stands on but the edit: its text, the libraries below, the kit and this tool."""
+    own = [hashlib.sha256(it.read_bytes()).hexdigest() for it in (KIT / "KIT-ID", KIT / "WHAT", pathlib.Path(__file__))]
+    return " ".join((*own, crate.name, *USED[crate.name], *map(sum_of_library, below(crate.name)), *(sum_of(crate / it) for it in PARTS)))
+
+
+# ---- Trials ----
+
+
+class Trial:
+    """The edits of one crate."""
+
+    def __init__(self, name, folders, room, turns, beside):
+        self.crate, self.room, self.turns, self.beside = TOP / "crates" / name, pathlib.Path(room, name), turns, beside
+        self.all = functions_of(self.crate)
+        self.laws = frozenset(it for it in self.all if it.name and "laws" in module_of(it.file))
+        # (harmless ones first, so that they stand in the largest batch)
+        self.edits = [Edit(self.crate, it) for folder in sorted(folders, key=lambda it: it != HARMLESS) for it in sorted((self.crate / folder).glob("*"))]
+        self.verdicts, self.closed, self.seconds, self.earlier = {}, set(), 0, 0
+        self.lock, self.numbers = threading.Lock(), itertools.count()
+
+    def failed(self):
+        return [it for it in self.edits if self.verdicts.get(it, (UNKNOWN,))[0] != (MISSED if it.is_harmless else REFUSED)]
+
+    def place(self, edit):
+        return KEPT / hashlib.sha256(f"{self.sum} {edit.is_harmless} {edit.path.read_text()}".encode()).hexdigest()
+
+    def is_known(self, edit):
+        """Tells what an earlier run came to, if there was one, and returns whether there was."""
+        with contextlib.suppress(OSError, ValueError):
+            what, why = json.loads(self.place(edit).read_text())
+            self.tell(edit, what, why)
+            self.earlier += 1
+            return True
+        return False
+
+    def tell(self, edit, what, why):
+        with self.lock:
+            self.verdicts[edit] = what, why
+            print(f"{edit.name}: {what}: {why}", flush=True)
+            # (it is kept where nothing that it was made from has changed meanwhile)
+            if self.beside and edit not in self.failed() and self.sum == sum_below(self.crate) and self.beside.are_its_own(self.crate.name):
+                with contextlib.suppress(OSError):
+                    KEPT.mkdir(mode=0o700, parents=True, exist_ok=True)
+                    new = KEPT / f"new-{os.getpid()}-{self.crate.name}"
+                    new.write_text(json.dumps(self.verdicts[edit]))
+                    new.replace(self.place(edit))
+
+    def next_room(self, name):
+        return self.room / f"{name}{next(self.numbers)}"
+
+    def check(self, edits, over, asked=()):
+        """Checks a copy of the crate with these edits, over what the folder holds: whole, or only the functions asked for, with each other taken by its contract."""
+        room = self.next_room("copy")
+        room.mkdir(parents=True)
+        for part in PARTS:
+            if (self.crate / part).is_dir():
+                shutil.copytree(self.crate / part, room / part)
+        for edit in edits:
+            edit.make(room)
+        flags = ["--incremental", str(over)]
+        if asked:
+            self.leave_open(room, asked)
+            flags += ["--allow-holes", *(word for it in sorted(it.name for it in asked) for word in ("--only", it.partition("::")[2]))]
+        for is_last in (False, True):
+            with self.turns:
+                status, text, is_late, seconds = ran(words(self.crate.name, *flags), room)
+            with self.lock:
+                self.seconds += seconds
+            # (killed, most likely for memory: once more)
+            if status != -signal.SIGKILL or is_late or is_last:
+                break
+        if "EDIT_LOGS" in os.environ:
+            pathlib.Path(os.environ["EDIT_LOGS"], f"{self.crate.name}.{room.name}").write_text("".join(f"{it.name}\n" for it in edits) + f"\n{text}")
+        shutil.rmtree(room, ignore_errors=True)
+        closed = {"::".join((self.crate.name, *it.split("/"))) for it in RESERVED.findall(text)} - self.closed
+        if asked and closed:
+            self.closed |= closed
+            return self.check(edits, over, asked)
+        return Said(self.crate, status, text, is_late)
+
+    def leave_open(self, room, asked):
+        """Writes a hole as the proof of each function but those asked for. A trait's and one that calls itself keep their own proofs."""
+        for it in self.all:
+            if it in asked or not it.name or it.name in self.closed or it.owner and it.owner[1] or "tests" in it.file or it.short == "main":
+                continue
+            path = it.name.split("::")[1:]
+            folder = room.joinpath("proofs", *path)
+            inside = "\n".join((self.crate / it.file).read_text().split("\n")[it.begin + 1 : it.end])
+            if re.search(rf"\b{it.short}\(", inside) or (folder.parent / f"+{it.short}").exists():
+                continue
+            shutil.rmtree(folder, ignore_errors=True)
+            folder.mkdir(parents=True)
+            stated = ".".join(("Rattle", self.crate.name, "proofs", *path, "Statement"))
+            text = f"use {stated} as stated\n\npub {it.short}_spec : {{M : Type 1}} → stated.statement M\n{it.short}_spec = ?\n"
+            (folder / "Proof.antt").write_text(text)
+
+    def together(self, edits, over):
+        """Tries edits of bodies in one check, what isn't refused so once more alone, and those of a check that judges nothing (one doesn't compile, say) in halves."""
+        said = self.check(edits, over, frozenset().union(*(it.functions for it in edits)))
+        if len(edits) == 1:
+            self.tell(edits[0], *said.verdict(edits[0]))
+        elif not said.is_judged:
+            self.together(edits[: len(edits) // 2], over)
+            self.together(edits[len(edits) // 2 :], over)
+        else:
+            goals = [(edit, said.open_goal(edit)) for edit in edits]
+            for edit, goal in goals:
+                if goal:
+                    self.tell(edit, REFUSED, goal)
+            for edit, goal in goals:
+                if not goal:
+                    self.together([edit], over)
+
+    def one_by_one(self, edits):
+        """Tries edits that change more than bodies: by the crate's laws, if it has some, and what they don't refuse by the whole crate."""
+
+        def tried(edit, start, asked):
+            over = self.next_room("over")
+            linked(start, over)
+            what, why = self.check([edit], over, asked).verdict(edit)
+            shutil.rmtree(over, ignore_errors=True)
+            if asked and what != REFUSED:
+                return edit
+            self.tell(edit, what, why)
+            return None
+
+        with ThreadPoolExecutor(PROCESSORS) as pool:
+            if self.laws:
+                said = self.check([], self.room / "kept", self.laws)
+                if said.is_judged and not said.status:
+                    edits = [it for it in pool.map(lambda it: tried(it, self.room / "kept", self.laws), edits) if it]
+            if edits:
+                said = self.check([], self.room / "seed")
+                if said.is_proved:
+                    list(pool.map(lambda it: tried(it, self.room / "seed", ()), edits))
+                else:
+                    for edit in edits:
+                        self.tell(edit, UNKNOWN, f"the crate isn't proved without it: {said.last}")
+
+    def run(self):
+        """Tries all edits."""
+        name = self.crate.name
+        if self.beside and not self.beside.awaits(name):
+            print(f"{name}: none of its edits was tried, since a library below it isn't proved", flush=True)
+            return
+        self.sum = self.beside and sum_below(self.crate)
+        for edit in [it for it in self.edits if it.fault]:
+            self.tell(edit, BAD, edit.fault)
+        edits = [it for it in self.edits if not it.fault and not (self.beside and self.is_known(it))]
+        kept = self.crate / "out" / "incremental"
+        self.room.mkdir()
+        for start in ("kept", "seed"):
+            if kept.is_dir() and not self.beside:
+                linked(kept, self.room / start)
+            else:
+                (self.room / start).mkdir()
+        for batch in parted([it for it in edits if it.functions]):
+            self.together(batch, self.room / "kept")
+        others = [it for it in edits if not it.functions]
+        if others:
+            self.one_by_one(others)
+        shutil.rmtree(self.room, ignore_errors=True)
+        if self.beside and not self.beside.are_its_own(name):
+            print(f"{name}: none of its edits counts, since its libraries were replaced by older ones", flush=True)
+            self.verdicts.clear()
+        count, failed = len(self.edits), len(self.failed())
+        print(f"{name}: {count - failed} as they must be, {self.earlier} of them by an earlier run, {failed} failed, in {self.seconds:.0f} s of a processor", flush=True)
+
+
+def by_kit(names):
+    """Has `rt must-fail` try the crates' edits in a copy."""
+    with tempfile.TemporaryDirectory(prefix="try-edits-") as room:
+        every = dict.fromkeys(it for name in names for it in (*below(name), name))
+        lines = (TOP / "crates.txt").read_text().split("\n")
+        pathlib.Path(room, "crates.txt").write_text("".join(f"{line}\n" for line in lines if line.partition(":")[0] in every))
+        shutil.copy(TOP / "HANDLES", room)
+        for name in every:
+            linked(TOP / "crates" / name, pathlib.Path(room, "crates", name))
+        for edit in [it for name in names for it in pathlib.Path(room, "crates", name, "edits").glob("*")]:
+            to = edit.parent.with_name("must-fail")
+            to.mkdir(exist_ok=True)
+            edit.rename(to / edit.name)
+        return subprocess.run(["rt", "must-fail", *names], cwd=room).returncode
+
+
+def main():
+    given = argparse.ArgumentParser(description=__doc__, formatter_class=argparse.RawDescriptionHelpFormatter)
+    given.add_argument("names", nargs="*")
+    given.add_argument("--since")
+    given.add_argument("--beside", type=pathlib.Path)
+    given.add_argument("--kit", action="store_true")
+    asked = given.parse_args()
+    folders = (*FOLDERS, "must-fail") if asked.since else FOLDERS
+    names = asked.names or [it for it in USED if any((TOP / "crates" / it / folder).is_dir() for folder in folders)]
+    if asked.kit:
+        sys.exit(by_kit(names))
+    beside = asked.beside and Beside(asked.beside)
+    jobs = max(1, PROCESSORS // 2) if beside else PROCESSORS
+    turns = threading.Semaphore(jobs)
+    with tempfile.TemporaryDirectory(prefix="try-edits-") as room:
+        signal.signal(signal.SIGTERM, lambda *_: end_all(room))
+        trials = [Trial(it, folders, room, turns, beside) for it in names]
+        for it in trials if asked.since else ():
+            it.edits = [edit for edit in it.edits if edit.has_changed(it.crate, asked.since)]
+        trials = [it for it in trials if it.edits]
+        if not beside:
+            make_libraries([it.crate.name for it in trials])
+        with ThreadPoolExecutor(len(trials) + 1) as pool:
+            runs = [pool.submit(it.run) for it in trials]
+            # (once the other run has ended its processors are free)
+            while beside and not beside.has_ended() and not all(it.done() for it in runs):
+                time.sleep(2)
+            for _ in range(PROCESSORS - jobs):
+                turns.release()
+            for it in runs:
+                it.result()
+    failed = [edit for it in trials for edit in it.failed()]
+    for edit in failed:
+        print(f"FAILED: {edit.name}")
+    print(f"edits: {sum(len(it.edits) for it in trials) - len(failed)} as they must be, {len(failed)} failed, in {sum(it.seconds for it in trials):.0f} s of a processor")
+    sys.exit(len(failed) > 0)
+
+
+if __name__ == "__main__":
+    main()
