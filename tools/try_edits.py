@@ -283,7 +283,7 @@ WELL = re.compile(r"^(?:proved|no holes|depends on a hole)\b")
 NOTE = re.compile(r"^note: (src/\S+?):(\d+):\d+: (it is not proved [^;\n]*)", re.M)
 # An error in the answers of a function, at a goal or a lemma; and what says only that a name is gone.
 ANSWER = re.compile(r"^(?:\./)?proofs/(\S+)/(?:Answers|Invariants|Proof)\.antt:\d+:\d+: error: (`[^`]+`: .*)$", re.M)
-GONE = re.compile(r"has no field|is not in scope|has no `|(?:was|is) not admitted")
+GONE = re.compile(r"has no field|record `[^`]+` \(nearest: |is not in scope|has no `|is no constructor of|write one of its constructors|(?:was|is) not admitted")
 # An error or an unproved goal anywhere.
 PLACED = re.compile(r"^(?:note: (?=.*: it is not proved ))?(?:\./)?((?:src|specs|proofs)/\S+?):(\d+):\d+: ((?:error: |it is not proved ).*)$", re.M)
 UNREAD = re.compile(r"is not in scope|has no field|is no name|operand is missing|expected the end|cannot continue")
@@ -379,22 +379,24 @@ def words(name, *flags):
     return [*found, "--links", f"{name}=", "--jobs", "1", *flags]
 
 
-RUNNING = set()
+RUNNING, STARTING = set(), threading.Lock()
 
 
 def end_all(room):
     """Ends this tool with all that it has started."""
-    for it in list(RUNNING):
-        with contextlib.suppress(ProcessLookupError):
-            os.killpg(it.pid, signal.SIGKILL)
-    shutil.rmtree(room, ignore_errors=True)
-    os._exit(1)
+    with STARTING:
+        for it in RUNNING:
+            with contextlib.suppress(ProcessLookupError):
+                os.killpg(it.pid, signal.SIGKILL)
+        shutil.rmtree(room, ignore_errors=True)
+        os._exit(1)
 
 
 def ran(command, room):
     """Returns a command's status, what it said, whether it took too long, and the seconds of a processor that it took."""
-    it = subprocess.Popen(command, cwd=room, stdin=subprocess.DEVNULL, stdout=subprocess.PIPE, stderr=subprocess.STDOUT, start_new_session=True)
-    RUNNING.add(it)
+    with STARTING:
+        it = subprocess.Popen(command, cwd=room, stdin=subprocess.DEVNULL, stdout=subprocess.PIPE, stderr=subprocess.STDOUT, start_new_session=True)
+        RUNNING.add(it)
     late = threading.Event()
 
     def end():
@@ -407,7 +409,8 @@ def ran(command, room):
     text = it.stdout.read().decode(errors="replace")
     _, status, used = os.wait4(it.pid, 0)
     timer.cancel()
-    RUNNING.discard(it)
+    with STARTING:
+        RUNNING.discard(it)
     it.stdout.close()
     it.returncode = os.waitstatus_to_exitcode(status)
     return it.returncode, text, late.is_set(), used.ru_utime + used.ru_stime

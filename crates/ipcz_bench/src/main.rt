@@ -15,7 +15,8 @@ const USAGE: &str = "usage: ipcz_bench MEASURE [ROUNDS]
 nanoseconds a parcel: one_node two_nodes long_parcels last_pair each_pair waiting_1 waiting_10 waiting_100 waiting_1000
 nanoseconds an act: act
 nanoseconds a move, with ten parcels after it: moves
-bytes a pair: fresh_pairs used_pairs
+nanoseconds a pair that is opened, used and closed: lives
+bytes a pair: fresh_pairs used_pairs closed_pairs
 hundredths, a world's limit by its acts, of so many worlds: limit_least limit_median limit_worst moved_least moved_median moved_worst";
 
 // How many rounds there are where none are asked for.

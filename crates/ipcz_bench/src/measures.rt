@@ -1,7 +1,9 @@
 //! What each measure does, and how long it takes.
 use crate::fault::Fault;
 use crate::limits::looseness_at;
-use crate::trial::{Portal, first_pair, get_all, open, open_all, pass, put, put_all, settle};
+use crate::trial::{
+    Portal, close, first_pair, get_all, open, open_all, pass, put, put_all, settle,
+};
 use ipcz_world::World;
 use std::fs;
 use std::time::Instant;
@@ -29,6 +31,8 @@ pub fn measure(rt: &HostRuntime, name: &str, rounds: u64) -> Result<u64, Fault> 
         "waiting_1000" => between_two_nodes(rt, SHORT, 1000, rounds),
         "act" => acts_alone(rt, rounds),
         "moves" => moves(rt, rounds),
+        "lives" => lives(rt, rounds),
+        "closed_pairs" => bytes_of_closed_pairs(rt),
         "fresh_pairs" => bytes_of_pairs(rt, 0),
         "used_pairs" => bytes_of_pairs(rt, 1),
         "limit_least" => looseness_at(rt.alloc(), rounds, false, 0),
@@ -179,6 +183,46 @@ fn bytes_of_pairs(rt: &HostRuntime, rounds: u64) -> Result<u64, Fault> {
         let (from, to) = open(&mut world)?;
         pass(rt.alloc(), &mut world, from, to, SHORT, rounds)?;
         pass(rt.alloc(), &mut world, to, from, SHORT, rounds)?;
+    }
+    Ok(resident(rt)?.saturating_sub(before) / (4 * PAIRS as u64))
+}
+
+// Opens a pair on one node, passes a parcel each way, and closes both of its portals.
+fn live(rt: &HostRuntime, world: &mut World) -> Result<(), Fault> {
+    let (from, to) = open(world)?;
+    pass(rt.alloc(), world, from, to, SHORT, 1)?;
+    pass(rt.alloc(), world, to, from, SHORT, 1)?;
+    close(world, from)?;
+    close(world, to)?;
+    settle(world)?;
+    Ok(())
+}
+
+// So many pairs that are opened, used and closed, each before the next, in a world of their own.
+fn live_and_leave(rt: &HostRuntime, count: u64) -> Result<(), Fault> {
+    let mut world = World::new(rt.alloc(), 1, 4096)?;
+    for _ in 0..count {
+        live(rt, &mut world)?;
+    }
+    Ok(())
+}
+
+// The lives of pairs, in as many worlds as they take.
+fn lives(rt: &HostRuntime, rounds: u64) -> Result<u64, Fault> {
+    let start = Instant::now(rt)?;
+    for _ in 0..rounds / (4 * PAIRS as u64) {
+        live_and_leave(rt, 4 * PAIRS as u64)?;
+    }
+    live_and_leave(rt, rounds % (4 * PAIRS as u64))?;
+    share(rt, start, rounds)
+}
+
+// What memory is left of a pair that was used and closed on one node, of 4,000.
+fn bytes_of_closed_pairs(rt: &HostRuntime) -> Result<u64, Fault> {
+    let mut world = World::new(rt.alloc(), 1, 4096)?;
+    let before = resident(rt)?;
+    for _ in 0..4 * PAIRS {
+        live(rt, &mut world)?;
     }
     Ok(resident(rt)?.saturating_sub(before) / (4 * PAIRS as u64))
 }

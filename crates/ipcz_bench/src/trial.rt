@@ -42,6 +42,19 @@ pub fn open(world: &mut World) -> Result<(Portal, Portal), Fault> {
     }
 }
 
+/// Closes a portal.
+pub fn close(world: &mut World, at: Portal) -> Result<(), Fault> {
+    let step = Step::Close {
+        node: at.node,
+        at: at.end,
+    };
+    match world.step(&step) {
+        Reply::Closed(_) => Ok(()),
+        Reply::Refused(why) => Err(Fault::Refused(why)),
+        _ => Err(Fault::Refused(Refusal::Stranger)),
+    }
+}
+
 /// The last of so many new pairs on node 0.
 pub fn open_all(world: &mut World, pairs: u32) -> Result<(Portal, Portal), Fault> {
     let mut last = open(world)?;

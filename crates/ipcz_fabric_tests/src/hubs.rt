@@ -546,3 +546,60 @@ fn callers_and_workers_share_a_hub(rt: HostRuntime) -> Result<(), Fail> {
     assert!(rt; four_callers::<Brand, _>(&rt, rt.alloc(), blank) == Some(true));
     Ok(())
 }
+
+// Lets both nodes act, and closes a portal.
+fn acts_and_closes<F: FabricName, R: Wait>(rt: &R, hub: &Hub<F>, portal: Portal<F>) -> Option<u64> {
+    act(rt, hub);
+    portal.close(rt, hub).ok()
+}
+
+// The numbers of the marks where a portal of a pair is moved to node 1, and both are closed.
+fn moves_and_closes<F: FabricName, R: Wait>(
+    rt: &R,
+    hub: &Hub<F>,
+    alloc: Global,
+    here: &Portal<F>,
+    there: &Portal<F>,
+) -> Option<(u64, u64)> {
+    let (kept, sent) = hub.open_pair(rt, 0).ok()?;
+    let moved = moves(rt, hub, alloc, here, there, sent)?;
+    let first = acts_and_closes(rt, hub, moved)?;
+    let second = acts_and_closes(rt, hub, kept)?;
+    act(rt, hub);
+    Some((first, second))
+}
+
+// The same, and how many routers the two nodes have in the world that the hub's cells show.
+fn left_over<F: FabricName, R: Wait>(
+    rt: &R,
+    alloc: Global,
+    blank: Blank,
+) -> Option<((u64, u64), [Option<usize>; 2])>
+    requires { blank ≡ F.table }
+{
+    let Ok((fabric, cells)) = blank.name::<F>() else {
+        return None;
+    };
+    let Ok((hub, mut portals)) = Hub::new(fabric, cells) else {
+        return None;
+    };
+    let there = portals.pop()?;
+    let here = portals.pop()?;
+    let marks = moves_and_closes(rt, &hub, alloc, &here, &there)?;
+    let Ok((fabric, cells)) = hub.into_cells() else {
+        return None;
+    };
+    match finish(fabric, cells) {
+        Ok(world) => Some((marks, [world.routers(0), world.routers(1)])),
+        Err(_) => None,
+    }
+}
+
+#[test]
+fn a_pair_that_is_closed_by_its_portals_is_gone(rt: HostRuntime) -> Result<(), Fail> {
+    let blank = start(rt.alloc(), 2, 4)?;
+    assert!(rt;
+        left_over::<Brand, _>(&rt, rt.alloc(), blank) == Some(((0, 0), [Some(1), Some(1)]))
+    );
+    Ok(())
+}

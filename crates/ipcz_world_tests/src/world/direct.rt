@@ -1,9 +1,10 @@
 //! Portals that move twice, and what a settle then promises: all has arrived, over one link without a proxy.
 
-ghost use Rattle.std.specs.Prelude.{◌≡◌, ℕ, true, IfOk};
-ghost use Rattle.ipcz_world.specs.Books.{Books};
+ghost use Rattle.std.specs.Prelude.{◌≡◌, ℕ, true, false, IfOk};
+ghost use Rattle.ipcz_base.specs.Ends.{end_at};
+ghost use Rattle.ipcz_world.specs.Books.{Books, is_closed};
 ghost use Rattle.ipcz_world.specs.Lawful.{Lawful};
-ghost use Rattle.ipcz_world.specs.Owed.{IsWet, IsDirect, HasNoProxies};
+ghost use Rattle.ipcz_world.specs.Owed.{IsWet, IsDirect, HasNoProxies, HasNoClosedPairs};
 ghost use Rattle.ipcz_world.specs.Routes.{Routes, is_opened};
 
 use super::{get, is_got, is_put, is_refused, put};
@@ -109,11 +110,12 @@ const CARRIED: [Carried; 5] = [
     },
 ];
 
-// Whether the world settles within so many acts. Where it does and no router has found the words used up, no proxy is left and each open
-// pair is direct.
+// Whether the world settles within so many acts. Where it does and no router has found the words used up, no proxy is left, nor a router of
+// a pair with both ends closed, and each other open pair is direct.
 fn settles(world: &mut World, limit: u64) -> Result<bool, Refusal>
     ensures direct { IfOk result (λ settled. (b : Books) → (g : Routes) → settled ≡ true → Lawful world.new b g → IsWet world.new →
-        HasNoProxies world.new × ((pair : ℕ) → is_opened g pair ≡ true → IsDirect world.new b pair)) }
+        HasNoProxies world.new × HasNoClosedPairs world.new b ×
+        ((pair : ℕ) (s : Side) → is_opened g pair ≡ true → is_closed b (end_at pair s) ≡ false → IsDirect world.new b pair)) }
 {
     a_settled_world_is_direct();
     Ok(matches!(world.settle(limit)?, Settled::Settled { .. }))

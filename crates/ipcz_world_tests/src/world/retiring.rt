@@ -172,6 +172,36 @@ fn a_closed_pair_leaves_two_nodes_after_a_bypass(rt: HostRuntime) -> Result<(), 
     Ok(())
 }
 
+// Both ends have moved from node 0 to node 1, and neither proxy has found a word. No sink has a link with a word, so none can lock it: such
+// a pair stays though both its ends are closed.
+const BETWEEN_PROXIES: [Call; 10] = [
+    Call::Open(0, A1, B1),
+    Call::Put(0, A0, b"m", &[A1, B1], 0),
+    Call::SettleWithin(1000),
+    Call::Get(1, B0, 0, b"m", &[A1, B1]),
+    Call::Close(1, A1, 0),
+    Call::Close(1, B1, 0),
+    Call::SettleWithin(1000),
+    Call::Word(1, Some(3)),
+    Call::Routers(0, Some(3)),
+    Call::Routers(1, Some(3)),
+];
+
+// How many calls give what they should, on a world of two nodes and two words.
+fn given_on_two_nodes(alloc: Global, calls: &[Call]) -> Result<usize, Refusal> {
+    let mut world = World::new(alloc, 2, 2)?;
+    Ok(given(&mut world, alloc, calls)?)
+}
+
+#[test]
+fn a_closed_pair_stays_between_two_proxies_without_a_word(rt: HostRuntime) -> Result<(), Fail> {
+    assert_eq!(rt;
+        given_on_two_nodes(rt.alloc(), &BETWEEN_PROXIES)?,
+        BETWEEN_PROXIES.len()
+    );
+    Ok(())
+}
+
 // The limits of a terminal that has nothing to pass, and of each number that it has still to pass.
 const TERMINAL: u64 = 41;
 

@@ -11,7 +11,7 @@ use std::test::Fail;
 
 const NODES: u8 = 4;
 
-const WORDS: u32 = 4096;
+const WORDS: u32 = 1024;
 
 /// How many words a round takes at most.
 const WORDS_OF_A_ROUND: u32 = 16;
@@ -337,7 +337,7 @@ fn live_and_die(alloc: Global) -> Result<(), Wrong> {
     let mut soak = Soak::new(alloc)?;
     let (rounds, first, second) = soak.use_words()?;
     agree(soak.world.claimed() == WORDS, Wrong::Words)?;
-    agree(rounds > 500, Wrong::Words)?;
+    agree(rounds > 100, Wrong::Words)?;
     soak.close(first, rounds)?;
     soak.close(second, rounds)?;
     soak.settle()?;
