@@ -9,7 +9,6 @@ ghost use Rattle.ipcz_router.specs.Calls.{accept, accept_refusal, has_place_for}
 ghost use Rattle.ipcz_router.specs.ActTable.{may_take};
 ghost use Rattle.ipcz_router.specs.ActEffects.{apply, output_of};
 ghost use Rattle.ipcz_router.specs.Carrying.{carried_by};
-ghost use Rattle.ipcz_router.specs.RoomyRouters.{room_for};
 ghost use Rattle.ipcz_node.specs.Rooms.{put_filed, HasQueueRoom, rooms_for};
 
 use super::Directory;
