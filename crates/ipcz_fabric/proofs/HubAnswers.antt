@@ -1,12 +1,13 @@
 -- What the calls of a hub answer, where the calls of its cells answer so.
-use Rattle.std.specs.Prelude.{◌≡◌, ◌<◌, ℕ, Bool, true, false, if◌then◌else◌, Option, Some, None, Result, Ok, Err, unwrap_or}
+use Rattle.std.specs.Prelude.{◌≡◌, ◌<◌, ℕ, Bool, true, false, if◌then◌else◌, Option, Some, None, Result, Ok, Err, IfOk, IfErr, unwrap_or}
 use Rattle.std.proofs.Common.{arith, ap, sym, subst, ◌∙◌, inl, inr}
 use Rattle.ipcz_base.specs.declared.end.End.{End}
 use Rattle.ipcz_base.specs.declared.refusal.Refusal.{Refusal}
 use Rattle.ipcz_base.specs.declared.refusal.Refusal.TheVariants as refusals
 use Rattle.ipcz_base.specs.Limits.{has_serials}
 use Rattle.ipcz_cell.specs.CellStates.{CellState}
-use Rattle.ipcz_fabric.specs.Hubs.{ArePair, IsOpenRefusal}
+use Rattle.ipcz_cell.specs.TableNames.{TableName}
+use Rattle.ipcz_fabric.specs.Hubs.{ArePair, IsOpenRefusal, OpensPortals, opened_portals}
 use Rattle.ipcz_cell.specs.Opens.{OpensPair, OpensWord, UnderWay, Fresh, NoneLeft, Unready, Lost}
 use Rattle.ipcz_fabric.specs.Portals.{PortalValue, portal_at}
 
@@ -27,7 +28,7 @@ serials_why true why e = inr (inr (inl e))
 serials_why false why e = inr (inl e)
 
 -- the open of a pair at a cell is refused for one of these
-pub open_why : (size : ℕ) (old new : CellState) (why : Refusal) → OpensPair size old new (Err why) → IsOpenRefusal why
+open_why : (size : ℕ) (old new : CellState) (why : Refusal) → OpensPair size old new (Err why) → IsOpenRefusal why
 open_why size old new why (UnderWay ends e inside how) = cc
 open_why size old new why (Fresh n ends e idle few reached how) = cc
 open_why size old new why (NoneLeft e idle seen) = inl (ap (refusal_in why) e)
@@ -52,8 +53,40 @@ ends_pair size node old new a b (NoneLeft e idle seen) = cc
 ends_pair size node old new a b (Unready e part seen) = cc
 ends_pair size node old new a b (Lost n found e idle fine few apart part seen) = cc
 
--- the portals of the ends that a cell opens are those of a pair, of both sides
-pub pair_of : (size node : ℕ) (old new : CellState) (a b : End) (p q : PortalValue) → p ≡ portal_at node a → q ≡ portal_at node b →
-    OpensPair size old new (Ok (a, b)) → ArePair size node (p, q)
-pair_of size node old new a b p q first second opens =
-    subst (ArePair size node) (λ j. (sym first j, sym second j)) (ends_pair size node old new a b opens)
+portals_in : PortalValue × PortalValue → Result (PortalValue × PortalValue) Refusal → PortalValue × PortalValue
+portals_in other (Ok portals) = portals
+portals_in other (Err why) = other
+
+portals_why : Refusal → Result (PortalValue × PortalValue) Refusal → Refusal
+portals_why other (Ok portals) = other
+portals_why other (Err why) = why
+
+refused_by : (t : TableName) (node : ℕ) (old new : CellState) (why : Refusal) (ends : Result (End × End) Refusal) → OpensPair t.size old new ends →
+    Err why ≡ opened_portals node ends → IsOpenRefusal why
+unfolding portals_why
+refused_by t node old new why (Ok ends) opens is = cc
+refused_by t node old new why (Err other) opens is = subst IsOpenRefusal (sym (ap (portals_why why) is)) (open_why t.size old new other opens)
+
+-- an open of portals is refused for one of these
+pub portals_refused : (t : TableName) (node : ℕ) (old new : CellState) (answer : Result (PortalValue × PortalValue) Refusal) →
+    OpensPortals t node old answer new → IfErr answer IsOpenRefusal
+portals_refused t node old new (Ok portals) opens = tt
+portals_refused t node old new (Err why) opens = refused_by t node old new why opens.0 opens.1 opens.2
+
+pair_by : (t : TableName) (node : ℕ) (old new : CellState) (portals : PortalValue × PortalValue) (ends : Result (End × End) Refusal) →
+    OpensPair t.size old new ends → Ok portals ≡ opened_portals node ends → ArePair t.size node portals
+unfolding portals_in
+pair_by t node old new portals (Ok ends) opens is = subst (ArePair t.size node) (sym (ap (portals_in portals) is)) (ends_pair t.size node old new ends.0 ends.1 opens)
+pair_by t node old new portals (Err other) opens is = cc
+
+-- the portals that a cell opens are those of a pair, of both sides
+pub portals_pair : (t : TableName) (node : ℕ) (old new : CellState) (answer : Result (PortalValue × PortalValue) Refusal) →
+    OpensPortals t node old answer new → IfOk answer (ArePair t.size node)
+portals_pair t node old new (Ok portals) opens = pair_by t node old new portals opens.0 opens.1 opens.2
+portals_pair t node old new (Err why) opens = tt
+
+-- and of its node
+pub portals_node : (size node : ℕ) (answer : Result (PortalValue × PortalValue) Refusal) → IfOk answer (ArePair size node) →
+    IfOk answer (λ (p : PortalValue × PortalValue). (p.0.node ≡ node) × (p.1.node ≡ node))
+portals_node size node (Ok portals) pair = (ap (λ (p : PortalValue × PortalValue). p.0.node) pair.are, ap (λ (p : PortalValue × PortalValue). p.1.node) pair.are)
+portals_node size node (Err why) pair = tt

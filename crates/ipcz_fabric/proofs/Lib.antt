@@ -2,3 +2,4 @@ pub mod Working
 pub mod Portaling
 pub mod Holding
 pub mod HubAnswers
+pub mod Locking

@@ -15,6 +15,9 @@ use Rattle.ipcz_router.specs.Router.{Router}
 use Rattle.ipcz_router.specs.Calls.{item_refusal, next_number, router_get_refusal, router_put_refusal}
 use Rattle.ipcz_node.specs.Node.{Node, Found, terminal_of, holds_end}
 use Rattle.ipcz_node.specs.Calls.{refusal_at, are_held_once, are_too_many, put_refusal, get_refusal, close_refusal}
+use Rattle.ipcz_rule.specs.declared.view.Part.{Part}
+use Rattle.ipcz_rule.specs.Steps.{put_part}
+use Rattle.ipcz_fabric.specs.Places.{IsRefusedFor}
 use Rattle.ipcz_fabric.specs.Portals.{PortalValue, ends_of, portals_at, parcel_refusal, IsPutRefusal, IsGetRefusal, IsCloseRefusal}
 
 item_why : (o : Option Item) (e : Refusal) → item_refusal o ≡ Some e → IsGetRefusal e
@@ -34,9 +37,18 @@ held_why true t e h = terminal_why t e h
 held_why false t e h = inr (inl cc)
 
 -- a get at a node is refused for one of these
-pub get_why : (n : Node) (at : End) (e : Refusal) → get_refusal n at ≡ Some e → IsGetRefusal e
+get_why : (n : Node) (at : End) (e : Refusal) → get_refusal n at ≡ Some e → IsGetRefusal e
 unfolding get_refusal
 get_why n at e h = held_why (holds_end n at) (terminal_of n at) e h
+
+pub get_refused : (n : Node) (at : End) (e : Refusal) → IsRefusedFor (get_refusal n at) e → IsGetRefusal e
+get_refused n at e (inl h) = inl h
+get_refused n at e (inr h) = get_why n at e h
+
+-- what is answered where a call may want memory besides
+pub refused_for : (reason : Option Refusal) (e : Refusal) → e ≡ unwrap_or reason refusals.OutOfMemory → IsRefusedFor reason e
+refused_for None e h = inl h
+refused_for (Some why) e h = inr (ap Some (sym h))
 
 open_why : (t : Option Found) (e : Refusal) → e ≡ unwrap_or (refusal_at t (λ (r : Router). None)) refusals.OutOfMemory → IsCloseRefusal e
 unfolding refusal_at
@@ -68,6 +80,10 @@ fits_by true false true false false each at e = refl
 pub put_here : (n : Node) (at at' : End) (bytes bytes' : List ℕ) (ends ends' : List End) → at ≡ at' → bytes ≡ bytes' → ends ≡ ends' →
     put_refusal n at bytes ends ≡ put_refusal n at' bytes' ends'
 put_here n at at' bytes bytes' ends ends' same_at same_bytes same_ends = λ j. put_refusal n (same_at j) (same_bytes j) (same_ends j)
+
+pub part_here : (p : Part) (at at' : End) (bytes bytes' : List ℕ) (ends ends' : List End) → at ≡ at' → bytes ≡ bytes' → ends ≡ ends' →
+    put_part at bytes ends p ≡ put_part at' bytes' ends' p
+part_here p at at' bytes bytes' ends ends' same_at same_bytes same_ends = λ j. put_part (same_at j) (same_bytes j) (same_ends j) p
 
 pub put_fits : (n : Node) (at : End) (bytes : List ℕ) (ends : List End) → put_refusal n at bytes ends ≡ None → parcel_refusal at bytes ends ≡ None
 unfolding put_refusal
@@ -114,11 +130,16 @@ put_why_by true false true false false false at e rest h = inr (inl h)
 put_why_by true false true false false true at e rest h = fitting_why e (rest h)
 
 -- a put at a node is refused for one of these
-pub put_why : (n : Node) (at : End) (bytes : List ℕ) (ends : List End) (e : Refusal) → e ≡ unwrap_or (put_refusal n at bytes ends) refusals.OutOfMemory →
+put_why : (n : Node) (at : End) (bytes : List ℕ) (ends : List End) (e : Refusal) → e ≡ unwrap_or (put_refusal n at bytes ends) refusals.OutOfMemory →
     IsPutRefusal at bytes ends e
 unfolding put_refusal PutRefusedFor
 put_why n at bytes ends e h = put_why_by (holds_end n at) (are_too_many bytes ends) (is_printable bytes) (has_end at ends) (has_end (opposite_end at) ends)
     (are_held_once n ends) (refusal_at (terminal_of n at) router_put_refusal) e (router_why (terminal_of n at) e) h
+
+pub put_refused : (n : Node) (at : End) (bytes : List ℕ) (ends : List End) (e : Refusal) → IsRefusedFor (put_refusal n at bytes ends) e →
+    IsPutRefusal at bytes ends e
+put_refused n at bytes ends e (inl h) = inl h
+put_refused n at bytes ends e (inr h) = put_why n at bytes ends e (sym (ap (λ (o : Option Refusal). unwrap_or o refusals.OutOfMemory) h))
 
 one_more : (node : ℕ) (e : End) (es : List End) → All (λ (p : PortalValue). p.node ≡ node) (portals_at node es) → (k : ℕ) (d : PortalValue) →
     k < length (portals_at node (e ∷ es)) → (slice_index_or (portals_at node (e ∷ es)) k d).node ≡ node
@@ -130,15 +151,8 @@ all_there node [] = λ k d h. absurd (omega (arith, h))
 all_there node (e ∷ es) = one_more node e es (all_there node es)
 
 -- each portal of a get is of the node where it was got
-pub are_there : (node there : ℕ) (ends : List End) (before after : List PortalValue) → node ≡ there → before ≡ [] → after ≡ before ++ portals_at node (take 8 ends) →
-    All (λ (p : PortalValue). p.node ≡ there) after
-are_there node there ends before after here none is = subst (λ (n : ℕ). All (λ (p : PortalValue). p.node ≡ n) after) here
-    (subst (All (λ (p : PortalValue). p.node ≡ node)) (sym (is ∙ ap (λ (l : List PortalValue). l ++ portals_at node (take 8 ends)) none)) (all_there node (take 8 ends)))
-
--- the portals of a get are those of the parcel's ends
-pub portals_here : (node there : ℕ) (ends those : List End) (before after : List PortalValue) → node ≡ there → before ≡ [] → ends ≡ those →
-    after ≡ before ++ portals_at node (take 8 ends) → after ≡ portals_at there (take 8 those)
-portals_here node there ends those before after here none same is = is ∙ (λ j. none j ++ portals_at (here j) (take 8 (same j)))
+pub are_there : (here : ℕ) (ends : List End) (portals : List PortalValue) → portals ≡ portals_at here (take 8 ends) → All (λ (p : PortalValue). p.node ≡ here) portals
+are_there here ends portals is = subst (All (λ (p : PortalValue). p.node ≡ here)) (sym is) (all_there here (take 8 ends))
 
 -- the ends of one portal more
 pub ends_more : (portals : List PortalValue) (i : ℕ) (p : PortalValue) (ends after : List End) → i < length portals → p ≡ slice_index_or portals i p → ends ≡ ends_of (take i portals) →

@@ -1,6 +1,5 @@
 -- The portals that a hub begins with: one for each end that callers of its nodes hold, by node and then by the serial of the end's
--- terminal. What its calls answer: what stands under a lock has no name, so they say that there is a state of a cell in which the call of
--- the cell answers so.
+-- terminal. What its calls answer: what the call of some cell of the node answers.
 use Rattle.std.specs.Prelude.{◌≡◌, ◌⊎◌, ◌<◌, ◌≤◌, ◌+◌, ◌^◌, ℕ, List, [], ◌∷◌, ◌++◌, Some, None, Result, Ok, Err}
 use Rattle.ipcz_base.specs.declared.end.End.{End}
 use Rattle.ipcz_base.specs.declared.side.Side.TheVariants.{A, B}
@@ -13,6 +12,7 @@ use Rattle.ipcz_node.specs.Finding.{IsNextHeld}
 use Rattle.ipcz_cell.specs.TableNames.{TableName}
 use Rattle.ipcz_cell.specs.CellStates.{CellState}
 use Rattle.ipcz_cell.specs.Opens.{OpensPair}
+use Rattle.ipcz_fabric.specs.Places.{CellWhere}
 use Rattle.ipcz_fabric.specs.Portals.{PortalValue, portal_at, portals_at}
 use Rattle.ipcz_cell.specs.TurnEnds.{Turns}
 
@@ -45,9 +45,9 @@ IsTurnRefusal why = (why ≡ refusals.NumbersEnd) ⊎ (why ≡ refusals.OutOfMem
 abbrev pub IsOpenRefusal : Refusal → Type 0
 IsOpenRefusal why = (why ≡ refusals.NoWord) ⊎ (why ≡ refusals.NumbersEnd) ⊎ (why ≡ refusals.OutOfMemory) ⊎ (why ≡ refusals.Raced)
 
--- a turn of a cell answers this
-abbrev pub IsTurnAnswer : TableName → Result Happened Refusal → Type 0
-IsTurnAnswer t answer = (old new : CellState) × Turns t old answer new
+-- a turn of a node answers this
+abbrev pub IsTurnAnswer : TableName → ℕ → Result Happened Refusal → Type 0
+IsTurnAnswer t node answer = CellWhere t node (λ old. (new : CellState) × Turns t old answer new)
 
 -- portals of both sides of a pair, at a node: the pair is that of a link word
 pub record ArePair (size node : ℕ) (portals : PortalValue × PortalValue) : Type 0 where
@@ -60,7 +60,11 @@ abbrev pub opened_portals : ℕ → Result (End × End) Refusal → Result (Port
 opened_portals node (Ok ends) = Ok (portal_at node ends.0, portal_at node ends.1)
 opened_portals node (Err why) = Err why
 
--- the open of a pair at a cell answers these portals' ends
-abbrev pub IsOpenAnswer : TableName → ℕ → Result (PortalValue × PortalValue) Refusal → Type 0
-IsOpenAnswer t node answer = (old new : CellState) × (ends : Result (End × End) Refusal) × OpensPair t.size old new ends ×
+-- the open of a pair at a cell answers these portals, and leaves this cell
+abbrev pub OpensPortals : TableName → ℕ → CellState → Result (PortalValue × PortalValue) Refusal → CellState → Type 0
+OpensPortals t node old answer new = (ends : Result (End × End) Refusal) × OpensPair t.size old new ends ×
     (answer ≡ opened_portals node ends)
+
+-- the open of a pair at a node answers these portals
+abbrev pub IsOpenAnswer : TableName → ℕ → Result (PortalValue × PortalValue) Refusal → Type 0
+IsOpenAnswer t node answer = CellWhere t node (λ old. (new : CellState) × OpensPortals t node old answer new)

@@ -1,3 +1,4 @@
+pub mod Places
 pub mod Portals
 pub mod Hubs
 pub mod Workers

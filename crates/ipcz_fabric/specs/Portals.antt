@@ -1,14 +1,16 @@
--- Portals: what a clause sees of one, what a call of one answers, and why it may be refused. What stands under the node's lock has no
--- name, so what a call answers is said by a state of the node: there is one in which the call of the node answers so.
-use Rattle.std.specs.Prelude.{◌≡◌, ◌⊎◌, ℕ, not, if◌then◌else◌, Option, Some, None, List, map, take}
+-- Portals: what a clause sees of one, what a call of one answers, and why it may be refused: what the call of some cell of its node
+-- answers.
+use Rattle.std.specs.Prelude.{◌≡◌, ◌⊎◌, ℕ, not, if◌then◌else◌, Option, Some, None, List, map, take, unwrap_or}
 use Rattle.ipcz_base.specs.declared.end.End.{End}
 use Rattle.ipcz_base.specs.declared.parcel.Parcel as parcels
 use Rattle.ipcz_base.specs.declared.refusal.Refusal.{Refusal}
 use Rattle.ipcz_base.specs.declared.refusal.Refusal.TheVariants as refusals
 use Rattle.ipcz_base.specs.Ends.{opposite_end, has_end}
 use Rattle.ipcz_base.specs.Limits.{is_printable}
-use Rattle.ipcz_node.specs.Node.{Node}
 use Rattle.ipcz_node.specs.Calls.{are_too_many, put_refusal, put_number, get_refusal, got_at, close_refusal}
+use Rattle.ipcz_cell.specs.CellStates.{CellState}
+use Rattle.ipcz_cell.specs.TableNames.{TableName}
+use Rattle.ipcz_fabric.specs.Places.{CellWhere, IsRefusedFor}
 
 -- the node whose callers hold the end, and the end
 pub record PortalValue : Type 0 where
@@ -50,23 +52,35 @@ abbrev pub IsPutRefusal : End → List ℕ → List End → Refusal → Type 0
 IsPutRefusal at bytes ends why = (why ≡ refusals.OutOfMemory) ⊎ (why ≡ refusals.Stranger) ⊎ (parcel_refusal at bytes ends ≡ Some why) ⊎
     ((parcel_refusal at bytes ends ≡ None) × ((why ≡ refusals.PeerClosed) ⊎ (why ≡ refusals.NumbersEnd)))
 
--- a put at an end answers this number
-pub record IsPut (at : End) (bytes : List ℕ) (ends : List End) (number : ℕ) : Type 0 where
-  pub node : Node
-  pub allowed : put_refusal node at bytes ends ≡ None
-  pub number_is : number ≡ put_number node at
+-- a put at an end of a node answers this number
+abbrev pub IsPut : TableName → ℕ → End → List ℕ → List End → ℕ → Type 0
+IsPut t node at bytes ends number = CellWhere t node
+    (λ c. (put_refusal c.part.state at bytes ends ≡ None) × (number ≡ put_number c.part.state at))
 
--- a get at an end gives this number, these bytes and these portals, of the node where it was got
-pub record IsGot (here : ℕ) (at : End) (number : ℕ) (bytes : List ℕ) (portals : List PortalValue) : Type 0 where
-  pub node : Node
+-- a put at an end of a node is refused so: for want of memory, or as the node refuses it
+abbrev pub IsRefusedPut : TableName → ℕ → End → List ℕ → List End → Refusal → Type 0
+IsRefusedPut t node at bytes ends why = CellWhere t node (λ c. IsRefusedFor (put_refusal c.part.state at bytes ends) why)
+
+-- a get at an end of a cell's node gives this number, these bytes and these portals of a node
+pub record IsGotHere (c : CellState) (here : ℕ) (at : End) (number : ℕ) (bytes : List ℕ) (portals : List PortalValue) : Type 0 where
   pub parcel : parcels.Parcel
-  pub allowed : get_refusal node at ≡ None
-  pub there : got_at node at ≡ Some (number, parcel)
+  pub allowed : get_refusal c.part.state at ≡ None
+  pub there : got_at c.part.state at ≡ Some (number, parcel)
   pub bytes_are : bytes ≡ parcel.bytes
   pub portals_are : portals ≡ portals_at here (take 8 parcel.ends)
 
--- a close of an end answers this number
-pub record IsClosed (at : End) (number : ℕ) : Type 0 where
-  pub node : Node
-  pub allowed : close_refusal node at ≡ None
-  pub number_is : number ≡ put_number node at
+-- a get at an end of a node gives this number, these bytes and these portals of that node
+abbrev pub IsGot : TableName → ℕ → End → ℕ → List ℕ → List PortalValue → Type 0
+IsGot t node at number bytes portals = CellWhere t node (λ c. IsGotHere c node at number bytes portals)
+
+-- a get at an end of a node is refused so: for want of memory, or as the node refuses it
+abbrev pub IsRefusedGet : TableName → ℕ → End → Refusal → Type 0
+IsRefusedGet t node at why = CellWhere t node (λ c. IsRefusedFor (get_refusal c.part.state at) why)
+
+-- a close of an end of a node answers this number
+abbrev pub IsClosed : TableName → ℕ → End → ℕ → Type 0
+IsClosed t node at number = CellWhere t node (λ c. (close_refusal c.part.state at ≡ None) × (number ≡ put_number c.part.state at))
+
+-- a close of an end of a node is refused so: as the node refuses it, and else for want of memory
+abbrev pub IsRefusedClose : TableName → ℕ → End → Refusal → Type 0
+IsRefusedClose t node at why = CellWhere t node (λ c. why ≡ unwrap_or (close_refusal c.part.state at) refusals.OutOfMemory)

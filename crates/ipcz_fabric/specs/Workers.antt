@@ -3,6 +3,8 @@ use Rattle.std.specs.Prelude.{◌≡◌, ◌+◌, ℕ, zero, suc, Bool, true, fa
 use Rattle.ipcz_base.specs.declared.refusal.Refusal.{Refusal}
 use Rattle.ipcz_base.specs.declared.refusal.Refusal.TheVariants as refusals
 use Rattle.ipcz_node.specs.declared.happened.Happened.{Happened}
+use Rattle.ipcz_cell.specs.TableNames.{TableName}
+use Rattle.ipcz_fabric.specs.Hubs.{IsTurnAnswer}
 
 -- what a turn is answered
 abbrev pub Answer : Type 0
@@ -30,3 +32,8 @@ module _ {S : Type 0} (asks : S → ℕ → Bool → S → Type 0) (takes : S �
       MatchBool may ((a : Answer) × (v : S) × takes u a v ×
       MatchBool (ends a) ((answer ≡ counted turns a) × (t ≡ v)) (Works left (turns + 1) v answer t))
       ((answer ≡ turns) × (t ≡ u))
+
+-- a worker of a node, whose gate answers so, has taken this number of at most so many turns: each is answered as one of the node's
+abbrev pub IsWork : TableName → ℕ → (ℕ → ℕ → Bool → Type 0) → ℕ → ℕ → Type 0
+IsWork t node Answers limit number =
+    Works {S = Unit {0}} (λ s turns may u. Answers node turns may) (λ s answer u. IsTurnAnswer t node answer) ends_work limit 0 tt number tt

@@ -1,7 +1,10 @@
 //! Hubs: cells that threads share, each behind a lock of its own. There is no other lock.
 ghost use Rattle.std.specs.Prelude.{◌≡◌, ◌≤◌, ◌<◌, OnOk, IfOk, IfErr, Err, vec_len, vec_capacity};
+ghost use Rattle.std.specs.Sync.Mutex.{mutex_guard_value};
 ghost use Rattle.ipcz_cell.specs.Ending.{FinishRefuses};
-ghost use Rattle.ipcz_fabric.specs.Hubs.{AddsFirst, AddsHeld, AreFirstPortals, ArePair};
+ghost use Rattle.ipcz_cell.specs.TurnEnds.{Turns};
+ghost use Rattle.ipcz_fabric.specs.Places.{IsCellOf};
+ghost use Rattle.ipcz_fabric.specs.Hubs.{AddsFirst, AddsHeld, AreFirstPortals, ArePair, OpensPortals};
 ghost use Rattle.ipcz_fabric.specs.Hubs.{IsOpenAnswer, IsOpenRefusal, IsTurnAnswer, IsTurnRefusal};
 
 use crate::portal::Portal;
@@ -11,7 +14,7 @@ use ipcz_node::Happened;
 use std::alloc::{AllocError, Global};
 use std::collections::VecDeque;
 use std::marker::Model;
-use std::sync::{Mutex, Wait};
+use std::sync::{Mutex, MutexGuard, Wait};
 
 /// The cells of a table's nodes, that threads share: one lock round each cell, and no other.
 ///
@@ -110,6 +113,28 @@ fn add_first<F: FabricName>(
     }
 }
 
+// Takes one turn of a cell's node.
+fn turn_here<F: FabricName>(cell: &mut NodeCell<F>, fabric: &Fabric<F>) -> Result<Happened, Refusal>
+    ensures { Turns F.table cell.old result cell.new }
+{
+    cell.turn(fabric)
+}
+
+// Opens a pair at a cell's node, and gives its portals, of side A and of side B.
+fn open_here<F: FabricName>(
+    cell: &mut NodeCell<F>,
+    fabric: &Fabric<F>,
+    node: u8,
+) -> Result<(Portal<F>, Portal<F>), Refusal>
+    requires { IsCellOf F.table node cell.old }
+    ensures { OpensPortals F.table node cell.old result cell.new }
+{
+    match cell.open_pair(fabric) {
+        Ok((a, b)) => Ok((Portal::new(node, a), Portal::new(node, b))),
+        Err(why) => Err(why),
+    }
+}
+
 impl<F: FabricName> Hub<F> {
     /// A hub of a table's cells, and a portal for each end that callers of their nodes hold: by node, and then by the serial of the end's
     /// terminal.
@@ -144,11 +169,19 @@ impl<F: FabricName> Hub<F> {
         Ok((hub, portals))
     }
 
-    // The lock of a node's cell.
-    pub(crate) fn cell(&self, node: u8) -> &Mutex<NodeCell<F>>
+    // Locks a node's cell. A type doesn't say at which place a cell stands, so the cell is asked; were it another node's, the lock would be
+    // taken again.
+    pub(crate) fn lock<R: Wait>(&self, rt: &R, node: u8) -> MutexGuard<'_, NodeCell<F>>
         requires { node < F.table.count }
+        ensures { IsCellOf F.table node (mutex_guard_value result) }
     {
-        &self.cells[node as usize]
+        for _try in rt.forever() {
+            let cell = self.cells[node as usize].lock(rt);
+            if cell.node() == node {
+                return cell;
+            }
+        }
+        unreachable!()
     }
 
     // The table.
@@ -162,7 +195,7 @@ impl<F: FabricName> Hub<F> {
     }
 
     /// Opens a pair at a node, under that node's lock, and gives its portals, of side A and of side B. What else holds of it is what
-    /// `NodeCell::open_pair` says, of the state in which the call found the node: it has no name here, so `answer` says that there is one.
+    /// `NodeCell::open_pair` says, of the cell as the call found it: it has no name here, so `answer` says that there is such a cell.
     ///
     /// It answers `Stranger` where there is no node of that number; else `NoWord`, `NumbersEnd`, `OutOfMemory` or `Raced`, as
     /// `NodeCell::open_pair`.
@@ -176,24 +209,20 @@ impl<F: FabricName> Hub<F> {
         if node >= self.fabric.nodes() {
             return Err(Refusal::Stranger);
         }
-        let opened = self.cell(node).lock(rt).open_pair(&self.fabric);
-        match opened {
-            Ok((a, b)) => Ok((Portal::new(node, a), Portal::new(node, b))),
-            Err(why) => Err(why),
-        }
+        open_here(&mut self.lock(rt, node), &self.fabric, node)
     }
 
     /// Takes one turn of a node, under that node's lock, and tells what it did. What else holds of it is what `NodeCell::turn` says, of the
-    /// state in which the call found the node: it has no name here, so `answer` says that there is one.
+    /// cell as the call found it: it has no name here, so `answer` says that there is such a cell.
     ///
     /// It answers `Stranger` where there is no node of that number; else `NumbersEnd`, `OutOfMemory` or `Raced`, as `NodeCell::turn`.
     pub fn turn<R: Wait>(&self, rt: &R, node: u8) -> Result<Happened, Refusal>
         ensures stranger { F.table.count ≤ node → result ≡ Err Refusal.Stranger }
         ensures why { node < F.table.count → IfErr result IsTurnRefusal }
-        ensures answer { node < F.table.count → IsTurnAnswer F.table result }
+        ensures answer { node < F.table.count → IsTurnAnswer F.table node result }
     {
         if node < self.fabric.nodes() {
-            return self.cell(node).lock(rt).turn(&self.fabric);
+            return turn_here(&mut self.lock(rt, node), &self.fabric);
         }
         Err(Refusal::Stranger)
     }

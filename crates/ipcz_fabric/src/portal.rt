@@ -1,11 +1,16 @@
 //! Portals: ends that callers own. A portal can't be copied, and travels in parcels.
-ghost use Rattle.std.specs.Prelude.{◌≡◌, ◌≤◌, ◌<◌, ◌+◌, ◌++◌, None, All, OnOk, IfOk, IfErr, take, vec_len, vec_capacity};
+ghost use Rattle.std.specs.Prelude.{◌≡◌, ◌≤◌, ◌<◌, ◌+◌, ◌++◌, None, All, OnOk, OnErr, IfOk, IfErr, take, unwrap_or, vec_len, vec_capacity};
+ghost use Rattle.ipcz_node.specs.Calls.{put_refusal, put_number, get_refusal, close_refusal};
+ghost use Rattle.ipcz_rule.specs.Steps.{put_part, close_part};
+ghost use Rattle.ipcz_cell.specs.Parts.{got_part};
+ghost use Rattle.ipcz_fabric.specs.Places.{IsRefusedFor};
 ghost use Rattle.ipcz_fabric.specs.Portals.{ends_of, portals_at, parcel_refusal};
-ghost use Rattle.ipcz_fabric.specs.Portals.{IsPut, IsPutRefusal, IsGot, IsGetRefusal, IsClosed, IsCloseRefusal};
+ghost use Rattle.ipcz_fabric.specs.Portals.{IsPut, IsPutRefusal, IsRefusedPut, IsGot, IsGotHere, IsGetRefusal, IsRefusedGet};
+ghost use Rattle.ipcz_fabric.specs.Portals.{IsClosed, IsCloseRefusal, IsRefusedClose};
 
 use crate::hub::Hub;
 use ipcz_base::{Bytes, End, Ends, Refusal};
-use ipcz_cell::FabricName;
+use ipcz_cell::{FabricName, NodeCell};
 use std::alloc::{AllocError, Global};
 use std::marker::{Model, PhantomData};
 use std::sync::Wait;
@@ -106,22 +111,22 @@ impl<F: FabricName> Portal<F> {
         self.end
     }
 
-    /// Puts a parcel, under the lock of the portal's node, and answers its number: its bytes, and portals, which are used up. What else
-    /// holds of it is what `NodeCell::put` says, of the state in which the call found the node.
-    ///
-    /// A refused put gives bytes and portals back. Room for the list of ends is taken first, so `OutOfMemory` comes before all else; then
-    /// the refusals are those of `NodeState::put`, in their order. A portal of another node is a `Stranger`.
-    pub fn put<R: Wait>(
+    // Puts a parcel at the end, whose node's cell this is. Room for the list of ends is taken first.
+    fn put_here(
         &self,
-        rt: &R,
+        cell: &mut NodeCell<F>,
         hub: &Hub<F>,
         bytes: Vec<u8>,
         portals: Vec<Portal<F>>,
     ) -> Result<u64, PortalPutRefused<F>>
-        ensures number { IfOk result (IsPut self.now.end bytes.items (ends_of portals.items)) }
-        ensures fits { OnOk result (parcel_refusal self.now.end bytes.items (ends_of portals.items) ≡ None) }
-        ensures why { IfErr result (λ e. IsPutRefusal self.now.end bytes.items (ends_of portals.items) e.why) }
+        ensures allowed { OnOk result (put_refusal cell.old.part.state self.now.end bytes.items (ends_of portals.items) ≡ None) }
+        ensures number { IfOk result (λ n. n ≡ put_number cell.old.part.state self.now.end) }
+        ensures ok { OnOk result (cell.new.part ≡ put_part self.now.end bytes.items (ends_of portals.items) cell.old.part) }
+        ensures why { IfErr result
+            (λ e. IsRefusedFor (put_refusal cell.old.part.state self.now.end bytes.items (ends_of portals.items)) e.why) }
         ensures back { IfErr result (λ e. (e.bytes.items ≡ bytes.items) × (e.portals.items ≡ portals.items)) }
+        ensures err { OnErr result (cell.new.part ≡ cell.old.part) }
+        ensures seen { cell.new.seen ≡ cell.old.seen }
     {
         let Ok(ends) = ends_of(hub.allocator(), portals.as_slice()) else {
             return Err(PortalPutRefused {
@@ -130,10 +135,7 @@ impl<F: FabricName> Portal<F> {
                 portals,
             });
         };
-        let put = hub
-            .cell(self.node)
-            .lock(rt)
-            .put(hub.fabric(), self.end, Bytes::from_vec(bytes), ends);
+        let put = cell.put(hub.fabric(), self.end, Bytes::from_vec(bytes), ends);
         match put {
             Ok(n) => Ok(n),
             Err(refused) => Err(PortalPutRefused {
@@ -144,33 +146,78 @@ impl<F: FabricName> Portal<F> {
         }
     }
 
-    /// Takes the next parcel, under the lock of the portal's node. What else holds of it is what `NodeCell::get` says, of the state in which
-    /// the call found the node.
-    ///
-    /// Room for eight portals is taken first, so `OutOfMemory` comes before all else, and no parcel is lost; then the refusals are those of
-    /// `NodeState::get`: `Stranger`, `Empty`, `PeerClosed`.
-    pub fn get<R: Wait>(&self, rt: &R, hub: &Hub<F>) -> Result<Got<F>, Refusal>
-        ensures got { IfOk result (λ g. IsGot self.now.node self.now.end g.n g.bytes.items g.portals.items) }
-        ensures here { IfOk result (λ g. All (λ p. p.node ≡ self.now.node) g.portals.items) }
-        ensures few { IfOk result (λ g. vec_len g.portals ≤ 8) }
-        ensures why { IfErr result IsGetRefusal }
+    // Takes the next parcel at the end, whose node's cell this is. Room for eight portals is taken first.
+    fn get_here(&self, cell: &mut NodeCell<F>, hub: &Hub<F>) -> Result<Got<F>, Refusal>
+        ensures got { IfOk result (λ g. IsGotHere cell.old self.now.node self.now.end g.n g.bytes.items g.portals.items) }
+        ensures ok { OnOk result (cell.new.part ≡ got_part self.now.end cell.old.part) }
+        ensures why { IfErr result (IsRefusedFor (get_refusal cell.old.part.state self.now.end)) }
+        ensures err { OnErr result (cell.new.part ≡ cell.old.part) }
+        ensures seen { cell.new.seen ≡ cell.old.seen }
     {
         let Ok(mut portals) = Vec::with_capacity(hub.allocator(), MOST_PORTALS) else {
             return Err(Refusal::OutOfMemory);
         };
-        let got = hub.cell(self.node).lock(rt).get(hub.fabric(), self.end);
-        match got {
-            Ok((n, parcel)) => {
-                let ends = parcel.ends.as_slice();
-                add_portals(self.node, ends, MOST_PORTALS, &mut portals);
-                Ok(Got {
-                    n,
-                    bytes: parcel.bytes.into_vec(),
-                    portals,
-                })
-            }
-            Err(why) => Err(why),
+        let (n, parcel) = cell.get(hub.fabric(), self.end)?;
+        let ends = parcel.ends.as_slice();
+        add_portals(self.node, ends, MOST_PORTALS, &mut portals);
+        Ok(Got {
+            n,
+            bytes: parcel.bytes.into_vec(),
+            portals,
+        })
+    }
+
+    // Closes the end, whose node's cell this is.
+    fn close_here(self, cell: &mut NodeCell<F>, hub: &Hub<F>) -> Result<u64, (Refusal, Portal<F>)>
+        ensures allowed { OnOk result (close_refusal cell.old.part.state self.end ≡ None) }
+        ensures number { IfOk result (λ n. n ≡ put_number cell.old.part.state self.end) }
+        ensures ok { OnOk result (cell.new.part ≡ close_part self.end cell.old.part) }
+        ensures why { IfErr result (λ e. e.0 ≡ unwrap_or (close_refusal cell.old.part.state self.end) Refusal.OutOfMemory) }
+        ensures back { IfErr result (λ e. e.1 ≡ self) }
+        ensures err { OnErr result (cell.new.part ≡ cell.old.part) }
+        ensures seen { cell.new.seen ≡ cell.old.seen }
+    {
+        match cell.close(hub.fabric(), self.end) {
+            Ok(n) => Ok(n),
+            Err(why) => Err((why, self)),
         }
+    }
+
+    /// Puts a parcel, under the lock of the portal's node, and answers its number: its bytes, and portals, which are used up. What else
+    /// holds of it is what `NodeCell::put` says, of the cell as the call found it.
+    ///
+    /// A refused put gives bytes and portals back. Room for the list of ends is taken first, so `OutOfMemory` comes before all else; then
+    /// the refusals are those of `NodeState::put`, in their order. A portal of another node is a `Stranger`.
+    pub fn put<R: Wait>(
+        &self,
+        rt: &R,
+        hub: &Hub<F>,
+        bytes: Vec<u8>,
+        portals: Vec<Portal<F>>,
+    ) -> Result<u64, PortalPutRefused<F>>
+        ensures number { IfOk result (IsPut F.table self.now.node self.now.end bytes.items (ends_of portals.items)) }
+        ensures fits { OnOk result (parcel_refusal self.now.end bytes.items (ends_of portals.items) ≡ None) }
+        ensures why { IfErr result (λ e. IsPutRefusal self.now.end bytes.items (ends_of portals.items) e.why) }
+        ensures refused { IfErr result
+            (λ e. IsRefusedPut F.table self.now.node self.now.end bytes.items (ends_of portals.items) e.why) }
+        ensures back { IfErr result (λ e. (e.bytes.items ≡ bytes.items) × (e.portals.items ≡ portals.items)) }
+    {
+        self.put_here(&mut hub.lock(rt, self.node), hub, bytes, portals)
+    }
+
+    /// Takes the next parcel, under the lock of the portal's node. What else holds of it is what `NodeCell::get` says, of the cell as the
+    /// call found it.
+    ///
+    /// Room for eight portals is taken first, so `OutOfMemory` comes before all else, and no parcel is lost; then the refusals are those of
+    /// `NodeState::get`: `Stranger`, `Empty`, `PeerClosed`.
+    pub fn get<R: Wait>(&self, rt: &R, hub: &Hub<F>) -> Result<Got<F>, Refusal>
+        ensures got { IfOk result (λ g. IsGot F.table self.now.node self.now.end g.n g.bytes.items g.portals.items) }
+        ensures here { IfOk result (λ g. All (λ p. p.node ≡ self.now.node) g.portals.items) }
+        ensures few { IfOk result (λ g. vec_len g.portals ≤ 8) }
+        ensures why { IfErr result IsGetRefusal }
+        ensures refused { IfErr result (IsRefusedGet F.table self.now.node self.now.end) }
+    {
+        self.get_here(&mut hub.lock(rt, self.node), hub)
     }
 
     /// Closes the end, under the lock of the portal's node, and answers the number of the mark that its peer is to get.
@@ -178,14 +225,12 @@ impl<F: FabricName> Portal<F> {
     /// A refused close gives the portal back. It answers `Stranger` where callers of the node don't hold the end any more, else
     /// `OutOfMemory`.
     pub fn close<R: Wait>(self, rt: &R, hub: &Hub<F>) -> Result<u64, (Refusal, Portal<F>)>
-        ensures number { IfOk result (IsClosed self.end) }
+        ensures number { IfOk result (IsClosed F.table self.node self.end) }
         ensures back { IfErr result (λ e. e.1 ≡ self) }
         ensures why { IfErr result (λ e. IsCloseRefusal e.0) }
+        ensures refused { IfErr result (λ e. IsRefusedClose F.table self.node self.end e.0) }
     {
-        let closed = hub.cell(self.node).lock(rt).close(hub.fabric(), self.end);
-        match closed {
-            Ok(n) => Ok(n),
-            Err(why) => Err((why, self)),
-        }
+        let node = self.node;
+        self.close_here(&mut hub.lock(rt, node), hub)
     }
 }

@@ -1,6 +1,6 @@
 //! Workers: what takes turns of a node and asks before each.
 ghost use Rattle.std.specs.Prelude.{◌≡◌, ◌≤◌, ◌<◌, ◌-◌, ◌^◌};
-ghost use Rattle.ipcz_fabric.specs.Workers.{Works, counted};
+ghost use Rattle.ipcz_fabric.specs.Workers.{IsWork, Works, counted};
 
 use crate::hub::Hub;
 use ipcz_base::Refusal;
@@ -10,8 +10,14 @@ use std::sync::Wait;
 
 /// Says whether a node is to take a turn.
 pub trait Gate {
+    ghost use Rattle.std.specs.Prelude.{ℕ, Bool};
+
+    /// What it may answer to the question whether the node of a number takes a turn more, after how many. Where an `impl` doesn't say, all.
+    ghost answers: { ℕ → ℕ → Bool → Type 0 } = { λ node turns may. Unit {0} };
+
     /// Whether the node of this number may take a turn, where its worker has taken so many. It is asked without any lock.
-    fn pass(&mut self, node: u8, turns: u64) -> bool;
+    fn pass(&mut self, node: u8, turns: u64) -> bool
+        ensures { answers node turns result };
 }
 
 /// What takes turns one by one, as `run_worker` lets it.
@@ -70,7 +76,7 @@ pub fn run_worker<W: Worker>(worker: &mut W, limit: u64) -> u64
     limit
 }
 
-// A worker of one node of a hub, which asks a gate. What a hub's turn did is known under its lock alone.
+// A worker of one node of a hub, which asks a gate. In which states its turns find the node is known under the lock alone.
 #[derive(Drop)]
 struct HubWorker<'a, R, F: FabricName, G> {
     rt: &'a R,
@@ -80,11 +86,13 @@ struct HubWorker<'a, R, F: FabricName, G> {
 }
 
 impl<'a, R: Wait, F: FabricName, G: Gate> Worker for HubWorker<'a, R, F, G> {
+    ghost use Rattle.std.specs.Prelude.{◌≡◌, ◌<◌};
+    ghost use Rattle.ipcz_fabric.specs.Hubs.{IsTurnAnswer};
     ghost use Rattle.ipcz_fabric.specs.Workers.{ends_work};
 
-    ghost asks = { λ s turns may t. Unit {0} };
+    ghost asks = { λ s turns may t. G.answers s.node turns may × (t.node ≡ s.node) };
 
-    ghost takes = { λ s answer t. Unit {0} };
+    ghost takes = { λ s answer t. (s.node < F.table.count → IsTurnAnswer F.table s.node answer) × (t.node ≡ s.node) };
 
     ghost ends = { ends_work };
 
@@ -113,6 +121,7 @@ pub fn work<R: Wait, F: FabricName, G: Gate>(
     gate: &mut G,
     limit: u64,
 ) -> u64
+    ensures works { node < F.table.count → IsWork F.table node G.answers limit result }
     ensures few { result ≤ limit }
     ensures stranger { F.table.count ≤ node → result ≡ 0 }
 {

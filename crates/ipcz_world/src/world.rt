@@ -169,8 +169,8 @@ impl World {
 
     /// How many acts are enough to settle, where no parcel that wasn't got carries portals; none where this is no number of 64 bits. It is read
     /// off the world: 6 for each number that has still to pass a router, 17 for each terminal and 61 for each proxy, 38 for each message
-    /// under way, and 3 for each close that is pending; two numbers are counted for each end of a router's pair that it may still put by being
-    /// closed.
+    /// under way, and 3 for each close that is pending. For each end of a router's pair two numbers are counted beside those that were put: its
+    /// mark's and Gone's.
     ///
     /// A settle with this limit, or a higher one, is settled or refused, but where begins or retires found no memory: each takes two
     /// acts more (docs/LAW.md). Where parcels carry portals this may be too few. It looks at each router for each router.

@@ -1,17 +1,26 @@
-use Rattle.std.proofs.Common.{◌∙◌, sym, ap}
-use Rattle.ipcz_node.specs.Calls.{close_refusal, put_number}
+use Rattle.std.proofs.Common.{ap}
 use Rattle.ipcz_fabric.specs.Portals.{PortalValue}
+use Rattle.ipcz_fabric.proofs.Locking.{lent, if_allowed, if_err}
 use Rattle.ipcz_fabric.proofs.Portaling.{close_why}
 use Rattle.ipcz_fabric.proofs.portal.Portal.close.Goals as goal
 
-pub returns-in-Ok-clause-number : goal.returns-in-Ok-clause-number
-returns-in-Ok-clause-number g c =
-    let node = c.deref_mut.result.now.part.state in
-    let at = ap (λ (p : PortalValue). p.end) c.self.view_is in record {
-      node = node;
-      allowed = ap (close_refusal node) (sym at) ∙ c.in-Ok.ensures.allowed;
-      number_is = c.in-Ok.ensures.number ∙ ap (put_number node) at;
-    }
+pub returns-clause-number : goal.returns-clause-number
+returns-clause-number g c = if_allowed
+    (λ n allowed number. record {
+      cell = c.deref_mut.result.now;
+      here = lent g.F.FabricName.table _ _ _ _ (ap (λ (p : PortalValue). p.node) c.self.view_is) c.deref_mut.ensures.value c.lock.ensures;
+      holds = (allowed, number);
+    })
+    c.close_here.result c.close_here.ensures.allowed c.close_here.ensures.number
 
-pub returns-in-Err-clause-why : goal.returns-in-Err-clause-why
-returns-in-Err-clause-why g c = close_why _ _ _ c.in-Err.ensures.why
+pub returns-clause-why : goal.returns-clause-why
+returns-clause-why g c = if_err (λ e h. close_why c.deref_mut.result.now.part.state _ _ h) c.close_here.result c.close_here.ensures.why
+
+pub returns-clause-refused : goal.returns-clause-refused
+returns-clause-refused g c = if_err
+    (λ e h. record {
+      cell = c.deref_mut.result.now;
+      here = lent g.F.FabricName.table _ _ _ _ (ap (λ (p : PortalValue). p.node) c.self.view_is) c.deref_mut.ensures.value c.lock.ensures;
+      holds = h;
+    })
+    c.close_here.result c.close_here.ensures.why

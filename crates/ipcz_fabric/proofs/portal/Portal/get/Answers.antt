@@ -1,23 +1,29 @@
-use Rattle.std.proofs.Common.{ap, sym, ◌∙◌}
-use Rattle.ipcz_node.specs.Calls.{get_refusal, got_at}
+use Rattle.std.proofs.Common.{ap}
 use Rattle.ipcz_fabric.specs.Portals.{PortalValue}
-use Rattle.ipcz_fabric.proofs.Portaling.{get_why, are_there, portals_here}
+use Rattle.ipcz_fabric.proofs.Locking.{lent, if_ok, if_err}
+use Rattle.ipcz_fabric.proofs.Portaling.{are_there, get_refused}
 use Rattle.ipcz_fabric.proofs.portal.Portal.get.Goals as goal
 
-pub returns-in-Err-clause-why : goal.returns-in-Err-clause-why
-returns-in-Err-clause-why g c = get_why _ _ _ c.in-Err.ensures.why
+pub returns-clause-got : goal.returns-clause-got
+returns-clause-got g c = if_ok
+    (λ x h. record {
+      cell = c.deref_mut.result.now;
+      here = lent g.F.FabricName.table _ _ _ _ (ap (λ (p : PortalValue). p.node) c.self.view_is) c.deref_mut.ensures.value c.lock.ensures;
+      holds = h;
+    })
+    c.get_here.result c.get_here.ensures.got
 
-pub returns-in-Ok-got-clause-here : goal.returns-in-Ok-got-clause-here
-returns-in-Ok-got-clause-here g c = are_there _ _ _ _ _ (ap (λ (p : PortalValue). p.node) c.self.view_is) c.in-Ok.ensures.items c.add_portals.ensures
+pub returns-clause-here : goal.returns-clause-here
+returns-clause-here g c = if_ok (λ x h. are_there _ _ _ h.portals_are) c.get_here.result c.get_here.ensures.got
 
-pub returns-in-Ok-got-clause-got : goal.returns-in-Ok-got-clause-got
-returns-in-Ok-got-clause-got g c =
-    let node = c.deref_mut.result.now.part.state in
-    let at = ap (λ (p : PortalValue). p.end) c.self.view_is in record {
-      node = node;
-      parcel = c.in-Ok-got.parcel;
-      allowed = ap (get_refusal node) (sym at) ∙ c.in-Ok-got.ensures.allowed;
-      there = ap (got_at node) (sym at) ∙ c.in-Ok-got.ensures.parcel;
-      bytes_are = c.into_vec.ensures;
-      portals_are = portals_here _ _ _ _ _ _ (ap (λ (p : PortalValue). p.node) c.self.view_is) c.in-Ok.ensures.items c.as_slice-ends.ensures c.add_portals.ensures;
-    }
+pub returns-clause-why : goal.returns-clause-why
+returns-clause-why g c = if_err (λ e h. get_refused c.deref_mut.result.now.part.state _ _ h) c.get_here.result c.get_here.ensures.why
+
+pub returns-clause-refused : goal.returns-clause-refused
+returns-clause-refused g c = if_err
+    (λ e h. record {
+      cell = c.deref_mut.result.now;
+      here = lent g.F.FabricName.table _ _ _ _ (ap (λ (p : PortalValue). p.node) c.self.view_is) c.deref_mut.ensures.value c.lock.ensures;
+      holds = h;
+    })
+    c.get_here.result c.get_here.ensures.why

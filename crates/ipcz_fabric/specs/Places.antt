@@ -1,0 +1,22 @@
+-- Cells behind locks. Which state the cell of a node is in when a call takes its lock has no name, so what a call answers is said of some
+-- cell of that node.
+use Rattle.std.specs.Prelude.{◌≡◌, ◌<◌, ◌⊎◌, ℕ, Option, Some}
+use Rattle.ipcz_base.specs.declared.refusal.Refusal.{Refusal}
+use Rattle.ipcz_base.specs.declared.refusal.Refusal.TheVariants as refusals
+use Rattle.ipcz_cell.specs.CellStates.{CellState}
+use Rattle.ipcz_cell.specs.TableNames.{TableName}
+
+-- a cell of a table's node
+pub record IsCellOf (t : TableName) (node : ℕ) (c : CellState) : Type 0 where
+  pub node_is : c.part.node ≡ node
+  pub inside : node < t.count
+
+-- a cell of a table's node of which this holds
+pub record CellWhere (t : TableName) (node : ℕ) (Holds : CellState → Type 0) : Type 0 where
+  pub cell : CellState
+  pub here : IsCellOf t node cell
+  pub holds : Holds cell
+
+-- a call is refused for this, where there is such a reason, or for want of memory
+abbrev pub IsRefusedFor : Option Refusal → Refusal → Type 0
+IsRefusedFor reason why = (why ≡ refusals.OutOfMemory) ⊎ (reason ≡ Some why)
