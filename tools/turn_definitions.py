@@ -370,11 +370,6 @@ TURNS = {
         (LEFT, "(discard_output number item) ≡ item_passes is_gone_item item\n", "(discard_output number item) ≡ false\n"),
         (LEFT, "use Rattle.std.proofs.Common.{", "use Rattle.std.specs.Prelude.{false}\nuse Rattle.std.proofs.Common.{"),
     ],
-    "gone_has_the_number_of_the_mark": [
-        (EFFECTS, "output_of r Retire = retire_output r.outward.primary (next_number r)", "output_of r Retire = retire_output r.outward.primary (next_number r - 1)"),
-        (EFFECTS, "Prelude.{◌≡◌, ℕ, ◌<◌,", "Prelude.{◌≡◌, ◌-◌, ℕ, ◌<◌,"),
-        (TURNING, "Applied::Sent(link, self.out_queue.reach(), Item::Gone)", "Applied::Sent(link, self.out_queue.reach().saturating_sub(1), Item::Gone)"),
-    ],
     # what an act uses up
     "a_wake_stays_owed": [
         (EFFECTS, "wake_other r = record r { wake_owed = false }", "wake_other r = r"),
