@@ -2,7 +2,7 @@
 
     python3 tools/test_try_edits.py    prints what is told otherwise, and fails where there is something
 
-By hand, and not in the gate: it takes some minutes of a processor. It begins with what `rt check` kept in the folders `out` of `ipcz_base` and
+By hand, and not in the gate: it takes two to four minutes of a processor. It begins with what `rt check` kept in the folders `out` of `ipcz_base` and
 `ipcz_edge`, or proves them first.
 """
 import os
