@@ -395,7 +395,8 @@ def end_all(room):
 def ran(command, room):
     """Returns a command's status, what it said, whether it took too long, and the seconds of a processor that it took."""
     with STARTING:
-        it = subprocess.Popen(command, cwd=room, stdin=subprocess.DEVNULL, stdout=subprocess.PIPE, stderr=subprocess.STDOUT, start_new_session=True)
+        # (a group, to be ended whole, but no session of its own: to a session a kernel may give as much as to all that `rt ci` has running)
+        it = subprocess.Popen(command, cwd=room, stdin=subprocess.DEVNULL, stdout=subprocess.PIPE, stderr=subprocess.STDOUT, process_group=0)
         RUNNING.add(it)
     late = threading.Event()
 
