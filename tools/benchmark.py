@@ -266,7 +266,9 @@ CRATES = os.path.join(os.path.dirname(os.path.abspath(__file__)), "../crates")
 BENCH = os.path.join(CRATES, "ipcz_bench/out/ipcz_bench")
 BENCH_THREADS = os.path.join(CRATES, "ipcz_bench_threads/out/ipcz_bench_threads")
 MEASURES = ["one_node", "two_nodes", "long_parcels", "last_pair", "each_pair", "waiting_1", "waiting_10", "waiting_100",
-            "waiting_1000", "act", "moves", "fresh_pairs", "used_pairs"]
+            "waiting_1000", "act", "moves", "lives", "fresh_pairs", "used_pairs", "closed_pairs"]
+# The last of them, which are of memory.
+BYTES = MEASURES[-3:]
 
 
 def measured(name):
@@ -311,7 +313,7 @@ def instructions(name, rounds, program=BENCH):
 
 
 def show_instructions():
-    for name, program in [(name, BENCH) for name in MEASURES[:-2]] + [("cells", BENCH_THREADS), ("hub", BENCH_THREADS)]:
+    for name, program in [(name, BENCH) for name in MEASURES if name not in BYTES] + [("cells", BENCH_THREADS), ("hub", BENCH_THREADS)]:
         each = (instructions(name, 12000, program) - instructions(name, 2000, program)) / 10000
         print("%-14s %8d" % (name, round(each)), flush=True)
 
@@ -320,7 +322,7 @@ def show_compared(other):
     before = prefix()
     for name in MEASURES:
         counts = []
-        if name not in MEASURES[-2:]:
+        if name not in BYTES:
             counts = [round((instructions(name, 12000, it) - instructions(name, 2000, it)) / 10000) for it in (other, BENCH)]
         times = [[], []]
         for _ in range(5):
