@@ -178,7 +178,7 @@ impl<F: FabricName> Portal<F> {
         ensures seen { cell.new.seen ≡ cell.old.seen }
     {
         match cell.close(hub.fabric(), self.end) {
-            Ok(n) => Ok(n),
+            Ok(number) => Ok(number),
             Err(why) => Err((why, self)),
         }
     }
