@@ -9,7 +9,7 @@ pub struct Case {
     pub on_threads: bool,
 }
 
-pub const CASES: [Case; 29] = [
+pub const CASES: [Case; 28] = [
     Case {
         shows: "two parcels on one pair",
         script: r#"{"nodes":1,"words":1,"commands":[["open",0,"x","y"],["put","x","a"],["put","x","b"],["get","y"],["settle",100],["get","y"],["get","y"],["get","y"]]}"#,
@@ -203,13 +203,6 @@ pub const CASES: [Case; 29] = [
         shows: "a closed pair leaves two nodes after a bypass",
         script: r#"{"nodes":2,"words":8,"commands":[["open",0,"x","y"],["put","0>1","m",["y"]],["settle",1000],["get","1>0"],["close","x"],["close","y"],["turn",0,30],["turn",1,30],["turn",0,30],["turn",1,30],["turn",0,30],["show"]]}"#,
         transcript: "open x y ok\nput 0>1 0\nsettled\nget 1>0 0 [y] \"m\"\nclose x 0\nclose y 0\nn0: r1 send out 0 C2\nn0: post 1\nn0: r1 rest\nn0: idle\nn1: look 0\nn1: hand item 0 C2\nn1: r1 send out 0 C2\nn1: post 0\nn1: r1 discard 0\nn1: r1 lock C2 35\nn1: r1 retire 1 C2\nn1: idle\nn0: look 1\nn0: hand item 0 C2\nn0: r1 discard 0\nn0: r1 refused C2 35\nn0: r1 rest\nn0: idle\nn1: post 0\nn1: idle\nn0: look 1\nn0: hand item 1 C2\nn0: r1 discard 1 leave\nn0: idle\nwords 3 547 35\n",
-        unsettled: false,
-        on_threads: true,
-    },
-    Case {
-        shows: "pairs are closed over four nodes, and no word is left",
-        script: r#"{"nodes":4,"words":9,"commands":[["open",0,"x","y"],["put","0>1","m",["y"]],["settle",1000],["get","1>0"],["put","x","a"],["settle",1000],["get","y"],["close","x"],["settle",1000],["get","y"],["put","y","b"],["close","y"],["settle",1000],["open",2,"u","v"],["put","2>3","n",["v"]],["settle",1000],["get","3>2"],["put","u","c"],["put","v","d"],["close","v"],["settle",1000],["get","u"],["get","u"],["close","u"],["settle",1000],["open",1,"p","q"],["close","0>1"],["close","1>0"],["settle",1000],["get","0>1"],["put","0>3","e"],["settle",1000],["get","3>0"]]}"#,
-        transcript: "open x y ok\nput 0>1 0\nsettled\nget 1>0 0 [y] \"m\"\nput x 0\nsettled\nget y 0 [] \"a\"\nclose x 1\nsettled\nget y PeerClosed\nput y PeerClosed\nclose y 0\nsettled\nopen u v ok\nput 2>3 0\nsettled\nget 3>2 0 [v] \"n\"\nput u 0\nput v 0\nclose v 1\nsettled\nget u 0 [] \"d\"\nget u PeerClosed\nclose u 1\nsettled\nopen p q NoWord\nclose 0>1 1\nclose 1>0 0\nsettled\nget 0>1 Away\nput 0>3 0\nsettled\nget 3>0 0 [] \"e\"\n",
         unsettled: false,
         on_threads: true,
     },
