@@ -16,4 +16,6 @@ mod opens;
 #[cfg(test)]
 mod owned;
 #[cfg(test)]
+mod portals;
+#[cfg(test)]
 mod race;
