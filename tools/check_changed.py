@@ -9,20 +9,22 @@ What it doesn't show, and the gate does: nothing is proved from nothing, so whoe
 of a function that hasn't changed, though a definition or a contract that it names may have; programs aren't run, nor is what the gate tries
 beside `rt ci`; no contract is looked at for whether a call can meet it; Rattle's own compiler builds nothing.
 """
+import pathlib
 import subprocess
 import sys
 import threading
 import time
 from concurrent.futures import ThreadPoolExecutor
 
+import asked
 from try_edits import FOLDERS, PARTS, PROCESSORS, TOP, USED, below
 
 
-def git(*words):
+def git(*words: str) -> list[str]:
     return subprocess.run(["git", *words], cwd=TOP, stdout=subprocess.PIPE, text=True, check=True).stdout.split()
 
 
-def changed_since(commit):
+def changed_since(commit: str) -> set[str]:
     """Returns the crates of which something that a check reads, or an edit, has changed."""
     files = {*git("diff", "--name-only", commit), *git("ls-files", "--others", "--exclude-standard")}
     if {"crates.txt", "HANDLES"} & files:
@@ -34,11 +36,12 @@ def changed_since(commit):
 class Checks:
     """The checks of crates, each once those below it have passed."""
 
-    def __init__(self, crates, changed):
-        self.crates, self.changed, self.failed, self.printing = crates, changed, [], threading.Lock()
+    def __init__(self, crates: list[str], changed: set[str]) -> None:
+        self.crates, self.changed, self.printing = crates, changed, threading.Lock()
+        self.failed: list[str] = []
         self.done = {it: threading.Event() for it in crates}
 
-    def call(self, name, *words, where=TOP):
+    def call(self, name: str, *words: str, where: pathlib.Path = TOP) -> bool:
         ran = subprocess.run(words, cwd=where, stdout=subprocess.PIPE, stderr=subprocess.STDOUT, text=True, errors="replace")
         with self.printing:
             print(f"{name}: {' '.join(words)}: {'FAILED' if ran.returncode else 'ok'}", flush=True)
@@ -47,7 +50,7 @@ class Checks:
                 self.failed.append(name)
         return not ran.returncode
 
-    def check(self, name, turns):
+    def check(self, name: str, turns: threading.Semaphore) -> None:
         used = [it for it in below(name) if it in self.done]
         for it in used:
             self.done[it].wait()
@@ -65,14 +68,16 @@ class Checks:
         finally:
             self.done[name].set()
 
-    def run(self):
+    def run(self) -> None:
         turns = threading.Semaphore(PROCESSORS)
         with ThreadPoolExecutor(len(self.crates)) as pool:
             list(pool.map(lambda it: self.check(it, turns), self.crates))
 
 
-def main():
-    began, commit = time.monotonic(), (sys.argv[1:] or git("merge-base", "HEAD", "main"))[0]
+def main() -> None:
+    parser = asked.parser(__doc__)
+    parser.add_argument("commit", nargs="?")
+    began, commit = time.monotonic(), parser.parse_args().commit or git("merge-base", "HEAD", "main")[0]
     changed = changed_since(commit)
     crates = [it for it in USED if it in changed or changed & set(below(it))]
     if not crates:

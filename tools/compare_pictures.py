@@ -7,15 +7,17 @@ where all are as stored.
 import pathlib
 import subprocess
 import sys
+from collections.abc import Iterator
 
-TOP = pathlib.Path(__file__).resolve().parent.parent
-
-
-def output_of(crate, given):
-    return subprocess.run([TOP / f"crates/{crate}/out/{crate}"], input=given, stdout=subprocess.PIPE, check=True).stdout
+import asked
+from asked import TOP
 
 
-def transcripts(folder):
+def output_of(crate: str, given: bytes) -> bytes:
+    return subprocess.run([asked.built(crate)], input=given, stdout=subprocess.PIPE, check=True).stdout
+
+
+def transcripts(folder: pathlib.Path) -> Iterator[tuple[pathlib.Path, bytes]]:
     """The transcripts of the scripts there, and those that stand there themselves, each with its file."""
     for script in sorted(folder.glob("*.json")):
         yield script, output_of("ipcz_run", script.read_bytes())
@@ -23,7 +25,10 @@ def transcripts(folder):
         yield transcript, transcript.read_bytes()
 
 
-def main():
+def main() -> None:
+    parser = asked.parser(__doc__)
+    parser.add_argument("--store", action="store_true", help="store the pictures anew")
+    stores = parser.parse_args().store
     found = list(transcripts(TOP / "docs/pictures"))
     if not found:
         sys.exit("no script stands in docs/pictures")
@@ -31,7 +36,7 @@ def main():
     for file, transcript in found:
         drawn = output_of("ipcz_draw", transcript)
         stored = file.with_suffix(".svg")
-        if "--store" in sys.argv[1:]:
+        if stores:
             stored.write_bytes(drawn)
         elif not stored.exists() or stored.read_bytes() != drawn:
             others.append(stored.name)
@@ -39,4 +44,5 @@ def main():
         sys.exit("these pictures are other than stored: " + ", ".join(others))
 
 
-main()
+if __name__ == "__main__":
+    main()

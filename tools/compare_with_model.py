@@ -2,7 +2,7 @@
 
     python3 tools/compare_with_model.py PROGRAM [COUNT [FIRST]] [--counts]
 
-COUNT scripts are drawn from the seeds FIRST and up, 1,000 from 0 where nothing is said. Of eight, six have any calls and turns, one is
+COUNT scripts are drawn from the seeds FIRST and up, 1,000 from 0 if nothing is said. Of eight, six have any calls and turns, one is
 such a script but for one value, and one puts, settles and gets in rounds, and is run with the argument `threads`, too. `--counts` prints
 how many lines of each form were compared.
 """
@@ -12,6 +12,7 @@ import random
 import subprocess
 import sys
 
+import asked
 import model
 
 ROUNDS = 7
@@ -157,21 +158,25 @@ def form(line):
     return f"{first} {words[-1]}" if words and words[-1].isalpha() else first
 
 
-def main():
-    words = [word for word in sys.argv[1:] if word != "--counts"]
-    program, count, first = words[0], int((words[1:] or [1000])[0]), int((words[2:] or [0])[0])
-    counts = collections.Counter()
+def main() -> int:
+    parser = asked.parser(__doc__)
+    parser.add_argument("program", type=asked.program)
+    parser.add_argument("count", type=int, nargs="?", default=1000)
+    parser.add_argument("first", type=int, nargs="?", default=0)
+    parser.add_argument("--counts", action="store_true", help="print how many lines of each form were compared")
+    given = parser.parse_args()
+    counts: collections.Counter[str] = collections.Counter()
     is_wrong = False
-    for seed in range(first, first + count):
+    for seed in range(given.first, given.first + given.count):
         script = drawn(seed)
         text, status = model.transcript(script)
         counts.update(form(line) for line in text.splitlines())
         for arguments in [[], ["threads"]] if seed % 8 == ROUNDS else [[]]:
-            done = subprocess.run([program, *arguments], input=json.dumps(script).encode(), capture_output=True)
+            done = subprocess.run([given.program, *arguments], input=json.dumps(script).encode(), capture_output=True)
             if (done.stdout, done.stderr, done.returncode) != (text.encode(), b"", status):
                 is_wrong = True
                 print(f"seed {seed}: the program writes otherwise than the model", *arguments)
-    if "--counts" in sys.argv:
+    if given.counts:
         print(*(f"{number:8} {name}" for name, number in counts.most_common()), sep="\n")
     return int(is_wrong)
 

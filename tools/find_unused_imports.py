@@ -1,6 +1,6 @@
 """Finds names that a file imports for its clauses or proofs and doesn't use.
 
-    python3 tools/find_unused_imports.py                    all crates; prints each such name, and fails where there is one
+    python3 tools/find_unused_imports.py                    all crates; prints each such name, and fails if there is one
     python3 tools/find_unused_imports.py CRATE ..           these crates alone
     python3 tools/find_unused_imports.py --remove CRATE ..  takes them out of the files (run `rt fmt` and `rt check` then)
 
@@ -12,7 +12,8 @@ import pathlib
 import re
 import sys
 
-TOP = pathlib.Path(__file__).resolve().parent.parent
+import asked
+from asked import TOP
 GHOST_USE = re.compile(r"^[ \t]*ghost use (?P<path>[^{;]*?)(?:\.\{(?P<names>[^}]*)\})?(?: as (?P<alias>\S+))?;[ \t]*\n", re.M)
 USE = re.compile(r"^[ \t]*use (?P<path>[^{\n]*?)(?:\.\{(?P<names>[^}]*)\})?(?: as (?P<alias>\S+))?[ \t]*\n", re.M)
 CLAUSE = re.compile(r"\b(?:requires|ensures)\b\*?\s*\w*\s*\{|\bghost (?!use\b)\w+[^;{]*\{|#!?\[")
@@ -100,20 +101,24 @@ def remove(path, text, lines):
     path.write_text(text)
 
 
-def main():
-    crates = [word for word in sys.argv[1:] if word != "--remove"]
-    crates = crates or sorted(folder.name for folder in (TOP / "crates").iterdir())
+def main() -> None:
+    parser = asked.parser(__doc__)
+    parser.add_argument("crates", nargs="*", metavar="CRATE")
+    parser.add_argument("--remove", action="store_true", help="take them out of the files")
+    given = parser.parse_args()
+    crates = given.crates or sorted(folder.name for folder in (TOP / "crates").iterdir())
     said = []
     for crate in crates:
         folder = TOP / "crates" / crate
         files = sorted(folder.glob("src/**/*.rt")) + sorted(folder.glob("specs/**/*.antt")) + sorted(folder.glob("proofs/**/*.antt"))
         for path in files:
             text, lines = unused_in(path)
-            if "--remove" in sys.argv[1:]:
+            if given.remove:
                 remove(path, text, lines)
             said += [f"{path.relative_to(TOP)}: {', '.join(gone)}" for _, gone in lines]
-    if said and "--remove" not in sys.argv[1:]:
+    if said and not given.remove:
         sys.exit("imported and not used:\n" + "\n".join(said))
 
 
-main()
+if __name__ == "__main__":
+    main()

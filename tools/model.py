@@ -9,6 +9,8 @@ import re
 import sys
 from dataclasses import dataclass, field
 
+import asked
+
 OPPOSITE = {"A": "B", "B": "A"}
 STABLE = {"A": 1, "B": 2}
 WAITING = {"A": 4, "B": 8}
@@ -631,8 +633,14 @@ def transcript(script):
     return "".join(line + "\n" for line in lines), 4 if run.is_unsettled else 0
 
 
-def main():
-    text, status = transcript(json.load(sys.stdin))
+def main() -> int:
+    asked.parser(__doc__).parse_args()
+    try:
+        script = json.load(sys.stdin)
+    except ValueError as fault:
+        print(f"this is no JSON: {fault}", file=sys.stderr)
+        return 2
+    text, status = transcript(script)
     print(text, end="")
     return status
 

@@ -18,12 +18,15 @@ grows where it retires, of a lock that was given back.
 """
 import collections
 import os
+import pathlib
 import re
 import subprocess
 import sys
 import tempfile
 
-HERE = os.path.dirname(os.path.abspath(__file__))
+import asked
+
+HERE = pathlib.Path(__file__).resolve().parent
 # The line of a lock that is got, or that is given back, with its node, router, link and word.
 LOCK = re.compile(r"(n\d): (r\d+) lock (C\d+) (\d+)\n")
 UNLOCK = re.compile(r"(n\d): (r\d+) unlock (C\d+) (\d+)\n")
@@ -35,13 +38,13 @@ GROWING = ("a bypass that grows where it begins", "a sink that grows where it re
 TELLINGS = ", refused 1", ", unlocked 1", ", refused beside 1"
 
 
-def run(program, script, library, **names):
+def run(program: list, script: bytes, library: str, **names: str) -> tuple[int, bytes]:
     env = {**os.environ, "LD_PRELOAD": library, **names}
     done = subprocess.run(program, input=script, stdout=subprocess.PIPE, env=env)
     return done.returncode, done.stdout
 
 
-def without_unlock(text):
+def without_unlock(text: bytes) -> bytes | None:
     """Returns the transcript without a lock that was given back at once and got again, where it has just one."""
     lines = text.decode().splitlines(keepends=True)
     places = [i for i, line in enumerate(lines) if UNLOCK.fullmatch(line)]
@@ -58,7 +61,7 @@ def without_unlock(text):
     return "".join(lines[: places[0]] + lines[places[0] + 2 :]).encode()
 
 
-def ends_of(program, script, library, count):
+def ends_of(program: list, script: bytes, library: str, count: str) -> tuple[int, dict[str, int]]:
     """Returns how many runs ended in each of the ways that are right, and stops at one that is wrong."""
     status, text = run(program, script, library, GROWTHS=count)
     growths = int(open(count).read())
@@ -78,7 +81,7 @@ def ends_of(program, script, library, count):
     return growths, ends
 
 
-def told_by(lines, written):
+def told_by(lines: list[str], written: list[str]) -> tuple[int, str] | None:
     """Returns the place of the one line that tells of a refused growth, and what it tells; none where the lines differ otherwise."""
     if len(written) != len(lines):
         return None
@@ -90,7 +93,7 @@ def told_by(lines, written):
     return (place, telling) if telling in TELLINGS else None
 
 
-def try_retries(program, library, count, tells_counts):
+def try_retries(program: list, library: str, count: str, tells_counts: bool) -> None:
     """Runs the program that makes refused calls again, and stops at a run that is wrong."""
     status, text = run(program, b"", library, GROWTHS=count)
     lines, growths = text.decode().splitlines(), int(open(count).read())
@@ -117,29 +120,48 @@ def try_retries(program, library, count, tells_counts):
             sys.exit(f"no row is {row}")
 
 
-def main():
-    words = sys.argv[1:]
-    kind = words.pop(0) if words[0].startswith("--") else None
-    on_threads = kind == "--threads"
-    program, tables = [words[0], *(["threads"] if on_threads else [])], words[1:]
+def scripts_of(table: str, on_threads: bool) -> list[str]:
+    """The script of a file, or those of a table of cases."""
+    text = pathlib.Path(table).read_text()
+    if table.endswith(".json"):
+        return [text]
+    cases = [case for case in text.split("Case {") if not on_threads or "on_threads: true" in case]
+    return [script for case in cases for script in re.findall(r'script: r#"(.*?)"#', case, re.S)]
+
+
+def try_tables(program: list, tables: list[str], on_threads: bool, library: str, count: str) -> None:
+    """Runs each script of these files, and stops at a run that is wrong."""
+    for table in tables:
+        scripts = scripts_of(table, on_threads)
+        if not scripts:
+            sys.exit(f"no script stands in {table}")
+        for script in scripts:
+            _, ends = ends_of(program, script.encode(), library, count)
+            if table.endswith(".json") and not ends["with an unlock"]:
+                sys.exit(f"no bypass and no sink of {table} grew where it had locked")
+
+
+def main() -> None:
+    parser = asked.parser(__doc__)
+    parser.add_argument("program", type=asked.program)
+    parser.add_argument("tables", nargs="*", metavar="FILE")
+    kinds = parser.add_mutually_exclusive_group()
+    kinds.add_argument("--threads", action="store_true", help="run with the argument `threads`")
+    kinds.add_argument("--retries", action="store_true", help="the program makes each refused call again")
+    kinds.add_argument("--counts", action="store_true", help="the same, and tell how many growths each line told of")
+    given = parser.parse_args()
+    program = [given.program, *(["threads"] if given.threads else [])]
     with tempfile.TemporaryDirectory() as room:
         library, count = f"{room}/refuse_growth.so", f"{room}/count"
-        subprocess.run(["cc", "-O1", "-shared", "-fPIC", "-o", library, f"{HERE}/refuse_growth.c", "-ldl"], check=True)
-        if kind in ("--retries", "--counts"):
-            return try_retries(program, library, count, kind == "--counts")
-        for table in tables:
-            begins, text = table.endswith(".json"), open(table).read()
-            cases = [case for case in text.split("Case {") if not on_threads or "on_threads: true" in case]
-            scripts = [text] if begins else [script for case in cases for script in re.findall(r'script: r#"(.*?)"#', case, re.S)]
-            if not scripts:
-                sys.exit(f"no script stands in {table}")
-            for script in scripts:
-                _, ends = ends_of(program, script.encode(), library, count)
-                if begins and not ends["with an unlock"]:
-                    sys.exit(f"no bypass and no sink of {table} grew where it had locked")
-        if not tables:
+        subprocess.run(["cc", "-O1", "-shared", "-fPIC", "-o", library, HERE / "data/refuse_growth.c", "-ldl"], check=True)
+        if given.retries or given.counts:
+            try_retries(program, library, count, given.counts)
+        elif given.tables:
+            try_tables(program, given.tables, given.threads, library, count)
+        else:
             growths, ends = ends_of(program, sys.stdin.buffer.read(), library, count)
             print(f"{growths} growths: " + ", ".join(f"{n} {end}" for end, n in ends.items()))
 
 
-main()
+if __name__ == "__main__":
+    main()

@@ -1,6 +1,6 @@
 """Opens, moves and closes pairs over four nodes by a script, until each link word is claimed, and prints what is wrong alone.
 
-    python3 tools/soak.py PROGRAM [WORDS]     4,096 words where nothing is said
+    python3 tools/soak.py PROGRAM [WORDS]     4,096 words if nothing is said
 
 The program must answer each call as the rules say, also with the argument `threads`, and show the words that tools/model.py has, which runs
 along. By the model no node may have another router at the end than those of its first pairs, which are open. One pair stays open meanwhile,
@@ -11,6 +11,7 @@ import json
 import subprocess
 import sys
 
+import asked
 import model
 
 NODES = 4
@@ -142,18 +143,22 @@ class Soak:
         return "".join(line + "\n" for line in lines).encode()
 
 
-def main():
-    program, words = sys.argv[1], int((sys.argv[2:] or [4096])[0])
-    soak = Soak(words)
+def main() -> None:
+    parser = asked.parser(__doc__)
+    parser.add_argument("program", type=asked.program)
+    parser.add_argument("words", type=int, nargs="?", default=4096)
+    given = parser.parse_args()
+    soak = Soak(given.words)
     soak.use_words()
     if soak.routers() != [NODES - 1] * NODES:
         sys.exit(f"by the model the nodes have {soak.routers()} routers")
     for arguments in [], ["threads"]:
         # Which of two sinks retires is as their turns come: on threads that isn't always the same.
         shows_words = not arguments
-        done = subprocess.run([program, *arguments], input=soak.script(shows_words), capture_output=True)
+        done = subprocess.run([given.program, *arguments], input=soak.script(shows_words), capture_output=True)
         if (done.returncode, done.stdout) != (0, soak.transcript(shows_words)):
             sys.exit(f"the program answers otherwise {' '.join(arguments)}")
 
 
-main()
+if __name__ == "__main__":
+    main()

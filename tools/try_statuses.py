@@ -6,11 +6,11 @@ Of each run it compares the status and the bytes on standard output; nothing may
 No contract can speak of what a system hands to a program, so what `main` makes of it is tried here.
 """
 import os
-import pathlib
 import subprocess
 import sys
+from collections.abc import Callable
 
-TOP = pathlib.Path(__file__).resolve().parent.parent
+import asked
 
 PAIR = '{"nodes":1,"words":1,"commands":[["open",0,"x","y"],["put","x","a"],["settle",%d]]}'
 DONE = (PAIR % 100).encode()
@@ -89,13 +89,14 @@ RUNS = [
 ]
 
 
-def close(number):
+def close(number: int) -> Callable[[], None]:
     return lambda: os.close(number)
 
 
-def run(program, arguments, given, taken):
+def run(program: str, arguments: list, given: bytes | type, taken: type) -> tuple[int, bytes, bytes]:
     """Returns the status, the bytes that were written, and those on standard error."""
-    opened, names = [], {}
+    opened: list[int] = []
+    names: dict = {}
     if given is Folder:
         opened.append(os.open("/", os.O_RDONLY))
         names["stdin"] = opened[-1]
@@ -110,13 +111,14 @@ def run(program, arguments, given, taken):
         names["preexec_fn"] = close(1)
     else:
         names["stdout"] = subprocess.PIPE
-    done = subprocess.run([TOP / f"crates/{program}/out/{program}", *arguments], stderr=subprocess.PIPE, **names)
+    done = subprocess.run([asked.built(program), *arguments], stderr=subprocess.PIPE, **names)
     for number in opened:
         os.close(number)
     return done.returncode, done.stdout or b"", done.stderr
 
 
-def main():
+def main() -> None:
+    asked.parser(__doc__).parse_args()
     wrong = []
     for program, arguments, given, taken, status, written in RUNS:
         got = run(program, arguments, given, taken)
@@ -127,4 +129,5 @@ def main():
         sys.exit("\n".join(wrong))
 
 
-main()
+if __name__ == "__main__":
+    main()
