@@ -4,6 +4,7 @@
     python3 tools/benchmark.py instructions
     python3 tools/benchmark.py compare OTHER
     python3 tools/benchmark.py threads
+    python3 tools/benchmark.py peers
     python3 tools/benchmark.py crates/ipcz_run/out/ipcz_run [WORKLOAD ..]
     python3 tools/benchmark.py crates/ipcz_run/out/ipcz_run pairs
     python3 tools/benchmark.py crates/ipcz_run/out/ipcz_run waiting
@@ -17,6 +18,9 @@ callgrind, which a busy machine doesn't disturb: for one round, from a run of 2,
 ratios; and what it takes between two threads. Each is the least of 20 runs of 20,000 rounds, with the middle one. Where `chrt` may,
 the runs have real-time priority, so that a busy machine gives them processors of their own for the moment that they take.
 
+`peers` runs a parcel of ours, on one node and between two, in turn with what other queues take for a message of as many bytes (`peers.py`), and
+prints the ratios and the conditions: 25 runs of 20,000 of each, the least and the middle one.
+
 Each workload is made for a quarter, a half and the whole of 1,048,576 bytes, which is the longest script.
 The table has the `user` time in milliseconds (the least of five runs where a run is short) and the peak
 memory in MiB, as GNU time (/usr/bin/time) tells it; the factors are those from 1/4 to 1/2 and from 1/2
@@ -29,9 +33,12 @@ parcel costs where 1, 10, 100 and 1,000 parcels wait before it. `largest` shows 
 """
 import os
 import resource
+import shutil
 import subprocess
 import sys
 import tempfile
+
+from peers import peers
 
 WHOLE = 1048576
 SETTLE = '["settle",1000000]'
@@ -305,11 +312,48 @@ def show_threads():
               % (name, low, middle, low / min(times[0]), 1000 / low), flush=True)
 
 
-def instructions(name, rounds, program=BENCH):
+def counted(command):
+    """The instructions of a run."""
     with tempfile.TemporaryDirectory() as folder:
-        done = subprocess.run(["valgrind", "--tool=callgrind", "--callgrind-out-file=" + os.path.join(folder, "out"),
-                               program, name, str(rounds)], stdout=subprocess.DEVNULL, stderr=subprocess.PIPE, text=True, check=True)
+        done = subprocess.run(["valgrind", "--tool=callgrind", "--callgrind-out-file=" + os.path.join(folder, "out"), *command],
+                              stdout=subprocess.DEVNULL, stderr=subprocess.PIPE, text=True, check=True)
     return int(done.stderr.split("Collected :")[1].split()[0])
+
+
+def instructions(name, rounds, program=BENCH):
+    return counted([program, name, str(rounds)])
+
+
+def each_of(command):
+    """The instructions of one round of a command that takes a number of rounds, or none where they can't be counted."""
+    return round((counted([*command, "12000"]) - counted([*command, "2000"])) / 10000) if shutil.which("valgrind") else None
+
+
+def nanoseconds(command):
+    return int(subprocess.run([*command, "20000"], stdout=subprocess.PIPE, check=True).stdout)
+
+
+def show_peers():
+    if not os.path.exists(BENCH):
+        sys.exit("peers: ipcz_bench isn't built. `cd crates/ipcz_bench && rt run` builds it.")
+    with tempfile.TemporaryDirectory() as folder:
+        others, lost = peers(folder)
+        if not others:
+            sys.exit("peers: there is nothing to compare with: neither cargo nor a C compiler builds a queue here.")
+        before = prefix()
+        commands = [*others, *[(name, [BENCH, name]) for name in ("one_node", "two_nodes")]]
+        times = {name: [] for name, _ in commands}
+        for _ in range(25):
+            for name, command in commands:
+                times[name].append(nanoseconds([*before, *command]))
+        print("one thread; 16 bytes, put and got in turn; 25 runs of 20,000 of each, in turn; %d processors, load %.1f"
+              % (os.cpu_count(), os.getloadavg()[0]))
+        print("not built here: %s" % (", ".join(lost) or "none"))
+        base = others[0][0]
+        for name, command in commands:
+            count, all_times = each_of(command), sorted(times[name])
+            print("%-18s %6s instructions, %5d ns (the middle one: %d), %5.2f times %s"
+                  % (name, count or "?", all_times[0], all_times[12], all_times[0] / min(times[base]), base), flush=True)
 
 
 def show_instructions():
@@ -368,6 +412,8 @@ def main():
         return show_compared(sys.argv[2])
     if sys.argv[1:] == ["threads"]:
         return show_threads()
+    if sys.argv[1:] == ["peers"]:
+        return show_peers()
     program = os.path.abspath(sys.argv[1])
     wanted = sys.argv[2:]
     if wanted == ["largest"]:

@@ -42,7 +42,4 @@ pub acts_touch : (count size slots id i : ℕ) (m : Mine) (p : Part) (act : Act)
     Allows (Rules count size) slots id m i (λ n. n) (λ n m'. m' ≡ (with_part (act_part act answers.Plain p) m.0, m.1))
 acts_touch count size slots id i m p (acts.Router serial act) is touch may serials = let a = actor p.state serial act may serials in touches_acts count size slots id i m p serial a.0 act is a.1 touch
 acts_touch count size slots id i m p (acts.Close e) is touch may serials = pending_closes count size slots id i m p e is may
-acts_touch count size slots id i m p (acts.Hand e) is touch may serials = absurd cc
-acts_touch count size slots id i m p (acts.Look e) is touch may serials = absurd cc
-acts_touch count size slots id i m p (acts.Post e) is touch may serials = absurd cc
-acts_touch count size slots id i m p acts.Idle is touch may serials = absurd cc
+acts_touch count size slots id i m p other is touch may serials = absurd cc

@@ -62,10 +62,8 @@ moves_hand m to (e ∷ es) = moves_hand (move_end m to e) to es ∙ move_found_h
 
 send_hand : (n : Node) (a : Applied) → (send n a).hand ≡ n.hand
 unfolding send send_item
-send_hand n outputs.Nothing = refl
 send_hand n (outputs.Sent link number item) = moves_hand (record { node = n; moves = [] }) link.other (moved_ends n link item)
-send_hand n (outputs.Message to message) = refl
-send_hand n (outputs.Discarded number item) = refl
+send_hand n any = refl
 
 keep_hand : (n : Node) (serial : ℕ) (r : Router) (leaves : Bool) → (keep_or_drop n serial r leaves).hand ≡ n.hand
 unfolding keep_or_drop
@@ -159,7 +157,4 @@ close_act_keeps end answer p = acted_keeps (acts.Close end) answer p (close_hand
 pub act_keeps : (act : Act) (answer : Answer) (p : Part) → is_touch_act act ≡ true → KeepsHands p (act_part act answer p)
 act_keeps (acts.Router serial act) answer p e = router_act_keeps serial act answer p
 act_keeps (acts.Close end) answer p e = close_act_keeps end answer p
-act_keeps (acts.Hand sender) answer p e = absurd cc
-act_keeps (acts.Look sender) answer p e = absurd cc
-act_keeps (acts.Post to) answer p e = absurd cc
-act_keeps acts.Idle answer p e = absurd cc
+act_keeps other answer p e = absurd cc

@@ -13,20 +13,12 @@ use Rattle.ipcz_cell.specs.Mails.{old_named, OldLoaded, LoadsSource}
 trusted_none : (from : ℕ) (x : Message) → old_word x ≡ None → None ≡ trusted from x
 unfolding trusted
 trusted_none from (messages.AcceptBypass old side fresh length) e = cc
-trusted_none from (messages.Item link side number item moves) e = refl
-trusted_none from (messages.BypassPeer link side old target fresh) e = refl
-trusted_none from (messages.StopProxying old side in_length out_length) e = refl
-trusted_none from (messages.ProxyWillStop link side in_length) e = refl
-trusted_none from (messages.Flush link side) e = refl
+trusted_none from other e = refl
 
 trusted_sender : (from i : ℕ) (x : Message) → old_word x ≡ Some i → Some from ≡ trusted from x
 unfolding trusted
 trusted_sender from i (messages.AcceptBypass old side fresh length) e = refl
-trusted_sender from i (messages.Item link side number item moves) e = cc
-trusted_sender from i (messages.BypassPeer link side old target fresh) e = cc
-trusted_sender from i (messages.StopProxying old side in_length out_length) e = cc
-trusted_sender from i (messages.ProxyWillStop link side in_length) e = cc
-trusted_sender from i (messages.Flush link side) e = cc
+trusted_sender from i other e = cc
 
 -- what names an old link is a message
 pub message_named : (o : Option Message) (i : ℕ) → old_named o ≡ Some i → (x : Message) × (o ≡ Some x) × (old_word x ≡ Some i)

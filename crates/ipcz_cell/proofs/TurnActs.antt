@@ -82,10 +82,6 @@ post_lost t to old new h = record {
 
 -- an act that touches no word and no mailbox is answered nothing and sees nothing
 touch_done : (t : TableName) (p p' : Part) (act : Act) (event : Happened) → is_touch_act act ≡ true → p' ≡ act_part act answers.Plain p → event ≡ event_of p.state act answers.Plain → IsDone t p act event p' []
-touch_done t p p' (acts.Hand sender) event touch part is = cc
-touch_done t p p' (acts.Look sender) event touch part is = cc
-touch_done t p p' (acts.Post to) event touch part is = cc
-touch_done t p p' acts.Idle event touch part is = cc
 touch_done t p p' (acts.Close end) event touch part is = record { answer = answers.Plain; answered = (refl, refl); part = part; event_is = is }
 touch_done t p p' (acts.Router serial act) event touch part is = record { answer = answers.Plain; answered = plain act touch; part = part; event_is = is }
   where
@@ -104,6 +100,7 @@ touch_done t p p' (acts.Router serial act) event touch part is = record { answer
     plain router_acts.Claim e = cc
     plain router_acts.Lock e = cc
     plain router_acts.Unlock e = cc
+touch_done t p p' other event touch part is = cc
 
 pub touch_acts : (t : TableName) (act : Act) (old mid new : CellState) (event : Happened) → is_touch_act act ≡ true → mid.part ≡ old.part → mid.seen ≡ old.seen → event ≡ event_of mid.part.state act answers.Plain →
     new.part ≡ act_part act answers.Plain mid.part → new.seen ≡ mid.seen → Acts t act old (Ok event) new
@@ -114,27 +111,15 @@ touch_acts t act old mid new event touch same kept is part seen =
 -- it is refused before anything is done
 touch_lacks : (p : Part) (act : Act) → is_touch_act act ≡ true → lacks_serials p act [] ≡ act_lacks_serials p.state act
 touch_lacks p (acts.Hand sender) e = cc
-touch_lacks p (acts.Look sender) e = refl
-touch_lacks p (acts.Post to) e = refl
-touch_lacks p acts.Idle e = refl
-touch_lacks p (acts.Close end) e = refl
-touch_lacks p (acts.Router serial act) e = refl
+touch_lacks p other e = refl
 
 touch_sees : (size : ℕ) (p : Part) (act : Act) → is_touch_act act ≡ true → IsSeenBefore size p act []
 touch_sees size p (acts.Hand sender) e = cc
-touch_sees size p (acts.Look sender) e = refl
-touch_sees size p (acts.Post to) e = refl
-touch_sees size p acts.Idle e = refl
-touch_sees size p (acts.Close end) e = refl
-touch_sees size p (acts.Router serial act) e = refl
+touch_sees size p other e = refl
 
 touch_grows : (act : Act) → is_touch_act act ≡ true → act_grows act ≡ true → may_grow act ≡ true
 touch_grows (acts.Hand sender) e g = refl
-touch_grows (acts.Look sender) e g = g
-touch_grows (acts.Post to) e g = g
-touch_grows acts.Idle e g = g
-touch_grows (acts.Close end) e g = g
-touch_grows (acts.Router serial act) e g = g
+touch_grows other e g = g
 
 grown : (b : Bool) → (b ≡ false → false ≡ true) → b ≡ true
 grown true h = refl

@@ -138,12 +138,10 @@ ends_with t p loads found before word n m waits other last is = record {
 }
 
 lost_ends : (t : TableName) (p : Part) (loads found : Seen) (act : Act) → IsFirst t p loads act → IsLost t p act found → EndsRaced t p (loads ++ found)
-lost_ends t p loads found (acts.Hand sender) first lost = absurd lost
 lost_ends t p loads found (acts.Look sender) first lost = ends_with t p loads found first.full.before (mail_word t sender p.node) 1 lost.0 (inl (sender, first.inside, refl, refl)) lost.1 first.full.last lost.2
 lost_ends t p loads found (acts.Post to) first lost = let load = first.can.free lost.2 in ends_with t p loads found load.before (mail_word t p.node to) 0 lost.0 (inr (to, first.inside, refl, refl)) lost.1 load.last lost.3
-lost_ends t p loads found (acts.Close end) first lost = absurd lost
 lost_ends t p loads found (acts.Router serial act) first lost = record { before = loads; word = lost.0; loaded = lost.1; exchanged = lost.2; differ = lost.4; of = inl lost.3; last = ap (λ (l : Seen). loads ++ l) lost.5 }
-lost_ends t p loads found acts.Idle first lost = absurd lost
+lost_ends t p loads found other first lost = absurd lost
 
 refused_by : (size : ℕ) (p : Part) (act : Act) (L M : Type 0) (why : Refusal) (seen : Seen) → (L → M) → IsRefused size p act L why seen → IsRefused size p act M why seen
 refused_by size p act L M why seen f (NoSerials a b c) = NoSerials a b c

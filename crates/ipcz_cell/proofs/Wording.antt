@@ -132,16 +132,7 @@ has_word r router_acts.Lock w e = either_true (is_ready r && (is_some r.spare &&
 has_word r router_acts.Unlock w e = either_true (can_begin r) (can_retire r) (is_on_central r)
     (λ h. first_true _ _ (second_true r.holds _ (second_true (is_proxy r) _ h)))
     (λ h. first_true _ _ (second_true r.holds _ (second_true (is_done r) _ h))) (or_true _ false refl e)
-has_word r router_acts.SendOut w e = cc
-has_word r router_acts.SendIn w e = cc
-has_word r router_acts.Discard w e = cc
-has_word r router_acts.FinishOut w e = cc
-has_word r router_acts.FinishIn w e = cc
-has_word r router_acts.Leave w e = cc
-has_word r router_acts.Claim w e = cc
-has_word r router_acts.Begin w e = cc
-has_word r router_acts.Retire w e = cc
-has_word r router_acts.Rest w e = cc
+has_word r other w e = cc
 
 none_mapped : (s : Side) (o : Option ℕ) (named : Option (ℕ × Side)) → is_some o ≡ true → with_side s o ≡ named → named ≡ None → ⊥
 none_mapped s None named has e f = cc

@@ -60,9 +60,6 @@ none_move false es h = h
 sent_alone : (n : Node) (a : Applied) (to : ℕ) (m : Message) → outlook_of a ≡ outlooks.Item to 0 → Some m ≡ carried_by a →
     send n a ≡ push_out n to m
 unfolding send send_item carried_by
-sent_alone n outputs.Nothing to m out is = cc
-sent_alone n (outputs.Message i k) to m out is = cc
-sent_alone n (outputs.Discarded number item) to m out is = cc
 sent_alone n (outputs.Sent link number item) to m out is =
     let none : length (ends_in item) ≡ 0 = cc in
     let other : link.other ≡ to = cc in
@@ -70,6 +67,7 @@ sent_alone n (outputs.Sent link number item) to m out is =
     ap (λ es. post_item (move_ends (record { node = n; moves = [] }) link.other es) link number item)
     (none_move (nat_eq link.other n.number) (ends_in item) (no_ends (ends_in item) none))
     ∙ ap (λ i. push_out n i (item_message link number item [])) other ∙ ap (push_out n to) (sym same)
+sent_alone n any to m out is = cc
 
 -- that is what the act does with the node
 pub committed_alone : (n : Node) (serial : ℕ) (r : Router) (to : ℕ) (m : Message) → router_in n serial ≡ Some r →
@@ -87,13 +85,11 @@ told_alone : (n : Node) (serial : ℕ) (a : Applied) (to : ℕ) (m : Message) (s
     ((link : LinkEnd) (number : ℕ) (item : Item) → Some m ≡ carried_by (outputs.Sent link number item) → s ≡ (number, link.link)) →
     events.SendOut serial s.0 s.1 [] ≡ send_event n (λ number link ends. events.SendOut serial number link ends) a
 unfolding send_event carried_by
-told_alone n serial outputs.Nothing to m s out is told = cc
-told_alone n serial (outputs.Message i k) to m s out is told = cc
-told_alone n serial (outputs.Discarded number item) to m s out is told = cc
 told_alone n serial (outputs.Sent link number item) to m s out is told =
     let none : length (ends_in item) ≡ 0 = cc in
     ap (λ (t : ℕ × LinkId). events.SendOut serial t.0 t.1 []) (told link number item is)
     ∙ ap (events.SendOut serial number link.link) (sym (none_move (nat_eq link.other n.number) (ends_in item) (no_ends (ends_in item) none)))
+told_alone n serial any to m s out is told = cc
 
 -- that is the event of the act
 pub event_alone : (n : Node) (serial : ℕ) (r : Router) (to : ℕ) (m : Message) (s : ℕ × LinkId) → router_in n serial ≡ Some r →

@@ -89,11 +89,7 @@ item_found n sender link side number item moves h none =
 pub takes_no_serials : (m : Message) → grows_where_it_fits m ≡ false → serials_in m ≡ 0
 unfolding grows_where_it_fits serials_in
 takes_no_serials (messages.Item link side number item moves) h = absurd (true≢false h)
-takes_no_serials (messages.BypassPeer link side old target fresh) h = refl
-takes_no_serials (messages.AcceptBypass old side fresh length) h = refl
-takes_no_serials (messages.StopProxying old side in_length out_length) h = refl
-takes_no_serials (messages.ProxyWillStop link side in_length) h = refl
-takes_no_serials (messages.Flush link side) h = refl
+takes_no_serials other h = refl
 
 -- what a node is ready for, it is ready for after a change of its routers alone
 pub still_ready : (k j : RoomyNode) (a : Applied) → j.room.outboxes ≡ k.room.outboxes → j.room.links ≡ k.room.links →
@@ -116,10 +112,8 @@ still_ready k j (outputs.Discarded n item) outboxes links moves pending number s
 pub can_tell : (k j : RoomyNode) (a : Applied) → j.room.event_ends ≡ k.room.event_ends → j.node.number ≡ k.node.number → CanTell k a →
     CanTell j a
 unfolding moved_by
-can_tell k j outputs.Nothing room number h = omega arith
 can_tell k j (outputs.Sent link n item) room number h =
     let count : length (moved_ends j.node link item) ≡ length (moved_ends k.node link item) =
     ap (λ i. length (if nat_eq link.other i then [] else ends_in item)) number in
     omega (arith, count, h, room)
-can_tell k j (outputs.Message to m) room number h = omega arith
-can_tell k j (outputs.Discarded n item) room number h = omega arith
+can_tell k j any room number h = omega arith

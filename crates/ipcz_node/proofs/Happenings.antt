@@ -25,11 +25,9 @@ use Rattle.ipcz_node.proofs.Refiling.{first_of_both, second_of_both}
 sent : (n m : Node) (event : ℕ → _ → _ → Happened) (o : Applied) → m.number ≡ n.number →
     sent_event event o (moved_by m o) ≡ send_event n event o
 unfolding sent_event send_event moved_by
-sent n m event outputs.Nothing same = refl
 sent n m event (outputs.Sent link number item) same =
     ap (λ (i : ℕ). event number link.link (if nat_eq link.other i then [] else ends_in item)) same
-sent n m event (outputs.Message to message) same = refl
-sent n m event (outputs.Discarded number item) same = refl
+sent n m event any same = refl
 
 dropped : (s number : ℕ) (item : Option Item) → is_some item ≡ true → dropped_event s (discard_output number item) ≡
     (if item_passes is_gone_item item then events.DiscardLeave s number else events.Discard s number)
@@ -66,15 +64,6 @@ told n m s r acts.SendOut a may same = sent n m _ _ same
 told n m s r acts.SendIn a may same = sent n m _ _ same
 told n m s r acts.Discard a may same = dropped s r.in_queue.current (current_item r.in_queue)
     (second_of_both (is_sink r) _ (no_rest (is_sink r && is_some (current_item r.in_queue)) (is_rest (next_act r)) may))
-told n m s r acts.FinishOut a may same = refl
-told n m s r acts.FinishIn a may same = refl
-told n m s r acts.Leave a may same = refl
-told n m s r acts.Mark a may same = refl
-told n m s r acts.Wake a may same = refl
-told n m s r acts.Claim a may same = refl
-told n m s r acts.Lock a may same = refl
-told n m s r acts.Begin a may same = refl
 told n m s r acts.Retire a may same =
     retired s (next_number r) r.outward.primary (can_retire_linked r (no_rest (can_retire r) (is_rest (next_act r)) may))
-told n m s r acts.Unlock a may same = refl
-told n m s r acts.Rest a may same = refl
+told n m s r other a may same = refl

@@ -77,33 +77,23 @@ module _ (n : Node) (sender : ℕ) (s : ℕ) (r : Router) where
       handle n sender m ≡ tell (with_router n s (hear r sender m)) (answer_to r m)
   unfolding link_asked side_asked handle tell hear answer_to brings_item
   found_handled (messages.Item link side number item moves) here other = absurd (true≢false other)
-  found_handled (messages.BypassPeer link side old target fresh) here other = on_some n _ s r _ here
-  found_handled (messages.AcceptBypass old side fresh length) here other = on_some n _ s r _ here
-  found_handled (messages.StopProxying old side in_length out_length) here other = on_some n _ s r _ here
-  found_handled (messages.ProxyWillStop link side in_length) here other = on_some n _ s r _ here
-  found_handled (messages.Flush link side) here other = on_some n _ s r _ here
+  found_handled any here other = on_some n _ s r _ here
 
 -- where no router has the link, only a Flush fits
 pub lost_fits : (n : Node) (sender : ℕ) (m : Message) (source : Option ℕ) → link_router n (link_asked m) (side_asked m) ≡ None →
     brings_item m ≡ false → fits n sender m source ≡ is_dropped m
 unfolding link_asked side_asked fits is_dropped brings_item
 lost_fits n sender (messages.Item link side number item moves) source none other = absurd (true≢false other)
-lost_fits n sender (messages.BypassPeer link side old target fresh) source none other = passes_none _ _ none
 lost_fits n sender (messages.AcceptBypass old side fresh length) source none other = ap (λ b. b && is_source sender source) (passes_none _ _ none)
-lost_fits n sender (messages.StopProxying old side in_length out_length) source none other = passes_none _ _ none
-lost_fits n sender (messages.ProxyWillStop link side in_length) source none other = passes_none _ _ none
 lost_fits n sender (messages.Flush link side) source none other = refl
+lost_fits n sender any source none other = passes_none _ _ none
 
 -- and the node stays as it is
 pub lost_handled : (n : Node) (sender : ℕ) (m : Message) → link_router n (link_asked m) (side_asked m) ≡ None → brings_item m ≡ false →
     handle n sender m ≡ n
 unfolding link_asked side_asked handle brings_item
 lost_handled n sender (messages.Item link side number item moves) none other = absurd (true≢false other)
-lost_handled n sender (messages.BypassPeer link side old target fresh) none other = on_none n _ _ none
-lost_handled n sender (messages.AcceptBypass old side fresh length) none other = on_none n _ _ none
-lost_handled n sender (messages.StopProxying old side in_length out_length) none other = on_none n _ _ none
-lost_handled n sender (messages.ProxyWillStop link side in_length) none other = on_none n _ _ none
-lost_handled n sender (messages.Flush link side) none other = on_none n _ _ none
+lost_handled n sender any none other = on_none n _ _ none
 
 -- the room that a message wants is that for the router which has its link
 pub found_room : (k : RoomyNode) (m : Message) (s : ℕ) (r : Router) → link_router k.node (link_asked m) (side_asked m) ≡ Some (found s r) →
@@ -127,9 +117,6 @@ found_room k (messages.Flush link side) s r here other room = (omega arith, tt)
 -- a message that makes nothing grow wants none
 pub no_room_wanted : (k : RoomyNode) (m : Message) (r : Router) → grows_where_it_fits m ≡ false → HasRoomToHear k m r
 unfolding grows_where_it_fits answer_to links_brought
-no_room_wanted k (messages.Item link side number item moves) r none = absurd (true≢false none)
-no_room_wanted k (messages.BypassPeer link side old target fresh) r none = absurd (true≢false none)
-no_room_wanted k (messages.AcceptBypass old side fresh length) r none = absurd (true≢false none)
-no_room_wanted k (messages.StopProxying old side in_length out_length) r none = absurd (true≢false none)
 no_room_wanted k (messages.ProxyWillStop link side in_length) r none = (omega arith, tt)
 no_room_wanted k (messages.Flush link side) r none = (omega arith, tt)
+no_room_wanted k other r none = absurd (true≢false none)

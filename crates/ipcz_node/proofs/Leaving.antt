@@ -18,20 +18,8 @@ dropped number (Some item) = refl
 
 left : (r : Router) (act : RouterAct) → has_left act (output_of r act) ≡ leaves_by r act
 unfolding has_left leaves_by output_of
-left r acts.SendOut = refl
-left r acts.SendIn = refl
 left r acts.Discard = dropped r.in_queue.current (current_item r.in_queue)
-left r acts.FinishOut = refl
-left r acts.FinishIn = refl
-left r acts.Leave = refl
-left r acts.Mark = refl
-left r acts.Wake = refl
-left r acts.Claim = refl
-left r acts.Lock = refl
-left r acts.Begin = refl
-left r acts.Retire = refl
-left r acts.Unlock = refl
-left r acts.Rest = refl
+left r other = refl
 
 -- a router leaves by an act as what it gave tells
 pub leaves_so : (r : Router) (act : RouterAct) (given : Applied) → given ≡ output_of r act → has_left act given ≡ leaves_by r act

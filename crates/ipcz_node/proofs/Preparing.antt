@@ -62,10 +62,8 @@ wants_at k (Some r) act h = wants_as k (output_of r act) h.0 h.1
 
 serials_of : (n : Node) (a : Applied) → serials_as n (outlook_of a) ≡ serials_for n a
 unfolding serials_for
-serials_of n outputs.Nothing = refl
 serials_of n (outputs.Sent link number item) = sym (counted (nat_eq link.other n.number) (ends_in item))
-serials_of n (outputs.Message to m) = refl
-serials_of n (outputs.Discarded number item) = refl
+serials_of n any = refl
 
 -- and it takes as many serials
 pub serials_there : (n : Node) (o : Option Router) (act : RouterAct) → serials_as n (outlook_at o act) ≡ serials_at n o act

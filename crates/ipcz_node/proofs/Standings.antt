@@ -59,11 +59,7 @@ hear_standing r sender (messages.Flush link side) =
 pub hear_inside : (r : Router) (sender : ℕ) (m : Message) → ends_inside (hear r sender m) ≡ ends_inside r
 unfolding hear
 hear_inside r sender (messages.Item link side number item moves) = refl
-hear_inside r sender (messages.BypassPeer link side old target fresh) = refl
-hear_inside r sender (messages.AcceptBypass old side fresh length) = refl
-hear_inside r sender (messages.StopProxying old side in_length out_length) = refl
-hear_inside r sender (messages.ProxyWillStop link side in_length) = refl
-hear_inside r sender (messages.Flush link side) = refl
+hear_inside r sender other = refl
 
 pub take_standing : (r : Router) → FilesWithin 0 r (take_item r)
 take_standing r = record { few = omega (arith, same_links (filing_of r)); closes = λ h. h; stays = refl }

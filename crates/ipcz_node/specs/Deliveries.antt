@@ -1,5 +1,5 @@
 -- What comes of a message that is delivered to a node: it is taken or kept as a stray, or it is handed back.
-use Rattle.std.specs.Prelude.{◌≡◌, ◌<◌, ℕ, true, false, if◌then◌else◌, Option, Result, OnOk, IfErr, IsOk}
+use Rattle.std.specs.Prelude.{◌≡◌, ◌<◌, ℕ, true, false, if◌then◌else◌, Option, Result, OnOk, OnErr, IfErr, IsOk}
 use Rattle.ipcz_base.specs.declared.message.Message.{Message}
 use Rattle.ipcz_base.specs.declared.refusal.Refusal.{Refusal}
 use Rattle.ipcz_base.specs.declared.refusal.Refusal.TheVariants.{NumbersEnd, OutOfMemory}
@@ -19,3 +19,14 @@ pub record IsDelivered {A : Type 0} (old : RoomyNode) (sender : ℕ) (m : Messag
   pub full : fits old.node sender m source ≡ true → HasRoomFor old m → message_lacks_serials old.node sender m source ≡ false → IsOk result
   pub stray : fits old.node sender m source ≡ false → 0 < old.room.strays → IsOk result
   pub err : IfErr result (λ e. (e.1 ≡ m) × (new.node ≡ old.node))
+
+-- the same of a message that lies where its owner keeps it: it is left as it is where it is refused, and counts for nothing where it is taken
+pub record IsDeliveredInPlace {A : Type 0} (old : RoomyNode) (sender : ℕ) (m left : Message) (source : Option ℕ) (after : Node)
+    (result : Result A Refusal) (new : RoomyNode) : Type 0 where
+  pub ok : OnOk result (new.node ≡ after)
+  pub allowed : OnOk result (message_lacks_serials old.node sender m source ≡ false)
+  pub why : IfErr result (λ e. e ≡ (if message_lacks_serials old.node sender m source then NumbersEnd else OutOfMemory))
+  pub grows : message_grows old.node sender m source ≡ false → IsOk result
+  pub full : fits old.node sender m source ≡ true → HasRoomFor old m → message_lacks_serials old.node sender m source ≡ false → IsOk result
+  pub stray : fits old.node sender m source ≡ false → 0 < old.room.strays → IsOk result
+  pub err : OnErr result ((left ≡ m) × (new.node ≡ old.node))

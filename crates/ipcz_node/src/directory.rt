@@ -342,6 +342,7 @@ impl Directory {
     }
 
     /// Does an act of the router of the serial, as `Router::apply`; a router that leaves is taken out by `remove`.
+    #[inline(always)]
     pub fn act(&mut self, serial: u64, act: RouterAct, answer: Answer) -> Applied
         requires possible { IsSomeAnd (get self.old.filed.routers serial) (λ r. may_take r act ≡ true) }
         requires answer { IsAnswerOf act answer }

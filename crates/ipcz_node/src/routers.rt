@@ -163,6 +163,20 @@ fn place_of<T>(entries: &[(u64, T)], serial: u64) -> Option<usize>
     if let Some(place) = likely_place(entries, serial) {
         return Some(place);
     }
+    if let Some(place) = place_from_last(entries, serial) {
+        return Some(place);
+    }
+    searched_place(entries, serial)
+}
+
+// The same by halving.
+#[cold]
+#[inline(never)]
+fn searched_place<T>(entries: &[(u64, T)], serial: u64) -> Option<usize>
+    requires { (next : ℕ) × AreRising 0 next entries.now }
+    ensures found { MatchOption result (find nat_cmp serial entries.now ≡ None) (λ i. key_at entries.now i ≡ Some serial) }
+    ensures within { IfSome result (λ i. i < length entries.now) }
+{
     match entries.binary_search_by_key(&serial, |entry| entry.0) {
         Ok(place) => Some(place),
         Err(_) => None,
@@ -181,6 +195,18 @@ fn likely_place<T>(entries: &[(u64, T)], serial: u64) -> Option<usize>
     } else {
         None
     }
+}
+
+// Where the entry of the serial stands, if none behind it has left.
+fn place_from_last<T>(entries: &[(u64, T)], serial: u64) -> Option<usize>
+    ensures found { IfSome result (λ i. key_at entries.now i ≡ Some serial) }
+    ensures within { IfSome result (λ i. i < length entries.now) }
+{
+    let last = entries.last()?.0;
+    let behind = last.wrapping_sub(serial) as usize;
+    let place = entries.len().wrapping_sub(behind).wrapping_sub(1);
+    let found = entries.get(place)?.0;
+    if found == serial { Some(place) } else { None }
 }
 
 // How many entries have a lower serial. They stand in front.

@@ -49,15 +49,7 @@ words_in (b ∷ bs) = omega (arith, length-append (codes "words") (32 ∷ b ∷ 
 -- the marks of a line are bounded by its text
 marks_in : (text : List ℕ) (line : Line) → IsLine text line → most_marks line ≤ 3000 + 1890 * length text
 marks_in text (lines.Words values) h = omega (arith, words_in values.now, ap length h.spelled)
-marks_in text (lines.Open a b c) h = omega arith
-marks_in text (lines.Put a b) h = omega arith
-marks_in text (lines.Close a b) h = omega arith
-marks_in text (lines.Missed a b) h = omega arith
-marks_in text (lines.Got a b c d) h = omega arith
-marks_in text (lines.Turn a b) h = omega arith
-marks_in text lines.Settled h = omega arith
-marks_in text lines.Unsettled h = omega arith
-marks_in text (lines.Refused a) h = omega arith
+marks_in text other h = omega arith
 
 rows_in : (read : List ReadLine) → All IsReadLine read →
     sum_by most_row read ≤ 4300 * length read + 1900 * length (flat_map with_line_feed read)

@@ -50,10 +50,8 @@ move_ends_hand m to (e ∷ es) = move_ends_hand (move_end m to e) to es ∙ move
 
 send_hand : (n : Node) (out : Applied) → (send n out).hand ≡ n.hand
 unfolding send send_item
-send_hand n outputs.Nothing = refl
 send_hand n (outputs.Sent link number item) = move_ends_hand (record { node = n; moves = [] }) link.other (moved_ends n link item)
-send_hand n (outputs.Message to message) = refl
-send_hand n (outputs.Discarded number item) = refl
+send_hand n any = refl
 
 keep_hand : (n : Node) (serial : ℕ) (r : Router) (leaves : Bool) → (keep_or_drop n serial r leaves).hand ≡ n.hand
 unfolding keep_or_drop
@@ -81,20 +79,14 @@ is_plain_touch other = false
 
 plain_touch : (x : Word) (s : Side) (o : Option ℕ) (act : RouterAct) → is_plain_touch act ≡ true → word_answer x s o act ≡ answers.Plain
 unfolding word_answer
-plain_touch x s o acts.SendOut e = refl
-plain_touch x s o acts.SendIn e = refl
 plain_touch x s o acts.Discard e = cc
-plain_touch x s o acts.FinishOut e = refl
-plain_touch x s o acts.FinishIn e = refl
-plain_touch x s o acts.Leave e = refl
 plain_touch x s o acts.Mark e = cc
 plain_touch x s o acts.Wake e = cc
 plain_touch x s o acts.Claim e = cc
 plain_touch x s o acts.Lock e = cc
-plain_touch x s o acts.Begin e = refl
 plain_touch x s o acts.Retire e = cc
 plain_touch x s o acts.Unlock e = cc
-plain_touch x s o acts.Rest e = refl
+plain_touch x s o other e = refl
 
 plain_link : (w : World) (s : Side) (o : Option ℕ) (act : RouterAct) (i : Option ℕ) → is_plain_touch act ≡ true → link_answer w s o act i ≡ answers.Plain
 unfolding link_answer
@@ -103,54 +95,30 @@ plain_link w s o act (Some i) e = plain_touch (word_at w i) s o act e
 
 after_touch : (w : World) (n serial : ℕ) (r : Router) (act : RouterAct) → is_plain_touch act ≡ true → after_router_act w n serial act (Some r) ≡ set_node w n (commit (node_at w n) (OfRouter serial act) answers.Plain)
 unfolding after_router_act touch answer_of
-after_touch w n serial r acts.SendOut e = ap (λ a. set_node w n (commit (node_at w n) (OfRouter serial acts.SendOut) a)) (plain_link w r.end.side (source_of r) acts.SendOut (primary_word r) e)
-after_touch w n serial r acts.SendIn e = ap (λ a. set_node w n (commit (node_at w n) (OfRouter serial acts.SendIn) a)) (plain_link w r.end.side (source_of r) acts.SendIn (primary_word r) e)
 after_touch w n serial r acts.Discard e = cc
-after_touch w n serial r acts.FinishOut e = ap (λ a. set_node w n (commit (node_at w n) (OfRouter serial acts.FinishOut) a)) (plain_link w r.end.side (source_of r) acts.FinishOut (primary_word r) e)
-after_touch w n serial r acts.FinishIn e = ap (λ a. set_node w n (commit (node_at w n) (OfRouter serial acts.FinishIn) a)) (plain_link w r.end.side (source_of r) acts.FinishIn (primary_word r) e)
-after_touch w n serial r acts.Leave e = ap (λ a. set_node w n (commit (node_at w n) (OfRouter serial acts.Leave) a)) (plain_link w r.end.side (source_of r) acts.Leave (primary_word r) e)
 after_touch w n serial r acts.Mark e = cc
 after_touch w n serial r acts.Wake e = cc
 after_touch w n serial r acts.Claim e = cc
 after_touch w n serial r acts.Lock e = cc
-after_touch w n serial r acts.Begin e = ap (λ a. set_node w n (commit (node_at w n) (OfRouter serial acts.Begin) a)) (plain_link w r.end.side (source_of r) acts.Begin (primary_word r) e)
 after_touch w n serial r acts.Retire e = cc
 after_touch w n serial r acts.Unlock e = cc
-after_touch w n serial r acts.Rest e = ap (λ a. set_node w n (commit (node_at w n) (OfRouter serial acts.Rest) a)) (plain_link w r.end.side (source_of r) acts.Rest (primary_word r) e)
+after_touch w n serial r other e = ap (λ a. set_node w n (commit (node_at w n) (OfRouter serial other) a)) (plain_link w r.end.side (source_of r) other (primary_word r) e)
 
 touch_is : (w : World) (r : Router) (act : RouterAct) → is_on_word act ≡ true → touch w r act ≡ touch_word w r.end.side (source_of r) act (primary_word r)
 unfolding touch
-touch_is w r acts.SendOut e = cc
-touch_is w r acts.SendIn e = cc
-touch_is w r acts.Discard e = cc
-touch_is w r acts.FinishOut e = cc
-touch_is w r acts.FinishIn e = cc
-touch_is w r acts.Leave e = cc
 touch_is w r acts.Mark e = refl
 touch_is w r acts.Wake e = refl
-touch_is w r acts.Claim e = cc
 touch_is w r acts.Lock e = refl
-touch_is w r acts.Begin e = cc
-touch_is w r acts.Retire e = cc
 touch_is w r acts.Unlock e = refl
-touch_is w r acts.Rest e = cc
+touch_is w r other e = cc
 
 answer_is : (w : World) (r : Router) (act : RouterAct) → is_on_word act ≡ true → answer_of w r act ≡ link_answer w r.end.side (source_of r) act (primary_word r)
 unfolding answer_of
-answer_is w r acts.SendOut e = cc
-answer_is w r acts.SendIn e = cc
-answer_is w r acts.Discard e = cc
-answer_is w r acts.FinishOut e = cc
-answer_is w r acts.FinishIn e = cc
-answer_is w r acts.Leave e = cc
 answer_is w r acts.Mark e = refl
 answer_is w r acts.Wake e = refl
-answer_is w r acts.Claim e = cc
 answer_is w r acts.Lock e = refl
-answer_is w r acts.Begin e = cc
-answer_is w r acts.Retire e = cc
 answer_is w r acts.Unlock e = refl
-answer_is w r acts.Rest e = cc
+answer_is w r other e = cc
 
 -- the world after an act on the word i
 abbrev pub word_world : World → ℕ → ℕ → Router → RouterAct → ℕ → World
@@ -165,31 +133,17 @@ after_word w n serial r act i e p = rw (touch_is w r act e, answer_is w r act e,
 quiet_word : (w : World) (b : Books) (n serial : ℕ) (link : LinkId) (a : Answer) → after_turn w b n (word_event serial link a) ≡ b
 unfolding after_turn word_event
 quiet_word w b n serial link answers.Plain = refl
-quiet_word w b n serial link (answers.Claimed i) = refl
-quiet_word w b n serial link answers.NoWord = refl
-quiet_word w b n serial link (answers.Marked word was) = refl
-quiet_word w b n serial link (answers.Word word) = refl
-quiet_word w b n serial link (answers.Locked word) = refl
-quiet_word w b n serial link (answers.Waiting word) = refl
-quiet_word w b n serial link (answers.Refused word) = refl
+quiet_word w b n serial link other = refl
 
 quiet_unlock : (w : World) (b : Books) (n serial : ℕ) (link : LinkId) (a : Answer) → after_turn w b n (unlock_event serial link a) ≡ b
 unfolding after_turn unlock_event
 quiet_unlock w b n serial link answers.Plain = refl
-quiet_unlock w b n serial link (answers.Claimed i) = refl
-quiet_unlock w b n serial link answers.NoWord = refl
-quiet_unlock w b n serial link (answers.Marked word was) = refl
-quiet_unlock w b n serial link (answers.Word word) = refl
-quiet_unlock w b n serial link (answers.Locked word) = refl
-quiet_unlock w b n serial link (answers.Waiting word) = refl
-quiet_unlock w b n serial link (answers.Refused word) = refl
+quiet_unlock w b n serial link other = refl
 
 quiet_send : (w : World) (b : Books) (x : Node) (n : ℕ) (event : ℕ → LinkId → List End → Happened) (out : Applied) → ((k : ℕ) (l : LinkId) (es : List End) → after_turn w b n (event k l es) ≡ b) → after_turn w b n (send_event x event out) ≡ b
 unfolding after_turn send_event
-quiet_send w b x n event outputs.Nothing h = refl
 quiet_send w b x n event (outputs.Sent link number item) h = h number link.link (moved_ends x link item)
-quiet_send w b x n event (outputs.Message to message) h = refl
-quiet_send w b x n event (outputs.Discarded number item) h = refl
+quiet_send w b x n event other h = refl
 
 -- acts that write no book
 abbrev pub is_unwritten : RouterAct → Bool
@@ -202,17 +156,13 @@ unfolding after_turn router_event
 quiet_act w b x n serial r acts.SendOut a e = quiet_send w b x n (λ number link ends. events.SendOut serial number link ends) (output_of r acts.SendOut) (λ k l es. refl)
 quiet_act w b x n serial r acts.SendIn a e = quiet_send w b x n (λ number link ends. events.SendIn serial number link ends) (output_of r acts.SendIn) (λ k l es. refl)
 quiet_act w b x n serial r acts.Discard a e = cc
-quiet_act w b x n serial r acts.FinishOut a e = refl
-quiet_act w b x n serial r acts.FinishIn a e = refl
-quiet_act w b x n serial r acts.Leave a e = refl
 quiet_act w b x n serial r acts.Mark a e = quiet_word w b n serial (link_of r.outward.primary) a
 quiet_act w b x n serial r acts.Wake a e = quiet_word w b n serial (link_of r.outward.primary) a
 quiet_act w b x n serial r acts.Claim a e = quiet_word w b n serial (link_of r.outward.primary) a
 quiet_act w b x n serial r acts.Lock a e = quiet_word w b n serial (link_of r.outward.primary) a
-quiet_act w b x n serial r acts.Begin a e = refl
 quiet_act w b x n serial r acts.Retire a e = cc
 quiet_act w b x n serial r acts.Unlock a e = quiet_unlock w b n serial (link_of r.outward.primary) a
-quiet_act w b x n serial r acts.Rest a e = refl
+quiet_act w b x n serial r other a e = refl
 
 quiet_at : (w : World) (b : Books) (x : Node) (n serial : ℕ) (f : Option Router) (act : RouterAct) (a : Answer) → is_unwritten act ≡ true → after_turn w b n (event_at x serial f act a) ≡ b
 unfolding after_turn event_at
@@ -254,36 +204,14 @@ act_after w b g n serial x r act lawful inside is can e =
     (subst (λ (c : Books). After w b g n (OfRouter serial act) (after_act w n (OfRouter serial act)) c (act_routes w g n serial act)) (quiet_turn w b n serial r act there e) kept)
 
 pub unwritten_touch : (act : RouterAct) → is_plain_touch act ≡ true → is_unwritten act ≡ true
-unwritten_touch acts.SendOut e = refl
-unwritten_touch acts.SendIn e = refl
 unwritten_touch acts.Discard e = cc
-unwritten_touch acts.FinishOut e = refl
-unwritten_touch acts.FinishIn e = refl
-unwritten_touch acts.Leave e = refl
-unwritten_touch acts.Mark e = refl
-unwritten_touch acts.Wake e = refl
-unwritten_touch acts.Claim e = refl
-unwritten_touch acts.Lock e = refl
-unwritten_touch acts.Begin e = refl
 unwritten_touch acts.Retire e = cc
-unwritten_touch acts.Unlock e = refl
-unwritten_touch acts.Rest e = refl
+unwritten_touch other e = refl
 
 pub unwritten_word : (act : RouterAct) → is_on_word act ≡ true → is_unwritten act ≡ true
-unwritten_word acts.SendOut e = refl
-unwritten_word acts.SendIn e = refl
 unwritten_word acts.Discard e = cc
-unwritten_word acts.FinishOut e = refl
-unwritten_word acts.FinishIn e = refl
-unwritten_word acts.Leave e = refl
-unwritten_word acts.Mark e = refl
-unwritten_word acts.Wake e = refl
-unwritten_word acts.Claim e = refl
-unwritten_word acts.Lock e = refl
-unwritten_word acts.Begin e = refl
 unwritten_word acts.Retire e = cc
-unwritten_word acts.Unlock e = refl
-unwritten_word acts.Rest e = refl
+unwritten_word other e = refl
 
 -- the part after an act of a router with this answer, where it writes no book
 abbrev pub plain_part : ℕ → RouterAct → Answer → Part → Part

@@ -94,20 +94,9 @@ discards count size slots id i m p serial rt is can =
 
 -- the part after an act of a router that writes no book
 pub part_is : (serial : ℕ) (act : RouterAct) (a : Answer) (p : Part) → is_unwritten act ≡ true → act_part (OfRouter serial act) a p ≡ plain_part serial act a p
-part_is serial acts.SendOut a p e = refl
-part_is serial acts.SendIn a p e = refl
 part_is serial acts.Discard a p e = cc
-part_is serial acts.FinishOut a p e = refl
-part_is serial acts.FinishIn a p e = refl
-part_is serial acts.Leave a p e = refl
-part_is serial acts.Mark a p e = refl
-part_is serial acts.Wake a p e = refl
-part_is serial acts.Claim a p e = refl
-part_is serial acts.Lock a p e = refl
-part_is serial acts.Begin a p e = refl
 part_is serial acts.Retire a p e = cc
-part_is serial acts.Unlock a p e = refl
-part_is serial acts.Rest a p e = refl
+part_is serial other a p e = refl
 
 -- the part after a discard
 pub dropped_part_is : (serial : ℕ) (p : Part) (r : Router) → router_in p.state serial ≡ Some r →
@@ -116,20 +105,14 @@ dropped_part_is serial p r there = rw there refl
 
 -- a touch writes no book, or is a discard, or a retire
 touch_writes : (act : RouterAct) → is_touch act ≡ true → (is_plain_touch act ≡ true) ⊎ ((act ≡ acts.Discard) ⊎ (act ≡ acts.Retire))
-touch_writes acts.SendOut e = inl refl
-touch_writes acts.SendIn e = inl refl
 touch_writes acts.Discard e = inr (inl refl)
-touch_writes acts.FinishOut e = inl refl
-touch_writes acts.FinishIn e = inl refl
-touch_writes acts.Leave e = inl refl
 touch_writes acts.Mark e = cc
 touch_writes acts.Wake e = cc
 touch_writes acts.Claim e = cc
 touch_writes acts.Lock e = cc
-touch_writes acts.Begin e = inl refl
 touch_writes acts.Retire e = inr (inr refl)
 touch_writes acts.Unlock e = cc
-touch_writes acts.Rest e = inl refl
+touch_writes other e = inl refl
 
 -- what a touch is and leaves of the seat, where its part is this
 abbrev Touch : ℕ → ℕ → ℕ → ℕ → ℕ → Mine → ℕ → Act → Part → Type 0

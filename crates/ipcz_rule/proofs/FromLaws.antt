@@ -105,10 +105,6 @@ source_is from (Some a) h = grind (arith, nat_tests, h)
 -- the source that the world gives for a message in hand
 pub hand_source : (w : World) (b : Books) (g : Routes) (n from : ℕ) (x : Message) → Lawful w b g → n < w.count → from < w.count → mail_at w (way w from n) ≡ mails.Hand x → source_for w x ≡ trusted from x
 unfolding source_for trusted
-hand_source w b g n from (messages.Item link side number item moves) law l k full = refl
-hand_source w b g n from (messages.BypassPeer link side old target fresh) law l k full = refl
 hand_source w b g n from (messages.AcceptBypass old side fresh length) law l k full =
     source_is from (source_for w (messages.AcceptBypass old side fresh length)) ((lawful_worlds_stray_nothing w b g law).1.sourced from n 0 old side fresh length (in_flow w from n (messages.AcceptBypass old side fresh length) k l full))
-hand_source w b g n from (messages.StopProxying old side in_length out_length) law l k full = refl
-hand_source w b g n from (messages.ProxyWillStop link side in_length) law l k full = refl
-hand_source w b g n from (messages.Flush link side) law l k full = refl
+hand_source w b g n from other law l k full = refl

@@ -28,12 +28,9 @@ can_act x serial act can serials = let t = some_and (router_in x serial) act can
 
 -- a touch is a pending close or an act of a router
 which : (act : Act) → is_touch_act act ≡ true → ((e : End) × (act ≡ acts.Close e)) ⊎ ((serial : ℕ) × (a : RouterAct) × (act ≡ acts.Router serial a))
-which (acts.Hand from) e = cc
-which (acts.Look from) e = cc
-which (acts.Post to) e = cc
 which (acts.Close end) e = inl (end, refl)
 which (acts.Router serial act) e = inr (serial, act, refl)
-which acts.Idle e = cc
+which other e = cc
 
 -- what is owed of an act that is a touch
 abbrev Touch : ℕ → ℕ → ℕ → ℕ → ℕ → Mine → Part → Act → Type 0

@@ -59,20 +59,9 @@ by_plan_named x s o Refuses old new = old
 
 named_after : (x : Word) (s : Side) (o : Option ℕ) (act : RouterAct) → HasNode x.source → HasNode o → HasNode (word_after x s o act).source
 unfolding word_after
-named_after x s o acts.SendOut old new = old
-named_after x s o acts.SendIn old new = old
-named_after x s o acts.Discard old new = old
-named_after x s o acts.FinishOut old new = old
-named_after x s o acts.FinishIn old new = old
-named_after x s o acts.Leave old new = old
-named_after x s o acts.Mark old new = old
-named_after x s o acts.Wake old new = old
-named_after x s o acts.Claim old new = old
 named_after x s o acts.Lock old new = by_plan_named x s o (plan_of x s) old new
-named_after x s o acts.Begin old new = old
-named_after x s o acts.Retire old new = old
 named_after x s o acts.Unlock old new = tt
-named_after x s o acts.Rest old new = old
+named_after x s o other old new = old
 
 module _ (count size : ℕ) (s : St) (r : Rules count size s) (id : ℕ) (v v' : View) (p : Part) (serial : ℕ) (rt : Router) (act : RouterAct) (i n' : ℕ)
     (at : get_elem? s.views id ≡ some v) (is : v.parts ≡ p ∷ []) (can : CanAct p.state serial rt act) (on : is_on_word act ≡ true) (primary : primary_word rt ≡ Some i) (inside : i < size)

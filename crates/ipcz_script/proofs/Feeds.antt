@@ -174,16 +174,4 @@ decimal_namely n = digits_namely (decimal n) (decimal_digits n)
 
 pub refusal_lacks : (why : Refusal) → lacks 10 (name_of why) ≡ true
 refusal_lacks refusals.OutOfMemory = refl
-refusal_lacks refusals.Empty = refl
-refusal_lacks refusals.PeerClosed = refl
-refusal_lacks refusals.NoWord = refl
-refusal_lacks refusals.SelfAttach = refl
-refusal_lacks refusals.PeerAttach = refl
-refusal_lacks refusals.Stranger = refl
-refusal_lacks refusals.NumbersEnd = refl
-refusal_lacks refusals.BadData = refl
-refusal_lacks refusals.TooMany = refl
-refusal_lacks refusals.Raced = refl
-refusal_lacks refusals.Occupied = refl
-refusal_lacks refusals.Passed = refl
-refusal_lacks refusals.Forged = refl
+refusal_lacks other = refl

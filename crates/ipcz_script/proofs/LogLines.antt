@@ -69,11 +69,7 @@ named-titles : (s : Session) (first second : List ℕ) (reply : Reply) → is_na
 unfolding name_pair
 named-titles s first second (replies.Opened a b) f g are = bind-titles (bind s first a) second b (namely second g)
     (bind-titles s first a (namely first f) are)
-named-titles s first second (replies.Put n) f g are = are
-named-titles s first second (replies.Got n p) f g are = are
-named-titles s first second (replies.Closed n) f g are = are
-named-titles s first second (replies.Turned event) f g are = are
-named-titles s first second (replies.Refused why) f g are = are
+named-titles s first second other f g are = are
 
 known-titles : {X : Type 0} (s : Session) (o : Option X) (call : X → Replied) → ((x : X) → (call x).session.titles ≡ s.titles) →
     (if_known s o call).session.titles ≡ s.titles
@@ -161,16 +157,7 @@ IsNoParcel other = Unit {0}
 -- what holds of each parcel that is an answer
 got-of : (answer : Said) → ((n : ℕ) (p : parcels.Parcel) → answer ≡ said.Got n p → lacks 10 p.bytes ≡ true) → GotNoFeed answer
 got-of (said.Got n p) h = h n p refl
-got-of said.Opened h = tt
-got-of (said.Put n) h = tt
-got-of (said.Closed n) h = tt
-got-of (said.Turned rs) h = tt
-got-of said.Settled h = tt
-got-of said.Unsettled h = tt
-got-of (said.Words ws) h = tt
-got-of said.UnknownName h = tt
-got-of said.Away h = tt
-got-of (said.Refused why) h = tt
+got-of other h = tt
 
 -- a step that may be refused
 unless-no : (w v : World) (c : Bool) (o : Option Refusal) (reply : Reply) (why : Refusal) → IsNoParcel (answer_to reply) →

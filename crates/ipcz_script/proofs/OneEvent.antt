@@ -121,20 +121,15 @@ behind_two x v n l = append_assoc (x ++ v) n l ∙ append_assoc x v (n ++ l)
 
 words-text : (e : Happened) → event_text e ≡ spaced (event_words e)
 words-text (events.Hand kind link unfit) = hand-words kind link unfit
-words-text (events.Look sender) = refl
-words-text (events.Post to) = refl
-words-text (events.Close end) = refl
 words-text (events.SendOut s n link moved) = sent-spaced s n (codes "out") link moved
 words-text (events.SendIn s n link moved) = sent-spaced s n (codes "in") link moved
 words-text (events.Discard s n) = append_assoc (router s) (codes " discard ") (decimal n)
 words-text (events.DiscardLeave s n) = behind_two (router s) (codes " discard ") (decimal n) (codes " leave")
 words-text (events.FinishOut s link) = numbered (router s) (codes "finish out") (link_text link)
 words-text (events.FinishIn s link) = numbered (router s) (codes "finish in") (link_text link)
-words-text (events.Leave s) = refl
 words-text (events.Mark s link word) = opened (router s) (codes "mark") (link_text link) (decimal word)
 words-text (events.Wake s link word) = opened (router s) (codes "wake") (link_text link) (decimal word)
 words-text (events.Claim s word) = append_assoc (router s) (codes " claim ") (decimal word)
-words-text (events.ClaimNoWord s) = refl
 words-text (events.Lock s link word) = opened (router s) (codes "lock") (link_text link) (decimal word)
 words-text (events.Wait s link word) = opened (router s) (codes "wait") (link_text link) (decimal word)
 words-text (events.Refused s link word) = opened (router s) (codes "refused") (link_text link) (decimal word)
@@ -143,8 +138,7 @@ words-text (events.Retire s n link) =
     append_assoc (router s ++ codes " retire " ++ decimal n) (codes " ") (link_text link)
     ∙ behind_two (router s) (codes " retire ") (decimal n) (32 ∷ link_text link)
 words-text (events.Unlock s link word) = opened (router s) (codes "unlock") (link_text link) (decimal word)
-words-text (events.Rest s) = refl
-words-text events.Idle = refl
+words-text other = refl
 
 -- ---- each is a word
 

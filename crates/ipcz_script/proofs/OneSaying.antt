@@ -148,19 +148,7 @@ answer_named word =
 
 named-refusal : (why : Refusal) → answer_named (answer_text (Refused why)) ≡ Refused why
 named-refusal refusals.OutOfMemory = refl
-named-refusal refusals.Empty = refl
-named-refusal refusals.PeerClosed = refl
-named-refusal refusals.NoWord = refl
-named-refusal refusals.SelfAttach = refl
-named-refusal refusals.PeerAttach = refl
-named-refusal refusals.Stranger = refl
-named-refusal refusals.NumbersEnd = refl
-named-refusal refusals.BadData = refl
-named-refusal refusals.TooMany = refl
-named-refusal refusals.Raced = refl
-named-refusal refusals.Occupied = refl
-named-refusal refusals.Passed = refl
-named-refusal refusals.Forged = refl
+named-refusal other = refl
 
 named-answer : (r : Answer) → IsWorded r → answer_named (answer_text r) ≡ r
 named-answer Done h = refl
@@ -176,19 +164,7 @@ letter b h d = omega (arith, h, d.1)
 refusal-letter : (why : Refusal) → 57 < first (answer_text (Refused why))
 unfolding first
 refusal-letter refusals.OutOfMemory = omega arith
-refusal-letter refusals.Empty = omega arith
-refusal-letter refusals.PeerClosed = omega arith
-refusal-letter refusals.NoWord = omega arith
-refusal-letter refusals.SelfAttach = omega arith
-refusal-letter refusals.PeerAttach = omega arith
-refusal-letter refusals.Stranger = omega arith
-refusal-letter refusals.NumbersEnd = omega arith
-refusal-letter refusals.BadData = omega arith
-refusal-letter refusals.TooMany = omega arith
-refusal-letter refusals.Raced = omega arith
-refusal-letter refusals.Occupied = omega arith
-refusal-letter refusals.Passed = omega arith
-refusal-letter refusals.Forged = omega arith
+refusal-letter other = omega arith
 
 -- a word begins with a letter, and so is no number
 no-number : (r : Answer) → IsWorded r → IsDigit (first (answer_text r)) → ⊥

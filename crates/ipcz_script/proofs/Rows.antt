@@ -50,26 +50,12 @@ turn_rows-text node (r ∷ rs) =
 
 turned-text : (node : ℕ) (answer : Said) → lines_of_turns node answer ≡ text_of (rows_of_turns node answer)
 turned-text node (said.Turned turns) = turn_rows-text node turns
-turned-text node said.Opened = refl
-turned-text node (said.Put n) = refl
-turned-text node (said.Got n p) = refl
-turned-text node (said.Closed n) = refl
-turned-text node said.Settled = refl
-turned-text node said.Unsettled = refl
-turned-text node (said.Words ws) = refl
-turned-text node said.UnknownName = refl
-turned-text node said.Away = refl
-turned-text node (said.Refused why) = refl
+turned-text node other = refl
 
 -- the text of a command is its lines
 pub rows-text : (titles : Titles) (c : Command) (answer : Said) → lines_of titles c answer ≡ text_of (rows_of titles c answer)
 rows-text titles (commands.Turn node count) answer = turned-text node answer
-rows-text titles (commands.Open node first second) answer = refl
-rows-text titles (commands.Put at text attached) answer = refl
-rows-text titles (commands.Get at) answer = refl
-rows-text titles (commands.Close at) answer = refl
-rows-text titles (commands.Settle limit) answer = refl
-rows-text titles commands.Show answer = refl
+rows-text titles other answer = refl
 
 -- ---- line feeds
 
@@ -114,11 +100,7 @@ moved-lacks (e ∷ es) = both (end_text e) (more_ends es) (end-lacks e) (more_en
 
 kind-lacks : (kind : Handed) → L (kind_text kind)
 kind-lacks (kinds.Item n) = number n
-kind-lacks kinds.BypassPeer = refl
-kind-lacks kinds.AcceptBypass = refl
-kind-lacks kinds.StopProxying = refl
-kind-lacks kinds.ProxyWillStop = refl
-kind-lacks kinds.Flush = refl
+kind-lacks other = refl
 
 unfit-lacks : (kind : Handed) (unfit : Bool) → L (if unfit then unfit_text kind else [])
 unfit-lacks kind false = refl
@@ -197,10 +179,7 @@ event-lacks events.Idle = refl
 turn-lacks : (r : Reply) → L (turn_text r)
 turn-lacks (replies.Turned event) = event-lacks event
 turn-lacks (replies.Refused why) = refusal_lacks why
-turn-lacks (replies.Opened a b) = refl
-turn-lacks (replies.Put n) = refl
-turn-lacks (replies.Got n p) = refl
-turn-lacks (replies.Closed n) = refl
+turn-lacks other = refl
 
 turn_rows-feeds : (node : ℕ) (rs : List Reply) → HaveNoFeeds (turn_rows node rs)
 turn_rows-feeds node [] = tt
@@ -234,7 +213,6 @@ words-lack [] = refl
 words-lack (w ∷ ws) = both (decimal w) (words_text ws) (number w) (words-lack ws)
 
 tail-lacks : (titles : Titles) (answer : Said) → AreTitles titles → GotNoFeed answer → L (tail_of titles answer)
-tail-lacks titles said.Opened are h = refl
 tail-lacks titles (said.Put n) are h = number n
 tail-lacks titles (said.Got n p) are h =
     word (decimal n ++ codes " [" ++ titles_text titles p.ends ++ codes "] \"" ++ p.bytes) (codes "\"") refl
@@ -243,26 +221,13 @@ tail-lacks titles (said.Got n p) are h =
     (both (decimal n ++ codes " [") (titles_text titles p.ends)
     (word (decimal n) (codes " [") refl (number n)) (titles-lack titles are p.ends))) h)
 tail-lacks titles (said.Closed n) are h = number n
-tail-lacks titles (said.Turned turns) are h = refl
-tail-lacks titles said.Settled are h = refl
-tail-lacks titles said.Unsettled are h = refl
 tail-lacks titles (said.Words ws) are h = words-lack ws
-tail-lacks titles said.UnknownName are h = refl
-tail-lacks titles said.Away are h = refl
 tail-lacks titles (said.Refused why) are h = refusal_lacks why
+tail-lacks titles other are h = refl
 
 turned-feeds : (node : ℕ) (answer : Said) → HaveNoFeeds (rows_of_turns node answer)
 turned-feeds node (said.Turned turns) = turn_rows-feeds node turns
-turned-feeds node said.Opened = tt
-turned-feeds node (said.Put n) = tt
-turned-feeds node (said.Got n p) = tt
-turned-feeds node (said.Closed n) = tt
-turned-feeds node said.Settled = tt
-turned-feeds node said.Unsettled = tt
-turned-feeds node (said.Words ws) = tt
-turned-feeds node said.UnknownName = tt
-turned-feeds node said.Away = tt
-turned-feeds node (said.Refused why) = tt
+turned-feeds node other = tt
 
 -- no line of a command has a line feed within
 pub rows-feeds : (titles : Titles) (c : Command) (answer : Said) → AreTitles titles → HasNames c → GotNoFeed answer →

@@ -141,21 +141,15 @@ kept-turns nodes words (suc left) node w (r ∷ rs) v puts gots at is =
 -- a step that is no turn, as with memory at hand, is one in which a turn would take the first act
 pub first-step : (w : World) (s : Step) → is_turn s ≡ false → StepFirst w s (first_step w s).reply (first_step w s).world
 unfolding first_step
-first-step w (steps.Open n) still = inl (refl, refl)
-first-step w (steps.Put n at bytes ends) still = inl (refl, refl)
 first-step w (steps.Get n at) still = (refl, refl)
-first-step w (steps.Close n at) still = inl (refl, refl)
 first-step w (steps.Turn n) still = absurd (let e : true ≡ false = still in cc)
+first-step w other still = inl (refl, refl)
 
 -- names change no world
 pub name_pair-world : (s : Session) (first second : List ℕ) (r : Reply) → (name_pair s first second r).world ≡ s.world
 unfolding name_pair
 name_pair-world s first second (replies.Opened a b) = refl
-name_pair-world s first second (replies.Put n) = refl
-name_pair-world s first second (replies.Got n p) = refl
-name_pair-world s first second (replies.Closed n) = refl
-name_pair-world s first second (replies.Turned event) = refl
-name_pair-world s first second (replies.Refused why) = refl
+name_pair-world s first second other = refl
 
 pub bind_pairs-world : (s : Session) (pair : ℕ) (ps : List (ℕ × ℕ)) → (bind_pairs s pair ps).world ≡ s.world
 bind_pairs-world s pair [] = refl
@@ -207,29 +201,12 @@ module _ (nodes words : ℕ) (s : Session) (puts gots : Parcels) (at : Kept node
         | inr h ↦ kept-visits nodes words 0 h.visits
             s.world v puts gots at h.turns
       ]
-  at-settle limit said.Opened v is = absurd is
-  at-settle limit (said.Put n) v is = absurd is
-  at-settle limit (said.Got n p) v is = absurd is
-  at-settle limit (said.Closed n) v is = absurd is
-  at-settle limit (said.Turned rs) v is = absurd is
-  at-settle limit (said.Words ws) v is = absurd is
-  at-settle limit said.UnknownName v is = absurd is
-  at-settle limit said.Away v is = absurd is
-  at-settle limit (said.Refused why) v is = absurd is
+  at-settle limit other v is = absurd is
 
   -- a turn command
   at-turns : (count node : ℕ) (answer : Said) (v : World) → TurnsTo count node s.world answer v → Kept nodes words v puts gots
   at-turns count node (said.Turned rs) v is = kept-turns nodes words count node s.world rs v puts gots at is
-  at-turns count node said.Settled v is = absurd is
-  at-turns count node said.Unsettled v is = absurd is
-  at-turns count node said.Opened v is = absurd is
-  at-turns count node (said.Put n) v is = absurd is
-  at-turns count node (said.Got n p) v is = absurd is
-  at-turns count node (said.Closed n) v is = absurd is
-  at-turns count node (said.Words ws) v is = absurd is
-  at-turns count node said.UnknownName v is = absurd is
-  at-turns count node said.Away v is = absurd is
-  at-turns count node (said.Refused why) v is = absurd is
+  at-turns count node other v is = absurd is
 
   -- an answer and a session that are those of the case
   given : (c : Command) (done : Replied) (answer : Said) (t : Session) → answer ≡ done.said → t ≡ done.session →
@@ -448,7 +425,6 @@ module _ (nodes words : ℕ) (s : Session) (earlier : List Answered) (at : Kept 
 
   count-command : (c : Command) (answer : Said) (t : Session) → Runs s c answer t → IsCount earlier s.names c answer
   unfolding IsCount
-  count-command (commands.Open node first second) answer t is = tt
   count-command (commands.Put name text attached) answer t is =
       subst (IsCount earlier s.names (commands.Put name text attached)) (sym is.0)
       (count-known (commands.Put name text attached) (get s.names name) _ tt
@@ -466,9 +442,7 @@ module _ (nodes words : ℕ) (s : Session) (earlier : List Answered) (at : Kept 
       (count-known (commands.Close name) (get s.names name) _ tt
       (λ end bound. count-held (commands.Close name) (holder_of s.world end) _ tt
       (λ n there. count-close name end n (first_step s.world (steps.Close n end)).reply _ bound there (plain (steps.Close n end) refl))))
-  count-command (commands.Turn node count) answer t is = tt
-  count-command (commands.Settle limit) answer t is = tt
-  count-command commands.Show answer t is = tt
+  count-command other answer t is = tt
 
 -- a command within a script, and those before it
 pub split : (s : Session) (cs : List Command) (earlier : List Answered) (a : Answered) (later : List Answered) (t : Session) →

@@ -132,34 +132,12 @@ event-more w b n (events.Close e) = mark-more b e
 event-more w b n (events.Discard serial number) = discard-more b (router_of w n serial)
 event-more w b n (events.DiscardLeave serial number) = discard-more b (router_of w n serial)
 event-more w b n (events.Retire serial number link) = retire-more b (router_of w n serial)
-event-more w b n (events.Hand kind link unfit) = nothing-more b
-event-more w b n (events.Look from) = nothing-more b
-event-more w b n (events.Post to) = nothing-more b
-event-more w b n (events.SendOut serial k link moved) = nothing-more b
-event-more w b n (events.SendIn serial k link moved) = nothing-more b
-event-more w b n (events.FinishOut serial link) = nothing-more b
-event-more w b n (events.FinishIn serial link) = nothing-more b
-event-more w b n (events.Leave serial) = nothing-more b
-event-more w b n (events.Mark serial link word) = nothing-more b
-event-more w b n (events.Wake serial link word) = nothing-more b
-event-more w b n (events.Claim serial word) = nothing-more b
-event-more w b n (events.ClaimNoWord serial) = nothing-more b
-event-more w b n (events.Lock serial link word) = nothing-more b
-event-more w b n (events.Wait serial link word) = nothing-more b
-event-more w b n (events.Refused serial link word) = nothing-more b
-event-more w b n (events.Begin serial link) = nothing-more b
-event-more w b n (events.Unlock serial link word) = nothing-more b
-event-more w b n (events.Rest serial) = nothing-more b
-event-more w b n events.Idle = nothing-more b
+event-more w b n other = nothing-more b
 
 pub turn-more : (w : World) (b : Books) (n : ℕ) (reply : Reply) → Adds b (advance w b (steps.Turn n) reply) none none
 unfolding advance
 turn-more w b n (replies.Turned event) = event-more w b n event
-turn-more w b n (replies.Opened d e) = nothing-more b
-turn-more w b n (replies.Put k) = nothing-more b
-turn-more w b n (replies.Got k p) = nothing-more b
-turn-more w b n (replies.Closed k) = nothing-more b
-turn-more w b n (replies.Refused why) = nothing-more b
+turn-more w b n other = nothing-more b
 
 -- ---- what a call adds is what its answer says
 
@@ -168,11 +146,7 @@ pub open-said : (w : World) (b : Books) (n : ℕ) (names : Bindings) (first seco
     (got_said names (commands.Open n first second) (answer_to reply))
 unfolding advance put_said got_said answer_to
 open-said w b n names first second (replies.Opened d e) = nothing-more b
-open-said w b n names first second (replies.Put k) = nothing-more b
-open-said w b n names first second (replies.Got k p) = nothing-more b
-open-said w b n names first second (replies.Closed k) = nothing-more b
-open-said w b n names first second (replies.Turned event) = nothing-more b
-open-said w b n names first second (replies.Refused why) = nothing-more b
+open-said w b n names first second other = nothing-more b
 
 pub put-said : (w : World) (b : Books) (n : ℕ) (names : Bindings) (at text : List ℕ) (attached : List (List ℕ)) (end : End)
     (ends : List End)
@@ -180,36 +154,24 @@ pub put-said : (w : World) (b : Books) (n : ℕ) (names : Bindings) (at text : L
     Adds b (advance w b (steps.Put n end text ends) reply) (put_said names (commands.Put at text attached) (answer_to reply))
     (got_said names (commands.Put at text attached) (answer_to reply))
 unfolding advance put_said got_said answer_to
-put-said w b n names at text attached end ends (replies.Opened d e) bound known = nothing-more b
 put-said w b n names at text attached end ends (replies.Put k) bound known =
     subst (λ o. Adds b (add_put b end (Parcel (record { bytes = text; ends = ends })))
     (λ e. cond (option_map_or (same_end e) o false) (parcel_of names text attached ∷ []) []) none) (sym bound)
     (subst (λ o. Adds b (add_put b end (Parcel (record { bytes = text; ends = ends })))
     (at_end end (record { bytes = text; ends = unwrap_or o [] })) none) (sym known) (put-more b end (record { bytes = text; ends = ends })))
-put-said w b n names at text attached end ends (replies.Got k p) bound known = nothing-more b
-put-said w b n names at text attached end ends (replies.Closed k) bound known = nothing-more b
-put-said w b n names at text attached end ends (replies.Turned event) bound known = nothing-more b
-put-said w b n names at text attached end ends (replies.Refused why) bound known = nothing-more b
+put-said w b n names at text attached end ends other bound known = nothing-more b
 
 pub got-said : (w : World) (b : Books) (n : ℕ) (names : Bindings) (at : List ℕ) (end : End) (reply : Reply) → get names at ≡ Some end →
     Adds b (advance w b (steps.Get n end) reply) (put_said names (commands.Get at) (answer_to reply))
     (got_said names (commands.Get at) (answer_to reply))
 unfolding advance put_said got_said answer_to
-got-said w b n names at end (replies.Opened d e) bound = nothing-more b
-got-said w b n names at end (replies.Put k) bound = nothing-more b
 got-said w b n names at end (replies.Got k p) bound =
     subst (λ o. Adds b (add_got b end p) none (λ e. cond (option_map_or (same_end e) o false) (p ∷ []) [])) (sym bound) (got-more b end p)
-got-said w b n names at end (replies.Closed k) bound = nothing-more b
-got-said w b n names at end (replies.Turned event) bound = nothing-more b
-got-said w b n names at end (replies.Refused why) bound = nothing-more b
+got-said w b n names at end other bound = nothing-more b
 
 pub close-said : (w : World) (b : Books) (n : ℕ) (names : Bindings) (at : List ℕ) (end : End) (reply : Reply) →
     Adds b (advance w b (steps.Close n end) reply) (put_said names (commands.Close at) (answer_to reply))
     (got_said names (commands.Close at) (answer_to reply))
 unfolding advance put_said got_said answer_to
-close-said w b n names at end (replies.Opened d e) = nothing-more b
-close-said w b n names at end (replies.Put k) = nothing-more b
-close-said w b n names at end (replies.Got k p) = nothing-more b
 close-said w b n names at end (replies.Closed k) = mark-more b end
-close-said w b n names at end (replies.Turned event) = nothing-more b
-close-said w b n names at end (replies.Refused why) = nothing-more b
+close-said w b n names at end other = nothing-more b

@@ -20,11 +20,9 @@ no_want reply fine is = let e : true ≡ false = sym (ap is_want is) ∙ fine in
 pub steps_once : (w v : World) (step : Step) (reply : Reply) → is_turn step ≡ false → is_want reply ≡ false → StepFirst w step reply v →
     (reply ≡ (first_step w step).reply) × (v ≡ (first_step w step).world)
 unfolding first_step
-steps_once w v (steps.Open n) reply still fine is = elim is [ inl g ↦ g | inr f ↦ absurd (no_want reply fine f.1.0) ]
-steps_once w v (steps.Put n at bytes ends) reply still fine is = elim is [ inl g ↦ g | inr f ↦ absurd (no_want reply fine f.1.0) ]
 steps_once w v (steps.Get n at) reply still fine is = is
-steps_once w v (steps.Close n at) reply still fine is = elim is [ inl g ↦ g | inr f ↦ absurd (no_want reply fine f.1.0) ]
 steps_once w v (steps.Turn n) reply still fine is = absurd (let e : true ≡ false = still in cc)
+steps_once w v other reply still fine is = elim is [ inl g ↦ g | inr f ↦ absurd (no_want reply fine f.1.0) ]
 
 -- whatever turns complete those that are left complete all of them
 abbrev pub GoesOn : ℕ → ℕ → ℕ → World → World → List Reply → Type 0

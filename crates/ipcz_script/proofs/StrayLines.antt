@@ -143,19 +143,7 @@ ends-moved a (e ∷ es) h =
 refusal-ends : (why : Refusal) → Ends (name_of why)
 unfolding stray_end
 refusal-ends refusals.OutOfMemory = three _ _ _ _ refl
-refusal-ends refusals.Empty = three _ _ _ _ refl
-refusal-ends refusals.PeerClosed = three _ _ _ _ refl
-refusal-ends refusals.NoWord = three _ _ _ _ refl
-refusal-ends refusals.SelfAttach = three _ _ _ _ refl
-refusal-ends refusals.PeerAttach = three _ _ _ _ refl
-refusal-ends refusals.Stranger = three _ _ _ _ refl
-refusal-ends refusals.NumbersEnd = three _ _ _ _ refl
-refusal-ends refusals.BadData = three _ _ _ _ refl
-refusal-ends refusals.TooMany = three _ _ _ _ refl
-refusal-ends refusals.Raced = three _ _ _ _ refl
-refusal-ends refusals.Occupied = three _ _ _ _ refl
-refusal-ends refusals.Passed = three _ _ _ _ refl
-refusal-ends refusals.Forged = three _ _ _ _ refl
+refusal-ends other = three _ _ _ _ refl
 
 -- ---- what a turn did
 
@@ -224,10 +212,7 @@ started : (node : ℕ) (r : Reply) → OnlyFlushesStray r → stray_end (codes "
 unfolding stray_end
 started node (replies.Turned event) only = (event-ends event only).apart (codes "n" ++ decimal node ++ codes ": ")
 started node (replies.Refused why) only = (refusal-ends why).apart (codes "n" ++ decimal node ++ codes ": ")
-started node (replies.Opened a b) only = silent node
-started node (replies.Put n) only = silent node
-started node (replies.Got n p) only = silent node
-started node (replies.Closed n) only = silent node
+started node other only = silent node
 
 turn-apart : (node : ℕ) (rs : List Reply) → AllByRecursion OnlyFlushesStray rs → (line : List ℕ) → HasLine (turn_rows node rs) line →
     stray_end line ≡ false
@@ -268,12 +253,9 @@ tail-apart titles (said.Put n) = inl (number n)
 tail-apart titles (said.Got n p) = inl (behind _ (codes "\"") (one 34 refl))
 tail-apart titles (said.Closed n) = inl (number n)
 tail-apart titles (said.Turned turns) = inr refl
-tail-apart titles said.Settled = inl (three _ _ _ _ refl)
-tail-apart titles said.Unsettled = inl (three _ _ _ _ refl)
 tail-apart titles (said.Words ws) = inl (words-end (codes "words") ws (three _ _ _ _ refl))
-tail-apart titles said.UnknownName = inl (three _ _ _ _ refl)
-tail-apart titles said.Away = inl (three _ _ _ _ refl)
 tail-apart titles (said.Refused why) = inl (refusal-ends why)
+tail-apart titles other = inl (three _ _ _ _ refl)
 
 -- a line of a head and a tail
 line-apart : (head tail line : List ℕ) → Apart head → Apart tail → HasLine ((head ++ tail) ∷ []) line → stray_end line ≡ false

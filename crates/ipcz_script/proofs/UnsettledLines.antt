@@ -45,11 +45,7 @@ neither lines answer none still = (λ h. absurd (none h), λ u. let both : true 
 answer-still : (r : Reply) → is_unsettled (answer_to r) ≡ false
 unfolding answer_to is_unsettled
 answer-still (replies.Opened a b) = refl
-answer-still (replies.Put n) = refl
-answer-still (replies.Got n p) = refl
-answer-still (replies.Closed n) = refl
-answer-still (replies.Turned event) = refl
-answer-still (replies.Refused why) = refl
+answer-still other = refl
 
 turn-other : (node : ℕ) (rs : List Reply) → HasLine (turn_rows node rs) U → ⊥
 unfolding first
@@ -68,30 +64,13 @@ unfolding is_unsettled first
 settle-line s t limit titles said.Settled is = neither (codes "settled" ∷ []) said.Settled
     (other_line (codes "settled") 115 refl (λ e. omega (arith, e))) refl
 settle-line s t limit titles said.Unsettled is = (λ h. refl, λ u. inl refl)
-settle-line s t limit titles said.Opened is = absurd is
-settle-line s t limit titles (said.Put n) is = absurd is
-settle-line s t limit titles (said.Got n p) is = absurd is
-settle-line s t limit titles (said.Closed n) is = absurd is
-settle-line s t limit titles (said.Turned rs) is = absurd is
-settle-line s t limit titles (said.Words ws) is = absurd is
-settle-line s t limit titles said.UnknownName is = absurd is
-settle-line s t limit titles said.Away is = absurd is
-settle-line s t limit titles (said.Refused why) is = absurd is
+settle-line s t limit titles other is = absurd is
 
 turns-line : (s t : Session) (count node : ℕ) (titles : Titles) (answer : Said) → TurnsTo count node s.world answer t.world →
     HasLine (rows_of titles (commands.Turn node count) answer) U ↔ (is_unsettled answer ≡ true)
 unfolding is_unsettled
 turns-line s t count node titles (said.Turned rs) is = neither (turn_rows node rs) (said.Turned rs) (turn-other node rs) refl
-turns-line s t count node titles said.Settled is = absurd is
-turns-line s t count node titles said.Unsettled is = absurd is
-turns-line s t count node titles said.Opened is = absurd is
-turns-line s t count node titles (said.Put n) is = absurd is
-turns-line s t count node titles (said.Got n p) is = absurd is
-turns-line s t count node titles (said.Closed n) is = absurd is
-turns-line s t count node titles (said.Words ws) is = absurd is
-turns-line s t count node titles said.UnknownName is = absurd is
-turns-line s t count node titles said.Away is = absurd is
-turns-line s t count node titles (said.Refused why) is = absurd is
+turns-line s t count node titles any is = absurd is
 
 -- a command writes the line just where its answer says so
 command-line : (s : Session) (c : Command) (answer : Said) (t : Session) (titles : Titles) → Runs s c answer t →

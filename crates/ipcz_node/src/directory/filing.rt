@@ -60,25 +60,25 @@ fn relink(links: &mut Index<LinkPlace>, serial: u64, was: &Filing, is: &Filing)
         ≡ (if serial == s then is_under is.now link side else is_filed place_cmp links.old.members (link_place link side) s) }
     ensures room { links.old.room ≤ links.new.room + link_gain was.now is.now }
 {
-    drop_link(links, serial, was.outward, is);
-    drop_link(links, serial, was.outward_decaying, is);
-    drop_link(links, serial, was.inward, is);
-    drop_link(links, serial, was.inward_decaying, is);
-    file_link(links, serial, is.outward, was);
-    file_link(links, serial, is.outward_decaying, was);
-    file_link(links, serial, is.inward, was);
-    file_link(links, serial, is.inward_decaying, was);
+    drop_link(links, serial, &was.outward, is);
+    drop_link(links, serial, &was.outward_decaying, is);
+    drop_link(links, serial, &was.inward, is);
+    drop_link(links, serial, &was.inward_decaying, is);
+    file_link(links, serial, &is.outward, was);
+    file_link(links, serial, &is.outward_decaying, was);
+    file_link(links, serial, &is.inward, was);
+    file_link(links, serial, &is.inward_decaying, was);
 }
 
 // Takes a link away, where the filing hasn't it.
 #[inline(always)]
-fn drop_link(links: &mut Index<LinkPlace>, serial: u64, old: Option<LinkEnd>, kept: &Filing)
+fn drop_link(links: &mut Index<LinkPlace>, serial: u64, old: &Option<LinkEnd>, kept: &Filing)
     ensures members { (link : LinkId) (side : Side) (s : ℕ) → is_filed place_cmp links.new.members (link_place link side) s
-        ≡ (not (not (is_under kept.now link side) && (serial == s && has_link old link side)) &&
+        ≡ (not (not (is_under kept.now link side) && (serial == s && has_link old.now link side)) &&
         is_filed place_cmp links.old.members (link_place link side) s) }
     ensures room { links.old.room ≤ links.new.room }
 {
-    match old {
+    match *old {
         Some(e) => {
             if !kept.is_under(e.link, e.side) {
                 links.remove(LinkPlace::of(e.link, e.side), serial);
@@ -90,14 +90,14 @@ fn drop_link(links: &mut Index<LinkPlace>, serial: u64, old: Option<LinkEnd>, ke
 
 // Files a link, where the filing hadn't it.
 #[inline(always)]
-fn file_link(links: &mut Index<LinkPlace>, serial: u64, new: Option<LinkEnd>, was: &Filing)
-    requires { gained_by was.now new ≤ links.old.room }
+fn file_link(links: &mut Index<LinkPlace>, serial: u64, new: &Option<LinkEnd>, was: &Filing)
+    requires { gained_by was.now new.now ≤ links.old.room }
     ensures members { (link : LinkId) (side : Side) (s : ℕ) → is_filed place_cmp links.new.members (link_place link side) s
-        ≡ ((not (is_under was.now link side) && (serial == s && has_link new link side)) ||
+        ≡ ((not (is_under was.now link side) && (serial == s && has_link new.now link side)) ||
         is_filed place_cmp links.old.members (link_place link side) s) }
-    ensures room { links.old.room ≤ links.new.room + gained_by was.now new }
+    ensures room { links.old.room ≤ links.new.room + gained_by was.now new.now }
 {
-    match new {
+    match *new {
         Some(e) => {
             if !was.is_under(e.link, e.side) {
                 links.add(LinkPlace::of(e.link, e.side), serial);

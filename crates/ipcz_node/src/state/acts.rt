@@ -29,6 +29,7 @@ impl NodeState {
 
     // Does with the node what an act of a router gives it.
     #[tactic(auto, unfolding(crate::specs::Sends::send))]
+    #[inline(always)]
     fn send(&mut self, applied: Applied)
         requires { IsReady self.old applied }
         ensures { self.new.node ≡ send self.old.node applied }
@@ -46,6 +47,7 @@ impl NodeState {
 
     // A router does its act, and leaves where that is what the act is for.
     #[tactic(auto, unfolding(crate::specs::Acts::keep_or_drop, ipcz_router::specs::ActEffects::leaves_by, ipcz_router::specs::ActEffects::output_of))]
+    #[inline(always)]
     fn act_router(&mut self, serial: u64, act: RouterAct, answer: Answer) -> Applied
         requires possible { IsSomeAnd (router_in self.old.node serial) (λ r. may_take r act ≡ true) }
         requires answer { IsAnswerOf act answer }
@@ -186,6 +188,7 @@ impl NodeState {
 
     /// Lets a router do a possible act, as `commit` does, but doesn't tell what happened: that takes a list of the ends that were moved.
     #[tactic(auto, unfolding(crate::specs::Acts::commit, crate::specs::Acts::commit_router, crate::specs::Node::on_router))]
+    #[inline(never)]
     pub fn commit_unseen(&mut self, serial: u64, act: RouterAct, answer: Answer)
         requires possible { IsPossibleAct self.old.node (Act.Router serial act) }
         requires answer { Answers (Act.Router serial act) answer }

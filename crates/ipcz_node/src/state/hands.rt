@@ -8,7 +8,7 @@ ghost use Rattle.ipcz_node.specs.Node.{router_in, link_router, found, add_router
 ghost use Rattle.ipcz_node.specs.RoomyNodes.{AreLow};
 ghost use Rattle.ipcz_node.specs.Hands.{has_moved, is_new_move, fit_moves, fits_from, fits_item, make_terminals, take_in, free_hand, fits, handle};
 ghost use Rattle.ipcz_node.specs.Hands.{deliver, message_lacks_serials, message_grows, grows_where_it_fits, serials_in, is_unfit};
-ghost use Rattle.ipcz_node.specs.Deliveries.{IsDelivered};
+ghost use Rattle.ipcz_node.specs.Deliveries.{IsDelivered, IsDeliveredInPlace};
 ghost use Rattle.ipcz_node.specs.Events.{hand_event};
 ghost use Rattle.ipcz_node.specs.Telling.{HasRoomFor, HasRoomForItem, brings_item, is_lone};
 ghost use Rattle.std.specs.Prelude.{◌&&◌, nat_eq, nat_lt};
@@ -84,15 +84,26 @@ impl NodeState {
         }
     }
 
-    fn keep_stray(&mut self, message: Message) -> Result<(), (Refusal, Message)>
-        ensures ok { OnOk result (self.new.node ≡ add_stray self.old.node message) }
-        ensures why { IfErr result (λ e. e.0 ≡ Refusal.OutOfMemory) }
+    // Keeps a message among the strays. It is left as it is where there is no room for it, and counts for nothing where it is kept.
+    #[cold]
+    #[inline(never)]
+    fn keep_stray(&mut self, message: &mut Message) -> Result<(), Refusal>
+        ensures ok { OnOk result (self.new.node ≡ add_stray self.old.node message.old) }
+        ensures why { IfErr result (λ e. e ≡ Refusal.OutOfMemory) }
         ensures full { 0 < self.old.room.strays → IsOk result }
-        ensures err { IfErr result (λ e. (e.1 ≡ message) × (self.new.node ≡ self.old.node)) }
+        ensures err { OnErr result ((message.new ≡ message.old) × (self.new.node ≡ self.old.node)) }
     {
-        match self.strays.push(message) {
+        let nothing = Message::Flush {
+            link: LinkId::Central(0),
+            side: Side::A,
+        };
+        let given = mem::replace(message, nothing);
+        match self.strays.push(given) {
             Ok(()) => Ok(()),
-            Err(failed) => Err((Refusal::OutOfMemory, failed.value)),
+            Err(failed) => {
+                *message = failed.value;
+                Err(Refusal::OutOfMemory)
+            }
         }
     }
 
@@ -280,26 +291,26 @@ impl NodeState {
     fn receive(
         &mut self,
         sender: u8,
-        message: Message,
+        message: &mut Message,
         source: Option<u8>,
         has_place: bool,
-    ) -> Result<(), (Refusal, Message)>
-        requires { has_place ≡ fits self.old.node sender message source }
-        ensures { IsDelivered self.old sender message source
-            (if fits self.old.node sender message source then handle self.old.node sender message else add_stray self.old.node message)
+    ) -> Result<(), Refusal>
+        requires { has_place ≡ fits self.old.node sender message.old source }
+        ensures { IsDeliveredInPlace self.old sender message.old message.new source
+            (if fits self.old.node sender message.old source
+            then handle self.old.node sender message.old else add_stray self.old.node message.old)
             result self.new }
     {
         if !has_place {
             return self.keep_stray(message);
         }
-        let count = serials_in(&message);
+        let count = serials_in(message);
         if self.routers.next_serial() > u64::MAX - count as u64 {
-            return Err((Refusal::NumbersEnd, message));
+            return Err(Refusal::NumbersEnd);
         }
-        let mut message = message;
-        match self.handle(sender, &mut message, source) {
+        match self.handle(sender, message, source) {
             Ok(()) => Ok(()),
-            Err(_) => Err((Refusal::OutOfMemory, message)),
+            Err(_) => Err(Refusal::OutOfMemory),
         }
     }
 
@@ -376,10 +387,13 @@ impl NodeState {
         ensures delivered { IsDelivered self.old from message source (deliver self.old.node from message source) result self.new }
         ensures event { IfOk result (λ h. h ≡ hand_event self.old.node from message source) }
     {
+        let mut message = message;
         let has_place = self.fits(from, &message, source);
         let event = self.hand_event(from, &message, source, has_place);
-        self.take_from_hand(from, message, source, has_place)?;
-        Ok(event)
+        match self.take_from_hand(from, &mut message, source, has_place) {
+            Ok(()) => Ok(event),
+            Err(why) => Err((why, message)),
+        }
     }
 
     /// Delivers a message as `deliver` does, but doesn't tell what happened.
@@ -401,26 +415,11 @@ impl NodeState {
         ensures err { IfErr result (λ e. (e.1 ≡ message) × (self.new.node ≡ self.old.node)) }
     {
         let mut message = message;
-        match self.deliver_at_once(from, &mut message) {
-            Ok(true) => Ok(()),
-            Ok(false) => self.deliver_any(from, message, source),
+        let fits = self.fits(from, &message, source);
+        match self.take_from_hand(from, &mut message, source, fits) {
+            Ok(()) => Ok(()),
             Err(why) => Err((why, message)),
         }
-    }
-
-    // The same for each message.
-    #[inline(never)]
-    fn deliver_any(
-        &mut self,
-        from: u8,
-        message: Message,
-        source: Option<u8>,
-    ) -> Result<(), (Refusal, Message)>
-        requires { from < self.old.node.count }
-        ensures { IsDelivered self.old from message source (deliver self.old.node from message source) result self.new }
-    {
-        let fits = self.fits(from, &message, source);
-        self.take_from_hand(from, message, source, fits)
     }
 
     /// Delivers a message from the node `from` as `deliver` does, but only an item without ends and moves that has its place at a router here,
@@ -507,17 +506,19 @@ impl NodeState {
         }
     }
 
-    // Receives a message of which it is known whether it fits, and empties the hand.
+    // Receives a message of which it is known whether it fits, and empties the hand. The message is left as it is where it is refused, and
+    // counts for nothing where it is received.
     #[tactic(auto, unfolding(crate::specs::Hands::deliver))]
     fn take_from_hand(
         &mut self,
         from: u8,
-        message: Message,
+        message: &mut Message,
         source: Option<u8>,
         has_place: bool,
-    ) -> Result<(), (Refusal, Message)>
-        requires { has_place ≡ fits self.old.node from message source }
-        ensures { IsDelivered self.old from message source (deliver self.old.node from message source) result self.new }
+    ) -> Result<(), Refusal>
+        requires { has_place ≡ fits self.old.node from message.old source }
+        ensures { IsDeliveredInPlace self.old from message.old message.new source (deliver self.old.node from message.old source)
+            result self.new }
     {
         self.receive(from, message, source, has_place)?;
         self.free_hand(from);

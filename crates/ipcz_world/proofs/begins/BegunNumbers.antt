@@ -42,11 +42,7 @@ message-sources : (f : Weight) (g h : Records) → ((l : LinkId) (s : Side) → 
     in_message f h m ≡ in_message f g m
 unfolding in_message'
 message-sources f g h same (messages.Item l s n item moves) = ap (λ e. f e n item) (same l s)
-message-sources f g h same (messages.BypassPeer l s o t n) = refl
-message-sources f g h same (messages.AcceptBypass o s n t) = refl
-message-sources f g h same (messages.StopProxying o s n t) = refl
-message-sources f g h same (messages.ProxyWillStop l s n) = refl
-message-sources f g h same (messages.Flush l s) = refl
+message-sources f g h same other = refl
 
 -- places weigh the same by records that tell the same sources
 pub places-sources : (f : Weight) (g h : Records) (v : World) → ((l : LinkId) (s : Side) → source h l s ≡ source g l s) →
@@ -79,11 +75,7 @@ of_link e l d h = go (same_end d.end e) (same_link d.link l) refl refl
 pub carries : (l : LinkId) (m : Message) (j : ℕ) (d : Descriptor) → slice_get (moves_of m) j ≡ Some d → d.link ≡ l → makes l B m ≡ true
 unfolding moves_of makes
 carries l (messages.Item k s n item moves) j d e f = moved l moves j d e f
-carries l (messages.BypassPeer k s o t n) j d e f = absurd (none-some d e)
-carries l (messages.AcceptBypass o s n t) j d e f = absurd (none-some d e)
-carries l (messages.StopProxying o s n t) j d e f = absurd (none-some d e)
-carries l (messages.ProxyWillStop k s n) j d e f = absurd (none-some d e)
-carries l (messages.Flush k s) j d e f = absurd (none-some d e)
+carries l other j d e f = absurd (none-some d e)
 
 -- the message of a begin
 abbrev pub begin_message : LinkEnd → LinkEnd → ℕ → ℕ → Message

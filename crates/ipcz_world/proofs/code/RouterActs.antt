@@ -40,20 +40,8 @@ module _ (w : World) (r : Router) where
   pub answers-as : (act : RouterAct) → HasLengths w → answer_of w r act ≡ table_answer (table_of w) (source_of r) act
       (link_of r (primary_word r))
   unfolding answer_of is_claim
-  answers-as acts.SendOut has = on_link acts.SendOut (primary_word r)
-  answers-as acts.SendIn has = on_link acts.SendIn (primary_word r)
-  answers-as acts.Discard has = on_link acts.Discard (primary_word r)
-  answers-as acts.FinishOut has = on_link acts.FinishOut (primary_word r)
-  answers-as acts.FinishIn has = on_link acts.FinishIn (primary_word r)
-  answers-as acts.Leave has = on_link acts.Leave (primary_word r)
-  answers-as acts.Mark has = on_link acts.Mark (primary_word r)
-  answers-as acts.Wake has = on_link acts.Wake (primary_word r)
   answers-as acts.Claim has = on_claim has
-  answers-as acts.Lock has = on_link acts.Lock (primary_word r)
-  answers-as acts.Begin has = on_link acts.Begin (primary_word r)
-  answers-as acts.Retire has = on_link acts.Retire (primary_word r)
-  answers-as acts.Unlock has = on_link acts.Unlock (primary_word r)
-  answers-as acts.Rest has = on_link acts.Rest (primary_word r)
+  answers-as other has = on_link other (primary_word r)
 
   same_table : HasLengths w → w ≡ retabled w (table_of w)
   same_table has = λ j. record w { size = sym has.words j }
@@ -93,20 +81,12 @@ module _ (w : World) (r : Router) where
   pub touches-as : (act : RouterAct) → HasLengths w → IfSome (primary_word r) (λ i. i < w.size) →
       touch w r act ≡ retabled w (table_after (table_of w) (source_of r) act (link_of r (primary_word r)))
   unfolding touch is_claim word_after
-  touches-as acts.SendOut has l = still acts.SendOut (primary_word r) has l (λ x. refl)
-  touches-as acts.SendIn has l = still acts.SendIn (primary_word r) has l (λ x. refl)
-  touches-as acts.Discard has l = still acts.Discard (primary_word r) has l (λ x. refl)
-  touches-as acts.FinishOut has l = still acts.FinishOut (primary_word r) has l (λ x. refl)
-  touches-as acts.FinishIn has l = still acts.FinishIn (primary_word r) has l (λ x. refl)
-  touches-as acts.Leave has l = still acts.Leave (primary_word r) has l (λ x. refl)
   touches-as acts.Mark has l = touched acts.Mark (primary_word r) has l
   touches-as acts.Wake has l = touched acts.Wake (primary_word r) has l
   touches-as acts.Claim has l = claims has
   touches-as acts.Lock has l = touched acts.Lock (primary_word r) has l
-  touches-as acts.Begin has l = still acts.Begin (primary_word r) has l (λ x. refl)
-  touches-as acts.Retire has l = still acts.Retire (primary_word r) has l (λ x. refl)
   touches-as acts.Unlock has l = touched acts.Unlock (primary_word r) has l
-  touches-as acts.Rest has l = still acts.Rest (primary_word r) has l (λ x. refl)
+  touches-as other has l = still other (primary_word r) has l (λ x. refl)
 
 or_left : (a b : Bool) → b ≡ false → (a || b) ≡ true → a ≡ true
 or_left true b k e = refl
@@ -146,12 +126,6 @@ module _ (t : WordTable) (r : Router) where
   pub answers-kind : (act : RouterAct) → may_take r act ≡ true → IsAnswerOf act
       (table_answer t (source_of r) act (link_of r (primary_word r)))
   unfolding is_claim word_answer is_possible is_rest
-  answers-kind acts.SendOut may = plain acts.SendOut (primary_word r) tt (λ x. refl)
-  answers-kind acts.SendIn may = plain acts.SendIn (primary_word r) tt (λ x. refl)
-  answers-kind acts.Discard may = plain acts.Discard (primary_word r) tt (λ x. refl)
-  answers-kind acts.FinishOut may = plain acts.FinishOut (primary_word r) tt (λ x. refl)
-  answers-kind acts.FinishIn may = plain acts.FinishIn (primary_word r) tt (λ x. refl)
-  answers-kind acts.Leave may = plain acts.Leave (primary_word r) tt (λ x. refl)
   answers-kind acts.Mark may = central acts.Mark (primary_word r) (and_first _ _ (or_left _ _ refl may)) (λ x. tt)
   answers-kind acts.Wake may = central acts.Wake (primary_word r) (and_second _ _ (or_left _ _ refl may)) (λ x. tt)
   answers-kind acts.Claim may = claim_is (has_unclaimed t)
@@ -160,10 +134,8 @@ module _ (t : WordTable) (r : Router) where
       (λ ready. and_first _ _ (and_second _ _ (and_first _ _ ready)))
       (λ leaving. and_first _ _ (and_second _ _ (and_first _ _ leaving))))
       (λ x. try_is x r.end.side (source_of r) (plan_of x r.end.side))
-  answers-kind acts.Begin may = plain acts.Begin (primary_word r) tt (λ x. refl)
-  answers-kind acts.Retire may = plain acts.Retire (primary_word r) tt (λ x. refl)
   answers-kind acts.Unlock may =
       central acts.Unlock (primary_word r)
       (either (can_begin r) (can_retire r) (or_left _ _ refl may) (λ begins. and_first _ _ (and_second _ _ (and_second _ _ begins)))
       (λ retires. and_first _ _ (and_second _ _ (and_second _ _ retires)))) (λ x. tt)
-  answers-kind acts.Rest may = plain acts.Rest (primary_word r) tt (λ x. refl)
+  answers-kind other may = plain other (primary_word r) tt (λ x. refl)

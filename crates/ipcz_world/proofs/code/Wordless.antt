@@ -18,20 +18,12 @@ use Rattle.ipcz_world.proofs.code.Taken.{router-stands, with_node}
 -- a word answers nothing to it
 plain-word : (x : Word) (s : Side) (source : Option ℕ) (act : RouterAct) → is_wordless act ≡ true → word_answer x s source act ≡ Plain
 unfolding word_answer is_wordless
-plain-word x s source acts.SendOut h = refl
-plain-word x s source acts.SendIn h = refl
-plain-word x s source acts.Discard h = refl
-plain-word x s source acts.FinishOut h = refl
-plain-word x s source acts.FinishIn h = refl
-plain-word x s source acts.Leave h = refl
 plain-word x s source acts.Mark h = absurd (true≢false (sym h))
 plain-word x s source acts.Wake h = absurd (true≢false (sym h))
 plain-word x s source acts.Claim h = absurd (true≢false (sym h))
 plain-word x s source acts.Lock h = absurd (true≢false (sym h))
-plain-word x s source acts.Begin h = refl
-plain-word x s source acts.Retire h = refl
 plain-word x s source acts.Unlock h = absurd (true≢false (sym h))
-plain-word x s source acts.Rest h = refl
+plain-word x s source other h = refl
 
 plain-link : (w : World) (s : Side) (source : Option ℕ) (act : RouterAct) (p : Option ℕ) → is_wordless act ≡ true →
     link_answer w s source act p ≡ Plain
@@ -41,56 +33,32 @@ plain-link w s source act (Some i) h = plain-word _ s source act h
 
 plain-answer : (w : World) (r : Router) (act : RouterAct) → is_wordless act ≡ true → answer_of w r act ≡ Plain
 unfolding answer_of is_wordless
-plain-answer w r acts.SendOut h = plain-link w r.end.side (source_of r) acts.SendOut (primary_word r) h
-plain-answer w r acts.SendIn h = plain-link w r.end.side (source_of r) acts.SendIn (primary_word r) h
-plain-answer w r acts.Discard h = plain-link w r.end.side (source_of r) acts.Discard (primary_word r) h
-plain-answer w r acts.FinishOut h = plain-link w r.end.side (source_of r) acts.FinishOut (primary_word r) h
-plain-answer w r acts.FinishIn h = plain-link w r.end.side (source_of r) acts.FinishIn (primary_word r) h
-plain-answer w r acts.Leave h = plain-link w r.end.side (source_of r) acts.Leave (primary_word r) h
 plain-answer w r acts.Mark h = absurd (true≢false (sym h))
 plain-answer w r acts.Wake h = absurd (true≢false (sym h))
 plain-answer w r acts.Claim h = absurd (true≢false (sym h))
 plain-answer w r acts.Lock h = absurd (true≢false (sym h))
-plain-answer w r acts.Begin h = plain-link w r.end.side (source_of r) acts.Begin (primary_word r) h
-plain-answer w r acts.Retire h = plain-link w r.end.side (source_of r) acts.Retire (primary_word r) h
 plain-answer w r acts.Unlock h = absurd (true≢false (sym h))
-plain-answer w r acts.Rest h = plain-link w r.end.side (source_of r) acts.Rest (primary_word r) h
+plain-answer w r other h = plain-link w r.end.side (source_of r) other (primary_word r) h
 
 -- no word is changed
 untouched : (w : World) (r : Router) (act : RouterAct) → is_wordless act ≡ true → w ≡ touch w r act
 unfolding touch is_wordless
-untouched w r acts.SendOut h = refl
-untouched w r acts.SendIn h = refl
-untouched w r acts.Discard h = refl
-untouched w r acts.FinishOut h = refl
-untouched w r acts.FinishIn h = refl
-untouched w r acts.Leave h = refl
 untouched w r acts.Mark h = absurd (true≢false (sym h))
 untouched w r acts.Wake h = absurd (true≢false (sym h))
 untouched w r acts.Claim h = absurd (true≢false (sym h))
 untouched w r acts.Lock h = absurd (true≢false (sym h))
-untouched w r acts.Begin h = refl
-untouched w r acts.Retire h = refl
 untouched w r acts.Unlock h = absurd (true≢false (sym h))
-untouched w r acts.Rest h = refl
+untouched w r other h = refl
 
 -- such an act may be told that it touches no word
 pub may_be_told : (act : RouterAct) → is_wordless act ≡ true → IsAnswerOf act Plain
 unfolding is_wordless
-may_be_told acts.SendOut h = tt
-may_be_told acts.SendIn h = tt
-may_be_told acts.Discard h = tt
-may_be_told acts.FinishOut h = tt
-may_be_told acts.FinishIn h = tt
-may_be_told acts.Leave h = tt
 may_be_told acts.Mark h = absurd (true≢false (sym h))
 may_be_told acts.Wake h = absurd (true≢false (sym h))
 may_be_told acts.Claim h = absurd (true≢false (sym h))
 may_be_told acts.Lock h = absurd (true≢false (sym h))
-may_be_told acts.Begin h = tt
-may_be_told acts.Retire h = tt
 may_be_told acts.Unlock h = absurd (true≢false (sym h))
-may_be_told acts.Rest h = tt
+may_be_told other h = tt
 
 -- it changes its node alone
 pub done-plain : (w : World) (n serial : ℕ) (act : RouterAct) → IsRegular w → n < w.count → can_take w n (OfRouter serial act) ≡ true →

@@ -25,20 +25,12 @@ count-claim_next w = go (has_unclaimed_word w)
 
 pub count-touch : (w : World) (r : Router) (a : RouterAct) → (touch w r a).count ≡ w.count
 unfolding touch
-count-touch w r acts.SendOut = refl
-count-touch w r acts.SendIn = refl
-count-touch w r acts.Discard = refl
-count-touch w r acts.FinishOut = refl
-count-touch w r acts.FinishIn = refl
-count-touch w r acts.Leave = refl
 count-touch w r acts.Mark = count-touch_word w r.end.side (source_of r) acts.Mark (primary_word r)
 count-touch w r acts.Wake = count-touch_word w r.end.side (source_of r) acts.Wake (primary_word r)
 count-touch w r acts.Claim = count-claim_next w
 count-touch w r acts.Lock = count-touch_word w r.end.side (source_of r) acts.Lock (primary_word r)
-count-touch w r acts.Begin = refl
-count-touch w r acts.Retire = refl
 count-touch w r acts.Unlock = count-touch_word w r.end.side (source_of r) acts.Unlock (primary_word r)
-count-touch w r acts.Rest = refl
+count-touch w r other = refl
 
 count-after_hand : (w : World) (n from : ℕ) (o : Option Message) → (after_hand w n from o).count ≡ w.count
 unfolding after_hand set_mail set_node

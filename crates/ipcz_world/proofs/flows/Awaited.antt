@@ -41,11 +41,8 @@ awaited_none w g link s h = go (side_router g link s) refl
 about-weighs : (g : Records) (o : ℕ) (h : Message → ℕ) (m : Message) → 1 ≤ of_bypass g o h m → 1 ≤ h m
 unfolding of_bypass
 about-weighs g o h (messages.Item l s n x ms) e = absurd (omega (arith, e))
-about-weighs g o h (messages.BypassPeer l s old t f) e = grind (arith, e)
-about-weighs g o h (messages.AcceptBypass old s f len) e = grind (arith, e)
-about-weighs g o h (messages.StopProxying old s a b) e = grind (arith, e)
-about-weighs g o h (messages.ProxyWillStop l s a) e = grind (arith, e)
 about-weighs g o h (messages.Flush l s) e = absurd (omega (arith, e))
+about-weighs g o h other e = grind (arith, e)
 
 -- counts the messages on a way that make a link's side
 abbrev of_making : ℕ → ℕ → LinkId → Side → ℕ → ℕ → Message → ℕ
@@ -134,11 +131,7 @@ makes-moved : (link : LinkId) (m : Message) (j : ℕ) (d : Descriptor) → slice
     makes link B m ≡ true
 unfolding makes moves_of
 makes-moved link (messages.Item l s n x ms) j d e h = has_moved-at link ms j d e h
-makes-moved link (messages.BypassPeer l s old t f) j d e h = cc
-makes-moved link (messages.AcceptBypass old s f len) j d e h = cc
-makes-moved link (messages.StopProxying old s a b) j d e h = cc
-makes-moved link (messages.ProxyWillStop l s a) j d e h = cc
-makes-moved link (messages.Flush l s) j d e h = cc
+makes-moved link other j d e h = cc
 
 -- counts the descriptors of a link
 abbrev of_link : LinkId → Descriptor → ℕ

@@ -118,12 +118,8 @@ central_one i j h = grind (arith, h)
 pub about_same : (g h : Records) (o : ℕ) (f : Message → ℕ) (m : Message) → ((l : LinkId) → bypass_of h l ≡ bypass_of g l) →
     of_bypass h o f m ≡ of_bypass g o f m
 unfolding of_bypass
-about_same g h o f (messages.Item l s n x ms) e = refl
-about_same g h o f (messages.BypassPeer l s old t c) e = refl
-about_same g h o f (messages.AcceptBypass old s c len) e = refl
-about_same g h o f (messages.StopProxying old s a b) e = refl
 about_same g h o f (messages.ProxyWillStop l s a) e = grind (arith, e l)
-about_same g h o f (messages.Flush l s) e = refl
+about_same g h o f other e = refl
 
 pub expected_alike : (g h : Records) (f : ℕ → ℕ → Message → ℕ) (o : ℕ) → h.bypass o ≡ g.bypass o →
     side_node h (inner_of g o) B ≡ side_node g (inner_of g o) B → proxy_side h o ≡ proxy_side g o →

@@ -125,11 +125,7 @@ module _ (g h : Records) (a : Agree g h) where
   in_message-agree : (f : Weight) (m : Message) → in_message f h m ≡ in_message f g m
   unfolding in_message'
   in_message-agree f (messages.Item link s n item moves) = ap (λ e. f e n item) (source-agree link s)
-  in_message-agree f (messages.BypassPeer link s old target fresh) = refl
-  in_message-agree f (messages.AcceptBypass old s fresh length) = refl
-  in_message-agree f (messages.StopProxying old s in_length out_length) = refl
-  in_message-agree f (messages.ProxyWillStop link s in_length) = refl
-  in_message-agree f (messages.Flush link s) = refl
+  in_message-agree f other = refl
 
   names_it : ℕ → Option ℕ → Bool
   names_it o None = false
@@ -142,13 +138,9 @@ module _ (g h : Records) (a : Agree g h) where
   -- what the messages of a bypass weigh is the same by both
   pub about-agree : (o : ℕ) (t : Message → ℕ) (m : Message) → of_bypass h o t m ≡ of_bypass g o t m
   unfolding of_bypass
-  about-agree o t (messages.Item link s n item moves) = refl
-  about-agree o t (messages.BypassPeer link s old target fresh) = refl
-  about-agree o t (messages.AcceptBypass old s fresh length) = refl
-  about-agree o t (messages.StopProxying old s in_length out_length) = refl
   about-agree o t (messages.ProxyWillStop link s in_length) = ap (λ b. cond b (t (messages.ProxyWillStop link s in_length)) 0)
       (is_by-agree link o)
-  about-agree o t (messages.Flush link s) = refl
+  about-agree o t other = refl
 
   -- and what is control_weight of a bypass that is as far as before
   pub expected-agree : (t : ℕ → ℕ → Message → ℕ) (o : ℕ) → h.bypass o ≡ g.bypass o → control_weight h t o ≡ control_weight g t o

@@ -49,13 +49,9 @@ in_hand-under_way h w from to m hf ht e = omega (
 
 -- whether a message is this one
 unfoldable pub is_accept : ℕ → Side → ℕ → ℕ → Message → Bool
-is_accept o side fresh length (messages.Item link s n item moves) = false
-is_accept o side fresh length (messages.BypassPeer link s old target new) = false
 is_accept o side fresh length (messages.AcceptBypass old s new n) =
     (nat_eq old o && same_side s side) && (nat_eq new fresh && nat_eq n length)
-is_accept o side fresh length (messages.StopProxying old s in_length out_length) = false
-is_accept o side fresh length (messages.ProxyWillStop link s in_length) = false
-is_accept o side fresh length (messages.Flush link s) = false
+is_accept o side fresh length other = false
 
 -- of four stages it is the second
 second : (s a b c d : ℕ) → 1 ≤ cond (nat_eq s 1) a (cond (nat_eq s 2) b (cond (nat_eq s 3) c (cond (nat_eq s 4) d 0))) → a ≡ 0 → c ≡ 0 →

@@ -72,20 +72,12 @@ fourth s a b c d h e f i = grind (arith, h, nat_tests)
 
 -- whether a message is this one
 unfoldable is_stop : ℕ → Side → ℕ → ℕ → Message → Bool
-is_stop o side in_length out_length (messages.Item link s n item moves) = false
-is_stop o side in_length out_length (messages.BypassPeer link s old target new) = false
-is_stop o side in_length out_length (messages.AcceptBypass old s new n) = false
 is_stop o side in_length out_length (messages.StopProxying old s i u) = same_side s side && (nat_eq i in_length && nat_eq u out_length)
-is_stop o side in_length out_length (messages.ProxyWillStop link s i) = false
-is_stop o side in_length out_length (messages.Flush link s) = false
+is_stop o side in_length out_length other = false
 
 unfoldable is_will_stop : LinkId → Side → ℕ → Message → Bool
-is_will_stop link side in_length (messages.Item l s n item moves) = false
-is_will_stop link side in_length (messages.BypassPeer l s old target new) = false
-is_will_stop link side in_length (messages.AcceptBypass old s new n) = false
-is_will_stop link side in_length (messages.StopProxying old s i u) = false
 is_will_stop link side in_length (messages.ProxyWillStop l s i) = same_link l link && (same_side s side && nat_eq i in_length)
-is_will_stop link side in_length (messages.Flush l s) = false
+is_will_stop link side in_length other = false
 
 -- what StopProxying tells of the bypass's record
 pub record IsStopped (g : Records) (from : ℕ) (k : Key) (o : ℕ) (side : Side) (in_length out_length : ℕ) : Type 0 where
@@ -196,13 +188,9 @@ first : (s a b c d : ℕ) → 1 ≤ cond (nat_eq s 1) a (cond (nat_eq s 2) b (co
 first s a b c d h e f i = grind (arith, h, nat_tests)
 
 unfoldable is_peer : LinkId → Side → ℕ → ℕ → Message → Bool
-is_peer link side target fresh (messages.Item l s n item moves) = false
 is_peer link side target fresh (messages.BypassPeer l s old t f) =
     same_link l link && (same_side s side && (nat_eq t target && nat_eq f fresh))
-is_peer link side target fresh (messages.AcceptBypass old s new n) = false
-is_peer link side target fresh (messages.StopProxying old s i u) = false
-is_peer link side target fresh (messages.ProxyWillStop l s i) = false
-is_peer link side target fresh (messages.Flush l s) = false
+is_peer link side target fresh other = false
 
 -- what BypassPeer tells of the bypass's record
 pub record IsPeered (g : Records) (from : ℕ) (k : Key) (o : ℕ) (link : LinkId) (side : Side) (target fresh : ℕ) : Type 0 where

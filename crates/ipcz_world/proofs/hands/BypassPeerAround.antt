@@ -34,12 +34,8 @@ use Rattle.ipcz_world.proofs.frames.Frames.{OneOrBefore, one_or_before}
 
 -- weighs a BypassPeer that names a central link
 unfoldable pub central_peer : Message → ℕ
-central_peer (messages.Item l s n item moves) = 0
 central_peer (messages.BypassPeer l s old t new) = cond (is_central l) 1 0
-central_peer (messages.AcceptBypass old s new n) = 0
-central_peer (messages.StopProxying old s i u) = 0
-central_peer (messages.ProxyWillStop l s i) = 0
-central_peer (messages.Flush l s) = 0
+central_peer other = 0
 
 pub inner_word : (e : LinkEnd) (p : Key) → e.link ≡ inner_link p → is_some (word_of (Some e)) ≡ true → ⊥
 unfolding word_of

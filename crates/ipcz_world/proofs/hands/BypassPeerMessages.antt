@@ -153,12 +153,8 @@ module _ {w : World} {b : Books} {g : Records} {from : ℕ} {k : Key} {r : Route
 
   about-same : (j : ℕ) (t : Message → ℕ) (m : Message) → of_bypass h j t m ≡ of_bypass g j t m
   unfolding of_bypass
-  about-same j t (messages.Item l s n item moves) = refl
-  about-same j t (messages.BypassPeer l s old u new) = refl
-  about-same j t (messages.AcceptBypass old s new n) = refl
-  about-same j t (messages.StopProxying old s i u) = refl
   about-same j t (messages.ProxyWillStop l s i) = ap (λ b'. cond b' (t (messages.ProxyWillStop l s i)) 0) (is_by-same l j)
-  about-same j t (messages.Flush l s) = refl
+  about-same j t other = refl
 
   expected_before : (t : ℕ → ℕ → Message → ℕ) → control_weight g t o ≡ t from k.node came
   unfolding control_weight

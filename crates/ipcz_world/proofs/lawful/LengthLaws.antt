@@ -454,8 +454,6 @@ module _ (w : World) (b : Books) (g : Records) (law : Inv w b g) where
 
       go : (from to i : ℕ) (m : Message) → IsUnderWay w from to i m → 1 ≤ of_bypass g o counts_stop m → StopsAt o
       go from to i (messages.Item link s n item moves) u l = absurd (omega (arith, l))
-      go from to i (messages.BypassPeer link s old target fresh) u l = absurd (none _ l)
-      go from to i (messages.AcceptBypass old s fresh length) u l = absurd (none _ l)
       go from to i (messages.StopProxying old s in_length out_length) u l = at (nat_eq old o) refl
         where
           at : (c : Bool) → nat_eq old o ≡ c → StopsAt o
@@ -471,8 +469,8 @@ module _ (w : World) (b : Books) (g : Records) (law : Inv w b g) where
                     subst (λ y. IsUnderWay w from to i (messages.StopProxying y s in_length out_length)) same u;
               }
           at false e = absurd (grind (arith, e, l))
-      go from to i (messages.ProxyWillStop link s in_length) u l = absurd (none _ l)
       go from to i (messages.Flush link s) u l = absurd (omega (arith, l))
+      go from to i other u l = absurd (none _ l)
 
   -- who knows how many items the proxy sends inward: itself, or StopProxying for it
   inner_knows : (p k : Key) (r : Router) (o : ℕ) → router_at w k ≡ Some r → is_attached (inner_link p) A r ≡ true →

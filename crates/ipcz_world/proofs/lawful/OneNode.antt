@@ -103,16 +103,9 @@ sent-over r acts.SendOut link h = inl (item-link (way_out r) _ _ link h)
 sent-over r acts.SendIn link h = inr (inl (item-link (way_in r) _ _ link h))
 sent-over r acts.Retire link h = inr (inr (retire-link r.outward.primary _ link h))
 sent-over r acts.Discard link h = absurd (discard-link _ _ link h)
-sent-over r acts.FinishOut link h = cc
-sent-over r acts.FinishIn link h = cc
-sent-over r acts.Leave link h = cc
-sent-over r acts.Mark link h = cc
 sent-over r acts.Wake link h = absurd (message-link _ link h)
-sent-over r acts.Claim link h = cc
-sent-over r acts.Lock link h = cc
 sent-over r acts.Begin link h = absurd (message-link _ link h)
-sent-over r acts.Unlock link h = cc
-sent-over r acts.Rest link h = cc
+sent-over r other link h = cc
 
 -- what is chosen is a link of the edge
 choose-in : (e : Edge) (n : ℕ) (link : LinkEnd) → choose e n ≡ Some link → (e.decaying ≡ Some link) ⊎ (e.primary ≡ Some link)
@@ -127,12 +120,10 @@ choose-in e n link h = go (edge_decays e && is_short_of n e.length_to) h
 send-serial : (n : Node) (a : Applied) → ((link : LinkEnd) → link_sent a ≡ Some link → nat_eq link.other n.number ≡ true) →
     (send n a).next_peripheral ≡ n.next_peripheral
 unfolding send send_item
-send-serial n sends.Nothing stays = refl
 send-serial n (sends.Sent link number item) stays =
     ap (λ c. (post_item (move_ends (record { node = n; moves = [] }) link.other (if c then [] else ends_in item)) link number
     item).next_peripheral) (stays link refl)
-send-serial n (sends.Message to message) stays = refl
-send-serial n (sends.Discarded number item) stays = refl
+send-serial n any stays = refl
 
 -- calls
 close-serial : (n : Node) (e : End) → HasNone n → HasNone (close_end n e)

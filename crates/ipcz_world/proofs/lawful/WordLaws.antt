@@ -103,10 +103,8 @@ module _ (w : World) (b : Books) (g : Records) (law : Inv w b g) where
           go false false e f at = grind (arith, e, f)
           go true false e f at = let is : o ≡ old = named o at.stage (sym at.onto ∙ grind (arith, e, nat_tests)) in
               absurd (grind (arith, f, is, nat_tests))
-      same from to j (messages.AcceptBypass o s fresh length) u = grind arith
-      same from to j (messages.StopProxying o s in_length out_length) u = grind arith
-      same from to j (messages.ProxyWillStop link s in_length) u = grind arith
       same from to j (messages.Flush link s) u = refl
+      same from to j other u = grind arith
 
   linked_of : (i : ℕ) → is_recorded w g (Central i) ≡ true → g.owner i ≡ Linked
   linked_of i h = is_link (g.owner i) (grind (arith, record_rules, h))

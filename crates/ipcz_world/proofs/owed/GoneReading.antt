@@ -147,29 +147,12 @@ module _ (w v : World) (b : Books) (k : Key) (d : End) where
 -- an event of another kind leaves the books
 other-same : (w : World) (b : Books) (n : ℕ) (event : Happened) → kind event ≡ 0 → after_turn w b n event ≡ b
 unfolding kind after_turn
-other-same w b n (events.Hand k link unfit) h = refl
-other-same w b n (events.Look s) h = refl
-other-same w b n (events.Post s) h = refl
 other-same w b n (events.Close e) h = cc
-other-same w b n (events.SendOut s m link ends) h = refl
-other-same w b n (events.SendIn s m link ends) h = refl
 other-same w b n (events.Discard s m) h = cc
 other-same w b n (events.DiscardLeave s m) h = cc
 other-same w b n (events.Retire s m link) h = cc
-other-same w b n (events.FinishOut s link) h = refl
-other-same w b n (events.FinishIn s link) h = refl
-other-same w b n (events.Leave s) h = refl
-other-same w b n (events.Mark s link x) h = refl
-other-same w b n (events.Wake s link x) h = refl
-other-same w b n (events.Claim s i) h = refl
-other-same w b n (events.ClaimNoWord s) h = refl
-other-same w b n (events.Lock s link x) h = refl
-other-same w b n (events.Wait s link x) h = refl
-other-same w b n (events.Refused s link x) h = refl
 other-same w b n (events.Begin s link) h = cc
-other-same w b n (events.Unlock s link x) h = refl
-other-same w b n (events.Rest s) h = refl
-other-same w b n events.Idle h = refl
+other-same w b n any h = refl
 
 acted-by : (w : World) (n s : ℕ) (act : RouterAct) (r : Router) → router_at w (record { node = n; serial = s }) ≡ Some r →
     after_act w n (OfRouter s act) ≡ set_node (touch w r act) n (commit (node_at w n) (OfRouter s act) (answer_of w r act))

@@ -61,20 +61,12 @@ node-claim_next w j = go (has_unclaimed_word w)
 
 node-touch : (w : World) (r : Router) (a : RouterAct) (j : ℕ) → node_at (touch w r a) j ≡ node_at w j
 unfolding touch
-node-touch w r acts.SendOut j = refl
-node-touch w r acts.SendIn j = refl
-node-touch w r acts.Discard j = refl
-node-touch w r acts.FinishOut j = refl
-node-touch w r acts.FinishIn j = refl
-node-touch w r acts.Leave j = refl
 node-touch w r acts.Mark j = node-touch_word w r.end.side (source_of r) acts.Mark (primary_word r) j
 node-touch w r acts.Wake j = node-touch_word w r.end.side (source_of r) acts.Wake (primary_word r) j
 node-touch w r acts.Claim j = node-claim_next w j
 node-touch w r acts.Lock j = node-touch_word w r.end.side (source_of r) acts.Lock (primary_word r) j
-node-touch w r acts.Begin j = refl
-node-touch w r acts.Retire j = refl
 node-touch w r acts.Unlock j = node-touch_word w r.end.side (source_of r) acts.Unlock (primary_word r) j
-node-touch w r acts.Rest j = refl
+node-touch w r other j = refl
 
 mail-touch_word : (w : World) (s : Side) (source : Option ℕ) (a : RouterAct) (o : Option ℕ) (j : ℕ) → mail_at
     (touch_word w s source a o) j ≡ mail_at w j
@@ -91,20 +83,12 @@ mail-claim_next w j = go (has_unclaimed_word w)
 
 pub mail-touch : (w : World) (r : Router) (a : RouterAct) (j : ℕ) → mail_at (touch w r a) j ≡ mail_at w j
 unfolding touch
-mail-touch w r acts.SendOut j = refl
-mail-touch w r acts.SendIn j = refl
-mail-touch w r acts.Discard j = refl
-mail-touch w r acts.FinishOut j = refl
-mail-touch w r acts.FinishIn j = refl
-mail-touch w r acts.Leave j = refl
 mail-touch w r acts.Mark j = mail-touch_word w r.end.side (source_of r) acts.Mark (primary_word r) j
 mail-touch w r acts.Wake j = mail-touch_word w r.end.side (source_of r) acts.Wake (primary_word r) j
 mail-touch w r acts.Claim j = mail-claim_next w j
 mail-touch w r acts.Lock j = mail-touch_word w r.end.side (source_of r) acts.Lock (primary_word r) j
-mail-touch w r acts.Begin j = refl
-mail-touch w r acts.Retire j = refl
 mail-touch w r acts.Unlock j = mail-touch_word w r.end.side (source_of r) acts.Unlock (primary_word r) j
-mail-touch w r acts.Rest j = refl
+mail-touch w r other j = refl
 
 -- the words of other links are as they were
 word-touch_word : (w : World) (s : Side) (source : Option ℕ) (a : RouterAct) (o : Option ℕ) (i : ℕ) → (o ≡ Some i → ⊥) →
@@ -131,20 +115,12 @@ word-claim_next w j = go (has_unclaimed_word w)
 word-touch : (w : World) (r : Router) (a : RouterAct) (i : ℕ) → (is_wordy a ≡ true → primary_word r ≡ Some i → ⊥) →
     word_at (touch w r a) i ≡ word_at w i
 unfolding touch is_wordy
-word-touch w r acts.SendOut i apart = refl
-word-touch w r acts.SendIn i apart = refl
-word-touch w r acts.Discard i apart = refl
-word-touch w r acts.FinishOut i apart = refl
-word-touch w r acts.FinishIn i apart = refl
-word-touch w r acts.Leave i apart = refl
 word-touch w r acts.Mark i apart = word-touch_word w r.end.side (source_of r) acts.Mark (primary_word r) i (apart refl)
 word-touch w r acts.Wake i apart = word-touch_word w r.end.side (source_of r) acts.Wake (primary_word r) i (apart refl)
 word-touch w r acts.Claim i apart = word-claim_next w i
 word-touch w r acts.Lock i apart = word-touch_word w r.end.side (source_of r) acts.Lock (primary_word r) i (apart refl)
-word-touch w r acts.Begin i apart = refl
-word-touch w r acts.Retire i apart = refl
 word-touch w r acts.Unlock i apart = word-touch_word w r.end.side (source_of r) acts.Unlock (primary_word r) i (apart refl)
-word-touch w r acts.Rest i apart = refl
+word-touch w r other i apart = refl
 
 -- a message that was pushed is under way
 last-there : (xs ys : List Message) (m : Message) → (j : ℕ) × (slice_get (xs ++ (ys ++ m ∷ [])) j ≡ Some m)
@@ -190,19 +166,7 @@ push-router u n to m q = ap (λ z. router_in z q.serial) (node-set_node u n (pus
 begin_holds : (r : Router) (a : RouterAct) → may_take r a ≡ true → is_begin a ≡ true → r.holds ≡ true
 unfolding is_begin is_possible is_rest
 begin_holds r acts.Begin may h = grind (arith, may)
-begin_holds r acts.SendOut may h = cc
-begin_holds r acts.SendIn may h = cc
-begin_holds r acts.Discard may h = cc
-begin_holds r acts.FinishOut may h = cc
-begin_holds r acts.FinishIn may h = cc
-begin_holds r acts.Leave may h = cc
-begin_holds r acts.Retire may h = cc
-begin_holds r acts.Mark may h = cc
-begin_holds r acts.Wake may h = cc
-begin_holds r acts.Claim may h = cc
-begin_holds r acts.Lock may h = cc
-begin_holds r acts.Unlock may h = cc
-begin_holds r acts.Rest may h = cc
+begin_holds r other may h = cc
 
 module _ (w : World) (b : Books) (g : Records) (law : Inv w b g) (flags : FlagsAgree w) (n s : ℕ) (act : RouterAct) (r : Router)
     (here : router_at w (record { node = n; serial = s }) ≡ Some r) (may : may_take r act ≡ true) where
@@ -433,16 +397,7 @@ wakers-router w b g law flags wakers n s act r here may i = go (primary_word r) 
         (lock_wakers w b g law flags wakers n s r here i link (subst (λ a. may_take r a ≡ true) e may))
     own link acts.Unlock e = subst (λ a. HaveWakersOn i (after_act w n (OfRouter s a))) (sym e)
         (unlock_wakers w b g law flags wakers n s r here i link (subst (λ a. may_take r a ≡ true) e may))
-    own link acts.SendOut e = other acts.SendOut e refl
-    own link acts.SendIn e = other acts.SendIn e refl
-    own link acts.Discard e = other acts.Discard e refl
-    own link acts.FinishOut e = other acts.FinishOut e refl
-    own link acts.FinishIn e = other acts.FinishIn e refl
-    own link acts.Leave e = other acts.Leave e refl
-    own link acts.Claim e = other acts.Claim e refl
-    own link acts.Begin e = other acts.Begin e refl
-    own link acts.Retire e = other acts.Retire e refl
-    own link acts.Rest e = other acts.Rest e refl
+    own link any e = other any e refl
 
     go : (o : Option ℕ) → primary_word r ≡ o → HaveWakersOn i (after_act w n (OfRouter s act))
     go None e = aside_of (λ h q. none-some i (sym e ∙ q))

@@ -211,11 +211,7 @@ module _ (w : World) (b : Books) (g : Records) (law : Inv w b g) (flags : FlagsA
         let begun : is_begun (g.bypass old) ≡ true = grind (arith, told.stage, nat_tests) in
         subst (λ j. is_held (word_at w j) ≡ true) same (held-is (word_at w old) (proxy_side g old)
         (law.words.begun_holder old (proxy_side g old) begun ∙ same_side-itself (proxy_side g old)))
-    needs i (messages.Item link side nat_eq-is item moves) e = record {}
-    needs i (messages.BypassPeer link side old target fresh) e = record {}
-    needs i (messages.StopProxying old side in_length out_length) e = record {}
-    needs i (messages.ProxyWillStop link side in_length) e = record {}
-    needs i (messages.Flush link side) e = record {}
+    needs i other e = record {}
 
     goes : (i : ℕ) → Goes i (is_held (word_at w i)) (node_at w n) x
     goes i = deliver-goes i (is_held (word_at w i)) (node_at w n) from m (source_for w m) (counted n) (needs i m refl)

@@ -114,11 +114,7 @@ module _ (c : Rates) (marks : End → ℕ) (n : Node) where
           rw bare (passes-with f.serial (accept f.router from number item) f.router
           (found_tells n (λ r. router_has r link side) f e).0 (routers.calm-accept f.router from number item)
           (routers.keeps-accept c marks f.router from number item))
-  passes-handled sender (messages.BypassPeer link side old target fresh) is bare = cc
-  passes-handled sender (messages.AcceptBypass old side fresh length) is bare = cc
-  passes-handled sender (messages.StopProxying old side in_length out_length) is bare = cc
-  passes-handled sender (messages.ProxyWillStop link side in_length) is bare = cc
-  passes-handled sender (messages.Flush link side) is bare = cc
+  passes-handled sender other is bare = cc
 
   pub passes-delivered : (sender : ℕ) (m : Message) (source : Option ℕ) → message_stir m ≡ 0 → moves_of m ≡ [] →
       Passes c marks n (deliver n sender m source)
@@ -190,13 +186,4 @@ module _ (c : Rates) (marks : End → ℕ) (n : Node) where
     passes-acted acts.Discard a may is = passes-discard (or-none _ may) a
     passes-acted acts.Rest a may is =
         passes-with s (rest r) r here (routers.calm-rest r) (omega (arith, routers.keeps-rest c marks r))
-    passes-acted acts.FinishOut a may is = cc
-    passes-acted acts.FinishIn a may is = cc
-    passes-acted acts.Leave a may is = cc
-    passes-acted acts.Mark a may is = cc
-    passes-acted acts.Wake a may is = cc
-    passes-acted acts.Claim a may is = cc
-    passes-acted acts.Lock a may is = cc
-    passes-acted acts.Begin a may is = cc
-    passes-acted acts.Retire a may is = cc
-    passes-acted acts.Unlock a may is = cc
+    passes-acted other a may is = cc

@@ -67,10 +67,6 @@ is_passing other = false
 -- it takes no other act
 pub calm-passes : (r : Router) (act : RouterAct) → is_calm r ≡ true → may_take r act ≡ true → is_passing act ≡ true
 unfolding is_calm is_passing is_possible is_rest can_finish
-calm-passes r acts.SendOut calm may = refl
-calm-passes r acts.SendIn calm may = refl
-calm-passes r acts.Discard calm may = refl
-calm-passes r acts.Rest calm may = refl
 calm-passes r acts.FinishOut calm may = absurd (grind (arith, calm, may))
 calm-passes r acts.FinishIn calm may = absurd (grind (arith, calm, may))
 calm-passes r acts.Leave calm may = absurd (leaves (and_first (is_proxy r) (has_no_link r || r.gone_sent) (or_first _ may)))
@@ -121,6 +117,7 @@ calm-passes r acts.Unlock calm may =
     unlocks false false true true d a e c f q = cc
     unlocks p s h false d a e c f q = grind (arith, q)
     unlocks p s false true d a e c f q = grind (arith, q)
+calm-passes r other calm may = refl
 
 -- nor does an item that comes or goes change this
 pub calm-accept : (r : Router) (b : Bool) (n : ℕ) (item : Item) → is_calm (accept r b n item) ≡ is_calm r

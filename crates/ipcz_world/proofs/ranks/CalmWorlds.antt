@@ -114,16 +114,7 @@ untouched w r acts.SendOut is = refl
 untouched w r acts.SendIn is = refl
 untouched w r acts.Discard is = refl
 untouched w r acts.Rest is = refl
-untouched w r acts.FinishOut is = cc
-untouched w r acts.FinishIn is = cc
-untouched w r acts.Leave is = cc
-untouched w r acts.Mark is = cc
-untouched w r acts.Wake is = cc
-untouched w r acts.Claim is = cc
-untouched w r acts.Lock is = cc
-untouched w r acts.Begin is = cc
-untouched w r acts.Retire is = cc
-untouched w r acts.Unlock is = cc
+untouched w r other is = cc
 
 -- where nothing is astir, none of its nodes is, and what is in its mailboxes is items
 pub still-node : (w : World) (n : ℕ) → stir w ≡ 0 → node_stir (node_at w n) ≡ 0
@@ -147,9 +138,7 @@ sent-put : (w : World) (b : Books) (n : ℕ) (x : Node) (event : ℕ → LinkId 
     (after_turn w b n (send_event x event o)).put ≡ b.put
 unfolding send_event after_turn
 sent-put w b n x event (outputs.Sent link i item) same = same i link.link (moved_ends x link item)
-sent-put w b n x event outputs.Nothing same = refl
-sent-put w b n x event (outputs.Message to m) same = refl
-sent-put w b n x event (outputs.Discarded i item) same = refl
+sent-put w b n x event other same = refl
 
 discarded-put : (b : Books) (o : Option Router) → (after_discard b o).put ≡ b.put
 unfolding after_discard
@@ -167,16 +156,7 @@ router-put w b n x s r acts.Discard a is = go (has_gone_next r)
     go true = discarded-put b (router_of w n s)
     go false = discarded-put b (router_of w n s)
 router-put w b n x s r acts.Rest a is = refl
-router-put w b n x s r acts.FinishOut a is = cc
-router-put w b n x s r acts.FinishIn a is = cc
-router-put w b n x s r acts.Leave a is = cc
-router-put w b n x s r acts.Mark a is = cc
-router-put w b n x s r acts.Wake a is = cc
-router-put w b n x s r acts.Claim a is = cc
-router-put w b n x s r acts.Lock a is = cc
-router-put w b n x s r acts.Begin a is = cc
-router-put w b n x s r acts.Retire a is = cc
-router-put w b n x s r acts.Unlock a is = cc
+router-put w b n x s r other a is = cc
 
 module _ (w : World) (still : stir w ≡ 0) where
   -- a router passes an item, or rests
@@ -312,29 +292,10 @@ retire-reads b (Some r) d = omega arith
 -- a turn reads, and no turn takes back what was read
 read-grows : (w : World) (b : Books) (n : ℕ) (event : Happened) (d : End) → read b d ≤ read (after_turn w b n event) d
 unfolding after_turn
-read-grows w b n (events.Close e) d = omega arith
 read-grows w b n (events.Discard s m) d = discard-reads b (router_of w n s) d
 read-grows w b n (events.DiscardLeave s m) d = discard-reads b (router_of w n s) d
 read-grows w b n (events.Retire s m l) d = retire-reads b (router_of w n s) d
-read-grows w b n (events.Hand k l u) d = omega arith
-read-grows w b n (events.Look m) d = omega arith
-read-grows w b n (events.Post m) d = omega arith
-read-grows w b n (events.SendOut s m l es) d = omega arith
-read-grows w b n (events.SendIn s m l es) d = omega arith
-read-grows w b n (events.FinishOut s l) d = omega arith
-read-grows w b n (events.FinishIn s l) d = omega arith
-read-grows w b n (events.Leave s) d = omega arith
-read-grows w b n (events.Mark s l x) d = omega arith
-read-grows w b n (events.Wake s l x) d = omega arith
-read-grows w b n (events.Claim s i) d = omega arith
-read-grows w b n (events.ClaimNoWord s) d = omega arith
-read-grows w b n (events.Lock s l x) d = omega arith
-read-grows w b n (events.Wait s l x) d = omega arith
-read-grows w b n (events.Refused s l x) d = omega arith
-read-grows w b n (events.Begin s l) d = omega arith
-read-grows w b n (events.Unlock s l x) d = omega arith
-read-grows w b n (events.Rest s) d = omega arith
-read-grows w b n events.Idle d = omega arith
+read-grows w b n other d = omega arith
 
 module _ (c : Rates) (w : World) (b : Books) (g : Routes) (law : Lawful w b g) (rated : IsRated c b) (six : (pair : ℕ) → c.price pair ≡ 6)
     (marks : End → ℕ) (room : IsRoomy c marks b) (dull : IsDull b) (still : stir w ≡ 0) where

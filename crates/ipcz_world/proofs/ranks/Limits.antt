@@ -316,11 +316,7 @@ module _ (w : World) (b : Books) (g : Routes) (law : Lawful w b g) (none : Carry
   message-most : (m : Message) → moves_of m ≡ [] → message_worth c m ≤ 36
   unfolding message_worth moves_of
   message-most (messages.Item link s n item moves) e = let free : moves_worth c moves ≡ 0 = ap (moves_worth c) e in omega (arith, free)
-  message-most (messages.BypassPeer l s old target fresh) e = omega arith
-  message-most (messages.AcceptBypass old s fresh n) e = omega arith
-  message-most (messages.StopProxying old s m n) e = omega arith
-  message-most (messages.ProxyWillStop l s n) e = omega arith
-  message-most (messages.Flush l s) e = omega arith
+  message-most other e = omega arith
 
   -- where no Gone anywhere comes to a number, no Gone of that number stands anywhere
   module _ (e : End) (n : ℕ) (last : suc n ≡ length (b.put e)) (low : gone_most w ≤ n) where

@@ -159,13 +159,7 @@ module _ (c : Rates) (n : Node) (s : ℕ) (r : Router) (here : get n.routers s �
   unfolding is_possible commit_router keep_or_drop leaves_by apply output_of send
   lower-mark can (answers.Marked word was) is = changed (mark_side r was) 1
       (routers.lower-mark c r was (and_first _ _ can) (not-true r.marked (and_first _ _ (and_second (is_on_central r) _ can))))
-  lower-mark can answers.Plain is = absurd is
-  lower-mark can (answers.Claimed i) is = absurd is
-  lower-mark can answers.NoWord is = absurd is
-  lower-mark can (answers.Word w) is = absurd is
-  lower-mark can (answers.Locked w) is = absurd is
-  lower-mark can (answers.Waiting w) is = absurd is
-  lower-mark can (answers.Refused w) is = absurd is
+  lower-mark can other is = absurd is
 
   lower-wake : is_possible r acts.Wake ≡ true → (a : Answer) → Lowers c n s acts.Wake a r
   unfolding is_possible commit_router keep_or_drop leaves_by apply output_of message_output flush_message send message_worth
@@ -199,12 +193,7 @@ module _ (c : Rates) (n : Node) (s : ℕ) (r : Router) (here : get n.routers s �
       (fresh (and_first _ _ can)).0)
   lower-claim can answers.NoWord is = changed (run_dry r) 1
       (routers.lower-dry c r (unbegun (and_first _ _ can)) (none-is r.spare (and_second (is_ready r) _ can)) (fresh (and_first _ _ can)).0)
-  lower-claim can answers.Plain is = absurd is
-  lower-claim can (answers.Marked w b) is = absurd is
-  lower-claim can (answers.Word w) is = absurd is
-  lower-claim can (answers.Locked w) is = absurd is
-  lower-claim can (answers.Waiting w) is = absurd is
-  lower-claim can (answers.Refused w) is = absurd is
+  lower-claim can other is = absurd is
 
   -- who may try for the lock is a proxy that hasn't begun, or a terminal
   locker : IsAble r → routers.IsLocker r
@@ -218,11 +207,7 @@ module _ (c : Rates) (n : Node) (s : ℕ) (r : Router) (here : get n.routers s �
   lower-lock can (answers.Locked w) is = let k = able-tells r can in changed (take_lock r) 1 (routers.lower-lock c r (locker k) k.free)
   lower-lock can (answers.Waiting w) is = let k = able-tells r can in changed (fail_lock r) 1 (routers.lower-try c r (locker k) k.untried)
   lower-lock can (answers.Refused w) is = let k = able-tells r can in changed (fail_lock r) 1 (routers.lower-try c r (locker k) k.untried)
-  lower-lock can answers.Plain is = absurd is
-  lower-lock can (answers.Claimed i) is = absurd is
-  lower-lock can answers.NoWord is = absurd is
-  lower-lock can (answers.Marked w b) is = absurd is
-  lower-lock can (answers.Word w) is = absurd is
+  lower-lock can other is = absurd is
 
   lower-begin : is_possible r acts.Begin ≡ true → (a : Answer) → Lowers c n s acts.Begin a r
   unfolding is_possible commit_router keep_or_drop leaves_by apply output_of message_output begin_message send message_worth

@@ -153,11 +153,7 @@ handed c n sender (messages.Flush link side) source h = omega (arith, handed-flu
 worth-some : (c : Rates) (m : Message) → 1 ≤ message_worth c m
 unfolding message_worth
 worth-some c (messages.Item link side number item moves) = omega arith
-worth-some c (messages.BypassPeer link side old target fresh) = omega arith
-worth-some c (messages.AcceptBypass old side fresh length) = omega arith
-worth-some c (messages.StopProxying old side in_length out_length) = omega arith
-worth-some c (messages.ProxyWillStop link side in_length) = omega arith
-worth-some c (messages.Flush link side) = omega arith
+worth-some c other = omega arith
 
 -- what isn't weighed: strays, and whose message is in hand
 node-free : (c : Rates) (n : Node) (sender : ℕ) → node_worth c (free_hand n sender) ≡ node_worth c n

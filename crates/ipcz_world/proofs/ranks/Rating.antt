@@ -251,7 +251,4 @@ turns_keep_rates keeps plain w v b g c n reply law rated step = by reply (plain 
         Lawful v (advance w b (Turn n) reply) (routes_after w g (Turn n) reply) → IsRated c (advance w b (Turn n) reply)
     by (replies.Turned event) p l = seen event (routes_after w g (Turn n) (replies.Turned event)) p l
     by (replies.Refused why) p l = rated
-    by (replies.Opened d e) p l = absurd p
-    by (replies.Put m) p l = absurd p
-    by (replies.Got m q) p l = absurd p
-    by (replies.Closed m) p l = absurd p
+    by other p l = absurd p

@@ -105,15 +105,7 @@ touched-nodes w r acts.Mark = word-nodes w r acts.Mark (primary_word r)
 touched-nodes w r acts.Wake = word-nodes w r acts.Wake (primary_word r)
 touched-nodes w r acts.Lock = word-nodes w r acts.Lock (primary_word r)
 touched-nodes w r acts.Unlock = word-nodes w r acts.Unlock (primary_word r)
-touched-nodes w r acts.SendOut = refl
-touched-nodes w r acts.SendIn = refl
-touched-nodes w r acts.Discard = refl
-touched-nodes w r acts.FinishOut = refl
-touched-nodes w r acts.FinishIn = refl
-touched-nodes w r acts.Leave = refl
-touched-nodes w r acts.Begin = refl
-touched-nodes w r acts.Retire = refl
-touched-nodes w r acts.Rest = refl
+touched-nodes w r other = refl
 
 -- where each number is worth six no more, no item carries an end
 no-ends : (c : Rates) (ends : List End) (p : ℕ) → p ≡ 6 → 6 + moving_worth c ends ≤ p → ends ≡ []

@@ -40,18 +40,7 @@ unused-router : (c : Rates) (n : Node) (s : ℕ) (act : RouterAct) (a : Answer) 
 unfolding spends is_unlock commit_router keep_or_drop leaves_by apply output_of send
 unused-router c n s acts.Unlock a r here h = omega (arith, node-with c n s (drop_lock r) r here, more-unlock c r)
 unused-router c n s acts.Rest a r here h = omega (arith, node-with c n s (rest r) r here, most-rest c r)
-unused-router c n s acts.SendOut a r here h = cc
-unused-router c n s acts.SendIn a r here h = cc
-unused-router c n s acts.Discard a r here h = cc
-unused-router c n s acts.FinishOut a r here h = cc
-unused-router c n s acts.FinishIn a r here h = cc
-unused-router c n s acts.Leave a r here h = cc
-unused-router c n s acts.Mark a r here h = cc
-unused-router c n s acts.Wake a r here h = cc
-unused-router c n s acts.Claim a r here h = cc
-unused-router c n s acts.Lock a r here h = cc
-unused-router c n s acts.Begin a r here h = cc
-unused-router c n s acts.Retire a r here h = cc
+unused-router c n s other a r here h = cc
 
 unused-at : (c : Rates) (w : World) (n s : ℕ) (act : RouterAct) (o : Option Router) → router_in (node_at w n) s ≡ o → may_act o act ≡ true →
     spends_at o act ≡ false → rank c (after_router_act w n s act o) ≤ rank c w + 2 * worth 1 (is_unlock (OfRouter s act))

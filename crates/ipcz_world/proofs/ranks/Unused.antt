@@ -27,20 +27,9 @@ all_spend (a ∷ list) = always_spends a && all_spend list
 
 spends-always : (r : Router) (a : RouterAct) → always_spends a ≡ true → spends r a ≡ true
 unfolding spends
-spends-always r acts.SendOut h = refl
-spends-always r acts.SendIn h = refl
-spends-always r acts.Discard h = refl
-spends-always r acts.FinishOut h = refl
-spends-always r acts.FinishIn h = refl
-spends-always r acts.Leave h = refl
-spends-always r acts.Mark h = refl
-spends-always r acts.Wake h = refl
-spends-always r acts.Claim h = refl
-spends-always r acts.Lock h = refl
-spends-always r acts.Begin h = refl
-spends-always r acts.Retire h = refl
 spends-always r acts.Unlock h = cc
 spends-always r acts.Rest h = cc
+spends-always r other h = refl
 
 -- the first possible act of a list, or a rest
 first-in : (r : Router) (list : List RouterAct) → r.flagged ≡ true → all_spend list ≡ true → spends r (first_possible r list) ≡ true

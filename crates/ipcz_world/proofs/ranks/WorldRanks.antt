@@ -87,15 +87,7 @@ same-touched c w r acts.Mark = same-word c w r.end.side (source_of r) acts.Mark 
 same-touched c w r acts.Wake = same-word c w r.end.side (source_of r) acts.Wake (primary_word r)
 same-touched c w r acts.Lock = same-word c w r.end.side (source_of r) acts.Lock (primary_word r)
 same-touched c w r acts.Unlock = same-word c w r.end.side (source_of r) acts.Unlock (primary_word r)
-same-touched c w r acts.SendOut = record { rank = refl; node = λ n. refl }
-same-touched c w r acts.SendIn = record { rank = refl; node = λ n. refl }
-same-touched c w r acts.Discard = record { rank = refl; node = λ n. refl }
-same-touched c w r acts.FinishOut = record { rank = refl; node = λ n. refl }
-same-touched c w r acts.FinishIn = record { rank = refl; node = λ n. refl }
-same-touched c w r acts.Leave = record { rank = refl; node = λ n. refl }
-same-touched c w r acts.Begin = record { rank = refl; node = λ n. refl }
-same-touched c w r acts.Retire = record { rank = refl; node = λ n. refl }
-same-touched c w r acts.Rest = record { rank = refl; node = λ n. refl }
+same-touched c w r other = record { rank = refl; node = λ n. refl }
 
 -- a message in hand is handled
 hand-lowers : (c : Rates) (w : World) (n from : ℕ) (x : Mail) → mail_at w (way w from n) ≡ x → is_some (hand_message x) ≡ true →
@@ -202,26 +194,18 @@ module _ (w : World) (r : Router) where
 
   pub answered : (act : RouterAct) → may_take r act ≡ true → IsAnswerOf act (answer_of w r act)
   unfolding answer_of word_answer is_possible is_rest
-  answered acts.SendOut may = plain acts.SendOut (primary_word r) tt (λ x. refl)
-  answered acts.SendIn may = plain acts.SendIn (primary_word r) tt (λ x. refl)
-  answered acts.Discard may = plain acts.Discard (primary_word r) tt (λ x. refl)
-  answered acts.FinishOut may = plain acts.FinishOut (primary_word r) tt (λ x. refl)
-  answered acts.FinishIn may = plain acts.FinishIn (primary_word r) tt (λ x. refl)
-  answered acts.Leave may = plain acts.Leave (primary_word r) tt (λ x. refl)
   answered acts.Mark may = central acts.Mark (primary_word r) (and_first _ _ (or_left _ _ refl may)) (λ x. tt)
   answered acts.Wake may = central acts.Wake (primary_word r) (and_second _ _ (or_left _ _ refl may)) (λ x. tt)
   answered acts.Claim may = claim_is (nat_lt w.claimed w.size)
   answered acts.Lock may = central acts.Lock (primary_word r) (able-tells r (or_left _ _ refl may)).central
       (λ x. try_is x r.end.side (source_of r) (plan_of x r.end.side))
-  answered acts.Begin may = plain acts.Begin (primary_word r) tt (λ x. refl)
-  answered acts.Retire may = plain acts.Retire (primary_word r) tt (λ x. refl)
   answered acts.Unlock may =
       central acts.Unlock (primary_word r) (unlocks (is_proxy r) (is_done r) r.holds (is_on_central r) (decays r) (or_left _ _ refl may)) (λ x. tt)
     where
       unlocks : (p d h c e : Bool) → ((p && (h && (c && not e))) || (d && (h && (c && not e)))) ≡ true → c ≡ true
       unlocks p d h true e q = refl
       unlocks p d h false e q = grind (arith, q)
-  answered acts.Rest may = plain acts.Rest (primary_word r) tt (λ x. refl)
+  answered other may = plain other (primary_word r) tt (λ x. refl)
 
 -- a router acts
 router-lowers : (c : Rates) (w : World) (n s : ℕ) (act : RouterAct) (o : Option Router) → router_in (node_at w n) s ≡ o →

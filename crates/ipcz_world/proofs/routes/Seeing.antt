@@ -41,32 +41,18 @@ kind other = 0
 kind-send : (n : Node) (event : ℕ → LinkId → List End → Happened) (a : Applied) →
     ((number : ℕ) (link : LinkId) (ends : List End) → kind (event number link ends) ≡ 0) → kind (send_event n event a) ≡ 0
 unfolding send_event kind
-kind-send n event sends.Nothing h = refl
 kind-send n event (sends.Sent link number item) h = h number link.link _
-kind-send n event (sends.Message to m) h = refl
-kind-send n event (sends.Discarded number item) h = refl
+kind-send n event other h = refl
 
 kind-word : (serial : ℕ) (link : LinkId) (a : Answer) → kind (word_event serial link a) ≡ 0
 unfolding word_event kind
 kind-word serial link answers.Plain = refl
-kind-word serial link (answers.Claimed i) = refl
-kind-word serial link answers.NoWord = refl
-kind-word serial link (answers.Marked x c) = refl
-kind-word serial link (answers.Word x) = refl
-kind-word serial link (answers.Locked x) = refl
-kind-word serial link (answers.Waiting x) = refl
-kind-word serial link (answers.Refused x) = refl
+kind-word serial link other = refl
 
 kind-unlock : (serial : ℕ) (link : LinkId) (a : Answer) → kind (unlock_event serial link a) ≡ 0
 unfolding unlock_event kind
 kind-unlock serial link answers.Plain = refl
-kind-unlock serial link (answers.Claimed i) = refl
-kind-unlock serial link answers.NoWord = refl
-kind-unlock serial link (answers.Marked x c) = refl
-kind-unlock serial link (answers.Word x) = refl
-kind-unlock serial link (answers.Locked x) = refl
-kind-unlock serial link (answers.Waiting x) = refl
-kind-unlock serial link (answers.Refused x) = refl
+kind-unlock serial link other = refl
 
 -- what an act of a router is seen to do
 pub router_kind : (n : Node) (s : ℕ) (r : Router) (act : RouterAct) (a : Answer) →
@@ -88,9 +74,6 @@ router_kind n s r acts.Discard a = go (has_gone_next r) refl
         ((acts.Discard ≡ acts.Retire) × (router_event n s r acts.Discard a ≡ events.Retire s (next_number r) (link_of r.outward.primary))))))
     go true e = inr (inr (inr (inl (refl, e, rw e refl))))
     go false e = inr (inl (refl, e, rw e refl))
-router_kind n s r acts.FinishOut a = inl refl
-router_kind n s r acts.FinishIn a = inl refl
-router_kind n s r acts.Leave a = inl refl
 router_kind n s r acts.Mark a = inl (kind-word s (link_of r.outward.primary) a)
 router_kind n s r acts.Wake a = inl (kind-word s (link_of r.outward.primary) a)
 router_kind n s r acts.Claim a = inl (kind-word s (link_of r.outward.primary) a)
@@ -98,7 +81,7 @@ router_kind n s r acts.Lock a = inl (kind-word s (link_of r.outward.primary) a)
 router_kind n s r acts.Begin a = inr (inr (inl (refl, refl)))
 router_kind n s r acts.Retire a = inr (inr (inr (inr (refl, refl))))
 router_kind n s r acts.Unlock a = inl (kind-unlock s (link_of r.outward.primary) a)
-router_kind n s r acts.Rest a = inl refl
+router_kind n s r other a = inl refl
 
 -- an act of a router that is seen stands there
 pub seen_event : (w : World) (n s : ℕ) (act : RouterAct) (r : Router) → router_at w (record { node = n; serial = s }) ≡ Some r →
@@ -119,24 +102,12 @@ taken_possible r act h n = go (is_possible r act) refl
 routes-word : (w : World) (g : Routes) (n s : ℕ) (l : LinkId) (a : Answer) → routes_after_turn w g n (word_event s l a) ≡ g
 unfolding word_event routes_after_turn
 routes-word w g n s l answers.Plain = refl
-routes-word w g n s l (answers.Claimed i) = refl
-routes-word w g n s l answers.NoWord = refl
-routes-word w g n s l (answers.Marked x c) = refl
-routes-word w g n s l (answers.Word x) = refl
-routes-word w g n s l (answers.Locked x) = refl
-routes-word w g n s l (answers.Waiting x) = refl
-routes-word w g n s l (answers.Refused x) = refl
+routes-word w g n s l other = refl
 
 routes-unlock : (w : World) (g : Routes) (n s : ℕ) (l : LinkId) (a : Answer) → routes_after_turn w g n (unlock_event s l a) ≡ g
 unfolding unlock_event routes_after_turn
 routes-unlock w g n s l answers.Plain = refl
-routes-unlock w g n s l (answers.Claimed i) = refl
-routes-unlock w g n s l answers.NoWord = refl
-routes-unlock w g n s l (answers.Marked x c) = refl
-routes-unlock w g n s l (answers.Word x) = refl
-routes-unlock w g n s l (answers.Locked x) = refl
-routes-unlock w g n s l (answers.Waiting x) = refl
-routes-unlock w g n s l (answers.Refused x) = refl
+routes-unlock w g n s l other = refl
 
 -- whether an act sends an item or lets a proxy leave
 abbrev pub is_send : RouterAct → Bool
@@ -156,17 +127,13 @@ routes-act w g n s x r acts.Discard t h = go (has_gone_next r) refl
     go : (c : Bool) → has_gone_next r ≡ c → routes_after_turn w g n (router_event x s r acts.Discard t) ≡ g
     go true e = rw e refl
     go false e = rw e refl
-routes-act w g n s x r acts.FinishOut t h = refl
-routes-act w g n s x r acts.FinishIn t h = refl
 routes-act w g n s x r acts.Leave t h = cc
 routes-act w g n s x r acts.Mark t h = routes-word w g n s (link_of r.outward.primary) t
 routes-act w g n s x r acts.Wake t h = routes-word w g n s (link_of r.outward.primary) t
 routes-act w g n s x r acts.Claim t h = routes-word w g n s (link_of r.outward.primary) t
 routes-act w g n s x r acts.Lock t h = routes-word w g n s (link_of r.outward.primary) t
-routes-act w g n s x r acts.Begin t h = refl
-routes-act w g n s x r acts.Retire t h = refl
 routes-act w g n s x r acts.Unlock t h = routes-unlock w g n s (link_of r.outward.primary) t
-routes-act w g n s x r acts.Rest t h = refl
+routes-act w g n s x r other t h = refl
 
 pub routes-still : (w : World) (g : Routes) (n s : ℕ) (r : Router) (a : RouterAct) →
     router_at w (record { node = n; serial = s }) ≡ Some r → is_send a ≡ false → routes_after_turn w g n (turn_event w n (OfRouter s a)) ≡ g
@@ -209,12 +176,8 @@ hand-seen w n from m e = rw e refl
 routes-message : (w : World) (g : Routes) (n from : ℕ) (x : Node) (o : Option ℕ) (m : Message) → is_peer m ≡ false →
     routes_after_turn w g n (hand_event x from m o) ≡ g
 unfolding hand_event kind_of routes_after_turn
-routes-message w g n from x o (messages.Item link side number item moves) h = refl
 routes-message w g n from x o (messages.BypassPeer link side old target fresh) h = cc
-routes-message w g n from x o (messages.AcceptBypass old side fresh length) h = refl
-routes-message w g n from x o (messages.StopProxying old side in_length out_length) h = refl
-routes-message w g n from x o (messages.ProxyWillStop link side in_length) h = refl
-routes-message w g n from x o (messages.Flush link side) h = refl
+routes-message w g n from x o other h = refl
 
 -- a hand leaves the routes, but that of a BypassPeer
 pub routes-hand : (w : World) (g : Routes) (n from : ℕ) (m : Message) → mail_at w (way w from n) ≡ mails.Hand m → is_peer m ≡ false →

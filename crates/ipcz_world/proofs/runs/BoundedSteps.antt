@@ -107,12 +107,6 @@ bounded-touch_word w s x a (Some i) l b = bounded-set_word w i _ (l i refl) b
 bounded-touch : (w : World) (r : Router) (a : RouterAct) → ((i : ℕ) → primary_word r ≡ Some i → i < w.size) → IsBounded w →
     IsBounded (touch w r a)
 unfolding touch
-bounded-touch w r acts.SendOut l b = b
-bounded-touch w r acts.SendIn l b = b
-bounded-touch w r acts.Discard l b = b
-bounded-touch w r acts.FinishOut l b = b
-bounded-touch w r acts.FinishIn l b = b
-bounded-touch w r acts.Leave l b = b
 bounded-touch w r acts.Mark l b = bounded-touch_word w r.end.side (source_of r) acts.Mark (primary_word r) l b
 bounded-touch w r acts.Wake l b = bounded-touch_word w r.end.side (source_of r) acts.Wake (primary_word r) l b
 bounded-touch w r acts.Claim l b = go (has_unclaimed_word w)
@@ -121,10 +115,8 @@ bounded-touch w r acts.Claim l b = go (has_unclaimed_word w)
     go true = bounded-set_claimed w (w.claimed + 1) b
     go false = b
 bounded-touch w r acts.Lock l b = bounded-touch_word w r.end.side (source_of r) acts.Lock (primary_word r) l b
-bounded-touch w r acts.Begin l b = b
-bounded-touch w r acts.Retire l b = b
 bounded-touch w r acts.Unlock l b = bounded-touch_word w r.end.side (source_of r) acts.Unlock (primary_word r) l b
-bounded-touch w r acts.Rest l b = b
+bounded-touch w r other l b = b
 
 module _ (w : World) (books : Books) (g : Records) (law : Inv w books g) (b : IsBounded w) where
   module _ (n : ℕ) (l : n < w.count) where

@@ -106,17 +106,10 @@ output_goes c r acts.SendOut b = item_goes c (way_out r) r.out_queue.current (cu
 output_goes c r acts.SendIn b = item_goes c (way_in r) r.in_queue.current (current_item r.in_queue)
     (choose_below c (inward_edge r) r.in_queue.current b.inner_primary b.inner_decaying)
 output_goes c r acts.Discard b = discard_goes c r.in_queue.current (current_item r.in_queue)
-output_goes c r acts.FinishOut b = tt
-output_goes c r acts.FinishIn b = tt
-output_goes c r acts.Leave b = tt
-output_goes c r acts.Mark b = tt
 output_goes c r acts.Wake b = flush_goes c r.outward.primary b.primary
-output_goes c r acts.Claim b = tt
-output_goes c r acts.Lock b = tt
 output_goes c r acts.Begin b = begin_goes c (inward_edge r).primary r.outward.primary r.spare b.inner_primary
 output_goes c r acts.Retire b = retire_goes c r.outward.primary (next_number r) b.primary
-output_goes c r acts.Unlock b = tt
-output_goes c r acts.Rest b = tt
+output_goes c r other b = tt
 
 boxed-send : (c : ℕ) (x : Node) (o : Applied) → IsBoxed c x → Goes c o → IsBoxed c (send x o)
 unfolding send send_item

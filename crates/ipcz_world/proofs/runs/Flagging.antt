@@ -83,69 +83,31 @@ awake-add n y law is = awake-with n n.next_router y law is
 flagged-mark : (r : Router) (a : Answer) → r.flagged ≡ true → (apply r acts.Mark a).flagged ≡ true
 unfolding apply
 flagged-mark r answers.Plain h = h
-flagged-mark r (answers.Claimed i) h = h
-flagged-mark r answers.NoWord h = h
-flagged-mark r (answers.Marked w was) h = h
-flagged-mark r (answers.Word w) h = h
-flagged-mark r (answers.Locked w) h = h
-flagged-mark r (answers.Waiting w) h = h
-flagged-mark r (answers.Refused w) h = h
+flagged-mark r other h = h
 
 flagged-claim : (r : Router) (a : Answer) → r.flagged ≡ true → (apply r acts.Claim a).flagged ≡ true
 unfolding apply
 flagged-claim r answers.Plain h = h
-flagged-claim r (answers.Claimed i) h = h
-flagged-claim r answers.NoWord h = h
-flagged-claim r (answers.Marked w was) h = h
-flagged-claim r (answers.Word w) h = h
-flagged-claim r (answers.Locked w) h = h
-flagged-claim r (answers.Waiting w) h = h
-flagged-claim r (answers.Refused w) h = h
+flagged-claim r other h = h
 
 flagged-lock : (r : Router) (a : Answer) → r.flagged ≡ true → (apply r acts.Lock a).flagged ≡ true
 unfolding apply
 flagged-lock r answers.Plain h = h
-flagged-lock r (answers.Claimed i) h = h
-flagged-lock r answers.NoWord h = h
-flagged-lock r (answers.Marked w was) h = h
-flagged-lock r (answers.Word w) h = h
-flagged-lock r (answers.Locked w) h = h
-flagged-lock r (answers.Waiting w) h = h
-flagged-lock r (answers.Refused w) h = h
+flagged-lock r other h = h
 
 apply-flagged : (r : Router) (act : RouterAct) (a : Answer) → is_rest act ≡ false → r.flagged ≡ true → (apply r act a).flagged ≡ true
 unfolding apply is_rest
-apply-flagged r acts.SendOut a n h = h
-apply-flagged r acts.SendIn a n h = h
-apply-flagged r acts.Discard a n h = h
-apply-flagged r acts.FinishOut a n h = h
-apply-flagged r acts.FinishIn a n h = h
-apply-flagged r acts.Leave a n h = h
 apply-flagged r acts.Mark a n h = flagged-mark r a h
-apply-flagged r acts.Wake a n h = h
 apply-flagged r acts.Claim a n h = flagged-claim r a h
 apply-flagged r acts.Lock a n h = flagged-lock r a h
-apply-flagged r acts.Begin a n h = h
-apply-flagged r acts.Retire a n h = h
 apply-flagged r acts.Unlock a n h = refl
 apply-flagged r acts.Rest a n h = cc
+apply-flagged r other a n h = h
 
 rest-impossible : (r : Router) (act : RouterAct) → is_rest act ≡ true → is_possible r act ≡ false
 unfolding is_possible is_rest
 rest-impossible r acts.Rest h = refl
-rest-impossible r acts.Retire h = cc
-rest-impossible r acts.SendOut h = cc
-rest-impossible r acts.SendIn h = cc
-rest-impossible r acts.Discard h = cc
-rest-impossible r acts.FinishOut h = cc
-rest-impossible r acts.FinishIn h = cc
-rest-impossible r acts.Leave h = cc
-rest-impossible r acts.Mark h = cc
-rest-impossible r acts.Wake h = cc
-rest-impossible r acts.Claim h = cc
-rest-impossible r acts.Lock h = cc
-rest-impossible r acts.Begin h = cc
-rest-impossible r acts.Unlock h = cc
+rest-impossible r other h = cc
 
 -- where rest is next, no act of the list is possible
 first-none : (r : Router) (list : List RouterAct) (i : ℕ) (act : RouterAct) → is_rest (first_possible r list) ≡ true →
@@ -181,36 +143,12 @@ rest-idle r h acts.Rest = refl
 rest-possible : (r : Router) (act : RouterAct) → is_possible (rest r) act ≡ is_possible r act
 unfolding is_possible
 rest-possible r acts.SendOut = refl
-rest-possible r acts.SendIn = refl
-rest-possible r acts.Discard = refl
-rest-possible r acts.FinishOut = refl
-rest-possible r acts.FinishIn = refl
-rest-possible r acts.Leave = refl
-rest-possible r acts.Mark = refl
-rest-possible r acts.Wake = refl
-rest-possible r acts.Claim = refl
-rest-possible r acts.Lock = refl
-rest-possible r acts.Begin = refl
-rest-possible r acts.Retire = refl
-rest-possible r acts.Unlock = refl
-rest-possible r acts.Rest = refl
+rest-possible r other = refl
 
 resting : (r : Router) (act : RouterAct) (a : Answer) → is_rest act ≡ true → apply r act a ≡ rest r
 unfolding apply is_rest
 resting r acts.Rest a h = refl
-resting r acts.SendOut a h = cc
-resting r acts.SendIn a h = cc
-resting r acts.Discard a h = cc
-resting r acts.FinishOut a h = cc
-resting r acts.FinishIn a h = cc
-resting r acts.Leave a h = cc
-resting r acts.Mark a h = cc
-resting r acts.Wake a h = cc
-resting r acts.Claim a h = cc
-resting r acts.Lock a h = cc
-resting r acts.Begin a h = cc
-resting r acts.Retire a h = cc
-resting r acts.Unlock a h = cc
+resting r other a h = cc
 
 -- a router after an act that it may take
 pub awake-apply : (r : Router) (act : RouterAct) (a : Answer) → IsAwake r → may_take r act ≡ true → IsAwake (apply r act a)
@@ -241,10 +179,8 @@ awake-moves m to (e ∷ es) law = awake-moves (move_found m to (terminal_of m.no
 
 awake-send : (n : Node) (a : Applied) → AreAwake n → AreAwake (send n a)
 unfolding send send_item
-awake-send n sends.Nothing law = law
 awake-send n (sends.Sent link number item) law = awake-moves (record { node = n; moves = [] }) link.other (moved_ends n link item) law
-awake-send n (sends.Message to message) law = law
-awake-send n (sends.Discarded number item) law = law
+awake-send n any law = law
 
 -- an act of a router
 pub awake-router : (n : Node) (s : ℕ) (act : RouterAct) (r : Router) (a : Answer) → AreAwake n → router_in n s ≡ Some r →
@@ -286,7 +222,6 @@ awake-put n e p law = go (terminal_of n e)
 take-tells : (r : Router) (act : RouterAct) (item : Item) → is_terminal r ≡ true → current_item r.in_queue ≡ Some item →
     is_possible (take_item r) act ≡ true → is_possible r act ≡ true
 unfolding is_possible choose can_finish
-take-tells r acts.SendOut item t at h = h
 take-tells r acts.SendIn item t at h = absurd (grind (arith, none, h))
   where
     none : r.inward ≡ None
@@ -305,15 +240,7 @@ take-tells r acts.FinishIn item t at h = absurd (grind (arith, none, h))
         go : (o : Option Edge) → r.inward ≡ o → r.inward ≡ None
         go None e = e
         go (Some x) e = absurd (grind (arith, t, e))
-take-tells r acts.Leave item t at h = h
-take-tells r acts.Mark item t at h = h
-take-tells r acts.Wake item t at h = h
-take-tells r acts.Claim item t at h = h
-take-tells r acts.Lock item t at h = h
-take-tells r acts.Begin item t at h = h
-take-tells r acts.Retire item t at h = h
-take-tells r acts.Unlock item t at h = h
-take-tells r acts.Rest item t at h = h
+take-tells r other item t at h = h
 
 -- a get that isn't refused finds an item
 get-finds : (n : Node) (e : End) (f : Found) → terminal_of n e ≡ Some f → get_refusal n e ≡ None →
@@ -345,18 +272,8 @@ new-idle : (end : End) (link : LinkEnd) (next_out next_in : ℕ) (is_marked : Bo
 unfolding is_possible can_finish
 new-idle end link a c m h acts.SendOut = grind (arith, get-empty {X = Item} nat_cmp a)
 new-idle end link a c m h acts.SendIn = grind (arith, get-empty {X = Item} nat_cmp c)
-new-idle end link a c m h acts.Discard = refl
-new-idle end link a c m h acts.FinishOut = refl
-new-idle end link a c m h acts.FinishIn = refl
-new-idle end link a c m h acts.Leave = refl
 new-idle end link a c m h acts.Mark = grind (arith, h)
-new-idle end link a c m h acts.Wake = refl
-new-idle end link a c m h acts.Claim = refl
-new-idle end link a c m h acts.Lock = refl
-new-idle end link a c m h acts.Begin = refl
-new-idle end link a c m h acts.Retire = refl
-new-idle end link a c m h acts.Unlock = refl
-new-idle end link a c m h acts.Rest = refl
+new-idle end link a c m h other = refl
 
 awake-first : (pair : ℕ) (side : Side) (other : ℕ) → IsAwake (new_end pair side other)
 unfolding is_central

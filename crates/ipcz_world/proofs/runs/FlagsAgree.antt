@@ -190,10 +190,8 @@ agreed-moves m to (e ∷ es) law = agreed-moves (move_found m to (terminal_of m.
 
 agreed-send : (n : Node) (a : Applied) → AreAgreed n → AreAgreed (send n a)
 unfolding send send_item
-agreed-send n sends.Nothing law = law
 agreed-send n (sends.Sent link number item) law = agreed-moves (record { node = n; moves = [] }) link.other (moved_ends n link item) law
-agreed-send n (sends.Message to message) law = law
-agreed-send n (sends.Discarded number item) law = law
+agreed-send n any law = law
 
 agreed-router : (w : World) (n s : ℕ) (act : RouterAct) (r : Router) → AreAgreed (node_at w n) → router_in (node_at w n) s ≡ Some r →
     may_take r act ≡ true → AreAgreed (commit (node_at w n) (OfRouter s act) (answer_of w r act))

@@ -54,32 +54,18 @@ event_said other = events.Idle
 hand-send : (n : Node) (event : ℕ → LinkId → List End → Happened) (a : Applied) →
     ((number : ℕ) (link : LinkId) (ends : List End) → is_hand (event number link ends) ≡ false) → is_hand (send_event n event a) ≡ false
 unfolding send_event is_hand
-hand-send n event outputs.Nothing h = refl
 hand-send n event (outputs.Sent link number item) h = h number link.link _
-hand-send n event (outputs.Message to m) h = refl
-hand-send n event (outputs.Discarded number item) h = refl
+hand-send n event other h = refl
 
 hand-word : (serial : ℕ) (link : LinkId) (a : Answer) → is_hand (word_event serial link a) ≡ false
 unfolding word_event is_hand
 hand-word serial link answers.Plain = refl
-hand-word serial link (answers.Claimed i) = refl
-hand-word serial link answers.NoWord = refl
-hand-word serial link (answers.Marked x c) = refl
-hand-word serial link (answers.Word x) = refl
-hand-word serial link (answers.Locked x) = refl
-hand-word serial link (answers.Waiting x) = refl
-hand-word serial link (answers.Refused x) = refl
+hand-word serial link other = refl
 
 hand-unlock : (serial : ℕ) (link : LinkId) (a : Answer) → is_hand (unlock_event serial link a) ≡ false
 unfolding unlock_event is_hand
 hand-unlock serial link answers.Plain = refl
-hand-unlock serial link (answers.Claimed i) = refl
-hand-unlock serial link answers.NoWord = refl
-hand-unlock serial link (answers.Marked x c) = refl
-hand-unlock serial link (answers.Word x) = refl
-hand-unlock serial link (answers.Locked x) = refl
-hand-unlock serial link (answers.Waiting x) = refl
-hand-unlock serial link (answers.Refused x) = refl
+hand-unlock serial link other = refl
 
 -- an act of a router isn't seen as one
 hand-router : (n : Node) (s : ℕ) (r : Router) (act : RouterAct) (a : Answer) → is_hand (router_event n s r act a) ≡ false
@@ -91,17 +77,12 @@ hand-router n s r acts.Discard a = go (has_gone_next r) refl
     go : (c : Bool) → has_gone_next r ≡ c → is_hand (router_event n s r acts.Discard a) ≡ false
     go true e = rw e refl
     go false e = rw e refl
-hand-router n s r acts.FinishOut a = refl
-hand-router n s r acts.FinishIn a = refl
-hand-router n s r acts.Leave a = refl
 hand-router n s r acts.Mark a = hand-word s (link_of r.outward.primary) a
 hand-router n s r acts.Wake a = hand-word s (link_of r.outward.primary) a
 hand-router n s r acts.Claim a = hand-word s (link_of r.outward.primary) a
 hand-router n s r acts.Lock a = hand-word s (link_of r.outward.primary) a
-hand-router n s r acts.Begin a = refl
-hand-router n s r acts.Retire a = refl
 hand-router n s r acts.Unlock a = hand-unlock s (link_of r.outward.primary) a
-hand-router n s r acts.Rest a = refl
+hand-router n s r other a = refl
 
 hand-is : (o : Option ℕ) (from : ℕ) → is_hand_of o from ≡ true → o ≡ Some from
 unfolding is_hand_of
@@ -110,12 +91,8 @@ hand-is (Some s) from f = let same : s ≡ from = grind (arith, f, nat_tests) in
 
 kind-flush : (m : Message) → is_flush m ≡ true → kind_of m ≡ Flush
 unfolding is_flush kind_of
-kind-flush (messages.Item link s number item moves) f = cc
-kind-flush (messages.BypassPeer link s old target fresh) f = cc
-kind-flush (messages.AcceptBypass old s fresh length) f = cc
-kind-flush (messages.StopProxying old s in_length out_length) f = cc
-kind-flush (messages.ProxyWillStop link s in_length) f = cc
 kind-flush (messages.Flush link s) f = refl
+kind-flush other f = cc
 
 module _ (fit : HandsFit) (w : World) (b : Books) (g : Routes) (law : Lawful w b g) where
   -- a message in hand that is said not to fit

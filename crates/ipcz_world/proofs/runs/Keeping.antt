@@ -90,29 +90,11 @@ use Rattle.ipcz_world.specs.World.{has_unclaimed_word}
 -- an event of another kind leaves the books
 books-other : (w : World) (b : Books) (n : ℕ) (event : Happened) → kind event ≡ 0 → after_turn w b n event ≡ b
 unfolding kind after_turn
-books-other w b n (events.Hand k link unfit) h = refl
-books-other w b n (events.Look s) h = refl
-books-other w b n (events.Post s) h = refl
 books-other w b n (events.Close e) h = cc
-books-other w b n (events.SendOut s m link ends) h = refl
-books-other w b n (events.SendIn s m link ends) h = refl
 books-other w b n (events.Discard s m) h = cc
 books-other w b n (events.DiscardLeave s m) h = cc
 books-other w b n (events.Retire s m link) h = cc
-books-other w b n (events.FinishOut s link) h = refl
-books-other w b n (events.FinishIn s link) h = refl
-books-other w b n (events.Leave s) h = refl
-books-other w b n (events.Mark s link x) h = refl
-books-other w b n (events.Wake s link x) h = refl
-books-other w b n (events.Claim s i) h = refl
-books-other w b n (events.ClaimNoWord s) h = refl
-books-other w b n (events.Lock s link x) h = refl
-books-other w b n (events.Wait s link x) h = refl
-books-other w b n (events.Refused s link x) h = refl
-books-other w b n (events.Begin s link) h = refl
-books-other w b n (events.Unlock s link x) h = refl
-books-other w b n (events.Rest s) h = refl
-books-other w b n events.Idle h = refl
+books-other w b n any h = refl
 
 event_discard : (n : Node) (s : ℕ) (r : Router) (a : Answer) → has_gone_next r ≡ false →
     router_event n s r acts.Discard a ≡ events.Discard s r.in_queue.current

@@ -81,15 +81,7 @@ module _ (Q : World → Type 0) (N : Node → Type 0) (kept : IsKept Q N) where
   kept-touch w r acts.Wake law = kept-touch_word w r acts.Wake (primary_word r) law
   kept-touch w r acts.Lock law = kept-touch_word w r acts.Lock (primary_word r) law
   kept-touch w r acts.Unlock law = kept-touch_word w r acts.Unlock (primary_word r) law
-  kept-touch w r acts.SendOut law = law
-  kept-touch w r acts.SendIn law = law
-  kept-touch w r acts.Discard law = law
-  kept-touch w r acts.FinishOut law = law
-  kept-touch w r acts.FinishIn law = law
-  kept-touch w r acts.Leave law = law
-  kept-touch w r acts.Begin law = law
-  kept-touch w r acts.Retire law = law
-  kept-touch w r acts.Rest law = law
+  kept-touch w r other law = law
 
   -- a message in hand
   kept-handed : (w : World) (b : Books) (g : Records) (n from : ℕ) → Inv w b g → n < w.count → can_take w n (Hand from) ≡ true → Q w →

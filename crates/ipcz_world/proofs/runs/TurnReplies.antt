@@ -40,29 +40,11 @@ use Rattle.ipcz_world.proofs.routes.Seeing.{kind, router_kind, seen_event, taken
 -- an event of another kind leaves the books, and is allowed
 plain-other : (w : World) (b : Books) (n : ℕ) (event : Happened) → kind event ≡ 0 → PlainTurn b event (after_turn w b n event)
 unfolding kind after_turn
-plain-other w b n (events.Hand k link unfit) h = refl
-plain-other w b n (events.Look s) h = refl
-plain-other w b n (events.Post s) h = refl
 plain-other w b n (events.Close e) h = cc
-plain-other w b n (events.SendOut s m link ends) h = refl
-plain-other w b n (events.SendIn s m link ends) h = refl
 plain-other w b n (events.Discard s m) h = cc
 plain-other w b n (events.DiscardLeave s m) h = cc
 plain-other w b n (events.Retire s m link) h = cc
-plain-other w b n (events.FinishOut s link) h = refl
-plain-other w b n (events.FinishIn s link) h = refl
-plain-other w b n (events.Leave s) h = refl
-plain-other w b n (events.Mark s link x) h = refl
-plain-other w b n (events.Wake s link x) h = refl
-plain-other w b n (events.Claim s i) h = refl
-plain-other w b n (events.ClaimNoWord s) h = refl
-plain-other w b n (events.Lock s link x) h = refl
-plain-other w b n (events.Wait s link x) h = refl
-plain-other w b n (events.Refused s link x) h = refl
-plain-other w b n (events.Begin s link) h = refl
-plain-other w b n (events.Unlock s link x) h = refl
-plain-other w b n (events.Rest s) h = refl
-plain-other w b n events.Idle h = refl
+plain-other w b n any h = refl
 
 module _ (w : World) (b : Books) (g : Records) (law : Inv w b g) where
   discards : (n s : ℕ) (r : Router) → router_at w (record { node = n; serial = s }) ≡ Some r → is_possible r acts.Discard ≡ true →

@@ -186,12 +186,8 @@ same_item x l u s m n z item ds es moves e =
 
 -- counts the messages that begin a bypass of a link
 pub of_peer : LinkId → Message → ℕ
-of_peer link (messages.Item l s n x ms) = 0
 of_peer link (messages.BypassPeer l s old t f) = cond (same_link l link) 1 0
-of_peer link (messages.AcceptBypass old s f len) = 0
-of_peer link (messages.StopProxying old s a b) = 0
-of_peer link (messages.ProxyWillStop l s a) = 0
-of_peer link (messages.Flush l s) = 0
+of_peer link other = 0
 
 pub about-peer : (g : Records) (old : ℕ) (link x : LinkId) (u : Side) (target fresh : ℕ) → same_link x link ≡ true →
     of_bypass g old (of_peer link) (messages.BypassPeer x u old target fresh) ≡ 1

@@ -267,12 +267,10 @@ will_stop_told w g from to i link side in_length law u = go (bypass_of g link) r
 pub old_begun : (w : World) (g : Records) (from to i : ℕ) (m : Message) (o : ℕ) → Told w g → IsUnderWay w from to i m →
     names_old o m ≡ true → is_begun (g.bypass o) ≡ true
 unfolding names_old
-old_begun w g from to i (messages.Item link s n item moves) o law u e = absurd (grind (arith, e))
 old_begun w g from to i (messages.BypassPeer link s old target fresh) o law u e = let at =
     peer_told w g from to i old link s target fresh law u in grind (arith, e, at.stage, nat_tests)
 old_begun w g from to i (messages.AcceptBypass old s fresh length) o law u e = let at =
     accept_told w g from to i old s fresh length law u in grind (arith, e, at.stage, nat_tests)
 old_begun w g from to i (messages.StopProxying old s in_length out_length) o law u e = let at =
     stop_told w g from to i old s in_length out_length law u in grind (arith, e, at.stage, nat_tests)
-old_begun w g from to i (messages.ProxyWillStop link s in_length) o law u e = absurd (grind (arith, e))
-old_begun w g from to i (messages.Flush link s) o law u e = absurd (grind (arith, e))
+old_begun w g from to i other o law u e = absurd (grind (arith, e))

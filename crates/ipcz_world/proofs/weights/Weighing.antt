@@ -203,8 +203,4 @@ pub in_message-same : (f : Weight) (g h : Records) (m : Message) →
     in_message f h m ≡ in_message f g m
 unfolding in_message'
 in_message-same f g h (messages.Item l s n x ms) e = ap (λ d. f d n x) (e l s n x ms refl)
-in_message-same f g h (messages.BypassPeer l s old t c) e = refl
-in_message-same f g h (messages.AcceptBypass old s c len) e = refl
-in_message-same f g h (messages.StopProxying old s a b) e = refl
-in_message-same f g h (messages.ProxyWillStop l s a) e = refl
-in_message-same f g h (messages.Flush l s) e = refl
+in_message-same f g h other e = refl
