@@ -31,6 +31,7 @@ limit of 1,000,000 acts. Nothing is kept.
 4,000 pairs, and one on each of 1,000 pairs; the time of the opens alone is subtracted. `waiting` compares what one
 parcel costs where 1, 10, 100 and 1,000 parcels wait before it. `largest` shows the scripts that take most memory.
 """
+import argparse
 import os
 import resource
 import shutil
@@ -38,6 +39,7 @@ import subprocess
 import sys
 import tempfile
 
+import asked
 from peers import peers
 
 WHOLE = 1048576
@@ -403,25 +405,7 @@ def show_largest(program):
                 make.__name__, len(text), done.returncode, len(done.stdout), int(peak) // 1024, float(user)), flush=True)
 
 
-def main():
-    if sys.argv[1:] == ["library"]:
-        return show_library()
-    if sys.argv[1:] == ["instructions"]:
-        return show_instructions()
-    if sys.argv[1:2] == ["compare"] and len(sys.argv) == 3:
-        return show_compared(sys.argv[2])
-    if sys.argv[1:] == ["threads"]:
-        return show_threads()
-    if sys.argv[1:] == ["peers"]:
-        return show_peers()
-    program = os.path.abspath(sys.argv[1])
-    wanted = sys.argv[2:]
-    if wanted == ["largest"]:
-        return show_largest(program)
-    if wanted == ["pairs"]:
-        return compare_pairs(program)
-    if wanted == ["waiting"]:
-        return compare_waiting(program)
+def show_workloads(program: str, wanted: list[str]) -> None:
     form = "%-22s %8s %7s %6s %9s %6s %7s %6s  %s"
     print(form % ("", "bytes", "lines", "status", "user ms", "factor", "MiB", "factor", ""))
     with tempfile.TemporaryDirectory() as folder:
@@ -443,6 +427,30 @@ def main():
                 print(form % (name, len(text), lines, status, "%.1f" % user, more[0], "%.1f" % peak, more[1], title),
                       flush=True)
                 name, title, before = "", "", (user, peak)
+
+
+# What takes no program, since it runs those of this repository, and what takes one and nothing else.
+OF_OURS = {"library": show_library, "instructions": show_instructions, "threads": show_threads, "peers": show_peers}
+OF_A_PROGRAM = {"largest": show_largest, "pairs": compare_pairs, "waiting": compare_waiting}
+
+
+def main() -> None:
+    parser = asked.parser(__doc__)
+    parser.add_argument("what", help="library, instructions, compare, threads or peers; or the program ipcz_run")
+    parser.add_argument("words", nargs="*", help="of compare, another build of ipcz_bench; of a program, what is to be shown of it")
+    given = parser.parse_args()
+    if given.what in OF_OURS and not given.words:
+        asked.built("ipcz_bench_threads" if given.what == "threads" else "ipcz_bench")
+        return OF_OURS[given.what]()
+    if given.what == "compare" and len(given.words) == 1:
+        return show_compared(str(asked.program(given.words[0])))
+    try:
+        program = str(asked.program(given.what))
+    except argparse.ArgumentTypeError as fault:
+        parser.error(str(fault))
+    if len(given.words) == 1 and given.words[0] in OF_A_PROGRAM:
+        return OF_A_PROGRAM[given.words[0]](program)
+    show_workloads(program, given.words)
 
 
 if __name__ == "__main__":
