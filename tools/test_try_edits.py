@@ -1,6 +1,6 @@
 """Tests `tools/try_edits.py` by edits that are planted in a copy of `ipcz_edge`: it must tell each of them as it is.
 
-    python3 tools/test_try_edits.py    prints what is told otherwise, and fails where there is something
+    python3 tools/test_try_edits.py    prints what is told otherwise, and fails if there is something
 
 By hand, and not in the gate: it takes two to four minutes of a processor. It begins with what `rt check` kept in the folders `out` of `ipcz_base` and
 `ipcz_edge`, or proves them first.
@@ -13,7 +13,8 @@ import subprocess
 import sys
 import tempfile
 
-TOP = pathlib.Path(__file__).resolve().parent.parent
+import asked
+from asked import TOP
 CRATES = ("ipcz_base", "ipcz_edge")
 EDGE, SPEC, LINK_END = "src/edge.rt", "specs/Edge.antt", "Some(LinkEnd { link, side, other })"
 # What is planted: what must be told of it, and its file, old text and new one.
@@ -46,7 +47,8 @@ def tried(room, **more):
     return ran.stdout, ran.returncode, dict(re.findall(r"^ipcz_edge/(\w+): ([A-Za-z ]+): ", ran.stdout, re.M))
 
 
-def main():
+def main() -> None:
+    asked.parser(__doc__).parse_args()
     failed, texts = [], []
     with tempfile.TemporaryDirectory() as room:
         room = pathlib.Path(room)

@@ -506,7 +506,7 @@ def tried(name, room, only_below):
 
 
 def main():
-    parser = argparse.ArgumentParser()
+    parser = argparse.ArgumentParser(description=__doc__, formatter_class=argparse.RawDescriptionHelpFormatter)
     parser.add_argument("--below", action="store_true")
     parser.add_argument("--room")
     parser.add_argument("names", nargs="*")

@@ -1,0 +1,69 @@
+"""Tests the tools themselves: what they say to whoever calls them wrongly, and that the model writes the stored transcript.
+
+    python3 tools/test_tools.py    prints what is otherwise, and fails if there is something
+
+Nothing needs to be built for it, and it takes some seconds.
+"""
+import pathlib
+import subprocess
+import sys
+
+import asked
+from asked import TOP
+
+HERE = pathlib.Path(__file__).resolve().parent
+# Not tools but what they share.
+SHARED = ("asked",)
+# Tools that run a program which is given to them.
+OF_A_PROGRAM = ("compare_with_model", "refuse_growth", "soak")
+
+
+def call(*words: str, given: str = "") -> subprocess.CompletedProcess:
+    """A run of a tool; one that goes on for long was begun by mistake, and counts as failed."""
+    try:
+        return subprocess.run([sys.executable, *words], cwd=HERE, input=given, capture_output=True, text=True, timeout=20)
+    except subprocess.TimeoutExpired:
+        return subprocess.CompletedProcess(words, -1, "", "it goes on for more than 20 seconds")
+
+
+def faults_of(tool: str) -> list[str]:
+    """What is wrong with a tool by itself."""
+    faults = []
+    helped = call(f"{tool}.py", "--help")
+    if helped.returncode or not helped.stdout.startswith("usage: ") or helped.stderr:
+        faults.append(f"{tool} --help: status {helped.returncode}, {helped.stderr[-200:]}")
+    imported = call("-c", f"import {tool}")
+    if imported.returncode or imported.stdout or imported.stderr:
+        faults.append(f"import {tool}: status {imported.returncode}, {(imported.stdout + imported.stderr)[-200:]}")
+    refused = call(f"{tool}.py", "--no-such-argument")
+    if refused.returncode != 2 or "Traceback" in refused.stderr:
+        faults.append(f"{tool} --no-such-argument: status {refused.returncode}, {refused.stderr[-200:]}")
+    return faults
+
+
+def faults_of_a_missing_program() -> list[str]:
+    ran = {tool: call(f"{tool}.py", "crates/nobody/out/nobody") for tool in OF_A_PROGRAM}
+    return [f"{tool} of a program that isn't there: {it.stderr[-200:]}" for tool, it in ran.items() if it.returncode != 2 or "isn't built" not in it.stderr]
+
+
+def faults_of_the_model() -> list[str]:
+    faults = []
+    crate = TOP / "crates/ipcz_run"
+    if call("model.py", given=(crate / "stdin").read_text()).stdout != (crate / "stdout").read_text():
+        faults.append("model: it doesn't write the stored transcript")
+    broken = call("model.py", given='{"nodes":2,\n"words":}')
+    if (broken.returncode, broken.stdout) != (2, "") or "line 2 column 9" not in broken.stderr:
+        faults.append(f"model of what is no JSON: status {broken.returncode}, {broken.stdout}{broken.stderr}")
+    return faults
+
+
+def main() -> None:
+    asked.parser(__doc__).parse_args()
+    tools = sorted(path.stem for path in HERE.glob("*.py") if path.stem not in SHARED)
+    faults = [fault for tool in tools for fault in faults_of(tool)] + faults_of_a_missing_program() + faults_of_the_model()
+    if faults:
+        sys.exit("\n".join(faults))
+
+
+if __name__ == "__main__":
+    main()
