@@ -13,9 +13,9 @@ from asked import TOP
 
 HERE = pathlib.Path(__file__).resolve().parent
 # Not tools but what they share.
-SHARED = ("asked",)
+SHARED = ("asked", "peers")
 # Tools that run a program which is given to them.
-OF_A_PROGRAM = ("compare_with_model", "refuse_growth", "soak")
+OF_A_PROGRAM = ("benchmark", "compare_with_model", "refuse_growth", "soak")
 
 
 def call(*words: str, given: str = "") -> subprocess.CompletedProcess:
