@@ -25,6 +25,7 @@ impl Directory {
             self.new.filed ≡ put_filed self.old.filed serial (apply r RouterAct.SendOut Answer.Plain) }
         ensures message { (r : RouterRecord) → get self.old.filed.routers serial ≡ Some r →
             Some result ≡ carried_by (output_of r RouterAct.SendOut) }
+        ensures ends { self.new.ends ≡ self.old.ends }
     {
         let router = self.routers.router_mut(serial);
         let was = router.is_flagged();
@@ -59,6 +60,7 @@ impl Directory {
             IfErr result (λ e. e ≡ Refusal.OutOfMemory → ⊥) }
         ensures err { OnErr result ((item.new ≡ item.old) × (self.new.filed ≡ self.old.filed)) }
         ensures kept { IfErr result (λ e. (e ≡ Refusal.OutOfMemory → ⊥) → self.new ≡ self.old) }
+        ensures ends { self.new.ends ≡ self.old.ends }
     {
         let router = self.routers.router_mut(serial);
         let was = router.is_flagged();
@@ -71,8 +73,9 @@ impl Directory {
     /// Does the act `Rest` of the router of the serial, as `Router::rest`.
     pub fn rest(&mut self, serial: u64)
         requires { is_some (get self.old.filed.routers serial) ≡ true }
-        ensures { (r : RouterRecord) → get self.old.filed.routers serial ≡ Some r →
+        ensures router { (r : RouterRecord) → get self.old.filed.routers serial ≡ Some r →
             self.new.filed ≡ put_filed self.old.filed serial (apply r RouterAct.Rest Answer.Plain) }
+        ensures ends { self.new.ends ≡ self.old.ends }
     {
         let router = self.routers.router_mut(serial);
         let was = router.is_flagged();
