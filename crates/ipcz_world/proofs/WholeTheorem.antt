@@ -16,7 +16,7 @@ use Rattle.ipcz_world.proofs.ranks.Turning.{turns_are_bounded}
 use Rattle.ipcz_world.proofs.ranks.Unused.{unused_is_quiet}
 use Rattle.ipcz_world.proofs.Whole.{world_starts_lawful, each_step_keeps_lawful, runs_are_plain, lawful_worlds_give_the_headline}
 use Rattle.ipcz_world.proofs.Whole.{each_item_stands_once, ends_stand_once, lawful_worlds_stray_nothing, only_flushes_stray}
-use Rattle.ipcz_world.proofs.Whole.{lawful_worlds_owe}
+use Rattle.ipcz_world.proofs.Whole.{each_begins_locked, lawful_worlds_owe}
 use Rattle.ipcz_world.proofs.Whole.{quiet_has_no_proxy, each_quiet_is_direct, closed_pairs_are_gone, replies_plainly}
 
 -- the replies of a run from a lawful world
@@ -45,6 +45,7 @@ the_theorem_holds nodes words steps replies w b g limits run =
       held_once = ends_stand_once w b g law;
       links = law.link_law;
       bypasses = law.bypass_law;
+      begins_locked = λ step reply v s. each_begins_locked w v b g step reply law s;
       words = law.word_law;
       lengths = fine.0;
       strays = fine.1;

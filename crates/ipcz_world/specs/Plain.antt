@@ -1,12 +1,14 @@
 -- The machine over the books alone: which replies it allows, and what they write.
-use Rattle.std.specs.Prelude.{◌≡◌, ◌<◌, ℕ, true, false, Some, List, [], ◌∷◌, length}
+use Rattle.std.specs.Prelude.{◌≡◌, ◌<◌, ◌≤◌, ℕ, true, false, Some, List, [], ◌∷◌, length}
 use Rattle.ipcz_base.specs.declared.side.Side.{Side}
 use Rattle.ipcz_base.specs.declared.end.End.{End}
 use Rattle.ipcz_base.specs.declared.item.Item.TheVariants.{Parcel, Mark, Gone}
 use Rattle.ipcz_base.specs.declared.refusal.Refusal.{Refusal}
 use Rattle.ipcz_base.specs.declared.refusal.Refusal.TheVariants.{OutOfMemory, Empty, PeerClosed, NoWord, SelfAttach, PeerAttach, Stranger}
 use Rattle.ipcz_base.specs.declared.refusal.Refusal.TheVariants.{NumbersEnd, BadData, TooMany}
-use Rattle.ipcz_base.specs.Ends.{opposite_end, end_at}
+use Rattle.ipcz_base.specs.Ends.{opposite_end, end_at, has_end}
+use Rattle.ipcz_base.specs.Limits.{is_printable, last_number}
+use Rattle.ipcz_node.specs.Calls.{are_too_many}
 use Rattle.ipcz_node.specs.declared.happened.Happened.{Happened}
 use Rattle.ipcz_node.specs.declared.happened.Happened.TheVariants as events
 use Rattle.ipcz_world.specs.declared.step.Step.{Step}
@@ -21,20 +23,20 @@ pub record IsUnwritten (b : Books) (e : End) : Type 0 where
   pub got : b.got e ≡ []
   pub gone : b.gone e ≡ 0
 
--- why a step may be refused, by the books: a put at a closed peer's portal, and a get whose next item is the mark, find that the peer has
--- closed
+-- why a step may be refused, by the books: a put whose parcel or ends are wrong by themselves, at a closed peer's portal, and behind the
+-- last number; and a get whose next item is the mark. Whom callers hold, what has come, words, serials and memory aren't in the books
 abbrev pub MayRefuse : Books → Step → Refusal → Type 0
 MayRefuse b (Open n) Stranger = Unit {0}
 MayRefuse b (Open n) NoWord = Unit {0}
 MayRefuse b (Open n) NumbersEnd = Unit {0}
 MayRefuse b (Open n) OutOfMemory = Unit {0}
 MayRefuse b (Put n at bytes ends) Stranger = Unit {0}
-MayRefuse b (Put n at bytes ends) TooMany = Unit {0}
-MayRefuse b (Put n at bytes ends) BadData = Unit {0}
-MayRefuse b (Put n at bytes ends) SelfAttach = Unit {0}
-MayRefuse b (Put n at bytes ends) PeerAttach = Unit {0}
+MayRefuse b (Put n at bytes ends) TooMany = are_too_many bytes ends ≡ true
+MayRefuse b (Put n at bytes ends) BadData = is_printable bytes ≡ false
+MayRefuse b (Put n at bytes ends) SelfAttach = has_end at ends ≡ true
+MayRefuse b (Put n at bytes ends) PeerAttach = has_end (opposite_end at) ends ≡ true
 MayRefuse b (Put n at bytes ends) PeerClosed = is_closed b (opposite_end at) ≡ true
-MayRefuse b (Put n at bytes ends) NumbersEnd = Unit {0}
+MayRefuse b (Put n at bytes ends) NumbersEnd = last_number ≤ length (b.put at)
 MayRefuse b (Put n at bytes ends) OutOfMemory = Unit {0}
 MayRefuse b (Get n at) Stranger = Unit {0}
 MayRefuse b (Get n at) Empty = Unit {0}

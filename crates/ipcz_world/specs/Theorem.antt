@@ -26,25 +26,28 @@ use Rattle.ipcz_world.specs.Owed.{Owed, IsWet, IsDirect, HasNoProxies, HasNoClos
 use Rattle.ipcz_world.specs.Settling.{IsQuiet}
 use Rattle.ipcz_world.specs.Turns.{can_take}
 use Rattle.ipcz_world.specs.Ranks.{Rates, IsRated, AreTurns, rank, uses_up, times_used, unlock_count}
-use Rattle.ipcz_world.specs.WorldLaws.{OnlyFlushesStray}
+use Rattle.ipcz_world.specs.Steps.{StepAny}
+use Rattle.ipcz_world.specs.WorldLaws.{BeginsUnderLock, OnlyFlushesStray}
 
 -- what holds of a run: its steps with their replies, and the world, the books and the routes that it ends with
 pub record Theorem (steps : List Step) (replies : List Reply) (w : World) (b : Books) (g : Routes) : Type 0 where
-  -- to its callers the nodes together are one small machine, that over the books alone: it gives the same replies to the same steps, and
-  -- ends with the same books
+  -- to its callers the nodes together are one small machine, that over the books alone: it allows these replies to these steps, and ends
+  -- with the same books
   pub one_machine : PlainRun no_books steps replies b
   -- each portal has got a prefix of what its peer put, in order
   pub in_order : (e : End) → take (length (b.got (opposite_end e))) (b.put e) ≡ map Parcel (b.got (opposite_end e))
-  -- nothing is lost or doubled: each item that was put and that the peer hasn't read stands in one queue or message, under its number, and
+  -- nothing is lost or duplicated: each item that was put and that the peer hasn't read stands in one queue or message, under its number, and
   -- whatever stands anywhere is such an item; and an end that isn't closed has dropped none
   pub each_once : EachOnce w b g
   pub dropped_by_sinks : (e : End) → is_closed b e ≡ false → b.gone e ≡ 0
   -- each end of an open pair is held by callers, in a parcel, to be closed, or closed: one of these, once
   pub held_once : EndLaw w b g
-  -- a link is locked by at most one side, and only while both are stable; a bypass is begun only under the lock; a stable link that is free
+  -- a link is locked by at most one side, and only while both are stable; what is bypassed is under its lock; a stable link that is free
   -- joins routers without decaying links; and each claimed word has one use
   pub links : LinkLaw w
   pub bypasses : BypassLaw w
+  -- nor does the next step begin one otherwise, whatever step it is
+  pub begins_locked : (step : Step) (reply : Reply) (v : World) → StepAny w step reply v → BeginsUnderLock w step reply
   pub words : WordLaw w g
   -- all that know a link's length know the same, and no message but a Flush finds its router gone: neither now nor in any reply
   pub lengths : LengthLaw w

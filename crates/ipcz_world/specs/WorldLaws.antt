@@ -61,7 +61,7 @@ RepliesPlainly =
     Plain b step reply (advance w b step reply)
 
 -- law: to its callers the nodes together are the machine over the books alone: whatever steps are taken from the start, and whichever
--- possible act each turn takes, that machine gives the same replies to the same steps, and ends with the same books
+-- possible act each turn takes, that machine allows the replies that the steps got, and ends with the same books
 abbrev pub RunsArePlain : Type 0
 RunsArePlain =
     (nodes words : ℕ) (w : World) (b : Books) (g : Routes) → (is : IsReached nodes words w b g) → PlainRun no_books is.steps is.replies b

@@ -16,7 +16,7 @@ ghost use Rattle.ipcz_world.specs.PutBounds.{StayingIsUnused, PutsAreBounded, Di
 ghost use Rattle.ipcz_world.specs.Theorem.{TheTheoremHolds};
 
 /// The theorem of this repository (specs/Theorem): to their callers the nodes together are the machine over the books alone. Whatever steps
-/// are taken from the start, and whichever possible act each turn takes, that machine gives the same replies; each portal has got a prefix of
+/// are taken from the start, and whichever possible act each turn takes, that machine allows their replies; each portal has got a prefix of
 /// what its peer put; each accepted item that its peer hasn't read stands in one place; no message but a Flush finds its router gone; no
 /// router that waits is forgotten; where nothing waits, and words were left, no proxy is; and left alone, the world becomes quiet within its
 /// rank, for all rates that fit.
@@ -55,7 +55,8 @@ pub fn each_reply_is_plain()
 {}
 
 /// To its callers the nodes together are the machine over the books alone: whatever steps are taken from the start, and whichever possible
-/// act each turn takes, that machine gives the same replies to the same steps, and its books at the end are those of the run.
+/// act each turn takes, that machine allows the replies that the steps got, and its books at the end are those of the run. Which refusals it allows
+/// hangs on the books only for some: it knows neither who holds an end nor which pairs are open.
 pub fn runs_are_plain()
     ensures { RunsArePlain }
 {}

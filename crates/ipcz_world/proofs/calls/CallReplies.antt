@@ -1,5 +1,5 @@
 -- The replies to callers are those that the machine over the books alone allows, with the books after them.
-use Rattle.std.specs.Prelude.{◌≡◌, ◌+◌, ℕ, Bool, true, false, cond, not, nat_lt, nat_le, if◌then◌else◌, Option, Some, None, List, length}
+use Rattle.std.specs.Prelude.{◌≡◌, ◌≤◌, ◌+◌, ℕ, Bool, true, false, cond, not, nat_lt, nat_le, if◌then◌else◌, Option, Some, None, List, length}
 use Rattle.std.specs.Prelude.{slice_get, refl}
 use Rattle.std.proofs.Common.{arith, ap, subst, ◌∙◌, sym, inl, inr}
 use Rattle.std.proofs.lemmas.Bool.Decides.{nat_tests}
@@ -58,10 +58,13 @@ module _ (w : World) (b : Books) (g : Records) (law : Inv w b g) where
   at_terminal n at f e = let t : IsTerminalOf (node_at w n) at f.serial f.router = terminal_tells (node_at w n) at f e in
       (router_found w n f.serial f.router t.here, t.terminal, t.end)
 
+  next_is_all : (n : ℕ) (at : End) (f : Found) → terminal_of (node_at w n) at ≡ Some f → next_number f.router ≡ length (b.put at)
+  next_is_all n at f e = let t = at_terminal n at f e in
+      law.conserved.reach (record { node = n; serial = f.serial }) f.router t.0 t.1 ∙ ap (λ d. length (b.put d)) t.2
+
   number_is : (n : ℕ) (at : End) (f : Found) → terminal_of (node_at w n) at ≡ Some f → put_number (node_at w n) at ≡ length (b.put at)
   unfolding number_at
-  number_is n at f e = let t = at_terminal n at f e in ap (λ o. number_at o next_number) e ∙ law.conserved.reach
-      (record { node = n; serial = f.serial }) f.router t.0 t.1 ∙ ap (λ d. length (b.put d)) t.2
+  number_is n at f e = ap (λ o. number_at o next_number) e ∙ next_is_all n at f e
 
   -- an open: the pair of a word that is no link's has no books yet
   unwritten : (e : End) → is_linked (g.owner e.pair) ≡ false → IsUnwritten b e
@@ -109,14 +112,17 @@ module _ (w : World) (b : Books) (g : Records) (law : Inv w b g) where
     put_why = MayRefuse b (Put n at bytes ends)
 
     -- a refusal is the first that holds, or one of those left
-    first_of : (c : Bool) (why : Refusal) (left : Option Refusal) → put_why why → ((x : Refusal) → left ≡ Some x → put_why x) →
+    first_of : (c : Bool) (why : Refusal) (left : Option Refusal) → (c ≡ true → put_why why) → ((x : Refusal) → left ≡ Some x → put_why x) →
         (x : Refusal) → (if c then Some why else left) ≡ Some x → put_why x
-    first_of true why left here more x e = subst put_why (same_Some why x e) here
+    first_of true why left here more x e = subst put_why (same_Some why x e) (here refl)
     first_of false why left here more x e = more x e
 
     at_router : (f : Found) → terminal_of (node_at w n) at ≡ Some f → (x : Refusal) → router_put_refusal f.router ≡ Some x → put_why x
     at_router f e = seen f.router.mark_seen refl
       where
+        at_last : nat_le last_number (next_number f.router) ≡ true → last_number ≤ length (b.put at)
+        at_last h = let low : last_number ≤ next_number f.router = grind (arith, h, nat_tests) in omega (arith, low, next_is_all n at f e)
+
         seen : (c : Bool) → f.router.mark_seen ≡ c → (x : Refusal) →
             (if c then Some refusals.PeerClosed else (if nat_le last_number (next_number f.router) then Some refusals.NumbersEnd else None))
             ≡ Some x → put_why x
@@ -124,22 +130,26 @@ module _ (w : World) (b : Books) (g : Records) (law : Inv w b g) where
             let t = at_terminal n at f e in
             subst put_why (same_Some refusals.PeerClosed x h) (ap (λ d. is_closed b (opposite_end d)) (sym t.2) ∙ law.books_kept.mark_seen
             (record { node = n; serial = f.serial }) f.router t.0 q)
-        seen false q x h = first_of (nat_le last_number (next_number f.router)) refusals.NumbersEnd None tt (λ x e. cc) x h
+        seen false q x h = first_of (nat_le last_number (next_number f.router)) refusals.NumbersEnd None at_last (λ x e. cc) x h
 
     at_found : (o : Option Found) → terminal_of (node_at w n) at ≡ o → (x : Refusal) → refusal_at o router_put_refusal ≡ Some x → put_why x
     unfolding refusal_at
     at_found None e x h = subst put_why (same_Some refusals.Stranger x h) tt
     at_found (Some f) e x h = at_router f e x h
 
+    isnt : (c : Bool) → not c ≡ true → c ≡ false
+    isnt false h = refl
+    isnt true h = cc
+
     put_whys : (x : Refusal) → put_refusal (node_at w n) at bytes ends ≡ Some x → put_why x
     unfolding put_refusal
     put_whys =
-        first_of (not (holds_end (node_at w n) at)) refusals.Stranger _ tt
-        (first_of (are_too_many bytes ends) refusals.TooMany _ tt
-        (first_of (not (is_printable bytes)) refusals.BadData _ tt
-        (first_of (has_end at ends) refusals.SelfAttach _ tt
-        (first_of (has_end (opposite_end at) ends) refusals.PeerAttach _ tt
-        (first_of (not (are_held_once (node_at w n) ends)) refusals.Stranger _ tt (at_found (terminal_of (node_at w n) at) refl))))))
+        first_of (not (holds_end (node_at w n) at)) refusals.Stranger _ (λ e. tt)
+        (first_of (are_too_many bytes ends) refusals.TooMany _ (λ e. e)
+        (first_of (not (is_printable bytes)) refusals.BadData _ (isnt (is_printable bytes))
+        (first_of (has_end at ends) refusals.SelfAttach _ (λ e. e)
+        (first_of (has_end (opposite_end at) ends) refusals.PeerAttach _ (λ e. e)
+        (first_of (not (are_held_once (node_at w n) ends)) refusals.Stranger _ (λ e. tt) (at_found (terminal_of (node_at w n) at) refl))))))
 
     put_refused : (why : Refusal) → put_why why → IsFine (Put n at bytes ends) (refuse w why)
     unfolding advance
