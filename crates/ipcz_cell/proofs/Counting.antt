@@ -19,7 +19,7 @@ use Rattle.atomic_table.specs.Seated.{TableId}
 use Rattle.ipcz_base.specs.declared.message.Message.{Message}
 use Rattle.ipcz_router.specs.declared.act.Answer.{Answer}
 use Rattle.ipcz_node.specs.Node.{Node}
-use Rattle.ipcz_node.specs.Acts.{commit, act_grows, router_act_grows}
+use Rattle.ipcz_node.specs.Acts.{commit}
 use Rattle.ipcz_cell.specs.Cells.{AreSound, IsCell}
 use Rattle.ipcz_cell.proofs.Keeping.{router_act_keeps, act_state}
 use Rattle.ipcz_cell.proofs.Seating.{may_by, reseated, touched_cell}
@@ -48,10 +48,6 @@ claim_may t id word serial c m told picked whole can few at =
     may_by t.count t.size t.id.slots id m word (λ n. either (eqb n c) (c + 1) n) told (claimed t.size serial c) picked
     (subst (λ (i : ℕ). Allows (Rules t.count t.size) t.id.slots id m i (λ n. either (eqb n c) (c + 1) n) (claimed t.size serial c m)) at
     (claims t.count t.size t.id.slots id c m (part_in m.0) serial can.0 whole can.1 few))
-
-pub claim_grows : (serial : ℕ) → act_grows (acts.Router serial router_acts.Claim) ≡ false
-unfolding act_grows router_act_grows
-claim_grows serial = refl
 
 module _ (t : TableName) (n : Node) (hand : Option Message) (tos : List ℕ) (id : TableId) (me : Mine) (was : IsCell t n hand tos id me) (id' : TableId) (me' : Mine) (same : id' ≡ id) (sound : AreSound t.count t.size me'.0) where
   -- a cell after loads, and then a claim

@@ -16,7 +16,8 @@ use Rattle.ipcz_node.specs.declared.act.Act.{Act}
 use Rattle.ipcz_node.specs.declared.act.Act.TheVariants as acts
 use Rattle.ipcz_node.specs.declared.happened.Happened.{Happened}
 use Rattle.ipcz_node.specs.declared.happened.Happened.TheVariants as events
-use Rattle.ipcz_node.specs.Acts.{act_lacks_serials, act_grows, stand_in}
+use Rattle.ipcz_node.specs.Acts.{act_lacks_serials, stand_in}
+use Rattle.ipcz_node.specs.Preparing.{act_grows}
 use Rattle.ipcz_node.specs.Events.{event_of}
 use Rattle.ipcz_rule.specs.declared.view.Part.{Part}
 use Rattle.ipcz_rule.specs.Rule.{has_number}
@@ -117,16 +118,16 @@ touch_sees : (size : ℕ) (p : Part) (act : Act) → is_touch_act act ≡ true �
 touch_sees size p (acts.Hand sender) e = cc
 touch_sees size p other e = refl
 
-touch_grows : (act : Act) → is_touch_act act ≡ true → act_grows act ≡ true → may_grow act ≡ true
-touch_grows (acts.Hand sender) e g = refl
-touch_grows other e g = g
+touch_grows : (p : Part) (act : Act) → is_touch_act act ≡ true → act_grows p.state act ≡ true → may_grow p act ≡ true
+touch_grows p (acts.Hand sender) e g = refl
+touch_grows p other e g = g
 
 grown : (b : Bool) → (b ≡ false → false ≡ true) → b ≡ true
 grown true h = refl
 grown false h = h refl
 
-pub prepare_refused : (t : TableName) (act : Act) (old new : CellState) (why : Refusal) → lacks_serials old.part act [] ≡ act_lacks_serials old.part.state act → IsSeenBefore t.size old.part act [] → (act_grows act ≡ true → may_grow act ≡ true) → act ≡ stand_in act → new.part ≡ old.part → new.seen ≡ old.seen →
-    why ≡ (if act_lacks_serials old.part.state act then refusals.NumbersEnd else refusals.OutOfMemory) → (act_grows act ≡ false → false ≡ true) → Acts t act old (Err why) new
+pub prepare_refused : (t : TableName) (act : Act) (old new : CellState) (why : Refusal) → lacks_serials old.part act [] ≡ act_lacks_serials old.part.state act → IsSeenBefore t.size old.part act [] → (act_grows old.part.state act ≡ true → may_grow old.part act ≡ true) → act ≡ stand_in act → new.part ≡ old.part → new.seen ≡ old.seen →
+    why ≡ (if act_lacks_serials old.part.state act then refusals.NumbersEnd else refusals.OutOfMemory) → (act_grows old.part.state act ≡ false → false ≡ true) → Acts t act old (Err why) new
 prepare_refused t act old new why lacks none may alone part seen is grows = record {
   found = [];
   seen = seen ∙ sym (append-nil old.seen);
@@ -135,36 +136,38 @@ prepare_refused t act old new why lacks none may alone part seen is grows = reco
   where
     go : (b : Bool) → act_lacks_serials old.part.state act ≡ b → IsRefused t.size old.part act (IsLost t old.part act []) why []
     go true e = NoSerials (is ∙ ap (λ (b : Bool). if b then refusals.NumbersEnd else refusals.OutOfMemory) e) (lacks ∙ e) none
-    go false e = NoMemory (is ∙ ap (λ (b : Bool). if b then refusals.NumbersEnd else refusals.OutOfMemory) e) (lacks ∙ e) (may (grown (act_grows act) grows)) alone none
+    go false e = NoMemory (is ∙ ap (λ (b : Bool). if b then refusals.NumbersEnd else refusals.OutOfMemory) e) (lacks ∙ e) (may (grown (act_grows old.part.state act) grows)) alone none
 
 pub touch_refused : (t : TableName) (act : Act) (old new : CellState) (why : Refusal) → is_touch_act act ≡ true → act ≡ stand_in act → new.part ≡ old.part → new.seen ≡ old.seen →
-    why ≡ (if act_lacks_serials old.part.state act then refusals.NumbersEnd else refusals.OutOfMemory) → (act_grows act ≡ false → false ≡ true) → Acts t act old (Err why) new
-touch_refused t act old new why touch alone part seen is grows = prepare_refused t act old new why (touch_lacks old.part act touch) (touch_sees t.size old.part act touch) (touch_grows act touch) alone part seen is grows
+    why ≡ (if act_lacks_serials old.part.state act then refusals.NumbersEnd else refusals.OutOfMemory) → (act_grows old.part.state act ≡ false → false ≡ true) → Acts t act old (Err why) new
+touch_refused t act old new why touch alone part seen is grows = prepare_refused t act old new why (touch_lacks old.part act touch) (touch_sees t.size old.part act touch) (touch_grows old.part act touch) alone part seen is grows
 
 -- an act that is made ready and done in one go
 pub told_acts : (t : TableName) (act : Act) (old new : CellState) (r : Result Happened Refusal) → is_touch_act act ≡ true → act ≡ stand_in act →
     IfOk r (λ h. h ≡ event_of old.part.state act answers.Plain) → OnOk r (new.part ≡ act_part act answers.Plain old.part) →
     IfErr r (λ e. e ≡ (if act_lacks_serials old.part.state act then refusals.NumbersEnd else refusals.OutOfMemory)) →
-    (act_grows act ≡ false → IsOk r) → OnErr r (new.part ≡ old.part) → new.seen ≡ old.seen → Acts t act old r new
+    (act_grows old.part.state act ≡ false → IsOk r) → OnErr r (new.part ≡ old.part) → new.seen ≡ old.seen → Acts t act old r new
 told_acts t act old new (Ok event) touch alone is part why grows same seen = touch_acts t act old old new event touch refl refl is part seen
 told_acts t act old new (Err e) touch alone is part why grows same seen = touch_refused t act old new e touch alone same seen why grows
 
 -- a begin or a retire that found no memory is an unlock
-pub stood_in : (t : TableName) (serial : ℕ) (act : RouterAct) (old mid new : CellState) (event : Happened) → acts.Router serial router_acts.Unlock ≡ stand_in (acts.Router serial act) → mid.part ≡ old.part → mid.seen ≡ old.seen → Acts t (acts.Router serial router_acts.Unlock) mid (Ok event) new → Acts t (acts.Router serial act) old (Ok event) new
+pub stood_in : (t : TableName) (serial : ℕ) (act : RouterAct) (old mid new : CellState) (event : Happened) → acts.Router serial router_acts.Unlock ≡ stand_in (acts.Router serial act) → (act_grows old.part.state (acts.Router serial act) ≡ false → false ≡ true) →
+    mid.part ≡ old.part → mid.seen ≡ old.seen → Acts t (acts.Router serial router_acts.Unlock) mid (Ok event) new → Acts t (acts.Router serial act) old (Ok event) new
 unfolding stand_in
-stood_in t serial act old mid new event in_place same kept h = record {
+stood_in t serial act old mid new event in_place grows same kept h = record {
   found = h.found;
   seen = h.seen ∙ ap (λ (l : Seen). l ++ h.found) kept;
   outcome = record {
     taken = acts.Router serial router_acts.Unlock;
-    which = inr in_place;
+    which = inr (in_place, grown (act_grows old.part.state (acts.Router serial act)) grows);
     done = subst (λ (p : Part). IsDone t p (acts.Router serial router_acts.Unlock) event new.part h.found) same (subst (λ (a : Act). IsDone t mid.part a event new.part h.found) (unlocked h.outcome.which) h.outcome.done);
   };
 }
   where
-    unlocked : {a : Act} → (a ≡ acts.Router serial router_acts.Unlock) ⊎ (a ≡ acts.Router serial router_acts.Unlock) → a ≡ acts.Router serial router_acts.Unlock
+    unlocked : {a : Act} {Grows : Type 0} → (a ≡ acts.Router serial router_acts.Unlock) ⊎ ((a ≡ acts.Router serial router_acts.Unlock) × Grows) →
+        a ≡ acts.Router serial router_acts.Unlock
     unlocked (inl e) = e
-    unlocked (inr e) = e
+    unlocked (inr e) = e.0
 
 -- the same act, after a preparation
 pub after_same : (t : TableName) (act : Act) (old mid new : CellState) (answer : Result Happened Refusal) → mid.part ≡ old.part → mid.seen ≡ old.seen → Acts t act mid answer new → Acts t act old answer new
@@ -176,7 +179,7 @@ after_same t act old mid new answer same kept h = record {
 
 -- a wake, for which there was no room
 pub wake_refused : (t : TableName) (serial : ℕ) (old new : CellState) (why : Refusal) → new.part ≡ old.part → new.seen ≡ old.seen →
-    why ≡ (if act_lacks_serials old.part.state (acts.Router serial router_acts.Wake) then refusals.NumbersEnd else refusals.OutOfMemory) → (act_grows (acts.Router serial router_acts.Wake) ≡ false → false ≡ true) →
+    why ≡ (if act_lacks_serials old.part.state (acts.Router serial router_acts.Wake) then refusals.NumbersEnd else refusals.OutOfMemory) → (act_grows old.part.state (acts.Router serial router_acts.Wake) ≡ false → false ≡ true) →
     Acts t (acts.Router serial router_acts.Wake) old (Err why) new
 unfolding stand_in
 wake_refused t serial old new why part seen is grows = prepare_refused t (acts.Router serial router_acts.Wake) old new why refl refl (λ g. g) refl part seen is grows

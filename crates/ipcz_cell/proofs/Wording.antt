@@ -26,7 +26,7 @@ use Rattle.ipcz_router.specs.declared.act.RouterAct.TheVariants as router_acts
 use Rattle.ipcz_router.specs.declared.act.Answer.{Answer}
 use Rattle.ipcz_node.specs.declared.act.Act.TheVariants as acts
 use Rattle.ipcz_node.specs.Node.{Node, word_side, word_at, source_in, source_at}
-use Rattle.ipcz_node.specs.Acts.{commit, act_lacks_serials, act_grows, router_act_grows}
+use Rattle.ipcz_node.specs.Acts.{commit, act_lacks_serials}
 use Rattle.ipcz_node.specs.RoomyNodes.{IsPossibleAct, NodeRoom}
 use Rattle.ipcz_world.specs.Coding.{IsLinkNumber}
 use Rattle.ipcz_world.specs.WordAnswers.{word_answer, word_after, try_answer}
@@ -187,15 +187,6 @@ wake_may t id i serial bits side m told picked whole can inside is =
     (subst (λ (V : ℕ → View → View). Allows (Rules t.count t.size) t.id.slots id m i (λ n. bit_and n (18446744073709551615 - waiting_bit (opposite can.router.end.side))) (λ n m'. m' ≡ (V n m.0, m.1))) (wake_view i serial can.router.end.side (source_of can.router))
     (wakes t.count t.size t.id.slots id i m (part_in m.0) serial can.router whole can.can can.primary)))))
 
--- neither does a mark or an unlock
-pub mark_grows : (serial : ℕ) → act_grows (acts.Router serial router_acts.Mark) ≡ false
-unfolding act_grows router_act_grows
-mark_grows serial = refl
-
-pub unlock_grows : (serial : ℕ) → act_grows (acts.Router serial router_acts.Unlock) ≡ false
-unfolding act_grows router_act_grows
-unlock_grows serial = refl
-
 pub mark_answers : (x : Word) (s : Side) (o : Option ℕ) (answer : Answer) → answer ≡ word_answer x s o router_acts.Mark → IsAnswerOf router_acts.Mark answer
 unfolding word_answer
 mark_answers x s o answer e = subst (IsAnswerOf router_acts.Mark) (sym e) tt
@@ -207,11 +198,6 @@ wake_answers x s o answer e = subst (IsAnswerOf router_acts.Wake) (sym e) tt
 pub unlock_answers : (x : Word) (s : Side) (o : Option ℕ) (answer : Answer) → answer ≡ word_answer x s o router_acts.Unlock → IsAnswerOf router_acts.Unlock answer
 unfolding word_answer
 unlock_answers x s o answer e = subst (IsAnswerOf router_acts.Unlock) (sym e) tt
-
--- a try for the lock never wants room
-pub lock_grows : (serial : ℕ) → act_grows (acts.Router serial router_acts.Lock) ≡ false
-unfolding act_grows router_act_grows
-lock_grows serial = refl
 
 try_answers : (x : Word) (s : Side) (o : Option ℕ) (p : Plan) → IsAnswerOf router_acts.Lock (try_answer x s o p)
 unfolding try_answer

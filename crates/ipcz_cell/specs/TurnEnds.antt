@@ -18,7 +18,8 @@ use Rattle.ipcz_node.specs.declared.act.Act.{Act}
 use Rattle.ipcz_node.specs.declared.act.Act.TheVariants as acts
 use Rattle.ipcz_node.specs.declared.happened.Happened.{Happened}
 use Rattle.ipcz_node.specs.declared.happened.Happened.TheVariants as events
-use Rattle.ipcz_node.specs.Acts.{stand_in, act_lacks_serials, act_grows}
+use Rattle.ipcz_node.specs.Acts.{stand_in, act_lacks_serials}
+use Rattle.ipcz_node.specs.Preparing.{act_grows}
 use Rattle.ipcz_node.specs.Events.{event_of, hand_event}
 use Rattle.ipcz_node.specs.Hands.{message_lacks_serials}
 use Rattle.ipcz_node.specs.Node.{Node, word_side, source_in}
@@ -101,10 +102,15 @@ pub record IsDone (t : TableName) (p : Part) (act : Act) (event : Happened) (p' 
   pub part : IsAfter act answer seen p p'
   pub event_is : IsEvent act answer seen p event
 
--- an act was done, or for want of memory what stands in for it
+-- whether an act may want memory
+abbrev pub may_grow : Part → Act → Bool
+may_grow p (acts.Hand from) = true
+may_grow p other = act_grows p.state other
+
+-- an act was done, or what stands in for it, only where it makes something grow
 pub record IsTaken (t : TableName) (p : Part) (act : Act) (event : Happened) (p' : Part) (seen : List (ℕ × ℕ)) : Type 0 where
   pub taken : Act
-  pub which : (taken ≡ act) ⊎ (taken ≡ stand_in act)
+  pub which : (taken ≡ act) ⊎ ((taken ≡ stand_in act) × (may_grow p act ≡ true))
   pub done : IsDone t p taken event p' seen
 
 -- whether handling this message, where there is one, wants more serials than are left
@@ -122,11 +128,6 @@ abbrev pub IsSeenBefore : ℕ → Part → Act → List (ℕ × ℕ) → Type 0
 IsSeenBefore size p (acts.Hand from) seen = OldLoaded size (old_named p.message) seen
 IsSeenBefore size p other seen = seen ≡ []
 
--- whether an act may want memory
-abbrev pub may_grow : Act → Bool
-may_grow (acts.Hand from) = true
-may_grow other = act_grows other
-
 -- an act was lost to another thread: an exchange found another number than the one that it was for
 abbrev pub IsLost : TableName → Part → Act → List (ℕ × ℕ) → Type 0
 IsLost t p (acts.Look from) seen = (n : ℕ) × (n ≢ 1) × (seen ≡ (mail_word t from p.node, n) ∷ [])
@@ -137,7 +138,7 @@ IsLost t p other seen = ⊥
 -- why an act was refused, where Lost is what it means that it was lost to another thread
 pub data IsRefused (size : ℕ) (p : Part) (act : Act) (Lost : Type 0) (why : Refusal) (seen : List (ℕ × ℕ)) : Type 0 where
   NoSerials : why ≡ NumbersEnd → lacks_serials p act seen ≡ true → IsSeenBefore size p act seen → IsRefused size p act Lost why seen
-  NoMemory : why ≡ OutOfMemory → lacks_serials p act seen ≡ false → may_grow act ≡ true → act ≡ stand_in act →
+  NoMemory : why ≡ OutOfMemory → lacks_serials p act seen ≡ false → may_grow p act ≡ true → act ≡ stand_in act →
       IsSeenBefore size p act seen → IsRefused size p act Lost why seen
   LostIt : why ≡ Raced → Lost → IsRefused size p act Lost why seen
 

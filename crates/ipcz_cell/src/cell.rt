@@ -3,7 +3,8 @@ ghost use Rattle.std.specs.Prelude.{◌≡◌, ◌<◌, ◌+◌, true, false, if
 ghost use Rattle.atomic_table.specs.Table.{Allows};
 ghost use Rattle.ipcz_node.specs.Calls.{put_refusal, put_number, get_refusal, got_at, close_refusal};
 ghost use Rattle.ipcz_node.specs.RoomyNodes.{IsReadyFor, IsPossibleAct};
-ghost use Rattle.ipcz_node.specs.Acts.{act_lacks_serials, act_grows};
+ghost use Rattle.ipcz_node.specs.Acts.{act_lacks_serials};
+ghost use Rattle.ipcz_node.specs.Preparing.{act_grows};
 ghost use Rattle.ipcz_node.specs.Events.{event_of};
 ghost use Rattle.ipcz_rule.specs.Rule.{Rules};
 ghost use Rattle.ipcz_cell.specs.CellStates.{part_in, change_part, roomy};
@@ -174,7 +175,7 @@ fn told_here<F: FabricName, X: Outcome>(
     ensures event { IfOk result (λ h. h ≡ event_of state.old.node (Act.Router serial act) Answer.Plain) }
     ensures why { IfErr result
         (λ e. e ≡ (if act_lacks_serials state.old.node (Act.Router serial act) then Refusal.NumbersEnd else Refusal.OutOfMemory)) }
-    ensures grows { act_grows (Act.Router serial act) ≡ false → IsOk result }
+    ensures grows { act_grows state.old.node (Act.Router serial act) ≡ false → IsOk result }
     ensures seated { IsSeated F.table state.new.node seat.new.table_id seat.new.me }
     ensures done { OnOk result
         (seat.new.me ≡ (change_part (act_part (Act.Router serial act) Answer.Plain) seat.old.me.0, seat.old.me.1)) }
@@ -239,7 +240,7 @@ impl<F: FabricName> NodeCell<F> {
         ensures allowed { OnOk result (act_lacks_serials self.old.part.state act.now ≡ false) }
         ensures why { IfErr result
             (λ e. e ≡ (if act_lacks_serials self.old.part.state act.now then Refusal.NumbersEnd else Refusal.OutOfMemory)) }
-        ensures grows { act_grows act.now ≡ false → IsOk result }
+        ensures grows { act_grows self.old.part.state act.now ≡ false → IsOk result }
     {
         self.state.prepare(act)
     }
@@ -270,7 +271,7 @@ impl<F: FabricName> NodeCell<F> {
         ensures ok { OnOk result (self.new.part ≡ act_part (Act.Router serial act) Answer.Plain self.old.part) }
         ensures why { IfErr result
             (λ e. e ≡ (if act_lacks_serials self.old.part.state (Act.Router serial act) then Refusal.NumbersEnd else Refusal.OutOfMemory)) }
-        ensures grows { act_grows (Act.Router serial act) ≡ false → IsOk result }
+        ensures grows { act_grows self.old.part.state (Act.Router serial act) ≡ false → IsOk result }
         ensures err { OnErr result (self.new.part ≡ self.old.part) }
         ensures seen { self.new.seen ≡ self.old.seen }
     {

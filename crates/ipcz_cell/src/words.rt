@@ -3,7 +3,8 @@ ghost use Rattle.std.specs.Prelude.{◌≡◌, ◌<◌, ◌-◌, true, false, []
 ghost use Rattle.ipcz_word.specs.Layout.{word_of_bits, bits_of, stable_bit, waiting_bit, locked_bit};
 ghost use Rattle.ipcz_base.specs.Sides.{opposite};
 ghost use Rattle.ipcz_node.specs.RoomyNodes.{IsPossibleAct, IsReadyFor};
-ghost use Rattle.ipcz_node.specs.Acts.{act_lacks_serials, act_grows, commit};
+ghost use Rattle.ipcz_node.specs.Acts.{act_lacks_serials, commit};
+ghost use Rattle.ipcz_node.specs.Preparing.{act_grows};
 ghost use Rattle.ipcz_node.specs.Node.{word_side, source_in};
 ghost use Rattle.ipcz_router.specs.ActEffects.{IsAnswerOf};
 ghost use Rattle.ipcz_rule.specs.Steps.{is_on_word};
@@ -189,7 +190,7 @@ fn unlock_mask(side: Side) -> u64
 fn word_here(state: &mut NodeState, serial: u64, act: RouterAct) -> (u32, Side)
     requires possible { IsPossibleAct state.old.node (Act.Router serial act) }
     requires on_word { is_on_word act ≡ true }
-    requires grows { act_grows (Act.Router serial act) ≡ false }
+    requires grows { act_grows state.old.node (Act.Router serial act) ≡ false }
     ensures node { state.new.node ≡ state.old.node }
     ensures ready { IsReadyFor state.new (Act.Router serial act) }
     ensures named { word_side state.old.node serial ≡ Some (result.0, result.1) }

@@ -1,6 +1,5 @@
 -- What an outlook has room for, the act has.
 use Rattle.std.proofs.Common.{◌≡◌, Bool, true, false, nat_eq, if◌then◌else◌, Option, Some, None, [], List, length, refl, sym, arith}
-use Rattle.std.proofs.Common.{true≢false}
 use Rattle.std.specs.Prelude.{IfSome}
 use Rattle.ipcz_base.specs.declared.end.End.{End}
 use Rattle.ipcz_base.specs.Items.{ends_in}
@@ -8,14 +7,12 @@ use Rattle.ipcz_router.specs.Router.{Router}
 use Rattle.ipcz_router.specs.ActEffects.{output_of}
 use Rattle.ipcz_router.specs.Outlooks.{outlook_of}
 use Rattle.ipcz_router.specs.declared.act.RouterAct.{RouterAct}
-use Rattle.ipcz_router.specs.declared.act.RouterAct.TheVariants as acts
 use Rattle.ipcz_router.specs.declared.act.Applied.{Applied}
 use Rattle.ipcz_router.specs.declared.act.Applied.TheVariants as outputs
-use Rattle.ipcz_router.specs.declared.outlook.Outlook.TheVariants as outlooks
 use Rattle.ipcz_node.specs.Node.{Node}
 use Rattle.ipcz_node.specs.Sends.{serials_for}
 use Rattle.ipcz_node.specs.Events.{moved_by}
-use Rattle.ipcz_node.specs.Acts.{router_act_grows, serials_at}
+use Rattle.ipcz_node.specs.Acts.{serials_at}
 use Rattle.ipcz_node.specs.RoomyNodes.{RoomyNode, IsReady, CanTell}
 use Rattle.ipcz_node.specs.Preparing.{IsReadyAs, outlook_at, serials_as}
 
@@ -70,22 +67,3 @@ pub serials_there : (n : Node) (o : Option Router) (act : RouterAct) → serials
 unfolding serials_at
 serials_there n None act = refl
 serials_there n (Some r) act = serials_of n (output_of r act)
-
--- where nothing grows, nothing is given
-pub gives_nothing : (o : Option Router) (act : RouterAct) → router_act_grows act ≡ false → outlook_at o act ≡ outlooks.Nothing
-unfolding router_act_grows output_of
-gives_nothing None act h = refl
-gives_nothing (Some r) acts.SendOut h = absurd (true≢false h)
-gives_nothing (Some r) acts.SendIn h = absurd (true≢false h)
-gives_nothing (Some r) acts.Discard h = absurd (true≢false h)
-gives_nothing (Some r) acts.Wake h = absurd (true≢false h)
-gives_nothing (Some r) acts.Begin h = absurd (true≢false h)
-gives_nothing (Some r) acts.Retire h = absurd (true≢false h)
-gives_nothing (Some r) acts.FinishOut h = refl
-gives_nothing (Some r) acts.FinishIn h = refl
-gives_nothing (Some r) acts.Leave h = refl
-gives_nothing (Some r) acts.Mark h = refl
-gives_nothing (Some r) acts.Claim h = refl
-gives_nothing (Some r) acts.Lock h = refl
-gives_nothing (Some r) acts.Unlock h = refl
-gives_nothing (Some r) acts.Rest h = refl

@@ -1,5 +1,5 @@
 -- The room that an act of a router wants at its node, told from the outlook of the act.
-use Rattle.std.specs.Prelude.{ℕ, ◌≤◌, ◌<◌, ◌+◌, nat_eq, if◌then◌else◌, Option, Some, None}
+use Rattle.std.specs.Prelude.{ℕ, ◌≤◌, ◌<◌, ◌+◌, Bool, true, false, not, ◌||◌, nat_eq, if◌then◌else◌, Option, Some, None}
 use Rattle.ipcz_base.specs.Limits.{no_number}
 use Rattle.ipcz_base.specs.Indexed.{place_at}
 use Rattle.ipcz_router.specs.Router.{Router}
@@ -8,7 +8,10 @@ use Rattle.ipcz_router.specs.Outlooks.{outlook_of}
 use Rattle.ipcz_router.specs.declared.act.RouterAct.{RouterAct}
 use Rattle.ipcz_router.specs.declared.outlook.Outlook.{Outlook}
 use Rattle.ipcz_router.specs.declared.outlook.Outlook.TheVariants as outlooks
-use Rattle.ipcz_node.specs.Node.{Node}
+use Rattle.ipcz_node.specs.declared.act.Act.{Act}
+use Rattle.ipcz_node.specs.declared.act.Act.TheVariants.{Close, Router as OfRouter}
+use Rattle.ipcz_node.specs.Node.{Node, router_in}
+use Rattle.ipcz_node.specs.Acts.{has_mail_for}
 use Rattle.ipcz_node.specs.RoomyNodes.{RoomyNode}
 
 -- how many ends are moved by an item with so many of them, to a node
@@ -39,3 +42,17 @@ serials_as n other = 0
 abbrev pub outlook_at : Option Router → RouterAct → Outlook
 outlook_at None act = outlooks.Nothing
 outlook_at (Some r) act = outlook_of (output_of r act)
+
+-- whether what an act of this outlook gives makes something grow: a message an outbox in which others wait already, an item that moves ends
+-- the lists of routers' links and of serials, and ends that are left to be closed the list of these. An empty outbox takes a message
+unfoldable pub outlook_grows : Node → Outlook → Bool
+outlook_grows n outlooks.Nothing = false
+outlook_grows n (outlooks.Item to ends) = has_mail_for n to || not (nat_eq (moved_count n to ends) 0)
+outlook_grows n (outlooks.Message to) = has_mail_for n to
+outlook_grows n (outlooks.Closing ends) = not (nat_eq ends 0)
+
+-- whether an act makes something grow, and so may want memory; a hand is asked of its message
+unfoldable pub act_grows : Node → Act → Bool
+act_grows n (OfRouter serial act) = outlook_grows n (outlook_at (router_in n serial) act)
+act_grows n (Close end) = true
+act_grows n other = false

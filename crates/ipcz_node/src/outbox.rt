@@ -47,12 +47,13 @@ impl Outbox {
         }
     }
 
-    /// Makes room for a message more.
+    /// Makes room for a message more. An empty queue has the place for it, so it takes no memory then.
     #[tactic(auto, unfolding(crate::specs::RoomyNodes::first_room))]
     pub fn reserve(&mut self) -> Result<(), AllocError>
         ensures ok { OnOk result (0 < self.new.room) }
         ensures messages { self.new.messages ≡ self.old.messages }
         ensures succeeds { 0 < self.old.room → IsOk result }
+        ensures empty { self.old.messages ≡ [] → IsOk result }
         ensures kept { self.old.room ≤ self.new.room }
     {
         if self.first.is_none() {

@@ -46,11 +46,12 @@ impl Outboxes {
         Ok(Outboxes { queues, waiting: 0 })
     }
 
-    /// Makes room for a message more to a node.
+    /// Makes room for a message more to a node. Where none waits for it yet, it takes no memory.
     pub fn reserve(&mut self, to: u8) -> Result<(), AllocError>
         ensures ok { OnOk result (0 < place_at 0 self.new.room to) }
         ensures messages { self.new.messages ≡ self.old.messages }
         ensures succeeds { 0 < place_at 0 self.old.room to → IsOk result }
+        ensures empty { place_at [] self.old.messages to ≡ [] → IsOk result }
         ensures kept { (other : ℕ) → place_at 0 self.old.room other ≤ place_at 0 self.new.room other }
     {
         self.queues[usize::from(to)].reserve()

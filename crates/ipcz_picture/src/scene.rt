@@ -236,11 +236,14 @@ impl<'a> Scene<'a> {
         }
     }
 
-    /// The walls of a node.
+    /// The walls of a node; of one that no line names, where the first band would begin.
     pub fn walls_of(&self, node: u8) -> Walls {
         match self.nodes.as_slice().get(node as usize) {
             Some(walls) => *walls,
-            None => Walls { left: 0, right: 0 },
+            None => Walls {
+                left: FIRST_BAND,
+                right: FIRST_BAND,
+            },
         }
     }
 

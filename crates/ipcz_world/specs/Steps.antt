@@ -120,9 +120,9 @@ Scheduler = World → ℕ → Act → Type 0
 abbrev pub AnyAct : Scheduler
 AnyAct w n act = n < w.count → IsTrue (can_take w n act)
 
--- the first possible act, or what stands in for it
+-- the first possible act; or what stands in for it, only where it makes something grow
 abbrev pub FirstAct : Scheduler
-FirstAct w n act = (act ≡ next_at w n) ⊎ (act ≡ stand_in (next_at w n))
+FirstAct w n act = (act ≡ next_at w n) ⊎ ((act ≡ stand_in (next_at w n)) × (turn_grows w n (next_at w n) ≡ true))
 
 -- the effect has this reply and this world
 abbrev pub Gives : Effect → Reply → World → Type 0

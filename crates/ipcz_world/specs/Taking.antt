@@ -7,7 +7,8 @@ use Rattle.ipcz_router.specs.Router.{Router, source_of}
 use Rattle.ipcz_node.specs.Node.{router_in}
 use Rattle.ipcz_node.specs.declared.act.Act.{Act}
 use Rattle.ipcz_node.specs.declared.happened.Happened.{Happened}
-use Rattle.ipcz_node.specs.Acts.{post_of, act_lacks_serials, act_grows}
+use Rattle.ipcz_node.specs.Acts.{post_of, act_lacks_serials}
+use Rattle.ipcz_node.specs.Preparing.{act_grows}
 use Rattle.ipcz_node.specs.Events.{event_of}
 use Rattle.ipcz_router.specs.declared.act.Answer.TheVariants.{Plain}
 use Rattle.ipcz_base.specs.declared.message.Message.{Message}
@@ -43,7 +44,7 @@ pub record IsCommitted (w : World) (n : ℕ) (act : Act) (result : Result (Happe
   pub done : OnOk result (v ≡ commit_at w w n act Plain)
   pub allowed : OnOk result (act_lacks_serials (node_at w n) act ≡ false)
   pub why : IfErr result (λ e. e ≡ (if act_lacks_serials (node_at w n) act then NumbersEnd else OutOfMemory))
-  pub grows : act_grows act ≡ false → act_lacks_serials (node_at w n) act ≡ false → IsOk result
+  pub grows : act_grows (node_at w n) act ≡ false → act_lacks_serials (node_at w n) act ≡ false → IsOk result
   pub left : OnErr result (v ≡ w)
 
 -- the node that a step is for

@@ -8,7 +8,7 @@ ghost use Rattle.ipcz_world.specs.Lawfulness.{IsLawful};
 ghost use Rattle.ipcz_world.specs.Parts.{world_of_parts};
 ghost use Rattle.ipcz_world.specs.Plain.{Plain};
 ghost use Rattle.ipcz_world.specs.Routes.{Routes, first_routes, routes_after};
-ghost use Rattle.ipcz_world.specs.Steps.{StepFirst};
+ghost use Rattle.ipcz_world.specs.Steps.{GivesOrNoMemory, StepFirst, put_step};
 ghost use Rattle.ipcz_world.specs.FirstRuns.{AreSteps, KeepsLaw};
 ghost use Rattle.ipcz_world.specs.Turns.{next_at};
 ghost use Rattle.ipcz_world.specs.World.{new_world};
@@ -127,9 +127,11 @@ impl World {
         self.state.step(step)
     }
 
-    /// Puts a parcel at an end, as the step `Put` does, without a copy of its lists: they go with the call, also where it is refused.
+    /// Puts a parcel at an end, as the step `Put` does, without a copy of its lists: they go with the call, also where it is refused. So
+    /// `OutOfMemory` is the last of its refusals, answered only where the terminal's queue has to grow.
     pub fn put(&mut self, node: u8, at: End, bytes: Bytes, ends: Ends) -> Reply
         ensures step { StepFirst self.old (Step.Put node at bytes ends) result self.new }
+        ensures order { GivesOrNoMemory self.old (put_step self.old node at (record { bytes = bytes; ends = ends })) result self.new }
         ensures lawful { (b : Books) → (g : Routes) → Lawful self.old b g →
             Lawful self.new (advance self.old b (Step.Put node at bytes ends) result)
             (routes_after self.old g (Step.Put node at bytes ends) result) }

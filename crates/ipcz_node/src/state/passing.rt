@@ -6,8 +6,8 @@ ghost use Rattle.ipcz_router.specs.ActEffects.{IsAnswerOf};
 ghost use Rattle.ipcz_node.specs.Node.{router_in};
 ghost use Rattle.ipcz_base.specs.Indexed.{place_at};
 ghost use Rattle.ipcz_node.specs.RoomyNodes.{IsPossibleAct, IsReadyFor};
-ghost use Rattle.ipcz_node.specs.Acts.{commit, act_grows, act_lacks_serials};
-ghost use Rattle.ipcz_node.specs.Preparing.{outlook_at};
+ghost use Rattle.ipcz_node.specs.Acts.{commit, act_lacks_serials};
+ghost use Rattle.ipcz_node.specs.Preparing.{act_grows, outlook_at};
 ghost use Rattle.ipcz_node.specs.Events.{event_of};
 ghost use Rattle.ipcz_router.specs.Carrying.{carried_by};
 ghost use Rattle.ipcz_base.specs.declared.item.Item.{Item as ItemValue};
@@ -34,7 +34,7 @@ impl NodeState {
         ensures allowed { OnOk result (act_lacks_serials self.old.node (Act.Router serial act) ≡ false) }
         ensures why { IfErr result
             (λ e. e ≡ (if act_lacks_serials self.old.node (Act.Router serial act) then Refusal.NumbersEnd else Refusal.OutOfMemory)) }
-        ensures grows { act_grows (Act.Router serial act) ≡ false → IsOk result }
+        ensures grows { act_grows self.old.node (Act.Router serial act) ≡ false → IsOk result }
         ensures full { IsReadyFor self.old (Act.Router serial act) → IsOk result }
         ensures err { OnErr result (self.new.node ≡ self.old.node) }
     {
@@ -57,7 +57,7 @@ impl NodeState {
         ensures allowed { OnOk result (act_lacks_serials self.old.node (Act.Router serial act) ≡ false) }
         ensures why { IfErr result
             (λ e. e ≡ (if act_lacks_serials self.old.node (Act.Router serial act) then Refusal.NumbersEnd else Refusal.OutOfMemory)) }
-        ensures grows { act_grows (Act.Router serial act) ≡ false → IsOk result }
+        ensures grows { act_grows self.old.node (Act.Router serial act) ≡ false → IsOk result }
         ensures full { IsReadyFor self.old (Act.Router serial act) → IsOk result }
         ensures err { OnErr result (self.new.node ≡ self.old.node) }
     {
@@ -77,7 +77,7 @@ impl NodeState {
         ensures allowed { OnOk result (act_lacks_serials self.old.node (Act.Router serial act) ≡ false) }
         ensures why { IfErr result
             (λ e. e ≡ (if act_lacks_serials self.old.node (Act.Router serial act) then Refusal.NumbersEnd else Refusal.OutOfMemory)) }
-        ensures grows { act_grows (Act.Router serial act) ≡ false → IsOk result }
+        ensures grows { act_grows self.old.node (Act.Router serial act) ≡ false → IsOk result }
         ensures full { IsReadyFor self.old (Act.Router serial act) → IsOk result }
         ensures err { OnErr result (self.new.node ≡ self.old.node) }
     {
@@ -101,7 +101,7 @@ impl NodeState {
         ensures allowed { OnOk result (act_lacks_serials self.old.node (Act.Router serial act) ≡ false) }
         ensures why { IfErr result
             (λ e. e ≡ (if act_lacks_serials self.old.node (Act.Router serial act) then Refusal.NumbersEnd else Refusal.OutOfMemory)) }
-        ensures grows { act_grows (Act.Router serial act) ≡ false → IsOk result }
+        ensures grows { act_grows self.old.node (Act.Router serial act) ≡ false → IsOk result }
         ensures full { IsReadyFor self.old (Act.Router serial act) → IsOk result }
         ensures err { OnErr result (self.new.node ≡ self.old.node) }
     {
@@ -110,7 +110,7 @@ impl NodeState {
     }
 
     // A router sends outward, and what it sent is told.
-    #[tactic(auto, using(crate::proofs::Preparing::wants_at))]
+    #[tactic(auto, using(crate::proofs::Preparing::wants_at, crate::proofs::Growing::send_alone))]
     fn send_out_told(&mut self, serial: u64) -> Result<Happened, Refusal>
         requires { IsPossibleAct self.old.node (Act.Router serial RouterAct.SendOut) }
         ensures ok { OnOk result (self.new.node ≡ commit self.old.node (Act.Router serial RouterAct.SendOut) Answer.Plain) }
@@ -119,6 +119,7 @@ impl NodeState {
         ensures why { IfErr result
             (λ e. e ≡ (if act_lacks_serials self.old.node (Act.Router serial RouterAct.SendOut)
             then Refusal.NumbersEnd else Refusal.OutOfMemory)) }
+        ensures grows { act_grows self.old.node (Act.Router serial RouterAct.SendOut) ≡ false → IsOk result }
         ensures full { IsReadyFor self.old (Act.Router serial RouterAct.SendOut) → IsOk result }
         ensures err { OnErr result (self.new.node ≡ self.old.node) }
     {
@@ -138,7 +139,7 @@ impl NodeState {
     }
 
     // A router sends outward.
-    #[tactic(auto, using(crate::proofs::Preparing::wants_at))]
+    #[tactic(auto, using(crate::proofs::Preparing::wants_at, crate::proofs::Growing::send_alone))]
     fn send_out(&mut self, serial: u64) -> Result<(), Refusal>
         requires { IsPossibleAct self.old.node (Act.Router serial RouterAct.SendOut) }
         ensures ok { OnOk result (self.new.node ≡ commit self.old.node (Act.Router serial RouterAct.SendOut) Answer.Plain) }
@@ -146,6 +147,7 @@ impl NodeState {
         ensures why { IfErr result
             (λ e. e ≡ (if act_lacks_serials self.old.node (Act.Router serial RouterAct.SendOut)
             then Refusal.NumbersEnd else Refusal.OutOfMemory)) }
+        ensures grows { act_grows self.old.node (Act.Router serial RouterAct.SendOut) ≡ false → IsOk result }
         ensures full { IsReadyFor self.old (Act.Router serial RouterAct.SendOut) → IsOk result }
         ensures err { OnErr result (self.new.node ≡ self.old.node) }
     {
@@ -168,6 +170,7 @@ impl NodeState {
             (λ s. Happened.SendOut serial s.0 s.1 [] ≡ event_of self.old.node (Act.Router serial RouterAct.SendOut) Answer.Plain) }
         ensures allowed { act_lacks_serials self.old.node (Act.Router serial RouterAct.SendOut) ≡ false }
         ensures why { IfErr result (λ e. e ≡ Refusal.OutOfMemory) }
+        ensures empty { place_at [] self.old.node.outboxes to ≡ [] → IsOk result }
         ensures full { 0 < place_at 0 self.old.room.outboxes to → IsOk result }
         ensures err { OnErr result (self.new.node ≡ self.old.node) }
     {

@@ -1,11 +1,10 @@
 ghost use Rattle.std.specs.Prelude.{◌≡◌, ◌≤◌, true, false, if◌then◌else◌, OnOk, IfErr, IsOk};
 ghost use Rattle.ipcz_base.specs.Limits.{has_serials};
-ghost use Rattle.ipcz_router.specs.declared.outlook.Outlook.{Outlook};
 ghost use Rattle.ipcz_node.specs.declared.act.Act.{Act};
 ghost use Rattle.ipcz_node.specs.Node.{router_in};
 ghost use Rattle.ipcz_node.specs.RoomyNodes.{IsReadyFor, RoomIsKept};
-ghost use Rattle.ipcz_node.specs.Acts.{act_grows, act_lacks_serials};
-ghost use Rattle.ipcz_node.specs.Preparing.{IsReadyAs, outlook_at, serials_as};
+ghost use Rattle.ipcz_node.specs.Acts.{act_lacks_serials};
+ghost use Rattle.ipcz_node.specs.Preparing.{IsReadyAs, act_grows, outlook_at, outlook_grows, serials_as};
 
 use super::NodeState;
 use crate::act::Act;
@@ -49,7 +48,7 @@ impl NodeState {
         ensures node { self.new.node ≡ self.old.node }
         ensures kept { RoomIsKept self.old.room self.new.room }
         ensures ready { OnOk result (IsReadyAs self.new outlook) }
-        ensures nothing { outlook ≡ Outlook.Nothing → IsOk result }
+        ensures grows { outlook_grows self.old.node outlook ≡ false → IsOk result }
         ensures full { IsReadyAs self.old outlook → IsOk result }
     {
         match outlook {
@@ -65,6 +64,7 @@ impl NodeState {
     }
 
     // Asks for the serials that an act of this outlook takes, and makes room for what it gives.
+    #[tactic(auto, using(crate::proofs::Growing::takes_none))]
     fn reserve(&mut self, outlook: Outlook) -> Result<(), Refusal>
         ensures node { self.new.node ≡ self.old.node }
         ensures kept { RoomIsKept self.old.room self.new.room }
@@ -73,7 +73,7 @@ impl NodeState {
         ensures why { IfErr result
             (λ e. e ≡ (if has_serials self.old.node.next_peripheral (serials_as self.old.node outlook)
             then Refusal.OutOfMemory else Refusal.NumbersEnd)) }
-        ensures nothing { outlook ≡ Outlook.Nothing → IsOk result }
+        ensures grows { outlook_grows self.old.node outlook ≡ false → IsOk result }
         ensures full { IsReadyAs self.old outlook → IsOk result }
     {
         let count = self.serials_as(outlook);
@@ -98,7 +98,7 @@ impl NodeState {
     }
 
     // Makes room for what an act of the router of the serial gives.
-    #[tactic(auto, using(crate::proofs::Preparing::serials_there, crate::proofs::Preparing::gives_nothing, crate::proofs::Preparing::ready_at, crate::proofs::Preparing::wants_at), unfolding(crate::specs::Acts::act_lacks_serials, crate::specs::Acts::act_grows))]
+    #[tactic(auto, using(crate::proofs::Preparing::serials_there, crate::proofs::Preparing::ready_at, crate::proofs::Preparing::wants_at), unfolding(crate::specs::Acts::act_lacks_serials, crate::specs::Preparing::act_grows))]
     pub(super) fn prepare_router(&mut self, serial: u64, act: RouterAct) -> Result<(), Refusal>
         ensures node { self.new.node ≡ self.old.node }
         ensures kept { RoomIsKept self.old.room self.new.room }
@@ -106,7 +106,7 @@ impl NodeState {
         ensures allowed { OnOk result (act_lacks_serials self.old.node (Act.Router serial act) ≡ false) }
         ensures why { IfErr result
             (λ e. e ≡ (if act_lacks_serials self.old.node (Act.Router serial act) then Refusal.NumbersEnd else Refusal.OutOfMemory)) }
-        ensures grows { act_grows (Act.Router serial act) ≡ false → IsOk result }
+        ensures grows { act_grows self.old.node (Act.Router serial act) ≡ false → IsOk result }
         ensures full { IsReadyFor self.old (Act.Router serial act) → IsOk result }
     {
         let outlook = self.outlook(serial, act);
@@ -133,7 +133,7 @@ impl NodeState {
     /// `OutOfMemory` where there was no room and none was found. An act that makes nothing grow is never refused,
     /// nor is one that the node is ready for, as after a `prepare` before. What it or an `open_prepare` before it made room for
     /// stays (docs/PROTOCOL.md, "Turns").
-    #[tactic(auto, unfolding(crate::specs::Acts::act_lacks_serials, crate::specs::Acts::act_grows))]
+    #[tactic(auto, unfolding(crate::specs::Acts::act_lacks_serials, crate::specs::Preparing::act_grows))]
     pub fn prepare(&mut self, act: &Act) -> Result<(), Refusal>
         ensures node { self.new.node ≡ self.old.node }
         ensures kept { RoomIsKept self.old.room self.new.room }
@@ -141,7 +141,7 @@ impl NodeState {
         ensures allowed { OnOk result (act_lacks_serials self.old.node act.now ≡ false) }
         ensures why { IfErr result
             (λ e. e ≡ (if act_lacks_serials self.old.node act.now then Refusal.NumbersEnd else Refusal.OutOfMemory)) }
-        ensures grows { act_grows act.now ≡ false → IsOk result }
+        ensures grows { act_grows self.old.node act.now ≡ false → IsOk result }
         ensures full { IsReadyFor self.old act.now → IsOk result }
     {
         match act {

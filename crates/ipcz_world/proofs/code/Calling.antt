@@ -81,28 +81,28 @@ close-refused w n at old x why reply has l e is same r =
 -- a put
 pub put-done : (w : World) (n : ℕ) (at : End) (p : parcels.Parcel) (old x : Node) (number : ℕ) (reply : Reply) → n < w.count →
     old ≡ node_at w n → put_refusal old at p.bytes p.ends ≡ None → number ≡ put_number old at →
-    x ≡ put_node old at p → reply ≡ Put number → PutGives w n (put_step w n at p) reply (with_node w n x)
+    x ≡ put_node old at p → reply ≡ Put number → GivesOrNoMemory w (put_step w n at p) reply (with_node w n x)
 unfolding set_node
 put-done w n at p old x number reply l e none is made r =
     let P : Node → Type 0 = λ old. put_refusal old at p.bytes p.ends ≡ None → number ≡ put_number old at → x ≡ put_node old at p →
-    PutGives w n (put_step w n at p) reply (with_node w n x) in
-    subst P (sym e) (λ none is made. subst (λ d. PutGives w n d reply (with_node w n x)) (sym (here-node w n _ l))
+    GivesOrNoMemory w (put_step w n at p) reply (with_node w n x) in
+    subst P (sym e) (λ none is made. subst (λ d. GivesOrNoMemory w d reply (with_node w n x)) (sym (here-node w n _ l))
     (inl (gives-done w _ _ _ reply none (r ∙ ap Put is) (ap (with_node w n) made)))) none is made
 
 pub put-refused : (w : World) (n : ℕ) (at : End) (p : parcels.Parcel) (old x : Node) (why : Refusal) (reply : Reply) → HasLengths w →
     n < w.count → old ≡ node_at w n →
     why ≡ unwrap_or (put_refusal old at p.bytes p.ends) OutOfMemory → x ≡ old → reply ≡ Refused why →
-    PutGives w n (put_step w n at p) reply (with_node w n x)
+    GivesOrNoMemory w (put_step w n at p) reply (with_node w n x)
 unfolding is_refused
 put-refused w n at p old x why reply has l e is same r =
-    subst (λ d. PutGives w n d reply (with_node w n x)) (sym (here-node w n _ l))
-    (here (gives-or-refused w (with_node w n x) (put_refusal (node_at w n) at p.bytes p.ends) why (putting w n at p) reply refl
-    (is ∙ ap (λ y. unwrap_or (put_refusal y at p.bytes p.ends) OutOfMemory) e) r (unchanged w n x has l (same ∙ e))))
-  where
-    here : GivesOrNoMemory w (unless w (put_refusal (node_at w n) at p.bytes p.ends) (putting w n at p)) reply (with_node w n x) →
-        PutGives w n (unless w (put_refusal (node_at w n) at p.bytes p.ends) (putting w n at p)) reply (with_node w n x)
-    here (inl gives) = inl gives
-    here (inr none) = inr (l, none.1)
+    subst (λ d. GivesOrNoMemory w d reply (with_node w n x)) (sym (here-node w n _ l))
+    (gives-or-refused w (with_node w n x) (put_refusal (node_at w n) at p.bytes p.ends) why (putting w n at p) reply refl
+    (is ∙ ap (λ y. unwrap_or (put_refusal y at p.bytes p.ends) OutOfMemory) e) r (unchanged w n x has l (same ∙ e)))
+
+-- want of memory that comes last may also come first
+pub put-gives : (w v : World) (n : ℕ) (done : Effect) (reply : Reply) → n < w.count → GivesOrNoMemory w done reply v → PutGives w n done reply v
+put-gives w v n done reply l (inl gives) = inl gives
+put-gives w v n done reply l (inr none) = inr (l, none.1)
 
 -- a put that finds no memory for its lists
 pub put-starved : (w : World) (n : ℕ) (done : Effect) → n < w.count → PutGives w n done (Refused OutOfMemory) w

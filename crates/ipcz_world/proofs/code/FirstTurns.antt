@@ -50,6 +50,15 @@ module _ (w : World) (n : ℕ) (act : Act) (here : n < w.count) where
           let because : why ≡ OutOfMemory = is.why ∙ ap (λ c. if c then NumbersEnd else OutOfMemory) e in
           (act, first, inr (k, x, ap (λ (x : Effect). is_refused x.reply) z, (ap Refused because, is.left)))
 
+  -- an act that was refused for want of memory makes something grow
+  pub refused-grows : (v : World) (why : Refusal) → (why ≡ NumbersEnd → ⊥) → IsTaken w n act (Err why) v → turn_grows w n act ≡ true
+  refused-grows v why other is = go (turn_lacks_serials w n act) (turn_grows w n act) refl refl
+    where
+      go : (c g : Bool) → turn_lacks_serials w n act ≡ c → turn_grows w n act ≡ g → g ≡ true
+      go true g e k = absurd (other (is.why ∙ ap (λ c. if c then NumbersEnd else OutOfMemory) e))
+      go false true e k = refl
+      go false false e k = is.grows k e
+
 -- nothing stands in for what stands in
 pub stands-alone : (act : Act) → stand_in act ≡ stand_in (stand_in act)
 unfolding stand_in

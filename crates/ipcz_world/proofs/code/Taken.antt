@@ -18,7 +18,8 @@ use Rattle.ipcz_node.specs.Hands.{is_hand_of, deliver, message_lacks_serials, me
 use Rattle.ipcz_node.specs.Node.{source_in, word_side}
 use Rattle.ipcz_router.specs.Router.{source_of}
 use Rattle.ipcz_word.specs.Laws.{HasNode}
-use Rattle.ipcz_node.specs.Acts.{has_mail_for, first_of, post_of, act_lacks_serials, act_grows, Answers}
+use Rattle.ipcz_node.specs.Acts.{has_mail_for, first_of, post_of, act_lacks_serials, Answers}
+use Rattle.ipcz_node.specs.Preparing.{act_grows}
 use Rattle.ipcz_node.specs.RoomyNodes.{IsPossibleAct}
 use Rattle.ipcz_node.specs.Events.{event_of, hand_event}
 use Rattle.ipcz_world.specs.declared.mail.Mail.{Mail}
@@ -53,14 +54,14 @@ unchanged w n x has l e = λ j. record w {
 pub refused-committed : (w : World) (n : ℕ) (act : Act) (old x : Node) (why : Refusal) → HasLengths w → n < w.count → old ≡ node_at w n →
     x ≡ old →
     why ≡ (if act_lacks_serials old act then NumbersEnd else OutOfMemory) →
-    (act_grows act ≡ false → act_lacks_serials old act ≡ false → false ≡ true) → IsCommitted w n act (Err why) (with_node w n x)
+    (act_grows old act ≡ false → act_lacks_serials old act ≡ false → false ≡ true) → IsCommitted w n act (Err why) (with_node w n x)
 refused-committed w n act old x why has l e same because grows = record {
   event = tt;
   message = tt;
   done = tt;
   allowed = tt;
   why = subst (λ y. why ≡ (if act_lacks_serials y act then NumbersEnd else OutOfMemory)) e because;
-  grows = λ g k. grows g (ap (λ y. act_lacks_serials y act) e ∙ k);
+  grows = λ g k. grows (ap (λ y. act_grows y act) e ∙ g) (ap (λ y. act_lacks_serials y act) e ∙ k);
   left = unchanged w n x has l (same ∙ e);
 }
 
@@ -420,7 +421,7 @@ module _ (w : World) (n serial : ℕ) (act : RouterAct) (is : IsRegular w) (l : 
   -- a refused act of a router leaves the world
   pub refused-router : (old x : Node) (why : Refusal) → old ≡ node_at w n → x ≡ old →
       why ≡ (if act_lacks_serials old (OfRouter serial act) then NumbersEnd else OutOfMemory) →
-      (act_grows (OfRouter serial act) ≡ false → act_lacks_serials old (OfRouter serial act) ≡ false → false ≡ true) →
+      (act_grows old (OfRouter serial act) ≡ false → act_lacks_serials old (OfRouter serial act) ≡ false → false ≡ true) →
       IsTaken w n (OfRouter serial act) (Err why) (with_node w n x)
   unfolding turn_lacks_serials turn_grows
   refused-router old x why e same because grows = let k = refused-committed w n (OfRouter serial act)

@@ -147,7 +147,7 @@ module _ (c : Rates) (w : World) (b : Books) (g : Routes) (n : ℕ) (law : Lawfu
   first-paid : (act : Act) → FirstAct w n act → 1 + rank c (after_act w n act) ≤ rank c w + 2 * worth 1 (is_unlock act)
   unfolding is_unlock
   first-paid act (inl e) = omega (arith, ap (λ a. rank c (after_act w n a)) e, first-lowers)
-  first-paid act (inr e) = elim (stood-in (next_at w n)) [
+  first-paid act (inr (e, grows)) = elim (stood-in (next_at w n)) [
     | inl same ↦ omega (arith, ap (λ a. rank c (after_act w n a)) (e ∙ same), first-lowers)
     | inr k ↦
         let is : act ≡ OfRouter k.0 acts.Unlock = e ∙ k.3 in

@@ -134,7 +134,7 @@ module _ (w : World) (b : Books) (g : Records) (law : Inv w b g) (n : ℕ) (here
 
   pub first_taken : (act : Act) → FirstAct w n act → can_take w n act ≡ true
   first_taken act (inl e) = subst (λ a. can_take w n a ≡ true) (sym e) next_possible
-  first_taken act (inr e) = subst (λ a. can_take w n a ≡ true) (sym e) (stands_in (next_at w n) next_possible)
+  first_taken act (inr (e, grows)) = subst (λ a. can_take w n a ≡ true) (sym e) (stands_in (next_at w n) next_possible)
 
 -- a step in which a turn takes the first act is one in which it takes a possible act
 pub first_is_possible : FirstIsPossible

@@ -77,7 +77,8 @@ impl State {
     /// Puts a parcel at an end, as it was given; one for a node that isn't there is refused.
     pub(crate) fn put_given(&mut self, n: u8, at: End, bytes: Bytes, ends: Ends) -> Reply
         requires { IsRegular self.old }
-        ensures { StepFirst self.old (Step.Put n at bytes ends) result self.new }
+        ensures step { StepFirst self.old (Step.Put n at bytes ends) result self.new }
+        ensures order { GivesOrNoMemory self.old (put_step self.old n at (record { bytes = bytes; ends = ends })) result self.new }
     {
         if n >= self.count {
             return Reply::Refused(Refusal::Stranger);
@@ -89,7 +90,7 @@ impl State {
     fn put_here(&mut self, n: u8, at: End, bytes: Bytes, ends: Ends) -> Reply
         requires regular { IsRegular self.old }
         requires node { n < self.old.count }
-        ensures { PutGives self.old n (put_step self.old n at (record { bytes = bytes; ends = ends })) result self.new }
+        ensures { GivesOrNoMemory self.old (put_step self.old n at (record { bytes = bytes; ends = ends })) result self.new }
     {
         match self.nodes.node_mut(n).put(at, bytes, ends) {
             Ok(number) => Reply::Put(number),

@@ -7,7 +7,7 @@ use Rattle.ipcz_cell.specs.CellStates.{CellState, part_in}
 use Rattle.ipcz_cell.specs.Words.{CanWord}
 use Rattle.ipcz_world.proofs.code.WordNumbers.{spelled}
 use Rattle.ipcz_cell.proofs.Seating.{own_sound}
-use Rattle.ipcz_cell.proofs.Wording.{lock_grows, lock_answers, status_told, acted_cell, raced_cell, tried_cell, refused_tells, tried_tells, raced_tells}
+use Rattle.ipcz_cell.proofs.Wording.{lock_answers, status_told, acted_cell, raced_cell, tried_cell, refused_tells, tried_tells, raced_tells}
 use Rattle.ipcz_cell.proofs.Mailing.{told_hit, told_miss}
 use Rattle.ipcz_node.specs.Acts.{commit}
 use Rattle.ipcz_node.specs.Node.{word_side, source_in}
@@ -15,10 +15,11 @@ use Rattle.ipcz_cell.specs.Outcomes.{act_view}
 use Rattle.std.specs.Prelude.{true, false}
 use Rattle.ipcz_world.specs.WordAnswers.{word_answer}
 use Rattle.ipcz_word.specs.Layout.{word_of_bits}
+use Rattle.ipcz_node.proofs.Growing.{grows_not}
 use Rattle.ipcz_cell.proofs.cell.NodeCell.lock_word.Goals as goal
 
 pub word_here-word-requires-clause-grows : goal.word_here-word-requires-clause-grows
-word_here-word-requires-clause-grows g c = lock_grows c.args.serial
+word_here-word-requires-clause-grows g c = grows_not _ c.args.serial router_acts.Lock refl
 
 pub status_here-found-requires-clause-can : goal.status_here-found-requires-clause-can
 status_here-found-requires-clause-can g c = subst (λ (z : Node). CanWord z c.args.serial c.word_here-word.result.1 router_acts.Lock c.word_here-word.result.0) (sym c.self.invariant.seated.state) c.word_here-word.ensures.can

@@ -11,11 +11,12 @@ use Rattle.ipcz_rule.specs.Steps.{act_part}
 use Rattle.ipcz_cell.specs.CellStates.{CellState, part_in}
 use Rattle.ipcz_cell.specs.Words.{CanWord}
 use Rattle.ipcz_cell.proofs.Seating.{own_sound}
-use Rattle.ipcz_cell.proofs.Wording.{mark_grows, mark_answers, acted_cell}
+use Rattle.ipcz_cell.proofs.Wording.{mark_answers, acted_cell}
+use Rattle.ipcz_node.proofs.Growing.{grows_not}
 use Rattle.ipcz_cell.proofs.cell.NodeCell.word_mark.Goals as goal
 
 pub word_here-i-requires-clause-grows : goal.word_here-i-requires-clause-grows
-word_here-i-requires-clause-grows g c = mark_grows c.args.serial
+word_here-i-requires-clause-grows g c = grows_not _ c.args.serial router_acts.Mark refl
 
 pub mark_here-found-requires-clause-can : goal.mark_here-found-requires-clause-can
 mark_here-found-requires-clause-can g c = subst (λ (z : Node). CanWord z c.args.serial c.word_here-i.result.1 router_acts.Mark c.word_here-i.result.0) (sym c.self.invariant.seated.state) c.word_here-i.ensures.can

@@ -23,6 +23,12 @@ returns-clause-succeeds c h =
     c.index_mut.ensures.value c.from.ensures (omega (arith, c.self.invariant.0, c.from.ensures)) in
     c.reserve.ensures.succeeds (subst (λ (n : ℕ). 0 < n) (ap (λ v. place_at 0 v.room c.args.to) (sym c.self.view_is) ∙ at) h)
 
+pub returns-clause-empty : goal.returns-clause-empty
+returns-clause-empty c none =
+    let at = place_map (λ q. q.messages) [] c.self.inside.queues.items c.from.result c.args.to c.index_mut.result.now
+    c.index_mut.ensures.value c.from.ensures (omega (arith, c.self.invariant.0, c.from.ensures)) in
+    c.reserve.ensures.empty (sym at ∙ ap (λ v. place_at [] v.messages c.args.to) c.self.view_is ∙ none)
+
 pub returns-clause-kept : goal.returns-clause-kept
 returns-clause-kept c other =
     subst (λ (v : List ℕ). place_at 0 v other ≤ place_at 0 (map (λ q. q.room) (slice_set c.self.inside.queues.items c.from.result c.reserve.new.self)) other)

@@ -1,4 +1,4 @@
-use Rattle.std.proofs.Common.{◌≡◌, true, false, true≢false, ap, sym, ◌∙◌}
+use Rattle.std.proofs.Common.{◌≡◌, true, ap, sym, ◌∙◌}
 use Rattle.ipcz_node.specs.declared.act.Act.TheVariants.{Router}
 use Rattle.ipcz_router.specs.Router.{Router as RouterRecord}
 use Rattle.ipcz_router.specs.ActTable.{may_take}
@@ -7,15 +7,13 @@ use Rattle.ipcz_node.specs.Node.{router_in}
 use Rattle.ipcz_node.specs.Events.{event_of}
 use Rattle.ipcz_node.proofs.AtRouter.{taken}
 use Rattle.ipcz_node.proofs.Carrying.{event_rest}
-use Rattle.ipcz_node.specs.Acts.{act_grows, act_lacks_serials, router_act_grows}
+use Rattle.ipcz_node.specs.Acts.{act_lacks_serials}
+use Rattle.ipcz_node.specs.Preparing.{act_grows}
 use Rattle.ipcz_node.proofs.state.NodeState.act_told.Goals as goal
 
--- a send makes something grow
 pub returns-in-SendOut-clause-grows : goal.returns-in-SendOut-clause-grows
-unfolding act_grows router_act_grows
 returns-in-SendOut-clause-grows c none =
-    let grows : true ≡ false = sym (ap (λ a. act_grows (Router c.args.serial a)) c.in-SendOut.is) ∙ none in
-    absurd (true≢false grows)
+    c.send_out_told.ensures.grows (sym (ap (λ a. act_grows c.args.self.now.node (Router c.args.serial a)) c.in-SendOut.is) ∙ none)
 
 pub returns-in-Rest-clause-allowed : goal.returns-in-Rest-clause-allowed
 returns-in-Rest-clause-allowed c =

@@ -17,10 +17,10 @@ returns-in_default-stand_in c =
 pub returns-in-Ok : goal.returns-in-Ok
 returns-in-Ok c =
     step-taken c.args.self.now c.args.n c.in-Some.other c.requires.node _ c.in-Ok.event
-    (inr (c.in-Some.ensures.other ∙ ap stand_in c.requires.first)) c.in-Ok.ensures
+    (inr (c.in-Some.ensures.other ∙ ap stand_in c.requires.first, ?)) c.in-Ok.ensures
 
 pub returns-in-Err : goal.returns-in-Err
 returns-in-Err c =
     step-refused c.args.self.now c.args.n c.in-Some.other c.requires.node _ c.in-Err.why
-    (inr (c.in-Some.ensures.other ∙ ap stand_in c.requires.first))
+    (inr (c.in-Some.ensures.other ∙ ap stand_in c.requires.first, ?))
     (inl (c.in-Some.ensures.other ∙ stands-alone c.args.act ∙ ap stand_in (sym c.in-Some.ensures.other))) c.in-Err.ensures

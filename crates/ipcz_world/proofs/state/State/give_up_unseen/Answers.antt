@@ -18,12 +18,12 @@ returns-in_default-stand_in-clause-refused c =
 pub returns-clause-turned : goal.returns-clause-turned
 returns-clause-turned c = (
   _,
-  step-taken c.args.self.now c.args.n c.in-Some.other c.requires.node _ _ (inr (c.in-Some.ensures.other ∙ ap stand_in c.requires.first))
+  step-taken c.args.self.now c.args.n c.in-Some.other c.requires.node _ _ (inr (c.in-Some.ensures.other ∙ ap stand_in c.requires.first, ?))
       c.in_default-take.ensures,
 )
 
 pub returns-in-Err-clause-refused : goal.returns-in-Err-clause-refused
 returns-in-Err-clause-refused c =
     step-refused c.args.self.now c.args.n c.in-Some.other c.requires.node _ c.in-Err.why
-    (inr (c.in-Some.ensures.other ∙ ap stand_in c.requires.first))
+    (inr (c.in-Some.ensures.other ∙ ap stand_in c.requires.first, ?))
     (inl (c.in-Some.ensures.other ∙ stands-alone c.args.act ∙ ap stand_in (sym c.in-Some.ensures.other))) c.in-Err.ensures

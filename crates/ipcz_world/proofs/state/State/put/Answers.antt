@@ -1,6 +1,7 @@
 use Rattle.std.proofs.Common.{◌≡◌, subst}
 use Rattle.ipcz_base.specs.declared.parcel.Parcel as parcels
 use Rattle.ipcz_world.specs.Steps.{PutGives, put_step}
+use Rattle.ipcz_world.proofs.code.Calling.{put-gives}
 use Rattle.ipcz_world.proofs.state.State.put.Goals as goal
 
 pub returns : goal.returns
@@ -10,4 +11,4 @@ returns c =
     λ j. record { bytes = c.in-Ok.ensures j; ends = c.in-Ok-copy_ends.ensures j } in
     subst (λ q. PutGives c.args.self.now c.args.n
     (put_step c.args.self.now c.args.n c.args.at q) c.put_here.result c.put_here.new.self) same
-    c.put_here.ensures
+    (put-gives c.args.self.now c.put_here.new.self c.args.n _ c.put_here.result c.requires.node c.put_here.ensures)
