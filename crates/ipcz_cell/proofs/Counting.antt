@@ -1,5 +1,5 @@
 -- The steps on the claim count.
-use Rattle.std.specs.Prelude.{◌≡◌, ◌<◌, ◌≤◌, ◌+◌, ℕ, false, List, [], ◌∷◌, Option, MatchBool, eqb, slice_index}
+use Rattle.std.specs.Prelude.{◌≡◌, ◌<◌, ◌≤◌, ◌+◌, ℕ, List, [], ◌∷◌, Option, MatchBool, eqb, slice_index}
 use Rattle.std.proofs.Common.{ap, sym, subst, ◌∙◌, refl, arith}
 use prog.Atomic.{either}
 use Rattle.atomic_table.specs.Table.{Allows}
