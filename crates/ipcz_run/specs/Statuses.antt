@@ -8,6 +8,7 @@ use Rattle.ipcz_script.specs.declared.run_fault.RunFault.TheVariants as faults
 use Rattle.ipcz_script.specs.Lines.{line}
 use Rattle.ipcz_script.specs.WholeIo.{AppendsFront}
 use Rattle.ipcz_script.specs.Transcript.{ReadsAndWrites}
+use Rattle.ipcz_threads.specs.Rounds.{OpenGates}
 use Rattle.ipcz_threads.specs.Transcripts as on_threads
 
 -- the status after a run
@@ -40,6 +41,6 @@ pub record RunsScript (before after old new : Option (List ℕ)) (reader_failed 
 pub record RunsOnThreads (before after old new : Option (List ℕ)) (reader_failed writer_failed : Bool) (answered : ℕ) : Type 0 where
   pub ending : Result Outcome RunFault
   pub answer : answered ≡ status ending
-  pub run : on_threads.ReadsAndWrites before after old new ending
+  pub run : on_threads.ReadsAndWrites OpenGates before after old new ending
   pub read : IsErrOf ending faults.Read ↔ IsTrue reader_failed
   pub write : IsErrOf ending faults.Write ↔ IsTrue writer_failed

@@ -23,22 +23,30 @@ ends_round (Err refusals.OutOfMemory) = true
 ends_round (Err refusals.NumbersEnd) = true
 ends_round (Err other) = false
 
--- to ask the gate changes nothing else, whatever it answers
-abbrev pub Asks : WorkerState → ℕ → Bool → WorkerState → Type 0
-Asks w turns may v = v ≡ w
+-- what gates may answer to the question whether the node of a number takes a turn more, after how many
+abbrev pub Gates : Type 1
+Gates = ℕ → ℕ → Bool → Type 0
+
+-- gates that are open
+abbrev pub OpenGates : Gates
+OpenGates node turns may = may ≡ true
+
+-- the gate is asked for the worker's node, and nothing else changes
+abbrev pub Asks : Gates → WorkerState → ℕ → Bool → WorkerState → Type 0
+Asks gates w turns may v = gates w.cell.part.node turns may × (v ≡ w)
 
 -- a turn of the cell
 abbrev pub Takes : TableName → WorkerState → Answer → WorkerState → Type 0
 Takes t w answer v = Turns t w.cell answer v.cell × (v.starved ≡ (w.starved || finds_no_memory answer))
 
 -- what a worker comes to in a round
-abbrev pub TakesTurns : TableName → ℕ → WorkerState → WorkerState → Type 0
-TakesTurns t limit w v = (taken : ℕ) × Works Asks (Takes t) ends_round limit 0 w taken v
+abbrev pub TakesTurns : Gates → TableName → ℕ → WorkerState → WorkerState → Type 0
+TakesTurns gates t limit w v = (taken : ℕ) × Works (Asks gates) (Takes t) ends_round limit 0 w taken v
 
 -- a round: each worker takes its turns
-pub record IsRound (t : TableName) (limit : ℕ) (ws vs : List WorkerState) : Type 0 where
+pub record IsRound (gates : Gates) (t : TableName) (limit : ℕ) (ws vs : List WorkerState) : Type 0 where
   pub many : length vs ≡ length ws
-  pub each : (i : ℕ) (w : WorkerState) → i < length ws → TakesTurns t limit (slice_index_or ws i w) (slice_index_or vs i w)
+  pub each : (i : ℕ) (w : WorkerState) → i < length ws → TakesTurns gates t limit (slice_index_or ws i w) (slice_index_or vs i w)
 
 -- the worker of a number is asked whether its node has nothing to do: what it says, and what is left
 abbrev pub IsAskedAt : TableName → List WorkerState → ℕ → Bool → List WorkerState → Type 0

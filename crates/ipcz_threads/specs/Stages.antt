@@ -14,7 +14,7 @@ use Rattle.ipcz_cell.specs.TableNames.{TableName}
 use Rattle.ipcz_threads.specs.declared.call.Call.{Call}
 use Rattle.ipcz_threads.specs.declared.call.Call.TheVariants as calls
 use Rattle.ipcz_threads.specs.Workers.{WorkerState, CallsAt, holder_from}
-use Rattle.ipcz_threads.specs.Rounds.{IsRound, AreAsked, is_some_starved}
+use Rattle.ipcz_threads.specs.Rounds.{Gates, IsRound, AreAsked, is_some_starved}
 
 pub record Stage : Type 0 where
   pub workers : List WorkerState
@@ -74,16 +74,16 @@ TurnsTo t count node ws other vs = ⊥
 
 -- with so many rounds left: all workers are asked whether their nodes have nothing to do; where one has, and a round is left, it is made, and
 -- finds memory
-abbrev pub Settles : TableName → ℕ → ℕ → List WorkerState → Bool → List WorkerState → Type 0
-Settles t limit zero ws quiet vs = AreAsked t (length ws) 0 ws quiet vs
-Settles t limit (suc left) ws quiet vs =
+abbrev pub Settles : Gates → TableName → ℕ → ℕ → List WorkerState → Bool → List WorkerState → Type 0
+Settles gates t limit zero ws quiet vs = AreAsked t (length ws) 0 ws quiet vs
+Settles gates t limit (suc left) ws quiet vs =
     (now : Bool) × (us : List WorkerState) × AreAsked t (length ws) 0 ws now us
     × MatchBool now ((quiet ≡ true) × (vs ≡ us))
-    ((xs : List WorkerState) × IsRound t limit us xs × (is_some_starved xs ≡ false) × Settles t limit left xs quiet vs)
+    ((xs : List WorkerState) × IsRound gates t limit us xs × (is_some_starved xs ≡ false) × Settles gates t limit left xs quiet vs)
 
 -- a settle is answered by whether all nodes were quiet in the end
-abbrev pub SettlesTo : TableName → ℕ → List WorkerState → Said → List WorkerState → Type 0
-SettlesTo t limit ws answer vs = (quiet : Bool) × Settles t limit limit ws quiet vs
+abbrev pub SettlesTo : Gates → TableName → ℕ → List WorkerState → Said → List WorkerState → Type 0
+SettlesTo gates t limit ws answer vs = (quiet : Bool) × Settles gates t limit limit ws quiet vs
     × (answer ≡ (if quiet then said.Settled else said.Unsettled))
 
 -- a show is answered by some words
@@ -91,11 +91,11 @@ abbrev pub Shows : Stage → Said → Stage → Type 0
 Shows s answer u = (words : List ℕ) × (answer ≡ said.Words words) × (u.labels ≡ s.labels)
 
 -- what a command may be answered, and the stage after it
-abbrev pub Runs : TableName → Stage → Command → Said → Stage → Type 0
-Runs t s (commands.Open node first second) answer u = Opens t s node first second answer u
-Runs t s (commands.Put at text attached) answer u = Puts t s at text attached answer u
-Runs t s (commands.Get at) answer u = CallsNamed t s at calls.Get answer u
-Runs t s (commands.Close at) answer u = CallsNamed t s at calls.Close answer u
-Runs t s (commands.Turn node count) answer u = TurnsTo t count node s.workers answer u.workers × (u.labels ≡ s.labels)
-Runs t s (commands.Settle limit) answer u = SettlesTo t limit s.workers answer u.workers × (u.labels ≡ s.labels)
-Runs t s commands.Show answer u = Shows s answer u
+abbrev pub Runs : Gates → TableName → Stage → Command → Said → Stage → Type 0
+Runs gates t s (commands.Open node first second) answer u = Opens t s node first second answer u
+Runs gates t s (commands.Put at text attached) answer u = Puts t s at text attached answer u
+Runs gates t s (commands.Get at) answer u = CallsNamed t s at calls.Get answer u
+Runs gates t s (commands.Close at) answer u = CallsNamed t s at calls.Close answer u
+Runs gates t s (commands.Turn node count) answer u = TurnsTo t count node s.workers answer u.workers × (u.labels ≡ s.labels)
+Runs gates t s (commands.Settle limit) answer u = SettlesTo gates t limit s.workers answer u.workers × (u.labels ≡ s.labels)
+Runs gates t s commands.Show answer u = Shows s answer u

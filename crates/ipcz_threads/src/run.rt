@@ -3,6 +3,7 @@ ghost use Rattle.ipcz_cell.specs.Making.{AreFirst};
 ghost use Rattle.ipcz_world.specs.Lawful.{IsWithinLimits};
 ghost use Rattle.ipcz_script.specs.Lines.{lines_of, refused_line};
 ghost use Rattle.ipcz_script.specs.Transcript.{is_unsettled};
+ghost use Rattle.ipcz_threads.specs.Rounds.{OpenGates};
 ghost use Rattle.ipcz_threads.specs.Transcripts.{IsFirst, IsOutput, IsRunOutput, IsTranscript, ReadsAndWrites, Writes};
 
 use crate::lending::lend;
@@ -50,7 +51,7 @@ fn run_commands<'a, R: Threads + Sync, F: FabricName + Send + Sync, G: Gate + Se
     session: &mut Session<'a, F, G>,
     commands: &[Command],
 ) -> Result<(bool, Vec<u8>), AllocError>
-    ensures { IfOk result (λ written. Writes F.table session.old commands.now written.1.items written.0 session.new) }
+    ensures { IfOk result (λ written. Writes G.answers F.table session.old commands.now written.1.items written.0 session.new) }
 {
     let mut text = Vec::new(alloc);
     let mut unsettled = false;
@@ -98,7 +99,7 @@ fn transcript<R: Threads + Sync, F: FabricName + Send + Sync, G: Gate + Send>(
     requires table { blank ≡ F.table }
     requires size { (F.table.count ≡ script.now.nodes) × (F.table.size ≡ script.now.words) }
     requires gates { length gates.old ≡ 8 }
-    ensures { IfOk result (λ written. IsTranscript script.now written.1.items written.0) }
+    ensures { IfOk result (λ written. IsTranscript G.answers script.now written.1.items written.0) }
 {
     let Ok((fabric, cells)) = blank.name::<F>() else {
         return Err(AllocError);
@@ -115,7 +116,7 @@ fn run_output<R: Threads + Sync, G: Gate + Send>(
 ) -> Result<(Outcome, Vec<u8>), AllocError>
     requires within { IsWithinLimits script.now.nodes script.now.words }
     requires gates { length gates.old ≡ 8 }
-    ensures { IfOk result (λ written. IsRunOutput script.now written.0 written.1.items) }
+    ensures { IfOk result (λ written. IsRunOutput G.answers script.now written.0 written.1.items) }
 {
     let Ok(blank) = start(alloc, script.nodes, script.words) else {
         return Err(AllocError);
@@ -135,7 +136,7 @@ fn output<R: Threads + Sync, G: Gate + Send>(
     gates: &mut [G],
 ) -> Result<(Outcome, Vec<u8>), AllocError>
     requires gates { length gates.old ≡ 8 }
-    ensures { IfOk result (λ written. IsOutput input.now written.0 written.1.items) }
+    ensures { IfOk result (λ written. IsOutput G.answers input.now written.0 written.1.items) }
 {
     match read_script(alloc, input) {
         Ok(script) => run_output(rt, alloc, &script, gates),
@@ -174,7 +175,7 @@ pub fn run_gated<R: Threads + Sync, I: Read, W: Write, G: Gate + Send>(
     requires reader_works { reader.old.failed ≡ false }
     requires writer_works { writer.old.failed ≡ false }
     requires gates { length gates.old ≡ 8 }
-    ensures run { ReadsAndWrites (I.remaining reader.old.inner) (I.remaining reader.new.inner)
+    ensures run { ReadsAndWrites G.answers (I.remaining reader.old.inner) (I.remaining reader.new.inner)
         (W.contents writer.old.inner) (W.contents writer.new.inner) result }
     ensures read { IsErrOf result RunFault.Read ↔ IsTrue reader.new.failed }
     ensures write { IsErrOf result RunFault.Write ↔ IsTrue writer.new.failed }
@@ -194,6 +195,10 @@ pub fn run_gated<R: Threads + Sync, I: Read, W: Write, G: Gate + Send>(
 struct OpenGate;
 
 impl Gate for OpenGate {
+    ghost use Rattle.ipcz_threads.specs.Rounds.{OpenGates};
+
+    ghost answers = { OpenGates };
+
     fn pass(&mut self, _node: u8, _turns: u64) -> bool {
         true
     }
@@ -208,7 +213,7 @@ pub fn run_threads<R: Threads + Sync, I: Read, W: Write>(
 ) -> Result<Outcome, RunFault>
     requires reader_works { reader.old.failed ≡ false }
     requires writer_works { writer.old.failed ≡ false }
-    ensures run { ReadsAndWrites (I.remaining reader.old.inner) (I.remaining reader.new.inner)
+    ensures run { ReadsAndWrites OpenGates (I.remaining reader.old.inner) (I.remaining reader.new.inner)
         (W.contents writer.old.inner) (W.contents writer.new.inner) result }
     ensures read { IsErrOf result RunFault.Read ↔ IsTrue reader.new.failed }
     ensures write { IsErrOf result RunFault.Write ↔ IsTrue writer.new.failed }

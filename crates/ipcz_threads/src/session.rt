@@ -149,7 +149,7 @@ impl<'a, F: FabricName, G> Session<'a, F, G> {
 impl<'a, F: FabricName + Send + Sync, G: Gate + Send> Session<'a, F, G> {
     // Lets the nodes take rounds of turns until none has anything to do, and at most so many.
     fn settle<R: Threads + Sync>(&mut self, rt: &R, limit: u32) -> Result<Said, AllocError>
-        ensures settles { IfOk result (λ said. SettlesTo F.table limit self.old.workers said self.new.workers) }
+        ensures settles { IfOk result (λ said. SettlesTo G.answers F.table limit self.old.workers said self.new.workers) }
         ensures labels { self.new.labels ≡ self.old.labels }
     {
         if settle(rt, self.workers.as_mut_slice(), limit)? {
@@ -165,7 +165,7 @@ impl<'a, F: FabricName + Send + Sync, G: Gate + Send> Session<'a, F, G> {
         rt: &R,
         command: &Command,
     ) -> Result<Said, AllocError>
-        ensures { IfOk result (λ said. Runs F.table self.old command.now said self.new) }
+        ensures { IfOk result (λ said. Runs G.answers F.table self.old command.now said self.new) }
     {
         match command {
             Command::Open {
@@ -217,7 +217,7 @@ fn settle<'a, R: Threads + Sync, F: FabricName + Send + Sync, G: Gate + Send>(
     workers: &mut [NodeWorker<'a, F, G>],
     limit: u32,
 ) -> Result<bool, AllocError>
-    ensures { IfOk result (λ quiet. Settles F.table limit limit workers.old quiet workers.new) }
+    ensures { IfOk result (λ quiet. Settles G.answers F.table limit limit workers.old quiet workers.new) }
 {
     let count = workers.len();
     let mut left = limit;

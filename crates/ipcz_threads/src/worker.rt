@@ -123,7 +123,7 @@ fn finds_no_memory(answer: &Result<Happened, Refusal>) -> bool
 impl<'a, F: FabricName, G: Gate> Worker for NodeWorker<'a, F, G> {
     ghost use Rattle.ipcz_threads.specs.Rounds.{Asks, Takes, ends_round};
 
-    ghost asks = { Asks };
+    ghost asks = { Asks G.answers };
 
     ghost takes = { Takes F.table };
 

@@ -85,7 +85,7 @@ pub(crate) fn is_some_starved<'a, F: FabricName, G>(workers: &[NodeWorker<'a, F,
 
 // Lets a worker take its turns of a round.
 fn take_turns<'a, F: FabricName, G: Gate>(worker: &mut NodeWorker<'a, F, G>, limit: u64)
-    ensures { TakesTurns F.table limit worker.old worker.new }
+    ensures { TakesTurns G.answers F.table limit worker.old worker.new }
 {
     run_worker(worker, limit);
 }
@@ -96,7 +96,7 @@ pub(crate) fn take_round<'a, R: Threads + Sync, F: FabricName + Send + Sync, G: 
     workers: &mut [NodeWorker<'a, F, G>],
     limit: u64,
 )
-    ensures { IsRound F.table limit workers.old workers.new }
+    ensures { IsRound G.answers F.table limit workers.old workers.new }
 {
     let threads = workers.len();
     if threads == 0 {
@@ -107,7 +107,7 @@ pub(crate) fn take_round<'a, R: Threads + Sync, F: FabricName + Send + Sync, G: 
         workers,
         threads,
         &|_, worker: &mut NodeWorker<F, G>|
-            ensures { TakesTurns F.table limit worker.entry.now worker.exit.now }
+            ensures { TakesTurns G.answers F.table limit worker.entry.now worker.exit.now }
         { take_turns(worker, limit) },
     );
 }

@@ -6,7 +6,7 @@ use Rattle.ipcz_threads.proofs.run.run_commands.Goals as goal
 pub loop-command-preserved : goal.loop-command-preserved
 loop-command-preserved g c =
     let i = c.loop-command.command-index in
-    writes-next g.F.FabricName.table c.args.session.now c.loop-command.session c.run.new.self c.args.commands.now (drop i c.args.commands.now)
+    writes-next g.G.Gate.answers g.F.FabricName.table c.args.session.now c.loop-command.session c.run.new.self c.args.commands.now (drop i c.args.commands.now)
     (drop (i + 1) c.args.commands.now)
     c.command-item.result c.in_ok-said.said c.loop-command.text.items c.push_answer.new.text.items c.loop-command.unsettled
     (c.loop-command.unsettled || c.is_unsettled-stopped.result)
@@ -17,7 +17,7 @@ loop-command-preserved g c =
 
 pub returns : goal.returns
 returns g c =
-    writes-end g.F.FabricName.table c.args.session.now c.loop-command.session c.args.commands.now (drop c.loop-command.command-index c.args.commands.now)
+    writes-end g.G.Gate.answers g.F.FabricName.table c.args.session.now c.loop-command.session c.args.commands.now (drop c.loop-command.command-index c.args.commands.now)
     c.loop-command.text.items c.loop-command.unsettled
     c.loop-command.invariant
     (past c.args.commands.now c.loop-command.command-index c.loop-command-test.false)

@@ -15,7 +15,7 @@ returns-in_default-write_whole-clause-run g c = (
     whole = λ h.
         c.in_ok-input.ensures.whole (omega (arith, h));
   },
-  subst (λ input. IsOutput input c.in-Ok.outcome c.in-Ok.text.items) c.deref.ensures.value c.in-Ok.ensures,
+  subst (λ input. IsOutput g.G.Gate.answers input c.in-Ok.outcome c.in-Ok.text.items) c.deref.ensures.value c.in-Ok.ensures,
   subst (AppendsFront (g.W.Write.contents c.args.writer.now.inner) (g.W.Write.contents c.write_whole.new.device.inner))
       c.deref-2.ensures.value c.write_whole.ensures.front,
 )
@@ -30,7 +30,7 @@ returns-clause-run g c = (
     whole = λ h.
         c.in_ok-input.ensures.whole (omega (arith, h));
   },
-  subst (λ input. IsOutput input c.in-Ok.outcome c.in-Ok.text.items) c.deref.ensures.value c.in-Ok.ensures,
+  subst (λ input. IsOutput g.G.Gate.answers input c.in-Ok.outcome c.in-Ok.text.items) c.deref.ensures.value c.in-Ok.ensures,
   subst (Appends (g.W.Write.contents c.args.writer.now.inner) (g.W.Write.contents c.write_whole.new.device.inner))
       c.deref-2.ensures.value c.in-Ok-write_whole.ensures.done,
 )

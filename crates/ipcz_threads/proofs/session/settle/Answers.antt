@@ -8,8 +8,8 @@ returns-then-are_quiet g c =
     let t = g.F.FabricName.table in
     let us = c.loop-left.workers in
     let one : c.loop-left.left ≡ suc (c.loop-left.left - 1) = omega (arith, c.loop-left-test.true) in
-    settles-quiet t c.args.limit (c.loop-left.left - 1) c.args.workers.now us c.are_quiet.new.workers c.are_quiet.result
-    (subst (λ n. GoesOn t c.args.limit n c.args.workers.now us) one c.loop-left.invariant.0)
+    settles-quiet g.G.Gate.answers t c.args.limit (c.loop-left.left - 1) c.args.workers.now us c.are_quiet.new.workers c.are_quiet.result
+    (subst (λ n. GoesOn g.G.Gate.answers t c.args.limit n c.args.workers.now us) one c.loop-left.invariant.0)
     (subst (λ n. AreAsked t n 0 us c.are_quiet.result c.are_quiet.new.workers) (sym c.loop-left.invariant.1) c.are_quiet.ensures.asked)
     c.if-are_quiet.true
 
@@ -18,9 +18,9 @@ loop-left-preserved g c =
     let t = g.F.FabricName.table in
     let us = c.loop-left.workers in
     let one : c.loop-left.left ≡ suc (c.loop-left.left - 1) = omega (arith, c.loop-left-test.true) in (
-      settles-round t c.args.limit (c.loop-left.left - 1) c.args.workers.now us c.are_quiet.new.workers c.take_round.new.workers c.are_quiet.result
-          (subst (λ n. GoesOn t c.args.limit n c.args.workers.now us) one c.loop-left.invariant.0)
+      settles-round g.G.Gate.answers t c.args.limit (c.loop-left.left - 1) c.args.workers.now us c.are_quiet.new.workers c.take_round.new.workers c.are_quiet.result
+          (subst (λ n. GoesOn g.G.Gate.answers t c.args.limit n c.args.workers.now us) one c.loop-left.invariant.0)
           (subst (λ n. AreAsked t n 0 us c.are_quiet.result c.are_quiet.new.workers) (sym c.loop-left.invariant.1) c.are_quiet.ensures.asked)
-          c.if-are_quiet.false (subst (λ n. IsRound t n c.are_quiet.new.workers c.take_round.new.workers) c.from.ensures c.take_round.ensures) (sym c.is_some_starved.ensures ∙ c.if-is_some_starved.false),
+          c.if-are_quiet.false (subst (λ n. IsRound g.G.Gate.answers t n c.are_quiet.new.workers c.take_round.new.workers) c.from.ensures c.take_round.ensures) (sym c.is_some_starved.ensures ∙ c.if-is_some_starved.false),
       c.take_round.ensures.many ∙ c.are_quiet.ensures.many ∙ c.loop-left.invariant.1,
     )
