@@ -399,6 +399,8 @@ pub fn finish<F: FabricName>(
         table,
         nodes,
         words,
+        bells: _,
+        news: _,
         of: _,
     } = fabric;
     Ok(close(table, seat, states, hands, boxes, bits, nodes, words))

@@ -1,6 +1,7 @@
 //! A table of atomic words under a name, which the types of its cells carry.
 ghost use Rattle.std.specs.Prelude.{◌≡◌};
 
+use crate::bells::Bells;
 use atomic_table::Table;
 use ipcz_base::Message;
 use ipcz_rule::{FabricLaw, Size, View};
@@ -26,6 +27,8 @@ pub struct Fabric<F: FabricName> {
     pub(crate) table: Table<Option<Message>, View, Size, FabricLaw, Global>,
     pub(crate) nodes: u8,
     pub(crate) words: u32,
+    pub(crate) bells: Bells,
+    pub(crate) news: Bells,
     pub(crate) of: PhantomData<F>,
 }
 
@@ -48,5 +51,22 @@ impl<F: FabricName> Fabric<F> {
         ensures { result ≡ F.table.count }
     {
         self.nodes
+    }
+
+    /// Wakes all that sleep for a node, as `NodeCell::wait`. Where none sleeps it costs two loads. For a node that isn't the table's
+    /// nothing is done.
+    pub fn notify_all(&self, node: u8) {
+        self.bells.ring(node);
+        self.news.ring(node);
+    }
+
+    /// The bells on which those sleep that wait until there may be something to do for a node.
+    pub fn bells(&self) -> &Bells {
+        &self.bells
+    }
+
+    /// The bells on which those sleep that wait until a message was handled at a node, since by that alone a parcel comes there.
+    pub fn news(&self) -> &Bells {
+        &self.news
     }
 }

@@ -2,6 +2,7 @@
 //! (docs/THREADS.md).
 #![tactic(auto)]
 
+mod bells;
 mod cell;
 mod claims;
 mod ending;
@@ -15,8 +16,10 @@ mod plays;
 mod probed;
 mod quiet;
 mod turns;
+mod waits;
 mod words;
 
+pub use bells::{Bells, Ticket};
 pub use cell::NodeCell;
 pub use ending::finish;
 pub use fabric::{Fabric, FabricName};

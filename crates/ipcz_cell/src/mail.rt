@@ -265,6 +265,7 @@ impl<F: FabricName> NodeCell<F> {
         let table = &fabric.table;
         table.shared.exchange(&mut self.seat, slot, Some(message));
         post_here::<F, Brand>(node, &mut self.seat, fabric, to);
+        fabric.bells.ring(to);
         let held = hand_count(&self.message);
         let behind = self.probed.len() - place;
         turn_over(&mut self.seat, behind + held);
@@ -416,6 +417,11 @@ impl<F: FabricName> NodeCell<F> {
         ensures { Handles F.table.size from self.old result self.new }
     {
         let source = self.load_source(fabric, from);
-        self.handle(fabric, from, source)
+        let handled = self.handle(fabric, from, source);
+        if handled.is_ok() {
+            fabric.bells.ring(from);
+            fabric.news.ring(self.state.number());
+        }
+        handled
     }
 }

@@ -5,6 +5,7 @@ ghost use Rattle.ipcz_world.specs.Lawful.{IsWithinLimits};
 ghost use Rattle.ipcz_cell.specs.Making.{AreBodies, AreFirst};
 ghost use Rattle.ipcz_cell.specs.TableNames.{TableName};
 
+use crate::bells::Bells;
 use crate::cell::NodeCell;
 use crate::fabric::{Fabric, FabricName};
 use crate::plays::Deal;
@@ -153,6 +154,12 @@ impl Blank {
         let Ok(cells) = Vec::with_capacity(self.alloc, usize::from(self.nodes)) else {
             return Err((Refusal::OutOfMemory, self));
         };
+        let Ok(bells) = Bells::new(self.alloc, self.nodes) else {
+            return Err((Refusal::OutOfMemory, self));
+        };
+        let Ok(news) = Bells::new(self.alloc, self.nodes) else {
+            return Err((Refusal::OutOfMemory, self));
+        };
         let Blank {
             table,
             seat,
@@ -164,6 +171,8 @@ impl Blank {
             table,
             nodes,
             words,
+            bells,
+            news,
             of: PhantomData,
         };
         let cells = deal_all(&fabric, seat, bodies, cells);

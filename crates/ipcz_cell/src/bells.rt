@@ -1,0 +1,86 @@
+//! Bells, one a node: a thread that waits for a node sleeps on its bell, and one that may have brought the node something rings it. They are
+//! no part of the table, and no clause speaks of them: docs/THREADS.md says why no wake is lost.
+use std::alloc::{AllocError, Global};
+use std::sync::Wait;
+use std::sync::atomic::{AtomicU64, Ordering};
+use std::time::Duration;
+
+// A word to sleep on. It is odd where a thread watches it, and a ring then makes it the next even number.
+#[derive(Drop)]
+struct Bell {
+    word: AtomicU64,
+}
+
+/// What a bell was when a thread began to watch it.
+#[derive(Clone, Copy)]
+pub struct Ticket {
+    number: u32,
+}
+
+/// The bells of a table's nodes.
+#[derive(Drop)]
+pub struct Bells {
+    bells: Vec<Bell>,
+}
+
+impl Bell {
+    // Asks for a wake at the next ring.
+    fn watch(&self) -> Ticket {
+        let found = self.word.fetch_or(1, Ordering::SeqCst) | 1;
+        Ticket {
+            number: (found & 0xffff_ffff) as u32,
+        }
+    }
+
+    // Wakes all that watch. Where none does it is a load. Where the exchange finds another number, another ring came first, and who has
+    // begun to watch since that looks again.
+    fn ring(&self) {
+        let found = self.word.load(Ordering::SeqCst);
+        if found & 1 == 1 {
+            let next = found.wrapping_add(1);
+            let rung = self
+                .word
+                .compare_exchange(found, next, Ordering::SeqCst, Ordering::SeqCst);
+            if rung.is_ok() {
+                self.word.wake_all();
+            }
+        }
+    }
+}
+
+impl Bells {
+    // Bells of so many nodes.
+    pub(crate) fn new(alloc: Global, count: u8) -> Result<Bells, AllocError> {
+        let mut bells = Vec::with_capacity(alloc, usize::from(count))?;
+        for _bell in 0..count {
+            bells.push(Bell {
+                word: AtomicU64::new(0),
+            })?;
+        }
+        Ok(Bells { bells })
+    }
+
+    /// Wakes all that watch the bell of a node. Where none does it is a load. For a node that isn't the table's nothing is done.
+    pub fn ring(&self, node: u8) {
+        if let Some(bell) = self.bells.get(usize::from(node)) {
+            bell.ring();
+        }
+    }
+
+    /// Begins to watch the bell of a node: a sleep with this ticket ends at each ring from now on. Look for what you wait for between the
+    /// two, and never before.
+    pub fn watch(&self, node: u8) -> Ticket {
+        match self.bells.get(usize::from(node)) {
+            Some(bell) => bell.watch(),
+            None => Ticket { number: 0 },
+        }
+    }
+
+    /// Sleeps until the bell of a node is rung, or returns at once if it was rung since the ticket was taken. It returns when `limit` has
+    /// passed, may also return for no reason, and doesn't sleep for a node that isn't the table's.
+    pub fn sleep<R: Wait>(&self, rt: &R, node: u8, ticket: Ticket, limit: Duration) {
+        if let Some(bell) = self.bells.get(usize::from(node)) {
+            bell.word.park_timeout(rt, ticket.number, limit);
+        }
+    }
+}
