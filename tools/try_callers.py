@@ -5,8 +5,8 @@
     python3 tools/try_callers.py --all         fails where a compiler or valgrind isn't on the machine
 
 The library is installed in a folder of its own by `tools/install_c.py`, and each caller is built from there, by the flags that pkg-config
-tells. What a caller of `callers/c` and `callers/cpp` prints is compared with the file beside it that ends in `.out`; those of C run again
-under valgrind, which must find no error, and no memory that isn't freed. The crate of `callers/rust` has its tests run. A caller whose compiler isn't
+tells. What a caller of `callers/c` and `callers/cpp` prints is compared with the file beside it that ends in `.out`. It runs again under
+valgrind, which must find no error, and no memory that isn't freed, and one with threads under helgrind, which must find no race. The crate of `callers/rust` has its tests run. A caller whose compiler isn't
 on the machine is left out. The statuses of the header must be those of `Refusal`, and the program in docs/C.md one of these callers.
 """
 import argparse
@@ -23,8 +23,11 @@ import install_c
 TOP = pathlib.Path(__file__).resolve().parent.parent
 CALLERS = TOP / "callers"
 VALGRIND = ["valgrind", "--quiet", "--leak-check=full", "--show-leak-kinds=all", "--errors-for-leak-kinds=all", "--error-exitcode=99"]
+HELGRIND = ["valgrind", "--quiet", "--tool=helgrind", "--error-exitcode=99"]
 STRICT = ["-O2", "-Wall", "-Wextra", "-Wconversion", "-pedantic", "-Werror"]
 MOST_SECONDS = 600
+# Callers that are built and not run: what they print is times.
+MEASURES = {"measure"}
 
 
 class Callers:
@@ -78,11 +81,16 @@ class Callers:
             what, program, stored = str(source.relative_to(TOP)), self.prefix / f"{folder}-{source.stem}", source.with_suffix(".out")
             if self.run(f"{what}: {compiler}", [compiler, f"-std={standard}", *STRICT, str(source), *flags, "-lpthread", "-o", str(program)]) is None:
                 continue
+            if source.stem in MEASURES:
+                continue
             if not stored.is_file():
+                self.wrong.append(f"{what} has no stored output")
                 continue
             self.compare(what, self.run(what, [str(program)]), stored)
-            if folder == "c" and self.has("valgrind"):
+            if self.has("valgrind"):
                 self.compare(f"{what} under valgrind", self.run(f"{what} under valgrind", [*VALGRIND, str(program)]), stored)
+                if "<pthread.h>" in source.read_text():
+                    self.compare(f"{what} under helgrind", self.run(f"{what} under helgrind", [*HELGRIND, str(program)]), stored)
 
     def rust(self) -> None:
         """Runs the tests of the crate."""
