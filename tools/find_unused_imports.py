@@ -16,7 +16,7 @@ import asked
 from asked import TOP
 GHOST_USE = re.compile(r"^[ \t]*ghost use (?P<path>[^{;]*?)(?:\.\{(?P<names>[^}]*)\})?(?: as (?P<alias>\S+))?;[ \t]*\n", re.M)
 USE = re.compile(r"^[ \t]*use (?P<path>[^{\n]*?)(?:\.\{(?P<names>[^}]*)\})?(?: as (?P<alias>\S+))?[ \t]*\n", re.M)
-CLAUSE = re.compile(r"\b(?:requires|ensures)\b\*?\s*\w*\s*\{|\bghost (?!use\b)\w+[^;{]*\{|#!?\[")
+CLAUSE = re.compile(r"\b(?:requires|ensures)\b\*?\s*\w*\s*\{|\bghost (?!use\b)\w+[^;{]*\{|\bby \{|#!?\[")
 CLOSES = {"{": "}", "[": "]"}
 TOKEN = re.compile(r"(?P<field>(?<=[^\s.])\.(?=[^\s.]))?(?P<word>\[\]|[^\s(){},;«».\[\]]+)")
 

@@ -1,0 +1,162 @@
+/* One thread, two nodes: a portal travels from node 0 to node 1 in a parcel, and parcels go over it. Then statuses that callers meet. */
+#include "ipcz_portals.h"
+
+#include <inttypes.h>
+#include <stdio.h>
+#include <string.h>
+
+/* Prints what a call came to, where that isn't what was expected, and ends the program. */
+#define EXPECT(call, expected)                                                                                       \
+    do {                                                                                                             \
+        ipcz_status came = (call);                                                                                   \
+        if (came != (expected)) {                                                                                    \
+            printf("line %d: %s, and not %s\n", __LINE__, ipcz_status_name(came), ipcz_status_name(expected));       \
+            return false;                                                                                            \
+        }                                                                                                            \
+    } while (0)
+
+#define HOLDS(test)                                                                                                  \
+    do {                                                                                                             \
+        if (!(test)) {                                                                                               \
+            printf("line %d: not so: %s\n", __LINE__, #test);                                                        \
+            return false;                                                                                            \
+        }                                                                                                            \
+    } while (0)
+
+/* What a get writes. */
+typedef struct parcel {
+    uint8_t bytes[IPCZ_MAX_BYTES];
+    size_t size;
+    ipcz_portal portals[IPCZ_MAX_PORTALS];
+    size_t count;
+    uint64_t number;
+} parcel;
+
+static ipcz_status get(ipcz_world *world, uint8_t node, ipcz_portal at, parcel *got) {
+    return ipcz_get(world, node, at, got->bytes, IPCZ_MAX_BYTES, &got->size, got->portals, IPCZ_MAX_PORTALS, &got->count, &got->number);
+}
+
+static ipcz_status put(ipcz_world *world, uint8_t node, ipcz_portal at, const char *text) {
+    uint64_t number;
+    return ipcz_put(world, node, at, text, strlen(text), NULL, 0, &number);
+}
+
+static void print_portal(const char *name, ipcz_portal portal) {
+    printf("%s %" PRIu32 "%c\n", name, portal.pair, portal.side_b ? 'B' : 'A');
+}
+
+static void print_parcel(const parcel *got) {
+    printf("got %" PRIu64 ": \"%.*s\"\n", got->number, (int)got->size, (const char *)got->bytes);
+    for (size_t i = 0; i < got->count; i++) print_portal("  with", got->portals[i]);
+}
+
+static bool travels(ipcz_world *world) {
+    ipcz_portal left = ipcz_first(0, 1, 2), right = ipcz_first(1, 0, 2), kept, sent;
+    uint64_t number, acts;
+    uint8_t node;
+    bool quiet;
+    parcel got;
+    EXPECT(ipcz_open(world, 0, &kept, &sent), IPCZ_OK);
+    print_portal("kept", kept);
+    print_portal("sent", sent);
+    EXPECT(ipcz_put(world, 0, left, "a portal", 8, &sent, 1, &number), IPCZ_OK);
+    HOLDS(number == 0 && !ipcz_holder(world, sent, &node));
+    EXPECT(put(world, 0, kept, "before it has come"), IPCZ_OK);
+    EXPECT(get(world, 1, right, &got), IPCZ_EMPTY);
+    EXPECT(ipcz_settle(world, 1000, &acts, &quiet), IPCZ_OK);
+    printf("%s after %" PRIu64 " acts\n", quiet ? "quiet" : "not quiet", acts);
+    EXPECT(get(world, 1, right, &got), IPCZ_OK);
+    print_parcel(&got);
+    HOLDS(got.count == 1 && got.portals[0].pair == sent.pair && got.portals[0].side_b == sent.side_b);
+    HOLDS(ipcz_holder(world, sent, &node) && node == 1 && ipcz_holder(world, kept, &node) && node == 0);
+    EXPECT(ipcz_settle(world, 1000, &acts, &quiet), IPCZ_OK);
+    EXPECT(put(world, 0, kept, "and after"), IPCZ_OK);
+    for (int turn = 0; turn < 20; turn++) EXPECT(ipcz_turn(world, (uint8_t)(turn % 2)), IPCZ_OK);
+    EXPECT(get(world, 1, sent, &got), IPCZ_OK);
+    print_parcel(&got);
+    EXPECT(get(world, 1, sent, &got), IPCZ_OK);
+    print_parcel(&got);
+    EXPECT(ipcz_close(world, 0, kept), IPCZ_OK);
+    EXPECT(ipcz_settle(world, 0, &acts, &quiet), IPCZ_OK);
+    HOLDS(acts == 0 && !quiet);
+    EXPECT(ipcz_settle(world, 1000, &acts, &quiet), IPCZ_OK);
+    EXPECT(get(world, 1, sent, &got), IPCZ_PEER_CLOSED);
+    EXPECT(ipcz_close(world, 1, sent), IPCZ_OK);
+    return true;
+}
+
+/* What has too little room stays where it is, and what is refused writes nothing. */
+static bool small_rooms(ipcz_world *world) {
+    ipcz_portal left = ipcz_first(0, 1, 2), right = ipcz_first(1, 0, 2), portals[IPCZ_MAX_PORTALS];
+    uint64_t number = 77, acts;
+    uint8_t bytes[IPCZ_MAX_BYTES];
+    size_t size = 0, count = 0;
+    bool quiet;
+    EXPECT(put(world, 0, left, "x"), IPCZ_OK);
+    EXPECT(ipcz_settle(world, 1000, &acts, &quiet), IPCZ_OK);
+    EXPECT(ipcz_get(world, 1, right, bytes, IPCZ_MAX_BYTES - 1, &size, portals, IPCZ_MAX_PORTALS, &count, &number), IPCZ_TOO_SMALL);
+    HOLDS(size == IPCZ_MAX_BYTES && count == IPCZ_MAX_PORTALS && number == 77);
+    EXPECT(ipcz_get(world, 1, right, bytes, IPCZ_MAX_BYTES, &size, portals, IPCZ_MAX_PORTALS - 1, &count, &number), IPCZ_TOO_SMALL);
+    EXPECT(ipcz_get(world, 1, right, bytes, IPCZ_MAX_BYTES, &size, portals, IPCZ_MAX_PORTALS, &count, &number), IPCZ_OK);
+    HOLDS(size == 1 && bytes[0] == 'x' && count == 0);
+    number = 77;
+    EXPECT(ipcz_get(world, 1, right, bytes, IPCZ_MAX_BYTES, &size, portals, IPCZ_MAX_PORTALS, &count, &number), IPCZ_EMPTY);
+    HOLDS(size == 1 && count == 0 && number == 77);
+    return true;
+}
+
+static bool refusals(ipcz_world *world) {
+    static const uint8_t zeros[IPCZ_MAX_BYTES + 1];
+    ipcz_portal left = ipcz_first(0, 1, 2), right = ipcz_first(1, 0, 2), twice[2] = { left, left }, first, second;
+    uint64_t number, word;
+    uint8_t node;
+    EXPECT(ipcz_put(world, 0, left, zeros, sizeof zeros, NULL, 0, &number), IPCZ_TOO_MANY);
+    EXPECT(ipcz_put(world, 0, left, zeros, 1, NULL, 0, &number), IPCZ_BAD_DATA);
+    EXPECT(ipcz_put(world, 1, left, NULL, 0, NULL, 0, &number), IPCZ_STRANGER);
+    EXPECT(ipcz_put(world, 0, left, NULL, 0, &left, 1, &number), IPCZ_SELF_ATTACH);
+    EXPECT(ipcz_put(world, 0, left, NULL, 0, &right, 1, &number), IPCZ_PEER_ATTACH);
+    EXPECT(ipcz_open(world, 0, &first, &second), IPCZ_OK);
+    EXPECT(ipcz_put(world, 0, first, NULL, 0, twice, 2, &number), IPCZ_STRANGER);
+    EXPECT(ipcz_close(world, 1, first), IPCZ_STRANGER);
+    EXPECT(ipcz_turn(world, 2), IPCZ_STRANGER);
+    while (ipcz_open(world, 1, &first, &second) == IPCZ_OK) continue;
+    EXPECT(ipcz_open(world, 1, &first, &second), IPCZ_NO_WORD);
+    HOLDS(ipcz_word(world, 7, &word) && !ipcz_word(world, 8, &word) && ipcz_claimed(world) == 8);
+    HOLDS(!ipcz_holder(world, (ipcz_portal){ 999, false }, &node));
+    return true;
+}
+
+/* A handle of no world, and limits. */
+static bool handles(void) {
+    ipcz_world world = IPCZ_WORLD_INIT;
+    ipcz_portal left = ipcz_first(0, 1, 2);
+    uint64_t number;
+    uint8_t node;
+    EXPECT(put(&world, 0, left, "x"), IPCZ_NOT_CREATED);
+    HOLDS(ipcz_claimed(&world) == 0 && !ipcz_word(&world, 0, &number) && !ipcz_holder(&world, left, &node));
+    ipcz_destroy(&world);
+    EXPECT(ipcz_create(0, 8, &world), IPCZ_TOO_MANY);
+    EXPECT(ipcz_create(9, 64, &world), IPCZ_TOO_MANY);
+    EXPECT(ipcz_create(3, 2, &world), IPCZ_TOO_MANY);
+    EXPECT(ipcz_create(2, 4097, &world), IPCZ_TOO_MANY);
+    EXPECT(ipcz_create(8, 28, &world), IPCZ_OK);
+    EXPECT(ipcz_create(2, 8, &world), IPCZ_ALREADY_CREATED);
+    for (uint8_t i = 0; i < 8; i++)
+        for (uint8_t j = 0; j < 8; j++)
+            if (i != j) HOLDS(ipcz_holder(&world, ipcz_first(i, j, 8), &node) && node == i);
+    ipcz_destroy(&world);
+    ipcz_destroy(&world);
+    EXPECT(ipcz_turn(&world, 0), IPCZ_NOT_CREATED);
+    return true;
+}
+
+int main(void) {
+    ipcz_world world = IPCZ_WORLD_INIT;
+    if (ipcz_create(2, 8, &world)) return 1;
+    bool well = travels(&world) && small_rooms(&world) && refusals(&world) && handles();
+    printf("%" PRIu32 " words used\n", ipcz_claimed(&world));
+    ipcz_destroy(&world);
+    for (ipcz_status status = 0; status <= 14; status++) printf("%" PRIu32 " %s\n", status, ipcz_status_name(status));
+    printf("%s\n", well ? "all as expected" : "failed");
+    return well ? 0 : 1;
+}

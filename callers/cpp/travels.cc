@@ -1,0 +1,50 @@
+// A portal travels from node 0 to node 1, through the header for C++.
+#include "ipcz_portals.hpp"
+
+#include <iostream>
+
+namespace {
+
+const ipcz::Portal left = ipcz_first(0, 1, 2), right = ipcz_first(1, 0, 2);
+
+// A world in which one portal of a fresh pair has been sent from node 0 to node 1; the one that was kept is written.
+ipcz::World with_sent(ipcz::Portal &kept) {
+    ipcz::World world(2, 8);
+    const auto pair = world.open(0);
+    kept = pair.first;
+    world.put(0, left, "a portal", {pair.second});
+    return world;
+}
+
+} // namespace
+
+int main() {
+    ipcz::Portal kept{};
+    ipcz::World world = with_sent(kept);
+    ipcz::Parcel got{};
+    std::cout << "before: " << world.get(1, right, got) << '\n';
+    const auto settled = world.settle(1000);
+    std::cout << "quiet " << settled.quiet << " after " << settled.acts << " acts\n";
+    if (!world.get(1, right, got)) return 1;
+    std::cout << got.bytes << ", " << got.portals.size() << " with it\n";
+    const auto sent = got.portals.at(0);
+    world.put(0, kept, "over it");
+    world.settle(1000);
+    if (!world.get(1, sent, got)) return 1;
+    std::cout << got.number << ": " << got.bytes << '\n';
+    try {
+        world.put(0, sent, "");
+    } catch (const ipcz::Refused &why) {
+        std::cout << "refused " << why.status() << ", " << why.what() << '\n';
+    }
+    ipcz::World other = std::move(world);
+    std::uint8_t node = 9;
+    std::cout << "moved: " << world.claimed() << " and " << other.claimed() << " words, held by node ";
+    std::cout << (other.holder(sent, node) ? int(node) : -1) << '\n';
+    try {
+        ipcz::World none(9, 64);
+    } catch (const ipcz::Refused &why) {
+        std::cout << why.what() << '\n';
+    }
+    return 0;
+}

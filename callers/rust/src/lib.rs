@@ -1,0 +1,165 @@
+//! Safe Rust over the static library `ipcz_portals`: a world of nodes that exchange parcels through portals.
+//!
+//! What the library asks of its callers (`ipcz_portals.h`, "What the caller upholds") is kept here by types: a `World` has a handle that
+//! no other one has, each call takes `&mut self`, references aren't null, and slices have their lengths.
+
+mod raw;
+
+use std::fmt;
+
+pub use raw::Portal;
+
+const MAX_BYTES: usize = 256;
+const MAX_PORTALS: usize = 8;
+const NOWHERE: Portal = Portal { pair: 0, side_b: false };
+
+/// Why a call was refused. A refused call changes nothing.
+#[derive(Clone, Copy, Debug, PartialEq, Eq)]
+#[non_exhaustive]
+pub enum Refused {
+    OutOfMemory,
+    Empty,
+    PeerClosed,
+    NoWord,
+    SelfAttach,
+    PeerAttach,
+    Stranger,
+    NumbersEnd,
+    BadData,
+    TooMany,
+    /// A status that these calls don't answer.
+    Other(u32),
+}
+
+impl Refused {
+    fn of(status: u32) -> Refused {
+        match status {
+            1 => Refused::OutOfMemory,
+            2 => Refused::Empty,
+            3 => Refused::PeerClosed,
+            4 => Refused::NoWord,
+            5 => Refused::SelfAttach,
+            6 => Refused::PeerAttach,
+            7 => Refused::Stranger,
+            8 => Refused::NumbersEnd,
+            9 => Refused::BadData,
+            10 => Refused::TooMany,
+            other => Refused::Other(other),
+        }
+    }
+}
+
+impl fmt::Display for Refused {
+    fn fmt(&self, f: &mut fmt::Formatter<'_>) -> fmt::Result {
+        fmt::Debug::fmt(self, f)
+    }
+}
+
+impl std::error::Error for Refused {}
+
+/// A parcel that was got.
+#[derive(Clone, Debug, PartialEq, Eq)]
+pub struct Parcel {
+    pub number: u64,
+    pub bytes: Vec<u8>,
+    pub portals: Vec<Portal>,
+}
+
+/// What a settle came to.
+#[derive(Clone, Copy, Debug, PartialEq, Eq)]
+pub struct Settled {
+    pub acts: u64,
+    pub quiet: bool,
+}
+
+fn answer(status: u32) -> Result<(), Refused> {
+    if status == 0 { Ok(()) } else { Err(Refused::of(status)) }
+}
+
+/// The portal that a node has from the start of the pair that it shares with another; both are below `nodes`, and not the same.
+pub fn first_portal(node: u8, other: u8, nodes: u8) -> Portal {
+    let (low, high) = (u32::from(node.min(other)), u32::from(node.max(other)));
+    Portal { pair: low * (2 * u32::from(nodes) - low - 1) / 2 + (high - low - 1), side_b: node > other }
+}
+
+/// A world of nodes.
+pub struct World(raw::Handle);
+
+// SAFETY: the library proves that its handle may move to another thread. A `World` isn't `Sync`, and no call takes it by `&`.
+unsafe impl Send for World {}
+
+// SAFETY, of each call below: the handle was made EMPTY and is written by the library alone, `&mut self` is alone with it, and what else is
+// pointed to lives through the call, lies apart, and isn't null.
+impl World {
+    /// A world of 1 to 8 nodes, and of at least a link word for each two of them and at most 4096, else `TooMany`.
+    pub fn new(nodes: u8, words: u32) -> Result<World, Refused> {
+        let mut world = World(raw::Handle::EMPTY);
+        answer(unsafe { raw::ipcz_create(nodes, words, &mut world.0) })?;
+        Ok(world)
+    }
+
+    pub fn open(&mut self, node: u8) -> Result<(Portal, Portal), Refused> {
+        let (mut first, mut second) = (NOWHERE, NOWHERE);
+        answer(unsafe { raw::ipcz_open(&mut self.0, node, &mut first, &mut second) })?;
+        Ok((first, second))
+    }
+
+    pub fn put(&mut self, node: u8, at: Portal, bytes: &[u8], portals: &[Portal]) -> Result<u64, Refused> {
+        let mut number = 0;
+        answer(unsafe {
+            raw::ipcz_put_parcel(&mut self.0, node, at, bytes.as_ptr(), bytes.len(), portals.as_ptr(), portals.len(), &mut number)
+        })?;
+        Ok(number)
+    }
+
+    pub fn get(&mut self, node: u8, at: Portal) -> Result<Parcel, Refused> {
+        let (mut bytes, mut portals, mut size, mut count, mut number) = ([0; MAX_BYTES], [NOWHERE; MAX_PORTALS], 0, 0, 0);
+        answer(unsafe {
+            raw::ipcz_get(
+                &mut self.0,
+                node,
+                at,
+                bytes.as_mut_ptr(),
+                MAX_BYTES,
+                &mut size,
+                portals.as_mut_ptr(),
+                MAX_PORTALS,
+                &mut count,
+                &mut number,
+            )
+        })?;
+        Ok(Parcel { number, bytes: bytes[..size].to_vec(), portals: portals[..count].to_vec() })
+    }
+
+    pub fn close(&mut self, node: u8, at: Portal) -> Result<(), Refused> {
+        answer(unsafe { raw::ipcz_close(&mut self.0, node, at) })
+    }
+
+    pub fn turn(&mut self, node: u8) -> Result<(), Refused> {
+        answer(unsafe { raw::ipcz_turn(&mut self.0, node) })
+    }
+
+    /// Has the nodes take turns until none has an act, or `limit` acts were taken.
+    pub fn settle(&mut self, limit: u64) -> Result<Settled, Refused> {
+        let (mut acts, mut quiet) = (0, false);
+        answer(unsafe { raw::ipcz_settle(&mut self.0, limit, &mut acts, &mut quiet) })?;
+        Ok(Settled { acts, quiet })
+    }
+
+    /// How many link words were used.
+    pub fn claimed(&mut self) -> u32 {
+        unsafe { raw::ipcz_claimed(&mut self.0) }
+    }
+
+    /// The node that may use a portal now.
+    pub fn holder_of(&mut self, portal: Portal) -> Option<u8> {
+        let mut node = 0;
+        unsafe { raw::ipcz_holder(&mut self.0, portal, &mut node) }.then_some(node)
+    }
+}
+
+impl Drop for World {
+    fn drop(&mut self) {
+        unsafe { raw::ipcz_destroy(&mut self.0) }
+    }
+}

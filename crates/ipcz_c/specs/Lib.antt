@@ -1,0 +1,5 @@
+pub mod Calls
+pub mod Held
+pub mod Named
+pub mod Statuses
+pub mod Told

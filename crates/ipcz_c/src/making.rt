@@ -1,0 +1,48 @@
+//! What calls make of what C gives: a world, and the lists of a parcel.
+ghost use Rattle.std.specs.Prelude.{◌≡◌, IfOk, IfErr, true};
+ghost use Rattle.ipcz_world.specs.World.{new_world};
+ghost use Rattle.ipcz_c.specs.Named.{ends_of};
+ghost use Rattle.ipcz_c.specs.Calls.{is_within};
+
+use crate::portal::{Portal, ends_of};
+use ipcz_base::{Bytes, Ends, Refusal};
+use ipcz_node::first_pair_count;
+use ipcz_world::World;
+use std::alloc::{AllocError, Global};
+
+// Whether a world may have so many nodes and words.
+pub(crate) fn are_within(nodes: u8, words: u32) -> bool
+    ensures { result ≡ is_within nodes words }
+{
+    1 <= nodes && nodes <= 8 && first_pair_count(nodes) <= words && words <= 4096
+}
+
+// A new world in a box.
+pub(crate) fn boxed_world(
+    alloc: Global,
+    nodes: u8,
+    words: u32,
+) -> Result<Box<World, Global>, Refusal>
+    requires { is_within nodes words ≡ true }
+    ensures world { IfOk result (λ w. w.value ≡ new_world nodes words) }
+    ensures why { IfErr result (λ e. e ≡ Refusal.OutOfMemory) }
+{
+    let world = World::new(alloc, nodes, words)?;
+    match Box::new(alloc, world) {
+        Ok(world) => Ok(world),
+        Err(_) => Err(Refusal::OutOfMemory),
+    }
+}
+
+// The lists of a parcel.
+pub(crate) fn lists_of(
+    alloc: Global,
+    bytes: &[u8],
+    portals: &[Portal],
+) -> Result<(Bytes, Ends), AllocError>
+    ensures { IfOk result (λ r. (r.0 ≡ bytes.now) × (r.1 ≡ ends_of portals.now)) }
+{
+    let bytes = Vec::from_slice(alloc, bytes)?;
+    let ends = ends_of(alloc, portals)?;
+    Ok((Bytes::from_vec(bytes), ends))
+}

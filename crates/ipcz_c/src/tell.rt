@@ -1,0 +1,97 @@
+//! What a reply tells C beside its status, written to the places that C gave for it.
+ghost use Rattle.ipcz_c.specs.Told.{room_of, AreOpened, IsPut, AreAtFront, AreNamedAtFront, IsGot, IsSettled};
+
+use crate::portal::{Portal, portal_of};
+use crate::status::refused;
+use ipcz_base::{End, Refusal};
+use ipcz_world::{Reply, Settled};
+
+// The portals that were opened.
+#[tactic(auto, unfolding(crate::specs::Told::AreOpened))]
+pub(crate) fn tell_opened(reply: &Reply, first: &mut Portal, second: &mut Portal)
+    ensures { AreOpened reply.now first.old second.old first.new second.new }
+{
+    if let Reply::Opened(a, b) = reply {
+        *first = portal_of(*a);
+        *second = portal_of(*b);
+    }
+}
+
+// The number of what was put.
+#[tactic(auto, unfolding(crate::specs::Told::IsPut))]
+pub(crate) fn tell_put(reply: &Reply, number: &mut u64)
+    ensures { IsPut reply.now number.old number.new }
+{
+    if let Reply::Put(put) = reply {
+        *number = *put;
+    }
+}
+
+// Copies bytes to the front of a room, where they fit.
+fn tell_bytes(bytes: &[u8], room: &mut [u8])
+    ensures { AreAtFront bytes.now room.old room.new }
+{
+    let size = bytes.len();
+    if size <= room.len() {
+        room[..size].copy_from_slice(bytes);
+    }
+}
+
+// Names ends at the front of a room, where they fit.
+fn tell_portals(ends: &[End], room: &mut [Portal])
+    ensures { AreNamedAtFront ends.now room.old room.new }
+{
+    if ends.len() <= room.len() {
+        for at in 0..ends.len() {
+            room[at] = portal_of(ends[at]);
+        }
+    }
+}
+
+// The parcel that was got.
+#[tactic(auto, unfolding(crate::specs::Told::IsGot))]
+pub(crate) fn tell_got(
+    reply: &Reply,
+    bytes: &mut [u8],
+    size: &mut usize,
+    portals: &mut [Portal],
+    count: &mut usize,
+    number: &mut u64,
+)
+    ensures { IsGot reply.now
+        (room_of bytes.old size.old portals.old count.old number.old)
+        (room_of bytes.new size.new portals.new count.new number.new) }
+{
+    if let Reply::Got(got, parcel) = reply {
+        *number = *got;
+        *size = parcel.bytes.len();
+        *count = parcel.ends.len();
+        tell_bytes(parcel.bytes.as_slice(), bytes);
+        tell_portals(parcel.ends.as_slice(), portals);
+    }
+}
+
+// What a settle came to: its status is answered.
+#[tactic(auto, unfolding(crate::specs::Told::IsSettled))]
+pub(crate) fn tell_settled(
+    limit: u64,
+    answer: &Result<Settled, Refusal>,
+    acts: &mut u64,
+    quiet: &mut bool,
+) -> u32
+    ensures { IsSettled limit answer.now result acts.old quiet.old acts.new quiet.new }
+{
+    match answer {
+        Ok(Settled::Settled { after }) => {
+            *acts = *after;
+            *quiet = true;
+            0
+        }
+        Ok(Settled::Unsettled) => {
+            *acts = limit;
+            *quiet = false;
+            0
+        }
+        Err(why) => refused(*why),
+    }
+}

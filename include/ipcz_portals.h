@@ -1,0 +1,193 @@
+/* ipcz_portals.h: a world of nodes in one process, which exchange parcels through portals.
+ *
+ * A pair of portals is a way for parcels. What is put at one portal of a pair is got at the other, each parcel once and in order, also
+ * while portals travel: a parcel has bytes, and portals of its sender, which are the receiver's once the parcel is got.
+ *
+ * Nodes are numbered from 0. Each two of them share a pair from the start (ipcz_first), and a node opens more (ipcz_open). Every call names
+ * the node that it is made on, and a node acts on its own portals alone.
+ *
+ * Nothing runs between calls: there is no thread, no lock, no callback and no state but the world's. What was put moves on only in
+ * ipcz_turn and ipcz_settle, so a get finds nothing before these.
+ *
+ * MEMORY. The world owns what was put into it until it is got, and all else that its nodes keep, by malloc, realloc and free of the
+ * program; ipcz_destroy frees all of it. Everything that a pointer of a call points to is the caller's: it is read or written during the
+ * call, and not kept.
+ *
+ * THREADS. Calls on one world come one at a time. They may come from several threads, if the program puts them in order: by a mutex round
+ * each call, by a thread's start or join, or by a sequentially consistent atomic. Calls on different worlds may run at once.
+ *
+ * WHAT THE CALLER UPHOLDS. The library is proved for callers that keep these, and tests none of them; what follows otherwise is undefined.
+ *  - An ipcz_world is IPCZ_WORLD_INIT before its first call. Later its fields are written by the library alone, and no copy of it is used:
+ *    whoever moves one sets the old one to IPCZ_WORLD_INIT.
+ *  - No pointer is null, but for those of ipcz_put beside a count of 0. What a call writes (by a pointer that isn't const) lies apart from
+ *    all else that the call is given, and arrays are as long as is said beside them. A bool is true or false.
+ *  - malloc, realloc and free belong together, and align a block of so many bytes to each power of two up to 16 that divides this number.
+ *  - No call is made in a signal handler, nor in the child of a fork in a process with threads.
+ */
+#ifndef IPCZ_PORTALS_H
+#define IPCZ_PORTALS_H
+
+#include <stdbool.h>
+#include <stddef.h>
+#include <stdint.h>
+
+#ifdef __cplusplus
+extern "C" {
+#endif
+
+/* A handle: of a world, or of none. Its fields are not for the caller. */
+typedef struct ipcz_world {
+    void *at;
+    bool has_world;
+} ipcz_world;
+
+/* A handle of no world. Every call on such a handle is answered (IPCZ_NOT_CREATED, 0 or false), and does nothing. */
+#define IPCZ_WORLD_INIT { 0, false }
+
+/* A portal: an end of a pair, of side A (side_b is false) or of side B. It is a name, and may be copied and compared. Which node may use
+ * it is kept by the world. */
+typedef struct ipcz_portal {
+    uint32_t pair;
+    bool side_b;
+} ipcz_portal;
+
+/* What a call came to. A call that isn't IPCZ_OK changes nothing, and writes nothing but where that is said. (A settle that is refused has
+ * taken the turns before the one that is.) */
+typedef uint32_t ipcz_status;
+enum {
+    IPCZ_OK = 0,
+    IPCZ_OUT_OF_MEMORY = 1, /* malloc or realloc gave no memory */
+    IPCZ_EMPTY = 2,         /* no parcel has come yet */
+    IPCZ_PEER_CLOSED = 3,   /* the other portal of the pair is closed, and what was put at it before is got */
+    IPCZ_NO_WORD = 4,       /* each link word of the world is used, so no pair can be opened */
+    IPCZ_SELF_ATTACH = 5,   /* a portal can't travel through itself */
+    IPCZ_PEER_ATTACH = 6,   /* nor to the other portal of its pair */
+    IPCZ_STRANGER = 7,      /* there is no such node, or the portal isn't this node's, or is named twice */
+    IPCZ_NUMBERS_END = 8,   /* no number of 64 bits is left for a parcel or a router */
+    IPCZ_BAD_DATA = 9,      /* a byte isn't from 0x20 to 0x7E */
+    IPCZ_TOO_MANY = 10,     /* too many bytes, portals, nodes or words, or too few */
+    IPCZ_RACED = 11,        /* 11 to 14 are not answered by this library */
+    IPCZ_OCCUPIED = 12,
+    IPCZ_PASSED = 13,
+    IPCZ_FORGED = 14,
+    IPCZ_TOO_SMALL = 100,   /* there is too little room for a parcel */
+    IPCZ_NOT_CREATED = 101, /* the handle has no world */
+    IPCZ_ALREADY_CREATED = 102 /* the handle has a world already */
+};
+
+#define IPCZ_MAX_NODES 8
+#define IPCZ_MAX_WORDS 4096
+#define IPCZ_MAX_BYTES 256  /* of a parcel */
+#define IPCZ_MAX_PORTALS 8  /* of a parcel */
+
+/* Makes a world.
+ *   nodes  how many nodes: 1 to IPCZ_MAX_NODES
+ *   words  how many link words: at least nodes * (nodes - 1) / 2, at most IPCZ_MAX_WORDS. Each first pair has one from the start, and each
+ *          open and each bypass of a portal that has travelled takes one, which isn't used again. Without one opens are refused, and
+ *          portals work as before but each on the way that it has
+ *   world  a handle of no world; it has the new one if the status is IPCZ_OK, and else still none
+ * IPCZ_ALREADY_CREATED, IPCZ_TOO_MANY, IPCZ_OUT_OF_MEMORY. */
+ipcz_status ipcz_create(uint8_t nodes, uint32_t words, ipcz_world *world);
+
+/* Frees the world with all that is in it, if the handle has one. The handle has none then, and may be given to ipcz_create again. */
+void ipcz_destroy(ipcz_world *world);
+
+/* Opens a pair. Both portals are the node's at first.
+ *   first, second  where the portals of side A and side B are written
+ * IPCZ_STRANGER, IPCZ_NO_WORD, IPCZ_NUMBERS_END, IPCZ_OUT_OF_MEMORY. */
+ipcz_status ipcz_open(ipcz_world *world, uint8_t node, ipcz_portal *first, ipcz_portal *second);
+
+/* Puts a parcel, with pointers that are not null: what ipcz_put calls, and what other languages may call. */
+ipcz_status ipcz_put_parcel(ipcz_world *world, uint8_t node, ipcz_portal at, const uint8_t *bytes, size_t size,
+                            const ipcz_portal *portals, size_t count, uint64_t *number);
+
+/* Gets the next parcel that has come to a portal.
+ *   at           a portal of the node
+ *   bytes, room  where the bytes are written, and how many may be: at least IPCZ_MAX_BYTES
+ *   size         how many bytes the parcel has
+ *   portals, portal_room  where its portals are written, and how many may be: at least IPCZ_MAX_PORTALS. They are the node's now
+ *   count        how many portals it has
+ *   number       how many parcels were got at this portal before it
+ * IPCZ_TOO_SMALL: nothing is taken, and size and count tell how much room is enough for every parcel. It is answered without a look at
+ * what has come.
+ * IPCZ_STRANGER, IPCZ_EMPTY, IPCZ_PEER_CLOSED. */
+ipcz_status ipcz_get(ipcz_world *world, uint8_t node, ipcz_portal at, uint8_t *bytes, size_t room, size_t *size,
+                     ipcz_portal *portals, size_t portal_room, size_t *count, uint64_t *number);
+
+/* Closes a portal of the node. What was put at it still comes to the other one; what comes to it is discarded.
+ * IPCZ_STRANGER, IPCZ_OUT_OF_MEMORY. */
+ipcz_status ipcz_close(ipcz_world *world, uint8_t node, ipcz_portal at);
+
+/* Takes the node's first act that is possible, if there is one: a message is sent, taken or passed on, say.
+ * IPCZ_STRANGER, IPCZ_NUMBERS_END, IPCZ_OUT_OF_MEMORY. */
+ipcz_status ipcz_turn(ipcz_world *world, uint8_t node);
+
+/* Has the nodes take turns until none has an act, or limit acts were taken. With a limit of 0 it only looks.
+ *   acts   how many acts were taken
+ *   quiet  whether no node has an act any more: then all that was put has come to where it can be got
+ * IPCZ_NUMBERS_END, IPCZ_OUT_OF_MEMORY: the turns before it stand; acts and quiet are not written. */
+ipcz_status ipcz_settle(ipcz_world *world, uint64_t limit, uint64_t *acts, bool *quiet);
+
+/* How many link words were used. */
+uint32_t ipcz_claimed(ipcz_world *world);
+
+/* Whether link word i was used; then its number is written. For tools: the repository's docs/PROTOCOL.md, "Link words", reads it. */
+bool ipcz_word(ipcz_world *world, uint32_t i, uint64_t *word);
+
+/* Whether some node may use a portal now; then that node is written. While a portal travels, and once it is closed, none may. */
+bool ipcz_holder(ipcz_world *world, ipcz_portal portal, uint8_t *node);
+
+/* Puts a parcel.
+ *   at             the portal of the node at which it is put
+ *   bytes, size    its bytes, each from 0x20 to 0x7E, at most IPCZ_MAX_BYTES; they are copied. bytes may be null if size is 0
+ *   portals, count its portals, at most IPCZ_MAX_PORTALS, all of the node, none twice; with IPCZ_OK they are the node's no more. portals
+ *                  may be null if count is 0
+ *   number         how many parcels were put at this portal before it
+ * IPCZ_OUT_OF_MEMORY, IPCZ_STRANGER, IPCZ_TOO_MANY, IPCZ_BAD_DATA, IPCZ_SELF_ATTACH, IPCZ_PEER_ATTACH, IPCZ_PEER_CLOSED (once
+ * the news has come), IPCZ_NUMBERS_END. */
+static inline ipcz_status ipcz_put(ipcz_world *world, uint8_t node, ipcz_portal at, const void *bytes, size_t size,
+                                   const ipcz_portal *portals, size_t count, uint64_t *number) {
+    static const ipcz_portal nothing = { 0, false };
+    return ipcz_put_parcel(world, node, at, size ? (const uint8_t *)bytes : (const uint8_t *)&nothing, size,
+                           count ? portals : &nothing, count, number);
+}
+
+/* The portal that a node has from the start of the pair that it shares with another; both are below nodes, and not the same. */
+static inline ipcz_portal ipcz_first(uint8_t node, uint8_t other, uint8_t nodes) {
+    uint32_t low = node < other ? node : other, high = node < other ? other : node;
+    ipcz_portal portal;
+    portal.pair = low * (2u * nodes - low - 1u) / 2u + (high - low - 1u);
+    portal.side_b = node > other;
+    return portal;
+}
+
+/* The name of a status, which is not to be freed; "Unknown" if it is none. */
+static inline const char *ipcz_status_name(ipcz_status status) {
+    switch (status) {
+    case IPCZ_OK: return "Ok";
+    case IPCZ_OUT_OF_MEMORY: return "OutOfMemory";
+    case IPCZ_EMPTY: return "Empty";
+    case IPCZ_PEER_CLOSED: return "PeerClosed";
+    case IPCZ_NO_WORD: return "NoWord";
+    case IPCZ_SELF_ATTACH: return "SelfAttach";
+    case IPCZ_PEER_ATTACH: return "PeerAttach";
+    case IPCZ_STRANGER: return "Stranger";
+    case IPCZ_NUMBERS_END: return "NumbersEnd";
+    case IPCZ_BAD_DATA: return "BadData";
+    case IPCZ_TOO_MANY: return "TooMany";
+    case IPCZ_RACED: return "Raced";
+    case IPCZ_OCCUPIED: return "Occupied";
+    case IPCZ_PASSED: return "Passed";
+    case IPCZ_FORGED: return "Forged";
+    case IPCZ_TOO_SMALL: return "TooSmall";
+    case IPCZ_NOT_CREATED: return "NotCreated";
+    case IPCZ_ALREADY_CREATED: return "AlreadyCreated";
+    default: return "Unknown";
+    }
+}
+
+#ifdef __cplusplus
+}
+#endif
+
+#endif

@@ -1,0 +1,107 @@
+// ipcz_portals.hpp: ipcz_portals.h for C++11 and later, with a world that frees itself. What that header says holds here too.
+#ifndef IPCZ_PORTALS_HPP
+#define IPCZ_PORTALS_HPP
+
+#include "ipcz_portals.h"
+
+#include <cstdint>
+#include <stdexcept>
+#include <string>
+#include <utility>
+#include <vector>
+
+namespace ipcz {
+
+using Portal = ::ipcz_portal;
+
+// A call that was refused: its status, and the status's name as the text.
+class Refused : public std::runtime_error {
+  public:
+    explicit Refused(ipcz_status status) : std::runtime_error(::ipcz_status_name(status)), status_(status) {}
+
+    ipcz_status status() const noexcept { return status_; }
+
+  private:
+    ipcz_status status_;
+};
+
+struct Parcel {
+    std::uint64_t number;
+    std::string bytes;
+    std::vector<Portal> portals;
+};
+
+struct Settled {
+    std::uint64_t acts;
+    bool quiet;
+};
+
+// A world, which is freed with it. It can be moved, and a world that was moved from refuses each call. A call that is refused throws Refused.
+class World {
+  public:
+    World(std::uint8_t nodes, std::uint32_t words) { check(::ipcz_create(nodes, words, &world_)); }
+
+    World(World &&other) noexcept { std::swap(world_, other.world_); }
+
+    World &operator=(World &&other) noexcept {
+        std::swap(world_, other.world_);
+        return *this;
+    }
+
+    World(const World &) = delete;
+    World &operator=(const World &) = delete;
+
+    ~World() { ::ipcz_destroy(&world_); }
+
+    std::pair<Portal, Portal> open(std::uint8_t node) {
+        std::pair<Portal, Portal> made{};
+        check(::ipcz_open(&world_, node, &made.first, &made.second));
+        return made;
+    }
+
+    std::uint64_t put(std::uint8_t node, Portal at, const std::string &bytes, const std::vector<Portal> &portals = {}) {
+        std::uint64_t number = 0;
+        check(::ipcz_put(&world_, node, at, bytes.data(), bytes.size(), portals.data(), portals.size(), &number));
+        return number;
+    }
+
+    // Whether a parcel had come.
+    bool get(std::uint8_t node, Portal at, Parcel &parcel) {
+        std::uint8_t bytes[IPCZ_MAX_BYTES];
+        Portal portals[IPCZ_MAX_PORTALS];
+        std::size_t size = 0, count = 0;
+        const ipcz_status status =
+            ::ipcz_get(&world_, node, at, bytes, sizeof bytes, &size, portals, IPCZ_MAX_PORTALS, &count, &parcel.number);
+        if (status == IPCZ_EMPTY) return false;
+        check(status);
+        parcel.bytes.assign(bytes, bytes + size);
+        parcel.portals.assign(portals, portals + count);
+        return true;
+    }
+
+    void close(std::uint8_t node, Portal at) { check(::ipcz_close(&world_, node, at)); }
+
+    void turn(std::uint8_t node) { check(::ipcz_turn(&world_, node)); }
+
+    Settled settle(std::uint64_t limit) {
+        Settled settled{};
+        check(::ipcz_settle(&world_, limit, &settled.acts, &settled.quiet));
+        return settled;
+    }
+
+    std::uint32_t claimed() { return ::ipcz_claimed(&world_); }
+
+    // Whether some node may use the portal; then it is written.
+    bool holder(Portal portal, std::uint8_t &node) { return ::ipcz_holder(&world_, portal, &node); }
+
+  private:
+    static void check(ipcz_status status) {
+        if (status != IPCZ_OK) throw Refused(status);
+    }
+
+    ::ipcz_world world_ = IPCZ_WORLD_INIT;
+};
+
+} // namespace ipcz
+
+#endif

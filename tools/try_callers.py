@@ -1,0 +1,140 @@
+"""Builds and runs the callers of the static library, in C, C++ and Rust, and prints what isn't as it must be.
+
+    python3 tools/try_callers.py               over the archive that `rt lib` builds
+    python3 tools/try_callers.py --after-ci    over the libraries that `rt ci` left here, as .ci/run does
+    python3 tools/try_callers.py --all         fails where a compiler or valgrind isn't on the machine
+
+The library is installed in a folder of its own by `tools/install_c.py`, and each caller is built from there, by the flags that pkg-config
+tells. What a caller of `callers/c` and `callers/cpp` prints is compared with the file beside it that ends in `.out`. It runs again under
+valgrind, which must find no error, and no memory that isn't freed, and one with threads under helgrind, which must find no race. The crate of `callers/rust` has its tests run. A caller whose compiler isn't
+on the machine is left out. The statuses of the header must be those of `Refusal`, and the program in docs/C.md one of these callers.
+"""
+import argparse
+import os
+import pathlib
+import re
+import shutil
+import subprocess
+import sys
+import tempfile
+
+import install_c
+
+TOP = pathlib.Path(__file__).resolve().parent.parent
+CALLERS = TOP / "callers"
+VALGRIND = ["valgrind", "--quiet", "--leak-check=full", "--show-leak-kinds=all", "--errors-for-leak-kinds=all", "--error-exitcode=99"]
+HELGRIND = ["valgrind", "--quiet", "--tool=helgrind", "--error-exitcode=99"]
+STRICT = ["-O2", "-Wall", "-Wextra", "-Wconversion", "-pedantic", "-Werror"]
+MOST_SECONDS = 600
+# Callers that are built and not run: what they print is times.
+MEASURES = {"measure"}
+
+
+class Callers:
+    """The callers, over a library that is installed under a prefix: what was wrong, and what was left out."""
+
+    def __init__(self, prefix: pathlib.Path) -> None:
+        self.prefix = prefix
+        self.wrong: list[str] = []
+        self.lacking: set[str] = set()
+
+    def has(self, tool: str) -> bool:
+        """Whether a program is on the machine; if it isn't, what wants it is left out."""
+        if shutil.which(tool):
+            return True
+        self.lacking.add(tool)
+        return False
+
+    def run(self, what: str, command: list[str], env: dict[str, str] | None = None, cwd: pathlib.Path | None = None) -> str | None:
+        """What a command prints, or none where it fails."""
+        try:
+            done = subprocess.run(
+                command, stdin=subprocess.DEVNULL, stdout=subprocess.PIPE, stderr=subprocess.STDOUT, text=True, errors="replace",
+                env={**os.environ, **(env or {})}, cwd=cwd, timeout=MOST_SECONDS,
+            )
+        except subprocess.TimeoutExpired:
+            self.wrong.append(f"{what} had not ended after {MOST_SECONDS} seconds")
+            return None
+        if done.returncode:
+            self.wrong.append(f"{what} ended with status {done.returncode}:\n{done.stdout.strip()}")
+            return None
+        return done.stdout
+
+    def flags(self) -> list[str]:
+        """The flags that pkg-config tells; without it, the same."""
+        told = ["-I", f"{self.prefix}/include", f"-L{self.prefix}/lib", "-lipcz_portals"]
+        if not self.has("pkg-config"):
+            return told
+        text = self.run("pkg-config", ["pkg-config", "--cflags", "--libs", "ipcz_portals"], {"PKG_CONFIG_PATH": f"{self.prefix}/lib/pkgconfig"})
+        return told if text is None else text.split()
+
+    def compare(self, what: str, said: str | None, stored: pathlib.Path) -> None:
+        if said is not None and said != stored.read_text():
+            self.wrong.append(f"{what} printed this, which isn't what {stored.relative_to(TOP)} has:\n{said.strip()}")
+
+    def compiled(self, compiler: str, standard: str, folder: str, ending: str) -> None:
+        """Builds and runs each source of a folder beside which what it prints is stored."""
+        if not self.has(compiler):
+            return
+        flags = self.flags()
+        for source in sorted((CALLERS / folder).glob(f"*{ending}")):
+            what, program, stored = str(source.relative_to(TOP)), self.prefix / f"{folder}-{source.stem}", source.with_suffix(".out")
+            if self.run(f"{what}: {compiler}", [compiler, f"-std={standard}", *STRICT, str(source), *flags, "-lpthread", "-o", str(program)]) is None:
+                continue
+            if source.stem in MEASURES:
+                continue
+            if not stored.is_file():
+                self.wrong.append(f"{what} has no stored output")
+                continue
+            self.compare(what, self.run(what, [str(program)]), stored)
+            if self.has("valgrind"):
+                self.compare(f"{what} under valgrind", self.run(f"{what} under valgrind", [*VALGRIND, str(program)]), stored)
+                if "<pthread.h>" in source.read_text():
+                    self.compare(f"{what} under helgrind", self.run(f"{what} under helgrind", [*HELGRIND, str(program)]), stored)
+
+    def rust(self) -> None:
+        """Runs the tests of the crate."""
+        if not self.has("cargo"):
+            return
+        env = {"IPCZ_LIB": f"{self.prefix}/lib", "CARGO_TARGET_DIR": f"{self.prefix}/cargo", "RUSTFLAGS": "-D warnings"}
+        self.run("callers/rust", ["cargo", "test", "--offline", "--quiet"], env, CALLERS / "rust")
+
+    def statuses(self) -> None:
+        """Compares the header's statuses and names with those of `Refusal`."""
+        header = (TOP / "include/ipcz_portals.h").read_text()
+        refusals = dict(re.findall(r"^    (\w+) = (\d+),$", (TOP / "crates/ipcz_base/src/refusal.rt").read_text(), re.M))
+        codes = dict(re.findall(r"\b(IPCZ_\w+) = (\d+)", header))
+        names = {name: codes.get(code) for code, name in re.findall(r'case (IPCZ_\w+): return "(\w+)"', header)}
+        if not refusals or refusals != {name: code for name, code in names.items() if code is not None and 0 < int(code) < 100}:
+            self.wrong.append("the statuses of include/ipcz_portals.h aren't those of crates/ipcz_base/src/refusal.rt")
+
+    def shown(self) -> None:
+        """Compares the program that docs/C.md shows with the one that is run."""
+        if (CALLERS / "c" / "hello.c").read_text() not in (TOP / "docs/C.md").read_text():
+            self.wrong.append("docs/C.md doesn't show callers/c/hello.c")
+
+
+def main() -> None:
+    given = argparse.ArgumentParser(description=__doc__, formatter_class=argparse.RawDescriptionHelpFormatter)
+    given.add_argument("--after-ci", action="store_true", help="build over the libraries that rt ci left")
+    given.add_argument("--all", action="store_true", help="fail where a compiler or valgrind isn't on the machine")
+    asked = given.parse_args()
+    with tempfile.TemporaryDirectory(prefix="try-callers-") as room:
+        callers = Callers(pathlib.Path(room))
+        try:
+            install_c.install(callers.prefix, asked.after_ci)
+        except install_c.Fault as fault:
+            sys.exit(f"try_callers: {fault}")
+        callers.statuses()
+        callers.shown()
+        callers.compiled("cc", "gnu11", "c", ".c")
+        callers.compiled("c++", "c++11", "cpp", ".cc")
+        callers.rust()
+    if asked.all and callers.lacking:
+        callers.wrong.append(f"left out, since the machine lacks it: {', '.join(sorted(callers.lacking))}")
+    if callers.wrong:
+        sys.exit("\n".join(callers.wrong))
+
+
+if __name__ == "__main__":
+    main()
