@@ -22,4 +22,6 @@ returns-then-n-self-clause-order c =
     rw none (inl (refl, refl))
 
 pub returns-clause-step : goal.returns-clause-step
-returns-clause-step c = put-gives c.args.self.now c.put_here.new.self c.args.n _ c.put_here.result (omega (arith, c.if-n-self.false)) c.put_here.ensures
+returns-clause-step c =
+    let many : c.self.inside.count ≡ c.args.self.now.count = ap (λ (w : World). w.count) c.self.view_is in
+    put-gives c.args.self.now c.put_here.new.self c.args.n _ c.put_here.result (omega (arith, many, c.if-n-self.false)) c.put_here.ensures
