@@ -55,8 +55,9 @@ pub fn each_reply_is_plain()
 {}
 
 /// To its callers the nodes together are the machine over the books alone: whatever steps are taken from the start, and whichever possible
-/// act each turn takes, that machine allows the replies that the steps got, and its books at the end are those of the run. What is refused since
-/// callers don't hold an end, nothing has come, or words, serials or memory are missing it allows always: these aren't in the books.
+/// act each turn takes, that machine allows the replies that the steps got, and its books at the end are those of the run. What is
+/// refused since callers don't hold an end, nothing has come, or words, serials or memory are missing it allows always: these aren't in
+/// the books.
 pub fn runs_are_plain()
     ensures { RunsArePlain }
 {}
