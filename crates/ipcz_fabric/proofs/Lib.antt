@@ -3,3 +3,4 @@ pub mod Portaling
 pub mod Holding
 pub mod HubAnswers
 pub mod Locking
+pub mod Taking

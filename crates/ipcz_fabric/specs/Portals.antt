@@ -61,6 +61,15 @@ IsPut t node at bytes ends number = CellWhere t node
 abbrev pub IsRefusedPut : TableName → ℕ → End → List ℕ → List End → Refusal → Type 0
 IsRefusedPut t node at bytes ends why = CellWhere t node (λ c. IsRefusedFor (put_refusal c.part.state at bytes ends) why)
 
+-- a get at an end of a cell's node gives a parcel with its number
+pub record IsTakenHere (c : CellState) (at : End) (taken : ℕ × parcels.Parcel) : Type 0 where
+  pub allowed : get_refusal c.part.state at ≡ None
+  pub there : got_at c.part.state at ≡ Some taken
+
+-- a get at an end of a node gives a parcel with its number
+abbrev pub IsTaken : TableName → ℕ → End → ℕ × parcels.Parcel → Type 0
+IsTaken t node at taken = CellWhere t node (λ c. IsTakenHere c at taken)
+
 -- a get at an end of a cell's node gives this number, these bytes and these portals of a node
 pub record IsGotHere (c : CellState) (here : ℕ) (at : End) (number : ℕ) (bytes : List ℕ) (portals : List PortalValue) : Type 0 where
   pub parcel : parcels.Parcel

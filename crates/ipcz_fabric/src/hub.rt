@@ -15,6 +15,7 @@ use std::alloc::{AllocError, Global};
 use std::collections::VecDeque;
 use std::marker::Model;
 use std::sync::{Mutex, MutexGuard, Wait};
+use std::time::Duration;
 
 /// The cells of a table's nodes, that threads share: one lock round each cell, and no other.
 ///
@@ -225,6 +226,39 @@ impl<F: FabricName> Hub<F> {
             return turn_here(&mut self.lock(rt, node), &self.fabric);
         }
         Err(Refusal::Stranger)
+    }
+
+    /// Takes one turn of a node, as `turn`, and sleeps if it was idle: until a message is posted to the node, a message of it is handled,
+    /// a portal of it puts or closes, `notify_all` is called for it, or `limit` has passed. A sleep may also end for no reason. `Idle` says
+    /// that the last turn found nothing to do, so that another call may follow. Where a loop looks at something else besides, as a flag that
+    /// ends it, call `work_waiting`, whose gate looks at it.
+    pub fn turn_or_wait<R: Wait>(
+        &self,
+        rt: &R,
+        node: u8,
+        limit: Duration,
+    ) -> Result<Happened, Refusal>
+        ensures stranger { F.table.count ≤ node → result ≡ Err Refusal.Stranger }
+        ensures why { node < F.table.count → IfErr result IsTurnRefusal }
+        ensures answer { node < F.table.count → IsTurnAnswer F.table node result }
+    {
+        let first = self.turn(rt, node);
+        if !matches!(&first, Ok(Happened::Idle)) {
+            return first;
+        }
+        let bells = self.fabric.bells();
+        let ticket = bells.watch(node);
+        let last = self.turn(rt, node);
+        if matches!(&last, Ok(Happened::Idle)) {
+            bells.sleep(rt, node, ticket, limit);
+        }
+        last
+    }
+
+    /// Wakes all that sleep for a node: `turn_or_wait` and `work_waiting`, which then asks its gate again, and `Portal::get_timeout`, which
+    /// looks again. Where none sleeps it costs two loads.
+    pub fn notify_all(&self, node: u8) {
+        self.fabric.notify_all(node);
     }
 
     // How many nodes there are.

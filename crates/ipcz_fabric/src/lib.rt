@@ -2,11 +2,12 @@
 //! (docs/THREADS.md). What a caller needs of cells is passed on.
 #![tactic(auto)]
 
+mod deadline;
 mod hub;
 mod portal;
 mod workers;
 
 pub use hub::Hub;
-pub use ipcz_cell::{Blank, Fabric, FabricName, NodeCell, finish, start};
+pub use ipcz_cell::{Bells, Blank, Fabric, FabricName, NodeCell, Ticket, finish, start};
 pub use portal::{Got, Portal, PortalPutRefused};
-pub use workers::{Gate, Worker, run_worker, work};
+pub use workers::{Gate, Worker, run_worker, work, work_waiting};

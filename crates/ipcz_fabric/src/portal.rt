@@ -5,22 +5,25 @@ ghost use Rattle.ipcz_rule.specs.Steps.{put_part, close_part};
 ghost use Rattle.ipcz_cell.specs.Parts.{got_part};
 ghost use Rattle.ipcz_fabric.specs.Places.{IsRefusedFor};
 ghost use Rattle.ipcz_fabric.specs.Portals.{ends_of, portals_at, parcel_refusal};
-ghost use Rattle.ipcz_fabric.specs.Portals.{IsPut, IsPutRefusal, IsRefusedPut, IsGot, IsGotHere, IsGetRefusal, IsRefusedGet};
+ghost use Rattle.ipcz_fabric.specs.Portals.{IsPut, IsPutRefusal, IsRefusedPut, IsGot, IsGotHere, IsGetRefusal, IsRefusedGet, IsTaken, IsTakenHere};
 ghost use Rattle.ipcz_fabric.specs.Portals.{IsClosed, IsCloseRefusal, IsRefusedClose};
 
+use crate::deadline::Deadline;
 use crate::hub::Hub;
-use ipcz_base::{Bytes, End, Ends, Refusal};
+use ipcz_base::{Bytes, End, Ends, Parcel, Refusal};
 use ipcz_cell::{FabricName, NodeCell};
 use std::alloc::{AllocError, Global};
 use std::marker::{Model, PhantomData};
 use std::sync::Wait;
+use std::time::{Clock, Duration};
 
 // How many portals a parcel can have: no put takes more.
 const MOST_PORTALS: usize = 8;
 
 /// An end that callers of a node hold, of the table that F names. It isn't `Clone`: what has the portal has the end.
 ///
-/// One that is dropped unclosed leaves its end open: nobody can put or get there any more, and its peer isn't told.
+/// One that is dropped unclosed leaves its end open: nobody can put or get there any more, and its peer isn't told, so that a
+/// `get_timeout` there sleeps until its time is over. Give it to `close` where it isn't needed any more.
 #[derive(Drop)]
 pub struct Portal<F: FabricName> {
     node: u8,
@@ -81,6 +84,25 @@ fn add_portals<F: FabricName>(node: u8, ends: &[End], left: usize, portals: &mut
     if let [end, rest @ ..] = ends {
         portals.push_reserved(Portal::new(node, *end));
         add_portals(node, rest, left - 1, portals);
+    }
+}
+
+// A parcel that was got at a node: its ends are portals in this room.
+fn with_portals<F: FabricName>(node: u8, n: u64, parcel: Parcel, room: Vec<Portal<F>>) -> Got<F>
+    requires node { node < F.table.count }
+    requires room { 8 ≤ vec_capacity room }
+    requires empty { vec_len room ≡ 0 }
+    ensures number { result.n ≡ n }
+    ensures bytes { result.bytes.items ≡ parcel.bytes }
+    ensures portals { result.portals.items ≡ portals_at node (take 8 parcel.ends) }
+{
+    let mut portals = room;
+    let ends = parcel.ends.as_slice();
+    add_portals(node, ends, MOST_PORTALS, &mut portals);
+    Got {
+        n,
+        bytes: parcel.bytes.into_vec(),
+        portals,
     }
 }
 
@@ -154,17 +176,22 @@ impl<F: FabricName> Portal<F> {
         ensures err { OnErr result (cell.new.part ≡ cell.old.part) }
         ensures seen { cell.new.seen ≡ cell.old.seen }
     {
-        let Ok(mut portals) = Vec::with_capacity(hub.allocator(), MOST_PORTALS) else {
+        let Ok(room) = Vec::with_capacity(hub.allocator(), MOST_PORTALS) else {
             return Err(Refusal::OutOfMemory);
         };
         let (n, parcel) = cell.get(hub.fabric(), self.end)?;
-        let ends = parcel.ends.as_slice();
-        add_portals(self.node, ends, MOST_PORTALS, &mut portals);
-        Ok(Got {
-            n,
-            bytes: parcel.bytes.into_vec(),
-            portals,
-        })
+        Ok(with_portals(self.node, n, parcel, room))
+    }
+
+    // Takes the next parcel at the end, whose node's cell this is. It takes no memory.
+    fn take_here(&self, cell: &mut NodeCell<F>, hub: &Hub<F>) -> Result<(u64, Parcel), Refusal>
+        ensures taken { IfOk result (IsTakenHere cell.old self.now.end) }
+        ensures ok { OnOk result (cell.new.part ≡ got_part self.now.end cell.old.part) }
+        ensures why { IfErr result (λ e. get_refusal cell.old.part.state self.now.end ≡ Some e) }
+        ensures err { OnErr result (cell.new.part ≡ cell.old.part) }
+        ensures seen { cell.new.seen ≡ cell.old.seen }
+    {
+        cell.get(hub.fabric(), self.end)
     }
 
     // Closes the end, whose node's cell this is.
@@ -202,7 +229,9 @@ impl<F: FabricName> Portal<F> {
             (λ e. IsRefusedPut F.table self.now.node self.now.end bytes.items (ends_of portals.items) e.why) }
         ensures back { IfErr result (λ e. (e.bytes.items ≡ bytes.items) × (e.portals.items ≡ portals.items)) }
     {
-        self.put_here(&mut hub.lock(rt, self.node), hub, bytes, portals)
+        let put = self.put_here(&mut hub.lock(rt, self.node), hub, bytes, portals);
+        hub.fabric().bells().ring(self.node);
+        put
     }
 
     /// Takes the next parcel, under the lock of the portal's node. What else holds of it is what `NodeCell::get` says, of the cell as the
@@ -220,6 +249,71 @@ impl<F: FabricName> Portal<F> {
         self.get_here(&mut hub.lock(rt, self.node), hub)
     }
 
+    // Takes the next parcel, under the lock of the portal's node. It takes no memory.
+    fn take<R: Wait>(&self, rt: &R, hub: &Hub<F>) -> Result<(u64, Parcel), Refusal>
+        ensures taken { IfOk result (IsTaken F.table self.now.node self.now.end) }
+        ensures refused { IfErr result (IsRefusedGet F.table self.now.node self.now.end) }
+    {
+        self.take_here(&mut hub.lock(rt, self.node), hub)
+    }
+
+    // Takes the next parcel, and sleeps while there is none. The bell is watched before each look that a sleep may follow, so that no
+    // parcel is missed between the two.
+    fn take_timeout<R: Wait + Clock>(
+        &self,
+        rt: &R,
+        hub: &Hub<F>,
+        limit: Duration,
+    ) -> Result<(u64, Parcel), Refusal>
+        ensures taken { IfOk result (IsTaken F.table self.now.node self.now.end) }
+        ensures refused { IfErr result (IsRefusedGet F.table self.now.node self.now.end) }
+    {
+        let first = self.take(rt, hub);
+        if !matches!(&first, Err(Refusal::Empty)) {
+            return first;
+        }
+        let news = hub.fabric().news();
+        let deadline = Deadline::new(rt, limit);
+        for _try in rt.forever() {
+            let left = deadline.left(rt);
+            let ticket = news.watch(self.node);
+            let taken = self.take(rt, hub);
+            if left == Duration::ZERO || !matches!(&taken, Err(Refusal::Empty)) {
+                return taken;
+            }
+            news.sleep(rt, self.node, ticket, left);
+        }
+        unreachable!()
+    }
+
+    /// Takes the next parcel, as `get`, and sleeps while there is none, for no longer than `limit` in all; `Duration::MAX` is without end.
+    /// Workers have to take the turns of the nodes meanwhile.
+    ///
+    /// Its refusals are those of `get`. It answers `Empty` only where a last try, at the end of its time, has found none. Room for eight
+    /// portals is taken first and once, so a call that is woken again and again takes no more memory. A clock that can't be read ends the
+    /// wait.
+    pub fn get_timeout<R: Wait + Clock>(
+        &self,
+        rt: &R,
+        hub: &Hub<F>,
+        limit: Duration,
+    ) -> Result<Got<F>, Refusal>
+        ensures got { IfOk result (λ g. IsGot F.table self.now.node self.now.end g.n g.bytes.items g.portals.items) }
+        ensures here { IfOk result (λ g. All (λ p. p.node ≡ self.now.node) g.portals.items) }
+        ensures few { IfOk result (λ g. vec_len g.portals ≤ 8) }
+        ensures why { IfErr result IsGetRefusal }
+        ensures refused { IfErr result (IsRefusedGet F.table self.now.node self.now.end) }
+    {
+        let node = self.node;
+        let Ok(room) = Vec::with_capacity(hub.allocator(), MOST_PORTALS) else {
+            return Err(Refusal::OutOfMemory);
+        };
+        match self.take_timeout(rt, hub, limit) {
+            Ok((n, parcel)) => Ok(with_portals(node, n, parcel, room)),
+            Err(why) => Err(why),
+        }
+    }
+
     /// Closes the end, under the lock of the portal's node, and answers the number of the mark that its peer is to get.
     ///
     /// A refused close gives the portal back. It answers `Stranger` where callers of the node don't hold the end any more, else
@@ -231,6 +325,8 @@ impl<F: FabricName> Portal<F> {
         ensures refused { IfErr result (λ e. IsRefusedClose F.table self.node self.end e.0) }
     {
         let node = self.node;
-        self.close_here(&mut hub.lock(rt, node), hub)
+        let closed = self.close_here(&mut hub.lock(rt, node), hub);
+        hub.fabric().bells().ring(node);
+        closed
     }
 }

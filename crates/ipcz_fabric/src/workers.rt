@@ -4,9 +4,10 @@ ghost use Rattle.ipcz_fabric.specs.Workers.{IsWork, Works, counted};
 
 use crate::hub::Hub;
 use ipcz_base::Refusal;
-use ipcz_cell::FabricName;
+use ipcz_cell::{FabricName, Ticket};
 use ipcz_node::Happened;
 use std::sync::Wait;
+use std::time::Duration;
 
 /// Says whether a node is to take a turn.
 pub trait Gate {
@@ -76,13 +77,42 @@ pub fn run_worker<W: Worker>(worker: &mut W, limit: u64) -> u64
     limit
 }
 
-// A worker of one node of a hub, which asks a gate. In which states its turns find the node is known under the lock alone.
+// What tells of a ring of a node's bell from now on, where that is wanted.
+fn ticket<F: FabricName>(hub: &Hub<F>, node: u8, is_wanted: bool) -> Option<Ticket> {
+    if is_wanted {
+        Some(hub.fabric().bells().watch(node))
+    } else {
+        None
+    }
+}
+
+// Sleeps until a node's bell is rung, if it is watched.
+fn sleep<R: Wait, F: FabricName>(
+    rt: &R,
+    hub: &Hub<F>,
+    node: u8,
+    ticket: Option<Ticket>,
+    limit: Option<Duration>,
+) {
+    if let Some(ticket) = ticket {
+        if let Some(limit) = limit {
+            hub.fabric().bells().sleep(rt, node, ticket, limit);
+        }
+    }
+}
+
+// A worker of one node of a hub, which asks a gate. If it has a limit for a sleep, it watches the node's bell behind an idle turn, before it
+// asks the gate again, and sleeps behind the next one that is idle: so neither a message nor a word to the gate is missed. In which states
+// its turns find the node is known under the lock alone.
 #[derive(Drop)]
 struct HubWorker<'a, R, F: FabricName, G> {
     rt: &'a R,
     hub: &'a Hub<F>,
     node: u8,
     gate: &'a mut G,
+    limit: Option<Duration>,
+    idle: bool,
+    ticket: Option<Ticket>,
 }
 
 impl<'a, R: Wait, F: FabricName, G: Gate> Worker for HubWorker<'a, R, F, G> {
@@ -97,16 +127,50 @@ impl<'a, R: Wait, F: FabricName, G: Gate> Worker for HubWorker<'a, R, F, G> {
     ghost ends = { ends_work };
 
     fn may_turn(&mut self, turns: u64) -> bool {
+        self.ticket = ticket(self.hub, self.node, self.limit.is_some() && self.idle);
         self.gate.pass(self.node, turns)
     }
 
     fn turn(&mut self) -> Result<Happened, Refusal> {
-        self.hub.turn(self.rt, self.node)
+        let answer = self.hub.turn(self.rt, self.node);
+        self.idle = matches!(&answer, Ok(Happened::Idle));
+        if self.idle {
+            sleep(self.rt, self.hub, self.node, self.ticket, self.limit);
+        }
+        answer
     }
 
     fn is_last(&self, answer: &Result<Happened, Refusal>) -> bool {
         matches!(answer, Err(Refusal::OutOfMemory | Refusal::NumbersEnd))
     }
+}
+
+// Takes turns of a node of a hub, as `work`, and sleeps after each idle one if it has a limit for that.
+fn take_turns<R: Wait, F: FabricName, G: Gate>(
+    rt: &R,
+    hub: &Hub<F>,
+    node: u8,
+    gate: &mut G,
+    limit: u64,
+    limit_of_sleep: Option<Duration>,
+) -> u64
+    ensures works { node < F.table.count → IsWork F.table node G.answers limit result }
+    ensures few { result ≤ limit }
+    ensures stranger { F.table.count ≤ node → result ≡ 0 }
+{
+    if node >= hub.nodes() {
+        return 0;
+    }
+    let mut worker = HubWorker {
+        rt,
+        hub,
+        node,
+        gate,
+        limit: limit_of_sleep,
+        idle: false,
+        ticket: None,
+    };
+    run_worker(&mut worker, limit)
 }
 
 /// Takes turns of a node of a hub, one by one, each under the node's lock, and gives how many were taken, idle ones included.
@@ -125,14 +189,23 @@ pub fn work<R: Wait, F: FabricName, G: Gate>(
     ensures few { result ≤ limit }
     ensures stranger { F.table.count ≤ node → result ≡ 0 }
 {
-    if node >= hub.nodes() {
-        return 0;
-    }
-    let mut worker = HubWorker {
-        rt,
-        hub,
-        node,
-        gate,
-    };
-    run_worker(&mut worker, limit)
+    take_turns(rt, hub, node, gate, limit, None)
+}
+
+/// Takes turns of a node of a hub, as `work`, and sleeps where two in a row are idle, as `Hub::turn_or_wait`, for no longer than `limit_of_sleep`;
+/// `Duration::MAX` is without end. So the gate is asked at least that often, and `Hub::notify_all` has it asked again: what the gate looks
+/// at is to be changed before that is called.
+pub fn work_waiting<R: Wait, F: FabricName, G: Gate>(
+    rt: &R,
+    hub: &Hub<F>,
+    node: u8,
+    gate: &mut G,
+    limit: u64,
+    limit_of_sleep: Duration,
+) -> u64
+    ensures works { node < F.table.count → IsWork F.table node G.answers limit result }
+    ensures few { result ≤ limit }
+    ensures stranger { F.table.count ≤ node → result ≡ 0 }
+{
+    take_turns(rt, hub, node, gate, limit, Some(limit_of_sleep))
 }

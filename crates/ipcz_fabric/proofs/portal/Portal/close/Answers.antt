@@ -11,10 +11,10 @@ returns-clause-number g c = if_allowed
       here = lent g.F.FabricName.table _ _ _ _ (ap (λ (p : PortalValue). p.node) c.self.view_is) c.deref_mut.ensures.value c.lock.ensures;
       holds = (allowed, number);
     })
-    c.close_here.result c.close_here.ensures.allowed c.close_here.ensures.number
+    c.close_here-closed.result c.close_here-closed.ensures.allowed c.close_here-closed.ensures.number
 
 pub returns-clause-why : goal.returns-clause-why
-returns-clause-why g c = if_err (λ e h. close_why c.deref_mut.result.now.part.state _ _ h) c.close_here.result c.close_here.ensures.why
+returns-clause-why g c = if_err (λ e h. close_why c.deref_mut.result.now.part.state _ _ h) c.close_here-closed.result c.close_here-closed.ensures.why
 
 pub returns-clause-refused : goal.returns-clause-refused
 returns-clause-refused g c = if_err
@@ -23,4 +23,4 @@ returns-clause-refused g c = if_err
       here = lent g.F.FabricName.table _ _ _ _ (ap (λ (p : PortalValue). p.node) c.self.view_is) c.deref_mut.ensures.value c.lock.ensures;
       holds = h;
     })
-    c.close_here.result c.close_here.ensures.why
+    c.close_here-closed.result c.close_here-closed.ensures.why

@@ -11,13 +11,13 @@ returns-clause-number g c = if_allowed
       here = lent g.F.FabricName.table _ _ _ _ (ap (λ (p : PortalValue). p.node) c.self.view_is) c.deref_mut.ensures.value c.lock.ensures;
       holds = (allowed, number);
     })
-    c.put_here.result c.put_here.ensures.allowed c.put_here.ensures.number
+    c.put_here-put.result c.put_here-put.ensures.allowed c.put_here-put.ensures.number
 
 pub returns-clause-fits : goal.returns-clause-fits
-returns-clause-fits g c = on_ok (put_fits _ _ _ _) c.put_here.result c.put_here.ensures.allowed
+returns-clause-fits g c = on_ok (put_fits _ _ _ _) c.put_here-put.result c.put_here-put.ensures.allowed
 
 pub returns-clause-why : goal.returns-clause-why
-returns-clause-why g c = if_err (λ e h. put_refused c.deref_mut.result.now.part.state _ _ _ _ h) c.put_here.result c.put_here.ensures.why
+returns-clause-why g c = if_err (λ e h. put_refused c.deref_mut.result.now.part.state _ _ _ _ h) c.put_here-put.result c.put_here-put.ensures.why
 
 pub returns-clause-refused : goal.returns-clause-refused
 returns-clause-refused g c = if_err
@@ -26,4 +26,4 @@ returns-clause-refused g c = if_err
       here = lent g.F.FabricName.table _ _ _ _ (ap (λ (p : PortalValue). p.node) c.self.view_is) c.deref_mut.ensures.value c.lock.ensures;
       holds = h;
     })
-    c.put_here.result c.put_here.ensures.why
+    c.put_here-put.result c.put_here-put.ensures.why

@@ -1,7 +1,7 @@
 use Rattle.std.proofs.Common.{◌≡◌, ◌<◌, ◌∙◌, ℕ, sym, subst, refl}
 use Rattle.ipcz_fabric.specs.Hubs.{IsTurnAnswer}
 use Rattle.ipcz_fabric.proofs.Working.{plain}
-use Rattle.ipcz_fabric.proofs.workers.work.Goals as goal
+use Rattle.ipcz_fabric.proofs.workers.take_turns.Goals as goal
 
 pub returns-clause-works : goal.returns-clause-works
 returns-clause-works g c = λ inside.
