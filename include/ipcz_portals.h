@@ -66,7 +66,7 @@ enum {
     IPCZ_NUMBERS_END = 8,   /* no number of 64 bits is left for a parcel or a router */
     IPCZ_BAD_DATA = 9,      /* a byte isn't from 0x20 to 0x7E */
     IPCZ_TOO_MANY = 10,     /* too many bytes, portals, nodes or words, or too few */
-    IPCZ_RACED = 11,        /* 11 to 14 are not answered by this library */
+    IPCZ_RACED = 11,        /* 11 to 14 are between nodes: no call here answers them */
     IPCZ_OCCUPIED = 12,
     IPCZ_PASSED = 13,
     IPCZ_FORGED = 14,
@@ -82,9 +82,9 @@ enum {
 
 /* Makes a world.
  *   nodes  how many nodes: 1 to IPCZ_MAX_NODES
- *   words  how many link words: at least nodes * (nodes - 1) / 2, at most IPCZ_MAX_WORDS. Each first pair has one from the start, and each
- *          open and each bypass of a portal that has travelled takes one, which isn't used again. Without one opens are refused, and
- *          portals work as before but each on the way that it has
+ *   words  how many link words: at least nodes * (nodes - 1) / 2, at most IPCZ_MAX_WORDS. Each first pair has one from the start; each open
+ *          takes one, and so does each bypass, which takes a node that a portal came through out of its way. A word isn't used again. Once
+ *          all are used opens are refused, and portals that travel work as before, but parcels go round by the nodes they came through
  *   world  a handle of no world; it has the new one if the status is IPCZ_OK, and else still none
  * IPCZ_ALREADY_CREATED, IPCZ_TOO_MANY, IPCZ_OUT_OF_MEMORY. */
 ipcz_status ipcz_create(uint8_t nodes, uint32_t words, ipcz_world *world);

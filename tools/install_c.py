@@ -19,7 +19,10 @@ import subprocess
 import sys
 import tempfile
 
-import try_edits
+try:
+    import try_edits
+except (OSError, subprocess.CalledProcessError):
+    sys.exit("install_c: rt, the kit's command, can't be run")
 
 TOP = pathlib.Path(__file__).resolve().parent.parent
 CRATE = TOP / "crates" / "ipcz_c"

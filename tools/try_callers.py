@@ -6,8 +6,9 @@
 
 The library is installed in a folder of its own by `tools/install_c.py`, and each caller is built from there, by the flags that pkg-config
 tells. What a caller of `callers/c` and `callers/cpp` prints is compared with the file beside it that ends in `.out`. It runs again under
-valgrind, which must find no error, and no memory that isn't freed, and one with threads under helgrind, which must find no race. The crate of `callers/rust` has its tests run. A caller whose compiler isn't
-on the machine is left out. The statuses of the header must be those of `Refusal`, and the program in docs/C.md one of these callers.
+valgrind, which must find no error, and no memory that isn't freed, and one with threads under helgrind, which must find no race. The crate
+of `callers/rust` has its tests run. A caller whose compiler isn't on the machine is left out. The statuses of the header must be those of
+`Refusal`, and the program in docs/C.md one of these callers.
 """
 import argparse
 import os
@@ -24,10 +25,11 @@ TOP = pathlib.Path(__file__).resolve().parent.parent
 CALLERS = TOP / "callers"
 VALGRIND = ["valgrind", "--quiet", "--leak-check=full", "--show-leak-kinds=all", "--errors-for-leak-kinds=all", "--error-exitcode=99"]
 HELGRIND = ["valgrind", "--quiet", "--tool=helgrind", "--error-exitcode=99"]
-STRICT = ["-O2", "-Wall", "-Wextra", "-Wconversion", "-pedantic", "-Werror"]
+STRICT = ["-O2", "-Wall", "-Wextra", "-Wconversion", "-pedantic", "-Werror", "-pthread"]
 MOST_SECONDS = 600
 # Callers that are built and not run: what they print is times.
 MEASURES = {"measure"}
+LINKED = {"no_memory": ["-Wl,--wrap=malloc,--wrap=realloc"]}
 
 
 class Callers:
@@ -79,7 +81,8 @@ class Callers:
         flags = self.flags()
         for source in sorted((CALLERS / folder).glob(f"*{ending}")):
             what, program, stored = str(source.relative_to(TOP)), self.prefix / f"{folder}-{source.stem}", source.with_suffix(".out")
-            if self.run(f"{what}: {compiler}", [compiler, f"-std={standard}", *STRICT, str(source), *flags, "-lpthread", "-o", str(program)]) is None:
+            command = [compiler, f"-std={standard}", *STRICT, str(source), *flags, *LINKED.get(source.stem, []), "-o", str(program)]
+            if self.run(f"{what}: {compiler}", command) is None:
                 continue
             if source.stem in MEASURES:
                 continue
