@@ -1,3 +1,4 @@
+use Rattle.std.proofs.Common.{refl}
 use Rattle.ipcz_router.specs.declared.act.RouterAct.TheVariants as router_acts
 use Rattle.ipcz_cell.proofs.Forms.{actor}
 use Rattle.ipcz_node.proofs.Growing.{grows_not}
