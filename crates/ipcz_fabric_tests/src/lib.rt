@@ -12,6 +12,8 @@ mod ends;
 #[cfg(test)]
 mod hubs;
 #[cfg(test)]
+mod locks;
+#[cfg(test)]
 mod opens;
 #[cfg(test)]
 mod owned;
@@ -19,3 +21,5 @@ mod owned;
 mod portals;
 #[cfg(test)]
 mod race;
+#[cfg(test)]
+mod waits;

@@ -15,11 +15,11 @@ const TRIES: u64 = 10_000_000;
 const TURNS: u64 = 100;
 
 // Of four nodes: the first pairs of nodes 0 and 1, of nodes 0 and 2, and of nodes 1 and 3.
-const BETWEEN: u32 = 0;
+pub(crate) const BETWEEN: u32 = 0;
 
-const TO_NODE_2: u32 = 1;
+pub(crate) const TO_NODE_2: u32 = 1;
 
-const TO_NODE_3: u32 = 4;
+pub(crate) const TO_NODE_3: u32 = 4;
 
 // Both sides stable, side A holds the lock, and node 2 may answer for its bypass.
 const LOCKED_BY_A: u64 = 787;
@@ -27,7 +27,7 @@ const LOCKED_BY_A: u64 = 787;
 // Both sides stable, side B holds the lock, and node 3 may answer for its bypass.
 const LOCKED_BY_B: u64 = 1059;
 
-fn a(pair: u32) -> End {
+pub(crate) fn a(pair: u32) -> End {
     End {
         pair,
         side: Side::A,
@@ -45,7 +45,7 @@ fn claims<F: FabricName>(fabric: &Fabric<F>, cell: &mut NodeCell<F>) -> bool {
 }
 
 // Puts a byte with these ends.
-fn puts<F: FabricName>(
+pub(crate) fn puts<F: FabricName>(
     fabric: &Fabric<F>,
     cell: &mut NodeCell<F>,
     alloc: Global,
@@ -68,7 +68,7 @@ fn puts<F: FabricName>(
 }
 
 // Whether a get gives a byte with these ends.
-fn gets<F: FabricName>(
+pub(crate) fn gets<F: FabricName>(
     fabric: &Fabric<F>,
     cell: &mut NodeCell<F>,
     at: End,
@@ -116,7 +116,7 @@ fn one_has_locked(of_a: &Happened, of_b: &Happened) -> bool {
 }
 
 // Takes turns until the node has nothing to do.
-fn acts<F: FabricName>(fabric: &Fabric<F>, cell: &mut NodeCell<F>) {
+pub(crate) fn acts<F: FabricName>(fabric: &Fabric<F>, cell: &mut NodeCell<F>) {
     for _turn in 0..TURNS {
         if let Ok(Happened::Idle) = cell.turn(fabric) {
             return;
@@ -133,7 +133,11 @@ fn all_act<F: FabricName>(fabric: &Fabric<F>, cells: &mut [NodeCell<F>]) {
 }
 
 // Both ends of the pair between nodes 0 and 1 move on, so that each of these has a proxy on its link, and has claimed a word.
-fn both_move<F: FabricName>(fabric: &Fabric<F>, cells: &mut [NodeCell<F>], alloc: Global) -> bool {
+pub(crate) fn both_move<F: FabricName>(
+    fabric: &Fabric<F>,
+    cells: &mut [NodeCell<F>],
+    alloc: Global,
+) -> bool {
     let [n0, n1, ..] = cells else {
         return false;
     };

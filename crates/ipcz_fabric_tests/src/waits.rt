@@ -1,0 +1,396 @@
+//! Waits: each sleeps for so long where no wake comes that a wake that is lost fails the test.
+ghost use Rattle.std.specs.Prelude.{◌≡◌};
+
+use ipcz_base::{End, Refusal, Sequence, Side};
+use ipcz_fabric::{Blank, Fabric, FabricName, Gate, Hub, NodeCell, Portal, start, work_waiting};
+use ipcz_node::Happened;
+use std::alloc::Global;
+use std::marker::Brand;
+use std::sync::Wait;
+use std::sync::atomic::{AtomicU64, Ordering};
+use std::test::Fail;
+use std::thread::{Threads, join, sleep};
+use std::time::{Clock, Duration, Instant};
+
+const TURNS: u64 = 10_000_000;
+
+const ROUNDS: u64 = 1000;
+
+const LEFT: End = End {
+    pair: 0,
+    side: Side::A,
+};
+
+const RIGHT: End = End {
+    pair: 0,
+    side: Side::B,
+};
+
+// How long a sleep is that no wake ends. All that a test does takes far less.
+fn long() -> Duration {
+    Duration::from_secs(20)
+}
+
+// So long that the other threads have most likely begun to sleep.
+fn short() -> Duration {
+    Duration::from_millis(50)
+}
+
+// Whether no sleep has come to its end since.
+fn is_soon<R: Clock>(rt: &R, begin: Instant) -> bool {
+    match begin.elapsed(rt) {
+        Ok(spent) => spent < long(),
+        Err(_) => false,
+    }
+}
+
+// Puts a parcel of no bytes.
+fn puts<F: FabricName>(fabric: &Fabric<F>, cell: &mut NodeCell<F>, alloc: Global, at: End) -> bool {
+    let bytes = Sequence::from_vec(Vec::new(alloc));
+    let none = Sequence::from_vec(Vec::new(alloc));
+    cell.put(fabric, at, bytes, none).is_ok()
+}
+
+// Takes turns until a parcel is got, and waits at each turn that is idle.
+fn awaits<F: FabricName, R: Wait>(
+    rt: &R,
+    fabric: &Fabric<F>,
+    cell: &mut NodeCell<F>,
+    at: End,
+) -> bool {
+    for _turn in 0..TURNS {
+        match cell.turn(fabric) {
+            Ok(Happened::Hand { .. }) => {
+                if cell.get(fabric, at).is_ok() {
+                    return true;
+                }
+            }
+            Ok(Happened::Idle) => {
+                cell.wait(rt, fabric, long());
+            }
+            Ok(_) | Err(_) => {}
+        }
+    }
+    false
+}
+
+// Takes turns until one is idle.
+fn acts<F: FabricName>(fabric: &Fabric<F>, cell: &mut NodeCell<F>) -> bool {
+    for _turn in 0..TURNS {
+        if matches!(cell.turn(fabric), Ok(Happened::Idle)) {
+            return true;
+        }
+    }
+    false
+}
+
+// Puts parcels, and gets an answer to each.
+fn asks<F: FabricName, R: Wait>(
+    rt: &R,
+    alloc: Global,
+    fabric: &Fabric<F>,
+    cell: &mut NodeCell<F>,
+) -> bool {
+    for _round in 0..ROUNDS {
+        if !puts(fabric, cell, alloc, LEFT) || !awaits(rt, fabric, cell, LEFT) {
+            return false;
+        }
+    }
+    true
+}
+
+// Gets parcels, and puts an answer to each.
+fn answers<F: FabricName, R: Wait>(
+    rt: &R,
+    alloc: Global,
+    fabric: &Fabric<F>,
+    cell: &mut NodeCell<F>,
+) -> bool {
+    for _round in 0..ROUNDS {
+        if !awaits(rt, fabric, cell, RIGHT) || !puts(fabric, cell, alloc, RIGHT) {
+            return false;
+        }
+    }
+    acts(fabric, cell)
+}
+
+// Whether two cells answer each other on two threads.
+fn two_talk<F: FabricName + Send + Sync, R: Threads + Wait + Sync>(
+    rt: &R,
+    alloc: Global,
+    fabric: &Fabric<F>,
+    left: &mut NodeCell<F>,
+    right: &mut NodeCell<F>,
+) -> bool {
+    let (asked, answered) = join(
+        rt,
+        || asks(rt, alloc, fabric, left),
+        || answers(rt, alloc, fabric, right),
+    );
+    asked && answered
+}
+
+// The same of cells, where they are two.
+fn both_talk<F: FabricName + Send + Sync, R: Threads + Wait + Sync>(
+    rt: &R,
+    alloc: Global,
+    fabric: &Fabric<F>,
+    cells: &mut [NodeCell<F>],
+) -> bool {
+    match cells {
+        [left, right] => two_talk(rt, alloc, fabric, left, right),
+        _ => false,
+    }
+}
+
+fn cells_talk<F: FabricName + Send + Sync, R: Threads + Wait + Clock + Sync>(
+    rt: &R,
+    alloc: Global,
+    blank: Blank,
+) -> Option<bool>
+    requires { blank ≡ F.table }
+{
+    let (fabric, mut cells) = blank.name::<F>().ok()?;
+    let begin = Instant::now(rt).ok()?;
+    let talked = both_talk(rt, alloc, &fabric, cells.as_mut_slice());
+    Some(talked && is_soon(rt, begin))
+}
+
+#[test]
+fn two_cells_wait_for_each_other(rt: HostRuntime) -> Result<(), Fail> {
+    let blank = start(rt.alloc(), 2, 4)?;
+    assert!(rt; cells_talk::<Brand, _>(&rt, rt.alloc(), blank) == Some(true));
+    Ok(())
+}
+
+// Whether a cell sleeps where it has nothing to do, until its time is over, and doesn't where it has something to do.
+fn sleeps<F: FabricName, R: Wait + Clock>(
+    rt: &R,
+    alloc: Global,
+    fabric: &Fabric<F>,
+    cell: &mut NodeCell<F>,
+) -> Option<bool> {
+    let begin = Instant::now(rt).ok()?;
+    let idle = cell.wait(rt, fabric, short());
+    let busy = puts(fabric, cell, alloc, LEFT) && !cell.wait(rt, fabric, long());
+    Some(idle && busy && is_soon(rt, begin))
+}
+
+fn first_sleeps<F: FabricName, R: Wait + Clock>(rt: &R, alloc: Global, blank: Blank) -> Option<bool>
+    requires { blank ≡ F.table }
+{
+    let (fabric, mut cells) = blank.name::<F>().ok()?;
+    match cells.as_mut_slice() {
+        [first, ..] => sleeps(rt, alloc, &fabric, first),
+        [] => None,
+    }
+}
+
+#[test]
+fn a_cell_sleeps_where_it_has_nothing_to_do(rt: HostRuntime) -> Result<(), Fail> {
+    let blank = start(rt.alloc(), 2, 4)?;
+    assert!(rt; first_sleeps::<Brand, _>(&rt, rt.alloc(), blank) == Some(true));
+    Ok(())
+}
+
+// Lets turns be taken until it is told to end.
+#[derive(Drop)]
+struct Until<'a> {
+    done: &'a AtomicU64,
+}
+
+impl<'a> Gate for Until<'a> {
+    fn pass(&mut self, _node: u8, _turns: u64) -> bool {
+        self.done.load(Ordering::SeqCst) == 0
+    }
+}
+
+// Takes turns of a node, and sleeps where there is nothing to do.
+fn works<F: FabricName, R: Wait>(rt: &R, hub: &Hub<F>, node: u8, done: &AtomicU64) -> u64 {
+    let mut gate = Until { done };
+    work_waiting(rt, hub, node, &mut gate, TURNS, long())
+}
+
+// Ends the workers of both nodes.
+fn ends<F: FabricName>(hub: &Hub<F>, done: &AtomicU64) {
+    done.store(1, Ordering::SeqCst);
+    hub.notify_all(0);
+    hub.notify_all(1);
+}
+
+// What is tried with two portals that wait.
+#[derive(Clone, Copy)]
+enum Case {
+    Talk,
+    Close,
+    Nothing,
+}
+
+// Puts a parcel of no bytes at a portal.
+fn portal_puts<F: FabricName, R: Wait>(
+    rt: &R,
+    hub: &Hub<F>,
+    alloc: Global,
+    portal: &Portal<F>,
+) -> bool {
+    portal
+        .put(rt, hub, Vec::new(alloc), Vec::new(alloc))
+        .is_ok()
+}
+
+fn portal_gets<F: FabricName, R: Wait + Clock>(rt: &R, hub: &Hub<F>, portal: &Portal<F>) -> bool {
+    portal.get_timeout(rt, hub, long()).is_ok()
+}
+
+// Puts parcels, and gets an answer to each.
+fn portal_asks<F: FabricName, R: Wait + Clock>(
+    rt: &R,
+    alloc: Global,
+    hub: &Hub<F>,
+    portal: &Portal<F>,
+) -> bool {
+    for _round in 0..ROUNDS {
+        if !portal_puts(rt, hub, alloc, portal) || !portal_gets(rt, hub, portal) {
+            return false;
+        }
+    }
+    true
+}
+
+// Gets parcels, and puts an answer to each.
+fn portal_answers<F: FabricName, R: Wait + Clock>(
+    rt: &R,
+    alloc: Global,
+    hub: &Hub<F>,
+    portal: &Portal<F>,
+) -> bool {
+    for _round in 0..ROUNDS {
+        if !portal_gets(rt, hub, portal) || !portal_puts(rt, hub, alloc, portal) {
+            return false;
+        }
+    }
+    true
+}
+
+// What the thread of the left portal does, and whether that went well.
+fn left_does<F: FabricName, R: Wait + Clock>(
+    rt: &R,
+    alloc: Global,
+    hub: &Hub<F>,
+    portal: Portal<F>,
+    case: Case,
+) -> bool {
+    match case {
+        Case::Talk => portal_asks(rt, alloc, hub, &portal),
+        Case::Close => {
+            sleep(rt, short());
+            portal.close(rt, hub).is_ok()
+        }
+        Case::Nothing => {
+            sleep(rt, short());
+            true
+        }
+    }
+}
+
+// What the thread of the right portal does, and whether that went well.
+fn right_does<F: FabricName, R: Wait + Clock>(
+    rt: &R,
+    alloc: Global,
+    hub: &Hub<F>,
+    portal: &Portal<F>,
+    case: Case,
+) -> bool {
+    match case {
+        Case::Talk => portal_answers(rt, alloc, hub, portal),
+        Case::Close => {
+            let got = portal.get_timeout(rt, hub, long());
+            matches!(got, Err(Refusal::PeerClosed))
+        }
+        Case::Nothing => {
+            let got = portal.get_timeout(rt, hub, short());
+            matches!(got, Err(Refusal::Empty))
+        }
+    }
+}
+
+// Both, and then the workers are ended.
+fn both_do<F: FabricName + Send + Sync, R: Threads + Wait + Clock + Sync>(
+    rt: &R,
+    alloc: Global,
+    hub: &Hub<F>,
+    left: Portal<F>,
+    right: &Portal<F>,
+    done: &AtomicU64,
+    case: Case,
+) -> bool {
+    let (asked, answered) = join(
+        rt,
+        move || left_does(rt, alloc, hub, left, case),
+        || right_does(rt, alloc, hub, right, case),
+    );
+    ends(hub, done);
+    asked && answered
+}
+
+// The same, with a worker for each node.
+fn does<F: FabricName + Send + Sync, R: Threads + Wait + Clock + Sync>(
+    rt: &R,
+    alloc: Global,
+    hub: &Hub<F>,
+    left: Portal<F>,
+    right: &Portal<F>,
+    case: Case,
+) -> bool {
+    let done = AtomicU64::new(0);
+    let (went, _turns) = join(
+        rt,
+        || both_do(rt, alloc, hub, left, right, &done, case),
+        || join(rt, || works(rt, hub, 0, &done), || works(rt, hub, 1, &done)),
+    );
+    went
+}
+
+// Whether a case goes well, and no sleep comes to its end but that of a get that is to give up.
+fn goes_well<F: FabricName + Send + Sync, R: Threads + Wait + Clock + Sync>(
+    rt: &R,
+    alloc: Global,
+    blank: Blank,
+    case: Case,
+) -> Option<bool>
+    requires { blank ≡ F.table }
+{
+    let Ok((fabric, cells)) = blank.name::<F>() else {
+        return None;
+    };
+    let Ok((hub, mut portals)) = Hub::new(fabric, cells) else {
+        return None;
+    };
+    let right = portals.pop()?;
+    let left = portals.pop()?;
+    let begin = Instant::now(rt).ok()?;
+    let went = does(rt, alloc, &hub, left, &right, case);
+    Some(went && is_soon(rt, begin))
+}
+
+#[test]
+fn two_portals_wait_for_each_other(rt: HostRuntime) -> Result<(), Fail> {
+    let blank = start(rt.alloc(), 2, 4)?;
+    assert!(rt; goes_well::<Brand, _>(&rt, rt.alloc(), blank, Case::Talk) == Some(true));
+    Ok(())
+}
+
+#[test]
+fn a_close_wakes_a_get_of_its_peer(rt: HostRuntime) -> Result<(), Fail> {
+    let blank = start(rt.alloc(), 2, 4)?;
+    assert!(rt; goes_well::<Brand, _>(&rt, rt.alloc(), blank, Case::Close) == Some(true));
+    Ok(())
+}
+
+// The workers' gates are asked again, too: they sleep from their first turn on.
+#[test]
+fn a_get_gives_up_at_its_time(rt: HostRuntime) -> Result<(), Fail> {
+    let blank = start(rt.alloc(), 2, 4)?;
+    assert!(rt; goes_well::<Brand, _>(&rt, rt.alloc(), blank, Case::Nothing) == Some(true));
+    Ok(())
+}
