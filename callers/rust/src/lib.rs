@@ -11,7 +11,10 @@ pub use raw::Portal;
 
 const MAX_BYTES: usize = 256;
 const MAX_PORTALS: usize = 8;
-const NOWHERE: Portal = Portal { pair: 0, side_b: false };
+const NOWHERE: Portal = Portal {
+    pair: 0,
+    side_b: false,
+};
 
 /// Why a call was refused. A refused call changes nothing.
 #[derive(Clone, Copy, Debug, PartialEq, Eq)]
@@ -73,13 +76,20 @@ pub struct Settled {
 }
 
 fn answer(status: u32) -> Result<(), Refused> {
-    if status == 0 { Ok(()) } else { Err(Refused::of(status)) }
+    if status == 0 {
+        Ok(())
+    } else {
+        Err(Refused::of(status))
+    }
 }
 
 /// The portal that a node has from the start of the pair that it shares with another; both are below `nodes`, and not the same.
 pub fn first_portal(node: u8, other: u8, nodes: u8) -> Portal {
     let (low, high) = (u32::from(node.min(other)), u32::from(node.max(other)));
-    Portal { pair: low * (2 * u32::from(nodes) - low - 1) / 2 + (high - low - 1), side_b: node > other }
+    Portal {
+        pair: low * (2 * u32::from(nodes) - low - 1) / 2 + (high - low - 1),
+        side_b: node > other,
+    }
 }
 
 /// A world of nodes.
@@ -104,16 +114,32 @@ impl World {
         Ok((first, second))
     }
 
-    pub fn put(&mut self, node: u8, at: Portal, bytes: &[u8], portals: &[Portal]) -> Result<u64, Refused> {
+    pub fn put(
+        &mut self,
+        node: u8,
+        at: Portal,
+        bytes: &[u8],
+        portals: &[Portal],
+    ) -> Result<u64, Refused> {
         let mut number = 0;
         answer(unsafe {
-            raw::ipcz_put_parcel(&mut self.0, node, at, bytes.as_ptr(), bytes.len(), portals.as_ptr(), portals.len(), &mut number)
+            raw::ipcz_put_parcel(
+                &mut self.0,
+                node,
+                at,
+                bytes.as_ptr(),
+                bytes.len(),
+                portals.as_ptr(),
+                portals.len(),
+                &mut number,
+            )
         })?;
         Ok(number)
     }
 
     pub fn get(&mut self, node: u8, at: Portal) -> Result<Parcel, Refused> {
-        let (mut bytes, mut portals, mut size, mut count, mut number) = ([0; MAX_BYTES], [NOWHERE; MAX_PORTALS], 0, 0, 0);
+        let (mut bytes, mut portals, mut size, mut count, mut number) =
+            ([0; MAX_BYTES], [NOWHERE; MAX_PORTALS], 0, 0, 0);
         answer(unsafe {
             raw::ipcz_get(
                 &mut self.0,
@@ -128,7 +154,11 @@ impl World {
                 &mut number,
             )
         })?;
-        Ok(Parcel { number, bytes: bytes[..size].to_vec(), portals: portals[..count].to_vec() })
+        Ok(Parcel {
+            number,
+            bytes: bytes[..size].to_vec(),
+            portals: portals[..count].to_vec(),
+        })
     }
 
     pub fn close(&mut self, node: u8, at: Portal) -> Result<(), Refused> {

@@ -15,7 +15,10 @@ pub struct Handle {
 }
 
 impl Handle {
-    pub const EMPTY: Handle = Handle { at: std::ptr::null_mut(), has_world: false };
+    pub const EMPTY: Handle = Handle {
+        at: std::ptr::null_mut(),
+        has_world: false,
+    };
 }
 
 unsafe extern "C" {

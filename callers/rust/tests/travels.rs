@@ -1,4 +1,4 @@
-use ipcz_portals::{Parcel, Portal, Refused, Settled, World, first_portal};
+use ipcz_portals::{first_portal, Parcel, Portal, Refused, Settled, World};
 use std::sync::{Arc, Mutex};
 use std::thread;
 
@@ -17,8 +17,18 @@ fn a_portal_travels() -> Result<(), Refused> {
     assert_eq!(world.put(0, left(), b"a portal", &[sent]), Ok(0));
     assert_eq!(world.get(1, right()), Err(Refused::Empty));
     assert!(world.settle(1000)?.quiet);
-    assert_eq!(world.get(1, right()), Ok(Parcel { number: 0, bytes: b"a portal".to_vec(), portals: vec![sent] }));
-    assert_eq!((world.holder_of(kept), world.holder_of(sent)), (Some(0), Some(1)));
+    assert_eq!(
+        world.get(1, right()),
+        Ok(Parcel {
+            number: 0,
+            bytes: b"a portal".to_vec(),
+            portals: vec![sent]
+        })
+    );
+    assert_eq!(
+        (world.holder_of(kept), world.holder_of(sent)),
+        (Some(0), Some(1))
+    );
     assert_eq!(world.put(0, kept, b"over it", &[]), Ok(0));
     for turn in 0..20 {
         world.turn(turn % 2)?;
@@ -28,7 +38,13 @@ fn a_portal_travels() -> Result<(), Refused> {
     assert_eq!(world.close(0, kept), Err(Refused::Stranger));
     world.settle(1000)?;
     assert_eq!(world.get(1, sent), Err(Refused::PeerClosed));
-    assert_eq!(world.settle(0), Ok(Settled { acts: 0, quiet: true }));
+    assert_eq!(
+        world.settle(0),
+        Ok(Settled {
+            acts: 0,
+            quiet: true
+        })
+    );
     Ok(())
 }
 
@@ -39,10 +55,19 @@ fn limits_are_refused() -> Result<(), Refused> {
     }
     let mut world = World::new(2, 1)?;
     assert_eq!(world.open(0), Err(Refused::NoWord));
-    assert_eq!(world.put(0, left(), &[b'x'; 257], &[]), Err(Refused::TooMany));
+    assert_eq!(
+        world.put(0, left(), &[b'x'; 257], &[]),
+        Err(Refused::TooMany)
+    );
     assert_eq!(world.put(0, left(), b"\n", &[]), Err(Refused::BadData));
-    assert_eq!(world.put(0, left(), &[], &[left()]), Err(Refused::SelfAttach));
-    assert_eq!(world.put(0, left(), &[], &[right()]), Err(Refused::PeerAttach));
+    assert_eq!(
+        world.put(0, left(), &[], &[left()]),
+        Err(Refused::SelfAttach)
+    );
+    assert_eq!(
+        world.put(0, left(), &[], &[right()]),
+        Err(Refused::PeerAttach)
+    );
     assert_eq!(world.turn(2), Err(Refused::Stranger));
     assert_eq!(world.claimed(), 1);
     Ok(())
@@ -75,7 +100,10 @@ fn a_world_is_shared_by_a_mutex() -> Result<(), Refused> {
         let answer = world.lock().unwrap().get(1, right());
         match answer {
             Ok(parcel) => {
-                assert_eq!((parcel.number, parcel.bytes), (got, got.to_string().into_bytes()));
+                assert_eq!(
+                    (parcel.number, parcel.bytes),
+                    (got, got.to_string().into_bytes())
+                );
                 got += 1;
             }
             Err(why) => {
