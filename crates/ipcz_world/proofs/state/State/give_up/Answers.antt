@@ -18,14 +18,14 @@ returns-in_default-stand_in c =
 pub returns-in-Ok : goal.returns-in-Ok
 returns-in-Ok c =
     let wanted = subst (λ a. turn_grows c.args.self.now c.args.n a ≡ true) c.requires.first
-        (refused-grows c.args.self.now c.args.n c.args.act c.requires.node c.args.self.now c.args.why c.in_default.not-NumbersEnd c.requires.refused) in
+    (refused-grows c.args.self.now c.args.n c.args.act c.requires.node c.args.self.now c.args.why c.in_default.not-NumbersEnd c.requires.refused) in
     step-taken c.args.self.now c.args.n c.in-Some.other c.requires.node _ c.in-Ok.event
     (inr (c.in-Some.ensures.other ∙ ap stand_in c.requires.first, wanted)) c.in-Ok.ensures
 
 pub returns-in-Err : goal.returns-in-Err
 returns-in-Err c =
     let wanted = subst (λ a. turn_grows c.args.self.now c.args.n a ≡ true) c.requires.first
-        (refused-grows c.args.self.now c.args.n c.args.act c.requires.node c.args.self.now c.args.why c.in_default.not-NumbersEnd c.requires.refused) in
+    (refused-grows c.args.self.now c.args.n c.args.act c.requires.node c.args.self.now c.args.why c.in_default.not-NumbersEnd c.requires.refused) in
     step-refused c.args.self.now c.args.n c.in-Some.other c.requires.node _ c.in-Err.why
     (inr (c.in-Some.ensures.other ∙ ap stand_in c.requires.first, wanted))
     (inl (c.in-Some.ensures.other ∙ stands-alone c.args.act ∙ ap stand_in (sym c.in-Some.ensures.other))) c.in-Err.ensures

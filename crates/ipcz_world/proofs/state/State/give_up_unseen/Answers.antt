@@ -19,16 +19,16 @@ returns-in_default-stand_in-clause-refused c =
 pub returns-clause-turned : goal.returns-clause-turned
 returns-clause-turned c =
     let wanted = subst (λ a. turn_grows c.args.self.now c.args.n a ≡ true) c.requires.first
-        (refused-grows c.args.self.now c.args.n c.args.act c.requires.node c.args.self.now c.args.why c.in_default.not-NumbersEnd c.requires.refused) in (
-  _,
-  step-taken c.args.self.now c.args.n c.in-Some.other c.requires.node _ _ (inr (c.in-Some.ensures.other ∙ ap stand_in c.requires.first, wanted))
-      c.in_default-take.ensures,
-)
+    (refused-grows c.args.self.now c.args.n c.args.act c.requires.node c.args.self.now c.args.why c.in_default.not-NumbersEnd c.requires.refused) in (
+      _,
+      step-taken c.args.self.now c.args.n c.in-Some.other c.requires.node _ _ (inr (c.in-Some.ensures.other ∙ ap stand_in c.requires.first, wanted))
+          c.in_default-take.ensures,
+    )
 
 pub returns-in-Err-clause-refused : goal.returns-in-Err-clause-refused
 returns-in-Err-clause-refused c =
     let wanted = subst (λ a. turn_grows c.args.self.now c.args.n a ≡ true) c.requires.first
-        (refused-grows c.args.self.now c.args.n c.args.act c.requires.node c.args.self.now c.args.why c.in_default.not-NumbersEnd c.requires.refused) in
+    (refused-grows c.args.self.now c.args.n c.args.act c.requires.node c.args.self.now c.args.why c.in_default.not-NumbersEnd c.requires.refused) in
     step-refused c.args.self.now c.args.n c.in-Some.other c.requires.node _ c.in-Err.why
     (inr (c.in-Some.ensures.other ∙ ap stand_in c.requires.first, wanted))
     (inl (c.in-Some.ensures.other ∙ stands-alone c.args.act ∙ ap stand_in (sym c.in-Some.ensures.other))) c.in-Err.ensures
