@@ -192,9 +192,9 @@ pub fn work<R: Wait, F: FabricName, G: Gate>(
     take_turns(rt, hub, node, gate, limit, None)
 }
 
-/// Takes turns of a node of a hub, as `work`, and sleeps where two in a row are idle, as `Hub::turn_or_wait`, for no longer than `limit_of_sleep`;
-/// `Duration::MAX` is without end. So the gate is asked at least that often, and `Hub::notify_all` has it asked again: what the gate looks
-/// at is to be changed before that is called.
+/// Takes turns of a node of a hub, as `work`, and sleeps if two in a row are idle, as `Hub::turn_or_wait`, for no longer than
+/// `limit_of_sleep`; `Duration::MAX` is without end. So the gate is asked at least that often, and `Hub::notify_all` has it asked again:
+/// what the gate looks at is to be changed before that is called.
 pub fn work_waiting<R: Wait, F: FabricName, G: Gate>(
     rt: &R,
     hub: &Hub<F>,

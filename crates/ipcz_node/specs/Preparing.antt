@@ -43,8 +43,9 @@ abbrev pub outlook_at : Option Router → RouterAct → Outlook
 outlook_at None act = outlooks.Nothing
 outlook_at (Some r) act = outlook_of (output_of r act)
 
--- whether what an act of this outlook gives makes something grow: a message an outbox in which others wait already, an item that moves ends
--- the lists of routers' links and of serials, and ends that are left to be closed the list of these. An empty outbox takes a message
+-- whether what an act of this outlook gives makes something grow. A message or an item grows an outbox in which others wait already, and an
+-- item that moves ends the lists of links and of descriptors; ends that are left to be closed grow the list of these. An empty outbox has a
+-- place for one
 unfoldable pub outlook_grows : Node → Outlook → Bool
 outlook_grows n outlooks.Nothing = false
 outlook_grows n (outlooks.Item to ends) = has_mail_for n to || not (nat_eq (moved_count n to ends) 0)
