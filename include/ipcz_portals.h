@@ -70,7 +70,7 @@ enum {
     IPCZ_OCCUPIED = 12,
     IPCZ_PASSED = 13,
     IPCZ_FORGED = 14,
-    IPCZ_TOO_SMALL = 100,   /* there is too little room for a parcel */
+    IPCZ_TOO_SMALL = 100,   /* there is too little room for the parcel */
     IPCZ_NOT_CREATED = 101, /* the handle has no world */
     IPCZ_ALREADY_CREATED = 102 /* the handle has a world already */
 };
@@ -103,13 +103,12 @@ ipcz_status ipcz_put_parcel(ipcz_world *world, uint8_t node, ipcz_portal at, con
 
 /* Gets the next parcel that has come to a portal.
  *   at           a portal of the node
- *   bytes, room  where the bytes are written, and how many may be: at least IPCZ_MAX_BYTES
+ *   bytes, room  where the bytes are written, and how many may be: IPCZ_MAX_BYTES are always enough
  *   size         how many bytes the parcel has
- *   portals, portal_room  where its portals are written, and how many may be: at least IPCZ_MAX_PORTALS. They are the node's now
+ *   portals, portal_room  where its portals are written, and how many may be: IPCZ_MAX_PORTALS are always enough. They are the node's now
  *   count        how many portals it has
  *   number       how many parcels were got at this portal before it
- * IPCZ_TOO_SMALL: nothing is taken, and size and count tell how much room is enough for every parcel. It is answered without a look at
- * what has come.
+ * IPCZ_TOO_SMALL: nothing is taken, and size and count are those of the parcel.
  * IPCZ_STRANGER, IPCZ_EMPTY, IPCZ_PEER_CLOSED. */
 ipcz_status ipcz_get(ipcz_world *world, uint8_t node, ipcz_portal at, uint8_t *bytes, size_t room, size_t *size,
                      ipcz_portal *portals, size_t portal_room, size_t *count, uint64_t *number);

@@ -87,21 +87,25 @@ static bool travels(ipcz_world *world) {
 
 /* What has too little room stays where it is, and what is refused writes nothing. */
 static bool small_rooms(ipcz_world *world) {
-    ipcz_portal left = ipcz_first(0, 1, 2), right = ipcz_first(1, 0, 2), portals[IPCZ_MAX_PORTALS];
-    uint64_t number = 77, acts;
-    uint8_t bytes[IPCZ_MAX_BYTES];
+    static const uint8_t text[3] = { 'y', 'e', 's' };
+    ipcz_portal left = ipcz_first(0, 1, 2), right = ipcz_first(1, 0, 2), one, other, portals[1];
+    uint64_t number, acts;
+    uint8_t bytes[4] = { 0 };
     size_t size = 0, count = 0;
     bool quiet;
-    EXPECT(put(world, 0, left, "x"), IPCZ_OK);
+    EXPECT(ipcz_open(world, 0, &one, &other), IPCZ_OK);
+    EXPECT(ipcz_put(world, 0, left, text, 3, &one, 1, &number), IPCZ_OK);
     EXPECT(ipcz_settle(world, 1000, &acts, &quiet), IPCZ_OK);
-    EXPECT(ipcz_get(world, 1, right, bytes, IPCZ_MAX_BYTES - 1, &size, portals, IPCZ_MAX_PORTALS, &count, &number), IPCZ_TOO_SMALL);
-    HOLDS(size == IPCZ_MAX_BYTES && count == IPCZ_MAX_PORTALS && number == 77);
-    EXPECT(ipcz_get(world, 1, right, bytes, IPCZ_MAX_BYTES, &size, portals, IPCZ_MAX_PORTALS - 1, &count, &number), IPCZ_TOO_SMALL);
-    EXPECT(ipcz_get(world, 1, right, bytes, IPCZ_MAX_BYTES, &size, portals, IPCZ_MAX_PORTALS, &count, &number), IPCZ_OK);
-    HOLDS(size == 1 && bytes[0] == 'x' && count == 0);
     number = 77;
-    EXPECT(ipcz_get(world, 1, right, bytes, IPCZ_MAX_BYTES, &size, portals, IPCZ_MAX_PORTALS, &count, &number), IPCZ_EMPTY);
-    HOLDS(size == 1 && count == 0 && number == 77);
+    EXPECT(ipcz_get(world, 1, right, bytes, 2, &size, portals, 1, &count, &number), IPCZ_TOO_SMALL);
+    HOLDS(size == 3 && count == 1 && number == 77 && bytes[0] == 0);
+    EXPECT(ipcz_get(world, 1, right, bytes, 3, &size, portals, 0, &count, &number), IPCZ_TOO_SMALL);
+    HOLDS(size == 3 && count == 1 && number == 77 && bytes[0] == 0);
+    EXPECT(ipcz_get(world, 1, right, bytes, 3, &size, portals, 1, &count, &number), IPCZ_OK);
+    HOLDS(size == 3 && memcmp(bytes, text, 3) == 0 && bytes[3] == 0 && count == 1 && portals[0].pair == one.pair && portals[0].side_b == one.side_b);
+    number = 77;
+    EXPECT(ipcz_get(world, 1, right, bytes, 0, &size, portals, 0, &count, &number), IPCZ_EMPTY);
+    HOLDS(size == 3 && count == 1 && number == 77);
     return true;
 }
 

@@ -1,7 +1,7 @@
 ghost use Rattle.std.specs.Prelude.{◌≡◌};
-ghost use Rattle.ipcz_base.specs.Items.{is_mark, is_gone_item};
+ghost use Rattle.ipcz_base.specs.Items.{is_mark, is_gone_item, sizes_in};
 
-use crate::parcel::Parcel;
+use crate::parcel::{Parcel, Sizes};
 
 /// What stands in a router's queues and travels over its links: a parcel, the mark that says that its portal was closed, or what says that its
 /// sink has left (docs/PROTOCOL.md, "Parcels and items").
@@ -22,6 +22,17 @@ impl Item {
             Item::Parcel(_) => false,
             Item::Mark => true,
             Item::Gone => false,
+        }
+    }
+
+    /// How many bytes and ends its parcel has, where it is one.
+    #[tactic(auto, unfolding(crate::specs::Items::sizes_in))]
+    pub fn sizes(&self) -> Option<Sizes>
+        ensures { result ≡ sizes_in self.now }
+    {
+        match self {
+            Item::Parcel(parcel) => Some(parcel.sizes()),
+            Item::Mark | Item::Gone => None,
         }
     }
 

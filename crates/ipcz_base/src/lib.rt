@@ -23,7 +23,7 @@ pub use limits::LAST;
 pub use link_end::LinkEnd;
 pub use link_id::LinkId;
 pub use message::Message;
-pub use parcel::Parcel;
+pub use parcel::{Parcel, Sizes};
 pub use refusal::Refusal;
 pub use sequence::{Bytes, Ends, Moves, Sequence};
 pub use side::Side;

@@ -84,7 +84,7 @@ impl Drawn {
         let put = self
             .world
             .put(at.node, at.end, bytes, Sequence::from_vec(ends));
-        if carried.is_some() && matches!(&put, Reply::Put(_)) {
+        if carried.is_some() && put.is_ok() {
             self.carried = self.carried.saturating_add(1);
         }
         Ok(())

@@ -80,9 +80,8 @@ pub fn put(
     }
     let bytes = Sequence::from_vec(bytes);
     match world.put(at.node, at.end, bytes, Sequence::from_vec(ends)) {
-        Reply::Put(_) => Ok(()),
-        Reply::Refused(why) => Err(Fault::Refused(why)),
-        _ => Err(Fault::Refused(Refusal::Stranger)),
+        Ok(_) => Ok(()),
+        Err(refused) => Err(Fault::Refused(refused.why)),
     }
 }
 

@@ -1,12 +1,12 @@
 -- What the calls of C do to the world of a handle, by the steps of the world.
-use Rattle.std.specs.Prelude.{◌≡◌, ◌⊎◌, ℕ, Bool, ◌&&◌, nat_le, if◌then◌else◌, Option, Some, None, IsSomeAnd, List, length, Result, IfOk, IfErr}
+use Rattle.std.specs.Prelude.{◌≡◌, ◌⊎◌, ℕ, Bool, ◌&&◌, nat_le, if◌then◌else◌, Option, Some, None, IfSome, IsSomeAnd, List, length, Result, IfOk, IfErr}
+use Rattle.ipcz_base.specs.declared.parcel.Sizes.{Sizes}
 use Rattle.ipcz_base.specs.declared.refusal.Refusal.{Refusal}
 use Rattle.ipcz_base.specs.declared.refusal.Refusal.TheVariants.{OutOfMemory}
-use Rattle.ipcz_base.specs.Limits.{most_bytes, most_ends}
 use Rattle.ipcz_base.specs.Refusals.{code_of}
 use Rattle.ipcz_node.specs.FirstPairs.{first_pair_count}
 use Rattle.ipcz_world.specs.World.{World, node_limit, word_limit, new_world}
-use Rattle.ipcz_world.specs.Steps.{StepFirst}
+use Rattle.ipcz_world.specs.Steps.{StepFirst, next_sizes}
 use Rattle.ipcz_world.specs.Books.{Books, advance}
 use Rattle.ipcz_world.specs.Routes.{Routes, routes_after}
 use Rattle.ipcz_world.specs.Lawful.{Lawful}
@@ -68,18 +68,19 @@ Puts old node at bytes portals status old_number number new =
     Answers (λ reply. IsPut reply old_number number) old (steps.Put node (named at) bytes (ends_of portals)) status new
     ⊎ (IsRefused (code_of OutOfMemory) old status new × (number ≡ old_number))
 
--- whether a get was given room for any parcel
-abbrev pub has_room : Room → Bool
-has_room room = nat_le most_bytes (length room.bytes) && nat_le most_ends (length room.portals)
+-- the sizes of the parcel that a get of a handle's world would give, where it wouldn't be refused
+unfoldable pub sizes_next : Option World → ℕ → Portal → Option Sizes
+sizes_next None node at = None
+sizes_next (Some w) node at = next_sizes w node (named at)
 
--- a get that was given room
+-- a get that was given room, or finds no parcel
 abbrev pub Gets : Option World → ℕ → Portal → ℕ → Room → Room → Option World → Type 0
 Gets old node at status old_room room new = Answers (λ reply. IsGot reply old_room room) old (steps.Get node (named at)) status new
 
--- a get that was given too little: nothing is taken, and how much room is enough is told
-abbrev pub LacksRoom : Option World → ℕ → Room → Room → Option World → Type 0
-LacksRoom old status old_room room new =
-    IsRefused too_small old status new × (room ≡ record old_room { size = most_bytes; count = most_ends })
+-- a get that was given too little: nothing is taken, and the sizes of what would be are told
+abbrev pub LacksRoom : Option World → Option Sizes → ℕ → Room → Room → Option World → Type 0
+LacksRoom old sizes status old_room room new =
+    IsRefused too_small old status new × IfSome sizes (λ s. room ≡ record old_room { size = s.bytes; count = s.ends })
 
 -- a close
 abbrev pub Closes : Option World → ℕ → Portal → ℕ → Option World → Type 0

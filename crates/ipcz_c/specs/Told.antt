@@ -1,6 +1,7 @@
 -- What a reply tells C beside its status: what is written to the places that C gave for it. A reply that tells nothing leaves them.
-use Rattle.std.specs.Prelude.{◌≡◌, ◌≤◌, ℕ, Bool, true, false, List, ◌++◌, length, drop, take, Result, Ok, Err}
+use Rattle.std.specs.Prelude.{◌≡◌, ℕ, Bool, true, false, ◌&&◌, nat_le, Option, Some, None, List, ◌++◌, length, drop, take, Result, Ok, Err}
 use Rattle.ipcz_base.specs.declared.end.End.{End}
+use Rattle.ipcz_base.specs.declared.parcel.Sizes.{Sizes}
 use Rattle.ipcz_base.specs.declared.refusal.Refusal.{Refusal}
 use Rattle.ipcz_base.specs.Refusals.{code_of}
 use Rattle.ipcz_world.specs.declared.step.Reply.{Reply}
@@ -35,13 +36,18 @@ pub record Room : Type 0 where
 abbrev pub room_of : List ℕ → ℕ → List Portal → ℕ → ℕ → Room
 room_of bytes size portals count number = record { bytes = bytes; size = size; portals = portals; count = count; number = number }
 
--- these bytes stand at the front of a room, where they fit, and the rest of it is as it was
-abbrev pub AreAtFront : List ℕ → List ℕ → List ℕ → Type 0
-AreAtFront bytes old room = length bytes ≤ length old → room ≡ bytes ++ drop (length bytes) old
+-- whether a parcel of these sizes fits into a room, or there is none
+unfoldable pub fits : Option Sizes → Room → Bool
+fits None room = true
+fits (Some s) room = nat_le s.bytes (length room.bytes) && nat_le s.ends (length room.portals)
 
--- these ends are named at the front of a room, where they fit, and the rest of it is as it was
+-- these bytes stand at the front of a room, and the rest of it is as it was
+abbrev pub AreAtFront : List ℕ → List ℕ → List ℕ → Type 0
+AreAtFront bytes old room = room ≡ bytes ++ drop (length bytes) old
+
+-- these ends are named at the front of a room, and the rest of it is as it was
 abbrev pub AreNamedAtFront : List End → List Portal → List Portal → Type 0
-AreNamedAtFront named_ends old room = length named_ends ≤ length old →
+AreNamedAtFront named_ends old room =
     (ends_of (take (length named_ends) room) ≡ named_ends) × (drop (length named_ends) room ≡ drop (length named_ends) old)
 
 -- the parcel that was got

@@ -7,8 +7,8 @@ ghost use Rattle.ipcz_base.specs.Refusals.{code_of};
 ghost use Rattle.ipcz_world.specs.Holding.{shown_word, holder_of};
 ghost use Rattle.ipcz_c.specs.Named.{named};
 ghost use Rattle.ipcz_c.specs.Statuses.{not_created, already_created};
-ghost use Rattle.ipcz_c.specs.Told.{room_of};
-ghost use Rattle.ipcz_c.specs.Calls.{IsRefused, is_within, Creates, Opens, Puts, has_room, Gets, LacksRoom, Closes, TakesTurn, Settles, read_off, written};
+ghost use Rattle.ipcz_c.specs.Told.{room_of, fits};
+ghost use Rattle.ipcz_c.specs.Calls.{IsRefused, is_within, Creates, Opens, Puts, sizes_next, Gets, LacksRoom, Closes, TakesTurn, Settles, read_off, written};
 
 use crate::handle::Handle;
 use crate::making::{are_within, boxed_world, lists_of};
@@ -18,11 +18,6 @@ use crate::tell::{tell_got, tell_opened, tell_put, tell_settled};
 use ipcz_base::Refusal;
 use ipcz_world::Step;
 use std::alloc::Global;
-
-// The room that a get asks for, which is as much as a put takes.
-const MOST_BYTES: usize = 256;
-
-const MOST_PORTALS: usize = 8;
 
 /// Makes a world of so many nodes and words.
 #[unsafe(no_mangle)]
@@ -121,13 +116,13 @@ pub extern "C" fn ipcz_get(
     number: &mut u64,
 ) -> u32
     ensures did { IsSome of.old.held.world →
-        has_room (room_of bytes.old size.old portals.old count.old number.old) ≡ true →
+        fits (sizes_next of.old.held.world node at) (room_of bytes.old size.old portals.old count.old number.old) ≡ true →
         Gets of.old.held.world node at result
         (room_of bytes.old size.old portals.old count.old number.old)
         (room_of bytes.new size.new portals.new count.new number.new) of.new.held.world }
     ensures small { IsSome of.old.held.world →
-        has_room (room_of bytes.old size.old portals.old count.old number.old) ≡ false →
-        LacksRoom of.old.held.world result
+        fits (sizes_next of.old.held.world node at) (room_of bytes.old size.old portals.old count.old number.old) ≡ false →
+        LacksRoom of.old.held.world (sizes_next of.old.held.world node at) result
         (room_of bytes.old size.old portals.old count.old number.old)
         (room_of bytes.new size.new portals.new count.new number.new) of.new.held.world }
     ensures none { IsNone of.old.held.world → IsRefused not_created of.old.held.world result of.new.held.world
@@ -136,10 +131,12 @@ pub extern "C" fn ipcz_get(
     if !of.has_world {
         return NOT_CREATED;
     }
-    if bytes.len() < MOST_BYTES || portals.len() < MOST_PORTALS {
-        *size = MOST_BYTES;
-        *count = MOST_PORTALS;
-        return TOO_SMALL;
+    if let Some(sizes) = of.next_sizes(alloc, node, at) {
+        if bytes.len() < sizes.bytes || portals.len() < sizes.ends {
+            *size = sizes.bytes;
+            *count = sizes.ends;
+            return TOO_SMALL;
+        }
     }
     let reply = of.get(alloc, node, at.end());
     tell_got(&reply, bytes, size, portals, count, number);

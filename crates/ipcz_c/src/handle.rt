@@ -2,11 +2,12 @@
 ghost use Rattle.std.specs.Prelude.{◌≡◌, Some, None, IsSome};
 ghost use Rattle.std.specs.Option.{is_some};
 ghost use Rattle.ipcz_world.specs.declared.step.Step.TheVariants as steps;
-ghost use Rattle.ipcz_c.specs.Calls.{Steps, Keeps, RepliesPlainly, SettlesTo};
+ghost use Rattle.ipcz_c.specs.Calls.{Steps, Keeps, RepliesPlainly, sizes_next, SettlesTo};
 
 use crate::parts::Parts;
 use crate::pointer::WorldPointer;
-use ipcz_base::{Bytes, End, Ends, Refusal};
+use crate::portal::Portal;
+use ipcz_base::{Bytes, End, Ends, Refusal, Sizes};
 use ipcz_world::{Reply, Settled, Step, World};
 use std::alloc::Global;
 use std::mem;
@@ -82,9 +83,12 @@ impl Handle {
         ensures plain { RepliesPlainly self.old.held.world (steps.Put node at bytes ends) result }
     {
         let mut world = self.take(alloc);
-        let reply = world.put(node, at, bytes, ends);
+        let answer = world.put(node, at, bytes, ends);
         self.give(world);
-        reply
+        match answer {
+            Ok(number) => Reply::Put(number),
+            Err(refused) => Reply::Refused(refused.why),
+        }
     }
 
     // Gets a parcel out of the world of a handle that has one.
@@ -98,6 +102,19 @@ impl Handle {
         let reply = world.get(node, at);
         self.give(world);
         reply
+    }
+
+    // The sizes of the parcel that a get out of the world of a handle that has one would give.
+    #[tactic(auto, unfolding(crate::specs::Calls::sizes_next))]
+    pub(crate) fn next_sizes(&mut self, alloc: Global, node: u8, at: Portal) -> Option<Sizes>
+        requires { IsSome self.old.held.world }
+        ensures sizes { result ≡ sizes_next self.old.held.world node at }
+        ensures same { self.new.held.world ≡ self.old.held.world }
+    {
+        let world = self.take(alloc);
+        let sizes = world.next_sizes(node, at.end());
+        self.give(world);
+        sizes
     }
 
     // Lets the world of a handle that has one settle.

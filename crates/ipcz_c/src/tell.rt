@@ -1,5 +1,7 @@
 //! What a reply tells C beside its status, written to the places that C gave for it.
-ghost use Rattle.ipcz_c.specs.Told.{room_of, AreOpened, IsPut, AreAtFront, AreNamedAtFront, IsGot, IsSettled};
+ghost use Rattle.std.specs.Prelude.{◌≡◌, ◌≤◌, true, length};
+ghost use Rattle.ipcz_world.specs.Steps.{sizes_given};
+ghost use Rattle.ipcz_c.specs.Told.{room_of, fits, AreOpened, IsPut, AreAtFront, AreNamedAtFront, IsGot, IsSettled};
 
 use crate::portal::{Portal, portal_of};
 use crate::status::refused;
@@ -27,29 +29,26 @@ pub(crate) fn tell_put(reply: &Reply, number: &mut u64)
     }
 }
 
-// Copies bytes to the front of a room, where they fit.
+// Copies bytes to the front of a room.
 fn tell_bytes(bytes: &[u8], room: &mut [u8])
+    requires { length bytes.now ≤ length room.old }
     ensures { AreAtFront bytes.now room.old room.new }
 {
-    let size = bytes.len();
-    if size <= room.len() {
-        room[..size].copy_from_slice(bytes);
-    }
+    room[..bytes.len()].copy_from_slice(bytes);
 }
 
-// Names ends at the front of a room, where they fit.
+// Names ends at the front of a room.
 fn tell_portals(ends: &[End], room: &mut [Portal])
+    requires { length ends.now ≤ length room.old }
     ensures { AreNamedAtFront ends.now room.old room.new }
 {
-    if ends.len() <= room.len() {
-        for at in 0..ends.len() {
-            room[at] = portal_of(ends[at]);
-        }
+    for at in 0..ends.len() {
+        room[at] = portal_of(ends[at]);
     }
 }
 
-// The parcel that was got.
-#[tactic(auto, unfolding(crate::specs::Told::IsGot))]
+// The parcel that was got, for which there is room.
+#[tactic(auto, unfolding(crate::specs::Told::IsGot, crate::specs::Told::fits, ipcz_world::specs::Steps::sizes_given))]
 pub(crate) fn tell_got(
     reply: &Reply,
     bytes: &mut [u8],
@@ -58,6 +57,7 @@ pub(crate) fn tell_got(
     count: &mut usize,
     number: &mut u64,
 )
+    requires { fits (sizes_given reply.now) (room_of bytes.old size.old portals.old count.old number.old) ≡ true }
     ensures { IsGot reply.now
         (room_of bytes.old size.old portals.old count.old number.old)
         (room_of bytes.new size.new portals.new count.new number.new) }

@@ -1,15 +1,16 @@
 -- What callers do at a node: open a pair, put, get and close, with the refusals of each in their order.
 -- (ipcz: OpenPortals, Put, Get and Close.)
-use Rattle.std.specs.Prelude.{ℕ, Bool, true, not, ◌&&◌, ◌||◌, nat_lt, if◌then◌else◌, Option, Some, None, List, [], ◌∷◌, length}
+use Rattle.std.specs.Prelude.{ℕ, Bool, true, not, ◌&&◌, ◌||◌, nat_lt, if◌then◌else◌, Option, Some, None, option_map, List, [], ◌∷◌, length}
 use Rattle.ipcz_base.specs.declared.side.Side.TheVariants.{A, B}
 use Rattle.ipcz_base.specs.declared.end.End.{End}
 use Rattle.ipcz_base.specs.declared.parcel.Parcel as parcels
+use Rattle.ipcz_base.specs.declared.parcel.Sizes.{Sizes}
 use Rattle.ipcz_base.specs.declared.item.Item.{Item}
 use Rattle.ipcz_base.specs.declared.item.Item.TheVariants.{Parcel, Mark, Gone}
 use Rattle.ipcz_base.specs.declared.refusal.Refusal.{Refusal}
 use Rattle.ipcz_base.specs.declared.refusal.Refusal.TheVariants.{Stranger, TooMany, BadData, SelfAttach, PeerAttach, NumbersEnd}
 use Rattle.ipcz_base.specs.Ends.{opposite_end, has_end}
-use Rattle.ipcz_base.specs.Items.{ends_in}
+use Rattle.ipcz_base.specs.Items.{ends_in, sizes_of}
 use Rattle.ipcz_base.specs.Limits.{is_printable, most_bytes, most_ends, has_serials}
 use Rattle.ipcz_seq.specs.Queue.{current_item}
 use Rattle.ipcz_router.specs.Router.{Router}
@@ -96,6 +97,10 @@ got_at_found (Some f) = got_from f.router
 -- what a get gives: the number and the parcel
 abbrev pub got_at : Node → End → Option (ℕ × parcels.Parcel)
 got_at n at = got_at_found (terminal_of n at)
+
+-- the sizes of what a get gives; none where it is refused
+abbrev pub next_sizes : Node → End → Option Sizes
+next_sizes n at = if holds_end n at then option_map (λ g. sizes_of g.1) (got_at n at) else None
 
 -- the node after a get at this router, the parcel's ends held
 abbrev pub get_at_router : Node → ℕ → Router → Node

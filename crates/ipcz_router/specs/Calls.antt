@@ -5,11 +5,12 @@ use Rattle.ipcz_base.specs.declared.side.Side.{Side}
 use Rattle.ipcz_base.specs.declared.link_id.LinkId.{LinkId}
 use Rattle.ipcz_base.specs.declared.link_end.LinkEnd.{LinkEnd}
 use Rattle.ipcz_base.specs.declared.descriptor.Descriptor.{Descriptor}
+use Rattle.ipcz_base.specs.declared.parcel.Sizes.{Sizes}
 use Rattle.ipcz_base.specs.declared.item.Item.{Item}
 use Rattle.ipcz_base.specs.declared.item.Item.TheVariants.{Parcel, Mark, Gone}
 use Rattle.ipcz_base.specs.declared.refusal.Refusal.{Refusal}
 use Rattle.ipcz_base.specs.declared.refusal.Refusal.TheVariants.{Empty, PeerClosed, NumbersEnd, Stranger}
-use Rattle.ipcz_base.specs.Items.{is_mark}
+use Rattle.ipcz_base.specs.Items.{is_mark, sizes_in}
 use Rattle.ipcz_base.specs.Limits.{last_number, no_number}
 use Rattle.ipcz_edge.specs.Edge.{edge_of}
 use Rattle.ipcz_seq.specs.Queue.{push_at, pop_front, current_item, reach, has_place, push_refusal}
@@ -37,6 +38,11 @@ item_refusal (Some Gone) = Some PeerClosed
 -- why a get at a terminal is refused
 abbrev pub router_get_refusal : Router → Option Refusal
 router_get_refusal r = item_refusal (current_item r.in_queue)
+
+-- the sizes of the parcel of an item, where there is one and it is a parcel
+unfoldable pub sizes_found : Option Item → Option Sizes
+sizes_found None = None
+sizes_found (Some item) = sizes_in item
 
 -- the current item of the in queue leaves
 abbrev pub take_item : Router → Router

@@ -7,6 +7,7 @@ pub mod Regular
 pub mod RouterActs
 pub mod Running
 pub mod SeenMail
+pub mod Sizing
 pub mod Slots
 pub mod StatesOfNodes
 pub mod Tables

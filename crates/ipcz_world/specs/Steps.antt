@@ -1,16 +1,19 @@
 -- The steps of the world: open, put, get, close and turn, each with its reply and the world after it.
-use Rattle.std.specs.Prelude.{◌≡◌, ◌⊎◌, ◌<◌, ℕ, ◌+◌, Bool, true, false, nat_lt, if◌then◌else◌, IsTrue, Option, Some, None}
+use Rattle.std.specs.Prelude.{◌≡◌, ◌⊎◌, ◌<◌, ℕ, ◌+◌, Bool, true, false, nat_lt, if◌then◌else◌, IsTrue, Option, Some, None, Result, Ok, Err}
 use Rattle.ipcz_base.specs.declared.side.Side.TheVariants.{A, B}
 use Rattle.ipcz_base.specs.declared.end.End.{End}
 use Rattle.ipcz_base.specs.declared.parcel.Parcel as parcels
+use Rattle.ipcz_base.specs.declared.parcel.Sizes.{Sizes}
 use Rattle.ipcz_base.specs.declared.item.Item.{Item}
 use Rattle.ipcz_base.specs.declared.item.Item.TheVariants.{Parcel, Mark, Gone}
 use Rattle.ipcz_base.specs.declared.refusal.Refusal.{Refusal}
 use Rattle.ipcz_base.specs.declared.refusal.Refusal.TheVariants as refusals
 use Rattle.ipcz_base.specs.Ends.{end_at}
+use Rattle.ipcz_base.specs.Items.{sizes_of}
 use Rattle.ipcz_seq.specs.Queue.{current_item}
 use Rattle.ipcz_word.specs.Word.{open_word}
 use Rattle.ipcz_node.specs.declared.act.Act.{Act}
+use Rattle.ipcz_node.specs.declared.state.calls.PutRefused.{PutRefused}
 use Rattle.ipcz_node.specs.Node.{Found, terminal_of}
 use Rattle.ipcz_node.specs.Calls.{put_refusal, put_node, put_number, get_refusal, get_node, close_refusal, close_node, serials_refusal}
 use Rattle.ipcz_node.specs.Calls.{open_node}
@@ -64,6 +67,11 @@ open_step w n = at_node w n (open_on w n (node_at w n).opening)
 abbrev pub claim_for_open : World → ℕ → World
 claim_for_open w n = set_claimed (set_node w n (record (node_at w n) { opening = Some w.claimed })) (w.claimed + 1)
 
+-- what a put answers, as a reply
+unfoldable pub put_reply : Result ℕ PutRefused → Reply
+put_reply (Ok number) = replies.Put number
+put_reply (Err refused) = replies.Refused refused.why
+
 -- a put
 abbrev pub put_step : World → ℕ → End → parcels.Parcel → Effect
 put_step w n at p = at_node w n (unless w (put_refusal (node_at w n) at p.bytes p.ends) (record {
@@ -89,6 +97,15 @@ get_step w n at = at_node w n (unless w (get_refusal (node_at w n) at) (record {
   reply = get_reply (terminal_of (node_at w n) at);
   world = set_node w n (get_node (node_at w n) at);
 }))
+
+-- the sizes of the parcel that a reply gives, where it gives one
+unfoldable pub sizes_given : Reply → Option Sizes
+sizes_given (replies.Got number p) = Some (sizes_of p)
+sizes_given other = None
+
+-- the sizes of the parcel that a get would give, where it isn't refused
+abbrev pub next_sizes : World → ℕ → End → Option Sizes
+next_sizes w n at = sizes_given (get_step w n at).reply
 
 -- a close
 abbrev pub close_step : World → ℕ → End → Effect

@@ -8,7 +8,7 @@ ghost use Rattle.ipcz_world.specs.Lawfulness.{IsLawful};
 ghost use Rattle.ipcz_world.specs.Parts.{world_of_parts};
 ghost use Rattle.ipcz_world.specs.Plain.{Plain};
 ghost use Rattle.ipcz_world.specs.Routes.{Routes, first_routes, routes_after};
-ghost use Rattle.ipcz_world.specs.Steps.{GivesOrNoMemory, StepFirst, put_step};
+ghost use Rattle.ipcz_world.specs.Steps.{GivesOrNoMemory, StepFirst, next_sizes, put_reply, put_step};
 ghost use Rattle.ipcz_world.specs.FirstRuns.{AreSteps, KeepsLaw};
 ghost use Rattle.ipcz_world.specs.Turns.{next_at};
 ghost use Rattle.ipcz_world.specs.World.{new_world};
@@ -20,8 +20,8 @@ ghost use Rattle.ipcz_world.specs.Tallies.{Tells};
 use crate::mail::Mail;
 use crate::state::State;
 use crate::step::{Reply, Settled, Step};
-use ipcz_base::{Bytes, End, Ends, Refusal};
-use ipcz_node::{Act, NodeState};
+use ipcz_base::{Bytes, End, Ends, Refusal, Sizes};
+use ipcz_node::{Act, NodeState, PutRefused};
 use std::alloc::Global;
 use std::marker::Model;
 
@@ -127,16 +127,19 @@ impl World {
         self.state.step(step)
     }
 
-    /// Puts a parcel at an end, as the step `Put` does, without a copy of its lists: they go with the call, also where it is refused. So
-    /// `OutOfMemory` is the last of its refusals, answered only where the terminal's queue has to grow.
-    pub fn put(&mut self, node: u8, at: End, bytes: Bytes, ends: Ends) -> Reply
-        ensures step { StepFirst self.old (Step.Put node at bytes ends) result self.new }
-        ensures order { GivesOrNoMemory self.old (put_step self.old node at (record { bytes = bytes; ends = ends })) result self.new }
+    /// Puts a parcel at an end and answers its number, as the step `Put` does, without a copy of its lists.
+    ///
+    /// A refused put gives both lists back. Its refusals are those of the step, but `OutOfMemory` is the last of them, answered only where the
+    /// terminal's queue has to grow.
+    pub fn put(&mut self, node: u8, at: End, bytes: Bytes, ends: Ends) -> Result<u64, PutRefused>
+        ensures step { StepFirst self.old (Step.Put node at bytes ends) (put_reply result) self.new }
+        ensures order { GivesOrNoMemory self.old (put_step self.old node at (record { bytes = bytes; ends = ends })) (put_reply result) self.new }
+        ensures back { IfErr result (λ e. (e.bytes ≡ bytes) × (e.ends ≡ ends)) }
         ensures lawful { (b : Books) → (g : Routes) → Lawful self.old b g →
-            Lawful self.new (advance self.old b (Step.Put node at bytes ends) result)
-            (routes_after self.old g (Step.Put node at bytes ends) result) }
+            Lawful self.new (advance self.old b (Step.Put node at bytes ends) (put_reply result))
+            (routes_after self.old g (Step.Put node at bytes ends) (put_reply result)) }
         ensures plain { (b : Books) → (g : Routes) → Lawful self.old b g →
-            Plain b (Step.Put node at bytes ends) result (advance self.old b (Step.Put node at bytes ends) result) }
+            Plain b (Step.Put node at bytes ends) (put_reply result) (advance self.old b (Step.Put node at bytes ends) (put_reply result)) }
     {
         self.state.put_given(node, at, bytes, ends)
     }
@@ -150,6 +153,14 @@ impl World {
             Plain b (Step.Get node at) result (advance self.old b (Step.Get node at) result) }
     {
         self.state.get_given(node, at)
+    }
+
+    /// How many bytes and ends the parcel has that a get at this end of a node would give; none where the get would be refused. Nothing is
+    /// taken.
+    pub fn next_sizes(&self, node: u8, at: End) -> Option<Sizes>
+        ensures { result ≡ next_sizes self.now node at }
+    {
+        self.state.next_sizes(node, at)
     }
 
     /// Takes each of these steps, in their order, and gives their replies. Refused `OutOfMemory` where there is no room for the replies:

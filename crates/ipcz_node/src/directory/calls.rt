@@ -4,7 +4,7 @@ ghost use Rattle.std.specs.FinMap.{get};
 ghost use Rattle.ipcz_base.specs.declared.item.Item.{Item};
 ghost use Rattle.ipcz_seq.specs.Queue.{current_item};
 ghost use Rattle.ipcz_router.specs.Router.{Router as RouterRecord, IsOpenTerminal};
-ghost use Rattle.ipcz_router.specs.Calls.{next_number, put_item, router_put_refusal, router_get_refusal, take_item};
+ghost use Rattle.ipcz_router.specs.Calls.{next_number, put_item, router_put_refusal, router_get_refusal, take_item, sizes_found};
 ghost use Rattle.ipcz_node.specs.Rooms.{put_filed, hold_filed, release_filed, HasQueueRoom};
 ghost use Rattle.std.specs.FinSet as sets;
 ghost use Rattle.std.specs.Prelude.{IsOk};
@@ -14,7 +14,7 @@ ghost use Rattle.ipcz_node.specs.Calls.{got_from, ends_found};
 
 use super::Directory;
 use super::filing::follow;
-use ipcz_base::{End, Parcel, Refusal, Side};
+use ipcz_base::{End, Parcel, Refusal, Side, Sizes};
 
 impl Directory {
     /// Puts a parcel into the router of the serial, as `Router::put`.
@@ -64,6 +64,16 @@ impl Directory {
         self.held.insert_all(parcel.ends.as_slice());
         self.ends = self.ends.saturating_sub(parcel.ends.len());
         Ok((n, parcel))
+    }
+
+    /// The sizes of the next parcel of the router of the serial, as `Router::next_sizes`.
+    pub fn next_sizes(&self, serial: u64) -> Option<Sizes>
+        ensures { (r : RouterRecord) → get self.now.filed.routers serial ≡ Some r → result ≡ sizes_found (current_item r.in_queue) }
+    {
+        match self.routers.router(serial) {
+            Some(router) => router.next_sizes(),
+            None => None,
+        }
     }
 
     /// Closes the router of the serial, as `Router::close`.

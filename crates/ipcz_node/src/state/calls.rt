@@ -9,7 +9,7 @@ ghost use Rattle.ipcz_router.specs.Calls.{next_number, put_item, router_put_refu
 ghost use Rattle.ipcz_node.specs.Rooms.{HasQueueRoom};
 ghost use Rattle.ipcz_node.specs.Node.{router_in, terminal_of, found, with_router, holds_end, source_in, word_side};
 ghost use Rattle.ipcz_node.specs.Calls.{serials_refusal, open_node, are_held_once, refusal_at, are_too_many, put_refusal, put_node};
-ghost use Rattle.ipcz_node.specs.Calls.{put_number, get_refusal, got_at, get_node, close_refusal, close_node, close_end};
+ghost use Rattle.ipcz_node.specs.Calls.{put_number, get_refusal, got_at, next_sizes, get_node, close_refusal, close_node, close_end};
 ghost use Rattle.ipcz_node.specs.Acts.{is_quiet, rest_of};
 ghost use Rattle.ipcz_node.specs.Finding.{IsNextHeld};
 ghost use Rattle.ipcz_node.specs.RoomyNodes.{CanOpen, RoomIsKept, IsReadyFor, TakesMore};
@@ -19,7 +19,7 @@ use super::NodeState;
 use crate::directory::Directory;
 use crate::outboxes::Outboxes;
 use crate::spare::Spare;
-use ipcz_base::{Bytes, End, Ends, Message, Parcel, Refusal, Side};
+use ipcz_base::{Bytes, End, Ends, Message, Parcel, Refusal, Side, Sizes};
 use std::alloc::{AllocError, Global};
 
 /// A put that was refused: why, and what was to be put.
@@ -28,6 +28,15 @@ pub struct PutRefused {
     pub why: Refusal,
     pub bytes: Bytes,
     pub ends: Ends,
+}
+
+/// Why the put was refused: what was to be put is dropped. So `?` hands a put's refusal on.
+impl From<PutRefused> for Refusal {
+    ghost from_gives = { λ refused why. why ≡ refused.why };
+
+    fn from(refused: PutRefused) -> Refusal {
+        refused.why
+    }
 }
 
 impl NodeState {
@@ -236,6 +245,20 @@ impl NodeState {
         };
         let got = self.routers.get(serial)?;
         Ok(got)
+    }
+
+    /// How many bytes and ends the parcel has that a get at this end would give; none where it would be refused. It takes no memory.
+    #[tactic(auto, unfolding(crate::specs::Calls::got_at_found, crate::specs::Calls::item_got, ipcz_router::specs::Calls::sizes_found, ipcz_base::specs::Items::sizes_in))]
+    pub fn next_sizes(&self, at: End) -> Option<Sizes>
+        ensures { result ≡ next_sizes self.now.node at }
+    {
+        if !self.holds(at) {
+            return None;
+        }
+        match self.terminal_serial(at) {
+            Some(serial) => self.routers.next_sizes(serial),
+            None => None,
+        }
     }
 
     /// Closes an end that callers of this node hold, and answers the number of the mark that its peer is to get. The end is

@@ -4,11 +4,11 @@ ghost use Rattle.ipcz_seq.specs.Queue.{current_item, has_place, push_refusal};
 ghost use Rattle.ipcz_router.specs.Router.{IsOpenTerminal, is_terminal, outward_has, router_has};
 ghost use Rattle.ipcz_router.specs.RoomyRouters.{room_for, KeepsRoom, LeavesRoom, LeavesRoomBut};
 ghost use Rattle.ipcz_router.specs.Closing.{close_router};
-ghost use Rattle.ipcz_router.specs.Calls.{next_number, put_item, router_put_refusal, router_get_refusal, take_item, has_place_for};
+ghost use Rattle.ipcz_router.specs.Calls.{next_number, put_item, router_put_refusal, router_get_refusal, take_item, sizes_found, has_place_for};
 ghost use Rattle.ipcz_router.specs.Calls.{accept, accept_from_outward, accept_from_inward, accept_refusal, extend, descriptor_of};
 
 use super::Router;
-use ipcz_base::{Descriptor, Item, LAST, LinkEnd, LinkId, Parcel, Refusal, Side};
+use ipcz_base::{Descriptor, Item, LAST, LinkEnd, LinkId, Parcel, Refusal, Side, Sizes};
 use ipcz_edge::Edge;
 use std::mem;
 
@@ -85,6 +85,17 @@ impl Router {
             Some(Item::Parcel(parcel)) => Ok((n, parcel)),
             Some(Item::Mark | Item::Gone) => unreachable!(),
             None => Err(Refusal::Empty),
+        }
+    }
+
+    /// How many bytes and ends the parcel has that a get would take out; none where it would be refused.
+    #[tactic(auto, unfolding(crate::specs::Calls::sizes_found))]
+    pub fn next_sizes(&self) -> Option<Sizes>
+        ensures { result ≡ sizes_found (current_item self.now.router.in_queue) }
+    {
+        match self.in_queue.next() {
+            Some(item) => item.sizes(),
+            None => None,
         }
     }
 

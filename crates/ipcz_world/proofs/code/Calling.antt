@@ -1,5 +1,5 @@
 -- A call at a node of the world gives what its step says, or finds no memory.
-use Rattle.std.specs.Prelude.{◌≡◌, ◌<◌, ◌+◌, ℕ, true, false, nat_lt, Option, Some, None, unwrap_or, length}
+use Rattle.std.specs.Prelude.{◌≡◌, ◌<◌, ◌+◌, ℕ, true, false, nat_lt, Option, Some, None, Result, Ok, Err, OnOk, IfOk, IfErr, unwrap_or, length}
 use Rattle.std.proofs.Common.{arith, ap, sym, subst, refl, inl, inr, ◌∙◌}
 use Rattle.std.proofs.lemmas.Bool.Decides.{nat_tests}
 use Rattle.ipcz_world.proofs.Vocabulary.{Refusal, Reply, End, Item, put_place, current_item, empty_word, open_word, Node, Found}
@@ -10,13 +10,14 @@ use Rattle.ipcz_base.specs.declared.item.Item.TheVariants.{Parcel as OfParcel, M
 use Rattle.ipcz_base.specs.declared.parcel.Parcel as parcels
 use Rattle.ipcz_node.specs.Calls.{put_refusal, put_node, put_number, get_refusal, get_node, got_at, got_at_found, item_got, close_refusal}
 use Rattle.ipcz_node.specs.Calls.{close_node, serials_refusal, open_node}
+use Rattle.ipcz_node.specs.declared.state.calls.PutRefused.{PutRefused}
 use Rattle.ipcz_world.specs.Soundness.{HasLengths}
 use Rattle.ipcz_world.specs.Coding.{WordTable, put_word}
 use Rattle.ipcz_world.proofs.code.RouterActs.{retabled}
 use Rattle.ipcz_world.proofs.code.Slots.{length-put}
 use Rattle.ipcz_world.proofs.code.Taken.{with_node, unchanged}
 use Rattle.ipcz_world.specs.Steps.{Effect, at_node, is_refused, Gives, GivesOrNoMemory, PutGives, got_reply, get_reply, open_with}
-use Rattle.ipcz_world.specs.Steps.{open_on, put_step, get_step, close_step}
+use Rattle.ipcz_world.specs.Steps.{open_on, put_reply, put_step, get_step, close_step}
 use Rattle.ipcz_world.specs.World.{has_unclaimed_word}
 use Rattle.ipcz_world.specs.Steps.{opened_reply}
 
@@ -98,6 +99,17 @@ put-refused w n at p old x why reply has l e is same r =
     subst (λ d. GivesOrNoMemory w d reply (with_node w n x)) (sym (here-node w n _ l))
     (gives-or-refused w (with_node w n x) (put_refusal (node_at w n) at p.bytes p.ends) why (putting w n at p) reply refl
     (is ∙ ap (λ y. unwrap_or (put_refusal y at p.bytes p.ends) OutOfMemory) e) r (unchanged w n x has l (same ∙ e)))
+
+-- a put, by what the node answers
+pub put-answers : (w : World) (n : ℕ) (at : End) (p : parcels.Parcel) (old x : Node) (answer : Result ℕ PutRefused) → HasLengths w →
+    n < w.count → old ≡ node_at w n →
+    OnOk answer (put_refusal old at p.bytes p.ends ≡ None) → IfOk answer (λ number. number ≡ put_number old at) →
+    OnOk answer (x ≡ put_node old at p) → IfErr answer (λ e. e.why ≡ unwrap_or (put_refusal old at p.bytes p.ends) OutOfMemory) →
+    IfErr answer (λ e. (e.bytes ≡ p.bytes) × (e.ends ≡ p.ends) × (x ≡ old)) →
+    GivesOrNoMemory w (put_step w n at p) (put_reply answer) (with_node w n x)
+unfolding put_reply
+put-answers w n at p old x (Ok number) has l e none is made why back = put-done w n at p old x number _ l e none is made refl
+put-answers w n at p old x (Err refused) has l e none is made why back = put-refused w n at p old x refused.why _ has l e why back.2 refl
 
 -- want of memory that comes last may also come first
 pub put-gives : (w v : World) (n : ℕ) (done : Effect) (reply : Reply) → n < w.count → GivesOrNoMemory w done reply v → PutGives w n done reply v

@@ -1,14 +1,15 @@
 //! What callers do at a node of the world: open, put, get and close.
 
-ghost use Rattle.std.specs.Prelude.{◌≡◌, ◌<◌, None, IfOk};
+ghost use Rattle.std.specs.Prelude.{◌≡◌, ◌<◌, None, IfOk, IfErr};
 ghost use Rattle.ipcz_world.specs.World.{node_at};
 ghost use Rattle.ipcz_world.specs.Steps.{StepFirst};
-ghost use Rattle.ipcz_world.specs.Steps.{open_with, open_on, put_step, get_step, close_step, Gives, GivesOrNoMemory, PutGives};
+ghost use Rattle.ipcz_world.specs.Steps.{open_with, open_on, put_reply, put_step, get_step, next_sizes, close_step, Gives, GivesOrNoMemory, PutGives};
 ghost use Rattle.ipcz_world.specs.Taking.{IsRegular};
 
 use crate::state::State;
 use crate::step::{Reply, Step};
-use ipcz_base::{Bytes, End, Ends, Refusal};
+use ipcz_base::{Bytes, End, Ends, Refusal, Sizes};
+use ipcz_node::PutRefused;
 use std::alloc::{AllocError, Global};
 
 impl State {
@@ -71,31 +72,37 @@ impl State {
         let Ok(ends) = copy_ends(self.alloc, ends) else {
             return Reply::Refused(Refusal::OutOfMemory);
         };
-        self.put_here(n, at, bytes, ends)
+        put_reply(self.put_here(n, at, bytes, ends))
     }
 
-    /// Puts a parcel at an end, as it was given; one for a node that isn't there is refused.
-    pub(crate) fn put_given(&mut self, n: u8, at: End, bytes: Bytes, ends: Ends) -> Reply
+    /// Puts a parcel at an end, as it was given; one for a node that isn't there is refused. A refused one is given back.
+    pub(crate) fn put_given(
+        &mut self,
+        n: u8,
+        at: End,
+        bytes: Bytes,
+        ends: Ends,
+    ) -> Result<u64, PutRefused>
         requires { IsRegular self.old }
-        ensures step { StepFirst self.old (Step.Put n at bytes ends) result self.new }
-        ensures order { GivesOrNoMemory self.old (put_step self.old n at (record { bytes = bytes; ends = ends })) result self.new }
+        ensures step { StepFirst self.old (Step.Put n at bytes ends) (put_reply result) self.new }
+        ensures order { GivesOrNoMemory self.old (put_step self.old n at (record { bytes = bytes; ends = ends })) (put_reply result) self.new }
+        ensures back { IfErr result (λ e. (e.bytes ≡ bytes) × (e.ends ≡ ends)) }
     {
         if n >= self.count {
-            return Reply::Refused(Refusal::Stranger);
+            let why = Refusal::Stranger;
+            return Err(PutRefused { why, bytes, ends });
         }
         self.put_here(n, at, bytes, ends)
     }
 
     // Puts a parcel at an end of a node that is there.
-    fn put_here(&mut self, n: u8, at: End, bytes: Bytes, ends: Ends) -> Reply
+    fn put_here(&mut self, n: u8, at: End, bytes: Bytes, ends: Ends) -> Result<u64, PutRefused>
         requires regular { IsRegular self.old }
         requires node { n < self.old.count }
-        ensures { GivesOrNoMemory self.old (put_step self.old n at (record { bytes = bytes; ends = ends })) result self.new }
+        ensures step { GivesOrNoMemory self.old (put_step self.old n at (record { bytes = bytes; ends = ends })) (put_reply result) self.new }
+        ensures back { IfErr result (λ e. (e.bytes ≡ bytes) × (e.ends ≡ ends)) }
     {
-        match self.nodes.node_mut(n).put(at, bytes, ends) {
-            Ok(number) => Reply::Put(number),
-            Err(refused) => Reply::Refused(refused.why),
-        }
+        self.nodes.node_mut(n).put(at, bytes, ends)
     }
 
     /// Gets the next parcel at an end.
@@ -121,6 +128,17 @@ impl State {
         self.get(n, at)
     }
 
+    /// The sizes of the parcel that a get at an end would give.
+    pub(crate) fn next_sizes(&self, n: u8, at: End) -> Option<Sizes>
+        requires { IsRegular self.now }
+        ensures { result ≡ next_sizes self.now n at }
+    {
+        if n >= self.count {
+            return None;
+        }
+        self.nodes.node(n).next_sizes(at)
+    }
+
     /// Closes an end.
     pub(crate) fn close(&mut self, n: u8, at: End) -> Reply
         requires regular { IsRegular self.old }
@@ -131,6 +149,17 @@ impl State {
             Ok(number) => Reply::Closed(number),
             Err(why) => Reply::Refused(why),
         }
+    }
+}
+
+// What a put answers, as a reply.
+#[tactic(auto, unfolding(crate::specs::Steps::put_reply))]
+fn put_reply(answer: Result<u64, PutRefused>) -> Reply
+    ensures { result ≡ put_reply answer }
+{
+    match answer {
+        Ok(number) => Reply::Put(number),
+        Err(refused) => Reply::Refused(refused.why),
     }
 }
 

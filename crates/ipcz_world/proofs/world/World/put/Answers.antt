@@ -1,3 +1,4 @@
+use Rattle.ipcz_world.specs.Steps.{put_reply}
 use Rattle.ipcz_world.specs.declared.step.Step.TheVariants.{Put}
 use Rattle.ipcz_world.proofs.code.Kept.{keeps, plainly, still-lawful}
 use Rattle.ipcz_world.proofs.code.Regular.{lawful-regular}
@@ -8,12 +9,12 @@ put_given-requires c = lawful-regular _ c.self.invariant
 
 pub returns-clause-lawful : goal.returns-clause-lawful
 returns-clause-lawful c =
-    rw (← c.self.view_is) (keeps _ _ (Put c.args.node c.args.at c.args.bytes c.args.ends) c.put_given.result c.put_given.ensures.step)
+    rw (← c.self.view_is) (keeps _ _ (Put c.args.node c.args.at c.args.bytes c.args.ends) (put_reply c.put_given.result) c.put_given.ensures.step)
 
 pub returns-clause-plain : goal.returns-clause-plain
 returns-clause-plain c =
-    rw (← c.self.view_is) (plainly _ _ (Put c.args.node c.args.at c.args.bytes c.args.ends) c.put_given.result c.put_given.ensures.step)
+    rw (← c.self.view_is) (plainly _ _ (Put c.args.node c.args.at c.args.bytes c.args.ends) (put_reply c.put_given.result) c.put_given.ensures.step)
 
 pub invariant_of-self : goal.invariant_of-self
 invariant_of-self c =
-    still-lawful _ _ (Put c.args.node c.args.at c.args.bytes c.args.ends) c.put_given.result c.put_given.ensures.step c.self.invariant
+    still-lawful _ _ (Put c.args.node c.args.at c.args.bytes c.args.ends) (put_reply c.put_given.result) c.put_given.ensures.step c.self.invariant
