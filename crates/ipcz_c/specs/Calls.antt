@@ -1,5 +1,6 @@
 -- What the calls of C do to the world of a handle, by the steps of the world.
-use Rattle.std.specs.Prelude.{◌≡◌, ◌⊎◌, ℕ, Bool, ◌&&◌, nat_le, if◌then◌else◌, Option, Some, None, IfSome, IsSomeAnd, List, length, Result, IfOk, IfErr}
+use Rattle.std.specs.Prelude.{◌≡◌, ◌⊎◌, ℕ, Bool, ◌&&◌, nat_le, if◌then◌else◌, Option, Some, None, IfSome, IsSomeAnd, List, Result, IfOk, IfErr}
+use Rattle.ipcz_base.specs.declared.end.End.{End}
 use Rattle.ipcz_base.specs.declared.parcel.Sizes.{Sizes}
 use Rattle.ipcz_base.specs.declared.refusal.Refusal.{Refusal}
 use Rattle.ipcz_base.specs.declared.refusal.Refusal.TheVariants.{OutOfMemory}
@@ -69,9 +70,9 @@ Puts old node at bytes portals status old_number number new =
     ⊎ (IsRefused (code_of OutOfMemory) old status new × (number ≡ old_number))
 
 -- the sizes of the parcel that a get of a handle's world would give, where it wouldn't be refused
-unfoldable pub sizes_next : Option World → ℕ → Portal → Option Sizes
+unfoldable pub sizes_next : Option World → ℕ → End → Option Sizes
 sizes_next None node at = None
-sizes_next (Some w) node at = next_sizes w node (named at)
+sizes_next (Some w) node at = next_sizes w node at
 
 -- a get that was given room, or finds no parcel
 abbrev pub Gets : Option World → ℕ → Portal → ℕ → Room → Room → Option World → Type 0

@@ -36,10 +36,10 @@ pub record Room : Type 0 where
 abbrev pub room_of : List ℕ → ℕ → List Portal → ℕ → ℕ → Room
 room_of bytes size portals count number = record { bytes = bytes; size = size; portals = portals; count = count; number = number }
 
--- whether a parcel of these sizes fits into a room, or there is none
-unfoldable pub fits : Option Sizes → Room → Bool
-fits None room = true
-fits (Some s) room = nat_le s.bytes (length room.bytes) && nat_le s.ends (length room.portals)
+-- whether a parcel of these sizes fits into room for so many bytes and portals, or there is none
+unfoldable pub fits : Option Sizes → ℕ → ℕ → Bool
+fits None bytes portals = true
+fits (Some s) bytes portals = nat_le s.bytes bytes && nat_le s.ends portals
 
 -- these bytes stand at the front of a room, and the rest of it is as it was
 abbrev pub AreAtFront : List ℕ → List ℕ → List ℕ → Type 0

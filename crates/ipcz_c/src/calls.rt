@@ -1,7 +1,7 @@
 //! The calls that C makes; `include/ipcz_portals.h` says what each is for, and what C must uphold.
 //!
 //! A handle that has no world is answered `NOT_CREATED`, 0 or `false`. C passes nothing for `alloc`.
-ghost use Rattle.std.specs.Prelude.{◌≡◌, None, IsSome, true, false, option_map, unwrap_or};
+ghost use Rattle.std.specs.Prelude.{◌≡◌, None, IsSome, true, false, length, option_map, unwrap_or};
 ghost use Rattle.std.specs.Option.{IsNone};
 ghost use Rattle.ipcz_base.specs.Refusals.{code_of};
 ghost use Rattle.ipcz_world.specs.Holding.{shown_word, holder_of};
@@ -14,7 +14,7 @@ use crate::handle::Handle;
 use crate::making::{are_within, boxed_world, lists_of};
 use crate::portal::Portal;
 use crate::status::{ALREADY_CREATED, NOT_CREATED, TOO_SMALL, refused, status};
-use crate::tell::{tell_got, tell_opened, tell_put, tell_settled};
+use crate::tell::{lacking, tell_got, tell_opened, tell_put, tell_settled};
 use ipcz_base::Refusal;
 use ipcz_world::Step;
 use std::alloc::Global;
@@ -116,13 +116,13 @@ pub extern "C" fn ipcz_get(
     number: &mut u64,
 ) -> u32
     ensures did { IsSome of.old.held.world →
-        fits (sizes_next of.old.held.world node at) (room_of bytes.old size.old portals.old count.old number.old) ≡ true →
+        fits (sizes_next of.old.held.world node (named at)) (length bytes.old) (length portals.old) ≡ true →
         Gets of.old.held.world node at result
         (room_of bytes.old size.old portals.old count.old number.old)
         (room_of bytes.new size.new portals.new count.new number.new) of.new.held.world }
     ensures small { IsSome of.old.held.world →
-        fits (sizes_next of.old.held.world node at) (room_of bytes.old size.old portals.old count.old number.old) ≡ false →
-        LacksRoom of.old.held.world (sizes_next of.old.held.world node at) result
+        fits (sizes_next of.old.held.world node (named at)) (length bytes.old) (length portals.old) ≡ false →
+        LacksRoom of.old.held.world (sizes_next of.old.held.world node (named at)) result
         (room_of bytes.old size.old portals.old count.old number.old)
         (room_of bytes.new size.new portals.new count.new number.new) of.new.held.world }
     ensures none { IsNone of.old.held.world → IsRefused not_created of.old.held.world result of.new.held.world
@@ -131,14 +131,14 @@ pub extern "C" fn ipcz_get(
     if !of.has_world {
         return NOT_CREATED;
     }
-    if let Some(sizes) = of.next_sizes(alloc, node, at) {
-        if bytes.len() < sizes.bytes || portals.len() < sizes.ends {
-            *size = sizes.bytes;
-            *count = sizes.ends;
-            return TOO_SMALL;
-        }
+    let end = at.end();
+    let next = of.next_sizes(alloc, node, end);
+    if let Some(sizes) = lacking(next, bytes.len(), portals.len()) {
+        *size = sizes.bytes;
+        *count = sizes.ends;
+        return TOO_SMALL;
     }
-    let reply = of.get(alloc, node, at.end());
+    let reply = of.get(alloc, node, end);
     tell_got(&reply, bytes, size, portals, count, number);
     status(&reply)
 }

@@ -2,11 +2,11 @@
 ghost use Rattle.std.specs.Prelude.{◌≡◌, Some, None, IsSome};
 ghost use Rattle.std.specs.Option.{is_some};
 ghost use Rattle.ipcz_world.specs.declared.step.Step.TheVariants as steps;
+ghost use Rattle.ipcz_world.specs.Steps.{sizes_given};
 ghost use Rattle.ipcz_c.specs.Calls.{Steps, Keeps, RepliesPlainly, sizes_next, SettlesTo};
 
 use crate::parts::Parts;
 use crate::pointer::WorldPointer;
-use crate::portal::Portal;
 use ipcz_base::{Bytes, End, Ends, Refusal, Sizes};
 use ipcz_world::{Reply, Settled, Step, World};
 use std::alloc::Global;
@@ -83,12 +83,9 @@ impl Handle {
         ensures plain { RepliesPlainly self.old.held.world (steps.Put node at bytes ends) result }
     {
         let mut world = self.take(alloc);
-        let answer = world.put(node, at, bytes, ends);
+        let reply = Reply::of_put(world.put(node, at, bytes, ends));
         self.give(world);
-        match answer {
-            Ok(number) => Reply::Put(number),
-            Err(refused) => Reply::Refused(refused.why),
-        }
+        reply
     }
 
     // Gets a parcel out of the world of a handle that has one.
@@ -97,6 +94,7 @@ impl Handle {
         ensures step { Steps self.old.held.world (steps.Get node at) result self.new.held.world }
         ensures lawful { Keeps self.old.held.world (steps.Get node at) result self.new.held.world }
         ensures plain { RepliesPlainly self.old.held.world (steps.Get node at) result }
+        ensures sizes { sizes_given result ≡ sizes_next self.old.held.world node at }
     {
         let mut world = self.take(alloc);
         let reply = world.get(node, at);
@@ -106,13 +104,13 @@ impl Handle {
 
     // The sizes of the parcel that a get out of the world of a handle that has one would give.
     #[tactic(auto, unfolding(crate::specs::Calls::sizes_next))]
-    pub(crate) fn next_sizes(&mut self, alloc: Global, node: u8, at: Portal) -> Option<Sizes>
+    pub(crate) fn next_sizes(&mut self, alloc: Global, node: u8, at: End) -> Option<Sizes>
         requires { IsSome self.old.held.world }
         ensures sizes { result ≡ sizes_next self.old.held.world node at }
         ensures same { self.new.held.world ≡ self.old.held.world }
     {
         let world = self.take(alloc);
-        let sizes = world.next_sizes(node, at.end());
+        let sizes = world.next_sizes(node, at);
         self.give(world);
         sizes
     }

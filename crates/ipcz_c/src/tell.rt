@@ -1,11 +1,11 @@
 //! What a reply tells C beside its status, written to the places that C gave for it.
-ghost use Rattle.std.specs.Prelude.{◌≡◌, ◌≤◌, true, length};
+ghost use Rattle.std.specs.Prelude.{◌≡◌, ◌≤◌, true, false, Some, IfSome, IfNone, length};
 ghost use Rattle.ipcz_world.specs.Steps.{sizes_given};
 ghost use Rattle.ipcz_c.specs.Told.{room_of, fits, AreOpened, IsPut, AreAtFront, AreNamedAtFront, IsGot, IsSettled};
 
 use crate::portal::{Portal, portal_of};
 use crate::status::refused;
-use ipcz_base::{End, Refusal};
+use ipcz_base::{End, Refusal, Sizes};
 use ipcz_world::{Reply, Settled};
 
 // The portals that were opened.
@@ -26,6 +26,19 @@ pub(crate) fn tell_put(reply: &Reply, number: &mut u64)
 {
     if let Reply::Put(put) = reply {
         *number = *put;
+    }
+}
+
+// The sizes of the next parcel, where room for so many bytes and portals is too little for it.
+#[tactic(auto, unfolding(crate::specs::Told::fits))]
+pub(crate) fn lacking(next: Option<Sizes>, bytes: usize, portals: usize) -> Option<Sizes>
+    ensures next { IfSome result (λ s. next ≡ Some s) }
+    ensures small { IfSome result (λ s. fits next bytes portals ≡ false) }
+    ensures fits { IfNone result (fits next bytes portals ≡ true) }
+{
+    match next {
+        Some(sizes) if bytes < sizes.bytes || portals < sizes.ends => Some(sizes),
+        _ => None,
     }
 }
 
@@ -57,7 +70,7 @@ pub(crate) fn tell_got(
     count: &mut usize,
     number: &mut u64,
 )
-    requires { fits (sizes_given reply.now) (room_of bytes.old size.old portals.old count.old number.old) ≡ true }
+    requires { fits (sizes_given reply.now) (length bytes.old) (length portals.old) ≡ true }
     ensures { IsGot reply.now
         (room_of bytes.old size.old portals.old count.old number.old)
         (room_of bytes.new size.new portals.new count.new number.new) }

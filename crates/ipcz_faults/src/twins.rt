@@ -53,10 +53,7 @@ fn ask_once(world: &mut World, alloc: Global, way: Way, ask: Ask) -> Result<Repl
         (Way::Steps, _) => Ok(world.step(&step_of(alloc, ask)?)),
         (Way::Calls, Ask::Put(node, at, data, attached)) => {
             let (bytes, ends) = lists(alloc, data, attached)?;
-            Ok(match world.put(node, at, bytes, ends) {
-                Ok(number) => Reply::Put(number),
-                Err(refused) => Reply::Refused(refused.why),
-            })
+            Ok(Reply::of_put(world.put(node, at, bytes, ends)))
         }
         (Way::Calls, _) => Ok(run_one(world, alloc, step_of(alloc, ask)?)),
     }

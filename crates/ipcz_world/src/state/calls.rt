@@ -72,7 +72,7 @@ impl State {
         let Ok(ends) = copy_ends(self.alloc, ends) else {
             return Reply::Refused(Refusal::OutOfMemory);
         };
-        put_reply(self.put_here(n, at, bytes, ends))
+        Reply::of_put(self.put_here(n, at, bytes, ends))
     }
 
     /// Puts a parcel at an end, as it was given; one for a node that isn't there is refused. A refused one is given back.
@@ -149,17 +149,6 @@ impl State {
             Ok(number) => Reply::Closed(number),
             Err(why) => Reply::Refused(why),
         }
-    }
-}
-
-// What a put answers, as a reply.
-#[tactic(auto, unfolding(crate::specs::Steps::put_reply))]
-fn put_reply(answer: Result<u64, PutRefused>) -> Reply
-    ensures { result ≡ put_reply answer }
-{
-    match answer {
-        Ok(number) => Reply::Put(number),
-        Err(refused) => Reply::Refused(refused.why),
     }
 }
 

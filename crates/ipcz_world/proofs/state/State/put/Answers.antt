@@ -14,4 +14,4 @@ returns c =
     (put-gives c.args.self.now c.put_here.new.self c.args.n _ (put_reply c.put_here.result) c.requires.node c.put_here.ensures.step) in
     subst (λ reply. PutGives c.args.self.now c.args.n
     (put_step c.args.self.now c.args.n c.args.at (record { bytes = c.args.bytes.now; ends = c.args.ends.now })) reply c.put_here.new.self)
-    (sym c.put_reply.ensures) gives
+    (sym c.of_put.ensures) gives
