@@ -23,6 +23,7 @@ pub mod ReadNames
 pub mod ReadingLaws
 pub mod Rows
 pub mod SameCalls
+pub mod SayingBits
 pub mod SayingNames
 pub mod SayingTexts
 pub mod ScriptRuns

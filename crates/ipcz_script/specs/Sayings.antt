@@ -1,5 +1,5 @@
 -- What a line of a transcript says, and how that is written: by these texts a reader tells from the bytes alone what was answered.
-use Rattle.std.specs.Prelude.{◌≡◌, ◌<◌, ◌^◌, ℕ, true, List, [], ◌∷◌, ◌++◌, map, codes}
+use Rattle.std.specs.Prelude.{◌≡◌, ◌<◌, ◌^◌, ℕ, true, List, [], ◌∷◌, ◌++◌, map, codes, Ok}
 use Rattle.std.specs.List.{AllByRecursion}
 use Rattle.std.specs.Fmt.{decimal}
 use Rattle.ipcz_base.specs.declared.refusal.Refusal.{Refusal}
@@ -7,8 +7,10 @@ use Rattle.ipcz_base.specs.Refusals.{name_of}
 use Rattle.ipcz_world.specs.Lawful.{IsWithinLimits}
 use Rattle.ipcz_script.specs.declared.command.Command.{Command}
 use Rattle.ipcz_script.specs.declared.command.Command.TheVariants as commands
+use Rattle.ipcz_script.specs.declared.script.Script.{Script}
 use Rattle.ipcz_script.specs.declared.said.Said.{Said}
 use Rattle.ipcz_script.specs.declared.said.Said.TheVariants as said
+use Rattle.ipcz_script.specs.Reading.{IsScript}
 use Rattle.ipcz_script.specs.ScriptNames.{is_name}
 use Rattle.ipcz_script.specs.Bindings.{Titles}
 use Rattle.ipcz_script.specs.Lines.{title_of, turn_text}
@@ -137,3 +139,18 @@ abbrev pub LinesSayAnswers : Type 0
 LinesSayAnswers =
     (nodes words : ℕ) (cs : List Command) (log : List Answered) (t : Session) → IsWithinLimits nodes words → HaveNames cs →
     AreAnswered (new_session nodes words) cs log t → Says (lines_in log) (sayings_in log)
+
+-- the node of a turn command has a number of 64 bits
+abbrev pub NodeHasBits : Command → Type 0
+NodeHasBits (commands.Turn node count) = HasBits node
+NodeHasBits other = Unit {0}
+
+-- law: it has in each script that is read
+abbrev pub TurnsHaveBits : Type 0
+TurnsHaveBits = (input : List ℕ) (script : Script) → IsScript input (Ok script) → AllByRecursion NodeHasBits script.commands
+
+-- law: so each number that the lines say has 64 bits
+abbrev pub SaidNumbersHaveBits : Type 0
+SaidNumbersHaveBits =
+    (nodes words : ℕ) (cs : List Command) (log : List Answered) (t : Session) → IsWithinLimits nodes words → AllByRecursion NodeHasBits cs →
+    AreAnswered (new_session nodes words) cs log t → AllByRecursion NumbersHaveBits (sayings_in log)

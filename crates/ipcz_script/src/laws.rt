@@ -10,7 +10,7 @@ ghost use Rattle.ipcz_script.specs.EventLaws.{TextsAreOneEvent};
 ghost use Rattle.ipcz_script.specs.CountedLines.{LinesAreCounted};
 ghost use Rattle.ipcz_script.specs.NamingLaws.{OpensNameSides};
 ghost use Rattle.ipcz_script.specs.ParcelsByName.{GetsFollowPutsByName};
-ghost use Rattle.ipcz_script.specs.Sayings.{LinesSayAnswers, TextsSayOneThing};
+ghost use Rattle.ipcz_script.specs.Sayings.{LinesSayAnswers, SaidNumbersHaveBits, TextsSayOneThing, TurnsHaveBits};
 ghost use Rattle.ipcz_script.specs.SendLines.{SendsTellWhatMoved};
 ghost use Rattle.ipcz_script.specs.SettledLaws.{SettledGetsGiveAll};
 
@@ -77,6 +77,16 @@ pub fn outputs_have_lines()
 /// portals and the data of a parcel, the refusal, what a settle came to, the claimed words, and each turn of a node.
 pub fn lines_say_answers()
     ensures { LinesSayAnswers }
+{}
+
+/// The node of each turn command of a script that is read has a number of 64 bits.
+pub fn turns_have_bits()
+    ensures { TurnsHaveBits }
+{}
+
+/// So each number that the lines of its transcript say has 64 bits, as `texts_say_one_thing` requires of a reading.
+pub fn said_numbers_have_bits()
+    ensures { SaidNumbersHaveBits }
 {}
 
 /// A text of lines says one thing: two readings of it, in which names are names and numbers have 64 bits, are the same in their forms, names,

@@ -15,3 +15,4 @@ pub mod Running
 pub mod Starting
 pub mod StartingPairs
 pub mod TurnReplies
+pub mod WordSources
