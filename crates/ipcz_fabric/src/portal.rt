@@ -11,7 +11,7 @@ ghost use Rattle.ipcz_fabric.specs.Portals.{IsClosed, IsCloseRefusal, IsRefusedC
 
 use crate::deadline::Deadline;
 use crate::hub::Hub;
-use crate::portals::{Arrival, arrival};
+use crate::portals::{Arrival, arrival_of};
 use ipcz_base::{Bytes, End, Ends, Parcel, Refusal};
 use ipcz_cell::{FabricName, NodeCell};
 use std::alloc::{AllocError, Global};
@@ -314,7 +314,7 @@ impl<F: FabricName> Portal<F> {
     {
         let node = self.node;
         match self.take_timeout(rt, hub, limit) {
-            Ok((n, parcel)) => Ok(arrival(node, n, parcel)),
+            Ok((n, parcel)) => Ok(arrival_of(node, n, parcel)),
             Err(why) => Err(why),
         }
     }

@@ -41,7 +41,7 @@ pub struct Arrival<F: FabricName> {
 }
 
 // A parcel that was got at a node.
-pub(crate) fn arrival<F: FabricName>(node: u8, n: u64, parcel: Parcel) -> Arrival<F>
+pub(crate) fn arrival_of<F: FabricName>(node: u8, n: u64, parcel: Parcel) -> Arrival<F>
     requires { node < F.table.count }
     ensures number { result.n ≡ n }
     ensures bytes { result.bytes.items ≡ parcel.bytes }
