@@ -29,10 +29,13 @@ does t act old new (Err why) answer is h = subst (λ (r : Result Bool Refusal). 
 -- a turn that does this act
 pub tries : (t : TableName) (act : Act) (old mid new : CellState) (answer : Result Bool Refusal) → Chooses t old act mid → act ≢ acts.Idle → Does t act mid answer new →
     TriesTurn t old answer new
-tries t act old mid new (Ok true) c busy h = (h.1, record {
-  turn = turn_done t act old mid new (Ok h.1) c h.2;
-  busy = subst (λ (a : Act). a ≢ acts.Idle) (sym (turn_act t act old mid new (Ok h.1) c h.2)) busy;
-})
+tries t act old mid new (Ok true) c busy h = (
+  h.1,
+  record {
+    turn = turn_done t act old mid new (Ok h.1) c h.2;
+    busy = subst (λ (a : Act). a ≢ acts.Idle) (sym (turn_act t act old mid new (Ok h.1) c h.2)) busy;
+  },
+)
 tries t act old mid new (Ok false) c busy h = absurd cc
 tries t act old mid new (Err why) c busy h = turn_done t act old mid new (Err why) c h
 

@@ -163,8 +163,11 @@ turn_done t act old mid new answer c h = record {
     go : (r : Result Happened Refusal) → MatchResult r (λ event. IsTaken t old.part act event new.part h.found) (λ why. (new.part ≡ old.part) × IsRefused t.size old.part act (IsLost t old.part act h.found) why h.found) →
         MatchResult r (λ event. IsTaken t old.part act event new.part h.found) (λ why. (new.part ≡ old.part) × IsRefused t.size old.part act (IsLostTurn t old.part act c.found h.found) why h.found)
     go (Ok event) d = d
-    go (Err why) d = (d.0, refused_by t.size old.part act (IsLost t old.part act h.found) (IsLostTurn t old.part act c.found h.found) why h.found
-        (λ l. record { lost = l; ends = lost_ends t old.part c.found h.found act c.first l }) d.1)
+    go (Err why) d = (
+      d.0,
+      refused_by t.size old.part act (IsLost t old.part act h.found) (IsLostTurn t old.part act c.found h.found) why h.found
+          (λ l. record { lost = l; ends = lost_ends t old.part c.found h.found act c.first l }) d.1,
+    )
 
 -- its act
 pub turn_act : (t : TableName) (act : Act) (old mid new : CellState) (answer : Result Happened Refusal) (c : Chooses t old act mid) (h : Acts t act mid answer new) →

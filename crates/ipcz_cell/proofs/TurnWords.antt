@@ -1,6 +1,6 @@
 -- What a turn tells of an act on a link's word: its event, its answer and what was seen.
-use Rattle.std.specs.Prelude.{◌≡◌, ◌≤◌, ℕ, List, [], ◌∷◌, ◌++◌, Option, Some, None, option_map, Ok, Err}
-use Rattle.std.proofs.Common.{arith, ap, sym, ◌∙◌, refl, inl, append_assoc}
+use Rattle.std.specs.Prelude.{◌≡◌, ℕ, List, [], ◌∷◌, ◌++◌, Option, Some, None, option_map, Ok, Err}
+use Rattle.std.proofs.Common.{ap, sym, ◌∙◌, refl, inl, append_assoc}
 use Rattle.ipcz_base.specs.declared.link_end.LinkEnd.{LinkEnd}
 use Rattle.ipcz_base.specs.declared.link_id.LinkId.{LinkId}
 use Rattle.ipcz_base.specs.declared.link_id.LinkId.TheVariants.{Central, Peripheral}

@@ -252,10 +252,10 @@ impl<F: FabricName> Hub<F> {
         ensures why { node < F.table.count → IfErr result IsTurnRefusal }
         ensures answer { node < F.table.count → AreTurnAnswers F.table node limit result }
     {
-        if node < self.fabric.nodes() {
-            return acts_here(&mut self.lock(rt, node), &self.fabric, limit);
+        if node >= self.fabric.nodes() {
+            return Err(Refusal::Stranger);
         }
-        Err(Refusal::Stranger)
+        acts_here(&mut self.lock(rt, node), &self.fabric, limit)
     }
 
     /// Takes one turn of a node, as `turn`, and sleeps if it was idle: until a message is posted to the node, a message of it is handled,

@@ -20,7 +20,7 @@ pub struct Portals<F: FabricName> {
 
 impl<F: FabricName> Model for Portals<F> {
     ghost use Rattle.std.specs.Prelude.{◌<◌, List};
-    ghost use Rattle.std.specs.Coded.{codes, coded_list};
+    ghost use Rattle.std.specs.Coded.{codes};
     ghost use Rattle.ipcz_fabric.specs.Portals.{PortalValue, portals_at};
 
     ghost Value = { List PortalValue };
@@ -90,10 +90,11 @@ impl<F: FabricName> Portals<F> {
         ensures ok { IfOk result (λ portals. portals.items ≡ self) }
         ensures back { IfErr result (λ portals. portals ≡ self) }
     {
-        let Ok(mut portals) = Vec::with_capacity(alloc, self.ends.len()) else {
+        let count = self.ends.len();
+        let Ok(mut portals) = Vec::with_capacity(alloc, count) else {
             return Err(self);
         };
-        add_portals(self.node, self.ends.as_slice(), self.ends.len(), &mut portals);
+        add_portals(self.node, self.ends.as_slice(), count, &mut portals);
         Ok(portals)
     }
 }

@@ -33,7 +33,7 @@ fn a_parcel_goes_by_its_own_mailbox(rt: HostRuntime) -> Result<(), Fail> {
 }
 
 // The same parcel by turns that aren't told; then an end goes to the other node, and a parcel behind it.
-const UNTOLD: [(usize, Call); 14] = [
+const UNTOLD: [(usize, Call); 19] = [
     (0, Open(A1, B1)),
     (0, Put(A1, b"a", &[], 0)),
     (0, Acts(4, 4)),
@@ -43,10 +43,15 @@ const UNTOLD: [(usize, Call); 14] = [
     (0, Put(A0, b"b", &[B1], 0)),
     (0, Put(A1, b"c", &[], 1)),
     (0, Acts(0, 0)),
-    (0, Acts(100, 9)),
-    (1, Acts(100, 9)),
+    (0, Acts(100, 13)),
+    (1, Acts(100, 3)),
     (1, Get(B0, b"b", &[B1], 0)),
-    (1, Acts(100, 9)),
+    (0, Acts(100, 1)),
+    (1, Acts(100, 3)),
+    (0, Acts(100, 1)),
+    (1, Acts(100, 4)),
+    (0, Acts(100, 12)),
+    (1, Acts(100, 5)),
     (1, Get(B1, b"c", &[], 1)),
 ];
 
