@@ -1,5 +1,5 @@
 //! The loops of the measures, over any talkers. Each ends by itself, and tells whether it went as it should.
-use crate::talkers::Talker;
+use crate::talkers::{TURNS, Talker};
 use ipcz_node::Happened;
 use std::hint::spin_loop;
 use std::thread::yield_now;
@@ -7,28 +7,13 @@ use std::thread::yield_now;
 /// The bytes of a parcel.
 pub const LENGTH: usize = 16;
 
-// More turns than a loop takes on its way.
-const TURNS: u64 = 1_000_000_000;
-
 // How many parcels may wait to be posted.
 const AHEAD: u64 = 4;
-
-// Takes turns until there is nothing to do.
-fn acts<T: Talker>(talker: &mut T) -> bool {
-    for _turn in 0..TURNS {
-        match talker.turn() {
-            Ok(Happened::Idle) => return true,
-            Ok(_) => {}
-            Err(_) => return false,
-        }
-    }
-    false
-}
 
 /// So many times a put at one talker, the acts of both, and a get at the other.
 pub fn pass<T: Talker>(left: &mut T, right: &mut T, rounds: u64) -> bool {
     for _round in 0..rounds {
-        if !left.put(LENGTH) || !acts(left) || !acts(right) || !right.get() {
+        if !left.put(LENGTH) || !left.acts() || !right.acts() || !right.get() {
             return false;
         }
     }
@@ -113,5 +98,5 @@ pub fn answer<T: Talker>(talker: &mut T, rounds: u64) -> bool {
             return false;
         }
     }
-    acts(talker)
+    talker.acts()
 }

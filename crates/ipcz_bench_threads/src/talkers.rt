@@ -5,6 +5,9 @@ use ipcz_node::Happened;
 use std::alloc::Global;
 use std::sync::Wait;
 
+/// More turns than a talker takes on its way.
+pub const TURNS: u64 = 1_000_000_000;
+
 /// What puts, acts and gets at one node.
 pub trait Talker {
     /// Puts a parcel of so many bytes, and tells whether it was taken.
@@ -12,6 +15,9 @@ pub trait Talker {
 
     /// Takes a turn.
     fn turn(&mut self) -> Result<Happened, Refusal>;
+
+    /// Takes turns until one is idle, and tells whether none was refused.
+    fn acts(&mut self) -> bool;
 
     /// Gets a parcel, and tells whether there was one.
     fn get(&mut self) -> bool;
@@ -42,6 +48,10 @@ impl<'a, F: FabricName> Talker for Own<'a, F> {
         self.cell.turn(self.fabric)
     }
 
+    fn acts(&mut self) -> bool {
+        self.cell.acts(self.fabric, TURNS).is_ok()
+    }
+
     fn get(&mut self) -> bool {
         self.cell.get(self.fabric, self.at).is_ok()
     }
@@ -69,6 +79,10 @@ impl<'a, R: Wait, F: FabricName> Talker for Shared<'a, R, F> {
 
     fn turn(&mut self) -> Result<Happened, Refusal> {
         self.hub.turn(self.rt, self.portal.node())
+    }
+
+    fn acts(&mut self) -> bool {
+        self.hub.acts(self.rt, self.portal.node(), TURNS).is_ok()
     }
 
     fn get(&mut self) -> bool {

@@ -1,5 +1,5 @@
 -- The kinds of step, in the forms that the calls of a cell use.
-use Rattle.std.specs.Prelude.{◌≡◌, ℕ, true, false, [], ◌∷◌, Option, Some, None, IsSomeAnd}
+use Rattle.std.specs.Prelude.{◌≡◌, ℕ, true, false, [], ◌∷◌, Option, Some, None, IsSomeAnd, Result, Ok, Err, OnOk, is_ok}
 use Rattle.std.proofs.Common.{sym, subst, refl}
 use Rattle.atomic_table.specs.Table.{Allows}
 use Rattle.ipcz_base.specs.declared.end.End.{End}
@@ -43,3 +43,8 @@ pub acts_touch : (count size slots id i : ℕ) (m : Mine) (p : Part) (act : Act)
 acts_touch count size slots id i m p (acts.Router serial act) is touch may serials = let a = actor p.state serial act may serials in touches_acts count size slots id i m p serial a.0 act is a.1 touch
 acts_touch count size slots id i m p (acts.Close e) is touch may serials = pending_closes count size slots id i m p e is may
 acts_touch count size slots id i m p other is touch may serials = absurd cc
+
+-- what holds of an answer that is Ok
+pub holds_of_ok : {A B : Type 0} {P : Type 0} (r : Result A B) → is_ok r ≡ true → OnOk r P → P
+holds_of_ok (Ok a) e h = h
+holds_of_ok (Err b) e h = absurd cc

@@ -22,4 +22,5 @@ pub mod LockTries
 pub mod TurnWords
 pub mod TurnActs
 pub mod TurnParts
+pub mod TurnChains
 pub mod OpenSteps

@@ -80,10 +80,11 @@ probe_tells i i' k to found me me' room room' old view absent zero_found at done
     subst (λ (o : CellState). IsProbed i to o new) view is
 
 -- what a load tells
-pub load_tells : (i i' found : ℕ) (me me' : Mine) (room room' : NodeRoom) (old : CellState) → shown me room ≡ old → i' ≡ i → me' ≡ (saw i' found me.0, me.1) → HasSeen i found old (shown me' room')
-load_tells i i' found me me' room room' old view at done =
+pub load_tells : (i i' found : ℕ) (me me' : Mine) (room room' : NodeRoom) (old : CellState) → shown me room ≡ old → room' ≡ room → i' ≡ i → me' ≡ (saw i' found me.0, me.1) → HasSeen i found old (shown me' room')
+load_tells i i' found me me' room room' old view kept at done =
     subst (λ (o : CellState). HasSeen i found o (shown me' room')) view (record {
       part = ap (λ (m : Mine). part_in m.0) done;
+      room = kept;
       seen = ap (λ (m : Mine). m.0.seen) done ∙ ap (λ (z : ℕ). me.0.seen ++ (z, found) ∷ []) at;
     })
 

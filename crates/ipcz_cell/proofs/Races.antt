@@ -14,7 +14,7 @@ use Rattle.ipcz_rule.proofs.Races.{raced_is_overtaken}
 use Rattle.ipcz_rule.proofs.MailRaces.{waited_for_stays}
 use Rattle.ipcz_cell.specs.TableNames.{TableName}
 use Rattle.ipcz_cell.specs.CellStates.{CellState}
-use Rattle.ipcz_cell.specs.TurnEnds.{IsRefused, NoSerials, NoMemory, LostIt, EndsRaced}
+use Rattle.ipcz_cell.specs.TurnEnds.{IsRefused, NoSerials, NoMemory, LostIt, EndsRaced, IsLostTurn}
 use Rattle.ipcz_cell.specs.Claims.{Answered}
 use Rattle.ipcz_cell.specs.Claims.{Got, Dry, Lost}
 use Rattle.ipcz_cell.specs.Opens as opens
@@ -63,11 +63,11 @@ module _ (t : TableName) (id : ℕ) (p q : Ruled t.count t.size) (steps : List (
       go (inl low) = overtaken h.before h.word h.loaded h.exchanged is h.differ low
       go (inr waits) = unraced h.before h.word h.loaded h.exchanged is h.differ waits
 
-  refused : (seen found : List (ℕ × ℕ)) (act : Act) → new.seen ≡ old.seen ++ seen → IsRefused t.size old.part act (EndsRaced t old.part seen) Raced found →
-      IsOvertakenCall t id p steps q run old new
-  refused seen found act e (NoSerials a b c) = cc
-  refused seen found act e (NoMemory a b c d f) = cc
-  refused seen found act e (LostIt a h) = ends seen e h
+  refused : (loads found : List (ℕ × ℕ)) (act : Act) → new.seen ≡ old.seen ++ (loads ++ found) →
+      IsRefused t.size old.part act (IsLostTurn t old.part act loads found) Raced found → IsOvertakenCall t id p steps q run old new
+  refused loads found act e (NoSerials a b c) = cc
+  refused loads found act e (NoMemory a b c d f) = cc
+  refused loads found act e (LostIt a h) = ends (loads ++ found) e h.ends
 
   low : t.size ≤ t.size
   low = omega arith
@@ -84,7 +84,7 @@ module _ (t : TableName) (id : ℕ) (p q : Ruled t.count t.size) (steps : List (
 
 pub raced_turn_is_overtaken : RacedTurnIsOvertaken
 raced_turn_is_overtaken t id p q steps run old new call h =
-    refused t id p q steps run old new call (h.loads ++ h.found) h.found h.act h.seen h.outcome.1
+    refused t id p q steps run old new call h.loads h.found h.act h.seen h.outcome.1
 
 pub raced_try_is_overtaken : RacedTryIsOvertaken
 raced_try_is_overtaken serial t id p q steps run old new call h =

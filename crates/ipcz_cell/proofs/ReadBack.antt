@@ -20,10 +20,10 @@ use Rattle.ipcz_world.specs.Parts.{world_of_parts}
 use Rattle.ipcz_rule.specs.declared.view.View.{View}
 use Rattle.ipcz_rule.specs.declared.view.Part.{Part}
 use Rattle.ipcz_rule.specs.Rule.{Slot, St, Rules, InParts, puts_of, gets_of, drops_of}
-use Rattle.ipcz_rule.specs.End.{AreAll, IsShown, view_of, states_of}
+use Rattle.ipcz_rule.specs.End.{AreAll, IsShown, rested, view_of, states_of}
 use Rattle.ipcz_rule.proofs.Ending.{some_inside, part_of, is_shown, world_is, is_table, full_box, hand_box, empty_box, homes_many}
 use Rattle.ipcz_cell.specs.CellStates.{CellState}
-use Rattle.ipcz_cell.specs.Ending.{Reads, rested, is_in_order, parts_of}
+use Rattle.ipcz_cell.specs.Ending.{Reads, is_in_order, parts_of}
 
 -- the messages in the hands of these nodes
 abbrev pub messages_of : List Part → List (Option Message)
@@ -120,6 +120,10 @@ pub rested_states : (ps : List Part) → states_of (map rested ps) ≡ states_of
 rested_states [] = refl
 rested_states (p ∷ ps) = ap (λ l. p.state ∷ l) (rested_states ps)
 
+rested_twice : (ps : List Part) → map rested (map rested ps) ≡ map rested ps
+rested_twice [] = refl
+rested_twice (p ∷ ps) = ap (λ l. rested p ∷ l) (rested_twice ps)
+
 rested_at : (ps : List Part) (k : ℕ) (q : Part) → get_elem? (map rested ps) k ≡ some q → (p : Part) × (get_elem? ps k ≡ some p) × (rested p ≡ q)
 rested_at [] k q e = absurd (some-ne-none q (sym e))
 rested_at (p ∷ ps) zero q e = (p, refl, some-injective (rested p) q e)
@@ -161,14 +165,14 @@ came {X = X} of ps same x h = go h.id h.seat
 pub shown_before : (count size : ℕ) (ps : List Part) (w : World) → IsShown count size (map rested ps) w → IsShown count size ps w
 shown_before count size ps w is = let j = is.joined in record {
   nodes = is.nodes ∙ rested_states ps;
-  count_is = is.count_is;
-  size_is = is.size_is;
   hands = λ k p e. is.hands k (rested p) (at_map rested ps k p e);
   table = is.table;
-  owner = is.owner;
-  shows = is.shows;
-  books = is.books;
-  routes = is.routes;
+  rules = is.rules;
+  world_is = is.world_is;
+  id = is.id;
+  view = is.view;
+  seat = is.seat;
+  parts = is.parts ∙ rested_twice ps;
   joined = record {
     put = λ e n item h. goes puts_of ps (λ p. refl) ((e, n), item) (j.put e n item h);
     put_only = λ e n item h. j.put_only e n item (came puts_of ps (λ p. refl) ((e, n), item) h);
@@ -177,7 +181,6 @@ shown_before count size ps w is = let j = is.joined in record {
     gone = λ e n h l. goes drops_of ps (λ p. refl) (e, n) (j.gone e n h l);
     gone_only = λ e n h. j.gone_only e n (came drops_of ps (λ p. refl) (e, n) h);
   };
-  lawful = is.lawful;
 }
 
 -- the rule for as many nodes and words

@@ -19,7 +19,8 @@ use Rattle.ipcz_cell.specs.CellStates.{first_part, part_in, change_part}
 use Rattle.ipcz_cell.specs.Cells.{AreOnce, AreBelow, IsCell, probed_slots, hand_slots}
 use Rattle.ipcz_cell.specs.Mails.{mail_word}
 use Rattle.ipcz_cell.specs.Outcomes.{Tells, IsPicked}
-use Rattle.ipcz_cell.specs.Ending.{unprobed, given_back, rested}
+use Rattle.ipcz_rule.specs.End.{rested}
+use Rattle.ipcz_cell.specs.Ending.{unprobed, given_back}
 
 -- a number stands in a list that begins with it
 pub has_first : (to : ℕ) (tos : List ℕ) → has_number (to ∷ tos) to ≡ true

@@ -12,8 +12,8 @@ use Rattle.atomic_table.specs.Table.{Allows}
 use Rattle.ipcz_rule.specs.Rule.{Slot, Mine, Rules}
 use Rattle.ipcz_cell.specs.Outcomes.{Tells, IsPicked}
 use Rattle.ipcz_cell.specs.TableNames.{TableName}
-use Rattle.ipcz_cell.specs.CellStates.{part_in, first_part}
-use Rattle.ipcz_cell.specs.Cells.{AreSound, IsSeated, IsCell, held_slots}
+use Rattle.ipcz_cell.specs.CellStates.{CellState, part_in, first_part}
+use Rattle.ipcz_cell.specs.Cells.{AreBelow, AreSound, IsSeated, IsCell, IsSoundCell, held_slots}
 
 -- what a touch leaves of a part
 pub record KeepsHands (p p' : Part) : Type 0 where
@@ -51,6 +51,16 @@ module _ (t : TableName) (n : Node) (id : TableId) (me : Mine) (was : IsSeated t
   stays_seated n' id' me' same done state =
       let named : IsSeated t n id' me = record { named = same ∙ was.named; whole = was.whole; state = was.state; sound = was.sound } in
       subst (λ (m : Mine). IsSeated t n' id' m) (sym done) (subst (λ (z : Node). IsSeated t z id' me) (sym state) named)
+
+-- a cell is sound
+pub cell_sound : (t : TableName) (n : Node) (hand : Option Message) (tos : List ℕ) (id : TableId) (me : Mine) (c : CellState) → IsCell t n hand tos id me → part_in me.0 ≡ c.part → IsSoundCell t c
+cell_sound t n hand tos id me c was is = record {
+  inside = subst (λ (p : Part). p.node < t.count) is (own_inside t n id me was.seated);
+  sound = subst (λ (p : Part). IsSound t.count t.size p.node p.state) is (own_sound t n id me was.seated);
+  holding = ap (λ (p : Part). is_some p.message) (sym is) ∙ (ap is_some was.message ∙ (was.holding ∙ (ap (λ (z : Node). is_some z.hand) (sym was.seated.state)
+      ∙ ap (λ (p : Part). is_some p.state.hand) is)));
+  below = subst (AreBelow t.count) (sym was.probed ∙ ap (λ (p : Part). p.probed) is) was.below;
+}
 
 -- a cell after a touch
 pub touched_cell : (t : TableName) (n n' : Node) (hand : Option Message) (tos : List ℕ) (id id' : TableId) (me me' : Mine) (p' : Part) (v' : View) → IsCell t n hand tos id me → IsSeated t n' id' me' →

@@ -25,7 +25,7 @@ use Rattle.ipcz_cell.specs.Claims.{Answered, Got as Claimed, Dry as WasDry, Lost
 use Rattle.ipcz_cell.specs.Mails.{mail_word, old_named, OldLoaded, source_found, Handles}
 use Rattle.ipcz_cell.specs.Turns.{IsFirst, Chooses}
 use Rattle.ipcz_rule.specs.Races.{IsWaitedFor}
-use Rattle.ipcz_cell.specs.TurnEnds.{IsTaken, IsLost, IsRefused, NoSerials, NoMemory, LostIt, hand_lacks_serials, Acts, EndsRaced, Turns, Got, Dry}
+use Rattle.ipcz_cell.specs.TurnEnds.{IsTaken, IsLost, IsRefused, NoSerials, NoMemory, LostIt, hand_lacks_serials, Acts, EndsRaced, IsLostTurn, Turns, Got, Dry}
 use Rattle.ipcz_cell.proofs.TurnWords.{seen_two}
 use Rattle.ipcz_cell.proofs.TurnActs.{acts_whole}
 
@@ -115,7 +115,7 @@ claim_lost t serial old new why not (WasDry e part seen) = absurd (not (ap (refu
 claim_lost t serial old new why not (WasLost n found e other part seen) = record {
   found = (t.size, n) ∷ (t.size, found) ∷ [];
   seen = seen ∙ seen_two old.seen (t.size, n) (t.size, found);
-  outcome = (part, LostIt (ap (refusal_in why) e) (t.size, n, found, omega arith, other, refl));
+  outcome = (part, LostIt (ap (refusal_in why) e) (n, found, other, refl));
 }
 
 -- what was claimed is one of the table's words
@@ -140,7 +140,8 @@ ends_with t p loads found before word n m waits other last is = record {
 lost_ends : (t : TableName) (p : Part) (loads found : Seen) (act : Act) → IsFirst t p loads act → IsLost t p act found → EndsRaced t p (loads ++ found)
 lost_ends t p loads found (acts.Look sender) first lost = ends_with t p loads found first.full.before (mail_word t sender p.node) 1 lost.0 (inl (sender, first.inside, refl, refl)) lost.1 first.full.last lost.2
 lost_ends t p loads found (acts.Post to) first lost = let load = first.can.free lost.2 in ends_with t p loads found load.before (mail_word t p.node to) 0 lost.0 (inr (to, first.inside, refl, refl)) lost.1 load.last lost.3
-lost_ends t p loads found (acts.Router serial act) first lost = record { before = loads; word = lost.0; loaded = lost.1; exchanged = lost.2; differ = lost.4; of = inl lost.3; last = ap (λ (l : Seen). loads ++ l) lost.5 }
+lost_ends t p loads found (acts.Router serial router_acts.Lock) first lost = record { before = loads; word = lost.0; loaded = lost.1; exchanged = lost.2; differ = lost.6; of = inl (let l = lost.5 in omega (arith, l)); last = ap (λ (l : Seen). loads ++ l) lost.7 }
+lost_ends t p loads found (acts.Router serial router_acts.Claim) first lost = record { before = loads; word = t.size; loaded = lost.0; exchanged = lost.1; differ = lost.2; of = inl (omega arith); last = ap (λ (l : Seen). loads ++ l) lost.3 }
 lost_ends t p loads found other first lost = absurd lost
 
 refused_by : (size : ℕ) (p : Part) (act : Act) (L M : Type 0) (why : Refusal) (seen : Seen) → (L → M) → IsRefused size p act L why seen → IsRefused size p act M why seen
@@ -160,6 +161,16 @@ turn_done t act old mid new answer c h = record {
 }
   where
     go : (r : Result Happened Refusal) → MatchResult r (λ event. IsTaken t old.part act event new.part h.found) (λ why. (new.part ≡ old.part) × IsRefused t.size old.part act (IsLost t old.part act h.found) why h.found) →
-        MatchResult r (λ event. IsTaken t old.part act event new.part h.found) (λ why. (new.part ≡ old.part) × IsRefused t.size old.part act (EndsRaced t old.part (c.found ++ h.found)) why h.found)
+        MatchResult r (λ event. IsTaken t old.part act event new.part h.found) (λ why. (new.part ≡ old.part) × IsRefused t.size old.part act (IsLostTurn t old.part act c.found h.found) why h.found)
     go (Ok event) d = d
-    go (Err why) d = (d.0, refused_by t.size old.part act (IsLost t old.part act h.found) (EndsRaced t old.part (c.found ++ h.found)) why h.found (lost_ends t old.part c.found h.found act c.first) d.1)
+    go (Err why) d = (
+      d.0,
+      refused_by t.size old.part act (IsLost t old.part act h.found) (IsLostTurn t old.part act c.found h.found) why h.found
+          (λ l. record { lost = l; ends = lost_ends t old.part c.found h.found act c.first l }) d.1,
+    )
+
+-- its act
+pub turn_act : (t : TableName) (act : Act) (old mid new : CellState) (answer : Result Happened Refusal) (c : Chooses t old act mid) (h : Acts t act mid answer new) →
+    (turn_done t act old mid new answer c h).act ≡ act
+unfolding turn_done
+turn_act t act old mid new answer c h = refl

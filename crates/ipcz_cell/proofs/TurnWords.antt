@@ -1,6 +1,6 @@
 -- What a turn tells of an act on a link's word: its event, its answer and what was seen.
-use Rattle.std.specs.Prelude.{◌≡◌, ◌≤◌, ℕ, List, [], ◌∷◌, ◌++◌, Option, Some, None, option_map, Ok, Err}
-use Rattle.std.proofs.Common.{arith, ap, sym, ◌∙◌, refl, inl, append_assoc}
+use Rattle.std.specs.Prelude.{◌≡◌, ℕ, List, [], ◌∷◌, ◌++◌, Option, Some, None, option_map, Ok, Err}
+use Rattle.std.proofs.Common.{ap, sym, ◌∙◌, refl, inl, append_assoc}
 use Rattle.ipcz_base.specs.declared.link_end.LinkEnd.{LinkEnd}
 use Rattle.ipcz_base.specs.declared.link_id.LinkId.{LinkId}
 use Rattle.ipcz_base.specs.declared.link_id.LinkId.TheVariants.{Central, Peripheral}
@@ -185,9 +185,8 @@ lock_acts t serial old new try event h e =
 pub lock_lost : (t : TableName) (serial : ℕ) (old new : CellState) (why : Refusal) → LocksWord t.size serial old (Err why) new → Acts t (acts.Router serial router_acts.Lock) old (Err why) new
 lock_lost t serial old new why h =
     let tried = h.tried in
-    let below : h.word ≤ t.size = let l = h.inside in omega arith in
     let seen = (h.word, h.loaded) ∷ (h.word, tried.1.0) ∷ [] in record {
       found = seen;
       seen = tried.1.3 ∙ seen_two old.seen (h.word, h.loaded) (h.word, tried.1.0);
-      outcome = (tried.1.2, LostIt tried.0 (h.word, h.loaded, tried.1.0, below, tried.1.1, refl));
+      outcome = (tried.1.2, LostIt tried.0 (h.word, h.loaded, tried.1.0, h.side, h.named, h.inside, tried.1.1, refl));
     }

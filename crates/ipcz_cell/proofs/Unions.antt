@@ -8,9 +8,9 @@ use Rattle.ipcz_node.specs.RoomyNodes.{RoomyNode}
 use Rattle.ipcz_rule.specs.declared.view.View.{View}
 use Rattle.ipcz_rule.specs.declared.view.Part.{Part}
 use Rattle.ipcz_rule.specs.Kinds.{together}
-use Rattle.ipcz_rule.specs.End.{states_of}
+use Rattle.ipcz_rule.specs.End.{rested, states_of}
 use Rattle.ipcz_cell.specs.CellStates.{CellState}
-use Rattle.ipcz_cell.specs.Ending.{rested, parts_of}
+use Rattle.ipcz_cell.specs.Ending.{parts_of}
 use Rattle.ipcz_cell.proofs.ReadBack.{messages_of}
 
 abbrev pub nodes_of : List RoomyNode → List Node

@@ -10,7 +10,7 @@ use Rattle.ipcz_rule.specs.declared.view.View.{View}
 use Rattle.ipcz_rule.specs.declared.view.Part.{Part}
 use Rattle.ipcz_rule.specs.Rule.{Slot, Mine, has_number}
 use Rattle.ipcz_cell.specs.TableNames.{TableName}
-use Rattle.ipcz_cell.specs.CellStates.{part_in}
+use Rattle.ipcz_cell.specs.CellStates.{CellState, part_in}
 
 -- each part of a view is of a sound node
 abbrev pub AreSound : ℕ → ℕ → View → Type 0
@@ -60,3 +60,11 @@ pub record IsCell (t : TableName) (n : Node) (hand : Option Message) (tos : List
   pub slots : me.1 ≡ held_slots t.count (part_in me.0)
   pub holding : is_some hand ≡ is_some n.hand
   pub below : AreBelow t.count tos
+
+-- a cell is that of a node of the table: the node is sound, its part has a message just where one is in hand, and each mailbox that was
+-- probed is to a node of the table
+pub record IsSoundCell (t : TableName) (c : CellState) : Type 0 where
+  pub inside : c.part.node < t.count
+  pub sound : IsSound t.count t.size c.part.node c.part.state
+  pub holding : is_some c.part.message ≡ is_some c.part.state.hand
+  pub below : AreBelow t.count c.part.probed

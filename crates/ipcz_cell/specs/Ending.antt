@@ -23,10 +23,6 @@ unprobed to m n m' = m' ≡ (change_part (unprobe_part to) m.0, rest m.1)
 abbrev pub given_back : ℕ → Tells
 given_back i m n m' = m' ≡ (saw i n m.0, rest m.1)
 
--- the part of a node that has given its slots back
-abbrev pub rested : Part → Part
-rested p = record { node = p.node; state = p.state; message = p.message; probed = []; put = p.put; got = p.got; gone = p.gone }
-
 -- the parts of these cells
 abbrev pub parts_of : List CellState → List Part
 parts_of cells = map (λ c. c.part) cells

@@ -12,4 +12,5 @@ pub mod Ending
 pub mod Claims
 pub mod Turns
 pub mod TurnEnds
+pub mod TurnChains
 pub mod Opens

@@ -128,11 +128,14 @@ abbrev pub IsSeenBefore : ℕ → Part → Act → List (ℕ × ℕ) → Type 0
 IsSeenBefore size p (acts.Hand from) seen = OldLoaded size (old_named p.message) seen
 IsSeenBefore size p other seen = seen ≡ []
 
--- an act was lost to another thread: an exchange found another number than the one that it was for
+-- an act was lost to another thread: an exchange found another number than the one that it was for. A look, a post, a try for the lock and
+-- a claim can be, and no other act
 abbrev pub IsLost : TableName → Part → Act → List (ℕ × ℕ) → Type 0
 IsLost t p (acts.Look from) seen = (n : ℕ) × (n ≢ 1) × (seen ≡ (mail_word t from p.node, n) ∷ [])
 IsLost t p (acts.Post to) seen = (n : ℕ) × (n ≢ 0) × (has_number p.probed to ≡ false) × (seen ≡ (mail_word t p.node to, n) ∷ [])
-IsLost t p (acts.Router serial act) seen = (word n found : ℕ) × (word ≤ t.size) × (found ≢ n) × (seen ≡ (word, n) ∷ (word, found) ∷ [])
+IsLost t p (acts.Router serial router_acts.Lock) seen = (word n found : ℕ) × (side : Side) × (word_side p.state serial ≡ Some (word, side)) ×
+    (word < t.size) × (found ≢ n) × (seen ≡ (word, n) ∷ (word, found) ∷ [])
+IsLost t p (acts.Router serial router_acts.Claim) seen = (n found : ℕ) × (found ≢ n) × (seen ≡ (t.size, n) ∷ (t.size, found) ∷ [])
 IsLost t p other seen = ⊥
 
 -- why an act was refused, where Lost is what it means that it was lost to another thread
@@ -160,6 +163,11 @@ pub record EndsRaced (t : TableName) (p : Part) (seen : List (ℕ × ℕ)) : Typ
   pub of : (word ≤ t.size) ⊎ IsWaitedFor t.count t.size p word loaded
   pub last : seen ≡ before ++ (word, loaded) ∷ (word, exchanged) ∷ []
 
+-- the first act was lost to another thread, and what the turn has seen ends so
+pub record IsLostTurn (t : TableName) (p : Part) (act : Act) (loads found : List (ℕ × ℕ)) : Type 0 where
+  pub lost : IsLost t p act found
+  pub ends : EndsRaced t p (loads ++ found)
+
 -- a turn: the first act for the mailboxes as its loads have found them was done, or nothing was
 pub record Turns (t : TableName) (old : CellState) (answer : Result Happened Refusal) (new : CellState) : Type 0 where
   pub act : Act
@@ -168,4 +176,4 @@ pub record Turns (t : TableName) (old : CellState) (answer : Result Happened Ref
   pub first : IsFirst t old.part loads act
   pub seen : new.seen ≡ old.seen ++ (loads ++ found)
   pub outcome : MatchResult answer (λ event. IsTaken t old.part act event new.part found)
-      (λ why. (new.part ≡ old.part) × IsRefused t.size old.part act (EndsRaced t old.part (loads ++ found)) why found)
+      (λ why. (new.part ≡ old.part) × IsRefused t.size old.part act (IsLostTurn t old.part act loads found) why found)

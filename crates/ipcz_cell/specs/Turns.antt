@@ -83,6 +83,7 @@ IsFirst t p found other = IsFirstElse t p found other
 -- the loads of a cell have found so much, and nothing else has changed
 pub record HasLooked (found : List (ℕ × ℕ)) (old new : CellState) : Type 0 where
   pub part : new.part ≡ old.part
+  pub room : new.room ≡ old.room
   pub seen : new.seen ≡ old.seen ++ found
 
 -- the first act for the mailboxes as they are found by loads now

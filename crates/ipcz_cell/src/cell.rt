@@ -189,6 +189,34 @@ fn told_here<F: FabricName, X: Outcome>(
     told
 }
 
+// The same, and nothing is told. X is what the step tells.
+fn plain_here<F: FabricName, X: Outcome>(
+    state: &mut NodeState,
+    seat: &mut Seat<Option<Message>, View>,
+    fabric: &Fabric<F>,
+    serial: u64,
+    act: RouterAct,
+) -> Result<(), Refusal>
+    requires picked { IsPicked X.tells (touched (act_part (Act.Router serial act) Answer.Plain)) }
+    requires seated { IsSeated F.table state.old.node seat.old.table_id seat.old.me }
+    requires touch { is_touch act ≡ true }
+    requires possible { IsPossibleAct state.old.node (Act.Router serial act) }
+    ensures why { IfErr result
+        (λ e. e ≡ (if act_lacks_serials state.old.node (Act.Router serial act) then Refusal.NumbersEnd else Refusal.OutOfMemory)) }
+    ensures grows { act_grows state.old.node (Act.Router serial act) ≡ false → IsOk result }
+    ensures seated { IsSeated F.table state.new.node seat.new.table_id seat.new.me }
+    ensures done { OnOk result
+        (seat.new.me ≡ (change_part (act_part (Act.Router serial act) Answer.Plain) seat.old.me.0, seat.old.me.1)) }
+    ensures err { OnErr result ((state.new.node ≡ state.old.node) × (seat.new.me ≡ seat.old.me)) }
+{
+    let node = state.number();
+    let done = state.act_plainly(serial, act);
+    if done.is_ok() {
+        touch::<F, X>(seat, fabric, node);
+    }
+    done
+}
+
 impl<F: FabricName> NodeCell<F> {
     /// Puts a parcel at an end that callers of this node hold, as `NodeState::put`.
     pub fn put(
@@ -276,5 +304,24 @@ impl<F: FabricName> NodeCell<F> {
         ensures seen { self.new.seen ≡ self.old.seen }
     {
         told_here::<F, Brand>(&mut self.state, &mut self.seat, fabric, serial, act)
+    }
+
+    // The same, and nothing is told.
+    pub(crate) fn act_plainly(
+        &mut self,
+        fabric: &Fabric<F>,
+        serial: u64,
+        act: RouterAct,
+    ) -> Result<(), Refusal>
+        requires touch { is_touch act ≡ true }
+        requires possible { IsPossibleAct self.old.part.state (Act.Router serial act) }
+        ensures ok { OnOk result (self.new.part ≡ act_part (Act.Router serial act) Answer.Plain self.old.part) }
+        ensures why { IfErr result
+            (λ e. e ≡ (if act_lacks_serials self.old.part.state (Act.Router serial act) then Refusal.NumbersEnd else Refusal.OutOfMemory)) }
+        ensures grows { act_grows self.old.part.state (Act.Router serial act) ≡ false → IsOk result }
+        ensures err { OnErr result (self.new.part ≡ self.old.part) }
+        ensures seen { self.new.seen ≡ self.old.seen }
+    {
+        plain_here::<F, Brand>(&mut self.state, &mut self.seat, fabric, serial, act)
     }
 }

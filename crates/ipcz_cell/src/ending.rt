@@ -10,12 +10,12 @@ ghost use Rattle.ipcz_world.specs.declared.mail.Mail.TheVariants as mails;
 ghost use Rattle.ipcz_rule.specs.Rule.{has_number};
 ghost use Rattle.ipcz_rule.specs.Steps.{unprobe_part};
 ghost use Rattle.ipcz_rule.specs.Kinds.{together};
-ghost use Rattle.ipcz_rule.specs.End.{AreAll, IsShown, states_of};
+ghost use Rattle.ipcz_rule.specs.End.{AreAll, IsShown, rested, states_of};
 ghost use Rattle.ipcz_cell.specs.CellStates.{part_in, change_part};
-ghost use Rattle.ipcz_cell.specs.Cells.{AreBelow, hand_slots, probed_slots};
+ghost use Rattle.ipcz_cell.specs.Cells.{AreBelow, IsSoundCell, hand_slots, probed_slots};
 ghost use Rattle.ipcz_cell.specs.Outcomes.{IsPicked};
 ghost use Rattle.ipcz_cell.specs.TableNames.{IsLaidOut};
-ghost use Rattle.ipcz_cell.specs.Ending.{unprobed, given_back, rested, is_in_order, parts_of, Reads, FinishRefuses, box_of, hand_left};
+ghost use Rattle.ipcz_cell.specs.Ending.{unprobed, given_back, is_in_order, parts_of, Reads, FinishRefuses, box_of, hand_left};
 
 use crate::cell::NodeCell;
 use crate::fabric::{Fabric, FabricName};
@@ -127,6 +127,7 @@ impl<F: FabricName> NodeCell<F> {
     pub fn node(&self) -> u8
         ensures node { result ≡ self.now.part.node }
         ensures inside { result < F.table.count }
+        ensures sound { IsSoundCell F.table self.now }
     {
         self.state.number()
     }

@@ -2,6 +2,7 @@
 //! (docs/THREADS.md).
 #![tactic(auto)]
 
+mod acts;
 mod bells;
 mod cell;
 mod claims;

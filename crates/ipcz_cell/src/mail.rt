@@ -1,5 +1,5 @@
 //! The mailboxes of a cell, each in a word of the table with its slot.
-ghost use Rattle.std.specs.Prelude.{◌≡◌, ◌<◌, ◌≤◌, ◌+◌, true, false, [], ◌∷◌, Some, None, OnOk, OnErr, IfOk, IfErr, if◌then◌else◌, cond};
+ghost use Rattle.std.specs.Prelude.{◌≡◌, ◌<◌, ◌≤◌, ◌+◌, true, false, [], ◌∷◌, Some, None, Ok, Err, OnOk, OnErr, IfOk, IfErr, if◌then◌else◌, cond};
 ghost use Rattle.std.specs.Prelude.{is_some};
 ghost use Rattle.atomic_table.specs.Table.{rest};
 ghost use Rattle.ipcz_node.specs.Acts.{has_mail_for, post_of};
@@ -8,6 +8,7 @@ ghost use Rattle.ipcz_node.specs.Hands.{is_unfit, message_lacks_serials};
 ghost use Rattle.ipcz_rule.specs.Rule.{has_number};
 ghost use Rattle.ipcz_rule.specs.Steps.{post_part, old_word};
 ghost use Rattle.ipcz_base.specs.declared.message.Message.{Message as MessageData};
+ghost use Rattle.ipcz_node.specs.declared.happened.Happened.{Happened as HappenedValue};
 ghost use Rattle.ipcz_cell.specs.CellStates.{part_in, change_part};
 ghost use Rattle.ipcz_cell.specs.Parts.{handed_part};
 ghost use Rattle.ipcz_cell.specs.Cells.{AreSound};
@@ -341,6 +342,27 @@ impl<F: FabricName> NodeCell<F> {
             Ok(false) => Ok(false),
             Err(why) => Err(why),
         }
+    }
+
+    // Handles the message in hand where it stands, where it is an item without ends and moves that has its place here, and tells whether
+    // it was one.
+    pub(crate) fn hand_alone(&mut self, fabric: &Fabric<F>, from: u8) -> Result<bool, Refusal>
+        requires { self.old.part.state.hand ≡ Some from }
+        ensures taken { IfOk result
+            (λ taken. taken ≡ true → (event : HappenedValue) × Handles F.table.size from self.old (Ok event) self.new) }
+        ensures left { IfOk result (λ taken. taken ≡ false → (self.new.part ≡ self.old.part) × (self.new.seen ≡ self.old.seen)) }
+        ensures err { IfErr result (λ e. Handles F.table.size from self.old (Err e) self.new) }
+    {
+        match old_word(&self.message) {
+            Some(_) => return Ok(false),
+            None => {}
+        }
+        let taken = self.handle_alone(fabric, from, None)?;
+        if taken {
+            fabric.bells.ring(from);
+            fabric.news.ring(self.state.number());
+        }
+        Ok(taken)
     }
 
     // Handles the message in hand, whatever it is, for which the source is known.

@@ -131,7 +131,7 @@ impl<F: FabricName> NodeCell<F> {
     }
 
     // Looks into the mailbox of a node.
-    fn look_turn(&mut self, fabric: &Fabric<F>, from: u8) -> Result<Happened, Refusal>
+    pub(crate) fn look_turn(&mut self, fabric: &Fabric<F>, from: u8) -> Result<Happened, Refusal>
         requires inside { from < F.table.count }
         requires idle { self.old.part.state.hand ≡ None }
         ensures { Acts F.table (Act.Look from) self.old result self.new }
@@ -144,7 +144,7 @@ impl<F: FabricName> NodeCell<F> {
     }
 
     // Posts the first message for a node, whose mailbox it takes first where it hasn't got it.
-    fn post_turn(&mut self, fabric: &Fabric<F>, to: u8) -> Result<Happened, Refusal>
+    pub(crate) fn post_turn(&mut self, fabric: &Fabric<F>, to: u8) -> Result<Happened, Refusal>
         requires inside { to < F.table.count }
         requires mail { has_mail_for self.old.part.state to ≡ true }
         ensures { Acts F.table (Act.Post to) self.old result self.new }
@@ -157,7 +157,7 @@ impl<F: FabricName> NodeCell<F> {
     }
 
     // An act that touches no word and no mailbox.
-    fn touch_turn(&mut self, fabric: &Fabric<F>, act: Act) -> Result<Happened, Refusal>
+    pub(crate) fn touch_turn(&mut self, fabric: &Fabric<F>, act: Act) -> Result<Happened, Refusal>
         requires touch { is_touch_act act ≡ true }
         requires alone { act ≡ stand_in act }
         requires possible { IsPossibleAct self.old.part.state act }
@@ -242,7 +242,7 @@ impl<F: FabricName> NodeCell<F> {
     }
 
     // An act of a router.
-    fn router_turn(
+    pub(crate) fn router_turn(
         &mut self,
         fabric: &Fabric<F>,
         serial: u64,

@@ -2,7 +2,7 @@
 ghost use Rattle.std.specs.Prelude.{◌≡◌};
 
 use ipcz_base::Refusal;
-use ipcz_fabric::{Blank, FabricName, Gate, Got, Hub, Portal, work_waiting};
+use ipcz_fabric::{Arrival, Blank, FabricName, Gate, Hub, Portal, work_waiting};
 use std::alloc::Global;
 use std::sync::Wait;
 use std::sync::atomic::{AtomicU64, Ordering};
@@ -28,7 +28,7 @@ fn get<F: FabricName, R: Wait + Clock>(
     rt: &R,
     hub: &Hub<F>,
     at: &Portal<F>,
-) -> Result<Got<F>, Refusal> {
+) -> Result<Arrival<F>, Refusal> {
     at.get_timeout(rt, hub, Duration::from_secs(10))
 }
 

@@ -2,12 +2,13 @@
 use Rattle.std.proofs.Common.{◌≡◌, ◌<◌, ◌∙◌, ℕ, sym, subst}
 use Rattle.std.specs.Prelude.{Result, Ok, Err, IfOk, IfErr, OnOk}
 use Rattle.ipcz_cell.specs.CellStates.{CellState}
+use Rattle.ipcz_cell.specs.Cells.{IsSoundCell}
 use Rattle.ipcz_cell.specs.TableNames.{TableName}
 use Rattle.ipcz_fabric.specs.Places.{IsCellOf}
 
 -- the cell that was asked for its node
-pub asked : (t : TableName) (node told : ℕ) (c guarded : CellState) → c ≡ guarded → told ≡ c.part.node → told ≡ node → node < t.count → IsCellOf t node guarded
-asked t node told c guarded is own same inside = subst (IsCellOf t node) is (record { node_is = sym own ∙ same; inside = inside })
+pub asked : (t : TableName) (node told : ℕ) (c guarded : CellState) → c ≡ guarded → told ≡ c.part.node → IsSoundCell t c → told ≡ node → node < t.count → IsCellOf t node guarded
+asked t node told c guarded is own sound same inside = subst (IsCellOf t node) is (record { node_is = sym own ∙ same; inside = inside; sound = sound })
 
 -- the cell that is lent from a guard
 pub lent : (t : TableName) (node there : ℕ) (c guarded : CellState) → node ≡ there → c ≡ guarded → IsCellOf t node guarded → IsCellOf t there c

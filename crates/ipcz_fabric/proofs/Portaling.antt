@@ -17,38 +17,33 @@ use Rattle.ipcz_node.specs.Node.{Node, Found, terminal_of, holds_end}
 use Rattle.ipcz_node.specs.Calls.{refusal_at, are_held_once, are_too_many, put_refusal, get_refusal, close_refusal}
 use Rattle.ipcz_rule.specs.declared.view.Part.{Part}
 use Rattle.ipcz_rule.specs.Steps.{put_part}
-use Rattle.ipcz_fabric.specs.Places.{IsRefusedFor}
-use Rattle.ipcz_fabric.specs.Portals.{PortalValue, ends_of, portals_at, parcel_refusal, IsPutRefusal, IsGetRefusal, IsCloseRefusal}
+use Rattle.ipcz_fabric.specs.Places.{IsRefusedFor, IsRefusedInOrder}
+use Rattle.ipcz_fabric.specs.Portals.{PortalValue, ends_of, portals_at, parcel_refusal, wants_list, IsPutRefusal, IsTakeRefusal, IsGetRefusal, IsCloseRefusal}
 
-item_why : (o : Option Item) (e : Refusal) → item_refusal o ≡ Some e → IsGetRefusal e
+item_why : (o : Option Item) (e : Refusal) → item_refusal o ≡ Some e → IsTakeRefusal e
 unfolding item_refusal
-item_why None e h = inr (inr (inl cc))
+item_why None e h = inr (inl cc)
 item_why (Some (items.Parcel p)) e h = cc
-item_why (Some items.Mark) e h = inr (inr (inr cc))
-item_why (Some items.Gone) e h = inr (inr (inr cc))
+item_why (Some items.Mark) e h = inr (inr cc)
+item_why (Some items.Gone) e h = inr (inr cc)
 
-terminal_why : (t : Option Found) (e : Refusal) → refusal_at t router_get_refusal ≡ Some e → IsGetRefusal e
+terminal_why : (t : Option Found) (e : Refusal) → refusal_at t router_get_refusal ≡ Some e → IsTakeRefusal e
 unfolding refusal_at
-terminal_why None e h = inr (inl cc)
+terminal_why None e h = inl cc
 terminal_why (Some f) e h = item_why (current_item f.router.in_queue) e h
 
-held_why : (held : Bool) (t : Option Found) (e : Refusal) → (if not held then Some refusals.Stranger else refusal_at t router_get_refusal) ≡ Some e → IsGetRefusal e
+held_why : (held : Bool) (t : Option Found) (e : Refusal) → (if not held then Some refusals.Stranger else refusal_at t router_get_refusal) ≡ Some e → IsTakeRefusal e
 held_why true t e h = terminal_why t e h
-held_why false t e h = inr (inl cc)
+held_why false t e h = inl cc
 
 -- a get at a node is refused for one of these
-get_why : (n : Node) (at : End) (e : Refusal) → get_refusal n at ≡ Some e → IsGetRefusal e
+pub take_refused : (n : Node) (at : End) (e : Refusal) → get_refusal n at ≡ Some e → IsTakeRefusal e
 unfolding get_refusal
-get_why n at e h = held_why (holds_end n at) (terminal_of n at) e h
+take_refused n at e h = held_why (holds_end n at) (terminal_of n at) e h
 
 pub get_refused : (n : Node) (at : End) (e : Refusal) → IsRefusedFor (get_refusal n at) e → IsGetRefusal e
 get_refused n at e (inl h) = inl h
-get_refused n at e (inr h) = get_why n at e h
-
--- what is answered where a call may want memory besides
-pub refused_for : (reason : Option Refusal) (e : Refusal) → e ≡ unwrap_or reason refusals.OutOfMemory → IsRefusedFor reason e
-refused_for None e h = inl h
-refused_for (Some why) e h = inr (ap Some (sym h))
+get_refused n at e (inr h) = inr (take_refused n at e h)
 
 open_why : (t : Option Found) (e : Refusal) → e ≡ unwrap_or (refusal_at t (λ (r : Router). None)) refusals.OutOfMemory → IsCloseRefusal e
 unfolding refusal_at
@@ -136,10 +131,15 @@ unfolding put_refusal PutRefusedFor
 put_why n at bytes ends e h = put_why_by (holds_end n at) (are_too_many bytes ends) (is_printable bytes) (has_end at ends) (has_end (opposite_end at) ends)
     (are_held_once n ends) (refusal_at (terminal_of n at) router_put_refusal) e (router_why (terminal_of n at) e) h
 
-pub put_refused : (n : Node) (at : End) (bytes : List ℕ) (ends : List End) (e : Refusal) → IsRefusedFor (put_refusal n at bytes ends) e →
+pub put_refused : (n : Node) (at : End) (bytes : List ℕ) (ends : List End) (wants : Bool) (e : Refusal) → IsRefusedInOrder wants (put_refusal n at bytes ends) e →
     IsPutRefusal at bytes ends e
-put_refused n at bytes ends e (inl h) = inl h
-put_refused n at bytes ends e (inr h) = put_why n at bytes ends e (sym (ap (λ (o : Option Refusal). unwrap_or o refusals.OutOfMemory) h))
+put_refused n at bytes ends wants e (inl h) = inl h.1
+put_refused n at bytes ends wants e (inr h) = put_why n at bytes ends e h
+
+-- a put that wants no list has no portals
+pub wants_by : (portals : List PortalValue) → (length portals ≡ 0 → false ≡ true) → wants_list (ends_of portals) ≡ true
+wants_by [] none = none refl
+wants_by (p ∷ ps) none = refl
 
 one_more : (node : ℕ) (e : End) (es : List End) → All (λ (p : PortalValue). p.node ≡ node) (portals_at node es) → (k : ℕ) (d : PortalValue) →
     k < length (portals_at node (e ∷ es)) → (slice_index_or (portals_at node (e ∷ es)) k d).node ≡ node

@@ -14,6 +14,7 @@ use Rattle.ipcz_cell.specs.CellStates.{CellState}
 use Rattle.ipcz_cell.specs.Opens.{OpensPair}
 use Rattle.ipcz_fabric.specs.Places.{CellWhere}
 use Rattle.ipcz_fabric.specs.Portals.{PortalValue, portal_at, portals_at}
+use Rattle.ipcz_cell.specs.TurnChains.{RunsTurns}
 use Rattle.ipcz_cell.specs.TurnEnds.{Turns}
 
 -- these are the ends that callers of a node hold whose terminals have a serial from this one on, by rising serials; a serial is below
@@ -48,6 +49,10 @@ IsOpenRefusal why = (why ≡ refusals.NoWord) ⊎ (why ≡ refusals.NumbersEnd) 
 -- a turn of a node answers this
 abbrev pub IsTurnAnswer : TableName → ℕ → Result Happened Refusal → Type 0
 IsTurnAnswer t node answer = CellWhere t node (λ old. (new : CellState) × Turns t old answer new)
+
+-- turns of a node, one after the other and at most so many, answer this
+abbrev pub AreTurnAnswers : TableName → ℕ → ℕ → Result ℕ Refusal → Type 0
+AreTurnAnswers t node limit answer = CellWhere t node (λ old. (new : CellState) × RunsTurns t limit old answer new)
 
 -- portals of both sides of a pair, at a node: the pair is that of a link word
 pub record ArePair (size node : ℕ) (portals : PortalValue × PortalValue) : Type 0 where

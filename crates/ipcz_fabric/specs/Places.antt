@@ -1,15 +1,17 @@
 -- Cells behind locks. Which state the cell of a node is in when a call takes its lock has no name, so what a call answers is said of some
 -- cell of that node.
-use Rattle.std.specs.Prelude.{◌≡◌, ◌<◌, ◌⊎◌, ℕ, Option, Some}
+use Rattle.std.specs.Prelude.{◌≡◌, ◌<◌, ◌⊎◌, ℕ, Bool, true, Option, Some, unwrap_or}
 use Rattle.ipcz_base.specs.declared.refusal.Refusal.{Refusal}
 use Rattle.ipcz_base.specs.declared.refusal.Refusal.TheVariants as refusals
 use Rattle.ipcz_cell.specs.CellStates.{CellState}
+use Rattle.ipcz_cell.specs.Cells.{IsSoundCell}
 use Rattle.ipcz_cell.specs.TableNames.{TableName}
 
--- a cell of a table's node
+-- a cell of a table's node, which is sound
 pub record IsCellOf (t : TableName) (node : ℕ) (c : CellState) : Type 0 where
   pub node_is : c.part.node ≡ node
   pub inside : node < t.count
+  pub sound : IsSoundCell t c
 
 -- a cell of a table's node of which this holds
 pub record CellWhere (t : TableName) (node : ℕ) (Holds : CellState → Type 0) : Type 0 where
@@ -20,3 +22,8 @@ pub record CellWhere (t : TableName) (node : ℕ) (Holds : CellState → Type 0)
 -- a call is refused for this, where there is such a reason, or for want of memory
 abbrev pub IsRefusedFor : Option Refusal → Refusal → Type 0
 IsRefusedFor reason why = (why ≡ refusals.OutOfMemory) ⊎ (reason ≡ Some why)
+
+-- a call is refused for want of memory for a list of its own, where it wants one; else for this, where there is such a reason; else for
+-- want of memory
+abbrev pub IsRefusedInOrder : Bool → Option Refusal → Refusal → Type 0
+IsRefusedInOrder wants reason why = ((wants ≡ true) × (why ≡ refusals.OutOfMemory)) ⊎ (why ≡ unwrap_or reason refusals.OutOfMemory)

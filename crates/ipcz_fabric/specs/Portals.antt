@@ -1,6 +1,6 @@
 -- Portals: what a clause sees of one, what a call of one answers, and why it may be refused: what the call of some cell of its node
 -- answers.
-use Rattle.std.specs.Prelude.{◌≡◌, ◌⊎◌, ℕ, not, if◌then◌else◌, Option, Some, None, List, map, take, unwrap_or}
+use Rattle.std.specs.Prelude.{◌≡◌, ◌⊎◌, ℕ, Bool, true, false, not, if◌then◌else◌, Option, Some, None, List, [], ◌∷◌, map, take, unwrap_or}
 use Rattle.ipcz_base.specs.declared.end.End.{End}
 use Rattle.ipcz_base.specs.declared.parcel.Parcel as parcels
 use Rattle.ipcz_base.specs.declared.refusal.Refusal.{Refusal}
@@ -10,7 +10,7 @@ use Rattle.ipcz_base.specs.Limits.{is_printable}
 use Rattle.ipcz_node.specs.Calls.{are_too_many, put_refusal, put_number, get_refusal, got_at, close_refusal}
 use Rattle.ipcz_cell.specs.CellStates.{CellState}
 use Rattle.ipcz_cell.specs.TableNames.{TableName}
-use Rattle.ipcz_fabric.specs.Places.{CellWhere, IsRefusedFor}
+use Rattle.ipcz_fabric.specs.Places.{CellWhere, IsRefusedFor, IsRefusedInOrder}
 
 -- the node whose callers hold the end, and the end
 pub record PortalValue : Type 0 where
@@ -29,9 +29,13 @@ portals_at node ends = map (portal_at node) ends
 abbrev pub ends_of : List PortalValue → List End
 ends_of portals = map (λ p. p.end) portals
 
+-- why a get that takes no memory may be refused
+abbrev pub IsTakeRefusal : Refusal → Type 0
+IsTakeRefusal why = (why ≡ refusals.Stranger) ⊎ (why ≡ refusals.Empty) ⊎ (why ≡ refusals.PeerClosed)
+
 -- why a get at a portal may be refused
 abbrev pub IsGetRefusal : Refusal → Type 0
-IsGetRefusal why = (why ≡ refusals.OutOfMemory) ⊎ (why ≡ refusals.Stranger) ⊎ (why ≡ refusals.Empty) ⊎ (why ≡ refusals.PeerClosed)
+IsGetRefusal why = (why ≡ refusals.OutOfMemory) ⊎ IsTakeRefusal why
 
 -- why a close of a portal may be refused
 abbrev pub IsCloseRefusal : Refusal → Type 0
@@ -57,9 +61,14 @@ abbrev pub IsPut : TableName → ℕ → End → List ℕ → List End → ℕ �
 IsPut t node at bytes ends number = CellWhere t node
     (λ c. (put_refusal c.part.state at bytes ends ≡ None) × (number ≡ put_number c.part.state at))
 
--- a put at an end of a node is refused so: for want of memory, or as the node refuses it
+-- whether a put of these ends wants memory for a list of them
+abbrev pub wants_list : List End → Bool
+wants_list [] = false
+wants_list (end ∷ ends) = true
+
+-- a put at an end of a node is refused so: for want of memory for the list of its ends, or as the node refuses it
 abbrev pub IsRefusedPut : TableName → ℕ → End → List ℕ → List End → Refusal → Type 0
-IsRefusedPut t node at bytes ends why = CellWhere t node (λ c. IsRefusedFor (put_refusal c.part.state at bytes ends) why)
+IsRefusedPut t node at bytes ends why = CellWhere t node (λ c. IsRefusedInOrder (wants_list ends) (put_refusal c.part.state at bytes ends) why)
 
 -- a get at an end of a cell's node gives a parcel with its number
 pub record IsTakenHere (c : CellState) (at : End) (taken : ℕ × parcels.Parcel) : Type 0 where
@@ -85,6 +94,10 @@ IsGot t node at number bytes portals = CellWhere t node (λ c. IsGotHere c node 
 -- a get at an end of a node is refused so: for want of memory, or as the node refuses it
 abbrev pub IsRefusedGet : TableName → ℕ → End → Refusal → Type 0
 IsRefusedGet t node at why = CellWhere t node (λ c. IsRefusedFor (get_refusal c.part.state at) why)
+
+-- a get that takes no memory is refused so, at an end of a node: as the node refuses it
+abbrev pub IsRefusedTake : TableName → ℕ → End → Refusal → Type 0
+IsRefusedTake t node at why = CellWhere t node (λ c. get_refusal c.part.state at ≡ Some why)
 
 -- a close of an end of a node answers this number
 abbrev pub IsClosed : TableName → ℕ → End → ℕ → Type 0

@@ -2,10 +2,11 @@
 ghost use Rattle.std.specs.Prelude.{◌≡◌, ◌≤◌, ◌<◌, OnOk, IfOk, IfErr, Err, vec_len, vec_capacity};
 ghost use Rattle.std.specs.Sync.Mutex.{mutex_guard_value};
 ghost use Rattle.ipcz_cell.specs.Ending.{FinishRefuses};
+ghost use Rattle.ipcz_cell.specs.TurnChains.{RunsTurns};
 ghost use Rattle.ipcz_cell.specs.TurnEnds.{Turns};
 ghost use Rattle.ipcz_fabric.specs.Places.{IsCellOf};
 ghost use Rattle.ipcz_fabric.specs.Hubs.{AddsFirst, AddsHeld, AreFirstPortals, ArePair, OpensPortals};
-ghost use Rattle.ipcz_fabric.specs.Hubs.{IsOpenAnswer, IsOpenRefusal, IsTurnAnswer, IsTurnRefusal};
+ghost use Rattle.ipcz_fabric.specs.Hubs.{AreTurnAnswers, IsOpenAnswer, IsOpenRefusal, IsTurnAnswer, IsTurnRefusal};
 
 use crate::portal::Portal;
 use ipcz_base::Refusal;
@@ -121,6 +122,17 @@ fn turn_here<F: FabricName>(cell: &mut NodeCell<F>, fabric: &Fabric<F>) -> Resul
     cell.turn(fabric)
 }
 
+// Takes turns of a cell's node, one after the other.
+fn acts_here<F: FabricName>(
+    cell: &mut NodeCell<F>,
+    fabric: &Fabric<F>,
+    limit: u64,
+) -> Result<u64, Refusal>
+    ensures { RunsTurns F.table limit cell.old result cell.new }
+{
+    cell.acts(fabric, limit)
+}
+
 // Opens a pair at a cell's node, and gives its portals, of side A and of side B.
 fn open_here<F: FabricName>(
     cell: &mut NodeCell<F>,
@@ -226,6 +238,24 @@ impl<F: FabricName> Hub<F> {
             return turn_here(&mut self.lock(rt, node), &self.fabric);
         }
         Err(Refusal::Stranger)
+    }
+
+    /// Takes turns of a node one after the other, under one hold of that node's lock, until one is idle, but no more than `limit`, and answers
+    /// how many it has taken before the idle one. Callers of the node wait meanwhile. What else holds of it is what `NodeCell::acts` says, of
+    /// the cell as the call found it: it has no name here, so `answer` says that there is such a cell.
+    ///
+    /// It answers `Stranger` where there is no node of that number; else `NumbersEnd`, `OutOfMemory` or `Raced`, as the first turn that is
+    /// refused. What the turns before have done stays.
+    pub fn acts<R: Wait>(&self, rt: &R, node: u8, limit: u64) -> Result<u64, Refusal>
+        ensures stranger { F.table.count ≤ node → result ≡ Err Refusal.Stranger }
+        ensures few { IfOk result (λ n. n ≤ limit) }
+        ensures why { node < F.table.count → IfErr result IsTurnRefusal }
+        ensures answer { node < F.table.count → AreTurnAnswers F.table node limit result }
+    {
+        if node >= self.fabric.nodes() {
+            return Err(Refusal::Stranger);
+        }
+        acts_here(&mut self.lock(rt, node), &self.fabric, limit)
     }
 
     /// Takes one turn of a node, as `turn`, and sleeps if it was idle: until a message is posted to the node, a message of it is handled,

@@ -5,9 +5,11 @@
 mod deadline;
 mod hub;
 mod portal;
+mod portals;
 mod workers;
 
 pub use hub::Hub;
 pub use ipcz_cell::{Bells, Blank, Fabric, FabricName, NodeCell, Ticket, finish, start};
 pub use portal::{Got, Portal, PortalPutRefused};
+pub use portals::{Arrival, Portals};
 pub use workers::{Gate, Worker, run_worker, work, work_waiting};

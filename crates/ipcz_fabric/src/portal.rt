@@ -1,15 +1,17 @@
 //! Portals: ends that callers own. A portal can't be copied, and travels in parcels.
-ghost use Rattle.std.specs.Prelude.{◌≡◌, ◌≤◌, ◌<◌, ◌+◌, ◌++◌, None, All, OnOk, OnErr, IfOk, IfErr, take, unwrap_or, vec_len, vec_capacity};
+ghost use Rattle.std.specs.Prelude.{◌≡◌, ◌≤◌, ◌<◌, ◌+◌, ◌++◌, None, All, OnOk, OnErr, IfOk, IfErr, IsOk, length, take, unwrap_or, vec_len, vec_capacity};
 ghost use Rattle.ipcz_node.specs.Calls.{put_refusal, put_number, get_refusal, close_refusal};
 ghost use Rattle.ipcz_rule.specs.Steps.{put_part, close_part};
 ghost use Rattle.ipcz_cell.specs.Parts.{got_part};
-ghost use Rattle.ipcz_fabric.specs.Places.{IsRefusedFor};
-ghost use Rattle.ipcz_fabric.specs.Portals.{ends_of, portals_at, parcel_refusal};
-ghost use Rattle.ipcz_fabric.specs.Portals.{IsPut, IsPutRefusal, IsRefusedPut, IsGot, IsGotHere, IsGetRefusal, IsRefusedGet, IsTaken, IsTakenHere};
+ghost use Rattle.ipcz_fabric.specs.Places.{IsRefusedFor, IsRefusedInOrder};
+ghost use Rattle.ipcz_fabric.specs.Portals.{ends_of, portals_at, parcel_refusal, wants_list};
+ghost use Rattle.ipcz_fabric.specs.Portals.{IsPut, IsPutRefusal, IsRefusedPut, IsGot, IsGotHere, IsGetRefusal, IsRefusedGet};
+ghost use Rattle.ipcz_fabric.specs.Portals.{IsTaken, IsTakenHere, IsTakeRefusal, IsRefusedTake};
 ghost use Rattle.ipcz_fabric.specs.Portals.{IsClosed, IsCloseRefusal, IsRefusedClose};
 
 use crate::deadline::Deadline;
 use crate::hub::Hub;
+use crate::portals::{Arrival, arrival_of};
 use ipcz_base::{Bytes, End, Ends, Parcel, Refusal};
 use ipcz_cell::{FabricName, NodeCell};
 use std::alloc::{AllocError, Global};
@@ -18,7 +20,7 @@ use std::sync::Wait;
 use std::time::{Clock, Duration};
 
 // How many portals a parcel can have: no put takes more.
-const MOST_PORTALS: usize = 8;
+pub(crate) const MOST_PORTALS: usize = 8;
 
 /// An end that callers of a node hold, of the table that F names. It isn't `Clone`: what has the portal has the end.
 ///
@@ -63,7 +65,8 @@ pub struct PortalPutRefused<F: FabricName> {
 
 // The ends of these portals.
 fn ends_of<F: FabricName>(alloc: Global, portals: &[Portal<F>]) -> Result<Ends, AllocError>
-    ensures { IfOk result (λ ends. ends ≡ ends_of portals.now) }
+    ensures ends { IfOk result (λ ends. ends ≡ ends_of portals.now) }
+    ensures none { length portals.now ≡ 0 → IsOk result }
 {
     let mut ends = Vec::with_capacity(alloc, portals.len())?;
     for portal in portals {
@@ -73,7 +76,12 @@ fn ends_of<F: FabricName>(alloc: Global, portals: &[Portal<F>]) -> Result<Ends, 
 }
 
 // Adds the portals of these ends at a node, but no more than are left to add.
-fn add_portals<F: FabricName>(node: u8, ends: &[End], left: usize, portals: &mut Vec<Portal<F>>)
+pub(crate) fn add_portals<F: FabricName>(
+    node: u8,
+    ends: &[End],
+    left: usize,
+    portals: &mut Vec<Portal<F>>,
+)
     requires node { node < F.table.count }
     requires room { vec_len portals.old + left ≤ vec_capacity portals.old }
     ensures { portals.new.items ≡ portals.old.items ++ portals_at node (take left ends.now) }
@@ -145,7 +153,8 @@ impl<F: FabricName> Portal<F> {
         ensures number { IfOk result (λ n. n ≡ put_number cell.old.part.state self.now.end) }
         ensures ok { OnOk result (cell.new.part ≡ put_part self.now.end bytes.items (ends_of portals.items) cell.old.part) }
         ensures why { IfErr result
-            (λ e. IsRefusedFor (put_refusal cell.old.part.state self.now.end bytes.items (ends_of portals.items)) e.why) }
+            (λ e. IsRefusedInOrder (wants_list (ends_of portals.items))
+            (put_refusal cell.old.part.state self.now.end bytes.items (ends_of portals.items)) e.why) }
         ensures back { IfErr result (λ e. (e.bytes.items ≡ bytes.items) × (e.portals.items ≡ portals.items)) }
         ensures err { OnErr result (cell.new.part ≡ cell.old.part) }
         ensures seen { cell.new.seen ≡ cell.old.seen }
@@ -252,7 +261,7 @@ impl<F: FabricName> Portal<F> {
     // Takes the next parcel, under the lock of the portal's node. It takes no memory.
     fn take<R: Wait>(&self, rt: &R, hub: &Hub<F>) -> Result<(u64, Parcel), Refusal>
         ensures taken { IfOk result (IsTaken F.table self.now.node self.now.end) }
-        ensures refused { IfErr result (IsRefusedGet F.table self.now.node self.now.end) }
+        ensures refused { IfErr result (IsRefusedTake F.table self.now.node self.now.end) }
     {
         self.take_here(&mut hub.lock(rt, self.node), hub)
     }
@@ -266,7 +275,7 @@ impl<F: FabricName> Portal<F> {
         limit: Duration,
     ) -> Result<(u64, Parcel), Refusal>
         ensures taken { IfOk result (IsTaken F.table self.now.node self.now.end) }
-        ensures refused { IfErr result (IsRefusedGet F.table self.now.node self.now.end) }
+        ensures refused { IfErr result (IsRefusedTake F.table self.now.node self.now.end) }
     {
         let first = self.take(rt, hub);
         if !matches!(&first, Err(Refusal::Empty)) {
@@ -289,27 +298,23 @@ impl<F: FabricName> Portal<F> {
     /// Takes the next parcel, as `get`, and sleeps while there is none, for no longer than `limit` in all; `Duration::MAX` is without end.
     /// Workers have to take the turns of the nodes meanwhile.
     ///
-    /// Its refusals are those of `get`. It answers `Empty` only where a last try, at the end of its time, has found none. Room for eight
-    /// portals is taken first and once, so a call that is woken again and again takes no more memory. A clock that can't be read ends the
-    /// wait.
+    /// It takes no memory, and is never refused `OutOfMemory`: its portals are made as they are taken out. Its other refusals are those of
+    /// `get`. It answers `Empty` only where a last try, at the end of its time, has found none. A clock that can't be read ends the wait.
     pub fn get_timeout<R: Wait + Clock>(
         &self,
         rt: &R,
         hub: &Hub<F>,
         limit: Duration,
-    ) -> Result<Got<F>, Refusal>
-        ensures got { IfOk result (λ g. IsGot F.table self.now.node self.now.end g.n g.bytes.items g.portals.items) }
-        ensures here { IfOk result (λ g. All (λ p. p.node ≡ self.now.node) g.portals.items) }
-        ensures few { IfOk result (λ g. vec_len g.portals ≤ 8) }
-        ensures why { IfErr result IsGetRefusal }
-        ensures refused { IfErr result (IsRefusedGet F.table self.now.node self.now.end) }
+    ) -> Result<Arrival<F>, Refusal>
+        ensures got { IfOk result (λ a. IsGot F.table self.now.node self.now.end a.n a.bytes.items a.portals) }
+        ensures here { IfOk result (λ a. All (λ p. p.node ≡ self.now.node) a.portals) }
+        ensures few { IfOk result (λ a. length a.portals ≤ 8) }
+        ensures why { IfErr result IsTakeRefusal }
+        ensures refused { IfErr result (IsRefusedTake F.table self.now.node self.now.end) }
     {
         let node = self.node;
-        let Ok(room) = Vec::with_capacity(hub.allocator(), MOST_PORTALS) else {
-            return Err(Refusal::OutOfMemory);
-        };
         match self.take_timeout(rt, hub, limit) {
-            Ok((n, parcel)) => Ok(with_portals(node, n, parcel, room)),
+            Ok((n, parcel)) => Ok(arrival_of(node, n, parcel)),
             Err(why) => Err(why),
         }
     }

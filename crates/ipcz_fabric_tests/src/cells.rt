@@ -45,6 +45,8 @@ enum Call {
     Put(End, &'static [u8], &'static [End], u64),
     /// Takes turns, which do this as their values print.
     Turns(&'static [&'static str]),
+    /// Takes turns until one is idle, but at most so many, and tells how many.
+    Acts(u64, u64),
     /// Gets these bytes and ends at an end, under this number.
     Get(End, &'static [u8], &'static [End], u64),
     /// Closes an end, whose mark has this number.
@@ -152,6 +154,7 @@ fn gives<F: FabricName>(
             Ok(puts(fabric, cell, alloc, at, data, ends, number)?)
         }
         Call::Turns(events) => take_all(fabric, cell, alloc, events),
+        Call::Acts(limit, number) => Ok(cell.acts(fabric, limit)? == number),
         Call::Get(at, data, ends, number) => {
             let (n, parcel) = cell.get(fabric, at)?;
             Ok(n == number && parcel.bytes.as_slice() == data && parcel.ends.as_slice() == ends)

@@ -7,6 +7,7 @@ use std::alloc::Global;
 use std::marker::Brand;
 use std::sync::Wait;
 use std::test::Fail;
+use std::time::{Clock, Duration};
 
 // What is looked at.
 #[derive(Clone, Copy)]
@@ -17,6 +18,7 @@ enum Case {
     OpenAtOne,
     EarlyEnd,
     DroppedPortal,
+    Arrival,
 }
 
 // A gate that is open for two turns.
@@ -93,8 +95,45 @@ fn is_open<F: FabricName, R: Wait>(rt: &R, hub: &Hub<F>) -> Option<bool> {
     Some(matches!(a.get(rt, hub), Err(Refusal::Empty)))
 }
 
+// Puts a portal at another, in a parcel, and takes the turns of node 0 that are there.
+fn sends<F: FabricName, R: Wait>(
+    rt: &R,
+    hub: &Hub<F>,
+    alloc: Global,
+    at: &Portal<F>,
+    moved: Portal<F>,
+) -> Option<u64> {
+    let mut portals = Vec::new(alloc);
+    portals.push(moved).ok()?;
+    at.put(rt, hub, Vec::new(alloc), portals).ok()?;
+    hub.acts(rt, 0, 100).ok()
+}
+
+// Whether a get that doesn't wait long finds nothing, and then what was sent: a portal, which is taken out, sent again, and got in a list.
+fn arrives<F: FabricName, R: Wait + Clock>(rt: &R, hub: &Hub<F>, alloc: Global) -> Option<bool> {
+    let (a, b) = hub.open_pair(rt, 0).ok()?;
+    let (moved, peer) = hub.open_pair(rt, 0).ok()?;
+    let early = b.get_timeout(rt, hub, Duration::ZERO);
+    sends(rt, hub, alloc, &a, moved)?;
+    let mut first = b.get_timeout(rt, hub, Duration::ZERO).ok()?;
+    let many = first.portals.len();
+    let taken = first.portals.pop()?;
+    let empty = first.portals.is_empty();
+    sends(rt, hub, alloc, &a, taken)?;
+    let then = b.get_timeout(rt, hub, Duration::ZERO).ok()?;
+    let list = then.portals.into_vec(alloc).ok()?;
+    let again = list.first()?;
+    let right = again.end() == peer.end().opposite();
+    Some(matches!(early, Err(Refusal::Empty)) && many == 1 && empty && list.len() == 1 && right)
+}
+
 // Whether a case is as it should be.
-fn looks<F: FabricName, R: Wait>(rt: &R, hub: &Hub<F>, alloc: Global, case: Case) -> Option<bool> {
+fn looks<F: FabricName, R: Wait + Clock>(
+    rt: &R,
+    hub: &Hub<F>,
+    alloc: Global,
+    case: Case,
+) -> Option<bool> {
     match case {
         Case::PeerClosed => is_closed(rt, hub),
         Case::Stranger => is_stranger(rt, hub, alloc),
@@ -102,11 +141,17 @@ fn looks<F: FabricName, R: Wait>(rt: &R, hub: &Hub<F>, alloc: Global, case: Case
         Case::OpenAtOne => is_at_one(rt, hub, alloc),
         Case::EarlyEnd => Some(work(rt, hub, 0, &mut Twice, 10) == 2),
         Case::DroppedPortal => is_open(rt, hub),
+        Case::Arrival => arrives(rt, hub, alloc),
     }
 }
 
 // Whether a case is as it should be, on a hub of its own.
-fn holds<F: FabricName, R: Wait>(rt: &R, alloc: Global, blank: Blank, case: Case) -> Option<bool>
+fn holds<F: FabricName, R: Wait + Clock>(
+    rt: &R,
+    alloc: Global,
+    blank: Blank,
+    case: Case,
+) -> Option<bool>
     requires { blank ≡ F.table }
 {
     let Ok((fabric, cells)) = blank.name::<F>() else {
@@ -157,5 +202,12 @@ fn work_that_ends_early_tells_the_turns_taken(rt: HostRuntime) -> Result<(), Fai
 fn a_portal_that_is_dropped_leaves_its_end_open(rt: HostRuntime) -> Result<(), Fail> {
     let blank = start(rt.alloc(), 2, 4)?;
     assert!(rt; holds::<Brand, _>(&rt, rt.alloc(), blank, Case::DroppedPortal) == Some(true));
+    Ok(())
+}
+
+#[test]
+fn a_portal_arrives_with_a_parcel_that_is_waited_for(rt: HostRuntime) -> Result<(), Fail> {
+    let blank = start(rt.alloc(), 2, 4)?;
+    assert!(rt; holds::<Brand, _>(&rt, rt.alloc(), blank, Case::Arrival) == Some(true));
     Ok(())
 }

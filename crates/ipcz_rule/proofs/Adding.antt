@@ -18,7 +18,8 @@ use Rattle.ipcz_world.specs.Books.{Books, add_put, add_got, add_gone, read}
 use Rattle.ipcz_rule.specs.declared.view.View.{View}
 use Rattle.ipcz_rule.specs.declared.view.Part.{Part}
 use Rattle.ipcz_rule.specs.Rule.{InParts, Joined, puts_of, gets_of, drops_of}
-use Rattle.ipcz_rule.proofs.Joins.{stays_in, stood_in, stands_in, same_in, at_inside}
+use Rattle.ipcz_rule.proofs.Joins.{stays_in, stood_in, stands_in, same_in}
+use Rattle.ipcz_rule.proofs.Moved.{at_inside}
 
 pub slice_get-more : {X : Type 0} (xs : List X) (y x : X) (i : ℕ) → slice_get (xs ++ y ∷ []) i ≡ Some x → (slice_get xs i ≡ Some x) ⊎ ((i ≡ length xs) × (x ≡ y))
 slice_get-more [] y x zero e = inr (refl, grind (arith, e))

@@ -12,8 +12,7 @@ use Rattle.ipcz_rule.specs.declared.view.View.{View}
 use Rattle.ipcz_rule.specs.declared.view.Part.{Part}
 use Rattle.ipcz_rule.specs.Rule.{Spells, InParts, Rules, puts_of, gets_of, drops_of}
 use Rattle.ipcz_rule.specs.Start.{head_parts, tail_parts, dealt, after_deal, opening_part, opening_parts}
-use Rattle.ipcz_rule.proofs.Moved.{only}
-use Rattle.ipcz_rule.proofs.Joins.{at_inside}
+use Rattle.ipcz_rule.proofs.Moved.{only, at_inside}
 use Rattle.ipcz_rule.proofs.Starting.{parts_are}
 
 -- an element of a list with one more, and where it stands
@@ -162,6 +161,9 @@ deals count size id v p ps is others s r at =
           (at_set s.views id a (after_deal v) x before))
           (λ (new : dealt v ≡ x). r.counted id v k n at (ap (λ (z : View). get_elem? z.seen k) new ∙ there))
           (at_snoc (set s.views id (after_deal v)) (dealt v) x a seat);
+      parts = λ node below. let h = r.parts node below in
+          let t = part_goes s.views id v p ps at is h.id h.place h.view h.part h.seat h.there in
+          record { id = t.0; view = t.1; place = t.2; part = h.part; seat = t.3; there = t.4; node_is = h.node_is };
     }
 
 -- the parts of the nodes from one on

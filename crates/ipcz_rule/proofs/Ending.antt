@@ -148,16 +148,15 @@ module _ (count size : ℕ) (s : St) (r : Rules count size s) (id : ℕ) (v : Vi
   pub is_shown : IsShown count size v.parts w
   is_shown = record {
     nodes = nodes_are;
-    count_is = r.nodes;
-    size_is = r.words;
     hands = hand_is;
     table = s;
-    owner = r.owner;
-    shows = r.shows;
-    books = r.books;
-    routes = r.routes;
+    rules = r;
+    world_is = refl;
+    id = id;
+    view = v;
+    seat = at;
+    parts = refl;
     joined = joined_is;
-    lawful = r.lawful;
   }
 
   -- the link words, read one after the other

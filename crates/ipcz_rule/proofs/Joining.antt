@@ -11,7 +11,7 @@ use Rattle.ipcz_rule.specs.declared.view.View.{View}
 use Rattle.ipcz_rule.specs.declared.view.Part.{Part}
 use Rattle.ipcz_rule.specs.Rule.{InParts, puts_of, gets_of, drops_of}
 use Rattle.ipcz_rule.specs.Kinds.{together, spent, JoinsParts}
-use Rattle.ipcz_rule.proofs.Joins.{at_inside}
+use Rattle.ipcz_rule.proofs.Moved.{at_inside}
 
 -- where two lists of parts are read together, one of the two was read
 in_both : (xs ys : List Part) (k : ℕ) (p : Part) → get_elem? (xs ++ ys) k ≡ some p → ((j : ℕ) × (get_elem? xs j ≡ some p)) ⊎ ((j : ℕ) × (get_elem? ys j ≡ some p))
@@ -117,4 +117,7 @@ joins count size id v other w s r at apart at_other =
           (λ (y : (a ≢ id) × (get_elem? s.views a ≡ some x)). r.counted a x k n y.1 there)
           (at_set s.views id a (together v w) x t.1))
           (at_set vs1 other a spent x seat);
+      parts = λ node below. let h = r.parts node below in
+          let t = part_goes s.views id v other w at apart at_other h.id h.place h.view h.part h.seat h.there in
+          record { id = t.0; view = t.1; place = t.2; part = h.part; seat = t.3; there = t.4; node_is = h.node_is };
     }

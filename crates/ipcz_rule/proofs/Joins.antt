@@ -1,7 +1,7 @@
 -- The books that the views keep, after a step that writes nothing or one entry.
-use Rattle.std.specs.Prelude.{◌≡◌, ◌≢◌, ◌⊎◌, ◌<◌, ℕ, zero, suc, List, [], ◌∷◌, length}
-use Rattle.std.proofs.Common.{arith, ap, ◌∙◌, sym, inl, inr, ⊎_elim, set}
-use mathlib.Core.Option.{some, some-injective, some-ne-none}
+use Rattle.std.specs.Prelude.{◌≡◌, ◌≢◌, ◌⊎◌, ℕ, List, [], ◌∷◌}
+use Rattle.std.proofs.Common.{ap, ◌∙◌, sym, inl, inr, ⊎_elim, set}
+use mathlib.Core.Option.{some, some-injective}
 use mathlib.Core.Logic.{dite}
 use native.Mathlib.Decide.{ℕ_discrete}
 use lib.ListN.{get_elem?}
@@ -10,12 +10,7 @@ use Rattle.ipcz_world.specs.Books.{Books}
 use Rattle.ipcz_rule.specs.declared.view.View.{View}
 use Rattle.ipcz_rule.specs.declared.view.Part.{Part}
 use Rattle.ipcz_rule.specs.Rule.{InParts, Joined, puts_of, gets_of, drops_of}
-use Rattle.ipcz_rule.proofs.Moved.{only}
-
-pub at_inside : {A : Type 0} (l : List A) (i : ℕ) (a : A) → get_elem? l i ≡ some a → i < length l
-at_inside [] i a e = absurd (some-ne-none a (sym e))
-at_inside (x ∷ xs) zero a e = omega arith
-at_inside (x ∷ xs) (suc i) a e = let h = at_inside xs i a e in omega arith
+use Rattle.ipcz_rule.proofs.Moved.{only, at_inside}
 
 module _ {X : Type 0} (of : Part → List X) (views : List View) (id : ℕ) (v v' : View) (p p' : Part) (at : get_elem? views id ≡ some v) (is : v.parts ≡ p ∷ []) (is' : v'.parts ≡ p' ∷ []) where
   -- what stood in a part still stands in one, where the part that changed keeps its entries

@@ -1,9 +1,11 @@
 -- A step of a seat: what it owes, and the rule after it.
 use Rattle.std.specs.Prelude.{◌≡◌, ◌≢◌, ◌≤◌, ◌<◌, ◌+◌, ◌*◌, ℕ, zero, suc, Bool, true, false, cond, nat_eq, List, [], ◌∷◌, length, slice_index}
-use Rattle.std.proofs.Common.{ap, ◌∙◌, sym, subst, ⊎_elim, set}
+use Rattle.std.proofs.Common.{arith, ap, ◌∙◌, sym, subst, ⊎_elim, set}
 use mathlib.Core.Option.{some, some-injective, some-ne-none}
 use lib.ListN.{get_elem?}
-use Rattle.atomic_table.proofs.Lists.{at_set}
+use mathlib.Core.Logic.{dite}
+use native.Mathlib.Decide.{ℕ_discrete}
+use Rattle.atomic_table.proofs.Lists.{at_set, set_here, set_else}
 use Rattle.ipcz_word.specs.Laws.{HasNode}
 use Rattle.ipcz_word.specs.Layout.{bits_of}
 use Rattle.ipcz_word.specs.Word.{Word}
@@ -14,8 +16,13 @@ use Rattle.ipcz_world.specs.Lawful.{Lawful}
 use Rattle.ipcz_world.proofs.Whole.{lawful_worlds_stray_nothing}
 use Rattle.ipcz_rule.specs.declared.view.View.{View}
 use Rattle.ipcz_rule.specs.declared.view.Part.{Part}
-use Rattle.ipcz_rule.specs.Rule.{Homes, St, mailbox, MailAt, Spells, Shows, Joined, Rules}
+use Rattle.ipcz_rule.specs.Rule.{Homes, St, mailbox, MailAt, Spells, Shows, Joined, HaveParts, Rules}
 use Rattle.ipcz_rule.proofs.Counts.{Sees, keeps_counts}
+
+pub at_inside : {A : Type 0} (l : List A) (i : ℕ) (a : A) → get_elem? l i ≡ some a → i < length l
+at_inside [] i a e = absurd (some-ne-none a (sym e))
+at_inside (x ∷ xs) zero a e = omega arith
+at_inside (x ∷ xs) (suc i) a e = let h = at_inside xs i a e in omega arith
 
 -- the one part of a list of one
 pub only : (ps : List Part) (p q : Part) (k : ℕ) → ps ≡ p ∷ [] → get_elem? ps k ≡ some q → p ≡ q
@@ -61,12 +68,36 @@ shown s w w' owner words homes id v v' p p' r at is is' m =
           (at_set s.views id j v' u at_j);
     }
 
+-- each node's part stays in its view, or is the one that changed
+parts_stay : (views : List View) (count id : ℕ) (v v' : View) (p p' : Part) → get_elem? views id ≡ some v → v.parts ≡ p ∷ [] → v'.parts ≡ p' ∷ [] → p'.node ≡ p.node →
+    HaveParts views count → HaveParts (set views id v') count
+parts_stay views count id v v' p p' at is is' same all node below = let h = all node below in dite (ℕ_discrete h.id id)
+    (λ e. let mine : v ≡ h.view = some-injective v h.view (sym at ∙ (ap (get_elem? views) (sym e) ∙ h.seat)) in
+    let here : p ≡ h.part = only h.view.parts p h.part h.place (sym (ap (λ (z : View). z.parts) mine) ∙ is) h.there in record {
+      id = id;
+      view = v';
+      place = 0;
+      part = p';
+      seat = set_here views id v' (at_inside views id v at);
+      there = ap (λ (l : List Part). get_elem? l 0) is';
+      node_is = same ∙ (ap (λ (z : Part). z.node) here ∙ h.node_is);
+    })
+    (λ far. record {
+      id = h.id;
+      view = h.view;
+      place = h.place;
+      part = h.part;
+      seat = set_else views id h.id v' far ∙ h.seat;
+      there = h.there;
+      node_is = h.node_is;
+    })
+
 -- the rule after such a step, where the new world is lawful with the new books
 pub ruled : {count size : ℕ} (s : St) (r : Rules count size s) (w' : World) (b' : Books) (g' : Routes) (words : List ℕ) (homes : Homes) (id : ℕ) (v v' : View) (p p' : Part) →
     get_elem? s.views id ≡ some v → v.parts ≡ p ∷ [] → v'.parts ≡ p' ∷ [] → Sees s.words v v' → Moves s r.world w' words homes p p' →
     Joined (set s.views id v') b' → Lawful w' b' g' →
     Rules count size record { words = words; homes = homes; views = set s.views id v' }
-ruled s r w' b' g' words homes id v v' p p' at is is' sight m joined lawful = record {
+ruled {count} s r w' b' g' words homes id v v' p p' at is is' sight m joined lawful = record {
   world = w';
   books = b';
   routes = g';
@@ -80,6 +111,7 @@ ruled s r w' b' g' words homes id v v' p p' at is is' sight m joined lawful = re
   strays = (lawful_worlds_stray_nothing w' b' g' lawful).1;
   sources = m.sources;
   counted = keeps_counts s.views s.words r.world w' id v v' at sight m.size m.grows r.shows.claims r.counted;
+  parts = parts_stay s.views count id v v' p p' at is is' m.node r.parts;
 }
 
 -- the rule after it, with what is known of the world that is shown then

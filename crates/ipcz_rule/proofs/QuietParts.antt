@@ -82,9 +82,9 @@ quiet_parts_show_quiet count size s r each full = record { nodes = nodes; mail =
 
     nodes : (n : ℕ) → n < r.world.count → is_quiet (node_at r.world n) ≡ true
     nodes n l =
-        let t = each n (rw (← r.nodes) l) in
-        let sp = (r.shows.parts t.0 t.1 t.2 t.3 t.4 t.5).1 in
-        ap (λ k. is_quiet (node_at r.world k)) (sym t.6) ∙ (ap is_quiet sp.state ∙ t.7)
+        let t = r.parts n (rw (← r.nodes) l) in
+        let sp = (r.shows.parts t.id t.view t.place t.part t.seat t.there).1 in
+        ap (λ k. is_quiet (node_at r.world k)) (sym t.node_is) ∙ (ap is_quiet sp.state ∙ each t.id t.view t.place t.part t.seat t.there)
 
     no_hand : (k : ℕ) → k < r.world.count * r.world.count → is_some (hand_message (mail_at r.world k)) ≡ true → ⊥
     no_hand k l h =

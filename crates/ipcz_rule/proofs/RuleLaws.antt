@@ -16,7 +16,7 @@ use Rattle.ipcz_world.proofs.Whole.{lawful_worlds_give_the_headline, lawful_worl
 use Rattle.ipcz_world.proofs.Whole.{each_step_keeps_lawful, replies_plainly}
 use Rattle.ipcz_world.proofs.ranks.Rating.{turns_keep_rates}
 use Rattle.ipcz_world.proofs.ranks.Turning.{turns_are_bounded}
-use Rattle.ipcz_rule.specs.RuleLaws.{RuleGivesHeadline, RuleOwes, RuleBoundsTurns, ShownHasLengths, PartsAreSound, PartsHandsFit, LinksAreWords, CountsWereReached, PutsAreOnce, GetsFollowPuts}
+use Rattle.ipcz_rule.specs.RuleLaws.{RuleGivesHeadline, RuleOwes, RuleBoundsTurns, ShownHasLengths, PartsAreSound, PartsHandsFit, LinksAreWords, CountsWereReached, NodesHaveParts, PutsAreOnce, GetsFollowPuts}
 use Rattle.ipcz_rule.proofs.Known.{sound_spelled, no_strays, found_word}
 use Rattle.ipcz_rule.specs.Steps.{trusted}
 use Rattle.ipcz_rule.proofs.FromLaws.{hand_sender, hand_source}
@@ -101,3 +101,6 @@ gets_follow_puts count size s r e n q h =
     slice_get-take (length (b.got (opposite_end (opposite_end e)))) (b.put (opposite_end e)) n (Parcel q)
     (ap (λ l. slice_get l n) prefix ∙ slice_get-map Parcel (b.got (opposite_end (opposite_end e))) n q (ap (λ d. slice_get (b.got d) n) (opposite_end-twice e) ∙ got)) in
     (r.joined.put (opposite_end e) n (Parcel q) put, λ k l. let t = slice_get-below (b.got e) n q got k l in (t.0, r.joined.got e k t.0 t.1))
+
+pub nodes_have_parts : NodesHaveParts
+nodes_have_parts count size s r = r.parts

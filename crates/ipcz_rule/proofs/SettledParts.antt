@@ -28,14 +28,15 @@ bare_has_none serial = get-empty nat_cmp serial
 
 pub settled_parts_are_direct : SettledPartsAreDirect
 settled_parts_are_direct count size s r each full =
-    let quiet = quiet_parts_show_quiet count size s r (λ n l. let t = each n l in (t.0, t.1, t.2, t.3, t.4, t.5, t.6, t.7.quiet)) full in
+    let quiet = quiet_parts_show_quiet count size s r (λ id v j p at there. (each id v j p at there).quiet) full in
     (quiet_has_no_proxy r.world r.books r.routes r.lawful quiet wet, closed_pairs_are_gone r.world r.books r.routes r.lawful quiet wet, λ pair side open_pair open_end. each_quiet_is_direct r.world r.books r.routes pair side r.lawful quiet wet open_pair open_end)
   where
     on_node : (k : Key) (q : Router) → router_at r.world k ≡ Some q → k.node < r.world.count → q.dry ≡ false
     on_node k q here l =
-        let t = each k.node (rw (← r.nodes) l) in
-        let sp = (r.shows.parts t.0 t.1 t.2 t.3 t.4 t.5).1 in
-        t.7.wet k.serial q (ap (λ (n : Node). router_in n k.serial) (sym sp.state ∙ ap (node_at r.world) t.6) ∙ (sym (at_node r.world k) ∙ here))
+        let t = r.parts k.node (rw (← r.nodes) l) in
+        let sp = (r.shows.parts t.id t.view t.place t.part t.seat t.there).1 in
+        (each t.id t.view t.place t.part t.seat t.there).wet k.serial q
+        (ap (λ (n : Node). router_in n k.serial) (sym sp.state ∙ ap (node_at r.world) t.node_is) ∙ (sym (at_node r.world k) ∙ here))
 
     wet : IsWet r.world
     wet k q here = ⊎_elim

@@ -101,6 +101,12 @@ parts_are count i (suc left) zero p e = let same : i + zero ≡ i = omega arith 
 parts_are count i (suc left) (suc j) p e = let t = parts_are count (i + 1) left j p e in let same : i + suc j ≡ (i + 1) + j = omega arith in
     (omega (arith, t.0), ap (opening_part count) same ∙ t.1)
 
+pub part_there : (count i left j : ℕ) → j < left → get_elem? (opening_parts count i left) j ≡ some (opening_part count (i + j))
+part_there count i zero j l = absurd (omega (arith, l))
+part_there count i (suc left) zero l = let same : i ≡ i + zero = omega arith in ap (λ n. some (opening_part count n)) same
+part_there count i (suc left) (suc j) l = let same : (i + 1) + j ≡ i + suc j = omega arith in
+    part_there count (i + 1) left j (omega (arith, l)) ∙ ap (λ n. some (opening_part count n)) same
+
 -- new ends leave the hand as it is
 pair_hand : (n : Node) (pair : ℕ) (p : ℕ × ℕ) → (add_pair n pair p).hand ≡ n.hand
 pair_hand n pair p = go (nat_eq p.0 n.number) (nat_eq p.1 n.number)
@@ -226,6 +232,15 @@ module _ (count size : ℕ) (limits : IsWithinLimits count size) where
     strays = (lawful_worlds_stray_nothing w no_books (first_routes count) law).1;
     sources = sources;
     counted = λ id v k n at there. absurd (nothing_seen id v k n at there);
+    parts = λ node below. record {
+      id = 0;
+      view = opening_view count;
+      place = node;
+      part = opening_part count (0 + node);
+      seat = refl;
+      there = part_there count 0 count node below;
+      node_is = omega arith;
+    };
   }
     where
       nothing_seen : (id : ℕ) (v : View) (k n : ℕ) → get_elem? (opening_view count ∷ []) id ≡ some v → get_elem? v.seen k ≡ some (size, n) → ⊥

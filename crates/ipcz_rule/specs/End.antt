@@ -4,12 +4,10 @@ use mathlib.Core.Option.{some}
 use lib.ListN.{get_elem?}
 use Rattle.ipcz_node.specs.Node.{Node}
 use Rattle.ipcz_world.specs.World.{World}
-use Rattle.ipcz_world.specs.Books.{Books}
-use Rattle.ipcz_world.specs.Routes.{Routes, hand_of}
-use Rattle.ipcz_world.specs.Lawful.{Lawful}
+use Rattle.ipcz_world.specs.Routes.{hand_of}
 use Rattle.ipcz_rule.specs.declared.view.View.{View}
 use Rattle.ipcz_rule.specs.declared.view.Part.{Part}
-use Rattle.ipcz_rule.specs.Rule.{St, Shows, Joined}
+use Rattle.ipcz_rule.specs.Rule.{St, Joined, Rules}
 
 -- a view of these parts
 abbrev pub view_of : List Part → View
@@ -24,17 +22,21 @@ pub record AreAll (count : ℕ) (ps : List Part) : Type 0 where
   pub many : length ps ≡ count
   pub ordered : (k : ℕ) (p : Part) → get_elem? ps k ≡ some p → p.node ≡ k
 
--- the world that was shown when the table of so many nodes and words came to its end: its nodes are those of the parts, each with the
--- message in its hand, it is what words, slots and a view of these parts showed, and it is lawful with the books that the parts keep
+-- a part whose probed mailboxes have been given back
+abbrev pub rested : Part → Part
+rested p = record { node = p.node; state = p.state; message = p.message; probed = []; put = p.put; got = p.got; gone = p.gone }
+
+-- the world that was shown when the table of so many nodes and words came to its end: the table kept the rule, with this world, and with the
+-- books that the parts keep; one view had these parts, but for what was probed; the world's nodes are those of the parts, each with the
+-- message in its hand
 pub record IsShown (count size : ℕ) (ps : List Part) (w : World) : Type 0 where
   pub nodes : w.nodes ≡ states_of ps
-  pub count_is : w.count ≡ count
-  pub size_is : w.size ≡ size
   pub hands : (k : ℕ) (p : Part) → get_elem? ps k ≡ some p → hand_of w k p.state.hand ≡ p.message
   pub table : St
-  pub owner : ℕ → ℕ
-  pub shows : Shows table w owner
-  pub books : Books
-  pub routes : Routes
-  pub joined : Joined (view_of ps ∷ []) books
-  pub lawful : Lawful w books routes
+  pub rules : Rules count size table
+  pub world_is : rules.world ≡ w
+  pub id : ℕ
+  pub view : View
+  pub seat : get_elem? table.views id ≡ some view
+  pub parts : map rested view.parts ≡ map rested ps
+  pub joined : Joined (view_of ps ∷ []) rules.books

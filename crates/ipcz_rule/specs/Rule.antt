@@ -108,6 +108,20 @@ pub record Joined (views : List View) (b : Books) : Type 0 where
   pub gone : (e : End) (n : ℕ) → length (b.got e) ≤ n → n < read b e → InParts views drops_of (e, n)
   pub gone_only : (e : End) (n : ℕ) → InParts views drops_of (e, n) → (length (b.got e) ≤ n) × (n < read b e)
 
+-- a node has a part in some view
+pub record HasPart (views : List View) (node : ℕ) : Type 0 where
+  pub id : ℕ
+  pub view : View
+  pub place : ℕ
+  pub part : Part
+  pub seat : get_elem? views id ≡ some view
+  pub there : get_elem? view.parts place ≡ some part
+  pub node_is : part.node ≡ node
+
+-- so has each of so many nodes
+abbrev pub HaveParts : List View → ℕ → Type 0
+HaveParts views count = (node : ℕ) → node < count → HasPart views node
+
 -- no view has seen the claim count above what it is
 abbrev pub HasSeenCounts : List View → World → Type 0
 HasSeenCounts views w = (id : ℕ) (v : View) (k n : ℕ) → get_elem? views id ≡ some v → get_elem? v.seen k ≡ some (w.size, n) → n ≤ w.claimed
@@ -129,6 +143,7 @@ pub record Rules (count size : ℕ) (s : St) : Type 0 where
   -- each link word names a node as its source, or none
   pub sources : (i : ℕ) → HasNode (word_at world i).source
   pub counted : HasSeenCounts s.views world
+  pub parts : HaveParts s.views count
 
 -- the view with another part, its only one
 abbrev pub with_part : Part → View → View

@@ -26,7 +26,7 @@ use Rattle.ipcz_world.specs.Settling.{IsQuiet}
 use Rattle.ipcz_world.specs.Soundness.{HasLengths, IsSound}
 use Rattle.ipcz_rule.specs.declared.view.View.{View}
 use Rattle.ipcz_rule.specs.declared.view.Part.{Part}
-use Rattle.ipcz_rule.specs.Rule.{St, Rules, InParts, puts_of, gets_of}
+use Rattle.ipcz_rule.specs.Rule.{St, Rules, HaveParts, InParts, puts_of, gets_of}
 use Rattle.ipcz_rule.specs.Steps.{old_word, trusted}
 
 -- the sentence holds of the shown world with the joined books; its link lengths agree, and no message but a Flush finds its router gone
@@ -80,15 +80,17 @@ GetsFollowPuts = (count size : ℕ) (s : St) → Rules count size s → (e : End
     InParts s.views gets_of ((e, n), q) →
     InParts s.views puts_of ((opposite_end e, n), Parcel q) × ((k : ℕ) → k < n → (p : parcels.Parcel) × InParts s.views gets_of ((e, k), p))
 
--- each node of the table has a part in a view, of which this holds
-abbrev pub EachNode : List View → ℕ → (Part → Type 0) → Type 0
-EachNode views count P =
-    (n : ℕ) → n < count → (id : ℕ) × (v : View) × (j : ℕ) × (p : Part) × (get_elem? views id ≡ some v) × (get_elem? v.parts j ≡ some p) ×
-    (p.node ≡ n) × P p
+-- this holds of each part in a view
+abbrev pub EachPart : List View → (Part → Type 0) → Type 0
+EachPart views P = (id : ℕ) (v : View) (j : ℕ) (p : Part) → get_elem? views id ≡ some v → get_elem? v.parts j ≡ some p → P p
 
--- where each node is quiet by its part, and no mailbox is full, the shown world is quiet
+-- each node of the table has a part in a view
+abbrev pub NodesHaveParts : Type 0
+NodesHaveParts = (count size : ℕ) (s : St) → Rules count size s → HaveParts s.views count
+
+-- where each part is of a quiet node, and no mailbox is full, the shown world is quiet
 abbrev pub QuietPartsShowQuiet : Type 0
-QuietPartsShowQuiet = (count size : ℕ) (s : St) (r : Rules count size s) → EachNode s.views count (λ p. is_quiet p.state ≡ true) →
+QuietPartsShowQuiet = (count size : ℕ) (s : St) (r : Rules count size s) → EachPart s.views (λ p. is_quiet p.state ≡ true) →
     ((k : ℕ) → k < count * count → slice_index s.words (size + 1 + count + k) ≢ 1) → IsQuiet r.world
 
 -- a node has nothing to do, and none of its routers has found the words used up
@@ -99,7 +101,7 @@ pub record IsSettled (n : Node) : Type 0 where
 -- where that holds of each node by its part, and no mailbox is full, the shown world has no proxy and no router of a pair with both ends
 -- closed, and each open pair in it of which an end isn't closed is direct: two terminals on one free link, and all that was put has come
 abbrev pub SettledPartsAreDirect : Type 0
-SettledPartsAreDirect = (count size : ℕ) (s : St) (r : Rules count size s) → EachNode s.views count (λ p. IsSettled p.state) →
+SettledPartsAreDirect = (count size : ℕ) (s : St) (r : Rules count size s) → EachPart s.views (λ p. IsSettled p.state) →
     ((k : ℕ) → k < count * count → slice_index s.words (size + 1 + count + k) ≢ 1) →
     HasNoProxies r.world × HasNoClosedPairs r.world r.books ×
     ((pair : ℕ) (side : Side) → is_opened r.routes pair ≡ true → is_closed r.books (end_at pair side) ≡ false → IsDirect r.world r.books pair)

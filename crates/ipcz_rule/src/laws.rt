@@ -1,7 +1,7 @@
 //! What the rule of the table says (specs/RuleLaws). Each function does nothing: its contract is the law.
 
 ghost use Rattle.ipcz_rule.specs.RuleLaws.{RuleGivesHeadline, RuleOwes, ShownHasLengths, PartsAreSound, PartsHandsFit, LinksAreWords};
-ghost use Rattle.ipcz_rule.specs.RuleLaws.{OldLinksAreWords, CountsWereReached};
+ghost use Rattle.ipcz_rule.specs.RuleLaws.{OldLinksAreWords, CountsWereReached, NodesHaveParts};
 ghost use Rattle.ipcz_rule.specs.RuleLaws.{RuleBoundsTurns};
 ghost use Rattle.ipcz_rule.specs.Races.{SightsAreLoads, RacedIsOvertaken, WaitedForStays};
 ghost use Rattle.ipcz_rule.specs.TableRuns.{StepsAreTurns, StepsAreBounded, OvertakenByActs};
@@ -49,6 +49,11 @@ pub fn each_count_seen_was_reached()
     ensures { CountsWereReached }
 {}
 
+/// Each node of the table has a part in some seat's view.
+pub fn each_node_has_a_part()
+    ensures { NodesHaveParts }
+{}
+
 /// The views say of each number of an end at most one item that was put under it.
 pub fn each_number_is_put_once()
     ensures { PutsAreOnce }
@@ -60,12 +65,12 @@ pub fn gets_follow_puts()
     ensures { GetsFollowPuts }
 {}
 
-/// Where each node is quiet by its part and no mailbox is full, the shown world is quiet.
+/// Where each part is of a quiet node and no mailbox is full, the shown world is quiet.
 pub fn quiet_parts_show_a_quiet_world()
     ensures { QuietPartsShowQuiet }
 {}
 
-/// Where each node is quiet by its part with no router that lacks a word, and no mailbox is full, the shown world has no proxy and no router
+/// Where each part is of a quiet node with no router that lacks a word, and no mailbox is full, the shown world has no proxy and no router
 /// of a pair with both ends closed, and each open pair in it of which an end isn't closed is direct: two terminals on one free link, and all
 /// that was put has come.
 pub fn settled_parts_are_direct()

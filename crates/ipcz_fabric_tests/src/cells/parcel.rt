@@ -1,7 +1,7 @@
-//! A parcel from one end of a pair to the other on one node.
+//! A parcel from one end of a pair to the other on one node, and what cells do by turns that aren't told.
 
-use super::Call::{Close, Get, Open, Put, Turns};
-use super::{A1, B1, Call, run};
+use super::Call::{Acts, Close, Get, Open, Put, Turns};
+use super::{A0, A1, B0, B1, Call, run};
 use ipcz_fabric::start;
 use std::marker::Brand;
 use std::test::Fail;
@@ -29,5 +29,36 @@ fn a_parcel_goes_by_its_own_mailbox(rt: HostRuntime) -> Result<(), Fail> {
     let alloc = rt.alloc();
     let blank = start(alloc, 2, 4)?;
     assert_eq!(rt; run::<Brand>(blank, alloc, &CALLS), Ok(CALLS.len()));
+    Ok(())
+}
+
+// The same parcel by turns that aren't told; then an end goes to the other node, and a parcel behind it.
+const UNTOLD: [(usize, Call); 19] = [
+    (0, Open(A1, B1)),
+    (0, Put(A1, b"a", &[], 0)),
+    (0, Acts(4, 4)),
+    (0, Get(B1, b"a", &[], 0)),
+    (0, Acts(100, 2)),
+    (0, Acts(100, 0)),
+    (0, Put(A0, b"b", &[B1], 0)),
+    (0, Put(A1, b"c", &[], 1)),
+    (0, Acts(0, 0)),
+    (0, Acts(100, 13)),
+    (1, Acts(100, 3)),
+    (1, Get(B0, b"b", &[B1], 0)),
+    (0, Acts(100, 1)),
+    (1, Acts(100, 3)),
+    (0, Acts(100, 1)),
+    (1, Acts(100, 4)),
+    (0, Acts(100, 12)),
+    (1, Acts(100, 5)),
+    (1, Get(B1, b"c", &[], 1)),
+];
+
+#[test]
+fn turns_that_are_not_told_pass_parcels(rt: HostRuntime) -> Result<(), Fail> {
+    let alloc = rt.alloc();
+    let blank = start(alloc, 2, 4)?;
+    assert_eq!(rt; run::<Brand>(blank, alloc, &UNTOLD), Ok(UNTOLD.len()));
     Ok(())
 }

@@ -1,20 +1,14 @@
-use Rattle.std.specs.Prelude.{◌≡◌, true, Result, Ok, Err, OnOk, is_ok}
 use Rattle.std.proofs.Common.{ap, sym, subst, ◌∙◌, arith}
 use Rattle.ipcz_node.specs.declared.act.Act.TheVariants.{Router}
 use Rattle.ipcz_node.specs.Node.{Node}
 use Rattle.ipcz_node.specs.Acts.{act_lacks_serials}
 use Rattle.ipcz_node.specs.RoomyNodes.{IsPossibleAct}
-use Rattle.ipcz_cell.proofs.Forms.{acts_touch}
+use Rattle.ipcz_cell.proofs.Forms.{acts_touch, holds_of_ok}
 use Rattle.ipcz_cell.proofs.Seating.{number_inside, may_by}
 use Rattle.ipcz_cell.proofs.cell.told_here.Goals as goal
 
 pub touch-requires-clause-node : goal.touch-requires-clause-node
 touch-requires-clause-node g c = let number = number_inside _ _ _ _ c.requires.seated in let e = c.number-node.ensures in omega (arith, number, e)
-
--- what holds of an answer that is Ok
-holds_of_ok : {A B : Type 0} {P : Type 0} (r : Result A B) → is_ok r ≡ true → OnOk r P → P
-holds_of_ok (Ok a) e h = h
-holds_of_ok (Err b) e h = absurd cc
 
 pub touch-requires-clause-may : goal.touch-requires-clause-may
 touch-requires-clause-may g c =

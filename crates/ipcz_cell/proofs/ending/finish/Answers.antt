@@ -1,8 +1,8 @@
 use Rattle.std.proofs.Common.{◌≡◌, true, ℕ, List, map, ap, sym, subst, ◌∙◌}
 use Rattle.ipcz_rule.specs.declared.view.Part.{Part}
-use Rattle.ipcz_rule.specs.End.{AreAll, IsShown, states_of}
+use Rattle.ipcz_rule.specs.End.{AreAll, IsShown, rested, states_of}
 use Rattle.ipcz_cell.specs.CellStates.{CellState}
-use Rattle.ipcz_cell.specs.Ending.{rested, is_in_order, parts_of}
+use Rattle.ipcz_cell.specs.Ending.{is_in_order, parts_of}
 use Rattle.ipcz_cell.proofs.ReadBack.{messages_of, all_parts, rested_states, rested_messages, shown_before}
 use Rattle.ipcz_cell.proofs.ending.finish.Goals as goal
 

@@ -8,6 +8,6 @@ loop-portal-preserved g c = ends_more c.args.portals.now c.loop-portal.portal-in
     c.loop-portal-test.true c.portal-item.is c.loop-portal.invariant
     (c.in_ok-push.ensures.items ∙ ap (λ (p : PortalValue). c.loop-portal.ends.items ++ p.end ∷ []) c.portal.view_is)
 
-pub returns : goal.returns
-returns g c = c.from_vec.ensures ∙ ends_all c.args.portals.now c.loop-portal.portal-index c.loop-portal.ends.items c.loop-portal-test.false
+pub returns-clause-ends : goal.returns-clause-ends
+returns-clause-ends g c = c.from_vec.ensures ∙ ends_all c.args.portals.now c.loop-portal.portal-index c.loop-portal.ends.items c.loop-portal-test.false
     c.loop-portal.auto.portal-index-end c.loop-portal.invariant

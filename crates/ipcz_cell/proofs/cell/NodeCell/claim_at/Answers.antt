@@ -27,7 +27,7 @@ returns-then-now-count-clause-claims g c = (
   c.exchange_step-now.result,
   c.if-now-count.true,
   load_tells g.F.FabricName.table.size _ c.exchange_step-now.result c.self.inside.seat.me c.exchange_step-now.new.seat.me
-      c.self.inside.state.room c.self.inside.state.room _ c.self.view_is c.fabric.invariant.4 (told_miss _ c.args.count _ _ c.if-now-count.true c.exchange_step-now.ensures.done),
+      c.self.inside.state.room c.self.inside.state.room _ c.self.view_is refl c.fabric.invariant.4 (told_miss _ c.args.count _ _ c.if-now-count.true c.exchange_step-now.ensures.done),
 )
 
 pub invariant_of-self-2 : goal.invariant_of-self-2

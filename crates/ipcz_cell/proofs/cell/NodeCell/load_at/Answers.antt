@@ -15,4 +15,4 @@ invariant_of-self g c =
     seen_cell g.F.FabricName.table _ _ _ _ _ c.self.invariant _ c.load_step.new.seat.me done.table done.sound c.args.word c.load_step.result done.done
 
 pub returns : goal.returns
-returns g c = load_tells c.args.word c.args.word c.load_step.result c.self.inside.seat.me c.load_step.new.seat.me c.self.inside.state.room c.self.inside.state.room _ c.self.view_is refl c.load_step.ensures.done
+returns g c = load_tells c.args.word c.args.word c.load_step.result c.self.inside.seat.me c.load_step.new.seat.me c.self.inside.state.room c.self.inside.state.room _ c.self.view_is refl refl c.load_step.ensures.done

@@ -1,4 +1,4 @@
-use Rattle.std.proofs.Common.{ℕ, sym, subst, arith}
+use Rattle.std.proofs.Common.{refl, ℕ, sym, subst, arith}
 use Rattle.ipcz_cell.specs.CellStates.{CellState}
 use Rattle.ipcz_cell.specs.Claims.{AreReached}
 use Rattle.ipcz_cell.proofs.Mailing.{seen_cell, load_tells}
@@ -18,7 +18,7 @@ invariant_of-self g c =
 
 pub returns-clause-seen : goal.returns-clause-seen
 returns-clause-seen g c =
-    load_tells g.F.FabricName.table.size _ c.load_step.result c.self.inside.seat.me c.load_step.new.seat.me c.self.inside.state.room c.self.inside.state.room _ c.self.view_is c.fabric.invariant.4 c.load_step.ensures.done.2
+    load_tells g.F.FabricName.table.size _ c.load_step.result c.self.inside.seat.me c.load_step.new.seat.me c.self.inside.state.room c.self.inside.state.room _ c.self.view_is refl c.fabric.invariant.4 c.load_step.ensures.done.2
 
 pub returns-clause-reached : goal.returns-clause-reached
 returns-clause-reached g c =

@@ -16,7 +16,7 @@ invariant_of-self g c =
 
 pub returns-clause-seen : goal.returns-clause-seen
 returns-clause-seen g c =
-    load_tells c.args.i c.args.i c.load_step.result c.self.inside.seat.me c.load_step.new.seat.me c.self.inside.state.room c.self.inside.state.room _ c.self.view_is refl c.load_step.ensures.done.1
+    load_tells c.args.i c.args.i c.load_step.result c.self.inside.seat.me c.load_step.new.seat.me c.self.inside.state.room c.self.inside.state.room _ c.self.view_is refl refl c.load_step.ensures.done.1
 
 pub returns-clause-word : goal.returns-clause-word
 returns-clause-word g c = c.load_step.ensures.done.0

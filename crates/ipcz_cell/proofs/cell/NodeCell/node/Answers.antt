@@ -1,6 +1,6 @@
 use Rattle.std.proofs.Common.{ap, ◌∙◌, arith}
 use Rattle.ipcz_cell.specs.CellStates.{CellState}
-use Rattle.ipcz_cell.proofs.Seating.{number_is, number_inside}
+use Rattle.ipcz_cell.proofs.Seating.{number_is, number_inside, cell_sound}
 use Rattle.ipcz_cell.proofs.cell.NodeCell.node.Goals as goal
 
 pub returns-clause-node : goal.returns-clause-node
@@ -11,3 +11,6 @@ returns-clause-inside g c =
     let inside = number_inside _ _ _ _ c.self.invariant.seated in
     let is = c.number.ensures in
     omega (arith, inside, is)
+
+pub returns-clause-sound : goal.returns-clause-sound
+returns-clause-sound g c = cell_sound _ _ _ _ _ _ _ c.self.invariant (ap (λ (z : CellState). z.part) c.self.view_is)

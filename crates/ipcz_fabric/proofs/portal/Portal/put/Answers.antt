@@ -17,7 +17,7 @@ pub returns-clause-fits : goal.returns-clause-fits
 returns-clause-fits g c = on_ok (put_fits _ _ _ _) c.put_here-put.result c.put_here-put.ensures.allowed
 
 pub returns-clause-why : goal.returns-clause-why
-returns-clause-why g c = if_err (λ e h. put_refused c.deref_mut.result.now.part.state _ _ _ _ h) c.put_here-put.result c.put_here-put.ensures.why
+returns-clause-why g c = if_err (λ e h. put_refused c.deref_mut.result.now.part.state _ _ _ _ _ h) c.put_here-put.result c.put_here-put.ensures.why
 
 pub returns-clause-refused : goal.returns-clause-refused
 returns-clause-refused g c = if_err

@@ -1,0 +1,119 @@
+-- Turns of a cell one after the other, whose events aren't told.
+use Rattle.std.specs.Prelude.{◌≡◌, ◌≢◌, ◌≤◌, ◌<◌, ◌+◌, ℕ, Bool, true, false, List, [], ◌∷◌, ◌++◌, length, Option, Some, None, Result, Ok, Err}
+use Rattle.std.proofs.Common.{ap, sym, subst, ◌∙◌, refl, inl, inr, arith, append-nil}
+use Rattle.std.proofs.lemmas.List.{length-append}
+use Rattle.ipcz_base.specs.declared.message.Message.{Message}
+use Rattle.ipcz_base.specs.declared.message.Message.TheVariants as messages
+use Rattle.ipcz_base.specs.declared.refusal.Refusal.{Refusal}
+use Rattle.ipcz_node.specs.declared.act.Act.{Act}
+use Rattle.ipcz_node.specs.declared.act.Act.TheVariants as acts
+use Rattle.ipcz_node.specs.declared.happened.Happened.{Happened}
+use Rattle.ipcz_node.specs.declared.happened.Happened.TheVariants as events
+use Rattle.ipcz_node.specs.Events.{hand_event}
+use Rattle.ipcz_rule.specs.Steps.{old_word, trusted}
+use Rattle.ipcz_cell.specs.TableNames.{TableName}
+use Rattle.ipcz_cell.specs.CellStates.{CellState}
+use Rattle.ipcz_cell.specs.Parts.{handed_part, part_handed}
+use Rattle.ipcz_cell.specs.Mails.{Handles, OldLoaded, old_named}
+use Rattle.ipcz_cell.specs.Turns.{Chooses}
+use Rattle.ipcz_cell.specs.TurnEnds.{Acts}
+use Rattle.ipcz_cell.specs.TurnChains.{untold, Does, TakesTurn, TriesTurn, AreTurns, RunsTurns}
+use Rattle.ipcz_cell.proofs.TurnParts.{idle_acts, turn_done, turn_act}
+
+-- an act whose event isn't told
+pub does : (t : TableName) (act : Act) (old new : CellState) (told : Result Happened Refusal) (answer : Result Bool Refusal) → answer ≡ untold told →
+    Acts t act old told new → Does t act old answer new
+does t act old new (Ok event) answer is h = subst (λ (r : Result Bool Refusal). Does t act old r new) (sym is) (refl, event, h)
+does t act old new (Err why) answer is h = subst (λ (r : Result Bool Refusal). Does t act old r new) (sym is) h
+
+-- a turn that does this act
+pub tries : (t : TableName) (act : Act) (old mid new : CellState) (answer : Result Bool Refusal) → Chooses t old act mid → act ≢ acts.Idle → Does t act mid answer new →
+    TriesTurn t old answer new
+tries t act old mid new (Ok true) c busy h = (
+  h.1,
+  record {
+    turn = turn_done t act old mid new (Ok h.1) c h.2;
+    busy = subst (λ (a : Act). a ≢ acts.Idle) (sym (turn_act t act old mid new (Ok h.1) c h.2)) busy;
+  },
+)
+tries t act old mid new (Ok false) c busy h = absurd cc
+tries t act old mid new (Err why) c busy h = turn_done t act old mid new (Err why) c h
+
+-- a turn that has nothing to do
+pub idles : (t : TableName) (act : Act) (old mid : CellState) → Chooses t old act mid → act ≡ acts.Idle → TriesTurn t old (Ok false) mid
+idles t act old mid c is = record { turn = turn_done t act old mid mid (Ok events.Idle) c nothing; idle = turn_act t act old mid mid (Ok events.Idle) c nothing ∙ is }
+  where
+    nothing : Acts t act mid (Ok events.Idle) mid
+    nothing = subst (λ (a : Act). Acts t a mid (Ok events.Idle) mid) (sym is) (idle_acts t mid)
+
+-- a message that names no old link has no source
+pub unnamed : (from : ℕ) (x : Message) → old_word x ≡ None → trusted from x ≡ None
+unfolding trusted
+unnamed sender (messages.AcceptBypass old side fresh length) e = cc
+unnamed sender other e = refl
+
+pub names_none : (o : Option Message) (x : Message) → o ≡ Some x → old_named o ≡ None → old_word x ≡ None
+names_none o x is none = ap old_named (sym is) ∙ none
+
+-- such a message that was handled where it stands
+pub item_handled : (size from : ℕ) (old new : CellState) (x : Message) → old.part.message ≡ Some x → old_word x ≡ None → new.part ≡ handed_part from None old.part → new.seen ≡ old.seen →
+    Handles size from old (Ok (hand_event old.part.state from x None)) new
+item_handled size sender old new x is none part seen = record {
+  message = x;
+  in_hand = is;
+  found = [];
+  loaded = subst (λ (o : Option ℕ). OldLoaded size o []) (sym none) refl;
+  seen = seen ∙ sym (append-nil old.seen);
+  outcome = (refl, part ∙ ap (λ (o : Option Message). part_handed sender None o old.part) is);
+}
+
+module _ (t : TableName) (first : CellState) where
+  -- so many turns have been taken
+  pub record IsUnderWay (taken : ℕ) (now : CellState) : Type 0 where
+    pub events : List Happened
+    pub turns : AreTurns t first events now
+    pub many : taken ≡ length events
+
+  pub at_start : IsUnderWay 0 first
+  at_start = record { events = []; turns = refl; many = refl }
+
+-- one turn more
+one_more : (t : TableName) (first now next : CellState) (events : List Happened) (event : Happened) → AreTurns t first events now → TakesTurn t now event next →
+    AreTurns t first (events ++ event ∷ []) next
+one_more t first now next [] event turns h = (next, subst (λ (c : CellState). TakesTurn t c event next) turns h, refl)
+one_more t first now next (e ∷ es) event turns h = (turns.0, turns.1, one_more t turns.0 now next es event turns.2 h)
+
+pub more : (t : TableName) (first now next : CellState) (taken : ℕ) (answer : Result Bool Refusal) → IsUnderWay t first taken now → answer ≡ Ok true → TriesTurn t now answer next →
+    IsUnderWay t first (taken + 1) next
+more t first now next taken answer way is h = let turn = subst (λ (r : Result Bool Refusal). TriesTurn t now r next) is h in record {
+  events = way.events ++ turn.0 ∷ [];
+  turns = one_more t first now next way.events turn.0 way.turns turn.1;
+  many = let many = way.many in let l = length-append way.events (turn.0 ∷ []) in omega (arith, many, l);
+}
+
+-- the end, at an idle turn, at a refused one, or at the limit
+pub ends_idle : (t : TableName) (limit : ℕ) (first now next : CellState) (taken : ℕ) (answer : Result Bool Refusal) → IsUnderWay t first taken now → taken < limit → answer ≡ Ok false →
+    TriesTurn t now answer next → RunsTurns t limit first (Ok taken) next
+ends_idle t limit first now next taken answer way below is h = record {
+  events = way.events;
+  last = now;
+  taken = way.turns;
+  end = (way.many, inr (below, subst (λ (r : Result Bool Refusal). TriesTurn t now r next) is h));
+}
+
+pub ends_refused : (t : TableName) (limit : ℕ) (first now next : CellState) (taken : ℕ) (answer : Result Bool Refusal) (why : Refusal) → IsUnderWay t first taken now → taken < limit →
+    answer ≡ Err why → TriesTurn t now answer next → RunsTurns t limit first (Err why) next
+ends_refused t limit first now next taken answer why way below is h = record {
+  events = way.events;
+  last = now;
+  taken = way.turns;
+  end = (let many = way.many in omega (arith, many, below), subst (λ (r : Result Bool Refusal). TriesTurn t now r next) is h);
+}
+
+pub ends_full : (t : TableName) (limit : ℕ) (first now : CellState) (taken : ℕ) → IsUnderWay t first taken now → limit ≤ taken → taken ≤ limit → RunsTurns t limit first (Ok limit) now
+ends_full t limit first now taken way up most = record {
+  events = way.events;
+  last = now;
+  taken = way.turns;
+  end = (let many = way.many in omega (arith, many, up, most), inl (refl, refl));
+}

@@ -1,0 +1,6 @@
+use Rattle.ipcz_cell.proofs.TurnChains.{IsUnderWay}
+use Rattle.ipcz_cell.proofs.cell.NodeCell.acts.Given as goal
+
+-- so many turns have been taken
+abbrev pub invariant-loop-taken : goal.invariant-loop-taken
+invariant-loop-taken g l = IsUnderWay g.F.FabricName.table l.fn.self l.taken l.self

@@ -1,0 +1,114 @@
+//! Turns of a cell one after the other, which tell nothing.
+ghost use Rattle.std.specs.Prelude.{◌≡◌, true, Some};
+ghost use Rattle.ipcz_node.specs.Acts.{stand_in};
+ghost use Rattle.ipcz_node.specs.RoomyNodes.{IsPossibleAct};
+ghost use Rattle.ipcz_rule.specs.Steps.{is_touch};
+ghost use Rattle.ipcz_cell.specs.TurnChains.{untold, Does, TriesTurn, RunsTurns};
+
+use crate::cell::NodeCell;
+use crate::fabric::{Fabric, FabricName};
+use ipcz_base::Refusal;
+use ipcz_node::{Act, Happened};
+use ipcz_router::act::RouterAct;
+
+// An answer without its event.
+fn untold(told: Result<Happened, Refusal>) -> Result<bool, Refusal>
+    ensures { result ≡ untold told }
+{
+    match told {
+        Ok(_) => Ok(true),
+        Err(why) => Err(why),
+    }
+}
+
+impl<F: FabricName> NodeCell<F> {
+    // Handles the message in hand.
+    fn hand_untold(&mut self, fabric: &Fabric<F>, from: u8) -> Result<bool, Refusal>
+        requires { self.old.part.state.hand ≡ Some from }
+        ensures { Does F.table (Act.Hand from) self.old result self.new }
+    {
+        match self.hand_alone(fabric, from) {
+            Ok(true) => Ok(true),
+            Ok(false) => untold(self.mail_handle(fabric, from)),
+            Err(why) => Err(why),
+        }
+    }
+
+    // Lets a router do an act that touches no word.
+    fn plain_untold(
+        &mut self,
+        fabric: &Fabric<F>,
+        serial: u64,
+        act: RouterAct,
+    ) -> Result<bool, Refusal>
+        requires touch { is_touch act ≡ true }
+        requires alone { Act.Router serial act ≡ stand_in (Act.Router serial act) }
+        requires possible { IsPossibleAct self.old.part.state (Act.Router serial act) }
+        ensures { Does F.table (Act.Router serial act) self.old result self.new }
+    {
+        match self.act_plainly(fabric, serial, act) {
+            Ok(()) => Ok(true),
+            Err(why) => Err(why),
+        }
+    }
+
+    // Lets a router do an act.
+    fn router_untold(
+        &mut self,
+        fabric: &Fabric<F>,
+        serial: u64,
+        act: RouterAct,
+    ) -> Result<bool, Refusal>
+        requires { IsPossibleAct self.old.part.state (Act.Router serial act) }
+        ensures { Does F.table (Act.Router serial act) self.old result self.new }
+    {
+        match act {
+            RouterAct::SendOut
+            | RouterAct::SendIn
+            | RouterAct::Discard
+            | RouterAct::FinishOut
+            | RouterAct::FinishIn
+            | RouterAct::Leave
+            | RouterAct::Rest => self.plain_untold(fabric, serial, act),
+            RouterAct::Mark
+            | RouterAct::Unlock
+            | RouterAct::Wake
+            | RouterAct::Lock
+            | RouterAct::Claim
+            | RouterAct::Begin
+            | RouterAct::Retire => untold(self.router_turn(fabric, serial, act)),
+        }
+    }
+
+    // Takes one turn, as `turn`, and tells whether there was an act to do.
+    fn turn_untold(&mut self, fabric: &Fabric<F>) -> Result<bool, Refusal>
+        ensures { TriesTurn F.table self.old result self.new }
+    {
+        let act = self.act(fabric);
+        match act {
+            Act::Hand(from) => self.hand_untold(fabric, from),
+            Act::Look(from) => untold(self.look_turn(fabric, from)),
+            Act::Post(to) => untold(self.post_turn(fabric, to)),
+            Act::Close(_) => untold(self.touch_turn(fabric, act)),
+            Act::Router(serial, act) => self.router_untold(fabric, serial, act),
+            Act::Idle => Ok(false),
+        }
+    }
+
+    /// Takes turns one after the other, each as `turn` does, until one is idle, but no more than `limit`, and answers how many it has taken
+    /// before the idle one. It tells nothing of them.
+    ///
+    /// It ends at the first turn that is refused, with that refusal. What the turns before have done stays; how many they were isn't told.
+    pub fn acts(&mut self, fabric: &Fabric<F>, limit: u64) -> Result<u64, Refusal>
+        ensures { RunsTurns F.table limit self.old result self.new }
+    {
+        for taken in 0..limit {
+            match self.turn_untold(fabric) {
+                Ok(true) => {}
+                Ok(false) => return Ok(taken),
+                Err(why) => return Err(why),
+            }
+        }
+        Ok(limit)
+    }
+}
