@@ -5,13 +5,14 @@ use Rattle.ipcz_base.specs.declared.side.Side.TheVariants.{A, B}
 use Rattle.ipcz_base.specs.declared.end.End.{End}
 use Rattle.ipcz_base.specs.declared.parcel.Parcel as parcels
 use Rattle.ipcz_base.specs.declared.parcel.Sizes.{Sizes}
+use Rattle.ipcz_base.specs.declared.profile.Profile.{Profile}
 use Rattle.ipcz_base.specs.declared.item.Item.{Item}
 use Rattle.ipcz_base.specs.declared.item.Item.TheVariants.{Parcel, Mark, Gone}
 use Rattle.ipcz_base.specs.declared.refusal.Refusal.{Refusal}
 use Rattle.ipcz_base.specs.declared.refusal.Refusal.TheVariants.{Stranger, TooMany, BadData, SelfAttach, PeerAttach, NumbersEnd}
 use Rattle.ipcz_base.specs.Ends.{opposite_end, has_end}
 use Rattle.ipcz_base.specs.Items.{ends_in, sizes_of}
-use Rattle.ipcz_base.specs.Limits.{is_printable, most_bytes, most_ends, has_serials}
+use Rattle.ipcz_base.specs.Limits.{takes_bytes, most_bytes, most_ends, has_serials}
 use Rattle.ipcz_seq.specs.Queue.{current_item}
 use Rattle.ipcz_router.specs.Router.{Router}
 use Rattle.ipcz_router.specs.Calls.{next_number, put_item, router_get_refusal, take_item}
@@ -37,16 +38,16 @@ unfoldable pub refusal_at : Option Found → (Router → Option Refusal) → Opt
 refusal_at None why = Some Stranger
 refusal_at (Some f) why = why f.router
 
--- whether these are too many bytes or ends for a parcel
-abbrev pub are_too_many : List ℕ → List End → Bool
-are_too_many bytes ends = nat_lt most_bytes (length bytes) || nat_lt most_ends (length ends)
+-- whether these are too many bytes or ends for a parcel of a profile
+abbrev pub are_too_many : Profile → List ℕ → List End → Bool
+are_too_many profile bytes ends = nat_lt (most_bytes profile) (length bytes) || nat_lt most_ends (length ends)
 
 -- why a put is refused, memory aside
-unfoldable pub put_refusal : Node → End → List ℕ → List End → Option Refusal
-put_refusal n at bytes ends =
+unfoldable pub put_refusal : Profile → Node → End → List ℕ → List End → Option Refusal
+put_refusal profile n at bytes ends =
     if not (holds_end n at) then Some Stranger
-    else if are_too_many bytes ends then Some TooMany
-    else if not (is_printable bytes) then Some BadData
+    else if are_too_many profile bytes ends then Some TooMany
+    else if not (takes_bytes profile bytes) then Some BadData
     else if has_end at ends then Some SelfAttach
     else if has_end (opposite_end at) ends then Some PeerAttach
     else if not (are_held_once n ends) then Some Stranger

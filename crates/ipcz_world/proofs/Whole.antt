@@ -24,6 +24,7 @@ use Rattle.ipcz_world.proofs.frames.Calling.{held_unclosed}
 use Rattle.ipcz_world.proofs.lawful.QuietGets.{gets_stay_quiet}
 use Rattle.ipcz_world.proofs.weights.Holding.{times_held-at, times-has}
 use Rattle.ipcz_world.proofs.weights.OfRecords.{holds_times}
+use Rattle.ipcz_base.specs.declared.profile.Profile.TheVariants.{Printed, Wide}
 use Rattle.ipcz_world.proofs.calls.CallReplies.{reply-open, reply-put, reply-get, reply-close}
 use Rattle.ipcz_world.proofs.runs.TurnReplies.{reply-turn, begins_locked}
 use Rattle.ipcz_world.proofs.runs.Starting.{starts}
@@ -95,7 +96,8 @@ nothing_ever_strays = nothing_strays world_starts_lawful each_step_keeps_lawful
 -- each reply is one that the machine over the books alone allows
 pub replies_plainly : RepliesPlainly
 replies_plainly w v b g (steps.Open n) reply law s = reply-open AnyAct w b law.records n reply v law.inv s
-replies_plainly w v b g (steps.Put n at bytes ends) reply law s = reply-put AnyAct w b law.records n at bytes ends reply v law.inv s
+replies_plainly w v b g (steps.Put n at bytes ends) reply law s = reply-put Printed w b law.records n at bytes ends reply v law.inv s
+replies_plainly w v b g (steps.PutWide n at bytes ends) reply law s = reply-put Wide w b law.records n at bytes ends reply v law.inv s
 replies_plainly w v b g (steps.Get n at) reply law s = reply-get AnyAct w b law.records n at reply v law.inv s
 replies_plainly w v b g (steps.Close n at) reply law s = reply-close AnyAct w b law.records n at reply v law.inv s
 replies_plainly w v b g (steps.Turn n) reply law s = reply-turn w b law.records law.inv v n reply s

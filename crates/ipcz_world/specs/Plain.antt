@@ -3,16 +3,18 @@ use Rattle.std.specs.Prelude.{◌≡◌, ◌<◌, ◌≤◌, ℕ, true, false, S
 use Rattle.ipcz_base.specs.declared.side.Side.{Side}
 use Rattle.ipcz_base.specs.declared.end.End.{End}
 use Rattle.ipcz_base.specs.declared.item.Item.TheVariants.{Parcel, Mark, Gone}
+use Rattle.ipcz_base.specs.declared.profile.Profile.{Profile}
+use Rattle.ipcz_base.specs.declared.profile.Profile.TheVariants.{Printed, Wide}
 use Rattle.ipcz_base.specs.declared.refusal.Refusal.{Refusal}
 use Rattle.ipcz_base.specs.declared.refusal.Refusal.TheVariants.{OutOfMemory, Empty, PeerClosed, NoWord, SelfAttach, PeerAttach, Stranger}
 use Rattle.ipcz_base.specs.declared.refusal.Refusal.TheVariants.{NumbersEnd, BadData, TooMany}
 use Rattle.ipcz_base.specs.Ends.{opposite_end, end_at, has_end}
-use Rattle.ipcz_base.specs.Limits.{is_printable, last_number}
+use Rattle.ipcz_base.specs.Limits.{takes_bytes, last_number}
 use Rattle.ipcz_node.specs.Calls.{are_too_many}
 use Rattle.ipcz_node.specs.declared.happened.Happened.{Happened}
 use Rattle.ipcz_node.specs.declared.happened.Happened.TheVariants as events
 use Rattle.ipcz_world.specs.declared.step.Step.{Step}
-use Rattle.ipcz_world.specs.declared.step.Step.TheVariants.{Open, Put, Get, Close, Turn}
+use Rattle.ipcz_world.specs.declared.step.Step.TheVariants.{Open, Put, PutWide, Get, Close, Turn}
 use Rattle.ipcz_world.specs.declared.step.Reply.{Reply}
 use Rattle.ipcz_world.specs.declared.step.Reply.TheVariants as replies
 use Rattle.ipcz_world.specs.Books.{Books, read, next_item, is_closed, is_retired, add_put, add_got, add_gone}
@@ -23,6 +25,18 @@ pub record IsUnwritten (b : Books) (e : End) : Type 0 where
   pub got : b.got e ≡ []
   pub gone : b.gone e ≡ 0
 
+-- why a put may be refused, by the books: its parcel or ends are wrong by themselves, the peer's portal is closed, or the last number was given
+abbrev pub MayRefusePut : Profile → Books → End → List ℕ → List End → Refusal → Type 0
+MayRefusePut profile b at bytes ends Stranger = Unit {0}
+MayRefusePut profile b at bytes ends TooMany = are_too_many profile bytes ends ≡ true
+MayRefusePut profile b at bytes ends BadData = takes_bytes profile bytes ≡ false
+MayRefusePut profile b at bytes ends SelfAttach = has_end at ends ≡ true
+MayRefusePut profile b at bytes ends PeerAttach = has_end (opposite_end at) ends ≡ true
+MayRefusePut profile b at bytes ends PeerClosed = is_closed b (opposite_end at) ≡ true
+MayRefusePut profile b at bytes ends NumbersEnd = last_number ≤ length (b.put at)
+MayRefusePut profile b at bytes ends OutOfMemory = Unit {0}
+MayRefusePut profile b at bytes ends why = ⊥
+
 -- why a step may be refused, by the books: a put whose parcel or ends are wrong by themselves, at a closed peer's portal, and behind the
 -- last number; and a get whose next item is the mark. Whom callers hold, what has come, words, serials and memory aren't in the books
 abbrev pub MayRefuse : Books → Step → Refusal → Type 0
@@ -30,14 +44,8 @@ MayRefuse b (Open n) Stranger = Unit {0}
 MayRefuse b (Open n) NoWord = Unit {0}
 MayRefuse b (Open n) NumbersEnd = Unit {0}
 MayRefuse b (Open n) OutOfMemory = Unit {0}
-MayRefuse b (Put n at bytes ends) Stranger = Unit {0}
-MayRefuse b (Put n at bytes ends) TooMany = are_too_many bytes ends ≡ true
-MayRefuse b (Put n at bytes ends) BadData = is_printable bytes ≡ false
-MayRefuse b (Put n at bytes ends) SelfAttach = has_end at ends ≡ true
-MayRefuse b (Put n at bytes ends) PeerAttach = has_end (opposite_end at) ends ≡ true
-MayRefuse b (Put n at bytes ends) PeerClosed = is_closed b (opposite_end at) ≡ true
-MayRefuse b (Put n at bytes ends) NumbersEnd = last_number ≤ length (b.put at)
-MayRefuse b (Put n at bytes ends) OutOfMemory = Unit {0}
+MayRefuse b (Put n at bytes ends) why = MayRefusePut Printed b at bytes ends why
+MayRefuse b (PutWide n at bytes ends) why = MayRefusePut Wide b at bytes ends why
 MayRefuse b (Get n at) Stranger = Unit {0}
 MayRefuse b (Get n at) Empty = Unit {0}
 MayRefuse b (Get n at) PeerClosed = next_item b at ≡ Some Mark
@@ -87,6 +95,8 @@ PlainTurn b other c = c ≡ b
 abbrev pub Plain : Books → Step → Reply → Books → Type 0
 Plain b (Open n) (replies.Opened d e) c = (e ≡ opposite_end d) × IsUnwritten b d × IsUnwritten b e × (c ≡ b)
 Plain b (Put n at bytes ends) (replies.Put number) c =
+    (number ≡ length (b.put at)) × (c ≡ add_put b at (Parcel (record { bytes = bytes; ends = ends })))
+Plain b (PutWide n at bytes ends) (replies.Put number) c =
     (number ≡ length (b.put at)) × (c ≡ add_put b at (Parcel (record { bytes = bytes; ends = ends })))
 Plain b (Get n at) (replies.Got number p) c = (number ≡ read b at) × (next_item b at ≡ Some (Parcel p)) × (c ≡ add_got b at p)
 Plain b (Close n at) (replies.Closed number) c = (number ≡ length (b.put at)) × (c ≡ add_put b at Mark)

@@ -1,5 +1,6 @@
 -- Parcels that are put into a quiet world: how many acts they take until they stand where their readers are.
 use Rattle.std.specs.Prelude.{◌≡◌, ◌≤◌, ◌<◌, ℕ, ◌+◌, ◌*◌, Bool, true, false, cond, nat_eq, None, List, [], ◌∷◌, length}
+use Rattle.ipcz_base.specs.declared.profile.Profile.{Profile}
 use Rattle.ipcz_base.specs.declared.end.End.{End}
 use Rattle.ipcz_base.specs.declared.item.Item.TheVariants.{Parcel}
 use Rattle.ipcz_base.specs.declared.parcel.Parcel as parcels
@@ -64,8 +65,9 @@ StayingIsUnused =
     times_used w turns + stays (plain_rates b) w ≤
     plain_limit b w + (6 * pending_closes w + (6 * retire_count turns + (discard_count turns + 2 * unlock_count turns)))
 
--- a put of a parcel that carries no end: at which node, at which end, and its bytes
+-- a put of a parcel that carries no end: of which profile, at which node, at which end, and its bytes
 pub record PlainPut : Type 0 where
+  pub profile : Profile
   pub node : ℕ
   pub at : End
   pub bytes : List ℕ
@@ -81,7 +83,7 @@ after_put w p = set_node w p.node (put_node (node_at w p.node) p.at (plain_parce
 -- the put is taken: it is at a node of the world, which doesn't refuse it
 pub record IsTakenPut (w : World) (p : PlainPut) : Type 0 where
   pub node : p.node < w.count
-  pub fine : put_refusal (node_at w p.node) p.at p.bytes [] ≡ None
+  pub fine : put_refusal p.profile (node_at w p.node) p.at p.bytes [] ≡ None
 
 -- puts alone of such parcels, each of which is taken, in whatever order
 abbrev pub ArePuts : World → Books → List PlainPut → World → Books → Type 0

@@ -1,9 +1,11 @@
 -- The steps of the world: open, put, get, close and turn, each with its reply and the world after it.
-use Rattle.std.specs.Prelude.{◌≡◌, ◌⊎◌, ◌<◌, ℕ, ◌+◌, Bool, true, false, nat_lt, if◌then◌else◌, IsTrue, Option, Some, None, Result, Ok, Err}
+use Rattle.std.specs.Prelude.{◌≡◌, ◌⊎◌, ◌<◌, ℕ, ◌+◌, Bool, true, false, nat_lt, if◌then◌else◌, IsTrue, Option, Some, None, Result, Ok, Err, List}
 use Rattle.ipcz_base.specs.declared.side.Side.TheVariants.{A, B}
 use Rattle.ipcz_base.specs.declared.end.End.{End}
 use Rattle.ipcz_base.specs.declared.parcel.Parcel as parcels
 use Rattle.ipcz_base.specs.declared.parcel.Sizes.{Sizes}
+use Rattle.ipcz_base.specs.declared.profile.Profile.{Profile}
+use Rattle.ipcz_base.specs.declared.profile.Profile.TheVariants as profiles
 use Rattle.ipcz_base.specs.declared.item.Item.{Item}
 use Rattle.ipcz_base.specs.declared.item.Item.TheVariants.{Parcel, Mark, Gone}
 use Rattle.ipcz_base.specs.declared.refusal.Refusal.{Refusal}
@@ -19,7 +21,7 @@ use Rattle.ipcz_node.specs.Calls.{put_refusal, put_node, put_number, get_refusal
 use Rattle.ipcz_node.specs.Calls.{open_node}
 use Rattle.ipcz_node.specs.Acts.{stand_in}
 use Rattle.ipcz_world.specs.declared.step.Step.{Step}
-use Rattle.ipcz_world.specs.declared.step.Step.TheVariants.{Open, Put, Get, Close, Turn}
+use Rattle.ipcz_world.specs.declared.step.Step.TheVariants.{Open, Put, PutWide, Get, Close, Turn}
 use Rattle.ipcz_world.specs.declared.step.Reply.{Reply}
 use Rattle.ipcz_world.specs.declared.step.Reply.TheVariants as replies
 use Rattle.ipcz_world.specs.World.{World, has_unclaimed_word, node_at, set_node, set_word, set_claimed}
@@ -72,9 +74,14 @@ unfoldable pub put_reply : Result ℕ PutRefused → Reply
 put_reply (Ok number) = replies.Put number
 put_reply (Err refused) = replies.Refused refused.why
 
+-- the step that puts a parcel of a profile
+abbrev pub put_of : Profile → ℕ → End → List ℕ → List End → Step
+put_of profiles.Printed n at bytes ends = Put n at bytes ends
+put_of profiles.Wide n at bytes ends = PutWide n at bytes ends
+
 -- a put
-abbrev pub put_step : World → ℕ → End → parcels.Parcel → Effect
-put_step w n at p = at_node w n (unless w (put_refusal (node_at w n) at p.bytes p.ends) (record {
+abbrev pub put_step : Profile → World → ℕ → End → parcels.Parcel → Effect
+put_step profile w n at p = at_node w n (unless w (put_refusal profile (node_at w n) at p.bytes p.ends) (record {
   reply = replies.Put (put_number (node_at w n) at);
   world = set_node w n (put_node (node_at w n) at p);
 }))
@@ -124,7 +131,8 @@ turn_step w n act = at_node w n (unless w (if turn_lacks_serials w n act then So
 -- a step with ample memory, in which a turn takes the first possible act
 unfoldable pub first_step : World → Step → Effect
 first_step w (Open n) = open_step w n
-first_step w (Put n at bytes ends) = put_step w n at (record { bytes = bytes; ends = ends })
+first_step w (Put n at bytes ends) = put_step profiles.Printed w n at (record { bytes = bytes; ends = ends })
+first_step w (PutWide n at bytes ends) = put_step profiles.Wide w n at (record { bytes = bytes; ends = ends })
 first_step w (Get n at) = get_step w n at
 first_step w (Close n at) = close_step w n at
 first_step w (Turn n) = turn_step w n (next_at w n)
@@ -171,7 +179,8 @@ ActGives w n act done reply v =
 -- which reply and which world may follow a step, where a turn takes an act that the scheduler allows
 abbrev pub StepBy : Scheduler → World → Step → Reply → World → Type 0
 StepBy May w (Open n) reply v = GivesOrNoMemory w (open_step w n) reply v
-StepBy May w (Put n at bytes ends) reply v = PutGives w n (put_step w n at (record { bytes = bytes; ends = ends })) reply v
+StepBy May w (Put n at bytes ends) reply v = PutGives w n (put_step profiles.Printed w n at (record { bytes = bytes; ends = ends })) reply v
+StepBy May w (PutWide n at bytes ends) reply v = PutGives w n (put_step profiles.Wide w n at (record { bytes = bytes; ends = ends })) reply v
 StepBy May w (Get n at) reply v = Gives (get_step w n at) reply v
 StepBy May w (Close n at) reply v = GivesOrNoMemory w (close_step w n at) reply v
 StepBy May w (Turn n) reply v = (act : Act) × May w n act × ActGives w n act (turn_step w n act) reply v

@@ -13,7 +13,7 @@ use Rattle.ipcz_node.specs.Events.{event_of}
 use Rattle.ipcz_router.specs.declared.act.Answer.TheVariants.{Plain}
 use Rattle.ipcz_base.specs.declared.message.Message.{Message}
 use Rattle.ipcz_world.specs.declared.step.Step.{Step}
-use Rattle.ipcz_world.specs.declared.step.Step.TheVariants.{Open, Put, Get, Close, Turn}
+use Rattle.ipcz_world.specs.declared.step.Step.TheVariants.{Open, Put, PutWide, Get, Close, Turn}
 use Rattle.ipcz_world.specs.World.{World, node_at}
 use Rattle.ipcz_world.specs.Turns.{turn_event, turn_lacks_serials, turn_grows, commit_at, after_act, can_take}
 use Rattle.ipcz_world.specs.Steps.{FirstAct}
@@ -51,6 +51,7 @@ pub record IsCommitted (w : World) (n : ℕ) (act : Act) (result : Result (Happe
 unfoldable pub node_of : Step → ℕ
 node_of (Open n) = n
 node_of (Put n at bytes ends) = n
+node_of (PutWide n at bytes ends) = n
 node_of (Get n at) = n
 node_of (Close n at) = n
 node_of (Turn n) = n

@@ -18,7 +18,7 @@ use crate::mail::Mail;
 use crate::mailboxes::Mailboxes;
 use crate::nodes::Nodes;
 use crate::step::{Reply, Step};
-use ipcz_base::{End, Refusal};
+use ipcz_base::{End, Profile, Refusal};
 use ipcz_node::{NodeState, first_pair_count};
 use std::alloc::Global;
 use std::marker::Model;
@@ -167,7 +167,13 @@ impl State {
                 at,
                 bytes,
                 ends,
-            } => self.put(*node, *at, bytes, ends),
+            } => self.put(Profile::Printed, *node, *at, bytes, ends),
+            Step::PutWide {
+                node,
+                at,
+                bytes,
+                ends,
+            } => self.put(Profile::Wide, *node, *at, bytes, ends),
             Step::Get { node, at } => self.get(*node, *at),
             Step::Close { node, at } => self.close(*node, *at),
             Step::Turn(node) => self.turn(*node),
@@ -192,6 +198,9 @@ fn node_of(step: &Step) -> u8
 {
     match step {
         Step::Open(node) | Step::Turn(node) => *node,
-        Step::Put { node, .. } | Step::Get { node, .. } | Step::Close { node, .. } => *node,
+        Step::Put { node, .. }
+        | Step::PutWide { node, .. }
+        | Step::Get { node, .. }
+        | Step::Close { node, .. } => *node,
     }
 }

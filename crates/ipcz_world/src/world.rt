@@ -20,7 +20,7 @@ ghost use Rattle.ipcz_world.specs.Tallies.{Tells};
 use crate::mail::Mail;
 use crate::state::State;
 use crate::step::{Reply, Settled, Step};
-use ipcz_base::{Bytes, End, Ends, Refusal, Sizes};
+use ipcz_base::{Bytes, End, Ends, Profile, Refusal, Sizes};
 use ipcz_node::{Act, NodeState, PutRefused};
 use std::alloc::Global;
 use std::marker::Model;
@@ -133,7 +133,7 @@ impl World {
     /// terminal's queue has to grow.
     pub fn put(&mut self, node: u8, at: End, bytes: Bytes, ends: Ends) -> Result<u64, PutRefused>
         ensures step { StepFirst self.old (Step.Put node at bytes ends) (put_reply result) self.new }
-        ensures order { GivesOrNoMemory self.old (put_step self.old node at (record { bytes = bytes; ends = ends })) (put_reply result) self.new }
+        ensures order { GivesOrNoMemory self.old (put_step Profile.Printed self.old node at (record { bytes = bytes; ends = ends })) (put_reply result) self.new }
         ensures back { IfErr result (λ e. (e.bytes ≡ bytes) × (e.ends ≡ ends)) }
         ensures lawful { (b : Books) → (g : Routes) → Lawful self.old b g →
             Lawful self.new (advance self.old b (Step.Put node at bytes ends) (put_reply result))
@@ -141,7 +141,29 @@ impl World {
         ensures plain { (b : Books) → (g : Routes) → Lawful self.old b g →
             Plain b (Step.Put node at bytes ends) (put_reply result) (advance self.old b (Step.Put node at bytes ends) (put_reply result)) }
     {
-        self.state.put_given(node, at, bytes, ends)
+        self.state
+            .put_given(Profile::Printed, node, at, bytes, ends)
+    }
+
+    /// Puts a parcel of up to 65,536 bytes of any value, as the step `PutWide` does, and otherwise as [`World::put`] does: `TooMany` is
+    /// answered for more bytes than these or for more than 8 ends, and `BadData` never.
+    pub fn put_wide(
+        &mut self,
+        node: u8,
+        at: End,
+        bytes: Bytes,
+        ends: Ends,
+    ) -> Result<u64, PutRefused>
+        ensures step { StepFirst self.old (Step.PutWide node at bytes ends) (put_reply result) self.new }
+        ensures order { GivesOrNoMemory self.old (put_step Profile.Wide self.old node at (record { bytes = bytes; ends = ends })) (put_reply result) self.new }
+        ensures back { IfErr result (λ e. (e.bytes ≡ bytes) × (e.ends ≡ ends)) }
+        ensures lawful { (b : Books) → (g : Routes) → Lawful self.old b g →
+            Lawful self.new (advance self.old b (Step.PutWide node at bytes ends) (put_reply result))
+            (routes_after self.old g (Step.PutWide node at bytes ends) (put_reply result)) }
+        ensures plain { (b : Books) → (g : Routes) → Lawful self.old b g →
+            Plain b (Step.PutWide node at bytes ends) (put_reply result) (advance self.old b (Step.PutWide node at bytes ends) (put_reply result)) }
+    {
+        self.state.put_given(Profile::Wide, node, at, bytes, ends)
     }
 
     /// Gets the next parcel at an end, as the step `Get` does.

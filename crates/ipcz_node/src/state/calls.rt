@@ -1,7 +1,7 @@
 ghost use Rattle.std.specs.Prelude.{◌≡◌, Some, None, OnOk, OnErr, IfOk, IfErr, IsSomeAnd};
 ghost use Rattle.std.specs.Prelude.{unwrap_or, IsOk};
 ghost use Rattle.ipcz_base.specs.Ends.{has_end, end_at};
-ghost use Rattle.ipcz_base.specs.Limits.{is_printable};
+ghost use Rattle.ipcz_base.specs.Limits.{is_printable, most_bytes, takes_bytes};
 ghost use Rattle.ipcz_base.specs.declared.side.Side.TheVariants.{A, B};
 ghost use Rattle.ipcz_router.specs.Router.{Router as RouterRecord, IsOpenTerminal};
 ghost use Rattle.ipcz_base.specs.declared.item.Item.{Item};
@@ -19,7 +19,7 @@ use super::NodeState;
 use crate::directory::Directory;
 use crate::outboxes::Outboxes;
 use crate::spare::Spare;
-use ipcz_base::{Bytes, End, Ends, Message, Parcel, Refusal, Side, Sizes};
+use ipcz_base::{Bytes, End, Ends, Message, Parcel, Profile, Refusal, Side, Sizes};
 use std::alloc::{AllocError, Global};
 
 /// A put that was refused: why, and what was to be put.
@@ -93,23 +93,42 @@ impl NodeState {
         )
     }
 
+    /// Puts a parcel of printed bytes at an end that callers of this node hold, as [`NodeState::put_as`] does of `Profile::Printed`.
+    pub fn put(&mut self, at: End, bytes: Bytes, ends: Ends) -> Result<u64, PutRefused>
+        ensures allowed { OnOk result (put_refusal Profile.Printed self.old.node at bytes ends ≡ None) }
+        ensures number { IfOk result (λ n. n ≡ put_number self.old.node at) }
+        ensures ok { OnOk result (self.new.node ≡ put_node self.old.node at (record { bytes = bytes; ends = ends })) }
+        ensures why { IfErr result (λ e. e.why ≡ unwrap_or (put_refusal Profile.Printed self.old.node at bytes ends) Refusal.OutOfMemory) }
+        ensures full { put_refusal Profile.Printed self.old.node at bytes ends ≡ None → TakesMore self.old at → IsOk result }
+        ensures err { IfErr result (λ e. (e.bytes ≡ bytes) × (e.ends ≡ ends) × (self.new.node ≡ self.old.node)) }
+    {
+        self.put_as(Profile::Printed, at, bytes, ends)
+    }
+
     /// Puts a parcel at an end that callers of this node hold, and answers its number. Its ends are held no more.
     ///
     /// A refused call gives both lists back. It answers, the first of these: `Stranger` where `at` isn't held here, `TooMany`
-    /// for more than 256 bytes or 8 ends, `BadData` for a byte outside 0x20 to 0x7E, `SelfAttach` where `ends` has `at`,
-    /// `PeerAttach` where it has the other end of that pair, wherever that is, `Stranger` where it has an end that isn't held
-    /// here or one that stands twice, `PeerClosed` where the peer's mark has come, `NumbersEnd` where no number is left, and
+    /// for more bytes than the profile takes or more than 8 ends, `BadData` for a byte that the profile doesn't take, `SelfAttach` where
+    /// `ends` has `at`, `PeerAttach` where it has the other end of that pair, wherever that is, `Stranger` where it has an end that isn't
+    /// held here or one that stands twice, `PeerClosed` where the peer's mark has come, `NumbersEnd` where no number is left, and
     /// `OutOfMemory`, where the terminal has no room for an item more and none was found (docs/PROTOCOL.md, "Refusals").
+    #[inline(always)]
     #[tactic(auto, unfolding(crate::specs::Node::on_found, crate::specs::Calls::number_at))]
-    pub fn put(&mut self, at: End, bytes: Bytes, ends: Ends) -> Result<u64, PutRefused>
-        ensures allowed { OnOk result (put_refusal self.old.node at bytes ends ≡ None) }
+    pub fn put_as(
+        &mut self,
+        profile: Profile,
+        at: End,
+        bytes: Bytes,
+        ends: Ends,
+    ) -> Result<u64, PutRefused>
+        ensures allowed { OnOk result (put_refusal profile self.old.node at bytes ends ≡ None) }
         ensures number { IfOk result (λ n. n ≡ put_number self.old.node at) }
         ensures ok { OnOk result (self.new.node ≡ put_node self.old.node at (record { bytes = bytes; ends = ends })) }
-        ensures why { IfErr result (λ e. e.why ≡ unwrap_or (put_refusal self.old.node at bytes ends) Refusal.OutOfMemory) }
-        ensures full { put_refusal self.old.node at bytes ends ≡ None → TakesMore self.old at → IsOk result }
+        ensures why { IfErr result (λ e. e.why ≡ unwrap_or (put_refusal profile self.old.node at bytes ends) Refusal.OutOfMemory) }
+        ensures full { put_refusal profile self.old.node at bytes ends ≡ None → TakesMore self.old at → IsOk result }
         ensures err { IfErr result (λ e. (e.bytes ≡ bytes) × (e.ends ≡ ends) × (self.new.node ≡ self.old.node)) }
     {
-        let serial = match self.put_serial(at, bytes.as_slice(), ends.as_slice()) {
+        let serial = match self.put_serial(profile, at, bytes.as_slice(), ends.as_slice()) {
             Ok(serial) => serial,
             Err(why) => return Err(PutRefused { why, bytes, ends }),
         };
@@ -153,9 +172,15 @@ impl NodeState {
 
     // Where a parcel can be put, memory aside.
     #[tactic(auto, unfolding(crate::specs::Calls::put_refusal))]
-    fn put_serial(&self, at: End, bytes: &[u8], ends: &[End]) -> Result<u64, Refusal>
-        ensures allowed { OnOk result (put_refusal self.now.node at bytes.now ends.now ≡ None) }
-        ensures why { IfErr result (λ e. put_refusal self.now.node at bytes.now ends.now ≡ Some e) }
+    fn put_serial(
+        &self,
+        profile: Profile,
+        at: End,
+        bytes: &[u8],
+        ends: &[End],
+    ) -> Result<u64, Refusal>
+        ensures allowed { OnOk result (put_refusal profile self.now.node at bytes.now ends.now ≡ None) }
+        ensures why { IfErr result (λ e. put_refusal profile self.now.node at bytes.now ends.now ≡ Some e) }
         ensures open { IfOk result (λ serial. IsSomeAnd (router_in self.now.node serial) IsOpenTerminal) }
         ensures free { IfOk result (λ serial. IsSomeAnd (router_in self.now.node serial) (λ r. router_put_refusal r ≡ None)) }
         ensures found { IfOk result
@@ -164,10 +189,10 @@ impl NodeState {
         if !self.holds(at) {
             return Err(Refusal::Stranger);
         }
-        if are_too_many(bytes, ends) {
+        if are_too_many(profile, bytes, ends) {
             return Err(Refusal::TooMany);
         }
-        if !is_printable(bytes) {
+        if !takes_bytes(profile, bytes) {
             return Err(Refusal::BadData);
         }
         if has_end(at, ends) {
@@ -354,11 +379,31 @@ impl NodeState {
     }
 }
 
-// Whether these are too many bytes or ends for a parcel.
-fn are_too_many(bytes: &[u8], ends: &[End]) -> bool
-    ensures { result ≡ are_too_many bytes.now ends.now }
+// Whether these are too many bytes or ends for a parcel of a profile.
+fn are_too_many(profile: Profile, bytes: &[u8], ends: &[End]) -> bool
+    ensures { result ≡ are_too_many profile bytes.now ends.now }
 {
-    bytes.len() > 256 || ends.len() > 8
+    bytes.len() > most_bytes(profile) || ends.len() > 8
+}
+
+// How many bytes a parcel of a profile may have.
+fn most_bytes(profile: Profile) -> usize
+    ensures { result ≡ most_bytes profile }
+{
+    match profile {
+        Profile::Printed => 256,
+        Profile::Wide => 65536,
+    }
+}
+
+// Whether a profile takes each of these bytes.
+fn takes_bytes(profile: Profile, bytes: &[u8]) -> bool
+    ensures { result ≡ takes_bytes profile bytes.now }
+{
+    match profile {
+        Profile::Printed => is_printable(bytes),
+        Profile::Wide => true,
+    }
 }
 
 // Whether each byte is printable. It looks at all of them, without a way out in between.

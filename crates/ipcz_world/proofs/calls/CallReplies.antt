@@ -9,20 +9,22 @@ use Rattle.ipcz_world.proofs.Vocabulary.{Reply, World, Key, node_at, router_at, 
 use Rattle.ipcz_world.proofs.Vocabulary.{is_linked, Inv}
 use Rattle.ipcz_base.specs.declared.parcel.Parcel as parcels
 use Rattle.ipcz_base.specs.declared.item.Item.TheVariants.{Parcel, Mark, Gone}
+use Rattle.ipcz_base.specs.declared.profile.Profile.{Profile}
+use Rattle.ipcz_base.specs.declared.profile.Profile.TheVariants.{Printed, Wide}
 use Rattle.ipcz_base.specs.declared.refusal.Refusal.TheVariants as refusals
 use Rattle.ipcz_base.specs.Ends.{end_at}
-use Rattle.ipcz_base.specs.Limits.{last_number, is_printable, has_serials}
+use Rattle.ipcz_base.specs.Limits.{last_number, takes_bytes, has_serials}
 use Rattle.ipcz_router.specs.Calls.{next_number, item_refusal, router_get_refusal, router_put_refusal}
 use Rattle.ipcz_node.specs.Node.{holds_end}
 use Rattle.ipcz_node.specs.Calls.{are_held_once, are_too_many, refusal_at, number_at, put_refusal, put_number, get_refusal, close_refusal}
 use Rattle.ipcz_node.specs.Calls.{serials_refusal}
 use Rattle.ipcz_world.specs.declared.step.Step.{Step}
-use Rattle.ipcz_world.specs.declared.step.Step.TheVariants.{Open, Put, Get, Close}
+use Rattle.ipcz_world.specs.declared.step.Step.TheVariants.{Open, Get, Close}
 use Rattle.ipcz_world.specs.declared.step.Reply.TheVariants as replies
-use Rattle.ipcz_world.specs.Steps.{Effect, refuse, open_with, open_on, open_step, put_step, got_reply, get_reply, get_step}
+use Rattle.ipcz_world.specs.Steps.{Effect, refuse, open_with, open_on, open_step, put_of, put_step, PutGives, got_reply, get_reply, get_step}
 use Rattle.ipcz_world.specs.Steps.{close_step, Scheduler, StepBy, Gives}
 use Rattle.ipcz_world.specs.Books.{next_item, has_mark, advance}
-use Rattle.ipcz_world.specs.Plain.{IsUnwritten, MayRefuse, Plain}
+use Rattle.ipcz_world.specs.Plain.{IsUnwritten, MayRefuse, MayRefusePut, Plain}
 use Rattle.ipcz_world.proofs.facts.Finding.{IsTerminalOf, terminal_tells}
 use Rattle.ipcz_world.proofs.calls.Puts.{router_found, not_false}
 use Rattle.ipcz_world.proofs.weights.OfRecords.{holds, holds_times}
@@ -107,9 +109,9 @@ module _ (w : World) (b : Books) (g : Records) (law : Inv w b g) where
           (open_refused n refusals.NoWord tt)
 
   -- a put
-  module _ (n : ℕ) (at : End) (bytes : List ℕ) (ends : List End) where
+  module _ (profile : Profile) (n : ℕ) (at : End) (bytes : List ℕ) (ends : List End) where
     abbrev put_why : Refusal → Type 0
-    put_why = MayRefuse b (Put n at bytes ends)
+    put_why = MayRefusePut profile b at bytes ends
 
     -- a refusal is the first that holds, or one of those left
     first_of : (c : Bool) (why : Refusal) (left : Option Refusal) → (c ≡ true → put_why why) → ((x : Refusal) → left ≡ Some x → put_why x) →
@@ -141,19 +143,23 @@ module _ (w : World) (b : Books) (g : Records) (law : Inv w b g) where
     isnt false h = refl
     isnt true h = cc
 
-    put_whys : (x : Refusal) → put_refusal (node_at w n) at bytes ends ≡ Some x → put_why x
+    put_whys : (x : Refusal) → put_refusal profile (node_at w n) at bytes ends ≡ Some x → put_why x
     unfolding put_refusal
     put_whys =
         first_of (not (holds_end (node_at w n) at)) refusals.Stranger _ (λ e. tt)
-        (first_of (are_too_many bytes ends) refusals.TooMany _ (λ e. e)
-        (first_of (not (is_printable bytes)) refusals.BadData _ (isnt (is_printable bytes))
+        (first_of (are_too_many profile bytes ends) refusals.TooMany _ (λ e. e)
+        (first_of (not (takes_bytes profile bytes)) refusals.BadData _ (isnt (takes_bytes profile bytes))
         (first_of (has_end at ends) refusals.SelfAttach _ (λ e. e)
         (first_of (has_end (opposite_end at) ends) refusals.PeerAttach _ (λ e. e)
         (first_of (not (are_held_once (node_at w n) ends)) refusals.Stranger _ (λ e. tt) (at_found (terminal_of (node_at w n) at) refl))))))
 
-    put_refused : (why : Refusal) → put_why why → IsFine (Put n at bytes ends) (refuse w why)
+    put_refused : (why : Refusal) → put_why why → IsFine (put_of profile n at bytes ends) (refuse w why)
     unfolding advance
-    put_refused why h = (h, refl)
+    put_refused why h = go profile h
+      where
+        go : (p : Profile) → MayRefusePut p b at bytes ends why → IsFine (put_of p n at bytes ends) (refuse w why)
+        go Printed h = (h, refl)
+        go Wide h = (h, refl)
 
     not_refused : (o : Option Found) → terminal_of (node_at w n) at ≡ o → (c : Option Refusal) → refusal_at o router_put_refusal ≡ c →
         c ≡ None → (f : Found) × (terminal_of (node_at w n) at ≡ Some f)
@@ -165,24 +171,29 @@ module _ (w : World) (b : Books) (g : Records) (law : Inv w b g) where
     left_none true why left h = cc
     left_none false why left h = h
 
-    put_found : put_refusal (node_at w n) at bytes ends ≡ None → (f : Found) × (terminal_of (node_at w n) at ≡ Some f)
+    put_found : put_refusal profile (node_at w n) at bytes ends ≡ None → (f : Found) × (terminal_of (node_at w n) at ≡ Some f)
     unfolding put_refusal
     put_found h =
         not_refused (terminal_of (node_at w n) at) refl (refusal_at (terminal_of (node_at w n) at) router_put_refusal) refl
         (left_none (not (are_held_once (node_at w n) ends)) refusals.Stranger _
         (left_none (has_end (opposite_end at) ends) refusals.PeerAttach _
-        (left_none (has_end at ends) refusals.SelfAttach _ (left_none (not (is_printable bytes)) refusals.BadData _
-        (left_none (are_too_many bytes ends) refusals.TooMany _
+        (left_none (has_end at ends) refusals.SelfAttach _ (left_none (not (takes_bytes profile bytes)) refusals.BadData _
+        (left_none (are_too_many profile bytes ends) refusals.TooMany _
         (left_none (not (holds_end (node_at w n) at)) refusals.Stranger _ h))))))
 
-    put_done : put_refusal (node_at w n) at bytes ends ≡ None → (v : World) →
-        IsFine (Put n at bytes ends) (record { reply = replies.Put (put_number (node_at w n) at); world = v })
+    put_done : put_refusal profile (node_at w n) at bytes ends ≡ None → (v : World) →
+        IsFine (put_of profile n at bytes ends) (record { reply = replies.Put (put_number (node_at w n) at); world = v })
     unfolding advance
-    put_done h v = let f = put_found h in (number_is n at f.0 f.1, refl)
+    put_done h v = let f = put_found h in go profile (number_is n at f.0 f.1)
+      where
+        go : (p : Profile) → put_number (node_at w n) at ≡ length (b.put at) →
+            IsFine (put_of p n at bytes ends) (record { reply = replies.Put (put_number (node_at w n) at); world = v })
+        go Printed is = (is, refl)
+        go Wide is = (is, refl)
 
-    pub put-plain : IsFine (Put n at bytes ends) (put_step w n at (record { bytes = bytes; ends = ends }))
-    put-plain = chosen_fine (Put n at bytes ends) (nat_lt n w.count) _ _
-        (unless_fine (Put n at bytes ends) (put_refusal (node_at w n) at bytes ends) _ (λ why h. put_refused why (put_whys why h))
+    pub put-plain : IsFine (put_of profile n at bytes ends) (put_step profile w n at (record { bytes = bytes; ends = ends }))
+    put-plain = chosen_fine (put_of profile n at bytes ends) (nat_lt n w.count) _ _
+        (unless_fine (put_of profile n at bytes ends) (put_refusal profile (node_at w n) at bytes ends) _ (λ why h. put_refused why (put_whys why h))
         (λ h. put_done h w)) (put_refused refusals.Stranger tt)
 
   -- a get and a close
@@ -309,14 +320,14 @@ reply-open May w b g n reply v law step = elim step [
   | inr want ↦ given w b g law (Open n) (refuse w refusals.OutOfMemory) reply v (open_refused w b g law n refusals.OutOfMemory tt) want.1
 ]
 
-pub reply-put : (May : Scheduler) (w : World) (b : Books) (g : Records) (n : ℕ) (at : End) (bytes : List ℕ) (ends : List End)
-    (reply : Reply) (v : World) → Inv w b g → StepBy May w (Put n at bytes ends) reply v →
-    Plain b (Put n at bytes ends) reply (advance w b (Put n at bytes ends) reply)
-reply-put May w b g n at bytes ends reply v law step = elim step [
-  | inl gives ↦ given w b g law (Put n at bytes ends) (put_step w n at (record { bytes = bytes; ends = ends })) reply v
-      (put-plain w b g law n at bytes ends) gives
-  | inr want ↦ given w b g law (Put n at bytes ends) (refuse w refusals.OutOfMemory) reply v
-      (put_refused w b g law n at bytes ends refusals.OutOfMemory tt) want.1
+pub reply-put : (profile : Profile) (w : World) (b : Books) (g : Records) (n : ℕ) (at : End) (bytes : List ℕ) (ends : List End)
+    (reply : Reply) (v : World) → Inv w b g → PutGives w n (put_step profile w n at (record { bytes = bytes; ends = ends })) reply v →
+    Plain b (put_of profile n at bytes ends) reply (advance w b (put_of profile n at bytes ends) reply)
+reply-put profile w b g n at bytes ends reply v law step = elim step [
+  | inl gives ↦ given w b g law (put_of profile n at bytes ends) (put_step profile w n at (record { bytes = bytes; ends = ends })) reply v
+      (put-plain w b g law profile n at bytes ends) gives
+  | inr want ↦ given w b g law (put_of profile n at bytes ends) (refuse w refusals.OutOfMemory) reply v
+      (put_refused w b g law profile n at bytes ends refusals.OutOfMemory tt) want.1
 ]
 
 pub reply-get : (May : Scheduler) (w : World) (b : Books) (g : Records) (n : ℕ) (at : End) (reply : Reply) (v : World) → Inv w b g →

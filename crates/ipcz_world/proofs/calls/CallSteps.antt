@@ -8,13 +8,15 @@ use Rattle.std.proofs.lemmas.Bool.Decides.{nat_tests}
 use Rattle.ipcz_world.proofs.Vocabulary.{B, End, Refusal, open_word, terminal_of, Reply, World, node_at, set_node, set_word}
 use Rattle.ipcz_world.proofs.Vocabulary.{set_claimed, unless, Books, Records, Opening, Linked, is_linked, Inv}
 use Rattle.ipcz_base.specs.declared.parcel.Parcel as parcels
+use Rattle.ipcz_base.specs.declared.profile.Profile.{Profile}
+use Rattle.ipcz_base.specs.declared.profile.Profile.TheVariants.{Printed, Wide}
 use Rattle.ipcz_base.specs.declared.refusal.Refusal.TheVariants as refusals
 use Rattle.ipcz_node.specs.Calls.{put_refusal, put_node, put_number, get_refusal, get_node, close_refusal, close_node, serials_refusal}
 use Rattle.ipcz_node.specs.Calls.{open_node}
 use Rattle.ipcz_world.specs.declared.step.Step.{Step}
-use Rattle.ipcz_world.specs.declared.step.Step.TheVariants.{Open, Put, Get, Close}
+use Rattle.ipcz_world.specs.declared.step.Step.TheVariants.{Open, Get, Close}
 use Rattle.ipcz_world.specs.declared.step.Reply.TheVariants as replies
-use Rattle.ipcz_world.specs.Steps.{Effect, refuse, open_with, open_on, open_step, put_step, got_reply, get_reply, get_step}
+use Rattle.ipcz_world.specs.Steps.{Effect, refuse, open_with, open_on, open_step, put_of, put_step, got_reply, get_reply, get_step}
 use Rattle.ipcz_world.specs.Steps.{close_step, Scheduler, StepBy, Gives}
 use Rattle.ipcz_world.specs.Books.{advance}
 use Rattle.ipcz_world.specs.Routes.{add_link, routes_after}
@@ -56,9 +58,11 @@ module _ (w : World) (b : Books) (g : Records) (law : Inv w b g) where
   unfolding advance records_after routes_after
   open_refused n why = record { inv = law; routes = refl }
 
-  put_refused : (n : ℕ) (at : End) (bytes : List ℕ) (ends : List End) (why : Refusal) → Keeps (Put n at bytes ends) (refuse w why)
+  put_refused : (profile : Profile) (n : ℕ) (at : End) (bytes : List ℕ) (ends : List End) (why : Refusal) →
+      Keeps (put_of profile n at bytes ends) (refuse w why)
   unfolding advance records_after routes_after
-  put_refused n at bytes ends why = record { inv = law; routes = refl }
+  put_refused Printed n at bytes ends why = record { inv = law; routes = refl }
+  put_refused Wide n at bytes ends why = record { inv = law; routes = refl }
 
   get_refused : (n : ℕ) (at : End) (why : Refusal) → Keeps (Get n at) (refuse w why)
   unfolding advance records_after routes_after
@@ -69,20 +73,25 @@ module _ (w : World) (b : Books) (g : Records) (law : Inv w b g) where
   close_refused n at why = record { inv = law; routes = refl }
 
   -- a put
-  put_done : (n : ℕ) (at : End) (bytes : List ℕ) (ends : List End) → put_refusal (node_at w n) at bytes ends ≡ None →
-      Keeps (Put n at bytes ends) (record {
+  put_done : (profile : Profile) (n : ℕ) (at : End) (bytes : List ℕ) (ends : List End) →
+      put_refusal profile (node_at w n) at bytes ends ≡ None →
+      Keeps (put_of profile n at bytes ends) (record {
         reply = replies.Put (put_number (node_at w n) at);
         world =
             set_node w n (put_node (node_at w n) at (record { bytes = bytes; ends = ends }));
       })
   unfolding advance records_after routes_after
-  put_done n at bytes ends h = record { inv = inv-put w b g n at (record { bytes = bytes; ends = ends }) law h; routes = refl }
+  put_done Printed n at bytes ends h =
+      record { inv = inv-put Printed w b g n at (record { bytes = bytes; ends = ends }) law h; routes = refl }
+  put_done Wide n at bytes ends h =
+      record { inv = inv-put Wide w b g n at (record { bytes = bytes; ends = ends }) law h; routes = refl }
 
-  pub put-kept : (n : ℕ) (at : End) (bytes : List ℕ) (ends : List End) →
-      Keeps (Put n at bytes ends) (put_step w n at (record { bytes = bytes; ends = ends }))
-  put-kept n at bytes ends = cond_by (nat_lt n w.count) _ _ (Keeps (Put n at bytes ends))
-      (λ l. unless_by w (put_refusal (node_at w n) at bytes ends) _ (Keeps (Put n at bytes ends)) (put_refused n at bytes ends)
-      (put_done n at bytes ends)) (put_refused n at bytes ends refusals.Stranger)
+  pub put-kept : (profile : Profile) (n : ℕ) (at : End) (bytes : List ℕ) (ends : List End) →
+      Keeps (put_of profile n at bytes ends) (put_step profile w n at (record { bytes = bytes; ends = ends }))
+  put-kept profile n at bytes ends = cond_by (nat_lt n w.count) _ _ (Keeps (put_of profile n at bytes ends))
+      (λ l. unless_by w (put_refusal profile (node_at w n) at bytes ends) _ (Keeps (put_of profile n at bytes ends))
+      (put_refused profile n at bytes ends)
+      (put_done profile n at bytes ends)) (put_refused profile n at bytes ends refusals.Stranger)
 
   -- a close
   close_done : (n : ℕ) (at : End) → close_refusal (node_at w n) at ≡ None →
@@ -193,16 +202,6 @@ pub step-open : (May : Scheduler) (w : World) (b : Books) (g : Records) (n : ℕ
 step-open May w b g n reply v law step = elim step [
   | inl gives ↦ given w b g law (Open n) (open_step w n) reply v (open-kept w b g law n) gives
   | inr want ↦ given w b g law (Open n) (refuse w refusals.OutOfMemory) reply v (open_refused w b g law n refusals.OutOfMemory) want.1
-]
-
-pub step-put : (May : Scheduler) (w : World) (b : Books) (g : Records) (n : ℕ) (at : End) (bytes : List ℕ) (ends : List End) (reply : Reply)
-    (v : World) → Inv w b g → StepBy May w (Put n at bytes ends) reply v →
-    Follows w v b g (Put n at bytes ends) reply
-step-put May w b g n at bytes ends reply v law step = elim step [
-  | inl gives ↦ given w b g law (Put n at bytes ends) (put_step w n at (record { bytes = bytes; ends = ends })) reply v
-      (put-kept w b g law n at bytes ends) gives
-  | inr want ↦ given w b g law (Put n at bytes ends) (refuse w refusals.OutOfMemory) reply v
-      (put_refused w b g law n at bytes ends refusals.OutOfMemory) want.1
 ]
 
 pub step-get : (May : Scheduler) (w : World) (b : Books) (g : Records) (n : ℕ) (at : End) (reply : Reply) (v : World) → Inv w b g →

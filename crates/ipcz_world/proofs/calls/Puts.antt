@@ -15,7 +15,8 @@ use Rattle.ipcz_world.proofs.Vocabulary.{terminal_of, commit, Close, World, Key,
 use Rattle.ipcz_world.proofs.Vocabulary.{is_closed, Records, At, terminal_node, Weight, in_router, times, Inv}
 use Rattle.ipcz_base.specs.declared.parcel.Parcel as parcels
 use Rattle.ipcz_base.specs.declared.item.Item.TheVariants.{Parcel, Mark}
-use Rattle.ipcz_base.specs.Limits.{last_number, most_bytes, most_ends, is_printable}
+use Rattle.ipcz_base.specs.declared.profile.Profile.{Profile}
+use Rattle.ipcz_base.specs.Limits.{last_number, most_bytes, most_ends, takes_bytes}
 use Rattle.ipcz_router.specs.Calls.{next_number, put_item, router_put_refusal}
 use Rattle.ipcz_router.specs.Closing.{close_router}
 use Rattle.ipcz_node.specs.Node.{is_terminal_of, on_found, holds_end, without_ends}
@@ -229,13 +230,13 @@ found_by (Some f) why h = (f, refl, h)
 not_least : (m n : ℕ) → nat_le m n ≡ false → n < m
 not_least m n h = grind (arith, h, nat_tests)
 
-pub put_tells : (n : Node) (at : End) (p : parcels.Parcel) → put_refusal n at p.bytes p.ends ≡ None →
+pub put_tells : (profile : Profile) (n : Node) (at : End) (p : parcels.Parcel) → put_refusal profile n at p.bytes p.ends ≡ None →
     (f : Found) × (terminal_of n at ≡ Some f) × IsTerminalOf n at f.serial f.router × CanPut n f.router p
 unfolding put_refusal
-put_tells n at p h =
+put_tells profile n at p h =
     let a = passes_by (not (holds_end n at)) _ _ h in
-    let b = passes_by (nat_lt most_bytes (length p.bytes) || nat_lt most_ends (length p.ends)) _ _ a.1 in
-    let c = passes_by (not (is_printable p.bytes)) _ _ b.1 in
+    let b = passes_by (nat_lt (most_bytes profile) (length p.bytes) || nat_lt most_ends (length p.ends)) _ _ a.1 in
+    let c = passes_by (not (takes_bytes profile p.bytes)) _ _ b.1 in
     let d = passes_by (has_end at p.ends) _ _ c.1 in
     let e = passes_by (has_end (opposite_end at) p.ends) _ _ d.1 in
     let f = passes_by (not (are_held_once n p.ends)) _ _ e.1 in
@@ -257,11 +258,11 @@ put_tells n at p h =
     )
 
 -- a put that isn't refused
-pub inv-put : (w : World) (b : Books) (g : Records) (n : ℕ) (at : End) (p : parcels.Parcel) → Inv w b g →
-    put_refusal (node_at w n) at p.bytes p.ends ≡ None → Inv (set_node w n (put_node (node_at w n) at p)) (add_put b at (Parcel p)) g
+pub inv-put : (profile : Profile) (w : World) (b : Books) (g : Records) (n : ℕ) (at : End) (p : parcels.Parcel) → Inv w b g →
+    put_refusal profile (node_at w n) at p.bytes p.ends ≡ None → Inv (set_node w n (put_node (node_at w n) at p)) (add_put b at (Parcel p)) g
 unfolding on_found
-inv-put w b g n at p law h =
-    let t = put_tells (node_at w n) at p h in
+inv-put profile w b g n at p law h =
+    let t = put_tells profile (node_at w n) at p h in
     let k : Key = record { node = n; serial = t.0.serial } in
     let done = inv-put_at w b g k t.0.router law (router_found w n t.0.serial t.0.router t.2.here) p t.3 in
     subst (λ o. Inv (set_node w n (on_found (node_at w n) o (put_at_router (node_at w n) p))) (add_put b at (Parcel p)) g) (sym t.1)

@@ -8,6 +8,7 @@ use Rattle.ipcz_base.specs.declared.refusal.Refusal.TheVariants.{OutOfMemory, No
 use Rattle.ipcz_world.specs.declared.step.Reply.TheVariants.{Put, Got, Closed, Refused}
 use Rattle.ipcz_base.specs.declared.item.Item.TheVariants.{Parcel as OfParcel, Mark, Gone}
 use Rattle.ipcz_base.specs.declared.parcel.Parcel as parcels
+use Rattle.ipcz_base.specs.declared.profile.Profile.{Profile}
 use Rattle.ipcz_node.specs.Calls.{put_refusal, put_node, put_number, get_refusal, get_node, got_at, got_at_found, item_got, close_refusal}
 use Rattle.ipcz_node.specs.Calls.{close_node, serials_refusal, open_node}
 use Rattle.ipcz_node.specs.declared.state.calls.PutRefused.{PutRefused}
@@ -80,36 +81,36 @@ close-refused w n at old x why reply has l e is same r =
     (is ∙ ap (λ y. unwrap_or (close_refusal y at) OutOfMemory) e) r (unchanged w n x has l (same ∙ e)))
 
 -- a put
-pub put-done : (w : World) (n : ℕ) (at : End) (p : parcels.Parcel) (old x : Node) (number : ℕ) (reply : Reply) → n < w.count →
-    old ≡ node_at w n → put_refusal old at p.bytes p.ends ≡ None → number ≡ put_number old at →
-    x ≡ put_node old at p → reply ≡ Put number → GivesOrNoMemory w (put_step w n at p) reply (with_node w n x)
+pub put-done : (profile : Profile) (w : World) (n : ℕ) (at : End) (p : parcels.Parcel) (old x : Node) (number : ℕ) (reply : Reply) → n < w.count →
+    old ≡ node_at w n → put_refusal profile old at p.bytes p.ends ≡ None → number ≡ put_number old at →
+    x ≡ put_node old at p → reply ≡ Put number → GivesOrNoMemory w (put_step profile w n at p) reply (with_node w n x)
 unfolding set_node
-put-done w n at p old x number reply l e none is made r =
-    let P : Node → Type 0 = λ old. put_refusal old at p.bytes p.ends ≡ None → number ≡ put_number old at → x ≡ put_node old at p →
-    GivesOrNoMemory w (put_step w n at p) reply (with_node w n x) in
+put-done profile w n at p old x number reply l e none is made r =
+    let P : Node → Type 0 = λ old. put_refusal profile old at p.bytes p.ends ≡ None → number ≡ put_number old at → x ≡ put_node old at p →
+    GivesOrNoMemory w (put_step profile w n at p) reply (with_node w n x) in
     subst P (sym e) (λ none is made. subst (λ d. GivesOrNoMemory w d reply (with_node w n x)) (sym (here-node w n _ l))
     (inl (gives-done w _ _ _ reply none (r ∙ ap Put is) (ap (with_node w n) made)))) none is made
 
-pub put-refused : (w : World) (n : ℕ) (at : End) (p : parcels.Parcel) (old x : Node) (why : Refusal) (reply : Reply) → HasLengths w →
+pub put-refused : (profile : Profile) (w : World) (n : ℕ) (at : End) (p : parcels.Parcel) (old x : Node) (why : Refusal) (reply : Reply) → HasLengths w →
     n < w.count → old ≡ node_at w n →
-    why ≡ unwrap_or (put_refusal old at p.bytes p.ends) OutOfMemory → x ≡ old → reply ≡ Refused why →
-    GivesOrNoMemory w (put_step w n at p) reply (with_node w n x)
+    why ≡ unwrap_or (put_refusal profile old at p.bytes p.ends) OutOfMemory → x ≡ old → reply ≡ Refused why →
+    GivesOrNoMemory w (put_step profile w n at p) reply (with_node w n x)
 unfolding is_refused
-put-refused w n at p old x why reply has l e is same r =
+put-refused profile w n at p old x why reply has l e is same r =
     subst (λ d. GivesOrNoMemory w d reply (with_node w n x)) (sym (here-node w n _ l))
-    (gives-or-refused w (with_node w n x) (put_refusal (node_at w n) at p.bytes p.ends) why (putting w n at p) reply refl
-    (is ∙ ap (λ y. unwrap_or (put_refusal y at p.bytes p.ends) OutOfMemory) e) r (unchanged w n x has l (same ∙ e)))
+    (gives-or-refused w (with_node w n x) (put_refusal profile (node_at w n) at p.bytes p.ends) why (putting w n at p) reply refl
+    (is ∙ ap (λ y. unwrap_or (put_refusal profile y at p.bytes p.ends) OutOfMemory) e) r (unchanged w n x has l (same ∙ e)))
 
 -- a put, by what the node answers
-pub put-answers : (w : World) (n : ℕ) (at : End) (p : parcels.Parcel) (old x : Node) (answer : Result ℕ PutRefused) → HasLengths w →
+pub put-answers : (profile : Profile) (w : World) (n : ℕ) (at : End) (p : parcels.Parcel) (old x : Node) (answer : Result ℕ PutRefused) → HasLengths w →
     n < w.count → old ≡ node_at w n →
-    OnOk answer (put_refusal old at p.bytes p.ends ≡ None) → IfOk answer (λ number. number ≡ put_number old at) →
-    OnOk answer (x ≡ put_node old at p) → IfErr answer (λ e. e.why ≡ unwrap_or (put_refusal old at p.bytes p.ends) OutOfMemory) →
+    OnOk answer (put_refusal profile old at p.bytes p.ends ≡ None) → IfOk answer (λ number. number ≡ put_number old at) →
+    OnOk answer (x ≡ put_node old at p) → IfErr answer (λ e. e.why ≡ unwrap_or (put_refusal profile old at p.bytes p.ends) OutOfMemory) →
     IfErr answer (λ e. (e.bytes ≡ p.bytes) × (e.ends ≡ p.ends) × (x ≡ old)) →
-    GivesOrNoMemory w (put_step w n at p) (put_reply answer) (with_node w n x)
+    GivesOrNoMemory w (put_step profile w n at p) (put_reply answer) (with_node w n x)
 unfolding put_reply
-put-answers w n at p old x (Ok number) has l e none is made why back = put-done w n at p old x number _ l e none is made refl
-put-answers w n at p old x (Err refused) has l e none is made why back = put-refused w n at p old x refused.why _ has l e why back.2 refl
+put-answers profile w n at p old x (Ok number) has l e none is made why back = put-done profile w n at p old x number _ l e none is made refl
+put-answers profile w n at p old x (Err refused) has l e none is made why back = put-refused profile w n at p old x refused.why _ has l e why back.2 refl
 
 -- want of memory that comes last may also come first
 pub put-gives : (w v : World) (n : ℕ) (done : Effect) (reply : Reply) → n < w.count → GivesOrNoMemory w done reply v → PutGives w n done reply v

@@ -1,16 +1,18 @@
 -- What the code needs of a world holds of each lawful one; and a step for a node that isn't there is refused.
-use Rattle.std.specs.Prelude.{◌≡◌, ◌≤◌, ℕ, false, nat_lt, Option, Some, None, option_map}
+use Rattle.std.specs.Prelude.{◌≡◌, ◌≤◌, ℕ, false, nat_lt, Option, Some, None, option_map, List}
 use Rattle.std.proofs.Common.{arith, refl, inl}
 use Rattle.std.proofs.lemmas.Bool.Decides.{nat_tests}
+use Rattle.ipcz_base.specs.declared.profile.Profile.{Profile}
+use Rattle.ipcz_base.specs.declared.profile.Profile.TheVariants as profiles
 use Rattle.ipcz_base.specs.declared.refusal.Refusal.TheVariants.{Stranger}
 use Rattle.ipcz_world.specs.declared.step.Step.{Step}
-use Rattle.ipcz_world.specs.declared.step.Step.TheVariants.{Open, Put, Get, Close, Turn}
+use Rattle.ipcz_world.specs.declared.step.Step.TheVariants.{Open, Put, PutWide, Get, Close, Turn}
 use Rattle.ipcz_world.specs.declared.step.Reply.TheVariants.{Refused}
 use Rattle.ipcz_word.specs.Laws.{HasNode}
 use Rattle.ipcz_router.specs.Router.{source_of}
-use Rattle.ipcz_world.proofs.Vocabulary.{World, Router, LinkEnd, inward_edge, opposite, node_at, router_at, router_in}
+use Rattle.ipcz_world.proofs.Vocabulary.{End, Reply, World, Router, LinkEnd, inward_edge, opposite, node_at, router_at, router_in}
 use Rattle.ipcz_world.specs.Turns.{next_at}
-use Rattle.ipcz_world.specs.Steps.{Effect, refuse, at_node, StepFirst}
+use Rattle.ipcz_world.specs.Steps.{Effect, refuse, at_node, PutGives, put_of, put_step, StepFirst}
 use Rattle.ipcz_world.specs.Lawfulness.{IsLawful}
 use Rattle.ipcz_world.specs.Taking.{IsRegular, node_of}
 use Rattle.ipcz_world.proofs.Whole.{lists_have_lengths, nodes_are_sound}
@@ -49,6 +51,20 @@ pub stranger : (w : World) (step : Step) → w.count ≤ node_of step → StepFi
 unfolding node_of
 stranger w (Open n) l = rw (far w n _ l) (inl (refl, refl))
 stranger w (Put n at bytes ends) l = rw (far w n _ l) (inl (refl, refl))
+stranger w (PutWide n at bytes ends) l = rw (far w n _ l) (inl (refl, refl))
 stranger w (Get n at) l = rw (far w n _ l) (refl, refl)
 stranger w (Close n at) l = rw (far w n _ l) (inl (refl, refl))
 stranger w (Turn n) l = (next_at w n, inl refl, rw (far w n _ l) (inl (refl, refl)))
+
+-- so is a put there, of whichever profile
+pub put-stranger : (profile : Profile) (w : World) (n : ℕ) (at : End) (bytes : List ℕ) (ends : List End) → w.count ≤ n →
+    StepFirst w (put_of profile n at bytes ends) (Refused Stranger) w
+unfolding node_of
+put-stranger profiles.Printed w n at bytes ends l = stranger w (Put n at bytes ends) l
+put-stranger profiles.Wide w n at bytes ends l = stranger w (PutWide n at bytes ends) l
+
+-- what a put gives, as a step
+pub put-step : (profile : Profile) (w v : World) (n : ℕ) (at : End) (bytes : List ℕ) (ends : List End) (reply : Reply) →
+    PutGives w n (put_step profile w n at (record { bytes = bytes; ends = ends })) reply v → StepFirst w (put_of profile n at bytes ends) reply v
+put-step profiles.Printed w v n at bytes ends reply gives = gives
+put-step profiles.Wide w v n at bytes ends reply gives = gives

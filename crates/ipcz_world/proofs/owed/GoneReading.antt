@@ -266,6 +266,15 @@ module _ (w v : World) (b : Books) (g : Records) (law : Inv w b g) (k : Key) (x 
       by (replies.Closed m) = case-same w v b k x.end
       by (replies.Turned event) = case-same w v b k x.end
       by (replies.Refused why) = case-same w v b k x.end
+  stepped (steps.PutWide n at bytes ends) reply s = by reply
+    where
+      by : (reply : Reply) → Case (advance w b (steps.PutWide n at bytes ends) reply)
+      by (replies.Put m) = case-put w v b k x.end at _
+      by (replies.Opened d e) = case-same w v b k x.end
+      by (replies.Got m p) = case-same w v b k x.end
+      by (replies.Closed m) = case-same w v b k x.end
+      by (replies.Turned event) = case-same w v b k x.end
+      by (replies.Refused why) = case-same w v b k x.end
   stepped (steps.Get n at) reply s = by reply (reply-get AnyAct w b g n at reply v law s)
     where
       by : (reply : Reply) → Plain b (steps.Get n at) reply (advance w b (steps.Get n at) reply) → Case (advance w b (steps.Get n at) reply)

@@ -28,6 +28,7 @@ use Rattle.ipcz_node.specs.Hands.{deliver, handle, fits, is_hand_of}
 use Rattle.ipcz_world.specs.WordAnswers.{source_for}
 use Rattle.ipcz_world.specs.declared.mail.Mail.{Mail}
 use Rattle.ipcz_world.specs.declared.mail.Mail.TheVariants as mails
+use Rattle.ipcz_base.specs.declared.profile.Profile.TheVariants.{Printed, Wide}
 use Rattle.ipcz_world.specs.declared.step.Step.{Step}
 use Rattle.ipcz_world.specs.declared.step.Step.TheVariants as steps
 use Rattle.ipcz_world.specs.Turns.{after_hand, may_act, turn_lacks_serials, is_full, is_clear}
@@ -390,7 +391,11 @@ module _ (w : World) (b : Books) (g : Records) (law : Inv w b g) (flags : FlagsA
       (node_owing n _ (λ l. opened_owing n (node_at w n).opening refl)) h
   step_owes v (steps.Put n at bytes ends) reply (inr (l, (e, f))) = subst Owes (sym f) same
   step_owes v (steps.Put n at bytes ends) reply (inl h) =
-      subst Owes (sym h.1) (node_owing n _ (λ l. unless_owing (put_refusal (node_at w n) at bytes ends) _
+      subst Owes (sym h.1) (node_owing n _ (λ l. unless_owing (put_refusal Printed (node_at w n) at bytes ends) _
+      (λ e. put_owing n at (record { bytes = bytes; ends = ends }))))
+  step_owes v (steps.PutWide n at bytes ends) reply (inr (l, (e, f))) = subst Owes (sym f) same
+  step_owes v (steps.PutWide n at bytes ends) reply (inl h) =
+      subst Owes (sym h.1) (node_owing n _ (λ l. unless_owing (put_refusal Wide (node_at w n) at bytes ends) _
       (λ e. put_owing n at (record { bytes = bytes; ends = ends }))))
   step_owes v (steps.Get n at) reply h = subst Owes (sym h.1)
       (node_owing n _ (λ l. unless_owing (get_refusal (node_at w n) at) _ (λ e. get_owing n at)))

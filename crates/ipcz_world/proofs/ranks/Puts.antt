@@ -7,6 +7,8 @@ use Rattle.std.proofs.lemmas.Option.{same_Some, slice_get_within}
 use Rattle.std.specs.FinMap.{get}
 use Rattle.ipcz_world.proofs.Vocabulary.{End, Item, Refusal, has_end, ends_in, same_end, Router, Node, Found, Edge, terminal_of, with_router}
 use Rattle.ipcz_world.proofs.Vocabulary.{is_terminal, World, Key, node_at, router_at, set_node, set_router, same_key, Books, read, opposite_end, At, unless, total, bare_node, router_in}
+use Rattle.ipcz_base.specs.declared.profile.Profile.{Profile}
+use Rattle.ipcz_base.specs.declared.profile.Profile.TheVariants.{Printed, Wide}
 use Rattle.ipcz_base.specs.declared.item.Item.TheVariants.{Parcel}
 use Rattle.ipcz_router.specs.Calls.{put_item}
 use Rattle.ipcz_node.specs.Node.{on_found, is_terminal_of}
@@ -15,6 +17,7 @@ use Rattle.ipcz_world.specs.declared.step.Step.TheVariants as steps
 use Rattle.ipcz_world.specs.declared.step.Reply.TheVariants as replies
 use Rattle.ipcz_world.specs.Books.{add_put, advance}
 use Rattle.ipcz_world.specs.Routes.{Routes, routes_after}
+use Rattle.ipcz_world.specs.declared.step.Step.{Step}
 use Rattle.ipcz_world.specs.Steps.{Effect, put_step}
 use Rattle.ipcz_world.specs.Lawful.{Lawful}
 use Rattle.ipcz_world.specs.WorldLaws.{StepKeepsLawful, QuietHasNoProxy}
@@ -46,9 +49,9 @@ unrefused : (c : Bool) (why : Refusal) (o : Option Refusal) → (if c then Some 
 unrefused true why o h = cc
 unrefused false why o h = h
 
-put-found : (n : Node) (at : End) (bytes : List ℕ) → put_refusal n at bytes [] ≡ None → (f : Found) × (terminal_of n at ≡ Some f)
+put-found : (profile : Profile) (n : Node) (at : End) (bytes : List ℕ) → put_refusal profile n at bytes [] ≡ None → (f : Found) × (terminal_of n at ≡ Some f)
 unfolding put_refusal refusal_at
-put-found n at bytes fine = go (terminal_of n at) refl
+put-found profile n at bytes fine = go (terminal_of n at) refl
   where
     go : (o : Option Found) → terminal_of n at ≡ o → (f : Found) × (terminal_of n at ≡ Some f)
     go (Some f) e = (f, e)
@@ -85,7 +88,7 @@ record IsPutAt (w : World) (p : PlainPut) : Type 0 where
 put-at : (w : World) (p : PlainPut) → IsTakenPut w p → IsPutAt w p
 unfolding on_found
 put-at w p is =
-    let f = put-found (node_at w p.node) p.at p.bytes is.fine in
+    let f = put-found p.profile (node_at w p.node) p.at p.bytes is.fine in
     let t = found_tells (node_at w p.node) (is_terminal_of p.at) f.0 f.1 in record {
       serial = f.0.serial;
       router = f.0.router;
@@ -108,13 +111,24 @@ AreRoused w known = (k : Key) (r : Router) → router_at w k ≡ Some r → is_t
 put-keeps : StepKeepsLawful → (w : World) (b : Books) (g : Routes) (p : PlainPut) → Lawful w b g → IsTakenPut w p →
     Lawful (after_put w p) (add_put b p.at (Parcel (plain_parcel p))) g
 unfolding advance routes_after unless
-put-keeps keeps w b g p law is =
-    let step = steps.Put p.node p.at p.bytes [] in
-    let it = put_step w p.node p.at (plain_parcel p) in
-    let l : nat_lt p.node w.count ≡ true = grind (arith, nat_tests, is.node) in
-    let done : it ≡ record { reply = replies.Put (put_number (node_at w p.node) p.at); world = after_put w p } = rw (l, is.fine) refl in
-    subst (λ (e : Effect). Lawful e.world (advance w b step e.reply) (routes_after w g step e.reply)) done
-    (keeps w it.world b g step it.reply law (inl (refl, refl)))
+put-keeps keeps w b g p law is = go p.profile is.fine
+  where
+    it : Profile → Effect
+    it profile = put_step profile w p.node p.at (plain_parcel p)
+
+    done : (profile : Profile) → put_refusal profile (node_at w p.node) p.at p.bytes [] ≡ None →
+        it profile ≡ record { reply = replies.Put (put_number (node_at w p.node) p.at); world = after_put w p }
+    done profile fine = let l : nat_lt p.node w.count ≡ true = grind (arith, nat_tests, is.node) in rw (l, fine) refl
+
+    kept : (step : Step) → Effect → Type 0
+    kept step e = Lawful e.world (advance w b step e.reply) (routes_after w g step e.reply)
+
+    go : (profile : Profile) → put_refusal profile (node_at w p.node) p.at p.bytes [] ≡ None →
+        Lawful (after_put w p) (add_put b p.at (Parcel (plain_parcel p))) g
+    go Printed fine = let step = steps.Put p.node p.at p.bytes [] in
+        subst (kept step) (done Printed fine) (keeps w (it Printed).world b g step (it Printed).reply law (inl (refl, refl)))
+    go Wide fine = let step = steps.PutWide p.node p.at p.bytes [] in
+        subst (kept step) (done Wide fine) (keeps w (it Wide).world b g step (it Wide).reply law (inl (refl, refl)))
 
 -- what one put makes of rank and of what stays
 record Raises (c : Rates) (marks : End → ℕ) (w v : World) (k : ℕ) : Type 0 where

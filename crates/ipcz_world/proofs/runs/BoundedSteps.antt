@@ -22,6 +22,7 @@ use Rattle.ipcz_node.specs.Acts.{commit_router, post_of, rest_of}
 use Rattle.ipcz_world.specs.declared.mail.Mail.{Mail}
 use Rattle.ipcz_world.specs.declared.mail.Mail.TheVariants as mails
 use Rattle.ipcz_base.proofs.Indexed.{length-put_place}
+use Rattle.ipcz_base.specs.declared.profile.Profile.TheVariants.{Printed, Wide}
 use Rattle.ipcz_world.specs.declared.step.Step.{Step}
 use Rattle.ipcz_world.specs.declared.step.Step.TheVariants as steps
 use Rattle.ipcz_world.specs.WordAnswers.{touch_word, touch}
@@ -232,9 +233,13 @@ module _ (w : World) (books : Books) (g : Records) (law : Inv w books g) (b : Is
       (at_node-bounded n _ (λ l. open_on-bounded n (node_at w n).opening refl l))
   bounded-step May may (steps.Open n) reply v (inr h) = subst IsBounded (sym h.1.1) b
   bounded-step May may (steps.Put n at bytes ends) reply v (inl h) =
-      subst IsBounded (sym h.1) (at_node-bounded n _ (λ l. unless-bounded (put_refusal (node_at w n) at bytes ends) _
+      subst IsBounded (sym h.1) (at_node-bounded n _ (λ l. unless-bounded (put_refusal Printed (node_at w n) at bytes ends) _
       (bounded-set_node w n _ l b (boxed-put n l at (record { bytes = bytes; ends = ends })))))
   bounded-step May may (steps.Put n at bytes ends) reply v (inr h) = subst IsBounded (sym h.1.1) b
+  bounded-step May may (steps.PutWide n at bytes ends) reply v (inl h) =
+      subst IsBounded (sym h.1) (at_node-bounded n _ (λ l. unless-bounded (put_refusal Wide (node_at w n) at bytes ends) _
+      (bounded-set_node w n _ l b (boxed-put n l at (record { bytes = bytes; ends = ends })))))
+  bounded-step May may (steps.PutWide n at bytes ends) reply v (inr h) = subst IsBounded (sym h.1.1) b
   bounded-step May may (steps.Get n at) reply v h = subst IsBounded (sym h.1)
       (at_node-bounded n _ (λ l. unless-bounded (get_refusal (node_at w n) at) _ (bounded-set_node w n _ l b (boxed-get n l at))))
   bounded-step May may (steps.Close n at) reply v (inl h) = subst IsBounded (sym h.1)

@@ -140,6 +140,7 @@ module _ (w : World) (b : Books) (g : Records) (law : Inv w b g) (n : ℕ) (here
 pub first_is_possible : FirstIsPossible
 first_is_possible w v b g (steps.Open n) reply law s = s
 first_is_possible w v b g (steps.Put n at bytes ends) reply law s = s
+first_is_possible w v b g (steps.PutWide n at bytes ends) reply law s = s
 first_is_possible w v b g (steps.Get n at) reply law s = s
 first_is_possible w v b g (steps.Close n at) reply law s = s
 first_is_possible w v b g (steps.Turn n) reply law (act, may, s) = (act, λ l. first_taken w b law.records law.inv n l act may, s)

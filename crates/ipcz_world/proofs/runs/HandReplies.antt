@@ -130,6 +130,8 @@ module _ (fit : HandsFit) (w : World) (b : Books) (g : Routes) (law : Lawful w b
       absurd (subst (λ r. Plain b (steps.Open n) r (advance w b (steps.Open n) r)) f plain)
   replied v (steps.Put n at bytes ends) reply plain s kind link f =
       absurd (subst (λ r. Plain b (steps.Put n at bytes ends) r (advance w b (steps.Put n at bytes ends) r)) f plain)
+  replied v (steps.PutWide n at bytes ends) reply plain s kind link f =
+      absurd (subst (λ r. Plain b (steps.PutWide n at bytes ends) r (advance w b (steps.PutWide n at bytes ends) r)) f plain)
   replied v (steps.Get n at) reply plain s kind link f =
       absurd (subst (λ r. Plain b (steps.Get n at) r (advance w b (steps.Get n at) r)) f plain)
   replied v (steps.Close n at) reply plain s kind link f =

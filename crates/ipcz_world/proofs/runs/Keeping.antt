@@ -13,16 +13,18 @@ use Rattle.ipcz_world.proofs.acts.DroppingGone.{inv-discard_leave}
 use Rattle.ipcz_world.proofs.routes.Routing.{routes-left, routes-left_terminal}
 use Rattle.ipcz_world.proofs.routes.Seeing.{routes-leave, stays-lost}
 use Rattle.ipcz_world.specs.Remembering.{leave_records}
-use Rattle.ipcz_world.proofs.Vocabulary.{Node}
+use Rattle.ipcz_world.proofs.Vocabulary.{End, Reply, Node}
 use Rattle.ipcz_world.specs.Records.{is_lost_owner}
 use Rattle.ipcz_router.specs.Acts.{has_gone_next}
 use Rattle.ipcz_world.specs.WordAnswers.{source_for}
 use Rattle.std.specs.Prelude.{◌≡◌, ◌<◌, ℕ, Bool, true, false, ◌&&◌, nat_lt, if◌then◌else◌, Option, Some, None, is_some, refl}
-use Rattle.std.proofs.Common.{arith, ap, subst, ◌∙◌, sym, inl, inr}
+use Rattle.std.proofs.Common.{List, arith, ap, subst, ◌∙◌, sym, inl, inr}
 use Rattle.std.proofs.lemmas.Bool.Decides.{nat_tests}
 use Rattle.ipcz_world.proofs.Vocabulary.{LinkId, Central, LinkEnd, Message, word_of, Router, primary_word, is_possible, RouterAct, Act}
 use Rattle.ipcz_world.proofs.Vocabulary.{Hand, Close, Found, World, Key, node_at, word_at, mail_at, way, router_at, after_act, can_take}
 use Rattle.ipcz_world.proofs.Vocabulary.{hand_message, answer_of, Books, Records, is_linked, side_end, Inv, unless, Refusal}
+use Rattle.ipcz_base.specs.declared.profile.Profile.{Profile}
+use Rattle.ipcz_base.specs.declared.profile.Profile.TheVariants.{Printed, Wide}
 use Rattle.ipcz_base.specs.declared.message.Message.TheVariants as messages
 use Rattle.ipcz_word.specs.Word.{plan_of}
 use Rattle.ipcz_router.specs.ActTable.{is_rest, may_take}
@@ -52,7 +54,7 @@ use Rattle.ipcz_world.proofs.hands.Handling.{dropped_is, peer_fits, under_way-ha
 use Rattle.ipcz_router.specs.Acts.{pop_out, send_on}
 use Rattle.ipcz_world.specs.declared.step.Step.TheVariants as steps
 use Rattle.ipcz_world.specs.Routes.{Routes, routes_after, routes_after_turn, add_link, add_peripherals}
-use Rattle.ipcz_world.specs.Steps.{Effect, refuse, open_on, open_step}
+use Rattle.ipcz_world.specs.Steps.{put_of, Effect, refuse, open_on, open_step}
 use Rattle.ipcz_node.specs.Calls.{serials_refusal}
 use Rattle.ipcz_base.specs.declared.refusal.Refusal.TheVariants as refusals
 use Rattle.ipcz_world.proofs.frames.Sealing.{sealed, closed}
@@ -463,13 +465,20 @@ module _ (w : World) (b : Books) (g : Records) (law : Inv w b g) where
   open_kept : (n : ℕ) → KeptBy w b g (steps.Open n) (open_step w n)
   open_kept n = let f = open-kept w b g law n in record { records = _; inv = f.inv; routes = f.routes; stays = stays-open n }
 
+  -- a put makes no route
+  stays-put : (profile : Profile) (n : ℕ) (at : End) (bytes : List ℕ) (ends : List End) (reply : Reply) →
+      KeepsLinks (routes_of g) (routes_after w (routes_of g) (put_of profile n at bytes ends) reply)
+  unfolding routes_after
+  stays-put Printed n at bytes ends reply = stays-same (routes_of g) (routes_of g) refl
+  stays-put Wide n at bytes ends reply = stays-same (routes_of g) (routes_of g) refl
+
 -- so each step keeps it
 pub steps_keep : StepsKeep
 unfolding routes_after
 steps_keep = record {
   opens = λ w b g n law. open_kept w b g law n;
-  puts = λ w b g n at bytes ends law. let f = put-kept w b g law n at bytes ends in
-      record { records = _; inv = f.inv; routes = f.routes; stays = stays-same (routes_of g) (routes_of g) refl };
+  puts = λ profile w b g n at bytes ends law. let f = put-kept w b g law profile n at bytes ends in
+      record { records = _; inv = f.inv; routes = f.routes; stays = stays-put w b g law profile n at bytes ends _ };
   gets = λ w b g n at law. let f = get-kept w b g law n at in record
       { records = _; inv = f.inv; routes = f.routes; stays = stays-same (routes_of g) (routes_of g) refl };
   closes = λ w b g n at law. let f = close-kept w b g law n at in

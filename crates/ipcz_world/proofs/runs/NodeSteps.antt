@@ -20,6 +20,7 @@ use Rattle.ipcz_node.specs.Hands.{deliver, is_hand_of}
 use Rattle.ipcz_node.specs.Acts.{post_of}
 use Rattle.ipcz_world.specs.declared.mail.Mail.{Mail}
 use Rattle.ipcz_world.specs.declared.mail.Mail.TheVariants as mails
+use Rattle.ipcz_base.specs.declared.profile.Profile.TheVariants.{Printed, Wide}
 use Rattle.ipcz_world.specs.declared.step.Step.{Step}
 use Rattle.ipcz_world.specs.declared.step.Step.TheVariants as steps
 use Rattle.ipcz_world.specs.WordAnswers.{touch, touch_word}
@@ -174,7 +175,12 @@ module _ (Q : World → Type 0) (N : Node → Type 0) (kept : IsKept Q N) where
       (kept-at_node w n _ is (λ l. kept-open_on w n (node_at w n).opening is)) h
   kept-step w v b g (steps.Put n at bytes ends) reply law is (inr (l, (e, f))) = subst Q (sym f) is
   kept-step w v b g (steps.Put n at bytes ends) reply law is (inl h) =
-      subst Q (sym h.1) (kept-at_node w n _ is (λ l. kept-unless w (put_refusal (node_at w n) at bytes ends) _ is
+      subst Q (sym h.1) (kept-at_node w n _ is (λ l. kept-unless w (put_refusal Printed (node_at w n) at bytes ends) _ is
+      (λ e. kept.set_node w n (put_node (node_at w n) at (record { bytes = bytes; ends = ends })) is
+      (kept.put (node_at w n) at (record { bytes = bytes; ends = ends }) (kept.node_of w n is)))))
+  kept-step w v b g (steps.PutWide n at bytes ends) reply law is (inr (l, (e, f))) = subst Q (sym f) is
+  kept-step w v b g (steps.PutWide n at bytes ends) reply law is (inl h) =
+      subst Q (sym h.1) (kept-at_node w n _ is (λ l. kept-unless w (put_refusal Wide (node_at w n) at bytes ends) _ is
       (λ e. kept.set_node w n (put_node (node_at w n) at (record { bytes = bytes; ends = ends })) is
       (kept.put (node_at w n) at (record { bytes = bytes; ends = ends }) (kept.node_of w n is)))))
   kept-step w v b g (steps.Get n at) reply law is h = subst Q (sym h.1)

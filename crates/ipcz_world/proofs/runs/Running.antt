@@ -3,13 +3,15 @@ use Rattle.std.specs.Prelude.{◌≡◌, ◌⊎◌, ◌<◌, ℕ, Bool, true, fa
 use Rattle.std.proofs.Common.{arith, subst, sym, inl, inr}
 use Rattle.std.proofs.lemmas.Bool.Decides.{nat_tests}
 use Rattle.ipcz_world.proofs.Vocabulary.{End, Refusal, Act, Reply, World, can_take, after_act, unless, Books, at_end, Records, Inv, Node}
+use Rattle.ipcz_base.specs.declared.profile.Profile.{Profile}
+use Rattle.ipcz_base.specs.declared.profile.Profile.TheVariants.{Printed, Wide}
 use Rattle.ipcz_base.specs.declared.refusal.Refusal.TheVariants as refusals
 use Rattle.ipcz_world.specs.declared.step.Step.{Step}
 use Rattle.ipcz_world.specs.declared.step.Step.TheVariants as steps
 use Rattle.ipcz_world.specs.declared.step.Reply.TheVariants as replies
 use Rattle.ipcz_world.specs.World.{new_world}
 use Rattle.ipcz_world.specs.Turns.{turn_lacks_serials, turn_event}
-use Rattle.ipcz_world.specs.Steps.{Effect, open_step, put_step, get_step, close_step, turn_step, StepAny}
+use Rattle.ipcz_world.specs.Steps.{Effect, open_step, put_of, put_step, get_step, close_step, turn_step, StepAny}
 use Rattle.ipcz_world.specs.Books.{no_books, advance, after_turn}
 use Rattle.ipcz_world.specs.Routes.{Routes, first_routes, routes_after, routes_after_turn}
 use Rattle.ipcz_world.specs.Places.{in_places, unread_weight}
@@ -87,8 +89,8 @@ KeptBy w b g step done = Kept g done.world (advance w b step done.reply) (routes
 -- the invariant is kept by each call of a caller, and by each act that a turn may take
 pub record StepsKeep : Type 0 where
   pub opens : (w : World) (b : Books) (g : Records) (n : ℕ) → Inv w b g → KeptBy w b g (steps.Open n) (open_step w n)
-  pub puts : (w : World) (b : Books) (g : Records) (n : ℕ) (at : End) (bytes : List ℕ) (ends : List End) → Inv w b g →
-      KeptBy w b g (steps.Put n at bytes ends) (put_step w n at (record { bytes = bytes; ends = ends }))
+  pub puts : (profile : Profile) (w : World) (b : Books) (g : Records) (n : ℕ) (at : End) (bytes : List ℕ) (ends : List End) → Inv w b g →
+      KeptBy w b g (put_of profile n at bytes ends) (put_step profile w n at (record { bytes = bytes; ends = ends }))
   pub gets : (w : World) (b : Books) (g : Records) (n : ℕ) (at : End) → Inv w b g → KeptBy w b g (steps.Get n at) (get_step w n at)
   pub closes : (w : World) (b : Books) (g : Records) (n : ℕ) (at : End) → Inv w b g → KeptBy w b g (steps.Close n at) (close_step w n at)
   pub takes : (w : World) (b : Books) (g : Records) (n : ℕ) (act : Act) → Inv w b g → n < w.count → can_take w n act ≡ true →
@@ -141,10 +143,15 @@ module _ (w : World) (b : Books) (g : Records) (law : Inv w b g) where
   step_kept keep v (steps.Open n) reply (inl (e, f)) = by_effect (steps.Open n) reply v (open_step w n) e f (keep.opens w b g n law)
   step_kept keep v (steps.Open n) reply (inr (fine, (e, f))) = refused (steps.Open n) reply v refusals.OutOfMemory e f refl refl
   step_kept keep v (steps.Put n at bytes ends) reply (inl (e, f)) =
-      by_effect (steps.Put n at bytes ends) reply v (put_step w n at (record { bytes = bytes; ends = ends })) e f
-      (keep.puts w b g n at bytes ends law)
+      by_effect (steps.Put n at bytes ends) reply v (put_step Printed w n at (record { bytes = bytes; ends = ends })) e f
+      (keep.puts Printed w b g n at bytes ends law)
   step_kept keep v (steps.Put n at bytes ends) reply (inr (l, (e, f))) =
       refused (steps.Put n at bytes ends) reply v refusals.OutOfMemory e f refl refl
+  step_kept keep v (steps.PutWide n at bytes ends) reply (inl (e, f)) =
+      by_effect (steps.PutWide n at bytes ends) reply v (put_step Wide w n at (record { bytes = bytes; ends = ends })) e f
+      (keep.puts Wide w b g n at bytes ends law)
+  step_kept keep v (steps.PutWide n at bytes ends) reply (inr (l, (e, f))) =
+      refused (steps.PutWide n at bytes ends) reply v refusals.OutOfMemory e f refl refl
   step_kept keep v (steps.Get n at) reply (e, f) = by_effect (steps.Get n at) reply v (get_step w n at) e f (keep.gets w b g n at law)
   step_kept keep v (steps.Close n at) reply (inl (e, f)) = by_effect (steps.Close n at) reply v (close_step w n at) e f
       (keep.closes w b g n at law)

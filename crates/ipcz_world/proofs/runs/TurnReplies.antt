@@ -250,6 +250,7 @@ module _ (w : World) (b : Books) (g : Records) (law : Inv w b g) where
   pub begun_locked : (v : World) (step : Step) (reply : Reply) → StepAny w step reply v → BeginsUnderLock w step reply
   begun_locked v (steps.Open m) reply s n serial i r e f here = cc
   begun_locked v (steps.Put m at bytes ends) reply s n serial i r e f here = cc
+  begun_locked v (steps.PutWide m at bytes ends) reply s n serial i r e f here = cc
   begun_locked v (steps.Get m at) reply s n serial i r e f here = cc
   begun_locked v (steps.Close m at) reply s n serial i r e f here = cc
   begun_locked v (steps.Turn m) reply (act, may, inr (grows, own, fine, (p, q))) n serial i r e f here = absurd (grind (arith, p, f))

@@ -16,6 +16,7 @@ use Rattle.ipcz_node.specs.declared.act.Act.TheVariants.{Look, Post, Router as O
 use Rattle.ipcz_node.specs.Acts.{post_of}
 use Rattle.ipcz_node.specs.Calls.{put_refusal, get_refusal, close_refusal, serials_refusal}
 use Rattle.ipcz_world.specs.declared.mail.Mail.{Mail}
+use Rattle.ipcz_base.specs.declared.profile.Profile.TheVariants.{Printed, Wide}
 use Rattle.ipcz_world.specs.declared.step.Step.{Step}
 use Rattle.ipcz_world.specs.declared.step.Step.TheVariants as steps
 use Rattle.ipcz_world.specs.World.{has_unclaimed_word, new_world}
@@ -165,7 +166,10 @@ named-step w v (steps.Open n) reply sources law h = named-given w v (open_step w
     (named-at_node w n _ law (λ l. named-open_on w n (node_at w n).opening law)) h
 named-step w v (steps.Put n at bytes ends) reply sources law (inr (l, (e, f))) = subst NameNodes (sym f) law
 named-step w v (steps.Put n at bytes ends) reply sources law (inl h) = subst NameNodes (sym h.1)
-    (named-at_node w n _ law (λ l. named-unless w (put_refusal (node_at w n) at bytes ends) _ law (named-node w n _ law)))
+    (named-at_node w n _ law (λ l. named-unless w (put_refusal Printed (node_at w n) at bytes ends) _ law (named-node w n _ law)))
+named-step w v (steps.PutWide n at bytes ends) reply sources law (inr (l, (e, f))) = subst NameNodes (sym f) law
+named-step w v (steps.PutWide n at bytes ends) reply sources law (inl h) = subst NameNodes (sym h.1)
+    (named-at_node w n _ law (λ l. named-unless w (put_refusal Wide (node_at w n) at bytes ends) _ law (named-node w n _ law)))
 named-step w v (steps.Get n at) reply sources law h = subst NameNodes (sym h.1)
     (named-at_node w n _ law (λ l. named-unless w (get_refusal (node_at w n) at) _ law (named-node w n _ law)))
 named-step w v (steps.Close n at) reply sources law h = named-given w v (close_step w n at) reply law

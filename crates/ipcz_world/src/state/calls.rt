@@ -3,12 +3,12 @@
 ghost use Rattle.std.specs.Prelude.{◌≡◌, ◌<◌, None, IfOk, IfErr};
 ghost use Rattle.ipcz_world.specs.World.{node_at};
 ghost use Rattle.ipcz_world.specs.Steps.{StepFirst};
-ghost use Rattle.ipcz_world.specs.Steps.{open_with, open_on, put_reply, put_step, get_step, next_sizes, close_step, Gives, GivesOrNoMemory, PutGives};
+ghost use Rattle.ipcz_world.specs.Steps.{open_with, open_on, put_of, put_reply, put_step, get_step, next_sizes, close_step, Gives, GivesOrNoMemory, PutGives};
 ghost use Rattle.ipcz_world.specs.Taking.{IsRegular};
 
 use crate::state::State;
 use crate::step::{Reply, Step};
-use ipcz_base::{Bytes, End, Ends, Refusal, Sizes};
+use ipcz_base::{Bytes, End, Ends, Profile, Refusal, Sizes};
 use ipcz_node::PutRefused;
 use std::alloc::{AllocError, Global};
 
@@ -61,10 +61,17 @@ impl State {
     }
 
     /// Puts a copy of a parcel at an end. Room for its lists is taken first.
-    pub(crate) fn put(&mut self, n: u8, at: End, bytes: &Bytes, ends: &Ends) -> Reply
+    pub(crate) fn put(
+        &mut self,
+        profile: Profile,
+        n: u8,
+        at: End,
+        bytes: &Bytes,
+        ends: &Ends,
+    ) -> Reply
         requires regular { IsRegular self.old }
         requires node { n < self.old.count }
-        ensures { PutGives self.old n (put_step self.old n at (record { bytes = bytes.now; ends = ends.now })) result self.new }
+        ensures { PutGives self.old n (put_step profile self.old n at (record { bytes = bytes.now; ends = ends.now })) result self.new }
     {
         let Ok(bytes) = copy_bytes(self.alloc, bytes) else {
             return Reply::Refused(Refusal::OutOfMemory);
@@ -72,37 +79,45 @@ impl State {
         let Ok(ends) = copy_ends(self.alloc, ends) else {
             return Reply::Refused(Refusal::OutOfMemory);
         };
-        Reply::of_put(self.put_here(n, at, bytes, ends))
+        Reply::of_put(self.put_here(profile, n, at, bytes, ends))
     }
 
     /// Puts a parcel at an end, as it was given; one for a node that isn't there is refused. A refused one is given back.
     pub(crate) fn put_given(
         &mut self,
+        profile: Profile,
         n: u8,
         at: End,
         bytes: Bytes,
         ends: Ends,
     ) -> Result<u64, PutRefused>
         requires { IsRegular self.old }
-        ensures step { StepFirst self.old (Step.Put n at bytes ends) (put_reply result) self.new }
-        ensures order { GivesOrNoMemory self.old (put_step self.old n at (record { bytes = bytes; ends = ends })) (put_reply result) self.new }
+        ensures step { StepFirst self.old (put_of profile n at bytes ends) (put_reply result) self.new }
+        ensures order { GivesOrNoMemory self.old (put_step profile self.old n at (record { bytes = bytes; ends = ends })) (put_reply result) self.new }
         ensures back { IfErr result (λ e. (e.bytes ≡ bytes) × (e.ends ≡ ends)) }
     {
         if n >= self.count {
             let why = Refusal::Stranger;
             return Err(PutRefused { why, bytes, ends });
         }
-        self.put_here(n, at, bytes, ends)
+        self.put_here(profile, n, at, bytes, ends)
     }
 
     // Puts a parcel at an end of a node that is there.
-    fn put_here(&mut self, n: u8, at: End, bytes: Bytes, ends: Ends) -> Result<u64, PutRefused>
+    fn put_here(
+        &mut self,
+        profile: Profile,
+        n: u8,
+        at: End,
+        bytes: Bytes,
+        ends: Ends,
+    ) -> Result<u64, PutRefused>
         requires regular { IsRegular self.old }
         requires node { n < self.old.count }
-        ensures step { GivesOrNoMemory self.old (put_step self.old n at (record { bytes = bytes; ends = ends })) (put_reply result) self.new }
+        ensures step { GivesOrNoMemory self.old (put_step profile self.old n at (record { bytes = bytes; ends = ends })) (put_reply result) self.new }
         ensures back { IfErr result (λ e. (e.bytes ≡ bytes) × (e.ends ≡ ends)) }
     {
-        self.nodes.node_mut(n).put(at, bytes, ends)
+        self.nodes.node_mut(n).put_as(profile, at, bytes, ends)
     }
 
     /// Gets the next parcel at an end.

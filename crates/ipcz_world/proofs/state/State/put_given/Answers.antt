@@ -1,19 +1,17 @@
 use Rattle.std.proofs.Common.{◌≡◌, ◌≤◌, false, nat_lt, ap, arith, refl, inl}
 use Rattle.std.proofs.lemmas.Bool.Decides.{nat_tests}
 use Rattle.ipcz_world.proofs.Vocabulary.{World}
-use Rattle.ipcz_world.specs.Taking.{node_of}
-use Rattle.ipcz_world.specs.declared.step.Step.TheVariants.{Put}
 use Rattle.ipcz_world.specs.Steps.{put_reply}
 use Rattle.ipcz_world.proofs.code.Calling.{put-gives}
-use Rattle.ipcz_world.proofs.code.Regular.{stranger}
+use Rattle.ipcz_world.proofs.code.Regular.{put-step, put-stranger}
 use Rattle.ipcz_world.proofs.state.State.put_given.Goals as goal
 
 pub returns-then-n-self-clause-step : goal.returns-then-n-self-clause-step
-unfolding node_of put_reply
+unfolding put_reply
 returns-then-n-self-clause-step c =
     let many : c.self.inside.count ≡ c.args.self.now.count = ap (λ (w : World). w.count) c.self.view_is in
     let out : c.args.self.now.count ≤ c.args.n = omega (arith, many, c.if-n-self.true) in
-    stranger c.args.self.now (Put c.args.n c.args.at c.args.bytes c.args.ends) out
+    put-stranger c.args.profile c.args.self.now c.args.n c.args.at c.args.bytes c.args.ends out
 
 pub returns-then-n-self-clause-order : goal.returns-then-n-self-clause-order
 unfolding put_reply
@@ -26,5 +24,6 @@ returns-then-n-self-clause-order c =
 pub returns-clause-step : goal.returns-clause-step
 returns-clause-step c =
     let many : c.self.inside.count ≡ c.args.self.now.count = ap (λ (w : World). w.count) c.self.view_is in
-    put-gives c.args.self.now c.put_here.new.self c.args.n _ (put_reply c.put_here.result)
-    (omega (arith, many, c.if-n-self.false)) c.put_here.ensures.step
+    put-step c.args.profile c.args.self.now c.put_here.new.self c.args.n c.args.at c.args.bytes c.args.ends (put_reply c.put_here.result)
+    (put-gives c.args.self.now c.put_here.new.self c.args.n _ (put_reply c.put_here.result)
+    (omega (arith, many, c.if-n-self.false)) c.put_here.ensures.step)
