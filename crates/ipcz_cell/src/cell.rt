@@ -79,9 +79,9 @@ fn put_here<F: FabricName, X: Outcome>(
 ) -> Result<u64, PutRefused>
     requires picked { IsPicked X.tells (touched (put_part at bytes ends)) }
     requires seated { IsSeated F.table state.old.node seat.old.table_id seat.old.me }
-    ensures allowed { OnOk result (put_refusal state.old.node at bytes ends ≡ None) }
+    ensures allowed { OnOk result (put_refusal Profile.Printed state.old.node at bytes ends ≡ None) }
     ensures number { IfOk result (λ n. n ≡ put_number state.old.node at) }
-    ensures why { IfErr result (λ e. e.why ≡ unwrap_or (put_refusal state.old.node at bytes ends) Refusal.OutOfMemory) }
+    ensures why { IfErr result (λ e. e.why ≡ unwrap_or (put_refusal Profile.Printed state.old.node at bytes ends) Refusal.OutOfMemory) }
     ensures back { IfErr result (λ e. (e.bytes ≡ bytes) × (e.ends ≡ ends)) }
     ensures seated { IsSeated F.table state.new.node seat.new.table_id seat.new.me }
     ensures done { OnOk result (seat.new.me ≡ (change_part (put_part at bytes ends) seat.old.me.0, seat.old.me.1)) }
@@ -226,10 +226,10 @@ impl<F: FabricName> NodeCell<F> {
         bytes: Bytes,
         ends: Ends,
     ) -> Result<u64, PutRefused>
-        ensures allowed { OnOk result (put_refusal self.old.part.state at bytes ends ≡ None) }
+        ensures allowed { OnOk result (put_refusal Profile.Printed self.old.part.state at bytes ends ≡ None) }
         ensures number { IfOk result (λ n. n ≡ put_number self.old.part.state at) }
         ensures ok { OnOk result (self.new.part ≡ put_part at bytes ends self.old.part) }
-        ensures why { IfErr result (λ e. e.why ≡ unwrap_or (put_refusal self.old.part.state at bytes ends) Refusal.OutOfMemory) }
+        ensures why { IfErr result (λ e. e.why ≡ unwrap_or (put_refusal Profile.Printed self.old.part.state at bytes ends) Refusal.OutOfMemory) }
         ensures err { IfErr result (λ e. (e.bytes ≡ bytes) × (e.ends ≡ ends) × (self.new.part ≡ self.old.part)) }
         ensures seen { self.new.seen ≡ self.old.seen }
     {

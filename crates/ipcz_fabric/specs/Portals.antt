@@ -1,6 +1,7 @@
 -- Portals: what a clause sees of one, what a call of one answers, and why it may be refused: what the call of some cell of its node
 -- answers.
 use Rattle.std.specs.Prelude.{◌≡◌, ◌⊎◌, ℕ, Bool, true, false, not, if◌then◌else◌, Option, Some, None, List, [], ◌∷◌, map, take, unwrap_or}
+use Rattle.ipcz_base.specs.declared.profile.Profile.TheVariants.{Printed}
 use Rattle.ipcz_base.specs.declared.end.End.{End}
 use Rattle.ipcz_base.specs.declared.parcel.Parcel as parcels
 use Rattle.ipcz_base.specs.declared.refusal.Refusal.{Refusal}
@@ -44,7 +45,7 @@ IsCloseRefusal why = (why ≡ refusals.OutOfMemory) ⊎ (why ≡ refusals.Strang
 -- why a parcel of these bytes and ends isn't put at an end, whatever its node has
 abbrev pub parcel_refusal : End → List ℕ → List End → Option Refusal
 parcel_refusal at bytes ends =
-    if are_too_many bytes ends then Some refusals.TooMany
+    if are_too_many Printed bytes ends then Some refusals.TooMany
     else if not (is_printable bytes) then Some refusals.BadData
     else if has_end at ends then Some refusals.SelfAttach
     else if has_end (opposite_end at) ends then Some refusals.PeerAttach
@@ -59,7 +60,7 @@ IsPutRefusal at bytes ends why = (why ≡ refusals.OutOfMemory) ⊎ (why ≡ ref
 -- a put at an end of a node answers this number
 abbrev pub IsPut : TableName → ℕ → End → List ℕ → List End → ℕ → Type 0
 IsPut t node at bytes ends number = CellWhere t node
-    (λ c. (put_refusal c.part.state at bytes ends ≡ None) × (number ≡ put_number c.part.state at))
+    (λ c. (put_refusal Printed c.part.state at bytes ends ≡ None) × (number ≡ put_number c.part.state at))
 
 -- whether a put of these ends wants memory for a list of them
 abbrev pub wants_list : List End → Bool
@@ -68,7 +69,7 @@ wants_list (end ∷ ends) = true
 
 -- a put at an end of a node is refused so: for want of memory for the list of its ends, or as the node refuses it
 abbrev pub IsRefusedPut : TableName → ℕ → End → List ℕ → List End → Refusal → Type 0
-IsRefusedPut t node at bytes ends why = CellWhere t node (λ c. IsRefusedInOrder (wants_list ends) (put_refusal c.part.state at bytes ends) why)
+IsRefusedPut t node at bytes ends why = CellWhere t node (λ c. IsRefusedInOrder (wants_list ends) (put_refusal Printed c.part.state at bytes ends) why)
 
 -- a get at an end of a cell's node gives a parcel with its number
 pub record IsTakenHere (c : CellState) (at : End) (taken : ℕ × parcels.Parcel) : Type 0 where

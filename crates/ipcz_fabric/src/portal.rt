@@ -149,12 +149,12 @@ impl<F: FabricName> Portal<F> {
         bytes: Vec<u8>,
         portals: Vec<Portal<F>>,
     ) -> Result<u64, PortalPutRefused<F>>
-        ensures allowed { OnOk result (put_refusal cell.old.part.state self.now.end bytes.items (ends_of portals.items) ≡ None) }
+        ensures allowed { OnOk result (put_refusal Profile.Printed cell.old.part.state self.now.end bytes.items (ends_of portals.items) ≡ None) }
         ensures number { IfOk result (λ n. n ≡ put_number cell.old.part.state self.now.end) }
         ensures ok { OnOk result (cell.new.part ≡ put_part self.now.end bytes.items (ends_of portals.items) cell.old.part) }
         ensures why { IfErr result
             (λ e. IsRefusedInOrder (wants_list (ends_of portals.items))
-            (put_refusal cell.old.part.state self.now.end bytes.items (ends_of portals.items)) e.why) }
+            (put_refusal Profile.Printed cell.old.part.state self.now.end bytes.items (ends_of portals.items)) e.why) }
         ensures back { IfErr result (λ e. (e.bytes.items ≡ bytes.items) × (e.portals.items ≡ portals.items)) }
         ensures err { OnErr result (cell.new.part ≡ cell.old.part) }
         ensures seen { cell.new.seen ≡ cell.old.seen }

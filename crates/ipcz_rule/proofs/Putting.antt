@@ -5,11 +5,8 @@ use Rattle.ipcz_base.specs.declared.item.Item.TheVariants.{Parcel}
 use Rattle.ipcz_node.specs.Node.{Node, Found, on_found, terminal_of}
 use Rattle.ipcz_base.specs.declared.parcel.Parcel as parcels
 use Rattle.ipcz_node.specs.Calls.{put_node, put_number, put_at_router}
-use Rattle.ipcz_world.specs.declared.step.Step.TheVariants as steps
-use Rattle.ipcz_world.specs.declared.step.Reply.TheVariants as replies
 use Rattle.ipcz_world.specs.World.{set_node}
 use Rattle.ipcz_world.specs.Books.{add_put}
-use Rattle.ipcz_world.specs.Routes.{routes_after}
 use Rattle.ipcz_world.specs.Lawful.{Lawful}
 use Rattle.ipcz_world.proofs.frames.Frames.{word-set_node, claimed-set_node}
 use Rattle.ipcz_rule.specs.Rule.{with_part}
@@ -24,7 +21,7 @@ found_hand n None p = refl
 found_hand n (Some f) p = refl
 
 pub puts : Puts
-puts count size slots id i m p at bytes ends is fine =
+puts profile count size slots id i m p at bytes ends is fine =
     let p' = put_part at bytes ends p in
     let item = Parcel (record { bytes = bytes; ends = ends }) in
     let v' = with_part p' m.0 in
@@ -34,13 +31,12 @@ puts count size slots id i m p at bytes ends is fine =
     let b = r.books in
     let g = r.routes in
     let n : ℕ = p.node in
-    let Kept : Node → Type 0 = λ y. Lawful (set_node w n (put_node y at (record { bytes = bytes; ends = ends }))) (add_put b at item)
-    (routes_after w g (steps.Put n at bytes ends) (replies.Put (put_number y at))) × (put_number y at ≡ length (b.put at)) in
-    let kept : Kept p.state = subst Kept state (put_lawful w b g n at bytes ends r.lawful inside (rw state fine)) in
+    let Kept : Node → Type 0 = λ y. Lawful (set_node w n (put_node y at (record { bytes = bytes; ends = ends }))) (add_put b at item) g × (put_number y at ≡ length (b.put at)) in
+    let kept : Kept p.state = subst Kept state (put_lawful profile w b g n at bytes ends r.lawful inside (rw state fine)) in
     record {
       world = set_node w n p'.state;
       books = add_put b at item;
-      routes = routes_after w g (steps.Put n at bytes ends) (replies.Put (put_number p.state at));
+      routes = g;
       moves = set_moves w n p'.state;
       words = word-set_node w n p'.state;
       claimed = claimed-set_node w n p'.state;

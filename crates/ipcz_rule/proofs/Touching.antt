@@ -6,17 +6,22 @@ use Rattle.std.proofs.lemmas.Bool.Decides.{nat_tests}
 use mathlib.Core.Option.{some}
 use lib.ListN.{get_elem?}
 use Rattle.atomic_table.specs.Table.{Allows, keeps}
+use Rattle.ipcz_base.specs.declared.profile.Profile.TheVariants.{Printed, Wide}
+use Rattle.ipcz_base.specs.declared.profile.Profile.{Profile}
 use Rattle.ipcz_base.specs.declared.end.End.{End}
 use Rattle.ipcz_base.specs.declared.item.Item.TheVariants.{Parcel}
+use Rattle.ipcz_base.specs.declared.parcel.Parcel as parcels
 use Rattle.ipcz_word.specs.Layout.{bits_of}
 use Rattle.ipcz_node.specs.declared.act.Act.{Act}
 use Rattle.ipcz_node.specs.Node.{Node}
 use Rattle.ipcz_node.specs.Calls.{put_refusal, put_node, put_number}
+use Rattle.ipcz_world.specs.declared.step.Step.{Step}
 use Rattle.ipcz_world.specs.declared.step.Step.TheVariants as steps
+use Rattle.ipcz_world.specs.declared.step.Reply.{Reply}
 use Rattle.ipcz_world.specs.declared.step.Reply.TheVariants as replies
 use Rattle.ipcz_world.specs.World.{World, node_at, word_at, set_node}
 use Rattle.ipcz_world.specs.Turns.{after_act, turn_event, turn_lacks_serials, can_take}
-use Rattle.ipcz_world.specs.Steps.{Effect, unless, put_step, turn_step}
+use Rattle.ipcz_world.specs.Steps.{Effect, StepAny, unless, put_step, turn_step}
 use Rattle.ipcz_world.specs.Books.{Books, advance, add_put}
 use Rattle.ipcz_world.specs.Plain.{Plain}
 use Rattle.ipcz_world.specs.Routes.{Routes, routes_after}
@@ -109,18 +114,14 @@ turn_gives : (w : World) (n : ℕ) (act : Act) → n < w.count → turn_lacks_se
 unfolding unless
 turn_gives w n act inside lacks = let l : nat_lt n w.count ≡ true = grind (arith, nat_tests, inside) in rw (l, lacks) refl
 
-put_gives : (w : World) (n : ℕ) (at : End) (bytes : List ℕ) (ends : List End) → n < w.count → put_refusal (node_at w n) at bytes ends ≡ None →
-    put_step w n at (record { bytes = bytes; ends = ends }) ≡ record {
+put_gives : (profile : Profile) (w : World) (n : ℕ) (at : End) (bytes : List ℕ) (ends : List End) → n < w.count →
+    put_refusal profile (node_at w n) at bytes ends ≡ None →
+    put_step profile w n at (record { bytes = bytes; ends = ends }) ≡ record {
       reply = replies.Put (put_number (node_at w n) at);
       world = set_node w n (put_node (node_at w n) at (record { bytes = bytes; ends = ends }));
     }
 unfolding unless
-put_gives w n at bytes ends inside fine = let l : nat_lt n w.count ≡ true = grind (arith, nat_tests, inside) in rw (l, fine) refl
-
-put_written : (w : World) (b : Books) (n : ℕ) (at : End) (bytes : List ℕ) (ends : List End) →
-    advance w b (steps.Put n at bytes ends) (replies.Put (put_number (node_at w n) at)) ≡ add_put b at (Parcel (record { bytes = bytes; ends = ends }))
-unfolding advance
-put_written w b n at bytes ends = refl
+put_gives profile w n at bytes ends inside fine = let l : nat_lt n w.count ≡ true = grind (arith, nat_tests, inside) in rw (l, fine) refl
 
 -- a turn that takes a possible act which doesn't want serials keeps the world lawful
 turn_lawful : (w : World) (b : Books) (g : Routes) (n : ℕ) (act : Act) → Lawful w b g → n < w.count → can_take w n act ≡ true → turn_lacks_serials w n act ≡ false →
@@ -140,17 +141,34 @@ unfolding advance routes_after
 turn_after w b g n act lawful inside can lacks = (turn_lawful w b g n act lawful inside can lacks, (record { node = inside; may = can; serials = lacks }, (refl, refl, refl)))
 
 -- a put that isn't refused keeps the world lawful
-pub put_lawful : (w : World) (b : Books) (g : Routes) (n : ℕ) (at : End) (bytes : List ℕ) (ends : List End) → Lawful w b g → n < w.count →
-    put_refusal (node_at w n) at bytes ends ≡ None →
-    Lawful (set_node w n (put_node (node_at w n) at (record { bytes = bytes; ends = ends }))) (add_put b at (Parcel (record { bytes = bytes; ends = ends })))
-    (routes_after w g (steps.Put n at bytes ends) (replies.Put (put_number (node_at w n) at)))
-    × (put_number (node_at w n) at ≡ length (b.put at))
-put_lawful w b g n at bytes ends lawful inside fine =
-    let done = put_gives w n at bytes ends inside fine in
-    let step = steps.Put n at bytes ends in
-    let it = put_step w n at (record { bytes = bytes; ends = ends }) in
-    let kept = each_step_keeps_lawful w it.world b g step it.reply lawful (inl (refl, refl)) in
-    let plain = replies_plainly w it.world b g step it.reply lawful (inl (refl, refl)) in (
-      subst (λ (c : Books). Lawful (set_node w n (put_node (node_at w n) at (record { bytes = bytes; ends = ends }))) c (routes_after w g step (replies.Put (put_number (node_at w n) at)))) (put_written w b n at bytes ends) (subst (λ (e : Effect). Lawful e.world (advance w b step e.reply) (routes_after w g step e.reply)) done kept),
-      (subst (λ (e : Effect). Plain b step e.reply (advance w b step e.reply)) done plain).0,
-    )
+module _ (profile : Profile) (w : World) (b : Books) (g : Routes) (n : ℕ) (at : End) (bytes : List ℕ) (ends : List End) where
+  abbrev parcel : parcels.Parcel
+  parcel = record { bytes = bytes; ends = ends }
+
+  abbrev reply : Reply
+  reply = replies.Put (put_number (node_at w n) at)
+
+  abbrev IsDone : Type 0
+  IsDone = Lawful (set_node w n (put_node (node_at w n) at parcel)) (add_put b at (Parcel parcel)) g × (put_number (node_at w n) at ≡ length (b.put at))
+
+  -- by the step that it is
+  done_by : (step : Step) → StepAny w step (put_step profile w n at parcel).reply (put_step profile w n at parcel).world →
+      advance w b step reply ≡ add_put b at (Parcel parcel) → routes_after w g step reply ≡ g →
+      (Plain b step reply (advance w b step reply) → put_number (node_at w n) at ≡ length (b.put at)) →
+      Lawful w b g → n < w.count → put_refusal profile (node_at w n) at bytes ends ≡ None → IsDone
+  done_by step is written routed counted lawful inside fine =
+      let it = put_step profile w n at parcel in
+      let done = put_gives profile w n at bytes ends inside fine in
+      let kept = each_step_keeps_lawful w it.world b g step it.reply lawful is in
+      let plain = replies_plainly w it.world b g step it.reply lawful is in (
+        subst (Lawful (set_node w n (put_node (node_at w n) at parcel)) (add_put b at (Parcel parcel))) routed
+        (subst (λ (c : Books). Lawful (set_node w n (put_node (node_at w n) at parcel)) c (routes_after w g step reply)) written
+        (subst (λ (e : Effect). Lawful e.world (advance w b step e.reply) (routes_after w g step e.reply)) done kept)),
+        counted (subst (λ (e : Effect). Plain b step e.reply (advance w b step e.reply)) done plain),
+      )
+
+pub put_lawful : (profile : Profile) (w : World) (b : Books) (g : Routes) (n : ℕ) (at : End) (bytes : List ℕ) (ends : List End) → Lawful w b g →
+    n < w.count → put_refusal profile (node_at w n) at bytes ends ≡ None → IsDone profile w b g n at bytes ends
+unfolding advance routes_after
+put_lawful Printed w b g n at bytes ends = done_by Printed w b g n at bytes ends (steps.Put n at bytes ends) (inl (refl, refl)) refl refl (λ h. h.0)
+put_lawful Wide w b g n at bytes ends = done_by Wide w b g n at bytes ends (steps.PutWide n at bytes ends) (inl (refl, refl)) refl refl (λ h. h.0)

@@ -8,6 +8,7 @@ use prog.Atomic.{either}
 use mathlib.Core.Option.{some}
 use lib.ListN.{get_elem?}
 use Rattle.atomic_table.specs.Table.{Act as TableAct, Allows, Joins, Valid, stepped, carried_after}
+use Rattle.ipcz_base.specs.declared.profile.Profile.{Profile}
 use Rattle.ipcz_base.specs.declared.end.End.{End}
 use Rattle.ipcz_base.specs.declared.message.Message.{Message}
 use Rattle.ipcz_base.specs.declared.parcel.Parcel as parcels
@@ -64,10 +65,10 @@ abbrev pub Loads : Form → Type 0
 Loads F = (count size slots id i : ℕ) (m : Mine) (p : Part) → m.0.parts ≡ p ∷ [] →
     F count size slots id m i (λ n. n) (λ n. []) (λ n m'. m' ≡ (saw i n m.0, m.1))
 
--- touch, of a put
+-- touch, of a put of whichever profile
 abbrev pub Puts : Type 0
-Puts = (count size slots id i : ℕ) (m : Mine) (p : Part) (at : End) (bytes : List ℕ) (ends : List End) → m.0.parts ≡ p ∷ [] →
-    put_refusal p.state at bytes ends ≡ None →
+Puts = (profile : Profile) (count size slots id i : ℕ) (m : Mine) (p : Part) (at : End) (bytes : List ℕ) (ends : List End) → m.0.parts ≡ p ∷ [] →
+    put_refusal profile p.state at bytes ends ≡ None →
     Allows (Rules count size) slots id m i (λ n. n) (λ n m'. m' ≡ (with_part (put_part at bytes ends p) m.0, m.1))
 
 -- touch, of a get

@@ -1,6 +1,7 @@
 -- What each call may be answered.
 use Rattle.std.proofs.Common.{ℕ, Bool, true, false, List, Option, Some, None, sym, subst, inl, inr}
 use Rattle.std.specs.Prelude.{if◌then◌else◌, nat_lt}
+use Rattle.ipcz_base.specs.declared.profile.Profile.TheVariants.{Printed}
 use Rattle.ipcz_base.specs.declared.end.End.{End}
 use Rattle.ipcz_base.specs.declared.item.Item.{Item}
 use Rattle.ipcz_base.specs.declared.item.Item.TheVariants.{Parcel, Mark, Gone}
@@ -41,7 +42,7 @@ module _ (P : Said → Type 0) (refused : (why : Refusal) → P (said.Refused wh
   pub put-answers : ((k : ℕ) → P (said.Put k)) → (w : World) (n : ℕ) (e : End) (bytes : List ℕ) (ends : List End) →
       P (answer_to (first_step w (steps.Put n e bytes ends)).reply)
   unfolding first_step answer_to
-  put-answers put w n e bytes ends = stepped w _ (nat_lt n w.count) (put_refusal (node_at w n) e bytes ends) (replies.Put _) (put _)
+  put-answers put w n e bytes ends = stepped w _ (nat_lt n w.count) (put_refusal Printed (node_at w n) e bytes ends) (replies.Put _) (put _)
 
   pub close-answers : ((k : ℕ) → P (said.Closed k)) → (w : World) (n : ℕ) (e : End) →
       P (answer_to (first_step w (steps.Close n e)).reply)

@@ -4,6 +4,7 @@ use Rattle.std.specs.Prelude.{◌==◌, ◌&&◌, if◌then◌else◌, nat_le, n
 use Rattle.std.specs.FinMap.{get}
 use Rattle.std.proofs.lemmas.Bool.{and_parts}
 use Rattle.std.proofs.lemmas.Bool.Decides.{nat_tests}
+use Rattle.ipcz_base.specs.declared.profile.Profile.TheVariants.{Printed}
 use Rattle.ipcz_base.specs.declared.end.End.{End}
 use Rattle.ipcz_base.specs.declared.refusal.Refusal.{Refusal}
 use Rattle.ipcz_base.specs.declared.refusal.Refusal.TheVariants as refusals
@@ -50,9 +51,9 @@ printable-lacks (b ∷ bs) h = go (b == 10) refl (printable-lacks bs t.1)
     go false e more = more
 
 -- a put is refused where its bytes don't print
-put-prints : (n : Node) (at : End) (bytes : List ℕ) (ends : List End) → put_refusal n at bytes ends ≡ None → is_printable bytes ≡ true
+put-prints : (n : Node) (at : End) (bytes : List ℕ) (ends : List End) → put_refusal Printed n at bytes ends ≡ None → is_printable bytes ≡ true
 unfolding put_refusal
-put-prints n at bytes ends = go (not (holds_end n at)) (are_too_many bytes ends) (is_printable bytes) _
+put-prints n at bytes ends = go (not (holds_end n at)) (are_too_many Printed bytes ends) (is_printable bytes) _
   where
     go : (a b c : Bool) (rest : Option Refusal) → (if a then Some refusals.Stranger else if b then Some refusals.TooMany else
         if not c then Some refusals.BadData else rest) ≡ None → c ≡ true
@@ -77,7 +78,7 @@ accepted w v bytes k false o h = tt
 reply-plain : (w : World) (n : ℕ) (e : End) (bytes : List ℕ) (ends : List End) →
     IsPlain bytes (answer_to (first_step w (steps.Put n e bytes ends)).reply)
 unfolding first_step
-reply-plain w n e bytes ends = accepted w _ bytes _ (nat_lt n w.count) (put_refusal (node_at w n) e bytes ends)
+reply-plain w n e bytes ends = accepted w _ bytes _ (nat_lt n w.count) (put_refusal Printed (node_at w n) e bytes ends)
     (λ h. printable-lacks bytes (put-prints (node_at w n) e bytes ends h))
 
 pub accepted-plain : (s : Session) (at text : List ℕ) (attached : List (List ℕ)) (n : ℕ) (t : Session) →

@@ -1,6 +1,7 @@
 -- A node's cell with its gate, as a clause sees it, and what it replies to calls.
 use Rattle.std.specs.Prelude.{◌≡◌, ◌+◌, ℕ, Bool, if◌then◌else◌, List, [], ◌∷◌, slice_get, slice_set, Option, Some, None, Result, Ok, Err}
 use Rattle.std.specs.Prelude.{MatchOption, MatchResult, unwrap_or}
+use Rattle.ipcz_base.specs.declared.profile.Profile.TheVariants.{Printed}
 use Rattle.ipcz_base.specs.declared.end.End.{End}
 use Rattle.ipcz_base.specs.declared.parcel.Parcel.{Parcel}
 use Rattle.ipcz_base.specs.declared.refusal.Refusal.{Refusal}
@@ -48,8 +49,8 @@ turned (Err why) = replies.Refused why
 -- what a put at a cell answers and leaves
 abbrev pub Puts : End → List ℕ → List End → CellState → Result ℕ Refusal → CellState → Type 0
 Puts at bytes ends c answer d = MatchResult answer
-    (λ n. (put_refusal c.part.state at bytes ends ≡ None) × (n ≡ put_number c.part.state at) × (d.part ≡ put_part at bytes ends c.part))
-    (λ why. (why ≡ unwrap_or (put_refusal c.part.state at bytes ends) OutOfMemory) × (d.part ≡ c.part))
+    (λ n. (put_refusal Printed c.part.state at bytes ends ≡ None) × (n ≡ put_number c.part.state at) × (d.part ≡ put_part at bytes ends c.part))
+    (λ why. (why ≡ unwrap_or (put_refusal Printed c.part.state at bytes ends) OutOfMemory) × (d.part ≡ c.part))
 
 -- what a get at a cell answers and leaves
 abbrev pub Gets : End → CellState → Result (ℕ × Parcel) Refusal → CellState → Type 0
