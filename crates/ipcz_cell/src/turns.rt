@@ -80,6 +80,7 @@ impl<F: FabricName> NodeCell<F> {
     }
 
     // The first possible act of a node that has no message in hand and sees no mailbox.
+    #[inline(always)]
     fn next_else(&self) -> Act
         ensures act { result ≡ close_turn self.now.part.state.pending (router_turn (flagged_router self.now.part.state)) }
         ensures possible { IsPossibleAct self.now.part.state result }
