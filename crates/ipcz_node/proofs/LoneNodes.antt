@@ -22,19 +22,20 @@ use Rattle.ipcz_router.specs.declared.outlook.Outlook.TheVariants as outlooks
 use Rattle.ipcz_router.specs.declared.act.Applied.TheVariants as outputs
 use Rattle.ipcz_router.specs.Router.{Router, outward_has}
 use Rattle.ipcz_router.specs.Calls.{accept, accept_from_outward, has_place_for}
-use Rattle.ipcz_router.specs.Acts.{pop_out}
-use Rattle.ipcz_router.specs.ActEffects.{output_of, item_output, apply}
+use Rattle.ipcz_router.specs.Acts.{pop_out, rest}
+use Rattle.ipcz_router.specs.ActEffects.{output_of, item_output, apply, leaves_by}
 use Rattle.ipcz_router.specs.Carrying.{carried_by}
 use Rattle.ipcz_node.specs.declared.act.Act.TheVariants.{Router as OfRouter}
-use Rattle.ipcz_node.specs.Node.{Node, found, first_where, push_out, router_in, with_router}
-use Rattle.ipcz_node.specs.Acts.{act_lacks_serials, commit}
+use Rattle.ipcz_node.specs.Node.{Node, found, first_where, on_router, push_out, router_in, with_router}
+use Rattle.ipcz_node.specs.Acts.{act_lacks_serials, commit, commit_router, keep_or_drop}
 use Rattle.ipcz_node.specs.Directories.{passes}
 use Rattle.ipcz_node.specs.Hands.{deliver, is_hand_of, message_lacks_serials}
-use Rattle.ipcz_node.specs.Sends.{item_message}
+use Rattle.ipcz_node.specs.Sends.{item_message, send}
 use Rattle.ipcz_node.specs.Preparing.{outlook_at}
 use Rattle.ipcz_node.specs.Lone.{SendsOnly, TakesItem}
 use Rattle.ipcz_node.proofs.Carrying.{committed_alone, lacks_none, taken_alone, takes_none}
 use Rattle.ipcz_node.proofs.Directories.{found_filed}
+use Rattle.ipcz_node.proofs.Written.{insert_here, insert_twice}
 
 -- no router but that of the serial is flagged
 abbrev pub OnlyFlagged : FinMap nat_cmp Router → ℕ → Type 0
@@ -48,10 +49,7 @@ module _ (m : FinMap nat_cmp Router) (s : ℕ) (r : Router) (only : OnlyFlagged 
   at q = get-insert nat_cmp_total m s r q
 
   here : get (insert m s r) s ≡ Some r
-  here = elim (one_or_two s s) [
-    | inl t ↦ rw t.1 at (at s)
-    | inr t ↦ absurd (t.0 refl)
-  ]
+  here = insert_here m s r
 
   others : (q : ℕ) → passes test (insert m s r) q ≡ true → q ≡ s
   others q up = elim (one_or_two q s) [
@@ -127,3 +125,15 @@ module _ (x y : Node) (link : LinkId) (side : Side) (n from : ℕ) (item : Item)
   -- and takes no serial
   pub takes_freely : message_lacks_serials held from (messages.Item link side n item []) source ≡ false
   takes_freely = takes_none held from link side n item [] source is.serials refl
+
+-- a router that was written stands there
+pub stands : (x : Node) (serial : ℕ) (r : Router) → router_in (with_router x serial r) serial ≡ Some r
+stands x serial r = insert_here x.routers serial r
+
+-- and rests
+pub rested : (x : Node) (serial : ℕ) (r : Router) →
+    with_router x serial (rest r) ≡ commit (with_router x serial r) (OfRouter serial acts.Rest) Plain
+unfolding commit commit_router keep_or_drop on_router send leaves_by output_of apply
+rested x serial r =
+    (λ j. record x { routers = sym (insert_twice x.routers serial r (rest r)) j })
+    ∙ sym (ap (λ o. on_router (with_router x serial r) o (commit_router (with_router x serial r) serial acts.Rest Plain)) (stands x serial r))

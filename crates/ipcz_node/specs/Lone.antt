@@ -38,3 +38,4 @@ pub record TakesItem (x : Node) (link : LinkId) (side : Side) (n : ℕ) (item : 
   pub takes : TakesLast router link side n item after
   pub changed : y ≡ with_router x serial after
   pub serials : x.next_router ≤ no_number
+  pub links : x.next_peripheral ≤ no_number

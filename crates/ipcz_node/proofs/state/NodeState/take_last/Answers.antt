@@ -28,4 +28,5 @@ returns-in-Some-clause-taken c did =
       takes = took.1;
       changed = λ j. record v.node { routers = (took.2 j).routers; held = (took.2 j).held; next_router = (took.2 j).next };
       serials = subst (λ x. x.node.next_router ≤ no_number) (sym c.self.view_is) c.counts_serials.ensures.routers;
+      links = subst (λ x. x.node.next_peripheral ≤ no_number) (sym c.self.view_is) c.counts_serials.ensures.links;
     })
