@@ -1,6 +1,6 @@
 //! A lone parcel: whether its routers have nothing else to do, and how it leaves one of them.
 
-ghost use Rattle.std.specs.Prelude.{◌≡◌, ◌<◌, Some, true, false, not, nat_eq, length, is_some, IfSome};
+ghost use Rattle.std.specs.Prelude.{◌≡◌, ◌<◌, Some, true, false, nat_eq, length, is_some, IfSome};
 ghost use Rattle.ipcz_base.specs.Items.{ends_in};
 ghost use Rattle.ipcz_base.specs.Limits.{no_number};
 ghost use Rattle.ipcz_seq.specs.Queue.{current_item};

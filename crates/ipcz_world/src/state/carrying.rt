@@ -111,10 +111,10 @@ impl State {
         ensures before { IfSome result (λ n. AreQuiet self.now 0 n) }
         ensures behind { IfSome result (λ n. AreQuiet self.now (n + 1) self.now.count) }
     {
-        let Some(n) = self.first_unquiet(0) else {
+        let Some(n) = self.first_not_quiet(0) else {
             return None;
         };
-        match self.first_unquiet(n + 1) {
+        match self.first_not_quiet(n + 1) {
             Some(_) => None,
             None => Some(n),
         }
@@ -123,7 +123,7 @@ impl State {
     // The first node from one number on that isn't quiet.
     #[inline(always)]
     #[tactic(auto, unfolding(crate::specs::World::node_at))]
-    fn first_unquiet(&self, from: u8) -> Option<u8>
+    fn first_not_quiet(&self, from: u8) -> Option<u8>
         requires { IsRegular self.now }
         ensures here { IfSome result (λ n. n < self.now.count) }
         ensures before { IfSome result (λ n. AreQuiet self.now from n) }

@@ -1,5 +1,5 @@
 use Rattle.ipcz_world.specs.Carrying.{AreQuiet}
-use Rattle.ipcz_world.proofs.state.State.first_unquiet.Given as goal
+use Rattle.ipcz_world.proofs.state.State.first_not_quiet.Given as goal
 
 -- each node so far is quiet
 abbrev pub invariant-loop-n : goal.invariant-loop-n
