@@ -1,6 +1,6 @@
 //! Turns of a cell one after the other, which tell nothing.
-ghost use Rattle.std.specs.Prelude.{◌≡◌, true, Some};
-ghost use Rattle.ipcz_node.specs.Acts.{stand_in};
+ghost use Rattle.std.specs.Prelude.{◌≡◌, ◌<◌, true, Some, None};
+ghost use Rattle.ipcz_node.specs.Acts.{has_mail_for, stand_in};
 ghost use Rattle.ipcz_node.specs.RoomyNodes.{IsPossibleAct};
 ghost use Rattle.ipcz_rule.specs.Steps.{is_touch};
 ghost use Rattle.ipcz_cell.specs.TurnChains.{untold, Does, TriesTurn, RunsTurns};
@@ -23,6 +23,7 @@ fn untold(told: Result<Happened, Refusal>) -> Result<bool, Refusal>
 
 impl<F: FabricName> NodeCell<F> {
     // Handles the message in hand.
+    #[inline(always)]
     fn hand_untold(&mut self, fabric: &Fabric<F>, from: u8) -> Result<bool, Refusal>
         requires { self.old.part.state.hand ≡ Some from }
         ensures { Does F.table (Act.Hand from) self.old result self.new }
@@ -34,7 +35,36 @@ impl<F: FabricName> NodeCell<F> {
         }
     }
 
+    // Looks into the mailbox of a node.
+    #[inline(always)]
+    fn look_untold(&mut self, fabric: &Fabric<F>, from: u8) -> Result<bool, Refusal>
+        requires inside { from < F.table.count }
+        requires idle { self.old.part.state.hand ≡ None }
+        ensures { Does F.table (Act.Look from) self.old result self.new }
+    {
+        if self.mail_look(fabric, from) {
+            Ok(true)
+        } else {
+            Err(Refusal::Raced)
+        }
+    }
+
+    // Posts the first message for a node, whose mailbox it takes first where it hasn't got it.
+    #[inline(always)]
+    fn post_untold(&mut self, fabric: &Fabric<F>, to: u8) -> Result<bool, Refusal>
+        requires inside { to < F.table.count }
+        requires mail { has_mail_for self.old.part.state to ≡ true }
+        ensures { Does F.table (Act.Post to) self.old result self.new }
+    {
+        if !self.mail_probe(fabric, to) {
+            return Err(Refusal::Raced);
+        }
+        self.mail_post(fabric, to);
+        Ok(true)
+    }
+
     // Lets a router do an act that touches no word.
+    #[inline(always)]
     fn plain_untold(
         &mut self,
         fabric: &Fabric<F>,
@@ -53,6 +83,7 @@ impl<F: FabricName> NodeCell<F> {
     }
 
     // Lets a router do an act.
+    #[inline(always)]
     fn router_untold(
         &mut self,
         fabric: &Fabric<F>,
@@ -81,14 +112,15 @@ impl<F: FabricName> NodeCell<F> {
     }
 
     // Takes one turn, as `turn`, and tells whether there was an act to do.
+    #[inline(always)]
     fn turn_untold(&mut self, fabric: &Fabric<F>) -> Result<bool, Refusal>
         ensures { TriesTurn F.table self.old result self.new }
     {
         let act = self.act(fabric);
         match act {
             Act::Hand(from) => self.hand_untold(fabric, from),
-            Act::Look(from) => untold(self.look_turn(fabric, from)),
-            Act::Post(to) => untold(self.post_turn(fabric, to)),
+            Act::Look(from) => self.look_untold(fabric, from),
+            Act::Post(to) => self.post_untold(fabric, to),
             Act::Close(_) => untold(self.touch_turn(fabric, act)),
             Act::Router(serial, act) => self.router_untold(fabric, serial, act),
             Act::Idle => Ok(false),

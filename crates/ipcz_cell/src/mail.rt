@@ -235,6 +235,7 @@ impl<F: FabricName> NodeCell<F> {
     }
 
     /// Takes the empty mailbox to a node, or has it already. It answers false only where the mailbox was found at another value than 0.
+    #[inline(always)]
     pub fn mail_probe(&mut self, fabric: &Fabric<F>, to: u8) -> bool
         requires { to < F.table.count }
         ensures { Probes (mail_word F.table self.old.part.node to) to self.old result self.new }
@@ -346,6 +347,7 @@ impl<F: FabricName> NodeCell<F> {
 
     // Handles the message in hand where it stands, where it is an item without ends and moves that has its place here, and tells whether
     // it was one.
+    #[inline(always)]
     pub(crate) fn hand_alone(&mut self, fabric: &Fabric<F>, from: u8) -> Result<bool, Refusal>
         requires { self.old.part.state.hand ≡ Some from }
         ensures taken { IfOk result

@@ -80,6 +80,7 @@ impl<F: FabricName> NodeCell<F> {
     }
 
     // The first possible act of a node that has no message in hand and sees no mailbox.
+    #[inline(always)]
     fn next_else(&self) -> Act
         ensures act { result ≡ close_turn self.now.part.state.pending (router_turn (flagged_router self.now.part.state)) }
         ensures possible { IsPossibleAct self.now.part.state result }
@@ -89,6 +90,7 @@ impl<F: FabricName> NodeCell<F> {
 
     /// The act that a turn would take, for the mailboxes as it finds them: the first of those in docs/PROTOCOL.md, "Turns". A mailbox that
     /// was probed counts as empty. It takes no memory.
+    #[inline(always)]
     pub fn act(&mut self, fabric: &Fabric<F>) -> Act
         ensures first { Chooses F.table self.old result self.new }
         ensures possible { IsPossibleAct self.old.part.state result }
@@ -131,7 +133,7 @@ impl<F: FabricName> NodeCell<F> {
     }
 
     // Looks into the mailbox of a node.
-    pub(crate) fn look_turn(&mut self, fabric: &Fabric<F>, from: u8) -> Result<Happened, Refusal>
+    fn look_turn(&mut self, fabric: &Fabric<F>, from: u8) -> Result<Happened, Refusal>
         requires inside { from < F.table.count }
         requires idle { self.old.part.state.hand ≡ None }
         ensures { Acts F.table (Act.Look from) self.old result self.new }
@@ -144,7 +146,7 @@ impl<F: FabricName> NodeCell<F> {
     }
 
     // Posts the first message for a node, whose mailbox it takes first where it hasn't got it.
-    pub(crate) fn post_turn(&mut self, fabric: &Fabric<F>, to: u8) -> Result<Happened, Refusal>
+    fn post_turn(&mut self, fabric: &Fabric<F>, to: u8) -> Result<Happened, Refusal>
         requires inside { to < F.table.count }
         requires mail { has_mail_for self.old.part.state to ≡ true }
         ensures { Acts F.table (Act.Post to) self.old result self.new }

@@ -1,7 +1,7 @@
 //! Hubs: cells that threads share, each behind a lock of its own. There is no other lock.
-ghost use Rattle.std.specs.Prelude.{◌≡◌, ◌≤◌, ◌<◌, OnOk, IfOk, IfErr, Err, vec_len, vec_capacity};
+ghost use Rattle.std.specs.Prelude.{◌≡◌, ◌⊎◌, ◌≤◌, ◌<◌, true, OnOk, IfOk, IfErr, Err, vec_len, vec_capacity};
 ghost use Rattle.std.specs.Sync.Mutex.{mutex_guard_value};
-ghost use Rattle.ipcz_cell.specs.Ending.{FinishRefuses};
+ghost use Rattle.ipcz_cell.specs.Ending.{FinishRefuses, is_in_order};
 ghost use Rattle.ipcz_cell.specs.TurnChains.{RunsTurns};
 ghost use Rattle.ipcz_cell.specs.TurnEnds.{Turns};
 ghost use Rattle.ipcz_fabric.specs.Places.{IsCellOf};
@@ -298,22 +298,39 @@ impl<F: FabricName> Hub<F> {
         self.fabric.nodes()
     }
 
-    /// Takes the cells out of their locks, and gives the table and as many cells as were put in. It waits for nothing.
+    /// Takes the cells out of their locks, and gives the table and the cells of all its nodes, in order. It waits for nothing.
     ///
-    /// It is refused `OutOfMemory` alone, and then gives the hub back.
+    /// It is refused `OutOfMemory`, and then gives the hub back. A type doesn't say at which place a cell stands, so the cells are asked; were
+    /// they others than those of all nodes in order, it would be refused `Stranger`.
     pub fn into_cells(self) -> Result<(Fabric<F>, Vec<NodeCell<F>>), (Refusal, Hub<F>)>
+        ensures all { IfOk result (λ r. is_in_order F.table.count 0 r.1.items ≡ true) }
         ensures many { IfOk result (λ r. vec_len r.1 ≡ self) }
-        ensures why { IfErr result (λ e. e.0 ≡ Refusal.OutOfMemory) }
+        ensures why { IfErr result (λ e. (e.0 ≡ Refusal.OutOfMemory) ⊎ (e.0 ≡ Refusal.Stranger)) }
         ensures back { IfErr result (λ e. e.1 ≡ self) }
     {
-        let Ok(room) = Vec::with_capacity(self.alloc, self.cells.len()) else {
+        let (Ok(room), Ok(locks)) = (
+            Vec::with_capacity(self.alloc, self.cells.len()),
+            Vec::with_capacity(self.alloc, self.cells.len()),
+        ) else {
             return Err((Refusal::OutOfMemory, self));
         };
         let Hub {
             fabric,
             cells,
-            alloc: _,
+            alloc,
         } = self;
-        Ok((fabric, unlock_all(cells, room)))
+        let cells = unlock_all(cells, room);
+        if fabric.are_all(cells.as_slice()) {
+            return Ok((fabric, cells));
+        }
+        let cells = lock_all(cells, locks);
+        Err((
+            Refusal::Stranger,
+            Hub {
+                fabric,
+                cells,
+                alloc,
+            },
+        ))
     }
 }

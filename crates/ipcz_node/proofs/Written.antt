@@ -17,6 +17,17 @@ insert_same {V} m k v here = same_map nat_cmp_total nat_cmp-IsAntisymmetric _ _ 
       | inr t ↦ rw t.1 refl
     ]
 
+-- what is written twice under a key is what was written last
+pub insert_twice : {V : Type 0} (m : FinMap nat_cmp V) (k : ℕ) (v z : V) → insert (insert m k v) k z ≡ insert m k z
+insert_twice {V} m k v z = same_map nat_cmp_total nat_cmp-IsAntisymmetric _ _ (λ q.
+    get-insert nat_cmp_total (insert m k v) k z q ∙ cases q ∙ sym (get-insert nat_cmp_total m k z q))
+  where
+    cases : (q : ℕ) → cond (eq_by_cmp nat_cmp q k) (Some z) (get (insert m k v) q) ≡ cond (eq_by_cmp nat_cmp q k) (Some z) (get m q)
+    cases q = elim (one_or_two q k) [
+      | inl t ↦ rw t.1 refl
+      | inr t ↦ rw t.1 (get-insert nat_cmp_total m k v q ∙ rw t.1 refl)
+    ]
+
 -- what was written stands there
 pub insert_here : {V : Type 0} (m : FinMap nat_cmp V) (k : ℕ) (v : V) → get (insert m k v) k ≡ Some v
 insert_here m k v = get-insert nat_cmp_total m k v k ∙ rw (tied k k refl) refl

@@ -10,6 +10,7 @@ pub mod Hearing
 pub mod Indexes
 pub mod Lending
 pub mod LinkPlaces
+pub mod Lone
 pub mod Node
 pub mod Preparing
 pub mod Rooms

@@ -21,6 +21,7 @@ ghost use Rattle.std.specs.FinMap as map;
 ghost use Rattle.ipcz_node.specs.Serials.{map_by, AreRising};
 
 mod calls;
+mod carrying;
 mod filing;
 mod hearing;
 mod passing;

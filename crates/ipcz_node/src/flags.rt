@@ -1,6 +1,6 @@
 //! The serials of the routers that are flagged.
 
-ghost use Rattle.std.specs.Prelude.{ℕ, ◌≡◌, ◌+◌, ◌<◌, ◌≤◌, ◌||◌, ◌&&◌, ◌==◌, not, true, [], OnOk, IsOk};
+ghost use Rattle.std.specs.Prelude.{ℕ, ◌≡◌, ◌+◌, ◌<◌, ◌≤◌, ◌||◌, ◌&&◌, ◌==◌, not, true, [], OnOk, IsOk, IfSome};
 ghost use Rattle.std.specs.Ordering.{nat_cmp};
 ghost use Rattle.ipcz_node.specs.Indexes.{IsLeast};
 ghost use Rattle.ipcz_node.specs.SortedSets.{has};
@@ -105,5 +105,17 @@ impl Flags {
         ensures { IsLeast (has nat_cmp self.now.members) result }
     {
         self.lowest
+    }
+
+    /// The only serial, where there is no other.
+    #[inline(always)]
+    pub fn only(&self) -> Option<u64>
+        ensures member { IfSome result (λ serial. has nat_cmp self.now.members serial ≡ true) }
+        ensures only { IfSome result (λ serial. (s : ℕ) → has nat_cmp self.now.members s ≡ true → s ≡ serial) }
+    {
+        match self.others.first() {
+            Some(_) => None,
+            None => self.lowest,
+        }
     }
 }

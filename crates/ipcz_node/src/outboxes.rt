@@ -81,6 +81,14 @@ impl Outboxes {
         self.queues.as_slice()
     }
 
+    /// There is a queue for each number that a node could have. It does nothing, and is there for what a caller has to prove.
+    #[inline(always)]
+    pub fn has_each(&self)
+        ensures { length self.now.messages ≡ 256 }
+    {
+        let _queues = &self.queues;
+    }
+
     /// Whether no message waits.
     pub fn are_empty(&self) -> bool
         ensures { result ≡ are_empty self.now.messages }

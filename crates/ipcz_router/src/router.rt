@@ -11,6 +11,7 @@ ghost use Rattle.ipcz_router.specs.Calls.{next_number};
 
 mod bypass;
 mod calls;
+mod carrying;
 mod hearing;
 mod outlook;
 mod passing;

@@ -1,7 +1,9 @@
 pub mod Beginning
 pub mod Calling
+pub mod Carrying
 pub mod FirstTurns
 pub mod Kept
+pub mod LoneWorlds
 pub mod Marks
 pub mod Regular
 pub mod RouterActs

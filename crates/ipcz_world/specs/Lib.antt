@@ -1,6 +1,7 @@
 pub mod Acts
 pub mod Books
 pub mod Bypasses
+pub mod Carrying
 pub mod Coding
 pub mod FirstRuns
 pub mod Flows

@@ -1,7 +1,8 @@
 -- Which node takes the next act in passes over the nodes.
-use Rattle.std.specs.Prelude.{◌≡◌, ◌⊎◌, ◌≤◌, ◌<◌, ℕ, true, false}
+use Rattle.std.specs.Prelude.{◌≡◌, ◌⊎◌, ◌≤◌, ◌<◌, ℕ, Bool, true, false, List}
 use Rattle.ipcz_world.specs.World.{World}
 use Rattle.ipcz_world.specs.Turns.{next_at, is_idle}
+use Rattle.ipcz_world.specs.Settling.{AreVisits, act_count, node_behind}
 
 -- each node from one number up to another is idle
 abbrev pub AreIdle : World → ℕ → ℕ → Type 0
@@ -21,3 +22,10 @@ IsNextBusy w from n = IsFirstBusy w from w.count n ⊎ (AreIdle w from w.count �
 -- where a pass stands: at one of the nodes, or at its start
 abbrev pub IsPlace : World → ℕ → Type 0
 IsPlace w n = (n ≡ 0) ⊎ (n < w.count)
+
+-- visits from the first node on in which so many acts were taken lead from one world to another, and this node is visited next
+pub record Walk (w v : World) (acts n : ℕ) : Type 0 where
+  pub visits : List Bool
+  pub turns : AreVisits 0 visits w v
+  pub taken : act_count visits ≡ acts
+  pub next : node_behind w.count 0 visits ≡ n

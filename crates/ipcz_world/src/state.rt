@@ -9,6 +9,7 @@ ghost use Rattle.ipcz_world.specs.Taking.{IsRegular, node_of};
 ghost use Rattle.ipcz_world.specs.World.{new_world};
 
 pub(crate) mod calls;
+pub(crate) mod carrying;
 pub(crate) mod limits;
 pub(crate) mod settling;
 pub(crate) mod turns;

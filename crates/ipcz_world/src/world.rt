@@ -16,6 +16,7 @@ ghost use Rattle.ipcz_world.specs.Settling.{TakesTurn};
 ghost use Rattle.ipcz_world.specs.SettleBounds.{CarryNone, IsLawfulSettle, IsLawfulRefusal, plain_limit};
 ghost use Rattle.ipcz_world.specs.SettleLimit.{settle_limit};
 ghost use Rattle.ipcz_world.specs.Tallies.{Tells};
+ghost use Rattle.ipcz_world.specs.Visiting.{IsPlace, Walk};
 
 use crate::mail::Mail;
 use crate::state::State;
@@ -227,8 +228,9 @@ impl World {
         ensures settles { IfOk result (λ answer. IsLawfulSettle limit self.old self.new answer) }
         ensures refused { IfErr result (λ why. IsLawfulRefusal limit self.old self.new why) }
     {
-        let mut from = 0;
-        for acts in 0..limit {
+        let (carried, start) = self.carry(limit);
+        let mut from = start;
+        for acts in carried..limit {
             let Some((node, act)) = self.state.next_busy(from) else {
                 return Ok(Settled::Settled { after: acts });
             };
@@ -242,6 +244,17 @@ impl World {
             None => Ok(Settled::Settled { after: limit }),
             Some(_) => Ok(Settled::Unsettled),
         }
+    }
+
+    // Carries a lone parcel all its way, where that is all that the world has to do; else nothing is done. It gives how many acts that was, and
+    // the node that is visited next.
+    #[inline(always)]
+    fn carry(&mut self, most: u64) -> (u64, u8)
+        ensures walk { Walk self.old self.new result.0 result.1 }
+        ensures place { IsPlace self.new result.1 }
+        ensures within { result.0 ≤ most }
+    {
+        self.state.carry(most)
     }
 
     // Takes the turn of a node whose first possible act is given.

@@ -180,7 +180,7 @@ impl Router {
 
     // An item is taken into the in queue from where it lies, and the router is flagged.
     #[inline(always)]
-    fn take_in(&mut self, n: u64, item: &mut Item) -> Result<(), Refusal>
+    pub(super) fn take_in(&mut self, n: u64, item: &mut Item) -> Result<(), Refusal>
         requires { n < no_number }
         ensures place { OnOk result (has_place self.old.router.in_queue n ≡ true) }
         ensures ok { OnOk result (self.new.router ≡ accept_from_outward self.old.router n item.old) }

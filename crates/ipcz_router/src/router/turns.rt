@@ -62,7 +62,7 @@ impl Router {
         }
     }
 
-    fn is_on_central(&self) -> bool
+    pub(super) fn is_on_central(&self) -> bool
         ensures { result ≡ is_on_central self.now.router }
     {
         word_of(self.outward.primary()).is_some()

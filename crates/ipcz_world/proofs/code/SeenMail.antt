@@ -1,5 +1,5 @@
 -- What a node sees of the mailboxes, looked up one after the other.
-use Rattle.std.specs.Prelude.{◌≡◌, ◌<◌, ◌≤◌, ℕ, zero, suc, ◌+◌, ◌-◌, Bool, true, false, not, ◌&&◌, nat_lt, map, if◌then◌else◌, Option, Some}
+use Rattle.std.specs.Prelude.{◌≡◌, ◌<◌, ◌≤◌, ℕ, zero, suc, ◌+◌, ◌-◌, Bool, true, false, not, ◌&&◌, nat_lt, nat_eq, map, if◌then◌else◌, Option, Some}
 use Rattle.std.specs.Prelude.{None}
 use Rattle.std.proofs.Common.{arith, ap, refl, sym, ◌∙◌}
 use Rattle.std.proofs.lemmas.Bool.Decides.{nat_tests}
@@ -58,12 +58,33 @@ no_number test from (suc left) fails =
     ap (λ b. if b then Some from else first_number test (from + 1) left) (fails from (omega arith)) ∙
     no_number test (from + 1) left (λ i l. fails i (omega (arith, l)))
 
+-- where no mailbox to a node is full, it sees none
+pub no_sender_to : (w : World) (n : ℕ) → w.count ≤ 8 → ((i : ℕ) → i < w.count → is_full (mail_at w (way w i n)) ≡ false) →
+    first_number (λ i. place_at false (seen_at w n).full i) 0 w.count ≡ None
+no_sender_to w n few none =
+    no_number (λ i. place_at false (seen_at w n).full i) 0 w.count
+    (λ i l. sees_full w n i (omega (arith, l)) few ∙ none i (omega (arith, l)))
+
 -- where no mailbox is full, none to a node is
 pub no_sender : (w : World) (n : ℕ) → w.count ≤ 8 → ((k : ℕ) → is_full (mail_at w k) ≡ false) →
     first_number (λ i. place_at false (seen_at w n).full i) 0 w.count ≡ None
-no_sender w n few none =
-    no_number (λ i. place_at false (seen_at w n).full i) 0 w.count
-    (λ i l. sees_full w n i (omega (arith, l)) few ∙ none (way w i n))
+no_sender w n few none = no_sender_to w n few (λ i l. none (way w i n))
+
+-- the only number that passes is found
+pub only_found : (test : ℕ → Bool) (from left k : ℕ) → from ≤ k → k < from + left → test k ≡ true →
+    ((i : ℕ) → i < k → test i ≡ false) → first_number test from left ≡ Some k
+only_found test from zero k low high holds fails = absurd (omega (arith, low, high))
+only_found test from (suc left) k low high holds fails =
+    go (nat_eq from k) refl (λ less. only_found test (from + 1) left k (omega (arith, less)) (omega (arith, high)) holds fails)
+  where
+    go : (b : Bool) → nat_eq from k ≡ b → (from < k → first_number test (from + 1) left ≡ Some k) →
+        (if test from then Some from else first_number test (from + 1) left) ≡ Some k
+    go true e more =
+        let same : from ≡ k = grind (arith, e, nat_tests) in
+        ap (λ b. if b then Some from else first_number test (from + 1) left) (ap test same ∙ holds) ∙ ap Some same
+    go false e more =
+        let less : from < k = grind (arith, e, low, nat_tests) in
+        ap (λ b. if b then Some from else first_number test (from + 1) left) (fails from less) ∙ more less
 
 -- where no message waits, there is no destination
 pub no_destination : (w : World) (n : ℕ) → not (are_empty (node_at w n).outboxes) ≡ false →

@@ -1,5 +1,5 @@
 -- Visits one after the other, up to the next node that has an act, and what settling comes to.
-use Rattle.std.specs.Prelude.{◌≡◌, ◌≤◌, ◌<◌, ℕ, zero, suc, ◌+◌, ◌-◌, Bool, true, false, nat_lt, if◌then◌else◌, List, [], ◌∷◌, refl}
+use Rattle.std.specs.Prelude.{◌≡◌, ◌≤◌, ◌<◌, ℕ, zero, suc, ◌+◌, ◌-◌, Bool, true, false, nat_lt, if◌then◌else◌, List, [], ◌∷◌, ◌++◌, refl}
 use Rattle.std.proofs.Common.{arith, ap, subst, ◌∙◌, sym, inl, inr}
 use Rattle.std.proofs.lemmas.Bool.Decides.{nat_tests}
 use Rattle.ipcz_world.proofs.Vocabulary.{Refusal, Act, Reply, World, after_act, unless}
@@ -13,7 +13,7 @@ use Rattle.ipcz_world.specs.Turns.{next_at, is_idle, turn_event, turn_lacks_seri
 use Rattle.ipcz_world.specs.Steps.{Effect, refuse, turn_step, Gives, StepFirst}
 use Rattle.ipcz_world.specs.Lawfulness.{IsLawful}
 use Rattle.ipcz_world.specs.Settling.{IsQuiet, HasAct, AreVisits, next_node, node_behind, act_count, FitsAnswer, IsSettle, IsRefusedSettle}
-use Rattle.ipcz_world.specs.Visiting.{AreIdle, IsFirstBusy, IsNextBusy, IsPlace}
+use Rattle.ipcz_world.specs.Visiting.{AreIdle, IsFirstBusy, IsNextBusy, IsPlace, Walk}
 use Rattle.ipcz_world.proofs.facts.NodeCount.{count-after_act}
 use Rattle.ipcz_world.proofs.lawful.Idling.{quiet_from_idle}
 
@@ -46,13 +46,6 @@ given w n act reply v is = go (nat_lt n w.count) refl (turn_lacks_serials w n ac
 turned : (w : World) (n : ℕ) (reply : Reply) (v : World) → StepFirst w (Turn n) reply v → IsTurnReply w reply v
 turned w n reply v (act, first, inl is) = given w n act reply v is
 turned w n reply v (act, first, inr want) = Refuses _ want.3.0 want.3.1
-
--- so many acts were taken on the way from one world to another, and this node is visited next
-pub record Walk (w v : World) (acts n : ℕ) : Type 0 where
-  pub visits : List Bool
-  pub turns : AreVisits 0 visits w v
-  pub taken : act_count visits ≡ acts
-  pub next : node_behind w.count 0 visits ≡ n
 
 -- whatever visits lead on from here lead on from the start
 abbrev pub GoesOn : World → ℕ → World → ℕ → Type 0
@@ -122,6 +115,14 @@ next-place u x n same = go (nat_lt (n + 1) u.count) refl
     go true e = inr (grind (arith, e, same, nat_tests))
     go false e = inl refl
 
+-- a turn keeps how many nodes there are
+turn-keeps : (w v : World) (n : ℕ) (event : Happened) → StepFirst w (Turn n) (replies.Turned event) v → v.count ≡ w.count
+turn-keeps w v n event step = go (turned w n (replies.Turned event) v step)
+  where
+    go : IsTurnReply w (replies.Turned event) v → v.count ≡ w.count
+    go (Turns e r c) = c
+    go (Refuses why r same) = ap (λ (x : World). x.count) same
+
 -- what is kept on the way: visits lead here, and here is a place
 pub record OnWay (w : World) (acts : ℕ) (u : World) (n : ℕ) : Type 0 where
   pub goes_on : GoesOn w acts u n
@@ -143,16 +144,66 @@ on_way-turn w u x acts n m next event on busy is step = subst (OnWay w (acts + 1
     has : HasAct u m
     has = busy-acts u n m (place-within u n on.place) busy
 
-    turn-count : IsTurnReply u (replies.Turned event) x → x.count ≡ u.count
-    turn-count (Turns e r c) = c
-    turn-count (Refuses why r same) = ap (λ (v : World). v.count) same
-
     same : x.count ≡ u.count
-    same = turn-count (turned u m (replies.Turned event) x step)
+    same = turn-keeps u x m event step
 
 -- the visits up to here
 reached : (w u : World) (acts n : ℕ) → GoesOn w acts u n → Walk w u acts n
 reached w u acts n on = subst (λ k. Walk w u k n) (omega arith) (on [] u refl)
+
+pub walked : (w u : World) (acts n : ℕ) → OnWay w acts u n → Walk w u acts n
+walked w u acts n on = reached w u acts n on.goes_on
+
+-- at the start nothing was visited
+pub on_way-start : (w : World) → OnWay w 0 w 0
+on_way-start w = record {
+  goes_on = λ visits v turns. record { visits = visits; turns = turns; taken = omega arith; next = refl };
+  place = inl refl;
+}
+
+-- visits keep how many nodes there are
+visits-count : (n : ℕ) (visits : List Bool) (w v : World) → AreVisits n visits w v → v.count ≡ w.count
+visits-count n [] w v same = ap (λ (x : World). x.count) same
+visits-count n (true ∷ visits) w v (has, (u, (event, step), more)) =
+    visits-count (next_node w n) visits u v more ∙ turn-keeps w u n event step
+visits-count n (false ∷ visits) w v (idle, more) = visits-count (next_node w n) visits w v more
+
+-- visits after others
+visits-after : (n : ℕ) (first visits : List Bool) (w u v : World) → AreVisits n first w u → AreVisits (node_behind w.count n first) visits u v →
+    AreVisits n (first ++ visits) w v
+visits-after n [] visits w u v same more = subst (λ x. AreVisits n visits x v) same more
+visits-after n (true ∷ first) visits w u v (has, (x, (event, step), rest)) more = (
+  has,
+  (
+    x,
+    (event, step),
+    visits-after (next_node w n) first visits x u v rest
+        (subst (λ c. AreVisits (node_behind c (next_node w n) first) visits u v) (sym (turn-keeps w x n event step)) more),
+  ),
+)
+visits-after n (false ∷ first) visits w u v (idle, rest) more = (idle, visits-after (next_node w n) first visits w u v rest more)
+
+acts-after : (first visits : List Bool) → act_count (first ++ visits) ≡ act_count first + act_count visits
+acts-after [] visits = omega arith
+acts-after (true ∷ first) visits = omega (arith, acts-after first visits)
+acts-after (false ∷ first) visits = acts-after first visits
+
+behind-after : (c n : ℕ) (first visits : List Bool) → node_behind c n (first ++ visits) ≡ node_behind c (node_behind c n first) visits
+behind-after c n [] visits = refl
+behind-after c n (acts ∷ first) visits = behind-after c (if nat_lt (n + 1) c then n + 1 else 0) first visits
+
+-- one goes on from where a walk has led
+pub on_way-walked : (w u : World) (acts n : ℕ) → Walk w u acts n → IsPlace u n → OnWay w acts u n
+on_way-walked w u acts n walk place = record {
+  goes_on = λ visits v turns. record {
+    visits = walk.visits ++ visits;
+    turns = visits-after 0 walk.visits visits w u v walk.turns (subst (λ k. AreVisits k visits u v) (sym walk.next) turns);
+    taken = omega (arith, acts-after walk.visits visits, walk.taken);
+    next = behind-after w.count 0 walk.visits visits ∙ ap (λ k. node_behind w.count k visits) walk.next
+        ∙ ap (λ c. node_behind c n visits) (sym (visits-count 0 walk.visits w u walk.turns));
+  };
+  place = place;
+}
 
 ended : (limit acts n : ℕ) (w u : World) (answer : Settled) → Walk w u acts n → acts ≤ limit → FitsAnswer limit acts u answer →
     IsSettle limit w u answer

@@ -31,7 +31,7 @@ unfolding link_answer
 plain-link w s source act None h = refl
 plain-link w s source act (Some i) h = plain-word _ s source act h
 
-plain-answer : (w : World) (r : Router) (act : RouterAct) → is_wordless act ≡ true → answer_of w r act ≡ Plain
+pub plain-answer : (w : World) (r : Router) (act : RouterAct) → is_wordless act ≡ true → answer_of w r act ≡ Plain
 unfolding answer_of is_wordless
 plain-answer w r acts.Mark h = absurd (true≢false (sym h))
 plain-answer w r acts.Wake h = absurd (true≢false (sym h))
@@ -41,7 +41,7 @@ plain-answer w r acts.Unlock h = absurd (true≢false (sym h))
 plain-answer w r other h = plain-link w r.end.side (source_of r) other (primary_word r) h
 
 -- no word is changed
-untouched : (w : World) (r : Router) (act : RouterAct) → is_wordless act ≡ true → w ≡ touch w r act
+pub untouched : (w : World) (r : Router) (act : RouterAct) → is_wordless act ≡ true → w ≡ touch w r act
 unfolding touch is_wordless
 untouched w r acts.Mark h = absurd (true≢false (sym h))
 untouched w r acts.Wake h = absurd (true≢false (sym h))

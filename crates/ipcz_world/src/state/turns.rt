@@ -18,8 +18,8 @@ use ipcz_node::{Act, Happened};
 use ipcz_router::act::{Answer, RouterAct};
 
 impl State {
-    // The number of the mailbox from one node to another.
-    fn way(&self, from: u8, to: u8) -> usize
+    /// The number of the mailbox from one node to another.
+    pub(crate) fn way(&self, from: u8, to: u8) -> usize
         requires from { from < self.now.count }
         requires to { to < self.now.count }
         ensures way { result ≡ way self.now from to }

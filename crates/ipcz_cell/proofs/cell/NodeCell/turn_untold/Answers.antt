@@ -2,7 +2,6 @@ use Rattle.std.proofs.Common.{sym, subst}
 use Rattle.std.specs.Prelude.{◌≢◌}
 use Rattle.ipcz_node.specs.declared.act.Act.{Act}
 use Rattle.ipcz_node.specs.declared.act.Act.TheVariants as acts
-use Rattle.ipcz_cell.specs.TurnEnds.{Acts}
 use Rattle.ipcz_cell.specs.TurnChains.{Does}
 use Rattle.ipcz_cell.proofs.TurnActs.{close_alone}
 use Rattle.ipcz_cell.proofs.TurnChains.{does, tries, idles}
@@ -21,25 +20,23 @@ returns-in-Hand g c =
 pub returns-in-Look : goal.returns-in-Look
 returns-in-Look g c =
     let t = g.F.FabricName.table in
-    tries t c.act-act.result c.args.self.now c.act-act.new.self c.look_turn.new.self c.untold.result c.act-act.ensures.first
+    tries t c.act-act.result c.args.self.now c.act-act.new.self c.look_untold.new.self c.look_untold.result c.act-act.ensures.first
     (subst (λ (a : Act). a ≢ acts.Idle) (sym c.in-Look.is) (λ e. cc))
-    (does t c.act-act.result c.act-act.new.self c.look_turn.new.self c.look_turn.result c.untold.result c.untold.ensures
-    (subst (λ (a : Act). Acts t a c.act-act.new.self c.look_turn.result c.look_turn.new.self) (sym c.in-Look.is) c.look_turn.ensures))
+    (subst (λ (a : Act). Does t a c.act-act.new.self c.look_untold.result c.look_untold.new.self) (sym c.in-Look.is) c.look_untold.ensures)
 
 pub returns-in-Post : goal.returns-in-Post
 returns-in-Post g c =
     let t = g.F.FabricName.table in
-    tries t c.act-act.result c.args.self.now c.act-act.new.self c.post_turn.new.self c.untold-in-Post.result c.act-act.ensures.first
+    tries t c.act-act.result c.args.self.now c.act-act.new.self c.post_untold.new.self c.post_untold.result c.act-act.ensures.first
     (subst (λ (a : Act). a ≢ acts.Idle) (sym c.in-Post.is) (λ e. cc))
-    (does t c.act-act.result c.act-act.new.self c.post_turn.new.self c.post_turn.result c.untold-in-Post.result c.untold-in-Post.ensures
-    (subst (λ (a : Act). Acts t a c.act-act.new.self c.post_turn.result c.post_turn.new.self) (sym c.in-Post.is) c.post_turn.ensures))
+    (subst (λ (a : Act). Does t a c.act-act.new.self c.post_untold.result c.post_untold.new.self) (sym c.in-Post.is) c.post_untold.ensures)
 
 pub returns-in-Close : goal.returns-in-Close
 returns-in-Close g c =
     let t = g.F.FabricName.table in
-    tries t c.act-act.result c.args.self.now c.act-act.new.self c.touch_turn.new.self c.untold-in-Close.result c.act-act.ensures.first
+    tries t c.act-act.result c.args.self.now c.act-act.new.self c.touch_turn.new.self c.untold.result c.act-act.ensures.first
     (subst (λ (a : Act). a ≢ acts.Idle) (sym c.in-Close.is) (λ e. cc))
-    (does t c.act-act.result c.act-act.new.self c.touch_turn.new.self c.touch_turn.result c.untold-in-Close.result c.untold-in-Close.ensures
+    (does t c.act-act.result c.act-act.new.self c.touch_turn.new.self c.touch_turn.result c.untold.result c.untold.ensures
     c.touch_turn.ensures)
 
 pub returns-in-Router : goal.returns-in-Router

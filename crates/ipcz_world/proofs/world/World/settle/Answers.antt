@@ -4,7 +4,7 @@ use Rattle.ipcz_world.specs.Settling.{IsSettle, IsRefusedSettle, next_node}
 use Rattle.ipcz_world.specs.Visiting.{AreIdle, IsNextBusy}
 use Rattle.ipcz_world.proofs.code.Regular.{lawful-regular}
 use Rattle.ipcz_world.proofs.code.Running.{visits-lead}
-use Rattle.ipcz_world.proofs.code.Visiting.{OnWay, on_way-turn, settled, unsettled, refused}
+use Rattle.ipcz_world.proofs.code.Visiting.{OnWay, on_way-turn, on_way-walked, settled, unsettled, refused}
 use Rattle.ipcz_world.proofs.world.World.settle.Goals.{in-None, in-Some-last_busy}
 use Rattle.ipcz_world.proofs.world.World.settle.Goals as goal
 use Rattle.ipcz_base.specs.declared.refusal.Refusal.{Refusal}
@@ -34,6 +34,9 @@ lawful-refused limit w v why s = record {
   most = λ b g c law rated.
       omega (arith, visits_are_bounded each_step_keeps_lawful first_acts_are_possible rates 0 s.visits w v b g c law rated s.turns);
 }
+
+pub loop-acts-init : goal.loop-acts-init
+loop-acts-init c = on_way-walked _ _ _ _ c.carry-carried.ensures.walk c.carry-carried.ensures.place
 
 pub next_busy-requires-clause-regular : goal.next_busy-requires-clause-regular
 next_busy-requires-clause-regular c = lawful-regular _ c.self.invariant

@@ -1,0 +1,139 @@
+-- What a lone parcel does to the node that sends it and to the node that takes it, act by act.
+use Rattle.std.proofs.Common.{◌≡◌, ◌≤◌, ℕ, Bool, true, false, cond, nat_eq, Option, Some, None, [], length}
+use Rattle.std.proofs.Common.{refl, sym, ap, subst, ◌∙◌, arith, inl, inr, true≢false, if◌then◌else◌}
+use Rattle.std.specs.Prelude.{IsSomeAnd}
+use Rattle.std.specs.Option.{option_map_or}
+use Rattle.std.proofs.lemmas.Bool.Decides.{nat_tests}
+use Rattle.std.specs.Ordering.{nat_cmp, eq_by_cmp}
+use Rattle.std.specs.Cmp.{nat_cmp_total}
+use Rattle.std.specs.FinMap.{FinMap, get, insert, get-insert, entries}
+use Rattle.ipcz_base.specs.declared.item.Item.{Item}
+use Rattle.ipcz_base.specs.declared.message.Message.{Message}
+use Rattle.ipcz_base.specs.declared.link_end.LinkEnd.{LinkEnd}
+use Rattle.ipcz_base.specs.declared.link_id.LinkId.{LinkId}
+use Rattle.ipcz_base.specs.declared.side.Side.{Side}
+use Rattle.ipcz_base.specs.Items.{ends_in}
+use Rattle.ipcz_base.specs.Limits.{no_number}
+use Rattle.ipcz_base.specs.declared.message.Message.TheVariants as messages
+use Rattle.ipcz_seq.proofs.Pairs.{one_or_two}
+use Rattle.ipcz_router.specs.declared.act.RouterAct.TheVariants as acts
+use Rattle.ipcz_router.specs.declared.act.Answer.TheVariants.{Plain}
+use Rattle.ipcz_router.specs.declared.outlook.Outlook.TheVariants as outlooks
+use Rattle.ipcz_router.specs.declared.act.Applied.TheVariants as outputs
+use Rattle.ipcz_router.specs.Router.{Router, outward_has}
+use Rattle.ipcz_router.specs.Calls.{accept, accept_from_outward, has_place_for}
+use Rattle.ipcz_router.specs.Acts.{pop_out, rest}
+use Rattle.ipcz_router.specs.ActEffects.{output_of, item_output, apply, leaves_by}
+use Rattle.ipcz_router.specs.Carrying.{carried_by}
+use Rattle.ipcz_node.specs.declared.act.Act.TheVariants.{Router as OfRouter}
+use Rattle.ipcz_node.specs.Node.{Node, found, first_where, on_router, push_out, router_in, with_router}
+use Rattle.ipcz_node.specs.Acts.{act_lacks_serials, commit, commit_router, keep_or_drop}
+use Rattle.ipcz_node.specs.Directories.{passes}
+use Rattle.ipcz_node.specs.Hands.{deliver, is_hand_of, message_lacks_serials}
+use Rattle.ipcz_node.specs.Sends.{item_message, send}
+use Rattle.ipcz_node.specs.Preparing.{outlook_at}
+use Rattle.ipcz_node.specs.Lone.{SendsOnly, TakesItem}
+use Rattle.ipcz_node.proofs.Carrying.{committed_alone, lacks_none, taken_alone, takes_none}
+use Rattle.ipcz_node.proofs.Directories.{found_filed}
+use Rattle.ipcz_node.proofs.Written.{insert_here, insert_twice}
+
+-- no router but that of the serial is flagged
+abbrev pub OnlyFlagged : FinMap nat_cmp Router → ℕ → Type 0
+OnlyFlagged m s = (q : ℕ) (r : Router) → get m q ≡ Some r → r.flagged ≡ true → q ≡ s
+
+module _ (m : FinMap nat_cmp Router) (s : ℕ) (r : Router) (only : OnlyFlagged m s) where
+  abbrev test : Router → Bool
+  test x = x.flagged
+
+  at : (q : ℕ) → get (insert m s r) q ≡ cond (eq_by_cmp nat_cmp q s) (Some r) (get m q)
+  at q = get-insert nat_cmp_total m s r q
+
+  here : get (insert m s r) s ≡ Some r
+  here = insert_here m s r
+
+  others : (q : ℕ) → passes test (insert m s r) q ≡ true → q ≡ s
+  others q up = elim (one_or_two q s) [
+    | inl t ↦ t.0
+    | inr t ↦ go (get m q) refl (ap (λ o. option_map_or test o false) (sym (rw t.1 at (at q))) ∙ up)
+  ]
+    where
+      go : (o : Option Router) → get m q ≡ o → option_map_or test o false ≡ true → q ≡ s
+      go None e h = cc
+      go (Some x) e h = only q x e h
+
+  -- while that router stays flagged it is found
+  pub still_flagged : r.flagged ≡ true → first_where test (entries (insert m s r)) ≡ Some (found s r)
+  still_flagged up =
+      subst (λ o. IsSomeAnd o (λ (x : Router). first_where test (entries (insert m s r)) ≡ Some (found s x))) here
+      (found_filed test (insert m s r) (Some s) (passes test (insert m s r)) (λ q. refl)
+      (ap (λ o. option_map_or test o false) here ∙ up, λ q passed. omega (arith, others q passed)))
+
+  -- and none is once it rests
+  pub none_flagged : r.flagged ≡ false → first_where test (entries (insert m s r)) ≡ None
+  none_flagged down = found_filed test (insert m s r) None (passes test (insert m s r)) (λ q. refl) (λ q. go q (passes test (insert m s r) q) refl)
+    where
+      go : (q : ℕ) (b : Bool) → passes test (insert m s r) q ≡ b → b ≡ false
+      go q false e = refl
+      go q true e = absurd (true≢false (sym e ∙ ap (passes test (insert m s r)) (others q e) ∙ ap (λ o. option_map_or test o false) here ∙ down))
+
+-- the sender of a lone parcel
+module _ (x : Node) (serial : ℕ) (link : LinkEnd) (is : SendsOnly x serial link) where
+  abbrev r : Router
+  r = is.sender.router
+
+  -- the message that carries its item
+  abbrev pub message : Message
+  message = item_message link r.out_queue.current is.sender.sends.item []
+
+  sent : output_of r acts.SendOut ≡ outputs.Sent link r.out_queue.current is.sender.sends.item
+  unfolding output_of item_output
+  sent = rw (is.sender.sends.way, is.sender.sends.current) refl
+
+  looks : outlook_at (router_in x serial) acts.SendOut ≡ outlooks.Item link.other 0
+  looks = rw (is.sender.here, sent) (ap (λ es. outlooks.Item link.other (length es)) is.sender.sends.alone)
+
+  -- its item goes into the outbox
+  pub sends_it : push_out (with_router x serial (pop_out r)) link.other message ≡ commit x (OfRouter serial acts.SendOut) Plain
+  unfolding carried_by apply
+  sends_it = committed_alone x serial r link.other message is.sender.here looks (rw sent refl)
+
+  -- and takes no serial
+  pub sends_freely : x.next_peripheral ≤ no_number → act_lacks_serials x (OfRouter serial acts.SendOut) ≡ false
+  sends_freely low = lacks_none x serial link.other low looks
+
+-- the taker of a lone parcel that has it in hand
+module _ (x y : Node) (link : LinkId) (side : Side) (n from : ℕ) (item : Item) (source : Option ℕ) (is : TakesItem x link side n item y)
+    (alone : ends_in item ≡ []) where
+  abbrev held : Node
+  held = record x { hand = Some from }
+
+  place : has_place_for is.router (outward_has is.router link side) n ≡ true
+  place = rw is.takes.outward is.takes.place
+
+  -- its router takes the item out of the hand
+  pub takes_it : x.hand ≡ None →
+      with_router x is.serial (accept_from_outward is.router n item) ≡ deliver held from (messages.Item link side n item []) source
+  unfolding accept is_hand_of
+  takes_it free =
+      let same : nat_eq from from ≡ true = grind (arith, nat_tests) in
+      let hands : x.hand ≡ (if nat_eq from from then None else Some from) = free ∙ sym (ap (λ b. if b then None else Some from) same) in
+      let back : accept_from_outward is.router n item ≡ accept is.router (outward_has is.router link side) n item =
+      sym (ap (λ b. accept is.router b n item) is.takes.outward) in
+      (λ j. record (with_router x is.serial (back j)) { hand = hands j })
+      ∙ taken_alone held from link side n item [] source is.serial is.router is.first place alone refl
+
+  -- and takes no serial
+  pub takes_freely : message_lacks_serials held from (messages.Item link side n item []) source ≡ false
+  takes_freely = takes_none held from link side n item [] source is.serials refl
+
+-- a router that was written stands there
+pub stands : (x : Node) (serial : ℕ) (r : Router) → router_in (with_router x serial r) serial ≡ Some r
+stands x serial r = insert_here x.routers serial r
+
+-- and rests
+pub rested : (x : Node) (serial : ℕ) (r : Router) →
+    with_router x serial (rest r) ≡ commit (with_router x serial r) (OfRouter serial acts.Rest) Plain
+unfolding commit commit_router keep_or_drop on_router send leaves_by output_of apply
+rested x serial r =
+    (λ j. record x { routers = sym (insert_twice x.routers serial r (rest r)) j })
+    ∙ sym (ap (λ o. on_router (with_router x serial r) o (commit_router (with_router x serial r) serial acts.Rest Plain)) (stands x serial r))

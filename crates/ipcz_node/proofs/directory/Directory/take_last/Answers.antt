@@ -1,0 +1,85 @@
+use Rattle.std.proofs.Common.{◌≡◌, if◌then◌else◌, ℕ, Bool, true, false, List, [], length, Some, refl, sym, subst, ap, ◌∙◌, arith}
+use Rattle.std.specs.FinMap.{get}
+use Rattle.ipcz_base.specs.declared.side.Side.{Side}
+use Rattle.ipcz_base.specs.declared.end.End.{End}
+use Rattle.ipcz_base.specs.declared.link_id.LinkId.{LinkId}
+use Rattle.ipcz_base.specs.declared.item.Item.{Item}
+use Rattle.ipcz_base.specs.Items.{ends_in}
+use Rattle.ipcz_router.specs.Router.{Router}
+use Rattle.ipcz_router.specs.Calls.{accept}
+use Rattle.ipcz_router.specs.Lone.{TakesLast}
+use Rattle.ipcz_node.specs.Directories.{ends_brought, ends_inside}
+use Rattle.ipcz_node.specs.Rooms.{put_filed}
+use Rattle.ipcz_node.specs.contracts.directory.Directory.{the_view}
+use Rattle.ipcz_node.proofs.Written.{insert_same}
+use Rattle.ipcz_node.proofs.Holding.{hold_kept, brought_inside}
+use Rattle.ipcz_node.proofs.Refiling.{StaysFiled, flag_was, flag_room, flag_changed, same_stays}
+use Rattle.ipcz_node.proofs.directory.Directory.take_last.Goals as goal
+
+none_of : (b : Bool) (es : List End) → es ≡ [] → (if b then length es else 0) ≡ 0
+none_of true es none = ap length none
+none_of false es none = refl
+
+-- an item without ends leaves its router filed as it was but for the flag, and no more ends inside it
+stays_with : (A : Type 0) (r w : Router) (link : LinkId) (side : Side) (n : ℕ) (item : Item) (taken : Bool) → ends_in item ≡ [] →
+    (taken ≡ true → TakesLast r link side n item w) → (taken ≡ false → A × (w ≡ r)) → StaysFiled r w × (ends_inside w ≡ ends_inside r)
+unfolding accept
+stays_with A r w link side n item true none takes kept =
+    let t = takes refl in
+    let brought : ends_brought r true n item ≡ 0 = none_of _ (ends_in item) none in (
+      subst (StaysFiled r) (sym t.after) refl,
+      ap ends_inside t.after ∙ brought_inside r true n item t.place ∙ omega (arith, brought),
+    )
+stays_with A r w link side n item false none takes kept = (
+  subst (StaysFiled r) (sym (kept refl).1) (same_stays r),
+  ap ends_inside (kept refl).1,
+)
+
+pub follow-requires-clause-was : goal.follow-requires-clause-was
+follow-requires-clause-was c =
+    let r = c.router_mut-router.result.now.router in
+    flag_was _ c.args.serial r r (same_stays r) c.self.inside.files.links c.self.inside.files.terminals c.self.inside.files.flagged c.self.inside.files.flagged
+    c.self.inside.room c.self.inside.more c.self.inside.routers.room (sym c.router_mut-router.ensures.value) c.self.invariant.0
+    ∙ sym c.is_flagged-was.ensures
+
+pub follow-requires-clause-room : goal.follow-requires-clause-room
+follow-requires-clause-room c down =
+    let r = c.router_mut-router.result.now.router in
+    flag_room _ c.args.serial r r (same_stays r) c.self.inside.files.links c.self.inside.files.terminals c.self.inside.files.flagged c.self.inside.files.flagged
+    c.self.inside.room c.self.inside.more c.self.inside.routers.room (sym c.router_mut-router.ensures.value) c.self.invariant.0
+    (sym c.is_flagged-was.ensures ∙ down)
+
+pub invariant_of-self : goal.invariant_of-self
+invariant_of-self c =
+    let r = c.router_mut-router.result.now.router in
+    let w = c.take_last-taken.new.self.router in
+    let here = sym c.router_mut-router.ensures.value in
+    let stays = stays_with _ r w c.args.link c.args.side c.args.n c.args.item.now c.take_last-taken.result c.requires.alone
+    c.take_last-taken.ensures.taken c.take_last-taken.ensures.left in (
+      flag_changed _ c.args.serial r w stays.0 _ _ _ _ c.self.inside.room c.self.inside.more c.self.inside.routers.room here
+          c.self.invariant.0 _ _ c.is_flagged-was.ensures c.is_flagged-is.ensures c.follow.ensures.members c.follow.ensures.room,
+      hold_kept _ c.args.serial r w c.self.inside.ends c.self.inside.room c.self.inside.held.room here stays.1 c.self.invariant.1,
+    )
+
+pub returns-clause-taken : goal.returns-clause-taken
+returns-clause-taken c r here did =
+    let both : Some c.router_mut-router.result.now.router ≡ Some r =
+    c.router_mut-router.ensures.value ∙ ap (λ v. get v.filed.routers c.args.serial) c.self.view_is ∙ here in
+    let same : c.router_mut-router.result.now.router ≡ r = cc in
+    let w = c.take_last-taken.new.self.router in (
+      w,
+      subst (λ x. TakesLast x c.args.link c.args.side c.args.n c.args.item.now w) same (c.take_last-taken.ensures.taken did),
+      ap (λ v. put_filed v.filed c.args.serial w) c.self.view_is,
+    )
+
+pub returns-clause-left : goal.returns-clause-left
+returns-clause-left c kept =
+    let left = c.take_last-taken.ensures.left kept in (
+      left.0,
+      ap (λ x. put_filed (the_view c.self.inside).filed c.args.serial x) left.1
+          ∙ (λ j. record (the_view c.self.inside).filed {
+            routers = insert_same c.self.inside.routers.routers c.args.serial c.router_mut-router.result.now.router
+                (sym c.router_mut-router.ensures.value) j;
+          })
+          ∙ ap (λ v. v.filed) c.self.view_is,
+    )

@@ -1,0 +1,62 @@
+//! A lone parcel, which is all that the nodes have to do: it leaves one of them, and another takes it.
+
+ghost use Rattle.std.specs.Prelude.{◌≡◌, ◌≤◌, [], Some, true, false, is_some, IfSome, IsSomeAnd};
+ghost use Rattle.ipcz_base.specs.Items.{ends_in};
+ghost use Rattle.ipcz_base.specs.Limits.{no_number};
+ghost use Rattle.ipcz_seq.specs.Queue.{current_item};
+ghost use Rattle.ipcz_router.specs.Router.{Router as RouterRecord};
+ghost use Rattle.ipcz_router.specs.Acts.{pop_out, rest};
+ghost use Rattle.ipcz_node.specs.Lone.{SendsOnly, TakesItem};
+ghost use Rattle.ipcz_node.specs.Node.{router_in, with_router};
+
+use super::NodeState;
+use ipcz_base::{Item, LinkEnd, LinkId, Side};
+
+impl NodeState {
+    /// The serial of a router and the link over which it sends its last item, which carries no ends, where that and the router's rest are all
+    /// that the node has to do. None may be answered where it is so, too.
+    #[inline(always)]
+    pub fn only_sender(&self) -> Option<(u64, LinkEnd)>
+        ensures { IfSome result (λ s. SendsOnly self.now.node s.0 s.1) }
+    {
+        if !self.outboxes.are_empty() || !self.pending.is_empty() || self.hand.is_some() {
+            return None;
+        }
+        self.outboxes.has_each();
+        self.routers.only_sender()
+    }
+
+    /// Takes the current item out of the out queue of the router of the serial, which rests then, and gives its number with it: what the acts
+    /// `SendOut` and `Rest` of the router come to but for the outbox.
+    #[inline(always)]
+    pub fn send_last(&mut self, serial: u64) -> (u64, Item)
+        requires { IsSomeAnd (router_in self.old.node serial) (λ r. is_some (current_item r.out_queue) ≡ true) }
+        ensures node { (r : RouterRecord) → router_in self.old.node serial ≡ Some r →
+            self.new.node ≡ with_router self.old.node serial (rest (pop_out r)) }
+        ensures number { (r : RouterRecord) → router_in self.old.node serial ≡ Some r → result.0 ≡ r.out_queue.current }
+        ensures item { (r : RouterRecord) → router_in self.old.node serial ≡ Some r → Some result.1 ≡ current_item r.out_queue }
+        ensures serials { self.old.node.next_peripheral ≤ no_number }
+    {
+        self.counts_serials();
+        self.routers.send_last(serial)
+    }
+
+    /// Gives an item without ends to the router that has the link at the side, where it comes over its outward edge and the router only rests
+    /// before it and after it. It tells whether it did: `item` counts for nothing then. Else `item` and the node stay as they are, as where
+    /// there is no memory.
+    #[inline(always)]
+    pub fn take_last(&mut self, link: LinkId, side: Side, n: u64, item: &mut Item) -> bool
+        requires { ends_in item.old ≡ [] }
+        ensures taken { result ≡ true → TakesItem self.old.node link side n item.old self.new.node }
+        ensures left { result ≡ false → (item.new ≡ item.old) × (self.new.node ≡ self.old.node) }
+    {
+        self.counts_serials();
+        if n == u64::MAX {
+            return false;
+        }
+        match self.link_serial(link, side) {
+            Some(serial) => self.routers.take_last(serial, link, side, n, item),
+            None => false,
+        }
+    }
+}

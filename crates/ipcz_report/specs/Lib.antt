@@ -1,0 +1,5 @@
+pub mod Faults
+pub mod Judging
+pub mod Outputs
+pub mod Remarks
+pub mod Reports

@@ -1,0 +1,151 @@
+//! What is said of a fault: what is wrong, and what was expected.
+
+use crate::wrong::{Key, Kind, Wanted, Wrong};
+use std::io;
+use std::io::Write;
+
+/// What a script's numbers may be: its nodes, and how many link words it has at least.
+#[derive(Clone, Copy, Debug, PartialEq, Eq)]
+pub struct Bounds {
+    pub nodes: u8,
+    pub least_words: u32,
+}
+
+fn word_of(kind: Kind) -> &'static str {
+    match kind {
+        Kind::Open => "open",
+        Kind::Put => "put",
+        Kind::Get => "get",
+        Kind::Close => "close",
+        Kind::Turn => "turn",
+        Kind::Settle => "settle",
+        Kind::Show => "show",
+    }
+}
+
+// A command of this kind, as it is written.
+fn shape_of(kind: Kind) -> &'static str {
+    match kind {
+        Kind::Open => "[\"open\", node, \"name\", \"name\"]",
+        Kind::Put =>
+            "[\"put\", \"name\", \"data\"] or [\"put\", \"name\", \"data\", [\"name\", ..]]",
+        Kind::Get => "[\"get\", \"name\"]",
+        Kind::Close => "[\"close\", \"name\"]",
+        Kind::Turn => "[\"turn\", node, count]",
+        Kind::Settle => "[\"settle\", limit]",
+        Kind::Show => "[\"show\"]",
+    }
+}
+
+fn name_of(key: Key) -> &'static str {
+    match key {
+        Key::Nodes => "nodes",
+        Key::Words => "words",
+        Key::Commands => "commands",
+    }
+}
+
+// What a member has to be.
+fn push_member(out: &mut Vec<u8>, bounds: Bounds, key: Key) -> io::Result<()> {
+    let least = bounds.least_words;
+    match key {
+        Key::Nodes => write!(out, "a number from 1 to 8"),
+        Key::Words => write!(out, "a number from {least} to 4096"),
+        Key::Commands => write!(out, "a list of commands"),
+    }
+}
+
+// Why a value isn't what it has to be, and what that is.
+fn push_value(out: &mut Vec<u8>, bounds: Bounds, wanted: Wanted) -> io::Result<()> {
+    let last = bounds.nodes.saturating_sub(1);
+    match wanted {
+        Wanted::Node => write!(out, " is no node; expected a number from 0 to {last}"),
+        Wanted::Count => write!(
+            out,
+            " is no count of turns; expected a number from 1 to 1000000"
+        ),
+        Wanted::Limit => write!(out, " is no limit; expected a number from 0 to 1000000"),
+        Wanted::Name => write!(
+            out,
+            " is no name; expected 1 to 16 letters, digits, _ or > in quotes"
+        ),
+        Wanted::PlainName => write!(
+            out,
+            " has a >; expected a name without it, as only first pairs have one"
+        ),
+        Wanted::FreshName => write!(
+            out,
+            " was opened before; expected a name that no command before it opens"
+        ),
+        Wanted::Data => write!(out, " is no data; expected a text in quotes"),
+        Wanted::List => write!(out, " is no list; expected a list of names"),
+    }
+}
+
+/// Writes what is wrong, and behind a semicolon what was expected. `shown` is what stands at the place.
+pub fn push_wrong(out: &mut Vec<u8>, bounds: Bounds, shown: &[u8], wrong: Wrong) -> io::Result<()> {
+    match wrong {
+        Wrong::NoObject => {
+            write!(
+                out,
+                "the script is no object; expected one with the members nodes, words and commands"
+            )
+        }
+        Wrong::Missing(key) => {
+            let name = name_of(key);
+            write!(out, "the member {name} is missing; expected ")?;
+            push_member(out, bounds, key)
+        }
+        Wrong::Member(key) => {
+            let name = name_of(key);
+            write!(out, "{name} is ")?;
+            out.write_all(shown)?;
+            write!(out, "; expected ")?;
+            push_member(out, bounds, key)
+        }
+        Wrong::Extra => {
+            write!(out, "unknown member ")?;
+            out.write_all(shown)?;
+            write!(out, "; expected nodes, words and commands only")
+        }
+        Wrong::NoList => {
+            out.write_all(shown)?;
+            write!(out, " is no command; expected a list such as [\"show\"]")
+        }
+        Wrong::NoWord => {
+            write!(
+                out,
+                "the command begins with no word; expected open, put, get, close, turn, settle or show"
+            )
+        }
+        Wrong::UnknownWord => {
+            write!(out, "unknown command ")?;
+            out.write_all(shown)?;
+            write!(
+                out,
+                "; expected open, put, get, close, turn, settle or show"
+            )
+        }
+        Wrong::Number(kind) => {
+            let word = word_of(kind);
+            let shape = shape_of(kind);
+            write!(
+                out,
+                "too few or too many values behind {word}; expected {shape}"
+            )
+        }
+        Wrong::Value { wanted, .. } => {
+            out.write_all(shown)?;
+            push_value(out, bounds, wanted)
+        }
+        Wrong::Item { .. } => {
+            out.write_all(shown)?;
+            push_value(out, bounds, Wanted::Name)
+        }
+        Wrong::SameNames => {
+            write!(out, "both names are ")?;
+            out.write_all(shown)?;
+            write!(out, "; expected two that differ")
+        }
+    }
+}

@@ -1,0 +1,90 @@
+//! A lone parcel: whether its routers have nothing else to do, and how it leaves one of them.
+
+ghost use Rattle.std.specs.Prelude.{◌≡◌, ◌<◌, Some, true, false, nat_eq, length, is_some, IfSome};
+ghost use Rattle.ipcz_base.specs.Items.{ends_in};
+ghost use Rattle.ipcz_base.specs.Limits.{no_number};
+ghost use Rattle.ipcz_seq.specs.Queue.{current_item};
+ghost use Rattle.ipcz_router.specs.RoomyRouters.{LeavesRoom};
+ghost use Rattle.ipcz_router.specs.Acts.{item_passes, pop_out, rest};
+ghost use Rattle.ipcz_router.specs.Lone.{SendsLast, TakesLast, is_settled, is_still};
+
+use super::Router;
+use ipcz_base::{Item, LinkEnd, LinkId, Side};
+
+impl Router {
+    /// The link that the current item of the out queue goes over, where it has come, carries no ends, and is all that an open terminal has to
+    /// do before it rests. None may be answered where it is so, too: behind a gap in the out queue, say.
+    #[inline(always)]
+    #[tactic(auto, using(crate::proofs::LoneRouters::sends_last))]
+    pub fn last_way(&self) -> Option<LinkEnd>
+        ensures { IfSome result (λ link. SendsLast self.now.router link) }
+    {
+        if self.out_queue.len() != 1 || !self.is_settled() || !self.sends_alone() {
+            return None;
+        }
+        self.outward.primary()
+    }
+
+    /// Whether it is an open terminal that only rests, whatever comes into its in queue.
+    #[inline(always)]
+    pub fn is_still(&self) -> bool
+        ensures { result ≡ is_still self.now.router }
+    {
+        self.is_settled() && self.out_queue.next().is_none()
+    }
+
+    // The same but for sends outward.
+    #[inline(always)]
+    fn is_settled(&self) -> bool
+        ensures { result ≡ is_settled self.now.router }
+    {
+        self.inward.is_none()
+            && !self.closed
+            && !self.outward.decays()
+            && (self.marked || !self.is_on_central())
+            && !self.wake_owed
+    }
+
+    // Whether the current item of the out queue has come and carries no ends.
+    #[inline(always)]
+    #[tactic(auto, unfolding(crate::specs::Acts::item_passes))]
+    fn sends_alone(&self) -> bool
+        ensures { result ≡ item_passes (λ item. nat_eq (length (ends_in item)) 0) (current_item self.now.router.out_queue) }
+    {
+        match self.out_queue.next() {
+            Some(Item::Parcel(parcel)) => parcel.ends.is_empty(),
+            Some(Item::Mark | Item::Gone) => true,
+            None => false,
+        }
+    }
+
+    /// Takes the current item of the out queue out, and rests.
+    #[inline(always)]
+    pub fn send_last(&mut self) -> Item
+        requires { is_some (current_item self.old.router.out_queue) ≡ true }
+        ensures router { self.new.router ≡ rest (pop_out self.old.router) }
+        ensures item { Some result ≡ current_item self.old.router.out_queue }
+        ensures room { LeavesRoom self.old self.new 0 0 }
+    {
+        let Some(item) = self.pop_out() else {
+            unreachable!()
+        };
+        self.flagged = false;
+        item
+    }
+
+    /// Takes an item that came over a link and rests, where this router only rests and its outward edge has the link at
+    /// the side. It tells whether it did: `item` counts for nothing then. Else `item` and the router stay as they are.
+    #[inline(always)]
+    pub fn take_last(&mut self, link: LinkId, side: Side, n: u64, item: &mut Item) -> bool
+        requires { n < no_number }
+        ensures taken { result ≡ true → TakesLast self.old.router link side n item.old self.new.router }
+        ensures left { result ≡ false → (item.new ≡ item.old) × (self.new.router ≡ self.old.router) }
+    {
+        if !self.is_still() || !self.outward.has(link, side) || self.take_in(n, item).is_err() {
+            return false;
+        }
+        self.flagged = false;
+        true
+    }
+}

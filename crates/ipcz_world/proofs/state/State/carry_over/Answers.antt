@@ -1,0 +1,179 @@
+use Rattle.std.proofs.Common.{◌≡◌, ◌∙◌, ◌≤◌, ℕ, true, false, cond, nat_eq, Some, [], ap, sym, subst, arith}
+use Rattle.std.specs.Prelude.{IsSomeAnd, is_some}
+use Rattle.std.proofs.lemmas.Bool.Decides.{nat_tests}
+use Rattle.ipcz_base.specs.Limits.{no_number}
+use Rattle.ipcz_base.specs.declared.message.Message.TheVariants as messages
+use Rattle.ipcz_base.proofs.Indexed.{place_at-put_place}
+use Rattle.ipcz_router.specs.Acts.{pop_out, rest}
+use Rattle.ipcz_node.specs.Lone.{TakesItem}
+use Rattle.ipcz_world.proofs.Vocabulary.{Item, Node, Router, World, bare_node, current_item, ends_in, mail_at, node_at, opposite, place_at, put_place}
+use Rattle.ipcz_world.proofs.Vocabulary.{LinkEnd, router_in, set_mail, set_node, with_router}
+use Rattle.ipcz_world.specs.Carrying.{IsLone, with_hand}
+use Rattle.ipcz_world.specs.Taking.{IsRegular}
+use Rattle.ipcz_world.specs.Settling.{next_node}
+use Rattle.ipcz_world.specs.Visiting.{Walk}
+use Rattle.ipcz_world.specs.contracts.state.State.{the_view}
+use Rattle.ipcz_world.proofs.code.Carrying.{carried, left, sent}
+use Rattle.ipcz_world.proofs.code.LoneWorlds.{quiet_is}
+use Rattle.ipcz_world.proofs.code.Slots.{length-put}
+use Rattle.ipcz_world.proofs.code.Visiting.{OnWay, on_way-start, walked}
+use Rattle.ipcz_world.proofs.acts.Updating.{node-here}
+use Rattle.ipcz_world.proofs.state.State.carry_over.Goals as goal
+
+-- what the sender gives, as it is found
+module _ (w : World) (n serial : ℕ) (link : LinkEnd) (lone : IsLone w n serial link) (old x : Node) (number : ℕ) (item : Item)
+    (same : old ≡ node_at w n) (node : (r : Router) → router_in old serial ≡ Some r → x ≡ with_router old serial (rest (pop_out r)))
+    (numbered : (r : Router) → router_in old serial ≡ Some r → number ≡ r.out_queue.current)
+    (held : (r : Router) → router_in old serial ≡ Some r → Some item ≡ current_item r.out_queue) where
+  abbrev r0 : Router
+  r0 = lone.sends.sender.router
+
+  here : router_in old serial ≡ Some r0
+  here = ap (λ x. router_in x serial) same ∙ lone.sends.sender.here
+
+  sender-is : x ≡ with_router (node_at w n) serial (rest (pop_out r0))
+  sender-is = node r0 here ∙ ap (λ y. with_router y serial (rest (pop_out r0))) same
+
+  number-is : number ≡ r0.out_queue.current
+  number-is = numbered r0 here
+
+  item-is : item ≡ lone.sends.sender.sends.item
+  item-is = let both : Some item ≡ Some lone.sends.sender.sends.item = held r0 here ∙ lone.sends.sender.sends.current in cc
+
+-- the taker, as it is found behind the sender
+taker-is : (w : World) (n m : ℕ) (x old : Node) → (n ≡ m → ⊥) → old ≡ place_at (bare_node 0 0) (put_place (bare_node 0 0) w.nodes n x) m →
+    old ≡ node_at w m
+unfolding node_at
+taker-is w n m x old apart is =
+    let other : nat_eq m n ≡ false = grind (arith, apart, nat_tests) in
+    is ∙ place_at-put_place (bare_node 0 0) w.nodes n x m ∙ ap (λ c. cond c x (place_at (bare_node 0 0) w.nodes m)) other
+
+-- and as it is written
+taker-written : (w : World) (n m : ℕ) (x y : Node) → node_at (set_node (set_node w n x) m y) m ≡ y
+taker-written w n m x y = node-here (set_node w n x) m y
+
+pub send_last-number-requires : goal.send_last-number-requires
+unfolding node_at
+send_last-number-requires c =
+    let lone = subst (λ w. IsLone w c.args.n c.args.serial c.args.link) (sym c.self.view_is) c.requires.lone in
+    let sender = lone.sends.sender in
+    subst (λ x. IsSomeAnd (router_in x c.args.serial) (λ (r : Router). is_some (current_item r.out_queue) ≡ true)) (sym c.node_mut.ensures.value)
+    (subst (λ o. IsSomeAnd o (λ (r : Router). is_some (current_item r.out_queue) ≡ true)) (sym sender.here) (ap is_some sender.sends.current))
+
+pub node_mut-requires-2 : goal.node_mut-requires-2
+node_mut-requires-2 c =
+    let lone = subst (λ w. IsLone w c.args.n c.args.serial c.args.link) (sym c.self.view_is) c.requires.lone in
+    let has = (subst IsRegular (sym c.self.view_is) c.requires.regular).lengths in
+    omega (
+      arith,
+      lone.here,
+      lone.there,
+      has.nodes,
+      length-put (bare_node 0 0) c.self.inside.nodes c.args.n c.send_last-number.new.self.node (omega (arith, lone.here, has.nodes)),
+    )
+
+pub take_last-requires : goal.take_last-requires
+unfolding node_at
+take_last-requires c =
+    let lone = subst (λ w. IsLone w c.args.n c.args.serial c.args.link) (sym c.self.view_is) c.requires.lone in
+    ap ends_in (item-is _ c.args.n c.args.serial c.args.link lone _ _ _ _ c.node_mut.ensures.value c.send_last-number.ensures.node
+    c.send_last-number.ensures.number c.send_last-number.ensures.item) ∙ lone.sends.sender.sends.alone
+
+pub returns-then-take_last-clause-walk : goal.returns-then-take_last-clause-walk
+unfolding node_at set_node
+returns-then-take_last-clause-walk c =
+    let v = the_view c.self.inside in
+    let n = c.args.n in
+    let link = c.args.link in
+    let lone = subst (λ w. IsLone w n c.args.serial link) (sym c.self.view_is) c.requires.lone in
+    let regular = subst IsRegular (sym c.self.view_is) c.requires.regular in
+    let sent = c.send_last-number.ensures in
+    let x = c.send_last-number.new.self.node in
+    let y = c.take_last.new.self.node in
+    let sender = sender-is v n c.args.serial link lone _ x _ _ c.node_mut.ensures.value sent.node sent.number sent.item in
+    let number = number-is v n c.args.serial link lone _ x _ _ c.node_mut.ensures.value sent.node sent.number sent.item in
+    let item = item-is v n c.args.serial link lone _ x _ _ c.node_mut.ensures.value sent.node sent.number sent.item in
+    let taker = taker-is v n link.other x c.node_mut-2.result.now.node lone.apart c.node_mut-2.ensures.value in
+    let low = subst (λ (z : Node). z.next_peripheral ≤ no_number) c.node_mut.ensures.value sent.serials in
+    let takes = subst (λ z. TakesItem z link.link (opposite link.side) lone.sends.sender.router.out_queue.current lone.sends.sender.sends.item y) taker
+    (subst (λ z. TakesItem c.node_mut-2.result.now.node link.link (opposite link.side) lone.sends.sender.router.out_queue.current z y) item
+    (subst (λ z. TakesItem c.node_mut-2.result.now.node link.link (opposite link.side) z c.send_last-number.result.1 y) number
+    (subst (λ z. TakesItem c.node_mut-2.result.now.node link.link z c.send_last-number.result.0 c.send_last-number.result.1 y)
+    c.opposite-side.ensures (c.take_last.ensures.taken c.if-take_last.true)))) in
+    let on = carried v n c.args.serial link regular lone low y takes (on_way-start v) in
+    subst (λ w. Walk w (set_node (set_node v n x) link.other y) 6 c.next_node.result) c.self.view_is
+    (subst (λ k. Walk v (set_node (set_node v n x) link.other y) 6 k) (sym c.next_node.ensures)
+    (walked v (set_node (set_node v n x) link.other y) 6 (next_node v link.other)
+    (subst (λ z. OnWay v 6 (set_node (set_node v n z) link.other y) (next_node v link.other)) (sym sender) on)))
+
+pub leave_in_hand-requires-clause-lengths : goal.leave_in_hand-requires-clause-lengths
+leave_in_hand-requires-clause-lengths c =
+    let lone = subst (λ w. IsLone w c.args.n c.args.serial c.args.link) (sym c.self.view_is) c.requires.lone in
+    let has = (subst IsRegular (sym c.self.view_is) c.requires.regular).lengths in
+    let first = length-put (bare_node 0 0) c.self.inside.nodes c.args.n c.send_last-number.new.self.node (omega (arith, lone.here, has.nodes)) in
+    record {
+      nodes = omega (
+        arith,
+        first,
+        has.nodes,
+        lone.there,
+        length-put (bare_node 0 0) (put_place (bare_node 0 0) c.self.inside.nodes c.args.n c.send_last-number.new.self.node) c.args.link.other
+            c.take_last.new.self.node (omega (arith, first, lone.there, has.nodes)),
+      );
+      words = has.words;
+      mail = has.mail;
+      claimed = has.claimed;
+      few = has.few;
+    }
+
+pub leave_in_hand-requires-clause-hand : goal.leave_in_hand-requires-clause-hand
+unfolding set_node
+leave_in_hand-requires-clause-hand c =
+    let v = the_view c.self.inside in
+    let lone = subst (λ w. IsLone w c.args.n c.args.serial c.args.link) (sym c.self.view_is) c.requires.lone in
+    let taker = taker-is v c.args.n c.args.link.other c.send_last-number.new.self.node c.node_mut-2.result.now.node lone.apart
+    c.node_mut-2.ensures.value in
+    ap (λ (z : Node). z.hand) (taker-written v c.args.n c.args.link.other c.send_last-number.new.self.node c.take_last.new.self.node
+    ∙ (c.take_last.ensures.left c.if-take_last.false).1 ∙ taker)
+    ∙ (quiet_is (node_at v c.args.link.other) (lone.others c.args.link.other lone.there (λ e. lone.apart (sym e)))).hand
+
+pub leave_in_hand-requires-clause-clear : goal.leave_in_hand-requires-clause-clear
+unfolding mail_at
+leave_in_hand-requires-clause-clear c =
+    (subst (λ w. IsLone w c.args.n c.args.serial c.args.link) (sym c.self.view_is) c.requires.lone).box
+
+pub next_node-requires-2 : goal.next_node-requires-2
+unfolding set_node set_mail
+next_node-requires-2 c =
+    let lone = subst (λ w. IsLone w c.args.n c.args.serial c.args.link) (sym c.self.view_is) c.requires.lone in
+    let same = ap (λ (w : World). w.count) c.leave_in_hand.ensures in
+    record { node = omega (arith, lone.here, same) }
+
+pub returns-clause-walk : goal.returns-clause-walk
+unfolding node_at set_node set_mail
+returns-clause-walk c =
+    let v = the_view c.self.inside in
+    let n = c.args.n in
+    let link = c.args.link in
+    let lone = subst (λ w. IsLone w n c.args.serial link) (sym c.self.view_is) c.requires.lone in
+    let regular = subst IsRegular (sym c.self.view_is) c.requires.regular in
+    let given = c.send_last-number.ensures in
+    let x = c.send_last-number.new.self.node in
+    let y = c.take_last.new.self.node in
+    let sender = sender-is v n c.args.serial link lone _ x _ _ c.node_mut.ensures.value given.node given.number given.item in
+    let number = number-is v n c.args.serial link lone _ x _ _ c.node_mut.ensures.value given.node given.number given.item in
+    let item = item-is v n c.args.serial link lone _ x _ _ c.node_mut.ensures.value given.node given.number given.item in
+    let kept = c.take_last.ensures.left c.if-take_last.false in
+    let taker = kept.1 ∙ taker-is v n link.other x c.node_mut-2.result.now.node lone.apart c.node_mut-2.ensures.value in
+    let low = subst (λ (z : Node). z.next_peripheral ≤ no_number) c.node_mut.ensures.value given.serials in
+    let on = sent v n c.args.serial link regular lone low (on_way-start v) in
+    let world = c.leave_in_hand.ensures
+    ∙ ap (λ k. with_hand (set_node (set_node v n x) link.other y) n link.other
+    (messages.Item link.link (opposite link.side) k c.take_last.new.item [])) number
+    ∙ ap (λ i. with_hand (set_node (set_node v n x) link.other y) n link.other
+    (messages.Item link.link (opposite link.side) lone.sends.sender.router.out_queue.current i [])) (kept.0 ∙ item)
+    ∙ left v n c.args.serial link regular lone low x y sender taker in
+    let next = c.next_node-2.ensures ∙ ap (λ w. next_node w n) world in
+    subst (λ w. Walk w c.leave_in_hand.new.self 4 c.next_node-2.result) c.self.view_is
+    (subst (λ k. Walk v c.leave_in_hand.new.self 4 k) (sym next)
+    (subst (λ u. Walk v u 4 (next_node v n)) (sym world) (walked v _ 4 (next_node v n) on)))

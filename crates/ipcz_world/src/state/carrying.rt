@@ -1,0 +1,139 @@
+//! A lone parcel: where it is all that the world has to do, it is carried all its way in one go.
+
+ghost use Rattle.std.specs.Prelude.{◌≡◌, ◌≤◌, ◌<◌, ◌+◌, [], None, IfSome, IfNone};
+ghost use Rattle.ipcz_base.specs.Sides.{opposite};
+ghost use Rattle.ipcz_world.specs.Carrying.{AreQuiet, IsLone, with_hand};
+ghost use Rattle.ipcz_world.specs.Soundness.{HasLengths};
+ghost use Rattle.ipcz_world.specs.World.{node_at, mail_at, way};
+ghost use Rattle.ipcz_world.specs.Taking.{IsRegular};
+ghost use Rattle.ipcz_world.specs.Visiting.{IsPlace, Walk};
+
+use crate::mail::Mail;
+use crate::state::State;
+use ipcz_base::{Item, LinkEnd, Message, Moves};
+
+impl State {
+    /// Carries a lone parcel all its way, as its six acts do: a send out, a post, a look, a hand, and a rest of each router. It gives how many
+    /// acts that was, `most` at most, and the node that is visited next. Where there is no memory for the parcel at its receiver it stays in
+    /// hand there, behind four acts. Where the parcel isn't all that the world has to do, nothing is done.
+    #[inline(never)]
+    pub(crate) fn carry(&mut self, most: u64) -> (u64, u8)
+        requires { IsRegular self.old }
+        ensures walk { Walk self.old self.new result.0 result.1 }
+        ensures place { IsPlace self.new result.1 }
+        ensures within { result.0 ≤ most }
+    {
+        if most < 6 || self.count < 2 {
+            return (0, 0);
+        }
+        match self.lone_parcel() {
+            Some((n, serial, link)) => self.carry_over(n, serial, link),
+            None => (0, 0),
+        }
+    }
+
+    // Carries a lone parcel over its link.
+    #[inline(always)]
+    fn carry_over(&mut self, n: u8, serial: u64, link: LinkEnd) -> (u64, u8)
+        requires regular { IsRegular self.old }
+        requires lone { IsLone self.old n serial link }
+        ensures walk { Walk self.old self.new result.0 result.1 }
+        ensures place { IsPlace self.new result.1 }
+        ensures within { result.0 ≤ 6 }
+    {
+        let (number, sent) = self.nodes.node_mut(n).send_last(serial);
+        let mut item = sent;
+        let side = link.side.opposite();
+        if self
+            .nodes
+            .node_mut(link.other)
+            .take_last(link.link, side, number, &mut item)
+        {
+            return (6, self.next_node(link.other));
+        }
+        self.leave_in_hand(n, link, number, item);
+        (4, self.next_node(n))
+    }
+
+    // Leaves an item without ends in the hand of the node at the other end of its link.
+    #[cold]
+    #[inline(never)]
+    fn leave_in_hand(&mut self, n: u8, link: LinkEnd, number: u64, item: Item)
+        requires lengths { HasLengths self.old }
+        requires here { n < self.old.count }
+        requires there { link.other < self.old.count }
+        requires hand { (node_at self.old link.other).hand ≡ None }
+        requires clear { mail_at self.old (way self.old n link.other) ≡ Mail.Empty }
+        ensures { self.new ≡ with_hand self.old n link.other (Message.Item link.link (opposite link.side) number item []) }
+    {
+        let place = self.way(n, link.other);
+        self.nodes.node_mut(link.other).look(n);
+        let message = Message::Item {
+            link: link.link,
+            side: link.side.opposite(),
+            n: number,
+            item,
+            moves: Moves::from_vec(Vec::new(self.alloc)),
+        };
+        self.mail.put_back(place, message);
+    }
+
+    // The node that alone isn't quiet, with the router that sends and the link that it sends over, where that is a lone parcel for another
+    // node.
+    #[inline(always)]
+    fn lone_parcel(&self) -> Option<(u8, u64, LinkEnd)>
+        requires { IsRegular self.now }
+        ensures { IfSome result (λ p. IsLone self.now p.0 p.1 p.2) }
+    {
+        if self.mail.has_full() {
+            return None;
+        }
+        let Some(n) = self.lone_node() else {
+            return None;
+        };
+        let Some((serial, link)) = self.nodes.node(n).only_sender() else {
+            return None;
+        };
+        if link.other == n
+            || link.other >= self.count
+            || !self.mail.is_clear(self.way(n, link.other))
+        {
+            return None;
+        }
+        Some((n, serial, link))
+    }
+
+    // The node that alone isn't quiet, where there is one.
+    #[inline(always)]
+    fn lone_node(&self) -> Option<u8>
+        requires { IsRegular self.now }
+        ensures here { IfSome result (λ n. n < self.now.count) }
+        ensures before { IfSome result (λ n. AreQuiet self.now 0 n) }
+        ensures behind { IfSome result (λ n. AreQuiet self.now (n + 1) self.now.count) }
+    {
+        let Some(n) = self.first_not_quiet(0) else {
+            return None;
+        };
+        match self.first_not_quiet(n + 1) {
+            Some(_) => None,
+            None => Some(n),
+        }
+    }
+
+    // The first node from one number on that isn't quiet.
+    #[inline(always)]
+    #[tactic(auto, unfolding(crate::specs::World::node_at))]
+    fn first_not_quiet(&self, from: u8) -> Option<u8>
+        requires { IsRegular self.now }
+        ensures here { IfSome result (λ n. n < self.now.count) }
+        ensures before { IfSome result (λ n. AreQuiet self.now from n) }
+        ensures none { IfNone result (AreQuiet self.now from self.now.count) }
+    {
+        for n in from..self.count {
+            if !self.nodes.node(n).quiet() {
+                return Some(n);
+            }
+        }
+        None
+    }
+}
