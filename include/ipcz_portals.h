@@ -77,7 +77,8 @@ enum {
 
 #define IPCZ_MAX_NODES 8
 #define IPCZ_MAX_WORDS 4096
-#define IPCZ_MAX_BYTES 256  /* of a parcel */
+#define IPCZ_MAX_BYTES 256  /* of a parcel, each from 0x20 to 0x7E */
+#define IPCZ_MAX_WIDE_BYTES 65536  /* of a wide parcel, each of any value */
 #define IPCZ_MAX_PORTALS 8  /* of a parcel */
 
 /* Makes a world.
@@ -101,9 +102,14 @@ ipcz_status ipcz_open(ipcz_world *world, uint8_t node, ipcz_portal *first, ipcz_
 ipcz_status ipcz_put_parcel(ipcz_world *world, uint8_t node, ipcz_portal at, const uint8_t *bytes, size_t size,
                             const ipcz_portal *portals, size_t count, uint64_t *number);
 
+/* The same of a wide parcel: what ipcz_put_wide calls. */
+ipcz_status ipcz_put_wide_parcel(ipcz_world *world, uint8_t node, ipcz_portal at, const uint8_t *bytes, size_t size,
+                                 const ipcz_portal *portals, size_t count, uint64_t *number);
+
 /* Gets the next parcel that has come to a portal.
  *   at           a portal of the node
- *   bytes, room  where the bytes are written, and how many may be: IPCZ_MAX_BYTES are always enough
+ *   bytes, room  where the bytes are written, and how many may be: IPCZ_MAX_BYTES are enough for what
+ *                ipcz_put puts, and IPCZ_MAX_WIDE_BYTES for all
  *   size         how many bytes the parcel has
  *   portals, portal_room  where its portals are written, and how many may be: IPCZ_MAX_PORTALS are always enough. They are the node's now
  *   count        how many portals it has
@@ -149,6 +155,15 @@ static inline ipcz_status ipcz_put(ipcz_world *world, uint8_t node, ipcz_portal 
     static const ipcz_portal nothing = { 0, false };
     return ipcz_put_parcel(world, node, at, size ? (const uint8_t *)bytes : (const uint8_t *)&nothing, size,
                            count ? portals : &nothing, count, number);
+}
+
+/* Puts a wide parcel: of up to IPCZ_MAX_WIDE_BYTES bytes of any value, so that IPCZ_BAD_DATA is never answered. All else is as for
+ * ipcz_put. */
+static inline ipcz_status ipcz_put_wide(ipcz_world *world, uint8_t node, ipcz_portal at, const void *bytes, size_t size,
+                                        const ipcz_portal *portals, size_t count, uint64_t *number) {
+    static const ipcz_portal nothing = { 0, false };
+    return ipcz_put_wide_parcel(world, node, at, size ? (const uint8_t *)bytes : (const uint8_t *)&nothing, size,
+                                count ? portals : &nothing, count, number);
 }
 
 /* The portal that a node has from the start of the pair that it shares with another; both are below nodes, and not the same. */

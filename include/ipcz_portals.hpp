@@ -65,16 +65,26 @@ class World {
         return number;
     }
 
+    // Of a wide parcel.
+    std::uint64_t put_wide(std::uint8_t node, Portal at, const std::string &bytes, const std::vector<Portal> &portals = {}) {
+        std::uint64_t number = 0;
+        check(::ipcz_put_wide(&world_, node, at, bytes.data(), bytes.size(), portals.data(), portals.size(), &number));
+        return number;
+    }
+
     // Whether a parcel had come.
     bool get(std::uint8_t node, Portal at, Parcel &parcel) {
-        std::uint8_t bytes[IPCZ_MAX_BYTES];
         Portal portals[IPCZ_MAX_PORTALS];
-        std::size_t size = 0, count = 0;
-        const ipcz_status status =
-            ::ipcz_get(&world_, node, at, bytes, sizeof bytes, &size, portals, IPCZ_MAX_PORTALS, &count, &parcel.number);
+        std::size_t size = IPCZ_MAX_BYTES, count = 0;
+        ipcz_status status;
+        do {
+            parcel.bytes.resize(size);
+            status = ::ipcz_get(&world_, node, at, reinterpret_cast<std::uint8_t *>(&parcel.bytes[0]), parcel.bytes.size(), &size, portals,
+                                IPCZ_MAX_PORTALS, &count, &parcel.number);
+        } while (status == IPCZ_TOO_SMALL);
         if (status == IPCZ_EMPTY) return false;
         check(status);
-        parcel.bytes.assign(bytes, bytes + size);
+        parcel.bytes.resize(size);
         parcel.portals.assign(portals, portals + count);
         return true;
     }

@@ -28,8 +28,11 @@ int main() {
     if (!world.get(1, right, got)) return 1;
     std::cout << got.bytes << ", " << got.portals.size() << " with it\n";
     const auto sent = got.portals.at(0);
+    const std::string wide(1000, '\0');
+    world.put_wide(0, left, wide);
     world.put(0, kept, "over it");
     world.settle(1000);
+    if (!world.get(1, right, got) || got.bytes != wide) return 1;
     if (!world.get(1, sent, got)) return 1;
     std::cout << got.number << ": " << got.bytes << '\n';
     try {

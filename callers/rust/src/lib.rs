@@ -10,6 +10,7 @@ use std::fmt;
 pub use raw::Portal;
 
 const MAX_BYTES: usize = 256;
+const TOO_SMALL: u32 = 100;
 const MAX_PORTALS: usize = 8;
 const NOWHERE: Portal = Portal {
     pair: 0,
@@ -137,26 +138,58 @@ impl World {
         Ok(number)
     }
 
-    pub fn get(&mut self, node: u8, at: Portal) -> Result<Parcel, Refused> {
-        let (mut bytes, mut portals, mut size, mut count, mut number) =
-            ([0; MAX_BYTES], [NOWHERE; MAX_PORTALS], 0, 0, 0);
+    /// Puts a parcel of up to 65,536 bytes of any value.
+    pub fn put_wide(
+        &mut self,
+        node: u8,
+        at: Portal,
+        bytes: &[u8],
+        portals: &[Portal],
+    ) -> Result<u64, Refused> {
+        let mut number = 0;
         answer(unsafe {
-            raw::ipcz_get(
+            raw::ipcz_put_wide_parcel(
                 &mut self.0,
                 node,
                 at,
-                bytes.as_mut_ptr(),
-                MAX_BYTES,
-                &mut size,
-                portals.as_mut_ptr(),
-                MAX_PORTALS,
-                &mut count,
+                bytes.as_ptr(),
+                bytes.len(),
+                portals.as_ptr(),
+                portals.len(),
                 &mut number,
             )
         })?;
+        Ok(number)
+    }
+
+    pub fn get(&mut self, node: u8, at: Portal) -> Result<Parcel, Refused> {
+        let mut bytes = vec![0; MAX_BYTES];
+        let (mut portals, mut size, mut count, mut number) = ([NOWHERE; MAX_PORTALS], 0, 0, 0);
+        loop {
+            let status = unsafe {
+                raw::ipcz_get(
+                    &mut self.0,
+                    node,
+                    at,
+                    bytes.as_mut_ptr(),
+                    bytes.len(),
+                    &mut size,
+                    portals.as_mut_ptr(),
+                    MAX_PORTALS,
+                    &mut count,
+                    &mut number,
+                )
+            };
+            if status != TOO_SMALL {
+                answer(status)?;
+                break;
+            }
+            bytes.resize(size, 0);
+        }
+        bytes.truncate(size);
         Ok(Parcel {
             number,
-            bytes: bytes[..size].to_vec(),
+            bytes,
             portals: portals[..count].to_vec(),
         })
     }

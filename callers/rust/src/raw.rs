@@ -35,6 +35,16 @@ unsafe extern "C" {
         count: usize,
         number: *mut u64,
     ) -> u32;
+    pub fn ipcz_put_wide_parcel(
+        world: *mut Handle,
+        node: u8,
+        at: Portal,
+        bytes: *const u8,
+        size: usize,
+        portals: *const Portal,
+        count: usize,
+        number: *mut u64,
+    ) -> u32;
     pub fn ipcz_get(
         world: *mut Handle,
         node: u8,

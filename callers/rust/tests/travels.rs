@@ -74,6 +74,20 @@ fn limits_are_refused() -> Result<(), Refused> {
 }
 
 #[test]
+fn wide_parcels_have_any_bytes() -> Result<(), Refused> {
+    let mut world = World::new(2, 1)?;
+    let bytes: Vec<u8> = (0..65_536_u32).map(|i| (i % 256) as u8).collect();
+    assert_eq!(world.put_wide(0, left(), &bytes, &[]), Ok(0));
+    assert_eq!(
+        world.put_wide(0, left(), &[0; 65_537], &[]),
+        Err(Refused::TooMany)
+    );
+    world.settle(1000)?;
+    assert_eq!(world.get(1, right())?.bytes, bytes);
+    Ok(())
+}
+
+#[test]
 fn first_portals_are_their_nodes() -> Result<(), Refused> {
     let mut world = World::new(8, 28)?;
     for node in 0..8 {

@@ -2,12 +2,13 @@
 use Rattle.std.specs.Prelude.{◌≡◌, ◌⊎◌, ℕ, Bool, ◌&&◌, nat_le, if◌then◌else◌, Option, Some, None, IfSome, IsSomeAnd, List, Result, IfOk, IfErr}
 use Rattle.ipcz_base.specs.declared.end.End.{End}
 use Rattle.ipcz_base.specs.declared.parcel.Sizes.{Sizes}
+use Rattle.ipcz_base.specs.declared.profile.Profile.{Profile}
 use Rattle.ipcz_base.specs.declared.refusal.Refusal.{Refusal}
 use Rattle.ipcz_base.specs.declared.refusal.Refusal.TheVariants.{OutOfMemory}
 use Rattle.ipcz_base.specs.Refusals.{code_of}
 use Rattle.ipcz_node.specs.FirstPairs.{first_pair_count}
 use Rattle.ipcz_world.specs.World.{World, node_limit, word_limit, new_world}
-use Rattle.ipcz_world.specs.Steps.{StepFirst, next_sizes}
+use Rattle.ipcz_world.specs.Steps.{StepFirst, next_sizes, put_of}
 use Rattle.ipcz_world.specs.Books.{Books, advance}
 use Rattle.ipcz_world.specs.Routes.{Routes, routes_after}
 use Rattle.ipcz_world.specs.Lawful.{Lawful}
@@ -64,9 +65,9 @@ Opens old node status old_first old_second first second new =
     Answers (λ reply. AreOpened reply old_first old_second first second) old (steps.Open node) status new
 
 -- a put; where no memory is found for its lists no step is taken
-abbrev pub Puts : Option World → ℕ → Portal → List ℕ → List Portal → ℕ → ℕ → ℕ → Option World → Type 0
-Puts old node at bytes portals status old_number number new =
-    Answers (λ reply. IsPut reply old_number number) old (steps.Put node (named at) bytes (ends_of portals)) status new
+abbrev pub Puts : Profile → Option World → ℕ → Portal → List ℕ → List Portal → ℕ → ℕ → ℕ → Option World → Type 0
+Puts profile old node at bytes portals status old_number number new =
+    Answers (λ reply. IsPut reply old_number number) old (put_of profile node (named at) bytes (ends_of portals)) status new
     ⊎ (IsRefused (code_of OutOfMemory) old status new × (number ≡ old_number))
 
 -- the sizes of the parcel that a get of a handle's world would give, where it wouldn't be refused

@@ -15,7 +15,7 @@ use crate::making::{are_within, boxed_world, lists_of};
 use crate::portal::Portal;
 use crate::status::{ALREADY_CREATED, NOT_CREATED, TOO_SMALL, refused, status};
 use crate::tell::{lacking, tell_got, tell_opened, tell_put, tell_settled};
-use ipcz_base::Refusal;
+use ipcz_base::{Profile, Refusal};
 use ipcz_world::Step;
 use std::alloc::Global;
 
@@ -74,7 +74,7 @@ pub extern "C" fn ipcz_open(
     status(&reply)
 }
 
-/// Puts a parcel at a portal of a node: these bytes, and these portals of the node.
+/// Puts a parcel of printed bytes at a portal of a node: these bytes, and these portals of the node.
 #[unsafe(no_mangle)]
 pub extern "C" fn ipcz_put_parcel(
     alloc: Global,
@@ -86,7 +86,52 @@ pub extern "C" fn ipcz_put_parcel(
     number: &mut u64,
 ) -> u32
     ensures did { IsSome of.old.held.world →
-        Puts of.old.held.world node at bytes.now portals.now result number.old number.new of.new.held.world }
+        Puts Profile.Printed of.old.held.world node at bytes.now portals.now result number.old number.new of.new.held.world }
+    ensures none { IsNone of.old.held.world → IsRefused not_created of.old.held.world result of.new.held.world × (number.new ≡ number.old) }
+{
+    put_as(
+        alloc,
+        Profile::Printed,
+        of,
+        node,
+        at,
+        bytes,
+        portals,
+        number,
+    )
+}
+
+/// Puts a parcel of up to 65,536 bytes of any value.
+#[unsafe(no_mangle)]
+pub extern "C" fn ipcz_put_wide_parcel(
+    alloc: Global,
+    of: &mut Handle,
+    node: u8,
+    at: Portal,
+    bytes: &[u8],
+    portals: &[Portal],
+    number: &mut u64,
+) -> u32
+    ensures did { IsSome of.old.held.world →
+        Puts Profile.Wide of.old.held.world node at bytes.now portals.now result number.old number.new of.new.held.world }
+    ensures none { IsNone of.old.held.world → IsRefused not_created of.old.held.world result of.new.held.world × (number.new ≡ number.old) }
+{
+    put_as(alloc, Profile::Wide, of, node, at, bytes, portals, number)
+}
+
+// Puts a parcel of a profile.
+fn put_as(
+    alloc: Global,
+    profile: Profile,
+    of: &mut Handle,
+    node: u8,
+    at: Portal,
+    bytes: &[u8],
+    portals: &[Portal],
+    number: &mut u64,
+) -> u32
+    ensures did { IsSome of.old.held.world →
+        Puts profile of.old.held.world node at bytes.now portals.now result number.old number.new of.new.held.world }
     ensures none { IsNone of.old.held.world → IsRefused not_created of.old.held.world result of.new.held.world × (number.new ≡ number.old) }
 {
     if !of.has_world {
@@ -94,7 +139,7 @@ pub extern "C" fn ipcz_put_parcel(
     }
     match lists_of(alloc, bytes, portals) {
         Ok((bytes, ends)) => {
-            let reply = of.put(alloc, node, at.end(), bytes, ends);
+            let reply = of.put(alloc, profile, node, at.end(), bytes, ends);
             tell_put(&reply, number);
             status(&reply)
         }

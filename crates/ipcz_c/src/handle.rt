@@ -2,12 +2,12 @@
 ghost use Rattle.std.specs.Prelude.{◌≡◌, Some, None, IsSome};
 ghost use Rattle.std.specs.Option.{is_some};
 ghost use Rattle.ipcz_world.specs.declared.step.Step.TheVariants as steps;
-ghost use Rattle.ipcz_world.specs.Steps.{sizes_given};
+ghost use Rattle.ipcz_world.specs.Steps.{put_of, sizes_given};
 ghost use Rattle.ipcz_c.specs.Calls.{Steps, Keeps, RepliesPlainly, sizes_next, SettlesTo};
 
 use crate::parts::Parts;
 use crate::pointer::WorldPointer;
-use ipcz_base::{Bytes, End, Ends, Refusal, Sizes};
+use ipcz_base::{Bytes, End, Ends, Profile, Refusal, Sizes};
 use ipcz_world::{Reply, Settled, Step, World};
 use std::alloc::Global;
 use std::mem;
@@ -68,22 +68,23 @@ impl Handle {
         reply
     }
 
-    // Puts a parcel into the world of a handle that has one.
+    // Puts a parcel of a profile into the world of a handle that has one.
     pub(crate) fn put(
         &mut self,
         alloc: Global,
+        profile: Profile,
         node: u8,
         at: End,
         bytes: Bytes,
         ends: Ends,
     ) -> Reply
         requires { IsSome self.old.held.world }
-        ensures step { Steps self.old.held.world (steps.Put node at bytes ends) result self.new.held.world }
-        ensures lawful { Keeps self.old.held.world (steps.Put node at bytes ends) result self.new.held.world }
-        ensures plain { RepliesPlainly self.old.held.world (steps.Put node at bytes ends) result }
+        ensures step { Steps self.old.held.world (put_of profile node at bytes ends) result self.new.held.world }
+        ensures lawful { Keeps self.old.held.world (put_of profile node at bytes ends) result self.new.held.world }
+        ensures plain { RepliesPlainly self.old.held.world (put_of profile node at bytes ends) result }
     {
         let mut world = self.take(alloc);
-        let reply = Reply::of_put(world.put(node, at, bytes, ends));
+        let reply = Reply::of_put(world.put_as(profile, node, at, bytes, ends));
         self.give(world);
         reply
     }

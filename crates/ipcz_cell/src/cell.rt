@@ -17,7 +17,7 @@ use crate::fabric::{Fabric, FabricName};
 use crate::plays::{Outcome, load_step};
 use crate::probed::Probed;
 use atomic_table::Seat;
-use ipcz_base::{Bytes, End, Ends, Message, Parcel, Refusal};
+use ipcz_base::{Bytes, End, Ends, Message, Parcel, Profile, Refusal};
 use ipcz_node::{Act, Happened, NodeState, PutRefused};
 use ipcz_router::act::{Answer, RouterAct};
 use ipcz_rule::View;
@@ -73,22 +73,23 @@ fn put_here<F: FabricName, X: Outcome>(
     state: &mut NodeState,
     seat: &mut Seat<Option<Message>, View>,
     fabric: &Fabric<F>,
+    profile: Profile,
     at: End,
     bytes: Bytes,
     ends: Ends,
 ) -> Result<u64, PutRefused>
     requires picked { IsPicked X.tells (touched (put_part at bytes ends)) }
     requires seated { IsSeated F.table state.old.node seat.old.table_id seat.old.me }
-    ensures allowed { OnOk result (put_refusal Profile.Printed state.old.node at bytes ends ≡ None) }
+    ensures allowed { OnOk result (put_refusal profile state.old.node at bytes ends ≡ None) }
     ensures number { IfOk result (λ n. n ≡ put_number state.old.node at) }
-    ensures why { IfErr result (λ e. e.why ≡ unwrap_or (put_refusal Profile.Printed state.old.node at bytes ends) Refusal.OutOfMemory) }
+    ensures why { IfErr result (λ e. e.why ≡ unwrap_or (put_refusal profile state.old.node at bytes ends) Refusal.OutOfMemory) }
     ensures back { IfErr result (λ e. (e.bytes ≡ bytes) × (e.ends ≡ ends)) }
     ensures seated { IsSeated F.table state.new.node seat.new.table_id seat.new.me }
     ensures done { OnOk result (seat.new.me ≡ (change_part (put_part at bytes ends) seat.old.me.0, seat.old.me.1)) }
     ensures err { OnErr result ((state.new.node ≡ state.old.node) × (seat.new.me ≡ seat.old.me)) }
 {
     let node = state.number();
-    let n = state.put(at, bytes, ends)?;
+    let n = state.put_as(profile, at, bytes, ends)?;
     touch::<F, X>(seat, fabric, node);
     Ok(n)
 }
@@ -218,7 +219,7 @@ fn plain_here<F: FabricName, X: Outcome>(
 }
 
 impl<F: FabricName> NodeCell<F> {
-    /// Puts a parcel at an end that callers of this node hold, as `NodeState::put`.
+    /// Puts a parcel of printed bytes at an end that callers of this node hold, as `NodeState::put`.
     pub fn put(
         &mut self,
         fabric: &Fabric<F>,
@@ -233,7 +234,34 @@ impl<F: FabricName> NodeCell<F> {
         ensures err { IfErr result (λ e. (e.bytes ≡ bytes) × (e.ends ≡ ends) × (self.new.part ≡ self.old.part)) }
         ensures seen { self.new.seen ≡ self.old.seen }
     {
-        put_here::<F, Brand>(&mut self.state, &mut self.seat, fabric, at, bytes, ends)
+        self.put_as(fabric, Profile::Printed, at, bytes, ends)
+    }
+
+    /// Puts a parcel at an end that callers of this node hold, as `NodeState::put_as`.
+    pub fn put_as(
+        &mut self,
+        fabric: &Fabric<F>,
+        profile: Profile,
+        at: End,
+        bytes: Bytes,
+        ends: Ends,
+    ) -> Result<u64, PutRefused>
+        ensures allowed { OnOk result (put_refusal profile self.old.part.state at bytes ends ≡ None) }
+        ensures number { IfOk result (λ n. n ≡ put_number self.old.part.state at) }
+        ensures ok { OnOk result (self.new.part ≡ put_part at bytes ends self.old.part) }
+        ensures why { IfErr result (λ e. e.why ≡ unwrap_or (put_refusal profile self.old.part.state at bytes ends) Refusal.OutOfMemory) }
+        ensures err { IfErr result (λ e. (e.bytes ≡ bytes) × (e.ends ≡ ends) × (self.new.part ≡ self.old.part)) }
+        ensures seen { self.new.seen ≡ self.old.seen }
+    {
+        put_here::<F, Brand>(
+            &mut self.state,
+            &mut self.seat,
+            fabric,
+            profile,
+            at,
+            bytes,
+            ends,
+        )
     }
 
     /// Takes the next parcel at an end that callers of this node hold, as `NodeState::get`. It takes no memory.

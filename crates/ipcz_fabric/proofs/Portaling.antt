@@ -3,14 +3,14 @@ use Rattle.std.proofs.Common.{◌≡◌, ◌⊎◌, ◌≤◌, ◌<◌, ◌+◌,
 use Rattle.std.specs.Prelude.{nat_le, unwrap_or}
 use Rattle.std.proofs.lemmas.List.{map_more}
 use Rattle.std.proofs.Math.Seq.{take-length}
-use Rattle.ipcz_base.specs.declared.profile.Profile.TheVariants.{Printed}
+use Rattle.ipcz_base.specs.declared.profile.Profile.{Profile}
 use Rattle.ipcz_base.specs.declared.end.End.{End}
 use Rattle.ipcz_base.specs.declared.item.Item.{Item}
 use Rattle.ipcz_base.specs.declared.item.Item.TheVariants as items
 use Rattle.ipcz_base.specs.declared.refusal.Refusal.{Refusal}
 use Rattle.ipcz_base.specs.declared.refusal.Refusal.TheVariants as refusals
 use Rattle.ipcz_base.specs.Ends.{opposite_end, has_end}
-use Rattle.ipcz_base.specs.Limits.{is_printable, last_number}
+use Rattle.ipcz_base.specs.Limits.{takes_bytes, last_number}
 use Rattle.ipcz_seq.specs.Queue.{current_item}
 use Rattle.ipcz_router.specs.Router.{Router}
 use Rattle.ipcz_router.specs.Calls.{item_refusal, next_number, router_get_refusal, router_put_refusal}
@@ -73,17 +73,17 @@ fits_by true false true true peer each at e = cc
 fits_by true false true false true each at e = cc
 fits_by true false true false false each at e = refl
 
-pub put_here : (n : Node) (at at' : End) (bytes bytes' : List ℕ) (ends ends' : List End) → at ≡ at' → bytes ≡ bytes' → ends ≡ ends' →
-    put_refusal Printed n at bytes ends ≡ put_refusal Printed n at' bytes' ends'
-put_here n at at' bytes bytes' ends ends' same_at same_bytes same_ends = λ j. put_refusal Printed n (same_at j) (same_bytes j) (same_ends j)
+pub put_here : (profile : Profile) (n : Node) (at at' : End) (bytes bytes' : List ℕ) (ends ends' : List End) → at ≡ at' → bytes ≡ bytes' → ends ≡ ends' →
+    put_refusal profile n at bytes ends ≡ put_refusal profile n at' bytes' ends'
+put_here profile n at at' bytes bytes' ends ends' same_at same_bytes same_ends = λ j. put_refusal profile n (same_at j) (same_bytes j) (same_ends j)
 
 pub part_here : (p : Part) (at at' : End) (bytes bytes' : List ℕ) (ends ends' : List End) → at ≡ at' → bytes ≡ bytes' → ends ≡ ends' →
     put_part at bytes ends p ≡ put_part at' bytes' ends' p
 part_here p at at' bytes bytes' ends ends' same_at same_bytes same_ends = λ j. put_part (same_at j) (same_bytes j) (same_ends j) p
 
-pub put_fits : (n : Node) (at : End) (bytes : List ℕ) (ends : List End) → put_refusal Printed n at bytes ends ≡ None → parcel_refusal at bytes ends ≡ None
+pub put_fits : (profile : Profile) (n : Node) (at : End) (bytes : List ℕ) (ends : List End) → put_refusal profile n at bytes ends ≡ None → parcel_refusal profile at bytes ends ≡ None
 unfolding put_refusal
-put_fits n at bytes ends e = fits_by (holds_end n at) (are_too_many Printed bytes ends) (is_printable bytes) (has_end at ends) (has_end (opposite_end at) ends)
+put_fits profile n at bytes ends e = fits_by (holds_end n at) (are_too_many profile bytes ends) (takes_bytes profile bytes) (has_end at ends) (has_end (opposite_end at) ends)
     (are_held_once n ends) (refusal_at (terminal_of n at) router_put_refusal) e
 
 IsRouterRefusal : Refusal → Type 0
@@ -126,16 +126,16 @@ put_why_by true false true false false false at e rest h = inr (inl h)
 put_why_by true false true false false true at e rest h = fitting_why e (rest h)
 
 -- a put at a node is refused for one of these
-put_why : (n : Node) (at : End) (bytes : List ℕ) (ends : List End) (e : Refusal) → e ≡ unwrap_or (put_refusal Printed n at bytes ends) refusals.OutOfMemory →
-    IsPutRefusal at bytes ends e
+put_why : (profile : Profile) (n : Node) (at : End) (bytes : List ℕ) (ends : List End) (e : Refusal) → e ≡ unwrap_or (put_refusal profile n at bytes ends) refusals.OutOfMemory →
+    IsPutRefusal profile at bytes ends e
 unfolding put_refusal PutRefusedFor
-put_why n at bytes ends e h = put_why_by (holds_end n at) (are_too_many Printed bytes ends) (is_printable bytes) (has_end at ends) (has_end (opposite_end at) ends)
+put_why profile n at bytes ends e h = put_why_by (holds_end n at) (are_too_many profile bytes ends) (takes_bytes profile bytes) (has_end at ends) (has_end (opposite_end at) ends)
     (are_held_once n ends) (refusal_at (terminal_of n at) router_put_refusal) e (router_why (terminal_of n at) e) h
 
-pub put_refused : (n : Node) (at : End) (bytes : List ℕ) (ends : List End) (wants : Bool) (e : Refusal) → IsRefusedInOrder wants (put_refusal Printed n at bytes ends) e →
-    IsPutRefusal at bytes ends e
-put_refused n at bytes ends wants e (inl h) = inl h.1
-put_refused n at bytes ends wants e (inr h) = put_why n at bytes ends e h
+pub put_refused : (profile : Profile) (n : Node) (at : End) (bytes : List ℕ) (ends : List End) (wants : Bool) (e : Refusal) → IsRefusedInOrder wants (put_refusal profile n at bytes ends) e →
+    IsPutRefusal profile at bytes ends e
+put_refused profile n at bytes ends wants e (inl h) = inl h.1
+put_refused profile n at bytes ends wants e (inr h) = put_why profile n at bytes ends e h
 
 -- a put that wants no list has no portals
 pub wants_by : (portals : List PortalValue) → (length portals ≡ 0 → false ≡ true) → wants_list (ends_of portals) ≡ true

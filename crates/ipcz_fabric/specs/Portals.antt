@@ -1,13 +1,13 @@
 -- Portals: what a clause sees of one, what a call of one answers, and why it may be refused: what the call of some cell of its node
 -- answers.
 use Rattle.std.specs.Prelude.{◌≡◌, ◌⊎◌, ℕ, Bool, true, false, not, if◌then◌else◌, Option, Some, None, List, [], ◌∷◌, map, take, unwrap_or}
-use Rattle.ipcz_base.specs.declared.profile.Profile.TheVariants.{Printed}
+use Rattle.ipcz_base.specs.declared.profile.Profile.{Profile}
 use Rattle.ipcz_base.specs.declared.end.End.{End}
 use Rattle.ipcz_base.specs.declared.parcel.Parcel as parcels
 use Rattle.ipcz_base.specs.declared.refusal.Refusal.{Refusal}
 use Rattle.ipcz_base.specs.declared.refusal.Refusal.TheVariants as refusals
 use Rattle.ipcz_base.specs.Ends.{opposite_end, has_end}
-use Rattle.ipcz_base.specs.Limits.{is_printable}
+use Rattle.ipcz_base.specs.Limits.{takes_bytes}
 use Rattle.ipcz_node.specs.Calls.{are_too_many, put_refusal, put_number, get_refusal, got_at, close_refusal}
 use Rattle.ipcz_cell.specs.CellStates.{CellState}
 use Rattle.ipcz_cell.specs.TableNames.{TableName}
@@ -43,24 +43,24 @@ abbrev pub IsCloseRefusal : Refusal → Type 0
 IsCloseRefusal why = (why ≡ refusals.OutOfMemory) ⊎ (why ≡ refusals.Stranger)
 
 -- why a parcel of these bytes and ends isn't put at an end, whatever its node has
-abbrev pub parcel_refusal : End → List ℕ → List End → Option Refusal
-parcel_refusal at bytes ends =
-    if are_too_many Printed bytes ends then Some refusals.TooMany
-    else if not (is_printable bytes) then Some refusals.BadData
+abbrev pub parcel_refusal : Profile → End → List ℕ → List End → Option Refusal
+parcel_refusal profile at bytes ends =
+    if are_too_many profile bytes ends then Some refusals.TooMany
+    else if not (takes_bytes profile bytes) then Some refusals.BadData
     else if has_end at ends then Some refusals.SelfAttach
     else if has_end (opposite_end at) ends then Some refusals.PeerAttach
     else None
 
 -- why a put at a portal may be refused: for the node's want of memory or of numbers, for an end that isn't held or a peer that has closed,
 -- or for what the parcel is
-abbrev pub IsPutRefusal : End → List ℕ → List End → Refusal → Type 0
-IsPutRefusal at bytes ends why = (why ≡ refusals.OutOfMemory) ⊎ (why ≡ refusals.Stranger) ⊎ (parcel_refusal at bytes ends ≡ Some why) ⊎
-    ((parcel_refusal at bytes ends ≡ None) × ((why ≡ refusals.PeerClosed) ⊎ (why ≡ refusals.NumbersEnd)))
+abbrev pub IsPutRefusal : Profile → End → List ℕ → List End → Refusal → Type 0
+IsPutRefusal profile at bytes ends why = (why ≡ refusals.OutOfMemory) ⊎ (why ≡ refusals.Stranger) ⊎ (parcel_refusal profile at bytes ends ≡ Some why) ⊎
+    ((parcel_refusal profile at bytes ends ≡ None) × ((why ≡ refusals.PeerClosed) ⊎ (why ≡ refusals.NumbersEnd)))
 
 -- a put at an end of a node answers this number
-abbrev pub IsPut : TableName → ℕ → End → List ℕ → List End → ℕ → Type 0
-IsPut t node at bytes ends number = CellWhere t node
-    (λ c. (put_refusal Printed c.part.state at bytes ends ≡ None) × (number ≡ put_number c.part.state at))
+abbrev pub IsPut : Profile → TableName → ℕ → End → List ℕ → List End → ℕ → Type 0
+IsPut profile t node at bytes ends number = CellWhere t node
+    (λ c. (put_refusal profile c.part.state at bytes ends ≡ None) × (number ≡ put_number c.part.state at))
 
 -- whether a put of these ends wants memory for a list of them
 abbrev pub wants_list : List End → Bool
@@ -68,8 +68,8 @@ wants_list [] = false
 wants_list (end ∷ ends) = true
 
 -- a put at an end of a node is refused so: for want of memory for the list of its ends, or as the node refuses it
-abbrev pub IsRefusedPut : TableName → ℕ → End → List ℕ → List End → Refusal → Type 0
-IsRefusedPut t node at bytes ends why = CellWhere t node (λ c. IsRefusedInOrder (wants_list ends) (put_refusal Printed c.part.state at bytes ends) why)
+abbrev pub IsRefusedPut : Profile → TableName → ℕ → End → List ℕ → List End → Refusal → Type 0
+IsRefusedPut profile t node at bytes ends why = CellWhere t node (λ c. IsRefusedInOrder (wants_list ends) (put_refusal profile c.part.state at bytes ends) why)
 
 -- a get at an end of a cell's node gives a parcel with its number
 pub record IsTakenHere (c : CellState) (at : End) (taken : ℕ × parcels.Parcel) : Type 0 where

@@ -12,7 +12,7 @@ ghost use Rattle.ipcz_fabric.specs.Portals.{IsClosed, IsCloseRefusal, IsRefusedC
 use crate::deadline::Deadline;
 use crate::hub::Hub;
 use crate::portals::{Arrival, arrival_of};
-use ipcz_base::{Bytes, End, Ends, Parcel, Refusal};
+use ipcz_base::{Bytes, End, Ends, Parcel, Profile, Refusal};
 use ipcz_cell::{FabricName, NodeCell};
 use std::alloc::{AllocError, Global};
 use std::marker::{Model, PhantomData};
@@ -146,15 +146,16 @@ impl<F: FabricName> Portal<F> {
         &self,
         cell: &mut NodeCell<F>,
         hub: &Hub<F>,
+        profile: Profile,
         bytes: Vec<u8>,
         portals: Vec<Portal<F>>,
     ) -> Result<u64, PortalPutRefused<F>>
-        ensures allowed { OnOk result (put_refusal Profile.Printed cell.old.part.state self.now.end bytes.items (ends_of portals.items) ≡ None) }
+        ensures allowed { OnOk result (put_refusal profile cell.old.part.state self.now.end bytes.items (ends_of portals.items) ≡ None) }
         ensures number { IfOk result (λ n. n ≡ put_number cell.old.part.state self.now.end) }
         ensures ok { OnOk result (cell.new.part ≡ put_part self.now.end bytes.items (ends_of portals.items) cell.old.part) }
         ensures why { IfErr result
             (λ e. IsRefusedInOrder (wants_list (ends_of portals.items))
-            (put_refusal Profile.Printed cell.old.part.state self.now.end bytes.items (ends_of portals.items)) e.why) }
+            (put_refusal profile cell.old.part.state self.now.end bytes.items (ends_of portals.items)) e.why) }
         ensures back { IfErr result (λ e. (e.bytes.items ≡ bytes.items) × (e.portals.items ≡ portals.items)) }
         ensures err { OnErr result (cell.new.part ≡ cell.old.part) }
         ensures seen { cell.new.seen ≡ cell.old.seen }
@@ -166,7 +167,13 @@ impl<F: FabricName> Portal<F> {
                 portals,
             });
         };
-        let put = cell.put(hub.fabric(), self.end, Bytes::from_vec(bytes), ends);
+        let put = cell.put_as(
+            hub.fabric(),
+            profile,
+            self.end,
+            Bytes::from_vec(bytes),
+            ends,
+        );
         match put {
             Ok(n) => Ok(n),
             Err(refused) => Err(PortalPutRefused {
@@ -219,11 +226,7 @@ impl<F: FabricName> Portal<F> {
         }
     }
 
-    /// Puts a parcel, under the lock of the portal's node, and answers its number: its bytes, and portals, which are used up. What else
-    /// holds of it is what `NodeCell::put` says, of the cell as the call found it.
-    ///
-    /// A refused put gives bytes and portals back. Room for the list of ends is taken first, so `OutOfMemory` comes before all else; then
-    /// the refusals are those of `NodeState::put`, in their order. A portal of another node is a `Stranger`.
+    /// Puts a parcel of printed bytes, as [`Portal::put_as`] does of `Profile::Printed`.
     pub fn put<R: Wait>(
         &self,
         rt: &R,
@@ -231,14 +234,37 @@ impl<F: FabricName> Portal<F> {
         bytes: Vec<u8>,
         portals: Vec<Portal<F>>,
     ) -> Result<u64, PortalPutRefused<F>>
-        ensures number { IfOk result (IsPut F.table self.now.node self.now.end bytes.items (ends_of portals.items)) }
-        ensures fits { OnOk result (parcel_refusal self.now.end bytes.items (ends_of portals.items) ≡ None) }
-        ensures why { IfErr result (λ e. IsPutRefusal self.now.end bytes.items (ends_of portals.items) e.why) }
+        ensures number { IfOk result (IsPut Profile.Printed F.table self.now.node self.now.end bytes.items (ends_of portals.items)) }
+        ensures fits { OnOk result (parcel_refusal Profile.Printed self.now.end bytes.items (ends_of portals.items) ≡ None) }
+        ensures why { IfErr result (λ e. IsPutRefusal Profile.Printed self.now.end bytes.items (ends_of portals.items) e.why) }
         ensures refused { IfErr result
-            (λ e. IsRefusedPut F.table self.now.node self.now.end bytes.items (ends_of portals.items) e.why) }
+            (λ e. IsRefusedPut Profile.Printed F.table self.now.node self.now.end bytes.items (ends_of portals.items) e.why) }
         ensures back { IfErr result (λ e. (e.bytes.items ≡ bytes.items) × (e.portals.items ≡ portals.items)) }
     {
-        let put = self.put_here(&mut hub.lock(rt, self.node), hub, bytes, portals);
+        self.put_as(rt, hub, Profile::Printed, bytes, portals)
+    }
+
+    /// Puts a parcel, under the lock of the portal's node, and answers its number: its bytes, and portals, which are used up. What else
+    /// holds of it is what `NodeCell::put` says, of the cell as the call found it.
+    ///
+    /// A refused put gives bytes and portals back. Room for the list of ends is taken first, so `OutOfMemory` comes before all else; then
+    /// the refusals are those of `NodeState::put_as`, in their order. A portal of another node is a `Stranger`.
+    pub fn put_as<R: Wait>(
+        &self,
+        rt: &R,
+        hub: &Hub<F>,
+        profile: Profile,
+        bytes: Vec<u8>,
+        portals: Vec<Portal<F>>,
+    ) -> Result<u64, PortalPutRefused<F>>
+        ensures number { IfOk result (IsPut profile F.table self.now.node self.now.end bytes.items (ends_of portals.items)) }
+        ensures fits { OnOk result (parcel_refusal profile self.now.end bytes.items (ends_of portals.items) ≡ None) }
+        ensures why { IfErr result (λ e. IsPutRefusal profile self.now.end bytes.items (ends_of portals.items) e.why) }
+        ensures refused { IfErr result
+            (λ e. IsRefusedPut profile F.table self.now.node self.now.end bytes.items (ends_of portals.items) e.why) }
+        ensures back { IfErr result (λ e. (e.bytes.items ≡ bytes.items) × (e.portals.items ≡ portals.items)) }
+    {
+        let put = self.put_here(&mut hub.lock(rt, self.node), hub, profile, bytes, portals);
         hub.fabric().bells().ring(self.node);
         put
     }

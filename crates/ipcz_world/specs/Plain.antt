@@ -89,15 +89,18 @@ PlainTurn b (events.DiscardLeave serial number) c = Drops b number c
 PlainTurn b (events.Retire serial number link) c = Retires b number c
 PlainTurn b other c = c ≡ b
 
+-- a put gets the next number of its end, and is written
+abbrev pub IsNextPut : Books → End → List ℕ → List End → ℕ → Books → Type 0
+IsNextPut b at bytes ends number c =
+    (number ≡ length (b.put at)) × (c ≡ add_put b at (Parcel (record { bytes = bytes; ends = ends })))
+
 -- what the machine over books alone allows: an open gives both ends of a pair of which nothing is written; a put or a close gets the next
 -- number of its end, and a get the next parcel of the peer; a refusal writes nothing. That no pair is opened twice the books alone can't
 -- tell: it is in the relation of steps
 abbrev pub Plain : Books → Step → Reply → Books → Type 0
 Plain b (Open n) (replies.Opened d e) c = (e ≡ opposite_end d) × IsUnwritten b d × IsUnwritten b e × (c ≡ b)
-Plain b (Put n at bytes ends) (replies.Put number) c =
-    (number ≡ length (b.put at)) × (c ≡ add_put b at (Parcel (record { bytes = bytes; ends = ends })))
-Plain b (PutWide n at bytes ends) (replies.Put number) c =
-    (number ≡ length (b.put at)) × (c ≡ add_put b at (Parcel (record { bytes = bytes; ends = ends })))
+Plain b (Put n at bytes ends) (replies.Put number) c = IsNextPut b at bytes ends number c
+Plain b (PutWide n at bytes ends) (replies.Put number) c = IsNextPut b at bytes ends number c
 Plain b (Get n at) (replies.Got number p) c = (number ≡ read b at) × (next_item b at ≡ Some (Parcel p)) × (c ≡ add_got b at p)
 Plain b (Close n at) (replies.Closed number) c = (number ≡ length (b.put at)) × (c ≡ add_put b at Mark)
 Plain b (Turn n) (replies.Turned event) c = PlainTurn b event c

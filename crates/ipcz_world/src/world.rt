@@ -8,7 +8,7 @@ ghost use Rattle.ipcz_world.specs.Lawfulness.{IsLawful};
 ghost use Rattle.ipcz_world.specs.Parts.{world_of_parts};
 ghost use Rattle.ipcz_world.specs.Plain.{Plain};
 ghost use Rattle.ipcz_world.specs.Routes.{Routes, first_routes, routes_after};
-ghost use Rattle.ipcz_world.specs.Steps.{GivesOrNoMemory, StepFirst, next_sizes, put_reply, put_step};
+ghost use Rattle.ipcz_world.specs.Steps.{GivesOrNoMemory, StepFirst, next_sizes, put_of, put_reply, put_step};
 ghost use Rattle.ipcz_world.specs.FirstRuns.{AreSteps, KeepsLaw};
 ghost use Rattle.ipcz_world.specs.Turns.{next_at};
 ghost use Rattle.ipcz_world.specs.World.{new_world};
@@ -128,10 +128,7 @@ impl World {
         self.state.step(step)
     }
 
-    /// Puts a parcel at an end and answers its number, as the step `Put` does, without a copy of its lists.
-    ///
-    /// A refused put gives both lists back. Its refusals are those of the step, but `OutOfMemory` is the last of them, answered only where the
-    /// terminal's queue has to grow.
+    /// Puts a parcel of printed bytes, as [`World::put_as`] does of `Profile::Printed`.
     pub fn put(&mut self, node: u8, at: End, bytes: Bytes, ends: Ends) -> Result<u64, PutRefused>
         ensures step { StepFirst self.old (Step.Put node at bytes ends) (put_reply result) self.new }
         ensures order { GivesOrNoMemory self.old (put_step Profile.Printed self.old node at (record { bytes = bytes; ends = ends })) (put_reply result) self.new }
@@ -142,29 +139,31 @@ impl World {
         ensures plain { (b : Books) → (g : Routes) → Lawful self.old b g →
             Plain b (Step.Put node at bytes ends) (put_reply result) (advance self.old b (Step.Put node at bytes ends) (put_reply result)) }
     {
-        self.state
-            .put_given(Profile::Printed, node, at, bytes, ends)
+        self.put_as(Profile::Printed, node, at, bytes, ends)
     }
 
-    /// Puts a parcel of up to 65,536 bytes of any value, as the step `PutWide` does, and otherwise as [`World::put`] does: `TooMany` is
-    /// answered for more bytes than these or for more than 8 ends, and `BadData` never.
-    pub fn put_wide(
+    /// Puts a parcel of a profile at an end and answers its number, as the step `Put` does, or `PutWide`, without a copy of its lists.
+    ///
+    /// A refused put gives both lists back. Its refusals are those of the step, but `OutOfMemory` is the last of them, answered only where the
+    /// terminal's queue has to grow. A parcel of `Profile::Wide` is never `BadData`.
+    pub fn put_as(
         &mut self,
+        profile: Profile,
         node: u8,
         at: End,
         bytes: Bytes,
         ends: Ends,
     ) -> Result<u64, PutRefused>
-        ensures step { StepFirst self.old (Step.PutWide node at bytes ends) (put_reply result) self.new }
-        ensures order { GivesOrNoMemory self.old (put_step Profile.Wide self.old node at (record { bytes = bytes; ends = ends })) (put_reply result) self.new }
+        ensures step { StepFirst self.old (put_of profile node at bytes ends) (put_reply result) self.new }
+        ensures order { GivesOrNoMemory self.old (put_step profile self.old node at (record { bytes = bytes; ends = ends })) (put_reply result) self.new }
         ensures back { IfErr result (λ e. (e.bytes ≡ bytes) × (e.ends ≡ ends)) }
         ensures lawful { (b : Books) → (g : Routes) → Lawful self.old b g →
-            Lawful self.new (advance self.old b (Step.PutWide node at bytes ends) (put_reply result))
-            (routes_after self.old g (Step.PutWide node at bytes ends) (put_reply result)) }
+            Lawful self.new (advance self.old b (put_of profile node at bytes ends) (put_reply result))
+            (routes_after self.old g (put_of profile node at bytes ends) (put_reply result)) }
         ensures plain { (b : Books) → (g : Routes) → Lawful self.old b g →
-            Plain b (Step.PutWide node at bytes ends) (put_reply result) (advance self.old b (Step.PutWide node at bytes ends) (put_reply result)) }
+            Plain b (put_of profile node at bytes ends) (put_reply result) (advance self.old b (put_of profile node at bytes ends) (put_reply result)) }
     {
-        self.state.put_given(Profile::Wide, node, at, bytes, ends)
+        self.state.put_given(profile, node, at, bytes, ends)
     }
 
     /// Gets the next parcel at an end, as the step `Get` does.

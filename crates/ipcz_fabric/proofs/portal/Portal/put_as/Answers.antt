@@ -2,7 +2,7 @@ use Rattle.std.proofs.Common.{ap}
 use Rattle.ipcz_fabric.specs.Portals.{PortalValue}
 use Rattle.ipcz_fabric.proofs.Locking.{lent, if_allowed, if_err, on_ok}
 use Rattle.ipcz_fabric.proofs.Portaling.{put_fits, put_refused}
-use Rattle.ipcz_fabric.proofs.portal.Portal.put.Goals as goal
+use Rattle.ipcz_fabric.proofs.portal.Portal.put_as.Goals as goal
 
 pub returns-clause-number : goal.returns-clause-number
 returns-clause-number g c = if_allowed
@@ -14,10 +14,10 @@ returns-clause-number g c = if_allowed
     c.put_here-put.result c.put_here-put.ensures.allowed c.put_here-put.ensures.number
 
 pub returns-clause-fits : goal.returns-clause-fits
-returns-clause-fits g c = on_ok (put_fits _ _ _ _) c.put_here-put.result c.put_here-put.ensures.allowed
+returns-clause-fits g c = on_ok (put_fits _ _ _ _ _) c.put_here-put.result c.put_here-put.ensures.allowed
 
 pub returns-clause-why : goal.returns-clause-why
-returns-clause-why g c = if_err (λ e h. put_refused c.deref_mut.result.now.part.state _ _ _ _ _ h) c.put_here-put.result c.put_here-put.ensures.why
+returns-clause-why g c = if_err (λ e h. put_refused _ c.deref_mut.result.now.part.state _ _ _ _ _ h) c.put_here-put.result c.put_here-put.ensures.why
 
 pub returns-clause-refused : goal.returns-clause-refused
 returns-clause-refused g c = if_err

@@ -1,7 +1,7 @@
 use Rattle.std.proofs.Common.{refl}
 use Rattle.ipcz_cell.proofs.Seating.{touched_or_same}
 use Rattle.ipcz_cell.proofs.Keeping.{put_keeps}
-use Rattle.ipcz_cell.proofs.cell.NodeCell.put.Goals as goal
+use Rattle.ipcz_cell.proofs.cell.NodeCell.put_as.Goals as goal
 
 pub invariant_of-self : goal.invariant_of-self
 invariant_of-self g c =
