@@ -167,13 +167,8 @@ impl<F: FabricName> Portal<F> {
                 portals,
             });
         };
-        let put = cell.put_as(
-            hub.fabric(),
-            profile,
-            self.end,
-            Bytes::from_vec(bytes),
-            ends,
-        );
+        let end = self.end;
+        let put = cell.put_as(hub.fabric(), profile, end, Bytes::from_vec(bytes), ends);
         match put {
             Ok(n) => Ok(n),
             Err(refused) => Err(PortalPutRefused {
