@@ -1,4 +1,4 @@
-"""Runs both programs with arguments, scripts and devices that work or fail, and prints which run ended otherwise than it must.
+"""Runs the three programs with arguments, scripts and devices that work or fail, and prints which run ended otherwise than it must.
 
     python3 tools/try_statuses.py
 
@@ -17,6 +17,10 @@ DONE = (PAIR % 100).encode()
 AT_ITS_LIMIT = (PAIR % 1).encode()
 PUT = b"open x y ok\nput x 0\n"
 RUN_USAGE = b"usage: ipcz_run [threads]\n"
+CHECK_USAGE = b"usage: ipcz_check [--help] < SCRIPT\n"
+EMPTY = b"line 1, column 1: the script is empty; expected an object with the members nodes, words and commands\n"
+NO_OBJECT = b"line 1, column 1: the script is no object; expected one with the members nodes, words and commands\n"
+TOO_LONG = b"line 1, column 1: the script is too long; expected at most 1048576 bytes\n"
 DRAW_USAGE = b"usage: ipcz_draw [FROM TO]\n"
 
 
@@ -58,6 +62,23 @@ RUNS = [
     ("ipcz_run", ["script.json"], DONE, Full, 1, b""),
     ("ipcz_run", [], Closed, bytes, 1, b""),
     ("ipcz_run", [], DONE, Closed, 1, b""),
+    ("ipcz_check", [], DONE, bytes, 0, None),
+    ("ipcz_check", [], b"[]", bytes, 2, NO_OBJECT),
+    ("ipcz_check", [], b"", bytes, 2, EMPTY),
+    ("ipcz_check", [], b" " * 1048576, bytes, 2, None),
+    ("ipcz_check", [], b" " * 1048577, bytes, 2, TOO_LONG),
+    ("ipcz_check", [], b"[" * 1000000, bytes, 2, None),
+    ("ipcz_check", ["--help"], Folder, bytes, 0, None),
+    ("ipcz_check", ["-h"], DONE, bytes, 0, None),
+    ("ipcz_check", ["--help"], DONE, Full, 1, b""),
+    ("ipcz_check", ["--help", "x"], DONE, bytes, 2, CHECK_USAGE),
+    ("ipcz_check", ["script.json"], Folder, bytes, 2, CHECK_USAGE),
+    ("ipcz_check", [b"\xff"], DONE, bytes, 2, CHECK_USAGE),
+    ("ipcz_check", [], Folder, bytes, 1, b""),
+    ("ipcz_check", [], DONE, Full, 1, b""),
+    ("ipcz_check", [], b"[]", Full, 1, b""),
+    ("ipcz_check", [], Closed, bytes, 1, b""),
+    ("ipcz_check", [], DONE, Closed, 1, b""),
     ("ipcz_draw", [], PUT + b"settled\n", bytes, 0, None),
     ("ipcz_draw", [], b"", bytes, 0, None),
     ("ipcz_draw", [], b"words\nsettle\n", bytes, 2, b"refused line 2: not a line of a transcript\n"),

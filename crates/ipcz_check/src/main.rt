@@ -4,6 +4,11 @@
 //! All but its arguments and devices stands in `ipcz_report`.
 #![tactic(auto)]
 
+#[cfg(test)]
+mod slow_devices;
+#[cfg(test)]
+mod tests;
+
 use ipcz_base::Device;
 use ipcz_report::program::{asked_for, run_program};
 use std::io;

@@ -106,33 +106,64 @@ fn long_text(alloc: Global) -> Result<Vec<u8>, AllocError>
     Ok(text)
 }
 
-// What is said of bytes that are no JSON text, by whether they end too early.
-fn json_words(input: &[u8], is_cut: bool) -> &'static [u8] {
-    if input.is_empty() {
-        b"the script is empty; expected an object with the members nodes, words and commands"
-    } else if is_cut {
-        b"the script ends too early; expected what is still open"
-    } else {
-        b"not JSON from here on; expected a value, a comma or a bracket that fits"
+// The offset of a line and a column, or the text's end.
+fn offset_at(text: &[u8], line: usize, column: usize) -> usize {
+    let mut lines_left = line;
+    for i in 0..text.len() {
+        if lines_left <= 1 {
+            return i.saturating_add(column.saturating_sub(1));
+        }
+        if text[i] == b'\n' {
+            lines_left -= 1;
+        }
     }
+    text.len()
 }
 
-// The line and the column at which some bytes are no JSON text, and whether they end too early.
-fn json_place(alloc: Global, input: &[u8]) -> Result<(usize, usize, bool), AllocError> {
-    match Value::from_slice(alloc, input) {
-        Err(error) if !error.is_memory() => {
-            Ok((error.line().max(1), error.column().max(1), error.is_eof()))
-        }
-        _ => Err(AllocError),
+// Writes what is said of bytes that are no JSON text, by what stands at the place and whether they end too early.
+fn push_json(out: &mut Vec<u8>, input: &[u8], shown: &[u8], is_cut: bool) -> io::Result<()> {
+    if input.is_empty() {
+        return write!(
+            out,
+            "the script is empty; expected an object with the members nodes, words and commands"
+        );
     }
+    if is_cut {
+        return write!(
+            out,
+            "the script ends too early; expected what is still open"
+        );
+    }
+    out.write_all(shown)?;
+    write!(
+        out,
+        " is no JSON here; expected a value, a comma or a bracket that fits"
+    )
+}
+
+// The line and the column at which some bytes are no JSON text, and what is said of it.
+fn json_fault(alloc: Global, input: &[u8]) -> Result<(usize, usize, Vec<u8>), AllocError> {
+    let Err(error) = Value::from_slice(alloc, input) else {
+        return Err(AllocError);
+    };
+    if error.is_memory() {
+        return Err(AllocError);
+    }
+    let (line, column) = (error.line().max(1), error.column().max(1));
+    let shown = excerpt(input, offset_at(input, line, column));
+    let mut words = Vec::new(alloc);
+    let Ok(()) = push_json(&mut words, input, shown, error.is_eof()) else {
+        return Err(AllocError);
+    };
+    Ok((line, column, words))
 }
 
 fn json_text(alloc: Global, input: &[u8]) -> Result<Vec<u8>, AllocError>
     ensures { IfOk result (λ text. IsJsonText text.items) }
 {
-    let (line, column, is_cut) = json_place(alloc, input)?;
+    let (line, column, words) = json_fault(alloc, input)?;
     let mut text = Vec::new(alloc);
-    let Ok(()) = push_line(&mut text, line, column, 0, json_words(input, is_cut)) else {
+    let Ok(()) = push_line(&mut text, line, column, 0, &words) else {
         return Err(AllocError);
     };
     Ok(text)

@@ -1,0 +1,323 @@
+//! What the program says of scripts, and with which status it ends.
+//!
+//! Nothing is promised of the functions here, and what is wanted stands in lists: a test's own proof would else work out each of them.
+
+use crate::slow_devices::{SlowReader, SlowWriter};
+use ipcz_base::Device;
+use ipcz_report::program::{Asked, asked_for, run_program};
+use std::alloc::{AllocError, Global};
+use std::env::{Env, FillError};
+
+// The arguments that a program is given, its name first.
+#[derive(Drop)]
+struct Arguments<'a> {
+    given: &'a [&'a [u8]],
+}
+
+impl<'a> Env for Arguments<'a> {
+    fn arg(&self, i: usize, buf: &mut [u8]) -> Result<usize, FillError> {
+        let Some(argument) = self.given.get(i) else {
+            return Err(FillError::NotPresent);
+        };
+        if argument.len() > buf.len() {
+            return Err(FillError::TooLong);
+        }
+        buf[..argument.len()].copy_from_slice(argument);
+        Ok(argument.len())
+    }
+
+    fn var(&self, _name: &str, _buf: &mut [u8]) -> Result<usize, FillError> {
+        Err(FillError::NotPresent)
+    }
+
+    fn var_at(&self, _i: usize, _buf: &mut [u8]) -> Result<usize, FillError> {
+        Err(FillError::NotPresent)
+    }
+}
+
+const NAME: &[u8] = b"ipcz_check";
+
+const ASKED: [(&[&[u8]], Asked); 8] = [
+    (&[], Asked::Script),
+    (&[NAME], Asked::Script),
+    (&[NAME, b"--help"], Asked::Help),
+    (&[NAME, b"-h"], Asked::Help),
+    (&[NAME, b"--help", b"x"], Asked::Usage),
+    (&[NAME, b"help"], Asked::Usage),
+    (&[NAME, b""], Asked::Usage),
+    (&[NAME, b"\xff"], Asked::Usage),
+];
+
+// Whether this is asked for by these arguments.
+fn is_asked(alloc: Global, given: &[&[u8]], want: Asked) -> bool {
+    let arguments = (Arguments { given }, alloc);
+    asked_for(&arguments) == Ok(want)
+}
+
+// The first arguments that ask for something else.
+fn first_other_asked(alloc: Global) -> Option<usize> {
+    for (i, row) in ASKED.iter().enumerate() {
+        let (given, want) = *row;
+        if !is_asked(alloc, given, want) {
+            return Some(i);
+        }
+    }
+    None
+}
+
+#[test]
+fn asks_for_what_its_arguments_say(rt: HostRuntime) {
+    assert_eq!(rt; first_other_asked(rt.alloc()), None);
+}
+
+// Writes what is said of a script behind what `out` holds, and gives the status.
+fn said_of(alloc: Global, script: &[u8], out: &mut Vec<u8>) -> u8 {
+    run_program(
+        alloc,
+        Ok(Asked::Script),
+        &mut Device::new(script),
+        &mut Device::new(out),
+    )
+}
+
+// Whether just this is said of a script, with this status.
+fn says(alloc: Global, script: &[u8], status: u8, text: &str) -> bool {
+    let mut out = Vec::new(alloc);
+    said_of(alloc, script, &mut out) == status && out.as_slice() == text.as_bytes()
+}
+
+// The first script of which something else is said.
+fn first_other(alloc: Global, rows: &[(&str, &str)], status: u8) -> Option<usize> {
+    for (i, row) in rows.iter().enumerate() {
+        let (script, text) = *row;
+        if !says(alloc, script.as_bytes(), status, text) {
+            return Some(i);
+        }
+    }
+    None
+}
+
+const NO_JSON: [(&str, &str); 9] = [
+    (
+        "",
+        "line 1, column 1: the script is empty; expected an object with the members nodes, words and commands\n",
+    ),
+    (
+        "{\"nodes\":2,\n\"words\":4",
+        "line 2, column 9: the script ends too early; expected what is still open\n",
+    ),
+    (
+        "// why\n{}",
+        "line 1, column 1: // is no JSON here; expected a value, a comma or a bracket that fits\n",
+    ),
+    (
+        "{'nodes':2}",
+        "line 1, column 2: 'nodes' is no JSON here; expected a value, a comma or a bracket that fits\n",
+    ),
+    (
+        "{\"nodes\":2 \"words\":4}",
+        "line 1, column 12: \"words\" is no JSON here; expected a value, a comma or a bracket that fits\n",
+    ),
+    (
+        "[1,]",
+        "line 1, column 4: ] is no JSON here; expected a value, a comma or a bracket that fits\n",
+    ),
+    (
+        "{}\n{}",
+        "line 2, column 1: {} is no JSON here; expected a value, a comma or a bracket that fits\n",
+    ),
+    (
+        "\n\n[nul]",
+        "line 3, column 2: nul is no JSON here; expected a value, a comma or a bracket that fits\n",
+    ),
+    (
+        "[\"a\",\n \"\\ud800\"]",
+        "line 2, column 2: \"\\ud800\" is no JSON here; expected a value, a comma or a bracket that fits\n",
+    ),
+];
+
+#[test]
+fn tells_where_bytes_are_no_json(rt: HostRuntime) {
+    assert_eq!(rt; first_other(rt.alloc(), &NO_JSON, 2), None);
+}
+
+const NO_HEAD: [(&str, &str); 8] = [
+    (
+        "[]",
+        "line 1, column 1: the script is no object; expected one with the members nodes, words and commands\n",
+    ),
+    (
+        "{\"nodes\":9,\"words\":40,\"commands\":[]}",
+        "line 1, column 10: nodes is 9; expected a number from 1 to 8\n",
+    ),
+    (
+        "{\"nodes\":3,\"words\":2,\"commands\":[]}",
+        "line 1, column 20: words is 2; expected a number from 3 to 4096\n",
+    ),
+    (
+        "{\"nodes\":\"2\",\n \"words\":4097,\"commands\":[]}",
+        "line 1, column 10: nodes is \"2\"; expected a number from 1 to 8\nline 2, column 10: words is 4097; expected a number from 0 to 4096\n",
+    ),
+    (
+        "{\"nodes\":2,\"words\":4,\"commands\":{\"a\":\n1}}",
+        "line 1, column 33: commands is {\"a\":; expected a list of commands\n",
+    ),
+    (
+        "{\"nodes\":2,\"words\":4,\"comands\":[]}",
+        "line 1, column 1: the member commands is missing; expected a list of commands\nline 1, column 22: unknown member \"comands\"; expected nodes, words and commands only\n",
+    ),
+    (
+        "{\"nodes\":2,\"words\":4,\"commands\":[],\n\"note\":\"x\"}",
+        "line 2, column 1: unknown member \"note\"; expected nodes, words and commands only\n",
+    ),
+    (
+        "{\"nodes\":2,\"nodes\":9,\"words\":1,\"commands\":[]}",
+        "line 1, column 20: nodes is 9; expected a number from 1 to 8\n",
+    ),
+];
+
+#[test]
+fn tells_what_is_wrong_with_members(rt: HostRuntime) {
+    assert_eq!(rt; first_other(rt.alloc(), &NO_HEAD, 2), None);
+}
+
+const NO_COMMANDS: [(&str, &str); 10] = [
+    (
+        "{\"nodes\":2,\"words\":4,\"commands\":[[\"put\",\"x\"]]}",
+        "line 1, column 34: command 1: too few or too many values behind put; expected [\"put\", \"name\", \"data\"] or [\"put\", \"name\", \"data\", [\"name\", ..]]\n",
+    ),
+    (
+        "{\"nodes\":2,\"words\":4,\"commands\":[[\"show\"],\n  [\"putt\",\"x\",\"y\"]]}",
+        "line 2, column 4: command 2: unknown command \"putt\"; expected open, put, get, close, turn, settle or show\n",
+    ),
+    (
+        "{\"nodes\":2,\"words\":4,\"commands\":[[\"settle\"],[\"show\",1],[\"turn\",0],[\"get\"],[\"close\",\"x\",\"y\"],[\"open\",0,\"x\"]]}",
+        "line 1, column 34: command 1: too few or too many values behind settle; expected [\"settle\", limit]\nline 1, column 45: command 2: too few or too many values behind show; expected [\"show\"]\nline 1, column 56: command 3: too few or too many values behind turn; expected [\"turn\", node, count]\nline 1, column 67: command 4: too few or too many values behind get; expected [\"get\", \"name\"]\nline 1, column 75: command 5: too few or too many values behind close; expected [\"close\", \"name\"]\nline 1, column 93: command 6: too few or too many values behind open; expected [\"open\", node, \"name\", \"name\"]\n",
+    ),
+    (
+        "{\"nodes\":2,\"words\":4,\"commands\":[[\"open\",2,\"x\",\"y\"],[\"turn\",-1,5],[\"turn\",0,0],[\"settle\",1000001],[\"turn\",0.0,1]]}",
+        "line 1, column 42: command 1: 2 is no node; expected a number from 0 to 1\nline 1, column 61: command 2: -1 is no node; expected a number from 0 to 1\nline 1, column 77: command 3: 0 is no count of turns; expected a number from 1 to 1000000\nline 1, column 90: command 4: 1000001 is no limit; expected a number from 0 to 1000000\nline 1, column 107: command 5: 0.0 is no node; expected a number from 0 to 1\n",
+    ),
+    (
+        "{\"nodes\":2,\"words\":4,\"commands\":[[\"open\",0,\"a-b\",\"y\"],[\"open\",0,\"x\",\"abcdefghijklmnopq\"],[\"get\",\"\"],[\"close\",7]]}",
+        "line 1, column 44: command 1: \"a-b\" is no name; expected 1 to 16 letters, digits, _ or > in quotes\nline 1, column 69: command 2: \"abcdefghijklmnopq\" is no name; expected 1 to 16 letters, digits, _ or > in quotes\nline 1, column 97: command 3: \"\" is no name; expected 1 to 16 letters, digits, _ or > in quotes\nline 1, column 110: command 4: 7 is no name; expected 1 to 16 letters, digits, _ or > in quotes\n",
+    ),
+    (
+        "{\"nodes\":2,\"words\":4,\"commands\":[[\"open\",0,\"x\",\"y\"],[\"open\",0,\"x>y\",\"z\"],[\"open\",1,\"z\",\"y\"],[\"open\",1,\"z\",\"z\"]]}",
+        "line 1, column 63: command 2: \"x>y\" has a >; expected a name without it, as only first pairs have one\nline 1, column 88: command 3: \"y\" was opened before; expected a name that no command before it opens\nline 1, column 107: command 4: both names are \"z\"; expected two that differ\n",
+    ),
+    (
+        "{\"nodes\":2,\"words\":4,\"commands\":[[\"put\",\"0>1\",5],[\"put\",\"0>1\",\"a\",\"x\"],[\"put\",\"0>1\",\"a\",[\"x\",\"y\",\n{\"b\": [1,2]}]]]}",
+        "line 1, column 47: command 1: 5 is no data; expected a text in quotes\nline 1, column 67: command 2: \"x\" is no list; expected a list of names\nline 2, column 1: command 3: {\"b\": [1,2]} is no name; expected 1 to 16 letters, digits, _ or > in quotes\n",
+    ),
+    (
+        "{\"nodes\":2,\"words\":4,\"commands\":[[],[3],7,[\"open\",0,\"x\",\"y\"],[\"open\",9,\"p\",\"q\"],[\"open\",0,\"p\",\"x\"]]}",
+        "line 1, column 34: command 1: the command begins with no word; expected open, put, get, close, turn, settle or show\nline 1, column 37: command 2: the command begins with no word; expected open, put, get, close, turn, settle or show\nline 1, column 41: command 3: 7 is no command; expected a list such as [\"show\"]\nline 1, column 70: command 5: 9 is no node; expected a number from 0 to 1\nline 1, column 95: command 6: \"x\" was opened before; expected a name that no command before it opens\n",
+    ),
+    (
+        "{\"nodes\":2,\"words\":4,\"commands\":[[\"put\",\"0>1\",[\"01234567890123456789012345678901234567890123456789\"]]]}",
+        "line 1, column 47: command 1: [\"01234567890123456789012345678901234567 is no data; expected a text in quotes\n",
+    ),
+    (
+        "{\"nodes\":2,\"words\":4,\"commands\":[[\"get\",\"01234567890123456789012345678901234567éé\"]]}",
+        "line 1, column 41: command 1: \"01234567890123456789012345678901234567 is no name; expected 1 to 16 letters, digits, _ or > in quotes\n",
+    ),
+];
+
+#[test]
+fn tells_what_is_wrong_with_commands(rt: HostRuntime) {
+    assert_eq!(rt; first_other(rt.alloc(), &NO_COMMANDS, 2), None);
+}
+
+const SCRIPTS: [(&str, &str); 2] = [
+    (
+        "{\"nodes\":2,\"words\":4,\"commands\":[[\"open\",0,\"left\",\"right\"],[\"put\",\"left\",\"hello\"],\n[\"put\",\"0>1\",\"\",[\"right\",\"x\"]],[\"settle\",100],[\"get\",\"1>0\"],[\"get\",\"nobody\"],[\"close\",\"0>2\"],[\"turn\",1,5],[\"show\"]]}",
+        "line 1, column 34: command 1: opens the pair left and right on node 0\nline 1, column 60: command 2: puts a parcel of length 5 at left\nline 2, column 1: command 3: puts a parcel of length 0 at 0>1 with the portals right, x; no command before it opens x\nline 2, column 32: command 4: lets all nodes act until they rest, at most 100 times\nline 2, column 47: command 5: gets the next parcel at 1>0\nline 2, column 61: command 6: gets the next parcel at nobody; no command before it opens nobody\nline 2, column 78: command 7: closes 0>2; no command before it opens 0>2\nline 2, column 94: command 8: lets node 1 take turns, at most 5\nline 2, column 107: command 9: prints the link words\nvalid: nodes 2, words 4, commands 9\n",
+    ),
+    (
+        " {\"commands\":[],\n\"words\":0,\"nodes\":1}",
+        "valid: nodes 1, words 0, commands 0\n",
+    ),
+];
+
+#[test]
+fn tells_what_the_commands_of_a_script_do(rt: HostRuntime) {
+    assert_eq!(rt; first_other(rt.alloc(), &SCRIPTS, 0), None);
+}
+
+// How a run ends whose reader fails after so many reads, and what it has written.
+fn status_after_reads(alloc: Global, reads_left: usize, out: &mut Vec<u8>) -> u8 {
+    let mut reader = Device::new(SlowReader {
+        bytes: b"[]",
+        reads_left,
+    });
+    run_program(alloc, Ok(Asked::Script), &mut reader, &mut Device::new(out))
+}
+
+// Whether a failed read writes nothing and ends with status 1, and three reads are the whole.
+fn ends_after_reads(alloc: Global, reads_left: usize) -> bool {
+    let mut out = Vec::new(alloc);
+    let status = status_after_reads(alloc, reads_left, &mut out);
+    if reads_left < 3 {
+        status == 1 && out.is_empty()
+    } else {
+        status == 2 && !out.is_empty()
+    }
+}
+
+// How a run ends whose writer takes three bytes at a time and then fails, and how much it has taken.
+fn ends_after_writes(alloc: Global, writes_left: usize, fails: bool) -> bool {
+    let mut out = Vec::new(alloc);
+    let status = run_program(
+        alloc,
+        Ok(Asked::Usage),
+        &mut Device::new(b"".as_slice()),
+        &mut Device::new(SlowWriter {
+            taken: &mut out,
+            writes_left,
+            fails,
+        }),
+    );
+    let all = b"usage: ipcz_check [--help] < SCRIPT\n".as_slice();
+    if writes_left < 12 {
+        status == 1 && out.len() < all.len() && all.starts_with(&out)
+    } else {
+        status == 2 && out.as_slice() == all
+    }
+}
+
+// Whether a read or a write that fails in mid-stream ends the run.
+fn ends_at_faults(alloc: Global) -> bool {
+    for i in 0..16 {
+        if !ends_after_reads(alloc, i)
+            || !ends_after_writes(alloc, i, true)
+            || !ends_after_writes(alloc, i, false)
+        {
+            return false;
+        }
+    }
+    true
+}
+
+#[test]
+fn ends_at_a_read_or_a_write_that_fails(rt: HostRuntime) {
+    assert!(rt; ends_at_faults(rt.alloc()));
+}
+
+// Whether want of memory to look at the arguments ends a run before it reads.
+fn ends_without_memory(alloc: Global) -> bool {
+    let mut out = Vec::new(alloc);
+    let mut reader = Device::new(b"[]".as_slice());
+    run_program(
+        alloc,
+        Err(AllocError),
+        &mut reader,
+        &mut Device::new(&mut out),
+    ) == 3
+        && out.is_empty()
+}
+
+#[test]
+fn reads_nothing_without_memory(rt: HostRuntime) {
+    assert!(rt; ends_without_memory(rt.alloc()));
+}
