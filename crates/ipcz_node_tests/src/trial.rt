@@ -18,7 +18,7 @@ mod two_nodes;
 
 use self::deeds::Deed;
 use self::letters::{Letter, listed};
-use ipcz_base::{End, LinkId, Message, Parcel, Refusal, Sequence, Side};
+use ipcz_base::{End, LinkId, Message, Parcel, Profile, Refusal, Sequence, Side};
 use ipcz_node::{Act, Happened, MailSeen, NodeState};
 use std::alloc::Global;
 
@@ -69,6 +69,8 @@ enum Step {
     Put(End, &'static [End], Result<u64, Refusal>),
     /// Puts a parcel of so many bytes of this value.
     PutBytes(End, u8, usize, &'static [End], Result<u64, Refusal>),
+    /// Puts a wide parcel of so many bytes of this value.
+    PutWide(End, u8, usize, &'static [End], Result<u64, Refusal>),
     /// Takes the next parcel of an end: its number, or why there is none.
     Get(End, Result<u64, Refusal>),
     /// Takes the next parcel of an end, with its number, its bytes and its ends.
@@ -196,6 +198,7 @@ impl Trial {
     // Puts a parcel; its number, or why it is refused, where both lists are handed back then.
     fn put(
         &mut self,
+        profile: Profile,
         at: End,
         byte: u8,
         count: usize,
@@ -203,7 +206,10 @@ impl Trial {
     ) -> Option<Result<u64, Refusal>> {
         let bytes = vec![in self.alloc; byte; count].ok()?;
         let copies = listed(self.alloc, ends).ok()?;
-        match self.node.put(at, Sequence::from_vec(bytes), copies) {
+        match self
+            .node
+            .put_as(profile, at, Sequence::from_vec(bytes), copies)
+        {
             Ok(number) => Some(Ok(number)),
             Err(refused) => {
                 if refused.bytes.len() == count && refused.ends.as_slice() == ends {
@@ -271,9 +277,14 @@ impl Trial {
     fn calls(&mut self, step: &Step) -> bool {
         match step {
             Step::Open(word) => self.open(*word),
-            Step::Put(at, ends, want) => self.put(*at, b'a', 1, ends) == Some(*want),
+            Step::Put(at, ends, want) => {
+                self.put(Profile::Printed, *at, b'a', 1, ends) == Some(*want)
+            }
             Step::PutBytes(at, byte, count, ends, want) => {
-                self.put(*at, *byte, *count, ends) == Some(*want)
+                self.put(Profile::Printed, *at, *byte, *count, ends) == Some(*want)
+            }
+            Step::PutWide(at, byte, count, ends, want) => {
+                self.put(Profile::Wide, *at, *byte, *count, ends) == Some(*want)
             }
             Step::Get(at, want) => self.get(*at) == *want,
             Step::GetParcel(at, n, bytes, ends) => self.gets(*at, *n, bytes, ends),

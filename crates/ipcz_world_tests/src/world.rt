@@ -10,7 +10,7 @@ mod words;
 ghost use Rattle.ipcz_world.specs.Lawful.{IsWithinLimits};
 
 use self::calls::{Call, given};
-use ipcz_base::{End, Refusal, Sequence, Side};
+use ipcz_base::{End, Refusal, Sequence, Side, Sizes};
 use ipcz_world::{Reply, Step, World};
 use std::alloc::{AllocError, Global};
 use std::test::Fail;
@@ -331,5 +331,31 @@ const CLOSE: [Call; 9] = [
 fn a_close_is_heard_at_the_peer(rt: HostRuntime) -> Result<(), Fail> {
     let mut world = World::new(rt.alloc(), 2, 1)?;
     assert_eq!(rt; given(&mut world, rt.alloc(), &CLOSE)?, CLOSE.len());
+    Ok(())
+}
+
+const ALL_BYTES: Sizes = Sizes {
+    bytes: 65_536,
+    ends: 0,
+};
+
+// The greatest wide parcel and an empty one, of bytes that don't print; and what a get would give, before and after it has come.
+const WIDE: [Call; 10] = [
+    Call::WideRefused(0, A0, 65_537, Refusal::TooMany),
+    Call::PutWide(0, A0, 0xFF, 65_536, 0),
+    Call::PutWide(0, A0, 0, 0, 1),
+    Call::NextSizes(1, B0, None),
+    Call::NextSizes(2, B0, None),
+    Call::Settle(100, Some(10)),
+    Call::NextSizes(1, B0, Some(ALL_BYTES)),
+    Call::NextSizes(0, B0, None),
+    Call::GetWide(1, B0, 0, 0xFF, 65_536),
+    Call::GetWide(1, B0, 1, 0, 0),
+];
+
+#[test]
+fn a_wide_parcel_has_any_bytes(rt: HostRuntime) -> Result<(), Fail> {
+    let mut world = World::new(rt.alloc(), 2, 1)?;
+    assert_eq!(rt; given(&mut world, rt.alloc(), &WIDE)?, WIDE.len());
     Ok(())
 }

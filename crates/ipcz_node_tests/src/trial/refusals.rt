@@ -1,6 +1,6 @@
 //! Why a put, a get or a close is refused, in the order of the tests.
 
-use super::Step::{Close, Deliver, Get, Holds, Open, Put, PutBytes, Quiet, Strays};
+use super::Step::{Close, Deliver, Get, Holds, Open, Put, PutBytes, PutWide, Quiet, Strays};
 use super::letters::Letter;
 use super::{A0, A1, B0, B1, C0, Step, first_wrong};
 use ipcz_base::{Descriptor, End, LinkId, Refusal, Side};
@@ -136,6 +136,23 @@ static ACCEPTED: [Step; 17] = [
 #[test]
 fn a_put_of_the_most_bytes_and_ends_is_accepted(rt: HostRuntime) {
     assert_eq!(rt; first_wrong(rt.alloc(), 0, 2, &[&ACCEPTED]), None);
+}
+
+// A wide parcel has any bytes, and more of them; its ends are tested as a printed one's are.
+static WIDE: [Step; 8] = [
+    Open(1),
+    PutWide(A0, 0, 65_537, &[], Err(Refusal::TooMany)),
+    PutWide(A0, 0x1F, 257, &[A0], Err(Refusal::SelfAttach)),
+    PutWide(A0, 0x7F, 1, &[B0], Err(Refusal::PeerAttach)),
+    PutWide(B0, 0, 0, &[], Err(Refusal::Stranger)),
+    PutWide(A0, 0xFF, 65_536, &[A1, B1], Ok(0)),
+    Holds(A1, false),
+    PutWide(A0, 0, 257, &[], Ok(1)),
+];
+
+#[test]
+fn a_wide_put_takes_any_bytes(rt: HostRuntime) {
+    assert_eq!(rt; first_wrong(rt.alloc(), 0, 2, &[&WIDE]), None);
 }
 
 // The mark of 0B comes before the parcel in front of it. What is tested before it is refused before

@@ -3,7 +3,7 @@
 //! Nothing is promised of what stands here: a test's own proof would else work out the world at each call. So a test is a list of calls.
 
 use super::{get, is_got, is_put, is_refused, put};
-use ipcz_base::{End, Refusal};
+use ipcz_base::{End, Profile, Refusal, Sequence, Sizes};
 use ipcz_world::{Reply, Settled, Step, World};
 use std::alloc::{AllocError, Global};
 
@@ -14,8 +14,16 @@ pub enum Call {
     Open(u8, End, End),
     /// Puts these bytes and ends at an end of a node, under this number.
     Put(u8, End, &'static [u8], &'static [End], u64),
+    /// Puts a wide parcel of so many bytes of a value at an end of a node, under this number.
+    PutWide(u8, End, u8, usize, u64),
+    /// A wide put of so many bytes is refused.
+    WideRefused(u8, End, usize, Refusal),
+    /// How many bytes and ends the parcel has that a get at an end of a node would give, or none where it would be refused.
+    NextSizes(u8, End, Option<Sizes>),
     /// Gets these bytes and ends at an end of a node, under this number.
     Get(u8, End, u64, &'static [u8], &'static [End]),
+    /// Gets a parcel of so many bytes of a value at an end of a node, under this number.
+    GetWide(u8, End, u64, u8, usize),
     /// Closes an end of a node, whose mark has this number.
     Close(u8, End, u64),
     /// Takes turns of a node, which do this as their values print.
@@ -106,6 +114,20 @@ fn gives(world: &mut World, alloc: Global, call: Call) -> Result<bool, AllocErro
         Call::Get(node, at, number, data, ends) => {
             Ok(is_got(&world.step(&get(node, at)), number, data, ends))
         }
+        Call::PutWide(node, at, value, count, number) => {
+            let bytes = Sequence::from_vec(vec![in alloc; value; count]?);
+            let ends = Sequence::from_vec(Vec::new(alloc));
+            Ok(
+                world
+                    .put_as(Profile::Wide, node, at, bytes, ends)
+                    .is_ok_and(|n| n == number),
+            )
+        }
+        Call::GetWide(node, at, number, value, count) => {
+            let bytes = vec![in alloc; value; count]?;
+            Ok(is_got(&world.get(node, at), number, bytes.as_slice(), &[]))
+        }
+        Call::NextSizes(node, at, want) => Ok(world.next_sizes(node, at) == want),
         Call::Close(node, at, number) => Ok(closes(world, node, at, number)),
         Call::Turns(node, events) => take_all(world, alloc, node, events),
         Call::Settle(limit, want) => Ok(settles(world, limit, want)),
@@ -125,6 +147,19 @@ fn refuses(world: &mut World, alloc: Global, call: Call) -> Result<bool, AllocEr
         Call::OpenRefused(node, why) => (Step::Open(node), why),
         Call::PutRefused(node, at, ends, why) => (put(alloc, node, at, b"b", ends)?, why),
         Call::GetRefused(node, at, why) => (get(node, at), why),
+        Call::WideRefused(node, at, count, why) => {
+            let bytes = Sequence::from_vec(vec![in alloc; 0; count]?);
+            let ends = Sequence::from_vec(Vec::new(alloc));
+            (
+                Step::PutWide {
+                    node,
+                    at,
+                    bytes,
+                    ends,
+                },
+                why,
+            )
+        }
         Call::CloseRefused(node, at, why) => (Step::Close { node, at }, why),
         Call::TurnRefused(node, why) => (Step::Turn(node), why),
         _ => return Ok(false),
