@@ -1,5 +1,5 @@
 -- What a lone parcel does to the node that sends it and to the node that takes it, act by act.
-use Rattle.std.proofs.Common.{◌≡◌, ◌≤◌, ℕ, Bool, true, false, cond, nat_eq, Option, Some, None, [], length}
+use Rattle.std.proofs.Common.{◌≡◌, ◌⊎◌, ◌≢◌, ◌≤◌, ℕ, Bool, true, false, cond, nat_eq, Option, Some, None, [], length}
 use Rattle.std.proofs.Common.{refl, sym, ap, subst, ◌∙◌, arith, inl, inr, true≢false, if◌then◌else◌}
 use Rattle.std.specs.Prelude.{IsSomeAnd}
 use Rattle.std.specs.Option.{option_map_or}
@@ -76,6 +76,32 @@ module _ (m : FinMap nat_cmp Router) (s : ℕ) (r : Router) (only : OnlyFlagged 
       go q false e = refl
       go q true e = absurd (true≢false (sym e ∙ ap (passes test (insert m s r)) (others q e) ∙ ap (λ o. option_map_or test o false) here ∙ down))
 
+-- the flagged router of the lowest serial is found
+pub lowest_flagged : (m : FinMap nat_cmp Router) (k : ℕ) (r : Router) → get m k ≡ Some r → r.flagged ≡ true →
+    ((q : ℕ) (x : Router) → get m q ≡ Some x → x.flagged ≡ true → k ≤ q) → first_where (λ x. x.flagged) (entries m) ≡ Some (found k r)
+lowest_flagged m k r here up least =
+    subst (λ o. IsSomeAnd o (λ (x : Router). first_where (λ x. x.flagged) (entries m) ≡ Some (found k x))) here
+    (found_filed (λ x. x.flagged) m (Some k) (passes (λ x. x.flagged) m) (λ q. refl)
+    (ap (λ o. option_map_or (λ (x : Router). x.flagged) o false) here ∙ up, λ q passed. go q (get m q) refl passed))
+  where
+    go : (q : ℕ) (o : Option Router) → get m q ≡ o → option_map_or (λ (x : Router). x.flagged) o false ≡ true → k ≤ q
+    go q None e h = cc
+    go q (Some x) e h = least q x e h
+
+-- what stands under a key after a router was written
+pub written : (m : FinMap nat_cmp Router) (k q : ℕ) (r x : Router) → get (insert m k r) q ≡ Some x →
+    ((q ≡ k) × (r ≡ x)) ⊎ ((q ≢ k) × (get m q ≡ Some x))
+written m k q r x e = elim (one_or_two q k) [
+  | inl t ↦ inl (t.0, let both : Some r ≡ Some x = sym (rw t.1 at (get-insert nat_cmp_total m k r q)) ∙ e in cc)
+  | inr t ↦ inr (t.0, sym (rw t.1 at (get-insert nat_cmp_total m k r q)) ∙ e)
+]
+
+pub written_elsewhere : (m : FinMap nat_cmp Router) (k q : ℕ) (r : Router) → q ≢ k → get (insert m k r) q ≡ get m q
+written_elsewhere m k q r ne = elim (one_or_two q k) [
+  | inl t ↦ absurd (ne t.0)
+  | inr t ↦ rw t.1 at (get-insert nat_cmp_total m k r q)
+]
+
 -- the sender of a lone parcel
 module _ (x : Node) (serial : ℕ) (link : LinkEnd) (is : SendsOnly x serial link) where
   abbrev r : Router
@@ -130,10 +156,14 @@ module _ (x y : Node) (link : LinkId) (side : Side) (n from : ℕ) (item : Item)
 pub stands : (x : Node) (serial : ℕ) (r : Router) → router_in (with_router x serial r) serial ≡ Some r
 stands x serial r = insert_here x.routers serial r
 
--- and rests
+-- a router that stands there rests
+pub rests : (x : Node) (serial : ℕ) (r : Router) → router_in x serial ≡ Some r →
+    with_router x serial (rest r) ≡ commit x (OfRouter serial acts.Rest) Plain
+unfolding commit commit_router keep_or_drop on_router send leaves_by output_of apply
+rests x serial r here = sym (ap (λ o. on_router x o (commit_router x serial acts.Rest Plain)) here)
+
+-- and so does one that was written
 pub rested : (x : Node) (serial : ℕ) (r : Router) →
     with_router x serial (rest r) ≡ commit (with_router x serial r) (OfRouter serial acts.Rest) Plain
-unfolding commit commit_router keep_or_drop on_router send leaves_by output_of apply
 rested x serial r =
-    (λ j. record x { routers = sym (insert_twice x.routers serial r (rest r)) j })
-    ∙ sym (ap (λ o. on_router (with_router x serial r) o (commit_router (with_router x serial r) serial acts.Rest Plain)) (stands x serial r))
+    (λ j. record x { routers = sym (insert_twice x.routers serial r (rest r)) j }) ∙ rests (with_router x serial r) serial r (stands x serial r)

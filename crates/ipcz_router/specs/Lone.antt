@@ -1,5 +1,5 @@
 -- The two routers of a lone parcel: the one that sends it and rests then, and the one that takes it and rests.
-use Rattle.std.specs.Prelude.{◌≡◌, ℕ, Bool, true, not, ◌&&◌, ◌||◌, is_none, Some, []}
+use Rattle.std.specs.Prelude.{◌≡◌, ℕ, Bool, true, false, not, ◌&&◌, ◌||◌, is_none, Some, []}
 use Rattle.ipcz_base.specs.declared.item.Item.{Item}
 use Rattle.ipcz_base.specs.declared.side.Side.{Side}
 use Rattle.ipcz_base.specs.declared.link_id.LinkId.{LinkId}
@@ -28,9 +28,10 @@ pub record SendsLast (r : Router) (link : LinkEnd) : Type 0 where
   pub way : way_out r ≡ Some link
   pub still : is_still (pop_out r) ≡ true
 
--- the router, which only rests, takes an item of a number that comes over its outward link at its side, and rests
+-- the router, which rests and isn't flagged, takes an item of a number that comes over its outward link at its side, and rests
 pub record TakesLast (r : Router) (link : LinkId) (side : Side) (n : ℕ) (item : Item) (v : Router) : Type 0 where
   pub still : is_still r ≡ true
+  pub unflagged : r.flagged ≡ false
   pub outward : outward_has r link side ≡ true
   pub place : has_place_for r true n ≡ true
   pub after : v ≡ rest (accept_from_outward r n item)

@@ -1,8 +1,10 @@
 pub mod Beginning
 pub mod Calling
 pub mod Carrying
+pub mod CarryingWithin
 pub mod FirstTurns
 pub mod Kept
+pub mod LoneSenders
 pub mod LoneWorlds
 pub mod Marks
 pub mod Regular

@@ -12,13 +12,11 @@ use Rattle.ipcz_world.specs.Turns.{is_full}
 abbrev pub AreQuiet : World → ℕ → ℕ → Type 0
 AreQuiet w from to = (n : ℕ) → from ≤ n → n < to → is_quiet (node_at w n) ≡ true
 
--- no mailbox is full and each node but one is quiet, which has only to send an item without ends to another node, whose mailbox for it is
--- empty
+-- no mailbox is full and each node but one is quiet, which has only to send an item without ends to a node, whose mailbox for it is empty
 pub record IsLone (w : World) (n serial : ℕ) (link : LinkEnd) : Type 0 where
   pub mail : (k : ℕ) → is_full (mail_at w k) ≡ false
   pub here : n < w.count
   pub there : link.other < w.count
-  pub apart : n ≡ link.other → ⊥
   pub others : (k : ℕ) → k < w.count → (k ≡ n → ⊥) → is_quiet (node_at w k) ≡ true
   pub box : mail_at w (way w n link.other) ≡ Empty
   pub sends : SendsOnly (node_at w n) serial link

@@ -35,6 +35,16 @@ const B1: End = End {
     side: Side::B,
 };
 
+const A3: End = End {
+    pair: 3,
+    side: Side::A,
+};
+
+const B3: End = End {
+    pair: 3,
+    side: Side::B,
+};
+
 // The end of side A of a pair.
 fn a(pair: u32) -> End {
     End {
@@ -199,6 +209,39 @@ fn settles_after_ten_acts(rt: HostRuntime) -> Result<(), Fail> {
     for settles in &TEN_ACTS {
         assert_eq!(rt; given_after(rt.alloc(), settles)?, 9);
     }
+    Ok(())
+}
+
+// A parcel that is all that a world has to do: six acts, between nodes and within one, whichever of its routers has the lower serial.
+const LONE_PARCELS: [Call; 19] = [
+    Call::Put(0, A0, b"a", &[], 0),
+    Call::Settle(6, Some(6)),
+    Call::Put(1, B0, b"b", &[], 0),
+    Call::Settle(u64::MAX, Some(6)),
+    Call::Put(2, B1, b"c", &[], 0),
+    Call::Settle(5, None),
+    Call::Settle(6, Some(1)),
+    Call::Get(1, B0, 0, b"a", &[]),
+    Call::Get(0, A0, 0, b"b", &[]),
+    Call::Get(0, A1, 0, b"c", &[]),
+    Call::Open(1, A3, B3),
+    Call::Put(1, A3, b"d", &[], 0),
+    Call::Settle(6, Some(6)),
+    Call::Put(1, B3, b"e", &[], 0),
+    Call::Settle(5, None),
+    Call::Settle(6, Some(1)),
+    Call::Get(1, B3, 0, b"d", &[]),
+    Call::Get(1, A3, 0, b"e", &[]),
+    Call::Settle(0, Some(0)),
+];
+
+#[test]
+fn settles_a_lone_parcel_after_six_acts(rt: HostRuntime) -> Result<(), Fail> {
+    let mut world = World::new(rt.alloc(), 3, 4)?;
+    assert_eq!(rt;
+        given(&mut world, rt.alloc(), &LONE_PARCELS)?,
+        LONE_PARCELS.len()
+    );
     Ok(())
 }
 

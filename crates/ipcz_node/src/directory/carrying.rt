@@ -33,6 +33,24 @@ impl Directory {
         }
     }
 
+    /// Takes the current item out of the out queue of the router of the serial, as `Router::send_next`, and gives its number with it.
+    #[inline(always)]
+    pub fn send_next(&mut self, serial: u64) -> (u64, Item)
+        requires { IsSomeAnd (get self.old.filed.routers serial) (λ r. is_some (current_item r.out_queue) ≡ true) }
+        ensures router { (r : RouterRecord) → get self.old.filed.routers serial ≡ Some r →
+            self.new.filed ≡ put_filed self.old.filed serial (pop_out r) }
+        ensures number { (r : RouterRecord) → get self.old.filed.routers serial ≡ Some r → result.0 ≡ r.out_queue.current }
+        ensures item { (r : RouterRecord) → get self.old.filed.routers serial ≡ Some r → Some result.1 ≡ current_item r.out_queue }
+    {
+        let router = self.routers.router_mut(serial);
+        let was = router.is_flagged();
+        let n = router.out_number();
+        let item = router.send_next();
+        let is = router.is_flagged();
+        follow(&mut self.files.flagged, serial, was, is);
+        (n, item)
+    }
+
     /// Takes the current item out of the out queue of the router of the serial, as `Router::send_last`, and gives its number with it.
     #[inline(always)]
     pub fn send_last(&mut self, serial: u64) -> (u64, Item)

@@ -26,6 +26,21 @@ impl NodeState {
         self.routers.only_sender()
     }
 
+    /// Takes the current item out of the out queue of the router of the serial, and gives its number with it: what the act `SendOut` of the
+    /// router comes to but for the outbox.
+    #[inline(always)]
+    pub fn send_next(&mut self, serial: u64) -> (u64, Item)
+        requires { IsSomeAnd (router_in self.old.node serial) (λ r. is_some (current_item r.out_queue) ≡ true) }
+        ensures node { (r : RouterRecord) → router_in self.old.node serial ≡ Some r →
+            self.new.node ≡ with_router self.old.node serial (pop_out r) }
+        ensures number { (r : RouterRecord) → router_in self.old.node serial ≡ Some r → result.0 ≡ r.out_queue.current }
+        ensures item { (r : RouterRecord) → router_in self.old.node serial ≡ Some r → Some result.1 ≡ current_item r.out_queue }
+        ensures serials { self.old.node.next_peripheral ≤ no_number }
+    {
+        self.counts_serials();
+        self.routers.send_next(serial)
+    }
+
     /// Takes the current item out of the out queue of the router of the serial, which rests then, and gives its number with it: what the acts
     /// `SendOut` and `Rest` of the router come to but for the outbox.
     #[inline(always)]

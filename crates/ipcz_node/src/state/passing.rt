@@ -184,9 +184,9 @@ impl NodeState {
         Ok(sent)
     }
 
-    // A router rests.
+    /// Lets a router rest: its act `Rest`. It takes no memory.
     #[tactic(auto, using(crate::proofs::Carrying::rests_without), unfolding(crate::specs::Acts::commit, crate::specs::Acts::commit_router, crate::specs::Acts::keep_or_drop, crate::specs::Node::on_router, crate::specs::Sends::send, ipcz_router::specs::ActEffects::leaves_by, ipcz_router::specs::ActEffects::output_of))]
-    fn rest(&mut self, serial: u64)
+    pub fn rest(&mut self, serial: u64)
         requires { is_some (router_in self.old.node serial) ≡ true }
         ensures node { self.new.node ≡ commit self.old.node (Act.Router serial RouterAct.Rest) Answer.Plain }
         ensures allowed { act_lacks_serials self.old.node (Act.Router serial RouterAct.Rest) ≡ false }

@@ -58,6 +58,20 @@ impl Router {
         }
     }
 
+    /// Takes the current item of the out queue out.
+    #[inline(always)]
+    pub fn send_next(&mut self) -> Item
+        requires { is_some (current_item self.old.router.out_queue) ≡ true }
+        ensures router { self.new.router ≡ pop_out self.old.router }
+        ensures item { Some result ≡ current_item self.old.router.out_queue }
+        ensures room { LeavesRoom self.old self.new 0 0 }
+    {
+        let Some(item) = self.pop_out() else {
+            unreachable!()
+        };
+        item
+    }
+
     /// Takes the current item of the out queue out, and rests.
     #[inline(always)]
     pub fn send_last(&mut self) -> Item
@@ -66,14 +80,12 @@ impl Router {
         ensures item { Some result ≡ current_item self.old.router.out_queue }
         ensures room { LeavesRoom self.old self.new 0 0 }
     {
-        let Some(item) = self.pop_out() else {
-            unreachable!()
-        };
+        let item = self.send_next();
         self.flagged = false;
         item
     }
 
-    /// Takes an item that came over a link and rests, where this router only rests and its outward edge has the link at
+    /// Takes an item that came over a link and rests, where this router isn't flagged, only rests, and its outward edge has the link at
     /// the side. It tells whether it did: `item` counts for nothing then. Else `item` and the router stay as they are.
     #[inline(always)]
     pub fn take_last(&mut self, link: LinkId, side: Side, n: u64, item: &mut Item) -> bool
@@ -81,7 +93,10 @@ impl Router {
         ensures taken { result ≡ true → TakesLast self.old.router link side n item.old self.new.router }
         ensures left { result ≡ false → (item.new ≡ item.old) × (self.new.router ≡ self.old.router) }
     {
-        if !self.is_still() || !self.outward.has(link, side) || self.take_in(n, item).is_err() {
+        if self.flagged || !self.is_still() || !self.outward.has(link, side) {
+            return false;
+        }
+        if self.take_in(n, item).is_err() {
             return false;
         }
         self.flagged = false;

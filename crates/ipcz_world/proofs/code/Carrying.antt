@@ -45,7 +45,7 @@ use Rattle.ipcz_world.proofs.code.Wordless.{plain-answer, untouched}
 use Rattle.ipcz_world.proofs.facts.Finding.{found_there}
 
 -- a node that has an act is next from another on, where no other node has one
-next-busy : (u : World) (a b : ℕ) → a < u.count → b < u.count → is_idle (next_at u b) ≡ false →
+pub next-busy : (u : World) (a b : ℕ) → a < u.count → b < u.count → is_idle (next_at u b) ≡ false →
     ((k : ℕ) → k < u.count → (k ≡ a → ⊥) → (k ≡ b → ⊥) → is_idle (next_at u k) ≡ true) → IsNextBusy u (next_node u a) b
 next-busy u a b la lb busy idle = go (nat_lt (a + 1) u.count) refl (nat_lt a b) refl
   where
@@ -75,7 +75,7 @@ next-busy u a b la lb busy idle = go (nat_lt (a + 1) u.count) refl (nat_lt a b) 
     })
 
 -- nor where a pass begins
-first-busy : (u : World) (b : ℕ) → b < u.count → is_idle (next_at u b) ≡ false →
+pub first-busy : (u : World) (b : ℕ) → b < u.count → is_idle (next_at u b) ≡ false →
     ((k : ℕ) → k < u.count → (k ≡ b → ⊥) → is_idle (next_at u k) ≡ true) → IsNextBusy u 0 b
 first-busy u b lb busy idle = inl (record {
   after = omega arith;
@@ -85,7 +85,7 @@ first-busy u b lb busy idle = inl (record {
 })
 
 -- an act on the way
-go-on : (w u v : World) (acts from a : ℕ) (act : Act) → OnWay w acts u from → IsNextBusy u from a → a < u.count → next_at u a ≡ act →
+pub go-on : (w u v : World) (acts from a : ℕ) (act : Act) → OnWay w acts u from → IsNextBusy u from a → a < u.count → next_at u a ≡ act →
     turn_lacks_serials u a act ≡ false → after_act u a act ≡ v → OnWay w (acts + 1) v (next_node u a)
 go-on w u v acts from a act on busy l first low is =
     on_way-turn w u v acts from a (next_node u a) (turn_event u a act) on busy refl
@@ -93,7 +93,7 @@ go-on w u v acts from a act on busy l first low is =
     (record { event = refl; done = sym is; allowed = low; why = tt; grows = λ g k. refl; left = tt }))
 
 -- an act of a router that touches no word changes its node alone
-router-acts : (u : World) (k serial : ℕ) (r : Router) (act : RouterAct) → get (node_at u k).routers serial ≡ Some r →
+pub router-acts : (u : World) (k serial : ℕ) (r : Router) (act : RouterAct) → get (node_at u k).routers serial ≡ Some r →
     is_wordless act ≡ true → after_act u k (acts.Router serial act) ≡ set_node u k (commit (node_at u k) (acts.Router serial act) Plain)
 unfolding after_act after_router_act router_at
 router-acts u k serial r act here plain =
@@ -111,7 +111,7 @@ none-flagged x s none q r here up =
     apart e = cc
 
 module _ (w : World) (n serial : ℕ) (link : LinkEnd) (is : IsRegular w) (lone : IsLone w n serial link)
-    (low : (node_at w n).next_peripheral ≤ no_number) where
+    (apart : n ≡ link.other → ⊥) (low : (node_at w n).next_peripheral ≤ no_number) where
   abbrev m : ℕ
   m = link.other
 
@@ -150,7 +150,7 @@ module _ (w : World) (n serial : ℕ) (link : LinkEnd) (is : IsRegular w) (lone 
   few = is.lengths.few
 
   y0-quiet : Quiet y0
-  y0-quiet = quiet_is y0 (lone.others m lone.there (λ e. lone.apart (sym e)))
+  y0-quiet = quiet_is y0 (lone.others m lone.there (λ e. apart (sym e)))
 
   counts-x : x0.count ≡ w.count
   counts-x = (is.sound n lone.here).count_is
@@ -163,9 +163,9 @@ module _ (w : World) (n serial : ℕ) (link : LinkEnd) (is : IsRegular w) (lone 
     idle-others : (k : ℕ) → k < w.count → (k ≡ n → ⊥) → (k ≡ m → ⊥) → is_idle (next_at (at x y b) k) ≡ true
     unfolding set_node set_mail
     idle-others k l kn km =
-        let same = node-other w n m lone.apart lone.here lone.there is.lengths x y b k kn km in
+        let same = node-other w n m apart lone.here lone.there is.lengths x y b k kn km in
         quiet_idle (at x y b) k few (ap (λ (z : Node). z.count) same ∙ (is.sound k l).count_is)
-        (λ i li. none-elsewhere w n m lone.apart lone.here lone.there is.lengths x y b lone.mail k i l km)
+        (λ i li. none-elsewhere w n m apart lone.here lone.there is.lengths x y b lone.mail k i l km)
         (subst Quiet (sym same) (quiet_is (node_at w k) (lone.others k l kn)))
 
     -- the sender acts of its own where its hand and its outboxes are empty
@@ -173,9 +173,9 @@ module _ (w : World) (n serial : ℕ) (link : LinkEnd) (is : IsRegular w) (lone 
         next_at (at x y b) n ≡ close_turn x.pending (router_turn (flagged_router x))
     unfolding set_node set_mail
     own-sender counted hand boxes =
-        let same = node-sender w n m lone.apart lone.here lone.there is.lengths x y b in
+        let same = node-sender w n m apart lone.here lone.there is.lengths x y b in
         own_act (at x y b) n few (ap (λ (z : Node). z.count) same ∙ counted)
-        (λ i li. none-elsewhere w n m lone.apart lone.here lone.there is.lengths x y b lone.mail n i lone.here lone.apart)
+        (λ i li. none-elsewhere w n m apart lone.here lone.there is.lengths x y b lone.mail n i lone.here apart)
         (ap (λ (z : Node). z.hand) same ∙ hand) (ap (λ (z : Node). are_empty z.outboxes) same ∙ ap are_empty boxes ∙ lone.sends.outboxes)
         ∙ ap (λ (z : Node). close_turn z.pending (router_turn (flagged_router z))) same
 
@@ -184,9 +184,9 @@ module _ (w : World) (n serial : ℕ) (link : LinkEnd) (is : IsRegular w) (lone 
         next_at (at x y b) m ≡ close_turn y.pending (router_turn (flagged_router y))
     unfolding set_node set_mail
     own-taker clear counted hand boxes =
-        let same = node-taker w n m lone.apart lone.here lone.there is.lengths x y b in
+        let same = node-taker w n m apart lone.here lone.there is.lengths x y b in
         own_act (at x y b) m few (ap (λ (z : Node). z.count) same ∙ counted)
-        (λ i li. none-to w n m lone.apart lone.here lone.there is.lengths x y b lone.mail clear i)
+        (λ i li. none-to w n m apart lone.here lone.there is.lengths x y b lone.mail clear i)
         (ap (λ (z : Node). z.hand) same ∙ hand) (ap (λ (z : Node). are_empty z.outboxes) same ∙ ap are_empty boxes ∙ y0-quiet.boxes)
         ∙ ap (λ (z : Node). close_turn z.pending (router_turn (flagged_router z))) same
 
@@ -244,9 +244,9 @@ module _ (w : World) (n serial : ℕ) (link : LinkEnd) (is : IsRegular w) (lone 
   on-1 : OnWay w 0 w 0 → OnWay w 1 (at x1 y0 Empty) (next_node w n)
   unfolding set_node set_mail turn_lacks_serials router_turn close_turn is_idle is_wordless
   on-1 on =
-      let start = pair-start w n m lone.apart lone.here lone.there is.lengths Empty lone.box in
+      let start = pair-start w n m apart lone.here lone.there is.lengths Empty lone.box in
       let u = at x0 y0 Empty in
-      let here = node-sender w n m lone.apart lone.here lone.there is.lengths x0 y0 Empty in
+      let here = node-sender w n m apart lone.here lone.there is.lengths x0 y0 Empty in
       let first : next_at u n ≡ acts.Router serial router_acts.SendOut =
       own-sender x0 y0 Empty counts-x lone.sends.hand refl ∙ ap (λ es. close_turn es (router_turn (flagged_router x0))) lone.sends.pending
       ∙ ap router_turn flagged-x0 ∙ ap (acts.Router serial) (sends_first r0 link lone.sends.sender.sends) in
@@ -257,20 +257,20 @@ module _ (w : World) (n serial : ℕ) (link : LinkEnd) (is : IsRegular w) (lone 
       (router-acts u n serial r0 router_acts.SendOut (ap (λ (z : Node). get z.routers serial) here ∙ lone.sends.sender.here) refl
       ∙ ap (λ z. set_node u n (commit z (acts.Router serial router_acts.SendOut) Plain)) here
       ∙ ap (set_node u n) (sym (sends_it x0 serial link lone.sends))
-      ∙ write-sender w n m lone.apart lone.here lone.there is.lengths x0 x1 y0 Empty)
+      ∙ write-sender w n m apart lone.here lone.there is.lengths x0 x1 y0 Empty)
 
   -- the message is posted
   on-2 : OnWay w 1 (at x1 y0 Empty) (next_node w n) → OnWay w 2 (at x2 y0 (Full msg)) (next_node w n)
   unfolding set_node set_mail turn_lacks_serials act_lacks_serials is_idle is_full is_clear after_act after_post post_of first_of
   on-2 on =
       let u = at x1 y0 Empty in
-      let here = node-sender w n m lone.apart lone.here lone.there is.lengths x1 y0 Empty in
+      let here = node-sender w n m apart lone.here lone.there is.lengths x1 y0 Empty in
       let first : next_at u n ≡ acts.Post m =
       post_act u n m few (ap (λ (z : Node). z.count) here ∙ counts-x) lone.there
-      (λ i li. none-elsewhere w n m lone.apart lone.here lone.there is.lengths x1 y0 Empty lone.mail n i lone.here lone.apart)
+      (λ i li. none-elsewhere w n m apart lone.here lone.there is.lengths x1 y0 Empty lone.mail n i lone.here apart)
       (ap (λ (z : Node). z.hand) here ∙ lone.sends.hand)
       (ap (λ z. has_mail_for z m) here ∙ ap (λ ms. not (nat_eq (length ms) 0)) box-m)
-      (ap is_clear (box-here w n m lone.apart lone.here lone.there is.lengths x1 y0 Empty))
+      (ap is_clear (box-here w n m apart lone.here lone.there is.lengths x1 y0 Empty))
       (λ i ne. ap (λ z. has_mail_for z i) here ∙ box-others i ne) in
       go-on w u (at x2 y0 (Full msg)) 1 (next_node w n) n (acts.Post m) on
       (next-busy u n n lone.here lone.here (ap is_idle first) (λ k l ne _. idle-all x1 k l ne))
@@ -278,34 +278,34 @@ module _ (w : World) (n serial : ℕ) (link : LinkEnd) (is : IsRegular w) (lone 
       (ap (λ z. after_post u n m (post_of z (acts.Post m))) here ∙ ap (λ ms. after_post u n m (first_of ms)) box-m
       ∙ ap (λ z. set_mail (set_node u n (commit z (acts.Post m) Plain)) (way u n m) (Full msg)) here
       ∙ ap (λ z. set_mail (set_node u n z) (way u n m) (Full msg)) posted
-      ∙ ap (λ v. set_mail v (way u n m) (Full msg)) (write-sender w n m lone.apart lone.here lone.there is.lengths x1 x2 y0 Empty)
-      ∙ write-box w n m lone.apart lone.here lone.there is.lengths x2 y0 Empty (Full msg))
+      ∙ ap (λ v. set_mail v (way u n m) (Full msg)) (write-sender w n m apart lone.here lone.there is.lengths x1 x2 y0 Empty)
+      ∙ write-box w n m apart lone.here lone.there is.lengths x2 y0 Empty (Full msg))
 
   -- the taker looks
   on-3 : OnWay w 2 (at x2 y0 (Full msg)) (next_node w n) → OnWay w 3 (at x2 y1 (Hand msg)) (next_node w m)
   unfolding set_node set_mail turn_lacks_serials act_lacks_serials is_idle is_full after_act after_look full_message commit
   on-3 on =
       let u = at x2 y0 (Full msg) in
-      let here = node-taker w n m lone.apart lone.here lone.there is.lengths x2 y0 (Full msg) in
-      let box = box-here w n m lone.apart lone.here lone.there is.lengths x2 y0 (Full msg) in
+      let here = node-taker w n m apart lone.here lone.there is.lengths x2 y0 (Full msg) in
+      let box = box-here w n m apart lone.here lone.there is.lengths x2 y0 (Full msg) in
       let first : next_at u m ≡ acts.Look n =
       look_act u m n few (ap (λ (z : Node). z.count) here ∙ counts-y) lone.here (ap is_full box)
-      (λ i li ne. none-from w n m lone.apart lone.here lone.there is.lengths x2 y0 (Full msg) lone.mail i ne)
+      (λ i li ne. none-from w n m apart lone.here lone.there is.lengths x2 y0 (Full msg) lone.mail i ne)
       (ap (λ (z : Node). z.hand) here ∙ y0-quiet.hand) in
       go-on w u (at x2 y1 (Hand msg)) 2 (next_node w n) m (acts.Look n) on
       (next-busy u n m lone.here lone.there (ap is_idle first) (idle-others x2 y0 (Full msg)))
       lone.there first refl
       (ap (λ b. after_look u m n (full_message b)) box
       ∙ ap (λ z. set_mail (set_node u m (commit z (acts.Look n) Plain)) (way u n m) (Hand msg)) here
-      ∙ ap (λ v. set_mail v (way u n m) (Hand msg)) (write-taker w n m lone.apart lone.here lone.there is.lengths x2 y0 y1 (Full msg))
-      ∙ write-box w n m lone.apart lone.here lone.there is.lengths x2 y1 (Full msg) (Hand msg))
+      ∙ ap (λ v. set_mail v (way u n m) (Hand msg)) (write-taker w n m apart lone.here lone.there is.lengths x2 y0 y1 (Full msg))
+      ∙ write-box w n m apart lone.here lone.there is.lengths x2 y1 (Full msg) (Hand msg))
 
   -- the sender's router rests
   on-4 : OnWay w 3 (at x2 y1 (Hand msg)) (next_node w m) → OnWay w 4 (at x3 y1 (Hand msg)) (next_node w n)
   unfolding set_node set_mail turn_lacks_serials router_turn close_turn is_idle is_wordless
   on-4 on =
       let u = at x2 y1 (Hand msg) in
-      let here = node-sender w n m lone.apart lone.here lone.there is.lengths x2 y1 (Hand msg) in
+      let here = node-sender w n m apart lone.here lone.there is.lengths x2 y1 (Hand msg) in
       let first : next_at u n ≡ acts.Router serial router_acts.Rest =
       own-sender x2 y1 (Hand msg) counts-x lone.sends.hand refl ∙ ap (λ es. close_turn es (router_turn (flagged_router x2))) lone.sends.pending
       ∙ ap router_turn flagged-x2 ∙ ap (acts.Router serial) (still_rests r1 lone.sends.sender.sends.still) in
@@ -316,7 +316,7 @@ module _ (w : World) (n serial : ℕ) (link : LinkEnd) (is : IsRegular w) (lone 
       (router-acts u n serial r1 router_acts.Rest (ap (λ (z : Node). get z.routers serial) here ∙ stands x0 serial r1) refl
       ∙ ap (λ z. set_node u n (commit z (acts.Router serial router_acts.Rest) Plain)) here
       ∙ ap (set_node u n) (sym (rested x0 serial r1))
-      ∙ write-sender w n m lone.apart lone.here lone.there is.lengths x2 x3 y1 (Hand msg))
+      ∙ write-sender w n m apart lone.here lone.there is.lengths x2 x3 y1 (Hand msg))
 
   -- so far, whatever becomes of the parcel at the taker
   pub sent : OnWay w 0 w 0 → OnWay w 4 (at x3 y1 (Hand msg)) (next_node w n)
@@ -344,8 +344,8 @@ module _ (w : World) (n serial : ℕ) (link : LinkEnd) (is : IsRegular w) (lone 
     unfolding set_node set_mail turn_lacks_serials hand_lacks_serials is_idle after_act after_hand hand_message
     on-5 on =
         let u = at x3 y1 (Hand msg) in
-        let here = node-taker w n m lone.apart lone.here lone.there is.lengths x3 y1 (Hand msg) in
-        let box = box-here w n m lone.apart lone.here lone.there is.lengths x3 y1 (Hand msg) in
+        let here = node-taker w n m apart lone.here lone.there is.lengths x3 y1 (Hand msg) in
+        let box = box-here w n m apart lone.here lone.there is.lengths x3 y1 (Hand msg) in
         let first : next_at u m ≡ acts.Hand n = hand_act u m n (ap (λ (z : Node). z.hand) here) in
         go-on w u (at x3 y2 Empty) 4 (next_node w n) m (acts.Hand n) on
         (next-busy u n m lone.here lone.there (ap is_idle first) (idle-others x3 y1 (Hand msg)))
@@ -359,8 +359,8 @@ module _ (w : World) (n serial : ℕ) (link : LinkEnd) (is : IsRegular w) (lone 
         ∙ ap (λ z. set_mail (set_node u m z) (way u n m) Empty)
         (sym (takes_it y0 y link.link (opposite link.side) r0.out_queue.current n lone.sends.sender.sends.item (source_for u msg) takes
         lone.sends.sender.sends.alone y0-quiet.hand))
-        ∙ ap (λ v. set_mail v (way u n m) Empty) (write-taker w n m lone.apart lone.here lone.there is.lengths x3 y1 y2 (Hand msg))
-        ∙ write-box w n m lone.apart lone.here lone.there is.lengths x3 y2 (Hand msg) Empty)
+        ∙ ap (λ v. set_mail v (way u n m) Empty) (write-taker w n m apart lone.here lone.there is.lengths x3 y1 y2 (Hand msg))
+        ∙ write-box w n m apart lone.here lone.there is.lengths x3 y2 (Hand msg) Empty)
 
     idle-after : (k : ℕ) → k < w.count → (k ≡ m → ⊥) → is_idle (next_at (at x3 y2 Empty) k) ≡ true
     unfolding is_idle router_turn close_turn
@@ -381,7 +381,7 @@ module _ (w : World) (n serial : ℕ) (link : LinkEnd) (is : IsRegular w) (lone 
     unfolding set_node set_mail turn_lacks_serials router_turn close_turn is_idle is_full is_wordless
     on-6 on =
         let u = at x3 y2 Empty in
-        let here = node-taker w n m lone.apart lone.here lone.there is.lengths x3 y2 Empty in
+        let here = node-taker w n m apart lone.here lone.there is.lengths x3 y2 Empty in
         let flagged : flagged_router y2 ≡ Some (found takes.serial q1) =
         still_flagged y0.routers takes.serial q1 (none-flagged y0 takes.serial y0-quiet.rests) refl in
         let first : next_at u m ≡ acts.Router takes.serial router_acts.Rest =
@@ -394,9 +394,9 @@ module _ (w : World) (n serial : ℕ) (link : LinkEnd) (is : IsRegular w) (lone 
         (router-acts u m takes.serial q1 router_acts.Rest (ap (λ (z : Node). get z.routers takes.serial) here ∙ stands y0 takes.serial q1) refl
         ∙ ap (λ z. set_node u m (commit z (acts.Router takes.serial router_acts.Rest) Plain)) here
         ∙ ap (set_node u m) (sym (rested y0 takes.serial q1) ∙ ap (with_router y0 takes.serial) (sym takes.takes.after) ∙ sym takes.changed)
-        ∙ write-taker w n m lone.apart lone.here lone.there is.lengths x3 y2 y Empty)
+        ∙ write-taker w n m apart lone.here lone.there is.lengths x3 y2 y Empty)
 
     -- all six acts
     pub carried : OnWay w 0 w 0 → OnWay w 6 (set_node (set_node w n x3) m y) (next_node w m)
     carried on = subst (λ v. OnWay w 6 v (next_node w m))
-        (pair-box w n m lone.apart lone.here lone.there is.lengths x3 y Empty lone.box) (on-6 (on-5 (sent on)))
+        (pair-box w n m apart lone.here lone.there is.lengths x3 y Empty lone.box) (on-6 (on-5 (sent on)))

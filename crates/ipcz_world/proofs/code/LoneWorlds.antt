@@ -123,11 +123,15 @@ post_act v k to few counted l full hand mail clear others =
 number-low : (c a b s t : ℕ) → s < c → a < b → (a * c + s) < b * c + t
 number-low c a b s t l less = grind (arith, l, less)
 
-way-apart : (c i k n m : ℕ) → k < c → m < c → (k ≡ m → ⊥) → nat_eq (i * c + k) (n * c + m) ≡ false
+pub way-apart : (c i k n m : ℕ) → k < c → m < c → (k ≡ m → ⊥) → nat_eq (i * c + k) (n * c + m) ≡ false
 way-apart c i k n m lk lm ne = grind (arith, nat_tests, ne, number-low c i n k m lk, number-low c n i m k lm)
 
-way-from : (c i n m : ℕ) → m < c → (i ≡ n → ⊥) → nat_eq (i * c + m) (n * c + m) ≡ false
+pub way-from : (c i n m : ℕ) → m < c → (i ≡ n → ⊥) → nat_eq (i * c + m) (n * c + m) ≡ false
 way-from c i n m lm ne = grind (arith, nat_tests, ne, number-low c i n m m lm, number-low c n i m m lm)
+
+-- the mailbox between two nodes is there
+pub way-within : (w : World) (n m : ℕ) → n < w.count → m < w.count → HasLengths w → way w n m < length w.mail
+way-within w n m ln lm has = let l = number-low w.count n w.count m 0 lm ln in omega (arith, l, has.mail)
 
 module _ (w : World) (n m : ℕ) (apart : n ≡ m → ⊥) (ln : n < w.count) (lm : m < w.count) (has : HasLengths w) where
   module _ (x y : Node) (b : Mail) where
@@ -204,14 +208,11 @@ module _ (w : World) (n m : ℕ) (apart : n ≡ m → ⊥) (ln : n < w.count) (l
   unfolding set_node set_mail
   write-box x y b c = λ j. record (pair w n m x y c) { mail = put-twice Empty w.mail (way w n m) b c j }
 
-  way-low : way w n m < length w.mail
-  way-low = let l = number-low w.count n w.count m 0 lm ln in omega (arith, l, has.mail)
-
   -- where the taker is as it was and the mailbox too, the sender alone is another; and where the sender is as it was it is the world itself
   pub pair-box : (x y : Node) (b : Mail) → mail_at w (way w n m) ≡ b → pair w n m x y b ≡ set_node (set_node w n x) m y
   unfolding set_node set_mail mail_at
   pair-box x y b is = λ j. record (set_node (set_node w n x) m y) {
-    mail = (ap (put_place Empty w.mail (way w n m)) (sym is) ∙ put-same Empty w.mail (way w n m) way-low) j;
+    mail = (ap (put_place Empty w.mail (way w n m)) (sym is) ∙ put-same Empty w.mail (way w n m) (way-within w n m ln lm has)) j;
   }
 
   both-same : set_node (set_node w n (node_at w n)) m (node_at w m) ≡ w

@@ -15,7 +15,7 @@ use ipcz_base::{Item, LinkEnd, Message, Moves};
 impl State {
     /// Carries a lone parcel all its way, as its six acts do: a send out, a post, a look, a hand, and a rest of each router. It gives how many
     /// acts that was, `most` at most, and the node that is visited next. Where there is no memory for the parcel at its receiver it stays in
-    /// hand there, behind four acts. Where the parcel isn't all that the world has to do, nothing is done.
+    /// hand there, behind four acts, or three within one node. Where the parcel isn't all that the world has to do, nothing is done.
     #[inline(never)]
     pub(crate) fn carry(&mut self, most: u64) -> (u64, u8)
         requires { IsRegular self.old }
@@ -23,20 +23,52 @@ impl State {
         ensures place { IsPlace self.new result.1 }
         ensures within { result.0 ≤ most }
     {
-        if most < 6 || self.count < 2 {
+        if most < 6 {
             return (0, 0);
         }
         match self.lone_parcel() {
-            Some((n, serial, link)) => self.carry_over(n, serial, link),
+            Some((n, serial, link)) => {
+                if n == link.other {
+                    self.carry_within(n, serial, link)
+                } else {
+                    self.carry_over(n, serial, link)
+                }
+            }
             None => (0, 0),
         }
     }
 
-    // Carries a lone parcel over its link.
+    // Carries a lone parcel over its link within one node. There its sender's router rests last.
+    #[inline(always)]
+    fn carry_within(&mut self, n: u8, serial: u64, link: LinkEnd) -> (u64, u8)
+        requires regular { IsRegular self.old }
+        requires lone { IsLone self.old n serial link }
+        requires same { n ≡ link.other }
+        ensures walk { Walk self.old self.new result.0 result.1 }
+        ensures place { IsPlace self.new result.1 }
+        ensures within { result.0 ≤ 6 }
+    {
+        let (number, sent) = self.nodes.node_mut(n).send_next(serial);
+        let mut item = sent;
+        let across = link.side.opposite();
+        if self
+            .nodes
+            .node_mut(n)
+            .take_last(link.link, across, number, &mut item)
+        {
+            self.nodes.node_mut(n).rest(serial);
+            return (6, self.next_node(n));
+        }
+        self.leave_in_hand(n, link, number, item);
+        (3, self.next_node(n))
+    }
+
+    // Carries a lone parcel over its link to another node.
     #[inline(always)]
     fn carry_over(&mut self, n: u8, serial: u64, link: LinkEnd) -> (u64, u8)
         requires regular { IsRegular self.old }
         requires lone { IsLone self.old n serial link }
+        requires apart { n ≡ link.other → ⊥ }
         ensures walk { Walk self.old self.new result.0 result.1 }
         ensures place { IsPlace self.new result.1 }
         ensures within { result.0 ≤ 6 }
@@ -78,8 +110,7 @@ impl State {
         self.mail.put_back(place, message);
     }
 
-    // The node that alone isn't quiet, with the router that sends and the link that it sends over, where that is a lone parcel for another
-    // node.
+    // The node that alone isn't quiet, with the router that sends and the link that it sends over, where that is a lone parcel.
     #[inline(always)]
     fn lone_parcel(&self) -> Option<(u8, u64, LinkEnd)>
         requires { IsRegular self.now }
@@ -94,10 +125,7 @@ impl State {
         let Some((serial, link)) = self.nodes.node(n).only_sender() else {
             return None;
         };
-        if link.other == n
-            || link.other >= self.count
-            || !self.mail.is_clear(self.way(n, link.other))
-        {
+        if link.other >= self.count || !self.mail.is_clear(self.way(n, link.other)) {
             return None;
         }
         Some((n, serial, link))

@@ -1,44 +1,23 @@
-use Rattle.std.proofs.Common.{◌≡◌, ◌∙◌, ◌≤◌, ℕ, true, false, cond, nat_eq, Some, [], ap, sym, subst, arith}
-use Rattle.std.specs.Prelude.{IsSomeAnd, is_some}
+use Rattle.std.proofs.Common.{◌≡◌, ◌∙◌, ◌≤◌, ℕ, false, cond, nat_eq, [], ap, sym, subst, arith}
 use Rattle.std.proofs.lemmas.Bool.Decides.{nat_tests}
 use Rattle.ipcz_base.specs.Limits.{no_number}
 use Rattle.ipcz_base.specs.declared.message.Message.TheVariants as messages
 use Rattle.ipcz_base.proofs.Indexed.{place_at-put_place}
 use Rattle.ipcz_router.specs.Acts.{pop_out, rest}
 use Rattle.ipcz_node.specs.Lone.{TakesItem}
-use Rattle.ipcz_world.proofs.Vocabulary.{Item, Node, Router, World, bare_node, current_item, ends_in, mail_at, node_at, opposite, place_at, put_place}
-use Rattle.ipcz_world.proofs.Vocabulary.{LinkEnd, router_in, set_mail, set_node, with_router}
+use Rattle.ipcz_world.proofs.Vocabulary.{Node, World, bare_node, ends_in, mail_at, node_at, opposite, place_at, put_place}
+use Rattle.ipcz_world.proofs.Vocabulary.{set_mail, set_node}
 use Rattle.ipcz_world.specs.Carrying.{IsLone, with_hand}
 use Rattle.ipcz_world.specs.Taking.{IsRegular}
 use Rattle.ipcz_world.specs.Settling.{next_node}
 use Rattle.ipcz_world.specs.Visiting.{Walk}
 use Rattle.ipcz_world.specs.contracts.state.State.{the_view}
 use Rattle.ipcz_world.proofs.code.Carrying.{carried, left, sent}
+use Rattle.ipcz_world.proofs.code.LoneSenders.{has-item, item-is, lengths-kept, nodes-kept, number-is, sender-is}
 use Rattle.ipcz_world.proofs.code.LoneWorlds.{quiet_is}
-use Rattle.ipcz_world.proofs.code.Slots.{length-put}
 use Rattle.ipcz_world.proofs.code.Visiting.{OnWay, on_way-start, walked}
 use Rattle.ipcz_world.proofs.acts.Updating.{node-here}
 use Rattle.ipcz_world.proofs.state.State.carry_over.Goals as goal
-
--- what the sender gives, as it is found
-module _ (w : World) (n serial : ℕ) (link : LinkEnd) (lone : IsLone w n serial link) (old x : Node) (number : ℕ) (item : Item)
-    (same : old ≡ node_at w n) (node : (r : Router) → router_in old serial ≡ Some r → x ≡ with_router old serial (rest (pop_out r)))
-    (numbered : (r : Router) → router_in old serial ≡ Some r → number ≡ r.out_queue.current)
-    (held : (r : Router) → router_in old serial ≡ Some r → Some item ≡ current_item r.out_queue) where
-  abbrev r0 : Router
-  r0 = lone.sends.sender.router
-
-  here : router_in old serial ≡ Some r0
-  here = ap (λ x. router_in x serial) same ∙ lone.sends.sender.here
-
-  sender-is : x ≡ with_router (node_at w n) serial (rest (pop_out r0))
-  sender-is = node r0 here ∙ ap (λ y. with_router y serial (rest (pop_out r0))) same
-
-  number-is : number ≡ r0.out_queue.current
-  number-is = numbered r0 here
-
-  item-is : item ≡ lone.sends.sender.sends.item
-  item-is = let both : Some item ≡ Some lone.sends.sender.sends.item = held r0 here ∙ lone.sends.sender.sends.current in cc
 
 -- the taker, as it is found behind the sender
 taker-is : (w : World) (n m : ℕ) (x old : Node) → (n ≡ m → ⊥) → old ≡ place_at (bare_node 0 0) (put_place (bare_node 0 0) w.nodes n x) m →
@@ -56,28 +35,20 @@ pub send_last-number-requires : goal.send_last-number-requires
 unfolding node_at
 send_last-number-requires c =
     let lone = subst (λ w. IsLone w c.args.n c.args.serial c.args.link) (sym c.self.view_is) c.requires.lone in
-    let sender = lone.sends.sender in
-    subst (λ x. IsSomeAnd (router_in x c.args.serial) (λ (r : Router). is_some (current_item r.out_queue) ≡ true)) (sym c.node_mut.ensures.value)
-    (subst (λ o. IsSomeAnd o (λ (r : Router). is_some (current_item r.out_queue) ≡ true)) (sym sender.here) (ap is_some sender.sends.current))
+    has-item (the_view c.self.inside) c.args.n c.args.serial c.args.link lone c.node_mut.result.now.node c.node_mut.ensures.value
 
 pub node_mut-requires-2 : goal.node_mut-requires-2
 node_mut-requires-2 c =
     let lone = subst (λ w. IsLone w c.args.n c.args.serial c.args.link) (sym c.self.view_is) c.requires.lone in
     let has = (subst IsRegular (sym c.self.view_is) c.requires.regular).lengths in
-    omega (
-      arith,
-      lone.here,
-      lone.there,
-      has.nodes,
-      length-put (bare_node 0 0) c.self.inside.nodes c.args.n c.send_last-number.new.self.node (omega (arith, lone.here, has.nodes)),
-    )
+    nodes-kept (the_view c.self.inside) c.args.n c.args.link.other c.send_last-number.new.self.node has lone.here lone.there
 
 pub take_last-requires : goal.take_last-requires
 unfolding node_at
 take_last-requires c =
     let lone = subst (λ w. IsLone w c.args.n c.args.serial c.args.link) (sym c.self.view_is) c.requires.lone in
-    ap ends_in (item-is _ c.args.n c.args.serial c.args.link lone _ _ _ _ c.node_mut.ensures.value c.send_last-number.ensures.node
-    c.send_last-number.ensures.number c.send_last-number.ensures.item) ∙ lone.sends.sender.sends.alone
+    ap ends_in (item-is (the_view c.self.inside) c.args.n c.args.serial c.args.link lone c.node_mut.result.now.node c.node_mut.ensures.value
+    c.send_last-number.result.1 c.send_last-number.ensures.item) ∙ lone.sends.sender.sends.alone
 
 pub returns-then-take_last-clause-walk : goal.returns-then-take_last-clause-walk
 unfolding node_at set_node
@@ -90,52 +61,42 @@ returns-then-take_last-clause-walk c =
     let sent = c.send_last-number.ensures in
     let x = c.send_last-number.new.self.node in
     let y = c.take_last.new.self.node in
-    let sender = sender-is v n c.args.serial link lone _ x _ _ c.node_mut.ensures.value sent.node sent.number sent.item in
-    let number = number-is v n c.args.serial link lone _ x _ _ c.node_mut.ensures.value sent.node sent.number sent.item in
-    let item = item-is v n c.args.serial link lone _ x _ _ c.node_mut.ensures.value sent.node sent.number sent.item in
-    let taker = taker-is v n link.other x c.node_mut-2.result.now.node lone.apart c.node_mut-2.ensures.value in
+    let old = c.node_mut.result.now.node in
+    let sender = sender-is v n c.args.serial link lone old c.node_mut.ensures.value (λ r. rest (pop_out r)) x sent.node in
+    let number = number-is v n c.args.serial link lone old c.node_mut.ensures.value c.send_last-number.result.0 sent.number in
+    let item = item-is v n c.args.serial link lone old c.node_mut.ensures.value c.send_last-number.result.1 sent.item in
+    let taker = taker-is v n link.other x c.node_mut-2.result.now.node c.requires.apart c.node_mut-2.ensures.value in
     let low = subst (λ (z : Node). z.next_peripheral ≤ no_number) c.node_mut.ensures.value sent.serials in
     let takes = subst (λ z. TakesItem z link.link (opposite link.side) lone.sends.sender.router.out_queue.current lone.sends.sender.sends.item y) taker
     (subst (λ z. TakesItem c.node_mut-2.result.now.node link.link (opposite link.side) lone.sends.sender.router.out_queue.current z y) item
     (subst (λ z. TakesItem c.node_mut-2.result.now.node link.link (opposite link.side) z c.send_last-number.result.1 y) number
     (subst (λ z. TakesItem c.node_mut-2.result.now.node link.link z c.send_last-number.result.0 c.send_last-number.result.1 y)
     c.opposite-side.ensures (c.take_last.ensures.taken c.if-take_last.true)))) in
-    let on = carried v n c.args.serial link regular lone low y takes (on_way-start v) in
+    let on = carried v n c.args.serial link regular lone c.requires.apart low y takes (on_way-start v) in
     subst (λ w. Walk w (set_node (set_node v n x) link.other y) 6 c.next_node.result) c.self.view_is
     (subst (λ k. Walk v (set_node (set_node v n x) link.other y) 6 k) (sym c.next_node.ensures)
     (walked v (set_node (set_node v n x) link.other y) 6 (next_node v link.other)
     (subst (λ z. OnWay v 6 (set_node (set_node v n z) link.other y) (next_node v link.other)) (sym sender) on)))
 
 pub leave_in_hand-requires-clause-lengths : goal.leave_in_hand-requires-clause-lengths
+unfolding set_node
 leave_in_hand-requires-clause-lengths c =
+    let v = the_view c.self.inside in
     let lone = subst (λ w. IsLone w c.args.n c.args.serial c.args.link) (sym c.self.view_is) c.requires.lone in
     let has = (subst IsRegular (sym c.self.view_is) c.requires.regular).lengths in
-    let first = length-put (bare_node 0 0) c.self.inside.nodes c.args.n c.send_last-number.new.self.node (omega (arith, lone.here, has.nodes)) in
-    record {
-      nodes = omega (
-        arith,
-        first,
-        has.nodes,
-        lone.there,
-        length-put (bare_node 0 0) (put_place (bare_node 0 0) c.self.inside.nodes c.args.n c.send_last-number.new.self.node) c.args.link.other
-            c.take_last.new.self.node (omega (arith, first, lone.there, has.nodes)),
-      );
-      words = has.words;
-      mail = has.mail;
-      claimed = has.claimed;
-      few = has.few;
-    }
+    lengths-kept (set_node v c.args.n c.send_last-number.new.self.node) c.args.link.other c.take_last.new.self.node
+    (lengths-kept v c.args.n c.send_last-number.new.self.node has lone.here) lone.there
 
 pub leave_in_hand-requires-clause-hand : goal.leave_in_hand-requires-clause-hand
 unfolding set_node
 leave_in_hand-requires-clause-hand c =
     let v = the_view c.self.inside in
     let lone = subst (λ w. IsLone w c.args.n c.args.serial c.args.link) (sym c.self.view_is) c.requires.lone in
-    let taker = taker-is v c.args.n c.args.link.other c.send_last-number.new.self.node c.node_mut-2.result.now.node lone.apart
+    let taker = taker-is v c.args.n c.args.link.other c.send_last-number.new.self.node c.node_mut-2.result.now.node c.requires.apart
     c.node_mut-2.ensures.value in
     ap (λ (z : Node). z.hand) (taker-written v c.args.n c.args.link.other c.send_last-number.new.self.node c.take_last.new.self.node
     ∙ (c.take_last.ensures.left c.if-take_last.false).1 ∙ taker)
-    ∙ (quiet_is (node_at v c.args.link.other) (lone.others c.args.link.other lone.there (λ e. lone.apart (sym e)))).hand
+    ∙ (quiet_is (node_at v c.args.link.other) (lone.others c.args.link.other lone.there (λ e. c.requires.apart (sym e)))).hand
 
 pub leave_in_hand-requires-clause-clear : goal.leave_in_hand-requires-clause-clear
 unfolding mail_at
@@ -160,19 +121,20 @@ returns-clause-walk c =
     let given = c.send_last-number.ensures in
     let x = c.send_last-number.new.self.node in
     let y = c.take_last.new.self.node in
-    let sender = sender-is v n c.args.serial link lone _ x _ _ c.node_mut.ensures.value given.node given.number given.item in
-    let number = number-is v n c.args.serial link lone _ x _ _ c.node_mut.ensures.value given.node given.number given.item in
-    let item = item-is v n c.args.serial link lone _ x _ _ c.node_mut.ensures.value given.node given.number given.item in
+    let old = c.node_mut.result.now.node in
+    let sender = sender-is v n c.args.serial link lone old c.node_mut.ensures.value (λ r. rest (pop_out r)) x given.node in
+    let number = number-is v n c.args.serial link lone old c.node_mut.ensures.value c.send_last-number.result.0 given.number in
+    let item = item-is v n c.args.serial link lone old c.node_mut.ensures.value c.send_last-number.result.1 given.item in
     let kept = c.take_last.ensures.left c.if-take_last.false in
-    let taker = kept.1 ∙ taker-is v n link.other x c.node_mut-2.result.now.node lone.apart c.node_mut-2.ensures.value in
+    let taker = kept.1 ∙ taker-is v n link.other x c.node_mut-2.result.now.node c.requires.apart c.node_mut-2.ensures.value in
     let low = subst (λ (z : Node). z.next_peripheral ≤ no_number) c.node_mut.ensures.value given.serials in
-    let on = sent v n c.args.serial link regular lone low (on_way-start v) in
+    let on = sent v n c.args.serial link regular lone c.requires.apart low (on_way-start v) in
     let world = c.leave_in_hand.ensures
     ∙ ap (λ k. with_hand (set_node (set_node v n x) link.other y) n link.other
     (messages.Item link.link (opposite link.side) k c.take_last.new.item [])) number
     ∙ ap (λ i. with_hand (set_node (set_node v n x) link.other y) n link.other
     (messages.Item link.link (opposite link.side) lone.sends.sender.router.out_queue.current i [])) (kept.0 ∙ item)
-    ∙ left v n c.args.serial link regular lone low x y sender taker in
+    ∙ left v n c.args.serial link regular lone c.requires.apart low x y sender taker in
     let next = c.next_node-2.ensures ∙ ap (λ w. next_node w n) world in
     subst (λ w. Walk w c.leave_in_hand.new.self 4 c.next_node-2.result) c.self.view_is
     (subst (λ k. Walk v c.leave_in_hand.new.self 4 k) (sym next)

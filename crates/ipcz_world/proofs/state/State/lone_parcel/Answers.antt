@@ -36,7 +36,6 @@ returns c =
       mail = subst (λ (u : World). (k : ℕ) → is_full (mail_at u k) ≡ false) c.self.view_is (c.has_full.ensures c.if-has_full.false);
       here = c.in-Some.ensures.here;
       there = subst (λ (u : World). link.other < u.count) c.self.view_is c.if-link-self.false;
-      apart = λ e. c.if-link-n.false (sym e);
       others = λ k l ne. others w n k c.in-Some.ensures.before c.in-Some.ensures.behind l ne;
       box = empty_is (mail_at w (way w n link.other))
           (subst (λ (u : World). is_clear (mail_at u (way w n link.other)) ≡ true) c.self.view_is there);
