@@ -102,6 +102,7 @@ one_more t from n s0 s1 s2 rest load more = record {
   many = let others = more.many in omega (arith, others);
   answer_is = ap (λ (b : Bool). (n == 0 || n == 3) && b) more.answer_is;
   part = more.part ∙ load.part;
+  room = more.room ∙ load.room;
   seen = more.seen ∙ ((λ j. load.seen j ++ box_loads t (load.part j).node (from + 1) more.found) ∙
       append_assoc s0.seen ((mail_word t from s0.part.node, n) ∷ []) (box_loads t s0.part.node (from + 1) more.found));
 }

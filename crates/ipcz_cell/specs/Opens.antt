@@ -41,7 +41,8 @@ opened i m n m' = (n ≡ 0) × (m' ≡ (change_part (open_part i) (saw i n m.0),
 -- what is read of the link word i: none from the loaded claim count on, which is at least each that was seen
 abbrev pub ReadsWord : ℕ → ℕ → CellState → Option ℕ → CellState → Type 0
 ReadsWord size i old answer new = (count : ℕ) × (count ≤ size) × AreReached size old.seen count × MatchOption answer ((count ≤ i) × HasSeen size count old new)
-    (λ word. (i < count) × IsLinkNumber word × (new.part ≡ old.part) × (new.seen ≡ (old.seen ++ (size, count) ∷ []) ++ (i, word) ∷ []))
+    (λ word. (i < count) × IsLinkNumber word × (new.part ≡ old.part) × (new.room ≡ old.room) ×
+    (new.seen ≡ (old.seen ++ (size, count) ∷ []) ++ (i, word) ∷ []))
 
 -- what an exchange of the claim count, which was found at c, answers and leaves
 abbrev pub ClaimsAt : ℕ → ℕ → CellState → Result ℕ Refusal → CellState → Type 0
@@ -115,6 +116,7 @@ pub record FindsFree (t : TableName) (from : ℕ) (old : CellState) (answer : Bo
   pub many : from + length found ≡ t.count
   pub answer_is : answer ≡ are_free found
   pub part : new.part ≡ old.part
+  pub room : new.room ≡ old.room
   pub seen : new.seen ≡ old.seen ++ box_loads t old.part.node from found
 
 -- whether a node is quiet by its own part and by what the loads of all mailboxes to it have found, and what is left
@@ -123,4 +125,5 @@ pub record FindsQuiet (t : TableName) (old : CellState) (answer : Bool) (new : C
   pub many : length found ≡ t.count
   pub answer_is : answer ≡ (is_quiet old.part.state && are_free found)
   pub part : new.part ≡ old.part
+  pub room : new.room ≡ old.room
   pub seen : new.seen ≡ old.seen ++ box_loads t old.part.node 0 found

@@ -11,7 +11,7 @@ use ipcz_base::Refusal;
 use ipcz_node::{Act, Happened};
 use ipcz_router::act::RouterAct;
 
-// An answer without its event.
+// An answer without its event. What does an act here answers true, as a turn that had one to do.
 fn untold(told: Result<Happened, Refusal>) -> Result<bool, Refusal>
     ensures { result ≡ untold told }
 {

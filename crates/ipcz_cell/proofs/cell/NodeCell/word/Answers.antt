@@ -15,6 +15,7 @@ returns g c =
         (let more = c.if-count-from.false in let is = c.from.ensures in omega (arith, more, is)),
         word.word,
         word.seen.part ∙ count.seen.part,
+        word.seen.room ∙ count.seen.room,
         word.seen.seen ∙ ap (λ (l : _). l ++ (c.args.i, c.load_word.result) ∷ []) count.seen.seen,
       ),
     )
