@@ -15,7 +15,8 @@ callgrind, which a busy machine doesn't disturb: for one round, from a run of 2,
 `compare` prints both, and the same of another build of `ipcz_bench` before: the runs of the two take turns.
 
 `threads` prints those of `ipcz_bench_threads`: what a parcel takes on one thread through worlds, cells and a hub, in turn, and the
-ratios; and what it takes between two threads. Each is the least of 20 runs of 20,000 rounds, with the middle one. Where `chrt` may,
+ratios; what it takes between two threads, and where these sleep while they have nothing to do; and what a wait of two seconds takes of
+the processor. Each time is the least of 20 runs of 20,000 rounds, with the middle one. Where `chrt` may,
 the runs have real-time priority, so that a busy machine gives them processors of their own for the moment that they take.
 
 `peers` runs a parcel of ours, on one node and between two, in turn with what other queues take for a message of as many bytes (`peers.py`), and
@@ -302,7 +303,8 @@ def prefix():
 def show_threads():
     before = prefix()
     alone = [("two_nodes", BENCH), ("cells", BENCH_THREADS), ("hub", BENCH_THREADS)]
-    pairs = [(name, BENCH_THREADS) for name in ("cells_on_threads", "hub_on_threads", "round_trips", "hub_round_trips")]
+    pairs = [(name, BENCH_THREADS) for name in ("cells_on_threads", "hub_on_threads", "round_trips", "hub_round_trips",
+                                                "sleeping_round_trips", "hub_sleeping_round_trips")]
     times = [[] for _ in alone + pairs]
     for _ in range(20):
         for (name, program), found in zip(alone + pairs, times):
@@ -310,8 +312,19 @@ def show_threads():
             found.append(int(run.stdout))
     for (name, _), found in zip(alone + pairs, times):
         low, middle = min(found), sorted(found)[len(found) // 2]
-        print("%-16s %6d ns (the middle one: %d), %4.2f of a world's time, %4.2f million a second"
+        print("%-24s %6d ns (the middle one: %d), %4.2f of a world's time, %4.2f million a second"
               % (name, low, middle, low / min(times[0]), 1000 / low), flush=True)
+    for name in ("late", "sleeping_late", "hub_late", "hub_sleeping_late"):
+        found = [processor_time([BENCH_THREADS, name, "2000"]) for _ in range(3)]
+        print("%-24s %8.1f to %.1f ms of the processor for a byte that comes after two seconds" % (name, min(found), max(found)), flush=True)
+
+
+def processor_time(command):
+    """What a run takes of the processor, in milliseconds."""
+    before = resource.getrusage(resource.RUSAGE_CHILDREN)
+    subprocess.run(command, stdout=subprocess.DEVNULL, check=True)
+    after = resource.getrusage(resource.RUSAGE_CHILDREN)
+    return 1000 * (after.ru_utime + after.ru_stime - before.ru_utime - before.ru_stime)
 
 
 def counted(command):

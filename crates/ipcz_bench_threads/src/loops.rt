@@ -2,7 +2,8 @@
 use crate::talkers::{TURNS, Talker};
 use ipcz_node::Happened;
 use std::hint::spin_loop;
-use std::thread::yield_now;
+use std::thread::{sleep, yield_now};
+use std::time::{Clock, Duration};
 
 /// The bytes of a parcel.
 pub const LENGTH: usize = 16;
@@ -71,6 +72,21 @@ fn awaits<T: Talker>(talker: &mut T) -> bool {
     false
 }
 
+// The same, but for sleeps in place of turns that have nothing to do.
+fn sleeps<T: Talker>(talker: &mut T) -> bool {
+    for _turn in 0..TURNS {
+        match talker.turn_or_wait() {
+            Ok(Happened::Hand { .. }) => {
+                if talker.get() {
+                    return true;
+                }
+            }
+            Ok(_) | Err(_) => {}
+        }
+    }
+    false
+}
+
 /// Takes turns until so many parcels were got.
 pub fn get_all<T: Talker>(talker: &mut T, rounds: u64) -> bool {
     for _round in 0..rounds {
@@ -81,10 +97,27 @@ pub fn get_all<T: Talker>(talker: &mut T, rounds: u64) -> bool {
     true
 }
 
+/// How a talker passes the time until a parcel comes.
+#[derive(Clone, Copy)]
+pub enum Idly {
+    /// It takes turns.
+    Turning,
+    /// It sleeps.
+    Sleeping,
+}
+
+// Takes turns until a parcel is got.
+fn get_next<T: Talker>(talker: &mut T, idly: Idly) -> bool {
+    match idly {
+        Idly::Turning => awaits(talker),
+        Idly::Sleeping => sleeps(talker),
+    }
+}
+
 /// So many times a put of a byte, and the get of its answer.
-pub fn ask<T: Talker>(talker: &mut T, rounds: u64) -> bool {
+pub fn ask<T: Talker>(talker: &mut T, idly: Idly, rounds: u64) -> bool {
     for _round in 0..rounds {
-        if !talker.put(1) || !awaits(talker) {
+        if !talker.put(1) || !get_next(talker, idly) {
             return false;
         }
     }
@@ -92,11 +125,22 @@ pub fn ask<T: Talker>(talker: &mut T, rounds: u64) -> bool {
 }
 
 /// So many times a get, and the put of a byte as its answer; then the acts that are left.
-pub fn answer<T: Talker>(talker: &mut T, rounds: u64) -> bool {
+pub fn answer<T: Talker>(talker: &mut T, idly: Idly, rounds: u64) -> bool {
     for _round in 0..rounds {
-        if !awaits(talker) || !talker.put(1) {
+        if !get_next(talker, idly) || !talker.put(1) {
             return false;
         }
     }
     talker.acts()
+}
+
+/// After so many milliseconds a put of a byte, and the acts that bring it on its way.
+pub fn put_late<C: Clock, T: Talker>(clock: &C, talker: &mut T, millis: u64) -> bool {
+    sleep(clock, Duration::from_millis(millis));
+    talker.put(1) && talker.acts()
+}
+
+/// Gets one parcel.
+pub fn get_late<T: Talker>(talker: &mut T, idly: Idly) -> bool {
+    get_next(talker, idly)
 }

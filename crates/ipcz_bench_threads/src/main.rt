@@ -13,6 +13,8 @@ const USAGE: &str = "usage: ipcz_bench_threads MEASURE [ROUNDS]
 nanoseconds a parcel of 16 bytes, one thread: cells hub
 nanoseconds a parcel of 16 bytes, a thread puts and another gets: cells_on_threads hub_on_threads
 nanoseconds for a byte there and back between two threads: round_trips hub_round_trips
+the same where a thread sleeps while it has nothing to do: sleeping_round_trips hub_sleeping_round_trips
+a byte that is put after ROUNDS milliseconds, and got: late hub_late sleeping_late hub_sleeping_late
 how many of these measures there are: all";
 
 // How many rounds there are where none are asked for.

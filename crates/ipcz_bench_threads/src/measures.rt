@@ -1,7 +1,7 @@
 //! What each measure does, and how long it takes.
 ghost use Rattle.std.specs.Prelude.{◌≡◌};
 
-use crate::loops::{answer, ask, get_all, pass, put_all};
+use crate::loops::{Idly, answer, ask, get_all, get_late, pass, put_all, put_late};
 use crate::talkers::{Own, Shared, Talker};
 use ipcz_base::{End, Side};
 use ipcz_fabric::{Blank, Fabric, FabricName, Hub, NodeCell, Portal, start};
@@ -29,7 +29,9 @@ pub enum Way {
     /// One thread puts, another gets.
     Threads,
     /// A byte there and back, between two threads.
-    Trips,
+    Trips(Idly),
+    /// One thread puts a byte after so many milliseconds, and another gets it.
+    Late(Idly),
 }
 
 /// What is measured.
@@ -49,10 +51,16 @@ impl Measure {
         match name {
             "cells" => Some(Measure::Cells(Way::Alone)),
             "cells_on_threads" => Some(Measure::Cells(Way::Threads)),
-            "round_trips" => Some(Measure::Cells(Way::Trips)),
+            "round_trips" => Some(Measure::Cells(Way::Trips(Idly::Turning))),
+            "sleeping_round_trips" => Some(Measure::Cells(Way::Trips(Idly::Sleeping))),
+            "late" => Some(Measure::Cells(Way::Late(Idly::Turning))),
+            "sleeping_late" => Some(Measure::Cells(Way::Late(Idly::Sleeping))),
             "hub" => Some(Measure::Hub(Way::Alone)),
             "hub_on_threads" => Some(Measure::Hub(Way::Threads)),
-            "hub_round_trips" => Some(Measure::Hub(Way::Trips)),
+            "hub_round_trips" => Some(Measure::Hub(Way::Trips(Idly::Turning))),
+            "hub_sleeping_round_trips" => Some(Measure::Hub(Way::Trips(Idly::Sleeping))),
+            "hub_late" => Some(Measure::Hub(Way::Late(Idly::Turning))),
+            "hub_sleeping_late" => Some(Measure::Hub(Way::Late(Idly::Sleeping))),
             "all" => Some(Measure::All),
             _ => None,
         }
@@ -60,7 +68,7 @@ impl Measure {
 }
 
 // Whether two talkers pass so many parcels.
-fn talk<R: Threads, T: Talker + Send>(
+fn talk<R: Threads + Clock + Sync, T: Talker + Send>(
     rt: &R,
     left: &mut T,
     right: &mut T,
@@ -70,13 +78,18 @@ fn talk<R: Threads, T: Talker + Send>(
     let (one, two) = match way {
         Way::Alone => (pass(left, right, rounds), true),
         Way::Threads => join(rt, || put_all(left, rounds), || get_all(right, rounds)),
-        Way::Trips => join(rt, || ask(left, rounds), || answer(right, rounds)),
+        Way::Trips(idly) => join(
+            rt,
+            || ask(left, idly, rounds),
+            || answer(right, idly, rounds),
+        ),
+        Way::Late(idly) => join(rt, || put_late(rt, left, rounds), || get_late(right, idly)),
     };
     one && two
 }
 
 // The share of one of so many rounds in nanoseconds, where they went as they should.
-fn timed<R: Threads + Clock, T: Talker + Send>(
+fn timed<R: Threads + Clock + Sync, T: Talker + Send>(
     rt: &R,
     left: &mut T,
     right: &mut T,
@@ -92,7 +105,7 @@ fn timed<R: Threads + Clock, T: Talker + Send>(
 }
 
 // The share of one round between two cells.
-fn timed_cells<F: FabricName + Send + Sync, R: Threads + Clock>(
+fn timed_cells<F: FabricName + Send + Sync, R: Threads + Wait + Clock + Sync>(
     rt: &R,
     alloc: Global,
     fabric: &Fabric<F>,
@@ -102,12 +115,14 @@ fn timed_cells<F: FabricName + Send + Sync, R: Threads + Clock>(
     rounds: u64,
 ) -> Option<u64> {
     let mut left = Own {
+        rt,
         fabric,
         cell: left,
         at: LEFT,
         alloc,
     };
     let mut right = Own {
+        rt,
         fabric,
         cell: right,
         at: RIGHT,
@@ -117,7 +132,7 @@ fn timed_cells<F: FabricName + Send + Sync, R: Threads + Clock>(
 }
 
 // The same of cells, where they are two.
-fn timed_two<F: FabricName + Send + Sync, R: Threads + Clock>(
+fn timed_two<F: FabricName + Send + Sync, R: Threads + Wait + Clock + Sync>(
     rt: &R,
     alloc: Global,
     fabric: &Fabric<F>,
@@ -132,7 +147,7 @@ fn timed_two<F: FabricName + Send + Sync, R: Threads + Clock>(
 }
 
 // Two cells of one table.
-fn by_cells<F: FabricName + Send + Sync, R: Threads + Clock>(
+fn by_cells<F: FabricName + Send + Sync, R: Threads + Wait + Clock + Sync>(
     rt: &R,
     alloc: Global,
     blank: Blank,
@@ -206,7 +221,14 @@ fn nanoseconds<R: Threads + Wait + Clock + Sync>(
 // How many of the measures are taken.
 fn count_all<R: Threads + Wait + Clock + Sync>(rt: &R, alloc: Global, rounds: u64) -> u64 {
     let mut count = 0u64;
-    for way in [Way::Alone, Way::Threads, Way::Trips] {
+    let ways = [
+        Way::Alone,
+        Way::Threads,
+        Way::Trips(Idly::Turning),
+        Way::Trips(Idly::Sleeping),
+        Way::Late(Idly::Sleeping),
+    ];
+    for way in ways {
         for is_hub in [false, true] {
             if nanoseconds(rt, alloc, is_hub, way, rounds).is_some() {
                 count = count.saturating_add(1);

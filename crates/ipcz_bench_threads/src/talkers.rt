@@ -4,9 +4,13 @@ use ipcz_fabric::{Fabric, FabricName, Hub, NodeCell, Portal};
 use ipcz_node::Happened;
 use std::alloc::Global;
 use std::sync::Wait;
+use std::time::Duration;
 
 /// More turns than a talker takes on its way.
 pub const TURNS: u64 = 1_000_000_000;
+
+// The longest sleep.
+const LONGEST: Duration = Duration::MAX;
 
 /// What puts, acts and gets at one node.
 pub trait Talker {
@@ -15,6 +19,9 @@ pub trait Talker {
 
     /// Takes a turn.
     fn turn(&mut self) -> Result<Happened, Refusal>;
+
+    /// Takes a turn, and sleeps where it had nothing to do, until there may be something.
+    fn turn_or_wait(&mut self) -> Result<Happened, Refusal>;
 
     /// Takes turns until one is idle, and tells whether none was refused.
     fn acts(&mut self) -> bool;
@@ -25,14 +32,15 @@ pub trait Talker {
 
 /// The cell of a node, with an end that its callers hold.
 #[derive(Drop)]
-pub struct Own<'a, F: FabricName> {
+pub struct Own<'a, R, F: FabricName> {
+    pub rt: &'a R,
     pub fabric: &'a Fabric<F>,
     pub cell: &'a mut NodeCell<F>,
     pub at: End,
     pub alloc: Global,
 }
 
-impl<'a, F: FabricName> Talker for Own<'a, F> {
+impl<'a, R: Wait, F: FabricName> Talker for Own<'a, R, F> {
     fn put(&mut self, length: usize) -> bool {
         let Ok(bytes) = vec![in self.alloc; b'x'; length] else {
             return false;
@@ -46,6 +54,14 @@ impl<'a, F: FabricName> Talker for Own<'a, F> {
 
     fn turn(&mut self) -> Result<Happened, Refusal> {
         self.cell.turn(self.fabric)
+    }
+
+    fn turn_or_wait(&mut self) -> Result<Happened, Refusal> {
+        let turn = self.turn();
+        if matches!(&turn, Ok(Happened::Idle)) {
+            self.cell.wait(self.rt, self.fabric, LONGEST);
+        }
+        turn
     }
 
     fn acts(&mut self) -> bool {
@@ -79,6 +95,10 @@ impl<'a, R: Wait, F: FabricName> Talker for Shared<'a, R, F> {
 
     fn turn(&mut self) -> Result<Happened, Refusal> {
         self.hub.turn(self.rt, self.portal.node())
+    }
+
+    fn turn_or_wait(&mut self) -> Result<Happened, Refusal> {
+        self.hub.turn_or_wait(self.rt, self.portal.node(), LONGEST)
     }
 
     fn acts(&mut self) -> bool {
