@@ -16,7 +16,7 @@ ghost use Rattle.ipcz_world.specs.Settling.{TakesTurn};
 ghost use Rattle.ipcz_world.specs.SettleBounds.{CarryNone, IsLawfulSettle, IsLawfulRefusal, plain_limit};
 ghost use Rattle.ipcz_world.specs.SettleLimit.{settle_limit};
 ghost use Rattle.ipcz_world.specs.Tallies.{Tells};
-ghost use Rattle.ipcz_world.specs.Visiting.{IsPlace, Walk};
+ghost use Rattle.ipcz_world.specs.Visiting.{AreIdle, IsPlace, Walk};
 
 use crate::mail::Mail;
 use crate::state::State;
@@ -228,6 +228,9 @@ impl World {
         ensures refused { IfErr result (λ why. IsLawfulRefusal limit self.old self.new why) }
     {
         let (carried, start) = self.carry(limit);
+        if carried == 6 {
+            return Ok(Settled::Settled { after: 6 });
+        }
         let mut from = start;
         for acts in carried..limit {
             let Some((node, act)) = self.state.next_busy(from) else {
@@ -246,12 +249,14 @@ impl World {
     }
 
     // Carries a lone parcel all its way, where that is all that the world has to do; else nothing is done. It gives how many acts that was, and
-    // the node that is visited next.
+    // the node that is visited next. After six acts no node has one.
     #[inline(always)]
     fn carry(&mut self, most: u64) -> (u64, u8)
         ensures walk { Walk self.old self.new result.0 result.1 }
         ensures place { IsPlace self.new result.1 }
         ensures within { result.0 ≤ most }
+        ensures idle { result.0 ≡ 6 → AreIdle self.new 0 self.new.count }
+        ensures lawful { IsLawful self.new }
     {
         self.state.carry(most)
     }

@@ -400,3 +400,37 @@ module _ (w : World) (n serial : ℕ) (link : LinkEnd) (is : IsRegular w) (lone 
     pub carried : OnWay w 0 w 0 → OnWay w 6 (set_node (set_node w n x3) m y) (next_node w m)
     carried on = subst (λ v. OnWay w 6 v (next_node w m))
         (pair-box w n m apart lone.here lone.there is.lengths x3 y Empty lone.box) (on-6 (on-5 (sent on)))
+
+    abbrev y3 : Node
+    y3 = with_router y0 takes.serial (rest q1)
+
+    y-is : y ≡ y3
+    y-is = takes.changed ∙ ap (with_router y0 takes.serial) takes.takes.after
+
+    idle-sender : is_idle (next_at (at x3 y3 Empty) n) ≡ true
+    unfolding is_idle router_turn close_turn
+    idle-sender = ap is_idle (own-sender x3 y3 Empty counts-x lone.sends.hand refl
+        ∙ ap (λ es. close_turn es (router_turn (flagged_router x3))) lone.sends.pending ∙ ap router_turn flagged-x3)
+
+    idle-taken : is_idle (next_at (at x3 y3 Empty) m) ≡ true
+    unfolding is_idle is_full router_turn close_turn
+    idle-taken =
+        let rests : flagged_router y3 ≡ None =
+        none_flagged y0.routers takes.serial (rest q1) (none-flagged y0 takes.serial y0-quiet.rests) refl in
+        ap is_idle (own-taker x3 y3 Empty refl counts-y y0-quiet.hand refl
+        ∙ ap (λ es. close_turn es (router_turn (flagged_router y3))) y0-quiet.pending ∙ ap router_turn rests)
+
+    idle-last : (k : ℕ) → k < w.count → is_idle (next_at (at x3 y3 Empty) k) ≡ true
+    idle-last k l = go (nat_eq k n) refl (nat_eq k m) refl
+      where
+        go : (c : Bool) → nat_eq k n ≡ c → (d : Bool) → nat_eq k m ≡ d → is_idle (next_at (at x3 y3 Empty) k) ≡ true
+        go true e d f = let same : k ≡ n = grind (arith, e, nat_tests) in
+            ap (λ k. is_idle (next_at (at x3 y3 Empty) k)) same ∙ idle-sender
+        go false e true f = let same : k ≡ m = grind (arith, f, nat_tests) in
+            ap (λ k. is_idle (next_at (at x3 y3 Empty) k)) same ∙ idle-taken
+        go false e false f = idle-others x3 y3 Empty k l (λ same. grind (arith, e, same, nat_tests)) (λ same. grind (arith, f, same, nat_tests))
+
+    -- and then no node has an act
+    pub idle-behind : (k : ℕ) → k < w.count → is_idle (next_at (set_node (set_node w n x3) m y) k) ≡ true
+    idle-behind k l = subst (λ v. is_idle (next_at v k) ≡ true)
+        (ap (λ z. at x3 z Empty) (sym y-is) ∙ pair-box w n m apart lone.here lone.there is.lengths x3 y Empty lone.box) (idle-last k l)

@@ -18,7 +18,7 @@ use Rattle.ipcz_node.specs.Acts.{act_lacks_serials, are_empty, close_turn, first
 use Rattle.ipcz_node.specs.Hands.{deliver, message_lacks_serials}
 use Rattle.ipcz_node.specs.Lone.{TakesItem}
 use Rattle.ipcz_node.proofs.Carrying.{rests_without}
-use Rattle.ipcz_node.proofs.LoneNodes.{lowest_flagged, message, rests, sends_freely, sends_it, stands, takes_freely, takes_it, written}
+use Rattle.ipcz_node.proofs.LoneNodes.{lowest_flagged, message, none_flagged, rests, sends_freely, sends_it, stands, takes_freely, takes_it, written}
 use Rattle.ipcz_node.proofs.LoneNodes.{written_elsewhere}
 use Rattle.ipcz_node.proofs.Mailing.{empty_box}
 use Rattle.ipcz_node.proofs.Written.{insert_twice}
@@ -375,15 +375,46 @@ module _ (w : World) (n serial : ℕ) (link : LinkEnd) (is : IsRegular w) (lone 
             ])
             refl
 
-    -- all six acts, as code does them
-    pub carried : (x z : Node) → z ≡ commit y (acts.Router serial router_acts.Rest) Plain → OnWay w 0 w 0 →
-        OnWay w 6 (set_node (set_node (set_node w n x) n y) n z) (next_node w n)
-    carried x z is-z on =
-        let y-is : y ≡ with_router x2 t (rest q1) = takes.changed ∙ ap (with_router x2 t) takes.takes.after in
-        let z-is : z ≡ x6 =
-        is-z ∙ ap (λ v. commit v (acts.Router serial router_acts.Rest) Plain) y-is
-        ∙ sym (rests (with_router x2 t (rest q1)) serial r1
-        (written_elsewhere x2.routers t serial (rest q1) (λ same. other (sym same)) ∙ stands x0 serial r1)) in
-        let world : set_node (set_node (set_node w n x) n y) n z ≡ at x6 Empty =
-        set-twice (set_node w n x) n y z ∙ set-twice w n x z ∙ ap (set_node w n) z-is ∙ sym (single-box x6) in
-        subst (λ v. OnWay w 6 v (next_node w n)) (sym world) (on-6 (on-4 (sent on)))
+    -- then no router is flagged
+    rests-x6 : flagged_router x6 ≡ None
+    rests-x6 = none_flagged (insert x2.routers t (rest q1)) serial (rest r1)
+        (λ q v f up. elim (written x2.routers t q (rest q1) v f) [
+          | inl a ↦ absurd (true≢false (sym up ∙ sym (ap (λ (r : Router). r.flagged) a.1)))
+          | inr a ↦ elim (written x0.routers serial q r1 v a.1) [
+            | inl c ↦ c.0
+            | inr c ↦ lone.sends.sender.only q v c.1 up
+          ]
+        ]) refl
+
+    idle-node : is_idle (next_at (at x6 Empty) n) ≡ true
+    unfolding is_idle is_full router_turn close_turn
+    idle-node = ap is_idle (own x6 Empty refl counts-x lone.sends.hand refl
+        ∙ ap (λ es. close_turn es (router_turn (flagged_router x6))) lone.sends.pending ∙ ap router_turn rests-x6)
+
+    idle-last : (k : ℕ) → k < w.count → is_idle (next_at (at x6 Empty) k) ≡ true
+    idle-last k l = go (nat_eq k n) refl
+      where
+        go : (c : Bool) → nat_eq k n ≡ c → is_idle (next_at (at x6 Empty) k) ≡ true
+        go true e = let it : k ≡ n = grind (arith, e, nat_tests) in ap (λ k. is_idle (next_at (at x6 Empty) k)) it ∙ idle-node
+        go false e = idle-others x6 Empty k l (λ it. grind (arith, e, it, nat_tests))
+
+    module _ (x z : Node) (is-z : z ≡ commit y (acts.Router serial router_acts.Rest) Plain) where
+      ends : set_node (set_node (set_node w n x) n y) n z ≡ at x6 Empty
+      ends =
+          let y-is : y ≡ with_router x2 t (rest q1) = takes.changed ∙ ap (with_router x2 t) takes.takes.after in
+          let z-is : z ≡ x6 =
+          is-z ∙ ap (λ v. commit v (acts.Router serial router_acts.Rest) Plain) y-is
+          ∙ sym (rests (with_router x2 t (rest q1)) serial r1
+          (written_elsewhere x2.routers t serial (rest q1) (λ same. other (sym same)) ∙ stands x0 serial r1)) in
+          set_twice ∙ ap (set_node w n) z-is ∙ sym (single-box x6)
+        where
+          set_twice : set_node (set_node (set_node w n x) n y) n z ≡ set_node w n z
+          set_twice = set-twice (set_node w n x) n y z ∙ set-twice w n x z
+
+      -- all six acts, as code does them
+      pub carried : OnWay w 0 w 0 → OnWay w 6 (set_node (set_node (set_node w n x) n y) n z) (next_node w n)
+      carried on = subst (λ v. OnWay w 6 v (next_node w n)) (sym ends) (on-6 (on-4 (sent on)))
+
+      -- and then no node has an act
+      pub idle-behind : (k : ℕ) → k < w.count → is_idle (next_at (set_node (set_node (set_node w n x) n y) n z) k) ≡ true
+      idle-behind k l = subst (λ v. is_idle (next_at v k) ≡ true) (sym ends) (idle-last k l)

@@ -6,7 +6,7 @@ ghost use Rattle.ipcz_world.specs.Carrying.{AreQuiet, IsLone, with_hand};
 ghost use Rattle.ipcz_world.specs.Soundness.{HasLengths};
 ghost use Rattle.ipcz_world.specs.World.{node_at, mail_at, way};
 ghost use Rattle.ipcz_world.specs.Taking.{IsRegular};
-ghost use Rattle.ipcz_world.specs.Visiting.{IsPlace, Walk};
+ghost use Rattle.ipcz_world.specs.Visiting.{AreIdle, IsPlace, Walk};
 
 use crate::mail::Mail;
 use crate::state::State;
@@ -14,7 +14,7 @@ use ipcz_base::{Item, LinkEnd, Message, Moves};
 
 impl State {
     /// Carries a lone parcel all its way, as its six acts do: a send out, a post, a look, a hand, and a rest of each router. It gives how many
-    /// acts that was, `most` at most, and the node that is visited next. Where there is no memory for the parcel at its receiver it stays in
+    /// acts that was, `most` at most, and the node that is visited next. After six acts no node has one. Where there is no memory for the parcel at its receiver it stays in
     /// hand there, behind four acts, or three within one node. Where the parcel isn't all that the world has to do, nothing is done.
     #[inline(never)]
     pub(crate) fn carry(&mut self, most: u64) -> (u64, u8)
@@ -22,6 +22,7 @@ impl State {
         ensures walk { Walk self.old self.new result.0 result.1 }
         ensures place { IsPlace self.new result.1 }
         ensures within { result.0 ≤ most }
+        ensures idle { result.0 ≡ 6 → AreIdle self.new 0 self.new.count }
     {
         if most < 6 {
             return (0, 0);
@@ -47,6 +48,7 @@ impl State {
         ensures walk { Walk self.old self.new result.0 result.1 }
         ensures place { IsPlace self.new result.1 }
         ensures within { result.0 ≤ 6 }
+        ensures idle { result.0 ≡ 6 → AreIdle self.new 0 self.new.count }
     {
         let (number, sent) = self.nodes.node_mut(n).send_next(serial);
         let mut item = sent;
@@ -72,6 +74,7 @@ impl State {
         ensures walk { Walk self.old self.new result.0 result.1 }
         ensures place { IsPlace self.new result.1 }
         ensures within { result.0 ≤ 6 }
+        ensures idle { result.0 ≡ 6 → AreIdle self.new 0 self.new.count }
     {
         let (number, sent) = self.nodes.node_mut(n).send_last(serial);
         let mut item = sent;

@@ -18,7 +18,7 @@ use Rattle.ipcz_world.specs.Taking.{IsRegular}
 use Rattle.ipcz_world.specs.Visiting.{Walk}
 use Rattle.ipcz_world.specs.contracts.state.State.{the_view}
 use Rattle.ipcz_world.proofs.acts.Updating.{node-here}
-use Rattle.ipcz_world.proofs.code.CarryingWithin.{carried, left, sent}
+use Rattle.ipcz_world.proofs.code.CarryingWithin.{carried, idle-behind, left, sent}
 use Rattle.ipcz_world.proofs.code.LoneSenders.{has-item, item-is, kept-there, lengths-kept, nodes-kept, number-is, sender-is}
 use Rattle.ipcz_world.proofs.code.Visiting.{on_way-start, walked}
 use Rattle.ipcz_world.proofs.state.State.carry_within.Goals as goal
@@ -104,6 +104,33 @@ returns-then-take_last-clause-walk c =
     let u = set_node (set_node (set_node v n x) n y) n z in
     subst (λ w. Walk w u 6 c.next_node.result) c.self.view_is
     (subst (λ k. Walk v u 6 k) (sym c.next_node.ensures) (walked v u 6 (next_node v n) on))
+
+pub returns-then-take_last-clause-idle : goal.returns-then-take_last-clause-idle
+unfolding node_at set_node
+returns-then-take_last-clause-idle c six =
+    let v = the_view c.self.inside in
+    let n = c.args.n in
+    let link = c.args.link in
+    let lone = subst (λ w. IsLone w n c.args.serial link) (sym c.self.view_is) c.requires.lone in
+    let regular = subst IsRegular (sym c.self.view_is) c.requires.regular in
+    let given = c.send_next-number.ensures in
+    let x = c.send_next-number.new.self.node in
+    let y = c.take_last.new.self.node in
+    let z = c.rest.new.self.node in
+    let old = c.node_mut.result.now.node in
+    let sender = sender-is v n c.args.serial link lone old c.node_mut.ensures.value pop_out x given.node in
+    let number = number-is v n c.args.serial link lone old c.node_mut.ensures.value c.send_next-number.result.0 given.number in
+    let item = item-is v n c.args.serial link lone old c.node_mut.ensures.value c.send_next-number.result.1 given.item in
+    let taker = written-is v n x c.node_mut-2.result.now.node c.node_mut-2.ensures.value ∙ sender in
+    let low = subst (λ (z : Node). z.next_peripheral ≤ no_number) c.node_mut.ensures.value given.serials in
+    let takes = subst (λ z. TakesItem z link.link (opposite link.side) lone.sends.sender.router.out_queue.current lone.sends.sender.sends.item y) taker
+    (subst (λ z. TakesItem c.node_mut-2.result.now.node link.link (opposite link.side) lone.sends.sender.router.out_queue.current z y) item
+    (subst (λ z. TakesItem c.node_mut-2.result.now.node link.link (opposite link.side) z c.send_next-number.result.1 y) number
+    (subst (λ z. TakesItem c.node_mut-2.result.now.node link.link z c.send_next-number.result.0 c.send_next-number.result.1 y)
+    c.opposite-across.ensures (c.take_last.ensures.taken c.if-take_last.true)))) in
+    let behind = written-is (set_node v n x) n y c.node_mut-then-take_last.result.now.node c.node_mut-then-take_last.ensures.value in
+    let rested = c.rest.ensures.node ∙ ap (λ k. commit k (acts.Router c.args.serial router_acts.Rest) Plain) behind in
+    λ k _ l. idle-behind v n c.args.serial link regular lone c.requires.same low y takes x z rested k l
 
 pub leave_in_hand-requires-clause-lengths : goal.leave_in_hand-requires-clause-lengths
 unfolding set_node

@@ -21,3 +21,6 @@ carry-requires c = lawful-regular _ c.self.invariant
 
 pub invariant_of-self : goal.invariant_of-self
 invariant_of-self c = let walk = c.carry.ensures.walk in lawful-still 0 walk.visits _ _ walk.turns c.self.invariant
+
+pub returns-clause-lawful : goal.returns-clause-lawful
+returns-clause-lawful c = let walk = c.carry.ensures.walk in lawful-still 0 walk.visits _ _ walk.turns c.self.invariant

@@ -35,6 +35,14 @@ lawful-refused limit w v why s = record {
       omega (arith, visits_are_bounded each_step_keeps_lawful first_acts_are_possible rates 0 s.visits w v b g c law rated s.turns);
 }
 
+pub returns-then-carried-eq6-clause-settles : goal.returns-then-carried-eq6-clause-settles
+returns-then-carried-eq6-clause-settles c =
+    let carried = c.carry-carried in
+    lawful _ _ _ _ (settled c.args.limit 6 carried.result.1 c.args.self.now carried.new.self
+    (subst (λ k. OnWay c.args.self.now k carried.new.self carried.result.1) c.if-carried-eq6.true
+    (on_way-walked _ _ _ _ carried.ensures.walk carried.ensures.place))
+    (omega (arith, carried.ensures.within, c.if-carried-eq6.true)) carried.ensures.lawful (carried.ensures.idle c.if-carried-eq6.true))
+
 pub loop-acts-init : goal.loop-acts-init
 loop-acts-init c = on_way-walked _ _ _ _ c.carry-carried.ensures.walk c.carry-carried.ensures.place
 
