@@ -11,6 +11,7 @@ import json
 import random
 import subprocess
 import sys
+from typing import Any
 
 import asked
 import model
@@ -25,7 +26,7 @@ SPOILS = [None, True, -1, 0, 9, 1.5, 1000001, 2**64, "", "a0", "0>1", "not a nam
 class Drawing:
     """A script that is drawn command by command. The model runs along, so that most calls are those that some caller could make."""
 
-    def __init__(self, draw, words=None):
+    def __init__(self, draw: random.Random, words: int | None = None) -> None:
         self.draw = draw
         self.nodes = draw.choice([1, 2, 2, 2, 2, 3, 3, 4, 8])
         pairs = self.nodes * (self.nodes - 1) // 2
@@ -33,24 +34,24 @@ class Drawing:
         self.run = model.Run(self.nodes, self.words)
         self.commands = []
 
-    def script(self):
+    def script(self) -> dict[str, Any]:
         return {"nodes": self.nodes, "words": self.words, "commands": self.commands}
 
-    def add(self, *command):
+    def add(self, *command: object) -> None:
         self.commands.append(list(command))
         self.run.do(self.commands[-1])
 
-    def held(self, node):
+    def held(self, node: model.Node) -> list[str]:
         return [name for name, end in self.run.ends.items() if end in node.held]
 
-    def name(self):
+    def name(self) -> str:
         """Mostly of a portal that is held, else any name."""
         held = [name for node in self.run.world.nodes for name in self.held(node)]
         if held and self.draw.random() < 0.9:
             return self.draw.choice(held)
         return self.draw.choice([*self.run.ends, "nobody", "9>0"])
 
-    def attached(self, at, count):
+    def attached(self, at: str, count: int) -> list[str]:
         """Names of portals to attach at one: mostly of those that are held beside it, but for its own pair."""
         end = self.run.ends.get(at)
         node = end and self.run.world.holder_of(end)
@@ -59,17 +60,17 @@ class Drawing:
         beside = [name for name in self.held(node) if self.run.ends[name][0] != end[0]]
         return self.draw.sample(beside, min(count, len(beside)))
 
-    def open(self):
+    def open(self) -> None:
         opened = sum(command[0] == "open" for command in self.commands)
         self.add("open", self.draw.randrange(self.nodes), f"a{opened}", f"b{opened}")
 
-    def put(self):
+    def put(self) -> None:
         at = self.name()
         data = self.draw.choice(BAD_DATA if self.draw.random() < 0.03 else DATA)
         count = self.draw.choice([0, 0, 1, 1, 1, 1, 2, 3, 8, 9])
         self.add("put", at, data, *([self.attached(at, count)] if count else []))
 
-    def call(self):
+    def call(self) -> None:
         kind = self.draw.random()
         if kind < 0.12:
             self.open()
@@ -80,7 +81,7 @@ class Drawing:
         else:
             self.put()
 
-    def turns(self):
+    def turns(self) -> None:
         kind = self.draw.random()
         if kind < 0.05:
             self.add("settle", self.draw.choice([0, 3, 20, 1000]))
@@ -89,14 +90,14 @@ class Drawing:
         else:
             self.add("turn", self.draw.randrange(self.nodes), self.draw.choice([1, 1, 2, 4, 10, 30]))
 
-    def get_all(self):
+    def get_all(self) -> None:
         """Settles, and then gets once at each portal."""
         self.add("settle", 2000)
         for name in list(self.run.ends):
             self.add("get", name)
 
 
-def of_any_calls(draw):
+def of_any_calls(draw: random.Random) -> dict[str, Any]:
     drawing = Drawing(draw)
     share = draw.choice([0.3, 0.5, 0.7])
     for _ in range(draw.choice([5, 20, 60, 150])):
@@ -109,7 +110,7 @@ def of_any_calls(draw):
     return drawing.script()
 
 
-def of_rounds(draw):
+def of_rounds(draw: random.Random) -> dict[str, Any]:
     """In each round one portal travels at most, and then all is got: what is got doesn't hang on the order of turns."""
     drawing = Drawing(draw, words=4096)
     for _ in range(draw.choice([1, 3, 8])):
@@ -125,7 +126,7 @@ def of_rounds(draw):
     return drawing.script()
 
 
-def spoiled(draw):
+def spoiled(draw: random.Random) -> dict[str, Any]:
     """A script in which one command is there twice, or one value, at any depth, is another or is missing."""
     script = of_any_calls(draw)
     kind = draw.random()
@@ -145,12 +146,12 @@ def spoiled(draw):
     return script
 
 
-def drawn(seed):
+def drawn(seed: int) -> dict[str, Any]:
     kinds = {SPOILED: spoiled, ROUNDS: of_rounds}
     return kinds.get(seed % 8, of_any_calls)(random.Random(seed))
 
 
-def form(line):
+def form(line: str) -> str:
     """What a line tells, without names, numbers and data."""
     first, *words = line.split(" ")
     if first.endswith(":"):

@@ -21,13 +21,13 @@ CLOSES = {"{": "}", "[": "]"}
 TOKEN = re.compile(r"(?P<field>(?<=[^\s.])\.(?=[^\s.]))?(?P<word>\[\]|[^\s(){},;«».\[\]]+)")
 
 
-def without_comments(text, mark):
+def without_comments(text: str, mark: str) -> str:
     """The text with its comments and literals blanked, so that all else stands where it stood."""
     literal = r"""r#".*?"#|'(?:\\.[^']*|[^'\\])'|"(?:\\.|[^"\\])*"|""" if mark == "//" else ""
     return re.sub(literal + mark + r"[^\n]*", lambda found: re.sub(r"[^\n]", " ", found.group()), text, flags=re.S)
 
 
-def end_of_group(text, start):
+def end_of_group(text: str, start: int) -> int:
     """Where the bracket that opens at `start` is closed."""
     opens, closes, depth = text[start], CLOSES[text[start]], 0
     for at in range(start, len(text)):
@@ -37,7 +37,7 @@ def end_of_group(text, start):
     return len(text)
 
 
-def clauses(text):
+def clauses(text: str) -> str:
     """What of a .rt file proofs read: clauses, ghost members, attributes."""
     parts, at = [], 0
     while found := CLAUSE.search(text, at):
@@ -46,7 +46,7 @@ def clauses(text):
     return "\n".join(parts)
 
 
-def block_round(text, at):
+def block_round(text: str, at: int) -> str:
     """The innermost block in braces round a place, or the whole text."""
     depth = 0
     for start in range(at - 1, -1, -1):
@@ -56,11 +56,11 @@ def block_round(text, at):
     return text
 
 
-def words(text):
+def words(text: str) -> set[str]:
     return {found["word"] for found in TOKEN.finditer(text) if not found["field"]}
 
 
-def names_of(found):
+def names_of(found: re.Match[str]) -> list[tuple[str, str]]:
     """Each import of a line, as it stands there and as the file calls it."""
     if found["names"] is None:
         name = found["alias"] or found["path"].split(".")[-1]
@@ -68,11 +68,11 @@ def names_of(found):
     return [(name.strip(), name.split(" as ")[-1].strip()) for name in found["names"].split(",") if name.strip()]
 
 
-def is_used(name, there):
+def is_used(name: str, there: set[str]) -> bool:
     return all(part in there for part in name.split("◌") if part)
 
 
-def unused_in(path):
+def unused_in(path: pathlib.Path) -> tuple[str, list[tuple[re.Match[str], list[str]]]]:
     """The import lines of a file that have such names, each with those names."""
     rust = path.suffix == ".rt"
     text = path.read_text()
@@ -89,7 +89,7 @@ def unused_in(path):
     return text, lines
 
 
-def remove(path, text, lines):
+def remove(path: pathlib.Path, text: str, lines: list[tuple[re.Match[str], list[str]]]) -> None:
     for found, gone in reversed(lines):
         line = found.group()
         kept = [name for name, _ in names_of(found) if name not in gone]

@@ -116,7 +116,11 @@ int main(int count, char **arguments) {
 """
 
 
-def cargo(folder, names):
+# A name, and the command that takes a number of rounds.
+Peer = tuple[str, list]
+
+
+def cargo(folder: pathlib.Path, names: list[str]) -> pathlib.Path | None:
     """The program with these crates, or none: cargo asks no network for them."""
     (folder / "src").mkdir(parents=True, exist_ok=True)
     (folder / "Cargo.toml").write_text(
@@ -128,7 +132,7 @@ def cargo(folder, names):
     return folder / "target/release/peers" if done.returncode == 0 else None
 
 
-def rust_peers(folder):
+def rust_peers(folder: pathlib.Path) -> tuple[list[Peer], list[str]]:
     """Pairs of a name and a command of those that cargo builds, and the names of those that it hasn't."""
     if not shutil.which("cargo"):
         return [], ["std", *FOREIGN]
@@ -141,7 +145,7 @@ def rust_peers(folder):
     return found + ([("std", [program, "std"])] if program else []), lost + ([] if program else ["std"])
 
 
-def c_peer(folder):
+def c_peer(folder: pathlib.Path) -> Peer | None:
     """A pair of a name and a command, or none."""
     compiler = shutil.which("cc") or shutil.which("gcc") or shutil.which("clang")
     if not compiler:
@@ -152,10 +156,9 @@ def c_peer(folder):
     return ("mutex and queue", [program]) if done.returncode == 0 else None
 
 
-def peers(folder):
+def peers(folder: str) -> tuple[list[Peer], list[str]]:
     """The peers that can be built here, as pairs of a name and a command that takes a number of rounds and prints nanoseconds a message; and
     the names of those that can't."""
-    folder = pathlib.Path(folder)
-    found, lost = rust_peers(folder)
-    queue = c_peer(folder)
+    found, lost = rust_peers(pathlib.Path(folder))
+    queue = c_peer(pathlib.Path(folder))
     return found + ([queue] if queue else []), lost + ([] if queue else ["mutex and queue"])

@@ -23,31 +23,32 @@ ROUND = 16
 class Soak:
     """The commands of a script, each with the line that it must write. The model runs along, and says how many words are claimed."""
 
-    def __init__(self, words):
+    def __init__(self, words: int) -> None:
         self.words = words
         self.run = model.Run(NODES, words)
-        self.commands, self.lines = [], []
-        self.sent = collections.Counter()
+        self.commands: list[list] = []
+        self.lines: list[str] = []
+        self.sent: collections.Counter[tuple[int, int]] = collections.Counter()
 
-    def ask(self, line, *command):
+    def ask(self, line: str, *command: object) -> None:
         self.commands.append(list(command))
         self.lines.append(line)
         if self.run.do(self.commands[-1]) != [line]:
             sys.exit(f"the model doesn't answer {line}")
 
-    def settle(self):
+    def settle(self) -> None:
         self.ask("settled", "settle", ENOUGH)
 
-    def words_left(self):
+    def words_left(self) -> int:
         return self.words - len(self.run.world.words)
 
-    def open(self, node, first, second):
+    def open(self, node: int, first: str, second: str) -> bool:
         """Whether a word was left for a pair."""
         is_open = self.words_left() > 0
         self.ask(f"open {first} {second} {'ok' if is_open else 'NoWord'}", "open", node, first, second)
         return is_open
 
-    def move(self, name, here, there):
+    def move(self, name: str, here: int, there: int) -> int:
         """A portal goes from a node to another, if it isn't there; the node where it is then."""
         if here != there:
             number = self.sent[here, there]
@@ -57,7 +58,7 @@ class Soak:
             self.ask(f'get {there}>{here} {number} [{name}] "m"', "get", f"{there}>{here}")
         return there
 
-    def exchange(self, first, second, number):
+    def exchange(self, first: str, second: str, number: int) -> None:
         """A parcel each way, under one number."""
         for at, data in [(first, "there"), (second, "back")]:
             self.ask(f"put {at} {number}", "put", at, data)
@@ -65,14 +66,14 @@ class Soak:
         for at, data in [(second, "there"), (first, "back")]:
             self.ask(f'get {at} {number} [] "{data}"', "get", at)
 
-    def close(self, name, number):
+    def close(self, name: str, number: int) -> None:
         self.ask(f"close {name} {number}", "close", name)
 
-    def hear(self, name):
+    def hear(self, name: str) -> None:
         """A get tells that the peer was closed."""
         self.ask(f"get {name} PeerClosed", "get", name)
 
-    def end(self, kind, node, first, second):
+    def end(self, kind: int, node: int, first: str, second: str) -> None:
         """Closes both ends of a pair at which two parcels each were put."""
         match kind:
             case 0 | 4:
@@ -91,7 +92,7 @@ class Soak:
                 self.end_with_a_portal(node, first, second)
         self.settle()
 
-    def end_with_a_portal(self, node, first, second):
+    def end_with_a_portal(self, node: int, first: str, second: str) -> None:
         """The last parcel carries a portal, and nobody gets it."""
         kept, carried = f"{first}k", f"{first}c"
         if not self.open(node, kept, carried):
@@ -104,7 +105,7 @@ class Soak:
         self.close(kept, 0)
         self.close(first, 3)
 
-    def live(self, number):
+    def live(self, number: int) -> bool:
         """Opens a pair, moves its ends and closes them; whether there was a word for it. Where few words are left the first end stays: of
         two proxies without a word none can leave."""
         here, first, second = number % NODES, f"a{number}", f"b{number}"
@@ -119,7 +120,7 @@ class Soak:
         self.end(number % 7, here, first, second)
         return True
 
-    def use_words(self):
+    def use_words(self) -> None:
         """Rounds until no word is left; then the pair is closed that stayed open meanwhile."""
         self.open(0, "x", "y")
         at, number = 0, 0
@@ -131,14 +132,14 @@ class Soak:
         self.close("y", number)
         self.settle()
 
-    def routers(self):
+    def routers(self) -> list[int]:
         return [len(node.routers) for node in self.run.world.nodes]
 
-    def script(self, shows_words):
+    def script(self, shows_words: bool) -> bytes:
         commands = [*self.commands, *([["show"]] if shows_words else [])]
         return json.dumps({"nodes": NODES, "words": self.words, "commands": commands}).encode()
 
-    def transcript(self, shows_words):
+    def transcript(self, shows_words: bool) -> bytes:
         lines = [*self.lines, *([" ".join(["words", *map(str, self.run.world.words)])] if shows_words else [])]
         return "".join(line + "\n" for line in lines).encode()
 
