@@ -248,8 +248,8 @@ impl World {
         }
     }
 
-    // Carries a lone parcel all its way, where that is all that the world has to do; else nothing is done. It gives how many acts that was, and
-    // the node that is visited next. After six acts no node has one.
+    // Carries a lone parcel all its way, if that is all that the world has to do; else nothing is done. It gives how many acts that was, and the
+    // node that is visited next. After six acts no node has an act.
     #[inline(always)]
     fn carry(&mut self, most: u64) -> (u64, u8)
         ensures walk { Walk self.old self.new result.0 result.1 }

@@ -13,9 +13,10 @@ use crate::state::State;
 use ipcz_base::{Item, LinkEnd, Message, Moves};
 
 impl State {
-    /// Carries a lone parcel all its way, as its six acts do: a send out, a post, a look, a hand, and a rest of each router. It gives how many
-    /// acts that was, `most` at most, and the node that is visited next. After six acts no node has one. Where there is no memory for the parcel at its receiver it stays in
-    /// hand there, behind four acts, or three within one node. Where the parcel isn't all that the world has to do, nothing is done.
+    /// Carries a lone parcel all its way in one go: a send out, a post, a look, a hand, and a rest of each router. It gives how many acts that
+    /// was, at most `most`, and the node that is visited next. After six acts no node has an act. If the receiver finds no memory for the
+    /// parcel, it stays in hand there: that is after four acts, or three within one node. If the parcel isn't all that the world has to do,
+    /// nothing is done.
     #[inline(never)]
     pub(crate) fn carry(&mut self, most: u64) -> (u64, u8)
         requires { IsRegular self.old }
@@ -39,7 +40,8 @@ impl State {
         }
     }
 
-    // Carries a lone parcel over its link within one node. There its sender's router rests last.
+    // Carries a lone parcel over its link within one node. Of its two routers that of the lower serial rests first, which makes no difference
+    // to the node after both.
     #[inline(always)]
     fn carry_within(&mut self, n: u8, serial: u64, link: LinkEnd) -> (u64, u8)
         requires regular { IsRegular self.old }
