@@ -214,10 +214,10 @@ const MADE: [&str; 8] = [
     "<title>item 0 C0 from n0 r0 to n1; made line 1; posted line 3; looked line 4; handled line 6</title>",
     "<title>item 1 C0 from n0 r0 to n1; made line 2; posted line 5; looked line 7; handled line 8</title>",
     "<title>Flush C2 from n1 r0 to n0; made line 9; posted line 10; not seen handled</title>",
-    "M422 145H454V181H460",
-    "M422 163H450V217H460",
+    "M428 145H494V181H500",
+    "M428 163H490V217H500",
     ">Flush</text>",
-    "<text x=\"414\" y=\"419\" class=\"t10 ink b e h halo\">r0</text>",
+    "<text x=\"420\" y=\"419\" class=\"t10 ink b e h halo\">r0</text>",
     "<text x=\"387\" y=\"419\" class=\"t9 dim b h halo\">n0</text>",
 ];
 
@@ -260,9 +260,9 @@ const SOURCES: [(&[u8], Option<&str>); 6] = [
     (b"words 3 35 3\n", None),
 ];
 
-// Whether a picture has this source behind the cells of a word, or none.
+// Whether a picture has this source behind the cells of a word, or none; one more, the number 2, stands in the legend.
 fn has_source(picture: &[u8], node: Option<&str>) -> bool {
-    let is_there = has(picture, b"class=\"t9 f-word b\"");
+    let is_there = times(picture, b"class=\"t9 f-word b\"") == 2;
     match node {
         Some(node) => is_there && has(picture, node.as_bytes()),
         None => !is_there,
@@ -298,8 +298,8 @@ const CALLS: &[u8] =
     b"open x y ok\nput 0>1 0\nclose 0>1 1\nn0: r0 send out 0 C0 moves 1B\nn0: post 1\nn1: look 0\nn1: hand item 0 C0\nn1: r0 rest\nn0: r2 claim 2\nn0: r2 finish in P0.0\nget y PeerClosed\n";
 
 const CALLED: [&str; 5] = [
-    "class=\"f-call\"/><text x=\"430\" y=\"167\" class=\"t9 f-call h halo\">put</text>",
-    "class=\"f-call\"/><text x=\"430\" y=\"185\" class=\"t9 f-call h halo\">close</text>",
+    "class=\"f-call\"/><text x=\"436\" y=\"167\" class=\"t9 f-call h halo\">put</text>",
+    "class=\"f-call\"/><text x=\"436\" y=\"185\" class=\"t9 f-call h halo\">close</text>",
     ">0A 0&gt;1</text>",
     ">0B 1&gt;0</text>",
     ">1B y</text>",
@@ -415,36 +415,36 @@ const PART: [(&str, usize); 23] = [
     ("<g transform", 5),
     // The names of both routers, and their bars.
     (
-        "<text x=\"414\" y=\"130\" class=\"t10 ink b e h halo\">r0</text>",
+        "<text x=\"420\" y=\"130\" class=\"t10 ink b e h halo\">r0</text>",
         1,
     ),
     (
-        "<text x=\"582\" y=\"130\" class=\"t10 ink b e h halo\">r4</text>",
+        "<text x=\"628\" y=\"130\" class=\"t10 ink b e h halo\">r4</text>",
         1,
     ),
     (
-        "<rect x=\"419\" y=\"136\" width=\"6\" height=\"90\" class=\"bar\"/>",
+        "<rect x=\"425\" y=\"136\" width=\"6\" height=\"90\" class=\"bar\"/>",
         1,
     ),
     (
-        "<rect x=\"587\" y=\"136\" width=\"6\" height=\"90\" class=\"bar\"/>",
+        "<rect x=\"633\" y=\"136\" width=\"6\" height=\"90\" class=\"bar\"/>",
         1,
     ),
     // C1 of line 1, which no line changes again.
     ("y=\"130\" class=\"t9 f-word e\">C1</text>", 1),
     ("y=\"136\" width=\"1\" height=\"92\" class=\"f-word\"/>", 1),
     // Item 0 between the walls up to its look, and in the hand down to the foot; its label stands at the look.
-    ("M460 136L552 145", 1),
+    ("M500 136L592 145", 1),
     (
         "made line 2; posted line 3; looked line 5; handled line 12</title>",
         1,
     ),
-    ("M552 145H564V226\"/>", 1),
+    ("M592 145H604V226\"/>", 1),
     (">item 0</text>", 1),
     ("y=\"142\" class=\"t9 e h halo f-item\">item 0</text>", 1),
     // Item 1 from its router to its post, and on its way down to the foot.
-    ("M422 181H454V199H460\"/>", 1),
-    ("M460 199L552 226", 1),
+    ("M428 181H494V199H500\"/>", 1),
+    ("M500 199L592 226", 1),
     (
         "made line 7; posted line 8; looked line 13; handled line 14</title>",
         1,

@@ -16,14 +16,15 @@ use std::alloc::{AllocError, Global};
 /// The most opened portals whose names are known.
 const MOST_PORTALS: usize = 512;
 
-// Where more ends moved than so many, no calls are looked for.
-const MOST_MOVES: usize = 512;
+/// If more ends moved than so many, no calls and no origins are looked for.
+pub const MOST_MOVES: usize = 512;
 
-/// An opened portal, by its name.
+/// An opened portal, by its name, with the line of its open.
 #[derive(Clone, Copy)]
 pub struct Portal<'a> {
     pub name: &'a [u8],
     pub end: End,
+    pub line: usize,
 }
 
 /// A call, by its line, and the router of its portal.
@@ -111,7 +112,7 @@ fn note_opened<'a>(
     taken: usize,
 ) -> Result<(), AllocError> {
     let mut word = taken;
-    for read in lines {
+    for (line, read) in lines.iter().enumerate() {
         if let Line::Open {
             first,
             second,
@@ -126,6 +127,7 @@ fn note_opened<'a>(
                         pair,
                         side: Side::A,
                     },
+                    line,
                 })?;
                 opened.push(Portal {
                     name: second,
@@ -133,6 +135,7 @@ fn note_opened<'a>(
                         pair,
                         side: Side::B,
                     },
+                    line,
                 })?;
             }
             word = word.saturating_add(1);
@@ -152,6 +155,30 @@ fn first_pair(nodes: u8, low: u8, high: u8) -> u16 {
     pair.saturating_add(u16::from(high.saturating_sub(low).saturating_sub(1)))
 }
 
+/// How many nodes there are, as far as the lines before the first settle tell.
+pub fn node_count(lines: &[ReadLine]) -> Option<u8> {
+    let pairs = first_pairs(&lines[..lines_in_sight(lines)])?;
+    nodes_with(pairs)
+}
+
+/// The end that a router serves which its node has had from the start: those are the node's ends of the first pairs, by the
+/// pairs' numbers.
+pub fn first_end(nodes: u8, node: u8, serial: u64) -> Option<End> {
+    if node >= nodes || serial >= u64::from(nodes.saturating_sub(1)) {
+        return None;
+    }
+    if serial < u64::from(node) {
+        return Some(End {
+            pair: first_pair(nodes, serial as u8, node),
+            side: Side::B,
+        });
+    }
+    Some(End {
+        pair: first_pair(nodes, node, serial as u8 + 1),
+        side: Side::A,
+    })
+}
+
 // The digit of a node.
 fn node_of(digit: u8, nodes: u8) -> Option<u8> {
     let node = digit.checked_sub(b'0')?;
@@ -169,7 +196,7 @@ impl<'a> Portals<'a> {
         }
         Ok(Portals {
             opened,
-            nodes: pairs.and_then(|count| nodes_with(count)),
+            nodes: node_count(lines),
         })
     }
 
@@ -217,6 +244,18 @@ impl<'a> Portals<'a> {
                         Side::B => Some((high, low)),
                     };
                 }
+            }
+        }
+        None
+    }
+
+    /// The line of the open that an end is of.
+    pub fn line_of(&self, end: End) -> Option<usize>
+        ensures { IfSome result (λ line. Any (λ p. (p.line ≡ line) × (p.end ≡ end)) self.now.opened.items) }
+    {
+        for portal in &self.opened {
+            if end == portal.end {
+                return Some(portal.line);
             }
         }
         None

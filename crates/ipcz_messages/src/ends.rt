@@ -7,6 +7,7 @@
 ghost use Rattle.std.specs.Prelude.{◌≡◌, ◌<◌, length, vec_len, IfOk};
 ghost use Rattle.ipcz_messages.specs.Ends.{IsLoneSide};
 
+use crate::calls::{first_end, node_count};
 use crate::messages::Message;
 use crate::messages::namings::{Naming, namings};
 use crate::moves::{Moves, lines_in_sight};
@@ -138,6 +139,19 @@ impl Known {
         }
     }
 
+    // Notes the ends of the routers that their nodes have had from the start.
+    fn note_first(&mut self, nodes: Option<u8>, routers: &[Router])
+        ensures { vec_len self.new.ends ≡ vec_len self.old.ends }
+    {
+        for (index, router) in routers.iter().enumerate() {
+            let end = match nodes {
+                Some(nodes) => first_end(nodes, router.node, router.serial),
+                None => None,
+            };
+            self.set(Some(index), end);
+        }
+    }
+
     // Notes the ends of routers with a link that was made for an end that moved.
     fn note_moved(&mut self, namings: &[Naming], moves: &Moves)
         ensures { vec_len self.new.ends ≡ vec_len self.old.ends }
@@ -217,6 +231,7 @@ pub fn ends(
         claimers: vec![in alloc; None; WORDS]?,
         holders: vec![in alloc; [None; 2]; WORDS]?,
     };
+    known.note_first(node_count(lines), routers);
     known.note_moved(&namings, moves);
     for naming in &namings {
         known.note_holder(naming);

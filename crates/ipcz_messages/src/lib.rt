@@ -5,4 +5,5 @@ pub mod calls;
 pub mod ends;
 pub mod messages;
 pub mod moves;
+pub mod origins;
 pub mod routers;

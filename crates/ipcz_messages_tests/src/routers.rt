@@ -5,7 +5,8 @@ use ipcz_lines::{End, Side};
 use ipcz_messages::calls::{Call, Portals, calls};
 use ipcz_messages::ends::ends;
 use ipcz_messages::messages::note_births;
-use ipcz_messages::moves::Moves;
+use ipcz_messages::moves::{Moves, lines_in_sight};
+use ipcz_messages::origins::note_origins;
 use ipcz_messages::routers::find;
 use std::alloc::{AllocError, Global};
 
@@ -49,6 +50,70 @@ fn routers_begin_where_their_ends_moved(rt: HostRuntime) {
     assert!(rt; begin_at(rt.alloc(), TWO_PROXIES, 1, 2, 14));
 }
 
+// The routers with their beginnings, where their ends began.
+fn with_origins(alloc: Global, told: &mut Told) -> Result<(), AllocError> {
+    notes(alloc, told)?;
+    let moves = Moves::new(alloc, &told.lines)?;
+    let portals = Portals::new(alloc, &told.lines)?;
+    let ends = ends(alloc, &told.lines, &told.messages, &told.routers, &moves)?;
+    let seen = lines_in_sight(&told.lines);
+    note_origins(&mut told.routers, &moves, &ends, &portals, seen);
+    Ok(())
+}
+
+// A router by its node and its serial, and its first line.
+type Begun = (u8, u64, usize);
+
+const BEGUN: [(&[u8], [Begun; 3]); 5] = [
+    (TWO_PROXIES, [(0, 0, 0), (0, 1, 0), (0, 2, 0)]),
+    (ONE_BYPASS, [(0, 0, 0), (0, 1, 0), (0, 2, 0)]),
+    (ONE_BYPASS, [(1, 0, 0), (1, 1, 12), (0, 0, 0)]),
+    // An open of the second line, whose side A marks and whose side B locks.
+    (
+        b"words 3\nopen x y ok\nn0: idle\nn0: r0 rest\nn0: r1 mark C1 3\nn0: r2 lock C1 35\n",
+        [(0, 0, 0), (0, 1, 1), (0, 2, 1)],
+    ),
+    // Behind a settle nothing is known of what moved.
+    (
+        b"words 3\nopen x y ok\nsettled\nn0: r0 rest\nn0: r1 mark C1 3\nn0: r2 lock C1 35\n",
+        [(0, 0, 3), (0, 1, 4), (0, 2, 5)],
+    ),
+];
+
+// Whether the routers of a transcript begin at these lines.
+fn all_begin(alloc: Global, transcript: &[u8], begun: &[Begun]) -> bool {
+    let Some(mut told) = told_by(alloc, transcript) else {
+        return false;
+    };
+    let Ok(()) = with_origins(alloc, &mut told) else {
+        return false;
+    };
+    for (node, serial, first) in begun {
+        match find(&told.routers, *node, *serial).and_then(|i| told.routers.get(i)) {
+            Some(router) if router.first == *first => (),
+            _ => return false,
+        }
+    }
+    true
+}
+
+// The first transcript whose routers begin at other lines.
+fn first_begun_elsewhere(alloc: Global) -> Option<usize> {
+    for (i, row) in BEGUN.iter().enumerate() {
+        let (transcript, begun) = row;
+        if !all_begin(alloc, transcript, begun) {
+            return Some(i);
+        }
+    }
+    None
+}
+
+// A router of a first pair begins at the first line, one of an opened pair at its open, and one that a move makes at its hand.
+#[test]
+fn routers_begin_where_their_ends_began(rt: HostRuntime) {
+    assert_eq!(rt; first_begun_elsewhere(rt.alloc()), None);
+}
+
 // A router by its node and its serial, and the end that it serves, where that is told.
 type Served = (u8, u64, Option<End>);
 
@@ -87,7 +152,17 @@ const B5: Option<End> = Some(End {
     side: Side::B,
 });
 
-const SERVED: [(&[u8], [Served; 5]); 3] = [
+const B3: Option<End> = Some(End {
+    pair: 3,
+    side: Side::B,
+});
+
+const SERVED: [(&[u8], [Served; 5]); 4] = [
+    // The six words of four nodes' first pairs, and routers that name no link.
+    (
+        b"words 3 3 3 3 3 3\nn1: r0 rest\nn2: r0 rest\nn2: r1 rest\nn2: r2 rest\nn2: r3 rest\n",
+        [(1, 0, B0), (2, 0, B1), (2, 1, B3), (2, 2, A5), (2, 3, None)],
+    ),
     (
         ONE_BYPASS,
         [(0, 0, A0), (0, 1, A1), (0, 2, B1), (1, 0, B0), (1, 1, B1)],

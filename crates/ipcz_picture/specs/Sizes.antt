@@ -21,8 +21,8 @@ most_place read p = sum_by most_row (take p.count (drop p.first read))
 
 -- a picture: its heading, and beside the row of a line its ground, a router's lifeline and name, and a message
 abbrev pub most_picture : List ReadLine → ℕ
-most_picture read = 60000 + 10600 * length read + sum_by most_row read
+most_picture read = 70000 + 10600 * length read + sum_by most_row read
 
 -- the size of a picture is linear: so many bytes for its heading, for each line, and for each byte of the lines
 abbrev pub IsBounded : List ℕ → List ReadLine → List ℕ → Type 0
-IsBounded input read text = length text ≤ 60000 + 15000 * length read + 1900 * length input
+IsBounded input read text = length text ≤ 70000 + 15000 * length read + 1900 * length input

@@ -26,7 +26,8 @@ use ipcz_markup::{Key, Tag, Writer, style};
 use ipcz_messages::calls::{Portals, calls};
 use ipcz_messages::ends::ends;
 use ipcz_messages::messages::{messages, note_births};
-use ipcz_messages::moves::Moves;
+use ipcz_messages::moves::{Moves, lines_in_sight};
+use ipcz_messages::origins::note_origins;
 use ipcz_messages::routers::{routers, see_calls, see_messages};
 use std::alloc::{AllocError, Global};
 
@@ -121,6 +122,7 @@ pub fn picture(alloc: Global, lines: &[ReadLine], bounds: Bounds) -> Result<Vec<
     see_messages(&mut routers, &messages);
     let portals = Portals::new(alloc, lines)?;
     let ends = ends(alloc, lines, &messages, &routers, &moves)?;
+    note_origins(&mut routers, &moves, &ends, &portals, lines_in_sight(lines));
     let calls = calls(alloc, lines, &routers, &moves, &ends, &portals)?;
     see_calls(&mut routers, &calls);
     let lanes = lanes(alloc, lines, &routers)?;

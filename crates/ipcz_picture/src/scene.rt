@@ -10,9 +10,11 @@ use ipcz_lines::{Event, Line, Link, ReadLine, RouterEvent};
 use ipcz_messages::routers::{Router, find};
 use std::alloc::{AllocError, Global};
 
-const COLUMN: u64 = 62;
+const COLUMN: u64 = 80;
 
-const PAD: u64 = 38;
+const LEFT_PAD: u64 = 44;
+
+const RIGHT_PAD: u64 = 72;
 
 const GAP: u64 = 92;
 
@@ -136,7 +138,7 @@ fn node_walls(
         let width = columns
             .saturating_sub(1)
             .saturating_mul(COLUMN)
-            .saturating_add(2 * PAD);
+            .saturating_add(LEFT_PAD + RIGHT_PAD);
         let right = left.saturating_add(width);
         walls.push(Walls { left, right })?;
         left = right.saturating_add(GAP);
@@ -191,7 +193,7 @@ impl<'a> Scene<'a> {
             width: words_left
                 .saturating_add(beside)
                 .saturating_add(16)
-                .max(930),
+                .max(1000),
             bottom,
         })
     }
@@ -254,7 +256,7 @@ impl<'a> Scene<'a> {
                 let walls = self.walls_of(router.node);
                 walls
                     .left
-                    .saturating_add(PAD)
+                    .saturating_add(LEFT_PAD)
                     .saturating_add((lane.column as u64).saturating_mul(COLUMN))
             }
             _ => 0,
