@@ -103,6 +103,28 @@ fn words_of_line(line: &Line) -> usize {
     }
 }
 
+// How many columns of words a line needs for those that it tells the value of.
+fn columns_of_line(line: &Line) -> usize {
+    match line {
+        Line::Words(_) => words_of_line(line).min(WORDS),
+        _ => match words_of_line(line).checked_sub(1) {
+            Some(word) => word % WORDS + 1,
+            None => 0,
+        },
+    }
+}
+
+// How many columns of words the lines need.
+fn word_columns(lines: &[ReadLine]) -> usize
+    ensures few { result ≤ 6 }
+{
+    let mut count = 0;
+    for read in lines {
+        count = count.max(columns_of_line(&read.line));
+    }
+    count.min(WORDS)
+}
+
 fn word_count(lines: &[ReadLine]) -> usize {
     let mut count = 0;
     for read in lines {
@@ -180,7 +202,7 @@ impl<'a> Scene<'a> {
             None => FIRST_BAND - 34,
         };
         let words_left = inner.saturating_add(66);
-        let beside = words.min(WORDS) as u64 * WORD_COLUMN;
+        let beside = word_columns(lines) as u64 * WORD_COLUMN;
         Ok(Scene {
             lines,
             bounds,
