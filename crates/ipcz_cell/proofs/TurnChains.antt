@@ -1,5 +1,5 @@
 -- Turns of a cell one after the other, whose events aren't told.
-use Rattle.std.specs.Prelude.{◌≡◌, ◌≢◌, ◌≤◌, ◌<◌, ◌+◌, ℕ, Bool, true, false, List, [], ◌∷◌, ◌++◌, length, Option, Some, None, Result, Ok, Err}
+use Rattle.std.specs.Prelude.{◌≡◌, ◌≢◌, ◌≤◌, ◌<◌, ◌+◌, ℕ, Bool, true, false, List, [], ◌∷◌, ◌++◌, length, Option, Some, None, Result, Ok, Err, OnOk, OnErr, IfErr, IsOk, if◌then◌else◌}
 use Rattle.std.proofs.Common.{ap, sym, subst, ◌∙◌, refl, inl, inr, arith, append-nil}
 use Rattle.std.proofs.lemmas.List.{length-append}
 use Rattle.ipcz_base.specs.declared.message.Message.{Message}
@@ -9,35 +9,48 @@ use Rattle.ipcz_node.specs.declared.act.Act.{Act}
 use Rattle.ipcz_node.specs.declared.act.Act.TheVariants as acts
 use Rattle.ipcz_node.specs.declared.happened.Happened.{Happened}
 use Rattle.ipcz_node.specs.declared.happened.Happened.TheVariants as events
-use Rattle.ipcz_node.specs.Events.{hand_event}
-use Rattle.ipcz_rule.specs.Steps.{old_word, trusted}
+use Rattle.ipcz_base.specs.declared.refusal.Refusal.TheVariants as refusals
+use Rattle.ipcz_router.specs.declared.act.Answer.TheVariants as answers
+use Rattle.ipcz_node.specs.Acts.{act_lacks_serials, stand_in}
+use Rattle.ipcz_node.specs.Preparing.{act_grows}
+use Rattle.ipcz_node.specs.Events.{event_of, hand_event}
+use Rattle.ipcz_rule.specs.Steps.{act_part, old_word, trusted}
 use Rattle.ipcz_cell.specs.TableNames.{TableName}
 use Rattle.ipcz_cell.specs.CellStates.{CellState}
-use Rattle.ipcz_cell.specs.Parts.{handed_part, part_handed}
+use Rattle.ipcz_cell.specs.Parts.{handed_part, is_touch_act, part_handed}
 use Rattle.ipcz_cell.specs.Mails.{Handles, OldLoaded, old_named}
 use Rattle.ipcz_cell.specs.Turns.{Chooses}
 use Rattle.ipcz_cell.specs.TurnEnds.{Acts}
-use Rattle.ipcz_cell.specs.TurnChains.{untold, Does, TakesTurn, TriesTurn, AreTurns, RunsTurns}
+use Rattle.ipcz_cell.specs.TurnChains.{acted, untold, Does, TakesTurn, TriesTurn, AreTurns, RunsTurns}
+use Rattle.ipcz_cell.proofs.TurnActs.{touch_acts, touch_refused}
 use Rattle.ipcz_cell.proofs.TurnParts.{idle_acts, turn_done, turn_act}
 
 -- an act whose event isn't told
-pub does : (t : TableName) (act : Act) (old new : CellState) (told : Result Happened Refusal) (answer : Result Bool Refusal) → answer ≡ untold told →
+pub does : (t : TableName) (act : Act) (old new : CellState) (told : Result Happened Refusal) (answer : Result (Unit {0}) Refusal) → answer ≡ untold told →
     Acts t act old told new → Does t act old answer new
-does t act old new (Ok event) answer is h = subst (λ (r : Result Bool Refusal). Does t act old r new) (sym is) (refl, event, h)
-does t act old new (Err why) answer is h = subst (λ (r : Result Bool Refusal). Does t act old r new) (sym is) h
+does t act old new (Ok event) answer is h = subst (λ (r : Result (Unit {0}) Refusal). Does t act old r new) (sym is) (event, h)
+does t act old new (Err why) answer is h = subst (λ (r : Result (Unit {0}) Refusal). Does t act old r new) (sym is) h
+
+-- an act that is made ready and done in one go
+pub plain_does : (t : TableName) (act : Act) (old new : CellState) (r : Result (Unit {0}) Refusal) → is_touch_act act ≡ true → act ≡ stand_in act →
+    OnOk r (new.part ≡ act_part act answers.Plain old.part) →
+    IfErr r (λ e. e ≡ (if act_lacks_serials old.part.state act then refusals.NumbersEnd else refusals.OutOfMemory)) →
+    (act_grows old.part.state act ≡ false → IsOk r) → OnErr r (new.part ≡ old.part) → new.seen ≡ old.seen → Does t act old r new
+plain_does t act old new (Ok done) touch alone part why grows same seen =
+    (event_of old.part.state act answers.Plain, touch_acts t act old old new (event_of old.part.state act answers.Plain) touch refl refl refl part seen)
+plain_does t act old new (Err e) touch alone part why grows same seen = touch_refused t act old new e touch alone same seen why grows
 
 -- a turn that does this act
-pub tries : (t : TableName) (act : Act) (old mid new : CellState) (answer : Result Bool Refusal) → Chooses t old act mid → act ≢ acts.Idle → Does t act mid answer new →
-    TriesTurn t old answer new
-tries t act old mid new (Ok true) c busy h = (
-  h.1,
+pub tries : (t : TableName) (act : Act) (old mid new : CellState) (done : Result (Unit {0}) Refusal) (answer : Result Bool Refusal) → Chooses t old act mid → act ≢ acts.Idle →
+    answer ≡ acted done → Does t act mid done new → TriesTurn t old answer new
+tries t act old mid new (Ok done) answer c busy is h = subst (λ (r : Result Bool Refusal). TriesTurn t old r new) (sym is) (
+  h.0,
   record {
-    turn = turn_done t act old mid new (Ok h.1) c h.2;
-    busy = subst (λ (a : Act). a ≢ acts.Idle) (sym (turn_act t act old mid new (Ok h.1) c h.2)) busy;
+    turn = turn_done t act old mid new (Ok h.0) c h.1;
+    busy = subst (λ (a : Act). a ≢ acts.Idle) (sym (turn_act t act old mid new (Ok h.0) c h.1)) busy;
   },
 )
-tries t act old mid new (Ok false) c busy h = absurd cc
-tries t act old mid new (Err why) c busy h = turn_done t act old mid new (Err why) c h
+tries t act old mid new (Err why) answer c busy is h = subst (λ (r : Result Bool Refusal). TriesTurn t old r new) (sym is) (turn_done t act old mid new (Err why) c h)
 
 -- a turn that has nothing to do
 pub idles : (t : TableName) (act : Act) (old mid : CellState) → Chooses t old act mid → act ≡ acts.Idle → TriesTurn t old (Ok false) mid

@@ -10,13 +10,18 @@ use Rattle.ipcz_cell.specs.CellStates.{CellState}
 use Rattle.ipcz_cell.specs.TurnEnds.{Acts, Turns}
 
 -- what is left of an answer whose event isn't told
-abbrev pub untold : Result Happened Refusal → Result Bool Refusal
-untold (Ok event) = Ok true
+abbrev pub untold : Result Happened Refusal → Result (Unit {0}) Refusal
+untold (Ok event) = Ok tt
 untold (Err why) = Err why
 
+-- what a turn tells of an act that was answered so: there was one
+abbrev pub acted : Result (Unit {0}) Refusal → Result Bool Refusal
+acted (Ok done) = Ok true
+acted (Err why) = Err why
+
 -- an act was done, whatever event it is, or refused
-abbrev pub Does : TableName → Act → CellState → Result Bool Refusal → CellState → Type 0
-Does t act old (Ok done) new = (done ≡ true) × (event : Happened) × Acts t act old (Ok event) new
+abbrev pub Does : TableName → Act → CellState → Result (Unit {0}) Refusal → CellState → Type 0
+Does t act old (Ok done) new = (event : Happened) × Acts t act old (Ok event) new
 Does t act old (Err why) new = Acts t act old (Err why) new
 
 -- a turn has done an act, which is this event

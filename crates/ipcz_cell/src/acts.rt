@@ -3,7 +3,7 @@ ghost use Rattle.std.specs.Prelude.{◌≡◌, ◌<◌, true, Some, None};
 ghost use Rattle.ipcz_node.specs.Acts.{has_mail_for, stand_in};
 ghost use Rattle.ipcz_node.specs.RoomyNodes.{IsPossibleAct};
 ghost use Rattle.ipcz_rule.specs.Steps.{is_touch};
-ghost use Rattle.ipcz_cell.specs.TurnChains.{untold, Does, TriesTurn, RunsTurns};
+ghost use Rattle.ipcz_cell.specs.TurnChains.{acted, untold, Does, TriesTurn, RunsTurns};
 
 use crate::cell::NodeCell;
 use crate::fabric::{Fabric, FabricName};
@@ -11,12 +11,22 @@ use ipcz_base::Refusal;
 use ipcz_node::{Act, Happened};
 use ipcz_router::act::RouterAct;
 
-// An answer without its event. What does an act here answers true, as a turn that had one to do.
-fn untold(told: Result<Happened, Refusal>) -> Result<bool, Refusal>
+// An answer without its event.
+fn untold(told: Result<Happened, Refusal>) -> Result<(), Refusal>
     ensures { result ≡ untold told }
 {
     match told {
-        Ok(_) => Ok(true),
+        Ok(_) => Ok(()),
+        Err(why) => Err(why),
+    }
+}
+
+// What a turn tells of an act that was answered so.
+fn acted(done: Result<(), Refusal>) -> Result<bool, Refusal>
+    ensures { result ≡ acted done }
+{
+    match done {
+        Ok(()) => Ok(true),
         Err(why) => Err(why),
     }
 }
@@ -24,12 +34,12 @@ fn untold(told: Result<Happened, Refusal>) -> Result<bool, Refusal>
 impl<F: FabricName> NodeCell<F> {
     // Handles the message in hand.
     #[inline(always)]
-    fn hand_untold(&mut self, fabric: &Fabric<F>, from: u8) -> Result<bool, Refusal>
+    fn hand_untold(&mut self, fabric: &Fabric<F>, from: u8) -> Result<(), Refusal>
         requires { self.old.part.state.hand ≡ Some from }
         ensures { Does F.table (Act.Hand from) self.old result self.new }
     {
         match self.hand_alone(fabric, from) {
-            Ok(true) => Ok(true),
+            Ok(true) => Ok(()),
             Ok(false) => untold(self.mail_handle(fabric, from)),
             Err(why) => Err(why),
         }
@@ -37,13 +47,13 @@ impl<F: FabricName> NodeCell<F> {
 
     // Looks into the mailbox of a node.
     #[inline(always)]
-    fn look_untold(&mut self, fabric: &Fabric<F>, from: u8) -> Result<bool, Refusal>
+    fn look_untold(&mut self, fabric: &Fabric<F>, from: u8) -> Result<(), Refusal>
         requires inside { from < F.table.count }
         requires idle { self.old.part.state.hand ≡ None }
         ensures { Does F.table (Act.Look from) self.old result self.new }
     {
         if self.mail_look(fabric, from) {
-            Ok(true)
+            Ok(())
         } else {
             Err(Refusal::Raced)
         }
@@ -51,7 +61,7 @@ impl<F: FabricName> NodeCell<F> {
 
     // Posts the first message for a node, whose mailbox it takes first where it hasn't got it.
     #[inline(always)]
-    fn post_untold(&mut self, fabric: &Fabric<F>, to: u8) -> Result<bool, Refusal>
+    fn post_untold(&mut self, fabric: &Fabric<F>, to: u8) -> Result<(), Refusal>
         requires inside { to < F.table.count }
         requires mail { has_mail_for self.old.part.state to ≡ true }
         ensures { Does F.table (Act.Post to) self.old result self.new }
@@ -60,7 +70,7 @@ impl<F: FabricName> NodeCell<F> {
             return Err(Refusal::Raced);
         }
         self.mail_post(fabric, to);
-        Ok(true)
+        Ok(())
     }
 
     // Lets a router do an act that touches no word.
@@ -70,16 +80,13 @@ impl<F: FabricName> NodeCell<F> {
         fabric: &Fabric<F>,
         serial: u64,
         act: RouterAct,
-    ) -> Result<bool, Refusal>
+    ) -> Result<(), Refusal>
         requires touch { is_touch act ≡ true }
         requires alone { Act.Router serial act ≡ stand_in (Act.Router serial act) }
         requires possible { IsPossibleAct self.old.part.state (Act.Router serial act) }
         ensures { Does F.table (Act.Router serial act) self.old result self.new }
     {
-        match self.act_plainly(fabric, serial, act) {
-            Ok(()) => Ok(true),
-            Err(why) => Err(why),
-        }
+        self.act_plainly(fabric, serial, act)
     }
 
     // Lets a router do an act.
@@ -89,7 +96,7 @@ impl<F: FabricName> NodeCell<F> {
         fabric: &Fabric<F>,
         serial: u64,
         act: RouterAct,
-    ) -> Result<bool, Refusal>
+    ) -> Result<(), Refusal>
         requires { IsPossibleAct self.old.part.state (Act.Router serial act) }
         ensures { Does F.table (Act.Router serial act) self.old result self.new }
     {
@@ -118,11 +125,11 @@ impl<F: FabricName> NodeCell<F> {
     {
         let act = self.act(fabric);
         match act {
-            Act::Hand(from) => self.hand_untold(fabric, from),
-            Act::Look(from) => self.look_untold(fabric, from),
-            Act::Post(to) => self.post_untold(fabric, to),
-            Act::Close(_) => untold(self.touch_turn(fabric, act)),
-            Act::Router(serial, act) => self.router_untold(fabric, serial, act),
+            Act::Hand(from) => acted(self.hand_untold(fabric, from)),
+            Act::Look(from) => acted(self.look_untold(fabric, from)),
+            Act::Post(to) => acted(self.post_untold(fabric, to)),
+            Act::Close(_) => acted(untold(self.touch_turn(fabric, act))),
+            Act::Router(serial, act) => acted(self.router_untold(fabric, serial, act)),
             Act::Idle => Ok(false),
         }
     }

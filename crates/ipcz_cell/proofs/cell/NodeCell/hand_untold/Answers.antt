@@ -1,4 +1,4 @@
-use Rattle.std.proofs.Common.{◌∙◌, ap, refl}
+use Rattle.std.proofs.Common.{◌∙◌, ap}
 use Rattle.ipcz_node.specs.declared.act.Act.TheVariants as acts
 use Rattle.ipcz_rule.specs.declared.view.Part.{Part}
 use Rattle.ipcz_cell.proofs.TurnActs.{after_same}
@@ -9,7 +9,7 @@ use Rattle.ipcz_cell.proofs.cell.NodeCell.hand_untold.Goals as goal
 pub returns-in-Ok-true : goal.returns-in-Ok-true
 returns-in-Ok-true g c =
     let h = c.in-Ok-true.ensures.taken c.in-Ok-true.field-0-test in
-    (refl, h.0, hand_takes g.F.FabricName.table c.args.from c.args.self.now c.hand_alone.new.self _ h.1)
+    (h.0, hand_takes g.F.FabricName.table c.args.from c.args.self.now c.hand_alone.new.self _ h.1)
 
 pub mail_handle-requires : goal.mail_handle-requires
 mail_handle-requires g c = ap (λ (p : Part). p.state.hand) (c.in-Ok-false.ensures.left c.in-Ok-false.field-0-test).0 ∙ c.requires

@@ -1,4 +1,4 @@
-use Rattle.std.proofs.Common.{Bool, refl, subst}
+use Rattle.std.proofs.Common.{Bool, subst}
 use Rattle.ipcz_cell.specs.Mails.{Looks, mail_word}
 use Rattle.ipcz_cell.proofs.TurnActs.{look_acts, look_lost}
 use Rattle.ipcz_cell.proofs.cell.NodeCell.look_untold.Goals as goal
@@ -7,7 +7,7 @@ pub returns-then-mail_look : goal.returns-then-mail_look
 returns-then-mail_look g c =
     let t = g.F.FabricName.table in
     let old = c.args.self.now in
-    (refl, _, look_acts t c.args.from old c.mail_look.new.self (subst (λ (b : Bool). Looks (mail_word t c.args.from old.part.node) c.args.from old b c.mail_look.new.self) c.if-mail_look.true c.mail_look.ensures))
+    (_, look_acts t c.args.from old c.mail_look.new.self (subst (λ (b : Bool). Looks (mail_word t c.args.from old.part.node) c.args.from old b c.mail_look.new.self) c.if-mail_look.true c.mail_look.ensures))
 
 pub returns-else-mail_look : goal.returns-else-mail_look
 returns-else-mail_look g c =

@@ -1,4 +1,4 @@
-use Rattle.std.proofs.Common.{Bool, refl, subst}
+use Rattle.std.proofs.Common.{Bool, subst}
 use Rattle.ipcz_cell.specs.Mails.{Probes, mail_word}
 use Rattle.ipcz_cell.proofs.TurnActs.{post_acts, probed_can}
 use Rattle.ipcz_cell.proofs.cell.NodeCell.post_untold.Goals as goal
@@ -15,4 +15,4 @@ returns g c =
     let t = g.F.FabricName.table in
     let old = c.args.self.now in
     let h = subst (λ (b : Bool). Probes (mail_word t old.part.node c.args.to) c.args.to old b c.mail_probe.new.self) c.if-not-mail_probe.false c.mail_probe.ensures in
-    (refl, _, post_acts t c.args.to old c.mail_probe.new.self c.mail_post.new.self h c.mail_post.ensures.part c.mail_post.ensures.seen)
+    (_, post_acts t c.args.to old c.mail_probe.new.self c.mail_post.new.self h c.mail_post.ensures.part c.mail_post.ensures.seen)

@@ -13,37 +13,36 @@ touch_turn-requires-clause-alone g c = close_alone c.act-act.result c.in-Close.f
 pub returns-in-Hand : goal.returns-in-Hand
 returns-in-Hand g c =
     let t = g.F.FabricName.table in
-    tries t c.act-act.result c.args.self.now c.act-act.new.self c.hand_untold.new.self c.hand_untold.result c.act-act.ensures.first
-    (subst (λ (a : Act). a ≢ acts.Idle) (sym c.in-Hand.is) (λ e. cc))
+    tries t c.act-act.result c.args.self.now c.act-act.new.self c.hand_untold.new.self c.hand_untold.result c.acted.result c.act-act.ensures.first
+    (subst (λ (a : Act). a ≢ acts.Idle) (sym c.in-Hand.is) (λ e. cc)) c.acted.ensures
     (subst (λ (a : Act). Does t a c.act-act.new.self c.hand_untold.result c.hand_untold.new.self) (sym c.in-Hand.is) c.hand_untold.ensures)
 
 pub returns-in-Look : goal.returns-in-Look
 returns-in-Look g c =
     let t = g.F.FabricName.table in
-    tries t c.act-act.result c.args.self.now c.act-act.new.self c.look_untold.new.self c.look_untold.result c.act-act.ensures.first
-    (subst (λ (a : Act). a ≢ acts.Idle) (sym c.in-Look.is) (λ e. cc))
+    tries t c.act-act.result c.args.self.now c.act-act.new.self c.look_untold.new.self c.look_untold.result c.acted-in-Look.result c.act-act.ensures.first
+    (subst (λ (a : Act). a ≢ acts.Idle) (sym c.in-Look.is) (λ e. cc)) c.acted-in-Look.ensures
     (subst (λ (a : Act). Does t a c.act-act.new.self c.look_untold.result c.look_untold.new.self) (sym c.in-Look.is) c.look_untold.ensures)
 
 pub returns-in-Post : goal.returns-in-Post
 returns-in-Post g c =
     let t = g.F.FabricName.table in
-    tries t c.act-act.result c.args.self.now c.act-act.new.self c.post_untold.new.self c.post_untold.result c.act-act.ensures.first
-    (subst (λ (a : Act). a ≢ acts.Idle) (sym c.in-Post.is) (λ e. cc))
+    tries t c.act-act.result c.args.self.now c.act-act.new.self c.post_untold.new.self c.post_untold.result c.acted-in-Post.result c.act-act.ensures.first
+    (subst (λ (a : Act). a ≢ acts.Idle) (sym c.in-Post.is) (λ e. cc)) c.acted-in-Post.ensures
     (subst (λ (a : Act). Does t a c.act-act.new.self c.post_untold.result c.post_untold.new.self) (sym c.in-Post.is) c.post_untold.ensures)
 
 pub returns-in-Close : goal.returns-in-Close
 returns-in-Close g c =
     let t = g.F.FabricName.table in
-    tries t c.act-act.result c.args.self.now c.act-act.new.self c.touch_turn.new.self c.untold.result c.act-act.ensures.first
-    (subst (λ (a : Act). a ≢ acts.Idle) (sym c.in-Close.is) (λ e. cc))
-    (does t c.act-act.result c.act-act.new.self c.touch_turn.new.self c.touch_turn.result c.untold.result c.untold.ensures
-    c.touch_turn.ensures)
+    tries t c.act-act.result c.args.self.now c.act-act.new.self c.touch_turn.new.self c.untold.result c.acted-in-Close.result c.act-act.ensures.first
+    (subst (λ (a : Act). a ≢ acts.Idle) (sym c.in-Close.is) (λ e. cc)) c.acted-in-Close.ensures
+    (does t c.act-act.result c.act-act.new.self c.touch_turn.new.self c.touch_turn.result c.untold.result c.untold.ensures c.touch_turn.ensures)
 
 pub returns-in-Router : goal.returns-in-Router
 returns-in-Router g c =
     let t = g.F.FabricName.table in
-    tries t c.act-act.result c.args.self.now c.act-act.new.self c.router_untold.new.self c.router_untold.result c.act-act.ensures.first
-    (subst (λ (a : Act). a ≢ acts.Idle) (sym c.in-Router.is) (λ e. cc))
+    tries t c.act-act.result c.args.self.now c.act-act.new.self c.router_untold.new.self c.router_untold.result c.acted-in-Router.result c.act-act.ensures.first
+    (subst (λ (a : Act). a ≢ acts.Idle) (sym c.in-Router.is) (λ e. cc)) c.acted-in-Router.ensures
     (subst (λ (a : Act). Does t a c.act-act.new.self c.router_untold.result c.router_untold.new.self) (sym c.in-Router.is) c.router_untold.ensures)
 
 pub returns-in-Idle : goal.returns-in-Idle
