@@ -32,6 +32,7 @@ use Rattle.ipcz_node.specs.Directories.{passes}
 use Rattle.ipcz_node.specs.Hands.{deliver, is_hand_of, message_lacks_serials}
 use Rattle.ipcz_node.specs.Sends.{item_message, send}
 use Rattle.ipcz_node.specs.Preparing.{outlook_at}
+use Rattle.ipcz_router.proofs.LoneRouters.{last_told, SendsLast}
 use Rattle.ipcz_node.specs.Lone.{SendsOnly, TakesItem}
 use Rattle.ipcz_node.proofs.Carrying.{committed_alone, lacks_none, taken_alone, takes_none}
 use Rattle.ipcz_node.proofs.Directories.{found_filed}
@@ -107,16 +108,19 @@ module _ (x : Node) (serial : ℕ) (link : LinkEnd) (is : SendsOnly x serial lin
   abbrev r : Router
   r = is.sender.router
 
+  abbrev sends : SendsLast r link
+  sends = last_told r link is.sender.last
+
   -- the message that carries its item
   abbrev pub message : Message
-  message = item_message link r.out_queue.current is.sender.sends.item []
+  message = item_message link r.out_queue.current sends.item []
 
-  sent : output_of r acts.SendOut ≡ outputs.Sent link r.out_queue.current is.sender.sends.item
+  sent : output_of r acts.SendOut ≡ outputs.Sent link r.out_queue.current sends.item
   unfolding output_of item_output
-  sent = rw (is.sender.sends.way, is.sender.sends.current) refl
+  sent = rw (sends.way, sends.current) refl
 
   looks : outlook_at (router_in x serial) acts.SendOut ≡ outlooks.Item link.other 0
-  looks = rw (is.sender.here, sent) (ap (λ es. outlooks.Item link.other (length es)) is.sender.sends.alone)
+  looks = rw (is.sender.here, sent) (ap (λ es. outlooks.Item link.other (length es)) sends.alone)
 
   -- its item goes into the outbox
   pub sends_it : push_out (with_router x serial (pop_out r)) link.other message ≡ commit x (OfRouter serial acts.SendOut) Plain

@@ -8,7 +8,7 @@ use Rattle.ipcz_base.specs.declared.link_id.LinkId.{LinkId}
 use Rattle.ipcz_base.specs.declared.link_end.LinkEnd.{LinkEnd}
 use Rattle.ipcz_base.specs.Limits.{no_number}
 use Rattle.ipcz_router.specs.Router.{Router}
-use Rattle.ipcz_router.specs.Lone.{SendsLast, TakesLast}
+use Rattle.ipcz_router.specs.Lone.{last_link, TakesLast}
 use Rattle.ipcz_node.specs.Node.{Node, found, outbox_count, link_router, router_in, with_router}
 use Rattle.ipcz_node.specs.Acts.{are_empty}
 
@@ -18,7 +18,7 @@ pub record IsOnlySender (routers : FinMap nat_cmp Router) (serial : ℕ) (link :
   pub here : get routers serial ≡ Some router
   pub flagged : router.flagged ≡ true
   pub only : (s : ℕ) (r : Router) → get routers s ≡ Some r → r.flagged ≡ true → s ≡ serial
-  pub sends : SendsLast router link
+  pub last : last_link router ≡ Some link
 
 -- that is all that the node has to do
 pub record SendsOnly (x : Node) (serial : ℕ) (link : LinkEnd) : Type 0 where

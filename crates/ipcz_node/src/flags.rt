@@ -1,6 +1,6 @@
 //! The serials of the routers that are flagged.
 
-ghost use Rattle.std.specs.Prelude.{ℕ, ◌≡◌, ◌+◌, ◌<◌, ◌≤◌, ◌||◌, ◌&&◌, ◌==◌, not, true, [], OnOk, IsOk, IfSome};
+ghost use Rattle.std.specs.Prelude.{ℕ, ◌≡◌, ◌+◌, ◌<◌, ◌≤◌, ◌||◌, ◌&&◌, ◌==◌, not, true, [], OnOk, IsOk, IfSome, IfNone};
 ghost use Rattle.std.specs.Ordering.{nat_cmp};
 ghost use Rattle.ipcz_node.specs.Indexes.{IsLeast};
 ghost use Rattle.ipcz_node.specs.SortedSets.{has};
@@ -112,6 +112,8 @@ impl Flags {
     pub fn only(&self) -> Option<u64>
         ensures member { IfSome result (λ serial. has nat_cmp self.now.members serial ≡ true) }
         ensures only { IfSome result (λ serial. (s : ℕ) → has nat_cmp self.now.members s ≡ true → s ≡ serial) }
+        ensures none { IfNone result
+            ((s : ℕ) → has nat_cmp self.now.members s ≡ true → ((q : ℕ) → has nat_cmp self.now.members q ≡ true → q ≡ s) → ⊥) }
     {
         match self.others.first() {
             Some(_) => None,

@@ -16,10 +16,18 @@ use Rattle.ipcz_seq.specs.Queue.{Queue, current_item, pop_front}
 use Rattle.ipcz_router.specs.declared.act.RouterAct.TheVariants.{SendOut, SendIn, Discard, FinishOut, FinishIn, Leave, Mark, Wake, Claim}
 use Rattle.ipcz_router.specs.declared.act.RouterAct.TheVariants.{Lock, Begin, Retire, Rest}
 use Rattle.ipcz_router.specs.Router.{Router, is_terminal, is_on_central, decays}
-use Rattle.ipcz_router.specs.Acts.{item_passes}
+use Rattle.ipcz_router.specs.Acts.{item_passes, pop_out, way_out}
 use Rattle.ipcz_router.specs.ActTable.{is_possible, next_act, first_possible}
-use Rattle.ipcz_router.specs.Lone.{is_settled, is_still, SendsLast}
+use Rattle.ipcz_router.specs.Lone.{is_settled, is_still, last_link}
 use Rattle.ipcz_router.proofs.NextActs.{terminal_next}
+
+-- the router sends an item without ends over a link, and has then nothing to do but to rest
+pub record SendsLast (r : Router) (link : LinkEnd) : Type 0 where
+  pub item : Item
+  pub current : current_item r.out_queue ≡ Some item
+  pub alone : ends_in item ≡ []
+  pub way : way_out r ≡ Some link
+  pub still : is_still (pop_out r) ≡ true
 
 -- what a settled terminal is
 pub record Settled (r : Router) : Type 0 where
@@ -115,3 +123,16 @@ sends_last r link one is alone way = go (current_item r.out_queue) refl alone
       way = let whole : edge_decays r.outward ≡ false = (settled r is).whole in rw whole way;
       still = rw (is, only_one r.out_queue item one e) refl;
     }
+
+-- and so does the link
+pub last_told : (r : Router) (link : LinkEnd) → last_link r ≡ Some link → SendsLast r link
+last_told r link e = go (nat_eq (len r.out_queue.items) 1) refl (is_settled r) refl
+    (item_passes (λ item. nat_eq (length (ends_in item)) 0) (current_item r.out_queue)) refl e
+  where
+    go : (a : Bool) → nat_eq (len r.out_queue.items) 1 ≡ a → (b : Bool) → is_settled r ≡ b → (c : Bool) →
+        item_passes (λ item. nat_eq (length (ends_in item)) 0) (current_item r.out_queue) ≡ c →
+        (if a && (b && c) then r.outward.primary else None) ≡ Some link → SendsLast r link
+    go true f true g true h e = sends_last r link (grind (arith, f, nat_tests)) g h e
+    go false f b g c h e = cc
+    go true f false g c h e = cc
+    go true f true g false h e = cc

@@ -1,15 +1,16 @@
 //! What a lone parcel takes of its two routers, each by a call of its own.
 
-ghost use Rattle.std.specs.Prelude.{◌≡◌, ◌<◌, [], Some, true, false, is_some, IfSome, IsSomeAnd};
+ghost use Rattle.std.specs.Prelude.{ℕ, ◌≡◌, ◌<◌, [], Some, true, false, is_some, IfSome, IfNone, IsSomeAnd};
 ghost use Rattle.std.specs.FinMap.{get};
+ghost use Rattle.ipcz_base.specs.declared.link_end.LinkEnd.{LinkEnd as LinkEndRecord};
 ghost use Rattle.ipcz_base.specs.Items.{ends_in};
 ghost use Rattle.ipcz_base.specs.Limits.{no_number};
 ghost use Rattle.ipcz_seq.specs.Queue.{current_item};
 ghost use Rattle.ipcz_router.specs.Router.{Router as RouterRecord};
 ghost use Rattle.ipcz_router.specs.Acts.{pop_out, rest};
-ghost use Rattle.ipcz_router.specs.Lone.{TakesLast};
+ghost use Rattle.ipcz_router.specs.Lone.{takes_last, TakesLast};
 ghost use Rattle.ipcz_node.specs.Lone.{IsOnlySender};
-ghost use Rattle.ipcz_node.specs.Rooms.{put_filed};
+ghost use Rattle.ipcz_node.specs.Rooms.{put_filed, HasQueueRoom};
 
 use super::Directory;
 use super::filing::follow;
@@ -19,7 +20,8 @@ impl Directory {
     /// The serial of the only flagged router and the link over which it sends its last item, as `Router::last_way`.
     #[inline(always)]
     pub fn only_sender(&self) -> Option<(u64, LinkEnd)>
-        ensures { IfSome result (λ s. IsOnlySender self.now.filed.routers s.0 s.1) }
+        ensures some { IfSome result (λ s. IsOnlySender self.now.filed.routers s.0 s.1) }
+        ensures none { IfNone result ((serial : ℕ) → (link : LinkEndRecord) → IsOnlySender self.now.filed.routers serial link → ⊥) }
     {
         let Some(serial) = self.files.flagged.only() else {
             return None;
@@ -85,6 +87,8 @@ impl Directory {
         ensures taken { (r : RouterRecord) → get self.old.filed.routers serial ≡ Some r → result ≡ true → (v : RouterRecord) ×
             TakesLast r link side n item.old v × (self.new.filed ≡ put_filed self.old.filed serial v) }
         ensures left { result ≡ false → (item.new ≡ item.old) × (self.new.filed ≡ self.old.filed) }
+        ensures full { (r : RouterRecord) → get self.old.filed.routers serial ≡ Some r → takes_last r link side n ≡ true →
+            HasQueueRoom self.old.in_rooms serial → result ≡ true }
     {
         let router = self.routers.router_mut(serial);
         let was = router.is_flagged();

@@ -1,23 +1,27 @@
 //! A lone parcel, which is all that the nodes have to do: it leaves one of them, and another takes it.
 
-ghost use Rattle.std.specs.Prelude.{◌≡◌, ◌≤◌, [], Some, true, false, is_some, IfSome, IsSomeAnd};
+ghost use Rattle.std.specs.Prelude.{◌≡◌, ◌≤◌, [], Some, true, false, is_some, IfSome, IfNone, IsSomeAnd, ℕ};
+ghost use Rattle.ipcz_base.specs.declared.link_end.LinkEnd.{LinkEnd as LinkEndRecord};
 ghost use Rattle.ipcz_base.specs.Items.{ends_in};
 ghost use Rattle.ipcz_base.specs.Limits.{no_number};
 ghost use Rattle.ipcz_seq.specs.Queue.{current_item};
 ghost use Rattle.ipcz_router.specs.Router.{Router as RouterRecord};
 ghost use Rattle.ipcz_router.specs.Acts.{pop_out, rest};
+ghost use Rattle.ipcz_router.specs.Lone.{takes_last};
+ghost use Rattle.ipcz_node.specs.Rooms.{HasQueueRoom};
 ghost use Rattle.ipcz_node.specs.Lone.{SendsOnly, TakesItem};
-ghost use Rattle.ipcz_node.specs.Node.{router_in, with_router};
+ghost use Rattle.ipcz_node.specs.Node.{found, link_router, router_in, with_router};
 
 use super::NodeState;
 use ipcz_base::{Item, LinkEnd, LinkId, Side};
 
 impl NodeState {
-    /// The serial of a router and the link over which it sends its last item, which carries no ends, where that and the router's rest are all
-    /// that the node has to do. None may be answered where it is so, too.
+    /// The serial of a router and the link over which it sends its only item, which carries no ends, if that and the router's rest are all that
+    /// the node has to do.
     #[inline(always)]
     pub fn only_sender(&self) -> Option<(u64, LinkEnd)>
-        ensures { IfSome result (λ s. SendsOnly self.now.node s.0 s.1) }
+        ensures some { IfSome result (λ s. SendsOnly self.now.node s.0 s.1) }
+        ensures none { IfNone result ((serial : ℕ) → (link : LinkEndRecord) → SendsOnly self.now.node serial link → ⊥) }
     {
         if !self.outboxes.are_empty() || !self.pending.is_empty() || self.hand.is_some() {
             return None;
@@ -64,6 +68,8 @@ impl NodeState {
         requires { ends_in item.old ≡ [] }
         ensures taken { result ≡ true → TakesItem self.old.node link side n item.old self.new.node }
         ensures left { result ≡ false → (item.new ≡ item.old) × (self.new.node ≡ self.old.node) }
+        ensures full { (s : ℕ) → (r : RouterRecord) → link_router self.old.node link side ≡ Some (found s r) → takes_last r link side n ≡ true →
+            HasQueueRoom self.old.room.in_rooms s → result ≡ true }
     {
         self.counts_serials();
         if n == u64::MAX {

@@ -1,23 +1,22 @@
 //! A lone parcel: whether its routers have nothing else to do, and how it leaves one of them.
 
-ghost use Rattle.std.specs.Prelude.{◌≡◌, ◌<◌, Some, true, false, nat_eq, length, is_some, IfSome};
+ghost use Rattle.std.specs.Prelude.{◌≡◌, ◌<◌, Some, true, false, nat_eq, length, is_some};
 ghost use Rattle.ipcz_base.specs.Items.{ends_in};
 ghost use Rattle.ipcz_base.specs.Limits.{no_number};
 ghost use Rattle.ipcz_seq.specs.Queue.{current_item};
 ghost use Rattle.ipcz_router.specs.RoomyRouters.{LeavesRoom};
 ghost use Rattle.ipcz_router.specs.Acts.{item_passes, pop_out, rest};
-ghost use Rattle.ipcz_router.specs.Lone.{SendsLast, TakesLast, is_settled, is_still};
+ghost use Rattle.ipcz_router.specs.Lone.{last_link, takes_last, TakesLast, is_settled, is_still};
 
 use super::Router;
 use ipcz_base::{Item, LinkEnd, LinkId, Side};
 
 impl Router {
-    /// The link that the current item of the out queue goes over, where it has come, carries no ends, and is all that an open terminal has to
-    /// do before it rests. None may be answered where it is so, too: behind a gap in the out queue, say.
+    /// The link of the only item in the out queue, if it leaves next, carries no ends, and is all that an open terminal has to do before it
+    /// rests.
     #[inline(always)]
-    #[tactic(auto, using(crate::proofs::LoneRouters::sends_last))]
     pub fn last_way(&self) -> Option<LinkEnd>
-        ensures { IfSome result (λ link. SendsLast self.now.router link) }
+        ensures { result ≡ last_link self.now.router }
     {
         if self.out_queue.len() != 1 || !self.is_settled() || !self.sends_alone() {
             return None;
@@ -87,11 +86,13 @@ impl Router {
 
     /// Takes an item that came over a link and rests, where this router isn't flagged, only rests, and its outward edge has the link at
     /// the side. It tells whether it did: `item` counts for nothing then. Else `item` and the router stay as they are.
+    /// With room for the item, it is taken wherever it has its place.
     #[inline(always)]
     pub fn take_last(&mut self, link: LinkId, side: Side, n: u64, item: &mut Item) -> bool
         requires { n < no_number }
         ensures taken { result ≡ true → TakesLast self.old.router link side n item.old self.new.router }
         ensures left { result ≡ false → (item.new ≡ item.old) × (self.new.router ≡ self.old.router) }
+        ensures full { result ≡ false → takes_last self.old.router link side n ≡ true → self.old.in_room ≡ 0 }
     {
         if self.flagged || !self.is_still() || !self.outward.has(link, side) {
             return false;

@@ -35,7 +35,7 @@ use Rattle.ipcz_world.specs.Visiting.{IsNextBusy}
 use Rattle.ipcz_world.specs.WordAnswers.{source_for, touch}
 use Rattle.ipcz_world.specs.Wordless.{is_wordless}
 use Rattle.ipcz_world.proofs.code.FirstTurns.{step-taken}
-use Rattle.ipcz_world.proofs.code.LoneWorlds.{Quiet, quiet_is, quiet_idle, own_act, hand_act, look_act, post_act, pair, pair-box, pair-start}
+use Rattle.ipcz_world.proofs.code.LoneWorlds.{sends-last, Quiet, quiet_is, quiet_idle, own_act, hand_act, look_act, post_act, pair, pair-box, pair-start}
 use Rattle.ipcz_world.proofs.code.LoneWorlds.{box-here, node-other, node-sender, node-taker, none-elsewhere, none-from, none-to}
 use Rattle.ipcz_world.proofs.code.LoneWorlds.{write-box, write-sender, write-taker}
 use Rattle.ipcz_world.proofs.acts.Updating.{node-here, put-twice, set-twice}
@@ -249,7 +249,7 @@ module _ (w : World) (n serial : ℕ) (link : LinkEnd) (is : IsRegular w) (lone 
       let here = node-sender w n m apart lone.here lone.there is.lengths x0 y0 Empty in
       let first : next_at u n ≡ acts.Router serial router_acts.SendOut =
       own-sender x0 y0 Empty counts-x lone.sends.hand refl ∙ ap (λ es. close_turn es (router_turn (flagged_router x0))) lone.sends.pending
-      ∙ ap router_turn flagged-x0 ∙ ap (acts.Router serial) (sends_first r0 link lone.sends.sender.sends) in
+      ∙ ap router_turn flagged-x0 ∙ ap (acts.Router serial) (sends_first r0 link (sends-last lone)) in
       go-on w u (at x1 y0 Empty) 0 0 n (acts.Router serial router_acts.SendOut) (subst (λ v. OnWay w 0 v 0) (sym start) on)
       (first-busy u n lone.here (ap is_idle first) (idle-all x0))
       lone.here first
@@ -308,7 +308,7 @@ module _ (w : World) (n serial : ℕ) (link : LinkEnd) (is : IsRegular w) (lone 
       let here = node-sender w n m apart lone.here lone.there is.lengths x2 y1 (Hand msg) in
       let first : next_at u n ≡ acts.Router serial router_acts.Rest =
       own-sender x2 y1 (Hand msg) counts-x lone.sends.hand refl ∙ ap (λ es. close_turn es (router_turn (flagged_router x2))) lone.sends.pending
-      ∙ ap router_turn flagged-x2 ∙ ap (acts.Router serial) (still_rests r1 lone.sends.sender.sends.still) in
+      ∙ ap router_turn flagged-x2 ∙ ap (acts.Router serial) (still_rests r1 (sends-last lone).still) in
       go-on w u (at x3 y1 (Hand msg)) 3 (next_node w m) n (acts.Router serial router_acts.Rest) on
       (next-busy u m n lone.there lone.here (ap is_idle first) (λ k l km kn. idle-others x2 y1 (Hand msg) k l kn km))
       lone.here first
@@ -332,9 +332,9 @@ module _ (w : World) (n serial : ℕ) (link : LinkEnd) (is : IsRegular w) (lone 
       ∙ ap (λ v. set_mail v (way w n m) (Hand msg)) (set-twice (set_node w n x3) m y0 y1)
 
   -- the taker takes it
-  module _ (y : Node) (takes : TakesItem y0 link.link (opposite link.side) r0.out_queue.current lone.sends.sender.sends.item y) where
+  module _ (y : Node) (takes : TakesItem y0 link.link (opposite link.side) r0.out_queue.current (sends-last lone).item y) where
     abbrev q1 : Router
-    q1 = accept_from_outward takes.router r0.out_queue.current lone.sends.sender.sends.item
+    q1 = accept_from_outward takes.router r0.out_queue.current (sends-last lone).item
 
     abbrev y2 : Node
     y2 = with_router y0 takes.serial q1
@@ -352,13 +352,13 @@ module _ (w : World) (n serial : ℕ) (link : LinkEnd) (is : IsRegular w) (lone 
         lone.there first
         (ap (λ b. hand_lacks_serials u m n (hand_message b)) box
         ∙ ap (λ z. message_lacks_serials z n msg (source_for u msg)) here
-        ∙ takes_freely y0 y link.link (opposite link.side) r0.out_queue.current n lone.sends.sender.sends.item (source_for u msg) takes
-        lone.sends.sender.sends.alone)
+        ∙ takes_freely y0 y link.link (opposite link.side) r0.out_queue.current n (sends-last lone).item (source_for u msg) takes
+        (sends-last lone).alone)
         (ap (λ b. after_hand u m n (hand_message b)) box
         ∙ ap (λ z. set_mail (set_node u m (deliver z n msg (source_for u msg))) (way u n m) Empty) here
         ∙ ap (λ z. set_mail (set_node u m z) (way u n m) Empty)
-        (sym (takes_it y0 y link.link (opposite link.side) r0.out_queue.current n lone.sends.sender.sends.item (source_for u msg) takes
-        lone.sends.sender.sends.alone y0-quiet.hand))
+        (sym (takes_it y0 y link.link (opposite link.side) r0.out_queue.current n (sends-last lone).item (source_for u msg) takes
+        (sends-last lone).alone y0-quiet.hand))
         ∙ ap (λ v. set_mail v (way u n m) Empty) (write-taker w n m apart lone.here lone.there is.lengths x3 y1 y2 (Hand msg))
         ∙ write-box w n m apart lone.here lone.there is.lengths x3 y2 (Hand msg) Empty)
 

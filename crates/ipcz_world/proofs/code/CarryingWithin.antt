@@ -35,7 +35,7 @@ use Rattle.ipcz_world.specs.WordAnswers.{source_for}
 use Rattle.ipcz_world.specs.Wordless.{is_wordless}
 use Rattle.ipcz_world.proofs.acts.Updating.{node-here, put-twice, set-twice}
 use Rattle.ipcz_world.proofs.code.Carrying.{first-busy, go-on, next-busy, router-acts}
-use Rattle.ipcz_world.proofs.code.LoneWorlds.{Quiet, hand_act, look_act, own_act, post_act, quiet_idle, quiet_is, way-apart, way-from, way-within}
+use Rattle.ipcz_world.proofs.code.LoneWorlds.{sends-last, Quiet, hand_act, look_act, own_act, post_act, quiet_idle, quiet_is, way-apart, way-from, way-within}
 use Rattle.ipcz_world.proofs.code.Slots.{put-same}
 use Rattle.ipcz_world.proofs.code.Visiting.{OnWay}
 use Rattle.ipcz_world.proofs.frames.Frames.{mail-set_mail, node-set_mail, node-set_node}
@@ -191,7 +191,7 @@ module _ (w : World) (n serial : ℕ) (link : LinkEnd) (is : IsRegular w) (lone 
       let here = node-is x0 Empty in
       let first : next_at u n ≡ acts.Router serial router_acts.SendOut =
       own x0 Empty refl counts-x lone.sends.hand refl ∙ ap (λ es. close_turn es (router_turn (flagged_router x0))) lone.sends.pending
-      ∙ ap router_turn flagged-x0 ∙ ap (acts.Router serial) (sends_first r0 link lone.sends.sender.sends) in
+      ∙ ap router_turn flagged-x0 ∙ ap (acts.Router serial) (sends_first r0 link (sends-last lone)) in
       go-on w u (at x1 Empty) 0 0 n (acts.Router serial router_acts.SendOut) (subst (λ v. OnWay w 0 v 0) (sym single-start) on)
       (first-busy u n lone.here (ap is_idle first) (idle-others x0 Empty))
       lone.here first
@@ -256,12 +256,12 @@ module _ (w : World) (n serial : ℕ) (link : LinkEnd) (is : IsRegular w) (lone 
       ∙ ap (λ v. set_mail v (way w n n) (Hand msg)) (set-twice w n x xh)
 
   -- the router across takes it
-  module _ (y : Node) (takes : TakesItem x2 link.link (opposite link.side) r0.out_queue.current lone.sends.sender.sends.item y) where
+  module _ (y : Node) (takes : TakesItem x2 link.link (opposite link.side) r0.out_queue.current (sends-last lone).item y) where
     abbrev t : ℕ
     t = takes.serial
 
     abbrev q1 : Router
-    q1 = accept_from_outward takes.router r0.out_queue.current lone.sends.sender.sends.item
+    q1 = accept_from_outward takes.router r0.out_queue.current (sends-last lone).item
 
     abbrev x4 : Node
     x4 = with_router x2 t q1
@@ -286,13 +286,13 @@ module _ (w : World) (n serial : ℕ) (link : LinkEnd) (is : IsRegular w) (lone 
         lone.here first
         (ap (λ b. hand_lacks_serials u n n (hand_message b)) box
         ∙ ap (λ z. message_lacks_serials z n msg (source_for u msg)) here
-        ∙ takes_freely x2 y link.link (opposite link.side) r0.out_queue.current n lone.sends.sender.sends.item (source_for u msg) takes
-        lone.sends.sender.sends.alone)
+        ∙ takes_freely x2 y link.link (opposite link.side) r0.out_queue.current n (sends-last lone).item (source_for u msg) takes
+        (sends-last lone).alone)
         (ap (λ b. after_hand u n n (hand_message b)) box
         ∙ ap (λ z. set_mail (set_node u n (deliver z n msg (source_for u msg))) (way u n n) Empty) here
         ∙ ap (λ z. set_mail (set_node u n z) (way u n n) Empty)
-        (sym (takes_it x2 y link.link (opposite link.side) r0.out_queue.current n lone.sends.sender.sends.item (source_for u msg) takes
-        lone.sends.sender.sends.alone lone.sends.hand))
+        (sym (takes_it x2 y link.link (opposite link.side) r0.out_queue.current n (sends-last lone).item (source_for u msg) takes
+        (sends-last lone).alone lone.sends.hand))
         ∙ ap (λ v. set_mail v (way u n n) Empty) (write-node xh x4 (Hand msg))
         ∙ write-box x4 (Hand msg) Empty)
 
@@ -345,7 +345,7 @@ module _ (w : World) (n serial : ℕ) (link : LinkEnd) (is : IsRegular w) (lone 
         go true e =
             let x5 = with_router x4 serial (rest r1) in
             let five = rest-of 4 serial x4 x5 r1 on counts-x lone.sends.hand refl refl low sender-there lone.sends.sender.flagged
-            (still_rests r1 lone.sends.sender.sends.still)
+            (still_rests r1 (sends-last lone).still)
             (λ q v f up. elim (two-flagged q v f up) [ inl a ↦ omega (arith, a) | inr a ↦ grind (arith, a, e, nat_tests) ]) refl in
             rest-of 5 t x5 x6 q1 five counts-x lone.sends.hand refl refl low
             (written_elsewhere x4.routers serial t (rest r1) other ∙ taker-there) refl (still_rests q1 takes.takes.still)
@@ -365,7 +365,7 @@ module _ (w : World) (n serial : ℕ) (link : LinkEnd) (is : IsRegular w) (lone 
             (λ j. record x2 { routers = insert_twice x2.routers t q1 (rest q1) j }) in
             rest-of 5 serial x5 x6 r1 five counts-x lone.sends.hand refl refl low
             (written_elsewhere x2.routers t serial (rest q1) (λ same. other (sym same)) ∙ stands x0 serial r1) lone.sends.sender.flagged
-            (still_rests r1 lone.sends.sender.sends.still)
+            (still_rests r1 (sends-last lone).still)
             (λ q v f up. elim (written x2.routers t q (rest q1) v f) [
               | inl a ↦ absurd (true≢false (sym up ∙ sym (ap (λ (r : Router). r.flagged) a.1)))
               | inr a ↦ elim (written x0.routers serial q r1 v a.1) [

@@ -8,6 +8,7 @@ use Rattle.ipcz_world.proofs.Vocabulary.{with_router}
 use Rattle.ipcz_world.specs.Carrying.{IsLone}
 use Rattle.ipcz_world.specs.Soundness.{HasLengths}
 use Rattle.ipcz_world.proofs.facts.Finding.{get_inserted}
+use Rattle.ipcz_world.proofs.code.LoneWorlds.{sends-last}
 use Rattle.ipcz_world.proofs.code.Slots.{length-put}
 
 module _ (w : World) (n serial : ℕ) (link : LinkEnd) (lone : IsLone w n serial link) (old : Node) (same : old ≡ node_at w n) where
@@ -17,7 +18,7 @@ module _ (w : World) (n serial : ℕ) (link : LinkEnd) (lone : IsLone w n serial
 
   pub has-item : IsSomeAnd (router_in old serial) (λ (r : Router). is_some (current_item r.out_queue) ≡ true)
   has-item = subst (λ o. IsSomeAnd o (λ (r : Router). is_some (current_item r.out_queue) ≡ true)) (sym here)
-      (ap is_some lone.sends.sender.sends.current)
+      (ap is_some (sends-last lone).current)
 
   -- the node after a change of it
   pub sender-is : (f : Router → Router) (x : Node) → ((r : Router) → router_in old serial ≡ Some r → x ≡ with_router old serial (f r)) →
@@ -30,9 +31,9 @@ module _ (w : World) (n serial : ℕ) (link : LinkEnd) (lone : IsLone w n serial
   number-is number is = is lone.sends.sender.router here
 
   pub item-is : (item : Item) → ((r : Router) → router_in old serial ≡ Some r → Some item ≡ current_item r.out_queue) →
-      item ≡ lone.sends.sender.sends.item
+      item ≡ (sends-last lone).item
   item-is item is =
-      let both : Some item ≡ Some lone.sends.sender.sends.item = is lone.sends.sender.router here ∙ lone.sends.sender.sends.current in cc
+      let both : Some item ≡ Some (sends-last lone).item = is lone.sends.sender.router here ∙ (sends-last lone).current in cc
 
 -- writes of nodes keep the lengths
 pub nodes-kept : (w : World) (n m : ℕ) (x : Node) → HasLengths w → n < w.count → m < w.count →

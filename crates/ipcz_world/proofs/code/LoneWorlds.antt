@@ -6,6 +6,9 @@ use Rattle.std.proofs.lemmas.Bool.{and_parts}
 use Rattle.std.proofs.lemmas.Bool.Decides.{nat_tests}
 use Rattle.ipcz_world.proofs.Vocabulary.{Node, World, bare_node, Empty, mail_at, node_at, set_mail, set_node, way}
 use Rattle.ipcz_world.proofs.Vocabulary.{place_at, put_place}
+use Rattle.ipcz_router.proofs.LoneRouters.{last_told, SendsLast}
+use Rattle.ipcz_world.specs.Carrying.{IsLone}
+use Rattle.ipcz_world.proofs.Vocabulary.{LinkEnd}
 use Rattle.ipcz_node.specs.Node.{flagged_router}
 use Rattle.ipcz_node.specs.Acts.{are_empty, close_turn, first_destination, first_number, first_sender, has_mail_for, is_quiet, next, node_turn}
 use Rattle.ipcz_node.specs.Acts.{router_turn}
@@ -31,6 +34,10 @@ put-apart d (x ∷ xs) zero zero y z ne = absurd (ne refl)
 put-apart d (x ∷ xs) zero (suc j) y z ne = refl
 put-apart d (x ∷ xs) (suc i) zero y z ne = refl
 put-apart d (x ∷ xs) (suc i) (suc j) y z ne = ap (λ ys. x ∷ ys) (put-apart d xs i j y z (λ e. ne (ap suc e)))
+
+-- what the sender's router sends
+abbrev pub sends-last : {w : World} {n serial : ℕ} {link : LinkEnd} (lone : IsLone w n serial link) → SendsLast lone.sends.sender.router link
+sends-last lone = last_told lone.sends.sender.router _ lone.sends.sender.last
 
 -- the world with these two nodes and this mailbox
 abbrev pub pair : World → ℕ → ℕ → Node → Node → Mail → World

@@ -4,8 +4,8 @@ use Rattle.ipcz_router.specs.Router.{Router}
 use Rattle.ipcz_node.specs.Lone.{IsOnlySender}
 use Rattle.ipcz_node.proofs.directory.Directory.only_sender.Goals as goal
 
-pub returns-in-Some-last_way : goal.returns-in-Some-last_way
-returns-in-Some-last_way c =
+pub returns-in-Some-last_way-clause-some : goal.returns-in-Some-last_way-clause-some
+returns-in-Some-last_way-clause-some c =
     let held = c.self.invariant.0.0 in
     let r = c.in-Some-router.router.now.router in
     let here = sym c.in-Some-router.ensures in
@@ -14,5 +14,5 @@ returns-in-Some-last_way c =
       here = here;
       flagged = ap (λ o. option_map_or (λ (x : Router). x.flagged) o false) (sym here) ∙ sym (held.by_flag c.in-Some.serial) ∙ c.in-Some.ensures.member;
       only = λ s x at up. c.in-Some.ensures.only s (held.by_flag s ∙ ap (λ o. option_map_or (λ (x : Router). x.flagged) o false) at ∙ up);
-      sends = c.in-Some-last_way.ensures;
+      last = sym c.in-Some-last_way.ensures;
     })

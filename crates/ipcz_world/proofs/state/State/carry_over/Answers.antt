@@ -15,7 +15,7 @@ use Rattle.ipcz_world.specs.Visiting.{Walk}
 use Rattle.ipcz_world.specs.contracts.state.State.{the_view}
 use Rattle.ipcz_world.proofs.code.Carrying.{carried, idle-behind, left, sent}
 use Rattle.ipcz_world.proofs.code.LoneSenders.{has-item, item-is, lengths-kept, nodes-kept, number-is, sender-is}
-use Rattle.ipcz_world.proofs.code.LoneWorlds.{quiet_is}
+use Rattle.ipcz_world.proofs.code.LoneWorlds.{sends-last, quiet_is}
 use Rattle.ipcz_world.proofs.code.Visiting.{OnWay, on_way-start, walked}
 use Rattle.ipcz_world.proofs.acts.Updating.{node-here}
 use Rattle.ipcz_world.proofs.state.State.carry_over.Goals as goal
@@ -49,7 +49,7 @@ unfolding node_at
 take_last-requires c =
     let lone = subst (λ w. IsLone w c.args.n c.args.serial c.args.link) (sym c.self.view_is) c.requires.lone in
     ap ends_in (item-is (the_view c.self.inside) c.args.n c.args.serial c.args.link lone c.node_mut.result.now.node c.node_mut.ensures.value
-    c.send_last-number.result.1 c.send_last-number.ensures.item) ∙ lone.sends.sender.sends.alone
+    c.send_last-number.result.1 c.send_last-number.ensures.item) ∙ (sends-last lone).alone
 
 pub returns-then-take_last-clause-walk : goal.returns-then-take_last-clause-walk
 unfolding node_at set_node
@@ -68,7 +68,7 @@ returns-then-take_last-clause-walk c =
     let item = item-is v n c.args.serial link lone old c.node_mut.ensures.value c.send_last-number.result.1 sent.item in
     let taker = taker-is v n link.other x c.node_mut-2.result.now.node c.requires.apart c.node_mut-2.ensures.value in
     let low = subst (λ (z : Node). z.next_peripheral ≤ no_number) c.node_mut.ensures.value sent.serials in
-    let takes = subst (λ z. TakesItem z link.link (opposite link.side) lone.sends.sender.router.out_queue.current lone.sends.sender.sends.item y) taker
+    let takes = subst (λ z. TakesItem z link.link (opposite link.side) lone.sends.sender.router.out_queue.current (sends-last lone).item y) taker
     (subst (λ z. TakesItem c.node_mut-2.result.now.node link.link (opposite link.side) lone.sends.sender.router.out_queue.current z y) item
     (subst (λ z. TakesItem c.node_mut-2.result.now.node link.link (opposite link.side) z c.send_last-number.result.1 y) number
     (subst (λ z. TakesItem c.node_mut-2.result.now.node link.link z c.send_last-number.result.0 c.send_last-number.result.1 y)
@@ -96,7 +96,7 @@ returns-then-take_last-clause-idle c six =
     let item = item-is v n c.args.serial link lone old c.node_mut.ensures.value c.send_last-number.result.1 sent.item in
     let taker = taker-is v n link.other x c.node_mut-2.result.now.node c.requires.apart c.node_mut-2.ensures.value in
     let low = subst (λ (z : Node). z.next_peripheral ≤ no_number) c.node_mut.ensures.value sent.serials in
-    let takes = subst (λ z. TakesItem z link.link (opposite link.side) lone.sends.sender.router.out_queue.current lone.sends.sender.sends.item y) taker
+    let takes = subst (λ z. TakesItem z link.link (opposite link.side) lone.sends.sender.router.out_queue.current (sends-last lone).item y) taker
     (subst (λ z. TakesItem c.node_mut-2.result.now.node link.link (opposite link.side) lone.sends.sender.router.out_queue.current z y) item
     (subst (λ z. TakesItem c.node_mut-2.result.now.node link.link (opposite link.side) z c.send_last-number.result.1 y) number
     (subst (λ z. TakesItem c.node_mut-2.result.now.node link.link z c.send_last-number.result.0 c.send_last-number.result.1 y)

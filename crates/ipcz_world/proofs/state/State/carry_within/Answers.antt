@@ -18,6 +18,7 @@ use Rattle.ipcz_world.specs.Taking.{IsRegular}
 use Rattle.ipcz_world.specs.Visiting.{Walk}
 use Rattle.ipcz_world.specs.contracts.state.State.{the_view}
 use Rattle.ipcz_world.proofs.acts.Updating.{node-here}
+use Rattle.ipcz_world.proofs.code.LoneWorlds.{sends-last}
 use Rattle.ipcz_world.proofs.code.CarryingWithin.{carried, idle-behind, left, sent}
 use Rattle.ipcz_world.proofs.code.LoneSenders.{has-item, item-is, kept-there, lengths-kept, nodes-kept, number-is, sender-is}
 use Rattle.ipcz_world.proofs.code.Visiting.{on_way-start, walked}
@@ -46,7 +47,7 @@ unfolding node_at
 take_last-requires c =
     let lone = subst (λ w. IsLone w c.args.n c.args.serial c.args.link) (sym c.self.view_is) c.requires.lone in
     ap ends_in (item-is (the_view c.self.inside) c.args.n c.args.serial c.args.link lone c.node_mut.result.now.node c.node_mut.ensures.value
-    c.send_next-number.result.1 c.send_next-number.ensures.item) ∙ lone.sends.sender.sends.alone
+    c.send_next-number.result.1 c.send_next-number.ensures.item) ∙ (sends-last lone).alone
 
 pub node_mut-requires-then-take_last : goal.node_mut-requires-then-take_last
 unfolding set_node
@@ -93,7 +94,7 @@ returns-then-take_last-clause-walk c =
     let item = item-is v n c.args.serial link lone old c.node_mut.ensures.value c.send_next-number.result.1 given.item in
     let taker = written-is v n x c.node_mut-2.result.now.node c.node_mut-2.ensures.value ∙ sender in
     let low = subst (λ (z : Node). z.next_peripheral ≤ no_number) c.node_mut.ensures.value given.serials in
-    let takes = subst (λ z. TakesItem z link.link (opposite link.side) lone.sends.sender.router.out_queue.current lone.sends.sender.sends.item y) taker
+    let takes = subst (λ z. TakesItem z link.link (opposite link.side) lone.sends.sender.router.out_queue.current (sends-last lone).item y) taker
     (subst (λ z. TakesItem c.node_mut-2.result.now.node link.link (opposite link.side) lone.sends.sender.router.out_queue.current z y) item
     (subst (λ z. TakesItem c.node_mut-2.result.now.node link.link (opposite link.side) z c.send_next-number.result.1 y) number
     (subst (λ z. TakesItem c.node_mut-2.result.now.node link.link z c.send_next-number.result.0 c.send_next-number.result.1 y)
@@ -123,7 +124,7 @@ returns-then-take_last-clause-idle c six =
     let item = item-is v n c.args.serial link lone old c.node_mut.ensures.value c.send_next-number.result.1 given.item in
     let taker = written-is v n x c.node_mut-2.result.now.node c.node_mut-2.ensures.value ∙ sender in
     let low = subst (λ (z : Node). z.next_peripheral ≤ no_number) c.node_mut.ensures.value given.serials in
-    let takes = subst (λ z. TakesItem z link.link (opposite link.side) lone.sends.sender.router.out_queue.current lone.sends.sender.sends.item y) taker
+    let takes = subst (λ z. TakesItem z link.link (opposite link.side) lone.sends.sender.router.out_queue.current (sends-last lone).item y) taker
     (subst (λ z. TakesItem c.node_mut-2.result.now.node link.link (opposite link.side) lone.sends.sender.router.out_queue.current z y) item
     (subst (λ z. TakesItem c.node_mut-2.result.now.node link.link (opposite link.side) z c.send_next-number.result.1 y) number
     (subst (λ z. TakesItem c.node_mut-2.result.now.node link.link z c.send_next-number.result.0 c.send_next-number.result.1 y)

@@ -40,5 +40,5 @@ returns c =
       box = empty_is (mail_at w (way w n link.other))
           (subst (λ (u : World). is_clear (mail_at u (way w n link.other)) ≡ true) c.self.view_is there);
       sends = subst (λ x. SendsOnly x serial link) (c.node.ensures ∙ ap (λ (u : World). node_at u n) c.self.view_is)
-          c.in-Some-only_sender.ensures;
+          c.in-Some-only_sender.ensures.some;
     }
