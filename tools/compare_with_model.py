@@ -1,14 +1,16 @@
 """Draws scripts, runs each by the program and by tools/model.py, and prints which transcripts or statuses differ.
 
-    python3 tools/compare_with_model.py PROGRAM [COUNT [FIRST]] [--counts]
+    python3 tools/compare_with_model.py PROGRAM [COUNT [FIRST]] [--counts] [--checker PROGRAM]
 
 COUNT scripts are drawn from the seeds FIRST and up, 1,000 from 0 if nothing is said. Of eight, six have any calls and turns, one is
 such a script but for one value, and one puts, settles and gets in rounds, and is run with the argument `threads`, too. `--counts` prints
-how many lines of each form were compared.
+how many lines of each form were compared. With `--checker` ipcz_check must say of each script what the model says: that it is one, or
+which command is the first that is none.
 """
 import collections
 import json
 import random
+import re
 import subprocess
 import sys
 from typing import Any
@@ -159,12 +161,26 @@ def form(line: str) -> str:
     return f"{first} {words[-1]}" if words and words[-1].isalpha() else first
 
 
+def first_fault(checker, script):
+    """The number of the first fault that the checker tells, 0 for the script itself, or None if it calls it a script."""
+    done = subprocess.run([checker], input=json.dumps(script).encode(), capture_output=True)
+    if done.returncode == 0:
+        return None
+    found = re.match(rb"line \d+, column \d+: (?:command (\d+): )?.*; expected ", done.stdout)
+    return int(found[1] or 0) if found and done.returncode == 2 else f"status {done.returncode}"
+
+
+def model_fault(text):
+    return int(text.split()[2]) if text.startswith("refused BadShape ") else None
+
+
 def main() -> int:
     parser = asked.parser(__doc__)
     parser.add_argument("program", type=asked.program)
     parser.add_argument("count", type=int, nargs="?", default=1000)
     parser.add_argument("first", type=int, nargs="?", default=0)
     parser.add_argument("--counts", action="store_true", help="print how many lines of each form were compared")
+    parser.add_argument("--checker", type=asked.program, metavar="PROGRAM", help="compare what ipcz_check says of the scripts, too")
     given = parser.parse_args()
     counts: collections.Counter[str] = collections.Counter()
     is_wrong = False
@@ -172,6 +188,9 @@ def main() -> int:
         script = drawn(seed)
         text, status = model.transcript(script)
         counts.update(form(line) for line in text.splitlines())
+        if given.checker and first_fault(given.checker, script) != model_fault(text):
+            is_wrong = True
+            print(f"seed {seed}: the checker says {first_fault(given.checker, script)} and the model {model_fault(text)}")
         for arguments in [[], ["threads"]] if seed % 8 == ROUNDS else [[]]:
             done = subprocess.run([given.program, *arguments], input=json.dumps(script).encode(), capture_output=True)
             if (done.stdout, done.stderr, done.returncode) != (text.encode(), b"", status):
