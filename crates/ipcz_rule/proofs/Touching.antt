@@ -162,8 +162,8 @@ module _ (profile : Profile) (w : World) (b : Books) (g : Routes) (n : ℕ) (at 
       let kept = each_step_keeps_lawful w it.world b g step it.reply lawful is in
       let plain = replies_plainly w it.world b g step it.reply lawful is in (
         subst (Lawful (set_node w n (put_node (node_at w n) at parcel)) (add_put b at (Parcel parcel))) routed
-        (subst (λ (c : Books). Lawful (set_node w n (put_node (node_at w n) at parcel)) c (routes_after w g step reply)) written
-        (subst (λ (e : Effect). Lawful e.world (advance w b step e.reply) (routes_after w g step e.reply)) done kept)),
+            (subst (λ (c : Books). Lawful (set_node w n (put_node (node_at w n) at parcel)) c (routes_after w g step reply)) written
+            (subst (λ (e : Effect). Lawful e.world (advance w b step e.reply) (routes_after w g step e.reply)) done kept)),
         counted (subst (λ (e : Effect). Plain b step e.reply (advance w b step e.reply)) done plain),
       )
 
