@@ -4,6 +4,8 @@ use crate::wrong::{Key, Kind, Wanted, Wrong};
 use std::io;
 use std::io::Write;
 
+const COMMANDS: &str = "; expected open, put, get, close, turn, settle or show";
+
 /// What a script's numbers may be: its nodes, and how many link words it has at least.
 #[derive(Clone, Copy, Debug, PartialEq, Eq)]
 pub struct Bounds {
@@ -82,58 +84,64 @@ fn push_value(out: &mut Vec<u8>, bounds: Bounds, wanted: Wanted) -> io::Result<(
     }
 }
 
+// Writes what is wrong with the script or one of its members.
+fn push_head(out: &mut Vec<u8>, bounds: Bounds, shown: &[u8], key: Option<Key>) -> io::Result<()> {
+    let Some(key) = key else {
+        return write!(
+            out,
+            "the script is no object; expected one with the members nodes, words and commands"
+        );
+    };
+    let name = name_of(key);
+    write!(out, "{name} is ")?;
+    out.write_all(shown)?;
+    write!(out, "; expected ")?;
+    push_member(out, bounds, key)
+}
+
+fn push_missing(out: &mut Vec<u8>, bounds: Bounds, key: Key) -> io::Result<()> {
+    let name = name_of(key);
+    write!(out, "the member {name} is missing; expected ")?;
+    push_member(out, bounds, key)
+}
+
+fn push_number(out: &mut Vec<u8>, kind: Kind) -> io::Result<()> {
+    let word = word_of(kind);
+    let shape = shape_of(kind);
+    write!(
+        out,
+        "too few or too many values behind {word}; expected {shape}"
+    )
+}
+
+// Writes a few words, what stands at the place, and what was expected.
+fn push_around(out: &mut Vec<u8>, before: &str, shown: &[u8], behind: &str) -> io::Result<()> {
+    write!(out, "{before}")?;
+    out.write_all(shown)?;
+    write!(out, "{behind}")
+}
+
 /// Writes what is wrong, and behind a semicolon what was expected. `shown` is what stands at the place.
 pub fn push_wrong(out: &mut Vec<u8>, bounds: Bounds, shown: &[u8], wrong: Wrong) -> io::Result<()> {
     match wrong {
-        Wrong::NoObject => {
-            write!(
-                out,
-                "the script is no object; expected one with the members nodes, words and commands"
-            )
-        }
-        Wrong::Missing(key) => {
-            let name = name_of(key);
-            write!(out, "the member {name} is missing; expected ")?;
-            push_member(out, bounds, key)
-        }
-        Wrong::Member(key) => {
-            let name = name_of(key);
-            write!(out, "{name} is ")?;
-            out.write_all(shown)?;
-            write!(out, "; expected ")?;
-            push_member(out, bounds, key)
-        }
-        Wrong::Extra => {
-            write!(out, "unknown member ")?;
-            out.write_all(shown)?;
-            write!(out, "; expected nodes, words and commands only")
-        }
-        Wrong::NoList => {
-            out.write_all(shown)?;
-            write!(out, " is no command; expected a list such as [\"show\"]")
-        }
-        Wrong::NoWord => {
-            write!(
-                out,
-                "the command begins with no word; expected open, put, get, close, turn, settle or show"
-            )
-        }
-        Wrong::UnknownWord => {
-            write!(out, "unknown command ")?;
-            out.write_all(shown)?;
-            write!(
-                out,
-                "; expected open, put, get, close, turn, settle or show"
-            )
-        }
-        Wrong::Number(kind) => {
-            let word = word_of(kind);
-            let shape = shape_of(kind);
-            write!(
-                out,
-                "too few or too many values behind {word}; expected {shape}"
-            )
-        }
+        Wrong::NoObject => push_head(out, bounds, shown, None),
+        Wrong::Missing(key) => push_missing(out, bounds, key),
+        Wrong::Member(key) => push_head(out, bounds, shown, Some(key)),
+        Wrong::Extra => push_around(
+            out,
+            "unknown member ",
+            shown,
+            "; expected nodes, words and commands only",
+        ),
+        Wrong::NoList => push_around(
+            out,
+            "",
+            shown,
+            " is no command; expected a list such as [\"show\"]",
+        ),
+        Wrong::NoWord => push_around(out, "the command begins with no word", b"", COMMANDS),
+        Wrong::UnknownWord => push_around(out, "unknown command ", shown, COMMANDS),
+        Wrong::Number(kind) => push_number(out, kind),
         Wrong::Value { wanted, .. } => {
             out.write_all(shown)?;
             push_value(out, bounds, wanted)
@@ -142,10 +150,11 @@ pub fn push_wrong(out: &mut Vec<u8>, bounds: Bounds, shown: &[u8], wrong: Wrong)
             out.write_all(shown)?;
             push_value(out, bounds, Wanted::Name)
         }
-        Wrong::SameNames => {
-            write!(out, "both names are ")?;
-            out.write_all(shown)?;
-            write!(out, "; expected two that differ")
-        }
+        Wrong::SameNames => push_around(
+            out,
+            "both names are ",
+            shown,
+            "; expected two that differ",
+        ),
     }
 }
