@@ -39,15 +39,19 @@ import shutil
 import subprocess
 import sys
 import tempfile
+from collections.abc import Callable, Sequence
 
 import asked
 from peers import peers
+
+# The commands of the block with this number.
+Block = Callable[[int], list[str]]
 
 WHOLE = 1048576
 SETTLE = '["settle",1000000]'
 
 
-def script(nodes, words, before, block, after, size):
+def script(nodes: int, words: int, before: list[str], block: Block, after: list[str], size: int) -> str:
     """A script of at most `size` bytes: as many blocks (block(i) is a list of commands) as fit."""
     commands = list(before)
     room = size - len('{"nodes":%d,"words":%d,"commands":[]}' % (nodes, words))
@@ -64,12 +68,12 @@ def script(nodes, words, before, block, after, size):
     return '{"nodes":%d,"words":%d,"commands":[%s]}' % (nodes, words, ",".join(commands))
 
 
-def one_pair(size):
+def one_pair(size: int) -> str:
     """put, settle, get in turn, on the first pair of two nodes."""
     return script(2, 1, [], lambda i: ['["put","0>1","a"]', SETTLE, '["get","1>0"]'], [], size)
 
 
-def one_pair_at_once(size):
+def one_pair_at_once(size: int) -> str:
     """All puts, one settle, all gets, on the first pair of two nodes."""
     block = ['["put","0>1","a"]', '["get","1>0"]']
     both = len(block[0]) + len(block[1]) + 2
@@ -78,58 +82,58 @@ def one_pair_at_once(size):
     return '{"nodes":2,"words":1,"commands":[%s]}' % ",".join(commands)
 
 
-def first_pairs(size):
+def first_pairs(size: int) -> str:
     """put, settle, get in turn, over the 28 first pairs of eight nodes."""
     pairs = [(i, j) for i in range(8) for j in range(i + 1, 8)]
 
-    def block(i):
+    def block(i: int) -> list[str]:
         a, b = pairs[i % 28]
         return ['["put","%d>%d","a"]' % (a, b), SETTLE, '["get","%d>%d"]' % (b, a)]
     return script(8, 28, [], block, [], size)
 
 
-def first_pairs_at_once(size):
+def first_pairs_at_once(size: int) -> str:
     """A put on each of the 28 first pairs of eight nodes, a settle, a get on each, and again."""
     pairs = [(i, j) for i in range(8) for j in range(i + 1, 8)]
     block = ['["put","%d>%d","a"]' % p for p in pairs] + [SETTLE] + ['["get","%d>%d"]' % (b, a) for a, b in pairs]
     return script(8, 28, [], lambda i: block, [], size)
 
 
-def there(i):
+def there(i: int) -> tuple[str, str]:
     """The two names of the first pair, as a portal goes from node i % 2 to the other."""
     return ("0>1", "1>0") if i % 2 == 0 else ("1>0", "0>1")
 
 
-def moves_with_parcels(words, size):
+def moves_with_parcels(words: int, size: int) -> str:
     """A portal to and fro between two nodes, with a parcel after each move.
 
     The data fills each move up to 265 bytes, so that the whole script makes fewer than 4,094 moves."""
-    def block(i):
+    def block(i: int) -> list[str]:
         a, b = there(i)
         return ['["put","%s","%s",["y"]]' % (a, "m" * 90), SETTLE, '["get","%s"]' % b,
                 '["put","x","%s"]' % ("d" * 81), SETTLE, '["get","y"]']
     return script(2, words, ['["open",0,"x","y"]'], block, [], size)
 
 
-def to_and_fro(size):
+def to_and_fro(size: int) -> str:
     """A portal to and fro between two nodes, with a parcel after each move; words to spare."""
     return moves_with_parcels(4096, size)
 
 
-def to_and_fro_dry(size):
+def to_and_fro_dry(size: int) -> str:
     """A portal to and fro without a word to spare, so that each move leaves a proxy; one parcel at the end."""
-    def block(i):
+    def block(i: int) -> list[str]:
         a, b = there(i)
         return ['["put","%s","m",["y"]]' % a, SETTLE, '["get","%s"]' % b]
     return script(2, 2, ['["open",0,"x","y"]'], block, ['["put","x","d"]', SETTLE, '["get","y"]'], size)
 
 
-def to_and_fro_dry_parcels(size):
+def to_and_fro_dry_parcels(size: int) -> str:
     """The same with a parcel after each move: each parcel passes all proxies."""
     return moves_with_parcels(2, size)
 
 
-def chain(size):
+def chain(size: int) -> str:
     """A backlog waits at a portal that then makes eight moves round eight nodes; then settles."""
     moves = []
     for i in range(8):
@@ -142,39 +146,39 @@ def chain(size):
     return '{"nodes":8,"words":4096,"commands":[%s]}' % ",".join(commands)
 
 
-def turns(size):
+def turns(size: int) -> str:
     """A put and four turns, each a command that prints its line."""
     t = ['["turn",0,1]', '["turn",0,1]', '["turn",1,1]', '["turn",1,1]']
     return script(2, 1, [], lambda i: ['["put","0>1",""]'] + t, [], size)
 
 
-def idle_turns(size):
+def idle_turns(size: int) -> str:
     """Turns of an idle node."""
     return script(1, 0, [], lambda i: ['["turn",0,1]'], [], size)
 
 
-def turns_at_once(size):
+def turns_at_once(size: int) -> str:
     """All puts, then one turn command that prints all of it."""
     return script(1, 1, ['["open",0,"x","y"]'], lambda i: ['["put","x",""]'], ['["turn",0,1000000]'], size)
 
 
-def backlog(size):
+def backlog(size: int) -> str:
     """Puts of no data on one pair of one node, then one settle."""
     return script(1, 1, ['["open",0,"x","y"]'], lambda i: ['["put","x",""]'], [SETTLE], size)
 
 
-def backlog_over(size):
+def backlog_over(size: int) -> str:
     """Puts of no data on the first pair of two nodes, then one settle."""
     return script(2, 1, [], lambda i: ['["put","0>1",""]'], [SETTLE], size)
 
 
-def opens_in_turn(size):
+def opens_in_turn(size: int) -> str:
     """open, put, settle, get on each of up to 4,096 pairs; the data fills the script up."""
     return script(1, 4096, [], lambda i: ['["open",0,"a%04d","b%04d"]' % (i, i), '["put","a%04d","%s"]' % (i, "d" * 173),
                                           SETTLE, '["get","b%04d"]' % i], [], size)
 
 
-def opens_at_once(size):
+def opens_at_once(size: int) -> str:
     """All opens (up to 4,096), a put on each, one settle, a get on each; the data fills the script up."""
     n = size // 256
     commands = (['["open",0,"a%04d","b%04d"]' % (i, i) for i in range(n)]
@@ -183,7 +187,7 @@ def opens_at_once(size):
     return '{"nodes":1,"words":4096,"commands":[%s]}' % ",".join(commands)
 
 
-def circle(size):
+def circle(size: int) -> str:
     """Two parcels that carry each other's targets, without words: one settle of up to 1,000,000 acts."""
     limit = 1000000 * size // WHOLE
     return ('{"nodes":2,"words":3,"commands":[["open",0,"q","r"],["put","0>1","m",["q"]],["settle",1000],'
@@ -197,7 +201,7 @@ WORKLOADS = [
 ]
 
 
-def user_time(program, path):
+def user_time(program: str, path: str) -> float:
     """The user time in milliseconds of one run."""
     before = resource.getrusage(resource.RUSAGE_CHILDREN).ru_utime
     with open(path) as source:
@@ -205,7 +209,7 @@ def user_time(program, path):
     return (resource.getrusage(resource.RUSAGE_CHILDREN).ru_utime - before) * 1000
 
 
-def peak_memory(program, path):
+def peak_memory(program: str, path: str) -> tuple[float, int, int]:
     """(peak MiB, status, lines) of one run."""
     out = path + ".out"
     with open(path) as source, open(out, "w") as target:
@@ -217,20 +221,20 @@ def peak_memory(program, path):
     return int(done.stderr.split()[-1]) / 1024, done.returncode, lines
 
 
-def least(program, path):
+def least(program: str, path: str) -> float:
     """The least user time of five runs, or of one that takes long."""
     first = user_time(program, path)
     return first if first > 3000 else min([first] + [user_time(program, path) for _ in range(4)])
 
 
-def on_pairs(pairs, at, rounds):
+def on_pairs(pairs: int, at: Sequence[int], rounds: int) -> str:
     """So many opens on one node, and then so many rounds of a put, a settle and a get for each of these pairs."""
     opens = ['["open",0,"a%04d","b%04d"]' % (i, i) for i in range(pairs)]
     block = ['["put","a%04d",""]' % i for i in at] + [SETTLE] + ['["get","b%04d"]' % i for i in at]
     return '{"nodes":1,"words":4096,"commands":[%s]}' % ",".join(opens + block * rounds)
 
 
-def per_parcel(program, path, pairs, at, rounds):
+def per_parcel(program: str, path: str, pairs: int, at: Sequence[int], rounds: int) -> float:
     """The microseconds of one parcel."""
     times = []
     for count in (0, rounds):
@@ -240,13 +244,13 @@ def per_parcel(program, path, pairs, at, rounds):
     return (times[1] - times[0]) * 1000 / (rounds * len(at))
 
 
-def waiting(before, rounds):
+def waiting(before: int, rounds: int) -> str:
     """So many parcels put and settled, and then so many rounds of a put, a settle and a get."""
     commands = ['["put","0>1",""]'] * before + [SETTLE] + ['["put","0>1",""]', SETTLE, '["get","1>0"]'] * rounds
     return '{"nodes":2,"words":1,"commands":[%s]}' % ",".join(commands)
 
 
-def compare_waiting(program):
+def compare_waiting(program: str) -> None:
     with tempfile.TemporaryDirectory() as folder:
         path, first = os.path.join(folder, "script"), None
         for before in (1, 10, 100, 1000):
@@ -260,7 +264,7 @@ def compare_waiting(program):
             print("%5d waiting %6.2f microseconds a parcel, %4.2f times" % (before, cost, cost / first))
 
 
-def compare_pairs(program):
+def compare_pairs(program: str) -> None:
     with tempfile.TemporaryDirectory() as folder:
         path = os.path.join(folder, "script")
         one = per_parcel(program, path, 1, [0], 14000)
@@ -281,11 +285,11 @@ MEASURES = ["one_node", "two_nodes", "long_parcels", "last_pair", "each_pair", "
 BYTES = MEASURES[-3:]
 
 
-def measured(name):
+def measured(name: str) -> int:
     return int(subprocess.run([BENCH, name], stdout=subprocess.PIPE, check=True).stdout)
 
 
-def show_library():
+def show_library() -> None:
     for name in MEASURES:
         print("%-14s %8d" % (name, min(measured(name) for _ in range(5))), flush=True)
 
@@ -293,19 +297,19 @@ def show_library():
 REAL_TIME = ["chrt", "-f", "10"]
 
 
-def prefix():
+def prefix() -> list[str]:
     """What gives a run real-time priority, where that may be had."""
     before = REAL_TIME if subprocess.run(REAL_TIME + ["true"], stderr=subprocess.DEVNULL).returncode == 0 else []
     print("with real-time priority" if before else "with the priority of other programs", flush=True)
     return before
 
 
-def show_threads():
+def show_threads() -> None:
     before = prefix()
     alone = [("two_nodes", BENCH), ("cells", BENCH_THREADS), ("hub", BENCH_THREADS)]
     pairs = [(name, BENCH_THREADS) for name in ("cells_on_threads", "hub_on_threads", "round_trips", "hub_round_trips",
                                                 "sleeping_round_trips", "hub_sleeping_round_trips")]
-    times = [[] for _ in alone + pairs]
+    times: list[list[int]] = [[] for _ in alone + pairs]
     for _ in range(20):
         for (name, program), found in zip(alone + pairs, times):
             run = subprocess.run(before + [program, name, "20000"], stdout=subprocess.PIPE, check=True)
@@ -315,11 +319,11 @@ def show_threads():
         print("%-24s %6d ns (the middle one: %d), %4.2f of a world's time, %4.2f million a second"
               % (name, low, middle, low / min(times[0]), 1000 / low), flush=True)
     for name in ("late", "sleeping_late", "hub_late", "hub_sleeping_late"):
-        found = [processor_time([BENCH_THREADS, name, "2000"]) for _ in range(3)]
-        print("%-24s %8.1f to %.1f ms of the processor for a byte that comes after two seconds" % (name, min(found), max(found)), flush=True)
+        spent = [processor_time([BENCH_THREADS, name, "2000"]) for _ in range(3)]
+        print("%-24s %8.1f to %.1f ms of the processor for a byte that comes after two seconds" % (name, min(spent), max(spent)), flush=True)
 
 
-def processor_time(command):
+def processor_time(command: list[str]) -> float:
     """What a run takes of the processor, in milliseconds."""
     before = resource.getrusage(resource.RUSAGE_CHILDREN)
     subprocess.run(command, stdout=subprocess.DEVNULL, check=True)
@@ -327,7 +331,7 @@ def processor_time(command):
     return 1000 * (after.ru_utime + after.ru_stime - before.ru_utime - before.ru_stime)
 
 
-def counted(command):
+def counted(command: list[str]) -> int:
     """The instructions of a run."""
     with tempfile.TemporaryDirectory() as folder:
         done = subprocess.run(["valgrind", "--tool=callgrind", "--callgrind-out-file=" + os.path.join(folder, "out"), *command],
@@ -335,20 +339,20 @@ def counted(command):
     return int(done.stderr.split("Collected :")[1].split()[0])
 
 
-def instructions(name, rounds, program=BENCH):
+def instructions(name: str, rounds: int, program: str = BENCH) -> int:
     return counted([program, name, str(rounds)])
 
 
-def each_of(command):
+def each_of(command: list[str]) -> int | None:
     """The instructions of one round of a command that takes a number of rounds, or none where they can't be counted."""
     return round((counted([*command, "12000"]) - counted([*command, "2000"])) / 10000) if shutil.which("valgrind") else None
 
 
-def nanoseconds(command):
+def nanoseconds(command: list[str]) -> int:
     return int(subprocess.run([*command, "20000"], stdout=subprocess.PIPE, check=True).stdout)
 
 
-def show_peers():
+def show_peers() -> None:
     if not os.path.exists(BENCH):
         sys.exit("peers: ipcz_bench isn't built. `cd crates/ipcz_bench && rt run` builds it.")
     with tempfile.TemporaryDirectory() as folder:
@@ -357,7 +361,7 @@ def show_peers():
             sys.exit("peers: there is nothing to compare with: neither cargo nor a C compiler builds a queue here.")
         before = prefix()
         commands = [*others, *[(name, [BENCH, name]) for name in ("one_node", "two_nodes")]]
-        times = {name: [] for name, _ in commands}
+        times: dict[str, list[int]] = {name: [] for name, _ in commands}
         for _ in range(25):
             for name, command in commands:
                 times[name].append(nanoseconds([*before, *command]))
@@ -371,19 +375,19 @@ def show_peers():
                   % (name, count or "?", all_times[0], all_times[12], all_times[0] / min(times[base]), base), flush=True)
 
 
-def show_instructions():
+def show_instructions() -> None:
     for name, program in [(name, BENCH) for name in MEASURES if name not in BYTES] + [("cells", BENCH_THREADS), ("hub", BENCH_THREADS)]:
         each = (instructions(name, 12000, program) - instructions(name, 2000, program)) / 10000
         print("%-14s %8d" % (name, round(each)), flush=True)
 
 
-def show_compared(other):
+def show_compared(other: str) -> None:
     before = prefix()
     for name in MEASURES:
         counts = []
         if name not in BYTES:
             counts = [round((instructions(name, 12000, it) - instructions(name, 2000, it)) / 10000) for it in (other, BENCH)]
-        times = [[], []]
+        times: list[list[int]] = [[], []]
         for _ in range(5):
             for found, program in zip(times, (other, BENCH)):
                 found.append(int(subprocess.run(before + [program, name], stdout=subprocess.PIPE, check=True).stdout))
@@ -391,19 +395,19 @@ def show_compared(other):
               % (name, " ".join("%8d" % it for it in counts), min(times[0]), min(times[1])), flush=True)
 
 
-def nested(size):
+def nested(size: int) -> str:
     """A list of objects that are nested 124 deep, by members without a name: what takes most memory to read."""
     one = '{"":' * 124 + "1" + "}" * 124
     return '{"nodes":1,"words":0,"commands":[' + ",".join([one] * ((size - 40) // (len(one) + 1))) + "]}"
 
 
-def shows(size):
+def shows(size: int) -> str:
     """Opens of all 4,096 words, and then `show` alone: the longest transcript."""
     opens = ['["open",0,"a%x","b%x"]' % (i, i) for i in range(4096)]
     return '{"nodes":1,"words":4096,"commands":[' + ",".join(opens + ['["show"]'] * ((size - 110000) // 9)) + "]}"
 
 
-def show_largest(program):
+def show_largest(program: str) -> None:
     with tempfile.TemporaryDirectory() as folder:
         path = os.path.join(folder, "script")
         for make in (nested, shows):
@@ -427,7 +431,7 @@ def show_workloads(program: str, wanted: list[str]) -> None:
             name = make.__name__
             if wanted and name not in wanted:
                 continue
-            before = None
+            before: tuple[float, float] | None = None
             title = " ".join(make.__doc__.split("\n\n")[0].split())
             for part in (4, 2, 1):
                 text = make(WHOLE // part)

@@ -25,6 +25,9 @@ import sys
 import tempfile
 import time
 
+# A file, a text that stands in it once, and what it becomes.
+Edit = tuple[str, str, str]
+
 HERE = os.path.dirname(os.path.dirname(os.path.abspath(__file__)))
 # the law's crate and those that it stands on
 CRATES = ("ipcz_base", "ipcz_edge", "ipcz_word", "ipcz_seq", "ipcz_router", "ipcz_node", "ipcz_world")
@@ -411,13 +414,13 @@ FOLDERS = ("owed/", "lawful/", "ranks/")
 AWAKE = {"apply-flagged", "accept-flagged", "rest-idle"}
 
 
-def check(folder, *more):
+def check(folder: str, *more: str) -> tuple[bool, str]:
     """Returns whether the crate is proved, and what the check says."""
     done = subprocess.run(["rt", "check", "--jobs", "1", *more], cwd=folder, stdout=subprocess.PIPE, stderr=subprocess.STDOUT)
     return done.returncode == 0, done.stdout.decode(errors="replace")
 
 
-def copy(room):
+def copy(room: str) -> str:
     """Copies the crates to a folder, and what is kept of their proofs where it has none, and returns where they are."""
     os.makedirs(f"{room}/crates", exist_ok=True)
     with open(f"{HERE}/crates.txt") as file, open(f"{room}/crates.txt", "w") as cut:
@@ -431,7 +434,7 @@ def copy(room):
     return f"{room}/crates"
 
 
-def turn(crates, edits):
+def turn(crates: str, edits: list[Edit]) -> None:
     """Makes the edits."""
     for name, old, new in edits:
         path = f"{crates}/{name}"
@@ -443,14 +446,14 @@ def turn(crates, edits):
             file.write(text.replace(old, new))
 
 
-def conclusion(path, line, lemma):
+def conclusion(path: str, line: int, lemma: str) -> str:
     """Returns what the statement of a lemma comes to: the first name behind its last arrow."""
     with open(path) as file:
         lines = file.read().split("\n")
     heads = [i for i in range(min(line, len(lines))) if re.match(rf"\s*(pub )?{re.escape(lemma)} : ", lines[i])]
     if not heads:
         return ""
-    at, told = heads[-1], []
+    at, told = heads[-1], list[str]()
     indent = len(lines[at]) - len(lines[at].lstrip())
     while at < len(lines) and (not told or len(lines[at]) - len(lines[at].lstrip()) > indent):
         told.append(lines[at])
@@ -459,7 +462,7 @@ def conclusion(path, line, lemma):
     return re.match(r"\W*(?:\w+\.)*(\w*)", last)[1]
 
 
-def failures(crates, text):
+def failures(crates: str, text: str) -> list[tuple[bool, str]]:
     """Returns the lemmas that fail, each with its file, and whether it is one of the law; those that only depend on others aren't named."""
     found = []
     for name, line, lemma in re.findall(r"\./proofs/(\S+\.antt):(\d+):\d+: error: `([^`]+)`", text):
@@ -469,7 +472,7 @@ def failures(crates, text):
     return list(dict.fromkeys(found))
 
 
-def verdict(crates, edits, only_below):
+def verdict(crates: str, edits: list[Edit], only_below: bool) -> str:
     """Returns what became of the crates below and of the law."""
     files = " ".join(name for name, _, _ in edits)
     below = [crate for crate in ("ipcz_router", "ipcz_node") if f"{crate}/" in files or "ipcz_router/" in files]
@@ -497,7 +500,7 @@ def verdict(crates, edits, only_below):
     return f"NOT REFUSED: only a copy of its text fails, {', '.join(copies) or 'in no lemma'}"
 
 
-def tried(name, room, only_below):
+def tried(name: str, room: str, only_below: bool) -> str:
     """Makes a turn in a folder, or several at once, and returns what became of it."""
     edits = [edit for part in name.split("+") for edit in TURNS[part]]
     crates = copy(room)
@@ -505,7 +508,7 @@ def tried(name, room, only_below):
     return verdict(crates, edits, only_below)
 
 
-def main():
+def main() -> None:
     parser = argparse.ArgumentParser(description=__doc__, formatter_class=argparse.RawDescriptionHelpFormatter)
     parser.add_argument("--below", action="store_true")
     parser.add_argument("--room")
