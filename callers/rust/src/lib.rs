@@ -115,6 +115,7 @@ impl World {
         Ok((first, second))
     }
 
+    /// Puts a parcel of at most 256 bytes, each from 0x20 to 0x7E.
     pub fn put(
         &mut self,
         node: u8,
@@ -122,20 +123,7 @@ impl World {
         bytes: &[u8],
         portals: &[Portal],
     ) -> Result<u64, Refused> {
-        let mut number = 0;
-        answer(unsafe {
-            raw::ipcz_put_parcel(
-                &mut self.0,
-                node,
-                at,
-                bytes.as_ptr(),
-                bytes.len(),
-                portals.as_ptr(),
-                portals.len(),
-                &mut number,
-            )
-        })?;
-        Ok(number)
+        self.put_by(raw::ipcz_put_parcel, node, at, bytes, portals)
     }
 
     /// Puts a parcel of up to 65,536 bytes of any value.
@@ -146,9 +134,20 @@ impl World {
         bytes: &[u8],
         portals: &[Portal],
     ) -> Result<u64, Refused> {
+        self.put_by(raw::ipcz_put_wide_parcel, node, at, bytes, portals)
+    }
+
+    fn put_by(
+        &mut self,
+        put: raw::Put,
+        node: u8,
+        at: Portal,
+        bytes: &[u8],
+        portals: &[Portal],
+    ) -> Result<u64, Refused> {
         let mut number = 0;
         answer(unsafe {
-            raw::ipcz_put_wide_parcel(
+            put(
                 &mut self.0,
                 node,
                 at,

@@ -21,6 +21,18 @@ impl Handle {
     };
 }
 
+/// A put of a parcel: `ipcz_put_parcel` or `ipcz_put_wide_parcel`.
+pub type Put = unsafe extern "C" fn(
+    world: *mut Handle,
+    node: u8,
+    at: Portal,
+    bytes: *const u8,
+    size: usize,
+    portals: *const Portal,
+    count: usize,
+    number: *mut u64,
+) -> u32;
+
 unsafe extern "C" {
     pub fn ipcz_create(nodes: u8, words: u32, world: *mut Handle) -> u32;
     pub fn ipcz_destroy(world: *mut Handle);
