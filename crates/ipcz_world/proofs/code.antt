@@ -19,4 +19,5 @@ pub mod Taken
 pub mod Tallying
 pub mod Visiting
 pub mod WordNumbers
+pub mod WordSources
 pub mod Wordless
