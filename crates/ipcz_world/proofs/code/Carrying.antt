@@ -242,7 +242,7 @@ module _ (w : World) (n serial : ℕ) (link : LinkEnd) (is : IsRegular w) (lone 
 
   -- the router sends its item out
   on-1 : OnWay w 0 w 0 → OnWay w 1 (at x1 y0 Empty) (next_node w n)
-  unfolding set_node set_mail turn_lacks_serials router_turn close_turn is_idle is_wordless
+  unfolding set_node set_mail turn_lacks_serials router_turn close_turn is_idle
   on-1 on =
       let start = pair-start w n m apart lone.here lone.there is.lengths Empty lone.box in
       let u = at x0 y0 Empty in
@@ -302,7 +302,7 @@ module _ (w : World) (n serial : ℕ) (link : LinkEnd) (is : IsRegular w) (lone 
 
   -- the sender's router rests
   on-4 : OnWay w 3 (at x2 y1 (Hand msg)) (next_node w m) → OnWay w 4 (at x3 y1 (Hand msg)) (next_node w n)
-  unfolding set_node set_mail turn_lacks_serials router_turn close_turn is_idle is_wordless
+  unfolding set_node set_mail turn_lacks_serials router_turn close_turn is_idle
   on-4 on =
       let u = at x2 y1 (Hand msg) in
       let here = node-sender w n m apart lone.here lone.there is.lengths x2 y1 (Hand msg) in
@@ -378,7 +378,7 @@ module _ (w : World) (n serial : ℕ) (link : LinkEnd) (is : IsRegular w) (lone 
 
     -- its router rests
     on-6 : OnWay w 5 (at x3 y2 Empty) (next_node w m) → OnWay w 6 (at x3 y Empty) (next_node w m)
-    unfolding set_node set_mail turn_lacks_serials router_turn close_turn is_idle is_full is_wordless
+    unfolding set_node set_mail turn_lacks_serials router_turn close_turn is_idle is_full
     on-6 on =
         let u = at x3 y2 Empty in
         let here = node-taker w n m apart lone.here lone.there is.lengths x3 y2 Empty in

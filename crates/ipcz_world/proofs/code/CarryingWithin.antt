@@ -32,7 +32,6 @@ use Rattle.ipcz_world.specs.Taking.{IsRegular}
 use Rattle.ipcz_world.specs.Turns.{after_hand, after_look, after_post, full_message, hand_lacks_serials, is_clear, is_full, is_idle, next_at}
 use Rattle.ipcz_world.specs.Turns.{turn_lacks_serials}
 use Rattle.ipcz_world.specs.WordAnswers.{source_for}
-use Rattle.ipcz_world.specs.Wordless.{is_wordless}
 use Rattle.ipcz_world.proofs.acts.Updating.{node-here, put-twice, set-twice}
 use Rattle.ipcz_world.proofs.code.Carrying.{first-busy, go-on, next-busy, router-acts}
 use Rattle.ipcz_world.proofs.code.LoneWorlds.{sends-last, Quiet, hand_act, look_act, own_act, post_act, quiet_idle, quiet_is, way-apart, way-from, way-within}
@@ -185,7 +184,7 @@ module _ (w : World) (n serial : ℕ) (link : LinkEnd) (is : IsRegular w) (lone 
 
   -- the router sends its item out
   on-1 : OnWay w 0 w 0 → OnWay w 1 (at x1 Empty) (next_node w n)
-  unfolding set_node set_mail turn_lacks_serials router_turn close_turn is_idle is_full is_wordless
+  unfolding set_node set_mail turn_lacks_serials router_turn close_turn is_idle is_full
   on-1 on =
       let u = at x0 Empty in
       let here = node-is x0 Empty in
@@ -318,7 +317,7 @@ module _ (w : World) (n serial : ℕ) (link : LinkEnd) (is : IsRegular w) (lone 
         r.flagged ≡ true → next_act r ≡ router_acts.Rest →
         ((q : ℕ) (v : Router) → get x.routers q ≡ Some v → v.flagged ≡ true → k ≤ q) → with_router x k (rest r) ≡ z →
         OnWay w (acts-so-far + 1) (at z Empty) (next_node w n)
-    unfolding set_node set_mail turn_lacks_serials router_turn close_turn is_idle is_full is_wordless
+    unfolding set_node set_mail turn_lacks_serials router_turn close_turn is_idle is_full
     rest-of acts-so-far k x z r on counted hand boxes pending links there up next least is-z =
         let u = at x Empty in
         let here = node-is x Empty in
