@@ -97,7 +97,7 @@ pub record Links (w : World) (g : Records) : Type 0 where
   pub inward_decaying_inward : (k : Key) (r : Router) (e : LinkEnd) → router_at w k ≡ Some r → (inward_edge r).decaying ≡ Some e →
       is_outward e.link e.side ≡ false
 
--- the link of a link end, where there is one
+-- the link of a link end, if there is one
 abbrev pub link_in : Option LinkEnd → Option LinkId
 link_in e = option_map (λ x. x.link) e
 
