@@ -7,7 +7,7 @@
 --   Link words and mailboxes keep what is written to them, and no node is lost.
 --   Nothing is said of when a node takes a turn, or whether: if it matters that the world is quiet, or which turns were taken, it
 --   is said.
--- In addition one trusts what checks this page and makes the program of it (docs/PROVED.md, "What is trusted").
+-- In addition one trusts what checks this page and makes the program of it (docs/THEOREM.md, "What is trusted").
 use Rattle.std.specs.Prelude.{◌≡◌, ◌≤◌, ◌<◌, ℕ, ◌+◌, ◌*◌, true, false, Some, List, length, map, take, slice_get}
 use Rattle.ipcz_base.specs.declared.side.Side.{Side}
 use Rattle.ipcz_base.specs.declared.end.End.{End}

@@ -1,5 +1,5 @@
 //! The laws of worlds and of their runs. Each function does nothing: its contract is the law. What a law speaks of is defined in specs/:
-//! `Lawful`, `Headline` and runs in Lawful, steps in Steps, books in Books, quiet in Settling (docs/LAW.md).
+//! `Lawful`, `Headline` and runs in Lawful, steps in Steps, books in Books, quiet in Settling (docs/THEOREM.md).
 
 ghost use Rattle.ipcz_world.specs.WorldLaws.{StartsLawful, StepKeepsLawful, FirstIsPossible, ClaimKeepsLawful, RepliesPlainly};
 ghost use Rattle.ipcz_world.specs.WorldLaws.{BeginsLocked, LinksStay, LawfulGivesHeadline, HeadlineHolds, ItemsStandOnce};

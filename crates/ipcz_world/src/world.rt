@@ -76,7 +76,7 @@ impl World {
         World { state }
     }
 
-    /// What the type keeps: there are books and routes with which the world is lawful (docs/LAW.md). It does nothing, and is there for
+    /// What the type keeps: there are books and routes with which the world is lawful (docs/THEOREM.md). It does nothing, and is there for
     /// what a caller has to prove.
     pub fn keeps_the_law(&self)
         ensures { IsLawful self.now }
@@ -208,7 +208,7 @@ impl World {
     /// were put: its mark's and Gone's.
     ///
     /// A settle with this limit, or a higher one, is settled or refused, unless begins or retires found no memory: each of those takes
-    /// two acts more (docs/LAW.md). If parcels carry portals this may be too few. It looks at each router for each router.
+    /// two acts more (docs/THEOREM.md). If parcels carry portals this may be too few. It looks at each router for each router.
     pub fn settle_limit(&self) -> Option<u64>
         ensures limit { Tells result (settle_limit self.now) }
         ensures enough { IfSome result (λ limit. (b : Books) → (g : Routes) → Lawful self.now b g → CarryNone b → plain_limit b self.now ≤ limit) }
@@ -219,7 +219,7 @@ impl World {
     /// Lets the nodes take turns, one node after the other in passes over them, until no node has an act; at most `limit` acts are taken.
     /// Settled, with how many acts were taken, if nothing waits any more; `Unsettled` if `limit` acts were taken and a node still has
     /// one. A node that is idle takes no turn. A limit of the world's rank, and two more for each begin or retire that finds no
-    /// memory, is enough (docs/LAW.md). The turns that were taken keep the law, as steps with what each was seen to do.
+    /// memory, is enough (docs/THEOREM.md). The turns that were taken keep the law, as steps with what each was seen to do.
     ///
     /// Refused `NumbersEnd` or `OutOfMemory` as the first turn that is refused, of the next node that has an act: the turns before it
     /// stand, and that one changes nothing.
