@@ -9,6 +9,7 @@ which command is the first that is none.
 """
 import collections
 import json
+import pathlib
 import random
 import re
 import subprocess
@@ -161,8 +162,8 @@ def form(line: str) -> str:
     return f"{first} {words[-1]}" if words and words[-1].isalpha() else first
 
 
-def first_fault(checker, script):
-    """The number of the first fault that the checker tells, 0 for the script itself, or None if it calls it a script."""
+def first_fault(checker: pathlib.Path, script: object) -> int | str | None:
+    """The number of the first fault that the checker tells, 0 for the script itself; None if it calls it a script, and a text if it fails."""
     done = subprocess.run([checker], input=json.dumps(script).encode(), capture_output=True)
     if done.returncode == 0:
         return None
@@ -170,7 +171,7 @@ def first_fault(checker, script):
     return int(found[1] or 0) if found and done.returncode == 2 else f"status {done.returncode}"
 
 
-def model_fault(text):
+def model_fault(text: str) -> int | None:
     return int(text.split()[2]) if text.startswith("refused BadShape ") else None
 
 

@@ -1,10 +1,12 @@
-"""Tests the tools themselves: what they say to whoever calls them wrongly, and that the model writes the stored transcript.
+"""Tests the tools themselves: what they say to whoever calls them wrongly, and that the model writes the stored transcript. And whether each
+link of a page, and each part of a page that a page or a comment names, is there.
 
     python3 tools/test_tools.py    prints what is otherwise, and fails if there is something
 
 Nothing needs to be built for it, and it takes some seconds.
 """
 import pathlib
+import re
 import subprocess
 import sys
 
@@ -14,6 +16,8 @@ from asked import TOP
 HERE = pathlib.Path(__file__).resolve().parent
 # Not tools but what they share.
 SHARED = ("asked", "peers")
+# A page and the title of a part of it, as pages and comments name it, there perhaps over the end of a line.
+NAMED = re.compile(r'([A-Z_]+)\.md\)?,\s+(?:(?://[/!]?|--|#)\s+)?"([^"]+)"(?: and "([^"]+)")?')
 # Tools that run a program which is given to them.
 OF_A_PROGRAM = ("benchmark", "compare_with_model", "refuse_growth", "soak")
 
@@ -57,10 +61,31 @@ def faults_of_the_model() -> list[str]:
     return faults
 
 
+def titles(page: pathlib.Path) -> list[str]:
+    """What the parts of a page are called: its headings, and what stands in bold."""
+    return [one or other for one, other in re.findall(r"^#+ (.*)$|\*\*(.+?)\.?\*\*", page.read_text(), re.MULTILINE)]
+
+
+def faults_of_links() -> list[str]:
+    pages = [TOP / "README.md", *sorted((TOP / "docs").glob("*.md"))]
+    code = [path for folder in ("crates", "callers", "include", "tools") for path in (TOP / folder).rglob("*") if "out" not in path.parts and path.is_file()]
+    named = {page.stem: titles(page) for page in pages}
+    faults = []
+    for page in pages:
+        for target, part in re.findall(r"\]\((?!https?:)([^)#]*)#?([^)]*)\)", page.read_text()):
+            at = page.parent / target if target else page
+            if not at.exists() or part and part not in [re.sub(r"[^\w -]", "", it.lower()).replace(" ", "-") for it in titles(at)]:
+                faults.append(f"{page.name}: a link to {target}#{part}, which isn't there")
+    for path in [*pages, *(it for it in code if it.suffix in (".rt", ".antt", ".py", ".h", ".hpp", ".rs", ".c", ".html"))]:
+        for name, *parts in NAMED.findall(path.read_text()):
+            faults += [f"{path.relative_to(TOP)}: {name}.md has no part {it!r}" for it in parts if it and it not in named.get(name, [])]
+    return faults
+
+
 def main() -> None:
     asked.parser(__doc__).parse_args()
     tools = sorted(path.stem for path in HERE.glob("*.py") if path.stem not in SHARED)
-    faults = [fault for tool in tools for fault in faults_of(tool)] + faults_of_a_missing_program() + faults_of_the_model()
+    faults = [fault for tool in tools for fault in faults_of(tool)] + faults_of_a_missing_program() + faults_of_the_model() + faults_of_links()
     if faults:
         sys.exit("\n".join(faults))
 

@@ -34,13 +34,13 @@ PLANTED = {
 }
 
 
-def plant(folder):
+def plant(folder: pathlib.Path) -> None:
     folder.mkdir()
     for name, (_, file, old, new) in PLANTED.items():
         (folder / f"{name}.edit").write_text(f"file: {file}\nold: {old}\nnew: {new}\n")
 
 
-def tried(room, **more):
+def tried(room: pathlib.Path, **more: str) -> tuple[str, int, dict[str, str]]:
     """Returns what the tool says, its status, and what it tells of each edit."""
     words = [sys.executable, "tools/try_edits.py", "ipcz_edge"]
     ran = subprocess.run(words, cwd=room, stdout=subprocess.PIPE, stderr=subprocess.STDOUT, text=True, env={**os.environ, **more})
@@ -50,8 +50,8 @@ def tried(room, **more):
 def main() -> None:
     asked.parser(__doc__).parse_args()
     failed, texts = [], []
-    with tempfile.TemporaryDirectory() as room:
-        room = pathlib.Path(room)
+    with tempfile.TemporaryDirectory() as folder:
+        room = pathlib.Path(folder)
         crate = room / "crates" / "ipcz_edge"
         shutil.copytree(TOP / "tools", room / "tools")
         lines = (TOP / "crates.txt").read_text().split("\n")

@@ -36,7 +36,7 @@ VIEWS = [
 
 
 class Quiet(http.server.SimpleHTTPRequestHandler):
-    def log_message(self, *given) -> None:
+    def log_message(self, *given: object) -> None:
         pass
 
 

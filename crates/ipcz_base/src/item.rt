@@ -25,7 +25,7 @@ impl Item {
         }
     }
 
-    /// How many bytes and ends its parcel has, where it is one.
+    /// How many bytes and ends its parcel has, if it is one.
     #[tactic(auto, unfolding(crate::specs::Items::sizes_in))]
     pub fn sizes(&self) -> Option<Sizes>
         ensures { result ≡ sizes_in self.now }

@@ -1,4 +1,4 @@
-//! How loose the limit is that a world tells: set beside the acts that were taken, over worlds that are drawn by a number.
+//! How loose the limit is that a world tells, compared with the acts that were taken, over worlds that are drawn by a number.
 use crate::fault::Fault;
 use crate::trial::Portal;
 use ipcz_base::{End, Refusal, Sequence, Side};
@@ -22,7 +22,7 @@ struct Draw {
 }
 
 impl Draw {
-    // A number below the bound; 0 where that is 0.
+    // A number below the bound; 0 if that is 0.
     fn below(&mut self, bound: u64) -> u64 {
         let next = self.now.wrapping_mul(6_364_136_223_846_793_005);
         self.now = next.wrapping_add(1_442_695_040_888_963_407);
@@ -90,7 +90,7 @@ impl Drawn {
         Ok(())
     }
 
-    // Gets a parcel, where there is one.
+    // Gets a parcel, if there is one.
     fn get(&mut self, at: Portal) {
         let got = self.world.step(&Step::Get {
             node: at.node,
@@ -156,7 +156,7 @@ impl Drawn {
         Ok(())
     }
 
-    // The limit that the world tells, in hundredths of the acts that it takes; none where it takes none, or where a parcel that carries a portal
+    // The limit that the world tells, in hundredths of the acts that it takes; none if it takes none, or if a parcel that carries a portal
     // waits.
     fn looseness(&mut self) -> Result<Option<u64>, Fault> {
         if self.carried > 0 {

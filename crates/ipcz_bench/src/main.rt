@@ -19,7 +19,7 @@ nanoseconds a pair that is opened, used and closed: lives
 bytes a pair: fresh_pairs used_pairs closed_pairs
 hundredths, a world's limit by its acts, of so many worlds: limit_least limit_median limit_worst moved_least moved_median moved_worst";
 
-// How many rounds there are where none are asked for.
+// How many rounds there are if none are asked for.
 const ROUNDS: u64 = 100_000;
 
 // Reads the arguments and takes the measure.

@@ -11,7 +11,7 @@ use std::time::Instant;
 /// The bytes of a parcel, but for the long ones.
 const SHORT: usize = 16;
 
-/// How many pairs there are where there are many, and how many rounds each of them has.
+/// How many pairs the measures of many pairs have, and how many rounds each of these pairs has.
 const PAIRS: u32 = 1000;
 
 /// How many moves a world makes: each takes a link word, of 4,096.

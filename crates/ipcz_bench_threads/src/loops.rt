@@ -21,7 +21,7 @@ pub fn pass<T: Talker>(left: &mut T, right: &mut T, rounds: u64) -> bool {
     true
 }
 
-// Waits a moment where a turn had nothing to do, and lets another thread run where many in a row had nothing.
+// Waits a moment if a turn had nothing to do, and lets another thread run if many in a row had nothing.
 fn rest(idle: u64) {
     spin_loop();
     if idle % 1024 == 1023 {

@@ -17,7 +17,7 @@ the same where a thread sleeps while it has nothing to do: sleeping_round_trips 
 a byte that is put after ROUNDS milliseconds, and got: late hub_late sleeping_late hub_sleeping_late
 how many of these measures there are: all";
 
-// How many rounds there are where none are asked for.
+// How many rounds there are if none are asked for.
 const ROUNDS: u64 = 100_000;
 
 // The measure and the rounds that the arguments ask for.

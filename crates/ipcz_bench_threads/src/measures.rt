@@ -88,7 +88,7 @@ fn talk<R: Threads + Clock + Sync, T: Talker + Send>(
     one && two
 }
 
-// The share of one of so many rounds in nanoseconds, where they went as they should.
+// The share of one of so many rounds in nanoseconds, if they went as they should.
 fn timed<R: Threads + Clock + Sync, T: Talker + Send>(
     rt: &R,
     left: &mut T,
@@ -131,7 +131,7 @@ fn timed_cells<F: FabricName + Send + Sync, R: Threads + Wait + Clock + Sync>(
     timed(rt, &mut left, &mut right, way, rounds)
 }
 
-// The same of cells, where they are two.
+// The same of cells, if they are two.
 fn timed_two<F: FabricName + Send + Sync, R: Threads + Wait + Clock + Sync>(
     rt: &R,
     alloc: Global,

@@ -20,7 +20,7 @@ pub trait Talker {
     /// Takes a turn.
     fn turn(&mut self) -> Result<Happened, Refusal>;
 
-    /// Takes a turn, and sleeps where it had nothing to do, until there may be something.
+    /// Takes a turn, and sleeps if it had nothing to do, until there may be something.
     fn turn_or_wait(&mut self) -> Result<Happened, Refusal>;
 
     /// Takes turns until one is idle, and tells whether none was refused.

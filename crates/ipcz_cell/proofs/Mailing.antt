@@ -37,7 +37,7 @@ probe_may t id word m node to told picked whole is small at =
     (subst (λ (i : ℕ). Allows (Rules t.count t.size) t.id.slots id m i (λ n. either (eqb n 0) 3 n) (probed (mail_word t node to) (slot_of t node to) to m)) at
     (probes t.count t.size t.id.slots id (mail_word t node to) (slot_of t node to) to m (part_in m.0) whole (ap (λ (k : ℕ). k * t.count + to) (sym is)) refl small))
 
--- what is told where the test holds, and where it doesn't
+-- what is told if the test holds, and if it doesn't
 pub told_hit : (n k : ℕ) (P Q : Type 0) → n ≡ k → MatchBool (eqb n k) P Q → P
 told_hit n k P Q e h = subst (λ (b : Bool). MatchBool b P Q) (eq-eqb n k e) h
 

@@ -203,7 +203,7 @@ unfolding stand_in
 held_stand_in act serial (inl e) = subst (λ (a : RouterAct). acts.Router serial router_acts.Unlock ≡ stand_in (acts.Router serial a)) (sym e) refl
 held_stand_in act serial (inr e) = subst (λ (a : RouterAct). acts.Router serial router_acts.Unlock ≡ stand_in (acts.Router serial a)) (sym e) refl
 
--- where a router may begin or retire, it may give its lock back
+-- if a router may begin or retire, it may give its lock back
 pub may_unlock : (act : RouterAct) → (act ≡ router_acts.Begin) ⊎ (act ≡ router_acts.Retire) → (o : Option Router) → IsSomeAnd o (λ r. may_take r act ≡ true) → IsSomeAnd o (λ r. may_take r router_acts.Unlock ≡ true)
 may_unlock act which None h = h
 may_unlock act (inl is) (Some r) h = unlock_may r (ap (may_take r) (sym is) ∙ h)

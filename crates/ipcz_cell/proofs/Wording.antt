@@ -230,7 +230,7 @@ seen_tried i n (Lock new) seen e = refl
 seen_tried i n (Wait new) seen e = refl
 seen_tried i n Refused seen e = cc
 
--- what a try for the lock tells where its load found that it is refused
+-- what a try for the lock tells if its load found that it is refused
 pub refused_tells : (i n serial : ℕ) (side : Side) (source own : Option ℕ) (plan : LockPlan) (me me' : Mine) (room room' : NodeRoom) (old : CellState) → source ≡ own → shown me room ≡ old → plan ≡ plan_bits n side source (plan_of (word_of_bits n) side) → is_refused_plan plan ≡ true →
     me' ≡ (act_view i serial side source router_acts.Lock n me.0, me.1) → Tried i n serial side own old (Ok plan) (shown me' room')
 refused_tells i n serial side source own plan me me' room room' old named view e f done =
@@ -240,7 +240,7 @@ refused_tells i n serial side source own plan me me' room room' old named view e
       ap (λ (m : Mine). m.0.seen) done ∙ (ap (λ (o : CellState). o.seen ++ (i, n) ∷ []) view ∙ sym (seen_refused i n plan old.seen f)),
     )
 
--- where its exchange found the same word
+-- if its exchange found the same word
 pub tried_tells : (i n now serial : ℕ) (side : Side) (source own : Option ℕ) (plan : LockPlan) (me me' : Mine) (room room' : NodeRoom) (old : CellState) → source ≡ own → shown me room ≡ old → plan ≡ plan_bits n side source (plan_of (word_of_bits n) side) → is_refused_plan plan ≡ false → now ≡ n →
     me' ≡ (act_view i serial side source router_acts.Lock now (saw i n me.0), me.1) → Tried i n serial side own old (Ok plan) (shown me' room')
 tried_tells i n now serial side source own plan me me' room room' old named view e f same done =
@@ -250,7 +250,7 @@ tried_tells i n now serial side source own plan me me' room room' old named view
       ap (λ (m : Mine). m.0.seen) done ∙ ((λ j. (me.0.seen ++ (i, n) ∷ []) ++ (i, same j) ∷ []) ∙ (ap (λ (o : CellState). (o.seen ++ (i, n) ∷ []) ++ (i, n) ∷ []) view ∙ sym (seen_tried i n plan old.seen f))),
     )
 
--- and where it found another
+-- and if it found another
 pub raced_tells : (i n now serial : ℕ) (side : Side) (source own : Option ℕ) (me me' : Mine) (room room' : NodeRoom) (old : CellState) → source ≡ own → shown me room ≡ old → now ≢ n → me' ≡ (saw i now (saw i n me.0), me.1) → Tried i n serial side own old (Err Raced) (shown me' room')
 raced_tells i n now serial side source own me me' room room' old named view other done =
     subst (λ (o : Option ℕ). Tried i n serial side o old (Err Raced) (shown me' room')) named (refl, (now, other, ap (λ (m : Mine). part_in m.0) done ∙ ap (λ (o : CellState). o.part) view, ap (λ (m : Mine). m.0.seen) done ∙ ap (λ (o : CellState). (o.seen ++ (i, n) ∷ []) ++ (i, now) ∷ []) view))

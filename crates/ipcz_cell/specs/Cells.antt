@@ -61,7 +61,7 @@ pub record IsCell (t : TableName) (n : Node) (hand : Option Message) (tos : List
   pub holding : is_some hand ≡ is_some n.hand
   pub below : AreBelow t.count tos
 
--- a cell is that of a node of the table: the node is sound, its part has a message just where one is in hand, and each mailbox that was
+-- a cell is that of a node of the table: the node is sound, its part has a message exactly if one is in hand, and each mailbox that was
 -- probed is to a node of the table
 pub record IsSoundCell (t : TableName) (c : CellState) : Type 0 where
   pub inside : c.part.node < t.count

@@ -33,17 +33,17 @@ abbrev pub IsProbed : ℕ → ℕ → CellState → CellState → Type 0
 IsProbed i to old new = MatchBool (has_number old.part.probed to) ((new.part ≡ old.part) × (new.seen ≡ old.seen))
     ((new.part ≡ probe_part to old.part) × (new.seen ≡ old.seen ++ (i, 0) ∷ []))
 
--- what a probe answers and leaves: it fails only where the mailbox wasn't taken yet and was found at another value than 0
+-- what a probe answers and leaves: it fails only if the mailbox wasn't taken yet and was found at another value than 0
 abbrev pub Probes : ℕ → ℕ → CellState → Bool → CellState → Type 0
 Probes i to old answer new = MatchBool answer (IsProbed i to old new) ((has_number old.part.probed to ≡ false) ×
     ((n : ℕ) × (n ≢ 0) × HasSeen i n old new))
 
--- the word of the old link that the message in hand names, where it is an AcceptBypass
+-- the word of the old link that the message in hand names, if it is an AcceptBypass
 abbrev pub old_named : Option Message → Option ℕ
 old_named None = None
 old_named (Some x) = old_word x
 
--- what is loaded before a message is handled: the word of the old link that an AcceptBypass names, where it is one of the table's words
+-- what is loaded before a message is handled: the word of the old link that an AcceptBypass names, if it is one of the table's words
 abbrev pub OldLoaded : ℕ → Option ℕ → List (ℕ × ℕ) → Type 0
 OldLoaded size None found = found ≡ []
 OldLoaded size (Some old) found = MatchBool (nat_lt old size) ((n : ℕ) × IsLinkNumber n × (found ≡ (old, n) ∷ [])) (found ≡ [])
@@ -53,7 +53,7 @@ abbrev pub source_found : List (ℕ × ℕ) → Option ℕ
 source_found [] = None
 source_found (load ∷ loads) = (word_of_bits load.1).source
 
--- a source is the one that a message in hand has by the rule, where the old link that the message names has a word of the table
+-- a source is the one that a message in hand has by the rule, if the old link that the message names has a word of the table
 abbrev pub IsKnown : ℕ → ℕ → Message → Option ℕ → Type 0
 IsKnown size from x source = IfSome (old_word x) (λ old. old < size) → source ≡ trusted from x
 
@@ -79,7 +79,7 @@ pub record Handles (size from : ℕ) (old : CellState) (answer : Result Happened
       (λ why. (why ≡ (if message_lacks_serials old.part.state from message (source_found found) then NumbersEnd else OutOfMemory)) ×
       (new.part ≡ old.part))
 
--- what a look answers and leaves: it fails only where the mailbox was found at another value than 1
+-- what a look answers and leaves: it fails only if the mailbox was found at another value than 1
 abbrev pub Looks : ℕ → ℕ → CellState → Bool → CellState → Type 0
 Looks i from old answer new = MatchBool answer ((x : Message) × (new.part ≡ look_part from x old.part) ×
     (new.seen ≡ old.seen ++ (i, 1) ∷ []))

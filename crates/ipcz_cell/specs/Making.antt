@@ -6,7 +6,7 @@ use Rattle.ipcz_world.specs.World.{numbers_from}
 use Rattle.ipcz_rule.specs.Start.{opening_parts}
 use Rattle.ipcz_cell.specs.CellStates.{CellState}
 
--- what a cell has beside its seat: its node, and the mailboxes that it has probed
+-- what a cell has in addition to its seat: its node, and the mailboxes that it has probed
 pub record BodyValue : Type 0 where
   pub node : Node
   pub probed : List ℕ

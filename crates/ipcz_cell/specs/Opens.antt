@@ -58,8 +58,8 @@ claimed_for_open size n old = record {
   room = old.room;
 }
 
--- what the claim of a word for an open answers and leaves: a word that no count that was seen has passed; NoWord only where the load found
--- that each word was claimed, Raced only where the load and the exchange found different counts
+-- what the claim of a word for an open answers and leaves: a word that no count that was seen has passed; NoWord only if the load found
+-- that each word was claimed, Raced only if the load and the exchange found different counts
 pub data ClaimsForOpen (size : ℕ) (old new : CellState) (answer : Result ℕ Refusal) : Type 0 where
   Claimed : (n : ℕ) → answer ≡ Ok n → n < size → AreReached size old.seen n → new.part ≡ claimed_part n old.part →
       new.seen ≡ (old.seen ++ (size, n) ∷ []) ++ (size, n) ∷ [] → ClaimsForOpen size old new answer
@@ -67,7 +67,7 @@ pub data ClaimsForOpen (size : ℕ) (old new : CellState) (answer : Result ℕ R
   Outrun : (n found : ℕ) → answer ≡ Err Raced → found ≢ n → new.part ≡ old.part →
       new.seen ≡ (old.seen ++ (size, n) ∷ []) ++ (size, found) ∷ [] → ClaimsForOpen size old new answer
 
--- who may claim a word: a proxy whose act it is, or the node for an open where none is under way
+-- who may claim a word: a proxy whose act it is, or the node for an open if none is under way
 abbrev pub MayClaim : Node → Option ℕ → Type 0
 MayClaim x None = x.opening ≡ None
 MayClaim x (Some serial) = IsPossibleAct x (acts.Router serial router_acts.Claim)
@@ -85,9 +85,9 @@ pub record OpensWord (old : CellState) (ends : End × End) (new : CellState) : T
   pub part : new.part ≡ open_part word old.part
   pub seen : new.seen ≡ old.seen ++ (word, 0) ∷ []
 
--- what the open of a pair answers and leaves: an open under way is used; else a word is claimed for it, which no count that
--- was seen has passed. NoWord only where the load found
--- that each word was claimed, Raced only where the load and the exchange found different counts. A refused open leaves the node's part
+-- what the open of a pair answers and leaves: an open under way is used; else a word is claimed for it, which no count that was seen has
+-- passed. NoWord only if the load found that each word was claimed, Raced only if the load and the exchange found different counts. A
+-- refused open leaves the node's part
 pub data OpensPair (size : ℕ) (old new : CellState) (answer : Result (End × End) Refusal) : Type 0 where
   UnderWay : (ends : End × End) → answer ≡ Ok ends → ends.0.pair < size → OpensWord old ends new → OpensPair size old new answer
   Fresh : (n : ℕ) (ends : End × End) → answer ≡ Ok ends → old.part.state.opening ≡ None → n < size → AreReached size old.seen n →

@@ -1,4 +1,4 @@
--- What each kind of step tells of its seat, which has had m and has m' now, where n was found.
+-- What each kind of step tells of its seat, which has had m and has m' now, if n was found.
 use Rattle.std.specs.Prelude.{◌≡◌, ℕ, zero, suc, ◌∷◌, Bool, true, eqb, List, Option, Some, None, MatchBool}
 use Rattle.atomic_table.specs.Table.{rest, turned}
 use Rattle.ipcz_base.specs.declared.side.Side.{Side}
@@ -64,7 +64,7 @@ abbrev pub act_view : ℕ → ℕ → Side → Option ℕ → RouterAct → ℕ 
 act_view i serial side source act n v =
     change_part (act_part (acts.Router serial act) (word_answer (word_of_bits n) side source act)) (saw i n v)
 
--- a step on the link word i that is an act where the test holds of what is found, and else a load
+-- a step on the link word i that is an act if the test holds of what is found, and else a load
 abbrev pub worded : ℕ → ℕ → Side → Option ℕ → RouterAct → (ℕ → Bool) → Tells
 worded i serial side source act hit m n m' =
     IsLinkNumber n × HasNode source × MatchBool (hit n) (m' ≡ (act_view i serial side source act n m.0, m.1)) (m' ≡ (saw i n m.0, m.1))

@@ -45,7 +45,7 @@ abbrev pub AreTurns : TableName → CellState → List Happened → CellState �
 AreTurns t old [] new = new ≡ old
 AreTurns t old (event ∷ events) new = (mid : CellState) × TakesTurn t old event mid × AreTurns t mid events new
 
--- at most so many turns were taken: the number of them, where they ended at the limit or before an idle one, or the refusal of the one
+-- at most so many turns were taken: the number of them, if they ended at the limit or before an idle one, or the refusal of the one
 -- behind them
 pub record RunsTurns (t : TableName) (limit : ℕ) (old : CellState) (answer : Result ℕ Refusal) (new : CellState) : Type 0 where
   pub events : List Happened

@@ -107,13 +107,13 @@ abbrev pub may_grow : Part → Act → Bool
 may_grow p (acts.Hand from) = true
 may_grow p other = act_grows p.state other
 
--- an act was done, or what stands in for it, only where it makes something grow
+-- an act was done, or what stands in for it, only if it makes something grow
 pub record IsTaken (t : TableName) (p : Part) (act : Act) (event : Happened) (p' : Part) (seen : List (ℕ × ℕ)) : Type 0 where
   pub taken : Act
   pub which : (taken ≡ act) ⊎ ((taken ≡ stand_in act) × (may_grow p act ≡ true))
   pub done : IsDone t p taken event p' seen
 
--- whether handling this message, where there is one, wants more serials than are left
+-- whether handling this message, if there is one, wants more serials than are left
 abbrev pub hand_lacks_serials : Node → ℕ → Option ℕ → Option Message → Bool
 hand_lacks_serials n from source None = false
 hand_lacks_serials n from source (Some x) = message_lacks_serials n from x source
@@ -138,7 +138,7 @@ IsLost t p (acts.Router serial router_acts.Lock) seen = (word n found : ℕ) × 
 IsLost t p (acts.Router serial router_acts.Claim) seen = (n found : ℕ) × (found ≢ n) × (seen ≡ (t.size, n) ∷ (t.size, found) ∷ [])
 IsLost t p other seen = ⊥
 
--- why an act was refused, where Lost is what it means that it was lost to another thread
+-- why an act was refused, if Lost is what it means that it was lost to another thread
 pub data IsRefused (size : ℕ) (p : Part) (act : Act) (Lost : Type 0) (why : Refusal) (seen : List (ℕ × ℕ)) : Type 0 where
   NoSerials : why ≡ NumbersEnd → lacks_serials p act seen ≡ true → IsSeenBefore size p act seen → IsRefused size p act Lost why seen
   NoMemory : why ≡ OutOfMemory → lacks_serials p act seen ≡ false → may_grow p act ≡ true → act ≡ stand_in act →

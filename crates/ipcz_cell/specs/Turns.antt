@@ -37,7 +37,7 @@ pub record IsOpen (t : TableName) (p : Part) (to : ℕ) (found : List (ℕ × �
   pub mail : has_mail_for p.state to ≡ true
   pub free : has_number p.probed to ≡ false → IsLast found (mail_word t p.node to) 0
 
--- where messages wait for a node, its mailbox isn't this node's already, and was not found empty
+-- if messages wait for a node, its mailbox isn't this node's already, and was not found empty
 abbrev pub IsShut : TableName → Part → ℕ → List (ℕ × ℕ) → Type 0
 IsShut t p to found = has_mail_for p.state to ≡ true → (has_number p.probed to ≡ false) × WasFoundOther found (mail_word t p.node to) 0
 

@@ -1,4 +1,4 @@
--- The link words of a cell: what the calls on them ask, answer and leave.
+-- The link words of a cell: what the calls on them require, answer and leave.
 use Rattle.std.specs.Prelude.{◌≡◌, ◌≢◌, ◌<◌, ℕ, [], ◌∷◌, ◌++◌, List, Bool, true, false, Option, Some, None, Result, Ok, Err, MatchResult, IfOk}
 use Rattle.ipcz_base.specs.declared.side.Side.{Side}
 use Rattle.ipcz_base.specs.declared.refusal.Refusal.{Refusal}
@@ -37,7 +37,7 @@ lock_seen i n (Lock new) seen = (seen ++ (i, n) ∷ []) ++ (i, n) ∷ []
 lock_seen i n (Wait new) seen = (seen ++ (i, n) ∷ []) ++ (i, n) ∷ []
 lock_seen i n Refused seen = seen ++ (i, n) ∷ []
 
--- what is left of a try for the lock at the word i, which was found at n, where the lock names this source
+-- what is left of a try for the lock at the word i, which was found at n, if the lock names this source
 abbrev pub Tried : ℕ → ℕ → ℕ → Side → Option ℕ → CellState → Result LockPlan Refusal → CellState → Type 0
 Tried i n serial side source old answer new = MatchResult answer
     (λ plan. (plan ≡ plan_bits n side source (plan_of (word_of_bits n) side)) ×
@@ -45,7 +45,7 @@ Tried i n serial side source old answer new = MatchResult answer
     (new.seen ≡ lock_seen i n plan old.seen))
     (λ why. (why ≡ Raced) × ((found : ℕ) × (found ≢ n) × (new.part ≡ old.part) × (new.seen ≡ (old.seen ++ (i, n) ∷ []) ++ (i, found) ∷ [])))
 
--- what a try for the lock answers and leaves, where a lock names the node inward of its router: Raced only where the load and the exchange
+-- what a try for the lock answers and leaves, if a lock names the node inward of its router: Raced only if the load and the exchange
 -- found different words
 pub record TriesLock (size serial : ℕ) (old : CellState) (answer : Result LockPlan Refusal) (new : CellState) : Type 0 where
   pub word : ℕ

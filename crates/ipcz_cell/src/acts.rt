@@ -59,7 +59,7 @@ impl<F: FabricName> NodeCell<F> {
         }
     }
 
-    // Posts the first message for a node, whose mailbox it takes first where it hasn't got it.
+    // Posts the first message for a node, whose mailbox it takes first if it hasn't got it.
     #[inline(always)]
     fn post_untold(&mut self, fabric: &Fabric<F>, to: u8) -> Result<(), Refusal>
         requires inside { to < F.table.count }

@@ -5,7 +5,7 @@ use std::sync::Wait;
 use std::sync::atomic::{AtomicU64, Ordering};
 use std::time::Duration;
 
-// A word to sleep on. It is odd where a thread watches it, and a ring then makes it the next even number.
+// A word to sleep on. It is odd if a thread watches it, and a ring then makes it the next even number.
 #[derive(Drop)]
 struct Bell {
     word: AtomicU64,
@@ -32,7 +32,7 @@ impl Bell {
         }
     }
 
-    // Wakes all that watch. Where none does it is a load. Where the exchange finds another number, another ring came first, and who has
+    // Wakes all that watch. If none does, it is a load. If the exchange finds another number, another ring came first, and who has
     // begun to watch since that looks again.
     fn ring(&self) {
         let found = self.word.load(Ordering::SeqCst);
@@ -60,7 +60,7 @@ impl Bells {
         Ok(Bells { bells })
     }
 
-    /// Wakes all that watch the bell of a node. Where none does it is a load. For a node that isn't the table's nothing is done.
+    /// Wakes all that watch the bell of a node. If none does, it is a load. For a node that isn't the table's nothing is done.
     pub fn ring(&self, node: u8) {
         if let Some(bell) = self.bells.get(usize::from(node)) {
             bell.ring();

@@ -68,8 +68,8 @@ fn claim_ready(state: &mut NodeState, serial: u64)
 }
 
 impl<F: FabricName> NodeCell<F> {
-    /// Claims a word for the bypass of a proxy: a load of the claim count, and an exchange for the next. It answers `NoWord` where the load
-    /// found that each word was claimed; the proxy is dry then. It answers `Raced` only where the exchange found another count than the
+    /// Claims a word for the bypass of a proxy: a load of the claim count, and an exchange for the next. It answers `NoWord` if the load
+    /// found that each word was claimed; the proxy is dry then. It answers `Raced` only if the exchange found another count than the
     /// load; then nothing but what was seen has changed. It takes no memory.
     pub(crate) fn word_claim_for(&mut self, fabric: &Fabric<F>, serial: u64) -> Result<u64, Refusal>
         requires { IsPossibleAct self.old.part.state (Act.Router serial RouterAct.Claim) }

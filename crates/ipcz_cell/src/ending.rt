@@ -368,7 +368,7 @@ fn close(
 /// Ends the table and gives the world that it showed: the nodes are those of the cells, the link words, the claim count and the mailboxes
 /// are those of the table, a message in a cell's hand is in hand, and the world is lawful with the books that the cells' views keep.
 ///
-/// Refused `Stranger` where the cells' nodes aren't 0, 1, and so on to the last, in order; else `OutOfMemory`. A refusal gives the fabric
+/// Refused `Stranger` if the cells' nodes aren't 0, 1, and so on to the last, in order; else `OutOfMemory`. A refusal gives the fabric
 /// and the cells back, as they were.
 pub fn finish<F: FabricName>(
     fabric: Fabric<F>,

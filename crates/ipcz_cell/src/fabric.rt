@@ -53,7 +53,7 @@ impl<F: FabricName> Fabric<F> {
         self.nodes
     }
 
-    /// Wakes all that sleep for a node, as `NodeCell::wait`. Where none sleeps it costs two loads. For a node that isn't the table's
+    /// Wakes all that sleep for a node, as `NodeCell::wait`. If none sleeps, it costs two loads. For a node that isn't the table's
     /// nothing is done.
     pub fn notify_all(&self, node: u8) {
         self.bells.ring(node);
@@ -65,7 +65,7 @@ impl<F: FabricName> Fabric<F> {
         &self.bells
     }
 
-    /// The bells on which those sleep that wait until a message was handled at a node, since by that alone a parcel comes there.
+    /// The bells on which those sleep that wait until a message was handled at a node, since only so a parcel comes there.
     pub fn news(&self) -> &Bells {
         &self.news
     }

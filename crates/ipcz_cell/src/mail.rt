@@ -150,7 +150,7 @@ fn look_here<F: FabricName, X: Outcome>(
     exchange_step::<F, X>(seat, fabric, word, 1, 2)
 }
 
-// The word of the old link that the message in hand names, where it is an AcceptBypass.
+// The word of the old link that the message in hand names, if it is an AcceptBypass.
 fn old_word(message: &Option<Message>) -> Option<u32>
     ensures { result ≡ old_named message.now }
 {
@@ -234,7 +234,7 @@ impl<F: FabricName> NodeCell<F> {
         self.load_at(fabric, word)
     }
 
-    /// Takes the empty mailbox to a node, or has it already. It answers false only where the mailbox was found at another value than 0.
+    /// Takes the empty mailbox to a node, or has it already. It answers false only if the mailbox was found at another value than 0.
     #[inline(always)]
     pub fn mail_probe(&mut self, fabric: &Fabric<F>, to: u8) -> bool
         requires { to < F.table.count }
@@ -273,7 +273,7 @@ impl<F: FabricName> NodeCell<F> {
         turn_over(&mut self.seat, behind + held);
     }
 
-    /// Takes the message of a full mailbox into the hand. It answers false only where the mailbox was found at another value than 1. It
+    /// Takes the message of a full mailbox into the hand. It answers false only if the mailbox was found at another value than 1. It
     /// takes no memory.
     pub fn mail_look(&mut self, fabric: &Fabric<F>, from: u8) -> bool
         requires from { from < F.table.count }
@@ -293,7 +293,7 @@ impl<F: FabricName> NodeCell<F> {
         true
     }
 
-    // Loads the word of the old link that the message in hand names, where it is an AcceptBypass, and tells the source. Another message
+    // Loads the word of the old link that the message in hand names, if it is an AcceptBypass, and tells the source. Another message
     // has none, and neither has an AcceptBypass whose old link has no word of the table: then nothing is loaded. By the rule of the table
     // there is no such AcceptBypass.
     fn load_source(&mut self, fabric: &Fabric<F>, from: u8) -> Option<u8>
@@ -310,7 +310,7 @@ impl<F: FabricName> NodeCell<F> {
         source(found)
     }
 
-    // Handles the message in hand where it stands, where it is an item without ends and moves that has its place here, and tells whether
+    // Handles the message in hand where it stands, if it is an item without ends and moves that has its place here, and tells whether
     // it was one. For such an item there is no source.
     fn handle_alone(
         &mut self,
@@ -345,7 +345,7 @@ impl<F: FabricName> NodeCell<F> {
         }
     }
 
-    // Handles the message in hand where it stands, where it is an item without ends and moves that has its place here, and tells whether
+    // Handles the message in hand where it stands, if it is an item without ends and moves that has its place here, and tells whether
     // it was one.
     #[inline(always)]
     pub(crate) fn hand_alone(&mut self, fabric: &Fabric<F>, from: u8) -> Result<bool, Refusal>
@@ -433,8 +433,8 @@ impl<F: FabricName> NodeCell<F> {
         self.handle_any(fabric, from, source)
     }
 
-    /// Handles the message in hand. An AcceptBypass is taken only where the word of the old link names its sender as the source: one load
-    /// of that word tells it. A refused message stays in hand. It answers `NumbersEnd` where the message fits and would make more routers
+    /// Handles the message in hand. An AcceptBypass is taken only if the word of the old link names its sender as the source: one load
+    /// of that word tells it. A refused message stays in hand. It answers `NumbersEnd` if the message fits and would make more routers
     /// than serials are left for, and otherwise `OutOfMemory`.
     pub fn mail_handle(&mut self, fabric: &Fabric<F>, from: u8) -> Result<Happened, Refusal>
         requires { self.old.part.state.hand ≡ Some from }

@@ -45,7 +45,7 @@ impl Model for Blank {
 
 /// The table of so many nodes and link words, which shows the world at the start (`World::new`).
 ///
-/// `nodes` is 1 to 8; `words` is from the number of first pairs, `nodes * (nodes - 1) / 2`, to 4096. It answers `OutOfMemory` alone.
+/// `nodes` is 1 to 8; `words` is from the number of first pairs, `nodes * (nodes - 1) / 2`, to 4096. Its only refusal is `OutOfMemory`.
 pub fn start(alloc: Global, nodes: u8, words: u32) -> Result<Blank, Refusal>
     requires limits { IsWithinLimits nodes words }
     ensures size { IfOk result (λ b. (b.count ≡ nodes) × (b.size ≡ words)) }
@@ -82,7 +82,7 @@ fn opening_words(alloc: Global, nodes: u8, words: u32) -> Result<Vec<u64>, Alloc
     Ok(numbers)
 }
 
-// What a cell has beside its seat.
+// What a cell has in addition to its seat.
 #[derive(Drop)]
 pub(crate) struct Body {
     pub(crate) state: NodeState,
@@ -142,7 +142,7 @@ impl Blank {
     /// The fabric of this table, under the name F, and the cells of its nodes, by number: each has the state of its node at the start, and
     /// empty books. F names this table.
     ///
-    /// It is refused `OutOfMemory` alone, and then gives the table back.
+    /// Its only refusal is `OutOfMemory`, and then it gives the table back.
     pub fn name<F: FabricName>(self) -> Result<(Fabric<F>, Vec<NodeCell<F>>), (Refusal, Blank)>
         requires { self ≡ F.table }
         ensures cells { IfOk result (λ r. AreFirst F.table.count F.table.count r.1.items) }

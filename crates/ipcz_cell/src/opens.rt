@@ -62,7 +62,7 @@ impl<F: FabricName> NodeCell<F> {
     }
 
     /// A link word as it was loaded, or none for one that wasn't claimed yet by the claim count that was loaded before it: so there is one
-    /// where an earlier count was above its number. It takes no memory.
+    /// if an earlier count was above its number. It takes no memory.
     pub fn word(&mut self, fabric: &Fabric<F>, i: u32) -> Option<u64>
         ensures { ReadsWord F.table.size i self.old result self.new }
     {
@@ -104,11 +104,11 @@ impl<F: FabricName> NodeCell<F> {
         self.claim_at(fabric, count)
     }
 
-    /// Claims a link word: for the bypass of the proxy of a serial, whose act this is to be, or, with none, for an open, where none is
+    /// Claims a link word: for the bypass of the proxy of a serial, whose act this is to be, or, with none, for an open, if none is
     /// under way; that open is under way then, until `word_open` or `open_pair` does it. It answers the word.
     ///
-    /// It loads the claim count, and exchanges it for the next. It answers `NoWord` where the load found that each word was claimed; a
-    /// proxy is dry then, and its act is done. It answers `Raced` only where the exchange found another count than the load; then nothing
+    /// It loads the claim count, and exchanges it for the next. It answers `NoWord` if the load found that each word was claimed; a
+    /// proxy is dry then, and its act is done. It answers `Raced` only if the exchange found another count than the load; then nothing
     /// but what was seen has changed. It takes no memory.
     pub fn word_claim(&mut self, fabric: &Fabric<F>, serial: Option<u64>) -> Result<u32, Refusal>
         requires { MayClaim self.old.part.state serial }
@@ -123,7 +123,7 @@ impl<F: FabricName> NodeCell<F> {
         }
     }
 
-    /// Makes room for a pair, as `NodeState::open_prepare`. It answers `NumbersEnd` where too few serials are left for two routers, and
+    /// Makes room for a pair, as `NodeState::open_prepare`. It answers `NumbersEnd` if too few serials are left for two routers, and
     /// otherwise `OutOfMemory`.
     pub fn open_prepare(&mut self) -> Result<(), Refusal>
         ensures part { self.new.part ≡ self.old.part }
@@ -160,8 +160,8 @@ impl<F: FabricName> NodeCell<F> {
 
     /// Opens a pair, on a word that it claims, or on that of the open under way, and answers its ends of sides A and B, both held here.
     ///
-    /// It answers, the first of these: `NoWord` where no open is under way and each link word was claimed, `NumbersEnd` where too few
-    /// serials are left for two routers, `OutOfMemory`, and `Raced` where another node has claimed a word meanwhile; the caller may try
+    /// It answers, the first of these: `NoWord` if no open is under way and each link word was claimed, `NumbersEnd` if too few
+    /// serials are left for two routers, `OutOfMemory`, and `Raced` if another node has claimed a word meanwhile; the caller may try
     /// again. A refused open changes nothing but what was seen.
     pub fn open_pair(&mut self, fabric: &Fabric<F>) -> Result<(End, End), Refusal>
         ensures { OpensPair F.table.size self.old self.new result }

@@ -51,7 +51,7 @@ impl Probed {
         has_number(self.tos.as_slice(), to)
     }
 
-    /// Takes the first number out, where there is one.
+    /// Takes the first number out, if there is one.
     pub(crate) fn take_first(&mut self) -> Option<u8>
         ensures first { MatchOption result (self.old ≡ []) (λ to. self.old ≡ to ∷ self.new) }
         ensures once { AreOnce self.old }

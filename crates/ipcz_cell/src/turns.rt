@@ -72,7 +72,7 @@ impl<F: FabricName> NodeCell<F> {
         None
     }
 
-    // The sender of the message in hand, where there is one.
+    // The sender of the message in hand, if there is one.
     fn hand(&self) -> Option<u8>
         ensures { result ≡ self.now.part.state.hand }
     {
@@ -145,7 +145,7 @@ impl<F: FabricName> NodeCell<F> {
         }
     }
 
-    // Posts the first message for a node, whose mailbox it takes first where it hasn't got it.
+    // Posts the first message for a node, whose mailbox it takes first if it hasn't got it.
     fn post_turn(&mut self, fabric: &Fabric<F>, to: u8) -> Result<Happened, Refusal>
         requires inside { to < F.table.count }
         requires mail { has_mail_for self.old.part.state to ≡ true }
@@ -224,7 +224,7 @@ impl<F: FabricName> NodeCell<F> {
         }
     }
 
-    // A proxy begins its bypass or a sink retires, each under its lock; or it gives its lock back where no memory is found for that.
+    // A proxy begins its bypass or a sink retires, each under its lock; or it gives its lock back if no memory is found for that.
     fn held_turn(
         &mut self,
         fabric: &Fabric<F>,
@@ -273,8 +273,8 @@ impl<F: FabricName> NodeCell<F> {
     /// Takes one turn: the first act that is possible for the mailboxes as it finds them, as `act` answers it, is done whole, and what it
     /// did is told.
     ///
-    /// It is refused `NumbersEnd` where the act wants more serials than are left, `OutOfMemory` where it wants memory and none is found,
-    /// and `Raced` where another thread came between the load of a word and its exchange: then the turn may be taken again. A begin or a
+    /// It is refused `NumbersEnd` if the act wants more serials than are left, `OutOfMemory` if it wants memory and none is found,
+    /// and `Raced` if another thread came between the load of a word and its exchange: then the turn may be taken again. A begin or a
     /// retire for which no memory is found is done as an unlock. A refused turn changes nothing. A claim that finds no word is an act done.
     pub fn turn(&mut self, fabric: &Fabric<F>) -> Result<Happened, Refusal>
         ensures { Turns F.table self.old result self.new }

@@ -12,10 +12,10 @@ use std::time::Duration;
 impl<F: FabricName> NodeCell<F> {
     /// Sleeps if the node has nothing to do, and tells whether it had nothing: until a message is posted to the node, a message of it is
     /// handled, `Fabric::notify_all` is called for it, or `limit` has passed; `Duration::MAX` is without end. A sleep may also end for no
-    /// reason. So turns follow, and another wait once they are idle. Where a loop looks at something else besides, as a flag that ends it,
+    /// reason. So turns follow, and another wait once they are idle. If a loop looks at something else besides, as a flag that ends it,
     /// call `wait_since`.
     ///
-    /// It answers true only where the node's first act was `Idle` for the mailboxes as it found them. It answers false only where it was
+    /// It answers true only if the node's first act was `Idle` for the mailboxes as it found them. It answers false only if it was
     /// another, which a turn would take, and then it didn't sleep. It takes no memory, and nothing but `seen` changes.
     pub fn wait<R: Wait>(&mut self, rt: &R, fabric: &Fabric<F>, limit: Duration) -> bool
         ensures idle { result ≡ true → Chooses F.table self.old Act.Idle self.new }

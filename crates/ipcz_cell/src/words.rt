@@ -268,8 +268,8 @@ impl<F: FabricName> NodeCell<F> {
     }
 
     /// Tries for the lock of the word of a router's outward primary link: one load, and one exchange unless the load found that the lock is
-    /// refused. The lock names the node inward of the router, from which alone its AcceptBypass is taken then. It answers `Raced` only
-    /// where the exchange found another word than the load; then nothing but what was seen has changed. It takes no memory.
+    /// refused. The lock names the node inward of the router: its AcceptBypass is taken only from there. It answers `Raced` only
+    /// if the exchange found another word than the load; then nothing but what was seen has changed. It takes no memory.
     pub fn word_try_lock(&mut self, fabric: &Fabric<F>, serial: u64) -> Result<LockPlan, Refusal>
         requires { IsPossibleAct self.old.part.state (Act.Router serial RouterAct.Lock) }
         ensures { TriesLock F.table.size serial self.old result self.new }

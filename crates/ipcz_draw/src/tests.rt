@@ -148,7 +148,7 @@ fn stands(bytes: &[u8], row: (&str, usize)) -> bool {
     times(bytes, text.as_bytes()) == count
 }
 
-// The first text that doesn't stand so often in the picture of a part of a transcript; behind the last where that isn't drawn.
+// The first text that doesn't stand so often in the picture of a part of a transcript; behind the last if that isn't drawn.
 fn first_other(
     alloc: Global,
     part: Option<Part>,
@@ -288,7 +288,7 @@ fn first_other_source(alloc: Global) -> Option<usize> {
     None
 }
 
-// The node that may answer stands behind a word's cells, where the word tells one.
+// The node that may answer stands behind a word's cells, if the word tells one.
 #[test]
 fn shows_the_node_that_may_answer(rt: HostRuntime) {
     assert_eq!(rt; first_other_source(rt.alloc()), None);
@@ -523,7 +523,7 @@ fn says_which_line_is_refused(rt: HostRuntime) {
     assert!(rt; refuses(alloc, &long, b"refused line 0: more than 262144 bytes\n"));
 }
 
-// Whether the program ends with this status where its reader fails at its tenth read, and writes nothing.
+// Whether the program ends with this status if its reader fails at its tenth read, and writes nothing.
 fn ends_after_a_failed_read(alloc: Global, status: u8) -> bool {
     let mut out = Vec::new(alloc);
     let ended = run_program(
@@ -538,7 +538,7 @@ fn ends_after_a_failed_read(alloc: Global, status: u8) -> bool {
     ended == status && out.is_empty()
 }
 
-// Whether the program ends with this status where its writer fails at its third write, and what is written up to there is this.
+// Whether the program ends with this status if its writer fails at its third write, and what is written up to there is this.
 fn ends_after_a_failed_write(alloc: Global, status: u8, text: &[u8]) -> bool {
     let mut out = Vec::new(alloc);
     let ended = run_program(

@@ -33,7 +33,7 @@ impl Model for LinkSlot {
 }
 
 impl LinkSlot {
-    /// The slot of a link end, where there is one.
+    /// The slot of a link end, if there is one.
     #[tactic(auto, unfolding(crate::specs::LinkSlots::end_kept))]
     pub fn of(end: Option<LinkEnd>) -> LinkSlot
         ensures { result ≡ end }
@@ -45,7 +45,7 @@ impl LinkSlot {
         LinkSlot { kept }
     }
 
-    /// The link end, where there is one.
+    /// The link end, if there is one.
     #[tactic(auto, unfolding(crate::specs::LinkSlots::end_kept))]
     pub fn end(&self) -> Option<LinkEnd>
         ensures { result ≡ self.now }

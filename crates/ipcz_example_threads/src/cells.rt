@@ -141,7 +141,7 @@ fn two_talk<F: FabricName + Send + Sync, R: Threads + Wait + Sync>(
     answer
 }
 
-// The same of cells, where they are two.
+// The same of cells, if they are two.
 fn both_talk<F: FabricName + Send + Sync, R: Threads + Wait + Sync>(
     rt: &R,
     alloc: Global,

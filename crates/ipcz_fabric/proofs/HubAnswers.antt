@@ -1,4 +1,4 @@
--- What the calls of a hub answer, where the calls of its cells answer so.
+-- What the calls of a hub answer, if the calls of its cells answer so.
 use Rattle.std.specs.Prelude.{◌≡◌, ◌<◌, ◌≤◌, ◌⊎◌, ℕ, List, Bool, true, false, if◌then◌else◌, Option, Some, None, Result, Ok, Err, IfOk, IfErr, unwrap_or}
 use Rattle.std.proofs.Common.{arith, ap, sym, subst, ◌∙◌, inl, inr}
 use Rattle.ipcz_base.specs.declared.end.End.{End}

@@ -1,4 +1,4 @@
--- What a get that waits answers, where it takes the parcel as it is under the lock, and makes its portals behind it.
+-- What a get that waits answers, if it takes the parcel as it is under the lock, and makes its portals behind it.
 use Rattle.std.proofs.Common.{◌≡◌, ℕ, List, take, sym, ap, ◌∙◌, Some}
 use Rattle.ipcz_base.specs.declared.end.End.{End}
 use Rattle.ipcz_base.specs.declared.parcel.Parcel as parcels

@@ -42,7 +42,7 @@ module _ {S : Type 0} (asks : S → ℕ → Bool → S → Type 0) (takes : S �
   goes_on-end limit turns first s on up most = let none : limit - turns ≡ 0 = omega (arith, up) in
       on limit s (subst (λ n. Works asks takes ends n turns s limit s) (sym none) (omega (arith, up, most), refl))
 
--- what a worker does, where its state is left out but for what stays of it
+-- what a worker does, if its state is left out but for what stays of it
 module _ {S : Type 0} (asks : S → ℕ → Bool → S → Type 0) (takes : S → Answer → S → Type 0) (ends : Answer → Bool) (Is : S → Type 0)
     (Asked : ℕ → Bool → Type 0) (Taken : Answer → Type 0) (ask : (s u : S) (turns : ℕ) (may : Bool) → Is s → asks s turns may u → Asked turns may × Is u)
     (take : (u v : S) (a : Answer) → Is u → takes u a v → Taken a × Is v) where

@@ -24,7 +24,7 @@ ends_work (Err other) = false
 
 module _ {S : Type 0} (asks : S → ℕ → Bool → S → Type 0) (takes : S → Answer → S → Type 0) (ends : Answer → Bool) where
   -- with so many turns left and so many taken, a worker comes from one state to another and answers how many it has taken then: before each
-  -- turn it asks whether it may take it, and where it may not that is the end; so it is after a turn whose answer ends it, and where no
+  -- turn it asks whether it may take it, and if it may not, that is the end; so it is after a turn whose answer ends it, and if no
   -- turn is left
   abbrev pub Works : ℕ → ℕ → S → ℕ → S → Type 0
   Works zero turns s answer t = (answer ≡ turns) × (t ≡ s)

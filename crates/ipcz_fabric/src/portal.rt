@@ -25,7 +25,7 @@ pub(crate) const MOST_PORTALS: usize = 8;
 /// An end that callers of a node hold, of the table that F names. It isn't `Clone`: what has the portal has the end.
 ///
 /// One that is dropped unclosed leaves its end open: nobody can put or get there any more, and its peer isn't told, so that a
-/// `get_timeout` there sleeps until its time is over. Give it to `close` where it isn't needed any more.
+/// `get_timeout` there sleeps until its time is over. Give it to `close` if it isn't needed any more.
 #[derive(Drop)]
 pub struct Portal<F: FabricName> {
     node: u8,
@@ -320,7 +320,7 @@ impl<F: FabricName> Portal<F> {
     /// Workers have to take the turns of the nodes meanwhile.
     ///
     /// It takes no memory, and is never refused `OutOfMemory`: its portals are made as they are taken out. Its other refusals are those of
-    /// `get`. It answers `Empty` only where a last try, at the end of its time, has found none. A clock that can't be read ends the wait.
+    /// `get`. It answers `Empty` only if a last try, at the end of its time, has found none. A clock that can't be read ends the wait.
     pub fn get_timeout<R: Wait + Clock>(
         &self,
         rt: &R,
@@ -342,7 +342,7 @@ impl<F: FabricName> Portal<F> {
 
     /// Closes the end, under the lock of the portal's node, and answers the number of the mark that its peer is to get.
     ///
-    /// A refused close gives the portal back. It answers `Stranger` where callers of the node don't hold the end any more, else
+    /// A refused close gives the portal back. It answers `Stranger` if callers of the node don't hold the end any more, else
     /// `OutOfMemory`.
     pub fn close<R: Wait>(self, rt: &R, hub: &Hub<F>) -> Result<u64, (Refusal, Portal<F>)>
         ensures number { IfOk result (IsClosed F.table self.node self.end) }

@@ -13,10 +13,11 @@ use std::time::Duration;
 pub trait Gate {
     ghost use Rattle.std.specs.Prelude.{ℕ, Bool};
 
-    /// What it may answer to the question whether the node of a number takes a turn more, after how many. Where an `impl` doesn't say, all.
+    /// What it may answer when it is asked whether a node takes a turn more: the node's number, how many it has taken, and the answer. If an
+    /// `impl` doesn't say, any.
     ghost answers: { ℕ → ℕ → Bool → Type 0 } = { λ node turns may. Unit {0} };
 
-    /// Whether the node of this number may take a turn, where its worker has taken so many. It is asked without any lock.
+    /// Whether the node of this number may take a turn, after its worker has taken so many. It is asked without any lock.
     fn pass(&mut self, node: u8, turns: u64) -> bool
         ensures { answers node turns result };
 }
@@ -26,16 +27,16 @@ pub trait Worker {
     ghost use Rattle.std.specs.Prelude.{ℕ, Bool};
     ghost use Rattle.ipcz_fabric.specs.Workers.{Answer};
 
-    /// In which state it may answer what to the question whether it takes a turn more, after how many, and which state that leaves.
+    /// What it may answer when it is asked whether it takes a turn more: its state, how many it has taken, the answer, and its state then.
     ghost asks: { Self → ℕ → Bool → Self → Type 0 };
 
-    /// In which state a turn may be answered what, and which state that leaves.
+    /// How a turn may be answered: its state, the answer, and its state then.
     ghost takes: { Self → Answer → Self → Type 0 };
 
     /// Which answers end the work.
     ghost ends: { Answer → Bool };
 
-    /// Whether it takes a turn more, where it has taken so many.
+    /// Whether it takes a turn more, after it has taken so many.
     fn may_turn(&mut self, turns: u64) -> bool
         ensures { asks self.old turns result self.new };
 
@@ -59,7 +60,7 @@ fn counted(turns: u64, answer: &Result<Happened, Refusal>) -> u64
     }
 }
 
-/// Lets a worker take turns: before each it is asked whether it takes one. It ends where the worker doesn't, at an answer that is its last,
+/// Lets a worker take turns: before each it is asked whether it takes one. It ends when the worker takes none, at an answer that is its last,
 /// and after `limit` turns, and gives how many were taken. A last turn that was refused isn't counted; each other one is.
 pub fn run_worker<W: Worker>(worker: &mut W, limit: u64) -> u64
     ensures works { Works W.asks W.takes W.ends limit 0 worker.old result worker.new }
@@ -77,7 +78,7 @@ pub fn run_worker<W: Worker>(worker: &mut W, limit: u64) -> u64
     limit
 }
 
-// What tells of a ring of a node's bell from now on, where that is wanted.
+// What tells of a ring of a node's bell from now on, if that is wanted.
 fn ticket<F: FabricName>(hub: &Hub<F>, node: u8, is_wanted: bool) -> Option<Ticket> {
     if is_wanted {
         Some(hub.fabric().bells().watch(node))
@@ -103,7 +104,7 @@ fn sleep<R: Wait, F: FabricName>(
 
 // A worker of one node of a hub, which asks a gate. If it has a limit for a sleep, it watches the node's bell behind an idle turn, before it
 // asks the gate again, and sleeps behind the next one that is idle: so neither a message nor a word to the gate is missed. In which states
-// its turns find the node is known under the lock alone.
+// its turns find the node is known only under the lock.
 #[derive(Drop)]
 struct HubWorker<'a, R, F: FabricName, G> {
     rt: &'a R,
@@ -175,7 +176,7 @@ fn take_turns<R: Wait, F: FabricName, G: Gate>(
 
 /// Takes turns of a node of a hub, one by one, each under the node's lock, and gives how many were taken, idle ones included.
 ///
-/// Before each turn it asks the gate, without any lock, and ends where that answers false; it ends after `limit` turns, and at a turn that
+/// Before each turn it asks the gate, without any lock, and ends if that answers false; it ends after `limit` turns, and at a turn that
 /// is refused `OutOfMemory` or `NumbersEnd`, which isn't counted. One that is refused `Raced` is counted, and it goes on. For a node that
 /// isn't below the number of nodes it gives 0 and asks nothing.
 pub fn work<R: Wait, F: FabricName, G: Gate>(

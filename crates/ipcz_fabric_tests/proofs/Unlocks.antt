@@ -1,4 +1,4 @@
--- Where a router may begin its bypass, it may give its lock back.
+-- If a router may begin its bypass, it may give its lock back.
 use Rattle.std.proofs.Common.{◌≡◌, Bool, true, false, ◌||◌, refl, Option, Some, None}
 use Rattle.std.specs.Prelude.{IsSomeAnd}
 use Rattle.ipcz_router.specs.Router.{Router}

@@ -197,7 +197,7 @@ fn run<F: FabricName>(
     }
 }
 
-// How many routers the first two nodes have in the world that the cells of a table show, where first these calls and then those give
+// How many routers the first two nodes have in the world that the cells of a table show, if first these calls and then those give
 // what they should.
 fn routers_after<F: FabricName>(
     blank: Blank,

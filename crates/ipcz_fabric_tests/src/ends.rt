@@ -10,7 +10,7 @@ use std::alloc::Global;
 use std::marker::Brand;
 use std::test::Fail;
 
-// Why the cells of two nodes in the other order give no world, where the cells that come back give one in their order.
+// Why the cells of two nodes in the other order give no world, if the cells that come back give one in their order.
 fn refused_first<F: FabricName>(blank: Blank) -> Option<Refusal>
     requires { blank ≡ F.table }
 {
@@ -130,7 +130,7 @@ fn first_probes<F: FabricName>(fabric: &Fabric<F>, cells: &mut [NodeCell<F>], al
     }
 }
 
-// Whether a message whose mailbox its node has taken and not filled is in the outbox alone: the other node finds nothing until it is posted.
+// Whether a message whose mailbox its node has taken and not filled is only in the outbox: the other node finds nothing until it is posted.
 fn probe_leaves_no_message<F: FabricName>(alloc: Global, blank: Blank) -> Option<bool>
     requires named { blank ≡ F.table }
     requires nodes { blank.count ≡ 2 }

@@ -43,7 +43,7 @@ impl<'a> Gate for Meeting<'a> {
     }
 }
 
-// When it is asked it takes a turn of its node itself, where it is told that node and as many turns as it has taken.
+// When it is asked it takes a turn of its node itself, if it is told that node and as many turns as it has taken.
 #[derive(Drop)]
 struct Taking<'a, R, F: FabricName> {
     rt: &'a R,
@@ -187,7 +187,7 @@ fn puts<F: FabricName, R: Wait>(
     at.put(rt, hub, bytes, Vec::new(alloc)).is_ok()
 }
 
-// Whether a get gives a number, as text; none where nothing has come.
+// Whether a get gives a number, as text; none if nothing has come.
 fn gets<F: FabricName, R: Wait>(
     rt: &R,
     hub: &Hub<F>,
@@ -279,7 +279,7 @@ fn sends<F: FabricName, R: Wait>(
     at.put(rt, hub, Vec::new(alloc), portals).is_ok()
 }
 
-// Waits for a portal to come; none where each parcel was got meanwhile.
+// Waits for a portal to come; none if each parcel was got meanwhile.
 fn awaits<F: FabricName, R: Wait>(
     rt: &R,
     hub: &Hub<F>,
@@ -553,7 +553,7 @@ fn acts_and_closes<F: FabricName, R: Wait>(rt: &R, hub: &Hub<F>, portal: Portal<
     portal.close(rt, hub).ok()
 }
 
-// The numbers of the marks where a portal of a pair is moved to node 1, and both are closed.
+// The numbers of the marks when a portal of a pair is moved to node 1, and both are closed.
 fn moves_and_closes<F: FabricName, R: Wait>(
     rt: &R,
     hub: &Hub<F>,

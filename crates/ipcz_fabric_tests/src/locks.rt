@@ -43,7 +43,7 @@ fn gives_back<F: FabricName>(
     false
 }
 
-// Tries for the lock, if a node's proxy may, and gives it back: whether it was got, or none where what was found is wrong.
+// Tries for the lock, if a node's proxy may, and gives it back: whether it was got, or none if what was found is wrong.
 fn locks_once<F: FabricName>(
     fabric: &Fabric<F>,
     cell: &mut NodeCell<F>,
@@ -132,7 +132,7 @@ fn two_lock<F: FabricName + Send + Sync, R: Threads>(
     first && second
 }
 
-// The same of cells, where they are four.
+// The same of cells, if they are four.
 fn all_lock<F: FabricName + Send + Sync, R: Threads>(
     rt: &R,
     alloc: Global,

@@ -57,7 +57,7 @@ fn puts_all<F: FabricName>(
     false
 }
 
-// Whether a get gives a number, as text; none where nothing has come.
+// Whether a get gives a number, as text; none if nothing has come.
 fn gets<F: FabricName>(
     fabric: &Fabric<F>,
     cell: &mut NodeCell<F>,
@@ -113,7 +113,7 @@ fn talks<F: FabricName + Send + Sync, R: Threads>(
     put && got
 }
 
-// The same of cells, where they are two.
+// The same of cells, if they are two.
 fn both_talk<F: FabricName + Send + Sync, R: Threads>(
     rt: &R,
     alloc: Global,

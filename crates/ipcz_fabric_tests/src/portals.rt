@@ -38,7 +38,7 @@ fn act<F: FabricName, R: Wait>(rt: &R, hub: &Hub<F>, node: u8, turns: u64) {
     }
 }
 
-// Why a portal can't be sent on; none where it can, or where it doesn't come back.
+// Why a portal can't be sent on; none if it can, or if it doesn't come back.
 fn why_not<F: FabricName, R: Wait>(
     rt: &R,
     hub: &Hub<F>,

@@ -175,7 +175,7 @@ fn first_try<F: FabricName + Send + Sync, R: Threads>(
     }
 }
 
-// Whether the moved ends have come to nodes 2 and 3, where a byte is put at the first.
+// Whether the moved ends have come to nodes 2 and 3; a byte is then put at the first.
 fn come<F: FabricName>(fabric: &Fabric<F>, cells: &mut [NodeCell<F>], alloc: Global) -> bool {
     let [_, _, n2, n3] = cells else {
         return false;

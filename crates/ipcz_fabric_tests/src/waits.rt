@@ -1,4 +1,4 @@
-//! Waits: each sleeps for so long where no wake comes that a wake that is lost fails the test.
+//! Waits: each sleeps for so long if no wake comes that a wake that is lost fails the test.
 ghost use Rattle.std.specs.Prelude.{◌≡◌};
 
 use ipcz_base::{End, Refusal, Sequence, Side};
@@ -130,7 +130,7 @@ fn two_talk<F: FabricName + Send + Sync, R: Threads + Wait + Sync>(
     asked && answered
 }
 
-// The same of cells, where they are two.
+// The same of cells, if they are two.
 fn both_talk<F: FabricName + Send + Sync, R: Threads + Wait + Sync>(
     rt: &R,
     alloc: Global,
@@ -163,7 +163,7 @@ fn two_cells_wait_for_each_other(rt: HostRuntime) -> Result<(), Fail> {
     Ok(())
 }
 
-// Whether a cell sleeps where it has nothing to do, until its time is over, and doesn't where it has something to do.
+// Whether a cell sleeps if it has nothing to do, until its time is over, and doesn't if it has something to do.
 fn sleeps<F: FabricName, R: Wait + Clock>(
     rt: &R,
     alloc: Global,
@@ -205,7 +205,7 @@ impl<'a> Gate for Until<'a> {
     }
 }
 
-// Takes turns of a node, and sleeps where there is nothing to do.
+// Takes turns of a node, and sleeps if there is nothing to do.
 fn works<F: FabricName, R: Wait>(rt: &R, hub: &Hub<F>, node: u8, done: &AtomicU64) -> u64 {
     let mut gate = Until { done };
     work_waiting(rt, hub, node, &mut gate, TURNS, long())

@@ -1,4 +1,4 @@
-//! Cells of one table on one thread. What can be read of them without memory is read before each call, and must be the same where the call
+//! Cells of one table on one thread. What can be read of them without memory is read before each call, and must be the same if the call
 //! was refused memory; then it is made again. At the end they are turned into a world.
 ghost use Rattle.std.specs.Prelude.{◌≡◌};
 
@@ -117,7 +117,7 @@ fn node_of(ask: Ask) -> usize {
     node as usize
 }
 
-// Asks a cell once. No answer where there was no memory for what is asked.
+// Asks a cell once. No answer if there was no memory for what is asked.
 fn ask_once<F: FabricName>(
     fabric: &Fabric<F>,
     cell: &mut NodeCell<F>,
@@ -133,7 +133,7 @@ fn ask_once<F: FabricName>(
     }
 }
 
-// Asks a cell; where memory is refused all is as it was, and it is asked again.
+// Asks a cell; if memory is refused, all is as it was, and it is asked again.
 fn ask<F: FabricName>(
     fabric: &Fabric<F>,
     cell: &mut NodeCell<F>,
@@ -220,7 +220,7 @@ impl<F: FabricName> Subject for Cells<F> {
     }
 }
 
-/// Names a table, a second time where no memory was found.
+/// Names a table, a second time if no memory was found.
 pub fn name<F: FabricName>(
     blank: Blank,
     met: &mut Met,
@@ -239,7 +239,7 @@ pub fn name<F: FabricName>(
     }
 }
 
-/// Turns cells into a world, a second time where no memory was found.
+/// Turns cells into a world, a second time if no memory was found.
 pub fn finish_again<F: FabricName>(
     fabric: Fabric<F>,
     cells: Vec<NodeCell<F>>,
@@ -300,7 +300,7 @@ fn make_table(alloc: Global, nodes: u8, words: u32) -> Result<Blank, Refusal> {
     }
 }
 
-/// Makes a table, a second time where no memory was found.
+/// Makes a table, a second time if no memory was found.
 pub fn make_again(alloc: Global, nodes: u8, words: u32, met: &mut Met) -> Result<Blank, Wrong> {
     match make_table(alloc, nodes, words) {
         Ok(blank) => return Ok(blank),

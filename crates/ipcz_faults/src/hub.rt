@@ -14,7 +14,7 @@ use std::sync::Wait;
 // More turns than a node takes between two calls of the row.
 const TURNS: u32 = 30;
 
-// A hub, made a second time where no memory was found.
+// A hub, made a second time if no memory was found.
 fn hub_of<F: FabricName>(
     fabric: Fabric<F>,
     cells: Vec<NodeCell<F>>,
@@ -30,7 +30,7 @@ fn hub_of<F: FabricName>(
     }
 }
 
-// The cells of a hub, taken out a second time where no memory was found.
+// The cells of a hub, taken out a second time if no memory was found.
 fn cells_of<F: FabricName>(
     hub: Hub<F>,
     met: &mut Met,
@@ -44,7 +44,7 @@ fn cells_of<F: FabricName>(
     }
 }
 
-// Opens a pair at node 0, a second time where no memory was found.
+// Opens a pair at node 0, a second time if no memory was found.
 fn open<F: FabricName, R: Wait>(
     rt: &R,
     hub: &Hub<F>,
@@ -60,7 +60,7 @@ fn open<F: FabricName, R: Wait>(
     }
 }
 
-// Puts a byte with these portals as the first parcel, a second time where no memory was found, with what came back.
+// Puts a byte with these portals as the first parcel, a second time if no memory was found, with what came back.
 fn put<F: FabricName, R: Wait>(
     rt: &R,
     hub: &Hub<F>,
@@ -90,7 +90,7 @@ fn put<F: FabricName, R: Wait>(
     }
 }
 
-// Gets the first parcel, a byte, a second time where no memory was found.
+// Gets the first parcel, a byte, a second time if no memory was found.
 fn get<F: FabricName, R: Wait>(
     rt: &R,
     hub: &Hub<F>,
@@ -112,7 +112,7 @@ fn get<F: FabricName, R: Wait>(
     }
 }
 
-// Closes a portal, a second time where no memory was found.
+// Closes a portal, a second time if no memory was found.
 fn close<F: FabricName, R: Wait>(
     rt: &R,
     hub: &Hub<F>,
@@ -134,7 +134,7 @@ fn close<F: FabricName, R: Wait>(
     }
 }
 
-// Takes a turn of a node, a second time where no memory was found.
+// Takes a turn of a node, a second time if no memory was found.
 fn turn<F: FabricName, R: Wait>(
     rt: &R,
     hub: &Hub<F>,
@@ -164,7 +164,7 @@ fn act<F: FabricName, R: Wait>(rt: &R, hub: &Hub<F>, met: &mut Met) -> Result<()
     Ok(())
 }
 
-// A byte and a list with these portals, made a second time where no memory was found.
+// A byte and a list with these portals, made a second time if no memory was found.
 fn byte(alloc: Global, met: &mut Met) -> Result<Vec<u8>, Wrong> {
     match Vec::from_slice(alloc, b"m") {
         Ok(bytes) => Ok(bytes),
@@ -175,7 +175,7 @@ fn byte(alloc: Global, met: &mut Met) -> Result<Vec<u8>, Wrong> {
     }
 }
 
-// A list of one portal. None where no memory was found: its room is asked for first, and a second time.
+// A list of one portal. None if no memory was found: its room is asked for first, and a second time.
 fn one<F: FabricName>(
     alloc: Global,
     portal: Portal<F>,

@@ -1,7 +1,7 @@
 //! `ipcz_faults` runs worked rows on a world and its twin and on the cells of a table, and one on a hub, and prints a line for each: that all went as the row
 //! says, and which growths of memory were refused on the way. Such a call is to leave all as it was, and to succeed when it is made again.
 //!
-//! Run alone it meets none; `tools/refuse_growth.py` runs it once for each growth, with that one refused (docs/GATE.md).
+//! Run by itself it meets none; `tools/refuse_growth.py` runs it once for each growth, with that one refused (docs/GATE.md).
 #![tactic(auto)]
 
 mod alike;

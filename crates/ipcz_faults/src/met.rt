@@ -24,7 +24,7 @@ pub struct Met {
     refused: u32,
     /// A begin: the lock was given back, and got again.
     unlocked: u32,
-    /// What stands beside the calls: the lists of a put, a new world or table, or a call of the twin. It was made again.
+    /// What isn't a call: the lists of a put, a new world or table, or a call of the twin. It was made again.
     beside: u32,
 }
 
@@ -48,7 +48,7 @@ impl Met {
         self.unlocked = self.unlocked.saturating_add(1);
     }
 
-    /// Counts what was refused memory beside the calls.
+    /// Counts what was refused memory and is no call.
     pub fn add_beside(&mut self) {
         self.beside = self.beside.saturating_add(1);
     }

@@ -10,7 +10,7 @@ pub trait Subject {
     /// Takes a step; its answer.
     fn take(&mut self, ask: Ask) -> Result<Reply, Wrong>;
 
-    /// Takes one act of a settle, where there is a call for it: how many acts it took, 0 where all is quiet. Without one the nodes settle by
+    /// Takes one act of a settle, if there is a call for it: how many acts it took, 0 if all is quiet. Without one the nodes settle by
     /// turns.
     fn settle_once(&mut self) -> Result<Option<u64>, Wrong>;
 

@@ -47,7 +47,7 @@ fn run_one(world: &mut World, alloc: Global, step: Step) -> Reply {
     }
 }
 
-// Asks once. No answer where there was no memory for what is asked.
+// Asks once. No answer if there was no memory for what is asked.
 fn ask_once(world: &mut World, alloc: Global, way: Way, ask: Ask) -> Result<Reply, AllocError> {
     match (way, ask) {
         (Way::Steps, _) => Ok(world.step(&step_of(alloc, ask)?)),
@@ -89,7 +89,7 @@ impl Twins {
         }
     }
 
-    // Asks the world; where memory is refused it is as it was, and is asked again.
+    // Asks the world; if memory is refused, it is as it was, and is asked again.
     fn ask_world(&mut self, ask: Ask) -> Result<Reply, Wrong> {
         match ask_once(&mut self.world, self.alloc, self.way, ask) {
             Ok(Reply::Refused(Refusal::OutOfMemory)) => self.note_refused()?,
@@ -99,7 +99,7 @@ impl Twins {
         answered(ask_once(&mut self.world, self.alloc, self.way, ask))
     }
 
-    // Asks the twin; where memory is refused it is asked again.
+    // Asks the twin; if memory is refused, it is asked again.
     fn ask_twin(&mut self, ask: Ask) -> Result<Reply, Wrong> {
         match ask_once(&mut self.twin, self.alloc, self.way, ask) {
             Ok(Reply::Refused(Refusal::OutOfMemory)) | Err(AllocError) => self.met.add_beside(),
@@ -217,7 +217,7 @@ fn make_world(alloc: Global, nodes: u8, words: u32) -> Result<World, Refusal> {
     }
 }
 
-// Makes a world, a second time where no memory was found.
+// Makes a world, a second time if no memory was found.
 fn new_world(alloc: Global, nodes: u8, words: u32, met: &mut Met) -> Result<World, Wrong> {
     match make_world(alloc, nodes, words) {
         Ok(world) => return Ok(world),

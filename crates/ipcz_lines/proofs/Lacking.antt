@@ -1,4 +1,4 @@
--- Texts that lack a mark, and how a text parts at its first mark.
+-- Texts that lack a separator, and how a text parts at its first separator.
 use Rattle.std.proofs.Common.{◌≡◌, ◌≢◌, ℕ, ◌+◌, ◌%◌, ◌<◌, ◌≤◌, Bool, true, false, List, [], ◌∷◌, ◌++◌, length, Option, None, refl, sym, ap}
 use Rattle.std.proofs.Common.{◌∙◌, subst, arith, cond, eqb, drop, take, ◌-◌, length-append, get_or}
 use Rattle.std.specs.List.{All}
@@ -13,11 +13,11 @@ use Rattle.ipcz_lines.specs.LineParts.{IsEndText, IsName, IsNumber, IsWordText, 
 use Rattle.ipcz_lines.specs.declared.line.parts.Side.{Side}
 use Rattle.ipcz_lines.specs.declared.line.parts.Side.TheVariants as sides
 
--- the mark doesn't stand in the text
+-- the separator doesn't stand in the text
 abbrev pub Lacks : ℕ → List ℕ → Type 0
 Lacks mark text = All (λ b. b ≢ mark) text
 
--- a text that lacks a mark has no two parts with the mark between
+-- a text that lacks a separator has no two parts with the separator between
 pub no_mark : (mark : ℕ) (a b : List ℕ) → Lacks mark (a ++ mark ∷ b) → ⊥
 no_mark mark [] b h = All-head (λ b. b ≢ mark) mark b h refl
 no_mark mark (x ∷ a) b h = no_mark mark a b (All-tail (λ b. b ≢ mark) x (a ++ mark ∷ b) h)
@@ -25,7 +25,7 @@ no_mark mark (x ∷ a) b h = no_mark mark a b (All-tail (λ b. b ≢ mark) x (a 
 pub not_parted : (mark : ℕ) (a b text : List ℕ) → Lacks mark text → a ++ mark ∷ b ≡ text → ⊥
 not_parted mark a b text h e = no_mark mark a b (All-same (λ b. b ≢ mark) (a ++ mark ∷ b) text e h)
 
--- at its first mark a text parts in one way
+-- at its first separator a text parts in one way
 pub one_parting : (mark : ℕ) (a b c d : List ℕ) → Lacks mark a → Lacks mark c → a ++ mark ∷ b ≡ c ++ mark ∷ d → (a ≡ c) × (b ≡ d)
 one_parting mark [] b [] d h k e = (refl, cc)
 one_parting mark [] b (y ∷ c) d h k e = absurd (All-head (λ b. b ≢ mark) y c k cc)
@@ -36,7 +36,7 @@ one_parting mark (x ∷ a) b (y ∷ c) d h k e =
     let r = one_parting mark a b c d (All-tail P x a h) (All-tail P y c k) rest in
     (cc, r.1)
 
--- at the first mark of a text its parts are known
+-- at the first separator of a text its parts are known
 pub parts_agree : (mark : ℕ) (a b first rest text : List ℕ) → Lacks mark a → Lacks mark first → text ≡ first ++ mark ∷ rest
     → a ++ mark ∷ b ≡ text → (a ≡ first) × (b ≡ rest)
 parts_agree mark a b first rest text h k e d = one_parting mark a b first rest h k (d ∙ e)
@@ -92,7 +92,7 @@ ends_with xs y text e = subst (λ (l : List ℕ). (length xs < length l) × (get
     at_end : (n : ℕ) → n ≡ length xs → get_or (xs ++ y ∷ []) n 0 ≡ y
     at_end n h = rw h (last_of xs y)
 
--- nothing is read where no value has the text
+-- nothing is read if no value has the text
 pub reads_none : {A : Type 0} (text : A → List ℕ) (Is : A → Type 0) (bytes : List ℕ) (r : Option A) → r ≡ None → ((x : A) → Is x
     → text x ≢ bytes) → Reads text Is bytes r
 reads_none text Is bytes r e h = subst (Reads text Is bytes) (sym e) h
@@ -105,7 +105,7 @@ decimal_digits n h = decimal_by_steps (λ n ds. All IsDigit ds)
     (λ n small. All-cons IsDigit (48 + n) [] (omega arith, omega arith) (All-nil IsDigit))
     (λ n ds big h. All-push IsDigit ds (48 + n % 10) h (omega arith, omega arith)) n h
 
--- a mark that is no digit
+-- a separator that is no digit
 abbrev pub IsNoDigit : ℕ → Type 0
 IsNoDigit mark = IsDigit mark → ⊥
 

@@ -1,4 +1,4 @@
--- Texts that a mark parts.
+-- Texts that a separator parts.
 use Rattle.std.proofs.Common.{◌≡◌, ◌↔◌, ℕ, ◌<◌, Bool, false, IsTrue, List, [], ◌∷◌, ◌++◌, length, refl, sym, ap, ◌∙◌, subst, arith, codes}
 use Rattle.std.proofs.Common.{length-append}
 use Rattle.std.specs.List.{AllByRecursion}
@@ -28,7 +28,7 @@ parted_alone Is mark text none h = one_by_parts Is mark text none h.parts h.some
     one_by_parts Is mark text none (p ∷ []) some each whole = subst Is whole each.0
     one_by_parts Is mark text none (p ∷ q ∷ ps) some each whole = absurd (not_parted mark p (joined mark (q ∷ ps)) text none whole)
 
--- where no such text has the mark, what is parted is such a text up to the first mark, and parted behind it
+-- if no such text has the separator, what is parted is such a text up to the first separator, and parted behind it
 pub parted_front : (Is : List ℕ → Type 0) (mark : ℕ) → ((text : List ℕ) → Is text → Lacks mark text) → (first rest text : List ℕ)
     → Lacks mark first → text ≡ first ++ mark ∷ rest → AreParted Is mark text → Is first × AreParted Is mark rest
 parted_front Is mark lack first rest text none e h = front_by_parts Is mark lack first rest text none e h.parts h.some h.each h.whole
@@ -44,12 +44,12 @@ parted_front Is mark lack first rest text none e h = front_by_parts Is mark lack
         let r = one_parting mark p (joined mark (q ∷ ps)) first rest (lack p each.0) none (whole ∙ e) in
         (subst Is r.0 each.0, record { parts = q ∷ ps; some = omega arith; each = each.1; whole = r.1 })
 
--- nothing parts the text, and it is such a text where the test says so
+-- nothing parts the text, and it is such a text if the test says so
 pub parted_whole : (Is : List ℕ → Type 0) (mark : ℕ) (text : List ℕ) (r : Bool) → Lacks mark text → IsTrue r ↔ Is text
     → IsTrue r ↔ AreParted Is mark text
 parted_whole Is mark text r none h = (λ t. parted_one Is mark text (h.0 t), λ p. h.1 (parted_alone Is mark text none p))
 
--- behind a first such text, the rest is parted where the test says so
+-- behind a first such text, the rest is parted if the test says so
 pub parted_more : (Is : List ℕ → Type 0) (mark : ℕ) → ((text : List ℕ) → Is text → Lacks mark text)
     → (first rest text : List ℕ) (r : Bool) → Is first → Lacks mark first → IsTrue r ↔ AreParted Is mark rest
     → text ≡ first ++ mark ∷ rest → IsTrue r ↔ AreParted Is mark text
@@ -70,7 +70,7 @@ some_by_parts Is mark some [] h each = absurd (omega arith)
 some_by_parts Is mark some (p ∷ []) h each = some p each.0
 some_by_parts Is mark some (p ∷ q ∷ ps) h each = omega (arith, length-append p (mark ∷ joined mark (q ∷ ps)))
 
--- where no such text is empty, parted texts aren't
+-- if no such text is empty, parted texts aren't
 pub parted_some : (Is : List ℕ → Type 0) (mark : ℕ) → ((text : List ℕ) → Is text → 0 < length text) → (text : List ℕ)
     → AreParted Is mark text → 0 < length text
 parted_some Is mark some text h = let n = some_by_parts Is mark some h.parts h.some h.each in omega (arith, ap length h.whole)

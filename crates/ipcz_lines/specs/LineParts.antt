@@ -22,7 +22,7 @@ use Rattle.ipcz_lines.specs.declared.line.parts.Answer.TheVariants as answers
 use Rattle.ipcz_lines.specs.declared.line.parts.Fault.{Fault}
 use Rattle.ipcz_lines.specs.declared.line.parts.Fault.TheVariants as faults
 
--- the value whose text these bytes are, where there is one
+-- the value whose text these bytes are, if there is one
 abbrev pub Reads : {A : Type 0} → (A → List ℕ) → (A → Type 0) → List ℕ → Option A → Type 0
 Reads text Is bytes (Some x) = Is x × (text x ≡ bytes)
 Reads {A} text Is bytes None = (x : A) → Is x → text x ≢ bytes
@@ -138,13 +138,13 @@ pub record IsName (text : List ℕ) : Type 0 where
   pub short : length text ≤ 16
   pub bytes : All (λ b. is_name_byte b ≡ true) text
 
--- these texts, with the mark between each two
+-- these texts, with the separator between each two
 abbrev pub joined : ℕ → List (List ℕ) → List ℕ
 joined mark [] = []
 joined mark (part ∷ []) = part
 joined mark (part ∷ next ∷ parts) = part ++ mark ∷ joined mark (next ∷ parts)
 
--- one such text or more, with the mark between each two
+-- one such text or more, with the separator between each two
 pub record AreParted (Is : List ℕ → Type 0) (mark : ℕ) (text : List ℕ) : Type 0 where
   pub parts : List (List ℕ)
   pub some : 0 < length parts

@@ -27,7 +27,7 @@ abbrev pub and_more : List ℕ → List ℕ → List ℕ
 and_more text [] = text
 and_more text (b ∷ bs) = spaced text (b ∷ bs)
 
--- the ends that went with an item, where there are some
+-- the ends that went with an item, if there are some
 abbrev pub moves_text : List ℕ → List ℕ
 moves_text [] = []
 moves_text (b ∷ bs) = spaced (codes "moves") (b ∷ bs)

@@ -22,7 +22,7 @@ pub enum RouterEvent<'a> {
         link: Link,
         moves: &'a [u8],
     },
-    /// Discarded an item, and left with it where that was the last one.
+    /// Discarded an item, and left with it if that was the last one.
     Discard {
         number: u64,
         leaves: bool,
@@ -40,7 +40,7 @@ pub enum RouterEvent<'a> {
         word: u16,
         after: u16,
     },
-    /// Claimed a word, where there was one.
+    /// Claimed a word, if there was one.
     Claim {
         word: Option<u16>,
     },
@@ -58,7 +58,7 @@ pub enum RouterEvent<'a> {
 /// What a turn of a node was.
 #[derive(Clone, Copy)]
 pub enum Event<'a> {
-    /// Handled a message; an unfit one became a stray, or was dropped where it was a flush.
+    /// Handled a message; an unfit one became a stray, or was dropped if it was a flush.
     Hand { kind: Kind, link: Link, unfit: bool },
     Look { sender: u8 },
     Post { destination: u8 },
@@ -120,7 +120,7 @@ pub struct ReadLine<'a> {
 #[derive(Clone, Copy, Debug, PartialEq, Eq)]
 pub enum Unread {
     OutOfMemory,
-    /// The first line that is of no known form, counted from 1; or 0, where there are too many bytes.
+    /// The first line that is of no known form, counted from 1; or 0, if there are too many bytes.
     Refused { line: usize },
 }
 

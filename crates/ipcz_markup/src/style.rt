@@ -1,4 +1,4 @@
-//! The style sheet of a picture: light colours, and dark ones where the reader wants them.
+//! The style sheet of a picture: light colours, and dark ones if the reader wants them.
 
 ghost use Rattle.std.specs.Prelude.{◌≤◌, length};
 

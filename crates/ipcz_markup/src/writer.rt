@@ -146,7 +146,7 @@ impl Writer {
         writer
     }
 
-    // Gives up what was written, where something didn't find memory.
+    // Gives up what was written, if something didn't find memory.
     fn settle(&mut self, done: bool)
         ensures done { self.new ≡ (if done then self.old else self.new) }
         ensures failed { done ≡ false → self.new.failed ≡ true }

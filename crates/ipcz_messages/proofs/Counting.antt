@@ -142,7 +142,7 @@ early_hand read n k x (inl h) early late e = let p = posted_hand read h.0 h.1 h.
 early_hand read n k x (inr (inl h)) early late e = (h.1, h.2, h.3.looked, subst (IsHandOf read h.1 h.2) e h.3.hand)
 early_hand read n k x (inr (inr h)) early late e = absurd (omega (arith, late, early.handled k h.2.looked e))
 
--- no early message is looked at where one that is posted now is
+-- no early message is looked at if one that is posted now is
 fresh_look : (read : List ReadLine) (n : ℕ) (ms : List Message) (from to j : ℕ) → AreJoined read n ms → Takes read from to n j →
     All (λ x. x.looked ≡ Some j → ⊥) ms
 fresh_look read n ms from to j h takes k d less e =
@@ -158,7 +158,7 @@ fresh_look read n ms from to j h takes k d less e =
     (at_line (is_post from to) test (post_touches from to) read n takes.post) next takes.next in
     absurd (omega (arith, p.3, met))
 
--- no message is handed over where another one is that was looked at at a line of its own
+-- no message is handed over if another one is that was looked at at a line of its own
 fresh_hand : (read : List ReadLine) (n : ℕ) (ms : List Message) (to j k : ℕ) → AreJoined read n ms → n ≤ j →
     All (λ x. x.looked ≡ Some j → ⊥) ms → Handles read to j k
     → All (λ x. x.handled ≡ Some k → ⊥) ms

@@ -23,7 +23,7 @@ passed_over test read i k j none low high at =
     let d = some_line read j at.within in
     true_and_false (test (get_or read j d).line) (at.holds d) (none j d low high)
 
--- where none comes, none is next
+-- if none comes, none is next
 pub no_next : (test : Line → Bool) (read : List ReadLine) (i : ℕ) → AllWithin (λ x. test x.line ≡ false) read (i + 1) (length read) →
     (j : ℕ) → IsNext test read i j → ⊥
 no_next test read i none j next = passed_over test read (i + 1) (length read) j none (omega (arith, next.behind)) next.at.within next.at

@@ -6,7 +6,7 @@ use Rattle.ipcz_lines.specs.declared.line.parts.Side.{Side}
 use Rattle.ipcz_lines.specs.declared.line.parts.Side.TheVariants as sides
 use Rattle.ipcz_messages.specs.Messages.{is_settle}
 
--- the first settle, or where there is none, the end
+-- the first settle, or, if there is none, the end
 pub record IsFirstSettle (read : List ReadLine) (i : ℕ) : Type 0 where
   pub within : i ≤ length read
   pub before : AllWithin (λ x. is_settle x.line ≡ false) read 0 i

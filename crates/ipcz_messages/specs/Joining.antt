@@ -13,13 +13,13 @@ ComesAt read n before m =
     ⊎ (((from : ℕ) × (to : ℕ) × IsLooked read from to n m × All (λ x. x.looked ≡ Some n → ⊥) before)
     ⊎ ((to : ℕ) × IsHanded read to n m × All (λ x. x.handled ≡ Some n → ⊥) before))
 
--- a line at which none does: no post, and a look or a hand only where it is of one before
+-- a line at which none does: no post, and a look or a hand only if it is of one before
 pub record IsPassed (read : List ReadLine) (n : ℕ) (before : List Message) : Type 0 where
   pub post : (from to : ℕ) → IsAt (is_post from to) read n → ⊥
   pub look : (from to : ℕ) → IsAt (is_look from to) read n → Any (λ x. x.looked ≡ Some n) before
   pub hand : (to : ℕ) → IsAt (is_hand to) read n → Any (λ x. x.handled ≡ Some n) before
 
--- the message that comes into sight at a line, where one does
+-- the message that comes into sight at a line, if one does
 abbrev pub IsFirstSeen : List ReadLine → ℕ → List Message → Option Message → Type 0
 IsFirstSeen read n before (Some m) = ComesAt read n before m
 IsFirstSeen read n before None = IsPassed read n before

@@ -15,7 +15,7 @@ pub record IsOnly (made : List Made) (node line i : ℕ) : Type 0 where
   pub before : AllWithin (λ m. is_of node line m ≡ false) made 0 i
   pub behind : AllWithin (λ m. is_of node line m ≡ false) made (i + 1) (length made)
 
--- the only act of the node before the line, where there is such a one
+-- the only act of the node before the line, if there is such a one
 abbrev pub IsOnlyOf : List Made → ℕ → ℕ → Option ℕ → Type 0
 IsOnlyOf made node line (Some i) = IsOnly made node line i
 IsOnlyOf made node line None = (i : ℕ) → IsOnly made node line i → ⊥

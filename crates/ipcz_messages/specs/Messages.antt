@@ -52,24 +52,24 @@ pub record IsNext (test : Line → Bool) (read : List ReadLine) (i j : ℕ) : Ty
   pub at : IsAt test read j
   pub first : AllWithin (λ x. test x.line ≡ false) read (i + 1) j
 
--- a look takes the message that a post put, where nothing touched the mailbox between
+-- a look takes the message that a post put, if nothing touched the mailbox between
 pub record Takes (read : List ReadLine) (from to i j : ℕ) : Type 0 where
   pub post : IsAt (is_post from to) read i
   pub look : IsAt (is_look from to) read j
   pub next : IsNext (touches_mailbox from to) read i j
 
--- a hand is of what a look took, where nothing touched the node's hand between
+-- a hand is of what a look took, if nothing touched the node's hand between
 pub record Handles (read : List ReadLine) (to j k : ℕ) : Type 0 where
   pub look : IsAt (is_any_look to) read j
   pub hand : IsAt (is_hand to) read k
   pub next : IsNext (touches_hand to) read j k
 
--- the look that takes a post's message, where there is one
+-- the look that takes a post's message, if there is one
 abbrev pub IsLookOf : List ReadLine → ℕ → ℕ → ℕ → Option ℕ → Type 0
 IsLookOf read from to i (Some j) = Takes read from to i j
 IsLookOf read from to i None = (j : ℕ) → Takes read from to i j → ⊥
 
--- the hand of what a look took, where there is one
+-- the hand of what a look took, if there is one
 abbrev pub IsHandOf : List ReadLine → ℕ → ℕ → Option ℕ → Type 0
 IsHandOf read to j (Some k) = Handles read to j k
 IsHandOf read to j None = (k : ℕ) → Handles read to j k → ⊥
@@ -102,7 +102,7 @@ pub record IsHanded (read : List ReadLine) (to k : ℕ) (m : Message) : Type 0 w
   pub handled : m.handled ≡ Some k
   pub hand : IsAt (is_hand to) read k
 
--- a message is known from a post on, or from a look on, or from a hand alone
+-- a message is known from a post on, or from a look on, or only from a hand
 abbrev pub IsMessage : List ReadLine → Message → Type 0
 IsMessage read m =
     ((from : ℕ) × (to : ℕ) × (i : ℕ) × IsPosted read from to i m)

@@ -38,7 +38,7 @@ pub struct Call {
 #[derive(Drop)]
 pub struct Portals<'a> {
     pub opened: Vec<Portal<'a>>,
-    /// How many nodes there are, where that is known.
+    /// How many nodes there are, if that is known.
     pub nodes: Option<u8>,
 }
 
@@ -50,7 +50,7 @@ fn value_count(values: &[u8]) -> usize {
     values.split(|b| *b == b' ').count()
 }
 
-// How many words were taken before a line, where it tells that.
+// How many words were taken before a line, if it tells that.
 fn words_before(line: &Line) -> Option<usize> {
     match line {
         Line::Words(values) => Some(value_count(values)),
@@ -105,7 +105,7 @@ fn is_claim(line: &Line) -> bool {
     )
 }
 
-// Notes the portals that were opened, where the words that were taken before the first line are so many.
+// Notes the portals that were opened, if the words that were taken before the first line are so many.
 fn note_opened<'a>(
     opened: &mut Vec<Portal<'a>>,
     lines: &[ReadLine<'a>],

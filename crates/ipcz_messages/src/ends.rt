@@ -162,7 +162,7 @@ impl Known {
         }
     }
 
-    // Notes the ends of routers of two nodes with the first link of a first pair, where a message was handled before a line;
+    // Notes the ends of routers of two nodes with the first link of a first pair, if a message was handled before a line;
     // side A is on the lower node.
     fn note_message(&mut self, message: &Message, line: usize)
         ensures { vec_len self.new.ends ≡ vec_len self.old.ends }

@@ -20,7 +20,7 @@ use ipcz_lines::{Kind, Link};
 pub use mailbox::is_settle;
 pub use making::messages;
 
-/// A message, with the indices of the lines at which it was made, posted, looked at and handled, and of its routers, where
+/// A message, with the indices of the lines at which it was made, posted, looked at and handled, and of its routers, if
 /// they are known.
 #[derive(Clone, Copy)]
 pub struct Message<'a> {

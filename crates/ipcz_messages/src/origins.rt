@@ -46,7 +46,7 @@ fn origin_of(portals: &Portals, end: End) -> Option<usize> {
     }
 }
 
-// Notes since when a router stands that an end began with, where it is known to be that one.
+// Notes since when a router stands that an end began with, if it is known to be that one.
 fn note_origin(router: &mut Router, moves: &[Move], portals: &Portals, end: End) {
     let Some(origin) = origin_of(portals, end) else {
         return;

@@ -128,7 +128,7 @@ impl Router {
     }
 }
 
-// Notes that the router of an index is in sight at a line, where both are known.
+// Notes that the router of an index is in sight at a line, if both are known.
 fn see_at(routers: &mut [Router], router: Option<usize>, line: Option<usize>) {
     if let (Some(router), Some(line)) = (router, line) {
         if let Some(router) = routers.get_mut(router) {

@@ -360,7 +360,7 @@ fn is_handled_behind_the_settle(message: &Message) -> bool {
         && message.unfit
 }
 
-// The messages of a transcript, where no router is known.
+// The messages of a transcript, if no router is known.
 fn messages_alone<'a>(alloc: Global, transcript: &'a [u8]) -> Option<Vec<Message<'a>>> {
     let lines = read(alloc, transcript).ok()?;
     messages(alloc, &lines, &[]).ok()

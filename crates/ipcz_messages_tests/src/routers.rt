@@ -114,7 +114,7 @@ fn routers_begin_where_their_ends_began(rt: HostRuntime) {
     assert_eq!(rt; first_begun_elsewhere(rt.alloc()), None);
 }
 
-// A router by its node and its serial, and the end that it serves, where that is told.
+// A router by its node and its serial, and the end that it serves, if that is told.
 type Served = (u8, u64, Option<End>);
 
 const A0: Option<End> = Some(End {

@@ -143,7 +143,7 @@ pub struct Told<'a> {
     pub messages: Vec<Message<'a>>,
 }
 
-/// What a transcript tells, where it is read.
+/// What a transcript tells, if it is read.
 pub fn told_by<'a>(alloc: Global, transcript: &'a [u8]) -> Option<Told<'a>> {
     let lines = read(alloc, transcript).ok()?;
     let routers = routers(alloc, &lines).ok()?;

@@ -39,7 +39,7 @@ use Rattle.ipcz_seq.specs.Queue.{Queue, has_place, item_at, push_refusal}
 use Rattle.ipcz_node.specs.Telling.{is_lone}
 use Rattle.ipcz_node.proofs.Preparing.{serials_there}
 
--- a send is taken where it is possible
+-- a send is taken if it is possible
 pub may_send : (r : Router) → may_take r acts.SendOut ≡ true → is_possible r acts.SendOut ≡ true
 unfolding is_rest
 may_send r h = go (is_possible r acts.SendOut) h
@@ -139,7 +139,7 @@ and_false : (b : Bool) → (b && false) ≡ false
 and_false true = refl
 and_false false = refl
 
--- an item that comes without ends and moves fits where it has its place
+-- an item that comes without ends and moves fits if it has its place
 fits_alone : (n : Node) (sender : ℕ) (item : Item) (moves : List Descriptor) → ends_in item ≡ [] → moves ≡ [] →
     fits_from n sender item moves ≡ true
 fits_alone n sender item moves ends none = go (nat_eq sender n.number)
@@ -201,7 +201,7 @@ takes_none n sender link side number item moves source h none =
     ∙ ap (λ b. fits n sender (messages.Item link side number item moves) source && b) (ap not (enough n.next_router h))
     ∙ and_false (fits n sender (messages.Item link side number item moves) source)
 
--- a queue is out of memory exactly where a push has its place
+-- a queue is out of memory exactly if a push has its place
 not_before : (n m : ℕ) → nat_le m n ≡ not (nat_lt n m)
 not_before n m = grind (arith, nat_tests)
 
@@ -234,7 +234,7 @@ no_place q n h = place_is q n ∙ other_is_not (nat_lt n q.current) (is_some (it
 below_last : (n : ℕ) → n < no_number → nat_lt n no_number ≡ true
 below_last n h = grind (arith, nat_tests)
 
--- a router is out of memory for an item exactly where that has its place
+-- a router is out of memory for an item exactly if that has its place
 pub place_wanted : (r : Router) (link : LinkId) (side : Side) (n : ℕ) → n < no_number →
     accept_refusal r link side n ≡ refusals.OutOfMemory → has_place_for r (outward_has r link side) n ≡ true
 place_wanted r link side n low h =
@@ -259,7 +259,7 @@ place_refused r link side n has h = go (nat_lt n no_number) (outward_has r link 
     go true false true some is = no_place r.out_queue n is
     go true false false some is = absurd (true≢false (sym some))
 
--- an item that comes without ends and moves is taken exactly where it has its place
+-- an item that comes without ends and moves is taken exactly if it has its place
 lone : (moves : List Descriptor) (item : Item) → moves ≡ [] → ends_in item ≡ [] →
     (nat_eq (length moves) 0 && nat_eq (length (ends_in item)) 0) ≡ true
 lone moves item none ends = ap (λ ds. nat_eq (length ds) 0 && nat_eq (length (ends_in item)) 0) none ∙ ap (λ es. nat_eq (length es) 0) ends
@@ -273,7 +273,7 @@ lone_fits n sender link side number item moves source s r here place ends none =
     ap (λ b. b && fits n sender (messages.Item link side number item moves) source) (lone moves item none ends)
     ∙ placed_alone n sender link side number item moves source s r here place ends none
 
--- not where it isn't one, or its number is none
+-- not if it isn't one, or its number is none
 pub not_lone : (n : Node) (sender : ℕ) (link : LinkId) (side : Side) (number : ℕ) (item : Item) (moves : List Descriptor)
     (source : Option ℕ) → (nat_lt number no_number && (nat_eq (length moves) 0 && nat_eq (length (ends_in item)) 0)) ≡ false →
     false ≡ (is_lone (messages.Item link side number item moves) && fits n sender (messages.Item link side number item moves) source)
@@ -293,7 +293,7 @@ not_lone n sender link side number item moves source not_one = go (link_router n
         (if outward_has f.router link side then has_place f.router.in_queue number else has_place f.router.out_queue number)
         (fits_from n sender item moves) not_one
 
--- nor where no router is there, or it has no place
+-- nor if no router is there, or it has no place
 pub lone_without_router : (n : Node) (sender : ℕ) (link : LinkId) (side : Side) (number : ℕ) (item : Item) (moves : List Descriptor)
     (source : Option ℕ) → link_router n link side ≡ None →
     false ≡ (is_lone (messages.Item link side number item moves) && fits n sender (messages.Item link side number item moves) source)

@@ -39,7 +39,7 @@ mail_waits n seen to is =
     (and_parts (has_mail_for n to) (place_at false seen.empty to)
     (first_number-tells (λ i. has_mail_for n i && place_at false seen.empty i) 0 n.count to is).1).0
 
--- where a bypass can begin, the lock can be given back in its place
+-- if a bypass can begin, the lock can be given back in its place
 pub unlock_may : (r : Router) → may_take r acts.Begin ≡ true → may_take r acts.Unlock ≡ true
 unfolding is_possible is_rest
 unlock_may r h = in_place (can_begin r) (can_retire r) (is_rest (next_act r)) h
@@ -48,7 +48,7 @@ unlock_may r h = in_place (can_begin r) (can_retire r) (is_rest (next_act r)) h
     in_place true b c e = refl
     in_place false b c e = cc
 
--- and where a sink can retire
+-- and if a sink can retire
 pub retire_may : (r : Router) → may_take r acts.Retire ≡ true → may_take r acts.Unlock ≡ true
 unfolding is_possible is_rest
 retire_may r h = in_place (can_begin r) (can_retire r) (is_rest (next_act r)) h
@@ -57,7 +57,7 @@ retire_may r h = in_place (can_begin r) (can_retire r) (is_rest (next_act r)) h
     in_place true b c e = refl
     in_place false b c e = e
 
--- where mail waits, there is a first message
+-- if mail waits, there is a first message
 pub mail_is_first : (n : Node) (to : ℕ) → has_mail_for n to ≡ true → is_some (first_of (outbox n to)) ≡ true
 unfolding first_of
 mail_is_first n to has = go (outbox n to) has

@@ -39,7 +39,7 @@ pub first_row : (count : ℕ) → 0 < count → first_pairs count ≡ pairs_from
 first_row zero some = absurd (omega (arith, some))
 first_row (suc count) some = ap (λ k. pairs_from 0 1 k ++ first_pairs_from (0 + 1) k) (before count)
 
--- a pair takes a serial where it is the node's own, and those after it have the rest
+-- a pair takes a serial if it is the node's own, and those after it have the rest
 pub next_serials : (n : Node) (pair i j left rows : ℕ) → 0 < left → i < j → j + left ≡ i + 1 + rows → HasSerials n i j left rows →
     HasSerials (add_pair n pair (i, j)) i (j + 1) (left - 1) rows
 next_serials n pair i j left rows some under whole has = go (nat_eq i n.number) (nat_eq j n.number) refl refl

@@ -1,4 +1,4 @@
--- What grows by an act: nothing where it sends into an empty outbox and moves no ends, and nothing where it leaves none to be closed.
+-- What grows by an act: nothing if it sends into an empty outbox and moves no ends, and nothing if it leaves none to be closed.
 use Rattle.std.proofs.Common.{◌≡◌, ℕ, suc, Bool, true, false, true≢false, not, ◌||◌, nat_eq, Option, Some, None, List, [], ◌∷◌, length, refl, sym, ap, ◌∙◌, arith}
 use Rattle.std.proofs.lemmas.Bool.Decides.{nat_tests}
 use Rattle.ipcz_base.specs.declared.message.Message.{Message}
@@ -42,7 +42,7 @@ pub closes_none : (n : Node) (ends : ℕ) → outlook_grows n (outlooks.Closing 
 unfolding outlook_grows
 closes_none n ends h = no_more ends h
 
--- where nothing grows, no serial is taken
+-- if nothing grows, no serial is taken
 pub takes_none : (n : Node) (o : Outlook) → outlook_grows n o ≡ false → serials_as n o ≡ 0
 takes_none n (outlooks.Item to ends) h = (item_alone n to ends h).1
 takes_none n other h = refl

@@ -17,7 +17,7 @@ use Rattle.ipcz_node.specs.Hearing.{is_news, is_dropped, HasRoomToHear}
 use Rattle.ipcz_node.proofs.AtRouter.{taken}
 use Rattle.ipcz_node.proofs.Telling.{room_to_stop, room_to_will_stop}
 
--- the router that a message asks for, where the serial is found by the message's own link and side
+-- the router that a message asks for, if the serial is found by the message's own link and side
 pub asked : (n : Node) (m : Message) (link : LinkId) (side : Side) (s : ℕ) → link ≡ link_asked m → side ≡ side_asked m →
     IsSomeAnd (router_in n s) (λ r. link_router n link side ≡ Some (found s r)) →
     (r : Router) × (router_in n s ≡ Some r) × (link_router n (link_asked m) (side_asked m) ≡ Some (found s r))
@@ -59,7 +59,7 @@ unfolding passes_at
 passes_none o test none = ap (λ x. passes_at x test) none
 
 module _ (n : Node) (sender : ℕ) (s : ℕ) (r : Router) where
-  -- where a router has the link that is asked for, the message fits that it hears and that brings news
+  -- if a router has the link that is asked for, the message fits that it hears and that brings news
   pub found_fits : (m : Message) (source : Option ℕ) → link_router n (link_asked m) (side_asked m) ≡ Some (found s r) →
       brings_item m ≡ false → fits n sender m source ≡ (hears r sender m source && is_news n r m)
   unfolding link_asked side_asked fits hears is_news brings_item
@@ -79,7 +79,7 @@ module _ (n : Node) (sender : ℕ) (s : ℕ) (r : Router) where
   found_handled (messages.Item link side number item moves) here other = absurd (true≢false other)
   found_handled any here other = on_some n _ s r _ here
 
--- where no router has the link, only a Flush fits
+-- if no router has the link, only a Flush fits
 pub lost_fits : (n : Node) (sender : ℕ) (m : Message) (source : Option ℕ) → link_router n (link_asked m) (side_asked m) ≡ None →
     brings_item m ≡ false → fits n sender m source ≡ is_dropped m
 unfolding link_asked side_asked fits is_dropped brings_item

@@ -111,7 +111,7 @@ brought_inside r true n item h =
     new ∙ ap (λ b. ends_inside r + (if b then length (ends_in item) else 0)) (sym h)
 brought_inside r false n item h = omega arith
 
--- how many ends an item brings, where there is one
+-- how many ends an item brings, if there is one
 abbrev weight_of : Option Item → ℕ
 weight_of None = 0
 weight_of (Some item) = length (ends_in item)
@@ -137,7 +137,7 @@ unfolding ends_given discard_output
 discarded_weight n None = omega arith
 discarded_weight n (Some item) = omega arith
 
--- an act takes the ends of its item out, where the item is of the in queue
+-- an act takes the ends of its item out, if the item is of the in queue
 pub act_inside : (r : Router) (act : RouterAct) (answer : Answer) →
     ends_inside (apply r act answer) + ends_taken act (output_of r act) ≤ ends_inside r
 unfolding apply output_of takes_inside
@@ -183,7 +183,7 @@ act_inside r Retire a = omega arith
 act_inside r Unlock a = omega arith
 act_inside r Rest a = omega arith
 
--- where ends are to come, only memory is wanted
+-- if ends are to come, only memory is wanted
 pub brought_refusal : (r : Router) (link : LinkId) (side : Side) (n : ℕ) (item : Item) →
     0 < ends_brought r (outward_has r link side) n item → OutOfMemory ≡ accept_refusal r link side n
 brought_refusal r link side n item some = go (outward_has r link side) some

@@ -1,4 +1,4 @@
--- Two places are one only where link and side are.
+-- Two places are one only if link and side are.
 use Rattle.std.proofs.Common.{◌≡◌, ◌&&◌, Bool, true, false, refl, ap₂, ◌∙◌}
 use Rattle.std.specs.Prelude.{nat_eq}
 use Rattle.std.specs.Ordering.{is_eq, nat_cmp}

@@ -1,4 +1,4 @@
--- In how many outboxes messages wait: what a change of one does to it, and what it is where none do.
+-- In how many outboxes messages wait: what a change of one does to it, and what it is if none do.
 use Rattle.std.proofs.Common.{◌≡◌, ◌<◌, ◌≤◌, ◌+◌, ℕ, zero, suc, Bool, true, false, not, ◌&&◌, nat_eq, List, [], ◌∷◌, ◌++◌, length, replicate, refl, ap, arith}
 use Rattle.std.proofs.Common.{map, get_or, slice_set}
 use Rattle.std.proofs.lemmas.List.{length-map}
@@ -54,7 +54,7 @@ waiting_tells (b ∷ boxes) = go (nat_eq (length b) 0) (waiting_tells boxes)
     go true h = grind (arith, h)
     go false h = grind (arith, nat_tests)
 
--- where no message waits, none does for any destination
+-- if no message waits, none does for any destination
 pub empty_box : (boxes : List (List Message)) (to : ℕ) → are_empty boxes ≡ true → place_at [] boxes to ≡ []
 unfolding place_at
 empty_box [] to h = refl

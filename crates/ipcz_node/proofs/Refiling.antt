@@ -80,7 +80,7 @@ there false false false false = refl
 abbrev any : Bool → Bool → Bool → Bool → Bool
 any a b c d = (a || b) || (c || d)
 
--- the four links of one filing leave where the other has them not, and the four of that come
+-- the four links of one filing leave if the other has them not, and the four of that come
 pub relinked : (is was same b1 b2 b3 b4 a1 a2 a3 a4 old : Bool) → any a1 a2 a3 a4 ≡ is → any b1 b2 b3 b4 ≡ was → (same ≡ true → old ≡ was)
     → more_one was same a4
     (more_one was same a3

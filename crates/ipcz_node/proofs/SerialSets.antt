@@ -14,7 +14,7 @@ use Rattle.ipcz_node.proofs.SortedSets.{has_inserted, has_present, has_at_place,
 not_below : (n m : ℕ) → is_lt (nat_cmp n m) ≡ false → m ≤ n
 not_below n m h = grind (arith, nat_tests)
 
--- a serial that is added is there, beside those that were
+-- a serial that is added is there, and so are those that were
 pub added : (ys : List ℕ) (i v s : ℕ) → has nat_cmp (insert ys i v) s ≡ (v == s || has nat_cmp ys s)
 added ys i v s = has_inserted nat_cmp_total ys i v s ∙ ap (λ b. b || has nat_cmp ys s) (number_ties v s)
 
@@ -43,7 +43,7 @@ above_last ys n last v count read above d some =
     let less : last < v = grind (arith, nat_tests, above) in
     rw same (sym (nat_cmp_is last v Less less))
 
--- what is told as the first is the least, and none is where there is none
+-- what is told as the first is the least, and none is if there is none
 pub least_of : (ys : List ℕ) (r : Option ℕ) → IfSome r (λ x. has nat_cmp ys x ≡ true) → IfSome r (λ x. (s : ℕ) → has nat_cmp ys s ≡ true → x ≤ s)
     → IfNone r (ys ≡ []) → IsLeast (has nat_cmp ys) r
 least_of ys (Some x) there least none = (there, least)

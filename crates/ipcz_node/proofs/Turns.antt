@@ -5,7 +5,7 @@ use native.Mathlib.Numerals.{unary_clauses}
 use Rattle.ipcz_base.specs.Indexed.{place_at}
 use Rattle.ipcz_node.specs.Acts.{first_number}
 
--- where some numbers are left, the search looks at the first of them
+-- if some numbers are left, the search looks at the first of them
 pub first_step : (test : ℕ → Bool) (from left : ℕ) → 0 < left →
     first_number test from left ≡ (if test from then Some from else first_number test (from + 1) (left - 1))
 first_step test from zero some = absurd (omega (arith, some))

@@ -32,7 +32,7 @@ insert_twice {V} m k v z = same_map nat_cmp_total nat_cmp-IsAntisymmetric _ _ (�
 pub insert_here : {V : Type 0} (m : FinMap nat_cmp V) (k : ℕ) (v : V) → get (insert m k v) k ≡ Some v
 insert_here m k v = get-insert nat_cmp_total m k v k ∙ rw (tied k k refl) refl
 
--- a queue that had room has it still, where one of them got more
+-- a queue that had room has it still, if one of them got more
 pub room_kept : (rooms : FinMap nat_cmp ℕ) (k was is : ℕ) → get rooms k ≡ Some was → (0 < was → 0 < is) → (q : ℕ) →
     HasQueueRoom rooms q → HasQueueRoom (insert rooms k is) q
 room_kept rooms k was is here more q has = subst HasRoom (sym (get-insert nat_cmp_total rooms k is q)) cases

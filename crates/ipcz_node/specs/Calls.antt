@@ -74,12 +74,12 @@ put_number n at = number_at (terminal_of n at) next_number
 unfoldable pub get_refusal : Node → End → Option Refusal
 get_refusal n at = if not (holds_end n at) then Some Stranger else refusal_at (terminal_of n at) router_get_refusal
 
--- the ends in an item, where there is one
+-- the ends in an item, if there is one
 unfoldable pub ends_found : Option Item → List End
 ends_found None = []
 ends_found (Some item) = ends_in item
 
--- the number and the parcel of an item, where there is one and it is a parcel
+-- the number and the parcel of an item, if there is one and it is a parcel
 unfoldable pub item_got : ℕ → Option Item → Option (ℕ × parcels.Parcel)
 item_got number None = None
 item_got number (Some (Parcel p)) = Some (number, p)
@@ -99,7 +99,7 @@ got_at_found (Some f) = got_from f.router
 abbrev pub got_at : Node → End → Option (ℕ × parcels.Parcel)
 got_at n at = got_at_found (terminal_of n at)
 
--- the sizes of what a get gives; none where it is refused
+-- the sizes of what a get gives; none if it is refused
 abbrev pub next_sizes : Node → End → Option Sizes
 next_sizes n at = if holds_end n at then option_map (λ g. sizes_of g.1) (got_at n at) else None
 

@@ -9,7 +9,7 @@ use Rattle.ipcz_node.specs.RoomyNodes.{RoomyNode}
 use Rattle.ipcz_node.specs.Telling.{HasRoomFor}
 
 -- a node took a message from a sender, and is as it is then, or the message is handed back and the node is as it was: only for want of
--- serials, or where there was no room for what the message makes grow
+-- serials, or if there was no room for what the message makes grow
 pub record IsDelivered {A : Type 0} (old : RoomyNode) (sender : ℕ) (m : Message) (source : Option ℕ) (after : Node)
     (result : Result A (Refusal × Message)) (new : RoomyNode) : Type 0 where
   pub ok : OnOk result (new.node ≡ after)
@@ -20,7 +20,7 @@ pub record IsDelivered {A : Type 0} (old : RoomyNode) (sender : ℕ) (m : Messag
   pub stray : fits old.node sender m source ≡ false → 0 < old.room.strays → IsOk result
   pub err : IfErr result (λ e. (e.1 ≡ m) × (new.node ≡ old.node))
 
--- the same of a message that lies where its owner keeps it: it is left as it is where it is refused, and counts for nothing where it is taken
+-- the same of a message that lies where its owner keeps it: it is left as it is if it is refused, and counts for nothing if it is taken
 pub record IsDeliveredInPlace {A : Type 0} (old : RoomyNode) (sender : ℕ) (m left : Message) (source : Option ℕ) (after : Node)
     (result : Result A Refusal) (new : RoomyNode) : Type 0 where
   pub ok : OnOk result (new.node ≡ after)

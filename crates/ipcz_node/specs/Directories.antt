@@ -58,7 +58,7 @@ pub record CanHold (m : FinMap nat_cmp Router) (ends more in_held : ℕ) : Type 
   pub counted : total (λ serial r. ends_inside r) m ≤ ends
   pub room : ends + more ≤ in_held
 
--- how many ends come into the in queue with an item, where it comes from outward and has its place
+-- how many ends come into the in queue with an item, if it comes from outward and has its place
 abbrev pub ends_brought : Router → Bool → ℕ → Item → ℕ
 ends_brought r from_outward n item = if from_outward && has_place_for r from_outward n then length (ends_in item) else 0
 
@@ -68,7 +68,7 @@ takes_inside SendIn = true
 takes_inside Discard = true
 takes_inside other = false
 
--- whether an act keeps the links of its router, so that its flag alone is to be filed anew
+-- whether an act keeps the links of its router, so that only its flag is to be filed anew
 unfoldable pub keeps_links : RouterAct → Bool
 keeps_links FinishOut = false
 keeps_links FinishIn = false

@@ -40,7 +40,7 @@ kind_of (messages.Flush link side) = kinds.Flush
 unfoldable pub hand_event : Node → ℕ → Message → Option ℕ → Happened
 hand_event n sender m source = events.Hand (kind_of m) (link_asked m) (is_unfit n sender m source)
 
--- the link of a link end, or where there is none the link of word 0, which is then never asked for
+-- the link of a link end, or, if there is none, the link of word 0, which is then never asked for
 unfoldable pub link_of : Option LinkEnd → LinkId
 link_of None = Central 0
 link_of (Some e) = e.link
@@ -98,7 +98,7 @@ event_of n (Close end) answer = events.Close end
 event_of n (OfRouter serial act) answer = event_at n serial (router_in n serial) act answer
 event_of n Idle answer = events.Idle
 
--- the link that an act of a router is about, where it is about one
+-- the link that an act of a router is about, if it is about one
 unfoldable pub link_acted : Router → RouterAct → LinkId
 link_acted r acts.FinishOut = link_of r.outward.decaying
 link_acted r acts.FinishIn = link_of (inward_edge r).decaying

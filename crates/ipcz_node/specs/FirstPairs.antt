@@ -23,7 +23,7 @@ first_pairs count = first_pairs_from 0 count
 abbrev pub first_pair_count : ℕ → ℕ
 first_pair_count count = length (first_pairs count)
 
--- the node with its end of a pair of nodes, where it has one
+-- the node with its end of a pair of nodes, if it has one
 abbrev pub add_pair : Node → ℕ → ℕ × ℕ → Node
 add_pair n pair p = if nat_eq p.0 n.number then add_end n pair A p.1 else if nat_eq p.1 n.number then add_end n pair B p.0 else n
 

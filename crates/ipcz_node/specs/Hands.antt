@@ -98,7 +98,7 @@ abbrev pub take_in : Node → ℕ → LinkId → Side → ℕ → Item → List 
 take_in n sender link side number item moves serial r =
     make_terminals (with_router n serial (accept r (outward_has r link side) number item)) sender moves
 
--- the node with a message more to send, where there is one
+-- the node with a message more to send, if there is one
 unfoldable pub tell : Node → Option Sending → Node
 tell n None = n
 tell n (Some s) = push_out n s.to s.message
@@ -149,11 +149,11 @@ unfoldable pub is_hand_of : Option ℕ → ℕ → Bool
 is_hand_of None sender = false
 is_hand_of (Some s) sender = nat_eq s sender
 
--- the node with an empty hand, where the message in hand was of this sender
+-- the node with an empty hand, if the message in hand was of this sender
 abbrev pub free_hand : Node → ℕ → Node
 free_hand n sender = record n { hand = if is_hand_of n.hand sender then None else n.hand }
 
--- the node after a message from a node: handled, or kept whole where it doesn't fit
+-- the node after a message from a node: handled, or kept whole if it doesn't fit
 unfoldable pub deliver : Node → ℕ → Message → Option ℕ → Node
 deliver n sender m source = free_hand (if fits n sender m source then handle n sender m else add_stray n m) sender
 

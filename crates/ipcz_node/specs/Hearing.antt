@@ -15,7 +15,7 @@ is_news n r (messages.BypassPeer link side old target fresh) = nat_lt target n.c
 is_news n r (messages.AcceptBypass old side fresh length) = not (is_named n (Central fresh) side)
 is_news n r other = true
 
--- whether a message is dropped where no router here has the link that it asks for
+-- whether a message is dropped if no router here has the link that it asks for
 unfoldable pub is_dropped : Message → Bool
 is_dropped (messages.Flush link side) = true
 is_dropped other = false

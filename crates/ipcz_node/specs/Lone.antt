@@ -12,7 +12,7 @@ use Rattle.ipcz_router.specs.Lone.{last_link, TakesLast}
 use Rattle.ipcz_node.specs.Node.{Node, found, outbox_count, link_router, router_in, with_router}
 use Rattle.ipcz_node.specs.Acts.{are_empty}
 
--- of the routers, that of the serial alone is flagged, and it has only to send its last item over a link
+-- of the routers, only that of the serial is flagged, and it has only to send its last item over a link
 pub record IsOnlySender (routers : FinMap nat_cmp Router) (serial : ℕ) (link : LinkEnd) : Type 0 where
   pub router : Router
   pub here : get routers serial ≡ Some router

@@ -45,7 +45,7 @@ pub record Node : Type 0 where
 abbrev pub router_in : Node → ℕ → Option Router
 router_in n serial = get n.routers serial
 
--- the word of a router's outward primary link with the side of its end, where there is such a router and such a word
+-- the word of a router's outward primary link with the side of its end, if there is such a router and such a word
 abbrev pub word_at : Option Router → Option (ℕ × Side)
 word_at None = None
 word_at (Some r) = router_word_side r
@@ -54,7 +54,7 @@ word_at (Some r) = router_word_side r
 abbrev pub word_side : Node → ℕ → Option (ℕ × Side)
 word_side n serial = word_at (router_in n serial)
 
--- the node inward of a router, where there is such a router and it is a proxy
+-- the node inward of a router, if there is such a router and it is a proxy
 abbrev pub source_at : Option Router → Option ℕ
 source_at None = None
 source_at (Some r) = source_of r

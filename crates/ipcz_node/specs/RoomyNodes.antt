@@ -64,7 +64,7 @@ pub record OutboxValue : Type 0 where
   pub messages : List Message
   pub room : ℕ
 
--- the room of an outbox's first place: for one message, where it has none and was made ready
+-- the room of an outbox's first place: for one message, if it has none and was made ready
 unfoldable pub first_room : Option Message → Bool → ℕ
 first_room None ready = if ready then 1 else 0
 first_room (Some m) ready = 0
@@ -117,8 +117,7 @@ IsReadyFor k (acts.Close end) = IfSome (terminal_of k.node end) (λ f. IsSomeAnd
 IsReadyFor k other = Unit {0}
 
 -- an act can be done: what is to be handled is in hand, the hand is empty for a look, mail waits for the node that is posted to, the end
--- that
--- is to be closed is the first pending one, and a router that is to act is there and may take the act
+-- that is to be closed is the first pending one, and a router that is to act is there and may take the act
 abbrev pub IsPossibleAct : Node → Act → Type 0
 IsPossibleAct n (acts.Hand sender) = n.hand ≡ Some sender
 IsPossibleAct n (acts.Look sender) = n.hand ≡ None
@@ -131,6 +130,6 @@ IsPossibleAct n acts.Idle = Unit {0}
 abbrev pub CanOpen : RoomyNode → Type 0
 CanOpen k = (2 ≤ k.room.routers) × (k.node.next_router + 2 ≤ no_number)
 
--- the terminal of an end, where there is one, takes an item more without memory
+-- the terminal of an end, if there is one, takes an item more without memory
 abbrev pub TakesMore : RoomyNode → End → Type 0
 TakesMore k at = IfSome (terminal_of k.node at) (λ f. HasQueueRoom k.room.out_rooms f.serial)

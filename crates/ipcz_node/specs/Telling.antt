@@ -16,11 +16,11 @@ use Rattle.ipcz_node.specs.Rooms.{HasQueueRoom, rooms_for}
 use Rattle.ipcz_node.specs.RoomyNodes.{RoomyNode}
 use Rattle.ipcz_node.specs.Directories.{ends_brought}
 
--- there is room for a message, where there is one
+-- there is room for a message, if there is one
 abbrev pub HasRoomToTell : RoomyNode → Option Sending → Type 0
 HasRoomToTell k sending = IfSome sending (λ s. 0 < place_at 0 k.room.outboxes s.to)
 
--- there is room for a message toward the node of a link end, where there is one
+-- there is room for a message toward the node of a link end, if there is one
 abbrev pub HasRoomToward : RoomyNode → Option LinkEnd → Type 0
 HasRoomToward k end = IfSome end (λ e. 0 < place_at 0 k.room.outboxes e.other)
 

@@ -137,7 +137,7 @@ impl Directory {
         self.routers.len()
     }
 
-    /// Makes room for so many routers and so many links of others more. It asks for none where there is room for both, and no
+    /// Makes room for so many routers and so many links of others more. It asks for none if there is room for both, and no
     /// room that was made is given up.
     pub fn reserve(&mut self, routers: usize, links: usize) -> Result<(), AllocError>
         ensures room { OnOk result (routers ≤ self.new.filed.room) }
@@ -361,7 +361,7 @@ impl Directory {
         }
     }
 
-    // An act that keeps the links of its router: its flag alone is to be filed.
+    // An act that keeps the links of its router: only its flag is to be filed.
     fn act_in_place(&mut self, serial: u64, act: RouterAct, answer: Answer) -> Applied
         requires keeps { keeps_links act ≡ true }
         requires possible { IsSomeAnd (get self.old.filed.routers serial) (λ r. may_take r act ≡ true) }

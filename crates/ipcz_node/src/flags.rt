@@ -107,7 +107,7 @@ impl Flags {
         self.lowest
     }
 
-    /// The only serial, where there is no other.
+    /// The only serial, if there is no other.
     #[inline(always)]
     pub fn only(&self) -> Option<u64>
         ensures member { IfSome result (λ serial. has nat_cmp self.now.members serial ≡ true) }

@@ -62,7 +62,7 @@ pub enum Happened {
     Idle,
 }
 
-// The link of a link end, or that of word 0 where there is none, which is then never asked for.
+// The link of a link end, or that of word 0 if there is none, which is then never asked for.
 #[tactic(auto, unfolding(crate::specs::Events::link_of))]
 pub(crate) fn link_of(end: Option<LinkEnd>) -> LinkId
     ensures { result ≡ link_of end }

@@ -102,7 +102,7 @@ impl Outbox {
         }
     }
 
-    /// Takes the first message out, where there is one. What is left empty gives its room back.
+    /// Takes the first message out, if there is one. What is left empty gives its room back.
     #[tactic(auto, unfolding(crate::specs::Acts::first_of, crate::specs::Acts::rest_of))]
     pub fn pop(&mut self, alloc: Global) -> Option<Message>
         ensures messages { self.new.messages ≡ rest_of self.old.messages }

@@ -46,7 +46,7 @@ impl Outboxes {
         Ok(Outboxes { queues, waiting: 0 })
     }
 
-    /// Makes room for a message more to a node. Where none waits for it yet, it takes no memory.
+    /// Makes room for a message more to a node. If none waits for it yet, it takes no memory.
     pub fn reserve(&mut self, to: u8) -> Result<(), AllocError>
         ensures ok { OnOk result (0 < place_at 0 self.new.room to) }
         ensures messages { self.new.messages ≡ self.old.messages }
@@ -96,7 +96,7 @@ impl Outboxes {
         self.waiting == 0
     }
 
-    /// Takes the first message for a node out, where there is one. What is left empty gives its room back.
+    /// Takes the first message for a node out, if there is one. What is left empty gives its room back.
     pub fn pop(&mut self, alloc: Global, to: u8) -> Option<Message>
         ensures messages { self.new.messages ≡ put_place [] self.old.messages to (rest_of (place_at [] self.old.messages to)) }
         ensures message { result ≡ first_of (place_at [] self.old.messages to) }

@@ -80,7 +80,7 @@ impl SerialRing {
         }
     }
 
-    /// Takes the lowest serial out, where there is one.
+    /// Takes the lowest serial out, if there is one.
     #[inline(always)]
     pub fn take_first(&mut self) -> Option<u64>
         ensures member { IfSome result (λ serial. has nat_cmp self.old.members serial ≡ true) }

@@ -100,7 +100,7 @@ impl NodeState {
         self.count
     }
 
-    /// The sender of the message in hand, where there is one.
+    /// The sender of the message in hand, if there is one.
     pub fn hand(&self) -> Option<u8>
         ensures { result ≡ self.now.node.hand }
     {

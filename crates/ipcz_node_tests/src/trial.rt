@@ -92,10 +92,10 @@ enum Step {
     /// Delivers a message from a node, which is the source that the old link's word names; whether it
     /// fits.
     Deliver(u8, Letter, bool),
-    /// Delivers a message where the old link's word names this source; from which node, and whether
+    /// Delivers a message, while the old link's word names this source; from which node, and whether
     /// it fits.
     DeliverWhere(Option<u8>, u8, Letter, bool),
-    /// Delivers the message that was posted last to the node itself, where it fits.
+    /// Delivers the message that was posted last to the node itself, if it fits.
     Return,
     /// Asks for the room of a pair, which is refused.
     OpenRefused(Refusal),
@@ -146,7 +146,7 @@ fn is_got(got: Result<(u64, Parcel), Refusal>, number: u64, bytes: &[u8], ends: 
     }
 }
 
-// Whether a message fitted, where it was delivered.
+// Whether a message fitted, if it was delivered.
 fn fitted(answer: Result<Happened, (Refusal, Message)>) -> Option<bool> {
     match answer {
         Ok(Happened::Hand { unfit, .. }) => Some(!unfit),
@@ -154,7 +154,7 @@ fn fitted(answer: Result<Happened, (Refusal, Message)>) -> Option<bool> {
     }
 }
 
-// Why a message was refused, where it was handed back.
+// Why a message was refused, if it was handed back.
 fn handed_back(answer: Result<Happened, (Refusal, Message)>, letter: &Letter) -> Option<Refusal> {
     match answer {
         Err((why, back)) => { if letter.is(&back) { Some(why) } else { None } }
@@ -195,7 +195,7 @@ impl Trial {
         first.pair == word && first.side == Side::A && second == first.opposite()
     }
 
-    // Puts a parcel; its number, or why it is refused, where both lists are handed back then.
+    // Puts a parcel; its number, or why it is refused, and both lists are handed back then.
     fn put(
         &mut self,
         profile: Profile,
@@ -231,7 +231,7 @@ impl Trial {
         is_got(self.node.get(at), number, bytes, ends)
     }
 
-    // Delivers a message where the word of an old link names this source; whether it fitted, where it
+    // Delivers a message, while the word of an old link names this source; whether it fitted, if it
     // was delivered.
     fn deliver(&mut self, from: u8, message: Message, source: Option<u8>) -> Option<bool> {
         if from >= self.node.count() {
@@ -307,7 +307,7 @@ impl Trial {
         }
     }
 
-    // Why a message that is made is refused, where it is handed back then.
+    // Why a message that is made is refused; it is handed back then.
     fn deliver_refusal(&mut self, from: u8, letter: &Letter) -> Option<Refusal> {
         let message = letter.message(self.alloc).ok()?;
         if from >= self.node.count() {

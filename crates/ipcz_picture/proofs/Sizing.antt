@@ -46,7 +46,7 @@ words_in : (values : List ℕ) → length values ≤ length (and_more (codes "wo
 words_in [] = omega arith
 words_in (b ∷ bs) = omega (arith, length-append (codes "words") (32 ∷ b ∷ bs))
 
--- the marks of a line are bounded by its text
+-- the signs of a line are bounded by its text
 marks_in : (text : List ℕ) (line : Line) → IsLine text line → most_marks line ≤ 3000 + 1890 * length text
 marks_in text (lines.Words values) h = omega (arith, words_in values.now, ap length h.spelled)
 marks_in text other h = omega arith

@@ -12,7 +12,7 @@ abbrev pub settle_note : Line → List ℕ
 settle_note lines.Unsettled = codes "unsettled: the limit came first; the turns up to here are not in the transcript"
 settle_note other = codes "settled: the turns up to here are not in the transcript"
 
--- the node that may answer the link whose word has this value: one less than what stands in the value's places from 256 up, where that
+-- the node that may answer the link whose word has this value: one less than what stands in the value's places from 256 up, if that
 -- isn't 0
 abbrev pub IsSource : ℕ → Option ℕ → Type 0
 IsSource value (Some node) = (low : ℕ) × (low < 256) × (value ≡ 256 * (node + 1) + low)
@@ -42,7 +42,7 @@ pub record IsBarEnd (read : List ReadLine) (line column end : ℕ) : Type 0 wher
   pub stands : AllWithin (λ x. ends_bar column x.line ≡ false) read (line + 1) end
   pub ended : end < length read → HoldsAt (λ x. ends_bar column x.line ≡ true) read end
 
--- a line in whose row marks or arrows end: an act of a router, a hand, a settle
+-- a line in whose row signs or arrows end: an act of a router, a hand, a settle
 abbrev pub has_marks : Line → Bool
 has_marks (lines.Turn node (events.Router serial act)) = true
 has_marks (lines.Turn node (events.Hand kind link unfit)) = true

@@ -23,7 +23,7 @@ long_line = codes "refused line 0: more than 262144 bytes" ++ 10 ∷ []
 abbrev pub bad_line : ℕ → List ℕ
 bad_line n = codes "refused line " ++ decimal n ++ (codes ": not a line of a transcript" ++ 10 ∷ [])
 
--- the line that says which line of the transcript is refused, 0 where it is too long
+-- the line that says which line of the transcript is refused, 0 if it is too long
 abbrev pub refused_line : ℕ → List ℕ
 refused_line n = if n == 0 then long_line else bad_line n
 

@@ -11,7 +11,7 @@ pub record IsPart (p : Part) : Type 0 where
   pub ordered : p.from ≤ p.to
   pub few : IsNumber p.to
 
--- the part whose two numbers these are in decimal; nothing where they are those of none
+-- the part whose two numbers these are in decimal; nothing if they are those of none
 abbrev pub IsAskedBy : List ℕ → List ℕ → Option Part → Type 0
 IsAskedBy from to (Some p) = IsPart p × (decimal p.from ≡ from) × (decimal p.to ≡ to)
 IsAskedBy from to None = (p : Part) → IsPart p → decimal p.from ≡ from → decimal p.to ≢ to

@@ -6,7 +6,7 @@ use Rattle.ipcz_lines.specs.declared.line.Line.TheVariants as lines
 use Rattle.ipcz_lines.specs.declared.line.ReadLine.{ReadLine}
 use Rattle.ipcz_picture.specs.declared.rows.Place.{Place}
 
--- the marks of a line: a word's name and cells for each value of a line of words
+-- the signs of a line: a word's name and cells for each value of a line of words
 abbrev pub most_marks : Line → ℕ
 most_marks (lines.Words values) = 1890 * (length values.now + 1)
 most_marks other = 3000
@@ -19,7 +19,7 @@ most_row x = 1300 + 6 * length x.text.now + most_marks x.line
 abbrev pub most_place : List ReadLine → Place → ℕ
 most_place read p = sum_by most_row (take p.count (drop p.first read))
 
--- a picture: its heading, and beside the row of a line its ground, a router's lifeline and name, and a message
+-- a picture: its heading, and in addition to the row of a line its ground, a router's lifeline and name, and a message
 abbrev pub most_picture : List ReadLine → ℕ
 most_picture read = 70000 + 10600 * length read + sum_by most_row read
 

@@ -15,7 +15,7 @@ step_of (lines.Turn node (events.Router serial (acts.Word step word after))) = S
 step_of (lines.Turn node (events.Router serial (acts.Claim (Some word)))) = Some (word, 0)
 step_of other = None
 
--- the words' values, once one is told; where none is told they stay
+-- the words' values, once one is told; if none is told they stay
 abbrev pub values_after : List (Option ℕ) → ℕ → Option ℕ → List (Option ℕ)
 values_after known word (Some value) = set known word (Some value)
 values_after known word None = known
@@ -38,12 +38,12 @@ abbrev pub step_after : List (Option ℕ) → Option (ℕ × ℕ) → List (Opti
 step_after known (Some step) = set known step.0 (Some step.1)
 step_after known None = known
 
--- what is known behind a line, where this was known above it
+-- what is known behind a line, if this was known above it
 abbrev pub Sees : Line → List (Option ℕ) → List (Option ℕ) → Type 0
 Sees (lines.Words values) known after = TellsValues 0 values.now known after
 Sees other known after = after ≡ step_after known (step_of other)
 
--- what is known behind lines, where this was known above them
+-- what is known behind lines, if this was known above them
 abbrev pub SeesAll : List ReadLine → List (Option ℕ) → List (Option ℕ) → Type 0
 SeesAll [] known after = after ≡ known
 SeesAll (x ∷ xs) known after = (between : List (Option ℕ)) × Sees x.line known between × SeesAll xs between after

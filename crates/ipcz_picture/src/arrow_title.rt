@@ -18,7 +18,7 @@ pub fn look_of(message: &Message) -> Look {
     }
 }
 
-/// The line of a message that is under way: thick where ends move with it, dashed for a flush.
+/// The line of a message that is under way: thick if ends move with it, dashed for a flush.
 pub fn stroke_of(message: &Message) -> Stroke {
     if !message.moves.is_empty() {
         return Stroke::Thick;
@@ -98,7 +98,7 @@ fn write_router(
     }
 }
 
-// The number of a line, behind a few words, where there is one.
+// The number of a line, behind a few words, if there is one.
 fn write_line(out: &mut Writer, words: &[u8], line: Option<usize>)
     ensures keeps { Keeps out.old out.new }
     ensures few { Grows out.old out.new (20 + 6 * length words.now) }

@@ -71,7 +71,7 @@ fn draw_head(out: &mut Writer, x: u64, y: u64, from_right: bool, look: Look)
     out.end_path();
 }
 
-// A step along a row, where a line has one.
+// A step along a row, if a line has one.
 fn step_along(out: &mut Writer, scene: &Scene, line: usize, to: u64)
     ensures keeps { KeepsValue out.old out.new }
     ensures few { Grows out.old out.new 26 }
@@ -81,7 +81,7 @@ fn step_along(out: &mut Writer, scene: &Scene, line: usize, to: u64)
     }
 }
 
-// Where a path begins and goes along the row of a line; where that has no row, the path begins at the end of its step.
+// Where a path begins and goes along the row of a line; if that has no row, the path begins at the end of its step.
 fn begin_along(out: &mut Writer, scene: &Scene, line: usize, from: u64, to: u64)
     ensures keeps { KeepsValue out.old out.new }
     ensures few { Grows out.old out.new 78 }
@@ -258,7 +258,7 @@ fn draw_gained(out: &mut Writer, scene: &Scene, message: &Message, wall: Wall, l
     end_titled(out, scene, message);
 }
 
-// The label of a message at a wall, where a line has a row.
+// The label of a message at a wall, if a line has a row.
 fn draw_label_at(out: &mut Writer, scene: &Scene, message: &Message, wall: Wall, line: usize)
     ensures keeps { Keeps out.old out.new }
     ensures few { Grows out.old out.new 500 }
@@ -269,7 +269,7 @@ fn draw_label_at(out: &mut Writer, scene: &Scene, message: &Message, wall: Wall,
     }
 }
 
-// The way of a message that was posted, and its label: at the post, or at the look, where only that has a row.
+// The way of a message that was posted, and its label: at the post, or at the look, if only that has a row.
 fn draw_posted(
     out: &mut Writer,
     scene: &Scene,

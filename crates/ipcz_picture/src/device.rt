@@ -73,7 +73,7 @@ impl<T: Read> Device<T> {
 }
 
 impl<T: Write> Device<T> {
-    /// One `write` of the writer inside, with its answer passed on: how many bytes of the front of `buf` it took. Where it
+    /// One `write` of the writer inside, with its answer passed on: how many bytes of the front of `buf` it took. If it
     /// takes none of some bytes, the answer is an `Err` of the kind `WriteZero`.
     pub fn write(&mut self, buf: &[u8]) -> io::Result<usize>
         ensures bound { WritesAtMost result buf.now }

@@ -1,4 +1,4 @@
-//! The heading of a picture: what it is, and what its marks mean.
+//! The heading of a picture: what it is, and what its signs mean.
 
 ghost use Rattle.std.specs.Prelude.{◌+◌, ◌*◌, length};
 ghost use Rattle.ipcz_markup.specs.Markup.{Grows, Keeps};
@@ -141,7 +141,7 @@ fn draw_cell_key(out: &mut Writer, x: u64, class: Class, letter: u8, words: &[u8
     out.label(x.saturating_add(20), DISCS + 4, Class::Legend, words);
 }
 
-// Which lines have rows, where these aren't all.
+// Which lines have rows, if these aren't all.
 fn write_bounds(out: &mut Writer, lines: usize, bounds: Bounds)
     ensures keeps { Keeps out.old out.new }
     ensures few { Grows out.old out.new 120 }
@@ -160,7 +160,7 @@ fn write_bounds(out: &mut Writer, lines: usize, bounds: Bounds)
     }
 }
 
-/// What a picture is called: how many lines the run has, and which of them have rows, where these aren't all.
+/// What a picture is called: how many lines the run has, and which of them have rows, if these aren't all.
 pub fn write_caption(out: &mut Writer, lines: usize, bounds: Bounds)
     ensures keeps { Keeps out.old out.new }
     ensures few { Grows out.old out.new 280 }

@@ -35,7 +35,7 @@ pub fn step_of(line: &Line) -> Option<(u16, u16)>
     }
 }
 
-/// The first of some values, where it is one, and those behind it.
+/// The first of some values, if it is one, and those behind it.
 pub fn first_value(values: &[u8]) -> (Option<u16>, &[u8])
     requires { 0 < length values.now }
     ensures first { IsFirstValue values.now result.0 result.1.now }

@@ -92,7 +92,7 @@ fn draw_end(
     out.close(Tag::Text);
 }
 
-// The name of a router, and its end, where that is known.
+// The name of a router, and its end, if that is known.
 fn draw_name_and_end(
     out: &mut Writer,
     scene: &Scene,

@@ -1,4 +1,4 @@
-//! The marks in a row: what a router did, a node's close, an idle turn, words.
+//! The signs in a row: what a router did, a node's close, an idle turn, words.
 
 ghost use Rattle.std.specs.Prelude.{◌≡◌, ◌+◌, ◌*◌, ◌≤◌, length};
 ghost use Rattle.ipcz_lines.specs.LineParts.{fate_text};
@@ -240,7 +240,7 @@ fn draw_turn(out: &mut Writer, scene: &Scene, node: u8, event: &Event, text: &[u
     }
 }
 
-/// The marks of a line, with what the lines above it tell of words' values.
+/// The signs of a line, with what the lines above it tell of words' values.
 pub fn draw_marks(out: &mut Writer, scene: &Scene, read: &ReadLine, known: &KnownWords)
     ensures keeps { Keeps out.old out.new }
     ensures few { Grows out.old out.new (most_marks read.now.line) }

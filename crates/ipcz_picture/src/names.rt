@@ -17,7 +17,7 @@ pub const ROWS_APART: usize = 16;
 // The most routers whose names stand again in one row.
 const MOST_NAMES: usize = 64;
 
-// Whether marks or arrows end in the row of a line, so that names would stand on them.
+// Whether signs or arrows end in the row of a line, so that names would stand on them.
 fn has_marks(line: &Line) -> bool
     ensures { result ≡ has_marks line.now }
 {
@@ -31,7 +31,7 @@ fn has_marks(line: &Line) -> bool
     )
 }
 
-// The first of eight rows from one on without marks, or the first of them.
+// The first of eight rows from one on without signs, or the first of them.
 fn row_with_room(lines: &[ReadLine], placed: &[Place], from: usize) -> usize
     requires { from < length placed.now }
     ensures within { (from ≤ result) × (result < length placed.now) }
@@ -105,7 +105,7 @@ fn draw_nodes_again(out: &mut Writer, walls: &[Walls], top: u64)
     }
 }
 
-/// The names of nodes and routers in every sixteenth row, or in the next one without marks.
+/// The names of nodes and routers in every sixteenth row, or in the next one without signs.
 pub fn draw_names_again(out: &mut Writer, scene: &Scene, placed: &[Place])
     requires { length scene.now.nodes.items ≤ 8 }
     ensures keeps { Keeps out.old out.new }

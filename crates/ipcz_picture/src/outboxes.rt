@@ -26,7 +26,7 @@ fn by_line(
     Ok(made)
 }
 
-// The first place that is free at a line, where each is taken up to a line; the last one where none is.
+// The first place that is free at a line, if each is taken up to a line; the last one if none is.
 fn free_slot(taken: &[usize], line: usize) -> usize
     requires { 0 < length taken.now }
     ensures within { result < length taken.now }

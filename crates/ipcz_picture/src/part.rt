@@ -32,7 +32,7 @@ pub fn part_of(from: &[u8], to: &[u8]) -> Option<Part>
     Some(Part { from, to })
 }
 
-/// The bounds of a part of so many lines; those of all lines where there is no part.
+/// The bounds of a part of so many lines; those of all lines if there is no part.
 pub fn bounds_of(part: Option<Part>, lines: usize) -> Bounds
     ensures first { result.first ≡ first_of part lines }
     ensures end { result.end ≡ end_of part lines }

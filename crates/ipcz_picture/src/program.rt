@@ -19,13 +19,13 @@ const USAGE: &[u8] = b"usage: ipcz_draw [FROM TO]\n";
 /// What the arguments of the program ask for.
 #[derive(Clone, Copy, Debug, PartialEq, Eq)]
 pub enum Asked {
-    /// A picture of a part, or of all where there are no arguments.
+    /// A picture of a part, or of all if there are no arguments.
     Picture(Option<Part>),
     /// How the program is called.
     Usage,
 }
 
-/// What the arguments of the program beside its name ask for, or that no memory was found to look at them.
+/// What the arguments of the program after its name ask for, or that no memory was found to look at them.
 ///
 /// One that is not UTF-8 counts.
 pub fn asked_for(rt: &(impl Env + Alloc)) -> Result<Asked, AllocError> {
@@ -60,7 +60,7 @@ fn status_of(ending: Result<Ending, Fault>) -> u8
     }
 }
 
-// Writes the usage line, and gives the status: 2, or 1 where a write failed.
+// Writes the usage line, and gives the status: 2, or 1 if a write failed.
 fn write_usage<W: Write>(writer: &mut Device<W>) -> u8
     requires { writer.old.failed ≡ false }
     ensures { WritesUsage (W.contents writer.old.inner) (W.contents writer.new.inner) writer.new.failed result }
@@ -89,10 +89,10 @@ fn draw_to_status<R: Read, W: Write>(
 /// The program but for its arguments and devices, which it is given: it draws the transcript that the reader gives, and
 /// answers the status.
 ///
-/// `asked` is what `asked_for` answered. Where the usage is asked for, its line is written, nothing is read, and the status is
-/// 2, or 1 where a write failed. Where no memory was found to look at the arguments nothing is read or written, and the
-/// status is 3. Else the status is 0 where the transcript, or the part that is asked for, was drawn, 1 where a read or a write
-/// failed, 2 where a line was refused, and 3 where no memory was found.
+/// `asked` is what `asked_for` answered. If the usage is asked for, its line is written, nothing is read, and the status is
+/// 2, or 1 if a write failed. If no memory was found to look at the arguments, nothing is read or written, and the
+/// status is 3. Else the status is 0 if the transcript, or the part that is asked for, was drawn, 1 if a read or a write
+/// failed, 2 if a line was refused, and 3 if no memory was found.
 pub fn run_program<R: Read, W: Write>(
     alloc: Global,
     asked: Result<Asked, AllocError>,

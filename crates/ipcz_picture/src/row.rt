@@ -65,7 +65,7 @@ fn gutter_class(line: &Line) -> Class {
     }
 }
 
-// A text that is cut where it is longer than a gutter is wide.
+// A text that is cut if it is longer than a gutter is wide.
 fn draw_cut(out: &mut Writer, x: u64, y: u64, class: Class, text: &[u8])
     ensures keeps { Keeps out.old out.new }
     ensures few { Grows out.old out.new 520 }

@@ -13,8 +13,8 @@ const CHUNK: usize = 4096;
 
 /// Reads until a `read` answers 0 bytes or `limit` bytes are there.
 ///
-/// A read that answers fewer bytes than it could isn't the end. The answer is `Read` where a `read` fails, and
-/// `OutOfMemory` where no memory is found for the bytes; the device hasn't failed then.
+/// A read that answers fewer bytes than it could isn't the end. The answer is `Read` if a `read` fails, and
+/// `OutOfMemory` if no memory is found for the bytes; the device hasn't failed then.
 pub fn read_up_to<R: Read>(
     alloc: Global,
     device: &mut Device<R>,
@@ -50,7 +50,7 @@ pub fn read_up_to<R: Read>(
 
 /// Writes the whole text, with as many `write`s as that takes.
 ///
-/// The answer is `Write` where a `write` fails; some front of the text is written then.
+/// The answer is `Write` if a `write` fails; some front of the text is written then.
 pub fn write_whole<W: Write>(device: &mut Device<W>, text: &[u8]) -> Result<(), Fault>
     requires works { device.old.failed ≡ false }
     ensures done { OnOk result

@@ -12,7 +12,7 @@ use crate::word_cells::draw_word;
 use ipcz_lines::{Event, Line, ReadLine, RouterEvent};
 use ipcz_markup::{Class, Writer};
 
-// The column of the word that a line changes, where it changes one.
+// The column of the word that a line changes, if it changes one.
 fn column_of(line: &Line) -> Option<usize>
     ensures { result ≡ column_of line.now }
 {
@@ -87,7 +87,7 @@ pub fn draw_word_bars(out: &mut Writer, scene: &Scene)
     }
 }
 
-// The value that a line above the rows made, where it stands up to them.
+// The value that a line above the rows made, if it stands up to them.
 fn draw_head_word(out: &mut Writer, scene: &Scene, line: usize)
     requires { line < length scene.now.lines.now }
     ensures keeps { Keeps out.old out.new }

@@ -122,7 +122,7 @@ fn is_changed(before: Option<u16>, value: u16) -> bool
     before != Some(value)
 }
 
-// The title of a word's name: the word, and the values before, where that is known, and after.
+// The title of a word's name: the word, and the values before, if that is known, and after.
 fn draw_change_title(out: &mut Writer, word: u64, before: Option<u16>, value: u16)
     ensures keeps { Keeps out.old out.new }
     ensures few { Grows out.old out.new 120 }

@@ -2,7 +2,7 @@
 use Rattle.std.specs.Prelude.{ℕ, ◌+◌, ◌==◌, ◌≡◌, ◌≤◌, List, [], ◌∷◌, length, take, if◌then◌else◌}
 use Rattle.ipcz_places.specs.declared.place.Place.{Place}
 
--- the line behind some bytes, where it is known before them
+-- the line behind some bytes, if it is known before them
 abbrev pub line_behind : ℕ → List ℕ → ℕ
 line_behind line [] = line
 line_behind line (b ∷ bs) = line_behind (if b == 10 then line + 1 else line) bs

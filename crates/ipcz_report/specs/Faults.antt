@@ -59,7 +59,7 @@ abbrev pub IsHead : Data → ℕ → List Data → Type 0
 IsHead d nodes values =
     (has_three_members d ≡ true) × (nodes_in d ≡ Some nodes) × (is_some (words_in d nodes) ≡ true) × (values_in d ≡ Some values)
 
--- the faults of the members: where there are none, the members are as they have to be
+-- the faults of the members: if there are none, the members are as they have to be
 abbrev pub AreHeadFaults : Data → List Fault → Type 0
 AreHeadFaults d faults = All (IsHeadFault d) faults
     × (faults ≡ [] → (has_three_members d ≡ true) × ((key : Key) → has_right key d ≡ true))
@@ -89,7 +89,7 @@ Judges nodes taken after number d old new =
 
 -- ---- the whole
 
--- the faults of a value that is to be a script: those of its members, or where these are as they have to be those of its commands
+-- the faults of a value that is to be a script: those of its members, or, if these are as they have to be, those of its commands
 abbrev pub AreFaultsOf : Data → List Fault → Type 0
 AreFaultsOf d faults = ((0 < length faults) × All (IsHeadFault d) faults)
     ⊎ ((nodes : ℕ) × (values : List Data) × IsHead d nodes values × AreFaults nodes [] 1 values faults)

@@ -189,7 +189,7 @@ fn head_faults(alloc: Global, value: &Value) -> Result<Vec<Fault>, AllocError>
 
 // ---- the whole
 
-/// What is wrong with a script: its members, or if they are as they have to be its commands.
+/// What is wrong with a script: its members, or, if they are as they have to be, its commands.
 pub fn faults_of(alloc: Global, value: &Value) -> Result<Vec<Fault>, AllocError>
     ensures faults { IfOk result (λ faults. AreFaultsOf (view value.now) faults.items) }
 {

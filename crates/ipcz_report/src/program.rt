@@ -30,7 +30,7 @@ pub enum Asked {
     Usage,
 }
 
-/// What the arguments of the program beside its name ask for, or that no memory was found to look at them.
+/// What the arguments of the program after its name ask for, or that no memory was found to look at them.
 ///
 /// One that is not UTF-8 counts.
 pub fn asked_for(rt: &(impl Env + Alloc)) -> Result<Asked, AllocError> {
@@ -90,7 +90,7 @@ fn status_of(ending: Result<Verdict, RunFault>) -> u8
     }
 }
 
-// Writes a text, and gives the status, or 1 where a write failed.
+// Writes a text, and gives the status, or 1 if a write failed.
 fn write_text<W: Write>(writer: &mut Device<W>, text: &[u8], status: u8) -> u8
     requires { writer.old.failed ≡ false }
     ensures { Writes text.now status (W.contents writer.old.inner) (W.contents writer.new.inner) writer.new.failed result }
@@ -118,9 +118,9 @@ fn check_to_status<R: Read, W: Write>(
 /// The program but for its arguments and devices, which it is given: it checks the script that the reader gives, and answers
 /// the status (docs/PROTOCOL.md, "The checker").
 ///
-/// `asked` is what `asked_for` answered. If the help is asked for it is written, nothing is read, and the status is 0; if the
+/// `asked` is what `asked_for` answered. If the help is asked for, it is written, nothing is read, and the status is 0; if the
 /// usage is, its line is written, nothing is read, and the status is 2; and 1 if a write failed. If no memory was found to look at the
-/// arguments nothing is read or written, and the status is 3. Else the status is 0 if the bytes are a script, 1 if a read or a
+/// arguments, nothing is read or written, and the status is 3. Else the status is 0 if the bytes are a script, 1 if a read or a
 /// write failed, 2 if they are none, and 3 if no memory was found.
 pub fn run_program<R: Read, W: Write>(
     alloc: Global,

@@ -55,7 +55,7 @@ finish_out r = record r { outward = finish r.outward }
 abbrev pub finish_in : Router → Router
 finish_in r = record r { inward = option_map finish r.inward }
 
--- its side is marked, and the wake is owed where the other side was waiting
+-- its side is marked, and the wake is owed if the other side was waiting
 abbrev pub mark_side : Router → Bool → Router
 mark_side r was_waiting = record r { marked = true; wake_owed = was_waiting }
 
@@ -134,23 +134,23 @@ unfoldable pub flush_message : Option LinkEnd → Option Sending
 flush_message None = None
 flush_message (Some e) = Some (record { to = e.other; message = Flush e.link (opposite e.side) })
 
--- an item over a link end, where there are both
+-- an item over a link end, if there are both
 unfoldable pub item_output : Option LinkEnd → ℕ → Option Item → Applied
 item_output None n item = Nothing
 item_output (Some e) n None = Nothing
 item_output (Some e) n (Some item) = Sent e n item
 
--- a message to a node, where there is one
+-- a message to a node, if there is one
 unfoldable pub message_output : Option Sending → Applied
 message_output None = Nothing
 message_output (Some s) = Message s.to s.message
 
--- an item that is dropped, where there is one
+-- an item that is dropped, if there is one
 unfoldable pub discard_output : ℕ → Option Item → Applied
 discard_output n None = Nothing
 discard_output n (Some item) = Discarded n item
 
--- Gone with the number after the mark, over the link of a sink that retires, where there is one
+-- Gone with the number after the mark, over the link of a sink that retires, if there is one
 unfoldable pub retire_output : Option LinkEnd → ℕ → Applied
 retire_output None n = Nothing
 retire_output (Some e) n = Sent e n Gone

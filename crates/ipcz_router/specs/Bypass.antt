@@ -37,7 +37,7 @@ accept_message r old target fresh = record { to = target; message = AcceptBypass
 abbrev pub fits_accept_bypass : Router → ℕ → Side → Bool
 fits_accept_bypass r old side = has_link r.outward.primary (Central old) side && not (edge_decays r.outward)
 
--- whether a node is the source of the old link's word, which alone may send AcceptBypass: else the message is Forged
+-- whether a node is the source of the old link's word, the only one that may send AcceptBypass: else the message is Forged
 unfoldable pub is_source : ℕ → Option ℕ → Bool
 is_source sender None = false
 is_source sender (Some node) = nat_eq sender node

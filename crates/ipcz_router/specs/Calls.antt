@@ -39,7 +39,7 @@ item_refusal (Some Gone) = Some PeerClosed
 abbrev pub router_get_refusal : Router → Option Refusal
 router_get_refusal r = item_refusal (current_item r.in_queue)
 
--- the sizes of the parcel of an item, where there is one and it is a parcel
+-- the sizes of the parcel of an item, if there is one and it is a parcel
 unfoldable pub sizes_found : Option Item → Option Sizes
 sizes_found None = None
 sizes_found (Some item) = sizes_in item

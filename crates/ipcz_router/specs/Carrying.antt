@@ -6,7 +6,7 @@ use Rattle.ipcz_base.specs.Sides.{opposite}
 use Rattle.ipcz_router.specs.declared.act.Applied.{Applied}
 use Rattle.ipcz_router.specs.declared.act.Applied.TheVariants as outputs
 
--- the message that carries what an act gives over its link without moves, where that is an item
+-- the message that carries what an act gives over its link without moves, if that is an item
 unfoldable pub carried_by : Applied → Option Message
 carried_by (outputs.Sent link n item) = Some (messages.Item link.link (opposite link.side) n item [])
 carried_by other = None

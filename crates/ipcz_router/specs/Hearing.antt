@@ -9,7 +9,7 @@ use Rattle.ipcz_router.specs.Router.{Router, inward_edge, rouse}
 use Rattle.ipcz_router.specs.Bypass.{fits_bypass_peer, bypass_peer, accept_message, fits_accept_bypass, is_source, accept_bypass}
 use Rattle.ipcz_router.specs.Bypass.{stop_message, fits_stop_proxying, stop_proxying, will_stop_message, fits_proxy_will_stop, proxy_will_stop}
 
--- whether a router hears a message from a node, where the word of an old link names this source
+-- whether a router hears a message from a node, if the word of an old link names this source
 unfoldable pub hears : Router → ℕ → Message → Option ℕ → Bool
 hears r sender (messages.Item link side number item moves) source = false
 hears r sender (messages.BypassPeer link side old target fresh) source = fits_bypass_peer r link side
@@ -41,7 +41,7 @@ answer_to r (messages.StopProxying old side in_length out_length) = will_stop_me
 answer_to r (messages.ProxyWillStop link side in_length) = None
 answer_to r (messages.Flush link side) = None
 
--- how many links more it has then, at most: one, where the message brings the word of a fresh one
+-- how many links more it has then, at most: one, if the message brings the word of a fresh one
 unfoldable pub links_brought : Message → ℕ
 links_brought (messages.BypassPeer link side old target fresh) = 1
 links_brought (messages.AcceptBypass old side fresh length) = 1

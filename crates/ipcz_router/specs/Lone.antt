@@ -21,7 +21,7 @@ is_settled r =
 abbrev pub is_still : Router → Bool
 is_still r = is_settled r && is_none (current_item r.out_queue)
 
--- the link of the only item in the out queue, where it leaves next, carries no ends, and is all that such a terminal has to send
+-- the link of the only item in the out queue, if it leaves next, carries no ends, and is all that such a terminal has to send
 abbrev pub last_link : Router → Option LinkEnd
 last_link r =
     if nat_eq (len r.out_queue.items) 1 && (is_settled r && item_passes (λ item. nat_eq (length (ends_in item)) 0) (current_item r.out_queue))

@@ -15,13 +15,13 @@ outlook_of (outputs.Sent link n item) = outlooks.Item link.other (length (ends_i
 outlook_of (outputs.Message to message) = outlooks.Message to
 outlook_of (outputs.Discarded n item) = outlooks.Closing (length (ends_in item))
 
--- of an item that goes over a link end, where there are both
+-- of an item that goes over a link end, if there are both
 unfoldable pub item_outlook : Option LinkEnd → Option Item → Outlook
 item_outlook None item = outlooks.Nothing
 item_outlook (Some e) None = outlooks.Nothing
 item_outlook (Some e) (Some item) = outlooks.Item e.other (length (ends_in item))
 
--- of an item that is dropped, where there is one
+-- of an item that is dropped, if there is one
 unfoldable pub closing_outlook : Option Item → Outlook
 closing_outlook None = outlooks.Nothing
 closing_outlook (Some item) = outlooks.Closing (length (ends_in item))

@@ -74,7 +74,7 @@ decays r = edge_decays r.outward || edge_decays (inward_edge r)
 abbrev pub has_no_link : Router → Bool
 has_no_link r = is_empty r.outward && is_empty (inward_edge r)
 
--- the word of its outward primary link, where that is central
+-- the word of its outward primary link, if that is central
 abbrev pub primary_word : Router → Option ℕ
 primary_word r = word_of r.outward.primary
 
@@ -123,7 +123,7 @@ new_terminal end link next_out next_in is_marked = record {
   gone_sent = false;
 }
 
--- a terminal on a link, marked where the link is central, since its word has both sides stable
+-- a terminal on a link, marked if the link is central, since its word has both sides stable
 abbrev pub terminal : End → LinkEnd → ℕ → Router
 terminal end link first = new_terminal end link first first (is_central link.link)
 

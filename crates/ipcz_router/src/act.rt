@@ -29,7 +29,7 @@ pub enum RouterAct {
     Begin,
     /// Leaves its node under that lock, since both ends of its pair are closed, and tells the other side by [`Item::Gone`].
     Retire,
-    /// Gives that lock back, where a bypass finds no memory to begin, or a sink none to retire.
+    /// Gives that lock back, if a bypass finds no memory to begin, or a sink none to retire.
     Unlock,
     /// Takes its flag away, since nothing else is possible.
     Rest,

@@ -30,7 +30,7 @@ impl Outlook {
         }
     }
 
-    // Of an item that goes over a link end, where there are both.
+    // Of an item that goes over a link end, if there are both.
     #[tactic(auto, unfolding(crate::specs::Outlooks::item_outlook))]
     pub(crate) fn of_item(link: Option<LinkEnd>, item: Option<&Item>) -> Outlook
         ensures { result ≡ item_outlook link (option_copied item.entry) }
@@ -41,7 +41,7 @@ impl Outlook {
         }
     }
 
-    // Of an item that is dropped, where there is one.
+    // Of an item that is dropped, if there is one.
     #[tactic(auto, unfolding(crate::specs::Outlooks::closing_outlook))]
     pub(crate) fn of_dropped(item: Option<&Item>) -> Outlook
         ensures { result ≡ closing_outlook (option_copied item.entry) }

@@ -89,7 +89,7 @@ impl Router {
     /// A terminal of `end` on `link`, whose items are numbered from `first` on in both directions, which is at most
     /// [`ipcz_base::LAST`].
     ///
-    /// It is marked stable where the link is central. Making it doesn't flag it. It keeps `alloc` for its queues.
+    /// It is marked stable if the link is central. Making it doesn't flag it. It keeps `alloc` for its queues.
     #[tactic(auto, unfolding(ipcz_base::specs::Links::is_central))]
     pub fn terminal(alloc: Global, end: End, link: LinkEnd, first: u64) -> Router
         requires { first ≤ last_number }
@@ -174,7 +174,7 @@ impl Router {
         self.inward.is_none()
     }
 
-    /// Whether it is a terminal that isn't closed, as `put`, `get` and `extend_to` ask.
+    /// Whether it is a terminal that isn't closed, as `put`, `get` and `extend_to` require.
     pub fn is_open_terminal(&self) -> bool
         ensures { result ≡ is_open_terminal self.now.router }
     {
@@ -206,14 +206,14 @@ impl Router {
         self.outward
     }
 
-    /// Its edge toward the terminal that moved away, where it is a proxy.
+    /// Its edge toward the terminal that moved away, if it is a proxy.
     pub fn inward(&self) -> Option<Edge>
         ensures { result ≡ self.now.router.inward }
     {
         self.inward
     }
 
-    /// The word of its outward primary link with the side of its end, where there is that link and it is central.
+    /// The word of its outward primary link with the side of its end, if there is that link and it is central.
     #[tactic(auto, unfolding(ipcz_base::specs::Links::word_of))]
     pub fn word(&self) -> Option<(u32, Side)>
         ensures { result ≡ word_side self.now.router }
@@ -258,14 +258,14 @@ impl Router {
         }
     }
 
-    /// The item that leaves the out queue next, where it has come.
+    /// The item that leaves the out queue next, if it has come.
     pub fn out_item(&self) -> Option<&Item>
         ensures { option_copied result ≡ current_item self.now.router.out_queue }
     {
         self.out_queue.next()
     }
 
-    /// The item that leaves the in queue next, where it has come.
+    /// The item that leaves the in queue next, if it has come.
     pub fn in_item(&self) -> Option<&Item>
         ensures { option_copied result ≡ current_item self.now.router.in_queue }
     {

@@ -27,7 +27,7 @@ enum Step {
     Born(Descriptor, u8),
     /// A terminal moves over a link, with this descriptor; the terminal that it says, from a node, becomes the last router.
     Move(usize, LinkEnd, Descriptor, u8),
-    /// Puts a parcel of one byte: its number, or why it is refused, where the parcel is handed back then.
+    /// Puts a parcel of one byte: its number, or why it is refused; the parcel is then handed back.
     Put(usize, u8, Result<u64, Refusal>),
     /// Gets a parcel of one byte, with its number.
     Get(usize, Result<(u64, u8), Refusal>),
@@ -35,7 +35,7 @@ enum Step {
     Close(usize, Result<u64, Refusal>),
     /// Makes room for a close.
     ReserveClose(usize),
-    /// A parcel of one byte comes over a link, or a mark where there is no byte, for the router on this side of it, under this
+    /// A parcel of one byte comes over a link, or a mark if there is no byte, for the router on this side of it, under this
     /// number.
     Come(usize, LinkId, Side, u64, Option<u8>, Result<(), Refusal>),
     /// Gone comes over a link, for the router on this side of it, under this number, and is taken.
@@ -51,7 +51,7 @@ enum Step {
     Is(usize, Sight),
     /// A BypassPeer comes.
     BypassPeer(usize, LinkId, Side, [u32; 2], u8, Answered),
-    /// An AcceptBypass comes from a node, where the old link's word names this source.
+    /// An AcceptBypass comes from a node, while the old link's word names this source.
     AcceptBypass(usize, u8, Side, u64, Option<u8>, Answered),
     /// A StopProxying comes, with the number of items from outward and of those that go there.
     StopProxying(usize, Side, [u64; 2], Answered),
@@ -82,7 +82,7 @@ fn item_of(alloc: Global, byte: Option<u8>) -> Result<Item, AllocError> {
     }
 }
 
-// Whether a parcel has this byte alone.
+// Whether a parcel has this byte only.
 fn is_letter(parcel: &Parcel, byte: u8) -> bool {
     parcel.bytes.as_slice() == [byte].as_slice()
 }
@@ -155,7 +155,7 @@ fn closes(router: &mut Router, want: Result<u64, Refusal>) -> bool {
     router.is_open_terminal() && router.close() == want
 }
 
-// An item comes over a link; whether this comes of it, and the item is handed back where it is refused.
+// An item comes over a link; whether this comes of it, and the item is handed back if it is refused.
 fn comes(
     router: &mut Router,
     alloc: Global,

@@ -177,7 +177,7 @@ unwritten_word acts.Discard e = cc
 unwritten_word acts.Retire e = cc
 unwritten_word other e = refl
 
--- the part after an act of a router with this answer, where it writes no book
+-- the part after an act of a router with this answer, if it writes no book
 abbrev pub plain_part : ℕ → RouterAct → Answer → Part → Part
 plain_part serial act a p = with_state (commit p.state (OfRouter serial act) a) p
 

@@ -53,7 +53,7 @@ unfolding got_at_found get_reply
 reply_is None number q h = cc
 reply_is (Some f) number q h = reply_item number f.router.in_queue.current (current_item f.router.in_queue) q h
 
--- where a get gives something there is a terminal, and the number is that of its queue
+-- if a get gives something, there is a terminal, and the number is that of its queue
 got_number : (f : Option Found) (number : ℕ) (q : parcels.Parcel) → got_at_found f ≡ Some (number, q) → (t : Found) × (f ≡ Some t)
 unfolding got_at_found
 got_number None number q h = cc

@@ -36,7 +36,7 @@ use Rattle.ipcz_rule.proofs.Touching.{KeepsHands, set_moves, Anything, After}
 use Rattle.ipcz_rule.proofs.Acting.{plain_part, act_routes, act_after, act_hand}
 use Rattle.ipcz_rule.proofs.Wording.{sees}
 
--- the rule after a step on the claim count that leaves n', where the own node is another
+-- the rule after a step on the claim count that leaves n', if the own node is another
 module _ (count size : ℕ) (s : St) (r : Rules count size s) (id : ℕ) (v v' : View) (p p' : Part) (w' : World) (g' : Routes) (n' : ℕ)
     (at : get_elem? s.views id ≡ some v) (is : v.parts ≡ p ∷ []) (is' : v'.parts ≡ p' ∷ []) (sight : Sees s.words v v') (moves : NodeMoves r.world w' p.node p'.state) (words : (j : ℕ) → word_at w' j ≡ word_at r.world j) (claimed : n' ≡ w'.claimed) (up : r.world.claimed ≤ n')
     (k : KeepsHands p p') (put : p'.put ≡ p.put) (got : p'.got ≡ p.got) (gone : p'.gone ≡ p.gone) (lawful : Lawful w' r.books g') (G : World → Books → Routes → Type 0) (known : G w' r.books g') where
@@ -82,7 +82,7 @@ claim_moves w c n x = record {
   mail = λ k. mail-set_node (set_claimed w c) n x k ∙ mail-set_claimed w c k;
 }
 
--- claim: the count is exchanged for the next, where it is what was found before
+-- claim: the count is exchanged for the next, if it is what was found before
 module _ (count size id : ℕ) (m : Mine) (p : Part) (serial : ℕ) (rt : Router) (c : ℕ) (is : m.0.parts ≡ p ∷ []) (can : CanAct p.state serial rt acts.Claim) (small : c < size)
     (s : St) (r : Rules count size s) (at : get_elem? s.views id ≡ some m.0) where
   abbrev n : ℕ
@@ -138,7 +138,7 @@ dry_after w n serial x rt is t =
     ap (λ b. set_node (if b then set_claimed w (w.claimed + 1) else w) n (commit (node_at w n) (OfRouter serial acts.Claim) (if b then answers.Claimed w.claimed else answers.NoWord))) t
     ∙ ap (λ y. set_node w n (commit y (OfRouter serial acts.Claim) answers.NoWord)) is
 
--- a load of the claim count: where it finds that each word was claimed the router is dry
+-- a load of the claim count: if it finds that each word was claimed, the router is dry
 module _ (count size id : ℕ) (m : Mine) (p : Part) (serial : ℕ) (rt : Router) (is : m.0.parts ≡ p ∷ []) (can : CanAct p.state serial rt acts.Claim)
     (s : St) (r : Rules count size s) (at : get_elem? s.views id ≡ some m.0) where
   abbrev seen_count : ℕ

@@ -12,7 +12,7 @@ use Rattle.ipcz_rule.specs.Rule.{HasSeenCounts}
 abbrev pub Sees : List ℕ → View → View → Type 0
 Sees words v v' = (v'.seen ≡ v.seen) ⊎ ((i : ℕ) × (v'.seen ≡ v.seen ++ (i, slice_index words i) ∷ []))
 
--- so it is where the claim count doesn't fall
+-- so it is if the claim count doesn't fall
 pub keeps_counts : (views : List View) (words : List ℕ) (w w' : World) (id : ℕ) (v v' : View) → get_elem? views id ≡ some v → Sees words v v' →
     w'.size ≡ w.size → w.claimed ≤ w'.claimed → slice_index words w.size ≡ w.claimed → HasSeenCounts views w → HasSeenCounts (set views id v') w'
 keeps_counts views words w w' id v v' at sight size up claims was j u k n at_j at_k =

@@ -109,7 +109,7 @@ writes acts.Discard = inr (inl refl)
 writes acts.Retire = inr (inr refl)
 writes other = inl refl
 
--- what a touch is and leaves of the seat, where its part is this
+-- what a touch is and leaves of the seat, if its part is this
 abbrev Touch : ℕ → ℕ → ℕ → ℕ → ℕ → Mine → ℕ → Act → Part → Type 0
 Touch count size slots id i m n act q = IsTurns count size slots id m i (λ k. k) (λ k. (n, act) ∷ []) (λ k m'. m' ≡ (with_part q m.0, m.1))
 

@@ -13,7 +13,7 @@ use Rattle.ipcz_rule.specs.Rule.{InParts, puts_of, gets_of, drops_of}
 use Rattle.ipcz_rule.specs.Kinds.{together, spent, JoinsParts}
 use Rattle.ipcz_rule.proofs.Moved.{at_inside}
 
--- where two lists of parts are read together, one of the two was read
+-- if two lists of parts are read together, one of the two was read
 in_both : (xs ys : List Part) (k : ℕ) (p : Part) → get_elem? (xs ++ ys) k ≡ some p → ((j : ℕ) × (get_elem? xs j ≡ some p)) ⊎ ((j : ℕ) × (get_elem? ys j ≡ some p))
 in_both [] ys k p e = inr (k, e)
 in_both (x ∷ xs) ys zero p e = inl (0, e)

@@ -13,7 +13,7 @@ use Rattle.ipcz_rule.specs.Rule.{InParts, Joined, puts_of, gets_of, drops_of}
 use Rattle.ipcz_rule.proofs.Moved.{only, at_inside}
 
 module _ {X : Type 0} (of : Part → List X) (views : List View) (id : ℕ) (v v' : View) (p p' : Part) (at : get_elem? views id ≡ some v) (is : v.parts ≡ p ∷ []) (is' : v'.parts ≡ p' ∷ []) where
-  -- what stood in a part still stands in one, where the part that changed keeps its entries
+  -- what stood in a part still stands in one, if the part that changed keeps its entries
   pub stays_in : ((k : ℕ) (x : X) → get_elem? (of p) k ≡ some x → get_elem? (of p') k ≡ some x) → (x : X) → InParts views of x → InParts (set views id v') of x
   stays_in keeps x h = dite (ℕ_discrete h.id id)
       (λ same. let whose : v ≡ h.view = some-injective v h.view (sym at ∙ (ap (get_elem? views) (sym same) ∙ h.seat)) in
@@ -43,11 +43,11 @@ module _ {X : Type 0} (of : Part → List X) (views : List View) (id : ℕ) (v v
   pub stands_in : (k : ℕ) (x : X) → get_elem? (of p) k ≡ some x → InParts views of x
   stands_in k x e = record { id = id; view = v; place = 0; part = p; index = k; seat = at; there = ap (λ (l : List Part). get_elem? l 0) is; entry = e }
 
-  -- the same entries stand in parts, where the part that changed has the same
+  -- the same entries stand in parts, if the part that changed has the same
   pub same_in : of p' ≡ of p → (x : X) → InParts (set views id v') of x → InParts views of x
   same_in same x h = ⊎_elim (λ (t : InParts views of x). t) (λ (t : (k : ℕ) × (get_elem? (of p') k ≡ some x)). stands_in t.0 x (ap (λ (l : List X). get_elem? l t.0) (sym same) ∙ t.1)) (stood_in x h)
 
--- the books stay, where the part that changed keeps its part of them
+-- the books stay, if the part that changed keeps its part of them
 pub joined_same : (views : List View) (id : ℕ) (v v' : View) (p p' : Part) (b : Books) → get_elem? views id ≡ some v → v.parts ≡ p ∷ [] → v'.parts ≡ p' ∷ [] →
     p'.put ≡ p.put → p'.got ≡ p.got → p'.gone ≡ p.gone → Joined views b → Joined (set views id v') b
 joined_same views id v v' p p' b at is is' put got gone j = record {

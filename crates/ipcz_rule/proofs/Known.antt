@@ -69,7 +69,7 @@ idle_none x = omega (arith, sets_small x)
 pub number_valid : (x : Word) → OneHolder x → HasNode x.source → IsLinkNumber (bits_of x)
 number_valid x once named = record { word = valid_bits x once named; idle = idle_none x }
 
--- beside the number of a link word nothing stands
+-- nothing stands in addition to the number of a link word
 pub number_alone : (n : ℕ) (x : Word) → IsLinkNumber n → bits_beside n x ≡ bits_of x
 number_alone n x is = omega (arith, is.idle)
 

@@ -32,7 +32,7 @@ only ps p q k is at = one k (subst (λ (l : List Part). get_elem? l k ≡ some q
     one zero e = some-injective p q e
     one (suc k) e = absurd (some-ne-none q (sym e))
 
--- what a step owes that leaves these words and homes, where the part p becomes p' and the shown world w becomes w'
+-- what a step owes that leaves these words and homes, if the part p becomes p' and the shown world w becomes w'
 pub record Moves (s : St) (w w' : World) (words : List ℕ) (homes : Homes) (p p' : Part) : Type 0 where
   pub count : w'.count ≡ w.count
   pub size : w'.size ≡ w.size
@@ -92,7 +92,7 @@ parts_stay views count id v v' p p' at is is' same all node below = let h = all 
       node_is = h.node_is;
     })
 
--- the rule after such a step, where the new world is lawful with the new books
+-- the rule after such a step, if the new world is lawful with the new books
 pub ruled : {count size : ℕ} (s : St) (r : Rules count size s) (w' : World) (b' : Books) (g' : Routes) (words : List ℕ) (homes : Homes) (id : ℕ) (v v' : View) (p p' : Part) →
     get_elem? s.views id ≡ some v → v.parts ≡ p ∷ [] → v'.parts ≡ p' ∷ [] → Sees s.words v v' → Moves s r.world w' words homes p p' →
     Joined (set s.views id v') b' → Lawful w' b' g' →
@@ -122,11 +122,11 @@ pub ruled_with : {count size : ℕ} (s : St) (r : Rules count size s) (w' : Worl
 unfolding ruled
 ruled_with s r w' b' g' words homes id v v' p p' at is is' sight m joined lawful G known = (ruled s r w' b' g' words homes id v v' p p' at is is' sight m joined lawful, known)
 
--- where the words stay, so do their sources
+-- if the words stay, so do their sources
 pub keeps_sources : (w w' : World) → ((i : ℕ) → word_at w' i ≡ word_at w i) → ((i : ℕ) → HasNode (word_at w i).source) → (i : ℕ) → HasNode (word_at w' i).source
 keeps_sources w w' same named i = subst (λ (x : Word). HasNode x.source) (sym (same i)) (named i)
 
--- and so do those of the others where one word names a node, or none
+-- and so do those of the others if one word names a node, or none
 pub named_beside : (i j : ℕ) (x y : Word) → HasNode x.source → HasNode y.source → HasNode (cond (nat_eq j i) x y).source
 named_beside i j x y new old = go (nat_eq j i)
   where

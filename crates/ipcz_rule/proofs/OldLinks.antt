@@ -20,7 +20,7 @@ picked : (b : Bool) (x : Option ℕ) (from : ℕ) → (if b then x else None) �
 picked true x from h = (refl, h)
 picked false x from h = cc
 
--- the source that is given for a message in hand, where it names an old link, is that of this link's word
+-- the source that is given for a message in hand, if it names an old link, is that of this link's word
 told_source : (w : World) (x : Message) (old from : ℕ) → old_word x ≡ Some old → source_for w x ≡ trusted from x → (nat_lt old w.claimed ≡ true) × ((word_at w old).source ≡ Some from)
 unfolding source_for trusted
 told_source w (messages.AcceptBypass o side fresh length) old from named h =

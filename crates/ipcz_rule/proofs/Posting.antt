@@ -244,7 +244,7 @@ module _ (count size slots id i k from : ℕ) (m : Mine) (p : Part) (is : m.0.pa
       found : (w' : World) (n from : ℕ) (x : Message) (k : ℕ) → k ≡ way w' from n → mail_at w' k ≡ mails.Hand x → hand_of w' n (Some from) ≡ Some x
       found w' n from x k e h = found_hand w' n from x (ap (mail_at w') (sym e) ∙ h)
 
--- look: where the mailbox is full its message is taken into the hand, else it is a load
+-- look: if the mailbox is full, its message is taken into the hand, else it is a load
 module _ (count size slots id i k from : ℕ) (m : Mine) (p : Part) (is : m.0.parts ≡ p ∷ []) (at_k : k ≡ from * count + p.node) (at_i : i ≡ size + 1 + count + k) (small_from : from < count)
     (idle : p.state.hand ≡ None) (s : St) (r : Rules count size s) (at : get_elem? s.views id ≡ some m.0) where
   abbrev n : ℕ

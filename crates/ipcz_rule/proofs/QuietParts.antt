@@ -1,4 +1,4 @@
--- Where each node is quiet by its part and no mailbox is full, the shown world is quiet.
+-- If each node is quiet by its part and no mailbox is full, the shown world is quiet.
 use Rattle.std.specs.Prelude.{◌≡◌, ◌≢◌, ◌⊎◌, ◌<◌, ◌≤◌, ◌-◌, nat_lt, ◌+◌, ◌*◌, ℕ, zero, suc, Bool, true, false, ◌&&◌, nat_eq, List, [], ◌∷◌, length, slice_index, Option, Some, None, is_some, is_none, refl}
 use Rattle.std.proofs.Common.{arith, ap, ◌∙◌, sym, subst, inl, inr, ⊎_elim}
 use Rattle.std.proofs.lemmas.Bool.Decides.{nat_tests}

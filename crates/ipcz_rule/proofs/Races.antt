@@ -1,4 +1,4 @@
--- What lies between two steps of a seat that only loads: an act of another seat, where a number has changed.
+-- What lies between two steps of a seat that only loads: an act of another seat, if a number has changed.
 use Rattle.std.specs.Prelude.{◌≡◌, ◌≢◌, ◌≤◌, ◌⊎◌, ℕ, zero, suc, Bool, true, false, cond, nat_eq, List, [], ◌∷◌, ◌++◌, length, slice_index, MatchBool, refl}
 use Rattle.std.proofs.Common.{arith, ap, ◌∙◌, sym, subst, set, inl, inr, append_assoc, get_or-set_other}
 use Rattle.std.proofs.lemmas.List.{set-get_or, append_cancel_left, append-nil}
@@ -81,7 +81,7 @@ module _ (count size id : ℕ) where
           append_assoc v.seen ((run.0.word, slice_index p.0.words run.0.word) ∷ []) (found_by (next p turns run.0) steps q run.1)
       go false e one more = more v (other-view p turns run.0 e ∙ at)
 
-  -- what a run says of itself by its steps, where so many loads of the seat are yet to come: it is carried over each step backwards
+  -- what a run says of itself by its steps, if so many loads of the seat are yet to come: it is carried over each step backwards
   pub record Carries (G : (k : ℕ) (p : T) (steps : Steps) (q : T) → AreSteps count size p steps q → Type 0) : Type 0 where
     pub own : (k : ℕ) (p : T) (turns : List (ℕ × Act)) (steps : Steps) (q : T) (t : TurnStep count size p.0 turns)
         (more : AreSteps count size (next p turns t) steps q) → nat_eq t.seat id ≡ true → IsLoad count size p turns t →
@@ -129,7 +129,7 @@ module _ (count size id : ℕ) where
                 ap (λ (x : ℕ × ℕ). x.1) (heads h))))
             by (b ∷ bs) h = carry.own (suc (length bs)) p turns steps q t run.1 e load (more bs (tails h))
 
--- where the number of a link word or of the claim count has changed, a step of another seat has changed it, and is an act
+-- if the number of a link word or of the claim count has changed, a step of another seat has changed it, and is an act
 module _ (count size id i n found : ℕ) (low : i ≤ size) (apart : found ≢ n) where
   pub overtaken-behind : (p : Ruled count size) (steps : List (List (ℕ × Act))) (q : Ruled count size) (run : AreSteps count size p steps q) →
       OnlyLoads count size id p steps q run → found_by count size id p steps q run ≡ (i, found) ∷ [] → slice_index p.0.words i ≡ n →

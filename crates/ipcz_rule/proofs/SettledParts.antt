@@ -1,4 +1,4 @@
--- Where each node is settled by its part and no mailbox is full, each open pair of the shown world is direct of which an end isn't closed.
+-- If each node is settled by its part and no mailbox is full, each open pair of the shown world is direct of which an end isn't closed.
 use Rattle.std.specs.Prelude.{◌≡◌, ◌<◌, ◌≤◌, ℕ, false, length, Option, Some, None, refl}
 use Rattle.std.specs.FinMap.{get-empty}
 use Rattle.std.specs.Ordering.{nat_cmp}

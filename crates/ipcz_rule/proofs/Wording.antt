@@ -151,7 +151,7 @@ sees {count} {size} s r i id v v' p at is is' sight =
     }) (joined_same s.views id v v' p p r.books at is is' refl refl refl r.joined) r.lawful (AreTurns r.world r.books r.routes []) (refl, refl, refl) in
     subst (λ (ws : List ℕ). Follows count size s r [] record { words = ws; homes = s.homes; views = set s.views id v' }) (sym (set-get_or s.words i 0)) rules
 
--- the view after an act of a router on the word i, where it was found at n
+-- the view after an act of a router on the word i, if it was found at n
 abbrev pub plain_view : ℕ → ℕ → ℕ → Side → Option ℕ → RouterAct → Part → View → View
 plain_view i n serial side source act p v = with_part (plain_part serial act (word_answer (word_of_bits n) side source act) p) (saw i n v)
 
@@ -194,7 +194,7 @@ module _ (count size id : ℕ) (m : Mine) (p : Part) (serial : ℕ) (rt : Router
   pub by_test : F (hit n)
   by_test = by (hit n) refl
 
--- a step on the word of a link: where the test holds of what it finds it is the act, else it is a load
+-- a step on the word of a link: if the test holds of what it finds, it is the act, else it is a load
 pub word_acts : (count size slots id : ℕ) (m : Mine) (p : Part) (serial : ℕ) (rt : Router) (act : RouterAct) (i : ℕ) (f : ℕ → ℕ) (hit : ℕ → Bool) →
     m.0.parts ≡ p ∷ [] → CanAct p.state serial rt act → is_on_word act ≡ true → primary_word rt ≡ Some i →
     ((x : Word) → IsLinkNumber (bits_of x) → hit (bits_of x) ≡ true → f (bits_of x) ≡ bits_of (word_after x rt.end.side (source_of rt) act)) →

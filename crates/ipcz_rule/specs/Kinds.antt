@@ -1,7 +1,7 @@
 -- The kinds of atomic step of a seat with one node: what each needs of the node, and what it leaves of the seat. Each keeps the rule.
--- Beside that it keeps the rule it is said of a step that a turn takes which turns of the shown world it is: none, or one act of its node.
+-- In addition it is said of a step that a turn takes which turns of the shown world it is: none, or one act of its node.
 -- In each the seat is `id`, the table has so many slots, and `i` is the word. What a step tells that may find its word changed is by a test
--- of the number found: where it fails the step was a load.
+-- of the number found: if it fails, the step was a load.
 use Rattle.std.specs.Prelude.{◌≡◌, ◌<◌, cond, length, slice_index, ◌+◌, ◌*◌, ◌-◌, ℕ, Bool, true, false, eqb, List, [], ◌∷◌, ◌++◌, Some}
 use Rattle.std.specs.Prelude.{None, MatchBool, bit_and, bit_or}
 use prog.Atomic.{either}
@@ -57,7 +57,7 @@ IsTurns count size slots id me i f turns told =
     Follows count size s r (turns (slice_index s.words i)) (stepped s i (f (slice_index s.words i)) id me.1 v a) ×
     told (slice_index s.words i) (v, carried_after me.1 a)
 
--- one act of a node where a test holds, else nothing
+-- one act of a node if a test holds, else nothing
 abbrev pub turn_where : Bool → ℕ → Act → List (ℕ × Act)
 turn_where hit n act = cond hit ((n, act) ∷ []) []
 
@@ -102,7 +102,7 @@ TouchActs F = (count size slots id i : ℕ) (m : Mine) (p : Part) (act : Act) �
     IsPossibleAct p.state act → act_lacks_serials p.state act ≡ false →
     F count size slots id m i (λ n. n) (λ n. (p.node, act) ∷ []) (λ n m'. m' ≡ (with_part (act_part act answers.Plain p) m.0, m.1))
 
--- what an act of a router leaves of the seat where the test holds of the number found; else the step was a load
+-- what an act of a router leaves of the seat if the test holds of the number found; else the step was a load
 abbrev pub Acted : ℕ → ℕ → Router → RouterAct → (ℕ → Bool) → Mine → Part → ℕ → Mine → Type 0
 Acted i serial r act hit m p n m' = MatchBool (hit n) (m' ≡ (acted_view i n serial r.end.side (source_of r) act p m.0, m.1))
     (m' ≡ (saw i n m.0, m.1))
@@ -130,7 +130,7 @@ Unlocks F = (count size slots id i : ℕ) (m : Mine) (p : Part) (serial : ℕ) (
     (λ n. (p.node, acts.Router serial router_acts.Unlock) ∷ [])
     (λ n m'. m' ≡ (acted_view i n serial r.end.side (source_of r) router_acts.Unlock p m.0, m.1))
 
--- lock or wait: the word is exchanged for that after the plan, where it is what was found before
+-- lock or wait: the word is exchanged for that after the plan, if it is what was found before
 abbrev pub TriesLock : Form → Type 0
 TriesLock F = (count size slots id i old : ℕ) (m : Mine) (p : Part) (serial : ℕ) (r : Router) → m.0.parts ≡ p ∷ [] →
     CanAct p.state serial r router_acts.Lock → primary_word r ≡ Some i →
@@ -144,7 +144,7 @@ abbrev pub is_refusal : Plan → Bool
 is_refusal Refuses = true
 is_refusal other = false
 
--- a load of a link's word by a router that wants its lock: where the plan is Refused it is the lock's refusal
+-- a load of a link's word by a router that wants its lock: if the plan is Refused, it is the lock's refusal
 abbrev pub LoadsForLock : Form → Type 0
 LoadsForLock F = (count size slots id i : ℕ) (m : Mine) (p : Part) (serial : ℕ) (r : Router) → m.0.parts ≡ p ∷ [] →
     CanAct p.state serial r router_acts.Lock → primary_word r ≡ Some i →
@@ -152,7 +152,7 @@ LoadsForLock F = (count size slots id i : ℕ) (m : Mine) (p : Part) (serial : �
     (λ n. turn_where (is_refusal (plan_of (word_of_bits n) r.end.side)) p.node (acts.Router serial router_acts.Lock))
     (Acted i serial r router_acts.Lock (λ n. is_refusal (plan_of (word_of_bits n) r.end.side)) m p)
 
--- a load of the claim count by a proxy that wants a word: where it finds that each was claimed it is the claim's NoWord
+-- a load of the claim count by a proxy that wants a word: if it finds that each was claimed, it is the claim's NoWord
 abbrev pub LoadsForClaim : Form → Type 0
 LoadsForClaim F = (count size slots id : ℕ) (m : Mine) (p : Part) (serial : ℕ) (r : Router) → m.0.parts ≡ p ∷ [] →
     CanAct p.state serial r router_acts.Claim →
@@ -161,7 +161,7 @@ LoadsForClaim F = (count size slots id : ℕ) (m : Mine) (p : Part) (serial : �
     (m' ≡ (with_part (act_part (acts.Router serial router_acts.Claim) answers.NoWord p) (saw size n m.0), m.1))
     (m' ≡ (saw size n m.0, m.1)))
 
--- claim: the count is exchanged for the next, where it is what was found before
+-- claim: the count is exchanged for the next, if it is what was found before
 abbrev pub Claims : Form → Type 0
 Claims F = (count size slots id c : ℕ) (m : Mine) (p : Part) (serial : ℕ) (r : Router) → m.0.parts ≡ p ∷ [] →
     CanAct p.state serial r router_acts.Claim → c < size →
@@ -203,7 +203,7 @@ Posts F = (count size slots id i k to : ℕ) (m : Mine) (p : Part) (x : Message)
     has_number p.probed to ≡ true → has_mail_for p.state to ≡ true → post_of p.state (acts.Post to) ≡ Some x → m.1 ≡ (k, Some x) ∷ rest →
     F count size slots id m i (λ n. 1) (λ n. (p.node, acts.Post to) ∷ []) (λ n m'. m' ≡ (with_part (post_part to p) m.0, rest))
 
--- look: where the mailbox is full its message is taken into the hand
+-- look: if the mailbox is full, its message is taken into the hand
 abbrev pub Looks : Form → Type 0
 Looks F = (count size slots id i k from : ℕ) (m : Mine) (p : Part) → m.0.parts ≡ p ∷ [] → k ≡ from * count + p.node →
     i ≡ size + 1 + count + k → from < count → p.state.hand ≡ None →

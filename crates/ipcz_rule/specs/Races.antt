@@ -1,4 +1,4 @@
--- What lies between two steps of a seat that only loads. Where it has found a link word or the claim count at two numbers, another seat has
+-- What lies between two steps of a seat that only loads. If it has found a link word or the claim count at two numbers, another seat has
 -- taken an act between; and a mailbox that its node waits for stays as it was found.
 use Rattle.std.specs.Prelude.{◌≡◌, ◌≢◌, ◌≤◌, ◌<◌, ◌⊎◌, ◌+◌, ◌*◌, ℕ, suc, nat_eq, Bool, false, List, [], ◌∷◌, ◌++◌, length, slice_index, MatchBool, refl}
 use mathlib.Core.Option.{some}
@@ -17,7 +17,7 @@ pub record IsLoad (count size : ℕ) (p : Ruled count size) (turns : List (ℕ �
   pub same : t.change (slice_index p.0.words t.word) ≡ slice_index p.0.words t.word
   pub view : (t.allowed p.0 p.1 refl t.there t.small).0 ≡ saw t.word (slice_index p.0.words t.word) t.me.0
 
--- so a step of a kind is one wherever a test of the number found fails, where it tells that this number was seen then and nothing else of its
+-- so a step of a kind is one wherever a test of the number found fails, if it tells that this number was seen then and nothing else of its
 -- seat has changed, that the word is left, and that it is no act
 abbrev pub SightsAreLoads : Type 0
 SightsAreLoads =
@@ -55,7 +55,7 @@ pub record HasSeenMore (count size id : ℕ) (p : Ruled count size) (steps : Lis
   pub last : get_elem? q.0.views id ≡ some v'
   pub seen : v'.seen ≡ v.seen ++ more
 
--- where it has found a link word or the claim count at one number and then at another, another seat has taken an act on that word between
+-- if it has found a link word or the claim count at one number and then at another, another seat has taken an act on that word between
 abbrev pub RacedIsOvertaken : Type 0
 RacedIsOvertaken =
     (count size id i n found : ℕ) (p q : Ruled count size) (steps : List (List (ℕ × Act))) (run : AreSteps count size p steps q) (v v' : View)

@@ -1,5 +1,5 @@
 -- The rule of the table: what words, slots and views show is a lawful world, with the books that the views keep, in which nothing strays.
--- (This project's own: ipcz's nodes share no memory but the link states, and nothing there says what all of it comes to.)
+-- (This project's own: ipcz's nodes share no memory but the link states, and nothing there says what all of it shows.)
 use Rattle.std.specs.Prelude.{◌≡◌, ◌≤◌, ◌<◌, ◌+◌, ◌*◌, ℕ, zero, suc, Bool, false, ◌||◌, cond, nat_eq, List, [], ◌∷◌, ◌++◌, length}
 use Rattle.std.specs.Prelude.{slice_index, slice_get, Option, Some, None}
 use mathlib.Core.Option.{some}

@@ -88,7 +88,7 @@ EachPart views P = (id : ℕ) (v : View) (j : ℕ) (p : Part) → get_elem? view
 abbrev pub NodesHaveParts : Type 0
 NodesHaveParts = (count size : ℕ) (s : St) → Rules count size s → HaveParts s.views count
 
--- where each part is of a quiet node, and no mailbox is full, the shown world is quiet
+-- if each part is of a quiet node, and no mailbox is full, the shown world is quiet
 abbrev pub QuietPartsShowQuiet : Type 0
 QuietPartsShowQuiet = (count size : ℕ) (s : St) (r : Rules count size s) → EachPart s.views (λ p. is_quiet p.state ≡ true) →
     ((k : ℕ) → k < count * count → slice_index s.words (size + 1 + count + k) ≢ 1) → IsQuiet r.world
@@ -98,7 +98,7 @@ pub record IsSettled (n : Node) : Type 0 where
   pub quiet : is_quiet n ≡ true
   pub wet : (serial : ℕ) (r : Router) → router_in n serial ≡ Some r → r.dry ≡ false
 
--- where that holds of each node by its part, and no mailbox is full, the shown world has no proxy and no router of a pair with both ends
+-- if that holds of each node by its part, and no mailbox is full, the shown world has no proxy and no router of a pair with both ends
 -- closed, and each open pair in it of which an end isn't closed is direct: two terminals on one free link, and all that was put has come
 abbrev pub SettledPartsAreDirect : Type 0
 SettledPartsAreDirect = (count size : ℕ) (s : St) (r : Rules count size s) → EachPart s.views (λ p. IsSettled p.state) →

@@ -132,7 +132,7 @@ is_on_word router_acts.Lock = true
 is_on_word router_acts.Unlock = true
 is_on_word other = false
 
--- the view after an act of a router of a side on the word i, where it was found at n
+-- the view after an act of a router of a side on the word i, if it was found at n
 abbrev pub acted_view : ℕ → ℕ → ℕ → Side → Option ℕ → RouterAct → Part → View → View
 acted_view i n serial side source act p v = with_part (act_part (acts.Router serial act) (word_answer (word_of_bits n) side source act) p)
     (saw i n v)

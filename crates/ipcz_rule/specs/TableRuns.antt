@@ -1,4 +1,4 @@
--- Runs of the table: steps that turns take, of any seats, in whatever order, and what they come to for the shown world.
+-- Runs of the table: steps that turns take, of any seats, in whatever order, and what they are for the shown world.
 use Rattle.std.specs.Prelude.{◌≡◌, ◌≢◌, ◌≤◌, ◌<◌, ◌+◌, ◌*◌, ℕ, List, [], ◌∷◌, ◌++◌, length, slice_index, refl}
 use mathlib.Core.Option.{some}
 use lib.ListN.{get_elem?}
@@ -42,7 +42,7 @@ abbrev pub all_turns : List (List (ℕ × Act)) → List (ℕ × Act)
 all_turns [] = []
 all_turns (turns ∷ steps) = turns ++ all_turns steps
 
--- what steps come to is a run of turns of the shown world
+-- steps are a run of turns of the shown world
 abbrev pub StepsAreTurns : Type 0
 StepsAreTurns =
     (count size : ℕ) (p q : Ruled count size) (steps : List (List (ℕ × Act))) → AreSteps count size p steps q →
@@ -56,7 +56,7 @@ StepsAreBounded =
     AreSteps count size p steps q →
     times_used p.1.world (all_turns steps) + rank c q.1.world ≤ rank c p.1.world + 2 * unlock_count (all_turns steps)
 
--- where a link word or the claim count has another number behind steps, one of them is an act
+-- if a link word or the claim count has another number behind steps, one of them is an act
 abbrev pub OvertakenByActs : Type 0
 OvertakenByActs =
     (count size i : ℕ) (p q : Ruled count size) (steps : List (List (ℕ × Act))) → AreSteps count size p steps q → i ≤ size →

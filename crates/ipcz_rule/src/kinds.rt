@@ -57,17 +57,17 @@ pub fn an_unlock_keeps_the_rule()
     ensures { Unlocks IsTurns }
 {}
 
-/// A lock or a wait: an exchange, which is a load where the word has changed.
+/// A lock or a wait: an exchange, which is a load if the word has changed.
 pub fn a_try_for_the_lock_keeps_the_rule()
     ensures { TriesLock IsTurns }
 {}
 
-/// A load before the try for a lock: where the lock is refused that is the router's answer.
+/// A load before the try for a lock: if the lock is refused, that is the router's answer.
 pub fn a_load_for_the_lock_keeps_the_rule()
     ensures { LoadsForLock IsTurns }
 {}
 
-/// A load before a claim: where each word was claimed that is the router's answer.
+/// A load before a claim: if each word was claimed, that is the router's answer.
 pub fn a_load_for_a_claim_keeps_the_rule()
     ensures { LoadsForClaim IsTurns }
 {}

@@ -7,19 +7,19 @@ ghost use Rattle.ipcz_rule.specs.Races.{SightsAreLoads, RacedIsOvertaken, Waited
 ghost use Rattle.ipcz_rule.specs.TableRuns.{StepsAreTurns, StepsAreBounded, OvertakenByActs};
 ghost use Rattle.ipcz_rule.specs.RuleLaws.{PutsAreOnce, GetsFollowPuts, QuietPartsShowQuiet, SettledPartsAreDirect};
 
-/// Where the rule holds, the world that words, slots and views show has each portal's gets a prefix of its peer's puts, each item that was
-/// neither got nor dropped in one place, locks and words in order, link lengths that agree, and no message but a Flush whose router is
-/// gone.
+/// If the rule holds, then in the world that words, slots and views show each portal has got a prefix of what its peer put, each item that
+/// was neither got nor dropped stands in one place, locks and words are in order, link lengths agree, and no message but a Flush finds its
+/// router gone.
 pub fn what_is_shown_gives_the_headline()
     ensures { RuleGivesHeadline }
 {}
 
-/// Where the rule holds, a router with a possible act is flagged.
+/// If the rule holds, a router with a possible act is flagged.
 pub fn what_is_shown_owes_what_waits()
     ensures { RuleOwes }
 {}
 
-/// Where the rule holds, the shown world has a node for each number below its count, a word for each link, a mailbox for each two nodes.
+/// If the rule holds, the shown world has a node for each number below its count, a word for each link, a mailbox for each two nodes.
 pub fn what_is_shown_has_its_lengths()
     ensures { ShownHasLengths }
 {}
@@ -65,26 +65,26 @@ pub fn gets_follow_puts()
     ensures { GetsFollowPuts }
 {}
 
-/// Where each part is of a quiet node and no mailbox is full, the shown world is quiet.
+/// If each part is of a quiet node and no mailbox is full, the shown world is quiet.
 pub fn quiet_parts_show_a_quiet_world()
     ensures { QuietPartsShowQuiet }
 {}
 
-/// Where each part is of a quiet node with no router that lacks a word, and no mailbox is full, the shown world has no proxy and no router
+/// If each part is of a quiet node with no router that lacks a word, and no mailbox is full, the shown world has no proxy and no router
 /// of a pair with both ends closed, and each open pair in it of which an end isn't closed is direct: two terminals on one free link, and all
 /// that was put has come.
 pub fn settled_parts_are_direct()
     ensures { SettledPartsAreDirect }
 {}
 
-/// Where the rule holds, whatever turns the nodes take from the shown world, no more of them use something up than its rank, and two for
+/// If the rule holds, whatever turns the nodes take from the shown world, no more of them use something up than its rank, and two for
 /// each unlock, by all rates that fit the books: so while no caller calls, a fabric whose seats go on trying comes to its end.
 pub fn what_is_shown_becomes_quiet_within_its_rank()
     ensures { RuleBoundsTurns }
 {}
 
-/// What any list of steps that turns take comes to, of any seats and in whatever order, is a run of turns of the shown world: each step is
-/// none, or one act of its node, by what it found.
+/// Any list of steps that turns take, of any seats and in whatever order, is a run of turns of the shown world: each step is none, or
+/// one act of its node, by what it found.
 pub fn steps_of_turns_are_turns_of_what_is_shown()
     ensures { StepsAreTurns }
 {}
@@ -95,8 +95,8 @@ pub fn steps_of_turns_are_bounded()
     ensures { StepsAreBounded }
 {}
 
-/// Where a link word or the claim count has another number behind steps of turns than before them, one of these steps is an act. So a call
-/// is answered `Raced` there only where another seat has taken an act, or was in a call, between its load and its exchange.
+/// If a link word or the claim count has another number behind steps of turns than before them, one of these steps is an act. So a call
+/// is answered `Raced` there only if another seat has taken an act, or was in a call, between its load and its exchange.
 pub fn another_number_is_found_only_behind_an_act()
     ensures { OvertakenByActs }
 {}
@@ -107,13 +107,13 @@ pub fn a_step_that_only_sees_is_a_load()
     ensures { SightsAreLoads }
 {}
 
-/// Where a seat only loads, and has found a link word or the claim count at one number and then at another, another seat has taken an act on
+/// If a seat only loads, and has found a link word or the claim count at one number and then at another, another seat has taken an act on
 /// that word between.
 pub fn who_finds_two_numbers_was_overtaken()
     ensures { RacedIsOvertaken }
 {}
 
-/// Where a seat only loads, it finds a mailbox again as it has found it: one to its node full, and one from its node empty. So no exchange of
+/// If a seat only loads, it finds a mailbox again as it has found it: one to its node full, and one from its node empty. So no exchange of
 /// such a mailbox's word finds another number than the load.
 pub fn a_mailbox_that_is_waited_for_stays()
     ensures { WaitedForStays }

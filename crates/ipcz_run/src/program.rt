@@ -23,7 +23,7 @@ pub enum Asked {
     Usage,
 }
 
-/// What the arguments of the program beside its name ask for, or that no memory was found to look at them.
+/// What the arguments of the program after its name ask for, or that no memory was found to look at them.
 ///
 /// One that is not UTF-8 counts.
 pub fn asked_for(rt: &(impl Env + Alloc)) -> Result<Asked, AllocError> {
@@ -58,7 +58,7 @@ fn status_of(ending: Result<Outcome, RunFault>) -> u8
     }
 }
 
-// Writes the usage line, and gives the status: 2, or 1 where a write failed.
+// Writes the usage line, and gives the status: 2, or 1 if a write failed.
 fn write_usage<W: Write>(writer: &mut Device<W>) -> u8
     requires { writer.old.failed ≡ false }
     ensures { WritesUsage (W.contents writer.old.inner) (W.contents writer.new.inner) writer.new.failed result }
@@ -101,11 +101,11 @@ fn run_on_threads<T: Threads + Sync, R: Read, W: Write>(
 /// The program but for its arguments and devices, which it is given: it runs the script that the reader gives, and answers
 /// the status (docs/PROTOCOL.md, "The program").
 ///
-/// `asked` is what `asked_for` answered. Where `threads` is asked for, the settles of the script run on threads
-/// (docs/THREADS.md, "Scripts on threads"). Where the usage is asked for, its line is written, nothing is read, and the status is 2, or 1
-/// where a write failed. Where no memory was found to look at the arguments nothing is read or written, and the status is 3. Else the
-/// status is 0 where the script was run, 1 where a read or a write failed, 2 where the script was refused, 3 where no memory was found,
-/// and 4 where a settle came to its limit.
+/// `asked` is what `asked_for` answered. If `threads` is asked for, the settles of the script run on threads
+/// (docs/THREADS.md, "Scripts on threads"). If the usage is asked for, its line is written, nothing is read, and the status is 2, or 1
+/// if a write failed. If no memory was found to look at the arguments, nothing is read or written, and the status is 3. Else the
+/// status is 0 if the script was run, 1 if a read or a write failed, 2 if the script was refused, 3 if no memory was found,
+/// and 4 if a settle came to its limit.
 pub fn run_program<T: Threads + Sync, R: Read, W: Write>(
     rt: &T,
     alloc: Global,

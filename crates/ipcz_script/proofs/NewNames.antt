@@ -19,7 +19,7 @@ use Rattle.ipcz_script.specs.Scripts.{words_in}
 use Rattle.ipcz_script.specs.Reading.{IsScript, script_from}
 use Rattle.ipcz_script.proofs.ReadNames.{Reads, Where, any, where-else, where-if, where-then}
 
--- a name is new where others are taken
+-- a name is new if others are taken
 pub record IsNew (taken : List ℕ → Bool) (name : List ℕ) : Type 0 where
   pub plain : has_angle name ≡ false
   pub free : taken name ≡ false

@@ -101,7 +101,7 @@ same-bytes a b e = (bytes_eq-Decides a b).1 e
 bytes-same : (a b : List ℕ) → bytes_eq a b ≡ true → a ≡ b
 bytes-same a b e = (bytes_eq-Decides a b).0 e
 
--- a call at a name that is bound is at the end of another name just where it is at this name
+-- a call at a name that is bound is at the end of another name exactly if it is at this name
 module _ (s t : Session) (x at : List ℕ) (e end : End) (told : AreTold t) (stays : Stays s t) (there : IsBound t x e)
     (bound : IsBound s at end) where
   pub is-at : bytes_eq at x ≡ true → is_bound s.names at e ≡ true

@@ -50,7 +50,7 @@ printable-lacks (b ∷ bs) h = go (b == 10) refl (printable-lacks bs t.1)
     go true e more = absurd (grind (arith, e, low, nat_tests))
     go false e more = more
 
--- a put is refused where its bytes don't print
+-- a put is refused if its bytes don't print
 put-prints : (n : Node) (at : End) (bytes : List ℕ) (ends : List End) → put_refusal Printed n at bytes ends ≡ None → is_printable bytes ≡ true
 unfolding put_refusal
 put-prints n at bytes ends = go (not (holds_end n at)) (are_too_many Printed bytes ends) (is_printable bytes) _

@@ -25,7 +25,7 @@ use Rattle.ipcz_script.specs.ReadBack.{HasNames, HaveNames}
 use Rattle.ipcz_script.specs.ByteLaws.{ScriptsHaveNames}
 use Rattle.ipcz_script.specs.Sayings.{NodeHasBits, TurnsHaveBits}
 
--- what holds of a thing, where there is one
+-- what holds of a thing, if there is one
 abbrev pub Where : {A : Type 0} → (A → Type 0) → Option A → Type 0
 Where P None = Unit {0}
 Where P (Some a) = P a
@@ -59,7 +59,7 @@ new_name-is : (taken : List ℕ → Bool) (d : Data) → Where IsName (new_name_
 new_name-is taken d = where-then IsName IsName _ (name_in d) (name-is d)
     (λ n h. where-if IsName _ (Some n) (λ e. h))
 
--- what holds of what a result has, where it is no error
+-- what holds of what a result has, if it is no error
 abbrev pub Reads : {A E : Type 0} → (A → Type 0) → Result A E → Type 0
 Reads P (Ok a) = P a
 Reads P (Err e) = Unit {0}

@@ -161,7 +161,7 @@ turns-bits : (node : ℕ) (rs : List Reply) → AllByRecursion CallHasBits (map 
 turns-bits node [] = tt
 turns-bits node (r ∷ rs) = (tt, turns-bits node rs)
 
--- what is said of an answer, where the numbers of puts and gets have 64 bits
+-- what is said of an answer, if the numbers of puts and gets have 64 bits
 said-bits : (titles : Titles) (c : Command) (answer : Said) →
     ((at text : List ℕ) (attached : List (List ℕ)) (k : ℕ) → c ≡ commands.Put at text attached → answer ≡ said.Put k → HasBits k) →
     ((at : List ℕ) (k : ℕ) (p : parcels.Parcel) → c ≡ commands.Get at → answer ≡ said.Got k p → HasBits k) →

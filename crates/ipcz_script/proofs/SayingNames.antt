@@ -280,7 +280,7 @@ turn-names : (node : ℕ) (rs : List Reply) → AllByRecursion NamesAreNames (ma
 turn-names node [] = tt
 turn-names node (r ∷ rs) = (tt, turn-names node rs)
 
--- what is said of an answer, where the parcel of a get has ends with names
+-- what is said of an answer, if the parcel of a get has ends with names
 said-names : (titles : Titles) (c : Command) (answer : Said) → HasNames c →
     ((name : List ℕ) (k : ℕ) (p : parcels.Parcel) → c ≡ commands.Get name → answer ≡ said.Got k p → HaveTitles titles p.ends) →
     AllByRecursion NamesAreNames (sayings_of titles c answer)

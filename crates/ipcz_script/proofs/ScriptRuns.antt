@@ -158,7 +158,7 @@ bind_pairs-world s pair (p ∷ ps) = bind_pairs-world (bind_pair s pair p.0 p.1)
 -- ---- one command
 
 module _ (nodes words : ℕ) (s : Session) (puts gots : Parcels) (at : Kept nodes words s.world puts gots) where
-  -- what a command leaves, where its answer is this
+  -- what a command leaves, if its answer is this
   abbrev pub Leaves : Command → Said → World → Type 0
   Leaves c answer v = Kept nodes words v (more puts (put_said s.names c answer)) (more gots (got_said s.names c answer))
 

@@ -110,7 +110,7 @@ parcels-next (q ∷ ps) (Parcel r ∷ items) p front next =
     let more : take (length ps) items ≡ map Parcel ps = cc in
     parcels-next ps items p more next
 
--- a mark behind parcels that are a prefix, where nothing but Gone comes after it
+-- a mark behind parcels that are a prefix, if nothing but Gone comes after it
 record EndsMarked (ps : List parcels.Parcel) (items : List Item) : Type 0 where
   all : ps ≡ parcels_in items
   marked : has_mark items ≡ true

@@ -1,4 +1,4 @@
--- What a step that is no turn comes to, and turns one after the other.
+-- What comes of a step that is no turn, and of turns one after the other.
 use Rattle.std.proofs.Common.{◌≡◌, ◌∙◌, ◌++◌, ap, sym, refl, subst, inl, inr, ℕ, zero, suc, true, false, List, [], ◌∷◌, append_assoc}
 use Rattle.std.proofs.Common.{append-nil}
 use Rattle.std.specs.Prelude.{MatchBool}

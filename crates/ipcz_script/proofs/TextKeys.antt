@@ -16,7 +16,7 @@ use Rattle.std.proofs.lemmas.Map.Text.{is_eq-slice_cmp, btree_map_updates_text, 
 use Rattle.ipcz_base.specs.declared.end.End.{End}
 use Rattle.ipcz_script.specs.Bindings.{bindings_of}
 
--- two texts tie where their bytes are equal
+-- two texts tie if their bytes are equal
 tied : (q k : List ℕ) → bytes_eq k q ≡ eq_by_cmp (slice_cmp nat_cmp) q k
 tied q k = sym (is_eq-slice_cmp k q) ∙ (eq_by_cmp_equiv nat_list_cmp_total).symm k q
 

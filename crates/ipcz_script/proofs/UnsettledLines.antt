@@ -1,4 +1,4 @@
--- A run ends as unsettled just where a line of its transcript says so.
+-- A run ends as unsettled exactly if a line of its transcript says so.
 use Rattle.std.proofs.Common.{◌≡◌, ◌∙◌, ◌⊎◌, ◌↔◌, ℕ, Bool, true, false, List, [], ◌∷◌, ◌++◌, refl, sym, ap, subst, arith, inl, inr, codes}
 use Rattle.std.specs.Prelude.{◌||◌}
 use Rattle.ipcz_world.specs.declared.step.Reply.{Reply}
@@ -72,7 +72,7 @@ unfolding is_unsettled
 turns-line s t count node titles (said.Turned rs) is = neither (turn_rows node rs) (said.Turned rs) (turn-other node rs) refl
 turns-line s t count node titles any is = absurd is
 
--- a command writes the line just where its answer says so
+-- a command writes the line exactly if its answer says so
 command-line : (s : Session) (c : Command) (answer : Said) (t : Session) (titles : Titles) → Runs s c answer t →
     HasLine (rows_of titles c answer) U ↔ (is_unsettled answer ≡ true)
 unfolding is_unsettled first

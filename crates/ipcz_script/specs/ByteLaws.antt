@@ -25,7 +25,7 @@ OutputsHaveLines =
     (script : Script) (outcome : Outcome) (text : List ℕ) → IsWithinLimits script.nodes script.words →
     HaveNames script.commands → IsRunOutput script outcome text → (lines : List (List ℕ)) × AreLines text lines
 
--- law: a run ends as unsettled just where a line is `unsettled`
+-- law: a run ends as unsettled exactly if a line is `unsettled`
 abbrev pub UnsettledIsWritten : Type 0
 UnsettledIsWritten = OfLines (λ outcome lines. (outcome ≡ outcomes.Unsettled) ↔ HasLine lines (codes "unsettled"))
 

@@ -1,4 +1,4 @@
--- What each item of a list gives, where each gives something.
+-- What each item of a list gives, if each gives something.
 use Rattle.std.specs.Prelude.{List, [], ◌∷◌, Option, Some, option_and_then, option_map}
 
 abbrev pub each_of : {X Y : Type 0} → (X → Option Y) → List X → Option (List Y)

@@ -28,7 +28,7 @@ abbrev pub more_ends : List End → List ℕ
 more_ends [] = []
 more_ends (e ∷ es) = codes "," ++ end_text e ++ more_ends es
 
--- the ends that moved with an item, where there are some
+-- the ends that moved with an item, if there are some
 abbrev pub moved_text : List End → List ℕ
 moved_text [] = []
 moved_text (e ∷ es) = codes " moves " ++ end_text e ++ more_ends es

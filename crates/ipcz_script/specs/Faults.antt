@@ -1,4 +1,4 @@
--- What a reader of a script answers, beside what its definition says: only a want of memory may stand in between.
+-- What a reader of a script answers, in addition to what its definition says: only a want of memory may stand in between.
 use Rattle.std.specs.Prelude.{◌≡◌, Result, Ok, Err}
 use Rattle.ipcz_script.specs.declared.script_fault.ScriptFault.{ScriptFault}
 use Rattle.ipcz_script.specs.declared.script_fault.ScriptFault.TheVariants.{NotJson, BadShape, TooLong, OutOfMemory}

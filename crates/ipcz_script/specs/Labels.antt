@@ -34,6 +34,6 @@ bind_pairs l pair (p ∷ ps) = bind_pairs (bind_pair l pair p.0 p.1) (pair + 1) 
 abbrev pub first_labels : ℕ → Labels
 first_labels nodes = bind_pairs (record { names = empty; titles = empty }) 0 (first_pairs nodes)
 
--- the ends that these names are bound to, where each is bound
+-- the ends that these names are bound to, if each is bound
 abbrev pub ends_of : Labels → List (List ℕ) → Option (List End)
 ends_of l attached = each_of (get l.names) attached

@@ -1,4 +1,4 @@
--- What a transcript's lines say that a name got and put, by the names alone: its bytes are read back, and set beside the commands of its
+-- What a transcript's lines say that a name got and put, by the names only: its bytes are read back, and compared with the commands of its
 -- script.
 use Rattle.std.specs.Prelude.{◌≡◌, ◌≢◌, ◌⊎◌, ◌<◌, ℕ, cond, List, [], ◌∷◌, ◌++◌, length, map, take, bytes_eq, Ok}
 use Rattle.std.specs.List.{AllByRecursion, range_with_len}

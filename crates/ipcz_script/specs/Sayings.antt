@@ -1,4 +1,4 @@
--- What a line of a transcript says, and how that is written: by these texts a reader tells from the bytes alone what was answered.
+-- What a line of a transcript says, and how that is written: by these texts a reader tells from the bytes only what was answered.
 use Rattle.std.specs.Prelude.{◌≡◌, ◌<◌, ◌^◌, ℕ, true, List, [], ◌∷◌, ◌++◌, map, codes, Ok}
 use Rattle.std.specs.List.{AllByRecursion}
 use Rattle.std.specs.Fmt.{decimal}

@@ -24,12 +24,12 @@ is_bound names name e = option_map_or (same_end e) (get names name) false
 abbrev pub parcel_of : Bindings → List ℕ → List (List ℕ) → parcels.Parcel
 parcel_of names text attached = record { bytes = text; ends = unwrap_or (ends_of names attached) [] }
 
--- the parcel that an end has put, where that is what a command and its answer say
+-- the parcel that an end has put, if that is what a command and its answer say
 unfoldable pub put_said : Bindings → Command → Said → End → List parcels.Parcel
 put_said names (commands.Put at text attached) (said.Put n) e = cond (is_bound names at e) (parcel_of names text attached ∷ []) []
 put_said names command answer e = []
 
--- the parcel that an end has got, where that is what a command and its answer say
+-- the parcel that an end has got, if that is what a command and its answer say
 unfoldable pub got_said : Bindings → Command → Said → End → List parcels.Parcel
 got_said names (commands.Get at) (said.Got n p) e = cond (is_bound names at e) (p ∷ []) []
 got_said names command answer e = []

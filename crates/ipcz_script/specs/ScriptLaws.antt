@@ -57,10 +57,10 @@ ScriptsDeliver = AfterScripts (λ nodes words. Headline)
 pub record NothingIsStuck (nodes words : ℕ) (w : World) (b : Books) (g : Routes) : Type 0 where
   -- no message but a Flush finds its router gone, and no node has a stray
   pub strays : StrayLaw w
-  -- each end of an open pair is in one place, and where callers hold it it has its terminal
+  -- each end of an open pair is in one place, and if callers hold it, it has its terminal
   pub ends : EndLaw w b g
   pub held : (n : ℕ) (e : End) → n < w.count → holds_end (node_at w n) e ≡ true → IsSome (terminal_of (node_at w n) e)
-  -- where nothing waits, a get on a direct pair is Empty only where all that the peer has put was got; on one node each pair is
+  -- if nothing waits, a get on a direct pair is Empty only if all that the peer has put was got; on one node each pair is
   -- direct of which an end isn't closed
   pub all_got : IsQuiet w → (n : ℕ) (e : End) (v : World) → IsDirectPair w e.pair → StepAny w (Get n e) (Refused Empty) v →
       map Parcel (b.got e) ≡ b.put (opposite_end e)

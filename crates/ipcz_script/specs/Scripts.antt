@@ -39,7 +39,7 @@ has_three_members d = option_map_or (λ ms. members_len ms == 3) (as_object d) f
 
 -- ---- the whole
 
--- the script of these commands, where each of the values was one
+-- the script of these commands, if each of the values was one
 abbrev pub with_commands : ℕ → ℕ → Result (List Command) ScriptFault → Result Script ScriptFault
 with_commands nodes words (Ok commands) = Ok (record { nodes = nodes; words = words; commands = commands })
 with_commands nodes words (Err why) = Err why

@@ -60,7 +60,7 @@ pub record Replied : Type 0 where
   pub said : Said
   pub session : Session
 
--- what a command is answered where a step of the world replies this
+-- what a command is answered if a step of the world replies this
 unfoldable pub answer_to : Reply → Said
 answer_to (replies.Opened a b) = said.Opened
 answer_to (replies.Put n) = said.Put n
@@ -83,17 +83,17 @@ abbrev pub replied_open : Session → List ℕ → List ℕ → Effect → Repli
 replied_open s first second done =
     record { said = answer_to done.reply; session = name_pair (with_world s done.world) first second done.reply }
 
--- a call with what names are bound to, where they are bound
+-- a call with what names are bound to, if they are bound
 unfoldable pub if_known : {X : Type 0} → Session → Option X → (X → Replied) → Replied
 if_known s None call = record { said = said.UnknownName; session = s }
 if_known s (Some x) call = call x
 
--- a call at the node whose callers hold the end, where some do
+-- a call at the node whose callers hold the end, if some do
 unfoldable pub if_held : Session → Option ℕ → (ℕ → Replied) → Replied
 if_held s None call = record { said = said.Away; session = s }
 if_held s (Some node) call = call node
 
--- the ends that these names are bound to, where each is bound
+-- the ends that these names are bound to, if each is bound
 abbrev pub ends_of : Bindings → List (List ℕ) → Option (List End)
 ends_of names attached = each_of (get names) attached
 
@@ -130,7 +130,7 @@ unfoldable pub is_idle_reply : Reply → Bool
 is_idle_reply (replies.Turned Idle) = true
 is_idle_reply other = false
 
--- these are the replies to so many turns of a node, or fewer where one was idle
+-- these are the replies to so many turns of a node, or fewer if one was idle
 abbrev pub AreTurns : ℕ → ℕ → World → List Reply → World → Type 0
 AreTurns zero node w [] v = v ≡ w
 AreTurns zero node w (r ∷ rs) v = ⊥

@@ -34,7 +34,7 @@ abbrev pub HasGotAll : List Answered → End → Type 0
 HasGotAll log e = gots_in log e ≡ puts_in log (opposite_end e)
 
 -- what a get at an end is answered, if nothing of what its peer has put is on its way any more: the peer's next parcel; that there is none,
--- only where all was got, and that the peer is closed only where it is; or that nobody holds the end, as one that lies in a parcel
+-- only if all was got, and that the peer is closed only if it is; or that nobody holds the end, as one that lies in a parcel
 unfoldable pub GivesNext : World → Books → List Answered → End → Said → Type 0
 GivesNext w b log e (said.Got n p) = slice_get (puts_in log (opposite_end e)) (length (gots_in log e)) ≡ Some p
 GivesNext w b log e (said.Refused Empty) = HasGotAll log e
@@ -48,7 +48,7 @@ GetsGiveNext s b log =
     (name : List ℕ) (e : End) (answer : Said) (t : Session) → get s.names name ≡ Some e → Runs s (commands.Get name) answer t →
     GivesNext s.world b log e answer
 
--- law: where a settle has settled, only gets were run behind it, and no router has found the link words used up, each get gives what the
+-- law: if a settle has settled, only gets were run behind it, and no router has found the link words used up, each get gives what the
 -- peer has put, in order, to the last
 abbrev pub SettledGetsGiveAll : Type 0
 SettledGetsGiveAll =

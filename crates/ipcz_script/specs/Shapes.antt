@@ -13,13 +13,13 @@ abbrev pub list_of : Items → List Data
 list_of no_items = []
 list_of (item d ds) = d ∷ list_of ds
 
--- the values of an array, where the value is one
+-- the values of an array, if the value is one
 abbrev pub values_of : Data → Option (List Data)
 values_of d = option_map list_of (as_array d)
 
 -- ---- words of a command
 
--- a number of this range, where the value is a whole number that fits 64 bits and was written without sign, fraction and exponent
+-- a number of this range, if the value is a whole number that fits 64 bits and was written without sign, fraction and exponent
 abbrev pub number_within : ℕ → ℕ → Data → Option ℕ
 number_within low high d = option_and_then (λ n. if nat_le low n && nat_le n high then Some n else None)
     (option_and_then as_u64 (as_number d))
@@ -34,21 +34,21 @@ new_name_in taken d = option_and_then (λ name. if not (has_angle name) && not (
 
 -- ---- the words behind a command's first
 
--- an open, where the node is one and the names are two that differ
+-- an open, if the node is one and the names are two that differ
 abbrev pub open_of : Option ℕ → Option (List ℕ) → Option (List ℕ) → Option Command
 open_of (Some node) (Some first) (Some second) = if bytes_eq first second then None else Some (Open node first second)
 open_of _ _ _ = None
 
--- the names in a list, where each of its values is one
+-- the names in a list, if each of its values is one
 abbrev pub names_in : Data → Option (List (List ℕ))
 names_in d = option_and_then (each_of name_in) (values_of d)
 
--- a put, where the name is one, the data is a text and the list is one of names
+-- a put, if the name is one, the data is a text and the list is one of names
 abbrev pub put_of : Option (List ℕ) → Option (List ℕ) → Option (List (List ℕ)) → Option Command
 put_of (Some at) (Some text) (Some ends) = Some (Put at text ends)
 put_of _ _ _ = None
 
--- a turn, where the node and the count are of their ranges
+-- a turn, if the node and the count are of their ranges
 abbrev pub turn_of : Option ℕ → Option ℕ → Option Command
 turn_of (Some node) (Some count) = Some (Turn node count)
 turn_of _ _ = None
@@ -59,7 +59,7 @@ open_in nodes taken (node ∷ first ∷ second ∷ []) = open_of (number_within 
     (new_name_in taken second)
 open_in nodes taken ds = None
 
--- a name, the data, which may be any text, and where portals are attached a list of names
+-- a name, the data, which may be any text, and, if portals are attached, a list of names
 abbrev pub put_in : List Data → Option Command
 put_in (at ∷ text ∷ []) = put_of (name_in at) (as_str text) (Some [])
 put_in (at ∷ text ∷ ends ∷ []) = put_of (name_in at) (as_str text) (names_in ends)
@@ -109,6 +109,6 @@ abbrev pub command_in : ℕ → (List ℕ → Bool) → List Data → Option Com
 command_in nodes taken [] = None
 command_in nodes taken (word ∷ ds) = option_and_then (λ w. command_named nodes taken w ds) (as_str word)
 
--- the command that a value is, where there are so many nodes and `taken` says which names are taken
+-- the command that a value is, if there are so many nodes and `taken` says which names are taken
 abbrev pub command_of : ℕ → (List ℕ → Bool) → Data → Option Command
 command_of nodes taken d = option_and_then (command_in nodes taken) (values_of d)

@@ -51,7 +51,7 @@ Writes s cs text unsettled t = (log : List Answered) × AreAnswered s cs log t �
 abbrev pub IsTranscript : Script → List ℕ → Bool → Type 0
 IsTranscript script text unsettled = (t : Session) × Writes (new_session script.nodes script.words) script.commands text unsettled t
 
--- what a run is said to have written, where it says which texts are transcripts of a script, and whether some line of them is `unsettled`
+-- what a run is said to have written, if it says which texts are transcripts of a script, and whether some line of them is `unsettled`
 abbrev pub Transcribes : Type 1
 Transcribes = Script → List ℕ → Bool → Type 0
 

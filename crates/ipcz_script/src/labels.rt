@@ -59,7 +59,7 @@ impl Labels {
         self.names.end_of(name)
     }
 
-    /// The ends that these names are bound to, or none where one of them isn't bound.
+    /// The ends that these names are bound to, or none if one of them isn't bound.
     pub fn ends_of(&self, names: &[Text]) -> Result<Option<Ends>, AllocError>
         ensures { IfOk result (λ ends. ends ≡ ends_of self.now names.now) }
     {

@@ -1,4 +1,4 @@
-//! What holds of every script, as contracts of functions that do nothing (docs/LAW.md, "Of scripts").
+//! What holds of every script, as contracts of functions that do nothing (docs/THEOREM.md, "Of scripts").
 //!
 //! A transcript is by its definition the lines of some answers to the commands. These laws are about those answers, and `run_script` is
 //! what writes their lines.
@@ -43,7 +43,7 @@ pub fn scripts_deliver()
 {}
 
 /// After every script nothing is stuck, by such books: no node has a stray, each end is in one place and a held one has its terminal, and
-/// where nothing waits a get on a pair without proxies is Empty only where all that the peer put was got; of one node each open pair is
+/// if nothing waits, a get on a pair without proxies is Empty only if all that the peer put was got; of one node each open pair is
 /// such of which an end isn't closed.
 #[tactic(auto, using(crate::proofs::ScriptRuns::scripts_arrive))]
 pub fn scripts_arrive()
@@ -63,7 +63,7 @@ pub fn settled_gets_give_all()
     ensures { SettledGetsGiveAll }
 {}
 
-/// Each script that is read is within the limits, and its commands have names: what the laws of bytes ask for.
+/// Each script that is read is within the limits, and its commands have names: what the laws of bytes require.
 pub fn scripts_have_names()
     ensures { ScriptsHaveNames }
 {}
@@ -74,7 +74,7 @@ pub fn outputs_have_lines()
 {}
 
 /// The bytes of a transcript say just what its commands are answered, line by line: which call of which names, its number, the names of the
-/// portals and the data of a parcel, the refusal, what a settle came to, the claimed words, and each turn of a node.
+/// portals and the data of a parcel, the refusal, how a settle ended, the claimed words, and each turn of a node.
 pub fn lines_say_answers()
     ensures { LinesSayAnswers }
 {}
@@ -100,12 +100,12 @@ pub fn texts_are_one_event()
     ensures { TextsAreOneEvent }
 {}
 
-/// By its bytes alone: a run ends as unsettled just where a line of its transcript is `unsettled`.
+/// By its bytes only: a run ends as unsettled exactly if a line of its transcript is `unsettled`.
 pub fn unsettled_is_written()
     ensures { UnsettledIsWritten }
 {}
 
-/// By its bytes alone: no line of a transcript ends with ` stray`, so that no message but a Flush has ever found its router gone.
+/// By its bytes only: no line of a transcript ends with ` stray`, so that no message but a Flush has ever found its router gone.
 pub fn no_line_strays()
     ensures { NoLineStrays }
 {}
@@ -116,7 +116,7 @@ pub fn lines_are_counted()
     ensures { LinesAreCounted }
 {}
 
-/// By the names alone: read back the bytes that a script's run writes, and set them beside its commands. Of two names that an open's line or
+/// By the names only: read back the bytes that a script's run writes, and compare them with its commands. Of two names that an open's line or
 /// their form shows to be peers, the puts at one whose lines have a number are numbered 0, 1, and so on, and what the lines say the other
 /// got is a front of them: the same numbers, names of portals and data, in order.
 pub fn gets_follow_puts_by_name()

@@ -39,7 +39,7 @@ impl Names {
         }
     }
 
-    /// Binds the name to the end, also where it was bound to another one. No other name is touched.
+    /// Binds the name to the end, also if it was bound to another one. No other name is touched.
     pub fn bind(&mut self, name: &str, end: End) -> Result<(), AllocError>
         ensures ok { OnOk result (self.new ≡ finite.insert self.old name.now end) }
         ensures err { OnErr result (self.new ≡ self.old) }

@@ -125,8 +125,8 @@ fn script_of(alloc: Global, value: &Value) -> Result<Script, ScriptFault>
 
 /// The script that the bytes are (docs/PROTOCOL.md, "The script").
 ///
-/// The refusals, each before the next: `TooLong` where there are more than 1,048,576 bytes, `NotJson` where the bytes are
-/// no JSON text, `BadShape(0)` where the value isn't an object of exactly the three members, and `BadShape(n)` for the
+/// The refusals, each before the next: `TooLong` if there are more than 1,048,576 bytes, `NotJson` if the bytes are
+/// no JSON text, `BadShape(0)` if the value isn't an object of exactly the three members, and `BadShape(n)` for the
 /// first value that is no command. `OutOfMemory` says nothing of the bytes.
 pub fn read_script(alloc: Global, bytes: &[u8]) -> Result<Script, ScriptFault>
     ensures answer { IsAnswer bytes.now result }

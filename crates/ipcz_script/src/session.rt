@@ -181,7 +181,7 @@ impl Session {
         Ok(Said::Words(Sequence::from_vec(words)))
     }
 
-    /// Runs a command and gives its answer. Where no memory is found the run is over, and the session is of no more use.
+    /// Runs a command and gives its answer. If no memory is found, the run is over, and the session is of no more use.
     pub fn run(&mut self, command: &Command) -> Result<Said, AllocError>
         ensures runs { IfOk result (λ said. Runs self.old command.now said self.new) }
     {
@@ -219,7 +219,7 @@ pub fn is_idle(reply: &Reply) -> bool
     matches!(reply, Reply::Turned(Happened::Idle))
 }
 
-/// What a command is answered where a step replies this.
+/// What a command is answered if a step replies this.
 #[tactic(auto, unfolding(crate::specs::Sessions::answer_to))]
 pub fn answer_to(alloc: Global, reply: Reply) -> Result<Said, AllocError>
     ensures { IfOk result (λ said. said ≡ answer_to reply) }

@@ -17,7 +17,7 @@ use std::alloc::{AllocError, Global};
 
 const MAX_COUNT: u32 = 1_000_000;
 
-/// The values of an array, where the value is one.
+/// The values of an array, if the value is one.
 pub fn values_of(value: &Value) -> Option<&[Value]>
     ensures { option_map (λ values. map view values.now) result ≡ values_of (view value.now) }
 {
@@ -109,7 +109,7 @@ fn open_in(
     }))
 }
 
-// The names that these values are, or none where one of them is no name.
+// The names that these values are, or none if one of them is no name.
 fn names_from(alloc: Global, values: &[Value]) -> Result<Option<Sequence<Text>>, AllocError>
     ensures { IfOk result (λ names. names ≡ each_of name_in (map view values.now)) }
 {
@@ -263,7 +263,7 @@ fn command_named(
     }
 }
 
-/// The command that a list of JSON values is, where there are so many nodes and these names were opened before it.
+/// The command that a list of JSON values is, if there are so many nodes and these names were opened before it.
 pub fn command_in(
     alloc: Global,
     nodes: u8,

@@ -39,7 +39,7 @@ impl Titles {
         }
     }
 
-    /// Gives the end this name, also where it had another one. No other end is touched.
+    /// Gives the end this name, also if it had another one. No other end is touched.
     pub fn bind(&mut self, end: End, name: &str) -> Result<(), AllocError>
         ensures ok { OnOk result (self.new ≡ finite.insert self.old end name.now) }
         ensures err { OnErr result (self.new ≡ self.old) }

@@ -7,7 +7,7 @@ use ipcz_script::{Outcome, RunFault, run_script};
 use std::alloc::Global;
 use std::test::Fail;
 
-// Whether the run of some bytes of which so many are read at once ends so, and writes this, where so many reads are made.
+// Whether the run of some bytes of which so many are read at once ends so, and writes this, if so many reads are made.
 fn ends_after_reads(
     alloc: Global,
     bytes: &[u8],
@@ -58,7 +58,7 @@ fn nothing_is_written_after_a_read_that_fails(rt: HostRuntime) -> Result<(), Fai
     Ok(())
 }
 
-// Whether the run of some bytes ends so, and writes this, where so many writes are made of so many bytes each; the next one fails, or
+// Whether the run of some bytes ends so, and writes this, if so many writes are made of so many bytes each; the next one fails, or
 // takes none.
 fn ends_after_writes(
     alloc: Global,

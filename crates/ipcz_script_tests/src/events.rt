@@ -17,7 +17,7 @@ fn unfit(kind: Handed, link: LinkId) -> Happened {
     }
 }
 
-// Trusted nodes make no strays, and an unlock wants a begin or a retire that finds no memory: a script can show the dropped Flush alone.
+// Trusted nodes make no strays, and an unlock wants a begin or a retire that finds no memory: a script can show only the dropped Flush.
 #[test]
 fn prints_what_no_script_shows(rt: HostRuntime) -> Result<(), Fail> {
     let rows = [

@@ -13,7 +13,7 @@ fn refused(alloc: Global, why: Refusal) -> Result<Said, AllocError> {
     Ok(Said::Turned(Sequence::from_vec(replies)))
 }
 
-// A turn is refused where serials end, or where another thread changed the word: no script of one thread comes that far.
+// A turn is refused if serials end, or if another thread changed the word: no script of one thread comes that far.
 #[test]
 fn prints_a_refused_turn(rt: HostRuntime) -> Result<(), Fail> {
     let labels = Labels::first(rt.alloc(), 1)?;

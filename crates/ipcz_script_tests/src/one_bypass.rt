@@ -25,7 +25,7 @@ pub const COMMANDS: [&str; 15] = [
 
 const TAIL: &str = "]}";
 
-/// Its bytes, where the list of one command may be an empty one.
+/// Its bytes; if a command is named, its list is an empty one.
 pub fn script(alloc: Global, emptied: Option<usize>) -> Result<Vec<u8>, AllocError> {
     let mut bytes = Vec::new(alloc);
     bytes.extend_from_slice(HEAD.as_bytes())?;

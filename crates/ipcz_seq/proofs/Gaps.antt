@@ -1,4 +1,4 @@
--- The first gap among pairs whose numbers rise: a pair is before it where its number is its place's, counted from the current one.
+-- The first gap among pairs whose numbers rise: a pair is before it if its number is its place's, counted from the current one.
 use Rattle.std.proofs.Common.{◌≡◌, ◌≢◌, ℕ, zero, suc, ◌+◌, ◌-◌, ◌/◌, ◌<◌, ◌≤◌, ◌^◌, List, [], ◌∷◌, length, get_or, ap, sym, ◌∙◌, subst}
 use Rattle.std.proofs.Common.{arith}
 use Rattle.std.proofs.lemmas.List.{get_or_default}
@@ -13,7 +13,7 @@ pub record IsGapWithin {T : Type 0} (current : ℕ) (es : List (ℕ × T)) (from
   pub filled : (k : ℕ) (d : ℕ × T) → k < from → (get_or es k d).0 ≡ current + k
   pub behind : (d : ℕ × T) → to < length es → current + to < (get_or es to d).0
 
--- where a pair's number is its place's, so is that of each before it
+-- if a pair's number is its place's, so is that of each before it
 pub filled_before : {T : Type 0} (c : ℕ) (es : List (ℕ × T)) (j k : ℕ) (d : ℕ × T) → AreWaiting c es → j ≤ k → k < length es →
     (get_or es k d).0 ≡ c + k → (get_or es j d).0 ≡ c + j
 filled_before c es j k d w order h same =
@@ -25,7 +25,7 @@ filled_before c es j k d w order h same =
 pub middle : (a b : ℕ) → a < b → (a ≤ a + (b - a) / 2) × (a + (b - a) / 2 < b)
 middle a b h = (omega arith, omega arith)
 
--- where the pair that was looked at is before the gap, the rest is searched behind it
+-- if the pair that was looked at is before the gap, the rest is searched behind it
 pub further : {T : Type 0} (c : ℕ) (es : List (ℕ × T)) (from to place : ℕ) (x : ℕ × T) → AreWaiting c es → IsGapWithin c es from to place →
     from < to → x ≡ get_or es place x → x.0 ≡ c + place
     → IsGapWithin c es (place + 1) to (place + 1 + (to - (place + 1)) / 2)
@@ -73,7 +73,7 @@ gap_at c (e ∷ es) (suc k) h filled behind =
           (λ d more. omega (arith, behind d (omega (arith, more)))),
     )
 
--- where nothing is left to search, the gap is there
+-- if nothing is left to search, the gap is there
 pub gap_found : {T : Type 0} (c : ℕ) (es : List (ℕ × T)) (from to place : ℕ) → IsGapWithin c es from to place → to ≤ from →
     IsGapAt c es from
 gap_found {T} c es from to place i met =

@@ -34,7 +34,7 @@ fn searched_place<T>(pairs: &VecDeque<(u64, T)>, n: u64) -> Result<usize, usize>
     pairs.binary_search_by_key(&n, |e| e.0)
 }
 
-// The item of the current number: its pair stands first, where it has come.
+// The item of the current number: its pair stands first, if it has come.
 pub(crate) fn current_of<T>(pairs: &VecDeque<(u64, T)>, current: u64) -> Option<&T>
     requires { AreWaiting current pairs.now.items }
     ensures { option_copied result ≡ find nat_cmp current pairs.now.items }
@@ -91,7 +91,7 @@ pub(crate) fn make_room<T>(pairs: &mut VecDeque<(u64, T)>) -> Result<(), Refusal
     grow(pairs)
 }
 
-// Makes room where there is none.
+// Makes room if there is none.
 #[cold]
 #[inline(never)]
 fn grow<T>(pairs: &mut VecDeque<(u64, T)>) -> Result<(), Refusal>

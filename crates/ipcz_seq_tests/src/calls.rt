@@ -117,7 +117,7 @@ fn room_is_made_before_it_is_wanted(rt: HostRuntime) {
         Step::HasRoom(true),
         Step::Push(1, "one", Ok(())),
         Step::HasRoom(false),
-        // Room is made for the item of a number that has its place alone.
+        // Room is made only for the item of a number that has its place.
         Step::ReserveFor(0, Err(Refusal::Passed)),
         Step::ReserveFor(1, Err(Refusal::Occupied)),
         Step::HasRoom(false),

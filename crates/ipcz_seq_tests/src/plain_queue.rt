@@ -1,4 +1,4 @@
-//! A gap queue written down plainly, beside which the queue itself is run: its items in the order in which they came, each
+//! A gap queue written down plainly, with which the queue itself is compared: its items in the order in which they came, each
 //! looked for among all of them.
 
 use ipcz_base::Refusal;

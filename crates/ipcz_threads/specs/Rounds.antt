@@ -39,7 +39,7 @@ Asks gates w turns may v = gates w.cell.part.node turns may × (v ≡ w)
 abbrev pub Takes : TableName → WorkerState → Answer → WorkerState → Type 0
 Takes t w answer v = Turns t w.cell answer v.cell × (v.starved ≡ (w.starved || finds_no_memory answer))
 
--- what a worker comes to in a round
+-- what becomes of a worker in a round
 abbrev pub TakesTurns : Gates → TableName → ℕ → WorkerState → WorkerState → Type 0
 TakesTurns gates t limit w v = (taken : ℕ) × Works (Asks gates) (Takes t) ends_round limit 0 w taken v
 

@@ -42,23 +42,23 @@ abbrev pub Opens : TableName → Stage → ℕ → List ℕ → List ℕ → Sai
 Opens t s node first second answer u = (reply : Reply) × Replies t s node calls.Open reply answer u
     × (u.labels ≡ named s.labels first second reply)
 
--- a call at the node whose callers hold the end, where some do
+-- a call at the node whose callers hold the end, if some do
 abbrev pub CallsHolder : TableName → Stage → End → Call → Said → Stage → Type 0
 CallsHolder t s end call answer u =
     MatchOption (holder_from s.workers 0 end) (Keeps s said.Away answer u) (λ node. Calls t s node call answer u)
 
--- a call at the end that a name is bound to, where it is bound
+-- a call at the end that a name is bound to, if it is bound
 abbrev pub CallsNamed : TableName → Stage → List ℕ → (End → Call) → Said → Stage → Type 0
 CallsNamed t s at call answer u =
     MatchOption (get s.labels.names at) (Keeps s said.UnknownName answer u) (λ end. CallsHolder t s end (call end) answer u)
 
--- a put with the ends that these names are bound to, where each is bound
+-- a put with the ends that these names are bound to, if each is bound
 abbrev pub Puts : TableName → Stage → List ℕ → List ℕ → List (List ℕ) → Said → Stage → Type 0
 Puts t s at text attached answer u = MatchOption (get s.labels.names at) (Keeps s said.UnknownName answer u)
     (λ end. MatchOption (ends_of s.labels attached) (Keeps s said.UnknownName answer u)
     (λ ends. CallsHolder t s end (calls.Put end text ends) answer u))
 
--- these are the replies to so many turns of a node, or fewer where one was idle
+-- these are the replies to so many turns of a node, or fewer if one was idle
 abbrev pub AreTurns : TableName → ℕ → ℕ → List WorkerState → List Reply → List WorkerState → Type 0
 AreTurns t zero node ws [] vs = vs ≡ ws
 AreTurns t zero node ws (r ∷ rs) vs = ⊥
@@ -72,7 +72,7 @@ abbrev pub TurnsTo : TableName → ℕ → ℕ → List WorkerState → Said →
 TurnsTo t count node ws (said.Turned turns) vs = AreTurns t count node ws turns vs
 TurnsTo t count node ws other vs = ⊥
 
--- with so many rounds left: all workers are asked whether their nodes have nothing to do; where one has, and a round is left, it is made, and
+-- with so many rounds left: all workers are asked whether their nodes have nothing to do; if one has, and a round is left, it is made, and
 -- finds memory
 abbrev pub Settles : Gates → TableName → ℕ → ℕ → List WorkerState → Bool → List WorkerState → Type 0
 Settles gates t limit zero ws quiet vs = AreAsked t (length ws) 0 ws quiet vs

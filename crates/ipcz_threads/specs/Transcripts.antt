@@ -52,7 +52,7 @@ abbrev pub IsTranscript : Gates → Script → List ℕ → Bool → Type 0
 IsTranscript gates script text unsettled = (t : TableName) × (s u : Stage) × (t.count ≡ script.nodes) × (t.size ≡ script.words) × IsFirst t s
     × Writes gates t s script.commands text unsettled u
 
--- what the run of a script, of some bytes and of a device comes to, by these transcripts
+-- what comes of the run of a script, of some bytes and of a device, by these transcripts
 abbrev pub IsRunOutput : Gates → Script → Outcome → List ℕ → Type 0
 IsRunOutput gates = IsRunOutputBy (IsTranscript gates)
 

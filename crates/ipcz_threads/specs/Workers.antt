@@ -25,7 +25,7 @@ pub record WorkerState : Type 0 where
   pub cell : CellState
   pub starved : Bool
 
--- what is replied where a call answers this
+-- what is replied if a call answers this
 abbrev pub opened : Result (End × End) Refusal → Reply
 opened (Ok ends) = replies.Opened ends.0 ends.1
 opened (Err why) = replies.Refused why
@@ -81,7 +81,7 @@ abbrev pub CallsAt : TableName → List WorkerState → ℕ → Call → Reply �
 CallsAt t ws node call reply vs = MatchOption (slice_get ws node) ((reply ≡ replies.Refused Stranger) × (vs ≡ ws))
     (λ w. (v : WorkerState) × CallsWorker t w call reply v × (vs ≡ slice_set ws node v))
 
--- the first node from one on whose callers hold the end, where some do
+-- the first node from one on whose callers hold the end, if some do
 abbrev pub holder_from : List WorkerState → ℕ → End → Option ℕ
 holder_from [] node end = None
 holder_from (w ∷ ws) node end = if holds_end w.cell.part.state end then Some node else holder_from ws (node + 1) end

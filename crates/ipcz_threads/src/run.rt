@@ -158,11 +158,11 @@ fn refused_output(alloc: Global, why: ScriptFault) -> Result<(Outcome, Vec<u8>),
 /// Reads a script to its end, runs it with a thread for each node in its settles, and writes its transcript, whole and in one go after the
 /// last command (docs/THREADS.md, "Scripts on threads").
 ///
-/// It differs from `run_script` in settle alone. A settle asks whether each node has nothing to do, before the first round and after each.
+/// It differs from `run_script` only in settle. A settle asks whether each node has nothing to do, before the first round and after each.
 /// In a round every node's cell is lent to a worker in a thread of its own, which takes turns: before each it asks the node's gate, and its
-/// round ends where that answers false, at an idle turn, after `limit` turns, and at a turn that is refused `NumbersEnd` or `OutOfMemory`;
-/// one that is refused `Raced` counts, and it goes on. Then all are joined. The settle has settled where no node has anything to do, and
-/// is unsettled after `limit` rounds. Where a turn found no memory the run ends.
+/// round ends if that answers false, at an idle turn, after `limit` turns, and at a turn that is refused `NumbersEnd` or `OutOfMemory`;
+/// one that is refused `Raced` counts, and it goes on. Then all are joined. The settle has settled if no node has anything to do, and
+/// is unsettled after `limit` rounds. If a turn found no memory, the run ends.
 ///
 /// Node n has the gate of place n; there are eight. What is read and written, and the answers, are as those of `run_script`.
 pub fn run_gated<R: Threads + Sync, I: Read, W: Write, G: Gate + Send>(

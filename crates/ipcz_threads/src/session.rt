@@ -159,7 +159,7 @@ impl<'a, F: FabricName + Send + Sync, G: Gate + Send> Session<'a, F, G> {
         }
     }
 
-    /// Runs a command and gives its answer. Where no memory is found the run is over, and the session is of no more use.
+    /// Runs a command and gives its answer. If no memory is found, the run is over, and the session is of no more use.
     pub(crate) fn run<R: Threads + Sync>(
         &mut self,
         rt: &R,

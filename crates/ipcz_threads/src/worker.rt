@@ -35,7 +35,7 @@ impl<'a, F: FabricName, G> Model for NodeWorker<'a, F, G> {
     ghost view = { λ w. record { cell = w.cell; starved = w.starved } };
 }
 
-// What is replied where an open answers this.
+// What is replied if an open answers this.
 fn opened(answer: Result<(End, End), Refusal>) -> Reply
     ensures { result ≡ opened answer }
 {
@@ -45,7 +45,7 @@ fn opened(answer: Result<(End, End), Refusal>) -> Reply
     }
 }
 
-// What is replied where a put answers this.
+// What is replied if a put answers this.
 fn put(answer: Result<u64, Refusal>) -> Reply
     ensures { result ≡ put answer }
 {

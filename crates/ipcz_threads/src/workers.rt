@@ -11,7 +11,7 @@ use ipcz_world::Reply;
 use std::thread;
 use std::thread::Threads;
 
-/// The first node whose callers hold the end, where some do: these are the workers from a node on.
+/// The first node whose callers hold the end, if some do: these are the workers from a node on.
 pub(crate) fn holder_from<'a, F: FabricName, G>(
     workers: &[NodeWorker<'a, F, G>],
     node: usize,

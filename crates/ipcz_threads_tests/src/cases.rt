@@ -1,6 +1,6 @@
 //! Scripts and their transcripts, each the other's by docs/PROTOCOL.md.
 
-/// What a script shows, the script, and its transcript; and whether that is the same, whatever the schedule, where its settles run on threads.
+/// What a script shows, the script, and its transcript; and whether that is the same, whatever the schedule, if its settles run on threads.
 pub struct Case {
     pub shows: &'static str,
     pub script: &'static str,

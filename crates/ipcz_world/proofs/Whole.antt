@@ -85,7 +85,7 @@ links_stay = links_stay_by steps_keep unread-step
 pub the_headline_holds : HeadlineHolds
 the_headline_holds = headline_holds world_starts_lawful each_step_keeps_lawful
 
--- where it holds, each item that the peer hasn't read stands in one place, and no other item in any
+-- if it holds, each item that the peer hasn't read stands in one place, and no other item in any
 pub each_item_stands_once : ItemsStandOnce
 each_item_stands_once = items_stand_once
 
@@ -112,7 +112,7 @@ runs_are_plain nodes words w b g is =
 pub each_begins_locked : BeginsLocked
 each_begins_locked = begins_locked
 
--- where nothing waits, a get on a direct pair is Empty only where all that the peer has put was got
+-- if nothing waits, a get on a direct pair is Empty only if all that the peer has put was got
 pub each_quiet_delivers : QuietDelivers
 each_quiet_delivers = quiet_delivers
 
@@ -153,7 +153,7 @@ pub nothing_is_forgotten : NothingIsForgotten
 nothing_is_forgotten nodes words w b g is = lawful_worlds_owe w b g
     (reached_lawful world_starts_lawful each_step_keeps_lawful nodes words w b g is)
 
--- where nothing waits and words are left, each open pair is direct of which an end isn't closed
+-- if nothing waits and words are left, each open pair is direct of which an end isn't closed
 pub each_quiet_is_direct : QuietIsDirect
 each_quiet_is_direct w b g pair s law quiet wet tells open_ =
     let t = and_parts (g.is_link pair) (nat_eq (g.pair pair) pair) tells in

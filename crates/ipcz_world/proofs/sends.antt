@@ -1,4 +1,4 @@
--- A router sends an item, with the terminals of its ends where it goes to another node.
+-- A router sends an item, with the terminals of its ends if it goes to another node.
 pub mod Extending
 pub mod ExtendingAround
 pub mod ExtendingFacts

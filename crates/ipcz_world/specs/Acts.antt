@@ -49,7 +49,7 @@ wake_act w k r i e =
     push_message (set_word (set_router w k (wake_other r)) i (woken (word_at w i) r.end.side)) k.node e.other
     (tells_wake e)
 
--- a try for the lock; where it is refused the word is written back
+-- a try for the lock; if it is refused, the word is written back
 abbrev pub lock_act : World → Key → Router → ℕ → Plan → World
 lock_act w k r i Locks = set_word (set_router w k (take_lock r)) i (lock (word_at w i) r.end.side (source_of r))
 lock_act w k r i Waits = set_word (set_router w k (fail_lock r)) i (wait (word_at w i) r.end.side)

@@ -55,9 +55,8 @@ pub record BypassRecords (w : World) (g : Records) : Type 0 where
   pub born_fresh : (i o : ℕ) → is_linked (g.owner i) ≡ true → (g.central i).born ≡ Some o → (g.bypass o).fresh ≡ i
   pub born_stage : (i o : ℕ) → is_linked (g.owner i) ≡ true → (g.central i).born ≡ Some o → 2 ≤ (g.bypass o).stage
 
--- of the links of one pair at most one is live, which no bypass takes away; where a bypass has begun and its fresh link isn't taken yet,
--- none is,
--- and it is the only such bypass of its pair
+-- of the links of one pair at most one is live, which no bypass takes away; if a bypass has begun and its fresh link isn't taken yet, none
+-- is, and it is the only such bypass of its pair
 pub record LiveLinks (g : Records) : Type 0 where
   pub one_live : (i j : ℕ) → is_linked (g.owner i) ≡ true → is_linked (g.owner j) ≡ true → (g.central i).pair ≡ (g.central j).pair →
       is_begun (g.bypass i) ≡ false → is_begun (g.bypass j) ≡ false → i ≡ j
@@ -145,7 +144,7 @@ pub record Told (w : World) (g : Records) : Type 0 where
   pub flush_from : (from to i : ℕ) (link : LinkId) (s : Side) → IsUnderWay w from to i (messages.Flush link s) →
       from ≡ side_node g link (opposite s)
 
--- what the descriptor of an end weighs, where one is under way
+-- what the descriptor of an end weighs, if one is under way
 unfoldable pub move_weight : (Descriptor → ℕ) → Terminal → ℕ
 move_weight h Nowhere = 0
 move_weight h (At k) = 0

@@ -1,4 +1,4 @@
--- A lone parcel: where it is all that a world has to do.
+-- A lone parcel that is all that a world has to do.
 use Rattle.std.specs.Prelude.{◌≡◌, ◌≤◌, ◌<◌, ℕ, true, false, Some}
 use Rattle.ipcz_base.specs.declared.message.Message.{Message}
 use Rattle.ipcz_base.specs.declared.link_end.LinkEnd.{LinkEnd}

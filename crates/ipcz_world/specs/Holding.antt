@@ -7,11 +7,11 @@ use Rattle.ipcz_node.specs.Node.{holds_end}
 use Rattle.ipcz_node.specs.Acts.{first_number}
 use Rattle.ipcz_world.specs.World.{World, node_at, word_at, numbers_from}
 
--- the first node whose callers hold the end, where some do
+-- the first node whose callers hold the end, if some do
 abbrev pub holder_of : World → End → Option ℕ
 holder_of w end = first_number (λ n. holds_end (node_at w n) end) 0 w.count
 
--- how many routers a node has, where it is one of the world's
+-- how many routers a node has, if it is one of the world's
 abbrev pub routers_at : World → ℕ → Option ℕ
 routers_at w n = if nat_lt n w.count then Some (len (node_at w n).routers) else None
 

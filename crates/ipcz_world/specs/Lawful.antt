@@ -41,7 +41,7 @@ pub record Headline (w : World) (b : Books) (g : Routes) : Type 0 where
   -- only a sink drops items: an end that isn't closed has dropped none
   pub dropped_by_sinks : (e : End) → is_closed b e ≡ false → b.gone e ≡ 0
 
--- what the weights come to for one item: where the peer hasn't read it it stands in one place, and what stands anywhere is such an item
+-- what the weights say of one item: if the peer hasn't read it, it stands in one place, and what stands anywhere is such an item
 pub record EachOnce (w : World) (b : Books) (g : Routes) : Type 0 where
   pub once : (e : End) (n : ℕ) (item : Item) → read b (opposite_end e) ≤ n → slice_get (b.put e) n ≡ Some item → times_at w g e n item ≡ 1
   pub only : (e : End) (n : ℕ) (item : Item) → 1 ≤ times_at w g e n item →
@@ -57,7 +57,7 @@ pub record Lawful (w : World) (b : Books) (g : Routes) : Type 0 where
   pub link_law : LinkLaw w
   pub bypass_law : BypassLaw w
   pub word_law : WordLaw w g
-  -- a router that could act is flagged, so that where nothing waits nothing could be done
+  -- a router that could act is flagged, so that nothing could be done if nothing waits
   pub flagged : AreFlagged w
   -- and its flags agree
   pub agreed : FlagsAgree w
@@ -69,7 +69,7 @@ pub record Lawful (w : World) (b : Books) (g : Routes) : Type 0 where
   -- the world's lists have their lengths and nothing lies beyond its nodes, so that what its nodes see is all that waits
   pub bounded : IsBounded w
 
--- a run of steps with their replies, from a world with books and routes to another, where each turn takes an act that the scheduler allows
+-- a run of steps with their replies, from a world with books and routes to another; each turn takes an act that the scheduler allows
 abbrev pub RunBy : Scheduler → World → Books → Routes → List Step → List Reply → World → Books → Routes → Type 0
 RunBy May w b g [] [] v c h = (v ≡ w) × (c ≡ b) × (h ≡ g)
 RunBy May w b g [] (reply ∷ replies) v c h = ⊥

@@ -1,4 +1,4 @@
--- The laws of links, bypasses and words, in words of the world and its routes alone.
+-- The laws of links, bypasses and words, in words of the world and its routes only.
 -- (ipcz asks the same of its RouterLinkState and its RouteEdge; that it is said of whole worlds is this project's own.)
 use Rattle.ipcz_router.specs.Router.{source_of}
 use Rattle.ipcz_router.specs.Bypass.{is_source}
@@ -174,7 +174,7 @@ pub data Knows (w : World) (link : LinkId) (s : Side) (n : ℕ) : Type 0 where
       opposite side ≡ s → Knows w link s n
 
 -- all that know a length know the same; items under way are below it, and not passed at the receiver; a receiver is ahead of the sender
--- only where the sender has come to it
+-- only if the sender has come to it
 pub record LengthLaw (w : World) : Type 0 where
   pub one : (link : LinkId) (s : Side) (m n : ℕ) → Knows w link s m → Knows w link s n → m ≡ n
   pub not_passed : (from to i : ℕ) (link : LinkId) (s : Side) (n : ℕ) (item : Item) (moves : List Descriptor) (k : Key) (r : Router) →
@@ -205,7 +205,7 @@ pub record TerminalLaw (w : World) (b : Books) : Type 0 where
   -- its next number is how many items its end has put, and the current number of its in queue how many its end has read
   pub next : (k : Key) (r : Router) → router_at w k ≡ Some r → is_terminal r ≡ true → next_number r ≡ length (b.put r.end)
   pub current : (k : Key) (r : Router) → router_at w k ≡ Some r → is_terminal r ≡ true → r.in_queue.current ≡ read b r.end
-  -- it is a sink exactly where its end was closed, and an open one has dropped nothing
+  -- it is a sink exactly if its end was closed, and an open one has dropped nothing
   pub sink : (k : Key) (r : Router) → router_at w k ≡ Some r → is_terminal r ≡ true → r.closed ≡ is_closed b r.end
   pub open_drops_nothing : (k : Key) (r : Router) → router_at w k ≡ Some r → is_terminal r ≡ true → r.closed ≡ false → b.gone r.end ≡ 0
   -- the same of a descriptor
@@ -220,7 +220,7 @@ pub record TerminalLaw (w : World) (b : Books) : Type 0 where
 
 -- each end of an open pair is held by callers, in a parcel, pending or closed: one of these, once; another end is nowhere, and of it
 -- nothing is written. What moves with a message is in its parcel; the mark that a close puts is its end's last item, or Gone comes right
--- after it and is last, where its sink has retired
+-- after it and is last, if its sink has retired
 pub record EndLaw (w : World) (b : Books) (g : Routes) : Type 0 where
   pub once : (e : End) → in_places (names_end e) g w + (times_held w e + times_closed b e) ≡ cond (is_opened g e.pair) 1 0
   pub unopened : (e : End) → is_opened g e.pair ≡ false → IsUnwritten b e

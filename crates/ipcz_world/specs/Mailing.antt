@@ -5,24 +5,24 @@ use Rattle.ipcz_world.specs.declared.mail.Mail.{Mail}
 use Rattle.ipcz_world.specs.declared.mail.Mail.TheVariants.{Empty, Full, Hand}
 use Rattle.ipcz_world.specs.Turns.{is_full}
 
--- a mailbox whose message, where it was full, is taken into the hand
+-- a mailbox whose message, if it was full, is taken into the hand
 unfoldable pub taken_up : Mail → Mail
 taken_up Empty = Empty
 taken_up (Full m) = Hand m
 taken_up (Hand m) = Hand m
 
--- a mailbox whose message, where it was in hand, is gone
+-- a mailbox whose message, if it was in hand, is gone
 unfoldable pub put_down : Mail → Mail
 put_down Empty = Empty
 put_down (Full m) = Full m
 put_down (Hand m) = Empty
 
--- a mailbox as it stands: where it is marked, its message was taken into the hand since it was left there
+-- a mailbox as it stands: if its flag is set, its message was taken into the hand since it was left there
 unfoldable pub as_marked : Bool → Mail → Mail
 as_marked false mail = mail
 as_marked true mail = taken_up mail
 
--- the mailboxes as they stand, by what was left in each of them and their marks
+-- the mailboxes as they stand, by what was left in each of them and their flags
 abbrev pub as_they_stand : List Mail → List Bool → List Mail
 as_they_stand [] marks = []
 as_they_stand (mail ∷ boxes) [] = mail ∷ as_they_stand boxes []
@@ -32,7 +32,7 @@ as_they_stand (mail ∷ boxes) (mark ∷ marks) = as_marked mark mail ∷ as_the
 abbrev pub count_full : List Mail → ℕ
 count_full mail = total_list (λ m. cond (is_full m) 1 0) mail
 
--- there are 64 mailboxes at most, each has a mark, and so many of them are full
+-- there are 64 mailboxes at most, each has a flag, and so many of them are full
 pub record AreKept (boxes : List Mail) (marks : List Bool) (full : ℕ) : Type 0 where
   pub few : length boxes ≤ 64
   pub marked : length marks ≡ 64

@@ -30,7 +30,7 @@ pub record Items (w : World) (g : Records) : Type 0 where
       IsItemUnderWay w from to i link s n item moves → from ≡ side_node g link (opposite s)
   pub receiver : (from to i : ℕ) (link : LinkId) (s : Side) (n : ℕ) (item : Item) (moves : List Descriptor) →
       IsItemUnderWay w from to i link s n item moves → to ≡ side_node g link s
-  -- below the length, where there is one
+  -- below the length, if there is one
   pub below_length : (from to i : ℕ) (link : LinkId) (s : Side) (n : ℕ) (item : Item) (moves : List Descriptor) (length : ℕ) →
       IsItemUnderWay w from to i link s n item moves → side_length g link (opposite s) ≡ Some length → n < length
   -- sent already by a router that has stood there
@@ -66,7 +66,7 @@ pub record Order (w : World) (g : Records) : Type 0 where
       next_sent link (opposite s) (view w g link (opposite s)) ≡ Some u → taking_queue link s (view w g link s) ≡ Some q →
       item_at q n ≡ Some item → has_passed (side_length g link (opposite s)) n ≡ false → n < u
 
--- a bypassed proxy has nothing from its lengths on, and has passed them where its part of a link is given up
+-- a bypassed proxy has nothing from its lengths on, and has passed them if its part of a link is given up
 pub record ProxyNumbers (w : World) (g : Records) : Type 0 where
   pub out_current : (o : ℕ) (r : Router) → router_at w (g.bypass o).proxy ≡ Some r → 2 ≤ (g.bypass o).stage →
       r.out_queue.current ≤ (g.bypass o).taken_at

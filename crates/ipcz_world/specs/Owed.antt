@@ -120,7 +120,7 @@ abbrev pub IsEdgeOf : Router → Edge → Type 0
 IsEdgeOf r e = (e ≡ r.outward) ⊎ (r.inward ≡ Some e)
 
 -- a router with a possible act is flagged; its flags agree; for one that has tried the other side holds the lock, or a Flush is under way,
--- or the other router is flagged, or it waits for the other; and where a length of a decaying link isn't known, outward or inward, its
+-- or the other router is flagged, or it waits for the other; and if a length of a decaying link isn't known, outward or inward, its
 -- bypass has a message under way
 pub record Owed (w : World) : Type 0 where
   pub flagged : AreFlagged w

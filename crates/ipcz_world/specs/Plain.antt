@@ -95,8 +95,8 @@ IsNextPut b at bytes ends number c =
     (number ≡ length (b.put at)) × (c ≡ add_put b at (Parcel (record { bytes = bytes; ends = ends })))
 
 -- what the machine over books alone allows: an open gives both ends of a pair of which nothing is written; a put or a close gets the next
--- number of its end, and a get the next parcel of the peer; a refusal writes nothing. That no pair is opened twice the books alone can't
--- tell: it is in the relation of steps
+-- number of its end, and a get the next parcel of the peer; a refusal writes nothing. That no pair is opened twice can't be told by the
+-- books alone: it is in the relation of steps
 abbrev pub Plain : Books → Step → Reply → Books → Type 0
 Plain b (Open n) (replies.Opened d e) c = (e ≡ opposite_end d) × IsUnwritten b d × IsUnwritten b e × (c ≡ b)
 Plain b (Put n at bytes ends) (replies.Put number) c = IsNextPut b at bytes ends number c

@@ -85,12 +85,12 @@ pub record IsTakenPut (w : World) (p : PlainPut) : Type 0 where
   pub node : p.node < w.count
   pub fine : put_refusal p.profile (node_at w p.node) p.at p.bytes [] ≡ None
 
--- puts alone of such parcels, each of which is taken, in whatever order
+-- only puts of such parcels, each of which is taken, in whatever order
 abbrev pub ArePuts : World → Books → List PlainPut → World → Books → Type 0
 ArePuts w b [] u d = (u ≡ w) × (d ≡ b)
 ArePuts w b (p ∷ ps) u d = IsTakenPut w p × ArePuts (after_put w p) (add_put b p.at (Parcel (plain_parcel p))) ps u d
 
--- at how many ends they are put, beside those that are known
+-- at how many ends they are put, apart from those that are known
 abbrev pub ends_beside : List End → List PlainPut → ℕ
 ends_beside known [] = 0
 ends_beside known (p ∷ ps) = cond (has_end p.at known) (ends_beside known ps) (1 + ends_beside (p.at ∷ known) ps)
@@ -111,7 +111,7 @@ proxy_share ps r = cond (is_proxy r) (6 * puts_into r.end.pair ps) 0
 unfoldable pub proxy_shares : List PlainPut → World → ℕ
 proxy_shares ps w = total_list (λ n. total (λ serial r. proxy_share ps r) n.routers) w.nodes
 
--- law: where parcels without ends are put into a quiet world, no more of the turns that follow use something up than six for each parcel, one
+-- law: if parcels without ends are put into a quiet world, no more of the turns that follow use something up than six for each parcel, one
 -- for each end that they are put at, and the shares of the proxies that stand; with one for each item that a sink drops
 abbrev pub PutsAreBounded : Type 0
 PutsAreBounded =
@@ -119,7 +119,7 @@ PutsAreBounded =
     ArePuts w b puts u d → AreTurns u d g turns v e h →
     times_used u turns ≤ 6 * length puts + (end_count puts + (proxy_shares puts w + discard_count turns))
 
--- law: where no router of the quiet world has found the words used up, there are no such shares, since no proxy stands
+-- law: if no router of the quiet world has found the words used up, there are no such shares, since no proxy stands
 abbrev pub DirectPutsAreBounded : Type 0
 DirectPutsAreBounded =
     (w u v : World) (b d e : Books) (g h : Routes) (puts : List PlainPut) (turns : List (ℕ × Act)) → Lawful w b g → CarryNone b → IsQuiet w →

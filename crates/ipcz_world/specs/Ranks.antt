@@ -106,7 +106,7 @@ rank c w = total_list (node_worth c) w.nodes + total_list (mail_worth c) w.mail
 abbrev pub moving_worth : Rates → List End → ℕ
 moving_worth c ends = total_list (λ e. 55 + c.price e.pair * (c.cap e + c.cap (opposite_end e))) ends
 
--- how many items an end may put without a call: its mark where it isn't closed, and Gone where it hasn't retired
+-- how many items an end may put without a call: its mark if it isn't closed, and Gone if it hasn't retired
 abbrev pub may_put : Books → End → ℕ
 may_put b e = worth 1 (not (is_closed b e)) + worth 1 (not (is_retired b e))
 
@@ -160,7 +160,7 @@ pub record IsTaken (w : World) (n : ℕ) (act : Act) : Type 0 where
   pub may : can_take w n act ≡ true
   pub serials : turn_lacks_serials w n act ≡ false
 
--- turns alone, each by a possible act of a node, in whatever order
+-- only turns, each by a possible act of a node, in whatever order
 abbrev pub AreTurns : World → Books → Routes → List (ℕ × Act) → World → Books → Routes → Type 0
 AreTurns w b g [] v d h = (v ≡ w) × (d ≡ b) × (h ≡ g)
 AreTurns w b g (t ∷ ts) v d h =
@@ -178,14 +178,13 @@ unlock_count [] = 0
 unlock_count (t ∷ ts) = worth 1 (is_unlock t.1) + unlock_count ts
 
 -- law: while no caller calls, whatever possible acts the nodes take in whatever order, no more of them use something up than the rank at
--- the
--- start, and two for each unlock
+-- the start, and two for each unlock
 abbrev pub TurnsAreBounded : Type 0
 TurnsAreBounded =
     (w v : World) (b d : Books) (g h : Routes) (c : Rates) (turns : List (ℕ × Act)) → Lawful w b g → IsRated c b →
     AreTurns w b g turns v d h → times_used w turns + rank c v ≤ rank c w + 2 * unlock_count turns
 
--- law: where no node has an act that uses something up, the world is quiet
+-- law: if no node has an act that uses something up, the world is quiet
 abbrev pub UnusedIsQuiet : Type 0
 UnusedIsQuiet =
     (w : World) (b : Books) (g : Routes) → Lawful w b g →

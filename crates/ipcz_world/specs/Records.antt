@@ -1,4 +1,4 @@
--- What is remembered of words, links, bypasses and ends beside the world. Records only grow, and outlive the routers that they name.
+-- What is remembered of words, links, bypasses and ends, in addition to the world. Records only grow, and outlive the routers that they name.
 use Rattle.std.specs.Prelude.{ℕ, Bool, true, false, cond, ◌&&◌, nat_eq, nat_le, nat_lt, if◌then◌else◌, Option, Some, None, option_map}
 use Rattle.ipcz_base.specs.declared.side.Side.{Side}
 use Rattle.ipcz_base.specs.declared.side.Side.TheVariants.{A, B}
@@ -122,7 +122,7 @@ set_terminal g e t = record g { terminal = λ d. cond (same_end d e) t (g.termin
 abbrev pub at_side : {X : Type 0} → (Side → X) → Side → X → Side → X
 at_side f s x t = cond (same_side t s) x (f t)
 
--- a router of a node, where it is known
+-- a router of a node, if it is known
 abbrev pub key_at : ℕ → Option ℕ → Option Key
 key_at node serial = option_map (λ s. record { node = node; serial = s }) serial
 
@@ -205,7 +205,7 @@ length_by g link s (Some o) = bypass_length g o link s
 abbrev pub side_length : Records → LinkId → Side → Option ℕ
 side_length g link s = length_by g link s (bypass_of g link)
 
--- the node of an end's terminal, where it stands
+-- the node of an end's terminal, if it stands
 unfoldable pub terminal_node : Terminal → Option ℕ
 terminal_node Nowhere = None
 terminal_node (At k) = Some k.node

@@ -151,7 +151,7 @@ inner_key (Some e) = key_of e.link
     key_of (Central i) = None
     key_of (Peripheral n x) = Some (record { node = n; serial = x })
 
--- a bypass begins, where the router has all that it takes
+-- a bypass begins, if the router has all that it takes
 unfoldable pub begun_records : Records → Key → Option ℕ → Option ℕ → Option Key → Records
 begun_records g k (Some o) (Some fresh) (Some inner) = begin_records g k o fresh inner
 begun_records g k o fresh inner = g
@@ -184,12 +184,12 @@ left_link g (Peripheral n x) s =
     set_peripheral g (record { node = n; serial = x })
     (record (g.peripheral (record { node = n; serial = x })) { left = with (g.peripheral (record { node = n; serial = x })).left s })
 
--- the side of a link end is left, where there is one
+-- the side of a link end is left, if there is one
 unfoldable pub left_end : Records → Option LinkEnd → Records
 left_end g None = g
 left_end g (Some e) = left_link g e.link e.side
 
--- a word that was the spare of a router is lost, where there is one
+-- a word that was the spare of a router is lost, if there is one
 unfoldable pub lost_word : Records → Option ℕ → Records
 lost_word g None = g
 lost_word g (Some i) = set_owner g i Lost

@@ -1,4 +1,4 @@
--- What a settle comes to: how many acts its turns can take, and what its answer tells.
+-- What comes of a settle: how many acts its turns can take, and what its answer tells.
 use Rattle.std.specs.Prelude.{◌≡◌, ◌≤◌, ◌<◌, ℕ, ◌+◌, ◌*◌, Bool, true, false, cond, ◌&&◌, ◌||◌, nat_eq, Some, List, [], ◌∷◌, length, slice_get}
 use Rattle.ipcz_base.specs.declared.side.Side.{Side}
 use Rattle.ipcz_base.specs.declared.end.End.{End}
@@ -30,20 +30,19 @@ VisitsAreBounded =
     (n : ℕ) (visits : List Bool) (w v : World) (b : Books) (g : Routes) (c : Rates) → Lawful w b g → IsRated c b →
     (taken : AreVisits n visits w v) → act_count visits + rank c v ≤ rank c w + 2 * unlocks_taken n visits w v taken
 
--- law: a settle ends unsettled only where its limit was below the rank at the start and two for each unlock
+-- law: a settle ends unsettled only if its limit was below the rank at the start and two for each unlock
 abbrev pub UnsettledIsBounded : Type 0
 UnsettledIsBounded =
     (limit : ℕ) (w v : World) (b : Books) (g : Routes) (c : Rates) → Lawful w b g → IsRated c b → (s : IsSettle limit w v ends.Unsettled) →
     limit < rank c w + 2 * unlocks_taken 0 s.visits w v s.turns
 
--- the answer fits so many acts at most: settled after no more of them, and unsettled only where the limit is below them
+-- the answer fits so many acts at most: settled after no more of them, and unsettled only if the limit is below them
 abbrev pub FitsMost : ℕ → ℕ → Settled → Type 0
 FitsMost limit most (ends.Settled after) = after ≤ most
 FitsMost limit most ends.Unsettled = limit < most
 
 -- a settle whose very turns keep the law, and whose answer fits the rank at its start and two for each unlock: for all books and routes
--- with
--- which the world is lawful, and all rates that fit
+-- with which the world is lawful, and all rates that fit
 pub record IsLawfulSettle (limit : ℕ) (w v : World) (answer : Settled) : Type 0 where
   pub settle : IsSettle limit w v answer
   pub keeps : KeepsLaw w (turns_of 0 settle.visits w v settle.turns) (replies_of 0 settle.visits w v settle.turns) v
@@ -75,7 +74,7 @@ plain_rates b = record { cap = λ e. cond (is_over b e) 0 (length (b.put e) + ma
 abbrev pub PlainAreRated : Type 0
 PlainAreRated = (b : Books) → CarryNone b → IsRated (plain_rates b) b
 
--- a limit that is enough for a settle, where no item that wasn't read carries an end and no begin finds no memory
+-- a limit that is enough for a settle, if no item that wasn't read carries an end and no begin finds no memory
 abbrev pub plain_limit : Books → World → ℕ
 plain_limit b w = rank (plain_rates b) w
 
@@ -85,7 +84,7 @@ PlainLimitIsEnough =
     (limit : ℕ) (w v : World) (b : Books) (g : Routes) → Lawful w b g → CarryNone b → (s : IsSettle limit w v ends.Unsettled) →
     limit < plain_limit b w + 2 * unlocks_taken 0 s.visits w v s.turns
 
--- law: where a settle has settled and no router has found the words used up, no proxy is left, nor a router of a pair with both ends closed,
+-- law: if a settle has settled and no router has found the words used up, no proxy is left, nor a router of a pair with both ends closed,
 -- and each other open pair is direct
 abbrev pub SettledIsDirect : Type 0
 SettledIsDirect =

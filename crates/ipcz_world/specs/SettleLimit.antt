@@ -1,4 +1,4 @@
--- A limit that is enough for a settle where no item that wasn't read carries an end: by routers, the numbers that have still to pass them,
+-- A limit that is enough for a settle if no item that wasn't read carries an end: by routers, the numbers that have still to pass them,
 -- messages and pending closes.
 use Rattle.std.specs.Prelude.{◌≤◌, ◌<◌, ℕ, ◌+◌, ◌*◌, ◌-◌, Bool, false, ◌&&◌, ◌||◌, is_some, cond, nat_lt, if◌then◌else◌, Option, Some, None, List, [], ◌∷◌, length}
 use Rattle.std.specs.FinMap.{entries}
@@ -30,7 +30,7 @@ use Rattle.ipcz_world.specs.SettleBounds.{CarryNone, plain_limit, unlocks_taken}
 abbrev pub higher : ℕ → ℕ → ℕ
 higher a b = if nat_lt a b then b else a
 
--- how many items an end has put, as its terminal among these routers tells; none where it isn't among them
+-- how many items an end has put, as its terminal among these routers tells; none if it isn't among them
 abbrev pub put_among : End → List (ℕ × Router) → ℕ
 put_among e [] = 0
 put_among e (x ∷ xs) = higher (cond (is_terminal x.1 && same_end x.1.end e) (next_number x.1) 0) (put_among e xs)
@@ -45,7 +45,7 @@ abbrev pub highest : {X : Type 0} → (X → ℕ) → List X → ℕ
 highest h [] = 0
 highest h (x ∷ xs) = higher (h x) (highest h xs)
 
--- the number after an item's where it is Gone, else none; no item of a lawful world has the number that no item has
+-- the number after an item's if it is Gone, else none; no item of a lawful world has the number that no item has
 unfoldable pub after_gone : ℕ → Item → ℕ
 after_gone n item = cond (is_gone_item item) (if nat_lt n no_number then n + 1 else n) 0
 
@@ -85,7 +85,7 @@ abbrev pub has_within : End → List Node → Bool
 has_within e [] = false
 has_within e (n ∷ ns) = is_some (find_router n (λ r. is_terminal r && same_end r.end e)) || has_within e ns
 
--- how many items an end has put that its peer hasn't read all: as its terminal tells, or where none stands, as a Gone that wasn't read
+-- how many items an end has put that its peer hasn't read all: as its terminal tells, or, if none stands, as a Gone that wasn't read
 unfoldable pub put_most : World → End → ℕ
 put_most w e = if has_within e w.nodes then put_within e w.nodes else gone_most w
 
@@ -107,7 +107,7 @@ node_limit w n = total (λ serial r. router_limit w r) n.routers + (38 * total_l
 unfoldable pub settle_limit : World → ℕ
 settle_limit w = total_list (node_limit w) w.nodes + 37 * total_list (λ m. cond (is_clear m) 0 1) w.mail
 
--- law: the rank is no more, where no item that wasn't read carries an end
+-- law: the rank is no more, if no item that wasn't read carries an end
 abbrev pub RankIsWithinLimit : Type 0
 RankIsWithinLimit = (w : World) (b : Books) (g : Routes) → Lawful w b g → CarryNone b → plain_limit b w ≤ settle_limit w
 

@@ -1,4 +1,4 @@
--- Settling: visits to the nodes in their order, again and again, in which each takes an act where it has one.
+-- Settling: visits to the nodes in their order, again and again, in which each takes an act if it has one.
 use Rattle.std.specs.Prelude.{◌≡◌, ◌≤◌, ◌<◌, ℕ, ◌+◌, Bool, true, false, nat_lt, if◌then◌else◌, List, [], ◌∷◌}
 use Rattle.std.specs.Prelude.{length, ◌*◌}
 use Rattle.ipcz_base.specs.declared.refusal.Refusal.{Refusal}
@@ -53,7 +53,7 @@ abbrev pub act_count : List Bool → ℕ
 act_count [] = 0
 act_count (acts ∷ visits) = if acts then act_count visits + 1 else act_count visits
 
--- the answer fits the turns taken: settled only where nothing waits, after so many acts; unsettled only where the limit is reached and an
+-- the answer fits the turns taken: settled only if nothing waits, after so many acts; unsettled only if the limit is reached and an
 -- act is still possible
 abbrev pub FitsAnswer : ℕ → ℕ → World → Settled → Type 0
 FitsAnswer limit acts v (ends.Settled after) = (after ≡ acts) × IsQuiet v
@@ -66,7 +66,7 @@ pub record IsSettle (limit : ℕ) (w v : World) (answer : Settled) : Type 0 wher
   pub within : act_count visits ≤ limit
   pub answers : FitsAnswer limit (act_count visits) v answer
 
--- the node that is visited behind these visits from a node on, where there are so many
+-- the node that is visited behind these visits from a node on, if there are so many
 abbrev pub node_behind : ℕ → ℕ → List Bool → ℕ
 node_behind count n [] = n
 node_behind count n (acts ∷ visits) = node_behind count (if nat_lt (n + 1) count then n + 1 else 0) visits

@@ -5,8 +5,7 @@ use Rattle.ipcz_node.specs.Node.{Node, router_in}
 use Rattle.ipcz_world.specs.World.{node_limit, World}
 
 -- the lists of a world are as long as its numbers say: a node for each number below the count, a word for each below the size, a mailbox
--- for
--- each two nodes. No more words are claimed than there are
+-- for each two nodes. No more words are claimed than there are
 pub record HasLengths (w : World) : Type 0 where
   pub nodes : length w.nodes ≡ w.count
   pub words : length w.words ≡ w.size
@@ -15,8 +14,7 @@ pub record HasLengths (w : World) : Type 0 where
   pub few : w.count ≤ node_limit
 
 -- the node knows its number and how many nodes there are, the words that it names are words of the world, and the message in hand comes
--- from
--- a node of the world
+-- from a node of the world
 pub record IsSound (count size number : ℕ) (n : Node) : Type 0 where
   pub number_is : n.number ≡ number
   pub count_is : n.count ≡ count

@@ -36,12 +36,12 @@ pub record Effect : Type 0 where
 abbrev pub refuse : World → Refusal → Effect
 refuse w why = record { reply = replies.Refused why; world = w }
 
--- an effect, or the refusal where there is one
+-- an effect, or the refusal if there is one
 unfoldable pub unless : World → Option Refusal → Effect → Effect
 unless w None done = done
 unless w (Some why) done = refuse w why
 
--- an effect, where the node is one of the world's
+-- an effect, if the node is one of the world's
 abbrev pub at_node : World → ℕ → Effect → Effect
 at_node w n done = if nat_lt n w.count then done else refuse w refusals.Stranger
 
@@ -56,7 +56,7 @@ open_with w counted n i = unless w (serials_refusal (node_at w n)) (record {
   world = set_word (set_node counted n (open_node (node_at w n) i)) i open_word;
 })
 
--- an open: on the word of an open under way, else on the next word, where there is one
+-- an open: on the word of an open under way, else on the next word, if there is one
 unfoldable pub open_on : World → ℕ → Option ℕ → Effect
 open_on w n (Some i) = open_with w w n i
 open_on w n None = if has_unclaimed_word w then open_with w (set_claimed w (w.claimed + 1)) n w.claimed else refuse w refusals.NoWord
@@ -105,12 +105,12 @@ get_step w n at = at_node w n (unless w (get_refusal (node_at w n) at) (record {
   world = set_node w n (get_node (node_at w n) at);
 }))
 
--- the sizes of the parcel that a reply gives, where it gives one
+-- the sizes of the parcel that a reply gives, if it gives one
 unfoldable pub sizes_given : Reply → Option Sizes
 sizes_given (replies.Got number p) = Some (sizes_of p)
 sizes_given other = None
 
--- the sizes of the parcel that a get would give, where it isn't refused
+-- the sizes of the parcel that a get would give, if it isn't refused
 abbrev pub next_sizes : World → ℕ → End → Option Sizes
 next_sizes w n at = sizes_given (get_step w n at).reply
 
@@ -141,11 +141,11 @@ first_step w (Turn n) = turn_step w n (next_at w n)
 abbrev pub Scheduler : Type 1
 Scheduler = World → ℕ → Act → Type 0
 
--- any possible act, where the node is one of the world's: the turn of another is refused whatever the act
+-- any possible act, if the node is one of the world's: the turn of another is refused whatever the act
 abbrev pub AnyAct : Scheduler
 AnyAct w n act = n < w.count → IsTrue (can_take w n act)
 
--- the first possible act; or what stands in for it, only where it makes something grow
+-- the first possible act; or what stands in for it, only if it makes something grow
 abbrev pub FirstAct : Scheduler
 FirstAct w n act = (act ≡ next_at w n) ⊎ ((act ≡ stand_in (next_at w n)) × (turn_grows w n (next_at w n) ≡ true))
 
@@ -162,7 +162,7 @@ unfoldable pub is_refused : Reply → Bool
 is_refused (replies.Refused why) = true
 is_refused other = false
 
--- the effect, or want of memory where nothing else refuses
+-- the effect, or want of memory if nothing else refuses
 abbrev pub GivesOrNoMemory : World → Effect → Reply → World → Type 0
 GivesOrNoMemory w done reply v = Gives done reply v ⊎ ((is_refused done.reply ≡ false) × FindsNoMemory w reply v)
 
@@ -170,13 +170,13 @@ GivesOrNoMemory w done reply v = Gives done reply v ⊎ ((is_refused done.reply 
 abbrev pub PutGives : World → ℕ → Effect → Reply → World → Type 0
 PutGives w n done reply v = Gives done reply v ⊎ ((n < w.count) × FindsNoMemory w reply v)
 
--- the effect of an act, or want of memory where the act makes something grow and nothing else refuses; a begin or a retire that finds none
+-- the effect of an act, or want of memory if the act makes something grow and nothing else refuses; a begin or a retire that finds none
 -- is an unlock
 abbrev pub ActGives : World → ℕ → Act → Effect → Reply → World → Type 0
 ActGives w n act done reply v =
     Gives done reply v ⊎ ((turn_grows w n act ≡ true) × (act ≡ stand_in act) × (is_refused done.reply ≡ false) × FindsNoMemory w reply v)
 
--- which reply and which world may follow a step, where a turn takes an act that the scheduler allows
+-- which reply and which world may follow a step; a turn takes an act that the scheduler allows
 abbrev pub StepBy : Scheduler → World → Step → Reply → World → Type 0
 StepBy May w (Open n) reply v = GivesOrNoMemory w (open_step w n) reply v
 StepBy May w (Put n at bytes ends) reply v = PutGives w n (put_step profiles.Printed w n at (record { bytes = bytes; ends = ends })) reply v

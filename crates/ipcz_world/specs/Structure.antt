@@ -99,7 +99,7 @@ pub record HasLinks (w : World) (g : Records) (k : Key) (r : Router) : Type 0 wh
 abbrev pub Links : World → Records → Type 0
 Links w g = EachRouter w (HasLinks w g)
 
--- the link of a link end, where there is one
+-- the link of a link end, if there is one
 abbrev pub link_in : Option LinkEnd → Option LinkId
 link_in e = option_map (λ x. x.link) e
 

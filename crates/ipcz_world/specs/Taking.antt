@@ -1,4 +1,4 @@
--- What the code needs to know of a world to take a step of it, and what a turn that takes a certain act comes to.
+-- What the code needs to know of a world to take a step of it, and what comes of a turn that takes a certain act.
 use Rattle.std.specs.Prelude.{◌≡◌, ◌<◌, ℕ, true, false, if◌then◌else◌, Option, Some, Result, IsOk, OnOk, OnErr, IfOk, IfErr}
 use Rattle.ipcz_base.specs.declared.refusal.Refusal.{Refusal}
 use Rattle.ipcz_base.specs.declared.refusal.Refusal.TheVariants.{NumbersEnd, OutOfMemory}
@@ -20,15 +20,14 @@ use Rattle.ipcz_world.specs.Steps.{FirstAct}
 use Rattle.ipcz_world.specs.Soundness.{HasLengths, IsSound}
 
 -- the lists of a world have their lengths, its nodes name only what there is, the source of each router is the number of a node, and the
--- first act of each of them is possible, and so is what
--- stands in for it
+-- first act of each of them is possible, and so is what stands in for it
 pub record IsRegular (w : World) : Type 0 where
   pub lengths : HasLengths w
   pub sound : (n : ℕ) → n < w.count → IsSound w.count w.size n (node_at w n)
   pub sourced : (n serial : ℕ) (r : Router) → n < w.count → router_in (node_at w n) serial ≡ Some r → HasNode (source_of r)
   pub possible : (n : ℕ) (act : Act) → n < w.count → FirstAct w n act → can_take w n act ≡ true
 
--- a node has taken an act, or was refused it: for want of serials, or of memory where the act makes something grow
+-- a node has taken an act, or was refused it: for want of serials, or of memory if the act makes something grow
 pub record IsTaken (w : World) (n : ℕ) (act : Act) (result : Result Happened Refusal) (v : World) : Type 0 where
   pub event : IfOk result (λ e. e ≡ turn_event w n act)
   pub done : OnOk result (v ≡ after_act w n act)

@@ -5,9 +5,9 @@
 --   put, get and close as they like, and a step that is refused is a step as any other. That the calls of `World` take such steps is
 --   proved.
 --   Link words and mailboxes keep what is written to them, and no node is lost.
---   Nothing is said of when a node takes a turn, or whether: where it matters that the world is quiet, or which turns were taken, it
+--   Nothing is said of when a node takes a turn, or whether: if it matters that the world is quiet, or which turns were taken, it
 --   is said.
--- Beside them one trusts what checks this page and makes the program of it (docs/PROVED.md, "What is trusted").
+-- In addition one trusts what checks this page and makes the program of it (docs/THEOREM.md, "What is trusted").
 use Rattle.std.specs.Prelude.{◌≡◌, ◌≤◌, ◌<◌, ℕ, ◌+◌, ◌*◌, true, false, Some, List, length, map, take, slice_get}
 use Rattle.ipcz_base.specs.declared.side.Side.{Side}
 use Rattle.ipcz_base.specs.declared.end.End.{End}
@@ -55,15 +55,15 @@ pub record Theorem (steps : List Step) (replies : List Reply) (w : World) (b : B
   pub replies_fit : (i : ℕ) (reply : Reply) → slice_get replies i ≡ Some reply → OnlyFlushesStray reply
   -- no router that waits is forgotten
   pub owed : Owed w
-  -- where nothing waits and words were left no proxy is, each open pair of which an end isn't closed is two terminals on one free link, with
-  -- all delivered, and of a pair with both ends closed no router is left
+  -- if nothing waits and words were left, no proxy is left, each open pair of which an end isn't closed is two terminals on one free link,
+  -- with all delivered, and of a pair with both ends closed no router is left
   pub quiet_is_direct : IsQuiet w → IsWet w → HasNoProxies w × HasNoClosedPairs w b × ((pair : ℕ) (s : Side) → is_opened g pair ≡ true →
       is_closed b (end_at pair s) ≡ false → IsDirect w b pair)
   -- left alone it becomes quiet: whatever turns the nodes take from here, no more of them use something up than the world's rank, and two
   -- for each begin or retire that found no memory, by all rates that fit the books
   pub left_alone : (turns : List (ℕ × Act)) (c : Rates) (v : World) (d : Books) (h : Routes) → IsRated c b → AreTurns w b g turns v d h →
       times_used w turns + rank c v ≤ rank c w + 2 * unlock_count turns
-  -- and where no node has an act that uses something up, it is quiet
+  -- and if no node has an act that uses something up, it is quiet
   pub unused_is_quiet : ((n : ℕ) (act : Act) → n < w.count → can_take w n act ≡ true → uses_up w n act ≡ false) → IsQuiet w
 
 -- the theorem: it is so of each run from the start, whichever possible act each turn takes

@@ -92,7 +92,7 @@ pub record Gones (w : World) (b : Books) (g : Records) : Type 0 where
   -- the router across a side that was left belongs to the peer of one that has retired
   pub left_primary : (k : Key) (r : Router) (e : LinkEnd) → router_at w k ≡ Some r → r.outward.primary ≡ Some e →
       is_left g e.link (opposite e.side) ≡ true → is_retired b (opposite_end r.end) ≡ true
-  -- and where the side inward of a proxy was left, the proxy has passed all that the peer put
+  -- and if the side inward of a proxy was left, the proxy has passed all that the peer put
   pub left_inner : (k : Key) (r : Router) (e : LinkEnd) → router_at w k ≡ Some r → (inward_edge r).primary ≡ Some e →
       is_left g e.link (opposite e.side) ≡ true → length (b.put (opposite_end r.end)) ≤ r.in_queue.current
   -- no router has passed more than what the ends have put
@@ -101,7 +101,7 @@ pub record Gones (w : World) (b : Books) (g : Records) : Type 0 where
   -- no router of a pair of whose ends one has retired has a decaying link, but a proxy that has begun
   pub still : (k : Key) (r : Router) (s : Side) → router_at w k ≡ Some r → is_begun_router r ≡ false →
       is_retired b (end_at r.end.pair s) ≡ true → decays r ≡ false
-  -- a sink has dropped the mark of its peer exactly where it has read it
+  -- a sink has dropped the mark of its peer exactly if it has read it
   pub dropped : (k : Key) (r : Router) (n : ℕ) → router_at w k ≡ Some r → is_terminal r ≡ true →
       slice_get (b.put (opposite_end r.end)) n ≡ Some Mark → r.mark_dropped ≡ true → n < r.in_queue.current
   pub dropped_closed : (k : Key) (r : Router) → router_at w k ≡ Some r → r.mark_dropped ≡ true → is_closed b (opposite_end r.end) ≡ true
@@ -130,7 +130,7 @@ pub record Conserved (w : World) (b : Books) (g : Records) : Type 0 where
 abbrev pub times_held : World → End → ℕ
 times_held w e = total_below w.count (λ n. cond (holds_end (node_at w n) e) 1 0 + times e (node_at w n).pending)
 
--- once, where an end was closed
+-- once, if an end was closed
 abbrev pub times_closed : Books → End → ℕ
 times_closed b e = cond (is_closed b e) 1 0
 

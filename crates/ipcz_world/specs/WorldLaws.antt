@@ -97,11 +97,11 @@ LinksStay =
 abbrev pub HeadlineHolds : Type 0
 HeadlineHolds = (nodes words : ℕ) (w : World) (b : Books) (g : Routes) → IsReached nodes words w b g → Headline w b g
 
--- law: where the sentence holds, each item that the peer hasn't read stands in one place, and no other item in any
+-- law: if the sentence holds, each item that the peer hasn't read stands in one place, and no other item in any
 abbrev pub ItemsStandOnce : Type 0
 ItemsStandOnce = (w : World) (b : Books) (g : Routes) → Headline w b g → EachOnce w b g
 
--- law: where nothing waits, a get on a direct pair is Empty only where all that the peer has put was got
+-- law: if nothing waits, a get on a direct pair is Empty only if all that the peer has put was got
 abbrev pub QuietDelivers : Type 0
 QuietDelivers =
     (w v : World) (b : Books) (g : Routes) (n : ℕ) (e : End) → Lawful w b g → IsQuiet w → IsDirectPair w e.pair →

@@ -1,5 +1,5 @@
 //! The laws of worlds and of their runs. Each function does nothing: its contract is the law. What a law speaks of is defined in specs/:
-//! `Lawful`, `Headline` and runs in Lawful, steps in Steps, books in Books, quiet in Settling (docs/LAW.md).
+//! `Lawful`, `Headline` and runs in Lawful, steps in Steps, books in Books, quiet in Settling (docs/THEOREM.md).
 
 ghost use Rattle.ipcz_world.specs.WorldLaws.{StartsLawful, StepKeepsLawful, FirstIsPossible, ClaimKeepsLawful, RepliesPlainly};
 ghost use Rattle.ipcz_world.specs.WorldLaws.{BeginsLocked, LinksStay, LawfulGivesHeadline, HeadlineHolds, ItemsStandOnce};
@@ -18,8 +18,8 @@ ghost use Rattle.ipcz_world.specs.Theorem.{TheTheoremHolds};
 /// The theorem of this repository (specs/Theorem): to their callers the nodes together are the machine over the books alone. Whatever steps
 /// are taken from the start, and whichever possible act each turn takes, that machine allows their replies; each portal has got a prefix of
 /// what its peer put; each accepted item that its peer hasn't read stands in one place; no message but a Flush finds its router gone; no
-/// router that waits is forgotten; where nothing waits, and words were left, no proxy is; and left alone, the world becomes quiet within its
-/// rank, for all rates that fit.
+/// router that waits is forgotten; if nothing waits, and words were left, no proxy is left; and left alone, the world becomes quiet within
+/// its rank, for all rates that fit.
 pub fn the_theorem_holds_after_every_run()
     ensures { TheTheoremHolds }
 {}
@@ -55,9 +55,8 @@ pub fn each_reply_is_plain()
 {}
 
 /// To its callers the nodes together are the machine over the books alone: whatever steps are taken from the start, and whichever possible
-/// act each turn takes, that machine allows the replies that the steps got, and its books at the end are those of the run. What is
-/// refused since callers don't hold an end, nothing has come, or words, serials or memory are missing it allows always: these aren't in
-/// the books.
+/// act each turn takes, that machine allows the replies that the steps got, and its books at the end are those of the run. It always allows
+/// a refusal because callers don't hold an end, nothing has come, or words, serials or memory are missing: these aren't in the books.
 pub fn runs_are_plain()
     ensures { RunsArePlain }
 {}
@@ -84,7 +83,7 @@ pub fn the_headline_holds_after_every_run()
     ensures { HeadlineHolds }
 {}
 
-/// What the headline's weights come to for one item: where the peer hasn't read it it stands in one place, under its number; and what
+/// What the headline's weights say of one item: if the peer hasn't read it, it stands in one place, under its number; and what
 /// stands anywhere is such an item.
 pub fn each_item_stands_once()
     ensures { ItemsStandOnce }
@@ -107,7 +106,7 @@ pub fn each_message_in_hand_fits()
     ensures { HandsFit }
 {}
 
-/// A step from a lawful world is never answered by a turn that is seen to hand a message as a stray: where a turn says that the message in
+/// A step from a lawful world is never answered by a turn that is seen to hand a message as a stray: if a turn says that the message in
 /// hand didn't fit, it was a Flush whose router is gone, and it is dropped.
 pub fn only_a_flush_is_seen_to_stray()
     ensures { RepliesStrayNothing }
@@ -115,7 +114,7 @@ pub fn only_a_flush_is_seen_to_stray()
 
 /// In a lawful world a router with a possible act is flagged, and a router's flags agree. One that has tried for a lock isn't forgotten:
 /// the other side holds it, or a Flush is under way, or the other router is flagged, or it waits for a side that isn't stable or owes the
-/// wake. And where a decaying link's length isn't known a message of its bypass is under way.
+/// wake. And if a decaying link's length isn't known, a message of its bypass is under way.
 pub fn a_lawful_world_owes_what_waits()
     ensures { LawfulOwes }
 {}
@@ -143,7 +142,7 @@ pub fn a_quiet_world_has_no_proxy()
 {}
 
 /// In a lawful world a terminal's next number is how many items its end has put, the current number of its in queue how many its end has
-/// read; it is a sink exactly where its end was closed, and an open one has dropped nothing. The same holds of a descriptor that will
+/// read; it is a sink exactly if its end was closed, and an open one has dropped nothing. The same holds of a descriptor that will
 /// make one.
 pub fn terminals_keep_their_books()
     ensures { TerminalsKeepBooks }
@@ -173,13 +172,13 @@ pub fn each_node_is_sound()
     ensures { NodesAreSound }
 {}
 
-/// In a lawful world where nothing waits, a get on a pair whose two terminals share one link is Empty only where all that the peer put
+/// In a lawful world where nothing waits, a get on a pair whose two terminals share one link is Empty only if all that the peer put
 /// was got.
 pub fn a_quiet_direct_pair_has_delivered()
     ensures { QuietDelivers }
 {}
 
-/// A get leaves a quiet world quiet, so that by gets alone a portal on a pair whose two terminals share one link gets all that its peer
+/// A get leaves a quiet world quiet, so that just by gets a portal on a pair whose two terminals share one link gets all that its peer
 /// has put.
 pub fn a_get_leaves_a_quiet_world_quiet()
     ensures { GetsStayQuiet }
@@ -205,8 +204,8 @@ pub fn each_pending_close_has_its_terminal()
     ensures { PendingHaveTerminals }
 {}
 
-/// In a lawful world, whose books the caps leave room for and the prices pay for, each possible act of any node, in whatever order,
-/// lowers the rank, but idle, an unlock, and the rest of a router that isn't flagged.
+/// In a lawful world whose books the caps leave room for and the prices pay for, each possible act of any node lowers the rank, in whatever
+/// order; only idle, an unlock, and the rest of a router that isn't flagged don't.
 pub fn each_act_lowers_the_rank()
     ensures { ActsLowerTheRank }
 {}
@@ -222,12 +221,12 @@ pub fn turns_are_bounded()
     ensures { TurnsAreBounded }
 {}
 
-/// Where the parcels that weren't read carry ends in an order of their pairs there are rates that fit the books.
+/// If the parcels that weren't read carry ends in an order of their pairs, there are rates that fit the books.
 pub fn ordered_parcels_have_rates()
     ensures { OrderedAreRated }
 {}
 
-/// Where no node has an act that uses something up, the world is quiet.
+/// If no node has an act that uses something up, the world is quiet.
 pub fn a_world_without_acts_is_quiet()
     ensures { UnusedIsQuiet }
 {}
@@ -238,53 +237,53 @@ pub fn visits_are_bounded()
     ensures { VisitsAreBounded }
 {}
 
-/// A settle answers `Unsettled` only where its limit was below the rank of the world at its start, and two more for each of its begins that
-/// found no memory.
+/// A settle answers `Unsettled` only if its limit was below the rank of the world at its start, and two more for each of its begins and
+/// retires that found no memory.
 pub fn an_unsettled_settle_had_a_limit_below_the_rank()
     ensures { UnsettledIsBounded }
 {}
 
-/// Where no item that wasn't read carries an end, rates fit that pay for nothing but the passing of numbers.
+/// If no item that wasn't read carries an end, rates fit that pay for nothing but the passing of numbers.
 pub fn parcels_without_ends_have_rates()
     ensures { PlainAreRated }
 {}
 
-/// So there a limit that one can reckon, `plain_limit`, is enough for a settle, with two more for each begin or retire that finds no memory.
+/// So then `plain_limit`, a limit that can be computed, is enough for a settle, with two more for each begin or retire that finds no memory.
 pub fn the_plain_limit_is_enough()
     ensures { PlainLimitIsEnough }
 {}
 
-/// Where no item that wasn't read carries an end, the rank is no more than a number that is read off the world: 6 for each number that has
+/// If no item that wasn't read carries an end, the rank is no more than a number that is read off the world: 6 for each number that has
 /// still to pass a router, 17 for each terminal and 61 for each proxy, 38 for each message under way, and 3 for each pending close. What an end
-/// has put its terminal tells, and where none stands a Gone that wasn't read.
+/// has put is told by its terminal, or, if none stands, by a Gone that wasn't read.
 pub fn the_rank_is_within_the_settle_limit()
     ensures { RankIsWithinLimit }
 {}
 
-/// So there that number, `settle_limit`, is enough for a settle, with two more for each begin or retire that finds no memory.
+/// So then that number, `settle_limit`, is enough for a settle, with two more for each begin or retire that finds no memory.
 pub fn the_settle_limit_is_enough()
     ensures { SettleLimitIsEnough }
 {}
 
-/// Where no item that wasn't read carries an end: what stays with the terminals, the numbers that weren't put yet and the parcels that weren't
+/// If no item that wasn't read carries an end: what stays with the terminals, the numbers that weren't put yet and the parcels that weren't
 /// got, is used by no turn, in whatever order; but a sink uses one act for each item that it drops, and a pending close six, as does a retire.
 pub fn what_stays_is_used_by_no_turn()
     ensures { StayingIsUnused }
 {}
 
-/// Where parcels without ends are put into a quiet world, the turns that follow use up at most six for each parcel, one for each end that they
+/// If parcels without ends are put into a quiet world, the turns that follow use up at most six for each parcel, one for each end that they
 /// are put at, and for each proxy that stands six for each parcel of its pair; one more for each item that a sink drops. A proxy stands there
 /// only since the words are used up: no turn is an act of its bypass.
 pub fn puts_into_a_quiet_world_are_bounded()
     ensures { PutsAreBounded }
 {}
 
-/// Where no router of the quiet world has found the words used up, no proxy stands: six for each parcel and one for each end are enough.
+/// If no router of the quiet world has found the words used up, no proxy stands: six for each parcel and one for each end are enough.
 pub fn puts_into_a_direct_world_are_bounded()
     ensures { DirectPutsAreBounded }
 {}
 
-/// Where a settle has settled and no router has found the words used up, no proxy is left, nor a router of a pair with both ends closed, and
+/// If a settle has settled and no router has found the words used up, no proxy is left, nor a router of a pair with both ends closed, and
 /// each other open pair is direct: what an end has put and its peer hasn't got stands in the in queue of the peer's terminal.
 pub fn a_settled_world_is_direct()
     ensures { SettledIsDirect }

@@ -115,7 +115,7 @@ impl LinkWords {
         self.bits[i as usize] = OPEN_WORD;
     }
 
-    /// Answers an act of a router whose outward primary link has this word and side, where it is central, and makes of the word what the
+    /// Answers an act of a router whose outward primary link has this word and side, if it is central, and makes of the word what the
     /// act does; a lock names the source.
     pub(crate) fn answer(
         &mut self,
@@ -135,7 +135,7 @@ impl LinkWords {
         }
     }
 
-    // Claims a word, where one is left.
+    // Claims a word, if one is left.
     fn answer_claim(&mut self) -> Answer
         ensures answer { result ≡ (if has_unclaimed self.old then Answer.Claimed self.old.claimed else Answer.NoWord) }
         ensures table { self.new ≡ (if has_unclaimed self.old then claim_one self.old else self.old) }

@@ -17,8 +17,8 @@ use std::mem;
 
 /// The mailboxes between the nodes, one for each ordered pair of nodes, by number.
 ///
-/// A look moves no message: it marks its mailbox, where the message stays until it is handed. How many are full is kept, so that where none
-/// is a node's next act is found without a look at each.
+/// A look moves no message: it sets a flag of its mailbox, where the message stays until it is handed. How many are full is kept, so that
+/// if none is, a node's next act is found without a look at each.
 #[derive(Drop)]
 pub(crate) struct Mailboxes {
     boxes: Vec<Mail>,
@@ -151,7 +151,7 @@ impl Mailboxes {
         self.full -= 1;
     }
 
-    /// Hands the message in hand in a mailbox to a node, where it is one that the node takes at once, and tells whether it did: the mailbox is
+    /// Hands the message in hand in a mailbox to a node, if it is one that the node takes at once, and tells whether it did: the mailbox is
     /// empty then. Else all stays as it is.
     pub(crate) fn hand_over(
         &mut self,
@@ -209,7 +209,7 @@ fn count_full(boxes: &[Mail]) -> usize
     sum
 }
 
-// Hands the message in hand in a mailbox, which may be marked, to a node, where it is one that the node takes at once, and tells whether it
+// Hands the message in hand in a mailbox, whose flag may be set, to a node, if it is one that the node takes at once, and tells whether it
 // did: what is left of the message counts for nothing then. Else all stays as it is.
 #[inline(always)]
 #[tactic(auto, unfolding(crate::specs::Mailing::as_marked, crate::specs::Mailing::taken_up, crate::specs::Turns::hand_message, crate::specs::Turns::is_full))]
@@ -238,7 +238,7 @@ fn hand_at(place: &mut Mail, marked: bool, node: &mut NodeState, from: u8) -> Re
     }
 }
 
-// Takes the message in hand out of a mailbox, which may be marked.
+// Takes the message in hand out of a mailbox, whose flag may be set.
 #[tactic(auto, unfolding(crate::specs::Mailing::as_marked, crate::specs::Mailing::taken_up, crate::specs::Mailing::put_down, crate::specs::Turns::hand_message))]
 fn take_from(place: &mut Mail, marked: bool) -> Option<Message>
     ensures message { result ≡ hand_message (as_marked marked place.old) }
@@ -268,7 +268,7 @@ fn is_full(mail: &Mail) -> bool
     }
 }
 
-// The number after that of the Gone in it, where it has one.
+// The number after that of the Gone in it, if it has one.
 #[tactic(auto, unfolding(crate::specs::SettleLimit::gone_mailed))]
 fn gone_mailed(mail: &Mail) -> u64
     ensures { result ≡ gone_mailed mail.now }

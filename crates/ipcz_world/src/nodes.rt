@@ -31,7 +31,7 @@ impl Model for Nodes {
 impl Nodes {
     ghost use Rattle.ipcz_world.specs.Lending.{LendsNode};
 
-    /// So many nodes, 8 at most, with their first pairs. It answers `OutOfMemory` alone.
+    /// So many nodes, 8 at most, with their first pairs. Its only refusal is `OutOfMemory`.
     pub(crate) fn new(alloc: Global, count: u8) -> Result<Nodes, Refusal>
         requires { count ≤ 8 }
         ensures nodes { IfOk result (λ s. s ≡ new_nodes count (numbers_from 0 count)) }

@@ -116,7 +116,7 @@ impl State {
         self.words.word(i)
     }
 
-    /// The first node whose callers hold the end, where some do.
+    /// The first node whose callers hold the end, if some do.
     #[tactic(auto, unfolding(crate::specs::World::node_at))]
     pub(crate) fn holder_of(&self, end: End) -> Option<u8>
         requires { IsRegular self.now }
@@ -130,7 +130,7 @@ impl State {
         None
     }
 
-    /// How many routers a node has, where it is there.
+    /// How many routers a node has, if it is there.
     #[tactic(auto, unfolding(crate::specs::World::node_at))]
     pub(crate) fn routers(&self, node: u8) -> Option<usize>
         requires { IsRegular self.now }

@@ -1,4 +1,4 @@
-//! Sums and products that tell where they are no numbers of 64 bits.
+//! Sums and products that tell if they are no numbers of 64 bits.
 
 ghost use Rattle.std.specs.Prelude.{ℕ, ◌<◌, ◌+◌, ◌*◌, ◌≡◌};
 ghost use Rattle.ipcz_world.specs.SettleLimit.{higher, after_gone, gone_message};
@@ -28,7 +28,7 @@ pub(crate) fn higher(a: u64, b: u64) -> u64
     if a < b { b } else { a }
 }
 
-/// The number after an item's where it is Gone, else none.
+/// The number after an item's if it is Gone, else none.
 #[tactic(auto, unfolding(crate::specs::SettleLimit::after_gone))]
 pub(crate) fn after_gone(n: u64, item: &Item) -> u64
     ensures { result ≡ after_gone n item.now }
@@ -39,7 +39,7 @@ pub(crate) fn after_gone(n: u64, item: &Item) -> u64
     if n < u64::MAX { n + 1 } else { n }
 }
 
-/// The number after that of the Gone in a message, where it has one.
+/// The number after that of the Gone in a message, if it has one.
 #[tactic(auto, unfolding(crate::specs::SettleLimit::gone_message))]
 pub(crate) fn gone_message(message: &Message) -> u64
     ensures { result ≡ gone_message message.now }

@@ -28,7 +28,7 @@ use std::marker::Model;
 
 /// Nodes with the link words that they share and the mailboxes between them (docs/PROTOCOL.md, "Nodes" and "Turns").
 ///
-/// The type keeps that there are books and routes with which the world is lawful: no caller ever has to show it.
+/// The type keeps that there are books and routes with which the world is lawful: no caller ever has to prove it.
 #[derive(Drop)]
 pub struct World {
     state: State,
@@ -54,7 +54,7 @@ impl World {
     /// in the order of their nodes, whose two terminals share one link; its word is open and claimed, the other words are empty. Each
     /// mailbox is empty.
     ///
-    /// `nodes` is 1 to 8; `words` is from the number of first pairs, `nodes * (nodes - 1) / 2`, to 4096. It answers `OutOfMemory` alone.
+    /// `nodes` is 1 to 8; `words` is from the number of first pairs, `nodes * (nodes - 1) / 2`, to 4096. Its only refusal is `OutOfMemory`.
     pub fn new(alloc: Global, nodes: u8, words: u32) -> Result<World, Refusal>
         requires limits { IsWithinLimits nodes words }
         ensures world { IfOk result (λ w. w ≡ new_world nodes words) }
@@ -66,7 +66,7 @@ impl World {
     }
 
     /// The world of these nodes, mailboxes and link words, each by number, with so many words claimed: what nodes on a table of their own
-    /// come back to. The caller shows that it is lawful with some books and routes, and that the words' numbers are those of link words.
+    /// come back to. The caller proves that it is lawful with some books and routes, and that the words' numbers are those of link words.
     pub fn of_parts(nodes: Vec<NodeState>, mail: Vec<Mail>, words: Vec<u64>, claimed: u32) -> World
         requires words { IsTable words.items claimed }
         requires lawful { IsLawful (world_of_parts (map (λ k. k.node) nodes.items) mail.items (map word_of_bits words.items) claimed) }
@@ -76,7 +76,7 @@ impl World {
         World { state }
     }
 
-    /// What the type keeps: there are books and routes with which the world is lawful (docs/LAW.md). It does nothing, and is there for
+    /// What the type keeps: there are books and routes with which the world is lawful (docs/THEOREM.md). It does nothing, and is there for
     /// what a caller has to prove.
     pub fn keeps_the_law(&self)
         ensures { IsLawful self.now }
@@ -99,14 +99,14 @@ impl World {
         self.state.word(i)
     }
 
-    /// The node whose callers hold the end, where some do. In a world of trusted nodes there is one at most.
+    /// The node whose callers hold the end, if some do. In a world of trusted nodes there is one at most.
     pub fn holder_of(&self, end: End) -> Option<u8>
         ensures { result ≡ holder_of self.now end }
     {
         self.state.holder_of(end)
     }
 
-    /// How many routers a node has; none where it isn't one of the world's.
+    /// How many routers a node has; none if it isn't one of the world's.
     pub fn routers(&self, node: u8) -> Option<usize>
         ensures { result ≡ routers_at self.now node }
     {
@@ -115,8 +115,8 @@ impl World {
 
     /// Takes a step and answers it (docs/PROTOCOL.md, "Turns"). A turn takes the node's first possible act.
     ///
-    /// Refused `Stranger` where the node isn't one of the world's; a put is refused `OutOfMemory` next, where its lists find no room; then
-    /// as the node refuses the call; an open is refused `NoWord` where each word is claimed, before `NumbersEnd` and `OutOfMemory`. A
+    /// Refused `Stranger` if the node isn't one of the world's; a put is refused `OutOfMemory` next, if its lists find no room; then
+    /// as the node refuses the call; an open is refused `NoWord` if each word is claimed, before `NumbersEnd` and `OutOfMemory`. A
     /// turn is refused `NumbersEnd` or `OutOfMemory`, but a router that finds no memory to begin its bypass, or to retire, gives its lock back
     /// instead. A refusal changes nothing.
     pub fn step(&mut self, step: &Step) -> Reply
@@ -144,7 +144,7 @@ impl World {
 
     /// Puts a parcel of a profile at an end and answers its number, as the step `Put` does, or `PutWide`, without a copy of its lists.
     ///
-    /// A refused put gives both lists back. Its refusals are those of the step, but `OutOfMemory` is the last of them, answered only where the
+    /// A refused put gives both lists back. Its refusals are those of the step, but `OutOfMemory` is the last of them, answered only if the
     /// terminal's queue has to grow. A parcel of `Profile::Wide` is never `BadData`.
     pub fn put_as(
         &mut self,
@@ -177,7 +177,7 @@ impl World {
         self.state.get_given(node, at)
     }
 
-    /// How many bytes and ends the parcel has that a get at this end of a node would give; none where the get would be refused. Nothing is
+    /// How many bytes and ends the parcel has that a get at this end of a node would give; none if the get would be refused. Nothing is
     /// taken.
     pub fn next_sizes(&self, node: u8, at: End) -> Option<Sizes>
         ensures { result ≡ next_sizes self.now node at }
@@ -185,7 +185,7 @@ impl World {
         self.state.next_sizes(node, at)
     }
 
-    /// Takes each of these steps, in their order, and gives their replies. Refused `OutOfMemory` where there is no room for the replies:
+    /// Takes each of these steps, in their order, and gives their replies. Refused `OutOfMemory` if there is no room for the replies:
     /// then no step is taken. A step that is refused is a reply like any other, and the steps after it are taken.
     pub fn run(&mut self, alloc: Global, steps: &[Step]) -> Result<Vec<Reply>, Refusal>
         ensures run { IfOk result (λ replies. AreSteps self.old steps.now replies.items self.new) }
@@ -202,13 +202,13 @@ impl World {
         Ok(replies)
     }
 
-    /// How many acts are enough to settle, where no parcel that wasn't got carries portals; none where this is no number of 64 bits. It is read
+    /// How many acts are enough to settle, if no parcel that wasn't got carries portals; none if this is no number of 64 bits. It is read
     /// off the world: 6 for each number that has still to pass a router, 17 for each terminal and 61 for each proxy, 38 for each message
-    /// under way, and 3 for each close that is pending. For each end of a router's pair two numbers are counted beside those that were put: its
-    /// mark's and Gone's.
+    /// under way, and 3 for each close that is pending. For each end of a router's pair two numbers are counted in addition to those that
+    /// were put: its mark's and Gone's.
     ///
-    /// A settle with this limit, or a higher one, is settled or refused, but where begins or retires found no memory: each takes two
-    /// acts more (docs/LAW.md). Where parcels carry portals this may be too few. It looks at each router for each router.
+    /// A settle with this limit, or a higher one, is settled or refused, unless begins or retires found no memory: each of those takes
+    /// two acts more (docs/THEOREM.md). If parcels carry portals this may be too few. It looks at each router for each router.
     pub fn settle_limit(&self) -> Option<u64>
         ensures limit { Tells result (settle_limit self.now) }
         ensures enough { IfSome result (λ limit. (b : Books) → (g : Routes) → Lawful self.now b g → CarryNone b → plain_limit b self.now ≤ limit) }
@@ -217,9 +217,9 @@ impl World {
     }
 
     /// Lets the nodes take turns, one node after the other in passes over them, until no node has an act; at most `limit` acts are taken.
-    /// Settled, with how many acts were taken, where nothing waits any more; `Unsettled` where `limit` acts were taken and a node still has
+    /// Settled, with how many acts were taken, if nothing waits any more; `Unsettled` if `limit` acts were taken and a node still has
     /// one. A node that is idle takes no turn. A limit of the world's rank, and two more for each begin or retire that finds no
-    /// memory, is enough (docs/LAW.md). The turns that were taken keep the law, as steps with what each was seen to do.
+    /// memory, is enough (docs/THEOREM.md). The turns that were taken keep the law, as steps with what each was seen to do.
     ///
     /// Refused `NumbersEnd` or `OutOfMemory` as the first turn that is refused, of the next node that has an act: the turns before it
     /// stand, and that one changes nothing.

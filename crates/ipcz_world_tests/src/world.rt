@@ -195,7 +195,7 @@ const BOTH_GOT: [Call; 3] = [
     Call::GetRefused(0, B0, Refusal::Empty),
 ];
 
-// How many calls give what they should where two parcels are put, the world settles so, and both are got.
+// How many calls give what they should if two parcels are put, the world settles so, and both are got.
 fn given_after(alloc: Global, settles: &[Call]) -> Result<usize, Refusal> {
     let mut world = World::new(alloc, 1, 1)?;
     let before = given(&mut world, alloc, &TWO_PARCELS)?;

@@ -1,4 +1,4 @@
-//! Pairs whose both ends are closed: by the turns of cells alone no router of theirs is left.
+//! Pairs whose both ends are closed: by turns of cells, and nothing else, no router of theirs is left.
 
 use super::Call::{Close, Open, Turns, Word};
 use super::{A0, A1, B0, B1, Call, bypass, routers_after};

@@ -81,7 +81,7 @@ const STOPPED: [&str; 5] = [
     "Rest(1)",
 ];
 
-// A second parcel waits for node 1 where the bypass begins, so that its first message finds the outbox in use.
+// A second parcel waits for node 1 when the bypass begins, so that its first message finds the outbox in use.
 pub const GROWING: [Move; 16] = [
     Call(Open(0), Opened(1)),
     Call(Put(0, A0, b"m", &[B1]), Accepted(0)),

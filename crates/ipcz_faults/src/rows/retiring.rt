@@ -1,4 +1,4 @@
-//! Pairs whose both ends are closed, each turn of them with what it is seen to do; of one the first sink has to grow where it retires.
+//! Pairs whose both ends are closed, each turn of them with what it is seen to do; of one the first sink has to grow when it retires.
 
 use super::{A0, B0};
 use crate::moves::Ask::{Close, Open, Put};
@@ -39,7 +39,7 @@ pub const ONE_NODE: [Move; 7] = [
     Words(&[19]),
 ];
 
-// The mark waits to be posted behind a parcel where the sink of 0B retires, so that Gone finds the outbox in use.
+// The mark waits to be posted behind a parcel when the sink of 0B retires, so that Gone finds the outbox in use.
 pub const GROWING: [Move; 11] = [
     Call(Put(1, B0, b"a", &[]), Accepted(0)),
     Call(Close(1, B0), Closed(1)),

@@ -60,7 +60,7 @@ pub fn word(bytes: &[u8]) -> Option<u16>
     }
 }
 
-/// What stands before the first `mark` and what stands behind it.
+/// What stands before the first byte that is the separator `mark`, and what stands behind it.
 pub fn halves(bytes: &[u8], mark: u8) -> Option<(&[u8], &[u8])>
     ensures joined { IfSome result (λ parts. bytes.now ≡ parts.0.now ++ mark ∷ parts.1.now) }
     ensures first { IfSome result (λ parts. All (λ b. b ≢ mark) parts.0.now) }

@@ -37,7 +37,7 @@ fn note_birth(routers: &mut Vec<Router>, index: Option<usize>, line: usize)
     }
 }
 
-// The message that carried what was sent at a line, where it was handled and fit.
+// The message that carried what was sent at a line, if it was handled and fit.
 fn carrier<'m, 'a>(messages: &'m [Message<'a>], line: usize) -> Option<&'m Message<'a>> {
     messages.iter().find(|m| m.made == Some(line)
         && !m.unfit

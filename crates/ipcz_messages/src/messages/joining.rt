@@ -49,7 +49,7 @@ fn settle_behind(lines: &[ReadLine], look: usize, to: u8) -> Option<usize> {
     }
 }
 
-// The message with its look, and with its hand, where there is one.
+// The message with its look, and with its hand, if there is one.
 fn with_look<'a>(lines: &[ReadLine<'a>], message: Message<'a>, look: usize) -> Message<'a>
     requires look { IsAt (is_any_look message.to) lines.now look }
     requires unhandled { message.handled ≡ None }

@@ -1,8 +1,8 @@
 //! Who made a message that isn't seen handled.
 //!
-//! Where a node was quiet, and all that it did since is seen, each message that it posts is one that it made since. So where
-//! of all that it made before a post one act alone is left, which made none of the messages that were handled, the message of
-//! that post is this act's.
+//! If a node was quiet, and all that it did since is seen, each message that it posts is one that it made since. So if, of
+//! all that it made before a post, only one act is left that made none of the messages that were handled, the message of that
+//! post is this act's.
 
 ghost use Rattle.std.specs.Prelude.{◌≡◌, ◌<◌, ◌≤◌, length, false, true, IfSome, IfNone};
 ghost use Rattle.std.specs.List.{All, AllWithin, HoldsAt};
@@ -69,7 +69,7 @@ pub struct Part {
     pub to: usize,
 }
 
-// The only act that a message may be of, where the message was posted in a part and isn't seen handled.
+// The only act that a message may be of, if the message was posted in a part and isn't seen handled.
 fn maker_of(made: &[Made], message: &Message, part: Part) -> Option<usize>
     ensures { IfSome result (λ i. i < length made.now) }
 {
@@ -102,7 +102,7 @@ fn explain_one<'a>(
     }
 }
 
-/// Says of the messages that were posted in a part, and that aren't seen handled, what made them, where one act alone is left
+/// Says of the messages that were posted in a part, and that aren't seen handled, what made them, if only one act is left
 /// that may have.
 pub fn explain<'a>(
     lines: &[ReadLine],

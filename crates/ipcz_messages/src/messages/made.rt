@@ -2,7 +2,7 @@
 
 use ipcz_lines::{Kind, Link, RouterEvent, WordStep};
 
-/// A message that was made and not yet handled: the node and the line that made it, the router where it's known, and what is
+/// A message that was made and not yet handled: the node and the line that made it, the router if it's known, and what is
 /// known of the message.
 #[derive(Clone, Copy)]
 pub struct Made<'a> {

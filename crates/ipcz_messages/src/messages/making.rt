@@ -104,7 +104,7 @@ impl<'a> Making<'a> {
         }
     }
 
-    // The proxy of a bypass, where it is on this node.
+    // The proxy of a bypass, if it is on this node.
     fn proxy_on(&self, bypass: Option<usize>, node: u8) -> Option<usize> {
         let proxy = self.bypasses.get(bypass?)?.proxy;
         if self.routers.get(proxy)?.node == node {
@@ -147,7 +147,7 @@ impl<'a> Making<'a> {
         }
     }
 
-    // The router that a hand was for, where the next line of a router tells.
+    // The router that a hand was for, if the next line of a router tells.
     fn next_to_act(&self, hand: usize) -> Option<usize> {
         let receiver = self.receivers.iter().find(|r| r.hand == hand)?;
         Some(receiver.router)
@@ -163,7 +163,7 @@ impl<'a> Making<'a> {
         }
     }
 
-    // The link that the next message of a bypass names, where the bypass and its router are known.
+    // The link that the next message of a bypass names, if the bypass and its router are known.
     fn reply_link(&self, kind: Kind, ways: &Ways) -> Option<Link> {
         let bypass = self.bypasses.get(ways.bypass?)?;
         match kind {
@@ -236,7 +236,7 @@ impl<'a> Making<'a> {
         Ok(())
     }
 
-    // Says what made the messages that were posted from the last settle to a line and aren't seen handled, where all since
+    // Says what made the messages that were posted from the last settle to a line and aren't seen handled, if all since
     // then is seen.
     fn explain(&mut self, lines: &[ReadLine], messages: &mut Vec<Message<'a>>, line: usize)
         requires messages { All (IsMessage lines.now) messages.old.items }

@@ -85,7 +85,7 @@ pub fn namings(
     Ok(namings)
 }
 
-/// The only router of a node, beside another, that names a link.
+/// The only router of a node, apart from another, that names a link.
 pub fn sole(namings: &[Naming], node: u8, link: Link, other: Option<usize>) -> Option<usize> {
     let mut sole = None;
     for naming in namings {

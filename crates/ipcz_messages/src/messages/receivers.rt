@@ -1,6 +1,6 @@
-//! Which router a message was for, where the lines that follow its hand tell.
+//! Which router a message was for, if the lines that follow its hand tell.
 //!
-//! Only a put, a close, a hand and a move flag routers. So where a node was seen without flagged routers, and since then one
+//! Only a put, a close, a hand and a move flag routers. So if a node was seen without flagged routers, and since then one
 //! message was handed to it and nothing else was done there, the next line of a router of the node is of the one that the
 //! message was for.
 
@@ -23,7 +23,7 @@ enum Flags {
     OnlyOf(usize),
 }
 
-// The node that the portal of a name was on at first, where it is one of a first pair.
+// The node that the portal of a name was on at first, if it is one of a first pair.
 fn first_home(name: &[u8]) -> Option<usize> {
     match name {
         [first, b'>', _] => Some(usize::from(first.checked_sub(b'0')?)),

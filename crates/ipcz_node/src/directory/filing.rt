@@ -37,7 +37,7 @@ impl Files {
     }
 }
 
-// The terminals alone.
+// The terminals only.
 fn close_end(terminals: &mut Index<End>, serial: u64, was: &Filing, is: &Filing)
     requires filed { (end : EndRecord) → is_filed end_cmp terminals.old.members end serial ≡ (was.now.is_open && same_end was.now.end end) }
     requires closes { was.now.is_open ≡ false → is.now.is_open ≡ false }
@@ -51,7 +51,7 @@ fn close_end(terminals: &mut Index<End>, serial: u64, was: &Filing, is: &Filing)
     }
 }
 
-// The links alone: those that are kept stay, so that room is wanted for new ones alone.
+// The links only: those that are kept stay, so that only new ones want room.
 fn relink(links: &mut Index<LinkPlace>, serial: u64, was: &Filing, is: &Filing)
     requires room { link_gain was.now is.now ≤ links.old.room }
     requires filed { (link : LinkId) (side : Side) → is_filed place_cmp links.old.members (link_place link side) serial ≡
@@ -70,7 +70,7 @@ fn relink(links: &mut Index<LinkPlace>, serial: u64, was: &Filing, is: &Filing)
     file_link(links, serial, &is.inward_decaying, was);
 }
 
-// Takes a link away, where the filing hasn't it.
+// Takes a link away, if the filing hasn't it.
 #[inline(always)]
 fn drop_link(links: &mut Index<LinkPlace>, serial: u64, old: &Option<LinkEnd>, kept: &Filing)
     ensures members { (link : LinkId) (side : Side) (s : ℕ) → is_filed place_cmp links.new.members (link_place link side) s
@@ -88,7 +88,7 @@ fn drop_link(links: &mut Index<LinkPlace>, serial: u64, old: &Option<LinkEnd>, k
     }
 }
 
-// Files a link, where the filing hadn't it.
+// Files a link, if the filing hadn't it.
 #[inline(always)]
 fn file_link(links: &mut Index<LinkPlace>, serial: u64, new: &Option<LinkEnd>, was: &Filing)
     requires { gained_by was.now new.now ≤ links.old.room }
@@ -107,7 +107,7 @@ fn file_link(links: &mut Index<LinkPlace>, serial: u64, new: &Option<LinkEnd>, w
     }
 }
 
-// Keeps the set of flagged serials after what was done with the router of a serial. That is all that is to be filed where its links
+// Keeps the set of flagged serials after what was done with the router of a serial. That is all that is to be filed if its links
 // stay, and whether it is an open terminal.
 #[inline(always)]
 pub(super) fn follow(flagged: &mut Flags, serial: u64, was_flagged: bool, is_flagged: bool)

@@ -35,8 +35,8 @@ impl Directory {
         message
     }
 
-    /// Gives an item without ends to the router of the serial, as `accept` does; `item` is left as it is where it is refused, and counts for
-    /// nothing where it is taken.
+    /// Gives an item without ends to the router of the serial, as `accept` does; `item` is left as it is if it is refused, and counts for
+    /// nothing if it is taken.
     #[tactic(auto, using(crate::proofs::Written::insert_same))]
     pub fn accept_alone(
         &mut self,

@@ -9,7 +9,7 @@ use ipcz_base::{Item, LinkEnd, LinkId, Side};
 use ipcz_router::Filing;
 use ipcz_router::act::{Applied, RouterAct};
 
-// Makes room to hold so many ends more than these, and some beside, and tells how many all of the first are.
+// Makes room to hold so many ends more than these, and some besides, and tells how many all of the first are.
 pub(super) fn make_room(
     held: &mut HeldEnds,
     ends: usize,
@@ -32,8 +32,8 @@ pub(super) fn make_room(
     }
 }
 
-// How many flags to make room for, beside those that are up: one for each router, where routers are made; else each has its
-// room. None where that is no number.
+// How many flags to make room for, apart from those that are up: one for each router, if routers are made; else each has its
+// room. None if that is no number.
 pub(super) fn flags_wanted(len: usize, routers: usize) -> Option<usize>
     ensures some { IfSome result (λ n. 0 < routers → n ≡ len + routers) }
     ensures none { IfNone result (2 ^ 64 ≤ len + routers) }
@@ -45,7 +45,7 @@ pub(super) fn flags_wanted(len: usize, routers: usize) -> Option<usize>
     }
 }
 
-// The sum of two numbers, where it fits.
+// The sum of two numbers, if it fits.
 pub(super) fn sum(a: usize, b: usize) -> Option<usize>
     ensures some { IfSome result (λ n. n ≡ a + b) }
     ensures none { IfNone result (2 ^ 64 ≤ a + b) }

@@ -45,7 +45,7 @@ impl NodeState {
         }
     }
 
-    // A router does its act, and leaves where that is what the act is for.
+    // A router does its act, and leaves if that is what the act is for.
     #[tactic(auto, unfolding(crate::specs::Acts::keep_or_drop, ipcz_router::specs::ActEffects::leaves_by, ipcz_router::specs::ActEffects::output_of))]
     #[inline(always)]
     fn act_router(&mut self, serial: u64, act: RouterAct, answer: Answer) -> Applied

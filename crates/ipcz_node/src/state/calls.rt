@@ -42,7 +42,7 @@ impl From<PutRefused> for Refusal {
 impl NodeState {
     /// Makes room for a pair: for two routers, and for the ends that callers hold.
     ///
-    /// It answers `NumbersEnd` where one of the two serials would be u64::MAX, else `OutOfMemory` where there is no room and none
+    /// It answers `NumbersEnd` if one of the two serials would be u64::MAX, else `OutOfMemory` if there is no room and none
     /// was found.
     pub fn open_prepare(&mut self) -> Result<(), Refusal>
         ensures node { self.new.node ≡ self.old.node }
@@ -61,7 +61,7 @@ impl NodeState {
         }
     }
 
-    /// Notes the word that was claimed for an open: the open is under way until `open_commit` does it. The node asks nothing of
+    /// Notes the word that was claimed for an open: the open is under way until `open_commit` does it. The node requires nothing of
     /// the word. It is to be a link word that this node has claimed and that nothing else uses.
     pub fn claim_open(&mut self, word: u32)
         requires { self.old.node.opening ≡ None }
@@ -107,11 +107,11 @@ impl NodeState {
 
     /// Puts a parcel at an end that callers of this node hold, and answers its number. Its ends are held no more.
     ///
-    /// A refused call gives both lists back. It answers, the first of these: `Stranger` where `at` isn't held here, `TooMany`
-    /// for more bytes than the profile takes or more than 8 ends, `BadData` for a byte that the profile doesn't take, `SelfAttach` where
-    /// `ends` has `at`, `PeerAttach` where it has the other end of that pair, wherever that is, `Stranger` where it has an end that isn't
-    /// held here or one that stands twice, `PeerClosed` where the peer's mark has come, `NumbersEnd` where no number is left, and
-    /// `OutOfMemory`, where the terminal has no room for an item more and none was found (docs/PROTOCOL.md, "Refusals").
+    /// A refused call gives both lists back. It answers, the first of these: `Stranger` if `at` isn't held here, `TooMany`
+    /// for more bytes than the profile takes or more than 8 ends, `BadData` for a byte that the profile doesn't take, `SelfAttach` if
+    /// `ends` has `at`, `PeerAttach` if it has the other end of that pair, wherever that is, `Stranger` if it has an end that isn't
+    /// held here or one that stands twice, `PeerClosed` if the peer's mark has come, `NumbersEnd` if no number is left, and
+    /// `OutOfMemory`, if the terminal has no room for an item more and none was found (docs/PROTOCOL.md, "Refusals").
     #[inline(always)]
     #[tactic(auto, unfolding(crate::specs::Node::on_found, crate::specs::Calls::number_at))]
     pub fn put_as(
@@ -207,7 +207,7 @@ impl NodeState {
         self.free_serial(at)
     }
 
-    // The terminal of an end, where it takes a parcel.
+    // The terminal of an end, if it takes a parcel.
     #[tactic(auto, unfolding(crate::specs::Calls::refusal_at))]
     fn free_serial(&self, at: End) -> Result<u64, Refusal>
         ensures allowed { OnOk result (refusal_at (terminal_of self.now.node at) router_put_refusal ≡ None) }
@@ -252,8 +252,8 @@ impl NodeState {
     /// Takes the next parcel at an end that callers of this node hold, with its number; its ends are held here from then on.
     /// It takes no memory.
     ///
-    /// It answers, the first of these: `Stranger` where `at` isn't held here, `Empty` where the parcel hasn't come, whatever
-    /// stands behind it, and `PeerClosed` where the peer's mark is what comes next.
+    /// It answers, the first of these: `Stranger` if `at` isn't held here, `Empty` if the parcel hasn't come, whatever
+    /// stands behind it, and `PeerClosed` if the peer's mark is what comes next.
     #[tactic(auto, unfolding(crate::specs::Calls::get_refusal, crate::specs::Calls::refusal_at, crate::specs::Calls::got_at_found, crate::specs::Node::on_found))]
     pub fn get(&mut self, at: End) -> Result<(u64, Parcel), Refusal>
         ensures allowed { OnOk result (get_refusal self.old.node at ≡ None) }
@@ -272,7 +272,7 @@ impl NodeState {
         Ok(got)
     }
 
-    /// How many bytes and ends the parcel has that a get at this end would give; none where it would be refused. It takes no memory.
+    /// How many bytes and ends the parcel has that a get at this end would give; none if it would be refused. It takes no memory.
     #[tactic(auto, unfolding(crate::specs::Calls::got_at_found, crate::specs::Calls::item_got, ipcz_router::specs::Calls::sizes_found, ipcz_base::specs::Items::sizes_in))]
     pub fn next_sizes(&self, at: End) -> Option<Sizes>
         ensures { result ≡ next_sizes self.now.node at }
@@ -289,7 +289,7 @@ impl NodeState {
     /// Closes an end that callers of this node hold, and answers the number of the mark that its peer is to get. The end is
     /// held no more.
     ///
-    /// It answers `Stranger` where `at` isn't held here, else `OutOfMemory` where the terminal has no room for the mark and none
+    /// It answers `Stranger` if `at` isn't held here, else `OutOfMemory` if the terminal has no room for the mark and none
     /// was found.
     #[tactic(auto, unfolding(crate::specs::Calls::close_refusal, crate::specs::Calls::refusal_at, crate::specs::Calls::number_at, crate::specs::Node::on_found))]
     pub fn close(&mut self, at: End) -> Result<u64, Refusal>
@@ -350,7 +350,7 @@ impl NodeState {
         self.strays.as_slice()
     }
 
-    /// The word of the outward primary link of the router of the serial, with its side; none where there is no such router,
+    /// The word of the outward primary link of the router of the serial, with its side; none if there is no such router,
     /// or the link is not central, or there is none.
     pub fn word_of(&self, serial: u64) -> Option<(u32, Side)>
         ensures { result ≡ word_side self.now.node serial }
@@ -358,7 +358,7 @@ impl NodeState {
         self.routers.word_of(serial)
     }
 
-    /// The node inward of the proxy of the serial, which may send the AcceptBypass of its bypass; none where there is no such
+    /// The node inward of the proxy of the serial, which may send the AcceptBypass of its bypass; none if there is no such
     /// router, or it is a terminal. It takes no memory.
     pub fn source_of(&self, serial: u64) -> Option<u8>
         ensures { result ≡ source_in self.now.node serial }

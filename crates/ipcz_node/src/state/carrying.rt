@@ -31,7 +31,7 @@ impl NodeState {
     }
 
     /// Takes the current item out of the out queue of the router of the serial, and gives its number with it: what the act `SendOut` of the
-    /// router comes to but for the outbox.
+    /// router does, except to the outbox.
     #[inline(always)]
     pub fn send_next(&mut self, serial: u64) -> (u64, Item)
         requires { IsSomeAnd (router_in self.old.node serial) (λ r. is_some (current_item r.out_queue) ≡ true) }
@@ -46,7 +46,7 @@ impl NodeState {
     }
 
     /// Takes the current item out of the out queue of the router of the serial, which rests then, and gives its number with it: what the acts
-    /// `SendOut` and `Rest` of the router come to but for the outbox.
+    /// `SendOut` and `Rest` of the router do, except to the outbox.
     #[inline(always)]
     pub fn send_last(&mut self, serial: u64) -> (u64, Item)
         requires { IsSomeAnd (router_in self.old.node serial) (λ r. is_some (current_item r.out_queue) ≡ true) }
@@ -60,9 +60,9 @@ impl NodeState {
         self.routers.send_last(serial)
     }
 
-    /// Gives an item without ends to the router that has the link at the side, where it comes over its outward edge and the router only rests
-    /// before it and after it. It tells whether it did: `item` counts for nothing then. Else `item` and the node stay as they are, as where
-    /// there is no memory.
+    /// Gives an item without ends to the router that has the link at the side, if it comes over its outward edge and the router only rests
+    /// before it and after it. It tells whether it did: `item` counts for nothing then. Else, and if there is no memory, `item` and the node
+    /// stay as they are.
     #[inline(always)]
     pub fn take_last(&mut self, link: LinkId, side: Side, n: u64, item: &mut Item) -> bool
         requires { ends_in item.old ≡ [] }

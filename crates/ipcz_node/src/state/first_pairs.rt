@@ -14,7 +14,7 @@ impl NodeState {
     /// The node of a number among so many, with its ends of the first pairs: one pair for each two nodes, numbered in the
     /// order of their nodes, side A at the lower one. Callers hold them.
     ///
-    /// `count` is 1 to 8, and `number` is below it. It answers `OutOfMemory` alone.
+    /// `count` is 1 to 8, and `number` is below it. Its only refusal is `OutOfMemory`.
     #[tactic(auto, unfolding(crate::specs::FirstPairs::new_node))]
     pub fn new(alloc: Global, number: u8, count: u8) -> Result<Self, Refusal>
         requires within { (number < count) × (count ≤ 8) }
@@ -24,10 +24,10 @@ impl NodeState {
         NodeState::new_from(alloc, number, count, 0)
     }
 
-    /// The same, with the serials of routers and of peripheral links counted from `first` on. No run comes to the last serials,
-    /// so this is for who wants to see how they end.
+    /// The same, with the serials of routers and of peripheral links counted from `first` on. No run reaches the last serials,
+    /// so this is for those who want to see how they end.
     ///
-    /// The routers of the first pairs, one for each other node, have serials below u64::MAX. It answers `OutOfMemory` alone.
+    /// The routers of the first pairs, one for each other node, have serials below u64::MAX. Its only refusal is `OutOfMemory`.
     #[tactic(auto, using(crate::proofs::FirstPairs::first_row, crate::proofs::FirstPairs::first_serials))]
     pub fn new_from(alloc: Global, number: u8, count: u8, first: u64) -> Result<Self, Refusal>
         requires within { (number < count) × (count ≤ 8) }
@@ -87,7 +87,7 @@ impl NodeState {
         }
     }
 
-    // Adds the node's end of the first pair of two nodes, where it has one.
+    // Adds the node's end of the first pair of two nodes, if it has one.
     fn add_pair(&mut self, i: u8, j: u8, pair: u32) -> Result<(), AllocError>
         requires lower { self.old.node.number ≡ i → self.old.node.next_router < no_number }
         requires upper { self.old.node.number ≡ j → self.old.node.next_router < no_number }

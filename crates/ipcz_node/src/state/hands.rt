@@ -84,7 +84,7 @@ impl NodeState {
         }
     }
 
-    // Keeps a message among the strays. It is left as it is where there is no room for it, and counts for nothing where it is kept.
+    // Keeps a message among the strays. It is left as it is if there is no room for it, and counts for nothing if it is kept.
     #[cold]
     #[inline(never)]
     fn keep_stray(&mut self, message: &mut Message) -> Result<(), Refusal>
@@ -107,7 +107,7 @@ impl NodeState {
         }
     }
 
-    // The hand is empty, where what was in it came from this node.
+    // The hand is empty, if what was in it came from this node.
     #[tactic(auto, unfolding(crate::specs::Hands::is_hand_of))]
     fn free_hand(&mut self, sender: u8)
         ensures { self.new.node ≡ free_hand self.old.node sender }
@@ -162,8 +162,8 @@ impl NodeState {
         }
     }
 
-    // The router of the serial takes the item, and its moves become terminals. The item is left as it is where it is refused, and counts for
-    // nothing where it is taken.
+    // The router of the serial takes the item, and its moves become terminals. The item is left as it is if it is refused, and counts for
+    // nothing if it is taken.
     fn take_item(
         &mut self,
         serial: u64,
@@ -258,8 +258,8 @@ impl NodeState {
         }
     }
 
-    // Handles a message that fits, and for which there are serials. It is left as it is where there is no room for what it makes grow, and
-    // counts for nothing where it is handled.
+    // Handles a message that fits, and for which there are serials. It is left as it is if there is no room for what it makes grow, and
+    // counts for nothing if it is handled.
     #[tactic(auto, unfolding(crate::specs::Hands::fits, crate::specs::Hands::serials_in, crate::specs::Hands::grows_where_it_fits, crate::specs::Telling::brings_item))]
     fn handle(
         &mut self,
@@ -286,7 +286,7 @@ impl NodeState {
         }
     }
 
-    // Handles a message, or keeps it whole where it doesn't fit, as is known.
+    // Handles a message, or keeps it whole if it doesn't fit, as is known.
     #[tactic(auto, using(crate::proofs::Handing::takes_no_serials))]
     fn receive(
         &mut self,
@@ -314,7 +314,7 @@ impl NodeState {
         }
     }
 
-    // What delivering a message from a node is seen to do, where it is known whether it fits.
+    // What delivering a message from a node is seen to do, if it is known whether it fits.
     #[tactic(auto, unfolding(crate::specs::Events::hand_event))]
     fn hand_event(
         &self,
@@ -335,15 +335,15 @@ impl NodeState {
         }
     }
 
-    /// Delivers a message from the node `from`, which is below the number of nodes: a router here handles it, or it is kept
-    /// among the strays where it doesn't fit, or, a Flush that no router is named by, dropped (docs/PROTOCOL.md, "Strays").
-    /// If the message in hand was from that node, the hand is empty then. An AcceptBypass fits only where `source`, the node that the
+    /// Delivers a message from the node `from`, which is below the number of nodes: a router here handles it, or, if it
+    /// doesn't fit, it is kept among the strays; a Flush whose link no router here has is dropped (docs/PROTOCOL.md, "Strays").
+    /// If the message in hand was from that node, the hand is empty then. An AcceptBypass fits only if `source`, the node that the
     /// old link's word names, is `from` (docs/PROTOCOL.md, "The allowed source"); no other message looks at it.
     ///
-    /// A refused message is handed back, and nothing has changed. It is `NumbersEnd` where the message fits and would make
+    /// A refused message is handed back, and nothing has changed. It is `NumbersEnd` if the message fits and would make
     /// more routers than serials are left for, and otherwise `OutOfMemory`. A message that makes nothing grow, as a Flush or a
-    /// ProxyWillStop that fits, is never refused. No other is refused `OutOfMemory` where it fits and there is room for what it
-    /// makes a router take and tell, nor where it doesn't fit and there is room for a stray more.
+    /// ProxyWillStop that fits, is never refused. No other is refused `OutOfMemory` if it fits and there is room for what it
+    /// makes a router take and tell, nor if it doesn't fit and there is room for a stray more.
     pub fn deliver(
         &mut self,
         from: u8,
@@ -426,7 +426,7 @@ impl NodeState {
     /// and tells whether it was one: what is left of the message counts for nothing then. Each other message stays as it is, to be
     /// delivered, and so does the node with all its room.
     ///
-    /// It answers `OutOfMemory` where there was no room for such an item and none was found; then nothing has changed.
+    /// It answers `OutOfMemory` if there was no room for such an item and none was found; then nothing has changed.
     #[tactic(auto, unfolding(crate::specs::Telling::brings_item, crate::specs::Telling::is_lone))]
     pub fn deliver_at_once(&mut self, from: u8, message: &mut Message) -> Result<bool, Refusal>
         ensures taken { (source : Option ℕ) → IfOk result (λ taken. taken ≡ true → self.new.node ≡ deliver self.old.node from message.old source) }
@@ -506,8 +506,8 @@ impl NodeState {
         }
     }
 
-    // Receives a message of which it is known whether it fits, and empties the hand. The message is left as it is where it is refused, and
-    // counts for nothing where it is received.
+    // Receives a message of which it is known whether it fits, and empties the hand. The message is left as it is if it is refused, and
+    // counts for nothing if it is received.
     #[tactic(auto, unfolding(crate::specs::Hands::deliver))]
     fn take_from_hand(
         &mut self,

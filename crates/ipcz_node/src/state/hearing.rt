@@ -69,7 +69,7 @@ impl NodeState {
 }
 
 impl NodeState {
-    // A message more is to be sent, where there is one.
+    // A message more is to be sent, if there is one.
     #[tactic(auto, unfolding(crate::specs::Hands::tell))]
     fn tell(&mut self, sending: Option<Sending>)
         requires { HasRoomToTell self.old sending }
@@ -80,7 +80,7 @@ impl NodeState {
         }
     }
 
-    // Makes room for so many links more of a router, and for a message to a node, where there is one.
+    // Makes room for so many links more of a router, and for a message to a node, if there is one.
     fn reserve_links(&mut self, links: usize, to: Option<u8>) -> Result<(), AllocError>
         ensures node { self.new.node ≡ self.old.node }
         ensures links { OnOk result (links ≤ self.new.room.links) }
@@ -125,7 +125,7 @@ impl NodeState {
         Ok(())
     }
 
-    // Handles a message that fits and brings no item; where there is no router for it, it is a Flush, which is dropped.
+    // Handles a message that fits and brings no item; if there is no router for it, it is a Flush, which is dropped.
     pub(super) fn hear(
         &mut self,
         sender: u8,
@@ -146,7 +146,7 @@ impl NodeState {
     }
 }
 
-// Whether a message is dropped where no router here has the link that it asks for.
+// Whether a message is dropped if no router here has the link that it asks for.
 #[tactic(auto, unfolding(crate::specs::Hearing::is_dropped))]
 fn is_dropped(message: &Message) -> bool
     ensures { result ≡ is_dropped message.now }

@@ -24,7 +24,7 @@ impl NodeState {
     /// Lets a router do a possible act that touches no link word: makes room for it, as `prepare` does, and does it, as `commit_unseen`
     /// does with the answer `Plain`.
     ///
-    /// It answers `NumbersEnd` where the act would move more ends than serials of peripheral links are left for, else `OutOfMemory` where
+    /// It answers `NumbersEnd` if the act would move more ends than serials of peripheral links are left for, else `OutOfMemory` if
     /// there was no room and none was found; then what is to be seen of the node stays as it is. An act that makes nothing grow is never
     /// refused, nor is one that the node is ready for, as after a `prepare`.
     pub fn act_plainly(&mut self, serial: u64, act: RouterAct) -> Result<(), Refusal>

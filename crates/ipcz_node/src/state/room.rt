@@ -113,7 +113,7 @@ impl NodeState {
         self.reserve(outlook)
     }
 
-    // Makes room for the mark at the open terminal of an end, where there is one.
+    // Makes room for the mark at the open terminal of an end, if there is one.
     fn prepare_close(&mut self, end: End) -> Result<(), Refusal>
         ensures node { self.new.node ≡ self.old.node }
         ensures kept { RoomIsKept self.old.room self.new.room }
@@ -129,8 +129,8 @@ impl NodeState {
 
     /// Makes all the room that an act wants, so that `commit` takes no memory. What is to be seen of the node stays as it is.
     ///
-    /// It answers `NumbersEnd` where the act would move more ends than serials of peripheral links are left for, else
-    /// `OutOfMemory` where there was no room and none was found. An act that makes nothing grow is never refused,
+    /// It answers `NumbersEnd` if the act would move more ends than serials of peripheral links are left for, else
+    /// `OutOfMemory` if there was no room and none was found. An act that makes nothing grow is never refused,
     /// nor is one that the node is ready for, as after a `prepare` before. What it or an `open_prepare` before it made room for
     /// stays (docs/PROTOCOL.md, "Turns").
     #[tactic(auto, unfolding(crate::specs::Acts::act_lacks_serials, crate::specs::Preparing::act_grows))]

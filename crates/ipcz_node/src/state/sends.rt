@@ -33,7 +33,7 @@ impl NodeState {
         self.next_peripheral += 1;
     }
 
-    // The terminal of an end moves, where there is one.
+    // The terminal of an end moves, if there is one.
     #[tactic(auto, unfolding(crate::specs::Sends::move_found))]
     fn move_end(&mut self, end: End, to: u8, moves: &mut Vec<Descriptor>)
         requires links { 0 < self.old.room.links }

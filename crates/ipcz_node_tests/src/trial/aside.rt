@@ -22,7 +22,7 @@ pub(super) struct Aside {
 }
 
 impl Aside {
-    // The message that is a stray from then on, where there is one.
+    // The message that is a stray from then on, if there is one.
     fn stray(&self) -> Option<Letter> {
         match self.step {
             Step::Deliver(_, letter, false) | Step::DeliverWhere(_, _, letter, false) => Some(
@@ -33,7 +33,7 @@ impl Aside {
     }
 }
 
-// Whether a list has a stray alone, or nothing where there is to be none.
+// Whether a list has just a stray, or nothing if there is to be none.
 fn is_alone(stray: Option<Letter>, strays: &[Message]) -> bool {
     match stray {
         None => strays.is_empty(),
@@ -59,7 +59,7 @@ impl Twins {
         })
     }
 
-    // Whether the nodes are alike, where the one has no stray, and the other at most the one that it is to have.
+    // Whether the nodes are alike, if the one has no stray, and the other at most the one that it is to have.
     fn are_alike(&self, stray: Option<Letter>) -> bool {
         are_alike(&self.plain.node, &self.tried.node)
             && self.plain.node.strays().is_empty()

@@ -150,7 +150,7 @@ impl Deed {
     }
 }
 
-// The answer that is offered, where it is of the act's kind; to an act that touches no word, that
+// The answer that is offered, if it is of the act's kind; to an act that touches no word, that
 // it touches none.
 fn answer_of(act: RouterAct, offered: Answer) -> Option<Answer>
     ensures { IfSome result (λ answer. IsAnswerOf act answer) }
@@ -227,7 +227,7 @@ impl Trial {
         deed.is(&event)
     }
 
-    /// Why a turn is refused, where it is.
+    /// Why a turn is refused, if it is.
     pub(super) fn turn_refusal(&mut self) -> Option<Refusal> {
         take(&mut self.node, &self.seen, Answer::Plain).err()
     }

@@ -74,7 +74,7 @@ impl Letter {
         }
     }
 
-    // The message, where it is of a bypass.
+    // The message, if it is of a bypass.
     fn plain_message(&self) -> Message {
         match *self {
             Letter::BypassPeer(link, side, old, target, fresh) => Message::BypassPeer {

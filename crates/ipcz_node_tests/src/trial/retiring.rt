@@ -65,7 +65,7 @@ fn a_closed_pair_leaves_its_node(rt: HostRuntime) {
     );
 }
 
-// Where Gone finds no memory the lock is given back, and tried for again at once.
+// If Gone finds no memory, the lock is given back, and tried for again at once.
 static GIVES_THE_LOCK_BACK: [Step; 4] = [
     Unlock(3),
     First(Act::Router(0, RouterAct::Lock)),
@@ -139,7 +139,7 @@ fn a_proxy_without_a_word_leaves_behind_gone(rt: HostRuntime) {
     );
 }
 
-// Node 1 of two: the new terminal of 1B, on a link without a word, sends its mark, and leaves where Gone comes.
+// Node 1 of two: the new terminal of 1B, on a link without a word, sends its mark, and leaves when Gone comes.
 static FAR_TERMINAL: [Step; 15] = [
     Deliver(0, Letter::Parcel(C0, Side::B, 0, &[B1], &[MOVED]), true),
     Turn(Rest(0)),

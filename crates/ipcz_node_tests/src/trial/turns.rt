@@ -42,7 +42,7 @@ const FROM_3_AND_7: MailSeen = MailSeen {
     empty: [false; 8],
 };
 
-// Messages can be posted to nodes 1 and 2 alone, and none has come.
+// Messages can be posted only to nodes 1 and 2, and none has come.
 const TO_1_AND_2: MailSeen = MailSeen {
     full: [false; 8],
     empty: [false, true, true, false, false, false, false, false],
@@ -135,7 +135,7 @@ fn posts_go_by_destination_and_then_in_the_order_of_sending(rt: HostRuntime) {
     assert_eq!(rt; first_wrong(rt.alloc(), 1, 3, &[&POSTS]), None);
 }
 
-// Whatever else has come or waits, also where a message of another node is delivered, or the act is
+// Whatever else has come or waits, also if a message of another node is delivered, or the act is
 // committed.
 static STAYS_IN_HAND: [Step; 17] = [
     See(FROM_0_AND_2),

@@ -34,7 +34,7 @@ struct WordSide {
 }
 
 impl Words {
-    // The word of a link; an empty one where the link has none.
+    // The word of a link; an empty one if the link has none.
     fn at(&self, link: Option<(u32, Side)>) -> WordSide
         ensures { IsWord result.word }
     {
@@ -244,7 +244,7 @@ impl Pair {
         }
     }
 
-    // The first turn of a leg that doesn't do what it says; behind the last, where the words are
+    // The first turn of a leg that doesn't do what it says; behind the last, if the words are
     // others.
     fn first_wrong(&mut self, leg: &Leg) -> Option<usize> {
         for (i, deed) in leg.deeds.iter().enumerate() {

@@ -26,7 +26,7 @@ impl Router {
     /// Takes a BypassPeer, which a proxy sent: the outward link to that proxy decays, as long as the number of the item that
     /// goes out next, and the new primary link is that of the word `fresh`, toward the node `target`.
     ///
-    /// The answer tells the router across, which has the link of the word `old`. It is `Stranger` where the message doesn't
+    /// The answer tells the router across, which has the link of the word `old`. It is `Stranger` if the message doesn't
     /// fit; then nothing has changed. The router is flagged.
     #[tactic(auto, unfolding(ipcz_base::specs::Links::has_link))]
     pub fn bypass_peer(
@@ -71,7 +71,7 @@ impl Router {
     /// the number of the item that goes out next and as long from it as `length`, and the new primary link is that of the
     /// word `fresh`, toward `sender`.
     ///
-    /// The answer tells the proxy both lengths. It is `Stranger` where the message doesn't fit, and else `Forged` where `source`,
+    /// The answer tells the proxy both lengths. It is `Stranger` if the message doesn't fit, and else `Forged` if `source`,
     /// the node that the old link's word names, isn't `sender`; then nothing has changed. The router is flagged.
     #[tactic(auto, unfolding(ipcz_base::specs::Links::has_link, crate::specs::Bypass::stop_message))]
     pub fn accept_bypass(
@@ -130,7 +130,7 @@ impl Router {
     /// Takes a StopProxying: both decaying links of the proxy have their lengths. `in_length` is that of what comes from
     /// outward and goes inward, `out_length` that of what comes from inward and goes outward.
     ///
-    /// The answer tells the router inward how long the link to it is. It is `Stranger` where the message doesn't fit; then
+    /// The answer tells the router inward how long the link to it is. It is `Stranger` if the message doesn't fit; then
     /// nothing has changed. The proxy is flagged.
     #[tactic(auto, unfolding(ipcz_base::specs::Links::has_link, crate::specs::Bypass::will_stop_message))]
     pub fn stop_proxying(
@@ -171,7 +171,7 @@ impl Router {
 
     /// Takes a ProxyWillStop: items below `in_length` still come over the decaying link, and none from there on.
     ///
-    /// Nothing is sent next. The answer is `Stranger` where the message doesn't fit; then nothing has changed. The router is
+    /// Nothing is sent next. The answer is `Stranger` if the message doesn't fit; then nothing has changed. The router is
     /// flagged.
     #[tactic(auto, unfolding(ipcz_base::specs::Links::has_link))]
     pub fn proxy_will_stop(

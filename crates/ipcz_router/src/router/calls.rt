@@ -13,15 +13,15 @@ use ipcz_edge::Edge;
 use std::mem;
 
 impl Router {
-    /// Why a put would be refused, memory aside: `PeerClosed` where the peer's mark has come, even behind a gap, else
-    /// `NumbersEnd` where the number would be [`LAST`] or more.
+    /// Why a put would be refused, memory aside: `PeerClosed` if the peer's mark has come, even behind a gap, else
+    /// `NumbersEnd` if the number would be [`LAST`] or more.
     pub fn put_refusal(&self) -> Option<Refusal>
         ensures { result ≡ router_put_refusal self.now.router }
     {
         self.refusal_at(self.out_queue.reach())
     }
 
-    // The same where the next number is known.
+    // The same if the next number is known.
     #[inline(always)]
     fn refusal_at(&self, n: u64) -> Option<Refusal>
         requires { n ≡ next_number self.now.router }
@@ -38,8 +38,8 @@ impl Router {
 
     /// Puts a parcel into the out queue and answers its number, the next one at this end. The router is flagged.
     ///
-    /// A refused call hands the parcel back. It answers `PeerClosed` where the peer's mark has come, even behind a gap, else
-    /// `NumbersEnd` where the number would be [`LAST`] or more, else `OutOfMemory` where there was no room and none was
+    /// A refused call hands the parcel back. It answers `PeerClosed` if the peer's mark has come, even behind a gap, else
+    /// `NumbersEnd` if the number would be [`LAST`] or more, else `OutOfMemory` if there was no room and none was
     /// found.
     #[inline(always)]
     pub fn put(&mut self, parcel: Parcel) -> Result<u64, (Refusal, Parcel)>
@@ -65,7 +65,7 @@ impl Router {
 
     /// Takes the parcel of the in queue's current number out, with that number.
     ///
-    /// It answers `Empty` where that item hasn't come, whatever stands behind it, and `PeerClosed` where it is the mark, or Gone,
+    /// It answers `Empty` if that item hasn't come, whatever stands behind it, and `PeerClosed` if it is the mark, or Gone,
     /// which stays.
     #[tactic(auto, unfolding(crate::specs::Calls::item_refusal))]
     pub fn get(&mut self) -> Result<(u64, Parcel), Refusal>
@@ -88,7 +88,7 @@ impl Router {
         }
     }
 
-    /// How many bytes and ends the parcel has that a get would take out; none where it would be refused.
+    /// How many bytes and ends the parcel has that a get would take out; none if it would be refused.
     #[tactic(auto, unfolding(crate::specs::Calls::sizes_found))]
     pub fn next_sizes(&self) -> Option<Sizes>
         ensures { result ≡ sizes_found (current_item self.now.router.in_queue) }
@@ -116,8 +116,8 @@ impl Router {
     /// Takes in the item with number `n` that came over `link`, for the router on `side` of it. The router is flagged.
     ///
     /// What comes over a link of the outward edge goes into the in queue, what comes over a link of the inward edge into
-    /// the out queue. A refused call hands the item back. It answers `Stranger` where no edge has the link at that side,
-    /// else `Passed` where `n` has left the queue, else `Occupied` where `n` is in it, else `OutOfMemory` where there was no
+    /// the out queue. A refused call hands the item back. It answers `Stranger` if no edge has the link at that side,
+    /// else `Passed` if `n` has left the queue, else `Occupied` if `n` is in it, else `OutOfMemory` if there was no
     /// room and none was found.
     #[inline(always)]
     #[tactic(auto, unfolding(crate::specs::Calls::accept))]
@@ -148,7 +148,7 @@ impl Router {
         }
     }
 
-    /// Takes in an item as `accept` does, from where it lies: `item` is left as it is where it is refused, and counts for nothing where it is
+    /// Takes in an item as `accept` does, from where it lies: `item` is left as it is if it is refused, and counts for nothing if it is
     /// taken.
     #[inline(always)]
     #[tactic(auto, unfolding(crate::specs::Calls::accept))]
@@ -218,7 +218,7 @@ impl Router {
     ///
     /// The answer goes with the message that moves the end: the next number to put is the out queue's reach, and the next
     /// to get the in queue's current number, since the proxy passes on what stands in its in queue. That the peer's mark has
-    /// come doesn't travel: it is seen again where it comes into the moved terminal's in queue.
+    /// come doesn't travel: it is seen again when it comes into the moved terminal's in queue.
     #[tactic(auto, using(crate::proofs::Numbers::reach_keeps))]
     pub fn extend_to(&mut self, link: LinkEnd) -> Descriptor
         requires { IsOpenTerminal self.old.router }
@@ -241,7 +241,7 @@ impl Router {
     /// Puts the mark into the out queue, under the next number at this end, and makes the terminal a sink. The router is
     /// flagged; the answer is the mark's number, which is at most [`LAST`].
     ///
-    /// It answers `OutOfMemory` where there was no room for the mark and none was found; then nothing has changed. While the
+    /// It answers `OutOfMemory` if there was no room for the mark and none was found; then nothing has changed. While the
     /// out queue has room, as after `reserve_close`, it isn't refused.
     #[tactic(auto, using(crate::proofs::Numbers::reach_keeps))]
     pub fn close(&mut self) -> Result<u64, Refusal>
@@ -266,7 +266,7 @@ impl Router {
 
     /// Makes room in the out queue for one item more, so that a `close` after it isn't refused.
     ///
-    /// It answers `OutOfMemory` where there is no room and none was found. The router stays as it was, refused or not.
+    /// It answers `OutOfMemory` if there is no room and none was found. The router stays as it was, refused or not.
     pub fn reserve_close(&mut self) -> Result<(), Refusal>
         ensures router { self.new.router ≡ self.old.router }
         ensures ok { OnOk result (0 < self.new.out_room) }
@@ -277,7 +277,7 @@ impl Router {
         self.out_queue.reserve()
     }
 
-    // An item comes into the out queue, where it has its place and there is room, and the router is flagged. At a terminal it is one that its
+    // An item comes into the out queue, if it has its place and there is room, and the router is flagged. At a terminal it is one that its
     // callers put.
     #[inline(always)]
     fn push_out_ready(&mut self, n: u64, item: Item)
@@ -292,7 +292,7 @@ impl Router {
         self.rouse();
     }
 
-    // An item comes into the in queue, where it has its place and there is room, and the router is flagged.
+    // An item comes into the in queue, if it has its place and there is room, and the router is flagged.
     #[inline(always)]
     fn push_in_ready(&mut self, n: u64, item: Item)
         requires number { n < no_number }

@@ -84,7 +84,7 @@ impl Router {
         item
     }
 
-    /// Takes an item that came over a link and rests, where this router isn't flagged, only rests, and its outward edge has the link at
+    /// Takes an item that came over a link and rests, if this router isn't flagged, only rests, and its outward edge has the link at
     /// the side. It tells whether it did: `item` counts for nothing then. Else `item` and the router stay as they are.
     /// With room for the item, it is taken wherever it has its place.
     #[inline(always)]

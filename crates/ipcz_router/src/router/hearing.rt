@@ -10,7 +10,7 @@ use crate::source::is_source;
 use ipcz_base::{Message, Refusal};
 
 impl Router {
-    /// Whether the router hears a message from the node `sender`, as far as the router tells, where the word of an old link names
+    /// Whether the router hears a message from the node `sender`, as far as the router tells, if the word of an old link names
     /// `source`. An item is none of these messages: it is for `accept`.
     #[tactic(auto, unfolding(crate::specs::Hearing::hears))]
     pub fn hears(&self, sender: u8, message: &Message, source: Option<u8>) -> bool
@@ -31,7 +31,7 @@ impl Router {
     /// Hears a message from the node `sender`, by the call that is named as the message, or is roused by a Flush. The answer is what
     /// is to be sent next.
     ///
-    /// It is `Forged` where an AcceptBypass fits and only `source` isn't `sender`, and `Stranger` where the router hears no such
+    /// It is `Forged` if an AcceptBypass fits and only `source` isn't `sender`, and `Stranger` if the router hears no such
     /// message otherwise; then nothing has changed.
     #[tactic(auto, unfolding(crate::specs::Hearing::hears, crate::specs::Hearing::deafness, crate::specs::Hearing::hear, crate::specs::Hearing::answer_to))]
     pub fn hear(
@@ -79,7 +79,7 @@ impl Router {
         }
     }
 
-    /// The node that the next message goes to, where the router sends one once it has heard this one.
+    /// The node that the next message goes to, if the router sends one once it has heard this one.
     #[tactic(auto, unfolding(crate::specs::Hearing::answer_to, crate::specs::Bypass::stop_message, crate::specs::Bypass::will_stop_message))]
     pub fn next_addressee(&self, message: &Message) -> Option<u8>
         ensures { result ≡ option_map (λ s. s.to) (answer_to self.now.router message.now) }

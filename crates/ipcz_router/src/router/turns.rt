@@ -13,7 +13,7 @@ use super::Router;
 use crate::act::{Answer, Applied, RouterAct};
 use ipcz_base::{Item, LinkEnd, LinkId, Message};
 
-// The word of a link end's link, where there is one and it is central.
+// The word of a link end's link, if there is one and it is central.
 #[tactic(auto, unfolding(ipcz_base::specs::Links::word_of))]
 fn word_of(end: Option<LinkEnd>) -> Option<u32>
     ensures { result ≡ word_of end }
@@ -104,7 +104,7 @@ impl Router {
         self.is_done() && self.holds && self.is_on_central() && !self.decays()
     }
 
-    // Where nothing decays, which is mostly so, the reach isn't asked.
+    // If nothing decays, which is mostly so, the reach isn't asked.
     #[tactic(auto, unfolding(crate::specs::ActTable::is_possible, ipcz_edge::specs::Edge::can_finish))]
     fn can_finish_out(&self) -> bool
         ensures { result ≡ is_possible self.now.router RouterAct.FinishOut }
@@ -127,7 +127,7 @@ impl Router {
     }
 
     /// Whether an act is possible, `Rest` aside: docs/PROTOCOL.md, "Turns", has the condition of each. `Unlock` is possible
-    /// where `Begin` or `Retire` is, in whose place it is taken.
+    /// if `Begin` or `Retire` is, in whose place it is taken.
     #[tactic(auto, unfolding(crate::specs::ActTable::is_possible))]
     pub fn is_possible(&self, act: RouterAct) -> bool
         ensures { result ≡ is_possible self.now.router act }
@@ -395,7 +395,7 @@ impl Router {
         )
     }
 
-    // Its side is marked, and the wake is owed where the other side was waiting.
+    // Its side is marked, and the wake is owed if the other side was waiting.
     fn mark_side(&mut self, was_waiting: bool)
         ensures router { self.new.router ≡ mark_side self.old.router was_waiting }
         ensures room { KeepsRoom self.old self.new }
@@ -440,7 +440,7 @@ impl Router {
     /// Does an act that is possible, with an answer of its kind, and answers what its node is to do with it: an item to send,
     /// one that was dropped, a message, or nothing. A begin that nobody inward could be told of gives nothing.
     ///
-    /// `Leave` and `Retire` change nothing here: it is for the node to take the router out, as it is where Gone is discarded.
+    /// `Leave` and `Retire` change nothing here: it is for the node to take the router out, as it is when Gone is discarded.
     #[tactic(auto, unfolding(crate::specs::ActTable::is_possible, crate::specs::ActTable::is_rest, crate::specs::ActEffects::apply, crate::specs::ActEffects::output_of))]
     pub fn apply(&mut self, act: RouterAct, answer: Answer) -> Applied
         requires { IsAsked self.old.router act answer }
@@ -509,7 +509,7 @@ impl Router {
     }
 }
 
-// An item over a link end, where there are both.
+// An item over a link end, if there are both.
 #[tactic(auto, unfolding(crate::specs::ActEffects::item_output))]
 fn item_output(link: Option<LinkEnd>, n: u64, item: Option<Item>) -> Applied
     ensures { result ≡ item_output link n item }

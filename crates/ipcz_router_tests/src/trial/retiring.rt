@@ -40,7 +40,7 @@ const UNUSED: Descriptor = Descriptor {
     next_in: 0,
 };
 
-// Its own mark sent and the peer's discarded, and not before, it may try for the lock, without a spare word; where that fails it
+// Its own mark sent and the peer's discarded, and not before, it may try for the lock, without a spare word; if that fails it
 // rests until it is roused. With the lock it retires, or gives it back and tries again.
 static RETIRES: [Step; 29] = [
     Terminal(A0, ACROSS, 0),

@@ -90,7 +90,7 @@ flagged-settled w v b g k r y law here same = record {
     never : (l : LinkId) (s : Side) → is_attached l s r ≡ true → passes (Some y) (is_attached l s) ≡ false → ⊥
     never l s had hasnt = grind (arith, standing_rules, same-attached l s r y same, had, hasnt)
 
--- where no word and no flag of a word changes, that is all
+-- if no word and no flag of a word changes, that is all
 pub inv-flagged : (w v : World) (b : Books) (g : Records) (k : Key) (r y : Router) → Inv w b g → router_at w k ≡ Some r →
     SameButRouter w v k (Some y) → SameWords w v → IsFlagged r y → HasSameFlags r y → Inv v b g
 inv-flagged w v b g k r y law here one words same flags =

@@ -41,7 +41,7 @@ post-mail w n i x y j = mail-set_mail (set_node w n x) i y j ∙ ap (cond (nat_e
 post-count : (w : World) (n i : ℕ) (x : Node) (y : Mail) → (set_post w n x i y).count ≡ w.count
 post-count w n i x y = count-set_mail (set_node w n x) i y ∙ count-set_node w n x
 
--- such a change, where no flow is another
+-- such a change, if no flow is another
 post-passes : (w : World) (g : Records) (n i : ℕ) (x : Node) (y : Mail) → SameButPost (node_at w n) x →
     ((from to : ℕ) → from < w.count → to < w.count → flow (set_post w n x i y) from to ≡ flow w from to) → Passes w (set_post w n x i y) g
 post-passes w g n i x y same flows = passes-flows w (set_post w n x i y) g nodes (λ j. grind (arith, frames)) (grind (arith, frames))

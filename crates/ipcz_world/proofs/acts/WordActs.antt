@@ -53,7 +53,7 @@ pub not_true : (b : Bool) → (b ≡ true → ⊥) → b ≡ false
 not_true true h = absurd (h refl)
 not_true false h = refl
 
--- what the word says of this router's side, where the link is live
+-- what the word says of this router's side, if the link is live
 pub record Says (x : Word) (r : Router) : Type 0 where
   pub stable : has x.stable r.end.side ≡ r.marked
   pub holder : has x.holder r.end.side ≡ r.holds

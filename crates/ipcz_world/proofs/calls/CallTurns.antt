@@ -1,6 +1,5 @@
 -- What callers leave to be done, a close that is pending and a sink's discard, and the first half of an open: each keeps the invariant,
--- with the
--- books, the records and the routes that the run writes.
+-- with the books, the records and the routes that the run writes.
 use Rattle.ipcz_router.specs.Acts.{has_gone_next}
 use Rattle.ipcz_world.proofs.facts.Lost.{not_lost}
 use Rattle.ipcz_world.specs.Records.{is_lost_owner}

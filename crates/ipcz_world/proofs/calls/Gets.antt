@@ -271,7 +271,7 @@ parcel_of (Some (Parcel p)) h = (p, refl)
 parcel_of (Some Mark) h = cc
 parcel_of (Some Gone) h = cc
 
--- what a get finds, where it isn't refused
+-- what a get finds, if it isn't refused
 pub record IsGet (n : Node) (at : End) : Type 0 where
   pub found : Found
   pub parcel : parcels.Parcel

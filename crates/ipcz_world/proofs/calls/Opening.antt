@@ -46,7 +46,7 @@ inv-open w b g n law l room none =
     (subst (λ (y : Node). Inv (set_word (set_node u n (open_node y w.claimed)) w.claimed open_word) b
     (open_records (opening_records g n w.claimed) n w.claimed y.next_router)) (claimed_node w n) done)
 
--- what an open does, where it isn't refused, is one of the two
+-- what an open does, if it isn't refused, is one of the two
 pub inv-open_on : (w : World) (b : Books) (g : Records) (n : ℕ) (o : Option ℕ) → (node_at w n).opening ≡ o → Inv w b g → n < w.count →
     (v : World) → v ≡ (open_on w n o).world → (h : Records) × Inv v b h
 unfolding open_on unless

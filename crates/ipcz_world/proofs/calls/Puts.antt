@@ -211,7 +211,7 @@ module _ (w : World) (b : Books) (g : Records) (k : Key) (r : Router) (law : Inv
     pub inv-mark_at : Inv (set_node w k.node x) (add_put b r.end Mark) g
     inv-mark_at = inv-put_by w (set_node w k.node x) b g k r (close_router r) Mark law is_closing
 
--- what is passed where a refusal has a test
+-- what is passed if a refusal has a test
 pub passes_by : (c : Bool) (e : Refusal) (o : Option Refusal) → cond c (Some e) o ≡ None → (c ≡ false) × (o ≡ None)
 passes_by true e o h = cc
 passes_by false e o h = (refl, h)
@@ -220,7 +220,7 @@ pub not_false : (c : Bool) → not c ≡ false → c ≡ true
 not_false true h = refl
 not_false false h = cc
 
--- a terminal that is found where a refusal asks for one
+-- a terminal that is found if a refusal asks for one
 pub found_by : (o : Option Found) (why : Router → Option Refusal) → refusal_at o why ≡ None →
     (f : Found) × (o ≡ Some f) × (why f.router ≡ None)
 unfolding refusal_at

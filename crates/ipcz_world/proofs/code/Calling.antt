@@ -46,7 +46,7 @@ unfolding unless
 gives-or-refused w v None why done reply plain is r e = inr (plain, (r ∙ ap Refused is, e))
 gives-or-refused w v (Some x) why done reply plain is r e = inl (r ∙ ap Refused is, e)
 
--- what a close, a put and a get do where nothing refuses them
+-- what a close, a put and a get do if nothing refuses them
 abbrev closing : World → ℕ → End → Effect
 closing w n at = record { reply = Closed (put_number (node_at w n) at); world = set_node w n (close_node (node_at w n) at) }
 
@@ -200,7 +200,7 @@ open-world w n i c x t has l e = λ j. record w {
   size = (ap (λ (t : WordTable). length t.words) e ∙ length-put empty_word w.words i open_word (omega (arith, l, has.words)) ∙ has.words) j;
 }
 
--- an open on the next word, where one is left, and where none is
+-- an open on the next word, if one is left, and if none is
 pub next-word : (w : World) (n : ℕ) → has_unclaimed_word w ≡ true →
     open_on w n None ≡ open_with w (set_claimed w (w.claimed + 1)) n w.claimed
 unfolding open_on

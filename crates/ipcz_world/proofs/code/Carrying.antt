@@ -44,7 +44,7 @@ use Rattle.ipcz_world.proofs.code.Visiting.{OnWay, on_way-turn}
 use Rattle.ipcz_world.proofs.code.Wordless.{plain-answer, untouched}
 use Rattle.ipcz_world.proofs.facts.Finding.{found_there}
 
--- a node that has an act is next from another on, where no other node has one
+-- a node that has an act is next from another on, if no other node has one
 pub next-busy : (u : World) (a b : ℕ) → a < u.count → b < u.count → is_idle (next_at u b) ≡ false →
     ((k : ℕ) → k < u.count → (k ≡ a → ⊥) → (k ≡ b → ⊥) → is_idle (next_at u k) ≡ true) → IsNextBusy u (next_node u a) b
 next-busy u a b la lb busy idle = go (nat_lt (a + 1) u.count) refl (nat_lt a b) refl
@@ -100,7 +100,7 @@ router-acts u k serial r act here plain =
     rw here (ap (λ a. set_node (touch u r act) k (commit (node_at u k) (acts.Router serial act) a)) (plain-answer u r act plain)
     ∙ ap (λ t. set_node t k (commit (node_at u k) (acts.Router serial act) Plain)) (sym (untouched u r act plain)))
 
--- where no router is flagged, none is but whichever
+-- if no router is flagged, none is but whichever
 none-flagged : (x : Node) (s : ℕ) → flagged_router x ≡ None → OnlyFlagged x.routers s
 none-flagged x s none q r here up =
     let t = found_there x (λ r. r.flagged) q r here up in
@@ -168,7 +168,7 @@ module _ (w : World) (n serial : ℕ) (link : LinkEnd) (is : IsRegular w) (lone 
         (λ i li. none-elsewhere w n m apart lone.here lone.there is.lengths x y b lone.mail k i l km)
         (subst Quiet (sym same) (quiet_is (node_at w k) (lone.others k l kn)))
 
-    -- the sender acts of its own where its hand and its outboxes are empty
+    -- the sender acts of its own if its hand and its outboxes are empty
     own-sender : x.count ≡ w.count → x.hand ≡ None → x.outboxes ≡ x0.outboxes →
         next_at (at x y b) n ≡ close_turn x.pending (router_turn (flagged_router x))
     unfolding set_node set_mail
@@ -179,7 +179,7 @@ module _ (w : World) (n serial : ℕ) (link : LinkEnd) (is : IsRegular w) (lone 
         (ap (λ (z : Node). z.hand) same ∙ hand) (ap (λ (z : Node). are_empty z.outboxes) same ∙ ap are_empty boxes ∙ lone.sends.outboxes)
         ∙ ap (λ (z : Node). close_turn z.pending (router_turn (flagged_router z))) same
 
-    -- and so does the taker, where its mailbox isn't full
+    -- and so does the taker, if its mailbox isn't full
     own-taker : is_full b ≡ false → y.count ≡ w.count → y.hand ≡ None → y.outboxes ≡ y0.outboxes →
         next_at (at x y b) m ≡ close_turn y.pending (router_turn (flagged_router y))
     unfolding set_node set_mail

@@ -124,7 +124,7 @@ module _ (w : World) (n serial : ℕ) (link : LinkEnd) (is : IsRegular w) (lone 
         quiet_idle (at x b) k few (ap (λ (z : Node). z.count) there ∙ (is.sound k l).count_is) (λ i li. none-elsewhere k i l ne)
         (subst Quiet (sym there) (quiet_is (node_at w k) (lone.others k l ne)))
 
-    -- the node acts of its own where its hand, its outboxes and its mailbox are empty
+    -- the node acts of its own if its hand, its outboxes and its mailbox are empty
     own : is_full b ≡ false → x.count ≡ w.count → x.hand ≡ None → x.outboxes ≡ x0.outboxes →
         next_at (at x b) n ≡ close_turn x.pending (router_turn (flagged_router x))
     unfolding set_node set_mail

@@ -98,7 +98,7 @@ pub hand_act : (v : World) (k from : ℕ) → (node_at v k).hand ≡ Some from �
 unfolding next_at next node_turn
 hand_act v k from hand = rw hand refl
 
--- then a full mailbox, where there is one alone
+-- then a full mailbox, if there is only one
 pub look_act : (v : World) (k from : ℕ) → v.count ≤ 8 → (node_at v k).count ≡ v.count → from < v.count →
     is_full (mail_at v (way v from k)) ≡ true →
     ((i : ℕ) → i < v.count → (i ≡ from → ⊥) → is_full (mail_at v (way v i k)) ≡ false) → (node_at v k).hand ≡ None →
@@ -111,7 +111,7 @@ look_act v k from few counted l full others hand =
     (λ i less. sees_full v k i (omega (arith, less, l)) few ∙ others i (omega (arith, less, l)) (λ e. omega (arith, e, less))) in
     rw (hand, sender) refl
 
--- then a post, where there is mail for one node alone
+-- then a post, if there is mail for only one node
 pub post_act : (v : World) (k to : ℕ) → v.count ≤ 8 → (node_at v k).count ≡ v.count → to < v.count →
     ((i : ℕ) → i < v.count → is_full (mail_at v (way v i k)) ≡ false) → (node_at v k).hand ≡ None →
     has_mail_for (node_at v k) to ≡ true → is_clear (mail_at v (way v k to)) ≡ true →
@@ -215,7 +215,7 @@ module _ (w : World) (n m : ℕ) (apart : n ≡ m → ⊥) (ln : n < w.count) (l
   unfolding set_node set_mail
   write-box x y b c = λ j. record (pair w n m x y c) { mail = put-twice Empty w.mail (way w n m) b c j }
 
-  -- where the taker is as it was and the mailbox too, the sender alone is another; and where the sender is as it was it is the world itself
+  -- if the taker is as it was and the mailbox too, only the sender is another; and if the sender is as it was, it is the world itself
   pub pair-box : (x y : Node) (b : Mail) → mail_at w (way w n m) ≡ b → pair w n m x y b ≡ set_node (set_node w n x) m y
   unfolding set_node set_mail mail_at
   pair-box x y b is = λ j. record (set_node (set_node w n x) m y) {

@@ -1,4 +1,4 @@
--- Mailboxes with their marks: what a write does to the mailboxes as they stand, and to how many of them are full.
+-- Mailboxes with the flags that looks set: what a write does to the mailboxes as they stand, and to how many of them are full.
 use Rattle.std.specs.Prelude.{◌≡◌, ◌<◌, ◌≤◌, ℕ, zero, suc, ◌+◌, Bool, true, false, cond, not, ◌&&◌, ◌-◌, Some, List, [], ◌∷◌, length, replicate}
 use Rattle.std.proofs.Common.{arith, ap, sym, refl, get_or, set, ◌∙◌}
 use Rattle.ipcz_base.specs.declared.message.Message.{Message}
@@ -12,7 +12,7 @@ use Rattle.ipcz_world.proofs.code.Slots.{get-place, length-put, place_read, put-
 use Rattle.ipcz_world.proofs.weights.Totalling.{total_list-put_place}
 use Rattle.ipcz_world.proofs.weights.Sums.{total_list-place}
 
--- one mailbox and its mark
+-- one mailbox and its flag
 pub marked-empty : (h : Bool) → as_marked h Empty ≡ Empty
 unfolding as_marked taken_up
 marked-empty false = refl
@@ -79,7 +79,7 @@ stand-place (m ∷ ms) [] k l many = absurd (omega (arith, many))
 stand-place (m ∷ ms) (h ∷ hs) zero l many = refl
 stand-place (m ∷ ms) (h ∷ hs) (suc k) l many = stand-place ms hs k (omega (arith, l)) (omega (arith, many))
 
--- a mailbox and its mark are written
+-- a mailbox and its flag are written
 pub stand-put : (ms : List Mail) (hs : List Bool) (k : ℕ) (m : Mail) (h : Bool) → k < length ms → k < length hs →
     as_they_stand (put_place Empty ms k m) (put_place false hs k h) ≡ put_place Empty (as_they_stand ms hs) k (as_marked h m)
 unfolding put_place
@@ -89,7 +89,7 @@ stand-put (x ∷ ms) (y ∷ hs) zero m h l many = refl
 stand-put (x ∷ ms) (y ∷ hs) (suc k) m h l many =
     ap (λ zs. as_marked y x ∷ zs) (stand-put ms hs k m h (omega (arith, l)) (omega (arith, many)))
 
--- a mark is written alone
+-- only a flag is written
 pub stand-mark : (ms : List Mail) (hs : List Bool) (k : ℕ) → k < length ms → k < length hs →
     as_they_stand ms (put_place false hs k true) ≡ put_place Empty (as_they_stand ms hs) k (taken_up (place_at Empty (as_they_stand ms hs) k))
 stand-mark ms hs k l many =
@@ -98,7 +98,7 @@ stand-mark ms hs k l many =
     ap (put_place Empty (as_they_stand ms hs) k)
     (sym (ap taken_up (stand-place ms hs k l many) ∙ taken-marked (place_at false hs k) (place_at Empty ms k)))
 
--- a mailbox is written alone
+-- only a mailbox is written
 pub stand-box : (ms : List Mail) (hs : List Bool) (k : ℕ) (m : Mail) → k < length ms → k < length hs →
     as_they_stand (put_place Empty ms k m) hs ≡ put_place Empty (as_they_stand ms hs) k (as_marked (place_at false hs k) m)
 stand-box ms hs k m l many =
@@ -135,7 +135,7 @@ unfolding is_full
 count-empty zero = refl
 count-empty (suc n) = omega (arith, count-empty n)
 
--- whether a mailbox is empty is seen without its mark
+-- whether a mailbox is empty is seen without its flag
 pub clear-stand : (ms : List Mail) (hs : List Bool) →
     total_list (λ m. cond (is_clear m) 0 1) (as_they_stand ms hs) ≡ total_list (λ m. cond (is_clear m) 0 1) ms
 clear-stand [] hs = refl
@@ -143,7 +143,7 @@ clear-stand (m ∷ ms) [] = ap (λ n. cond (is_clear m) 0 1 + n) (clear-stand ms
 clear-stand (m ∷ ms) (h ∷ hs) =
     let e = ap {B = ℕ} (λ (b : Bool). cond b 0 1) (clear-marked h m) in omega (arith, e, clear-stand ms hs)
 
--- the Gone in a mailbox is seen without its mark
+-- the Gone in a mailbox is seen without its flag
 gone-marked : (h : Bool) (m : Mail) → gone_mailed (as_marked h m) ≡ gone_mailed m
 unfolding as_marked taken_up gone_mailed
 gone-marked false m = refl
@@ -157,7 +157,7 @@ gone-stand (m ∷ ms) [] = ap (higher (gone_mailed m)) (gone-stand ms [])
 gone-stand (m ∷ ms) (h ∷ hs) = ap (λ n. higher n (highest gone_mailed (as_they_stand ms hs))) (gone-marked h m) ∙
     ap (higher (gone_mailed m)) (gone-stand ms hs)
 
--- what a mailbox is seen to be, by what was left in it and its mark
+-- what a mailbox is seen to be, by what was left in it and its flag
 pub within : (ms : List Mail) (hs : List Bool) (now : List Mail) (k : ℕ) → as_they_stand ms hs ≡ now → k < length now → k < length ms
 within ms hs now k is l = let e : length ms ≡ length now = sym (length-stand ms hs) ∙ ap (λ (xs : List Mail). length xs) is in omega (arith, e, l)
 

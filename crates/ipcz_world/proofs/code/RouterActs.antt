@@ -122,7 +122,7 @@ module _ (t : WordTable) (r : Router) where
   claim_is true = tt
   claim_is false = tt
 
-  -- the answer of the table is of the act's kind, where the router may take it
+  -- the answer of the table is of the act's kind, if the router may take it
   pub answers-kind : (act : RouterAct) → may_take r act ≡ true → IsAnswerOf act
       (table_answer t (source_of r) act (link_of r (primary_word r)))
   unfolding is_claim word_answer is_possible is_rest

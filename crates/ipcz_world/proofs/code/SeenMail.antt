@@ -58,14 +58,14 @@ no_number test from (suc left) fails =
     ap (λ b. if b then Some from else first_number test (from + 1) left) (fails from (omega arith)) ∙
     no_number test (from + 1) left (λ i l. fails i (omega (arith, l)))
 
--- where no mailbox to a node is full, it sees none
+-- if no mailbox to a node is full, it sees none
 pub no_sender_to : (w : World) (n : ℕ) → w.count ≤ 8 → ((i : ℕ) → i < w.count → is_full (mail_at w (way w i n)) ≡ false) →
     first_number (λ i. place_at false (seen_at w n).full i) 0 w.count ≡ None
 no_sender_to w n few none =
     no_number (λ i. place_at false (seen_at w n).full i) 0 w.count
     (λ i l. sees_full w n i (omega (arith, l)) few ∙ none i (omega (arith, l)))
 
--- where no mailbox is full, none to a node is
+-- if no mailbox is full, none to a node is
 pub no_sender : (w : World) (n : ℕ) → w.count ≤ 8 → ((k : ℕ) → is_full (mail_at w k) ≡ false) →
     first_number (λ i. place_at false (seen_at w n).full i) 0 w.count ≡ None
 no_sender w n few none = no_sender_to w n few (λ i l. none (way w i n))
@@ -86,7 +86,7 @@ only_found test from (suc left) k low high holds fails =
         let less : from < k = grind (arith, e, low, nat_tests) in
         ap (λ b. if b then Some from else first_number test (from + 1) left) (fails from less) ∙ more less
 
--- where no message waits, there is no destination
+-- if no message waits, there is no destination
 pub no_destination : (w : World) (n : ℕ) → not (are_empty (node_at w n).outboxes) ≡ false →
     first_number (λ i. has_mail_for (node_at w n) i && place_at false (seen_at w n).empty i) 0 w.count ≡ None
 no_destination w n none =

@@ -321,7 +321,7 @@ kept-hand w n from m why old x mail has l e is same because grows kept = record 
   left = unchanged-both w n old x mail has l e same kept;
 }
 
--- a message is there, where it isn't so that none is
+-- a message is there, if it isn't so that none is
 pub some-there : (o : Option Message) → (o ≡ None → ⊥) → (m : Message) × (o ≡ Some m)
 some-there None not_none = absurd (not_none refl)
 some-there (Some m) not_none = (m, refl)

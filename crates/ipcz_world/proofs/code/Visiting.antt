@@ -17,7 +17,7 @@ use Rattle.ipcz_world.specs.Visiting.{AreIdle, IsFirstBusy, IsNextBusy, IsPlace,
 use Rattle.ipcz_world.proofs.facts.NodeCount.{count-after_act}
 use Rattle.ipcz_world.proofs.lawful.Idling.{quiet_from_idle}
 
--- where each node is idle nothing waits
+-- if each node is idle, nothing waits
 pub quiet : (w : World) → IsLawful w → AreIdle w 0 w.count → IsQuiet w
 quiet w law idle = quiet_from_idle w law.lawful.records law.lawful.inv.counts law.lawful.bounded (λ n l. idle n (omega arith) l)
 

@@ -13,7 +13,7 @@ use Rattle.ipcz_world.specs.Coding.{IsLinkNumber}
 pub spelled : (w : Word) (n : ℕ) → word_of_bits n ≡ w → IsLinkNumber n → bits_of w ≡ n
 spelled w n e is = omega (arith, ap bits_of e, number_returns n is.word.small, is.idle)
 
--- what is written beside the idle bits of such a word is such a word
+-- what is written apart from the idle bits of such a word is such a word
 pub kept : (n m : ℕ) (w : Word) → IsLinkNumber n → IsWord m → word_of_bits m ≡ w → m ≡ bits_beside n w → IsLinkNumber m
 kept n m w is next e beside =
     record { word = next; idle = omega (arith, number_returns m next.small, ap bits_of e, beside, is.idle) }
@@ -24,7 +24,7 @@ unfolding has without
 without_absent s A e = λ j. record { a = sym e j; b = s.b }
 without_absent s B e = λ j. record { a = s.a; b = sym e j }
 
--- waking changes the number of a word exactly where the side across waits
+-- waking changes the number of a word exactly if the side across waits
 pub waits-changes : (n woken : ℕ) (s : Side) → IsLinkNumber n → IsLinkNumber woken → word_of_bits woken ≡ wake (word_of_bits n) s →
     has (word_of_bits n).waiting (opposite s) ≡ not (nat_eq woken n)
 waits-changes n woken s is next e = go (has (word_of_bits n).waiting (opposite s)) (nat_eq woken n) refl refl

@@ -39,7 +39,7 @@ has_gone-more (y ∷ xs) x = go (is_gone_item y) (has_gone-more xs x)
     go true e = refl
     go false e = e
 
--- where parcels alone were got, no mark is
+-- if only parcels were got, no mark was
 pub no_mark : (ps : List parcels.Parcel) (xs : List Item) (n : ℕ) → take (length ps) xs ≡ map Parcel ps → n < length ps →
     slice_get xs n ≡ Some Mark → ⊥
 no_mark [] xs n e l h = omega (arith, l)

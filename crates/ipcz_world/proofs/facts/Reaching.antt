@@ -44,7 +44,7 @@ less x y h = less_by x y (is_true (is_lt (nat_cmp x y)) h)
     less_by : (x y : ℕ) → is_lt (nat_cmp x y) ≡ true → x < y
     less_by x y h = grind (arith, h, nat_tests)
 
--- where all entries are above, the first number is lacking
+-- if all entries are above, the first number is lacking
 reach_in-low : {X : Type 0} (es : List (ℕ × X)) (x n : ℕ) → T (below_all nat_cmp x es) → n ≤ x → reach_in es n ≡ n
 reach_in-low [] x n h l = refl
 reach_in-low (e ∷ es) x n h l = let b : x < e.0 = less x e.0 (left (is_lt (nat_cmp x e.0)) (below_all nat_cmp x es) h) in let r =

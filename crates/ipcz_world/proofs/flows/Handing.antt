@@ -21,7 +21,7 @@ use Rattle.ipcz_world.proofs.frames.Unmoved.{Changed}
 unfoldable pub handed_on : World → ℕ → Key → Router → ℕ → Message → World
 handed_on w from k x to m = free (push_message (set_router w k x) k.node to m) from k.node
 
--- the same where nothing goes out
+-- the same if nothing goes out
 unfoldable pub handed : World → ℕ → Key → Router → World
 handed w from k x = free (set_router w k x) from k.node
 
@@ -416,7 +416,7 @@ was_made_before w from k x to m last a b i link s hk hb e apart made =
     (sym (is_made_by-popped link s (nat_eq a from && nat_eq b k.node) (after_hand w from k.node a b) last i apart)
     ∙ ap (λ ms. is_made_by link s (take (place_before from k.node a b i) ms)) (sym (flow-hand w from k.node a b last e)) ∙ made)
 
--- the same where nothing goes out
+-- the same if nothing goes out
 pub flow-handed : (w : World) (from : ℕ) (k : Key) (x : Router) (a b : ℕ) → k.node < w.count → b < w.count →
     flow (handed w from k x) a b ≡ after_hand w from k.node a b
 unfolding flow messages_in

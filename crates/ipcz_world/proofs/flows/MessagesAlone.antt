@@ -1,4 +1,4 @@
--- Messages alone move: where routers and words are the same, and nothing is under way but what was and Flushes, the invariant is kept.
+-- Messages alone move: if routers and words are the same, and nothing is under way but what was and Flushes, the invariant is kept.
 use Rattle.ipcz_world.proofs.frames.LinksKept.{links-still}
 use Rattle.ipcz_world.proofs.frames.GonesKept.{gones-by, gone_like-itself}
 use Rattle.ipcz_world.proofs.frames.Sourcing.{sourced-by, had-itself}

@@ -111,7 +111,7 @@ pub cond_most : (b : Bool) → cond b 0 1 ≤ 1
 cond_most true = omega arith
 cond_most false = omega arith
 
--- an end is held or pending once at most, and not where it is closed
+-- an end is held or pending once at most, and not if it is closed
 pub held_most : (w : World) (b : Books) (g : Records) (e : End) → HeldOnce w b g → times_held w e + flag (is_closed b e) ≤ 1
 held_most w b g e law = omega (arith, law.once e, cond_most (is_nowhere (g.terminal e)))
 

@@ -15,7 +15,7 @@ use Rattle.ipcz_world.proofs.frames.Draining.{gone_same, awaited_same, sent_same
 use Rattle.ipcz_world.proofs.frames.Draining.{standing-standing}
 use Rattle.ipcz_world.proofs.flows.Fitting.{ItemFits}
 
--- a queue has what it had, and an item of this number more, where the flag says so
+-- a queue has what it had, and an item of this number more, if the flag says so
 pub record IsFilled (q p : Queue Item) (n : ℕ) (b : Bool) : Type 0 where
   pub current : p.current ≡ q.current
   pub items : (m : ℕ) (x : Item) → item_at p m ≡ Some x → (item_at q m ≡ Some x) ⊎ ((m ≡ n) × (b ≡ true))

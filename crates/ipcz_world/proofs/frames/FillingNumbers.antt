@@ -55,7 +55,7 @@ inner_end : (g : Records) (q : Key) (s : Side) → (side_end g (inner_link q) s)
 unfolding side_end
 inner_end g q s = refl
 
--- where the length toward a router with both links isn't known, the other side of its fresh link is awaited
+-- if the length toward a router with both links isn't known, the other side of its fresh link is awaited
 pub half_sender : (w : World) (g : Records) (k : Key) (r : Router) (p d : LinkEnd) → Links w g → Positions w g → Stands w g →
     BypassRecords w g → router_at w k ≡ Some r → r.outward.primary ≡ Some p → r.outward.decaying ≡ Some d →
     side_length g d.link (opposite d.side) ≡ None → side_router g p.link (opposite p.side) ≡ None

@@ -12,7 +12,7 @@ use Rattle.ipcz_world.proofs.frames.FirstLinkItems.{order-grown, proxy_numbers-g
 
 module _ (w v : World) (b : Books) (g : Records) (owner' : ℕ → Owner) (central' : ℕ → CentralRecord) (terminal' : End → Terminal) (i : ℕ)
     (at : Side → Key) (law : Inv w b g) (is : IsGrown w v g owner' central' terminal' i at) where
-  -- No link, message or item named the word, so what is said of all else reads as before. Where a pair begins on it, its two ends have put
+  -- No link, message or item named the word, so what is said of all else reads as before. If a pair begins on it, its two ends have put
   -- and read nothing.
   pub inv-grown : Inv v b (record g { owner = owner'; central = central'; terminal = terminal' })
   inv-grown = record {

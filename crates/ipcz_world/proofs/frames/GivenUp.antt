@@ -390,7 +390,7 @@ inv-flags w v b g k r x c bare is law flags = record {
   no_strays = λ n. (c.one.nodes n).strays ∙ law.no_strays n;
 }
 
--- the whole invariant is kept where no word and no flag of a word changes
+-- the whole invariant is kept if no word and no flag of a word changes
 pub inv-gives : (w v : World) (b : Books) (g : Records) (k : Key) (r : Router) (x : Option Router) → Gives w v k r x → IsBare r x → Keeps w v r x →
     Settled w v g k r x → Inv w b g → Inv v b g
 inv-gives w v b g k r x c bare keeps is law = inv-flags w v b g k r x c bare is law (record {

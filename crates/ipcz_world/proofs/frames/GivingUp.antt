@@ -258,7 +258,7 @@ stands-gives w v g k r x c bare law = record {
   left_live = law.left_live;
 }
   where
-    -- where nobody stood, nobody stands
+    -- if nobody stood, nobody stands
     nobody : (o : Option Key) → key_passes w o (λ z. true) ≡ false → key_passes v o (λ z. true) ≡ false
     nobody None h = grind (arith, standing_rules)
     nobody (Some q) h = go (same_key_tells q k)

@@ -1,4 +1,4 @@
--- What is said of retired ends, and of Gone at routers, is kept where routers change in what those clauses don't read.
+-- What is said of retired ends, and of Gone at routers, is kept if routers change in what those clauses don't read.
 use Rattle.std.specs.Prelude.{List}
 use Rattle.ipcz_base.specs.declared.parcel.Parcel as parcels
 use Rattle.std.proofs.lemmas.Option.{none-some}
@@ -307,7 +307,7 @@ gones-all right = record {
   dropped_back = λ q r n at. (right q r at).dropped_back n;
 }
 
--- where no more sides are left
+-- if no more sides are left
 pub right-left : {b : Books} {g h : Records} {r : Router} → ((l : LinkId) (s : Side) → is_left h l s ≡ true → is_left g l s ≡ true) →
     IsGoneRight b g r → IsGoneRight b h r
 right-left left o = record {
@@ -323,7 +323,7 @@ right-left left o = record {
   dropped_back = o.dropped_back;
 }
 
--- where only what was read changes
+-- if only what was read changes
 pub right-books : {b : Books} {g : Records} {r : Router} {got : End → List parcels.Parcel} {gone : End → ℕ} → IsGoneRight b g r →
     IsGoneRight (record b { got = got; gone = gone }) g r
 right-books o = record {

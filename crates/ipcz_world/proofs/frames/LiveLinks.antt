@@ -5,7 +5,7 @@ use Rattle.std.proofs.lemmas.Bool.Decides.{nat_tests}
 use Rattle.ipcz_world.proofs.Vocabulary.{Records, is_linked, is_begun}
 use Rattle.ipcz_world.specs.Bypasses.{LiveLinks}
 
--- where the words of links, their pairs, and the bypasses that have just begun, are among those that were
+-- if the words of links, their pairs, and the bypasses that have just begun, are among those that were
 pub live-kept : (g h : Records) → ((i : ℕ) → is_linked (h.owner i) ≡ true → is_linked (g.owner i) ≡ true) →
     ((i : ℕ) → (h.central i).pair ≡ (g.central i).pair) → ((o : ℕ) → (h.bypass o).stage ≡ 1 → (g.bypass o).stage ≡ 1) →
     ((o : ℕ) → is_begun (h.bypass o) ≡ is_begun (g.bypass o)) → LiveLinks g → LiveLinks h

@@ -23,7 +23,7 @@ had-itself w q y at = record { router = y; at = at; primary = refl; inward = ref
 pub inward-same : (r y : Router) → y.inward ≡ r.inward → (inward_edge y).primary ≡ (inward_edge r).primary
 inward-same r y e = ap (λ z. (unwrap_or z no_edge).primary) e
 
--- where each router that holds a lock held it, and the words name the same sources
+-- if each router that holds a lock held it, and the words name the same sources
 pub sourced-by : (w v : World) → ((q : Key) (y : Router) → router_at v q ≡ Some y → y.holds ≡ true → HadLock w q y) →
     ((q : Key) (y : Router) (e : LinkEnd) (i : ℕ) → router_at w q ≡ Some y → y.outward.primary ≡ Some e → e.link ≡ Central i →
     (word_at v i).source ≡ (word_at w i).source) → AreSourced w → AreSourced v
@@ -31,7 +31,7 @@ sourced-by w v had words law = λ q y e i at h p l. let z : HadLock w q y = had 
     words q z.router e i z.at (sym z.primary ∙ p) l ∙ law q z.router e i z.at (z.holds h) (sym z.primary ∙ p) l ∙
     ap (option_map (λ (x : LinkEnd). x.other)) (sym z.inward)
 
--- the same where one router changes
+-- the same if one router changes
 pub had-one : (w v : World) (k : Key) (r y : Router) → ((q : Key) → router_at v q ≡ cond (same_key q k) (Some y) (router_at w q)) →
     (y.holds ≡ true → HadLock w k y) → (q : Key) (z : Router) → router_at v q ≡ Some z → z.holds ≡ true → HadLock w q z
 had-one w v k r y router here q z at h = go (same_key_tells q k)

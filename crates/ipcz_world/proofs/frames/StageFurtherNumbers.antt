@@ -80,7 +80,7 @@ module _ {w v : World} {b : Books} {g : Records} {k : Key} {r x : Router} {o s :
   cur : {p q : Queue Item} → p ≡ q → p.current ≡ q.current
   cur e = ap (λ z. z.current) e
 
-  -- what the proxy's numbers owe where it is this bypass that has come to the stage
+  -- what the proxy's numbers owe if it is this bypass that has come to the stage
   pub record ProxyOwes : Type 0 where
     pub out_finished : (t : Router) → router_at w (g.bypass o).proxy ≡ Some t → t.outward.decaying ≡ None →
         (g.bypass o).taken_at ≤ t.out_queue.current

@@ -195,7 +195,7 @@ module _ (w : World) (b : Books) (g : Records) (from n : ℕ) (l : LinkId) (s : 
   ends_after f t i link u number item moves h ne = let o = was_under_way w v from n m taken f t i (messages.Item link u number item moves) h
       in law.moves.ends f t o.0 link u number item moves o.1 ne
 
--- where descriptors come along: terminals are made first, then the item is taken
+-- if descriptors come along: terminals are made first, then the item is taken
 module _ (w : World) (b : Books) (g : Records) (from n : ℕ) (l : LinkId) (s : Side) (number : ℕ) (item : Item) (d : Descriptor)
     (ds : List Descriptor) (law : Inv w b g) (below : n < w.count) (hand : (node_at w n).hand ≡ Some from)
     (mail : mail_at w (way w from n) ≡ mails.Hand (messages.Item l s number item (d ∷ ds))) where

@@ -71,7 +71,7 @@ link_found w g k r l s law here has = found.1 ∙ ap Some (λ i. record { serial
     routers : found.0.router ≡ r
     routers = grind (arith, one)
 
--- where the records know of no router, none is found
+-- if the records know of no router, none is found
 pub link_missing : (w : World) (g : Records) (n : ℕ) (l : LinkId) (s : Side) → Links w g → side_router g l s ≡ None →
     is_named (node_at w n) l s ≡ false
 unfolding router_at

@@ -183,7 +183,7 @@ source-fed_in g (Central i) s o = absurd (grind (arith, o))
 source-fed_in g (Peripheral n x) A o = refl
 source-fed_in g (Peripheral n x) B o = absurd (grind (arith, o))
 
--- the groups that read messages, where the first message from a node is an item without moves and its router takes it
+-- the groups that read messages, if the first message from a node is an item without moves and its router takes it
 module _ (w v : World) (b : Books) (g : Records) (from : ℕ) (k : Key) (r y : Router) (l : LinkId) (s : Side) (n : ℕ) (item : Item)
     (law : OpenInv w b g) (is : IsTake w g from k r l s n item) (a : IsAccepted r y n item (is_outward l s)) (t : IsTouched w v k r y)
     (p : IsTaken w v from k.node (messages.Item l s n item [])) where

@@ -96,7 +96,7 @@ pub only : (w : World) (b : Books) (g : Routes) → IsExact w b g → (e : End) 
     (read b (opposite_end e) ≤ n) × (slice_get (b.put e) n ≡ Some x)
 only w b g exact e n x h = unread-tells b e n x (omega (arith, h, exact e (just n x)))
 
--- where the sentence holds, each item that the peer hasn't read stands in one place, and no other item in any
+-- if the sentence holds, each item that the peer hasn't read stands in one place, and no other item in any
 pub items_stand_once : ItemsStandOnce
 items_stand_once w b g law = record { once = once w b g law.one_place; only = only w b g law.one_place }
 

@@ -11,7 +11,7 @@ use Rattle.ipcz_world.specs.Records.{routes_of}
 use Rattle.ipcz_world.specs.Laws.{EndLaw}
 use Rattle.ipcz_world.proofs.frames.RecordRules.{is_recorded-central}
 
--- nothing where it is so, else one; and the other way round
+-- nothing if it is so, else one; and the other way round
 abbrev none_if : Bool → ℕ
 none_if c = cond c 0 1
 

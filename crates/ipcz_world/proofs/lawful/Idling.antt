@@ -1,4 +1,4 @@
--- Where each node is idle nothing waits, if nothing lies beyond the world's nodes.
+-- If each node is idle nothing waits, if nothing lies beyond the world's nodes.
 use Rattle.std.specs.Prelude.{◌≡◌, ◌⊎◌, ◌≤◌, ◌<◌, ℕ, zero, suc, ◌+◌, Bool, true, false, not, ◌&&◌, nat_eq, nat_lt, if◌then◌else◌, Option}
 use Rattle.std.specs.Prelude.{Some, None, is_some, refl, List, [], ◌∷◌, length, map}
 use Rattle.std.proofs.Common.{arith, ap, subst, ◌∙◌, sym, inl, inr}
@@ -193,7 +193,7 @@ module _ (w : World) (g : Records) (counts : Counts w g) (bounded : IsBounded w)
           both c a z = cc
       left false b e h = refl
 
-  -- where each node is idle nothing waits
+  -- if each node is idle, nothing waits
   pub quiet_from_idle : IsQuiet w
   unfolding is_quiet
   quiet_from_idle = record {

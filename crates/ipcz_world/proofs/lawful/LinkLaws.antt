@@ -46,7 +46,7 @@ on_tells w b g k r i s law here on =
       router = rw (e.on_link, e.at_side) at rec.router;
     }
 
--- whose side is marked and unheld where its link is being bypassed
+-- whose side is marked and unheld if its link is being bypassed
 across_there : (w : World) (b : Books) (g : Records) (k : Key) (r : Router) (i : ℕ) (s : Side) → Inv w b g → router_at w k ≡ Some r →
     IsOn w g k r i s → is_begun (g.bypass i) ≡ true → (s ≡ across_side g i) × (r.marked ≡ true) × (r.holds ≡ false)
 across_there w b g k r i s law here on begun =

@@ -351,7 +351,7 @@ module _ (w : World) (b : Books) (g : Records) (law : Inv w b g) (alone : IsAlon
 
   module _ (pair : ℕ) (linked : is_linked (g.owner pair) ≡ true) (own : (g.central pair).pair ≡ pair) (t : Side)
       (open_ : is_closed b (end_at pair t) ≡ false) where
-    -- both ends are closed where a sink has retired
+    -- both ends are closed if a sink has retired
     retired_none : (s : Side) → is_retired b (end_at pair s) ≡ true → ⊥
     retired_none s h = go (side_is t s)
       where

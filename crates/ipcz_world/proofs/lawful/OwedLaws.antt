@@ -152,7 +152,7 @@ module _ (w : World) (b : Books) (g : Records) (law : Inv w b g) where
   edge_is : (r : Router) (e : Edge) → r.inward ≡ Some e → inward_edge r ≡ e
   edge_is r e q = rw q refl
 
-  -- where a length of a decaying link isn't known, its bypass has a message under way
+  -- if a length of a decaying link isn't known, its bypass has a message under way
   pub length_to : (k : Key) (r : Router) (e : Edge) (d : LinkEnd) → router_at w k ≡ Some r → IsEdgeOf r e → e.decaying ≡ Some d →
       e.length_to ≡ None → IsBypassing w d.link
   length_to k r e d here (inl q) dec unknown = outward_to k r d here (ap (λ (x : Edge). x.decaying) (sym q) ∙ dec)

@@ -53,7 +53,7 @@ use Rattle.ipcz_world.proofs.facts.LinkTests.{opposite_end-twice, same_end-tells
 abbrev pub HasNoProxy : World → ℕ → Type 0
 HasNoProxy w pair = (k : Key) (r : Router) → router_at w k ≡ Some r → r.end.pair ≡ pair → is_terminal r ≡ true
 
--- so it is where the pair is direct
+-- so it is if the pair is direct
 no_proxy : (w : World) (pair : ℕ) → IsDirectPair w pair → HasNoProxy w pair
 no_proxy w pair is k r here p =
     let at = is.stands r.end.side in
@@ -125,7 +125,7 @@ nothing-possible w flagged quiet k r act l here = go (is_possible r act) refl
     go true e = let t = found_there (node_at w k.node) (λ q. q.flagged) k.serial r here (flagged k r act here e) in
         absurd (none-some t.0 (sym (is-still (node_at w k.node) (quiet.nodes k.node l)).flags ∙ t.1))
 
--- a link is chosen where there is a primary one
+-- a link is chosen if there is a primary one
 pub choose-some : (e : Edge) (n : ℕ) → is_some e.primary ≡ true → is_some (choose e n) ≡ true
 unfolding choose
 choose-some e n h = go (edge_decays e) (is_short_of n e.length_to) refl refl
@@ -381,7 +381,7 @@ refused-is w n e v h = go (get_refusal (node_at w n) e) refl h
     go None q f = absurd (finds (terminal_of (node_at w n) e) refl q f)
     go (Some why) q f = q ∙ ap refusal_of f
 
--- where nothing waits, a get on a direct pair is Empty only where all that the peer has put was got
+-- if nothing waits, a get on a direct pair is Empty only if all that the peer has put was got
 pub quiet_delivers : QuietDelivers
 quiet_delivers w v b g n e law quiet direct step = go (nat_lt n w.count) refl
   where

@@ -350,7 +350,7 @@ module _ (w : World) (b : Books) (g : Records) (law : Inv w b g) (quiet : IsQuie
           let t = found (λ from to m. total_list (of_end e (λ x. 1)) (moves_of m)) w (omega (arith, weight)) in
           absurd (nothing-moves w quiet t.0 t.1 t.2 t.3 t.4)
 
-  -- where a sink has retired no router of its peer is left: Gone has come to the peer's sink
+  -- if a sink has retired, no router of its peer is left: Gone has come to the peer's sink
   pub stayer_gone : GoneUnread w b → (k : Key) (r : Router) → router_at w k ≡ Some r → is_begun_router r ≡ false →
       is_retired b (opposite_end r.end) ≡ true → ⊥
   stayer_gone unread k r here whole gone = omega (

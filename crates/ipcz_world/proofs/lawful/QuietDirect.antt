@@ -193,7 +193,7 @@ module _ (w : World) (b : Books) (g : Records) (law : Inv w b g) (quiet : IsQuie
 
 module _ (w : World) (b : Books) (g : Records) (law : Inv w b g) (quiet : IsQuiet w) (ranked : IsRanked w) (flagged : AreFlagged w)
     (wakers : HaveWakers w) (unread : GoneUnread w b) (wet : IsWet w) where
-  -- where no router has found the words used up none is left anywhere
+  -- if no router has found the words used up, none is left anywhere
   no_proxy_below : (n : ℕ) (k : Key) (r : Router) → router_at w k ≡ Some r → is_proxy r ≡ true → ranked.rank k < n → ⊥
   no_proxy_below zero k r here proxy l = omega (arith, l)
   no_proxy_below (suc n) k r here proxy l =

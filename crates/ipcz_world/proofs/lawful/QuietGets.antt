@@ -19,7 +19,7 @@ use Rattle.ipcz_world.proofs.facts.Finding.{IsTerminalOf, found_tells, found_the
 use Rattle.ipcz_world.proofs.frames.Frames.{node-set_node}
 use Rattle.ipcz_world.proofs.facts.Tests.{none_is}
 
--- where no router is flagged, none is once one of them has given an item
+-- if no router is flagged, none is once one of them has given an item
 flags-taken : (n : Node) (s : ℕ) (r : Router) → get n.routers s ≡ Some r → flagged_router n ≡ None →
     flagged_router (with_router n s (take_item r)) ≡ None
 flags-taken n s r here none = go (flagged_router (with_router n s (take_item r))) refl

@@ -132,7 +132,7 @@ done-sends r h p = go (drained-empty r.out_queue (grind (arith, h)))
     go : current_item r.out_queue ≡ None → ⊥
     go e = grind (arith, e, p)
 
--- and stays so where it drops something
+-- and stays so if it drops something
 done-drops : (r : Router) → is_done r ≡ true → is_done (drop_item r) ≡ true
 done-drops r h = grind (arith, h)
 

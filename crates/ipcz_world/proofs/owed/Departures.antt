@@ -1,4 +1,4 @@
--- Whoever leaves by retiring or with Gone stands on no link whose word is unheld: a sink that retires holds the word of its link, and where the
+-- Whoever leaves by retiring or with Gone stands on no link whose word is unheld: a sink that retires holds the word of its link, and if the
 -- peer's sink has retired it holds that word for good.
 use Rattle.std.specs.Prelude.{◌≡◌, ◌⊎◌, ◌≤◌, ℕ, Bool, true, false, ◌&&◌, ◌||◌, not, Option, Some, None, is_some, refl}
 use Rattle.std.proofs.Common.{arith, ap, sym, ◌∙◌, inl, inr}

@@ -103,8 +103,7 @@ on-central i s r h =
     at : (l : LinkId) → l ≡ Central i → word_of (Some (record { link = l; side = s; other = 0 })) ≡ Some i
     at l q = ap (λ z. word_of (Some (record { link = z; side = s; other = 0 }))) q
 
--- one router becomes another, seen from the link of one word: whoever tries there did so before; where the word isn't held, whoever could
--- try
+-- one router becomes another, seen from the link of one word: whoever tries there did so before; if the word isn't held, whoever could try
 -- or owes a wake there still does. It has no new peripheral link but an inward one with a serial that wasn't in use
 pub record Follows (i : ℕ) (held : Bool) (number base : ℕ) (x y : Router) : Type 0 where
   pub tried : (s : Side) → y.tried ≡ true → has_primary (Central i) s y ≡ true →

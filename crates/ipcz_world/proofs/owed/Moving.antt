@@ -33,7 +33,7 @@ in-both (y ∷ xs) ys zs f (suc j) x h = in-both xs ys zs f j x h
 keeps-itself : (n : Node) → Keeps n n
 keeps-itself n to j x h = h
 
--- where one node sends more and mailboxes are as they were
+-- if one node sends more and mailboxes are as they were
 pub stays-node : (w v : World) (n : ℕ) (x : Node) → v.count ≡ w.count → ((j : ℕ) → node_at v j ≡ cond (nat_eq j n) x (node_at w j)) →
     ((k : ℕ) → mail_at v k ≡ mail_at w k) → Keeps (node_at w n) x → Stays Never w v
 stays-node w v n x count nodes mail keeps a c j m u = inl (
@@ -59,7 +59,7 @@ stays-node w v n x count nodes mail keeps a c j m u = inl (
         ∙ keeps c j y (ap (λ z. slice_get (outbox (node_at w z) c) j) (sym same) ∙ h)
     more false e j y h = ap (λ z. slice_get (outbox z c) j) (nodes a ∙ ap (λ t. cond t x (node_at w a)) e) ∙ h
 
--- where one way's mailbox and outbox change together
+-- if one way's mailbox and outbox change together
 module _ (w : World) (n : ℕ) (x : Node) (f t : ℕ) (y : Mail) (lt : t < w.count) where
   abbrev v : World
   v = set_mail (set_node w n x) (way w f t) y

@@ -1,4 +1,4 @@
--- A router that has tried is remembered: where the other router could try for the lock, it is flagged.
+-- A router that has tried is remembered: if the other router could try for the lock, it is flagged.
 use Rattle.std.specs.Prelude.{◌≡◌, ℕ, true, Option, Some, None, is_some, refl}
 use Rattle.std.proofs.Common.{arith, ap, ◌∙◌, inl, inr}
 use Rattle.ipcz_world.proofs.Vocabulary.{Side, LinkId, Central, Peripheral, LinkEnd, Router, World, Key, router_at, Books, Records}

@@ -22,7 +22,7 @@ use Rattle.ipcz_world.proofs.ranks.RouterStays.{stays-left, proxy-stays}
 use Rattle.ipcz_world.proofs.ranks.RouterWorths.{worth-most}
 
 -- whether a router can do no more than pass items: none of its links decays, its side is marked and it owes no wake; a terminal on a central
--- link is no sink that has dropped the mark; and a proxy has its outward link, hasn't sent Gone, holds no lock, and where it could try for one
+-- link is no sink that has dropped the mark; and a proxy has its outward link, hasn't sent Gone, holds no lock, and if it could try for one
 -- it has found the words used up
 unfoldable pub is_calm : Router → Bool
 is_calm r =
@@ -215,7 +215,7 @@ module _ (c : Rates) (marks : End → ℕ) where
   unfolding router_keeps
   keeps-rest r = refl
 
-  -- nor one that leaves, where its number is below what was put
+  -- nor one that leaves, if its number is below what was put
   pub keeps-pop_out : (r : Router) → r.out_queue.current + 1 + marks r.end ≤ c.cap r.end →
       router_keeps c marks r ≤ router_keeps c marks (pop_out r)
   unfolding router_keeps

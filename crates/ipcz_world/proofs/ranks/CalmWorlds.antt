@@ -52,7 +52,7 @@ use Rattle.ipcz_world.proofs.ranks.CalmRouters.{is_passing, router_keeps, calm-p
 use Rattle.ipcz_world.proofs.ranks.CalmNodes.{message_stir, router_stir, node_stir, node_keeps, Passes, IsPut, router-calm}
 use Rattle.ipcz_world.proofs.ranks.CalmNodes.{passes-delivered, passes-acted}
 
--- what is astir in a world beside items that are passed
+-- what is astir in a world apart from items that are passed
 unfoldable pub mail_stir : Mail → ℕ
 mail_stir mails.Empty = 0
 mail_stir (mails.Full m) = message_stir m
@@ -116,7 +116,7 @@ untouched w r acts.Discard is = refl
 untouched w r acts.Rest is = refl
 untouched w r other is = cc
 
--- where nothing is astir, none of its nodes is, and what is in its mailboxes is items
+-- if nothing is astir, none of its nodes is, and what is in its mailboxes is items
 pub still-node : (w : World) (n : ℕ) → stir w ≡ 0 → node_stir (node_at w n) ≡ 0
 still-node w n still = omega (arith, stir-set_node w n (bare_node 0 0), bare-stir, still)
 
@@ -264,12 +264,12 @@ picked c marks n to m e = (
     first [] h = cc
     first (x ∷ xs) h = omega (arith, ap message_stir (same_Some x m h))
 
--- the caps leave room for so many items of each end that are still to come, beside those that weren't read
+-- the caps leave room for so many items of each end that are still to come, in addition to those that weren't read
 abbrev pub IsRoomy : Rates → (End → ℕ) → Books → Type 0
 IsRoomy c marks b =
     (e : End) (n : ℕ) (x : Item) → read b (opposite_end e) ≤ n → slice_get (b.put e) n ≡ Some x → n + 1 + marks e ≤ c.cap e
 
--- no Gone is unread, nor a mark where the reader is closed
+-- no Gone is unread, nor a mark if the reader is closed
 abbrev pub IsDull : Books → Type 0
 IsDull b =
     (e : End) (n : ℕ) (x : Item) → read b (opposite_end e) ≤ n → slice_get (b.put e) n ≡ Some x →

@@ -1,4 +1,4 @@
--- Where no item that wasn't read carries an end, the rank is within the limit that the world tells: messages move no end, and a terminal
+-- If no item that wasn't read carries an end, the rank is within the limit that the world tells: messages move no end, and a terminal
 -- tells what its end has put.
 use Rattle.std.specs.Prelude.{◌≡◌, ◌≤◌, ◌<◌, ℕ, zero, suc, ◌+◌, ◌*◌, ◌-◌, ◌⊎◌, Bool, true, false, T, not, cond, ◌&&◌, ◌||◌, if◌then◌else◌, nat_eq, nat_lt, is_some}
 use Rattle.std.specs.Prelude.{Option, Some, None}
@@ -318,7 +318,7 @@ module _ (w : World) (b : Books) (g : Routes) (law : Lawful w b g) (none : Carry
   message-most (messages.Item link s n item moves) e = let free : moves_worth c moves ≡ 0 = ap (moves_worth c) e in omega (arith, free)
   message-most other e = omega arith
 
-  -- where no Gone anywhere comes to a number, no Gone of that number stands anywhere
+  -- if no Gone anywhere comes to a number, no Gone of that number stands anywhere
   module _ (e : End) (n : ℕ) (last : suc n ≡ length (b.put e)) (low : gone_most w ≤ n) where
     abbrev f : Weight
     f = at_end e (just n Gone)
@@ -484,7 +484,7 @@ module _ (w : World) (b : Books) (g : Routes) (law : Lawful w b g) (none : Carry
         once w b (routes_of law.records) law.conserved.exact e n Gone unread put,
       ))
 
-  -- an end's terminal, where it stands, tells what it has put
+  -- an end's terminal, if it stands, tells what it has put
   put-there : (e : End) (k : Key) → law.records.terminal e ≡ At k → (has_within e w.nodes ≡ true) × (length (b.put e) ≤ put_within e w.nodes)
   unfolding router_at node_at place_at
   put-there e k q =
@@ -504,7 +504,7 @@ module _ (w : World) (b : Books) (g : Routes) (law : Lawful w b g) (none : Carry
         ),
       )
 
-  -- where an end has no terminal none is found
+  -- if an end has no terminal, none is found
   none-within : (e : End) → law.records.terminal e ≡ Retired → has_within e w.nodes ≡ false
   unfolding router_at node_at
   none-within e q = go (has_within e w.nodes) refl

@@ -70,7 +70,7 @@ sent-bare n link i item bare = go (nat_eq link.other n.number) refl
     go true e = rw e refl
     go false e = rw (e, bare) refl
 
--- the found router has the link outward, where it is a terminal
+-- the found router has the link outward, if it is a terminal
 terminal-outward : (r : Router) (link : LinkId) (side : Side) → router_has r link side ≡ true → is_terminal r ≡ true →
     outward_has r link side ≡ true
 unfolding has_link

@@ -1,4 +1,4 @@
--- Where parcels carry ends in an order of their pairs there are rates that fit.
+-- If parcels carry ends in an order of their pairs, there are rates that fit.
 use Rattle.std.specs.Prelude.{◌≡◌, ◌≤◌, ◌<◌, ℕ, zero, suc, ◌+◌, ◌*◌, ◌-◌, not, Some, List, [], ◌∷◌, length, slice_get, refl}
 use Rattle.std.proofs.Common.{arith, subst, sym}
 use Rattle.ipcz_world.proofs.Vocabulary.{End, ends_in, is_closed}

@@ -75,7 +75,7 @@ put-worth c r item t open_ = go r.inward refl r.flagged refl
     go None e true q = rw (e, q, open_) (omega (arith, same))
     go None e false q = rw (e, q, open_) (omega (arith, same))
 
--- where a put is taken: the terminal, and what the world becomes
+-- if a put is taken: the terminal, and what the world becomes
 record IsPutAt (w : World) (p : PlainPut) : Type 0 where
   serial : ℕ
   router : Router
@@ -215,7 +215,7 @@ module _ (c : Rates) (marks : End → ℕ) (six : (pair : ℕ) → c.price pair 
       behind true h = refl
       behind false h = h
 
-  -- so where its end is known it raises nothing
+  -- so if its end is known, it raises nothing
   flagged-known : (known : List End) → has_end p.at known ≡ true → AreRoused w known → worth 1 (not it.router.flagged) ≤ 0
   flagged-known known has old =
       let up : it.router.flagged ≡ true = old key it.router stands it.terminal (ap (λ e. has_end e known) it.end ∙ has) in
@@ -331,7 +331,7 @@ puts_are_bounded keeps rates w u v b d e g h ps turns law none quiet puts run =
       passed.retires,
     )
 
--- where no proxy stands there are no shares
+-- if no proxy stands, there are no shares
 no-shares : (ps : List PlainPut) (w : World) → ((n s : ℕ) (r : Router) → n < w.count → router_in (node_at w n) s ≡ Some r → is_terminal r ≡ true) →
     length w.nodes ≡ w.count → proxy_shares ps w ≡ 0
 unfolding proxy_shares node_at proxy_share

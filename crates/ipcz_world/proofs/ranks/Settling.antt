@@ -220,7 +220,7 @@ unsettled_is_bounded keeps possible rates limit w v b g c law rated s =
       first-lowers c v after.0 after.1 s.answers.1.0 after.2 after.3 s.answers.1.1,
     )
 
--- where no item carries an end
+-- if no item carries an end
 pub plain_are_rated : PlainAreRated
 plain_are_rated b none = record {
   capped = λ e n item l at. caps e n (is_over b e) refl l (slice_get_within (b.put e) n item at);

@@ -1,4 +1,4 @@
--- What stays with the terminals is used by no turn, where no unread item carries an end.
+-- What stays with the terminals is used by no turn, if no unread item carries an end.
 use Rattle.std.specs.Prelude.{◌≡◌, ◌≤◌, ◌<◌, ℕ, ◌+◌, ◌*◌, Bool, true, false, cond, ◌||◌, ◌++◌, if◌then◌else◌, nat_lt, Option, Some, None, is_some}
 use Rattle.std.specs.Prelude.{List, [], ◌∷◌, length, refl}
 use Rattle.std.proofs.Common.{arith, ap, subst, sym}
@@ -107,7 +107,7 @@ touched-nodes w r acts.Lock = word-nodes w r acts.Lock (primary_word r)
 touched-nodes w r acts.Unlock = word-nodes w r acts.Unlock (primary_word r)
 touched-nodes w r other = refl
 
--- where each number is worth six no more, no item carries an end
+-- if each number is worth six no more, no item carries an end
 no-ends : (c : Rates) (ends : List End) (p : ℕ) → p ≡ 6 → 6 + moving_worth c ends ≤ p → ends ≡ []
 no-ends c [] p six h = refl
 no-ends c (e ∷ es) p six h = absurd (omega (arith, six, h))

@@ -32,7 +32,7 @@ use Rattle.ipcz_world.specs.Records.{is_lost_owner}
 use Rattle.std.proofs.lemmas.Bool.{and_from}
 use Rattle.ipcz_world.proofs.facts.LinkTests.{same_end-itself}
 
--- routes are the same where they tell the same
+-- routes are the same if they tell the same
 same_routes : (g h : Routes) → ((i : ℕ) → g.is_link i ≡ h.is_link i) → ((i : ℕ) → g.pair i ≡ h.pair i) → ((k : Key) → g.end k ≡ h.end k) →
     ((i : ℕ) → g.lost i ≡ h.lost i) → g ≡ h
 same_routes g h p q r t = λ i. record { is_link = λ j. p j i; pair = λ j. q j i; end = λ k. r k i; lost = λ j. t j i }

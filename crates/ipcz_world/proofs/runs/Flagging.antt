@@ -109,7 +109,7 @@ unfolding is_possible is_rest
 rest-impossible r acts.Rest h = refl
 rest-impossible r other h = cc
 
--- where rest is next, no act of the list is possible
+-- if rest is next, no act of the list is possible
 first-none : (r : Router) (list : List RouterAct) (i : ℕ) (act : RouterAct) → is_rest (first_possible r list) ≡ true →
     slice_get list i ≡ Some act → is_possible r act ≡ false
 first-none r [] i act h at = cc

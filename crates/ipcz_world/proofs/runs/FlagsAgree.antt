@@ -49,7 +49,7 @@ use Rattle.ipcz_world.proofs.runs.NodeSteps.{IsKept, kept-step, kept-claim_for_o
 use Rattle.ipcz_world.specs.World.{has_unclaimed_word}
 use Rattle.ipcz_node.specs.Hands.{flushed}
 
--- dry, spare, wake owed, marked, tried, holds: no word is left only where there is no spare, a wake is owed and a try was made only when
+-- dry, spare, wake owed, marked, tried, holds: no word is left only if there is no spare, a wake is owed and a try was made only when
 -- marked, and a holder doesn't try
 pub record Agree (d : Bool) (s : Option ℕ) (o m t h : Bool) : Type 0 where
   pub dry : d ≡ true → s ≡ None
@@ -80,11 +80,11 @@ agreed-without n s law t r at = go (nat_eq t s) refl
 false-true : {X : Type 0} → false ≡ true → X
 false-true h = cc
 
--- where the router needn't wait any longer
+-- if the router needn't wait any longer
 agreed-roused : {d : Bool} {s : Option ℕ} {o m t h : Bool} → Agree d s o m t h → Agree d s o m false h
 agreed-roused law = record { dry = law.dry; wake = law.wake; tried_marked = false-true; tried_free = false-true }
 
--- where the outward primary link has changed
+-- if the outward primary link has changed
 agreed-relinked : {d : Bool} {s : Option ℕ} {o m t h : Bool} → Agree d s o m t h → Agree d s false false false false
 agreed-relinked law = record { dry = law.dry; wake = false-true; tried_marked = false-true; tried_free = false-true }
 

@@ -133,7 +133,7 @@ module _ (nodes words : ℕ) where
   good_start : length (first_pairs nodes) ≤ words → Good nodes words (first_pairs nodes)
   good_start room = all_pairs [] (first_pairs nodes) (rows 0 nodes (omega arith)) (omega (arith, room)) no_pairs
 
--- where a word is a link's
+-- when a word is a link's
 linked_by : (j n : ℕ) → is_linked (cond (nat_lt j n) Linked Unclaimed) ≡ nat_lt j n
 unfolding is_linked
 linked_by j n = go (nat_lt j n)

@@ -255,7 +255,7 @@ module _ {w v : World} {b : Books} {g : Records} {q : Key} {r : Router} {a : ℕ
   unfolding key_passes passes
   passes_alike u u' x test at = rw at refl
 
-  -- a test that the terminal passes only where the proxy does
+  -- a test that the terminal passes only if the proxy does
   pub passes_kept : (o : Option Key) (test : Router → Bool) → (test r ≡ true → test y ≡ true) → key_passes w o test ≡ true →
       key_passes v o test ≡ true
   passes_kept None test f e = absurd (grind (arith, standing_rules, e))

@@ -112,7 +112,7 @@ module _ (w : World) (b : Books) (n a : ℕ) (l : LinkId) (s : Side) (number : �
       subst (λ h. OpenInv (posted_world w n a l s number item (move_router m a f.serial f.router)) b h) (step_records m g f at)
       (subst (λ v. OpenInv v b (extended_records (posted_world w n a l s number item m) g q f.router a)) (step_world m f at) res)
 
-  -- the terminal of one end moves, where it is found
+  -- the terminal of one end moves, if it is found
   inv-end : (m : Transfer) (g : Records) (e : End) → m.node.number ≡ n → OpenInv (posted_world w n a l s number item m) b g →
       has_end e (ends_in item) ≡ true → (o : Option Found) → terminal_of m.node e ≡ o →
       OpenInv (posted_world w n a l s number item (move_found m a o)) b (found_records g m.node a o)

@@ -332,7 +332,7 @@ there_in w b g k r e item p law here chosen at rec l = elim (choose-tells (inwar
           | inr (inr five) ↦ last (is_gone (view w g (inner_link p) B)) refl five
         ]
 
--- Gone goes inward only where the proxy hasn't begun: else it would be past the length of what the proxy gets
+-- Gone goes inward only if the proxy hasn't begun: else it would be past the length of what the proxy gets
 gone_tells : (w : World) (b : Books) (g : Records) (k : Key) (r : Router) (item : Item) → OpenInv w b g → router_at w k ≡ Some r →
     item_at r.in_queue r.in_queue.current ≡ Some item → has_gone_next r ≡ true →
     (is_retired b (opposite_end r.end) ≡ true) × (suc r.in_queue.current ≡ length (b.put (opposite_end r.end)))

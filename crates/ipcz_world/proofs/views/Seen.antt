@@ -1,4 +1,4 @@
--- Who stands at a link's side where one router changes and its links don't.
+-- Who stands at a link's side if one router changes and its links don't.
 use Rattle.std.specs.Prelude.{◌≡◌, ◌⊎◌, Bool, true, false, Option, Some, None, refl}
 use Rattle.std.proofs.Common.{arith, ◌∙◌, inl, inr}
 use Rattle.ipcz_world.proofs.Vocabulary.{Side, A, B, LinkId, Central, Peripheral, Router, World, Key, same_key, router_at, Records}

@@ -1,4 +1,4 @@
--- How the sides of links are seen where one router gives links up.
+-- How the sides of links are seen if one router gives links up.
 use Rattle.std.specs.Prelude.{◌≡◌, ◌≢◌, ◌⊎◌, ℕ, Bool, true, false, cond, Option, Some, None, refl}
 use Rattle.std.proofs.Common.{arith, ap, inl, inr}
 use Rattle.ipcz_world.proofs.Vocabulary.{Side, A, B, LinkId, Central, Peripheral, LinkEnd, Item, has_link, Queue, Edge, Router}

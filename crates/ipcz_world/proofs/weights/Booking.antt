@@ -23,7 +23,7 @@ use Rattle.ipcz_world.proofs.facts.Reaching.{is_reach, reach_one}
 use Rattle.ipcz_world.proofs.facts.LinkTests.{same_end-itself, same_end-tells}
 use Rattle.ipcz_world.proofs.weights.Sums.{total_list-at}
 
--- one where a test holds
+-- one if a test holds
 abbrev pub flag : Bool → ℕ
 flag b = cond b 1 0
 

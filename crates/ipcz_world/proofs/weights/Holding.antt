@@ -88,7 +88,7 @@ holds-with_ends d es held h = go (has_end d es) (holds d held) (sym (contains-wi
     go true b h = inr refl
     go false b h = inl h
 
--- where each of these is held as often as it stands here, they leave
+-- if each of these is held as often as it stands here, they leave
 pub times-without_ends : (es : List End) (held : EndSet) (d : End) → times d es ≤ held_times d held →
     held_times d (without_ends held es) + times d es ≡ held_times d held
 times-without_ends es held d all = go (has_end d es) (holds d held) (times d es) refl (λ f. times-has d es f) (λ f. times-lacks d es f) all
@@ -102,7 +102,7 @@ times-without_ends es held d all = go (has_end d es) (holds d held) (times d es)
     go false true n q has lacks all e = omega (arith, lacks refl, e)
     go false false n q has lacks all e = omega (arith, lacks refl, e)
 
--- where none of these is held and none stands twice, they come
+-- if none of these is held and none stands twice, they come
 pub times-with_ends : (es : List End) (held : EndSet) (d : End) → times d es + held_times d held ≤ 1 →
     held_times d (with_ends held es) ≡ held_times d held + times d es
 times-with_ends es held d all = go (has_end d es) (holds d held) (λ f. times-has d es f) (λ f. times-lacks d es f) all

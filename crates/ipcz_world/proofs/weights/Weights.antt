@@ -18,7 +18,7 @@ use Rattle.ipcz_world.proofs.frames.Changing.{IsNodeChanged, flow_is}
 use Rattle.ipcz_world.proofs.flows.Flowing.{total_below-has, weighed}
 use Rattle.ipcz_world.proofs.weights.Weighing.{in_places-is, in_nodes-changed, under_way-same}
 
--- the weight of a router, where there is one
+-- the weight of a router, if there is one
 abbrev pub in_option : Weight → Option Router → ℕ
 in_option f None = 0
 in_option f (Some r) = in_router f r

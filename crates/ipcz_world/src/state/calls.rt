@@ -41,7 +41,7 @@ impl State {
         Reply::Opened(first, second)
     }
 
-    // Opens a pair on the next word, where one is left.
+    // Opens a pair on the next word, if one is left.
     fn open_next(&mut self, n: u8) -> Reply
         requires regular { IsRegular self.old }
         requires node { n < self.old.count }

@@ -1,4 +1,4 @@
-//! A lone parcel: where it is all that the world has to do, it is carried all its way in one go.
+//! A lone parcel: if it is all that the world has to do, it is carried all its way in one go.
 
 ghost use Rattle.std.specs.Prelude.{◌≡◌, ◌≤◌, ◌<◌, ◌+◌, [], None, IfSome, IfNone};
 ghost use Rattle.ipcz_base.specs.Sides.{opposite};
@@ -115,7 +115,7 @@ impl State {
         self.mail.put_back(place, message);
     }
 
-    // The node that alone isn't quiet, with the router that sends and the link that it sends over, where that is a lone parcel.
+    // The only node that isn't quiet, with the router that sends and the link that it sends over, if that is a lone parcel.
     #[inline(always)]
     fn lone_parcel(&self) -> Option<(u8, u64, LinkEnd)>
         requires { IsRegular self.now }
@@ -136,7 +136,7 @@ impl State {
         Some((n, serial, link))
     }
 
-    // The node that alone isn't quiet, where there is one.
+    // The node that isn't quiet, if just one isn't.
     #[inline(always)]
     fn lone_node(&self) -> Option<u8>
         requires { IsRegular self.now }

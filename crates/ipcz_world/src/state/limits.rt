@@ -1,4 +1,4 @@
-//! How many acts are enough for a settle where no item that wasn't read carries an end.
+//! How many acts are enough for a settle if no item that wasn't read carries an end.
 
 ghost use Rattle.std.specs.Prelude.{◌≡◌, ◌<◌, ◌&&◌, length, map, is_some, option_copied};
 ghost use Rattle.ipcz_base.specs.Totals.{total_list};
@@ -19,7 +19,7 @@ use ipcz_node::{NodeState, Outbox};
 use ipcz_router::Router;
 
 impl State {
-    /// The limit of the world; none where it is no number of 64 bits.
+    /// The limit of the world; none if it is no number of 64 bits.
     pub(crate) fn settle_limit(&self) -> Option<u64>
         requires { IsRegular self.now }
         ensures { Tells result (settle_limit self.now) }
@@ -62,7 +62,7 @@ impl State {
         plus(times(6, numbers), Some(rest))
     }
 
-    // How many items an end has put that its peer hasn't read all: as its terminal tells, or where none stands, as a Gone that wasn't read.
+    // How many items an end has put that its peer hasn't read all: as its terminal tells, or, if none stands, as a Gone that wasn't read.
     fn put_most(&self, end: End) -> u64
         requires { IsRegular self.now }
         ensures { result ≡ put_most self.now end }
@@ -164,7 +164,7 @@ fn gone_held(router: &Router) -> u64
     higher(gone_last(router.out_last()), gone_last(router.in_last()))
 }
 
-// The number after that of the last entry of a queue, where that is Gone.
+// The number after that of the last entry of a queue, if that is Gone.
 fn gone_last(last: Option<&(u64, Item)>) -> u64
     ensures { result ≡ gone_last (option_copied last.entry) }
 {

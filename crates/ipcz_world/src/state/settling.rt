@@ -10,7 +10,7 @@ use crate::state::State;
 use ipcz_node::Act;
 
 impl State {
-    /// The next node that has an act, in passes over the nodes from this one on, with that act; none where each node is idle.
+    /// The next node that has an act, in passes over the nodes from this one on, with that act; none if each node is idle.
     #[inline(always)]
     pub(crate) fn next_busy(&self, n: u8) -> Option<(u8, Act)>
         requires regular { IsRegular self.now }
@@ -25,7 +25,7 @@ impl State {
         }
     }
 
-    /// The same by a call of its own: it is asked for once, where `next_busy` is asked for before each act.
+    /// The same by a call of its own: it is called once, while `next_busy` is called before each act.
     #[inline(never)]
     pub(crate) fn last_busy(&self, n: u8) -> Option<(u8, Act)>
         requires regular { IsRegular self.now }
@@ -46,7 +46,7 @@ impl State {
         if n + 1 < count { n + 1 } else { 0 }
     }
 
-    // The first node from one number up to another that has an act, where one has, with that act.
+    // The first node from one number up to another that has an act, if one has, with that act.
     #[inline(always)]
     fn first_busy(&self, from: u8, to: u8) -> Option<(u8, Act)>
         requires regular { IsRegular self.now }

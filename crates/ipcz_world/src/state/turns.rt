@@ -97,7 +97,7 @@ impl State {
         node.next_own()
     }
 
-    /// Takes the first possible act of a node, which is given; where it finds no memory, what stands in for it.
+    /// Takes the first possible act of a node, which is given; if it finds no memory, what stands in for it.
     pub(crate) fn take_first(&mut self, n: u8, act: Act) -> Reply
         requires regular { IsRegular self.old }
         requires node { n < self.old.count }
@@ -110,7 +110,7 @@ impl State {
         }
     }
 
-    // The first act was refused: where that is for want of memory, what stands in for it is taken.
+    // The first act was refused: if that is for want of memory, what stands in for it is taken.
     fn give_up(&mut self, n: u8, act: Act, why: Refusal) -> Reply
         requires regular { IsRegular self.old }
         requires node { n < self.old.count }
@@ -153,7 +153,7 @@ impl State {
         }
     }
 
-    // The node that may send the message, as the word of the old link names it: asked of an AcceptBypass alone.
+    // The node that may send the message, as the word of the old link names it: asked only of an AcceptBypass.
     #[tactic(auto, unfolding(crate::specs::WordAnswers::source_for, crate::specs::World::word_at))]
     fn source_for(&self, message: &Message) -> Option<u8>
         ensures { result ≡ source_for self.now message.now }
@@ -168,7 +168,7 @@ impl State {
         }
     }
 
-    // Handles the message in hand; where that finds no memory or no serials the message stays in hand.
+    // Handles the message in hand; if that finds no memory or no serials, the message stays in hand.
     fn handle(&mut self, n: u8, from: u8) -> Result<Happened, Refusal>
         requires regular { IsRegular self.old }
         requires node { n < self.old.count }
@@ -283,7 +283,7 @@ impl State {
         self.give_up_unseen(n, act, why)
     }
 
-    // The first act was refused: where that is for want of memory, what stands in for it is taken.
+    // The first act was refused: if that is for want of memory, what stands in for it is taken.
     fn give_up_unseen(&mut self, n: u8, act: Act, why: Refusal) -> Result<(), Refusal>
         requires regular { IsRegular self.old }
         requires node { n < self.old.count }
@@ -458,7 +458,7 @@ fn is_wordless(act: RouterAct) -> bool
     }
 }
 
-// The act that stands in for one which found no memory, where there is another: an unlock for a begin or a retire.
+// The act that stands in for one which found no memory, if there is another: an unlock for a begin or a retire.
 #[tactic(auto, unfolding(ipcz_node::specs::Acts::stand_in))]
 fn stand_in(act: Act) -> Option<Act>
     ensures other { IfSome result (λ other. other ≡ stand_in act) }

@@ -18,7 +18,7 @@ pub enum Call {
     PutWide(u8, End, u8, usize, u64),
     /// A wide put of so many bytes is refused.
     WideRefused(u8, End, usize, Refusal),
-    /// How many bytes and ends the parcel has that a get at an end of a node would give, or none where it would be refused.
+    /// How many bytes and ends the parcel has that a get at an end of a node would give, or none if it would be refused.
     NextSizes(u8, End, Option<Sizes>),
     /// Gets these bytes and ends at an end of a node, under this number.
     Get(u8, End, u64, &'static [u8], &'static [End]),
@@ -38,11 +38,11 @@ pub enum Call {
     CloseRefused(u8, End, Refusal),
     /// A turn is refused.
     TurnRefused(u8, Refusal),
-    /// Settles within so many acts: after how many nothing waits, or none where the limit comes first.
+    /// Settles within so many acts: after how many nothing waits, or none if the limit comes first.
     Settle(u64, Option<u64>),
     /// How many words are claimed.
     Claimed(u32),
-    /// A word, or none where it isn't claimed.
+    /// A word, or none if it isn't claimed.
     Word(u32, Option<u64>),
     /// The node that holds an end.
     Holder(End, Option<u8>),
@@ -50,7 +50,7 @@ pub enum Call {
     Limit(u64),
     /// Settles within so many acts.
     SettleWithin(u64),
-    /// How many routers a node has, or none where it isn't one of the world's.
+    /// How many routers a node has, or none if it isn't one of the world's.
     Routers(u8, Option<usize>),
 }
 

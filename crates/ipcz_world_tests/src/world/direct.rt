@@ -110,7 +110,7 @@ const CARRIED: [Carried; 5] = [
     },
 ];
 
-// Whether the world settles within so many acts. Where it does and no router has found the words used up, no proxy is left, nor a router of
+// Whether the world settles within so many acts. If it does and no router has found the words used up, no proxy is left, nor a router of
 // a pair with both ends closed, and each other open pair is direct.
 fn settles(world: &mut World, limit: u64) -> Result<bool, Refusal>
     ensures direct { IfOk result (λ settled. (b : Books) → (g : Routes) → settled ≡ true → Lawful world.new b g → IsWet world.new →

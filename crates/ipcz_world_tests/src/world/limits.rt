@@ -1,4 +1,4 @@
-//! The limit of a world is enough for a settle where no parcel that wasn't got carries portals.
+//! The limit of a world is enough for a settle if no parcel that wasn't got carries portals.
 
 use super::calls::{Call, given};
 use super::{A0, B0, a, b, get, is_got, is_put, put};

@@ -207,7 +207,7 @@ const TERMINAL: u64 = 41;
 
 const NUMBER: u64 = 6;
 
-// Once the first sink has retired, what its end has put is told by Gone alone: in an outbox, in a mailbox, in hand, and in the queue of
+// Once the first sink has retired, what its end has put is told only by Gone: in an outbox, in a mailbox, in hand, and in the queue of
 // the other sink, which has the mark and Gone still to drop.
 const LIMITS: [Call; 20] = [
     Call::Open(0, A0, B0),

@@ -125,7 +125,7 @@ impl Soak {
         }
     }
 
-    // Opens a pair on a node; none where each word is claimed.
+    // Opens a pair on a node; none if each word is claimed.
     fn open(&mut self, node: u8) -> Result<Option<(Portal, Portal)>, Wrong> {
         match self.world.step(&Step::Open(node)) {
             Reply::Opened(first, second) => Ok(Some((
@@ -216,7 +216,7 @@ impl Soak {
         self.settle()
     }
 
-    // The same, where the second hears of it first.
+    // The same, if the second hears of it first.
     fn end_in_turn(&mut self, first: Portal, second: Portal) -> Result<(), Wrong> {
         self.close(first, 2)?;
         self.settle()?;
@@ -225,7 +225,7 @@ impl Soak {
         self.settle()
     }
 
-    // The same, where a parcel is on its way that nobody gets.
+    // The same, if a parcel is on its way that nobody gets.
     fn end_with_a_parcel(&mut self, first: Portal, second: Portal) -> Result<(), Wrong> {
         self.put(first, b"late", &[], 2)?;
         self.close(second, 2)?;
@@ -233,7 +233,7 @@ impl Soak {
         self.settle()
     }
 
-    // The same, where that parcel carries a portal, which is closed with it.
+    // The same, if that parcel carries a portal, which is closed with it.
     fn end_with_a_portal(&mut self, first: Portal, second: Portal) -> Result<(), Wrong> {
         let Some((kept, carried)) = self.open(first.node)? else {
             return self.end_at_once(first, second);
@@ -261,7 +261,7 @@ impl Soak {
         self.world.claimed().saturating_add(WORDS_OF_A_ROUND) <= WORDS
     }
 
-    // Opens a pair, moves its ends and closes them; whether there was a word for it. Where few words are left the first end stays: of two
+    // Opens a pair, moves its ends and closes them; whether there was a word for it. If few words are left, the first end stays: of two
     // proxies without a word none can leave.
     fn live(&mut self, round: u64) -> Result<bool, Wrong> {
         let Some((mut first, mut second)) = self.open(node_of(round))? else {

@@ -75,7 +75,7 @@ returns-in-Ok-clause-when c source =
     ∙ lone_fits v.node c.args.from c.args.link c.args.side c.args.n c.args.item.now c.args.moves.now source c.in-Some.serial t.0 t.2
     (c.in-Ok.ensures.place t.0 t.1) alone.2 alone.1)
 
--- the router that refuses the item: it has its place there exactly where memory was wanted
+-- the router that refuses the item: it has its place there exactly if memory was wanted
 pub returns-after-why-clause-when : goal.returns-after-why-clause-when
 returns-after-why-clause-when c source =
     let v = the_view c.self.inside in
@@ -127,7 +127,7 @@ returns-after-why-clause-why c source = elim c.match-why.branch [
   | in_default-why w ↦ rw w.result-is tt
 ]
 
--- the router wants no memory where there is room for the item
+-- the router wants no memory if there is room for the item
 pub returns-after-why-clause-full : goal.returns-after-why-clause-full
 returns-after-why-clause-full c room =
     let v = the_view c.self.inside in

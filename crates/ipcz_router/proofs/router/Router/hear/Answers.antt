@@ -5,7 +5,7 @@ use Rattle.ipcz_router.specs.Bypass.{fits_accept_bypass, is_source}
 use Rattle.ipcz_router.specs.Hearing.{hears, deafness, answer_to}
 use Rattle.ipcz_router.proofs.router.Router.hear.Goals as goal
 
--- a message that doesn't fit is a stranger's, and one that fits is forged where its sender isn't the source
+-- a message that doesn't fit is a stranger's, and one that fits is forged if its sender isn't the source
 refused : (fits sent : Bool) (sending : Option Sending) →
     (if fits then (if sent then Ok sending else Err Forged) else Err Stranger) ≡
     (if fits && sent then Ok sending else Err (if fits then Forged else Stranger))

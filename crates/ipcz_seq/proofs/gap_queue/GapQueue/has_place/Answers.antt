@@ -12,7 +12,7 @@ use Rattle.ipcz_seq.proofs.gap_queue.GapQueue.has_place.Goals as goal
 pub place_of-requires : goal.place_of-requires
 place_of-requires g c = waiting_from 0 _ _ (omega arith) c.self.invariant
 
--- a number from the current one on has its place where the search doesn't find it
+-- a number from the current one on has its place if the search doesn't find it
 placed : {T : Type 0} (c n : ℕ) (es : List (ℕ × T)) (r : Result ℕ ℕ) → AreWaiting c es → c ≤ n →
     MatchResult r (λ _. IsSome (find nat_cmp n es)) (IsPlaceFor n es) → is_err r ≡ has_place (queue_of es c) n
 placed c n es (Ok k) w from found = let up : nat_le c n ≡ true = grind (arith, nat_tests) in
