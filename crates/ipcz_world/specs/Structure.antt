@@ -105,60 +105,47 @@ link_in e = option_map (λ x. x.link) e
 
 -- a router's link is primary or decaying as its bypass says, with the lengths that its stage tells
 pub record HasPositions (g : Records) (k : Key) (r : Router) : Type 0 where
-  pub inward_primary : (e : LinkEnd) → (inward_edge r).primary ≡ Some e →
-      bypass_of g e.link ≡ None
-  pub inward_decaying : (e : LinkEnd) → (inward_edge r).decaying ≡ Some e →
-      bypass_of g e.link ≡ g.begun k
-  pub inward_to : (e : LinkEnd) (o : ℕ) → (inward_edge r).decaying ≡ Some e →
-      g.begun k ≡ Some o →
+  pub inward_primary : (e : LinkEnd) → (inward_edge r).primary ≡ Some e → bypass_of g e.link ≡ None
+  pub inward_decaying : (e : LinkEnd) → (inward_edge r).decaying ≡ Some e → bypass_of g e.link ≡ g.begun k
+  pub inward_to : (e : LinkEnd) (o : ℕ) → (inward_edge r).decaying ≡ Some e → g.begun k ≡ Some o →
       (inward_edge r).length_to ≡ known_from 4 (g.bypass o).stage (g.bypass o).accepted_at
-  pub inward_from : (e : LinkEnd) (o : ℕ) → (inward_edge r).decaying ≡ Some e →
-      g.begun k ≡ Some o →
+  pub inward_from : (e : LinkEnd) (o : ℕ) → (inward_edge r).decaying ≡ Some e → g.begun k ≡ Some o →
       (inward_edge r).length_from ≡ known_from 4 (g.bypass o).stage (g.bypass o).taken_at
   -- an outward primary link that is being bypassed: the old one at the router across before it accepts, the inner one before it is taken
-  pub primary_old : (e : LinkEnd) (o : ℕ) → r.outward.primary ≡ Some e →
-      e.link ≡ Central o → is_begun (g.bypass o) ≡ true → (g.bypass o).stage ≤ 2
-  pub primary_across : (e : LinkEnd) (o : ℕ) → r.outward.primary ≡ Some e →
-      e.link ≡ Central o → is_begun (g.bypass o) ≡ true → e.side ≡ across_side g o
-  pub primary_inner : (e : LinkEnd) (p : Key) (o : ℕ) → r.outward.primary ≡ Some e →
-      e.link ≡ inner_link p → (g.peripheral p).by ≡ Some o → (g.bypass o).stage ≡ 1
+  pub primary_old : (e : LinkEnd) (o : ℕ) → r.outward.primary ≡ Some e → e.link ≡ Central o → is_begun (g.bypass o) ≡ true →
+      (g.bypass o).stage ≤ 2
+  pub primary_across : (e : LinkEnd) (o : ℕ) → r.outward.primary ≡ Some e → e.link ≡ Central o → is_begun (g.bypass o) ≡ true →
+      e.side ≡ across_side g o
+  pub primary_inner : (e : LinkEnd) (p : Key) (o : ℕ) → r.outward.primary ≡ Some e → e.link ≡ inner_link p →
+      (g.peripheral p).by ≡ Some o → (g.bypass o).stage ≡ 1
   -- an outward decaying link is being bypassed
-  pub decaying : (e : LinkEnd) → r.outward.decaying ≡ Some e →
-      is_some (bypass_of g e.link) ≡ true
+  pub decaying : (e : LinkEnd) → r.outward.decaying ≡ Some e → is_some (bypass_of g e.link) ≡ true
   -- the inner one, at the router that has taken the fresh link
-  pub inner_stage : (e : LinkEnd) (p : Key) (o : ℕ) → r.outward.decaying ≡ Some e →
-      e.link ≡ inner_link p → (g.peripheral p).by ≡ Some o → 2 ≤ (g.bypass o).stage
-  pub inner_to : (e : LinkEnd) (p : Key) (o : ℕ) → r.outward.decaying ≡ Some e →
-      e.link ≡ inner_link p → (g.peripheral p).by ≡ Some o →
+  pub inner_stage : (e : LinkEnd) (p : Key) (o : ℕ) → r.outward.decaying ≡ Some e → e.link ≡ inner_link p → (g.peripheral p).by ≡ Some o →
+      2 ≤ (g.bypass o).stage
+  pub inner_to : (e : LinkEnd) (p : Key) (o : ℕ) → r.outward.decaying ≡ Some e → e.link ≡ inner_link p → (g.peripheral p).by ≡ Some o →
       r.outward.length_to ≡ Some (g.bypass o).taken_at
-  pub inner_from : (e : LinkEnd) (p : Key) (o : ℕ) → r.outward.decaying ≡ Some e →
-      e.link ≡ inner_link p → (g.peripheral p).by ≡ Some o →
+  pub inner_from : (e : LinkEnd) (p : Key) (o : ℕ) → r.outward.decaying ≡ Some e → e.link ≡ inner_link p → (g.peripheral p).by ≡ Some o →
       r.outward.length_from ≡ known_from 5 (g.bypass o).stage (g.bypass o).accepted_at
-  pub inner_fresh : (e : LinkEnd) (p : Key) (o : ℕ) → r.outward.decaying ≡ Some e →
-      e.link ≡ inner_link p → (g.peripheral p).by ≡ Some o →
+  pub inner_fresh : (e : LinkEnd) (p : Key) (o : ℕ) → r.outward.decaying ≡ Some e → e.link ≡ inner_link p → (g.peripheral p).by ≡ Some o →
       link_in r.outward.primary ≡ Some (Central (g.bypass o).fresh)
   -- the old one, at the proxy
-  pub own_proxy : (e : LinkEnd) (o : ℕ) → r.outward.decaying ≡ Some e → e.link ≡ Central o →
-      e.side ≡ proxy_side g o → (g.bypass o).proxy ≡ k
-  pub own_alone : (e : LinkEnd) (o : ℕ) → r.outward.decaying ≡ Some e → e.link ≡ Central o →
-      e.side ≡ proxy_side g o → r.outward.primary ≡ None
-  pub own_to : (e : LinkEnd) (o : ℕ) → r.outward.decaying ≡ Some e → e.link ≡ Central o →
-      e.side ≡ proxy_side g o →
+  pub own_proxy : (e : LinkEnd) (o : ℕ) → r.outward.decaying ≡ Some e → e.link ≡ Central o → e.side ≡ proxy_side g o →
+      (g.bypass o).proxy ≡ k
+  pub own_alone : (e : LinkEnd) (o : ℕ) → r.outward.decaying ≡ Some e → e.link ≡ Central o → e.side ≡ proxy_side g o →
+      r.outward.primary ≡ None
+  pub own_to : (e : LinkEnd) (o : ℕ) → r.outward.decaying ≡ Some e → e.link ≡ Central o → e.side ≡ proxy_side g o →
       r.outward.length_to ≡ known_from 4 (g.bypass o).stage (g.bypass o).taken_at
-  pub own_from : (e : LinkEnd) (o : ℕ) → r.outward.decaying ≡ Some e → e.link ≡ Central o →
-      e.side ≡ proxy_side g o →
+  pub own_from : (e : LinkEnd) (o : ℕ) → r.outward.decaying ≡ Some e → e.link ≡ Central o → e.side ≡ proxy_side g o →
       r.outward.length_from ≡ known_from 4 (g.bypass o).stage (g.bypass o).accepted_at
   -- the old one, at the router across
-  pub across_stage : (e : LinkEnd) (o : ℕ) → r.outward.decaying ≡ Some e →
-      e.link ≡ Central o → e.side ≡ across_side g o → 3 ≤ (g.bypass o).stage
-  pub across_to : (e : LinkEnd) (o : ℕ) → r.outward.decaying ≡ Some e → e.link ≡ Central o →
-      e.side ≡ across_side g o →
+  pub across_stage : (e : LinkEnd) (o : ℕ) → r.outward.decaying ≡ Some e → e.link ≡ Central o → e.side ≡ across_side g o →
+      3 ≤ (g.bypass o).stage
+  pub across_to : (e : LinkEnd) (o : ℕ) → r.outward.decaying ≡ Some e → e.link ≡ Central o → e.side ≡ across_side g o →
       r.outward.length_to ≡ Some (g.bypass o).accepted_at
-  pub across_from : (e : LinkEnd) (o : ℕ) → r.outward.decaying ≡ Some e →
-      e.link ≡ Central o → e.side ≡ across_side g o →
+  pub across_from : (e : LinkEnd) (o : ℕ) → r.outward.decaying ≡ Some e → e.link ≡ Central o → e.side ≡ across_side g o →
       r.outward.length_from ≡ Some (g.bypass o).taken_at
-  pub across_fresh : (e : LinkEnd) (o : ℕ) → r.outward.decaying ≡ Some e →
-      e.link ≡ Central o → e.side ≡ across_side g o →
+  pub across_fresh : (e : LinkEnd) (o : ℕ) → r.outward.decaying ≡ Some e → e.link ≡ Central o → e.side ≡ across_side g o →
       link_in r.outward.primary ≡ Some (Central (g.bypass o).fresh)
   -- a router that has begun has a bypass
   pub begun : is_begun_router r ≡ true → is_some (g.begun k) ≡ true
