@@ -4,6 +4,7 @@ pub mod Carrying
 pub mod CarryingWithin
 pub mod FirstTurns
 pub mod Kept
+pub mod LoneFinds
 pub mod LoneSenders
 pub mod LoneWorlds
 pub mod Marks

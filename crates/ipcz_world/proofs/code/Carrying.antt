@@ -22,11 +22,11 @@ use Rattle.ipcz_node.proofs.LoneNodes.{OnlyFlagged, message, none_flagged, reste
 use Rattle.ipcz_node.proofs.Mailing.{empty_box}
 use Rattle.ipcz_node.proofs.Written.{insert_same}
 use Rattle.ipcz_world.proofs.Vocabulary.{Node, Router, World, Act, Message, Empty, commit, outbox, opposite, with_router}
-use Rattle.ipcz_world.proofs.Vocabulary.{after_act, hand_message, node_at, put_place, router_at, set_mail, set_node, way}
+use Rattle.ipcz_world.proofs.Vocabulary.{after_act, hand_message, node_at, put_place, router_at, router_in, set_mail, set_node, way}
 use Rattle.ipcz_world.proofs.Vocabulary.{LinkEnd, RouterAct}
 use Rattle.ipcz_world.specs.declared.mail.Mail.{Mail}
 use Rattle.ipcz_world.specs.declared.mail.Mail.TheVariants.{Full, Hand}
-use Rattle.ipcz_world.specs.Carrying.{IsLone, with_hand}
+use Rattle.ipcz_world.specs.Carrying.{HasCome, IsLone, with_hand}
 use Rattle.ipcz_world.specs.Settling.{next_node}
 use Rattle.ipcz_world.specs.Taking.{IsRegular}
 use Rattle.ipcz_world.specs.Turns.{after_hand, after_look, after_post, after_router_act, full_message, hand_lacks_serials, is_clear, is_full, is_idle}
@@ -400,6 +400,21 @@ module _ (w : World) (n serial : ℕ) (link : LinkEnd) (is : IsRegular w) (lone 
     pub carried : OnWay w 0 w 0 → OnWay w 6 (set_node (set_node w n x3) m y) (next_node w m)
     carried on = subst (λ v. OnWay w 6 v (next_node w m))
         (pair-box w n m apart lone.here lone.there is.lengths x3 y Empty lone.box) (on-6 (on-5 (sent on)))
+
+    -- the router across has the item
+    pub came : (x : Node) → HasCome w (set_node (set_node w n x) m y) n serial link
+    came x = record {
+      sender = r0;
+      sends = lone.sends.sender.here;
+      item = (sends-last lone).item;
+      sent = (sends-last lone).current;
+      taker = takes.serial;
+      before = takes.router;
+      after = takes.after;
+      here = takes.here;
+      takes = takes.takes;
+      there = ap (λ q. router_in q takes.serial) (node-here (set_node w n x) m y ∙ takes.changed) ∙ stands y0 takes.serial takes.after;
+    }
 
     abbrev y3 : Node
     y3 = with_router y0 takes.serial (rest q1)
