@@ -43,6 +43,14 @@ above_last ys n last v count read above d some =
     let less : last < v = grind (arith, nat_tests, above) in
     rw same (sym (nat_cmp_is last v Less less))
 
+-- what is below the first is below all that are there
+pub below_first : (ys : List ℕ) (first v : ℕ) → first ≡ get_or ys 0 first → IsTrue (nat_lt v first) → (d : ℕ) → 0 < length ys →
+    nat_cmp v (get_or ys 0 d) ≡ Less
+below_first ys first v read below d some =
+    let same : get_or ys 0 d ≡ first = get_or_default ys 0 d first some ∙ sym read in
+    let less : v < first = grind (arith, nat_tests, below) in
+    rw same (sym (nat_cmp_is v first Less less))
+
 -- what is told as the first is the least, and none is if there is none
 pub least_of : (ys : List ℕ) (r : Option ℕ) → IfSome r (λ x. has nat_cmp ys x ≡ true) → IfSome r (λ x. (s : ℕ) → has nat_cmp ys s ≡ true → x ≤ s)
     → IfNone r (ys ≡ []) → IsLeast (has nat_cmp ys) r

@@ -66,14 +66,16 @@ impl SerialRing {
         }
     }
 
-    // The same for each serial.
+    // The same for each serial: one that is below all others goes in front, without a search.
     #[inline(never)]
     fn insert_by_search(&mut self, serial: u64)
         requires { 0 < self.old.room }
         ensures members { (s : ℕ) → has nat_cmp self.new.members s ≡ (serial == s || has nat_cmp self.old.members s) }
         ensures room { self.old.room ≤ self.new.room + 1 }
     {
-        if let Err(at) = self.place_of(serial) {
+        if self.is_below_all(serial) {
+            self.serials.push_front_reserved(serial);
+        } else if let Err(at) = self.place_of(serial) {
             let Ok(()) = self.serials.insert(at, serial) else {
                 unreachable!()
             };
@@ -130,6 +132,16 @@ impl SerialRing {
         match self.serials.back() {
             Some(last) => *last < serial,
             None => true,
+        }
+    }
+
+    // Whether the serial is less than each that is there, and any is.
+    fn is_below_all(&self, serial: u64) -> bool
+        ensures { IsTrue result → IsGapFor nat_cmp self.now.members serial 0 }
+    {
+        match self.serials.front() {
+            Some(first) => serial < *first,
+            None => false,
         }
     }
 
