@@ -17,7 +17,8 @@ use Rattle.ipcz_node.specs.RoomyNodes.{IsPossibleAct}
 use Rattle.ipcz_rule.specs.declared.view.Part.{Part}
 use Rattle.ipcz_rule.specs.Rule.{Mine, Rules, with_part}
 use Rattle.ipcz_rule.specs.Steps.{act_part, CanAct}
-use Rattle.ipcz_cell.specs.Parts.{got_part, part_got, is_touch_act}
+use Rattle.ipcz_cell.specs.Parts.{got_part, part_got}
+use Rattle.ipcz_rule.specs.Steps.{is_touch_act}
 use Rattle.ipcz_rule.proofs.Calling.{gets, pending_closes}
 use Rattle.ipcz_rule.proofs.Dropping.{touches_acts}
 

@@ -19,7 +19,8 @@ use Rattle.ipcz_node.specs.Acts.{commit, commit_router, keep_or_drop, rest_of}
 use Rattle.ipcz_rule.specs.declared.view.Part.{Part}
 use Rattle.ipcz_rule.specs.Rule.{with_state}
 use Rattle.ipcz_rule.specs.Steps.{put_part, close_part, act_part, written_part, dropped_part, retired_part}
-use Rattle.ipcz_cell.specs.Parts.{got_part, part_got, is_touch_act}
+use Rattle.ipcz_cell.specs.Parts.{got_part, part_got}
+use Rattle.ipcz_rule.specs.Steps.{is_touch_act}
 use Rattle.ipcz_cell.proofs.Seating.{KeepsHands}
 
 put_hand : (n : Node) (f : Option Found) (q : parcels.Parcel) → (on_found n f (put_at_router n q)).hand ≡ n.hand

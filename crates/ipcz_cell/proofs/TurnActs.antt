@@ -8,7 +8,7 @@ use Rattle.ipcz_base.specs.declared.end.End.{End}
 use Rattle.ipcz_router.specs.Router.{Router}
 use Rattle.ipcz_router.specs.ActTable.{may_take}
 use Rattle.ipcz_node.proofs.Choosing.{unlock_may, retire_may}
-use Rattle.ipcz_rule.specs.Steps.{is_touch}
+use Rattle.ipcz_world.specs.Wordless.{is_wordless}
 use Rattle.ipcz_router.specs.declared.act.Answer.TheVariants as answers
 use Rattle.ipcz_router.specs.declared.act.RouterAct.{RouterAct}
 use Rattle.ipcz_router.specs.declared.act.RouterAct.TheVariants as router_acts
@@ -24,7 +24,7 @@ use Rattle.ipcz_rule.specs.Rule.{has_number}
 use Rattle.ipcz_rule.specs.Steps.{act_part, post_part, probe_part}
 use Rattle.ipcz_cell.specs.TableNames.{TableName}
 use Rattle.ipcz_cell.specs.CellStates.{CellState}
-use Rattle.ipcz_cell.specs.Parts.{is_touch_act}
+use Rattle.ipcz_rule.specs.Steps.{is_touch_act}
 use Rattle.ipcz_cell.specs.Mails.{Probes, IsProbed, Looks, mail_word}
 use Rattle.ipcz_cell.specs.TurnEnds.{IsAnswered, IsDone, IsTaken, IsLost, IsRefused, NoSerials, NoMemory, LostIt, lacks_serials, IsSeenBefore, may_grow, Acts}
 
@@ -194,9 +194,9 @@ held_refused t serial act old new why not part seen is = record { found = []; se
     go false e = absurd (not (is ∙ ap (λ (b : Bool). if b then refusals.NumbersEnd else refusals.OutOfMemory) e))
 
 -- a begin and a retire are done under the lock: each is a touch, and an unlock stands in for it
-pub held_touch : (act : RouterAct) → (act ≡ router_acts.Begin) ⊎ (act ≡ router_acts.Retire) → is_touch act ≡ true
-held_touch act (inl e) = ap is_touch e
-held_touch act (inr e) = ap is_touch e
+pub held_touch : (act : RouterAct) → (act ≡ router_acts.Begin) ⊎ (act ≡ router_acts.Retire) → is_wordless act ≡ true
+held_touch act (inl e) = ap is_wordless e
+held_touch act (inr e) = ap is_wordless e
 
 pub held_stand_in : (act : RouterAct) (serial : ℕ) → (act ≡ router_acts.Begin) ⊎ (act ≡ router_acts.Retire) → acts.Router serial router_acts.Unlock ≡ stand_in (acts.Router serial act)
 unfolding stand_in
@@ -211,7 +211,7 @@ may_unlock act (inr is) (Some r) h = retire_may r (ap (may_take r) (sym is) ∙ 
 
 -- these acts of a router are touches, and none stands in for them
 abbrev IsPlain : RouterAct → Type 0
-IsPlain act = (is_touch act ≡ true) × ((serial : ℕ) → acts.Router serial act ≡ stand_in (acts.Router serial act))
+IsPlain act = (is_wordless act ≡ true) × ((serial : ℕ) → acts.Router serial act ≡ stand_in (acts.Router serial act))
 
 pub plain_acts : (act : RouterAct) → (act ≡ router_acts.SendOut) ⊎ ((act ≡ router_acts.SendIn) ⊎ ((act ≡ router_acts.Discard) ⊎ ((act ≡ router_acts.FinishOut) ⊎ ((act ≡ router_acts.FinishIn) ⊎ ((act ≡ router_acts.Leave) ⊎ (act ≡ router_acts.Rest)))))) → IsPlain act
 unfolding stand_in

@@ -17,7 +17,8 @@ use Rattle.ipcz_node.specs.Events.{event_of, hand_event}
 use Rattle.ipcz_rule.specs.Steps.{act_part, old_word, trusted}
 use Rattle.ipcz_cell.specs.TableNames.{TableName}
 use Rattle.ipcz_cell.specs.CellStates.{CellState}
-use Rattle.ipcz_cell.specs.Parts.{handed_part, is_touch_act, part_handed}
+use Rattle.ipcz_cell.specs.Parts.{handed_part, part_handed}
+use Rattle.ipcz_rule.specs.Steps.{is_touch_act}
 use Rattle.ipcz_cell.specs.Mails.{Handles, OldLoaded, old_named}
 use Rattle.ipcz_cell.specs.Turns.{Chooses}
 use Rattle.ipcz_cell.specs.TurnEnds.{Acts}

@@ -2,7 +2,7 @@
 ghost use Rattle.std.specs.Prelude.{◌≡◌, ◌<◌, true, Some, None};
 ghost use Rattle.ipcz_node.specs.Acts.{has_mail_for, stand_in};
 ghost use Rattle.ipcz_node.specs.RoomyNodes.{IsPossibleAct};
-ghost use Rattle.ipcz_rule.specs.Steps.{is_touch};
+ghost use Rattle.ipcz_world.specs.Wordless.{is_wordless};
 ghost use Rattle.ipcz_cell.specs.TurnChains.{acted, untold, Does, TriesTurn, RunsTurns};
 
 use crate::cell::NodeCell;
@@ -81,7 +81,7 @@ impl<F: FabricName> NodeCell<F> {
         serial: u64,
         act: RouterAct,
     ) -> Result<(), Refusal>
-        requires touch { is_touch act ≡ true }
+        requires touch { is_wordless act ≡ true }
         requires alone { Act.Router serial act ≡ stand_in (Act.Router serial act) }
         requires possible { IsPossibleAct self.old.part.state (Act.Router serial act) }
         ensures { Does F.table (Act.Router serial act) self.old result self.new }

@@ -9,8 +9,10 @@ ghost use Rattle.ipcz_node.specs.Events.{event_of};
 ghost use Rattle.ipcz_rule.specs.Rule.{Rules};
 ghost use Rattle.ipcz_cell.specs.CellStates.{part_in, change_part, roomy};
 ghost use Rattle.ipcz_cell.specs.Cells.{AreSound, IsSeated};
-ghost use Rattle.ipcz_rule.specs.Steps.{put_part, close_part, act_part, is_touch};
-ghost use Rattle.ipcz_cell.specs.Parts.{got_part, is_touch_act};
+ghost use Rattle.ipcz_rule.specs.Steps.{put_part, close_part, act_part};
+ghost use Rattle.ipcz_world.specs.Wordless.{is_wordless};
+ghost use Rattle.ipcz_cell.specs.Parts.{got_part};
+ghost use Rattle.ipcz_rule.specs.Steps.{is_touch_act};
 ghost use Rattle.ipcz_cell.specs.Outcomes.{IsPicked, touched};
 
 use crate::fabric::{Fabric, FabricName};
@@ -171,7 +173,7 @@ fn told_here<F: FabricName, X: Outcome>(
 ) -> Result<Happened, Refusal>
     requires picked { IsPicked X.tells (touched (act_part (Act.Router serial act) Answer.Plain)) }
     requires seated { IsSeated F.table state.old.node seat.old.table_id seat.old.me }
-    requires touch { is_touch act ≡ true }
+    requires touch { is_wordless act ≡ true }
     requires possible { IsPossibleAct state.old.node (Act.Router serial act) }
     ensures event { IfOk result (λ h. h ≡ event_of state.old.node (Act.Router serial act) Answer.Plain) }
     ensures why { IfErr result
@@ -200,7 +202,7 @@ fn plain_here<F: FabricName, X: Outcome>(
 ) -> Result<(), Refusal>
     requires picked { IsPicked X.tells (touched (act_part (Act.Router serial act) Answer.Plain)) }
     requires seated { IsSeated F.table state.old.node seat.old.table_id seat.old.me }
-    requires touch { is_touch act ≡ true }
+    requires touch { is_wordless act ≡ true }
     requires possible { IsPossibleAct state.old.node (Act.Router serial act) }
     ensures why { IfErr result
         (λ e. e ≡ (if act_lacks_serials state.old.node (Act.Router serial act) then Refusal.NumbersEnd else Refusal.OutOfMemory)) }
@@ -321,7 +323,7 @@ impl<F: FabricName> NodeCell<F> {
         serial: u64,
         act: RouterAct,
     ) -> Result<Happened, Refusal>
-        requires touch { is_touch act ≡ true }
+        requires touch { is_wordless act ≡ true }
         requires possible { IsPossibleAct self.old.part.state (Act.Router serial act) }
         ensures event { IfOk result (λ h. h ≡ event_of self.old.part.state (Act.Router serial act) Answer.Plain) }
         ensures ok { OnOk result (self.new.part ≡ act_part (Act.Router serial act) Answer.Plain self.old.part) }
@@ -341,7 +343,7 @@ impl<F: FabricName> NodeCell<F> {
         serial: u64,
         act: RouterAct,
     ) -> Result<(), Refusal>
-        requires touch { is_touch act ≡ true }
+        requires touch { is_wordless act ≡ true }
         requires possible { IsPossibleAct self.old.part.state (Act.Router serial act) }
         ensures ok { OnOk result (self.new.part ≡ act_part (Act.Router serial act) Answer.Plain self.old.part) }
         ensures why { IfErr result

@@ -252,6 +252,7 @@ impl<F: FabricName> NodeCell<F> {
     }
 
     /// Posts the first message for a node into its mailbox, which was taken by a probe. It takes no memory.
+    #[inline(always)]
     pub fn mail_post(&mut self, fabric: &Fabric<F>, to: u8)
         requires to { to < F.table.count }
         requires probed { has_number self.old.part.probed to ≡ true }
@@ -275,6 +276,7 @@ impl<F: FabricName> NodeCell<F> {
 
     /// Takes the message of a full mailbox into the hand. It answers false only if the mailbox was found at another value than 1. It
     /// takes no memory.
+    #[inline(always)]
     pub fn mail_look(&mut self, fabric: &Fabric<F>, from: u8) -> bool
         requires from { from < F.table.count }
         requires idle { self.old.part.state.hand ≡ None }
@@ -312,6 +314,7 @@ impl<F: FabricName> NodeCell<F> {
 
     // Handles the message in hand where it stands, if it is an item without ends and moves that has its place here, and tells whether
     // it was one. For such an item there is no source.
+    #[inline(always)]
     fn handle_alone(
         &mut self,
         fabric: &Fabric<F>,

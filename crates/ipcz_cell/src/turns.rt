@@ -6,7 +6,7 @@ ghost use Rattle.ipcz_cell.specs.Turns.{Chooses, FindsFull, CanPost, FindsEmpty}
 ghost use Rattle.ipcz_cell.specs.TurnEnds.{try_event, Acts, Turns};
 ghost use Rattle.ipcz_node.specs.Acts.{are_empty, close_turn, has_mail_for, router_turn, stand_in};
 ghost use Rattle.ipcz_node.specs.Node.{flagged_router, word_side};
-ghost use Rattle.ipcz_cell.specs.Parts.{is_touch_act};
+ghost use Rattle.ipcz_rule.specs.Steps.{is_touch_act};
 
 use crate::cell::NodeCell;
 use crate::fabric::{Fabric, FabricName};

@@ -1,5 +1,5 @@
 //! Hubs: cells that threads share, each behind a lock of its own. There is no other lock.
-ghost use Rattle.std.specs.Prelude.{◌≡◌, ◌⊎◌, ◌≤◌, ◌<◌, true, OnOk, IfOk, IfErr, Err, vec_len, vec_capacity};
+ghost use Rattle.std.specs.Prelude.{◌≡◌, ◌⊎◌, ◌≤◌, ◌<◌, true, false, OnOk, IfOk, IfErr, Err, vec_len, vec_capacity};
 ghost use Rattle.std.specs.Sync.Mutex.{mutex_guard_value};
 ghost use Rattle.ipcz_cell.specs.Ending.{FinishRefuses, is_in_order};
 ghost use Rattle.ipcz_cell.specs.TurnChains.{RunsTurns};
@@ -76,6 +76,32 @@ fn unlock_all<F: FabricName>(
         cells.push_reserved(lock.into_inner());
     }
     cells
+}
+
+// What a hub gives once its cells are out of their locks: the table and the cells, if these are those of all nodes in order, and else a hub
+// of them again.
+fn give_cells<F: FabricName>(
+    fabric: Fabric<F>,
+    cells: Vec<NodeCell<F>>,
+    locks: Vec<Mutex<NodeCell<F>>>,
+    alloc: Global,
+) -> Result<(Fabric<F>, Vec<NodeCell<F>>), (Refusal, Hub<F>)>
+    requires many { vec_len cells ≡ F.table.count }
+    requires room { vec_len cells ≤ vec_capacity locks }
+    requires empty { vec_len locks ≡ 0 }
+    ensures given { IfOk result (λ r. (is_in_order F.table.count 0 cells.items ≡ true) × (r.1.items ≡ cells.items)) }
+    ensures why { IfErr result (λ e. (is_in_order F.table.count 0 cells.items ≡ false) × (e.0 ≡ Refusal.Stranger)) }
+    ensures back { IfErr result (λ e. e.1 ≡ vec_len cells) }
+{
+    if fabric.are_all(cells.as_slice()) {
+        return Ok((fabric, cells));
+    }
+    let hub = Hub {
+        fabric,
+        cells: lock_all(cells, locks),
+        alloc,
+    };
+    Err((Refusal::Stranger, hub))
 }
 
 // Adds a portal for each end that callers of a cell's node hold, by the serial of the end's terminal.
@@ -319,18 +345,6 @@ impl<F: FabricName> Hub<F> {
             cells,
             alloc,
         } = self;
-        let cells = unlock_all(cells, room);
-        if fabric.are_all(cells.as_slice()) {
-            return Ok((fabric, cells));
-        }
-        let cells = lock_all(cells, locks);
-        Err((
-            Refusal::Stranger,
-            Hub {
-                fabric,
-                cells,
-                alloc,
-            },
-        ))
+        give_cells(fabric, unlock_all(cells, room), locks, alloc)
     }
 }

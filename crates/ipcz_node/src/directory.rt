@@ -362,6 +362,7 @@ impl Directory {
     }
 
     // An act that keeps the links of its router: only its flag is to be filed.
+    #[inline(always)]
     fn act_in_place(&mut self, serial: u64, act: RouterAct, answer: Answer) -> Applied
         requires keeps { keeps_links act ≡ true }
         requires possible { IsSomeAnd (get self.old.filed.routers serial) (λ r. may_take r act ≡ true) }
@@ -384,6 +385,7 @@ impl Directory {
     }
 
     // An act that may give links up, or let them decay.
+    #[inline(always)]
     fn act_on_links(&mut self, serial: u64, act: RouterAct, answer: Answer) -> Applied
         requires possible { IsSomeAnd (get self.old.filed.routers serial) (λ r. may_take r act ≡ true) }
         requires answer { IsAnswerOf act answer }

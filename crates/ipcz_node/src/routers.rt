@@ -81,6 +81,7 @@ impl Routers {
     }
 
     /// The router of a serial, to read.
+    #[inline(always)]
     pub fn router(&self, serial: u64) -> Option<&Router>
         ensures { option_map (λ r. r.router) (option_copied result) ≡ get self.now.routers serial }
     {

@@ -1,10 +1,8 @@
 -- Acts of routers as steps on one word: those without another word at the own touch word, and those on the word of a link.
 use Rattle.std.specs.Prelude.{◌≡◌, ◌<◌, ℕ, Bool, true, false, List, [], ◌∷◌, Option, Some, None, refl}
-use Rattle.std.proofs.Common.{ap, ◌∙◌, subst}
+use Rattle.std.proofs.Common.{ap, sym, ◌∙◌, subst}
 use Rattle.ipcz_base.specs.declared.end.End.{End}
-use Rattle.ipcz_base.specs.declared.side.Side.{Side}
 use Rattle.ipcz_base.specs.declared.link_id.LinkId.{LinkId}
-use Rattle.ipcz_word.specs.Word.{Word}
 use Rattle.ipcz_router.specs.Router.{Router, primary_word, source_of}
 use Rattle.ipcz_router.specs.ActTable.{may_take}
 use Rattle.ipcz_router.specs.ActEffects.{apply, leaves_by, output_of}
@@ -30,6 +28,8 @@ use Rattle.ipcz_world.specs.Books.{Books, advance, after_turn}
 use Rattle.ipcz_world.specs.Routes.{Routes, routes_after}
 use Rattle.ipcz_world.specs.Lawful.{Lawful}
 use Rattle.ipcz_world.proofs.frames.Frames.{word-set_node, claimed-set_node}
+use Rattle.ipcz_world.specs.Wordless.{is_wordless}
+use Rattle.ipcz_world.proofs.code.Wordless.{plain-answer, untouched}
 use Rattle.ipcz_rule.specs.declared.view.Part.{Part}
 use Rattle.ipcz_rule.specs.Rule.{Mine, with_part, with_state}
 use Rattle.ipcz_rule.specs.Steps.{CanAct, is_on_word}
@@ -66,43 +66,12 @@ act_hand n serial act a = go (router_in n serial)
     go None = refl
     go (Some r) = send_hand (keep_or_drop n serial (apply r act a) (leaves_by r act)) (output_of r act) ∙ keep_hand n serial (apply r act a) (leaves_by r act)
 
--- acts that touch no other word and write no book
-abbrev pub is_plain_touch : RouterAct → Bool
-is_plain_touch acts.SendOut = true
-is_plain_touch acts.SendIn = true
-is_plain_touch acts.FinishOut = true
-is_plain_touch acts.FinishIn = true
-is_plain_touch acts.Leave = true
-is_plain_touch acts.Begin = true
-is_plain_touch acts.Rest = true
-is_plain_touch other = false
-
-plain_touch : (x : Word) (s : Side) (o : Option ℕ) (act : RouterAct) → is_plain_touch act ≡ true → word_answer x s o act ≡ answers.Plain
-unfolding word_answer
-plain_touch x s o acts.Discard e = cc
-plain_touch x s o acts.Mark e = cc
-plain_touch x s o acts.Wake e = cc
-plain_touch x s o acts.Claim e = cc
-plain_touch x s o acts.Lock e = cc
-plain_touch x s o acts.Retire e = cc
-plain_touch x s o acts.Unlock e = cc
-plain_touch x s o other e = refl
-
-plain_link : (w : World) (s : Side) (o : Option ℕ) (act : RouterAct) (i : Option ℕ) → is_plain_touch act ≡ true → link_answer w s o act i ≡ answers.Plain
-unfolding link_answer
-plain_link w s o act None e = refl
-plain_link w s o act (Some i) e = plain_touch (word_at w i) s o act e
-
-after_touch : (w : World) (n serial : ℕ) (r : Router) (act : RouterAct) → is_plain_touch act ≡ true → after_router_act w n serial act (Some r) ≡ set_node w n (commit (node_at w n) (OfRouter serial act) answers.Plain)
-unfolding after_router_act touch answer_of
-after_touch w n serial r acts.Discard e = cc
-after_touch w n serial r acts.Mark e = cc
-after_touch w n serial r acts.Wake e = cc
-after_touch w n serial r acts.Claim e = cc
-after_touch w n serial r acts.Lock e = cc
-after_touch w n serial r acts.Retire e = cc
-after_touch w n serial r acts.Unlock e = cc
-after_touch w n serial r other e = ap (λ a. set_node w n (commit (node_at w n) (OfRouter serial other) a)) (plain_link w r.end.side (source_of r) other (primary_word r) e)
+-- an act that asks nothing of a link word changes its node alone
+after_touch : (w : World) (n serial : ℕ) (r : Router) (act : RouterAct) → is_wordless act ≡ true → after_router_act w n serial act (Some r) ≡ set_node w n (commit (node_at w n) (OfRouter serial act) answers.Plain)
+unfolding after_router_act
+after_touch w n serial r act e =
+    ap (λ u. set_node u n (commit (node_at w n) (OfRouter serial act) (answer_of w r act))) (sym (untouched w r act e)) ∙
+    ap (λ a. set_node w n (commit (node_at w n) (OfRouter serial act) a)) (plain-answer w r act e)
 
 touch_is : (w : World) (r : Router) (act : RouterAct) → is_on_word act ≡ true → touch w r act ≡ touch_word w r.end.side (source_of r) act (primary_word r)
 unfolding touch
@@ -203,11 +172,6 @@ act_after w b g n serial x r act lawful inside is can e =
     subst (λ (u : World). After w b g n (OfRouter serial act) u b (act_routes w g n serial act)) (after_is w n serial r act there)
     (subst (λ (c : Books). After w b g n (OfRouter serial act) (after_act w n (OfRouter serial act)) c (act_routes w g n serial act)) (quiet_turn w b n serial r act there e) kept)
 
-pub unwritten_touch : (act : RouterAct) → is_plain_touch act ≡ true → is_unwritten act ≡ true
-unwritten_touch acts.Discard e = cc
-unwritten_touch acts.Retire e = cc
-unwritten_touch other e = refl
-
 pub unwritten_word : (act : RouterAct) → is_on_word act ≡ true → is_unwritten act ≡ true
 unwritten_word acts.Discard e = cc
 unwritten_word acts.Retire e = cc
@@ -217,10 +181,10 @@ unwritten_word other e = refl
 abbrev pub plain_part : ℕ → RouterAct → Answer → Part → Part
 plain_part serial act a p = with_state (commit p.state (OfRouter serial act) a) p
 
--- send, finish, leave, begin and rest, as a touch
-pub acts_touch : (count size slots id i : ℕ) (m : Mine) (p : Part) (serial : ℕ) (rt : Router) (act : RouterAct) → m.0.parts ≡ p ∷ [] → CanAct p.state serial rt act → is_plain_touch act ≡ true →
+-- acts that ask nothing of a link word and write no book, as a touch
+pub acts_touch : (count size slots id i : ℕ) (m : Mine) (p : Part) (serial : ℕ) (rt : Router) (act : RouterAct) → m.0.parts ≡ p ∷ [] → CanAct p.state serial rt act → is_wordless act ≡ true → is_unwritten act ≡ true →
     IsTurns count size slots id m i (λ n. n) (λ n. (p.node, OfRouter serial act) ∷ []) (λ n m'. m' ≡ (with_part (plain_part serial act answers.Plain p) m.0, m.1))
-acts_touch count size slots id i m p serial rt act is can e =
+acts_touch count size slots id i m p serial rt act is can e unwritten =
     let p' = plain_part serial act answers.Plain p in
     let v' = with_part p' m.0 in
     touches_turn count size slots id i m p p' v' (OfRouter serial act) is refl refl (record { node = refl; hand = act_hand p.state serial act answers.Plain; message = refl; probed = refl })
@@ -229,7 +193,7 @@ acts_touch count size slots id i m p serial rt act is can e =
     let n : ℕ = p.node in
     let Kept : World → Type 0 = λ u. After w r.books r.routes n (OfRouter serial act) u r.books (act_routes w r.routes n serial act) in
     let kept = subst Kept (after_touch w n serial rt act e)
-    (act_after w r.books r.routes n serial p.state rt act r.lawful inside state can (unwritten_touch act e)) in
+    (act_after w r.books r.routes n serial p.state rt act r.lawful inside state can unwritten) in
     let done : Kept (set_node w n p'.state) = subst (λ (y : Node). Kept (set_node w n (commit y (OfRouter serial act) answers.Plain))) state kept in
     record {
       world = set_node w n p'.state;

@@ -25,10 +25,10 @@ use Rattle.ipcz_world.proofs.frames.Frames.{word-set_node, claimed-set_node}
 use Rattle.ipcz_world.proofs.Whole.{terminals_keep_books}
 use Rattle.ipcz_rule.specs.declared.view.Part.{Part}
 use Rattle.ipcz_rule.specs.Rule.{Mine, with_part, with_state}
-use Rattle.ipcz_rule.specs.Steps.{CanAct, is_touch, act_part, add_gone_entry}
+use Rattle.ipcz_rule.specs.Steps.{CanAct, act_part, add_gone_entry}
 use Rattle.ipcz_rule.specs.Kinds.{KeepsRule, IsTurns, Touches}
 use Rattle.ipcz_rule.proofs.Touching.{touches_turn, set_moves, After, turn_after}
-use Rattle.ipcz_rule.proofs.Acting.{is_plain_touch, is_unwritten, plain_part, unwritten_touch, acts_touch, act_routes, act_hand, here_at, possible, lacks, after_is}
+use Rattle.ipcz_rule.proofs.Acting.{is_unwritten, plain_part, acts_touch, act_routes, act_hand, here_at, possible, lacks, after_is}
 use Rattle.ipcz_rule.proofs.Adding.{joined_gone}
 use Rattle.ipcz_rule.proofs.Retiring.{both_first, either_false, retires, retired_part_is}
 
@@ -103,16 +103,11 @@ pub dropped_part_is : (serial : ℕ) (p : Part) (r : Router) → router_in p.sta
     add_gone_entry r.end r.in_queue.current (plain_part serial acts.Discard answers.Plain p) ≡ act_part (OfRouter serial acts.Discard) answers.Plain p
 dropped_part_is serial p r there = rw there refl
 
--- a touch writes no book, or is a discard, or a retire
-touch_writes : (act : RouterAct) → is_touch act ≡ true → (is_plain_touch act ≡ true) ⊎ ((act ≡ acts.Discard) ⊎ (act ≡ acts.Retire))
-touch_writes acts.Discard e = inr (inl refl)
-touch_writes acts.Mark e = cc
-touch_writes acts.Wake e = cc
-touch_writes acts.Claim e = cc
-touch_writes acts.Lock e = cc
-touch_writes acts.Retire e = inr (inr refl)
-touch_writes acts.Unlock e = cc
-touch_writes other e = inl refl
+-- an act writes no book, or is a discard, or a retire
+writes : (act : RouterAct) → (is_unwritten act ≡ true) ⊎ ((act ≡ acts.Discard) ⊎ (act ≡ acts.Retire))
+writes acts.Discard = inr (inl refl)
+writes acts.Retire = inr (inr refl)
+writes other = inl refl
 
 -- what a touch is and leaves of the seat, if its part is this
 abbrev Touch : ℕ → ℕ → ℕ → ℕ → ℕ → Mine → ℕ → Act → Part → Type 0
@@ -132,8 +127,8 @@ retire_acts count size slots id i m p serial rt is can =
 
 -- the acts of routers that are touches
 pub touches_acts_turns : Touches IsTurns
-touches_acts_turns count size slots id i m p serial rt act is can e = elim (touch_writes act e) [
-  | inl plain ↦ subst (Touch count size slots id i m p.node (OfRouter serial act)) (sym (part_is serial act answers.Plain p (unwritten_touch act plain))) (acts_touch count size slots id i m p serial rt act is can plain)
+touches_acts_turns count size slots id i m p serial rt act is can e = elim (writes act) [
+  | inl plain ↦ subst (Touch count size slots id i m p.node (OfRouter serial act)) (sym (part_is serial act answers.Plain p plain)) (acts_touch count size slots id i m p serial rt act is can e plain)
   | inr (inl same) ↦ subst (Acted count size slots id i m p serial) (sym same) (discard_acts count size slots id i m p serial rt is (subst (CanAct p.state serial rt) same can))
   | inr (inr same) ↦ subst (Acted count size slots id i m p serial) (sym same) (retire_acts count size slots id i m p serial rt is (subst (CanAct p.state serial rt) same can))
 ]

@@ -29,8 +29,9 @@ use Rattle.ipcz_world.specs.WordAnswers.{word_after}
 use Rattle.ipcz_rule.specs.declared.view.View.{View}
 use Rattle.ipcz_rule.specs.declared.view.Part.{Part}
 use Rattle.ipcz_world.specs.Ranks.{AreTurns}
+use Rattle.ipcz_world.specs.Wordless.{is_wordless}
 use Rattle.ipcz_rule.specs.Rule.{Slot, St, Mine, Rules, has_number, with_part, saw}
-use Rattle.ipcz_rule.specs.Steps.{put_part, get_part, close_part, claimed_part, open_part, act_part, acted_view, CanAct, is_touch}
+use Rattle.ipcz_rule.specs.Steps.{put_part, get_part, close_part, claimed_part, open_part, act_part, acted_view, CanAct}
 use Rattle.ipcz_rule.specs.Steps.{is_touch_act}
 use Rattle.ipcz_rule.specs.Steps.{probe_part, unprobe_part, post_part, look_part, old_word, trusted, hand_part}
 
@@ -91,7 +92,7 @@ PendingCloses F = (count size slots id i : ℕ) (m : Mine) (p : Part) (e : End) 
 -- touch, of an act of a router: send, discard, finish, leave, begin, retire, rest
 abbrev pub Touches : Form → Type 0
 Touches F = (count size slots id i : ℕ) (m : Mine) (p : Part) (serial : ℕ) (r : Router) (act : RouterAct) → m.0.parts ≡ p ∷ [] →
-    CanAct p.state serial r act → is_touch act ≡ true →
+    CanAct p.state serial r act → is_wordless act ≡ true →
     F count size slots id m i (λ n. n) (λ n. (p.node, acts.Router serial act) ∷ []) (λ n m'. m' ≡
     (with_part (act_part (acts.Router serial act) answers.Plain p) m.0, m.1))
 

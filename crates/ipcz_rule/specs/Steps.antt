@@ -22,6 +22,7 @@ use Rattle.ipcz_router.specs.Calls.{next_number}
 use Rattle.ipcz_node.specs.Calls.{put_node, put_number, get_node, close_node, open_node}
 use Rattle.ipcz_node.specs.Hands.{deliver}
 use Rattle.ipcz_world.specs.WordAnswers.{word_answer}
+use Rattle.ipcz_world.specs.Wordless.{is_wordless}
 use Rattle.ipcz_rule.specs.declared.view.View.{View}
 use Rattle.ipcz_rule.specs.declared.view.Part.{Part}
 use Rattle.ipcz_rule.specs.Rule.{with_part, with_state, saw, without_number}
@@ -117,27 +118,11 @@ pub record CanAct (x : Node) (serial : ℕ) (r : Router) (act : RouterAct) : Typ
   pub may : may_take r act ≡ true
   pub serials : act_lacks_serials x (acts.Router serial act) ≡ false
 
--- acts that a touch does: they touch no word but their node's own
-abbrev pub is_touch : RouterAct → Bool
-is_touch router_acts.SendOut = true
-is_touch router_acts.SendIn = true
-is_touch router_acts.Discard = true
-is_touch router_acts.FinishOut = true
-is_touch router_acts.FinishIn = true
-is_touch router_acts.Leave = true
-is_touch router_acts.Begin = true
-is_touch router_acts.Retire = true
-is_touch router_acts.Rest = true
-is_touch other = false
-
--- acts of a node that are touches
+-- acts of a node that a touch does: a close, and what a router does without asking anything of a link word
 abbrev pub is_touch_act : Act → Bool
-is_touch_act (acts.Hand from) = false
-is_touch_act (acts.Look from) = false
-is_touch_act (acts.Post to) = false
+is_touch_act (acts.Router serial act) = is_wordless act
 is_touch_act (acts.Close e) = true
-is_touch_act (acts.Router serial act) = is_touch act
-is_touch_act acts.Idle = false
+is_touch_act other = false
 
 -- acts on the word of the outward primary link
 abbrev pub is_on_word : RouterAct → Bool

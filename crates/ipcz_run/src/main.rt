@@ -4,8 +4,6 @@
 pub mod program;
 #[cfg(test)]
 mod slow_devices;
-#[cfg(test)]
-mod tests;
 
 use ipcz_base::Device;
 use program::{asked_for, run_program};

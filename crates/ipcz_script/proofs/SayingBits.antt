@@ -15,7 +15,7 @@ use Rattle.ipcz_world.specs.Books.{is_closed, is_retired}
 use Rattle.ipcz_world.specs.Holding.{shown_words}
 use Rattle.ipcz_world.specs.Lawful.{IsWithinLimits}
 use Rattle.ipcz_world.proofs.facts.LinkTests.{opposite_end-twice}
-use Rattle.ipcz_world.proofs.runs.WordSources.{NameNodes, named-reached, named-small}
+use Rattle.ipcz_world.proofs.code.WordSources.{NameNodes, named-reached, named-small}
 use Rattle.ipcz_script.specs.declared.command.Command.{Command}
 use Rattle.ipcz_script.specs.declared.command.Command.TheVariants as commands
 use Rattle.ipcz_script.specs.declared.said.Said.{Said}

@@ -13,6 +13,7 @@ use std::alloc::AllocFailed;
 use std::collections::VecDeque;
 
 // Where a pair with the number stands, or else where one would go.
+#[inline(always)]
 pub(crate) fn place_of<T>(pairs: &VecDeque<(u64, T)>, n: u64) -> Result<usize, usize>
     requires { AreWaiting 0 pairs.now.items }
     ensures place { MatchResult result (λ _. IsSome (find nat_cmp n pairs.now.items)) (IsPlaceFor n pairs.now.items) }

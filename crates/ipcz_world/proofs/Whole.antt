@@ -42,7 +42,7 @@ use Rattle.ipcz_world.proofs.owed.Remembering.{remembered}
 use Rattle.ipcz_world.proofs.owed.GoneReading.{unread-step, claim_for_open_router}
 use Rattle.ipcz_world.proofs.lawful.OwedLaws as owed
 use Rattle.ipcz_world.proofs.lawful.LengthLaws.{length_law}
-use Rattle.ipcz_world.proofs.lawful.StrayLaws.{stray_law}
+use Rattle.ipcz_world.proofs.views.StrayLaws.{stray_law}
 use Rattle.ipcz_world.specs.Laws.{EndLaw}
 use Rattle.ipcz_world.proofs.lawful.FittingHands.{hands_fit}
 use Rattle.ipcz_world.proofs.lawful.EndLaws.{end_law}

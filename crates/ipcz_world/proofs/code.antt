@@ -4,6 +4,7 @@ pub mod Carrying
 pub mod CarryingWithin
 pub mod FirstTurns
 pub mod Kept
+pub mod LoneFinds
 pub mod LoneSenders
 pub mod LoneWorlds
 pub mod Marks
@@ -19,4 +20,5 @@ pub mod Taken
 pub mod Tallying
 pub mod Visiting
 pub mod WordNumbers
+pub mod WordSources
 pub mod Wordless

@@ -1,7 +1,6 @@
 -- Small facts: what tests of links and sides tell, lengths, queues, and routers that are found in a node.
 pub mod Drained
 pub mod Lost
-pub mod BegunLengths
 pub mod Finding
 pub mod Lengths
 pub mod LinkTests

@@ -1,10 +1,12 @@
 -- Frames: what is read of a world after a change, and one lemma for each group of the invariant over each relation between a world and the
 -- next.
+pub mod BegunLengths
 pub mod Calling
 pub mod Changing
 pub mod Counting
 pub mod Departing
 pub mod Draining
+pub mod EachKept
 pub mod Ended
 pub mod Filling
 pub mod FillingNumbers
@@ -23,6 +25,7 @@ pub mod OneChange
 pub mod OneRouter
 pub mod Opened
 pub mod Owners
+pub mod PositionsKept
 pub mod RecordRules
 pub mod Sealing
 pub mod StageFurther
@@ -33,4 +36,5 @@ pub mod Touching
 pub mod Unmoved
 pub mod LeftOff
 pub mod LeftRecords
+pub mod LinksKept
 pub mod LiveLinks

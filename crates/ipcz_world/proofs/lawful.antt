@@ -14,5 +14,4 @@ pub mod QuietDirect
 pub mod QuietGets
 pub mod QuietRoutes
 pub mod Soundness
-pub mod StrayLaws
 pub mod WordLaws

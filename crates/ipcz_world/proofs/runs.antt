@@ -15,4 +15,3 @@ pub mod Running
 pub mod Starting
 pub mod StartingPairs
 pub mod TurnReplies
-pub mod WordSources

@@ -3,6 +3,7 @@ pub mod Booking
 pub mod Holding
 pub mod OfRecords
 pub mod Placing
+pub mod Sourcing
 pub mod Sums
 pub mod Totalling
 pub mod Weighing

@@ -3,6 +3,7 @@ pub mod Books
 pub mod Bypasses
 pub mod Carrying
 pub mod Coding
+pub mod Each
 pub mod FirstRuns
 pub mod Flows
 pub mod Holding

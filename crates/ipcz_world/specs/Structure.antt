@@ -15,6 +15,7 @@ use Rattle.ipcz_router.specs.Router.{Router, is_proxy, is_terminal, inward_edge,
 use Rattle.ipcz_router.specs.ActTable.{is_done}
 use Rattle.ipcz_world.specs.World.{World, Key, node_at, word_at, mail_at, way, router_at}
 use Rattle.ipcz_world.specs.Turns.{hand_message}
+use Rattle.ipcz_world.specs.Each.{EachRouter}
 use Rattle.ipcz_world.specs.Records.{Records, Spare, Opening, Fresh, is_linked, is_unclaimed, is_begun, is_recorded, inner_link, side_node}
 use Rattle.ipcz_world.specs.Records.{is_left, side_router, side_end, bypass_of, proxy_side, across_side, known_from}
 use Rattle.ipcz_world.specs.Standing.{key_passes, has_primary, has_inward_primary, spare_of}
@@ -35,12 +36,13 @@ pub record Counts (w : World) (g : Records) : Type 0 where
   pub in_hand : (n from : ℕ) → n < w.count → from < w.count → is_some (hand_message (mail_at w (way w from n))) ≡ true →
       (node_at w n).hand ≡ Some from
 
--- no queue has an item below its current number
-pub record Ordered (w : World) : Type 0 where
-  pub out : (k : Key) (r : Router) (n : ℕ) (item : Item) → router_at w k ≡ Some r → item_at r.out_queue n ≡ Some item →
-      r.out_queue.current ≤ n
-  pub inn : (k : Key) (r : Router) (n : ℕ) (item : Item) → router_at w k ≡ Some r → item_at r.in_queue n ≡ Some item →
-      r.in_queue.current ≤ n
+-- no queue of a router has an item below its current number
+pub record IsOrdered (r : Router) : Type 0 where
+  pub out : (n : ℕ) (item : Item) → item_at r.out_queue n ≡ Some item → r.out_queue.current ≤ n
+  pub inn : (n : ℕ) (item : Item) → item_at r.in_queue n ≡ Some item → r.in_queue.current ≤ n
+
+abbrev pub Ordered : World → Type 0
+Ordered w = EachRouter w (λ k r. IsOrdered r)
 
 -- whether a router is a proxy that has begun its bypass
 abbrev pub is_begun_router : Router → Bool
@@ -54,19 +56,22 @@ has_role r =
     else is_none r.outward.primary
 
 -- what a router's links and flags have to do with each other
-pub record Shape (w : World) : Type 0 where
-  pub role : (k : Key) (r : Router) → router_at w k ≡ Some r → has_role r ≡ true
-  pub marked_central : (k : Key) (r : Router) → router_at w k ≡ Some r → r.marked ≡ true → is_on_central r ≡ true
-  pub marked_still : (k : Key) (r : Router) → router_at w k ≡ Some r → r.marked ≡ true → decays r ≡ false
-  pub holds_marked : (k : Key) (r : Router) → router_at w k ≡ Some r → r.holds ≡ true → r.marked ≡ true
+pub record HasShape (r : Router) : Type 0 where
+  pub role : has_role r ≡ true
+  pub marked_central : r.marked ≡ true → is_on_central r ≡ true
+  pub marked_still : r.marked ≡ true → decays r ≡ false
+  pub holds_marked : r.holds ≡ true → r.marked ≡ true
   -- who holds a lock is a proxy with a spare, or a sink that is done
-  pub holds_fit : (k : Key) (r : Router) → router_at w k ≡ Some r → r.holds ≡ true → (is_proxy r || is_done r) ≡ true
-  pub holds_spare : (k : Key) (r : Router) → router_at w k ≡ Some r → r.holds ≡ true → is_proxy r ≡ true → is_some r.spare ≡ true
+  pub holds_fit : r.holds ≡ true → (is_proxy r || is_done r) ≡ true
+  pub holds_spare : r.holds ≡ true → is_proxy r ≡ true → is_some r.spare ≡ true
   -- only a sink has dropped the mark, and only a proxy that hasn't begun has sent Gone inward
-  pub dropped_sink : (k : Key) (r : Router) → router_at w k ≡ Some r → r.mark_dropped ≡ true → is_sink r ≡ true
-  pub sent_proxy : (k : Key) (r : Router) → router_at w k ≡ Some r → r.gone_sent ≡ true → is_some (inward_edge r).primary ≡ true
-  pub spare_proxy : (k : Key) (r : Router) (i : ℕ) → router_at w k ≡ Some r → r.spare ≡ Some i → is_proxy r ≡ true
-  pub spare_primary : (k : Key) (r : Router) (i : ℕ) → router_at w k ≡ Some r → r.spare ≡ Some i → is_some r.outward.primary ≡ true
+  pub dropped_sink : r.mark_dropped ≡ true → is_sink r ≡ true
+  pub sent_proxy : r.gone_sent ≡ true → is_some (inward_edge r).primary ≡ true
+  pub spare_proxy : (i : ℕ) → r.spare ≡ Some i → is_proxy r ≡ true
+  pub spare_primary : (i : ℕ) → r.spare ≡ Some i → is_some r.outward.primary ≡ true
+
+abbrev pub Shape : World → Type 0
+Shape w = EachRouter w (λ k r. HasShape r)
 
 -- a link end of a router is as the link's record says
 pub record IsRecorded (w : World) (g : Records) (k : Key) (r : Router) (e : LinkEnd) : Type 0 where
@@ -81,85 +86,73 @@ is_outward (Central i) s = true
 is_outward (Peripheral n x) s = same_side s B
 
 -- every link of a router is as its record says: central ones outward, of a peripheral one side A inward and side B outward
-pub record Links (w : World) (g : Records) : Type 0 where
-  pub primary : (k : Key) (r : Router) (e : LinkEnd) → router_at w k ≡ Some r → r.outward.primary ≡ Some e → IsRecorded w g k r e
-  pub decaying : (k : Key) (r : Router) (e : LinkEnd) → router_at w k ≡ Some r → r.outward.decaying ≡ Some e → IsRecorded w g k r e
-  pub inward_primary : (k : Key) (r : Router) (e : LinkEnd) → router_at w k ≡ Some r → (inward_edge r).primary ≡ Some e →
-      IsRecorded w g k r e
-  pub inward_decaying : (k : Key) (r : Router) (e : LinkEnd) → router_at w k ≡ Some r → (inward_edge r).decaying ≡ Some e →
-      IsRecorded w g k r e
-  pub primary_outward : (k : Key) (r : Router) (e : LinkEnd) → router_at w k ≡ Some r → r.outward.primary ≡ Some e →
-      is_outward e.link e.side ≡ true
-  pub decaying_outward : (k : Key) (r : Router) (e : LinkEnd) → router_at w k ≡ Some r → r.outward.decaying ≡ Some e →
-      is_outward e.link e.side ≡ true
-  pub inward_primary_inward : (k : Key) (r : Router) (e : LinkEnd) → router_at w k ≡ Some r → (inward_edge r).primary ≡ Some e →
-      is_outward e.link e.side ≡ false
-  pub inward_decaying_inward : (k : Key) (r : Router) (e : LinkEnd) → router_at w k ≡ Some r → (inward_edge r).decaying ≡ Some e →
-      is_outward e.link e.side ≡ false
+pub record HasLinks (w : World) (g : Records) (k : Key) (r : Router) : Type 0 where
+  pub primary : (e : LinkEnd) → r.outward.primary ≡ Some e → IsRecorded w g k r e
+  pub decaying : (e : LinkEnd) → r.outward.decaying ≡ Some e → IsRecorded w g k r e
+  pub inward_primary : (e : LinkEnd) → (inward_edge r).primary ≡ Some e → IsRecorded w g k r e
+  pub inward_decaying : (e : LinkEnd) → (inward_edge r).decaying ≡ Some e → IsRecorded w g k r e
+  pub primary_outward : (e : LinkEnd) → r.outward.primary ≡ Some e → is_outward e.link e.side ≡ true
+  pub decaying_outward : (e : LinkEnd) → r.outward.decaying ≡ Some e → is_outward e.link e.side ≡ true
+  pub inward_primary_inward : (e : LinkEnd) → (inward_edge r).primary ≡ Some e → is_outward e.link e.side ≡ false
+  pub inward_decaying_inward : (e : LinkEnd) → (inward_edge r).decaying ≡ Some e → is_outward e.link e.side ≡ false
+
+abbrev pub Links : World → Records → Type 0
+Links w g = EachRouter w (HasLinks w g)
 
 -- the link of a link end, if there is one
 abbrev pub link_in : Option LinkEnd → Option LinkId
 link_in e = option_map (λ x. x.link) e
 
--- a link is primary or decaying as its bypass says, with the lengths that its stage tells
-pub record Positions (w : World) (g : Records) : Type 0 where
-  pub inward_primary : (k : Key) (r : Router) (e : LinkEnd) → router_at w k ≡ Some r → (inward_edge r).primary ≡ Some e →
-      bypass_of g e.link ≡ None
-  pub inward_decaying : (k : Key) (r : Router) (e : LinkEnd) → router_at w k ≡ Some r → (inward_edge r).decaying ≡ Some e →
-      bypass_of g e.link ≡ g.begun k
-  pub inward_to : (k : Key) (r : Router) (e : LinkEnd) (o : ℕ) → router_at w k ≡ Some r → (inward_edge r).decaying ≡ Some e →
-      g.begun k ≡ Some o →
+-- a router's link is primary or decaying as its bypass says, with the lengths that its stage tells
+pub record HasPositions (g : Records) (k : Key) (r : Router) : Type 0 where
+  pub inward_primary : (e : LinkEnd) → (inward_edge r).primary ≡ Some e → bypass_of g e.link ≡ None
+  pub inward_decaying : (e : LinkEnd) → (inward_edge r).decaying ≡ Some e → bypass_of g e.link ≡ g.begun k
+  pub inward_to : (e : LinkEnd) (o : ℕ) → (inward_edge r).decaying ≡ Some e → g.begun k ≡ Some o →
       (inward_edge r).length_to ≡ known_from 4 (g.bypass o).stage (g.bypass o).accepted_at
-  pub inward_from : (k : Key) (r : Router) (e : LinkEnd) (o : ℕ) → router_at w k ≡ Some r → (inward_edge r).decaying ≡ Some e →
-      g.begun k ≡ Some o →
+  pub inward_from : (e : LinkEnd) (o : ℕ) → (inward_edge r).decaying ≡ Some e → g.begun k ≡ Some o →
       (inward_edge r).length_from ≡ known_from 4 (g.bypass o).stage (g.bypass o).taken_at
   -- an outward primary link that is being bypassed: the old one at the router across before it accepts, the inner one before it is taken
-  pub primary_old : (k : Key) (r : Router) (e : LinkEnd) (o : ℕ) → router_at w k ≡ Some r → r.outward.primary ≡ Some e →
-      e.link ≡ Central o → is_begun (g.bypass o) ≡ true → (g.bypass o).stage ≤ 2
-  pub primary_across : (k : Key) (r : Router) (e : LinkEnd) (o : ℕ) → router_at w k ≡ Some r → r.outward.primary ≡ Some e →
-      e.link ≡ Central o → is_begun (g.bypass o) ≡ true → e.side ≡ across_side g o
-  pub primary_inner : (k : Key) (r : Router) (e : LinkEnd) (p : Key) (o : ℕ) → router_at w k ≡ Some r → r.outward.primary ≡ Some e →
-      e.link ≡ inner_link p → (g.peripheral p).by ≡ Some o → (g.bypass o).stage ≡ 1
+  pub primary_old : (e : LinkEnd) (o : ℕ) → r.outward.primary ≡ Some e → e.link ≡ Central o → is_begun (g.bypass o) ≡ true →
+      (g.bypass o).stage ≤ 2
+  pub primary_across : (e : LinkEnd) (o : ℕ) → r.outward.primary ≡ Some e → e.link ≡ Central o → is_begun (g.bypass o) ≡ true →
+      e.side ≡ across_side g o
+  pub primary_inner : (e : LinkEnd) (p : Key) (o : ℕ) → r.outward.primary ≡ Some e → e.link ≡ inner_link p →
+      (g.peripheral p).by ≡ Some o → (g.bypass o).stage ≡ 1
   -- an outward decaying link is being bypassed
-  pub decaying : (k : Key) (r : Router) (e : LinkEnd) → router_at w k ≡ Some r → r.outward.decaying ≡ Some e →
-      is_some (bypass_of g e.link) ≡ true
+  pub decaying : (e : LinkEnd) → r.outward.decaying ≡ Some e → is_some (bypass_of g e.link) ≡ true
   -- the inner one, at the router that has taken the fresh link
-  pub inner_stage : (k : Key) (r : Router) (e : LinkEnd) (p : Key) (o : ℕ) → router_at w k ≡ Some r → r.outward.decaying ≡ Some e →
-      e.link ≡ inner_link p → (g.peripheral p).by ≡ Some o → 2 ≤ (g.bypass o).stage
-  pub inner_to : (k : Key) (r : Router) (e : LinkEnd) (p : Key) (o : ℕ) → router_at w k ≡ Some r → r.outward.decaying ≡ Some e →
-      e.link ≡ inner_link p → (g.peripheral p).by ≡ Some o →
+  pub inner_stage : (e : LinkEnd) (p : Key) (o : ℕ) → r.outward.decaying ≡ Some e → e.link ≡ inner_link p → (g.peripheral p).by ≡ Some o →
+      2 ≤ (g.bypass o).stage
+  pub inner_to : (e : LinkEnd) (p : Key) (o : ℕ) → r.outward.decaying ≡ Some e → e.link ≡ inner_link p → (g.peripheral p).by ≡ Some o →
       r.outward.length_to ≡ Some (g.bypass o).taken_at
-  pub inner_from : (k : Key) (r : Router) (e : LinkEnd) (p : Key) (o : ℕ) → router_at w k ≡ Some r → r.outward.decaying ≡ Some e →
-      e.link ≡ inner_link p → (g.peripheral p).by ≡ Some o →
+  pub inner_from : (e : LinkEnd) (p : Key) (o : ℕ) → r.outward.decaying ≡ Some e → e.link ≡ inner_link p → (g.peripheral p).by ≡ Some o →
       r.outward.length_from ≡ known_from 5 (g.bypass o).stage (g.bypass o).accepted_at
-  pub inner_fresh : (k : Key) (r : Router) (e : LinkEnd) (p : Key) (o : ℕ) → router_at w k ≡ Some r → r.outward.decaying ≡ Some e →
-      e.link ≡ inner_link p → (g.peripheral p).by ≡ Some o →
+  pub inner_fresh : (e : LinkEnd) (p : Key) (o : ℕ) → r.outward.decaying ≡ Some e → e.link ≡ inner_link p → (g.peripheral p).by ≡ Some o →
       link_in r.outward.primary ≡ Some (Central (g.bypass o).fresh)
   -- the old one, at the proxy
-  pub own_proxy : (k : Key) (r : Router) (e : LinkEnd) (o : ℕ) → router_at w k ≡ Some r → r.outward.decaying ≡ Some e → e.link ≡ Central o →
-      e.side ≡ proxy_side g o → (g.bypass o).proxy ≡ k
-  pub own_alone : (k : Key) (r : Router) (e : LinkEnd) (o : ℕ) → router_at w k ≡ Some r → r.outward.decaying ≡ Some e → e.link ≡ Central o →
-      e.side ≡ proxy_side g o → r.outward.primary ≡ None
-  pub own_to : (k : Key) (r : Router) (e : LinkEnd) (o : ℕ) → router_at w k ≡ Some r → r.outward.decaying ≡ Some e → e.link ≡ Central o →
-      e.side ≡ proxy_side g o →
+  pub own_proxy : (e : LinkEnd) (o : ℕ) → r.outward.decaying ≡ Some e → e.link ≡ Central o → e.side ≡ proxy_side g o →
+      (g.bypass o).proxy ≡ k
+  pub own_alone : (e : LinkEnd) (o : ℕ) → r.outward.decaying ≡ Some e → e.link ≡ Central o → e.side ≡ proxy_side g o →
+      r.outward.primary ≡ None
+  pub own_to : (e : LinkEnd) (o : ℕ) → r.outward.decaying ≡ Some e → e.link ≡ Central o → e.side ≡ proxy_side g o →
       r.outward.length_to ≡ known_from 4 (g.bypass o).stage (g.bypass o).taken_at
-  pub own_from : (k : Key) (r : Router) (e : LinkEnd) (o : ℕ) → router_at w k ≡ Some r → r.outward.decaying ≡ Some e → e.link ≡ Central o →
-      e.side ≡ proxy_side g o →
+  pub own_from : (e : LinkEnd) (o : ℕ) → r.outward.decaying ≡ Some e → e.link ≡ Central o → e.side ≡ proxy_side g o →
       r.outward.length_from ≡ known_from 4 (g.bypass o).stage (g.bypass o).accepted_at
   -- the old one, at the router across
-  pub across_stage : (k : Key) (r : Router) (e : LinkEnd) (o : ℕ) → router_at w k ≡ Some r → r.outward.decaying ≡ Some e →
-      e.link ≡ Central o → e.side ≡ across_side g o → 3 ≤ (g.bypass o).stage
-  pub across_to : (k : Key) (r : Router) (e : LinkEnd) (o : ℕ) → router_at w k ≡ Some r → r.outward.decaying ≡ Some e → e.link ≡ Central o →
-      e.side ≡ across_side g o →
+  pub across_stage : (e : LinkEnd) (o : ℕ) → r.outward.decaying ≡ Some e → e.link ≡ Central o → e.side ≡ across_side g o →
+      3 ≤ (g.bypass o).stage
+  pub across_to : (e : LinkEnd) (o : ℕ) → r.outward.decaying ≡ Some e → e.link ≡ Central o → e.side ≡ across_side g o →
       r.outward.length_to ≡ Some (g.bypass o).accepted_at
-  pub across_from : (k : Key) (r : Router) (e : LinkEnd) (o : ℕ) → router_at w k ≡ Some r → r.outward.decaying ≡ Some e →
-      e.link ≡ Central o → e.side ≡ across_side g o →
+  pub across_from : (e : LinkEnd) (o : ℕ) → r.outward.decaying ≡ Some e → e.link ≡ Central o → e.side ≡ across_side g o →
       r.outward.length_from ≡ Some (g.bypass o).taken_at
-  pub across_fresh : (k : Key) (r : Router) (e : LinkEnd) (o : ℕ) → router_at w k ≡ Some r → r.outward.decaying ≡ Some e →
-      e.link ≡ Central o → e.side ≡ across_side g o →
+  pub across_fresh : (e : LinkEnd) (o : ℕ) → r.outward.decaying ≡ Some e → e.link ≡ Central o → e.side ≡ across_side g o →
       link_in r.outward.primary ≡ Some (Central (g.bypass o).fresh)
-  -- a router that has begun is the proxy of its bypass, and back
-  pub begun : (k : Key) (r : Router) → router_at w k ≡ Some r → is_begun_router r ≡ true → is_some (g.begun k) ≡ true
+  -- a router that has begun has a bypass
+  pub begun : is_begun_router r ≡ true → is_some (g.begun k) ≡ true
+
+-- the links of all routers stand so, and who has begun is the proxy of its bypass, and back
+pub record Positions (w : World) (g : Records) : Type 0 where
+  pub each : EachRouter w (HasPositions g)
   pub begun_proxy : (k : Key) (o : ℕ) → g.begun k ≡ Some o → (g.bypass o).proxy ≡ k
   pub begun_stage : (k : Key) (o : ℕ) → g.begun k ≡ Some o → is_begun (g.bypass o) ≡ true
   pub proxy_begun : (o : ℕ) → is_begun (g.bypass o) ≡ true → g.begun (g.bypass o).proxy ≡ Some o

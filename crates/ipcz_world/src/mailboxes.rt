@@ -74,7 +74,8 @@ impl Mailboxes {
     /// Whether any mailbox is full.
     #[inline(always)]
     pub(crate) fn has_full(&self) -> bool
-        ensures { result ≡ false → (k : ℕ) → is_full (place_at Mail.Empty self.now k) ≡ false }
+        ensures none { result ≡ false → (k : ℕ) → is_full (place_at Mail.Empty self.now k) ≡ false }
+        ensures some { result ≡ true → (k : ℕ) × (is_full (place_at Mail.Empty self.now k) ≡ true) }
     {
         self.full > 0
     }

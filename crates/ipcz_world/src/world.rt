@@ -1,6 +1,7 @@
 ghost use Rattle.std.specs.Prelude.{◌≡◌, ◌<◌, ◌≤◌, IfOk, IfErr, IfSome, OnErr, OnOk, map};
 ghost use Rattle.ipcz_word.specs.Layout.{word_of_bits};
 ghost use Rattle.ipcz_world.specs.Books.{Books, advance, no_books};
+ghost use Rattle.ipcz_world.specs.Carrying.{Carries};
 ghost use Rattle.ipcz_world.specs.Coding.{IsTable};
 ghost use Rattle.ipcz_world.specs.Holding.{holder_of, routers_at, shown_word};
 ghost use Rattle.ipcz_world.specs.Lawful.{IsWithinLimits, Lawful};
@@ -248,14 +249,15 @@ impl World {
         }
     }
 
-    // Carries a lone parcel all its way, if that is all that the world has to do; else nothing is done. It gives how many acts that was, and the
-    // node that is visited next. After six acts no node has an act.
+    // Carries a lone parcel all its way, if that is all that the world has to do and six acts may be taken; else nothing is done. It gives how
+    // many acts that was, and the node that is visited next. After six acts no node has an act.
     #[inline(always)]
     fn carry(&mut self, most: u64) -> (u64, u8)
         ensures walk { Walk self.old self.new result.0 result.1 }
         ensures place { IsPlace self.new result.1 }
         ensures within { result.0 ≤ most }
         ensures idle { result.0 ≡ 6 → AreIdle self.new 0 self.new.count }
+        ensures carried { Carries most self.old self.new result.0 }
         ensures lawful { IsLawful self.new }
     {
         self.state.carry(most)

@@ -26,6 +26,7 @@ pub(super) struct Files {
 
 impl Files {
     /// Files what was done with the router of a serial, from where it was filed to where it is to be.
+    #[inline(always)]
     pub(super) fn refile(&mut self, serial: u64, was: &Filing, is: &Filing)
         requires { CanRefile self.old.links self.old.terminals self.old.flagged serial was.now is.now }
         ensures { AreRefiled self.old.links self.new.links self.old.terminals self.new.terminals self.old.flagged self.new.flagged
@@ -38,6 +39,7 @@ impl Files {
 }
 
 // The terminals only.
+#[inline(always)]
 fn close_end(terminals: &mut Index<End>, serial: u64, was: &Filing, is: &Filing)
     requires filed { (end : EndRecord) → is_filed end_cmp terminals.old.members end serial ≡ (was.now.is_open && same_end was.now.end end) }
     requires closes { was.now.is_open ≡ false → is.now.is_open ≡ false }
@@ -52,6 +54,7 @@ fn close_end(terminals: &mut Index<End>, serial: u64, was: &Filing, is: &Filing)
 }
 
 // The links only: those that are kept stay, so that only new ones want room.
+#[inline(always)]
 fn relink(links: &mut Index<LinkPlace>, serial: u64, was: &Filing, is: &Filing)
     requires room { link_gain was.now is.now ≤ links.old.room }
     requires filed { (link : LinkId) (side : Side) → is_filed place_cmp links.old.members (link_place link side) serial ≡

@@ -1,13 +1,11 @@
-ghost use Rattle.std.specs.Prelude.{◌≡◌, Some, None, OnOk, OnErr, IfOk, IfErr, IsSomeAnd};
-ghost use Rattle.std.specs.Prelude.{unwrap_or, IsOk};
+ghost use Rattle.std.specs.Prelude.{◌≡◌, [], Some, None, OnOk, OnErr, IfOk, IfErr, IsSomeAnd};
+ghost use Rattle.std.specs.Prelude.{unwrap_or, IsOk, not, if◌then◌else◌};
 ghost use Rattle.ipcz_base.specs.Ends.{has_end, end_at};
 ghost use Rattle.ipcz_base.specs.Limits.{is_printable, most_bytes, takes_bytes};
 ghost use Rattle.ipcz_base.specs.declared.side.Side.TheVariants.{A, B};
 ghost use Rattle.ipcz_router.specs.Router.{Router as RouterRecord, IsOpenTerminal};
-ghost use Rattle.ipcz_base.specs.declared.item.Item.{Item};
-ghost use Rattle.ipcz_router.specs.Calls.{next_number, put_item, router_put_refusal};
-ghost use Rattle.ipcz_node.specs.Rooms.{HasQueueRoom};
-ghost use Rattle.ipcz_node.specs.Node.{router_in, terminal_of, found, with_router, holds_end, source_in, word_side};
+ghost use Rattle.ipcz_router.specs.Calls.{router_put_refusal};
+ghost use Rattle.ipcz_node.specs.Node.{router_in, terminal_of, found, holds_end, source_in, word_side};
 ghost use Rattle.ipcz_node.specs.Calls.{serials_refusal, open_node, are_held_once, refusal_at, are_too_many, put_refusal, put_node};
 ghost use Rattle.ipcz_node.specs.Calls.{put_number, get_refusal, got_at, next_sizes, get_node, close_refusal, close_node, close_end};
 ghost use Rattle.ipcz_node.specs.Acts.{is_quiet, rest_of};
@@ -128,13 +126,13 @@ impl NodeState {
         ensures full { put_refusal profile self.old.node at bytes ends ≡ None → TakesMore self.old at → IsOk result }
         ensures err { IfErr result (λ e. (e.bytes ≡ bytes) × (e.ends ≡ ends) × (self.new.node ≡ self.old.node)) }
     {
+        if ends.as_slice().is_empty() {
+            return self.put_alone(profile, at, bytes, ends);
+        }
         let serial = match self.put_serial(profile, at, bytes.as_slice(), ends.as_slice()) {
             Ok(serial) => serial,
             Err(why) => return Err(PutRefused { why, bytes, ends }),
         };
-        if ends.as_slice().is_empty() {
-            return self.put_alone(serial, bytes, ends);
-        }
         if self.routers.reserve_out(serial).is_err() {
             return Err(PutRefused {
                 why: Refusal::OutOfMemory,
@@ -149,17 +147,29 @@ impl NodeState {
         Ok(n)
     }
 
-    // Puts a parcel without ends at a terminal that takes it. No end is to be held no more, so the terminal finds room as it takes it.
-    fn put_alone(&mut self, serial: u64, bytes: Bytes, ends: Ends) -> Result<u64, PutRefused>
-        requires open { IsSomeAnd (router_in self.old.node serial) IsOpenTerminal }
-        requires free { IsSomeAnd (router_in self.old.node serial) (λ r. router_put_refusal r ≡ None) }
-        ensures number { (r : RouterRecord) → router_in self.old.node serial ≡ Some r → IfOk result (λ n. n ≡ next_number r) }
-        ensures ok { (r : RouterRecord) → router_in self.old.node serial ≡ Some r →
-            OnOk result (self.new.node ≡ with_router self.old.node serial (put_item r (Item.Parcel (record { bytes = bytes; ends = ends })))) }
-        ensures why { IfErr result (λ e. e.why ≡ Refusal.OutOfMemory) }
-        ensures full { HasQueueRoom self.old.room.out_rooms serial → IsOk result }
+    // Puts a parcel without ends. No end is to be held no more, so the terminal finds room as it takes the parcel, and it tells itself if it
+    // takes none.
+    #[inline(always)]
+    #[tactic(auto, unfolding(crate::specs::Node::on_found, crate::specs::Calls::number_at, crate::specs::Calls::refusal_at))]
+    fn put_alone(
+        &mut self,
+        profile: Profile,
+        at: End,
+        bytes: Bytes,
+        ends: Ends,
+    ) -> Result<u64, PutRefused>
+        requires { ends ≡ [] }
+        ensures allowed { OnOk result (put_refusal profile self.old.node at bytes ends ≡ None) }
+        ensures number { IfOk result (λ n. n ≡ put_number self.old.node at) }
+        ensures ok { OnOk result (self.new.node ≡ put_node self.old.node at (record { bytes = bytes; ends = ends })) }
+        ensures why { IfErr result (λ e. e.why ≡ unwrap_or (put_refusal profile self.old.node at bytes ends) Refusal.OutOfMemory) }
+        ensures full { put_refusal profile self.old.node at bytes ends ≡ None → TakesMore self.old at → IsOk result }
         ensures err { IfErr result (λ e. (e.bytes ≡ bytes) × (e.ends ≡ ends) × (self.new.node ≡ self.old.node)) }
     {
+        let serial = match self.serial_for_bytes(profile, at, bytes.as_slice(), ends.as_slice()) {
+            Ok(serial) => serial,
+            Err(why) => return Err(PutRefused { why, bytes, ends }),
+        };
         match self.routers.put(serial, Parcel { bytes, ends }) {
             Ok(n) => Ok(n),
             Err((why, parcel)) => Err(PutRefused {
@@ -168,6 +178,59 @@ impl NodeState {
                 ends: parcel.ends,
             }),
         }
+    }
+
+    // The terminal of an end that takes such bytes, whatever it says itself of a parcel without ends.
+    #[inline(always)]
+    #[tactic(auto, unfolding(crate::specs::Calls::put_refusal, crate::specs::Calls::refusal_at))]
+    fn serial_for_bytes(
+        &self,
+        profile: Profile,
+        at: End,
+        bytes: &[u8],
+        ends: &[End],
+    ) -> Result<u64, Refusal>
+        requires { ends.now ≡ [] }
+        ensures why { IfErr result (λ e. put_refusal profile self.now.node at bytes.now ends.now ≡ Some e) }
+        ensures left { IfOk result (λ serial. put_refusal profile self.now.node at bytes.now ends.now
+            ≡ refusal_at (terminal_of self.now.node at) router_put_refusal) }
+        ensures open { IfOk result (λ serial. IsSomeAnd (router_in self.now.node serial) IsOpenTerminal) }
+        ensures found { IfOk result
+            (λ serial. IsSomeAnd (router_in self.now.node serial) (λ r. terminal_of self.now.node at ≡ Some (found serial r))) }
+    {
+        if let Some(why) = self.bytes_refusal(profile, at, bytes, ends) {
+            return Err(why);
+        }
+        match self.terminal_serial(at) {
+            Some(serial) => Ok(serial),
+            None => Err(Refusal::Stranger),
+        }
+    }
+
+    // Why nothing is put at an end that isn't held here, or no such bytes and so many ends are.
+    #[inline(always)]
+    fn bytes_refusal(
+        &self,
+        profile: Profile,
+        at: End,
+        bytes: &[u8],
+        ends: &[End],
+    ) -> Option<Refusal>
+        ensures { result ≡ (if not (holds_end self.now.node at) then Some Refusal.Stranger
+            else if are_too_many profile bytes.now ends.now then Some Refusal.TooMany
+            else if not (takes_bytes profile bytes.now) then Some Refusal.BadData
+            else None) }
+    {
+        if !self.holds(at) {
+            return Some(Refusal::Stranger);
+        }
+        if are_too_many(profile, bytes, ends) {
+            return Some(Refusal::TooMany);
+        }
+        if !takes_bytes(profile, bytes) {
+            return Some(Refusal::BadData);
+        }
+        None
     }
 
     // Where a parcel can be put, memory aside.
@@ -186,14 +249,8 @@ impl NodeState {
         ensures found { IfOk result
             (λ serial. IsSomeAnd (router_in self.now.node serial) (λ r. terminal_of self.now.node at ≡ Some (found serial r))) }
     {
-        if !self.holds(at) {
-            return Err(Refusal::Stranger);
-        }
-        if are_too_many(profile, bytes, ends) {
-            return Err(Refusal::TooMany);
-        }
-        if !takes_bytes(profile, bytes) {
-            return Err(Refusal::BadData);
+        if let Some(why) = self.bytes_refusal(profile, at, bytes, ends) {
+            return Err(why);
         }
         if has_end(at, ends) {
             return Err(Refusal::SelfAttach);

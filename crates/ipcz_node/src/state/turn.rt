@@ -86,6 +86,7 @@ impl NodeState {
     }
 
     // The first act of the flagged router of the lowest serial.
+    #[inline(always)]
     #[tactic(auto, using(crate::proofs::Choosing::next_may), unfolding(crate::specs::Acts::router_turn))]
     fn router_turn(&self) -> Act
         ensures act { result ≡ router_turn (flagged_router self.now.node) }

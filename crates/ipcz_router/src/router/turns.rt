@@ -442,6 +442,7 @@ impl Router {
     ///
     /// `Leave` and `Retire` change nothing here: it is for the node to take the router out, as it is when Gone is discarded.
     #[tactic(auto, unfolding(crate::specs::ActTable::is_possible, crate::specs::ActTable::is_rest, crate::specs::ActEffects::apply, crate::specs::ActEffects::output_of))]
+    #[inline(always)]
     pub fn apply(&mut self, act: RouterAct, answer: Answer) -> Applied
         requires { IsAsked self.old.router act answer }
         ensures router { self.new.router ≡ apply self.old.router act answer }

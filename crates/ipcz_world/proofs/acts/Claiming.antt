@@ -1,4 +1,6 @@
 -- A proxy claims a word: the invariant is kept.
+use Rattle.ipcz_world.proofs.Vocabulary.{HasShape}
+use Rattle.ipcz_world.proofs.frames.EachKept.{each-one}
 use Rattle.ipcz_world.proofs.frames.GivingUp.{stays_bare}
 use Rattle.ipcz_world.proofs.Vocabulary.{A, B}
 use Rattle.ipcz_world.proofs.frames.LiveLinks.{live-kept}
@@ -26,7 +28,6 @@ use Rattle.ipcz_world.proofs.frames.GivingUp.{was, Gives, same-messages, ordered
 use Rattle.ipcz_world.proofs.frames.GivenUp.{Settled, stays, stages-flags, terminals-gives, end_places-gives, books-gives, items-gives}
 use Rattle.ipcz_world.proofs.frames.GivenUp.{order-gives, proxy_numbers-gives, fresh_numbers-gives, conserved-gives, held_once-gives}
 use Rattle.ipcz_world.proofs.acts.Flags.{IsFlagged, flagged-part, flagged-settled}
-use Rattle.ipcz_world.proofs.begins.BegunNumbers.{places-sources}
 use Rattle.ipcz_world.proofs.frames.Owners.{linked-owned, recorded-owned, links-owned, positions-owned, stands-owned, stages-owned}
 use Rattle.ipcz_world.proofs.frames.Owners.{moves-owned, told-owned, terminals-owned, items-owned, order-owned, proxy_numbers-owned}
 use Rattle.ipcz_world.proofs.frames.Owners.{fresh_numbers-owned}
@@ -34,12 +35,12 @@ use Rattle.ipcz_world.proofs.frames.RecordRules.{unclaimed-is}
 use Rattle.ipcz_world.proofs.frames.Owners.{retired-owned}
 use Rattle.ipcz_world.proofs.frames.GonesKept.{gones-by}
 use Rattle.ipcz_world.proofs.frames.GivenUp.{part_gone}
-use Rattle.ipcz_world.proofs.frames.GivingUp.{sink-part}
 use Rattle.ipcz_world.specs.Records.{is_left}
 use Rattle.ipcz_router.specs.Router.{is_proxy}
 use Rattle.ipcz_router.specs.ActTable.{is_done}
 use Rattle.std.proofs.lemmas.Bool.{or_left}
 use Rattle.std.specs.Prelude.{◌||◌, ◌&&◌}
+use Rattle.ipcz_world.proofs.weights.Sourcing.{places-sources}
 
 pub inv-claim : (w : World) (b : Books) (g : Records) (k : Key) (r : Router) → Inv w b g → CanAct w k r acts.Claim → w.claimed < w.size →
     Inv (claim_act w k r) b (claim_records g k w.claimed)
@@ -59,41 +60,18 @@ inv-claim w b g k r law can left = record {
     in_hand = λ n from a d e. grind (arith, one.count, mail n from, (one.nodes n).hand, law.counts.in_hand n from, a, d, e);
   };
   ordered = ordered-gives w v k r (Some y) gives law.ordered;
-  shape = record {
-    role = λ q z at. grind (arith, one.routers q, same_key_tells q k, law.shape.role q z, law.shape.role k r can.here);
-    marked_central = λ q z at m. grind (
-      arith,
-      one.routers q,
-      same_key_tells q k,
-      law.shape.marked_central q z,
-      law.shape.marked_central k r can.here,
-    );
-    marked_still = λ q z at m. grind (
-      arith,
-      one.routers q,
-      same_key_tells q k,
-      law.shape.marked_still q z,
-      law.shape.marked_still k r can.here,
-    );
-    holds_marked = λ q z at m. grind (
-      arith,
-      one.routers q,
-      same_key_tells q k,
-      law.shape.holds_marked q z,
-      law.shape.holds_marked k r can.here,
-    );
-    holds_fit = λ q z at m. let o = was gives q z at in elim (same_key_tells q k) [
-      | inl e ↦ let f : y ≡ z = grind (arith, one.routers q, e.0, at) in or_left (is_proxy z) (is_done z) (rw (← f) ready)
-      | inr e ↦ law.shape.holds_fit q z (grind (arith, one.routers q, e.0, at)) m
-    ];
-    dropped_sink = λ q z at m. let o = was gives q z at in sink-part o.router z o.part
-        (law.shape.dropped_sink q o.router o.at (sym o.part.mark_dropped ∙ m));
-    sent_proxy = λ q z at m. let o = was gives q z at in ap is_some o.part.inward_primary ∙
-        law.shape.sent_proxy q o.router o.at (sym o.part.gone_sent ∙ m);
-    holds_spare = λ q z at m. grind (arith, one.routers q, same_key_tells q k, law.shape.holds_spare q z);
-    spare_proxy = λ q z j at m. grind (arith, one.routers q, same_key_tells q k, law.shape.spare_proxy q z j, can.possible);
-    spare_primary = λ q z j at m. grind (arith, one.routers q, same_key_tells q k, law.shape.spare_primary q z j, primary);
-  };
+  shape = each-one w v k y HasShape one.routers law.shape (let shape = law.shape k r can.here in record {
+    role = shape.role;
+    marked_central = shape.marked_central;
+    marked_still = shape.marked_still;
+    holds_marked = shape.holds_marked;
+    holds_fit = λ m. or_left (is_proxy y) (is_done y) ready;
+    holds_spare = λ m p. refl;
+    dropped_sink = shape.dropped_sink;
+    sent_proxy = shape.sent_proxy;
+    spare_proxy = λ j e. ready;
+    spare_primary = λ j e. primary;
+  });
   links = links-owned v b g i (Spare k) unlinked refl (links-gives w v g k r (Some y) gives law.links);
   positions = positions-owned v b g i (Spare k) unlinked refl (positions-gives w v g k r (Some y) gives law.positions);
   stands = stands-owned v b g i (Spare k) unlinked refl (stands-gives w v g k r (Some y) gives (stays_bare r y) law.stands);

@@ -1,4 +1,6 @@
 -- A router changes in flags alone, and a word with it: the invariant is kept.
+use Rattle.ipcz_world.proofs.Vocabulary.{HasShape}
+use Rattle.ipcz_world.proofs.frames.EachKept.{each-one}
 use Rattle.ipcz_world.proofs.frames.GivingUp.{stays_bare}
 use Rattle.ipcz_world.proofs.frames.Sourcing.{central_word}
 use Rattle.ipcz_world.proofs.facts.Tests.{nat_eq-itself}
@@ -13,7 +15,7 @@ use Rattle.ipcz_world.proofs.Vocabulary.{primary_word, World, Key, same_key, wor
 use Rattle.ipcz_world.proofs.Vocabulary.{is_begun, side_router, side_end, across_side, is_attached, passes, key_passes, has_primary}
 use Rattle.ipcz_world.proofs.Vocabulary.{Shape, Words, IsRecorded, Inv}
 use Rattle.ipcz_world.proofs.facts.Lengths.{HasEnd, has_link-tells}
-use Rattle.ipcz_router.specs.Router.{is_proxy, decays, is_on_central, is_sink, inward_edge}
+use Rattle.ipcz_router.specs.Router.{is_proxy, decays, is_on_central}
 use Rattle.ipcz_router.specs.ActTable.{is_done}
 use Rattle.ipcz_world.specs.Records.{is_left}
 use Rattle.ipcz_world.proofs.views.LeftSides.{not_left}
@@ -134,7 +136,7 @@ on-word w b g k r i law here on = go r.outward.primary refl
     at e p (Central j) q =
         let m : j ≡ i = same_Some j i (grind (arith, on, p, q)) in
         let l : e.link ≡ Central i = q ∙ ap Central m in
-        let is : IsRecorded w g k r e = law.links.primary k r e here p in
+        let is : IsRecorded w g k r e = (law.links k r here).primary e p in
         let s : e.side ≡ r.end.side = sym (ap (λ z. z.side) (is.end ∙ ap (λ t. side_end g t e.side) l)) in
         record {
           end = e;
@@ -291,7 +293,7 @@ words-touched w v b g k r y i x law here on live one same words touch = record {
     other_holds q z e j there h p l n ne = go (side_is e.side y.end.side)
       where
         rec : IsRecorded w g q z e
-        rec = law.links.primary q z e there p
+        rec = (law.links q z there).primary e p
 
         at_i : side_router g (Central i) e.side ≡ Some q
         at_i = ap (λ u. side_router g u e.side) (sym (l ∙ ap Central n)) ∙ rec.router
@@ -322,7 +324,7 @@ words-touched w v b g k r y i x law here on live one same words touch = record {
         law.words.source q z e j there h p l
 
 -- the flags of a router with a word are as its shape wants
-pub record IsShaped (r y : Router) : Type 0 where
+pub record FlagsFit (r y : Router) : Type 0 where
   pub spare : y.spare ≡ r.spare
   pub central : y.marked ≡ true → is_on_central r ≡ true
   pub still : y.marked ≡ true → decays r ≡ false
@@ -330,59 +332,28 @@ pub record IsShaped (r y : Router) : Type 0 where
   pub fit : y.holds ≡ true → (is_proxy r || is_done r) ≡ true
   pub word : y.holds ≡ true → is_proxy r ≡ true → is_some r.spare ≡ true
 
-pub shape-touched : (w v : World) (k : Key) (r y : Router) → Shape w → router_at w k ≡ Some r → SameButRouter w v k (Some y) →
-    IsFlagged r y → IsShaped r y → Shape v
-shape-touched w v k r y law here one same is = record {
-  role = λ q z at. grind (arith, one.routers q, same_key_tells q k, law.role q z, law.role k r here, same.outward, same.inward);
-  marked_central = λ q z at m. grind (arith, one.routers q, same_key_tells q k, law.marked_central q z, is.central, same.outward);
-  marked_still = λ q z at m. grind (arith, one.routers q, same_key_tells q k, law.marked_still q z, is.still, same.outward, same.inward);
-  holds_marked = λ q z at m. grind (arith, one.routers q, same_key_tells q k, law.holds_marked q z, is.marked);
-  holds_fit = λ q z at m. fit q z at m (same_key_tells q k);
-  holds_spare = λ q z at m. grind (arith, one.routers q, same_key_tells q k, law.holds_spare q z, is.word, is.spare, same.inward);
-  dropped_sink = λ q z at m. sink q z at m (same_key_tells q k);
-  sent_proxy = λ q z at m. sent q z at m (same_key_tells q k);
-  spare_proxy = λ q z j at m. grind (
-    arith,
-    one.routers q,
-    same_key_tells q k,
-    law.spare_proxy q z j,
-    law.spare_proxy k r j here,
-    is.spare,
-    same.inward,
-  );
-  spare_primary = λ q z j at m. grind (
-    arith,
-    one.routers q,
-    same_key_tells q k,
-    law.spare_primary q z j,
-    law.spare_primary k r j here,
-    is.spare,
-    same.outward,
-  );
+shape-flagged : (r y : Router) → IsFlagged r y → FlagsFit r y → HasShape r → HasShape y
+shape-flagged r y same fit law = record {
+  role = rw (same.outward, same.inward) law.role;
+  marked_central = λ m. rw (same.outward) (fit.central m);
+  marked_still = λ m. rw (same.outward, same.inward) (fit.still m);
+  holds_marked = fit.marked;
+  holds_fit = λ m. rw (same.inward, same.closed, same.mark_dropped, same.out_queue) (fit.fit m);
+  holds_spare = λ m p. ap is_some fit.spare ∙ fit.word m (sym (ap is_some same.inward) ∙ p);
+  dropped_sink = λ m. rw (same.inward, same.closed) (law.dropped_sink (sym same.mark_dropped ∙ m));
+  sent_proxy = λ m. rw (same.inward) (law.sent_proxy (sym same.gone_sent ∙ m));
+  spare_proxy = λ i e. ap is_some same.inward ∙ law.spare_proxy i (sym fit.spare ∙ e);
+  spare_primary = λ i e. rw (same.outward) (law.spare_primary i (sym fit.spare ∙ e));
 }
-  where
-    fit : (q : Key) (z : Router) → router_at v q ≡ Some z → z.holds ≡ true →
-        ((same_key q k ≡ true) × (q ≡ k)) ⊎ ((same_key q k ≡ false) × (q ≢ k)) → (is_proxy z || is_done z) ≡ true
-    fit q z at m (inl e) = let f : y ≡ z = grind (arith, one.routers q, e.0, at) in
-        rw (← f) (rw (same.inward, same.closed, same.mark_dropped, same.out_queue) (is.fit (ap (λ x. x.holds) f ∙ m)))
-    fit q z at m (inr e) = law.holds_fit q z (grind (arith, one.routers q, e.0, at)) m
 
-    sink : (q : Key) (z : Router) → router_at v q ≡ Some z → z.mark_dropped ≡ true →
-        ((same_key q k ≡ true) × (q ≡ k)) ⊎ ((same_key q k ≡ false) × (q ≢ k)) → is_sink z ≡ true
-    sink q z at m (inl e) = let f : y ≡ z = grind (arith, one.routers q, e.0, at) in
-        rw (← f) (rw (same.inward, same.closed) (law.dropped_sink k r here (sym same.mark_dropped ∙ ap (λ x. x.mark_dropped) f ∙ m)))
-    sink q z at m (inr e) = law.dropped_sink q z (grind (arith, one.routers q, e.0, at)) m
-
-    sent : (q : Key) (z : Router) → router_at v q ≡ Some z → z.gone_sent ≡ true →
-        ((same_key q k ≡ true) × (q ≡ k)) ⊎ ((same_key q k ≡ false) × (q ≢ k)) → is_some (inward_edge z).primary ≡ true
-    sent q z at m (inl e) = let f : y ≡ z = grind (arith, one.routers q, e.0, at) in
-        rw (← f) (rw (same.inward) (law.sent_proxy k r here (sym same.gone_sent ∙ ap (λ x. x.gone_sent) f ∙ m)))
-    sent q z at m (inr e) = law.sent_proxy q z (grind (arith, one.routers q, e.0, at)) m
+pub shape-touched : (w v : World) (k : Key) (r y : Router) → Shape w → router_at w k ≡ Some r → SameButRouter w v k (Some y) →
+    IsFlagged r y → FlagsFit r y → Shape v
+shape-touched w v k r y law here one same fit = each-one w v k y HasShape one.routers law (shape-flagged r y same fit (law k r here))
 
 -- an act on a word of a live link, and on its router's flags
 pub inv-touched : (w v : World) (b : Books) (g : Records) (k : Key) (r y : Router) (i : ℕ) (x : Word) → Inv w b g → router_at w k ≡ Some r →
     primary_word r ≡ Some i → is_begun (g.bypass i) ≡ false → SameButRouter w v k (Some y) → v.claimed ≡ w.claimed → IsFlagged r y →
-    ((j : ℕ) → word_at v j ≡ cond (nat_eq j i) x (word_at w j)) → IsShaped r y → Touches (word_at w i) x y → Inv v b g
+    ((j : ℕ) → word_at v j ≡ cond (nat_eq j i) x (word_at w j)) → FlagsFit r y → Touches (word_at w i) x y → Inv v b g
 inv-touched w v b g k r y i x law here at live one claimed same words is touch = inv-flags w v b g k r (Some y) gives (stays_bare r y) settled law (record {
   counts = counts-gives w v g k r (Some y) gives claimed law.counts;
   shape = shape-touched w v k r y law.shape here one same is;

@@ -79,7 +79,7 @@ unfolding has_link
 leaver-told w b g k r law here bare = go (g.begun k) refl
   where
     go : (o : Option ℕ) → g.begun k ≡ o → IsTold g k
-    go None e = absurd (grind (arith, law.positions.begun k r here, bare.proxy, bare.inward_primary, e))
+    go None e = absurd (grind (arith, (law.positions.each k r here).begun, bare.proxy, bare.inward_primary, e))
     go (Some o) e = record {
       bypass = o;
       proxy = law.positions.begun_proxy k o e;
@@ -112,7 +112,7 @@ leaver-out w b g k r law here bare is n = no_item (item_at r.out_queue n) (λ it
       is.told,
       law.proxy_numbers.out_items is.bypass r n item at (omega (arith, is.told)) e,
       law.proxy_numbers.out_finished is.bypass r at is.told bare.decaying,
-      law.ordered.out k r n item here e,
+      (law.ordered k r here).out n item e,
     ))
 
 pub leaver-in : (w : World) (b : Books) (g : Records) (k : Key) (r : Router) → Inv w b g → router_at w k ≡ Some r → HasNoLink r →
@@ -124,7 +124,7 @@ leaver-in w b g k r law here bare is n = no_item (item_at r.in_queue n) (λ item
       is.told,
       law.proxy_numbers.in_items is.bypass r n item at (omega (arith, is.told)) e,
       law.proxy_numbers.in_finished is.bypass r at is.told bare.inward_decaying,
-      law.ordered.inn k r n item here e,
+      (law.ordered k r here).inn n item e,
     ))
 
 pub leaver-weighs : (f : Weight) (r : Router) → ((n : ℕ) → item_at r.out_queue n ≡ None) → ((n : ℕ) → item_at r.in_queue n ≡ None) →
@@ -144,7 +144,7 @@ inv-leave_bare w b g k r law can bare = inv-gives w (leave_act w k) b g k r None
     told = leaver-told w b g k r law can.here bare
 
     without : (i : ℕ) → r.spare ≡ Some i → ⊥
-    without i e = grind (arith, law.shape.spare_primary k r i can.here e, bare.primary)
+    without i e = grind (arith, (law.shape k r can.here).spare_primary i e, bare.primary)
 
     spare : (o : Option ℕ) → r.spare ≡ o → r.spare ≡ None
     spare None e = e
@@ -199,7 +199,7 @@ module _ (w : World) (b : Books) (g : Records) (k : Key) (r : Router) (law : Inv
   none_in : (n : ℕ) → item_at r.in_queue n ≡ None
   none_in n = no_item (item_at r.in_queue n) (λ item e.
       let put = in_numbers w b g k r n item law.conserved on_node here e in
-      omega (arith, slice_get-below n (b.put (opposite_end r.end)) item put, law.ordered.inn k r n item here e, all))
+      omega (arith, slice_get-below n (b.put (opposite_end r.end)) item put, (law.ordered k r here).inn n item e, all))
 
   unbypassed : (o : ℕ) → 1 ≤ (g.bypass o).stage → (g.bypass o).stage ≤ 4 → (g.central o).pair ≢ r.end.pair
   unbypassed o l m p = not_both (is_retired b (opposite_end r.end)) retired (ap (λ n. is_retired b (end_at n (opposite r.end.side))) (sym p) ∙
@@ -222,7 +222,7 @@ module _ (w : World) (b : Books) (g : Records) (k : Key) (r : Router) (law : Inv
       left i e p l = law.retired_ends.left (opposite_end r.end) i retired linked (unbegun (is_begun (g.bypass i)) refl) pair
         where
           rec : IsRecorded w g k r e
-          rec = law.links.primary k r e here p
+          rec = (law.links k r here).primary e p
 
           linked : is_linked (g.owner i) ≡ true
           linked = sym (ap (is_recorded w g) l) ∙ rec.recorded
@@ -232,14 +232,14 @@ module _ (w : World) (b : Books) (g : Records) (k : Key) (r : Router) (law : Inv
 
           unbegun : (c : Bool) → is_begun (g.bypass i) ≡ c → is_begun (g.bypass i) ≡ false
           unbegun false f = f
-          unbegun true f = let low = law.positions.primary_old k r e i here p l f in
+          unbegun true f = let low = (law.positions.each k r here).primary_old e i p l f in
               absurd (unbypassed i (grind (arith, f, nat_tests)) (omega (arith, low)) pair)
 
 -- a proxy that has sent Gone leaves
 module _ (w : World) (b : Books) (g : Records) (k : Key) (r : Router) (law : Inv w b g) (here : router_at w k ≡ Some r)
     (proxy : is_proxy r ≡ true) (sent : r.gone_sent ≡ true) where
   begun : is_begun_router r ≡ false
-  begun = grind (arith, law.shape.sent_proxy k r here sent)
+  begun = grind (arith, (law.shape k r here).sent_proxy sent)
 
   leaver : IsLeaver w b g k r
   leaver = let s = law.gones.sent k r here sent in gone_leaver w b g k r law here begun s.0 s.1
@@ -283,7 +283,7 @@ inv-leave w b g k r law can = elim (leave-tells r can.possible) [
   where
     no_spare : HasNoLink r → (o : Option ℕ) → r.spare ≡ o → r.spare ≡ None
     no_spare bare None e = e
-    no_spare bare (Some i) e = absurd (grind (arith, law.shape.spare_primary k r i can.here e, bare.primary))
+    no_spare bare (Some i) e = absurd (grind (arith, (law.shape k r can.here).spare_primary i e, bare.primary))
 
     proxy_records : (g : Records) (r : Router) → is_proxy r ≡ true → leave_records g r ≡ off_of g r
     proxy_records g r p = let lone : is_terminal r ≡ false = grind (arith, p) in rw lone refl

@@ -140,7 +140,7 @@ module _ (w : World) (b : Books) (g : Records) (k : Key) (r : Router) (i : ℕ) 
   z = retiring.across w b g k r i law here on can
 
   rec : IsRecorded w g k r on.end
-  rec = law.links.primary k r on.end here on.primary
+  rec = (law.links k r here).primary on.end on.primary
 
   known : side_router g link s ≡ Some z.key
   known = z.is
@@ -272,7 +272,7 @@ module _ (w : World) (b : Books) (g : Records) (k : Key) (r : Router) (i : ℕ) 
 
   end_z : opposite_end z.router.end ≡ e
   unfolding side_end
-  end_z = let rec_z : IsRecorded w g z.key z.router has_z.end = law.links.primary z.key z.router has_z.end z.at has_z.there in
+  end_z = let rec_z : IsRecorded w g z.key z.router has_z.end = (law.links z.key z.router z.at).primary has_z.end has_z.there in
       ap opposite_end (rec_z.end ∙ ap (λ l. side_end g l has_z.end.side) has_z.on_link ∙ ap (side_end g (Central i)) has_z.at_side) ∙
       opposite_end-twice (end_at (g.central i).pair r.end.side) ∙ ap (λ p. end_at p r.end.side) (retiring.pair_is w b g k r i law here on can)
 
@@ -334,7 +334,7 @@ module _ (w : World) (b : Books) (g : Records) (k : Key) (r : Router) (i : ℕ) 
       still q y d a p l f = none y.outward.decaying refl
         where
           rec_y : IsRecorded w g q y d
-          rec_y = law.links.primary q y d a p
+          rec_y = (law.links q y a).primary d p
 
           side : side_router g link s ≡ Some q
           side = sym (ap (λ x. side_router g x d.side) l ∙ ap (side_router g link) f) ∙ rec_y.router
@@ -344,7 +344,7 @@ module _ (w : World) (b : Books) (g : Records) (k : Key) (r : Router) (i : ℕ) 
 
           none : (o : Option LinkEnd) → y.outward.decaying ≡ o → y.outward.decaying ≡ None
           none None o = o
-          none (Some c) o = absurd (grind (arith, law.shape.marked_still q y a marked, o))
+          none (Some c) o = absurd (grind (arith, (law.shape q y a).marked_still marked, o))
 
   pub near_sent : NearInv v (add_put b e Gone) t
   near_sent = gone.near-pushed u v b t e z.key z.router k.node on.end.other link s near_ended sent
@@ -489,7 +489,7 @@ module _ (w : World) (b : Books) (g : Records) (k : Key) (r : Router) (i : ℕ) 
       )
 
       mine : (l : LinkId) (p : Side) (d : LinkEnd) → r.outward.primary ≡ Some d → l ≡ d.link → p ≡ d.side → side_end g l p ≡ e
-      mine l p d f h j = ap (λ x. side_end g x p) h ∙ ap (side_end g d.link) j ∙ sym (law.links.primary k r d here f).end
+      mine l p d f h j = ap (λ x. side_end g x p) h ∙ ap (side_end g d.link) j ∙ sym ((law.links k r here).primary d f).end
 
       or_more : (d : End) → (is_retired b d || is_retired b (opposite_end d)) ≡ true → (is_retired c d || is_retired c (opposite_end d)) ≡ true
       or_more d h = elim (either (is_retired b d) (is_retired b (opposite_end d)) h) [
@@ -575,21 +575,21 @@ module _ (w : World) (b : Books) (g : Records) (k : Key) (r : Router) (i : ℕ) 
               let same : x ≡ on.end = same_Some x on.end (sym f ∙ on.primary) in
               let on_link : d.link ≡ Central i = l ∙ ap (λ y. y.link) same ∙ on.link in
               let side : opposite d.side ≡ e.side = h ∙ ap (λ y. y.side) same ∙ on.side in
-              ap opposite_end ((law.links.primary q y d was p).end ∙ ap (λ l. side_end g l d.side) on_link) ∙
+              ap opposite_end (((law.links q y was).primary d p).end ∙ ap (λ l. side_end g l d.side) on_link) ∙
               ap (end_at (g.central i).pair) side ∙ ap (λ n. end_at n e.side) (retiring.pair_is w b g k r i law here on can)
 
           not_inner : (d : LinkEnd) → (inward_edge y).primary ≡ Some d → (x : LinkEnd) → r.outward.primary ≡ Some x → d.link ≡ x.link → ⊥
           not_inner d p x f l =
               let same : x ≡ on.end = same_Some x on.end (sym f ∙ on.primary) in
               let on_link : d.link ≡ Central i = l ∙ ap (λ y. y.link) same ∙ on.link in
-              not_central i d.side (ap (λ z. is_outward z d.side) (sym on_link) ∙ law.links.inward_primary_inward q y d was p)
+              not_central i d.side (ap (λ z. is_outward z d.side) (sym on_link) ∙ (law.links q y was).inward_primary_inward d p)
 
           -- no side of a link of the pair was left before
           open_left : (d : LinkEnd) → (inward_edge y).primary ≡ Some d → is_left g d.link (opposite d.side) ≡ true → opposite_end y.end ≡ e → ⊥
           open_left d p f j =
               let y_pair : y.end.pair ≡ e.pair = ap (λ x. x.pair) j in
               let there : (side_end g d.link (opposite d.side)).pair ≡ e.pair =
-              around_pair g d.link d.side ∙ sym (ap (λ x. x.pair) (law.links.inward_primary q y d was p).end) ∙ y_pair in
+              around_pair g d.link d.side ∙ sym (ap (λ x. x.pair) ((law.links q y was).inward_primary d p).end) ∙ y_pair in
               elim (either _ _ (law.retired_ends.left_of d.link (opposite d.side) f)) [
                 | inl h ↦ other_pair (side_end g d.link (opposite d.side)) h there
                 | inr h ↦ other_pair (opposite_end (side_end g d.link (opposite d.side))) h there

@@ -78,7 +78,7 @@ module _ (w : World) (b : Books) (g : Records) (k : Key) (r : Router) (i : ℕ) 
 
   pub pair_is : (g.central i).pair ≡ r.end.pair
   unfolding side_end
-  pair_is = let rec : IsRecorded w g k r on.end = law.links.primary k r on.end here on.primary in
+  pair_is = let rec : IsRecorded w g k r on.end = (law.links k r here).primary on.end on.primary in
       sym (ap (λ z. z.pair) rec.end ∙ ap (λ l. (side_end g l on.end.side).pair) on.link)
 
   -- who holds a lock hasn't begun, nor is across one that has
@@ -88,8 +88,8 @@ module _ (w : World) (b : Books) (g : Records) (k : Key) (r : Router) (i : ℕ) 
       go : (c : Bool) → is_begun (g.bypass i) ≡ c → is_begun (g.bypass i) ≡ false
       go false f = f
       go true f =
-          let low = law.positions.primary_old k r on.end i here on.primary on.link f in
-          let side : r.end.side ≡ across_side g i = sym on.side ∙ law.positions.primary_across k r on.end i here on.primary on.link f in
+          let low = (law.positions.each k r here).primary_old on.end i on.primary on.link f in
+          let side : r.end.side ≡ across_side g i = sym on.side ∙ (law.positions.each k r here).primary_across on.end i on.primary on.link f in
           let at : side_router g (Central i) (across_side g i) ≡ Some k = ap (side_router g (Central i)) (sym side) ∙ on.known in
           let free = law.stages.across_free i f low in
           absurd (grind (arith, standing_rules, free, at, here, holds))
@@ -147,7 +147,7 @@ module _ (w : World) (b : Books) (g : Records) (k : Key) (r : Router) (i : ℕ) 
                   ap (λ n. side_router g (Central n) (proxy_side g o)) (sym same) ∙ law.bypasses.fresh_inner o a ∙ z.is in
                   let marked : z.router.marked ≡ true = grind (arith, standing_rules, marked_at (proxy_side g o), at, z.at) in
                   let has = has_link-tells z.router.outward.decaying (inner_of g o) B z.passed in
-                  grind (arith, law.shape.marked_still z.key z.router z.at marked, has.there)
+                  grind (arith, (law.shape z.key z.router z.at).marked_still marked, has.there)
           later a true fl true e =
               let two : (g.bypass o).stage ≡ 2 = grind (arith, e, nat_tests) in
               let none = law.bypasses.fresh_awaited o two in
@@ -160,7 +160,7 @@ module _ (w : World) (b : Books) (g : Records) (k : Key) (r : Router) (i : ℕ) 
               let z = known_tells w (side_router g (inner_of g o) B) (has_decaying (inner_of g o) B) (law.stages.inner_decaying o a m) in
               let has = has_link-tells z.router.outward.decaying (inner_of g o) B z.passed in
               let to : link_in z.router.outward.primary ≡ Some (Central f) =
-              law.positions.inner_fresh z.key z.router has.end (g.bypass o).inner o z.at has.there has.on_link (law.bypasses.inner_by o begun_o) in
+              (law.positions.each z.key z.router z.at).inner_fresh has.end (g.bypass o).inner o has.there has.on_link (law.bypasses.inner_by o begun_o) in
               over z.key z.router z.at has.end has.there z.router.outward.primary refl to
             where
               over : (q : Key) (z : Router) → router_at w q ≡ Some z → (d : LinkEnd) → z.outward.decaying ≡ Some d →
@@ -168,13 +168,13 @@ module _ (w : World) (b : Books) (g : Records) (k : Key) (r : Router) (i : ℕ) 
               over q z at d dec None x t = cc
               over q z at d dec (Some e) x t =
                   let l : e.link ≡ Central f = same_Some e.link (Central f) t in
-                  let low = law.positions.primary_old q z e f at x l fl in
-                  let side : e.side ≡ across_side g f = law.positions.primary_across q z e f at x l fl in
-                  let rec : IsRecorded w g q z e = law.links.primary q z e at x in
+                  let low = (law.positions.each q z at).primary_old e f x l fl in
+                  let side : e.side ≡ across_side g f = (law.positions.each q z at).primary_across e f x l fl in
+                  let rec : IsRecorded w g q z e = (law.links q z at).primary e x in
                   let known : side_router g (Central f) (across_side g f) ≡ Some q =
                   ap (side_router g (Central f)) (sym side) ∙ ap (λ y. side_router g y e.side) (sym l) ∙ rec.router in
                   let marked : z.marked ≡ true = grind (arith, standing_rules, law.stages.across_marked f fl low, known, at) in
-                  grind (arith, law.shape.marked_still q z at marked, dec)
+                  grind (arith, (law.shape q z at).marked_still marked, dec)
 
   -- it has read all that its peer put
   pub all : length (b.put (opposite_end r.end)) ≤ r.in_queue.current
@@ -192,7 +192,7 @@ module _ (w : World) (b : Books) (g : Records) (k : Key) (r : Router) (i : ℕ) 
   none_in : (n : ℕ) → item_at r.in_queue n ≡ None
   none_in n = no_item (item_at r.in_queue n) (λ item e.
       let put = in_numbers w b g k r n item law.conserved on_node here e in
-      omega (arith, slice_get-below n (b.put (opposite_end r.end)) item put, law.ordered.inn k r n item here e, all))
+      omega (arith, slice_get-below n (b.put (opposite_end r.end)) item put, (law.ordered k r here).inn n item e, all))
 
   pub retire_leaver : IsLeaver w b g k r
   retire_leaver = record {
@@ -235,14 +235,14 @@ module _ (w : World) (b : Books) (g : Records) (k : Key) (r : Router) (i : ℕ) 
       pair_n = law.bypasses.fresh_pair o two ∙ pair
 
       go : (c : Bool) → is_begun (g.bypass n) ≡ c → decays y ≡ false
-      go true f = let low = law.positions.primary_old q y d n at p l f in
+      go true f = let low = (law.positions.each q y at).primary_old d n p l f in
           absurd (unbypassed n (grind (arith, f, nat_tests)) (omega (arith, low)) pair_n)
       go false f =
           let same : n ≡ i = law.live.one_live n i linked on.linked (pair_n ∙ sym pair_is) f live in
-          let rec : IsRecorded w g q y d = law.links.primary q y d at p in
+          let rec : IsRecorded w g q y d = (law.links q y at).primary d p in
           let known : side_router g (Central i) d.side ≡ Some q =
           ap (λ m. side_router g (Central m) d.side) (sym same) ∙ ap (λ z. side_router g z d.side) (sym l) ∙ rec.router in
-          law.shape.marked_still q y at (grind (arith, standing_rules, marked_at d.side, known, at))
+          (law.shape q y at).marked_still (grind (arith, standing_rules, marked_at d.side, known, at))
 
   -- no router of its pair decays, but a proxy that has begun
   pub pair_still : (q : Key) (y : Router) → router_at w q ≡ Some y → y.end.pair ≡ r.end.pair → is_begun_router y ≡ false → decays y ≡ false
@@ -259,7 +259,7 @@ module _ (w : World) (b : Books) (g : Records) (k : Key) (r : Router) (i : ℕ) 
         where
           no_inward : (p : Option LinkEnd) → (inward_edge y).primary ≡ p → decays y ≡ false
           no_inward None p = absurd (grind (arith, unbegun, p, lone e off y.inward refl))
-          no_inward (Some d) p = absurd (grind (arith, law.shape.role q y at, p, off, lone e off y.inward refl))
+          no_inward (Some d) p = absurd (grind (arith, (law.shape q y at).role, p, off, lone e off y.inward refl))
 
       by_stage : (o : ℕ) → is_begun (g.bypass o) ≡ true → (g.central o).pair ≡ r.end.pair → (3 ≤ (g.bypass o).stage → decays y ≡ false) →
           decays y ≡ false
@@ -274,10 +274,10 @@ module _ (w : World) (b : Books) (g : Records) (k : Key) (r : Router) (i : ℕ) 
       outer (Some e) off = on_link e.link refl (bypass_of g e.link) refl
         where
           rec : IsRecorded w g q y e
-          rec = law.links.decaying q y e at off
+          rec = (law.links q y at).decaying e off
 
           on_link : (l : LinkId) → e.link ≡ l → (b : Option ℕ) → bypass_of g e.link ≡ b → decays y ≡ false
-          on_link l m None b = absurd (grind (arith, law.positions.decaying q y e at off, b))
+          on_link l m None b = absurd (grind (arith, (law.positions.each q y at).decaying e off, b))
           on_link (Central o) m (Some j) b = by_stage o (begun_of o (sym (ap (bypass_of g) m) ∙ b)) pair_o (λ three. sides three
               (either_side e.side (proxy_side g o)))
             where
@@ -293,13 +293,13 @@ module _ (w : World) (b : Books) (g : Records) (k : Key) (r : Router) (i : ℕ) 
 
               sides : 3 ≤ (g.bypass o).stage → (e.side ≡ proxy_side g o) ⊎ (e.side ≡ opposite (proxy_side g o)) → decays y ≡ false
               sides three (inl s) =
-                  let proxy : (g.bypass o).proxy ≡ q = law.positions.own_proxy q y e o at off m s in
+                  let proxy : (g.bypass o).proxy ≡ q = (law.positions.each q y at).own_proxy e o off m s in
                   let begun = law.stages.proxy_begun o y (grind (arith, three, nat_tests)) (ap (router_at w) proxy ∙ at) in
                   absurd (not_both (is_begun_router y) begun unbegun)
-              sides three (inr s) = marked_fresh q y o y.outward.primary at refl (law.positions.across_fresh q y e o at off m s)
+              sides three (inr s) = marked_fresh q y o y.outward.primary at refl ((law.positions.each q y at).across_fresh e o off m s)
                   (omega (arith, three)) pair_o
           on_link (Peripheral n x) m (Some o) b = by_stage o (law.stands.by_begun p o by) pair_o
-              (λ three. marked_fresh q y o y.outward.primary at refl (law.positions.inner_fresh q y e p o at off m by) (omega (arith, three)) pair_o)
+              (λ three. marked_fresh q y o y.outward.primary at refl ((law.positions.each q y at).inner_fresh e p o off m by) (omega (arith, three)) pair_o)
             where
               p : Key
               p = record { node = n; serial = x }

@@ -32,7 +32,7 @@ use Rattle.ipcz_world.proofs.frames.Changing.{IsNodeChanged, pushed_by, taken_by
 use Rattle.ipcz_world.proofs.frames.OneRouter.{SameButRouter, set-router, set-word, words-set_router}
 use Rattle.ipcz_world.proofs.frames.GivingUp.{Gives, HasSameFlags, counts-gives, passes-still}
 use Rattle.ipcz_world.proofs.frames.GivenUp.{Settled, stays, keeps_all, words-gives, spares-gives, stages-flags, inv-flags}
-use Rattle.ipcz_world.proofs.acts.Flags.{IsFlagged, IsShaped, OnWord, on-word, flagged-part, flagged-settled, shape-touched, inv-flagged}
+use Rattle.ipcz_world.proofs.acts.Flags.{IsFlagged, FlagsFit, OnWord, on-word, flagged-part, flagged-settled, shape-touched, inv-flagged}
 use Rattle.ipcz_world.proofs.acts.Updating.{freed, acted-wake}
 use Rattle.ipcz_world.proofs.facts.Finding.{found_tells}
 use Rattle.ipcz_world.proofs.flows.MessagesPassing.{SameButPost, IsFlush, HasHands, post_is, hands-same, passes-pushed, passes-taken}
@@ -114,14 +114,14 @@ inv-waits w b g k r y i x law here at same flags stable holder source = inv-flag
     settled : Settled w v g k r (Some y)
     settled = flagged-settled w v b g k r y law here same
 
-    shaped : IsShaped r y
+    shaped : FlagsFit r y
     shaped = record {
       spare = flags.spare;
-      central = λ h. law.shape.marked_central k r here (sym flags.marked ∙ h);
-      still = λ h. law.shape.marked_still k r here (sym flags.marked ∙ h);
-      marked = λ h. flags.marked ∙ law.shape.holds_marked k r here (sym flags.holds ∙ h);
-      fit = λ h. law.shape.holds_fit k r here (sym flags.holds ∙ h);
-      word = λ h. law.shape.holds_spare k r here (sym flags.holds ∙ h);
+      central = λ h. (law.shape k r here).marked_central (sym flags.marked ∙ h);
+      still = λ h. (law.shape k r here).marked_still (sym flags.marked ∙ h);
+      marked = λ h. flags.marked ∙ (law.shape k r here).holds_marked (sym flags.holds ∙ h);
+      fit = λ h. (law.shape k r here).holds_fit (sym flags.holds ∙ h);
+      word = λ h. (law.shape k r here).holds_spare (sym flags.holds ∙ h);
     }
 
 pushed-post : (n : Node) (to : ℕ) (m : Message) → SameButPost n (push_out n to m)
@@ -205,7 +205,7 @@ inv-wake w b g k r i e law can at = inv-push_flush v b g k.node e.other e.link (
     )
 
     is : IsRecorded v g k y e
-    is = sent.links.primary k y e there at
+    is = (sent.links k y there).primary e at
 
     on : OnWord w g k r i
     on = on-word w b g k r i law can.here can.word

@@ -17,7 +17,7 @@ use Rattle.ipcz_world.specs.Acts.{CanTouch, mark_act, lock_act, unlock_act}
 use Rattle.ipcz_world.proofs.facts.LinkTests.{side_is}
 use Rattle.ipcz_world.proofs.facts.Lengths.{same_side-itself}
 use Rattle.ipcz_world.proofs.frames.OneRouter.{SameButRouter, SameWords, set-router, set-word}
-use Rattle.ipcz_world.proofs.acts.Flags.{IsFlagged, IsShaped, OnWord, on-word, Touches, inv-touched, inv-flagged}
+use Rattle.ipcz_world.proofs.acts.Flags.{IsFlagged, FlagsFit, OnWord, on-word, Touches, inv-touched, inv-flagged}
 use Rattle.ipcz_world.specs.WordAnswers.{tells_waiting}
 
 -- what an act on a word is in the world
@@ -44,10 +44,10 @@ begun-across w b g k r i law here on begun = record {
 }
   where
     stage : (g.bypass i).stage ≤ 2
-    stage = law.positions.primary_old k r on.end i here on.primary on.link begun
+    stage = (law.positions.each k r here).primary_old on.end i on.primary on.link begun
 
     at : side_router g (Central i) (across_side g i) ≡ Some k
-    at = ap (side_router g (Central i)) (sym (law.positions.primary_across k r on.end i here on.primary on.link begun) ∙ on.side) ∙ on.known
+    at = ap (side_router g (Central i)) (sym ((law.positions.each k r here).primary_across on.end i on.primary on.link begun) ∙ on.side) ∙ on.known
 
 pub not_true : (b : Bool) → (b ≡ true → ⊥) → b ≡ false
 not_true true h = absurd (h refl)
@@ -98,14 +98,14 @@ inv-mark w b g k r i law can =
     flagged : IsFlagged r y
     flagged = record { end = refl; outward = refl; inward = refl; out_queue = refl; in_queue = refl; closed = refl; mark_seen = refl; mark_dropped = refl; gone_sent = refl }
 
-    shaped : IsShaped r y
+    shaped : FlagsFit r y
     shaped = record {
       spare = refl;
       central = λ h. grind (arith, can.possible);
       still = λ h. grind (arith, can.possible);
       marked = λ h. refl;
-      fit = law.shape.holds_fit k r can.here;
-      word = law.shape.holds_spare k r can.here;
+      fit = (law.shape k r can.here).holds_fit;
+      word = (law.shape k r can.here).holds_spare;
     }
 
     touches : Touches (word_at w i) x y
@@ -154,11 +154,11 @@ inv-unlock w b g k r i law can =
     flagged : IsFlagged r y
     flagged = record { end = refl; outward = refl; inward = refl; out_queue = refl; in_queue = refl; closed = refl; mark_seen = refl; mark_dropped = refl; gone_sent = refl }
 
-    shaped : IsShaped r y
+    shaped : FlagsFit r y
     shaped = record {
       spare = refl;
-      central = law.shape.marked_central k r can.here;
-      still = law.shape.marked_still k r can.here;
+      central = (law.shape k r can.here).marked_central;
+      still = (law.shape k r can.here).marked_still;
       marked = λ h. absurd (grind (arith, h));
       fit = λ h. absurd (grind (arith, h));
       word = λ h p. absurd (grind (arith, h));
@@ -265,14 +265,14 @@ inv-lock w b g k r i Waits law can planned =
     flagged : IsFlagged r (fail_lock r)
     flagged = record { end = refl; outward = refl; inward = refl; out_queue = refl; in_queue = refl; closed = refl; mark_seen = refl; mark_dropped = refl; gone_sent = refl }
 
-    shaped : IsShaped r (fail_lock r)
+    shaped : FlagsFit r (fail_lock r)
     shaped = record {
       spare = refl;
-      central = law.shape.marked_central k r can.here;
-      still = law.shape.marked_still k r can.here;
-      marked = law.shape.holds_marked k r can.here;
-      fit = law.shape.holds_fit k r can.here;
-      word = law.shape.holds_spare k r can.here;
+      central = (law.shape k r can.here).marked_central;
+      still = (law.shape k r can.here).marked_still;
+      marked = (law.shape k r can.here).holds_marked;
+      fit = (law.shape k r can.here).holds_fit;
+      word = (law.shape k r can.here).holds_spare;
     }
 
     touches : Touches (word_at w i) x (fail_lock r)
@@ -308,11 +308,11 @@ inv-lock w b g k r i Locks law can planned =
     flagged : IsFlagged r (take_lock r)
     flagged = record { end = refl; outward = refl; inward = refl; out_queue = refl; in_queue = refl; closed = refl; mark_seen = refl; mark_dropped = refl; gone_sent = refl }
 
-    shaped : IsShaped r (take_lock r)
+    shaped : FlagsFit r (take_lock r)
     shaped = record {
       spare = refl;
-      central = law.shape.marked_central k r can.here;
-      still = law.shape.marked_still k r can.here;
+      central = (law.shape k r can.here).marked_central;
+      still = (law.shape k r can.here).marked_still;
       marked = λ h. sym says.stable ∙ free.mine;
       fit = λ h. grind (arith, can.possible);
       word = λ h p. grind (arith, can.possible, p);

@@ -91,7 +91,7 @@ begin-possible w b g k r law can = go (inward_edge r).primary r.outward.primary 
   where
     at : (into out : LinkEnd) (fresh : ℕ) (l m : LinkId) → (inward_edge r).primary ≡ Some into → r.outward.primary ≡ Some out →
         r.spare ≡ Some fresh → into.link ≡ l → out.link ≡ m → Beginning w k r
-    at into out fresh (Central i) m a d e f h = absurd (grind (arith, law.links.inward_primary_inward k r into can.here a, f))
+    at into out fresh (Central i) m a d e f h = absurd (grind (arith, (law.links k r can.here).inward_primary_inward into a, f))
     at into out fresh (Peripheral n x) (Peripheral i j) a d e f h = absurd (grind (arith, can.possible, d, h))
     at into out fresh (Peripheral n x) (Central i) a d e f h = record {
       inner = record { node = n; serial = x };
@@ -103,9 +103,9 @@ begin-possible w b g k r law can = go (inward_edge r).primary r.outward.primary 
     }
 
     go : (a d : Option LinkEnd) (e : Option ℕ) → (inward_edge r).primary ≡ a → r.outward.primary ≡ d → r.spare ≡ e → Beginning w k r
-    go a d None p q s = absurd (grind (arith, law.shape.holds_spare k r can.here, can.possible, s))
+    go a d None p q s = absurd (grind (arith, (law.shape k r can.here).holds_spare, can.possible, s))
     go a None (Some n) p q s = absurd (grind (arith, can.possible, q))
-    go None (Some x) (Some n) p q s = absurd (grind (arith, law.shape.role k r can.here, can.possible, p, q))
+    go None (Some x) (Some n) p q s = absurd (grind (arith, (law.shape k r can.here).role, can.possible, p, q))
     go (Some i) (Some x) (Some n) p q s = at i x n i.link x.link p q s refl refl
 
 begin-sends : (w : World) (k : Key) (r : Router) (p : Key) (into out : LinkEnd) (o fresh : ℕ) → CanBegin w k r p into out o fresh →

@@ -122,7 +122,7 @@ begins-of w b g k r p inner outer o fresh law can = record {
   inward_still = is_nothing _ (grind (arith, can.possible));
   inner_known = ap (side_router g (inner_link p)) (sym side) ∙ ap (λ l. side_router g l inner.side) (sym can.inner_at) ∙ inner_is.router;
   inner_recorded = ap (is_recorded w g) (sym can.inner_at) ∙ inner_is.recorded;
-  inner_free = sym (bypass_of-inner g p) ∙ ap (bypass_of g) (sym can.inner_at) ∙ law.positions.inward_primary k r inner can.here can.inner;
+  inner_free = sym (bypass_of-inner g p) ∙ ap (bypass_of g) (sym can.inner_at) ∙ (law.positions.each k r can.here).inward_primary inner can.inner;
   inner_end = sym (inner_is.end ∙ ap (λ l. side_end g l inner.side) can.inner_at);
   linked = on.linked;
   known = on.known;
@@ -142,10 +142,10 @@ begins-of w b g k r p inner outer o fresh law can = record {
 }
   where
     inner_is : IsRecorded w g k r inner
-    inner_is = law.links.inward_primary k r inner can.here can.inner
+    inner_is = (law.links k r can.here).inward_primary inner can.inner
 
     outer_is : IsRecorded w g k r outer
-    outer_is = law.links.primary k r outer can.here can.outer
+    outer_is = (law.links k r can.here).primary outer can.outer
 
     holds : r.holds ≡ true
     holds = grind (arith, can.possible)
@@ -158,7 +158,7 @@ begins-of w b g k r p inner outer o fresh law can = record {
 
     side_of : (s : Side) → inner.side ≡ s → inner.side ≡ A
     side_of A e = e
-    side_of B e = absurd (grind (arith, law.links.inward_primary_inward k r inner can.here can.inner, can.inner_at, e))
+    side_of B e = absurd (grind (arith, (law.links k r can.here).inward_primary_inward inner can.inner, can.inner_at, e))
 
     side : inner.side ≡ A
     side = side_of inner.side refl

@@ -18,7 +18,7 @@ use Rattle.ipcz_world.proofs.frames.Frames.{same_key_tells, same_key-itself}
 use Rattle.ipcz_world.proofs.frames.RecordRules.{bypass_of-inner}
 use Rattle.ipcz_world.specs.Remembering.{begin_records}
 use Rattle.ipcz_world.proofs.facts.LinkTests.{side_is}
-use Rattle.ipcz_world.proofs.facts.BegunLengths.{begun-bypass_of}
+use Rattle.ipcz_world.proofs.frames.BegunLengths.{begun-bypass_of}
 use Rattle.ipcz_world.proofs.begins.Beginning.{Begins}
 use Rattle.ipcz_world.proofs.begins.BegunRecords.{router-begun, node-begun, end-begun, linked-begun, begun-here, by-inner, end_at}
 use Rattle.ipcz_world.proofs.begins.BegunWorld.{Sends}
@@ -212,7 +212,7 @@ module _ {w v : World} {b : Books} {g : Records} {k : Key} {r y : Router} {p : K
       side = grind (arith, begun-here g k o fresh p, end_at g k o fresh p p, is.inner_end)
 
       go : (e.side ≡ r.end.side) ⊎ (e.side ≡ opposite r.end.side) → e.side ≡ across_side after o
-      go (inl s) = absurd (apart (same_Some q k (sym (law.links.primary q z e at d).router ∙ ap (λ t. side_router g t e.side) l ∙ ap
+      go (inl s) = absurd (apart (same_Some q k (sym ((law.links q z at).primary e d).router ∙ ap (λ t. side_router g t e.side) l ∙ ap
           (side_router g (Central o)) s ∙ is.known)))
       go (inr s) = s ∙ ap opposite (sym side)
 
@@ -223,14 +223,14 @@ module _ {w v : World} {b : Books} {g : Records} {k : Key} {r y : Router} {p : K
   pub stays-free : (q : Key) (z : Router) (e : LinkEnd) → router_at w q ≡ Some z → (q ≡ k → ⊥) → (inward_edge z).primary ≡ Some e →
       (l : LinkId) (s : Side) → e.link ≡ l → e.side ≡ s → bypass_of after e.link ≡ None
   unfolding is_outward
-  stays-free q z e at apart d (Central j) s l t = absurd (grind (arith, law.links.inward_primary_inward q z e at d, l))
-  stays-free q z e at apart d (Peripheral n x) B l t = absurd (grind (arith, law.links.inward_primary_inward q z e at d, l, t))
+  stays-free q z e at apart d (Central j) s l t = absurd (grind (arith, (law.links q z at).inward_primary_inward e d, l))
+  stays-free q z e at apart d (Peripheral n x) B l t = absurd (grind (arith, (law.links q z at).inward_primary_inward e d, l, t))
   stays-free q z e at apart d (Peripheral n x) A l t = go (same_key_tells i p)
     where
       i : Key
       i = record { node = n; serial = x }
 
       go : ((same_key i p ≡ true) × (i ≡ p)) ⊎ ((same_key i p ≡ false) × (i ≢ p)) → bypass_of after e.link ≡ None
-      go (inl f) = absurd (apart (same_Some q k (sym (law.links.inward_primary q z e at d).router ∙ ap (λ u. side_router g u e.side) l ∙ ap
+      go (inl f) = absurd (apart (same_Some q k (sym ((law.links q z at).inward_primary e d).router ∙ ap (λ u. side_router g u e.side) l ∙ ap
           (side_router g (inner_link i)) t ∙ ap (λ u. side_router g (inner_link u) A) f.1 ∙ is.inner_known)))
-      go (inr f) = ap (bypass_of after) l ∙ by-other i f.0 ∙ sym (ap (bypass_of g) l) ∙ law.positions.inward_primary q z e at d
+      go (inr f) = ap (bypass_of after) l ∙ by-other i f.0 ∙ sym (ap (bypass_of g) l) ∙ (law.positions.each q z at).inward_primary e d

@@ -1,4 +1,10 @@
 -- A proxy begins: its links decay, as their records and the bypass say; the counters go on.
+use Rattle.ipcz_world.proofs.Vocabulary.{HasLinks}
+use Rattle.ipcz_world.proofs.frames.EachKept.{each-by}
+use Rattle.ipcz_world.proofs.frames.LinksKept.{links-still}
+use Rattle.ipcz_world.proofs.Vocabulary.{HasShape}
+use Rattle.ipcz_world.proofs.frames.EachKept.{each-one}
+use Rattle.ipcz_world.proofs.facts.Tests.{not_both}
 use Rattle.ipcz_world.proofs.begins.BegunAround.{unsent}
 use Rattle.std.specs.Prelude.{◌≡◌, ◌≢◌, ◌⊎◌, ◌≤◌, ℕ, ◌+◌, ◌*◌, Bool, true, false, nat_eq, Some, None, is_some, refl}
 use Rattle.std.proofs.Common.{arith, sym, ◌∙◌, ap, subst, inl, inr}
@@ -70,221 +76,160 @@ module _ {w v : World} {b : Books} {g : Records} {k : Key} {r y : Router} {p : K
       mail : (n from : ℕ) → mail_at v (way v from n) ≡ mail_at w (way w from n)
       mail n from = c.mail (way v from n) ∙ ap (λ i. mail_at w (from * i + n)) c.count
 
-  pub shape-begun : Shape v
-  shape-begun = record {
-    role = λ q z at. elim (before q z at) [
-      | inl e ↦ law.shape.role q z e.0
-      | inr e ↦ grind
-          (arith, e.1, new.terminal, new.inward_primary, new.primary)
-    ];
-    marked_central = λ q z at n. elim (before q z at) [
-      | inl e ↦ law.shape.marked_central q z e.0 n
-      | inr e ↦ absurd
-          (grind (arith, e.1, new.marked, n))
-    ];
-    marked_still = λ q z at n. elim (before q z at) [
-      | inl e ↦ law.shape.marked_still q z e.0 n
-      | inr e ↦ absurd
-          (grind (arith, e.1, new.marked, n))
-    ];
-    holds_marked = λ q z at n. elim (before q z at) [
-      | inl e ↦ law.shape.holds_marked q z e.0 n
-      | inr e ↦ absurd
-          (grind (arith, e.1, new.holds, n))
-    ];
-    holds_fit = λ q z at n. elim (before q z at) [
-      | inl e ↦ law.shape.holds_fit q z e.0 n
-      | inr e ↦ absurd
-          (grind (arith, e.1, new.holds, n))
-    ];
-    dropped_sink = λ q z at n. elim (before q z at) [
-      | inl e ↦ law.shape.dropped_sink q z e.0 n
-      | inr e ↦ absurd (grind (arith, law.shape.dropped_sink k r is.here (sym new.mark_dropped ∙ ap (λ t. t.mark_dropped) (sym e.1) ∙ n), is.proxy))
-    ];
-    sent_proxy = λ q z at n. elim (before q z at) [
-      | inl e ↦ law.shape.sent_proxy q z e.0 n
-      | inr e ↦ unsent law is c new (sym new.gone_sent ∙ ap (λ t. t.gone_sent) (sym e.1) ∙ n)
-    ];
-    holds_spare = λ q z at n. elim (before q z at) [
-      | inl e ↦ law.shape.holds_spare q z e.0 n
-      | inr e ↦ absurd
-          (grind (arith, e.1, new.holds, n))
-    ];
-    spare_proxy = λ q z j at n. elim (before q z at) [
-      | inl e ↦ law.shape.spare_proxy q z j e.0 n
-      | inr e ↦ absurd
-          (grind (arith, e.1, new.spare, n))
-    ];
-    spare_primary = λ q z j at n. elim (before q z at) [
-      | inl e ↦ law.shape.spare_primary q z j e.0 n
-      | inr e ↦ absurd
-          (grind (arith, e.1, new.spare, n))
-    ];
+  shape-new : HasShape y
+  shape-new = record {
+    role = grind (arith, new.terminal, new.inward_primary, new.primary);
+    marked_central = λ m. absurd (not_both y.marked m new.marked);
+    marked_still = λ m. absurd (not_both y.marked m new.marked);
+    holds_marked = λ m. absurd (not_both y.holds m new.holds);
+    holds_fit = λ m. absurd (not_both y.holds m new.holds);
+    holds_spare = λ m p. absurd (not_both y.holds m new.holds);
+    dropped_sink = λ m. absurd (grind (arith, (law.shape k r is.here).dropped_sink (sym new.mark_dropped ∙ m), is.proxy));
+    sent_proxy = λ m. unsent law is c new (sym new.gone_sent ∙ m);
+    spare_proxy = λ i e. absurd (grind (arith, new.spare, e));
+    spare_primary = λ i e. absurd (grind (arith, new.spare, e));
   }
 
+  pub shape-begun : Shape v
+  shape-begun = each-one w v k y HasShape c.routers law.shape shape-new
+
   pub links-begun : Links v after
-  links-begun = record {
-    primary = λ q z e at d. elim (before q z at) [
-      | inl a ↦ recorded-still law is c new q z z e refl (law.links.primary q z e a.0 d)
-      | inr a ↦ no-primary law is c new
-          q z e a d
-    ];
-    decaying = λ q z e at d. elim (before q z at) [
-      | inl a ↦ recorded-still law is c new q z z e refl (law.links.decaying q z e a.0 d)
-      | inr a ↦ its k r q
-          z e out (sym a.0) (ap (λ t. t.end) a.1 ∙ new.end) (sym (its-out law is c new q z e a d))
-          (law.links.primary k r out is.here is.outer)
-    ];
-    inward_primary = λ q z e at d. elim (before q z at) [
-      | inl a ↦ recorded-still law is c new q z z e refl (law.links.inward_primary q z e a.0 d)
-      | inr a
-          ↦ no-inward law is c new q z e a d
-    ];
-    inward_decaying = λ q z e at d. elim (before q z at) [
-      | inl a ↦ recorded-still law is c new q z z e refl (law.links.inward_decaying q z e a.0 d)
-      | inr
-          a ↦ its k r q z e into (sym a.0) (ap (λ t. t.end) a.1 ∙ new.end) (sym (its-into law is c new q z e a d))
-          (law.links.inward_primary k r into is.here is.inner)
-    ];
-    primary_outward = λ q z e at d.
-        elim (before q z at) [ inl a ↦ law.links.primary_outward q z e a.0 d | inr a ↦ no-primary law is c new q z e a d ];
-    decaying_outward = λ q z e at d. elim (before q z at) [
-      | inl a ↦ law.links.decaying_outward q z e a.0 d
-      | inr a ↦ ap
-          (λ t. is_outward t.link t.side) (its-out law is c new q z e a d) ∙ law.links.primary_outward k r out is.here is.outer
-    ];
-    inward_primary_inward = λ q z e at d. elim (before q z at) [
-      | inl a ↦ law.links.inward_primary_inward q z e a.0 d
-      | inr a ↦ no-inward law is c new q z
-          e a d
-    ];
-    inward_decaying_inward = λ q z e at d. elim (before q z at) [
-      | inl a ↦ law.links.inward_decaying_inward q z e a.0 d
-      | inr a ↦ ap
-          (λ t. is_outward t.link t.side) (its-into law is c new q z e a d) ∙ law.links.inward_primary_inward k r into is.here is.inner
-    ];
-  }
+  links-begun = each-by w v k y (HasLinks w g) (HasLinks v after) c.routers (λ q z. links-still (λ e. recorded-still law is c new q z z e refl))
+      law.links
+      (record {
+        primary = λ e d. no-primary law is c new k y e (refl, refl) d;
+        decaying = λ e d. its e out (sym (its-out law is c new k y e (refl, refl) d)) ((law.links k r is.here).primary out is.outer);
+        inward_primary = λ e d. no-inward law is c new k y e (refl, refl) d;
+        inward_decaying = λ e d. its e into (sym (its-into law is c new k y e (refl, refl) d))
+            ((law.links k r is.here).inward_primary into is.inner);
+        primary_outward = λ e d. no-primary law is c new k y e (refl, refl) d;
+        decaying_outward = λ e d. ap (λ t. is_outward t.link t.side) (its-out law is c new k y e (refl, refl) d) ∙
+            (law.links k r is.here).primary_outward out is.outer;
+        inward_primary_inward = λ e d. no-inward law is c new k y e (refl, refl) d;
+        inward_decaying_inward = λ e d. ap (λ t. is_outward t.link t.side) (its-into law is c new k y e (refl, refl) d) ∙
+            (law.links k r is.here).inward_primary_inward into is.inner;
+      })
     where
-      its : (i : Key) (x : Router) (q : Key) (z : Router) (e f : LinkEnd) → i ≡ q → z.end ≡ x.end → f ≡ e → IsRecorded w g i x f →
-          IsRecorded v after q z e
-      its i x q z e f a s d at = subst (λ j. IsRecorded v after j z e) a
-          (subst (λ t. IsRecorded v after i z t) d (recorded-still law is c new i x z f s at))
+      its : (e f : LinkEnd) → f ≡ e → IsRecorded w g k r f → IsRecorded v after k y e
+      its e f d at = subst (λ t. IsRecorded v after k y t) d (recorded-still law is c new k r y f new.end at)
 
   pub positions-begun : Positions v after
   positions-begun = record {
-    inward_primary = λ q z e at d. elim (before q z at) [
-      | inl a ↦ stays-free law is c new q z e a.0 a.1 d e.link e.side refl refl
-      | inr a ↦ no-inward law is c new q z
-          e a d
-    ];
-    inward_decaying = λ q z e at d. elim (before q z at) [
-      | inl a ↦ still-by law is c new e.link (has q z e a.0 d) ∙ law.positions.inward_decaying q z e a.0 d ∙
-          sym (begun-same law is c new q a.1)
-      | inr a ↦ ap (λ t. bypass_of after t.link) (its-into law is c new q z e a d) ∙ ap (bypass_of after) is.inner_at ∙
-          by-new law is c new ∙ sym
-          (ap after.begun a.0 ∙ begun-new law is c new)
-    ];
-    inward_to = λ q z e j at d f. elim (before q z at) [
-      | inl a ↦ let i : g.begun q ≡ Some j = sym (begun-same law is c new q a.1) ∙ f in
-          law.positions.inward_to q z e j a.0 d i ∙ ap (λ t. known_from 4 t.stage t.accepted_at) (sym (old-begun q j i))
-      | inr a ↦ ap (λ t. (inward_edge t).length_to) a.1 ∙ new.inward_to ∙ sym (mine _ q j a.0 f)
-    ];
-    inward_from = λ q z e j at d f. elim (before q z at) [
-      | inl a ↦ let i : g.begun q ≡ Some j = sym (begun-same law is c new q a.1) ∙ f in
-          law.positions.inward_from q z e j a.0 d i ∙ ap (λ t. known_from 4 t.stage t.taken_at) (sym (old-begun q j i))
-      | inr a ↦ ap (λ t. (inward_edge t).length_from) a.1 ∙ new.inward_from ∙ sym (mine _ q j a.0 f)
-    ];
-    primary_old = λ q z e j at d l f. elim (before q z at) [
-      | inl a ↦ old-stage q z e j a.0 d l f (nat_eq j o) refl
-      | inr a ↦ no-primary law is c new q z
-          e a d
-    ];
-    primary_across = λ q z e j at d l f. elim (before q z at) [
-      | inl a ↦ old-side q z e j a.0 a.1 d l f (nat_eq j o) refl
-      | inr a ↦
-          no-primary law is c new q z e a d
-    ];
-    primary_inner = λ q z e i j at d l f. elim (before q z at) [
-      | inl a ↦ inner-stage q z e i j a.0 d l f (same_key_tells i p)
-      | inr a ↦
-          no-primary law is c new q z e a d
-    ];
-    decaying = λ q z e at d. elim (before q z at) [
-      | inl a ↦ ap is_some (still-by law is c new e.link (law.positions.decaying q z e a.0 d)) ∙ law.positions.decaying q z e a.0 d
-      | inr a ↦ ap (λ t. is_some (bypass_of after t.link)) (its-out law is c new q z e a d) ∙
-          ap (λ t. is_some (bypass_of after t)) is.outer_at ∙ ap
-          is_some (by-old law is c new)
-    ];
-    inner_stage = λ q z e i j at d l f. elim (before q z at) [
-      | inl a ↦ let n = inner-old q z e i j a.0 d l f in
-          subst (λ t. 2 ≤ t.stage) (sym n.1) (law.positions.inner_stage q z e i j a.0 d l n.0)
-      | inr a ↦ no-inner q z e i a d l
-    ];
-    inner_to = λ q z e i j at d l f. elim (before q z at) [
-      | inl a ↦ let n = inner-old q z e i j a.0 d l f in
-          law.positions.inner_to q z e i j a.0 d l n.0 ∙ ap (λ t. Some t.taken_at) (sym n.1)
-      | inr a ↦ no-inner q z e i a d l
-    ];
-    inner_from = λ q z e i j at d l f. elim (before q z at) [
-      | inl a ↦ let n = inner-old q z e i j a.0 d l f in
-          law.positions.inner_from q z e i j a.0 d l n.0 ∙ ap (λ t. known_from 5 t.stage t.accepted_at) (sym n.1)
-      | inr a ↦ no-inner q z e i a
-          d l
-    ];
-    inner_fresh = λ q z e i j at d l f. elim (before q z at) [
-      | inl a ↦ let n = inner-old q z e i j a.0 d l f in
-          law.positions.inner_fresh q z e i j a.0 d l n.0 ∙ ap (λ t. Some (Central t.fresh)) (sym n.1)
-      | inr a ↦ no-inner q z e i a d l
-    ];
-    own_proxy = λ q z e j at d l s. elim (before q z at) [
-      | inl a ↦ let n = word-old q z e j a.0 d l in ap (λ t. t.proxy) (begun-else g k o fresh p j n) ∙ law.positions.own_proxy q z e j a.0 d
-          l (s ∙ side-begun g k o fresh p j n)
-      | inr a ↦ ap (λ t. (after.bypass t).proxy) (its-word q z e j a d l) ∙ ap (λ t. t.proxy) (begun-here g k o fresh p) ∙ sym a.0
-    ];
-    own_alone = λ q z e j at d l s. elim (before q z at) [
-      | inl a ↦ law.positions.own_alone q z e j a.0 d l
-          (s ∙ side-begun g k o fresh p j (word-old q z e j a.0 d l))
-      | inr a ↦ ap (λ t. t.outward.primary) a.1 ∙ new.primary
-    ];
-    own_to = λ q z e j at d l s. elim (before q z at) [
-      | inl a ↦ let n = word-old q z e j a.0 d l in law.positions.own_to q z e j a.0 d l (s ∙ side-begun g k o fresh p j n) ∙ ap
-          (λ t. known_from 4 t.stage t.taken_at) (sym (begun-else g k o fresh p j n))
-      | inr a ↦ ap (λ t. t.outward.length_to) a.1 ∙ new.length_to ∙ sym (early _ (its-word q z e j a d l))
-    ];
-    own_from = λ q z e j at d l s. elim (before q z at) [
-      | inl a ↦ let n = word-old q z e j a.0 d l in law.positions.own_from q z e j a.0 d l (s ∙ side-begun g k o fresh p j n) ∙ ap
-          (λ t. known_from 4 t.stage t.accepted_at) (sym (begun-else g k o fresh p j n))
-      | inr a ↦ ap (λ t. t.outward.length_from) a.1 ∙ new.length_from ∙ sym (early _ (its-word q z e j a d l))
-    ];
-    across_stage = λ q z e j at d l s. elim (before q z at) [
-      | inl a ↦ let n = word-old q z e j a.0 d l in
-          subst (λ t. 3 ≤ t.stage) (sym (begun-else g k o fresh p j n))
-          (law.positions.across_stage q z e j a.0 d l (s ∙ ap opposite (side-begun g k o fresh p j n)))
-      | inr a ↦ not-across q z e j a d l s
-    ];
-    across_to = λ q z e j at d l s. elim (before q z at) [
-      | inl a ↦ let n = word-old q z e j a.0 d l in
-          law.positions.across_to q z e j a.0 d l (s ∙ ap opposite (side-begun g k o fresh p j n)) ∙ ap (λ t. Some t.accepted_at)
-          (sym (begun-else g k o fresh p j n))
-      | inr a ↦ not-across q z e j a d l s
-    ];
-    across_from = λ q z e j at d l s. elim (before q z at) [
-      | inl a ↦ let n = word-old q z e j a.0 d l in
-          law.positions.across_from q z e j a.0 d l (s ∙ ap opposite (side-begun g k o fresh p j n)) ∙ ap (λ t. Some t.taken_at)
-          (sym (begun-else g k o fresh p j n))
-      | inr a ↦ not-across q z e j a d l s
-    ];
-    across_fresh = λ q z e j at d l s. elim (before q z at) [
-      | inl a ↦ let n = word-old q z e j a.0 d l in
-          law.positions.across_fresh q z e j a.0 d l (s ∙ ap opposite (side-begun g k o fresh p j n)) ∙ ap (λ t. Some (Central t.fresh))
-          (sym (begun-else g k o fresh p j n))
-      | inr a ↦ not-across q z e j a d l s
-    ];
-    begun = λ q z at f. elim (before q z at) [
-      | inl a ↦ ap is_some (begun-same law is c new q a.1) ∙ law.positions.begun q z a.0 f
-      | inr a ↦ ap
-          (λ t. is_some (after.begun t)) a.0 ∙ ap is_some (begun-new law is c new)
-    ];
+    each = λ q z at. record {
+      inward_primary = λ e d. elim (before q z at) [
+        | inl a ↦ stays-free law is c new q z e a.0 a.1 d e.link e.side refl refl
+        | inr a ↦ no-inward law is c new q z
+            e a d
+      ];
+      inward_decaying = λ e d. elim (before q z at) [
+        | inl a ↦ still-by law is c new e.link (has q z e a.0 d) ∙ (law.positions.each q z a.0).inward_decaying e d ∙
+            sym (begun-same law is c new q a.1)
+        | inr a ↦ ap (λ t. bypass_of after t.link) (its-into law is c new q z e a d) ∙ ap (bypass_of after) is.inner_at ∙
+            by-new law is c new ∙ sym
+            (ap after.begun a.0 ∙ begun-new law is c new)
+      ];
+      inward_to = λ e j d f. elim (before q z at) [
+        | inl a ↦ let i : g.begun q ≡ Some j = sym (begun-same law is c new q a.1) ∙ f in
+            (law.positions.each q z a.0).inward_to e j d i ∙ ap (λ t. known_from 4 t.stage t.accepted_at) (sym (old-begun q j i))
+        | inr a ↦ ap (λ t. (inward_edge t).length_to) a.1 ∙ new.inward_to ∙ sym (mine _ q j a.0 f)
+      ];
+      inward_from = λ e j d f. elim (before q z at) [
+        | inl a ↦ let i : g.begun q ≡ Some j = sym (begun-same law is c new q a.1) ∙ f in
+            (law.positions.each q z a.0).inward_from e j d i ∙ ap (λ t. known_from 4 t.stage t.taken_at) (sym (old-begun q j i))
+        | inr a ↦ ap (λ t. (inward_edge t).length_from) a.1 ∙ new.inward_from ∙ sym (mine _ q j a.0 f)
+      ];
+      primary_old = λ e j d l f. elim (before q z at) [
+        | inl a ↦ old-stage q z e j a.0 d l f (nat_eq j o) refl
+        | inr a ↦ no-primary law is c new q z
+            e a d
+      ];
+      primary_across = λ e j d l f. elim (before q z at) [
+        | inl a ↦ old-side q z e j a.0 a.1 d l f (nat_eq j o) refl
+        | inr a ↦
+            no-primary law is c new q z e a d
+      ];
+      primary_inner = λ e i j d l f. elim (before q z at) [
+        | inl a ↦ inner-stage q z e i j a.0 d l f (same_key_tells i p)
+        | inr a ↦
+            no-primary law is c new q z e a d
+      ];
+      decaying = λ e d. elim (before q z at) [
+        | inl a ↦ ap is_some (still-by law is c new e.link ((law.positions.each q z a.0).decaying e d)) ∙ (law.positions.each q z a.0).decaying e d
+        | inr a ↦ ap (λ t. is_some (bypass_of after t.link)) (its-out law is c new q z e a d) ∙
+            ap (λ t. is_some (bypass_of after t)) is.outer_at ∙ ap
+            is_some (by-old law is c new)
+      ];
+      inner_stage = λ e i j d l f. elim (before q z at) [
+        | inl a ↦ let n = inner-old q z e i j a.0 d l f in
+            subst (λ t. 2 ≤ t.stage) (sym n.1) ((law.positions.each q z a.0).inner_stage e i j d l n.0)
+        | inr a ↦ no-inner q z e i a d l
+      ];
+      inner_to = λ e i j d l f. elim (before q z at) [
+        | inl a ↦ let n = inner-old q z e i j a.0 d l f in
+            (law.positions.each q z a.0).inner_to e i j d l n.0 ∙ ap (λ t. Some t.taken_at) (sym n.1)
+        | inr a ↦ no-inner q z e i a d l
+      ];
+      inner_from = λ e i j d l f. elim (before q z at) [
+        | inl a ↦ let n = inner-old q z e i j a.0 d l f in
+            (law.positions.each q z a.0).inner_from e i j d l n.0 ∙ ap (λ t. known_from 5 t.stage t.accepted_at) (sym n.1)
+        | inr a ↦ no-inner q z e i a
+            d l
+      ];
+      inner_fresh = λ e i j d l f. elim (before q z at) [
+        | inl a ↦ let n = inner-old q z e i j a.0 d l f in
+            (law.positions.each q z a.0).inner_fresh e i j d l n.0 ∙ ap (λ t. Some (Central t.fresh)) (sym n.1)
+        | inr a ↦ no-inner q z e i a d l
+      ];
+      own_proxy = λ e j d l s. elim (before q z at) [
+        | inl a ↦ let n = word-old q z e j a.0 d l in ap (λ t. t.proxy) (begun-else g k o fresh p j n) ∙ (law.positions.each q z a.0).own_proxy e j d
+            l (s ∙ side-begun g k o fresh p j n)
+        | inr a ↦ ap (λ t. (after.bypass t).proxy) (its-word q z e j a d l) ∙ ap (λ t. t.proxy) (begun-here g k o fresh p) ∙ sym a.0
+      ];
+      own_alone = λ e j d l s. elim (before q z at) [
+        | inl a ↦ (law.positions.each q z a.0).own_alone e j d l
+            (s ∙ side-begun g k o fresh p j (word-old q z e j a.0 d l))
+        | inr a ↦ ap (λ t. t.outward.primary) a.1 ∙ new.primary
+      ];
+      own_to = λ e j d l s. elim (before q z at) [
+        | inl a ↦ let n = word-old q z e j a.0 d l in (law.positions.each q z a.0).own_to e j d l (s ∙ side-begun g k o fresh p j n) ∙ ap
+            (λ t. known_from 4 t.stage t.taken_at) (sym (begun-else g k o fresh p j n))
+        | inr a ↦ ap (λ t. t.outward.length_to) a.1 ∙ new.length_to ∙ sym (early _ (its-word q z e j a d l))
+      ];
+      own_from = λ e j d l s. elim (before q z at) [
+        | inl a ↦ let n = word-old q z e j a.0 d l in (law.positions.each q z a.0).own_from e j d l (s ∙ side-begun g k o fresh p j n) ∙ ap
+            (λ t. known_from 4 t.stage t.accepted_at) (sym (begun-else g k o fresh p j n))
+        | inr a ↦ ap (λ t. t.outward.length_from) a.1 ∙ new.length_from ∙ sym (early _ (its-word q z e j a d l))
+      ];
+      across_stage = λ e j d l s. elim (before q z at) [
+        | inl a ↦ let n = word-old q z e j a.0 d l in
+            subst (λ t. 3 ≤ t.stage) (sym (begun-else g k o fresh p j n))
+            ((law.positions.each q z a.0).across_stage e j d l (s ∙ ap opposite (side-begun g k o fresh p j n)))
+        | inr a ↦ not-across q z e j a d l s
+      ];
+      across_to = λ e j d l s. elim (before q z at) [
+        | inl a ↦ let n = word-old q z e j a.0 d l in
+            (law.positions.each q z a.0).across_to e j d l (s ∙ ap opposite (side-begun g k o fresh p j n)) ∙ ap (λ t. Some t.accepted_at)
+            (sym (begun-else g k o fresh p j n))
+        | inr a ↦ not-across q z e j a d l s
+      ];
+      across_from = λ e j d l s. elim (before q z at) [
+        | inl a ↦ let n = word-old q z e j a.0 d l in
+            (law.positions.each q z a.0).across_from e j d l (s ∙ ap opposite (side-begun g k o fresh p j n)) ∙ ap (λ t. Some t.taken_at)
+            (sym (begun-else g k o fresh p j n))
+        | inr a ↦ not-across q z e j a d l s
+      ];
+      across_fresh = λ e j d l s. elim (before q z at) [
+        | inl a ↦ let n = word-old q z e j a.0 d l in
+            (law.positions.each q z a.0).across_fresh e j d l (s ∙ ap opposite (side-begun g k o fresh p j n)) ∙ ap (λ t. Some (Central t.fresh))
+            (sym (begun-else g k o fresh p j n))
+        | inr a ↦ not-across q z e j a d l s
+      ];
+      begun = λ f. elim (before q z at) [
+        | inl a ↦ ap is_some (begun-same law is c new q a.1) ∙ (law.positions.each q z a.0).begun f
+        | inr a ↦ ap
+            (λ t. is_some (after.begun t)) a.0 ∙ ap is_some (begun-new law is c new)
+      ];
+    };
     begun_proxy = λ q j f. proxies q j f (same_key_tells q k);
     begun_stage = λ q j f. stages q j f (same_key_tells q k);
     proxy_begun = by_word o {P = λ j. is_begun (after.bypass j) ≡ true → after.begun (after.bypass j).proxy ≡ Some j}
@@ -296,14 +241,14 @@ module _ {w v : World} {b : Books} {g : Records} {k : Key} {r y : Router} {p : K
     where
       has : (q : Key) (z : Router) (e : LinkEnd) → router_at w q ≡ Some z → (inward_edge z).decaying ≡ Some e →
           is_some (bypass_of g e.link) ≡ true
-      has q z e at d = ap is_some (law.positions.inward_decaying q z e at d) ∙ some-begun q z at (ap is_some d)
+      has q z e at d = ap is_some ((law.positions.each q z at).inward_decaying e d) ∙ some-begun q z at (ap is_some d)
         where
           some-begun : (q : Key) (z : Router) → router_at w q ≡ Some z → is_some (inward_edge z).decaying ≡ true →
               is_some (g.begun q) ≡ true
-          some-begun q z at i = law.positions.begun q z at (role q z at i)
+          some-begun q z at i = (law.positions.each q z at).begun (role q z at i)
             where
               role : (q : Key) (z : Router) → router_at w q ≡ Some z → is_some (inward_edge z).decaying ≡ true → is_begun_router z ≡ true
-              role q z at i = grind (arith, law.shape.role q z at, i)
+              role q z at i = grind (arith, (law.shape q z at).role, i)
 
       old-begun : (q : Key) (j : ℕ) → g.begun q ≡ Some j → after.bypass j ≡ g.bypass j
       old-begun q j i = begun-else g k o fresh p j (not-begun law is c new j (law.positions.begun_stage q j i))
@@ -318,13 +263,13 @@ module _ {w v : World} {b : Books} {g : Records} {k : Key} {r y : Router} {p : K
       old-stage : (q : Key) (z : Router) (e : LinkEnd) (j : ℕ) → router_at w q ≡ Some z → z.outward.primary ≡ Some e → e.link ≡ Central j →
           is_begun (after.bypass j) ≡ true → (t : Bool) → nat_eq j o ≡ t → (after.bypass j).stage ≤ 2
       old-stage q z e j at d l f true n = grind (arith, n, nat_tests)
-      old-stage q z e j at d l f false n = grind (arith, begun-else g k o fresh p j n, law.positions.primary_old q z e j at d l, f)
+      old-stage q z e j at d l f false n = grind (arith, begun-else g k o fresh p j n, (law.positions.each q z at).primary_old e j d l, f)
 
       old-side : (q : Key) (z : Router) (e : LinkEnd) (j : ℕ) → router_at w q ≡ Some z → (q ≡ k → ⊥) → z.outward.primary ≡ Some e →
           e.link ≡ Central j → is_begun (after.bypass j) ≡ true → (t : Bool) → nat_eq j o ≡ t → e.side ≡ across_side after j
       old-side q z e j at apart d l f true n = let i : j ≡ o = grind (arith, n, nat_tests) in
           across-is law is c new q z e at apart d (l ∙ ap Central i) ∙ ap (across_side after) (sym i)
-      old-side q z e j at apart d l f false n = law.positions.primary_across q z e j at d l (grind (arith, begun-else g k o fresh p j n, f))
+      old-side q z e j at apart d l f false n = (law.positions.each q z at).primary_across e j d l (grind (arith, begun-else g k o fresh p j n, f))
           ∙ ap opposite (sym (side-begun g k o fresh p j n))
 
       inner-stage : (q : Key) (z : Router) (e : LinkEnd) (i : Key) (j : ℕ) → router_at w q ≡ Some z → z.outward.primary ≡ Some e →
@@ -334,15 +279,14 @@ module _ {w v : World} {b : Books} {g : Records} {k : Key} {r y : Router} {p : K
           ap (λ t. (after.bypass t).stage) n ∙ ap (λ t. t.stage) (begun-here g k o fresh p)
       inner-stage q z e i j at d l f (inr a) = let n : (g.peripheral i).by ≡ Some j = grind (arith, f, by-inner g k o fresh p i, a) in
           ap (λ t. t.stage) (begun-else g k o fresh p j (not-begun law is c new j (law.stands.by_begun i j n))) ∙
-          law.positions.primary_inner q z e i j
-          at d l n
+          (law.positions.each q z at).primary_inner e i j d l n
 
       inner-old : (q : Key) (z : Router) (e : LinkEnd) (i : Key) (j : ℕ) → router_at w q ≡ Some z → z.outward.decaying ≡ Some e →
           e.link ≡ inner_link i → (after.peripheral i).by ≡ Some j → ((g.peripheral i).by ≡ Some j) × (after.bypass j ≡ g.bypass j)
       inner-old q z e i j at d l f =
           let n : same_key i p ≡ false =
           not-inner law is c new i (ap is_some (sym (bypass_of-inner g i)) ∙ ap (λ t. is_some (bypass_of g t)) (sym l) ∙
-          law.positions.decaying q z e at d) in
+          (law.positions.each q z at).decaying e d) in
           let a : (g.peripheral i).by ≡ Some j = grind (arith, f, by-inner g k o fresh p i, n) in
           (a, begun-else g k o fresh p j (not-begun law is c new j (law.stands.by_begun i j a)))
 
@@ -352,7 +296,7 @@ module _ {w v : World} {b : Books} {g : Records} {k : Key} {r y : Router} {p : K
 
       word-old : (q : Key) (z : Router) (e : LinkEnd) (j : ℕ) → router_at w q ≡ Some z → z.outward.decaying ≡ Some e → e.link ≡ Central j →
           nat_eq j o ≡ false
-      word-old q z e j at d l = not-old law is c new j (ap (λ t. is_some (bypass_of g t)) (sym l) ∙ law.positions.decaying q z e at d)
+      word-old q z e j at d l = not-old law is c new j (ap (λ t. is_some (bypass_of g t)) (sym l) ∙ (law.positions.each q z at).decaying e d)
 
       its-word : (q : Key) (z : Router) (e : LinkEnd) (j : ℕ) → (q ≡ k) × (z ≡ y) → z.outward.decaying ≡ Some e → e.link ≡ Central j → j ≡ o
       its-word q z e j a d l = word_same law is c new j o (sym l ∙ ap (λ t. t.link) (its-out law is c new q z e a d) ∙ is.outer_at)

@@ -1,8 +1,10 @@
 -- A proxy begins: no item moves, so numbers and places are as they were.
+use Rattle.ipcz_world.proofs.Vocabulary.{IsOrdered}
+use Rattle.ipcz_world.proofs.frames.EachKept.{each-one}
 use Rattle.std.specs.Prelude.{◌||◌}
 use Rattle.ipcz_world.specs.Records.{is_left}
 use Rattle.ipcz_world.proofs.begins.BegunRecords.{left-begun}
-use Rattle.ipcz_world.proofs.weights.OfRecords.{holds, held_times, source, in_message, in_node, in_places}
+use Rattle.ipcz_world.proofs.weights.OfRecords.{holds, held_times, in_places}
 use Rattle.ipcz_world.proofs.Vocabulary.{Weight, in_router, at_end, names_end, times, Side, A, B, End, LinkId, Central, Peripheral}
 use Rattle.ipcz_world.proofs.Vocabulary.{LinkEnd, Descriptor, Item, Message, opposite, same_end, has_end, opposite_end, has_link}
 use Rattle.ipcz_world.proofs.Vocabulary.{same_link, Router, World, Key, same_key, node_at, router_at, Books, is_closed, Records}
@@ -11,7 +13,7 @@ use Rattle.ipcz_world.proofs.Vocabulary.{IsUnderWay, makes, of_end, moves_of, to
 use Rattle.ipcz_world.proofs.Vocabulary.{router_view, is_attached, sending_queue, fed_queue, next_sent, taking_queue, is_gone, is_awaited}
 use Rattle.ipcz_world.proofs.Vocabulary.{Ordered, inner_of, moving_link, Terminals, EndPlaces, BooksKept, Conserved, HeldOnce, times_held}
 use Rattle.ipcz_world.proofs.Vocabulary.{Items, Order, ProxyNumbers, FreshNumbers, has_passed, standing_router, Inv}
-use Rattle.ipcz_world.specs.Places.{in_message as in_message', in_node as in_node', in_places as in_places'}
+use Rattle.ipcz_world.specs.Places.{in_message as in_message'}
 use Rattle.std.specs.Prelude.{◌≡◌, ◌≢◌, ◌⊎◌, ◌≤◌, ◌<◌, ℕ, zero, suc, ◌+◌, Bool, true, false, cond, nat_eq, Option, Some, None, is_some}
 use Rattle.std.specs.Prelude.{List, [], ◌∷◌, slice_get, refl}
 use Rattle.std.proofs.Common.{arith, sym, ◌∙◌, ap, subst, inl, inr}
@@ -28,7 +30,7 @@ use Rattle.ipcz_world.specs.Numbers.{IsItemUnderWay}
 use Rattle.ipcz_world.proofs.weights.Sums.{total_below-same}
 use Rattle.ipcz_world.proofs.weights.Weights.{in_option}
 use Rattle.ipcz_world.proofs.views.Views.{Stood, view_rules}
-use Rattle.ipcz_world.proofs.flows.Flowing.{CameFrom, IsLast, came_pushed, under_way-pushed, under_way-congr}
+use Rattle.ipcz_world.proofs.flows.Flowing.{CameFrom, IsLast, came_pushed, under_way-pushed}
 use Rattle.ipcz_world.proofs.begins.Beginning.{Begins}
 use Rattle.ipcz_world.proofs.begins.BegunRecords.{linked-begun, end_at, inner_router, router-begun, node-begun, end-begun, source-begun}
 use Rattle.ipcz_world.proofs.begins.BegunRecords.{view-begun, length-begun, begun-here, begun-else, side-begun}
@@ -36,27 +38,7 @@ use Rattle.ipcz_world.proofs.begins.BegunWorld.{Sends}
 use Rattle.ipcz_world.proofs.begins.BegunAround.{IsBegunFrom, before, rec-begun}
 use Rattle.ipcz_world.proofs.begins.BegunStages.{passes-begun}
 use Rattle.ipcz_world.proofs.facts.Lengths.{same_link-itself, same_link-tells}
-use Rattle.ipcz_world.proofs.weights.Totalling.{total_list-same}
-
-message-sources : (f : Weight) (g h : Records) → ((l : LinkId) (s : Side) → source h l s ≡ source g l s) → (m : Message) →
-    in_message f h m ≡ in_message f g m
-unfolding in_message'
-message-sources f g h same (messages.Item l s n item moves) = ap (λ e. f e n item) (same l s)
-message-sources f g h same other = refl
-
--- places weigh the same by records that tell the same sources
-pub places-sources : (f : Weight) (g h : Records) (v : World) → ((l : LinkId) (s : Side) → source h l s ≡ source g l s) →
-    in_places f h v ≡ in_places f g v
-unfolding in_places' in_node'
-places-sources f g h v same = omega (
-  arith,
-  total_below-same v.count (λ n. in_node f h (node_at v n)) (λ n. in_node f g (node_at v n))
-      (λ n. omega (arith, total_list-same (in_message f h) (in_message f g) (node_at v n).strays message)),
-  under_way-congr (λ from to m. in_message f h m) (λ from to m. in_message f g m) v (λ from to i m u. message m),
-)
-  where
-    message : (m : Message) → in_message f h m ≡ in_message f g m
-    message m = message-sources f g h same m
+use Rattle.ipcz_world.proofs.weights.Sourcing.{places-sources}
 
 -- who carries a descriptor makes its link's router
 moved : (l : LinkId) (ds : List Descriptor) (i : ℕ) (d : Descriptor) → slice_get ds i ≡ Some d → d.link ≡ l → has_moved l ds ≡ true
@@ -100,18 +82,10 @@ module _ {w v : World} {b : Books} {g : Records} {k : Key} {r y : Router} {p : K
   came from to i m u = came_pushed w v k.node into.other (begin_message into out o fresh) c.pushed from to i m u
 
   pub ordered-begun : Ordered v
-  ordered-begun = record {
-    out = λ q z n item at i. elim (was_there q z at) [
-      | inl a ↦ law.ordered.out q z n item a.0 i
-      | inr a ↦ grind
-          (arith, a.1, new.out_queue, law.ordered.out k r n item is.here, i)
-    ];
-    inn = λ q z n item at i. elim (was_there q z at) [
-      | inl a ↦ law.ordered.inn q z n item a.0 i
-      | inr a ↦ grind
-          (arith, a.1, new.in_queue, law.ordered.inn k r n item is.here, i)
-    ];
-  }
+  ordered-begun = each-one w v k y IsOrdered c.routers law.ordered (record {
+    out = λ n item i. grind (arith, new.out_queue, (law.ordered k r is.here).out n item, i);
+    inn = λ n item i. grind (arith, new.in_queue, (law.ordered k r is.here).inn n item, i);
+  })
 
   -- an item, or a message with descriptors, is no begin
   item-came : {X : Type 0} (from to i : ℕ) (l : LinkId) (s : Side) (n : ℕ) (item : Item) (moves : List Descriptor) →

@@ -628,7 +628,7 @@ module _ {w v : World} {b : Books} {g : Records} {k : Key} {r y : Router} {p : K
           go None e = grind (arith, standing_rules, a, e)
           go (Some z) e =
               let t : HasEnd z.outward.decaying l s = has_link-tells z.outward.decaying l s (grind (arith, standing_rules, d, e)) in
-              grind (arith, law.shape.marked_still q z e (grind (arith, standing_rules, a, e)), t.there)
+              grind (arith, (law.shape q z e).marked_still (grind (arith, standing_rules, a, e)), t.there)
 
       fresh-not : (j : ℕ) → nat_eq j o ≡ false → 3 ≤ (after.bypass j).stage → (after.bypass j).stage ≤ 4 → fresh_of g j ≡ Central o → ⊥
       fresh-not j n a d e = unmarked (side_router g (inner_of g j) B) (inner_of g j) B
@@ -643,7 +643,7 @@ module _ {w v : World} {b : Books} {g : Records} {k : Key} {r y : Router} {p : K
 
       inner-end : side_end g (inner_link p) A ≡ r.end
       inner-end = ap (λ l. side_end g l A) (sym is.inner_at) ∙ ap (side_end g into.link) (sym is.inner_side) ∙ sym
-          (law.links.inward_primary k r into is.here is.inner).end
+          ((law.links k r is.here).inward_primary into is.inner).end
 
       old : (j : ℕ) (z : Router) → nat_eq j o ≡ false → is_begun (after.bypass j) ≡ true → router_at v (after.bypass j).proxy ≡ Some z →
           router_at w (g.bypass j).proxy ≡ Some z

@@ -158,7 +158,7 @@ module _ (w : World) (b : Books) (g : Records) (k : Key) (r : Router) (law : Inv
         noted = λ h. inl h;
         keeps = λ h. h;
         notes = λ c h. absurd cc;
-        sink = λ h. and_second (is_terminal r) r.closed (law.shape.dropped_sink k r here h);
+        sink = λ h. and_second (is_terminal r) r.closed ((law.shape k r here).dropped_sink h);
         terminal = t;
         item_is = at;
         hands = call-hands w k r (take_item r) x call;

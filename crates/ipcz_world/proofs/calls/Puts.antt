@@ -85,7 +85,7 @@ open_alike w b g k r y law here t unclosed end outward inward spare marked holds
     open_here = law.conserved.sink k r here t ∙ unclosed
 
     undropped : r.mark_dropped ≡ true → ⊥
-    undropped h = grind (arith, law.shape.dropped_sink k r here h, open_here)
+    undropped h = grind (arith, (law.shape k r here).dropped_sink h, open_here)
 
     undone : is_done r ≡ true → ⊥
     undone h = undropped (done_dropped r h)

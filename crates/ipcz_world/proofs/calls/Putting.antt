@@ -183,14 +183,14 @@ module _ (w v : World) (b : Books) (g : Records) (k : Key) (r y : Router) (item 
     ]
 
     ordered-put : Ordered v
-    ordered-put = record {
-      out = λ q x n z at h. let o = filled_before w v k r y (next_number r) false g filling q x at in elim (o.6 n z h) [
-        | inl e ↦ let le = law.ordered.out q o.0 n z o.1 e in omega (arith, le, o.2)
+    ordered-put q x at = let o = filled_before w v k r y (next_number r) false g filling q x at in record {
+      out = λ n z h. elim (o.6 n z h) [
+        | inl e ↦ let le = (law.ordered q o.0 o.1).out n z e in omega (arith, le, o.2)
         | inr e ↦ let s : o.0 ≡ r = same_router q o.0 o.1 e.2 in omega
             (arith, (is_reach r.out_queue).from, e.0, o.2, ap (λ z. z.out_queue.current) s)
       ];
-      inn = λ q x n z at h. let o = filled_before w v k r y (next_number r) false g filling q x at in elim (o.7 n z h) [
-        | inl e ↦ let le = law.ordered.inn q o.0 n z o.1 e in omega (arith, le, o.3)
+      inn = λ n z h. elim (o.7 n z h) [
+        | inl e ↦ let le = (law.ordered q o.0 o.1).inn n z e in omega (arith, le, o.3)
         | inr e ↦ absurd (grind (arith, e.1))
       ];
     }
@@ -584,10 +584,10 @@ module _ (w v : World) (b : Books) (g : Records) (k : Key) (r y : Router) (item 
             (λ same. absurd (none same))
           where
             rec : IsRecorded w g q z.router e
-            rec = law.links.inward_primary q z.router e z.at p
+            rec = (law.links q z.router z.at).inward_primary e p
 
             end : side_end g e.link (opposite e.side) ≡ z.router.end
-            end = end_around g e.link e.side (law.links.inward_primary_inward q z.router e z.at p) ∙ sym rec.end
+            end = end_around g e.link e.side ((law.links q z.router z.at).inward_primary_inward e p) ∙ sym rec.end
 
             none : opposite_end z.router.end ≡ r.end → ⊥
             none same = let e' : z.router.end ≡ opposite_end r.end = sym (opposite_end-twice z.router.end) ∙ ap opposite_end same in

@@ -324,7 +324,7 @@ module _ (w v : World) (b : Books) (g : Records) (k : Key) (r : Router) (item : 
 
   right-read : IsGoneRight b g y
   right-read = record {
-    sent = λ h. absurd (no_inward (law.shape.sent_proxy k r here h));
+    sent = λ h. absurd (no_inward ((law.shape k r here).sent_proxy h));
     sent_back = λ n. absurd (not_both (is_terminal r) is.terminal n);
     left_primary = o.left_primary;
     left_inner = λ e p l. omega (arith, o.left_inner e p l);

@@ -22,11 +22,11 @@ use Rattle.ipcz_node.proofs.LoneNodes.{OnlyFlagged, message, none_flagged, reste
 use Rattle.ipcz_node.proofs.Mailing.{empty_box}
 use Rattle.ipcz_node.proofs.Written.{insert_same}
 use Rattle.ipcz_world.proofs.Vocabulary.{Node, Router, World, Act, Message, Empty, commit, outbox, opposite, with_router}
-use Rattle.ipcz_world.proofs.Vocabulary.{after_act, hand_message, node_at, put_place, router_at, set_mail, set_node, way}
+use Rattle.ipcz_world.proofs.Vocabulary.{after_act, hand_message, node_at, put_place, router_at, router_in, set_mail, set_node, way}
 use Rattle.ipcz_world.proofs.Vocabulary.{LinkEnd, RouterAct}
 use Rattle.ipcz_world.specs.declared.mail.Mail.{Mail}
 use Rattle.ipcz_world.specs.declared.mail.Mail.TheVariants.{Full, Hand}
-use Rattle.ipcz_world.specs.Carrying.{IsLone, with_hand}
+use Rattle.ipcz_world.specs.Carrying.{HasCome, IsLone, with_hand}
 use Rattle.ipcz_world.specs.Settling.{next_node}
 use Rattle.ipcz_world.specs.Taking.{IsRegular}
 use Rattle.ipcz_world.specs.Turns.{after_hand, after_look, after_post, after_router_act, full_message, hand_lacks_serials, is_clear, is_full, is_idle}
@@ -242,7 +242,7 @@ module _ (w : World) (n serial : ℕ) (link : LinkEnd) (is : IsRegular w) (lone 
 
   -- the router sends its item out
   on-1 : OnWay w 0 w 0 → OnWay w 1 (at x1 y0 Empty) (next_node w n)
-  unfolding set_node set_mail turn_lacks_serials router_turn close_turn is_idle is_wordless
+  unfolding set_node set_mail turn_lacks_serials router_turn close_turn is_idle
   on-1 on =
       let start = pair-start w n m apart lone.here lone.there is.lengths Empty lone.box in
       let u = at x0 y0 Empty in
@@ -302,7 +302,7 @@ module _ (w : World) (n serial : ℕ) (link : LinkEnd) (is : IsRegular w) (lone 
 
   -- the sender's router rests
   on-4 : OnWay w 3 (at x2 y1 (Hand msg)) (next_node w m) → OnWay w 4 (at x3 y1 (Hand msg)) (next_node w n)
-  unfolding set_node set_mail turn_lacks_serials router_turn close_turn is_idle is_wordless
+  unfolding set_node set_mail turn_lacks_serials router_turn close_turn is_idle
   on-4 on =
       let u = at x2 y1 (Hand msg) in
       let here = node-sender w n m apart lone.here lone.there is.lengths x2 y1 (Hand msg) in
@@ -378,7 +378,7 @@ module _ (w : World) (n serial : ℕ) (link : LinkEnd) (is : IsRegular w) (lone 
 
     -- its router rests
     on-6 : OnWay w 5 (at x3 y2 Empty) (next_node w m) → OnWay w 6 (at x3 y Empty) (next_node w m)
-    unfolding set_node set_mail turn_lacks_serials router_turn close_turn is_idle is_full is_wordless
+    unfolding set_node set_mail turn_lacks_serials router_turn close_turn is_idle is_full
     on-6 on =
         let u = at x3 y2 Empty in
         let here = node-taker w n m apart lone.here lone.there is.lengths x3 y2 Empty in
@@ -400,6 +400,21 @@ module _ (w : World) (n serial : ℕ) (link : LinkEnd) (is : IsRegular w) (lone 
     pub carried : OnWay w 0 w 0 → OnWay w 6 (set_node (set_node w n x3) m y) (next_node w m)
     carried on = subst (λ v. OnWay w 6 v (next_node w m))
         (pair-box w n m apart lone.here lone.there is.lengths x3 y Empty lone.box) (on-6 (on-5 (sent on)))
+
+    -- the router across has the item
+    pub came : (x : Node) → HasCome w (set_node (set_node w n x) m y) n serial link
+    came x = record {
+      sender = r0;
+      sends = lone.sends.sender.here;
+      item = (sends-last lone).item;
+      sent = (sends-last lone).current;
+      taker = takes.serial;
+      before = takes.router;
+      after = takes.after;
+      here = takes.here;
+      takes = takes.takes;
+      there = ap (λ q. router_in q takes.serial) (node-here (set_node w n x) m y ∙ takes.changed) ∙ stands y0 takes.serial takes.after;
+    }
 
     abbrev y3 : Node
     y3 = with_router y0 takes.serial (rest q1)

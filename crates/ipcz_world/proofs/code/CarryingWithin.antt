@@ -26,13 +26,12 @@ use Rattle.ipcz_world.proofs.Vocabulary.{Node, Router, World, Message, Empty, ba
 use Rattle.ipcz_world.proofs.Vocabulary.{after_act, hand_message, mail_at, node_at, put_place, set_mail, set_node, way, LinkEnd}
 use Rattle.ipcz_world.specs.declared.mail.Mail.{Mail}
 use Rattle.ipcz_world.specs.declared.mail.Mail.TheVariants.{Full, Hand}
-use Rattle.ipcz_world.specs.Carrying.{IsLone, with_hand}
+use Rattle.ipcz_world.specs.Carrying.{HasCome, IsLone, with_hand}
 use Rattle.ipcz_world.specs.Settling.{next_node}
 use Rattle.ipcz_world.specs.Taking.{IsRegular}
 use Rattle.ipcz_world.specs.Turns.{after_hand, after_look, after_post, full_message, hand_lacks_serials, is_clear, is_full, is_idle, next_at}
 use Rattle.ipcz_world.specs.Turns.{turn_lacks_serials}
 use Rattle.ipcz_world.specs.WordAnswers.{source_for}
-use Rattle.ipcz_world.specs.Wordless.{is_wordless}
 use Rattle.ipcz_world.proofs.acts.Updating.{node-here, put-twice, set-twice}
 use Rattle.ipcz_world.proofs.code.Carrying.{first-busy, go-on, next-busy, router-acts}
 use Rattle.ipcz_world.proofs.code.LoneWorlds.{sends-last, Quiet, hand_act, look_act, own_act, post_act, quiet_idle, quiet_is, way-apart, way-from, way-within}
@@ -185,7 +184,7 @@ module _ (w : World) (n serial : ℕ) (link : LinkEnd) (is : IsRegular w) (lone 
 
   -- the router sends its item out
   on-1 : OnWay w 0 w 0 → OnWay w 1 (at x1 Empty) (next_node w n)
-  unfolding set_node set_mail turn_lacks_serials router_turn close_turn is_idle is_full is_wordless
+  unfolding set_node set_mail turn_lacks_serials router_turn close_turn is_idle is_full
   on-1 on =
       let u = at x0 Empty in
       let here = node-is x0 Empty in
@@ -318,7 +317,7 @@ module _ (w : World) (n serial : ℕ) (link : LinkEnd) (is : IsRegular w) (lone 
         r.flagged ≡ true → next_act r ≡ router_acts.Rest →
         ((q : ℕ) (v : Router) → get x.routers q ≡ Some v → v.flagged ≡ true → k ≤ q) → with_router x k (rest r) ≡ z →
         OnWay w (acts-so-far + 1) (at z Empty) (next_node w n)
-    unfolding set_node set_mail turn_lacks_serials router_turn close_turn is_idle is_full is_wordless
+    unfolding set_node set_mail turn_lacks_serials router_turn close_turn is_idle is_full
     rest-of acts-so-far k x z r on counted hand boxes pending links there up next least is-z =
         let u = at x Empty in
         let here = node-is x Empty in
@@ -399,17 +398,36 @@ module _ (w : World) (n serial : ℕ) (link : LinkEnd) (is : IsRegular w) (lone 
         go false e = idle-others x6 Empty k l (λ it. grind (arith, e, it, nat_tests))
 
     module _ (x z : Node) (is-z : z ≡ commit y (acts.Router serial router_acts.Rest) Plain) where
-      ends : set_node (set_node (set_node w n x) n y) n z ≡ at x6 Empty
-      ends =
+      z-is : z ≡ x6
+      z-is =
           let y-is : y ≡ with_router x2 t (rest q1) = takes.changed ∙ ap (with_router x2 t) takes.takes.after in
-          let z-is : z ≡ x6 =
           is-z ∙ ap (λ v. commit v (acts.Router serial router_acts.Rest) Plain) y-is
           ∙ sym (rests (with_router x2 t (rest q1)) serial r1
-          (written_elsewhere x2.routers t serial (rest q1) (λ same. other (sym same)) ∙ stands x0 serial r1)) in
-          set_twice ∙ ap (set_node w n) z-is ∙ sym (single-box x6)
+          (written_elsewhere x2.routers t serial (rest q1) (λ same. other (sym same)) ∙ stands x0 serial r1))
+
+      ends : set_node (set_node (set_node w n x) n y) n z ≡ at x6 Empty
+      ends = set_twice ∙ ap (set_node w n) z-is ∙ sym (single-box x6)
         where
           set_twice : set_node (set_node (set_node w n x) n y) n z ≡ set_node w n z
           set_twice = set-twice (set_node w n x) n y z ∙ set-twice w n x z
+
+      -- the router across has the item
+      pub came : HasCome w (set_node (set_node (set_node w n x) n y) n z) n serial link
+      came = record {
+        sender = r0;
+        sends = lone.sends.sender.here;
+        item = (sends-last lone).item;
+        sent = (sends-last lone).current;
+        taker = t;
+        before = takes.router;
+        after = takes.after;
+        here = ap (λ k. router_in (node_at w k) t) (sym same) ∙ sym (written_elsewhere x0.routers serial t r1 other) ∙ takes.here;
+        takes = takes.takes;
+        there = ap (λ k. router_in (node_at (set_node (set_node (set_node w n x) n y) n z) k) t) (sym same)
+            ∙ ap (λ q. router_in q t) (node-here (set_node (set_node w n x) n y) n z ∙ z-is)
+            ∙ written_elsewhere (insert x2.routers t (rest q1)) serial t (rest r1) other ∙ stands x2 t (rest q1)
+            ∙ ap Some (sym takes.takes.after);
+      }
 
       -- all six acts, as code does them
       pub carried : OnWay w 0 w 0 → OnWay w 6 (set_node (set_node (set_node w n x) n y) n z) (next_node w n)

@@ -130,6 +130,19 @@ no-one false l = refl
 pub none-full : (ms : List Mail) (k : ℕ) → count_full ms ≡ 0 → is_full (place_at Empty ms k) ≡ false
 none-full ms k none = no-one (is_full (place_at Empty ms k)) (omega (arith, count-place ms k, none))
 
+-- where not none are full one is
+pub some-full : (ms : List Mail) → (count_full ms ≡ 0 → ⊥) → (k : ℕ) × (is_full (place_at Empty ms k) ≡ true)
+unfolding is_full place_at
+some-full [] some = absurd (some refl)
+some-full (m ∷ ms) some = go (is_full m) refl (λ more. some-full ms more)
+  where
+    go : (b : Bool) → is_full m ≡ b → ((count_full ms ≡ 0 → ⊥) → (k : ℕ) × (is_full (place_at Empty ms k) ≡ true)) →
+        (k : ℕ) × (is_full (place_at Empty (m ∷ ms) k) ≡ true)
+    go true e later = (0, e)
+    go false e later =
+        let none_here = ap {B = ℕ} (λ (b : Bool). cond b 1 0) e in
+        let t = later (λ none. some (omega (arith, none_here, none))) in (suc t.0, t.1)
+
 pub count-empty : (n : ℕ) → count_full (replicate n Empty) ≡ 0
 unfolding is_full
 count-empty zero = refl

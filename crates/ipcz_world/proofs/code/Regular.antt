@@ -26,7 +26,7 @@ sourced w law n serial r here = go (inward_edge r).primary refl
     go : (o : Option LinkEnd) → (inward_edge r).primary ≡ o → HasNode (option_map (λ (e : LinkEnd). e.other) o)
     go None h = tt
     go (Some e) h =
-        let is = law.lawful.inv.links.inward_primary (record { node = n; serial = serial }) r e here h in
+        let is = (law.lawful.inv.links (record { node = n; serial = serial }) r here).inward_primary e h in
         omega (
           arith,
           is.other,

@@ -17,7 +17,7 @@ use Rattle.ipcz_world.proofs.code.Taken.{router-stands, with_node}
 
 -- a word answers nothing to it
 plain-word : (x : Word) (s : Side) (source : Option ℕ) (act : RouterAct) → is_wordless act ≡ true → word_answer x s source act ≡ Plain
-unfolding word_answer is_wordless
+unfolding word_answer
 plain-word x s source acts.Mark h = absurd (true≢false (sym h))
 plain-word x s source acts.Wake h = absurd (true≢false (sym h))
 plain-word x s source acts.Claim h = absurd (true≢false (sym h))
@@ -32,7 +32,7 @@ plain-link w s source act None h = refl
 plain-link w s source act (Some i) h = plain-word _ s source act h
 
 pub plain-answer : (w : World) (r : Router) (act : RouterAct) → is_wordless act ≡ true → answer_of w r act ≡ Plain
-unfolding answer_of is_wordless
+unfolding answer_of
 plain-answer w r acts.Mark h = absurd (true≢false (sym h))
 plain-answer w r acts.Wake h = absurd (true≢false (sym h))
 plain-answer w r acts.Claim h = absurd (true≢false (sym h))
@@ -42,7 +42,7 @@ plain-answer w r other h = plain-link w r.end.side (source_of r) other (primary_
 
 -- no word is changed
 pub untouched : (w : World) (r : Router) (act : RouterAct) → is_wordless act ≡ true → w ≡ touch w r act
-unfolding touch is_wordless
+unfolding touch
 untouched w r acts.Mark h = absurd (true≢false (sym h))
 untouched w r acts.Wake h = absurd (true≢false (sym h))
 untouched w r acts.Claim h = absurd (true≢false (sym h))
@@ -52,7 +52,6 @@ untouched w r other h = refl
 
 -- such an act may be told that it touches no word
 pub may_be_told : (act : RouterAct) → is_wordless act ≡ true → IsAnswerOf act Plain
-unfolding is_wordless
 may_be_told acts.Mark h = absurd (true≢false (sym h))
 may_be_told acts.Wake h = absurd (true≢false (sym h))
 may_be_told acts.Claim h = absurd (true≢false (sym h))

@@ -3,7 +3,7 @@ use Rattle.std.specs.Prelude.{◌≡◌, ◌⊎◌, ◌≤◌, ◌<◌, ℕ, Boo
 use Rattle.std.proofs.Common.{arith, inl, inr}
 use Rattle.std.proofs.lemmas.Bool.Decides.{nat_tests}
 use Rattle.ipcz_world.proofs.Vocabulary.{Side, A, B, End, LinkId, LinkEnd, opposite, same_side, same_end, opposite_end, has_link}
-use Rattle.ipcz_world.proofs.Vocabulary.{known_from}
+use Rattle.ipcz_world.proofs.Vocabulary.{known_from, Central, Peripheral, Key, inner_link, is_outward}
 use Rattle.ipcz_world.proofs.facts.Lengths.{same_side-itself, same_side-tells, same_link-itself, opposite-twice}
 use Rattle.ipcz_world.proofs.facts.Tests.{and_first, and_second}
 
@@ -50,3 +50,10 @@ same_end-tells d e h =
     let p : d.pair ≡ e.pair = let q = and_first (nat_eq d.pair e.pair) (same_side d.side e.side) h in grind (arith, q, nat_tests) in
     let s : d.side ≡ e.side = same_side-tells d.side e.side (and_second (nat_eq d.pair e.pair) (same_side d.side e.side) h) in
     λ i. record { pair = p i; side = s i }
+
+-- a link end that isn't outward is of a peripheral link's side A
+pub inward_link : (l : LinkId) (t : Side) → is_outward l t ≡ false → (p : Key) × (l ≡ inner_link p) × (t ≡ A)
+unfolding is_outward
+inward_link (Central i) t o = absurd (grind (arith, o))
+inward_link (Peripheral n x) A o = (record { node = n; serial = x }, refl, refl)
+inward_link (Peripheral n x) B o = absurd (grind (arith, o))

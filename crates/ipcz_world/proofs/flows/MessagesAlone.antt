@@ -1,4 +1,5 @@
 -- Messages alone move: if routers and words are the same, and nothing is under way but what was and Flushes, the invariant is kept.
+use Rattle.ipcz_world.proofs.frames.LinksKept.{links-still}
 use Rattle.ipcz_world.proofs.frames.GonesKept.{gones-by, gone_like-itself}
 use Rattle.ipcz_world.proofs.frames.Sourcing.{sourced-by, had-itself}
 use Rattle.ipcz_word.specs.Word.{Word}
@@ -159,60 +160,20 @@ module _ (w v : World) (g : Records) (p : Passes w v g) where
   }
 
   ordered-passes : Ordered w → Ordered v
-  ordered-passes law = record { out = λ q r n x at. law.out q r n x (back q r at); inn = λ q r n x at. law.inn q r n x (back q r at) }
+  ordered-passes law q r at = law q r (back q r at)
 
   shape-passes : Shape w → Shape v
-  shape-passes law = record {
-    role = λ q r at. law.role q r (back q r at);
-    marked_central = λ q r at. law.marked_central q r (back q r at);
-    marked_still = λ q r at. law.marked_still q r (back q r at);
-    holds_marked = λ q r at. law.holds_marked q r (back q r at);
-    holds_fit = λ q r at. law.holds_fit q r (back q r at);
-    dropped_sink = λ q r at. law.dropped_sink q r (back q r at);
-    sent_proxy = λ q r at. law.sent_proxy q r (back q r at);
-    holds_spare = λ q r at. law.holds_spare q r (back q r at);
-    spare_proxy = λ q r i at. law.spare_proxy q r i (back q r at);
-    spare_primary = λ q r i at. law.spare_primary q r i (back q r at);
-  }
+  shape-passes law q r at = law q r (back q r at)
 
   still_recorded : (q : Key) (r : Router) (e : LinkEnd) → IsRecorded w g q r e → IsRecorded v g q r e
   still_recorded q r e is = record { recorded = recorded e.link ∙ is.recorded; other = is.other; router = is.router; end = is.end }
 
   links-passes : Links w g → Links v g
-  links-passes law = record {
-    primary = λ q r e at h. still_recorded q r e (law.primary q r e (back q r at) h);
-    decaying = λ q r e at h. still_recorded q r e (law.decaying q r e (back q r at) h);
-    inward_primary = λ q r e at h. still_recorded q r e (law.inward_primary q r e (back q r at) h);
-    inward_decaying = λ q r e at h. still_recorded q r e (law.inward_decaying q r e (back q r at) h);
-    primary_outward = λ q r e at. law.primary_outward q r e (back q r at);
-    decaying_outward = λ q r e at. law.decaying_outward q r e (back q r at);
-    inward_primary_inward = λ q r e at. law.inward_primary_inward q r e (back q r at);
-    inward_decaying_inward = λ q r e at. law.inward_decaying_inward q r e (back q r at);
-  }
+  links-passes law q r at = links-still (λ e. still_recorded q r e) (law q r (back q r at))
 
   positions-passes : Positions w g → Positions v g
   positions-passes law = record {
-    inward_primary = λ q r e at. law.inward_primary q r e (back q r at);
-    inward_decaying = λ q r e at. law.inward_decaying q r e (back q r at);
-    inward_to = λ q r e o at. law.inward_to q r e o (back q r at);
-    inward_from = λ q r e o at. law.inward_from q r e o (back q r at);
-    primary_old = λ q r e o at. law.primary_old q r e o (back q r at);
-    primary_across = λ q r e o at. law.primary_across q r e o (back q r at);
-    primary_inner = λ q r e k o at. law.primary_inner q r e k o (back q r at);
-    decaying = λ q r e at. law.decaying q r e (back q r at);
-    inner_stage = λ q r e k o at. law.inner_stage q r e k o (back q r at);
-    inner_to = λ q r e k o at. law.inner_to q r e k o (back q r at);
-    inner_from = λ q r e k o at. law.inner_from q r e k o (back q r at);
-    inner_fresh = λ q r e k o at. law.inner_fresh q r e k o (back q r at);
-    own_proxy = λ q r e o at. law.own_proxy q r e o (back q r at);
-    own_alone = λ q r e o at. law.own_alone q r e o (back q r at);
-    own_to = λ q r e o at. law.own_to q r e o (back q r at);
-    own_from = λ q r e o at. law.own_from q r e o (back q r at);
-    across_stage = λ q r e o at. law.across_stage q r e o (back q r at);
-    across_to = λ q r e o at. law.across_to q r e o (back q r at);
-    across_from = λ q r e o at. law.across_from q r e o (back q r at);
-    across_fresh = λ q r e o at. law.across_fresh q r e o (back q r at);
-    begun = λ q r at. law.begun q r (back q r at);
+    each = λ q r at. law.each q r (back q r at);
     begun_proxy = law.begun_proxy;
     begun_stage = law.begun_stage;
     proxy_begun = law.proxy_begun;

@@ -163,9 +163,9 @@ module _ (w v : World) (k : Key) (r y : Router) (g : Records) (d : IsDraining w 
       go false e = (x, grind (arith, d.touched.router q, e, at), drained_same x.out_queue, drained_same x.in_queue, refl, refl)
 
   pub ordered-drained : Ordered w → Ordered v
-  ordered-drained law = record {
-    out = λ q x n item at is. let z = drained_before q x at in z.2.left n item is (law.out q z.0 n item z.1 (z.2.keeps n item is));
-    inn = λ q x n item at is. let z = drained_before q x at in z.3.left n item is (law.inn q z.0 n item z.1 (z.3.keeps n item is));
+  ordered-drained law q x at = let z = drained_before q x at in let before = law q z.0 z.1 in record {
+    out = λ n item is. z.2.left n item is (before.out n item (z.2.keeps n item is));
+    inn = λ n item is. z.3.left n item is (before.inn n item (z.3.keeps n item is));
   }
 
   pub order-drained : Order w g → Order v g

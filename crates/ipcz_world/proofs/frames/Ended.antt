@@ -1,4 +1,6 @@
 -- A sink's end has no terminal any more: what is said of all but terminals and retired ends is kept, since the end is in no place.
+use Rattle.ipcz_world.proofs.frames.PositionsKept.{positions-kept}
+use Rattle.ipcz_world.proofs.frames.LinksKept.{links-still}
 use Rattle.ipcz_world.proofs.frames.NearInv.{NearInv}
 use Rattle.ipcz_world.proofs.Vocabulary.{LinkEnd, IsRecorded, Counts, Links, Positions, Stands, Words, Spares, BypassRecords, Stages, Told}
 use Rattle.ipcz_world.proofs.Vocabulary.{of_bypass, control_weight, BooksKept}
@@ -19,10 +21,10 @@ use Rattle.ipcz_world.specs.Records.{Terminal, Retired, terminal_descriptor, set
 use Rattle.ipcz_world.specs.Standing.{may_have_sent, awaited_view}
 use Rattle.ipcz_world.specs.Bypasses.{Moves, move_weight}
 use Rattle.ipcz_world.specs.Routes.{source as source'}
-use Rattle.ipcz_world.proofs.begins.BegunNumbers.{places-sources}
 use Rattle.ipcz_world.proofs.weights.Booking.{flag, end_tells, in_router-within, total-has}
 use Rattle.ipcz_world.proofs.weights.Holding.{times-has, times_held-at}
 use Rattle.ipcz_world.proofs.weights.Weighing.{in_router-is, in_places-has, in_message-item}
+use Rattle.ipcz_world.proofs.weights.Sourcing.{places-sources}
 
 module _ (v : World) (b : Books) (g : Records) (e : End) (k : Key) (at : g.terminal e ≡ At k) where
   abbrev pub ended : Records
@@ -177,48 +179,14 @@ module _ (v : World) (b : Books) (g : Records) (e : End) (k : Key) (at : g.termi
 
   pub links-ended : Links v g → Links v ended
   unfolding side_router side_node side_end is_recorded
-  links-ended law = record {
-    primary = λ q z e a d. same q z e (law.primary q z e a d);
-    decaying = λ q z e a d. same q z e (law.decaying q z e a d);
-    inward_primary = λ q z e a d. same q z e (law.inward_primary q z e a d);
-    inward_decaying = λ q z e a d. same q z e (law.inward_decaying q z e a d);
-    primary_outward = law.primary_outward;
-    decaying_outward = law.decaying_outward;
-    inward_primary_inward = law.inward_primary_inward;
-    inward_decaying_inward = law.inward_decaying_inward;
-  }
+  links-ended law q z at = links-still (λ e. same q z e) (law q z at)
     where
       same : (q : Key) (z : Router) (e : LinkEnd) → IsRecorded v g q z e → IsRecorded v ended q z e
       same q z e rec = record { recorded = rec.recorded; other = rec.other; router = rec.router; end = rec.end }
 
   pub positions-ended : Positions v g → Positions v ended
   unfolding bypass_of
-  positions-ended law = record {
-    inward_primary = law.inward_primary;
-    inward_decaying = law.inward_decaying;
-    inward_to = law.inward_to;
-    inward_from = law.inward_from;
-    primary_old = law.primary_old;
-    primary_across = law.primary_across;
-    primary_inner = law.primary_inner;
-    decaying = law.decaying;
-    inner_stage = law.inner_stage;
-    inner_to = law.inner_to;
-    inner_from = law.inner_from;
-    inner_fresh = law.inner_fresh;
-    own_proxy = law.own_proxy;
-    own_alone = law.own_alone;
-    own_to = law.own_to;
-    own_from = law.own_from;
-    across_stage = law.across_stage;
-    across_to = law.across_to;
-    across_from = law.across_from;
-    across_fresh = law.across_fresh;
-    begun = law.begun;
-    begun_proxy = law.begun_proxy;
-    begun_stage = law.begun_stage;
-    proxy_begun = law.proxy_begun;
-  }
+  positions-ended law = positions-kept (record { bypass = λ o. refl; begun = λ k. refl; by = λ p. refl; link = λ l. refl; side = λ o. refl }) law
 
   pub stands-ended : Stands v g → Stands v ended
   unfolding side_router is_recorded is_left bypass_of

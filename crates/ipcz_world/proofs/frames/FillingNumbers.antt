@@ -24,10 +24,10 @@ use Rattle.ipcz_world.proofs.flows.Fitting.{ItemFits, fits_of}
 use Rattle.ipcz_world.proofs.views.Known.{IsEnd, edge_has-tells, fresh_central}
 use Rattle.ipcz_world.proofs.facts.LinkTests.{side_is, same_side-opposite}
 use Rattle.ipcz_world.proofs.frames.Filling.{IsFilling, sent_kept, taken_filled, taken_current, filled_before}
-use Rattle.ipcz_world.proofs.facts.BegunLengths.{bypass_of-begun, bypass_of-central_is, length-inner}
-use Rattle.ipcz_world.proofs.sends.SendingItems.{inward_link}
+use Rattle.ipcz_world.proofs.frames.BegunLengths.{bypass_of-begun, bypass_of-central_is, length-inner}
 use Rattle.ipcz_world.proofs.facts.Tests.{same_some}
 use Rattle.ipcz_world.proofs.facts.Lengths.{length-proxy, opposite-twice, same_side-itself, view-standing}
+use Rattle.ipcz_world.proofs.facts.LinkTests.{inward_link}
 
 known_from-none : (first stage n : ℕ) → known_from first stage n ≡ None → stage < first
 unfolding known_from
@@ -60,15 +60,15 @@ pub half_sender : (w : World) (g : Records) (k : Key) (r : Router) (p d : LinkEn
     BypassRecords w g → router_at w k ≡ Some r → r.outward.primary ≡ Some p → r.outward.decaying ≡ Some d →
     side_length g d.link (opposite d.side) ≡ None → side_router g p.link (opposite p.side) ≡ None
 half_sender w g k r p d links law stands bypasses here on off h =
-    go d.link refl d.side refl (bypass_of g d.link) refl (law.decaying k r d here off) (links.decaying_outward k r d here off)
+    go d.link refl d.side refl (bypass_of g d.link) refl ((law.each k r here).decaying d off) ((links k r here).decaying_outward d off)
   where
     go : (l : LinkId) → d.link ≡ l → (t : Side) → d.side ≡ t → (o : Option ℕ) → bypass_of g d.link ≡ o →
         is_some (bypass_of g d.link) ≡ true → is_outward d.link d.side ≡ true → side_router g p.link (opposite p.side) ≡ None
     go l el t et None b some out = absurd (grind (arith, b, some))
     go (Central i) el t et (Some o) b some out = elim (side_is d.side (proxy_side g i)) [
-      | inl s ↦ absurd (grind (arith, law.own_alone k r d i here off el s, on))
+      | inl s ↦ absurd (grind (arith, (law.each k r here).own_alone d i off el s, on))
       | inr s ↦
-          let is = bypass_of-central_is g i o (ap (bypass_of g) (sym el) ∙ b) in let stage = law.across_stage k r d i here off el s in
+          let is = bypass_of-central_is g i o (ap (bypass_of g) (sym el) ∙ b) in let stage = (law.each k r here).across_stage d i off el s in
           let none : side_length g (Central i) (proxy_side g i) ≡ None =
           ap (side_length g (Central i)) (sym (opposite-twice (proxy_side g i)) ∙ ap opposite (sym s)) ∙ ap
           (λ z. side_length g z (opposite d.side)) (sym el) ∙ h in
@@ -87,10 +87,10 @@ half_sender w g k r p d links law stands bypasses here on off h =
         let none : side_length g (inner_link q) A ≡ None = ap (λ z. side_length g z A) (sym el) ∙ ap
         (λ z. side_length g d.link (opposite z)) (sym et) ∙ h in
         let low = known_from-none 3 (g.bypass o).stage (g.bypass o).accepted_at (sym (length-proxy g q o by) ∙ none) in
-        let stage : (g.bypass o).stage ≡ 2 = omega (arith, low, law.inner_stage k r d q o here off el by) in
-        let link : p.link ≡ fresh_of g o = same_some (ap link_in (sym on) ∙ law.inner_fresh k r d q o here off el by) in
+        let stage : (g.bypass o).stage ≡ 2 = omega (arith, low, (law.each k r here).inner_stage d q o off el by) in
+        let link : p.link ≡ fresh_of g o = same_some (ap link_in (sym on) ∙ (law.each k r here).inner_fresh d q o off el by) in
         let end : side_end g d.link d.side ≡ side_end g p.link p.side =
-        sym (links.decaying k r d here off).end ∙ (links.primary k r p here on).end in
+        sym ((links k r here).decaying d off).end ∙ ((links k r here).primary p on).end in
         let side : p.side ≡ (g.peripheral q).end.side = sym (ends_side g (fresh_of g o) p.side (g.bypass o).fresh refl) ∙ ap
         (λ z. (side_end g z p.side).side) (sym link) ∙ ap (λ z. z.side) (sym end) ∙ ap (λ z. (side_end g z d.side).side) el ∙ inner_end
         g q d.side in
@@ -190,7 +190,7 @@ module _ (w : World) (b : Books) (g : Records) (k : Key) (r : Router) (from to i
 
   -- no proxy has two inward links
   one_inward : (p d : LinkEnd) → (inward_edge r).primary ≡ Some p → (inward_edge r).decaying ≡ Some d → ⊥
-  one_inward p d isp isd = absurd (go r.inward refl (law.shape.role k r here) isp isd)
+  one_inward p d isp isd = absurd (go r.inward refl ((law.shape k r here).role) isp isd)
     where
       go : (o : Option Edge) → r.inward ≡ o → has_role r ≡ true → (inward_edge r).primary ≡ Some p → (inward_edge r).decaying ≡ Some d → ⊥
       go None e role a c = grind (arith, e, a)
@@ -296,14 +296,14 @@ module _ (w v : World) (b : Books) (g : Records) (k : Key) (r y : Router) (from 
       taking_queue-standing l s r)
 
   pub ordered-filled : Ordered v
-  ordered-filled = record {
-    out = λ q x m a at is. let z = filled_before w v k r y n (is_outward l s) g d q x at in elim (z.6 m a is) [
-      | inl old ↦ let le : z.0.out_queue.current ≤ m = law.ordered.out q z.0 m a z.1 old in omega (arith, le, z.2)
+  ordered-filled q x at = let z = filled_before w v k r y n (is_outward l s) g d q x at in record {
+    out = λ m a is. elim (z.6 m a is) [
+      | inl old ↦ let le : z.0.out_queue.current ≤ m = (law.ordered q z.0 z.1).out m a old in omega (arith, le, z.2)
       | inr new ↦ let same : z.0 ≡ r = same_some (sym z.1 ∙ ap (router_at w) new.2 ∙ here) in
           omega (arith, z.2, ap (λ x. x.out_queue.current) same, place, ap (λ f. f.current) (fed-out l s r new.1), new.0)
     ];
-    inn = λ q x m a at is. let z = filled_before w v k r y n (is_outward l s) g d q x at in elim (z.7 m a is) [
-      | inl old ↦ let le : z.0.in_queue.current ≤ m = law.ordered.inn q z.0 m a z.1 old in omega (arith, le, z.3)
+    inn = λ m a is. elim (z.7 m a is) [
+      | inl old ↦ let le : z.0.in_queue.current ≤ m = (law.ordered q z.0 z.1).inn m a old in omega (arith, le, z.3)
       | inr new ↦ let same : z.0 ≡ r = same_some (sym z.1 ∙ ap (router_at w) new.2 ∙ here) in
           omega (arith, z.3, ap (λ x. x.in_queue.current) same, place, ap (λ f. f.current) (fed-in l s r new.1), new.0)
     ];
@@ -329,12 +329,12 @@ module _ (w v : World) (b : Books) (g : Records) (k : Key) (r y : Router) (from 
   out_new : (o : ℕ) → (g.bypass o).proxy ≡ k → 2 ≤ (g.bypass o).stage → is_outward l s ≡ false → n < (g.bypass o).taken_at
   out_new o proxy stage dir =
       let begun : is_begun (g.bypass o) ≡ true = grind (arith, stage, nat_tests) in
-      let role = role_of r (law.stages.proxy_begun o r begun (ap (router_at w) proxy ∙ here)) (law.shape.role k r here) in
+      let role = role_of r (law.stages.proxy_begun o r begun (ap (router_at w) proxy ∙ here)) ((law.shape k r here).role) in
       elim (edge_has-tells (inward_edge r) l s (attached_inward l s r on dir)) [
         | inl e ↦ absurd (grind (arith, role.0, e.is))
         | inr e ↦ let p = inward_link l s dir in
             let by : (g.peripheral p.0).by ≡ Some o = sym (bypass_of-inner g p.0) ∙ ap (bypass_of g) (sym p.1 ∙ sym e.link_is) ∙
-            law.positions.inward_decaying k r e.end here e.is ∙ ap g.begun (sym proxy) ∙ law.positions.proxy_begun o begun in
+            (law.positions.each k r here).inward_decaying e.end e.is ∙ ap g.begun (sym proxy) ∙ law.positions.proxy_begun o begun in
             fits_here.below_length (g.bypass o).taken_at (ap (λ z. side_length g z (opposite s)) p.1 ∙ ap
             (λ z. side_length g (inner_link p.0) (opposite z)) p.2 ∙ length-inner g p.0 o by stage)
       ]
@@ -342,11 +342,11 @@ module _ (w v : World) (b : Books) (g : Records) (k : Key) (r y : Router) (from 
   in_new : (o : ℕ) → (g.bypass o).proxy ≡ k → 3 ≤ (g.bypass o).stage → is_outward l s ≡ true → n < (g.bypass o).accepted_at
   in_new o proxy stage dir =
       let begun : is_begun (g.bypass o) ≡ true = grind (arith, stage, nat_tests) in
-      let role = role_of r (law.stages.proxy_begun o r begun (ap (router_at w) proxy ∙ here)) (law.shape.role k r here) in
+      let role = role_of r (law.stages.proxy_begun o r begun (ap (router_at w) proxy ∙ here)) ((law.shape k r here).role) in
       elim (edge_has-tells r.outward l s (attached_outward l s r on dir)) [
         | inl e ↦ absurd (grind (arith, role.1, e.is))
         | inr e ↦ old e.end e.is e.link_is e.side_is role.1 begun (bypass_of g e.end.link) refl e.end.link refl
-            (law.positions.decaying k r e.end here e.is)
+            ((law.positions.each k r here).decaying e.end e.is)
       ]
     where
       old : (e : LinkEnd) → r.outward.decaying ≡ Some e → e.link ≡ l → e.side ≡ s → r.outward.primary ≡ None →
@@ -357,15 +357,15 @@ module _ (w v : World) (b : Books) (g : Records) (k : Key) (r y : Router) (from 
         | inl t ↦
             let f = bypass_of-central_is g j x (ap (bypass_of g) (sym em) ∙ q) in
             let same : j ≡ o = same_some (sym (law.positions.proxy_begun j f.1) ∙ ap g.begun
-            (law.positions.own_proxy k r e j here is em t ∙ sym proxy) ∙ law.positions.proxy_begun o begun) in
+            ((law.positions.each k r here).own_proxy e j is em t ∙ sym proxy) ∙ law.positions.proxy_begun o begun) in
             let side : opposite s ≡ across_side g o = ap opposite (sym es ∙ t) ∙ ap (across_side g) same in
             let link : l ≡ Central o = sym el ∙ em ∙ ap Central same in
             fits_here.below_length (g.bypass o).accepted_at (ap (λ z. side_length g z (opposite s)) link ∙ ap (side_length g (Central o))
             side ∙ length-across_from g o (bypass_of-begun g o begun) stage)
-        | inr t ↦ absurd (no_primary none (law.positions.across_fresh k r e j here is em t))
+        | inr t ↦ absurd (no_primary none ((law.positions.each k r here).across_fresh e j is em t))
       ]
       old e is el es none begun (Some x) q (Peripheral a c) em some =
-          absurd (no_primary none (law.positions.inner_fresh k r e (record { node = a; serial = c }) x here is em
+          absurd (no_primary none ((law.positions.each k r here).inner_fresh e (record { node = a; serial = c }) x is em
           (sym (bypass_of-inner g (record { node = a; serial = c })) ∙ ap (bypass_of g) (sym em) ∙ q)))
 
   pub proxy_numbers-filled : ProxyNumbers v g

@@ -326,7 +326,7 @@ module _ {w v : World} {b : Books} {g : Records} {owner' : ℕ → Owner} {centr
     ];
     other = λ q x y e f len a on off l there. elim (is.was q x a) [
       | inl o ↦ law.fresh_numbers.other q x y e f len o on off (sym (length_kept law is f.link (opposite f.side)) ∙ l)
-          (ap standing_router (sym (view_kept law is e.link (opposite e.side) (law.links.primary q x e o on).recorded)) ∙ there)
+          (ap standing_router (sym (view_kept law is e.link (opposite e.side) ((law.links q x o).primary e on).recorded)) ∙ there)
       | inr o ↦ absurd (no_end law is x.outward.decaying f (ap (λ (x : Router). x.outward.decaying) o.0.is) off)
     ];
   }

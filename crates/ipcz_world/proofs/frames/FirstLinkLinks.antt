@@ -1,17 +1,39 @@
 -- A word becomes a pair's first link: each link is as its record says, and primary or decaying as its bypass says.
-use Rattle.std.specs.Prelude.{◌≡◌, ◌<◌, ℕ, true, Some, None}
+use Rattle.ipcz_world.proofs.Vocabulary.{HasLinks}
+use Rattle.ipcz_world.proofs.frames.LinksKept.{links-still}
+use Rattle.ipcz_world.proofs.Vocabulary.{HasShape}
+use Rattle.ipcz_world.proofs.Vocabulary.{IsOrdered}
+use Rattle.ipcz_world.proofs.frames.FreshPairs.{fresh_marked}
+use Rattle.std.specs.Prelude.{refl}
+use Rattle.std.specs.Prelude.{◌≡◌, ◌<◌, ℕ, true, Some}
 use Rattle.std.proofs.Common.{arith, ap, subst, ◌∙◌, sym, inl, inr}
-use Rattle.ipcz_world.proofs.Vocabulary.{Side, End, Central, LinkEnd, opposite, item_at, Router, inward_edge, World, Key, node_at, Books}
+use Rattle.ipcz_world.proofs.Vocabulary.{Side, End, Central, LinkEnd, opposite, Router, inward_edge, World, Key, node_at, Books}
 use Rattle.ipcz_world.proofs.Vocabulary.{Records, Owner, Terminal, is_linked, bypass_of, side_router, side_node, Counts, Ordered, Shape}
 use Rattle.ipcz_world.proofs.Vocabulary.{Links, IsRecorded, Positions, is_outward, Inv}
-use Rattle.ipcz_router.specs.Router.{is_on_central, decays}
 use Rattle.ipcz_world.specs.Records.{CentralRecord}
-use Rattle.ipcz_world.specs.Structure.{has_role, is_begun_router}
+use Rattle.ipcz_world.specs.Structure.{is_begun_router}
 use Rattle.ipcz_world.proofs.frames.Touching.{hands-same}
 use Rattle.ipcz_world.proofs.frames.FreshPairs.{fresh_at, IsNew, IsGrown, empty_item, fresh_central, central_outward}
 use Rattle.ipcz_world.proofs.facts.Tests.{not_both}
 use Rattle.ipcz_world.proofs.frames.FirstLinkAround.{recorded_apart, recorded_kept, recorded_was, router_kept, node_kept, end_kept}
 use Rattle.ipcz_world.proofs.frames.FirstLinkAround.{new_router, new_node, grown_end, new_recorded, not_inner, begun_link, no_end}
+
+ordered-fresh : (i : ℕ) (at : Side → Key) (s : Side) → IsOrdered (fresh_at i at s)
+ordered-fresh i at s = record { out = λ n z a. absurd (empty_item 0 n z a); inn = λ n z a. absurd (empty_item 0 n z a) }
+
+shape-fresh : (i : ℕ) (at : Side → Key) (s : Side) → HasShape (fresh_at i at s)
+shape-fresh i at s = record {
+  role = refl;
+  marked_central = λ m. fresh_central i at s;
+  marked_still = λ m. refl;
+  holds_marked = λ m. fresh_marked i at s;
+  holds_fit = λ m. absurd (not_both (fresh_at i at s).holds m refl);
+  holds_spare = λ m p. absurd (not_both (fresh_at i at s).holds m refl);
+  dropped_sink = λ m. absurd (not_both (fresh_at i at s).mark_dropped m refl);
+  sent_proxy = λ m. absurd (not_both (fresh_at i at s).gone_sent m refl);
+  spare_proxy = λ j e. absurd (grind (arith, e));
+  spare_primary = λ j e. absurd (grind (arith, e));
+}
 
 module _ {w v : World} {b : Books} {g : Records} {owner' : ℕ → Owner} {central' : ℕ → CentralRecord} {terminal' : End → Terminal} {i : ℕ}
     {at : Side → Key} (law : Inv w b g) (is : IsGrown w v g owner' central' terminal' i at) where
@@ -56,65 +78,16 @@ module _ {w v : World} {b : Books} {g : Records} {owner' : ℕ → Owner} {centr
       same_some e = cc
 
   pub ordered-grown : Ordered v
-  ordered-grown = record {
-    out = λ q x n z e a. elim (is.was q x e) [
-      | inl o ↦ law.ordered.out q x n z o a
-      | inr o ↦ absurd
-          (empty_item 0 n z (ap (λ (x : Router). item_at x.out_queue n) (sym o.0.is) ∙ a))
-    ];
-    inn = λ q x n z e a. elim (is.was q x e) [
-      | inl o ↦ law.ordered.inn q x n z o a
-      | inr o ↦ absurd
-          (empty_item 0 n z (ap (λ (x : Router). item_at x.in_queue n) (sym o.0.is) ∙ a))
-    ];
-  }
+  ordered-grown q x e = elim (is.was q x e) [
+    | inl o ↦ law.ordered q x o
+    | inr o ↦ subst IsOrdered (sym o.0.is) (ordered-fresh i at o.0.side)
+  ]
 
   pub shape-grown : Shape v
-  shape-grown = record {
-    role = λ q x e. elim (is.was q x e) [ inl o ↦ law.shape.role q x o | inr o ↦ ap has_role o.0.is ];
-    marked_central = λ q x e m. elim (is.was q x e) [
-      | inl o ↦ law.shape.marked_central q x o m
-      | inr o ↦ ap is_on_central o.0.is ∙
-          fresh_central i at o.0.side
-    ];
-    marked_still = λ q x e m. elim (is.was q x e) [ inl o ↦ law.shape.marked_still q x o m | inr o ↦ ap decays o.0.is ];
-    holds_marked = λ q x e m. elim (is.was q x e) [
-      | inl o ↦ law.shape.holds_marked q x o m
-      | inr o ↦ absurd
-          (not_both x.holds m (ap (λ (x : Router). x.holds) o.0.is))
-    ];
-    holds_fit = λ q x e m. elim (is.was q x e) [
-      | inl o ↦ law.shape.holds_fit q x o m
-      | inr o ↦ absurd
-          (not_both x.holds m (ap (λ (x : Router). x.holds) o.0.is))
-    ];
-    dropped_sink = λ q x e m. elim (is.was q x e) [
-      | inl o ↦ law.shape.dropped_sink q x o m
-      | inr o ↦ absurd (not_both x.mark_dropped m (ap (λ (x : Router). x.mark_dropped) o.0.is))
-    ];
-    sent_proxy = λ q x e m. elim (is.was q x e) [
-      | inl o ↦ law.shape.sent_proxy q x o m
-      | inr o ↦ absurd (not_both x.gone_sent m (ap (λ (x : Router). x.gone_sent) o.0.is))
-    ];
-    holds_spare = λ q x e m. elim (is.was q x e) [
-      | inl o ↦ law.shape.holds_spare q x o m
-      | inr o ↦ absurd
-          (not_both x.holds m (ap (λ (x : Router). x.holds) o.0.is))
-    ];
-    spare_proxy = λ q x j e m. elim (is.was q x e) [
-      | inl o ↦ law.shape.spare_proxy q x j o m
-      | inr o ↦ absurd
-          (not_some j (sym (ap (λ (x : Router). x.spare) o.0.is) ∙ m))
-    ];
-    spare_primary = λ q x j e m. elim (is.was q x e) [
-      | inl o ↦ law.shape.spare_primary q x j o m
-      | inr o ↦ absurd
-          (not_some j (sym (ap (λ (x : Router). x.spare) o.0.is) ∙ m))
-    ];
-  }
-    where
-      not_some : (j : ℕ) → None ≡ Some j → ⊥
-      not_some j e = cc
+  shape-grown q x e = elim (is.was q x e) [
+    | inl o ↦ law.shape q x o
+    | inr o ↦ subst HasShape (sym o.0.is) (shape-fresh i at o.0.side)
+  ]
 
   links-old : (q : Key) (x : Router) (e : LinkEnd) → IsRecorded w g q x e → IsRecorded v h q x e
   links-old q x e r = let ne = recorded_apart law is e.link r.recorded in record {
@@ -125,45 +98,10 @@ module _ {w v : World} {b : Books} {g : Records} {owner' : ℕ → Owner} {centr
   }
 
   pub links-grown : Links v h
-  links-grown = record {
-    primary = λ q x e a on. elim (is.was q x a) [ inl o ↦ links-old q x e (law.links.primary q x e o on) | inr o ↦ new q x e o.0 o.1 on ];
-    decaying = λ q x e a off. elim (is.was q x a) [
-      | inl o ↦ links-old q x e (law.links.decaying q x e o off)
-      | inr o ↦ absurd
-          (no_end law is x.outward.decaying e (ap (λ (x : Router). x.outward.decaying) o.0.is) off)
-    ];
-    inward_primary = λ q x e a on. elim (is.was q x a) [
-      | inl o ↦ links-old q x e (law.links.inward_primary q x e o on)
-      | inr o ↦ absurd
-          (no_end law is (inward_edge x).primary e (ap (λ (x : Router). (inward_edge x).primary) o.0.is) on)
-    ];
-    inward_decaying = λ q x e a off. elim (is.was q x a) [
-      | inl o ↦ links-old q x e (law.links.inward_decaying q x e o off)
-      | inr o ↦ absurd
-          (no_end law is (inward_edge x).decaying e (ap (λ (x : Router). (inward_edge x).decaying) o.0.is) off)
-    ];
-    primary_outward = λ q x e a on. elim (is.was q x a) [
-      | inl o ↦ law.links.primary_outward q x e o on
-      | inr o ↦ subst
-          (λ (e : LinkEnd). is_outward e.link e.side ≡ true) (end_is x e o.0.side (ap (λ (x : Router). x.outward.primary) o.0.is) on)
-          (central_outward i o.0.side)
-    ];
-    decaying_outward = λ q x e a off. elim (is.was q x a) [
-      | inl o ↦ law.links.decaying_outward q x e o off
-      | inr o ↦ absurd
-          (no_end law is x.outward.decaying e (ap (λ (x : Router). x.outward.decaying) o.0.is) off)
-    ];
-    inward_primary_inward = λ q x e a on. elim (is.was q x a) [
-      | inl o ↦ law.links.inward_primary_inward q x e o on
-      | inr o ↦ absurd
-          (no_end law is (inward_edge x).primary e (ap (λ (x : Router). (inward_edge x).primary) o.0.is) on)
-    ];
-    inward_decaying_inward = λ q x e a off. elim (is.was q x a) [
-      | inl o ↦ law.links.inward_decaying_inward q x e o off
-      | inr o ↦ absurd
-          (no_end law is (inward_edge x).decaying e (ap (λ (x : Router). (inward_edge x).decaying) o.0.is) off)
-    ];
-  }
+  links-grown q x a = elim (is.was q x a) [
+    | inl o ↦ links-still (λ e. links-old q x e) (law.links q x o)
+    | inr o ↦ links-new q x o.0 o.1
+  ]
     where
       end_is : (x : Router) (e : LinkEnd) (s : Side) → x.outward.primary ≡ Some
           (record { link = Central i; side = s; other = (at (opposite s)).node }) → x.outward.primary ≡ Some e →
@@ -189,114 +127,129 @@ module _ {w v : World} {b : Books} {g : Records} {owner' : ℕ → Owner} {centr
           (subst (λ (q : Key). IsRecorded v h q (fresh_at i at o.side)
           (record { link = Central i; side = o.side; other = (at (opposite o.side)).node })) (sym o.key) (fresh_recorded l o.side)))
 
+      links-new : (q : Key) (x : Router) → IsNew i at q x → is_linked (owner' i) ≡ true → HasLinks v h q x
+      links-new q x o l = record {
+        primary = λ e on. new q x e o l on;
+        decaying = λ e on. absurd (no_end law is x.outward.decaying e (ap (λ (x : Router). x.outward.decaying) o.is) on);
+        inward_primary = λ e on. absurd (no_end law is (inward_edge x).primary e (ap (λ (x : Router). (inward_edge x).primary) o.is) on);
+        inward_decaying = λ e on. absurd (no_end law is (inward_edge x).decaying e (ap (λ (x : Router). (inward_edge x).decaying) o.is) on);
+        primary_outward = λ e on. subst (λ (e : LinkEnd). is_outward e.link e.side ≡ true)
+            (end_is x e o.side (ap (λ (x : Router). x.outward.primary) o.is) on) (central_outward i o.side);
+        decaying_outward = λ e on. absurd (no_end law is x.outward.decaying e (ap (λ (x : Router). x.outward.decaying) o.is) on);
+        inward_primary_inward = λ e on. absurd (no_end law is (inward_edge x).primary e (ap (λ (x : Router). (inward_edge x).primary) o.is) on);
+        inward_decaying_inward = λ e on. absurd (no_end law is (inward_edge x).decaying e (ap (λ (x : Router). (inward_edge x).decaying) o.is) on);
+      }
+
   pub positions-grown : Positions v h
   unfolding bypass_of
   positions-grown = record {
-    inward_primary = λ q x e a on. elim (is.was q x a) [
-      | inl o ↦ law.positions.inward_primary q x e o on
-      | inr o ↦ absurd
-          (no_end law is (inward_edge x).primary e (ap (λ (x : Router). (inward_edge x).primary) o.0.is) on)
-    ];
-    inward_decaying = λ q x e a on. elim (is.was q x a) [
-      | inl o ↦ law.positions.inward_decaying q x e o on
-      | inr o ↦ absurd
-          (no_end law is (inward_edge x).decaying e (ap (λ (x : Router). (inward_edge x).decaying) o.0.is) on)
-    ];
-    inward_to = λ q x e p a on. elim (is.was q x a) [
-      | inl o ↦ law.positions.inward_to q x e p o on
-      | inr o ↦ absurd
-          (no_end law is (inward_edge x).decaying e (ap (λ (x : Router). (inward_edge x).decaying) o.0.is) on)
-    ];
-    inward_from = λ q x e p a on. elim (is.was q x a) [
-      | inl o ↦ law.positions.inward_from q x e p o on
-      | inr o ↦ absurd
-          (no_end law is (inward_edge x).decaying e (ap (λ (x : Router). (inward_edge x).decaying) o.0.is) on)
-    ];
-    primary_old = λ q x e p a on l s. elim (is.was q x a) [
-      | inl o ↦ law.positions.primary_old q x e p o on l s
-      | inr o ↦ absurd
-          (begun_link law is p s (sym l ∙ link_is x e o.0.side (ap (λ (x : Router). x.outward.primary) o.0.is) on))
-    ];
-    primary_across = λ q x e p a on l s. elim (is.was q x a) [
-      | inl o ↦ law.positions.primary_across q x e p o on l s
-      | inr o ↦ absurd
-          (begun_link law is p s (sym l ∙ link_is x e o.0.side (ap (λ (x : Router). x.outward.primary) o.0.is) on))
-    ];
-    primary_inner = λ q x e p n a on l. elim (is.was q x a) [
-      | inl o ↦ law.positions.primary_inner q x e p n o on l
-      | inr o ↦ absurd
-          (not_inner law is p (sym l ∙ link_is x e o.0.side (ap (λ (x : Router). x.outward.primary) o.0.is) on))
-    ];
-    decaying = λ q x e a on. elim (is.was q x a) [
-      | inl o ↦ law.positions.decaying q x e o on
-      | inr o ↦ absurd
-          (no_end law is x.outward.decaying e (ap (λ (x : Router). x.outward.decaying) o.0.is) on)
-    ];
-    inner_stage = λ q x e p n a on. elim (is.was q x a) [
-      | inl o ↦ law.positions.inner_stage q x e p n o on
-      | inr o ↦ absurd
-          (no_end law is x.outward.decaying e (ap (λ (x : Router). x.outward.decaying) o.0.is) on)
-    ];
-    inner_to = λ q x e p n a on. elim (is.was q x a) [
-      | inl o ↦ law.positions.inner_to q x e p n o on
-      | inr o ↦ absurd
-          (no_end law is x.outward.decaying e (ap (λ (x : Router). x.outward.decaying) o.0.is) on)
-    ];
-    inner_from = λ q x e p n a on. elim (is.was q x a) [
-      | inl o ↦ law.positions.inner_from q x e p n o on
-      | inr o ↦ absurd
-          (no_end law is x.outward.decaying e (ap (λ (x : Router). x.outward.decaying) o.0.is) on)
-    ];
-    inner_fresh = λ q x e p n a on. elim (is.was q x a) [
-      | inl o ↦ law.positions.inner_fresh q x e p n o on
-      | inr o ↦ absurd
-          (no_end law is x.outward.decaying e (ap (λ (x : Router). x.outward.decaying) o.0.is) on)
-    ];
-    own_proxy = λ q x e n a on. elim (is.was q x a) [
-      | inl o ↦ law.positions.own_proxy q x e n o on
-      | inr o ↦ absurd
-          (no_end law is x.outward.decaying e (ap (λ (x : Router). x.outward.decaying) o.0.is) on)
-    ];
-    own_alone = λ q x e n a on. elim (is.was q x a) [
-      | inl o ↦ law.positions.own_alone q x e n o on
-      | inr o ↦ absurd
-          (no_end law is x.outward.decaying e (ap (λ (x : Router). x.outward.decaying) o.0.is) on)
-    ];
-    own_to = λ q x e n a on. elim (is.was q x a) [
-      | inl o ↦ law.positions.own_to q x e n o on
-      | inr o ↦ absurd
-          (no_end law is x.outward.decaying e (ap (λ (x : Router). x.outward.decaying) o.0.is) on)
-    ];
-    own_from = λ q x e n a on. elim (is.was q x a) [
-      | inl o ↦ law.positions.own_from q x e n o on
-      | inr o ↦ absurd
-          (no_end law is x.outward.decaying e (ap (λ (x : Router). x.outward.decaying) o.0.is) on)
-    ];
-    across_stage = λ q x e n a on. elim (is.was q x a) [
-      | inl o ↦ law.positions.across_stage q x e n o on
-      | inr o ↦ absurd
-          (no_end law is x.outward.decaying e (ap (λ (x : Router). x.outward.decaying) o.0.is) on)
-    ];
-    across_to = λ q x e n a on. elim (is.was q x a) [
-      | inl o ↦ law.positions.across_to q x e n o on
-      | inr o ↦ absurd
-          (no_end law is x.outward.decaying e (ap (λ (x : Router). x.outward.decaying) o.0.is) on)
-    ];
-    across_from = λ q x e n a on. elim (is.was q x a) [
-      | inl o ↦ law.positions.across_from q x e n o on
-      | inr o ↦ absurd
-          (no_end law is x.outward.decaying e (ap (λ (x : Router). x.outward.decaying) o.0.is) on)
-    ];
-    across_fresh = λ q x e n a on. elim (is.was q x a) [
-      | inl o ↦ law.positions.across_fresh q x e n o on
-      | inr o ↦ absurd
-          (no_end law is x.outward.decaying e (ap (λ (x : Router). x.outward.decaying) o.0.is) on)
-    ];
-    begun = λ q x a s. elim (is.was q x a) [
-      | inl o ↦ law.positions.begun q x o s
-      | inr o ↦ absurd
-          (not_both (is_begun_router x) s (ap is_begun_router o.0.is))
-    ];
+    each = λ q x a. record {
+      inward_primary = λ e on. elim (is.was q x a) [
+        | inl o ↦ (law.positions.each q x o).inward_primary e on
+        | inr o ↦ absurd
+            (no_end law is (inward_edge x).primary e (ap (λ (x : Router). (inward_edge x).primary) o.0.is) on)
+      ];
+      inward_decaying = λ e on. elim (is.was q x a) [
+        | inl o ↦ (law.positions.each q x o).inward_decaying e on
+        | inr o ↦ absurd
+            (no_end law is (inward_edge x).decaying e (ap (λ (x : Router). (inward_edge x).decaying) o.0.is) on)
+      ];
+      inward_to = λ e p on. elim (is.was q x a) [
+        | inl o ↦ (law.positions.each q x o).inward_to e p on
+        | inr o ↦ absurd
+            (no_end law is (inward_edge x).decaying e (ap (λ (x : Router). (inward_edge x).decaying) o.0.is) on)
+      ];
+      inward_from = λ e p on. elim (is.was q x a) [
+        | inl o ↦ (law.positions.each q x o).inward_from e p on
+        | inr o ↦ absurd
+            (no_end law is (inward_edge x).decaying e (ap (λ (x : Router). (inward_edge x).decaying) o.0.is) on)
+      ];
+      primary_old = λ e p on l s. elim (is.was q x a) [
+        | inl o ↦ (law.positions.each q x o).primary_old e p on l s
+        | inr o ↦ absurd
+            (begun_link law is p s (sym l ∙ link_is x e o.0.side (ap (λ (x : Router). x.outward.primary) o.0.is) on))
+      ];
+      primary_across = λ e p on l s. elim (is.was q x a) [
+        | inl o ↦ (law.positions.each q x o).primary_across e p on l s
+        | inr o ↦ absurd
+            (begun_link law is p s (sym l ∙ link_is x e o.0.side (ap (λ (x : Router). x.outward.primary) o.0.is) on))
+      ];
+      primary_inner = λ e p n on l. elim (is.was q x a) [
+        | inl o ↦ (law.positions.each q x o).primary_inner e p n on l
+        | inr o ↦ absurd
+            (not_inner law is p (sym l ∙ link_is x e o.0.side (ap (λ (x : Router). x.outward.primary) o.0.is) on))
+      ];
+      decaying = λ e on. elim (is.was q x a) [
+        | inl o ↦ (law.positions.each q x o).decaying e on
+        | inr o ↦ absurd
+            (no_end law is x.outward.decaying e (ap (λ (x : Router). x.outward.decaying) o.0.is) on)
+      ];
+      inner_stage = λ e p n on. elim (is.was q x a) [
+        | inl o ↦ (law.positions.each q x o).inner_stage e p n on
+        | inr o ↦ absurd
+            (no_end law is x.outward.decaying e (ap (λ (x : Router). x.outward.decaying) o.0.is) on)
+      ];
+      inner_to = λ e p n on. elim (is.was q x a) [
+        | inl o ↦ (law.positions.each q x o).inner_to e p n on
+        | inr o ↦ absurd
+            (no_end law is x.outward.decaying e (ap (λ (x : Router). x.outward.decaying) o.0.is) on)
+      ];
+      inner_from = λ e p n on. elim (is.was q x a) [
+        | inl o ↦ (law.positions.each q x o).inner_from e p n on
+        | inr o ↦ absurd
+            (no_end law is x.outward.decaying e (ap (λ (x : Router). x.outward.decaying) o.0.is) on)
+      ];
+      inner_fresh = λ e p n on. elim (is.was q x a) [
+        | inl o ↦ (law.positions.each q x o).inner_fresh e p n on
+        | inr o ↦ absurd
+            (no_end law is x.outward.decaying e (ap (λ (x : Router). x.outward.decaying) o.0.is) on)
+      ];
+      own_proxy = λ e n on. elim (is.was q x a) [
+        | inl o ↦ (law.positions.each q x o).own_proxy e n on
+        | inr o ↦ absurd
+            (no_end law is x.outward.decaying e (ap (λ (x : Router). x.outward.decaying) o.0.is) on)
+      ];
+      own_alone = λ e n on. elim (is.was q x a) [
+        | inl o ↦ (law.positions.each q x o).own_alone e n on
+        | inr o ↦ absurd
+            (no_end law is x.outward.decaying e (ap (λ (x : Router). x.outward.decaying) o.0.is) on)
+      ];
+      own_to = λ e n on. elim (is.was q x a) [
+        | inl o ↦ (law.positions.each q x o).own_to e n on
+        | inr o ↦ absurd
+            (no_end law is x.outward.decaying e (ap (λ (x : Router). x.outward.decaying) o.0.is) on)
+      ];
+      own_from = λ e n on. elim (is.was q x a) [
+        | inl o ↦ (law.positions.each q x o).own_from e n on
+        | inr o ↦ absurd
+            (no_end law is x.outward.decaying e (ap (λ (x : Router). x.outward.decaying) o.0.is) on)
+      ];
+      across_stage = λ e n on. elim (is.was q x a) [
+        | inl o ↦ (law.positions.each q x o).across_stage e n on
+        | inr o ↦ absurd
+            (no_end law is x.outward.decaying e (ap (λ (x : Router). x.outward.decaying) o.0.is) on)
+      ];
+      across_to = λ e n on. elim (is.was q x a) [
+        | inl o ↦ (law.positions.each q x o).across_to e n on
+        | inr o ↦ absurd
+            (no_end law is x.outward.decaying e (ap (λ (x : Router). x.outward.decaying) o.0.is) on)
+      ];
+      across_from = λ e n on. elim (is.was q x a) [
+        | inl o ↦ (law.positions.each q x o).across_from e n on
+        | inr o ↦ absurd
+            (no_end law is x.outward.decaying e (ap (λ (x : Router). x.outward.decaying) o.0.is) on)
+      ];
+      across_fresh = λ e n on. elim (is.was q x a) [
+        | inl o ↦ (law.positions.each q x o).across_fresh e n on
+        | inr o ↦ absurd
+            (no_end law is x.outward.decaying e (ap (λ (x : Router). x.outward.decaying) o.0.is) on)
+      ];
+      begun = λ s. elim (is.was q x a) [
+        | inl o ↦ (law.positions.each q x o).begun s
+        | inr o ↦ absurd
+            (not_both (is_begun_router x) s (ap is_begun_router o.0.is))
+      ];
+    };
     begun_proxy = law.positions.begun_proxy;
     begun_stage = law.positions.begun_stage;
     proxy_begun = law.positions.proxy_begun;

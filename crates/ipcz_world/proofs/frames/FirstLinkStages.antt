@@ -121,7 +121,7 @@ module _ {w v : World} {b : Books} {g : Records} {owner' : ℕ → Owner} {centr
     source = sourced-by w v (λ q x e m. elim (is.was q x e) [
       | inl o ↦ had-itself w q x o
       | inr o ↦ absurd (not_both x.holds m (ap (λ (x : Router). x.holds) o.0.is))
-    ]) (λ q x e j at p l. ap (λ (x : Word). x.source) (is.word j (λ m. recorded_apart law is e.link (law.links.primary q x e at p).recorded
+    ]) (λ q x e j at p l. ap (λ (x : Word). x.source) (is.word j (λ m. recorded_apart law is e.link ((law.links q x at).primary e p).recorded
         (l ∙ ap Central m)))) law.words.source;
     begun_source = λ o s l. ap (λ (x : Word). x.source) (is.word o (begun_apart law is o s)) ∙ law.words.begun_source o s l ∙ ap Some
         (sym (node_kept law is (inner_link (g.bypass o).inner) B

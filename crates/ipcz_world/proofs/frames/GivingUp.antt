@@ -1,12 +1,16 @@
 -- A router gives decaying links up, or leaves: the relation, and what is said of shapes, links and who stands there is kept.
-use Rattle.std.specs.Prelude.{◌≡◌, ◌≢◌, ◌⊎◌, ℕ, ◌+◌, ◌*◌, ◌||◌, Bool, true, false, Option, Some, None, is_some, refl}
+use Rattle.ipcz_world.proofs.Vocabulary.{HasPositions}
+use Rattle.ipcz_world.proofs.frames.LinksKept.{links-kept}
+use Rattle.ipcz_world.proofs.frames.LinksKept.{KeepsLinks}
+use Rattle.ipcz_world.proofs.Vocabulary.{HasShape}
+use Rattle.ipcz_world.proofs.Vocabulary.{IsOrdered}
+use Rattle.std.specs.Prelude.{◌≡◌, ◌≢◌, ◌⊎◌, ℕ, ◌+◌, ◌*◌, Bool, true, false, Option, Some, None, is_some, refl}
 use Rattle.std.proofs.lemmas.Option.{none-some}
 use Rattle.std.proofs.Common.{arith, sym, ◌∙◌, ap, inl, inr}
 use Rattle.ipcz_world.proofs.Vocabulary.{Side, A, B, LinkId, Central, LinkEnd, has_link, Router, is_terminal, inward_edge, World, Key}
 use Rattle.ipcz_world.proofs.Vocabulary.{same_key, mail_at, way, router_at, Records, inner_link, side_router, Weight, in_router, passes}
 use Rattle.ipcz_world.proofs.Vocabulary.{key_passes, has_primary, Counts, Ordered, Shape, Links, IsRecorded, Positions, Stands}
-use Rattle.ipcz_router.specs.Router.{decays, is_proxy, is_sink}
-use Rattle.ipcz_router.specs.ActTable.{is_done}
+use Rattle.ipcz_router.specs.Router.{decays, is_sink}
 use Rattle.ipcz_world.proofs.frames.Frames.{same_key_tells}
 use Rattle.ipcz_world.specs.Standing.{has_inward_primary}
 use Rattle.ipcz_world.proofs.frames.StandingRules.{standing_rules}
@@ -138,61 +142,43 @@ counts-gives w v g k r x c claimed law = record {
     mail : (n from : ℕ) → mail_at v (way v from n) ≡ mail_at w (way w from n)
     mail n from = c.one.mail (way v from n) ∙ ap (λ i. mail_at w (from * i + n)) c.one.count
 
-pub ordered-gives : (w v : World) (k : Key) (r : Router) (x : Option Router) → Gives w v k r x → Ordered w → Ordered v
-ordered-gives w v k r x c law = record {
-  out = λ q y n item at i. let o = was c q y at in grind (arith, o.part.out_queue, law.out q o.router n item o.at, i);
-  inn = λ q y n item at i. let o = was c q y at in grind (arith, o.part.in_queue, law.inn q o.router n item o.at, i);
+ordered-part : (x y : Router) → IsPart x y → IsOrdered x → IsOrdered y
+ordered-part x y part law = record {
+  out = λ n item i. grind (arith, part.out_queue, law.out n item, i);
+  inn = λ n item i. grind (arith, part.in_queue, law.inn n item, i);
 }
+
+pub ordered-gives : (w v : World) (k : Key) (r : Router) (x : Option Router) → Gives w v k r x → Ordered w → Ordered v
+ordered-gives w v k r x c law q y at = let o = was c q y at in ordered-part o.router y o.part (law q o.router o.at)
 
 pub sink-part : (x y : Router) → IsPart x y → is_sink x ≡ true → is_sink y ≡ true
 sink-part x y p h = rw (p.terminal, p.closed) h
 
-pub shape-gives : (w v : World) (k : Key) (r : Router) (x : Option Router) → Gives w v k r x → Keeps w v r x → Shape w → Shape v
-shape-gives w v k r x c keeps law = record {
-  role = λ q y at. let o = was_same c keeps q y at in role q y o;
-  marked_central = λ q y at m. let o = was_same c keeps q y at in
-      grind (arith, o.part.primary, o.flags.marked, law.marked_central q o.router o.at, m);
-  marked_still = λ q y at m. let o = was_same c keeps q y at in still q y o m;
-  holds_marked = λ q y at m. let o = was_same c keeps q y at in grind
-      (arith, o.flags.holds, o.flags.marked, law.holds_marked q o.router o.at, m);
-  holds_fit = λ q y at m. let o = was_same c keeps q y at in fit o.router y o.part (law.holds_fit q o.router o.at (sym o.flags.holds ∙ m));
-  holds_spare = λ q y at m. let o = was_same c keeps q y at in grind
-      (arith, o.flags.holds, o.flags.spare, o.part.proxy, law.holds_spare q o.router o.at, m);
-  dropped_sink = λ q y at m. let o = was_same c keeps q y at in
-      sink-part o.router y o.part (law.dropped_sink q o.router o.at (sym o.part.mark_dropped ∙ m));
-  sent_proxy = λ q y at m. let o = was_same c keeps q y at in
-      ap is_some o.part.inward_primary ∙ law.sent_proxy q o.router o.at (sym o.part.gone_sent ∙ m);
-  spare_proxy = λ q y i at m. let o = was_same c keeps q y at in grind
-      (arith, o.flags.spare, o.part.proxy, law.spare_proxy q o.router i o.at, m);
-  spare_primary = λ q y i at m. let o = was_same c keeps q y at in
-      grind (arith, o.flags.spare, o.part.primary, law.spare_primary q o.router i o.at, m);
+shape-part : (x y : Router) → IsPart x y → HasSameFlags x y → HasShape x → HasShape y
+shape-part x y part flags law = record {
+  role = role (inward_edge y).decaying refl;
+  marked_central = λ m. grind (arith, part.primary, flags.marked, law.marked_central, m);
+  marked_still = λ m. still m y.outward.decaying (inward_edge y).decaying refl refl;
+  holds_marked = λ m. grind (arith, flags.holds, flags.marked, law.holds_marked, m);
+  holds_fit = λ m. rw (part.proxy, part.closed, part.mark_dropped, part.out_queue) (law.holds_fit (sym flags.holds ∙ m));
+  holds_spare = λ m p. ap is_some flags.spare ∙ law.holds_spare (sym flags.holds ∙ m) (sym part.proxy ∙ p);
+  dropped_sink = λ m. sink-part x y part (law.dropped_sink (sym part.mark_dropped ∙ m));
+  sent_proxy = λ m. ap is_some part.inward_primary ∙ law.sent_proxy (sym part.gone_sent ∙ m);
+  spare_proxy = λ i e. part.proxy ∙ law.spare_proxy i (sym flags.spare ∙ e);
+  spare_primary = λ i e. ap is_some part.primary ∙ law.spare_primary i (sym flags.spare ∙ e);
 }
   where
-    fit : (x y : Router) → IsPart x y → (is_proxy x || is_done x) ≡ true → (is_proxy y || is_done y) ≡ true
-    fit x y p h = rw (p.proxy, p.closed, p.mark_dropped, p.out_queue) h
+    role : (d : Option LinkEnd) → (inward_edge y).decaying ≡ d → has_role y ≡ true
+    role None e = grind (arith, part.terminal, part.primary, part.inward_primary, law.role, e)
+    role (Some z) e = grind (arith, part.terminal, part.primary, part.inward_primary, law.role, part.inward_decaying z e, e)
 
-    role : (q : Key) (y : Router) → WasSame w q y → has_role y ≡ true
-    role q y o = go (inward_edge y).decaying refl
-      where
-        go : (d : Option LinkEnd) → (inward_edge y).decaying ≡ d → has_role y ≡ true
-        go None e = grind (arith, o.part.terminal, o.part.primary, o.part.inward_primary, law.role q o.router o.at, e)
-        go (Some z) e = grind (
-          arith,
-          o.part.terminal,
-          o.part.primary,
-          o.part.inward_primary,
-          law.role q o.router o.at,
-          o.part.inward_decaying z e,
-          e,
-        )
+    still : y.marked ≡ true → (d e : Option LinkEnd) → y.outward.decaying ≡ d → (inward_edge y).decaying ≡ e → decays y ≡ false
+    still m None None a b = grind (arith, a, b)
+    still m (Some z) e a b = absurd (grind (arith, flags.marked, law.marked_still, part.decaying z a, m))
+    still m None (Some z) a b = absurd (grind (arith, flags.marked, law.marked_still, part.inward_decaying z b, m))
 
-    still : (q : Key) (y : Router) → WasSame w q y → y.marked ≡ true → decays y ≡ false
-    still q y o m = go y.outward.decaying (inward_edge y).decaying refl refl
-      where
-        go : (d e : Option LinkEnd) → y.outward.decaying ≡ d → (inward_edge y).decaying ≡ e → decays y ≡ false
-        go None None a b = grind (arith, a, b)
-        go (Some z) e a b = absurd (grind (arith, o.flags.marked, law.marked_still q o.router o.at, o.part.decaying z a, m))
-        go None (Some z) a b = absurd (grind (arith, o.flags.marked, law.marked_still q o.router o.at, o.part.inward_decaying z b, m))
+pub shape-gives : (w v : World) (k : Key) (r : Router) (x : Option Router) → Gives w v k r x → Keeps w v r x → Shape w → Shape v
+shape-gives w v k r x c keeps law q y at = let o = was_same c keeps q y at in shape-part o.router y o.part o.flags (law q o.router o.at)
 
 recorded-part : (w v : World) (g : Records) (q : Key) (x y : Router) (e : LinkEnd) → SameMessages w v → IsPart x y → IsRecorded w g q x e →
     IsRecorded v g q y e
@@ -204,58 +190,50 @@ recorded-part w v g q x y e same part law = record {
   end = part.end ∙ law.end;
 }
 
-pub links-gives : (w v : World) (g : Records) (k : Key) (r : Router) (x : Option Router) → Gives w v k r x → Links w g → Links v g
-links-gives w v g k r x c law = record {
-  primary = λ q y e at h. let o = was c q y at in recorded-part w v g q o.router y e (same-messages c.one) o.part
-      (law.primary q o.router e o.at (sym o.part.primary ∙ h));
-  decaying = λ q y e at h. let o = was c q y at in recorded-part w v g q o.router y e (same-messages c.one) o.part
-      (law.decaying q o.router e o.at (o.part.decaying e h));
-  inward_primary = λ q y e at h. let o = was c q y at in recorded-part w v g q o.router y e (same-messages c.one) o.part
-      (law.inward_primary q o.router e o.at (sym o.part.inward_primary ∙ h));
-  inward_decaying = λ q y e at h. let o = was c q y at in recorded-part w v g q o.router y e (same-messages c.one) o.part
-      (law.inward_decaying q o.router e o.at (o.part.inward_decaying e h));
-  primary_outward = λ q y e at h. let o = was c q y at in law.primary_outward q o.router e o.at (sym o.part.primary ∙ h);
-  decaying_outward = λ q y e at h. let o = was c q y at in law.decaying_outward q o.router e o.at (o.part.decaying e h);
-  inward_primary_inward = λ q y e at h. let o = was c q y at in law.inward_primary_inward q o.router e o.at (sym o.part.inward_primary ∙ h);
-  inward_decaying_inward = λ q y e at h. let o = was c q y at in law.inward_decaying_inward q o.router e o.at (o.part.inward_decaying e h);
+keeps-part : (x y : Router) → IsPart x y → KeepsLinks x y
+keeps-part x y part = record {
+  primary = λ e p. sym part.primary ∙ p;
+  decaying = part.decaying;
+  inward_primary = λ e p. sym part.inward_primary ∙ p;
+  inward_decaying = part.inward_decaying;
 }
+
+pub links-gives : (w v : World) (g : Records) (k : Key) (r : Router) (x : Option Router) → Gives w v k r x → Links w g → Links v g
+links-gives w v g k r x c law q y at = let o = was c q y at in
+    links-kept (keeps-part o.router y o.part) (λ e. recorded-part w v g q o.router y e (same-messages c.one) o.part) (law q o.router o.at)
 
 pub begun_part : (x y : Router) → IsPart x y → is_begun_router y ≡ is_begun_router x
 begun_part x y p = grind (arith, p.proxy, p.inward_primary)
 
+positions-part : (g : Records) (k : Key) (x y : Router) → IsPart x y → HasPositions g k x → HasPositions g k y
+positions-part g k x y part law = record {
+  inward_primary = λ e p. law.inward_primary e (sym part.inward_primary ∙ p);
+  inward_decaying = λ e p. law.inward_decaying e (part.inward_decaying e p);
+  inward_to = λ e o p b. part.inward_to e p ∙ law.inward_to e o (part.inward_decaying e p) b;
+  inward_from = λ e o p b. part.inward_from e p ∙ law.inward_from e o (part.inward_decaying e p) b;
+  primary_old = λ e o p. law.primary_old e o (sym part.primary ∙ p);
+  primary_across = λ e o p. law.primary_across e o (sym part.primary ∙ p);
+  primary_inner = λ e q o p. law.primary_inner e q o (sym part.primary ∙ p);
+  decaying = λ e p. law.decaying e (part.decaying e p);
+  inner_stage = λ e q o p. law.inner_stage e q o (part.decaying e p);
+  inner_to = λ e q o p l b. part.length_to e p ∙ law.inner_to e q o (part.decaying e p) l b;
+  inner_from = λ e q o p l b. part.length_from e p ∙ law.inner_from e q o (part.decaying e p) l b;
+  inner_fresh = λ e q o p l b. ap link_in part.primary ∙ law.inner_fresh e q o (part.decaying e p) l b;
+  own_proxy = λ e o p. law.own_proxy e o (part.decaying e p);
+  own_alone = λ e o p l s. part.primary ∙ law.own_alone e o (part.decaying e p) l s;
+  own_to = λ e o p l s. part.length_to e p ∙ law.own_to e o (part.decaying e p) l s;
+  own_from = λ e o p l s. part.length_from e p ∙ law.own_from e o (part.decaying e p) l s;
+  across_stage = λ e o p. law.across_stage e o (part.decaying e p);
+  across_to = λ e o p l s. part.length_to e p ∙ law.across_to e o (part.decaying e p) l s;
+  across_from = λ e o p l s. part.length_from e p ∙ law.across_from e o (part.decaying e p) l s;
+  across_fresh = λ e o p l s. ap link_in part.primary ∙ law.across_fresh e o (part.decaying e p) l s;
+  begun = λ b. law.begun (sym (begun_part x y part) ∙ b);
+}
+
 pub positions-gives : (w v : World) (g : Records) (k : Key) (r : Router) (x : Option Router) → Gives w v k r x → Positions w g →
     Positions v g
 positions-gives w v g k r x c law = record {
-  inward_primary = λ q y e at h. let o = was c q y at in law.inward_primary q o.router e o.at (sym o.part.inward_primary ∙ h);
-  inward_decaying = λ q y e at h. let o = was c q y at in law.inward_decaying q o.router e o.at (o.part.inward_decaying e h);
-  inward_to = λ q y e j at h a. let o = was c q y at in o.part.inward_to e h ∙ law.inward_to q o.router e j o.at
-      (o.part.inward_decaying e h) a;
-  inward_from = λ q y e j at h a. let o = was c q y at in o.part.inward_from e h ∙ law.inward_from q o.router e j o.at
-      (o.part.inward_decaying e h) a;
-  primary_old = λ q y e j at h a. let o = was c q y at in law.primary_old q o.router e j o.at (sym o.part.primary ∙ h) a;
-  primary_across = λ q y e j at h a. let o = was c q y at in law.primary_across q o.router e j o.at (sym o.part.primary ∙ h) a;
-  primary_inner = λ q y e p j at h a. let o = was c q y at in law.primary_inner q o.router e p j o.at (sym o.part.primary ∙ h) a;
-  decaying = λ q y e at h. let o = was c q y at in law.decaying q o.router e o.at (o.part.decaying e h);
-  inner_stage = λ q y e p j at h a b. let o = was c q y at in law.inner_stage q o.router e p j o.at (o.part.decaying e h) a b;
-  inner_to = λ q y e p j at h a b. let o = was c q y at in o.part.length_to e h ∙ law.inner_to q o.router e p j o.at (o.part.decaying e h) a
-      b;
-  inner_from = λ q y e p j at h a b. let o = was c q y at in o.part.length_from e h ∙ law.inner_from q o.router e p j o.at
-      (o.part.decaying e h) a b;
-  inner_fresh = λ q y e p j at h a b. let o = was c q y at in ap link_in o.part.primary ∙ law.inner_fresh q o.router e p j o.at
-      (o.part.decaying e h) a b;
-  own_proxy = λ q y e j at h a b. let o = was c q y at in law.own_proxy q o.router e j o.at (o.part.decaying e h) a b;
-  own_alone = λ q y e j at h a b. let o = was c q y at in o.part.primary ∙ law.own_alone q o.router e j o.at (o.part.decaying e h) a b;
-  own_to = λ q y e j at h a b. let o = was c q y at in o.part.length_to e h ∙ law.own_to q o.router e j o.at (o.part.decaying e h) a b;
-  own_from = λ q y e j at h a b. let o = was c q y at in o.part.length_from e h ∙ law.own_from q o.router e j o.at (o.part.decaying e h) a
-      b;
-  across_stage = λ q y e j at h a b. let o = was c q y at in law.across_stage q o.router e j o.at (o.part.decaying e h) a b;
-  across_to = λ q y e j at h a b. let o = was c q y at in o.part.length_to e h ∙ law.across_to q o.router e j o.at (o.part.decaying e h) a
-      b;
-  across_from = λ q y e j at h a b. let o = was c q y at in o.part.length_from e h ∙ law.across_from q o.router e j o.at
-      (o.part.decaying e h) a b;
-  across_fresh = λ q y e j at h a b. let o = was c q y at in ap link_in o.part.primary ∙ law.across_fresh q o.router e j o.at
-      (o.part.decaying e h) a b;
-  begun = λ q y at h. let o = was c q y at in law.begun q o.router o.at (sym (begun_part o.router y o.part) ∙ h);
+  each = λ q y at. let o = was c q y at in positions-part g q o.router y o.part (law.each q o.router o.at);
   begun_proxy = law.begun_proxy;
   begun_stage = law.begun_stage;
   proxy_begun = law.proxy_begun;

@@ -1,5 +1,6 @@
 -- The records of a router that leaves: sides of its links are left, and the word that was its spare is lost. What is said of all else is kept.
-use Rattle.ipcz_world.proofs.begins.BegunNumbers.{places-sources}
+use Rattle.ipcz_world.proofs.frames.PositionsKept.{positions-kept}
+use Rattle.ipcz_world.proofs.frames.LinksKept.{links-still}
 use Rattle.std.specs.Prelude.{◌≡◌, ◌||◌, ℕ, Bool, true, false, is_some, refl}
 use Rattle.std.proofs.Common.{arith, sym, ◌∙◌, inl, inr}
 use Rattle.ipcz_world.proofs.weights.OfRecords.{in_places}
@@ -14,6 +15,7 @@ use Rattle.ipcz_world.proofs.Vocabulary.{Order, ProxyNumbers, FreshNumbers, Bypa
 use Rattle.ipcz_world.specs.Records.{bypass_length, length_by, is_left, is_unclaimed, Fresh, Linked}
 use Rattle.ipcz_world.specs.Bypasses.{Moves, LiveLinks}
 use Rattle.ipcz_world.proofs.frames.Touching.{either}
+use Rattle.ipcz_world.proofs.weights.Sourcing.{places-sources}
 
 -- the records with other owners of words, and other sides that were left
 abbrev pub off_records : Records → (ℕ → Owner) → (ℕ → Sides) → (Key → Sides) → Records
@@ -60,48 +62,14 @@ module _ {g : Records} {owner : ℕ → Owner} {central : ℕ → Sides} {periph
 
     pub links-off : Links v g → Links v h
     unfolding side_router side_node side_end
-    links-off law = record {
-      primary = λ q z e at d. same q z e (law.primary q z e at d);
-      decaying = λ q z e at d. same q z e (law.decaying q z e at d);
-      inward_primary = λ q z e at d. same q z e (law.inward_primary q z e at d);
-      inward_decaying = λ q z e at d. same q z e (law.inward_decaying q z e at d);
-      primary_outward = law.primary_outward;
-      decaying_outward = law.decaying_outward;
-      inward_primary_inward = law.inward_primary_inward;
-      inward_decaying_inward = law.inward_decaying_inward;
-    }
+    links-off law q z at = links-still (λ e. same q z e) (law q z at)
       where
         same : (q : Key) (z : Router) (e : LinkEnd) → IsRecorded v g q z e → IsRecorded v h q z e
         same q z e rec = record { recorded = recorded-off e.link ∙ rec.recorded; other = rec.other; router = rec.router; end = rec.end }
 
     pub positions-off : Positions v g → Positions v h
     unfolding bypass_of
-    positions-off law = record {
-      inward_primary = law.inward_primary;
-      inward_decaying = law.inward_decaying;
-      inward_to = law.inward_to;
-      inward_from = law.inward_from;
-      primary_old = law.primary_old;
-      primary_across = law.primary_across;
-      primary_inner = law.primary_inner;
-      decaying = law.decaying;
-      inner_stage = law.inner_stage;
-      inner_to = law.inner_to;
-      inner_from = law.inner_from;
-      inner_fresh = law.inner_fresh;
-      own_proxy = law.own_proxy;
-      own_alone = law.own_alone;
-      own_to = law.own_to;
-      own_from = law.own_from;
-      across_stage = law.across_stage;
-      across_to = law.across_to;
-      across_from = law.across_from;
-      across_fresh = law.across_fresh;
-      begun = law.begun;
-      begun_proxy = law.begun_proxy;
-      begun_stage = law.begun_stage;
-      proxy_begun = law.proxy_begun;
-    }
+    positions-off law = positions-kept (record { bypass = λ o. refl; begun = λ k. refl; by = λ p. refl; link = λ l. refl; side = λ o. refl }) law
 
     pub bypasses-off : BypassRecords v g → BypassRecords v h
     unfolding side_router side_node

@@ -1,4 +1,6 @@
 -- A word that is no link's gets another owner: what is said of all else is kept.
+use Rattle.ipcz_world.proofs.frames.PositionsKept.{positions-kept}
+use Rattle.ipcz_world.proofs.frames.LinksKept.{links-still}
 use Rattle.ipcz_world.specs.Whereabouts.{RetiredEnds}
 use Rattle.ipcz_world.specs.Records.{is_left}
 use Rattle.std.specs.Prelude.{◌≡◌, ℕ, Bool, true, false, cond, nat_eq, refl}
@@ -39,48 +41,14 @@ module _ (v : World) (b : Books) (g : Records) (i : ℕ) (x : Owner) (free : is_
 
     pub links-owned : Links v g → Links v owned
     unfolding side_router side_node side_end
-    links-owned law = record {
-      primary = λ q z e at d. same q z e (law.primary q z e at d);
-      decaying = λ q z e at d. same q z e (law.decaying q z e at d);
-      inward_primary = λ q z e at d. same q z e (law.inward_primary q z e at d);
-      inward_decaying = λ q z e at d. same q z e (law.inward_decaying q z e at d);
-      primary_outward = law.primary_outward;
-      decaying_outward = law.decaying_outward;
-      inward_primary_inward = law.inward_primary_inward;
-      inward_decaying_inward = law.inward_decaying_inward;
-    }
+    links-owned law q z at = links-still (λ e. same q z e) (law q z at)
       where
         same : (q : Key) (z : Router) (e : LinkEnd) → IsRecorded v g q z e → IsRecorded v owned q z e
         same q z e is = record { recorded = recorded-owned e.link ∙ is.recorded; other = is.other; router = is.router; end = is.end }
 
     pub positions-owned : Positions v g → Positions v owned
     unfolding bypass_of
-    positions-owned law = record {
-      inward_primary = law.inward_primary;
-      inward_decaying = law.inward_decaying;
-      inward_to = law.inward_to;
-      inward_from = law.inward_from;
-      primary_old = law.primary_old;
-      primary_across = law.primary_across;
-      primary_inner = law.primary_inner;
-      decaying = law.decaying;
-      inner_stage = law.inner_stage;
-      inner_to = law.inner_to;
-      inner_from = law.inner_from;
-      inner_fresh = law.inner_fresh;
-      own_proxy = law.own_proxy;
-      own_alone = law.own_alone;
-      own_to = law.own_to;
-      own_from = law.own_from;
-      across_stage = law.across_stage;
-      across_to = law.across_to;
-      across_from = law.across_from;
-      across_fresh = law.across_fresh;
-      begun = law.begun;
-      begun_proxy = law.begun_proxy;
-      begun_stage = law.begun_stage;
-      proxy_begun = law.proxy_begun;
-    }
+    positions-owned law = positions-kept (record { bypass = λ o. refl; begun = λ k. refl; by = λ p. refl; link = λ l. refl; side = λ o. refl }) law
 
     pub stands-owned : Stands v g → Stands v owned
     unfolding side_router is_left bypass_of

@@ -1,4 +1,7 @@
 -- The record of a bypass goes a stage further, from 3 or 4: links, words and stages are as before.
+use Rattle.ipcz_world.proofs.frames.LinksKept.{links-kept}
+use Rattle.ipcz_world.proofs.frames.LinksKept.{KeepsLinks}
+use Rattle.ipcz_world.proofs.Vocabulary.{HasShape}
 use Rattle.ipcz_world.proofs.Vocabulary.{opposite_end}
 use Rattle.std.specs.Prelude.{◌||◌}
 use Rattle.ipcz_router.specs.ActTable.{is_done}
@@ -67,6 +70,28 @@ role_like r x like linked = rw (like.terminal, linked.primary, linked.inward_pri
 
 decays_like : (r x : Router) → IsLinkedLike r x → decays x ≡ decays r
 decays_like r x linked = rw (linked.decaying, linked.inward_decaying) refl
+
+shape_like : (r x : Router) → IsLike r x → IsLinkedLike r x → HasShape r → HasShape x
+shape_like r x like linked law = record {
+  role = role_like r x like linked ∙ law.role;
+  marked_central = λ m. ap (λ u. is_some (word_of u)) linked.primary ∙ law.marked_central (sym linked.marked ∙ m);
+  marked_still = λ m. decays_like r x linked ∙ law.marked_still (sym linked.marked ∙ m);
+  holds_marked = λ m. linked.marked ∙ law.holds_marked (sym linked.holds ∙ m);
+  holds_fit = λ m. fit_like r x like (law.holds_fit (sym linked.holds ∙ m));
+  holds_spare = λ m a. ap is_some like.spare ∙ law.holds_spare (sym linked.holds ∙ m) (sym (proxy_like r x like) ∙ a);
+  dropped_sink = λ m. sink_like r x like (law.dropped_sink (sym like.mark_dropped ∙ m));
+  sent_proxy = λ m. ap is_some linked.inward_primary ∙ law.sent_proxy (sym like.gone_sent ∙ m);
+  spare_proxy = λ i e. proxy_like r x like ∙ law.spare_proxy i (sym like.spare ∙ e);
+  spare_primary = λ i e. ap is_some linked.primary ∙ law.spare_primary i (sym like.spare ∙ e);
+}
+
+keeps_like : (r x : Router) → IsLinkedLike r x → KeepsLinks r x
+keeps_like r x linked = record {
+  primary = λ e p. sym linked.primary ∙ p;
+  decaying = λ e p. sym linked.decaying ∙ p;
+  inward_primary = λ e p. sym linked.inward_primary ∙ p;
+  inward_decaying = λ e p. sym linked.inward_decaying ∙ p;
+}
 
 pub gone_like : (r x : Router) → IsLike r x → IsLinkedLike r x → IsGoneLike r x
 gone_like r x like linked = record {
@@ -224,30 +249,8 @@ module _ {w v : World} {b : Books} {g : Records} {k : Key} {r x : Router} {o s :
       }
 
   pub shape-further : Shape v
-  shape-further = record {
-    role = λ q t e. let z : Was q t = was_router q t e in role_like z.router t z.alike z.linked_alike ∙ (shape_of law).role q z.router
-        z.here_before;
-    marked_central = λ q t e m. let z : Was q t = was_router q t e in
-        ap (λ u. is_some (word_of u)) z.linked_alike.primary ∙ (shape_of law).marked_central q z.router z.here_before
-        (sym z.linked_alike.marked ∙ m);
-    marked_still = λ q t e m. let z : Was q t = was_router q t e in
-        decays_like z.router t z.linked_alike ∙ (shape_of law).marked_still q z.router z.here_before (sym z.linked_alike.marked ∙ m);
-    holds_marked = λ q t e m. let z : Was q t = was_router q t e in
-        z.linked_alike.marked ∙ (shape_of law).holds_marked q z.router z.here_before (sym z.linked_alike.holds ∙ m);
-    holds_fit = λ q t e m. let z : Was q t = was_router q t e in
-        fit_like z.router t z.alike ((shape_of law).holds_fit q z.router z.here_before (sym z.linked_alike.holds ∙ m));
-    holds_spare = λ q t e m a. let z : Was q t = was_router q t e in
-        ap is_some z.alike.spare ∙ (shape_of law).holds_spare q z.router z.here_before (sym z.linked_alike.holds ∙ m)
-        (sym (proxy_like z.router t z.alike) ∙ a);
-    dropped_sink = λ q t e m. let z : Was q t = was_router q t e in
-        sink_like z.router t z.alike ((shape_of law).dropped_sink q z.router z.here_before (sym z.alike.mark_dropped ∙ m));
-    sent_proxy = λ q t e m. let z : Was q t = was_router q t e in ap is_some z.linked_alike.inward_primary ∙
-        (shape_of law).sent_proxy q z.router z.here_before (sym z.alike.gone_sent ∙ m);
-    spare_proxy = λ q t i e m. let z : Was q t = was_router q t e in
-        proxy_like z.router t z.alike ∙ (shape_of law).spare_proxy q z.router i z.here_before (sym z.alike.spare ∙ m);
-    spare_primary = λ q t i e m. let z : Was q t = was_router q t e in
-        ap is_some z.linked_alike.primary ∙ (shape_of law).spare_primary q z.router i z.here_before (sym z.alike.spare ∙ m);
-  }
+  shape-further q t e = let z : Was q t = was_router q t e in
+      shape_like z.router t z.alike z.linked_alike (shape_of law q z.router z.here_before)
 
   rec_same : (q : Key) (t t' : Router) (d : LinkEnd) → t'.end ≡ t.end → IsRecorded w g q t d → IsRecorded v h q t' d
   rec_same q t t' d e rec = record {
@@ -258,26 +261,8 @@ module _ {w v : World} {b : Books} {g : Records} {k : Key} {r x : Router} {o s :
   }
 
   pub links-further : Links v h
-  links-further = record {
-    primary = λ q t d e p. let z : Was q t = was_router q t e in rec_same q z.router t d z.alike.end
-        ((links_of law).primary q z.router d z.here_before (sym z.linked_alike.primary ∙ p));
-    decaying = λ q t d e p. let z : Was q t = was_router q t e in
-        rec_same q z.router t d z.alike.end ((links_of law).decaying q z.router d z.here_before (sym z.linked_alike.decaying ∙ p));
-    inward_primary = λ q t d e p. let z : Was q t = was_router q t e in
-        rec_same q z.router t d z.alike.end ((links_of law).inward_primary q z.router d z.here_before
-        (sym z.linked_alike.inward_primary ∙ p));
-    inward_decaying = λ q t d e p. let z : Was q t = was_router q t e in
-        rec_same q z.router t d z.alike.end ((links_of law).inward_decaying q z.router d z.here_before
-        (sym z.linked_alike.inward_decaying ∙ p));
-    primary_outward = λ q t d e p. let z : Was q t = was_router q t e in
-        (links_of law).primary_outward q z.router d z.here_before (sym z.linked_alike.primary ∙ p);
-    decaying_outward = λ q t d e p. let z : Was q t = was_router q t e in
-        (links_of law).decaying_outward q z.router d z.here_before (sym z.linked_alike.decaying ∙ p);
-    inward_primary_inward = λ q t d e p. let z : Was q t = was_router q t e in
-        (links_of law).inward_primary_inward q z.router d z.here_before (sym z.linked_alike.inward_primary ∙ p);
-    inward_decaying_inward = λ q t d e p. let z : Was q t = was_router q t e in
-        (links_of law).inward_decaying_inward q z.router d z.here_before (sym z.linked_alike.inward_decaying ∙ p);
-  }
+  links-further q t e = let z : Was q t = was_router q t e in
+      links-kept (keeps_like z.router t z.linked_alike) (λ d. rec_same q z.router t d z.alike.end) (links_of law q z.router z.here_before)
 
   pub stands-further : Stands v h
   stands-further = record {

@@ -235,107 +235,109 @@ module _ {w v : World} {b : Books} {g : Records} {k : Key} {r x : Router} {o s :
 
   pub positions-further : LengthsOwe → Positions v h
   positions-further owes = record {
-    inward_primary = λ q t d e p. let z : Was law c like linked carried at late early q t =
-        was_router law c like linked carried at late early q t e in
-        bypass_of-agree g h (agree law c like linked carried at late early) d.link ∙
-        (positions_of law).inward_primary q z.router d z.here_before
-        (sym z.linked_alike.inward_primary ∙ p);
-    inward_decaying = λ q t d e p. let z : Was law c like linked carried at late early q t =
-        was_router law c like linked carried at late early q t e in
-        bypass_of-agree g h (agree law c like linked carried at late early) d.link ∙
-        (positions_of law).inward_decaying q z.router d z.here_before
-        (sym z.linked_alike.inward_decaying ∙ p);
-    inward_to = λ q t d j e p n. owes.inward_to q t d j e p n ∙
-        ap (known_from 4 (h.bypass j).stage) (sym (accepted_same law c like linked carried at late early j));
-    inward_from = λ q t d j e p n. owes.inward_from q t d j e p n ∙
-        ap (known_from 4 (h.bypass j).stage) (sym (taken_same law c like linked carried at late early j));
-    primary_old = λ q t d j e p l n. let z : Was law c like linked carried at late early q t =
-        was_router law c like linked carried at late early q t e in
-        grind (
-          arith,
-          at_o law c like linked carried at late early j,
-          at,
-          late,
-          (positions_of law).primary_old q z.router d j z.here_before (sym z.linked_alike.primary ∙ p) l
-              (sym ((agree law c like linked carried at late early).is_begun j) ∙ n),
-        );
-    primary_across = λ q t d j e p l n. let z : Was law c like linked carried at late early q t =
-        was_router law c like linked carried at late early q t e in
-        (positions_of law).primary_across q z.router d j z.here_before (sym z.linked_alike.primary ∙ p) l
-        (sym ((agree law c like linked carried at late early).is_begun j) ∙ n)
-        ∙ sym
-        (across_side_same law c like linked carried at late early j);
-    primary_inner = λ q t d p j e m l n. let z : Was law c like linked carried at late early q t =
-        was_router law c like linked carried at late early q t e in
-        grind (
-          arith,
-          at_o law c like linked carried at late early j,
-          at,
-          late,
-          (positions_of law).primary_inner q z.router d p j z.here_before (sym z.linked_alike.primary ∙ m) l
-              n,
-        );
-    decaying = λ q t d e p. let z : Was law c like linked carried at late early q t =
-        was_router law c like linked carried at late early q t e in
-        ap is_some (bypass_of-agree g h (agree law c like linked carried at late early) d.link) ∙
-        (positions_of law).decaying q z.router d z.here_before
-        (sym z.linked_alike.decaying ∙ p);
-    inner_stage = λ q t d p j e m l n. let z : Was law c like linked carried at late early q t =
-        was_router law c like linked carried at late early q t e in
-        grind (
-          arith,
-          at_o law c like linked carried at late early j,
-          at,
-          late,
-          (positions_of law).inner_stage q z.router d p j z.here_before (sym z.linked_alike.decaying ∙ m) l
-              n,
-        );
-    inner_to = λ q t d p j e m l n. owes.inner_to q t d p j e m l n ∙ ap Some (sym (taken_same law c like linked carried at late early j));
-    inner_from = λ q t d p j e m l n. owes.inner_from q t d p j e m l n ∙
-        ap (known_from 5 (h.bypass j).stage) (sym (accepted_same law c like linked carried at late early j));
-    inner_fresh = λ q t d p j e m l n. let z : Was law c like linked carried at late early q t =
-        was_router law c like linked carried at late early q t e in
-        ap link_in z.linked_alike.primary ∙ (positions_of law).inner_fresh q z.router d p j z.here_before
-        (sym z.linked_alike.decaying ∙ m)
-        l n ∙ ap (λ i. Some (Central i)) (sym ((agree law c like linked carried at late early).fresh j));
-    own_proxy = λ q t d j e m l n. let z : Was law c like linked carried at late early q t =
-        was_router law c like linked carried at late early q t e in
-        (agree law c like linked carried at late early).proxy j ∙
-        (positions_of law).own_proxy q z.router d j z.here_before (sym z.linked_alike.decaying ∙ m) l
-        (n ∙ proxy_side_same law c like linked carried at late early j);
-    own_alone = λ q t d j e m l n. let z : Was law c like linked carried at late early q t =
-        was_router law c like linked carried at late early q t e in
-        z.linked_alike.primary ∙ (positions_of law).own_alone q z.router d j z.here_before (sym z.linked_alike.decaying ∙ m) l
-        (n ∙ proxy_side_same law c like linked carried at late early j);
-    own_to = λ q t d j e m l n. owes.own_to q t d j e m l (n ∙ proxy_side_same law c like linked carried at late early j) ∙
-        ap (known_from 4 (h.bypass j).stage)
-        (sym (taken_same law c like linked carried at late early j));
-    own_from = λ q t d j e m l n. owes.own_from q t d j e m l (n ∙ proxy_side_same law c like linked carried at late early j) ∙
-        ap (known_from 4 (h.bypass j).stage)
-        (sym (accepted_same law c like linked carried at late early j));
-    across_stage = λ q t d j e m l n. let z : Was law c like linked carried at late early q t =
-        was_router law c like linked carried at late early q t e in
-        grind (
-          arith,
-          at_o law c like linked carried at late early j,
-          at,
-          late,
-          (positions_of law).across_stage q z.router d j z.here_before (sym z.linked_alike.decaying ∙ m) l
-              (n ∙ across_side_same law c like linked carried at late early j),
-        );
-    across_to = λ q t d j e m l n. owes.across_to q t d j e m l (n ∙ across_side_same law c like linked carried at late early j) ∙
-        ap Some (sym (accepted_same law c like linked carried at late early j));
-    across_from = λ q t d j e m l n. owes.across_from q t d j e m l (n ∙ across_side_same law c like linked carried at late early j) ∙
-        ap Some (sym (taken_same law c like linked carried at late early j));
-    across_fresh = λ q t d j e m l n. let z : Was law c like linked carried at late early q t =
-        was_router law c like linked carried at late early q t e in
-        ap link_in z.linked_alike.primary ∙ (positions_of law).across_fresh q z.router d j z.here_before
-        (sym z.linked_alike.decaying ∙ m) l
-        (n ∙ across_side_same law c like linked carried at late early j) ∙
-        ap (λ i. Some (Central i)) (sym ((agree law c like linked carried at late early).fresh j));
-    begun = λ q t e n. let z : Was law c like linked carried at late early q t = was_router law c like linked carried at late early q t e in
-        (positions_of law).begun q z.router z.here_before
-        (sym (begun_like z.router t z.alike z.linked_alike) ∙ n);
+    each = λ q t e. record {
+      inward_primary = λ d p. let z : Was law c like linked carried at late early q t =
+          was_router law c like linked carried at late early q t e in
+          bypass_of-agree g h (agree law c like linked carried at late early) d.link ∙
+          ((positions_of law).each q z.router z.here_before).inward_primary d
+          (sym z.linked_alike.inward_primary ∙ p);
+      inward_decaying = λ d p. let z : Was law c like linked carried at late early q t =
+          was_router law c like linked carried at late early q t e in
+          bypass_of-agree g h (agree law c like linked carried at late early) d.link ∙
+          ((positions_of law).each q z.router z.here_before).inward_decaying d
+          (sym z.linked_alike.inward_decaying ∙ p);
+      inward_to = λ d j p n. owes.inward_to q t d j e p n ∙
+          ap (known_from 4 (h.bypass j).stage) (sym (accepted_same law c like linked carried at late early j));
+      inward_from = λ d j p n. owes.inward_from q t d j e p n ∙
+          ap (known_from 4 (h.bypass j).stage) (sym (taken_same law c like linked carried at late early j));
+      primary_old = λ d j p l n. let z : Was law c like linked carried at late early q t =
+          was_router law c like linked carried at late early q t e in
+          grind (
+            arith,
+            at_o law c like linked carried at late early j,
+            at,
+            late,
+            ((positions_of law).each q z.router z.here_before).primary_old d j (sym z.linked_alike.primary ∙ p) l
+                (sym ((agree law c like linked carried at late early).is_begun j) ∙ n),
+          );
+      primary_across = λ d j p l n. let z : Was law c like linked carried at late early q t =
+          was_router law c like linked carried at late early q t e in
+          ((positions_of law).each q z.router z.here_before).primary_across d j (sym z.linked_alike.primary ∙ p) l
+          (sym ((agree law c like linked carried at late early).is_begun j) ∙ n)
+          ∙ sym
+          (across_side_same law c like linked carried at late early j);
+      primary_inner = λ d p j m l n. let z : Was law c like linked carried at late early q t =
+          was_router law c like linked carried at late early q t e in
+          grind (
+            arith,
+            at_o law c like linked carried at late early j,
+            at,
+            late,
+            ((positions_of law).each q z.router z.here_before).primary_inner d p j (sym z.linked_alike.primary ∙ m) l
+                n,
+          );
+      decaying = λ d p. let z : Was law c like linked carried at late early q t =
+          was_router law c like linked carried at late early q t e in
+          ap is_some (bypass_of-agree g h (agree law c like linked carried at late early) d.link) ∙
+          ((positions_of law).each q z.router z.here_before).decaying d
+          (sym z.linked_alike.decaying ∙ p);
+      inner_stage = λ d p j m l n. let z : Was law c like linked carried at late early q t =
+          was_router law c like linked carried at late early q t e in
+          grind (
+            arith,
+            at_o law c like linked carried at late early j,
+            at,
+            late,
+            ((positions_of law).each q z.router z.here_before).inner_stage d p j (sym z.linked_alike.decaying ∙ m) l
+                n,
+          );
+      inner_to = λ d p j m l n. owes.inner_to q t d p j e m l n ∙ ap Some (sym (taken_same law c like linked carried at late early j));
+      inner_from = λ d p j m l n. owes.inner_from q t d p j e m l n ∙
+          ap (known_from 5 (h.bypass j).stage) (sym (accepted_same law c like linked carried at late early j));
+      inner_fresh = λ d p j m l n. let z : Was law c like linked carried at late early q t =
+          was_router law c like linked carried at late early q t e in
+          ap link_in z.linked_alike.primary ∙ ((positions_of law).each q z.router z.here_before).inner_fresh d p j
+          (sym z.linked_alike.decaying ∙ m)
+          l n ∙ ap (λ i. Some (Central i)) (sym ((agree law c like linked carried at late early).fresh j));
+      own_proxy = λ d j m l n. let z : Was law c like linked carried at late early q t =
+          was_router law c like linked carried at late early q t e in
+          (agree law c like linked carried at late early).proxy j ∙
+          ((positions_of law).each q z.router z.here_before).own_proxy d j (sym z.linked_alike.decaying ∙ m) l
+          (n ∙ proxy_side_same law c like linked carried at late early j);
+      own_alone = λ d j m l n. let z : Was law c like linked carried at late early q t =
+          was_router law c like linked carried at late early q t e in
+          z.linked_alike.primary ∙ ((positions_of law).each q z.router z.here_before).own_alone d j (sym z.linked_alike.decaying ∙ m) l
+          (n ∙ proxy_side_same law c like linked carried at late early j);
+      own_to = λ d j m l n. owes.own_to q t d j e m l (n ∙ proxy_side_same law c like linked carried at late early j) ∙
+          ap (known_from 4 (h.bypass j).stage)
+          (sym (taken_same law c like linked carried at late early j));
+      own_from = λ d j m l n. owes.own_from q t d j e m l (n ∙ proxy_side_same law c like linked carried at late early j) ∙
+          ap (known_from 4 (h.bypass j).stage)
+          (sym (accepted_same law c like linked carried at late early j));
+      across_stage = λ d j m l n. let z : Was law c like linked carried at late early q t =
+          was_router law c like linked carried at late early q t e in
+          grind (
+            arith,
+            at_o law c like linked carried at late early j,
+            at,
+            late,
+            ((positions_of law).each q z.router z.here_before).across_stage d j (sym z.linked_alike.decaying ∙ m) l
+                (n ∙ across_side_same law c like linked carried at late early j),
+          );
+      across_to = λ d j m l n. owes.across_to q t d j e m l (n ∙ across_side_same law c like linked carried at late early j) ∙
+          ap Some (sym (accepted_same law c like linked carried at late early j));
+      across_from = λ d j m l n. owes.across_from q t d j e m l (n ∙ across_side_same law c like linked carried at late early j) ∙
+          ap Some (sym (taken_same law c like linked carried at late early j));
+      across_fresh = λ d j m l n. let z : Was law c like linked carried at late early q t =
+          was_router law c like linked carried at late early q t e in
+          ap link_in z.linked_alike.primary ∙ ((positions_of law).each q z.router z.here_before).across_fresh d j
+          (sym z.linked_alike.decaying ∙ m) l
+          (n ∙ across_side_same law c like linked carried at late early j) ∙
+          ap (λ i. Some (Central i)) (sym ((agree law c like linked carried at late early).fresh j));
+      begun = λ n. let z : Was law c like linked carried at late early q t = was_router law c like linked carried at late early q t e in
+          ((positions_of law).each q z.router z.here_before).begun
+          (sym (begun_like z.router t z.alike z.linked_alike) ∙ n);
+    };
     begun_proxy = λ q j n. (agree law c like linked carried at late early).proxy j ∙ (positions_of law).begun_proxy q j n;
     begun_stage = λ q j n. (agree law c like linked carried at late early).is_begun j ∙ (positions_of law).begun_stage q j n;
     proxy_begun = λ j n. ap g.begun ((agree law c like linked carried at late early).proxy j) ∙

@@ -1,4 +1,10 @@
 -- One router changes in what its links, its spare and its lock don't show: what is said of those is kept.
+use Rattle.ipcz_world.proofs.Vocabulary.{HasPositions}
+use Rattle.ipcz_world.proofs.frames.EachKept.{each-by}
+use Rattle.ipcz_world.proofs.frames.LinksKept.{links-kept}
+use Rattle.ipcz_world.proofs.frames.LinksKept.{KeepsLinks}
+use Rattle.ipcz_world.proofs.Vocabulary.{HasShape}
+use Rattle.ipcz_world.proofs.frames.EachKept.{each-one}
 use Rattle.std.proofs.Common.{ap}
 use Rattle.ipcz_world.proofs.frames.Sourcing.{sourced-by, had-one, inward-same}
 use Rattle.ipcz_edge.specs.Edge.{Edge}
@@ -49,6 +55,59 @@ alike-itself r = record {
 pub either : (a b : Bool) → (a || b) ≡ true → (a ≡ true) ⊎ (b ≡ true)
 either true b h = inl refl
 either false b h = inr h
+
+fit-alike : (r y : Router) → IsAlike r y → (is_proxy r || is_done r) ≡ true → (is_proxy y || is_done y) ≡ true
+fit-alike r y same h = elim (either (is_proxy r) (is_done r) h) [
+  | inl p ↦ or_left _ _ (ap is_some same.inward ∙ p)
+  | inr d ↦ or_right _ _ (same.done d)
+]
+
+keeps-alike : (r y : Router) → IsAlike r y → KeepsLinks r y
+keeps-alike r y same = record {
+  primary = λ e p. grind (arith, same.outward, p);
+  decaying = λ e p. grind (arith, same.outward, p);
+  inward_primary = λ e p. grind (arith, same.inward, p);
+  inward_decaying = λ e p. grind (arith, same.inward, p);
+}
+
+shape-alike : (r y : Router) → IsAlike r y → HasShape r → HasShape y
+shape-alike r y same law = record {
+  role = rw (same.outward, same.inward) law.role;
+  marked_central = λ m. rw (same.outward) (law.marked_central (sym same.marked ∙ m));
+  marked_still = λ m. rw (same.outward, same.inward) (law.marked_still (sym same.marked ∙ m));
+  holds_marked = λ m. same.marked ∙ law.holds_marked (sym same.holds ∙ m);
+  holds_fit = λ m. fit-alike r y same (law.holds_fit (sym same.holds ∙ m));
+  holds_spare = λ m p. ap is_some same.spare ∙ law.holds_spare (sym same.holds ∙ m) (sym (ap is_some same.inward) ∙ p);
+  dropped_sink = λ m. same.dropped m law.dropped_sink;
+  sent_proxy = λ m. same.sent m law.sent_proxy;
+  spare_proxy = λ i e. ap is_some same.inward ∙ law.spare_proxy i (sym same.spare ∙ e);
+  spare_primary = λ i e. rw (same.outward) (law.spare_primary i (sym same.spare ∙ e));
+}
+
+positions-alike : (g : Records) (k : Key) (r y : Router) → IsAlike r y → HasPositions g k r → HasPositions g k y
+positions-alike g k r y same law = record {
+  inward_primary = λ e p. grind (arith, same.inward, law.inward_primary e);
+  inward_decaying = λ e p. grind (arith, same.inward, law.inward_decaying e);
+  inward_to = λ e o p b. grind (arith, same.inward, law.inward_to e o);
+  inward_from = λ e o p b. grind (arith, same.inward, law.inward_from e o);
+  primary_old = λ e o p l b. grind (arith, same.outward, law.primary_old e o);
+  primary_across = λ e o p l b. grind (arith, same.outward, law.primary_across e o);
+  primary_inner = λ e p o q l b. grind (arith, same.outward, law.primary_inner e p o);
+  decaying = λ e p. grind (arith, same.outward, law.decaying e);
+  inner_stage = λ e p o q l b. grind (arith, same.outward, law.inner_stage e p o);
+  inner_to = λ e p o q l b. grind (arith, same.outward, law.inner_to e p o);
+  inner_from = λ e p o q l b. grind (arith, same.outward, law.inner_from e p o);
+  inner_fresh = λ e p o q l b. grind (arith, same.outward, law.inner_fresh e p o);
+  own_proxy = λ e o p l s. grind (arith, same.outward, law.own_proxy e o);
+  own_alone = λ e o p l s. grind (arith, same.outward, law.own_alone e o);
+  own_to = λ e o p l s. grind (arith, same.outward, law.own_to e o);
+  own_from = λ e o p l s. grind (arith, same.outward, law.own_from e o);
+  across_stage = λ e o p l s. grind (arith, same.outward, law.across_stage e o);
+  across_to = λ e o p l s. grind (arith, same.outward, law.across_to e o);
+  across_from = λ e o p l s. grind (arith, same.outward, law.across_from e o);
+  across_fresh = λ e o p l s. grind (arith, same.outward, law.across_fresh e o);
+  begun = λ h. grind (arith, same.inward, law.begun, h);
+}
 
 -- one router changes in its queues: the words are as they were, while messages and hands may move on
 pub record IsTouched (w v : World) (k : Key) (r y : Router) : Type 0 where
@@ -111,25 +170,8 @@ module _ (w v : World) (k : Key) (r y : Router) (g : Records) (t : IsTouched w v
       go (inl e) = let f : y ≡ x = grind (arith, t.router q, e.0, at) in (r, rw e.1 t.here, rw (← f) a)
       go (inr e) = (x, grind (arith, t.router q, e.0, at), alike-itself x)
 
-  fit : (z x : Router) → IsAlike z x → (is_proxy z || is_done z) ≡ true → (is_proxy x || is_done x) ≡ true
-  fit z x o h = elim (either (is_proxy z) (is_done z) h) [
-    | inl p ↦ or_left _ _ (ap is_some o.inward ∙ p)
-    | inr d ↦ or_right _ _ (o.done d)
-  ]
-
   pub shape-touched : Shape w → Shape v
-  shape-touched law = record {
-    role = λ q x at. grind (arith, t.router q, same_key_tells q k, t.here, law.role q x, law.role k r);
-    marked_central = λ q x at m. grind (arith, t.router q, same_key_tells q k, t.here, law.marked_central q x, law.marked_central k r);
-    marked_still = λ q x at m. grind (arith, t.router q, same_key_tells q k, t.here, law.marked_still q x, law.marked_still k r);
-    holds_marked = λ q x at m. grind (arith, t.router q, same_key_tells q k, t.here, law.holds_marked q x, law.holds_marked k r);
-    holds_fit = λ q x at m. let o = before q x at in fit o.0 x o.2 (law.holds_fit q o.0 o.1 (sym o.2.holds ∙ m));
-    holds_spare = λ q x at m. grind (arith, t.router q, same_key_tells q k, t.here, law.holds_spare q x, law.holds_spare k r);
-    dropped_sink = λ q x at m. let o = before q x at in o.2.dropped m (law.dropped_sink q o.0 o.1);
-    sent_proxy = λ q x at m. let o = before q x at in o.2.sent m (law.sent_proxy q o.0 o.1);
-    spare_proxy = λ q x j at m. grind (arith, t.router q, same_key_tells q k, t.here, law.spare_proxy q x j, law.spare_proxy k r j);
-    spare_primary = λ q x j at m. grind (arith, t.router q, same_key_tells q k, t.here, law.spare_primary q x j, law.spare_primary k r j);
-  }
+  shape-touched law = each-one w v k y HasShape t.router law (shape-alike r y a (law k r t.here))
 
   is_recorded-touched : (q : Key) (z x : Router) (e : LinkEnd) → IsAlike z x → IsRecorded w g q z e → IsRecorded v g q x e
   is_recorded-touched q z x e same is = record {
@@ -140,128 +182,12 @@ module _ (w v : World) (k : Key) (r y : Router) (g : Records) (t : IsTouched w v
   }
 
   pub links-touched : Links w g → Links v g
-  links-touched law = record {
-    primary = λ q x e at is. let z = before q x at in is_recorded-touched q z.0 x e z.2
-        (law.primary q z.0 e z.1 (grind (arith, z.2.outward, is)));
-    decaying = λ q x e at is. let z = before q x at in is_recorded-touched q z.0 x e z.2
-        (law.decaying q z.0 e z.1 (grind (arith, z.2.outward, is)));
-    inward_primary = λ q x e at is. let z = before q x at in is_recorded-touched q z.0 x e z.2
-        (law.inward_primary q z.0 e z.1 (grind (arith, z.2.inward, is)));
-    inward_decaying = λ q x e at is. let z = before q x at in is_recorded-touched q z.0 x e z.2
-        (law.inward_decaying q z.0 e z.1 (grind (arith, z.2.inward, is)));
-    primary_outward = λ q x e at is. let z = before q x at in law.primary_outward q z.0 e z.1 (grind (arith, z.2.outward, is));
-    decaying_outward = λ q x e at is. let z = before q x at in law.decaying_outward q z.0 e z.1 (grind (arith, z.2.outward, is));
-    inward_primary_inward = λ q x e at is. let z = before q x at in law.inward_primary_inward q z.0 e z.1 (grind (arith, z.2.inward, is));
-    inward_decaying_inward = λ q x e at is. let z = before q x at in law.inward_decaying_inward q z.0 e z.1 (grind (arith, z.2.inward, is));
-  }
+  links-touched law q x at = let z = before q x at in
+      links-kept (keeps-alike z.0 x z.2) (λ e. is_recorded-touched q z.0 x e z.2) (law q z.0 z.1)
 
   pub positions-touched : Positions w g → Positions v g
   positions-touched law = record {
-    inward_primary = λ q x e at is. grind (
-      arith,
-      t.router q,
-      same_key_tells q k,
-      t.here,
-      law.inward_primary q x e,
-      law.inward_primary k r e,
-    );
-    inward_decaying = λ q x e at is. grind (
-      arith,
-      t.router q,
-      same_key_tells q k,
-      t.here,
-      law.inward_decaying q x e,
-      law.inward_decaying k r e,
-    );
-    inward_to = λ q x e o at is b. grind (arith, t.router q, same_key_tells q k, t.here, law.inward_to q x e o, law.inward_to k r e o);
-    inward_from = λ q x e o at is b. grind (
-      arith,
-      t.router q,
-      same_key_tells q k,
-      t.here,
-      law.inward_from q x e o,
-      law.inward_from k r e o,
-    );
-    primary_old = λ q x e o at is l b. grind (
-      arith,
-      t.router q,
-      same_key_tells q k,
-      t.here,
-      law.primary_old q x e o,
-      law.primary_old k r e o,
-    );
-    primary_across = λ q x e o at is l b. grind (
-      arith,
-      t.router q,
-      same_key_tells q k,
-      t.here,
-      law.primary_across q x e o,
-      law.primary_across k r e o,
-    );
-    primary_inner = λ q x e p o at is l b. grind (
-      arith,
-      t.router q,
-      same_key_tells q k,
-      t.here,
-      law.primary_inner q x e p o,
-      law.primary_inner k r e p o,
-    );
-    decaying = λ q x e at is. grind (arith, t.router q, same_key_tells q k, t.here, law.decaying q x e, law.decaying k r e);
-    inner_stage = λ q x e p o at is l b. grind (
-      arith,
-      t.router q,
-      same_key_tells q k,
-      t.here,
-      law.inner_stage q x e p o,
-      law.inner_stage k r e p o,
-    );
-    inner_to = λ q x e p o at is l b. grind (arith, t.router q, same_key_tells q k, t.here, law.inner_to q x e p o, law.inner_to k r e p o);
-    inner_from = λ q x e p o at is l b. grind (
-      arith,
-      t.router q,
-      same_key_tells q k,
-      t.here,
-      law.inner_from q x e p o,
-      law.inner_from k r e p o,
-    );
-    inner_fresh = λ q x e p o at is l b. grind (
-      arith,
-      t.router q,
-      same_key_tells q k,
-      t.here,
-      law.inner_fresh q x e p o,
-      law.inner_fresh k r e p o,
-    );
-    own_proxy = λ q x e o at is l s. grind (arith, t.router q, same_key_tells q k, t.here, law.own_proxy q x e o, law.own_proxy k r e o);
-    own_alone = λ q x e o at is l s. grind (arith, t.router q, same_key_tells q k, t.here, law.own_alone q x e o, law.own_alone k r e o);
-    own_to = λ q x e o at is l s. grind (arith, t.router q, same_key_tells q k, t.here, law.own_to q x e o, law.own_to k r e o);
-    own_from = λ q x e o at is l s. grind (arith, t.router q, same_key_tells q k, t.here, law.own_from q x e o, law.own_from k r e o);
-    across_stage = λ q x e o at is l s. grind (
-      arith,
-      t.router q,
-      same_key_tells q k,
-      t.here,
-      law.across_stage q x e o,
-      law.across_stage k r e o,
-    );
-    across_to = λ q x e o at is l s. grind (arith, t.router q, same_key_tells q k, t.here, law.across_to q x e o, law.across_to k r e o);
-    across_from = λ q x e o at is l s. grind (
-      arith,
-      t.router q,
-      same_key_tells q k,
-      t.here,
-      law.across_from q x e o,
-      law.across_from k r e o,
-    );
-    across_fresh = λ q x e o at is l s. grind (
-      arith,
-      t.router q,
-      same_key_tells q k,
-      t.here,
-      law.across_fresh q x e o,
-      law.across_fresh k r e o,
-    );
-    begun = λ q x at is. grind (arith, t.router q, same_key_tells q k, t.here, law.begun q x, law.begun k r);
+    each = each-by w v k y (HasPositions g) (HasPositions g) t.router (λ q z is. is) law.each (positions-alike g k r y a (law.each k r t.here));
     begun_proxy = law.begun_proxy;
     begun_stage = law.begun_stage;
     proxy_begun = law.proxy_begun;

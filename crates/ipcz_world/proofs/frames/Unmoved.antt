@@ -1,4 +1,6 @@
 -- What an act keeps that changes one router's links and flags, and no item, terminal or end.
+use Rattle.ipcz_world.proofs.Vocabulary.{IsOrdered}
+use Rattle.ipcz_world.proofs.frames.EachKept.{each-one}
 use Rattle.ipcz_world.proofs.Vocabulary.{has}
 use Rattle.ipcz_world.specs.Records.{is_left}
 use Rattle.ipcz_world.proofs.weights.OfRecords.{holds, held_times, source, in_message, in_places}
@@ -183,10 +185,10 @@ module _ (w v : World) (g h : Records) (k : Key) (r x : Router) (c : Changed w v
   no_strays-kept law n = c.strays n ∙ law n
 
   pub ordered-kept : IsLike r x → Ordered w → Ordered v
-  ordered-kept like law = record {
-    out = λ q y n item at i. grind (arith, c.router q, same_key_tells q k, c.here, like.out_queue, law.out q y n item, law.out k r n item);
-    inn = λ q y n item at i. grind (arith, c.router q, same_key_tells q k, c.here, like.in_queue, law.inn q y n item, law.inn k r n item);
-  }
+  ordered-kept like law = each-one w v k x IsOrdered c.router law (record {
+    out = λ n item i. grind (arith, like.out_queue, (law k r c.here).out n item, i);
+    inn = λ n item i. grind (arith, like.in_queue, (law k r c.here).inn n item, i);
+  })
 
   pub spares-kept : IsLike r x → ((i : ℕ) → h.owner i ≡ g.owner i) → ((o : ℕ) → (g.bypass o).stage ≡ 1 → (h.bypass o).stage ≡ 1) →
       Spares w g → Spares v h

@@ -1,7 +1,7 @@
 -- Who stands around a bypass when the router across has the message that asks it to accept.
 use Rattle.ipcz_world.proofs.views.LeftSides.{not_left}
-use Rattle.std.specs.Prelude.{◌≡◌, ◌≢◌, ◌⊎◌, ◌<◌, ◌≤◌, ℕ, Bool, true, false, cond, ◌&&◌, nat_eq, is_some, Option, Some, None, refl}
-use Rattle.std.proofs.Common.{arith, ap, ◌∙◌, sym, inl, inr}
+use Rattle.std.specs.Prelude.{◌≡◌, ◌≢◌, ◌<◌, ◌≤◌, ℕ, Bool, true, false, cond, ◌&&◌, nat_eq, is_some, Option, Some, None, refl}
+use Rattle.std.proofs.Common.{arith, ap, ◌∙◌, sym}
 use Rattle.std.proofs.lemmas.Bool.Decides.{nat_tests}
 use Rattle.std.proofs.lemmas.Option.{none-some, same_Some}
 use Rattle.ipcz_world.proofs.Vocabulary.{Side, A, B, LinkId, Central, Peripheral, LinkEnd, Item, Message, opposite, same_side}
@@ -9,9 +9,8 @@ use Rattle.ipcz_world.proofs.Vocabulary.{has_link, item_at, Router, router_has, 
 use Rattle.ipcz_world.proofs.Vocabulary.{flow, Books, Records, Linked, is_begun, is_linked, is_recorded, side_node, side_router}
 use Rattle.ipcz_world.proofs.Vocabulary.{proxy_side, across_side, side_length, Standing, view, next_sent, taking_queue, sending_queue}
 use Rattle.ipcz_world.proofs.Vocabulary.{fed_queue, has_primary, has_decaying, has_inward_decaying, key_passes, under_way, total_below}
-use Rattle.ipcz_world.proofs.Vocabulary.{total_list, IsRecorded, Told, of_bypass, control_weight, inner_of, has_passed}
+use Rattle.ipcz_world.proofs.Vocabulary.{total_list, Told, of_bypass, control_weight, inner_of, has_passed}
 use Rattle.ipcz_base.specs.declared.message.Message.TheVariants as messages
-use Rattle.ipcz_router.specs.Router.{outward_has, inward_has}
 use Rattle.ipcz_world.specs.declared.mail.Mail.TheVariants as mails
 use Rattle.ipcz_world.specs.Records.{key_at}
 use Rattle.ipcz_world.proofs.frames.RecordRules.{is_recorded-central}
@@ -29,9 +28,9 @@ use Rattle.ipcz_world.proofs.facts.Lengths.{length-old, length-proxy, length-inn
 use Rattle.ipcz_world.proofs.frames.Sealing.{Sealed, Closed, opened, stands_of, counts_of, shape_of, links_of, positions_of, stages_of}
 use Rattle.ipcz_world.proofs.frames.Sealing.{told_of, bypasses_of, order_of, proxy_numbers_of, fresh_numbers_of}
 use Rattle.ipcz_world.proofs.views.Telling.{never}
-use Rattle.std.proofs.lemmas.Bool.{or_cases}
 use Rattle.ipcz_world.proofs.facts.Tests.{nat_eq-itself}
 use Rattle.ipcz_world.proofs.flows.Flowing.{total_below-has}
+use Rattle.ipcz_world.proofs.views.Having.{has_at}
 
 -- a message in hand is among those under way
 pub in_hand-under_way : (h : ℕ → ℕ → Message → ℕ) (w : World) (from to : ℕ) (m : Message) → from < w.count → to < w.count →
@@ -198,34 +197,9 @@ module _ {w : World} {b : Books} {g : Records} {from : ℕ} {k : Key} {r : Route
   pub proxy_is : proxy_side g o ≡ opposite side
   proxy_is = sym (ap opposite is.at_side ∙ opposite-twice (proxy_side g o))
 
-  recorded_at : (t : Option LinkEnd) → has_link t (Central o) side ≡ true → ((d : LinkEnd) → t ≡ Some d → IsRecorded w g k r d) →
-      side_router g (Central o) side ≡ Some k
-  recorded_at t h rec = let at : HasEnd t (Central o) side = has_link-tells t (Central o) side h in
-      rw (at.on_link, at.at_side) at ((rec at.end at.there).router)
-
   -- the router is the one across
   pub known : side_router g (Central o) side ≡ Some k
-  known = go (or_cases _ _ (opened can).has)
-    where
-      outer : (outward_has r (Central o) side ≡ true) → side_router g (Central o) side ≡ Some k
-      outer h = go (or_cases _ _ h)
-        where
-          go : (has_link r.outward.primary (Central o) side ≡ true) ⊎ (has_link r.outward.decaying (Central o) side ≡ true) →
-              side_router g (Central o) side ≡ Some k
-          go (inl t) = recorded_at r.outward.primary t (λ d. (links_of law).primary k r d here)
-          go (inr t) = recorded_at r.outward.decaying t (λ d. (links_of law).decaying k r d here)
-
-      inner : (inward_has r (Central o) side ≡ true) → side_router g (Central o) side ≡ Some k
-      inner h = go (or_cases _ _ h)
-        where
-          go : (has_link (inward_edge r).primary (Central o) side ≡ true) ⊎ (has_link (inward_edge r).decaying (Central o) side ≡ true) →
-              side_router g (Central o) side ≡ Some k
-          go (inl t) = recorded_at (inward_edge r).primary t (λ d. (links_of law).inward_primary k r d here)
-          go (inr t) = recorded_at (inward_edge r).decaying t (λ d. (links_of law).inward_decaying k r d here)
-
-      go : (outward_has r (Central o) side ≡ true) ⊎ (inward_has r (Central o) side ≡ true) → side_router g (Central o) side ≡ Some k
-      go (inl t) = outer t
-      go (inr t) = inner t
+  known = (has_at w g k r (Central o) side (links_of law) here (opened can).has).router
 
   pub known_across : side_router g (Central o) (across_side g o) ≡ Some k
   known_across = rw is.at_side at known
@@ -250,7 +224,7 @@ module _ {w : World} {b : Books} {g : Records} {from : ℕ} {k : Key} {r : Route
   marked = at_stage (λ x. x.marked) ((stages_of law).across_marked o begun (omega (arith, is.stage)))
 
   pub still : r.outward.decaying ≡ None
-  still = grind (arith, (shape_of law).marked_still k r here marked)
+  still = grind (arith, ((shape_of law) k r here).marked_still marked)
 
   -- the proxy
   pub y_stood : Stood w (g.bypass o).proxy (has_decaying (Central o) (opposite side))
@@ -305,11 +279,11 @@ module _ {w : World} {b : Books} {g : Records} {from : ℕ} {k : Key} {r : Route
   z_end = has_link-tells z.outward.decaying (inner_of g o) B z_inner
 
   z_primary : link_in z.outward.primary ≡ Some (Central fresh)
-  z_primary = rw (← is.on_word) at ((positions_of law).inner_fresh zk z z_end.end (g.bypass o).inner o z_here z_end.there z_end.on_link
+  z_primary = rw (← is.on_word) at (((positions_of law).each zk z z_here).inner_fresh z_end.end (g.bypass o).inner o z_end.there z_end.on_link
       by_o)
 
   z_to : z.outward.length_to ≡ Some length
-  z_to = rw (← is.taken) at ((positions_of law).inner_to zk z z_end.end (g.bypass o).inner o z_here z_end.there z_end.on_link by_o)
+  z_to = rw (← is.taken) at (((positions_of law).each zk z z_here).inner_to z_end.end (g.bypass o).inner o z_end.there z_end.on_link by_o)
 
   pub fresh_linked : is_linked (g.owner fresh) ≡ true
   fresh_linked = ap is_linked (ap g.owner is.on_word ∙ (bypasses_of law).fresh_linked o two) ∙ linked_is

@@ -1,4 +1,7 @@
 -- The router across takes the fresh link: each link is as its record says, and primary or decaying as its bypass says.
+use Rattle.ipcz_world.proofs.Vocabulary.{HasLinks}
+use Rattle.ipcz_world.proofs.frames.EachKept.{each-by}
+use Rattle.ipcz_world.proofs.frames.LinksKept.{links-still}
 use Rattle.std.specs.Prelude.{◌≡◌, ◌≢◌, ◌⊎◌, ◌<◌, ◌≤◌, ℕ, ◌+◌, ◌*◌, Bool, true, false, cond, ◌&&◌, nat_eq, is_some, is_none, Some, None}
 use Rattle.std.specs.Prelude.{unwrap_or, refl}
 use Rattle.std.proofs.Common.{arith, ap, ◌∙◌, sym, inl, inr}
@@ -150,7 +153,7 @@ module _ {w : World} {b : Books} {g : Records} {from : ℕ} {k : Key} {r : Route
 
   x_at_end : r.end ≡ side_end h (Central fresh) side
   unfolding side_end
-  x_at_end = ((links_of law).primary k r e (here law can) (on law can)).end ∙ ap (λ l. side_end g l e.side) (on_old law can) ∙
+  x_at_end = (((links_of law) k r (here law can)).primary e (on law can)).end ∙ ap (λ l. side_end g l e.side) (on_old law can) ∙
       ap (side_end g (Central o)) (at_side law can)
       ∙ ap (λ n. record { pair = n; side = side })
       (sym (ap (λ i. (g.central i).pair) (is law can).on_word ∙ (bypasses_of law).fresh_pair o (two law can)) ∙ sym
@@ -170,40 +173,17 @@ module _ {w : World} {b : Books} {g : Records} {from : ℕ} {k : Key} {r : Route
 
   pub links-accept : Links v h
   unfolding is_outward
-  links-accept = record {
-    primary = λ q t d at prim. primary_at q t d prim (split q t at);
-    decaying = λ q t d at dec. decaying_at q t d dec (split q t at);
-    inward_primary = λ q t d at prim. let c : WasLike w q t = was_router law can q t at in
-        rec_kept q c.router t d c.alike.end ((links_of law).inward_primary q c.router d c.here_before
-        (ap (λ u. (unwrap_or u no_edge).primary) (sym c.inward) ∙ prim));
-    inward_decaying = λ q t d at dec. let c : WasLike w q t = was_router law can q t at in
-        rec_kept q c.router t d c.alike.end ((links_of law).inward_decaying q c.router d c.here_before
-        (ap (λ u. (unwrap_or u no_edge).decaying) (sym c.inward) ∙ dec));
-    primary_outward = λ q t d at prim. grind (arith, split q t at, (links_of law).primary_outward q t d, prim);
-    decaying_outward = λ q t d at dec. grind (
-      arith,
-      split q t at,
-      (links_of law).decaying_outward q t d,
-      (links_of law).primary_outward k r e (here law can) (on law can),
-      on law can,
-      dec,
-    );
-    inward_primary_inward = λ q t d at prim. let c : WasLike w q t = was_router law can q t at in
-        (links_of law).inward_primary_inward q c.router d c.here_before (ap (λ u. (unwrap_or u no_edge).primary) (sym c.inward) ∙ prim);
-    inward_decaying_inward = λ q t d at dec. let c : WasLike w q t = was_router law can q t at in
-        (links_of law).inward_decaying_inward q c.router d c.here_before (ap (λ u. (unwrap_or u no_edge).decaying) (sym c.inward) ∙ dec);
-  }
-    where
-      primary_at : (q : Key) (t : Router) (d : LinkEnd) → t.outward.primary ≡ Some d →
-          ((q ≡ k) × (x ≡ t)) ⊎ ((same_key q k ≡ false) × (router_at w q ≡ Some t)) → IsRecorded v h q t d
-      primary_at q t d prim (inl m) = rw (m.0, ← m.1) (new_recorded d (same_Some _ _ (sym prim ∙ ap (λ c. c.outward.primary) (sym m.1))))
-      primary_at q t d prim (inr m) = rec_kept q t t d refl ((links_of law).primary q t d m.1 prim)
-
-      decaying_at : (q : Key) (t : Router) (d : LinkEnd) → t.outward.decaying ≡ Some d →
-          ((q ≡ k) × (x ≡ t)) ⊎ ((same_key q k ≡ false) × (router_at w q ≡ Some t)) → IsRecorded v h q t d
-      decaying_at q t d dec (inl m) = rw (m.0, ← m.1) (rec_kept k r x d refl
-          ((links_of law).primary k r d (here law can) (ap (λ c. c.outward.decaying) m.1 ∙ dec)))
-      decaying_at q t d dec (inr m) = rec_kept q t t d refl ((links_of law).decaying q t d m.1 dec)
+  links-accept = let links = links_of law k r (here law can) in
+      each-by w v k x (HasLinks w g) (HasLinks v h) (router_j law can) (λ q t. links-still (λ d. rec_kept q t t d refl)) (links_of law) (record {
+        primary = λ d p. new_recorded d (same_Some _ _ (sym p));
+        decaying = λ d p. rec_kept k r x d refl (links.primary d p);
+        inward_primary = λ d p. rec_kept k r x d refl (links.inward_primary d p);
+        inward_decaying = λ d p. rec_kept k r x d refl (links.inward_decaying d p);
+        primary_outward = λ d p. grind (arith, p);
+        decaying_outward = links.primary_outward;
+        inward_primary_inward = links.inward_primary_inward;
+        inward_decaying_inward = links.inward_decaying_inward;
+      })
 
   known4-accepted : (j : ℕ) → known_from 4 (h.bypass j).stage (h.bypass j).accepted_at ≡ known_from 4 (g.bypass j).stage
       (g.bypass j).accepted_at
@@ -258,53 +238,48 @@ module _ {w : World} {b : Books} {g : Records} {from : ℕ} {k : Key} {r : Route
 
   pub positions-accept : Positions v h
   positions-accept = record {
-    inward_primary = λ q t d at prim. let c : WasLike w q t = was_router law can q t at in
-        bypass_of-agree g h (agree law can) d.link ∙ (positions_of law).inward_primary q c.router d c.here_before
-        (ap (λ u. (unwrap_or u no_edge).primary) (sym c.inward) ∙ prim);
-    inward_decaying = λ q t d at dec. let c : WasLike w q t = was_router law can q t at in
-        bypass_of-agree g h (agree law can) d.link ∙ (positions_of law).inward_decaying q c.router d c.here_before
-        (ap (λ u. (unwrap_or u no_edge).decaying) (sym c.inward) ∙ dec);
-    inward_to = λ q t d j at dec b'. let c : WasLike w q t = was_router law can q t at in
-        ap (λ u. (unwrap_or u no_edge).length_to) c.inward ∙ (positions_of law).inward_to q c.router d j c.here_before
-        (ap (λ u. (unwrap_or u no_edge).decaying) (sym c.inward) ∙ dec) b' ∙ sym (known4-accepted j);
-    inward_from = λ q t d j at dec b'. let c : WasLike w q t = was_router law can q t at in
-        ap (λ u. (unwrap_or u no_edge).length_from) c.inward ∙ (positions_of law).inward_from q c.router d j c.here_before
-        (ap (λ u. (unwrap_or u no_edge).decaying) (sym c.inward) ∙ dec) b' ∙ sym (known4-taken j);
-    primary_old = λ q t d j at prim l b'. primary_old_at q t d j prim l (sym ((agree law can).is_begun j) ∙ b') (split q t at)
-        (at_o law can j);
-    primary_across = λ q t d j at prim l b'. primary_across_at q t d j prim l (sym ((agree law can).is_begun j) ∙ b') (split q t at) ∙ sym
-        (across_side-after law can j);
-    primary_inner = λ q t d p j at prim l by. primary_inner_at q t d p j prim l by (split q t at);
-    decaying = λ q t d at dec. ap is_some (bypass_of-agree g h (agree law can) d.link) ∙ decaying_at q t d dec (split q t at);
-    inner_stage = λ q t d p j at dec l by. inner_stage_at q t d p j dec l by (split q t at);
-    inner_to = λ q t d p j at dec l by. grind (
-      arith,
-      inner_at q t d p j dec l (split q t at),
-      (positions_of law).inner_to q t d p j,
-      dec,
-      l,
-      by,
-      taken_after law can j,
-    );
-    inner_from = λ q t d p j at dec l by. (positions_of law).inner_from q t d p j (inner_at q t d p j dec l (split q t at)) dec l by ∙ sym
-        (known5-accepted j);
-    inner_fresh = λ q t d p j at dec l by. (positions_of law).inner_fresh q t d p j (inner_at q t d p j dec l (split q t at)) dec l by ∙ ap
-        (λ i. Some (Central i)) (sym ((agree law can).fresh j));
-    own_proxy = λ q t d j at dec l s. (agree law can).proxy j ∙
-        (positions_of law).own_proxy q t d j (own_at q t d j dec l s (split q t at)) dec l
-        (s ∙ proxy_side-agree g h (agree law can) j);
-    own_alone = λ q t d j at dec l s. (positions_of law).own_alone q t d j (own_at q t d j dec l s (split q t at)) dec l
-        (s ∙ proxy_side-agree g h (agree law can) j);
-    own_to = λ q t d j at dec l s. (positions_of law).own_to q t d j (own_at q t d j dec l s (split q t at)) dec l
-        (s ∙ proxy_side-agree g h (agree law can) j) ∙ sym (known4-taken j);
-    own_from = λ q t d j at dec l s. (positions_of law).own_from q t d j (own_at q t d j dec l s (split q t at)) dec l
-        (s ∙ proxy_side-agree g h (agree law can) j) ∙ sym (known4-accepted j);
-    across_stage = λ q t d j at dec l s. across_stage_at q t d j dec l s (across_at q t d j dec l s (split q t at));
-    across_to = λ q t d j at dec l s. across_to_at q t d j dec l s (across_at q t d j dec l s (split q t at));
-    across_from = λ q t d j at dec l s. across_from_at q t d j dec l s (across_at q t d j dec l s (split q t at));
-    across_fresh = λ q t d j at dec l s. across_fresh_at q t d j dec l s (across_at q t d j dec l s (split q t at));
-    begun = λ q t at b'. let c : WasLike w q t = was_router law can q t at in (positions_of law).begun q c.router c.here_before
-        (ap (λ u. is_some u && is_none (unwrap_or u no_edge).primary) (sym c.inward) ∙ b');
+    each = λ q t at. record {
+      inward_primary = λ d prim. let c : WasLike w q t = was_router law can q t at in
+          bypass_of-agree g h (agree law can) d.link ∙ ((positions_of law).each q c.router c.here_before).inward_primary d
+          (ap (λ u. (unwrap_or u no_edge).primary) (sym c.inward) ∙ prim);
+      inward_decaying = λ d dec. let c : WasLike w q t = was_router law can q t at in
+          bypass_of-agree g h (agree law can) d.link ∙ ((positions_of law).each q c.router c.here_before).inward_decaying d
+          (ap (λ u. (unwrap_or u no_edge).decaying) (sym c.inward) ∙ dec);
+      inward_to = λ d j dec b'. let c : WasLike w q t = was_router law can q t at in
+          ap (λ u. (unwrap_or u no_edge).length_to) c.inward ∙ ((positions_of law).each q c.router c.here_before).inward_to d j
+          (ap (λ u. (unwrap_or u no_edge).decaying) (sym c.inward) ∙ dec) b' ∙ sym (known4-accepted j);
+      inward_from = λ d j dec b'. let c : WasLike w q t = was_router law can q t at in
+          ap (λ u. (unwrap_or u no_edge).length_from) c.inward ∙ ((positions_of law).each q c.router c.here_before).inward_from d j
+          (ap (λ u. (unwrap_or u no_edge).decaying) (sym c.inward) ∙ dec) b' ∙ sym (known4-taken j);
+      primary_old = λ d j prim l b'. primary_old_at q t d j prim l (sym ((agree law can).is_begun j) ∙ b') (split q t at)
+          (at_o law can j);
+      primary_across = λ d j prim l b'. primary_across_at q t d j prim l (sym ((agree law can).is_begun j) ∙ b') (split q t at) ∙ sym
+          (across_side-after law can j);
+      primary_inner = λ d p j prim l by. primary_inner_at q t d p j prim l by (split q t at);
+      decaying = λ d dec. ap is_some (bypass_of-agree g h (agree law can) d.link) ∙ decaying_at q t d dec (split q t at);
+      inner_stage = λ d p j dec l by. inner_stage_at q t d p j dec l by (split q t at);
+      inner_to = λ d p j dec l by. ((positions_of law).each q t (inner_at q t d p j dec l (split q t at))).inner_to d p j dec l by ∙
+          ap Some (sym (taken_after law can j));
+      inner_from = λ d p j dec l by. ((positions_of law).each q t (inner_at q t d p j dec l (split q t at))).inner_from d p j dec l by ∙ sym
+          (known5-accepted j);
+      inner_fresh = λ d p j dec l by. ((positions_of law).each q t (inner_at q t d p j dec l (split q t at))).inner_fresh d p j dec l by ∙ ap
+          (λ i. Some (Central i)) (sym ((agree law can).fresh j));
+      own_proxy = λ d j dec l s. (agree law can).proxy j ∙
+          ((positions_of law).each q t (own_at q t d j dec l s (split q t at))).own_proxy d j dec l
+          (s ∙ proxy_side-agree g h (agree law can) j);
+      own_alone = λ d j dec l s. ((positions_of law).each q t (own_at q t d j dec l s (split q t at))).own_alone d j dec l
+          (s ∙ proxy_side-agree g h (agree law can) j);
+      own_to = λ d j dec l s. ((positions_of law).each q t (own_at q t d j dec l s (split q t at))).own_to d j dec l
+          (s ∙ proxy_side-agree g h (agree law can) j) ∙ sym (known4-taken j);
+      own_from = λ d j dec l s. ((positions_of law).each q t (own_at q t d j dec l s (split q t at))).own_from d j dec l
+          (s ∙ proxy_side-agree g h (agree law can) j) ∙ sym (known4-accepted j);
+      across_stage = λ d j dec l s. across_stage_at q t d j dec l s (across_at q t d j dec l s (split q t at));
+      across_to = λ d j dec l s. across_to_at q t d j dec l s (across_at q t d j dec l s (split q t at));
+      across_from = λ d j dec l s. across_from_at q t d j dec l s (across_at q t d j dec l s (split q t at));
+      across_fresh = λ d j dec l s. across_fresh_at q t d j dec l s (across_at q t d j dec l s (split q t at));
+      begun = λ b'. let c : WasLike w q t = was_router law can q t at in ((positions_of law).each q c.router c.here_before).begun
+          (ap (λ u. is_some u && is_none (unwrap_or u no_edge).primary) (sym c.inward) ∙ b');
+    };
     begun_proxy = λ q j b'. (agree law can).proxy j ∙ (positions_of law).begun_proxy q j b';
     begun_stage = λ q j b'. (agree law can).is_begun j ∙ (positions_of law).begun_stage q j b';
     proxy_begun = λ j b'. ap g.begun ((agree law can).proxy j) ∙ (positions_of law).proxy_begun j (sym ((agree law can).is_begun j) ∙ b');
@@ -320,22 +295,22 @@ module _ {w : World} {b : Books} {g : Records} {from : ℕ} {k : Key} {r : Route
         b',
       ))
       primary_old_at q t d j prim l b' (inr m) (inl c) = let l' : d.link ≡ Central o = l ∙ ap Central c.1 in
-          absurd (across_alone q t d m.0 ((links_of law).primary q t d m.1 prim) l'
-          ((positions_of law).primary_across q t d o m.1 prim l' (begun law can) ∙ sym (is law can).at_side))
-      primary_old_at q t d j prim l b' (inr m) (inr c) = rw c.0 ((positions_of law).primary_old q t d j m.1 prim l b')
+          absurd (across_alone q t d m.0 (((links_of law) q t m.1).primary d prim) l'
+          (((positions_of law).each q t m.1).primary_across d o prim l' (begun law can) ∙ sym (is law can).at_side))
+      primary_old_at q t d j prim l b' (inr m) (inr c) = rw c.0 (((positions_of law).each q t m.1).primary_old d j prim l b')
 
       primary_across_at : (q : Key) (t : Router) (d : LinkEnd) (j : ℕ) → t.outward.primary ≡ Some d → d.link ≡ Central j →
           is_begun (g.bypass j) ≡ true → OneOrBefore w k x q t → d.side ≡ across_side g j
       primary_across_at q t d j prim l b' (inl m) = absurd (grind
           (arith, central_is fresh j (sym (x_prim t d m.1 prim).0 ∙ l), fresh_live law can, b'))
-      primary_across_at q t d j prim l b' (inr m) = (positions_of law).primary_across q t d j m.1 prim l b'
+      primary_across_at q t d j prim l b' (inr m) = ((positions_of law).each q t m.1).primary_across d j prim l b'
 
       primary_inner_at : (q : Key) (t : Router) (d : LinkEnd) (p : Key) (j : ℕ) → t.outward.primary ≡ Some d → d.link ≡ inner_link p →
           (g.peripheral p).by ≡ Some j → OneOrBefore w k x q t → (h.bypass j).stage ≡ 1
       primary_inner_at q t d p j prim l by (inl m) = absurd (not_both fresh p (sym (x_prim t d m.1 prim).0 ∙ l))
       primary_inner_at q t d p j prim l by (inr m) = grind (
         arith,
-        (positions_of law).primary_inner q t d p j m.1 prim l by,
+        ((positions_of law).each q t m.1).primary_inner d p j prim l by,
         at_o law can j,
         (is law can).stage,
       )
@@ -343,7 +318,7 @@ module _ {w : World} {b : Books} {g : Records} {from : ℕ} {k : Key} {r : Route
       decaying_at : (q : Key) (t : Router) (d : LinkEnd) → t.outward.decaying ≡ Some d → OneOrBefore w k x q t → is_some
           (bypass_of g d.link) ≡ true
       decaying_at q t d dec (inl m) = ap (λ l. is_some (bypass_of g l)) (x_dec t d m.1 dec).0 ∙ grind (arith, record_rules, begun law can)
-      decaying_at q t d dec (inr m) = (positions_of law).decaying q t d m.1 dec
+      decaying_at q t d dec (inr m) = ((positions_of law).each q t m.1).decaying d dec
 
       inner_at : (q : Key) (t : Router) (d : LinkEnd) (p : Key) (j : ℕ) → t.outward.decaying ≡ Some d → d.link ≡ inner_link p →
           OneOrBefore w k x q t →
@@ -354,7 +329,7 @@ module _ {w : World} {b : Books} {g : Records} {from : ℕ} {k : Key} {r : Route
       inner_stage_at : (q : Key) (t : Router) (d : LinkEnd) (p : Key) (j : ℕ) → t.outward.decaying ≡ Some d → d.link ≡ inner_link p →
           (g.peripheral p).by ≡ Some j → OneOrBefore w k x q t → 2 ≤ (h.bypass j).stage
       inner_stage_at q t d p j dec l by (inl m) = absurd (not_both o p (sym (x_dec t d m.1 dec).0 ∙ l))
-      inner_stage_at q t d p j dec l by (inr m) = grind (arith, (positions_of law).inner_stage q t d p j m.1 dec l by, at_o law can j)
+      inner_stage_at q t d p j dec l by (inr m) = grind (arith, ((positions_of law).each q t m.1).inner_stage d p j dec l by, at_o law can j)
 
       own_at : (q : Key) (t : Router) (d : LinkEnd) (j : ℕ) → t.outward.decaying ≡ Some d → d.link ≡ Central j → d.side ≡ proxy_side h j →
           OneOrBefore w k x q t → router_at w q ≡ Some t
@@ -372,7 +347,7 @@ module _ {w : World} {b : Books} {g : Records} {from : ℕ} {k : Key} {r : Route
           go (inl c) = absurd (omega (
             arith,
             (is law can).stage,
-            (positions_of law).across_stage q t d o m.1 dec (l ∙ ap Central c.1)
+            ((positions_of law).each q t m.1).across_stage d o dec (l ∙ ap Central c.1)
                 (s ∙ ap (across_side h) c.1 ∙ across_side-after law can o),
           ))
           go (inr c) = inr (c.0, m.1)
@@ -380,25 +355,25 @@ module _ {w : World} {b : Books} {g : Records} {from : ℕ} {k : Key} {r : Route
       across_stage_at : (q : Key) (t : Router) (d : LinkEnd) (j : ℕ) → t.outward.decaying ≡ Some d → d.link ≡ Central j →
           d.side ≡ across_side h j → ((x ≡ t) × (o ≡ j)) ⊎ ((nat_eq j o ≡ false) × (router_at w q ≡ Some t)) → 3 ≤ (h.bypass j).stage
       across_stage_at q t d j dec l s (inl m) = omega (arith, ap (λ i. (h.bypass i).stage) m.1, stage_after law can)
-      across_stage_at q t d j dec l s (inr m) = rw m.0 ((positions_of law).across_stage q t d j m.1 dec l (s ∙ across_side-after law can j))
+      across_stage_at q t d j dec l s (inr m) = rw m.0 (((positions_of law).each q t m.1).across_stage d j dec l (s ∙ across_side-after law can j))
 
       across_to_at : (q : Key) (t : Router) (d : LinkEnd) (j : ℕ) → t.outward.decaying ≡ Some d → d.link ≡ Central j →
           d.side ≡ across_side h j → ((x ≡ t) × (o ≡ j)) ⊎ ((nat_eq j o ≡ false) × (router_at w q ≡ Some t)) →
           t.outward.length_to ≡ Some (h.bypass j).accepted_at
       across_to_at q t d j dec l s (inl m) = sym (ap (λ c. c.outward.length_to) m.0) ∙ ap Some
           (sym (accepted_after law can) ∙ ap (λ i. (h.bypass i).accepted_at) m.1)
-      across_to_at q t d j dec l s (inr m) = rw m.0 ((positions_of law).across_to q t d j m.1 dec l (s ∙ across_side-after law can j))
+      across_to_at q t d j dec l s (inr m) = rw m.0 (((positions_of law).each q t m.1).across_to d j dec l (s ∙ across_side-after law can j))
 
       across_from_at : (q : Key) (t : Router) (d : LinkEnd) (j : ℕ) → t.outward.decaying ≡ Some d → d.link ≡ Central j →
           d.side ≡ across_side h j → ((x ≡ t) × (o ≡ j)) ⊎ ((nat_eq j o ≡ false) × (router_at w q ≡ Some t)) →
           t.outward.length_from ≡ Some (h.bypass j).taken_at
       across_from_at q t d j dec l s (inl m) = sym (ap (λ c. c.outward.length_from) m.0) ∙ ap Some
           ((is law can).taken ∙ sym (taken_after law can o) ∙ ap (λ i. (h.bypass i).taken_at) m.1)
-      across_from_at q t d j dec l s (inr m) = rw m.0 ((positions_of law).across_from q t d j m.1 dec l (s ∙ across_side-after law can j))
+      across_from_at q t d j dec l s (inr m) = rw m.0 (((positions_of law).each q t m.1).across_from d j dec l (s ∙ across_side-after law can j))
 
       across_fresh_at : (q : Key) (t : Router) (d : LinkEnd) (j : ℕ) → t.outward.decaying ≡ Some d → d.link ≡ Central j →
           d.side ≡ across_side h j → ((x ≡ t) × (o ≡ j)) ⊎ ((nat_eq j o ≡ false) × (router_at w q ≡ Some t)) →
           link_in t.outward.primary ≡ Some (Central (h.bypass j).fresh)
       across_fresh_at q t d j dec l s (inl m) = sym (ap (λ c. link_in c.outward.primary) m.0) ∙ ap (λ i. Some (Central i))
           ((is law can).on_word ∙ sym ((agree law can).fresh o) ∙ ap (λ i. (h.bypass i).fresh) m.1)
-      across_fresh_at q t d j dec l s (inr m) = rw m.0 ((positions_of law).across_fresh q t d j m.1 dec l (s ∙ across_side-after law can j))
+      across_fresh_at q t d j dec l s (inr m) = rw m.0 (((positions_of law).each q t m.1).across_fresh d j dec l (s ∙ across_side-after law can j))

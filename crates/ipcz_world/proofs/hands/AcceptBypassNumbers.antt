@@ -328,7 +328,7 @@ module _ {w : World} {b : Books} {g : Records} {from : ℕ} {k : Key} {r : Route
   z_alone q t p at prim l = go (side_is p.side side)
     where
       rec : side_router g (Central fresh) p.side ≡ Some q
-      rec = rw l at (((links_of law).primary q t p at prim).router)
+      rec = rw l at ((((links_of law) q t at).primary p prim).router)
 
       go : ((same_side p.side side ≡ true) × (p.side ≡ side)) ⊎ ((same_side p.side side ≡ false) × (p.side ≡ opposite side)) →
           (q ≡ zk) × (p.side ≡ opposite side)
@@ -346,7 +346,7 @@ module _ {w : World} {b : Books} {g : Records} {from : ℕ} {k : Key} {r : Route
   inner_is_z : (q : Key) (t : Router) (d : LinkEnd) → router_at w q ≡ Some t → t.outward.decaying ≡ Some d → d.link ≡ inner_of g o →
       opposite d.side ≡ A → q ≡ zk
   inner_is_z q t d at dec l s = let m : d.side ≡ B = sym (opposite-twice d.side) ∙ ap opposite s in
-      let rec : side_router g (inner_of g o) B ≡ Some q = rw (l, m) at (((links_of law).decaying q t d at dec).router) in
+      let rec : side_router g (inner_of g o) B ≡ Some q = rw (l, m) at ((((links_of law) q t at).decaying d dec).router) in
       same_Some q zk (sym rec ∙ z_known law can)
 
   z_primary_end : (q : Key) (t : Router) (p : LinkEnd) → q ≡ zk → router_at w q ≡ Some t → t.outward.primary ≡ Some p →
@@ -427,9 +427,9 @@ module _ {w : World} {b : Books} {g : Records} {from : ℕ} {k : Key} {r : Route
           go (FromProxy l s none e') = absurd (omega (
             arith,
             (is law can).stage,
-            (positions_of law).across_stage q t d o at' dec l (opposite-same law can d.side side s ∙ (is law can).at_side),
+            ((positions_of law).each q t at').across_stage d o dec l (opposite-same law can d.side side s ∙ (is law can).at_side),
           ))
-          go (FromAcross l s none e') = absurd (none-some p (sym ((positions_of law).own_alone q t d o at' dec l
+          go (FromAcross l s none e') = absurd (none-some p (sym (((positions_of law).each q t at').own_alone d o dec l
               (sym (opposite-twice d.side) ∙ ap opposite s ∙ sym (proxy_is law can))) ∙ prim))
           go (Inward l s none e') = let ends : (p.link ≡ Central fresh) × (p.side ≡ opposite side) =
               z_primary_end q t p (inner_is_z q t d at' dec l s) at' prim in
@@ -481,10 +481,10 @@ module _ {w : World} {b : Books} {g : Records} {from : ℕ} {k : Key} {r : Route
           go false n (FromProxy l s none e') = absurd (omega (
             arith,
             (is law can).stage,
-            (positions_of law).across_stage q t d o at' dec l (opposite-same law can d.side side s ∙ (is law can).at_side),
+            ((positions_of law).each q t at').across_stage d o dec l (opposite-same law can d.side side s ∙ (is law can).at_side),
           ))
           go false n (FromAcross l s none e') = absurd (none-some p
-              (sym ((positions_of law).own_alone q t d o at' dec l (sym (opposite-twice d.side) ∙ ap opposite s ∙ sym (proxy_is law can))) ∙
+              (sym (((positions_of law).each q t at').own_alone d o dec l (sym (opposite-twice d.side) ∙ ap opposite s ∙ sym (proxy_is law can))) ∙
               prim))
           go false n (Inward l s none e') = let ends : (p.link ≡ Central fresh) × (p.side ≡ opposite side) =
               z_primary_end q t p (inner_is_z q t d at' dec l s) at' prim in

@@ -1,10 +1,13 @@
 -- The router across accepts a bypass: what is said of shapes and of the bypasses' records is kept.
+use Rattle.ipcz_world.proofs.Vocabulary.{HasShape}
+use Rattle.ipcz_world.proofs.frames.EachKept.{each-one}
+use Rattle.ipcz_router.specs.Bypass.{accept_bypass}
 use Rattle.std.specs.Prelude.{◌≡◌, ◌⊎◌, ◌≤◌, ℕ, Bool, true, false, cond, nat_eq, Some, refl}
 use Rattle.std.proofs.Common.{arith, inl, inr}
 use Rattle.std.proofs.lemmas.Bool.Decides.{nat_tests}
 use Rattle.ipcz_world.proofs.Vocabulary.{Side, Central, LinkEnd, Router, World, Key, node_at, router_at, Records, is_begun, side_router}
 use Rattle.ipcz_world.proofs.Vocabulary.{proxy_side, across_side, BypassRecords, Shape}
-use Rattle.ipcz_world.proofs.frames.Frames.{frames, same_key_tells}
+use Rattle.ipcz_world.proofs.frames.Frames.{frames}
 use Rattle.ipcz_world.proofs.frames.RecordRules.{record_rules}
 use Rattle.ipcz_world.specs.Remembering.{accepted_records}
 use Rattle.ipcz_world.specs.Acts.{accept_act}
@@ -15,27 +18,22 @@ use Rattle.ipcz_world.proofs.facts.LinkTests.{side_is}
 pub shape-accept : (w : World) (from : ℕ) (k : Key) (r : Router) (e : LinkEnd) (old : ℕ) (side : Side) (fresh length : ℕ) → Shape w →
     router_at w k ≡ Some r → r.outward.primary ≡ Some e →
     Shape (accept_act w from k r e old side fresh length)
-shape-accept w from k r e old side fresh length law here on = record {
-  role = λ q x at. grind (arith, frames, nat_tests, same_key_tells, law.role q x, law.role k r, here, on);
-  marked_central = λ q x at m. grind (arith, frames, nat_tests, same_key_tells, law.marked_central q x, here, on);
-  marked_still = λ q x at m. grind (arith, frames, nat_tests, same_key_tells, law.marked_still q x, here, on);
-  holds_marked = λ q x at m. grind (arith, frames, nat_tests, same_key_tells, law.holds_marked q x, here, on);
-  holds_fit = λ q x at m. grind (arith, frames, nat_tests, same_key_tells, law.holds_fit q x, here, on);
-  dropped_sink = λ q x at m. grind (arith, frames, nat_tests, same_key_tells, law.dropped_sink q x, law.dropped_sink k r, here, on);
-  sent_proxy = λ q x at m. grind (arith, frames, nat_tests, same_key_tells, law.sent_proxy q x, law.sent_proxy k r, here, on);
-  holds_spare = λ q x at m. grind (arith, frames, nat_tests, same_key_tells, law.holds_spare q x, here, on);
-  spare_proxy = λ q x j at m. grind (arith, frames, nat_tests, same_key_tells, law.spare_proxy q x j, law.spare_proxy k r j, here, on);
-  spare_primary = λ q x j at m. grind (
-    arith,
-    frames,
-    nat_tests,
-    same_key_tells,
-    law.spare_primary q x j,
-    law.spare_primary k r j,
-    here,
-    on,
-  );
-}
+shape-accept w from k r e old side fresh length law here on =
+    each-one w (accept_act w from k r e old side fresh length) k (accept_bypass r from side fresh length) HasShape
+    (λ q. grind (arith, frames))
+    law
+    (record {
+      role = grind (arith, (law k r here).role, on);
+      marked_central = λ m. absurd (grind (arith, m));
+      marked_still = λ m. absurd (grind (arith, m));
+      holds_marked = λ m. absurd (grind (arith, m));
+      holds_fit = λ m. absurd (grind (arith, m));
+      holds_spare = λ m p. absurd (grind (arith, m));
+      dropped_sink = (law k r here).dropped_sink;
+      sent_proxy = (law k r here).sent_proxy;
+      spare_proxy = (law k r here).spare_proxy;
+      spare_primary = λ i e. refl;
+    })
 
 -- what the message in hand is, by the records
 pub record IsAccept (g : Records) (k : Key) (o : ℕ) (s : Side) (i : ℕ) : Type 0 where

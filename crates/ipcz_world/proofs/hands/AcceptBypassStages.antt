@@ -114,7 +114,7 @@ module _ {w : World} {b : Books} {g : Records} {from : ℕ} {k : Key} {r : Route
 
   -- no end of the pair has retired, since its bypass is under way
   unretired : (s : Side) → is_retired b (ends.end_at r.end.pair s) ≡ false
-  unretired s = let rec : IsRecorded w g k r e = (links_of law).primary k r e (here law can) (on law can) in
+  unretired s = let rec : IsRecorded w g k r e = ((links_of law) k r (here law can)).primary e (on law can) in
       ap (λ n. is_retired b (ends.end_at n s)) (ap (λ t. t.pair) rec.end ∙ ap (λ l. (side_end g l e.side).pair) (on_old law can) ∙ ap (λ t. t.pair) (old_end g o e.side)) ∙
       (retired_ends_of law).no_bypass o s (omega (arith, (is law can).stage)) (omega (arith, (is law can).stage))
 
@@ -134,7 +134,7 @@ module _ {w : World} {b : Books} {g : Records} {from : ℕ} {k : Key} {r : Route
   }
     where
       across_end : r.end ≡ ends.end_at (g.central o).pair (across_side g o)
-      across_end = let rec : IsRecorded w g k r e = (links_of law).primary k r e (here law can) (on law can) in
+      across_end = let rec : IsRecorded w g k r e = ((links_of law) k r (here law can)).primary e (on law can) in
           rec.end ∙ ap (λ l. side_end g l e.side) (on_old law can) ∙ old_end g o e.side ∙
           ap (ends.end_at (g.central o).pair) (at_side law can ∙ (is law can).at_side)
 
@@ -318,7 +318,7 @@ module _ {w : World} {b : Books} {g : Records} {from : ℕ} {k : Key} {r : Route
   not_proxy j b' m = grind (
     arith,
     (stages_of law).proxy_begun j r b' (ap (router_at w) m ∙ here law can),
-    (shape_of law).role k r (here law can),
+    ((shape_of law) k r (here law can)).role,
     on law can,
   )
 

@@ -92,7 +92,7 @@ module _ {w : World} {b : Books} {g : Records} {from : ℕ} {k : Key} {r : Route
   carried = record { place = place_before from k.node; was = was }
 
   pub e_other : e.other ≡ (g.bypass o).proxy.node
-  e_other = ((links_of law).primary k r e (here law can) (on law can)).other ∙ ap (λ l. side_node g l (opposite e.side)) (on_old law can) ∙
+  e_other = (((links_of law) k r (here law can)).primary e (on law can)).other ∙ ap (λ l. side_node g l (opposite e.side)) (on_old law can) ∙
       ap
       (λ t. side_node g (Central o) (opposite t)) (at_side law can) ∙
       sym (side_router-node g (Central o) (opposite side) (g.bypass o).proxy (y_known law can))

@@ -1,65 +1,18 @@
 -- What the message in hand of a bypass tells of its record, and which router is asked.
-use Rattle.std.specs.Prelude.{◌≡◌, ◌⊎◌, ◌<◌, ◌≤◌, ℕ, Bool, true, false, cond, ◌&&◌, nat_eq, Option, Some, refl}
-use Rattle.std.proofs.Common.{arith, sym, inl, inr}
+use Rattle.std.specs.Prelude.{◌≡◌, ◌<◌, ◌≤◌, ℕ, Bool, true, false, cond, ◌&&◌, nat_eq, Some, refl}
+use Rattle.std.proofs.Common.{arith, sym}
 use Rattle.std.proofs.lemmas.Bool.Decides.{nat_tests}
-use Rattle.ipcz_world.proofs.Vocabulary.{Side, B, LinkId, Central, LinkEnd, Message, same_side, has_link, same_link, Router, router_has}
-use Rattle.ipcz_world.proofs.Vocabulary.{inward_edge, World, Key, mail_at, way, router_at, Records, is_recorded, side_node, side_router}
-use Rattle.ipcz_world.proofs.Vocabulary.{bypass_of, proxy_side, across_side, Links, IsRecorded, Told, of_bypass, control_weight, inner_of}
+use Rattle.ipcz_world.proofs.Vocabulary.{Side, B, LinkId, Central, Message, same_side, same_link}
+use Rattle.ipcz_world.proofs.Vocabulary.{World, Key, mail_at, way, Records, side_node}
+use Rattle.ipcz_world.proofs.Vocabulary.{bypass_of, proxy_side, across_side, Told, of_bypass, control_weight, inner_of}
 use Rattle.ipcz_base.specs.declared.message.Message.TheVariants as messages
-use Rattle.ipcz_router.specs.Router.{outward_has, inward_has}
 use Rattle.ipcz_world.specs.declared.mail.Mail.TheVariants as mails
 use Rattle.ipcz_world.specs.Bypasses.{peer_of, stop_of, will_stop_of}
 use Rattle.ipcz_world.proofs.hands.AcceptBypassAround.{in_hand-under_way}
-use Rattle.ipcz_world.proofs.facts.Lengths.{same_side-itself, same_side-tells, same_link-itself, same_link-tells, has_link-tells, HasEnd}
+use Rattle.ipcz_world.proofs.facts.Lengths.{same_side-itself, same_side-tells, same_link-itself, same_link-tells}
 use Rattle.ipcz_world.proofs.views.Telling.{is_same, never, one_holds}
-use Rattle.std.proofs.lemmas.Bool.{and_parts, or_cases}
+use Rattle.std.proofs.lemmas.Bool.{and_parts}
 use Rattle.ipcz_world.proofs.facts.Tests.{nat_eq-itself}
-
--- a router has a link: the records tell it so
-recorded_at : (w : World) (g : Records) (k : Key) (r : Router) (t : Option LinkEnd) (link : LinkId) (s : Side) → has_link t link s ≡ true →
-    ((d : LinkEnd) → t ≡ Some d → IsRecorded w g k r d) → side_router g link s ≡ Some k
-recorded_at w g k r t link s h rec = let at : HasEnd t link s = has_link-tells t link s h in
-    rw (at.on_link, at.at_side) at ((rec at.end at.there).router)
-
-pub asked_router : (w : World) (g : Records) (k : Key) (r : Router) (link : LinkId) (s : Side) → Links w g → router_at w k ≡ Some r →
-    router_has r link s ≡ true → side_router g link s ≡ Some k
-asked_router w g k r link s law here has = go (or_cases _ _ has)
-  where
-    outer : (has_link r.outward.primary link s ≡ true) ⊎ (has_link r.outward.decaying link s ≡ true) → side_router g link s ≡ Some k
-    outer (inl t) = recorded_at w g k r r.outward.primary link s t (λ d. law.primary k r d here)
-    outer (inr t) = recorded_at w g k r r.outward.decaying link s t (λ d. law.decaying k r d here)
-
-    inner : (has_link (inward_edge r).primary link s ≡ true) ⊎ (has_link (inward_edge r).decaying link s ≡ true) →
-        side_router g link s ≡ Some k
-    inner (inl t) = recorded_at w g k r (inward_edge r).primary link s t (λ d. law.inward_primary k r d here)
-    inner (inr t) = recorded_at w g k r (inward_edge r).decaying link s t (λ d. law.inward_decaying k r d here)
-
-    go : (outward_has r link s ≡ true) ⊎ (inward_has r link s ≡ true) → side_router g link s ≡ Some k
-    go (inl t) = outer (or_cases _ _ t)
-    go (inr t) = inner (or_cases _ _ t)
-
--- and the link has a record
-recorded_by : (w : World) (g : Records) (k : Key) (r : Router) (t : Option LinkEnd) (link : LinkId) (s : Side) → has_link t link s ≡ true →
-    ((d : LinkEnd) → t ≡ Some d → IsRecorded w g k r d) → is_recorded w g link ≡ true
-recorded_by w g k r t link s h rec = let at : HasEnd t link s = has_link-tells t link s h in
-    rw (at.on_link) at ((rec at.end at.there).recorded)
-
-pub asked_recorded : (w : World) (g : Records) (k : Key) (r : Router) (link : LinkId) (s : Side) → Links w g → router_at w k ≡ Some r →
-    router_has r link s ≡ true → is_recorded w g link ≡ true
-asked_recorded w g k r link s law here has = go (or_cases _ _ has)
-  where
-    outer : (has_link r.outward.primary link s ≡ true) ⊎ (has_link r.outward.decaying link s ≡ true) → is_recorded w g link ≡ true
-    outer (inl t) = recorded_by w g k r r.outward.primary link s t (λ d. law.primary k r d here)
-    outer (inr t) = recorded_by w g k r r.outward.decaying link s t (λ d. law.decaying k r d here)
-
-    inner : (has_link (inward_edge r).primary link s ≡ true) ⊎ (has_link (inward_edge r).decaying link s ≡ true) →
-        is_recorded w g link ≡ true
-    inner (inl t) = recorded_by w g k r (inward_edge r).primary link s t (λ d. law.inward_primary k r d here)
-    inner (inr t) = recorded_by w g k r (inward_edge r).decaying link s t (λ d. law.inward_decaying k r d here)
-
-    go : (outward_has r link s ≡ true) ⊎ (inward_has r link s ≡ true) → is_recorded w g link ≡ true
-    go (inl t) = outer (or_cases _ _ t)
-    go (inr t) = inner (or_cases _ _ t)
 
 -- of four stages it is the third, or the fourth
 third : (s a b c d : ℕ) → 1 ≤ cond (nat_eq s 1) a (cond (nat_eq s 2) b (cond (nat_eq s 3) c (cond (nat_eq s 4) d 0))) → a ≡ 0 → b ≡ 0 →

@@ -28,9 +28,10 @@ use Rattle.ipcz_world.proofs.flows.Handing.{handed_on, changed-handed_on}
 use Rattle.ipcz_world.proofs.views.Viewing.{IsSameView, view-kept-at}
 use Rattle.ipcz_world.proofs.facts.Lengths.{side_is, same_side-itself, same_side-opposite, has_link-tells, has_link-some, HasEnd, passed}
 use Rattle.ipcz_world.proofs.facts.Lengths.{is_attached-central, view-standing, view-awaited}
-use Rattle.ipcz_world.proofs.hands.BypassAsked.{asked_router, IsPeered, peered}
+use Rattle.ipcz_world.proofs.hands.BypassAsked.{IsPeered, peered}
 use Rattle.ipcz_world.proofs.frames.Sealing.{Sealed, Closed, opened, counts_of, links_of, positions_of, stages_of, told_of, bypasses_of}
 use Rattle.ipcz_world.proofs.frames.Frames.{OneOrBefore, one_or_before}
+use Rattle.ipcz_world.proofs.views.Having.{has_at}
 
 -- weighs a BypassPeer that names a central link
 unfoldable pub central_peer : Message → ℕ
@@ -70,7 +71,7 @@ module _ {w : World} {b : Books} {g : Records} {from : ℕ} {k : Key} {r : Route
   begun = grind (arith, is.stage, nat_tests)
 
   pub known : side_router g (inner_of g o) B ≡ Some k
-  known = rw (is.on_link, is.at_side) at (asked_router w g k r link side (links_of law) here (opened can).has)
+  known = rw (is.on_link, is.at_side) at ((has_at w g k r link side (links_of law) here (opened can).has).router)
 
   pub z_inner : has_primary (inner_of g o) B r ≡ true
   z_inner = sym (passed w k r (has_primary (inner_of g o) B) here) ∙ (stages_of law).inner_primary o k is.stage known
@@ -89,7 +90,7 @@ module _ {w : World} {b : Books} {g : Records} {from : ℕ} {k : Key} {r : Route
 
   r_end : r.end ≡ (g.peripheral (g.bypass o).inner).end
   unfolding side_end
-  r_end = ((links_of law).primary k r e here on).end ∙ ap (λ l. side_end g l e.side) z_end.on_link
+  r_end = (((links_of law) k r here).primary e on).end ∙ ap (λ l. side_end g l e.side) z_end.on_link
 
   pub r_side : r.end.side ≡ proxy_side g o
   r_side = ap (λ d. d.side) r_end
@@ -112,20 +113,20 @@ module _ {w : World} {b : Books} {g : Records} {from : ℕ} {k : Key} {r : Route
         where
           sides : ((same_side d.side (proxy_side g i) ≡ true) × (d.side ≡ proxy_side g i)) ⊎
               ((same_side d.side (proxy_side g i) ≡ false) × (d.side ≡ opposite (proxy_side g i))) → ⊥
-          sides (inl t) = none-some e (sym ((positions_of law).own_alone k r d i here m n t.1) ∙ on)
-          sides (inr t) = fresh_no r.outward.primary (g.bypass i).fresh on ((positions_of law).across_fresh k r d i here m n t.1)
+          sides (inl t) = none-some e (sym (((positions_of law).each k r here).own_alone d i m n t.1) ∙ on)
+          sides (inr t) = fresh_no r.outward.primary (g.bypass i).fresh on (((positions_of law).each k r here).across_fresh d i m n t.1)
       at d (Peripheral n s) m q = by_at (g.peripheral (record { node = n; serial = s })).by refl
         where
           by_at : (t : Option ℕ) → (g.peripheral (record { node = n; serial = s })).by ≡ t → ⊥
           by_at None t = absurd (grind (
             arith,
-            (positions_of law).decaying k r d here m,
+            ((positions_of law).each k r here).decaying d m,
             ap (bypass_of g) q,
             bypass_of-inner g (record { node = n; serial = s }),
             t,
           ))
           by_at (Some j) t = fresh_no r.outward.primary (g.bypass j).fresh on
-              ((positions_of law).inner_fresh k r d (record { node = n; serial = s }) j here m q t)
+              (((positions_of law).each k r here).inner_fresh d (record { node = n; serial = s }) j m q t)
 
       go : (t : Option LinkEnd) → r.outward.decaying ≡ t → r.outward.decaying ≡ None
       go None m = m

@@ -409,7 +409,7 @@ module _ {w : World} {b : Books} {g : Records} {from : ℕ} {k : Key} {r : Route
       not_inward : (q : Key) (t : Router) (d : LinkEnd) → router_at w q ≡ Some t → t.outward.decaying ≡ Some d → d.link ≡ inner_of g o →
           opposite d.side ≡ B → ⊥
       not_inward q t d m dec l s =
-          a_not_b (sym (outward_b law can d (g.bypass o).inner l ((links_of law).decaying_outward q t d m dec)) ∙ sym
+          a_not_b (sym (outward_b law can d (g.bypass o).inner l (((links_of law) q t m).decaying_outward d dec)) ∙ sym
           (opposite-twice d.side) ∙ ap opposite s)
         where
           a_not_b : B ≡ A → ⊥
@@ -430,7 +430,7 @@ module _ {w : World} {b : Books} {g : Records} {from : ℕ} {k : Key} {r : Route
       other_at q t t' p d len prim dec f there (inl m) gr = absurd (not_x t d len m.1 dec f)
       other_at q t t' p d len prim dec f there (inr m) (Same s) =
           let same : IsSameView p.link (opposite p.side) (view v h p.link (opposite p.side)) (view w g p.link (opposite p.side)) =
-          view_same law can p.link (opposite p.side) (apart law can p.link (((links_of law).primary q t p m.1 prim).recorded)) in
+          view_same law can p.link (opposite p.side) (apart law can p.link ((((links_of law) q t m.1).primary p prim).recorded)) in
           let found : HasOutQueue (standing_router (view w g p.link (opposite p.side))) t'.out_queue =
           out_queue_of _ _ (sym same.out_queue ∙ ap (option_map (λ u. u.out_queue)) there) in
           omega (arith, (fresh_numbers_of law).other q t found.router p d len m.1 prim dec (sym s ∙ f) found.there, cur found.queue)

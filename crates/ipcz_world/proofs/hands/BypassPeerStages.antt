@@ -428,7 +428,7 @@ module _ {w : World} {b : Books} {g : Records} {from : ℕ} {k : Key} {r : Route
   not_proxy j n m = grind (
     arith,
     (stages_of law).proxy_begun j r n (ap (router_at w) m ∙ here law can),
-    (shape_of law).role k r (here law can),
+    ((shape_of law) k r (here law can)).role,
     on law can,
   )
 

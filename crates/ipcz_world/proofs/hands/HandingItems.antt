@@ -23,7 +23,6 @@ use Rattle.ipcz_world.proofs.frames.Changing.{IsNodeChanged, taken_by}
 use Rattle.ipcz_world.proofs.flows.Flowing.{IsTaken, way_tells}
 use Rattle.ipcz_world.proofs.frames.Opened.{OpenInv, HasEnds, opened, closed}
 use Rattle.ipcz_world.proofs.sends.Sending.{moves-item}
-use Rattle.ipcz_world.proofs.lawful.WordLaws.{has_at}
 use Rattle.ipcz_world.proofs.hands.Taking.{take_act, IsTake, inv-taken, closed-taken}
 use Rattle.ipcz_world.proofs.hands.MaterializingAround.{made_key_records, IsMaterial}
 use Rattle.ipcz_world.proofs.hands.MaterializingNodes.{inv-make}
@@ -33,6 +32,7 @@ use Rattle.ipcz_world.proofs.hands.ItemAsked.{IsAsked, asked, under, its_ends, f
 use Rattle.ipcz_world.proofs.facts.Lengths.{has_attached}
 use Rattle.ipcz_world.proofs.facts.Tests.{nat_eq-itself}
 use Rattle.ipcz_world.proofs.acts.Updating.{put-twice}
+use Rattle.ipcz_world.proofs.views.Having.{has_at}
 
 -- the node after the hand: its new terminals, and the router with the item
 abbrev pub taken_node : World → ℕ → ℕ → ℕ → Router → List Descriptor → Node

@@ -26,12 +26,12 @@ use Rattle.ipcz_world.specs.Laws.{is_flush}
 use Rattle.ipcz_world.proofs.facts.Finding.{found_tells}
 use Rattle.ipcz_world.proofs.views.Known.{fresh_central}
 use Rattle.ipcz_world.proofs.views.Telling.{IsPeer, peer_told, IsAccept, accept_told, IsStop, stop_told, IsWillStop, will_stop_told}
-use Rattle.ipcz_world.proofs.lawful.LinkLaws.{Passes, passes-at}
-use Rattle.ipcz_world.proofs.lawful.WordLaws.{HasAt, has_at}
-use Rattle.ipcz_world.proofs.lawful.StrayLaws.{stray_law}
+use Rattle.ipcz_world.proofs.views.StrayLaws.{stray_law}
 use Rattle.ipcz_world.proofs.acts.Updating.{push-set_node, freed, handed-is}
 use Rattle.ipcz_node.specs.Hands.{flushed}
 use Rattle.ipcz_world.specs.Acts.{tells_stop}
+use Rattle.ipcz_world.proofs.views.Passing.{Passes, passes-at}
+use Rattle.ipcz_world.proofs.views.Having.{HasAt, has_at}
 
 -- a message is in the hand of a node of the world
 pub record IsInHand (w : World) (n from : ℕ) (m : Message) : Type 0 where
@@ -186,7 +186,7 @@ module _ (w : World) (b : Books) (g : Records) (law : Inv w b g) where
           sym (passes-at w _ k r (has_primary (Central o) (across_side g o)) known here) ∙ law.stages.across_old o begun early in
           let primary : has_primary (Central o) side r ≡ true = subst (λ s. has_primary (Central o) s r ≡ true) (sym at.at_side) on in
           let marked : r.marked ≡ true = sym (passes-at w _ k r (λ x. x.marked) known here) ∙ law.stages.across_marked o begun early in
-          let still : edge_decays r.outward ≡ false = grind (arith, law.shape.marked_still k r here marked) in
+          let still : edge_decays r.outward ≡ false = grind (arith, (law.shape k r here).marked_still marked) in
           let new : is_named (node_at w n) (Central fresh) side ≡ false =
           unnamed n (Central fresh) side (λ q y there named. awaited at (has_at w g q y (Central fresh) side law.links there named)) in
           (rw (e, primary, still, new) (accept_source w b g n from o side fresh length law at), primary)
@@ -269,14 +269,14 @@ module _ (w : World) (b : Books) (g : Records) (law : Inv w b g) where
           sym (passes-at w _ k r (has_inward_decaying (inner_of g o) A) proxy here) ∙ law.stages.proxy_inner o begun early in
           let i : HasEnd (inward_edge r).decaying (inner_of g o) A = has_link-tells (inward_edge r).decaying (inner_of g o) A inner in
           let to : is_none r.outward.length_to ≡ true =
-          unknown _ 4 _ _ (law.positions.own_to k r d.end o here d.there d.on_link d.at_side) late in
+          unknown _ 4 _ _ ((law.positions.each k r here).own_to d.end o d.there d.on_link d.at_side) late in
           let back : is_none r.outward.length_from ≡ true =
-          unknown _ 4 _ _ (law.positions.own_from k r d.end o here d.there d.on_link d.at_side) late in
+          unknown _ 4 _ _ ((law.positions.each k r here).own_from d.end o d.there d.on_link d.at_side) late in
           let in_to : is_none (inward_edge r).length_to ≡ true =
-          unknown _ 4 _ _ (law.positions.inward_to k r i.end o here i.there owns) late
+          unknown _ 4 _ _ ((law.positions.each k r here).inward_to i.end o i.there owns) late
           in
           let in_back : is_none (inward_edge r).length_from ≡ true =
-          unknown _ 4 _ _ (law.positions.inward_from k r i.end o here i.there owns) late in
+          unknown _ 4 _ _ ((law.positions.each k r here).inward_from i.end o i.there owns) late in
           let outer : decays_unknown r.outward ≡ true = grind (arith, d.there, to, back) in
           let inward : decays_unknown (inward_edge r) ≡ true = grind (arith, i.there, in_to, in_back) in
           (rw (e, decaying, outer, inward) refl, i.end, i.there)
@@ -330,7 +330,7 @@ module _ (w : World) (b : Books) (g : Records) (law : Inv w b g) where
           (subst (λ s. has_decaying (inner_of g o) s r ≡ true) (sym at.at_side) off) in
           let d : HasEnd r.outward.decaying (inner_of g o) B = has_link-tells r.outward.decaying (inner_of g o) B off in
           let back : is_none r.outward.length_from ≡ true =
-          unknown _ 5 _ _ (law.positions.inner_from k r d.end (g.bypass o).inner o here d.there d.on_link
+          unknown _ 5 _ _ ((law.positions.each k r here).inner_from d.end (g.bypass o).inner o d.there d.on_link
           (law.bypasses.inner_by o (grind (arith, at.stage, nat_tests)))) (grind (arith, at.stage, nat_tests)) in
           rw (e, decaying, back) refl
 

@@ -28,7 +28,6 @@ use Rattle.ipcz_world.proofs.frames.Opened.{opened}
 use Rattle.ipcz_world.proofs.weights.Weighing.{in_places-has, in_message-item, of_number}
 use Rattle.ipcz_world.proofs.views.Known.{IsStanding, standing_known, node_of_router, not_there_yet, edge_has-tells}
 use Rattle.ipcz_world.proofs.facts.Finding.{found_tells, found_there}
-use Rattle.ipcz_world.proofs.lawful.WordLaws.{has_at}
 use Rattle.ipcz_world.proofs.weights.Booking.{from_number-range, length-drop}
 use Rattle.ipcz_world.proofs.frames.FillingNumbers.{fed-out, fed-in}
 use Rattle.ipcz_world.proofs.frames.Draining.{taking_queue-standing}
@@ -37,6 +36,7 @@ use Rattle.ipcz_world.proofs.sends.Moved.{AreOnce, ends_once, later_once, first_
 use Rattle.std.proofs.lemmas.Bool.{and_from, or_right}
 use Rattle.ipcz_world.proofs.facts.Lengths.{has_attached, view-standing, same_link-tells}
 use Rattle.ipcz_world.proofs.facts.LinkTests.{same_end-itself}
+use Rattle.ipcz_world.proofs.views.Having.{has_at}
 
 -- the router that an item in hand is for
 pub record IsAsked (w : World) (g : Records) (n : ℕ) (l : LinkId) (s : Side) : Type 0 where
@@ -111,8 +111,8 @@ outward_is w g k r (Peripheral n x) A law here on = go (outward_has r (Periphera
     go : (c : Bool) → outward_has r (Peripheral n x) A ≡ c → outward_has r (Peripheral n x) A ≡ false
     go false e = e
     go true e = elim (edge_has-tells r.outward (Peripheral n x) A e) [
-      | inl d ↦ absurd (wrong d.end (law.primary_outward k r d.end here d.is) d.link_is d.side_is)
-      | inr d ↦ absurd (wrong d.end (law.decaying_outward k r d.end here d.is) d.link_is d.side_is)
+      | inl d ↦ absurd (wrong d.end ((law k r here).primary_outward d.end d.is) d.link_is d.side_is)
+      | inr d ↦ absurd (wrong d.end ((law k r here).decaying_outward d.end d.is) d.link_is d.side_is)
     ]
 
 -- whose link is among descriptors, its end is among their ends

@@ -1,12 +1,17 @@
 -- A descriptor becomes a terminal: each link is as its record says, and primary or decaying as its bypass says.
+use Rattle.ipcz_world.proofs.Vocabulary.{HasLinks}
+use Rattle.ipcz_world.proofs.frames.EachKept.{each-by}
+use Rattle.ipcz_world.proofs.frames.LinksKept.{links-still}
+use Rattle.ipcz_world.proofs.Vocabulary.{HasShape}
+use Rattle.ipcz_world.proofs.Vocabulary.{IsOrdered}
+use Rattle.ipcz_world.proofs.frames.EachKept.{each-one}
 use Rattle.std.specs.Prelude.{◌≡◌, ◌<◌, ℕ, Bool, true, false, ◌&&◌, nat_eq, nat_le, Some, is_some, refl}
 use Rattle.std.proofs.Common.{arith, ap, subst, ◌∙◌, sym, inl, inr}
 use Rattle.std.proofs.lemmas.Bool.Decides.{nat_tests}
-use Rattle.ipcz_world.proofs.Vocabulary.{Side, A, B, LinkId, Central, LinkEnd, Descriptor, opposite, same_side, same_link, item_at}
+use Rattle.ipcz_world.proofs.Vocabulary.{Side, A, B, LinkId, Central, LinkEnd, Descriptor, opposite, same_side, same_link}
 use Rattle.ipcz_world.proofs.Vocabulary.{Router, inward_edge, from_descriptor, World, Key, node_at, router_at, Books, Records}
 use Rattle.ipcz_world.proofs.Vocabulary.{is_recorded, is_begun, inner_link, side_node, side_router, side_end, proxy_side, across_side}
 use Rattle.ipcz_world.proofs.Vocabulary.{Counts, Ordered, Shape, Links, IsRecorded, Positions, is_outward}
-use Rattle.ipcz_world.specs.Structure.{has_role}
 use Rattle.ipcz_world.proofs.frames.Touching.{Hands}
 use Rattle.ipcz_world.proofs.frames.Opened.{OpenInv}
 use Rattle.ipcz_world.proofs.sends.ExtendingAround.{inner_end_is, inner_one}
@@ -68,53 +73,22 @@ module _ {w v : World} {b : Books} {g : Records} {a : ℕ} {q p : Key} {d : Desc
           subst (λ k. k.serial < (node_at v k.node).next_router) k own
 
   pub ordered-made : Ordered v
-  ordered-made = record {
-    out = λ x z n i at e. elim (was_there law is t x z at) [
-      | inl o ↦ law.ordered.out x z n i o.0 e
-      | inr o ↦ absurd
-          (empty_at d.next_out n i (ap (λ z. item_at z.out_queue n) (sym o.0) ∙ e))
-    ];
-    inn = λ x z n i at e. elim (was_there law is t x z at) [
-      | inl o ↦ law.ordered.inn x z n i o.0 e
-      | inr o ↦ absurd
-          (empty_at d.next_in n i (ap (λ z. item_at z.in_queue n) (sym o.0) ∙ e))
-    ];
-  }
+  ordered-made = each-one w v q y IsOrdered t.router law.ordered
+      (record { out = λ n i e. absurd (empty_at d.next_out n i e); inn = λ n i e. absurd (empty_at d.next_in n i e) })
 
   pub shape-made : Shape v
-  shape-made = record {
-    role = λ x z at. elim (was_there law is t x z at) [ inl o ↦ law.shape.role x z o.0 | inr o ↦ ap has_role o.0 ];
-    marked_central = λ x z at m. elim (was_there law is t x z at) [
-      | inl o ↦ law.shape.marked_central x z o.0 m
-      | inr o ↦ absurd
-          (grind (arith, o.0, m))
-    ];
-    marked_still = λ x z at m. elim (was_there law is t x z at) [
-      | inl o ↦ law.shape.marked_still x z o.0 m
-      | inr o ↦ absurd (grind (arith, o.0, m))
-    ];
-    holds_marked = λ x z at m. elim (was_there law is t x z at) [
-      | inl o ↦ law.shape.holds_marked x z o.0 m
-      | inr o ↦ absurd (grind (arith, o.0, m))
-    ];
-    holds_fit = λ x z at m.
-        elim (was_there law is t x z at) [ inl o ↦ law.shape.holds_fit x z o.0 m | inr o ↦ absurd (grind (arith, o.0, m)) ];
-    dropped_sink = λ x z at m.
-        elim (was_there law is t x z at) [ inl o ↦ law.shape.dropped_sink x z o.0 m | inr o ↦ absurd (grind (arith, o.0, m)) ];
-    sent_proxy = λ x z at m.
-        elim (was_there law is t x z at) [ inl o ↦ law.shape.sent_proxy x z o.0 m | inr o ↦ absurd (grind (arith, o.0, m)) ];
-    holds_spare = λ x z at m.
-        elim (was_there law is t x z at) [ inl o ↦ law.shape.holds_spare x z o.0 m | inr o ↦ absurd (grind (arith, o.0, m)) ];
-    spare_proxy = λ x z j at m. elim (was_there law is t x z at) [
-      | inl o ↦ law.shape.spare_proxy x z j o.0 m
-      | inr o ↦ absurd (grind (arith, o.0, m))
-    ];
-    spare_primary = λ x z j at m. elim (was_there law is t x z at) [
-      | inl o ↦ law.shape.spare_primary x z j o.0 m
-      | inr o ↦ absurd
-          (grind (arith, o.0, m))
-    ];
-  }
+  shape-made = each-one w v q y HasShape t.router law.shape (record {
+    role = refl;
+    marked_central = λ m. absurd (grind (arith, m));
+    marked_still = λ m. absurd (grind (arith, m));
+    holds_marked = λ m. absurd (grind (arith, m));
+    holds_fit = λ m. absurd (grind (arith, m));
+    holds_spare = λ m p. absurd (grind (arith, m));
+    dropped_sink = λ m. absurd (grind (arith, m));
+    sent_proxy = λ m. absurd (grind (arith, m));
+    spare_proxy = λ i e. absurd (grind (arith, e));
+    spare_primary = λ i e. absurd (grind (arith, e));
+  })
 
   still_recorded : (x : Key) (z : Router) (e : LinkEnd) → IsRecorded w g x z e → IsRecorded v h x z e
   still_recorded x z e rec = record {
@@ -136,43 +110,16 @@ module _ {w v : World} {b : Books} {g : Records} {a : ℕ} {q p : Key} {d : Desc
   the_end z e n f = same_some (ap (λ z. z.outward.primary) (sym n) ∙ f)
 
   pub links-made : Links v h
-  links-made = record {
-    primary = λ x z e at f. elim (was_there law is t x z at) [
-      | inl o ↦ still_recorded x z e (law.links.primary x z e o.0 f)
-      | inr o ↦ subst
-          (λ k. IsRecorded v h k z e) (sym o.1) (subst (λ z. IsRecorded v h q z e) (sym o.0)
-          (subst (λ e. IsRecorded v h q y e) (the_end z e o.0 f) new_recorded))
-    ];
-    decaying = λ x z e at f. elim (was_there law is t x z at) [
-      | inl o ↦ still_recorded x z e (law.links.decaying x z e o.0 f)
-      | inr o ↦ absurd
-          (grind (arith, o.0, f))
-    ];
-    inward_primary = λ x z e at f. elim (was_there law is t x z at) [
-      | inl o ↦ still_recorded x z e (law.links.inward_primary x z e o.0 f)
-      | inr o ↦
-          absurd (grind (arith, o.0, f))
-    ];
-    inward_decaying = λ x z e at f. elim (was_there law is t x z at) [
-      | inl o ↦ still_recorded x z e (law.links.inward_decaying x z e o.0 f)
-      | inr o ↦
-          absurd (grind (arith, o.0, f))
-    ];
-    primary_outward = λ x z e at f. elim (was_there law is t x z at) [
-      | inl o ↦ law.links.primary_outward x z e o.0 f
-      | inr o ↦ subst
-          (λ e. is_outward e.link e.side ≡ true) (the_end z e o.0 f) (ap (λ l. is_outward l B) is.link ∙ is_outward-B p)
-    ];
-    decaying_outward = λ x z e at f. elim (was_there law is t x z at) [
-      | inl o ↦ law.links.decaying_outward x z e o.0 f
-      | inr o ↦ absurd
-          (grind (arith, o.0, f))
-    ];
-    inward_primary_inward = λ x z e at f. elim (was_there law is t x z at)
-        [ inl o ↦ law.links.inward_primary_inward x z e o.0 f | inr o ↦ absurd (grind (arith, o.0, f)) ];
-    inward_decaying_inward = λ x z e at f. elim (was_there law is t x z at)
-        [ inl o ↦ law.links.inward_decaying_inward x z e o.0 f | inr o ↦ absurd (grind (arith, o.0, f)) ];
-  }
+  links-made = each-by w v q y (HasLinks w g) (HasLinks v h) t.router (λ x z. links-still (λ e. still_recorded x z e)) law.links (record {
+    primary = λ e f. subst (λ e. IsRecorded v h q y e) (the_end y e refl f) new_recorded;
+    decaying = λ e f. absurd (grind (arith, f));
+    inward_primary = λ e f. absurd (grind (arith, f));
+    inward_decaying = λ e f. absurd (grind (arith, f));
+    primary_outward = λ e f. subst (λ e. is_outward e.link e.side ≡ true) (the_end y e refl f) (ap (λ l. is_outward l B) is.link ∙ is_outward-B p);
+    decaying_outward = λ e f. absurd (grind (arith, f));
+    inward_primary_inward = λ e f. absurd (grind (arith, f));
+    inward_decaying_inward = λ e f. absurd (grind (arith, f));
+  })
 
   -- a router with more than an outward primary link was there
   was_old : (x : Key) (z : Router) (e : LinkEnd) → router_at v x ≡ Some z → z.outward.decaying ≡ Some e → router_at w x ≡ Some z
@@ -201,43 +148,45 @@ module _ {w v : World} {b : Books} {g : Records} {a : ℕ} {q p : Key} {d : Desc
 
   pub positions-made : Positions v h
   positions-made = record {
-    inward_primary = λ x z e at f. elim (was_there law is t x z at) [
-      | inl o ↦ bypass_same law is t e.link ∙ law.positions.inward_primary x z e o.0 f
-      | inr o ↦
-          absurd (grind (arith, o.0, f))
-    ];
-    inward_decaying = λ x z e at f. bypass_same law is t e.link ∙ law.positions.inward_decaying x z e (was_in x z e at f) f;
-    inward_to = λ x z e o at f c. law.positions.inward_to x z e o (was_in x z e at f) f c;
-    inward_from = λ x z e o at f c. law.positions.inward_from x z e o (was_in x z e at f) f c;
-    primary_old = λ x z e o at f l c. elim (was_there law is t x z at) [
-      | inl n ↦ law.positions.primary_old x z e o n.0 f l c
-      | inr n ↦ absurd
-          (not_central z e o n.0 f l)
-    ];
-    primary_across = λ x z e o at f l c. elim (was_there law is t x z at) [
-      | inl n ↦ law.positions.primary_across x z e o n.0 f l c ∙ ap opposite
-          (sym (side_same law is t o))
-      | inr n ↦ absurd (not_central z e o n.0 f l)
-    ];
-    primary_inner = λ x z e k o at f l c. elim (was_there law is t x z at) [
-      | inl n ↦ law.positions.primary_inner x z e k o n.0 f l (sym (by_same law is t k) ∙ c)
-      | inr n ↦ let same : k ≡ p = inner_one k p (sym l ∙ ap (λ e. e.link) (sym (the_end z e n.0 f)) ∙ is.link) in
-          early o (ap (λ k. (g.peripheral k).by) (sym same) ∙ sym (by_same law is t k) ∙ c)
-    ];
-    decaying = λ x z e at f. ap is_some (bypass_same law is t e.link) ∙ law.positions.decaying x z e (was_old x z e at f) f;
-    inner_stage = λ x z e k o at f l c. law.positions.inner_stage x z e k o (was_old x z e at f) f l (sym (by_same law is t k) ∙ c);
-    inner_to = λ x z e k o at f l c. law.positions.inner_to x z e k o (was_old x z e at f) f l (sym (by_same law is t k) ∙ c);
-    inner_from = λ x z e k o at f l c. law.positions.inner_from x z e k o (was_old x z e at f) f l (sym (by_same law is t k) ∙ c);
-    inner_fresh = λ x z e k o at f l c. law.positions.inner_fresh x z e k o (was_old x z e at f) f l (sym (by_same law is t k) ∙ c);
-    own_proxy = λ x z e o at f l s. law.positions.own_proxy x z e o (was_old x z e at f) f l (own_side o e.side s);
-    own_alone = λ x z e o at f l s. law.positions.own_alone x z e o (was_old x z e at f) f l (own_side o e.side s);
-    own_to = λ x z e o at f l s. law.positions.own_to x z e o (was_old x z e at f) f l (own_side o e.side s);
-    own_from = λ x z e o at f l s. law.positions.own_from x z e o (was_old x z e at f) f l (own_side o e.side s);
-    across_stage = λ x z e o at f l s. law.positions.across_stage x z e o (was_old x z e at f) f l (far_side o e.side s);
-    across_to = λ x z e o at f l s. law.positions.across_to x z e o (was_old x z e at f) f l (far_side o e.side s);
-    across_from = λ x z e o at f l s. law.positions.across_from x z e o (was_old x z e at f) f l (far_side o e.side s);
-    across_fresh = λ x z e o at f l s. law.positions.across_fresh x z e o (was_old x z e at f) f l (far_side o e.side s);
-    begun = λ x z at f. elim (was_there law is t x z at) [ inl o ↦ law.positions.begun x z o.0 f | inr o ↦ absurd (grind (arith, o.0, f)) ];
+    each = λ x z at. record {
+      inward_primary = λ e f. elim (was_there law is t x z at) [
+        | inl o ↦ bypass_same law is t e.link ∙ (law.positions.each x z o.0).inward_primary e f
+        | inr o ↦
+            absurd (grind (arith, o.0, f))
+      ];
+      inward_decaying = λ e f. bypass_same law is t e.link ∙ (law.positions.each x z (was_in x z e at f)).inward_decaying e f;
+      inward_to = λ e o f c. (law.positions.each x z (was_in x z e at f)).inward_to e o f c;
+      inward_from = λ e o f c. (law.positions.each x z (was_in x z e at f)).inward_from e o f c;
+      primary_old = λ e o f l c. elim (was_there law is t x z at) [
+        | inl n ↦ (law.positions.each x z n.0).primary_old e o f l c
+        | inr n ↦ absurd
+            (not_central z e o n.0 f l)
+      ];
+      primary_across = λ e o f l c. elim (was_there law is t x z at) [
+        | inl n ↦ (law.positions.each x z n.0).primary_across e o f l c ∙ ap opposite
+            (sym (side_same law is t o))
+        | inr n ↦ absurd (not_central z e o n.0 f l)
+      ];
+      primary_inner = λ e k o f l c. elim (was_there law is t x z at) [
+        | inl n ↦ (law.positions.each x z n.0).primary_inner e k o f l (sym (by_same law is t k) ∙ c)
+        | inr n ↦ let same : k ≡ p = inner_one k p (sym l ∙ ap (λ e. e.link) (sym (the_end z e n.0 f)) ∙ is.link) in
+            early o (ap (λ k. (g.peripheral k).by) (sym same) ∙ sym (by_same law is t k) ∙ c)
+      ];
+      decaying = λ e f. ap is_some (bypass_same law is t e.link) ∙ (law.positions.each x z (was_old x z e at f)).decaying e f;
+      inner_stage = λ e k o f l c. (law.positions.each x z (was_old x z e at f)).inner_stage e k o f l (sym (by_same law is t k) ∙ c);
+      inner_to = λ e k o f l c. (law.positions.each x z (was_old x z e at f)).inner_to e k o f l (sym (by_same law is t k) ∙ c);
+      inner_from = λ e k o f l c. (law.positions.each x z (was_old x z e at f)).inner_from e k o f l (sym (by_same law is t k) ∙ c);
+      inner_fresh = λ e k o f l c. (law.positions.each x z (was_old x z e at f)).inner_fresh e k o f l (sym (by_same law is t k) ∙ c);
+      own_proxy = λ e o f l s. (law.positions.each x z (was_old x z e at f)).own_proxy e o f l (own_side o e.side s);
+      own_alone = λ e o f l s. (law.positions.each x z (was_old x z e at f)).own_alone e o f l (own_side o e.side s);
+      own_to = λ e o f l s. (law.positions.each x z (was_old x z e at f)).own_to e o f l (own_side o e.side s);
+      own_from = λ e o f l s. (law.positions.each x z (was_old x z e at f)).own_from e o f l (own_side o e.side s);
+      across_stage = λ e o f l s. (law.positions.each x z (was_old x z e at f)).across_stage e o f l (far_side o e.side s);
+      across_to = λ e o f l s. (law.positions.each x z (was_old x z e at f)).across_to e o f l (far_side o e.side s);
+      across_from = λ e o f l s. (law.positions.each x z (was_old x z e at f)).across_from e o f l (far_side o e.side s);
+      across_fresh = λ e o f l s. (law.positions.each x z (was_old x z e at f)).across_fresh e o f l (far_side o e.side s);
+      begun = λ f. elim (was_there law is t x z at) [ inl o ↦ (law.positions.each x z o.0).begun f | inr o ↦ absurd (grind (arith, o.0, f)) ];
+    };
     begun_proxy = law.positions.begun_proxy;
     begun_stage = law.positions.begun_stage;
     proxy_begun = law.positions.proxy_begun;

@@ -261,7 +261,7 @@ module _ {w v : World} {b : Books} {g : Records} {a : ℕ} {q p : Key} {d : Desc
           z.outward.decaying ≡ Some f → standing_router (view v h2 e.link (opposite e.side)) ≡ Some c →
           standing_router (view w g e.link (opposite e.side)) ≡ Some c
       standing_came x z c e f at on off there = elim (seen_made w v b g a q p d law is t e.link (opposite e.side)
-          (law.links.primary x z e at on).recorded) [
+          ((law.links x z at).primary e on).recorded) [
             | inl o ↦ ap standing_router (sym o) ∙ there
             | inr o ↦ absurd (no_central (sym (fresh_central w g x z e f law.positions at on off).1 ∙ o.link_is))
           ]

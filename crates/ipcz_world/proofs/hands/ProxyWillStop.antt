@@ -27,7 +27,7 @@ use Rattle.ipcz_world.proofs.frames.Unmoved.{books_kept-kept, conserved-kept, he
 use Rattle.ipcz_world.proofs.frames.Counting.{IsReceived, counts-received}
 use Rattle.ipcz_world.proofs.facts.Lengths.{same_side-tells, HasEnd, has_link-tells, passed, is_attached-inner, view-standing}
 use Rattle.ipcz_world.proofs.facts.Lengths.{known_from-yes}
-use Rattle.ipcz_world.proofs.hands.BypassAsked.{IsEnded, ended, asked_router}
+use Rattle.ipcz_world.proofs.hands.BypassAsked.{IsEnded, ended}
 use Rattle.ipcz_world.proofs.frames.StageFurther as further
 use Rattle.ipcz_world.proofs.frames.StageFurtherNumbers as numbers
 use Rattle.ipcz_world.proofs.frames.StageFurther.{IsLinkedLike}
@@ -35,6 +35,7 @@ use Rattle.ipcz_world.proofs.frames.Sealing.{Sealed, Closed, opened, counts_of, 
 use Rattle.ipcz_world.proofs.frames.Sealing.{told_of, proxy_numbers_of, fresh_numbers_of, ordered_of, spares_of, moves_of as moves_law}
 use Rattle.ipcz_world.proofs.frames.Sealing.{terminals_of, end_places_of, books_kept_of, conserved_of, held_once_of, no_strays_of}
 use Rattle.ipcz_world.proofs.frames.Frames.{OneOrBefore, one_or_before}
+use Rattle.ipcz_world.proofs.views.Having.{has_at}
 
 -- what the hand of the message needs: the router that has the link is asked
 pub record CanEnd (w : World) (g : Records) (from : ℕ) (k : Key) (r : Router) (o : ℕ) (link : LinkId) (side : Side) (length : ℕ) : Type 0
@@ -65,7 +66,7 @@ module _ (w : World) (b : Books) (g : Records) (from : ℕ) (k : Key) (r : Route
 
   -- the router is the one inward
   known : side_router g (inner_of g o) B ≡ Some k
-  known = rw (is.on_link, is.at_side) at (asked_router w g k r link side (links_of law) here (opened can).has)
+  known = rw (is.on_link, is.at_side) at ((has_at w g k r link side (links_of law) here (opened can).has).router)
 
   pub z_inner : has_link r.outward.decaying (inner_of g o) B ≡ true
   z_inner = sym (passed w k r (has_decaying (inner_of g o) B) here) ∙ rw known at
@@ -142,8 +143,8 @@ module _ (w : World) (b : Books) (g : Records) (from : ℕ) (k : Key) (r : Route
   inner_alone : (q : Key) (t : Router) (d : LinkEnd) → same_key q k ≡ false → router_at w q ≡ Some t → t.outward.decaying ≡ Some d →
       d.link ≡ inner_of g o → ⊥
   unfolding is_outward
-  inner_alone q t d apart at m l = let s : d.side ≡ B = same_side-tells d.side B (rw l at ((links_of law).decaying_outward q t d at m)) in
-      let known' : side_router g (inner_of g o) B ≡ Some q = rw (l, s) at (((links_of law).decaying q t d at m).router) in
+  inner_alone q t d apart at m l = let s : d.side ≡ B = same_side-tells d.side B (rw l at (((links_of law) q t at).decaying_outward d m)) in
+      let known' : side_router g (inner_of g o) B ≡ Some q = rw (l, s) at ((((links_of law) q t at).decaying d m).router) in
       let same : q ≡ k = same_Some q k (sym known' ∙ known) in grind (arith, apart, same, same_key-itself k)
 
   owes : numbers.LengthsOwe law changed like linked carried is.stage late early
@@ -163,21 +164,21 @@ module _ (w : World) (b : Books) (g : Records) (from : ℕ) (k : Key) (r : Route
       inward_to_at : (q : Key) (t : Router) (d : LinkEnd) (j : ℕ) → (inward_edge t).decaying ≡ Some d → g.begun q ≡ Some j →
           ((q ≡ k) × (x ≡ t)) ⊎ ((same_key q k ≡ false) × (router_at w q ≡ Some t)) →
           (inward_edge t).length_to ≡ known_from 4 (g.bypass j).stage (g.bypass j).accepted_at
-      inward_to_at q t d j p n (inl m) = rw (← m.1) ((positions_of law).inward_to k r d j here (rw (← m.1) at p) (ap g.begun (sym m.0) ∙ n))
-      inward_to_at q t d j p n (inr m) = (positions_of law).inward_to q t d j m.1 p n
+      inward_to_at q t d j p n (inl m) = rw (← m.1) (((positions_of law).each k r here).inward_to d j (rw (← m.1) at p) (ap g.begun (sym m.0) ∙ n))
+      inward_to_at q t d j p n (inr m) = ((positions_of law).each q t m.1).inward_to d j p n
 
       inward_from_at : (q : Key) (t : Router) (d : LinkEnd) (j : ℕ) → (inward_edge t).decaying ≡ Some d → g.begun q ≡ Some j →
           ((q ≡ k) × (x ≡ t)) ⊎ ((same_key q k ≡ false) × (router_at w q ≡ Some t)) →
           (inward_edge t).length_from ≡ known_from 4 (g.bypass j).stage (g.bypass j).taken_at
-      inward_from_at q t d j p n (inl m) = rw (← m.1) ((positions_of law).inward_from k r d j here (rw (← m.1) at p)
+      inward_from_at q t d j p n (inl m) = rw (← m.1) (((positions_of law).each k r here).inward_from d j (rw (← m.1) at p)
           (ap g.begun (sym m.0) ∙ n))
-      inward_from_at q t d j p n (inr m) = (positions_of law).inward_from q t d j m.1 p n
+      inward_from_at q t d j p n (inr m) = ((positions_of law).each q t m.1).inward_from d j p n
 
       inner_to_at : (q : Key) (t : Router) (d : LinkEnd) (p : Key) (j : ℕ) → t.outward.decaying ≡ Some d → d.link ≡ inner_link p →
           (g.peripheral p).by ≡ Some j → ((q ≡ k) × (x ≡ t)) ⊎ ((same_key q k ≡ false) × (router_at w q ≡ Some t)) →
           t.outward.length_to ≡ Some (g.bypass j).taken_at
-      inner_to_at q t d p j m l n (inl c) = rw (← c.1) ((positions_of law).inner_to k r d p j here (rw (← c.1) at m) l n)
-      inner_to_at q t d p j m l n (inr c) = (positions_of law).inner_to q t d p j c.1 m l n
+      inner_to_at q t d p j m l n (inl c) = rw (← c.1) (((positions_of law).each k r here).inner_to d p j (rw (← c.1) at m) l n)
+      inner_to_at q t d p j m l n (inr c) = ((positions_of law).each q t c.1).inner_to d p j m l n
 
       inner_from_at : (q : Key) (t : Router) (d : LinkEnd) (p : Key) (j : ℕ) → t.outward.decaying ≡ Some d → d.link ≡ inner_link p →
           (g.peripheral p).by ≡ Some j → ((q ≡ k) × (x ≡ t)) ⊎ ((same_key q k ≡ false) × (router_at w q ≡ Some t)) →
@@ -191,31 +192,31 @@ module _ (w : World) (b : Books) (g : Records) (from : ℕ) (k : Key) (r : Route
       inner_from_at q t d p j m l n (inl c) (inr a) = absurd (a.1
           (same_Some j o (sym n ∙ ap (λ i. (g.peripheral i).by) (inner_is p (g.bypass o).inner (sym l ∙ x_dec t d c.1 m)) ∙
           (bypasses_of law).inner_by o begun)))
-      inner_from_at q t d p j m l n (inr c) (inr a) = rw a.0 ((positions_of law).inner_from q t d p j c.1 m l n)
+      inner_from_at q t d p j m l n (inr c) (inr a) = rw a.0 (((positions_of law).each q t c.1).inner_from d p j m l n)
 
       own_to_at : (q : Key) (t : Router) (d : LinkEnd) (j : ℕ) → t.outward.decaying ≡ Some d → d.link ≡ Central j →
           d.side ≡ proxy_side g j → ((q ≡ k) × (x ≡ t)) ⊎ ((same_key q k ≡ false) × (router_at w q ≡ Some t)) →
           t.outward.length_to ≡ known_from 4 (g.bypass j).stage (g.bypass j).taken_at
       own_to_at q t d j m l n (inl c) = absurd (grind (arith, sym l ∙ x_dec t d c.1 m))
-      own_to_at q t d j m l n (inr c) = (positions_of law).own_to q t d j c.1 m l n
+      own_to_at q t d j m l n (inr c) = ((positions_of law).each q t c.1).own_to d j m l n
 
       own_from_at : (q : Key) (t : Router) (d : LinkEnd) (j : ℕ) → t.outward.decaying ≡ Some d → d.link ≡ Central j →
           d.side ≡ proxy_side g j → ((q ≡ k) × (x ≡ t)) ⊎ ((same_key q k ≡ false) × (router_at w q ≡ Some t)) →
           t.outward.length_from ≡ known_from 4 (g.bypass j).stage (g.bypass j).accepted_at
       own_from_at q t d j m l n (inl c) = absurd (grind (arith, sym l ∙ x_dec t d c.1 m))
-      own_from_at q t d j m l n (inr c) = (positions_of law).own_from q t d j c.1 m l n
+      own_from_at q t d j m l n (inr c) = ((positions_of law).each q t c.1).own_from d j m l n
 
       across_to_at : (q : Key) (t : Router) (d : LinkEnd) (j : ℕ) → t.outward.decaying ≡ Some d → d.link ≡ Central j →
           d.side ≡ across_side g j → ((q ≡ k) × (x ≡ t)) ⊎ ((same_key q k ≡ false) × (router_at w q ≡ Some t)) →
           t.outward.length_to ≡ Some (g.bypass j).accepted_at
       across_to_at q t d j m l n (inl c) = absurd (grind (arith, sym l ∙ x_dec t d c.1 m))
-      across_to_at q t d j m l n (inr c) = (positions_of law).across_to q t d j c.1 m l n
+      across_to_at q t d j m l n (inr c) = ((positions_of law).each q t c.1).across_to d j m l n
 
       across_from_at : (q : Key) (t : Router) (d : LinkEnd) (j : ℕ) → t.outward.decaying ≡ Some d → d.link ≡ Central j →
           d.side ≡ across_side g j → ((q ≡ k) × (x ≡ t)) ⊎ ((same_key q k ≡ false) × (router_at w q ≡ Some t)) →
           t.outward.length_from ≡ Some (g.bypass j).taken_at
       across_from_at q t d j m l n (inl c) = absurd (grind (arith, sym l ∙ x_dec t d c.1 m))
-      across_from_at q t d j m l n (inr c) = (positions_of law).across_from q t d j c.1 m l n
+      across_from_at q t d j m l n (inr c) = ((positions_of law).each q t c.1).across_from d j m l n
 
   view_z : view w g (inner_of g o) B ≡ Standing r
   view_z = view-standing w g (inner_of g o) B k r known here (grind (arith, is_attached-inner (g.bypass o).inner r, z_inner))

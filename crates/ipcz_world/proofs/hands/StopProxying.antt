@@ -29,7 +29,7 @@ use Rattle.ipcz_world.proofs.frames.Unmoved.{places-agree, ordered-kept, spares-
 use Rattle.ipcz_world.proofs.frames.Unmoved.{books_kept-kept, conserved-kept, held_once-kept, no_strays-kept}
 use Rattle.ipcz_world.proofs.frames.Counting.{IsReceived, counts-received}
 use Rattle.ipcz_world.proofs.facts.Lengths.{HasEnd, has_link-tells, passed, known_from-yes, known_from-no}
-use Rattle.ipcz_world.proofs.hands.BypassAsked.{IsStopped, stopped, asked_router}
+use Rattle.ipcz_world.proofs.hands.BypassAsked.{IsStopped, stopped}
 use Rattle.ipcz_world.proofs.frames.StageFurther as further
 use Rattle.ipcz_world.proofs.frames.StageFurtherNumbers as numbers
 use Rattle.ipcz_world.proofs.frames.StageFurther.{IsLinkedLike}
@@ -37,6 +37,7 @@ use Rattle.ipcz_world.proofs.frames.Sealing.{Sealed, Closed, opened, counts_of, 
 use Rattle.ipcz_world.proofs.frames.Sealing.{ordered_of, spares_of, moves_of as moves_law, terminals_of, end_places_of, books_kept_of}
 use Rattle.ipcz_world.proofs.frames.Sealing.{conserved_of, held_once_of, no_strays_of}
 use Rattle.ipcz_world.proofs.frames.Frames.{OneOrBefore, one_or_before}
+use Rattle.ipcz_world.proofs.views.Having.{has_at}
 
 -- what the hand of the message needs: the router that has the old link is asked; its inward decaying link is e
 pub record CanStop (w : World) (from : ℕ) (k : Key) (r : Router) (e : LinkEnd) (o : ℕ) (side : Side) (in_length out_length : ℕ) : Type 0
@@ -80,7 +81,7 @@ module _ (w : World) (b : Books) (g : Records) (from : ℕ) (k : Key) (r : Route
 
   -- the router is the proxy
   known : side_router g (Central o) (proxy_side g o) ≡ Some k
-  known = rw is.at_side at (asked_router w g k r (Central o) side (links_of law) here (opened can).has)
+  known = rw is.at_side at ((has_at w g k r (Central o) side (links_of law) here (opened can).has).router)
 
   proxy_is : (g.bypass o).proxy ≡ k
   proxy_is = same_Some _ _ (sym ((bypasses_of law).proxy_old o begun) ∙ known)
@@ -109,7 +110,7 @@ module _ (w : World) (b : Books) (g : Records) (from : ℕ) (k : Key) (r : Route
   at_a = ap (λ d. d.side) e_is ∙ inner_end.at_side
 
   alone : r.outward.primary ≡ None
-  alone = (positions_of law).own_alone k r y_end.end o here y_end.there y_end.on_link y_end.at_side
+  alone = ((positions_of law).each k r here).own_alone y_end.end o y_end.there y_end.on_link y_end.at_side
 
   pub y_begun : g.begun k ≡ Some o
   y_begun = ap g.begun (sym proxy_is) ∙ (positions_of law).proxy_begun o begun
@@ -249,13 +250,13 @@ module _ (w : World) (b : Books) (g : Records) (from : ℕ) (k : Key) (r : Route
   owes = record {
     inward_to = λ q t d j m p n. inward_to_at q t d j p n (split q t m) (at_o j);
     inward_from = λ q t d j m p n. inward_from_at q t d j p n (split q t m) (at_o j);
-    inner_to = λ q t d p j a m l n. (positions_of law).inner_to q t d p j (inner_at q t d p m l (split q t a)) m l n;
-    inner_from = λ q t d p j a m l n. (positions_of law).inner_from q t d p j (inner_at q t d p m l (split q t a)) m l n ∙ sym
+    inner_to = λ q t d p j a m l n. ((positions_of law).each q t (inner_at q t d p m l (split q t a))).inner_to d p j m l n;
+    inner_from = λ q t d p j a m l n. ((positions_of law).each q t (inner_at q t d p m l (split q t a))).inner_from d p j m l n ∙ sym
         (known5 j (g.bypass j).accepted_at);
     own_to = λ q t d j a m l n. own_to_at q t d j m l n (split q t a) (at_o j);
     own_from = λ q t d j a m l n. own_from_at q t d j m l n (split q t a) (at_o j);
-    across_to = λ q t d j a m l n. (positions_of law).across_to q t d j (across_at q t d j m l n (split q t a)) m l n;
-    across_from = λ q t d j a m l n. (positions_of law).across_from q t d j (across_at q t d j m l n (split q t a)) m l n;
+    across_to = λ q t d j a m l n. ((positions_of law).each q t (across_at q t d j m l n (split q t a))).across_to d j m l n;
+    across_from = λ q t d j a m l n. ((positions_of law).each q t (across_at q t d j m l n (split q t a))).across_from d j m l n;
   }
     where
       inward_to_at : (q : Key) (t : Router) (d : LinkEnd) (j : ℕ) → (inward_edge t).decaying ≡ Some d → g.begun q ≡ Some j →
@@ -265,7 +266,7 @@ module _ (w : World) (b : Books) (g : Records) (from : ℕ) (k : Key) (r : Route
           ap (λ u. (inward_edge u).length_to) (sym m.1) ∙ (edge_learned r.inward e on).0 ∙ ap Some is.accepted ∙ sym
           (known4 (g.bypass o).accepted_at) ∙ ap (λ i. known_from 4 (h.bypass i).stage (g.bypass i).accepted_at) same
       inward_to_at q t d j p n (inr m) (inl a) = absurd (begun_apart q j m.0 n a.0 a.1)
-      inward_to_at q t d j p n (inr m) (inr a) = rw a.0 ((positions_of law).inward_to q t d j m.1 p n)
+      inward_to_at q t d j p n (inr m) (inr a) = rw a.0 (((positions_of law).each q t m.1).inward_to d j p n)
 
       inward_from_at : (q : Key) (t : Router) (d : LinkEnd) (j : ℕ) → (inward_edge t).decaying ≡ Some d → g.begun q ≡ Some j →
           OneOrBefore w k x q t →
@@ -274,7 +275,7 @@ module _ (w : World) (b : Books) (g : Records) (from : ℕ) (k : Key) (r : Route
           ap (λ u. (inward_edge u).length_from) (sym m.1) ∙ (edge_learned r.inward e on).1 ∙ ap Some is.taken ∙ sym
           (known4 (g.bypass o).taken_at) ∙ ap (λ i. known_from 4 (h.bypass i).stage (g.bypass i).taken_at) same
       inward_from_at q t d j p n (inr m) (inl a) = absurd (begun_apart q j m.0 n a.0 a.1)
-      inward_from_at q t d j p n (inr m) (inr a) = rw a.0 ((positions_of law).inward_from q t d j m.1 p n)
+      inward_from_at q t d j p n (inr m) (inr a) = rw a.0 (((positions_of law).each q t m.1).inward_from d j p n)
 
       inner_at : (q : Key) (t : Router) (d : LinkEnd) (p : Key) → t.outward.decaying ≡ Some d → d.link ≡ inner_link p →
           OneOrBefore w k x q t →
@@ -290,7 +291,7 @@ module _ (w : World) (b : Books) (g : Records) (from : ℕ) (k : Key) (r : Route
 
       own_apart : (q : Key) (t : Router) (d : LinkEnd) (j : ℕ) → same_key q k ≡ false → router_at w q ≡ Some t →
           t.outward.decaying ≡ Some d → d.link ≡ Central j → d.side ≡ proxy_side g j → j ≡ o → ⊥
-      own_apart q t d j c a m l n p = not_k q c (sym ((positions_of law).own_proxy q t d j a m l n) ∙ ap (λ i. (g.bypass i).proxy) p ∙
+      own_apart q t d j c a m l n p = not_k q c (sym (((positions_of law).each q t a).own_proxy d j m l n) ∙ ap (λ i. (g.bypass i).proxy) p ∙
           proxy_is)
 
       own_to_at : (q : Key) (t : Router) (d : LinkEnd) (j : ℕ) → t.outward.decaying ≡ Some d → d.link ≡ Central j →
@@ -300,7 +301,7 @@ module _ (w : World) (b : Books) (g : Records) (from : ℕ) (k : Key) (r : Route
           ap (λ u. u.outward.length_to) (sym c.1) ∙ ap Some is.taken ∙ sym (known4 (g.bypass o).taken_at) ∙ ap
           (λ i. known_from 4 (h.bypass i).stage (g.bypass i).taken_at) same
       own_to_at q t d j m l n (inr c) (inl a) = absurd (own_apart q t d j c.0 c.1 m l n a.1)
-      own_to_at q t d j m l n (inr c) (inr a) = rw a.0 ((positions_of law).own_to q t d j c.1 m l n)
+      own_to_at q t d j m l n (inr c) (inr a) = rw a.0 (((positions_of law).each q t c.1).own_to d j m l n)
 
       own_from_at : (q : Key) (t : Router) (d : LinkEnd) (j : ℕ) → t.outward.decaying ≡ Some d → d.link ≡ Central j →
           d.side ≡ proxy_side g j → OneOrBefore w k x q t → At j → t.outward.length_from ≡ known_from 4 (h.bypass j).stage
@@ -309,7 +310,7 @@ module _ (w : World) (b : Books) (g : Records) (from : ℕ) (k : Key) (r : Route
           ap (λ u. u.outward.length_from) (sym c.1) ∙ ap Some is.accepted ∙ sym (known4 (g.bypass o).accepted_at) ∙ ap
           (λ i. known_from 4 (h.bypass i).stage (g.bypass i).accepted_at) same
       own_from_at q t d j m l n (inr c) (inl a) = absurd (own_apart q t d j c.0 c.1 m l n a.1)
-      own_from_at q t d j m l n (inr c) (inr a) = rw a.0 ((positions_of law).own_from q t d j c.1 m l n)
+      own_from_at q t d j m l n (inr c) (inr a) = rw a.0 (((positions_of law).each q t c.1).own_from d j m l n)
 
   y_is : (t : Router) → router_at w (g.bypass o).proxy ≡ Some t → r ≡ t
   y_is t m = same_Some r t (sym here ∙ ap (router_at w) (sym proxy_is) ∙ m)
@@ -322,7 +323,7 @@ module _ (w : World) (b : Books) (g : Records) (from : ℕ) (k : Key) (r : Route
   }
 
   e_other : e.other ≡ side_node g (inner_of g o) B
-  e_other = ((links_of law).inward_decaying k r e here on).other ∙ ap (λ l. side_node g l (opposite e.side)) on_inner ∙ ap
+  e_other = (((links_of law) k r here).inward_decaying e on).other ∙ ap (λ l. side_node g l (opposite e.side)) on_inner ∙ ap
       (λ s. side_node g (inner_of g o) (opposite s)) at_a
 
   to_node : e.other < w.count

@@ -20,9 +20,9 @@ use Rattle.ipcz_world.proofs.facts.Lengths.{same_side-tells, opposite-twice, kno
 use Rattle.ipcz_world.proofs.flows.Flowing.{found}
 use Rattle.ipcz_world.proofs.views.Known.{attached_recorded}
 use Rattle.ipcz_world.proofs.views.Telling.{IsAccept, accept_told, IsStop, stop_told, will_stop_told}
-use Rattle.ipcz_world.proofs.lawful.LinkLaws.{Passes, passes-tells}
-use Rattle.ipcz_world.proofs.lawful.WordLaws.{HasAt, has_at}
-use Rattle.ipcz_world.proofs.facts.BegunLengths.{bypass_of-begun, bypass_of-central_is}
+use Rattle.ipcz_world.proofs.frames.BegunLengths.{bypass_of-begun, bypass_of-central_is}
+use Rattle.ipcz_world.proofs.views.Passing.{Passes, passes-tells}
+use Rattle.ipcz_world.proofs.views.Having.{HasAt, has_at}
 
 -- the number of the bypass that is the length of a link from a side
 unfoldable number_of : Records → ℕ → LinkId → Side → ℕ
@@ -94,7 +94,7 @@ module _ (w : World) (b : Books) (g : Records) (law : Inv w b g) where
       ((o : ℕ) × (e.link ≡ Central o) × (is_begun (g.bypass o) ≡ true) × ((e.side ≡ proxy_side g o) ⊎ (e.side ≡ across_side g o))) ⊎
       ((p : Key) × (o : ℕ) × (e.link ≡ inner_link p) × (e.side ≡ B) × ((g.peripheral p).by ≡ Some o))
   unfolding is_outward
-  outward_case k r e here dec = go (link_is e.link) (law.positions.decaying k r e here dec)
+  outward_case k r e here dec = go (link_is e.link) ((law.positions.each k r here).decaying e dec)
     where
       go : ((i : ℕ) × (e.link ≡ Central i)) ⊎ ((p : Key) × (e.link ≡ inner_link p)) → is_some (bypass_of g e.link) ≡ true →
           ((o : ℕ) × (e.link ≡ Central o) × (is_begun (g.bypass o) ≡ true) × ((e.side ≡ proxy_side g o) ⊎ (e.side ≡ across_side g o))) ⊎
@@ -121,7 +121,7 @@ module _ (w : World) (b : Books) (g : Records) (law : Inv w b g) where
             p.0,
             o,
             p.1,
-            same_side-tells e.side B (rw (p.1) at (law.links.decaying_outward k r e here dec)),
+            same_side-tells e.side B (rw (p.1) at ((law.links k r here).decaying_outward e dec)),
             sym (bypass_of-inner g p.0) ∙ ap (bypass_of g) (sym p.1) ∙ h,
           )
 
@@ -136,11 +136,11 @@ module _ (w : World) (b : Books) (g : Records) (law : Inv w b g) where
 
   pub inward_case : (k : Key) (r : Router) (e : LinkEnd) → router_at w k ≡ Some r → (inward_edge r).decaying ≡ Some e → IsInward k e
   unfolding is_outward
-  inward_case k r e here dec = go (link_is e.link) (law.links.inward_decaying_inward k r e here dec)
+  inward_case k r e here dec = go (link_is e.link) ((law.links k r here).inward_decaying_inward e dec)
     where
       unprimed : (c : Option LinkEnd) → (inward_edge r).primary ≡ c → c ≡ None
       unprimed None h = refl
-      unprimed (Some d) h = absurd (grind (arith, h, dec, law.shape.role k r here))
+      unprimed (Some d) h = absurd (grind (arith, h, dec, (law.shape k r here).role))
 
       proxied : is_begun_router r ≡ true
       proxied = go2 r.inward refl
@@ -154,14 +154,14 @@ module _ (w : World) (b : Books) (g : Records) (law : Inv w b g) where
       on_side B h = cc
 
       at : (p : Key) → e.link ≡ inner_link p → e.side ≡ A → (o : Option ℕ) → g.begun k ≡ o → IsInward k e
-      at p on side None h = absurd (grind (arith, law.positions.begun k r here proxied, h))
+      at p on side None h = absurd (grind (arith, (law.positions.each k r here).begun proxied, h))
       at p on side (Some o) h = record {
         link = p;
         bypass = o;
         on = on;
         side = side;
         by =
-            sym (bypass_of-inner g p) ∙ ap (bypass_of g) (sym on) ∙ law.positions.inward_decaying k r e here dec ∙ h;
+            sym (bypass_of-inner g p) ∙ ap (bypass_of g) (sym on) ∙ (law.positions.each k r here).inward_decaying e dec ∙ h;
         begun = h;
       }
 
@@ -203,43 +203,43 @@ module _ (w : World) (b : Books) (g : Records) (law : Inv w b g) where
   knows link s n (OutwardTo k r e here dec len on at) = elim (outward_case k r e here dec) [
     | inl c ↦ elim c.3 [
       | inl own ↦ let m = known_some 4 (g.bypass c.0).stage (g.bypass c.0).taken_at n r.outward.length_to
-          (law.positions.own_to k r e c.0 here dec c.1 own) len in
+          ((law.positions.each k r here).own_to e c.0 dec c.1 own) len in
           at_link g link (Central c.0) s (proxy_side g c.0) n (g.bypass c.0).taken_at (sym on ∙ c.1) (sym at ∙ own) m.is
           (len_old_proxy g c.0 c.2 (omega (arith, m.since)))
       | inr far ↦ at_link g link (Central c.0) s (across_side g c.0) n (g.bypass c.0).accepted_at (sym on ∙ c.1) (sym at ∙ far)
-          (same_Some _ _ (sym len ∙ law.positions.across_to k r e c.0 here dec c.1 far))
-          (len_old_across g c.0 c.2 (law.positions.across_stage k r e c.0 here dec c.1 far))
+          (same_Some _ _ (sym len ∙ (law.positions.each k r here).across_to e c.0 dec c.1 far))
+          (len_old_across g c.0 c.2 ((law.positions.each k r here).across_stage e c.0 dec c.1 far))
     ]
     | inr c ↦ at_link g link (inner_link c.0) s B n (g.bypass c.1).taken_at (sym on ∙ c.2) (sym at ∙ c.3)
-        (same_Some _ _ (sym len ∙ law.positions.inner_to k r e c.0 c.1 here dec c.2 c.4))
-        (len_inner_out g c.0 c.1 c.4 (law.positions.inner_stage k r e c.0 c.1 here dec c.2 c.4))
+        (same_Some _ _ (sym len ∙ (law.positions.each k r here).inner_to e c.0 c.1 dec c.2 c.4))
+        (len_inner_out g c.0 c.1 c.4 ((law.positions.each k r here).inner_stage e c.0 c.1 dec c.2 c.4))
   ]
   knows link s n (OutwardFrom k r e here dec len on at) = elim (outward_case k r e here dec) [
     | inl c ↦ elim c.3 [
       | inl own ↦ let m = known_some 4 (g.bypass c.0).stage (g.bypass c.0).accepted_at n r.outward.length_from
-          (law.positions.own_from k r e c.0 here dec c.1 own) len in
+          ((law.positions.each k r here).own_from e c.0 dec c.1 own) len in
           at_link g link (Central c.0) s (across_side g c.0) n (g.bypass c.0).accepted_at (sym on ∙ c.1) (sym at ∙ ap opposite own) m.is
           (len_old_across g c.0 c.2 (omega (arith, m.since)))
       | inr far ↦ at_link g link (Central c.0) s (proxy_side g c.0) n (g.bypass c.0).taken_at (sym on ∙ c.1)
           (sym at ∙ ap opposite far ∙ opposite-twice (proxy_side g c.0))
-          (same_Some _ _ (sym len ∙ law.positions.across_from k r e c.0 here dec c.1 far))
-          (len_old_proxy g c.0 c.2 (law.positions.across_stage k r e c.0 here dec c.1 far))
+          (same_Some _ _ (sym len ∙ (law.positions.each k r here).across_from e c.0 dec c.1 far))
+          (len_old_proxy g c.0 c.2 ((law.positions.each k r here).across_stage e c.0 dec c.1 far))
     ]
     | inr c ↦ let m = known_some 5 (g.bypass c.1).stage (g.bypass c.1).accepted_at n r.outward.length_from
-        (law.positions.inner_from k r e c.0 c.1 here dec c.2 c.4) len in
+        ((law.positions.each k r here).inner_from e c.0 c.1 dec c.2 c.4) len in
         at_link g link (inner_link c.0) s A n (g.bypass c.1).accepted_at (sym on ∙ c.2) (sym at ∙ ap opposite c.3) m.is
         (len_inner_in g c.0 c.1 c.4 (omega (arith, m.since)))
   ]
   knows link s n (InwardTo k r e here dec len on at) =
       let c = inward_case k r e here dec in
       let m = known_some 4 (g.bypass c.bypass).stage (g.bypass c.bypass).accepted_at n (inward_edge r).length_to
-      (law.positions.inward_to k r e c.bypass here dec c.begun) len in
+      ((law.positions.each k r here).inward_to e c.bypass dec c.begun) len in
       at_link g link (inner_link c.link) s A n (g.bypass c.bypass).accepted_at (sym on ∙ c.on) (sym at ∙ c.side) m.is
       (len_inner_in g c.link c.bypass c.by (omega (arith, m.since)))
   knows link s n (InwardFrom k r e here dec len on at) =
       let c = inward_case k r e here dec in
       let m = known_some 4 (g.bypass c.bypass).stage (g.bypass c.bypass).taken_at n (inward_edge r).length_from
-      (law.positions.inward_from k r e c.bypass here dec c.begun) len in
+      ((law.positions.each k r here).inward_from e c.bypass dec c.begun) len in
       at_link g link (inner_link c.link) s B n (g.bypass c.bypass).taken_at (sym on ∙ c.on) (sym at ∙ ap opposite c.side) m.is
       (len_inner_out g c.link c.bypass c.by (omega (arith, m.since)))
   knows link s n (Accepting from to i old side fresh u on at) =
@@ -403,10 +403,10 @@ module _ (w : World) (b : Books) (g : Records) (law : Inv w b g) where
           Knows w (Central i) (proxy_side g i) (g.bypass i).taken_at
       go true e =
           let d : HasEnd q.outward.primary (Central i) (across_side g i) = has_link-tells _ _ _ e in
-          absurd (omega (arith, late, law.positions.primary_old j q d.end i at d.there d.on_link begun))
+          absurd (omega (arith, late, (law.positions.each j q at).primary_old d.end i d.there d.on_link begun))
       go false e =
           let d : HasEnd q.outward.decaying (Central i) (across_side g i) = has_link-tells _ _ _ (grind (arith, e, on)) in
-          OutwardFrom j q d.end at d.there (law.positions.across_from j q d.end i at d.there d.on_link d.at_side) d.on_link
+          OutwardFrom j q d.end at d.there ((law.positions.each j q at).across_from d.end i d.there d.on_link d.at_side) d.on_link
           (ap opposite d.at_side ∙ opposite-twice (proxy_side g i))
 
   -- the inward link of a proxy that is being bypassed decays
@@ -419,7 +419,7 @@ module _ (w : World) (b : Books) (g : Records) (law : Inv w b g) where
           (e : LinkEnd) × ((inward_edge r).decaying ≡ Some e) × (e.link ≡ inner_link p) × (e.side ≡ A)
       go true e =
           let d : HasEnd (inward_edge r).primary (inner_link p) A = has_link-tells _ _ _ e in
-          let none = sym (law.positions.inward_primary k r d.end here d.there) in
+          let none = sym ((law.positions.each k r here).inward_primary d.end d.there) in
           absurd (none-some o (none ∙ ap (bypass_of g) d.on_link ∙ bypass_of-inner g p ∙ by))
       go false e = let d : HasEnd (inward_edge r).decaying (inner_link p) A = has_link-tells _ _ _ (grind (arith, e, on)) in
           (d.end, d.there, d.on_link, d.at_side)
@@ -484,7 +484,7 @@ module _ (w : World) (b : Books) (g : Records) (law : Inv w b g) where
           nat_le 4 (g.bypass o).stage ≡ c → Knows w (inner_link p) A (g.bypass o).accepted_at
       go e true h =
           let owns : g.begun k ≡ Some o = ap g.begun (sym proxy) ∙ law.positions.proxy_begun o begun in
-          InwardTo k r e.0 here e.1 (law.positions.inward_to k r e.0 o here e.1 owns ∙ known_from-yes 4 _ _ (grind (arith, h, nat_tests)))
+          InwardTo k r e.0 here e.1 ((law.positions.each k r here).inward_to e.0 o e.1 owns ∙ known_from-yes 4 _ _ (grind (arith, h, nat_tests)))
           e.2 e.3
       go e false h =
           let st : (g.bypass o).stage ≡ 3 = grind (arith, h, late, nat_tests) in

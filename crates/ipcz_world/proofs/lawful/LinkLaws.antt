@@ -8,12 +8,12 @@ use Rattle.std.proofs.lemmas.Bool.Decides.{nat_tests}
 use Rattle.ipcz_world.proofs.views.Telling.{peer_told, accept_told}
 use Rattle.std.proofs.Common.{true≢false}
 use Rattle.ipcz_world.proofs.weights.OfRecords.{none_stable}
-use Rattle.std.specs.Prelude.{◌≡◌, ◌≤◌, ℕ, Bool, true, false, not, Option, Some, None, is_some, refl}
+use Rattle.std.specs.Prelude.{◌≡◌, ◌≤◌, ℕ, Bool, true, false, not, Some, is_some, refl}
 use Rattle.std.proofs.Common.{arith, ap, subst, ◌∙◌, sym, inl, inr}
 use Rattle.std.proofs.lemmas.Option.{same_Some}
 use Rattle.ipcz_world.proofs.Vocabulary.{Side, A, B, Central, LinkEnd, has, opposite, same_side, Router, inward_edge, World, Key, word_at}
 use Rattle.ipcz_world.proofs.Vocabulary.{router_at, Books, Records, is_linked, is_begun, side_router, proxy_side, across_side, bypass_of}
-use Rattle.ipcz_world.proofs.Vocabulary.{passes, key_passes, has_primary, IsRecorded, is_outward, Inv}
+use Rattle.ipcz_world.proofs.Vocabulary.{has_primary, IsRecorded, is_outward, Inv}
 use Rattle.ipcz_word.specs.Word.{is_free}
 use Rattle.ipcz_world.proofs.frames.RecordRules.{bypass_of-central, record_rules}
 use Rattle.ipcz_world.specs.Standing.{has_inward_primary}
@@ -21,29 +21,7 @@ use Rattle.ipcz_world.specs.Laws.{There, LinkLaw, IsBypassed, BypassLaw}
 use Rattle.ipcz_world.proofs.facts.LinkTests.{same_side-opposite}
 use Rattle.ipcz_world.proofs.facts.Lengths.{same_side-itself, HasEnd, has_link-tells}
 use Rattle.ipcz_world.proofs.views.Telling.{old_begun}
-
--- a router is known, stands, and passes a test
-pub record Passes (w : World) (o : Option Key) (test : Router → Bool) : Type 0 where
-  pub key : Key
-  pub router : Router
-  pub known : o ≡ Some key
-  pub here : router_at w key ≡ Some router
-  pub passed : test router ≡ true
-
-pub passes-tells : (w : World) (o : Option Key) (test : Router → Bool) → key_passes w o test ≡ true → Passes w o test
-unfolding key_passes passes
-passes-tells w None test h = absurd (grind (arith, h))
-passes-tells w (Some k) test h = go (router_at w k) refl h
-  where
-    go : (o : Option Router) → router_at w k ≡ o → passes o test ≡ true → Passes w (Some k) test
-    go None e h = absurd (grind (arith, h))
-    go (Some r) e h = record { key = k; router = r; known = refl; here = e; passed = h }
-
--- a test at a known router that stands
-pub passes-at : (w : World) (o : Option Key) (k : Key) (r : Router) (test : Router → Bool) → o ≡ Some k → router_at w k ≡ Some r →
-    key_passes w o test ≡ test r
-unfolding key_passes passes
-passes-at w o k r test e f = rw (e, f) refl
+use Rattle.ipcz_world.proofs.views.Passing.{Passes, passes-tells, passes-at}
 
 -- a router whose outward primary link is the word's
 pub record IsOn (w : World) (g : Records) (k : Key) (r : Router) (i : ℕ) (s : Side) : Type 0 where
@@ -58,7 +36,7 @@ pub on_tells : (w : World) (b : Books) (g : Records) (k : Key) (r : Router) (i :
     has_primary (Central i) s r ≡ true → IsOn w g k r i s
 on_tells w b g k r i s law here on =
     let e : HasEnd r.outward.primary (Central i) s = has_link-tells r.outward.primary (Central i) s on in
-    let rec : IsRecorded w g k r e.end = law.links.primary k r e.end here e.there in
+    let rec : IsRecorded w g k r e.end = (law.links k r here).primary e.end e.there in
     record {
       end = e.end;
       is = e.there;
@@ -72,8 +50,8 @@ on_tells w b g k r i s law here on =
 across_there : (w : World) (b : Books) (g : Records) (k : Key) (r : Router) (i : ℕ) (s : Side) → Inv w b g → router_at w k ≡ Some r →
     IsOn w g k r i s → is_begun (g.bypass i) ≡ true → (s ≡ across_side g i) × (r.marked ≡ true) × (r.holds ≡ false)
 across_there w b g k r i s law here on begun =
-    let side : s ≡ across_side g i = sym on.side ∙ law.positions.primary_across k r on.end i here on.is on.link begun in
-    let early : (g.bypass i).stage ≤ 2 = law.positions.primary_old k r on.end i here on.is on.link begun in
+    let side : s ≡ across_side g i = sym on.side ∙ (law.positions.each k r here).primary_across on.end i on.is on.link begun in
+    let early : (g.bypass i).stage ≤ 2 = (law.positions.each k r here).primary_old on.end i on.is on.link begun in
     let known : side_router g (Central i) (across_side g i) ≡ Some k = rw side at on.router in
     let marked : r.marked ≡ true = sym (passes-at w _ k r (λ x. x.marked) known here) ∙ law.stages.across_marked i begun early in
     let unheld : not r.holds ≡ true = sym (passes-at w _ k r (λ x. not x.holds) known here) ∙ law.stages.across_free i begun early in
@@ -142,7 +120,7 @@ free_there w b g i s law h = go (is_linked (g.owner i)) (is_begun (g.bypass i)) 
           here = p.here;
           on = sym (passes-at w (Some p.key) p.key p.router (has_primary (Central i) s) refl p.here) ∙ law.stands.central i s p.key l n
               still p.known;
-          still = law.shape.marked_still p.key p.router p.here p.passed;
+          still = (law.shape p.key p.router p.here).marked_still p.passed;
         }
 
     go : (c d : Bool) → is_linked (g.owner i) ≡ c → is_begun (g.bypass i) ≡ d → There w i s
@@ -183,7 +161,7 @@ begun_bypassed w b g i law begun = record {
         c ≡ false
     inward k r here true e =
         let t : HasEnd (inward_edge r).primary (Central i) (proxy_side g i) = has_link-tells _ _ _ e in
-        absurd (not_inward t.end (law.links.inward_primary_inward k r t.end here t.there) t.on_link)
+        absurd (not_inward t.end ((law.links k r here).inward_primary_inward t.end t.there) t.on_link)
     inward k r here false e = refl
 
     apart : (s : Side) → s ≡ opposite s → ⊥
@@ -198,8 +176,8 @@ begun_bypassed w b g i law begun = record {
 pub bypass_law : (w : World) (b : Books) (g : Records) → Inv w b g → BypassLaw w
 unfolding is_outward
 bypass_law w b g law = record {
-  outward = λ k r e i here off on. begun_bypassed w b g i law (begun i (rw on at (law.positions.decaying k r e here off)));
-  inward = λ k r e i here off on. absurd (grind (arith, law.links.inward_decaying_inward k r e here off, on));
+  outward = λ k r e i here off on. begun_bypassed w b g i law (begun i (rw on at ((law.positions.each k r here).decaying e off)));
+  inward = λ k r e i here off on. absurd (grind (arith, (law.links k r here).inward_decaying_inward e off, on));
   message = λ from to i m o u names. begun_bypassed w b g o law (old_begun w g from to i m o law.told u names);
   source = law.words.source;
   begun_source = λ from to i link s old target fresh u. let at = peer_told w g from to i old link s target fresh law.told u in

@@ -219,15 +219,15 @@ router-serial w b g n s act a law ln is = go (router_in (node_at w n) s) refl
         (way_out r ≡ Some link) ⊎ ((way_in r ≡ Some link) ⊎ (r.outward.primary ≡ Some link)) → link.other < w.count
     stays r here link h = elim h [
       | inl e ↦ elim (choose-in r.outward r.out_queue.current link e) [
-        | inl d ↦ at (law.links.decaying (record { node = n; serial = s }) r link here d)
-        | inr d ↦ at (law.links.primary (record { node = n; serial = s }) r link here d)
+        | inl d ↦ at ((law.links (record { node = n; serial = s }) r here).decaying link d)
+        | inr d ↦ at ((law.links (record { node = n; serial = s }) r here).primary link d)
       ]
       | inr f ↦ elim f [
         | inl e ↦ elim (choose-in (inward_edge r) r.in_queue.current link e) [
-          | inl d ↦ at (law.links.inward_decaying (record { node = n; serial = s }) r link here d)
-          | inr d ↦ at (law.links.inward_primary (record { node = n; serial = s }) r link here d)
+          | inl d ↦ at ((law.links (record { node = n; serial = s }) r here).inward_decaying link d)
+          | inr d ↦ at ((law.links (record { node = n; serial = s }) r here).inward_primary link d)
         ]
-        | inr d ↦ at (law.links.primary (record { node = n; serial = s }) r link here d)
+        | inr d ↦ at ((law.links (record { node = n; serial = s }) r here).primary link d)
       ]
     ]
       where
@@ -327,13 +327,13 @@ module _ (w : World) (b : Books) (g : Records) (law : Inv w b g) (alone : IsAlon
   terminal k r here = go (is_terminal r) refl
     where
       primary : (o : Option LinkEnd) → (inward_edge r).primary ≡ o → is_terminal r ≡ false → ⊥
-      primary None q e = let t = some_is (g.begun k) (law.positions.begun k r here (grind (arith, e, q))) in
+      primary None q e = let t = some_is (g.begun k) ((law.positions.each k r here).begun (grind (arith, e, q))) in
           never t.0 (law.positions.begun_stage k t.0 t.1)
       primary (Some x) q e = at x.link refl
         where
           at : (l : LinkId) → x.link ≡ l → ⊥
-          at (Central i) z = grind (arith, law.links.inward_primary_inward k r x here q, z)
-          at (Peripheral n y) z = not_recorded n y (ap (is_recorded w g) (sym z) ∙ (law.links.inward_primary k r x here q).recorded)
+          at (Central i) z = grind (arith, (law.links k r here).inward_primary_inward x q, z)
+          at (Peripheral n y) z = not_recorded n y (ap (is_recorded w g) (sym z) ∙ ((law.links k r here).inward_primary x q).recorded)
 
       go : (c : Bool) → is_terminal r ≡ c → is_terminal r ≡ true
       go true e = e
@@ -346,8 +346,8 @@ module _ (w : World) (b : Books) (g : Records) (law : Inv w b g) (alone : IsAlon
   still k r here (Some d) q = absurd (at d.link refl)
     where
       at : (l : LinkId) → d.link ≡ l → ⊥
-      at (Central i) z = grind (arith, law.positions.decaying k r d here q, z, not_begun i)
-      at (Peripheral n y) z = not_recorded n y (ap (is_recorded w g) (sym z) ∙ (law.links.decaying k r d here q).recorded)
+      at (Central i) z = grind (arith, (law.positions.each k r here).decaying d q, z, not_begun i)
+      at (Peripheral n y) z = not_recorded n y (ap (is_recorded w g) (sym z) ∙ ((law.links k r here).decaying d q).recorded)
 
   module _ (pair : ℕ) (linked : is_linked (g.owner pair) ≡ true) (own : (g.central pair).pair ≡ pair) (t : Side)
       (open_ : is_closed b (end_at pair t) ≡ false) where
@@ -411,13 +411,13 @@ module _ (w : World) (b : Books) (g : Records) (law : Inv w b g) (alone : IsAlon
         is_end = same_end-tells q.0.end (end_at pair s) (and_second (is_terminal q.0) (same_end q.0.end (end_at pair s)) q.2)
 
         p : (p : LinkEnd) × (q.0.outward.primary ≡ Some p)
-        p = some_is q.0.outward.primary (primed q.0 (law.shape.role k q.0 q.1) (terminal k q.0 q.1))
+        p = some_is q.0.outward.primary (primed q.0 ((law.shape k q.0 q.1).role) (terminal k q.0 q.1))
           where
             primed : (r : Router) → has_role r ≡ true → is_terminal r ≡ true → is_some r.outward.primary ≡ true
             primed r h e = grind (arith, h, e)
 
         at : IsRecorded w g k q.0 p.0
-        at = law.links.primary k q.0 p.0 q.1 p.1
+        at = (law.links k q.0 q.1).primary p.0 p.1
 
         go : (l : LinkId) → p.0.link ≡ l → IsTerminalOn w pair pair s
         go (Peripheral n x) e = absurd (not_recorded n x (ap (is_recorded w g) (sym e) ∙ at.recorded))

@@ -146,7 +146,7 @@ out-delivered w b g k r law flagged quiet here t n = go (item_at r.out_queue n) 
     on_node = law.counts.on_node k r here
 
     primary : is_some r.outward.primary ≡ true
-    primary = grind (arith, law.shape.role k r here, t)
+    primary = grind (arith, (law.shape k r here).role, t)
 
     none : (o : Option Item) → current_item r.out_queue ≡ o → current_item r.out_queue ≡ None
     none None e = e
@@ -167,7 +167,7 @@ out-delivered w b g k r law flagged quiet here t n = go (item_at r.out_queue n) 
     go None e = e
     go (Some item) e = absurd (omega (
       arith,
-      law.ordered.out k r n item here e,
+      (law.ordered k r here).out n item e,
       (out_numbers w b g k r n item law.conserved on_node here e).1,
       law.conserved.reach k r here t,
       reached,

@@ -57,7 +57,7 @@ module _ (w : World) (b : Books) (g : Records) (law : Inv w b g) (quiet : IsQuie
         where
           at : (c : Bool) → is_begun (g.bypass i) ≡ c → bypass_of g (Central i) ≡ None
           at false f = rw f refl
-          at true f = absurd (omega (arith, settled i f, law.positions.primary_old k r e i here on q f))
+          at true f = absurd (omega (arith, settled i f, (law.positions.each k r here).primary_old e i on q f))
       go (Peripheral n x) q = ap (bypass_of g) q ∙ at (g.peripheral (record { node = n; serial = x })).by refl
         where
           at : (o : Option ℕ) → (g.peripheral (record { node = n; serial = x })).by ≡ o → bypass_of g (Peripheral n x) ≡ None
@@ -65,5 +65,5 @@ module _ (w : World) (b : Books) (g : Records) (law : Inv w b g) (quiet : IsQuie
           at (Some o) f = absurd (omega (
             arith,
             settled o (law.stands.by_begun (record { node = n; serial = x }) o f),
-            law.positions.primary_inner k r e (record { node = n; serial = x }) o here on q f,
+            (law.positions.each k r here).primary_inner e (record { node = n; serial = x }) o on q f,
           ))

@@ -28,7 +28,7 @@ use Rattle.ipcz_world.specs.Records.{routes_of}
 use Rattle.ipcz_world.specs.Settling.{IsQuiet}
 use Rattle.ipcz_world.specs.Standing.{has_inward_primary}
 use Rattle.ipcz_world.specs.Structure.{is_begun_router, has_role, link_in}
-use Rattle.ipcz_world.proofs.facts.BegunLengths.{length-proxy, length-inward}
+use Rattle.ipcz_world.proofs.frames.BegunLengths.{length-proxy, length-inward}
 use Rattle.ipcz_world.proofs.facts.Lengths.{HasEnd, has_link-tells, opposite-twice, known_from-yes}
 use Rattle.ipcz_world.proofs.facts.LinkTests.{opposite_end-twice, same_end-tells}
 use Rattle.ipcz_world.proofs.facts.Reaching.{is_reach}
@@ -190,11 +190,11 @@ module _ (w : World) (b : Books) (g : Records) (law : Inv w b g) (quiet : IsQuie
           look (Some z) h = absurd (by (is_begun_router y) refl)
             where
               low : y.out_queue.current ≤ n
-              low = law.ordered.out q y n z at h
+              low = (law.ordered q y at).out n z h
 
               by : (c : Bool) → is_begun_router y ≡ c → ⊥
               by false f =
-                  let first : is_some y.outward.primary ≡ true = primed y (law.shape.role q y at) f in
+                  let first : is_some y.outward.primary ≡ true = primed y ((law.shape q y at).role) f in
                   let none : current_item y.out_queue ≡ None = out_stuck q y at (choose-some y.outward y.out_queue.current first) in
                   elim (outward_lacks w b g law quiet ranked flagged (ranked.rank q + 1) q y y.out_queue.current at first (omega arith)
                   (record { current = omega arith; none = none })) [
@@ -225,7 +225,7 @@ module _ (w : World) (b : Books) (g : Records) (law : Inv w b g) (quiet : IsQuie
                   way is l (Some d) a =
                       let named = bypassed.proxy-outward law is.by d a in
                       choose-decaying y.outward y.out_queue.current (g.bypass is.old).taken_at (ap is_some a)
-                      (law.positions.own_to q y d is.old at a named.link named.side
+                      ((law.positions.each q y at).own_to d is.old a named.link named.side
                       ∙ known_from-yes 4 (g.bypass is.old).stage (g.bypass is.old).taken_at (omega (arith, is.stage))) l
 
       inns : (q : Key) (y : Router) → router_at w q ≡ Some y → opposite_end y.end ≡ opposite_end e → item_at y.in_queue n ≡ None
@@ -239,7 +239,7 @@ module _ (w : World) (b : Books) (g : Records) (law : Inv w b g) (quiet : IsQuie
           look (Some z) h = absurd (by (is_terminal y) (is_begun_router y) refl refl)
             where
               low : y.in_queue.current ≤ n
-              low = law.ordered.inn q y n z at h
+              low = (law.ordered q y at).inn n z h
 
               by : (t c : Bool) → is_terminal y ≡ t → is_begun_router y ≡ c → ⊥
               by true c t f =
@@ -280,7 +280,7 @@ module _ (w : World) (b : Books) (g : Records) (law : Inv w b g) (quiet : IsQuie
                   ))
                   way is l (Some d) a =
                       choose-decaying (inward_edge y) y.in_queue.current (g.bypass is.old).accepted_at (ap is_some a)
-                      (law.positions.inward_to q y d is.old at a (bypassed.proxy-begun law is.by)
+                      ((law.positions.each q y at).inward_to d is.old a (bypassed.proxy-begun law is.by)
                       ∙ known_from-yes 4 (g.bypass is.old).stage (g.bypass is.old).accepted_at (omega (arith, is.stage))) l
 
       go : (o : Option Item) → slice_get (b.put (opposite_end e)) n ≡ o → ⊥
@@ -377,7 +377,7 @@ module _ (w : World) (b : Books) (g : Records) (law : Inv w b g) (quiet : IsQuie
   still k r here whole = go r.outward.decaying refl
     where
       p : (p : LinkEnd) × (r.outward.primary ≡ Some p)
-      p = some_is r.outward.primary (primed r (law.shape.role k r here) whole)
+      p = some_is r.outward.primary (primed r ((law.shape k r here).role) whole)
 
       -- with both lengths it could be given up
       ends : (d : LinkEnd) (a c fresh : ℕ) → r.outward.decaying ≡ Some d → r.outward.length_to ≡ Some a → r.outward.length_from ≡ Some c →
@@ -440,22 +440,22 @@ module _ (w : World) (b : Books) (g : Records) (law : Inv w b g) (quiet : IsQuie
       go None e = e
       go (Some d) e = absurd (elim (outward_case w b g law k r d here e) [
         | inl c ↦ elim c.3 [
-          | inl own ↦ none-some p.0 (sym (law.positions.own_alone k r d c.0 here e c.1 own) ∙ p.1)
+          | inl own ↦ none-some p.0 (sym ((law.positions.each k r here).own_alone d c.0 e c.1 own) ∙ p.1)
           | inr far ↦ ends d (g.bypass c.0).accepted_at (g.bypass c.0).taken_at (g.bypass c.0).fresh e
-              (law.positions.across_to k r d c.0 here e c.1 far) (law.positions.across_from k r d c.0 here e c.1 far)
+              ((law.positions.each k r here).across_to d c.0 e c.1 far) ((law.positions.each k r here).across_from d c.0 e c.1 far)
               (ap (λ l. side_length g l (opposite d.side)) c.1 ∙ ap (λ s. side_length g (Central c.0) (opposite s)) far
               ∙ ap (side_length g (Central c.0)) (opposite-twice (proxy_side g c.0))
               ∙ length-proxy g c.0 (omega (arith, settled w b g law quiet c.0 c.2)))
-              (law.positions.across_fresh k r d c.0 here e c.1 far)
+              ((law.positions.each k r here).across_fresh d c.0 e c.1 far)
         ]
         | inr c ↦ let stage = settled w b g law quiet c.1 (law.stands.by_begun c.0 c.1 c.4) in
             ends d (g.bypass c.1).taken_at (g.bypass c.1).accepted_at (g.bypass c.1).fresh e
-            (law.positions.inner_to k r d c.0 c.1 here e c.2 c.4)
-            (law.positions.inner_from k r d c.0 c.1 here e c.2 c.4
+            ((law.positions.each k r here).inner_to d c.0 c.1 e c.2 c.4)
+            ((law.positions.each k r here).inner_from d c.0 c.1 e c.2 c.4
             ∙ known_from-yes 5 (g.bypass c.1).stage (g.bypass c.1).accepted_at (omega (arith, stage)))
             (ap (λ l. side_length g l (opposite d.side)) c.2 ∙ ap (λ s. side_length g (inner_link c.0) (opposite s)) c.3
             ∙ length-inward g c.0 c.1 c.4 (omega (arith, stage)))
-            (law.positions.inner_fresh k r d c.0 c.1 here e c.2 c.4)
+            ((law.positions.each k r here).inner_fresh d c.0 c.1 e c.2 c.4)
       ])
 
   -- no proxy has begun a bypass: it could finish, or leave
@@ -476,7 +476,7 @@ module _ (w : World) (b : Books) (g : Records) (law : Inv w b g) (quiet : IsQuie
 
           lone : (l : LinkId) (s : Side) → StandsOver w b g law quiet ranked flagged k r here is l s → ⊥
           lone l s x = none-some x.end (sym (still x.key x.router x.here
-              (whole x.router x.primary (law.shape.role x.key x.router x.here))) ∙ x.decaying)
+              (whole x.router x.primary ((law.shape x.key x.router x.here).role))) ∙ x.decaying)
             where
               whole : (z : Router) → is_some z.outward.primary ≡ true → has_role z ≡ true → is_begun_router z ≡ false
               whole z p h = at (is_terminal z) (is_some (inward_edge z).primary) refl refl
@@ -498,18 +498,18 @@ module _ (w : World) (b : Books) (g : Records) (law : Inv w b g) (quiet : IsQuie
                   let named = bypassed.proxy-outward law is.by d p in
                   not_both (can_finish r.outward r.out_queue.current (reach r.in_queue))
                   (finishes r.outward d (g.bypass is.old).taken_at (g.bypass is.old).accepted_at r.out_queue.current (reach r.in_queue) p
-                  (law.positions.own_to k r d is.old here p named.link named.side
+                  ((law.positions.each k r here).own_to d is.old p named.link named.side
                   ∙ known_from-yes 4 (g.bypass is.old).stage (g.bypass is.old).taken_at (omega (arith, is.stage)))
-                  (law.positions.own_from k r d is.old here p named.link named.side
+                  ((law.positions.each k r here).own_from d is.old p named.link named.side
                   ∙ known_from-yes 4 (g.bypass is.old).stage (g.bypass is.old).accepted_at (omega (arith, is.stage)))
                   taken (omega (arith, accepted, (is_reach r.in_queue).from))) (idle k r acts.FinishOut here)
               links None (Some d) p q =
                   not_both (can_finish (inward_edge r) r.in_queue.current (reach r.out_queue))
                   (finishes (inward_edge r) d (g.bypass is.old).accepted_at (g.bypass is.old).taken_at r.in_queue.current
                   (reach r.out_queue) q
-                  (law.positions.inward_to k r d is.old here q (bypassed.proxy-begun law is.by)
+                  ((law.positions.each k r here).inward_to d is.old q (bypassed.proxy-begun law is.by)
                   ∙ known_from-yes 4 (g.bypass is.old).stage (g.bypass is.old).accepted_at (omega (arith, is.stage)))
-                  (law.positions.inward_from k r d is.old here q (bypassed.proxy-begun law is.by)
+                  ((law.positions.each k r here).inward_from d is.old q (bypassed.proxy-begun law is.by)
                   ∙ known_from-yes 4 (g.bypass is.old).stage (g.bypass is.old).taken_at (omega (arith, is.stage)))
                   accepted (omega (arith, taken, (is_reach r.out_queue).from))) (idle k r acts.FinishIn here)
               links None None p q = left (idle k r acts.Leave here) (bypassed.proxy-alone law is.by) (bypassed.proxy-unprimed law is.by)
@@ -519,7 +519,7 @@ module _ (w : World) (b : Books) (g : Records) (law : Inv w b g) (quiet : IsQuie
 
   -- nothing decays
   pub calm : (k : Key) (r : Router) → router_at w k ≡ Some r → decays r ≡ false
-  calm k r here = no_decay r (law.shape.role k r here) (none_begun k r here) (still k r here (none_begun k r here))
+  calm k r here = no_decay r ((law.shape k r here).role) (none_begun k r here) (still k r here (none_begun k r here))
     where
       no_decay : (r : Router) → has_role r ≡ true → is_begun_router r ≡ false → r.outward.decaying ≡ None → decays r ≡ false
       no_decay r h f d = at (is_terminal r) (is_some (inward_edge r).primary) refl refl
@@ -553,11 +553,11 @@ module _ (w : World) (b : Books) (g : Records) (law : Inv w b g) (quiet : IsQuie
 
       by : (p s : Bool) → (p || s) ≡ true → is_proxy r ≡ p → is_done r ≡ s → r.holds ≡ true → ⊥
       by true s h p q e = begins (idle k r acts.Begin here) p e
-          (law.shape.marked_central k r here (law.shape.holds_marked k r here e)) (calm k r here)
+          ((law.shape k r here).marked_central ((law.shape k r here).holds_marked e)) (calm k r here)
       by false true h p q e = retires (idle k r acts.Retire here) q e
-          (law.shape.marked_central k r here (law.shape.holds_marked k r here e)) (calm k r here)
+          ((law.shape k r here).marked_central ((law.shape k r here).holds_marked e)) (calm k r here)
       by false false h p q e = cc
 
       go : (c : Bool) → r.holds ≡ c → r.holds ≡ false
       go false e = e
-      go true e = absurd (by (is_proxy r) (is_done r) (law.shape.holds_fit k r here e) refl refl e)
+      go true e = absurd (by (is_proxy r) (is_done r) ((law.shape k r here).holds_fit e) refl refl e)

@@ -146,7 +146,7 @@ module _ (w : World) (b : Books) (g : Records) (law : Inv w b g) (quiet : IsQuie
   ]
     where
       p : (p : LinkEnd) × (r.outward.primary ≡ Some p)
-      p = some_is r.outward.primary (primed r (law.shape.role k r here) (none_begun w b g law quiet ranked flagged k r here))
+      p = some_is r.outward.primary (primed r ((law.shape k r here).role) (none_begun w b g law quiet ranked flagged k r here))
 
       done : is_done r ≡ true
       done = all (is_terminal r) r.closed r.mark_dropped (is_drained r.out_queue) terminal closed dropped
@@ -170,7 +170,7 @@ module _ (w : World) (b : Books) (g : Records) (law : Inv w b g) (quiet : IsQuie
   central_dry k r here proxy on = go r.dry refl
     where
       p : (p : LinkEnd) × (r.outward.primary ≡ Some p)
-      p = some_is r.outward.primary (primed r (law.shape.role k r here) (none_begun w b g law quiet ranked flagged k r here))
+      p = some_is r.outward.primary (primed r ((law.shape k r here).role) (none_begun w b g law quiet ranked flagged k r here))
 
       go : (t : Bool) → r.dry ≡ t → r.dry ≡ true
       go true e = e
@@ -200,7 +200,7 @@ module _ (w : World) (b : Books) (g : Records) (law : Inv w b g) (quiet : IsQuie
       go (outer_router w b g law quiet ranked flagged k r p.0 here p.1) (λ q z at is low. no_proxy_below n q z at is low)
     where
       p : (p : LinkEnd) × (r.outward.primary ≡ Some p)
-      p = some_is r.outward.primary (primed r (law.shape.role k r here) (none_begun w b g law quiet ranked flagged k r here))
+      p = some_is r.outward.primary (primed r ((law.shape k r here).role) (none_begun w b g law quiet ranked flagged k r here))
 
       go : HasOuter w b g law quiet ranked flagged k r ⊎
           (HasAcross w b g law quiet ranked flagged k r ⊎ (is_retired b (opposite_end r.end) ≡ true)) → ((q : Key) (z : Router) → router_at w q ≡ Some z → is_proxy z ≡ true → ranked.rank q < n → ⊥) → ⊥
@@ -230,7 +230,7 @@ module _ (w : World) (b : Books) (g : Records) (law : Inv w b g) (quiet : IsQuie
       end = same_end-tells t.0.end (end_at pair s) (and_second (is_terminal t.0) (same_end t.0.end (end_at pair s)) t.2)
 
       p : (p : LinkEnd) × (t.0.outward.primary ≡ Some p)
-      p = some_is t.0.outward.primary (primed t.0 (law.shape.role k t.0 t.1) (none_begun w b g law quiet ranked flagged k t.0 t.1))
+      p = some_is t.0.outward.primary (primed t.0 ((law.shape k t.0 t.1).role) (none_begun w b g law quiet ranked flagged k t.0 t.1))
 
       go : HasOuter w b g law quiet ranked flagged k t.0 ⊎
           (HasAcross w b g law quiet ranked flagged k t.0 ⊎ (is_retired b (opposite_end t.0.end) ≡ true)) →
@@ -414,7 +414,7 @@ module _ (w : World) (b : Books) (g : Records) (law : Inv w b g) (quiet : IsQuie
       terminal = no_proxies k r here
 
       p : (p : LinkEnd) × (r.outward.primary ≡ Some p)
-      p = some_is r.outward.primary (primed r (law.shape.role k r here) (none_begun w b g law quiet ranked flagged k r here))
+      p = some_is r.outward.primary (primed r ((law.shape k r here).role) (none_begun w b g law quiet ranked flagged k r here))
 
       sink : r.closed ≡ true
       sink = law.conserved.sink k r here terminal ∙ closed

@@ -22,20 +22,21 @@ use Rattle.ipcz_world.specs.Records.{At, Retired, is_left}
 use Rattle.ipcz_world.specs.Settling.{IsQuiet}
 use Rattle.ipcz_world.specs.Standing.{has_inward_primary}
 use Rattle.ipcz_world.specs.Structure.{is_begun_router, has_role, link_in}
-use Rattle.ipcz_world.proofs.facts.BegunLengths.{length-proxy, length-inward}
+use Rattle.ipcz_world.proofs.frames.BegunLengths.{length-proxy, length-inward}
 use Rattle.ipcz_world.proofs.facts.Lengths.{HasEnd, has_link-tells, has_link-some, opposite-twice, length-live, length-none}
 use Rattle.ipcz_world.proofs.facts.Lengths.{has_passed-none, has_passed-some}
 use Rattle.ipcz_world.proofs.facts.Reaching.{is_reach}
 use Rattle.ipcz_world.proofs.facts.Tests.{some_is}
 use Rattle.ipcz_world.proofs.frames.RecordRules.{bypass_of-inner}
 use Rattle.ipcz_world.proofs.lawful.LengthLaws.{attached_view}
-use Rattle.ipcz_world.proofs.lawful.LinkLaws.{Passes, passes-tells, on_tells}
+use Rattle.ipcz_world.proofs.lawful.LinkLaws.{on_tells}
 use Rattle.ipcz_world.proofs.lawful.QuietBypasses.{settled, known_side, primary_live}
 use Rattle.ipcz_world.proofs.sends.Moved.{passes_tells}
 use Rattle.ipcz_world.proofs.facts.Tests.{not_both}
 use Rattle.ipcz_world.proofs.views.LeftSides.{not_left}
 use Rattle.ipcz_world.proofs.lawful.Quiet.{nothing-possible}
 use Rattle.ipcz_world.proofs.views.Bypassed as bypassed
+use Rattle.ipcz_world.proofs.views.Passing.{Passes, passes-tells}
 
 -- a queue hasn't passed a number, and has no item of it
 pub record Lacks (q : Queue Item) (m : ℕ) : Type 0 where
@@ -147,13 +148,13 @@ module _ (w : World) (b : Books) (g : Records) (law : Inv w b g) (quiet : IsQuie
   outer_router k r e here on = go e.link e.side refl refl
     where
       rec : IsRecorded w g k r e
-      rec = law.links.primary k r e here on
+      rec = (law.links k r here).primary e on
 
       left : (l : LinkId) (s : Side) → e.link ≡ l → e.side ≡ s → is_left g l (opposite s) ≡ true → is_retired b (opposite_end r.end) ≡ true
       left l s p q h = law.gones.left_primary k r e here on (ap (λ z. is_left g z (opposite e.side)) p ∙ ap (λ z. is_left g l (opposite z)) q ∙ h)
 
       go : (l : LinkId) (s : Side) → e.link ≡ l → e.side ≡ s → HasOuter k r ⊎ (HasAcross k r ⊎ (is_retired b (opposite_end r.end) ≡ true))
-      go (Peripheral n x) A l t = absurd (grind (arith, law.links.primary_outward k r e here on, l, t))
+      go (Peripheral n x) A l t = absurd (grind (arith, (law.links k r here).primary_outward e on, l, t))
       go (Peripheral n x) B l t = by (is_left g (Peripheral n x) A) refl
         where
           p : Key
@@ -195,7 +196,7 @@ module _ (w : World) (b : Books) (g : Records) (law : Inv w b g) (quiet : IsQuie
               d = has_link-tells (inward_edge proxy.router).primary (Peripheral n x) A proxy.passed
 
               far : IsRecorded w g proxy.key proxy.router d.end
-              far = law.links.inward_primary proxy.key proxy.router d.end proxy.here d.there
+              far = (law.links proxy.key proxy.router proxy.here).inward_primary d.end d.there
       go (Central i) s l t = by (is_left g (Central i) (opposite s)) refl
         where
           own : has_primary (Central i) s r ≡ true
@@ -212,7 +213,7 @@ module _ (w : World) (b : Books) (g : Records) (law : Inv w b g) (quiet : IsQuie
 
           unbegun : (c : Bool) → is_begun (g.bypass i) ≡ c → is_begun (g.bypass i) ≡ false
           unbegun false f = f
-          unbegun true f = absurd (omega (arith, settled w b g law quiet i f, law.positions.primary_old k r e i here on l f))
+          unbegun true f = absurd (omega (arith, settled w b g law quiet i f, (law.positions.each k r here).primary_old e i on l f))
 
           across : (q : Key) × (side_router g (Central i) (opposite s) ≡ Some q)
           across = known_side w b g law quiet (Central i) (opposite s) recorded
@@ -243,13 +244,13 @@ module _ (w : World) (b : Books) (g : Records) (law : Inv w b g) (quiet : IsQuie
               d = has_link-tells stands.0.outward.primary (Central i) (opposite s) stands.2
 
               far : IsRecorded w g across.0 stands.0 d.end
-              far = law.links.primary across.0 stands.0 d.end stands.1 d.there
+              far = (law.links across.0 stands.0 stands.1).primary d.end d.there
 
   whole_inward : (k : Key) (z : Router) (l : LinkId) → router_at w k ≡ Some z → has_inward_primary l A z ≡ true →
       (is_begun_router z ≡ false) × (is_some z.outward.primary ≡ true)
   whole_inward k z l here on =
       let e : HasEnd (inward_edge z).primary l A = has_link-tells (inward_edge z).primary l A on in
-      (grind (arith, e.there), role z (law.shape.role k z here) e.end e.there)
+      (grind (arith, e.there), role z ((law.shape k z here).role) e.end e.there)
     where
       role : (z : Router) → has_role z ≡ true → (e : LinkEnd) → (inward_edge z).primary ≡ Some e → is_some z.outward.primary ≡ true
       role z h e q = grind (arith, h, q)
@@ -291,8 +292,8 @@ module _ (w : World) (b : Books) (g : Records) (law : Inv w b g) (quiet : IsQuie
   inner_router k r e here on = go e.link e.side refl refl
     where
       go : (l : LinkId) (s : Side) → e.link ≡ l → e.side ≡ s → HasInner k r
-      go (Central i) s l t = absurd (grind (arith, law.links.inward_primary_inward k r e here on, l))
-      go (Peripheral n x) B l t = absurd (grind (arith, law.links.inward_primary_inward k r e here on, l, t))
+      go (Central i) s l t = absurd (grind (arith, (law.links k r here).inward_primary_inward e on, l))
+      go (Peripheral n x) B l t = absurd (grind (arith, (law.links k r here).inward_primary_inward e on, l, t))
       go (Peripheral n x) A l t = record {
         node = n;
         serial = x;
@@ -314,7 +315,7 @@ module _ (w : World) (b : Books) (g : Records) (law : Inv w b g) (quiet : IsQuie
           p = record { node = n; serial = x }
 
           rec : IsRecorded w g k r e
-          rec = law.links.inward_primary k r e here on
+          rec = (law.links k r here).inward_primary e on
 
           own : has_inward_primary (Peripheral n x) A r ≡ true
           own = ap (λ o. has_link o (Peripheral n x) A) on ∙ has_link-some e (Peripheral n x) A l t
@@ -323,7 +324,7 @@ module _ (w : World) (b : Books) (g : Records) (law : Inv w b g) (quiet : IsQuie
           recorded = subst (λ z. is_recorded w g z ≡ true) l rec.recorded
 
           live : (g.peripheral p).by ≡ None
-          live = sym (bypass_of-inner g p) ∙ ap (bypass_of g) (sym l) ∙ law.positions.inward_primary k r e here on
+          live = sym (bypass_of-inner g p) ∙ ap (bypass_of g) (sym l) ∙ (law.positions.each k r here).inward_primary e on
 
           stays : is_left g (Peripheral n x) B ≡ false
           stays = by (is_left g (Peripheral n x) B) refl
@@ -363,14 +364,14 @@ module _ (w : World) (b : Books) (g : Records) (law : Inv w b g) (quiet : IsQuie
           d = has_link-tells stands.0.outward.primary (Peripheral n x) B stands.2
 
           far : IsRecorded w g inner.0 stands.0 d.end
-          far = law.links.primary inner.0 stands.0 d.end stands.1 d.there
+          far = (law.links inner.0 stands.0 stands.1).primary d.end d.there
 
   -- a router with an outward primary link hasn't begun a bypass
   pub not_begun : (k : Key) (r : Router) (l : LinkId) (s : Side) → router_at w k ≡ Some r → has_primary l s r ≡ true →
       is_begun_router r ≡ false
   not_begun k r l s here on =
       let e : HasEnd r.outward.primary l s = has_link-tells r.outward.primary l s on in
-      primed r (law.shape.role k r here) e.end e.there
+      primed r ((law.shape k r here).role) e.end e.there
     where
       primed : (r : Router) → has_role r ≡ true → (e : LinkEnd) → r.outward.primary ≡ Some e → is_begun_router r ≡ false
       primed r h e q = go (is_terminal r) (is_some (inward_edge r).primary) refl refl
@@ -506,7 +507,7 @@ module _ (w : World) (b : Books) (g : Records) (law : Inv w b g) (quiet : IsQuie
 
   pub begun_tells : (k : Key) (r : Router) → router_at w k ≡ Some r → is_begun_router r ≡ true → HasBegun k r
   begun_tells k r here begun =
-      let t = some_is (g.begun k) (law.positions.begun k r here begun) in
+      let t = some_is (g.begun k) ((law.positions.each k r here).begun begun) in
       let is = law.positions.begun_stage k t.0 t.1 in
       let proxy = law.positions.begun_proxy k t.0 t.1 in
       record {
@@ -568,7 +569,7 @@ module _ (w : World) (b : Books) (g : Records) (law : Inv w b g) (quiet : IsQuie
             go true e =
                 let d : HasEnd z.outward.primary (Central o) (across_side g o) = has_link-tells z.outward.primary (Central o)
                 (across_side g o) e in
-                absurd (omega (arith, is.stage, law.positions.primary_old q z d.end o at d.there d.on_link is.by.begun))
+                absurd (omega (arith, is.stage, (law.positions.each q z at).primary_old d.end o d.there d.on_link is.by.begun))
             go false e =
                 let h : has_decaying (Central o) (across_side g o) z ≡ true = or_second _ _ on e in
                 let d : HasEnd z.outward.decaying (Central o) (across_side g o) = has_link-tells z.outward.decaying (Central o)
@@ -582,7 +583,7 @@ module _ (w : World) (b : Books) (g : Records) (law : Inv w b g) (quiet : IsQuie
                   on_link = d.on_link;
                   at_side = d.at_side;
                   primary = some (link_in z.outward.primary) z.outward.primary
-                      (law.positions.across_fresh q z d.end o at d.there d.on_link d.at_side) refl;
+                      ((law.positions.each q z at).across_fresh d.end o d.there d.on_link d.at_side) refl;
                   attached = on;
                 }
               where
@@ -609,7 +610,7 @@ module _ (w : World) (b : Books) (g : Records) (law : Inv w b g) (quiet : IsQuie
             go : (c : Bool) → has_primary (inner_of g o) B z ≡ c → StandsOver (inner_of g o) B
             go true e =
                 let d : HasEnd z.outward.primary (inner_of g o) B = has_link-tells z.outward.primary (inner_of g o) B e in
-                absurd (omega (arith, is.stage, law.positions.primary_inner q z d.end (g.bypass o).inner o at d.there d.on_link by))
+                absurd (omega (arith, is.stage, (law.positions.each q z at).primary_inner d.end (g.bypass o).inner o d.there d.on_link by))
             go false e =
                 let h : has_decaying (inner_of g o) B z ≡ true = or_second _ _ on e in
                 let d : HasEnd z.outward.decaying (inner_of g o) B = has_link-tells z.outward.decaying (inner_of g o) B h in
@@ -622,7 +623,7 @@ module _ (w : World) (b : Books) (g : Records) (law : Inv w b g) (quiet : IsQuie
                   on_link = d.on_link;
                   at_side = d.at_side;
                   primary = some (link_in z.outward.primary) z.outward.primary
-                      (law.positions.inner_fresh q z d.end (g.bypass o).inner o at d.there d.on_link by) refl;
+                      ((law.positions.each q z at).inner_fresh d.end (g.bypass o).inner o d.there d.on_link by) refl;
                   attached = on;
                 }
               where
@@ -646,7 +647,7 @@ module _ (w : World) (b : Books) (g : Records) (law : Inv w b g) (quiet : IsQuie
         go x None e = absurd (omega (arith, lacks.current, below, law.proxy_numbers.out_finished o r at_proxy (omega (arith, is.stage)) e))
         go x (Some d) e =
             let n = bypassed.proxy-outward law is.by d e in
-            let rec = law.links.decaying x.key x.router x.end x.here x.decaying in
+            let rec = (law.links x.key x.router x.here).decaying x.end x.decaying in
             let far : x.router.end ≡ end_at (g.central o).pair (across_side g o) =
             rec.end ∙ ap (λ z. side_end g z x.end.side) x.on_link ∙ ap (λ z. side_end g (Central o) z) x.at_side in
             subst (λ d. IsLacked w d m) (far ∙ ap (λ p. end_at p (across_side g o)) (sym (law.bypasses.pair o is.by.begun)) ∙ sym
@@ -676,7 +677,7 @@ module _ (w : World) (b : Books) (g : Records) (law : Inv w b g) (quiet : IsQuie
         go x None e = absurd (omega (arith, lacks.current, below, law.proxy_numbers.in_finished o r at_proxy (omega (arith, is.stage)) e))
         go x (Some d) e =
             let n = bypassed.proxy-inward law is.by d e in
-            let rec = law.links.decaying x.key x.router x.end x.here x.decaying in
+            let rec = (law.links x.key x.router x.here).decaying x.end x.decaying in
             let far : x.router.end ≡ side_end g (inner_of g o) B =
             rec.end ∙ ap (λ z. side_end g z x.end.side) x.on_link in
             subst (λ d. IsLacked w d m) (far ∙ sym is.end)

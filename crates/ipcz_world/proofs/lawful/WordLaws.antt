@@ -4,57 +4,23 @@ use Rattle.ipcz_world.proofs.frames.Touching.{either}
 use Rattle.ipcz_world.proofs.facts.Tests.{and_second}
 use Rattle.ipcz_world.specs.Records.{Lost}
 use Rattle.ipcz_world.proofs.Vocabulary.{Records, Owner, Spare, Opening, Fresh, Linked, is_linked, is_begun, is_recorded, side_router}
-use Rattle.ipcz_world.proofs.Vocabulary.{side_end, across_side, Side, A, B, LinkId, Central, Peripheral, LinkEnd, Message, has, same_link}
-use Rattle.ipcz_world.proofs.Vocabulary.{has_link, Router, router_has, inward_edge, World, Key, word_at, router_at, flow, Books}
-use Rattle.ipcz_world.proofs.Vocabulary.{IsUnderWay, under_way, has_primary, IsRecorded, Links, of_bypass, control_weight, Inv}
-use Rattle.ipcz_world.proofs.facts.Lengths.{HasEnd, has_link-tells}
+use Rattle.ipcz_world.proofs.Vocabulary.{side_end, across_side, Side, A, B, LinkId, Central, Peripheral, Message, has, same_link}
+use Rattle.ipcz_world.proofs.Vocabulary.{World, Key, word_at, flow, Books}
+use Rattle.ipcz_world.proofs.Vocabulary.{IsUnderWay, under_way, has_primary, of_bypass, control_weight, Inv}
 use Rattle.ipcz_world.specs.Records.{routes_of, Unclaimed}
 use Rattle.std.specs.Prelude.{◌≡◌, ◌⊎◌, ◌&&◌, ℕ, Bool, true, false, cond, nat_eq, Option, Some, None, refl}
 use Rattle.std.proofs.Common.{arith, ap, subst, ◌∙◌, sym, inl, inr}
 use Rattle.std.proofs.lemmas.Bool.Decides.{nat_tests}
 use Rattle.std.proofs.lemmas.Option.{same_Some}
 use Rattle.ipcz_base.specs.declared.message.Message.TheVariants as messages
-use Rattle.ipcz_router.specs.Router.{outward_has, inward_has}
 use Rattle.ipcz_world.proofs.frames.RecordRules.{record_rules, unclaimed-is}
 use Rattle.ipcz_world.specs.Laws.{fresh_count, IsOnLink, names_link, WordLaw}
 use Rattle.ipcz_world.proofs.views.Telling.{IsPeer, peer_told, accept_told, stop_told, will_stop_told}
-use Rattle.ipcz_world.proofs.lawful.LinkLaws.{Passes, passes-tells}
 use Rattle.std.proofs.lemmas.Bool.{or_cases}
 use Rattle.ipcz_world.proofs.weights.Totalling.{total_below-same}
 use Rattle.ipcz_world.proofs.weights.Sums.{total_list-agree}
-
--- what a router's having a link tells
-pub record HasAt (w : World) (g : Records) (k : Key) (r : Router) (link : LinkId) (s : Side) : Type 0 where
-  pub recorded : is_recorded w g link ≡ true
-  pub router : side_router g link s ≡ Some k
-  pub end : r.end ≡ side_end g link s
-
-of_end : (w : World) (g : Records) (k : Key) (r : Router) (t : Option LinkEnd) (link : LinkId) (s : Side) → has_link t link s ≡ true →
-    ((d : LinkEnd) → t ≡ Some d → IsRecorded w g k r d) → HasAt w g k r link s
-of_end w g k r t link s h rec =
-    let e : HasEnd t link s = has_link-tells t link s h in
-    let d : IsRecorded w g k r e.end = rec e.end e.there in
-    record {
-      recorded = rw (e.on_link) at d.recorded;
-      router = rw (e.on_link, e.at_side) at d.router;
-      end = rw (e.on_link, e.at_side) at d.end;
-    }
-
-pub has_at : (w : World) (g : Records) (k : Key) (r : Router) (link : LinkId) (s : Side) → Links w g → router_at w k ≡ Some r →
-    router_has r link s ≡ true → HasAt w g k r link s
-has_at w g k r link s law here has = go (or_cases _ _ has)
-  where
-    outer : (has_link r.outward.primary link s ≡ true) ⊎ (has_link r.outward.decaying link s ≡ true) → HasAt w g k r link s
-    outer (inl t) = of_end w g k r r.outward.primary link s t (λ d. law.primary k r d here)
-    outer (inr t) = of_end w g k r r.outward.decaying link s t (λ d. law.decaying k r d here)
-
-    inner : (has_link (inward_edge r).primary link s ≡ true) ⊎ (has_link (inward_edge r).decaying link s ≡ true) → HasAt w g k r link s
-    inner (inl t) = of_end w g k r (inward_edge r).primary link s t (λ d. law.inward_primary k r d here)
-    inner (inr t) = of_end w g k r (inward_edge r).decaying link s t (λ d. law.inward_decaying k r d here)
-
-    go : (outward_has r link s ≡ true) ⊎ (inward_has r link s ≡ true) → HasAt w g k r link s
-    go (inl t) = outer (or_cases _ _ t)
-    go (inr t) = inner (or_cases _ _ t)
+use Rattle.ipcz_world.proofs.views.Passing.{Passes, passes-tells}
+use Rattle.ipcz_world.proofs.views.Having.{has_at}
 
 pub is_link : (o : Owner) → is_linked o ≡ true → o ≡ Linked
 unfolding is_linked

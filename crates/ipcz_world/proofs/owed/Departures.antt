@@ -34,7 +34,7 @@ module _ (w : World) (b : Books) (g : Records) (law : Inv w b g) (k : Key) (r : 
   at = on_tells w b g k r i s law here on
 
   rec : IsRecorded w g k r at.end
-  rec = law.links.primary k r at.end here at.is
+  rec = (law.links k r here).primary at.end at.is
 
   own : r.end ≡ end_at (g.central i).pair s
   unfolding side_end
@@ -46,7 +46,7 @@ module _ (w : World) (b : Books) (g : Records) (law : Inv w b g) (k : Key) (r : 
       go : (c : Bool) → is_begun (g.bypass i) ≡ c → is_begun (g.bypass i) ≡ false
       go false e = e
       go true e =
-          let early : (g.bypass i).stage ≤ 2 = law.positions.primary_old k r at.end i here at.is at.link e in
+          let early : (g.bypass i).stage ≤ 2 = (law.positions.each k r here).primary_old at.end i at.is at.link e in
           let late : 1 ≤ (g.bypass i).stage = grind (arith, e, nat_tests) in
           absurd (not_both (is_retired b (opposite_end r.end)) peer
           (ap (is_retired b) (ap opposite_end own) ∙ law.retired_ends.no_bypass i (opposite s) late (omega (arith, early))))

@@ -26,7 +26,7 @@ pub remembered : (w : World) (b : Books) (g : Records) → Inv w b g → AreFlag
     (k : Key) (r : Router) → router_at w k ≡ Some r → r.tried ≡ true →
     (i : ℕ) × (s : Side) × (has_primary (Central i) s r ≡ true) × HasWakerBy (λ q. q.flagged) w i s k.node
 remembered w b g law flagged agreed wakers k r here tried =
-    let t = on_word r (law.shape.marked_central k r here (agreed.tried_marked k r here tried)) in
+    let t = on_word r ((law.shape k r here).marked_central (agreed.tried_marked k r here tried)) in
     (t.0, t.1, t.2, go t.0 t.1 (wakers t.0 k r t.1 here tried t.2))
   where
     go : (i : ℕ) (s : Side) → HasWaker w i s k.node → HasWakerBy (λ q. q.flagged) w i s k.node

@@ -354,7 +354,7 @@ module _ (w : World) (b : Books) (g : Records) (law : Inv w b g) (flags : FlagsA
           u = set_word (set_router w at (wake_other r)) i (woken (word_at w i) r.end.side)
 
           rec : IsRecorded w g at r e
-          rec = law.links.primary at r e here q
+          rec = (law.links at r here).primary e q
 
           count_is : u.count ≡ w.count
           count_is = count-set_word (set_router w at (wake_other r)) i _ ∙ count-set_node w n _

@@ -42,7 +42,6 @@ use Rattle.ipcz_world.proofs.frames.Frames.{node-set_node, node-set_word, node-s
 use Rattle.ipcz_world.proofs.frames.Frames.{word-set_mail}
 use Rattle.ipcz_world.proofs.frames.Frames.{word-set_word, word-set_claimed, count-set_node, count-set_word, count-set_claimed}
 use Rattle.ipcz_world.proofs.frames.Frames.{mail-set_claimed, mail-set_word}
-use Rattle.ipcz_world.proofs.hands.BypassAsked.{asked_router}
 use Rattle.ipcz_world.proofs.hands.Handling.{IsInHand, under_way-hand}
 use Rattle.ipcz_world.proofs.lawful.LinkLaws.{on_tells}
 use Rattle.ipcz_world.proofs.routes.Routing.{next_not_linked}
@@ -56,6 +55,7 @@ use Rattle.ipcz_world.proofs.owed.Tracking.{held-is, Came, came-tracked}
 use Rattle.ipcz_world.proofs.owed.RouterWakers.{wakers-router, ranked-router, came-router}
 use Rattle.ipcz_world.specs.World.{has_unclaimed_word}
 use Rattle.ipcz_node.specs.Hands.{flushed}
+use Rattle.ipcz_world.proofs.views.Having.{has_at}
 
 -- who has tried has a waker, and ranks rise
 pub record IsOwing (w : World) : Type 0 where
@@ -239,8 +239,8 @@ module _ (w : World) (b : Books) (g : Records) (law : Inv w b g) (flags : FlagsA
         t = found_tells (node_at w k.node) (λ r. router_has r (Central i) s) f.0 f.1
 
         key : k ≡ record { node = k.node; serial = f.0.serial }
-        key = same_Some k _ (sym (asked_router w g k y (Central i) s law.links here has_it) ∙
-            asked_router w g (record { node = k.node; serial = f.0.serial }) f.0.router (Central i) s law.links t.0 t.1)
+        key = same_Some k _ (sym ((has_at w g k y (Central i) s law.links here has_it).router) ∙
+            (has_at w g (record { node = k.node; serial = f.0.serial }) f.0.router (Central i) s law.links t.0 t.1).router)
 
         serial : k.serial ≡ f.0.serial
         serial = ap (λ a. a.serial) key

@@ -91,7 +91,7 @@ module _ (w v : World) (b : Books) (g : Records) (law : Inv w b g) (flags : Flag
   own_side : own_link.0.side ≡ t
   unfolding side_end
   own_side =
-      let rec : IsRecorded w g k r own_link.0 = law.links.primary k r own_link.0 is.here own_link.1 in
+      let rec : IsRecorded w g k r own_link.0 = (law.links k r is.here).primary own_link.0 own_link.1 in
       sym (ap (λ e. e.side) (rec.end ∙ ap (λ l. side_end g l own_link.0.side) own_link.2))
 
   own_on : has_primary (Central i) t r ≡ true
@@ -270,8 +270,8 @@ module _ (w v : World) (b : Books) (g : Records) (law : Inv w b g) (flags : Flag
       wet spare true e = not_both (is_some r.spare) spare (ap is_some (flags.dry k r is.here e))
 
       kind : (c : Bool) → is_proxy r ≡ c → IsReadyProxy (drop_lock r) ⊎ (is_done (drop_lock r) ≡ true)
-      kind true e = let spare = law.shape.holds_spare k r is.here holds e in inl (record { proxy = e; wet = wet spare r.dry refl; spare = spare })
-      kind false e = inr (fits (is_proxy r) (is_done r) (law.shape.holds_fit k r is.here holds) e)
+      kind true e = let spare = (law.shape k r is.here).holds_spare holds e in inl (record { proxy = e; wet = wet spare r.dry refl; spare = spare })
+      kind false e = inr (fits (is_proxy r) (is_done r) ((law.shape k r is.here).holds_fit holds) e)
         where
           fits : (p d : Bool) → (p || d) ≡ true → p ≡ false → d ≡ true
           fits true d h q = cc
@@ -284,8 +284,8 @@ module _ (w v : World) (b : Books) (g : Records) (law : Inv w b g) (flags : Flag
       able : IsAble (drop_lock r)
       able = record {
         central = ap is_some is.link;
-        marked = law.shape.holds_marked k r is.here holds;
-        still = law.shape.marked_still k r is.here (law.shape.holds_marked k r is.here holds);
+        marked = (law.shape k r is.here).holds_marked holds;
+        still = (law.shape k r is.here).marked_still ((law.shape k r is.here).holds_marked holds);
         untried = untried r.tried refl;
         free = refl;
         kind = kind (is_proxy r) refl;
@@ -351,7 +351,7 @@ module _ (w v : World) (b : Books) (g : Records) (law : Inv w b g) (flags : Flag
 
           at_other : q.node ≡ own_link.0.other
           at_other =
-              let rec : IsRecorded w g k r own_link.0 = law.links.primary k r own_link.0 is.here own_link.1 in
+              let rec : IsRecorded w g k r own_link.0 = (law.links k r is.here).primary own_link.0 own_link.1 in
               node_of q ((g.central i).router (opposite t)) ((g.central i).node (opposite t)) known
               ∙ sym (rec.other ∙ ap (λ l. side_node g l (opposite own_link.0.side)) own_link.2
               ∙ ap (λ s. side_node g (Central i) (opposite s)) own_side)

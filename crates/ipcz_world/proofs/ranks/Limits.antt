@@ -57,9 +57,9 @@ use Rattle.ipcz_world.proofs.flows.Flowing.{found, total_list-found}
 use Rattle.ipcz_world.proofs.lawful.EachOnce.{just-here, once, only, in_queue-put}
 use Rattle.ipcz_world.proofs.weights.Booking.{out_numbers}
 use Rattle.ipcz_world.proofs.Vocabulary.{item_at}
-use Rattle.ipcz_world.proofs.lawful.LinkLaws.{passes-tells}
 use Rattle.ipcz_world.proofs.weights.OfRecords.{source, in_message, in_node, in_places}
 use Rattle.ipcz_world.proofs.weights.Weighing.{in_places-has, in_places-is, in_router-is}
+use Rattle.ipcz_world.proofs.views.Passing.{passes-tells}
 
 -- the higher of two numbers is no less than either
 pub higher-first : (a b : ℕ) → a ≤ higher a b

@@ -187,7 +187,7 @@ module _ (w : World) (b : Books) (g : Routes) (law : Lawful w b g) (quiet : IsQu
       no_wake : (t : Bool) → r.wake_owed ≡ t → r.wake_owed ≡ false
       no_wake false e = e
       no_wake true e =
-          let on : is_on_central r ≡ true = law.inv.shape.marked_central k r here (law.agreed.wake k r here e) in
+          let on : is_on_central r ≡ true = (law.inv.shape k r here).marked_central (law.agreed.wake k r here e) in
           absurd (grind (arith, idle w b law.records law.inv quiet law.ranked law.flagged k r acts.Wake here, on, e))
 
   -- a terminal has sent all
@@ -225,7 +225,7 @@ module _ (w : World) (b : Books) (g : Routes) (law : Lawful w b g) (quiet : IsQu
       whole = none_begun w b law.records law.inv quiet law.ranked law.flagged k r here
 
       first : is_some r.outward.primary ≡ true
-      first = primed r (law.inv.shape.role k r here) whole
+      first = primed r ((law.inv.shape k r here).role) whole
 
       inner : is_some (inward_edge r).primary ≡ true
       inner = by r proxy whole
@@ -342,7 +342,7 @@ module _ (w : World) (b : Books) (g : Routes) (law : Lawful w b g) (quiet : IsQu
           alone false c d p q h = grind (arith, e, off, s.marked, s.wake, p)
       go (Some x) e =
           by (is_on_central r) refl (free w b law.records law.inv quiet law.ranked law.flagged k r here)
-          (primed r (law.inv.shape.role k r here) (none_begun w b law.records law.inv quiet law.ranked law.flagged k r here))
+          (primed r ((law.inv.shape k r here).role) (none_begun w b law.records law.inv quiet law.ranked law.flagged k r here))
           (unsent r.gone_sent refl)
         where
           leaves : is_possible r acts.Leave ≡ false → is_proxy r ≡ true → r.gone_sent ≡ true → ⊥

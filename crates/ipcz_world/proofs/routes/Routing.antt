@@ -274,4 +274,4 @@ routes-left_terminal w b g k r law here t = routes-left w b g k r law here ∙ a
   where
     none : (o : Option ℕ) → r.spare ≡ o → r.spare ≡ None
     none None e = e
-    none (Some i) e = absurd (grind (arith, law.shape.spare_proxy k r i here e, t))
+    none (Some i) e = absurd (grind (arith, (law.shape k r here).spare_proxy i e, t))

@@ -170,60 +170,17 @@ module _ (w : World) (g : Records) (world : IsBare w) (noted : IsUnnoted g) wher
   }
 
   ordered-bare : Ordered w
-  ordered-bare = record {
-    out = λ k r n item h1 h2. absurd (no_router k r h1);
-    inn = λ k r n item h1 h2. absurd (no_router k r h1);
-  }
+  ordered-bare k r at = absurd (no_router k r at)
 
   shape-bare : Shape w
-  shape-bare = record {
-    role = λ k r h1. absurd (no_router k r h1);
-    marked_central = λ k r h1 h2. absurd (no_router k r h1);
-    marked_still = λ k r h1 h2. absurd (no_router k r h1);
-    holds_marked = λ k r h1 h2. absurd (no_router k r h1);
-    holds_fit = λ k r h1 h2. absurd (no_router k r h1);
-    holds_spare = λ k r h1 h2. absurd (no_router k r h1);
-    dropped_sink = λ k r h1 h2. absurd (no_router k r h1);
-    sent_proxy = λ k r h1 h2. absurd (no_router k r h1);
-    spare_proxy = λ k r i h1 h2. absurd (no_router k r h1);
-    spare_primary = λ k r i h1 h2. absurd (no_router k r h1);
-  }
+  shape-bare k r at = absurd (no_router k r at)
 
   links-bare : Links w g
-  links-bare = record {
-    primary = λ k r e h1 h2. absurd (no_router k r h1);
-    decaying = λ k r e h1 h2. absurd (no_router k r h1);
-    inward_primary = λ k r e h1 h2. absurd (no_router k r h1);
-    inward_decaying = λ k r e h1 h2. absurd (no_router k r h1);
-    primary_outward = λ k r e h1 h2. absurd (no_router k r h1);
-    decaying_outward = λ k r e h1 h2. absurd (no_router k r h1);
-    inward_primary_inward = λ k r e h1 h2. absurd (no_router k r h1);
-    inward_decaying_inward = λ k r e h1 h2. absurd (no_router k r h1);
-  }
+  links-bare k r at = absurd (no_router k r at)
 
   positions-bare : Positions w g
   positions-bare = record {
-    inward_primary = λ k r e h1 h2. absurd (no_router k r h1);
-    inward_decaying = λ k r e h1 h2. absurd (no_router k r h1);
-    inward_to = λ k r e o h1 h2 h3. absurd (no_router k r h1);
-    inward_from = λ k r e o h1 h2 h3. absurd (no_router k r h1);
-    primary_old = λ k r e o h1 h2 h3 h4. absurd (no_router k r h1);
-    primary_across = λ k r e o h1 h2 h3 h4. absurd (no_router k r h1);
-    primary_inner = λ k r e p o h1 h2 h3 h4. absurd (no_router k r h1);
-    decaying = λ k r e h1 h2. absurd (no_router k r h1);
-    inner_stage = λ k r e p o h1 h2 h3 h4. absurd (no_router k r h1);
-    inner_to = λ k r e p o h1 h2 h3 h4. absurd (no_router k r h1);
-    inner_from = λ k r e p o h1 h2 h3 h4. absurd (no_router k r h1);
-    inner_fresh = λ k r e p o h1 h2 h3 h4. absurd (no_router k r h1);
-    own_proxy = λ k r e o h1 h2 h3 h4. absurd (no_router k r h1);
-    own_alone = λ k r e o h1 h2 h3 h4. absurd (no_router k r h1);
-    own_to = λ k r e o h1 h2 h3 h4. absurd (no_router k r h1);
-    own_from = λ k r e o h1 h2 h3 h4. absurd (no_router k r h1);
-    across_stage = λ k r e o h1 h2 h3 h4. absurd (no_router k r h1);
-    across_to = λ k r e o h1 h2 h3 h4. absurd (no_router k r h1);
-    across_from = λ k r e o h1 h2 h3 h4. absurd (no_router k r h1);
-    across_fresh = λ k r e o h1 h2 h3 h4. absurd (no_router k r h1);
-    begun = λ k r h1 h2. absurd (no_router k r h1);
+    each = λ k r at. absurd (no_router k r at);
     begun_proxy = λ k o h1. absurd (none-some o (sym (noted.begun k) ∙ h1));
     begun_stage = λ k o h1. absurd (none-some o (sym (noted.begun k) ∙ h1));
     proxy_begun = λ o h1. absurd (not_begun (g.bypass o).stage (noted.stage o) h1);

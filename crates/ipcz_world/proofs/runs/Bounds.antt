@@ -131,10 +131,10 @@ module _ (w : World) (b : Books) (g : Records) (law : Inv w b g) where
 
   are_below : (k : Key) (r : Router) → router_at w k ≡ Some r → AreBelow w.count r
   are_below k r here = record {
-    primary = λ e h. link_below k r e (law.links.primary k r e here h);
-    decaying = λ e h. link_below k r e (law.links.decaying k r e here h);
-    inner_primary = λ e h. link_below k r e (law.links.inward_primary k r e here h);
-    inner_decaying = λ e h. link_below k r e (law.links.inward_decaying k r e here h);
+    primary = λ e h. link_below k r e ((law.links k r here).primary e h);
+    decaying = λ e h. link_below k r e ((law.links k r here).decaying e h);
+    inner_primary = λ e h. link_below k r e ((law.links k r here).inward_primary e h);
+    inner_decaying = λ e h. link_below k r e ((law.links k r here).inward_decaying e h);
   }
 
   -- an act of a router that stands there

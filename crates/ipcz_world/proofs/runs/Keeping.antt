@@ -76,7 +76,6 @@ use Rattle.ipcz_world.proofs.acts.Mailing.{step-look, step-post}
 use Rattle.ipcz_world.proofs.calls.Puts.{inv-pending}
 use Rattle.ipcz_world.proofs.calls.Gets.{inv-discard}
 use Rattle.ipcz_world.proofs.views.Telling.{IsPeer, peer_told}
-use Rattle.ipcz_world.proofs.lawful.WordLaws.{HasAt, has_at}
 use Rattle.ipcz_world.proofs.calls.CallSteps.{open-kept, put-kept, get-kept, close-kept}
 use Rattle.ipcz_world.proofs.runs.Running.{Kept, KeptBy, StepsKeep}
 use Rattle.ipcz_world.proofs.routes.Routing.{next_not_linked, routes-claim, routes-begin, routes-accept, routes-told, routes-ended}
@@ -88,6 +87,7 @@ use Rattle.std.proofs.lemmas.Bool.{and_parts}
 use Rattle.ipcz_world.proofs.runs.NodeSteps.{hand-is}
 use Rattle.ipcz_world.proofs.facts.Tests.{some_is}
 use Rattle.ipcz_world.specs.World.{has_unclaimed_word}
+use Rattle.ipcz_world.proofs.views.Having.{HasAt, has_at}
 
 -- an event of another kind leaves the books
 books-other : (w : World) (b : Books) (n : ℕ) (event : Happened) → kind event ≡ 0 → after_turn w b n event ≡ b

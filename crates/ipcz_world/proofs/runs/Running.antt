@@ -22,7 +22,7 @@ use Rattle.ipcz_world.specs.WorldLaws.{StartsLawful, StepKeepsLawful, LinksStay,
 use Rattle.ipcz_world.proofs.lawful.LinkLaws.{link_law, bypass_law}
 use Rattle.ipcz_world.proofs.lawful.WordLaws.{word_law}
 use Rattle.ipcz_world.proofs.lawful.LengthLaws.{length_law}
-use Rattle.ipcz_world.proofs.lawful.StrayLaws.{stray_law}
+use Rattle.ipcz_world.proofs.views.StrayLaws.{stray_law}
 use Rattle.ipcz_world.proofs.routes.Seeing.{stays-same}
 use Rattle.ipcz_world.proofs.runs.NodeSteps.{IsKept, kept-step}
 use Rattle.ipcz_world.specs.Owed.{AreFlagged, FlagsAgree}

@@ -39,7 +39,7 @@ use Rattle.ipcz_world.proofs.sends.ExtendingAround.{recorded_back, router_same, 
 use Rattle.ipcz_world.proofs.sends.ExtendingAround.{no_inward, no_by, inner_end_is, stage_begun}
 use Rattle.ipcz_world.proofs.sends.ExtendingStages.{not_begun}
 use Rattle.ipcz_world.proofs.hands.MaterializingAround.{at_waits}
-use Rattle.ipcz_world.proofs.facts.BegunLengths.{bypass_of-central_is}
+use Rattle.ipcz_world.proofs.frames.BegunLengths.{bypass_of-central_is}
 use Rattle.ipcz_world.proofs.facts.Lengths.{view-standing}
 use Rattle.ipcz_world.proofs.facts.Tests.{same_some}
 use Rattle.ipcz_world.proofs.facts.LinkTests.{same_end-itself, same_end-tells}

@@ -1,8 +1,12 @@
 -- A terminal that moves becomes a proxy: each link is as its record says, and primary or decaying as its bypass says.
-use Rattle.std.specs.Prelude.{◌≡◌, ◌<◌, ℕ, Bool, true, false, cond, Option, Some, None, is_some, unwrap_or, option_map, refl}
+use Rattle.ipcz_world.proofs.Vocabulary.{HasLinks}
+use Rattle.ipcz_world.proofs.frames.EachKept.{each-by}
+use Rattle.ipcz_world.proofs.frames.LinksKept.{links-still}
+use Rattle.ipcz_world.proofs.Vocabulary.{HasShape}
+use Rattle.ipcz_world.proofs.frames.EachKept.{each-one}
+use Rattle.std.specs.Prelude.{◌≡◌, ◌<◌, ℕ, true, false, Option, Some, None, is_some, refl}
 use Rattle.ipcz_world.proofs.facts.Tests.{not_both, and_second}
-use Rattle.ipcz_world.proofs.Vocabulary.{same_key, is_terminal}
-use Rattle.ipcz_router.specs.Router.{is_sink, is_proxy}
+use Rattle.ipcz_world.proofs.Vocabulary.{is_terminal}
 use Rattle.std.proofs.Common.{arith, ap, subst, ◌∙◌, sym, inl, inr}
 use Rattle.ipcz_world.proofs.Vocabulary.{Side, A, B, Central, LinkEnd, opposite, Router, inward_edge, World, Key, node_at, router_at}
 use Rattle.ipcz_world.proofs.Vocabulary.{Books, Records, is_begun, bypass_of, inner_link, side_node, side_router, side_end, proxy_side}
@@ -16,7 +20,7 @@ use Rattle.ipcz_world.proofs.frames.Opened.{OpenInv}
 use Rattle.ipcz_world.proofs.sends.ExtendingAround.{next_key, extended, extended_records, IsGrown, IsExtend, is_outward-A, no_inward}
 use Rattle.ipcz_world.proofs.sends.ExtendingAround.{other_link, recorded_more, recorded_new, recorded_back, router_same, node_same}
 use Rattle.ipcz_world.proofs.sends.ExtendingAround.{end_same, no_by, by_same, bypass_same, side_same, stood}
-use Rattle.ipcz_world.proofs.facts.BegunLengths.{bypass_of-central_is}
+use Rattle.ipcz_world.proofs.frames.BegunLengths.{bypass_of-central_is}
 
 module _ {w v : World} {b : Books} {g : Records} {q : Key} {r : Router} {a : ℕ} (law : OpenInv w b g) (is : IsExtend w q r a)
     (t : IsGrown w v q (extended w q r a)) where
@@ -72,68 +76,22 @@ module _ {w v : World} {b : Books} {g : Records} {q : Key} {r : Router} {a : ℕ
       new_node A = grind (arith, side_node-proxy h p, t.count, law.counts.on_node q r is.here)
       new_node B = grind (arith, side_node-inner h p, t.count, same_key-itself p, is.receiver)
 
-  pub shape-extended : r.closed ≡ false → Shape v
-  shape-extended unclosed = record {
-    role = λ x z at. grind (arith, t.router x, same_key_tells x q, is.here, law.shape.role x z, law.shape.role q r, is.lone);
-    marked_central = λ x z at m. grind (
-      arith,
-      t.router x,
-      same_key_tells x q,
-      is.here,
-      law.shape.marked_central x z,
-      law.shape.marked_central q r,
-    );
-    marked_still = λ x z at m. grind (
-      arith,
-      t.router x,
-      same_key_tells x q,
-      is.here,
-      law.shape.marked_still x z,
-      law.shape.marked_still q r,
-      no_inward law is t,
-    );
-    holds_marked = λ x z at m. grind (
-      arith,
-      t.router x,
-      same_key_tells x q,
-      is.here,
-      law.shape.holds_marked x z,
-      law.shape.holds_marked q r,
-    );
-    holds_fit = λ x z at m. grind (arith, t.router x, same_key_tells x q, is.here, law.shape.holds_fit x z);
-    dropped_sink = λ x z at m. dropped_after x z at m (same_key x q) refl;
-    sent_proxy = λ x z at m. sent_after x z at m (same_key x q) refl;
-    holds_spare = λ x z at m p. held_after x z at m p (same_key x q) refl;
-    spare_proxy = λ x z j at m. grind (arith, t.router x, same_key_tells x q, is.here, law.shape.spare_proxy x z j);
-    spare_primary = λ x z j at m. grind (
-      arith,
-      t.router x,
-      same_key_tells x q,
-      is.here,
-      law.shape.spare_primary x z j,
-      law.shape.spare_primary q r j,
-    );
+  shape-proxy : r.closed ≡ false → HasShape r → HasShape (extended w q r a)
+  shape-proxy unclosed shape = record {
+    role = grind (arith, shape.role, is.lone);
+    marked_central = shape.marked_central;
+    marked_still = λ m. grind (arith, shape.marked_still, no_inward law is t, m);
+    holds_marked = shape.holds_marked;
+    holds_fit = λ m. refl;
+    holds_spare = λ m p. absurd (grind (arith, shape.holds_fit m, no_inward law is t, unclosed));
+    dropped_sink = λ m. absurd (not_both r.closed (and_second (is_terminal r) r.closed (shape.dropped_sink m)) unclosed);
+    sent_proxy = λ m. refl;
+    spare_proxy = λ i e. refl;
+    spare_primary = shape.spare_primary;
   }
-    where
-      held_after : (x : Key) (z : Router) → router_at v x ≡ Some z → z.holds ≡ true → is_proxy z ≡ true → (c : Bool) → same_key x q ≡ c →
-          is_some z.spare ≡ true
-      held_after x z at m p true c = let it : Some (extended w q r a) ≡ Some z = sym (t.router x ∙ ap (λ b. cond b (Some (extended w q r a)) (router_at w x)) c) ∙ at in
-          let f : r.holds ≡ true = ap (λ o. unwrap_or (option_map (λ x. x.holds) o) false) it ∙ m in
-          absurd (grind (arith, law.shape.holds_fit q r is.here f, no_inward law is t, unclosed))
-      held_after x z at m p false c = law.shape.holds_spare x z (sym (t.router x ∙ ap (λ b. cond b (Some (extended w q r a)) (router_at w x)) c) ∙ at) m p
 
-      sent_after : (x : Key) (z : Router) → router_at v x ≡ Some z → z.gone_sent ≡ true → (c : Bool) → same_key x q ≡ c →
-          is_some (inward_edge z).primary ≡ true
-      sent_after x z at m true c = ap (λ o. is_some (inward_edge (unwrap_or o z)).primary)
-          (sym (sym (t.router x ∙ ap (λ b. cond b (Some (extended w q r a)) (router_at w x)) c) ∙ at))
-      sent_after x z at m false c = law.shape.sent_proxy x z (sym (t.router x ∙ ap (λ b. cond b (Some (extended w q r a)) (router_at w x)) c) ∙ at) m
-
-      dropped_after : (x : Key) (z : Router) → router_at v x ≡ Some z → z.mark_dropped ≡ true → (c : Bool) → same_key x q ≡ c →
-          is_sink z ≡ true
-      dropped_after x z at m true c = let it : Some (extended w q r a) ≡ Some z = sym (t.router x ∙ ap (λ b. cond b (Some (extended w q r a)) (router_at w x)) c) ∙ at in
-          let f : r.mark_dropped ≡ true = ap (λ o. unwrap_or (option_map (λ x. x.mark_dropped) o) false) it ∙ m in
-          absurd (not_both r.closed (and_second (is_terminal r) r.closed (law.shape.dropped_sink q r is.here f)) unclosed)
-      dropped_after x z at m false c = law.shape.dropped_sink x z (sym (t.router x ∙ ap (λ b. cond b (Some (extended w q r a)) (router_at w x)) c) ∙ at) m
+  pub shape-extended : r.closed ≡ false → Shape v
+  shape-extended unclosed = each-one w v q (extended w q r a) HasShape t.router law.shape (shape-proxy unclosed (law.shape q r is.here))
 
   -- a link end of a router is still as its record says
   still_recorded : (x : Key) (z u : Router) (e : LinkEnd) → u.end ≡ z.end → IsRecorded w g x z e → IsRecorded v h x u e
@@ -154,56 +112,17 @@ module _ {w v : World} {b : Books} {g : Records} {q : Key} {r : Router} {a : ℕ
   }
 
   pub links-extended : Links v h
-  links-extended = record {
-    primary = λ x z e at f. elim (stood law is t x z at) [
-      | inl o ↦ still_recorded x z z e refl (law.links.primary x z e o.0 f)
-      | inr n ↦ subst
-          (λ k. IsRecorded v h k z e) (sym n.1) (still_recorded q r z e (ap (λ z. z.end) n.0)
-          (law.links.primary q r e is.here (grind (arith, n.0, f))))
-    ];
-    decaying = λ x z e at f. elim (stood law is t x z at) [
-      | inl o ↦ still_recorded x z z e refl (law.links.decaying x z e o.0 f)
-      | inr n ↦ subst
-          (λ k. IsRecorded v h k z e) (sym n.1) (still_recorded q r z e (ap (λ z. z.end) n.0)
-          (law.links.decaying q r e is.here (grind (arith, n.0, f))))
-    ];
-    inward_primary = λ x z e at f. elim (stood law is t x z at) [
-      | inl o ↦ still_recorded x z z e refl (law.links.inward_primary x z e o.0 f)
-      | inr n
-          ↦ new_link x z e n.0 n.1 f
-    ];
-    inward_decaying = λ x z e at f. elim (stood law is t x z at) [
-      | inl o ↦ still_recorded x z z e refl (law.links.inward_decaying x z e o.0 f)
-      | inr
-          n ↦ absurd (grind (arith, n.0, f))
-    ];
-    primary_outward = λ x z e at f. grind (
-      arith,
-      t.router x,
-      same_key_tells x q,
-      is.here,
-      law.links.primary_outward x z e,
-      law.links.primary_outward q r e,
-    );
-    decaying_outward = λ x z e at f. grind (
-      arith,
-      t.router x,
-      same_key_tells x q,
-      is.here,
-      law.links.decaying_outward x z e,
-      law.links.decaying_outward q r e,
-    );
-    inward_primary_inward = λ x z e at f. elim (stood law is t x z at) [
-      | inl o ↦ law.links.inward_primary_inward x z e o.0 f
-      | inr n ↦ new_inward z e
-          n.0 f
-    ];
-    inward_decaying_inward = λ x z e at f. elim (stood law is t x z at) [
-      | inl o ↦ law.links.inward_decaying_inward x z e o.0 f
-      | inr n ↦ absurd
-          (grind (arith, n.0, f))
-    ];
-  }
+  links-extended = let links = law.links q r is.here in
+      each-by w v q y (HasLinks w g) (HasLinks v h) t.router (λ x z. links-still (λ e. still_recorded x z z e refl)) law.links (record {
+        primary = λ e f. still_recorded q r y e refl (links.primary e f);
+        decaying = λ e f. still_recorded q r y e refl (links.decaying e f);
+        inward_primary = λ e f. new_link q y e refl refl f;
+        inward_decaying = λ e f. absurd (grind (arith, f));
+        primary_outward = links.primary_outward;
+        decaying_outward = links.decaying_outward;
+        inward_primary_inward = λ e f. new_inward y e refl f;
+        inward_decaying_inward = λ e f. absurd (grind (arith, f));
+      })
     where
       the_end : (z : Router) (e : LinkEnd) → z ≡ y → (inward_edge z).primary ≡ Some e →
           record { link = inner_link p; side = A; other = a } ≡ e
@@ -231,7 +150,7 @@ module _ {w v : World} {b : Books} {g : Records} {q : Key} {r : Router} {a : ℕ
   decaying_begun : (x : Key) (u : Router) (e : LinkEnd) (o : ℕ) → router_at w x ≡ Some u → u.outward.decaying ≡ Some e →
       e.link ≡ Central o → is_begun (g.bypass o) ≡ true
   decaying_begun x u e o at off l = go (bypass_of g (Central o)) refl
-      (ap (λ z. is_some (bypass_of g z)) (sym l) ∙ law.positions.decaying x u e at off)
+      (ap (λ z. is_some (bypass_of g z)) (sym l) ∙ (law.positions.each x u at).decaying e off)
     where
       go : (z : Option ℕ) → bypass_of g (Central o) ≡ z → is_some (bypass_of g (Central o)) ≡ true → is_begun (g.bypass o) ≡ true
       go None f some = absurd (grind (arith, f, some))
@@ -247,47 +166,49 @@ module _ {w v : World} {b : Books} {g : Records} {q : Key} {r : Router} {a : ℕ
 
   pub positions-extended : Positions v h
   positions-extended = record {
-    inward_primary = λ x z e at f. elim (stood law is t x z at) [
-      | inl o ↦ bypass_same law is t e.link ∙ law.positions.inward_primary x z e o.0 f
-      | inr n ↦ new
-          x z e n.0 f
-    ];
-    inward_decaying = λ x z e at f. bypass_same law is t e.link ∙ law.positions.inward_decaying x z e (was_in x z e at f) f;
-    inward_to = λ x z e o at f c. law.positions.inward_to x z e o (was_in x z e at f) f c;
-    inward_from = λ x z e o at f c. law.positions.inward_from x z e o (was_in x z e at f) f c;
-    primary_old = λ x z e o at f l c. let u = was_out x z at in law.positions.primary_old x u.0 e o u.1 (grind (arith, u.2, f)) l c;
-    primary_across = λ x z e o at f l c. let u = was_out x z at in
-        law.positions.primary_across x u.0 e o u.1 (grind (arith, u.2, f)) l c ∙ ap opposite (sym (side_same law is t o c));
-    primary_inner = λ x z e k o at f l c. let u = was_out x z at in
-        law.positions.primary_inner x u.0 e k o u.1 (grind (arith, u.2, f)) l (sym (by_same law is t k) ∙ c);
-    decaying = λ x z e at f. let u = was_out x z at in ap is_some (bypass_same law is t e.link) ∙ law.positions.decaying x u.0 e u.1
-        (grind (arith, u.2, f));
-    inner_stage = λ x z e k o at f l c. let u = was_out x z at in
-        law.positions.inner_stage x u.0 e k o u.1 (grind (arith, u.2, f)) l (sym (by_same law is t k) ∙ c);
-    inner_to = λ x z e k o at f l c. let u = was_out x z at in ap (λ e. e.length_to) u.2 ∙ law.positions.inner_to x u.0 e k o u.1
-        (grind (arith, u.2, f)) l (sym (by_same law is t k) ∙ c);
-    inner_from = λ x z e k o at f l c. let u = was_out x z at in ap (λ e. e.length_from) u.2 ∙ law.positions.inner_from x u.0 e k o u.1
-        (grind (arith, u.2, f)) l (sym (by_same law is t k) ∙ c);
-    inner_fresh = λ x z e k o at f l c. let u = was_out x z at in
-        ap (λ e. link_in e.primary) u.2 ∙ law.positions.inner_fresh x u.0 e k o u.1 (grind (arith, u.2, f)) l
-        (sym (by_same law is t k) ∙ c);
-    own_proxy = λ x z e o at f l s. let u = was_out x z at in let off = ap (λ e. e.decaying) (sym u.2) ∙ f in
-        law.positions.own_proxy x u.0 e o u.1 off l (own_side x u.0 e o u.1 off l s);
-    own_alone = λ x z e o at f l s. let u = was_out x z at in let off = ap (λ e. e.decaying) (sym u.2) ∙ f in
-        ap (λ e. e.primary) u.2 ∙ law.positions.own_alone x u.0 e o u.1 off l (own_side x u.0 e o u.1 off l s);
-    own_to = λ x z e o at f l s. let u = was_out x z at in let off = ap (λ e. e.decaying) (sym u.2) ∙ f in
-        ap (λ e. e.length_to) u.2 ∙ law.positions.own_to x u.0 e o u.1 off l (own_side x u.0 e o u.1 off l s);
-    own_from = λ x z e o at f l s. let u = was_out x z at in let off = ap (λ e. e.decaying) (sym u.2) ∙ f in
-        ap (λ e. e.length_from) u.2 ∙ law.positions.own_from x u.0 e o u.1 off l (own_side x u.0 e o u.1 off l s);
-    across_stage = λ x z e o at f l s. let u = was_out x z at in let off = ap (λ e. e.decaying) (sym u.2) ∙ f in
-        law.positions.across_stage x u.0 e o u.1 off l (far_side x u.0 e o u.1 off l s);
-    across_to = λ x z e o at f l s. let u = was_out x z at in let off = ap (λ e. e.decaying) (sym u.2) ∙ f in
-        ap (λ e. e.length_to) u.2 ∙ law.positions.across_to x u.0 e o u.1 off l (far_side x u.0 e o u.1 off l s);
-    across_from = λ x z e o at f l s. let u = was_out x z at in let off = ap (λ e. e.decaying) (sym u.2) ∙ f in
-        ap (λ e. e.length_from) u.2 ∙ law.positions.across_from x u.0 e o u.1 off l (far_side x u.0 e o u.1 off l s);
-    across_fresh = λ x z e o at f l s. let u = was_out x z at in let off = ap (λ e. e.decaying) (sym u.2) ∙ f in
-        ap (λ e. link_in e.primary) u.2 ∙ law.positions.across_fresh x u.0 e o u.1 off l (far_side x u.0 e o u.1 off l s);
-    begun = λ x z at f. elim (stood law is t x z at) [ inl o ↦ law.positions.begun x z o.0 f | inr n ↦ absurd (grind (arith, n.0, f)) ];
+    each = λ x z at. record {
+      inward_primary = λ e f. elim (stood law is t x z at) [
+        | inl o ↦ bypass_same law is t e.link ∙ (law.positions.each x z o.0).inward_primary e f
+        | inr n ↦ new
+            x z e n.0 f
+      ];
+      inward_decaying = λ e f. bypass_same law is t e.link ∙ (law.positions.each x z (was_in x z e at f)).inward_decaying e f;
+      inward_to = λ e o f c. (law.positions.each x z (was_in x z e at f)).inward_to e o f c;
+      inward_from = λ e o f c. (law.positions.each x z (was_in x z e at f)).inward_from e o f c;
+      primary_old = λ e o f l c. let u = was_out x z at in (law.positions.each x u.0 u.1).primary_old e o (grind (arith, u.2, f)) l c;
+      primary_across = λ e o f l c. let u = was_out x z at in
+          (law.positions.each x u.0 u.1).primary_across e o (grind (arith, u.2, f)) l c ∙ ap opposite (sym (side_same law is t o c));
+      primary_inner = λ e k o f l c. let u = was_out x z at in
+          (law.positions.each x u.0 u.1).primary_inner e k o (grind (arith, u.2, f)) l (sym (by_same law is t k) ∙ c);
+      decaying = λ e f. let u = was_out x z at in ap is_some (bypass_same law is t e.link) ∙ (law.positions.each x u.0 u.1).decaying e
+          (grind (arith, u.2, f));
+      inner_stage = λ e k o f l c. let u = was_out x z at in
+          (law.positions.each x u.0 u.1).inner_stage e k o (grind (arith, u.2, f)) l (sym (by_same law is t k) ∙ c);
+      inner_to = λ e k o f l c. let u = was_out x z at in ap (λ e. e.length_to) u.2 ∙ (law.positions.each x u.0 u.1).inner_to e k o
+          (grind (arith, u.2, f)) l (sym (by_same law is t k) ∙ c);
+      inner_from = λ e k o f l c. let u = was_out x z at in ap (λ e. e.length_from) u.2 ∙ (law.positions.each x u.0 u.1).inner_from e k o
+          (grind (arith, u.2, f)) l (sym (by_same law is t k) ∙ c);
+      inner_fresh = λ e k o f l c. let u = was_out x z at in
+          ap (λ e. link_in e.primary) u.2 ∙ (law.positions.each x u.0 u.1).inner_fresh e k o (grind (arith, u.2, f)) l
+          (sym (by_same law is t k) ∙ c);
+      own_proxy = λ e o f l s. let u = was_out x z at in let off = ap (λ e. e.decaying) (sym u.2) ∙ f in
+          (law.positions.each x u.0 u.1).own_proxy e o off l (own_side x u.0 e o u.1 off l s);
+      own_alone = λ e o f l s. let u = was_out x z at in let off = ap (λ e. e.decaying) (sym u.2) ∙ f in
+          ap (λ e. e.primary) u.2 ∙ (law.positions.each x u.0 u.1).own_alone e o off l (own_side x u.0 e o u.1 off l s);
+      own_to = λ e o f l s. let u = was_out x z at in let off = ap (λ e. e.decaying) (sym u.2) ∙ f in
+          ap (λ e. e.length_to) u.2 ∙ (law.positions.each x u.0 u.1).own_to e o off l (own_side x u.0 e o u.1 off l s);
+      own_from = λ e o f l s. let u = was_out x z at in let off = ap (λ e. e.decaying) (sym u.2) ∙ f in
+          ap (λ e. e.length_from) u.2 ∙ (law.positions.each x u.0 u.1).own_from e o off l (own_side x u.0 e o u.1 off l s);
+      across_stage = λ e o f l s. let u = was_out x z at in let off = ap (λ e. e.decaying) (sym u.2) ∙ f in
+          (law.positions.each x u.0 u.1).across_stage e o off l (far_side x u.0 e o u.1 off l s);
+      across_to = λ e o f l s. let u = was_out x z at in let off = ap (λ e. e.decaying) (sym u.2) ∙ f in
+          ap (λ e. e.length_to) u.2 ∙ (law.positions.each x u.0 u.1).across_to e o off l (far_side x u.0 e o u.1 off l s);
+      across_from = λ e o f l s. let u = was_out x z at in let off = ap (λ e. e.decaying) (sym u.2) ∙ f in
+          ap (λ e. e.length_from) u.2 ∙ (law.positions.each x u.0 u.1).across_from e o off l (far_side x u.0 e o u.1 off l s);
+      across_fresh = λ e o f l s. let u = was_out x z at in let off = ap (λ e. e.decaying) (sym u.2) ∙ f in
+          ap (λ e. link_in e.primary) u.2 ∙ (law.positions.each x u.0 u.1).across_fresh e o off l (far_side x u.0 e o u.1 off l s);
+      begun = λ f. elim (stood law is t x z at) [ inl o ↦ (law.positions.each x z o.0).begun f | inr n ↦ absurd (grind (arith, n.0, f)) ];
+    };
     begun_proxy = law.positions.begun_proxy;
     begun_stage = law.positions.begun_stage;
     proxy_begun = law.positions.proxy_begun;

@@ -247,7 +247,7 @@ module _ {w v : World} {b : Books} {g : Records} {q : Key} {r : Router} {a : ℕ
         law.fresh_numbers.comes x u.0 e f len from to i m c j.0 u.1 (ap (λ e. e.primary) (sym u.2) ∙ on)
         (ap (λ e. e.decaying) (sym u.2) ∙ off) (sym (length_same w v b g q r a law is t f.link (opposite f.side)) ∙ d) j.1;
     other = λ x z c e f len at on off d there. let u = was_both x z at in
-        let o = standing_came e.link (opposite e.side) c (law.links.primary x u.0 e u.1 (ap (λ e. e.primary) (sym u.2) ∙ on)).recorded there
+        let o = standing_came e.link (opposite e.side) c ((law.links x u.0 u.1).primary e (ap (λ e. e.primary) (sym u.2) ∙ on)).recorded there
         in
         let le : len ≤ o.0.out_queue.current = law.fresh_numbers.other x u.0 o.0 e f len u.1 (ap (λ e. e.primary) (sym u.2) ∙ on)
         (ap (λ e. e.decaying) (sym u.2) ∙ off) (sym (length_same w v b g q r a law is t f.link (opposite f.side)) ∙ d) o.1 in

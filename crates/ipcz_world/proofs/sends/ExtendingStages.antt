@@ -1,4 +1,6 @@
 -- A terminal that moves becomes a proxy: who stands where, the words, the bypasses, and where the terminals are.
+use Rattle.ipcz_world.proofs.Vocabulary.{IsOrdered}
+use Rattle.ipcz_world.proofs.frames.EachKept.{each-one}
 use Rattle.ipcz_world.proofs.Vocabulary.{LinkId, same_link, A, B}
 use Rattle.ipcz_world.specs.Records.{is_left}
 use Rattle.ipcz_world.proofs.sends.ExtendingAround.{left_same, bypass_same}
@@ -127,7 +129,7 @@ module _ {w v : World} {b : Books} {g : Records} {q : Key} {r : Router} {a : ℕ
   }
     where
       lone_free : r.holds ≡ true → ⊥
-      lone_free h = grind (arith, law.shape.holds_fit q r is.here h, no_inward law is t, unclosed)
+      lone_free h = grind (arith, (law.shape q r is.here).holds_fit h, no_inward law is t, unclosed)
 
   spare_same : (x : Key) → spare_of (router_at v x) ≡ spare_of (router_at w x)
   unfolding spare_of
@@ -315,7 +317,5 @@ module _ {w v : World} {b : Books} {g : Records} {q : Key} {r : Router} {a : ℕ
           other_end a c = let s : r.end ≡ e = same_end-tells r.end e (grind (arith, a)) in grind (arith, s, c, same_end-itself e)
 
   pub ordered-extended : Ordered v
-  ordered-extended = record {
-    out = λ x z n i at e. grind (arith, t.router x, same_key_tells x q, is.here, law.ordered.out x z n i, law.ordered.out q r n i);
-    inn = λ x z n i at e. grind (arith, t.router x, same_key_tells x q, is.here, law.ordered.inn x z n i, law.ordered.inn q r n i);
-  }
+  ordered-extended = let ordered = law.ordered q r is.here in
+      each-one w v q (extended w q r a) IsOrdered t.router law.ordered (record { out = ordered.out; inn = ordered.inn })

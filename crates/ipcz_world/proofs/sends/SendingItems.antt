@@ -41,6 +41,7 @@ use Rattle.ipcz_world.proofs.sends.SendingOut.{choose-tells, has_link-end, lengt
 use Rattle.ipcz_world.proofs.sends.SendingOut.{not_gone, attached-inner_primary, attached-inner_decaying}
 use Rattle.std.proofs.lemmas.Bool.{or_left, or_right}
 use Rattle.ipcz_world.proofs.facts.Lengths.{opposite-twice}
+use Rattle.ipcz_world.proofs.facts.LinkTests.{inward_link}
 
 -- an outward link end is attached, and fed by the out queue
 attached-out : (r : Router) (e : LinkEnd) → is_outward e.link e.side ≡ true →
@@ -91,13 +92,6 @@ unfolding source' side_end is_outward
 source-in g (Central i) t o = absurd (grind (arith, o))
 source-in g (Peripheral n x) A o = refl
 source-in g (Peripheral n x) B o = absurd (grind (arith, o))
-
--- a link end that isn't outward is of a peripheral link's side A
-pub inward_link : (l : LinkId) (t : Side) → is_outward l t ≡ false → (p : Key) × (l ≡ inner_link p) × (t ≡ A)
-unfolding is_outward
-inward_link (Central i) t o = absurd (grind (arith, o))
-inward_link (Peripheral n x) A o = (record { node = n; serial = x }, refl, refl)
-inward_link (Peripheral n x) B o = absurd (grind (arith, o))
 
 -- the message that makes an awaited receiver is under way from the sender's node
 made_way : (w : World) (b : Books) (g : Records) (k : Key) (r : Router) (e : LinkEnd) → OpenInv w b g → IsRecorded w g k r e →
@@ -181,11 +175,11 @@ is_send_out w b g k r e item law here chosen at = record {
 
     rec : IsRecorded w g k r e
     rec = elim (choose-tells r.outward r.out_queue.current e chosen)
-        [ inl on ↦ law.links.primary k r e here on | inr off ↦ law.links.decaying k r e here off.0 ]
+        [ inl on ↦ (law.links k r here).primary e on | inr off ↦ (law.links k r here).decaying e off.0 ]
 
     out : is_outward e.link e.side ≡ true
     out = elim (choose-tells r.outward r.out_queue.current e chosen)
-        [ inl on ↦ law.links.primary_outward k r e here on | inr off ↦ law.links.decaying_outward k r e here off.0 ]
+        [ inl on ↦ (law.links k r here).primary_outward e on | inr off ↦ (law.links k r here).decaying_outward e off.0 ]
 
     has : (has_link r.outward.primary e.link e.side || has_link r.outward.decaying e.link e.side) ≡ true
     has = elim (choose-tells r.outward r.out_queue.current e chosen) [
@@ -215,7 +209,7 @@ below_in : (w : World) (b : Books) (g : Records) (k : Key) (r : Router) (e : Lin
     router_at w k ≡ Some r → is_outward e.link e.side ≡ false → way_in r ≡ Some e →
     item_at r.in_queue r.in_queue.current ≡ Some item → side_length g e.link e.side ≡ Some len → r.in_queue.current < len
 below_in w b g k r e item len law here out chosen at h = elim (choose-tells (inward_edge r) r.in_queue.current e chosen) [
-  | inl on ↦ absurd (some_none (law.positions.inward_primary k r e here on))
+  | inl on ↦ absurd (some_none ((law.positions.each k r here).inward_primary e on))
   | inr off ↦ decaying off.0 (inward_link e.link e.side out)
 ]
   where
@@ -226,7 +220,7 @@ below_in w b g k r e item len law here out chosen at h = elim (choose-tells (inw
     decaying off p =
         let f = length-inner_in g p.0 len (subst (λ t. side_length g (inner_link p.0) t ≡ Some len) p.2
         (subst (λ l. side_length g l e.side ≡ Some len) p.1 h)) in
-        let begun : g.begun k ≡ Some f.0 = sym (law.positions.inward_decaying k r e here off) ∙ ap (bypass_of g) p.1 ∙ bypass_of-inner g p.0
+        let begun : g.begun k ≡ Some f.0 = sym ((law.positions.each k r here).inward_decaying e off) ∙ ap (bypass_of g) p.1 ∙ bypass_of-inner g p.0
         ∙ f.1 in
         let proxy = law.positions.begun_proxy k f.0 begun in
         let low : r.in_queue.current < (g.bypass f.0).accepted_at =
@@ -267,9 +261,9 @@ there_in : (w : World) (b : Books) (g : Records) (k : Key) (r : Router) (e : Lin
     router_at w k ≡ Some r → way_in r ≡ Some e → item_at r.in_queue r.in_queue.current ≡ Some item → is_recorded w g e.link ≡ true →
     e.link ≡ inner_link p → is_gone (view w g (inner_link p) B) ≡ false
 there_in w b g k r e item p law here chosen at rec l = elim (choose-tells (inward_edge r) r.in_queue.current e chosen) [
-  | inl on ↦ live (unleft on) (sym (bypass_of-inner g p) ∙ ap (bypass_of g) (sym l) ∙ law.positions.inward_primary k r e here on)
+  | inl on ↦ live (unleft on) (sym (bypass_of-inner g p) ∙ ap (bypass_of g) (sym l) ∙ (law.positions.each k r here).inward_primary e on)
       (side_router g (inner_link p) B) refl
-  | inr off ↦ begun (g.begun k) refl (sym (bypass_of-inner g p) ∙ ap (bypass_of g) (sym l) ∙ law.positions.inward_decaying k r e here off.0)
+  | inr off ↦ begun (g.begun k) refl (sym (bypass_of-inner g p) ∙ ap (bypass_of g) (sym l) ∙ (law.positions.each k r here).inward_decaying e off.0)
       off.0
 ]
   where
@@ -282,7 +276,7 @@ there_in w b g k r e item p law here chosen at rec l = elim (choose-tells (inwar
       where
         go : (c : Bool) → is_left g (inner_link p) B ≡ c → c ≡ false
         go false q = refl
-        go true q = let side = (inward_link e.link e.side (law.links.inward_primary_inward k r e here on)).2 in
+        go true q = let side = (inward_link e.link e.side ((law.links k r here).inward_primary_inward e on)).2 in
             let past : length (b.put (opposite_end r.end)) ≤ r.in_queue.current = law.gones.left_inner k r e here on
             (ap (λ x. is_left g x (opposite e.side)) l ∙ ap (λ t. is_left g (inner_link p) (opposite t)) side ∙ q) in
             let low = slice_get-below r.in_queue.current (b.put (opposite_end r.end)) item
@@ -299,8 +293,8 @@ there_in w b g k r e item p law here chosen at rec l = elim (choose-tells (inwar
     none_begun s off = go (inward_edge r).primary refl
       where
         go : (o : Option LinkEnd) → (inward_edge r).primary ≡ o → ⊥
-        go None q = grind (arith, law.positions.begun k r here (begun_bare r e q off), s)
-        go (Some d) q = grind (arith, law.shape.role k r here, q, off, bare_proxy r e off)
+        go None q = grind (arith, (law.positions.each k r here).begun (begun_bare r e q off), s)
+        go (Some d) q = grind (arith, (law.shape k r here).role, q, off, bare_proxy r e off)
 
     begun : (o : Option ℕ) → g.begun k ≡ o → (g.peripheral p).by ≡ g.begun k → (inward_edge r).decaying ≡ Some e →
         is_gone (view w g (inner_link p) B) ≡ false
@@ -406,7 +400,7 @@ gone_inner w b g k r item law here proxy at gone = go (inward_edge r).primary re
         begun = grind (arith, proxy, q)
 
         begins : (o : Option ℕ) → g.begun k ≡ o → is_some (inward_edge r).primary ≡ true
-        begins None s = absurd (grind (arith, law.positions.begun k r here begun, s))
+        begins None s = absurd (grind (arith, (law.positions.each k r here).begun begun, s))
         begins (Some o) s = staged o s
 
 right_in : (w : World) (b : Books) (g : Records) (k : Key) (r : Router) (item : Item) → OpenInv w b g → router_at w k ≡ Some r →
@@ -492,11 +486,11 @@ is_send_in w b g k r e item law here chosen at = record {
   where
     rec : IsRecorded w g k r e
     rec = elim (choose-tells (inward_edge r) r.in_queue.current e chosen)
-        [ inl on ↦ law.links.inward_primary k r e here on | inr off ↦ law.links.inward_decaying k r e here off.0 ]
+        [ inl on ↦ (law.links k r here).inward_primary e on | inr off ↦ (law.links k r here).inward_decaying e off.0 ]
 
     out : is_outward e.link e.side ≡ false
     out = elim (choose-tells (inward_edge r) r.in_queue.current e chosen)
-        [ inl on ↦ law.links.inward_primary_inward k r e here on | inr off ↦ law.links.inward_decaying_inward k r e here off.0 ]
+        [ inl on ↦ (law.links k r here).inward_primary_inward e on | inr off ↦ (law.links k r here).inward_decaying_inward e off.0 ]
 
     has : (has_link (inward_edge r).primary e.link e.side || has_link (inward_edge r).decaying e.link e.side) ≡ true
     has = elim (choose-tells (inward_edge r) r.in_queue.current e chosen) [

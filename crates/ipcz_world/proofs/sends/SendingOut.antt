@@ -22,7 +22,7 @@ use Rattle.ipcz_world.proofs.facts.LinkTests.{side_is, same_side-opposite}
 use Rattle.ipcz_world.proofs.frames.Draining.{is_gone-standing}
 use Rattle.ipcz_world.proofs.facts.Lengths.{same_link-itself, same_side-itself, opposite-twice, view-standing}
 use Rattle.std.proofs.lemmas.Bool.{or_right}
-use Rattle.ipcz_world.proofs.facts.BegunLengths.{bypass_of-central_is}
+use Rattle.ipcz_world.proofs.frames.BegunLengths.{bypass_of-central_is}
 
 -- the link that is chosen: the primary one, or the decaying one below its length
 pub choose-tells : (e : Edge) (n : ℕ) (x : LinkEnd) → choose e n ≡ Some x →
@@ -146,7 +146,7 @@ pub decaying_own : (w : World) (g : Records) (k : Key) (r : Router) (e : LinkEnd
     router_at w k ≡ Some r → r.outward.decaying ≡ Some e → is_outward e.link e.side ≡ true →
     is_short_of r.out_queue.current r.outward.length_to ≡ true → IsOwn g k e
 unfolding is_outward
-decaying_own w g k r e law fresh here off out short = go e.link refl (bypass_of g e.link) refl (law.decaying k r e here off)
+decaying_own w g k r e law fresh here off out short = go e.link refl (bypass_of g e.link) refl ((law.each k r here).decaying e off)
   where
     past : (len : ℕ) (l : LinkId) → link_in r.outward.primary ≡ Some l → r.outward.length_to ≡ Some len → ⊥
     past len l h to = let p = some_link r.outward.primary l h in past_length r.out_queue.current len r.outward.length_to to short
@@ -159,19 +159,19 @@ decaying_own w g k r e law fresh here off out short = go e.link refl (bypass_of 
         old = i;
         link_is = el;
         side_is = s;
-        proxy = law.own_proxy k r e i here off el s;
+        proxy = (law.each k r here).own_proxy e i off el s;
         begun =
             (bypass_of-central_is g i o (ap (bypass_of g) (sym el) ∙ b)).1;
       }
-      | inr s ↦ absurd (past (g.bypass i).accepted_at (Central (g.bypass i).fresh) (law.across_fresh k r e i here off el s)
-          (law.across_to k r e i here off el s))
+      | inr s ↦ absurd (past (g.bypass i).accepted_at (Central (g.bypass i).fresh) ((law.each k r here).across_fresh e i off el s)
+          ((law.each k r here).across_to e i off el s))
     ]
     go (Peripheral n x) el (Some o) b some =
         let by : (g.peripheral (record { node = n; serial = x })).by ≡ Some o =
         sym (bypass_of-inner g (record { node = n; serial = x })) ∙ ap (bypass_of g) (sym el) ∙ b in
         absurd (past (g.bypass o).taken_at (Central (g.bypass o).fresh)
-        (law.inner_fresh k r e (record { node = n; serial = x }) o here off el by)
-        (law.inner_to k r e (record { node = n; serial = x }) o here off el by))
+        ((law.each k r here).inner_fresh e (record { node = n; serial = x }) o off el by)
+        ((law.each k r here).inner_to e (record { node = n; serial = x }) o off el by))
 
 -- what is sent lies below the link's length
 pub below_out : (w : World) (g : Records) (k : Key) (r : Router) (e : LinkEnd) (item : Item) (len : ℕ) → Positions w g → FreshNumbers w g →
@@ -196,12 +196,12 @@ below_out w g k r e item len law fresh proxy here out chosen at h = elim (choose
     primary on (Central i) el t et o q =
         let b = length-known g (Central i) t len q in let begun = (bypass_of-central_is g i b.0 b.1).1 in
         let f = length-old_across g i len (subst (λ z. side_length g (Central i) z ≡ Some len)
-        (sym et ∙ law.primary_across k r e i here on el begun) q) in
-        absurd (omega (arith, f.0, law.primary_old k r e i here on el begun))
+        (sym et ∙ (law.each k r here).primary_across e i on el begun) q) in
+        absurd (omega (arith, f.0, (law.each k r here).primary_old e i on el begun))
     primary on (Peripheral n x) el A et o q = absurd (grind (arith, o))
     primary on (Peripheral n x) el B et o q =
         let f = length-inner_out g (record { node = n; serial = x }) len q in
-        absurd (omega (arith, f.2, law.primary_inner k r e (record { node = n; serial = x }) f.0 here on el f.1))
+        absurd (omega (arith, f.2, (law.each k r here).primary_inner e (record { node = n; serial = x }) f.0 on el f.1))
 
 stage_case : (n m : ℕ) → (n ≤ m) ⊎ (m < n)
 stage_case n m = go (nat_le n m) refl
@@ -273,7 +273,7 @@ there_out w g k r e item law fresh proxy stands bypasses stages here out chosen 
         (ap (λ z. key_passes w z (has_inward_primary (inner_link p) A)) (sym is) ∙ stands.proxy p h by (proxy_unleft p el on)) (attached-inward_primary p)
     proxied p h on el (Some o) by =
         let is : (g.bypass o).inner ≡ p = stands.by_inner p o by in let begun = stands.by_begun p o by in let stage =
-        law.primary_inner k r e p o here on el by in
+        (law.each k r here).primary_inner e p o on el by in
         not_gone w g (inner_link p) A (g.bypass o).proxy (has_inward_decaying (inner_link p) A)
         (ap (λ z. side_router g (inner_link z) A) (sym is) ∙ bypasses.proxy_inner o begun)
         (ap (λ z. key_passes w (Some (g.bypass o).proxy) (has_inward_decaying (inner_link z) A)) (sym is) ∙ stages.proxy_inner o begun
@@ -287,12 +287,12 @@ there_out w g k r e item law fresh proxy stands bypasses stages here out chosen 
         by_begun false b = free i (opposite t) (sym (is_recorded-central w g i) ∙ h) b
             (ap (λ x. is_left g x (opposite t)) (sym el) ∙ ap (λ s. is_left g e.link (opposite s)) (sym et) ∙ unleft on) (side_router g (Central i) (opposite t)) refl
         by_begun true b =
-            let side : opposite t ≡ proxy_side g i = ap opposite (sym et ∙ law.primary_across k r e i here on el b) ∙
+            let side : opposite t ≡ proxy_side g i = ap opposite (sym et ∙ (law.each k r here).primary_across e i on el b) ∙
             opposite-twice (proxy_side g i)
             in
             subst (λ z. is_gone (view w g (Central i) z) ≡ false) (sym side)
             (not_gone w g (Central i) (proxy_side g i) (g.bypass i).proxy (has_decaying (Central i) (proxy_side g i))
-            (bypasses.proxy_old i b) (stages.proxy_old i b (omega (arith, law.primary_old k r e i here on el b)))
+            (bypasses.proxy_old i b) (stages.proxy_old i b (omega (arith, (law.each k r here).primary_old e i on el b)))
             (attached-decaying i (proxy_side g i)))
     primary on (Peripheral n x) el A et o h = absurd (grind (arith, o))
     primary on (Peripheral n x) el B et o h = proxied (record { node = n; serial = x }) h on el
@@ -315,6 +315,6 @@ low_out w g k r c o t law fresh stands bypasses stages here linked at none born 
     let end = has_link-tells r.outward.decaying (inner_of g o) B (grind (arith, standing_rules, has, here)) in
     let by = bypasses.inner_by o (grind (arith, stage, nat_tests)) in
     let p = some_link r.outward.primary (Central (g.bypass o).fresh)
-    (law.inner_fresh k r end.end (g.bypass o).inner o here end.is end.link_is by) in
+    ((law.each k r here).inner_fresh end.end (g.bypass o).inner o end.is end.link_is by) in
     fresh.own k r p.0 end.end (g.bypass o).taken_at here p.1 end.is
-    (law.inner_to k r end.end (g.bypass o).inner o here end.is end.link_is by)
+    ((law.each k r here).inner_to end.end (g.bypass o).inner o end.is end.link_is by)

@@ -50,16 +50,16 @@ pub attached_recorded : (w : World) (g : Records) (k : Key) (r : Router) (link :
     is_attached link s r ≡ true → (e : LinkEnd) × (e.link ≡ link) × (e.side ≡ s) × IsRecorded w g k r e
 unfolding is_attached
 attached_recorded w g k r (Central i) s law here h = elim (edge_has-tells r.outward (Central i) s h) [
-  | inl e ↦ (e.end, e.link_is, e.side_is, law.primary k r e.end here e.is)
-  | inr e ↦ (e.end, e.link_is, e.side_is, law.decaying k r e.end here e.is)
+  | inl e ↦ (e.end, e.link_is, e.side_is, (law k r here).primary e.end e.is)
+  | inr e ↦ (e.end, e.link_is, e.side_is, (law k r here).decaying e.end e.is)
 ]
 attached_recorded w g k r (Peripheral n x) A law here h = elim (edge_has-tells (inward_edge r) (Peripheral n x) A h) [
-  | inl e ↦ (e.end, e.link_is, e.side_is, law.inward_primary k r e.end here e.is)
-  | inr e ↦ (e.end, e.link_is, e.side_is, law.inward_decaying k r e.end here e.is)
+  | inl e ↦ (e.end, e.link_is, e.side_is, (law k r here).inward_primary e.end e.is)
+  | inr e ↦ (e.end, e.link_is, e.side_is, (law k r here).inward_decaying e.end e.is)
 ]
 attached_recorded w g k r (Peripheral n x) B law here h = elim (edge_has-tells r.outward (Peripheral n x) B h) [
-  | inl e ↦ (e.end, e.link_is, e.side_is, law.primary k r e.end here e.is)
-  | inr e ↦ (e.end, e.link_is, e.side_is, law.decaying k r e.end here e.is)
+  | inl e ↦ (e.end, e.link_is, e.side_is, (law k r here).primary e.end e.is)
+  | inr e ↦ (e.end, e.link_is, e.side_is, (law k r here).decaying e.end e.is)
 ]
 
 -- a router that stands at a link's side
@@ -152,7 +152,7 @@ node_of_router g (Peripheral n x) B k e = go (g.peripheral (record { node = n; s
 -- a router with both outward links has a central primary one, the fresh link of a bypass
 pub fresh_central : (w : World) (g : Records) (k : Key) (r : Router) (p d : LinkEnd) → Positions w g → router_at w k ≡ Some r →
     r.outward.primary ≡ Some p → r.outward.decaying ≡ Some d → (c : ℕ) × (p.link ≡ Central c)
-fresh_central w g k r p d law here on off = go d.link refl (bypass_of g d.link) refl (law.decaying k r d here off)
+fresh_central w g k r p d law here on off = go d.link refl (bypass_of g d.link) refl ((law.each k r here).decaying d off)
   where
     told : (c : ℕ) → link_in r.outward.primary ≡ Some (Central c) → (c : ℕ) × (p.link ≡ Central c)
     told c h = (c, grind (arith, h, on))
@@ -161,9 +161,9 @@ fresh_central w g k r p d law here on off = go d.link refl (bypass_of g d.link) 
         (c : ℕ) × (p.link ≡ Central c)
     go l e None b some = absurd (grind (arith, b, some))
     go (Central i) e (Some o) b some = elim (side_is d.side (proxy_side g i)) [
-      | inl s ↦ absurd (grind (arith, law.own_alone k r d i here off e s, on))
-      | inr s ↦ told (g.bypass i).fresh (law.across_fresh k r d i here off e s)
+      | inl s ↦ absurd (grind (arith, (law.each k r here).own_alone d i off e s, on))
+      | inr s ↦ told (g.bypass i).fresh ((law.each k r here).across_fresh d i off e s)
     ]
     go (Peripheral n x) e (Some o) b some = told (g.bypass o).fresh
-        (law.inner_fresh k r d (record { node = n; serial = x }) o here off e
+        ((law.each k r here).inner_fresh d (record { node = n; serial = x }) o off e
         (grind (arith, record_rules, b, e, bypass_of-inner g (record { node = n; serial = x }))))

@@ -1,8 +1,10 @@
 //! A lone parcel: if it is all that the world has to do, it is carried all its way in one go.
 
-ghost use Rattle.std.specs.Prelude.{◌≡◌, ◌≤◌, ◌<◌, ◌+◌, [], None, IfSome, IfNone};
+ghost use Rattle.std.specs.Prelude.{◌≡◌, ◌≤◌, ◌<◌, ◌+◌, ℕ, false, [], None, IfSome, IfNone};
+ghost use Rattle.ipcz_base.specs.declared.link_end.LinkEnd.{LinkEnd as LinkEndRecord};
 ghost use Rattle.ipcz_base.specs.Sides.{opposite};
-ghost use Rattle.ipcz_world.specs.Carrying.{AreQuiet, IsLone, with_hand};
+ghost use Rattle.ipcz_node.specs.Acts.{is_quiet};
+ghost use Rattle.ipcz_world.specs.Carrying.{AreQuiet, Carries, IsCarried, IsLone, IsLoneNode, with_hand};
 ghost use Rattle.ipcz_world.specs.Soundness.{HasLengths};
 ghost use Rattle.ipcz_world.specs.World.{node_at, mail_at, way};
 ghost use Rattle.ipcz_world.specs.Taking.{IsRegular};
@@ -16,7 +18,7 @@ impl State {
     /// Carries a lone parcel all its way in one go: a send out, a post, a look, a hand, and a rest of each router. It gives how many acts that
     /// was, at most `most`, and the node that is visited next. After six acts no node has an act. If the receiver finds no memory for the
     /// parcel, it stays in hand there: that is after four acts, or three within one node. If the parcel isn't all that the world has to do,
-    /// nothing is done.
+    /// or `most` is below 6, nothing is done.
     #[inline(never)]
     pub(crate) fn carry(&mut self, most: u64) -> (u64, u8)
         requires { IsRegular self.old }
@@ -24,6 +26,7 @@ impl State {
         ensures place { IsPlace self.new result.1 }
         ensures within { result.0 ≤ most }
         ensures idle { result.0 ≡ 6 → AreIdle self.new 0 self.new.count }
+        ensures carried { Carries most self.old self.new result.0 }
     {
         if most < 6 {
             return (0, 0);
@@ -51,6 +54,7 @@ impl State {
         ensures place { IsPlace self.new result.1 }
         ensures within { result.0 ≤ 6 }
         ensures idle { result.0 ≡ 6 → AreIdle self.new 0 self.new.count }
+        ensures carried { IsCarried self.old self.new result.0 }
     {
         let (number, sent) = self.nodes.node_mut(n).send_next(serial);
         let mut item = sent;
@@ -77,6 +81,7 @@ impl State {
         ensures place { IsPlace self.new result.1 }
         ensures within { result.0 ≤ 6 }
         ensures idle { result.0 ≡ 6 → AreIdle self.new 0 self.new.count }
+        ensures carried { IsCarried self.old self.new result.0 }
     {
         let (number, sent) = self.nodes.node_mut(n).send_last(serial);
         let mut item = sent;
@@ -119,7 +124,8 @@ impl State {
     #[inline(always)]
     fn lone_parcel(&self) -> Option<(u8, u64, LinkEnd)>
         requires { IsRegular self.now }
-        ensures { IfSome result (λ p. IsLone self.now p.0 p.1 p.2) }
+        ensures some { IfSome result (λ p. IsLone self.now p.0 p.1 p.2) }
+        ensures none { IfNone result ((n serial : ℕ) → (link : LinkEndRecord) → IsLone self.now n serial link → ⊥) }
     {
         if self.mail.has_full() {
             return None;
@@ -141,8 +147,10 @@ impl State {
     fn lone_node(&self) -> Option<u8>
         requires { IsRegular self.now }
         ensures here { IfSome result (λ n. n < self.now.count) }
+        ensures busy { IfSome result (λ n. is_quiet (node_at self.now n) ≡ false) }
         ensures before { IfSome result (λ n. AreQuiet self.now 0 n) }
         ensures behind { IfSome result (λ n. AreQuiet self.now (n + 1) self.now.count) }
+        ensures none { IfNone result ((n : ℕ) → IsLoneNode self.now n → ⊥) }
     {
         let Some(n) = self.first_not_quiet(0) else {
             return None;
@@ -159,6 +167,8 @@ impl State {
     fn first_not_quiet(&self, from: u8) -> Option<u8>
         requires { IsRegular self.now }
         ensures here { IfSome result (λ n. n < self.now.count) }
+        ensures after { IfSome result (λ n. from ≤ n) }
+        ensures busy { IfSome result (λ n. is_quiet (node_at self.now n) ≡ false) }
         ensures before { IfSome result (λ n. AreQuiet self.now from n) }
         ensures none { IfNone result (AreQuiet self.now from self.now.count) }
     {

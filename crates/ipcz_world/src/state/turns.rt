@@ -437,7 +437,6 @@ impl State {
 }
 
 // Whether an act touches no link word.
-#[tactic(auto, unfolding(crate::specs::Wordless::is_wordless))]
 fn is_wordless(act: RouterAct) -> bool
     ensures { result ≡ is_wordless act }
 {

@@ -1,4 +1,4 @@
-use Rattle.std.proofs.Common.{◌≡◌, ◌∙◌, ◌≤◌, ℕ, true, false, cond, nat_eq, [], ap, sym, subst, arith}
+use Rattle.std.proofs.Common.{◌≡◌, ◌∙◌, ◌≤◌, ℕ, true, false, cond, nat_eq, [], ap, sym, subst, refl, inl, inr, arith}
 use Rattle.std.proofs.lemmas.Bool.Decides.{nat_tests}
 use Rattle.ipcz_base.specs.Limits.{no_number}
 use Rattle.ipcz_base.specs.declared.message.Message.TheVariants as messages
@@ -7,13 +7,14 @@ use Rattle.ipcz_router.specs.Acts.{pop_out, rest}
 use Rattle.ipcz_node.specs.Lone.{TakesItem}
 use Rattle.ipcz_world.proofs.Vocabulary.{Node, World, bare_node, ends_in, mail_at, node_at, opposite, place_at, put_place}
 use Rattle.ipcz_world.proofs.Vocabulary.{set_mail, set_node}
-use Rattle.ipcz_world.specs.Carrying.{IsLone, with_hand}
+use Rattle.ipcz_world.specs.Carrying.{IsCarried, IsLone, with_hand}
 use Rattle.ipcz_world.specs.Taking.{IsRegular}
 use Rattle.ipcz_world.specs.Settling.{next_node}
 use Rattle.ipcz_world.specs.Turns.{is_idle, next_at}
 use Rattle.ipcz_world.specs.Visiting.{Walk}
 use Rattle.ipcz_world.specs.contracts.state.State.{the_view}
-use Rattle.ipcz_world.proofs.code.Carrying.{carried, idle-behind, left, sent}
+use Rattle.ipcz_world.proofs.code.Carrying.{came, carried, idle-behind, left, sent}
+use Rattle.ipcz_world.proofs.code.LoneFinds.{in_hand}
 use Rattle.ipcz_world.proofs.code.LoneSenders.{has-item, item-is, lengths-kept, nodes-kept, number-is, sender-is}
 use Rattle.ipcz_world.proofs.code.LoneWorlds.{sends-last, quiet_is}
 use Rattle.ipcz_world.proofs.code.Visiting.{OnWay, on_way-start, walked}
@@ -104,6 +105,36 @@ returns-then-take_last-clause-idle c six =
     λ k _ l. subst (λ z. is_idle (next_at (set_node (set_node v n z) link.other y) k) ≡ true) (sym sender)
     (idle-behind v n c.args.serial link regular lone c.requires.apart low y takes k l)
 
+pub returns-then-take_last-clause-carried : goal.returns-then-take_last-clause-carried
+unfolding node_at set_node
+returns-then-take_last-clause-carried c =
+    let v = the_view c.self.inside in
+    let n = c.args.n in
+    let link = c.args.link in
+    let lone = subst (λ w. IsLone w n c.args.serial link) (sym c.self.view_is) c.requires.lone in
+    let regular = subst IsRegular (sym c.self.view_is) c.requires.regular in
+    let sent = c.send_last-number.ensures in
+    let x = c.send_last-number.new.self.node in
+    let y = c.take_last.new.self.node in
+    let old = c.node_mut.result.now.node in
+    let sender = sender-is v n c.args.serial link lone old c.node_mut.ensures.value (λ r. rest (pop_out r)) x sent.node in
+    let number = number-is v n c.args.serial link lone old c.node_mut.ensures.value c.send_last-number.result.0 sent.number in
+    let item = item-is v n c.args.serial link lone old c.node_mut.ensures.value c.send_last-number.result.1 sent.item in
+    let taker = taker-is v n link.other x c.node_mut-2.result.now.node c.requires.apart c.node_mut-2.ensures.value in
+    let low = subst (λ (z : Node). z.next_peripheral ≤ no_number) c.node_mut.ensures.value sent.serials in
+    let takes = subst (λ z. TakesItem z link.link (opposite link.side) lone.sends.sender.router.out_queue.current (sends-last lone).item y) taker
+    (subst (λ z. TakesItem c.node_mut-2.result.now.node link.link (opposite link.side) lone.sends.sender.router.out_queue.current z y) item
+    (subst (λ z. TakesItem c.node_mut-2.result.now.node link.link (opposite link.side) z c.send_last-number.result.1 y) number
+    (subst (λ z. TakesItem c.node_mut-2.result.now.node link.link z c.send_last-number.result.0 c.send_last-number.result.1 y)
+    c.opposite-side.ensures (c.take_last.ensures.taken c.if-take_last.true)))) in
+    subst (λ w. IsCarried w (set_node (set_node v n x) link.other y) 6) c.self.view_is (record {
+      node = n;
+      serial = c.args.serial;
+      link = link;
+      lone = lone;
+      came = inl (refl, came v n c.args.serial link regular lone c.requires.apart low y takes x);
+    })
+
 pub leave_in_hand-requires-clause-lengths : goal.leave_in_hand-requires-clause-lengths
 unfolding set_node
 leave_in_hand-requires-clause-lengths c =
@@ -165,3 +196,12 @@ returns-clause-walk c =
     subst (λ w. Walk w c.leave_in_hand.new.self 4 c.next_node-2.result) c.self.view_is
     (subst (λ k. Walk v c.leave_in_hand.new.self 4 k) (sym next)
     (subst (λ u. Walk v u 4 (next_node v n)) (sym world) (walked v _ 4 (next_node v n) on)))
+
+pub returns-clause-carried : goal.returns-clause-carried
+returns-clause-carried c = record {
+  node = c.args.n;
+  serial = c.args.serial;
+  link = c.args.link;
+  lone = c.requires.lone;
+  came = inr (ap (λ (w : World). (node_at w c.args.link.other).hand) c.leave_in_hand.ensures ∙ in_hand _ c.args.n c.args.link.other _);
+}

@@ -1,4 +1,4 @@
-use Rattle.std.proofs.Common.{◌≡◌, ◌∙◌, ◌≤◌, ℕ, true, cond, nat_eq, [], ap, sym, subst, arith}
+use Rattle.std.proofs.Common.{◌≡◌, ◌∙◌, ◌≤◌, ℕ, true, cond, nat_eq, [], ap, sym, subst, refl, inl, inr, arith}
 use Rattle.std.specs.Prelude.{is_some}
 use Rattle.std.proofs.lemmas.Bool.Decides.{nat_tests}
 use Rattle.ipcz_base.specs.Limits.{no_number}
@@ -12,14 +12,15 @@ use Rattle.ipcz_node.specs.Lone.{TakesItem}
 use Rattle.ipcz_node.proofs.LoneNodes.{stands}
 use Rattle.ipcz_world.proofs.Vocabulary.{Node, World, bare_node, commit, ends_in, mail_at, node_at, opposite, place_at, put_place, router_in}
 use Rattle.ipcz_world.proofs.Vocabulary.{set_mail, set_node}
-use Rattle.ipcz_world.specs.Carrying.{IsLone, with_hand}
+use Rattle.ipcz_world.specs.Carrying.{IsCarried, IsLone, with_hand}
 use Rattle.ipcz_world.specs.Settling.{next_node}
 use Rattle.ipcz_world.specs.Taking.{IsRegular}
 use Rattle.ipcz_world.specs.Visiting.{Walk}
 use Rattle.ipcz_world.specs.contracts.state.State.{the_view}
 use Rattle.ipcz_world.proofs.acts.Updating.{node-here}
 use Rattle.ipcz_world.proofs.code.LoneWorlds.{sends-last}
-use Rattle.ipcz_world.proofs.code.CarryingWithin.{carried, idle-behind, left, sent}
+use Rattle.ipcz_world.proofs.code.CarryingWithin.{came, carried, idle-behind, left, sent}
+use Rattle.ipcz_world.proofs.code.LoneFinds.{in_hand}
 use Rattle.ipcz_world.proofs.code.LoneSenders.{has-item, item-is, kept-there, lengths-kept, nodes-kept, number-is, sender-is}
 use Rattle.ipcz_world.proofs.code.Visiting.{on_way-start, walked}
 use Rattle.ipcz_world.proofs.state.State.carry_within.Goals as goal
@@ -133,6 +134,39 @@ returns-then-take_last-clause-idle c six =
     let rested = c.rest.ensures.node ∙ ap (λ k. commit k (acts.Router c.args.serial router_acts.Rest) Plain) behind in
     λ k _ l. idle-behind v n c.args.serial link regular lone c.requires.same low y takes x z rested k l
 
+pub returns-then-take_last-clause-carried : goal.returns-then-take_last-clause-carried
+unfolding node_at set_node
+returns-then-take_last-clause-carried c =
+    let v = the_view c.self.inside in
+    let n = c.args.n in
+    let link = c.args.link in
+    let lone = subst (λ w. IsLone w n c.args.serial link) (sym c.self.view_is) c.requires.lone in
+    let regular = subst IsRegular (sym c.self.view_is) c.requires.regular in
+    let given = c.send_next-number.ensures in
+    let x = c.send_next-number.new.self.node in
+    let y = c.take_last.new.self.node in
+    let z = c.rest.new.self.node in
+    let old = c.node_mut.result.now.node in
+    let sender = sender-is v n c.args.serial link lone old c.node_mut.ensures.value pop_out x given.node in
+    let number = number-is v n c.args.serial link lone old c.node_mut.ensures.value c.send_next-number.result.0 given.number in
+    let item = item-is v n c.args.serial link lone old c.node_mut.ensures.value c.send_next-number.result.1 given.item in
+    let taker = written-is v n x c.node_mut-2.result.now.node c.node_mut-2.ensures.value ∙ sender in
+    let low = subst (λ (z : Node). z.next_peripheral ≤ no_number) c.node_mut.ensures.value given.serials in
+    let takes = subst (λ z. TakesItem z link.link (opposite link.side) lone.sends.sender.router.out_queue.current (sends-last lone).item y) taker
+    (subst (λ z. TakesItem c.node_mut-2.result.now.node link.link (opposite link.side) lone.sends.sender.router.out_queue.current z y) item
+    (subst (λ z. TakesItem c.node_mut-2.result.now.node link.link (opposite link.side) z c.send_next-number.result.1 y) number
+    (subst (λ z. TakesItem c.node_mut-2.result.now.node link.link z c.send_next-number.result.0 c.send_next-number.result.1 y)
+    c.opposite-across.ensures (c.take_last.ensures.taken c.if-take_last.true)))) in
+    let behind = written-is (set_node v n x) n y c.node_mut-then-take_last.result.now.node c.node_mut-then-take_last.ensures.value in
+    let rested = c.rest.ensures.node ∙ ap (λ k. commit k (acts.Router c.args.serial router_acts.Rest) Plain) behind in
+    subst (λ w. IsCarried w (set_node (set_node (set_node v n x) n y) n z) 6) c.self.view_is (record {
+      node = n;
+      serial = c.args.serial;
+      link = link;
+      lone = lone;
+      came = inl (refl, came v n c.args.serial link regular lone c.requires.same low y takes x z rested);
+    })
+
 pub leave_in_hand-requires-clause-lengths : goal.leave_in_hand-requires-clause-lengths
 unfolding set_node
 leave_in_hand-requires-clause-lengths c =
@@ -199,3 +233,12 @@ returns-clause-walk c =
     subst (λ w. Walk w c.leave_in_hand.new.self 3 c.next_node-2.result) c.self.view_is
     (subst (λ k. Walk v c.leave_in_hand.new.self 3 k) (sym next)
     (subst (λ u. Walk v u 3 (next_node v n)) (sym world) (walked v _ 3 (next_node v n) on)))
+
+pub returns-clause-carried : goal.returns-clause-carried
+returns-clause-carried c = record {
+  node = c.args.n;
+  serial = c.args.serial;
+  link = c.args.link;
+  lone = c.requires.lone;
+  came = inr (ap (λ (w : World). (node_at w c.args.link.other).hand) c.leave_in_hand.ensures ∙ in_hand _ c.args.n c.args.link.other _);
+}

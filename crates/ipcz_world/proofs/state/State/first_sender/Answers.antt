@@ -9,7 +9,7 @@ use Rattle.ipcz_world.proofs.state.State.first_sender.Goals as goal
 pub returns-then-not-has_full : goal.returns-then-not-has_full
 unfolding mail_at
 returns-then-not-has_full c =
-    let none = λ (k : ℕ). subst (λ (w : World). is_full (mail_at w k) ≡ false) c.self.view_is (c.has_full.ensures c.if-not-has_full.true k) in
+    let none = λ (k : ℕ). subst (λ (w : World). is_full (mail_at w k) ≡ false) c.self.view_is (c.has_full.ensures.none c.if-not-has_full.true k) in
     sym (no_sender c.args.self.now c.args.n c.requires.regular.lengths.few none)
     ∙ ap (first_number (λ i. place_at false (seen_at c.args.self.now c.args.n).full i) 0)
     (sym (c.requires.regular.sound c.args.n c.requires.node).count_is)

@@ -1,12 +1,14 @@
-use Rattle.std.proofs.Common.{◌≡◌, ◌∙◌, ◌<◌, ◌+◌, ℕ, Bool, true, false, nat_lt, ap, sym, subst, refl, arith}
+use Rattle.std.proofs.Common.{◌≡◌, ◌∙◌, ◌<◌, ◌≤◌, ◌+◌, ℕ, Bool, true, false, true≢false, nat_lt, ap, sym, subst, refl, arith}
 use Rattle.std.proofs.lemmas.Bool.Decides.{nat_tests}
 use Rattle.ipcz_node.specs.Acts.{is_quiet}
 use Rattle.ipcz_node.specs.Lone.{SendsOnly}
-use Rattle.ipcz_world.proofs.Vocabulary.{World, Empty, mail_at, node_at, place_at, way}
+use Rattle.ipcz_world.proofs.Vocabulary.{LinkEnd, World, Empty, mail_at, node_at, place_at, way}
 use Rattle.ipcz_world.specs.declared.mail.Mail.{Mail}
 use Rattle.ipcz_world.specs.declared.mail.Mail.TheVariants.{Full, Hand}
 use Rattle.ipcz_world.specs.Turns.{is_clear, is_full}
-use Rattle.ipcz_world.specs.Carrying.{AreQuiet}
+use Rattle.ipcz_world.specs.Carrying.{AreQuiet, IsLone}
+use Rattle.ipcz_world.proofs.code.LoneFinds.{busy_is, link_is, lone_alone}
+use Rattle.ipcz_world.proofs.state.State.lone_parcel.Goals.{then-link-self-via-then-link-self, then-link-self-via-else-link-self+then-not-is_clear}
 use Rattle.ipcz_world.proofs.state.State.lone_parcel.Goals as goal
 
 empty_is : (b : Mail) → is_clear b ≡ true → b ≡ Empty
@@ -22,9 +24,9 @@ others w n k before behind l ne = go (nat_lt k n) refl
     go true e = before k (omega arith) (grind (arith, e, nat_tests))
     go false e = behind k (grind (arith, e, ne, nat_tests)) l
 
-pub returns : goal.returns
+pub returns-clause-some : goal.returns-clause-some
 unfolding node_at mail_at
-returns c =
+returns-clause-some c =
     let w = c.args.self.now in
     let n = c.in-Some.n in
     let serial = c.in-Some-only_sender.serial in
@@ -33,7 +35,7 @@ returns c =
     let there : is_clear (place_at Empty c.self.inside.mail (way w n link.other)) ≡ true =
     subst (λ k. is_clear (place_at Empty c.self.inside.mail k) ≡ true) c.way.ensures.way clear in
     record {
-      mail = subst (λ (u : World). (k : ℕ) → is_full (mail_at u k) ≡ false) c.self.view_is (c.has_full.ensures c.if-has_full.false);
+      mail = subst (λ (u : World). (k : ℕ) → is_full (mail_at u k) ≡ false) c.self.view_is (c.has_full.ensures.none c.if-has_full.false);
       here = c.in-Some.ensures.here;
       there = subst (λ (u : World). link.other < u.count) c.self.view_is c.if-link-self.false;
       others = λ k l ne. others w n k c.in-Some.ensures.before c.in-Some.ensures.behind l ne;
@@ -42,3 +44,57 @@ returns c =
       sends = subst (λ x. SendsOnly x serial link) (c.node.ensures ∙ ap (λ (u : World). node_at u n) c.self.view_is)
           c.in-Some-only_sender.ensures.some;
     }
+
+pub returns-then-has_full-clause-none : goal.returns-then-has_full-clause-none
+unfolding mail_at
+returns-then-has_full-clause-none c n serial link lone =
+    let t = c.has_full.ensures.some c.if-has_full.true in
+    let full : is_full (mail_at c.args.self.now t.0) ≡ true =
+    subst (λ (u : World). is_full (mail_at u t.0) ≡ true) c.self.view_is t.1 in
+    true≢false (sym full ∙ lone.mail t.0)
+
+pub returns-in_default-clause-none : goal.returns-in_default-clause-none
+returns-in_default-clause-none c n serial link lone =
+    c.in_default.ensures.none n (lone_alone c.args.self.now n serial link lone)
+
+-- the only node that isn't quiet is the one that was found
+sends_there : (w : World) (n serial : ℕ) (link : LinkEnd) (k : ℕ) → IsLone w n serial link → k < w.count →
+    is_quiet (node_at w k) ≡ false → SendsOnly (node_at w k) serial link
+sends_there w n serial link k lone l busy =
+    subst (λ i. SendsOnly (node_at w i) serial link) (busy_is w n k (lone_alone w n serial link lone) l busy) lone.sends
+
+pub returns-in_default-only_sender-clause-none : goal.returns-in_default-only_sender-clause-none
+unfolding node_at
+returns-in_default-only_sender-clause-none c n serial link lone =
+    let w = c.args.self.now in
+    let k = c.in-Some.n in
+    c.in_default-only_sender.ensures.none serial link
+    (subst (λ x. SendsOnly x serial link) (sym (c.node.ensures ∙ ap (λ (u : World). node_at u k) c.self.view_is))
+    (sends_there w n serial link k lone c.in-Some.ensures.here c.in-Some.ensures.busy))
+
+pub returns-then-link-self-clause-none : goal.returns-then-link-self-clause-none
+unfolding node_at mail_at is_clear
+returns-then-link-self-clause-none c n serial link lone =
+    let w = c.args.self.now in
+    let k = c.in-Some.n in
+    let found = c.in-Some-only_sender.link in
+    let here : n ≡ k = busy_is w n k (lone_alone w n serial link lone) c.in-Some.ensures.here c.in-Some.ensures.busy in
+    let sends = subst (λ x. SendsOnly x c.in-Some-only_sender.serial found) (c.node.ensures ∙ ap (λ (u : World). node_at u k) c.self.view_is)
+    c.in-Some-only_sender.ensures.some in
+    let same : link ≡ found = link_is (node_at w k) serial c.in-Some-only_sender.serial link found
+    (sends_there w n serial link k lone c.in-Some.ensures.here c.in-Some.ensures.busy) sends in
+    let there : found.other < w.count = subst (λ (e : LinkEnd). e.other < w.count) same lone.there in
+    let box : mail_at w (way w k found.other) ≡ Empty = subst (λ (e : LinkEnd). mail_at w (way w k e.other) ≡ Empty) same
+    (subst (λ i. mail_at w (way w i link.other) ≡ Empty) here lone.box) in
+    elim c.then-link-self.branch [
+      | then-link-self-via-then-link-self b ↦
+          let beyond : w.count ≤ found.other = subst (λ (u : World). u.count ≤ found.other) c.self.view_is b.if-link-self.true in
+          omega (arith, there, beyond)
+      | then-link-self-via-else-link-self+then-not-is_clear b ↦
+          let held : is_clear (place_at Empty c.self.inside.mail b.way.result) ≡ false = sym b.is_clear.ensures ∙ b.if-not-is_clear.true in
+          let told : is_clear (place_at Empty c.self.inside.mail (way w k found.other)) ≡ false =
+          subst (λ i. is_clear (place_at Empty c.self.inside.mail i) ≡ false) b.way.ensures.way held in
+          let at : is_clear (mail_at w (way w k found.other)) ≡ false =
+          subst (λ (u : World). is_clear (mail_at u (way w k found.other)) ≡ false) c.self.view_is told in
+          true≢false (sym (ap is_clear box) ∙ at)
+    ]

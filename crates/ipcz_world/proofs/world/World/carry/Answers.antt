@@ -2,6 +2,7 @@ use Rattle.std.specs.Prelude.{ℕ, Bool, true, false, List, [], ◌∷◌}
 use Rattle.std.proofs.Common.{subst, sym}
 use Rattle.ipcz_world.specs.declared.step.Reply.TheVariants.{Turned}
 use Rattle.ipcz_world.specs.declared.step.Step.TheVariants.{Turn}
+use Rattle.ipcz_world.specs.Carrying.{Carries}
 use Rattle.ipcz_world.specs.Lawfulness.{IsLawful}
 use Rattle.ipcz_world.specs.Settling.{AreVisits, next_node}
 use Rattle.ipcz_world.specs.World.{World}
@@ -24,3 +25,6 @@ invariant_of-self c = let walk = c.carry.ensures.walk in lawful-still 0 walk.vis
 
 pub returns-clause-lawful : goal.returns-clause-lawful
 returns-clause-lawful c = let walk = c.carry.ensures.walk in lawful-still 0 walk.visits _ _ walk.turns c.self.invariant
+
+pub returns-clause-carried : goal.returns-clause-carried
+returns-clause-carried c = subst (λ w. Carries c.args.most w c.carry.new.self c.carry.result.0) c.self.view_is c.carry.ensures.carried

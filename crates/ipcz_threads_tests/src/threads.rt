@@ -1,5 +1,6 @@
 //! Scripts whose settles run on threads.
-use super::cases::CASES;
+
+use crate::cases::CASES;
 use ipcz_base::Device;
 use ipcz_fabric::Gate;
 use ipcz_script::{Outcome, RunFault};

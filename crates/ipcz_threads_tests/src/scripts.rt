@@ -1,17 +1,10 @@
-//! Scripts run whole, from bytes to bytes.
-mod cases;
-mod threads;
+//! Scripts on one thread.
 
-use crate::slow_devices::{SlowReader, SlowWriter};
-use cases::CASES;
+use crate::cases::CASES;
 use ipcz_base::Device;
 use ipcz_script::{Outcome, RunFault, ScriptFault, run_script};
 use std::alloc::Global;
 use std::test::Fail;
-
-const SHORT_SCRIPT: &[u8] = br#"{"nodes":1,"words":1,"commands":[["open",0,"x","y"],["get","y"]]}"#;
-
-const SHORT_TRANSCRIPT: &[u8] = b"open x y ok\nget y Empty\n";
 
 // Runs the script, with its transcript behind what `out` holds.
 fn run(alloc: Global, script: &[u8], out: &mut Vec<u8>) -> Result<Outcome, RunFault> {
@@ -71,58 +64,6 @@ fn says_why_bytes_are_no_script(rt: HostRuntime) -> Result<(), Fail> {
             "{text}"
         );
         assert_eq!(rt; out.as_slice(), text.as_bytes());
-    }
-    Ok(())
-}
-
-#[test]
-fn writes_nothing_after_a_failed_read(rt: HostRuntime) -> Result<(), Fail> {
-    let all = SHORT_SCRIPT.len() + 1;
-    for reads_left in 0..=all {
-        let mut reader = Device::new(SlowReader {
-            bytes: SHORT_SCRIPT,
-            reads_left,
-        });
-        let mut out = Vec::new(rt.alloc());
-        let ending = run_script(rt.alloc(), &mut reader, &mut Device::new(&mut out));
-        if reads_left < all {
-            assert_eq!(rt; ending, Err(RunFault::Read), "{reads_left}");
-            assert!(rt; out.is_empty(), "{reads_left}");
-        } else {
-            assert_eq!(rt; ending, Ok(Outcome::Done));
-            assert_eq!(rt; out.as_slice(), SHORT_TRANSCRIPT);
-        }
-    }
-    Ok(())
-}
-
-// The transcript is 24 bytes, so 8 writes.
-#[test]
-fn writes_a_front_before_a_failed_write(rt: HostRuntime) -> Result<(), Fail> {
-    for fails in [false, true] {
-        for writes_left in 0..=8usize {
-            let mut out = Vec::new(rt.alloc());
-            let ending = run_script(
-                rt.alloc(),
-                &mut Device::new(SHORT_SCRIPT),
-                &mut Device::new(SlowWriter {
-                    taken: &mut out,
-                    writes_left,
-                    fails,
-                }),
-            );
-            let want = if writes_left < 8 {
-                Err(RunFault::Write)
-            } else {
-                Ok(Outcome::Done)
-            };
-            assert_eq!(rt; ending, want, "{writes_left}");
-            assert_eq!(rt;
-                out.as_slice(),
-                &SHORT_TRANSCRIPT[..3 * writes_left],
-                "{writes_left}"
-            );
-        }
     }
     Ok(())
 }

@@ -17,8 +17,8 @@ use Rattle.ipcz_world.specs.Standing.{View, Awaited, Waiting, Gone}
 use Rattle.ipcz_world.specs.Laws.{is_flush, StrayLaw}
 use Rattle.ipcz_world.proofs.views.Known.{IsStanding, standing_known, node_of_router}
 use Rattle.ipcz_world.proofs.views.Telling.{peer_told, accept_told, stop_told, will_stop_told}
-use Rattle.ipcz_world.proofs.lawful.LinkLaws.{Passes, passes-tells}
 use Rattle.ipcz_world.proofs.facts.Lengths.{has_attached}
+use Rattle.ipcz_world.proofs.views.Passing.{Passes, passes-tells}
 
 -- what is found among entries by its key passes the test, so something is found by the test
 first_found : (test : Router → Bool) (es : List (ℕ × Router)) (s : ℕ) (r : Router) → find nat_cmp s es ≡ Some r → test r ≡ true →
