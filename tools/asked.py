@@ -20,7 +20,7 @@ def program(given: str) -> pathlib.Path:
 
 
 def built(crate: str) -> pathlib.Path:
-    """The program of a crate; the tool ends where it isn't there."""
+    """The program of a crate; the tool ends if it isn't there."""
     path = TOP / "crates" / crate / "out" / crate
     if not path.is_file():
         sys.exit(f"{path.relative_to(TOP)} isn't built: `.ci/run` builds it, or `rt run` in crates/{crate}")

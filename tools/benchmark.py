@@ -23,14 +23,14 @@ the runs have real-time priority, so that a busy machine gives them processors o
 prints the ratios and the conditions: 25 runs of 20,000 of each, the least and the middle one.
 
 Each workload is made for a quarter, a half and the whole of 1,048,576 bytes, which is the longest script.
-The table has the `user` time in milliseconds (the least of five runs where a run is short) and the peak
+The table has the `user` time in milliseconds (the least of five runs if a run is short) and the peak
 memory in MiB, as GNU time (/usr/bin/time) tells it; the factors are those from 1/4 to 1/2 and from 1/2
-to 1. `lines` are those of the transcript. The status is the program's: 0, or 4 where a settle came to its
+to 1. `lines` are those of the transcript. The status is the program's: 0, or 4 if a settle came to its
 limit of 1,000,000 acts. Nothing is kept.
 
-`pairs` compares what one parcel costs on one node, put, settled and got: where there is one pair, on the last of
+`pairs` compares what one parcel costs on one node, put, settled and got: if there is one pair, on the last of
 4,000 pairs, and one on each of 1,000 pairs; the time of the opens alone is subtracted. `waiting` compares what one
-parcel costs where 1, 10, 100 and 1,000 parcels wait before it. `largest` shows the scripts that take most memory.
+parcel costs if 1, 10, 100 and 1,000 parcels wait before it. `largest` shows the scripts that take most memory.
 """
 import argparse
 import os
@@ -298,7 +298,7 @@ REAL_TIME = ["chrt", "-f", "10"]
 
 
 def prefix() -> list[str]:
-    """What gives a run real-time priority, where that may be had."""
+    """What gives a run real-time priority, if that may be had."""
     before = REAL_TIME if subprocess.run(REAL_TIME + ["true"], stderr=subprocess.DEVNULL).returncode == 0 else []
     print("with real-time priority" if before else "with the priority of other programs", flush=True)
     return before
@@ -344,7 +344,7 @@ def instructions(name: str, rounds: int, program: str = BENCH) -> int:
 
 
 def each_of(command: list[str]) -> int | None:
-    """The instructions of one round of a command that takes a number of rounds, or none where they can't be counted."""
+    """The instructions of one round of a command that takes a number of rounds, or none if they can't be counted."""
     return round((counted([*command, "12000"]) - counted([*command, "2000"])) / 10000) if shutil.which("valgrind") else None
 
 
@@ -402,7 +402,7 @@ def nested(size: int) -> str:
 
 
 def shows(size: int) -> str:
-    """Opens of all 4,096 words, and then `show` alone: the longest transcript."""
+    """Opens of all 4,096 words, and then only `show`: the longest transcript."""
     opens = ['["open",0,"a%x","b%x"]' % (i, i) for i in range(4096)]
     return '{"nodes":1,"words":4096,"commands":[' + ",".join(opens + ['["show"]'] * ((size - 110000) // 9)) + "]}"
 

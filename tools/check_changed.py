@@ -1,6 +1,6 @@
 """Checks what has changed since a commit, and what stands on it, in minutes. This is not the gate.
 
-    python3 tools/check_changed.py [COMMIT]    since where this branch left main, if nothing is said; fails where something is wrong
+    python3 tools/check_changed.py [COMMIT]    since where this branch left main, if nothing is said; fails if something is wrong
 
 For each crate that has changed, and each above it, lowest first: its proof, its tests' proof, and its tests, over what earlier checks kept in the
 folders `out`. A crate that has changed is laid out by `rt fmt` before, and behind all of them its edits are tried whose function has changed.

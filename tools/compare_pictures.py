@@ -1,5 +1,5 @@
 """Draws the transcript of each script of docs/pictures, and each transcript there, and prints which stored picture is another; nothing
-where all are as stored.
+if all are as stored.
 
     python3 tools/compare_pictures.py            compares
     python3 tools/compare_pictures.py --store    stores the pictures anew (look at each of them then)

@@ -55,7 +55,7 @@ class Drawing:
         return self.draw.choice([*self.run.ends, "nobody", "9>0"])
 
     def attached(self, at: str, count: int) -> list[str]:
-        """Names of portals to attach at one: mostly of those that are held beside it, but for its own pair."""
+        """Names of portals to attach at one: mostly of the others that are held at its node, except those of its own pair."""
         end = self.run.ends.get(at)
         node = end and self.run.world.holder_of(end)
         if not node or self.draw.random() < 0.1:

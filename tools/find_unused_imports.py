@@ -1,7 +1,7 @@
 """Finds names that a file imports for its clauses or proofs and doesn't use.
 
     python3 tools/find_unused_imports.py                    all crates; prints each such name, and fails if there is one
-    python3 tools/find_unused_imports.py CRATE ..           these crates alone
+    python3 tools/find_unused_imports.py CRATE ..           only these crates
     python3 tools/find_unused_imports.py --remove CRATE ..  takes them out of the files (run `rt fmt` and `rt check` then)
 
 In a .rt file a name of a `ghost use` line is used where it stands in a clause: what `requires`, `ensures` or `ghost NAME` has in

@@ -2,7 +2,7 @@
 
     python3 tools/model.py < script.json     prints the transcript of a script, as `ipcz_run` does, with its status
 
-It holds the rules for scripts of trusted nodes: which messages would be strays it doesn't know, and fails where one doesn't fit.
+It holds the rules for scripts of trusted nodes: which messages would be strays it doesn't know, and fails if one doesn't fit.
 """
 from __future__ import annotations
 
@@ -169,7 +169,7 @@ class Node:
         return found[0]
 
     def asked(self, link: Link, side: str) -> tuple[Router, Edge] | tuple[None, None]:
-        """The router that has a link at a side, and its edge that has it; none and none where no router here does."""
+        """The router that has a link at a side, and its edge that has it; none and none if no router here does."""
         for router in self.routers.values():
             for edge in router.edges():
                 if any(at.link == link and at.side == side for at in edge.links()):
@@ -250,7 +250,7 @@ class World:
         node.held.discard(at)
         return number
 
-    # A node's turn: each of these gives the text of its event, or nothing where it isn't possible
+    # A node's turn: each of these gives the text of its event, or nothing if it isn't possible
 
     def turn(self, number: int) -> str:
         node = self.nodes[number]
@@ -550,7 +550,7 @@ def is_command(command: Any, nodes: int, opened: set[str]) -> bool:
 
 
 def first_fault(script: Any) -> int | None:
-    """0 where a value isn't an object of nodes, words and commands, else the number of its first bad command, or none."""
+    """0 if a value isn't an object of nodes, words and commands, else the number of its first bad command, or none."""
     if type(script) is not dict or set(script) != {"nodes", "words", "commands"} or not is_number(script["nodes"], 1, 8):
         return 0
     nodes, commands = script["nodes"], script["commands"]

@@ -1,15 +1,15 @@
 """Runs scripts once for each growth of memory that they ask for, with that one refused.
 
     python3 tools/refuse_growth.py PROGRAM < SCRIPT       a line of how the runs ended
-    python3 tools/refuse_growth.py PROGRAM FILE.rt ..     each script of a table of cases; prints what is wrong alone
+    python3 tools/refuse_growth.py PROGRAM FILE.rt ..     each script of a table of cases; prints only what is wrong
     python3 tools/refuse_growth.py PROGRAM FILE.json ..   the same of one script, of which a bypass or a retiring sink must grow
     python3 tools/refuse_growth.py --threads PROGRAM ..   the same with the argument `threads`; of a table, the scripts that are marked for it
-    python3 tools/refuse_growth.py --retries PROGRAM      of `ipcz_faults`, which makes each refused call again; prints what is wrong alone
+    python3 tools/refuse_growth.py --retries PROGRAM      of `ipcz_faults`, which makes each refused call again; prints only what is wrong
     python3 tools/refuse_growth.py --counts PROGRAM       the same, and how many growths each of its lines told of
 
-Each run must end with status 3 and write nothing; or, where the growth was that of a bypass's first message or of Gone, end as ever and
+Each run must end with status 3 and write nothing; or, if the growth was that of a bypass's first message or of Gone, end as ever and
 write the same lines but for two more: after the lock it is given back, with the word as it was before, and got again. Or it ends as ever
-where the growth could be done without.
+if the growth could be done without.
 
 A run of `ipcz_faults` must end as ever and write the same lines, but that just one of them tells of the growth: `, refused 1` of a
 call that left all as it was, `, unlocked 1` of a lock that was given back and got again, or `, refused beside 1` of what stands
@@ -82,7 +82,7 @@ def ends_of(program: list, script: bytes, library: str, count: str) -> tuple[int
 
 
 def told_by(lines: list[str], written: list[str]) -> tuple[int, str] | None:
-    """Returns the place of the one line that tells of a refused growth, and what it tells; none where the lines differ otherwise."""
+    """Returns the place of the one line that tells of a refused growth, and what it tells; none if the lines differ otherwise."""
     if len(written) != len(lines):
         return None
     others = [place for place, line in enumerate(lines) if written[place] != line]

@@ -1,4 +1,4 @@
-"""Opens, moves and closes pairs over four nodes by a script, until each link word is claimed, and prints what is wrong alone.
+"""Opens, moves and closes pairs over four nodes by a script, until each link word is claimed, and prints only what is wrong.
 
     python3 tools/soak.py PROGRAM [WORDS]     4,096 words if nothing is said
 

@@ -2,7 +2,7 @@
 
     python3 tools/try_callers.py               over the archive that `rt lib` builds
     python3 tools/try_callers.py --after-ci    over the libraries that `rt ci` left here, as .ci/run does
-    python3 tools/try_callers.py --all         fails where a compiler or valgrind isn't on the machine
+    python3 tools/try_callers.py --all         fails if a compiler or valgrind isn't on the machine
 
 The library is installed in a folder of its own by `tools/install_c.py`, and each caller is built from there, by the flags that pkg-config
 tells. What a caller of `callers/c` and `callers/cpp` prints is compared with the file beside it that ends in `.out`. It runs again under
@@ -48,7 +48,7 @@ class Callers:
         return False
 
     def run(self, what: str, command: list[str], env: dict[str, str] | None = None, cwd: pathlib.Path | None = None) -> str | None:
-        """What a command prints, or none where it fails."""
+        """What a command prints, or none if it fails."""
         try:
             done = subprocess.run(
                 command, stdin=subprocess.DEVNULL, stdout=subprocess.PIPE, stderr=subprocess.STDOUT, text=True, errors="replace",
@@ -120,7 +120,7 @@ class Callers:
 def main() -> None:
     given = argparse.ArgumentParser(description=__doc__, formatter_class=argparse.RawDescriptionHelpFormatter)
     given.add_argument("--after-ci", action="store_true", help="build over the libraries that rt ci left")
-    given.add_argument("--all", action="store_true", help="fail where a compiler or valgrind isn't on the machine")
+    given.add_argument("--all", action="store_true", help="fail if a compiler or valgrind isn't on the machine")
     asked = given.parse_args()
     with tempfile.TemporaryDirectory(prefix="try-callers-") as room:
         callers = Callers(pathlib.Path(room))

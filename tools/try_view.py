@@ -1,4 +1,4 @@
-"""Opens stored pictures in tools/view.html by a headless Chromium, and prints what it shows that it must not; nothing where all is well.
+"""Opens stored pictures in tools/view.html by a headless Chromium, and prints what it shows that it must not; nothing if all is well.
 
     python3 tools/try_view.py                  looks for chromium
     python3 tools/try_view.py --shot FILE.png  stores a screenshot, too

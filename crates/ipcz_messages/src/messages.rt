@@ -13,6 +13,7 @@ mod made;
 mod mailbox;
 mod making;
 pub mod namings;
+mod newborns;
 mod receivers;
 
 pub use births::note_births;

@@ -8,6 +8,7 @@ ghost use Rattle.std.specs.Prelude.{◌≡◌, length};
 
 use crate::messages::Message;
 use crate::messages::namings::{Naming, namings, sole};
+use crate::messages::newborns::newborns;
 use crate::moves::{Move, Moves};
 use crate::routers::Router;
 use ipcz_lines::{Kind, ReadLine};
@@ -68,7 +69,9 @@ pub fn note_births(
 ) -> Result<(), AllocError>
     ensures { length routers.new.items ≡ length routers.old.items }
 {
-    let namings = namings(alloc, lines, routers.as_slice())?;
+    let known = newborns(alloc, lines, routers.as_slice(), messages)?;
+    let mut namings = namings(alloc, lines, routers.as_slice())?;
+    namings.extend_from_slice(known.as_slice())?;
     for moved in &moves.all {
         note_move(routers, namings.as_slice(), messages, moved);
     }

@@ -14,6 +14,7 @@ use crate::messages::joining::joined;
 use crate::messages::leftovers::{Part, explain};
 use crate::messages::made::{Made, made_by, reply};
 use crate::messages::namings::{Naming, namings, sole};
+use crate::messages::newborns::newborns;
 use crate::messages::receivers::{Receiver, receivers};
 use crate::routers::{Router, find};
 use ipcz_lines::{Event, Kind, Line, Link, ReadLine, RouterEvent};
@@ -316,20 +317,23 @@ impl<'a> Making<'a> {
     }
 }
 
-/// The messages of a transcript, in the order in which they came into sight.
-pub fn messages<'a>(
+// The messages of a transcript, if besides what the lines name the links of these routers are known.
+fn messages_with<'a>(
     alloc: Global,
     lines: &[ReadLine<'a>],
     routers: &[Router],
+    known: &[Naming],
 ) -> Result<Vec<Message<'a>>, AllocError>
     ensures each { IfOk result (λ messages. All (IsMessage lines.now) messages.items) }
     ensures once { IfOk result (λ messages. AreOnce lines.now messages.items) }
     ensures few { IfOk result (λ messages. length messages.items ≤ length lines.now) }
 {
     let mut messages = joined(alloc, lines)?;
+    let mut named = namings(alloc, lines, routers)?;
+    named.extend_from_slice(known)?;
     let mut making = Making {
         routers: Vec::from_slice(alloc, routers)?,
-        namings: namings(alloc, lines, routers)?,
+        namings: named,
         bypasses: bypasses(alloc, lines, routers)?,
         receivers: receivers(alloc, lines, routers)?,
         made: Vec::new(alloc),
@@ -341,4 +345,23 @@ pub fn messages<'a>(
     }
     making.explain(lines, &mut messages, lines.len());
     Ok(messages)
+}
+
+/// The messages of a transcript, in the order in which they came into sight. Which message made which router is found first, and who made
+/// and got each message with that.
+pub fn messages<'a>(
+    alloc: Global,
+    lines: &[ReadLine<'a>],
+    routers: &[Router],
+) -> Result<Vec<Message<'a>>, AllocError>
+    ensures each { IfOk result (λ messages. All (IsMessage lines.now) messages.items) }
+    ensures once { IfOk result (λ messages. AreOnce lines.now messages.items) }
+    ensures few { IfOk result (λ messages. length messages.items ≤ length lines.now) }
+{
+    let messages = messages_with(alloc, lines, routers, &[])?;
+    let known = newborns(alloc, lines, routers, messages.as_slice())?;
+    if known.is_empty() {
+        return Ok(messages);
+    }
+    messages_with(alloc, lines, routers, known.as_slice())
 }
