@@ -1,25 +1,31 @@
-/* ipcz_portals.h: a world of nodes in one process, which exchange parcels through portals.
+/* ipcz_portals.h: nodes in one process, which exchange parcels through portals; all of them in one world, or each on a thread of its own.
  *
  * A pair of portals is a way for parcels. What is put at one portal of a pair is got at the other, each parcel once and in order, also
  * while portals travel: a parcel has bytes, and portals of its sender, which are the receiver's once the parcel is got.
  *
- * Nodes are numbered from 0. Each two of them share a pair from the start (ipcz_first), and a node opens more (ipcz_open). Every call names
- * the node that it is made on, and a node acts on its own portals alone.
+ * Nodes are numbered from 0. Each two of them share a pair from the start (ipcz_first), and a node opens more (ipcz_open). A node acts on
+ * its own portals alone. Nodes come in one of two ways:
+ *  - as a WORLD: one handle has all of them, and every call names the node that it is made on. One thread at a time.
+ *  - as CELLS: each node has a handle of its own, its cell, and a thread that has a node's cell calls it without a lock, while other
+ *    threads call other cells. The calls are those whose names begin with ipcz_cell.
+ * A world isn't made of cells, nor a cell of a world.
  *
- * Nothing runs between calls: there is no thread, no lock, no callback and no state but the world's. What was put moves on only in
- * ipcz_turn and ipcz_settle, so a get finds nothing before these.
+ * Nothing runs between calls: there is no thread, no lock, no callback, and no state but that of the worlds and cells. What was put moves
+ * on only in ipcz_turn and ipcz_settle, of cells in ipcz_cell_acts, so a get finds nothing before these.
  *
- * MEMORY. The world owns what was put into it until it is got, and all else that its nodes keep, by malloc, realloc and free of the
- * program; ipcz_destroy frees all of it. Everything that a pointer of a call points to is the caller's: it is read or written during the
- * call, and not kept.
+ * MEMORY. A world, or the cells of a table together, own what was put into them until it is got, and all else that their nodes keep, by
+ * malloc, realloc and free of the program; ipcz_destroy frees all of a world, and ipcz_cell_destroy what a cell has alone, and with the
+ * last cell of a table all of it. Everything that a pointer of a call points to is the caller's: it is read or written during the call, and
+ * not kept.
  *
- * THREADS. Calls on one world come one at a time. They may come from several threads, if the program puts them in order: by a mutex round
- * each call, by a thread's start or join, or by a sequentially consistent atomic. Calls on different worlds may run at once.
+ * THREADS. Calls on one world, and on one cell, come one at a time. They may come from several threads, if the program puts them in order:
+ * by a mutex round each call, by a thread's start or join, or by a sequentially consistent atomic. Calls on different worlds may run at
+ * once, and so may calls on different cells, also of one table.
  *
  * WHAT THE CALLER UPHOLDS. The library is proved for callers that keep these, and tests none of them; what follows otherwise is undefined.
- *  - An ipcz_world is IPCZ_WORLD_INIT before its first call. Later its fields are written by the library alone, and no copy of it is used:
- *    whoever moves one sets the old one to IPCZ_WORLD_INIT.
- *  - No pointer is null, but for those of ipcz_put beside a count of 0. What a call writes (by a pointer that isn't const) lies apart from
+ *  - An ipcz_world is IPCZ_WORLD_INIT and an ipcz_cell IPCZ_CELL_INIT before its first call. Later its fields are written by the library
+ *    alone, and no copy of it is used: whoever moves one sets the old one to the same again.
+ *  - No pointer is null, but for those of a put beside a count of 0. What a call writes (by a pointer that isn't const) lies apart from
  *    all else that the call is given, and arrays are as long as is said beside them. A bool is true or false.
  *  - malloc, realloc and free belong together, and align a block of so many bytes to each power of two up to 16 that divides this number.
  *  - No call is made in a signal handler, nor in the child of a fork in a process with threads.
@@ -44,8 +50,17 @@ typedef struct ipcz_world {
 /* A handle of no world. Every call on such a handle is answered (IPCZ_NOT_CREATED, 0 or false), and does nothing. */
 #define IPCZ_WORLD_INIT { 0, false }
 
+/* A handle: of a node's cell, or of none. Its fields are not for the caller. */
+typedef struct ipcz_cell {
+    void *at;
+    bool has_cell;
+} ipcz_cell;
+
+/* A handle of no cell. Every call on such a handle is answered (IPCZ_NOT_CREATED, 0 or false), and does nothing. */
+#define IPCZ_CELL_INIT { 0, false }
+
 /* A portal: an end of a pair, of side A (side_b is false) or of side B. It is a name, and may be copied and compared. Which node may use
- * it is kept by the world. */
+ * it is kept by the nodes. */
 typedef struct ipcz_portal {
     uint32_t pair;
     bool side_b;
@@ -59,20 +74,20 @@ enum {
     IPCZ_OUT_OF_MEMORY = 1, /* malloc or realloc gave no memory */
     IPCZ_EMPTY = 2,         /* no parcel has come yet */
     IPCZ_PEER_CLOSED = 3,   /* the other portal of the pair is closed, and what was put at it before is got */
-    IPCZ_NO_WORD = 4,       /* each link word of the world is used, so no pair can be opened */
+    IPCZ_NO_WORD = 4,       /* each link word is used, so no pair can be opened */
     IPCZ_SELF_ATTACH = 5,   /* a portal can't travel through itself */
     IPCZ_PEER_ATTACH = 6,   /* nor to the other portal of its pair */
     IPCZ_STRANGER = 7,      /* there is no such node, or the portal isn't this node's, or is named twice */
     IPCZ_NUMBERS_END = 8,   /* no number of 64 bits is left for a parcel or a router */
     IPCZ_BAD_DATA = 9,      /* a byte isn't from 0x20 to 0x7E */
     IPCZ_TOO_MANY = 10,     /* too many bytes, portals, nodes or words, or too few */
-    IPCZ_RACED = 11,        /* 11 to 14 are between nodes: no call here answers them */
-    IPCZ_OCCUPIED = 12,
+    IPCZ_RACED = 11,        /* another node's thread was there first: call again. Of calls on cells alone */
+    IPCZ_OCCUPIED = 12,     /* 12 to 14 are between nodes: no call here answers them */
     IPCZ_PASSED = 13,
     IPCZ_FORGED = 14,
     IPCZ_TOO_SMALL = 100,   /* there is too little room for the parcel */
-    IPCZ_NOT_CREATED = 101, /* the handle has no world */
-    IPCZ_ALREADY_CREATED = 102 /* the handle has a world already */
+    IPCZ_NOT_CREATED = 101, /* the handle has no world, or no cell */
+    IPCZ_ALREADY_CREATED = 102 /* the handle has one already */
 };
 
 #define IPCZ_MAX_NODES 8
@@ -142,6 +157,70 @@ bool ipcz_word(ipcz_world *world, uint32_t i, uint64_t *word);
 /* Whether some node may use a portal now; then that node is written. While a portal travels, and once it is closed, none may. */
 bool ipcz_holder(ipcz_world *world, ipcz_portal portal, uint8_t *node);
 
+/* CELLS. A thread that has a node's cell puts, gets, opens and closes as the node, and takes the node's turns, without a lock. The nodes of one
+ * table share its link words and mailboxes, which each call reads and writes by atomic steps.
+ *
+ * A node moves parcels only while its own thread takes its turns: what another node sent comes to a portal here by ipcz_cell_acts, and
+ * what was put here leaves by it. So a thread's loop is: call what it has to do, then ipcz_cell_acts; where both came to nothing, let other
+ * threads run. There is no call that sleeps until something comes: a thread that wants to sleep does so by means of its own (a condition
+ * variable, an event's file descriptor), which whoever puts to its node signals, after the acts of the putting node.
+ *
+ * A node that isn't served holds up the parcels that go through it, and no others. */
+
+/* Makes a table, and the cells of its nodes: cells[i] has the one of node i.
+ *   words  how many link words, as for ipcz_create
+ *   cells, nodes  handles of no cell, and how many: 1 to IPCZ_MAX_NODES. All have cells if the status is IPCZ_OK, and else all still none
+ * IPCZ_ALREADY_CREATED, IPCZ_TOO_MANY, IPCZ_OUT_OF_MEMORY. */
+ipcz_status ipcz_cells_create(uint32_t words, ipcz_cell *cells, size_t nodes);
+
+/* Frees what the cell has alone, if the handle has one; with the last cell of the table, the table. The handle has none then. The other nodes
+ * go on, but nothing goes through this one any more, and no other cell can be made for it. */
+void ipcz_cell_destroy(ipcz_cell *cell);
+
+/* Opens a pair. Both portals are the node's at first.
+ *   first, second  where the portals of side A and side B are written
+ * IPCZ_NO_WORD, IPCZ_NUMBERS_END, IPCZ_OUT_OF_MEMORY, IPCZ_RACED. */
+ipcz_status ipcz_cell_open(ipcz_cell *cell, ipcz_portal *first, ipcz_portal *second);
+
+/* Puts a parcel, with pointers that are not null: what ipcz_cell_put calls, and what other languages may call. */
+ipcz_status ipcz_cell_put_parcel(ipcz_cell *cell, ipcz_portal at, const uint8_t *bytes, size_t size,
+                                 const ipcz_portal *portals, size_t count, uint64_t *number);
+
+/* The same of a wide parcel: what ipcz_cell_put_wide calls. */
+ipcz_status ipcz_cell_put_wide_parcel(ipcz_cell *cell, ipcz_portal at, const uint8_t *bytes, size_t size,
+                                      const ipcz_portal *portals, size_t count, uint64_t *number);
+
+/* Gets the next parcel that has come to a portal of the node. The arguments are as for ipcz_get.
+ * IPCZ_TOO_SMALL: nothing is taken, and size and count are those of the parcel.
+ * IPCZ_STRANGER, IPCZ_EMPTY, IPCZ_PEER_CLOSED. */
+ipcz_status ipcz_cell_get(ipcz_cell *cell, ipcz_portal at, uint8_t *bytes, size_t room, size_t *size,
+                          ipcz_portal *portals, size_t portal_room, size_t *count, uint64_t *number);
+
+/* Closes a portal of the node. What was put at it still comes to the other one; what comes to it is discarded.
+ * IPCZ_STRANGER, IPCZ_OUT_OF_MEMORY. */
+ipcz_status ipcz_cell_close(ipcz_cell *cell, ipcz_portal at);
+
+/* Takes turns of the node until it has no act, or limit acts were taken.
+ *   acts  how many acts were taken; fewer than limit: the node has nothing to do until another node acts, or it is called. With a limit of
+ *         1 it takes the first act that is possible, if there is one
+ * IPCZ_NUMBERS_END, IPCZ_OUT_OF_MEMORY, IPCZ_RACED: the acts before it stand; acts is not written. */
+ipcz_status ipcz_cell_acts(ipcz_cell *cell, uint64_t limit, uint64_t *acts);
+
+/* Whether the node has nothing to do, and no message to it was found. Another node may send one meanwhile. */
+bool ipcz_cell_quiet(ipcz_cell *cell);
+
+/* How many link words of the table were used, when their count was read; later they may be more. */
+uint32_t ipcz_cell_claimed(ipcz_cell *cell);
+
+/* Whether link word i was used by then; then its number is written. For tools, as ipcz_word. */
+bool ipcz_cell_word(ipcz_cell *cell, uint32_t i, uint64_t *word);
+
+/* Whether the node may use a portal now. */
+bool ipcz_cell_holds(ipcz_cell *cell, ipcz_portal portal);
+
+/* Whether the handle has a cell; then the number of its node is written. */
+bool ipcz_cell_node(ipcz_cell *cell, uint8_t *node);
+
 /* Puts a parcel.
  *   at             the portal of the node at which it is put
  *   bytes, size    its bytes, each from 0x20 to 0x7E, at most IPCZ_MAX_BYTES; they are copied. bytes may be null if size is 0
@@ -164,6 +243,24 @@ static inline ipcz_status ipcz_put_wide(ipcz_world *world, uint8_t node, ipcz_po
     static const ipcz_portal nothing = { 0, false };
     return ipcz_put_wide_parcel(world, node, at, size ? (const uint8_t *)bytes : (const uint8_t *)&nothing, size,
                                 count ? portals : &nothing, count, number);
+}
+
+/* Puts a parcel at a portal of the cell's node. The arguments are as for ipcz_put.
+ * IPCZ_OUT_OF_MEMORY, IPCZ_STRANGER, IPCZ_TOO_MANY, IPCZ_BAD_DATA, IPCZ_SELF_ATTACH, IPCZ_PEER_ATTACH, IPCZ_PEER_CLOSED (once
+ * the news has come), IPCZ_NUMBERS_END. */
+static inline ipcz_status ipcz_cell_put(ipcz_cell *cell, ipcz_portal at, const void *bytes, size_t size,
+                                        const ipcz_portal *portals, size_t count, uint64_t *number) {
+    static const ipcz_portal nothing = { 0, false };
+    return ipcz_cell_put_parcel(cell, at, size ? (const uint8_t *)bytes : (const uint8_t *)&nothing, size,
+                                count ? portals : &nothing, count, number);
+}
+
+/* Puts a wide parcel at a portal of the cell's node, as ipcz_put_wide. */
+static inline ipcz_status ipcz_cell_put_wide(ipcz_cell *cell, ipcz_portal at, const void *bytes, size_t size,
+                                             const ipcz_portal *portals, size_t count, uint64_t *number) {
+    static const ipcz_portal nothing = { 0, false };
+    return ipcz_cell_put_wide_parcel(cell, at, size ? (const uint8_t *)bytes : (const uint8_t *)&nothing, size,
+                                     count ? portals : &nothing, count, number);
 }
 
 /* The portal that a node has from the start of the pair that it shares with another; both are below nodes, and not the same. */

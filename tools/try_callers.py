@@ -6,8 +6,8 @@
 
 The library is installed in a folder of its own by `tools/install_c.py`, and each caller is built from there, by the flags that pkg-config
 tells. What a caller of `callers/c` and `callers/cpp` prints is compared with the file beside it that ends in `.out`. It runs again under
-valgrind, which must find no error, and no memory that isn't freed, and one with threads under helgrind, which must find no race. The crate
-of `callers/rust` has its tests run. A caller whose compiler isn't on the machine is left out. The statuses of the header must be those of
+valgrind, which must find no error, and no memory that isn't freed, and one with a mutex under helgrind, which must find no race (it takes no
+account of atomic steps, by which alone cells on two threads are ordered). The crate of `callers/rust` has its tests run. A caller whose compiler isn't on the machine is left out. The statuses of the header must be those of
 `Refusal`, and the program in docs/C.md one of these callers.
 """
 import argparse
@@ -28,7 +28,7 @@ HELGRIND = ["valgrind", "--quiet", "--tool=helgrind", "--error-exitcode=99"]
 STRICT = ["-O2", "-Wall", "-Wextra", "-Wconversion", "-pedantic", "-Werror", "-pthread"]
 MOST_SECONDS = 600
 # Callers that are built and not run: what they print is times.
-MEASURES = {"measure"}
+MEASURES = {"measure", "measure_cells"}
 LINKED = {"no_memory": ["-Wl,--wrap=malloc,--wrap=realloc"]}
 
 
@@ -92,7 +92,7 @@ class Callers:
             self.compare(what, self.run(what, [str(program)]), stored)
             if self.has("valgrind"):
                 self.compare(f"{what} under valgrind", self.run(f"{what} under valgrind", [*VALGRIND, str(program)]), stored)
-                if "<pthread.h>" in source.read_text():
+                if "pthread_mutex_t" in source.read_text():
                     self.compare(f"{what} under helgrind", self.run(f"{what} under helgrind", [*HELGRIND, str(program)]), stored)
 
     def rust(self) -> None:
@@ -112,9 +112,12 @@ class Callers:
             self.wrong.append("the statuses of include/ipcz_portals.h aren't those of crates/ipcz_base/src/refusal.rt")
 
     def shown(self) -> None:
-        """Compares the program that docs/C.md shows with the one that is run."""
-        if (CALLERS / "c" / "hello.c").read_text() not in (TOP / "docs/C.md").read_text():
-            self.wrong.append("docs/C.md doesn't show callers/c/hello.c")
+        """Compares what docs/C.md shows with the programs that are run: one whole, and a part of another."""
+        page = (TOP / "docs/C.md").read_text()
+        programs = re.findall(r"^```c\n(.*?)^```$", page, re.M | re.S)
+        sources = [(CALLERS / "c" / name).read_text() for name in ("hello.c", "own_nodes.c")]
+        if len(programs) != 2 or programs[0] != sources[0] or programs[1] not in sources[1]:
+            self.wrong.append("docs/C.md doesn't show callers/c/hello.c and a part of callers/c/own_nodes.c")
 
 
 def main() -> None:

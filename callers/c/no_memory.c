@@ -38,6 +38,36 @@ static void print(const char *name, ipcz_status status, bool refused) {
     printf("%s: %s%s\n", name, ipcz_status_name(status), refused ? ", after OutOfMemory" : "");
 }
 
+/* The same of cells: a node opens a pair and sends one of its portals to the other. */
+static void with_cells(void) {
+    ipcz_cell cells[] = { IPCZ_CELL_INIT, IPCZ_CELL_INIT };
+    ipcz_portal left = ipcz_first(0, 1, 2), right = ipcz_first(1, 0, 2), kept, sent, portals[IPCZ_MAX_PORTALS];
+    uint8_t bytes[IPCZ_MAX_BYTES];
+    uint64_t number, first = 1, second = 1;
+    size_t size, count;
+    bool created = false, opened = false, put = false, acted = false, got = false, closed = false;
+    ipcz_status status;
+    INSIST(ipcz_cells_create(8, cells, 2), status, created);
+    print("create of cells", status, created);
+    INSIST(ipcz_cell_open(&cells[0], &kept, &sent), status, opened);
+    print("open", status, opened);
+    INSIST(ipcz_cell_put(&cells[0], left, "a portal", 8, &sent, 1, &number), status, put);
+    print("put", status, put);
+    while (first + second > 0) {
+        INSIST(ipcz_cell_acts(&cells[0], 1000, &first), status, acted);
+        if (!status) INSIST(ipcz_cell_acts(&cells[1], 1000, &second), status, acted);
+        if (status) break;
+    }
+    print("acts", status, acted);
+    INSIST(ipcz_cell_get(&cells[1], right, bytes, sizeof bytes, &size, portals, IPCZ_MAX_PORTALS, &count, &number), status, got);
+    print("get", status, got);
+    printf("\"%.*s\", %zu with it\n", (int)size, (const char *)bytes, count);
+    INSIST(ipcz_cell_close(&cells[0], kept), status, closed);
+    print("close", status, closed);
+    ipcz_cell_destroy(&cells[0]);
+    ipcz_cell_destroy(&cells[1]);
+}
+
 int main(void) {
     ipcz_world world = IPCZ_WORLD_INIT;
     ipcz_portal left = ipcz_first(0, 1, 2), right = ipcz_first(1, 0, 2), kept, sent, portals[IPCZ_MAX_PORTALS];
@@ -66,5 +96,6 @@ int main(void) {
     INSIST(ipcz_close(&world, 0, kept), status, closed);
     print("close", status, closed);
     ipcz_destroy(&world);
+    with_cells();
     return 0;
 }

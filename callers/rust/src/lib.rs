@@ -1,12 +1,15 @@
-//! Safe Rust over the static library `ipcz_portals`: a world of nodes that exchange parcels through portals.
+//! Safe Rust over the static library `ipcz_portals`: nodes that exchange parcels through portals, all of them in a `World`, or each in a
+//! `Cell` of its own, which a thread that owns it calls without a lock.
 //!
-//! What the library asks of its callers (`ipcz_portals.h`, "What the caller upholds") is kept here by types: a `World` has a handle that
-//! no other one has, each call takes `&mut self`, references aren't null, and slices have their lengths.
+//! What the library asks of its callers (`ipcz_portals.h`, "What the caller upholds") is kept here by types: a `World` or a `Cell` has a
+//! handle that no other one has, each call takes `&mut self`, references aren't null, and slices have their lengths.
 
+mod cells;
 mod raw;
 
 use std::fmt;
 
+pub use cells::{cells, Cell};
 pub use raw::Portal;
 
 const MAX_BYTES: usize = 256;
@@ -31,6 +34,8 @@ pub enum Refused {
     NumbersEnd,
     BadData,
     TooMany,
+    /// Another node's thread was there first: call again. Of calls on cells alone.
+    Raced,
     /// A status that these calls don't answer.
     Other(u32),
 }
@@ -48,6 +53,7 @@ impl Refused {
             8 => Refused::NumbersEnd,
             9 => Refused::BadData,
             10 => Refused::TooMany,
+            11 => Refused::Raced,
             other => Refused::Other(other),
         }
     }
@@ -91,6 +97,28 @@ pub fn first_portal(node: u8, other: u8, nodes: u8) -> Portal {
         pair: low * (2 * u32::from(nodes) - low - 1) / 2 + (high - low - 1),
         side_b: node > other,
     }
+}
+
+/// The parcel that a call gets, which is given the room that it wants.
+fn got_by(
+    mut call: impl FnMut(&mut [u8], &mut [Portal], &mut usize, &mut usize, &mut u64) -> u32,
+) -> Result<Parcel, Refused> {
+    let mut bytes = vec![0; MAX_BYTES];
+    let (mut portals, mut size, mut count, mut number) = ([NOWHERE; MAX_PORTALS], 0, 0, 0);
+    loop {
+        let status = call(&mut bytes, &mut portals, &mut size, &mut count, &mut number);
+        if status != TOO_SMALL {
+            answer(status)?;
+            break;
+        }
+        bytes.resize(size, 0);
+    }
+    bytes.truncate(size);
+    Ok(Parcel {
+        number,
+        bytes,
+        portals: portals[..count].to_vec(),
+    })
 }
 
 /// A world of nodes.
@@ -162,34 +190,19 @@ impl World {
     }
 
     pub fn get(&mut self, node: u8, at: Portal) -> Result<Parcel, Refused> {
-        let mut bytes = vec![0; MAX_BYTES];
-        let (mut portals, mut size, mut count, mut number) = ([NOWHERE; MAX_PORTALS], 0, 0, 0);
-        loop {
-            let status = unsafe {
-                raw::ipcz_get(
-                    &mut self.0,
-                    node,
-                    at,
-                    bytes.as_mut_ptr(),
-                    bytes.len(),
-                    &mut size,
-                    portals.as_mut_ptr(),
-                    MAX_PORTALS,
-                    &mut count,
-                    &mut number,
-                )
-            };
-            if status != TOO_SMALL {
-                answer(status)?;
-                break;
-            }
-            bytes.resize(size, 0);
-        }
-        bytes.truncate(size);
-        Ok(Parcel {
-            number,
-            bytes,
-            portals: portals[..count].to_vec(),
+        got_by(|bytes, portals, size, count, number| unsafe {
+            raw::ipcz_get(
+                &mut self.0,
+                node,
+                at,
+                bytes.as_mut_ptr(),
+                bytes.len(),
+                size,
+                portals.as_mut_ptr(),
+                portals.len(),
+                count,
+                number,
+            )
         })
     }
 

@@ -21,10 +21,34 @@ impl Handle {
     };
 }
 
+#[repr(C)]
+pub struct CellHandle {
+    at: *mut u8,
+    has_cell: bool,
+}
+
+impl CellHandle {
+    pub const EMPTY: CellHandle = CellHandle {
+        at: std::ptr::null_mut(),
+        has_cell: false,
+    };
+}
+
 /// A put of a parcel: `ipcz_put_parcel` or `ipcz_put_wide_parcel`.
 pub type Put = unsafe extern "C" fn(
     world: *mut Handle,
     node: u8,
+    at: Portal,
+    bytes: *const u8,
+    size: usize,
+    portals: *const Portal,
+    count: usize,
+    number: *mut u64,
+) -> u32;
+
+/// A put of a parcel by a cell: `ipcz_cell_put_parcel` or `ipcz_cell_put_wide_parcel`.
+pub type CellPut = unsafe extern "C" fn(
+    cell: *mut CellHandle,
     at: Portal,
     bytes: *const u8,
     size: usize,
@@ -74,4 +98,43 @@ unsafe extern "C" {
     pub fn ipcz_settle(world: *mut Handle, limit: u64, acts: *mut u64, quiet: *mut bool) -> u32;
     pub fn ipcz_claimed(world: *mut Handle) -> u32;
     pub fn ipcz_holder(world: *mut Handle, portal: Portal, node: *mut u8) -> bool;
+
+    pub fn ipcz_cells_create(words: u32, cells: *mut CellHandle, nodes: usize) -> u32;
+    pub fn ipcz_cell_destroy(cell: *mut CellHandle);
+    pub fn ipcz_cell_open(cell: *mut CellHandle, first: *mut Portal, second: *mut Portal) -> u32;
+    pub fn ipcz_cell_put_parcel(
+        cell: *mut CellHandle,
+        at: Portal,
+        bytes: *const u8,
+        size: usize,
+        portals: *const Portal,
+        count: usize,
+        number: *mut u64,
+    ) -> u32;
+    pub fn ipcz_cell_put_wide_parcel(
+        cell: *mut CellHandle,
+        at: Portal,
+        bytes: *const u8,
+        size: usize,
+        portals: *const Portal,
+        count: usize,
+        number: *mut u64,
+    ) -> u32;
+    pub fn ipcz_cell_get(
+        cell: *mut CellHandle,
+        at: Portal,
+        bytes: *mut u8,
+        room: usize,
+        size: *mut usize,
+        portals: *mut Portal,
+        portal_room: usize,
+        count: *mut usize,
+        number: *mut u64,
+    ) -> u32;
+    pub fn ipcz_cell_close(cell: *mut CellHandle, at: Portal) -> u32;
+    pub fn ipcz_cell_acts(cell: *mut CellHandle, limit: u64, acts: *mut u64) -> u32;
+    pub fn ipcz_cell_quiet(cell: *mut CellHandle) -> bool;
+    pub fn ipcz_cell_claimed(cell: *mut CellHandle) -> u32;
+    pub fn ipcz_cell_holds(cell: *mut CellHandle, portal: Portal) -> bool;
+    pub fn ipcz_cell_node(cell: *mut CellHandle, node: *mut u8) -> bool;
 }

@@ -1,2 +1,7 @@
 pub mod Answering
 pub mod AsBox
+pub mod CellAnswering
+pub mod CellBox
+pub mod Handing
+pub mod Moving
+pub mod SameOwner

@@ -46,8 +46,8 @@ pub record TakesStep (old : Option World) (step : Step) (reply : Reply) (new : O
 abbrev pub Answers : (Reply → Type 0) → Option World → Step → ℕ → Option World → Type 0
 Answers Tells old step status new = (reply : Reply) × TakesStep old step reply new × (status ≡ status_of reply) × Tells reply
 
--- the call was refused with this status, and the handle's world is as it was
-abbrev pub IsRefused : ℕ → Option World → ℕ → Option World → Type 0
+-- the call was refused with this status, and what the handle has is as it was
+abbrev pub IsRefused : {X : Type 0} → ℕ → X → ℕ → X → Type 0
 IsRefused why old status new = (status ≡ why) × (new ≡ old)
 
 -- whether a world may have so many nodes and words
@@ -80,7 +80,7 @@ abbrev pub Gets : Option World → ℕ → Portal → ℕ → Room → Room → 
 Gets old node at status old_room room new = Answers (λ reply. IsGot reply old_room room) old (steps.Get node (named at)) status new
 
 -- a get that was given too little: nothing is taken, and the sizes of what would be are told
-abbrev pub LacksRoom : Option World → Option Sizes → ℕ → Room → Room → Option World → Type 0
+abbrev pub LacksRoom : {X : Type 0} → X → Option Sizes → ℕ → Room → Room → X → Type 0
 LacksRoom old sizes status old_room room new =
     IsRefused too_small old status new × IfSome sizes (λ s. room ≡ record old_room { size = s.bytes; count = s.ends })
 

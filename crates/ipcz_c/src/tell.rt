@@ -1,11 +1,12 @@
 //! What a reply tells C beside its status, written to the places that C gave for it.
 ghost use Rattle.std.specs.Prelude.{◌≡◌, ◌≤◌, true, false, Some, IfSome, IfNone, length};
 ghost use Rattle.ipcz_world.specs.Steps.{sizes_given};
+ghost use Rattle.ipcz_c.specs.CellCalls.{outcome_of, IsNumbered, AreEnds, get_answer};
 ghost use Rattle.ipcz_c.specs.Told.{room_of, fits, AreOpened, IsPut, AreAtFront, AreNamedAtFront, IsGot, IsSettled};
 
 use crate::portal::{Portal, portal_of};
 use crate::status::refused;
-use ipcz_base::{End, Refusal, Sizes};
+use ipcz_base::{End, Parcel, Refusal, Sizes};
 use ipcz_world::{Reply, Settled};
 
 // The portals that were opened.
@@ -106,5 +107,60 @@ pub(crate) fn tell_settled(
             0
         }
         Err(why) => refused(*why),
+    }
+}
+
+// The number of an answer, if it isn't a refusal: its status is answered.
+#[tactic(auto, unfolding(crate::specs::CellCalls::IsNumbered))]
+pub(crate) fn tell_number(answer: Result<u64, Refusal>, number: &mut u64) -> u32
+    ensures { IsNumbered answer result number.old number.new }
+{
+    match answer {
+        Ok(told) => {
+            *number = told;
+            0
+        }
+        Err(why) => refused(why),
+    }
+}
+
+// The portals that were opened, if the answer isn't a refusal: its status is answered.
+#[tactic(auto, unfolding(crate::specs::CellCalls::AreEnds))]
+pub(crate) fn tell_ends(
+    answer: Result<(End, End), Refusal>,
+    first: &mut Portal,
+    second: &mut Portal,
+) -> u32
+    ensures { AreEnds answer result first.old second.old first.new second.new }
+{
+    match answer {
+        Ok((a, b)) => {
+            *first = portal_of(a);
+            *second = portal_of(b);
+            0
+        }
+        Err(why) => refused(why),
+    }
+}
+
+// The status of an answer.
+#[tactic(auto, unfolding(crate::specs::CellCalls::outcome_of))]
+pub(crate) fn outcome<T: Drop>(answer: Result<T, Refusal>) -> u32
+    ensures { result ≡ outcome_of answer }
+{
+    match answer {
+        Ok(_) => 0,
+        Err(why) => refused(why),
+    }
+}
+
+// What a get of a cell answers, as a reply.
+#[tactic(auto, unfolding(crate::specs::CellCalls::get_answer))]
+pub(crate) fn got(answer: Result<(u64, Parcel), Refusal>) -> Reply
+    ensures { result ≡ get_answer answer }
+{
+    match answer {
+        Ok((number, parcel)) => Reply::Got(number, parcel),
+        Err(why) => Reply::Refused(why),
     }
 }

@@ -5,6 +5,7 @@ ghost use Rattle.ipcz_node.specs.RoomyNodes.{IsPossibleAct};
 ghost use Rattle.ipcz_world.specs.Wordless.{is_wordless};
 ghost use Rattle.ipcz_cell.specs.TurnChains.{acted, untold, Does, TriesTurn, RunsTurns};
 
+use crate::bells::{Ringer, Unheard, Waking};
 use crate::cell::NodeCell;
 use crate::fabric::{Fabric, FabricName};
 use ipcz_base::Refusal;
@@ -34,13 +35,13 @@ fn acted(done: Result<(), Refusal>) -> Result<bool, Refusal>
 impl<F: FabricName> NodeCell<F> {
     // Handles the message in hand.
     #[inline(always)]
-    fn hand_untold(&mut self, fabric: &Fabric<F>, from: u8) -> Result<(), Refusal>
+    fn hand_untold<R: Ringer>(&mut self, fabric: &Fabric<F>, from: u8) -> Result<(), Refusal>
         requires { self.old.part.state.hand ≡ Some from }
         ensures { Does F.table (Act.Hand from) self.old result self.new }
     {
-        match self.hand_alone(fabric, from) {
+        match self.hand_alone::<R>(fabric, from) {
             Ok(true) => Ok(()),
-            Ok(false) => untold(self.mail_handle(fabric, from)),
+            Ok(false) => untold(self.handle_by::<R>(fabric, from)),
             Err(why) => Err(why),
         }
     }
@@ -61,7 +62,7 @@ impl<F: FabricName> NodeCell<F> {
 
     // Posts the first message for a node, whose mailbox it takes first if it hasn't got it.
     #[inline(always)]
-    fn post_untold(&mut self, fabric: &Fabric<F>, to: u8) -> Result<(), Refusal>
+    fn post_untold<R: Ringer>(&mut self, fabric: &Fabric<F>, to: u8) -> Result<(), Refusal>
         requires inside { to < F.table.count }
         requires mail { has_mail_for self.old.part.state to ≡ true }
         ensures { Does F.table (Act.Post to) self.old result self.new }
@@ -69,7 +70,7 @@ impl<F: FabricName> NodeCell<F> {
         if !self.mail_probe(fabric, to) {
             return Err(Refusal::Raced);
         }
-        self.mail_post(fabric, to);
+        self.post_by::<R>(fabric, to);
         Ok(())
     }
 
@@ -120,14 +121,14 @@ impl<F: FabricName> NodeCell<F> {
 
     // Takes one turn, as `turn`, and tells whether there was an act to do.
     #[inline(always)]
-    fn turn_untold(&mut self, fabric: &Fabric<F>) -> Result<bool, Refusal>
+    fn turn_untold<R: Ringer>(&mut self, fabric: &Fabric<F>) -> Result<bool, Refusal>
         ensures { TriesTurn F.table self.old result self.new }
     {
         let act = self.act(fabric);
         match act {
-            Act::Hand(from) => acted(self.hand_untold(fabric, from)),
+            Act::Hand(from) => acted(self.hand_untold::<R>(fabric, from)),
             Act::Look(from) => acted(self.look_untold(fabric, from)),
-            Act::Post(to) => acted(self.post_untold(fabric, to)),
+            Act::Post(to) => acted(self.post_untold::<R>(fabric, to)),
             Act::Close(_) => acted(untold(self.touch_turn(fabric, act))),
             Act::Router(serial, act) => acted(self.router_untold(fabric, serial, act)),
             Act::Idle => Ok(false),
@@ -141,8 +142,22 @@ impl<F: FabricName> NodeCell<F> {
     pub fn acts(&mut self, fabric: &Fabric<F>, limit: u64) -> Result<u64, Refusal>
         ensures { RunsTurns F.table limit self.old result self.new }
     {
+        self.acts_by::<Waking>(fabric, limit)
+    }
+
+    /// The same, but it wakes no thread that sleeps for a node of the table: where none does, as in a library for C, which may not wake one.
+    pub fn acts_unheard(&mut self, fabric: &Fabric<F>, limit: u64) -> Result<u64, Refusal>
+        ensures { RunsTurns F.table limit self.old result self.new }
+    {
+        self.acts_by::<Unheard>(fabric, limit)
+    }
+
+    // Takes turns, and rings as R does.
+    fn acts_by<R: Ringer>(&mut self, fabric: &Fabric<F>, limit: u64) -> Result<u64, Refusal>
+        ensures { RunsTurns F.table limit self.old result self.new }
+    {
         for taken in 0..limit {
-            match self.turn_untold(fabric) {
+            match self.turn_untold::<R>(fabric) {
                 Ok(true) => {}
                 Ok(false) => return Ok(taken),
                 Err(why) => return Err(why),

@@ -48,6 +48,27 @@ impl Bell {
     }
 }
 
+// How a call rings the bells.
+pub(crate) trait Ringer {
+    fn ring(bells: &Bells, node: u8);
+}
+
+// It wakes those that watch.
+pub(crate) struct Waking;
+
+impl Ringer for Waking {
+    fn ring(bells: &Bells, node: u8) {
+        bells.ring(node);
+    }
+}
+
+// It wakes none.
+pub(crate) struct Unheard;
+
+impl Ringer for Unheard {
+    fn ring(_bells: &Bells, _node: u8) {}
+}
+
 impl Bells {
     // Bells of so many nodes.
     pub(crate) fn new(alloc: Global, count: u8) -> Result<Bells, AllocError> {

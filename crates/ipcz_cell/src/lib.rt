@@ -16,6 +16,7 @@ mod opens;
 mod plays;
 mod probed;
 mod quiet;
+mod sizes;
 mod turns;
 mod waits;
 mod words;

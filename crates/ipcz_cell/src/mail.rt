@@ -16,6 +16,7 @@ ghost use Rattle.ipcz_cell.specs.TableNames.{IsLaidOut};
 ghost use Rattle.ipcz_cell.specs.Mails.{slot_of, mail_word, old_named, HasSeen, IsKnown, Probes, Looks, LoadsSource, Handles};
 ghost use Rattle.ipcz_cell.specs.Outcomes.{IsPicked, probed, posted, looked, sourced, handed, turned_by};
 
+use crate::bells::{Ringer, Waking};
 use crate::cell::NodeCell;
 use crate::fabric::{Fabric, FabricName};
 use crate::plays::{Outcome, exchange_step, load_step, store_step};
@@ -260,6 +261,17 @@ impl<F: FabricName> NodeCell<F> {
         ensures part { self.new.part ≡ post_part to self.old.part }
         ensures seen { self.new.seen ≡ self.old.seen }
     {
+        self.post_by::<Waking>(fabric, to)
+    }
+
+    // Posts, and rings as R does.
+    pub(crate) fn post_by<R: Ringer>(&mut self, fabric: &Fabric<F>, to: u8)
+        requires to { to < F.table.count }
+        requires probed { has_number self.old.part.probed to ≡ true }
+        requires mail { has_mail_for self.old.part.state to ≡ true }
+        ensures part { self.new.part ≡ post_part to self.old.part }
+        ensures seen { self.new.seen ≡ self.old.seen }
+    {
         let node = self.state.number();
         let slot = slot_of(fabric, node, to);
         let place = self.probed.take(to);
@@ -268,7 +280,7 @@ impl<F: FabricName> NodeCell<F> {
         let table = &fabric.table;
         table.shared.exchange(&mut self.seat, slot, Some(message));
         post_here::<F, Brand>(node, &mut self.seat, fabric, to);
-        fabric.bells.ring(to);
+        R::ring(&fabric.bells, to);
         let held = hand_count(&self.message);
         let behind = self.probed.len() - place;
         turn_over(&mut self.seat, behind + held);
@@ -349,9 +361,13 @@ impl<F: FabricName> NodeCell<F> {
     }
 
     // Handles the message in hand where it stands, if it is an item without ends and moves that has its place here, and tells whether
-    // it was one.
+    // it was one. It rings as R does.
     #[inline(always)]
-    pub(crate) fn hand_alone(&mut self, fabric: &Fabric<F>, from: u8) -> Result<bool, Refusal>
+    pub(crate) fn hand_alone<R: Ringer>(
+        &mut self,
+        fabric: &Fabric<F>,
+        from: u8,
+    ) -> Result<bool, Refusal>
         requires { self.old.part.state.hand ≡ Some from }
         ensures taken { IfOk result
             (λ taken. taken ≡ true → (event : HappenedValue) × Handles F.table.size from self.old (Ok event) self.new) }
@@ -364,8 +380,8 @@ impl<F: FabricName> NodeCell<F> {
         }
         let taken = self.handle_alone(fabric, from, None)?;
         if taken {
-            fabric.bells.ring(from);
-            fabric.news.ring(self.state.number());
+            R::ring(&fabric.bells, from);
+            R::ring(&fabric.news, self.state.number());
         }
         Ok(taken)
     }
@@ -443,11 +459,23 @@ impl<F: FabricName> NodeCell<F> {
         requires { self.old.part.state.hand ≡ Some from }
         ensures { Handles F.table.size from self.old result self.new }
     {
+        self.handle_by::<Waking>(fabric, from)
+    }
+
+    // Handles, and rings as R does.
+    pub(crate) fn handle_by<R: Ringer>(
+        &mut self,
+        fabric: &Fabric<F>,
+        from: u8,
+    ) -> Result<Happened, Refusal>
+        requires { self.old.part.state.hand ≡ Some from }
+        ensures { Handles F.table.size from self.old result self.new }
+    {
         let source = self.load_source(fabric, from);
         let handled = self.handle(fabric, from, source);
         if handled.is_ok() {
-            fabric.bells.ring(from);
-            fabric.news.ring(self.state.number());
+            R::ring(&fabric.bells, from);
+            R::ring(&fabric.news, self.state.number());
         }
         handled
     }

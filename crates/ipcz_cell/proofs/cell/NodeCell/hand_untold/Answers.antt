@@ -11,16 +11,16 @@ returns-in-Ok-true g c =
     let h = c.in-Ok-true.ensures.taken c.in-Ok-true.field-0-test in
     (h.0, hand_takes g.F.FabricName.table c.args.from c.args.self.now c.hand_alone.new.self _ h.1)
 
-pub mail_handle-requires : goal.mail_handle-requires
-mail_handle-requires g c = ap (λ (p : Part). p.state.hand) (c.in-Ok-false.ensures.left c.in-Ok-false.field-0-test).0 ∙ c.requires
+pub handle_by-requires : goal.handle_by-requires
+handle_by-requires g c = ap (λ (p : Part). p.state.hand) (c.in-Ok-false.ensures.left c.in-Ok-false.field-0-test).0 ∙ c.requires
 
 pub returns-in-Ok-false : goal.returns-in-Ok-false
 returns-in-Ok-false g c =
     let t = g.F.FabricName.table in
     let left = c.in-Ok-false.ensures.left c.in-Ok-false.field-0-test in
-    does t (acts.Hand c.args.from) c.args.self.now c.mail_handle.new.self c.mail_handle.result c.untold.result c.untold.ensures
-    (after_same t (acts.Hand c.args.from) c.args.self.now c.hand_alone.new.self c.mail_handle.new.self c.mail_handle.result left.0 left.1
-    (hand_takes t c.args.from c.hand_alone.new.self c.mail_handle.new.self c.mail_handle.result c.mail_handle.ensures))
+    does t (acts.Hand c.args.from) c.args.self.now c.handle_by.new.self c.handle_by.result c.untold.result c.untold.ensures
+    (after_same t (acts.Hand c.args.from) c.args.self.now c.hand_alone.new.self c.handle_by.new.self c.handle_by.result left.0 left.1
+    (hand_takes t c.args.from c.hand_alone.new.self c.handle_by.new.self c.handle_by.result c.handle_by.ensures))
 
 pub returns-in-Err : goal.returns-in-Err
 returns-in-Err g c = hand_takes g.F.FabricName.table c.args.from c.args.self.now c.hand_alone.new.self _ c.in-Err.ensures.err

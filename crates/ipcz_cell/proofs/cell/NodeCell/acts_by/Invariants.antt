@@ -1,5 +1,5 @@
 use Rattle.ipcz_cell.proofs.TurnChains.{IsUnderWay}
-use Rattle.ipcz_cell.proofs.cell.NodeCell.acts.Given as goal
+use Rattle.ipcz_cell.proofs.cell.NodeCell.acts_by.Given as goal
 
 -- so many turns have been taken
 abbrev pub invariant-loop-taken : goal.invariant-loop-taken

@@ -1,6 +1,6 @@
 use Rattle.std.proofs.Common.{◌∙◌, Ok, ap}
 use Rattle.ipcz_cell.proofs.TurnChains.{at_start, more, ends_idle, ends_refused, ends_full}
-use Rattle.ipcz_cell.proofs.cell.NodeCell.acts.Goals as goal
+use Rattle.ipcz_cell.proofs.cell.NodeCell.acts_by.Goals as goal
 
 pub loop-taken-init : goal.loop-taken-init
 loop-taken-init g c = at_start g.F.FabricName.table c.args.self.now

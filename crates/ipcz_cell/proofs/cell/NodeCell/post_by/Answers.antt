@@ -5,7 +5,7 @@ use Rattle.ipcz_cell.proofs.Seating.{number_is, number_inside}
 use Rattle.ipcz_cell.proofs.Posting.{posted_cell, probed_first, post_slot}
 use Rattle.ipcz_cell.proofs.Turning.{append_length}
 use Rattle.ipcz_node.specs.Acts.{has_mail_for}
-use Rattle.ipcz_cell.proofs.cell.NodeCell.mail_post.Goals as goal
+use Rattle.ipcz_cell.proofs.cell.NodeCell.post_by.Goals as goal
 
 pub slot_of-slot-requires-clause-from : goal.slot_of-slot-requires-clause-from
 slot_of-slot-requires-clause-from g c =

@@ -1,0 +1,119 @@
+//! Nodes that each have a handle of their own.
+
+use crate::{answer, got_by, raw, Parcel, Portal, Refused, NOWHERE};
+
+/// A node's cell. Calls on different cells, also of one table, may come from different threads at once.
+#[repr(transparent)]
+pub struct Cell(raw::CellHandle);
+
+// SAFETY: the library proves that its handle may move to another thread. A `Cell` isn't `Sync`, and no call takes it by `&`.
+unsafe impl Send for Cell {}
+
+/// The cells of a new table, by node: 1 to 8 nodes, and of at least a link word for each two of them and at most 4096, else `TooMany`.
+pub fn cells(nodes: usize, words: u32) -> Result<Vec<Cell>, Refused> {
+    let mut made: Vec<Cell> = (0..nodes).map(|_| Cell(raw::CellHandle::EMPTY)).collect();
+    // SAFETY: a `Cell` lies as its handle does, and each was made EMPTY; the pointer of a `Vec` isn't null.
+    answer(unsafe { raw::ipcz_cells_create(words, made.as_mut_ptr().cast(), nodes) })?;
+    Ok(made)
+}
+
+// SAFETY, of each call below: as for `World`.
+impl Cell {
+    pub fn open(&mut self) -> Result<(Portal, Portal), Refused> {
+        let (mut first, mut second) = (NOWHERE, NOWHERE);
+        answer(unsafe { raw::ipcz_cell_open(&mut self.0, &mut first, &mut second) })?;
+        Ok((first, second))
+    }
+
+    /// Puts a parcel of at most 256 bytes, each from 0x20 to 0x7E.
+    pub fn put(&mut self, at: Portal, bytes: &[u8], portals: &[Portal]) -> Result<u64, Refused> {
+        self.put_by(raw::ipcz_cell_put_parcel, at, bytes, portals)
+    }
+
+    /// Puts a parcel of up to 65,536 bytes of any value.
+    pub fn put_wide(
+        &mut self,
+        at: Portal,
+        bytes: &[u8],
+        portals: &[Portal],
+    ) -> Result<u64, Refused> {
+        self.put_by(raw::ipcz_cell_put_wide_parcel, at, bytes, portals)
+    }
+
+    fn put_by(
+        &mut self,
+        put: raw::CellPut,
+        at: Portal,
+        bytes: &[u8],
+        portals: &[Portal],
+    ) -> Result<u64, Refused> {
+        let mut number = 0;
+        answer(unsafe {
+            put(
+                &mut self.0,
+                at,
+                bytes.as_ptr(),
+                bytes.len(),
+                portals.as_ptr(),
+                portals.len(),
+                &mut number,
+            )
+        })?;
+        Ok(number)
+    }
+
+    pub fn get(&mut self, at: Portal) -> Result<Parcel, Refused> {
+        got_by(|bytes, portals, size, count, number| unsafe {
+            raw::ipcz_cell_get(
+                &mut self.0,
+                at,
+                bytes.as_mut_ptr(),
+                bytes.len(),
+                size,
+                portals.as_mut_ptr(),
+                portals.len(),
+                count,
+                number,
+            )
+        })
+    }
+
+    pub fn close(&mut self, at: Portal) -> Result<(), Refused> {
+        answer(unsafe { raw::ipcz_cell_close(&mut self.0, at) })
+    }
+
+    /// Takes turns of the node until it has no act, or `limit` acts were taken: how many.
+    pub fn acts(&mut self, limit: u64) -> Result<u64, Refused> {
+        let mut acts = 0;
+        answer(unsafe { raw::ipcz_cell_acts(&mut self.0, limit, &mut acts) })?;
+        Ok(acts)
+    }
+
+    /// Whether the node has nothing to do, and no message to it was found.
+    pub fn quiet(&mut self) -> bool {
+        unsafe { raw::ipcz_cell_quiet(&mut self.0) }
+    }
+
+    /// How many link words of the table were used, when their count was read.
+    pub fn claimed(&mut self) -> u32 {
+        unsafe { raw::ipcz_cell_claimed(&mut self.0) }
+    }
+
+    /// Whether the node may use a portal now.
+    pub fn holds(&mut self, portal: Portal) -> bool {
+        unsafe { raw::ipcz_cell_holds(&mut self.0, portal) }
+    }
+
+    /// The number of the node.
+    pub fn node(&mut self) -> u8 {
+        let mut node = 0;
+        unsafe { raw::ipcz_cell_node(&mut self.0, &mut node) };
+        node
+    }
+}
+
+impl Drop for Cell {
+    fn drop(&mut self) {
+        unsafe { raw::ipcz_cell_destroy(&mut self.0) }
+    }
+}
