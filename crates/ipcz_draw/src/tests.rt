@@ -168,11 +168,11 @@ fn first_other(
 }
 
 const TITLES: [&str; 5] = [
-    "<g transform=\"translate(0 136)\"><title>line 1: open x y ok</title>",
-    "<g transform=\"translate(0 154)\"><title>line 2: put 0&gt;1 0</title>",
-    "<g transform=\"translate(0 172)\"><title>lines 3-4: idle x2</title>",
-    "<g transform=\"translate(0 190)\"><title>line 5: settled</title>",
-    "<g transform=\"translate(0 226)\"><title>line 6: get x 0 [] &quot;&lt;&amp;&quot;</title>",
+    "<g id=\"l1\" data-last=\"1\" transform=\"translate(0 136)\"><title>line 1: open x y ok</title>",
+    "<g id=\"l2\" data-last=\"2\" transform=\"translate(0 154)\"><title>line 2: put 0&gt;1 0</title>",
+    "<g id=\"l3\" data-last=\"4\" transform=\"translate(0 172)\"><title>lines 3-4: idle x2</title>",
+    "<g id=\"l5\" data-last=\"5\" transform=\"translate(0 190)\"><title>line 5: settled</title>",
+    "<g id=\"l6\" data-last=\"6\" transform=\"translate(0 226)\"><title>line 6: get x 0 [] &quot;&lt;&amp;&quot;</title>",
 ];
 
 // Whether a transcript is drawn as one root.
@@ -389,30 +389,30 @@ n1: look 0
 n1: hand item 1 C0
 ";
 
-const PART: [(&str, usize); 23] = [
+const PART: [(&str, usize); 25] = [
     (">A run of ipcz in 14 lines: lines 5 to 10</title>", 1),
     (">A run of ipcz in 14 lines: lines 5 to 10</text>", 1),
     (
-        "<g transform=\"translate(0 136)\"><title>line 5: n1: look 0</title>",
+        "<g id=\"l5\" data-last=\"5\" transform=\"translate(0 136)\"><title>line 5: n1: look 0</title>",
         1,
     ),
     (
-        "<g transform=\"translate(0 154)\"><title>line 6: n1: r4 rest</title>",
+        "<g id=\"l6\" data-last=\"6\" transform=\"translate(0 154)\"><title>line 6: n1: r4 rest</title>",
         1,
     ),
     (
-        "<g transform=\"translate(0 172)\"><title>line 7: n0: r0 send out 1 C0</title>",
+        "<g id=\"l7\" data-last=\"7\" transform=\"translate(0 172)\"><title>line 7: n0: r0 send out 1 C0</title>",
         1,
     ),
     (
-        "<g transform=\"translate(0 190)\"><title>line 8: n0: post 1</title>",
+        "<g id=\"l8\" data-last=\"8\" transform=\"translate(0 190)\"><title>line 8: n0: post 1</title>",
         1,
     ),
     (
-        "<g transform=\"translate(0 208)\"><title>lines 9-10: idle x2</title>",
+        "<g id=\"l9\" data-last=\"10\" transform=\"translate(0 208)\"><title>lines 9-10: idle x2</title>",
         1,
     ),
-    ("<g transform", 5),
+    ("<g id=", 5),
     // The names of both routers, and their bars.
     (
         "<text x=\"420\" y=\"130\" class=\"t10 ink b e h halo\">r0</text>",
@@ -441,7 +441,11 @@ const PART: [(&str, usize); 23] = [
     ),
     ("M592 145H604V226\"/>", 1),
     (">item 0</text>", 1),
-    ("y=\"142\" class=\"t9 e h halo f-item\">item 0</text>", 1),
+    (
+        "y=\"142\" data-message=\"3\" class=\"t9 e h halo f-item\">item 0</text>",
+        1,
+    ),
+    ("data-message=\"3\"", 3),
     // Item 1 from its router to its post, and on its way down to the foot.
     ("M428 181H494V199H500\"/>", 1),
     ("M500 199L592 226", 1),
@@ -449,6 +453,7 @@ const PART: [(&str, usize); 23] = [
         "made line 7; posted line 8; looked line 13; handled line 14</title>",
         1,
     ),
+    ("data-message=\"8\"", 3),
     (">item 1</text>", 1),
 ];
 

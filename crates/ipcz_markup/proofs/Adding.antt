@@ -5,7 +5,7 @@ use Rattle.std.proofs.lemmas.Fmt.{length-decimal-le}
 use Rattle.std.specs.Fmt.{decimal}
 use Rattle.ipcz_markup.specs.declared.writer.Tag.{Tag}
 use Rattle.ipcz_markup.specs.declared.writer.Writer.{Writer}
-use Rattle.ipcz_markup.specs.Markup.{escaped, escaped_byte, row_head, row_title, run_title, Adds, IsMarkup, Place, Row, Stands}
+use Rattle.ipcz_markup.specs.Markup.{escaped, escaped_byte, row_head, row_names, row_title, run_title, Adds, IsMarkup, Place, Row, Stands}
 
 -- two additions are one
 pub adds_two : (a b c : Writer) (x y : List ℕ) → Adds a b x → Adds b c y → Adds a c (x ++ y)
@@ -43,9 +43,14 @@ escaped_length (c ∷ bytes) = omega (arith, escaped_byte_length c, escaped_leng
 pub decimal_length : (n : ℕ) → n < 2 ^ 64 → length (decimal n) ≤ 20
 decimal_length n fits = length-decimal-le 20 n (omega arith) (omega (arith, fits)) fits
 
+-- how long the names of a row are
+pub row_names_length : (number last : ℕ) → number < 2 ^ 64 → last < 2 ^ 64 → length (row_names number last) ≤ 61
+row_names_length number last h k = simp (length-append {A = ℕ}) (omega (arith, decimal_length number h, decimal_length last k))
+
 -- how long the beginning of a row is
-pub row_head_length : (top : ℕ) → top < 2 ^ 64 → length (row_head top) ≤ 60
-row_head_length top h = simp (length-append {A = ℕ}) (omega (arith, decimal_length top h))
+pub row_head_length : (number last top : ℕ) → number < 2 ^ 64 → last < 2 ^ 64 → top < 2 ^ 64 → length (row_head number last top) ≤ 120
+row_head_length number last top h k l =
+    simp (length-append {A = ℕ}) (omega (arith, decimal_length number h, decimal_length last k, decimal_length top l))
 
 -- how long the title of a row with one line is
 pub row_title_length : (number : ℕ) (text : List ℕ) → number < 2 ^ 64 → length (row_title number (text ∷ [])) ≤ 30 + 6 * length text

@@ -39,6 +39,7 @@ key_name keys.Y2 = codes "y2"
 key_name keys.Rx = codes "rx"
 key_name keys.D = codes "d"
 key_name keys.TextAnchor = codes "text-anchor"
+key_name keys.Message = codes "data-message"
 
 -- a byte as it stands in a text or a value: the four that markup is made of have names, and one that isn't printable is a question mark
 abbrev pub escaped_byte : ℕ → List ℕ
@@ -72,9 +73,19 @@ row_title number [] = []
 row_title number (text ∷ []) = codes "line " ++ decimal number ++ codes ": " ++ escaped text
 row_title number (a ∷ b ∷ texts) = run_title number (number + length texts + 1) (length texts + 2)
 
--- how a row begins: a group of its own, moved down to the row's top
-abbrev pub row_head : ℕ → List ℕ
-row_head top = codes "<g transform=\"translate(0 " ++ decimal top ++ codes ")\"><title>"
+-- the number of the last of a row's lines
+abbrev pub last_line : ℕ → List (List ℕ) → ℕ
+last_line number [] = number
+last_line number (text ∷ []) = number
+last_line number (a ∷ b ∷ texts) = number + length texts + 1
+
+-- the names of a row, by which a viewer finds it: the numbers of its first line and of its last one
+abbrev pub row_names : ℕ → ℕ → List ℕ
+row_names number last = codes "<g id=\"l" ++ decimal number ++ codes "\" data-last=\"" ++ decimal last
+
+-- how a row begins: a group of its own with its names, moved down to the row's top
+abbrev pub row_head : ℕ → ℕ → ℕ → List ℕ
+row_head number last top = row_names number last ++ codes "\" transform=\"translate(0 " ++ decimal top ++ codes ")\"><title>"
 
 -- where the next byte comes: in the text of an element, behind a name in a tag, or in the value of an attribute
 pub data Place : Type 0 where
@@ -89,7 +100,7 @@ pub data IsMarkup : List ℕ → List Row → Place → List Tag → Type 0 wher
   Element : {b : List ℕ} {rows : List Row} {u : Tag} {s : List Tag} → (t : Tag) → (t ≡ tags.G → ⊥) → IsMarkup b rows InText (u ∷ s)
       → IsMarkup (b ++ (codes "<" ++ tag_name t)) rows InTag (t ∷ u ∷ s)
   RowGroup : {b : List ℕ} {rows : List Row} {u : Tag} {s : List Tag} → (r : Row) → IsMarkup b rows InText (u ∷ s)
-      → IsMarkup (b ++ (row_head r.top ++ row_title r.number r.texts)) (rows ++ r ∷ []) InText (tags.Title ∷ tags.G ∷ u ∷ s)
+      → IsMarkup (b ++ (row_head r.number (last_line r.number r.texts) r.top ++ row_title r.number r.texts)) (rows ++ r ∷ []) InText (tags.Title ∷ tags.G ∷ u ∷ s)
   Attribute : {b : List ℕ} {rows : List Row} {s : List Tag} → (k : Key) → IsMarkup b rows InTag s
       → IsMarkup (b ++ (codes " " ++ key_name k ++ codes "=\"")) rows InValue s
   ValueText : {b : List ℕ} {rows : List Row} {s : List Tag} → (bytes : List ℕ) → IsMarkup b rows InValue s

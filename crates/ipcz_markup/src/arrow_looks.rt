@@ -2,7 +2,7 @@
 
 ghost use Rattle.std.specs.Prelude.{◌≤◌, ◌∷◌, List, length};
 ghost use Rattle.ipcz_markup.specs.declared.writer.Tag.{Tag};
-ghost use Rattle.ipcz_markup.specs.Markup.{Grows, InText, InValue, Row, Stands};
+ghost use Rattle.ipcz_markup.specs.Markup.{Grows, InTag, InText, InValue, Row, Stands};
 
 use crate::writer::{Key, Tag, Writer};
 
@@ -57,22 +57,42 @@ impl Stroke {
 }
 
 impl Writer {
-    /// Opens a path with the look of a message; its points come next.
-    pub fn begin_arrow(&mut self, look: Look, stroke: Stroke)
+    // Opens a path with the look of a message; other attributes come next.
+    fn open_arrow(&mut self, look: Look, stroke: Stroke)
         ensures begins { (rows : List Row) (u : Tag) (s : List Tag) →
-            Stands self.old rows InText (u ∷ s) → Stands self.new rows InValue (Tag.Path ∷ u ∷ s) }
-        ensures few { Grows self.old self.new 133 }
+            Stands self.old rows InText (u ∷ s) → Stands self.new rows InTag (Tag.Path ∷ u ∷ s) }
+        ensures few { Grows self.old self.new 115 }
     {
         self.open(Tag::Path);
         self.begin_value(Key::Class);
         self.text(stroke.words());
         self.text(look.name());
         self.end_value();
+    }
+
+    /// Opens a path with the look of a message; its points come next.
+    pub fn begin_arrow(&mut self, look: Look, stroke: Stroke)
+        ensures begins { (rows : List Row) (u : Tag) (s : List Tag) →
+            Stands self.old rows InText (u ∷ s) → Stands self.new rows InValue (Tag.Path ∷ u ∷ s) }
+        ensures few { Grows self.old self.new 133 }
+    {
+        self.open_arrow(look, stroke);
         self.begin_value(Key::D);
     }
 
-    /// Opens a label with the look of a message, which ends here if it is on the left.
-    pub fn begin_arrow_label(&mut self, x: u64, y: u64, look: Look, is_right: bool)
+    /// Opens a path that is a part of the way of a message, as `begin_arrow` does; all parts of one message have its number.
+    pub fn begin_way(&mut self, look: Look, stroke: Stroke, number: u64)
+        ensures begins { (rows : List Row) (u : Tag) (s : List Tag) →
+            Stands self.old rows InText (u ∷ s) → Stands self.new rows InValue (Tag.Path ∷ u ∷ s) }
+        ensures few { Grows self.old self.new 172 }
+    {
+        self.open_arrow(look, stroke);
+        self.measure(Key::Message, number);
+        self.begin_value(Key::D);
+    }
+
+    /// Opens a label with the look of a message, whose number is `message`; it ends here if it is on the left.
+    pub fn begin_arrow_label(&mut self, x: u64, y: u64, look: Look, message: u64, is_right: bool)
         ensures begins { (rows : List Row) (u : Tag) (s : List Tag) →
             Stands self.old rows InText (u ∷ s) → Stands self.new rows InText (Tag.Text ∷ u ∷ s) }
         ensures few { Grows self.old self.new 300 }
@@ -80,6 +100,7 @@ impl Writer {
         self.open(Tag::Text);
         self.measure(Key::X, x);
         self.measure(Key::Y, y);
+        self.measure(Key::Message, message);
         self.begin_value(Key::Class);
         if is_right {
             self.text(b"t9 h halo f-");

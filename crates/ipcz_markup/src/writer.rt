@@ -4,7 +4,7 @@ ghost use Rattle.std.specs.Prelude.{◌≡◌, ◌++◌, ◌+◌, ◌*◌, ◌^�
 ghost use Rattle.std.specs.Prelude.{if◌then◌else◌};
 ghost use Rattle.std.specs.Fmt.{decimal};
 ghost use Rattle.ipcz_markup.specs.declared.writer.Tag.{Tag};
-ghost use Rattle.ipcz_markup.specs.Markup.{escaped, escaped_byte, key_name, row_head, row_title, run_title, size, tag_name, Adds, Grows};
+ghost use Rattle.ipcz_markup.specs.Markup.{escaped, escaped_byte, key_name, row_head, row_names, row_title, run_title, size, tag_name, Adds, Grows};
 ghost use Rattle.ipcz_markup.specs.Markup.{InTag, InText, InValue, IsDocument, Keeps, KeepsValue, Row, Stands};
 
 use std::alloc::{AllocError, Global};
@@ -45,6 +45,7 @@ pub enum Key {
     Rx,
     D,
     TextAnchor,
+    Message,
 }
 
 impl Tag {
@@ -89,6 +90,7 @@ impl Key {
             Key::Rx => b"rx",
             Key::D => b"d",
             Key::TextAnchor => b"text-anchor",
+            Key::Message => b"data-message",
         }
     }
 }
@@ -262,11 +264,22 @@ impl Writer {
         self.add_number(n);
     }
 
-    // Writes how a row begins whose top is this, up to what its title says.
-    fn add_row_head(&mut self, top: u64)
-        ensures { Adds self.old self.new (row_head top) }
+    // Writes the names of a row, by which a viewer finds it: the numbers of its first line and of its last one.
+    fn add_row_names(&mut self, number: u64, last: u64)
+        ensures { Adds self.old self.new (row_names number last) }
     {
-        self.add(b"<g transform=\"translate(0 ");
+        self.add(b"<g id=\"l");
+        self.add_number(number);
+        self.add(b"\" data-last=\"");
+        self.add_number(last);
+    }
+
+    // Writes how a row begins whose top is this, up to what its title says.
+    fn add_row_head(&mut self, number: u64, last: u64, top: u64)
+        ensures { Adds self.old self.new (row_head number last top) }
+    {
+        self.add_row_names(number, last);
+        self.add(b"\" transform=\"translate(0 ");
         self.add_number(top);
         self.add(b")\"><title>");
     }
@@ -298,9 +311,9 @@ impl Writer {
         ensures begins { (rows : List Row) (u : Tag) (s : List Tag) (units : ℕ) → Stands self.old rows InText (u ∷ s) →
             Stands self.new (rows ++ (record { number = number; texts = text.now ∷ []; top = top; units = units }) ∷ [])
             InText (Tag.Title ∷ Tag.G ∷ u ∷ s) }
-        ensures few { Grows self.old self.new (90 + 6 * length text.now) }
+        ensures few { Grows self.old self.new (160 + 6 * length text.now) }
     {
-        self.add_row_head(top);
+        self.add_row_head(number, number, top);
         self.add_line_title(number, text);
     }
 
@@ -312,10 +325,11 @@ impl Writer {
             length texts + 2 ≡ count → Stands self.old rows InText (u ∷ s) →
             Stands self.new (rows ++ (record { number = number; texts = a ∷ b ∷ texts; top = top; units = units }) ∷ [])
             InText (Tag.Title ∷ Tag.G ∷ u ∷ s) }
-        ensures few { Grows self.old self.new 136 }
+        ensures few { Grows self.old self.new 206 }
     {
-        self.add_row_head(top);
-        self.add_run_title(number, number + (count - 1), count);
+        let last = number + (count - 1);
+        self.add_row_head(number, last, top);
+        self.add_run_title(number, last, count);
     }
 
     /// The document, once its root is closed.

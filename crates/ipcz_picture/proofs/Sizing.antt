@@ -22,7 +22,7 @@ row_in (y ∷ ys) (suc i) n d some within = row_in ys i n d some (omega (arith, 
 
 -- the parts of a row are within the row
 pub row_fits : (read : List ReadLine) (p : Place) (d : ReadLine) → IsPlace read p → (a b c e f g : ℕ) →
-    HoldsAt (λ x. b ≤ a + (140 + 6 * length x.text.now)) read p.first
+    HoldsAt (λ x. b ≤ a + (210 + 6 * length x.text.now)) read p.first
     → c ≤ b + 8 → e ≤ c + 1140 → f ≤ e + most_marks (get_or read p.first d).line → g ≤ f + 8 → g ≤ a + most_place read p
 row_fits read p d place a b c e f g begun closed gutter marks done =
     omega (arith, row_in read p.first p.count d place.some (omega (arith, place.some, place.within)), begun d, closed, gutter, marks, done)

@@ -13,7 +13,7 @@ most_marks other = 3000
 
 -- the row of a line, with the whole line as its title
 abbrev pub most_row : ReadLine → ℕ
-most_row x = 1300 + 6 * length x.text.now + most_marks x.line
+most_row x = 1370 + 6 * length x.text.now + most_marks x.line
 
 -- the row at a place
 abbrev pub most_place : List ReadLine → Place → ℕ

@@ -18,6 +18,13 @@ pub fn look_of(message: &Message) -> Look {
     }
 }
 
+/// The number of the line at which a message comes into sight, by which a viewer finds all parts of its way: no other message is posted,
+/// looked at or handled at that line.
+pub fn number_of(message: &Message) -> u64 {
+    let line = message.posted.or(message.looked).or(message.handled);
+    (line.unwrap_or(0) as u64).saturating_add(1)
+}
+
 /// The line of a message that is under way: thick if ends move with it, dashed for a flush.
 pub fn stroke_of(message: &Message) -> Stroke {
     if !message.moves.is_empty() {
@@ -164,7 +171,7 @@ pub fn draw_arrow_label(out: &mut Writer, message: &Message, x: u64, y: u64, is_
     ensures keeps { Keeps out.old out.new }
     ensures few { Grows out.old out.new 500 }
 {
-    out.begin_arrow_label(x, y, look_of(message), is_right);
+    out.begin_arrow_label(x, y, look_of(message), number_of(message), is_right);
     write_short_kind(out, &message.kind);
     if !message.moves.is_empty() {
         out.text(b" +");

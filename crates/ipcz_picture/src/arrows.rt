@@ -5,10 +5,10 @@ ghost use Rattle.std.specs.Prelude.{◌*◌, ◌∷◌, List, length};
 ghost use Rattle.ipcz_markup.specs.declared.writer.Tag.{Tag};
 ghost use Rattle.ipcz_markup.specs.Markup.{Grows, InText, InValue, Keeps, KeepsValue, Row, Stands};
 
-use crate::arrow_title::{draw_arrow_label, draw_arrow_title, look_of, stroke_of};
+use crate::arrow_title::{draw_arrow_label, draw_arrow_title, look_of, number_of, stroke_of};
 use crate::rows::UNIT;
 use crate::scene::Scene;
-use ipcz_markup::{Look, Stroke, Tag, Writer};
+use ipcz_markup::{Stroke, Tag, Writer};
 use ipcz_messages::messages::Message;
 
 // A place at a node's wall: how far across the wall is, and whether it is the right one.
@@ -55,7 +55,7 @@ impl Wall {
 }
 
 // The head of an arrow whose tip is here, and that comes from the right or from the left.
-fn draw_head(out: &mut Writer, x: u64, y: u64, from_right: bool, look: Look)
+fn draw_head(out: &mut Writer, message: &Message, x: u64, y: u64, from_right: bool)
     ensures keeps { Keeps out.old out.new }
     ensures few { Grows out.old out.new 500 }
 {
@@ -64,7 +64,7 @@ fn draw_head(out: &mut Writer, x: u64, y: u64, from_right: bool, look: Look)
     } else {
         x.saturating_sub(7)
     };
-    out.begin_arrow(look, Stroke::Filled);
+    out.begin_way(look_of(message), Stroke::Filled, number_of(message));
     out.point(b'M', x, y);
     out.point(b'L', back, y.saturating_sub(4));
     out.step(b'V', y.saturating_add(4));
@@ -104,7 +104,7 @@ fn draw_outbox(
     ensures few { Grows out.old out.new 500 }
 {
     let wait = (slot as u64).saturating_mul(4).saturating_add(6);
-    out.begin_arrow(look_of(message), Stroke::Thin);
+    out.begin_way(look_of(message), Stroke::Thin, number_of(message));
     match (message.made, message.maker) {
         (Some(line), Some(maker)) => {
             begin_along(out, scene, line, scene.across_of(maker), wall.inside(wait));
@@ -141,7 +141,7 @@ fn draw_way(
     ensures keeps { Keeps out.old out.new }
     ensures few { Grows out.old out.new 1500 }
 {
-    out.begin_arrow(look_of(message), stroke_of(message));
+    out.begin_way(look_of(message), stroke_of(message), number_of(message));
     if message.from == Some(message.to) {
         begin_along(out, scene, posted, from.across, from.outside(12));
         out.step(b'V', scene.middle_of(looked));
@@ -177,7 +177,7 @@ fn draw_lost(out: &mut Writer, scene: &Scene, message: &Message, from: Wall, pos
     ensures keeps { Keeps out.old out.new }
     ensures few { Grows out.old out.new 1500 }
 {
-    out.begin_arrow(look_of(message), Stroke::Dotted);
+    out.begin_way(look_of(message), Stroke::Dotted, number_of(message));
     out.point(b'M', from.across, scene.middle_of(posted));
     out.point(b'L', from.outside(12), end_of_sight(scene, message));
     end_titled(out, scene, message);
@@ -212,13 +212,13 @@ fn draw_hand(
 {
     let tip = tip_of(scene, message, wall);
     let height = scene.middle_of(handled);
-    out.begin_arrow(look_of(message), stroke_of(message));
+    out.begin_way(look_of(message), stroke_of(message), number_of(message));
     begin_along(out, scene, looked, wall.across, wall.inside(12));
     out.step(b'V', height);
     step_along(out, scene, handled, tip);
     out.end_path();
     if scene.shows(handled) {
-        draw_head(out, tip, height, wall.is_right, look_of(message));
+        draw_head(out, message, tip, height, wall.is_right);
     }
 }
 
@@ -227,7 +227,7 @@ fn draw_held(out: &mut Writer, scene: &Scene, message: &Message, wall: Wall, loo
     ensures keeps { Keeps out.old out.new }
     ensures few { Grows out.old out.new 500 }
 {
-    out.begin_arrow(look_of(message), Stroke::Dotted);
+    out.begin_way(look_of(message), Stroke::Dotted, number_of(message));
     begin_along(out, scene, looked, wall.across, wall.inside(12));
     out.step(b'V', end_of_sight(scene, message));
     out.end_path();
@@ -252,7 +252,7 @@ fn draw_gained(out: &mut Writer, scene: &Scene, message: &Message, wall: Wall, l
         Some(settle) => begin_of_sight(scene, settle),
         None => scene.middle_of(looked),
     };
-    out.begin_arrow(look_of(message), Stroke::Dotted);
+    out.begin_way(look_of(message), Stroke::Dotted, number_of(message));
     out.point(b'M', wall.outside(14), begin);
     out.point(b'L', wall.across, scene.middle_of(looked));
     end_titled(out, scene, message);

@@ -118,7 +118,7 @@ fn begin_place(out: &mut Writer, lines: &[ReadLine], place: &Place)
     requires place { IsPlace lines.now place.now }
     ensures begins { (rows : List Row) (u : Tag) (s : List Tag) → Stands out.old rows InText (u ∷ s) →
         Stands out.new (rows ++ (row_at lines.now place.now) ∷ []) InText (Tag.Title ∷ Tag.G ∷ u ∷ s) }
-    ensures few { HoldsAt (λ x. Grows out.old out.new (140 + 6 * length x.text.now)) lines.now place.now.first }
+    ensures few { HoldsAt (λ x. Grows out.old out.new (210 + 6 * length x.text.now)) lines.now place.now.first }
 {
     let number = place.first as u64 + 1;
     if place.count == 1 {

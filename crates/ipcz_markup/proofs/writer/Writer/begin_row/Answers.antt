@@ -16,6 +16,6 @@ returns-clause-few c =
       arith,
       c.add_row_head.ensures.size,
       c.add_line_title.ensures.size,
-      row_head_length c.args.top c.ranges.top.fits,
+      row_head_length c.args.number c.args.number c.args.top c.ranges.number.fits c.ranges.number.fits c.ranges.top.fits,
       row_title_length c.args.number c.args.text.now c.ranges.number.fits,
     )
