@@ -135,7 +135,7 @@ impl SerialRing {
         }
     }
 
-    // Whether the serial is less than each that is there, and any is.
+    // Whether any serial is there, and this one is less than each of them.
     fn is_below_all(&self, serial: u64) -> bool
         ensures { IsTrue result → IsGapFor nat_cmp self.now.members serial 0 }
     {

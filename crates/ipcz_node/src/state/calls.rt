@@ -180,7 +180,7 @@ impl NodeState {
         }
     }
 
-    // The terminal of an end that takes such bytes, whatever it says itself of a parcel without ends.
+    // The terminal at which a parcel without ends is put, if nothing but the terminal itself may refuse it.
     #[inline(always)]
     #[tactic(auto, unfolding(crate::specs::Calls::put_refusal, crate::specs::Calls::refusal_at))]
     fn serial_for_bytes(
@@ -207,7 +207,8 @@ impl NodeState {
         }
     }
 
-    // Why nothing is put at an end that isn't held here, or no such bytes and so many ends are.
+    // Why a put is refused before its ends are looked at: the end isn't held here, there are too many bytes or ends, or the profile doesn't
+    // take one of the bytes.
     #[inline(always)]
     fn bytes_refusal(
         &self,
