@@ -58,6 +58,6 @@ pub record IsCarried (w v : World) (acts : ℕ) : Type 0 where
   pub lone : IsLone w node serial link
   pub came : ((acts ≡ 6) × HasCome w v node serial link) ⊎ ((node_at v link.other).hand ≡ Some node)
 
--- where at most so many acts are taken, and these are enough, a lone parcel is carried
+-- if so many acts may be taken and that is enough, a lone parcel is carried
 abbrev pub Carries : ℕ → World → World → ℕ → Type 0
 Carries most w v acts = 6 ≤ most → (n serial : ℕ) → (link : LinkEnd) → IsLone w n serial link → IsCarried w v acts

@@ -1,4 +1,4 @@
--- What code that looks for a lone parcel finds: where there is one, no node but its own isn't quiet, and it is the only one.
+-- If a lone parcel waits, each node but its own is quiet, and that node sends over its link only: so code that looks for it finds it.
 use Rattle.std.specs.Prelude.{◌≡◌, ◌<◌, ℕ, Bool, true, false, nat_eq, Some, None, refl}
 use Rattle.std.proofs.Common.{arith, ap, sym, subst, ◌∙◌, true≢false}
 use Rattle.std.proofs.lemmas.Bool.Decides.{nat_tests}

@@ -130,7 +130,7 @@ no-one false l = refl
 pub none-full : (ms : List Mail) (k : ℕ) → count_full ms ≡ 0 → is_full (place_at Empty ms k) ≡ false
 none-full ms k none = no-one (is_full (place_at Empty ms k)) (omega (arith, count-place ms k, none))
 
--- where not none are full one is
+-- if it isn't none that are full, one is
 pub some-full : (ms : List Mail) → (count_full ms ≡ 0 → ⊥) → (k : ℕ) × (is_full (place_at Empty ms k) ≡ true)
 unfolding is_full place_at
 some-full [] some = absurd (some refl)
