@@ -27,7 +27,8 @@ int main(void) {
     print("create with too few words", ipcz_cells_create(0, cells, 2));
     print("create", ipcz_cells_create(2, cells, 2));
     print("create over cells", ipcz_cells_create(2, cells, 2));
-    printf("node of the second: %d, %u\n", ipcz_cell_node(&cells[1], &node), node);
+    if (!ipcz_cell_node(&cells[1], &node)) return 1;
+    printf("node of the second: %d\n", node);
     print("open", ipcz_cell_open(&cells[0], &a, &b));
     print("open with no word left", ipcz_cell_open(&cells[1], &a, &b));
     printf("claimed %u, word 1 %d, word 2 %d\n", ipcz_cell_claimed(&cells[0]), ipcz_cell_word(&cells[0], 1, &word), ipcz_cell_word(&cells[0], 2, &word));

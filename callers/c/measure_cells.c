@@ -41,7 +41,7 @@ static ipcz_status get(void) {
     return ipcz_cell_get(&cells[1], ipcz_first(1, 0, 2), bytes, sizeof bytes, &size, portals, IPCZ_MAX_PORTALS, &with, &number);
 }
 
-static bool on_one(long parcels) {
+__attribute__((noinline)) static bool on_one(long parcels) {
     for (long i = 0; i < parcels; i++)
         if (!put() || !serve(&cells[0]) || !serve(&cells[1]) || get()) return false;
     return true;
