@@ -3,8 +3,8 @@
  * A pair of portals is a way for parcels. What is put at one portal of a pair is got at the other, each parcel once and in order, also
  * while portals travel: a parcel has bytes, and portals of its sender, which are the receiver's once the parcel is got.
  *
- * Nodes are numbered from 0. Each two of them share a pair from the start (ipcz_first), and a node opens more (ipcz_open). A node acts on
- * its own portals alone. Nodes come in one of two ways:
+ * Nodes are numbered from 0. Each two of them share a pair from the start (ipcz_first), and a node opens more (ipcz_open). A node acts
+ * only on its own portals. Nodes come in one of two ways:
  *  - as a WORLD: one handle has all of them, and every call names the node that it is made on. One thread at a time.
  *  - as CELLS: each node has a handle of its own, its cell, and a thread that has a node's cell calls it without a lock, while other
  *    threads call other cells. The calls are those whose names begin with ipcz_cell.
@@ -14,7 +14,7 @@
  * on only in ipcz_turn and ipcz_settle, of cells in ipcz_cell_acts, so a get finds nothing before these.
  *
  * MEMORY. A world, or the cells of a table together, own what was put into them until it is got, and all else that their nodes keep, by
- * malloc, realloc and free of the program; ipcz_destroy frees all of a world, and ipcz_cell_destroy what a cell has alone, and with the
+ * malloc, realloc and free of the program; ipcz_destroy frees all of a world, and ipcz_cell_destroy what only that cell has, and with the
  * last cell of a table all of it. Everything that a pointer of a call points to is the caller's: it is read or written during the call, and
  * not kept.
  *
@@ -23,8 +23,8 @@
  * once, and so may calls on different cells, also of one table.
  *
  * WHAT THE CALLER UPHOLDS. The library is proved for callers that keep these, and tests none of them; what follows otherwise is undefined.
- *  - An ipcz_world is IPCZ_WORLD_INIT and an ipcz_cell IPCZ_CELL_INIT before its first call. Later its fields are written by the library
- *    alone, and no copy of it is used: whoever moves one sets the old one to the same again.
+ *  - An ipcz_world is IPCZ_WORLD_INIT and an ipcz_cell IPCZ_CELL_INIT before its first call. Later only the library writes
+ *    its fields, and no copy of it is used: whoever moves one sets the old one to the same again.
  *  - No pointer is null, but for those of a put beside a count of 0. What a call writes (by a pointer that isn't const) lies apart from
  *    all else that the call is given, and arrays are as long as is said beside them. A bool is true or false.
  *  - malloc, realloc and free belong together, and align a block of so many bytes to each power of two up to 16 that divides this number.
@@ -66,8 +66,8 @@ typedef struct ipcz_portal {
     bool side_b;
 } ipcz_portal;
 
-/* What a call came to. A call that isn't IPCZ_OK changes nothing, and writes nothing but where that is said. (A settle that is refused has
- * taken the turns before the one that is.) */
+/* What a call came to. A call that isn't IPCZ_OK changes nothing, and writes nothing, unless the call says otherwise. (A settle that is
+ * refused has taken the turns before the one that is.) */
 typedef uint32_t ipcz_status;
 enum {
     IPCZ_OK = 0,
@@ -81,7 +81,7 @@ enum {
     IPCZ_NUMBERS_END = 8,   /* no number of 64 bits is left for a parcel or a router */
     IPCZ_BAD_DATA = 9,      /* a byte isn't from 0x20 to 0x7E */
     IPCZ_TOO_MANY = 10,     /* too many bytes, portals, nodes or words, or too few */
-    IPCZ_RACED = 11,        /* another node's thread was there first: call again. Of calls on cells alone */
+    IPCZ_RACED = 11,        /* another node's thread was there first: call again. Only calls on cells answer it */
     IPCZ_OCCUPIED = 12,     /* 12 to 14 are between nodes: no call here answers them */
     IPCZ_PASSED = 13,
     IPCZ_FORGED = 14,
@@ -161,7 +161,7 @@ bool ipcz_holder(ipcz_world *world, ipcz_portal portal, uint8_t *node);
  * table share its link words and mailboxes, which each call reads and writes by atomic steps.
  *
  * A node moves parcels only while its own thread takes its turns: what another node sent comes to a portal here by ipcz_cell_acts, and
- * what was put here leaves by it. So a thread's loop is: call what it has to do, then ipcz_cell_acts; where both came to nothing, let other
+ * what was put here leaves by it. So a thread's loop is: call what it has to do, then ipcz_cell_acts; if both came to nothing, let other
  * threads run. There is no call that sleeps until something comes: a thread that wants to sleep does so by means of its own (a condition
  * variable, an event's file descriptor), which whoever puts to its node signals, after the acts of the putting node.
  *
@@ -173,7 +173,7 @@ bool ipcz_holder(ipcz_world *world, ipcz_portal portal, uint8_t *node);
  * IPCZ_ALREADY_CREATED, IPCZ_TOO_MANY, IPCZ_OUT_OF_MEMORY. */
 ipcz_status ipcz_cells_create(uint32_t words, ipcz_cell *cells, size_t nodes);
 
-/* Frees what the cell has alone, if the handle has one; with the last cell of the table, the table. The handle has none then. The other nodes
+/* Frees what only this cell has, if the handle has one; with the last cell of the table, the table. The handle has none then. The other nodes
  * go on, but nothing goes through this one any more, and no other cell can be made for it. */
 void ipcz_cell_destroy(ipcz_cell *cell);
 

@@ -1,4 +1,4 @@
-"""Builds and runs the callers of the static library, in C, C++ and Rust, and prints what isn't as it must be.
+"""Builds and runs the callers of the static library, in C, C++, Rust and Go, and prints what isn't as it must be.
 
     python3 tools/try_callers.py               over the archive that `rt lib` builds
     python3 tools/try_callers.py --after-ci    over the libraries that `rt ci` left here, as .ci/run does
@@ -7,8 +7,8 @@
 The library is installed in a folder of its own by `tools/install_c.py`, and each caller is built from there, by the flags that pkg-config
 tells. What a caller of `callers/c` and `callers/cpp` prints is compared with the file beside it that ends in `.out`. It runs again under
 valgrind, which must find no error, and no memory that isn't freed, and one with a mutex under helgrind, which must find no race (it takes no
-account of atomic steps, by which alone cells on two threads are ordered). The crate of `callers/rust` has its tests run. A caller whose compiler isn't on the machine is left out. The statuses of the header must be those of
-`Refusal`, and the program in docs/C.md one of these callers.
+account of atomic steps, and only these order the calls on two cells). The tests of `callers/rust` and of `callers/go` are run. A caller whose
+compiler isn't on the machine is left out. The statuses of the header must be those of `Refusal`, and docs/C.md must show these callers.
 """
 import argparse
 import os
@@ -102,6 +102,13 @@ class Callers:
         env = {"IPCZ_LIB": f"{self.prefix}/lib", "CARGO_TARGET_DIR": f"{self.prefix}/cargo", "RUSTFLAGS": "-D warnings"}
         self.run("callers/rust", ["cargo", "test", "--offline", "--quiet"], env, CALLERS / "rust")
 
+    def go(self) -> None:
+        """Runs the tests of the module; cgo tests each pointer that it passes."""
+        if not self.has("go") or not self.has("pkg-config"):
+            return
+        env = {"PKG_CONFIG_PATH": f"{self.prefix}/lib/pkgconfig", "GOCACHE": f"{self.prefix}/go", "GOFLAGS": "-mod=readonly", "GODEBUG": "cgocheck=2"}
+        self.run("callers/go", ["go", "test", "./..."], env, CALLERS / "go")
+
     def statuses(self) -> None:
         """Compares the header's statuses and names with those of `Refusal`."""
         header = (TOP / "include/ipcz_portals.h").read_text()
@@ -136,6 +143,7 @@ def main() -> None:
         callers.compiled("cc", "gnu11", "c", ".c")
         callers.compiled("c++", "c++11", "cpp", ".cc")
         callers.rust()
+        callers.go()
     if asked.all and callers.lacking:
         callers.wrong.append(f"left out, since the machine lacks it: {', '.join(sorted(callers.lacking))}")
     if callers.wrong:

@@ -5,25 +5,29 @@
     python3 tools/try_edits.py --beside FOLDER            beside an `rt ci` here, as .ci/run does
     python3 tools/try_edits.py --kit NAME..               has `rt must-fail` try these crates' in a copy, one after the other
 
-Each edit has one line, and so has each crate, with the processor's seconds; the last line counts them, and it fails where one edit isn't as it
-must be. An edit is `refused` where a goal of a function that it changes isn't proved, and the line names the goal. Those of `harmless-edits`
-mean the same as what stands, and must be NOT REFUSED. All else fails: a BAD EDIT can't be made, compiled or read; ONLY NAMES are gone, so that
-the text of a proof doesn't fit and no goal was asked; ONLY A LIMIT of the prover was met; and NOT TRIED is what nothing is known of.
+Each edit has one line, and so has each crate, with the processor's seconds; the last line counts them. The tool fails if an edit isn't as it
+must be. An edit is `refused` if a goal of a function that it changes isn't proved, and the line names the goal. Those of `harmless-edits`
+mean the same as what stands, and must be NOT REFUSED. All else fails: a BAD EDIT can't be made, compiled or read; of ONLY NAMES the names are
+gone, so that the text of a proof doesn't fit and no goal was asked; ONLY A LIMIT of the prover was met; and NOT TRIED is what nothing is known
+of.
 
-**Edits of bodies.** A function is proved over the contracts of those that it calls, and not over their bodies, so whether a goal of its own is
-proved has nothing to do with any other body. So edits that change nothing but bodies are made together, no two in one function. The check is
-asked for the functions that they change alone; each other function is taken by its contract, as one whose proof is a hole, since `rt ci` proves
-it as it is. What only calls what isn't proved has no such goal, and rattle's line of the function tells the two apart. Whatever isn't refused so
-is tried once more, alone.
+**Edits of bodies.** The proof of a function uses the contracts of those that it calls, and not their bodies, so whether a goal of its own is
+proved has nothing to do with any other body. So edits that change nothing but bodies are made together, no two in one function. Only the
+functions that they change are checked. Of each other function only the contract is used, as if its proof were a hole, since `rt ci` proves it as
+it is. A function that only calls what isn't proved has no such goal, and rattle's line of the function tells the two apart. What isn't refused
+so is tried once more, by itself.
 
 **Other edits** (a definition, a clause, a type, a constant) are tried one by one: the crate, over what a check of it as it stands has proved, must
-not be proved. Where the crate has laws these are asked first, with all else taken by its contract, and the whole crate only where they are proved.
+not be proved. If the crate has laws these are asked first, and only the contract of all else is used; if they are proved, the whole crate is
+checked.
 
 All of it happens on copies. The libraries below are made by `rt lib`, and a check begins with what `rt check` kept in the folders `out`. With
 `--beside` both are from nothing: a crate is tried once that run has built the libraries below it. Then what is as it must be is kept for later
-runs on this machine, by the sums of all that it was made from: the edit, the crate, the libraries below, the kit and this tool. Where the
-variable EDIT_LOGS names a folder, what each check said is written there; EDIT_SECONDS is the most that one may take.
+runs on this machine, by the sums of all that it was made from: the edit, the crate, the libraries below, the kit and this tool. If the variable
+EDIT_LOGS names a folder, what each check said is written there; EDIT_SECONDS is the most that one may take.
 """
+from __future__ import annotations
+
 import argparse
 import bisect
 import contextlib
@@ -42,6 +46,7 @@ import sys
 import tempfile
 import threading
 import time
+from collections.abc import Iterable, Iterator
 from concurrent.futures import ThreadPoolExecutor
 
 TOP = pathlib.Path(__file__).resolve().parent.parent
@@ -59,7 +64,7 @@ KEPT = pathlib.Path(os.environ.get("XDG_CACHE_HOME") or pathlib.Path.home() / ".
 # ---- Crates ----
 
 
-def read_crates():
+def read_crates() -> dict[str, list[str]]:
     """Returns the libraries that crates.txt lists of each crate."""
     lines = (line.partition("#")[0].partition(":") for line in (TOP / "crates.txt").read_text().split("\n"))
     return {name.split()[0]: used.split() for name, colon, used in lines if colon}
@@ -68,25 +73,25 @@ def read_crates():
 USED = read_crates()
 
 
-def below(name):
+def below(name: str) -> list[str]:
     """Returns the repository's libraries below a crate, each after those that it uses."""
     return list(dict.fromkeys(it for used in USED[name] if used in USED for it in (*below(used), used)))
 
 
-def library(name):
+def library(name: str) -> pathlib.Path:
     return TOP / "crates" / name / "out" / "rlib"
 
 
 class Beside:
     """An `rt ci` that goes on beside: the folder has `begun`, made before it, its `log`, and `ended` once it has ended."""
 
-    def __init__(self, folder):
+    def __init__(self, folder: pathlib.Path) -> None:
         self.folder, self.begun = folder, (folder / "begun").stat().st_mtime
 
-    def has_ended(self):
+    def has_ended(self) -> bool:
         return (self.folder / "ended").exists()
 
-    def awaits(self, name):
+    def awaits(self, name: str) -> bool:
         """Waits for the libraries below a crate, and returns whether the run has built them."""
         while True:
             has_ended = self.has_ended()
@@ -97,12 +102,12 @@ class Beside:
                 return False
             time.sleep(2)
 
-    def are_its_own(self, name):
+    def are_its_own(self, name: str) -> bool:
         """Returns whether the libraries that stand below a crate are this run's: at its end `rt ci` puts back what it found, which is older."""
         return all(library(it).is_dir() and library(it).stat().st_mtime >= self.begun for it in below(name))
 
 
-def make_libraries(names):
+def make_libraries(names: Iterable[str]) -> None:
     for name in dict.fromkeys(it for name in names for it in below(name)):
         done = subprocess.run(["rt", "lib", "--jobs", "1"], cwd=TOP / "crates" / name, stdout=subprocess.PIPE, stderr=subprocess.STDOUT, text=True)
         if done.returncode:
@@ -111,17 +116,17 @@ def make_libraries(names):
 
 # ---- Functions ----
 
-HEAD = re.compile(r"([ \t]*)(?:pub(?:\([^)]*\))? )?(?:const |unsafe )*fn (\w+)")
+HEAD = re.compile(r"([ \t]*)(?:pub(?:\([^)]*\))? )?(?:const |unsafe |extern \"C\" )*fn (\w+)")
 IMPL = re.compile(r"(?:unsafe )?impl\b(?:<.*?>)? (?:(?P<of>[\w:]+)(?:<(?P<with>.*)>)? for )?(?:[\w:]+::)?(?P<type>\w+)(?:<.*>)?(?: where .*)? \{")
 TYPE = re.compile(r"^(?:pub(?:\([^)]*\))? )?(?:struct|enum) (\w+)", re.M)
 
 
-def module_of(file):
+def module_of(file: str | pathlib.Path) -> list[str]:
     return [it for it in pathlib.Path(file).with_suffix("").parts[1:] if it not in ("lib", "main", "mod")]
 
 
 @functools.lru_cache(maxsize=None)
-def modules_of(crate, name):
+def modules_of(crate: pathlib.Path, name: str) -> list[list[str]]:
     """Returns the modules in which a crate declares a type of the name."""
     files = sorted((crate / "src").glob("**/*.rt"))
     return [module_of(it.relative_to(crate)) for it in files if name in TYPE.findall(it.read_text())]
@@ -132,15 +137,15 @@ class Function:
     """A function with a body: where it stands, rattle's name of it, if that is clear from the text, and the lines of its body's braces."""
 
     file: str
-    owner: tuple
+    owner: tuple[str, str] | None
     short: str
-    name: str = dataclasses.field(compare=False)
+    name: str | None = dataclasses.field(compare=False)
     begin: int = dataclasses.field(compare=False)
     end: int = dataclasses.field(compare=False)
 
 
-def body(lines, at, indent):
-    """Returns the lines of the braces of the body of the function whose head is there, or none where it has no body."""
+def body(lines: list[str], at: int, indent: str) -> tuple[int, int] | None:
+    """Returns the lines of the braces of the body of the function whose head is there, or none if it has no body."""
     for begin in range(at, len(lines)):
         line, is_last_of_head = lines[begin], begin == at or lines[begin].startswith(indent + ")")
         if line == indent + "{" or line.endswith(" {") and is_last_of_head:
@@ -152,7 +157,7 @@ def body(lines, at, indent):
     return None
 
 
-def functions_in(crate, file, text):
+def functions_in(crate: pathlib.Path, file: str, text: str) -> list[Function]:
     """Returns the functions of a file that `rt fmt` has laid out."""
     lines, owner, found = text.split("\n"), None, []
     for at, line in enumerate(lines):
@@ -171,19 +176,19 @@ def functions_in(crate, file, text):
     return found
 
 
-def functions_of(crate):
+def functions_of(crate: pathlib.Path) -> list[Function]:
     files = [str(it.relative_to(crate)) for it in sorted((crate / "src").glob("**/*.rt"))]
     return [it for file in files for it in functions_in(crate, file, (crate / file).read_text())]
 
 
-def function_round(crate, file, text, place, length):
+def function_round(crate: pathlib.Path, file: str, text: str, place: int, length: int) -> Function | None:
     """Returns the function in whose body a text stands whole, or none."""
     begins = list(itertools.accumulate((len(line) + 1 for line in text.split("\n")), initial=0))
     first, last = (bisect.bisect_right(begins, it) - 1 for it in (place, place + length - 1))
     return next((it for it in functions_in(crate, file, text) if it.begin < first and last < it.end), None)
 
 
-def text_of(crate, file, text, function):
+def text_of(crate: pathlib.Path, file: str, text: str, function: Function) -> list[str] | None:
     """Returns the lines of a function, from behind the body before it on."""
     last = 0
     for it in functions_in(crate, file, text):
@@ -196,7 +201,7 @@ def text_of(crate, file, text, function):
 # ---- Edits ----
 
 
-def changes(text):
+def changes(text: str) -> Iterator[tuple[str | None, str | None, str]]:
     """Yields the file, the old text and the new one of each change of an edit."""
     file = old = None
     for line in text.split("\n"):
@@ -212,10 +217,12 @@ def changes(text):
 class Edit:
     """The lines that an edit changes, what keeps it from being made, and the functions whose bodies it changes, if it changes nothing else."""
 
-    def __init__(self, crate, path):
+    def __init__(self, crate: pathlib.Path, path: pathlib.Path) -> None:
         self.path, self.name, self.is_harmless = path, f"{crate.name}/{path.stem}", path.parent.name == HARMLESS
-        self.lines, self.functions = {}, frozenset()
-        texts, rounds = {}, set()
+        self.lines: dict[str, dict[int, str]] = {}
+        self.functions: frozenset[Function] = frozenset()
+        texts: dict[str, str] = {}
+        rounds: set[Function | None] = set()
         self.fault = self.apply(crate, texts, rounds) if path.suffix == ".edit" else "its name doesn't end in .edit"
         for file, text in texts.items():
             was = (crate / file).read_text().split("\n")
@@ -225,7 +232,7 @@ class Edit:
         if not self.fault and all(it and it.name for it in rounds):
             self.functions = frozenset(rounds)
 
-    def apply(self, crate, texts, rounds):
+    def apply(self, crate: pathlib.Path, texts: dict[str, str], rounds: set[Function | None]) -> str | None:
         """Makes the changes in texts, notes what functions they stand in, and returns what keeps it from that."""
         for file, old, new in changes(self.path.read_text()):
             if not file or not old or file.split("/")[0] not in PARTS or not (crate / file).is_file():
@@ -238,7 +245,7 @@ class Edit:
             texts[file] = text.replace(old, new)
         return None
 
-    def has_changed(self, crate, commit):
+    def has_changed(self, crate: pathlib.Path, commit: str) -> bool:
         """Returns whether the edit, or what it changes, isn't what it was at a commit."""
         paths = [str(it.relative_to(TOP)) for it in (self.path, *(crate / file for file in self.lines))]
         told = subprocess.run(["git", "diff", "--name-only", commit, "--", *paths], cwd=TOP, stdout=subprocess.PIPE, text=True, check=True)
@@ -254,7 +261,7 @@ class Edit:
                 return True
         return False
 
-    def make(self, room):
+    def make(self, room: pathlib.Path) -> None:
         """Makes the edit in a copy of the crate. What others of other functions change there are other lines."""
         for file, found in self.lines.items():
             lines = (room / file).read_text().split("\n")
@@ -263,9 +270,9 @@ class Edit:
             (room / file).write_text("\n".join(lines))
 
 
-def parted(edits):
+def parted(edits: Iterable[Edit]) -> list[list[Edit]]:
     """Parts edits of bodies so that no function is changed by two of a batch."""
-    batches = []
+    batches: list[list[Edit]] = []
     for edit in edits:
         batch = next((it for it in batches if not any(edit.functions & other.functions for other in it)), None)
         if batch is None:
@@ -295,7 +302,7 @@ RESERVED = re.compile(r"^\./proofs/(\S+)/Proof\.antt: error\[reserved-name\]", r
 class Said:
     """What a check of a crate with some edits said."""
 
-    def __init__(self, crate, status, text, is_late):
+    def __init__(self, crate: pathlib.Path, status: int, text: str, is_late: bool) -> None:
         self.crate, self.status, self.text, self.is_late = crate, status, text, is_late
         self.last = text.strip().rpartition("\n")[2][:200]
         self.is_proved = status == 0 and self.last.startswith("logic=proved")
@@ -304,7 +311,7 @@ class Said:
         self.functions = dict(FUNCTION.findall(text))
         self.placed = PLACED.findall(text)
 
-    def open_goal(self, edit):
+    def open_goal(self, edit: Edit) -> str | None:
         """Returns the first unproved goal of a function's own, of those that the edit changes, or none."""
         for function in edit.functions:
             # (its closures have lines of their own)
@@ -315,7 +322,7 @@ class Said:
                     return found[0]
         return None
 
-    def noted(self, function):
+    def noted(self, function: Function) -> str | None:
         """Returns the first unproved goal that is placed in the function."""
         for file, line, what in NOTE.findall(self.text):
             near = [it for it in functions_in(self.crate, file, (self.crate / file).read_text()) if int(line) <= it.end + 1]
@@ -323,14 +330,14 @@ class Said:
                 return f"{file}:{line}: {what}"
         return None
 
-    def answered(self, name):
+    def answered(self, name: str) -> list[str]:
         """Returns the errors among the function's answers."""
         path = "/".join(name.split("::")[1:])
         # (the answers of a function that calls itself stand under its name with a plus)
         return [f"proofs/{where}: {what[:160]}" for where, what in ANSWER.findall(self.text) if where.replace("+", "") == path]
 
-    def verdict(self, edit):
-        """Returns what an edit comes to that was tried alone, and why."""
+    def verdict(self, edit: Edit) -> tuple[str, str]:
+        """Returns what an edit comes to that was tried by itself, and why."""
         if self.is_proved:
             return MISSED, "the crate is proved with it"
         if self.is_judged:
@@ -343,7 +350,7 @@ class Said:
             return BAD, f"it doesn't reach the prover: {found[0][:200]}"
         return UNKNOWN, f"its check ended with status {self.status}: {self.last}"
 
-    def of_bodies(self, edit):
+    def of_bodies(self, edit: Edit) -> tuple[str, str]:
         told = {it.name: self.functions.get(it.name, "nothing is told of it") for it in edit.functions}
         if goal := self.open_goal(edit):
             return REFUSED, goal
@@ -353,7 +360,7 @@ class Said:
             return NAMES, f"change a value and keep the names, so that a goal is asked: {lost[0]}"
         return UNKNOWN, "; ".join(f"{name}: {it}" for name, it in told.items())
 
-    def of_others(self):
+    def of_others(self) -> tuple[str, str]:
         asked = [it for it in self.placed if re.match(r"error: `[^`]+`: |it is not proved ", it[2])]
         texts = [it for it in self.placed if it[0].startswith(("src/", "specs/"))]
         unread = [it for it in texts if it not in asked or UNREAD.search(re.sub(r"`[^`]*`", "", it[2]))]
@@ -363,7 +370,7 @@ class Said:
         return UNKNOWN, self.last
 
 
-def words(name, *flags):
+def words(name: str, *flags: str) -> list[str]:
     """Returns the command by which a crate is checked, as `rt` does it."""
     root = "src/main.rt" if (TOP / "crates" / name / "src/main.rt").is_file() else "src/lib.rt"
     found = [f"{KIT}/bin/rattle", "check", "--crate-name", name, root]
@@ -379,10 +386,11 @@ def words(name, *flags):
     return [*found, "--links", f"{name}=", "--jobs", "1", *flags]
 
 
-RUNNING, STARTING = set(), threading.Lock()
+RUNNING: set[subprocess.Popen] = set()
+STARTING = threading.Lock()
 
 
-def end_all(room):
+def end_all(room: str) -> None:
     """Ends this tool with all that it has started."""
     with STARTING:
         for it in RUNNING:
@@ -392,7 +400,7 @@ def end_all(room):
         os._exit(1)
 
 
-def ran(command, room):
+def ran(command: list[str], room: pathlib.Path) -> tuple[int, str, bool, float]:
     """Returns a command's status, what it said, whether it took too long, and the seconds of a processor that it took."""
     with STARTING:
         # (a group, to be ended whole, but no session of its own: to a session a kernel may give as much as to all that `rt ci` has running)
@@ -400,7 +408,7 @@ def ran(command, room):
         RUNNING.add(it)
     late = threading.Event()
 
-    def end():
+    def end() -> None:
         late.set()
         with contextlib.suppress(ProcessLookupError):
             os.killpg(it.pid, signal.SIGKILL)
@@ -417,10 +425,10 @@ def ran(command, room):
     return it.returncode, text, late.is_set(), used.ru_utime + used.ru_stime
 
 
-def linked(folder, to):
-    """Copies what checks kept, by links where these can be made: a check replaces such a file, and writes into none."""
+def linked(folder: pathlib.Path, to: pathlib.Path) -> None:
+    """Copies what checks kept, by links if these can be made: a check replaces such a file, and writes into none."""
 
-    def copy(one, other):
+    def copy(one: str, other: str) -> object:
         if one.endswith(".oantt"):
             with contextlib.suppress(OSError):
                 return os.link(one, other)
@@ -429,7 +437,7 @@ def linked(folder, to):
     shutil.copytree(folder, to, symlinks=True, copy_function=copy)
 
 
-def sum_of(*folders):
+def sum_of(*folders: pathlib.Path) -> str:
     """Returns a sum of all files of some folders."""
     found = hashlib.sha256()
     for folder in folders:
@@ -439,11 +447,11 @@ def sum_of(*folders):
 
 
 @functools.lru_cache(maxsize=None)
-def sum_of_library(name):
+def sum_of_library(name: str) -> str:
     return sum_of(library(name))
 
 
-def sum_below(crate):
+def sum_below(crate: pathlib.Path) -> str:
     """Returns a sum of what the verdict on an edit of the crate stands on but the edit: its text, the libraries below, the kit and this tool."""
     own = [hashlib.sha256(it.read_bytes()).hexdigest() for it in (KIT / "KIT-ID", KIT / "WHAT", pathlib.Path(__file__))]
     return " ".join((*own, crate.name, *USED[crate.name], *map(sum_of_library, below(crate.name)), *(sum_of(crate / it) for it in PARTS)))
@@ -455,22 +463,24 @@ def sum_below(crate):
 class Trial:
     """The edits of one crate."""
 
-    def __init__(self, name, folders, room, turns, beside):
+    def __init__(self, name: str, folders: Iterable[str], room: str | pathlib.Path, turns: threading.Semaphore, beside: Beside | None) -> None:
         self.crate, self.room, self.turns, self.beside = TOP / "crates" / name, pathlib.Path(room, name), turns, beside
         self.all = functions_of(self.crate)
         self.laws = frozenset(it for it in self.all if it.name and "laws" in module_of(it.file))
         # (harmless ones first, so that they stand in the largest batch)
         self.edits = [Edit(self.crate, it) for folder in sorted(folders, key=lambda it: it != HARMLESS) for it in sorted((self.crate / folder).glob("*"))]
-        self.verdicts, self.closed, self.seconds, self.earlier = {}, set(), 0, 0
+        self.verdicts: dict[Edit, tuple[str, str]] = {}
+        self.closed: set[str] = set()
+        self.seconds, self.earlier, self.sum = 0.0, 0, ""
         self.lock, self.numbers = threading.Lock(), itertools.count()
 
-    def failed(self):
+    def failed(self) -> list[Edit]:
         return [it for it in self.edits if self.verdicts.get(it, (UNKNOWN,))[0] != (MISSED if it.is_harmless else REFUSED)]
 
-    def place(self, edit):
+    def place(self, edit: Edit) -> pathlib.Path:
         return KEPT / hashlib.sha256(f"{self.sum} {edit.is_harmless} {edit.path.read_text()}".encode()).hexdigest()
 
-    def is_known(self, edit):
+    def is_known(self, edit: Edit) -> bool:
         """Tells what an earlier run came to, if there was one, and returns whether there was."""
         with contextlib.suppress(OSError, ValueError):
             what, why = json.loads(self.place(edit).read_text())
@@ -479,11 +489,11 @@ class Trial:
             return True
         return False
 
-    def tell(self, edit, what, why):
+    def tell(self, edit: Edit, what: str, why: str) -> None:
         with self.lock:
             self.verdicts[edit] = what, why
             print(f"{edit.name}: {what}: {why}", flush=True)
-            # (it is kept where nothing that it was made from has changed meanwhile)
+            # (it is kept if nothing that it was made from has changed meanwhile)
             if self.beside and edit not in self.failed() and self.sum == sum_below(self.crate) and self.beside.are_its_own(self.crate.name):
                 with contextlib.suppress(OSError):
                     KEPT.mkdir(mode=0o700, parents=True, exist_ok=True)
@@ -491,10 +501,10 @@ class Trial:
                     new.write_text(json.dumps(self.verdicts[edit]))
                     new.replace(self.place(edit))
 
-    def next_room(self, name):
+    def next_room(self, name: str) -> pathlib.Path:
         return self.room / f"{name}{next(self.numbers)}"
 
-    def check(self, edits, over, asked=()):
+    def check(self, edits: list[Edit], over: pathlib.Path, asked: frozenset[Function] = frozenset()) -> Said:
         """Checks a copy of the crate with these edits, over what the folder holds: whole, or only the functions asked for, with each other taken by its contract."""
         room = self.next_room("copy")
         room.mkdir(parents=True)
@@ -524,7 +534,7 @@ class Trial:
             return self.check(edits, over, asked)
         return Said(self.crate, status, text, is_late)
 
-    def leave_open(self, room, asked):
+    def leave_open(self, room: pathlib.Path, asked: frozenset[Function]) -> None:
         """Writes a hole as the proof of each function but those asked for. A trait's and one that calls itself keep their own proofs."""
         for it in self.all:
             if it in asked or not it.name or it.name in self.closed or it.owner and it.owner[1] or "tests" in it.file or it.short == "main":
@@ -540,8 +550,9 @@ class Trial:
             text = f"use {stated} as stated\n\npub {it.short}_spec : {{M : Type 1}} → stated.statement M\n{it.short}_spec = ?\n"
             (folder / "Proof.antt").write_text(text)
 
-    def together(self, edits, over):
-        """Tries edits of bodies in one check, what isn't refused so once more alone, and those of a check that judges nothing (one doesn't compile, say) in halves."""
+    def together(self, edits: list[Edit], over: pathlib.Path) -> None:
+        """Tries edits of bodies in one check, what isn't refused so once more by itself, and those of a check that judges nothing (one doesn't
+        compile, say) in halves."""
         said = self.check(edits, over, frozenset().union(*(it.functions for it in edits)))
         if len(edits) == 1:
             self.tell(edits[0], *said.verdict(edits[0]))
@@ -557,10 +568,10 @@ class Trial:
                 if not goal:
                     self.together([edit], over)
 
-    def one_by_one(self, edits):
+    def one_by_one(self, edits: list[Edit]) -> None:
         """Tries edits that change more than bodies: by the crate's laws, if it has some, and what they don't refuse by the whole crate."""
 
-        def tried(edit, start, asked):
+        def tried(edit: Edit, start: pathlib.Path, asked: frozenset[Function]) -> Edit | None:
             over = self.next_room("over")
             linked(start, over)
             what, why = self.check([edit], over, asked).verdict(edit)
@@ -576,6 +587,7 @@ class Trial:
                 if said.is_judged and not said.status:
                     edits = [it for it in pool.map(lambda it: tried(it, self.room / "kept", self.laws), edits) if it]
             if edits:
+                linked(self.room / "kept", self.room / "seed")
                 said = self.check([], self.room / "seed")
                 if said.is_proved:
                     list(pool.map(lambda it: tried(it, self.room / "seed", ()), edits))
@@ -583,23 +595,22 @@ class Trial:
                     for edit in edits:
                         self.tell(edit, UNKNOWN, f"the crate isn't proved without it: {said.last}")
 
-    def run(self):
+    def run(self) -> None:
         """Tries all edits."""
         name = self.crate.name
         if self.beside and not self.beside.awaits(name):
             print(f"{name}: none of its edits was tried, since a library below it isn't proved", flush=True)
             return
-        self.sum = self.beside and sum_below(self.crate)
+        self.sum = sum_below(self.crate) if self.beside else ""
         for edit in [it for it in self.edits if it.fault]:
             self.tell(edit, BAD, edit.fault)
         edits = [it for it in self.edits if not it.fault and not (self.beside and self.is_known(it))]
         kept = self.crate / "out" / "incremental"
         self.room.mkdir()
-        for start in ("kept", "seed"):
-            if kept.is_dir() and not self.beside:
-                linked(kept, self.room / start)
-            else:
-                (self.room / start).mkdir()
+        if kept.is_dir() and not self.beside:
+            linked(kept, self.room / "kept")
+        else:
+            (self.room / "kept").mkdir()
         for batch in parted([it for it in edits if it.functions]):
             self.together(batch, self.room / "kept")
         others = [it for it in edits if not it.functions]
@@ -613,7 +624,7 @@ class Trial:
         print(f"{name}: {count - failed} as they must be, {self.earlier} of them by an earlier run, {failed} failed, in {self.seconds:.0f} s of a processor", flush=True)
 
 
-def by_kit(names):
+def by_kit(names: list[str]) -> int:
     """Has `rt must-fail` try the crates' edits in a copy."""
     with tempfile.TemporaryDirectory(prefix="try-edits-") as room:
         every = dict.fromkeys(it for name in names for it in (*below(name), name))
@@ -629,7 +640,7 @@ def by_kit(names):
         return subprocess.run(["rt", "must-fail", *names], cwd=room).returncode
 
 
-def main():
+def main() -> None:
     given = argparse.ArgumentParser(description=__doc__, formatter_class=argparse.RawDescriptionHelpFormatter)
     given.add_argument("names", nargs="*")
     given.add_argument("--since")

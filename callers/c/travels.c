@@ -5,7 +5,7 @@
 #include <stdio.h>
 #include <string.h>
 
-/* Prints what a call came to, where that isn't what was expected, and ends the program. */
+/* If a call didn't come to what was expected, prints what it came to, and ends the program. */
 #define EXPECT(call, expected)                                                                                       \
     do {                                                                                                             \
         ipcz_status came = (call);                                                                                   \

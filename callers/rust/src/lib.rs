@@ -34,7 +34,7 @@ pub enum Refused {
     NumbersEnd,
     BadData,
     TooMany,
-    /// Another node's thread was there first: call again. Of calls on cells alone.
+    /// Another node's thread was there first: call again. Only calls on cells answer it.
     Raced,
     /// A status that these calls don't answer.
     Other(u32),
@@ -127,8 +127,8 @@ pub struct World(raw::Handle);
 // SAFETY: the library proves that its handle may move to another thread. A `World` isn't `Sync`, and no call takes it by `&`.
 unsafe impl Send for World {}
 
-// SAFETY, of each call below: the handle was made EMPTY and is written by the library alone, `&mut self` is alone with it, and what else is
-// pointed to lives through the call, lies apart, and isn't null.
+// SAFETY, of each call below: the handle was made EMPTY and is written only by the library, no other reference to it exists beside
+// `&mut self`, and what else is pointed to lives through the call, lies apart, and isn't null.
 impl World {
     /// A world of 1 to 8 nodes, and of at least a link word for each two of them and at most 4096, else `TooMany`.
     pub fn new(nodes: u8, words: u32) -> Result<World, Refused> {

@@ -178,7 +178,7 @@ impl<F: FabricName> Hub<F> {
     /// A hub of a table's cells, and a portal for each end that callers of their nodes hold: by node, and then by the serial of the end's
     /// terminal.
     ///
-    /// Refused `Stranger` where the cells' nodes aren't 0, 1, and so on to the last, in order; else `OutOfMemory`. A refusal gives the
+    /// Refused `Stranger` if the cells' nodes aren't 0, 1, and so on to the last, in order; else `OutOfMemory`. A refusal gives the
     /// fabric and the cells back, as they were.
     pub fn new(
         fabric: Fabric<F>,
@@ -236,7 +236,7 @@ impl<F: FabricName> Hub<F> {
     /// Opens a pair at a node, under that node's lock, and gives its portals, of side A and of side B. What else holds of it is what
     /// `NodeCell::open_pair` says, of the cell as the call found it: it has no name here, so `answer` says that there is such a cell.
     ///
-    /// It answers `Stranger` where there is no node of that number; else `NoWord`, `NumbersEnd`, `OutOfMemory` or `Raced`, as
+    /// It answers `Stranger` if there is no node of that number; else `NoWord`, `NumbersEnd`, `OutOfMemory` or `Raced`, as
     /// `NodeCell::open_pair`.
     pub fn open_pair<R: Wait>(&self, rt: &R, node: u8) -> Result<(Portal<F>, Portal<F>), Refusal>
         ensures here { IfOk result (λ p. (p.0.node ≡ node) × (p.1.node ≡ node)) }
@@ -254,7 +254,7 @@ impl<F: FabricName> Hub<F> {
     /// Takes one turn of a node, under that node's lock, and tells what it did. What else holds of it is what `NodeCell::turn` says, of the
     /// cell as the call found it: it has no name here, so `answer` says that there is such a cell.
     ///
-    /// It answers `Stranger` where there is no node of that number; else `NumbersEnd`, `OutOfMemory` or `Raced`, as `NodeCell::turn`.
+    /// It answers `Stranger` if there is no node of that number; else `NumbersEnd`, `OutOfMemory` or `Raced`, as `NodeCell::turn`.
     pub fn turn<R: Wait>(&self, rt: &R, node: u8) -> Result<Happened, Refusal>
         ensures stranger { F.table.count ≤ node → result ≡ Err Refusal.Stranger }
         ensures why { node < F.table.count → IfErr result IsTurnRefusal }
@@ -270,7 +270,7 @@ impl<F: FabricName> Hub<F> {
     /// how many it has taken before the idle one. Callers of the node wait meanwhile. What else holds of it is what `NodeCell::acts` says, of
     /// the cell as the call found it: it has no name here, so `answer` says that there is such a cell.
     ///
-    /// It answers `Stranger` where there is no node of that number; else `NumbersEnd`, `OutOfMemory` or `Raced`, as the first turn that is
+    /// It answers `Stranger` if there is no node of that number; else `NumbersEnd`, `OutOfMemory` or `Raced`, as the first turn that is
     /// refused. What the turns before have done stays.
     pub fn acts<R: Wait>(&self, rt: &R, node: u8, limit: u64) -> Result<u64, Refusal>
         ensures stranger { F.table.count ≤ node → result ≡ Err Refusal.Stranger }

@@ -1,0 +1,102 @@
+package portals
+
+/*
+#include <ipcz_portals.h>
+*/
+import "C"
+
+// A Cell is a node behind a handle of its own. Calls on different cells, also of one table, may come from different goroutines at once. It
+// isn't copied.
+type Cell struct {
+	handle C.ipcz_cell
+}
+
+// NewCells makes the cells of a new table, by node: of 1 to 8 nodes, and of at least a link word for each two of them and at most 4096; else
+// TooMany.
+func NewCells(nodes int, words uint32) ([]*Cell, error) {
+	if nodes < 0 {
+		return nil, TooMany
+	}
+	handles := make([]C.ipcz_cell, nodes+1)
+	if err := answer(C.ipcz_cells_create(C.uint32_t(words), &handles[0], C.size_t(nodes))); err != nil {
+		return nil, err
+	}
+	cells := make([]*Cell, nodes)
+	for i := range cells {
+		cells[i] = &Cell{handles[i]}
+	}
+	return cells, nil
+}
+
+// Destroy frees what only this cell has, and with the last cell of the table, the table. Each later call is refused NotCreated, or answers 0
+// or false.
+func (c *Cell) Destroy() {
+	C.ipcz_cell_destroy(&c.handle)
+}
+
+// Open opens a pair, whose portals are both the node's at first. It is tried again if another thread came between.
+func (c *Cell) Open() (first, second Portal, err error) {
+	var a, b C.ipcz_portal
+	status := C.ipcz_cell_open(&c.handle, &a, &b)
+	for status == C.IPCZ_RACED {
+		status = C.ipcz_cell_open(&c.handle, &a, &b)
+	}
+	return fromC(a), fromC(b), answer(status)
+}
+
+// Put puts a parcel of at most 256 bytes, each from 0x20 to 0x7E, and answers how many were put at the portal before it.
+func (c *Cell) Put(at Portal, bytes []byte, portals ...Portal) (uint64, error) {
+	var number C.uint64_t
+	it := give(bytes, portals)
+	status := C.ipcz_cell_put_parcel(&c.handle, at.c(), (*C.uint8_t)(it.bytes), it.size, (*C.ipcz_portal)(it.portals), it.count, &number)
+	return uint64(number), answer(status)
+}
+
+// PutWide puts a parcel of up to 65,536 bytes of any value.
+func (c *Cell) PutWide(at Portal, bytes []byte, portals ...Portal) (uint64, error) {
+	var number C.uint64_t
+	it := give(bytes, portals)
+	status := C.ipcz_cell_put_wide_parcel(&c.handle, at.c(), (*C.uint8_t)(it.bytes), it.size, (*C.ipcz_portal)(it.portals), it.count, &number)
+	return uint64(number), answer(status)
+}
+
+// Get gets the next parcel that has come to a portal of the node; Empty if none has.
+func (c *Cell) Get(at Portal) (Parcel, error) {
+	return gotBy(func(bytes *C.uint8_t, room C.size_t, size *C.size_t, portals *C.ipcz_portal, count *C.size_t, number *C.uint64_t) C.ipcz_status {
+		return C.ipcz_cell_get(&c.handle, at.c(), bytes, room, size, portals, C.IPCZ_MAX_PORTALS, count, number)
+	})
+}
+
+// Close closes a portal of the node.
+func (c *Cell) Close(at Portal) error {
+	return answer(C.ipcz_cell_close(&c.handle, at.c()))
+}
+
+// Acts takes turns of the node until it has no act, or limit acts were taken: how many. Raced: another thread was there first; call again.
+func (c *Cell) Acts(limit uint64) (uint64, error) {
+	var acts C.uint64_t
+	err := answer(C.ipcz_cell_acts(&c.handle, C.uint64_t(limit), &acts))
+	return uint64(acts), err
+}
+
+// Quiet tells whether the node has nothing to do, and no message to it was found.
+func (c *Cell) Quiet() bool {
+	return bool(C.ipcz_cell_quiet(&c.handle))
+}
+
+// Claimed tells how many link words of the table were used, when their count was read.
+func (c *Cell) Claimed() uint32 {
+	return uint32(C.ipcz_cell_claimed(&c.handle))
+}
+
+// Holds tells whether the node may use a portal now.
+func (c *Cell) Holds(portal Portal) bool {
+	return bool(C.ipcz_cell_holds(&c.handle, portal.c()))
+}
+
+// Node tells the number of the node, and whether the cell wasn't destroyed.
+func (c *Cell) Node() (node uint8, there bool) {
+	var number C.uint8_t
+	there = bool(C.ipcz_cell_node(&c.handle, &number))
+	return uint8(number), there
+}

@@ -1,0 +1,3 @@
+module ipcz_portals
+
+go 1.19

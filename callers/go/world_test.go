@@ -1,0 +1,185 @@
+package portals
+
+import (
+	"bytes"
+	"strconv"
+	"sync"
+	"testing"
+)
+
+var left, right = First(0, 1, 2), First(1, 0, 2)
+
+func must(t *testing.T, err error) {
+	t.Helper()
+	if err != nil {
+		t.Fatal(err)
+	}
+}
+
+func refused(t *testing.T, err error, why Status) {
+	t.Helper()
+	if err != why {
+		t.Fatalf("refused %v, not %v", err, why)
+	}
+}
+
+func newWorld(t *testing.T, nodes uint8, words uint32) *World {
+	t.Helper()
+	world, err := NewWorld(nodes, words)
+	must(t, err)
+	t.Cleanup(world.Destroy)
+	return world
+}
+
+func settle(t *testing.T, world *World) {
+	t.Helper()
+	_, quiet, err := world.Settle(1000)
+	must(t, err)
+	if !quiet {
+		t.Fatal("not quiet after 1000 acts")
+	}
+}
+
+func put(t *testing.T, world *World, node uint8, at Portal, text string, portals ...Portal) {
+	t.Helper()
+	_, err := world.Put(node, at, []byte(text), portals...)
+	must(t, err)
+}
+
+func wants(t *testing.T, got Parcel, number uint64, text string) {
+	t.Helper()
+	if got.Number != number || string(got.Bytes) != text {
+		t.Fatalf("got %d: %q, not %d: %q", got.Number, got.Bytes, number, text)
+	}
+}
+
+func TestAPortalTravels(t *testing.T) {
+	world := newWorld(t, 2, 8)
+	kept, sent, err := world.Open(0)
+	must(t, err)
+	put(t, world, 0, left, "a portal", sent)
+	_, err = world.Get(1, right)
+	refused(t, err, Empty)
+	settle(t, world)
+	got, err := world.Get(1, right)
+	must(t, err)
+	wants(t, got, 0, "a portal")
+	if len(got.Portals) != 1 || got.Portals[0] != sent {
+		t.Fatalf("came with %v, not %v", got.Portals, sent)
+	}
+	for portal, node := range map[Portal]uint8{kept: 0, sent: 1} {
+		if holder, held := world.Holder(portal); !held || holder != node {
+			t.Fatalf("%v is held by %d, not %d", portal, holder, node)
+		}
+	}
+	put(t, world, 0, kept, "over it")
+	for turn := 0; turn < 20; turn++ {
+		must(t, world.Turn(uint8(turn%2)))
+	}
+	got, err = world.Get(1, sent)
+	must(t, err)
+	wants(t, got, 0, "over it")
+	must(t, world.Close(0, kept))
+	refused(t, world.Close(0, kept), Stranger)
+	settle(t, world)
+	_, err = world.Get(1, sent)
+	refused(t, err, PeerClosed)
+}
+
+func TestLimitsAreRefused(t *testing.T) {
+	for _, wrong := range []struct {
+		nodes uint8
+		words uint32
+	}{{0, 8}, {9, 64}, {3, 2}, {2, 4097}} {
+		_, err := NewWorld(wrong.nodes, wrong.words)
+		refused(t, err, TooMany)
+	}
+	world := newWorld(t, 2, 1)
+	_, _, err := world.Open(0)
+	refused(t, err, NoWord)
+	_, err = world.Put(0, left, make([]byte, 257))
+	refused(t, err, TooMany)
+	_, err = world.Put(0, left, []byte("\n"))
+	refused(t, err, BadData)
+	_, err = world.Put(0, left, nil, left)
+	refused(t, err, SelfAttach)
+	_, err = world.Put(0, left, nil, right)
+	refused(t, err, PeerAttach)
+	refused(t, world.Turn(2), Stranger)
+	if claimed := world.Claimed(); claimed != 1 {
+		t.Fatalf("%d words are claimed, not 1", claimed)
+	}
+}
+
+func TestWideParcelsHaveAnyBytes(t *testing.T) {
+	world := newWorld(t, 2, 1)
+	wide := make([]byte, 65_536)
+	for i := range wide {
+		wide[i] = byte(i)
+	}
+	_, err := world.PutWide(0, left, wide)
+	must(t, err)
+	_, err = world.PutWide(0, left, append(wide, 0))
+	refused(t, err, TooMany)
+	settle(t, world)
+	got, err := world.Get(1, right)
+	must(t, err)
+	if !bytes.Equal(got.Bytes, wide) {
+		t.Fatal("other bytes came")
+	}
+}
+
+func TestFirstPortalsAreTheirNodes(t *testing.T) {
+	world := newWorld(t, 8, 28)
+	for node := uint8(0); node < 8; node++ {
+		for other := uint8(0); other < 8; other++ {
+			if holder, held := world.Holder(First(node, other, 8)); node != other && (!held || holder != node) {
+				t.Fatalf("the portal of %d to %d is held by %d", node, other, holder)
+			}
+		}
+	}
+}
+
+func TestADestroyedWorldRefuses(t *testing.T) {
+	world := newWorld(t, 2, 1)
+	world.Destroy()
+	_, err := world.Get(1, right)
+	refused(t, err, NotCreated)
+	if err.Error() != "NotCreated" || world.Claimed() != 0 {
+		t.Fatalf("%v, %d words", err, world.Claimed())
+	}
+}
+
+func TestAWorldIsSharedByAMutex(t *testing.T) {
+	const parcels = 200
+	world := newWorld(t, 2, 1)
+	var lock sync.Mutex
+	failed := make(chan error, 1)
+	go func() {
+		for i := 0; i < parcels; i++ {
+			lock.Lock()
+			_, err := world.Put(0, left, []byte(strconv.Itoa(i)))
+			if err == nil {
+				_, _, err = world.Settle(1000)
+			}
+			lock.Unlock()
+			if err != nil {
+				failed <- err
+				return
+			}
+		}
+		failed <- nil
+	}()
+	for got := uint64(0); got < parcels; {
+		lock.Lock()
+		parcel, err := world.Get(1, right)
+		lock.Unlock()
+		if err == nil {
+			wants(t, parcel, got, strconv.FormatUint(got, 10))
+			got++
+			continue
+		}
+		refused(t, err, Empty)
+	}
+	must(t, <-failed)
+}
