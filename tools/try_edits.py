@@ -12,12 +12,13 @@ gone, so that the text of a proof doesn't fit and no goal was asked; ONLY A LIMI
 of.
 
 **Edits of bodies.** The proof of a function uses the contracts of those that it calls, and not their bodies, so whether a goal of its own is
-proved has nothing to do with any other body. So edits that change nothing but bodies are made together, no two in one function. Only the
+proved has nothing to do with any other body. So edits that change nothing but bodies are made together, no two in one function. A constant
+counts as a part of the bodies that name it. Only the
 functions that they change are checked. Of each other function only the contract is used, as if its proof were a hole, since `rt ci` proves it as
 it is. A function that only calls what isn't proved has no such goal, and rattle's line of the function tells the two apart. What isn't refused
 so is tried once more, by itself.
 
-**Other edits** (a definition, a clause, a type, a constant) are tried one by one: the crate, over what a check of it as it stands has proved, must
+**Other edits** (a definition, a clause, a type) are tried one by one: the crate, over what a check of it as it stands has proved, must
 not be proved. If the crate has laws these are asked first, and only the contract of all else is used; if they are proved, the whole crate is
 checked.
 
@@ -118,6 +119,7 @@ def make_libraries(names: Iterable[str]) -> None:
 
 HEAD = re.compile(r"([ \t]*)(?:pub(?:\([^)]*\))? )?(?:const |unsafe |extern \"C\" )*fn (\w+)")
 IMPL = re.compile(r"(?:unsafe )?impl\b(?:<.*?>)? (?:(?P<of>[\w:]+)(?:<(?P<with>.*)>)? for )?(?:[\w:]+::)?(?P<type>\w+)(?:<.*>)?(?: where .*)? \{")
+CONSTANT = re.compile(r"(?:pub(?:\([^)]*\))? )?const (\w+): ")
 TYPE = re.compile(r"^(?:pub(?:\([^)]*\))? )?(?:struct|enum) (\w+)", re.M)
 
 
@@ -168,8 +170,9 @@ def functions_in(crate: pathlib.Path, file: str, text: str) -> list[Function]:
         elif (it := HEAD.match(line)) and bool(it[1]) == bool(owner) and (braces := body(lines, at, it[1])):
             modules, inner = [module_of(file)], ()
             if owner:
-                modules, inner = modules_of(crate, owner[0]), ("".join(owner),)
-            name = "::".join((crate.name, *(modules[0] if modules else ()), *inner, it[2]))
+                # (what a trait has for a type of another crate stands in the module of its file)
+                modules, inner = modules_of(crate, owner[0]) or modules, ("".join(owner),)
+            name = "::".join((crate.name, *modules[0], *inner, it[2]))
             # (what rattle makes of a trait with other parameters than one name isn't clear from the text)
             name = name if len(modules) == 1 and re.fullmatch(r"[\w:]+", name) else None
             found.append(Function(file, owner, it[2], name, *braces))
@@ -186,6 +189,16 @@ def function_round(crate: pathlib.Path, file: str, text: str, place: int, length
     begins = list(itertools.accumulate((len(line) + 1 for line in text.split("\n")), initial=0))
     first, last = (bisect.bisect_right(begins, it) - 1 for it in (place, place + length - 1))
     return next((it for it in functions_in(crate, file, text) if it.begin < first and last < it.end), None)
+
+
+def users_of(crate: pathlib.Path, text: str, place: int) -> set[Function | None]:
+    """Returns the functions whose bodies name the constant that is declared in the line of a place; none if there is no such thing."""
+    declared = CONSTANT.match(text[text.rfind("\n", 0, place) + 1 :])
+    if not declared:
+        return {None}
+    lines = {file: (crate / file).read_text().split("\n") for file in {it.file for it in functions_of(crate)}}
+    name = re.compile(rf"\b{declared[1]}\b")
+    return {it for it in functions_of(crate) if name.search("\n".join(lines[it.file][it.begin : it.end + 1]))} or {None}
 
 
 def text_of(crate: pathlib.Path, file: str, text: str, function: Function) -> list[str] | None:
@@ -241,7 +254,9 @@ class Edit:
             if text.count(old) != 1:
                 return f"{file} has {text.count(old)} times: {old}"
             # (a change leaves the number of lines as it is, so the bodies stand where they stood)
-            rounds.add(function_round(crate, file, text, text.index(old), len(old)) if file.startswith("src/") else None)
+            place = text.index(old)
+            found = function_round(crate, file, text, place, len(old)) if file.startswith("src/") else None
+            rounds.update({found} if found or not file.startswith("src/") else users_of(crate, text, place))
             texts[file] = text.replace(old, new)
         return None
 
