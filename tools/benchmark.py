@@ -29,7 +29,7 @@ to 1. `lines` are those of the transcript. The status is the program's: 0, or 4 
 limit of 1,000,000 acts. Nothing is kept.
 
 `pairs` compares what one parcel costs on one node, put, settled and got: if there is one pair, on the last of
-4,000 pairs, and one on each of 1,000 pairs; the time of the opens alone is subtracted. `waiting` compares what one
+4,000 pairs, and one on each of 1,000 pairs; the time of the opens is subtracted. `waiting` compares what one
 parcel costs if 1, 10, 100 and 1,000 parcels wait before it. `largest` shows the scripts that take most memory.
 """
 import argparse

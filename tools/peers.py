@@ -1,8 +1,8 @@
 """Queues that pass messages in one process, which `benchmark.py peers` runs in turn with ours: what else there is, on one
 thread. Each passes messages of 16 bytes, which have memory of their own: one is put, and got, and then the next.
 
-flume and crossbeam are built where cargo has them on this machine, std's channel where there is a cargo, and a queue under a mutex, in C, where
-there is a C compiler; what can't be built is named with the reason.
+flume and crossbeam are built if cargo has them on this machine, std's channel if there is a cargo, and a queue under a mutex, in C, if there is
+a C compiler; what can't be built is named with the reason.
 """
 import pathlib
 import shutil

@@ -45,7 +45,7 @@ def run(program: list, script: bytes, library: str, **names: str) -> tuple[int, 
 
 
 def without_unlock(text: bytes) -> bytes | None:
-    """Returns the transcript without a lock that was given back at once and got again, where it has just one."""
+    """Returns the transcript without a lock that was given back at once and got again, if it has just one."""
     lines = text.decode().splitlines(keepends=True)
     places = [i for i, line in enumerate(lines) if UNLOCK.fullmatch(line)]
     if len(places) != 1 or not 0 < places[0] < len(lines) - 2:

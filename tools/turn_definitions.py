@@ -7,12 +7,12 @@ any order of acts must fail.
 
 Each turn is made on a copy of its own, of the crates that the law stands on. What `rt check` keeps in `out/` is copied with them, so that
 what a turn doesn't touch isn't proved again: prove the crates up to `ipcz_world` before. `--room` keeps the copies in a folder, from which
-the next try of the same turn goes on, each with what the law's check said in `crates/law.txt`. `--below` asks the crates below the law
-alone, for who writes a turn. Names joined by `+` are turned at once, which saves time where each fails at a lemma of its own. Two calls
-may run side by side.
+the next try of the same turn goes on, each with what the law's check said in `crates/law.txt`. `--below` checks only the crates below the
+law, for who writes a turn. Names joined by `+` are turned at once, which saves time if each fails at a lemma of its own. Two calls may run
+side by side.
 
-Where a proof says a definition a second time, the turn may change that text too. A turn counts as refused only where a lemma fails that
-says that the law holds: one whose statement ends in a group of the invariant or in a fact that is kept beside it, or one of the folders of
+If a proof says a definition a second time, the turn may change that text too. A turn counts as refused only if a lemma fails that says that
+the law holds: one whose statement ends in a group of the invariant or in a fact that is kept beside it, or one of the folders of
 the laws themselves, or one of the few that IsAwake rests on. Else what fails only says a definition a second time, and is named as a copy
 of its text.
 """
@@ -396,7 +396,7 @@ TURNS = {
     ],
 }
 
-# turns that break no promise, so that contracts and tests alone refuse them: a side waits at most once on a link, and so a waiting bit that
+# turns that break no promise, so that only contracts and tests refuse them: a side waits at most once on a link, and so a waiting bit that
 # stays when the side is woken is never read again
 HARMLESS = {"a_wake_stays_in_the_word"}
 
@@ -408,9 +408,9 @@ BooksKept Items Order ProxyNumbers FreshNumbers Conserved HeldOnce HasNoStrays A
 AreAgreed FlagsAgree LengthsOwe ProxyOwes control_weight AreSourced Begins HasWaker HaveWakers HaveWakersOn IsRanked
 IsOwing IsBounded
 """.split()
-# and where each lemma is one
+# and the folders in which each lemma is one
 FOLDERS = ("owed/", "lawful/", "ranks/")
-# what IsAwake rests on: an act but rest leaves its router flagged, an item that comes flags it, where rest comes next no act is possible
+# what IsAwake rests on: an act but rest leaves its router flagged, an item that comes flags it, and if rest comes next no act is possible
 AWAKE = {"apply-flagged", "accept-flagged", "rest-idle"}
 
 
@@ -421,7 +421,7 @@ def check(folder: str, *more: str) -> tuple[bool, str]:
 
 
 def copy(room: str) -> str:
-    """Copies the crates to a folder, and what is kept of their proofs where it has none, and returns where they are."""
+    """Copies the crates to a folder, and what is kept of their proofs if it has none, and returns where they are."""
     os.makedirs(f"{room}/crates", exist_ok=True)
     with open(f"{HERE}/crates.txt") as file, open(f"{room}/crates.txt", "w") as cut:
         cut.writelines(line for line in file if line.split(":")[0] in CRATES)
