@@ -21,6 +21,7 @@ use self::letters::{Letter, listed};
 use ipcz_base::{End, LinkId, Message, Parcel, Profile, Refusal, Sequence, Side};
 use ipcz_node::{Act, Happened, MailSeen, NodeState};
 use std::alloc::Global;
+use std::process::Abort;
 
 const A0: End = End {
     pair: 0,
@@ -365,11 +366,17 @@ impl Trial {
     }
 }
 
-/// The first step that doesn't give what it says, on a new node of a number among so many, by its
-/// part and its place there.
+// The first step that doesn't give what it says, on a new node of a number among so many, by its
+// part and its place there.
 fn first_wrong(alloc: Global, number: u8, count: u8, parts: &[&[Step]]) -> Option<(usize, usize)> {
     match Trial::new(alloc, number, count) {
         Some(mut trial) => trial.first_wrong_of(parts),
         None => Some((0, 0)),
     }
+}
+
+// Each step has to give what it says, on a new node of a number among so many. (A test that asserts
+// this itself is several times as dear to prove.)
+fn all_go(rt: &impl Abort, alloc: Global, number: u8, count: u8, parts: &[&[Step]]) {
+    assert_eq!(rt; first_wrong(alloc, number, count, parts), None);
 }

@@ -6,6 +6,7 @@ use super::letters::Letter;
 use super::{Step, Trial};
 use ipcz_base::Message;
 use std::alloc::Global;
+use std::process::Abort;
 
 /// Steps of a node of two whose serials are counted from the first one on.
 pub(super) struct Run {
@@ -107,17 +108,18 @@ fn first_wrong(alloc: Global, run: &Run, aside: &Aside) -> Option<usize> {
     }
 }
 
-/// The first of the steps aside with which a run doesn't go as without it: why it is to change nothing, and the place of the
-/// first step that goes otherwise.
-pub(super) fn first_wrong_of(
-    alloc: Global,
-    run: &Run,
-    asides: &[Aside],
-) -> Option<(&'static str, usize)> {
+// The first of the steps aside with which a run doesn't go as without it: why it is to change nothing, and the place of the
+// first step that goes otherwise.
+fn first_wrong_of(alloc: Global, run: &Run, asides: &[Aside]) -> Option<(&'static str, usize)> {
     for aside in asides {
         if let Some(place) = first_wrong(alloc, run, aside) {
             return Some((aside.why, place));
         }
     }
     None
+}
+
+/// With each of the steps aside the run has to go as without it.
+pub(super) fn all_go_aside(rt: &impl Abort, alloc: Global, run: &Run, asides: &[Aside]) {
+    assert_eq!(rt; first_wrong_of(alloc, run, asides), None);
 }

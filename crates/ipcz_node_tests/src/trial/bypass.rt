@@ -6,7 +6,7 @@ use super::deeds::Deed::{
     SendOut, Wait,
 };
 use super::letters::Letter;
-use super::{A0, B1, C0, C1, Step, first_wrong};
+use super::{A0, B1, C0, C1, Step, all_go};
 use ipcz_base::{LinkId, Side};
 use ipcz_node::Act;
 use ipcz_router::act::RouterAct;
@@ -43,10 +43,7 @@ static FINDS_NO_WORD: [Step; 11] = [
 
 #[test]
 fn a_proxy_that_has_found_no_word_claims_none_again(rt: HostRuntime) {
-    assert_eq!(rt;
-        first_wrong(rt.alloc(), 0, 2, &[&MOVES, &FINDS_NO_WORD]),
-        None
-    );
+    all_go(&rt, rt.alloc(), 0, 2, &[&MOVES, &FINDS_NO_WORD]);
 }
 
 // Another side holds the lock, then the side of 1A isn't stable, and then the lock is got. Given
@@ -74,7 +71,7 @@ static LOCKS: [Step; 18] = [
 
 #[test]
 fn a_lock_is_tried_for_again_after_a_flush_and_after_an_unlock(rt: HostRuntime) {
-    assert_eq!(rt; first_wrong(rt.alloc(), 0, 2, &[&MOVES, &LOCKS]), None);
+    all_go(&rt, rt.alloc(), 0, 2, &[&MOVES, &LOCKS]);
 }
 
 // A word is found, the lock is got, and the bypass begins.
@@ -118,8 +115,5 @@ static LEAVES: [Step; 21] = [
 
 #[test]
 fn a_proxy_leaves_once_both_lengths_are_reached(rt: HostRuntime) {
-    assert_eq!(rt;
-        first_wrong(rt.alloc(), 0, 2, &[&MOVES, &BEGINS, &LEAVES]),
-        None
-    );
+    all_go(&rt, rt.alloc(), 0, 2, &[&MOVES, &BEGINS, &LEAVES]);
 }

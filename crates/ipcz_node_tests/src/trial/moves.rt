@@ -3,7 +3,7 @@
 use super::Step::{Deliver, Get, Holds, Open, Posted, Put, Quiet, Return, Turn};
 use super::deeds::Deed::{Begin, Claim, Idle, Lock, Post, Rest, SendIn, SendOut};
 use super::letters::Letter;
-use super::{A0, A1, B0, B1, C0, C1, C2, Step, first_wrong};
+use super::{A0, A1, B0, B1, C0, C1, C2, Step, all_go};
 use ipcz_base::{Descriptor, End, LinkId, Side};
 use std::test::Fail;
 
@@ -70,10 +70,7 @@ static MOVES_1B: [Step; 22] = [
 
 #[test]
 fn a_moved_end_goes_with_its_numbers(rt: HostRuntime) {
-    assert_eq!(rt;
-        first_wrong(rt.alloc(), 0, 2, &[&ONE_OF_FOUR, &MOVES_1B]),
-        None
-    );
+    all_go(&rt, rt.alloc(), 0, 2, &[&ONE_OF_FOUR, &MOVES_1B]);
 }
 
 const A2: End = End {
@@ -127,7 +124,7 @@ static MOVES_ON: [Step; 10] = [
 
 #[test]
 fn a_proxy_moves_the_ends_that_it_passes_on(rt: HostRuntime) {
-    assert_eq!(rt; first_wrong(rt.alloc(), 1, 3, &[&MOVES_ON]), None);
+    all_go(&rt, rt.alloc(), 1, 3, &[&MOVES_ON]);
 }
 
 // 0A goes from 1A to 1B, both on node 0. It has its terminal, and no caller holds it until the
@@ -151,5 +148,5 @@ static GOES_WITHIN: [Step; 14] = [
 
 #[test]
 fn no_end_moves_within_a_node(rt: HostRuntime) {
-    assert_eq!(rt; first_wrong(rt.alloc(), 0, 2, &[&GOES_WITHIN]), None);
+    all_go(&rt, rt.alloc(), 0, 2, &[&GOES_WITHIN]);
 }

@@ -2,7 +2,7 @@
 
 use super::Step::{Close, Deliver, Get, Holds, Open, Put, PutBytes, PutWide, Quiet, Strays};
 use super::letters::Letter;
-use super::{A0, A1, B0, B1, C0, Step, first_wrong};
+use super::{A0, A1, B0, B1, C0, Step, all_go};
 use ipcz_base::{Descriptor, End, LinkId, Refusal, Side};
 use std::test::Fail;
 
@@ -42,7 +42,7 @@ static REFUSED: [Step; 17] = [
 
 #[test]
 fn puts_are_refused_in_order(rt: HostRuntime) {
-    assert_eq!(rt; first_wrong(rt.alloc(), 0, 2, &[&REFUSED]), None);
+    all_go(&rt, rt.alloc(), 0, 2, &[&REFUSED]);
 }
 
 const A5: End = End {
@@ -77,7 +77,7 @@ static TAKES_THE_LAST: [Step; 9] = [
 
 #[test]
 fn the_last_number_is_the_marks_alone(rt: HostRuntime) {
-    assert_eq!(rt; first_wrong(rt.alloc(), 0, 2, &[&TAKES_THE_LAST]), None);
+    all_go(&rt, rt.alloc(), 0, 2, &[&TAKES_THE_LAST]);
 }
 
 const A2: End = End {
@@ -135,7 +135,7 @@ static ACCEPTED: [Step; 17] = [
 
 #[test]
 fn a_put_of_the_most_bytes_and_ends_is_accepted(rt: HostRuntime) {
-    assert_eq!(rt; first_wrong(rt.alloc(), 0, 2, &[&ACCEPTED]), None);
+    all_go(&rt, rt.alloc(), 0, 2, &[&ACCEPTED]);
 }
 
 // A wide parcel has any bytes, and more of them; its ends are tested as a printed one's are.
@@ -152,7 +152,7 @@ static WIDE: [Step; 8] = [
 
 #[test]
 fn a_wide_put_takes_any_bytes(rt: HostRuntime) {
-    assert_eq!(rt; first_wrong(rt.alloc(), 0, 2, &[&WIDE]), None);
+    all_go(&rt, rt.alloc(), 0, 2, &[&WIDE]);
 }
 
 // The mark of 0B comes before the parcel in front of it. What is tested before it is refused before
@@ -176,5 +176,5 @@ static CLOSED: [Step; 14] = [
 
 #[test]
 fn a_mark_behind_a_gap_refuses_puts_and_no_get(rt: HostRuntime) {
-    assert_eq!(rt; first_wrong(rt.alloc(), 0, 2, &[&CLOSED]), None);
+    all_go(&rt, rt.alloc(), 0, 2, &[&CLOSED]);
 }

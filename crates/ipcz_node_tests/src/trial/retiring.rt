@@ -9,7 +9,7 @@ use super::deeds::Deed::{
     SendOut, Wait,
 };
 use super::letters::Letter;
-use super::{A0, A1, B0, B1, C0, C1, JAMMED, first_wrong};
+use super::{A0, A1, B0, B1, C0, C1, JAMMED, all_go};
 use ipcz_base::{Descriptor, LinkId, Side};
 use ipcz_node::Act;
 use ipcz_router::act::RouterAct;
@@ -59,10 +59,7 @@ static NOBODY_IS_LEFT: [Step; 2] = [Deliver(0, Letter::Mark(C0, Side::B, 2), fal
 
 #[test]
 fn a_closed_pair_leaves_its_node(rt: HostRuntime) {
-    assert_eq!(rt;
-        first_wrong(rt.alloc(), 0, 1, &[&LOCKS, &RETIRES, &NOBODY_IS_LEFT]),
-        None
-    );
+    all_go(&rt, rt.alloc(), 0, 1, &[&LOCKS, &RETIRES, &NOBODY_IS_LEFT]);
 }
 
 // If Gone finds no memory, the lock is given back, and tried for again at once.
@@ -75,9 +72,12 @@ static GIVES_THE_LOCK_BACK: [Step; 4] = [
 
 #[test]
 fn a_sink_that_finds_no_memory_to_retire_tries_again(rt: HostRuntime) {
-    assert_eq!(rt;
-        first_wrong(rt.alloc(), 0, 1, &[&LOCKS, &GIVES_THE_LOCK_BACK, &RETIRES]),
-        None
+    all_go(
+        &rt,
+        rt.alloc(),
+        0,
+        1,
+        &[&LOCKS, &GIVES_THE_LOCK_BACK, &RETIRES],
     );
 }
 
@@ -133,10 +133,7 @@ static PROXY_LEAVES: [Step; 15] = [
 
 #[test]
 fn a_proxy_without_a_word_leaves_behind_gone(rt: HostRuntime) {
-    assert_eq!(rt;
-        first_wrong(rt.alloc(), 0, 2, &[&MOVES, &PROXY_LEAVES]),
-        None
-    );
+    all_go(&rt, rt.alloc(), 0, 2, &[&MOVES, &PROXY_LEAVES]);
 }
 
 // Node 1 of two: the new terminal of 1B, on a link without a word, sends its mark, and leaves when Gone comes.
@@ -160,7 +157,7 @@ static FAR_TERMINAL: [Step; 15] = [
 
 #[test]
 fn a_terminal_without_a_word_leaves_where_gone_comes(rt: HostRuntime) {
-    assert_eq!(rt; first_wrong(rt.alloc(), 1, 2, &[&FAR_TERMINAL]), None);
+    all_go(&rt, rt.alloc(), 1, 2, &[&FAR_TERMINAL]);
 }
 
 // Both sides try: the one that finds the lock held rests, and Gone takes it away.
@@ -178,7 +175,7 @@ static STAYS_FOR_GONE: [Step; 9] = [
 
 #[test]
 fn a_sink_that_is_refused_the_lock_leaves_where_gone_comes(rt: HostRuntime) {
-    assert_eq!(rt; first_wrong(rt.alloc(), 0, 2, &[&STAYS_FOR_GONE]), None);
+    all_go(&rt, rt.alloc(), 0, 2, &[&STAYS_FOR_GONE]);
 }
 
 // A sink that has to wait rests until a Flush wakes it.
@@ -200,10 +197,7 @@ static WAITS_FOR_THE_OTHER_SIDE: [Step; 13] = [
 
 #[test]
 fn a_sink_that_waits_is_woken_by_a_flush(rt: HostRuntime) {
-    assert_eq!(rt;
-        first_wrong(rt.alloc(), 0, 2, &[&WAITS_FOR_THE_OTHER_SIDE]),
-        None
-    );
+    all_go(&rt, rt.alloc(), 0, 2, &[&WAITS_FOR_THE_OTHER_SIDE]);
 }
 
 // The mark waits before Gone in the outbox; the sink has left before either is posted.
@@ -227,8 +221,5 @@ static LEAVES_BEFORE_IT_POSTS: [Step; 15] = [
 
 #[test]
 fn a_sink_has_left_before_gone_is_posted(rt: HostRuntime) {
-    assert_eq!(rt;
-        first_wrong(rt.alloc(), 0, 2, &[&LEAVES_BEFORE_IT_POSTS]),
-        None
-    );
+    all_go(&rt, rt.alloc(), 0, 2, &[&LEAVES_BEFORE_IT_POSTS]);
 }

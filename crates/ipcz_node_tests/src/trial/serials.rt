@@ -4,7 +4,7 @@ use super::Step::{
     Deliver, DeliverRefused, First, Get, HeldFrom, Open, OpenRefused, Posted, Put, Quiet, See,
     Turn, TurnRefused,
 };
-use super::aside::{Aside, Run, first_wrong_of};
+use super::aside::{Aside, Run, all_go_aside};
 use super::deeds::Deed::{ClaimNoWord, Look, Post, Rest, SendIn, SendOut};
 use super::letters::Letter::{Flush, Parcel};
 use super::{A0, A1, B0, B1, C0, C1, CLEAR, Step, Trial};
@@ -96,7 +96,7 @@ static HAND_ASIDE: [Aside; 1] = [Aside {
 
 #[test]
 fn a_hand_without_a_serial_is_refused_and_changes_nothing(rt: HostRuntime) {
-    assert_eq!(rt; first_wrong_of(rt.alloc(), &HAND, &HAND_ASIDE), None);
+    all_go_aside(&rt, rt.alloc(), &HAND, &HAND_ASIDE);
 }
 
 const INWARD: LinkId = LinkId::Peripheral {
@@ -179,5 +179,5 @@ static SENDS_ASIDE: [Aside; 1] = [Aside {
 
 #[test]
 fn a_send_without_a_serial_is_refused_and_changes_nothing(rt: HostRuntime) {
-    assert_eq!(rt; first_wrong_of(rt.alloc(), &SENDS, &SENDS_ASIDE), None);
+    all_go_aside(&rt, rt.alloc(), &SENDS, &SENDS_ASIDE);
 }

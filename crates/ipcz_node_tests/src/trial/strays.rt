@@ -3,7 +3,7 @@
 use super::Step::{Deliver, DeliverWhere, Get, GetParcel, Posted, Quiet, Strays, Turn};
 use super::deeds::Deed;
 use super::letters::Letter;
-use super::{A0, C0, C2, Step, first_wrong};
+use super::{A0, C0, C2, Step, all_go};
 use ipcz_base::{Descriptor, End, LinkId, Refusal, Side};
 use std::test::Fail;
 
@@ -52,7 +52,7 @@ static COMES_ONCE: [Step; 8] = [
 
 #[test]
 fn an_item_comes_once(rt: HostRuntime) {
-    assert_eq!(rt; first_wrong(rt.alloc(), 0, 2, &[&COMES_ONCE]), None);
+    all_go(&rt, rt.alloc(), 0, 2, &[&COMES_ONCE]);
 }
 
 const OWN_PERIPHERAL: LinkId = LinkId::Peripheral { node: 0, serial: 0 };
@@ -84,7 +84,7 @@ static HAS_A_PLACE: [Step; 6] = [
 
 #[test]
 fn an_item_has_a_router_and_a_number(rt: HostRuntime) {
-    assert_eq!(rt; first_wrong(rt.alloc(), 0, 2, &[&HAS_A_PLACE]), None);
+    all_go(&rt, rt.alloc(), 0, 2, &[&HAS_A_PLACE]);
 }
 
 const HIGH: Descriptor = Descriptor {
@@ -158,7 +158,7 @@ static HAS_ITS_MOVES: [Step; 13] = [
 
 #[test]
 fn an_item_has_its_moves(rt: HostRuntime) {
-    assert_eq!(rt; first_wrong(rt.alloc(), 0, 2, &[&HAS_ITS_MOVES]), None);
+    all_go(&rt, rt.alloc(), 0, 2, &[&HAS_ITS_MOVES]);
 }
 
 // The terminal of 5A moves here from node 1.
@@ -189,10 +189,7 @@ static HAS_ITS_TERMINAL: [Step; 8] = [
 
 #[test]
 fn a_bypass_peer_has_its_terminal(rt: HostRuntime) {
-    assert_eq!(rt;
-        first_wrong(rt.alloc(), 0, 2, &[&MOVES, &HAS_ITS_TERMINAL]),
-        None
-    );
+    all_go(&rt, rt.alloc(), 0, 2, &[&MOVES, &HAS_ITS_TERMINAL]);
 }
 
 // The router of 5A has C2 as primary link, and its old one decays.
@@ -217,10 +214,7 @@ static DOES_NOT_DECAY: [Step; 11] = [
 
 #[test]
 fn an_accept_bypass_has_a_router_that_does_not_decay(rt: HostRuntime) {
-    assert_eq!(rt;
-        first_wrong(rt.alloc(), 0, 2, &[&MOVES, &DOES_NOT_DECAY]),
-        None
-    );
+    all_go(&rt, rt.alloc(), 0, 2, &[&MOVES, &DOES_NOT_DECAY]);
 }
 
 // The word of the old link names the node that may send its AcceptBypass: no node, this one, and then
@@ -241,7 +235,7 @@ static IS_OF_THE_SOURCE: [Step; 10] = [
 
 #[test]
 fn an_accept_bypass_is_of_the_source_that_the_word_names(rt: HostRuntime) {
-    assert_eq!(rt; first_wrong(rt.alloc(), 0, 2, &[&IS_OF_THE_SOURCE]), None);
+    all_go(&rt, rt.alloc(), 0, 2, &[&IS_OF_THE_SOURCE]);
 }
 
 static TELLS_A_LENGTH: [Step; 6] = [
@@ -257,10 +251,7 @@ static TELLS_A_LENGTH: [Step; 6] = [
 
 #[test]
 fn a_proxy_will_stop_tells_an_unknown_length(rt: HostRuntime) {
-    assert_eq!(rt;
-        first_wrong(rt.alloc(), 0, 2, &[&MOVES, &TELLS_A_LENGTH]),
-        None
-    );
+    all_go(&rt, rt.alloc(), 0, 2, &[&MOVES, &TELLS_A_LENGTH]);
 }
 
 static IS_DROPPED: [Step; 5] = [
@@ -273,5 +264,5 @@ static IS_DROPPED: [Step; 5] = [
 
 #[test]
 fn a_flush_is_dropped_and_never_kept(rt: HostRuntime) {
-    assert_eq!(rt; first_wrong(rt.alloc(), 0, 2, &[&IS_DROPPED]), None);
+    all_go(&rt, rt.alloc(), 0, 2, &[&IS_DROPPED]);
 }

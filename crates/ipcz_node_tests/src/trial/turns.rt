@@ -3,7 +3,7 @@
 use super::Step::{Close, Deliver, First, Get, Holds, Open, Posted, Put, Quiet, Return, See, Turn};
 use super::deeds::Deed::{self, Discard, Idle, Look, Post, Rest, SendOut};
 use super::letters::Letter;
-use super::{A0, A1, B0, B1, C0, C1, C2, CLEAR, JAMMED, Step, first_wrong};
+use super::{A0, A1, B0, B1, C0, C1, C2, CLEAR, JAMMED, Step, all_go};
 use ipcz_base::{End, Refusal, Side};
 use ipcz_node::{Act, MailSeen};
 use ipcz_router::act::RouterAct;
@@ -103,10 +103,7 @@ static CHOOSES: [Step; 20] = [
 
 #[test]
 fn a_look_comes_before_a_post_and_both_before_routers(rt: HostRuntime) {
-    assert_eq!(rt;
-        first_wrong(rt.alloc(), 1, 3, &[&FILLS_OUTBOXES, &CHOOSES]),
-        None
-    );
+    all_go(&rt, rt.alloc(), 1, 3, &[&FILLS_OUTBOXES, &CHOOSES]);
 }
 
 // The lowest destination comes first, and over one link the lower number.
@@ -132,7 +129,7 @@ static POSTS: [Step; 17] = [
 
 #[test]
 fn posts_go_by_destination_and_then_in_the_order_of_sending(rt: HostRuntime) {
-    assert_eq!(rt; first_wrong(rt.alloc(), 1, 3, &[&POSTS]), None);
+    all_go(&rt, rt.alloc(), 1, 3, &[&POSTS]);
 }
 
 // Whatever else has come or waits, also if a message of another node is delivered, or the act is
@@ -159,7 +156,7 @@ static STAYS_IN_HAND: [Step; 17] = [
 
 #[test]
 fn a_message_stays_in_hand_until_it_is_delivered(rt: HostRuntime) {
-    assert_eq!(rt; first_wrong(rt.alloc(), 1, 3, &[&STAYS_IN_HAND]), None);
+    all_go(&rt, rt.alloc(), 1, 3, &[&STAYS_IN_HAND]);
 }
 
 // A message that doesn't fit is out of the hand, too.
@@ -174,7 +171,7 @@ static STRAYS_FROM_HAND: [Step; 6] = [
 
 #[test]
 fn a_stray_leaves_the_hand(rt: HostRuntime) {
-    assert_eq!(rt; first_wrong(rt.alloc(), 1, 3, &[&STRAYS_FROM_HAND]), None);
+    all_go(&rt, rt.alloc(), 1, 3, &[&STRAYS_FROM_HAND]);
 }
 
 // The terminal of 1B is closed, and a parcel that carries 0A comes to it. The mark of 1B is sent
@@ -208,5 +205,5 @@ static DROPS: [Step; 24] = [
 
 #[test]
 fn a_sink_drops_a_parcel_and_the_ends_in_it_are_closed(rt: HostRuntime) {
-    assert_eq!(rt; first_wrong(rt.alloc(), 0, 2, &[&DROPS]), None);
+    all_go(&rt, rt.alloc(), 0, 2, &[&DROPS]);
 }

@@ -7,7 +7,7 @@ use super::Step::{
 use super::deeds::Deed::{Claim, ClaimNoWord, Lock, Mark, Plain, Refused, Wait, Wake};
 use super::deeds::Given::{Nothing, Told};
 use super::sights::Sight::{Flagged, Inward, Next, Outward, Possible, Word};
-use super::{Trial, given};
+use super::{Trial, all_go};
 use ipcz_base::{Descriptor, End, LinkEnd, LinkId, Refusal, Side};
 use ipcz_router::act::RouterAct;
 use std::alloc::{AllocError, Global};
@@ -80,14 +80,14 @@ const FRESH_Z: Option<LinkEnd> = Some(LinkEnd {
 });
 
 // X, the proxy Y and Z.
-const CHAIN: [Step; 3] = [
+static CHAIN: [Step; 3] = [
     Terminal(A0, TO_Y, 0),
     Terminal(B0, TO_X, 0),
     Move(Y, TO_Z, AT_Z, 1),
 ];
 
 // Four items go inward over Y and two outward.
-const USED: [Step; 18] = [
+static USED: [Step; 18] = [
     Put(X, b'a', Ok(0)),
     Carry(X, Plain(RouterAct::SendOut), Y, OLD, 0),
     Carry(Y, Plain(RouterAct::SendIn), Z, INNER, 0),
@@ -109,7 +109,7 @@ const USED: [Step; 18] = [
 ];
 
 // Y claims C2, locks C0 and begins: both its links decay with unknown lengths, and Z is told. A fifth item goes inward over them.
-const BEGIN: [Step; 11] = [
+static BEGIN: [Step; 11] = [
     Is(Y, Word(Some((0, Side::B)))),
     Act(Y, Claim(2), Nothing),
     Act(Y, Lock(35), Nothing),
@@ -131,7 +131,7 @@ const BEGIN: [Step; 11] = [
 ];
 
 // Z turns to C2 at its number 2; a message for another side or of a central link doesn't fit, nor does a second one.
-const Z_TURNS: [Step; 8] = [
+static Z_TURNS: [Step; 8] = [
     BypassPeer(Z, INNER, Side::A, [0, 2], 0, Err(Refusal::Stranger)),
     BypassPeer(Z, OLD, Side::B, [0, 2], 0, Err(Refusal::Stranger)),
     BypassPeer(
@@ -150,7 +150,7 @@ const Z_TURNS: [Step; 8] = [
 ];
 
 // X turns to it at its number 5, toward the node that AcceptBypass came from. Its old link goes, and its side of C2 is marked.
-const X_TURNS: [Step; 14] = [
+static X_TURNS: [Step; 14] = [
     Is(X, Possible(RouterAct::Mark, false)),
     AcceptBypass(X, 2, Side::B, 2, Some(2), Err(Refusal::Stranger)),
     AcceptBypass(X, 2, Side::B, 2, None, Err(Refusal::Stranger)),
@@ -178,7 +178,7 @@ const X_TURNS: [Step; 14] = [
 ];
 
 // Y learns both lengths, the inward ones the other way round, and leaves.
-const Y_STOPS: [Step; 9] = [
+static Y_STOPS: [Step; 9] = [
     StopProxying(Y, Side::A, [5, 2], Err(Refusal::Stranger)),
     StopProxying(
         Y,
@@ -199,7 +199,7 @@ const Y_STOPS: [Step; 9] = [
 ];
 
 // Z learns the length of what comes over Y, once; then what it puts comes to X over C2.
-const Z_STOPS: [Step; 10] = [
+static Z_STOPS: [Step; 10] = [
     ProxyWillStop(Z, INNER, Side::A, 5, Err(Refusal::Stranger)),
     ProxyWillStop(Z, INNER, Side::B, 5, Ok(None)),
     Is(Z, Outward(FRESH_Z, Some(2), Some(5))),
@@ -212,17 +212,12 @@ const Z_STOPS: [Step; 10] = [
     Carry(Z, Plain(RouterAct::SendOut), X, FRESH, 2),
 ];
 
-const BYPASS: [&[Step]; 7] = [
-    &CHAIN, &USED, &BEGIN, &Z_TURNS, &X_TURNS, &Y_STOPS, &Z_STOPS,
-];
-
-// The first part whose steps don't all give what they say, with how many do.
+// The first part with a step that doesn't give what it says, and the place of that step there.
 fn first_wrong(alloc: Global, parts: &[&[Step]]) -> Result<Option<(usize, usize)>, AllocError> {
     let mut trial = Trial::new(alloc);
     for (part, steps) in parts.iter().enumerate() {
-        let count = trial.given(*steps)?;
-        if count != steps.len() {
-            return Ok(Some((part, count)));
+        if let Some(place) = trial.first_wrong(*steps)? {
+            return Ok(Some((part, place)));
         }
     }
     Ok(None)
@@ -230,11 +225,20 @@ fn first_wrong(alloc: Global, parts: &[&[Step]]) -> Result<Option<(usize, usize)
 
 #[test]
 fn a_proxy_is_bypassed_step_by_step(rt: HostRuntime) {
-    assert_eq!(rt; first_wrong(rt.alloc(), &BYPASS), Ok(None));
+    let parts = [
+        CHAIN.as_slice(),
+        &USED,
+        &BEGIN,
+        &Z_TURNS,
+        &X_TURNS,
+        &Y_STOPS,
+        &Z_STOPS,
+    ];
+    assert_eq!(rt; first_wrong(rt.alloc(), &parts), Ok(None));
 }
 
 // A claim that finds no word is the last one, whatever comes.
-const NO_WORD: [Step; 13] = [
+static NO_WORD: [Step; 13] = [
     Terminal(A0, TO_Y, 0),
     Terminal(B0, TO_X, 0),
     Move(Y, TO_Z, AT_Z, 1),
@@ -252,11 +256,11 @@ const NO_WORD: [Step; 13] = [
 
 #[test]
 fn a_proxy_without_a_word_stays_one(rt: HostRuntime) {
-    assert_eq!(rt; given(rt.alloc(), &NO_WORD), Ok(NO_WORD.len()));
+    all_go(&rt, rt.alloc(), &NO_WORD);
 }
 
 // A side that waits or is refused tries again when it is roused; a lock that is given back is tried for at once.
-const TRIES: [Step; 15] = [
+static TRIES: [Step; 15] = [
     Terminal(A0, TO_Y, 0),
     Terminal(B0, TO_X, 0),
     Move(Y, TO_Z, AT_Z, 1),
@@ -276,12 +280,12 @@ const TRIES: [Step; 15] = [
 
 #[test]
 fn a_try_for_the_lock_is_made_once_and_again_when_roused(rt: HostRuntime) {
-    assert_eq!(rt; given(rt.alloc(), &TRIES), Ok(TRIES.len()));
+    all_go(&rt, rt.alloc(), &TRIES);
 }
 
 // A terminal on the first link of a pair is marked at birth; one made from a descriptor marks no peripheral link. On a fresh link it marks
 // its side and wakes the other one, which was waiting.
-const MARKS: [Step; 11] = [
+static MARKS: [Step; 11] = [
     Terminal(A0, TO_Y, 0),
     Terminal(B0, TO_X, 0),
     Move(Y, TO_Z, AT_Z, 1),
@@ -304,5 +308,5 @@ const MARKS: [Step; 11] = [
 
 #[test]
 fn a_side_is_marked_and_the_other_one_woken(rt: HostRuntime) {
-    assert_eq!(rt; given(rt.alloc(), &MARKS), Ok(MARKS.len()));
+    all_go(&rt, rt.alloc(), &MARKS);
 }

@@ -8,7 +8,7 @@ use super::deeds::Given::{Discarded, Nothing, Sent, Told};
 use super::sights::Sight::{
     At, Flagged, Next, NodeInward, Open, Proxy, PutRefused, StandsOn, WayOut,
 };
-use super::{given, is_item, is_letter, item_of, letter};
+use super::{all_go, is_item, is_letter, item_of, letter};
 use ipcz_base::{Descriptor, End, LinkEnd, LinkId, Refusal, Side};
 use ipcz_router::Router;
 use ipcz_router::act::RouterAct;
@@ -37,7 +37,7 @@ const END: End = End {
     side: Side::A,
 };
 
-const LAST_NUMBERS: [Step; 13] = [
+static LAST_NUMBERS: [Step; 13] = [
     Terminal(END, ACROSS, 18446744073709551612),
     Is(0, Open(true)),
     Put(0, b'a', Ok(18446744073709551612)),
@@ -55,10 +55,10 @@ const LAST_NUMBERS: [Step; 13] = [
 
 #[test]
 fn the_last_numbers_are_put_and_then_the_mark_alone(rt: HostRuntime) {
-    assert_eq!(rt; given(rt.alloc(), &LAST_NUMBERS), Ok(LAST_NUMBERS.len()));
+    all_go(&rt, rt.alloc(), &LAST_NUMBERS);
 }
 
-const SENT_ONCE: [Step; 7] = [
+static SENT_ONCE: [Step; 7] = [
     Terminal(END, ACROSS, 0),
     Is(0, StandsOn(C1, Side::A, true)),
     Put(0, b'a', Ok(0)),
@@ -70,7 +70,7 @@ const SENT_ONCE: [Step; 7] = [
 
 #[test]
 fn what_is_put_is_sent_once_and_then_the_router_rests(rt: HostRuntime) {
-    assert_eq!(rt; given(rt.alloc(), &SENT_ONCE), Ok(SENT_ONCE.len()));
+    all_go(&rt, rt.alloc(), &SENT_ONCE);
 }
 
 const A5: End = End {
@@ -85,7 +85,7 @@ const MOVED: Descriptor = Descriptor {
     next_in: u64::MAX,
 };
 
-const BORN: [Step; 6] = [
+static BORN: [Step; 6] = [
     Born(MOVED, 0),
     Is(0, StandsOn(INWARD, Side::B, true)),
     Is(0, StandsOn(INWARD, Side::A, false)),
@@ -96,7 +96,7 @@ const BORN: [Step; 6] = [
 
 #[test]
 fn a_moved_terminal_stands_on_side_b(rt: HostRuntime) {
-    assert_eq!(rt; given(rt.alloc(), &BORN), Ok(BORN.len()));
+    all_go(&rt, rt.alloc(), &BORN);
 }
 
 // A terminal that has got one parcel, and sent none.
@@ -107,7 +107,7 @@ const AFTER_ONE: Descriptor = Descriptor {
     next_in: 1,
 };
 
-const MOVES: [Step; 15] = [
+static MOVES: [Step; 15] = [
     Terminal(END, ACROSS, 0),
     Come(0, C1, Side::A, 0, Some(b'a'), Ok(())),
     Come(0, C1, Side::A, 1, Some(b'a'), Ok(())),
@@ -129,10 +129,10 @@ const MOVES: [Step; 15] = [
 // Of four parcels that came, one is got before the move, and the proxy passes the others on.
 #[test]
 fn a_descriptor_goes_on_where_callers_stopped(rt: HostRuntime) {
-    assert_eq!(rt; given(rt.alloc(), &MOVES), Ok(MOVES.len()));
+    all_go(&rt, rt.alloc(), &MOVES);
 }
 
-const STRANGE: [Step; 11] = [
+static STRANGE: [Step; 11] = [
     Terminal(END, ACROSS, 0),
     Come(
         0,
@@ -155,7 +155,7 @@ const STRANGE: [Step; 11] = [
 
 #[test]
 fn what_does_not_fit_is_refused(rt: HostRuntime) {
-    assert_eq!(rt; given(rt.alloc(), &STRANGE), Ok(STRANGE.len()));
+    all_go(&rt, rt.alloc(), &STRANGE);
 }
 
 const C0: LinkId = LinkId::Central(0);
@@ -168,7 +168,7 @@ const B0: End = End {
 };
 
 // A proxy on node 1 whose outward link takes items up to number 4, and is to bring number 5 yet.
-const PAST_THE_LENGTH: [Step; 10] = [
+static PAST_THE_LENGTH: [Step; 10] = [
     Terminal(
         B0,
         LinkEnd {
@@ -220,10 +220,7 @@ const PAST_THE_LENGTH: [Step; 10] = [
 
 #[test]
 fn an_item_past_the_length_waits_for_a_primary_link(rt: HostRuntime) {
-    assert_eq!(rt;
-        given(rt.alloc(), &PAST_THE_LENGTH),
-        Ok(PAST_THE_LENGTH.len())
-    );
+    all_go(&rt, rt.alloc(), &PAST_THE_LENGTH);
 }
 
 // Whether a put is done, or refused for want of memory with all as it was.
@@ -262,7 +259,7 @@ fn a_refused_growth_hands_the_parcel_back(rt: HostRuntime) {
     assert_eq!(rt; is_taken_or_handed_back(&mut router, rt.alloc()), Ok(true));
 }
 
-const BEHIND_A_GAP: [Step; 18] = [
+static BEHIND_A_GAP: [Step; 18] = [
     Terminal(END, ACROSS, 0),
     Come(0, C1, Side::A, 1, None, Ok(())),
     Is(0, Open(true)),
@@ -286,7 +283,7 @@ const BEHIND_A_GAP: [Step; 18] = [
 
 #[test]
 fn the_mark_is_seen_behind_a_gap_and_got_in_its_turn(rt: HostRuntime) {
-    assert_eq!(rt; given(rt.alloc(), &BEHIND_A_GAP), Ok(BEHIND_A_GAP.len()));
+    all_go(&rt, rt.alloc(), &BEHIND_A_GAP);
 }
 
 // A terminal that has neither sent nor got anything.
@@ -297,7 +294,7 @@ const UNUSED: Descriptor = Descriptor {
     next_in: 0,
 };
 
-const MARK_STAYS: [Step; 7] = [
+static MARK_STAYS: [Step; 7] = [
     Terminal(END, ACROSS, 0),
     Come(0, C1, Side::A, 0, None, Ok(())),
     Is(0, Open(true)),
@@ -310,5 +307,5 @@ const MARK_STAYS: [Step; 7] = [
 // The peer's mark waits in the proxy's in queue; the terminal that moved away takes puts until it comes there.
 #[test]
 fn that_the_mark_has_come_does_not_travel(rt: HostRuntime) {
-    assert_eq!(rt; given(rt.alloc(), &MARK_STAYS), Ok(MARK_STAYS.len()));
+    all_go(&rt, rt.alloc(), &MARK_STAYS);
 }

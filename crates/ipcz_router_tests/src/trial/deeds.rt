@@ -3,8 +3,8 @@
 ghost use Rattle.std.specs.Prelude.{IfSome};
 ghost use Rattle.ipcz_router.specs.ActEffects.{IsAnswerOf};
 
-use super::is_item;
-use ipcz_base::{Item, LinkEnd};
+use super::{is_item, prints};
+use ipcz_base::{Item, LinkEnd, Message};
 use ipcz_router::Router;
 use ipcz_router::act::{Answer, Applied, RouterAct};
 use std::alloc::{AllocError, Global};
@@ -90,27 +90,25 @@ pub(super) fn sent(router: &mut Router, deed: Deed) -> Option<(LinkEnd, u64, Ite
 }
 
 // Whether an act gave this.
-fn is_given(applied: Applied, alloc: Global, given: Given) -> Result<bool, AllocError> {
-    match applied {
-        Applied::Nothing => Ok(matches!(given, Given::Nothing)),
-        Applied::Sent(link, n, item) => match given {
-            Given::Sent(over, number, byte) => {
-                Ok(link == over && n == number && is_item(&item, byte))
-            }
-            Given::SentGone(over, number) => Ok(link == over && n == number && item.is_gone()),
-            _ => Ok(false),
-        },
-        Applied::Discarded(n, item) => match given {
-            Given::Discarded(number, byte) => Ok(n == number && is_item(&item, byte)),
-            Given::DiscardedGone(number) => Ok(n == number && item.is_gone()),
-            _ => Ok(false),
-        },
-        Applied::Message(to, message) => match given {
-            Given::Told(node, text) => {
-                Ok(to == node && format!(in alloc; "{message:?}")?.as_str() == text)
-            }
-            _ => Ok(false),
-        },
+fn is_given(applied: &Applied, alloc: Global, given: Given) -> Result<bool, AllocError> {
+    match (applied, given) {
+        (Applied::Nothing, Given::Nothing) => Ok(true),
+        (Applied::Sent(link, n, item), Given::Sent(over, number, byte)) => {
+            Ok(*link == over && *n == number && is_item(item, byte))
+        }
+        (Applied::Sent(link, n, item), Given::SentGone(over, number)) => {
+            Ok(*link == over && *n == number && item.is_gone())
+        }
+        (Applied::Discarded(n, item), Given::Discarded(number, byte)) => {
+            Ok(*n == number && is_item(item, byte))
+        }
+        (Applied::Discarded(n, item), Given::DiscardedGone(number)) => {
+            Ok(*n == number && item.is_gone())
+        }
+        (Applied::Message(to, message), Given::Told(node, text)) => {
+            Ok(*to == node && prints(alloc, message, text)?)
+        }
+        _ => Ok(false),
     }
 }
 
@@ -122,7 +120,7 @@ pub(super) fn gives(
     given: Given,
 ) -> Result<bool, AllocError> {
     match apply(router, deed) {
-        Some(applied) => is_given(applied, alloc, given),
+        Some(applied) => is_given(&applied, alloc, given),
         None => Ok(false),
     }
 }

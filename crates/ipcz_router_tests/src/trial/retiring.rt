@@ -1,9 +1,9 @@
 //! What a sink does when its peer is closed, too: it locks its link and retires, or Gone comes to it; and a proxy that Gone passes.
 
 use super::Step::{self, Act, Close, Come, Get, GoneComes, Is, Move, Put, Rouse, Terminal, Unlock};
+use super::all_go;
 use super::deeds::Deed::{Claim, ClaimNoWord, Lock, Plain, Refused, Wait};
 use super::deeds::Given::{Discarded, DiscardedGone, Nothing, Sent, SentGone};
-use super::given;
 use super::sights::Sight::{Flagged, InLast, Next, Open, OutLast, Possible, Proxy, PutRefused};
 use ipcz_base::{Descriptor, End, LinkEnd, LinkId, Refusal, Side};
 use ipcz_router::act::RouterAct;
@@ -77,7 +77,7 @@ static RETIRES: [Step; 29] = [
 
 #[test]
 fn a_sink_retires_once_the_mark_of_its_peer_is_discarded(rt: HostRuntime) {
-    assert_eq!(rt; given(rt.alloc(), &RETIRES), Ok(RETIRES.len()));
+    all_go(&rt, rt.alloc(), &RETIRES);
 }
 
 // The mark is the only item that was sent, and has not left.
@@ -118,8 +118,8 @@ static LAST_NUMBERS: [Step; 8] = [
 
 #[test]
 fn a_sink_sends_what_it_has_before_it_leaves(rt: HostRuntime) {
-    assert_eq!(rt; given(rt.alloc(), &WAITS_TO_SEND), Ok(WAITS_TO_SEND.len()));
-    assert_eq!(rt; given(rt.alloc(), &LAST_NUMBERS), Ok(LAST_NUMBERS.len()));
+    all_go(&rt, rt.alloc(), &WAITS_TO_SEND);
+    all_go(&rt, rt.alloc(), &LAST_NUMBERS);
 }
 
 // Gone comes before what stands before it. It is discarded in its turn, and never got.
@@ -169,9 +169,9 @@ static NO_PUT: [Step; 9] = [
 
 #[test]
 fn gone_is_discarded_in_its_turn_and_is_no_parcel(rt: HostRuntime) {
-    assert_eq!(rt; given(rt.alloc(), &GONE_COMES), Ok(GONE_COMES.len()));
-    assert_eq!(rt; given(rt.alloc(), &GONE_STAYS), Ok(GONE_STAYS.len()));
-    assert_eq!(rt; given(rt.alloc(), &NO_PUT), Ok(NO_PUT.len()));
+    all_go(&rt, rt.alloc(), &GONE_COMES);
+    all_go(&rt, rt.alloc(), &GONE_STAYS);
+    all_go(&rt, rt.alloc(), &NO_PUT);
 }
 
 // A proxy sends Gone inward like any item, and leaves though both its links are there; its own act comes in between.
@@ -217,9 +217,6 @@ static PASSES_WITH_A_WORD: [Step; 16] = [
 
 #[test]
 fn a_proxy_leaves_once_gone_has_passed(rt: HostRuntime) {
-    assert_eq!(rt; given(rt.alloc(), &PASSES), Ok(PASSES.len()));
-    assert_eq!(rt;
-        given(rt.alloc(), &PASSES_WITH_A_WORD),
-        Ok(PASSES_WITH_A_WORD.len())
-    );
+    all_go(&rt, rt.alloc(), &PASSES);
+    all_go(&rt, rt.alloc(), &PASSES_WITH_A_WORD);
 }
