@@ -2,7 +2,8 @@
 use Rattle.std.specs.Prelude.{◌≡◌, ◌⊎◌, ◌≤◌, ◌<◌, ℕ, ◌+◌, ◌*◌, Bool, true, false, cond, ◌&&◌, ◌||◌, nat_eq, nat_lt, Option, Some, None, List, [], ◌∷◌, length, refl}
 use Rattle.std.proofs.Common.{arith, ap, subst, ◌∙◌, sym, inl, inr}
 use Rattle.std.proofs.lemmas.Bool.Decides.{nat_tests}
-use Rattle.ipcz_world.proofs.Vocabulary.{End, Router, Node, Found, router_in, RouterAct, Act, Hand, World, node_at, router_at, Books, read, opposite_end, is_terminal}
+use Rattle.ipcz_world.proofs.Vocabulary.{End, Router, Node, Found, router_in, RouterAct, Act, Hand, World, node_at, router_at, Books}
+use Rattle.ipcz_world.proofs.Vocabulary.{read, opposite_end, is_terminal}
 use Rattle.ipcz_world.proofs.Vocabulary.{after_act, answer_of, unless, commit, output_of}
 use Rattle.ipcz_router.specs.ActEffects.{apply, drop_lock, leaves_by}
 use Rattle.ipcz_router.specs.declared.act.RouterAct.TheVariants as acts
