@@ -50,7 +50,7 @@ STEP_WAKERS, GOING, AGREEING = (
     "ipcz_world/proofs/owed/Acting.antt",
     "ipcz_world/proofs/runs/FlagsAgree.antt",
 )
-FLAGGING, WAKING = "ipcz_world/proofs/runs/Flagging.antt", "ipcz_world/proofs/acts/Waking.antt"
+WAKING = "ipcz_world/proofs/acts/Waking.antt"
 STOPPING, HANDLING = "ipcz_world/proofs/hands/StopProxying.antt", "ipcz_world/proofs/hands/Handling.antt"
 ACT_RANKS = "ipcz_world/proofs/ranks/NodeActs.antt"
 HAND_RANKS, WORTHS = "ipcz_world/proofs/ranks/NodeHands.antt", "ipcz_world/proofs/ranks/RouterWorths.antt"
@@ -209,12 +209,6 @@ TURNS = {
         (NEXT, f"true →\n        {NEXT_IS}", "true →\n        next_act r ≡ (if is_possible r Mark then Mark else Rest)"),
         (NEXT_AT, f"≡ true = {WAKES.format('true')}(marks, wakes)", f"≡ true = {WAKES.format('true')}marks"),
         (NEXT_AT, f"≡ false = {WAKES.format('false')}(marks, wakes)", f"≡ false = {WAKES.format('false')}marks"),
-        (FLAGGING, "table 8 acts.Claim", "table 7 acts.Claim"),
-        (FLAGGING, "table 9 acts.Lock", "table 8 acts.Lock"),
-        (FLAGGING, "acts.Begin = first-none r table 10", "acts.Begin = first-none r table 9"),
-        (FLAGGING, "acts.Retire = first-none r table 11", "acts.Retire = first-none r table 10"),
-        (FLAGGING, "(arith, first-none r table 10 acts.Begin h refl", "(arith, first-none r table 9 acts.Begin h refl"),
-        (FLAGGING, "acts.Begin h refl, first-none r table 11", "acts.Begin h refl, first-none r table 10"),
     ],
     # who may answer for a bypass
     "a_lock_names_the_node_across": [

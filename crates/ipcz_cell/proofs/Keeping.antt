@@ -89,55 +89,24 @@ retired_keeps (Some r) p = record { node = refl; hand = refl; message = refl; pr
 
 -- what is written into the books leaves the hand
 pub written_keeps : (n : Node) (act : Act) (p : Part) → KeepsHands p (written_part n act p)
-written_keeps n (acts.Hand from) p = same_hands p
-written_keeps n (acts.Look from) p = same_hands p
-written_keeps n (acts.Post to) p = same_hands p
 written_keeps n (acts.Close e) p = record { node = refl; hand = refl; message = refl; probed = refl }
-written_keeps n acts.Idle p = same_hands p
 written_keeps n (acts.Router serial router_acts.Discard) p = dropped_keeps (router_in n serial) p
-written_keeps n (acts.Router serial router_acts.SendOut) p = same_hands p
-written_keeps n (acts.Router serial router_acts.SendIn) p = same_hands p
-written_keeps n (acts.Router serial router_acts.FinishOut) p = same_hands p
-written_keeps n (acts.Router serial router_acts.FinishIn) p = same_hands p
-written_keeps n (acts.Router serial router_acts.Leave) p = same_hands p
-written_keeps n (acts.Router serial router_acts.Mark) p = same_hands p
-written_keeps n (acts.Router serial router_acts.Wake) p = same_hands p
-written_keeps n (acts.Router serial router_acts.Claim) p = same_hands p
-written_keeps n (acts.Router serial router_acts.Lock) p = same_hands p
-written_keeps n (acts.Router serial router_acts.Begin) p = same_hands p
 written_keeps n (acts.Router serial router_acts.Retire) p = retired_keeps (router_in n serial) p
-written_keeps n (acts.Router serial router_acts.Unlock) p = same_hands p
-written_keeps n (acts.Router serial router_acts.Rest) p = same_hands p
+written_keeps n other p = same_hands p
 
 -- and the state of the node
 pub written_state : (n : Node) (act : Act) (p : Part) → (written_part n act p).state ≡ p.state
-written_state n (acts.Hand from) p = refl
-written_state n (acts.Look from) p = refl
-written_state n (acts.Post to) p = refl
-written_state n (acts.Close e) p = refl
-written_state n acts.Idle p = refl
 written_state n (acts.Router serial router_acts.Discard) p = go (router_in n serial)
   where
     go : (o : Option Router) → (dropped_part o p).state ≡ p.state
     go None = refl
     go (Some r) = refl
-written_state n (acts.Router serial router_acts.SendOut) p = refl
-written_state n (acts.Router serial router_acts.SendIn) p = refl
-written_state n (acts.Router serial router_acts.FinishOut) p = refl
-written_state n (acts.Router serial router_acts.FinishIn) p = refl
-written_state n (acts.Router serial router_acts.Leave) p = refl
-written_state n (acts.Router serial router_acts.Mark) p = refl
-written_state n (acts.Router serial router_acts.Wake) p = refl
-written_state n (acts.Router serial router_acts.Claim) p = refl
-written_state n (acts.Router serial router_acts.Lock) p = refl
-written_state n (acts.Router serial router_acts.Begin) p = refl
 written_state n (acts.Router serial router_acts.Retire) p = go (router_in n serial)
   where
     go : (o : Option Router) → (retired_part o p).state ≡ p.state
     go None = refl
     go (Some r) = refl
-written_state n (acts.Router serial router_acts.Unlock) p = refl
-written_state n (acts.Router serial router_acts.Rest) p = refl
+written_state n other p = refl
 
 pub act_state : (act : Act) (answer : Answer) (p : Part) → (act_part act answer p).state ≡ commit p.state act answer
 act_state act answer p = written_state p.state act (with_state (commit p.state act answer) p)

@@ -87,20 +87,12 @@ touch_done t p p' (acts.Close end) event touch part is = record { answer = answe
 touch_done t p p' (acts.Router serial act) event touch part is = record { answer = answers.Plain; answered = plain act touch; part = part; event_is = is }
   where
     plain : (act : RouterAct) → is_touch_act (acts.Router serial act) ≡ true → IsAnswered t p (acts.Router serial act) answers.Plain []
-    plain router_acts.SendOut e = (refl, refl)
-    plain router_acts.SendIn e = (refl, refl)
-    plain router_acts.Discard e = (refl, refl)
-    plain router_acts.FinishOut e = (refl, refl)
-    plain router_acts.FinishIn e = (refl, refl)
-    plain router_acts.Leave e = (refl, refl)
-    plain router_acts.Begin e = (refl, refl)
-    plain router_acts.Retire e = (refl, refl)
-    plain router_acts.Rest e = (refl, refl)
     plain router_acts.Mark e = cc
     plain router_acts.Wake e = cc
     plain router_acts.Claim e = cc
     plain router_acts.Lock e = cc
     plain router_acts.Unlock e = cc
+    plain other e = (refl, refl)
 touch_done t p p' other event touch part is = cc
 
 pub touch_acts : (t : TableName) (act : Act) (old mid new : CellState) (event : Happened) → is_touch_act act ≡ true → mid.part ≡ old.part → mid.seen ≡ old.seen → event ≡ event_of mid.part.state act answers.Plain →

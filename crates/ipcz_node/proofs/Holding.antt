@@ -20,10 +20,10 @@ use Rattle.ipcz_router.specs.Calls.{has_place_for, accept, accept_refusal, take_
 use Rattle.ipcz_router.specs.Acts.{way_in}
 use Rattle.ipcz_router.specs.ActEffects.{apply, output_of, item_output, discard_output}
 use Rattle.ipcz_router.specs.declared.act.RouterAct.{RouterAct}
-use Rattle.ipcz_router.specs.declared.act.RouterAct.TheVariants.{SendOut, SendIn, Discard, FinishOut, FinishIn, Leave, Mark, Wake, Claim}
-use Rattle.ipcz_router.specs.declared.act.RouterAct.TheVariants.{Lock, Begin, Retire, Unlock, Rest}
+use Rattle.ipcz_router.specs.declared.act.RouterAct.TheVariants.{SendIn, Discard, Mark, Claim}
+use Rattle.ipcz_router.specs.declared.act.RouterAct.TheVariants.{Lock}
 use Rattle.ipcz_router.specs.declared.act.Answer.{Answer}
-use Rattle.ipcz_router.specs.declared.act.Answer.TheVariants.{Plain, Claimed, NoWord, Marked, Word, Locked, Waiting, Refused}
+use Rattle.ipcz_router.specs.declared.act.Answer.TheVariants.{Plain}
 use Rattle.ipcz_node.specs.Directories.{CanHold, ends_inside, ends_brought, ends_taken, takes_inside, ends_given}
 use Rattle.ipcz_node.proofs.Refiling.{first_of_both, second_of_both}
 use Rattle.ipcz_node.proofs.Written.{remove_absent}
@@ -141,7 +141,6 @@ discarded_weight n (Some item) = omega arith
 pub act_inside : (r : Router) (act : RouterAct) (answer : Answer) →
     ends_inside (apply r act answer) + ends_taken act (output_of r act) ≤ ends_inside r
 unfolding apply output_of takes_inside
-act_inside r SendOut a = omega arith
 act_inside r SendIn a =
     omega (
       arith,
@@ -150,38 +149,10 @@ act_inside r SendIn a =
     )
 act_inside r Discard a =
     omega (arith, taken_from r.in_queue (current_item r.in_queue) refl, discarded_weight r.in_queue.current (current_item r.in_queue))
-act_inside r FinishOut a = omega arith
-act_inside r FinishIn a = omega arith
-act_inside r Leave a = omega arith
-act_inside r Mark (Marked word was) = omega arith
 act_inside r Mark Plain = omega arith
-act_inside r Mark (Claimed i) = omega arith
-act_inside r Mark NoWord = omega arith
-act_inside r Mark (Word w) = omega arith
-act_inside r Mark (Locked w) = omega arith
-act_inside r Mark (Waiting w) = omega arith
-act_inside r Mark (Refused w) = omega arith
-act_inside r Wake a = omega arith
-act_inside r Claim (Claimed i) = omega arith
-act_inside r Claim NoWord = omega arith
 act_inside r Claim Plain = omega arith
-act_inside r Claim (Marked w b) = omega arith
-act_inside r Claim (Word w) = omega arith
-act_inside r Claim (Locked w) = omega arith
-act_inside r Claim (Waiting w) = omega arith
-act_inside r Claim (Refused w) = omega arith
-act_inside r Lock (Locked w) = omega arith
-act_inside r Lock (Waiting w) = omega arith
-act_inside r Lock (Refused w) = omega arith
 act_inside r Lock Plain = omega arith
-act_inside r Lock (Claimed i) = omega arith
-act_inside r Lock NoWord = omega arith
-act_inside r Lock (Marked w b) = omega arith
-act_inside r Lock (Word w) = omega arith
-act_inside r Begin a = omega arith
-act_inside r Retire a = omega arith
-act_inside r Unlock a = omega arith
-act_inside r Rest a = omega arith
+act_inside r other a = omega arith
 
 -- if ends are to come, only memory is wanted
 pub brought_refusal : (r : Router) (link : LinkId) (side : Side) (n : ℕ) (item : Item) →

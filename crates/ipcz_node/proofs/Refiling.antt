@@ -28,10 +28,10 @@ use Rattle.ipcz_edge.specs.Edge.{Edge, finish}
 use Rattle.ipcz_router.specs.Bypass.{bypass_peer}
 use Rattle.ipcz_router.specs.ActEffects.{apply, finish_in, begin_bypass}
 use Rattle.ipcz_router.specs.declared.act.RouterAct.{RouterAct}
-use Rattle.ipcz_router.specs.declared.act.RouterAct.TheVariants.{SendOut, SendIn, Discard, FinishOut, FinishIn, Leave, Mark, Wake, Claim}
-use Rattle.ipcz_router.specs.declared.act.RouterAct.TheVariants.{Lock, Begin, Retire, Unlock, Rest}
+use Rattle.ipcz_router.specs.declared.act.RouterAct.TheVariants.{FinishOut, FinishIn, Leave, Mark, Claim}
+use Rattle.ipcz_router.specs.declared.act.RouterAct.TheVariants.{Lock, Begin}
 use Rattle.ipcz_router.specs.declared.act.Answer.{Answer}
-use Rattle.ipcz_router.specs.declared.act.Answer.TheVariants.{Plain, Claimed, NoWord, Marked, Word, Locked, Waiting, Refused}
+use Rattle.ipcz_router.specs.declared.act.Answer.TheVariants.{Plain}
 use Rattle.ipcz_node.specs.SortedSets.{RoomySet, has}
 use Rattle.ipcz_node.specs.Indexes.{is_filed}
 use Rattle.ipcz_base.specs.Orders.{end_cmp}
@@ -315,9 +315,6 @@ extend_standing r link = record {
 -- an act gives links up, or lets one decay, but takes none
 pub act_standing : (r : Router) (act : RouterAct) (answer : Answer) → FilesWithin 0 r (apply r act answer)
 unfolding apply
-act_standing r SendOut a = record { few = omega (arith, same_links (filing_of r)); closes = λ h. h; stays = refl }
-act_standing r SendIn a = record { few = omega (arith, same_links (filing_of r)); closes = λ h. h; stays = refl }
-act_standing r Discard a = record { few = omega (arith, same_links (filing_of r)); closes = λ h. h; stays = refl }
 act_standing r FinishOut a =
     record {
       few = omega (arith, own_outward (filing_of r), own_inward (filing_of r), own_inward_decaying (filing_of r));
@@ -340,32 +337,9 @@ act_standing r FinishIn a = finishing r.inward refl
           closes = λ h. refl;
           stays = refl;
         })
-act_standing r Leave a = same_standing r
-act_standing r Mark (Marked word was) = record { few = omega (arith, same_links (filing_of r)); closes = λ h. h; stays = refl }
 act_standing r Mark Plain = same_standing r
-act_standing r Mark (Claimed i) = same_standing r
-act_standing r Mark NoWord = same_standing r
-act_standing r Mark (Word w) = same_standing r
-act_standing r Mark (Locked w) = same_standing r
-act_standing r Mark (Waiting w) = same_standing r
-act_standing r Mark (Refused w) = same_standing r
-act_standing r Wake a = record { few = omega (arith, same_links (filing_of r)); closes = λ h. h; stays = refl }
-act_standing r Claim (Claimed i) = record { few = omega (arith, same_links (filing_of r)); closes = λ h. h; stays = refl }
-act_standing r Claim NoWord = record { few = omega (arith, same_links (filing_of r)); closes = λ h. h; stays = refl }
 act_standing r Claim Plain = same_standing r
-act_standing r Claim (Marked w b) = same_standing r
-act_standing r Claim (Word w) = same_standing r
-act_standing r Claim (Locked w) = same_standing r
-act_standing r Claim (Waiting w) = same_standing r
-act_standing r Claim (Refused w) = same_standing r
-act_standing r Lock (Locked w) = record { few = omega (arith, same_links (filing_of r)); closes = λ h. h; stays = refl }
-act_standing r Lock (Waiting w) = record { few = omega (arith, same_links (filing_of r)); closes = λ h. h; stays = refl }
-act_standing r Lock (Refused w) = record { few = omega (arith, same_links (filing_of r)); closes = λ h. h; stays = refl }
 act_standing r Lock Plain = same_standing r
-act_standing r Lock (Claimed i) = same_standing r
-act_standing r Lock NoWord = same_standing r
-act_standing r Lock (Marked w b) = same_standing r
-act_standing r Lock (Word w) = same_standing r
 act_standing r Begin a = beginning r.inward refl
   where
     beginning : (i : Option Edge) → r.inward ≡ i → FilesWithin 0 r (begin_bypass r)
@@ -376,9 +350,7 @@ act_standing r Begin a = beginning r.inward refl
       closes = λ h. refl;
       stays = refl;
     })
-act_standing r Retire a = same_standing r
-act_standing r Unlock a = record { few = omega (arith, same_links (filing_of r)); closes = λ h. h; stays = refl }
-act_standing r Rest a = record { few = omega (arith, same_links (filing_of r)); closes = λ h. h; stays = refl }
+act_standing r other a = record { few = omega (arith, same_links (filing_of r)); closes = λ h. h; stays = refl }
 
 -- a router that leaves a link for a fresh one has one link more
 pub bypass_standing : (r : Router) (target fresh : ℕ) → FilesWithin 1 r (bypass_peer r target fresh)
@@ -447,41 +419,14 @@ accept_stays r false n item = refl
 -- as with each act that keeps its links
 pub act_stays : (r : Router) (act : RouterAct) (answer : Answer) → keeps_links act ≡ true → StaysFiled r (apply r act answer)
 unfolding apply keeps_links
-act_stays r SendOut a keeps = refl
-act_stays r SendIn a keeps = refl
-act_stays r Discard a keeps = refl
 act_stays r FinishOut a keeps = absurd (true≢false (sym keeps))
 act_stays r FinishIn a keeps = absurd (true≢false (sym keeps))
 act_stays r Leave a keeps = absurd (true≢false (sym keeps))
-act_stays r Mark (Marked word was) keeps = refl
 act_stays r Mark Plain keeps = refl
-act_stays r Mark (Claimed i) keeps = refl
-act_stays r Mark NoWord keeps = refl
-act_stays r Mark (Word w) keeps = refl
-act_stays r Mark (Locked w) keeps = refl
-act_stays r Mark (Waiting w) keeps = refl
-act_stays r Mark (Refused w) keeps = refl
-act_stays r Wake a keeps = refl
-act_stays r Claim (Claimed i) keeps = refl
-act_stays r Claim NoWord keeps = refl
 act_stays r Claim Plain keeps = refl
-act_stays r Claim (Marked w b) keeps = refl
-act_stays r Claim (Word w) keeps = refl
-act_stays r Claim (Locked w) keeps = refl
-act_stays r Claim (Waiting w) keeps = refl
-act_stays r Claim (Refused w) keeps = refl
-act_stays r Lock (Locked w) keeps = refl
-act_stays r Lock (Waiting w) keeps = refl
-act_stays r Lock (Refused w) keeps = refl
 act_stays r Lock Plain keeps = refl
-act_stays r Lock (Claimed i) keeps = refl
-act_stays r Lock NoWord keeps = refl
-act_stays r Lock (Marked w b) keeps = refl
-act_stays r Lock (Word w) keeps = refl
 act_stays r Begin a keeps = absurd (true≢false (sym keeps))
-act_stays r Retire a keeps = refl
-act_stays r Unlock a keeps = refl
-act_stays r Rest a keeps = refl
+act_stays r other a keeps = refl
 
 -- what stays at a serial stays at each number
 kept_at : (P : ℕ → Bool) (b : Bool) (s q : ℕ) → P s ≡ b → P q ≡ (if s == q then b else P q)

@@ -32,12 +32,12 @@ pub use Rattle.ipcz_node.specs.Node.{Found, Node, bare_node, outbox, router_in, 
 pub use Rattle.ipcz_node.specs.declared.act.Act.{Act}
 pub use Rattle.ipcz_node.specs.declared.act.Act.TheVariants.{Close, Hand}
 pub use Rattle.ipcz_world.specs.Books.{Books, is_closed, read}
-pub use Rattle.ipcz_world.specs.Bypasses.{BypassRecords, Stages, Told, inner_of, moving_link}
+pub use Rattle.ipcz_world.specs.Bypasses.{BypassRecords, IsBypassRecorded, Stages, Told, inner_of, moving_link}
 unfoldable pub use Rattle.ipcz_world.specs.Bypasses.{control_weight, of_bypass}
 pub use Rattle.ipcz_world.specs.Flows.{IsUnderWay, is_made_before, of_end}
 unfoldable pub use Rattle.ipcz_world.specs.Flows.{makes, moves_of, under_way}
 pub use Rattle.ipcz_world.specs.Inv.{Inv}
-pub use Rattle.ipcz_world.specs.Numbers.{FreshNumbers, Items, Order, ProxyNumbers}
+pub use Rattle.ipcz_world.specs.Numbers.{FreshNumbers, HasFreshNumbers, Items, Order, ProxyNumbers}
 unfoldable pub use Rattle.ipcz_world.specs.Numbers.{has_passed, standing_router}
 pub use Rattle.ipcz_world.specs.Places.{Weight, at_end, names_end, times}
 unfoldable pub use Rattle.ipcz_world.specs.Places.{in_router}
@@ -52,7 +52,7 @@ unfoldable pub use Rattle.ipcz_world.specs.Steps.{unless}
 pub use Rattle.ipcz_world.specs.Structure.{Counts, HasLinks, HasPositions, HasShape, IsOrdered, IsRecorded, Links, Ordered, Positions, Shape, Spares, Stands, Words}
 unfoldable pub use Rattle.ipcz_world.specs.Structure.{is_outward}
 unfoldable pub use Rattle.ipcz_world.specs.Turns.{after_act, can_take, hand_message}
-pub use Rattle.ipcz_world.specs.Whereabouts.{BooksKept, Conserved, EndPlaces, HeldOnce, Terminals, times_held}
+pub use Rattle.ipcz_world.specs.Whereabouts.{BooksKept, Conserved, EndPlaces, HasEndsHere, HasTerminal, HeldOnce, Terminals, times_held}
 unfoldable pub use Rattle.ipcz_world.specs.WordAnswers.{answer_of}
 pub use Rattle.ipcz_world.specs.World.{Key, World, set_router, way}
 unfoldable pub use Rattle.ipcz_world.specs.World.{flow, mail_at, messages_in, node_at, router_at, same_key, set_claimed, set_mail}

@@ -1,6 +1,7 @@
 -- Frames: what is read of a world after a change, and one lemma for each group of the invariant over each relation between a world and the
 -- next.
 pub mod BegunLengths
+pub mod BypassesKept
 pub mod Calling
 pub mod Changing
 pub mod Counting
@@ -8,6 +9,7 @@ pub mod Departing
 pub mod Draining
 pub mod EachKept
 pub mod Ended
+pub mod EndsKept
 pub mod Filling
 pub mod FillingNumbers
 pub mod FirstLink

@@ -30,30 +30,33 @@ inner_of g o = inner_link (g.bypass o).inner
 abbrev pub fresh_of : Records → ℕ → LinkId
 fresh_of g o = Central (g.bypass o).fresh
 
--- what a bypass's record has to do with those of its links
-pub record BypassRecords (w : World) (g : Records) : Type 0 where
-  pub stage : (o : ℕ) → (g.bypass o).stage ≤ 5
-  pub old : (o : ℕ) → is_begun (g.bypass o) ≡ true → is_linked (g.owner o) ≡ true
-  pub inner : (o : ℕ) → is_begun (g.bypass o) ≡ true → is_recorded w g (inner_of g o) ≡ true
-  pub inner_by : (o : ℕ) → is_begun (g.bypass o) ≡ true → (g.peripheral (g.bypass o).inner).by ≡ Some o
-  pub pair : (o : ℕ) → is_begun (g.bypass o) ≡ true → (g.peripheral (g.bypass o).inner).end.pair ≡ (g.central o).pair
-  pub proxy_old : (o : ℕ) → is_begun (g.bypass o) ≡ true → side_router g (Central o) (proxy_side g o) ≡ Some (g.bypass o).proxy
-  pub proxy_inner : (o : ℕ) → is_begun (g.bypass o) ≡ true → side_router g (inner_of g o) A ≡ Some (g.bypass o).proxy
-  pub across : (o : ℕ) → is_begun (g.bypass o) ≡ true → is_some (side_router g (Central o) (across_side g o)) ≡ true
-  pub fresh : (o : ℕ) → (g.bypass o).stage ≡ 1 → g.owner (g.bypass o).fresh ≡ Fresh o
-  pub fresh_linked : (o : ℕ) → 2 ≤ (g.bypass o).stage → g.owner (g.bypass o).fresh ≡ Linked
-  pub fresh_born : (o : ℕ) → 2 ≤ (g.bypass o).stage → (g.central (g.bypass o).fresh).born ≡ Some o
-  pub fresh_pair : (o : ℕ) → 2 ≤ (g.bypass o).stage → (g.central (g.bypass o).fresh).pair ≡ (g.central o).pair
-  pub inner_known : (o : ℕ) → 2 ≤ (g.bypass o).stage → is_some (side_router g (inner_of g o) B) ≡ true
-  pub fresh_inner : (o : ℕ) → 2 ≤ (g.bypass o).stage → side_router g (fresh_of g o) (proxy_side g o) ≡ side_router g (inner_of g o) B
-  pub fresh_inner_node : (o : ℕ) → 2 ≤ (g.bypass o).stage → side_node g (fresh_of g o) (proxy_side g o) ≡ side_node g (inner_of g o) B
-  pub fresh_across_node : (o : ℕ) → 2 ≤ (g.bypass o).stage →
+-- what the record of a bypass has to do with those of its links
+pub record IsBypassRecorded (w : World) (g : Records) (o : ℕ) : Type 0 where
+  pub stage : (g.bypass o).stage ≤ 5
+  pub old : is_begun (g.bypass o) ≡ true → is_linked (g.owner o) ≡ true
+  pub inner : is_begun (g.bypass o) ≡ true → is_recorded w g (inner_of g o) ≡ true
+  pub inner_by : is_begun (g.bypass o) ≡ true → (g.peripheral (g.bypass o).inner).by ≡ Some o
+  pub pair : is_begun (g.bypass o) ≡ true → (g.peripheral (g.bypass o).inner).end.pair ≡ (g.central o).pair
+  pub proxy_old : is_begun (g.bypass o) ≡ true → side_router g (Central o) (proxy_side g o) ≡ Some (g.bypass o).proxy
+  pub proxy_inner : is_begun (g.bypass o) ≡ true → side_router g (inner_of g o) A ≡ Some (g.bypass o).proxy
+  pub across : is_begun (g.bypass o) ≡ true → is_some (side_router g (Central o) (across_side g o)) ≡ true
+  pub fresh : (g.bypass o).stage ≡ 1 → g.owner (g.bypass o).fresh ≡ Fresh o
+  pub fresh_linked : 2 ≤ (g.bypass o).stage → g.owner (g.bypass o).fresh ≡ Linked
+  pub fresh_born : 2 ≤ (g.bypass o).stage → (g.central (g.bypass o).fresh).born ≡ Some o
+  pub fresh_pair : 2 ≤ (g.bypass o).stage → (g.central (g.bypass o).fresh).pair ≡ (g.central o).pair
+  pub inner_known : 2 ≤ (g.bypass o).stage → is_some (side_router g (inner_of g o) B) ≡ true
+  pub fresh_inner : 2 ≤ (g.bypass o).stage → side_router g (fresh_of g o) (proxy_side g o) ≡ side_router g (inner_of g o) B
+  pub fresh_inner_node : 2 ≤ (g.bypass o).stage → side_node g (fresh_of g o) (proxy_side g o) ≡ side_node g (inner_of g o) B
+  pub fresh_across_node : 2 ≤ (g.bypass o).stage →
       side_node g (fresh_of g o) (across_side g o) ≡ side_node g (Central o) (across_side g o)
-  pub fresh_awaited : (o : ℕ) → (g.bypass o).stage ≡ 2 → side_router g (fresh_of g o) (across_side g o) ≡ None
-  pub fresh_across : (o : ℕ) → 3 ≤ (g.bypass o).stage →
+  pub fresh_awaited : (g.bypass o).stage ≡ 2 → side_router g (fresh_of g o) (across_side g o) ≡ None
+  pub fresh_across : 3 ≤ (g.bypass o).stage →
       side_router g (fresh_of g o) (across_side g o) ≡ side_router g (Central o) (across_side g o)
-  pub born_fresh : (i o : ℕ) → is_linked (g.owner i) ≡ true → (g.central i).born ≡ Some o → (g.bypass o).fresh ≡ i
-  pub born_stage : (i o : ℕ) → is_linked (g.owner i) ≡ true → (g.central i).born ≡ Some o → 2 ≤ (g.bypass o).stage
+  pub born_fresh : (i : ℕ) → is_linked (g.owner i) ≡ true → (g.central i).born ≡ Some o → (g.bypass o).fresh ≡ i
+  pub born_stage : (i : ℕ) → is_linked (g.owner i) ≡ true → (g.central i).born ≡ Some o → 2 ≤ (g.bypass o).stage
+
+abbrev pub BypassRecords : World → Records → Type 0
+BypassRecords w g = (o : ℕ) → IsBypassRecorded w g o
 
 -- of the links of one pair at most one is live, which no bypass takes away; if a bypass has begun and its fresh link isn't taken yet, none
 -- is, and it is the only such bypass of its pair

@@ -11,7 +11,8 @@ use Rattle.ipcz_base.specs.declared.message.Message.TheVariants as messages
 use Rattle.ipcz_base.specs.Sides.{opposite}
 use Rattle.ipcz_seq.specs.Queue.{Queue, item_at}
 use Rattle.ipcz_router.specs.Router.{Router, inward_edge}
-use Rattle.ipcz_world.specs.World.{World, Key, router_at}
+use Rattle.ipcz_world.specs.World.{World, router_at}
+use Rattle.ipcz_world.specs.Each.{EachRouter}
 use Rattle.ipcz_world.specs.Records.{Records, is_recorded, is_left, side_node, side_length, across_side}
 use Rattle.ipcz_world.specs.Flows.{IsUnderWay, is_made_before}
 use Rattle.ipcz_world.specs.Standing.{View, Awaited, Waiting, Standing, Gone, view, next_sent, taking_queue, may_have_sent, is_gone}
@@ -93,13 +94,15 @@ standing_router (Standing r) = Some r
 standing_router Gone = None
 
 -- a router with a fresh and a decaying link has passed its own length, and over the fresh link comes only what is from the other length on
-pub record FreshNumbers (w : World) (g : Records) : Type 0 where
-  pub own : (k : Key) (r : Router) (p d : LinkEnd) (length : ℕ) → router_at w k ≡ Some r → r.outward.primary ≡ Some p →
-      r.outward.decaying ≡ Some d → r.outward.length_to ≡ Some length → length ≤ r.out_queue.current
-  pub comes : (k : Key) (r : Router) (p d : LinkEnd) (length from to i n : ℕ) (item : Item) (moves : List Descriptor) →
-      router_at w k ≡ Some r → r.outward.primary ≡ Some p → r.outward.decaying ≡ Some d →
-      side_length g d.link (opposite d.side) ≡ Some length → IsItemUnderWay w from to i p.link p.side n item moves → length ≤ n
-  pub other : (k : Key) (r q : Router) (p d : LinkEnd) (length : ℕ) → router_at w k ≡ Some r → r.outward.primary ≡ Some p →
-      r.outward.decaying ≡ Some d →
+pub record HasFreshNumbers (w : World) (g : Records) (r : Router) : Type 0 where
+  pub own : (p d : LinkEnd) (length : ℕ) → r.outward.primary ≡ Some p → r.outward.decaying ≡ Some d →
+      r.outward.length_to ≡ Some length → length ≤ r.out_queue.current
+  pub comes : (p d : LinkEnd) (length from to i n : ℕ) (item : Item) (moves : List Descriptor) → r.outward.primary ≡ Some p →
+      r.outward.decaying ≡ Some d → side_length g d.link (opposite d.side) ≡ Some length →
+      IsItemUnderWay w from to i p.link p.side n item moves → length ≤ n
+  pub other : (q : Router) (p d : LinkEnd) (length : ℕ) → r.outward.primary ≡ Some p → r.outward.decaying ≡ Some d →
       side_length g d.link (opposite d.side) ≡ Some length → standing_router (view w g p.link (opposite p.side)) ≡ Some q →
       length ≤ q.out_queue.current
+
+abbrev pub FreshNumbers : World → Records → Type 0
+FreshNumbers w g = EachRouter w (λ k r. HasFreshNumbers w g r)

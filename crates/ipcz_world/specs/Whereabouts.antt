@@ -21,6 +21,7 @@ use Rattle.ipcz_router.specs.Calls.{next_number}
 use Rattle.ipcz_base.specs.Items.{ends_in}
 use Rattle.ipcz_node.specs.Node.{holds_end}
 use Rattle.ipcz_world.specs.World.{World, Key, node_at, router_at}
+use Rattle.ipcz_world.specs.Each.{EachRouter}
 use Rattle.ipcz_world.specs.Books.{Books, read, is_closed, is_retired}
 use Rattle.ipcz_world.specs.Records.{Records, At, Retired, routes_of, is_linked, is_begun, is_recorded, is_left, across_side, side_end, terminal_node, is_nowhere}
 use Rattle.ipcz_base.specs.Totals.{total_below}
@@ -28,25 +29,33 @@ use Rattle.ipcz_world.specs.Flows.{IsUnderWay, moves_of}
 use Rattle.ipcz_world.specs.Places.{in_places, at_end, names_end, times, unread_weight}
 use Rattle.ipcz_world.specs.Standing.{key_passes}
 
+-- a router's end was opened, and a terminal is that of its end
+pub record HasTerminal (g : Records) (k : Key) (r : Router) : Type 0 where
+  pub terminal : is_terminal r ≡ true → g.terminal r.end ≡ At k
+  pub opened : is_nowhere (g.terminal r.end) ≡ false
+
 -- each end of an opened pair has one terminal, or one that is to be made
 pub record Terminals (w : World) (g : Records) : Type 0 where
-  pub terminal : (k : Key) (r : Router) → router_at w k ≡ Some r → is_terminal r ≡ true → g.terminal r.end ≡ At k
+  pub each : EachRouter w (HasTerminal g)
   pub stands : (e : End) (k : Key) → g.terminal e ≡ At k → key_passes w (Some k) (λ r. is_terminal r && same_end r.end e) ≡ true
-  pub opened : (k : Key) (r : Router) → router_at w k ≡ Some r → is_nowhere (g.terminal r.end) ≡ false
   pub link_opened : (link : LinkId) (s : Side) → is_recorded w g link ≡ true → is_nowhere (g.terminal (side_end g link s)) ≡ false
   pub unopened : (e : End) → is_linked (g.owner e.pair) ≡ false → is_nowhere (g.terminal e) ≡ true
   pub other_pair : (e : End) → is_linked (g.owner e.pair) ≡ true → nat_eq (g.central e.pair).pair e.pair ≡ false →
       is_nowhere (g.terminal e) ≡ true
   pub both : (e : End) → is_nowhere (g.terminal (opposite_end e)) ≡ is_nowhere (g.terminal e)
 
--- an end that is held, pending, in a queue of a node, or under way within a node has its terminal at this node
+-- an end in a queue of a router has its terminal at the router's node
+pub record HasEndsHere (g : Records) (k : Key) (r : Router) : Type 0 where
+  pub out : (n : ℕ) (item : Item) (e : End) → item_at r.out_queue n ≡ Some item → has_end e (ends_in item) ≡ true →
+      terminal_node (g.terminal e) ≡ Some k.node
+  pub inn : (n : ℕ) (item : Item) (e : End) → item_at r.in_queue n ≡ Some item → has_end e (ends_in item) ≡ true →
+      terminal_node (g.terminal e) ≡ Some k.node
+
+-- and so has one that is held, pending, or under way within a node, at this node
 pub record EndPlaces (w : World) (g : Records) : Type 0 where
   pub held : (n : ℕ) (e : End) → holds_end (node_at w n) e ≡ true → terminal_node (g.terminal e) ≡ Some n
   pub pending : (n : ℕ) (e : End) → has_end e (node_at w n).pending ≡ true → terminal_node (g.terminal e) ≡ Some n
-  pub out : (k : Key) (r : Router) (n : ℕ) (item : Item) (e : End) → router_at w k ≡ Some r → item_at r.out_queue n ≡ Some item →
-      has_end e (ends_in item) ≡ true → terminal_node (g.terminal e) ≡ Some k.node
-  pub inn : (k : Key) (r : Router) (n : ℕ) (item : Item) (e : End) → router_at w k ≡ Some r → item_at r.in_queue n ≡ Some item →
-      has_end e (ends_in item) ≡ true → terminal_node (g.terminal e) ≡ Some k.node
+  pub each : EachRouter w (HasEndsHere g)
   pub within : (n i : ℕ) (link : LinkId) (s : Side) (number : ℕ) (item : Item) (moves : List Descriptor) (e : End) →
       IsUnderWay w n n i (messages.Item link s number item moves) → has_end e (ends_in item) ≡ true →
       terminal_node (g.terminal e) ≡ Some n

@@ -41,6 +41,8 @@ use Rattle.ipcz_router.specs.ActTable.{is_done}
 use Rattle.std.proofs.lemmas.Bool.{or_left}
 use Rattle.std.specs.Prelude.{◌||◌, ◌&&◌}
 use Rattle.ipcz_world.proofs.weights.Sourcing.{places-sources}
+use Rattle.ipcz_world.proofs.frames.BypassesKept.{bypasses-alike, same_bypass}
+use Rattle.ipcz_world.proofs.Vocabulary.{inner_link}
 
 pub inv-claim : (w : World) (b : Books) (g : Records) (k : Key) (r : Router) → Inv w b g → CanAct w k r acts.Claim → w.claimed < w.size →
     Inv (claim_act w k r) b (claim_records g k w.claimed)
@@ -101,28 +103,17 @@ inv-claim w b g k r law can left = record {
     fresh_back = λ o j e. grind (arith, law.spares.fresh_back o j, e, nat_tests);
   };
   live = live-kept g _ (λ j l. sym (linked j) ∙ l) (λ j. refl) (λ o s. s) (λ o. refl) law.live;
-  bypasses = record {
-    stage = law.bypasses.stage;
-    old = λ j a. linked j ∙ law.bypasses.old j a;
-    inner = λ j a. recorded _ ∙ law.bypasses.inner j a;
-    inner_by = law.bypasses.inner_by;
-    pair = law.bypasses.pair;
-    proxy_old = law.bypasses.proxy_old;
-    proxy_inner = law.bypasses.proxy_inner;
-    across = law.bypasses.across;
-    fresh = λ j a. owner (g.bypass j).fresh (Fresh j) (law.bypasses.fresh j a) (λ e. grind (arith, e, mine));
-    fresh_linked = λ j a. owner (g.bypass j).fresh Linked (law.bypasses.fresh_linked j a) (λ e. grind (arith, e, mine));
-    fresh_born = law.bypasses.fresh_born;
-    fresh_pair = law.bypasses.fresh_pair;
-    inner_known = law.bypasses.inner_known;
-    fresh_inner = law.bypasses.fresh_inner;
-    fresh_inner_node = law.bypasses.fresh_inner_node;
-    fresh_across_node = law.bypasses.fresh_across_node;
-    fresh_awaited = law.bypasses.fresh_awaited;
-    fresh_across = law.bypasses.fresh_across;
-    born_fresh = λ j o l e. law.bypasses.born_fresh j o (sym (linked j) ∙ l) e;
-    born_stage = λ j o l e. law.bypasses.born_stage j o (sym (linked j) ∙ l) e;
-  };
+  bypasses = bypasses-alike {w = w}
+      (record {
+        same = λ o. same_bypass (g.bypass o);
+        central = λ i. refl;
+        peripheral = λ p. refl;
+        linked = linked;
+        link = λ j e. owner j Linked e (λ f. grind (arith, f, mine));
+        fresh = λ o j e. owner j (Fresh o) e (λ f. grind (arith, f, mine));
+        recorded = λ p. recorded (inner_link p);
+      })
+      law.bypasses;
   stages = stages-owned v b g i (Spare k) unlinked refl (stages-flags w v g k r (Some y) gives (stays_bare r y) settled law.stages
       (λ o a d. flag (λ z. z.marked) refl _ ∙ law.stages.across_marked o a d)
       (λ o a d. flag (λ z. not z.holds) refl _ ∙ law.stages.across_free o a d));
@@ -130,7 +121,12 @@ inv-claim w b g k r law can left = record {
   moves = moves-owned v b g i (Spare k) unlinked refl (moves-same w v g (same-messages one) law.moves);
   terminals = terminals-owned v b g i (Spare k) unlinked refl (terminals-gives w v g k r (Some y) gives (stays_bare r y).no_terminal law.terminals);
   end_places = let e = end_places-gives w v g k r (Some y) gives law.end_places in
-      record { held = e.held; pending = e.pending; out = e.out; inn = e.inn; within = e.within };
+      record {
+        held = e.held;
+        pending = e.pending;
+        each = λ q z at. let is = e.each q z at in record { out = is.out; inn = is.inn };
+        within = e.within;
+      };
   books_kept = let e = books-gives w v b g k r (Some y) gives law.books_kept in
       record {
         own_pair = e.own_pair;

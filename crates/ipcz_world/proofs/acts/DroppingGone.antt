@@ -98,7 +98,7 @@ module _ (w : World) (b : Books) (g : Records) (k : Key) (r : Router) (law : Inv
   h' = h (near-inv dropped) leaver gives keeps
 
   pub at : h'.terminal r.end ≡ At k
-  at = law.terminals.terminal k r here terminal
+  at = (law.terminals.each k r here).terminal terminal
 
   abbrev pub t : Records
   t = ends.ended v c h' r.end k at
@@ -116,11 +116,12 @@ module _ (w : World) (b : Books) (g : Records) (k : Key) (r : Router) (law : Inv
   terminals : Terminals v t
   unfolding side_end
   terminals = record {
-    terminal = λ q z a s. let o = other q z a in
-        ends.other-ended v c h' r.end k at z.end (λ e. absurd (o.1 (same_at (sym (off_terminals.terminal q z o.0 s) ∙ ap h'.terminal e ∙ at)))) ∙
-        off_terminals.terminal q z o.0 s;
+    each = λ q z a. let o = other q z a in let is = off_terminals.each q z o.0 in record {
+      terminal = λ s. ends.other-ended v c h' r.end k at z.end
+          (λ e. absurd (o.1 (same_at (sym (is.terminal s) ∙ ap h'.terminal e ∙ at)))) ∙ is.terminal s;
+      opened = ends.nowhere-ended v c h' r.end k at z.end ∙ is.opened;
+    };
     stands = λ d q a. stood d q a (end_tells d r.end);
-    opened = λ q z a. ends.nowhere-ended v c h' r.end k at z.end ∙ off_terminals.opened q z (other q z a).0;
     link_opened = λ l s a. ends.nowhere-ended v c h' r.end k at (side_end h' l s) ∙
         off_terminals.link_opened l s (sym (recorded-same u v h' l (same-messages one)) ∙ sym (recorded-t l) ∙ a);
     both = λ d. ends.nowhere-ended v c h' r.end k at (opposite_end d) ∙ off_terminals.both d ∙ sym (ends.nowhere-ended v c h' r.end k at d);

@@ -276,7 +276,7 @@ come-in w b g k r l s law here done is = subst (λ t. HasCome w g r t s) (sym in
         done.length_from)
 
     by : (g.peripheral (g.bypass o).inner).by ≡ Some o
-    by = law.bypasses.inner_by o told.is.begun
+    by = (law.bypasses o).inner_by told.is.begun
 
     come : HasCome w g r (inner_of g o) A
     come = record {
@@ -354,7 +354,7 @@ inner-sent w b g r o q law stands come at stage = go (inward_edge q).decaying re
     is = record { begun = begun-since g o 3 (omega arith) stage; proxy = refl; here = at }
 
     length : side_length g (inner_of g o) A ≡ Some (g.bypass o).accepted_at
-    length = length-inward g (g.bypass o).inner o (law.bypasses.inner_by o is.begun) stage
+    length = length-inward g (g.bypass o).inner o ((law.bypasses o).inner_by is.begun) stage
 
     go : (d : Option LinkEnd) → (inward_edge q).decaying ≡ d → (g.bypass o).accepted_at ≤ q.in_queue.current
     go None e = law.proxy_numbers.in_finished o q at (proxy-late_inward law is e) e
@@ -441,7 +441,7 @@ inv-finish_out w b g k r law can = inv-gives w (finish_out_act w k r) b g k r (S
         let t : HasEnd r.outward.decaying (inner_of g o) B = has_link-tells r.outward.decaying (inner_of g o) B h in
         let own : IsKnown 5 (g.bypass o).stage (g.bypass o).accepted_at done.from
         = known_from-tells 5 _ _ _ (sym ((law.positions.each k r can.here).inner_from t.end (g.bypass o).inner o t.there t.on_link
-        (law.bypasses.inner_by o (begun-since g o 2 (omega arith) c))) ∙ done.length_from) in
+        ((law.bypasses o).inner_by (begun-since g o 2 (omega arith) c))) ∙ done.length_from) in
         omega (arith, own.since)
 
     settled : Settled w (finish_out_act w k r) g k r (Some (finish_out r))

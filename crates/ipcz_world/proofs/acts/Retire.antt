@@ -118,7 +118,7 @@ module _ (w : World) (b : Books) (g : Records) (k : Key) (r : Router) (i : ℕ) 
   h' = h (near-inv law) leaver gives keeps
 
   pub at : h'.terminal e ≡ At k
-  at = law.terminals.terminal k r here terminal
+  at = (law.terminals.each k r here).terminal terminal
 
   abbrev pub t : Records
   t = ends.ended u b h' e k at
@@ -257,7 +257,7 @@ module _ (w : World) (b : Books) (g : Records) (k : Key) (r : Router) (i : ℕ) 
       go (inr f) = (sym (one.routers q ∙ ap (λ b. cond b None (router_at w q)) f.0) ∙ a, f.1)
 
   lone : (q : Key) (y : Router) → router_at u q ≡ Some y → is_terminal y ≡ true → y.end ≢ e
-  lone q y a l f = (stood q y a).1 (same_at (sym (law.terminals.terminal q y (stood q y a).0 l) ∙ ap g.terminal f ∙ at))
+  lone q y a l f = (stood q y a).1 (same_at (sym ((law.terminals.each q y (stood q y a).0).terminal l) ∙ ap g.terminal f ∙ at))
     where
       same_at : At q ≡ At k → q ≡ k
       same_at h = cc
@@ -393,10 +393,11 @@ module _ (w : World) (b : Books) (g : Records) (k : Key) (r : Router) (i : ℕ) 
   terminals : Terminals v t
   unfolding side_end
   terminals = record {
-    terminal = λ q y a l. let o = stood q y (sym (router_v q) ∙ a) in
-        ends.other-ended u b h' e k at y.end (lone q y (sym (router_v q) ∙ a) l) ∙ off_terminals.terminal q y o.0 l;
+    each = λ q y a. let o = off_terminals.each q y (stood q y (sym (router_v q) ∙ a)).0 in record {
+      terminal = λ l. ends.other-ended u b h' e k at y.end (lone q y (sym (router_v q) ∙ a) l) ∙ o.terminal l;
+      opened = ends.nowhere-ended u b h' e k at y.end ∙ o.opened;
+    };
     stands = λ d q a. seen d q a (end_tells d e);
-    opened = λ q y a. ends.nowhere-ended u b h' e k at y.end ∙ off_terminals.opened q y (stood q y (sym (router_v q) ∙ a)).0;
     link_opened = λ l p a. ends.nowhere-ended u b h' e k at (side_end h' l p) ∙ off_terminals.link_opened l p
         (sym (recorded-same w u h' l (same-messages one)) ∙ sym (ends.recorded-ended u b h' e k at l) ∙
         sym (recorded_same u v z.key z.router z.router t touched l) ∙ a);

@@ -129,8 +129,8 @@ module _ (w : World) (b : Books) (g : Records) (k : Key) (r : Router) (i : ℕ) 
         where
           later : 2 ≤ (g.bypass o).stage → (c : Bool) → is_begun (g.bypass f) ≡ c → (d : Bool) → nat_eq (g.bypass o).stage 2 ≡ d → ⊥
           later a false fl d e =
-              let linked_f : is_linked (g.owner f) ≡ true = ap is_linked (law.bypasses.fresh_linked o a) in
-              let pair_f : (g.central f).pair ≡ (g.central i).pair = law.bypasses.fresh_pair o a ∙ p ∙ sym pair_is in
+              let linked_f : is_linked (g.owner f) ≡ true = ap is_linked ((law.bypasses o).fresh_linked a) in
+              let pair_f : (g.central f).pair ≡ (g.central i).pair = (law.bypasses o).fresh_pair a ∙ p ∙ sym pair_is in
               let same : f ≡ i = law.live.one_live f i linked_f on.linked pair_f fl live in
               fresh_here same d e
             where
@@ -138,29 +138,30 @@ module _ (w : World) (b : Books) (g : Records) (k : Key) (r : Router) (i : ℕ) 
               fresh_here same true e =
                   let two : (g.bypass o).stage ≡ 2 = grind (arith, e, nat_tests) in
                   let none : side_router g (Central i) (across_side g o) ≡ None =
-                  ap (λ n. side_router g (Central n) (across_side g o)) (sym same) ∙ law.bypasses.fresh_awaited o two in
+                  ap (λ n. side_router g (Central n) (across_side g o)) (sym same) ∙ (law.bypasses o).fresh_awaited two in
                   grind (arith, standing_rules, marked_at (across_side g o), none)
               fresh_here same false e =
                   let three : 3 ≤ (g.bypass o).stage = grind (arith, a, e, nat_tests) in
                   let z = known_tells w (side_router g (inner_of g o) B) (has_decaying (inner_of g o) B) (law.stages.inner_decaying o a m) in
                   let at : side_router g (Central i) (proxy_side g o) ≡ Some z.key =
-                  ap (λ n. side_router g (Central n) (proxy_side g o)) (sym same) ∙ law.bypasses.fresh_inner o a ∙ z.is in
+                  ap (λ n. side_router g (Central n) (proxy_side g o)) (sym same) ∙ (law.bypasses o).fresh_inner a ∙ z.is in
                   let marked : z.router.marked ≡ true = grind (arith, standing_rules, marked_at (proxy_side g o), at, z.at) in
                   let has = has_link-tells z.router.outward.decaying (inner_of g o) B z.passed in
                   grind (arith, (law.shape z.key z.router z.at).marked_still marked, has.there)
           later a true fl true e =
               let two : (g.bypass o).stage ≡ 2 = grind (arith, e, nat_tests) in
-              let none = law.bypasses.fresh_awaited o two in
+              let none = (law.bypasses o).fresh_awaited two in
               elim (either_side (across_side g o) (proxy_side g f)) [
-                | inl s ↦ none-some (g.bypass f).proxy (sym none ∙ ap (side_router g (Central f)) s ∙ law.bypasses.proxy_old f fl)
-                | inr s ↦ let t = some_is (side_router g (Central f) (across_side g f)) (law.bypasses.across f fl) in
+                | inl s ↦ none-some (g.bypass f).proxy (sym none ∙ ap (side_router g (Central f)) s ∙ (law.bypasses f).proxy_old fl)
+                | inr s ↦ let t = some_is (side_router g (Central f) (across_side g f)) ((law.bypasses f).across fl) in
                     none-some t.0 (sym none ∙ ap (side_router g (Central f)) s ∙ t.1)
               ]
           later a true fl false e =
               let z = known_tells w (side_router g (inner_of g o) B) (has_decaying (inner_of g o) B) (law.stages.inner_decaying o a m) in
               let has = has_link-tells z.router.outward.decaying (inner_of g o) B z.passed in
               let to : link_in z.router.outward.primary ≡ Some (Central f) =
-              (law.positions.each z.key z.router z.at).inner_fresh has.end (g.bypass o).inner o has.there has.on_link (law.bypasses.inner_by o begun_o) in
+              (law.positions.each z.key z.router z.at).inner_fresh has.end (g.bypass o).inner o has.there has.on_link
+                  ((law.bypasses o).inner_by begun_o) in
               over z.key z.router z.at has.end has.there z.router.outward.primary refl to
             where
               over : (q : Key) (z : Router) → router_at w q ≡ Some z → (d : LinkEnd) → z.outward.decaying ≡ Some d →
@@ -229,10 +230,10 @@ module _ (w : World) (b : Books) (g : Records) (k : Key) (r : Router) (i : ℕ) 
       l = same_Some d.link (Central n) t
 
       linked : is_linked (g.owner n) ≡ true
-      linked = ap is_linked (law.bypasses.fresh_linked o two)
+      linked = ap is_linked ((law.bypasses o).fresh_linked two)
 
       pair_n : (g.central n).pair ≡ r.end.pair
-      pair_n = law.bypasses.fresh_pair o two ∙ pair
+      pair_n = (law.bypasses o).fresh_pair two ∙ pair
 
       go : (c : Bool) → is_begun (g.bypass n) ≡ c → decays y ≡ false
       go true f = let low = (law.positions.each q y at).primary_old d n p l f in
@@ -308,7 +309,8 @@ module _ (w : World) (b : Books) (g : Records) (k : Key) (r : Router) (i : ℕ) 
               by = sym (ap (bypass_of g) m) ∙ b
 
               pair_o : (g.central o).pair ≡ r.end.pair
-              pair_o = sym (law.bypasses.pair o (law.stands.by_begun p o by)) ∙ ap (λ z. (g.peripheral z).end.pair) (law.stands.by_inner p o by) ∙
+              pair_o = sym ((law.bypasses o).pair (law.stands.by_begun p o by)) ∙
+                  ap (λ z. (g.peripheral z).end.pair) (law.stands.by_inner p o by) ∙
                   sym (ap (λ z. z.pair) rec.end ∙ ap (λ l. (side_end g l e.side).pair) m) ∙ pair
 
   -- a router stands across

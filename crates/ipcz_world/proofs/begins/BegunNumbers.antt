@@ -129,18 +129,20 @@ module _ {w v : World} {b : Books} {g : Records} {k : Key} {r y : Router} {p : K
 
   pub terminals-begun : Terminals v after
   terminals-begun = record {
-    terminal = λ q z at t. elim (was_there q z at) [
-      | inl a ↦ law.terminals.terminal q z a.0 t
-      | inr a ↦ absurd
-          (grind (arith, a.1, new.terminal, t))
-    ];
+    each = λ q z at. record {
+      terminal = λ t. elim (was_there q z at) [
+        | inl a ↦ (law.terminals.each q z a.0).terminal t
+        | inr a ↦ absurd
+            (grind (arith, a.1, new.terminal, t))
+      ];
+      opened = elim (was_there q z at) [
+        | inl a ↦ (law.terminals.each q z a.0).opened
+        | inr a ↦ ap (λ t. is_nowhere (g.terminal t.end)) a.1
+            ∙ ap (λ t. is_nowhere (g.terminal t)) new.end ∙ (law.terminals.each k r is.here).opened
+      ];
+    };
     stands = λ e q t. passes-begun law is c new _ (Some q)
         (law.terminals.stands e q t) (λ u f. absurd (grind (arith, is.proxy, f)));
-    opened = λ q z at. elim (was_there q z at) [
-      | inl a ↦ law.terminals.opened q z a.0
-      | inr a ↦ ap (λ t. is_nowhere (g.terminal t.end)) a.1
-          ∙ ap (λ t. is_nowhere (g.terminal t)) new.end ∙ law.terminals.opened k r is.here
-    ];
     link_opened = λ l s a. ap (λ t. is_nowhere (g.terminal t)) (end-begun g k o fresh p l s) ∙ law.terminals.link_opened l s
         (sym (rec l) ∙ a);
     both = law.terminals.both;
@@ -152,16 +154,18 @@ module _ {w v : World} {b : Books} {g : Records} {k : Key} {r y : Router} {p : K
   end_places-begun = record {
     held = λ n e a. law.end_places.held n e (sym (ap (holds e) (c.nodes n).held) ∙ a);
     pending = λ n e a. law.end_places.pending n e (sym (ap (has_end e) (c.nodes n).pending) ∙ a);
-    out = λ q z n item e at i d. elim (was_there q z at) [
-      | inl a ↦ law.end_places.out q z n item e a.0 i d
-      | inr a ↦ grind
-          (arith, a, new.out_queue, law.end_places.out k r n item e is.here, i, d)
-    ];
-    inn = λ q z n item e at i d. elim (was_there q z at) [
-      | inl a ↦ law.end_places.inn q z n item e a.0 i d
-      | inr a ↦ grind
-          (arith, a, new.in_queue, law.end_places.inn k r n item e is.here, i, d)
-    ];
+    each = λ q z at. record {
+      out = λ n item e i d. elim (was_there q z at) [
+        | inl a ↦ (law.end_places.each q z a.0).out n item e i d
+        | inr a ↦ grind
+            (arith, a, new.out_queue, (law.end_places.each k r is.here).out n item e, i, d)
+      ];
+      inn = λ n item e i d. elim (was_there q z at) [
+        | inl a ↦ (law.end_places.each q z a.0).inn n item e i d
+        | inr a ↦ grind
+            (arith, a, new.in_queue, (law.end_places.each k r is.here).inn n item e, i, d)
+      ];
+    };
     within = λ n i l s number item moves e u d. item-came n n i l s number item moves u
         (λ f. law.end_places.within n f.at l s number item moves e f.was d);
   }
@@ -290,7 +294,7 @@ module _ {w v : World} {b : Books} {g : Records} {k : Key} {r y : Router} {p : K
       born from to i j s n item moves a u f d =
           let l : is_linked (g.owner j) ≡ true = sym (is_recorded-central w g j) ∙ law.items.recorded from to i (Central j) s n item moves u
           in
-          let t : 2 ≤ (g.bypass a).stage = law.bypasses.born_stage j a l d in
+          let t : 2 ≤ (g.bypass a).stage = (law.bypasses a).born_stage j l d in
           let e : nat_eq a o ≡ false = apart a t (nat_eq a o) refl in
           subst (λ z. z.taken_at ≤ n) (sym (begun-else g k o fresh p a e)) (law.items.not_awaited_low from to i j s n item moves a u f d)
         where
@@ -307,20 +311,20 @@ module _ {w v : World} {b : Books} {g : Records} {k : Key} {r y : Router} {p : K
   }
 
   pub fresh_numbers-begun : FreshNumbers v after
-  fresh_numbers-begun = record {
-    own = λ q z i d n at a e f. elim (was_there q z at) [
-      | inl x ↦ law.fresh_numbers.own q z i d n x.0 a e f
+  fresh_numbers-begun q z at = record {
+    own = λ i d n a e f. elim (was_there q z at) [
+      | inl x ↦ (law.fresh_numbers q z x.0).own i d n a e f
       | inr x ↦ absurd
           (none-some i (sym (ap (λ t. t.outward.primary) x.1 ∙ new.primary) ∙ a))
     ];
-    comes = λ q z i d length from to j n item moves at a e f u. elim (was_there q z at) [
-      | inl x ↦ item-came from to j i.link i.side n item moves u (λ t. law.fresh_numbers.comes q z i d length from to t.at n item moves x.0
+    comes = λ i d length from to j n item moves a e f u. elim (was_there q z at) [
+      | inl x ↦ item-came from to j i.link i.side n item moves u (λ t. (law.fresh_numbers q z x.0).comes i d length from to t.at n item moves
           a e (sym (len d.link (opposite d.side)) ∙ f) t.was)
       | inr x ↦ absurd (none-some i (sym (ap (λ t. t.outward.primary) x.1 ∙ new.primary) ∙ a))
     ];
-    other = λ q z x i d n at a e f t. elim (was_there q z at) [
+    other = λ x i d n a e f t. elim (was_there q z at) [
       | inl j ↦ let s = stood i.link (opposite i.side) x t in grind
-          (arith, s.out_queue, law.fresh_numbers.other q z s.router i d n j.0 a e (sym (len d.link (opposite d.side)) ∙ f) s.stood)
+          (arith, s.out_queue, (law.fresh_numbers q z j.0).other s.router i d n a e (sym (len d.link (opposite d.side)) ∙ f) s.stood)
       | inr j ↦ absurd (none-some i (sym (ap (λ t. t.outward.primary) j.1 ∙ new.primary) ∙ a))
     ];
   }

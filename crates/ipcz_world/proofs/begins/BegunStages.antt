@@ -35,6 +35,8 @@ use Rattle.ipcz_world.proofs.begins.BegunRecords.{router-begun, node-begun, end-
 use Rattle.ipcz_world.proofs.begins.BegunRecords.{side-begun, by-inner, end_at}
 use Rattle.ipcz_world.proofs.begins.BegunWorld.{Sends}
 use Rattle.ipcz_world.proofs.begins.BegunAround.{IsBegunFrom, rec-begun, not-begun, not-inner, word_same, key_same, side-here}
+use Rattle.ipcz_world.proofs.frames.BypassesKept.{KeepsBypass, IsSameBypass, same_bypass, bypass-kept}
+use Rattle.ipcz_world.proofs.Vocabulary.{IsBypassRecorded}
 
 inner-side_end : (g : Records) (q : Key) (s : Side) → side_end g (inner_link q) s ≡ (g.peripheral q).end
 unfolding side_end
@@ -416,105 +418,84 @@ module _ {w v : World} {b : Books} {g : Records} {k : Key} {r y : Router} {p : K
 
   -- the inner link of another bypass
   inner-else : (j : ℕ) → is_begun (g.bypass j) ≡ true → same_key (g.bypass j).inner p ≡ false
-  inner-else j a = not-inner law is c new (g.bypass j).inner (ap is_some (law.bypasses.inner_by j a))
+  inner-else j a = not-inner law is c new (g.bypass j).inner (ap is_some ((law.bypasses j).inner_by a))
 
-  pub bypasses-begun : BypassRecords v after
-  bypasses-begun = record {
-    stage = by_word o {P = λ j. (after.bypass j).stage ≤ 5} (grind (arith, begun-here g k o fresh p))
-        (λ j n. grind (arith, begun-else g k o fresh p j n, law.bypasses.stage j));
-    old = by_word o {P = λ j. is_begun (after.bypass j) ≡ true → is_linked (after.owner j) ≡ true}
-        (λ a. linked-begun g k o fresh p o is.owner ∙ is.linked) (λ j n a. linked-begun g k o fresh p j is.owner ∙ law.bypasses.old j
-        (was j n a));
-    inner = by_word o {P = λ j. is_begun (after.bypass j) ≡ true → is_recorded v after (inner_of after j) ≡ true}
-        (λ a. ap (λ t. is_recorded v after (inner_link t.inner)) (begun-here g k o fresh p) ∙ rec-begun law is c new (inner_link p) ∙
-        is.inner_recorded)
-        (λ j n a. ap (λ t. is_recorded v after (inner_link t.inner)) (begun-else g k o fresh p j n) ∙
-        rec-begun law is c new (inner_of g j) ∙
-        law.bypasses.inner j (was j n a));
-    inner_by = by_word o {P = λ j. is_begun (after.bypass j) ≡ true → (after.peripheral (after.bypass j).inner).by ≡ Some j}
-        (λ a. ap (λ t. (after.peripheral t.inner).by) (begun-here g k o fresh p) ∙ by-inner g k o fresh p p ∙ ap
-        (λ t. cond t (Some o) (g.peripheral p).by) (same_key-itself p))
-        (λ j n a. ap (λ t. (after.peripheral t.inner).by) (begun-else g k o fresh p j n) ∙ by-inner g k o fresh p (g.bypass j).inner ∙ ap
-        (λ t. cond t (Some o) (g.peripheral (g.bypass j).inner).by) (inner-else j (was j n a)) ∙ law.bypasses.inner_by j (was j n a));
-    pair = by_word o {P = λ j. is_begun (after.bypass j) ≡ true → (after.peripheral (after.bypass j).inner).end.pair ≡ (g.central j).pair}
-        (λ a. ap (λ t. (after.peripheral t.inner).end.pair) (begun-here g k o fresh p) ∙ ap (λ t. t.pair)
-        (end_at g k o fresh p p ∙ is.inner_end) ∙ sym is.pair)
-        (λ j n a. ap (λ t. (after.peripheral t.inner).end.pair) (begun-else g k o fresh p j n) ∙ ap (λ t. t.pair)
-        (end_at g k o fresh p (g.bypass j).inner) ∙ law.bypasses.pair j (was j n a));
-    proxy_old = by_word o {P = λ j. is_begun (after.bypass j) ≡ true →
-        side_router after (Central j) (proxy_side after j) ≡ Some (after.bypass j).proxy}
-        (λ a. router-begun g k o fresh p (Central o) _ ∙ ap (side_router g (Central o)) (side-here law is c new) ∙ is.known ∙
-        ap (λ t. Some t.proxy)
-        (sym (begun-here g k o fresh p)))
-        (λ j n a. router-begun g k o fresh p (Central j) _ ∙ ap (side_router g (Central j)) (side-begun g k o fresh p j n) ∙
-        law.bypasses.proxy_old j (was j n a) ∙ ap (λ t. Some t.proxy) (sym (begun-else g k o fresh p j n)));
-    proxy_inner = by_word o {P = λ j. is_begun (after.bypass j) ≡ true →
-        side_router after (inner_of after j) A ≡ Some (after.bypass j).proxy}
-        (λ a. router-begun g k o fresh p _ A ∙ ap (λ t. side_router g (inner_link t.inner) A) (begun-here g k o fresh p) ∙ is.inner_known ∙
-        ap (λ t. Some t.proxy) (sym (begun-here g k o fresh p)))
-        (λ j n a. router-begun g k o fresh p _ A ∙ ap (λ t. side_router g (inner_link t.inner) A) (begun-else g k o fresh p j n) ∙
-        law.bypasses.proxy_inner j (was j n a) ∙ ap (λ t. Some t.proxy) (sym (begun-else g k o fresh p j n)));
-    across = by_word o {P = λ j. is_begun (after.bypass j) ≡ true → is_some (side_router after (Central j) (across_side after j)) ≡ true}
-        (λ a. ap is_some (router-begun g k o fresh p (Central o) _ ∙
-        ap (λ t. side_router g (Central o) (opposite t)) (side-here law is c new) ∙
-        is.across.known))
-        (λ j n a. ap is_some (router-begun g k o fresh p (Central j) _ ∙ ap (λ t. side_router g (Central j) (opposite t))
-        (side-begun g k o fresh p j n)) ∙ law.bypasses.across j (was j n a));
-    fresh = by_word o {P = λ j. (after.bypass j).stage ≡ 1 → after.owner (after.bypass j).fresh ≡ Fresh j}
-        (λ a. ap (λ t. after.owner t.fresh) (begun-here g k o fresh p) ∙ grind (arith, nat_tests))
-        (λ j n a. ap (λ t. after.owner t.fresh) (begun-else g k o fresh p j n) ∙ other (g.bypass j).fresh (Fresh j)
-        (law.bypasses.fresh j (sym (ap (λ t. t.stage) (begun-else g k o fresh p j n)) ∙ a)) (λ e. grind (arith, e, is.owner)));
-    fresh_linked = λ j a. let n = late-else j a in ap (λ t. after.owner t.fresh) (begun-else g k o fresh p j n) ∙ other (g.bypass j).fresh
-        Linked (law.bypasses.fresh_linked j (late-old j 2 (omega arith) a)) (λ e. grind (arith, e, is.owner));
-    fresh_born = λ j a. let n = late-else j a in ap (λ t. (g.central t.fresh).born) (begun-else g k o fresh p j n) ∙ law.bypasses.fresh_born
-        j (late-old j 2 (omega arith) a);
-    fresh_pair = λ j a. let n = late-else j a in ap (λ t. (g.central t.fresh).pair) (begun-else g k o fresh p j n) ∙ law.bypasses.fresh_pair
-        j (late-old j 2 (omega arith) a);
-    inner_known = λ j a. let n = late-else j a in ap is_some (router-begun g k o fresh p _ B ∙ ap
-        (λ t. side_router g (inner_link t.inner) B) (begun-else g k o fresh p j n)) ∙ law.bypasses.inner_known j
-        (late-old j 2 (omega arith) a);
-    fresh_inner = λ j a. let n = late-else j a in router-begun g k o fresh p _ _ ∙ ap
-        (λ t. side_router g (Central t.fresh) (proxy_side after j)) (begun-else g k o fresh p j n) ∙ ap (side_router g (fresh_of g j))
-        (side-begun g k o fresh p j n)
-        ∙ law.bypasses.fresh_inner j (late-old j 2 (omega arith) a) ∙ sym
-        (router-begun g k o fresh p _ B ∙ ap (λ t. side_router g (inner_link t.inner) B) (begun-else g k o fresh p j n));
-    fresh_inner_node = λ j a. let n = late-else j a in node-begun g k o fresh p _ _ ∙ ap
-        (λ t. side_node g (Central t.fresh) (proxy_side after j)) (begun-else g k o fresh p j n) ∙ ap (side_node g (fresh_of g j))
-        (side-begun g k o fresh p j n)
-        ∙ law.bypasses.fresh_inner_node j (late-old j 2 (omega arith) a) ∙ sym
-        (node-begun g k o fresh p _ B ∙ ap (λ t. side_node g (inner_link t.inner) B) (begun-else g k o fresh p j n));
-    fresh_across_node = λ j a. let n = late-else j a in node-begun g k o fresh p _ _ ∙ ap
-        (λ t. side_node g (Central t.fresh) (across_side after j)) (begun-else g k o fresh p j n) ∙ ap
-        (λ t. side_node g (fresh_of g j) (opposite t)) (side-begun g k o fresh p j n)
-        ∙ law.bypasses.fresh_across_node j (late-old j 2 (omega arith) a) ∙ sym
-        (node-begun g k o fresh p (Central j) _ ∙ ap (λ t. side_node g (Central j) (opposite t)) (side-begun g k o fresh p j n));
-    fresh_awaited = λ j a. let n = late-else j (omega (arith, a)) in
-        router-begun g k o fresh p _ _ ∙ ap (λ t. side_router g (Central t.fresh) (across_side after j)) (begun-else g k o fresh p j n) ∙ ap
-        (λ t. side_router g (fresh_of g j) (opposite t)) (side-begun g k o fresh p j n)
-        ∙ law.bypasses.fresh_awaited j (sym (ap (λ t. t.stage) (begun-else g k o fresh p j n)) ∙ a);
-    fresh_across = λ j a. let n = late-else j (omega (arith, a)) in
-        router-begun g k o fresh p _ _ ∙ ap (λ t. side_router g (Central t.fresh) (across_side after j)) (begun-else g k o fresh p j n) ∙ ap
-        (λ t. side_router g (fresh_of g j) (opposite t)) (side-begun g k o fresh p j n)
-        ∙ law.bypasses.fresh_across j (late-old j 3 (omega arith) a) ∙ sym
-        (router-begun g k o fresh p (Central j) _ ∙ ap (λ t. side_router g (Central j) (opposite t)) (side-begun g k o fresh p j n));
-    born_fresh = λ i j l e. let a : is_linked (g.owner i) ≡ true = sym (linked-begun g k o fresh p i is.owner) ∙ l in
-        ap (λ t. t.fresh) (begun-else g k o fresh p j (born i j a e)) ∙ law.bypasses.born_fresh i j a e;
-    born_stage = λ i j l e. let a : is_linked (g.owner i) ≡ true = sym (linked-begun g k o fresh p i is.owner) ∙ l in
-        subst (λ t. 2 ≤ t.stage) (sym (begun-else g k o fresh p j (born i j a e))) (law.bypasses.born_stage i j a e);
+  born-else : (i j : ℕ) → is_linked (after.owner i) ≡ true → (g.central i).born ≡ Some j → nat_eq j o ≡ false
+  born-else i j l e = not-begun law is c new j
+      (grind (arith, (law.bypasses j).born_stage i (sym (linked-begun g k o fresh p i is.owner) ∙ l) e, nat_tests))
+
+  other-owner : (i : ℕ) (x : Owner) → g.owner i ≡ x → (g.owner fresh ≡ x → ⊥) → after.owner i ≡ x
+  other-owner i x e apart = go (nat_eq i fresh) refl
+    where
+      go : (t : Bool) → nat_eq i fresh ≡ t → after.owner i ≡ x
+      go true n = absurd (apart (let f : fresh ≡ i = grind (arith, n, nat_tests) in ap g.owner f ∙ e))
+      go false n = grind (arith, n, e)
+
+  -- of the bypass that begins
+  bypass-begun : IsBypassRecorded v after o
+  bypass-begun = let here = begun-here g k o fresh p in record {
+    stage = grind (arith, here);
+    old = λ a. linked-begun g k o fresh p o is.owner ∙ is.linked;
+    inner = λ a. ap (λ t. is_recorded v after (inner_link t.inner)) here ∙ rec-begun law is c new (inner_link p) ∙ is.inner_recorded;
+    inner_by = λ a. ap (λ t. (after.peripheral t.inner).by) here ∙ by-inner g k o fresh p p ∙
+        ap (λ t. cond t (Some o) (g.peripheral p).by) (same_key-itself p);
+    pair = λ a. ap (λ t. (after.peripheral t.inner).end.pair) here ∙ ap (λ t. t.pair) (end_at g k o fresh p p ∙ is.inner_end) ∙ sym is.pair;
+    proxy_old = λ a. router-begun g k o fresh p (Central o) _ ∙ ap (side_router g (Central o)) (side-here law is c new) ∙ is.known ∙
+        ap (λ t. Some t.proxy) (sym here);
+    proxy_inner = λ a. router-begun g k o fresh p _ A ∙ ap (λ t. side_router g (inner_link t.inner) A) here ∙ is.inner_known ∙
+        ap (λ t. Some t.proxy) (sym here);
+    across = λ a. ap is_some (router-begun g k o fresh p (Central o) _ ∙
+        ap (λ t. side_router g (Central o) (opposite t)) (side-here law is c new) ∙ is.across.known);
+    fresh = λ a. ap (λ t. after.owner t.fresh) here ∙ grind (arith, nat_tests);
+    fresh_linked = λ l. absurd (first 2 (omega arith) l);
+    fresh_born = λ l. absurd (first 2 (omega arith) l);
+    fresh_pair = λ l. absurd (first 2 (omega arith) l);
+    inner_known = λ l. absurd (first 2 (omega arith) l);
+    fresh_inner = λ l. absurd (first 2 (omega arith) l);
+    fresh_inner_node = λ l. absurd (first 2 (omega arith) l);
+    fresh_across_node = λ l. absurd (first 2 (omega arith) l);
+    fresh_awaited = λ e. absurd (first 2 (omega arith) (omega (arith, e)));
+    fresh_across = λ l. absurd (first 3 (omega arith) l);
+    born_fresh = λ i l e. absurd (unborn i l e);
+    born_stage = λ i l e. absurd (unborn i l e);
   }
     where
-      was : (j : ℕ) → nat_eq j o ≡ false → is_begun (after.bypass j) ≡ true → is_begun (g.bypass j) ≡ true
-      was j n a = ap is_begun (sym (begun-else g k o fresh p j n)) ∙ a
+      first : (n : ℕ) → 2 ≤ n → n ≤ (after.bypass o).stage → ⊥
+      first n two l = grind (arith, begun-here g k o fresh p, two, l)
 
-      born : (i j : ℕ) → is_linked (g.owner i) ≡ true → (g.central i).born ≡ Some j → nat_eq j o ≡ false
-      born i j a e = not-begun law is c new j (grind (arith, law.bypasses.born_stage i j a e, nat_tests))
+      unborn : (i : ℕ) → is_linked (after.owner i) ≡ true → (g.central i).born ≡ Some o → ⊥
+      unborn i l e = let n : nat_eq o o ≡ false = born-else i o l e in grind (arith, n, nat_tests)
 
-      other : (i : ℕ) (x : Owner) → g.owner i ≡ x → (g.owner fresh ≡ x → ⊥) → after.owner i ≡ x
-      other i x e apart = go (nat_eq i fresh) refl
-        where
-          go : (t : Bool) → nat_eq i fresh ≡ t → after.owner i ≡ x
-          go true n = absurd (apart (let f : fresh ≡ i = grind (arith, n, nat_tests) in ap g.owner f ∙ e))
-          go false n = grind (arith, n, e)
+  -- the records tell the same of each other
+  keeps-else : (j : ℕ) → nat_eq j o ≡ false → KeepsBypass w v g after j
+  keeps-else j n = record {
+    same = subst (IsSameBypass (g.bypass j)) (sym (begun-else g k o fresh p j n)) (same_bypass (g.bypass j));
+    old = λ a. record {
+      linked = λ e. linked-begun g k o fresh p j is.owner ∙ e;
+      recorded = λ e. rec-begun law is c new (inner_of g j) ∙ e;
+      by = by-inner g k o fresh p (g.bypass j).inner ∙ ap (λ t. cond t (Some o) (g.peripheral (g.bypass j).inner).by) (inner-else j a);
+      inner_pair = ap (λ t. t.pair) (end_at g k o fresh p (g.bypass j).inner);
+      pair = refl;
+      side = side-begun g k o fresh p j n;
+      router = router-begun g k o fresh p (Central j);
+      node = node-begun g k o fresh p (Central j);
+      inner_router = router-begun g k o fresh p (inner_of g j) A;
+    };
+    fresh = λ e one. other-owner (g.bypass j).fresh (Fresh j) one (λ f. grind (arith, f, is.owner));
+    late = λ l. record {
+      linked = λ e. other-owner (g.bypass j).fresh Linked e (λ f. grind (arith, f, is.owner));
+      born = refl;
+      pair = refl;
+      router = router-begun g k o fresh p (fresh_of g j);
+      node = node-begun g k o fresh p (fresh_of g j);
+      inner_router = router-begun g k o fresh p (inner_of g j) B;
+      inner_node = node-begun g k o fresh p (inner_of g j) B;
+    };
+    born = λ i l e. (sym (linked-begun g k o fresh p i is.owner) ∙ l, e);
+  }
+
+  pub bypasses-begun : BypassRecords v after
+  bypasses-begun = by_word o {P = IsBypassRecorded v after} bypass-begun (λ j n. bypass-kept {w = w} (keeps-else j n) (law.bypasses j))
 
   pub stages-begun : Stages v after
   stages-begun = record {
@@ -632,7 +613,7 @@ module _ {w v : World} {b : Books} {g : Records} {k : Key} {r y : Router} {p : K
 
       fresh-not : (j : ℕ) → nat_eq j o ≡ false → 3 ≤ (after.bypass j).stage → (after.bypass j).stage ≤ 4 → fresh_of g j ≡ Central o → ⊥
       fresh-not j n a d e = unmarked (side_router g (inner_of g j) B) (inner_of g j) B
-          (ap (λ q. key_passes w q (λ z. z.marked)) (sym (ap (λ l. side_router g l (proxy_side g j)) (sym e) ∙ law.bypasses.fresh_inner j
+          (ap (λ q. key_passes w q (λ z. z.marked)) (sym (ap (λ l. side_router g l (proxy_side g j)) (sym e) ∙ (law.bypasses j).fresh_inner
           (late-old j 2 (omega arith) (omega (arith, a))))) ∙ sym (law.words.stable o (proxy_side g j) is.linked is.live (central_unleft law is c new o (proxy_side g j) is.pair)) ∙ is.stable
           (proxy_side g j))
           (law.stages.inner_decaying j (late-old j 2 (omega arith) (omega (arith, a))) (early j 4 n d))

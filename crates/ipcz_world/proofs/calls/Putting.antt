@@ -149,7 +149,7 @@ module _ (w v : World) (b : Books) (g : Records) (k : Key) (r y : Router) (item 
     on_node = law.counts.on_node k r here
 
     stands : g.terminal r.end ≡ At k
-    stands = law.terminals.terminal k r here is.terminal
+    stands = (law.terminals.each k r here).terminal is.terminal
 
     number : next_number r ≡ length (b.put r.end)
     number = law.conserved.reach k r here is.terminal
@@ -243,16 +243,16 @@ module _ (w v : World) (b : Books) (g : Records) (k : Key) (r y : Router) (item 
     }
 
     fresh_numbers-put : FreshNumbers v g
-    fresh_numbers-put = record {
-      own = λ q x e f len at on off h. let z = filled_before w v k r y (next_number r) false g filling q x at in
-          let le : len ≤ z.0.out_queue.current = law.fresh_numbers.own q z.0 e f len z.1 (grind (arith, z.4, on)) (grind (arith, z.4, off))
+    fresh_numbers-put q x at = let z = filled_before w v k r y (next_number r) false g filling q x at in record {
+      own = λ e f len on off h.
+          let le : len ≤ z.0.out_queue.current = (law.fresh_numbers q z.0 z.1).own e f len (grind (arith, z.4, on)) (grind (arith, z.4, off))
           (grind (arith, z.4, h)) in omega (arith, le, z.2);
-      comes = λ q x e f len fr to i m c moves at on off h u. let z = filled_before w v k r y (next_number r) false g filling q x at in
-          law.fresh_numbers.comes q z.0 e f len fr to i m c moves z.1 (grind (arith, z.4, on)) (grind (arith, z.4, off)) h
+      comes = λ e f len fr to i m c moves on off h u.
+          (law.fresh_numbers q z.0 z.1).comes e f len fr to i m c moves (grind (arith, z.4, on)) (grind (arith, z.4, off)) h
           (under-same w v fr to i (messages.Item e.link e.side m c moves) same u);
-      other = λ q x c e f len at on off h there. let z = filled_before w v k r y (next_number r) false g filling q x at in let o =
+      other = λ c e f len on off h there. let o =
           standing_filled w v k r y (next_number r) false g filling e.link (opposite e.side) c there in
-          let le : len ≤ o.0.out_queue.current = law.fresh_numbers.other q z.0 o.0 e f len z.1 (grind (arith, z.4, on))
+          let le : len ≤ o.0.out_queue.current = (law.fresh_numbers q z.0 z.1).other o.0 e f len (grind (arith, z.4, on))
           (grind (arith, z.4, off)) h o.1 in omega (arith, le, o.2);
     }
 
@@ -260,11 +260,13 @@ module _ (w v : World) (b : Books) (g : Records) (k : Key) (r y : Router) (item 
     end_places-put = record {
       held = λ m d h. law.end_places.held m d (is.held m d h);
       pending = λ m d h. law.end_places.pending m d (is.pending m d h);
-      out = λ q x n z d at h has. out q x n z d at h has (same_key q k) refl;
-      inn = λ q x n z d at h has. let o = filled_before w v k r y (next_number r) false g filling q x at in elim (o.7 n z h) [
-        | inl e ↦ law.end_places.inn q o.0 n z d o.1 e has
-        | inr e ↦ absurd (grind (arith, e.1))
-      ];
+      each = λ q x at. record {
+        out = λ n z d h has. out q x n z d at h has (same_key q k) refl;
+        inn = λ n z d h has. let o = filled_before w v k r y (next_number r) false g filling q x at in elim (o.7 n z h) [
+          | inl e ↦ (law.end_places.each q o.0 o.1).inn n z d e has
+          | inr e ↦ absurd (grind (arith, e.1))
+        ];
+      };
       within = λ n i l s number z moves d u has. law.end_places.within n i l s number z moves d
           (under-same w v n n i (messages.Item l s number z moves) same u) has;
     }
@@ -278,10 +280,10 @@ module _ (w v : World) (b : Books) (g : Records) (k : Key) (r y : Router) (item 
         out q x n z d at h has true c = let key : q ≡ k = grind (arith, same_key_tells q k, c) in let it : y ≡ x =
             grind (arith, is.touched.router q, c, at) in
             elim (pushed r.out_queue y.out_queue (next_number r) n z is.out (ap (λ x. item_at x.out_queue n) it ∙ h)) [
-              | inl o ↦ law.end_places.out k r n z d here o has ∙ ap (λ j. Some j.node) (sym key)
+              | inl o ↦ (law.end_places.each k r here).out n z d o has ∙ ap (λ j. Some j.node) (sym key)
               | inr o ↦ is.ends d (ap (λ f. has_end d (ends_in f)) (sym o) ∙ has) ∙ ap (λ j. Some j.node) (sym key)
             ]
-        out q x n z d at h has false c = law.end_places.out q x n z d (grind (arith, is.touched.router q, c, at)) h has
+        out q x n z d at h has false c = (law.end_places.each q x (grind (arith, is.touched.router q, c, at))).out n z d h has
 
     -- what the books hold of each end
     put_same : (d : End) → d ≢ r.end → after.put d ≡ b.put d
@@ -420,7 +422,8 @@ module _ (w v : World) (b : Books) (g : Records) (k : Key) (r y : Router) (item 
 
     -- another terminal is of another end
     other_end : (q : Key) (x : Router) → router_at w q ≡ Some x → is_terminal x ≡ true → same_key q k ≡ false → x.end ≢ r.end
-    other_end q x at t c e = let two : At q ≡ At k = sym (law.terminals.terminal q x at t) ∙ ap g.terminal e ∙ stands in let key : q ≡ k =
+    other_end q x at t c e = let two : At q ≡ At k = sym ((law.terminals.each q x at).terminal t) ∙ ap g.terminal e ∙ stands in
+        let key : q ≡ k =
         grind (arith, two) in absurd (grind (arith, c, same_key-itself k, key))
 
     conserved-put : Conserved v after g
@@ -448,7 +451,7 @@ module _ (w v : World) (b : Books) (g : Records) (k : Key) (r y : Router) (item 
     }
       where
         nowhere : (e : End) → is_nowhere (g.terminal e) ≡ true → e ≡ r.end → ⊥
-        nowhere e h same = grind (arith, h, law.terminals.opened k r here, same)
+        nowhere e h same = grind (arith, h, (law.terminals.each k r here).opened, same)
 
         was_unclosed : (e : End) → is_closed after e ≡ false → (c : Bool) → is_closed b e ≡ c → is_closed b e ≡ false
         was_unclosed e h true c = absurd (grind (arith, h, closed_more e c))

@@ -37,6 +37,7 @@ use Rattle.ipcz_world.proofs.facts.Tests.{nat_eq-itself, and_first, and_second, 
 use Rattle.std.proofs.lemmas.Bool.{and_from}
 use Rattle.ipcz_world.proofs.facts.LinkTests.{opposite_end-twice}
 use Rattle.ipcz_world.proofs.facts.SameItems.{same_item-itself, same_item-tells}
+use Rattle.ipcz_world.proofs.frames.EndsKept.{ends-kept}
 
 -- what weighs in a numbered list is there
 pub from_number-found : (h : ℕ → Item → ℕ) (n : ℕ) (xs : List Item) → 1 ≤ from_number h n xs →
@@ -131,7 +132,7 @@ module _ (w v : World) (b : Books) (g : Records) (k : Key) (r : Router) (item : 
   on_node = law.counts.on_node k r here
 
   stands : g.terminal r.end ≡ At k
-  stands = law.terminals.terminal k r here is.terminal
+  stands = (law.terminals.each k r here).terminal is.terminal
 
   alike : IsAlike r y
   alike = record {
@@ -170,26 +171,24 @@ module _ (w v : World) (b : Books) (g : Records) (k : Key) (r : Router) (item : 
       (λ q h. not_there_yet w b g from to i l t m x moves q law.conserved law.counts law.links o h))
 
   fresh_numbers-read : FreshNumbers v g
-  fresh_numbers-read = record {
-    own = own-drained w v k r y g draining law.fresh_numbers;
-    comes = λ q x e f len fr to i m c moves at on off h u. let z = drained_before w v k r y g draining q x at in
-        law.fresh_numbers.comes q z.0 e f len fr to i m c moves z.1 (grind (arith, z.4, on)) (grind (arith, z.4, off)) h
+  fresh_numbers-read q x at = record {
+    own = own-drained w v k r y g draining law.fresh_numbers q x at;
+    comes = λ e f len fr to i m c moves on off h u. let z = drained_before w v k r y g draining q x at in
+        (law.fresh_numbers q z.0 z.1).comes e f len fr to i m c moves (grind (arith, z.4, on)) (grind (arith, z.4, off)) h
         (under-same w v fr to i (messages.Item e.link e.side m c moves) same u);
-    other = other-drained w v k r y g draining law.fresh_numbers;
+    other = other-drained w v k r y g draining law.fresh_numbers q x at;
   }
 
   -- the ends of the item have their terminals here
   ends_here : (d : End) → has_end d (ends_in item) ≡ true → terminal_node (g.terminal d) ≡ Some k.node
-  ends_here d h = law.end_places.inn k r r.in_queue.current item d here is.item_is h
+  ends_here d h = (law.end_places.each k r here).inn r.in_queue.current item d is.item_is h
 
   end_places-read : EndPlaces v g
   end_places-read = record {
     held = λ m d h. elim (is.held m d h) [ inl o ↦ law.end_places.held m d o | inr o ↦ ends_here d o.1 ∙ ap Some (sym o.0) ];
     pending = λ m d h. elim (is.pending m d h) [ inl o ↦ law.end_places.pending m d o | inr o ↦ ends_here d o.1 ∙ ap Some (sym o.0) ];
-    out = λ q x n z d at h has. let c = drained_before w v k r y g draining q x at in
-        law.end_places.out q c.0 n z d c.1 (c.2.keeps n z h) has;
-    inn = λ q x n z d at h has. let c = drained_before w v k r y g draining q x at in
-        law.end_places.inn q c.0 n z d c.1 (c.3.keeps n z h) has;
+    each = λ q x at. let c = drained_before w v k r y g draining q x at in
+        ends-kept {g = g} {h = g} {r = c.0} (λ e. refl) c.2.keeps c.3.keeps (law.end_places.each q c.0 c.1);
     within = λ n i l s m z moves d u has. law.end_places.within n i l s m z moves d
         (under-same w v n n i (messages.Item l s m z moves) same u) has;
   }
@@ -217,7 +216,8 @@ module _ (w v : World) (b : Books) (g : Records) (k : Key) (r : Router) (item : 
       seen q x at m false c = law.books_kept.mark_seen q x (before q x at c) m
 
   other_end : (q : Key) (x : Router) → router_at w q ≡ Some x → is_terminal x ≡ true → same_key q k ≡ false → x.end ≢ r.end
-  other_end q x at t c e = let two : At q ≡ At k = sym (law.terminals.terminal q x at t) ∙ ap g.terminal e ∙ stands in let key : q ≡ k =
+  other_end q x at t c e = let two : At q ≡ At k = sym ((law.terminals.each q x at).terminal t) ∙ ap g.terminal e ∙ stands in
+      let key : q ≡ k =
       grind (arith, two) in absurd (grind (arith, c, same_key-itself k, key))
 
   -- a statement of what an end's peer has read, by whether it is the terminal
@@ -279,7 +279,7 @@ module _ (w v : World) (b : Books) (g : Records) (k : Key) (r : Router) (item : 
         law.conserved.move_in from to i j m d w h ∙ sym (read_other d.end (not_moving _ g k r.end from to i j m d law.moves stands w h));
     move_open = λ from to i j m d u h. law.conserved.move_open from to i j m d (under-same w v from to i m same u) h;
     unopened_put = law.conserved.unopened_put;
-    unopened_got = λ e h. is.got_other e (λ f. grind (arith, h, law.terminals.opened k r here, f)) ∙ law.conserved.unopened_got e h;
+    unopened_got = λ e h. is.got_other e (λ f. grind (arith, h, (law.terminals.each k r here).opened, f)) ∙ law.conserved.unopened_got e h;
   }
     where
       reach : (q : Key) (x : Router) → router_at v q ≡ Some x → is_terminal x ≡ true → (c : Bool) → same_key q k ≡ c →

@@ -2,10 +2,10 @@
 use Rattle.std.specs.Prelude.{◌≡◌, ◌⊎◌, ◌<◌, ℕ, Bool, true, false, nat_lt, if◌then◌else◌, Ok, Err}
 use Rattle.std.proofs.Common.{arith, ap, sym, refl, inl, inr, ◌∙◌}
 use Rattle.std.proofs.lemmas.Bool.Decides.{nat_tests}
-use Rattle.ipcz_world.proofs.Vocabulary.{Refusal, Act, Hand, Close, World, after_act, unless}
+use Rattle.ipcz_world.proofs.Vocabulary.{Refusal, Act, World, after_act, unless}
 use Rattle.ipcz_base.specs.declared.refusal.Refusal.TheVariants.{NumbersEnd, OutOfMemory}
 use Rattle.ipcz_router.specs.declared.act.RouterAct.TheVariants as acts
-use Rattle.ipcz_node.specs.declared.act.Act.TheVariants.{Look, Post, Router as OfRouter, Idle}
+use Rattle.ipcz_node.specs.declared.act.Act.TheVariants.{Router as OfRouter}
 use Rattle.ipcz_node.specs.declared.happened.Happened.{Happened}
 use Rattle.ipcz_node.specs.Acts.{stand_in}
 use Rattle.ipcz_world.specs.declared.step.Step.TheVariants.{Turn}
@@ -62,22 +62,6 @@ module _ (w : World) (n : ℕ) (act : Act) (here : n < w.count) where
 -- nothing stands in for what stands in
 pub stands-alone : (act : Act) → stand_in act ≡ stand_in (stand_in act)
 unfolding stand_in
-stands-alone (Hand from) = refl
-stands-alone (Look from) = refl
-stands-alone (Post to) = refl
-stands-alone (Close e) = refl
-stands-alone Idle = refl
-stands-alone (OfRouter s acts.SendOut) = refl
-stands-alone (OfRouter s acts.SendIn) = refl
-stands-alone (OfRouter s acts.Discard) = refl
-stands-alone (OfRouter s acts.FinishOut) = refl
-stands-alone (OfRouter s acts.FinishIn) = refl
-stands-alone (OfRouter s acts.Leave) = refl
-stands-alone (OfRouter s acts.Mark) = refl
-stands-alone (OfRouter s acts.Wake) = refl
-stands-alone (OfRouter s acts.Claim) = refl
-stands-alone (OfRouter s acts.Lock) = refl
 stands-alone (OfRouter s acts.Begin) = refl
 stands-alone (OfRouter s acts.Retire) = refl
-stands-alone (OfRouter s acts.Unlock) = refl
-stands-alone (OfRouter s acts.Rest) = refl
+stands-alone other = refl

@@ -83,7 +83,7 @@ half_known w g c s stands law linked none = go (g.central c).born refl (stands.a
     go (Some o) e some = record {
       old = o;
       stage = stands.awaited_stage c s o linked none e;
-      fresh = law.born_fresh c o linked e;
+      fresh = (law o).born_fresh c linked e;
       side =
           stands.awaited_side c s o linked none e;
     }
@@ -100,10 +100,10 @@ made_central w g c s stands law told linked none =
     (grind (arith, record_rules, none))) in let o = half.old in
     let a = side_node g (Central c) (opposite s) in let b = side_node g (Central c) s in
     let same : (accept_of g o) ≡ messages.AcceptBypass o s c (g.bypass o).taken_at = grind (arith, half.side, half.fresh) in
-    let sender : side_node g (inner_of g o) B ≡ a = sym (law.fresh_inner_node o (grind (arith, half.stage))) ∙ grind
+    let sender : side_node g (inner_of g o) B ≡ a = sym ((law o).fresh_inner_node (grind (arith, half.stage))) ∙ grind
     (arith, half.side, half.fresh, opposite-twice (proxy_side g o)) in
     let receiver : side_node g (Central o) (across_side g o) ≡ b =
-    sym (law.fresh_across_node o (grind (arith, half.stage))) ∙ grind (arith, half.side, half.fresh) in
+    sym ((law o).fresh_across_node (grind (arith, half.stage))) ∙ grind (arith, half.side, half.fresh) in
     let one : under_way (λ from to. of_bypass g o (of_making a b (Central c) s from to)) w ≡ 1 =
     told.control o (of_making a b (Central c) s) ∙ expected-accept g (of_making a b (Central c) s) o half.stage ∙
     grind (arith, sender, receiver, same, makes-accept o c (g.bypass o).taken_at s, nat_tests) in

@@ -25,6 +25,7 @@ use Rattle.ipcz_world.proofs.flows.Flowing.{CameFrom}
 use Rattle.ipcz_world.proofs.weights.Weighing.{in_places-is}
 use Rattle.ipcz_world.proofs.flows.MessagesPassing.{IsFlush, Passes, HasHands}
 use Rattle.ipcz_world.proofs.weights.Totalling.{total_below-same}
+use Rattle.ipcz_world.proofs.frames.BypassesKept.{bypasses-still}
 
 -- whether a message is an item
 abbrev is_item : Message → Bool
@@ -222,28 +223,7 @@ module _ (w v : World) (g : Records) (p : Passes w v g) where
   }
 
   bypasses-passes : BypassRecords w g → BypassRecords v g
-  bypasses-passes law = record {
-    stage = law.stage;
-    old = law.old;
-    inner = λ o a. recorded _ ∙ law.inner o a;
-    inner_by = law.inner_by;
-    pair = law.pair;
-    proxy_old = law.proxy_old;
-    proxy_inner = law.proxy_inner;
-    across = law.across;
-    fresh = law.fresh;
-    fresh_linked = law.fresh_linked;
-    fresh_born = law.fresh_born;
-    fresh_pair = law.fresh_pair;
-    inner_known = law.inner_known;
-    fresh_inner = law.fresh_inner;
-    fresh_inner_node = law.fresh_inner_node;
-    fresh_across_node = law.fresh_across_node;
-    fresh_awaited = law.fresh_awaited;
-    fresh_across = law.fresh_across;
-    born_fresh = law.born_fresh;
-    born_stage = law.born_stage;
-  }
+  bypasses-passes law = bypasses-still w v g recorded law
 
   stages-passes : Stages w g → Stages v g
   stages-passes law = record {
@@ -293,9 +273,8 @@ module _ (w v : World) (g : Records) (p : Passes w v g) where
 
   terminals-passes : Terminals w g → Terminals v g
   terminals-passes law = record {
-    terminal = λ q r at. law.terminal q r (back q r at);
+    each = λ q r at. law.each q r (back q r at);
     stands = λ e q h. known (Some q) _ ∙ law.stands e q h;
-    opened = λ q r at. law.opened q r (back q r at);
     link_opened = λ l s a. law.link_opened l s (was_recorded l a);
     both = law.both;
     unopened = law.unopened;
@@ -306,8 +285,7 @@ module _ (w v : World) (g : Records) (p : Passes w v g) where
   end_places-passes law = record {
     held = λ n e h. law.held n e (sym (ap (holds e) (p.nodes n).held) ∙ h);
     pending = λ n e h. law.pending n e (sym (ap (has_end e) (p.nodes n).pending) ∙ h);
-    out = λ q r n x e at. law.out q r n x e (back q r at);
-    inn = λ q r n x e at. law.inn q r n x e (back q r at);
+    each = λ q r at. law.each q r (back q r at);
     within = λ n i l s number x moves e u. let c = item n n i l s number x moves u in law.within n c.at l s number x moves e c.was;
   }
 
@@ -367,11 +345,11 @@ module _ (w v : World) (g : Records) (p : Passes w v g) where
   }
 
   fresh_numbers-passes : FreshNumbers w g → FreshNumbers v g
-  fresh_numbers-passes law = record {
-    own = λ q r e d n at. law.own q r e d n (back q r at);
-    comes = λ q r e d length from to i n x moves at a b f u. let c = item from to i e.link e.side n x moves u in
-        law.comes q r e d length from to c.at n x moves (back q r at) a b f c.was;
-    other = λ q r z e d n at a b f h. law.other q r z e d n (back q r at) a b f
+  fresh_numbers-passes law q r at = record {
+    own = λ e d n. (law q r (back q r at)).own e d n;
+    comes = λ e d length from to i n x moves a b f u. let c = item from to i e.link e.side n x moves u in
+        (law q r (back q r at)).comes e d length from to c.at n x moves a b f c.was;
+    other = λ z e d n a b f h. (law q r (back q r at)).other z e d n a b f
         (sym (ap standing_router (seen e.link (opposite e.side))) ∙ h);
   }
 

@@ -6,6 +6,7 @@ use Rattle.ipcz_world.proofs.Vocabulary.{IsUnderWay, is_made_before, under_way, 
 use Rattle.ipcz_world.specs.Flows.{is_made_by}
 use Rattle.ipcz_world.specs.Bypasses.{Moves}
 use Rattle.ipcz_world.proofs.weights.Sums.{total_below-same}
+use Rattle.ipcz_world.proofs.frames.BypassesKept.{bypasses-still}
 
 -- the same messages are under way, and the same links have records
 pub record SameMessages (w v : World) : Type 0 where
@@ -36,28 +37,7 @@ under_way-same w v h same =
     ∙ total_below-same w.count _ _ (λ from. total_below-same w.count _ _ (λ to. ap (total_list (h from to)) (same.flows from to)))
 
 pub bypasses-same : (w v : World) (g : Records) → SameMessages w v → BypassRecords w g → BypassRecords v g
-bypasses-same w v g same law = record {
-  stage = law.stage;
-  old = law.old;
-  inner = λ o a. recorded-same w v g _ same ∙ law.inner o a;
-  inner_by = law.inner_by;
-  pair = law.pair;
-  proxy_old = law.proxy_old;
-  proxy_inner = law.proxy_inner;
-  across = law.across;
-  fresh = law.fresh;
-  fresh_linked = law.fresh_linked;
-  fresh_born = law.fresh_born;
-  fresh_pair = law.fresh_pair;
-  inner_known = law.inner_known;
-  fresh_inner = law.fresh_inner;
-  fresh_inner_node = law.fresh_inner_node;
-  fresh_across_node = law.fresh_across_node;
-  fresh_awaited = law.fresh_awaited;
-  fresh_across = law.fresh_across;
-  born_fresh = law.born_fresh;
-  born_stage = law.born_stage;
-}
+bypasses-same w v g same law = bypasses-still w v g (λ l. recorded-same w v g l same) law
 
 pub told-same : (w v : World) (g : Records) → SameMessages w v → Told w g → Told v g
 told-same w v g same law = record {

@@ -232,7 +232,7 @@ module _ {w v : World} {b : Books} {g : Records} {k : Key} {r : Router} (law : N
         let low = (law.positions.each k r is.here).primary_old e.end o e.there e.on_link (begun_by o a) in absurd (omega (arith, low, a));
     inner_gone = λ o q at a up. let e = inner_at (g.bypass o).inner up.had in
         let low = (law.positions.each k r is.here).primary_inner e.end (g.bypass o).inner o e.there e.on_link
-        (law.bypasses.inner_by o (begun_by o (omega (arith, a)))) in absurd (omega (arith, low, a));
+        ((law.bypasses o).inner_by (begun_by o (omega (arith, a)))) in absurd (omega (arith, low, a));
     out_finished = λ o y p a f. absurd (none-some y f);
     in_finished = λ o y p a f. absurd (none-some y f);
   }
@@ -372,7 +372,8 @@ module _ {w v : World} {b : Books} {g : Records} {k : Key} {r : Router} (law : N
               let one = (law.positions.each k r is.here).primary_inner e q o p l by in
               let pair : (g.peripheral q).end.pair ≡ r.end.pair = peripheral_pair q l in
               is.unbypassed o (omega (arith, one)) (omega (arith, one))
-              (sym (law.bypasses.pair o (law.stands.by_begun q o by)) ∙ ap (λ z. (g.peripheral z).end.pair) (law.stands.by_inner q o by) ∙ pair)
+              (sym ((law.bypasses o).pair (law.stands.by_begun q o by)) ∙
+              ap (λ z. (g.peripheral z).end.pair) (law.stands.by_inner q o by) ∙ pair)
             where
               peripheral_pair : (q : Key) → e.link ≡ inner_link q → (g.peripheral q).end.pair ≡ r.end.pair
               peripheral_pair q l = let rec : IsRecorded w g k r e = (law.links k r is.here).primary e p in
@@ -512,10 +513,10 @@ module _ {w v : World} {b : Books} {g : Records} {k : Key} {r : Router} (law : N
     across_marked = λ o a d. passes-still c _ _ (law.stages.across_marked o a d) (λ e t. absurd (early o a d (on o a d e)));
     across_free = λ o a d. passes-still c _ _ (law.stages.across_free o a d) (λ e t. absurd (early o a d (on o a d e)));
     across_fresh = λ o a d. passes-still c _ _ (law.stages.across_fresh o a d) (λ e t. absurd (is.unbypassed o (omega (arith, a)) d
-        (sym (law.bypasses.fresh_pair o (omega (arith, a))) ∙ central_pair (g.bypass o).fresh (across_side g o)
+        (sym ((law.bypasses o).fresh_pair (omega (arith, a))) ∙ central_pair (g.bypass o).fresh (across_side g o)
         (has_link-tells r.outward.primary (Central (g.bypass o).fresh) (across_side g o) t))));
     inner_primary = λ o q a e. passes-still c _ _ (law.stages.inner_primary o q a e) (λ f t. absurd (is.unbypassed o (omega (arith, a))
-        (omega (arith, a)) (sym (law.bypasses.pair o (grind (arith, a, nat_tests))) ∙ inner_pair (g.bypass o).inner
+        (omega (arith, a)) (sym ((law.bypasses o).pair (grind (arith, a, nat_tests))) ∙ inner_pair (g.bypass o).inner
         (has_link-tells r.outward.primary (inner_of g o) B t))));
     inner_decaying = λ o a d. passes-still c _ _ (law.stages.inner_decaying o a d) (λ e t. absurd (none-some _
         (sym no_decaying ∙ (has_link-tells r.outward.decaying (inner_of g o) B t).there)));

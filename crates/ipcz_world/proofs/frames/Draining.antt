@@ -221,19 +221,19 @@ module _ (w v : World) (k : Key) (r y : Router) (g : Records) (d : IsDraining w 
     | inr e ↦ (r, grind (arith, e.old, standing-standing r), grind (arith, h, e.new, standing-standing y, d.out.rises))
   ]
 
-  pub own-drained : FreshNumbers w g → (q : Key) (x : Router) (p e : LinkEnd) (length : ℕ) → router_at v q ≡ Some x →
+  pub own-drained : FreshNumbers w g → (q : Key) (x : Router) → router_at v q ≡ Some x → (p e : LinkEnd) (length : ℕ) →
       x.outward.primary ≡ Some p → x.outward.decaying ≡ Some e → x.outward.length_to ≡ Some length → length ≤ x.out_queue.current
-  own-drained law q x p e length at on off len = let z = drained_before q x at in
-      let low : length ≤ z.0.out_queue.current = law.own q z.0 p e length z.1 (grind (arith, z.4, on)) (grind (arith, z.4, off))
+  own-drained law q x at p e length on off len = let z = drained_before q x at in
+      let low : length ≤ z.0.out_queue.current = (law q z.0 z.1).own p e length (grind (arith, z.4, on)) (grind (arith, z.4, off))
       (grind (arith, z.4, len)) in
       omega (arith, z.2.rises, low)
 
-  pub other-drained : FreshNumbers w g → (q : Key) (x u : Router) (p e : LinkEnd) (length : ℕ) → router_at v q ≡ Some x →
+  pub other-drained : FreshNumbers w g → (q : Key) (x : Router) → router_at v q ≡ Some x → (u : Router) (p e : LinkEnd) (length : ℕ) →
       x.outward.primary ≡ Some p → x.outward.decaying ≡ Some e →
       side_length g e.link (opposite e.side) ≡ Some length → standing_router (view v g p.link (opposite p.side)) ≡ Some u →
       length ≤ u.out_queue.current
-  other-drained law q x u p e length at on off len there = let z = drained_before q x at in let f =
+  other-drained law q x at u p e length on off len there = let z = drained_before q x at in let f =
       standing_before p.link (opposite p.side) u there in
-      let low : length ≤ f.0.out_queue.current = law.other q z.0 f.0 p e length z.1 (grind (arith, z.4, on)) (grind (arith, z.4, off)) len
+      let low : length ≤ f.0.out_queue.current = (law q z.0 z.1).other f.0 p e length (grind (arith, z.4, on)) (grind (arith, z.4, off)) len
       f.1 in
       omega (arith, f.2, low)

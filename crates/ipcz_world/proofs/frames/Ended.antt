@@ -25,6 +25,7 @@ use Rattle.ipcz_world.proofs.weights.Booking.{flag, end_tells, in_router-within,
 use Rattle.ipcz_world.proofs.weights.Holding.{times-has, times_held-at}
 use Rattle.ipcz_world.proofs.weights.Weighing.{in_router-is, in_places-has, in_message-item}
 use Rattle.ipcz_world.proofs.weights.Sourcing.{places-sources}
+use Rattle.ipcz_world.proofs.frames.BypassesKept.{bypasses-alike, same_bypass}
 
 module _ (v : World) (b : Books) (g : Records) (e : End) (k : Key) (at : g.terminal e ≡ At k) where
   abbrev pub ended : Records
@@ -109,10 +110,10 @@ module _ (v : World) (b : Books) (g : Records) (e : End) (k : Key) (at : g.termi
 
   pub fresh_numbers-ended : FreshNumbers v g → FreshNumbers v ended
   unfolding length_by bypass_of bypass_length
-  fresh_numbers-ended law = record {
-    own = law.own;
-    comes = law.comes;
-    other = λ q y z p d n a c f s h. law.other q y z p d n a c f s (sym (ap standing_router (view-ended p.link (opposite p.side))) ∙ h);
+  fresh_numbers-ended law q y at = let is = law q y at in record {
+    own = is.own;
+    comes = is.comes;
+    other = λ z p d n c f s h. is.other z p d n c f s (sym (ap standing_router (view-ended p.link (opposite p.side))) ∙ h);
   }
 
   pub moves-ended : Moves v g → Moves v ended
@@ -231,29 +232,18 @@ module _ (v : World) (b : Books) (g : Records) (e : End) (k : Key) (at : g.termi
   }
 
   pub bypasses-ended : BypassRecords v g → BypassRecords v ended
-  unfolding side_router side_node is_recorded
-  bypasses-ended law = record {
-    stage = law.stage;
-    old = law.old;
-    inner = law.inner;
-    inner_by = law.inner_by;
-    pair = law.pair;
-    proxy_old = law.proxy_old;
-    proxy_inner = law.proxy_inner;
-    across = law.across;
-    fresh = law.fresh;
-    fresh_linked = law.fresh_linked;
-    fresh_born = law.fresh_born;
-    fresh_pair = law.fresh_pair;
-    inner_known = law.inner_known;
-    fresh_inner = law.fresh_inner;
-    fresh_inner_node = law.fresh_inner_node;
-    fresh_across_node = law.fresh_across_node;
-    fresh_awaited = law.fresh_awaited;
-    fresh_across = law.fresh_across;
-    born_fresh = law.born_fresh;
-    born_stage = law.born_stage;
-  }
+  unfolding is_recorded
+  bypasses-ended law = bypasses-alike {w = v}
+      (record {
+        same = λ o. same_bypass (g.bypass o);
+        central = λ i. refl;
+        peripheral = λ p. refl;
+        linked = λ i. refl;
+        link = λ i e. e;
+        fresh = λ o i e. e;
+        recorded = λ p. refl;
+      })
+      law
 
   pub live-ended : LiveLinks g → LiveLinks ended
   live-ended law = record {
@@ -338,16 +328,18 @@ module _ (v : World) (b : Books) (g : Records) (e : End) (k : Key) (at : g.termi
           places.pending n d h) in
           let t = times_held-at v k.node e on in let one = times-has d (node_at v n).pending h in
           omega (arith, t, one, unplaced.1, ap (λ z. times z (node_at v n).pending) f, ap (λ z. times e (node_at v z).pending) m));
-      out = λ q r n item d a i h. away d q.node (places.out q r n item d a i h) (λ f.
-          let one = times-has d (ends_in item) h in
-          let has = total-has (names_end e r.end) r.out_queue n item i in
-          let le = in_router-within (names_end e) g v q r (on_nodes q r a) a in
-          omega (arith, one, has, le, in_router-is (names_end e) r, unplaced.0, ap (λ z. times z (ends_in item)) f));
-      inn = λ q r n item d a i h. away d q.node (places.inn q r n item d a i h) (λ f.
-          let one = times-has d (ends_in item) h in
-          let has = total-has (names_end e (opposite_end r.end)) r.in_queue n item i in
-          let le = in_router-within (names_end e) g v q r (on_nodes q r a) a in
-          omega (arith, one, has, le, in_router-is (names_end e) r, unplaced.0, ap (λ z. times z (ends_in item)) f));
+      each = λ q r a. record {
+        out = λ n item d i h. away d q.node ((places.each q r a).out n item d i h) (λ f.
+            let one = times-has d (ends_in item) h in
+            let has = total-has (names_end e r.end) r.out_queue n item i in
+            let le = in_router-within (names_end e) g v q r (on_nodes q r a) a in
+            omega (arith, one, has, le, in_router-is (names_end e) r, unplaced.0, ap (λ z. times z (ends_in item)) f));
+        inn = λ n item d i h. away d q.node ((places.each q r a).inn n item d i h) (λ f.
+            let one = times-has d (ends_in item) h in
+            let has = total-has (names_end e (opposite_end r.end)) r.in_queue n item i in
+            let le = in_router-within (names_end e) g v q r (on_nodes q r a) a in
+            omega (arith, one, has, le, in_router-is (names_end e) r, unplaced.0, ap (λ z. times z (ends_in item)) f));
+      };
       within = λ n i l s number item moves d u h. away d n (places.within n i l s number item moves d u h) (λ f.
           let one = times-has d (ends_in item) h in
           let has = in_places-has (names_end e) g v n n i (messages.Item l s number item moves) u in

@@ -96,7 +96,7 @@ half_sender w g k r p d links law stands bypasses here on off h =
         g q d.side in
         let is : (g.bypass o).inner ≡ q = stands.by_inner q o by in
         let across : opposite p.side ≡ across_side g o = ap opposite (side ∙ ap (λ z. (g.peripheral z).end.side) (sym is)) in
-        ap (λ z. side_router g z (opposite p.side)) link ∙ ap (side_router g (fresh_of g o)) across ∙ bypasses.fresh_awaited o stage
+        ap (λ z. side_router g z (opposite p.side)) link ∙ ap (side_router g (fresh_of g o)) across ∙ (bypasses o).fresh_awaited stage
 
 is_awaited-waiting : (d : Descriptor) → is_awaited (Waiting d) ≡ true
 unfolding is_awaited
@@ -169,7 +169,7 @@ module _ (w : World) (b : Books) (g : Records) (k : Key) (r : Router) (from to i
       let v : IsItemUnderWay w from to i p.link p.side n item moves =
       subst (λ z. IsItemUnderWay w from to i z p.side n item moves) (sym pl)
       (subst (λ z. IsItemUnderWay w from to i l z n item moves) (sym ps) u) in
-      let le : len ≤ n = law.fresh_numbers.comes k r p d len from to i n item moves here isp isd q v in
+      let le : len ≤ n = (law.fresh_numbers k r here).comes p d len from to i n item moves isp isd q v in
       has_passed-known (side_length g d.link (opposite d.side)) len n q le
 
   other : (p d : LinkEnd) (x : ℕ) → r.outward.primary ≡ Some p → r.outward.decaying ≡ Some d → d.link ≡ l → d.side ≡ s →
@@ -183,7 +183,7 @@ module _ (w : World) (b : Books) (g : Records) (k : Key) (r : Router) (from to i
   other p d x isp isd dl ds h (Some len) q =
       let c = fresh_central w g k r p d law.positions here isp isd in
       let f = central_sends w g p.link (opposite p.side) c.0 x c.1 h in
-      let le : len ≤ f.0.out_queue.current = law.fresh_numbers.other k r f.0 p d len here isp isd q f.1 in
+      let le : len ≤ f.0.out_queue.current = (law.fresh_numbers k r here).other f.0 p d len isp isd q f.1 in
       let less : n < len = fit.below_length len (ap (λ z. side_length g z (opposite s)) (sym dl) ∙ ap
       (λ z. side_length g d.link (opposite z)) (sym ds) ∙ q) in
       omega (arith, le, less, f.2)

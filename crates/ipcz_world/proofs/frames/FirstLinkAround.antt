@@ -26,7 +26,7 @@ module _ {w v : World} {b : Books} {g : Records} {owner' : ℕ → Owner} {centr
   not_here j l e = not_both (is_linked (g.owner i)) (ap (λ j. is_linked (g.owner j)) (sym e) ∙ l) is.free
 
   pub begun_apart : (o : ℕ) → is_begun (g.bypass o) ≡ true → o ≢ i
-  begun_apart o s = not_here o (law.bypasses.old o s)
+  begun_apart o s = not_here o ((law.bypasses o).old s)
 
   pub linked_kept : (j : ℕ) → is_linked (g.owner j) ≡ true → is_linked (owner' j) ≡ true
   linked_kept j l = ap is_linked (is.owner j (not_here j l)) ∙ l
@@ -208,12 +208,12 @@ module _ {w v : World} {b : Books} {g : Records} {owner' : ℕ → Owner} {centr
 
   pub fresh_link : (o : ℕ) → 2 ≤ (g.bypass o).stage → (g.bypass o).fresh ≢ i
   unfolding is_linked
-  fresh_link o s = not_here (g.bypass o).fresh (ap is_linked (law.bypasses.fresh_linked o s))
+  fresh_link o s = not_here (g.bypass o).fresh (ap is_linked ((law.bypasses o).fresh_linked s))
 
   -- the proxy of a bypass stands as before
   pub proxy_same : (o : ℕ) → is_begun (g.bypass o) ≡ true → router_at v (g.bypass o).proxy ≡ router_at w (g.bypass o).proxy
-  proxy_same o s = known_same (Central o) (proxy_side g o) (g.bypass o).proxy (central_recorded o (law.bypasses.old o s))
-      (law.bypasses.proxy_old o s)
+  proxy_same o s = known_same (Central o) (proxy_side g o) (g.bypass o).proxy (central_recorded o ((law.bypasses o).old s))
+      ((law.bypasses o).proxy_old s)
 
   pub same : SameMessages w v
   same = record { count = is.count; flows = is.flows; peripheral = is.next_peripheral }

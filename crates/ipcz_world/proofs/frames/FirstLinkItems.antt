@@ -88,20 +88,21 @@ module _ {w v : World} {b : Books} {g : Records} {owner' : ℕ → Owner} {centr
 
   pub terminals-grown : Terminals v h
   terminals-grown = record {
-    terminal = λ q x e t. elim (is.was q x e) [
-      | inl o ↦ terminal_kept law is x.end (law.terminals.opened q x o) ∙ law.terminals.terminal q x o t
-      | inr o ↦ fresh_terminal q x o.0 o.1
-    ];
+    each = λ q x e. record {
+      terminal = λ t. elim (is.was q x e) [
+        | inl o ↦ terminal_kept law is x.end ((law.terminals.each q x o).opened) ∙ (law.terminals.each q x o).terminal t
+        | inr o ↦ fresh_terminal q x o.0 o.1
+      ];
+      opened = elim (is.was q x e) [
+        | inl o ↦ ap is_nowhere (terminal_kept law is x.end ((law.terminals.each q x o).opened)) ∙ (law.terminals.each q x o).opened
+        | inr o ↦ ap is_nowhere (fresh_terminal q x o.0 o.1) ∙ is_nowhere-at q
+      ];
+    };
     stands = λ e k t. elim (is.terminal e) [
       | inl s ↦ passes_kept law is (Some k) (λ r. is_terminal r && same_end r.end e) (law.terminals.stands e k (sym s ∙ t))
       | inr s ↦ ap (λ k. key_passes v k (λ r. is_terminal r && same_end r.end e)) (same_key (at e.side) k (sym s.1 ∙ t)) ∙
           new_passes law is s.2
           e.side (λ r. is_terminal r && same_end r.end e) ∙ own_end e s.0
-    ];
-    opened = λ q x e. elim (is.was q x e) [
-      | inl o ↦ ap is_nowhere (terminal_kept law is x.end (law.terminals.opened q x o)) ∙ law.terminals.opened
-          q x o
-      | inr o ↦ ap is_nowhere (fresh_terminal q x o.0 o.1) ∙ is_nowhere-at q
     ];
     link_opened = λ l s r. elim (recorded_was law is l r) [
       | inl o ↦ ap (λ e. is_nowhere (terminal' e)) (end_kept law is l s (recorded_apart law is l o)) ∙ ap is_nowhere
@@ -151,16 +152,18 @@ module _ {w v : World} {b : Books} {g : Records} {owner' : ℕ → Owner} {centr
   end_places-grown = record {
     held = λ m e k. elim (is.held m e k) [ inl o ↦ node_known e m (law.end_places.held m e o) | inr o ↦ o ];
     pending = λ m e k. node_known e m (law.end_places.pending m e (ap (has_end e) (sym (is.pending m)) ∙ k));
-    out = λ q x n z e a c k. elim (is.was q x a) [
-      | inl o ↦ node_known e q.node (law.end_places.out q x n z e o c k)
-      | inr o ↦ absurd
-          (empty_item 0 n z (ap (λ (x : Router). item_at x.out_queue n) (sym o.0.is) ∙ c))
-    ];
-    inn = λ q x n z e a c k. elim (is.was q x a) [
-      | inl o ↦ node_known e q.node (law.end_places.inn q x n z e o c k)
-      | inr o ↦ absurd
-          (empty_item 0 n z (ap (λ (x : Router). item_at x.in_queue n) (sym o.0.is) ∙ c))
-    ];
+    each = λ q x a. record {
+      out = λ n z e c k. elim (is.was q x a) [
+        | inl o ↦ node_known e q.node ((law.end_places.each q x o).out n z e c k)
+        | inr o ↦ absurd
+            (empty_item 0 n z (ap (λ (x : Router). item_at x.out_queue n) (sym o.0.is) ∙ c))
+      ];
+      inn = λ n z e c k. elim (is.was q x a) [
+        | inl o ↦ node_known e q.node ((law.end_places.each q x o).inn n z e c k)
+        | inr o ↦ absurd
+            (empty_item 0 n z (ap (λ (x : Router). item_at x.in_queue n) (sym o.0.is) ∙ c))
+      ];
+    };
     within = λ n j l s number item moves e u k. node_known e n (law.end_places.within n j l s number item moves e
         (under-same w v n n j (messages.Item l s number item moves) (same law is) u) k);
   }
@@ -303,29 +306,29 @@ module _ {w v : World} {b : Books} {g : Records} {owner' : ℕ → Owner} {centr
     in_items = λ o r n item e s. law.proxy_numbers.in_items o r n item (stood o 3 r s (omega arith) e) s;
     across_gone = λ o r e s k. law.proxy_numbers.across_gone o r (stood o 3 r s (omega arith) e) s
         (ap is_gone (sym (view_kept law is (Central o) (across_side g o)
-        (central_recorded law is o (law.bypasses.old o (begun_by o 3 s (omega arith))))))
+        (central_recorded law is o ((law.bypasses o).old (begun_by o 3 s (omega arith))))))
         ∙ k);
     inner_gone = λ o r e s k. let le : 5 ≤ (g.bypass o).stage = omega (arith, s) in
         law.proxy_numbers.inner_gone o r (stood o 5 r le (omega arith) e) s
-        (ap is_gone (sym (view_kept law is (inner_of g o) B (law.bypasses.inner o (begun_by o 5 le (omega arith))))) ∙ k);
+        (ap is_gone (sym (view_kept law is (inner_of g o) B ((law.bypasses o).inner (begun_by o 5 le (omega arith))))) ∙ k);
     out_finished = λ o r e s. law.proxy_numbers.out_finished o r (stood o 4 r s (omega arith) e) s;
     in_finished = λ o r e s. law.proxy_numbers.in_finished o r (stood o 4 r s (omega arith) e) s;
   }
 
   pub fresh_numbers-grown : FreshNumbers v h
-  fresh_numbers-grown = record {
-    own = λ q x e f len a on off l. elim (is.was q x a) [
-      | inl o ↦ law.fresh_numbers.own q x e f len o on off l
+  fresh_numbers-grown q x a = record {
+    own = λ e f len on off l. elim (is.was q x a) [
+      | inl o ↦ (law.fresh_numbers q x o).own e f len on off l
       | inr o ↦ absurd
           (no_end law is x.outward.decaying f (ap (λ (x : Router). x.outward.decaying) o.0.is) off)
     ];
-    comes = λ q x e f len from to j m z moves a on off l u. elim (is.was q x a) [
-      | inl o ↦ law.fresh_numbers.comes q x e f len from to j m z moves o on off (sym (length_kept law is f.link (opposite f.side)) ∙ l)
+    comes = λ e f len from to j m z moves on off l u. elim (is.was q x a) [
+      | inl o ↦ (law.fresh_numbers q x o).comes e f len from to j m z moves on off (sym (length_kept law is f.link (opposite f.side)) ∙ l)
           (under-same w v from to j (messages.Item e.link e.side m z moves) (same law is) u)
       | inr o ↦ absurd (no_end law is x.outward.decaying f (ap (λ (x : Router). x.outward.decaying) o.0.is) off)
     ];
-    other = λ q x y e f len a on off l there. elim (is.was q x a) [
-      | inl o ↦ law.fresh_numbers.other q x y e f len o on off (sym (length_kept law is f.link (opposite f.side)) ∙ l)
+    other = λ y e f len on off l there. elim (is.was q x a) [
+      | inl o ↦ (law.fresh_numbers q x o).other y e f len on off (sym (length_kept law is f.link (opposite f.side)) ∙ l)
           (ap standing_router (sym (view_kept law is e.link (opposite e.side) ((law.links q x o).primary e on).recorded)) ∙ there)
       | inr o ↦ absurd (no_end law is x.outward.decaying f (ap (λ (x : Router). x.outward.decaying) o.0.is) off)
     ];

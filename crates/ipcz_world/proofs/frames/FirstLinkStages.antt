@@ -5,12 +5,12 @@ use Rattle.ipcz_base.specs.Ends.{end_at}
 use Rattle.std.proofs.Common.{true≢false}
 use Rattle.ipcz_world.specs.Records.{is_nowhere, side_end}
 use Rattle.ipcz_world.proofs.frames.Sourcing.{sourced-by, had-itself}
-use Rattle.std.specs.Prelude.{◌≡◌, ◌≢◌, ◌⊎◌, ◌≤◌, ℕ, Bool, true, false, nat_eq, Option, Some, None, is_some, refl}
+use Rattle.std.specs.Prelude.{◌≡◌, ◌≢◌, ◌⊎◌, ℕ, Bool, true, false, nat_eq, Option, Some, None, is_some, refl}
 use Rattle.std.proofs.Common.{arith, ap, ◌∙◌, sym, inl, inr}
 use Rattle.std.proofs.lemmas.Bool.Decides.{nat_tests}
 use Rattle.ipcz_world.proofs.Vocabulary.{Side, A, B, End, LinkId, Central, Peripheral, Message, has, opposite, Word, empty_word}
 use Rattle.ipcz_world.proofs.Vocabulary.{open_word, Router, World, Key, word_at, router_at, Books, Records, Owner, Terminal, is_linked}
-use Rattle.ipcz_world.proofs.Vocabulary.{is_begun, is_recorded, inner_link, side_router, proxy_side, across_side, key_passes, has_primary}
+use Rattle.ipcz_world.proofs.Vocabulary.{is_begun, is_recorded, inner_link, side_router, across_side, key_passes, has_primary}
 use Rattle.ipcz_world.proofs.Vocabulary.{IsUnderWay, Stands, Words, Spares, BypassRecords, Stages, Told, inner_of, of_bypass}
 use Rattle.ipcz_world.proofs.Vocabulary.{control_weight, Inv}
 use Rattle.ipcz_base.specs.declared.message.Message.TheVariants as messages
@@ -27,6 +27,7 @@ use Rattle.ipcz_world.proofs.frames.FirstLinkAround.{node_kept, end_kept, bypass
 use Rattle.ipcz_world.proofs.frames.FirstLinkAround.{not_inner, begun_link, by_word, central_apart, central_recorded, new_passes}
 use Rattle.ipcz_world.proofs.frames.FirstLinkAround.{fresh_link, proxy_same, same, left_same}
 use Rattle.ipcz_world.specs.Records.{is_left}
+use Rattle.ipcz_world.proofs.frames.BypassesKept.{bypass-kept, same_bypass}
 
 module _ {w v : World} {b : Books} {g : Records} {owner' : ℕ → Owner} {central' : ℕ → CentralRecord} {terminal' : End → Terminal} {i : ℕ}
     {at : Side → Key} (law : Inv w b g) (is : IsGrown w v g owner' central' terminal' i at) where
@@ -125,7 +126,7 @@ module _ {w v : World} {b : Books} {g : Records} {owner' : ℕ → Owner} {centr
         (l ∙ ap Central m)))) law.words.source;
     begun_source = λ o s l. ap (λ (x : Word). x.source) (is.word o (begun_apart law is o s)) ∙ law.words.begun_source o s l ∙ ap Some
         (sym (node_kept law is (inner_link (g.bypass o).inner) B
-        (recorded_apart law is (inner_link (g.bypass o).inner) (law.bypasses.inner o s))));
+        (recorded_apart law is (inner_link (g.bypass o).inner) ((law.bypasses o).inner s))));
   }
     where
       same_number : (j : ℕ) → (j ≡ i) ⊎ (j ≢ i)
@@ -176,7 +177,7 @@ module _ {w v : World} {b : Books} {g : Records} {owner' : ℕ → Owner} {centr
       none : (o x : ℕ) → (g.bypass o).stage ≡ 1 → (central' x).pair ≡ (central' o).pair →
           ((x ≢ i) × (is_linked (g.owner x) ≡ true)) ⊎ ((x ≡ i) × (is_linked (owner' i) ≡ true)) → is_begun (g.bypass x) ≡ true
       none o x s e (inl a) = law.live.none_live o x s a.1 (sym (old_pair x a.0) ∙ e ∙ old_pair o (begun o s))
-      none o x s e (inr a) = absurd (no_pair o (law.bypasses.old o (first_begun (g.bypass o).stage s))
+      none o x s e (inr a) = absurd (no_pair o ((law.bypasses o).old (first_begun (g.bypass o).stage s))
           (sym (old_pair o (begun o s)) ∙ sym e ∙ new_pair x a.0 a.1))
 
   pub spares-grown : Spares v h
@@ -203,55 +204,37 @@ module _ {w v : World} {b : Books} {g : Records} {owner' : ℕ → Owner} {centr
       back q j s (Some x) e = ap spare_of (kept law is q x e ∙ sym e) ∙ s
 
   pub bypasses-grown : BypassRecords v h
-  bypasses-grown = record {
-    stage = law.bypasses.stage;
-    old = λ o s. linked_kept law is o (law.bypasses.old o s);
-    inner = λ o s. recorded_kept law is (inner_of g o) (law.bypasses.inner o s);
-    inner_by = law.bypasses.inner_by;
-    pair = λ o s. law.bypasses.pair o s ∙ ap (λ (c : CentralRecord). c.pair) (sym (is.central o (begun_apart law is o s)));
-    proxy_old = λ o s. router_kept law is (Central o) (proxy_side g o) (begun_link law is o s) ∙ law.bypasses.proxy_old o s;
-    proxy_inner = λ o s. router_kept law is (inner_of g o) A (not_inner law is (g.bypass o).inner) ∙ law.bypasses.proxy_inner o s;
-    across = λ o s. ap is_some (router_kept law is (Central o) (across_side g o) (begun_link law is o s)) ∙ law.bypasses.across o s;
-    fresh = λ o s. let e = law.bypasses.fresh o s in is.owner (g.bypass o).fresh (λ f. is.no_fresh o (ap g.owner (sym f) ∙ e)) ∙ e;
-    fresh_linked = λ o s. is.owner (g.bypass o).fresh (fresh_link law is o s) ∙ law.bypasses.fresh_linked o s;
-    fresh_born = λ o s. ap (λ (c : CentralRecord). c.born) (is.central (g.bypass o).fresh (fresh_link law is o s)) ∙
-        law.bypasses.fresh_born o s;
-    fresh_pair = λ o s. ap (λ (c : CentralRecord). c.pair) (is.central (g.bypass o).fresh (fresh_link law is o s)) ∙
-        law.bypasses.fresh_pair o s ∙
-        ap (λ (c : CentralRecord). c.pair) (sym (is.central o (begun_apart law is o (begun o s))));
-    inner_known = λ o s. ap is_some (router_kept law is (inner_of g o) B (not_inner law is (g.bypass o).inner)) ∙
-        law.bypasses.inner_known o s;
-    fresh_inner = λ o s. router_kept law is (fresh_of g o) (proxy_side g o)
-        (central_apart law is (g.bypass o).fresh (fresh_link law is o s)) ∙
-        law.bypasses.fresh_inner o s ∙ sym (router_kept law is (inner_of g o) B (not_inner law is (g.bypass o).inner));
-    fresh_inner_node = λ o s. node_kept law is (fresh_of g o) (proxy_side g o)
-        (central_apart law is (g.bypass o).fresh (fresh_link law is o s)) ∙
-        law.bypasses.fresh_inner_node o s ∙ sym (node_kept law is (inner_of g o) B (not_inner law is (g.bypass o).inner));
-    fresh_across_node = λ o s. node_kept law is (fresh_of g o) (across_side g o)
-        (central_apart law is (g.bypass o).fresh (fresh_link law is o s)) ∙
-        law.bypasses.fresh_across_node o s ∙ sym (node_kept law is (Central o) (across_side g o) (begun_link law is o (begun o s)));
-    fresh_awaited = λ o s. router_kept law is (fresh_of g o) (across_side g o)
-        (central_apart law is (g.bypass o).fresh (fresh_link law is o (omega (arith, s))))
-        ∙ law.bypasses.fresh_awaited o s;
-    fresh_across = λ o s. router_kept law is (fresh_of g o) (across_side g o)
-        (central_apart law is (g.bypass o).fresh (fresh_link law is o (omega (arith, s))))
-        ∙ law.bypasses.fresh_across o s ∙
-        sym (router_kept law is (Central o) (across_side g o) (begun_link law is o (begun o (omega (arith, s)))));
-    born_fresh = λ j o l e. elim (by_word law is j l) [
-      | inl f ↦ law.bypasses.born_fresh j o f.1
-          (ap (λ (c : CentralRecord). c.born) (sym (is.central j f.0)) ∙ e)
-      | inr f ↦ absurd (unborn j o f e)
-    ];
-    born_stage = λ j o l e. elim (by_word law is j l) [
-      | inl f ↦ law.bypasses.born_stage j o f.1
-          (ap (λ (c : CentralRecord). c.born) (sym (is.central j f.0)) ∙ e)
-      | inr f ↦ absurd (unborn j o f e)
-    ];
-  }
+  bypasses-grown o = bypass-kept {w = w}
+      (record {
+        same = same_bypass (g.bypass o);
+        old = λ s. record {
+          linked = linked_kept law is o;
+          recorded = recorded_kept law is (inner_of g o);
+          by = refl;
+          inner_pair = refl;
+          pair = ap (λ (c : CentralRecord). c.pair) (is.central o (begun_apart law is o s));
+          side = refl;
+          router = λ t. router_kept law is (Central o) t (begun_link law is o s);
+          node = λ t. node_kept law is (Central o) t (begun_link law is o s);
+          inner_router = router_kept law is (inner_of g o) A (not_inner law is (g.bypass o).inner);
+        };
+        fresh = λ s e. is.owner (g.bypass o).fresh (λ f. is.no_fresh o (ap g.owner (sym f) ∙ e)) ∙ e;
+        late = λ s. record {
+          linked = λ e. is.owner (g.bypass o).fresh (fresh_link law is o s) ∙ e;
+          born = ap (λ (c : CentralRecord). c.born) (is.central (g.bypass o).fresh (fresh_link law is o s));
+          pair = ap (λ (c : CentralRecord). c.pair) (is.central (g.bypass o).fresh (fresh_link law is o s));
+          router = λ t. router_kept law is (fresh_of g o) t (central_apart law is (g.bypass o).fresh (fresh_link law is o s));
+          node = λ t. node_kept law is (fresh_of g o) t (central_apart law is (g.bypass o).fresh (fresh_link law is o s));
+          inner_router = router_kept law is (inner_of g o) B (not_inner law is (g.bypass o).inner);
+          inner_node = node_kept law is (inner_of g o) B (not_inner law is (g.bypass o).inner);
+        };
+        born = λ j l e. elim (by_word law is j l) [
+          | inl f ↦ (f.1, ap (λ (c : CentralRecord). c.born) (sym (is.central j f.0)) ∙ e)
+          | inr f ↦ absurd (unborn j o f e)
+        ];
+      })
+      (law.bypasses o)
     where
-      begun : (o : ℕ) → 2 ≤ (g.bypass o).stage → is_begun (g.bypass o) ≡ true
-      begun o s = grind (arith, s, nat_tests)
-
       unborn : (j o : ℕ) → (j ≡ i) × (is_linked (owner' i) ≡ true) → (central' j).born ≡ Some o → ⊥
       unborn j o f e = let two : None ≡ Some o = sym (is.linked f.1).born ∙ ap (λ j. (central' j).born) (sym f.0) ∙ e in cc
 

@@ -8,7 +8,7 @@ use Rattle.std.proofs.Common.{arith, sym, ◌∙◌, ap, subst, inl, inr}
 use Rattle.std.proofs.lemmas.Option.{same_Some, none-some}
 use Rattle.ipcz_world.proofs.Vocabulary.{Side, A, B, End, LinkId, Central, LinkEnd, Descriptor, Item, Message, opposite, has, same_end}
 use Rattle.ipcz_world.proofs.Vocabulary.{opposite_end, has_end, has_link, item_at, Router, is_terminal, inward_edge, World, Key, same_key}
-use Rattle.ipcz_world.proofs.Vocabulary.{node_at, router_at, Books, is_closed, Spare, Records, is_nowhere, is_linked, is_begun}
+use Rattle.ipcz_world.proofs.Vocabulary.{node_at, router_at, Books, is_closed, Spare, Records, is_linked, is_begun}
 use Rattle.ipcz_world.proofs.Vocabulary.{side_router, side_length, proxy_side, across_side, Weight, in_router, times, at_end, names_end}
 use Rattle.ipcz_world.proofs.Vocabulary.{IsUnderWay, total_below, view, passes, key_passes, is_gone, has_decaying, has_inward_decaying}
 use Rattle.ipcz_world.proofs.Vocabulary.{Counts, Shape, Stands, Words, Spares, Stages, inner_of, Terminals, EndPlaces, BooksKept}
@@ -31,6 +31,7 @@ use Rattle.ipcz_world.proofs.frames.GonesKept.{IsGoneLike, gones-by}
 use Rattle.ipcz_world.specs.Whereabouts.{Gones}
 use Rattle.ipcz_world.specs.Records.{is_left}
 use Rattle.ipcz_router.specs.Router.{decays}
+use Rattle.ipcz_world.proofs.frames.EndsKept.{terminal-kept, ends-kept}
 
 pub has_some : (o : Option LinkEnd) (l : LinkId) (s : Side) → has_link o l s ≡ true → is_some o ≡ true
 unfolding has_link
@@ -142,9 +143,9 @@ pub terminals-gives : (w v : World) (g : Records) (k : Key) (r : Router) (x : Op
     (x ≡ None → is_terminal r ≡ false) → Terminals w g →
     Terminals v g
 terminals-gives w v g k r x c lone law = record {
-  terminal = λ q y at h. let o = was c q y at in ap g.terminal o.part.end ∙ law.terminal q o.router o.at (sym o.part.terminal ∙ h);
+  each = λ q y at. let o = was c q y at in
+      terminal-kept {g = g} {h = g} (λ e. refl) o.part.end (λ m. sym o.part.terminal ∙ m) (law.each q o.router o.at);
   stands = λ e q h. passes-still c _ _ (law.stands e q h) (λ f. terminal_passes e x refl);
-  opened = λ q y at. let o = was c q y at in ap (λ e. is_nowhere (g.terminal e)) o.part.end ∙ law.opened q o.router o.at;
   link_opened = λ l s a. law.link_opened l s (sym (recorded-same w v g l (same-messages c.one)) ∙ a);
   both = law.both;
   unopened = law.unopened;
@@ -161,9 +162,9 @@ pub end_places-gives : (w v : World) (g : Records) (k : Key) (r : Router) (x : O
 end_places-gives w v g k r x c law = record {
   held = λ n e h. law.held n e (sym (ap (holds e) (c.one.nodes n).held) ∙ h);
   pending = λ n e h. law.pending n e (sym (ap (has_end e) (c.one.nodes n).pending) ∙ h);
-  out = λ q y n item e at i h. let o = was c q y at in law.out q o.router n item e o.at (sym (ap (λ z. item_at z n) o.part.out_queue) ∙ i)
-      h;
-  inn = λ q y n item e at i h. let o = was c q y at in law.inn q o.router n item e o.at (sym (ap (λ z. item_at z n) o.part.in_queue) ∙ i) h;
+  each = λ q y at. let o = was c q y at in
+      ends-kept {g = g} {h = g} {r = o.router} (λ e. refl) (λ n item i. sym (ap (λ z. item_at z n) o.part.out_queue) ∙ i)
+      (λ n item i. sym (ap (λ z. item_at z n) o.part.in_queue) ∙ i) (law.each q o.router o.at);
   within = λ n i l s number item moves e u h. law.within n i l s number item moves e (under-same w v _ _ _ _ (same-messages c.one) u) h;
 }
 
@@ -286,17 +287,17 @@ proxy_numbers-gives w v g k r x c is law = record {
 
 pub fresh_numbers-gives : (w v : World) (g : Records) (k : Key) (r : Router) (x : Option Router) → Gives w v k r x → FreshNumbers w g →
     FreshNumbers v g
-fresh_numbers-gives w v g k r x c law = record {
-  own = λ q y p d n at a b e. let o = was c q y at in grind (
+fresh_numbers-gives w v g k r x c law q y at = let o = was c q y at in record {
+  own = λ p d n a b e. grind (
     arith,
     o.part.out_queue,
-    law.own q o.router p d n o.at (sym o.part.primary ∙ a) (o.part.decaying d b) (sym (o.part.length_to d b) ∙ e),
+    (law q o.router o.at).own p d n (sym o.part.primary ∙ a) (o.part.decaying d b) (sym (o.part.length_to d b) ∙ e),
   );
-  comes = λ q y p d length from to i n item moves at a b e u. let o = was c q y at in
-      law.comes q o.router p d length from to i n item moves o.at (sym o.part.primary ∙ a) (o.part.decaying d b) e
+  comes = λ p d length from to i n item moves a b e u.
+      (law q o.router o.at).comes p d length from to i n item moves (sym o.part.primary ∙ a) (o.part.decaying d b) e
       (under-same w v _ _ _ _ (same-messages c.one) u);
-  other = λ q y z p d n at a b e h. let o = was c q y at in let t = standing-seen _ _ r x _ _ z (see c g p.link (opposite p.side)) h in
-      grind (arith, t.out_queue, law.other q o.router t.router p d n o.at (sym o.part.primary ∙ a) (o.part.decaying d b) e t.stood);
+  other = λ z p d n a b e h. let t = standing-seen _ _ r x _ _ z (see c g p.link (opposite p.side)) h in
+      grind (arith, t.out_queue, (law q o.router o.at).other t.router p d n (sym o.part.primary ∙ a) (o.part.decaying d b) e t.stood);
 }
 
 -- nothing is lost or made

@@ -16,6 +16,7 @@ use Rattle.ipcz_world.specs.Records.{bypass_length, length_by, is_left, is_uncla
 use Rattle.ipcz_world.specs.Bypasses.{Moves, LiveLinks}
 use Rattle.ipcz_world.proofs.frames.Touching.{either}
 use Rattle.ipcz_world.proofs.weights.Sourcing.{places-sources}
+use Rattle.ipcz_world.proofs.frames.BypassesKept.{bypasses-alike, same_bypass}
 
 -- the records with other owners of words, and other sides that were left
 abbrev pub off_records : Records → (ℕ → Owner) → (ℕ → Sides) → (Key → Sides) → Records
@@ -72,29 +73,17 @@ module _ {g : Records} {owner : ℕ → Owner} {central : ℕ → Sides} {periph
     positions-off law = positions-kept (record { bypass = λ o. refl; begun = λ k. refl; by = λ p. refl; link = λ l. refl; side = λ o. refl }) law
 
     pub bypasses-off : BypassRecords v g → BypassRecords v h
-    unfolding side_router side_node
-    bypasses-off law = record {
-      stage = law.stage;
-      old = λ o a. is.linked o ∙ law.old o a;
-      inner = λ o a. recorded-off (inner_link (g.bypass o).inner) ∙ law.inner o a;
-      inner_by = law.inner_by;
-      pair = law.pair;
-      proxy_old = law.proxy_old;
-      proxy_inner = law.proxy_inner;
-      across = law.across;
-      fresh = λ o a. is.fresh o (g.bypass o).fresh (law.fresh o a);
-      fresh_linked = λ o a. is.link (g.bypass o).fresh (law.fresh_linked o a);
-      fresh_born = law.fresh_born;
-      fresh_pair = law.fresh_pair;
-      inner_known = law.inner_known;
-      fresh_inner = law.fresh_inner;
-      fresh_inner_node = law.fresh_inner_node;
-      fresh_across_node = law.fresh_across_node;
-      fresh_awaited = law.fresh_awaited;
-      fresh_across = law.fresh_across;
-      born_fresh = λ i o a. law.born_fresh i o (sym (is.linked i) ∙ a);
-      born_stage = λ i o a. law.born_stage i o (sym (is.linked i) ∙ a);
-    }
+    bypasses-off law = bypasses-alike {w = v}
+        (record {
+          same = λ o. same_bypass (g.bypass o);
+          central = λ i. refl;
+          peripheral = λ p. refl;
+          linked = is.linked;
+          link = is.link;
+          fresh = is.fresh;
+          recorded = λ p. recorded-off (inner_link p);
+        })
+        law
 
     pub live-off : LiveLinks g → LiveLinks h
     live-off law = record {
@@ -133,9 +122,8 @@ module _ {g : Records} {owner : ℕ → Owner} {central : ℕ → Sides} {periph
     pub terminals-off : Terminals v g → Terminals v h
     unfolding side_end
     terminals-off law = record {
-      terminal = law.terminal;
+      each = λ q z at. let is = law.each q z at in record { terminal = is.terminal; opened = is.opened };
       stands = law.stands;
-      opened = law.opened;
       link_opened = λ l s a. law.link_opened l s (sym (recorded-off l) ∙ a);
       both = law.both;
       unopened = λ e a. law.unopened e (sym (is.linked e.pair) ∙ a);
@@ -143,7 +131,12 @@ module _ {g : Records} {owner : ℕ → Owner} {central : ℕ → Sides} {periph
     }
 
     pub end_places-off : EndPlaces v g → EndPlaces v h
-    end_places-off law = record { held = law.held; pending = law.pending; out = law.out; inn = law.inn; within = law.within }
+    end_places-off law = record {
+      held = law.held;
+      pending = law.pending;
+      each = λ q z at. let is = law.each q z at in record { out = is.out; inn = is.inn };
+      within = law.within;
+    }
 
     pub items-off : Items v g → Items v h
     unfolding side_node side_router side_end view_by length_by bypass_of bypass_length
@@ -194,7 +187,7 @@ module _ {g : Records} {owner : ℕ → Owner} {central : ℕ → Sides} {periph
 
     pub fresh_numbers-off : FreshNumbers v g → FreshNumbers v h
     unfolding side_router side_end view_by length_by bypass_of bypass_length
-    fresh_numbers-off law = record { own = law.own; comes = law.comes; other = law.other }
+    fresh_numbers-off law q z at = let is = law q z at in record { own = is.own; comes = is.comes; other = is.other }
 
     pub books_kept-off : {b : Books} → BooksKept v b g → BooksKept v b h
     books_kept-off law = record {

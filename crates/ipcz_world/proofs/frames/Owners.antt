@@ -126,9 +126,8 @@ module _ (v : World) (b : Books) (g : Records) (i : ℕ) (x : Owner) (free : is_
     pub terminals-owned : Terminals v g → Terminals v owned
     unfolding side_end
     terminals-owned law = record {
-      terminal = law.terminal;
+      each = λ q z at. let is = law.each q z at in record { terminal = is.terminal; opened = is.opened };
       stands = law.stands;
-      opened = law.opened;
       link_opened = λ l s a. law.link_opened l s (sym (recorded-owned l) ∙ a);
       both = law.both;
       unopened = λ e a. law.unopened e (sym (linked-owned e.pair) ∙ a);
@@ -173,4 +172,4 @@ module _ (v : World) (b : Books) (g : Records) (i : ℕ) (x : Owner) (free : is_
 
     pub fresh_numbers-owned : FreshNumbers v g → FreshNumbers v owned
     unfolding side_router side_end view_by length_by bypass_of bypass_length
-    fresh_numbers-owned law = record { own = law.own; comes = law.comes; other = law.other }
+    fresh_numbers-owned law q z at = let is = law q z at in record { own = is.own; comes = is.comes; other = is.other }

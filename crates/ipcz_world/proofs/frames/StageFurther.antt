@@ -36,6 +36,7 @@ use Rattle.ipcz_world.proofs.frames.Unmoved.{is_recorded-kept, key_passes-kept}
 use Rattle.ipcz_world.proofs.views.Viewing.{IsSameView, view-kept}
 use Rattle.ipcz_world.proofs.facts.Lengths.{length-old, length-proxy, length-inner, length-live, length-none, known_from-yes}
 use Rattle.ipcz_world.proofs.frames.Sealing.{Sealed, shape_of, links_of, stands_of, words_of, bypasses_of, stages_of}
+use Rattle.ipcz_world.proofs.frames.BypassesKept.{bypasses-alike}
 
 -- two routers with the same links, marked alike
 pub record IsLinkedLike (r x : Router) : Type 0 where
@@ -376,38 +377,24 @@ module _ {w v : World} {b : Books} {g : Records} {k : Key} {r x : Router} {o s :
   }
 
   pub bypasses-further : BypassRecords v h
-  bypasses-further = record {
-    stage = λ j. grind (arith, stage_at j, (bypasses_of law).stage j, early);
-    old = λ j n. (bypasses_of law).old j (sym (agree.is_begun j) ∙ n);
-    inner = λ j n. ap (λ p. is_recorded v h (inner_link p)) (agree.inner j) ∙ recorded_same (inner_of g j) ∙ (bypasses_of law).inner j
-        (sym (agree.is_begun j) ∙ n);
-    inner_by = λ j n. ap (λ p. (g.peripheral p).by) (agree.inner j) ∙ (bypasses_of law).inner_by j (sym (agree.is_begun j) ∙ n);
-    pair = λ j n. ap (λ p. (g.peripheral p).end.pair) (agree.inner j) ∙ (bypasses_of law).pair j (sym (agree.is_begun j) ∙ n);
-    proxy_old = λ j n. router_same (Central j) (proxy_side h j) ∙ ap (side_router g (Central j)) (proxy_side_same j) ∙
-        (bypasses_of law).proxy_old j (sym (agree.is_begun j) ∙ n) ∙ ap Some (sym (agree.proxy j));
-    proxy_inner = λ j n. ap (λ p. side_router h (inner_link p) A) (agree.inner j) ∙ router_same (inner_of g j) A ∙
-        (bypasses_of law).proxy_inner j (sym (agree.is_begun j) ∙ n) ∙ ap Some (sym (agree.proxy j));
-    across = λ j n. ap is_some (router_same (Central j) (across_side h j) ∙ ap (side_router g (Central j)) (across_side_same j)) ∙
-        (bypasses_of law).across j (sym (agree.is_begun j) ∙ n);
-    fresh = λ j n. grind (arith, (bypasses_of law).fresh j (just j 1 (omega arith) n), at_o j, at, late);
-    fresh_linked = λ j n. ap g.owner (agree.fresh j) ∙ (bypasses_of law).fresh_linked j (at_least j 2 (omega arith) n);
-    fresh_born = λ j n. ap (λ i. (g.central i).born) (agree.fresh j) ∙ (bypasses_of law).fresh_born j (at_least j 2 (omega arith) n);
-    fresh_pair = λ j n. ap (λ i. (g.central i).pair) (agree.fresh j) ∙ (bypasses_of law).fresh_pair j (at_least j 2 (omega arith) n);
-    inner_known = λ j n. ap is_some (ap (λ p. side_router h (inner_link p) B) (agree.inner j) ∙ router_same (inner_of g j) B) ∙
-        (bypasses_of law).inner_known j (at_least j 2 (omega arith) n);
-    fresh_inner = λ j n. rw (agree.fresh j, proxy_side_same j, agree.inner j)
-        (router_same (fresh_of g j) (proxy_side g j) ∙ (bypasses_of law).fresh_inner j (at_least j 2 (omega arith) n) ∙ sym
-        (router_same (inner_of g j) B));
-    fresh_inner_node = λ j n. rw (agree.fresh j, proxy_side_same j, agree.inner j)
-        (node_same (fresh_of g j) (proxy_side g j) ∙ (bypasses_of law).fresh_inner_node j (at_least j 2 (omega arith) n) ∙ sym
-        (node_same (inner_of g j) B));
-    fresh_across_node = λ j n. rw (agree.fresh j, across_side_same j)
-        (node_same (fresh_of g j) (across_side g j) ∙ (bypasses_of law).fresh_across_node j (at_least j 2 (omega arith) n) ∙ sym
-        (node_same (Central j) (across_side g j)));
-    fresh_awaited = λ j n. rw (agree.fresh j, across_side_same j)
-        (router_same (fresh_of g j) (across_side g j) ∙ (bypasses_of law).fresh_awaited j (just j 2 (omega arith) n));
-    fresh_across = λ j n. rw (agree.fresh j, across_side_same j) (router_same (fresh_of g j) (across_side g j) ∙
-        (bypasses_of law).fresh_across j (at_least j 3 (omega arith) n) ∙ sym (router_same (Central j) (across_side g j)));
-    born_fresh = λ i j l n. agree.fresh j ∙ (bypasses_of law).born_fresh i j l n;
-    born_stage = λ i j l n. grind (arith, (bypasses_of law).born_stage i j l n, at_o j, at, late);
-  }
+  bypasses-further = bypasses-alike {w = w}
+      (record {
+        same = λ j. record {
+          proxy = agree.proxy j;
+          inner = agree.inner j;
+          fresh = agree.fresh j;
+          most = λ m. grind (arith, stage_at j, m, early);
+          begun = λ n. sym (agree.is_begun j) ∙ n;
+          first = just j 1 (omega arith);
+          second = just j 2 (omega arith);
+          third = at_least j 3 (omega arith);
+          back = λ m. grind (arith, m, at_o j, at, late);
+        };
+        central = λ i. refl;
+        peripheral = λ p. refl;
+        linked = λ i. refl;
+        link = λ i e. e;
+        fresh = λ j i e. e;
+        recorded = λ p. recorded_same (inner_link p);
+      })
+      (bypasses_of law)

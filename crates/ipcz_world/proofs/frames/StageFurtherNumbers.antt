@@ -179,21 +179,21 @@ module _ {w v : World} {b : Books} {g : Records} {k : Key} {r x : Router} {o s :
 
   pub fresh_numbers-further : ((p d : LinkEnd) (len : ℕ) → x.outward.primary ≡ Some p → x.outward.decaying ≡ Some d →
       x.outward.length_to ≡ Some len → len ≤ r.out_queue.current) → FreshNumbers v h
-  fresh_numbers-further own = record {
-    own = λ q t p d len e prim dec l. own_at q t p d len e prim dec l (same_key_tells q k);
-    comes = λ q t p d len a f i n m ms e prim dec l u. let z : Was law c like linked carried at late early q t =
+  fresh_numbers-further own q t e = record {
+    own = λ p d len prim dec l. own_at q t p d len e prim dec l (same_key_tells q k);
+    comes = λ p d len a f i n m ms prim dec l u. let z : Was law c like linked carried at late early q t =
         was_router law c like linked carried at late early q t e in
-        (fresh_numbers_of law).comes q z.router p d len a f (carried.place a f i) n m ms z.here_before (sym z.linked_alike.primary ∙ prim)
+        (fresh_numbers_of law q z.router z.here_before).comes p d len a f (carried.place a f i) n m ms (sym z.linked_alike.primary ∙ prim)
         (sym z.linked_alike.decaying ∙ dec) (sym (length_same law c like linked carried at late early d.link (opposite d.side)) ∙ l)
         (carried.was a f i p.link p.side n m ms u);
-    other = λ q t t' p d len e prim dec l there. let z : Was law c like linked carried at late early q t =
+    other = λ t' p d len prim dec l there. let z : Was law c like linked carried at late early q t =
         was_router law c like linked carried at late early q t e in
         let found : HasOutQueue (standing_router (view w g p.link (opposite p.side))) t'.out_queue =
         out_queue_of _ _ (sym (view_same law c like linked carried at late early p.link (opposite p.side)).out_queue ∙
         ap (option_map (λ u. u.out_queue)) there) in
         omega (
           arith,
-          (fresh_numbers_of law).other q z.router found.router p d len z.here_before (sym z.linked_alike.primary ∙ prim)
+          (fresh_numbers_of law q z.router z.here_before).other found.router p d len (sym z.linked_alike.primary ∙ prim)
               (sym z.linked_alike.decaying ∙ dec) (sym (length_same law c like linked carried at late early d.link (opposite d.side)) ∙ l)
               found.there,
           cur found.queue,
@@ -210,7 +210,7 @@ module _ {w v : World} {b : Books} {g : Records} {k : Key} {r x : Router} {o s :
                 (ap (λ u. u.outward.length_to) same ∙ l),
             cur (ap (λ u. u.out_queue) (sym same) ∙ like.out_queue),
           )
-      own_at q t p d len e prim dec l (inr m) = (fresh_numbers_of law).own q t p d len (sym (rw m.0 at (c.router q)) ∙ e) prim dec l
+      own_at q t p d len e prim dec l (inr m) = (fresh_numbers_of law q t (sym (rw m.0 at (c.router q)) ∙ e)).own p d len prim dec l
 
   -- what the lengths owe that a router has for its decaying links
   pub record LengthsOwe : Type 0 where

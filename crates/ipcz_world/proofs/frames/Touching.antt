@@ -26,6 +26,9 @@ use Rattle.ipcz_router.specs.Router.{is_sink, is_proxy}
 use Rattle.ipcz_router.specs.ActTable.{is_done}
 use Rattle.ipcz_world.proofs.Vocabulary.{inward_edge}
 use Rattle.ipcz_world.specs.Records.{is_left}
+use Rattle.ipcz_world.proofs.frames.BypassesKept.{bypasses-still}
+use Rattle.ipcz_world.proofs.frames.EndsKept.{terminal-kept}
+use Rattle.ipcz_world.proofs.Vocabulary.{HasTerminal}
 
 -- two routers with the same end, links and flags of bypasses
 pub record IsAlike (r y : Router) : Type 0 where
@@ -261,28 +264,7 @@ module _ (w v : World) (k : Key) (r y : Router) (g : Records) (t : IsTouched w v
   }
 
   pub bypasses-touched : BypassRecords w g → BypassRecords v g
-  bypasses-touched law = record {
-    stage = law.stage;
-    old = law.old;
-    inner = λ o h. recorded_same w v k r y g t (inner_of g o) ∙ law.inner o h;
-    inner_by = law.inner_by;
-    pair = law.pair;
-    proxy_old = law.proxy_old;
-    proxy_inner = law.proxy_inner;
-    across = law.across;
-    fresh = law.fresh;
-    fresh_linked = law.fresh_linked;
-    fresh_born = law.fresh_born;
-    fresh_pair = law.fresh_pair;
-    inner_known = law.inner_known;
-    fresh_inner = law.fresh_inner;
-    fresh_inner_node = law.fresh_inner_node;
-    fresh_across_node = law.fresh_across_node;
-    fresh_awaited = law.fresh_awaited;
-    fresh_across = law.fresh_across;
-    born_fresh = law.born_fresh;
-    born_stage = law.born_stage;
-  }
+  bypasses-touched law = bypasses-still w v g (recorded_same w v k r y g t) law
 
   pub stages-touched : Stages w g → Stages v g
   stages-touched law = record {
@@ -318,9 +300,9 @@ module _ (w v : World) (k : Key) (r y : Router) (g : Records) (t : IsTouched w v
 
   pub terminals-touched : Terminals w g → Terminals v g
   terminals-touched law = record {
-    terminal = λ q x at is. grind (arith, t.router q, same_key_tells q k, t.here, law.terminal q x, law.terminal k r);
+    each = each-by w v k y (HasTerminal g) (HasTerminal g) t.router (λ q z is. is) law.each
+        (terminal-kept {g = g} {h = g} (λ e. refl) a.end (λ m. grind (arith, a.inward, m)) (law.each k r t.here));
     stands = λ e q is. passes-same t.one _ (grind (arith, a.inward, a.end)) (Some q) ∙ law.stands e q is;
-    opened = λ q x at. grind (arith, t.router q, same_key_tells q k, t.here, law.opened q x, law.opened k r);
     link_opened = λ link s h. law.link_opened link s (sym (recorded_same w v k r y g t link) ∙ h);
     both = law.both;
     unopened = law.unopened;

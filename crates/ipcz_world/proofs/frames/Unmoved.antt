@@ -23,6 +23,9 @@ use Rattle.ipcz_world.specs.Bypasses.{is_by, Moves, move_weight}
 use Rattle.ipcz_world.specs.Inv.{HasNoStrays}
 use Rattle.ipcz_world.proofs.weights.Totalling.{total_below-same}
 use Rattle.ipcz_world.proofs.frames.OneChange.{OneChanges, passes-same}
+use Rattle.ipcz_world.proofs.frames.EndsKept.{terminal-kept, ends-kept}
+use Rattle.ipcz_world.proofs.Vocabulary.{HasTerminal, HasEndsHere, item_at}
+use Rattle.ipcz_world.proofs.frames.EachKept.{each-by}
 
 -- two routers alike but for links and flags
 pub record IsLike (r x : Router) : Type 0 where
@@ -203,20 +206,10 @@ module _ (w v : World) (g h : Records) (k : Key) (r x : Router) (c : Changed w v
 
   pub terminals-kept : IsLike r x → Terminals w g → Terminals v h
   terminals-kept like law = record {
-    terminal = λ q y at t. grind (
-      arith,
-      c.router q,
-      same_key_tells q k,
-      c.here,
-      like.end,
-      like.terminal,
-      a.terminal y.end,
-      law.terminal q y,
-      law.terminal k r,
-    );
+    each = each-by w v k x (HasTerminal g) (HasTerminal h) c.router (λ q z is. terminal-kept {g = g} a.terminal refl (λ m. m) is) law.each
+        (terminal-kept {g = g} a.terminal like.end (λ m. sym like.terminal ∙ m) (law.each k r c.here));
     stands = λ e q t. key_passes-kept (Some q) (λ y. is_terminal y && same_end y.end e) (grind (arith, like.end, like.terminal)) ∙
         law.stands e q (sym (a.terminal e) ∙ t);
-    opened = λ q y at. grind (arith, c.router q, same_key_tells q k, c.here, like.end, a.terminal y.end, law.opened q y, law.opened k r);
     link_opened = λ link s rec. ap is_nowhere (a.terminal (side_end h link s) ∙ ap g.terminal (side_end-agree g h a link s)) ∙
         law.link_opened link s (sym (is_recorded-kept link) ∙ rec);
     both = λ e. ap is_nowhere (a.terminal (opposite_end e)) ∙ law.both e ∙ ap is_nowhere (sym (a.terminal e));
@@ -229,10 +222,10 @@ module _ (w v : World) (g h : Records) (k : Key) (r x : Router) (c : Changed w v
   end_places-kept like carried law = record {
     held = λ n e t. ap terminal_node (a.terminal e) ∙ law.held n e (ap (holds e) (sym (c.held n)) ∙ t);
     pending = λ n e t. ap terminal_node (a.terminal e) ∙ law.pending n e (ap (has_end e) (sym (c.pending n)) ∙ t);
-    out = λ q y n item e at i t. ap terminal_node (a.terminal e) ∙ grind
-        (arith, c.router q, same_key_tells q k, c.here, like.out_queue, law.out q y n item e, law.out k r n item e, at, i, t);
-    inn = λ q y n item e at i t. ap terminal_node (a.terminal e) ∙ grind
-        (arith, c.router q, same_key_tells q k, c.here, like.in_queue, law.inn q y n item e, law.inn k r n item e, at, i, t);
+    each = each-by w v k x (HasEndsHere g) (HasEndsHere h) c.router
+        (λ q z is. ends-kept {g = g} {r = z} a.terminal (λ n item i. i) (λ n item i. i) is) law.each
+        (ends-kept {g = g} {r = r} a.terminal (λ n item i. ap (λ z. item_at z n) (sym like.out_queue) ∙ i)
+        (λ n item i. ap (λ z. item_at z n) (sym like.in_queue) ∙ i) (law.each k r c.here));
     within = λ n i link s number item moves e u t. ap terminal_node (a.terminal e) ∙ law.within n (carried.place n n i) link s number item
         moves e (carried.was n n i link s number item moves u) t;
   }

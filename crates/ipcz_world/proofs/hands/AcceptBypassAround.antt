@@ -245,14 +245,14 @@ module _ {w : World} {b : Books} {g : Records} {from : ℕ} {k : Key} {r : Route
       (omega (arith, is.stage))
 
   pub y_known : side_router g (Central o) (opposite side) ≡ Some (g.bypass o).proxy
-  y_known = rw proxy_is at ((bypasses_of law).proxy_old o begun)
+  y_known = rw proxy_is at ((bypasses_of law o).proxy_old begun)
 
   y_known_inner : side_router g (inner_of g o) A ≡ Some (g.bypass o).proxy
-  y_known_inner = (bypasses_of law).proxy_inner o begun
+  y_known_inner = (bypasses_of law o).proxy_inner begun
 
   -- the router inward
   pub z_known_some : is_some (side_router g (inner_of g o) B) ≡ true
-  z_known_some = (bypasses_of law).inner_known o two
+  z_known_some = (bypasses_of law o).inner_known two
 
   abbrev pub zk : Key
   zk = from_some (side_router g (inner_of g o) B) z_known_some
@@ -273,7 +273,7 @@ module _ {w : World} {b : Books} {g : Records} {from : ℕ} {k : Key} {r : Route
   z_inner = z_stood.passed
 
   pub by_o : (g.peripheral (g.bypass o).inner).by ≡ Some o
-  by_o = (bypasses_of law).inner_by o begun
+  by_o = (bypasses_of law o).inner_by begun
 
   pub z_end : HasEnd z.outward.decaying (inner_of g o) B
   z_end = has_link-tells z.outward.decaying (inner_of g o) B z_inner
@@ -286,16 +286,16 @@ module _ {w : World} {b : Books} {g : Records} {from : ℕ} {k : Key} {r : Route
   z_to = rw (← is.taken) at (((positions_of law).each zk z z_here).inner_to z_end.end (g.bypass o).inner o z_end.there z_end.on_link by_o)
 
   pub fresh_linked : is_linked (g.owner fresh) ≡ true
-  fresh_linked = ap is_linked (ap g.owner is.on_word ∙ (bypasses_of law).fresh_linked o two) ∙ linked_is
+  fresh_linked = ap is_linked (ap g.owner is.on_word ∙ (bypasses_of law o).fresh_linked two) ∙ linked_is
 
   pub fresh_born : (g.central fresh).born ≡ Some o
-  fresh_born = rw (← is.on_word) at ((bypasses_of law).fresh_born o two)
+  fresh_born = rw (← is.on_word) at ((bypasses_of law o).fresh_born two)
 
   pub fresh_awaited : side_router g (Central fresh) side ≡ None
-  fresh_awaited = rw (← is.on_word, ← is.at_side) at ((bypasses_of law).fresh_awaited o is.stage)
+  fresh_awaited = rw (← is.on_word, ← is.at_side) at ((bypasses_of law o).fresh_awaited is.stage)
 
   pub fresh_known : side_router g (Central fresh) (opposite side) ≡ Some zk
-  fresh_known = rw (← is.on_word, proxy_is, z_known) at ((bypasses_of law).fresh_inner o two)
+  fresh_known = rw (← is.on_word, proxy_is, z_known) at ((bypasses_of law o).fresh_inner two)
 
   pub fresh_live : is_begun (g.bypass fresh) ≡ false
   fresh_live = go (is_begun (g.bypass fresh)) refl
@@ -305,8 +305,8 @@ module _ {w : World} {b : Books} {g : Records} {from : ℕ} {k : Key} {r : Route
       go true q = absurd (grind (
         arith,
         fresh_awaited,
-        (bypasses_of law).across fresh q,
-        (bypasses_of law).proxy_old fresh q,
+        (bypasses_of law fresh).across q,
+        (bypasses_of law fresh).proxy_old q,
         side_is side (proxy_side g fresh),
       ))
 
@@ -361,10 +361,10 @@ module _ {w : World} {b : Books} {g : Records} {from : ℕ} {k : Key} {r : Route
   some_inner = grind (arith, length-inner g (g.bypass o).inner o by_o, known_from-yes 2 (g.bypass o).stage (g.bypass o).taken_at, is.stage)
 
   old_recorded : is_recorded w g (Central o) ≡ true
-  old_recorded = is_recorded-central w g o ∙ (bypasses_of law).old o begun
+  old_recorded = is_recorded-central w g o ∙ (bypasses_of law o).old begun
 
   inner_recorded : is_recorded w g (inner_of g o) ≡ true
-  inner_recorded = (bypasses_of law).inner o begun
+  inner_recorded = (bypasses_of law o).inner begun
 
   -- what the numbers of the four queues have to do with each other
   pub sends : (link : LinkId) (s : Side) (q : Router) → view w g link s ≡ Standing q →
@@ -426,4 +426,4 @@ module _ {w : World} {b : Books} {g : Records} {from : ℕ} {k : Key} {r : Route
   z_fresh = has_link-tells z.outward.primary (Central fresh) (opposite side) z_on
 
   pub z_out : (g.bypass o).taken_at ≤ z.out_queue.current
-  z_out = rw (← is.taken) ((fresh_numbers_of law).own zk z z_fresh.end z_end.end length z_here z_fresh.there z_end.there z_to)
+  z_out = rw (← is.taken) ((fresh_numbers_of law zk z z_here).own z_fresh.end z_end.end length z_fresh.there z_end.there z_to)

@@ -156,7 +156,7 @@ module _ {w : World} {b : Books} {g : Records} {from : ℕ} {k : Key} {r : Route
   x_at_end = (((links_of law) k r (here law can)).primary e (on law can)).end ∙ ap (λ l. side_end g l e.side) (on_old law can) ∙
       ap (side_end g (Central o)) (at_side law can)
       ∙ ap (λ n. record { pair = n; side = side })
-      (sym (ap (λ i. (g.central i).pair) (is law can).on_word ∙ (bypasses_of law).fresh_pair o (two law can)) ∙ sym
+      (sym (ap (λ i. (g.central i).pair) (is law can).on_word ∙ (bypasses_of law o).fresh_pair (two law can)) ∙ sym
       ((agree law can).pair fresh))
 
   -- the new link as its record says
@@ -165,7 +165,7 @@ module _ {w : World} {b : Books} {g : Records} {from : ℕ} {k : Key} {r : Route
     recorded = is_recorded-kept w v g h k r x (changed law can) (agree law can) (Central fresh) ∙ is_recorded-central w g fresh ∙
         fresh_linked law can;
     other = (is law can).sender ∙
-        sym (rw (← (is law can).on_word, proxy_is law can) at ((bypasses_of law).fresh_inner_node o (two law can))) ∙ sym
+        sym (rw (← (is law can).on_word, proxy_is law can) at ((bypasses_of law o).fresh_inner_node (two law can))) ∙ sym
         (side_node-agree g h (agree law can) (Central fresh) (opposite side));
     router = router_of law can (Central fresh) side ∙ ap (λ t. cond t (Some k) (side_router g (Central fresh) side)) (is_new-here law can);
     end = x_at_end;

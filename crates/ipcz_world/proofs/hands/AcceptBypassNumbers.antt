@@ -383,11 +383,11 @@ module _ {w : World} {b : Books} {g : Records} {from : ℕ} {k : Key} {r : Route
 
   pub fresh_numbers-accept : FreshNumbers v h
   unfolding standing_router
-  fresh_numbers-accept = record {
-    own = λ q t p d len at prim dec f. own_at q t p d len at prim dec f (same_key_tells q k);
-    comes = λ q t p d len a c i n item moves at prim dec f u. comes_at q t p d len a c i n item moves at prim dec f
+  fresh_numbers-accept q t at = record {
+    own = λ p d len prim dec f. own_at q t p d len at prim dec f (same_key_tells q k);
+    comes = λ p d len a c i n item moves prim dec f u. comes_at q t p d len a c i n item moves at prim dec f
         (was law can a c i p.link p.side n item moves u) (same_key_tells q k);
-    other = λ q t t' p d len at prim dec f there. other_at q t t' p d len at prim dec f there (same_key_tells q k);
+    other = λ t' p d len prim dec f there. other_at q t t' p d len at prim dec f there (same_key_tells q k);
   }
     where
       of_w : (q : Key) (t : Router) → router_at v q ≡ Some t → same_key q k ≡ false → router_at w q ≡ Some t
@@ -402,7 +402,7 @@ module _ {w : World} {b : Books} {g : Records} {from : ℕ} {k : Key} {r : Route
       own_at q t p d len at prim dec f (inl m) = let a : x ≡ t = is_x q t at m.0 in let c : len ≡ r.out_queue.current =
           same_Some _ _ (sym f ∙ ap (λ u. u.outward.length_to) (sym a)) in
           omega (arith, c, ap (λ u. u.out_queue.current) a)
-      own_at q t p d len at prim dec f (inr m) = (fresh_numbers_of law).own q t p d len (of_w q t at m.0) prim dec f
+      own_at q t p d len at prim dec f (inr m) = (fresh_numbers_of law q t (of_w q t at m.0)).own p d len prim dec f
 
       comes_at : (q : Key) (t : Router) (p d : LinkEnd) (len a c i n : ℕ) (item : Item) (moves : List Descriptor) → router_at v q ≡ Some t →
           t.outward.primary ≡ Some p → t.outward.decaying ≡ Some d →
@@ -423,7 +423,7 @@ module _ {w : World} {b : Books} {g : Records} {from : ℕ} {k : Key} {r : Route
           at' = of_w q t at m.0
 
           go : Grown law can d.link (opposite d.side) → len ≤ n
-          go (Same e') = (fresh_numbers_of law).comes q t p d len a c (before a c i) n item moves at' prim dec (sym e' ∙ f) u
+          go (Same e') = (fresh_numbers_of law q t at').comes p d len a c (before a c i) n item moves prim dec (sym e' ∙ f) u
           go (FromProxy l s none e') = absurd (omega (
             arith,
             (is law can).stage,
@@ -475,7 +475,7 @@ module _ {w : World} {b : Books} {g : Records} {from : ℕ} {k : Key} {r : Route
               (sym same.out_queue ∙ ap (option_map (λ u. u.out_queue)) there) in
               omega (
                 arith,
-                (fresh_numbers_of law).other q t found.router p d len at' prim dec (sym e' ∙ f) found.there,
+                (fresh_numbers_of law q t at').other found.router p d len prim dec (sym e' ∙ f) found.there,
                 same_number _ _ found.queue,
               )
           go false n (FromProxy l s none e') = absurd (omega (

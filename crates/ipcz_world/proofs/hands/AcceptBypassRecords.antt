@@ -45,51 +45,51 @@ pub record IsAccept (g : Records) (k : Key) (o : ℕ) (s : Side) (i : ℕ) : Typ
 pub bypasses-accept : (w : World) (g : Records) (from : ℕ) (k : Key) (r : Router) (e : LinkEnd) (o : ℕ) (side : Side) (fresh length : ℕ) →
     BypassRecords w g → IsAccept g k o side fresh →
     BypassRecords (accept_act w from k r e o side fresh length) (accepted_records g k r o side fresh)
-bypasses-accept w g from k r e o side fresh length law is = record {
-  stage = λ j. grind (arith, stage_at j, law.stage j);
-  old = λ j a. grind (arith, stage_at j, law.old j, a, at_o);
-  inner = λ j a. grind (
+bypasses-accept w g from k r e o side fresh length law is j = record {
+  stage = grind (arith, stage_at j, (law j).stage);
+  old = λ a. grind (arith, stage_at j, (law j).old, a, at_o);
+  inner = λ a. grind (
     arith,
     record_rules,
     nodes_same (g.bypass j).inner.node,
     count_same,
     inner_at j,
-    law.inner j,
+    (law j).inner,
     begun_at j a,
     nat_tests,
   );
-  inner_by = λ j a. grind (arith, stage_at j, inner_at j, law.inner_by j, law.inner_by o, a, at_o, nat_tests);
-  pair = λ j a. grind (arith, stage_at j, inner_at j, central_pair j, law.pair j, a, at_o, nat_tests);
-  proxy_old = λ j a. grind (arith, record_rules, side_at j, proxy_at j, central_same j (not_fresh j a), law.proxy_old j, begun_at j a);
-  proxy_inner = λ j a. grind (arith, record_rules, inner_at j, proxy_at j, law.proxy_inner j, begun_at j a);
-  across = λ j a. grind (arith, record_rules, side_at j, central_same j (not_fresh j a), law.across j, begun_at j a);
-  fresh = λ j a. grind (arith, stage_at j, fresh_at j, law.fresh j, a, nat_tests);
-  fresh_linked = λ j a. grind (arith, stage_at j, fresh_at j, law.fresh_linked j, law.fresh_linked o, a, is.stage, nat_tests);
-  fresh_born = λ j a. grind (
+  inner_by = λ a. grind (arith, stage_at j, inner_at j, (law j).inner_by, (law o).inner_by, a, at_o, nat_tests);
+  pair = λ a. grind (arith, stage_at j, inner_at j, central_pair j, (law j).pair, a, at_o, nat_tests);
+  proxy_old = λ a. grind (arith, record_rules, side_at j, proxy_at j, central_same j (not_fresh j a), (law j).proxy_old, begun_at j a);
+  proxy_inner = λ a. grind (arith, record_rules, inner_at j, proxy_at j, (law j).proxy_inner, begun_at j a);
+  across = λ a. grind (arith, record_rules, side_at j, central_same j (not_fresh j a), (law j).across, begun_at j a);
+  fresh = λ a. grind (arith, stage_at j, fresh_at j, (law j).fresh, a, nat_tests);
+  fresh_linked = λ a. grind (arith, stage_at j, fresh_at j, (law j).fresh_linked, (law o).fresh_linked, a, is.stage, nat_tests);
+  fresh_born = λ a. grind (
     arith,
     stage_at j,
     fresh_at j,
     central_born (g.bypass j).fresh,
-    law.fresh_born j,
-    law.fresh_born o,
+    (law j).fresh_born,
+    (law o).fresh_born,
     a,
     is.stage,
     nat_tests,
   );
-  fresh_pair = λ j a. grind (
+  fresh_pair = λ a. grind (
     arith,
     stage_at j,
     fresh_at j,
     central_pair (g.bypass j).fresh,
     central_pair j,
-    law.fresh_pair j,
-    law.fresh_pair o,
+    (law j).fresh_pair,
+    (law o).fresh_pair,
     a,
     is.stage,
     nat_tests,
   );
-  inner_known = λ j a. grind (arith, stage_at j, inner_at j, record_rules, law.inner_known j, law.inner_known o, a, is.stage, nat_tests);
-  fresh_inner = λ j a. grind (
+  inner_known = λ a. grind (arith, stage_at j, inner_at j, record_rules, (law j).inner_known, (law o).inner_known, a, is.stage, nat_tests);
+  fresh_inner = λ a. grind (
     arith,
     record_rules,
     stage_at j,
@@ -100,8 +100,8 @@ bypasses-accept w g from k r e o side fresh length law is = record {
     case j,
     nodes_at (g.bypass j).fresh,
     nodes_at j,
-    law.fresh_inner j,
-    law.fresh_inner o,
+    (law j).fresh_inner,
+    (law o).fresh_inner,
     at_proxy,
     central_same (g.bypass j).fresh,
     is.stage,
@@ -109,7 +109,7 @@ bypasses-accept w g from k r e o side fresh length law is = record {
     a,
     nat_tests,
   );
-  fresh_inner_node = λ j a. grind (
+  fresh_inner_node = λ a. grind (
     arith,
     record_rules,
     stage_at j,
@@ -120,14 +120,14 @@ bypasses-accept w g from k r e o side fresh length law is = record {
     case j,
     nodes_at (g.bypass j).fresh,
     nodes_at j,
-    law.fresh_inner_node j,
-    law.fresh_inner_node o,
+    (law j).fresh_inner_node,
+    (law o).fresh_inner_node,
     is.stage,
     is.fresh,
     a,
     nat_tests,
   );
-  fresh_across_node = λ j a. grind (
+  fresh_across_node = λ a. grind (
     arith,
     record_rules,
     stage_at j,
@@ -138,14 +138,14 @@ bypasses-accept w g from k r e o side fresh length law is = record {
     case j,
     nodes_at (g.bypass j).fresh,
     nodes_at j,
-    law.fresh_across_node j,
-    law.fresh_across_node o,
+    (law j).fresh_across_node,
+    (law o).fresh_across_node,
     is.stage,
     is.fresh,
     a,
     nat_tests,
   );
-  fresh_awaited = λ j a. grind (
+  fresh_awaited = λ a. grind (
     arith,
     record_rules,
     stage_at j,
@@ -156,14 +156,14 @@ bypasses-accept w g from k r e o side fresh length law is = record {
     case j,
     nodes_at (g.bypass j).fresh,
     nodes_at j,
-    law.fresh_awaited j,
+    (law j).fresh_awaited,
     central_same (g.bypass j).fresh,
     is.stage,
     is.fresh,
     a,
     nat_tests,
   );
-  fresh_across = λ j a. grind (
+  fresh_across = λ a. grind (
     arith,
     record_rules,
     stage_at j,
@@ -174,10 +174,10 @@ bypasses-accept w g from k r e o side fresh length law is = record {
     case j,
     nodes_at (g.bypass j).fresh,
     nodes_at j,
-    law.fresh_across j,
+    (law j).fresh_across,
     is.router,
     at_across,
-    law.fresh_across_node o,
+    (law o).fresh_across_node,
     central_same (g.bypass j).fresh,
     central_same j (not_fresh j (begun_from j a)),
     is.stage,
@@ -185,8 +185,8 @@ bypasses-accept w g from k r e o side fresh length law is = record {
     a,
     nat_tests,
   );
-  born_fresh = λ i j l b. grind (arith, fresh_at j, central_born i, law.born_fresh i j, l, b);
-  born_stage = λ i j l b. grind (arith, stage_at j, central_born i, law.born_stage i j, l, b, nat_tests);
+  born_fresh = λ i l b. grind (arith, fresh_at j, central_born i, (law j).born_fresh i, l, b);
+  born_stage = λ i l b. grind (arith, stage_at j, central_born i, (law j).born_stage i, l, b, nat_tests);
 }
   where
     h : Records
@@ -229,9 +229,9 @@ bypasses-accept w g from k r e o side fresh length law is = record {
     live false q = q
     live true q = absurd (grind (
       arith,
-      law.fresh_awaited o,
-      law.across fresh q,
-      law.proxy_old fresh q,
+      (law o).fresh_awaited,
+      (law fresh).across q,
+      (law fresh).proxy_old q,
       is.stage,
       is.fresh,
       side_is (across_side g o) (proxy_side g fresh),
@@ -266,4 +266,4 @@ bypasses-accept w g from k r e o side fresh length law is = record {
     begun_from j a = grind (arith, a, nat_tests)
 
     apart : (j : ℕ) → 2 ≤ (g.bypass j).stage → nat_eq j o ≡ false → nat_eq (g.bypass j).fresh fresh ≡ false
-    apart j a q = grind (arith, law.fresh_born j a, law.fresh_born o, is.stage, is.fresh, q, nat_tests)
+    apart j a q = grind (arith, (law j).fresh_born a, (law o).fresh_born, is.stage, is.fresh, q, nat_tests)

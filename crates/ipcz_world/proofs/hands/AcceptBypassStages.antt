@@ -244,7 +244,7 @@ module _ {w : World} {b : Books} {g : Records} {from : ℕ} {k : Key} {r : Route
           (g.central i).born ≡ Some j → ((nat_eq j o ≡ true) × (j ≡ o)) ⊎ ((nat_eq j o ≡ false) × (j ≢ o)) → (h.bypass j).stage ≡ 2
       awaited_stage_at i s j l none born (inr c) = rw c.0 ((stands_of law).awaited_stage i s j l (none_before law can i s none) born)
       awaited_stage_at i s j l none born (inl c) = let born' : (g.central i).born ≡ Some o = born ∙ ap Some c.1 in
-          let on' : fresh ≡ i = (is law can).on_word ∙ (bypasses_of law).born_fresh i o l born' in
+          let on' : fresh ≡ i = (is law can).on_word ∙ (bypasses_of law o).born_fresh i l born' in
           let s' : s ≡ side = (stands_of law).awaited_side i s o l (none_before law can i s none) born' ∙ sym (is law can).at_side in
           let there : (h.central fresh).router side ≡ Some k.serial = rw (nat_eq-itself fresh, same_side-itself side) refl in
           let none' : (h.central fresh).router side ≡ None = rw (← on', s') at none in
@@ -346,7 +346,7 @@ module _ {w : World} {b : Books} {g : Records} {from : ℕ} {k : Key} {r : Route
       side_j = sym (opposite-twice (proxy_side g j)) ∙ ap opposite (only_old (g.bypass j).fresh (across_side g j) p).1
 
       inner_j : side_router g (inner_of g j) B ≡ Some (g.bypass o).proxy
-      inner_j = sym ((bypasses_of law).fresh_inner j two') ∙ ap (λ i. side_router g (Central i) (proxy_side g j)) fresh_is ∙ ap
+      inner_j = sym ((bypasses_of law j).fresh_inner two') ∙ ap (λ i. side_router g (Central i) (proxy_side g j)) fresh_is ∙ ap
           (side_router g (Central o)) side_j ∙ y_known law can
 
       y_has : has_link y.outward.decaying (inner_of g j) B ≡ true

@@ -124,7 +124,7 @@ module _ {w : World} {b : Books} {g : Records} {from : ℕ} {k : Key} {r : Route
 
   fresh_node : (g.central fresh).node side ≡ k.node
   fresh_node = sym (side_node-central g fresh side) ∙ ap (side_node g (Central fresh)) (is law can).at_side ∙ rw (← (is law can).on_word) at
-      ((bypasses_of law).fresh_across_node o (two law can)) ∙ sym (is law can).receiver
+      ((bypasses_of law o).fresh_across_node (two law can)) ∙ sym (is law can).receiver
 
   pub router_of : (link : LinkId) (s : Side) → side_router h link s ≡ cond (is_new link s) (Some k) (side_router g link s)
   unfolding is_new side_router

@@ -55,7 +55,12 @@ module _ (w : World) (b : Books) (g : Records) (from : ℕ) (k : Key) (r : Route
     moves = moves-peer law can (moves-kept w v g g k r x (changed law can) (refl-agree law can) (carried law can) (descriptors law can)
         (moves_law law));
     terminals = terminals-peer law can (terminals_of law);
-    end_places = record { held = at_ends.held; pending = at_ends.pending; out = at_ends.out; inn = at_ends.inn; within = at_ends.within };
+    end_places = record {
+      held = at_ends.held;
+      pending = at_ends.pending;
+      each = λ q z at. let is = at_ends.each q z at in record { out = is.out; inn = is.inn };
+      within = at_ends.within;
+    };
     books_kept = record {
       own_pair = in_books.own_pair;
       mark_last = in_books.mark_last;

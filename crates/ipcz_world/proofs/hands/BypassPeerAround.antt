@@ -86,7 +86,7 @@ module _ {w : World} {b : Books} {g : Records} {from : ℕ} {k : Key} {r : Route
   on = z_end.there
 
   pub by_o : (g.peripheral (g.bypass o).inner).by ≡ Some o
-  by_o = (bypasses_of law).inner_by o begun
+  by_o = (bypasses_of law o).inner_by begun
 
   r_end : r.end ≡ (g.peripheral (g.bypass o).inner).end
   unfolding side_end
@@ -96,7 +96,7 @@ module _ {w : World} {b : Books} {g : Records} {from : ℕ} {k : Key} {r : Route
   r_side = ap (λ d. d.side) r_end
 
   pub r_pair : r.end.pair ≡ (g.central o).pair
-  r_pair = ap (λ d. d.pair) r_end ∙ (bypasses_of law).pair o begun
+  r_pair = ap (λ d. d.pair) r_end ∙ (bypasses_of law o).pair begun
 
   pub central_not_inner : (i : ℕ) (p : Key) → Central i ≡ inner_link p → ⊥
   central_not_inner i p q = grind (arith, q)
@@ -134,7 +134,7 @@ module _ {w : World} {b : Books} {g : Records} {from : ℕ} {k : Key} {r : Route
 
   -- the fresh word is no link's yet
   pub fresh_owner : g.owner fresh ≡ Fresh o
-  fresh_owner = ap g.owner is.on_word ∙ (bypasses_of law).fresh o is.stage
+  fresh_owner = ap g.owner is.on_word ∙ (bypasses_of law o).fresh is.stage
 
   pub not_linked : is_linked (g.owner fresh) ≡ false
   unfolding is_linked
@@ -145,7 +145,7 @@ module _ {w : World} {b : Books} {g : Records} {from : ℕ} {k : Key} {r : Route
     where
       go : (t : Bool) → is_begun (g.bypass fresh) ≡ t → is_begun (g.bypass fresh) ≡ false
       go false m = m
-      go true m = absurd (grind (arith, (bypasses_of law).old fresh m, not_linked))
+      go true m = absurd (grind (arith, (bypasses_of law fresh).old m, not_linked))
 
   -- what the hand makes of the router, the world and the records
   abbrev x : Router
@@ -219,7 +219,7 @@ module _ {w : World} {b : Books} {g : Records} {from : ℕ} {k : Key} {r : Route
     where
       go : ((nat_eq (g.bypass j).fresh fresh ≡ true) × ((g.bypass j).fresh ≡ fresh)) ⊎
           ((nat_eq (g.bypass j).fresh fresh ≡ false) × ((g.bypass j).fresh ≢ fresh)) → nat_eq (g.bypass j).fresh fresh ≡ false
-      go (inl t) = absurd (grind (arith, sym ((bypasses_of law).fresh_linked j m) ∙ ap g.owner t.1 ∙ fresh_owner))
+      go (inl t) = absurd (grind (arith, sym ((bypasses_of law j).fresh_linked m) ∙ ap g.owner t.1 ∙ fresh_owner))
       go (inr t) = t.0
 
   -- links that have a record aren't the fresh one

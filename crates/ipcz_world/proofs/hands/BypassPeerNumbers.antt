@@ -234,7 +234,7 @@ module _ {w : World} {b : Books} {g : Records} {from : ℕ} {k : Key} {r : Route
           go : ((nat_eq j o ≡ true) × (j ≡ o)) ⊎ ((nat_eq j o ≡ false) × (j ≢ o)) → (h.bypass j).taken_at ≤ n
           go (inl t) = absurd (omega (
             arith,
-            (bypasses_of law).born_stage d j linked born',
+            (bypasses_of law j).born_stage d linked born',
             ap (λ z. (g.bypass z).stage) t.1,
             (is law can).stage,
           ))
@@ -279,7 +279,7 @@ module _ {w : World} {b : Books} {g : Records} {from : ℕ} {k : Key} {r : Route
       ((stages_of law).proxy_inner o (begun law can) (omega (arith, (is law can).stage)))
 
   view_y : view w g (inner_of g o) A ≡ Standing y_stood.router
-  view_y = view-standing w g (inner_of g o) A (g.bypass o).proxy y_stood.router ((bypasses_of law).proxy_inner o (begun law can))
+  view_y = view-standing w g (inner_of g o) A (g.bypass o).proxy y_stood.router ((bypasses_of law o).proxy_inner (begun law can))
       y_stood.here
       (grind (arith, is_attached-proxy (g.bypass o).inner y_stood.router, y_stood.passed))
 
@@ -290,13 +290,13 @@ module _ {w : World} {b : Books} {g : Records} {from : ℕ} {k : Key} {r : Route
   y_out : y_stood.router.out_queue.current ≤ r.out_queue.current
   unfolding fed_queue sending_queue
   y_out = (order_of law).current (inner_of g o) A (sending_queue (inner_of g o) B r).current (fed_queue (inner_of g o) A y_stood.router)
-      ((bypasses_of law).inner o (begun law can)) (sends (inner_of g o) B r view_r) (takes (inner_of g o) A y_stood.router view_y)
+      ((bypasses_of law o).inner (begun law can)) (sends (inner_of g o) B r view_r) (takes (inner_of g o) A y_stood.router view_y)
       (ap (λ t. has_passed t r.out_queue.current) none_inner ∙ has_passed-none r.out_queue.current)
 
   y_items : (n : ℕ) (item : Item) → item_at y_stood.router.out_queue n ≡ Some item → n < r.out_queue.current
   unfolding fed_queue sending_queue
   y_items n item i = (order_of law).stored (inner_of g o) A (sending_queue (inner_of g o) B r).current
-      (fed_queue (inner_of g o) A y_stood.router) n item ((bypasses_of law).inner o (begun law can)) (sends (inner_of g o) B r view_r)
+      (fed_queue (inner_of g o) A y_stood.router) n item ((bypasses_of law o).inner (begun law can)) (sends (inner_of g o) B r view_r)
       (takes (inner_of g o) A y_stood.router view_y) i
       (ap (λ t. has_passed t n) none_inner ∙ has_passed-none n)
 
@@ -383,11 +383,11 @@ module _ {w : World} {b : Books} {g : Records} {from : ℕ} {k : Key} {r : Route
   unknown = length-proxy h (g.bypass o).inner o (by_o law can) ∙ rw stage_after (known_from-no 3 2 (h.bypass o).accepted_at (omega arith))
 
   pub fresh_numbers-peer : FreshNumbers v h
-  fresh_numbers-peer = record {
-    own = λ q t p d len a prim dec f. own_at q t p d len prim dec f (split law can q t a);
-    comes = λ q t p d len a' c i n item moves a prim dec f u. comes_at q t p d len a' c i n item moves prim dec f u (split law can q t a)
+  fresh_numbers-peer q t a = record {
+    own = λ p d len prim dec f. own_at q t p d len prim dec f (split law can q t a);
+    comes = λ p d len a' c i n item moves prim dec f u. comes_at q t p d len a' c i n item moves prim dec f u (split law can q t a)
         (grown d.link (opposite d.side));
-    other = λ q t t' p d len a prim dec f there. other_at q t t' p d len prim dec f there (split law can q t a)
+    other = λ t' p d len prim dec f there. other_at q t t' p d len prim dec f there (split law can q t a)
         (grown d.link (opposite d.side));
   }
     where
@@ -398,7 +398,7 @@ module _ {w : World} {b : Books} {g : Records} {from : ℕ} {k : Key} {r : Route
         same_Some _ _ (sym f ∙ ap (λ u. u.outward.length_to) (sym m.1)),
         cur (ap (λ u. u.out_queue) m.1),
       )
-      own_at q t p d len prim dec f (inr m) = (fresh_numbers_of law).own q t p d len m.1 prim dec f
+      own_at q t p d len prim dec f (inr m) = (fresh_numbers_of law q t m.1).own p d len prim dec f
 
       not_x : (t : Router) (d : LinkEnd) (len : ℕ) → x ≡ t → t.outward.decaying ≡ Some d →
           side_length h d.link (opposite d.side) ≡ Some len → ⊥
@@ -420,7 +420,7 @@ module _ {w : World} {b : Books} {g : Records} {from : ℕ} {k : Key} {r : Route
           IsUnderWay v a' c i (messages.Item p.link p.side n item moves) → OneOrBefore w k x q t → Grown d.link (opposite d.side) → len ≤ n
       comes_at q t p d len a' c i n item moves prim dec f u (inl m) gr = absurd (not_x t d len m.1 dec f)
       comes_at q t p d len a' c i n item moves prim dec f u (inr m) (Same s) =
-          (fresh_numbers_of law).comes q t p d len a' c (before a' c i) n item moves m.1 prim dec (sym s ∙ f)
+          (fresh_numbers_of law q t m.1).comes p d len a' c (before a' c i) n item moves prim dec (sym s ∙ f)
           (was a' c i p.link p.side n item moves u)
       comes_at q t p d len a' c i n item moves prim dec f u (inr m) (Inward l s un z) = absurd (not_inward q t d m.1 dec l s)
 
@@ -433,5 +433,5 @@ module _ {w : World} {b : Books} {g : Records} {from : ℕ} {k : Key} {r : Route
           view_same law can p.link (opposite p.side) (apart law can p.link ((((links_of law) q t m.1).primary p prim).recorded)) in
           let found : HasOutQueue (standing_router (view w g p.link (opposite p.side))) t'.out_queue =
           out_queue_of _ _ (sym same.out_queue ∙ ap (option_map (λ u. u.out_queue)) there) in
-          omega (arith, (fresh_numbers_of law).other q t found.router p d len m.1 prim dec (sym s ∙ f) found.there, cur found.queue)
+          omega (arith, (fresh_numbers_of law q t m.1).other found.router p d len prim dec (sym s ∙ f) found.there, cur found.queue)
       other_at q t t' p d len prim dec f there (inr m) (Inward l s un z) = absurd (not_inward q t d m.1 dec l s)

@@ -1,11 +1,12 @@
 -- The router inward takes the fresh link: the bypass's record and those of its links, and the counters.
-use Rattle.std.specs.Prelude.{◌≡◌, ◌≢◌, ◌⊎◌, ◌<◌, ◌≤◌, ℕ, Bool, true, false, cond, nat_eq, is_some, Some, None, refl}
-use Rattle.std.proofs.Common.{arith, ap, ◌∙◌, sym, inl, inr}
-use Rattle.std.proofs.lemmas.Bool.Decides.{nat_tests}
+use Rattle.std.specs.Prelude.{◌≡◌, ◌≢◌, ◌⊎◌, ◌<◌, ℕ, Bool, true, false, cond, nat_eq, is_some, Some, None, refl}
+use Rattle.std.proofs.Common.{arith, ap, ◌∙◌, sym, subst, inl, inr}
 use Rattle.std.proofs.lemmas.Option.{none-some, same_Some}
 use Rattle.ipcz_world.proofs.Vocabulary.{Side, A, B, LinkId, Central, Message, opposite, same_side, Router, World, Key, Books, Records}
 use Rattle.ipcz_world.proofs.Vocabulary.{is_unclaimed, Fresh, Linked, is_begun, is_linked, is_recorded, inner_link, side_node}
-use Rattle.ipcz_world.proofs.Vocabulary.{side_router, proxy_side, across_side, Counts, BypassRecords, inner_of, bypass_peer}
+use Rattle.ipcz_world.proofs.Vocabulary.{side_router, proxy_side, across_side, Counts, BypassRecords, IsBypassRecorded, inner_of}
+use Rattle.ipcz_world.proofs.Vocabulary.{bypass_peer}
+use Rattle.ipcz_world.proofs.frames.BypassesKept.{KeepsBypass, bypass-kept}
 use Rattle.ipcz_base.specs.declared.message.Message.TheVariants as messages
 use Rattle.ipcz_world.proofs.frames.RecordRules.{is_recorded-central}
 use Rattle.ipcz_world.specs.Bypasses.{fresh_of}
@@ -38,180 +39,126 @@ module _ {w : World} {b : Books} {g : Records} {from : ℕ} {k : Key} {r : Route
   abbrev New : ℕ → Type 0
   New i = ((nat_eq i fresh ≡ true) × (i ≡ fresh)) ⊎ ((nat_eq i fresh ≡ false) × (i ≢ fresh))
 
-  pub bypasses-peer : BypassRecords v h
-  bypasses-peer = record {
-    stage = λ j. grind (arith, stage_at law can j, (bypasses_of law).stage j);
-    old = λ j n. old_at j (sym (is_begun_same law can j) ∙ n);
-    inner = λ j n. ap (λ p. is_recorded v h (inner_link p)) (inner_same law can j) ∙ recorded_more law can (inner_of g j)
-        ((bypasses_of law).inner j (sym (is_begun_same law can j) ∙ n));
-    inner_by = λ j n. ap (λ p. (g.peripheral p).by) (inner_same law can j) ∙
-        (bypasses_of law).inner_by j (sym (is_begun_same law can j) ∙ n);
-    pair = λ j n. ap (λ p. (g.peripheral p).end.pair) (inner_same law can j) ∙
-        (bypasses_of law).pair j (sym (is_begun_same law can j) ∙ n) ∙ ap
-        (λ c. c.pair) (sym (central_same law can j (begun_apart law can j (sym (is_begun_same law can j) ∙ n))));
-    proxy_old = λ j n. router_same law can (Central j) (proxy_side h j) (begun_apart law can j (sym (is_begun_same law can j) ∙ n)) ∙
-        ap (side_router g (Central j))
-        (proxy_side_same law can j) ∙ (bypasses_of law).proxy_old j (sym (is_begun_same law can j) ∙ n) ∙
-        ap Some (sym (proxy_same law can j));
-    proxy_inner = λ j n. ap (λ p. side_router h (inner_link p) A) (inner_same law can j) ∙ router_same law can (inner_of g j) A refl ∙
-        (bypasses_of law).proxy_inner j (sym (is_begun_same law can j) ∙ n) ∙ ap Some (sym (proxy_same law can j));
-    across = λ j n. ap is_some
-        (router_same law can (Central j) (across_side h j) (begun_apart law can j (sym (is_begun_same law can j) ∙ n)) ∙ ap
-        (side_router g (Central j)) (across_side_same law can j)) ∙ (bypasses_of law).across j (sym (is_begun_same law can j) ∙ n);
-    fresh = λ j n. fresh_at j n (at_o law can j);
-    fresh_linked = λ j n. fresh_linked_at j n (at_o law can j);
-    fresh_born = λ j n. fresh_born_at j n (at_o law can j);
-    fresh_pair = λ j n. fresh_pair_at j n (at_o law can j);
-    inner_known = λ j n. ap is_some (ap (λ p. side_router h (inner_link p) B) (inner_same law can j) ∙
-        router_same law can (inner_of g j) B refl) ∙
-        inner_known_at j n (at_o law can j);
-    fresh_inner = λ j n. fresh_inner_at j n (at_o law can j);
-    fresh_inner_node = λ j n. fresh_inner_node_at j n (at_o law can j);
-    fresh_across_node = λ j n. fresh_across_node_at j n (at_o law can j);
-    fresh_awaited = λ j n. fresh_awaited_at j n (at_o law can j);
-    fresh_across = λ j n. fresh_across_at j n (at_o law can j);
-    born_fresh = λ i j l n. fresh_same law can j ∙ born_fresh_at i j l n (at_fresh law can i);
-    born_stage = λ i j l n. born_stage_at i j l n (at_fresh law can i);
+  abbrev At : ℕ → Type 0
+  At j = ((nat_eq j o ≡ true) × (j ≡ o)) ⊎ ((nat_eq j o ≡ false) × (j ≢ o))
+
+  proxy_here : proxy_side h o ≡ r.end.side
+  proxy_here = proxy_side_same law can o ∙ sym (r_side law can)
+
+  across_here : across_side h o ≡ opposite r.end.side
+  across_here = ap opposite proxy_here
+
+  -- the fresh link, and the sides of it that are known and awaited
+  fresh_here : (h.bypass o).fresh ≡ fresh
+  fresh_here = fresh_same law can o ∙ sym (is law can).on_word
+
+  far : same_side (opposite r.end.side) r.end.side ≡ false
+  far = grind (arith, side_is (opposite r.end.side) r.end.side, same_side-opposite r.end.side)
+
+  inner_here : side_router h (inner_of h o) B ≡ Some k
+  inner_here = ap (λ p. side_router h (inner_link p) B) (inner_same law can o) ∙ router_same law can (inner_of g o) B refl ∙ known law can
+
+  -- of the bypass whose fresh link is taken
+  bypass-taken : IsBypassRecorded v h o
+  bypass-taken = let n : is_begun (g.bypass o) ≡ true = begun law can in let old = begun_apart law can o n in record {
+    stage = grind (arith, stage_at law can o, (bypasses_of law o).stage);
+    old = λ b. ap is_linked (owner_same law can o old) ∙ (bypasses_of law o).old n;
+    inner = λ b. ap (λ p. is_recorded v h (inner_link p)) (inner_same law can o) ∙
+        recorded_more law can (inner_of g o) ((bypasses_of law o).inner n);
+    inner_by = λ b. ap (λ p. (g.peripheral p).by) (inner_same law can o) ∙ (bypasses_of law o).inner_by n;
+    pair = λ b. ap (λ p. (g.peripheral p).end.pair) (inner_same law can o) ∙ (bypasses_of law o).pair n ∙
+        ap (λ c. c.pair) (sym (central_same law can o old));
+    proxy_old = λ b. router_same law can (Central o) (proxy_side h o) old ∙ ap (side_router g (Central o)) (proxy_side_same law can o) ∙
+        (bypasses_of law o).proxy_old n ∙ ap Some (sym (proxy_same law can o));
+    proxy_inner = λ b. ap (λ p. side_router h (inner_link p) A) (inner_same law can o) ∙ router_same law can (inner_of g o) A refl ∙
+        (bypasses_of law o).proxy_inner n ∙ ap Some (sym (proxy_same law can o));
+    across = λ b. ap is_some (router_same law can (Central o) (across_side h o) old ∙
+        ap (side_router g (Central o)) (across_side_same law can o)) ∙ (bypasses_of law o).across n;
+    fresh = λ e. absurd (grind (arith, e, stage_at law can o, itself law can o));
+    fresh_linked = λ l. ap h.owner fresh_here ∙ rw (itself law can fresh) refl;
+    fresh_born = λ l. ap (λ i. (h.central i).born) fresh_here ∙ rw (itself law can fresh) refl;
+    fresh_pair = λ l. ap (λ i. (h.central i).pair) fresh_here ∙ rw (itself law can fresh) (r_pair law can) ∙
+        sym (ap (λ c. c.pair) (central_same law can o old));
+    inner_known = λ l. ap is_some inner_here;
+    fresh_inner = λ l. ap (λ i. side_router h (Central i) (proxy_side h o)) fresh_here ∙ ap (side_router h (Central fresh)) proxy_here ∙
+        new_router law can r.end.side ∙ ap (λ c. cond c (Some k) None) (same_side-itself r.end.side) ∙ sym inner_here;
+    fresh_inner_node = λ l. ap (λ i. side_node h (Central i) (proxy_side h o)) fresh_here ∙
+        ap (side_node h (Central fresh)) proxy_here ∙ new_node law can r.end.side ∙
+        ap (λ c. cond c k.node target) (same_side-itself r.end.side) ∙ (is law can).receiver ∙
+        sym (ap (λ p. side_node h (inner_link p) B) (inner_same law can o) ∙ node_same law can (inner_of g o) B refl);
+    fresh_across_node = λ l. ap (λ i. side_node h (Central i) (across_side h o)) fresh_here ∙
+        ap (side_node h (Central fresh)) across_here ∙ new_node law can (opposite r.end.side) ∙ ap (λ c. cond c k.node target) far ∙
+        (is law can).beyond ∙
+        sym (ap (side_node h (Central o)) (across_side_same law can o) ∙ node_same law can (Central o) (across_side g o) old);
+    fresh_awaited = λ e. ap (λ i. side_router h (Central i) (across_side h o)) fresh_here ∙
+        ap (side_router h (Central fresh)) across_here ∙ new_router law can (opposite r.end.side) ∙ ap (λ c. cond c (Some k) None) far;
+    fresh_across = λ l. absurd (grind (arith, l, stage_at law can o, itself law can o));
+    born_fresh = λ i l e. born_fresh_at i l e (at_fresh law can i);
+    born_stage = λ i l e. grind (arith, stage_at law can o, itself law can o);
   }
     where
-      At : ℕ → Type 0
-      At j = ((nat_eq j o ≡ true) × (j ≡ o)) ⊎ ((nat_eq j o ≡ false) × (j ≢ o))
+      born_fresh_at : (i : ℕ) → is_linked (h.owner i) ≡ true → (h.central i).born ≡ Some o → New i → (h.bypass o).fresh ≡ i
+      born_fresh_at i l e (inl t) = fresh_here ∙ sym t.1
+      born_fresh_at i l e (inr t) = fresh_same law can o ∙ (bypasses_of law o).born_fresh i (linked_back law can i l t.0)
+          (ap (λ c. c.born) (sym (central_same law can i t.0)) ∙ e)
 
-      old_at : (j : ℕ) → is_begun (g.bypass j) ≡ true → is_linked (h.owner j) ≡ true
-      old_at j n = ap is_linked (owner_same law can j (begun_apart law can j n)) ∙ (bypasses_of law).old j n
+  -- the records tell the same of each other
+  keeps_other : (j : ℕ) → nat_eq j o ≡ false → j ≢ o → KeepsBypass w v g h j
+  keeps_other j other apart = let stage = two law can j other in record {
+    same = record {
+      proxy = proxy_same law can j;
+      inner = inner_same law can j;
+      fresh = fresh_same law can j;
+      most = λ m. omega (arith, stage, m);
+      begun = λ n. sym (is_begun_same law can j) ∙ n;
+      first = λ e. sym stage ∙ e;
+      second = λ e. sym stage ∙ e;
+      third = λ l. omega (arith, stage, l);
+      back = λ l. omega (arith, stage, l);
+    };
+    old = λ n. record {
+      linked = λ e. ap is_linked (owner_same law can j (begun_apart law can j n)) ∙ e;
+      recorded = recorded_more law can (inner_of g j);
+      by = refl;
+      inner_pair = refl;
+      pair = ap (λ c. c.pair) (central_same law can j (begun_apart law can j n));
+      side = proxy_side_same law can j;
+      router = λ s. router_same law can (Central j) s (begun_apart law can j n);
+      node = λ s. node_same law can (Central j) s (begun_apart law can j n);
+      inner_router = router_same law can (inner_of g j) A refl;
+    };
+    fresh = λ n one. owner_same law can (g.bypass j).fresh (not_at (at_fresh law can (g.bypass j).fresh) one) ∙ one;
+    late = λ l. record {
+      linked = λ e. owner_same law can (g.bypass j).fresh (fresh_apart law can j l) ∙ e;
+      born = ap (λ c. c.born) (central_same law can (g.bypass j).fresh (fresh_apart law can j l));
+      pair = ap (λ c. c.pair) (central_same law can (g.bypass j).fresh (fresh_apart law can j l));
+      router = λ s. router_same law can (fresh_of g j) s (fresh_apart law can j l);
+      node = λ s. node_same law can (fresh_of g j) s (fresh_apart law can j l);
+      inner_router = router_same law can (inner_of g j) B refl;
+      inner_node = node_same law can (inner_of g j) B refl;
+    };
+    born = λ i l e. born_at i l e (at_fresh law can i);
+  }
+    where
+      not_at : New (g.bypass j).fresh → g.owner (g.bypass j).fresh ≡ Fresh j → nat_eq (g.bypass j).fresh fresh ≡ false
+      not_at (inl m) one = absurd (apart (grind (arith, sym one ∙ ap g.owner m.1 ∙ fresh_owner law can)))
+      not_at (inr m) one = m.0
 
-      fresh_at : (j : ℕ) → (h.bypass j).stage ≡ 1 → ((nat_eq j o ≡ true) × (j ≡ o)) ⊎ ((nat_eq j o ≡ false) × (j ≢ o)) →
-          h.owner (h.bypass j).fresh ≡ Fresh j
-      fresh_at j n (inl t) = absurd (grind (arith, n, t.0))
-      fresh_at j n (inr t) = let one : g.owner (g.bypass j).fresh ≡ Fresh j = (bypasses_of law).fresh j (sym (two law can j t.0) ∙ n) in
-          ap h.owner (fresh_same law can j) ∙ owner_same law can (g.bypass j).fresh (not_at (at_fresh law can (g.bypass j).fresh) one) ∙ one
-        where
-          not_at : ((nat_eq (g.bypass j).fresh fresh ≡ true) × ((g.bypass j).fresh ≡ fresh)) ⊎
-              ((nat_eq (g.bypass j).fresh fresh ≡ false) × ((g.bypass j).fresh ≢ fresh)) → g.owner (g.bypass j).fresh ≡ Fresh j →
-              nat_eq (g.bypass j).fresh fresh ≡ false
-          not_at (inl m) one = absurd (t.1 (grind (arith, sym one ∙ ap g.owner m.1 ∙ fresh_owner law can)))
-          not_at (inr m) one = m.0
+      born_at : (i : ℕ) → is_linked (h.owner i) ≡ true → (h.central i).born ≡ Some j → New i →
+          (is_linked (g.owner i) ≡ true) × ((g.central i).born ≡ Some j)
+      born_at i l e (inl t) = absurd (apart (sym (same_Some o j (rw t.0 at e))))
+      born_at i l e (inr t) = (linked_back law can i l t.0, ap (λ c. c.born) (sym (central_same law can i t.0)) ∙ e)
 
-      at_new : (j : ℕ) → j ≡ o → (h.bypass j).fresh ≡ fresh
-      at_new j m = fresh_same law can j ∙ ap (λ i. (g.bypass i).fresh) m ∙ sym (is law can).on_word
-
-      fresh_linked_at : (j : ℕ) → 2 ≤ (h.bypass j).stage → ((nat_eq j o ≡ true) × (j ≡ o)) ⊎ ((nat_eq j o ≡ false) × (j ≢ o)) →
-          h.owner (h.bypass j).fresh ≡ Linked
-      fresh_linked_at j n (inl t) = ap h.owner (at_new j t.1) ∙ rw (itself law can fresh) refl
-      fresh_linked_at j n (inr t) = let n' : 2 ≤ (g.bypass j).stage = rw t.0 at n in
-          ap h.owner (fresh_same law can j) ∙ owner_same law can (g.bypass j).fresh (fresh_apart law can j n') ∙
-          (bypasses_of law).fresh_linked j n'
-
-      fresh_born_at : (j : ℕ) → 2 ≤ (h.bypass j).stage → ((nat_eq j o ≡ true) × (j ≡ o)) ⊎ ((nat_eq j o ≡ false) × (j ≢ o)) →
-          (h.central (h.bypass j).fresh).born ≡ Some j
-      fresh_born_at j n (inl t) = ap (λ i. (h.central i).born) (at_new j t.1) ∙ rw (itself law can fresh) (ap Some (sym t.1))
-      fresh_born_at j n (inr t) = let n' : 2 ≤ (g.bypass j).stage = rw t.0 at n in
-          ap (λ i. (h.central i).born) (fresh_same law can j) ∙
-          ap (λ c. c.born) (central_same law can (g.bypass j).fresh (fresh_apart law can j n')) ∙
-          (bypasses_of law).fresh_born j n'
-
-      begun_from : (j : ℕ) → 2 ≤ (g.bypass j).stage → is_begun (g.bypass j) ≡ true
-      begun_from j n = grind (arith, n, nat_tests)
-
-      fresh_pair_at : (j : ℕ) → 2 ≤ (h.bypass j).stage → ((nat_eq j o ≡ true) × (j ≡ o)) ⊎ ((nat_eq j o ≡ false) × (j ≢ o)) →
-          (h.central (h.bypass j).fresh).pair ≡ (h.central j).pair
-      fresh_pair_at j n (inl t) = ap (λ i. (h.central i).pair) (at_new j t.1) ∙ rw (itself law can fresh) (r_pair law can) ∙ sym
-          (ap (λ i. (h.central i).pair) t.1 ∙ ap (λ c. c.pair) (central_same law can o (begun_apart law can o (begun law can))))
-      fresh_pair_at j n (inr t) = let n' : 2 ≤ (g.bypass j).stage = rw t.0 at n in
-          ap (λ i. (h.central i).pair) (fresh_same law can j) ∙
-          ap (λ c. c.pair) (central_same law can (g.bypass j).fresh (fresh_apart law can j n')) ∙
-          (bypasses_of law).fresh_pair j n' ∙ ap (λ c. c.pair) (sym (central_same law can j (begun_apart law can j (begun_from j n'))))
-
-      inner_known_at : (j : ℕ) → 2 ≤ (h.bypass j).stage → ((nat_eq j o ≡ true) × (j ≡ o)) ⊎ ((nat_eq j o ≡ false) × (j ≢ o)) →
-          is_some (side_router g (inner_of g j) B) ≡ true
-      inner_known_at j n (inl t) = ap (λ i. is_some (side_router g (inner_of g i) B)) t.1 ∙ ap is_some (known law can)
-      inner_known_at j n (inr t) = (bypasses_of law).inner_known j (rw t.0 at n)
-
-      proxy_at : (j : ℕ) → j ≡ o → proxy_side h j ≡ r.end.side
-      proxy_at j m = proxy_side_same law can j ∙ ap (proxy_side g) m ∙ sym (r_side law can)
-
-      fresh_inner_at : (j : ℕ) → 2 ≤ (h.bypass j).stage → ((nat_eq j o ≡ true) × (j ≡ o)) ⊎ ((nat_eq j o ≡ false) × (j ≢ o)) →
-          side_router h (fresh_of h j) (proxy_side h j) ≡ side_router h (inner_of h j) B
-      fresh_inner_at j n (inl t) = ap (λ i. side_router h (Central i) (proxy_side h j)) (at_new j t.1) ∙ ap (side_router h (Central fresh))
-          (proxy_at j t.1) ∙ new_router law can r.end.side ∙ ap (λ c. cond c (Some k) None) (same_side-itself r.end.side)
-          ∙ sym (ap (λ p. side_router h (inner_link p) B) (inner_same law can j ∙ ap (λ i. (g.bypass i).inner) t.1) ∙
-          router_same law can (inner_of g o) B
-          refl ∙ known law can)
-      fresh_inner_at j n (inr t) = let n' : 2 ≤ (g.bypass j).stage = rw t.0 at n in
-          rw (fresh_same law can j, proxy_side_same law can j, inner_same law can j)
-          (router_same law can (fresh_of g j) (proxy_side g j) (fresh_apart law can j n') ∙
-          (bypasses_of law).fresh_inner j n' ∙ sym (router_same law can (inner_of g j) B refl))
-
-      fresh_inner_node_at : (j : ℕ) → 2 ≤ (h.bypass j).stage → ((nat_eq j o ≡ true) × (j ≡ o)) ⊎ ((nat_eq j o ≡ false) × (j ≢ o)) →
-          side_node h (fresh_of h j) (proxy_side h j) ≡ side_node h (inner_of h j) B
-      fresh_inner_node_at j n (inl t) = ap (λ i. side_node h (Central i) (proxy_side h j)) (at_new j t.1) ∙ ap (side_node h (Central fresh))
-          (proxy_at j t.1) ∙ new_node law can r.end.side ∙ ap (λ c. cond c k.node target) (same_side-itself r.end.side)
-          ∙ (is law can).receiver ∙ sym (ap (λ p. side_node h (inner_link p) B) (inner_same law can j ∙ ap (λ i. (g.bypass i).inner) t.1) ∙
-          node_same law can
-          (inner_of g o) B refl)
-      fresh_inner_node_at j n (inr t) = let n' : 2 ≤ (g.bypass j).stage = rw t.0 at n in
-          rw (fresh_same law can j, proxy_side_same law can j, inner_same law can j)
-          (node_same law can (fresh_of g j) (proxy_side g j) (fresh_apart law can j n') ∙
-          (bypasses_of law).fresh_inner_node j n' ∙ sym (node_same law can (inner_of g j) B refl))
-
-      across_at : (j : ℕ) → j ≡ o → across_side h j ≡ opposite r.end.side
-      across_at j m = ap opposite (proxy_at j m)
-
-      far : same_side (opposite r.end.side) r.end.side ≡ false
-      far = grind (arith, side_is (opposite r.end.side) r.end.side, same_side-opposite r.end.side)
-
-      fresh_across_node_at : (j : ℕ) → 2 ≤ (h.bypass j).stage → ((nat_eq j o ≡ true) × (j ≡ o)) ⊎ ((nat_eq j o ≡ false) × (j ≢ o)) →
-          side_node h (fresh_of h j) (across_side h j) ≡ side_node h (Central j) (across_side h j)
-      fresh_across_node_at j n (inl t) = ap (λ i. side_node h (Central i) (across_side h j)) (at_new j t.1) ∙ ap
-          (side_node h (Central fresh)) (across_at j t.1) ∙ new_node law can (opposite r.end.side) ∙ ap (λ c. cond c k.node target) far
-          ∙ (is law can).beyond ∙ sym (ap (λ i. side_node h (Central i) (across_side h i)) t.1 ∙
-          ap (side_node h (Central o)) (across_side_same law can o) ∙
-          node_same law can (Central o) (across_side g o) (begun_apart law can o (begun law can)))
-      fresh_across_node_at j n (inr t) = let n' : 2 ≤ (g.bypass j).stage = rw t.0 at n in
-          rw (fresh_same law can j, across_side_same law can j)
-          (node_same law can (fresh_of g j) (across_side g j) (fresh_apart law can j n') ∙
-          (bypasses_of law).fresh_across_node j n' ∙
-          sym (node_same law can (Central j) (across_side g j) (begun_apart law can j (begun_from j n'))))
-
-      fresh_awaited_at : (j : ℕ) → (h.bypass j).stage ≡ 2 → ((nat_eq j o ≡ true) × (j ≡ o)) ⊎ ((nat_eq j o ≡ false) × (j ≢ o)) →
-          side_router h (fresh_of h j) (across_side h j) ≡ None
-      fresh_awaited_at j n (inl t) = ap (λ i. side_router h (Central i) (across_side h j)) (at_new j t.1) ∙ ap
-          (side_router h (Central fresh)) (across_at j t.1) ∙ new_router law can (opposite r.end.side) ∙ ap (λ c. cond c (Some k) None) far
-      fresh_awaited_at j n (inr t) = let n' : (g.bypass j).stage ≡ 2 = rw t.0 at n in
-          rw (fresh_same law can j, across_side_same law can j)
-          (router_same law can (fresh_of g j) (across_side g j) (fresh_apart law can j (omega (arith, n'))) ∙
-          (bypasses_of law).fresh_awaited j n')
-
-      fresh_across_at : (j : ℕ) → 3 ≤ (h.bypass j).stage → ((nat_eq j o ≡ true) × (j ≡ o)) ⊎ ((nat_eq j o ≡ false) × (j ≢ o)) →
-          side_router h (fresh_of h j) (across_side h j) ≡ side_router h (Central j) (across_side h j)
-      fresh_across_at j n (inl t) = absurd (grind (arith, n, t.0))
-      fresh_across_at j n (inr t) = let n' : 3 ≤ (g.bypass j).stage = rw t.0 at n in
-          rw (fresh_same law can j, across_side_same law can j)
-          (router_same law can (fresh_of g j) (across_side g j) (fresh_apart law can j (omega (arith, n'))) ∙
-          (bypasses_of law).fresh_across j n' ∙ sym (router_same law can (Central j) (across_side g j)
-          (begun_apart law can j (begun_from j (omega (arith, n'))))))
-
-      born_fresh_at : (i j : ℕ) → is_linked (h.owner i) ≡ true → (h.central i).born ≡ Some j →
-          ((nat_eq i fresh ≡ true) × (i ≡ fresh)) ⊎ ((nat_eq i fresh ≡ false) × (i ≢ fresh)) → (g.bypass j).fresh ≡ i
-      born_fresh_at i j l n (inl t) = let same : o ≡ j = same_Some o j (rw t.0 at n) in
-          ap (λ q. (g.bypass q).fresh) (sym same) ∙ sym (is law can).on_word ∙ sym t.1
-      born_fresh_at i j l n (inr t) = (bypasses_of law).born_fresh i j (linked_back law can i l t.0)
-          (ap (λ c. c.born) (sym (central_same law can i t.0)) ∙ n)
-
-      born_stage_at : (i j : ℕ) → is_linked (h.owner i) ≡ true → (h.central i).born ≡ Some j →
-          ((nat_eq i fresh ≡ true) × (i ≡ fresh)) ⊎ ((nat_eq i fresh ≡ false) × (i ≢ fresh)) → 2 ≤ (h.bypass j).stage
-      born_stage_at i j l n (inl t) = let same : o ≡ j = same_Some o j (rw t.0 at n) in
-          grind (arith, stage_at law can j, same, itself law can o)
-      born_stage_at i j l n (inr t) = grind (
-        arith,
-        (bypasses_of law).born_stage i j (linked_back law can i l t.0)
-            (ap (λ c. c.born) (sym (central_same law can i t.0)) ∙ n),
-        at_o law can j,
-      )
+  pub bypasses-peer : BypassRecords v h
+  bypasses-peer j = go (at_o law can j)
+    where
+      go : At j → IsBypassRecorded v h j
+      go (inl t) = subst (IsBypassRecorded v h) (sym t.1) bypass-taken
+      go (inr t) = bypass-kept {w = w} (keeps_other j t.0 t.1) (bypasses_of law j)
 
   pub target_below : target < w.count
   target_below = rw (is law can).beyond ((counts_of law).side_on_node (Central o) (across_side g o)
-      (is_recorded-central w g o ∙ (bypasses_of law).old o (begun law can)))
+      (is_recorded-central w g o ∙ (bypasses_of law o).old (begun law can)))
 
   received : IsReceived w v from k.node
   received = record { hand = hand-handed_on w from k x target sent; mail = mail-handed_on w from k x target sent }

@@ -49,6 +49,7 @@ use Rattle.ipcz_world.proofs.hands.BypassPeerAround.{owner_same, two, begun_apar
 use Rattle.ipcz_world.proofs.hands.BypassPeerAround.{linked_back, new_end, x_known, beyond_none, x_on_fresh, router_j, at_k, was_router}
 use Rattle.ipcz_world.proofs.hands.BypassPeerLinks.{inner_is}
 use Rattle.ipcz_world.proofs.frames.Unmoved.{WasLike}
+use Rattle.ipcz_world.proofs.frames.EndsKept.{terminal-kept}
 
 module _ {w : World} {b : Books} {g : Records} {from : ℕ} {k : Key} {r : Router} {o : ℕ} {link : LinkId} {side : Side}
     {target fresh : ℕ} (law : Sealed w b g) (can : Closed (CanPeer w from k r o link side target fresh)) where
@@ -505,7 +506,7 @@ module _ {w : World} {b : Books} {g : Records} {from : ℕ} {k : Key} {r : Route
           rw (inner_same law can j) (keep (Some q) (has_primary (inner_of g j) B)
           ((stages_of law).inner_primary j q st' (sym (router_same law can (inner_of g j) B refl) ∙ ap (λ p. side_router h (inner_link p) B)
           (sym (inner_same law can j)) ∙ m))
-          (λ n t. absurd (c.1 (same_Some j o (sym ((bypasses_of law).inner_by j b') ∙ ap (λ p. (g.peripheral p).by)
+          (λ n t. absurd (c.1 (same_Some j o (sym ((bypasses_of law j).inner_by b') ∙ ap (λ p. (g.peripheral p).by)
           (inner_is law can (g.bypass j).inner (g.bypass o).inner (only_inner (inner_of g j) B t).0) ∙ by_o law can)))))
 
       inner_decaying_at : (j : ℕ) → 2 ≤ (h.bypass j).stage → (h.bypass j).stage ≤ 4 →
@@ -522,13 +523,9 @@ module _ {w : World} {b : Books} {g : Records} {from : ℕ} {k : Key} {r : Route
 
   pub terminals-peer : Terminals w g → Terminals v h
   terminals-peer terms = record {
-    terminal = λ q t a m. let c : WasLike w q t = was_router law can q t a in ap g.terminal c.alike.end ∙
-        terms.terminal q c.router c.here_before
-        (sym c.alike.terminal ∙ m);
+    each = λ q t a. let c : WasLike w q t = was_router law can q t a in
+        terminal-kept {g = g} (λ e. refl) c.alike.end (λ m. sym c.alike.terminal ∙ m) (terms.each q c.router c.here_before);
     stands = λ d q m. keep (Some q) (λ y. is_terminal y && same_end y.end d) (terms.stands d q m) (λ n t. t);
-    opened = λ q t a. let c : WasLike w q t = was_router law can q t a in ap (λ d. is_nowhere (g.terminal d)) c.alike.end ∙
-        terms.opened q c.router
-        c.here_before;
     link_opened = λ l s rec. link_opened_at l s (recorded_back law can l rec);
     both = terms.both;
     unopened = λ d m. terms.unopened d (unlinked d.pair m (at_fresh law can d.pair));
@@ -554,5 +551,5 @@ module _ {w : World} {b : Books} {g : Records} {from : ℕ} {k : Key} {r : Route
         where
           ends : ((same_side s r.end.side ≡ true) × (s ≡ r.end.side)) ⊎ ((same_side s r.end.side ≡ false) × (s ≡ opposite r.end.side)) →
               is_nowhere (g.terminal (record { pair = r.end.pair; side = s })) ≡ false
-          ends (inl a) = rw a.1 (terms.opened k r (here law can))
-          ends (inr a) = rw a.1 (terms.both r.end ∙ terms.opened k r (here law can))
+          ends (inl a) = rw a.1 ((terms.each k r (here law can)).opened)
+          ends (inr a) = rw a.1 (terms.both r.end ∙ (terms.each k r (here law can)).opened)

@@ -131,10 +131,10 @@ module _ (w : World) (b : Books) (g : Records) (law : Inv w b g) where
           rw (e, primary, peripheral, still, low, new) refl
         where
           old_recorded : is_recorded w g (Central o) ≡ true
-          old_recorded = grind (arith, record_rules, law.bypasses.old o (grind (arith, at.stage, nat_tests)))
+          old_recorded = grind (arith, record_rules, (law.bypasses o).old (grind (arith, at.stage, nat_tests)))
 
           not_linked : IsPeer g from n o link side target fresh → is_recorded w g (Central fresh) ≡ true → ⊥
-          not_linked at h = let own : g.owner fresh ≡ Fresh o = ap g.owner at.onto ∙ law.bypasses.fresh o at.stage in
+          not_linked at h = let own : g.owner fresh ≡ Fresh o = ap g.owner at.onto ∙ (law.bypasses o).fresh at.stage in
               grind (arith, record_rules, h, own)
 
           stays : HasEnd r.outward.primary (inner_of g o) B → (d : Option LinkEnd) → r.outward.decaying ≡ d → is_some d ≡ false
@@ -192,7 +192,7 @@ module _ (w : World) (b : Books) (g : Records) (law : Inv w b g) where
           (rw (e, primary, still, new) (accept_source w b g n from o side fresh length law at), primary)
         where
           awaited : {q : Key} {y : Router} → IsAccept g from n o side fresh length → HasAt w g q y (Central fresh) side → ⊥
-          awaited {q} {y} at h = none-some q (sym (law.bypasses.fresh_awaited o at.stage) ∙ subst
+          awaited {q} {y} at h = none-some q (sym ((law.bypasses o).fresh_awaited at.stage) ∙ subst
               (λ i. side_router g (Central i) (across_side g o) ≡ Some q) at.onto
               (subst (λ s. side_router g (Central fresh) s ≡ Some q) at.at_side h.router))
 
@@ -257,7 +257,7 @@ module _ (w : World) (b : Books) (g : Records) (law : Inv w b g) where
           let mine : HasAt w g k r (Central o) side = has_at w g k r (Central o) side law.links here has in
           let known : side_router g (Central o) (proxy_side g o) ≡ Some k =
           subst (λ s. side_router g (Central o) s ≡ Some k) at.at_side mine.router in
-          let proxy : Some (g.bypass o).proxy ≡ Some k = sym (law.bypasses.proxy_old o begun) ∙ known in
+          let proxy : Some (g.bypass o).proxy ≡ Some k = sym ((law.bypasses o).proxy_old begun) ∙ known in
           let owns : g.begun k ≡ Some o = ap g.begun (sym (same_Some _ k proxy)) ∙ law.positions.proxy_begun o begun in
           let off : has_decaying (Central o) (proxy_side g o) r ≡ true =
           sym (passes-at w _ k r (has_decaying (Central o) (proxy_side g o)) proxy here) ∙ law.stages.proxy_old o begun early in
@@ -331,7 +331,7 @@ module _ (w : World) (b : Books) (g : Records) (law : Inv w b g) where
           let d : HasEnd r.outward.decaying (inner_of g o) B = has_link-tells r.outward.decaying (inner_of g o) B off in
           let back : is_none r.outward.length_from ≡ true =
           unknown _ 5 _ _ ((law.positions.each k r here).inner_from d.end (g.bypass o).inner o d.there d.on_link
-          (law.bypasses.inner_by o (grind (arith, at.stage, nat_tests)))) (grind (arith, at.stage, nat_tests)) in
+          ((law.bypasses o).inner_by (grind (arith, at.stage, nat_tests)))) (grind (arith, at.stage, nat_tests)) in
           rw (e, decaying, back) refl
 
   pub will_stop_is : (n from : ℕ) (link : LinkId) (side : Side) (in_length : ℕ)

@@ -277,7 +277,7 @@ module _ (w v : World) (b : Books) (g : Records) (a : ℕ) (q p : Key) (d : Desc
   begun_from o n one le = grind (arith, one, le, nat_tests)
 
   old_recorded : (o n : ℕ) → 1 ≤ n → n ≤ (g.bypass o).stage → is_recorded w g (Central o) ≡ true
-  old_recorded o n one le = is_recorded-central w g o ∙ law.bypasses.old o (begun_from o n one le)
+  old_recorded o n one le = is_recorded-central w g o ∙ (law.bypasses o).old (begun_from o n one le)
 
   pub proxy_numbers-made : ProxyNumbers v h
   proxy_numbers-made = record {
@@ -295,7 +295,7 @@ module _ (w v : World) (b : Books) (g : Records) (a : ℕ) (q p : Key) (d : Desc
         ap (λ k. is_gone (view v h (Central o) (opposite k))) (sym (side_same law is t o)) ∙ e);
     inner_gone = λ o z at s e. let c = begun_from o 5 (omega arith) (omega (arith, s)) in
         law.proxy_numbers.inner_gone o z (proxy_was law is t o z c at) s
-        (sym (gone_same (inner_of g o) B (law.bypasses.inner o c)) ∙ e);
+        (sym (gone_same (inner_of g o) B ((law.bypasses o).inner c)) ∙ e);
     out_finished = λ o z at s e. law.proxy_numbers.out_finished o z
         (proxy_was law is t o z (begun_from o 4 (omega arith) s) at) s e;
     in_finished = λ o z at s e. law.proxy_numbers.in_finished o z

@@ -143,7 +143,7 @@ module _ {w v : World} {b : Books} {g : Records} {a : ℕ} {q p : Key} {d : Desc
 
       go : (c : Bool) → nat_le 2 (g.bypass o).stage ≡ c → (g.bypass o).stage ≡ 1
       go false f = grind (arith, f, begun, nat_tests)
-      go true f = let some = law.bypasses.inner_known o (grind (arith, f, nat_tests)) in
+      go true f = let some = (law.bypasses o).inner_known (grind (arith, f, nat_tests)) in
           absurd (grind (arith, some, ap (λ k. side_router g (inner_link k) B) (law.stands.by_inner p o e) ∙ unmade law is t))
 
   pub positions-made : Positions v h

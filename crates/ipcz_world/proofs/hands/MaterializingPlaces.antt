@@ -245,12 +245,12 @@ module _ {w v : World} {b : Books} {g : Records} {a : ℕ} {q p : Key} {d : Desc
           apart_link k c = same_key-link k p c
 
   pub fresh_numbers-made : FreshNumbers v h2
-  fresh_numbers-made = record {
-    own = λ x z e f len at on off c. law.fresh_numbers.own x z e f len (old x z f at off) on off c;
-    comes = λ x z e f len from to i m c ds at on off k o. let j = item_came from to i e.link e.side m c ds o in
-        law.fresh_numbers.comes x z e f len from to i m c j.0 (old x z f at off) on off
+  fresh_numbers-made x z at = record {
+    own = λ e f len on off c. (law.fresh_numbers x z (old x z f at off)).own e f len on off c;
+    comes = λ e f len from to i m c ds on off k o. let j = item_came from to i e.link e.side m c ds o in
+        (law.fresh_numbers x z (old x z f at off)).comes e f len from to i m c j.0 on off
         (sym (length_same w v b g a q p d law is t f.link (opposite f.side)) ∙ k) j.1;
-    other = λ x z c e f len at on off k there. law.fresh_numbers.other x z c e f len (old x z f at off) on off
+    other = λ c e f len on off k there. (law.fresh_numbers x z (old x z f at off)).other c e f len on off
         (sym (length_same w v b g a q p d law is t f.link (opposite f.side)) ∙ k) (standing_came x z c e f (old x z f at off) on off there);
   }
     where
@@ -278,16 +278,18 @@ module _ {w v : World} {b : Books} {g : Records} {a : ℕ} {q p : Key} {d : Desc
   end_places-made = record {
     held = λ m e has. term_kept e m (law.end_places.held m e (subst (λ c. holds e c ≡ true) (ends.held m) has));
     pending = λ m e has. term_kept e m (law.end_places.pending m e (subst (λ c. has_end e c ≡ true) (ends.pending m) has));
-    out = λ x z m i e at f has. elim (was_there law is t x z at) [
-      | inl o ↦ term_kept e x.node (law.end_places.out x z m i e o.0 f has)
-      | inr o ↦ absurd
-          (not_none (sym (blank_at d.next_out m) ∙ ap (λ z. item_at z.out_queue m) (sym o.0) ∙ f))
-    ];
-    inn = λ x z m i e at f has. elim (was_there law is t x z at) [
-      | inl o ↦ term_kept e x.node (law.end_places.inn x z m i e o.0 f has)
-      | inr o ↦ absurd
-          (not_none (sym (blank_at d.next_in m) ∙ ap (λ z. item_at z.in_queue m) (sym o.0) ∙ f))
-    ];
+    each = λ x z at. record {
+      out = λ m i e f has. elim (was_there law is t x z at) [
+        | inl o ↦ term_kept e x.node ((law.end_places.each x z o.0).out m i e f has)
+        | inr o ↦ absurd
+            (not_none (sym (blank_at d.next_out m) ∙ ap (λ z. item_at z.out_queue m) (sym o.0) ∙ f))
+      ];
+      inn = λ m i e f has. elim (was_there law is t x z at) [
+        | inl o ↦ term_kept e x.node ((law.end_places.each x z o.0).inn m i e f has)
+        | inr o ↦ absurd
+            (not_none (sym (blank_at d.next_in m) ∙ ap (λ z. item_at z.in_queue m) (sym o.0) ∙ f))
+      ];
+    };
     within = λ m i x u j z ds e c has. let o = item_came m m i x u j z ds c in
         term_kept e m (law.end_places.within m i x u j z o.0 e o.1 has);
   }

@@ -8,7 +8,7 @@ use Rattle.std.specs.Prelude.{◌≡◌, ◌⊎◌, ◌≤◌, ℕ, Bool, true, 
 use Rattle.std.proofs.Common.{arith, ap, subst, ◌∙◌, sym, inl, inr}
 use Rattle.ipcz_world.proofs.Vocabulary.{Side, A, B, End, Central, Descriptor, opposite, same_side, has, same_link, same_end}
 use Rattle.ipcz_world.proofs.Vocabulary.{opposite_end, Router, is_terminal, from_descriptor, World, Key, router_at, Books, Records, At}
-use Rattle.ipcz_world.proofs.Vocabulary.{is_begun, inner_link, side_node, side_router, side_end, proxy_side, across_side, is_nowhere, is_recorded}
+use Rattle.ipcz_world.proofs.Vocabulary.{is_begun, inner_link, side_router, side_end, proxy_side, across_side, is_nowhere, is_recorded}
 use Rattle.ipcz_world.proofs.Vocabulary.{key_passes, has_primary, has_decaying, has_inward_decaying, Stands, Words, Spares, BypassRecords}
 use Rattle.ipcz_world.proofs.Vocabulary.{Stages, inner_of, moving_link, Terminals}
 use Rattle.ipcz_world.proofs.frames.Frames.{same_key-itself}
@@ -27,6 +27,7 @@ use Rattle.ipcz_world.proofs.hands.MaterializingAround.{router_new, router_same,
 use Rattle.ipcz_world.proofs.facts.Lengths.{same_link-tells}
 use Rattle.ipcz_world.proofs.facts.Tests.{same_some}
 use Rattle.ipcz_world.proofs.facts.LinkTests.{same_end-itself, same_end-tells}
+use Rattle.ipcz_world.proofs.frames.BypassesKept.{bypass-kept, same_bypass}
 
 module _ {w v : World} {b : Books} {g : Records} {a : ℕ} {q p : Key} {d : Descriptor} (law : OpenInv w b g) (is : IsMaterial w g a q p d)
     (t : IsMade w v q (from_descriptor d a)) where
@@ -144,44 +145,38 @@ module _ {w v : World} {b : Books} {g : Records} {a : ℕ} {q p : Key} {d : Desc
   inner_kept : (o : ℕ) → 2 ≤ (g.bypass o).stage → side_router h (inner_of g o) B ≡ side_router g (inner_of g o) B
   inner_kept o e = elim (inner_case (g.bypass o).inner) [
     | inl f ↦ absurd
-        (grind (arith, law.bypasses.inner_known o e, ap (λ k. side_router g (inner_link k) B) f ∙ unmade law is t))
+        (grind (arith, (law.bypasses o).inner_known e, ap (λ k. side_router g (inner_link k) B) f ∙ unmade law is t))
     | inr f ↦ f
   ]
 
   pub bypasses-made : BypassRecords v h
-  bypasses-made = record {
-    stage = law.bypasses.stage;
-    old = law.bypasses.old;
-    inner = λ o e. recorded_same law is t (inner_of g o) ∙ law.bypasses.inner o e;
-    inner_by = λ o e. by_same law is t (g.bypass o).inner ∙ law.bypasses.inner_by o e;
-    pair = λ o e. peripheral_same law is t (λ z. z.end.pair) (λ z o. refl) (g.bypass o).inner ∙ law.bypasses.pair o e;
-    proxy_old = λ o e. ap (side_router h (Central o)) (side_same law is t o) ∙ central_kept o (proxy_side g o) ∙ law.bypasses.proxy_old o e;
-    proxy_inner = λ o e. proxy_kept (g.bypass o).inner ∙ law.bypasses.proxy_inner o e;
-    across = λ o e. ap is_some (ap (λ s. side_router h (Central o) (opposite s)) (side_same law is t o) ∙
-        central_kept o (across_side g o)) ∙
-        law.bypasses.across o e;
-    fresh = law.bypasses.fresh;
-    fresh_linked = law.bypasses.fresh_linked;
-    fresh_born = law.bypasses.fresh_born;
-    fresh_pair = law.bypasses.fresh_pair;
-    inner_known = λ o e. ap is_some (inner_kept o e) ∙ law.bypasses.inner_known o e;
-    fresh_inner = λ o e. ap (side_router h (fresh_of g o)) (side_same law is t o) ∙ central_kept (g.bypass o).fresh (proxy_side g o) ∙
-        law.bypasses.fresh_inner o e ∙ sym (inner_kept o e);
-    fresh_inner_node = λ o e. ap (side_node h (fresh_of g o)) (side_same law is t o) ∙ node_same law is t (fresh_of g o) (proxy_side g o) ∙
-        law.bypasses.fresh_inner_node o e ∙ sym (node_same law is t (inner_of g o) B);
-    fresh_across_node = λ o e. ap (λ s. side_node h (fresh_of g o) (opposite s)) (side_same law is t o) ∙
-        node_same law is t (fresh_of g o) (across_side g o)
-        ∙ law.bypasses.fresh_across_node o e ∙ sym (ap (λ s. side_node h (Central o) (opposite s)) (side_same law is t o) ∙
-        node_same law is t (Central o)
-        (across_side g o));
-    fresh_awaited = λ o e. ap (λ s. side_router h (fresh_of g o) (opposite s)) (side_same law is t o) ∙ central_kept (g.bypass o).fresh
-        (across_side g o) ∙ law.bypasses.fresh_awaited o e;
-    fresh_across = λ o e. ap (λ s. side_router h (fresh_of g o) (opposite s)) (side_same law is t o) ∙ central_kept (g.bypass o).fresh
-        (across_side g o) ∙ law.bypasses.fresh_across o e ∙ sym (ap (λ s. side_router h (Central o) (opposite s)) (side_same law is t o) ∙
-        central_kept o (across_side g o));
-    born_fresh = law.bypasses.born_fresh;
-    born_stage = law.bypasses.born_stage;
-  }
+  bypasses-made o = bypass-kept {w = w}
+      (record {
+        same = same_bypass (g.bypass o);
+        old = λ e. record {
+          linked = λ h. h;
+          recorded = λ h. recorded_same law is t (inner_of g o) ∙ h;
+          by = by_same law is t (g.bypass o).inner;
+          inner_pair = peripheral_same law is t (λ z. z.end.pair) (λ z o. refl) (g.bypass o).inner;
+          pair = refl;
+          side = side_same law is t o;
+          router = central_kept o;
+          node = node_same law is t (Central o);
+          inner_router = proxy_kept (g.bypass o).inner;
+        };
+        fresh = λ e h. h;
+        late = λ l. record {
+          linked = λ h. h;
+          born = refl;
+          pair = refl;
+          router = central_kept (g.bypass o).fresh;
+          node = node_same law is t (fresh_of g o);
+          inner_router = inner_kept o l;
+          inner_node = node_same law is t (inner_of g o) B;
+        };
+        born = λ i l e. (l, e);
+      })
+      (law.bypasses o)
 
   across_passes : (o : ℕ) (test : Side → Router → Bool) → key_passes w (side_router g (Central o) (across_side g o))
       (test (across_side g o)) ≡ true → key_passes v (side_router h (Central o) (across_side h o)) (test (across_side h o)) ≡ true
@@ -196,7 +191,7 @@ module _ {w v : World} {b : Books} {g : Records} {a : ℕ} {q p : Key} {d : Desc
     | inl n ↦ n.0
     | inr n ↦ absurd (grind (
       arith,
-      side_new law is t (inner_of g o) A (g.bypass o).proxy (law.bypasses.inner o e) (law.bypasses.proxy_inner o e),
+      side_new law is t (inner_of g o) A (g.bypass o).proxy ((law.bypasses o).inner e) ((law.bypasses o).proxy_inner e),
       n.1,
       same_key-itself q,
     ))
@@ -251,13 +246,15 @@ module _ {w v : World} {b : Books} {g : Records} {a : ℕ} {q p : Key} {d : Desc
 
   pub terminals-made : Terminals v h
   terminals-made = record {
-    terminal = λ x z at e. elim (was_there law is t x z at) [
-      | inl o ↦ let f = law.terminals.terminal x z o.0 e in grind (arith, not_moving z.end x f, f)
-      | inr o ↦ ap h.terminal (ap (λ z. z.end) o.0) ∙ grind (arith, same_end-itself d.end, o.1)
-    ];
+    each = λ x z at. record {
+      terminal = λ e. elim (was_there law is t x z at) [
+        | inl o ↦ let f = (law.terminals.each x z o.0).terminal e in grind (arith, not_moving z.end x f, f)
+        | inr o ↦ ap h.terminal (ap (λ z. z.end) o.0) ∙ grind (arith, same_end-itself d.end, o.1)
+      ];
+      opened = nowhere_same z.end ∙ elim (was_there law is t x z at)
+          [ inl o ↦ (law.terminals.each x z o.0).opened | inr o ↦ ap (λ z. is_nowhere (g.terminal z.end)) o.0 ∙ nowhere_moved ];
+    };
     stands = λ e x f. made_stands e x f (same_end e d.end) refl;
-    opened = λ x z at. nowhere_same z.end ∙ elim (was_there law is t x z at)
-        [ inl o ↦ law.terminals.opened x z o.0 | inr o ↦ ap (λ z. is_nowhere (g.terminal z.end)) o.0 ∙ nowhere_moved ];
     link_opened = λ link s e. nowhere_same (side_end h link s) ∙ ap (λ z. is_nowhere (g.terminal z)) (end_same law is t link s) ∙
         law.terminals.link_opened link s (sym (recorded_same law is t link) ∙ e);
     both = λ e. nowhere_same (opposite_end e) ∙ law.terminals.both e ∙ sym (nowhere_same e);

@@ -191,7 +191,7 @@ module _ (w : World) (b : Books) (g : Records) (from : ℕ) (k : Key) (r : Route
           (l ∙ ap inner_link (sym ((stands_of law).by_inner p o (n ∙ ap Some a.1)))))
       inner_from_at q t d p j m l n (inl c) (inr a) = absurd (a.1
           (same_Some j o (sym n ∙ ap (λ i. (g.peripheral i).by) (inner_is p (g.bypass o).inner (sym l ∙ x_dec t d c.1 m)) ∙
-          (bypasses_of law).inner_by o begun)))
+          (bypasses_of law o).inner_by begun)))
       inner_from_at q t d p j m l n (inr c) (inr a) = rw a.0 (((positions_of law).each q t c.1).inner_from d p j m l n)
 
       own_to_at : (q : Key) (t : Router) (d : LinkEnd) (j : ℕ) → t.outward.decaying ≡ Some d → d.link ≡ Central j →
@@ -332,7 +332,7 @@ module _ (w : World) (b : Books) (g : Records) (from : ℕ) (k : Key) (r : Route
     order = numbers.order-further law changed like linked carried is.stage late early;
     proxy_numbers = numbers.proxy_numbers-further law changed like linked carried is.stage late early proxy_owes;
     fresh_numbers = numbers.fresh_numbers-further law changed like linked carried is.stage late early
-        (λ p d len prim dec l. (fresh_numbers_of law).own k r p d len here prim dec l);
+        (λ p d len prim dec l. (fresh_numbers_of law k r here).own p d len prim dec l);
     conserved = conserved-kept w v g h k r x changed agree b like carried places (conserved_of law);
     held_once = held_once-kept w v g h k r x changed agree b carried places (held_once_of law);
     no_strays = no_strays-kept w v g h k r x changed agree (no_strays_of law);

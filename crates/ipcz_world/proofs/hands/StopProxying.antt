@@ -84,7 +84,7 @@ module _ (w : World) (b : Books) (g : Records) (from : ℕ) (k : Key) (r : Route
   known = rw is.at_side at ((has_at w g k r (Central o) side (links_of law) here (opened can).has).router)
 
   proxy_is : (g.bypass o).proxy ≡ k
-  proxy_is = same_Some _ _ (sym ((bypasses_of law).proxy_old o begun) ∙ known)
+  proxy_is = same_Some _ _ (sym ((bypasses_of law o).proxy_old begun) ∙ known)
 
   pub y_old : has_link r.outward.decaying (Central o) (proxy_side g o) ≡ true
   y_old = sym (passed w k r (has_decaying (Central o) (proxy_side g o)) here) ∙ rw proxy_is at
@@ -327,10 +327,10 @@ module _ (w : World) (b : Books) (g : Records) (from : ℕ) (k : Key) (r : Route
       (λ s. side_node g (inner_of g o) (opposite s)) at_a
 
   to_node : e.other < w.count
-  to_node = rw e_other ((counts_of law).side_on_node (inner_of g o) B ((bypasses_of law).inner o begun))
+  to_node = rw e_other ((counts_of law).side_on_node (inner_of g o) B ((bypasses_of law o).inner begun))
 
   by_o : bypass_of g (inner_of g o) ≡ Some o
-  by_o = bypass_of-inner g (g.bypass o).inner ∙ (bypasses_of law).inner_by o begun
+  by_o = bypass_of-inner g (g.bypass o).inner ∙ (bypasses_of law o).inner_by begun
 
   expected_before : (t : ℕ → ℕ → Message → ℕ) → control_weight g t o ≡ t from k.node came
   unfolding control_weight

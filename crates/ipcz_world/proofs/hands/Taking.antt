@@ -232,16 +232,16 @@ module _ (w v : World) (b : Books) (g : Records) (from : ℕ) (k : Key) (r y : R
   }
 
   pub fresh_numbers-taken : FreshNumbers v g
-  fresh_numbers-taken = record {
-    own = λ q x e f len at on off h. let z = filled_before w v k r y n (is_outward l s) g filling q x at in
-        let le : len ≤ z.0.out_queue.current = law.fresh_numbers.own q z.0 e f len z.1 (grind (arith, z.4, on)) (grind (arith, z.4, off))
+  fresh_numbers-taken q x at = let z = filled_before w v k r y n (is_outward l s) g filling q x at in record {
+    own = λ e f len on off h.
+        let le : len ≤ z.0.out_queue.current = (law.fresh_numbers q z.0 z.1).own e f len (grind (arith, z.4, on)) (grind (arith, z.4, off))
         (grind (arith, z.4, h)) in omega (arith, le, z.2);
-    comes = λ q x e f len fr to i m c moves at on off h u. let z = filled_before w v k r y n (is_outward l s) g filling q x at in let o =
+    comes = λ e f len fr to i m c moves on off h u. let o =
         came fr to i (messages.Item e.link e.side m c moves) u in
-        law.fresh_numbers.comes q z.0 e f len fr to o.at m c moves z.1 (grind (arith, z.4, on)) (grind (arith, z.4, off)) h o.was;
-    other = λ q x c e f len at on off h there. let z = filled_before w v k r y n (is_outward l s) g filling q x at in let o =
+        (law.fresh_numbers q z.0 z.1).comes e f len fr to o.at m c moves (grind (arith, z.4, on)) (grind (arith, z.4, off)) h o.was;
+    other = λ c e f len on off h there. let o =
         standing_filled w v k r y n (is_outward l s) g filling e.link (opposite e.side) c there in
-        let le : len ≤ o.0.out_queue.current = law.fresh_numbers.other q z.0 o.0 e f len z.1 (grind (arith, z.4, on))
+        let le : len ≤ o.0.out_queue.current = (law.fresh_numbers q z.0 z.1).other o.0 e f len (grind (arith, z.4, on))
         (grind (arith, z.4, off)) h o.1 in omega (arith, le, o.2);
   }
 
@@ -249,10 +249,14 @@ module _ (w v : World) (b : Books) (g : Records) (from : ℕ) (k : Key) (r y : R
   end_places-taken same = record {
     held = λ m e h. law.end_places.held m e (subst (λ f. holds e f ≡ true) (same.held m) h);
     pending = λ m e h. law.end_places.pending m e (subst (λ f. has_end e f ≡ true) (same.pending m) h);
-    out = λ q x m z e at h has. queued q x m z e at has (λ c d. elim (a.out_item m z (ap (λ x. item_at x.out_queue m) c ∙ h))
-        [ inl o ↦ inl (law.end_places.out k r m z e is.here o has) | inr o ↦ inr o ]) (λ f. law.end_places.out q x m z e f h has);
-    inn = λ q x m z e at h has. queued q x m z e at has (λ c d. elim (a.in_item m z (ap (λ x. item_at x.in_queue m) c ∙ h))
-        [ inl o ↦ inl (law.end_places.inn k r m z e is.here o has) | inr o ↦ inr o ]) (λ f. law.end_places.inn q x m z e f h has);
+    each = λ q x at. record {
+      out = λ m z e h has. queued q x m z e at has (λ c d. elim (a.out_item m z (ap (λ x. item_at x.out_queue m) c ∙ h))
+          [ inl o ↦ inl ((law.end_places.each k r is.here).out m z e o has) | inr o ↦ inr o ])
+          (λ f. (law.end_places.each q x f).out m z e h has);
+      inn = λ m z e h has. queued q x m z e at has (λ c d. elim (a.in_item m z (ap (λ x. item_at x.in_queue m) c ∙ h))
+          [ inl o ↦ inl ((law.end_places.each k r is.here).inn m z e o has) | inr o ↦ inr o ])
+          (λ f. (law.end_places.each q x f).inn m z e h has);
+    };
     within = λ f i m u x z moves e h has. let c = came f f i (messages.Item m u x z moves) h in
         law.end_places.within f c.at m u x z moves e c.was has;
   }

@@ -182,7 +182,7 @@ module _ (w : World) (b : Books) (g : Records) (law : Inv w b g) where
       let at : IsStop g from to old side in_length out_length = stop_told w g from to i old side in_length out_length law.told u in
       let begun : is_begun (g.bypass old) ≡ true = grind (arith, at.stage, nat_tests) in
       let mine : HasAt w g k r (Central old) side = has_at w g k r (Central old) side law.links here has in
-      let proxy : (g.bypass old).proxy ≡ k = same_Some _ k (sym (law.bypasses.proxy_old old begun) ∙ rw (at.at_side) at mine.router) in
+      let proxy : (g.bypass old).proxy ≡ k = same_Some _ k (sym ((law.bypasses old).proxy_old begun) ∙ rw (at.at_side) at mine.router) in
       let is : IsInward k e = inward_case k r e here dec in
       let same : is.bypass ≡ old = same_Some is.bypass old (sym is.begun ∙ ap g.begun (sym proxy) ∙ law.positions.proxy_begun old begun) in
       (is.link, is.on, is.side, is.by ∙ ap Some same, at)
@@ -265,7 +265,8 @@ module _ (w : World) (b : Books) (g : Records) (law : Inv w b g) where
       let c = will_stop_told w g from to i l side n law.told u in
       at_link g link (inner_of g c.0) s A n (g.bypass c.0).accepted_at (sym on ∙ c.2.on_link) (sym at ∙ ap opposite c.2.at_side)
       c.2.accepted
-      (len_inner_in g (g.bypass c.0).inner c.0 (law.bypasses.inner_by c.0 (grind (arith, c.2.stage, nat_tests))) (omega (arith, c.2.stage)))
+      (len_inner_in g (g.bypass c.0).inner c.0 ((law.bypasses c.0).inner_by (grind (arith, c.2.stage, nat_tests)))
+      (omega (arith, c.2.stage)))
 
   one : (link : LinkId) (s : Side) (m n : ℕ) → Knows w link s m → Knows w link s n → m ≡ n
   one link s m n p q =
@@ -390,7 +391,7 @@ module _ (w : World) (b : Books) (g : Records) (law : Inv w b g) where
   -- the router at the inner link's side A is the proxy of its bypass
   proxy_of : (p k : Key) (o : ℕ) → (g.peripheral p).by ≡ Some o → is_begun (g.bypass o) ≡ true → side_router g (inner_link p) A ≡ Some k →
       (g.bypass o).proxy ≡ k
-  proxy_of p k o by begun e = same_Some _ k (sym (law.bypasses.proxy_inner o begun) ∙ ap (λ x. side_router g (inner_link x) A)
+  proxy_of p k o by begun e = same_Some _ k (sym ((law.bypasses o).proxy_inner begun) ∙ ap (λ x. side_router g (inner_link x) A)
       (law.stands.by_inner p o by) ∙ e)
 
   -- a router that sends over its old link as the router across, at the length, has it decaying and knows the length from there
@@ -513,7 +514,7 @@ module _ (w : World) (b : Books) (g : Records) (law : Inv w b g) where
           Knows w (Central i) (opposite s) r.out_queue.current
       go c = let d = old_length i c.0 (opposite s) c.1 in elim d.2 [
         | inl own ↦
-            let proxy : (g.bypass i).proxy ≡ k = same_Some _ k (sym (law.bypasses.proxy_old i d.1) ∙ ap (side_router g (Central i))
+            let proxy : (g.bypass i).proxy ≡ k = same_Some _ k (sym ((law.bypasses i).proxy_old d.1) ∙ ap (side_router g (Central i))
             (sym own.0) ∙ (attached_view (Central i) (opposite s) k r here on_r).0) in
             let low : r.out_queue.current ≤ (g.bypass i).taken_at =
             law.proxy_numbers.out_current i r (ap (router_at w) proxy ∙ here) (omega (arith, d.0)) in
@@ -524,7 +525,7 @@ module _ (w : World) (b : Books) (g : Records) (law : Inv w b g) where
             (subst (λ t. is_attached (Central i) t q ≡ true) far on_q) d.1 d.0))
         | inr far ↦
             let own : s ≡ proxy_side g i = sym (opposite-twice s) ∙ ap opposite far.0 ∙ opposite-twice (proxy_side g i) in
-            let proxy : (g.bypass i).proxy ≡ j = same_Some _ j (sym (law.bypasses.proxy_old i d.1) ∙ ap (side_router g (Central i))
+            let proxy : (g.bypass i).proxy ≡ j = same_Some _ j (sym ((law.bypasses i).proxy_old d.1) ∙ ap (side_router g (Central i))
             (sym own) ∙ (attached_view (Central i) s j q at on_q).0) in
             let low : q.in_queue.current ≤ (g.bypass i).accepted_at = law.proxy_numbers.in_current i q (ap (router_at w) proxy ∙ at) d.0 in
             absurd (omega (arith, low, far.1, c.2, less))

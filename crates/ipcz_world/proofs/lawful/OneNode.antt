@@ -316,7 +316,7 @@ module _ (w : World) (b : Books) (g : Records) (law : Inv w b g) (alone : IsAlon
     where
       go : (c : Bool) → is_begun (g.bypass o) ≡ c → is_begun (g.bypass o) ≡ false
       go false e = e
-      go true e = absurd (not_recorded (g.bypass o).inner.node (g.bypass o).inner.serial (law.bypasses.inner o e))
+      go true e = absurd (not_recorded (g.bypass o).inner.node (g.bypass o).inner.serial ((law.bypasses o).inner e))
 
   never : (o : ℕ) → is_begun (g.bypass o) ≡ true → ⊥
   never o e = grind (arith, e, not_begun o)
@@ -443,6 +443,6 @@ module _ (w : World) (b : Books) (g : Records) (law : Inv w b g) (alone : IsAlon
       only = λ k r here p.
           let at = on_link r.end.side in
           let ends : r.end ≡ at.router.end = ap (λ z. end_at z r.end.side) p ∙ sym at.end in
-          same_Some k at.key (ap key_of (sym (law.terminals.terminal k r here (terminal k r here)) ∙ ap g.terminal ends ∙
-          law.terminals.terminal at.key at.router at.here at.terminal));
+          same_Some k at.key (ap key_of (sym ((law.terminals.each k r here).terminal (terminal k r here)) ∙ ap g.terminal ends ∙
+          (law.terminals.each at.key at.router at.here).terminal at.terminal));
     }

@@ -233,8 +233,8 @@ stands-at w b g k r n x law flagged quiet plain here unread put = go (item_at r.
             pair = ap (λ d. d.pair) ends
 
             keys : q ≡ k
-            keys = same_Some q k (ap key_of (sym (law.terminals.terminal q y at (plain q y at pair)) ∙ ap g.terminal ends ∙
-                law.terminals.terminal k r here (plain k r here refl)))
+            keys = same_Some q k (ap key_of (sym ((law.terminals.each q y at).terminal (plain q y at pair)) ∙ ap g.terminal ends ∙
+                (law.terminals.each k r here).terminal (plain k r here refl)))
 
             same : y ≡ r
             same = same_Some y r (sym at ∙ ap (router_at w) keys ∙ here)

@@ -26,7 +26,7 @@ module _ (w : World) (b : Books) (g : Records) (law : Inv w b g) (quiet : IsQuie
       first = grind (arith, begun, nat_tests)
 
       go : (c : Bool) → nat_le (g.bypass o).stage 4 ≡ c → (g.bypass o).stage ≡ 5
-      go false e = let l : 5 ≤ (g.bypass o).stage = grind (arith, e, nat_tests) in omega (arith, l, law.bypasses.stage o)
+      go false e = let l : 5 ≤ (g.bypass o).stage = grind (arith, e, nat_tests) in omega (arith, l, (law.bypasses o).stage)
       go true e =
           let l : (g.bypass o).stage ≤ 4 = grind (arith, e, nat_tests) in
           let weight : control_weight g (λ from to m. 1) o ≡ 1 = one_of_four (g.bypass o).stage first l in

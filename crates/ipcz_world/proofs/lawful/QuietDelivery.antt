@@ -243,8 +243,8 @@ module _ (w : World) (b : Books) (g : Records) (law : Inv w b g) (quiet : IsQuie
 
               by : (t c : Bool) → is_terminal y ≡ t → is_begun_router y ≡ c → ⊥
               by true c t f =
-                  let keys : q ≡ k = same_Some q k (ap key_of (sym (law.terminals.terminal q y at t) ∙ ap g.terminal (is ∙ sym end)
-                  ∙ law.terminals.terminal k r here terminal)) in
+                  let keys : q ≡ k = same_Some q k (ap key_of (sym ((law.terminals.each q y at).terminal t) ∙ ap g.terminal (is ∙ sym end)
+                  ∙ (law.terminals.each k r here).terminal terminal)) in
                   let same : y ≡ r = same_Some y r (sym at ∙ ap (router_at w) keys ∙ here) in
                   none-some z (sym bare ∙ ap (λ a. item_at a.in_queue n) (sym same) ∙ h)
               by false false t f =
@@ -385,7 +385,7 @@ module _ (w : World) (b : Books) (g : Records) (law : Inv w b g) (quiet : IsQuie
       ends d a c fresh dec to from len central = by (nat_le c (reach r.in_queue)) refl
         where
           sent : a ≤ r.out_queue.current
-          sent = law.fresh_numbers.own k r p.0 d a here p.1 dec to
+          sent = (law.fresh_numbers k r here).own p.0 d a p.1 dec to
 
           by : (t : Bool) → nat_le c (reach r.in_queue) ≡ t → ⊥
           by true e = not_both (can_finish r.outward r.out_queue.current (reach r.in_queue))
@@ -430,7 +430,7 @@ module _ (w : World) (b : Books) (g : Records) (law : Inv w b g) (quiet : IsQuie
                   ∙ ap standing_router seen in
                   omega (
                     arith,
-                    law.fresh_numbers.other k r h.router p.0 d c here p.1 dec len stands,
+                    (law.fresh_numbers k r here).other h.router p.0 d c p.1 dec len stands,
                     outward_given w b g law quiet ranked flagged ranked.limit h.key h.router h.here
                         (not_begun w b g law quiet ranked flagged h.key h.router (Central h.word) (opposite h.side) h.here h.on) (omega arith),
                     ap (λ z. length (b.put z)) h.end,

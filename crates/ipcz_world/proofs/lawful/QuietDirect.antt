@@ -275,8 +275,8 @@ module _ (w : World) (b : Books) (g : Records) (law : Inv w b g) (quiet : IsQuie
     only = λ q r here p.
         let x = stands r.end.side in
         let ends : r.end ≡ x.router.end = ap (λ z. end_at z r.end.side) p ∙ sym x.end in
-        same_Some q x.key (ap key_of (sym (law.terminals.terminal q r here (no_proxies q r here)) ∙ ap g.terminal ends ∙
-        law.terminals.terminal x.key x.router x.here x.terminal));
+        same_Some q x.key (ap key_of (sym ((law.terminals.each q r here).terminal (no_proxies q r here)) ∙ ap g.terminal ends ∙
+        (law.terminals.each x.key x.router x.here).terminal x.terminal));
   }
     where
       stands : (z : Side) → IsTerminalOn w pair (terminal_on pair s k at).0 z
@@ -356,8 +356,9 @@ module _ (w : World) (b : Books) (g : Records) (law : Inv w b g) (quiet : IsQuie
               inn true e =
                   let ends : y.end ≡ r.end = sym (opposite_end-twice y.end) ∙ ap opposite_end (same_end-tells (opposite_end y.end) d e) ∙
                   opposite_end-twice r.end in
-                  absurd (apart (same_Some q k (ap key_of (sym (law.terminals.terminal q y is (no_proxies q y is)) ∙ ap g.terminal ends ∙
-                  law.terminals.terminal k r here (no_proxies k r here)))))
+                  absurd (apart (same_Some q k (ap key_of (sym ((law.terminals.each q y is).terminal (no_proxies q y is)) ∙
+                  ap g.terminal ends ∙
+                  (law.terminals.each k r here).terminal (no_proxies k r here)))))
 
       node_bare : (j : ℕ) → in_node f g (node_at v j) ≡ 0
       node_bare j = in_node-is f g (node_at v j) ∙ omega (

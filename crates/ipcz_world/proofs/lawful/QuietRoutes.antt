@@ -111,7 +111,8 @@ module _ (w : World) (b : Books) (g : Records) (law : Inv w b g) (quiet : IsQuie
 
   -- an end whose terminal stands hasn't retired
   pub standing_end : (k : Key) (r : Router) → router_at w k ≡ Some r → is_terminal r ≡ true → is_retired b r.end ≡ true → ⊥
-  standing_end k r here terminal retired = apart k (sym (law.terminals.terminal k r here terminal) ∙ law.retired_ends.retired r.end retired)
+  standing_end k r here terminal retired =
+      apart k (sym ((law.terminals.each k r here).terminal terminal) ∙ law.retired_ends.retired r.end retired)
     where
       apart : (k : Key) → At k ≡ Retired → ⊥
       apart k e = cc
@@ -555,7 +556,7 @@ module _ (w : World) (b : Books) (g : Records) (law : Inv w b g) (quiet : IsQuie
     pub across_stands : StandsOver (Central o) (across_side g o) ⊎ ((g.bypass o).taken_at ≤ r.out_queue.current)
     unfolding is_attached
     across_stands =
-        let q = some_is (side_router g (Central o) (across_side g o)) (law.bypasses.across o is.by.begun) in
+        let q = some_is (side_router g (Central o) (across_side g o)) ((law.bypasses o).across is.by.begun) in
         elim (side_stands (Central o) (across_side g o) q.0 q.1) [
           | inl t ↦ inl (stands q.0 t.0 t.1 t.2)
           | inr gone ↦ inr (law.proxy_numbers.across_gone o r at_proxy (omega (arith, is.stage)) gone)
@@ -595,7 +596,7 @@ module _ (w : World) (b : Books) (g : Records) (law : Inv w b g) (quiet : IsQuie
     pub inner_stands : StandsOver (inner_of g o) B ⊎ ((g.bypass o).accepted_at ≤ r.in_queue.current)
     unfolding is_attached
     inner_stands =
-        let q = some_is (side_router g (inner_of g o) B) (law.bypasses.inner_known o (omega (arith, is.stage))) in
+        let q = some_is (side_router g (inner_of g o) B) ((law.bypasses o).inner_known (omega (arith, is.stage))) in
         elim (side_stands (inner_of g o) B q.0 q.1) [
           | inl t ↦ inl (stands q.0 t.0 t.1 t.2)
           | inr gone ↦ inr (law.proxy_numbers.inner_gone o r at_proxy is.stage gone)
@@ -605,7 +606,7 @@ module _ (w : World) (b : Books) (g : Records) (law : Inv w b g) (quiet : IsQuie
         stands q z at on = go (has_primary (inner_of g o) B z) refl
           where
             by : (g.peripheral (g.bypass o).inner).by ≡ Some o
-            by = law.bypasses.inner_by o is.by.begun
+            by = (law.bypasses o).inner_by is.by.begun
 
             go : (c : Bool) → has_primary (inner_of g o) B z ≡ c → StandsOver (inner_of g o) B
             go true e =
@@ -650,7 +651,7 @@ module _ (w : World) (b : Books) (g : Records) (law : Inv w b g) (quiet : IsQuie
             let rec = (law.links x.key x.router x.here).decaying x.end x.decaying in
             let far : x.router.end ≡ end_at (g.central o).pair (across_side g o) =
             rec.end ∙ ap (λ z. side_end g z x.end.side) x.on_link ∙ ap (λ z. side_end g (Central o) z) x.at_side in
-            subst (λ d. IsLacked w d m) (far ∙ ap (λ p. end_at p (across_side g o)) (sym (law.bypasses.pair o is.by.begun)) ∙ sym
+            subst (λ d. IsLacked w d m) (far ∙ ap (λ p. end_at p (across_side g o)) (sym ((law.bypasses o).pair is.by.begun)) ∙ sym
             (ap opposite_end is.end))
             (inward_lacks ranked.limit x.key x.router m x.here (prime x.key x.router x.here x.primary) (omega arith)
             (hop (Central o) (across_side g o) k x.key r x.router m there x.here
@@ -686,7 +687,8 @@ module _ (w : World) (b : Books) (g : Records) (law : Inv w b g) (quiet : IsQuie
             (or_right (has_link (inward_edge r).primary (inner_of g o) A) (has_link (inward_edge r).decaying (inner_of g o) A)
             (ap (λ p. has_link p (inner_of g o) A) e ∙ has_link-some d (inner_of g o) A n.link n.side))
             x.attached
-            (ap (λ l. has_passed l m) (length-inward g (g.bypass o).inner o (law.bypasses.inner_by o is.by.begun) (omega (arith, is.stage)))
+            (ap (λ l. has_passed l m)
+            (length-inward g (g.bypass o).inner o ((law.bypasses o).inner_by is.by.begun) (omega (arith, is.stage)))
             ∙ has_passed-some (g.bypass o).accepted_at m ∙ short m (g.bypass o).accepted_at below)
             lacks))
           where

@@ -55,7 +55,7 @@ module _ (w : World) (b : Books) (g : Records) (law : Inv w b g) where
       one = grind (arith, stage, is_fresh, nat_tests)
 
       named : (o : ℕ) → (g.bypass o).stage ≡ 1 → (g.bypass o).fresh ≡ i → o ≡ old
-      named o st f = let back : g.owner i ≡ Fresh o = rw f at (law.bypasses.fresh o st) in grind (arith, back, own)
+      named o st f = let back : g.owner i ≡ Fresh o = rw f at ((law.bypasses o).fresh st) in grind (arith, back, own)
 
       same : (from to j : ℕ) (m : Message) → IsUnderWay w from to j m → fresh_count i m ≡ of_bypass g old (fresh_count i) m
       same from to j (messages.Item link s n item moves) u = refl
@@ -90,20 +90,20 @@ module _ (w : World) (b : Books) (g : Records) (law : Inv w b g) where
       let at = peer_told w g from to j o link s target fresh law.told u in
       let away = not_peripheral i _ _ link at.on_link in
       let is : o ≡ i = grind (arith, h, away, nat_tests) in
-      is_link (g.owner i) (subst (λ x. is_linked (g.owner x) ≡ true) is (law.bypasses.old o (grind (arith, at.stage, nat_tests))))
+      is_link (g.owner i) (subst (λ x. is_linked (g.owner x) ≡ true) is ((law.bypasses o).old (grind (arith, at.stage, nat_tests))))
   named from to j (messages.AcceptBypass o s fresh length) i u h =
       let at = accept_told w g from to j o s fresh length law.told u in
-      go (or_cases _ _ h) (grind (arith, at.stage, nat_tests)) (law.bypasses.fresh_linked o (omega (arith, at.stage))) at.onto
+      go (or_cases _ _ h) (grind (arith, at.stage, nat_tests)) ((law.bypasses o).fresh_linked (omega (arith, at.stage))) at.onto
     where
       go : (nat_eq o i ≡ true) ⊎ (nat_eq fresh i ≡ true) → is_begun (g.bypass o) ≡ true → g.owner (g.bypass o).fresh ≡ Linked →
           fresh ≡ (g.bypass o).fresh → g.owner i ≡ Linked
       go (inl e) begun new onto = let is : o ≡ i = grind (arith, e, nat_tests) in
-          is_link (g.owner i) (subst (λ x. is_linked (g.owner x) ≡ true) is (law.bypasses.old o begun))
+          is_link (g.owner i) (subst (λ x. is_linked (g.owner x) ≡ true) is ((law.bypasses o).old begun))
       go (inr e) begun new onto = let is : fresh ≡ i = grind (arith, e, nat_tests) in ap g.owner (sym is ∙ onto) ∙ new
   named from to j (messages.StopProxying o s in_length out_length) i u h =
       let at = stop_told w g from to j o s in_length out_length law.told u in
       let is : o ≡ i = grind (arith, h, nat_tests) in
-      is_link (g.owner i) (subst (λ x. is_linked (g.owner x) ≡ true) is (law.bypasses.old o (grind (arith, at.stage, nat_tests))))
+      is_link (g.owner i) (subst (λ x. is_linked (g.owner x) ≡ true) is ((law.bypasses o).old (grind (arith, at.stage, nat_tests))))
   named from to j (messages.ProxyWillStop link s in_length) i u h =
       let at = will_stop_told w g from to j link s in_length law.told u in
       absurd (grind (arith, h, not_peripheral i _ _ link at.2.on_link))
@@ -172,7 +172,7 @@ module _ (w : World) (b : Books) (g : Records) (law : Inv w b g) where
     opening = law.spares.opening;
     opening_back = law.spares.opening_back;
     fresh = λ from to j link s old target i u. let at = peer_told w g from to j old link s target i law.told u in
-        ap g.owner at.onto ∙ law.bypasses.fresh old at.stage;
+        ap g.owner at.onto ∙ (law.bypasses old).fresh at.stage;
     fresh_back = fresh_once;
     linked = λ k r i s here has. linked_of i (has_at w g k r (Central i) s law.links here has).recorded;
     linked_back = used;

@@ -45,7 +45,7 @@ use Rattle.ipcz_node.specs.Acts.{commit_router, keep_or_drop}
 use Rattle.ipcz_world.proofs.facts.Finding.{found_tells, terminal_tells}
 use Rattle.ipcz_world.proofs.facts.Lengths.{HasEnd, has_link-tells}
 use Rattle.ipcz_world.proofs.facts.Tests.{and_first, and_second}
-use Rattle.ipcz_world.proofs.owed.Following.{Follows, follows-itself, IsLeft, follows-left, IsAside, follows-aside, on-central}
+use Rattle.ipcz_world.proofs.owed.Following.{Follows, IsLeft, follows-left, IsAside, follows-aside, on-central}
 use Rattle.ipcz_world.proofs.owed.Going.{IsNew, IsOff, IsCounted, Changes, Goes, changes-itself, changes-else, changes-with}
 use Rattle.ipcz_world.proofs.owed.Going.{changes-without}
 use Rattle.ipcz_world.proofs.owed.Going.{changes-push, changes-tell, goes-by, goes-add}
@@ -74,33 +74,12 @@ pub record HasSameEdges (x y : Router) : Type 0 where
 same-edges : (r : Router) (act : RouterAct) (a : Answer) → is_wordy act ≡ true → HasSameEdges r (apply r act a)
 unfolding apply is_wordy
 same-edges r acts.Mark answers.Plain h = record { outward = refl; inward = refl; end = refl }
-same-edges r acts.Mark (answers.Claimed i) h = record { outward = refl; inward = refl; end = refl }
-same-edges r acts.Mark answers.NoWord h = record { outward = refl; inward = refl; end = refl }
-same-edges r acts.Mark (answers.Marked w was) h = record { outward = refl; inward = refl; end = refl }
-same-edges r acts.Mark (answers.Word w) h = record { outward = refl; inward = refl; end = refl }
-same-edges r acts.Mark (answers.Locked w) h = record { outward = refl; inward = refl; end = refl }
-same-edges r acts.Mark (answers.Waiting w) h = record { outward = refl; inward = refl; end = refl }
-same-edges r acts.Mark (answers.Refused w) h = record { outward = refl; inward = refl; end = refl }
 same-edges r acts.Lock answers.Plain h = record { outward = refl; inward = refl; end = refl }
-same-edges r acts.Lock (answers.Claimed i) h = record { outward = refl; inward = refl; end = refl }
-same-edges r acts.Lock answers.NoWord h = record { outward = refl; inward = refl; end = refl }
-same-edges r acts.Lock (answers.Marked w was) h = record { outward = refl; inward = refl; end = refl }
-same-edges r acts.Lock (answers.Word w) h = record { outward = refl; inward = refl; end = refl }
-same-edges r acts.Lock (answers.Locked w) h = record { outward = refl; inward = refl; end = refl }
-same-edges r acts.Lock (answers.Waiting w) h = record { outward = refl; inward = refl; end = refl }
-same-edges r acts.Lock (answers.Refused w) h = record { outward = refl; inward = refl; end = refl }
-same-edges r acts.Wake a h = record { outward = refl; inward = refl; end = refl }
-same-edges r acts.Unlock a h = record { outward = refl; inward = refl; end = refl }
-same-edges r acts.SendOut a h = cc
-same-edges r acts.SendIn a h = cc
-same-edges r acts.Discard a h = cc
 same-edges r acts.FinishOut a h = cc
 same-edges r acts.FinishIn a h = cc
-same-edges r acts.Leave a h = cc
-same-edges r acts.Claim a h = cc
 same-edges r acts.Begin a h = cc
-same-edges r acts.Retire a h = cc
-same-edges r acts.Rest a h = cc
+same-edges r acts.Claim answers.Plain h = cc
+same-edges r other a h = record { outward = refl; inward = refl; end = refl }
 
 has-link-same : (o p : Option LinkEnd) (l : LinkId) (s : Side) → o ≡ p → has_link o l s ≡ true → has_link p l s ≡ true
 has-link-same o p l s e h = ap (λ x. has_link x l s) (sym e) ∙ h
@@ -304,14 +283,10 @@ module _ (i : ℕ) (held : Bool) where
   follows-apply number base w r acts.SendOut may apart begins =
       follows-left i held number base r _ (left-alone r _ refl refl refl (λ h. h) refl refl refl refl refl
       (λ h. absurd (done-sends r h (may-possible r acts.SendOut refl may))))
-  follows-apply number base w r acts.SendIn may apart begins =
-      follows-left i held number base r _ (left-alone r _ refl refl refl (λ h. h) refl refl refl refl refl (λ h. h))
   follows-apply number base w r acts.Discard may apart begins =
       follows-left i held number base r _ (left-alone r _ refl refl refl (λ h. h) refl refl refl refl refl (λ h. done-drops r h))
-  follows-apply number base w r acts.Retire may apart begins = follows-itself i held number base r
   follows-apply number base w r acts.FinishOut may apart begins = follows-left i held number base r _ (left-finish_out r)
   follows-apply number base w r acts.FinishIn may apart begins = follows-left i held number base r _ (left-finish_in r)
-  follows-apply number base w r acts.Leave may apart begins = follows-itself i held number base r
   follows-apply number base w r acts.Mark may apart begins = follows-wordy number base r acts.Mark _ refl (apart refl)
   follows-apply number base w r acts.Wake may apart begins = follows-wordy number base r acts.Wake (answer_of w r acts.Wake) refl
       (apart refl)
@@ -320,7 +295,7 @@ module _ (i : ℕ) (held : Bool) where
   follows-apply number base w r acts.Begin may apart begins = follows-aside i held number base r _ (aside-begin r (begins refl))
   follows-apply number base w r acts.Unlock may apart begins =
       follows-wordy number base r acts.Unlock (answer_of w r acts.Unlock) refl (apart refl)
-  follows-apply number base w r acts.Rest may apart begins =
+  follows-apply number base w r other may apart begins =
       follows-left i held number base r _ (left-alone r _ refl refl refl (λ h. h) refl refl refl refl refl (λ h. h))
 
   -- a router that is moved: no terminal of this word's link could try, and its new link has the next serial

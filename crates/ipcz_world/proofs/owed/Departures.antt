@@ -155,14 +155,4 @@ leaving_held w b g law k r act here may leaves i s on = go act may leaves
       | inl bare ↦ absurd (let e : HasEnd r.outward.primary (Central i) s = has_link-tells r.outward.primary (Central i) s on in grind (arith, bare, e.there))
       | inr sent ↦ inr (retired_held w b g law k r here i s on (law.gones.sent k r here sent).0)
     ]
-    go acts.SendOut m l = cc
-    go acts.SendIn m l = cc
-    go acts.FinishOut m l = cc
-    go acts.FinishIn m l = cc
-    go acts.Mark m l = cc
-    go acts.Wake m l = cc
-    go acts.Claim m l = cc
-    go acts.Lock m l = cc
-    go acts.Begin m l = cc
-    go acts.Unlock m l = cc
-    go acts.Rest m l = cc
+    go other m l = cc

@@ -204,7 +204,8 @@ module _ (w v : World) (b : Books) (g : Records) (law : Inv w b g) (k : Key) (x 
       terminal = (and_parts (is_terminal r) r.closed sink.0).0
 
       keys : k ≡ at_key
-      keys = same_at (sym (law.terminals.terminal k x here t) ∙ ap g.terminal end ∙ law.terminals.terminal at_key r at terminal)
+      keys = same_at (sym ((law.terminals.each k x here).terminal t) ∙ ap g.terminal end ∙
+          (law.terminals.each at_key r at).terminal terminal)
         where
           same_at : {i j : Key} → At i ≡ At j → i ≡ j
           same_at h = cc

@@ -176,25 +176,9 @@ module _ (w : World) (still : stir w ≡ 0) where
   unlocked n (OfRouter s act) can = go act (passing n s act (router_in (node_at w n) s) refl can)
     where
       go : (act : RouterAct) → is_passing act ≡ true → is_unlock (OfRouter s act) ≡ false
-      go acts.SendOut is = refl
-      go acts.SendIn is = refl
-      go acts.Discard is = refl
-      go acts.Rest is = refl
-      go acts.FinishOut is = refl
-      go acts.FinishIn is = refl
-      go acts.Leave is = refl
-      go acts.Mark is = refl
-      go acts.Wake is = refl
-      go acts.Claim is = refl
-      go acts.Lock is = refl
-      go acts.Begin is = refl
-      go acts.Retire is = refl
       go acts.Unlock is = cc
-  unlocked n (Hand from) can = refl
-  unlocked n (Look from) can = refl
-  unlocked n (Post to) can = refl
-  unlocked n (Close end) can = refl
-  unlocked n Idle can = refl
+      go other is = refl
+  unlocked n other can = refl
 
   -- nor a retire
   pub unretired : (n : ℕ) (act : Act) → can_take w n act ≡ true → is_retire act ≡ false
@@ -202,25 +186,9 @@ module _ (w : World) (still : stir w ≡ 0) where
   unretired n (OfRouter s act) can = go act (passing n s act (router_in (node_at w n) s) refl can)
     where
       go : (act : RouterAct) → is_passing act ≡ true → is_retire (OfRouter s act) ≡ false
-      go acts.SendOut is = refl
-      go acts.SendIn is = refl
-      go acts.Discard is = refl
-      go acts.Rest is = refl
-      go acts.FinishOut is = refl
-      go acts.FinishIn is = refl
-      go acts.Leave is = refl
-      go acts.Mark is = refl
-      go acts.Wake is = refl
-      go acts.Claim is = refl
-      go acts.Lock is = refl
-      go acts.Begin is = refl
       go acts.Retire is = cc
-      go acts.Unlock is = refl
-  unretired n (Hand from) can = refl
-  unretired n (Look from) can = refl
-  unretired n (Post to) can = refl
-  unretired n (Close end) can = refl
-  unretired n Idle can = refl
+      go other is = refl
+  unretired n other can = refl
 
   pub same-put : (b : Books) (n : ℕ) (act : Act) → can_take w n act ≡ true → (after_turn w b n (turn_event w n act)).put ≡ b.put
   unfolding turn_event can_take router_at event_of event_at router_seen hand_seen hand_event after_turn

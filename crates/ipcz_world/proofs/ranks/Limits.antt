@@ -516,7 +516,8 @@ module _ (w : World) (b : Books) (g : Routes) (law : Lawful w b g) (none : Carry
           let p = and_parts (is_terminal t.router) (same_end t.router.end e) t.is in
           let k : Key = record { node = t.index; serial = t.serial } in
           let here : router_at w k ≡ Some t.router = ap (λ (x : Node). get x.routers t.serial) (placed (bare_node 0 0) w.nodes t.index t.node t.there) ∙ t.here in
-          absurd (apart k (sym (law.inv.terminals.terminal k t.router here p.0) ∙ ap law.records.terminal (same_end-tells t.router.end e p.1) ∙ q))
+          absurd (apart k (sym ((law.inv.terminals.each k t.router here).terminal p.0) ∙
+          ap law.records.terminal (same_end-tells t.router.end e p.1) ∙ q))
         where
           apart : (k : Key) → At k ≡ Retired → ⊥
           apart k h = cc

@@ -242,39 +242,22 @@ module _ (c : Rates) (n : Node) (s : ℕ) (r : Router) (here : get n.routers s �
   router-keeps bare acts.SendIn a may is = keeps-send_in bare (or-none _ may) a
   router-keeps bare acts.Discard a may is = keeps-discard bare (or-none _ may) a
   router-keeps bare acts.Retire a may is = keeps-retire a
-  router-keeps bare acts.FinishOut a may is = changed _ refl
   router-keeps bare acts.FinishIn a may is = changed _ (routers.same-finish_in c r)
   router-keeps bare acts.Leave a may is =
       omega (arith, stays-without c n s r here, routers.proxy-stays c r (and_first _ _ (or-none _ may)))
   router-keeps bare acts.Mark (answers.Marked word was) may is = changed _ refl
-  router-keeps bare acts.Mark answers.Plain may is = absurd is
-  router-keeps bare acts.Mark (answers.Claimed i) may is = absurd is
-  router-keeps bare acts.Mark answers.NoWord may is = absurd is
-  router-keeps bare acts.Mark (answers.Word w) may is = absurd is
-  router-keeps bare acts.Mark (answers.Locked w) may is = absurd is
-  router-keeps bare acts.Mark (answers.Waiting w) may is = absurd is
-  router-keeps bare acts.Mark (answers.Refused w) may is = absurd is
+  router-keeps bare acts.Mark other may is = absurd is
   router-keeps bare acts.Wake a may is = messaged _ (flush_message r.outward.primary) (changed _ refl)
   router-keeps bare acts.Claim (answers.Claimed i) may is = changed _ refl
   router-keeps bare acts.Claim answers.NoWord may is = changed _ refl
-  router-keeps bare acts.Claim answers.Plain may is = absurd is
-  router-keeps bare acts.Claim (answers.Marked w b) may is = absurd is
-  router-keeps bare acts.Claim (answers.Word w) may is = absurd is
-  router-keeps bare acts.Claim (answers.Locked w) may is = absurd is
-  router-keeps bare acts.Claim (answers.Waiting w) may is = absurd is
-  router-keeps bare acts.Claim (answers.Refused w) may is = absurd is
+  router-keeps bare acts.Claim other may is = absurd is
   router-keeps bare acts.Lock (answers.Locked w) may is = changed _ refl
   router-keeps bare acts.Lock (answers.Waiting w) may is = changed _ refl
   router-keeps bare acts.Lock (answers.Refused w) may is = changed _ refl
-  router-keeps bare acts.Lock answers.Plain may is = absurd is
-  router-keeps bare acts.Lock (answers.Claimed i) may is = absurd is
-  router-keeps bare acts.Lock answers.NoWord may is = absurd is
-  router-keeps bare acts.Lock (answers.Marked w b) may is = absurd is
-  router-keeps bare acts.Lock (answers.Word w) may is = absurd is
+  router-keeps bare acts.Lock other may is = absurd is
   router-keeps bare acts.Begin a may is =
       messaged _ (begin_message (inward_edge r).primary r.outward.primary r.spare) (changed _ (routers.same-begin c r))
-  router-keeps bare acts.Unlock a may is = changed _ refl
-  router-keeps bare acts.Rest a may is = changed _ refl
+  router-keeps bare other a may is = changed _ refl
 
 -- a pending close: one end fewer is pending, and one number fewer is to come
 pub keeps-closed : (c : Rates) (n : Node) (end : End) (a : Answer) → 1 ≤ length n.pending →

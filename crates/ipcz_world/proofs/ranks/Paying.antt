@@ -97,7 +97,7 @@ can_pay w b g c k r law l here rated = record {
     -- a terminal's end hasn't retired
     unretired : is_terminal r ≡ true → (t : Bool) → is_retired b r.end ≡ t → is_retired b r.end ≡ false
     unretired h false e = e
-    unretired h true e = absurd (apart k (sym (law.terminals.terminal k r here h) ∙ law.retired_ends.retired r.end e))
+    unretired h true e = absurd (apart k (sym ((law.terminals.each k r here).terminal h) ∙ law.retired_ends.retired r.end e))
       where
         apart : (q : Key) → At q ≡ Retired → ⊥
         apart q e = cc

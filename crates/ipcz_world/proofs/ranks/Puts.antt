@@ -199,8 +199,8 @@ module _ (c : Rates) (marks : End → ℕ) (six : (pair : ℕ) → c.price pair 
           by false f = old k r (other e) t (sym (ap (λ q. q || has_end r.end known) f) ∙ has)
           by true f =
               let ends : it.router.end ≡ r.end = it.end ∙ same_end-tells p.at r.end f in
-              let keys : At k ≡ At key = sym (law.inv.terminals.terminal k r (other e) t) ∙ ap law.records.terminal (sym ends) ∙
-              law.inv.terminals.terminal key it.router stands it.terminal in
+              let keys : At k ≡ At key = sym ((law.inv.terminals.each k r (other e)).terminal t) ∙ ap law.records.terminal (sym ends) ∙
+              (law.inv.terminals.each key it.router stands).terminal it.terminal in
               let same : k ≡ key = at-same keys in
               let yes : same_key k key ≡ true = ap (λ q. same_key q key) same ∙ same_key-itself key in
               absurd (let odd : true ≡ false = sym yes ∙ e in cc)

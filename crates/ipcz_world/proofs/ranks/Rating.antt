@@ -227,25 +227,7 @@ turns_keep_rates keeps plain w v b g c n reply law rated step = by reply (plain 
     seen (events.DiscardLeave s m) h p l = subst (IsRated c) (sym p.discards.books) (rated-gone c b p.discards.end rated)
     seen (events.Retire s m k) h p l = subst (IsRated c) (sym p.books)
         (let m = subst (λ d. Lawful v d h) p.books l in rated-retired c b p.end rated (unretired-by v b p.end h m) (peer-of v b p.end h m))
-    seen (events.Hand k l u) h p q = same _ p
-    seen (events.Look m) h p l = same _ p
-    seen (events.Post m) h p l = same _ p
-    seen (events.SendOut s m l es) h p q = same _ p
-    seen (events.SendIn s m l es) h p q = same _ p
-    seen (events.FinishOut s l) h p q = same _ p
-    seen (events.FinishIn s l) h p q = same _ p
-    seen (events.Leave s) h p q = same _ p
-    seen (events.Mark s l x) h p q = same _ p
-    seen (events.Wake s l x) h p q = same _ p
-    seen (events.Claim s i) h p q = same _ p
-    seen (events.ClaimNoWord s) h p q = same _ p
-    seen (events.Lock s l x) h p q = same _ p
-    seen (events.Wait s l x) h p q = same _ p
-    seen (events.Refused s l x) h p q = same _ p
-    seen (events.Begin s l) h p q = same _ p
-    seen (events.Unlock s l x) h p q = same _ p
-    seen (events.Rest s) h p q = same _ p
-    seen events.Idle h p q = same _ p
+    seen other h p q = same _ p
 
     by : (reply : Reply) → Plain b (Turn n) reply (advance w b (Turn n) reply) →
         Lawful v (advance w b (Turn n) reply) (routes_after w g (Turn n) reply) → IsRated c (advance w b (Turn n) reply)

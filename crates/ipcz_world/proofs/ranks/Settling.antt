@@ -2,12 +2,13 @@
 use Rattle.std.specs.Prelude.{◌≡◌, ◌⊎◌, ◌≤◌, ◌<◌, ℕ, ◌+◌, ◌*◌, Bool, true, false, cond, ◌&&◌, ◌||◌, nat_eq, nat_lt, Option, Some, None, List, [], ◌∷◌, length, refl}
 use Rattle.std.proofs.Common.{arith, ap, subst, ◌∙◌, sym, inl, inr}
 use Rattle.std.proofs.lemmas.Bool.Decides.{nat_tests}
-use Rattle.ipcz_world.proofs.Vocabulary.{End, Router, Node, Found, router_in, RouterAct, Act, Close, Hand, World, node_at, router_at, Books, read, opposite_end, is_terminal}
+use Rattle.ipcz_world.proofs.Vocabulary.{End, Router, Node, Found, router_in, RouterAct, Act, Hand, World, node_at, router_at, Books}
+use Rattle.ipcz_world.proofs.Vocabulary.{read, opposite_end, is_terminal}
 use Rattle.ipcz_world.proofs.Vocabulary.{after_act, answer_of, unless, commit, output_of}
 use Rattle.ipcz_router.specs.ActEffects.{apply, drop_lock, leaves_by}
 use Rattle.ipcz_router.specs.declared.act.RouterAct.TheVariants as acts
 use Rattle.ipcz_router.specs.declared.act.Answer.{Answer}
-use Rattle.ipcz_node.specs.declared.act.Act.TheVariants.{Look, Post, Router as OfRouter, Idle}
+use Rattle.ipcz_node.specs.declared.act.Act.TheVariants.{Look, Post, Router as OfRouter}
 use Rattle.ipcz_node.specs.declared.happened.Happened.{Happened}
 use Rattle.ipcz_node.specs.Node.{on_router, flagged_router}
 use Rattle.ipcz_node.specs.Sends.{send}
@@ -112,25 +113,9 @@ unlocked c w n s r e up =
 -- what an act that stands for itself is, or the unlock in the place of a begin or a retire
 stood-in : (act : Act) → (stand_in act ≡ act) ⊎ ((s : ℕ) × (a : RouterAct) × (act ≡ OfRouter s a) × (stand_in act ≡ OfRouter s acts.Unlock))
 unfolding stand_in
-stood-in (Hand from) = inl refl
-stood-in (Look from) = inl refl
-stood-in (Post to) = inl refl
-stood-in (Close e) = inl refl
-stood-in Idle = inl refl
-stood-in (OfRouter s acts.SendOut) = inl refl
-stood-in (OfRouter s acts.SendIn) = inl refl
-stood-in (OfRouter s acts.Discard) = inl refl
-stood-in (OfRouter s acts.FinishOut) = inl refl
-stood-in (OfRouter s acts.FinishIn) = inl refl
-stood-in (OfRouter s acts.Leave) = inl refl
-stood-in (OfRouter s acts.Mark) = inl refl
-stood-in (OfRouter s acts.Wake) = inl refl
-stood-in (OfRouter s acts.Claim) = inl refl
-stood-in (OfRouter s acts.Lock) = inl refl
-stood-in (OfRouter s acts.Unlock) = inl refl
-stood-in (OfRouter s acts.Rest) = inl refl
 stood-in (OfRouter s acts.Begin) = inr (s, acts.Begin, refl, refl)
 stood-in (OfRouter s acts.Retire) = inr (s, acts.Retire, refl, refl)
+stood-in other = inl refl
 
 module _ (c : Rates) (w : World) (b : Books) (g : Routes) (n : ℕ) (law : Lawful w b g) (rated : IsRated c b) (has : HasAct w n) where
   spent : uses_up w n (next_at w n) ≡ true

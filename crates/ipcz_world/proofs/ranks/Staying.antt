@@ -315,71 +315,22 @@ module _ (c : Rates) (w : World) (b : Books) (g : Routes) (law : Lawful w b g) (
   paid n act is = go (is_discard act) (is_retire act) refl refl
     where
       discard-is : (a : Act) → is_discard a ≡ true → (s : ℕ) × (a ≡ OfRouter s acts.Discard)
-      discard-is (Hand from) h = cc
-      discard-is (Look from) h = cc
-      discard-is (Post to) h = cc
-      discard-is (Close end) h = cc
-      discard-is Idle h = cc
       discard-is (OfRouter s acts.Discard) h = (s, refl)
-      discard-is (OfRouter s acts.SendOut) h = cc
-      discard-is (OfRouter s acts.SendIn) h = cc
-      discard-is (OfRouter s acts.FinishOut) h = cc
-      discard-is (OfRouter s acts.FinishIn) h = cc
-      discard-is (OfRouter s acts.Leave) h = cc
-      discard-is (OfRouter s acts.Mark) h = cc
-      discard-is (OfRouter s acts.Wake) h = cc
-      discard-is (OfRouter s acts.Claim) h = cc
-      discard-is (OfRouter s acts.Lock) h = cc
-      discard-is (OfRouter s acts.Begin) h = cc
-      discard-is (OfRouter s acts.Retire) h = cc
-      discard-is (OfRouter s acts.Unlock) h = cc
-      discard-is (OfRouter s acts.Rest) h = cc
+      discard-is other h = cc
 
       retire-is : (a : Act) → is_retire a ≡ true → (s : ℕ) × (a ≡ OfRouter s acts.Retire)
-      retire-is (Hand from) h = cc
-      retire-is (Look from) h = cc
-      retire-is (Post to) h = cc
-      retire-is (Close end) h = cc
-      retire-is Idle h = cc
       retire-is (OfRouter s acts.Retire) h = (s, refl)
-      retire-is (OfRouter s acts.SendOut) h = cc
-      retire-is (OfRouter s acts.SendIn) h = cc
-      retire-is (OfRouter s acts.Discard) h = cc
-      retire-is (OfRouter s acts.FinishOut) h = cc
-      retire-is (OfRouter s acts.FinishIn) h = cc
-      retire-is (OfRouter s acts.Leave) h = cc
-      retire-is (OfRouter s acts.Mark) h = cc
-      retire-is (OfRouter s acts.Wake) h = cc
-      retire-is (OfRouter s acts.Claim) h = cc
-      retire-is (OfRouter s acts.Lock) h = cc
-      retire-is (OfRouter s acts.Begin) h = cc
-      retire-is (OfRouter s acts.Unlock) h = cc
-      retire-is (OfRouter s acts.Rest) h = cc
+      retire-is other h = cc
 
       none-lost : (a : Act) → is_discard a ≡ false → is_retire a ≡ false → lost_of n a ≡ 0
-      none-lost (Hand from) h k = refl
-      none-lost (Look from) h k = refl
-      none-lost (Post to) h k = refl
-      none-lost (Close end) h k = refl
-      none-lost Idle h k = refl
       none-lost (OfRouter s act) h k = by (router_in (node_at w n) s) act h k
         where
           by : (o : Option Router) (act : RouterAct) → is_discard (OfRouter s act) ≡ false → is_retire (OfRouter s act) ≡ false → lost_at o act ≡ 0
           by None act h k = refl
           by (Some r) acts.Discard h k = cc
           by (Some r) acts.Retire h k = cc
-          by (Some r) acts.SendOut h k = refl
-          by (Some r) acts.SendIn h k = refl
-          by (Some r) acts.FinishOut h k = refl
-          by (Some r) acts.FinishIn h k = refl
-          by (Some r) acts.Leave h k = refl
-          by (Some r) acts.Mark h k = refl
-          by (Some r) acts.Wake h k = refl
-          by (Some r) acts.Claim h k = refl
-          by (Some r) acts.Lock h k = refl
-          by (Some r) acts.Begin h k = refl
-          by (Some r) acts.Unlock h k = refl
-          by (Some r) acts.Rest h k = refl
+          by (Some r) other h k = refl
+      none-lost other h k = refl
 
       discarded : (s : ℕ) → IsTaken w n (OfRouter s acts.Discard) → Paid n (OfRouter s acts.Discard)
       discarded s d = omega (

@@ -234,27 +234,27 @@ module _ (w : World) (g : Records) (world : IsBare w) (noted : IsUnnoted g) wher
   }
 
   bypasses-bare : BypassRecords w g
-  bypasses-bare = record {
-    stage = λ o. omega (arith, noted.stage o);
-    old = λ o h1. absurd (not_begun (g.bypass o).stage (noted.stage o) h1);
-    inner = λ o h1. absurd (not_begun (g.bypass o).stage (noted.stage o) h1);
-    inner_by = λ o h1. absurd (not_begun (g.bypass o).stage (noted.stage o) h1);
-    pair = λ o h1. absurd (not_begun (g.bypass o).stage (noted.stage o) h1);
-    proxy_old = λ o h1. absurd (not_begun (g.bypass o).stage (noted.stage o) h1);
-    proxy_inner = λ o h1. absurd (not_begun (g.bypass o).stage (noted.stage o) h1);
-    across = λ o h1. absurd (not_begun (g.bypass o).stage (noted.stage o) h1);
-    fresh = λ o h1. absurd (omega (arith, h1, noted.stage o));
-    fresh_linked = λ o h1. absurd (omega (arith, h1, noted.stage o));
-    fresh_born = λ o h1. absurd (omega (arith, h1, noted.stage o));
-    fresh_pair = λ o h1. absurd (omega (arith, h1, noted.stage o));
-    inner_known = λ o h1. absurd (omega (arith, h1, noted.stage o));
-    fresh_inner = λ o h1. absurd (omega (arith, h1, noted.stage o));
-    fresh_inner_node = λ o h1. absurd (omega (arith, h1, noted.stage o));
-    fresh_across_node = λ o h1. absurd (omega (arith, h1, noted.stage o));
-    fresh_awaited = λ o h1. absurd (omega (arith, h1, noted.stage o));
-    fresh_across = λ o h1. absurd (omega (arith, h1, noted.stage o));
-    born_fresh = λ i o h1 h2. absurd (not_linked (g.owner i) (noted.owner i) h1);
-    born_stage = λ i o h1 h2. absurd (not_linked (g.owner i) (noted.owner i) h1);
+  bypasses-bare o = record {
+    stage = omega (arith, noted.stage o);
+    old = λ h1. absurd (not_begun (g.bypass o).stage (noted.stage o) h1);
+    inner = λ h1. absurd (not_begun (g.bypass o).stage (noted.stage o) h1);
+    inner_by = λ h1. absurd (not_begun (g.bypass o).stage (noted.stage o) h1);
+    pair = λ h1. absurd (not_begun (g.bypass o).stage (noted.stage o) h1);
+    proxy_old = λ h1. absurd (not_begun (g.bypass o).stage (noted.stage o) h1);
+    proxy_inner = λ h1. absurd (not_begun (g.bypass o).stage (noted.stage o) h1);
+    across = λ h1. absurd (not_begun (g.bypass o).stage (noted.stage o) h1);
+    fresh = λ h1. absurd (omega (arith, h1, noted.stage o));
+    fresh_linked = λ h1. absurd (omega (arith, h1, noted.stage o));
+    fresh_born = λ h1. absurd (omega (arith, h1, noted.stage o));
+    fresh_pair = λ h1. absurd (omega (arith, h1, noted.stage o));
+    inner_known = λ h1. absurd (omega (arith, h1, noted.stage o));
+    fresh_inner = λ h1. absurd (omega (arith, h1, noted.stage o));
+    fresh_inner_node = λ h1. absurd (omega (arith, h1, noted.stage o));
+    fresh_across_node = λ h1. absurd (omega (arith, h1, noted.stage o));
+    fresh_awaited = λ h1. absurd (omega (arith, h1, noted.stage o));
+    fresh_across = λ h1. absurd (omega (arith, h1, noted.stage o));
+    born_fresh = λ i h1 h2. absurd (not_linked (g.owner i) (noted.owner i) h1);
+    born_stage = λ i h1 h2. absurd (not_linked (g.owner i) (noted.owner i) h1);
   }
 
   stages-bare : Stages w g
@@ -298,9 +298,11 @@ module _ (w : World) (g : Records) (world : IsBare w) (noted : IsUnnoted g) wher
 
   terminals-bare : Terminals w g
   terminals-bare = record {
-    terminal = λ k r h1 h2. absurd (no_router k r h1);
+    each = λ k r h1. record {
+      terminal = λ h2. absurd (no_router k r h1);
+      opened = absurd (no_router k r h1);
+    };
     stands = λ e k h1. absurd (nowhere_at k (sym (noted.terminal e) ∙ h1));
-    opened = λ k r h1. absurd (no_router k r h1);
     link_opened = λ link s h1. absurd (no_link w g link (world.next_peripheral) (noted.owner) h1);
     both = λ e. nowhere _ (noted.terminal (opposite_end e)) ∙ sym (nowhere _ (noted.terminal e));
     unopened = λ e h1. nowhere _ (noted.terminal e);
@@ -311,8 +313,10 @@ module _ (w : World) (g : Records) (world : IsBare w) (noted : IsUnnoted g) wher
   end_places-bare = record {
     held = λ n e h1. absurd (not_both (holds e (node_at w n).held) h1 (ap (holds e) (world.no_held n) ∙ sets.contains-empty end_cmp e));
     pending = λ n e h1. absurd (no_end e (node_at w n).pending (world.pending n) h1);
-    out = λ k r n item e h1 h2 h3. absurd (no_router k r h1);
-    inn = λ k r n item e h1 h2 h3. absurd (no_router k r h1);
+    each = λ k r h1. record {
+      out = λ n item e h2 h3. absurd (no_router k r h1);
+      inn = λ n item e h2 h3. absurd (no_router k r h1);
+    };
     within = λ n i link s number item moves e h1 h2. absurd (no_message _ _ _ _ h1);
   }
 
@@ -409,10 +413,10 @@ module _ (w : World) (g : Records) (world : IsBare w) (noted : IsUnnoted g) wher
   }
 
   fresh_numbers-bare : FreshNumbers w g
-  fresh_numbers-bare = record {
-    own = λ k r p d length h1 h2 h3 h4. absurd (no_router k r h1);
-    comes = λ k r p d length from to i n item moves h1 h2 h3 h4 h5. absurd (no_router k r h1);
-    other = λ k r q p d length h1 h2 h3 h4 h5. absurd (no_router k r h1);
+  fresh_numbers-bare k r h1 = record {
+    own = λ p d length h2 h3 h4. absurd (no_router k r h1);
+    comes = λ p d length from to i n item moves h2 h3 h4 h5. absurd (no_router k r h1);
+    other = λ q p d length h2 h3 h4 h5. absurd (no_router k r h1);
   }
 
   pub inv-bare : Inv w no_books g

@@ -4,12 +4,12 @@ use Rattle.std.specs.Prelude.{◌≡◌, ◌<◌, ℕ, zero, suc, ◌+◌, Bool,
 use Rattle.std.specs.Prelude.{List, [], ◌∷◌, map, refl}
 use Rattle.std.proofs.Common.{arith, ap, subst, ◌∙◌, sym, inl, inr}
 use Rattle.std.proofs.lemmas.Bool.Decides.{nat_tests}
-use Rattle.ipcz_world.proofs.Vocabulary.{End, place_at, Router, is_possible, Act, Hand, Close, Node, Found, World, node_at, mail_at, way}
+use Rattle.ipcz_world.proofs.Vocabulary.{End, place_at, Router, is_possible, Act, Hand, Node, Found, World, node_at, mail_at, way}
 use Rattle.ipcz_world.proofs.Vocabulary.{router_at, can_take, Books, Records, Inv}
 use Rattle.ipcz_router.specs.ActTable.{next_act, is_rest}
 use Rattle.ipcz_router.specs.declared.act.RouterAct.TheVariants as acts
 use Rattle.ipcz_node.specs.Acts.{stand_in, first_number, has_mail_for, router_turn, close_turn, node_turn, next}
-use Rattle.ipcz_node.specs.declared.act.Act.TheVariants.{Look, Post, Router as OfRouter, Idle}
+use Rattle.ipcz_node.specs.declared.act.Act.TheVariants.{Look, Post, Router as OfRouter}
 use Rattle.ipcz_node.specs.declared.act.MailSeen.{MailSeen}
 use Rattle.ipcz_node.specs.Node.{find_router}
 use Rattle.ipcz_node.specs.Hands.{is_hand_of}
@@ -112,25 +112,9 @@ module _ (w : World) (b : Books) (g : Records) (law : Inv w b g) (n : ℕ) (here
   -- what stands in for a begin is possible with it
   stands_in : (a : Act) → can_take w n a ≡ true → can_take w n (stand_in a) ≡ true
   unfolding stand_in can_take
-  stands_in (Hand from) h = h
-  stands_in (Look from) h = h
-  stands_in (Post to) h = h
-  stands_in (Close e) h = h
-  stands_in Idle h = h
-  stands_in (OfRouter s acts.SendOut) h = h
-  stands_in (OfRouter s acts.SendIn) h = h
-  stands_in (OfRouter s acts.Discard) h = h
-  stands_in (OfRouter s acts.FinishOut) h = h
-  stands_in (OfRouter s acts.FinishIn) h = h
-  stands_in (OfRouter s acts.Leave) h = h
   stands_in (OfRouter s acts.Retire) h = retire_unlocks (router_at w (record { node = n; serial = s })) h
-  stands_in (OfRouter s acts.Mark) h = h
-  stands_in (OfRouter s acts.Wake) h = h
-  stands_in (OfRouter s acts.Claim) h = h
-  stands_in (OfRouter s acts.Lock) h = h
-  stands_in (OfRouter s acts.Unlock) h = h
-  stands_in (OfRouter s acts.Rest) h = h
   stands_in (OfRouter s acts.Begin) h = begin_unlocks (router_at w (record { node = n; serial = s })) h
+  stands_in other h = h
 
   pub first_taken : (act : Act) → FirstAct w n act → can_take w n act ≡ true
   first_taken act (inl e) = subst (λ a. can_take w n a ≡ true) (sym e) next_possible

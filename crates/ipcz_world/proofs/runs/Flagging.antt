@@ -1,6 +1,7 @@
 -- A router with a possible act is flagged: at a node this stays so, whatever the node does.
+use Rattle.std.specs.List.{AllByRecursion}
 use Rattle.ipcz_router.specs.ActEffects.{leaves_by}
-use Rattle.std.specs.Prelude.{◌≡◌, ℕ, zero, suc, ◌+◌, Bool, true, false, cond, nat_eq, if◌then◌else◌, Option, Some, None, is_some, List, []}
+use Rattle.std.specs.Prelude.{◌≡◌, ℕ, suc, ◌+◌, Bool, true, false, cond, nat_eq, if◌then◌else◌, Option, Some, None, is_some, List, []}
 use Rattle.std.specs.Prelude.{◌∷◌, ◌++◌, slice_get, refl}
 use Rattle.std.proofs.Common.{arith, sym, ◌∙◌, ap, subst}
 use Rattle.std.proofs.lemmas.Bool.Decides.{nat_tests}
@@ -110,34 +111,34 @@ rest-impossible r acts.Rest h = refl
 rest-impossible r other h = cc
 
 -- if rest is next, no act of the list is possible
-first-none : (r : Router) (list : List RouterAct) (i : ℕ) (act : RouterAct) → is_rest (first_possible r list) ≡ true →
-    slice_get list i ≡ Some act → is_possible r act ≡ false
-first-none r [] i act h at = cc
-first-none r (x ∷ xs) i act h at = go (is_possible r x) refl i at (λ j p q. first-none r xs j act p q)
+none-listed : (r : Router) (list : List RouterAct) → is_rest (first_possible r list) ≡ true →
+    AllByRecursion (λ a. is_possible r a ≡ false) list
+none-listed r [] h = tt
+none-listed r (x ∷ xs) h = go (is_possible r x) refl (none-listed r xs)
   where
-    go : (b : Bool) → is_possible r x ≡ b → (i : ℕ) → slice_get (x ∷ xs) i ≡ Some act →
-        ((j : ℕ) → is_rest (first_possible r xs) ≡ true → slice_get xs j ≡ Some act → is_possible r act ≡ false) → is_possible r act ≡ false
-    go true e i at more = absurd (grind (arith, e, rest-impossible r x (sym (ap (λ b. is_rest (cond b x (first_possible r xs))) e) ∙ h)))
-    go false e zero at more = ap (is_possible r) (sym (same_Some x act at)) ∙ e
-    go false e (suc i) at more = more i (sym (ap (λ b. is_rest (cond b x (first_possible r xs))) e) ∙ h) at
+    go : (b : Bool) → is_possible r x ≡ b →
+        (is_rest (first_possible r xs) ≡ true → AllByRecursion (λ a. is_possible r a ≡ false) xs) →
+        (is_possible r x ≡ false) × AllByRecursion (λ a. is_possible r a ≡ false) xs
+    go true e more = absurd (grind (arith, e, rest-impossible r x (sym (ap (λ b. is_rest (cond b x (first_possible r xs))) e) ∙ h)))
+    go false e more = (e, more (sym (ap (λ b. is_rest (cond b x (first_possible r xs))) e) ∙ h))
+
+-- each act stands in the table, apart from an unlock and a rest
+listed-idle : (r : Router) → AllByRecursion (λ a. is_possible r a ≡ false) table → (act : RouterAct) → (act ≡ acts.Unlock → ⊥) →
+    (act ≡ acts.Rest → ⊥) → is_possible r act ≡ false
+listed-idle r none acts.Unlock unlock rest = absurd (unlock refl)
+listed-idle r none acts.Rest unlock rest = absurd (rest refl)
+listed-idle r none other unlock rest = grind (arith, none)
 
 -- and none at all
 rest-idle : (r : Router) → is_rest (next_act r) ≡ true → (act : RouterAct) → is_possible r act ≡ false
 unfolding next_act is_possible
-rest-idle r h acts.SendOut = first-none r table 0 acts.SendOut h refl
-rest-idle r h acts.SendIn = first-none r table 1 acts.SendIn h refl
-rest-idle r h acts.Discard = first-none r table 2 acts.Discard h refl
-rest-idle r h acts.FinishOut = first-none r table 3 acts.FinishOut h refl
-rest-idle r h acts.FinishIn = first-none r table 4 acts.FinishIn h refl
-rest-idle r h acts.Leave = first-none r table 5 acts.Leave h refl
-rest-idle r h acts.Mark = first-none r table 6 acts.Mark h refl
-rest-idle r h acts.Wake = first-none r table 7 acts.Wake h refl
-rest-idle r h acts.Claim = first-none r table 8 acts.Claim h refl
-rest-idle r h acts.Lock = first-none r table 9 acts.Lock h refl
-rest-idle r h acts.Begin = first-none r table 10 acts.Begin h refl
-rest-idle r h acts.Retire = first-none r table 11 acts.Retire h refl
-rest-idle r h acts.Unlock = grind (arith, first-none r table 10 acts.Begin h refl, first-none r table 11 acts.Retire h refl)
+rest-idle r h acts.Unlock = grind (
+  arith,
+  listed-idle r (none-listed r table h) acts.Begin (λ e. cc) (λ e. cc),
+  listed-idle r (none-listed r table h) acts.Retire (λ e. cc) (λ e. cc),
+)
 rest-idle r h acts.Rest = refl
+rest-idle r h other = listed-idle r (none-listed r table h) other (λ e. cc) (λ e. cc)
 
 -- the flag itself makes nothing possible
 rest-possible : (r : Router) (act : RouterAct) → is_possible (rest r) act ≡ is_possible r act

@@ -150,13 +150,6 @@ agreed-lock w r (Some i) law possible = go (plan_of (word_at w i) r.end.side)
 
 agreed-apply : (w : World) (r : Router) (act : RouterAct) → IsAgreed r → may_take r act ≡ true → IsAgreed (apply r act (answer_of w r act))
 unfolding apply answer_of is_rest
-agreed-apply w r acts.SendOut law may = law
-agreed-apply w r acts.SendIn law may = law
-agreed-apply w r acts.Discard law may = law
-agreed-apply w r acts.FinishOut law may = law
-agreed-apply w r acts.FinishIn law may = law
-agreed-apply w r acts.Leave law may = law
-agreed-apply w r acts.Retire law may = law
 agreed-apply w r acts.Mark law may = agreed-mark w r (primary_word r) law
 agreed-apply w r acts.Wake law may = record {
   dry = law.dry;
@@ -169,7 +162,7 @@ agreed-apply w r acts.Claim law may = agreed-claim w r law (may-possible r acts.
 agreed-apply w r acts.Lock law may = agreed-lock w r (primary_word r) law (may-possible r acts.Lock refl may)
 agreed-apply w r acts.Begin law may = record { dry = λ h. refl; wake = false-true; tried_marked = false-true; tried_free = false-true }
 agreed-apply w r acts.Unlock law may = record { dry = law.dry; wake = law.wake; tried_marked = law.tried_marked; tried_free = λ h. refl }
-agreed-apply w r acts.Rest law may = law
+agreed-apply w r other law may = law
 
 agreed-keep : (n : Node) (s : ℕ) (y : Router) (leaves : Bool) → AreAgreed n → IsAgreed y → AreAgreed (keep_or_drop n s y leaves)
 unfolding keep_or_drop

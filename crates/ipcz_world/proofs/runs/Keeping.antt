@@ -343,11 +343,11 @@ module _ (w : World) (b : Books) (g : Records) (law : Inv w b g) where
       (under_way-hand w n from m is) in
       let fits = peer_fits w b g law n from o link side target fresh is a.found a.is_found a.can a.has in
       let unfit : is_unfit (node_at w n) from m (source_for w m) ≡ false = rw (fits, a.is_found) refl in
-      let free : is_linked (g.owner fresh) ≡ false = ap is_linked (ap g.owner at.onto ∙ law.bypasses.fresh o at.stage) in
-      let unlost : is_lost_owner (g.owner fresh) ≡ false = ap is_lost_owner (ap g.owner at.onto ∙ law.bypasses.fresh o at.stage) in
+      let free : is_linked (g.owner fresh) ≡ false = ap is_linked (ap g.owner at.onto ∙ (law.bypasses o).fresh at.stage) in
+      let unlost : is_lost_owner (g.owner fresh) ≡ false = ap is_lost_owner (ap g.owner at.onto ∙ (law.bypasses o).fresh at.stage) in
       let own : HasAt w g k a.found.router link side = has_at w g k a.found.router link side law.links a.can.here a.has in
       let pair : a.found.router.end.pair ≡ (g.central o).pair = ap (λ e. e.pair) own.end ∙ ap (λ l. (side_end g l side).pair) at.on_link ∙
-      law.bypasses.pair o (grind (arith, at.stage, nat_tests)) in
+      (law.bypasses o).pair (grind (arith, at.stage, nat_tests)) in
       kept_to _ _ b b _ (add_link (routes_of g) fresh (g.central o).pair) (taken_records g k a.found.router o fresh target)
       (peer_is w b g law n from o link side target fresh is a) refl
       (routes-peer w (routes_of g) n from link side o target fresh is.mail is.hand unfit)

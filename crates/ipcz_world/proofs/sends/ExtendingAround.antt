@@ -189,7 +189,7 @@ module _ {w v : World} {b : Books} {g : Records} {q : Key} {r : Router} {a : ℕ
     where
       go : (o : Option ℕ) → (g.peripheral p).by ≡ o → (g.peripheral p).by ≡ None
       go None e = e
-      go (Some o) e = absurd (grind (arith, unrecorded, law.bypasses.inner o (law.stands.by_begun p o e), law.stands.by_inner p o e))
+      go (Some o) e = absurd (grind (arith, unrecorded, (law.bypasses o).inner (law.stands.by_begun p o e), law.stands.by_inner p o e))
 
   pub by_same : (x : Key) → (h.peripheral x).by ≡ (g.peripheral x).by
   by_same x = grind (arith, same_key_tells x p, no_by)
@@ -233,7 +233,7 @@ module _ {w v : World} {b : Books} {g : Records} {q : Key} {r : Router} {a : ℕ
       none true e = absurd (grind (arith, law.stands.left_recorded (inner_link p) B e, unrecorded))
 
   pub side_same : (o : ℕ) → is_begun (g.bypass o) ≡ true → proxy_side h o ≡ proxy_side g o
-  side_same o e = grind (arith, other_key (g.bypass o).inner (law.bypasses.inner o e))
+  side_same o e = grind (arith, other_key (g.bypass o).inner ((law.bypasses o).inner e))
 
   -- what stood there before
   pub stood : (x : Key) (z : Router) → router_at v x ≡ Some z → ((router_at w x ≡ Some z) × (same_key x q ≡ false)) ⊎ ((z ≡ y) × (x ≡ q))

@@ -221,7 +221,7 @@ module _ (w v : World) (b : Books) (g : Records) (q : Key) (r : Router) (a : ℕ
   lone = no_inward law is t
 
   pub at_end_is : g.terminal r.end ≡ At q
-  at_end_is = law.terminals.terminal q r is.here is.lone
+  at_end_is = (law.terminals.each q r is.here).terminal is.lone
 
   -- an awaited link waits for another end
   pub other_terminal : (k : Key) → is_recorded w g (inner_link k) ≡ true → side_router g (inner_link k) B ≡ None →
@@ -410,10 +410,10 @@ module _ (w v : World) (b : Books) (g : Records) (q : Key) (r : Router) (a : ℕ
         ap (λ k. is_gone (view v h (Central o) (opposite k))) (sym
         (side_same law is t o (stage_begun (g.bypass o).stage 3 (omega arith) s))) ∙ e);
     inner_gone = λ o z at s e. law.proxy_numbers.inner_gone o z (bypassed o 5 z (omega arith) (omega (arith, s)) at) s
-        (sym (gone_same (inner_of g o) B (law.bypasses.inner o (stage_begun (g.bypass o).stage 5 (omega arith) (omega (arith, s))))) ∙ e);
+        (sym (gone_same (inner_of g o) B ((law.bypasses o).inner (stage_begun (g.bypass o).stage 5 (omega arith) (omega (arith, s))))) ∙ e);
     out_finished = λ o z at s e. law.proxy_numbers.out_finished o z (bypassed o 4 z (omega arith) s at) s e;
     in_finished = λ o z at s e. law.proxy_numbers.in_finished o z (bypassed o 4 z (omega arith) s at) s e;
   }
     where
       old_recorded : (o n : ℕ) → 1 ≤ n → n ≤ (g.bypass o).stage → is_recorded w g (Central o) ≡ true
-      old_recorded o n one le = is_recorded-central w g o ∙ law.bypasses.old o (stage_begun (g.bypass o).stage n one le)
+      old_recorded o n one le = is_recorded-central w g o ∙ (law.bypasses o).old (stage_begun (g.bypass o).stage n one le)

@@ -103,7 +103,7 @@ module _ {w v : World} {b : Books} {g : Records} {q : Key} {r : Router} {a : ℕ
           about-peer g old (inner_link k) x u target fresh e in
           let zero : control_weight g (λ from to. of_peer (inner_link k)) old ≡ 0 =
           expected-peer g (inner_link k) old (λ st. other_link law is t (inner_of g old)
-          (law.bypasses.inner old (one_begun (g.bypass old).stage st))) in
+          ((law.bypasses old).inner (one_begun (g.bypass old).stage st))) in
           absurd (omega (arith, f, one, law.told.control old (λ from to. of_peer (inner_link k)), zero))
 
   pub told-extended : Told v h2
@@ -148,7 +148,7 @@ module _ {w v : World} {b : Books} {g : Records} {q : Key} {r : Router} {a : ℕ
         where
           go : (c : Bool) → is_begun (g.bypass o) ≡ c → control_weight h2 f o ≡ control_weight g f o
           go true e = let n1 = node_same law is t (inner_of g o) B
-              (other_link law is t (inner_of g o) (law.bypasses.inner o e)) in let sd =
+              (other_link law is t (inner_of g o) ((law.bypasses o).inner e)) in let sd =
               side_same law is t o e in expected_alike g h2 f o refl n1 sd
               (λ z. node_same law is t (Central o) z refl)
           go false e = expected_none h2 f o e ∙ sym (expected_none g f o e)
@@ -239,17 +239,17 @@ module _ {w v : World} {b : Books} {g : Records} {q : Key} {r : Router} {a : ℕ
           same_terminal e c = grind (arith, c)
 
   pub fresh_numbers-extended : FreshNumbers v h2
-  fresh_numbers-extended = record {
-    own = λ x z e f len at on off c. let u = was_both x z at in
-        let le : len ≤ u.0.out_queue.current = law.fresh_numbers.own x u.0 e f len u.1 (ap (λ e. e.primary) (sym u.2) ∙ on)
+  fresh_numbers-extended x z at = let u = was_both x z at in record {
+    own = λ e f len on off c.
+        let le : len ≤ u.0.out_queue.current = (law.fresh_numbers x u.0 u.1).own e f len (ap (λ e. e.primary) (sym u.2) ∙ on)
         (ap (λ e. e.decaying) (sym u.2) ∙ off) (ap (λ e. e.length_to) (sym u.2) ∙ c) in omega (arith, le, u.3);
-    comes = λ x z e f len from to i m c ds at on off d o. let u = was_both x z at in let j = item_came from to i e.link e.side m c ds o in
-        law.fresh_numbers.comes x u.0 e f len from to i m c j.0 u.1 (ap (λ e. e.primary) (sym u.2) ∙ on)
+    comes = λ e f len from to i m c ds on off d o. let j = item_came from to i e.link e.side m c ds o in
+        (law.fresh_numbers x u.0 u.1).comes e f len from to i m c j.0 (ap (λ e. e.primary) (sym u.2) ∙ on)
         (ap (λ e. e.decaying) (sym u.2) ∙ off) (sym (length_same w v b g q r a law is t f.link (opposite f.side)) ∙ d) j.1;
-    other = λ x z c e f len at on off d there. let u = was_both x z at in
-        let o = standing_came e.link (opposite e.side) c ((law.links x u.0 u.1).primary e (ap (λ e. e.primary) (sym u.2) ∙ on)).recorded there
-        in
-        let le : len ≤ o.0.out_queue.current = law.fresh_numbers.other x u.0 o.0 e f len u.1 (ap (λ e. e.primary) (sym u.2) ∙ on)
+    other = λ c e f len on off d there.
+        let recorded = ((law.links x u.0 u.1).primary e (ap (λ e. e.primary) (sym u.2) ∙ on)).recorded in
+        let o = standing_came e.link (opposite e.side) c recorded there in
+        let le : len ≤ o.0.out_queue.current = (law.fresh_numbers x u.0 u.1).other o.0 e f len (ap (λ e. e.primary) (sym u.2) ∙ on)
         (ap (λ e. e.decaying) (sym u.2) ∙ off) (sym (length_same w v b g q r a law is t f.link (opposite f.side)) ∙ d) o.1 in
         omega (arith, le, o.2);
   }
@@ -358,12 +358,14 @@ module _ {w v : World} {b : Books} {g : Records} {q : Key} {r : Router} {a : ℕ
     pending = λ m e has. let f = subst (λ c. has_end e c ≡ true) (ends.pending m) has in let k = law.end_places.pending m e f in
         term_kept e m k (λ z. not_held m (ap (λ e. terminal_node (g.terminal e)) (sym z) ∙ k)
         (omega (arith, times-has r.end (node_at w m).pending (subst (λ e. has_end e (node_at w m).pending ≡ true) z f))));
-    out = λ x z m i e at f has. let u = same_queues x z at in let o = ap (λ c. item_at c m) (sym u.2) ∙ f in
-        term_kept e x.node (law.end_places.out x u.0 m i e u.1 o has)
-        (λ y. not_queued_out x u.0 m i u.1 o (subst (λ e. has_end e (ends_in i) ≡ true) y has));
-    inn = λ x z m i e at f has. let u = same_queues x z at in let o = ap (λ c. item_at c m) (sym u.3) ∙ f in
-        term_kept e x.node (law.end_places.inn x u.0 m i e u.1 o has)
-        (λ y. not_queued_in x u.0 m i u.1 o (subst (λ e. has_end e (ends_in i) ≡ true) y has));
+    each = λ x z at. record {
+      out = λ m i e f has. let u = same_queues x z at in let o = ap (λ c. item_at c m) (sym u.2) ∙ f in
+          term_kept e x.node ((law.end_places.each x u.0 u.1).out m i e o has)
+          (λ y. not_queued_out x u.0 m i u.1 o (subst (λ e. has_end e (ends_in i) ≡ true) y has));
+      inn = λ m i e f has. let u = same_queues x z at in let o = ap (λ c. item_at c m) (sym u.3) ∙ f in
+          term_kept e x.node ((law.end_places.each x u.0 u.1).inn m i e o has)
+          (λ y. not_queued_in x u.0 m i u.1 o (subst (λ e. has_end e (ends_in i) ≡ true) y has));
+    };
     within = λ m i x u j z ds e c has. elim (came m m i (messages.Item x u j z ds) c) [
       | inl o ↦ term_kept e m (law.end_places.within m i x u j z ds e o has)
           (λ y. not_within m i x u j z ds o (subst (λ e. has_end e (ends_in z) ≡ true) y has))

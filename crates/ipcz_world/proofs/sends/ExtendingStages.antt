@@ -10,7 +10,7 @@ use Rattle.std.specs.Prelude.{◌≡◌, ◌≤◌, ℕ, Bool, true, false, not,
 use Rattle.std.proofs.Common.{arith, ap, subst, ◌∙◌, sym, inl, inr}
 use Rattle.ipcz_world.proofs.Vocabulary.{Side, A, B, End, Central, opposite, same_side, has, same_link, same_end, opposite_end, Router}
 use Rattle.ipcz_world.proofs.Vocabulary.{is_terminal, inward_edge, World, Key, same_key, router_at, Books, Records, At, is_linked}
-use Rattle.ipcz_world.proofs.Vocabulary.{is_begun, inner_link, side_node, side_router, side_end, proxy_side, across_side, is_nowhere}
+use Rattle.ipcz_world.proofs.Vocabulary.{is_begun, inner_link, side_router, side_end, proxy_side, across_side, is_nowhere}
 use Rattle.ipcz_world.proofs.Vocabulary.{key_passes, has_primary, has_decaying, has_inward_decaying, Ordered, Stands, Words, Spares}
 use Rattle.ipcz_world.proofs.Vocabulary.{BypassRecords, Stages, inner_of, Terminals}
 use Rattle.ipcz_router.specs.Calls.{descriptor_of}
@@ -28,6 +28,7 @@ use Rattle.ipcz_world.proofs.sends.ExtendingAround.{one_begun, stage_begun, no_l
 use Rattle.ipcz_world.proofs.sends.ExtendingAround.{other_link, other_key, recorded_more, recorded_back, router_same, node_same, end_same}
 use Rattle.ipcz_world.proofs.sends.ExtendingAround.{by_same, side_same, stood, passes_kept, passes_equal}
 use Rattle.ipcz_world.proofs.facts.LinkTests.{same_end-itself, same_end-tells}
+use Rattle.ipcz_world.proofs.frames.BypassesKept.{bypass-kept, same_bypass}
 
 module _ {w v : World} {b : Books} {g : Records} {q : Key} {r : Router} {a : ℕ} (law : OpenInv w b g) (is : IsExtend w q r a)
     (t : IsGrown w v q (extended w q r a)) where
@@ -125,7 +126,7 @@ module _ {w v : World} {b : Books} {g : Records} {q : Key} {r : Router} {a : ℕ
         (λ x z e i at p l. ap (λ (x : Word). x.source) (t.word i)) law.words.source;
     begun_source = λ o s l. ap (λ (x : Word). x.source) (t.word o) ∙ law.words.begun_source o s l ∙ ap Some
         (sym (node_same law is t (inner_link (g.bypass o).inner) B
-        (other_link law is t (inner_link (g.bypass o).inner) (law.bypasses.inner o s))));
+        (other_link law is t (inner_link (g.bypass o).inner) ((law.bypasses o).inner s))));
   }
     where
       lone_free : r.holds ≡ true → ⊥
@@ -149,57 +150,39 @@ module _ {w v : World} {b : Books} {g : Records} {q : Key} {r : Router} {a : ℕ
   since o n le e = stage_begun (g.bypass o).stage n le e
 
   inner_apart : (o : ℕ) → is_begun (g.bypass o) ≡ true → same_link (inner_of g o) (inner_link p) ≡ false
-  inner_apart o e = other_link law is t (inner_of g o) (law.bypasses.inner o e)
+  inner_apart o e = other_link law is t (inner_of g o) ((law.bypasses o).inner e)
 
   pub bypasses-extended : BypassRecords v h
-  bypasses-extended = record {
-    stage = law.bypasses.stage;
-    old = law.bypasses.old;
-    inner = λ o e. recorded_more law is t (inner_of g o) (law.bypasses.inner o e);
-    inner_by = λ o e. by_same law is t (g.bypass o).inner ∙ law.bypasses.inner_by o e;
-    pair = λ o e. ap (λ z. z.end.pair) (peripheral_same o e) ∙ law.bypasses.pair o e;
-    proxy_old = λ o e. ap (side_router h (Central o)) (side_same law is t o e) ∙ router_same law is t (Central o) (proxy_side g o) refl ∙
-        law.bypasses.proxy_old o e;
-    proxy_inner = λ o e. router_same law is t (inner_of g o) A (inner_apart o e) ∙ law.bypasses.proxy_inner o e;
-    across = λ o e. ap is_some (ap (λ s. side_router h (Central o) (opposite s)) (side_same law is t o e) ∙
-        router_same law is t (Central o) (across_side g o)
-        refl) ∙ law.bypasses.across o e;
-    fresh = law.bypasses.fresh;
-    fresh_linked = law.bypasses.fresh_linked;
-    fresh_born = law.bypasses.fresh_born;
-    fresh_pair = law.bypasses.fresh_pair;
-    inner_known = λ o e. ap is_some (router_same law is t (inner_of g o) B (inner_apart o (since o 2 (omega arith) e))) ∙
-        law.bypasses.inner_known o
-        e;
-    fresh_inner = λ o e. ap (side_router h (fresh_of g o)) (side_same law is t o (since o 2 (omega arith) e)) ∙
-        router_same law is t (fresh_of g o)
-        (proxy_side g o) refl ∙ law.bypasses.fresh_inner o e ∙ sym
-        (router_same law is t (inner_of g o) B (inner_apart o (since o 2 (omega arith) e)));
-    fresh_inner_node = λ o e. ap (side_node h (fresh_of g o)) (side_same law is t o (since o 2 (omega arith) e)) ∙
-        node_same law is t (fresh_of g o)
-        (proxy_side g o) refl ∙ law.bypasses.fresh_inner_node o e ∙ sym
-        (node_same law is t (inner_of g o) B (inner_apart o (since o 2 (omega arith) e)));
-    fresh_across_node = λ o e. ap (λ s. side_node h (fresh_of g o) (opposite s)) (side_same law is t o (since o 2 (omega arith) e)) ∙
-        node_same law is t
-        (fresh_of g o) (across_side g o) refl ∙ law.bypasses.fresh_across_node o e ∙
-        sym (ap (λ s. side_node h (Central o) (opposite s)) (side_same law is t o (since o 2 (omega arith) e)) ∙
-        node_same law is t (Central o)
-        (across_side g o) refl);
-    fresh_awaited = λ o e. ap (λ s. side_router h (fresh_of g o) (opposite s)) (side_same law is t o (two_begun (g.bypass o).stage e)) ∙
-        router_same law is t
-        (fresh_of g o) (across_side g o) refl ∙ law.bypasses.fresh_awaited o e;
-    fresh_across = λ o e. ap (λ s. side_router h (fresh_of g o) (opposite s)) (side_same law is t o (since o 3 (omega arith) e)) ∙
-        router_same law is t
-        (fresh_of g o) (across_side g o) refl ∙ law.bypasses.fresh_across o e ∙
-        sym (ap (λ s. side_router h (Central o) (opposite s)) (side_same law is t o (since o 3 (omega arith) e)) ∙
-        router_same law is t (Central o)
-        (across_side g o) refl);
-    born_fresh = law.bypasses.born_fresh;
-    born_stage = law.bypasses.born_stage;
-  }
+  bypasses-extended o = bypass-kept {w = w}
+      (record {
+        same = same_bypass (g.bypass o);
+        old = λ e. record {
+          linked = λ h. h;
+          recorded = recorded_more law is t (inner_of g o);
+          by = by_same law is t (g.bypass o).inner;
+          inner_pair = ap (λ z. z.end.pair) (peripheral_same o e);
+          pair = refl;
+          side = side_same law is t o e;
+          router = λ s. router_same law is t (Central o) s refl;
+          node = λ s. node_same law is t (Central o) s refl;
+          inner_router = router_same law is t (inner_of g o) A (inner_apart o e);
+        };
+        fresh = λ e h. h;
+        late = λ l. record {
+          linked = λ h. h;
+          born = refl;
+          pair = refl;
+          router = λ s. router_same law is t (fresh_of g o) s refl;
+          node = λ s. node_same law is t (fresh_of g o) s refl;
+          inner_router = router_same law is t (inner_of g o) B (inner_apart o (since o 2 (omega arith) l));
+          inner_node = node_same law is t (inner_of g o) B (inner_apart o (since o 2 (omega arith) l));
+        };
+        born = λ i l e. (l, e);
+      })
+      (law.bypasses o)
     where
       peripheral_same : (o : ℕ) → is_begun (g.bypass o) ≡ true → h.peripheral (g.bypass o).inner ≡ g.peripheral (g.bypass o).inner
-      peripheral_same o e = grind (arith, other_key law is t (g.bypass o).inner (law.bypasses.inner o e))
+      peripheral_same o e = grind (arith, other_key law is t (g.bypass o).inner ((law.bypasses o).inner e))
 
   across_router : (o : ℕ) → is_begun (g.bypass o) ≡ true → side_router h (Central o) (across_side h o) ≡ side_router g (Central o)
       (across_side g o)
@@ -265,25 +248,23 @@ module _ {w v : World} {b : Books} {g : Records} {q : Key} {r : Router} {a : ℕ
       go : (c : Bool) → same_end e r.end ≡ c → is_nowhere (h.terminal e) ≡ is_nowhere (g.terminal e)
       go true c = let s : e ≡ r.end = same_end-tells e r.end c in
           ap is_nowhere (grind (arith, c)) ∙ is_nowhere-moving (descriptor_of r (inner_link p)) ∙ sym
-          (ap (λ z. is_nowhere (g.terminal z)) s ∙ law.terminals.opened q r is.here)
+          (ap (λ z. is_nowhere (g.terminal z)) s ∙ (law.terminals.each q r is.here).opened)
       go false c = ap is_nowhere (grind (arith, c))
 
   pub terminals-extended : Terminals v h
   terminals-extended = record {
-    terminal = λ x z at e. elim (stood law is t x z at) [
-      | inl o ↦ old_terminal x z o.0 o.1 e (same_end z.end r.end) refl
-      | inr n ↦ absurd
-          (grind (arith, n.0, e))
-    ];
+    each = λ x z at. record {
+      terminal = λ e. elim (stood law is t x z at) [
+        | inl o ↦ old_terminal x z o.0 o.1 e (same_end z.end r.end) refl
+        | inr n ↦ absurd
+            (grind (arith, n.0, e))
+      ];
+      opened = nowhere_same z.end ∙ elim (stood law is t x z at) [
+        | inl o ↦ (law.terminals.each x z o.0).opened
+        | inr n ↦ ap (λ z. is_nowhere (g.terminal z.end)) n.0 ∙ (law.terminals.each q r is.here).opened
+      ];
+    };
     stands = λ e x f. still e x f (same_end e r.end) refl;
-    opened = λ x z at. nowhere_same z.end ∙ grind (
-      arith,
-      t.router x,
-      same_key_tells x q,
-      is.here,
-      law.terminals.opened x z,
-      law.terminals.opened q r,
-    );
     link_opened = λ link s e. nowhere_same (side_end h link s) ∙ elim (recorded_back law is t link e) [
       | inl o ↦ ap (λ z. is_nowhere (g.terminal z)) (end_same law is t link s (other_link law is t link o)) ∙
           law.terminals.link_opened link s o
@@ -296,7 +277,7 @@ module _ {w v : World} {b : Books} {g : Records} {q : Key} {r : Router} {a : ℕ
   }
     where
       new_opened : (s : Side) → is_nowhere (g.terminal (side_end h (inner_link p) s)) ≡ false
-      new_opened s = ap (λ z. is_nowhere (g.terminal z)) (inner_end_is h p s ∙ ends_of) ∙ law.terminals.opened q r is.here
+      new_opened s = ap (λ z. is_nowhere (g.terminal z)) (inner_end_is h p s ∙ ends_of) ∙ (law.terminals.each q r is.here).opened
         where
           ends_of : (h.peripheral p).end ≡ r.end
           ends_of = grind (arith, same_key-itself p)
@@ -304,8 +285,9 @@ module _ {w v : World} {b : Books} {g : Records} {q : Key} {r : Router} {a : ℕ
       old_terminal : (x : Key) (z : Router) → router_at w x ≡ Some z → same_key x q ≡ false → is_terminal z ≡ true → (c : Bool) →
           same_end z.end r.end ≡ c → h.terminal z.end ≡ At x
       old_terminal x z at ne e true c = let s : z.end ≡ r.end = same_end-tells z.end r.end c in
-          absurd (grind (arith, law.terminals.terminal x z at e, law.terminals.terminal q r is.here is.lone, s, ne, same_key-itself q))
-      old_terminal x z at ne e false c = grind (arith, c, law.terminals.terminal x z at e)
+          absurd (grind (arith, (law.terminals.each x z at).terminal e, (law.terminals.each q r is.here).terminal is.lone, s, ne,
+          same_key-itself q))
+      old_terminal x z at ne e false c = grind (arith, c, (law.terminals.each x z at).terminal e)
 
       still : (e : End) (x : Key) → h.terminal e ≡ At x → (c : Bool) → same_end e r.end ≡ c →
           key_passes v (Some x) (λ r. is_terminal r && same_end r.end e) ≡ true

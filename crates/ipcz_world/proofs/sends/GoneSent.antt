@@ -151,8 +151,7 @@ module _ (w v : World) (b : Books) (g : Records) (e : End) (jk : Key) (z : Route
   ends-pushed law = record {
     held = λ a x h. law.held a x (subst (λ f. holds x f ≡ true) (is.same.held a) h);
     pending = λ a x h. law.pending a x (subst (λ f. has_end x f ≡ true) (is.same.pending a) h);
-    out = λ q x m y c at h has. law.out q x m y c (was q x at) h has;
-    inn = λ q x m y c at h has. law.inn q x m y c (was q x at) h has;
+    each = λ q x at. law.each q x (was q x at);
     within = λ a i l t m y moves x u has. elim (came_pushed w v fr to (messages.Item link s n Gone []) is.pushed a a i
         (messages.Item l t m y moves) u) [
           | inl c ↦ law.within a c.at l t m y moves x c.was has
@@ -161,14 +160,14 @@ module _ (w v : World) (b : Books) (g : Records) (e : End) (jk : Key) (z : Route
   }
 
   fresh-pushed : FreshNumbers w g → FreshNumbers v g
-  fresh-pushed law = record {
-    own = own-drained w v jk z z g d law;
-    comes = λ q x p f len from to' i m y moves at on off h u. elim (came_pushed w v fr to (messages.Item link s n Gone []) is.pushed from to' i
+  fresh-pushed law q x at = record {
+    own = own-drained w v jk z z g d law q x at;
+    comes = λ p f len from to' i m y moves on off h u. elim (came_pushed w v fr to (messages.Item link s n Gone []) is.pushed from to' i
         (messages.Item p.link p.side m y moves) u) [
-          | inl a ↦ law.comes q x p f len from to' a.at m y moves (was q x at) on off h a.was
+          | inl a ↦ (law q x (was q x at)).comes p f len from to' a.at m y moves on off h a.was
           | inr a ↦ absurd (none-some f (sym (is.still q x p (was q x at) on (grind (arith, a.message)) (grind (arith, a.message))) ∙ off))
         ];
-    other = other-drained w v jk z z g d law;
+    other = other-drained w v jk z z g d law q x at;
   }
 
   items-pushed : Items v g

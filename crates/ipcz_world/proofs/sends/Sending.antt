@@ -33,6 +33,7 @@ use Rattle.ipcz_world.proofs.views.Known.{not_there_yet, node_of_router, fresh_c
 use Rattle.ipcz_world.proofs.frames.Calling.{router_here}
 use Rattle.ipcz_world.proofs.facts.Lengths.{view-standing}
 use Rattle.ipcz_world.proofs.weights.Sums.{total_below-same}
+use Rattle.ipcz_world.proofs.frames.EndsKept.{ends-kept}
 
 -- an item of a router leaves for a link's other side
 abbrev pub send_act : World → Key → Router → LinkId → Side → ℕ → ℕ → Item → World
@@ -211,14 +212,14 @@ module _ (w v : World) (b : Books) (g : Records) (k : Key) (r y : Router) (link 
   }
 
   pub fresh_numbers-sent : Positions w g → Links w g → FreshNumbers w g → FreshNumbers v g
-  fresh_numbers-sent positions links law = record {
-    own = own-drained w v k r y g d law;
-    comes = λ q x e f len from to' i m z moves at on off h u. let c = drained_before w v k r y g d q x at in
+  fresh_numbers-sent positions links law q x at = record {
+    own = own-drained w v k r y g d law q x at;
+    comes = λ e f len from to' i m z moves on off h u. let c = drained_before w v k r y g d q x at in
         elim (came_pushed w v k.node to (messages.Item link s n item []) p from to' i (messages.Item e.link e.side m z moves) u) [
-          | inl a ↦ law.comes q c.0 e f len from to' a.at m z moves c.1 (grind (arith, c.4, on)) (grind (arith, c.4, off)) h a.was
+          | inl a ↦ (law q c.0 c.1).comes e f len from to' a.at m z moves (grind (arith, c.4, on)) (grind (arith, c.4, off)) h a.was
           | inr a ↦ new q c.0 e f len m z moves c.1 (grind (arith, c.4, on)) (grind (arith, c.4, off)) h a.message
         ];
-    other = other-drained w v k r y g d law;
+    other = other-drained w v k r y g d law q x at;
   }
     where
       new : (q : Key) (x : Router) (e f : LinkEnd) (len m : ℕ) (z : Item) (moves : List Descriptor) → router_at w q ≡ Some x →
@@ -232,14 +233,14 @@ module _ (w v : World) (b : Books) (g : Records) (k : Key) (r y : Router) (link 
           subst (λ a. standing_router (view w g a (opposite e.side)) ≡ Some r) (sym l)
           (subst (λ a. standing_router (view w g link (opposite a)) ≡ Some r) (sym t) (ap standing_router stands ∙ standing-standing r))
           in
-          omega (arith, law.other q x r e f len at on off h there, is.fresh c.0 (sym l ∙ c.1), num)
+          omega (arith, (law q x at).other r e f len on off h there, is.fresh c.0 (sym l ∙ c.1), num)
 
   pub end_places-sent : HasSameEnds w v → EndPlaces w g → EndPlaces v g
   end_places-sent same law = record {
     held = λ a e h. law.held a e (subst (λ f. holds e f ≡ true) (same.held a) h);
     pending = λ a e h. law.pending a e (subst (λ f. has_end e f ≡ true) (same.pending a) h);
-    out = λ q x m z e at h has. let c = drained_before w v k r y g d q x at in law.out q c.0 m z e c.1 (c.2.keeps m z h) has;
-    inn = λ q x m z e at h has. let c = drained_before w v k r y g d q x at in law.inn q c.0 m z e c.1 (c.3.keeps m z h) has;
+    each = λ q x at. let c = drained_before w v k r y g d q x at in
+        ends-kept {g = g} {h = g} {r = c.0} (λ e. refl) c.2.keeps c.3.keeps (law.each q c.0 c.1);
     within = λ a i l t m z moves e u has. elim (came_pushed w v k.node to (messages.Item link s n item []) p a a i
         (messages.Item l t m z moves) u) [
           | inl c ↦ law.within a c.at l t m z moves e c.was has

@@ -141,7 +141,7 @@ is_send_out w b g k r e item law here chosen at = record {
         (grind (arith, record_rules, rec.recorded, l)) (ap (λ z. side_router g z (opposite (opposite e.side))) (sym l) ∙ ap
         (side_router g e.link) (opposite-twice e.side) ∙ rec.router) none born;
     made = λ h. made_way w b g k r e law rec there (awaited_none w g e.link (opposite e.side) h);
-    ends = λ d h. law.end_places.out k r r.out_queue.current item d here at h;
+    ends = λ d h. (law.end_places.each k r here).out r.out_queue.current item d at h;
     fresh = λ c l. refl;
   };
   out = drained_pop r.out_queue item at;
@@ -321,7 +321,7 @@ there_in w b g k r e item p law here chosen at rec l = elim (choose-tells (inwar
 
         staged : (x : Option Key) → side_router g (inner_link p) B ≡ x → is_gone (view w g (inner_link p) B) ≡ false
         staged None f = awaited_view-inner w g p f
-        staged (Some q) f = elim (stage_cases (g.bypass o).stage (grind (arith, has_begun, nat_tests)) (law.bypasses.stage o)) [
+        staged (Some q) f = elim (stage_cases (g.bypass o).stage (grind (arith, has_begun, nat_tests)) ((law.bypasses o).stage)) [
           | inl one ↦ not_gone w g (inner_link p) B q (has_primary (inner_link p) B) f
               (ap (λ z. key_passes w (Some q) (has_primary (inner_link z) B)) (sym is) ∙ law.stages.inner_primary o q one
               (ap (λ z. side_router g (inner_link z) B) is ∙ f)) (attached-inner_primary p)
@@ -363,7 +363,7 @@ gone_inner w b g k r item law here proxy at gone = go (inward_edge r).primary re
     tells = gone_tells w b g k r item law here at gone
 
     staged : (o : ℕ) → g.begun k ≡ Some o → is_some (inward_edge r).primary ≡ true
-    staged o s = elim (stage_cases (g.bypass o).stage (grind (arith, begun, nat_tests)) (law.bypasses.stage o)) [
+    staged o s = elim (stage_cases (g.bypass o).stage (grind (arith, begun, nat_tests)) ((law.bypasses o).stage)) [
       | inl one ↦ early (omega (arith, one)) (omega (arith, one))
       | inr (inl mid) ↦ early (omega (arith, mid.0)) mid.1
       | inr (inr five) ↦ late five
@@ -379,7 +379,7 @@ gone_inner w b g k r item law here proxy at gone = go (inward_edge r).primary re
         end = law.stages.proxy_end o r begun stands
 
         across : end_at (g.central o).pair (across_side g o) ≡ opposite_end r.end
-        across = ap (λ n. end_at n (across_side g o)) (sym (law.bypasses.pair o begun)) ∙ ap opposite_end (sym end)
+        across = ap (λ n. end_at n (across_side g o)) (sym ((law.bypasses o).pair begun)) ∙ ap opposite_end (sym end)
 
         early : 1 ≤ (g.bypass o).stage → (g.bypass o).stage ≤ 4 → is_some (inward_edge r).primary ≡ true
         early l m = absurd (true≢false (sym tells.0 ∙ ap (is_retired b) (sym across) ∙ law.retired_ends.no_bypass o (across_side g o) l m))
@@ -468,7 +468,7 @@ is_send_in w b g k r e item law here chosen at = record {
     there = there;
     low = λ c o l none born. absurd (grind (arith, l, p.1));
     made = λ h. made_way w b g k r e law rec there (awaited_none w g e.link (opposite e.side) h);
-    ends = λ d h. law.end_places.inn k r r.in_queue.current item d here at h;
+    ends = λ d h. (law.end_places.each k r here).inn r.in_queue.current item d at h;
     fresh = λ c l. absurd (grind (arith, l, p.1));
   };
   out = drained_same r.out_queue;

@@ -150,7 +150,7 @@ decaying_own w g k r e law fresh here off out short = go e.link refl (bypass_of 
   where
     past : (len : ℕ) (l : LinkId) → link_in r.outward.primary ≡ Some l → r.outward.length_to ≡ Some len → ⊥
     past len l h to = let p = some_link r.outward.primary l h in past_length r.out_queue.current len r.outward.length_to to short
-        (fresh.own k r p.0 e len here p.1 off to)
+        ((fresh k r here).own p.0 e len p.1 off to)
 
     go : (l : LinkId) → e.link ≡ l → (o : Option ℕ) → bypass_of g e.link ≡ o → is_some (bypass_of g e.link) ≡ true → IsOwn g k e
     go l el None b some = absurd (grind (arith, b, some))
@@ -226,7 +226,7 @@ there_out w g k r e item law fresh proxy stands bypasses stages here out chosen 
     -- the router across, by stage
     across : (o : ℕ) → is_begun (g.bypass o) ≡ true → (g.bypass o).proxy ≡ k → (q : Option Key) →
         side_router g (Central o) (across_side g o) ≡ q → is_gone (view w g (Central o) (across_side g o)) ≡ false
-    across o begun is None s = absurd (grind (arith, bypasses.across o begun, s))
+    across o begun is None s = absurd (grind (arith, (bypasses o).across begun, s))
     across o begun is (Some q) s = elim (stage_case (g.bypass o).stage 2) [
       | inl low ↦ not_gone w g (Central o) (across_side g o) q (has_primary (Central o) (across_side g o)) s
           (ap (λ z. key_passes w z (has_primary (Central o) (across_side g o))) (sym s) ∙ stages.across_old o begun low)
@@ -275,7 +275,7 @@ there_out w g k r e item law fresh proxy stands bypasses stages here out chosen 
         let is : (g.bypass o).inner ≡ p = stands.by_inner p o by in let begun = stands.by_begun p o by in let stage =
         (law.each k r here).primary_inner e p o on el by in
         not_gone w g (inner_link p) A (g.bypass o).proxy (has_inward_decaying (inner_link p) A)
-        (ap (λ z. side_router g (inner_link z) A) (sym is) ∙ bypasses.proxy_inner o begun)
+        (ap (λ z. side_router g (inner_link z) A) (sym is) ∙ (bypasses o).proxy_inner begun)
         (ap (λ z. key_passes w (Some (g.bypass o).proxy) (has_inward_decaying (inner_link z) A)) (sym is) ∙ stages.proxy_inner o begun
         (omega (arith, stage))) (attached-inward_decaying p)
 
@@ -292,7 +292,7 @@ there_out w g k r e item law fresh proxy stands bypasses stages here out chosen 
             in
             subst (λ z. is_gone (view w g (Central i) z) ≡ false) (sym side)
             (not_gone w g (Central i) (proxy_side g i) (g.bypass i).proxy (has_decaying (Central i) (proxy_side g i))
-            (bypasses.proxy_old i b) (stages.proxy_old i b (omega (arith, (law.each k r here).primary_old e i on el b)))
+            ((bypasses i).proxy_old b) (stages.proxy_old i b (omega (arith, (law.each k r here).primary_old e i on el b)))
             (attached-decaying i (proxy_side g i)))
     primary on (Peripheral n x) el A et o h = absurd (grind (arith, o))
     primary on (Peripheral n x) el B et o h = proxied (record { node = n; serial = x }) h on el
@@ -305,16 +305,16 @@ pub low_out : (w : World) (g : Records) (k : Key) (r : Router) (c o : ℕ) (t : 
     (g.bypass o).taken_at ≤ r.out_queue.current
 low_out w g k r c o t law fresh stands bypasses stages here linked at none born =
     let stage = stands.awaited_stage c t o linked none born in let side = stands.awaited_side c t o linked none born in let is =
-    bypasses.born_fresh c o linked born in
-    let own : side_router g (inner_of g o) B ≡ Some k = sym (bypasses.fresh_inner o (omega (arith, stage))) ∙ ap
+    (bypasses o).born_fresh c linked born in
+    let own : side_router g (inner_of g o) B ≡ Some k = sym ((bypasses o).fresh_inner (omega (arith, stage))) ∙ ap
     (λ z. side_router g (Central z) (proxy_side g o)) is ∙
     ap (side_router g (Central c)) (sym (opposite-twice (proxy_side g o)) ∙ ap opposite (sym side)) ∙ at in
     let has : key_passes w (Some k) (has_decaying (inner_of g o) B) ≡ true =
     ap (λ z. key_passes w z (has_decaying (inner_of g o) B)) (sym own) ∙ stages.inner_decaying o (omega (arith, stage))
     (omega (arith, stage)) in
     let end = has_link-tells r.outward.decaying (inner_of g o) B (grind (arith, standing_rules, has, here)) in
-    let by = bypasses.inner_by o (grind (arith, stage, nat_tests)) in
+    let by = (bypasses o).inner_by (grind (arith, stage, nat_tests)) in
     let p = some_link r.outward.primary (Central (g.bypass o).fresh)
     ((law.each k r here).inner_fresh end.end (g.bypass o).inner o end.is end.link_is by) in
-    fresh.own k r p.0 end.end (g.bypass o).taken_at here p.1 end.is
+    (fresh k r here).own p.0 end.end (g.bypass o).taken_at p.1 end.is
     ((law.each k r here).inner_to end.end (g.bypass o).inner o end.is end.link_is by)

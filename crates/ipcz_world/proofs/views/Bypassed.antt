@@ -96,14 +96,14 @@ pub proxy-seen : {w : World} {b : Books} {g : Records} {o : ℕ} {k : Key} {q : 
     q.outward.decaying ≡ Some e → view w g (Central o) (proxy_side g o) ≡ Standing q
 unfolding is_attached
 proxy-seen {w} {b} {g} {o} {k} {q} law is e h = let n : Names e (Central o) (proxy_side g o) = proxy-outward law is e h in
-    view-standing w g (Central o) (proxy_side g o) k q (law.bypasses.proxy_old o is.begun ∙ ap Some is.proxy) is.here
+    view-standing w g (Central o) (proxy_side g o) k q ((law.bypasses o).proxy_old is.begun ∙ ap Some is.proxy) is.here
     (grind (arith, has_link-is q.outward.decaying e (Central o) (proxy_side g o) h n.link n.side))
 
 pub proxy-seen_inward : {w : World} {b : Books} {g : Records} {o : ℕ} {k : Key} {q : Router} → Inv w b g → IsBypassed w g o k q →
     (e : LinkEnd) → (inward_edge q).decaying ≡ Some e → view w g (inner_of g o) A ≡ Standing q
 unfolding is_attached
 proxy-seen_inward {w} {b} {g} {o} {k} {q} law is e h = let n : Names e (inner_of g o) A = proxy-inward law is e h in
-    view-standing w g (inner_of g o) A k q (law.bypasses.proxy_inner o is.begun ∙ ap Some is.proxy) is.here
+    view-standing w g (inner_of g o) A k q ((law.bypasses o).proxy_inner is.begun ∙ ap Some is.proxy) is.here
     (grind (arith, has_link-is (inward_edge q).decaying e (inner_of g o) A h n.link n.side))
 
 -- it gives neither up before it is told
