@@ -12,7 +12,7 @@ use Rattle.ipcz_router.specs.Filings.{filing_of}
 use Rattle.ipcz_router.specs.Bypass.{accept_bypass, stop_proxying, proxy_will_stop}
 use Rattle.ipcz_router.specs.Hearing.{hear, links_brought}
 use Rattle.ipcz_node.specs.Directories.{ends_inside}
-use Rattle.ipcz_node.proofs.Refiling.{FilesWithin, same_links, same_standing, bypass_standing, at_most_one}
+use Rattle.ipcz_node.proofs.Refiling.{FilesWithin, StaysFiled, same_links, same_standing, bypass_standing, at_most_one}
 use Rattle.ipcz_node.proofs.Refiling.{own_outward, own_inward, own_inward_decaying}
 
 pub accept_bypass_standing : (r : Router) (sender : ℕ) (side : Side) (fresh length : ℕ) →
@@ -54,6 +54,22 @@ hear_standing r sender (messages.StopProxying old side in_length out_length) = s
 hear_standing r sender (messages.ProxyWillStop link side in_length) = proxy_will_stop_standing r in_length
 hear_standing r sender (messages.Flush link side) =
     record { few = omega (arith, same_links (filing_of r)); closes = λ h. h; stays = refl }
+
+-- one that brings none leaves it where it was filed, but for its flag
+pub hear_stays : (r : Router) (sender : ℕ) (m : Message) → links_brought m ≡ 0 → StaysFiled r (hear r sender m)
+unfolding hear links_brought
+hear_stays r sender (messages.Item link side number item moves) none = refl
+hear_stays r sender (messages.BypassPeer link side old target fresh) none = absurd (omega (arith, none))
+hear_stays r sender (messages.AcceptBypass old side fresh length) none = absurd (omega (arith, none))
+hear_stays r sender (messages.StopProxying old side in_length out_length) none = stopping r.inward refl
+  where
+    stopping : (i : Option Edge) → r.inward ≡ i → StaysFiled r (stop_proxying r in_length out_length)
+    stopping None is = subst (λ i. StaysFiled (record r { inward = i }) (stop_proxying (record r { inward = i }) in_length out_length))
+        (sym is) refl
+    stopping (Some e) is = subst (λ i. StaysFiled (record r { inward = i }) (stop_proxying (record r { inward = i }) in_length out_length))
+        (sym is) refl
+hear_stays r sender (messages.ProxyWillStop link side in_length) none = refl
+hear_stays r sender (messages.Flush link side) none = refl
 
 -- and no ends
 pub hear_inside : (r : Router) (sender : ℕ) (m : Message) → ends_inside (hear r sender m) ≡ ends_inside r

@@ -66,6 +66,7 @@ impl Routers {
     }
 
     /// The router of a serial, to change.
+    #[inline(always)]
     pub fn router_mut(&mut self, serial: u64) -> &mut Router
         requires { is_some (get self.old.routers serial) ≡ true }
         ensures* writes_back { sem 𝓛 (LendsRouter self.entry serial result) }
@@ -156,6 +157,7 @@ impl Routers {
 }
 
 // Where the entry of the serial stands.
+#[inline(always)]
 fn place_of<T>(entries: &[(u64, T)], serial: u64) -> Option<usize>
     requires { (next : ℕ) × AreRising 0 next entries.now }
     ensures found { MatchOption result (find nat_cmp serial entries.now ≡ None) (λ i. key_at entries.now i ≡ Some serial) }

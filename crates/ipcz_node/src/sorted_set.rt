@@ -29,7 +29,7 @@ impl<T: Ord> Model for SortedSet<T> {
     ghost invariant = { λ a. IsStrictlySortedBy T.cmp a.items.items };
 }
 
-impl<T: Ord + Numbered + Drop> SortedSet<T> {
+impl<T: Ord + Copy + Numbered + Drop> SortedSet<T> {
     /// An empty set.
     pub fn new(alloc: Global) -> Self
         ensures { result.members ≡ [] }
@@ -133,7 +133,11 @@ impl<T: Ord + Numbered + Drop> SortedSet<T> {
     {
         match self.likely_place(value) {
             Some(place) => Ok(place),
-            None => self.searched_place(value),
+            None => {
+                // A copy, so that a value that is found at once needn't lie in memory.
+                let sought = *value;
+                self.searched_place(&sought)
+            }
         }
     }
 
@@ -170,7 +174,9 @@ impl<T: Ord + Numbered + Drop> SortedSet<T> {
         match self.likely_place_from(value) {
             Some(place) => place,
             None => {
-                let (Ok(place) | Err(place)) = self.searched_place(value);
+                // A copy, so that a value that is found at once needn't lie in memory.
+                let sought = *value;
+                let (Ok(place) | Err(place)) = self.searched_place(&sought);
                 place
             }
         }

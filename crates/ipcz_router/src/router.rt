@@ -287,6 +287,7 @@ impl Router {
     }
 
     /// Where its node files it.
+    #[inline(always)]
     #[tactic(auto, unfolding(ipcz_base::specs::Links::has_link))]
     pub fn filing(&self) -> Filing
         ensures { result ≡ filing_of self.now.router }

@@ -195,6 +195,33 @@ impl NodeState {
         requires ready { IsReadyFor self.old (Act.Router serial act) }
         ensures { self.new.node ≡ commit self.old.node (Act.Router serial act) answer }
     {
+        match act {
+            RouterAct::FinishOut => self.commit_one(serial, RouterAct::FinishOut, answer),
+            RouterAct::FinishIn => self.commit_one(serial, RouterAct::FinishIn, answer),
+            RouterAct::Mark => self.commit_one(serial, RouterAct::Mark, answer),
+            RouterAct::Claim => self.commit_one(serial, RouterAct::Claim, answer),
+            RouterAct::Lock => self.commit_one(serial, RouterAct::Lock, answer),
+            RouterAct::Unlock => self.commit_one(serial, RouterAct::Unlock, answer),
+            RouterAct::SendOut
+            | RouterAct::SendIn
+            | RouterAct::Discard
+            | RouterAct::Leave
+            | RouterAct::Wake
+            | RouterAct::Begin
+            | RouterAct::Retire
+            | RouterAct::Rest => self.commit_one(serial, act, answer),
+        }
+    }
+
+    // The same, inlined where the act is known: then nothing is made and taken apart for what it doesn't give.
+    #[tactic(auto, unfolding(crate::specs::Acts::commit, crate::specs::Acts::commit_router, crate::specs::Node::on_router))]
+    #[inline(always)]
+    fn commit_one(&mut self, serial: u64, act: RouterAct, answer: Answer)
+        requires possible { IsPossibleAct self.old.node (Act.Router serial act) }
+        requires answer { Answers (Act.Router serial act) answer }
+        requires ready { IsReadyFor self.old (Act.Router serial act) }
+        ensures { self.new.node ≡ commit self.old.node (Act.Router serial act) answer }
+    {
         let given = self.act_router(serial, act, answer);
         self.send(given);
     }

@@ -415,11 +415,25 @@ impl NodeState {
         ensures err { IfErr result (λ e. (e.1 ≡ message) × (self.new.node ≡ self.old.node)) }
     {
         let mut message = message;
-        let fits = self.fits(from, &message, source);
-        match self.take_from_hand(from, &mut message, source, fits) {
+        match self.deliver_in_place(from, &mut message, source) {
             Ok(()) => Ok(()),
             Err(why) => Err((why, message)),
         }
+    }
+
+    /// Delivers a message as `deliver_unseen` does, from where it lies: it is left as it is if it is refused, and counts for nothing if it
+    /// is delivered.
+    pub fn deliver_in_place(
+        &mut self,
+        from: u8,
+        message: &mut Message,
+        source: Option<u8>,
+    ) -> Result<(), Refusal>
+        ensures { IsDeliveredInPlace self.old from message.old message.new source (deliver self.old.node from message.old source)
+            result self.new }
+    {
+        let fits = self.fits(from, message, source);
+        self.take_from_hand(from, message, source, fits)
     }
 
     /// Delivers a message from the node `from` as `deliver` does, but only an item without ends and moves that has its place at a router here,

@@ -291,6 +291,7 @@ impl Router {
         Applied::Discarded(n, item)
     }
 
+    #[inline(always)]
     #[tactic(auto, unfolding(crate::specs::ActTable::is_possible))]
     fn finish_out(&mut self)
         requires { is_possible self.old.router RouterAct.FinishOut ≡ true }
@@ -302,6 +303,7 @@ impl Router {
             .finish(self.out_queue.current(), self.in_queue.reach());
     }
 
+    #[inline(always)]
     #[tactic(auto, unfolding(crate::specs::ActTable::is_possible, ipcz_edge::specs::Edge::can_finish))]
     fn finish_in(&mut self)
         requires { is_possible self.old.router RouterAct.FinishIn ≡ true }
@@ -314,6 +316,7 @@ impl Router {
         }
     }
 
+    #[inline(always)]
     #[tactic(auto, unfolding(crate::specs::ActEffects::begin_message, crate::specs::ActEffects::message_output, crate::specs::ActEffects::output_of))]
     pub(super) fn begin_output(&self) -> Applied
         ensures output { result ≡ output_of self.now.router RouterAct.Begin }
@@ -347,6 +350,7 @@ impl Router {
         )
     }
 
+    #[inline(always)]
     fn begin(&mut self)
         requires { can_begin self.old.router ≡ true }
         ensures router { self.new.router ≡ begin_bypass self.old.router }

@@ -4,7 +4,7 @@ use Rattle.ipcz_node.specs.Directories.{ends_inside}
 use Rattle.ipcz_node.proofs.Holding.{hold_kept}
 use Rattle.ipcz_node.proofs.Refiling.{FilesWithin, can_change, changed}
 use Rattle.ipcz_node.proofs.Standings.{hear_standing, hear_inside}
-use Rattle.ipcz_node.proofs.directory.Directory.hear.Goals as goal
+use Rattle.ipcz_node.proofs.directory.Directory.hear_on_links.Goals as goal
 
 pub refile-requires : goal.refile-requires
 refile-requires c =
