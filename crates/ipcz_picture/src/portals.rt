@@ -57,7 +57,7 @@ fn draw_name(out: &mut Writer, scene: &Scene, portal: &NamedPortal)
 // What a hair is, behind the other signs.
 fn draw_sign(out: &mut Writer)
     ensures keeps { Keeps out.old out.new }
-    ensures few { Grows out.old out.new 700 }
+    ensures few { Grows out.old out.new 800 }
 {
     out.line(746, 80, 746, 92, Class::Hair);
     out.label(754, 90, Class::Legend, b"portal, at some node");
@@ -66,12 +66,12 @@ fn draw_sign(out: &mut Writer)
 /// The portals that are named.
 pub fn draw_portals(out: &mut Writer, scene: &Scene)
     ensures keeps { Keeps out.old out.new }
-    ensures few { Grows out.old out.new (700 + 990 * length scene.now.named.now) }
+    ensures few { Grows out.old out.new (800 + 990 * length scene.now.named.now) }
 {
     if !scene.named.is_empty() {
         draw_sign(out);
     }
-    for portal in scene.named {
+    for (index, portal) in scene.named.iter().enumerate() {
         draw_bar(out, scene, portal);
         draw_name(out, scene, portal);
     }
