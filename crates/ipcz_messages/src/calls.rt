@@ -347,8 +347,8 @@ impl<'a> Known<'a> {
     }
 }
 
-// The portal at which a line is a call that found it.
-fn portal_of<'a>(line: &Line<'a>) -> Option<&'a [u8]> {
+/// The portal at which a line is a call that found it.
+pub fn portal_of<'a>(line: &Line<'a>) -> Option<&'a [u8]> {
     match line {
         Line::Put {
             answer: Answer::Refused(Refusal::UnknownName | Refusal::Away),

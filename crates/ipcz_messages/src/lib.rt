@@ -5,5 +5,6 @@ pub mod calls;
 pub mod ends;
 pub mod messages;
 pub mod moves;
+pub mod named;
 pub mod origins;
 pub mod routers;

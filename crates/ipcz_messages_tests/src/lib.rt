@@ -8,6 +8,8 @@
 #[cfg(test)]
 mod messages;
 #[cfg(test)]
+mod named;
+#[cfg(test)]
 mod portals;
 #[cfg(test)]
 mod receivers;

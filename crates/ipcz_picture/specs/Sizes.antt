@@ -19,10 +19,11 @@ most_row x = 1370 + 6 * length x.text.now + most_marks x.line
 abbrev pub most_place : List ReadLine → Place → ℕ
 most_place read p = sum_by most_row (take p.count (drop p.first read))
 
--- a picture: its heading, and in addition to the row of a line its ground, a router's lifeline and name, and a message
+-- a picture: its heading and the portals that are named, and in addition to the row of a line its ground, a router's lifeline and name, a
+-- message, and a call
 abbrev pub most_picture : List ReadLine → ℕ
-most_picture read = 70000 + 10600 * length read + sum_by most_row read
+most_picture read = 105000 + 11340 * length read + sum_by most_row read
 
 -- the size of a picture is linear: so many bytes for its heading, for each line, and for each byte of the lines
 abbrev pub IsBounded : List ℕ → List ReadLine → List ℕ → Type 0
-IsBounded input read text = length text ≤ 70000 + 15000 * length read + 1900 * length input
+IsBounded input read text = length text ≤ 105000 + 15700 * length read + 1900 * length input

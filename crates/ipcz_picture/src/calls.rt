@@ -9,8 +9,8 @@ use ipcz_lines::{End, Line, Side};
 use ipcz_markup::{Class, Writer};
 use ipcz_messages::calls::{Call, Portals};
 
-// The front of a text that has room.
-fn front(text: &[u8], room: usize) -> &[u8]
+/// The front of a text that has room.
+pub fn front(text: &[u8], room: usize) -> &[u8]
     ensures few { length result.now ≤ room }
 {
     &text[..text.len().min(room)]
@@ -28,13 +28,12 @@ fn verb_of(line: &Line) -> &'static [u8]
     }
 }
 
-// A call at a router.
-fn draw_call(out: &mut Writer, scene: &Scene, call: &Call)
+/// The call of a line, so far to the right.
+pub fn draw_call(out: &mut Writer, scene: &Scene, x: u64, line: usize)
     ensures keeps { Keeps out.old out.new }
     ensures few { Grows out.old out.new 740 }
 {
-    let x = scene.across_of(call.router);
-    let y = scene.middle_of(call.line);
+    let y = scene.middle_of(line);
     out.pill(
         x.saturating_sub(4),
         y.saturating_sub(4),
@@ -43,7 +42,7 @@ fn draw_call(out: &mut Writer, scene: &Scene, call: &Call)
         1,
         Class::CallDot,
     );
-    if let Some(read) = scene.lines.get(call.line) {
+    if let Some(read) = scene.lines.get(line) {
         out.label(
             x.saturating_add(8),
             y.saturating_add(4),
@@ -60,7 +59,7 @@ pub fn draw_calls(out: &mut Writer, scene: &Scene, calls: &[Call])
 {
     for (index, call) in calls.iter().enumerate() {
         if scene.shows(call.line) {
-            draw_call(out, scene, call);
+            draw_call(out, scene, scene.across_of(call.router), call.line);
         }
     }
 }

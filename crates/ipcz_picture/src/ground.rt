@@ -8,10 +8,10 @@ use crate::scene::{Scene, Walls};
 use ipcz_lines::{Event, Line};
 use ipcz_markup::{Class, Tag, Writer};
 
-// The band of a node, with its name above it.
-fn draw_band(out: &mut Writer, node: u64, walls: Walls, bottom: u64)
+// A band, without its name.
+fn draw_walls(out: &mut Writer, walls: Walls, bottom: u64)
     ensures keeps { Keeps out.old out.new }
-    ensures few { Grows out.old out.new 1400 }
+    ensures few { Grows out.old out.new 1050 }
 {
     let Walls { left, right } = walls;
     let low = bottom.saturating_add(6);
@@ -20,10 +20,33 @@ fn draw_band(out: &mut Writer, node: u64, walls: Walls, bottom: u64)
     out.pill(left, high, width, low.saturating_sub(high), 6, Class::Node);
     out.line(left, high, left, low, Class::Hair);
     out.line(right, high, right, low, Class::Hair);
-    out.begin_label(left.saturating_add(width / 2), high - 6, Class::NodeName);
+}
+
+// Where the name of a band stands, from the left.
+fn middle_of_band(walls: Walls) -> u64 {
+    let width = walls.right.saturating_sub(walls.left);
+    walls.left.saturating_add(width / 2)
+}
+
+// The band of a node, with its name above it.
+fn draw_band(out: &mut Writer, node: u64, walls: Walls, bottom: u64)
+    ensures keeps { Keeps out.old out.new }
+    ensures few { Grows out.old out.new 1400 }
+{
+    draw_walls(out, walls, bottom);
+    out.begin_label(middle_of_band(walls), TOP - 32, Class::NodeName);
     out.text(b"node ");
     out.number(node);
     out.close(Tag::Text);
+}
+
+// The band of the opened portals of a run without turns, whose nodes aren't known.
+fn draw_opened_band(out: &mut Writer, walls: Walls, bottom: u64)
+    ensures keeps { Keeps out.old out.new }
+    ensures few { Grows out.old out.new 1400 }
+{
+    draw_walls(out, walls, bottom);
+    out.label(middle_of_band(walls), TOP - 32, Class::NodeName, b"opened");
 }
 
 // The bands of the nodes.
@@ -81,7 +104,7 @@ fn draw_lines_ground(out: &mut Writer, scene: &Scene)
 /// What everything else stands on.
 pub fn draw_ground(out: &mut Writer, scene: &Scene)
     ensures keeps { Keeps out.old out.new }
-    ensures few { Grows out.old out.new (1100 + 1400 * length scene.now.nodes.items + 400 * length scene.now.lines.now) }
+    ensures few { Grows out.old out.new (2500 + 1400 * length scene.now.nodes.items + 400 * length scene.now.lines.now) }
 {
     out.rect(
         0,
@@ -91,6 +114,9 @@ pub fn draw_ground(out: &mut Writer, scene: &Scene)
         Class::Page,
     );
     draw_bands(out, scene.nodes.as_slice(), scene.bottom);
+    if let Some(walls) = scene.opened {
+        draw_opened_band(out, walls, scene.bottom);
+    }
     if scene.words > 0 {
         out.label(
             scene.words_left,

@@ -19,6 +19,7 @@ mod outboxes;
 mod output;
 pub mod part;
 mod picture;
+mod portals;
 pub mod program;
 mod row;
 mod rows;

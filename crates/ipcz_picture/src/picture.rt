@@ -17,6 +17,7 @@ use crate::lifelines::{draw_lifelines, draw_names};
 use crate::names::draw_names_again;
 use crate::outboxes::slots;
 use crate::part::Bounds;
+use crate::portals::{draw_portal_calls, draw_portals};
 use crate::row::draw_row;
 use crate::rows::{Place, places};
 use crate::scene::Scene;
@@ -27,6 +28,7 @@ use ipcz_messages::calls::{Portals, calls};
 use ipcz_messages::ends::ends;
 use ipcz_messages::messages::{messages, note_births};
 use ipcz_messages::moves::{Moves, lines_in_sight};
+use ipcz_messages::named::named_portals;
 use ipcz_messages::origins::note_origins;
 use ipcz_messages::routers::{routers, see_calls, see_messages};
 use std::alloc::{AllocError, Global};
@@ -127,7 +129,10 @@ pub fn picture(alloc: Global, lines: &[ReadLine], bounds: Bounds) -> Result<Vec<
     see_calls(&mut routers, &calls);
     let lanes = lanes(alloc, lines, &routers)?;
     let slots = slots(alloc, &messages, lines.len())?;
-    let scene = Scene::new(alloc, lines, bounds, &routers, &lanes, &placed, bottom)?;
+    let named = named_portals(alloc, lines)?;
+    let scene = Scene::new(
+        alloc, lines, bounds, &routers, &lanes, &named, &placed, bottom,
+    )?;
     let mut known = known_before(alloc, &lines[..bounds.first], scene.words)?;
     let mut out = Writer::new(alloc);
     draw_root(&mut out, scene.width, bottom.saturating_add(26));
@@ -140,6 +145,8 @@ pub fn picture(alloc: Global, lines: &[ReadLine], bounds: Bounds) -> Result<Vec<
     draw_lifelines(&mut out, &scene);
     draw_messages(&mut out, &scene, &messages, &slots);
     draw_calls(&mut out, &scene, &calls);
+    draw_portals(&mut out, &scene);
+    draw_portal_calls(&mut out, &scene);
     draw_names(&mut out, &scene, &ends, &portals);
     draw_names_again(&mut out, &scene, &placed);
     draw_rows(&mut out, &scene, shown, &placed, bottom, &mut known);

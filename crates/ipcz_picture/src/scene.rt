@@ -7,6 +7,7 @@ use crate::lanes::Lane;
 use crate::part::Bounds;
 use crate::rows::{Place, TOP, UNIT, value_count};
 use ipcz_lines::{Event, Line, Link, ReadLine, RouterEvent};
+use ipcz_messages::named::NamedPortal;
 use ipcz_messages::routers::{Router, find};
 use std::alloc::{AllocError, Global};
 
@@ -33,15 +34,17 @@ pub struct Walls {
 }
 
 /// What is drawn: all lines, which of them have rows, how far down the row of each of those begins, the routers with their
-/// lanes, the nodes' walls, where the link words begin, and the size of it all.
+/// lanes, the portals that are named, the nodes' walls and those of the opened portals, where the link words begin, and the size of it all.
 #[derive(Drop)]
 pub struct Scene<'a> {
     pub lines: &'a [ReadLine<'a>],
     pub bounds: Bounds,
     pub routers: &'a [Router],
     pub lanes: &'a [Lane],
+    pub named: &'a [NamedPortal<'a>],
     pub tops: Vec<u64>,
     pub nodes: Vec<Walls>,
+    pub opened: Option<Walls>,
     pub words: usize,
     pub words_left: u64,
     pub width: u64,
@@ -75,14 +78,25 @@ fn nodes_of_event(event: &Event) -> u8 {
     }
 }
 
-// How many nodes the lines name: one more than the greatest.
-fn node_count(lines: &[ReadLine]) -> u8
-    ensures few { result ≤ 8 }
-{
+// How many nodes the turns name: one more than the greatest.
+fn nodes_of_turns(lines: &[ReadLine]) -> u8 {
     let mut count = 0;
     for read in lines {
         if let Line::Turn { node, event } = &read.line {
             count = count.max(node.saturating_add(1)).max(nodes_of_event(event));
+        }
+    }
+    count
+}
+
+// How many nodes the lines name, by their turns or by portals: one more than the greatest.
+fn node_count(lines: &[ReadLine], named: &[NamedPortal]) -> u8
+    ensures few { result ≤ 8 }
+{
+    let mut count = nodes_of_turns(lines);
+    for portal in named {
+        if let Some(node) = portal.node {
+            count = count.max(node.saturating_add(1));
         }
     }
     count.min(8)
@@ -133,9 +147,9 @@ fn word_count(lines: &[ReadLine]) -> usize {
     count
 }
 
-// How many columns the routers of a node take, at least one.
-fn column_count(routers: &[Router], lanes: &[Lane], node: u8) -> usize {
-    let mut count = 1usize;
+// How many columns the routers of a node take.
+fn router_columns(routers: &[Router], lanes: &[Lane], node: u8) -> usize {
+    let mut count = 0;
     for (router, lane) in routers.iter().zip(lanes) {
         if router.node == node {
             count = count.max(lane.column.saturating_add(1));
@@ -144,28 +158,58 @@ fn column_count(routers: &[Router], lanes: &[Lane], node: u8) -> usize {
     count
 }
 
+// How many columns the portals of a node take, or the opened ones.
+fn portal_columns(named: &[NamedPortal], node: Option<u8>) -> usize {
+    let mut count = 0;
+    for portal in named {
+        if portal.node == node {
+            count = count.max(portal.place.saturating_add(1));
+        }
+    }
+    count
+}
+
+// The walls of a band of so many columns, at least one, that begins after the band before it.
+fn walls_behind(before: Option<&Walls>, columns: usize) -> Walls {
+    let left = match before {
+        Some(walls) => walls.right.saturating_add(GAP),
+        None => FIRST_BAND,
+    };
+    let width = (columns as u64)
+        .saturating_sub(1)
+        .saturating_mul(COLUMN)
+        .saturating_add(LEFT_PAD + RIGHT_PAD);
+    Walls {
+        left,
+        right: left.saturating_add(width),
+    }
+}
+
 // The walls of the nodes.
 fn node_walls(
     alloc: Global,
     lines: &[ReadLine],
     routers: &[Router],
     lanes: &[Lane],
+    named: &[NamedPortal],
 ) -> Result<Vec<Walls>, AllocError>
     ensures few { IfOk result (λ walls. length walls.items ≤ 8) }
 {
     let mut walls = Vec::new(alloc);
-    let mut left = FIRST_BAND;
-    for node in 0..node_count(lines) {
-        let columns = column_count(routers, lanes, node) as u64;
-        let width = columns
-            .saturating_sub(1)
-            .saturating_mul(COLUMN)
-            .saturating_add(LEFT_PAD + RIGHT_PAD);
-        let right = left.saturating_add(width);
-        walls.push(Walls { left, right })?;
-        left = right.saturating_add(GAP);
+    for node in 0..node_count(lines, named) {
+        let columns = router_columns(routers, lanes, node).max(portal_columns(named, Some(node)));
+        let next = walls_behind(walls.as_slice().last(), columns);
+        walls.push(next)?;
     }
     Ok(walls)
+}
+
+// The walls of the opened portals, if there are any, behind those of the nodes.
+fn opened_walls(nodes: &[Walls], named: &[NamedPortal]) -> Option<Walls> {
+    match portal_columns(named, None) {
+        0 => None,
+        columns => Some(walls_behind(nodes.last(), columns)),
+    }
 }
 
 // How far down the row of each line begins that has a place.
@@ -187,17 +231,20 @@ impl<'a> Scene<'a> {
         bounds: Bounds,
         routers: &'a [Router],
         lanes: &'a [Lane],
+        named: &'a [NamedPortal<'a>],
         placed: &[Place],
         bottom: u64,
     ) -> Result<Self, AllocError>
         ensures lines { IfOk result (λ scene. scene.lines.now ≡ lines.now) }
         ensures bounds { IfOk result (λ scene. scene.bounds ≡ bounds) }
         ensures routers { IfOk result (λ scene. scene.routers.now ≡ routers.now) }
+        ensures named { IfOk result (λ scene. scene.named.now ≡ named.now) }
         ensures nodes { IfOk result (λ scene. length scene.nodes.items ≤ 8) }
     {
-        let nodes = node_walls(alloc, lines, routers, lanes)?;
+        let nodes = node_walls(alloc, lines, routers, lanes, named)?;
+        let opened = opened_walls(nodes.as_slice(), named);
         let words = word_count(lines);
-        let inner = match nodes.as_slice().last() {
+        let inner = match opened.as_ref().or(nodes.as_slice().last()) {
             Some(walls) => walls.right,
             None => FIRST_BAND - 34,
         };
@@ -208,8 +255,10 @@ impl<'a> Scene<'a> {
             bounds,
             routers,
             lanes,
+            named,
             tops: tops(alloc, placed)?,
             nodes,
+            opened,
             words,
             words_left,
             width: words_left
@@ -283,6 +332,19 @@ impl<'a> Scene<'a> {
             }
             _ => 0,
         }
+    }
+
+    /// How far to the right a portal stands.
+    pub fn across_of_portal(&self, portal: &NamedPortal) -> u64 {
+        let walls = match (portal.node, self.opened) {
+            (Some(node), _) => self.walls_of(node),
+            (None, Some(walls)) => walls,
+            (None, None) => return 0,
+        };
+        walls
+            .left
+            .saturating_add(LEFT_PAD)
+            .saturating_add((portal.place as u64).saturating_mul(COLUMN))
     }
 
     /// How far to the right the router of a node with a serial stands.

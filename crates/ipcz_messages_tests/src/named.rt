@@ -1,0 +1,70 @@
+//! The portals that a transcript without turns names.
+
+use ipcz_lines::read;
+use ipcz_messages::named::{NamedPortal, named_portals};
+use std::alloc::Global;
+
+const TRANSCRIPT: &[u8] = b"open left right ok
+put left 0
+put 0>1 0
+settled
+get 1>0 0 [right] \"carry\"
+get right 0 [] \"hello\"
+get nobody UnknownName
+open left other NoWord
+close left 1
+words 3 547 3
+";
+
+// A name, the node that it tells, its place in the band, its first line, and the line that closes it.
+type Row = (&'static [u8], Option<u8>, usize, usize, Option<usize>);
+
+const ROWS: [Row; 4] = [
+    (b"left", None, 0, 0, Some(8)),
+    (b"right", None, 1, 0, None),
+    (b"0>1", Some(0), 0, 0, None),
+    (b"1>0", Some(1), 0, 0, None),
+];
+
+// Whether a portal is that of a row.
+fn is_of_row(named: &[NamedPortal], row: usize) -> bool {
+    match (named.get(row), ROWS.get(row)) {
+        (Some(it), Some(row)) => {
+            it.name == row.0
+                && it.node == row.1
+                && it.place == row.2
+                && it.first == row.3
+                && it.closed == row.4
+        }
+        _ => false,
+    }
+}
+
+// The first row that no portal is of, or how many portals there are.
+fn first_other(alloc: Global, transcript: &[u8]) -> Option<usize> {
+    let lines = read(alloc, transcript).ok()?;
+    let named = named_portals(alloc, &lines).ok()?;
+    for row in 0..ROWS.len() {
+        if !is_of_row(&named, row) {
+            return Some(row);
+        }
+    }
+    Some(named.len())
+}
+
+// How many portals are named of a run whose last line is a turn.
+fn count_with_a_turn(alloc: Global) -> Option<usize> {
+    let lines = read(alloc, b"open left right ok\nput left 0\nn0: idle\n").ok()?;
+    let named = named_portals(alloc, &lines).ok()?;
+    Some(named.len())
+}
+
+#[test]
+fn portals_of_a_run_without_turns_are_named(rt: HostRuntime) {
+    assert!(rt; first_other(rt.alloc(), TRANSCRIPT) == Some(4));
+}
+
+#[test]
+fn portals_of_a_run_with_turns_are_not(rt: HostRuntime) {
+    assert!(rt; count_with_a_turn(rt.alloc()) == Some(0));
+}
