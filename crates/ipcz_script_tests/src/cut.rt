@@ -30,13 +30,18 @@ fn first_read(alloc: Global, bytes: &[u8]) -> Option<usize> {
     None
 }
 
+// Whether a script is run, and none of its fronts is.
+fn is_whole(alloc: Global, bytes: &[u8]) -> bool {
+    let (ending, out) = run(alloc, bytes);
+    ending == Ok(Outcome::Done)
+        && out.as_slice() == TRANSCRIPT.as_bytes()
+        && first_read(alloc, bytes).is_none()
+}
+
 #[test]
 fn a_script_that_is_cut_at_any_byte_is_no_json(rt: HostRuntime) -> Result<(), Fail> {
     let bytes = script(rt.alloc(), None)?;
-    let (ending, out) = run(rt.alloc(), &bytes);
-    assert_eq!(rt; ending, Ok(Outcome::Done));
-    assert_eq!(rt; out.as_slice(), TRANSCRIPT.as_bytes());
-    assert_eq!(rt; first_read(rt.alloc(), &bytes), None);
+    assert!(rt; is_whole(rt.alloc(), &bytes));
     Ok(())
 }
 

@@ -13,6 +13,25 @@ fn refused(alloc: Global, why: Refusal) -> Result<Said, AllocError> {
     Ok(Said::Turned(Sequence::from_vec(replies)))
 }
 
+// Whether a turn of a node that is refused prints so.
+fn prints(labels: &Labels, alloc: Global, node: u8, said: &Said, line: &[u8]) -> bool {
+    let mut out = Vec::new(alloc);
+    let command = Command::Turn { node, count: 1 };
+    push_lines(&mut out, labels.titles(), &command, said).is_ok() && out.as_slice() == line
+}
+
+// The same, if it is refused for this.
+fn prints_refused(
+    labels: &Labels,
+    alloc: Global,
+    node: u8,
+    why: Refusal,
+    line: &[u8],
+) -> Result<bool, AllocError> {
+    let said = refused(alloc, why)?;
+    Ok(prints(labels, alloc, node, &said, line))
+}
+
 // A turn is refused if serials end, or if another thread changed the word: no script of one thread comes that far.
 #[test]
 fn prints_a_refused_turn(rt: HostRuntime) -> Result<(), Fail> {
@@ -21,15 +40,8 @@ fn prints_a_refused_turn(rt: HostRuntime) -> Result<(), Fail> {
         (0, Refusal::NumbersEnd, b"n0: NumbersEnd\n".as_slice()),
         (7, Refusal::Raced, b"n7: Raced\n".as_slice()),
     ] {
-        let mut out = Vec::new(rt.alloc());
-        let said = refused(rt.alloc(), why)?;
-        push_lines(
-            &mut out,
-            labels.titles(),
-            &Command::Turn { node, count: 1 },
-            &said,
-        )?;
-        assert_eq!(rt; out.as_slice(), line);
+        let printed = prints_refused(&labels, rt.alloc(), node, why, line);
+        assert_eq!(rt; printed, Ok(true));
     }
     Ok(())
 }

@@ -9,10 +9,11 @@ mod words;
 
 ghost use Rattle.ipcz_world.specs.Lawful.{IsWithinLimits};
 
-use self::calls::{Call, given};
+use self::calls::{Call, first_wrong};
 use ipcz_base::{End, Refusal, Sequence, Side, Sizes};
 use ipcz_world::{Reply, Step, World};
 use std::alloc::{AllocError, Global};
+use std::process::Abort;
 use std::test::Fail;
 
 const A0: End = End {
@@ -126,47 +127,77 @@ fn are_two_parcels(replies: &[Reply]) -> bool {
     }
 }
 
-#[test]
-fn steps_give_what_their_run_gives(rt: HostRuntime) -> Result<(), Fail> {
-    let alloc = rt.alloc();
-    let steps = two_parcels(alloc)?;
-    let mut world = World::new(alloc, 1, 1)?;
+// The replies to steps that are taken one by one.
+fn stepped(world: &mut World, alloc: Global, steps: &[Step]) -> Result<Vec<Reply>, AllocError> {
     let mut replies = Vec::new(alloc);
-    for step in &steps {
+    for step in steps {
         replies.push(world.step(step))?;
     }
-    assert!(rt; are_two_parcels(replies.as_slice()));
+    Ok(replies)
+}
 
+// Whether two parcels are put and looked for, step by step.
+fn two_are_stepped(alloc: Global, steps: &[Step]) -> Result<bool, Refusal> {
     let mut world = World::new(alloc, 1, 1)?;
-    let replies = world.run(alloc, &steps)?;
-    assert!(rt; are_two_parcels(replies.as_slice()));
-    let replies = world.run(alloc, &[])?;
-    assert!(rt; replies.is_empty());
+    Ok(are_two_parcels(stepped(&mut world, alloc, steps)?.as_slice()))
+}
+
+// Whether two parcels are put and looked for in one run, and a run of no steps has no replies.
+fn two_are_run(alloc: Global, steps: &[Step]) -> Result<bool, Refusal> {
+    let mut world = World::new(alloc, 1, 1)?;
+    let are_two = are_two_parcels(world.run(alloc, steps)?.as_slice());
+    Ok(are_two && world.run(alloc, &[])?.is_empty())
+}
+
+#[test]
+fn steps_give_what_their_run_gives(rt: HostRuntime) -> Result<(), Fail> {
+    let steps = two_parcels(rt.alloc())?;
+    assert_eq!(rt; two_are_stepped(rt.alloc(), &steps), Ok(true));
+    assert_eq!(rt; two_are_run(rt.alloc(), &steps), Ok(true));
     Ok(())
 }
 
+// The first call that doesn't give what it should, on a new world of so many nodes and words.
+fn first_wrong_of(
+    alloc: Global,
+    nodes: u8,
+    words: u32,
+    calls: &[Call],
+) -> Result<Option<usize>, Refusal>
+    requires { IsWithinLimits nodes words }
+{
+    let mut world = World::new(alloc, nodes, words)?;
+    Ok(first_wrong(&mut world, alloc, calls)?)
+}
+
+// Each call has to give what it should, on a new world of so many nodes and words. (A test that asserts this itself is several times as
+// dear to prove.)
+fn all_go(rt: &impl Abort, alloc: Global, nodes: u8, words: u32, calls: &[Call])
+    requires { IsWithinLimits nodes words }
+{
+    assert_eq!(rt; first_wrong_of(alloc, nodes, words, calls), Ok(None));
+}
+
 // The caller that the README shows.
-const HELLO: [Call; 3] = [
+static HELLO: [Call; 3] = [
     Call::Put(0, A0, b"hello", &[], 0),
     Call::Settle(100, Some(6)),
     Call::Get(1, B0, 0, b"hello", &[]),
 ];
 
 #[test]
-fn carries_hello_from_node_to_node(rt: HostRuntime) -> Result<(), Fail> {
-    let mut world = World::new(rt.alloc(), 2, 4)?;
-    assert_eq!(rt; given(&mut world, rt.alloc(), &HELLO)?, HELLO.len());
-    Ok(())
+fn carries_hello_from_node_to_node(rt: HostRuntime) {
+    all_go(&rt, rt.alloc(), 2, 4, &HELLO);
 }
 
 // Two sends, a post, a look and a hand for each message, and a rest of each router.
-const TWO_PARCELS: [Call; 3] = [
+static TWO_PARCELS: [Call; 3] = [
     Call::Open(0, A0, B0),
     Call::Put(0, A0, b"a", &[], 0),
     Call::Put(0, A0, b"b", &[], 1),
 ];
 
-const TEN_ACTS: [[Call; 3]; 4] = [
+static TEN_ACTS: [[Call; 3]; 4] = [
     [
         Call::Settle(100, Some(10)),
         Call::Settle(u64::MAX, Some(0)),
@@ -189,31 +220,31 @@ const TEN_ACTS: [[Call; 3]; 4] = [
     ],
 ];
 
-const BOTH_GOT: [Call; 3] = [
+static BOTH_GOT: [Call; 3] = [
     Call::Get(0, B0, 0, b"a", &[]),
     Call::Get(0, B0, 1, b"b", &[]),
     Call::GetRefused(0, B0, Refusal::Empty),
 ];
 
-// How many calls give what they should if two parcels are put, the world settles so, and both are got.
-fn given_after(alloc: Global, settles: &[Call]) -> Result<usize, Refusal> {
+// Whether two parcels are put, the world settles so, and both are got.
+fn both_are_got(alloc: Global, settles: &[Call]) -> Result<bool, Refusal> {
     let mut world = World::new(alloc, 1, 1)?;
-    let before = given(&mut world, alloc, &TWO_PARCELS)?;
-    let between = given(&mut world, alloc, settles)?;
-    let after = given(&mut world, alloc, &BOTH_GOT)?;
-    Ok(before.saturating_add(between).saturating_add(after))
+    Ok(
+        first_wrong(&mut world, alloc, &TWO_PARCELS)?.is_none()
+            && first_wrong(&mut world, alloc, settles)?.is_none()
+            && first_wrong(&mut world, alloc, &BOTH_GOT)?.is_none(),
+    )
 }
 
 #[test]
-fn settles_after_ten_acts(rt: HostRuntime) -> Result<(), Fail> {
-    for settles in &TEN_ACTS {
-        assert_eq!(rt; given_after(rt.alloc(), settles)?, 9);
+fn settles_after_ten_acts(rt: HostRuntime) {
+    for settles in TEN_ACTS.iter() {
+        assert_eq!(rt; both_are_got(rt.alloc(), settles), Ok(true));
     }
-    Ok(())
 }
 
 // A parcel that is all that a world has to do: six acts, between nodes and within one, whichever of its routers has the lower serial.
-const LONE_PARCELS: [Call; 19] = [
+static LONE_PARCELS: [Call; 19] = [
     Call::Put(0, A0, b"a", &[], 0),
     Call::Settle(6, Some(6)),
     Call::Put(1, B0, b"b", &[], 0),
@@ -236,18 +267,13 @@ const LONE_PARCELS: [Call; 19] = [
 ];
 
 #[test]
-fn settles_a_lone_parcel_after_six_acts(rt: HostRuntime) -> Result<(), Fail> {
-    let mut world = World::new(rt.alloc(), 3, 4)?;
-    assert_eq!(rt;
-        given(&mut world, rt.alloc(), &LONE_PARCELS)?,
-        LONE_PARCELS.len()
-    );
-    Ok(())
+fn settles_a_lone_parcel_after_six_acts(rt: HostRuntime) {
+    all_go(&rt, rt.alloc(), 3, 4, &LONE_PARCELS);
 }
 
 // The sender sends, posts and rests; the receiver looks, hands and rests. In three passes node 0 sends, posts and rests, and node 1 looks
 // and hands.
-const PASSES: [Call; 6] = [
+static PASSES: [Call; 6] = [
     Call::Put(0, A0, b"a", &[], 0),
     Call::Settle(5, None),
     Call::Turns(0, &["Idle"]),
@@ -257,14 +283,12 @@ const PASSES: [Call; 6] = [
 ];
 
 #[test]
-fn settles_two_nodes_in_passes(rt: HostRuntime) -> Result<(), Fail> {
-    let mut world = World::new(rt.alloc(), 2, 1)?;
-    assert_eq!(rt; given(&mut world, rt.alloc(), &PASSES)?, PASSES.len());
-    Ok(())
+fn settles_two_nodes_in_passes(rt: HostRuntime) {
+    all_go(&rt, rt.alloc(), 2, 1, &PASSES);
 }
 
 // Once the second word is claimed, each is.
-const OPENS: [Call; 14] = [
+static OPENS: [Call; 14] = [
     Call::Claimed(1),
     Call::Word(0, Some(3)),
     Call::Word(1, None),
@@ -282,24 +306,14 @@ const OPENS: [Call; 14] = [
 ];
 
 #[test]
-fn an_open_claims_the_next_word(rt: HostRuntime) -> Result<(), Fail> {
-    let mut world = World::new(rt.alloc(), 2, 2)?;
-    assert_eq!(rt; given(&mut world, rt.alloc(), &OPENS)?, OPENS.len());
-    Ok(())
+fn an_open_claims_the_next_word(rt: HostRuntime) {
+    all_go(&rt, rt.alloc(), 2, 2, &OPENS);
 }
 
-// How many calls give what they should on a world of so many nodes and words.
-fn given_of(alloc: Global, nodes: u8, words: u32, calls: &[Call]) -> Result<usize, Refusal>
-    requires { IsWithinLimits nodes words }
-{
-    let mut world = World::new(alloc, nodes, words)?;
-    Ok(given(&mut world, alloc, calls)?)
-}
-
-const NO_WORDS: [Call; 2] = [Call::Claimed(0), Call::Word(0, None)];
+static NO_WORDS: [Call; 2] = [Call::Claimed(0), Call::Word(0, None)];
 
 // The last pair is that of the last two nodes.
-const EIGHT_NODES: [Call; 5] = [
+static EIGHT_NODES: [Call; 5] = [
     Call::Claimed(28),
     Call::Word(27, Some(3)),
     Call::Word(28, None),
@@ -320,11 +334,10 @@ const EIGHT_NODES: [Call; 5] = [
 ];
 
 #[test]
-fn worlds_of_the_limits_are_made(rt: HostRuntime) -> Result<(), Fail> {
-    assert_eq!(rt; given_of(rt.alloc(), 1, 0, &NO_WORDS)?, 2);
-    assert_eq!(rt; given_of(rt.alloc(), 8, 28, &EIGHT_NODES)?, 5);
-    assert_eq!(rt; given_of(rt.alloc(), 8, 4096, &EIGHT_NODES)?, 5);
-    Ok(())
+fn worlds_of_the_limits_are_made(rt: HostRuntime) {
+    all_go(&rt, rt.alloc(), 1, 0, &NO_WORDS);
+    all_go(&rt, rt.alloc(), 8, 28, &EIGHT_NODES);
+    all_go(&rt, rt.alloc(), 8, 4096, &EIGHT_NODES);
 }
 
 // Calls on a node that isn't there.
@@ -339,7 +352,7 @@ const fn strangers(node: u8) -> [Call; 5] {
 }
 
 // Callers of node 1 don't hold the end. Each word is claimed.
-const NOT_HELD: [Call; 5] = [
+static NOT_HELD: [Call; 5] = [
     Call::PutRefused(1, A0, &[], Refusal::Stranger),
     Call::GetRefused(1, A0, Refusal::Stranger),
     Call::CloseRefused(1, A0, Refusal::Stranger),
@@ -347,18 +360,24 @@ const NOT_HELD: [Call; 5] = [
     Call::Turns(1, &["Idle"]),
 ];
 
-#[test]
-fn a_node_that_is_not_there_is_a_stranger(rt: HostRuntime) -> Result<(), Fail> {
-    let mut world = World::new(rt.alloc(), 2, 1)?;
+// Whether each node that isn't there is a stranger, and callers of node 1 hold no end that isn't theirs.
+fn strangers_are_refused(alloc: Global) -> Result<bool, Refusal> {
+    let mut world = World::new(alloc, 2, 1)?;
     for node in [2, 7, 8, 255] {
-        assert_eq!(rt; given(&mut world, rt.alloc(), &strangers(node))?, 5);
+        if first_wrong(&mut world, alloc, &strangers(node))?.is_some() {
+            return Ok(false);
+        }
     }
-    assert_eq!(rt; given(&mut world, rt.alloc(), &NOT_HELD)?, NOT_HELD.len());
-    Ok(())
+    Ok(first_wrong(&mut world, alloc, &NOT_HELD)?.is_none())
+}
+
+#[test]
+fn a_node_that_is_not_there_is_a_stranger(rt: HostRuntime) {
+    assert_eq!(rt; strangers_are_refused(rt.alloc()), Ok(true));
 }
 
 // The mark comes behind the parcel.
-const CLOSE: [Call; 9] = [
+static CLOSE: [Call; 9] = [
     Call::Put(0, A0, b"a", &[], 0),
     Call::Close(0, A0, 1),
     Call::CloseRefused(0, A0, Refusal::Stranger),
@@ -371,10 +390,8 @@ const CLOSE: [Call; 9] = [
 ];
 
 #[test]
-fn a_close_is_heard_at_the_peer(rt: HostRuntime) -> Result<(), Fail> {
-    let mut world = World::new(rt.alloc(), 2, 1)?;
-    assert_eq!(rt; given(&mut world, rt.alloc(), &CLOSE)?, CLOSE.len());
-    Ok(())
+fn a_close_is_heard_at_the_peer(rt: HostRuntime) {
+    all_go(&rt, rt.alloc(), 2, 1, &CLOSE);
 }
 
 const ALL_BYTES: Sizes = Sizes {
@@ -383,7 +400,7 @@ const ALL_BYTES: Sizes = Sizes {
 };
 
 // The greatest wide parcel and an empty one, of bytes that don't print; and what a get would give, before and after it has come.
-const WIDE: [Call; 10] = [
+static WIDE: [Call; 10] = [
     Call::WideRefused(0, A0, 65_537, Refusal::TooMany),
     Call::PutWide(0, A0, 0xFF, 65_536, 0),
     Call::PutWide(0, A0, 0, 0, 1),
@@ -397,8 +414,6 @@ const WIDE: [Call; 10] = [
 ];
 
 #[test]
-fn a_wide_parcel_has_any_bytes(rt: HostRuntime) -> Result<(), Fail> {
-    let mut world = World::new(rt.alloc(), 2, 1)?;
-    assert_eq!(rt; given(&mut world, rt.alloc(), &WIDE)?, WIDE.len());
-    Ok(())
+fn a_wide_parcel_has_any_bytes(rt: HostRuntime) {
+    all_go(&rt, rt.alloc(), 2, 1, &WIDE);
 }

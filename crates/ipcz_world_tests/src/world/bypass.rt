@@ -1,13 +1,11 @@
 //! One bypass, each turn of it with what it is seen to do.
 
-use super::calls::{Call, given};
-use super::{A0, A1, B0, B1};
-use ipcz_world::World;
-use std::test::Fail;
+use super::calls::Call;
+use super::{A0, A1, B0, B1, all_go};
 
 // The terminal of 1B moves from node 0 to node 1, and the proxy it leaves, router 2, is bypassed: C1 by C2. Then what is put at the moved end
 // comes over the new link.
-const CALLS: [Call; 37] = [
+static CALLS: [Call; 37] = [
     Call::Open(0, A1, B1),
     Call::Put(0, A0, b"m", &[B1], 0),
     Call::Turns(
@@ -104,8 +102,6 @@ const CALLS: [Call; 37] = [
 ];
 
 #[test]
-fn a_bypass_turn_by_turn(rt: HostRuntime) -> Result<(), Fail> {
-    let mut world = World::new(rt.alloc(), 2, 4)?;
-    assert_eq!(rt; given(&mut world, rt.alloc(), &CALLS)?, CALLS.len());
-    Ok(())
+fn a_bypass_turn_by_turn(rt: HostRuntime) {
+    all_go(&rt, rt.alloc(), 2, 4, &CALLS);
 }

@@ -103,76 +103,145 @@ fn settles_within(world: &mut World, limit: u64) -> bool {
     matches!(world.settle(limit), Ok(Settled::Settled { .. }))
 }
 
+// Whether a put of these bytes and ends has this number.
+fn puts(
+    world: &mut World,
+    alloc: Global,
+    node: u8,
+    at: End,
+    (data, ends): (&[u8], &[End]),
+    number: u64,
+) -> Result<bool, AllocError> {
+    let step = put(alloc, node, at, data, ends)?;
+    Ok(is_put(&world.step(&step), number))
+}
+
+// A list of so many bytes of a value.
+fn bytes_of(alloc: Global, value: u8, count: usize) -> Result<Sequence<u8>, AllocError> {
+    Ok(Sequence::from_vec(vec![in alloc; value; count]?))
+}
+
+// Whether a put of a wide parcel has this number.
+fn puts_wide(
+    world: &mut World,
+    alloc: Global,
+    node: u8,
+    at: End,
+    (value, count): (u8, usize),
+    number: u64,
+) -> Result<bool, AllocError> {
+    let bytes = bytes_of(alloc, value, count)?;
+    let ends = Sequence::from_vec(Vec::new(alloc));
+    let answer = world.put_as(Profile::Wide, node, at, bytes, ends);
+    Ok(answer.is_ok_and(|n| n == number))
+}
+
+// Whether a get gives so many bytes of a value.
+fn gets_wide(
+    world: &mut World,
+    alloc: Global,
+    node: u8,
+    at: End,
+    (value, count): (u8, usize),
+    number: u64,
+) -> Result<bool, AllocError> {
+    let bytes = bytes_of(alloc, value, count)?;
+    Ok(is_got(&world.get(node, at), number, bytes.as_slice(), &[]))
+}
+
 // Whether a call gives what it should.
 fn gives(world: &mut World, alloc: Global, call: Call) -> Result<bool, AllocError> {
     match call {
-        Call::Open(node, first, second) => Ok(opens(world, node, first, second)),
         Call::Put(node, at, data, ends, number) => {
-            let step = put(alloc, node, at, data, ends)?;
-            Ok(is_put(&world.step(&step), number))
-        }
-        Call::Get(node, at, number, data, ends) => {
-            Ok(is_got(&world.step(&get(node, at)), number, data, ends))
+            puts(world, alloc, node, at, (data, ends), number)
         }
         Call::PutWide(node, at, value, count, number) => {
-            let bytes = Sequence::from_vec(vec![in alloc; value; count]?);
-            let ends = Sequence::from_vec(Vec::new(alloc));
-            Ok(
-                world
-                    .put_as(Profile::Wide, node, at, bytes, ends)
-                    .is_ok_and(|n| n == number),
-            )
+            puts_wide(world, alloc, node, at, (value, count), number)
         }
         Call::GetWide(node, at, number, value, count) => {
-            let bytes = vec![in alloc; value; count]?;
-            Ok(is_got(&world.get(node, at), number, bytes.as_slice(), &[]))
+            gets_wide(world, alloc, node, at, (value, count), number)
         }
-        Call::NextSizes(node, at, want) => Ok(world.next_sizes(node, at) == want),
-        Call::Close(node, at, number) => Ok(closes(world, node, at, number)),
         Call::Turns(node, events) => take_all(world, alloc, node, events),
-        Call::Settle(limit, want) => Ok(settles(world, limit, want)),
-        Call::Claimed(count) => Ok(world.claimed() == count),
-        Call::Word(i, word) => Ok(world.word(i) == word),
-        Call::Holder(end, node) => Ok(world.holder_of(end) == node),
-        Call::Limit(limit) => Ok(world.settle_limit() == Some(limit)),
-        Call::SettleWithin(limit) => Ok(settles_within(world, limit)),
-        Call::Routers(node, count) => Ok(world.routers(node) == count),
-        _ => refuses(world, alloc, call),
+        Call::OpenRefused(..)
+        | Call::PutRefused(..)
+        | Call::GetRefused(..)
+        | Call::WideRefused(..)
+        | Call::CloseRefused(..)
+        | Call::TurnRefused(..) => refuses(world, alloc, call),
+        _ => Ok(answers(world, call)),
+    }
+}
+
+// Whether a call that makes no list gives what it should.
+fn answers(world: &mut World, call: Call) -> bool {
+    match call {
+        Call::Open(node, first, second) => opens(world, node, first, second),
+        Call::Get(node, at, number, data, ends) => {
+            is_got(&world.get(node, at), number, data, ends)
+        }
+        Call::Close(node, at, number) => closes(world, node, at, number),
+        Call::Settle(limit, want) => settles(world, limit, want),
+        Call::SettleWithin(limit) => settles_within(world, limit),
+        _ => is(world, call),
+    }
+}
+
+// Whether a world is as a call says that only looks.
+fn is(world: &World, call: Call) -> bool {
+    match call {
+        Call::NextSizes(node, at, want) => world.next_sizes(node, at) == want,
+        Call::Claimed(count) => world.claimed() == count,
+        Call::Word(i, word) => world.word(i) == word,
+        Call::Holder(end, node) => world.holder_of(end) == node,
+        Call::Limit(limit) => world.settle_limit() == Some(limit),
+        Call::Routers(node, count) => world.routers(node) == count,
+        _ => false,
+    }
+}
+
+// The step that puts so many bytes of no value.
+fn wide(alloc: Global, node: u8, at: End, count: usize) -> Result<Step, AllocError> {
+    Ok(Step::PutWide {
+        node,
+        at,
+        bytes: bytes_of(alloc, 0, count)?,
+        ends: Sequence::from_vec(Vec::new(alloc)),
+    })
+}
+
+// The step that a call says is refused, with why.
+fn refused(alloc: Global, call: Call) -> Result<Option<(Step, Refusal)>, AllocError> {
+    match call {
+        Call::OpenRefused(node, why) => Ok(Some((Step::Open(node), why))),
+        Call::PutRefused(node, at, ends, why) => {
+            Ok(Some((put(alloc, node, at, b"b", ends)?, why)))
+        }
+        Call::GetRefused(node, at, why) => Ok(Some((get(node, at), why))),
+        Call::WideRefused(node, at, count, why) => Ok(Some((wide(alloc, node, at, count)?, why))),
+        Call::CloseRefused(node, at, why) => Ok(Some((Step::Close { node, at }, why))),
+        Call::TurnRefused(node, why) => Ok(Some((Step::Turn(node), why))),
+        _ => Ok(None),
     }
 }
 
 // Whether a call is refused as it should be.
 fn refuses(world: &mut World, alloc: Global, call: Call) -> Result<bool, AllocError> {
-    let (step, why) = match call {
-        Call::OpenRefused(node, why) => (Step::Open(node), why),
-        Call::PutRefused(node, at, ends, why) => (put(alloc, node, at, b"b", ends)?, why),
-        Call::GetRefused(node, at, why) => (get(node, at), why),
-        Call::WideRefused(node, at, count, why) => {
-            let bytes = Sequence::from_vec(vec![in alloc; 0; count]?);
-            let ends = Sequence::from_vec(Vec::new(alloc));
-            (
-                Step::PutWide {
-                    node,
-                    at,
-                    bytes,
-                    ends,
-                },
-                why,
-            )
-        }
-        Call::CloseRefused(node, at, why) => (Step::Close { node, at }, why),
-        Call::TurnRefused(node, why) => (Step::Turn(node), why),
-        _ => return Ok(false),
-    };
-    Ok(is_refused(&world.step(&step), why))
+    match refused(alloc, call)? {
+        Some((step, why)) => Ok(is_refused(&world.step(&step), why)),
+        None => Ok(false),
+    }
 }
 
-/// How many of these calls on a world give what they should, up to the first that doesn't.
-pub fn given(world: &mut World, alloc: Global, calls: &[Call]) -> Result<usize, AllocError> {
+/// The first of these calls on a world that doesn't give what it should.
+pub fn first_wrong(
+    world: &mut World,
+    alloc: Global,
+    calls: &[Call],
+) -> Result<Option<usize>, AllocError> {
     for (i, call) in calls.iter().enumerate() {
         if !gives(world, alloc, *call)? {
-            return Ok(i);
+            return Ok(Some(i));
         }
     }
-    Ok(calls.len())
+    Ok(None)
 }

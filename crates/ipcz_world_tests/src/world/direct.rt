@@ -12,7 +12,6 @@ use ipcz_base::{End, Refusal, Side};
 use ipcz_world::laws::a_settled_world_is_direct;
 use ipcz_world::{Settled, Step, World};
 use std::alloc::Global;
-use std::test::Fail;
 
 // A parcel that is put at one end and got at its peer: at which node each is done, its number, and what it carries.
 struct Carried {
@@ -30,7 +29,7 @@ const MOVED: End = End {
 
 // The end 3B goes from node 0 by node 1 to node 2, and each time leaves a proxy that is bypassed. What is put at 3A before, between and
 // after arrives there, in order, and so does what goes back.
-const CARRIED: [Carried; 5] = [
+static CARRIED: [Carried; 5] = [
     Carried {
         from: (
             0,
@@ -121,32 +120,46 @@ fn settles(world: &mut World, limit: u64) -> Result<bool, Refusal>
     Ok(matches!(world.settle(limit)?, Settled::Settled { .. }))
 }
 
-// Whether a parcel is put, the world settles, and the parcel is got, and nothing after it.
-fn arrives(world: &mut World, alloc: Global, parcel: &Carried) -> Result<bool, Refusal> {
-    let step = put(
-        alloc,
-        parcel.from.0,
-        parcel.from.1,
-        parcel.data,
-        parcel.ends,
-    )?;
-    let accepted = is_put(&world.step(&step), parcel.number);
-    let settled = settles(world, 1000)?;
-    let next = get(parcel.to.0, parcel.to.1);
-    let got = is_got(&world.step(&next), parcel.number, parcel.data, parcel.ends);
-    let empty = is_refused(&world.step(&next), Refusal::Empty);
-    Ok(accepted && settled && got && empty)
+// Whether a parcel is put under its number.
+fn is_accepted(world: &mut World, alloc: Global, parcel: &Carried) -> Result<bool, Refusal> {
+    let (node, at) = parcel.from;
+    let step = put(alloc, node, at, parcel.data, parcel.ends)?;
+    Ok(is_put(&world.step(&step), parcel.number))
 }
 
-#[test]
-fn all_arrives_at_a_portal_that_has_moved_twice(rt: HostRuntime) -> Result<(), Fail> {
-    let alloc = rt.alloc();
-    let mut world = World::new(alloc, 3, 8)?;
+// Whether a parcel is got, and nothing after it.
+fn is_next(world: &mut World, parcel: &Carried) -> bool {
+    let next = get(parcel.to.0, parcel.to.1);
+    let got = is_got(&world.step(&next), parcel.number, parcel.data, parcel.ends);
+    got && is_refused(&world.step(&next), Refusal::Empty)
+}
+
+// Whether a parcel is put, the world settles, and the parcel is got, and nothing after it.
+fn arrives(world: &mut World, alloc: Global, parcel: &Carried) -> Result<bool, Refusal> {
+    let accepted = is_accepted(world, alloc, parcel)?;
+    let settled = settles(world, 1000)?;
+    Ok(accepted && settled && is_next(world, parcel))
+}
+
+// Whether each parcel arrives.
+fn all_arrive(world: &mut World, alloc: Global) -> Result<bool, Refusal> {
     world.step(&Step::Open(0));
-    for parcel in &CARRIED {
-        assert!(rt; arrives(&mut world, alloc, parcel)?);
+    for parcel in CARRIED.iter() {
+        if !arrives(world, alloc, parcel)? {
+            return Ok(false);
+        }
     }
-    // Three words for the first pairs, one for the open and one for each bypass: words were left.
-    assert_eq!(rt; world.claimed(), 6);
-    Ok(())
+    Ok(true)
+}
+
+// How many words are claimed on a new world in which each parcel arrives; none if one doesn't.
+fn claimed_by_all(alloc: Global) -> Result<Option<u32>, Refusal> {
+    let mut world = World::new(alloc, 3, 8)?;
+    Ok(all_arrive(&mut world, alloc)?.then_some(world.claimed()))
+}
+
+// Three words for the first pairs, one for the open and one for each bypass: words were left.
+#[test]
+fn all_arrives_at_a_portal_that_has_moved_twice(rt: HostRuntime) {
+    assert_eq!(rt; claimed_by_all(rt.alloc()), Ok(Some(6)));
 }

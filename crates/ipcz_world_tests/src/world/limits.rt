@@ -1,10 +1,10 @@
 //! The limit of a world is enough for a settle if no parcel that wasn't got carries portals.
 
-use super::calls::{Call, given};
-use super::{A0, B0, a, b, get, is_got, is_put, put};
+use super::calls::Call;
+use super::{A0, B0, a, all_go, b, get, is_got, is_put, put};
+use ipcz_base::{End, Refusal};
 use ipcz_world::{Settled, Step, World};
 use std::alloc::{AllocError, Global};
-use std::test::Fail;
 
 // The limits of terminals and proxies that have passed all that was put: 6 for each of the two marks and for Gone of each end, and 17
 // or 61.
@@ -32,7 +32,7 @@ fn settles_within_its_limit(world: &mut World) -> bool {
 }
 
 // A parcel has to pass both terminals. It is sent, and waits to be posted; then it is in the mailbox, and in hand.
-const CALLS: [Call; 15] = [
+static CALLS: [Call; 15] = [
     Call::Limit(2 * TERMINAL),
     Call::Settle(0, Some(0)),
     Call::Put(0, A0, b"a", &[], 0),
@@ -57,57 +57,87 @@ const CALLS: [Call; 15] = [
 ];
 
 #[test]
-fn the_limit_is_read_off_the_world(rt: HostRuntime) -> Result<(), Fail> {
-    let mut world = World::new(rt.alloc(), 2, 4)?;
-    assert_eq!(rt; given(&mut world, rt.alloc(), &CALLS)?, CALLS.len());
+fn the_limit_is_read_off_the_world(rt: HostRuntime) {
+    all_go(&rt, rt.alloc(), 2, 4, &CALLS);
+}
+
+// Puts a portal in a parcel to node 1.
+fn sends(world: &mut World, alloc: Global, data: &[u8], moved: End) -> Result<(), AllocError> {
+    let step = put(alloc, 0, a(0), data, &[moved])?;
+    world.step(&step);
     Ok(())
 }
 
-// Both portals of a pair have moved from node 0 to node 1, where they were got: two proxies share the pair's link.
-fn moved(alloc: Global) -> Result<Option<World>, AllocError> {
-    let Ok(mut world) = World::new(alloc, 2, 8) else {
-        return Err(AllocError);
-    };
+// Whether both portals are got at node 1.
+fn both_are_got(world: &mut World) -> bool {
+    let first = is_got(&world.step(&get(1, b(0))), 0, b"x", &[a(1)]);
+    let second = is_got(&world.step(&get(1, b(0))), 1, b"y", &[b(1)]);
+    first && second
+}
+
+// Moves both portals of a pair from node 0 to node 1, where they are got: two proxies share the pair's link.
+fn both_move(world: &mut World, alloc: Global) -> Result<bool, AllocError> {
     world.step(&Step::Open(0));
-    world.step(&put(alloc, 0, a(0), b"x", &[a(1)])?);
-    world.step(&put(alloc, 0, a(0), b"y", &[b(1)])?);
+    sends(world, alloc, b"x", a(1))?;
+    sends(world, alloc, b"y", b(1))?;
     // Each parcel is sent, posted, looked at and handed over.
     for node in [0, 0, 1, 1, 0, 0, 1, 1] {
         world.step(&Step::Turn(node));
     }
-    let first = is_got(&world.step(&get(1, b(0))), 0, b"x", &[a(1)]);
-    let second = is_got(&world.step(&get(1, b(0))), 1, b"y", &[b(1)]);
-    if first && second {
-        Ok(Some(world))
-    } else {
-        Ok(None)
+    Ok(both_are_got(world))
+}
+
+/// Whether a lock was held, and whether a side waited for the other.
+#[derive(Drop)]
+struct Seen {
+    locked: bool,
+    waiting: bool,
+}
+
+// Looks at each word.
+fn look(world: &World, seen: &mut Seen) {
+    for word in 0..world.claimed() {
+        let number = world.word(word).unwrap_or(0);
+        seen.locked |= number & 48 != 0;
+        seen.waiting |= number & 12 != 0;
     }
+}
+
+// Puts a parcel, and takes so many turns; whether the limit that is then told is enough, and no proxy is left.
+fn both_leave(
+    world: &mut World,
+    alloc: Global,
+    turns: usize,
+    seen: &mut Seen,
+) -> Result<bool, AllocError> {
+    let before = world.settle_limit() == Some(4 * TERMINAL + 2 * PROXY);
+    let step = put(alloc, 1, a(1), b"z", &[])?;
+    let accepted = is_put(&world.step(&step), 0);
+    take_turns(world, turns);
+    look(world, seen);
+    let settled = settles_within_its_limit(world);
+    let got = is_got(&world.step(&get(1, b(1))), 0, b"z", &[]);
+    let after = world.settle_limit() == Some(4 * TERMINAL);
+    Ok(before && accepted && settled && got && after)
+}
+
+// The same, on a new world in which both portals have moved.
+fn both_leave_after(alloc: Global, turns: usize, seen: &mut Seen) -> Result<bool, Refusal> {
+    let mut world = World::new(alloc, 2, 8)?;
+    Ok(both_move(&mut world, alloc)? && both_leave(&mut world, alloc, turns, seen)?)
 }
 
 // However far the two bypasses have come: a lock is held for a while, and for a while a side waits for the other.
 #[test]
-fn the_limit_is_enough_while_proxies_leave(rt: HostRuntime) -> Result<(), Fail> {
-    let alloc = rt.alloc();
-    let (mut locked, mut waiting) = (false, false);
+fn the_limit_is_enough_while_proxies_leave(rt: HostRuntime) {
+    let mut seen = Seen {
+        locked: false,
+        waiting: false,
+    };
     for turns in 0..80usize {
-        let Some(mut world) = moved(alloc)? else {
-            assert!(rt; false, "the portals haven't moved");
-            return Ok(());
-        };
-        assert_eq!(rt; world.settle_limit(), Some(4 * TERMINAL + 2 * PROXY));
-        assert!(rt; is_put(&world.step(&put(alloc, 1, a(1), b"z", &[])?), 0));
-        take_turns(&mut world, turns);
-        for word in 0..world.claimed() {
-            let number = world.word(word).unwrap_or(0);
-            locked |= number & 48 != 0;
-            waiting |= number & 12 != 0;
-        }
-        assert!(rt; settles_within_its_limit(&mut world), "{turns}");
-        assert!(rt; is_got(&world.step(&get(1, b(1))), 0, b"z", &[]));
-        // No proxy is left.
-        assert_eq!(rt; world.settle_limit(), Some(4 * TERMINAL), "{turns}");
+        let left = both_leave_after(rt.alloc(), turns, &mut seen);
+        assert_eq!(rt; left, Ok(true), "{turns}");
     }
-    assert!(rt; locked);
-    assert!(rt; waiting);
-    Ok(())
+    assert!(rt; seen.locked);
+    assert!(rt; seen.waiting);
 }

@@ -2,15 +2,14 @@
 
 ghost use Rattle.ipcz_world.specs.Lawful.{IsWithinLimits};
 
-use super::calls::{Call, given};
-use super::{A0, A1, B0, B1};
+use super::calls::{Call, first_wrong};
+use super::{A0, A1, B0, B1, all_go};
 use ipcz_base::Refusal;
 use ipcz_world::World;
 use std::alloc::Global;
-use std::test::Fail;
 
 // Both ends of a pair on one node are closed, and the first one retires. A word stays locked for good.
-const ONE_NODE: [Call; 12] = [
+static ONE_NODE: [Call; 12] = [
     Call::Routers(0, Some(0)),
     Call::Routers(1, None),
     Call::Open(0, A0, B0),
@@ -52,20 +51,13 @@ const ONE_NODE: [Call; 12] = [
     Call::Word(0, Some(19)),
 ];
 
-// How many calls give what they should, on a world of so many words.
-fn given_on_one_node(alloc: Global, calls: &[Call]) -> Result<usize, Refusal> {
-    let mut world = World::new(alloc, 1, 1)?;
-    Ok(given(&mut world, alloc, calls)?)
-}
-
 #[test]
-fn a_closed_pair_leaves_one_node(rt: HostRuntime) -> Result<(), Fail> {
-    assert_eq!(rt; given_on_one_node(rt.alloc(), &ONE_NODE)?, ONE_NODE.len());
-    Ok(())
+fn a_closed_pair_leaves_one_node(rt: HostRuntime) {
+    all_go(&rt, rt.alloc(), 1, 1, &ONE_NODE);
 }
 
 // The end 1B moves from node 0 to node 1, where it is got.
-const MOVES: [Call; 4] = [
+static MOVES: [Call; 4] = [
     Call::Open(0, A1, B1),
     Call::Put(0, A0, b"m", &[B1], 0),
     Call::SettleWithin(1000),
@@ -73,7 +65,7 @@ const MOVES: [Call; 4] = [
 ];
 
 // The proxy that it left, router 2 of node 0, has found no word, and leaves behind Gone.
-const WITHOUT_A_WORD: [Call; 10] = [
+static WITHOUT_A_WORD: [Call; 10] = [
     Call::Routers(0, Some(3)),
     Call::Routers(1, Some(2)),
     Call::Close(0, A1, 0),
@@ -87,7 +79,7 @@ const WITHOUT_A_WORD: [Call; 10] = [
 ];
 
 // Its proxy was bypassed, and the two terminals share a link. That of node 1 is the first to lock it.
-const AFTER_A_BYPASS: [Call; 15] = [
+static AFTER_A_BYPASS: [Call; 15] = [
     Call::Routers(0, Some(2)),
     Call::Routers(1, Some(2)),
     Call::Close(0, A1, 0),
@@ -143,38 +135,30 @@ const AFTER_A_BYPASS: [Call; 15] = [
     Call::Routers(2, None),
 ];
 
-// How many calls after the move give what they should, on a world of two nodes and so many words.
-fn given_after_the_move(alloc: Global, words: u32, calls: &[Call]) -> Result<usize, Refusal>
+// Whether the end moves on a new world of two nodes and so many words, and then these calls give what they should.
+fn goes_on(alloc: Global, words: u32, calls: &[Call]) -> Result<bool, Refusal>
     requires { IsWithinLimits 2 words }
 {
     let mut world = World::new(alloc, 2, words)?;
-    if given(&mut world, alloc, &MOVES)? < MOVES.len() {
-        return Err(Refusal::Empty);
-    }
-    Ok(given(&mut world, alloc, calls)?)
+    Ok(
+        first_wrong(&mut world, alloc, &MOVES)?.is_none()
+            && first_wrong(&mut world, alloc, calls)?.is_none(),
+    )
 }
 
 #[test]
-fn a_proxy_without_a_word_leaves_behind_gone(rt: HostRuntime) -> Result<(), Fail> {
-    assert_eq!(rt;
-        given_after_the_move(rt.alloc(), 2, &WITHOUT_A_WORD)?,
-        WITHOUT_A_WORD.len()
-    );
-    Ok(())
+fn a_proxy_without_a_word_leaves_behind_gone(rt: HostRuntime) {
+    assert_eq!(rt; goes_on(rt.alloc(), 2, &WITHOUT_A_WORD), Ok(true));
 }
 
 #[test]
-fn a_closed_pair_leaves_two_nodes_after_a_bypass(rt: HostRuntime) -> Result<(), Fail> {
-    assert_eq!(rt;
-        given_after_the_move(rt.alloc(), 8, &AFTER_A_BYPASS)?,
-        AFTER_A_BYPASS.len()
-    );
-    Ok(())
+fn a_closed_pair_leaves_two_nodes_after_a_bypass(rt: HostRuntime) {
+    assert_eq!(rt; goes_on(rt.alloc(), 8, &AFTER_A_BYPASS), Ok(true));
 }
 
 // Both ends have moved from node 0 to node 1, and neither proxy has found a word. No sink has a link with a word, so none can lock it: such
 // a pair stays though both its ends are closed.
-const BETWEEN_PROXIES: [Call; 10] = [
+static BETWEEN_PROXIES: [Call; 10] = [
     Call::Open(0, A1, B1),
     Call::Put(0, A0, b"m", &[A1, B1], 0),
     Call::SettleWithin(1000),
@@ -187,19 +171,9 @@ const BETWEEN_PROXIES: [Call; 10] = [
     Call::Routers(1, Some(3)),
 ];
 
-// How many calls give what they should, on a world of two nodes and two words.
-fn given_on_two_nodes(alloc: Global, calls: &[Call]) -> Result<usize, Refusal> {
-    let mut world = World::new(alloc, 2, 2)?;
-    Ok(given(&mut world, alloc, calls)?)
-}
-
 #[test]
-fn a_closed_pair_stays_between_two_proxies_without_a_word(rt: HostRuntime) -> Result<(), Fail> {
-    assert_eq!(rt;
-        given_on_two_nodes(rt.alloc(), &BETWEEN_PROXIES)?,
-        BETWEEN_PROXIES.len()
-    );
-    Ok(())
+fn a_closed_pair_stays_between_two_proxies_without_a_word(rt: HostRuntime) {
+    all_go(&rt, rt.alloc(), 2, 2, &BETWEEN_PROXIES);
 }
 
 // The limits of a terminal that has nothing to pass, and of each number that it has still to pass.
@@ -209,7 +183,7 @@ const NUMBER: u64 = 6;
 
 // Once the first sink has retired, what its end has put is told only by Gone: in an outbox, in a mailbox, in hand, and in the queue of
 // the other sink, which has the mark and Gone still to drop.
-const LIMITS: [Call; 20] = [
+static LIMITS: [Call; 20] = [
     Call::Open(0, A0, B0),
     Call::Close(0, A0, 0),
     Call::Close(0, B0, 0),
@@ -251,7 +225,6 @@ const LIMITS: [Call; 20] = [
 ];
 
 #[test]
-fn the_limit_counts_what_gone_tells(rt: HostRuntime) -> Result<(), Fail> {
-    assert_eq!(rt; given_on_one_node(rt.alloc(), &LIMITS)?, LIMITS.len());
-    Ok(())
+fn the_limit_counts_what_gone_tells(rt: HostRuntime) {
+    all_go(&rt, rt.alloc(), 1, 1, &LIMITS);
 }

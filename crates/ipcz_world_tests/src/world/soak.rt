@@ -7,7 +7,6 @@ use super::{get, is_got, is_put, is_refused, put};
 use ipcz_base::{End, Refusal, Side};
 use ipcz_world::{Reply, Settled, Step, World};
 use std::alloc::{AllocError, Global};
-use std::test::Fail;
 
 const NODES: u8 = 4;
 
@@ -330,26 +329,29 @@ impl Soak {
         }
         self.settle()
     }
+
+    // Uses up the words. At the end no router is left.
+    fn live_and_die(&mut self) -> Result<(), Wrong> {
+        let (rounds, first, second) = self.use_words()?;
+        agree(self.world.claimed() == WORDS, Wrong::Words)?;
+        agree(rounds > 100, Wrong::Words)?;
+        self.close(first, rounds)?;
+        self.close(second, rounds)?;
+        self.settle()?;
+        agree(self.has_each(3), Wrong::Routers)?;
+        self.close_first_pairs()?;
+        agree(self.has_each(0), Wrong::Routers)
+    }
 }
 
-// Uses up the words of a new world. At the end no router is left.
+// The same, with a new world.
 fn live_and_die(alloc: Global) -> Result<(), Wrong> {
-    let mut soak = Soak::new(alloc)?;
-    let (rounds, first, second) = soak.use_words()?;
-    agree(soak.world.claimed() == WORDS, Wrong::Words)?;
-    agree(rounds > 100, Wrong::Words)?;
-    soak.close(first, rounds)?;
-    soak.close(second, rounds)?;
-    soak.settle()?;
-    agree(soak.has_each(3), Wrong::Routers)?;
-    soak.close_first_pairs()?;
-    agree(soak.has_each(0), Wrong::Routers)
+    Soak::new(alloc)?.live_and_die()
 }
 
 #[test]
-fn closed_pairs_leave_their_words_alone(rt: HostRuntime) -> Result<(), Fail> {
+fn closed_pairs_leave_their_words_alone(rt: HostRuntime) {
     for _world in 0..WORLDS {
         assert_eq!(rt; live_and_die(rt.alloc()), Ok(()));
     }
-    Ok(())
 }
