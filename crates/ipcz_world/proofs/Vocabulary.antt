@@ -49,7 +49,7 @@ pub use Rattle.ipcz_world.specs.Standing.{Standing, has_decaying, has_inward_dec
 unfoldable pub use Rattle.ipcz_world.specs.Standing.{fed_queue, is_attached, is_awaited, is_gone, key_passes, next_sent, passes}
 unfoldable pub use Rattle.ipcz_world.specs.Standing.{router_view, sending_queue, taking_queue, view_by}
 unfoldable pub use Rattle.ipcz_world.specs.Steps.{unless}
-pub use Rattle.ipcz_world.specs.Structure.{Counts, HasLinks, HasPositions, HasShape, IsOrdered, IsRecorded, Links, Ordered, Positions, Shape, Spares, Stands, Words}
+pub use Rattle.ipcz_world.specs.Structure.{Counts, HasLinks, HasPositions, HasShape, HasWord, IsOrdered, IsRecorded, Links, Ordered, Positions, Shape, Spares, Stands, Words}
 unfoldable pub use Rattle.ipcz_world.specs.Structure.{is_outward}
 unfoldable pub use Rattle.ipcz_world.specs.Turns.{after_act, can_take, hand_message}
 pub use Rattle.ipcz_world.specs.Whereabouts.{BooksKept, Conserved, EndPlaces, HasEndsHere, HasTerminal, HeldOnce, Terminals, times_held}

@@ -36,6 +36,7 @@ pub mod StandingRules
 pub mod Sourcing
 pub mod Touching
 pub mod Unmoved
+pub mod WordsKept
 pub mod LeftOff
 pub mod LeftRecords
 pub mod LinksKept

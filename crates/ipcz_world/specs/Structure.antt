@@ -183,23 +183,27 @@ abbrev pub AreSourced : World → Type 0
 AreSourced w = (k : Key) (r : Router) (e : LinkEnd) (i : ℕ) → router_at w k ≡ Some r → r.holds ≡ true → r.outward.primary ≡ Some e →
     e.link ≡ Central i → (word_at w i).source ≡ source_of r
 
--- what the words say; the source is the node inward of the proxy that holds the lock, until the router across has accepted
-pub record Words (w : World) (g : Records) : Type 0 where
-  pub unused : (i : ℕ) → is_linked (g.owner i) ≡ false → word_at w i ≡ empty_word
-  pub begun_stable : (i : ℕ) (s : Side) → is_begun (g.bypass i) ≡ true → has (word_at w i).stable s ≡ true
-  pub begun_holder : (i : ℕ) (s : Side) → is_begun (g.bypass i) ≡ true → has (word_at w i).holder s ≡ same_side s (proxy_side g i)
-  pub stable : (i : ℕ) (s : Side) → is_linked (g.owner i) ≡ true → is_begun (g.bypass i) ≡ false → is_left g (Central i) s ≡ false →
+-- what the word of a link says; its source is the node inward of the proxy that holds the lock, until the router across has accepted
+pub record HasWord (w : World) (g : Records) (i : ℕ) : Type 0 where
+  pub unused : is_linked (g.owner i) ≡ false → word_at w i ≡ empty_word
+  pub begun_stable : (s : Side) → is_begun (g.bypass i) ≡ true → has (word_at w i).stable s ≡ true
+  pub begun_holder : (s : Side) → is_begun (g.bypass i) ≡ true → has (word_at w i).holder s ≡ same_side s (proxy_side g i)
+  pub stable : (s : Side) → is_linked (g.owner i) ≡ true → is_begun (g.bypass i) ≡ false → is_left g (Central i) s ≡ false →
       has (word_at w i).stable s ≡ key_passes w (side_router g (Central i) s) (λ r. r.marked)
-  pub holder : (i : ℕ) (s : Side) → is_linked (g.owner i) ≡ true → is_begun (g.bypass i) ≡ false → is_left g (Central i) s ≡ false →
+  pub holder : (s : Side) → is_linked (g.owner i) ≡ true → is_begun (g.bypass i) ≡ false → is_left g (Central i) s ≡ false →
       has (word_at w i).holder s ≡ key_passes w (side_router g (Central i) s) (λ r. r.holds)
-  pub held_stable : (i : ℕ) (s t : Side) → has (word_at w i).holder s ≡ true → has (word_at w i).stable t ≡ true
-  pub one_holder : (i : ℕ) (s t : Side) → has (word_at w i).holder s ≡ true → has (word_at w i).holder t ≡ true → s ≡ t
+  pub held_stable : (s t : Side) → has (word_at w i).holder s ≡ true → has (word_at w i).stable t ≡ true
+  pub one_holder : (s t : Side) → has (word_at w i).holder s ≡ true → has (word_at w i).holder t ≡ true → s ≡ t
   -- the side that was left first holds the lock for good
-  pub left_held : (i : ℕ) (s : Side) → is_left g (Central i) s ≡ true →
+  pub left_held : (s : Side) → is_left g (Central i) s ≡ true →
       ((is_left g (Central i) A && has (word_at w i).holder A) || (is_left g (Central i) B && has (word_at w i).holder B)) ≡ true
+  pub begun_source : is_begun (g.bypass i) ≡ true → (g.bypass i).stage ≤ 2 →
+      (word_at w i).source ≡ Some (side_node g (inner_link (g.bypass i).inner) B)
+
+-- so does each word, and the word of a router that holds the lock names the node inward of it
+pub record Words (w : World) (g : Records) : Type 0 where
+  pub each : (i : ℕ) → HasWord w g i
   pub source : AreSourced w
-  pub begun_source : (o : ℕ) → is_begun (g.bypass o) ≡ true → (g.bypass o).stage ≤ 2 →
-      (word_at w o).source ≡ Some (side_node g (inner_link (g.bypass o).inner) B)
 
 -- whose the words are that aren't links yet
 pub record Spares (w : World) (g : Records) : Type 0 where

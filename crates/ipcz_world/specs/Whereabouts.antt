@@ -51,7 +51,7 @@ pub record HasEndsHere (g : Records) (k : Key) (r : Router) : Type 0 where
   pub inn : (n : ℕ) (item : Item) (e : End) → item_at r.in_queue n ≡ Some item → has_end e (ends_in item) ≡ true →
       terminal_node (g.terminal e) ≡ Some k.node
 
--- and so has one that is held, pending, or under way within a node, at this node
+-- an end that is held or pending at a node, or under way within one, has its terminal at this node, as has each in its routers' queues
 pub record EndPlaces (w : World) (g : Records) : Type 0 where
   pub held : (n : ℕ) (e : End) → holds_end (node_at w n) e ≡ true → terminal_node (g.terminal e) ≡ Some n
   pub pending : (n : ℕ) (e : End) → has_end e (node_at w n).pending ≡ true → terminal_node (g.terminal e) ≡ Some n

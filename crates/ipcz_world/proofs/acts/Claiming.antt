@@ -78,21 +78,24 @@ inv-claim w b g k r law can left = record {
   positions = positions-owned v b g i (Spare k) unlinked refl (positions-gives w v g k r (Some y) gives law.positions);
   stands = stands-owned v b g i (Spare k) unlinked refl (stands-gives w v g k r (Some y) gives (stays_bare r y) law.stands);
   words = record {
-    unused = λ j a. grind (arith, frames, law.words.unused j, linked j, a);
-    begun_stable = λ j s a. grind (arith, frames, law.words.begun_stable j s, a);
-    begun_holder = λ j s a. grind (arith, frames, law.words.begun_holder j s, a);
-    stable = λ j s l a n. ap (λ x. has x.stable s) (word j) ∙ law.words.stable j s (sym (linked j) ∙ l) a n ∙ sym
-        (flag (λ z. z.marked) refl (side_router g (Central j) s));
-    holder = λ j s l a n. ap (λ x. has x.holder s) (word j) ∙ law.words.holder j s (sym (linked j) ∙ l) a n ∙ sym
-        (flag (λ z. z.holds) refl (side_router g (Central j) s));
-    held_stable = λ j s t a. grind (arith, frames, law.words.held_stable j s t, a);
-    one_holder = λ j s t a d. grind (arith, frames, law.words.one_holder j s t, a, d);
+    each = λ j. record {
+      unused = λ a. grind (arith, frames, (law.words.each j).unused, linked j, a);
+      begun_stable = λ s a. grind (arith, frames, (law.words.each j).begun_stable s, a);
+      begun_holder = λ s a. grind (arith, frames, (law.words.each j).begun_holder s, a);
+      stable = λ s l a n. ap (λ x. has x.stable s) (word j) ∙ (law.words.each j).stable s (sym (linked j) ∙ l) a n ∙ sym
+          (flag (λ z. z.marked) refl (side_router g (Central j) s));
+      holder = λ s l a n. ap (λ x. has x.holder s) (word j) ∙ (law.words.each j).holder s (sym (linked j) ∙ l) a n ∙ sym
+          (flag (λ z. z.holds) refl (side_router g (Central j) s));
+      held_stable = λ s t a. grind (arith, frames, (law.words.each j).held_stable s t, a);
+      one_holder = λ s t a d. grind (arith, frames, (law.words.each j).one_holder s t, a, d);
+      begun_source = λ h l. ap (λ (x : Word). x.source) (word j) ∙ (law.words.each j).begun_source h l;
+      left_held = λ s h.
+          ap (λ (x : Word). (has (g.central j).left A && has x.holder A) || (has (g.central j).left B && has x.holder B)) (word j) ∙
+          (law.words.each j).left_held s h;
+    };
     source = sourced-by w v (had-one w v k r y one.routers
         (λ h. record { router = r; at = can.here; primary = refl; inward = refl; holds = λ h. h }))
         (λ q z e j at p l. ap (λ (x : Word). x.source) (word j)) law.words.source;
-    begun_source = λ o h l. ap (λ (x : Word). x.source) (word o) ∙ law.words.begun_source o h l;
-    left_held = λ j s h. ap (λ (x : Word). (has (g.central j).left A && has x.holder A) || (has (g.central j).left B && has x.holder B)) (word j) ∙
-        law.words.left_held j s h;
   };
   spares = record {
     spare = λ q z j at e. grind (arith, one.routers q, same_key_tells q k, law.spares.spare q z j, mine, e, at, nat_tests);

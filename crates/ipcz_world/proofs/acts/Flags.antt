@@ -179,20 +179,22 @@ pub words-touched : (w v : World) (b : Books) (g : Records) (k : Key) (r y : Rou
     router_at w k ≡ Some r → OnWord w g k r i → is_begun (g.bypass i) ≡ false → SameButRouter w v k (Some y) → IsFlagged r y →
     ((j : ℕ) → word_at v j ≡ cond (nat_eq j i) x (word_at w j)) → Touches (word_at w i) x y → Words v g
 words-touched w v b g k r y i x law here on live one same words touch = record {
-  unused = λ j h. grind (arith, words j, law.words.unused j, on.linked, nat_tests, h);
-  begun_stable = λ j s h. grind (arith, words j, law.words.begun_stable j s, live, nat_tests, h);
-  begun_holder = λ j s h. grind (arith, words j, law.words.begun_holder j s, live, nat_tests, h);
-  stable = λ j s l h n. agree (λ z. has z.stable) (λ z. z.marked) law.words.stable touch.stable touch.stable_other j s l h n
-      (side_router g (Central j) s) refl;
-  holder = λ j s l h n. agree (λ z. has z.holder) (λ z. z.holds) law.words.holder touch.holder touch.holder_other j s l h n
-      (side_router g (Central j) s) refl;
-  left_held = λ j s h. left j s h (nat_eq j i) refl;
-  held_stable = λ j s t h. grind (arith, words j, law.words.held_stable j s t, touch.held_stable s t, nat_tests, h);
-  one_holder = λ j s t a c. grind (arith, words j, law.words.one_holder j s t, touch.one_holder s t, nat_tests, a, c);
+  each = λ j. record {
+    unused = λ h. grind (arith, words j, (law.words.each j).unused, on.linked, nat_tests, h);
+    begun_stable = λ s h. grind (arith, words j, (law.words.each j).begun_stable s, live, nat_tests, h);
+    begun_holder = λ s h. grind (arith, words j, (law.words.each j).begun_holder s, live, nat_tests, h);
+    stable = λ s l h n. agree (λ z. has z.stable) (λ z. z.marked) (λ i. (law.words.each i).stable) touch.stable touch.stable_other j s l h n
+        (side_router g (Central j) s) refl;
+    holder = λ s l h n. agree (λ z. has z.holder) (λ z. z.holds) (λ i. (law.words.each i).holder) touch.holder touch.holder_other j s l h n
+        (side_router g (Central j) s) refl;
+    left_held = λ s h. left j s h (nat_eq j i) refl;
+    held_stable = λ s t h. grind (arith, words j, (law.words.each j).held_stable s t, touch.held_stable s t, nat_tests, h);
+    one_holder = λ s t a c. grind (arith, words j, (law.words.each j).one_holder s t, touch.one_holder s t, nat_tests, a, c);
+    begun_source = λ h l. ap (λ (z : Word). z.source) (words j) ∙ ap (λ (z : Word). z.source)
+        (ap (λ c. cond c x (word_at w j)) (apart j h)) ∙
+        (law.words.each j).begun_source h l;
+  };
   source = λ q z e j at h p l. sourced q z e j at h p l (same_key_tells q k) (nat_eq j i) refl;
-  begun_source = λ o h l. ap (λ (z : Word). z.source) (words o) ∙ ap (λ (z : Word). z.source)
-      (ap (λ c. cond c x (word_at w o)) (apart o h)) ∙
-      law.words.begun_source o h l;
 }
   where
     -- the router of a live link's side is this one only there
@@ -228,7 +230,7 @@ words-touched w v b g k r y i x law here on live one same words touch = record {
     -- a side that was left holds the lock still
     left : (j : ℕ) (s : Side) → is_left g (Central j) s ≡ true → (c : Bool) → nat_eq j i ≡ c →
         ((is_left g (Central j) A && has (word_at v j).holder A) || (is_left g (Central j) B && has (word_at v j).holder B)) ≡ true
-    left j s h false e = rw (words j ∙ ap (λ c. cond c x (word_at w j)) e) (law.words.left_held j s h)
+    left j s h false e = rw (words j ∙ ap (λ c. cond c x (word_at w j)) e) ((law.words.each j).left_held s h)
     left j s h true e = let z : j ≡ i = grind (arith, e, nat_tests) in
         rw (z, words i ∙ ap (λ c. cond c x (word_at w i)) (nat_eq-itself i)) (across r.end.side refl)
       where
@@ -247,11 +249,11 @@ words-touched w v b g k r y i x law here on live one same words touch = record {
         across A f = let a : is_left g (Central i) A ≡ false = ap (is_left g (Central i)) (sym f) ∙ stays in
             let o : has x.holder B ≡ has (word_at w i).holder B = ap (λ t. has x.holder (opposite t)) (sym f) ∙ other ∙
             ap (λ t. has (word_at w i).holder (opposite t)) f in
-            rw (a, o) (rw (a) at (law.words.left_held i s at_i))
+            rw (a, o) (rw (a) at ((law.words.each i).left_held s at_i))
         across B f = let a : is_left g (Central i) B ≡ false = ap (is_left g (Central i)) (sym f) ∙ stays in
             let o : has x.holder A ≡ has (word_at w i).holder A = ap (λ t. has x.holder (opposite t)) (sym f) ∙ other ∙
             ap (λ t. has (word_at w i).holder (opposite t)) f in
-            rw (a, o) (rw (a) at (law.words.left_held i s at_i))
+            rw (a, o) (rw (a) at ((law.words.each i).left_held s at_i))
 
     -- a bit of the words tells a flag of the routers
     agree : (bit : Word → Side → Bool) (flag : Router → Bool) → ((j : ℕ) (s : Side) → is_linked (g.owner j) ≡ true →
@@ -302,7 +304,7 @@ words-touched w v b g k r y i x law here on live one same words touch = record {
         passed = grind (arith, standing_rules, at_i, there, h)
 
         held : has (word_at w i).holder e.side ≡ true
-        held = law.words.holder i e.side on.linked live (not_left w g (Central i) e.side q z law.stands at_i there) ∙ passed
+        held = (law.words.each i).holder e.side on.linked live (not_left w g (Central i) e.side q z law.stands at_i there) ∙ passed
 
         go : (e.side ≡ y.end.side) ⊎ (e.side ≡ opposite y.end.side) → has (word_at w i).holder (opposite y.end.side) ≡ true
         go (inl t) = absurd (ne (same_Some q k (sym at_i ∙ ap (side_router g (Central i)) t ∙ known)))

@@ -98,7 +98,7 @@ module _ (w : World) (b : Books) (g : Records) (k : Key) (r : Router) (i : ℕ) 
   unleft = not_left w g (Central i) r.end.side k r law.stands on.known here
 
   pub holder : has (word_at w i).holder r.end.side ≡ true
-  holder = law.words.holder i r.end.side on.linked live unleft ∙ ap (λ o. key_passes w o (λ z. z.holds)) on.known ∙
+  holder = (law.words.each i).holder r.end.side on.linked live unleft ∙ ap (λ o. key_passes w o (λ z. z.holds)) on.known ∙
       grind (arith, standing_rules, here, holds)
 
   pub unretired : (s : Side) → is_retired b (end_at r.end.pair s) ≡ false
@@ -109,7 +109,7 @@ module _ (w : World) (b : Books) (g : Records) (k : Key) (r : Router) (i : ℕ) 
   across_unleft t = held_stays w g i r.end.side t law.words holder unleft
 
   pub marked_at : (t : Side) → key_passes w (side_router g (Central i) t) (λ z. z.marked) ≡ true
-  marked_at t = sym (law.words.stable i t on.linked live (across_unleft t)) ∙ law.words.held_stable i r.end.side t holder
+  marked_at t = sym ((law.words.each i).stable t on.linked live (across_unleft t)) ∙ (law.words.each i).held_stable r.end.side t holder
 
   -- no bypass of its pair has messages under way
   pub unbypassed : (o : ℕ) → 1 ≤ (g.bypass o).stage → (g.bypass o).stage ≤ 4 → (g.central o).pair ≢ r.end.pair

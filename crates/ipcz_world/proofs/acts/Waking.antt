@@ -48,17 +48,19 @@ word-waits : (w : World) (g : Records) (i : ℕ) (x : Word) → is_linked (g.own
     x.holder ≡ (word_at w i).holder → x.source ≡ (word_at w i).source → Words w g → Words (set_word w i x) g
 unfolding key_passes
 word-waits w g i x linked stable holder source law = record {
-  unused = λ j h. grind (arith, word j, law.unused j h, nat_tests, h, linked);
-  begun_stable = λ j s h. says_stable j s ∙ law.begun_stable j s h;
-  begun_holder = λ j s h. says_holder j s ∙ law.begun_holder j s h;
-  stable = λ j s a b n. says_stable j s ∙ law.stable j s a b n ∙ sym (known (side_router g (Central j) s) _);
-  holder = λ j s a b n. says_holder j s ∙ law.holder j s a b n ∙ sym (known (side_router g (Central j) s) _);
-  left_held = λ j s h. rw (says_holder j A, says_holder j B) (law.left_held j s h);
-  held_stable = λ j s t h. says_stable j t ∙ law.held_stable j s t (sym (says_holder j s) ∙ h);
-  one_holder = λ j s t a b. law.one_holder j s t (sym (says_holder j s) ∙ a) (sym (says_holder j t) ∙ b);
+  each = λ j. record {
+    unused = λ h. grind (arith, word j, (law.each j).unused h, nat_tests, h, linked);
+    begun_stable = λ s h. says_stable j s ∙ (law.each j).begun_stable s h;
+    begun_holder = λ s h. says_holder j s ∙ (law.each j).begun_holder s h;
+    stable = λ s a b n. says_stable j s ∙ (law.each j).stable s a b n ∙ sym (known (side_router g (Central j) s) _);
+    holder = λ s a b n. says_holder j s ∙ (law.each j).holder s a b n ∙ sym (known (side_router g (Central j) s) _);
+    left_held = λ s h. rw (says_holder j A, says_holder j B) ((law.each j).left_held s h);
+    held_stable = λ s t h. says_stable j t ∙ (law.each j).held_stable s t (sym (says_holder j s) ∙ h);
+    one_holder = λ s t a b. (law.each j).one_holder s t (sym (says_holder j s) ∙ a) (sym (says_holder j t) ∙ b);
+    begun_source = λ h l. says_source j ∙ (law.each j).begun_source h l;
+  };
   source = sourced-by w (set_word w i x) (λ q z at h. had-itself w q z (sym (router-set_word w i x q) ∙ at))
       (λ q z e j at p l. says_source j) law.source;
-  begun_source = λ o h l. says_source o ∙ law.begun_source o h l;
 }
   where
     says_source : (j : ℕ) → (word_at (set_word w i x) j).source ≡ (word_at w j).source

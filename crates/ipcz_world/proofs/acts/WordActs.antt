@@ -61,8 +61,8 @@ pub record Says (x : Word) (r : Router) : Type 0 where
 pub word-says : (w : World) (b : Books) (g : Records) (k : Key) (r : Router) (i : ℕ) → Inv w b g → router_at w k ≡ Some r →
     OnWord w g k r i → is_begun (g.bypass i) ≡ false → Says (word_at w i) r
 word-says w b g k r i law here on live = record {
-  stable = law.words.stable i r.end.side on.linked live here_still ∙ grind (arith, standing_rules, on.known, here);
-  holder = law.words.holder i r.end.side on.linked live here_still ∙ grind (arith, standing_rules, on.known, here);
+  stable = (law.words.each i).stable r.end.side on.linked live here_still ∙ grind (arith, standing_rules, on.known, here);
+  holder = (law.words.each i).holder r.end.side on.linked live here_still ∙ grind (arith, standing_rules, on.known, here);
 }
   where
     here_still : is_left g (Central i) r.end.side ≡ false
@@ -115,7 +115,7 @@ inv-mark w b g k r i law can =
       holder = says.holder;
       holder_other = refl;
       held_stable = λ s t h. held s t h (side_is t r.end.side);
-      one_holder = law.words.one_holder i;
+      one_holder = (law.words.each i).one_holder;
       source = λ h. had_source w b g k r i law can.here on h;
       source_other = λ h. refl;
     }
@@ -127,7 +127,7 @@ inv-mark w b g k r i law can =
         held : (s t : Side) → has (word_at w i).holder s ≡ true → (t ≡ r.end.side) ⊎ (t ≡ opposite r.end.side) →
             has (with (word_at w i).stable r.end.side) t ≡ true
         held s t h (inl e) = grind (arith, sides, e)
-        held s t h (inr e) = grind (arith, other r.end.side, law.words.held_stable i s t h, e)
+        held s t h (inr e) = grind (arith, other r.end.side, (law.words.each i).held_stable s t h, e)
 
 pub inv-unlock : (w : World) (b : Books) (g : Records) (k : Key) (r : Router) (i : ℕ) → Inv w b g → CanTouch w k r i acts.Unlock →
     Inv (unlock_act w k r i) b g
@@ -170,10 +170,10 @@ inv-unlock w b g k r i law can =
       stable_other = refl;
       holder = grind (arith, sides);
       holder_other = other r.end.side;
-      held_stable = λ s t h. law.words.held_stable i s t (held s h (side_is s r.end.side));
-      one_holder = λ s t h e. law.words.one_holder i s t (held s h (side_is s r.end.side)) (held t e (side_is t r.end.side));
+      held_stable = λ s t h. (law.words.each i).held_stable s t (held s h (side_is s r.end.side));
+      one_holder = λ s t h e. (law.words.each i).one_holder s t (held s h (side_is s r.end.side)) (held t e (side_is t r.end.side));
       source = λ h. absurd (cc_holds h);
-      source_other = λ h. absurd (not_across r.end.side (law.words.one_holder i r.end.side (opposite r.end.side) mine h));
+      source_other = λ h. absurd (not_across r.end.side ((law.words.each i).one_holder r.end.side (opposite r.end.side) mine h));
     }
       where
         cc_holds : false ≡ true → ⊥
@@ -225,7 +225,7 @@ tried-free x s h = go (is_held x) refl
     go false p = p
 
 held-begun : (w : World) (b : Books) (g : Records) (i : ℕ) → Inv w b g → is_begun (g.bypass i) ≡ true → is_held (word_at w i) ≡ true
-held-begun w b g i law h = go (proxy_side g i) (law.words.begun_holder i (proxy_side g i) h ∙ same_side-itself (proxy_side g i))
+held-begun w b g i law h = go (proxy_side g i) ((law.words.each i).begun_holder (proxy_side g i) h ∙ same_side-itself (proxy_side g i))
   where
     go : (s : Side) → has (word_at w i).holder s ≡ true → is_held (word_at w i) ≡ true
     go A e = grind (arith, e)
@@ -281,8 +281,8 @@ inv-lock w b g k r i Waits law can planned =
       stable_other = refl;
       holder = says.holder;
       holder_other = refl;
-      held_stable = law.words.held_stable i;
-      one_holder = law.words.one_holder i;
+      held_stable = (law.words.each i).held_stable;
+      one_holder = (law.words.each i).one_holder;
       source = λ h. had_source w b g k r i law can.here on h;
       source_other = λ h. refl;
     }

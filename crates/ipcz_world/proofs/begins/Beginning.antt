@@ -79,25 +79,25 @@ across-of : (w : World) (b : Books) (g : Records) (o : ℕ) (t s : Side) → Inv
 across-of w b g o t s law linked live held still apart = go (side_router g (Central o) s) refl
   where
     stable : has (word_at w o).stable s ≡ true
-    stable = law.words.held_stable o t s held
+    stable = (law.words.each o).held_stable t s held
 
     free : has (word_at w o).holder s ≡ false
-    free = not_true _ (λ h. apart (law.words.one_holder o s t h held))
+    free = not_true _ (λ h. apart ((law.words.each o).one_holder s t h held))
 
     at : (q : Key) → side_router g (Central o) s ≡ Some q → (x : Option Router) → router_at w q ≡ x → HasAcross w g o s
-    at q e None f = absurd (grind (arith, standing_rules, law.words.stable o s linked live still, stable, e, f))
+    at q e None f = absurd (grind (arith, standing_rules, (law.words.each o).stable s linked live still, stable, e, f))
     at q e (Some z) f = record {
       key = q;
       router = z;
       known = e;
       at = f;
       primary = grind (arith, standing_rules, law.stands.central o s q linked live still e, f);
-      marked = grind (arith, standing_rules, law.words.stable o s linked live still, stable, e, f);
-      free = grind (arith, standing_rules, law.words.holder o s linked live still, free, e, f);
+      marked = grind (arith, standing_rules, (law.words.each o).stable s linked live still, stable, e, f);
+      free = grind (arith, standing_rules, (law.words.each o).holder s linked live still, free, e, f);
     }
 
     go : (q : Option Key) → side_router g (Central o) s ≡ q → HasAcross w g o s
-    go None e = absurd (grind (arith, standing_rules, law.words.stable o s linked live still, stable, e))
+    go None e = absurd (grind (arith, standing_rules, (law.words.each o).stable s linked live still, stable, e))
     go (Some q) e = at q e (router_at w q) refl
 
 pub begins-of : (w : World) (b : Books) (g : Records) (k : Key) (r : Router) (p : Key) (inner outer : LinkEnd) (o fresh : ℕ) → Inv w b g →
@@ -132,7 +132,7 @@ begins-of w b g k r p inner outer o fresh law can = record {
   across = across-of w b g o r.end.side (opposite r.end.side) law on.linked live held
       (held_stays w g o r.end.side (opposite r.end.side) law.words held (not_left w g (Central o) r.end.side k r law.stands on.known can.here))
       (λ e. grind (arith, same_side-opposite r.end.side, same_side-itself r.end.side, e));
-  stable = λ s. law.words.held_stable o r.end.side s held;
+  stable = λ s. (law.words.each o).held_stable r.end.side s held;
   holder = holder;
   source = law.words.source k r outer o can.here holds can.outer can.outer_at ∙ ap (option_map (λ (e : LinkEnd). e.other)) can.inner
       ∙ ap Some
@@ -177,7 +177,7 @@ begins-of w b g k r p inner outer o fresh law can = record {
         go (inr e) = let f : has (word_at w o).holder s ≡ false =
             not_true _ (λ h. grind (
               arith,
-              law.words.one_holder o s r.end.side h held,
+              (law.words.each o).one_holder s r.end.side h held,
               e,
               same_side-opposite r.end.side,
               same_side-itself r.end.side,

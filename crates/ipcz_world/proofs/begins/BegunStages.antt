@@ -18,7 +18,7 @@ use Rattle.std.proofs.Common.{arith, sym, ◌∙◌, ap, subst, inl, inr}
 use Rattle.std.proofs.lemmas.Bool.Decides.{nat_tests}
 use Rattle.std.proofs.lemmas.Option.{same_Some, none-some}
 use Rattle.ipcz_world.proofs.Vocabulary.{Side, A, B, LinkId, Central, LinkEnd, Message, opposite, same_side, has, Word, Router}
-use Rattle.ipcz_world.proofs.Vocabulary.{inward_edge, World, Key, same_key, word_at, router_at, Books, Records, Owner, Spare, Fresh}
+use Rattle.ipcz_world.proofs.Vocabulary.{inward_edge, World, Key, same_key, router_at, Books, Records, Owner, Spare, Fresh}
 use Rattle.ipcz_world.proofs.Vocabulary.{Linked, Opening, is_linked, is_begun, is_recorded, inner_link, side_router, side_node, side_end}
 use Rattle.ipcz_world.proofs.Vocabulary.{proxy_side, across_side, key_passes, has_primary, has_decaying, has_inward_decaying, Stands}
 use Rattle.ipcz_world.proofs.Vocabulary.{Words, Spares, BypassRecords, Stages, inner_of, Inv}
@@ -37,6 +37,8 @@ use Rattle.ipcz_world.proofs.begins.BegunWorld.{Sends}
 use Rattle.ipcz_world.proofs.begins.BegunAround.{IsBegunFrom, rec-begun, not-begun, not-inner, word_same, key_same, side-here}
 use Rattle.ipcz_world.proofs.frames.BypassesKept.{KeepsBypass, IsSameBypass, same_bypass, bypass-kept}
 use Rattle.ipcz_world.proofs.Vocabulary.{IsBypassRecorded}
+use Rattle.ipcz_world.proofs.frames.WordsKept.{KeepsWord, word-kept}
+use Rattle.ipcz_world.proofs.Vocabulary.{HasWord}
 
 inner-side_end : (g : Records) (q : Key) (s : Side) → side_end g (inner_link q) s ≡ (g.peripheral q).end
 unfolding side_end
@@ -314,54 +316,54 @@ module _ {w v : World} {b : Books} {g : Records} {k : Key} {r y : Router} {p : K
       one q j s t e (inr n) (inl m) = absurd (not_first q n s (e ∙ ap (λ i. (g.central i).pair) m))
       one q j s t e (inr n) (inr m) = law.live.one_begun q j (stage q n s) (stage j m t) e
 
+  -- of the word of the bypass that begins
+  word-begun : HasWord v after o
+  word-begun = let old = law.words.each o in record {
+    unused = λ h. c.words o ∙ old.unused (sym (linked-begun g k o fresh p o is.owner) ∙ h);
+    begun_stable = λ s a. ap (λ z. has z.stable s) (c.words o) ∙ is.stable s;
+    begun_holder = λ s a. ap (λ z. has z.holder s) (c.words o) ∙ is.holder s ∙ ap (same_side s) (sym (side-here law is c new));
+    stable = λ s a f n. absurd (begins f);
+    holder = λ s a f n. absurd (begins f);
+    left_held = λ s h. rw (left-begun g k o fresh p (Central o) A, left-begun g k o fresh p (Central o) B, c.words o)
+        (old.left_held s (sym (left-begun g k o fresh p (Central o) s) ∙ h));
+    held_stable = λ s t h. ap (λ z. has z.stable t) (c.words o) ∙ old.held_stable s t (sym (ap (λ z. has z.holder s) (c.words o)) ∙ h);
+    one_holder = λ s t a d. old.one_holder s t (sym (ap (λ z. has z.holder s) (c.words o)) ∙ a)
+        (sym (ap (λ z. has z.holder t) (c.words o)) ∙ d);
+    begun_source = λ a l. ap (λ (t : Word). t.source) (c.words o) ∙ is.source ∙
+        ap Some (sym (node-begun g k o fresh p (inner_link p) B) ∙
+        ap (λ t. side_node after (inner_link t.inner) B) (sym (begun-here g k o fresh p)));
+  }
+    where
+      begins : is_begun (after.bypass o) ≡ false → ⊥
+      begins f = let n : nat_eq o o ≡ false = word-not o f in grind (arith, n, nat_tests)
+
+  -- the records tell the same of each other
+  keeps-word : (i : ℕ) → nat_eq i o ≡ false → KeepsWord w v g after i
+  keeps-word i n = let e = begun-else g k o fresh p i n in record {
+    word = c.words i;
+    linked = linked-begun g k o fresh p i is.owner;
+    begun = ap is_begun e;
+    early = λ l. rw e at l;
+    side = λ b. side-begun g k o fresh p i n;
+    inner = λ b. ap (λ t. side_node after (inner_link t.inner) B) e ∙ node-begun g k o fresh p (inner_link (g.bypass i).inner) B;
+    left = left-begun g k o fresh p (Central i);
+    marked = λ s l b d. stands s l b (λ z. z.marked);
+    holds = λ s l b d. stands s l b (λ z. z.holds);
+  }
+    where
+      stands : (s : Side) → is_linked (g.owner i) ≡ true → is_begun (g.bypass i) ≡ false → (test : Router → Bool) →
+          key_passes v (side_router after (Central i) s) test ≡ key_passes w (side_router g (Central i) s) test
+      stands s l b test = ap (λ q. key_passes v q test) (router-begun g k o fresh p (Central i) s) ∙
+          passes-else test (side_router g (Central i) s) (not-here i s l b n)
+
   pub words-begun : Words v after
   words-begun = record {
-    unused = λ i h. c.words i ∙ law.words.unused i (sym (linked-begun g k o fresh p i is.owner) ∙ h);
-    begun_stable = by_word o {P = λ i. (s : Side) → is_begun (after.bypass i) ≡ true → has (word_at v i).stable s ≡ true}
-        (λ s a. ap (λ z. has z.stable s) (c.words o) ∙ is.stable s)
-        (λ i n s a. ap (λ z. has z.stable s) (c.words i) ∙ law.words.begun_stable i s
-        (ap is_begun (sym (begun-else g k o fresh p i n)) ∙ a));
-    begun_holder = by_word o {P = λ i. (s : Side) → is_begun (after.bypass i) ≡ true →
-        has (word_at v i).holder s ≡ same_side s (proxy_side after i)}
-        (λ s a. ap (λ z. has z.holder s) (c.words o) ∙ is.holder s ∙ ap (same_side s) (sym (side-here law is c new)))
-        (λ i n s a. ap (λ z. has z.holder s) (c.words i) ∙ law.words.begun_holder i s (ap is_begun (sym (begun-else g k o fresh p i n)) ∙ a)
-        ∙ ap (same_side s) (sym (side-begun g k o fresh p i n)));
-    stable = λ i s a f nl. flag (λ z. has z.stable s) (λ z. z.marked) i s a f
-        (λ l t. law.words.stable i s l t (sym (left-begun g k o fresh p (Central i) s) ∙ nl));
-    holder = λ i s a f nl. flag (λ z. has z.holder s) (λ z. z.holds) i s a f
-        (λ l t. law.words.holder i s l t (sym (left-begun g k o fresh p (Central i) s) ∙ nl));
-    left_held = λ i s h. rw (left-begun g k o fresh p (Central i) A, left-begun g k o fresh p (Central i) B, c.words i)
-        (law.words.left_held i s (sym (left-begun g k o fresh p (Central i) s) ∙ h));
-    held_stable = λ i s t h. ap (λ z. has z.stable t) (c.words i) ∙ law.words.held_stable i s t
-        (sym (ap (λ z. has z.holder s) (c.words i)) ∙ h);
-    one_holder = λ i s t a d. law.words.one_holder i s t (sym (ap (λ z. has z.holder s) (c.words i)) ∙ a)
-        (sym (ap (λ z. has z.holder t) (c.words i)) ∙ d);
+    each = by_word o {P = HasWord v after} word-begun (λ i n. word-kept {w = w} (keeps-word i n) (law.words.each i));
     source = sourced-by w v (λ q z at h. elim (before q z at) [
       | inl a ↦ had-itself w q z a.0
       | inr a ↦ absurd (grind (arith, ap (λ (t : Router). t.holds) a.1, new.holds, h))
     ]) (λ q z e i at m l. ap (λ (t : Word). t.source) (c.words i)) law.words.source;
-    begun_source = by_word o {P = λ i. is_begun (after.bypass i) ≡ true → (after.bypass i).stage ≤ 2 →
-        (word_at v i).source ≡ Some (side_node after (inner_link (after.bypass i).inner) B)}
-        (λ a l. ap (λ (t : Word). t.source) (c.words o) ∙ is.source ∙ ap Some (sym (node-begun g k o fresh p (inner_link p) B) ∙
-        ap (λ t. side_node after (inner_link t.inner) B) (sym (begun-here g k o fresh p))))
-        (λ i n a l. let e = begun-else g k o fresh p i n in
-        ap (λ (t : Word). t.source) (c.words i) ∙ law.words.begun_source i (ap is_begun (sym e) ∙ a) (rw e at l) ∙
-        ap Some (sym (node-begun g k o fresh p (inner_link (g.bypass i).inner) B) ∙
-        ap (λ t. side_node after (inner_link t.inner) B) (sym e)));
   }
-    where
-      flag : (bit : Word → Bool) (test : Router → Bool) (i : ℕ) (s : Side) → is_linked (after.owner i) ≡ true →
-          is_begun (after.bypass i) ≡ false →
-          (is_linked (g.owner i) ≡ true → is_begun (g.bypass i) ≡ false →
-          bit (word_at w i) ≡ key_passes w (side_router g (Central i) s) test) →
-          bit (word_at v i) ≡ key_passes v (side_router after (Central i) s) test
-      flag bit test i s a f old =
-          let n : nat_eq i o ≡ false = word-not i f in let l : is_linked (g.owner i) ≡ true =
-          sym (linked-begun g k o fresh p i is.owner) ∙ a in let t : is_begun (g.bypass i) ≡ false =
-          ap is_begun (sym (begun-else g k o fresh p i n)) ∙ f in
-          ap bit (c.words i) ∙ old l t ∙ sym (ap (λ q. key_passes v q test) (router-begun g k o fresh p (Central i) s) ∙ passes-else test
-          (side_router g (Central i) s) (not-here i s l t n))
-
   pub spares-begun : Spares v after
   unfolding spare_of
   spares-begun = record {
@@ -614,7 +616,8 @@ module _ {w v : World} {b : Books} {g : Records} {k : Key} {r y : Router} {p : K
       fresh-not : (j : ℕ) → nat_eq j o ≡ false → 3 ≤ (after.bypass j).stage → (after.bypass j).stage ≤ 4 → fresh_of g j ≡ Central o → ⊥
       fresh-not j n a d e = unmarked (side_router g (inner_of g j) B) (inner_of g j) B
           (ap (λ q. key_passes w q (λ z. z.marked)) (sym (ap (λ l. side_router g l (proxy_side g j)) (sym e) ∙ (law.bypasses j).fresh_inner
-          (late-old j 2 (omega arith) (omega (arith, a))))) ∙ sym (law.words.stable o (proxy_side g j) is.linked is.live (central_unleft law is c new o (proxy_side g j) is.pair)) ∙ is.stable
+          (late-old j 2 (omega arith) (omega (arith, a))))) ∙
+          sym ((law.words.each o).stable (proxy_side g j) is.linked is.live (central_unleft law is c new o (proxy_side g j) is.pair)) ∙ is.stable
           (proxy_side g j))
           (law.stages.inner_decaying j (late-old j 2 (omega arith) (omega (arith, a))) (early j 4 n d))
 

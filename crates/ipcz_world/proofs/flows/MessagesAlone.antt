@@ -5,7 +5,7 @@ use Rattle.ipcz_world.proofs.frames.Sourcing.{sourced-by, had-itself}
 use Rattle.ipcz_word.specs.Word.{Word}
 use Rattle.ipcz_world.proofs.weights.OfRecords.{holds, held_times, in_node, in_message, in_places}
 use Rattle.ipcz_world.proofs.Vocabulary.{Weight, at_end, names_end, times, Side, A, B, End, LinkId, Central, Peripheral, LinkEnd}
-use Rattle.ipcz_world.proofs.Vocabulary.{Descriptor, Item, Message, opposite, has, has_end, is_central, Router, World, Key, node_at}
+use Rattle.ipcz_world.proofs.Vocabulary.{Descriptor, Item, Message, opposite, has_end, is_central, Router, World, Key, node_at}
 use Rattle.ipcz_world.proofs.Vocabulary.{router_at, Books, Records, is_recorded, inner_link, side_node, side_router, across_side}
 use Rattle.ipcz_world.proofs.Vocabulary.{IsUnderWay, of_end, moves_of, total_below, total_list, view, view_by, router_view, passes}
 use Rattle.ipcz_world.proofs.Vocabulary.{key_passes, next_sent, taking_queue, is_gone, is_awaited, Counts, Ordered, Shape, Links}
@@ -26,6 +26,7 @@ use Rattle.ipcz_world.proofs.weights.Weighing.{in_places-is}
 use Rattle.ipcz_world.proofs.flows.MessagesPassing.{IsFlush, Passes, HasHands}
 use Rattle.ipcz_world.proofs.weights.Totalling.{total_below-same}
 use Rattle.ipcz_world.proofs.frames.BypassesKept.{bypasses-still}
+use Rattle.ipcz_world.proofs.frames.WordsKept.{word-kept}
 
 -- whether a message is an item
 abbrev is_item : Message → Bool
@@ -198,18 +199,21 @@ module _ (w v : World) (g : Records) (p : Passes w v g) where
 
   words-passes : Words w g → Words v g
   words-passes law = record {
-    unused = λ i h. p.words i ∙ law.unused i h;
-    begun_stable = λ i s h. ap (λ z. has z.stable s) (p.words i) ∙ law.begun_stable i s h;
-    begun_holder = λ i s h. ap (λ z. has z.holder s) (p.words i) ∙ law.begun_holder i s h;
-    stable = λ i s a b n. ap (λ z. has z.stable s) (p.words i) ∙ law.stable i s a b n ∙ sym (known (side_router g (Central i) s) _);
-    holder = λ i s a b n. ap (λ z. has z.holder s) (p.words i) ∙ law.holder i s a b n ∙ sym (known (side_router g (Central i) s) _);
-    held_stable = λ i s t h. ap (λ z. has z.stable t) (p.words i) ∙ law.held_stable i s t (sym (ap (λ z. has z.holder s) (p.words i)) ∙ h);
-    one_holder = λ i s t a b. law.one_holder i s t (sym (ap (λ z. has z.holder s) (p.words i)) ∙ a)
-        (sym (ap (λ z. has z.holder t) (p.words i)) ∙ b);
+    each = λ i. word-kept {w = w}
+        (record {
+          word = p.words i;
+          linked = refl;
+          begun = refl;
+          early = λ l. l;
+          side = λ b. refl;
+          inner = λ b. refl;
+          left = λ s. refl;
+          marked = λ s l b n. known (side_router g (Central i) s) (λ x. x.marked);
+          holds = λ s l b n. known (side_router g (Central i) s) (λ x. x.holds);
+        })
+        (law.each i);
     source = sourced-by w v (λ q r at h. had-itself w q r (back q r at))
         (λ q r e i at m l. ap (λ (z : Word). z.source) (p.words i)) law.source;
-    begun_source = λ o h l. ap (λ (z : Word). z.source) (p.words o) ∙ law.begun_source o h l;
-    left_held = λ i s h. rw (p.words i) (law.left_held i s h);
   }
 
   spares-passes : Spares w g → Spares v g

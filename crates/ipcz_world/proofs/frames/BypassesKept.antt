@@ -1,4 +1,4 @@
--- What the record of a bypass has to do with those of its links stays so where other records tell the same of it and of them.
+-- What the record of a bypass has to do with those of its links stays so if other records tell the same of it and of them.
 use Rattle.std.specs.Prelude.{◌≡◌, ◌⊎◌, ◌≤◌, ℕ, zero, suc, true, is_some, Some, refl}
 use Rattle.std.proofs.Common.{arith, ap, sym, ◌∙◌, inl, inr}
 use Rattle.std.proofs.lemmas.Bool.Decides.{nat_tests}

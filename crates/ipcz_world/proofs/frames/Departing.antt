@@ -382,23 +382,28 @@ module _ {w v : World} {b : Books} {g : Records} {k : Key} {r : Router} (law : N
   pub words-departed : Words v h
   unfolding side_router side_node is_outward
   words-departed = record {
-    unused = λ i e. keeps.words.words i ∙ law.words.unused i (sym (is_off_here.linked i) ∙ e);
-    begun_stable = λ i s e. ap (λ z. has z.stable s) (keeps.words.words i) ∙ law.words.begun_stable i s e;
-    begun_holder = λ i s e. ap (λ z. has z.holder s) (keeps.words.words i) ∙ law.words.begun_holder i s e;
-    stable = λ i s a d n. ap (λ z. has z.stable s) (keeps.words.words i) ∙ law.words.stable i s (linked i a) d (unleft (Central i) s n) ∙
-        sym (flags i s (linked i a) d n (λ z. z.marked));
-    holder = λ i s a d n. ap (λ z. has z.holder s) (keeps.words.words i) ∙ law.words.holder i s (linked i a) d (unleft (Central i) s n) ∙
-        sym (flags i s (linked i a) d n (λ z. z.holds));
-    held_stable = λ i s t e. ap (λ z. has z.stable t) (keeps.words.words i) ∙ law.words.held_stable i s t
-        (sym (ap (λ z. has z.holder s) (keeps.words.words i)) ∙ e);
-    one_holder = λ i s t a d. law.words.one_holder i s t (sym (ap (λ z. has z.holder s) (keeps.words.words i)) ∙ a)
-        (sym (ap (λ z. has z.holder t) (keeps.words.words i)) ∙ d);
-    left_held = λ i s e. ap (λ (z : Word). (is_left h (Central i) A && has z.holder A) || (is_left h (Central i) B && has z.holder B))
-        (keeps.words.words i) ∙ elim (left_back (Central i) s e) [
-          | inl a ↦ held i s a
-          | inr (inl a) ↦ own i a.0 a.1 a.2
-          | inr (inr a) ↦ absurd (not_central i a.0 a.1 a.2)
-        ];
+    each = λ i. record {
+      unused = λ e. keeps.words.words i ∙ (law.words.each i).unused (sym (is_off_here.linked i) ∙ e);
+      begun_stable = λ s e. ap (λ z. has z.stable s) (keeps.words.words i) ∙ (law.words.each i).begun_stable s e;
+      begun_holder = λ s e. ap (λ z. has z.holder s) (keeps.words.words i) ∙ (law.words.each i).begun_holder s e;
+      stable = λ s a d n. ap (λ z. has z.stable s) (keeps.words.words i) ∙
+          (law.words.each i).stable s (linked i a) d (unleft (Central i) s n) ∙
+          sym (flags i s (linked i a) d n (λ z. z.marked));
+      holder = λ s a d n. ap (λ z. has z.holder s) (keeps.words.words i) ∙
+          (law.words.each i).holder s (linked i a) d (unleft (Central i) s n) ∙
+          sym (flags i s (linked i a) d n (λ z. z.holds));
+      held_stable = λ s t e. ap (λ z. has z.stable t) (keeps.words.words i) ∙ (law.words.each i).held_stable s t
+          (sym (ap (λ z. has z.holder s) (keeps.words.words i)) ∙ e);
+      one_holder = λ s t a d. (law.words.each i).one_holder s t (sym (ap (λ z. has z.holder s) (keeps.words.words i)) ∙ a)
+          (sym (ap (λ z. has z.holder t) (keeps.words.words i)) ∙ d);
+      left_held = λ s e. ap (λ (z : Word). (is_left h (Central i) A && has z.holder A) || (is_left h (Central i) B && has z.holder B))
+          (keeps.words.words i) ∙ elim (left_back (Central i) s e) [
+            | inl a ↦ held i s a
+            | inr (inl a) ↦ own i a.0 a.1 a.2
+            | inr (inr a) ↦ absurd (not_central i a.0 a.1 a.2)
+          ];
+      begun_source = λ e l. ap (λ (z : Word). z.source) (keeps.words.words i) ∙ (law.words.each i).begun_source e l;
+    };
     source = sourced-by w v (λ q y at e. let z : WasSame w q y = was_same c keeps q y at in record {
       router = z.router;
       at = z.at;
@@ -406,7 +411,6 @@ module _ {w v : World} {b : Books} {g : Records} {k : Key} {r : Router} (law : N
       inward = z.part.inward_primary;
       holds = λ e. sym z.flags.holds ∙ e;
     }) (λ q y e i at p l. ap (λ (z : Word). z.source) (keeps.words.words i)) law.words.source;
-    begun_source = λ o e l. ap (λ (z : Word). z.source) (keeps.words.words o) ∙ law.words.begun_source o e l;
   }
     where
       -- who stands at a side that isn't left is another
@@ -442,7 +446,7 @@ module _ {w v : World} {b : Books} {g : Records} {k : Key} {r : Router} (law : N
       held : (i : ℕ) (s : Side) → is_left g (Central i) s ≡ true →
           ((is_left h (Central i) A && has (word_at w i).holder A) || (is_left h (Central i) B && has (word_at w i).holder B)) ≡ true
       held i s e = elim (either (is_left g (Central i) A && has (word_at w i).holder A) (is_left g (Central i) B && has (word_at w i).holder B)
-          (law.words.left_held i s e)) [
+          ((law.words.each i).left_held s e)) [
             | inl a ↦ let p = and_parts (is_left g (Central i) A) (has (word_at w i).holder A) a in
                 join (is_left h (Central i) A) (is_left h (Central i) B) (has (word_at w i).holder A) (has (word_at w i).holder B) A (left_more (Central i) A p.0) p.1
             | inr a ↦ let p = and_parts (is_left g (Central i) B) (has (word_at w i).holder B) a in

@@ -209,16 +209,18 @@ module _ (v : World) (b : Books) (g : Records) (e : End) (k : Key) (at : g.termi
   pub words-ended : Words v g → Words v ended
   unfolding side_router side_node is_left
   words-ended law = record {
-    unused = law.unused;
-    begun_stable = law.begun_stable;
-    begun_holder = law.begun_holder;
-    stable = law.stable;
-    holder = law.holder;
-    held_stable = law.held_stable;
-    one_holder = law.one_holder;
-    left_held = law.left_held;
+    each = λ i. let is = law.each i in record {
+      unused = is.unused;
+      begun_stable = is.begun_stable;
+      begun_holder = is.begun_holder;
+      stable = is.stable;
+      holder = is.holder;
+      held_stable = is.held_stable;
+      one_holder = is.one_holder;
+      left_held = is.left_held;
+      begun_source = is.begun_source;
+    };
     source = law.source;
-    begun_source = law.begun_source;
   }
 
   pub spares-ended : Spares v g → Spares v ended

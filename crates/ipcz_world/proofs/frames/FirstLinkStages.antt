@@ -84,49 +84,54 @@ module _ {w v : World} {b : Books} {g : Records} {owner' : ℕ → Owner} {centr
   pub words-grown : Words v h
   unfolding empty_word open_word
   words-grown = record {
-    unused = λ j l. elim (same_number j) [
-      | inl s ↦ ap (word_at v) s ∙ is.unlinked (ap (λ j. is_linked (owner' j)) (sym s) ∙ l)
-      | inr ne ↦ is.word j ne ∙ law.words.unused j (ap is_linked (sym (is.owner j ne)) ∙ l)
-    ];
-    begun_stable = λ j s c. ap (λ (x : Word). has x.stable s) (is.word j (begun_apart law is j c)) ∙ law.words.begun_stable j s c;
-    begun_holder = λ j s c. ap (λ (x : Word). has x.holder s) (is.word j (begun_apart law is j c)) ∙ law.words.begun_holder j s c;
-    stable = λ j s l nb nl. elim (by_word law is j l) [
-      | inl o ↦ ap (λ (x : Word). has x.stable s) (is.word j o.0) ∙ law.words.stable j s o.1 nb (sym (left_same law is (Central j) s) ∙ nl) ∙ sym
-          (passes_same law is (Central j) s (λ r. r.marked) (central_recorded law is j o.1))
-      | inr o ↦ ap (λ j. has (word_at v j).stable s) o.0 ∙ ap (λ (x : Word). has x.stable s) (is.linked o.1).word ∙ has-both s ∙ sym
-          (ap (λ j. key_passes v (side_router h (Central j) s) (λ r. r.marked)) o.0 ∙ ap (λ k. key_passes v k (λ r. r.marked))
-          (new_router law is o.1 s) ∙ new_passes law is o.1 s (λ r. r.marked) ∙ fresh_marked i at s)
-    ];
-    left_held = λ j s e. let n = left_same law is (Central j) in
-        rw (n A, n B, is.word j (λ m. recorded_apart law is (Central j) (law.stands.left_recorded (Central j) s (sym (n s) ∙ e)) (ap Central m)))
-        (law.words.left_held j s (sym (n s) ∙ e));
-    holder = λ j s l nb nl. elim (by_word law is j l) [
-      | inl o ↦ ap (λ (x : Word). has x.holder s) (is.word j o.0) ∙ law.words.holder j s o.1 nb (sym (left_same law is (Central j) s) ∙ nl) ∙ sym
-          (passes_same law is (Central j) s (λ r. r.holds) (central_recorded law is j o.1))
-      | inr o ↦ ap (λ j. has (word_at v j).holder s) o.0 ∙ ap (λ (x : Word). has x.holder s) (is.linked o.1).word ∙ has-none s ∙ sym
-          (ap (λ j. key_passes v (side_router h (Central j) s) (λ r. r.holds)) o.0 ∙ ap (λ k. key_passes v k (λ r. r.holds))
-          (new_router law is o.1 s) ∙ new_passes law is o.1 s (λ r. r.holds))
-    ];
-    held_stable = λ j s t a. elim (same_number j) [
-      | inl e ↦ absurd (not_both (has (word_at v i).holder s) (ap (λ j. has (word_at v j).holder s) (sym e) ∙ a)
-          (none_held s (is_linked (owner' i)) refl))
-      | inr ne ↦ ap (λ (x : Word). has x.stable t) (is.word j ne) ∙ law.words.held_stable j s t
-          (ap (λ (x : Word). has x.holder s) (sym (is.word j ne)) ∙ a)
-    ];
-    one_holder = λ j s t a c. elim (same_number j) [
-      | inl e ↦ absurd (not_both (has (word_at v i).holder s) (ap (λ j. has (word_at v j).holder s) (sym e) ∙ a)
-          (none_held s (is_linked (owner' i)) refl))
-      | inr ne ↦ law.words.one_holder j s t (ap (λ (x : Word). has x.holder s) (sym (is.word j ne)) ∙ a)
-          (ap (λ (x : Word). has x.holder t) (sym (is.word j ne)) ∙ c)
-    ];
+    each = λ j. record {
+      unused = λ l. elim (same_number j) [
+        | inl s ↦ ap (word_at v) s ∙ is.unlinked (ap (λ j. is_linked (owner' j)) (sym s) ∙ l)
+        | inr ne ↦ is.word j ne ∙ (law.words.each j).unused (ap is_linked (sym (is.owner j ne)) ∙ l)
+      ];
+      begun_stable = λ s c. ap (λ (x : Word). has x.stable s) (is.word j (begun_apart law is j c)) ∙ (law.words.each j).begun_stable s c;
+      begun_holder = λ s c. ap (λ (x : Word). has x.holder s) (is.word j (begun_apart law is j c)) ∙ (law.words.each j).begun_holder s c;
+      stable = λ s l nb nl. elim (by_word law is j l) [
+        | inl o ↦ ap (λ (x : Word). has x.stable s) (is.word j o.0) ∙
+            (law.words.each j).stable s o.1 nb (sym (left_same law is (Central j) s) ∙ nl) ∙ sym
+            (passes_same law is (Central j) s (λ r. r.marked) (central_recorded law is j o.1))
+        | inr o ↦ ap (λ j. has (word_at v j).stable s) o.0 ∙ ap (λ (x : Word). has x.stable s) (is.linked o.1).word ∙ has-both s ∙ sym
+            (ap (λ j. key_passes v (side_router h (Central j) s) (λ r. r.marked)) o.0 ∙ ap (λ k. key_passes v k (λ r. r.marked))
+            (new_router law is o.1 s) ∙ new_passes law is o.1 s (λ r. r.marked) ∙ fresh_marked i at s)
+      ];
+      left_held = λ s e. let n = left_same law is (Central j) in
+          rw (n A, n B,
+          is.word j (λ m. recorded_apart law is (Central j) (law.stands.left_recorded (Central j) s (sym (n s) ∙ e)) (ap Central m)))
+          ((law.words.each j).left_held s (sym (n s) ∙ e));
+      holder = λ s l nb nl. elim (by_word law is j l) [
+        | inl o ↦ ap (λ (x : Word). has x.holder s) (is.word j o.0) ∙
+            (law.words.each j).holder s o.1 nb (sym (left_same law is (Central j) s) ∙ nl) ∙ sym
+            (passes_same law is (Central j) s (λ r. r.holds) (central_recorded law is j o.1))
+        | inr o ↦ ap (λ j. has (word_at v j).holder s) o.0 ∙ ap (λ (x : Word). has x.holder s) (is.linked o.1).word ∙ has-none s ∙ sym
+            (ap (λ j. key_passes v (side_router h (Central j) s) (λ r. r.holds)) o.0 ∙ ap (λ k. key_passes v k (λ r. r.holds))
+            (new_router law is o.1 s) ∙ new_passes law is o.1 s (λ r. r.holds))
+      ];
+      held_stable = λ s t a. elim (same_number j) [
+        | inl e ↦ absurd (not_both (has (word_at v i).holder s) (ap (λ j. has (word_at v j).holder s) (sym e) ∙ a)
+            (none_held s (is_linked (owner' i)) refl))
+        | inr ne ↦ ap (λ (x : Word). has x.stable t) (is.word j ne) ∙ (law.words.each j).held_stable s t
+            (ap (λ (x : Word). has x.holder s) (sym (is.word j ne)) ∙ a)
+      ];
+      one_holder = λ s t a c. elim (same_number j) [
+        | inl e ↦ absurd (not_both (has (word_at v i).holder s) (ap (λ j. has (word_at v j).holder s) (sym e) ∙ a)
+            (none_held s (is_linked (owner' i)) refl))
+        | inr ne ↦ (law.words.each j).one_holder s t (ap (λ (x : Word). has x.holder s) (sym (is.word j ne)) ∙ a)
+            (ap (λ (x : Word). has x.holder t) (sym (is.word j ne)) ∙ c)
+      ];
+      begun_source = λ s l. ap (λ (x : Word). x.source) (is.word j (begun_apart law is j s)) ∙ (law.words.each j).begun_source s l ∙ ap Some
+          (sym (node_kept law is (inner_link (g.bypass j).inner) B
+          (recorded_apart law is (inner_link (g.bypass j).inner) ((law.bypasses j).inner s))));
+    };
     source = sourced-by w v (λ q x e m. elim (is.was q x e) [
       | inl o ↦ had-itself w q x o
       | inr o ↦ absurd (not_both x.holds m (ap (λ (x : Router). x.holds) o.0.is))
     ]) (λ q x e j at p l. ap (λ (x : Word). x.source) (is.word j (λ m. recorded_apart law is e.link ((law.links q x at).primary e p).recorded
         (l ∙ ap Central m)))) law.words.source;
-    begun_source = λ o s l. ap (λ (x : Word). x.source) (is.word o (begun_apart law is o s)) ∙ law.words.begun_source o s l ∙ ap Some
-        (sym (node_kept law is (inner_link (g.bypass o).inner) B
-        (recorded_apart law is (inner_link (g.bypass o).inner) ((law.bypasses o).inner s))));
   }
     where
       same_number : (j : ℕ) → (j ≡ i) ⊎ (j ≢ i)

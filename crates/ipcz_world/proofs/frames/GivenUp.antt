@@ -6,7 +6,7 @@ use Rattle.ipcz_world.proofs.weights.OfRecords.{holds, held_times}
 use Rattle.std.specs.Prelude.{◌<◌, ◌≡◌, ◌≢◌, ◌⊎◌, ◌≤◌, ℕ, ◌+◌, Bool, true, false, not, ◌&&◌, ◌||◌, Option, Some, None, is_some, List, refl}
 use Rattle.std.proofs.Common.{arith, sym, ◌∙◌, ap, subst, inl, inr}
 use Rattle.std.proofs.lemmas.Option.{same_Some, none-some}
-use Rattle.ipcz_world.proofs.Vocabulary.{Side, A, B, End, LinkId, Central, LinkEnd, Descriptor, Item, Message, opposite, has, same_end}
+use Rattle.ipcz_world.proofs.Vocabulary.{Side, A, B, End, LinkId, Central, LinkEnd, Descriptor, Item, Message, opposite, same_end}
 use Rattle.ipcz_world.proofs.Vocabulary.{opposite_end, has_end, has_link, item_at, Router, is_terminal, inward_edge, World, Key, same_key}
 use Rattle.ipcz_world.proofs.Vocabulary.{node_at, router_at, Books, is_closed, Spare, Records, is_linked, is_begun}
 use Rattle.ipcz_world.proofs.Vocabulary.{side_router, side_length, proxy_side, across_side, Weight, in_router, times, at_end, names_end}
@@ -32,6 +32,7 @@ use Rattle.ipcz_world.specs.Whereabouts.{Gones}
 use Rattle.ipcz_world.specs.Records.{is_left}
 use Rattle.ipcz_router.specs.Router.{decays}
 use Rattle.ipcz_world.proofs.frames.EndsKept.{terminal-kept, ends-kept}
+use Rattle.ipcz_world.proofs.frames.WordsKept.{word-kept}
 
 pub has_some : (o : Option LinkEnd) (l : LinkId) (s : Side) → has_link o l s ≡ true → is_some o ≡ true
 unfolding has_link
@@ -41,23 +42,22 @@ has_some (Some e) l s h = refl
 pub words-gives : (w v : World) (g : Records) (k : Key) (r : Router) (x : Option Router) → Gives w v k r x → IsBare r x → Keeps w v r x → Stands w g →
     Words w g → Words v g
 words-gives w v g k r x c bare keeps stands law = record {
-  unused = λ i h. keeps.words.words i ∙ law.unused i h;
-  begun_stable = λ i s h. ap (λ z. has z.stable s) (keeps.words.words i) ∙ law.begun_stable i s h;
-  begun_holder = λ i s h. ap (λ z. has z.holder s) (keeps.words.words i) ∙ law.begun_holder i s h;
-  stable = λ i s a b n. ap (λ z. has z.stable s) (keeps.words.words i) ∙ law.stable i s a b n ∙ sym
-      (flag-still c bare keeps _ (side_router g (Central i) s) (λ y p. p.marked) (there i s a b n));
-  holder = λ i s a b n. ap (λ z. has z.holder s) (keeps.words.words i) ∙ law.holder i s a b n ∙ sym
-      (flag-still c bare keeps _ (side_router g (Central i) s) (λ y p. p.holds) (there i s a b n));
-  left_held = λ i s h. ap (λ (z : Word). (is_left g (Central i) A && has z.holder A) || (is_left g (Central i) B && has z.holder B))
-      (keeps.words.words i) ∙ law.left_held i s h;
-  held_stable = λ i s t h. ap (λ z. has z.stable t) (keeps.words.words i) ∙ law.held_stable i s t
-      (sym (ap (λ z. has z.holder s) (keeps.words.words i)) ∙ h);
-  one_holder = λ i s t a b. law.one_holder i s t (sym (ap (λ z. has z.holder s) (keeps.words.words i)) ∙ a)
-      (sym (ap (λ z. has z.holder t) (keeps.words.words i)) ∙ b);
+  each = λ i. word-kept {w = w}
+      (record {
+        word = keeps.words.words i;
+        linked = refl;
+        begun = refl;
+        early = λ l. l;
+        side = λ b. refl;
+        inner = λ b. refl;
+        left = λ s. refl;
+        marked = λ s a b n. flag-still c bare keeps _ (side_router g (Central i) s) (λ y p. p.marked) (there i s a b n);
+        holds = λ s a b n. flag-still c bare keeps _ (side_router g (Central i) s) (λ y p. p.holds) (there i s a b n);
+      })
+      (law.each i);
   source = sourced-by w v (λ q y at h. let z : WasSame w q y = was_same c keeps q y at in
       record { router = z.router; at = z.at; primary = z.part.primary; inward = z.part.inward_primary; holds = λ h. sym z.flags.holds ∙ h })
       (λ q y e i at p l. ap (λ (z : Word). z.source) (keeps.words.words i)) law.source;
-  begun_source = λ o h l. ap (λ (z : Word). z.source) (keeps.words.words o) ∙ law.begun_source o h l;
 }
   where
     there : (i : ℕ) (s : Side) → is_linked (g.owner i) ≡ true → is_begun (g.bypass i) ≡ false → is_left g (Central i) s ≡ false →

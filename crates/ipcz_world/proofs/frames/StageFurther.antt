@@ -18,7 +18,7 @@ use Rattle.std.specs.Prelude.{◌≡◌, ◌≢◌, ◌⊎◌, ◌≤◌, ℕ, s
 use Rattle.std.specs.Prelude.{refl}
 use Rattle.std.proofs.Common.{arith, ap, ◌∙◌, sym, inl, inr}
 use Rattle.std.proofs.lemmas.Bool.Decides.{nat_tests}
-use Rattle.ipcz_world.proofs.Vocabulary.{Side, A, B, LinkId, Central, Peripheral, LinkEnd, Descriptor, Item, has, opposite, same_side}
+use Rattle.ipcz_world.proofs.Vocabulary.{Side, A, B, LinkId, Central, Peripheral, LinkEnd, Descriptor, Item, opposite}
 use Rattle.ipcz_world.proofs.Vocabulary.{has_link, word_of, Router, inward_edge, World, Key, same_key, word_at, router_at, Books, Records}
 use Rattle.ipcz_world.proofs.Vocabulary.{is_recorded, inner_link, side_node, side_router, side_end, proxy_side, across_side, known_from}
 use Rattle.ipcz_world.proofs.Vocabulary.{side_length, is_attached, view, has_primary, has_decaying, has_inward_decaying, key_passes}
@@ -37,6 +37,7 @@ use Rattle.ipcz_world.proofs.views.Viewing.{IsSameView, view-kept}
 use Rattle.ipcz_world.proofs.facts.Lengths.{length-old, length-proxy, length-inner, length-live, length-none, known_from-yes}
 use Rattle.ipcz_world.proofs.frames.Sealing.{Sealed, shape_of, links_of, stands_of, words_of, bypasses_of, stages_of}
 use Rattle.ipcz_world.proofs.frames.BypassesKept.{bypasses-alike}
+use Rattle.ipcz_world.proofs.frames.WordsKept.{word-kept}
 
 -- two routers with the same links, marked alike
 pub record IsLinkedLike (r x : Router) : Type 0 where
@@ -311,22 +312,19 @@ module _ {w v : World} {b : Books} {g : Records} {k : Key} {r x : Router} {o s :
 
   pub words-further : ((i : ℕ) → word_at v i ≡ word_at w i) → Words v h
   words-further same = record {
-    unused = λ i l. same i ∙ (words_of law).unused i l;
-    begun_stable = λ i t n. ap (λ u. has u.stable t) (same i) ∙ (words_of law).begun_stable i t (sym (agree.is_begun i) ∙ n);
-    begun_holder = λ i t n. ap (λ u. has u.holder t) (same i) ∙ (words_of law).begun_holder i t (sym (agree.is_begun i) ∙ n) ∙ ap
-        (same_side t) (sym (proxy_side_same i));
-    left_held = λ i t n. rw (left_same (Central i) A, left_same (Central i) B, same i)
-        ((words_of law).left_held i t (sym (left_same (Central i) t) ∙ n));
-    stable = λ i t l n nl. ap (λ u. has u.stable t) (same i) ∙ (words_of law).stable i t l (sym (agree.is_begun i) ∙ n)
-        (sym (left_same (Central i) t) ∙ nl) ∙ sym
-        (passes_same (Central i) t (λ y. y.marked) linked.marked);
-    holder = λ i t l n nl. ap (λ u. has u.holder t) (same i) ∙ (words_of law).holder i t l (sym (agree.is_begun i) ∙ n)
-        (sym (left_same (Central i) t) ∙ nl) ∙ sym
-        (passes_same (Central i) t (λ y. y.holds) linked.holds);
-    held_stable = λ i t u a. ap (λ z. has z.stable u) (same i) ∙ (words_of law).held_stable i t u
-        (ap (λ z. has z.holder t) (sym (same i)) ∙ a);
-    one_holder = λ i t u a d. (words_of law).one_holder i t u (ap (λ z. has z.holder t) (sym (same i)) ∙ a)
-        (ap (λ z. has z.holder u) (sym (same i)) ∙ d);
+    each = λ i. word-kept {w = w}
+        (record {
+          word = same i;
+          linked = refl;
+          begun = agree.is_begun i;
+          early = at_most i 2;
+          side = λ b. proxy_side_same i;
+          inner = λ b. ap (λ p. side_node h (inner_link p) B) (agree.inner i) ∙ node_same (inner_link (g.bypass i).inner) B;
+          left = left_same (Central i);
+          marked = λ s l b n. passes_same (Central i) s (λ y. y.marked) linked.marked;
+          holds = λ s l b n. passes_same (Central i) s (λ y. y.holds) linked.holds;
+        })
+        ((words_of law).each i);
     source = sourced-by w v (λ q t e m. let z : Was q t = was_router q t e in record {
       router = z.router;
       at = z.here_before;
@@ -335,9 +333,6 @@ module _ {w v : World} {b : Books} {g : Records} {k : Key} {r x : Router} {o s :
       holds = λ m. sym z.linked_alike.holds ∙ m;
     })
         (λ q t e i at p l. ap (λ (z : Word). z.source) (same i)) (words_of law).source;
-    begun_source = λ j n l. ap (λ (z : Word). z.source) (same j) ∙
-        (words_of law).begun_source j (sym (agree.is_begun j) ∙ n) (at_most j 2 l) ∙
-        ap Some (sym (node_same (inner_link (g.bypass j).inner) B) ∙ ap (λ p. side_node h (inner_link p) B) (sym (agree.inner j)));
   }
 
   pub stages-further : Stages v h

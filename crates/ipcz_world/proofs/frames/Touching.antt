@@ -9,10 +9,9 @@ use Rattle.std.proofs.Common.{ap}
 use Rattle.ipcz_world.proofs.frames.Sourcing.{sourced-by, had-one, inward-same}
 use Rattle.ipcz_edge.specs.Edge.{Edge}
 use Rattle.ipcz_word.specs.Word.{Word}
-use Rattle.std.specs.Prelude.{◌≡◌, ◌≢◌, ◌⊎◌, ◌<◌, ℕ, ◌&&◌, ◌||◌, Bool, true, false, Some, is_some, refl}
+use Rattle.std.specs.Prelude.{◌≡◌, ◌≢◌, ◌⊎◌, ◌<◌, ℕ, ◌||◌, Bool, true, false, Some, is_some, refl}
 use Rattle.std.proofs.Common.{inl, inr}
 use Rattle.std.proofs.lemmas.Bool.{or_left, or_right}
-use Rattle.ipcz_world.proofs.Vocabulary.{has}
 use Rattle.std.proofs.Common.{arith, ◌∙◌, sym}
 use Rattle.ipcz_world.proofs.Vocabulary.{A, B, LinkId, Central, Peripheral, LinkEnd, Router, World, Key, same_key, node_at, word_at}
 use Rattle.ipcz_world.proofs.Vocabulary.{mail_at, way, router_at, hand_message, Records, is_recorded, inner_link, side_router}
@@ -25,10 +24,10 @@ use Rattle.ipcz_world.proofs.frames.OneChange.{OneChanges, passes-same}
 use Rattle.ipcz_router.specs.Router.{is_sink, is_proxy}
 use Rattle.ipcz_router.specs.ActTable.{is_done}
 use Rattle.ipcz_world.proofs.Vocabulary.{inward_edge}
-use Rattle.ipcz_world.specs.Records.{is_left}
 use Rattle.ipcz_world.proofs.frames.BypassesKept.{bypasses-still}
 use Rattle.ipcz_world.proofs.frames.EndsKept.{terminal-kept}
 use Rattle.ipcz_world.proofs.Vocabulary.{HasTerminal}
+use Rattle.ipcz_world.proofs.frames.WordsKept.{word-kept}
 
 -- two routers with the same end, links and flags of bypasses
 pub record IsAlike (r y : Router) : Type 0 where
@@ -216,27 +215,19 @@ module _ (w v : World) (k : Key) (r y : Router) (g : Records) (t : IsTouched w v
 
   pub words-touched : Words w g → Words v g
   words-touched law = record {
-    unused = λ i h. t.word i ∙ law.unused i h;
-    begun_stable = λ i s h. grind (arith, t.word i, law.begun_stable i s);
-    begun_holder = λ i s h. grind (arith, t.word i, law.begun_holder i s);
-    stable = λ i s l h n. grind (
-      arith,
-      t.word i,
-      law.stable i s,
-      passes-same t.one (λ x. x.marked) a.marked
-          (side_router g (Central i) s),
-    );
-    holder = λ i s l h n. grind (
-      arith,
-      t.word i,
-      law.holder i s,
-      passes-same t.one (λ x. x.holds) a.holds
-          (side_router g (Central i) s),
-    );
-    held_stable = λ i s u h. grind (arith, t.word i, law.held_stable i s u);
-    one_holder = λ i s u h j. grind (arith, t.word i, law.one_holder i s u);
-    left_held = λ i s h. ap (λ (x : Word). (is_left g (Central i) A && has x.holder A) || (is_left g (Central i) B && has x.holder B)) (t.word i) ∙
-        law.left_held i s h;
+    each = λ i. word-kept {w = w}
+        (record {
+          word = t.word i;
+          linked = refl;
+          begun = refl;
+          early = λ l. l;
+          side = λ b. refl;
+          inner = λ b. refl;
+          left = λ s. refl;
+          marked = λ s l b n. passes-same t.one (λ x. x.marked) a.marked (side_router g (Central i) s);
+          holds = λ s l b n. passes-same t.one (λ x. x.holds) a.holds (side_router g (Central i) s);
+        })
+        (law.each i);
     source = sourced-by w v (had-one w v k r y t.router
         (λ h. record {
           router = r;
@@ -246,7 +237,6 @@ module _ (w v : World) (k : Key) (r y : Router) (g : Records) (t : IsTouched w v
           holds = λ h. sym a.holds ∙ h;
         }))
         (λ q z e i at p l. ap (λ (x : Word). x.source) (t.word i)) law.source;
-    begun_source = λ o h l. ap (λ (x : Word). x.source) (t.word o) ∙ law.begun_source o h l;
   }
 
   spare_same : (q : Key) → spare_of (router_at v q) ≡ spare_of (router_at w q)

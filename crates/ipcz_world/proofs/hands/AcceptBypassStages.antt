@@ -24,7 +24,7 @@ use Rattle.std.specs.Prelude.{unwrap_or, refl}
 use Rattle.std.proofs.Common.{arith, ap, ◌∙◌, sym, inl, inr}
 use Rattle.std.proofs.lemmas.Bool.Decides.{nat_tests}
 use Rattle.std.proofs.lemmas.Option.{none-some, same_Some}
-use Rattle.ipcz_world.proofs.Vocabulary.{Side, A, B, End, LinkId, Central, LinkEnd, Message, has, opposite, same_side, has_link, Router}
+use Rattle.ipcz_world.proofs.Vocabulary.{Side, A, B, End, LinkId, Central, LinkEnd, Message, opposite, has_link, Router}
 use Rattle.ipcz_world.proofs.Vocabulary.{World, Key, same_key, word_at, router_at, Books, Records, is_begun, is_linked, inner_link}
 use Rattle.ipcz_world.proofs.Vocabulary.{side_node, side_router, side_end, proxy_side, across_side, has_primary, has_decaying}
 use Rattle.ipcz_world.proofs.Vocabulary.{has_inward_decaying, passes, key_passes, IsUnderWay, of_end, moves_of, is_made_before, under_way}
@@ -51,6 +51,7 @@ use Rattle.ipcz_world.proofs.hands.AcceptBypassNumbers.{router_j, was_proxy, two
 use Rattle.ipcz_world.proofs.hands.AcceptBypassLinks.{known_after, central_is, not_both}
 use Rattle.ipcz_world.proofs.facts.Tests.{nat_eq-itself}
 use Rattle.ipcz_world.specs.Acts.{tells_stop}
+use Rattle.ipcz_world.proofs.frames.WordsKept.{word-kept}
 
 old_end : (g : Records) (o : ℕ) (s : Side) → side_end g (Central o) s ≡ ends.end_at (g.central o).pair s
 unfolding side_end
@@ -255,32 +256,22 @@ module _ {w : World} {b : Books} {g : Records} {from : ℕ} {k : Key} {r : Route
 
   pub words-accept : Words v h
   words-accept = record {
-    unused = λ i l. word_same i ∙ (words_of law).unused i l;
-    begun_stable = λ i s b'. ap (λ c. has c.stable s) (word_same i) ∙
-        (words_of law).begun_stable i s (sym ((agree law can).is_begun i) ∙ b');
-    begun_holder = λ i s b'. ap (λ c. has c.holder s) (word_same i) ∙
-        (words_of law).begun_holder i s (sym ((agree law can).is_begun i) ∙ b') ∙ ap
-        (same_side s) (sym (proxy_side-agree g h (agree law can) i));
-    left_held = λ i s n. rw (left_same (Central i) A, left_same (Central i) B, word_same i)
-        ((words_of law).left_held i s (sym (left_same (Central i) s) ∙ n));
-    stable = λ i s l b' nl. ap (λ c. has c.stable s) (word_same i) ∙ (words_of law).stable i s l (sym ((agree law can).is_begun i) ∙ b')
-        (sym (left_same (Central i) s) ∙ nl) ∙
-        test_at i s
-        (λ y. y.marked) refl l (sym ((agree law can).is_begun i) ∙ b') (is_new law can (Central i) s) refl;
-    holder = λ i s l b' nl. ap (λ c. has c.holder s) (word_same i) ∙ (words_of law).holder i s l (sym ((agree law can).is_begun i) ∙ b')
-        (sym (left_same (Central i) s) ∙ nl) ∙
-        test_at i s
-        (λ y. y.holds) refl l (sym ((agree law can).is_begun i) ∙ b') (is_new law can (Central i) s) refl;
-    held_stable = λ i s t a. ap (λ c. has c.stable t) (word_same i) ∙ (words_of law).held_stable i s t
-        (ap (λ c. has c.holder s) (sym (word_same i)) ∙ a);
-    one_holder = λ i s t a c. (words_of law).one_holder i s t (ap (λ c'. has c'.holder s) (sym (word_same i)) ∙ a)
-        (ap (λ c'. has c'.holder t) (sym (word_same i)) ∙ c);
+    each = λ i. word-kept {w = w}
+        (record {
+          word = word_same i;
+          linked = refl;
+          begun = (agree law can).is_begun i;
+          early = λ l. was_early i l (at_o law can i);
+          side = λ b. proxy_side-agree g h (agree law can) i;
+          inner = λ b. ap (λ p. side_node h (inner_link p) B) ((agree law can).inner i) ∙
+              side_node-agree g h (agree law can) (inner_link (g.bypass i).inner) B;
+          left = left_same (Central i);
+          marked = λ s l b n. sym (test_at i s (λ y. y.marked) refl l b (is_new law can (Central i) s) refl);
+          holds = λ s l b n. sym (test_at i s (λ y. y.holds) refl l b (is_new law can (Central i) s) refl);
+        })
+        ((words_of law).each i);
     source = sourced-by w v (had-one w v k r x (router_j law can) (λ m. absurd (x_free m)))
         (λ q t d i at p l. ap (λ (c : Word). c.source) (word_same i)) (words_of law).source;
-    begun_source = λ j n l. ap (λ (c : Word). c.source) (word_same j) ∙
-        (words_of law).begun_source j (sym ((agree law can).is_begun j) ∙ n) (was_early j l (at_o law can j)) ∙
-        ap Some (sym (side_node-agree g h (agree law can) (inner_link (g.bypass j).inner) B) ∙
-        ap (λ p. side_node h (inner_link p) B) (sym ((agree law can).inner j)));
   }
     where
       x_free : x.holds ≡ true → ⊥

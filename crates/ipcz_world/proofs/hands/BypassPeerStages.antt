@@ -305,27 +305,30 @@ module _ {w : World} {b : Books} {g : Records} {from : ℕ} {k : Key} {r : Route
   pub words-peer : Words v h
   unfolding is_linked
   words-peer = record {
-    unused = λ i l. word_same i ∙ unused_at i l (at_fresh law can i);
-    begun_stable = λ i s n. ap (λ c. has c.stable s) (word_same i) ∙ (words_of law).begun_stable i s (sym (is_begun_same law can i) ∙ n);
-    begun_holder = λ i s n. ap (λ c. has c.holder s) (word_same i) ∙ (words_of law).begun_holder i s (sym (is_begun_same law can i) ∙ n) ∙
-        ap
-        (same_side s) (sym (proxy_side_same law can i));
-    stable = λ i s l n nl. ap (λ c. has c.stable s) (word_same i) ∙ stable_at i s l (sym (is_begun_same law can i) ∙ n)
-        (sym (left_same law can (Central i) s) ∙ nl) (at_fresh law can i);
-    holder = λ i s l n nl. ap (λ c. has c.holder s) (word_same i) ∙ holder_at i s l (sym (is_begun_same law can i) ∙ n)
-        (sym (left_same law can (Central i) s) ∙ nl) (at_fresh law can i);
-    left_held = λ i s n. rw (left_same law can (Central i) A, left_same law can (Central i) B, word_same i)
-        ((words_of law).left_held i s (sym (left_same law can (Central i) s) ∙ n));
-    held_stable = λ i s t a. ap (λ c. has c.stable t) (word_same i) ∙ (words_of law).held_stable i s t
-        (ap (λ c. has c.holder s) (sym (word_same i)) ∙ a);
-    one_holder = λ i s t a d. (words_of law).one_holder i s t (ap (λ c. has c.holder s) (sym (word_same i)) ∙ a)
-        (ap (λ c. has c.holder t) (sym (word_same i)) ∙ d);
+    each = λ i. record {
+      unused = λ l. word_same i ∙ unused_at i l (at_fresh law can i);
+      begun_stable = λ s n. ap (λ c. has c.stable s) (word_same i) ∙
+          ((words_of law).each i).begun_stable s (sym (is_begun_same law can i) ∙ n);
+      begun_holder = λ s n. ap (λ c. has c.holder s) (word_same i) ∙
+          ((words_of law).each i).begun_holder s (sym (is_begun_same law can i) ∙ n) ∙
+          ap (same_side s) (sym (proxy_side_same law can i));
+      stable = λ s l n nl. ap (λ c. has c.stable s) (word_same i) ∙ stable_at i s l (sym (is_begun_same law can i) ∙ n)
+          (sym (left_same law can (Central i) s) ∙ nl) (at_fresh law can i);
+      holder = λ s l n nl. ap (λ c. has c.holder s) (word_same i) ∙ holder_at i s l (sym (is_begun_same law can i) ∙ n)
+          (sym (left_same law can (Central i) s) ∙ nl) (at_fresh law can i);
+      left_held = λ s n. rw (left_same law can (Central i) A, left_same law can (Central i) B, word_same i)
+          (((words_of law).each i).left_held s (sym (left_same law can (Central i) s) ∙ n));
+      held_stable = λ s t a. ap (λ c. has c.stable t) (word_same i) ∙ ((words_of law).each i).held_stable s t
+          (ap (λ c. has c.holder s) (sym (word_same i)) ∙ a);
+      one_holder = λ s t a d. ((words_of law).each i).one_holder s t (ap (λ c. has c.holder s) (sym (word_same i)) ∙ a)
+          (ap (λ c. has c.holder t) (sym (word_same i)) ∙ d);
+      begun_source = λ n l. ap (λ (c : Word). c.source) (word_same i) ∙
+          ((words_of law).each i).begun_source (sym (is_begun_same law can i) ∙ n) (was_early i l) ∙
+          ap Some (sym (node_same law can (inner_link (g.bypass i).inner) B refl ∙ ap (λ p. side_node g (inner_link p) B) refl) ∙
+          ap (λ p. side_node h (inner_link p) B) (sym (inner_same law can i)));
+    };
     source = sourced-by w v (had-one w v k r x (router_j law can) (λ m. absurd (x_free m)))
         (λ q t d i at p l. ap (λ (c : Word). c.source) (word_same i)) (words_of law).source;
-    begun_source = λ j n l. ap (λ (c : Word). c.source) (word_same j) ∙
-        (words_of law).begun_source j (sym (is_begun_same law can j) ∙ n) (was_early j l) ∙
-        ap Some (sym (node_same law can (inner_link (g.bypass j).inner) B refl ∙ ap (λ p. side_node g (inner_link p) B) refl) ∙
-        ap (λ p. side_node h (inner_link p) B) (sym (inner_same law can j)));
   }
     where
       x_free : x.holds ≡ true → ⊥
@@ -335,8 +338,8 @@ module _ {w : World} {b : Books} {g : Records} {from : ℕ} {k : Key} {r : Route
       was_early j l = grind (arith, stage_at law can j, at_o law can j, (is law can).stage, l)
 
       unused_at : (i : ℕ) → is_linked (h.owner i) ≡ false → New i → word_at w i ≡ empty_word
-      unused_at i l (inl t) = (words_of law).unused i (ap (λ j. is_linked (g.owner j)) t.1 ∙ not_linked law can)
-      unused_at i l (inr t) = (words_of law).unused i (ap is_linked (sym (owner_same law can i t.0)) ∙ l)
+      unused_at i l (inl t) = ((words_of law).each i).unused (ap (λ j. is_linked (g.owner j)) t.1 ∙ not_linked law can)
+      unused_at i l (inr t) = ((words_of law).each i).unused (ap is_linked (sym (owner_same law can i t.0)) ∙ l)
 
       new_test : (s : Side) (test : Router → Bool) → test x ≡ false →
           ((same_side s r.end.side ≡ true) × (s ≡ r.end.side)) ⊎ ((same_side s r.end.side ≡ false) × (s ≡ opposite r.end.side)) →
@@ -361,14 +364,14 @@ module _ {w : World} {b : Books} {g : Records} {from : ℕ} {k : Key} {r : Route
           go (inr c) = grind (arith, standing_rules, router_j law can q, c.0)
 
       empty_at : word_at w fresh ≡ empty_word
-      empty_at = (words_of law).unused fresh (not_linked law can)
+      empty_at = ((words_of law).each fresh).unused (not_linked law can)
 
       stable_at : (i : ℕ) (s : Side) → is_linked (h.owner i) ≡ true → is_begun (g.bypass i) ≡ false → is_left g (Central i) s ≡ false → New i →
           has (word_at w i).stable s ≡ key_passes v (side_router h (Central i) s) (λ y. y.marked)
       stable_at i s l n nl (inl t) = ap (λ j. has (word_at w j).stable s) t.1 ∙ ap (λ c. has c.stable s) empty_at ∙ none_stable s ∙ sym
           (ap (λ j. key_passes v (side_router h (Central j) s) (λ y. y.marked)) t.1 ∙ new_test s (λ y. y.marked) refl
           (side_is s r.end.side))
-      stable_at i s l n nl (inr t) = (words_of law).stable i s (linked_back law can i l t.0) n nl ∙ old_test i s (λ y. y.marked)
+      stable_at i s l n nl (inr t) = ((words_of law).each i).stable s (linked_back law can i l t.0) n nl ∙ old_test i s (λ y. y.marked)
           (side_router g (Central i) s) refl (linked_back law can i l t.0) n ∙ ap (λ q. key_passes v q (λ y. y.marked))
           (sym (router_same law can (Central i) s t.0))
 
@@ -376,7 +379,7 @@ module _ {w : World} {b : Books} {g : Records} {from : ℕ} {k : Key} {r : Route
           has (word_at w i).holder s ≡ key_passes v (side_router h (Central i) s) (λ y. y.holds)
       holder_at i s l n nl (inl t) = ap (λ j. has (word_at w j).holder s) t.1 ∙ ap (λ c. has c.holder s) empty_at ∙ none_holder s ∙ sym
           (ap (λ j. key_passes v (side_router h (Central j) s) (λ y. y.holds)) t.1 ∙ new_test s (λ y. y.holds) refl (side_is s r.end.side))
-      holder_at i s l n nl (inr t) = (words_of law).holder i s (linked_back law can i l t.0) n nl ∙ old_test i s (λ y. y.holds)
+      holder_at i s l n nl (inr t) = ((words_of law).each i).holder s (linked_back law can i l t.0) n nl ∙ old_test i s (λ y. y.holds)
           (side_router g (Central i) s) refl (linked_back law can i l t.0) n ∙ ap (λ q. key_passes v q (λ y. y.holds))
           (sym (router_same law can (Central i) s t.0))
 

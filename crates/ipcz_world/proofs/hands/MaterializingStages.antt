@@ -6,7 +6,7 @@ use Rattle.ipcz_world.proofs.frames.Sourcing.{sourced-by, had-itself}
 use Rattle.ipcz_word.specs.Word.{Word}
 use Rattle.std.specs.Prelude.{◌≡◌, ◌⊎◌, ◌≤◌, ℕ, Bool, true, false, not, ◌&&◌, Option, Some, None, is_some, refl}
 use Rattle.std.proofs.Common.{arith, ap, subst, ◌∙◌, sym, inl, inr}
-use Rattle.ipcz_world.proofs.Vocabulary.{Side, A, B, End, Central, Descriptor, opposite, same_side, has, same_link, same_end}
+use Rattle.ipcz_world.proofs.Vocabulary.{Side, A, B, End, Central, Descriptor, opposite, same_link, same_end}
 use Rattle.ipcz_world.proofs.Vocabulary.{opposite_end, Router, is_terminal, from_descriptor, World, Key, router_at, Books, Records, At}
 use Rattle.ipcz_world.proofs.Vocabulary.{is_begun, inner_link, side_router, side_end, proxy_side, across_side, is_nowhere, is_recorded}
 use Rattle.ipcz_world.proofs.Vocabulary.{key_passes, has_primary, has_decaying, has_inward_decaying, Stands, Words, Spares, BypassRecords}
@@ -28,6 +28,7 @@ use Rattle.ipcz_world.proofs.facts.Lengths.{same_link-tells}
 use Rattle.ipcz_world.proofs.facts.Tests.{same_some}
 use Rattle.ipcz_world.proofs.facts.LinkTests.{same_end-itself, same_end-tells}
 use Rattle.ipcz_world.proofs.frames.BypassesKept.{bypass-kept, same_bypass}
+use Rattle.ipcz_world.proofs.frames.WordsKept.{word-kept}
 
 module _ {w v : World} {b : Books} {g : Records} {a : ℕ} {q p : Key} {d : Descriptor} (law : OpenInv w b g) (is : IsMaterial w g a q p d)
     (t : IsMade w v q (from_descriptor d a)) where
@@ -102,28 +103,25 @@ module _ {w v : World} {b : Books} {g : Records} {a : ℕ} {q p : Key} {d : Desc
 
   pub words-made : Words v h
   words-made = record {
-    unused = λ i e. t.word i ∙ law.words.unused i e;
-    begun_stable = λ i s e. ap (λ z. has z.stable s) (t.word i) ∙ law.words.begun_stable i s e;
-    begun_holder = λ i s e. ap (λ z. has z.holder s) (t.word i) ∙ law.words.begun_holder i s e ∙
-        ap (same_side s) (sym (side_same law is t i));
-    left_held = λ i s n. rw (left_same law is t (Central i) A, left_same law is t (Central i) B, t.word i)
-        (law.words.left_held i s (sym (left_same law is t (Central i) s) ∙ n));
-    stable = λ i s l c nl. ap (λ z. has z.stable s) (t.word i) ∙ law.words.stable i s l c (sym (left_same law is t (Central i) s) ∙ nl) ∙ sym
-        (ap (λ o. key_passes v o (λ x. x.marked)) (central_kept i s) ∙ passes_same law is t (Central i) s (λ x. x.marked)
-        (is_recorded-central w g i ∙ l) (side_router g (Central i) s) refl);
-    holder = λ i s l c nl. ap (λ z. has z.holder s) (t.word i) ∙ law.words.holder i s l c (sym (left_same law is t (Central i) s) ∙ nl) ∙ sym
-        (ap (λ o. key_passes v o (λ x. x.holds)) (central_kept i s) ∙ passes_same law is t (Central i) s (λ x. x.holds)
-        (is_recorded-central w g i ∙ l) (side_router g (Central i) s) refl);
-    held_stable = λ i s u e. ap (λ z. has z.stable u) (t.word i) ∙ law.words.held_stable i s u
-        (ap (λ z. has z.holder s) (sym (t.word i)) ∙ e);
-    one_holder = λ i s u e f. law.words.one_holder i s u (ap (λ z. has z.holder s) (sym (t.word i)) ∙ e)
-        (ap (λ z. has z.holder u) (sym (t.word i)) ∙ f);
+    each = λ i. word-kept {w = w}
+        (record {
+          word = t.word i;
+          linked = refl;
+          begun = refl;
+          early = λ l. l;
+          side = λ b. side_same law is t i;
+          inner = λ b. node_same law is t (inner_link (g.bypass i).inner) B;
+          left = left_same law is t (Central i);
+          marked = λ s l b n. ap (λ o. key_passes v o (λ x. x.marked)) (central_kept i s) ∙
+              passes_same law is t (Central i) s (λ x. x.marked) (is_recorded-central w g i ∙ l) (side_router g (Central i) s) refl;
+          holds = λ s l b n. ap (λ o. key_passes v o (λ x. x.holds)) (central_kept i s) ∙
+              passes_same law is t (Central i) s (λ x. x.holds) (is_recorded-central w g i ∙ l) (side_router g (Central i) s) refl;
+        })
+        (law.words.each i);
     source = sourced-by w v (λ x z at h. elim (was_there law is t x z at) [
       | inl o ↦ had-itself w x z o.0
       | inr o ↦ absurd (grind (arith, ap (λ (u : Router). u.holds) o.0, h))
     ]) (λ x z e i at p l. ap (λ (u : Word). u.source) (t.word i)) law.words.source;
-    begun_source = λ o s l. ap (λ (u : Word). u.source) (t.word o) ∙ law.words.begun_source o s l ∙ ap Some
-        (sym (node_same law is t (inner_link (g.bypass o).inner) B));
   }
 
   pub spares-made : Spares v h

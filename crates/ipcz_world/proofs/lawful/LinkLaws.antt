@@ -62,8 +62,9 @@ pub stable_is : (w : World) (b : Books) (g : Records) (k : Key) (r : Router) (i 
 stable_is w b g k r i s law here on = go (is_begun (g.bypass i)) refl
   where
     go : (c : Bool) → is_begun (g.bypass i) ≡ c → r.marked ≡ has (word_at w i).stable s
-    go true e = let across = across_there w b g k r i s law here on e in across.1 ∙ sym (law.words.begun_stable i s e)
-    go false e = sym (law.words.stable i s on.linked e (not_left w g (Central i) s k r law.stands on.router here) ∙ passes-at w _ k r (λ x. x.marked) on.router here)
+    go true e = let across = across_there w b g k r i s law here on e in across.1 ∙ sym ((law.words.each i).begun_stable s e)
+    go false e = sym ((law.words.each i).stable s on.linked e (not_left w g (Central i) s k r law.stands on.router here) ∙
+        passes-at w _ k r (λ x. x.marked) on.router here)
 
 pub holder_is : (w : World) (b : Books) (g : Records) (k : Key) (r : Router) (i : ℕ) (s : Side) → Inv w b g → router_at w k ≡ Some r →
     IsOn w g k r i s → r.holds ≡ has (word_at w i).holder s
@@ -71,9 +72,10 @@ holder_is w b g k r i s law here on = go (is_begun (g.bypass i)) refl
   where
     go : (c : Bool) → is_begun (g.bypass i) ≡ c → r.holds ≡ has (word_at w i).holder s
     go true e = let across = across_there w b g k r i s law here on e in
-        across.2 ∙ sym (law.words.begun_holder i s e ∙ ap (λ t. same_side t (proxy_side g i)) across.0 ∙ same_side-opposite
+        across.2 ∙ sym ((law.words.each i).begun_holder s e ∙ ap (λ t. same_side t (proxy_side g i)) across.0 ∙ same_side-opposite
         (proxy_side g i))
-    go false e = sym (law.words.holder i s on.linked e (not_left w g (Central i) s k r law.stands on.router here) ∙ passes-at w _ k r (λ x. x.holds) on.router here)
+    go false e = sym ((law.words.each i).holder s on.linked e (not_left w g (Central i) s k r law.stands on.router here) ∙
+        passes-at w _ k r (λ x. x.holds) on.router here)
 
 -- what a free word says
 record IsFree (w : World) (i : ℕ) : Type 0 where
@@ -108,12 +110,12 @@ free_there w b g i s law h = go (is_linked (g.owner i)) (is_begun (g.bypass i)) 
         left : (c : Bool) → is_left g (Central i) s ≡ c → c ≡ false
         left false e = refl
         left true e = elim (either (is_left g (Central i) A && has (word_at w i).holder A) (is_left g (Central i) B && has (word_at w i).holder B)
-            (law.words.left_held i s e)) [ inl h ↦ none A h | inr h ↦ none B h ]
+            ((law.words.each i).left_held s e)) [ inl h ↦ none A h | inr h ↦ none B h ]
 
     at : is_linked (g.owner i) ≡ true → is_begun (g.bypass i) ≡ false → There w i s
     at l n =
         let p : Passes w (side_router g (Central i) s) (λ r. r.marked) =
-        passes-tells w _ _ (sym (law.words.stable i s l n still) ∙ free.stable s) in
+        passes-tells w _ _ (sym ((law.words.each i).stable s l n still) ∙ free.stable s) in
         record {
           key = p.key;
           router = p.router;
@@ -124,10 +126,10 @@ free_there w b g i s law h = go (is_linked (g.owner i)) (is_begun (g.bypass i)) 
         }
 
     go : (c d : Bool) → is_linked (g.owner i) ≡ c → is_begun (g.bypass i) ≡ d → There w i s
-    go false d l n = absurd (true≢false (sym (free.stable A) ∙ ap (λ x. has x.stable A) (law.words.unused i l) ∙ none_stable A))
+    go false d l n = absurd (true≢false (sym (free.stable A) ∙ ap (λ x. has x.stable A) ((law.words.each i).unused l) ∙ none_stable A))
     go true true l n = absurd (grind (
       arith,
-      law.words.begun_holder i (proxy_side g i) n,
+      (law.words.each i).begun_holder (proxy_side g i) n,
       same_side-itself (proxy_side g i),
       free.unheld (proxy_side g i),
     ))
@@ -135,8 +137,8 @@ free_there w b g i s law h = go (is_linked (g.owner i)) (is_begun (g.bypass i)) 
 
 pub link_law : (w : World) (b : Books) (g : Records) → Inv w b g → LinkLaw w
 link_law w b g law = record {
-  one_holder = law.words.one_holder;
-  held_stable = law.words.held_stable;
+  one_holder = λ i. (law.words.each i).one_holder;
+  held_stable = λ i. (law.words.each i).held_stable;
   marked = λ k r i s here on. stable_is w b g k r i s law here (on_tells w b g k r i s law here on);
   holds = λ k r i s here on. holder_is w b g k r i s law here (on_tells w b g k r i s law here on);
   free = λ i s h. free_there w b g i s law h;
@@ -149,7 +151,7 @@ pub begun_bypassed : (w : World) (b : Books) (g : Records) (i : ℕ) → Inv w b
 unfolding is_outward
 begun_bypassed w b g i law begun = record {
   side = proxy_side g i;
-  held = law.words.begun_holder i (proxy_side g i) begun ∙ same_side-itself (proxy_side g i);
+  held = (law.words.each i).begun_holder (proxy_side g i) begun ∙ same_side-itself (proxy_side g i);
   left = λ k r here. go k r here (has_primary (Central i) (proxy_side g i) r) refl;
   left_inward = λ k r here. inward k r here (has_inward_primary (Central i) (proxy_side g i) r) refl;
 }
@@ -181,9 +183,9 @@ bypass_law w b g law = record {
   message = λ from to i m o u names. begun_bypassed w b g o law (old_begun w g from to i m o law.told u names);
   source = law.words.source;
   begun_source = λ from to i link s old target fresh u. let at = peer_told w g from to i old link s target fresh law.told u in
-      law.words.begun_source old (grind (arith, at.stage, nat_tests)) (omega (arith, at.stage)) ∙ ap Some (sym at.receiver);
+      (law.words.each old).begun_source (grind (arith, at.stage, nat_tests)) (omega (arith, at.stage)) ∙ ap Some (sym at.receiver);
   taken_source = λ from to i old s fresh length u. let at = accept_told w g from to i old s fresh length law.told u in
-      law.words.begun_source old (grind (arith, at.stage, nat_tests)) (omega (arith, at.stage)) ∙ ap Some (sym at.sender);
+      (law.words.each old).begun_source (grind (arith, at.stage, nat_tests)) (omega (arith, at.stage)) ∙ ap Some (sym at.sender);
 }
   where
     begun : (i : ℕ) → is_some (bypass_of g (Central i)) ≡ true → is_begun (g.bypass i) ≡ true

@@ -121,9 +121,9 @@ module _ (w : World) (b : Books) (g : Records) (law : Inv w b g) where
       -- a side that was left is one of a word whose lock is held
       held : (s : Side) → is_left g (Central i) s ≡ true → has (word_at w i).stable A ≡ true
       held s h = elim (either (is_left g (Central i) A && has (word_at w i).holder A) (is_left g (Central i) B && has (word_at w i).holder B)
-          (law.words.left_held i s h)) [
-            | inl a ↦ law.words.held_stable i A A (and_second (is_left g (Central i) A) (has (word_at w i).holder A) a)
-            | inr a ↦ law.words.held_stable i B A (and_second (is_left g (Central i) B) (has (word_at w i).holder B) a)
+          ((law.words.each i).left_held s h)) [
+            | inl a ↦ (law.words.each i).held_stable A A (and_second (is_left g (Central i) A) (has (word_at w i).holder A) a)
+            | inr a ↦ (law.words.each i).held_stable B A (and_second (is_left g (Central i) B) (has (word_at w i).holder B) a)
           ]
 
       stands : (s : Side) (k : Key) → is_begun (g.bypass i) ≡ false → is_left g (Central i) s ≡ false →
@@ -149,7 +149,7 @@ module _ (w : World) (b : Books) (g : Records) (law : Inv w b g) where
       some n a c None None e f = absurd (awaited n (g.central i).born refl e f)
 
       go : (c : Bool) → is_begun (g.bypass i) ≡ c → (has (word_at w i).stable A ≡ true) ⊎ IsOnLink w i
-      go true e = inl (law.words.begun_stable i A e)
+      go true e = inl ((law.words.each i).begun_stable A e)
       go false e = on (is_left g (Central i) A) (is_left g (Central i) B) refl refl
         where
           on : (a c : Bool) → is_left g (Central i) A ≡ a → is_left g (Central i) B ≡ c →
@@ -166,7 +166,7 @@ module _ (w : World) (b : Books) (g : Records) (law : Inv w b g) where
     is_lost = λ i. refl;
     unclaimed = λ i l. unclaimed-is (g.owner i) (grind (arith, law.counts.unclaimed i, l, nat_tests));
     claimed = λ i l. grind (arith, law.counts.unclaimed i, l, nat_tests);
-    unused = law.words.unused;
+    unused = λ i. (law.words.each i).unused;
     spare = law.spares.spare;
     spare_back = law.spares.spare_back;
     opening = law.spares.opening;

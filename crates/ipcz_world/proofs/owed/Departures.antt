@@ -62,7 +62,7 @@ module _ (w : World) (b : Books) (g : Records) (law : Inv w b g) (k : Key) (r : 
       stays = not_left w g (Central i) s k r law.stands at.router here
 
       held : ((is_left g (Central i) A && has (word_at w i).holder A) || (is_left g (Central i) B && has (word_at w i).holder B)) ≡ true
-      held = law.words.left_held i (opposite s) peer_left
+      held = (law.words.each i).left_held (opposite s) peer_left
 
       second : (a c d : Bool) → a ≡ false → ((a && c) || d) ≡ true → d ≡ true
       second true c d e h = cc
@@ -131,7 +131,7 @@ peer_unretired w b g k r law here can = go (is_retired b (opposite_end r.end)) r
         let own : has (word_at w t.0).holder t.1 ≡ true =
         sym (holder_is w b g k r t.0 t.1 law here (on_tells w b g k r t.0 t.1 law here t.2)) ∙ retire_holds r can in
         let far : has (word_at w t.0).holder (opposite t.1) ≡ true = retired_held w b g law k r here t.0 t.1 t.2 e in
-        absurd (apart t.1 (law.words.one_holder t.0 t.1 (opposite t.1) own far))
+        absurd (apart t.1 ((law.words.each t.0).one_holder t.1 (opposite t.1) own far))
       where
         apart : (s : Side) → s ≡ opposite s → ⊥
         apart A h = cc

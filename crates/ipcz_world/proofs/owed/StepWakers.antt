@@ -211,7 +211,7 @@ module _ (w : World) (b : Books) (g : Records) (law : Inv w b g) (flags : FlagsA
         (subst (λ z. IsUnderWay w from n 0 z) (sym e) (under_way-hand w n from m in_hand)) in
         let begun : is_begun (g.bypass old) ≡ true = grind (arith, told.stage, nat_tests) in
         subst (λ j. is_held (word_at w j) ≡ true) same (held-is (word_at w old) (proxy_side g old)
-        (law.words.begun_holder old (proxy_side g old) begun ∙ same_side-itself (proxy_side g old)))
+        ((law.words.each old).begun_holder (proxy_side g old) begun ∙ same_side-itself (proxy_side g old)))
     needs i other e = record {}
 
     goes : (i : ℕ) → Goes i (is_held (word_at w i)) (node_at w n) x

@@ -211,16 +211,18 @@ module _ (w : World) (g : Records) (world : IsBare w) (noted : IsUnnoted g) wher
 
   words-bare : Words w g
   words-bare = record {
-    unused = λ i h1. world.word i;
-    begun_stable = λ i s h1. absurd (not_begun (g.bypass i).stage (noted.stage i) h1);
-    begun_holder = λ i s h1. absurd (not_begun (g.bypass i).stage (noted.stage i) h1);
-    stable = λ i s h1 h2 h3. absurd (not_linked (g.owner i) (noted.owner i) h1);
-    holder = λ i s h1 h2 h3. absurd (not_linked (g.owner i) (noted.owner i) h1);
-    held_stable = λ i s t h1. absurd (no_holder (word_at w i) s (world.word i) h1);
-    one_holder = λ i s t h1 h2. absurd (no_holder (word_at w i) s (world.word i) h1);
+    each = λ i. record {
+      unused = λ h1. world.word i;
+      begun_stable = λ s h1. absurd (not_begun (g.bypass i).stage (noted.stage i) h1);
+      begun_holder = λ s h1. absurd (not_begun (g.bypass i).stage (noted.stage i) h1);
+      stable = λ s h1 h2 h3. absurd (not_linked (g.owner i) (noted.owner i) h1);
+      holder = λ s h1 h2 h3. absurd (not_linked (g.owner i) (noted.owner i) h1);
+      held_stable = λ s t h1. absurd (no_holder (word_at w i) s (world.word i) h1);
+      one_holder = λ s t h1 h2. absurd (no_holder (word_at w i) s (world.word i) h1);
+      begun_source = λ h1 h2. absurd (not_begun (g.bypass i).stage (noted.stage i) h1);
+      left_held = λ s h1. absurd (not_both (is_left g (Central i) s) h1 (noted.left (Central i) s));
+    };
     source = λ k r e i h1 h2 h3 h4. absurd (no_router k r h1);
-    begun_source = λ o h1 h2. absurd (not_begun (g.bypass o).stage (noted.stage o) h1);
-    left_held = λ i s h1. absurd (not_both (is_left g (Central i) s) h1 (noted.left (Central i) s));
   }
 
   spares-bare : Spares w g

@@ -8,7 +8,7 @@ use Rattle.ipcz_world.proofs.Vocabulary.{Word}
 use Rattle.ipcz_world.proofs.frames.Sourcing.{sourced-by, had-one}
 use Rattle.std.specs.Prelude.{◌≡◌, ◌≤◌, ℕ, Bool, true, false, not, cond, ◌&&◌, Some, None, is_some, refl}
 use Rattle.std.proofs.Common.{arith, ap, subst, ◌∙◌, sym, inl, inr}
-use Rattle.ipcz_world.proofs.Vocabulary.{Side, A, B, End, Central, opposite, same_side, has, same_link, same_end, opposite_end, Router}
+use Rattle.ipcz_world.proofs.Vocabulary.{Side, A, B, End, Central, opposite, same_link, same_end, opposite_end, Router}
 use Rattle.ipcz_world.proofs.Vocabulary.{is_terminal, inward_edge, World, Key, same_key, router_at, Books, Records, At, is_linked}
 use Rattle.ipcz_world.proofs.Vocabulary.{is_begun, inner_link, side_router, side_end, proxy_side, across_side, is_nowhere}
 use Rattle.ipcz_world.proofs.Vocabulary.{key_passes, has_primary, has_decaying, has_inward_decaying, Ordered, Stands, Words, Spares}
@@ -29,6 +29,7 @@ use Rattle.ipcz_world.proofs.sends.ExtendingAround.{other_link, other_key, recor
 use Rattle.ipcz_world.proofs.sends.ExtendingAround.{by_same, side_same, stood, passes_kept, passes_equal}
 use Rattle.ipcz_world.proofs.facts.LinkTests.{same_end-itself, same_end-tells}
 use Rattle.ipcz_world.proofs.frames.BypassesKept.{bypass-kept, same_bypass}
+use Rattle.ipcz_world.proofs.frames.WordsKept.{word-kept}
 
 module _ {w v : World} {b : Books} {g : Records} {q : Key} {r : Router} {a : ℕ} (law : OpenInv w b g) (is : IsExtend w q r a)
     (t : IsGrown w v q (extended w q r a)) where
@@ -104,29 +105,24 @@ module _ {w v : World} {b : Books} {g : Records} {q : Key} {r : Router} {a : ℕ
 
   pub words-extended : r.closed ≡ false → Words v h
   words-extended unclosed = record {
-    unused = λ i e. t.word i ∙ law.words.unused i e;
-    begun_stable = λ i s e. ap (λ z. has z.stable s) (t.word i) ∙ law.words.begun_stable i s e;
-    begun_holder = λ i s e. ap (λ z. has z.holder s) (t.word i) ∙ law.words.begun_holder i s e ∙
-        ap (same_side s) (sym (side_same law is t i e));
-    left_held = λ i s n. rw (left_same law is t (Central i) A, left_same law is t (Central i) B, t.word i)
-        (law.words.left_held i s (sym (left_same law is t (Central i) s) ∙ n));
-    stable = λ i s l c nl. ap (λ z. has z.stable s) (t.word i) ∙ law.words.stable i s l c (sym (left_same law is t (Central i) s) ∙ nl) ∙ sym
-        (ap (λ o. key_passes v o (λ x. x.marked)) (router_same law is t (Central i) s refl) ∙
-        passes_equal law is t (side_router g (Central i) s)
-        (λ x. x.marked) refl);
-    holder = λ i s l c nl. ap (λ z. has z.holder s) (t.word i) ∙ law.words.holder i s l c (sym (left_same law is t (Central i) s) ∙ nl) ∙ sym
-        (ap (λ o. key_passes v o (λ x. x.holds)) (router_same law is t (Central i) s refl) ∙
-        passes_equal law is t (side_router g (Central i) s)
-        (λ x. x.holds) refl);
-    held_stable = λ i s u e. ap (λ z. has z.stable u) (t.word i) ∙ law.words.held_stable i s u
-        (ap (λ z. has z.holder s) (sym (t.word i)) ∙ e);
-    one_holder = λ i s u e f. law.words.one_holder i s u (ap (λ z. has z.holder s) (sym (t.word i)) ∙ e)
-        (ap (λ z. has z.holder u) (sym (t.word i)) ∙ f);
+    each = λ i. word-kept {w = w}
+        (record {
+          word = t.word i;
+          linked = refl;
+          begun = refl;
+          early = λ l. l;
+          side = λ b. side_same law is t i b;
+          inner = λ b. node_same law is t (inner_link (g.bypass i).inner) B
+              (other_link law is t (inner_link (g.bypass i).inner) ((law.bypasses i).inner b));
+          left = left_same law is t (Central i);
+          marked = λ s l b n. ap (λ o. key_passes v o (λ x. x.marked)) (router_same law is t (Central i) s refl) ∙
+              passes_equal law is t (side_router g (Central i) s) (λ x. x.marked) refl;
+          holds = λ s l b n. ap (λ o. key_passes v o (λ x. x.holds)) (router_same law is t (Central i) s refl) ∙
+              passes_equal law is t (side_router g (Central i) s) (λ x. x.holds) refl;
+        })
+        (law.words.each i);
     source = sourced-by w v (had-one w v q r (extended w q r a) t.router (λ h. absurd (lone_free h)))
         (λ x z e i at p l. ap (λ (x : Word). x.source) (t.word i)) law.words.source;
-    begun_source = λ o s l. ap (λ (x : Word). x.source) (t.word o) ∙ law.words.begun_source o s l ∙ ap Some
-        (sym (node_same law is t (inner_link (g.bypass o).inner) B
-        (other_link law is t (inner_link (g.bypass o).inner) ((law.bypasses o).inner s))));
   }
     where
       lone_free : r.holds ≡ true → ⊥

@@ -27,7 +27,7 @@ pub held_stays : (w : World) (g : Records) (i : ℕ) (t s : Side) → Words w g 
 held_stays w g i t s law held still = go (is_left g (Central i) s) refl
   where
     never : (u : Side) → is_left g (Central i) u ≡ true → has (word_at w i).holder u ≡ true → true ≡ false
-    never u l h = let e : u ≡ t = law.one_holder i u t h held in sym l ∙ ap (is_left g (Central i)) e ∙ still
+    never u l h = let e : u ≡ t = (law.each i).one_holder u t h held in sym l ∙ ap (is_left g (Central i)) e ∙ still
 
     parts : (u : Side) → (is_left g (Central i) u && has (word_at w i).holder u) ≡ true → true ≡ false
     parts u h = let p = and_parts (is_left g (Central i) u) (has (word_at w i).holder u) h in never u p.0 p.1
@@ -39,7 +39,7 @@ held_stays w g i t s law held still = go (is_left g (Central i) s) refl
     go : (c : Bool) → is_left g (Central i) s ≡ c → c ≡ false
     go false e = refl
     go true e = elim (either (is_left g (Central i) A && has (word_at w i).holder A) (is_left g (Central i) B && has (word_at w i).holder B)
-        (law.left_held i s e)) [ inl h ↦ parts A h | inr h ↦ parts B h ]
+        ((law.each i).left_held s e)) [ inl h ↦ parts A h | inr h ↦ parts B h ]
 
 -- and no end of its pair has retired
 pub held_unretired : (w : World) (b : Books) (g : Records) (i : ℕ) (t : Side) → Words w g → RetiredEnds b g →

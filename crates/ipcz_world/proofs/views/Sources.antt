@@ -27,7 +27,8 @@ pub accept_source : (w : World) (b : Books) (g : Records) (n from o : ℕ) (side
 unfolding source_for is_source is_linked is_unclaimed
 accept_source w b g n from o side fresh length law at =
     let begun : is_begun (g.bypass o) ≡ true = grind (arith, at.stage, nat_tests) in
-    let source : (word_at w o).source ≡ Some (side_node g (inner_of g o) B) = law.words.begun_source o begun (omega (arith, at.stage)) in
+    let source : (word_at w o).source ≡ Some (side_node g (inner_of g o) B) =
+        (law.words.each o).begun_source begun (omega (arith, at.stage)) in
     let used : is_unclaimed (g.owner o) ≡ false = used_by (g.owner o) ((law.bypasses o).old begun) in
     let claimed : nat_lt o w.claimed ≡ true = grind (arith, law.counts.unclaimed o, used, nat_tests) in
     rw (claimed, source) (ap (nat_eq from) (sym at.sender) ∙ nat_eq-itself from)
