@@ -1,11 +1,9 @@
 -- What a message that brings no item is to the router that has its link, told by the message whole.
-use Rattle.std.proofs.Common.{◌≡◌, ◌&&◌, not, ℕ, Bool, true, false, Option, Some, None, refl, sym, ◌∙◌, ap, ap₂, subst, true≢false, arith}
-use Rattle.std.specs.Prelude.{IfSome, IsSomeAnd}
-use Rattle.ipcz_base.specs.declared.link_id.LinkId.{LinkId}
+use Rattle.std.proofs.Common.{◌≡◌, ◌&&◌, not, ℕ, Bool, true, false, Option, Some, None, refl, ◌∙◌, ap, subst, true≢false, arith}
+use Rattle.std.specs.Prelude.{IfSome, IfNone, IsSomeAnd}
 use Rattle.ipcz_base.specs.declared.link_id.LinkId.TheVariants.{Central}
 use Rattle.ipcz_base.specs.declared.message.Message.{Message}
 use Rattle.ipcz_base.specs.declared.message.Message.TheVariants as messages
-use Rattle.ipcz_base.specs.declared.side.Side.{Side}
 use Rattle.ipcz_router.specs.Router.{Router, inward_edge}
 use Rattle.ipcz_router.specs.Bypass.{fits_accept_bypass, is_source}
 use Rattle.ipcz_router.specs.Hearing.{hears, hear, answer_to, links_brought}
@@ -13,22 +11,19 @@ use Rattle.ipcz_node.specs.Node.{Node, Found, found, router_in, link_router, is_
 use Rattle.ipcz_node.specs.Hands.{link_asked, side_asked, passes_at, fits, handle, tell, grows_where_it_fits}
 use Rattle.ipcz_node.specs.RoomyNodes.{RoomyNode}
 use Rattle.ipcz_node.specs.Telling.{HasRoomFor, HasRoomToward, brings_item}
-use Rattle.ipcz_node.specs.Hearing.{is_news, is_dropped, HasRoomToHear}
+use Rattle.ipcz_node.specs.Hearing.{is_news, is_dropped, HasRoomToHear, IsAsked}
 use Rattle.ipcz_node.proofs.AtRouter.{taken}
 use Rattle.ipcz_node.proofs.Telling.{room_to_stop, room_to_will_stop}
 
--- the router that a message asks for, if the serial is found by the message's own link and side
-pub asked : (n : Node) (m : Message) (link : LinkId) (side : Side) (s : ℕ) → link ≡ link_asked m → side ≡ side_asked m →
-    IsSomeAnd (router_in n s) (λ r. link_router n link side ≡ Some (found s r)) →
+-- the router that a message asks for, if its serial is known
+pub asked_at : (n : Node) (m : Message) (o : Option ℕ) (s : ℕ) → o ≡ Some s → IsAsked n m o →
     (r : Router) × (router_in n s ≡ Some r) × (link_router n (link_asked m) (side_asked m) ≡ Some (found s r))
-asked n m link side s of_link of_side h =
-    let t = taken (router_in n s) (λ (r : Router). link_router n link side ≡ Some (found s r)) h in
-    (t.0, t.1, ap₂ (link_router n) (sym of_link) (sym of_side) ∙ t.2)
+asked_at n m o s is h = taken (router_in n s) (λ (r : Router). link_router n (link_asked m) (side_asked m) ≡ Some (found s r))
+    (subst (λ x. IfSome x (λ s. IsSomeAnd (router_in n s) (λ r. link_router n (link_asked m) (side_asked m) ≡ Some (found s r)))) is h.1)
 
--- no router has the link that a message asks for
-pub lost : (n : Node) (m : Message) (link : LinkId) (side : Side) → link ≡ link_asked m → side ≡ side_asked m →
-    link_router n link side ≡ None → link_router n (link_asked m) (side_asked m) ≡ None
-lost n m link side of_link of_side none = ap₂ (link_router n) (sym of_link) (sym of_side) ∙ none
+-- no router has the link that it asks for
+pub asked_none : (n : Node) (m : Message) (o : Option ℕ) → o ≡ None → IsAsked n m o → link_router n (link_asked m) (side_asked m) ≡ None
+asked_none n m o is h = subst (λ x. IfNone x (link_router n (link_asked m) (side_asked m) ≡ None)) is h.0
 
 with_true : (a : Bool) → a ≡ (a && true)
 with_true true = refl

@@ -19,7 +19,7 @@ use Rattle.std.specs.Ordering.{nat_cmp}
 use Rattle.std.specs.FinMap.{FinMap, get, insert}
 use Rattle.ipcz_base.specs.declared.end.End.{End}
 use Rattle.ipcz_base.specs.declared.item.Item.{Item}
-use Rattle.ipcz_router.specs.Router.{Router, is_open_terminal}
+use Rattle.ipcz_router.specs.Router.{Router, inward_edge, is_open_terminal}
 use Rattle.ipcz_router.specs.Calls.{put_item, take_item, accept, extend}
 use Rattle.ipcz_router.specs.Filings.{filing_of}
 use Rattle.std.specs.Prelude.{option_map}
@@ -311,6 +311,31 @@ extend_standing r link = record {
   closes = λ h. refl;
   stays = refl;
 }
+
+-- one link leaves if it isn't kept, and each other stays
+pub unlinked : (is went same old : Bool) → (same ≡ true → old ≡ (is || went)) → less_one is same went old ≡ (if same then is else old)
+unlinked true went true old here = here refl
+unlinked true went false old here = refl
+unlinked false true true old here = refl
+unlinked false false true old here = here refl
+unlinked false went false old here = refl
+
+one_less : (a b c d : Bool) → any a b c d ≡ (any a false c d || b)
+one_less true b c d = refl
+one_less false true true d = refl
+one_less false true false true = refl
+one_less false true false false = refl
+one_less false false true d = refl
+one_less false false false true = refl
+one_less false false false false = refl
+
+-- the act that finishes the outward edge gives its decaying link up, and no other
+pub finished : (r w : Router) (answer : Answer) (was is : Filing) → was ≡ filing_of r → is ≡ filing_of w → w ≡ apply r FinishOut answer →
+    (link : LinkId) (side : Side) → is_under was link side ≡ (is_under is link side || has_link was.outward_decaying link side)
+unfolding apply has_link
+finished r w answer was is was_is is_is done link side = rw (was_is, is_is, done)
+    (one_less (has_link r.outward.primary link side) (has_link r.outward.decaying link side) (has_link (inward_edge r).primary link side)
+    (has_link (inward_edge r).decaying link side))
 
 -- an act gives links up, or lets one decay, but takes none
 pub act_standing : (r : Router) (act : RouterAct) (answer : Answer) → FilesWithin 0 r (apply r act answer)

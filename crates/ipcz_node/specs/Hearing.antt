@@ -1,11 +1,12 @@
 -- What a node does with a message that brings no item, told by the message whole.
-use Rattle.std.specs.Prelude.{◌≤◌, ◌&&◌, Bool, true, false, not, nat_lt}
+use Rattle.std.specs.Prelude.{◌≡◌, ◌≤◌, ◌&&◌, ℕ, Bool, true, false, not, nat_lt, Option, Some, None, IfSome, IfNone, IsSomeAnd}
 use Rattle.ipcz_base.specs.declared.link_id.LinkId.TheVariants.{Central}
 use Rattle.ipcz_base.specs.declared.message.Message.{Message}
 use Rattle.ipcz_base.specs.declared.message.Message.TheVariants as messages
 use Rattle.ipcz_router.specs.Router.{Router}
 use Rattle.ipcz_router.specs.Hearing.{answer_to, links_brought}
-use Rattle.ipcz_node.specs.Node.{Node, is_named}
+use Rattle.ipcz_node.specs.Hands.{link_asked, side_asked}
+use Rattle.ipcz_node.specs.Node.{Node, found, is_named, link_router, router_in}
 use Rattle.ipcz_node.specs.RoomyNodes.{RoomyNode}
 use Rattle.ipcz_node.specs.Telling.{HasRoomToTell}
 
@@ -23,3 +24,8 @@ is_dropped other = false
 -- there is room for what a message makes a router take and tell
 abbrev pub HasRoomToHear : RoomyNode → Message → Router → Type 0
 HasRoomToHear k m r = (links_brought m ≤ k.room.links) × HasRoomToTell k (answer_to r m)
+
+-- the serial is that of the router that has the link which a message asks for; none if no router has it
+abbrev pub IsAsked : Node → Message → Option ℕ → Type 0
+IsAsked n m serial = IfNone serial (link_router n (link_asked m) (side_asked m) ≡ None) ×
+    IfSome serial (λ s. IsSomeAnd (router_in n s) (λ r. link_router n (link_asked m) (side_asked m) ≡ Some (found s r)))

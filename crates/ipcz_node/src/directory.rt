@@ -354,11 +354,36 @@ impl Directory {
         ensures room { (self.new.filed.room ≡ self.old.filed.room) × (self.new.filed.links ≡ self.old.filed.links) }
         ensures ends { self.new.ends ≡ self.old.ends - ends_taken act result }
     {
-        if keeps_links(act) {
+        if act == RouterAct::FinishOut {
+            self.finish_out(serial, answer)
+        } else if keeps_links(act) {
             self.act_in_place(serial, act, answer)
         } else {
             self.act_on_links(serial, act, answer)
         }
+    }
+
+    // The act that gives up the outward decaying link: nothing else is to be filed but its router's flag.
+    #[inline(always)]
+    fn finish_out(&mut self, serial: u64, answer: Answer) -> Applied
+        requires possible { IsSomeAnd (get self.old.filed.routers serial) (λ r. may_take r RouterAct.FinishOut ≡ true) }
+        requires answer { IsAnswerOf RouterAct.FinishOut answer }
+        ensures router { (r : RouterRecord) → get self.old.filed.routers serial ≡ Some r →
+            self.new.filed ≡ put_filed self.old.filed serial (apply r RouterAct.FinishOut answer) }
+        ensures output { (r : RouterRecord) → get self.old.filed.routers serial ≡ Some r → result ≡ output_of r RouterAct.FinishOut }
+        ensures number { IsBelowNoNumber result }
+        ensures room { (self.new.filed.room ≡ self.old.filed.room) × (self.new.filed.links ≡ self.old.filed.links) }
+        ensures ends { self.new.ends ≡ self.old.ends - ends_taken RouterAct.FinishOut result }
+    {
+        let router = self.routers.router_mut(serial);
+        let was = router.filing();
+        let applied = router.apply(RouterAct::FinishOut, answer);
+        let is = router.filing();
+        self.files.unfile(serial, &was.outward_decaying, &was, &is);
+        self.ends = self
+            .ends
+            .saturating_sub(ends_taken(RouterAct::FinishOut, &applied));
+        applied
     }
 
     // An act that keeps the links of its router: only its flag is to be filed.

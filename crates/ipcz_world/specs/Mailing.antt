@@ -1,6 +1,11 @@
 -- What the mailboxes of the world do with a message, as the code names it, and how the code keeps them.
-use Rattle.std.specs.Prelude.{◌≡◌, ◌≤◌, ℕ, Bool, true, false, cond, List, [], ◌∷◌, length}
+use Rattle.std.specs.Prelude.{◌≡◌, ◌≤◌, ℕ, Bool, true, false, cond, List, [], ◌∷◌, length, Option, Result}
 use Rattle.ipcz_base.specs.Totals.{total_list}
+use Rattle.ipcz_base.specs.declared.message.Message.{Message}
+use Rattle.ipcz_base.specs.declared.refusal.Refusal.{Refusal}
+use Rattle.ipcz_node.specs.Deliveries.{IsDeliveredInPlace}
+use Rattle.ipcz_node.specs.Hands.{deliver}
+use Rattle.ipcz_node.specs.RoomyNodes.{RoomyNode}
 use Rattle.ipcz_world.specs.declared.mail.Mail.{Mail}
 use Rattle.ipcz_world.specs.declared.mail.Mail.TheVariants.{Empty, Full, Hand}
 use Rattle.ipcz_world.specs.Turns.{is_full}
@@ -37,3 +42,7 @@ pub record AreKept (boxes : List Mail) (marks : List Bool) (full : ℕ) : Type 0
   pub few : length boxes ≤ 64
   pub marked : length marks ≡ 64
   pub counted : full ≡ count_full (as_they_stand boxes marks)
+
+-- a message of a mailbox is delivered to a node from where it lies, or the node is as it was
+abbrev pub IsHanded : {A : Type 0} → RoomyNode → ℕ → Message → Option ℕ → Result A Refusal → RoomyNode → Type 0
+IsHanded old from m source result new = (left : Message) × IsDeliveredInPlace old from m left source (deliver old.node from m source) result new

@@ -1,11 +1,12 @@
-ghost use Rattle.std.specs.Prelude.{ℕ, ◌≡◌, ◌<◌, ◌≤◌, true, false, Option, Some, IfOk, IfErr, OnErr, cond, length, replicate, List};
+ghost use Rattle.std.specs.Prelude.{ℕ, ◌≡◌, ◌<◌, ◌≤◌, true, false, Option, Some, is_some, IfOk, IfErr, OnOk, OnErr, cond, length, replicate, List};
+ghost use Rattle.std.specs.Prelude.{option_copied};
 ghost use Rattle.ipcz_node.specs.Hands.{deliver, message_grows, message_lacks_serials};
 ghost use Rattle.ipcz_base.specs.Totals.{total_list};
 ghost use Rattle.ipcz_world.specs.Tallies.{Tells};
 ghost use Rattle.ipcz_base.specs.Indexed.{place_at, put_place};
 ghost use Rattle.ipcz_world.specs.Turns.{is_full, is_clear, hand_message};
 ghost use Rattle.ipcz_world.specs.SettleLimit.{highest, gone_mailed};
-ghost use Rattle.ipcz_world.specs.Mailing.{taken_up, put_down, as_marked, count_full};
+ghost use Rattle.ipcz_world.specs.Mailing.{taken_up, put_down, as_marked, count_full, IsHanded};
 
 use crate::mail::Mail;
 use crate::tallies::{gone_message, higher, plus};
@@ -185,6 +186,37 @@ impl Mailboxes {
         Ok(true)
     }
 
+    /// The message in hand in a mailbox, if there is one.
+    pub(crate) fn in_hand(&self, k: usize) -> Option<&Message>
+        requires { k < length self.now }
+        ensures { option_copied result ≡ hand_message (place_at Mail.Empty self.now k) }
+    {
+        message_in(&self.boxes[k], self.marks[k])
+    }
+
+    /// Hands the message in hand in a mailbox to a node, whatever it is: the mailbox is empty then. If the node refuses it, all stays as it is.
+    pub(crate) fn hand_any(
+        &mut self,
+        k: usize,
+        node: &mut NodeState,
+        from: u8,
+        source: Option<u8>,
+    ) -> Result<(), Refusal>
+        requires place { k < length self.old }
+        requires hand { is_some (hand_message (place_at Mail.Empty self.old k)) ≡ true }
+        ensures delivered { (m : Message) → hand_message (place_at Mail.Empty self.old k) ≡ Some m →
+            IsHanded node.old from m source result node.new }
+        ensures mail { OnOk result (self.new ≡ put_place Mail.Empty self.old k (put_down (place_at Mail.Empty self.old k))) }
+        ensures err { OnErr result (self.new ≡ self.old) }
+    {
+        let place = &mut self.boxes[k];
+        match hand_any_at(place, self.marks[k], node, from, source) {
+            Ok(()) => *place = Mail::Empty,
+            Err(why) => return Err(why),
+        }
+        Ok(())
+    }
+
     /// Takes the message in hand out of its mailbox, which is empty then; a mailbox without one stays as it is.
     pub(crate) fn take_hand(&mut self, k: usize) -> Option<Message>
         requires { k < length self.old }
@@ -236,6 +268,47 @@ fn hand_at(place: &mut Mail, marked: bool, node: &mut NodeState, from: u8) -> Re
             }
         }
         Mail::Hand(message) => node.deliver_at_once(from, message),
+    }
+}
+
+// Hands the message in hand in a mailbox, whose flag may be set, to a node, whatever it is: what is left of the message counts for nothing
+// then. Else all stays as it is.
+#[inline(always)]
+#[tactic(auto, unfolding(crate::specs::Mailing::as_marked, crate::specs::Mailing::taken_up, crate::specs::Turns::hand_message, crate::specs::Turns::is_full))]
+fn hand_any_at(
+    place: &mut Mail,
+    marked: bool,
+    node: &mut NodeState,
+    from: u8,
+    source: Option<u8>,
+) -> Result<(), Refusal>
+    requires { is_some (hand_message (as_marked marked place.old)) ≡ true }
+    ensures delivered { (m : Message) → hand_message (as_marked marked place.old) ≡ Some m → IsHanded node.old from m source result node.new }
+    ensures hand { is_full (as_marked marked place.old) ≡ false }
+    ensures err { OnErr result (place.new ≡ place.old) }
+{
+    match place {
+        Mail::Empty => unreachable!(),
+        Mail::Full(message) => {
+            if marked {
+                node.deliver_in_place(from, message, source)
+            } else {
+                unreachable!()
+            }
+        }
+        Mail::Hand(message) => node.deliver_in_place(from, message, source),
+    }
+}
+
+// The message in hand in a mailbox, whose flag may be set.
+#[tactic(auto, unfolding(crate::specs::Mailing::as_marked, crate::specs::Mailing::taken_up, crate::specs::Turns::hand_message))]
+fn message_in(place: &Mail, marked: bool) -> Option<&Message>
+    ensures { option_copied result ≡ hand_message (as_marked marked place.now) }
+{
+    match place {
+        Mail::Empty => None,
+        Mail::Full(message) => { if marked { Some(message) } else { None } }
+        Mail::Hand(message) => Some(message),
     }
 }
 

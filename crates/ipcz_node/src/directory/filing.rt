@@ -36,6 +36,32 @@ impl Files {
         close_end(&mut self.terminals, serial, was, is);
         follow(&mut self.flagged, serial, was.flagged, is.flagged);
     }
+
+    /// The same, if the router has given up no more than one link and has no other that it hadn't.
+    #[inline(always)]
+    pub(super) fn unfile(&mut self, serial: u64, gone: &Option<LinkEnd>, was: &Filing, is: &Filing)
+        requires can { CanRefile self.old.links self.old.terminals self.old.flagged serial was.now is.now }
+        requires gone { (link : LinkId) (side : Side) →
+            is_under was.now link side ≡ (is_under is.now link side || has_link gone.now link side) }
+        ensures { AreRefiled self.old.links self.new.links self.old.terminals self.new.terminals self.old.flagged self.new.flagged
+            serial was.now is.now }
+    {
+        unlink(&mut self.links, serial, gone, is);
+        close_end(&mut self.terminals, serial, was, is);
+        follow(&mut self.flagged, serial, was.flagged, is.flagged);
+    }
+}
+
+// One link only, which is taken away if it isn't kept.
+#[inline(always)]
+fn unlink(links: &mut Index<LinkPlace>, serial: u64, gone: &Option<LinkEnd>, is: &Filing)
+    requires { (link : LinkId) (side : Side) → is_filed place_cmp links.old.members (link_place link side) serial ≡
+        (is_under is.now link side || has_link gone.now link side) }
+    ensures members { (link : LinkId) (side : Side) (s : ℕ) → is_filed place_cmp links.new.members (link_place link side) s
+        ≡ (if serial == s then is_under is.now link side else is_filed place_cmp links.old.members (link_place link side) s) }
+    ensures room { links.old.room ≤ links.new.room }
+{
+    drop_link(links, serial, gone, is);
 }
 
 // The terminals only.

@@ -423,6 +423,7 @@ impl NodeState {
 
     /// Delivers a message as `deliver_unseen` does, from where it lies: it is left as it is if it is refused, and counts for nothing if it
     /// is delivered.
+    #[tactic(auto, unfolding(crate::specs::Telling::brings_item))]
     pub fn deliver_in_place(
         &mut self,
         from: u8,
@@ -432,8 +433,34 @@ impl NodeState {
         ensures { IsDeliveredInPlace self.old from message.old message.new source (deliver self.old.node from message.old source)
             result self.new }
     {
-        let fits = self.fits(from, message, source);
-        self.take_from_hand(from, message, source, fits)
+        if let Message::Item { .. } = message {
+            let fits = self.fits(from, message, source);
+            return self.take_from_hand(from, message, source, fits);
+        }
+        self.deliver_news(from, message, source)
+    }
+
+    // The same of a message that brings no item: the router that it asks for is looked for once.
+    #[tactic(auto, using(crate::proofs::Handing::takes_no_serials), unfolding(crate::specs::Hands::deliver, crate::specs::Hands::serials_in, crate::specs::Telling::brings_item))]
+    fn deliver_news(
+        &mut self,
+        from: u8,
+        message: &mut Message,
+        source: Option<u8>,
+    ) -> Result<(), Refusal>
+        requires { brings_item message.old ≡ false }
+        ensures { IsDeliveredInPlace self.old from message.old message.new source (deliver self.old.node from message.old source)
+            result self.new }
+    {
+        self.counts_serials();
+        let asked = self.asked(message);
+        if !self.is_heard_by(asked, from, message, source) {
+            self.keep_stray(message)?;
+        } else if self.hear_by(asked, from, message, source).is_err() {
+            return Err(Refusal::OutOfMemory);
+        }
+        self.free_hand(from);
+        Ok(())
     }
 
     /// Delivers a message from the node `from` as `deliver` does, but only an item without ends and moves that has its place at a router here,

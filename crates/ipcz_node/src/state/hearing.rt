@@ -7,7 +7,7 @@ ghost use Rattle.ipcz_router.specs.Hearing.{hears, hear, answer_to};
 ghost use Rattle.ipcz_node.specs.Node.{router_in, with_router};
 ghost use Rattle.ipcz_node.specs.Hands.{fits, handle, tell, grows_where_it_fits};
 ghost use Rattle.ipcz_node.specs.Telling.{HasRoomToTell, HasRoomFor, brings_item};
-ghost use Rattle.ipcz_node.specs.Hearing.{is_news, is_dropped, HasRoomToHear};
+ghost use Rattle.ipcz_node.specs.Hearing.{is_news, is_dropped, HasRoomToHear, IsAsked};
 
 use super::NodeState;
 use crate::happened::{link_asked, side_asked};
@@ -56,12 +56,36 @@ impl NodeState {
         router.hears(sender, message, source) && self.is_news(router, message)
     }
 
+    // The serial of the router that has the link which a message asks for.
+    #[inline(always)]
+    pub(super) fn asked(&self, message: &Message) -> Option<u64>
+        ensures { IsAsked self.now.node message.now result }
+    {
+        self.link_serial(link_asked(message), side_asked(message))
+    }
+
     // Whether a message that brings no item fits.
     pub(super) fn is_heard(&self, sender: u8, message: &Message, source: Option<u8>) -> bool
         requires { brings_item message.now ≡ false }
         ensures { result ≡ fits self.now.node sender message.now source }
     {
-        match self.link_serial(link_asked(message), side_asked(message)) {
+        self.is_heard_by(self.asked(message), sender, message, source)
+    }
+
+    // The same, if the router that it asks for is known.
+    #[inline(always)]
+    pub(super) fn is_heard_by(
+        &self,
+        asked: Option<u64>,
+        sender: u8,
+        message: &Message,
+        source: Option<u8>,
+    ) -> bool
+        requires asked { IsAsked self.now.node message.now asked }
+        requires other { brings_item message.now ≡ false }
+        ensures { result ≡ fits self.now.node sender message.now source }
+    {
+        match asked {
             Some(serial) => self.is_heard_at(serial, sender, message, source),
             None => is_dropped(message),
         }
@@ -139,7 +163,28 @@ impl NodeState {
         ensures full { HasRoomFor self.old message.now → IsOk result }
         ensures err { OnErr result (self.new.node ≡ self.old.node) }
     {
-        match self.link_serial(link_asked(message), side_asked(message)) {
+        let asked = self.asked(message);
+        self.hear_by(asked, sender, message, source)
+    }
+
+    // The same, if the router that it asks for is known.
+    #[inline(always)]
+    pub(super) fn hear_by(
+        &mut self,
+        asked: Option<u64>,
+        sender: u8,
+        message: &Message,
+        source: Option<u8>,
+    ) -> Result<(), AllocError>
+        requires asked { IsAsked self.old.node message.now asked }
+        requires fits { fits self.old.node sender message.now source ≡ true }
+        requires other { brings_item message.now ≡ false }
+        ensures ok { OnOk result (self.new.node ≡ handle self.old.node sender message.now) }
+        ensures grows { grows_where_it_fits message.now ≡ false → IsOk result }
+        ensures full { HasRoomFor self.old message.now → IsOk result }
+        ensures err { OnErr result (self.new.node ≡ self.old.node) }
+    {
+        match asked {
             Some(serial) => self.hear_at(serial, sender, message, source),
             None => Ok(()),
         }

@@ -67,7 +67,13 @@ impl State {
             self.nodes.node_mut(n).rest(serial);
             return (6, self.next_node(n));
         }
-        self.leave_in_hand(n, link, number, item);
+        // A link end made anew, so that the first one needn't lie in memory.
+        let over = LinkEnd {
+            link: link.link,
+            side: link.side,
+            other: link.other,
+        };
+        self.leave_in_hand(n, over, number, item);
         (3, self.next_node(n))
     }
 
@@ -93,7 +99,13 @@ impl State {
         {
             return (6, self.next_node(link.other));
         }
-        self.leave_in_hand(n, link, number, item);
+        // A link end made anew, so that the first one needn't lie in memory.
+        let over = LinkEnd {
+            link: link.link,
+            side: link.side,
+            other: link.other,
+        };
+        self.leave_in_hand(n, over, number, item);
         (4, self.next_node(n))
     }
 

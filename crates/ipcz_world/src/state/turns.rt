@@ -1,11 +1,14 @@
 //! The turns of the nodes: which act comes first, and what each act does to the world.
 
-ghost use Rattle.std.specs.Prelude.{◌≡◌, ◌<◌, ◌&&◌, ℕ, true, length, IfSome, IfNone, IfErr, OnOk, Ok, Err};
+ghost use Rattle.std.specs.Prelude.{◌≡◌, ◌<◌, ◌&&◌, ℕ, true, length, Some, IfSome, IfNone, IfErr, OnOk, Ok, Err};
+ghost use Rattle.ipcz_base.specs.Indexed.{place_at};
+ghost use Rattle.ipcz_base.specs.declared.message.Message.{Message as MessageData};
 ghost use Rattle.ipcz_world.specs.World.{node_at, mail_at, way};
 ghost use Rattle.ipcz_node.specs.Acts.{Answers, first_destination, first_sender, has_mail_for, stand_in};
 ghost use Rattle.ipcz_node.specs.RoomyNodes.{IsPossibleAct};
 ghost use Rattle.ipcz_world.specs.Settling.{TakesTurn};
-ghost use Rattle.ipcz_world.specs.Turns.{is_clear, seen_at, next_at, can_take, turn_event};
+ghost use Rattle.ipcz_world.specs.declared.mail.Mail.TheVariants.{Empty};
+ghost use Rattle.ipcz_world.specs.Turns.{hand_message, is_clear, seen_at, next_at, can_take, turn_event};
 ghost use Rattle.ipcz_world.specs.Steps.{StepFirst};
 ghost use Rattle.ipcz_world.specs.WordAnswers.{source_for};
 ghost use Rattle.ipcz_world.specs.Wordless.{is_wordless};
@@ -165,6 +168,17 @@ impl State {
             | Message::StopProxying { .. }
             | Message::ProxyWillStop { .. }
             | Message::Flush { .. } => None,
+        }
+    }
+
+    // The same of the message in hand in a mailbox.
+    fn source_in_hand(&self, place: usize) -> Option<u8>
+        requires { place < length self.now.mail }
+        ensures { (m : MessageData) → hand_message (place_at Empty self.now.mail place) ≡ Some m → result ≡ source_for self.now m }
+    {
+        match self.mail.in_hand(place) {
+            Some(message) => self.source_for(message),
+            None => None,
         }
     }
 
@@ -369,17 +383,14 @@ impl State {
         ensures refused { IfErr result (λ why. IsTaken self.old n (Act.Hand from) (Err why) self.new) }
     {
         let place = self.way(from, n);
-        let Some(message) = self.mail.take_hand(place) else {
-            unreachable!()
-        };
-        let source = self.source_for(&message);
-        match self.nodes.node_mut(n).deliver_unseen(from, message, source) {
-            Ok(()) => Ok(()),
-            Err((why, message)) => {
-                self.mail.put_back(place, message);
-                Err(why)
-            }
+        let source = self.source_in_hand(place);
+        if let Err(why) = self
+            .mail
+            .hand_any(place, self.nodes.node_mut(n), from, source)
+        {
+            return Err(why);
         }
+        Ok(())
     }
 
     // Lets a router do an act as `take_router_act` does, but doesn't tell what happened.

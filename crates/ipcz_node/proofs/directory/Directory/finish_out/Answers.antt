@@ -1,0 +1,41 @@
+use Rattle.std.proofs.Common.{◌+◌, ◌≤◌, ap, sym, subst, arith}
+use Rattle.ipcz_router.specs.declared.act.RouterAct.TheVariants.{FinishOut}
+use Rattle.ipcz_node.specs.Directories.{ends_inside, ends_taken}
+use Rattle.ipcz_node.proofs.Holding.{hold_spent, act_inside}
+use Rattle.ipcz_node.proofs.Refiling.{FilesWithin, can_change, changed, act_standing, finished}
+use Rattle.ipcz_node.proofs.directory.Directory.finish_out.Goals as goal
+
+pub unfile-requires-clause-can : goal.unfile-requires-clause-can
+unfile-requires-clause-can c =
+    let r = c.router_mut-router.result.now.router in
+    let w = c.apply-applied.new.self.router in
+    let fits : FilesWithin 0 r w = subst (FilesWithin 0 r) (sym c.apply-applied.ensures.router) (act_standing r _ _) in
+    can_change _ c.args.serial r w _ _ 0 fits _ c.self.inside.files.links _ c.self.inside.files.terminals _ c.self.inside.files.flagged c.self.inside.room
+    c.self.inside.more c.self.inside.more c.self.inside.routers.room (sym c.router_mut-router.ensures.value)
+    c.filing-was.ensures c.filing-is.ensures (omega arith) c.self.invariant.0
+
+pub invariant_of-self : goal.invariant_of-self
+invariant_of-self c =
+    let r = c.router_mut-router.result.now.router in
+    let w = c.apply-applied.new.self.router in
+    let fits : FilesWithin 0 r w = subst (FilesWithin 0 r) (sym c.apply-applied.ensures.router) (act_standing r _ _) in
+    let fewer : ends_inside w + c.ends_taken.result ≤ ends_inside r =
+    omega (
+      arith,
+      act_inside r FinishOut c.args.answer,
+      ap ends_inside c.apply-applied.ensures.router,
+      c.ends_taken.ensures,
+      ap (ends_taken FinishOut) c.apply-applied.ensures.output,
+    ) in (
+      changed _ c.args.serial r w _ _ 0 fits _ _ _ _ _ _ c.self.inside.room c.self.inside.more c.self.inside.more c.self.inside.routers.room
+          (sym c.router_mut-router.ensures.value) c.filing-was.ensures c.filing-is.ensures (omega arith)
+          c.self.invariant.0 c.unfile.ensures,
+      hold_spent _ c.args.serial r w c.self.inside.ends _ c.ends_taken.result c.self.inside.room c.self.inside.held.room
+          c.self.inside.held.room (sym c.router_mut-router.ensures.value) fewer c.saturating_sub-self-inside.ensures (omega arith)
+          c.self.invariant.1,
+    )
+
+pub unfile-requires-clause-gone : goal.unfile-requires-clause-gone
+unfile-requires-clause-gone c =
+    finished c.router_mut-router.result.now.router c.apply-applied.new.self.router c.args.answer _ _ c.filing-was.ensures c.filing-is.ensures
+    c.apply-applied.ensures.router

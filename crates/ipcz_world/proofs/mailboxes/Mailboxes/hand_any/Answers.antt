@@ -1,0 +1,54 @@
+use Rattle.std.proofs.Common.{◌∙◌, ◌<◌, length, arith, ap, sym}
+use Rattle.std.specs.Prelude.{is_some}
+use Rattle.ipcz_world.specs.Turns.{is_full, hand_message}
+use Rattle.ipcz_world.proofs.code.Marks.{gone, kept-gone, seen-read, within}
+use Rattle.ipcz_world.proofs.mailboxes.Mailboxes.hand_any.Goals as goal
+
+pub index_mut-place-requires : goal.index_mut-place-requires
+index_mut-place-requires c =
+    omega (arith, within _ c.self.inside.marks _ c.args.k c.self.view_is c.requires.place, c.self.inside.boxes.ok)
+
+pub bounds-self-inside-k : goal.bounds-self-inside-k
+bounds-self-inside-k c = omega (arith, within _ c.self.inside.marks _ c.args.k c.self.view_is c.requires.place, c.self.invariant.few)
+
+pub hand_any_at-requires : goal.hand_any_at-requires
+hand_any_at-requires c =
+    let l = within _ c.self.inside.marks _ c.args.k c.self.view_is c.requires.place in
+    let many : c.args.k < length c.self.inside.marks = omega (arith, l, c.self.invariant.few, c.self.invariant.marked) in
+    let seen = seen-read c.self.inside.boxes.items c.self.inside.marks c.args.self.now c.args.k c.index_mut-place.result.now c.self.view_is l many
+    c.index_mut-place.ensures.value in
+    ap (λ m. is_some (hand_message m)) (sym seen) ∙ c.requires.hand
+
+pub returns-clause-delivered : goal.returns-clause-delivered
+returns-clause-delivered c = λ m e.
+    let l = within _ c.self.inside.marks _ c.args.k c.self.view_is c.requires.place in
+    let many : c.args.k < length c.self.inside.marks = omega (arith, l, c.self.invariant.few, c.self.invariant.marked) in
+    let seen = seen-read c.self.inside.boxes.items c.self.inside.marks c.args.self.now c.args.k c.index_mut-place.result.now c.self.view_is l many
+    c.index_mut-place.ensures.value in
+    c.in-Ok.ensures.delivered m (ap hand_message (sym seen) ∙ e)
+
+pub returns-in-Err-clause-delivered : goal.returns-in-Err-clause-delivered
+returns-in-Err-clause-delivered c = λ m e.
+    let l = within _ c.self.inside.marks _ c.args.k c.self.view_is c.requires.place in
+    let many : c.args.k < length c.self.inside.marks = omega (arith, l, c.self.invariant.few, c.self.invariant.marked) in
+    let seen = seen-read c.self.inside.boxes.items c.self.inside.marks c.args.self.now c.args.k c.index_mut-place.result.now c.self.view_is l many
+    c.index_mut-place.ensures.value in
+    c.in-Err.ensures.delivered m (ap hand_message (sym seen) ∙ e)
+
+pub invariant_of-self-2 : goal.invariant_of-self-2
+invariant_of-self-2 c =
+    let l = within _ c.self.inside.marks _ c.args.k c.self.view_is c.requires.place in
+    let many : c.args.k < length c.self.inside.marks = omega (arith, l, c.self.invariant.few, c.self.invariant.marked) in
+    let seen = seen-read c.self.inside.boxes.items c.self.inside.marks c.args.self.now c.args.k c.index_mut-place.result.now c.self.view_is l many
+    c.index_mut-place.ensures.value in
+    kept-gone c.self.inside.boxes.items c.self.inside.marks c.args.self.now c.args.k c.self.inside.full c.self.invariant c.self.view_is l many
+    (ap is_full seen ∙ c.in-Ok.ensures.hand)
+
+pub returns-clause-mail : goal.returns-clause-mail
+returns-clause-mail c =
+    let l = within _ c.self.inside.marks _ c.args.k c.self.view_is c.requires.place in
+    let many : c.args.k < length c.self.inside.marks = omega (arith, l, c.self.invariant.few, c.self.invariant.marked) in
+    let seen = seen-read c.self.inside.boxes.items c.self.inside.marks c.args.self.now c.args.k c.index_mut-place.result.now c.self.view_is l many
+    c.index_mut-place.ensures.value in
+    gone c.self.inside.boxes.items c.self.inside.marks c.args.self.now c.args.k c.self.view_is l many
+    (ap is_full seen ∙ c.in-Ok.ensures.hand)
