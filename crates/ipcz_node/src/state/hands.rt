@@ -396,33 +396,8 @@ impl NodeState {
         }
     }
 
-    /// Delivers a message as `deliver` does, but doesn't tell what happened.
-    pub fn deliver_unseen(
-        &mut self,
-        from: u8,
-        message: Message,
-        source: Option<u8>,
-    ) -> Result<(), (Refusal, Message)>
-        requires { from < self.old.node.count }
-        ensures ok { OnOk result (self.new.node ≡ deliver self.old.node from message source) }
-        ensures allowed { OnOk result (message_lacks_serials self.old.node from message source ≡ false) }
-        ensures why { IfErr result
-            (λ e. e.0 ≡ (if message_lacks_serials self.old.node from message source then Refusal.NumbersEnd else Refusal.OutOfMemory)) }
-        ensures grows { message_grows self.old.node from message source ≡ false → IsOk result }
-        ensures full { fits self.old.node from message source ≡ true → HasRoomFor self.old message →
-            message_lacks_serials self.old.node from message source ≡ false → IsOk result }
-        ensures stray { fits self.old.node from message source ≡ false → 0 < self.old.room.strays → IsOk result }
-        ensures err { IfErr result (λ e. (e.1 ≡ message) × (self.new.node ≡ self.old.node)) }
-    {
-        let mut message = message;
-        match self.deliver_in_place(from, &mut message, source) {
-            Ok(()) => Ok(()),
-            Err(why) => Err((why, message)),
-        }
-    }
-
-    /// Delivers a message as `deliver_unseen` does, from where it lies: it is left as it is if it is refused, and counts for nothing if it
-    /// is delivered.
+    /// Delivers a message as `deliver` does, but from where it lies, and doesn't tell what happened: it is left as it is if it is refused, and
+    /// counts for nothing if it is delivered.
     #[tactic(auto, unfolding(crate::specs::Telling::brings_item))]
     pub fn deliver_in_place(
         &mut self,
