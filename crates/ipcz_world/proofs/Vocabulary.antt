@@ -32,7 +32,7 @@ pub use Rattle.ipcz_node.specs.Node.{Found, Node, bare_node, outbox, router_in, 
 pub use Rattle.ipcz_node.specs.declared.act.Act.{Act}
 pub use Rattle.ipcz_node.specs.declared.act.Act.TheVariants.{Close, Hand}
 pub use Rattle.ipcz_world.specs.Books.{Books, is_closed, read}
-pub use Rattle.ipcz_world.specs.Bypasses.{BypassRecords, IsBypassRecorded, Stages, Told, inner_of, moving_link}
+pub use Rattle.ipcz_world.specs.Bypasses.{BypassRecords, HasStage, IsBypassRecorded, Stages, Told, inner_of, moving_link}
 unfoldable pub use Rattle.ipcz_world.specs.Bypasses.{control_weight, of_bypass}
 pub use Rattle.ipcz_world.specs.Flows.{IsUnderWay, is_made_before, of_end}
 unfoldable pub use Rattle.ipcz_world.specs.Flows.{makes, moves_of, under_way}

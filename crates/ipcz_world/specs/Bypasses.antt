@@ -68,26 +68,29 @@ pub record LiveLinks (g : Records) : Type 0 where
   pub one_begun : (o p : ℕ) → (g.bypass o).stage ≡ 1 → (g.bypass p).stage ≡ 1 → (g.central o).pair ≡ (g.central p).pair → o ≡ p
 
 -- who stands where, by how far a bypass is
-pub record Stages (w : World) (g : Records) : Type 0 where
-  pub proxy_old : (o : ℕ) → is_begun (g.bypass o) ≡ true → (g.bypass o).stage ≤ 3 →
+pub record HasStage (w : World) (g : Records) (o : ℕ) : Type 0 where
+  pub proxy_old : is_begun (g.bypass o) ≡ true → (g.bypass o).stage ≤ 3 →
       key_passes w (Some (g.bypass o).proxy) (has_decaying (Central o) (proxy_side g o)) ≡ true
-  pub proxy_inner : (o : ℕ) → is_begun (g.bypass o) ≡ true → (g.bypass o).stage ≤ 3 →
+  pub proxy_inner : is_begun (g.bypass o) ≡ true → (g.bypass o).stage ≤ 3 →
       key_passes w (Some (g.bypass o).proxy) (has_inward_decaying (inner_of g o) A) ≡ true
-  pub proxy_begun : (o : ℕ) (r : Router) → is_begun (g.bypass o) ≡ true → router_at w (g.bypass o).proxy ≡ Some r → is_begun_router r ≡ true
-  pub proxy_end : (o : ℕ) (r : Router) → is_begun (g.bypass o) ≡ true → router_at w (g.bypass o).proxy ≡ Some r →
+  pub proxy_begun : (r : Router) → is_begun (g.bypass o) ≡ true → router_at w (g.bypass o).proxy ≡ Some r → is_begun_router r ≡ true
+  pub proxy_end : (r : Router) → is_begun (g.bypass o) ≡ true → router_at w (g.bypass o).proxy ≡ Some r →
       r.end ≡ side_end g (inner_of g o) A
-  pub across_old : (o : ℕ) → is_begun (g.bypass o) ≡ true → (g.bypass o).stage ≤ 2 →
+  pub across_old : is_begun (g.bypass o) ≡ true → (g.bypass o).stage ≤ 2 →
       key_passes w (side_router g (Central o) (across_side g o)) (has_primary (Central o) (across_side g o)) ≡ true
-  pub across_marked : (o : ℕ) → is_begun (g.bypass o) ≡ true → (g.bypass o).stage ≤ 2 →
+  pub across_marked : is_begun (g.bypass o) ≡ true → (g.bypass o).stage ≤ 2 →
       key_passes w (side_router g (Central o) (across_side g o)) (λ r. r.marked) ≡ true
-  pub across_free : (o : ℕ) → is_begun (g.bypass o) ≡ true → (g.bypass o).stage ≤ 2 →
+  pub across_free : is_begun (g.bypass o) ≡ true → (g.bypass o).stage ≤ 2 →
       key_passes w (side_router g (Central o) (across_side g o)) (λ r. not r.holds) ≡ true
-  pub across_fresh : (o : ℕ) → 3 ≤ (g.bypass o).stage → (g.bypass o).stage ≤ 4 →
+  pub across_fresh : 3 ≤ (g.bypass o).stage → (g.bypass o).stage ≤ 4 →
       key_passes w (side_router g (fresh_of g o) (across_side g o)) (has_primary (fresh_of g o) (across_side g o)) ≡ true
-  pub inner_primary : (o : ℕ) (k : Key) → (g.bypass o).stage ≡ 1 → side_router g (inner_of g o) B ≡ Some k →
+  pub inner_primary : (k : Key) → (g.bypass o).stage ≡ 1 → side_router g (inner_of g o) B ≡ Some k →
       key_passes w (Some k) (has_primary (inner_of g o) B) ≡ true
-  pub inner_decaying : (o : ℕ) → 2 ≤ (g.bypass o).stage → (g.bypass o).stage ≤ 4 →
+  pub inner_decaying : 2 ≤ (g.bypass o).stage → (g.bypass o).stage ≤ 4 →
       key_passes w (side_router g (inner_of g o) B) (has_decaying (inner_of g o) B) ≡ true
+
+abbrev pub Stages : World → Records → Type 0
+Stages w g = (o : ℕ) → HasStage w g o
 
 -- whether a link is taken away by this bypass
 abbrev pub is_by : Records → LinkId → ℕ → Bool

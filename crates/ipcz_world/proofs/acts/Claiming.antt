@@ -118,8 +118,8 @@ inv-claim w b g k r law can left = record {
       })
       law.bypasses;
   stages = stages-owned v b g i (Spare k) unlinked refl (stages-flags w v g k r (Some y) gives (stays_bare r y) settled law.stages
-      (λ o a d. flag (λ z. z.marked) refl _ ∙ law.stages.across_marked o a d)
-      (λ o a d. flag (λ z. not z.holds) refl _ ∙ law.stages.across_free o a d));
+      (λ o a d. flag (λ z. z.marked) refl _ ∙ (law.stages o).across_marked a d)
+      (λ o a d. flag (λ z. not z.holds) refl _ ∙ (law.stages o).across_free a d));
   told = told-owned v b g i (Spare k) unlinked refl (told-same w v g (same-messages one) law.told);
   moves = moves-owned v b g i (Spare k) unlinked refl (moves-same w v g (same-messages one) law.moves);
   terminals = terminals-owned v b g i (Spare k) unlinked refl (terminals-gives w v g k r (Some y) gives (stays_bare r y).no_terminal law.terminals);

@@ -363,8 +363,8 @@ inv-touched w v b g k r y i x law here at live one claimed same words is touch =
   spares = spares-gives w v g k r (Some y) gives (λ z e. ap (λ t. t.spare) (sym (same_Some y z e)) ∙ is.spare)
       (λ e. absurd (none-some y (sym e))) law.spares;
   stages = stages-flags w v g k r (Some y) gives (stays_bare r y) settled law.stages
-      (λ o a c. passes-still gives _ _ (law.stages.across_marked o a c) (λ e t. absurd (other o a c e)))
-      (λ o a c. passes-still gives _ _ (law.stages.across_free o a c) (λ e t. absurd (other o a c e)));
+      (λ o a c. passes-still gives _ _ ((law.stages o).across_marked a c) (λ e t. absurd (other o a c e)))
+      (λ o a c. passes-still gives _ _ ((law.stages o).across_free a c) (λ e t. absurd (other o a c e)));
 })
   where
     on : OnWord w g k r i
@@ -380,5 +380,5 @@ inv-touched w v b g k r y i x law here at live one claimed same words is touch =
     other : (o : ℕ) → is_begun (g.bypass o) ≡ true → (g.bypass o).stage ≤ 2 → side_router g (Central o) (across_side g o) ≡ Some k → ⊥
     other o a c e =
         let s : SameAs i o r.end.side (across_side g o) = only-word on here o (across_side g o)
-        (sym (ap (λ q. key_passes w q (has_primary (Central o) (across_side g o))) e) ∙ law.stages.across_old o a c) in
+        (sym (ap (λ q. key_passes w q (has_primary (Central o) (across_side g o))) e) ∙ (law.stages o).across_old a c) in
         grind (arith, s.word, a, live)

@@ -91,7 +91,7 @@ leaver-told w b g k r law here bare = go (g.begun k) refl
         late false q = absurd (grind (
           arith,
           standing_rules,
-          law.stages.proxy_old o (law.positions.begun_stage k o e)
+          (law.stages o).proxy_old (law.positions.begun_stage k o e)
               (grind (arith, q, nat_tests)),
           law.positions.begun_proxy k o e,
           here,

@@ -91,7 +91,7 @@ module _ (w : World) (b : Books) (g : Records) (k : Key) (r : Router) (i : ℕ) 
           let low = (law.positions.each k r here).primary_old on.end i on.primary on.link f in
           let side : r.end.side ≡ across_side g i = sym on.side ∙ (law.positions.each k r here).primary_across on.end i on.primary on.link f in
           let at : side_router g (Central i) (across_side g i) ≡ Some k = ap (side_router g (Central i)) (sym side) ∙ on.known in
-          let free = law.stages.across_free i f low in
+          let free = (law.stages i).across_free f low in
           absurd (grind (arith, standing_rules, free, at, here, holds))
 
   pub unleft : is_left g (Central i) r.end.side ≡ false
@@ -142,7 +142,7 @@ module _ (w : World) (b : Books) (g : Records) (k : Key) (r : Router) (i : ℕ) 
                   grind (arith, standing_rules, marked_at (across_side g o), none)
               fresh_here same false e =
                   let three : 3 ≤ (g.bypass o).stage = grind (arith, a, e, nat_tests) in
-                  let z = known_tells w (side_router g (inner_of g o) B) (has_decaying (inner_of g o) B) (law.stages.inner_decaying o a m) in
+                  let z = known_tells w (side_router g (inner_of g o) B) (has_decaying (inner_of g o) B) ((law.stages o).inner_decaying a m) in
                   let at : side_router g (Central i) (proxy_side g o) ≡ Some z.key =
                   ap (λ n. side_router g (Central n) (proxy_side g o)) (sym same) ∙ (law.bypasses o).fresh_inner a ∙ z.is in
                   let marked : z.router.marked ≡ true = grind (arith, standing_rules, marked_at (proxy_side g o), at, z.at) in
@@ -157,7 +157,7 @@ module _ (w : World) (b : Books) (g : Records) (k : Key) (r : Router) (i : ℕ) 
                     none-some t.0 (sym none ∙ ap (side_router g (Central f)) s ∙ t.1)
               ]
           later a true fl false e =
-              let z = known_tells w (side_router g (inner_of g o) B) (has_decaying (inner_of g o) B) (law.stages.inner_decaying o a m) in
+              let z = known_tells w (side_router g (inner_of g o) B) (has_decaying (inner_of g o) B) ((law.stages o).inner_decaying a m) in
               let has = has_link-tells z.router.outward.decaying (inner_of g o) B z.passed in
               let to : link_in z.router.outward.primary ≡ Some (Central f) =
               (law.positions.each z.key z.router z.at).inner_fresh has.end (g.bypass o).inner o has.there has.on_link
@@ -174,7 +174,7 @@ module _ (w : World) (b : Books) (g : Records) (k : Key) (r : Router) (i : ℕ) 
                   let rec : IsRecorded w g q z e = (law.links q z at).primary e x in
                   let known : side_router g (Central f) (across_side g f) ≡ Some q =
                   ap (side_router g (Central f)) (sym side) ∙ ap (λ y. side_router g y e.side) (sym l) ∙ rec.router in
-                  let marked : z.marked ≡ true = grind (arith, standing_rules, law.stages.across_marked f fl low, known, at) in
+                  let marked : z.marked ≡ true = grind (arith, standing_rules, (law.stages f).across_marked fl low, known, at) in
                   grind (arith, (law.shape q z at).marked_still marked, dec)
 
   -- it has read all that its peer put
@@ -295,7 +295,7 @@ module _ (w : World) (b : Books) (g : Records) (k : Key) (r : Router) (i : ℕ) 
               sides : 3 ≤ (g.bypass o).stage → (e.side ≡ proxy_side g o) ⊎ (e.side ≡ opposite (proxy_side g o)) → decays y ≡ false
               sides three (inl s) =
                   let proxy : (g.bypass o).proxy ≡ q = (law.positions.each q y at).own_proxy e o off m s in
-                  let begun = law.stages.proxy_begun o y (grind (arith, three, nat_tests)) (ap (router_at w) proxy ∙ at) in
+                  let begun = (law.stages o).proxy_begun y (grind (arith, three, nat_tests)) (ap (router_at w) proxy ∙ at) in
                   absurd (not_both (is_begun_router y) begun unbegun)
               sides three (inr s) = marked_fresh q y o y.outward.primary at refl ((law.positions.each q y at).across_fresh e o off m s)
                   (omega (arith, three)) pair_o

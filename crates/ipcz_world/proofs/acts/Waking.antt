@@ -94,8 +94,8 @@ inv-waits w b g k r y i x law here at same flags stable holder source = inv-flag
   spares = spares-gives w v g k r (Some y) gives (λ z e. ap (λ t. t.spare) (sym (same_Some y z e)) ∙ flags.spare)
       (λ e. absurd (none-some y (sym e))) law.spares;
   stages = stages-flags w v g k r (Some y) gives (stays_bare r y) settled law.stages
-      (λ o a c. passes-still gives _ _ (law.stages.across_marked o a c) (λ e t. grind (arith, standing_rules, flags.marked, t)))
-      (λ o a c. passes-still gives _ _ (law.stages.across_free o a c) (λ e t. grind (arith, standing_rules, flags.holds, t)));
+      (λ o a c. passes-still gives _ _ ((law.stages o).across_marked a c) (λ e t. grind (arith, standing_rules, flags.marked, t)))
+      (λ o a c. passes-still gives _ _ ((law.stages o).across_free a c) (λ e t. grind (arith, standing_rules, flags.holds, t)));
 })
   where
     u : World

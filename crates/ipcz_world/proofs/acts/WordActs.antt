@@ -39,8 +39,8 @@ pub record IsAcross (r : Router) : Type 0 where
 pub begun-across : (w : World) (b : Books) (g : Records) (k : Key) (r : Router) (i : ℕ) → Inv w b g → router_at w k ≡ Some r →
     OnWord w g k r i → is_begun (g.bypass i) ≡ true → IsAcross r
 begun-across w b g k r i law here on begun = record {
-  marked = grind (arith, standing_rules, at, here, law.stages.across_marked i begun stage);
-  free = grind (arith, standing_rules, at, here, law.stages.across_free i begun stage);
+  marked = grind (arith, standing_rules, at, here, (law.stages i).across_marked begun stage);
+  free = grind (arith, standing_rules, at, here, (law.stages i).across_free begun stage);
 }
   where
     stage : (g.bypass i).stage ≤ 2

@@ -138,7 +138,7 @@ begins-of w b g k r p inner outer o fresh law can = record {
       ∙ ap Some
       (inner_is.other ∙ ap (λ l. side_node g l (opposite inner.side)) can.inner_at ∙ ap
       (λ s. side_node g (inner_link p) (opposite s)) side);
-  unbegun = λ j a e. grind (arith, law.stages.proxy_begun j r a (ap (router_at w) e ∙ can.here), can.inner);
+  unbegun = λ j a e. grind (arith, (law.stages j).proxy_begun r a (ap (router_at w) e ∙ can.here), can.inner);
 }
   where
     inner_is : IsRecorded w g k r inner

@@ -500,7 +500,7 @@ module _ {w v : World} {b : Books} {g : Records} {k : Key} {r y : Router} {p : K
   bypasses-begun = by_word o {P = IsBypassRecorded v after} bypass-begun (λ j n. bypass-kept {w = w} (keeps-else j n) (law.bypasses j))
 
   pub stages-begun : Stages v after
-  stages-begun = record {
+  stages-begun j = record {
     proxy_old = by_word o {P = λ j. is_begun (after.bypass j) ≡ true → (after.bypass j).stage ≤ 3 →
         key_passes v (Some (after.bypass j).proxy) (has_decaying (Central j) (proxy_side after j)) ≡ true}
         (λ a d. ap (λ t. key_passes v (Some t.proxy) (has_decaying (Central o) (proxy_side after o))) (begun-here g k o fresh p)
@@ -508,16 +508,16 @@ module _ {w v : World} {b : Books} {g : Records} {k : Key} {r y : Router} {p : K
         (is.outer_side ∙ sym (side-here law is c new))))
         (λ j n a d. ap (λ t. key_passes v (Some t.proxy) (has_decaying (Central j) (proxy_side after j))) (begun-else g k o fresh p j n) ∙
         ap (λ t. key_passes v (Some (g.bypass j).proxy) (has_decaying (Central j) t)) (side-begun g k o fresh p j n)
-        ∙ passes-else _ (Some (g.bypass j).proxy) (apart j n a) ∙ law.stages.proxy_old j (was j n a) (early j 3 n d));
+        ∙ passes-else _ (Some (g.bypass j).proxy) (apart j n a) ∙ (law.stages j).proxy_old (was j n a) (early j 3 n d)) j;
     proxy_inner = by_word o {P = λ j. is_begun (after.bypass j) ≡ true → (after.bypass j).stage ≤ 3 →
         key_passes v (Some (after.bypass j).proxy) (has_inward_decaying (inner_of after j) A) ≡ true}
         (λ a d. ap (λ t. key_passes v (Some t.proxy) (has_inward_decaying (inner_link t.inner) A)) (begun-here g k o fresh p) ∙ here
         (has_inward_decaying (inner_link p) A) (has_link-is (inward_edge y).decaying into (inner_link p) A new.inward_decaying
         is.inner_at is.inner_side))
         (λ j n a d. ap (λ t. key_passes v (Some t.proxy) (has_inward_decaying (inner_link t.inner) A)) (begun-else g k o fresh p j n) ∙
-        passes-else _ (Some (g.bypass j).proxy) (apart j n a) ∙ law.stages.proxy_inner j (was j n a) (early j 3 n d));
-    proxy_begun = λ j z a at. begun j z a at (nat_eq j o) refl;
-    proxy_end = λ j z a at. ends j z a at (nat_eq j o) refl;
+        passes-else _ (Some (g.bypass j).proxy) (apart j n a) ∙ (law.stages j).proxy_inner (was j n a) (early j 3 n d)) j;
+    proxy_begun = λ z a at. begun j z a at (nat_eq j o) refl;
+    proxy_end = λ z a at. ends j z a at (nat_eq j o) refl;
     across_old = by_word o {P = λ j. is_begun (after.bypass j) ≡ true → (after.bypass j).stage ≤ 2 →
         key_passes v (side_router after (Central j) (across_side after j)) (has_primary (Central j) (across_side after j)) ≡ true}
         (λ a d. ap (λ t. key_passes v t (has_primary (Central o) (across_side after o))) across-now ∙ other-router
@@ -527,25 +527,25 @@ module _ {w v : World} {b : Books} {g : Records} {k : Key} {r y : Router} {p : K
         (λ j n a d. ap (λ t. key_passes v t (has_primary (Central j) (across_side after j))) (across-then j n) ∙ ap
         (λ t. key_passes v (side_router g (Central j) (across_side g j)) (has_primary (Central j) (opposite t)))
         (side-begun g k o fresh p j n)
-        ∙ passes-else _ _ (not-k j n a d) ∙ law.stages.across_old j (was j n a) (early j 2 n d));
+        ∙ passes-else _ _ (not-k j n a d) ∙ (law.stages j).across_old (was j n a) (early j 2 n d)) j;
     across_marked = by_word o {P = λ j. is_begun (after.bypass j) ≡ true → (after.bypass j).stage ≤ 2 →
         key_passes v (side_router after (Central j) (across_side after j)) (λ z. z.marked) ≡ true}
         (λ a d. ap (λ t. key_passes v t (λ z. z.marked)) across-now ∙ other-router (λ z. z.marked) is.across.marked)
-        (λ j n a d. ap (λ t. key_passes v t (λ z. z.marked)) (across-then j n) ∙ passes-else _ _ (not-k j n a d) ∙ law.stages.across_marked
-        j (was j n a) (early j 2 n d));
+        (λ j n a d. ap (λ t. key_passes v t (λ z. z.marked)) (across-then j n) ∙ passes-else _ _ (not-k j n a d) ∙
+        (law.stages j).across_marked (was j n a) (early j 2 n d)) j;
     across_free = by_word o {P = λ j. is_begun (after.bypass j) ≡ true → (after.bypass j).stage ≤ 2 →
         key_passes v (side_router after (Central j) (across_side after j)) (λ z. not z.holds) ≡ true}
         (λ a d. ap (λ t. key_passes v t (λ z. not z.holds)) across-now ∙ other-router (λ z. not z.holds) (ap not is.across.free))
-        (λ j n a d. ap (λ t. key_passes v t (λ z. not z.holds)) (across-then j n) ∙ passes-else _ _ (not-k j n a d) ∙ law.stages.across_free
-        j (was j n a) (early j 2 n d));
-    across_fresh = λ j a d. let n = late-else j (omega (arith, a)) in
+        (λ j n a d. ap (λ t. key_passes v t (λ z. not z.holds)) (across-then j n) ∙ passes-else _ _ (not-k j n a d) ∙
+        (law.stages j).across_free (was j n a) (early j 2 n d)) j;
+    across_fresh = λ a d. let n = late-else j (omega (arith, a)) in
         ap (λ t. key_passes v t (has_primary (fresh_of after j) (across_side after j))) (router-begun g k o fresh p _ _)
         ∙ ap (λ t. key_passes v (side_router g (Central t.fresh) (across_side after j))
         (has_primary (Central t.fresh) (across_side after j))) (begun-else g k o fresh p j n)
         ∙ ap (λ t. key_passes v (side_router g (fresh_of g j) (opposite t)) (has_primary (fresh_of g j) (opposite t)))
         (side-begun g k o fresh p j n)
         ∙ passes-begun _ (side_router g (fresh_of g j) (across_side g j))
-        (law.stages.across_fresh j (late-old j 3 (omega arith) a) (early j 4 n d))
+        ((law.stages j).across_fresh (late-old j 3 (omega arith) a) (early j 4 n d))
         (λ u h. absurd (fresh-not j n a d (had-primary (fresh_of g j) (across_side g j) h)));
     inner_primary = by_word o {P = λ j. (q : Key) → (after.bypass j).stage ≡ 1 → side_router after (inner_of after j) B ≡ Some q →
         key_passes v (Some q) (has_primary (inner_of after j) B) ≡ true}
@@ -554,13 +554,13 @@ module _ {w v : World} {b : Books} {g : Records} {k : Key} {r y : Router} {p : K
         (inner_unleft law is c new) (sym (router-begun g k o fresh p (inner_link p) B) ∙ ap (λ t. side_router after (inner_link t.inner) B)
         (sym (begun-here g k o fresh p)) ∙ e)) (λ u h. absurd (kinds p (had-primary (inner_link p) B h))))
         (λ j n q a e. ap (λ t. key_passes v (Some q) (has_primary (inner_link t.inner) B)) (begun-else g k o fresh p j n)
-        ∙ passes-begun _ (Some q) (law.stages.inner_primary j q (sym (ap (λ t. t.stage) (begun-else g k o fresh p j n)) ∙ a)
+        ∙ passes-begun _ (Some q) ((law.stages j).inner_primary q (sym (ap (λ t. t.stage) (begun-else g k o fresh p j n)) ∙ a)
         (sym (router-begun g k o fresh p (inner_of g j) B) ∙ ap (λ t. side_router after (inner_link t.inner) B)
-        (sym (begun-else g k o fresh p j n)) ∙ e)) (λ u h. absurd (kinds (g.bypass j).inner (had-primary (inner_of g j) B h))));
-    inner_decaying = λ j a d. let n = late-else j a in
+        (sym (begun-else g k o fresh p j n)) ∙ e)) (λ u h. absurd (kinds (g.bypass j).inner (had-primary (inner_of g j) B h)))) j;
+    inner_decaying = λ a d. let n = late-else j a in
         ap (λ t. key_passes v t (has_decaying (inner_of after j) B)) (router-begun g k o fresh p _ B) ∙ ap
         (λ t. key_passes v (side_router g (inner_link t.inner) B) (has_decaying (inner_link t.inner) B)) (begun-else g k o fresh p j n)
-        ∙ passes-begun _ (side_router g (inner_of g j) B) (law.stages.inner_decaying j (late-old j 2 (omega arith) a) (early j 4 n d))
+        ∙ passes-begun _ (side_router g (inner_of g j) B) ((law.stages j).inner_decaying (late-old j 2 (omega arith) a) (early j 4 n d))
         (λ u h. absurd (still (inner_of g j) B h));
   }
     where
@@ -598,7 +598,7 @@ module _ {w v : World} {b : Books} {g : Records} {k : Key} {r y : Router} {p : K
           side_router g (Central j) (across_side g j) ≡ Some k → ⊥
       not-k j n a d e =
           let f : Central j ≡ Central o = had-primary (Central j) (across_side g j)
-          (grind (arith, standing_rules, law.stages.across_old j (was j n a) (early j 2 n d), e, is.here)) in
+          (grind (arith, standing_rules, (law.stages j).across_old (was j n a) (early j 2 n d), e, is.here)) in
           grind (arith, word_same law is c new j o f, n, nat_tests)
 
       -- a marked router has nothing that decays
@@ -619,7 +619,7 @@ module _ {w v : World} {b : Books} {g : Records} {k : Key} {r y : Router} {p : K
           (late-old j 2 (omega arith) (omega (arith, a))))) ∙
           sym ((law.words.each o).stable (proxy_side g j) is.linked is.live (central_unleft law is c new o (proxy_side g j) is.pair)) ∙ is.stable
           (proxy_side g j))
-          (law.stages.inner_decaying j (late-old j 2 (omega arith) (omega (arith, a))) (early j 4 n d))
+          ((law.stages j).inner_decaying (late-old j 2 (omega arith) (omega (arith, a))) (early j 4 n d))
 
       still : {X : Type 0} (l : LinkId) (s : Side) → has_decaying l s r ≡ true → X
       still l s h = let t : HasEnd r.outward.decaying l s = has_link-tells r.outward.decaying l s h in
@@ -640,7 +640,7 @@ module _ {w v : World} {b : Books} {g : Records} {k : Key} {r y : Router} {p : K
           let d : router_at v k ≡ Some z = ap (router_at v) (sym (ap (λ t. (after.bypass t).proxy) f ∙ ap (λ t. t.proxy)
           (begun-here g k o fresh p))) ∙ at in
           let e : z ≡ y = grind (arith, c.routers k, same_key-itself k, d) in grind (arith, e, new.proxy, new.inward_primary)
-      begun j z a at false n = law.stages.proxy_begun j z (was j n a) (old j z n a at)
+      begun j z a at false n = (law.stages j).proxy_begun z (was j n a) (old j z n a at)
 
       ends : (j : ℕ) (z : Router) → is_begun (after.bypass j) ≡ true → router_at v (after.bypass j).proxy ≡ Some z → (t : Bool) →
           nat_eq j o ≡ t → z.end ≡ side_end after (inner_of after j) A
@@ -650,5 +650,5 @@ module _ {w v : World} {b : Books} {g : Records} {k : Key} {r y : Router} {p : K
           let e : z ≡ y = grind (arith, c.routers k, same_key-itself k, d) in
           ap (λ t. t.end) e ∙ new.end ∙ sym (end-begun g k o fresh p _ A ∙ ap (λ t. side_end g (inner_link (after.bypass t).inner) A) f ∙ ap
           (λ t. side_end g (inner_link t.inner) A) (begun-here g k o fresh p) ∙ inner-end)
-      ends j z a at false n = law.stages.proxy_end j z (was j n a) (old j z n a at) ∙ sym
+      ends j z a at false n = (law.stages j).proxy_end z (was j n a) (old j z n a at) ∙ sym
           (end-begun g k o fresh p _ A ∙ ap (λ t. side_end g (inner_link t.inner) A) (begun-else g k o fresh p j n))

@@ -130,7 +130,7 @@ terminal_outward (Peripheral n x) B r t h = refl
 pub terminal_no_proxy : (w : World) (b : Books) (g : Records) (k : Key) (r : Router) (o : ℕ) → Inv w b g → router_at w k ≡ Some r →
     is_terminal r ≡ true → 1 ≤ (g.bypass o).stage → (g.bypass o).proxy ≢ k
 terminal_no_proxy w b g k r o law here t s is =
-    let begun : is_begun_router r ≡ true = law.stages.proxy_begun o r (grind (arith, s, nat_tests)) (ap (router_at w) is ∙ here) in
+    let begun : is_begun_router r ≡ true = (law.stages o).proxy_begun r (grind (arith, s, nat_tests)) (ap (router_at w) is ∙ here) in
     lone r.inward refl begun
   where
     lone : (x : Option Edge) → r.inward ≡ x → is_begun_router r ≡ true → ⊥

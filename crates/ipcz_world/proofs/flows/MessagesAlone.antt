@@ -230,17 +230,17 @@ module _ (w v : World) (g : Records) (p : Passes w v g) where
   bypasses-passes law = bypasses-still w v g recorded law
 
   stages-passes : Stages w g → Stages v g
-  stages-passes law = record {
-    proxy_old = λ o a b. known _ _ ∙ law.proxy_old o a b;
-    proxy_inner = λ o a b. known _ _ ∙ law.proxy_inner o a b;
-    proxy_begun = λ o r a at. law.proxy_begun o r a (back _ r at);
-    proxy_end = λ o r a at. law.proxy_end o r a (back _ r at);
-    across_old = λ o a b. known _ _ ∙ law.across_old o a b;
-    across_marked = λ o a b. known _ _ ∙ law.across_marked o a b;
-    across_free = λ o a b. known _ _ ∙ law.across_free o a b;
-    across_fresh = λ o a b. known _ _ ∙ law.across_fresh o a b;
-    inner_primary = λ o q a e. known _ _ ∙ law.inner_primary o q a e;
-    inner_decaying = λ o a b. known _ _ ∙ law.inner_decaying o a b;
+  stages-passes law o = record {
+    proxy_old = λ a b. known _ _ ∙ (law o).proxy_old a b;
+    proxy_inner = λ a b. known _ _ ∙ (law o).proxy_inner a b;
+    proxy_begun = λ r a at. (law o).proxy_begun r a (back _ r at);
+    proxy_end = λ r a at. (law o).proxy_end r a (back _ r at);
+    across_old = λ a b. known _ _ ∙ (law o).across_old a b;
+    across_marked = λ a b. known _ _ ∙ (law o).across_marked a b;
+    across_free = λ a b. known _ _ ∙ (law o).across_free a b;
+    across_fresh = λ a b. known _ _ ∙ (law o).across_fresh a b;
+    inner_primary = λ q a e. known _ _ ∙ (law o).inner_primary q a e;
+    inner_decaying = λ a b. known _ _ ∙ (law o).inner_decaying a b;
   }
 
   told-passes : Told w g → Told v g

@@ -506,23 +506,23 @@ module _ {w v : World} {b : Books} {g : Records} {k : Key} {r : Router} (law : N
 
   pub stages-departed : Stages v h
   unfolding side_router side_end
-  stages-departed = record {
-    proxy_old = λ o a d. passes-still c _ _ (law.stages.proxy_old o a d) (λ e t. absurd (none-some _
+  stages-departed o = record {
+    proxy_old = λ a d. passes-still c _ _ ((law.stages o).proxy_old a d) (λ e t. absurd (none-some _
         (sym no_decaying ∙ (has_link-tells r.outward.decaying (Central o) (proxy_side g o) t).there)));
-    proxy_inner = λ o a d. passes-still c _ _ (law.stages.proxy_inner o a d) (λ e t. absurd (none-some _
+    proxy_inner = λ a d. passes-still c _ _ ((law.stages o).proxy_inner a d) (λ e t. absurd (none-some _
         (sym no_inward_decaying ∙ (has_link-tells (inward_edge r).decaying (inner_of g o) A t).there)));
-    proxy_begun = λ o y a at. law.stages.proxy_begun o y a (other (g.bypass o).proxy y at);
-    proxy_end = λ o y a at. law.stages.proxy_end o y a (other (g.bypass o).proxy y at);
-    across_old = λ o a d. passes-still c _ _ (law.stages.across_old o a d) (λ e t. absurd (early o a d t));
-    across_marked = λ o a d. passes-still c _ _ (law.stages.across_marked o a d) (λ e t. absurd (early o a d (on o a d e)));
-    across_free = λ o a d. passes-still c _ _ (law.stages.across_free o a d) (λ e t. absurd (early o a d (on o a d e)));
-    across_fresh = λ o a d. passes-still c _ _ (law.stages.across_fresh o a d) (λ e t. absurd (is.unbypassed o (omega (arith, a)) d
+    proxy_begun = λ y a at. (law.stages o).proxy_begun y a (other (g.bypass o).proxy y at);
+    proxy_end = λ y a at. (law.stages o).proxy_end y a (other (g.bypass o).proxy y at);
+    across_old = λ a d. passes-still c _ _ ((law.stages o).across_old a d) (λ e t. absurd (early o a d t));
+    across_marked = λ a d. passes-still c _ _ ((law.stages o).across_marked a d) (λ e t. absurd (early o a d (on o a d e)));
+    across_free = λ a d. passes-still c _ _ ((law.stages o).across_free a d) (λ e t. absurd (early o a d (on o a d e)));
+    across_fresh = λ a d. passes-still c _ _ ((law.stages o).across_fresh a d) (λ e t. absurd (is.unbypassed o (omega (arith, a)) d
         (sym ((law.bypasses o).fresh_pair (omega (arith, a))) ∙ central_pair (g.bypass o).fresh (across_side g o)
         (has_link-tells r.outward.primary (Central (g.bypass o).fresh) (across_side g o) t))));
-    inner_primary = λ o q a e. passes-still c _ _ (law.stages.inner_primary o q a e) (λ f t. absurd (is.unbypassed o (omega (arith, a))
+    inner_primary = λ q a e. passes-still c _ _ ((law.stages o).inner_primary q a e) (λ f t. absurd (is.unbypassed o (omega (arith, a))
         (omega (arith, a)) (sym ((law.bypasses o).pair (grind (arith, a, nat_tests))) ∙ inner_pair (g.bypass o).inner
         (has_link-tells r.outward.primary (inner_of g o) B t))));
-    inner_decaying = λ o a d. passes-still c _ _ (law.stages.inner_decaying o a d) (λ e t. absurd (none-some _
+    inner_decaying = λ a d. passes-still c _ _ ((law.stages o).inner_decaying a d) (λ e t. absurd (none-some _
         (sym no_decaying ∙ (has_link-tells r.outward.decaying (inner_of g o) B t).there)));
   }
     where
@@ -539,7 +539,7 @@ module _ {w v : World} {b : Books} {g : Records} {k : Key} {r : Router} (law : N
 
       on : (o : ℕ) → is_begun (g.bypass o) ≡ true → (g.bypass o).stage ≤ 2 → side_router g (Central o) (across_side g o) ≡ Some k →
           has_primary (Central o) (across_side g o) r ≡ true
-      on o a d e = grind (arith, standing_rules, law.stages.across_old o a d, e, is.here)
+      on o a d e = grind (arith, standing_rules, (law.stages o).across_old a d, e, is.here)
 
   -- whose peer's end has retired
   module _ (retired_ends : RetiredEnds b g) (gones : Gones w b g) (retired : is_retired b (opposite_end r.end) ≡ true) where

@@ -256,17 +256,17 @@ module _ (v : World) (b : Books) (g : Records) (e : End) (k : Key) (at : g.termi
 
   pub stages-ended : Stages v g → Stages v ended
   unfolding side_router side_end
-  stages-ended law = record {
-    proxy_old = law.proxy_old;
-    proxy_inner = law.proxy_inner;
-    proxy_begun = law.proxy_begun;
-    proxy_end = law.proxy_end;
-    across_old = law.across_old;
-    across_marked = law.across_marked;
-    across_free = law.across_free;
-    across_fresh = law.across_fresh;
-    inner_primary = law.inner_primary;
-    inner_decaying = law.inner_decaying;
+  stages-ended law i = let is = law i in record {
+    proxy_old = is.proxy_old;
+    proxy_inner = is.proxy_inner;
+    proxy_begun = is.proxy_begun;
+    proxy_end = is.proxy_end;
+    across_old = is.across_old;
+    across_marked = is.across_marked;
+    across_free = is.across_free;
+    across_fresh = is.across_fresh;
+    inner_primary = is.inner_primary;
+    inner_decaying = is.inner_decaying;
   }
 
   pub told-ended : Told v g → Told v ended

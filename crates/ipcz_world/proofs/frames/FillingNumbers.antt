@@ -329,7 +329,7 @@ module _ (w v : World) (b : Books) (g : Records) (k : Key) (r y : Router) (from 
   out_new : (o : ℕ) → (g.bypass o).proxy ≡ k → 2 ≤ (g.bypass o).stage → is_outward l s ≡ false → n < (g.bypass o).taken_at
   out_new o proxy stage dir =
       let begun : is_begun (g.bypass o) ≡ true = grind (arith, stage, nat_tests) in
-      let role = role_of r (law.stages.proxy_begun o r begun (ap (router_at w) proxy ∙ here)) ((law.shape k r here).role) in
+      let role = role_of r ((law.stages o).proxy_begun r begun (ap (router_at w) proxy ∙ here)) ((law.shape k r here).role) in
       elim (edge_has-tells (inward_edge r) l s (attached_inward l s r on dir)) [
         | inl e ↦ absurd (grind (arith, role.0, e.is))
         | inr e ↦ let p = inward_link l s dir in
@@ -342,7 +342,7 @@ module _ (w v : World) (b : Books) (g : Records) (k : Key) (r y : Router) (from 
   in_new : (o : ℕ) → (g.bypass o).proxy ≡ k → 3 ≤ (g.bypass o).stage → is_outward l s ≡ true → n < (g.bypass o).accepted_at
   in_new o proxy stage dir =
       let begun : is_begun (g.bypass o) ≡ true = grind (arith, stage, nat_tests) in
-      let role = role_of r (law.stages.proxy_begun o r begun (ap (router_at w) proxy ∙ here)) ((law.shape k r here).role) in
+      let role = role_of r ((law.stages o).proxy_begun r begun (ap (router_at w) proxy ∙ here)) ((law.shape k r here).role) in
       elim (edge_has-tells r.outward l s (attached_outward l s r on dir)) [
         | inl e ↦ absurd (grind (arith, role.1, e.is))
         | inr e ↦ old e.end e.is e.link_is e.side_is role.1 begun (bypass_of g e.end.link) refl e.end.link refl

@@ -247,24 +247,24 @@ module _ {w v : World} {b : Books} {g : Records} {owner' : ℕ → Owner} {centr
   passes_by a c test e p = ap (λ o. key_passes v o test) e ∙ passes_kept law is c test p
 
   pub stages-grown : Stages v h
-  stages-grown = record {
-    proxy_old = λ o s n. passes_kept law is (Some (g.bypass o).proxy) _ (law.stages.proxy_old o s n);
-    proxy_inner = λ o s n. passes_kept law is (Some (g.bypass o).proxy) _ (law.stages.proxy_inner o s n);
-    proxy_begun = λ o r s e. law.stages.proxy_begun o r s (sym (proxy_same law is o s) ∙ e);
-    proxy_end = λ o r s e. law.stages.proxy_end o r s (sym (proxy_same law is o s) ∙ e) ∙ sym
+  stages-grown o = record {
+    proxy_old = λ s n. passes_kept law is (Some (g.bypass o).proxy) _ ((law.stages o).proxy_old s n);
+    proxy_inner = λ s n. passes_kept law is (Some (g.bypass o).proxy) _ ((law.stages o).proxy_inner s n);
+    proxy_begun = λ r s e. (law.stages o).proxy_begun r s (sym (proxy_same law is o s) ∙ e);
+    proxy_end = λ r s e. (law.stages o).proxy_end r s (sym (proxy_same law is o s) ∙ e) ∙ sym
         (end_kept law is (inner_of g o) A (not_inner law is (g.bypass o).inner));
-    across_old = λ o s n. passes_by _ _ _ (router_kept law is (Central o) (across_side g o) (begun_link law is o s))
-        (law.stages.across_old o s n);
-    across_marked = λ o s n. passes_by _ _ _ (router_kept law is (Central o) (across_side g o) (begun_link law is o s))
-        (law.stages.across_marked o s n);
-    across_free = λ o s n. passes_by _ _ _ (router_kept law is (Central o) (across_side g o) (begun_link law is o s))
-        (law.stages.across_free o s n);
-    across_fresh = λ o s n. passes_by _ _ _ (router_kept law is (fresh_of g o) (across_side g o)
-        (central_apart law is (g.bypass o).fresh (fresh_link law is o (omega (arith, s))))) (law.stages.across_fresh o s n);
-    inner_primary = λ o q s e. passes_kept law is (Some q) _ (law.stages.inner_primary o q s
+    across_old = λ s n. passes_by _ _ _ (router_kept law is (Central o) (across_side g o) (begun_link law is o s))
+        ((law.stages o).across_old s n);
+    across_marked = λ s n. passes_by _ _ _ (router_kept law is (Central o) (across_side g o) (begun_link law is o s))
+        ((law.stages o).across_marked s n);
+    across_free = λ s n. passes_by _ _ _ (router_kept law is (Central o) (across_side g o) (begun_link law is o s))
+        ((law.stages o).across_free s n);
+    across_fresh = λ s n. passes_by _ _ _ (router_kept law is (fresh_of g o) (across_side g o)
+        (central_apart law is (g.bypass o).fresh (fresh_link law is o (omega (arith, s))))) ((law.stages o).across_fresh s n);
+    inner_primary = λ q s e. passes_kept law is (Some q) _ ((law.stages o).inner_primary q s
         (sym (router_kept law is (inner_of g o) B (not_inner law is (g.bypass o).inner)) ∙ e));
-    inner_decaying = λ o s n. passes_by _ _ _ (router_kept law is (inner_of g o) B (not_inner law is (g.bypass o).inner))
-        (law.stages.inner_decaying o s n);
+    inner_decaying = λ s n. passes_by _ _ _ (router_kept law is (inner_of g o) B (not_inner law is (g.bypass o).inner))
+        ((law.stages o).inner_decaying s n);
   }
 
   -- a side without a router had none

@@ -115,29 +115,29 @@ pub stages-flags : (w v : World) (g : Records) (k : Key) (r : Router) (x : Optio
     key_passes v (side_router g (Central o) (across_side g o)) (λ z. z.marked) ≡ true) →
     ((o : ℕ) → is_begun (g.bypass o) ≡ true → (g.bypass o).stage ≤ 2 →
     key_passes v (side_router g (Central o) (across_side g o)) (λ z. not z.holds) ≡ true) → Stages v g
-stages-flags w v g k r x c bare is law marked free = record {
-  proxy_old = λ o a b. passes-still c _ _ (law.proxy_old o a b) (λ e. is.own_old o (same_Some _ _ e) a b);
-  proxy_inner = λ o a b. passes-still c _ _ (law.proxy_inner o a b) (λ e. is.own_inner o (same_Some _ _ e) a b);
-  proxy_begun = λ o y a at. let p = was c _ y at in begun_part p.router y p.part ∙ law.proxy_begun o p.router a p.at;
-  proxy_end = λ o y a at. let p = was c _ y at in p.part.end ∙ law.proxy_end o p.router a p.at;
-  across_old = λ o a b. passes-still c _ _ (law.across_old o a b) (λ e. passes-primary c bare _ _);
-  across_marked = marked;
-  across_free = free;
-  across_fresh = λ o a b. passes-still c _ _ (law.across_fresh o a b) (λ e. passes-primary c bare _ _);
-  inner_primary = λ o q a e. passes-still c _ _ (law.inner_primary o q a e) (λ f. passes-primary c bare _ _);
-  inner_decaying = λ o a b. passes-still c _ _ (law.inner_decaying o a b) (λ e. is.inner o e a b);
+stages-flags w v g k r x c bare is law marked free o = record {
+  proxy_old = λ a b. passes-still c _ _ ((law o).proxy_old a b) (λ e. is.own_old o (same_Some _ _ e) a b);
+  proxy_inner = λ a b. passes-still c _ _ ((law o).proxy_inner a b) (λ e. is.own_inner o (same_Some _ _ e) a b);
+  proxy_begun = λ y a at. let p = was c _ y at in begun_part p.router y p.part ∙ (law o).proxy_begun p.router a p.at;
+  proxy_end = λ y a at. let p = was c _ y at in p.part.end ∙ (law o).proxy_end p.router a p.at;
+  across_old = λ a b. passes-still c _ _ ((law o).across_old a b) (λ e. passes-primary c bare _ _);
+  across_marked = marked o;
+  across_free = free o;
+  across_fresh = λ a b. passes-still c _ _ ((law o).across_fresh a b) (λ e. passes-primary c bare _ _);
+  inner_primary = λ q a e. passes-still c _ _ ((law o).inner_primary q a e) (λ f. passes-primary c bare _ _);
+  inner_decaying = λ a b. passes-still c _ _ ((law o).inner_decaying a b) (λ e. is.inner o e a b);
 }
 
 pub stages-gives : (w v : World) (g : Records) (k : Key) (r : Router) (x : Option Router) → Gives w v k r x → IsBare r x → Keeps w v r x →
     Settled w v g k r x → Stages w g → Stages v g
 stages-gives w v g k r x c bare keeps is law =
-    stages-flags w v g k r x c bare is law (λ o a b. flag-still c bare keeps _ _ (λ y p. p.marked) (there o a b) ∙ law.across_marked o a b)
-    (λ o a b. flag-still c bare keeps _ _ (λ y p. ap not p.holds) (there o a b) ∙ law.across_free o a b)
+    stages-flags w v g k r x c bare is law (λ o a b. flag-still c bare keeps _ _ (λ y p. p.marked) (there o a b) ∙ (law o).across_marked a b)
+    (λ o a b. flag-still c bare keeps _ _ (λ y p. ap not p.holds) (there o a b) ∙ (law o).across_free a b)
   where
     there : (o : ℕ) → is_begun (g.bypass o) ≡ true → (g.bypass o).stage ≤ 2 → side_router g (Central o) (across_side g o) ≡ Some k →
         is_some r.outward.primary ≡ true
     there o a b e = has_some r.outward.primary (Central o) (across_side g o)
-        (grind (arith, standing_rules, law.across_old o a b, e, c.here))
+        (grind (arith, standing_rules, (law o).across_old a b, e, c.here))
 
 pub terminals-gives : (w v : World) (g : Records) (k : Key) (r : Router) (x : Option Router) → Gives w v k r x →
     (x ≡ None → is_terminal r ≡ false) → Terminals w g →

@@ -336,38 +336,38 @@ module _ {w v : World} {b : Books} {g : Records} {k : Key} {r x : Router} {o s :
   }
 
   pub stages-further : Stages v h
-  stages-further = record {
-    proxy_old = λ j n l. rw (agree.proxy j, proxy_side_same j) (key_passes-kept w v g h k r x c agree (Some (g.bypass j).proxy)
+  stages-further j = record {
+    proxy_old = λ n l. rw (agree.proxy j, proxy_side_same j) (key_passes-kept w v g h k r x c agree (Some (g.bypass j).proxy)
         (has_decaying (Central j) (proxy_side g j)) (ap (λ u. has_link u (Central j) (proxy_side g j)) linked.decaying)
-        ∙ (stages_of law).proxy_old j (sym (agree.is_begun j) ∙ n) (at_most j 3 l));
-    proxy_inner = λ j n l. rw (agree.proxy j, agree.inner j) (key_passes-kept w v g h k r x c agree (Some (g.bypass j).proxy)
+        ∙ (stages_of law j).proxy_old (sym (agree.is_begun j) ∙ n) (at_most j 3 l));
+    proxy_inner = λ n l. rw (agree.proxy j, agree.inner j) (key_passes-kept w v g h k r x c agree (Some (g.bypass j).proxy)
         (has_inward_decaying (inner_of g j) A) (ap (λ u. has_link u (inner_of g j) A) linked.inward_decaying)
-        ∙ (stages_of law).proxy_inner j (sym (agree.is_begun j) ∙ n) (at_most j 3 l));
-    proxy_begun = λ j t n e. let z : Was (g.bypass j).proxy t =
+        ∙ (stages_of law j).proxy_inner (sym (agree.is_begun j) ∙ n) (at_most j 3 l));
+    proxy_begun = λ t n e. let z : Was (g.bypass j).proxy t =
         was_router (g.bypass j).proxy t (ap (router_at v) (sym (agree.proxy j)) ∙ e)
         in
-        begun_like z.router t z.alike z.linked_alike ∙ (stages_of law).proxy_begun j z.router (sym (agree.is_begun j) ∙ n) z.here_before;
-    proxy_end = λ j t n e. let z : Was (g.bypass j).proxy t = was_router (g.bypass j).proxy t (ap (router_at v) (sym (agree.proxy j)) ∙ e)
+        begun_like z.router t z.alike z.linked_alike ∙ (stages_of law j).proxy_begun z.router (sym (agree.is_begun j) ∙ n) z.here_before;
+    proxy_end = λ t n e. let z : Was (g.bypass j).proxy t = was_router (g.bypass j).proxy t (ap (router_at v) (sym (agree.proxy j)) ∙ e)
         in
-        z.alike.end ∙ (stages_of law).proxy_end j z.router (sym (agree.is_begun j) ∙ n) z.here_before ∙ sym
+        z.alike.end ∙ (stages_of law j).proxy_end z.router (sym (agree.is_begun j) ∙ n) z.here_before ∙ sym
         (ap (λ p. side_end h (inner_link p) A) (agree.inner j) ∙ side_end-agree g h agree (inner_of g j) A);
-    across_old = λ j n l. rw (across_side_same j) (passes_same (Central j) (across_side g j) (has_primary (Central j) (across_side g j))
-        (ap (λ u. has_link u (Central j) (across_side g j)) linked.primary) ∙ (stages_of law).across_old j (sym (agree.is_begun j) ∙ n)
+    across_old = λ n l. rw (across_side_same j) (passes_same (Central j) (across_side g j) (has_primary (Central j) (across_side g j))
+        (ap (λ u. has_link u (Central j) (across_side g j)) linked.primary) ∙ (stages_of law j).across_old (sym (agree.is_begun j) ∙ n)
         (at_most j 2 l));
-    across_marked = λ j n l. rw (across_side_same j) (passes_same (Central j) (across_side g j) (λ y. y.marked) linked.marked ∙
-        (stages_of law).across_marked j (sym (agree.is_begun j) ∙ n) (at_most j 2 l));
-    across_free = λ j n l. rw (across_side_same j) (passes_same (Central j) (across_side g j) (λ y. not y.holds) (ap not linked.holds) ∙
-        (stages_of law).across_free j (sym (agree.is_begun j) ∙ n) (at_most j 2 l));
-    across_fresh = λ j l m. rw (agree.fresh j, across_side_same j)
+    across_marked = λ n l. rw (across_side_same j) (passes_same (Central j) (across_side g j) (λ y. y.marked) linked.marked ∙
+        (stages_of law j).across_marked (sym (agree.is_begun j) ∙ n) (at_most j 2 l));
+    across_free = λ n l. rw (across_side_same j) (passes_same (Central j) (across_side g j) (λ y. not y.holds) (ap not linked.holds) ∙
+        (stages_of law j).across_free (sym (agree.is_begun j) ∙ n) (at_most j 2 l));
+    across_fresh = λ l m. rw (agree.fresh j, across_side_same j)
         (passes_same (fresh_of g j) (across_side g j) (has_primary (fresh_of g j) (across_side g j))
-        (ap (λ u. has_link u (fresh_of g j) (across_side g j)) linked.primary) ∙ (stages_of law).across_fresh j
+        (ap (λ u. has_link u (fresh_of g j) (across_side g j)) linked.primary) ∙ (stages_of law j).across_fresh
         (at_least j 3 (omega arith) l) (at_most j 4 m));
-    inner_primary = λ j q l m. rw (agree.inner j) (key_passes-kept w v g h k r x c agree (Some q) (has_primary (inner_of g j) B)
+    inner_primary = λ q l m. rw (agree.inner j) (key_passes-kept w v g h k r x c agree (Some q) (has_primary (inner_of g j) B)
         (ap (λ u. has_link u (inner_of g j) B) linked.primary)
-        ∙ (stages_of law).inner_primary j q (just j 1 (omega arith) l)
+        ∙ (stages_of law j).inner_primary q (just j 1 (omega arith) l)
         (sym (router_same (inner_of g j) B) ∙ ap (λ p. side_router h (inner_link p) B) (sym (agree.inner j)) ∙ m));
-    inner_decaying = λ j l m. rw (agree.inner j) (passes_same (inner_of g j) B (has_decaying (inner_of g j) B)
-        (ap (λ u. has_link u (inner_of g j) B) linked.decaying) ∙ (stages_of law).inner_decaying j (at_least j 2 (omega arith) l)
+    inner_decaying = λ l m. rw (agree.inner j) (passes_same (inner_of g j) B (has_decaying (inner_of g j) B)
+        (ap (λ u. has_link u (inner_of g j) B) linked.decaying) ∙ (stages_of law j).inner_decaying (at_least j 2 (omega arith) l)
         (at_most j 4 m));
   }
 

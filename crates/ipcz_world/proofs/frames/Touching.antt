@@ -257,34 +257,34 @@ module _ (w v : World) (k : Key) (r y : Router) (g : Records) (t : IsTouched w v
   bypasses-touched law = bypasses-still w v g (recorded_same w v k r y g t) law
 
   pub stages-touched : Stages w g → Stages v g
-  stages-touched law = record {
-    proxy_old = λ o h s. passes-same t.one _ (grind (arith, a.outward)) (Some (g.bypass o).proxy) ∙ law.proxy_old o h s;
-    proxy_inner = λ o h s. passes-same t.one _ (grind (arith, a.inward)) (Some (g.bypass o).proxy) ∙ law.proxy_inner o h s;
-    proxy_begun = λ o x h at. grind (
+  stages-touched law o = record {
+    proxy_old = λ h s. passes-same t.one _ (grind (arith, a.outward)) (Some (g.bypass o).proxy) ∙ (law o).proxy_old h s;
+    proxy_inner = λ h s. passes-same t.one _ (grind (arith, a.inward)) (Some (g.bypass o).proxy) ∙ (law o).proxy_inner h s;
+    proxy_begun = λ x h at. grind (
       arith,
       t.router (g.bypass o).proxy,
       same_key_tells (g.bypass o).proxy k,
       t.here,
-      law.proxy_begun o x,
-      law.proxy_begun o r,
+      (law o).proxy_begun x,
+      (law o).proxy_begun r,
     );
-    proxy_end = λ o x h at. grind (
+    proxy_end = λ x h at. grind (
       arith,
       t.router (g.bypass o).proxy,
       same_key_tells (g.bypass o).proxy k,
       t.here,
-      law.proxy_end o x,
-      law.proxy_end o r,
+      (law o).proxy_end x,
+      (law o).proxy_end r,
     );
-    across_old = λ o h s. passes-same t.one _ (grind (arith, a.outward)) (side_router g (Central o) (across_side g o)) ∙
-        law.across_old o h s;
-    across_marked = λ o h s. passes-same t.one _ a.marked (side_router g (Central o) (across_side g o)) ∙ law.across_marked o h s;
-    across_free = λ o h s. passes-same t.one _ (grind (arith, a.holds)) (side_router g (Central o) (across_side g o)) ∙
-        law.across_free o h s;
-    across_fresh = λ o h s. passes-same t.one _ (grind (arith, a.outward)) (side_router g (fresh_of g o) (across_side g o)) ∙
-        law.across_fresh o h s;
-    inner_primary = λ o q h is. passes-same t.one _ (grind (arith, a.outward)) (Some q) ∙ law.inner_primary o q h is;
-    inner_decaying = λ o h s. passes-same t.one _ (grind (arith, a.outward)) (side_router g (inner_of g o) B) ∙ law.inner_decaying o h
+    across_old = λ h s. passes-same t.one _ (grind (arith, a.outward)) (side_router g (Central o) (across_side g o)) ∙
+        (law o).across_old h s;
+    across_marked = λ h s. passes-same t.one _ a.marked (side_router g (Central o) (across_side g o)) ∙ (law o).across_marked h s;
+    across_free = λ h s. passes-same t.one _ (grind (arith, a.holds)) (side_router g (Central o) (across_side g o)) ∙
+        (law o).across_free h s;
+    across_fresh = λ h s. passes-same t.one _ (grind (arith, a.outward)) (side_router g (fresh_of g o) (across_side g o)) ∙
+        (law o).across_fresh h s;
+    inner_primary = λ q h is. passes-same t.one _ (grind (arith, a.outward)) (Some q) ∙ (law o).inner_primary q h is;
+    inner_decaying = λ h s. passes-same t.one _ (grind (arith, a.outward)) (side_router g (inner_of g o) B) ∙ (law o).inner_decaying h
         s;
   }
 

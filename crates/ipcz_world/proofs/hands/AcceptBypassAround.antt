@@ -209,7 +209,7 @@ module _ {w : World} {b : Books} {g : Records} {from : ℕ} {k : Key} {r : Route
 
   pub x_primary : has_link (Some e) (Central o) side ≡ true
   x_primary = rw (on, ← is.at_side) at (at_stage (has_primary (Central o) (across_side g o))
-      ((stages_of law).across_old o begun (omega (arith, is.stage))))
+      ((stages_of law o).across_old begun (omega (arith, is.stage))))
 
   x_end : HasEnd (Some e) (Central o) side
   x_end = has_link-tells (Some e) (Central o) side x_primary
@@ -221,7 +221,7 @@ module _ {w : World} {b : Books} {g : Records} {from : ℕ} {k : Key} {r : Route
   at_side = ap (λ d. d.side) (same_Some _ _ x_end.there) ∙ x_end.at_side
 
   marked : r.marked ≡ true
-  marked = at_stage (λ x. x.marked) ((stages_of law).across_marked o begun (omega (arith, is.stage)))
+  marked = at_stage (λ x. x.marked) ((stages_of law o).across_marked begun (omega (arith, is.stage)))
 
   pub still : r.outward.decaying ≡ None
   still = grind (arith, ((shape_of law) k r here).marked_still marked)
@@ -229,7 +229,7 @@ module _ {w : World} {b : Books} {g : Records} {from : ℕ} {k : Key} {r : Route
   -- the proxy
   pub y_stood : Stood w (g.bypass o).proxy (has_decaying (Central o) (opposite side))
   y_stood = stood w (g.bypass o).proxy (has_decaying (Central o) (opposite side))
-      (rw proxy_is at ((stages_of law).proxy_old o begun (omega (arith, is.stage))))
+      (rw proxy_is at ((stages_of law o).proxy_old begun (omega (arith, is.stage))))
 
   abbrev y : Router
   y = y_stood.router
@@ -241,7 +241,7 @@ module _ {w : World} {b : Books} {g : Records} {from : ℕ} {k : Key} {r : Route
   y_old = y_stood.passed
 
   y_inner : has_link (inward_edge y).decaying (inner_of g o) A ≡ true
-  y_inner = sym (passed w (g.bypass o).proxy y (has_inward_decaying (inner_of g o) A) y_here) ∙ (stages_of law).proxy_inner o begun
+  y_inner = sym (passed w (g.bypass o).proxy y (has_inward_decaying (inner_of g o) A) y_here) ∙ (stages_of law o).proxy_inner begun
       (omega (arith, is.stage))
 
   pub y_known : side_router g (Central o) (opposite side) ≡ Some (g.bypass o).proxy
@@ -261,7 +261,7 @@ module _ {w : World} {b : Books} {g : Records} {from : ℕ} {k : Key} {r : Route
   z_known = from_some-is (side_router g (inner_of g o) B) z_known_some
 
   pub z_stood : Stood w zk (has_decaying (inner_of g o) B)
-  z_stood = stood w zk (has_decaying (inner_of g o) B) (rw z_known at ((stages_of law).inner_decaying o two (omega (arith, is.stage))))
+  z_stood = stood w zk (has_decaying (inner_of g o) B) (rw z_known at ((stages_of law o).inner_decaying two (omega (arith, is.stage))))
 
   abbrev pub z : Router
   z = z_stood.router

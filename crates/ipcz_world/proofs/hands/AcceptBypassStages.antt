@@ -308,7 +308,7 @@ module _ {w : World} {b : Books} {g : Records} {from : ℕ} {k : Key} {r : Route
   not_proxy : (j : ℕ) → is_begun (g.bypass j) ≡ true → (g.bypass j).proxy ≡ k → ⊥
   not_proxy j b' m = grind (
     arith,
-    (stages_of law).proxy_begun j r b' (ap (router_at w) m ∙ here law can),
+    (stages_of law j).proxy_begun r b' (ap (router_at w) m ∙ here law can),
     ((shape_of law) k r (here law can)).role,
     on law can,
   )
@@ -317,7 +317,7 @@ module _ {w : World} {b : Books} {g : Records} {from : ℕ} {k : Key} {r : Route
   not_across : (j : ℕ) → is_begun (g.bypass j) ≡ true → (g.bypass j).stage ≤ 2 → nat_eq j o ≡ false →
       side_router g (Central j) (across_side g j) ≡ Some k → ⊥
   not_across j b' st ne m = let p : has_primary (Central j) (across_side g j) r ≡ true =
-      sym (passed w k r (has_primary (Central j) (across_side g j)) (here law can)) ∙ rw m at ((stages_of law).across_old j b' st) in
+      sym (passed w k r (has_primary (Central j) (across_side g j)) (here law can)) ∙ rw m at ((stages_of law j).across_old b' st) in
       grind (arith, (only_old j (across_side g j) p).0, ne, nat_tests)
 
   -- nor the one that has accepted another: then the old link's other router would have two decaying links
@@ -328,7 +328,7 @@ module _ {w : World} {b : Books} {g : Records} {from : ℕ} {k : Key} {r : Route
       two' = omega (arith, lo)
 
       p : has_primary (fresh_of g j) (across_side g j) r ≡ true
-      p = sym (passed w k r (has_primary (fresh_of g j) (across_side g j)) (here law can)) ∙ rw m at ((stages_of law).across_fresh j lo hi)
+      p = sym (passed w k r (has_primary (fresh_of g j) (across_side g j)) (here law can)) ∙ rw m at ((stages_of law j).across_fresh lo hi)
 
       fresh_is : (g.bypass j).fresh ≡ o
       fresh_is = (only_old (g.bypass j).fresh (across_side g j) p).0
@@ -342,7 +342,7 @@ module _ {w : World} {b : Books} {g : Records} {from : ℕ} {k : Key} {r : Route
 
       y_has : has_link y.outward.decaying (inner_of g j) B ≡ true
       y_has = sym (passed w (g.bypass o).proxy y (has_decaying (inner_of g j) B) (y_here law can)) ∙ rw inner_j at
-          ((stages_of law).inner_decaying j two' hi)
+          ((stages_of law j).inner_decaying two' hi)
 
       at_inner : HasEnd y.outward.decaying (inner_of g j) B
       at_inner = has_link-tells y.outward.decaying (inner_of g j) B y_has
@@ -370,38 +370,38 @@ module _ {w : World} {b : Books} {g : Records} {from : ℕ} {k : Key} {r : Route
       go (Some q) m p = known_after law can link s q m ∙ sym m
 
   pub stages-accept : Stages v h
-  stages-accept = record {
-    proxy_old = λ j b' st. proxy_old_at j (sym ((agree law can).is_begun j) ∙ b') st;
-    proxy_inner = λ j b' st. proxy_inner_at j (sym ((agree law can).is_begun j) ∙ b') st;
-    proxy_begun = λ j t b' at. let c : WasLike w (g.bypass j).proxy t = was_proxy law can j t at in
-        ap (λ u. is_some u && is_none (unwrap_or u no_edge).primary) c.inward ∙ (stages_of law).proxy_begun j c.router
+  stages-accept j = record {
+    proxy_old = λ b' st. proxy_old_at j (sym ((agree law can).is_begun j) ∙ b') st;
+    proxy_inner = λ b' st. proxy_inner_at j (sym ((agree law can).is_begun j) ∙ b') st;
+    proxy_begun = λ t b' at. let c : WasLike w (g.bypass j).proxy t = was_proxy law can j t at in
+        ap (λ u. is_some u && is_none (unwrap_or u no_edge).primary) c.inward ∙ (stages_of law j).proxy_begun c.router
         (sym ((agree law can).is_begun j) ∙ b') c.here_before;
-    proxy_end = λ j t b' at. let c : WasLike w (g.bypass j).proxy t = was_proxy law can j t at in
-        c.alike.end ∙ (stages_of law).proxy_end j c.router (sym ((agree law can).is_begun j) ∙ b') c.here_before ∙ sym
+    proxy_end = λ t b' at. let c : WasLike w (g.bypass j).proxy t = was_proxy law can j t at in
+        c.alike.end ∙ (stages_of law j).proxy_end c.router (sym ((agree law can).is_begun j) ∙ b') c.here_before ∙ sym
         (ap (λ p. side_end h (inner_link p) A) ((agree law can).inner j) ∙ side_end-agree g h (agree law can) (inner_of g j) A);
-    across_old = λ j b' st. across_at j (sym ((agree law can).is_begun j) ∙ b') st (λ i s. has_primary (Central i) s)
-        (λ b2 st2. (stages_of law).across_old j b2 st2);
-    across_marked = λ j b' st. across_at j (sym ((agree law can).is_begun j) ∙ b') st (λ i s y. y.marked)
-        (λ b2 st2. (stages_of law).across_marked j b2 st2);
-    across_free = λ j b' st. across_at j (sym ((agree law can).is_begun j) ∙ b') st (λ i s y. not y.holds)
-        (λ b2 st2. (stages_of law).across_free j b2 st2);
-    across_fresh = λ j lo hi. across_fresh_at j lo hi (at_o law can j);
-    inner_primary = λ j q st known'. inner_primary_at j q st known' (at_o law can j);
-    inner_decaying = λ j lo hi. inner_decaying_at j lo hi;
+    across_old = λ b' st. across_at j (sym ((agree law can).is_begun j) ∙ b') st (λ i s. has_primary (Central i) s)
+        (λ b2 st2. (stages_of law j).across_old b2 st2);
+    across_marked = λ b' st. across_at j (sym ((agree law can).is_begun j) ∙ b') st (λ i s y. y.marked)
+        (λ b2 st2. (stages_of law j).across_marked b2 st2);
+    across_free = λ b' st. across_at j (sym ((agree law can).is_begun j) ∙ b') st (λ i s y. not y.holds)
+        (λ b2 st2. (stages_of law j).across_free b2 st2);
+    across_fresh = λ lo hi. across_fresh_at j lo hi (at_o law can j);
+    inner_primary = λ q st known'. inner_primary_at j q st known' (at_o law can j);
+    inner_decaying = λ lo hi. inner_decaying_at j lo hi;
   }
     where
       proxy_old_at : (j : ℕ) → is_begun (g.bypass j) ≡ true → (h.bypass j).stage ≤ 3 →
           key_passes v (Some (h.bypass j).proxy) (has_decaying (Central j) (proxy_side h j)) ≡ true
       proxy_old_at j b' st = rw ((agree law can).proxy j, proxy_side-agree g h (agree law can) j)
           (keep (Some (g.bypass j).proxy) (has_decaying (Central j) (proxy_side g j))
-          ((stages_of law).proxy_old j b' (grind (arith, st, at_o law can j, (is law can).stage)))
+          ((stages_of law j).proxy_old b' (grind (arith, st, at_o law can j, (is law can).stage)))
           (λ m t. absurd (not_proxy j b' (same_Some _ _ m))))
 
       proxy_inner_at : (j : ℕ) → is_begun (g.bypass j) ≡ true → (h.bypass j).stage ≤ 3 →
           key_passes v (Some (h.bypass j).proxy) (has_inward_decaying (inner_of h j) A) ≡ true
       proxy_inner_at j b' st =
           rw ((agree law can).proxy j, (agree law can).inner j) (keep (Some (g.bypass j).proxy) (has_inward_decaying (inner_of g j) A)
-          ((stages_of law).proxy_inner j b' (grind (arith, st, at_o law can j, (is law can).stage)))
+          ((stages_of law j).proxy_inner b' (grind (arith, st, at_o law can j, (is law can).stage)))
           (λ m t. absurd (not_proxy j b' (same_Some _ _ m))))
 
       across_at : (j : ℕ) → is_begun (g.bypass j) ≡ true → (h.bypass j).stage ≤ 2 → (test : ℕ → Side → Router → Bool) →
@@ -425,7 +425,7 @@ module _ {w : World} {b : Books} {g : Records} {from : ℕ} {k : Key} {r : Route
       across_fresh_at j lo hi (inr c) = let lo' : 3 ≤ (g.bypass j).stage = rw c.0 at lo in let hi' : (g.bypass j).stage ≤ 4 =
           rw c.0 at hi in
           let old : key_passes w (side_router g (fresh_of g j) (across_side g j)) (has_primary (fresh_of g j) (across_side g j)) ≡ true =
-          (stages_of law).across_fresh j lo' hi' in
+          (stages_of law j).across_fresh lo' hi' in
           rw (
             (agree law can).fresh j,
             across_side-after law can j,
@@ -441,14 +441,14 @@ module _ {w : World} {b : Books} {g : Records} {from : ℕ} {k : Key} {r : Route
       inner_primary_at j q st known' (inr c) = let st' : (g.bypass j).stage ≡ 1 = rw c.0 at st in
           let known2 : side_router g (inner_of g j) B ≡ Some q = sym (side_router-inner-agree g h (agree law can) (g.bypass j).inner B) ∙ ap
           (λ p. side_router h (inner_link p) B) (sym ((agree law can).inner j)) ∙ known' in
-          rw ((agree law can).inner j) (keep (Some q) (has_primary (inner_of g j) B) ((stages_of law).inner_primary j q st' known2)
+          rw ((agree law can).inner j) (keep (Some q) (has_primary (inner_of g j) B) ((stages_of law j).inner_primary q st' known2)
           (λ m t. absurd (not_inner (g.bypass j).inner B t)))
 
       inner_decaying_at : (j : ℕ) → 2 ≤ (h.bypass j).stage → (h.bypass j).stage ≤ 4 →
           key_passes v (side_router h (inner_of h j) B) (has_decaying (inner_of h j) B) ≡ true
       inner_decaying_at j lo hi = rw ((agree law can).inner j, side_router-inner-agree g h (agree law can) (g.bypass j).inner B)
           (keep (side_router g (inner_of g j) B) (has_decaying (inner_of g j) B)
-          ((stages_of law).inner_decaying j (two_of law can j lo) (grind (arith, hi, at_o law can j, (is law can).stage)))
+          ((stages_of law j).inner_decaying (two_of law can j lo) (grind (arith, hi, at_o law can j, (is law can).stage)))
           (λ m t. absurd (no_decay (inner_of g j) B t)))
 
   was_message : (a c i : ℕ) (m : Message) → (m ≡ sent → ⊥) → IsUnderWay v a c i m → IsUnderWay w a c (before a c i) m

@@ -74,7 +74,7 @@ module _ {w : World} {b : Books} {g : Records} {from : ℕ} {k : Key} {r : Route
   known = rw (is.on_link, is.at_side) at ((has_at w g k r link side (links_of law) here (opened can).has).router)
 
   pub z_inner : has_primary (inner_of g o) B r ≡ true
-  z_inner = sym (passed w k r (has_primary (inner_of g o) B) here) ∙ (stages_of law).inner_primary o k is.stage known
+  z_inner = sym (passed w k r (has_primary (inner_of g o) B) here) ∙ (stages_of law o).inner_primary k is.stage known
 
   pub z_end : HasEnd r.outward.primary (inner_of g o) B
   z_end = has_link-tells r.outward.primary (inner_of g o) B z_inner

@@ -276,7 +276,7 @@ module _ {w : World} {b : Books} {g : Records} {from : ℕ} {k : Key} {r : Route
   -- the proxy, and its numbers against those of the router inward
   y_stood : Stood w (g.bypass o).proxy (has_inward_decaying (inner_of g o) A)
   y_stood = stood w (g.bypass o).proxy (has_inward_decaying (inner_of g o) A)
-      ((stages_of law).proxy_inner o (begun law can) (omega (arith, (is law can).stage)))
+      ((stages_of law o).proxy_inner (begun law can) (omega (arith, (is law can).stage)))
 
   view_y : view w g (inner_of g o) A ≡ Standing y_stood.router
   view_y = view-standing w g (inner_of g o) A (g.bypass o).proxy y_stood.router ((bypasses_of law o).proxy_inner (begun law can))

@@ -431,7 +431,7 @@ module _ {w : World} {b : Books} {g : Records} {from : ℕ} {k : Key} {r : Route
   not_proxy : (j : ℕ) → is_begun (g.bypass j) ≡ true → (g.bypass j).proxy ≡ k → ⊥
   not_proxy j n m = grind (
     arith,
-    (stages_of law).proxy_begun j r n (ap (router_at w) m ∙ here law can),
+    (stages_of law j).proxy_begun r n (ap (router_at w) m ∙ here law can),
     ((shape_of law) k r (here law can)).role,
     on law can,
   )
@@ -439,43 +439,43 @@ module _ {w : World} {b : Books} {g : Records} {from : ℕ} {k : Key} {r : Route
   not_across : (j : ℕ) → is_begun (g.bypass j) ≡ true → (g.bypass j).stage ≤ 2 → side_router g (Central j) (across_side g j) ≡ Some k → ⊥
   not_across j n l m =
       not_central j (across_side g j) (sym (passed w k r (has_primary (Central j) (across_side g j)) (here law can)) ∙ rw m at
-      ((stages_of law).across_old j n l))
+      ((stages_of law j).across_old n l))
 
   pub stages-peer : Stages v h
-  stages-peer = record {
-    proxy_old = λ j n l. proxy_old_at j (sym (is_begun_same law can j) ∙ n) l;
-    proxy_inner = λ j n l. proxy_inner_at j (sym (is_begun_same law can j) ∙ n) l;
-    proxy_begun = λ j t n a. let c : WasLike w (g.bypass j).proxy t =
+  stages-peer j = record {
+    proxy_old = λ n l. proxy_old_at j (sym (is_begun_same law can j) ∙ n) l;
+    proxy_inner = λ n l. proxy_inner_at j (sym (is_begun_same law can j) ∙ n) l;
+    proxy_begun = λ t n a. let c : WasLike w (g.bypass j).proxy t =
         was_router law can (g.bypass j).proxy t (ap (router_at v) (sym (proxy_same law can j)) ∙ a)
-        in ap (λ u. is_some u && is_none (unwrap_or u no_edge).primary) c.inward ∙ (stages_of law).proxy_begun j c.router
+        in ap (λ u. is_some u && is_none (unwrap_or u no_edge).primary) c.inward ∙ (stages_of law j).proxy_begun c.router
         (sym (is_begun_same law can j) ∙ n) c.here_before;
-    proxy_end = λ j t n a. let c : WasLike w (g.bypass j).proxy t =
+    proxy_end = λ t n a. let c : WasLike w (g.bypass j).proxy t =
         was_router law can (g.bypass j).proxy t (ap (router_at v) (sym (proxy_same law can j)) ∙ a) in
-        c.alike.end ∙ (stages_of law).proxy_end j c.router (sym (is_begun_same law can j) ∙ n) c.here_before ∙ sym
+        c.alike.end ∙ (stages_of law j).proxy_end c.router (sym (is_begun_same law can j) ∙ n) c.here_before ∙ sym
         (ap (λ p. side_end h (inner_link p) A) (inner_same law can j) ∙ end_same law can (inner_of g j) A refl);
-    across_old = λ j n l. across_at j (sym (is_begun_same law can j) ∙ n) l (λ i s. has_primary (Central i) s)
-        (λ b2 st2. (stages_of law).across_old j b2 st2);
-    across_marked = λ j n l. across_at j (sym (is_begun_same law can j) ∙ n) l (λ i s y. y.marked)
-        (λ b2 st2. (stages_of law).across_marked j b2 st2);
-    across_free = λ j n l. across_at j (sym (is_begun_same law can j) ∙ n) l (λ i s y. not y.holds)
-        (λ b2 st2. (stages_of law).across_free j b2 st2);
-    across_fresh = λ j lo hi. across_fresh_at j lo hi (at_o law can j);
-    inner_primary = λ j q st m. inner_primary_at j q st m (at_o law can j);
-    inner_decaying = λ j lo hi. inner_decaying_at j lo hi (at_o law can j);
+    across_old = λ n l. across_at j (sym (is_begun_same law can j) ∙ n) l (λ i s. has_primary (Central i) s)
+        (λ b2 st2. (stages_of law j).across_old b2 st2);
+    across_marked = λ n l. across_at j (sym (is_begun_same law can j) ∙ n) l (λ i s y. y.marked)
+        (λ b2 st2. (stages_of law j).across_marked b2 st2);
+    across_free = λ n l. across_at j (sym (is_begun_same law can j) ∙ n) l (λ i s y. not y.holds)
+        (λ b2 st2. (stages_of law j).across_free b2 st2);
+    across_fresh = λ lo hi. across_fresh_at j lo hi (at_o law can j);
+    inner_primary = λ q st m. inner_primary_at j q st m (at_o law can j);
+    inner_decaying = λ lo hi. inner_decaying_at j lo hi (at_o law can j);
   }
     where
       proxy_old_at : (j : ℕ) → is_begun (g.bypass j) ≡ true → (h.bypass j).stage ≤ 3 →
           key_passes v (Some (h.bypass j).proxy) (has_decaying (Central j) (proxy_side h j)) ≡ true
       proxy_old_at j n l =
           rw (proxy_same law can j, proxy_side_same law can j) (keep (Some (g.bypass j).proxy) (has_decaying (Central j) (proxy_side g j))
-          ((stages_of law).proxy_old j n (grind (arith, l, at_o law can j, (is law can).stage)))
+          ((stages_of law j).proxy_old n (grind (arith, l, at_o law can j, (is law can).stage)))
           (λ m t. absurd (not_proxy j n (same_Some _ _ m))))
 
       proxy_inner_at : (j : ℕ) → is_begun (g.bypass j) ≡ true → (h.bypass j).stage ≤ 3 →
           key_passes v (Some (h.bypass j).proxy) (has_inward_decaying (inner_of h j) A) ≡ true
       proxy_inner_at j n l =
           rw (proxy_same law can j, inner_same law can j) (keep (Some (g.bypass j).proxy) (has_inward_decaying (inner_of g j) A)
-          ((stages_of law).proxy_inner j n (grind (arith, l, at_o law can j, (is law can).stage)))
+          ((stages_of law j).proxy_inner n (grind (arith, l, at_o law can j, (is law can).stage)))
           (λ m t. absurd (not_proxy j n (same_Some _ _ m))))
 
       across_at : (j : ℕ) → is_begun (g.bypass j) ≡ true → (h.bypass j).stage ≤ 2 → (test : ℕ → Side → Router → Bool) →
@@ -499,7 +499,7 @@ module _ {w : World} {b : Books} {g : Records} {from : ℕ} {k : Key} {r : Route
             router_same law can (fresh_of g j) (across_side g j) (fresh_apart law can j (omega (arith, lo'))),
           )
           (keep (side_router g (fresh_of g j) (across_side g j)) (has_primary (fresh_of g j) (across_side g j))
-          ((stages_of law).across_fresh j lo' hi') (λ m t. absurd (not_central (g.bypass j).fresh (across_side g j) t)))
+          ((stages_of law j).across_fresh lo' hi') (λ m t. absurd (not_central (g.bypass j).fresh (across_side g j) t)))
 
       inner_primary_at : (j : ℕ) (q : Key) → (h.bypass j).stage ≡ 1 → side_router h (inner_of h j) B ≡ Some q →
           ((nat_eq j o ≡ true) × (j ≡ o)) ⊎ ((nat_eq j o ≡ false) × (j ≢ o)) → key_passes v (Some q) (has_primary (inner_of h j) B) ≡ true
@@ -507,7 +507,7 @@ module _ {w : World} {b : Books} {g : Records} {from : ℕ} {k : Key} {r : Route
       inner_primary_at j q st m (inr c) = let st' : (g.bypass j).stage ≡ 1 = rw c.0 at st in let b' : is_begun (g.bypass j) ≡ true =
           grind (arith, st', nat_tests) in
           rw (inner_same law can j) (keep (Some q) (has_primary (inner_of g j) B)
-          ((stages_of law).inner_primary j q st' (sym (router_same law can (inner_of g j) B refl) ∙ ap (λ p. side_router h (inner_link p) B)
+          ((stages_of law j).inner_primary q st' (sym (router_same law can (inner_of g j) B refl) ∙ ap (λ p. side_router h (inner_link p) B)
           (sym (inner_same law can j)) ∙ m))
           (λ n t. absurd (c.1 (same_Some j o (sym ((bypasses_of law j).inner_by b') ∙ ap (λ p. (g.peripheral p).by)
           (inner_is law can (g.bypass j).inner (g.bypass o).inner (only_inner (inner_of g j) B t).0) ∙ by_o law can)))))
@@ -522,7 +522,7 @@ module _ {w : World} {b : Books} {g : Records} {from : ℕ} {k : Key} {r : Route
           (has_decaying (inner_of g o) B) ∙ z_inner law can)
       inner_decaying_at j lo hi (inr c) = rw (inner_same law can j, router_same law can (inner_of g j) B refl)
           (keep (side_router g (inner_of g j) B) (has_decaying (inner_of g j) B)
-          ((stages_of law).inner_decaying j (rw c.0 at lo) (rw c.0 at hi)) (λ m t. absurd (no_decay (inner_of g j) B t)))
+          ((stages_of law j).inner_decaying (rw c.0 at lo) (rw c.0 at hi)) (λ m t. absurd (no_decay (inner_of g j) B t)))
 
   pub terminals-peer : Terminals w g → Terminals v h
   terminals-peer terms = record {

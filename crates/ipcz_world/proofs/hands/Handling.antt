@@ -116,7 +116,7 @@ module _ (w : World) (b : Books) (g : Records) (law : Inv w b g) where
           let known : side_router g (inner_of g o) B ≡ Some k = subst (λ l. side_router g l B ≡ Some k) at.on_link
           (subst (λ s. side_router g link s ≡ Some k) at.at_side mine.router) in
           let on : has_primary (inner_of g o) B r ≡ true = sym (passes-at w (Some k) k r (has_primary (inner_of g o) B) refl can.here) ∙
-          law.stages.inner_primary o k at.stage known in
+          (law.stages o).inner_primary k at.stage known in
           let primary : has_primary link side r ≡ true = subst (λ l. has_primary l side r ≡ true) (sym at.on_link)
           (subst (λ s. has_primary (inner_of g o) s r ≡ true) (sym at.at_side) on) in
           let peripheral : is_central link ≡ false = ap is_central at.on_link in
@@ -183,9 +183,9 @@ module _ (w : World) (b : Books) (g : Records) (law : Inv w b g) where
           let known : side_router g (Central o) (across_side g o) ≡ Some k =
           subst (λ s. side_router g (Central o) s ≡ Some k) at.at_side mine.router in
           let on : has_primary (Central o) (across_side g o) r ≡ true =
-          sym (passes-at w _ k r (has_primary (Central o) (across_side g o)) known here) ∙ law.stages.across_old o begun early in
+          sym (passes-at w _ k r (has_primary (Central o) (across_side g o)) known here) ∙ (law.stages o).across_old begun early in
           let primary : has_primary (Central o) side r ≡ true = subst (λ s. has_primary (Central o) s r ≡ true) (sym at.at_side) on in
-          let marked : r.marked ≡ true = sym (passes-at w _ k r (λ x. x.marked) known here) ∙ law.stages.across_marked o begun early in
+          let marked : r.marked ≡ true = sym (passes-at w _ k r (λ x. x.marked) known here) ∙ (law.stages o).across_marked begun early in
           let still : edge_decays r.outward ≡ false = grind (arith, (law.shape k r here).marked_still marked) in
           let new : is_named (node_at w n) (Central fresh) side ≡ false =
           unnamed n (Central fresh) side (λ q y there named. awaited at (has_at w g q y (Central fresh) side law.links there named)) in
@@ -260,13 +260,13 @@ module _ (w : World) (b : Books) (g : Records) (law : Inv w b g) where
           let proxy : Some (g.bypass o).proxy ≡ Some k = sym ((law.bypasses o).proxy_old begun) ∙ known in
           let owns : g.begun k ≡ Some o = ap g.begun (sym (same_Some _ k proxy)) ∙ law.positions.proxy_begun o begun in
           let off : has_decaying (Central o) (proxy_side g o) r ≡ true =
-          sym (passes-at w _ k r (has_decaying (Central o) (proxy_side g o)) proxy here) ∙ law.stages.proxy_old o begun early in
+          sym (passes-at w _ k r (has_decaying (Central o) (proxy_side g o)) proxy here) ∙ (law.stages o).proxy_old begun early in
           let decaying : has_link r.outward.decaying (Central o) side ≡ true =
           subst (λ s. has_decaying (Central o) s r ≡ true) (sym at.at_side) off in
           let d : HasEnd r.outward.decaying (Central o) (proxy_side g o) =
           has_link-tells r.outward.decaying (Central o) (proxy_side g o) off in
           let inner : has_inward_decaying (inner_of g o) A r ≡ true =
-          sym (passes-at w _ k r (has_inward_decaying (inner_of g o) A) proxy here) ∙ law.stages.proxy_inner o begun early in
+          sym (passes-at w _ k r (has_inward_decaying (inner_of g o) A) proxy here) ∙ (law.stages o).proxy_inner begun early in
           let i : HasEnd (inward_edge r).decaying (inner_of g o) A = has_link-tells (inward_edge r).decaying (inner_of g o) A inner in
           let to : is_none r.outward.length_to ≡ true =
           unknown _ 4 _ _ ((law.positions.each k r here).own_to d.end o d.there d.on_link d.at_side) late in
@@ -325,7 +325,7 @@ module _ (w : World) (b : Books) (g : Records) (law : Inv w b g) where
           let known : side_router g (inner_of g o) B ≡ Some k = subst (λ l. side_router g l B ≡ Some k) at.on_link
           (subst (λ s. side_router g link s ≡ Some k) at.at_side mine.router) in
           let off : has_decaying (inner_of g o) B r ≡ true = sym (passes-at w _ k r (has_decaying (inner_of g o) B) known here) ∙
-          law.stages.inner_decaying o (omega (arith, at.stage)) (omega (arith, at.stage)) in
+          (law.stages o).inner_decaying (omega (arith, at.stage)) (omega (arith, at.stage)) in
           let decaying : has_decaying link side r ≡ true = subst (λ l. has_decaying l side r ≡ true) (sym at.on_link)
           (subst (λ s. has_decaying (inner_of g o) s r ≡ true) (sym at.at_side) off) in
           let d : HasEnd r.outward.decaying (inner_of g o) B = has_link-tells r.outward.decaying (inner_of g o) B off in

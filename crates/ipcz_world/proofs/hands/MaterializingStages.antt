@@ -196,30 +196,30 @@ module _ {w v : World} {b : Books} {g : Records} {a : ℕ} {q p : Key} {d : Desc
   ]
 
   pub stages-made : Stages v h
-  stages-made = record {
-    proxy_old = λ o e s. ap (λ s. key_passes v (Some (g.bypass o).proxy) (has_decaying (Central o) s)) (side_same law is t o) ∙
+  stages-made o = record {
+    proxy_old = λ e s. ap (λ s. key_passes v (Some (g.bypass o).proxy) (has_decaying (Central o) s)) (side_same law is t o) ∙
         passes_kept law is t
-        (Some (g.bypass o).proxy) (has_decaying (Central o) (proxy_side g o)) (law.stages.proxy_old o e s);
-    proxy_inner = λ o e s. passes_kept law is t (Some (g.bypass o).proxy) (has_inward_decaying (inner_of g o) A)
-        (law.stages.proxy_inner o e s);
-    proxy_begun = λ o z e at. law.stages.proxy_begun o z e (proxy_was o z e at);
-    proxy_end = λ o z e at. law.stages.proxy_end o z e (proxy_was o z e at) ∙ sym (end_same law is t (inner_of g o) A);
-    across_old = λ o e s. across_passes o (λ s. has_primary (Central o) s) (law.stages.across_old o e s);
-    across_marked = λ o e s. across_passes o (λ s x. x.marked) (law.stages.across_marked o e s);
-    across_free = λ o e s. across_passes o (λ s x. not x.holds) (law.stages.across_free o e s);
-    across_fresh = λ o e s. ap (λ s. key_passes v (side_router h (fresh_of g o) (opposite s)) (has_primary (fresh_of g o) (opposite s)))
+        (Some (g.bypass o).proxy) (has_decaying (Central o) (proxy_side g o)) ((law.stages o).proxy_old e s);
+    proxy_inner = λ e s. passes_kept law is t (Some (g.bypass o).proxy) (has_inward_decaying (inner_of g o) A)
+        ((law.stages o).proxy_inner e s);
+    proxy_begun = λ z e at. (law.stages o).proxy_begun z e (proxy_was o z e at);
+    proxy_end = λ z e at. (law.stages o).proxy_end z e (proxy_was o z e at) ∙ sym (end_same law is t (inner_of g o) A);
+    across_old = λ e s. across_passes o (λ s. has_primary (Central o) s) ((law.stages o).across_old e s);
+    across_marked = λ e s. across_passes o (λ s x. x.marked) ((law.stages o).across_marked e s);
+    across_free = λ e s. across_passes o (λ s x. not x.holds) ((law.stages o).across_free e s);
+    across_fresh = λ e s. ap (λ s. key_passes v (side_router h (fresh_of g o) (opposite s)) (has_primary (fresh_of g o) (opposite s)))
         (side_same law is t o) ∙ ap (λ z. key_passes v z (has_primary (fresh_of g o) (across_side g o)))
         (central_kept (g.bypass o).fresh (across_side g o)) ∙
         passes_kept law is t (side_router g (fresh_of g o) (across_side g o)) (has_primary (fresh_of g o) (across_side g o))
-        (law.stages.across_fresh o e s);
-    inner_primary = λ o x e f. elim (inner_case (g.bypass o).inner) [
+        ((law.stages o).across_fresh e s);
+    inner_primary = λ x e f. elim (inner_case (g.bypass o).inner) [
       | inl c ↦ let key : q ≡ x = same_some (sym (router_new law is t) ∙ ap (λ k. side_router h (inner_link k) B) (sym c) ∙ f) in
           subst (λ k. key_passes v (Some x) (has_primary (inner_link k) B) ≡ true) (sym c)
           (subst (λ x. key_passes v (Some x) (has_primary (inner_link p) B) ≡ true) key has_new)
-      | inr c ↦ passes_kept law is t (Some x) (has_primary (inner_of g o) B) (law.stages.inner_primary o x e (sym c ∙ f))
+      | inr c ↦ passes_kept law is t (Some x) (has_primary (inner_of g o) B) ((law.stages o).inner_primary x e (sym c ∙ f))
     ];
-    inner_decaying = λ o e s. ap (λ z. key_passes v z (has_decaying (inner_of g o) B)) (inner_kept o e) ∙ passes_kept law is t
-        (side_router g (inner_of g o) B) (has_decaying (inner_of g o) B) (law.stages.inner_decaying o e s);
+    inner_decaying = λ e s. ap (λ z. key_passes v z (has_decaying (inner_of g o) B)) (inner_kept o e) ∙ passes_kept law is t
+        (side_router g (inner_of g o) B) (has_decaying (inner_of g o) B) ((law.stages o).inner_decaying e s);
   }
 
   nowhere_moved : is_nowhere (g.terminal d.end) ≡ false

@@ -70,7 +70,7 @@ module _ (w : World) (b : Books) (g : Records) (from : ℕ) (k : Key) (r : Route
 
   pub z_inner : has_link r.outward.decaying (inner_of g o) B ≡ true
   z_inner = sym (passed w k r (has_decaying (inner_of g o) B) here) ∙ rw known at
-      ((stages_of law).inner_decaying o (omega (arith, is.stage)) (omega (arith, is.stage)))
+      ((stages_of law o).inner_decaying (omega (arith, is.stage)) (omega (arith, is.stage)))
 
   pub z_end : HasEnd r.outward.decaying (inner_of g o) B
   z_end = has_link-tells r.outward.decaying (inner_of g o) B z_inner

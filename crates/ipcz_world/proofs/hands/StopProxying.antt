@@ -88,11 +88,11 @@ module _ (w : World) (b : Books) (g : Records) (from : ℕ) (k : Key) (r : Route
 
   pub y_old : has_link r.outward.decaying (Central o) (proxy_side g o) ≡ true
   y_old = sym (passed w k r (has_decaying (Central o) (proxy_side g o)) here) ∙ rw proxy_is at
-      ((stages_of law).proxy_old o begun (omega (arith, is.stage)))
+      ((stages_of law o).proxy_old begun (omega (arith, is.stage)))
 
   y_inner : has_link (inward_edge r).decaying (inner_of g o) A ≡ true
   y_inner = sym (passed w k r (has_inward_decaying (inner_of g o) A) here) ∙ rw proxy_is at
-      ((stages_of law).proxy_inner o begun (omega (arith, is.stage)))
+      ((stages_of law o).proxy_inner begun (omega (arith, is.stage)))
 
   pub y_end : HasEnd r.outward.decaying (Central o) (proxy_side g o)
   y_end = has_link-tells r.outward.decaying (Central o) (proxy_side g o) y_old

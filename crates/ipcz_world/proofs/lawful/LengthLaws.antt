@@ -303,7 +303,7 @@ module _ (w : World) (b : Books) (g : Records) (law : Inv w b g) where
     | inr e ↦
         let begun : is_begun (g.bypass is.bypass) ≡ true = grind (arith, e.0, nat_tests) in
         let p : Passes w (Some (g.bypass is.bypass).proxy) (has_decaying (Central is.bypass) (proxy_side g is.bypass)) =
-        passes-tells w _ _ (law.stages.proxy_old is.bypass begun (omega (arith, e.0))) in
+        passes-tells w _ _ ((law.stages is.bypass).proxy_old begun (omega (arith, e.0))) in
         let on : is_attached link (opposite s) p.router ≡ true = rw (e.1, e.2) (on_old is.bypass p.router p.passed) in
         let seen = attached_view link (opposite s) p.key p.router p.here on in
         let sent : n < p.router.out_queue.current = law.items.was_sent from to i link s n item moves p.router.out_queue.current u
@@ -493,7 +493,7 @@ module _ (w : World) (b : Books) (g : Records) (law : Inv w b g) where
           let is : IsStop g x.from x.to o x.side x.in_length x.out_length =
           stop_told w g x.from x.to x.place o x.side x.in_length x.out_length law.told x.sent in
           let old : Passes w (Some (g.bypass o).proxy) (has_decaying (Central o) (proxy_side g o)) =
-          passes-tells w _ _ (law.stages.proxy_old o begun (omega (arith, st))) in
+          passes-tells w _ _ ((law.stages o).proxy_old begun (omega (arith, st))) in
           let same : r ≡ old.router = same_Some _ _ (sym here ∙ ap (router_at w) (sym proxy ∙ same_Some _ _ old.known) ∙ old.here) in
           let has : router_has r (Central o) x.side ≡ true = rw (same, is.at_side) (has_old o old.router old.passed) in
           subst (Knows w (inner_link p) A) is.accepted (StoppingInner x.from x.to x.place o x.side x.out_length x.sent k r e.0 here

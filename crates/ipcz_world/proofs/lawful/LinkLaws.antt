@@ -53,8 +53,8 @@ across_there w b g k r i s law here on begun =
     let side : s ≡ across_side g i = sym on.side ∙ (law.positions.each k r here).primary_across on.end i on.is on.link begun in
     let early : (g.bypass i).stage ≤ 2 = (law.positions.each k r here).primary_old on.end i on.is on.link begun in
     let known : side_router g (Central i) (across_side g i) ≡ Some k = rw side at on.router in
-    let marked : r.marked ≡ true = sym (passes-at w _ k r (λ x. x.marked) known here) ∙ law.stages.across_marked i begun early in
-    let unheld : not r.holds ≡ true = sym (passes-at w _ k r (λ x. not x.holds) known here) ∙ law.stages.across_free i begun early in
+    let marked : r.marked ≡ true = sym (passes-at w _ k r (λ x. x.marked) known here) ∙ (law.stages i).across_marked begun early in
+    let unheld : not r.holds ≡ true = sym (passes-at w _ k r (λ x. not x.holds) known here) ∙ (law.stages i).across_free begun early in
     (side, marked, grind (arith, unheld))
 
 pub stable_is : (w : World) (b : Books) (g : Records) (k : Key) (r : Router) (i : ℕ) (s : Side) → Inv w b g → router_at w k ≡ Some r →

@@ -41,8 +41,8 @@ module _ (w : World) (b : Books) (g : Records) (law : Inv w b g) where
   inner_of_proxy : (link : LinkId) (o : ℕ) → link ≡ inner_of g o → is_begun (g.bypass o) ≡ true → (g.bypass o).stage ≤ 3 →
       IsInnerOf w link o
   inner_of_proxy link o q begun early =
-      let s = passes_tells w (g.bypass o).proxy (has_decaying (Central o) (proxy_side g o)) (law.stages.proxy_old o begun early) in
-      let t = passes_tells w (g.bypass o).proxy (has_inward_decaying (inner_of g o) A) (law.stages.proxy_inner o begun early) in
+      let s = passes_tells w (g.bypass o).proxy (has_decaying (Central o) (proxy_side g o)) ((law.stages o).proxy_old begun early) in
+      let t = passes_tells w (g.bypass o).proxy (has_inward_decaying (inner_of g o) A) ((law.stages o).proxy_inner begun early) in
       let same : t.0 ≡ s.0 = same_Some t.0 s.0 (sym t.1 ∙ s.1) in
       let e : HasEnd s.0.outward.decaying (Central o) (proxy_side g o) =
       has_link-tells s.0.outward.decaying (Central o) (proxy_side g o) s.2 in

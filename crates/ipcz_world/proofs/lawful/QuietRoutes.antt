@@ -515,7 +515,7 @@ module _ (w : World) (b : Books) (g : Records) (law : Inv w b g) (quiet : IsQuie
         old = t.0;
         by = record { begun = is; proxy = proxy; here = here };
         stage = settled w b g law quiet t.0 is;
-        end = law.stages.proxy_end t.0 r is (ap (router_at w) proxy ∙ here);
+        end = (law.stages t.0).proxy_end r is (ap (router_at w) proxy ∙ here);
       }
 
   -- a side of a link whose router is known: it stands there, or has given the link up

@@ -260,17 +260,17 @@ module _ (w : World) (g : Records) (world : IsBare w) (noted : IsUnnoted g) wher
   }
 
   stages-bare : Stages w g
-  stages-bare = record {
-    proxy_old = λ o h1 h2. absurd (not_begun (g.bypass o).stage (noted.stage o) h1);
-    proxy_inner = λ o h1 h2. absurd (not_begun (g.bypass o).stage (noted.stage o) h1);
-    proxy_begun = λ o r h1 h2. absurd (not_begun (g.bypass o).stage (noted.stage o) h1);
-    proxy_end = λ o r h1 h2. absurd (not_begun (g.bypass o).stage (noted.stage o) h1);
-    across_old = λ o h1 h2. absurd (not_begun (g.bypass o).stage (noted.stage o) h1);
-    across_marked = λ o h1 h2. absurd (not_begun (g.bypass o).stage (noted.stage o) h1);
-    across_free = λ o h1 h2. absurd (not_begun (g.bypass o).stage (noted.stage o) h1);
-    across_fresh = λ o h1 h2. absurd (omega (arith, h1, noted.stage o));
-    inner_primary = λ o k h1 h2. absurd (omega (arith, h1, noted.stage o));
-    inner_decaying = λ o h1 h2. absurd (omega (arith, h1, noted.stage o));
+  stages-bare o = record {
+    proxy_old = λ h1 h2. absurd (not_begun (g.bypass o).stage (noted.stage o) h1);
+    proxy_inner = λ h1 h2. absurd (not_begun (g.bypass o).stage (noted.stage o) h1);
+    proxy_begun = λ r h1 h2. absurd (not_begun (g.bypass o).stage (noted.stage o) h1);
+    proxy_end = λ r h1 h2. absurd (not_begun (g.bypass o).stage (noted.stage o) h1);
+    across_old = λ h1 h2. absurd (not_begun (g.bypass o).stage (noted.stage o) h1);
+    across_marked = λ h1 h2. absurd (not_begun (g.bypass o).stage (noted.stage o) h1);
+    across_free = λ h1 h2. absurd (not_begun (g.bypass o).stage (noted.stage o) h1);
+    across_fresh = λ h1 h2. absurd (omega (arith, h1, noted.stage o));
+    inner_primary = λ k h1 h2. absurd (omega (arith, h1, noted.stage o));
+    inner_decaying = λ h1 h2. absurd (omega (arith, h1, noted.stage o));
   }
 
   told-bare : Told w g

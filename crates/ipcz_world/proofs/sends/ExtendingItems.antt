@@ -391,7 +391,7 @@ module _ (w v : World) (b : Books) (g : Records) (q : Key) (r : Router) (a : ℕ
           absurd (grind (arith, at, ap (λ q. item_at q m) (same_some f), blank_at d.next_in m))
 
   begun_router : (o : ℕ) → 1 ≤ (g.bypass o).stage → (g.bypass o).proxy ≡ q → ⊥
-  begun_router o le e = not_begun law is t (law.stages.proxy_begun o r (stage_begun (g.bypass o).stage 1 (omega arith) le)
+  begun_router o le e = not_begun law is t ((law.stages o).proxy_begun r (stage_begun (g.bypass o).stage 1 (omega arith) le)
       (ap (router_at w) e ∙ is.here))
 
   bypassed : (o n : ℕ) (z : Router) → 1 ≤ n → n ≤ (g.bypass o).stage → router_at v (g.bypass o).proxy ≡ Some z →

@@ -202,37 +202,37 @@ module _ {w v : World} {b : Books} {g : Records} {q : Key} {r : Router} {a : ℕ
       passes_kept law is t (side_router g (Central o) (across_side g o)) (test (across_side g o)) (f (across_side g o)) c
 
   pub stages-extended : Stages v h
-  stages-extended = record {
-    proxy_old = λ o e s. ap (λ s. key_passes v (Some (g.bypass o).proxy) (has_decaying (Central o) s)) (side_same law is t o e) ∙
+  stages-extended o = record {
+    proxy_old = λ e s. ap (λ s. key_passes v (Some (g.bypass o).proxy) (has_decaying (Central o) s)) (side_same law is t o e) ∙
         passes_kept law is t
-        (Some (g.bypass o).proxy) (has_decaying (Central o) (proxy_side g o)) (λ f. f) (law.stages.proxy_old o e s);
-    proxy_inner = λ o e s. passes_kept law is t (Some (g.bypass o).proxy) (has_inward_decaying (inner_of g o) A)
-        (λ f. absurd (no_link_here (inner_of g o) A (grind (arith, f, no_inward law is t)))) (law.stages.proxy_inner o e s);
-    proxy_begun = λ o z e at. elim (stood law is t (g.bypass o).proxy z at) [
-      | inl f ↦ law.stages.proxy_begun o z e f.0
+        (Some (g.bypass o).proxy) (has_decaying (Central o) (proxy_side g o)) (λ f. f) ((law.stages o).proxy_old e s);
+    proxy_inner = λ e s. passes_kept law is t (Some (g.bypass o).proxy) (has_inward_decaying (inner_of g o) A)
+        (λ f. absurd (no_link_here (inner_of g o) A (grind (arith, f, no_inward law is t)))) ((law.stages o).proxy_inner e s);
+    proxy_begun = λ z e at. elim (stood law is t (g.bypass o).proxy z at) [
+      | inl f ↦ (law.stages o).proxy_begun z e f.0
       | inr n ↦ absurd
-          (not_begun (law.stages.proxy_begun o r e (ap (router_at w) n.1 ∙ is.here)))
+          (not_begun ((law.stages o).proxy_begun r e (ap (router_at w) n.1 ∙ is.here)))
     ];
-    proxy_end = λ o z e at. elim (stood law is t (g.bypass o).proxy z at) [
-      | inl f ↦ law.stages.proxy_end o z e f.0 ∙ sym
+    proxy_end = λ z e at. elim (stood law is t (g.bypass o).proxy z at) [
+      | inl f ↦ (law.stages o).proxy_end z e f.0 ∙ sym
           (end_same law is t (inner_of g o) A (inner_apart o e))
       | inr n ↦ absurd
-          (not_begun (law.stages.proxy_begun o r e (ap (router_at w) n.1 ∙ is.here)))
+          (not_begun ((law.stages o).proxy_begun r e (ap (router_at w) n.1 ∙ is.here)))
     ];
-    across_old = λ o e s. across_passes o (λ s. has_primary (Central o) s) e (λ s f. f) (law.stages.across_old o e s);
-    across_marked = λ o e s. across_passes o (λ s x. x.marked) e (λ s f. f) (law.stages.across_marked o e s);
-    across_free = λ o e s. across_passes o (λ s x. not x.holds) e (λ s f. f) (law.stages.across_free o e s);
-    across_fresh = λ o e s. let c = since o 3 (omega arith) e in ap
+    across_old = λ e s. across_passes o (λ s. has_primary (Central o) s) e (λ s f. f) ((law.stages o).across_old e s);
+    across_marked = λ e s. across_passes o (λ s x. x.marked) e (λ s f. f) ((law.stages o).across_marked e s);
+    across_free = λ e s. across_passes o (λ s x. not x.holds) e (λ s f. f) ((law.stages o).across_free e s);
+    across_fresh = λ e s. let c = since o 3 (omega arith) e in ap
         (λ s. key_passes v (side_router h (fresh_of g o) (opposite s)) (has_primary (fresh_of g o) (opposite s))) (side_same law is t o c) ∙
         ap
         (λ z. key_passes v z (has_primary (fresh_of g o) (across_side g o))) (router_same law is t (fresh_of g o) (across_side g o) refl) ∙
         passes_kept law is t (side_router g (fresh_of g o) (across_side g o)) (has_primary (fresh_of g o) (across_side g o)) (λ f. f)
-        (law.stages.across_fresh o e s);
-    inner_primary = λ o x e f. let c = one_begun (g.bypass o).stage e in
+        ((law.stages o).across_fresh e s);
+    inner_primary = λ x e f. let c = one_begun (g.bypass o).stage e in
         passes_kept law is t (Some x) (has_primary (inner_of g o) B) (λ f. f)
-        (law.stages.inner_primary o x e (sym (router_same law is t (inner_of g o) B (inner_apart o c)) ∙ f));
-    inner_decaying = λ o e s. inner_passes o (has_decaying (inner_of g o) B) (since o 2 (omega arith) e) (λ f. f)
-        (law.stages.inner_decaying o e s);
+        ((law.stages o).inner_primary x e (sym (router_same law is t (inner_of g o) B (inner_apart o c)) ∙ f));
+    inner_decaying = λ e s. inner_passes o (has_decaying (inner_of g o) B) (since o 2 (omega arith) e) (λ f. f)
+        ((law.stages o).inner_decaying e s);
   }
 
   term_is : (e : End) → h.terminal e ≡ cond (same_end e r.end) (Moving (descriptor_of r (inner_link p))) (g.terminal e)

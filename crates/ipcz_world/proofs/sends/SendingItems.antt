@@ -323,11 +323,11 @@ there_in w b g k r e item p law here chosen at rec l = elim (choose-tells (inwar
         staged None f = awaited_view-inner w g p f
         staged (Some q) f = elim (stage_cases (g.bypass o).stage (grind (arith, has_begun, nat_tests)) ((law.bypasses o).stage)) [
           | inl one ↦ not_gone w g (inner_link p) B q (has_primary (inner_link p) B) f
-              (ap (λ z. key_passes w (Some q) (has_primary (inner_link z) B)) (sym is) ∙ law.stages.inner_primary o q one
+              (ap (λ z. key_passes w (Some q) (has_primary (inner_link z) B)) (sym is) ∙ (law.stages o).inner_primary q one
               (ap (λ z. side_router g (inner_link z) B) is ∙ f)) (attached-inner_primary p)
           | inr (inl mid) ↦ not_gone w g (inner_link p) B q (has_decaying (inner_link p) B) f
               (ap (λ z. key_passes w z (has_decaying (inner_link p) B)) (sym f) ∙ ap
-              (λ z. key_passes w (side_router g (inner_link z) B) (has_decaying (inner_link z) B)) (sym is) ∙ law.stages.inner_decaying o
+              (λ z. key_passes w (side_router g (inner_link z) B) (has_decaying (inner_link z) B)) (sym is) ∙ (law.stages o).inner_decaying
               mid.0 mid.1) (attached-inner_decaying p)
           | inr (inr five) ↦ last (is_gone (view w g (inner_link p) B)) refl five
         ]
@@ -376,7 +376,7 @@ gone_inner w b g k r item law here proxy at gone = go (inward_edge r).primary re
         stands = ap (router_at w) (law.positions.begun_proxy k o s) ∙ here
 
         end : r.end ≡ (g.peripheral (g.bypass o).inner).end
-        end = law.stages.proxy_end o r begun stands
+        end = (law.stages o).proxy_end r begun stands
 
         across : end_at (g.central o).pair (across_side g o) ≡ opposite_end r.end
         across = ap (λ n. end_at n (across_side g o)) (sym ((law.bypasses o).pair begun)) ∙ ap opposite_end (sym end)

@@ -229,7 +229,7 @@ there_out w g k r e item law fresh proxy stands bypasses stages here out chosen 
     across o begun is None s = absurd (grind (arith, (bypasses o).across begun, s))
     across o begun is (Some q) s = elim (stage_case (g.bypass o).stage 2) [
       | inl low ↦ not_gone w g (Central o) (across_side g o) q (has_primary (Central o) (across_side g o)) s
-          (ap (λ z. key_passes w z (has_primary (Central o) (across_side g o))) (sym s) ∙ stages.across_old o begun low)
+          (ap (λ z. key_passes w z (has_primary (Central o) (across_side g o))) (sym s) ∙ (stages o).across_old begun low)
           (attached-primary o (across_side g o))
       | inr high ↦ test (is_gone (view w g (Central o) (across_side g o))) refl high
     ]
@@ -276,7 +276,7 @@ there_out w g k r e item law fresh proxy stands bypasses stages here out chosen 
         (law.each k r here).primary_inner e p o on el by in
         not_gone w g (inner_link p) A (g.bypass o).proxy (has_inward_decaying (inner_link p) A)
         (ap (λ z. side_router g (inner_link z) A) (sym is) ∙ (bypasses o).proxy_inner begun)
-        (ap (λ z. key_passes w (Some (g.bypass o).proxy) (has_inward_decaying (inner_link z) A)) (sym is) ∙ stages.proxy_inner o begun
+        (ap (λ z. key_passes w (Some (g.bypass o).proxy) (has_inward_decaying (inner_link z) A)) (sym is) ∙ (stages o).proxy_inner begun
         (omega (arith, stage))) (attached-inward_decaying p)
 
     primary : r.outward.primary ≡ Some e → (l : LinkId) → e.link ≡ l → (t : Side) → e.side ≡ t → is_outward l t ≡ true →
@@ -292,7 +292,7 @@ there_out w g k r e item law fresh proxy stands bypasses stages here out chosen 
             in
             subst (λ z. is_gone (view w g (Central i) z) ≡ false) (sym side)
             (not_gone w g (Central i) (proxy_side g i) (g.bypass i).proxy (has_decaying (Central i) (proxy_side g i))
-            ((bypasses i).proxy_old b) (stages.proxy_old i b (omega (arith, (law.each k r here).primary_old e i on el b)))
+            ((bypasses i).proxy_old b) ((stages i).proxy_old b (omega (arith, (law.each k r here).primary_old e i on el b)))
             (attached-decaying i (proxy_side g i)))
     primary on (Peripheral n x) el A et o h = absurd (grind (arith, o))
     primary on (Peripheral n x) el B et o h = proxied (record { node = n; serial = x }) h on el
@@ -310,7 +310,7 @@ low_out w g k r c o t law fresh stands bypasses stages here linked at none born 
     (λ z. side_router g (Central z) (proxy_side g o)) is ∙
     ap (side_router g (Central c)) (sym (opposite-twice (proxy_side g o)) ∙ ap opposite (sym side)) ∙ at in
     let has : key_passes w (Some k) (has_decaying (inner_of g o) B) ≡ true =
-    ap (λ z. key_passes w z (has_decaying (inner_of g o) B)) (sym own) ∙ stages.inner_decaying o (omega (arith, stage))
+    ap (λ z. key_passes w z (has_decaying (inner_of g o) B)) (sym own) ∙ (stages o).inner_decaying (omega (arith, stage))
     (omega (arith, stage)) in
     let end = has_link-tells r.outward.decaying (inner_of g o) B (grind (arith, standing_rules, has, here)) in
     let by = (bypasses o).inner_by (grind (arith, stage, nat_tests)) in

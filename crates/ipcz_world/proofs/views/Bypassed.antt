@@ -30,7 +30,7 @@ proxy-begun {g = g} {o = o} law is = ap g.begun (sym is.proxy) ∙ law.positions
 
 pub proxy-role : {w : World} {b : Books} {g : Records} {o : ℕ} {k : Key} {q : Router} → Inv w b g → IsBypassed w g o k q →
     is_begun_router q ≡ true
-proxy-role {w} {g = g} {o = o} {q = q} law is = law.stages.proxy_begun o q is.begun (ap (router_at w) is.proxy ∙ is.here)
+proxy-role {w} {g = g} {o = o} {q = q} law is = (law.stages o).proxy_begun q is.begun (ap (router_at w) is.proxy ∙ is.here)
 
 -- it has no primary link
 pub proxy-alone : {w : World} {b : Books} {g : Records} {o : ℕ} {k : Key} {q : Router} → Inv w b g → IsBypassed w g o k q →
@@ -114,7 +114,7 @@ proxy-late {g = g} {o = o} law is h = go (nat_le 4 (g.bypass o).stage) refl
   where
     go : (c : Bool) → nat_le 4 (g.bypass o).stage ≡ c → 4 ≤ (g.bypass o).stage
     go true e = grind (arith, e, nat_tests)
-    go false e = absurd (grind (arith, standing_rules, law.stages.proxy_old o is.begun (grind (arith, e, nat_tests)), is.proxy, is.here, h))
+    go false e = absurd (grind (arith, standing_rules, (law.stages o).proxy_old is.begun (grind (arith, e, nat_tests)), is.proxy, is.here, h))
 
 pub proxy-late_inward : {w : World} {b : Books} {g : Records} {o : ℕ} {k : Key} {q : Router} → Inv w b g → IsBypassed w g o k q →
     (inward_edge q).decaying ≡ None → 4 ≤ (g.bypass o).stage
@@ -126,7 +126,7 @@ proxy-late_inward {g = g} {o = o} law is h = go (nat_le 4 (g.bypass o).stage) re
     go false e = absurd (grind (
       arith,
       standing_rules,
-      law.stages.proxy_inner o is.begun (grind (arith, e, nat_tests)),
+      (law.stages o).proxy_inner is.begun (grind (arith, e, nat_tests)),
       is.proxy,
       is.here,
       h,

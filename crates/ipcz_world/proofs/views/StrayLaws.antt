@@ -90,27 +90,27 @@ module _ (w : World) (b : Books) (g : Records) (law : Inv w b g) where
       go None e st on side at = inr (law.told.behind from to i link s old target fresh u e)
       go (Some k) e st on side at =
           let p : Passes w (Some k) (has_primary (inner_of g old) B) =
-          passes-tells w (Some k) _ (law.stages.inner_primary old k st (rw (on, side) at e)) in
+          passes-tells w (Some k) _ ((law.stages old).inner_primary k st (rw (on, side) at e)) in
           let has : router_has p.router link s ≡ true = primary_at link (inner_of g old) s B p.router on side p.passed in
           let at_side : to ≡ side_node g link s = rw (on, side) at in
           inl (named_by w p.key p.router link s to p.here (ap (λ x. x.node) (sym (same_Some _ _ p.known)) ∙ sym
           (at_side ∙ node_of_router g link s k e)) has)
   finds from to i (messages.AcceptBypass old s fresh length) u f =
       let at = accept_told w g from to i old s fresh length law.told u in
-      let p = passes-tells w _ _ (law.stages.across_old old (grind (arith, at.stage, nat_tests)) (omega (arith, at.stage))) in
+      let p = passes-tells w _ _ ((law.stages old).across_old (grind (arith, at.stage, nat_tests)) (omega (arith, at.stage))) in
       inl (rw (at.at_side) (found_at (Central old) (across_side g old) (has_primary (Central old) (across_side g old)) to p
       (by_primary (Central old) (across_side g old) p.router p.passed) at.receiver))
   finds from to i (messages.StopProxying old s in_length out_length) u f =
       let at = stop_told w g from to i old s in_length out_length law.told u in
       let p = passes-tells w (Some (g.bypass old).proxy) (has_decaying (Central old) (proxy_side g old))
-      (law.stages.proxy_old old (grind (arith, at.stage, nat_tests)) (omega (arith, at.stage))) in
+      ((law.stages old).proxy_old (grind (arith, at.stage, nat_tests)) (omega (arith, at.stage))) in
       inl (rw (at.at_side) (named_by w p.key p.router (Central old) (proxy_side g old) to p.here
       (ap (λ x. x.node) (sym (same_Some _ _ p.known)) ∙ sym at.receiver)
       (by_decaying (Central old) (proxy_side g old) p.router p.passed)))
   finds from to i (messages.ProxyWillStop link s in_length) u f =
       let c = will_stop_told w g from to i link s in_length law.told u in
       let at = c.2 in
-      let p = passes-tells w _ _ (law.stages.inner_decaying c.0 (omega (arith, at.stage)) (omega (arith, at.stage))) in
+      let p = passes-tells w _ _ ((law.stages c.0).inner_decaying (omega (arith, at.stage)) (omega (arith, at.stage))) in
       inl (named_too link (inner_of g c.0) s B to at.on_link at.at_side
       (found_at (inner_of g c.0) B (has_decaying (inner_of g c.0) B) to p (by_decaying (inner_of g c.0) B p.router p.passed)
       at.receiver))
