@@ -7,10 +7,13 @@ mod retiring;
 mod words;
 
 ghost use Rattle.std.specs.Prelude.{◌≡◌};
+ghost use Rattle.ipcz_world.specs.Lawful.{IsWithinLimits};
 
 use ipcz_base::{End, Ends, Refusal, Sequence, Side};
-use ipcz_fabric::{Blank, Fabric, FabricName, NodeCell, finish};
+use ipcz_fabric::{Blank, Fabric, FabricName, NodeCell, finish, start};
 use std::alloc::{AllocError, Global};
+use std::marker::Brand;
+use std::process::Abort;
 
 const A0: End = End {
     pair: 0,
@@ -55,13 +58,6 @@ enum Call {
     Claimed(u32),
     /// Loads a link word.
     Word(u32, u64),
-}
-
-// A list of these ends.
-fn list(alloc: Global, ends: &[End]) -> Result<Ends, AllocError> {
-    let mut list = Vec::new(alloc);
-    list.extend_from_slice(ends)?;
-    Ok(Sequence::from_vec(list))
 }
 
 // Whether an open gives a pair.
@@ -118,22 +114,47 @@ fn take_all<F: FabricName>(
     Ok(true)
 }
 
+// A parcel of these bytes and ends, as two lists.
+fn lists(alloc: Global, data: &[u8], ends: &[End]) -> Result<(Sequence<u8>, Ends), AllocError> {
+    let bytes = Vec::from_slice(alloc, data)?;
+    let list = Vec::from_slice(alloc, ends)?;
+    Ok((Sequence::from_vec(bytes), Sequence::from_vec(list)))
+}
+
 // Whether a put has this number.
 fn puts<F: FabricName>(
     fabric: &Fabric<F>,
     cell: &mut NodeCell<F>,
     alloc: Global,
     at: End,
-    data: &[u8],
-    ends: &[End],
+    (data, ends): (&[u8], &[End]),
     number: u64,
 ) -> Result<bool, AllocError> {
-    let mut bytes = Vec::new(alloc);
-    bytes.extend_from_slice(data)?;
-    match cell.put(fabric, at, Sequence::from_vec(bytes), list(alloc, ends)?) {
-        Ok(n) => Ok(n == number),
-        Err(_) => Ok(false),
-    }
+    let (bytes, list) = lists(alloc, data, ends)?;
+    Ok(cell.put(fabric, at, bytes, list).is_ok_and(|n| n == number))
+}
+
+// Whether a get gives these bytes and ends under this number.
+fn gets<F: FabricName>(
+    fabric: &Fabric<F>,
+    cell: &mut NodeCell<F>,
+    at: End,
+    (data, ends): (&[u8], &[End]),
+    number: u64,
+) -> Result<bool, Refusal> {
+    let (n, parcel) = cell.get(fabric, at)?;
+    Ok(n == number && parcel.bytes.as_slice() == data && parcel.ends.as_slice() == ends)
+}
+
+// Whether an open gives these ends.
+fn opens_ends<F: FabricName>(
+    fabric: &Fabric<F>,
+    cell: &mut NodeCell<F>,
+    first: End,
+    second: End,
+) -> Result<bool, Refusal> {
+    let (a, b) = cell.open_pair(fabric)?;
+    Ok(a == first && b == second)
 }
 
 // Whether a call gives what it should.
@@ -144,43 +165,37 @@ fn gives<F: FabricName>(
     call: Call,
 ) -> Result<bool, Refusal> {
     match call {
-        Call::Open(first, second) => {
-            let (a, b) = cell.open_pair(fabric)?;
-            Ok(a == first && b == second)
-        }
+        Call::Open(first, second) => opens_ends(fabric, cell, first, second),
         Call::OpenAll(first, last) => opens_all(fabric, cell, first, last),
         Call::OpenRefused(why) => Ok(cell.open_pair(fabric) == Err(why)),
         Call::Put(at, data, ends, number) => {
-            Ok(puts(fabric, cell, alloc, at, data, ends, number)?)
+            Ok(puts(fabric, cell, alloc, at, (data, ends), number)?)
         }
         Call::Turns(events) => take_all(fabric, cell, alloc, events),
         Call::Acts(limit, number) => Ok(cell.acts(fabric, limit)? == number),
-        Call::Get(at, data, ends, number) => {
-            let (n, parcel) = cell.get(fabric, at)?;
-            Ok(n == number && parcel.bytes.as_slice() == data && parcel.ends.as_slice() == ends)
-        }
+        Call::Get(at, data, ends, number) => gets(fabric, cell, at, (data, ends), number),
         Call::Close(at, number) => Ok(cell.close(fabric, at)? == number),
         Call::Claimed(count) => Ok(cell.claimed(fabric) == count),
         Call::Word(i, word) => Ok(cell.word(fabric, i) == Some(word)),
     }
 }
 
-// How many of these calls on cells give what they should, up to the first that doesn't.
-fn make_all<F: FabricName>(
+// The first of these calls on cells that doesn't give what it should.
+fn first_wrong<F: FabricName>(
     fabric: &Fabric<F>,
     cells: &mut [NodeCell<F>],
     alloc: Global,
     calls: &[(usize, Call)],
-) -> Result<usize, Refusal> {
+) -> Result<Option<usize>, Refusal> {
     for (i, (node, call)) in calls.iter().enumerate() {
         let Some(cell) = cells.get_mut(*node) else {
-            return Ok(i);
+            return Ok(Some(i));
         };
         if !gives(fabric, cell, alloc, *call)? {
-            return Ok(i);
+            return Ok(Some(i));
         }
     }
-    Ok(calls.len())
+    Ok(None)
 }
 
 // The same, of the cells of a table.
@@ -188,13 +203,33 @@ fn run<F: FabricName>(
     blank: Blank,
     alloc: Global,
     calls: &[(usize, Call)],
-) -> Result<usize, Refusal>
+) -> Result<Option<usize>, Refusal>
     requires { blank ≡ F.table }
 {
     match blank.name::<F>() {
-        Ok((fabric, mut cells)) => make_all(&fabric, cells.as_mut_slice(), alloc, calls),
+        Ok((fabric, mut cells)) => first_wrong(&fabric, cells.as_mut_slice(), alloc, calls),
         Err((why, _)) => Err(why),
     }
+}
+
+// The same, of the cells of a new table of two nodes.
+fn first_wrong_of(
+    alloc: Global,
+    words: u32,
+    calls: &[(usize, Call)],
+) -> Result<Option<usize>, Refusal>
+    requires { IsWithinLimits 2 words }
+{
+    let blank = start(alloc, 2, words)?;
+    run::<Brand>(blank, alloc, calls)
+}
+
+// Each call has to give what it should, on the cells of a new table of two nodes. (A test that asserts this itself is several times as dear to
+// prove.)
+fn all_go(rt: &impl Abort, alloc: Global, words: u32, calls: &[(usize, Call)])
+    requires { IsWithinLimits 2 words }
+{
+    assert_eq!(rt; first_wrong_of(alloc, words, calls), Ok(None));
 }
 
 // How many routers the first two nodes have in the world that the cells of a table show, if first these calls and then those give
@@ -208,10 +243,24 @@ fn routers_after<F: FabricName>(
     requires { blank ≡ F.table }
 {
     let (fabric, mut cells) = blank.name::<F>().ok()?;
-    let went = make_all(&fabric, cells.as_mut_slice(), alloc, first) == Ok(first.len())
-        && make_all(&fabric, cells.as_mut_slice(), alloc, then) == Ok(then.len());
+    let went = first_wrong(&fabric, cells.as_mut_slice(), alloc, first) == Ok(None)
+        && first_wrong(&fabric, cells.as_mut_slice(), alloc, then) == Ok(None);
     match finish(fabric, cells) {
         Ok(world) if went => Some([world.routers(0), world.routers(1)]),
         _ => None,
     }
+}
+
+// The same, of the cells of a new table.
+fn routers_of(
+    alloc: Global,
+    nodes: u8,
+    words: u32,
+    first: &[(usize, Call)],
+    then: &[(usize, Call)],
+) -> Option<[Option<usize>; 2]>
+    requires { IsWithinLimits nodes words }
+{
+    let blank = start(alloc, nodes, words).ok()?;
+    routers_after::<Brand>(blank, alloc, first, then)
 }

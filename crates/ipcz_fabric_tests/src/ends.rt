@@ -110,16 +110,6 @@ fn first_claims<F: FabricName>(fabric: &Fabric<F>, cells: &mut [NodeCell<F>]) ->
     }
 }
 
-// Whether a word that is claimed for an open by itself is that of the open in the world that the cells show.
-fn claim_lives_on<F: FabricName>(blank: Blank) -> Option<bool>
-    requires { blank ≡ F.table }
-{
-    let (fabric, mut cells) = blank.name::<F>().ok()?;
-    let claimed = first_claims(&fabric, cells.as_mut_slice());
-    let mut world = ended(fabric, cells)?;
-    Some(claimed && opens_by_claim(&mut world))
-}
-
 // Whether the first cell sends a parcel, and then takes the mailbox to the other node.
 fn first_probes<F: FabricName>(fabric: &Fabric<F>, cells: &mut [NodeCell<F>], alloc: Global) -> bool
     requires { 1 < F.table.count }
@@ -128,17 +118,6 @@ fn first_probes<F: FabricName>(fabric: &Fabric<F>, cells: &mut [NodeCell<F>], al
         [first, _] => puts_and_acts(fabric, first, 1, alloc) && first.mail_probe(fabric, 1),
         _ => false,
     }
-}
-
-// Whether a message whose mailbox its node has taken and not filled is only in the outbox: the other node finds nothing until it is posted.
-fn probe_leaves_no_message<F: FabricName>(alloc: Global, blank: Blank) -> Option<bool>
-    requires named { blank ≡ F.table }
-    requires nodes { blank.count ≡ 2 }
-{
-    let (fabric, mut cells) = blank.name::<F>().ok()?;
-    let taken = first_probes(&fabric, cells.as_mut_slice(), alloc);
-    let mut world = ended(fabric, cells)?;
-    Some(taken && is_idle(&mut world, 1) && posts(&mut world, 0, 1))
 }
 
 // Whether a cell's next act is a look at the mailbox of the first node.
@@ -161,33 +140,69 @@ fn second_looks<F: FabricName>(
     }
 }
 
-// Whether a message that a cell has in hand is in hand in the world, whose next act is to handle it.
-fn hand_is_handled<F: FabricName>(alloc: Global, blank: Blank) -> Option<bool>
-    requires { blank ≡ F.table }
+// What cells do before their table ends.
+#[derive(Clone, Copy)]
+enum Case {
+    Claims,
+    Probes,
+    Looks,
+}
+
+// Whether cells do it.
+fn do_it<F: FabricName>(
+    fabric: &Fabric<F>,
+    cells: &mut [NodeCell<F>],
+    alloc: Global,
+    case: Case,
+) -> bool
+    requires { 1 < F.table.count }
+{
+    match case {
+        Case::Claims => first_claims(fabric, cells),
+        Case::Probes => first_probes(fabric, cells, alloc),
+        Case::Looks => second_looks(fabric, cells, alloc),
+    }
+}
+
+// Whether the world goes on from there. A word that is claimed for an open by itself is that of the open. A message whose mailbox its node has
+// taken and not filled is only in the outbox: the other node finds nothing until it is posted. A message that a cell has in hand is in hand, and
+// the next act is to handle it.
+fn goes_on(world: &mut World, case: Case) -> bool {
+    match case {
+        Case::Claims => opens_by_claim(world),
+        Case::Probes => is_idle(world, 1) && posts(world, 0, 1),
+        Case::Looks => hands(world, 1),
+    }
+}
+
+// Whether the world that cells show goes on from what they have done.
+fn lives_on<F: FabricName>(alloc: Global, blank: Blank, case: Case) -> Option<bool>
+    requires named { blank ≡ F.table }
+    requires nodes { blank.count ≡ 2 }
 {
     let (fabric, mut cells) = blank.name::<F>().ok()?;
-    let looked = second_looks(&fabric, cells.as_mut_slice(), alloc);
+    let done = do_it(&fabric, cells.as_mut_slice(), alloc, case);
     let mut world = ended(fabric, cells)?;
-    Some(looked && hands(&mut world, 1))
+    Some(done && goes_on(&mut world, case))
+}
+
+// The same, of a new table.
+fn lives(alloc: Global, case: Case) -> Result<Option<bool>, Refusal> {
+    let blank = start(alloc, 2, 4)?;
+    Ok(lives_on::<Brand>(alloc, blank, case))
 }
 
 #[test]
-fn an_open_under_way_lives_on_in_the_world(rt: HostRuntime) -> Result<(), Fail> {
-    let blank = start(rt.alloc(), 2, 4)?;
-    assert!(rt; claim_lives_on::<Brand>(blank) == Some(true));
-    Ok(())
+fn an_open_under_way_lives_on_in_the_world(rt: HostRuntime) {
+    assert_eq!(rt; lives(rt.alloc(), Case::Claims), Ok(Some(true)));
 }
 
 #[test]
-fn a_mailbox_that_was_taken_is_empty_in_the_world(rt: HostRuntime) -> Result<(), Fail> {
-    let blank = start(rt.alloc(), 2, 4)?;
-    assert!(rt; probe_leaves_no_message::<Brand>(rt.alloc(), blank) == Some(true));
-    Ok(())
+fn a_mailbox_that_was_taken_is_empty_in_the_world(rt: HostRuntime) {
+    assert_eq!(rt; lives(rt.alloc(), Case::Probes), Ok(Some(true)));
 }
 
 #[test]
-fn a_message_in_hand_is_handled_in_the_world(rt: HostRuntime) -> Result<(), Fail> {
-    let blank = start(rt.alloc(), 2, 4)?;
-    assert!(rt; hand_is_handled::<Brand>(rt.alloc(), blank) == Some(true));
-    Ok(())
+fn a_message_in_hand_is_handled_in_the_world(rt: HostRuntime) {
+    assert_eq!(rt; lives(rt.alloc(), Case::Looks), Ok(Some(true)));
 }

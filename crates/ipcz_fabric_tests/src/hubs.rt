@@ -1,9 +1,10 @@
 //! Hubs shared by threads.
 ghost use Rattle.std.specs.Prelude.{◌≡◌};
 
+use crate::tables::{both, hub_of, routers_of, world_of};
 use ipcz_base::{End, Side};
-use ipcz_fabric::{Blank, FabricName, Gate, Hub, Portal, finish, start, work};
-use ipcz_world::{Reply, Step};
+use ipcz_fabric::{Blank, FabricName, Gate, Hub, Portal, start, work};
+use ipcz_world::{Reply, Step, World};
 use std::alloc::Global;
 use std::marker::Brand;
 use std::sync::Wait;
@@ -63,29 +64,29 @@ impl<'a, R: Wait, F: FabricName> Gate for Taking<'a, R, F> {
 }
 
 // How many of ten turns a worker takes, and how many its gate, which calls the hub: the worker holds no lock while it asks.
-fn takes_twice<F: FabricName, R: Wait>(rt: &R, blank: Blank) -> Option<(u64, u64)>
-    requires { blank ≡ F.table }
-{
-    let Ok((fabric, cells)) = blank.name::<F>() else {
-        return None;
-    };
-    let Ok((hub, _portals)) = Hub::new(fabric, cells) else {
-        return None;
-    };
+fn takes_twice<F: FabricName, R: Wait>(rt: &R, hub: &Hub<F>) -> (u64, u64) {
     let mut gate = Taking {
         rt,
-        hub: &hub,
+        hub,
         node: 1,
         taken: 0,
     };
-    let turns = work(rt, &hub, 1, &mut gate, 10);
-    Some((turns, gate.taken))
+    let turns = work(rt, hub, 1, &mut gate, 10);
+    (turns, gate.taken)
+}
+
+// The same, on the hub of a table.
+fn taken<F: FabricName, R: Wait>(rt: &R, blank: Blank) -> Option<(u64, u64)>
+    requires { blank ≡ F.table }
+{
+    let (hub, _portals) = hub_of::<F>(blank)?;
+    Some(takes_twice(rt, &hub))
 }
 
 #[test]
 fn a_gate_may_call_the_hub(rt: HostRuntime) -> Result<(), Fail> {
     let blank = start(rt.alloc(), 2, 4)?;
-    assert!(rt; takes_twice::<Brand, _>(&rt, blank) == Some((10, 10)));
+    assert_eq!(rt; taken::<Brand, _>(&rt, blank), Some((10, 10)));
     Ok(())
 }
 
@@ -97,20 +98,47 @@ enum Order {
     SecondThenFirst,
 }
 
+// Two workers run at once.
+fn meet<F: FabricName + Send + Sync, R: Threads + Wait + Sync>(
+    rt: &R,
+    hub: &Hub<F>,
+    first: &mut Meeting,
+    second: &mut Meeting,
+) {
+    join(
+        rt,
+        || work(rt, hub, 0, first, 10),
+        || work(rt, hub, 1, second, 10),
+    );
+}
+
+// Two workers run in this order.
+fn run<F: FabricName + Send + Sync, R: Threads + Wait + Sync>(
+    rt: &R,
+    hub: &Hub<F>,
+    order: Order,
+    first: &mut Meeting,
+    second: &mut Meeting,
+) {
+    match order {
+        Order::AtOnce => meet(rt, hub, first, second),
+        Order::FirstThenSecond => {
+            work(rt, hub, 0, first, 10);
+            work(rt, hub, 1, second, 10);
+        }
+        Order::SecondThenFirst => {
+            work(rt, hub, 1, second, 10);
+            work(rt, hub, 0, first, 10);
+        }
+    }
+}
+
 // How many of two workers' gates miss the other.
 fn missed<F: FabricName + Send + Sync, R: Threads + Wait + Sync>(
     rt: &R,
-    blank: Blank,
+    hub: &Hub<F>,
     order: Order,
-) -> Option<u64>
-    requires { blank ≡ F.table }
-{
-    let Ok((fabric, cells)) = blank.name::<F>() else {
-        return None;
-    };
-    let Ok((hub, _portals)) = Hub::new(fabric, cells) else {
-        return None;
-    };
+) -> u64 {
     let (one, two) = (AtomicU64::new(0), AtomicU64::new(0));
     let mut first = Meeting {
         own: &one,
@@ -124,37 +152,37 @@ fn missed<F: FabricName + Send + Sync, R: Threads + Wait + Sync>(
         asked: false,
         missed: 0,
     };
-    match order {
-        Order::AtOnce => {
-            join(
-                rt,
-                || work(rt, &hub, 0, &mut first, 10),
-                || work(rt, &hub, 1, &mut second, 10),
-            );
-        }
-        Order::FirstThenSecond => {
-            work(rt, &hub, 0, &mut first, 10);
-            work(rt, &hub, 1, &mut second, 10);
-        }
-        Order::SecondThenFirst => {
-            work(rt, &hub, 1, &mut second, 10);
-            work(rt, &hub, 0, &mut first, 10);
-        }
-    }
-    Some(first.missed.saturating_add(second.missed))
+    run(rt, hub, order, &mut first, &mut second);
+    first.missed.saturating_add(second.missed)
+}
+
+// The same, on the hub of a table.
+fn missed_on<F: FabricName + Send + Sync, R: Threads + Wait + Sync>(
+    rt: &R,
+    blank: Blank,
+    order: Order,
+) -> Option<u64>
+    requires { blank ≡ F.table }
+{
+    let (hub, _portals) = hub_of::<F>(blank)?;
+    Some(missed(rt, &hub, order))
+}
+
+// The same, on the hub of a new table.
+fn missed_in<R: Threads + Wait + Sync>(rt: &R, alloc: Global, order: Order) -> Option<u64> {
+    let blank = start(alloc, 2, 4).ok()?;
+    missed_on::<Brand, R>(rt, blank, order)
 }
 
 #[test]
-fn two_workers_run_at_once(rt: HostRuntime) -> Result<(), Fail> {
+fn two_workers_run_at_once(rt: HostRuntime) {
     for (order, misses) in [
         (Order::AtOnce, 0),
         (Order::FirstThenSecond, 1),
         (Order::SecondThenFirst, 1),
     ] {
-        let blank = start(rt.alloc(), 2, 4)?;
-        assert!(rt; missed::<Brand, _>(&rt, blank, order) == Some(misses));
+        assert_eq!(rt; missed_in(&rt, rt.alloc(), order), Some(misses));
     }
-    Ok(())
 }
 
 // A gate that is open until it is told to shut.
@@ -476,24 +504,6 @@ fn holds<F: FabricName, R: Wait>(
     })
 }
 
-// What the world that a hub's cells show gives at the end 1B of node 1, once it has settled.
-fn last_of<F: FabricName>(hub: Hub<F>) -> Option<Reply> {
-    let Ok((fabric, cells)) = hub.into_cells() else {
-        return None;
-    };
-    let Ok(mut world) = finish(fabric, cells) else {
-        return None;
-    };
-    if world.settle(1_000_000).is_err() {
-        return None;
-    }
-    let at = End {
-        pair: 1,
-        side: Side::B,
-    };
-    Some(world.step(&Step::Get { node: 1, at }))
-}
-
 // Whether it is the last parcel of a thousand and one.
 fn is_last(reply: &Reply) -> bool {
     match reply {
@@ -502,48 +512,80 @@ fn is_last(reply: &Reply) -> bool {
     }
 }
 
+// Whether a world gives the last parcel at the end 1B of node 1, once it has settled.
+fn gives_last(world: &mut World) -> bool {
+    if world.settle(1_000_000).is_err() {
+        return false;
+    }
+    let at = End {
+        pair: 1,
+        side: Side::B,
+    };
+    is_last(&world.step(&Step::Get { node: 1, at }))
+}
+
+// Two workers, and four callers.
+fn all_work<F: FabricName + Send + Sync, R: Threads + Wait + Sync>(
+    rt: &R,
+    hub: &Hub<F>,
+    alloc: Global,
+    held: &mut Held<F>,
+) -> bool {
+    let done = AtomicU64::new(0);
+    let (_turns, went) = join(
+        rt,
+        || both_work(rt, hub, &done),
+        || all_call(rt, hub, alloc, held, &done),
+    );
+    went
+}
+
+// Whether a last parcel is put, and the portal is closed.
+fn puts_last<F: FabricName, R: Wait>(
+    rt: &R,
+    hub: &Hub<F>,
+    alloc: Global,
+    a0: Portal<F>,
+) -> Option<bool> {
+    let last = Vec::from_slice(alloc, b"last").ok()?;
+    let put = a0.put(rt, hub, last, Vec::new(alloc));
+    let is_put = matches!(put, Ok(1000));
+    Some(is_put && matches!(a0.close(rt, hub), Ok(1001)))
+}
+
+// Whether four callers on a hub with two workers get what they should, and put the last parcel.
+fn four_callers<F: FabricName + Send + Sync, R: Threads + Wait + Sync>(
+    rt: &R,
+    hub: &Hub<F>,
+    alloc: Global,
+    portals: Vec<Portal<F>>,
+) -> Option<bool> {
+    let (here, there) = both(portals)?;
+    let mut held = holds(rt, hub, alloc, here, there)?;
+    let went = all_work(rt, hub, alloc, &mut held);
+    let Held { a0, .. } = held;
+    Some(puts_last(rt, hub, alloc, a0)? && went)
+}
+
 // Two workers and four callers: the parcels of each pair come in order, those of the second while one of its portals goes to and fro, and
 // what is put last is in the world that the hub's cells show.
-fn four_callers<F: FabricName + Send + Sync, R: Threads + Wait + Sync>(
+fn come_in_order<F: FabricName + Send + Sync, R: Threads + Wait + Sync>(
     rt: &R,
     alloc: Global,
     blank: Blank,
 ) -> Option<bool>
     requires { blank ≡ F.table }
 {
-    let Ok((fabric, cells)) = blank.name::<F>() else {
-        return None;
-    };
-    let Ok((hub, mut portals)) = Hub::new(fabric, cells) else {
-        return None;
-    };
-    let there = portals.pop()?;
-    let here = portals.pop()?;
-    let mut held = holds(rt, &hub, alloc, here, there)?;
-    let done = AtomicU64::new(0);
-    let (_turns, went) = join(
-        rt,
-        || both_work(rt, &hub, &done),
-        || all_call(rt, &hub, alloc, &mut held, &done),
-    );
-    let Ok(last) = Vec::from_slice(alloc, b"last") else {
-        return None;
-    };
-    let Held { a0, .. } = held;
-    let put = a0.put(rt, &hub, last, Vec::new(alloc));
-    let closed = a0.close(rt, &hub);
-    let reply = last_of(hub)?;
-    let ended = match (put, closed) {
-        (Ok(1000), Ok(1001)) => true,
-        _ => false,
-    };
-    Some(went && ended && is_last(&reply))
+    let (hub, portals) = hub_of::<F>(blank)?;
+    let called = four_callers(rt, &hub, alloc, portals);
+    let mut world = world_of(hub)?;
+    Some(gives_last(&mut world) && called == Some(true))
 }
 
 #[test]
 fn callers_and_workers_share_a_hub(rt: HostRuntime) -> Result<(), Fail> {
     let blank = start(rt.alloc(), 2, 4096)?;
-    assert!(rt; four_callers::<Brand, _>(&rt, rt.alloc(), blank) == Some(true));
+    assert!(rt; come_in_order::<Brand, _>(&rt, rt.alloc(), blank) == Some(true));
     Ok(())
 }
 
@@ -569,6 +611,19 @@ fn moves_and_closes<F: FabricName, R: Wait>(
     Some((first, second))
 }
 
+// The same, with the first portals of a hub.
+fn marks_of<F: FabricName, R: Wait>(
+    rt: &R,
+    hub: &Hub<F>,
+    alloc: Global,
+    portals: Vec<Portal<F>>,
+) -> Option<(u64, u64)> {
+    match portals.as_slice() {
+        [here, there] => moves_and_closes(rt, hub, alloc, here, there),
+        _ => None,
+    }
+}
+
 // The same, and how many routers the two nodes have in the world that the hub's cells show.
 fn left_over<F: FabricName, R: Wait>(
     rt: &R,
@@ -577,29 +632,16 @@ fn left_over<F: FabricName, R: Wait>(
 ) -> Option<((u64, u64), [Option<usize>; 2])>
     requires { blank ≡ F.table }
 {
-    let Ok((fabric, cells)) = blank.name::<F>() else {
-        return None;
-    };
-    let Ok((hub, mut portals)) = Hub::new(fabric, cells) else {
-        return None;
-    };
-    let there = portals.pop()?;
-    let here = portals.pop()?;
-    let marks = moves_and_closes(rt, &hub, alloc, &here, &there)?;
-    let Ok((fabric, cells)) = hub.into_cells() else {
-        return None;
-    };
-    match finish(fabric, cells) {
-        Ok(world) => Some((marks, [world.routers(0), world.routers(1)])),
-        Err(_) => None,
-    }
+    let (hub, portals) = hub_of::<F>(blank)?;
+    let marks = marks_of(rt, &hub, alloc, portals);
+    let routers = routers_of(hub)?;
+    Some((marks?, routers))
 }
 
 #[test]
 fn a_pair_that_is_closed_by_its_portals_is_gone(rt: HostRuntime) -> Result<(), Fail> {
     let blank = start(rt.alloc(), 2, 4)?;
-    assert!(rt;
-        left_over::<Brand, _>(&rt, rt.alloc(), blank) == Some(((0, 0), [Some(1), Some(1)]))
-    );
+    let left = left_over::<Brand, _>(&rt, rt.alloc(), blank);
+    assert_eq!(rt; left, Some(((0, 0), [Some(1), Some(1)])));
     Ok(())
 }

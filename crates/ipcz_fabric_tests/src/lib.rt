@@ -22,4 +22,6 @@ mod portals;
 #[cfg(test)]
 mod race;
 #[cfg(test)]
+mod tables;
+#[cfg(test)]
 mod waits;

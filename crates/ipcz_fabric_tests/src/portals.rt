@@ -1,12 +1,12 @@
 //! What portals, hubs and workers answer on one thread, each in a hub of two nodes.
 ghost use Rattle.std.specs.Prelude.{◌≡◌};
 
-use ipcz_base::Refusal;
+use crate::tables::hub_of;
+use ipcz_base::{End, Refusal};
 use ipcz_fabric::{Blank, FabricName, Gate, Hub, Portal, start, work};
 use std::alloc::Global;
 use std::marker::Brand;
 use std::sync::Wait;
-use std::test::Fail;
 use std::time::{Clock, Duration};
 
 // What is looked at.
@@ -109,22 +109,58 @@ fn sends<F: FabricName, R: Wait>(
     hub.acts(rt, 0, 100).ok()
 }
 
+// The only portal of what is got.
+fn takes<F: FabricName, R: Wait + Clock>(
+    rt: &R,
+    hub: &Hub<F>,
+    at: &Portal<F>,
+) -> Option<Portal<F>> {
+    let mut got = at.get_timeout(rt, hub, Duration::ZERO).ok()?;
+    if got.portals.len() != 1 {
+        return None;
+    }
+    let taken = got.portals.pop();
+    if got.portals.is_empty() { taken } else { None }
+}
+
+// The end of the only portal of what is got, in a list.
+fn listed<F: FabricName, R: Wait + Clock>(
+    rt: &R,
+    hub: &Hub<F>,
+    alloc: Global,
+    at: &Portal<F>,
+) -> Option<End> {
+    let got = at.get_timeout(rt, hub, Duration::ZERO).ok()?;
+    let list = got.portals.into_vec(alloc).ok()?;
+    match list.as_slice() {
+        [only] => Some(only.end()),
+        _ => None,
+    }
+}
+
+// Sends a portal, takes it out of what is got, and sends it again; the end of what is got then.
+fn goes_twice<F: FabricName, R: Wait + Clock>(
+    rt: &R,
+    hub: &Hub<F>,
+    alloc: Global,
+    a: &Portal<F>,
+    b: &Portal<F>,
+    moved: Portal<F>,
+) -> Option<End> {
+    sends(rt, hub, alloc, a, moved)?;
+    let taken = takes(rt, hub, b)?;
+    sends(rt, hub, alloc, a, taken)?;
+    listed(rt, hub, alloc, b)
+}
+
 // Whether a get that doesn't wait long finds nothing, and then what was sent: a portal, which is taken out, sent again, and got in a list.
 fn arrives<F: FabricName, R: Wait + Clock>(rt: &R, hub: &Hub<F>, alloc: Global) -> Option<bool> {
     let (a, b) = hub.open_pair(rt, 0).ok()?;
     let (moved, peer) = hub.open_pair(rt, 0).ok()?;
     let early = b.get_timeout(rt, hub, Duration::ZERO);
-    sends(rt, hub, alloc, &a, moved)?;
-    let mut first = b.get_timeout(rt, hub, Duration::ZERO).ok()?;
-    let many = first.portals.len();
-    let taken = first.portals.pop()?;
-    let empty = first.portals.is_empty();
-    sends(rt, hub, alloc, &a, taken)?;
-    let then = b.get_timeout(rt, hub, Duration::ZERO).ok()?;
-    let list = then.portals.into_vec(alloc).ok()?;
-    let again = list.first()?;
-    let right = again.end() == peer.end().opposite();
-    Some(matches!(early, Err(Refusal::Empty)) && many == 1 && empty && list.len() == 1 && right)
+    let is_early = matches!(early, Err(Refusal::Empty));
+    let end = goes_twice(rt, hub, alloc, &a, &b, moved)?;
+    Some(is_early && end == peer.end().opposite())
 }
 
 // Whether a case is as it should be.
@@ -145,8 +181,8 @@ fn looks<F: FabricName, R: Wait + Clock>(
     }
 }
 
-// Whether a case is as it should be, on a hub of its own.
-fn holds<F: FabricName, R: Wait + Clock>(
+// Whether a case is as it should be, on the hub of a table.
+fn looks_on<F: FabricName, R: Wait + Clock>(
     rt: &R,
     alloc: Global,
     blank: Blank,
@@ -154,60 +190,47 @@ fn holds<F: FabricName, R: Wait + Clock>(
 ) -> Option<bool>
     requires { blank ≡ F.table }
 {
-    let Ok((fabric, cells)) = blank.name::<F>() else {
-        return None;
-    };
-    let Ok((hub, _portals)) = Hub::new(fabric, cells) else {
-        return None;
-    };
+    let (hub, _portals) = hub_of::<F>(blank)?;
     looks(rt, &hub, alloc, case)
 }
 
-#[test]
-fn a_portal_whose_peer_is_closed_gives_nothing(rt: HostRuntime) -> Result<(), Fail> {
-    let blank = start(rt.alloc(), 2, 4)?;
-    assert!(rt; holds::<Brand, _>(&rt, rt.alloc(), blank, Case::PeerClosed) == Some(true));
-    Ok(())
+// Whether a case is as it should be, on the hub of a new table.
+fn holds<R: Wait + Clock>(rt: &R, alloc: Global, case: Case) -> Option<bool> {
+    let blank = start(alloc, 2, 4).ok()?;
+    looks_on::<Brand, R>(rt, alloc, blank, case)
 }
 
 #[test]
-fn a_portal_of_another_node_is_a_stranger(rt: HostRuntime) -> Result<(), Fail> {
-    let blank = start(rt.alloc(), 2, 4)?;
-    assert!(rt; holds::<Brand, _>(&rt, rt.alloc(), blank, Case::Stranger) == Some(true));
-    Ok(())
+fn a_portal_whose_peer_is_closed_gives_nothing(rt: HostRuntime) {
+    assert_eq!(rt; holds(&rt, rt.alloc(), Case::PeerClosed), Some(true));
 }
 
 #[test]
-fn a_portal_does_not_take_its_peer_along(rt: HostRuntime) -> Result<(), Fail> {
-    let blank = start(rt.alloc(), 2, 4)?;
-    assert!(rt; holds::<Brand, _>(&rt, rt.alloc(), blank, Case::PeerAttach) == Some(true));
-    Ok(())
+fn a_portal_of_another_node_is_a_stranger(rt: HostRuntime) {
+    assert_eq!(rt; holds(&rt, rt.alloc(), Case::Stranger), Some(true));
 }
 
 #[test]
-fn a_pair_is_opened_at_the_node_that_was_asked(rt: HostRuntime) -> Result<(), Fail> {
-    let blank = start(rt.alloc(), 2, 4)?;
-    assert!(rt; holds::<Brand, _>(&rt, rt.alloc(), blank, Case::OpenAtOne) == Some(true));
-    Ok(())
+fn a_portal_does_not_take_its_peer_along(rt: HostRuntime) {
+    assert_eq!(rt; holds(&rt, rt.alloc(), Case::PeerAttach), Some(true));
 }
 
 #[test]
-fn work_that_ends_early_tells_the_turns_taken(rt: HostRuntime) -> Result<(), Fail> {
-    let blank = start(rt.alloc(), 2, 4)?;
-    assert!(rt; holds::<Brand, _>(&rt, rt.alloc(), blank, Case::EarlyEnd) == Some(true));
-    Ok(())
+fn a_pair_is_opened_at_the_node_that_was_asked(rt: HostRuntime) {
+    assert_eq!(rt; holds(&rt, rt.alloc(), Case::OpenAtOne), Some(true));
 }
 
 #[test]
-fn a_portal_that_is_dropped_leaves_its_end_open(rt: HostRuntime) -> Result<(), Fail> {
-    let blank = start(rt.alloc(), 2, 4)?;
-    assert!(rt; holds::<Brand, _>(&rt, rt.alloc(), blank, Case::DroppedPortal) == Some(true));
-    Ok(())
+fn work_that_ends_early_tells_the_turns_taken(rt: HostRuntime) {
+    assert_eq!(rt; holds(&rt, rt.alloc(), Case::EarlyEnd), Some(true));
 }
 
 #[test]
-fn a_portal_arrives_with_a_parcel_that_is_waited_for(rt: HostRuntime) -> Result<(), Fail> {
-    let blank = start(rt.alloc(), 2, 4)?;
-    assert!(rt; holds::<Brand, _>(&rt, rt.alloc(), blank, Case::Arrival) == Some(true));
-    Ok(())
+fn a_portal_that_is_dropped_leaves_its_end_open(rt: HostRuntime) {
+    assert_eq!(rt; holds(&rt, rt.alloc(), Case::DroppedPortal), Some(true));
+}
+
+#[test]
+fn a_portal_arrives_with_a_parcel_that_is_waited_for(rt: HostRuntime) {
+    assert_eq!(rt; holds(&rt, rt.alloc(), Case::Arrival), Some(true));
 }

@@ -1,6 +1,7 @@
 //! Waits: each sleeps for so long if no wake comes that a wake that is lost fails the test.
 ghost use Rattle.std.specs.Prelude.{◌≡◌};
 
+use crate::tables::{both, hub_of};
 use ipcz_base::{End, Refusal, Sequence, Side};
 use ipcz_fabric::{Blank, Fabric, FabricName, Gate, Hub, NodeCell, Portal, start, work_waiting};
 use ipcz_node::Happened;
@@ -351,6 +352,18 @@ fn does<F: FabricName + Send + Sync, R: Threads + Wait + Clock + Sync>(
     went
 }
 
+// The same, with the first portals of a hub.
+fn both_go<F: FabricName + Send + Sync, R: Threads + Wait + Clock + Sync>(
+    rt: &R,
+    alloc: Global,
+    hub: &Hub<F>,
+    portals: Vec<Portal<F>>,
+    case: Case,
+) -> Option<bool> {
+    let (left, right) = both(portals)?;
+    Some(does(rt, alloc, hub, left, &right, case))
+}
+
 // Whether a case goes well, and no sleep comes to its end but that of a get that is to give up.
 fn goes_well<F: FabricName + Send + Sync, R: Threads + Wait + Clock + Sync>(
     rt: &R,
@@ -360,37 +373,30 @@ fn goes_well<F: FabricName + Send + Sync, R: Threads + Wait + Clock + Sync>(
 ) -> Option<bool>
     requires { blank ≡ F.table }
 {
-    let Ok((fabric, cells)) = blank.name::<F>() else {
-        return None;
-    };
-    let Ok((hub, mut portals)) = Hub::new(fabric, cells) else {
-        return None;
-    };
-    let right = portals.pop()?;
-    let left = portals.pop()?;
     let begin = Instant::now(rt).ok()?;
-    let went = does(rt, alloc, &hub, left, &right, case);
-    Some(went && is_soon(rt, begin))
+    let (hub, portals) = hub_of::<F>(blank)?;
+    let went = both_go(rt, alloc, &hub, portals, case);
+    Some(went == Some(true) && is_soon(rt, begin))
+}
+
+// The same, on the hub of a new table.
+fn goes<R: Threads + Wait + Clock + Sync>(rt: &R, alloc: Global, case: Case) -> Option<bool> {
+    let blank = start(alloc, 2, 4).ok()?;
+    goes_well::<Brand, R>(rt, alloc, blank, case)
 }
 
 #[test]
-fn two_portals_wait_for_each_other(rt: HostRuntime) -> Result<(), Fail> {
-    let blank = start(rt.alloc(), 2, 4)?;
-    assert!(rt; goes_well::<Brand, _>(&rt, rt.alloc(), blank, Case::Talk) == Some(true));
-    Ok(())
+fn two_portals_wait_for_each_other(rt: HostRuntime) {
+    assert_eq!(rt; goes(&rt, rt.alloc(), Case::Talk), Some(true));
 }
 
 #[test]
-fn a_close_wakes_a_get_of_its_peer(rt: HostRuntime) -> Result<(), Fail> {
-    let blank = start(rt.alloc(), 2, 4)?;
-    assert!(rt; goes_well::<Brand, _>(&rt, rt.alloc(), blank, Case::Close) == Some(true));
-    Ok(())
+fn a_close_wakes_a_get_of_its_peer(rt: HostRuntime) {
+    assert_eq!(rt; goes(&rt, rt.alloc(), Case::Close), Some(true));
 }
 
 // The workers' gates are asked again, too: they sleep from their first turn on.
 #[test]
-fn a_get_gives_up_at_its_time(rt: HostRuntime) -> Result<(), Fail> {
-    let blank = start(rt.alloc(), 2, 4)?;
-    assert!(rt; goes_well::<Brand, _>(&rt, rt.alloc(), blank, Case::Nothing) == Some(true));
-    Ok(())
+fn a_get_gives_up_at_its_time(rt: HostRuntime) {
+    assert_eq!(rt; goes(&rt, rt.alloc(), Case::Nothing), Some(true));
 }

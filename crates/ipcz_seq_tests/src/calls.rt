@@ -2,6 +2,7 @@
 use ipcz_base::Refusal;
 use ipcz_seq::GapQueue;
 use std::alloc::Global;
+use std::process::Abort;
 
 /// A call on a queue of words, with what it answers.
 #[derive(Clone, Copy)]
@@ -64,92 +65,101 @@ fn is(queue: &GapQueue<&'static str>, step: Step) -> bool {
     }
 }
 
-// How many steps answer what they say, from an empty queue on whose first item is that of a number, up to the first that doesn't.
-fn answered(alloc: Global, first: u64, steps: &[Step]) -> usize {
+// The first step that doesn't answer what it says, from an empty queue on whose first item is that of a number.
+fn first_wrong(alloc: Global, first: u64, steps: &[Step]) -> Option<usize> {
     let mut queue = GapQueue::new_at(alloc, first);
     for (i, step) in steps.iter().enumerate() {
         if !answers(&mut queue, *step) {
-            return i;
+            return Some(i);
         }
     }
-    steps.len()
+    None
 }
+
+// Each step has to answer what it says, from an empty queue on whose first item is that of a number. (A test that asserts this itself is
+// several times as dear to prove.)
+fn all_answer(rt: &impl Abort, alloc: Global, first: u64, steps: &[Step]) {
+    assert_eq!(rt; first_wrong(alloc, first, steps), None);
+}
+
+static IN_ORDER: [Step; 21] = [
+    Step::IsEmpty(true),
+    Step::Last(None),
+    // The item of 5 hasn't come, so that of 7 waits.
+    Step::Push(7, "seven", Ok(())),
+    Step::Reach(5),
+    Step::Next(None),
+    Step::Pop(None),
+    Step::Push(7, "again", Err(Refusal::Occupied)),
+    Step::Push(4, "late", Err(Refusal::Passed)),
+    Step::Push(5, "five", Ok(())),
+    Step::Reach(6),
+    Step::Next(Some("five")),
+    Step::Pop(Some("five")),
+    Step::Current(6),
+    Step::Push(6, "six", Ok(())),
+    Step::Last(Some((7, "seven"))),
+    Step::Reach(8),
+    Step::Pop(Some("six")),
+    Step::Pop(Some("seven")),
+    Step::Last(None),
+    Step::Current(8),
+    Step::Len(0),
+];
 
 #[test]
 fn items_leave_in_the_order_of_their_numbers(rt: HostRuntime) {
-    let steps = [
-        Step::IsEmpty(true),
-        Step::Last(None),
-        // The item of 5 hasn't come, so that of 7 waits.
-        Step::Push(7, "seven", Ok(())),
-        Step::Reach(5),
-        Step::Next(None),
-        Step::Pop(None),
-        Step::Push(7, "again", Err(Refusal::Occupied)),
-        Step::Push(4, "late", Err(Refusal::Passed)),
-        Step::Push(5, "five", Ok(())),
-        Step::Reach(6),
-        Step::Next(Some("five")),
-        Step::Pop(Some("five")),
-        Step::Current(6),
-        Step::Push(6, "six", Ok(())),
-        Step::Last(Some((7, "seven"))),
-        Step::Reach(8),
-        Step::Pop(Some("six")),
-        Step::Pop(Some("seven")),
-        Step::Last(None),
-        Step::Current(8),
-        Step::Len(0),
-    ];
-    assert_eq!(rt; answered(rt.alloc(), 5, steps.as_slice()), 21);
+    all_answer(&rt, rt.alloc(), 5, &IN_ORDER);
 }
+
+static ROOM: [Step; 15] = [
+    Step::HasRoom(false),
+    Step::Reserve,
+    Step::HasRoom(true),
+    Step::Push(0, "zero", Ok(())),
+    // The first buffer holds one item, and a pop gives its room back.
+    Step::HasRoom(false),
+    Step::Pop(Some("zero")),
+    Step::HasRoom(true),
+    Step::Push(1, "one", Ok(())),
+    Step::HasRoom(false),
+    // Room is made only for the item of a number that has its place.
+    Step::ReserveFor(0, Err(Refusal::Passed)),
+    Step::ReserveFor(1, Err(Refusal::Occupied)),
+    Step::HasRoom(false),
+    Step::ReserveFor(2, Ok(())),
+    Step::HasRoom(true),
+    Step::Len(1),
+];
 
 #[test]
 fn room_is_made_before_it_is_wanted(rt: HostRuntime) {
-    let steps = [
-        Step::HasRoom(false),
-        Step::Reserve,
-        Step::HasRoom(true),
-        Step::Push(0, "zero", Ok(())),
-        // The first buffer holds one item, and a pop gives its room back.
-        Step::HasRoom(false),
-        Step::Pop(Some("zero")),
-        Step::HasRoom(true),
-        Step::Push(1, "one", Ok(())),
-        Step::HasRoom(false),
-        // Room is made only for the item of a number that has its place.
-        Step::ReserveFor(0, Err(Refusal::Passed)),
-        Step::ReserveFor(1, Err(Refusal::Occupied)),
-        Step::HasRoom(false),
-        Step::ReserveFor(2, Ok(())),
-        Step::HasRoom(true),
-        Step::Len(1),
-    ];
-    assert_eq!(rt; answered(rt.alloc(), 0, steps.as_slice()), 15);
+    all_answer(&rt, rt.alloc(), 0, &ROOM);
 }
+
+static GAPS: [Step; 16] = [
+    Step::Push(20, "a", Ok(())),
+    Step::Push(23, "d", Ok(())),
+    Step::Push(27, "h", Ok(())),
+    Step::Push(21, "b", Ok(())),
+    Step::Reach(22),
+    // 19 has passed, 23 is taken, and 22 is free.
+    Step::HasPlace(19, false),
+    Step::HasPlace(23, false),
+    Step::HasPlace(22, true),
+    Step::HasPlace(u64::MAX, true),
+    Step::Push(22, "c", Ok(())),
+    Step::Reach(24),
+    Step::Pop(Some("a")),
+    Step::Reach(24),
+    Step::HasPlace(20, false),
+    Step::Len(4),
+    Step::IsEmpty(false),
+];
 
 #[test]
 fn gaps_hold_back_what_is_behind_them(rt: HostRuntime) {
-    let steps = [
-        Step::Push(20, "a", Ok(())),
-        Step::Push(23, "d", Ok(())),
-        Step::Push(27, "h", Ok(())),
-        Step::Push(21, "b", Ok(())),
-        Step::Reach(22),
-        // 19 has passed, 23 is taken, and 22 is free.
-        Step::HasPlace(19, false),
-        Step::HasPlace(23, false),
-        Step::HasPlace(22, true),
-        Step::HasPlace(u64::MAX, true),
-        Step::Push(22, "c", Ok(())),
-        Step::Reach(24),
-        Step::Pop(Some("a")),
-        Step::Reach(24),
-        Step::HasPlace(20, false),
-        Step::Len(4),
-        Step::IsEmpty(false),
-    ];
-    assert_eq!(rt; answered(rt.alloc(), 20, steps.as_slice()), 16);
+    all_answer(&rt, rt.alloc(), 20, &GAPS);
 }
 
 // Puts items under the numbers from 999 down to 1; whether each is taken.
@@ -172,14 +182,19 @@ fn leave_in_order(queue: &mut GapQueue<u64>) -> bool {
     true
 }
 
+// Whether all items but the first wait for it, and leave in order once it has come.
+fn wait_for_the_first(queue: &mut GapQueue<u64>) -> bool {
+    come_backwards(queue)
+        && queue.reach() == 0
+        && queue.next().is_none()
+        && queue.push(0, 0) == Ok(())
+        && queue.reach() == 1000
+        && leave_in_order(queue)
+        && queue.push(999, 999) == Err((Refusal::Passed, 999))
+}
+
 #[test]
 fn items_that_come_backwards_leave_in_order(rt: HostRuntime) {
     let mut queue: GapQueue<u64> = GapQueue::new_at(rt.alloc(), 0);
-    assert!(rt; come_backwards(&mut queue));
-    assert_eq!(rt; queue.reach(), 0);
-    assert_eq!(rt; queue.next(), None);
-    assert_eq!(rt; queue.push(0, 0), Ok(()));
-    assert_eq!(rt; queue.reach(), 1000);
-    assert!(rt; leave_in_order(&mut queue));
-    assert_eq!(rt; queue.push(999, 999), Err((Refusal::Passed, 999)));
+    assert!(rt; wait_for_the_first(&mut queue));
 }

@@ -1,13 +1,10 @@
 //! One bypass, each turn of it with what it is seen to do.
 
 use super::Call::{Get, Open, Put, Turns};
-use super::{A0, A1, B0, B1, Call, routers_after};
-use ipcz_fabric::start;
-use std::marker::Brand;
-use std::test::Fail;
+use super::{A0, A1, B0, B1, Call, routers_of};
 
 // The terminal of 1B moves from node 0 to node 1, and the proxy it leaves, router 2, is bypassed: C1 by C2.
-pub(super) const CALLS: [(usize, Call); 9] = [
+pub(super) static CALLS: [(usize, Call); 9] = [
     (0, Open(A1, B1)),
     (0, Put(A0, b"m", &[B1], 0)),
     (
@@ -76,7 +73,7 @@ pub(super) const CALLS: [(usize, Call); 9] = [
 ];
 
 // Then what is put at the moved end comes over the new link.
-const PARCEL: [(usize, Call); 4] = [
+static PARCEL: [(usize, Call); 4] = [
     (1, Put(B1, b"r", &[], 0)),
     (
         1,
@@ -100,12 +97,7 @@ const PARCEL: [(usize, Call); 4] = [
 ];
 
 #[test]
-fn a_bypass_turn_by_turn(rt: HostRuntime) -> Result<(), Fail> {
-    let alloc = rt.alloc();
-    let blank = start(alloc, 2, 4)?;
-    assert_eq!(rt;
-        routers_after::<Brand>(blank, alloc, &CALLS, &PARCEL),
-        Some([Some(2), Some(2)])
-    );
-    Ok(())
+fn a_bypass_turn_by_turn(rt: HostRuntime) {
+    let routers = routers_of(rt.alloc(), 2, 4, &CALLS, &PARCEL);
+    assert_eq!(rt; routers, Some([Some(2), Some(2)]));
 }

@@ -1,12 +1,9 @@
 //! A parcel from one end of a pair to the other on one node, and what cells do by turns that aren't told.
 
 use super::Call::{Acts, Close, Get, Open, Put, Turns};
-use super::{A0, A1, B0, B1, Call, run};
-use ipcz_fabric::start;
-use std::marker::Brand;
-use std::test::Fail;
+use super::{A0, A1, B0, B1, Call, all_go};
 
-const CALLS: [(usize, Call); 5] = [
+static CALLS: [(usize, Call); 5] = [
     (0, Open(A1, B1)),
     (0, Put(A1, b"a", &[], 0)),
     (
@@ -25,15 +22,12 @@ const CALLS: [(usize, Call); 5] = [
 ];
 
 #[test]
-fn a_parcel_goes_by_its_own_mailbox(rt: HostRuntime) -> Result<(), Fail> {
-    let alloc = rt.alloc();
-    let blank = start(alloc, 2, 4)?;
-    assert_eq!(rt; run::<Brand>(blank, alloc, &CALLS), Ok(CALLS.len()));
-    Ok(())
+fn a_parcel_goes_by_its_own_mailbox(rt: HostRuntime) {
+    all_go(&rt, rt.alloc(), 4, &CALLS);
 }
 
 // The same parcel by turns that aren't told; then an end goes to the other node, and a parcel behind it.
-const UNTOLD: [(usize, Call); 19] = [
+static UNTOLD: [(usize, Call); 19] = [
     (0, Open(A1, B1)),
     (0, Put(A1, b"a", &[], 0)),
     (0, Acts(4, 4)),
@@ -56,9 +50,6 @@ const UNTOLD: [(usize, Call); 19] = [
 ];
 
 #[test]
-fn turns_that_are_not_told_pass_parcels(rt: HostRuntime) -> Result<(), Fail> {
-    let alloc = rt.alloc();
-    let blank = start(alloc, 2, 4)?;
-    assert_eq!(rt; run::<Brand>(blank, alloc, &UNTOLD), Ok(UNTOLD.len()));
-    Ok(())
+fn turns_that_are_not_told_pass_parcels(rt: HostRuntime) {
+    all_go(&rt, rt.alloc(), 4, &UNTOLD);
 }

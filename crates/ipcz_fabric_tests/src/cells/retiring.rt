@@ -1,13 +1,10 @@
 //! Pairs whose both ends are closed: by turns of cells, and nothing else, no router of theirs is left.
 
 use super::Call::{Close, Open, Turns, Word};
-use super::{A0, A1, B0, B1, Call, bypass, routers_after};
-use ipcz_fabric::start;
-use std::marker::Brand;
-use std::test::Fail;
+use super::{A0, A1, B0, B1, Call, bypass, routers_of};
 
 // The first sink locks the link, with no source, and retires; Gone takes the other away.
-const ONE_NODE: [(usize, Call); 5] = [
+static ONE_NODE: [(usize, Call); 5] = [
     (0, Open(A0, B0)),
     (0, Close(A0, 0)),
     (0, Close(B0, 0)),
@@ -38,18 +35,13 @@ const ONE_NODE: [(usize, Call); 5] = [
 ];
 
 #[test]
-fn a_closed_pair_leaves_one_node(rt: HostRuntime) -> Result<(), Fail> {
-    let alloc = rt.alloc();
-    let blank = start(alloc, 1, 1)?;
-    assert_eq!(rt;
-        routers_after::<Brand>(blank, alloc, &ONE_NODE, &[]),
-        Some([Some(0), None])
-    );
-    Ok(())
+fn a_closed_pair_leaves_one_node(rt: HostRuntime) {
+    let routers = routers_of(rt.alloc(), 1, 1, &ONE_NODE, &[]);
+    assert_eq!(rt; routers, Some([Some(0), None]));
 }
 
 // Both ends are closed, each on its node, after a bypass. The first pair is open.
-const TWO_NODES: [(usize, Call); 9] = [
+static TWO_NODES: [(usize, Call); 9] = [
     (0, Close(A1, 0)),
     (1, Close(B1, 0)),
     (
@@ -100,12 +92,7 @@ const TWO_NODES: [(usize, Call); 9] = [
 ];
 
 #[test]
-fn a_closed_pair_leaves_two_nodes_after_a_bypass(rt: HostRuntime) -> Result<(), Fail> {
-    let alloc = rt.alloc();
-    let blank = start(alloc, 2, 4)?;
-    assert_eq!(rt;
-        routers_after::<Brand>(blank, alloc, &bypass::CALLS, &TWO_NODES),
-        Some([Some(1), Some(1)])
-    );
-    Ok(())
+fn a_closed_pair_leaves_two_nodes_after_a_bypass(rt: HostRuntime) {
+    let routers = routers_of(rt.alloc(), 2, 4, &bypass::CALLS, &TWO_NODES);
+    assert_eq!(rt; routers, Some([Some(1), Some(1)]));
 }

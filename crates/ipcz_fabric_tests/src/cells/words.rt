@@ -1,11 +1,8 @@
 //! Link words that are used up: what an open and a proxy are answered once each word is claimed.
 
 use super::Call::{Claimed, Get, OpenAll, OpenRefused, Put, Turns};
-use super::{A0, B0, Call, run};
+use super::{A0, B0, Call, all_go};
 use ipcz_base::{End, Refusal, Side};
-use ipcz_fabric::start;
-use std::marker::Brand;
-use std::test::Fail;
 
 const A4095: End = End {
     pair: 4095,
@@ -19,7 +16,7 @@ const B4095: End = End {
 
 // Each word is that of a pair. The terminal of the last pair's side B, router 8190 of node 0, moves to node 1: the proxy that it leaves finds
 // no word, and rests as a proxy. What is put at side A still comes, by the proxy.
-const CALLS: [(usize, Call); 16] = [
+static CALLS: [(usize, Call); 16] = [
     (0, OpenAll(1, 4095)),
     (0, OpenRefused(Refusal::NoWord)),
     (1, OpenRefused(Refusal::NoWord)),
@@ -78,9 +75,6 @@ const CALLS: [(usize, Call); 16] = [
 ];
 
 #[test]
-fn an_open_and_a_proxy_find_each_word_claimed(rt: HostRuntime) -> Result<(), Fail> {
-    let alloc = rt.alloc();
-    let blank = start(alloc, 2, 4096)?;
-    assert_eq!(rt; run::<Brand>(blank, alloc, &CALLS), Ok(CALLS.len()));
-    Ok(())
+fn an_open_and_a_proxy_find_each_word_claimed(rt: HostRuntime) {
+    all_go(&rt, rt.alloc(), 4096, &CALLS);
 }

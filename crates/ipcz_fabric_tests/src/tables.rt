@@ -1,0 +1,36 @@
+//! Hubs and worlds of a table: what the tests of hubs and portals begin and end with.
+ghost use Rattle.std.specs.Prelude.{◌≡◌};
+
+use ipcz_fabric::{Blank, FabricName, Hub, Portal, finish};
+use ipcz_world::World;
+
+/// A hub of the cells of a table, and its portals.
+pub(crate) fn hub_of<F: FabricName>(blank: Blank) -> Option<(Hub<F>, Vec<Portal<F>>)>
+    requires { blank ≡ F.table }
+{
+    match blank.name::<F>() {
+        Ok((fabric, cells)) => Hub::new(fabric, cells).ok(),
+        Err(_) => None,
+    }
+}
+
+/// The world that the cells of a hub show.
+pub(crate) fn world_of<F: FabricName>(hub: Hub<F>) -> Option<World> {
+    match hub.into_cells() {
+        Ok((fabric, cells)) => finish(fabric, cells).ok(),
+        Err(_) => None,
+    }
+}
+
+/// The two portals of a hub's first pair, of which these are all.
+pub(crate) fn both<F: FabricName>(mut portals: Vec<Portal<F>>) -> Option<(Portal<F>, Portal<F>)> {
+    let there = portals.pop()?;
+    let here = portals.pop()?;
+    Some((here, there))
+}
+
+/// How many routers the first two nodes have in the world that the cells of a hub show.
+pub(crate) fn routers_of<F: FabricName>(hub: Hub<F>) -> Option<[Option<usize>; 2]> {
+    let world = world_of(hub)?;
+    Some([world.routers(0), world.routers(1)])
+}
