@@ -44,18 +44,18 @@ LEAVING, LEFT, NODE_ACTING = "ipcz_node/specs/Acts.antt", "ipcz_node/proofs/Leav
 HEARING, HEARD = "ipcz_router/specs/Hearing.antt", "ipcz_router/src/router/hearing.rt"
 # proofs that say a definition a second time
 ACTED, WORD_ACTS = "ipcz_world/proofs/acts/ActedWords.antt", "ipcz_world/proofs/acts/WordActs.antt"
-ROUTER_WAKERS, WORD_WAKERS = "ipcz_world/proofs/owed/RouterWakers.antt", "ipcz_world/proofs/owed/WordWakers.antt"
+ROUTER_WAKERS, WORD_WAKERS = "ipcz_world/proofs/lawful/RouterWakers.antt", "ipcz_world/proofs/lawful/WordWakers.antt"
 STEP_WAKERS, GOING, AGREEING = (
-    "ipcz_world/proofs/owed/StepWakers.antt",
-    "ipcz_world/proofs/owed/Acting.antt",
+    "ipcz_world/proofs/lawful/StepWakers.antt",
+    "ipcz_world/proofs/lawful/Acting.antt",
     "ipcz_world/proofs/runs/FlagsAgree.antt",
 )
 WAKING = "ipcz_world/proofs/acts/Waking.antt"
-STOPPING, HANDLING = "ipcz_world/proofs/hands/StopProxying.antt", "ipcz_world/proofs/hands/Handling.antt"
-ACT_RANKS = "ipcz_world/proofs/ranks/NodeActs.antt"
-HAND_RANKS, WORTHS = "ipcz_world/proofs/ranks/NodeHands.antt", "ipcz_world/proofs/ranks/RouterWorths.antt"
+STOPPING, HANDLING = "ipcz_world/proofs/acts/StopProxying.antt", "ipcz_world/proofs/acts/Handling.antt"
+ACT_RANKS = "ipcz_world/proofs/lawful/NodeActs.antt"
+HAND_RANKS, WORTHS = "ipcz_world/proofs/lawful/NodeHands.antt", "ipcz_world/proofs/lawful/RouterWorths.antt"
 CHOOSING = "ipcz_node/proofs/Choosing.antt"
-PEERS = [f"ipcz_world/proofs/hands/BypassPeer{part}.antt" for part in ("", "Around", "Links", "Messages", "Numbers", "Records", "Stages")]
+PEERS = [f"ipcz_world/proofs/acts/BypassPeer{part}.antt" for part in ("", "Around", "Links", "Messages", "Numbers", "Records", "Stages")]
 NEXT, NEXT_AT = "ipcz_router/proofs/NextActs.antt", "ipcz_router/proofs/router/Router/next_at_terminal/Answers.antt"
 IF_WAKE = "        if self.is_possible(RouterAct::Wake) {\n            return RouterAct::Wake;\n        }\n"
 NEXT_IS = "next_act r ≡ (if is_possible r Mark then Mark else if is_possible r Wake then Wake else Rest)"
@@ -402,8 +402,8 @@ BooksKept Items Order ProxyNumbers FreshNumbers Conserved HeldOnce HasNoStrays A
 AreAgreed FlagsAgree LengthsOwe ProxyOwes control_weight AreSourced Begins HasWaker HaveWakers HaveWakersOn IsRanked
 IsOwing IsBounded
 """.split()
-# and the folders in which each lemma is one
-FOLDERS = ("owed/", "lawful/", "ranks/")
+# and the folder in which each lemma is one
+FOLDERS = ("lawful/",)
 # what IsAwake rests on: an act but rest leaves its router flagged, an item that comes flags it, and if rest comes next no act is possible
 AWAKE = {"apply-flagged", "accept-flagged", "rest-idle"}
 

@@ -23,7 +23,7 @@ use Rattle.ipcz_world.specs.Lawful.{Lawful}
 use Rattle.ipcz_world.proofs.Whole.{nodes_are_sound, terminals_keep_books, hands_stand_in_mail, opening_words_are_empty, pending_have_terminals}
 use Rattle.ipcz_world.proofs.Whole.{lawful_worlds_stray_nothing}
 use Rattle.ipcz_world.proofs.code.Regular.{lawful-regular}
-use Rattle.ipcz_world.proofs.calls.Puts.{router_found}
+use Rattle.ipcz_world.proofs.acts.Puts.{router_found}
 use Rattle.ipcz_world.proofs.facts.Finding.{terminal_tells, found_tells}
 use Rattle.ipcz_rule.specs.Steps.{trusted}
 

@@ -14,7 +14,7 @@ use Rattle.ipcz_world.specs.Books.{Books}
 use Rattle.ipcz_world.specs.Routes.{Routes}
 use Rattle.ipcz_world.specs.Turns.{after_act}
 use Rattle.ipcz_world.specs.Ranks.{AreTurns, IsTaken}
-use Rattle.ipcz_world.proofs.owed.WaitedMail.{full-stays, empty-stays}
+use Rattle.ipcz_world.proofs.lawful.WaitedMail.{full-stays, empty-stays}
 use Rattle.ipcz_rule.specs.declared.view.View.{View}
 use Rattle.ipcz_rule.specs.declared.view.Part.{Part}
 use Rattle.ipcz_rule.specs.Rule.{Slot, has_number, mailbox, MailAt, Spells, saw}

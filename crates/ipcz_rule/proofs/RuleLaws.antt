@@ -14,8 +14,8 @@ use Rattle.ipcz_world.specs.Routes.{hand_of}
 use Rattle.ipcz_world.proofs.facts.LinkTests.{opposite_end-twice}
 use Rattle.ipcz_world.proofs.Whole.{lawful_worlds_give_the_headline, lawful_worlds_owe, lists_have_lengths, messages_in_hand_fit}
 use Rattle.ipcz_world.proofs.Whole.{each_step_keeps_lawful, replies_plainly}
-use Rattle.ipcz_world.proofs.ranks.Rating.{turns_keep_rates}
-use Rattle.ipcz_world.proofs.ranks.Turning.{turns_are_bounded}
+use Rattle.ipcz_world.proofs.lawful.Rating.{turns_keep_rates}
+use Rattle.ipcz_world.proofs.lawful.Turning.{turns_are_bounded}
 use Rattle.ipcz_rule.specs.RuleLaws.{RuleGivesHeadline, RuleOwes, RuleBoundsTurns, ShownHasLengths, PartsAreSound, PartsHandsFit, LinksAreWords, CountsWereReached, NodesHaveParts, PutsAreOnce, GetsFollowPuts}
 use Rattle.ipcz_rule.proofs.Known.{sound_spelled, no_strays, found_word}
 use Rattle.ipcz_rule.specs.Steps.{trusted}

@@ -32,8 +32,8 @@ use Rattle.ipcz_world.specs.Lawful.{Lawful}
 use Rattle.ipcz_world.proofs.Whole.{each_get_stays_quiet, each_quiet_delivers, each_quiet_is_direct, ends_stand_once, held_are_open}
 use Rattle.ipcz_world.proofs.Whole.{held_have_terminals, lawful_worlds_give_the_headline, replies_plainly, terminals_keep_books}
 use Rattle.ipcz_world.proofs.facts.LinkTests.{opposite_end-twice}
-use Rattle.ipcz_world.proofs.weights.OfRecords.{holds_times}
-use Rattle.ipcz_world.proofs.weights.Holding.{times_held-at}
+use Rattle.ipcz_world.proofs.frames.OfRecords.{holds_times}
+use Rattle.ipcz_world.proofs.frames.Holding.{times_held-at}
 use Rattle.ipcz_script.specs.declared.command.Command.{Command}
 use Rattle.ipcz_script.specs.declared.command.Command.TheVariants as commands
 use Rattle.ipcz_script.specs.declared.said.Said.TheVariants as said

@@ -19,16 +19,16 @@ use Rattle.ipcz_world.specs.WorldLaws.{HandsStandInMail, OpeningWordsAreEmpty, P
 use Rattle.ipcz_world.specs.Records.{is_linked}
 use Rattle.ipcz_node.specs.Node.{holds_end}
 use Rattle.ipcz_world.specs.Lawful.{Lawful}
-use Rattle.ipcz_world.proofs.calls.Puts.{terminal_there}
+use Rattle.ipcz_world.proofs.acts.Puts.{terminal_there}
 use Rattle.ipcz_world.proofs.frames.Calling.{held_unclosed}
 use Rattle.ipcz_world.proofs.lawful.QuietGets.{gets_stay_quiet}
-use Rattle.ipcz_world.proofs.weights.Holding.{times_held-at, times-has}
-use Rattle.ipcz_world.proofs.weights.OfRecords.{holds_times}
+use Rattle.ipcz_world.proofs.frames.Holding.{times_held-at, times-has}
+use Rattle.ipcz_world.proofs.frames.OfRecords.{holds_times}
 use Rattle.ipcz_base.specs.declared.profile.Profile.TheVariants.{Printed, Wide}
-use Rattle.ipcz_world.proofs.calls.CallReplies.{reply-open, reply-put, reply-get, reply-close}
+use Rattle.ipcz_world.proofs.acts.CallReplies.{reply-open, reply-put, reply-get, reply-close}
 use Rattle.ipcz_world.proofs.runs.TurnReplies.{reply-turn, begins_locked}
 use Rattle.ipcz_world.proofs.runs.Starting.{starts}
-use Rattle.ipcz_world.proofs.calls.CallTurns.{claim-kept}
+use Rattle.ipcz_world.proofs.acts.CallTurns.{claim-kept}
 use Rattle.ipcz_world.proofs.runs.Running.{StartsKept, starts_lawful, lawful_by, step_keeps_lawful, links_stay_by, headline_by}
 use Rattle.ipcz_world.proofs.runs.Running.{headline_holds, nothing_strays, reached_lawful, run_keeps}
 use Rattle.ipcz_world.proofs.runs.Keeping.{steps_keep}
@@ -37,12 +37,12 @@ use Rattle.ipcz_world.proofs.lawful.Quiet.{quiet_delivers}
 use Rattle.ipcz_world.proofs.runs.BoundedSteps.{bounded-claim_for_open}
 use Rattle.ipcz_world.proofs.runs.FlaggedSteps.{flagged-claim_for_open}
 use Rattle.ipcz_world.proofs.runs.FlagsAgree.{agreed-claim_for_open}
-use Rattle.ipcz_world.proofs.owed.StepWakers.{claim_for_open_owing}
-use Rattle.ipcz_world.proofs.owed.Remembering.{remembered}
-use Rattle.ipcz_world.proofs.owed.GoneReading.{unread-step, claim_for_open_router}
+use Rattle.ipcz_world.proofs.lawful.StepWakers.{claim_for_open_owing}
+use Rattle.ipcz_world.proofs.lawful.Remembering.{remembered}
+use Rattle.ipcz_world.proofs.lawful.GoneReading.{unread-step, claim_for_open_router}
 use Rattle.ipcz_world.proofs.lawful.OwedLaws as owed
 use Rattle.ipcz_world.proofs.lawful.LengthLaws.{length_law}
-use Rattle.ipcz_world.proofs.views.StrayLaws.{stray_law}
+use Rattle.ipcz_world.proofs.frames.StrayLaws.{stray_law}
 use Rattle.ipcz_world.specs.Laws.{EndLaw}
 use Rattle.ipcz_world.proofs.lawful.FittingHands.{hands_fit}
 use Rattle.ipcz_world.proofs.lawful.EndLaws.{end_law}

@@ -11,9 +11,9 @@ use Rattle.ipcz_world.specs.Lawful.{Lawful, RunAny, IsReached, Headline}
 use Rattle.ipcz_world.specs.WorldLaws.{OnlyFlushesStray}
 use Rattle.ipcz_world.specs.Theorem.{TheTheoremHolds}
 use Rattle.ipcz_world.proofs.runs.Running.{reached_lawful}
-use Rattle.ipcz_world.proofs.ranks.Rating.{turns_keep_rates}
-use Rattle.ipcz_world.proofs.ranks.Turning.{turns_are_bounded}
-use Rattle.ipcz_world.proofs.ranks.Unused.{unused_is_quiet}
+use Rattle.ipcz_world.proofs.lawful.Rating.{turns_keep_rates}
+use Rattle.ipcz_world.proofs.lawful.Turning.{turns_are_bounded}
+use Rattle.ipcz_world.proofs.lawful.Unused.{unused_is_quiet}
 use Rattle.ipcz_world.proofs.Whole.{world_starts_lawful, each_step_keeps_lawful, runs_are_plain, lawful_worlds_give_the_headline}
 use Rattle.ipcz_world.proofs.Whole.{each_item_stands_once, ends_stand_once, lawful_worlds_stray_nothing, only_flushes_stray}
 use Rattle.ipcz_world.proofs.Whole.{each_begins_locked, lawful_worlds_owe}

@@ -18,12 +18,12 @@ use Rattle.ipcz_router.specs.declared.act.RouterAct.TheVariants as acts
 use Rattle.ipcz_world.proofs.frames.Frames.{frames, same_key_tells, same_key-itself}
 use Rattle.ipcz_world.specs.Records.{Unclaimed}
 use Rattle.ipcz_world.specs.Remembering.{claim_records}
-use Rattle.ipcz_world.proofs.weights.OfRecords.{in_places}
+use Rattle.ipcz_world.proofs.frames.OfRecords.{in_places}
 use Rattle.ipcz_world.specs.Standing.{spare_of}
 use Rattle.ipcz_world.proofs.frames.StandingRules.{standing_rules}
 use Rattle.ipcz_world.specs.Acts.{CanAct, claim_act}
 use Rattle.ipcz_world.proofs.frames.OneRouter.{SameButRouter, set-router, set-claimed}
-use Rattle.ipcz_world.proofs.flows.SameMessages.{recorded-same, told-same, moves-same}
+use Rattle.ipcz_world.proofs.frames.SameMessages.{recorded-same, told-same, moves-same}
 use Rattle.ipcz_world.proofs.frames.GivingUp.{was, Gives, same-messages, ordered-gives, links-gives, positions-gives, stands-gives}
 use Rattle.ipcz_world.proofs.frames.GivenUp.{Settled, stays, stages-flags, terminals-gives, end_places-gives, books-gives, items-gives}
 use Rattle.ipcz_world.proofs.frames.GivenUp.{order-gives, proxy_numbers-gives, fresh_numbers-gives, conserved-gives, held_once-gives}
@@ -40,7 +40,7 @@ use Rattle.ipcz_router.specs.Router.{is_proxy}
 use Rattle.ipcz_router.specs.ActTable.{is_done}
 use Rattle.std.proofs.lemmas.Bool.{or_left}
 use Rattle.std.specs.Prelude.{◌||◌, ◌&&◌}
-use Rattle.ipcz_world.proofs.weights.Sourcing.{places-sources}
+use Rattle.ipcz_world.proofs.frames.SourceWeights.{places-sources}
 use Rattle.ipcz_world.proofs.frames.BypassesKept.{bypasses-alike, same_bypass}
 use Rattle.ipcz_world.proofs.Vocabulary.{inner_link}
 

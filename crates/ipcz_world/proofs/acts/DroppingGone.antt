@@ -21,10 +21,10 @@ use Rattle.ipcz_world.proofs.facts.LinkTests.{same_end-tells}
 use Rattle.ipcz_world.specs.Remembering.{leave_records}
 use Rattle.ipcz_world.specs.Whereabouts.{RetiredEnds}
 use Rattle.ipcz_world.proofs.acts.Leaving.{gone_leaver}
-use Rattle.ipcz_world.proofs.calls.Gets.{inv-dropped_at}
-use Rattle.ipcz_world.proofs.calls.Reading.{in_numbers}
+use Rattle.ipcz_world.proofs.acts.Gets.{inv-dropped_at}
+use Rattle.ipcz_world.proofs.acts.Reading.{in_numbers}
 use Rattle.ipcz_world.proofs.facts.Drained.{gone_found, gone_next-tells}
-use Rattle.ipcz_world.proofs.flows.SameMessages.{recorded-same}
+use Rattle.ipcz_world.proofs.frames.SameMessages.{recorded-same}
 use Rattle.ipcz_world.proofs.frames.Departing.{IsLeaver, h, h_is, is_off_here, near-departed, retired-departed, gones-departed}
 use Rattle.ipcz_world.proofs.frames.NearInv.{inv-near, near-inv}
 use Rattle.ipcz_world.proofs.frames.Ended as ends
@@ -33,7 +33,7 @@ use Rattle.ipcz_world.proofs.frames.GivingUp.{Gives, Keeps, passes-still, same-m
 use Rattle.ipcz_world.proofs.frames.LeftOff.{terminals-off}
 use Rattle.ipcz_world.proofs.frames.LeftRecords.{off_of}
 use Rattle.ipcz_world.proofs.frames.OneRouter.{SameButRouter, replaced, set-router, remove-router, words-set_router, words-remove_router}
-use Rattle.ipcz_world.proofs.weights.Booking.{end_tells}
+use Rattle.ipcz_world.proofs.frames.Booking.{end_tells}
 
 and_none : (es : List End) → es ++ [] ≡ es
 and_none [] = refl

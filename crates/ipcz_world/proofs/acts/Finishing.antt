@@ -19,19 +19,19 @@ use Rattle.ipcz_router.specs.Router.{is_proxy}
 use Rattle.ipcz_router.specs.ActEffects.{finish_out, finish_in}
 use Rattle.ipcz_router.specs.declared.act.RouterAct.TheVariants as acts
 use Rattle.ipcz_world.proofs.frames.RecordRules.{bypass_of-inner}
-use Rattle.ipcz_world.proofs.weights.OfRecords.{source, in_message}
+use Rattle.ipcz_world.proofs.frames.OfRecords.{source, in_message}
 use Rattle.ipcz_world.proofs.frames.StandingRules.{standing_rules}
 use Rattle.ipcz_world.specs.Numbers.{IsItemUnderWay}
 use Rattle.ipcz_world.specs.Acts.{CanAct, finish_out_act, finish_in_act}
-use Rattle.ipcz_world.proofs.weights.Sums.{just, just_once}
+use Rattle.ipcz_world.proofs.frames.Sums.{just, just_once}
 use Rattle.ipcz_world.proofs.facts.Queues.{reach_filled}
-use Rattle.ipcz_world.proofs.weights.Weights.{in_two_places, in_out_queue, in_in_queue}
+use Rattle.ipcz_world.proofs.frames.Weights.{in_two_places, in_out_queue, in_in_queue}
 use Rattle.ipcz_world.proofs.frames.OneRouter.{set-router, words-set_router}
 use Rattle.ipcz_world.proofs.facts.LinkTests.{IsKnown, known_from-tells, side_is, same_end-itself}
 use Rattle.ipcz_world.proofs.frames.BegunLengths.{begun-since, length-proxy, length-across, length-inward, length-inner}
-use Rattle.ipcz_world.proofs.views.Views.{IsPart}
-use Rattle.ipcz_world.proofs.views.Bypassed.{Names, IsBypassed, proxy-begun, proxy-outward, proxy-inward, proxy-seen, proxy-seen_inward}
-use Rattle.ipcz_world.proofs.views.Bypassed.{proxy-late, proxy-late_inward}
+use Rattle.ipcz_world.proofs.frames.Views.{IsPart}
+use Rattle.ipcz_world.proofs.frames.Bypassed.{Names, IsBypassed, proxy-begun, proxy-outward, proxy-inward, proxy-seen, proxy-seen_inward}
+use Rattle.ipcz_world.proofs.frames.Bypassed.{proxy-late, proxy-late_inward}
 use Rattle.ipcz_world.proofs.frames.GivenUp.{stays, keeps_all, Settled, inv-gives}
 use Rattle.ipcz_world.proofs.frames.Draining.{next_sent-standing, taking_queue-standing}
 use Rattle.ipcz_world.proofs.facts.Lengths.{opposite-twice, HasEnd, has_link-tells}

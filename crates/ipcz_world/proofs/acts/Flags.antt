@@ -18,7 +18,7 @@ use Rattle.ipcz_world.proofs.facts.Lengths.{HasEnd, has_link-tells}
 use Rattle.ipcz_router.specs.Router.{is_proxy, decays, is_on_central}
 use Rattle.ipcz_router.specs.ActTable.{is_done}
 use Rattle.ipcz_world.specs.Records.{is_left}
-use Rattle.ipcz_world.proofs.views.LeftSides.{not_left}
+use Rattle.ipcz_world.proofs.frames.LeftSides.{not_left}
 use Rattle.std.specs.Prelude.{◌||◌, ◌&&◌}
 use Rattle.ipcz_router.specs.ActEffects.{run_dry}
 use Rattle.ipcz_router.specs.Acts.{rest}
@@ -28,7 +28,7 @@ use Rattle.ipcz_world.proofs.frames.StandingRules.{standing_rules}
 use Rattle.ipcz_world.specs.Acts.{dry_act, rest_act}
 use Rattle.ipcz_world.proofs.frames.OneRouter.{SameWords, SameButRouter, set-router, words-set_router}
 use Rattle.ipcz_world.proofs.facts.LinkTests.{side_is}
-use Rattle.ipcz_world.proofs.views.Views.{IsPart}
+use Rattle.ipcz_world.proofs.frames.Views.{IsPart}
 use Rattle.ipcz_world.proofs.frames.GivingUp.{Gives, HasSameFlags, counts-gives, passes-still}
 use Rattle.ipcz_world.proofs.frames.GivenUp.{Settled, stays, keeps_all, spares-gives}
 use Rattle.ipcz_world.proofs.frames.GivenUp.{stages-flags, inv-flags, inv-gives}

@@ -10,7 +10,7 @@ use Rattle.ipcz_world.specs.Books.{is_retired}
 use Rattle.ipcz_world.specs.Records.{is_left}
 use Rattle.ipcz_world.specs.Structure.{is_begun_router}
 use Rattle.ipcz_world.specs.Remembering.{left_end, lost_word, leave_records}
-use Rattle.ipcz_world.proofs.calls.Reading.{in_numbers, slice_get-below}
+use Rattle.ipcz_world.proofs.acts.Reading.{in_numbers, slice_get-below}
 use Rattle.ipcz_world.proofs.facts.LinkTests.{opposite_end-twice}
 use Rattle.ipcz_world.proofs.facts.Tests.{not_both}
 use Rattle.ipcz_world.proofs.frames.Departing.{IsLeaver, h, h_is, is_off_here, near-departed, retired-departed, gones-departed}
@@ -19,7 +19,7 @@ use Rattle.ipcz_world.proofs.frames.GivenUp.{terminals-gives}
 use Rattle.ipcz_world.proofs.frames.LeftOff.{terminals-off}
 use Rattle.ipcz_world.proofs.frames.LeftRecords.{off_of}
 use Rattle.ipcz_world.proofs.frames.Touching.{either}
-use Rattle.ipcz_world.proofs.weights.Booking.{out_numbers}
+use Rattle.ipcz_world.proofs.frames.Booking.{out_numbers}
 use Rattle.std.specs.Prelude.{◌≡◌, ◌≤◌, ℕ, Bool, true, false, nat_le, Option, Some, None, refl}
 use Rattle.std.proofs.Common.{arith}
 use Rattle.std.proofs.lemmas.Bool.Decides.{nat_tests}

@@ -15,10 +15,10 @@ use Rattle.ipcz_world.specs.declared.mail.Mail.TheVariants as mails
 use Rattle.ipcz_world.proofs.frames.Frames.{frames, node-set_mail, mail-set_mail, node-set_node, mail-set_node, count-set_node}
 use Rattle.ipcz_world.proofs.frames.Frames.{count-set_mail}
 use Rattle.ipcz_world.specs.Turns.{after_look, after_post, full_message, is_full, is_clear}
-use Rattle.ipcz_world.proofs.flows.Flowing.{way_tells, same_way}
+use Rattle.ipcz_world.proofs.frames.Flowing.{way_tells, same_way}
 use Rattle.ipcz_world.proofs.frames.Changing.{flow_is, way_apart}
-use Rattle.ipcz_world.proofs.flows.MessagesPassing.{SameButPost, Passes, HasHands, post_is, hands-same, passes-flows}
-use Rattle.ipcz_world.proofs.flows.MessagesAlone.{inv-passes}
+use Rattle.ipcz_world.proofs.frames.MessagesPassing.{SameButPost, Passes, HasHands, post_is, hands-same, passes-flows}
+use Rattle.ipcz_world.proofs.frames.MessagesAlone.{inv-passes}
 
 -- the message is in the hand
 abbrev pub look_act : World → ℕ → ℕ → Message → World

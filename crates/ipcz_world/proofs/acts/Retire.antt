@@ -13,7 +13,7 @@ use Rattle.ipcz_base.specs.declared.message.Message.TheVariants as messages
 use Rattle.ipcz_base.specs.Ends.{end_at}
 use Rattle.ipcz_node.specs.Node.{push_out}
 use Rattle.ipcz_router.specs.ActTable.{can_retire}
-use Rattle.ipcz_world.proofs.weights.OfRecords.{source, in_message, in_node, in_places}
+use Rattle.ipcz_world.proofs.frames.OfRecords.{source, in_message, in_node, in_places}
 use Rattle.ipcz_world.proofs.Vocabulary.{Side, A, B, End, LinkId, Central, Peripheral, LinkEnd, Item, Message, opposite, opposite_end, same_end, Router}
 use Rattle.ipcz_world.proofs.Vocabulary.{is_terminal, inward_edge, Edge, Node, World, Key, same_key, node_at, router_at, flow, Books}
 use Rattle.ipcz_world.proofs.Vocabulary.{read, is_closed, Records, At, is_recorded, side_router, side_node, side_end, side_length}
@@ -36,9 +36,9 @@ use Rattle.ipcz_world.proofs.acts.Retiring.{Known}
 use Rattle.ipcz_world.proofs.facts.LinkTests.{opposite_end-twice, same_end-itself, same_end-tells}
 use Rattle.ipcz_world.proofs.facts.Lengths.{HasEnd, has_link-tells, opposite-twice, view-standing}
 use Rattle.ipcz_world.proofs.facts.Tests.{not_both}
-use Rattle.ipcz_world.proofs.flows.Fitting.{ItemFits}
-use Rattle.ipcz_world.proofs.flows.Flowing.{IsPushed, under_way-pushed, slice_get-last}
-use Rattle.ipcz_world.proofs.flows.SameMessages.{recorded-same}
+use Rattle.ipcz_world.proofs.frames.Fitting.{ItemFits}
+use Rattle.ipcz_world.proofs.frames.Flowing.{IsPushed, under_way-pushed, slice_get-last}
+use Rattle.ipcz_world.proofs.frames.SameMessages.{recorded-same}
 use Rattle.ipcz_world.proofs.frames.Changing.{IsNodeChanged, pushed_by, same_routers}
 use Rattle.ipcz_world.proofs.frames.Departing.{IsLeaver, h, h_is, is_off_here, near-departed, left_back, left_primary, left_more}
 use Rattle.ipcz_world.proofs.frames.Draining.{taking_queue-standing}
@@ -52,11 +52,11 @@ use Rattle.ipcz_world.proofs.frames.LeftRecords.{off_of}
 use Rattle.ipcz_world.proofs.frames.NearInv.{NearInv, inv-near, near-inv}
 use Rattle.ipcz_world.proofs.frames.OneRouter.{SameButRouter, remove-router, words-remove_router}
 use Rattle.ipcz_world.proofs.frames.Touching.{IsTouched, HasSameHands, HasSameEnds, recorded_same, either}
-use Rattle.ipcz_world.proofs.sends.GoneSent as gone
-use Rattle.ipcz_world.proofs.views.Known.{node_of_router}
-use Rattle.ipcz_world.proofs.views.Views.{view_rules}
-use Rattle.ipcz_world.proofs.weights.Booking.{flag, end_tells, more_here, length-more}
-use Rattle.ipcz_world.proofs.weights.Weighing.{in_places-is, in_nodes-changed, in_message-item}
+use Rattle.ipcz_world.proofs.acts.GoneSent as gone
+use Rattle.ipcz_world.proofs.frames.Known.{node_of_router}
+use Rattle.ipcz_world.proofs.frames.Views.{view_rules}
+use Rattle.ipcz_world.proofs.frames.Booking.{flag, end_tells, more_here, length-more}
+use Rattle.ipcz_world.proofs.frames.Weighing.{in_places-is, in_nodes-changed, in_message-item}
 
 -- who has left isn't seen
 view-left : (v : World) (g : Records) (l : LinkId) (s : Side) (k : Key) → side_router g l s ≡ Some k → router_at v k ≡ None →

@@ -19,13 +19,13 @@ use Rattle.ipcz_world.specs.Records.{is_left}
 use Rattle.ipcz_world.specs.Structure.{is_begun_router, link_in}
 use Rattle.ipcz_world.proofs.acts.Flags.{OnWord}
 use Rattle.ipcz_world.proofs.acts.Leaving.{leaver-weighs, no_item}
-use Rattle.ipcz_world.proofs.calls.Reading.{in_numbers, slice_get-below}
+use Rattle.ipcz_world.proofs.acts.Reading.{in_numbers, slice_get-below}
 use Rattle.ipcz_world.proofs.facts.Drained.{drained_item}
 use Rattle.ipcz_world.proofs.facts.Lengths.{has_link-tells}
 use Rattle.ipcz_world.proofs.facts.Tests.{not_both, some_is}
 use Rattle.ipcz_world.proofs.frames.Departing.{IsLeaver}
 use Rattle.ipcz_world.proofs.frames.StandingRules.{standing_rules}
-use Rattle.ipcz_world.proofs.views.LeftSides.{not_left, held_stays, held_unretired}
+use Rattle.ipcz_world.proofs.frames.LeftSides.{not_left, held_stays, held_unretired}
 
 -- a mark that was put stands somewhere
 pub mark_stands : (xs : List Item) → has_mark xs ≡ true → (n : ℕ) × (slice_get xs n ≡ Some Mark)
@@ -161,7 +161,7 @@ module _ (w : World) (b : Books) (g : Records) (k : Key) (r : Router) (i : ℕ) 
               let has = has_link-tells z.router.outward.decaying (inner_of g o) B z.passed in
               let to : link_in z.router.outward.primary ≡ Some (Central f) =
               (law.positions.each z.key z.router z.at).inner_fresh has.end (g.bypass o).inner o has.there has.on_link
-                  ((law.bypasses o).inner_by begun_o) in
+              ((law.bypasses o).inner_by begun_o) in
               over z.key z.router z.at has.end has.there z.router.outward.primary refl to
             where
               over : (q : Key) (z : Router) → router_at w q ≡ Some z → (d : LinkEnd) → z.outward.decaying ≡ Some d →

@@ -27,7 +27,7 @@ use Rattle.ipcz_world.proofs.frames.Frames.{node-set_node, mail-set_node, count-
 use Rattle.ipcz_world.specs.Turns.{after_hand}
 use Rattle.ipcz_world.proofs.frames.StandingRules.{standing_rules}
 use Rattle.ipcz_world.specs.Acts.{CanTouch, CanHand, wake_act, flush_act, free}
-use Rattle.ipcz_world.proofs.flows.Flowing.{IsPushed, IsTaken, way_tells, same_way}
+use Rattle.ipcz_world.proofs.frames.Flowing.{IsPushed, IsTaken, way_tells, same_way}
 use Rattle.ipcz_world.proofs.frames.Changing.{IsNodeChanged, pushed_by, taken_by, way_apart}
 use Rattle.ipcz_world.proofs.frames.OneRouter.{SameButRouter, set-router, set-word, words-set_router}
 use Rattle.ipcz_world.proofs.frames.GivingUp.{Gives, HasSameFlags, counts-gives, passes-still}
@@ -35,9 +35,9 @@ use Rattle.ipcz_world.proofs.frames.GivenUp.{Settled, stays, keeps_all, words-gi
 use Rattle.ipcz_world.proofs.acts.Flags.{IsFlagged, FlagsFit, OnWord, on-word, flagged-part, flagged-settled, shape-touched, inv-flagged}
 use Rattle.ipcz_world.proofs.acts.Updating.{freed, acted-wake}
 use Rattle.ipcz_world.proofs.facts.Finding.{found_tells}
-use Rattle.ipcz_world.proofs.flows.MessagesPassing.{SameButPost, IsFlush, HasHands, post_is, hands-same, passes-pushed, passes-taken}
-use Rattle.ipcz_world.proofs.flows.MessagesAlone.{inv-passes}
-use Rattle.ipcz_world.proofs.views.Known.{node_of_router}
+use Rattle.ipcz_world.proofs.frames.MessagesPassing.{SameButPost, IsFlush, HasHands, post_is, hands-same, passes-pushed, passes-taken}
+use Rattle.ipcz_world.proofs.frames.MessagesAlone.{inv-passes}
+use Rattle.ipcz_world.proofs.frames.Known.{node_of_router}
 use Rattle.ipcz_world.proofs.facts.Lengths.{opposite-twice}
 use Rattle.ipcz_node.specs.Hands.{flushed}
 use Rattle.ipcz_world.specs.WordAnswers.{woken}

@@ -38,7 +38,7 @@ use Rattle.ipcz_world.proofs.code.LoneWorlds.{sends-last, Quiet, hand_act, look_
 use Rattle.ipcz_world.proofs.code.Slots.{put-same}
 use Rattle.ipcz_world.proofs.code.Visiting.{OnWay}
 use Rattle.ipcz_world.proofs.frames.Frames.{mail-set_mail, node-set_mail, node-set_node}
-use Rattle.ipcz_world.proofs.hands.MadeNodes.{inserts_commute}
+use Rattle.ipcz_world.proofs.acts.MadeNodes.{inserts_commute}
 
 -- the world with this node, and this mailbox from it to itself
 abbrev pub single : World → ℕ → Node → Mail → World

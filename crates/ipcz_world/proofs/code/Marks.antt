@@ -9,8 +9,8 @@ use Rattle.ipcz_world.specs.Turns.{is_full, is_clear, hand_message}
 use Rattle.ipcz_world.specs.SettleLimit.{higher, highest, gone_mailed}
 use Rattle.ipcz_world.proofs.Vocabulary.{place_at, put_place, total_list}
 use Rattle.ipcz_world.proofs.code.Slots.{get-place, length-put, place_read, put-same, set-place}
-use Rattle.ipcz_world.proofs.weights.Totalling.{total_list-put_place}
-use Rattle.ipcz_world.proofs.weights.Sums.{total_list-place}
+use Rattle.ipcz_world.proofs.frames.Totalling.{total_list-put_place}
+use Rattle.ipcz_world.proofs.frames.Sums.{total_list-place}
 
 -- one mailbox and its flag
 pub marked-empty : (h : Bool) → as_marked h Empty ≡ Empty

@@ -1,5 +1,5 @@
 -- A caller's act at a terminal: its router and what its node's callers hold change, no message moves.
-use Rattle.ipcz_world.proofs.weights.OfRecords.{holds, held_times, in_message, in_places}
+use Rattle.ipcz_world.proofs.frames.OfRecords.{holds, held_times, in_message, in_places}
 use Rattle.std.specs.Prelude.{◌≡◌, ◌⊎◌, ◌≤◌, ◌<◌, ◌+◌, ℕ, Bool, true, false, cond, nat_eq, Some, refl}
 use Rattle.std.specs.FinMap.{get, insert}
 use Rattle.std.proofs.Common.{arith, ap, subst, ◌∙◌, sym, inl, inr}
@@ -9,9 +9,9 @@ use Rattle.ipcz_world.proofs.Vocabulary.{is_closed, Records, is_nowhere, Weight,
 use Rattle.ipcz_world.proofs.frames.Frames.{node-set_node, word-set_node, mail-set_node, claimed-set_node, size-set_node, count-set_node}
 use Rattle.ipcz_world.proofs.frames.Touching.{IsTouched, HasSameHands}
 use Rattle.ipcz_world.proofs.frames.Changing.{IsNodeChanged, IsNodeAlike, touched_by, flow_is}
-use Rattle.ipcz_world.proofs.weights.Weighing.{in_places-is, in_nodes-changed, in_node-changed, under_way-same}
-use Rattle.ipcz_world.proofs.weights.Holding.{times_held-changed}
-use Rattle.ipcz_world.proofs.weights.Booking.{flag}
+use Rattle.ipcz_world.proofs.frames.Weighing.{in_places-is, in_nodes-changed, in_node-changed, under_way-same}
+use Rattle.ipcz_world.proofs.frames.Holding.{times_held-changed}
+use Rattle.ipcz_world.proofs.frames.Booking.{flag}
 
 -- the node has another router under the serial, and is else as before but for what is held and pending
 pub record IsCall (w : World) (k : Key) (r y : Router) (x : Node) : Type 0 where

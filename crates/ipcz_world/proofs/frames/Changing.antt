@@ -9,7 +9,7 @@ use Rattle.ipcz_base.proofs.Indexed.{place_at-put_place}
 use Rattle.ipcz_world.specs.declared.mail.Mail.TheVariants.{Hand}
 use Rattle.ipcz_world.proofs.frames.Frames.{frames, router-set_router}
 use Rattle.ipcz_world.proofs.frames.Touching.{IsTouched}
-use Rattle.ipcz_world.proofs.flows.Flowing.{IsPushed, IsTaken, same_way}
+use Rattle.ipcz_world.proofs.frames.Flowing.{IsPushed, IsTaken, same_way}
 
 -- one node is another, and words are as before
 pub record IsNodeChanged (w v : World) (n : ℕ) (x : Node) : Type 0 where

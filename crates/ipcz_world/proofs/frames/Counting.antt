@@ -7,7 +7,7 @@ use Rattle.ipcz_world.proofs.Vocabulary.{Side, LinkId, Router, World, Key, same_
 use Rattle.ipcz_world.proofs.Vocabulary.{Records, is_unclaimed, is_recorded, side_node, side_router, Counts}
 use Rattle.ipcz_world.specs.declared.mail.Mail.TheVariants as mails
 use Rattle.ipcz_world.proofs.frames.Frames.{same_key_tells}
-use Rattle.ipcz_world.proofs.flows.Handing.{way_tells}
+use Rattle.ipcz_world.proofs.frames.Handing.{way_tells}
 use Rattle.ipcz_world.proofs.frames.Unmoved.{Changed}
 
 -- a node's hand and the mailbox are empty now

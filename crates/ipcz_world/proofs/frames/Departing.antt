@@ -13,14 +13,14 @@ use Rattle.ipcz_world.proofs.frames.GivingUp.{counts-gives, ordered-gives, shape
 use Rattle.ipcz_world.proofs.frames.GivenUp.{end_places-gives, books-gives, items-gives, order-gives, proxy_numbers-gives, fresh_numbers-gives}
 use Rattle.ipcz_world.proofs.frames.GivenUp.{conserved-gives, held_once-gives}
 use Rattle.ipcz_world.proofs.frames.GonesKept.{IsGoneRight, right-of, gones-all}
-use Rattle.ipcz_world.proofs.flows.SameMessages.{bypasses-same, told-same, moves-same}
-use Rattle.ipcz_world.proofs.views.LeftSides.{not_left}
+use Rattle.ipcz_world.proofs.frames.SameMessages.{bypasses-same, told-same, moves-same}
+use Rattle.ipcz_world.proofs.frames.LeftSides.{not_left}
 use Rattle.std.specs.Prelude.{◌≡◌, ◌≢◌, ◌⊎◌, ◌≤◌, ◌<◌, ◌&&◌, ◌||◌, ℕ, Bool, true, false, cond, Option, Some, None, is_some, List, length}
 use Rattle.std.specs.Prelude.{drop, refl}
 use Rattle.std.proofs.Common.{arith, sym, ◌∙◌, ap, subst, inl, inr}
 use Rattle.std.proofs.lemmas.Bool.Decides.{nat_tests}
 use Rattle.std.proofs.lemmas.Option.{none-some}
-use Rattle.ipcz_world.proofs.weights.OfRecords.{source}
+use Rattle.ipcz_world.proofs.frames.OfRecords.{source}
 use Rattle.ipcz_world.proofs.Vocabulary.{Side, A, B, LinkId, Central, Peripheral, LinkEnd, Descriptor, Item, opposite, opposite_end, has, Router}
 use Rattle.ipcz_world.proofs.Vocabulary.{is_terminal, inward_edge, World, Key, same_key, router_at, word_at, Books, read, Records, Spare, is_linked}
 use Rattle.ipcz_world.proofs.Vocabulary.{is_begun, is_recorded, inner_link, bypass_of, side_router, side_end, proxy_side, across_side, Weight}
@@ -42,14 +42,14 @@ use Rattle.ipcz_world.proofs.frames.StandingRules.{standing_rules}
 use Rattle.ipcz_world.proofs.frames.Touching.{either}
 use Rattle.ipcz_world.proofs.frames.GivingUp.{Gives, Keeps, was_same, WasSame, passes-still, same-messages}
 use Rattle.ipcz_world.proofs.frames.GivenUp.{Settled}
-use Rattle.ipcz_world.proofs.flows.SameMessages.{recorded-same}
+use Rattle.ipcz_world.proofs.frames.SameMessages.{recorded-same}
 use Rattle.ipcz_world.proofs.frames.LeftRecords.{off_of, off-primary, off-inward, off-back, off-owner, off-lost, off-back_owner, is_off}
 use Rattle.ipcz_world.proofs.frames.LeftRecords.{off-same, off-is}
 use Rattle.ipcz_world.proofs.frames.Sourcing.{sourced-by}
-use Rattle.ipcz_world.proofs.weights.Booking.{from_number-range, length-drop}
-use Rattle.ipcz_world.proofs.weights.Weighing.{in_places-has, in_message-item, of_number}
+use Rattle.ipcz_world.proofs.frames.Booking.{from_number-range, length-drop}
+use Rattle.ipcz_world.proofs.frames.Weighing.{in_places-has, in_message-item, of_number}
 use Rattle.ipcz_world.proofs.facts.LinkTests.{same_end-itself}
-use Rattle.ipcz_world.proofs.views.Known.{edge_has-tells, attached_recorded}
+use Rattle.ipcz_world.proofs.frames.Known.{edge_has-tells, attached_recorded}
 use Rattle.ipcz_world.proofs.frames.LeftOff as off
 use Rattle.ipcz_world.specs.Routes.{source as source'}
 use Rattle.ipcz_world.specs.Standing.{fed_queue, sending_queue}

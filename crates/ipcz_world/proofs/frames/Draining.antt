@@ -12,7 +12,7 @@ use Rattle.ipcz_seq.specs.Queue.{pop_front}
 use Rattle.ipcz_world.proofs.frames.Frames.{same_key_tells}
 use Rattle.ipcz_world.specs.Standing.{may_have_sent}
 use Rattle.ipcz_world.proofs.frames.Touching.{IsTouched, IsAlike, recorded_same}
-use Rattle.ipcz_world.proofs.views.Seen.{seen}
+use Rattle.ipcz_world.proofs.frames.Seen.{seen}
 
 -- a queue is as before, or has lost its current item
 pub record IsDrained (q p : Queue Item) : Type 0 where

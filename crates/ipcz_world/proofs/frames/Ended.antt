@@ -10,7 +10,7 @@ use Rattle.std.specs.Prelude.{◌≡◌, ◌≢◌, ◌≤◌, ◌<◌, ℕ, Boo
 use Rattle.ipcz_world.proofs.Vocabulary.{opposite_end}
 use Rattle.std.proofs.Common.{arith, sym, ◌∙◌, ap, inl, inr}
 use Rattle.std.proofs.lemmas.Option.{same_Some}
-use Rattle.ipcz_world.proofs.weights.OfRecords.{held_times, holds_times, in_places}
+use Rattle.ipcz_world.proofs.frames.OfRecords.{held_times, holds_times, in_places}
 use Rattle.ipcz_world.proofs.Vocabulary.{Side, B, End, LinkId, Central, Descriptor, opposite, Router, ends_in}
 use Rattle.ipcz_world.proofs.Vocabulary.{World, Key, node_at, router_at, Books, is_closed, Records, At, is_nowhere, terminal_node, Weight, times}
 use Rattle.ipcz_world.proofs.Vocabulary.{names_end, view, view_by, is_gone, is_awaited, next_sent, taking_queue, standing_router}
@@ -21,10 +21,10 @@ use Rattle.ipcz_world.specs.Records.{Terminal, Retired, terminal_descriptor, set
 use Rattle.ipcz_world.specs.Standing.{may_have_sent, awaited_view}
 use Rattle.ipcz_world.specs.Bypasses.{Moves, move_weight}
 use Rattle.ipcz_world.specs.Routes.{source as source'}
-use Rattle.ipcz_world.proofs.weights.Booking.{flag, end_tells, in_router-within, total-has}
-use Rattle.ipcz_world.proofs.weights.Holding.{times-has, times_held-at}
-use Rattle.ipcz_world.proofs.weights.Weighing.{in_router-is, in_places-has, in_message-item}
-use Rattle.ipcz_world.proofs.weights.Sourcing.{places-sources}
+use Rattle.ipcz_world.proofs.frames.Booking.{flag, end_tells, in_router-within, total-has}
+use Rattle.ipcz_world.proofs.frames.Holding.{times-has, times_held-at}
+use Rattle.ipcz_world.proofs.frames.Weighing.{in_router-is, in_places-has, in_message-item}
+use Rattle.ipcz_world.proofs.frames.SourceWeights.{places-sources}
 use Rattle.ipcz_world.proofs.frames.BypassesKept.{bypasses-alike, same_bypass}
 
 module _ (v : World) (b : Books) (g : Records) (e : End) (k : Key) (at : g.terminal e ≡ At k) where

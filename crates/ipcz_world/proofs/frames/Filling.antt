@@ -10,10 +10,10 @@ use Rattle.ipcz_world.proofs.Vocabulary.{is_outward, is_made_before, standing_ro
 use Rattle.ipcz_seq.specs.Queue.{push_at}
 use Rattle.ipcz_world.proofs.frames.Frames.{same_key_tells}
 use Rattle.ipcz_world.proofs.frames.Touching.{IsTouched, IsAlike, recorded_same}
-use Rattle.ipcz_world.proofs.views.Seen.{IsSwapped, seen}
+use Rattle.ipcz_world.proofs.frames.Seen.{IsSwapped, seen}
 use Rattle.ipcz_world.proofs.frames.Draining.{gone_same, awaited_same, sent_same, next_sent-standing, taking_queue-standing}
 use Rattle.ipcz_world.proofs.frames.Draining.{standing-standing}
-use Rattle.ipcz_world.proofs.flows.Fitting.{ItemFits}
+use Rattle.ipcz_world.proofs.frames.Fitting.{ItemFits}
 
 -- a queue has what it had, and an item of this number more, if the flag says so
 pub record IsFilled (q p : Queue Item) (n : ℕ) (b : Bool) : Type 0 where

@@ -19,9 +19,9 @@ use Rattle.ipcz_world.specs.Numbers.{IsItemUnderWay}
 use Rattle.ipcz_world.proofs.frames.Touching.{recorded_same}
 use Rattle.ipcz_world.proofs.frames.Draining.{gone_same, taking_queue-standing}
 use Rattle.ipcz_world.proofs.frames.Opened.{OpenInv}
-use Rattle.ipcz_world.proofs.flows.Awaited.{awaited_none}
-use Rattle.ipcz_world.proofs.flows.Fitting.{ItemFits, fits_of}
-use Rattle.ipcz_world.proofs.views.Known.{IsEnd, edge_has-tells, fresh_central}
+use Rattle.ipcz_world.proofs.frames.Awaited.{awaited_none}
+use Rattle.ipcz_world.proofs.frames.Fitting.{ItemFits, fits_of}
+use Rattle.ipcz_world.proofs.frames.Known.{IsEnd, edge_has-tells, fresh_central}
 use Rattle.ipcz_world.proofs.facts.LinkTests.{side_is, same_side-opposite}
 use Rattle.ipcz_world.proofs.frames.Filling.{IsFilling, sent_kept, taken_filled, taken_current, filled_before}
 use Rattle.ipcz_world.proofs.frames.BegunLengths.{bypass_of-begun, bypass_of-central_is, length-inner}

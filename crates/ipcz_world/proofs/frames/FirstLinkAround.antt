@@ -12,7 +12,7 @@ use Rattle.ipcz_world.specs.Records.{CentralRecord, key_at}
 use Rattle.ipcz_world.specs.Records.{length_by, bypass_length}
 use Rattle.ipcz_world.specs.Standing.{awaited_view}
 use Rattle.ipcz_world.proofs.frames.StandingRules.{standing_rules}
-use Rattle.ipcz_world.proofs.flows.SameMessages.{SameMessages}
+use Rattle.ipcz_world.proofs.frames.SameMessages.{SameMessages}
 use Rattle.ipcz_world.proofs.frames.FreshPairs.{fresh_at, end_of, IsGrown, is_nowhere-at, central_one}
 use Rattle.ipcz_world.proofs.facts.Tests.{not_both}
 

@@ -27,15 +27,15 @@ use Rattle.ipcz_world.specs.Records.{CentralRecord}
 use Rattle.ipcz_world.specs.Standing.{may_have_sent}
 use Rattle.ipcz_world.specs.Bypasses.{Moves, move_weight}
 use Rattle.ipcz_world.proofs.frames.Draining.{taking_queue-standing}
-use Rattle.ipcz_world.proofs.flows.Fitting.{fits_of, items_by}
-use Rattle.ipcz_world.proofs.flows.SameMessages.{under-same, made-same, under_way-same}
+use Rattle.ipcz_world.proofs.frames.Fitting.{fits_of, items_by}
+use Rattle.ipcz_world.proofs.frames.SameMessages.{under-same, made-same, under_way-same}
 use Rattle.ipcz_world.proofs.frames.FreshPairs.{fresh_at, end_of, IsNew, IsGrown, empty_item, is_nowhere-at, move_none, known_somewhere}
 use Rattle.ipcz_world.proofs.frames.FreshPairs.{inner_end, attached_fresh, central_queues, reach_empty}
 use Rattle.ipcz_world.proofs.facts.Tests.{not_both}
 use Rattle.ipcz_world.proofs.frames.FirstLinkAround.{recorded_apart, recorded_kept, recorded_inner, recorded_was, router_kept, node_kept}
 use Rattle.ipcz_world.proofs.frames.FirstLinkAround.{end_kept, length_kept, terminal_kept, nowhere_was, passes_kept, view_kept, new_router}
 use Rattle.ipcz_world.proofs.frames.FirstLinkAround.{grown_end, no_end, central_recorded, new_passes, proxy_same, same}
-use Rattle.ipcz_world.proofs.weights.Booking.{expected_move-at}
+use Rattle.ipcz_world.proofs.frames.Booking.{expected_move-at}
 use Rattle.ipcz_world.proofs.facts.Lengths.{view-standing}
 use Rattle.ipcz_world.proofs.facts.LinkTests.{same_end-itself}
 

@@ -18,8 +18,8 @@ use Rattle.ipcz_word.specs.SideSets.{has-both, has-none}
 use Rattle.ipcz_world.specs.Records.{CentralRecord, key_at}
 use Rattle.ipcz_world.specs.Standing.{spare_of, has_inward_primary}
 use Rattle.ipcz_world.specs.Bypasses.{fresh_of}
-use Rattle.ipcz_world.proofs.flows.Flowing.{under_way-congr}
-use Rattle.ipcz_world.proofs.flows.SameMessages.{under-same, made-same, under_way-same}
+use Rattle.ipcz_world.proofs.frames.Flowing.{under_way-congr}
+use Rattle.ipcz_world.proofs.frames.SameMessages.{under-same, made-same, under_way-same}
 use Rattle.ipcz_world.proofs.frames.FreshPairs.{IsGrown, has_fresh, fresh_marked, about_same, expected_alike, expected_none}
 use Rattle.ipcz_world.proofs.facts.Tests.{not_both}
 use Rattle.ipcz_world.proofs.frames.FirstLinkAround.{begun_apart, linked_kept, recorded_apart, recorded_kept, recorded_inner, router_kept}
@@ -100,8 +100,11 @@ module _ {w v : World} {b : Books} {g : Records} {owner' : ℕ → Owner} {centr
             (new_router law is o.1 s) ∙ new_passes law is o.1 s (λ r. r.marked) ∙ fresh_marked i at s)
       ];
       left_held = λ s e. let n = left_same law is (Central j) in
-          rw (n A, n B,
-          is.word j (λ m. recorded_apart law is (Central j) (law.stands.left_recorded (Central j) s (sym (n s) ∙ e)) (ap Central m)))
+          rw (
+            n A,
+            n B,
+            is.word j (λ m. recorded_apart law is (Central j) (law.stands.left_recorded (Central j) s (sym (n s) ∙ e)) (ap Central m)),
+          )
           ((law.words.each j).left_held s (sym (n s) ∙ e));
       holder = λ s l nb nl. elim (by_word law is j l) [
         | inl o ↦ ap (λ (x : Word). has x.holder s) (is.word j o.0) ∙

@@ -1,7 +1,7 @@
 -- A word that gets its owner, and the terminals of a pair that is new on it: the relation, and small facts of fresh terminals.
 use Rattle.ipcz_word.specs.SideSets.{none}
 use Rattle.ipcz_world.specs.Records.{Retired}
-use Rattle.ipcz_world.proofs.weights.OfRecords.{holds, in_places}
+use Rattle.ipcz_world.proofs.frames.OfRecords.{holds, in_places}
 use Rattle.std.specs.Prelude.{◌≡◌, ◌≢◌, ◌⊎◌, ◌≤◌, ◌<◌, ◌+◌, ℕ, Bool, true, false, cond, nat_le, Some, None, refl}
 use Rattle.std.specs.Ordering.{nat_cmp}
 use Rattle.std.specs.FinMap.{get-empty}

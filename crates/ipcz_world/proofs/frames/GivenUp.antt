@@ -2,7 +2,7 @@
 use Rattle.ipcz_world.proofs.frames.Sourcing.{sourced-by}
 use Rattle.ipcz_world.proofs.frames.GivingUp.{WasSame, was_same}
 use Rattle.ipcz_word.specs.Word.{Word}
-use Rattle.ipcz_world.proofs.weights.OfRecords.{holds, held_times}
+use Rattle.ipcz_world.proofs.frames.OfRecords.{holds, held_times}
 use Rattle.std.specs.Prelude.{◌<◌, ◌≡◌, ◌≢◌, ◌⊎◌, ◌≤◌, ℕ, ◌+◌, Bool, true, false, not, ◌&&◌, ◌||◌, Option, Some, None, is_some, List, refl}
 use Rattle.std.proofs.Common.{arith, sym, ◌∙◌, ap, subst, inl, inr}
 use Rattle.std.proofs.lemmas.Option.{same_Some, none-some}
@@ -14,16 +14,16 @@ use Rattle.ipcz_world.proofs.Vocabulary.{IsUnderWay, total_below, view, passes, 
 use Rattle.ipcz_world.proofs.Vocabulary.{Counts, Shape, Stands, Words, Spares, Stages, inner_of, Terminals, EndPlaces, BooksKept}
 use Rattle.ipcz_world.proofs.Vocabulary.{Conserved, HeldOnce, times_held, Items, Order, ProxyNumbers, FreshNumbers, Inv}
 use Rattle.ipcz_world.proofs.frames.Frames.{same_key_tells}
-use Rattle.ipcz_world.proofs.weights.OfRecords.{in_places}
+use Rattle.ipcz_world.proofs.frames.OfRecords.{in_places}
 use Rattle.ipcz_world.specs.Standing.{spare_of}
 use Rattle.ipcz_world.proofs.frames.StandingRules.{standing_rules}
 use Rattle.ipcz_world.specs.Numbers.{IsItemUnderWay}
-use Rattle.ipcz_world.proofs.weights.Sums.{total_below-same}
-use Rattle.ipcz_world.proofs.weights.Weights.{in_option}
+use Rattle.ipcz_world.proofs.frames.Sums.{total_below-same}
+use Rattle.ipcz_world.proofs.frames.Weights.{in_option}
 use Rattle.ipcz_world.proofs.frames.OneRouter.{SameWords, SameButRouter}
-use Rattle.ipcz_world.proofs.flows.SameMessages.{recorded-same, under-same, made-same, bypasses-same, told-same, moves-same}
-use Rattle.ipcz_world.proofs.views.Views.{IsPart, Seen, GivesUp, seen, next_sent-seen, taking-seen, may_have_sent-seen}
-use Rattle.ipcz_world.proofs.views.Views.{awaited-seen, gone-seen, standing-seen}
+use Rattle.ipcz_world.proofs.frames.SameMessages.{recorded-same, under-same, made-same, bypasses-same, told-same, moves-same}
+use Rattle.ipcz_world.proofs.frames.Views.{IsPart, Seen, GivesUp, seen, next_sent-seen, taking-seen, may_have_sent-seen}
+use Rattle.ipcz_world.proofs.frames.Views.{awaited-seen, gone-seen, standing-seen}
 use Rattle.ipcz_world.proofs.frames.GivingUp.{Gives, IsBare, HasSameFlags, Keeps, same-messages, was, passes-still, passes-primary, counts-gives}
 use Rattle.ipcz_world.proofs.frames.GivingUp.{ordered-gives, shape-gives, links-gives, begun_part, positions-gives, stands-gives}
 use Rattle.ipcz_world.proofs.frames.GivingUp.{flag-still}

@@ -17,8 +17,8 @@ use Rattle.ipcz_world.proofs.frames.StandingRules.{standing_rules}
 use Rattle.ipcz_world.specs.Structure.{is_begun_router}
 use Rattle.ipcz_world.specs.Structure.{has_role, link_in}
 use Rattle.ipcz_world.proofs.frames.OneRouter.{SameWords, SameButRouter}
-use Rattle.ipcz_world.proofs.flows.SameMessages.{SameMessages, recorded-same}
-use Rattle.ipcz_world.proofs.views.Views.{IsPart, part-itself}
+use Rattle.ipcz_world.proofs.frames.SameMessages.{SameMessages, recorded-same}
+use Rattle.ipcz_world.proofs.frames.Views.{IsPart, part-itself}
 
 -- a router becomes a part of itself, or leaves with empty queues
 pub record Gives (w v : World) (k : Key) (r : Router) (x : Option Router) : Type 0 where

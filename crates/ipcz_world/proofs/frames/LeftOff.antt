@@ -3,7 +3,7 @@ use Rattle.ipcz_world.proofs.frames.PositionsKept.{positions-kept}
 use Rattle.ipcz_world.proofs.frames.LinksKept.{links-still}
 use Rattle.std.specs.Prelude.{◌≡◌, ◌||◌, ℕ, Bool, true, false, is_some, refl}
 use Rattle.std.proofs.Common.{arith, sym, ◌∙◌, inl, inr}
-use Rattle.ipcz_world.proofs.weights.OfRecords.{in_places}
+use Rattle.ipcz_world.proofs.frames.OfRecords.{in_places}
 use Rattle.ipcz_world.specs.Routes.{source as source'}
 use Rattle.ipcz_world.proofs.Vocabulary.{Weight, names_end}
 use Rattle.std.proofs.lemmas.Bool.{or_left}
@@ -15,7 +15,7 @@ use Rattle.ipcz_world.proofs.Vocabulary.{Order, ProxyNumbers, FreshNumbers, Bypa
 use Rattle.ipcz_world.specs.Records.{bypass_length, length_by, is_left, is_unclaimed, Fresh, Linked}
 use Rattle.ipcz_world.specs.Bypasses.{Moves, LiveLinks}
 use Rattle.ipcz_world.proofs.frames.Touching.{either}
-use Rattle.ipcz_world.proofs.weights.Sourcing.{places-sources}
+use Rattle.ipcz_world.proofs.frames.SourceWeights.{places-sources}
 use Rattle.ipcz_world.proofs.frames.BypassesKept.{bypasses-alike, same_bypass}
 
 -- the records with other owners of words, and other sides that were left

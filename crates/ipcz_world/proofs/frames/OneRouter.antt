@@ -11,8 +11,8 @@ use Rattle.std.specs.FinMap.{FinMap}
 use Rattle.ipcz_world.specs.World.{remove_router}
 use Rattle.ipcz_world.proofs.frames.Frames.{same_key-itself, frames, router-set_router, router-remove_router, word-set_node, mail-set_node, claimed-set_node}
 use Rattle.ipcz_world.proofs.frames.Frames.{size-set_node, count-set_node}
-use Rattle.ipcz_world.proofs.weights.OfRecords.{in_places}
-use Rattle.ipcz_world.proofs.weights.Weights.{in_option, places-set_router, places-remove_router}
+use Rattle.ipcz_world.proofs.frames.OfRecords.{in_places}
+use Rattle.ipcz_world.proofs.frames.Weights.{in_option, places-set_router, places-remove_router}
 
 -- two nodes that differ in their routers alone
 pub record SameButRouters (n m : Node) : Type 0 where

@@ -33,7 +33,7 @@ use Rattle.ipcz_world.specs.Structure.{is_begun_router, has_role}
 use Rattle.ipcz_world.specs.Bypasses.{fresh_of}
 use Rattle.ipcz_world.proofs.frames.Unmoved.{IsLike, Changed, Carried, Agree, side_node-agree, side_end-agree, proxy_side-agree}
 use Rattle.ipcz_world.proofs.frames.Unmoved.{is_recorded-kept, key_passes-kept}
-use Rattle.ipcz_world.proofs.views.Viewing.{IsSameView, view-kept}
+use Rattle.ipcz_world.proofs.frames.Viewing.{IsSameView, view-kept}
 use Rattle.ipcz_world.proofs.facts.Lengths.{length-old, length-proxy, length-inner, length-live, length-none, known_from-yes}
 use Rattle.ipcz_world.proofs.frames.Sealing.{Sealed, shape_of, links_of, stands_of, words_of, bypasses_of, stages_of}
 use Rattle.ipcz_world.proofs.frames.BypassesKept.{bypasses-alike}

@@ -3,7 +3,7 @@ use Rattle.ipcz_world.proofs.Vocabulary.{IsOrdered}
 use Rattle.ipcz_world.proofs.frames.EachKept.{each-one}
 use Rattle.ipcz_world.proofs.Vocabulary.{has}
 use Rattle.ipcz_world.specs.Records.{is_left}
-use Rattle.ipcz_world.proofs.weights.OfRecords.{holds, held_times, source, in_message, in_places}
+use Rattle.ipcz_world.proofs.frames.OfRecords.{holds, held_times, source, in_message, in_places}
 use Rattle.ipcz_world.proofs.Vocabulary.{Weight, in_router, times, at_end, names_end, Side, A, B, End, LinkId, Central, Peripheral}
 use Rattle.ipcz_world.proofs.Vocabulary.{Descriptor, Item, Message, opposite, is_central, same_end, has_end, opposite_end, total}
 use Rattle.ipcz_world.proofs.Vocabulary.{total_below, total_list, Router, is_terminal, World, Key, node_at, router_at, same_key, Books}
@@ -21,7 +21,7 @@ use Rattle.ipcz_world.proofs.frames.Frames.{same_key_tells}
 use Rattle.ipcz_world.specs.Standing.{spare_of}
 use Rattle.ipcz_world.specs.Bypasses.{is_by, Moves, move_weight}
 use Rattle.ipcz_world.specs.Inv.{HasNoStrays}
-use Rattle.ipcz_world.proofs.weights.Totalling.{total_below-same}
+use Rattle.ipcz_world.proofs.frames.Totalling.{total_below-same}
 use Rattle.ipcz_world.proofs.frames.OneChange.{OneChanges, passes-same}
 use Rattle.ipcz_world.proofs.frames.EndsKept.{terminal-kept, ends-kept}
 use Rattle.ipcz_world.proofs.Vocabulary.{HasTerminal, HasEndsHere, item_at}

@@ -11,8 +11,8 @@ use Rattle.ipcz_world.specs.Routes.{Routes}
 use Rattle.ipcz_world.specs.WorldLaws.{ItemsStandOnce}
 use Rattle.ipcz_base.specs.Items.{same_item}
 use Rattle.ipcz_world.proofs.facts.LinkTests.{same_end-itself, opposite_end-twice}
-use Rattle.ipcz_world.proofs.weights.Weighing.{in_router-is}
-use Rattle.ipcz_world.proofs.weights.Booking.{total-has, in_router-within}
+use Rattle.ipcz_world.proofs.frames.Weighing.{in_router-is}
+use Rattle.ipcz_world.proofs.frames.Booking.{total-has, in_router-within}
 use Rattle.ipcz_world.proofs.facts.SameItems.{same_item-itself, same_item-tells}
 
 pub just-here : (n : ℕ) (x : Item) → just n x n x ≡ 1

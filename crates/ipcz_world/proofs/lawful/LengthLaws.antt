@@ -17,12 +17,12 @@ use Rattle.ipcz_world.specs.Laws.{Knows, OutwardTo, OutwardFrom, InwardTo, Inwar
 use Rattle.ipcz_world.specs.Laws.{StoppingInnerOut, Ending, LengthLaw}
 use Rattle.ipcz_world.proofs.facts.LinkTests.{same_side-opposite, side_is, IsKnown, known_from-tells}
 use Rattle.ipcz_world.proofs.facts.Lengths.{same_side-tells, opposite-twice, known_from-yes, same_side-itself, HasEnd, has_link-tells}
-use Rattle.ipcz_world.proofs.flows.Flowing.{found}
-use Rattle.ipcz_world.proofs.views.Known.{attached_recorded}
-use Rattle.ipcz_world.proofs.views.Telling.{IsAccept, accept_told, IsStop, stop_told, will_stop_told}
+use Rattle.ipcz_world.proofs.frames.Flowing.{found}
+use Rattle.ipcz_world.proofs.frames.Known.{attached_recorded}
+use Rattle.ipcz_world.proofs.frames.Telling.{IsAccept, accept_told, IsStop, stop_told, will_stop_told}
 use Rattle.ipcz_world.proofs.frames.BegunLengths.{bypass_of-begun, bypass_of-central_is}
-use Rattle.ipcz_world.proofs.views.Passing.{Passes, passes-tells}
-use Rattle.ipcz_world.proofs.views.Having.{HasAt, has_at}
+use Rattle.ipcz_world.proofs.frames.Passing.{Passes, passes-tells}
+use Rattle.ipcz_world.proofs.frames.Having.{HasAt, has_at}
 
 -- the number of the bypass that is the length of a link from a side
 unfoldable number_of : Records → ℕ → LinkId → Side → ℕ

@@ -3,11 +3,11 @@ use Rattle.std.specs.Prelude.{◌&&◌}
 use Rattle.ipcz_world.proofs.frames.Touching.{either}
 use Rattle.std.proofs.lemmas.Bool.{and_parts}
 use Rattle.ipcz_world.specs.Records.{is_left}
-use Rattle.ipcz_world.proofs.views.LeftSides.{not_left}
+use Rattle.ipcz_world.proofs.frames.LeftSides.{not_left}
 use Rattle.std.proofs.lemmas.Bool.Decides.{nat_tests}
-use Rattle.ipcz_world.proofs.views.Telling.{peer_told, accept_told}
+use Rattle.ipcz_world.proofs.frames.Telling.{peer_told, accept_told}
 use Rattle.std.proofs.Common.{true≢false}
-use Rattle.ipcz_world.proofs.weights.OfRecords.{none_stable}
+use Rattle.ipcz_world.proofs.frames.OfRecords.{none_stable}
 use Rattle.std.specs.Prelude.{◌≡◌, ◌≤◌, ℕ, Bool, true, false, not, Some, is_some, refl}
 use Rattle.std.proofs.Common.{arith, ap, subst, ◌∙◌, sym, inl, inr}
 use Rattle.std.proofs.lemmas.Option.{same_Some}
@@ -20,8 +20,8 @@ use Rattle.ipcz_world.specs.Standing.{has_inward_primary}
 use Rattle.ipcz_world.specs.Laws.{There, LinkLaw, IsBypassed, BypassLaw}
 use Rattle.ipcz_world.proofs.facts.LinkTests.{same_side-opposite}
 use Rattle.ipcz_world.proofs.facts.Lengths.{same_side-itself, HasEnd, has_link-tells}
-use Rattle.ipcz_world.proofs.views.Telling.{old_begun}
-use Rattle.ipcz_world.proofs.views.Passing.{Passes, passes-tells, passes-at}
+use Rattle.ipcz_world.proofs.frames.Telling.{old_begun}
+use Rattle.ipcz_world.proofs.frames.Passing.{Passes, passes-tells, passes-at}
 
 -- a router whose outward primary link is the word's
 pub record IsOn (w : World) (g : Records) (k : Key) (r : Router) (i : ℕ) (s : Side) : Type 0 where

@@ -12,7 +12,7 @@ use Rattle.ipcz_world.proofs.Vocabulary.{is_begun, side_end, IsRecorded, is_outw
 use Rattle.ipcz_world.proofs.facts.Lengths.{has_link-some, side_is}
 use Rattle.ipcz_world.proofs.facts.LinkTests.{same_end-tells}
 use Rattle.ipcz_world.proofs.facts.Tests.{not_both, and_second}
-use Rattle.ipcz_world.proofs.flows.Flowing.{found}
+use Rattle.ipcz_world.proofs.frames.Flowing.{found}
 use Rattle.ipcz_world.proofs.Vocabulary.{same_end, same_side, has_link, Terminal, At, is_nowhere, total_list}
 use Rattle.ipcz_world.specs.Books.{is_closed, is_retired}
 use Rattle.ipcz_world.specs.Bypasses.{move_weight}
@@ -44,7 +44,7 @@ use Rattle.ipcz_world.specs.World.{new_world, new_nodes, numbers_from}
 use Rattle.ipcz_world.specs.Owed.{IsTerminalOn, IsDirectPair}
 use Rattle.ipcz_world.proofs.frames.Frames.{node-set_node, node-set_word, node-set_claimed, node-set_mail, count-set_node, count-set_word}
 use Rattle.ipcz_world.proofs.frames.Frames.{count-set_claimed, count-set_mail}
-use Rattle.ipcz_world.proofs.sends.Moved.{passes_tells}
+use Rattle.ipcz_world.proofs.acts.Moved.{passes_tells}
 use Rattle.ipcz_world.proofs.runs.NodeSteps.{IsKept}
 use Rattle.ipcz_world.proofs.lawful.Quiet.{key_of}
 use Rattle.ipcz_world.proofs.facts.Tests.{some_is}

@@ -9,12 +9,12 @@ use Rattle.ipcz_world.proofs.Vocabulary.{inner_of, Inv, same_link, Edge, has_dec
 use Rattle.ipcz_base.specs.declared.message.Message.TheVariants as messages
 use Rattle.ipcz_world.specs.Bypasses.{is_by}
 use Rattle.ipcz_world.specs.Owed.{IsBypassing, IsInnerOf, TakesAway, takes_link, IsEdgeOf}
-use Rattle.ipcz_world.proofs.flows.Flowing.{found}
+use Rattle.ipcz_world.proofs.frames.Flowing.{found}
 use Rattle.ipcz_world.proofs.lawful.LengthLaws.{outward_case, inward_case}
 use Rattle.ipcz_world.specs.Laws.{names_old}
-use Rattle.ipcz_world.proofs.sends.Moved.{passes_tells}
-use Rattle.ipcz_world.proofs.views.Telling.{IsPeer, IsAccept, IsStop, IsWillStop, peer_told, accept_told, stop_told, will_stop_told}
-use Rattle.ipcz_world.proofs.views.Telling.{one_holds}
+use Rattle.ipcz_world.proofs.acts.Moved.{passes_tells}
+use Rattle.ipcz_world.proofs.frames.Telling.{IsPeer, IsAccept, IsStop, IsWillStop, peer_told, accept_told, stop_told, will_stop_told}
+use Rattle.ipcz_world.proofs.frames.Telling.{one_holds}
 use Rattle.std.proofs.lemmas.Bool.{or_left, or_right}
 use Rattle.ipcz_world.proofs.facts.Lengths.{same_link-itself, HasEnd, has_link-tells}
 

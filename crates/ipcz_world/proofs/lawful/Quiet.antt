@@ -33,18 +33,18 @@ use Rattle.ipcz_world.specs.declared.step.Reply.TheVariants as replies
 use Rattle.ipcz_world.specs.Turns.{is_clear}
 use Rattle.ipcz_world.specs.Steps.{get_reply, got_reply}
 use Rattle.ipcz_world.specs.Records.{Nowhere, Moving, routes_of}
-use Rattle.ipcz_world.proofs.weights.OfRecords.{in_node, in_message, holds_times}
+use Rattle.ipcz_world.proofs.frames.OfRecords.{in_node, in_message, holds_times}
 use Rattle.ipcz_base.specs.Items.{same_item}
 use Rattle.ipcz_world.specs.WorldLaws.{QuietDelivers}
 use Rattle.ipcz_world.specs.Settling.{IsQuiet}
 use Rattle.ipcz_world.specs.Owed.{AreFlagged, IsDirectPair}
-use Rattle.ipcz_world.proofs.flows.Flowing.{found}
+use Rattle.ipcz_world.proofs.frames.Flowing.{found}
 use Rattle.ipcz_world.proofs.frames.Changing.{flow_is}
-use Rattle.ipcz_world.proofs.weights.Weighing.{in_places-is, in_router-is}
-use Rattle.ipcz_world.proofs.weights.Booking.{out_numbers}
+use Rattle.ipcz_world.proofs.frames.Weighing.{in_places-is, in_router-is}
+use Rattle.ipcz_world.proofs.frames.Booking.{out_numbers}
 use Rattle.ipcz_world.proofs.facts.Reaching.{is_reach, reach_one, left, right}
 use Rattle.ipcz_world.proofs.facts.Finding.{found_there, terminal_tells, find_above}
-use Rattle.ipcz_world.proofs.weights.Holding.{times_held-at}
+use Rattle.ipcz_world.proofs.frames.Holding.{times_held-at}
 use Rattle.ipcz_world.proofs.frames.Calling.{held_unclosed}
 use Rattle.ipcz_world.proofs.lawful.EachOnce.{once, in_queue-put}
 use Rattle.ipcz_world.proofs.facts.LinkTests.{opposite_end-twice, same_end-tells}

@@ -10,8 +10,8 @@ use Rattle.ipcz_world.proofs.Vocabulary.{control_weight, of_bypass}
 use Rattle.ipcz_world.proofs.Vocabulary.{Inv}
 use Rattle.ipcz_world.specs.Flows.{is_made_by}
 use Rattle.ipcz_world.specs.Settling.{IsQuiet}
-use Rattle.ipcz_world.proofs.flows.Awaited.{awaited_made}
-use Rattle.ipcz_world.proofs.flows.Flowing.{found}
+use Rattle.ipcz_world.proofs.frames.Awaited.{awaited_made}
+use Rattle.ipcz_world.proofs.frames.Flowing.{found}
 use Rattle.ipcz_world.proofs.frames.Opened.{opened}
 use Rattle.ipcz_world.proofs.lawful.OwedLaws.{one_of_four}
 use Rattle.ipcz_world.proofs.lawful.Quiet.{nothing-moves, quiet-flow}

@@ -14,7 +14,7 @@ use Rattle.ipcz_world.proofs.Vocabulary.{Books, read, Records, side_length, prox
 use Rattle.ipcz_world.proofs.Vocabulary.{total, total_list}
 use Rattle.ipcz_world.proofs.Vocabulary.{Standing, view, is_attached, has_primary, Inv, Weight, in_router, at_end, has_link}
 use Rattle.ipcz_world.proofs.Vocabulary.{standing_router}
-use Rattle.ipcz_world.proofs.owed.Following.{on-central}
+use Rattle.ipcz_world.proofs.lawful.Following.{on-central}
 use Rattle.ipcz_base.specs.Items.{same_item}
 use Rattle.ipcz_edge.specs.Edge.{is_short_of, choose, can_finish, has_come_to}
 use Rattle.ipcz_seq.specs.Queue.{reach}
@@ -33,7 +33,7 @@ use Rattle.ipcz_world.proofs.facts.Lengths.{HasEnd, has_link-tells, opposite-twi
 use Rattle.ipcz_world.proofs.facts.LinkTests.{opposite_end-twice, same_end-tells}
 use Rattle.ipcz_world.proofs.facts.Reaching.{is_reach}
 use Rattle.ipcz_world.proofs.facts.Tests.{some_is}
-use Rattle.ipcz_world.proofs.flows.Flowing.{found}
+use Rattle.ipcz_world.proofs.frames.Flowing.{found}
 use Rattle.ipcz_world.proofs.lawful.EachOnce.{once}
 use Rattle.ipcz_world.proofs.lawful.LengthLaws.{outward_case, attached_view}
 use Rattle.ipcz_world.proofs.lawful.Quiet.{nothing-moves, nothing-possible, choose-some, total-zero, total_below-zero, in_node-is}
@@ -49,11 +49,11 @@ use Rattle.ipcz_world.specs.Records.{Terminal, Nowhere, At, Moving, Retired}
 use Rattle.ipcz_world.specs.Bypasses.{move_weight}
 use Rattle.ipcz_world.specs.Flows.{of_end, moves_of}
 use Rattle.ipcz_world.proofs.Vocabulary.{is_nowhere}
-use Rattle.ipcz_world.proofs.sends.Moved.{passes_tells}
+use Rattle.ipcz_world.proofs.acts.Moved.{passes_tells}
 use Rattle.std.proofs.lemmas.Bool.{and_parts}
-use Rattle.ipcz_world.proofs.views.Bypassed as bypassed
-use Rattle.ipcz_world.proofs.weights.OfRecords.{in_node, in_message}
-use Rattle.ipcz_world.proofs.weights.Weighing.{in_places-is, in_router-is}
+use Rattle.ipcz_world.proofs.frames.Bypassed as bypassed
+use Rattle.ipcz_world.proofs.frames.OfRecords.{in_node, in_message}
+use Rattle.ipcz_world.proofs.frames.Weighing.{in_places-is, in_router-is}
 
 -- a decaying link is chosen below its length
 choose-decaying : (e : Edge) (n l : ℕ) → is_some e.decaying ≡ true → e.length_to ≡ Some l → n < l → is_some (choose e n) ≡ true

@@ -14,7 +14,7 @@ use Rattle.ipcz_world.proofs.Vocabulary.{has_primary, word_of, Inv, Weight, is_r
 use Rattle.ipcz_world.proofs.Vocabulary.{Terminal, At, side_end, is_nowhere}
 use Rattle.ipcz_base.specs.Ends.{end_at}
 use Rattle.ipcz_base.specs.declared.message.Message.TheVariants as messages
-use Rattle.ipcz_world.proofs.owed.Following.{on-central}
+use Rattle.ipcz_world.proofs.lawful.Following.{on-central}
 use Rattle.ipcz_word.specs.Word.{is_free}
 use Rattle.ipcz_router.specs.Router.{is_proxy, decays, is_on_central}
 use Rattle.ipcz_router.specs.declared.act.RouterAct.TheVariants as acts
@@ -35,17 +35,17 @@ use Rattle.ipcz_world.proofs.facts.Lengths.{side_is, has_link-tells}
 use Rattle.ipcz_world.proofs.facts.LinkTests.{opposite_end-twice, same_end-tells, same_end-itself}
 use Rattle.ipcz_world.proofs.facts.Tests.{some_is, and_second}
 use Rattle.std.proofs.lemmas.Option.{slice_get_within}
-use Rattle.ipcz_world.proofs.flows.Flowing.{found}
+use Rattle.ipcz_world.proofs.frames.Flowing.{found}
 use Rattle.ipcz_world.proofs.frames.Frames.{same_key_tells}
 use Rattle.ipcz_world.proofs.frames.OneRouter.{SameButRouter, remove-router}
 use Rattle.ipcz_world.proofs.lawful.LinkLaws.{link_law}
 use Rattle.ipcz_world.proofs.lawful.Quiet.{nothing-moves, total-zero, total_below-zero, in_node-is, router-is}
 use Rattle.ipcz_world.proofs.lawful.Quiet.{key_of, out-delivered}
 use Rattle.ipcz_world.proofs.lawful.QuietRoutes.{HasOuter, HasAcross, outer_router}
-use Rattle.ipcz_world.proofs.sends.Moved.{passes_tells}
-use Rattle.ipcz_world.proofs.weights.OfRecords.{in_places, in_node, in_message}
-use Rattle.ipcz_world.proofs.weights.Weighing.{in_places-is, in_router-is}
-use Rattle.ipcz_world.proofs.weights.Weights.{places-remove_router}
+use Rattle.ipcz_world.proofs.acts.Moved.{passes_tells}
+use Rattle.ipcz_world.proofs.frames.OfRecords.{in_places, in_node, in_message}
+use Rattle.ipcz_world.proofs.frames.Weighing.{in_places-is, in_router-is}
+use Rattle.ipcz_world.proofs.frames.Weights.{places-remove_router}
 use Rattle.ipcz_world.proofs.lawful.QuietDelivery.{primed, inward_proxy, idle, none_begun, still, calm, marked, free, sink_read, stayer_gone}
 
 -- a mark is found in a list that has one

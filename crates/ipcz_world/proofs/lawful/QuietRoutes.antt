@@ -31,12 +31,12 @@ use Rattle.ipcz_world.proofs.frames.RecordRules.{bypass_of-inner}
 use Rattle.ipcz_world.proofs.lawful.LengthLaws.{attached_view}
 use Rattle.ipcz_world.proofs.lawful.LinkLaws.{on_tells}
 use Rattle.ipcz_world.proofs.lawful.QuietBypasses.{settled, known_side, primary_live}
-use Rattle.ipcz_world.proofs.sends.Moved.{passes_tells}
+use Rattle.ipcz_world.proofs.acts.Moved.{passes_tells}
 use Rattle.ipcz_world.proofs.facts.Tests.{not_both}
-use Rattle.ipcz_world.proofs.views.LeftSides.{not_left}
+use Rattle.ipcz_world.proofs.frames.LeftSides.{not_left}
 use Rattle.ipcz_world.proofs.lawful.Quiet.{nothing-possible}
-use Rattle.ipcz_world.proofs.views.Bypassed as bypassed
-use Rattle.ipcz_world.proofs.views.Passing.{Passes, passes-tells}
+use Rattle.ipcz_world.proofs.frames.Bypassed as bypassed
+use Rattle.ipcz_world.proofs.frames.Passing.{Passes, passes-tells}
 
 -- a queue hasn't passed a number, and has no item of it
 pub record Lacks (q : Queue Item) (m : ℕ) : Type 0 where

@@ -15,12 +15,12 @@ use Rattle.std.proofs.lemmas.Option.{same_Some}
 use Rattle.ipcz_base.specs.declared.message.Message.TheVariants as messages
 use Rattle.ipcz_world.proofs.frames.RecordRules.{record_rules, unclaimed-is}
 use Rattle.ipcz_world.specs.Laws.{fresh_count, IsOnLink, names_link, WordLaw}
-use Rattle.ipcz_world.proofs.views.Telling.{IsPeer, peer_told, accept_told, stop_told, will_stop_told}
+use Rattle.ipcz_world.proofs.frames.Telling.{IsPeer, peer_told, accept_told, stop_told, will_stop_told}
 use Rattle.std.proofs.lemmas.Bool.{or_cases}
-use Rattle.ipcz_world.proofs.weights.Totalling.{total_below-same}
-use Rattle.ipcz_world.proofs.weights.Sums.{total_list-agree}
-use Rattle.ipcz_world.proofs.views.Passing.{Passes, passes-tells}
-use Rattle.ipcz_world.proofs.views.Having.{has_at}
+use Rattle.ipcz_world.proofs.frames.Totalling.{total_below-same}
+use Rattle.ipcz_world.proofs.frames.Sums.{total_list-agree}
+use Rattle.ipcz_world.proofs.frames.Passing.{Passes, passes-tells}
+use Rattle.ipcz_world.proofs.frames.Having.{has_at}
 
 pub is_link : (o : Owner) → is_linked o ≡ true → o ≡ Linked
 unfolding is_linked

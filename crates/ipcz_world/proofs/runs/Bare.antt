@@ -21,14 +21,14 @@ use Rattle.std.proofs.lemmas.Option.{none-some}
 use Rattle.ipcz_base.proofs.Totals.{total-empty}
 use Rattle.ipcz_world.specs.Books.{no_books}
 use Rattle.ipcz_world.specs.Records.{Unclaimed, Nowhere, Retired, is_left}
-use Rattle.ipcz_world.proofs.weights.OfRecords.{in_message, in_places, holds, held_times, none_holder}
+use Rattle.ipcz_world.proofs.frames.OfRecords.{in_message, in_places, holds, held_times, none_holder}
 use Rattle.ipcz_world.specs.Bypasses.{Moves, move_weight}
 use Rattle.std.specs.FinSet as sets
 use Rattle.ipcz_base.specs.Orders.{end_cmp}
-use Rattle.ipcz_world.proofs.weights.Booking.{flag}
+use Rattle.ipcz_world.proofs.frames.Booking.{flag}
 use Rattle.ipcz_world.proofs.frames.Changing.{flow_is}
 use Rattle.ipcz_world.proofs.facts.Tests.{not_both}
-use Rattle.ipcz_world.proofs.weights.Sums.{total_below-none}
+use Rattle.ipcz_world.proofs.frames.Sums.{total_below-none}
 
 -- nothing stands in the world
 pub record IsBare (w : World) : Type 0 where

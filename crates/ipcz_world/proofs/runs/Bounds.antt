@@ -29,8 +29,8 @@ use Rattle.ipcz_node.specs.Sends.{moved_ends, transfer_of, send_item, send}
 use Rattle.ipcz_node.specs.Hands.{make_terminals, tell, passes_at, fits, handle, deliver}
 use Rattle.ipcz_node.specs.Acts.{keep_or_drop, commit_router}
 use Rattle.ipcz_world.proofs.facts.Finding.{found_tells}
-use Rattle.ipcz_world.proofs.calls.Puts.{router_found}
-use Rattle.ipcz_world.proofs.sends.SendingMoves.{boxes_kept}
+use Rattle.ipcz_world.proofs.acts.Puts.{router_found}
+use Rattle.ipcz_world.proofs.acts.SendingMoves.{boxes_kept}
 
 -- a node has nothing to send to a number that is no node's
 abbrev pub IsBoxed : ℕ → Node → Type 0

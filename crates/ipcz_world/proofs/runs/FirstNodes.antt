@@ -16,7 +16,7 @@ use Rattle.ipcz_node.specs.FirstPairs.{add_pairs}
 use Rattle.ipcz_world.specs.World.{numbers_from}
 use Rattle.ipcz_world.specs.Books.{no_books}
 use Rattle.ipcz_world.specs.Records.{Unclaimed}
-use Rattle.ipcz_world.proofs.calls.OpenedNodes.{fresh_weight}
+use Rattle.ipcz_world.proofs.acts.OpenedNodes.{fresh_weight}
 
 -- a node with its end of one pair more
 abbrev pub add_one : Node → ℕ → (ℕ × ℕ) → Node

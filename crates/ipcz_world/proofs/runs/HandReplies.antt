@@ -30,7 +30,7 @@ use Rattle.ipcz_world.specs.Laws.{is_flush}
 use Rattle.ipcz_world.specs.Lawful.{Lawful}
 use Rattle.ipcz_world.specs.WorldLaws.{HandsFit, RepliesPlainly, OnlyFlushesStray, RepliesStrayNothing}
 use Rattle.ipcz_world.proofs.facts.Tests.{and_first}
-use Rattle.ipcz_world.proofs.routes.Seeing.{seen_event}
+use Rattle.ipcz_world.proofs.acts.Seeing.{seen_event}
 use Rattle.ipcz_world.proofs.runs.Running.{turn_reply}
 
 -- whether a message in hand is seen to be handled, of which kind it is said to be, and whether it is said not to fit

@@ -10,8 +10,8 @@ use Rattle.ipcz_world.proofs.acts.Updating.{acted-retire}
 use Rattle.ipcz_world.specs.Routes.{lose_spare}
 use Rattle.ipcz_world.proofs.acts.Updating.{acted-discard_leave}
 use Rattle.ipcz_world.proofs.acts.DroppingGone.{inv-discard_leave}
-use Rattle.ipcz_world.proofs.routes.Routing.{routes-left, routes-left_terminal}
-use Rattle.ipcz_world.proofs.routes.Seeing.{routes-leave, stays-lost}
+use Rattle.ipcz_world.proofs.acts.Routing.{routes-left, routes-left_terminal}
+use Rattle.ipcz_world.proofs.acts.Seeing.{routes-leave, stays-lost}
 use Rattle.ipcz_world.specs.Remembering.{leave_records}
 use Rattle.ipcz_world.proofs.Vocabulary.{End, Reply, Node}
 use Rattle.ipcz_world.specs.Records.{is_lost_owner}
@@ -49,8 +49,8 @@ use Rattle.ipcz_world.specs.Laws.{is_flush, KeepsLinks}
 use Rattle.ipcz_world.proofs.acts.Marking.{acted-mark}
 use Rattle.ipcz_world.proofs.acts.ActedWords.{acted-rest, acted-unlock, acted-lock, acted-claim, acted-dry}
 use Rattle.ipcz_world.proofs.acts.Updating.{acted-leave, acted-finish_out, acted-finish_in, acted-wake}
-use Rattle.ipcz_world.proofs.hands.Handling.{IsInHand, asked_at, found_asked, named, peer_is, accept_is, stop_is, will_stop_is, flush_is}
-use Rattle.ipcz_world.proofs.hands.Handling.{dropped_is, peer_fits, under_way-hand}
+use Rattle.ipcz_world.proofs.acts.Handling.{IsInHand, asked_at, found_asked, named, peer_is, accept_is, stop_is, will_stop_is, flush_is}
+use Rattle.ipcz_world.proofs.acts.Handling.{dropped_is, peer_fits, under_way-hand}
 use Rattle.ipcz_router.specs.Acts.{pop_out, send_on}
 use Rattle.ipcz_world.specs.declared.step.Step.TheVariants as steps
 use Rattle.ipcz_world.specs.Routes.{Routes, routes_after, routes_after_turn, add_link, add_peripherals}
@@ -63,31 +63,31 @@ use Rattle.ipcz_world.proofs.acts.Finishing.{inv-finish_out, inv-finish_in}
 use Rattle.ipcz_world.proofs.acts.Flags.{inv-rest, inv-dry}
 use Rattle.ipcz_world.proofs.acts.WordActs.{inv-mark, inv-unlock, inv-lock}
 use Rattle.ipcz_world.proofs.acts.Claiming.{inv-claim}
-use Rattle.ipcz_world.proofs.begins.BeginAct.{inv-begin, begin-possible, acted-begin}
+use Rattle.ipcz_world.proofs.acts.BeginAct.{inv-begin, begin-possible, acted-begin}
 use Rattle.ipcz_world.proofs.acts.Waking.{inv-wake, inv-flush, inv-flush_lost}
-use Rattle.ipcz_world.proofs.hands.HandingItems.{inv-item}
-use Rattle.ipcz_world.proofs.sends.SendingActs.{sent_records, acted-sent_out, acted-sent_in, inv-sent_out, inv-sent_in, out_chosen}
-use Rattle.ipcz_world.proofs.sends.SendingActs.{in_chosen}
-use Rattle.ipcz_world.proofs.hands.BypassPeer.{inv-peer}
-use Rattle.ipcz_world.proofs.hands.AcceptBypass.{inv-accept}
-use Rattle.ipcz_world.proofs.hands.StopProxying.{inv-stop}
-use Rattle.ipcz_world.proofs.hands.ProxyWillStop.{inv-will_stop}
+use Rattle.ipcz_world.proofs.acts.HandingItems.{inv-item}
+use Rattle.ipcz_world.proofs.acts.SendingActs.{sent_records, acted-sent_out, acted-sent_in, inv-sent_out, inv-sent_in, out_chosen}
+use Rattle.ipcz_world.proofs.acts.SendingActs.{in_chosen}
+use Rattle.ipcz_world.proofs.acts.BypassPeer.{inv-peer}
+use Rattle.ipcz_world.proofs.acts.AcceptBypass.{inv-accept}
+use Rattle.ipcz_world.proofs.acts.StopProxying.{inv-stop}
+use Rattle.ipcz_world.proofs.acts.ProxyWillStop.{inv-will_stop}
 use Rattle.ipcz_world.proofs.acts.Mailing.{step-look, step-post}
-use Rattle.ipcz_world.proofs.calls.Puts.{inv-pending}
-use Rattle.ipcz_world.proofs.calls.Gets.{inv-discard}
-use Rattle.ipcz_world.proofs.views.Telling.{IsPeer, peer_told}
-use Rattle.ipcz_world.proofs.calls.CallSteps.{open-kept, put-kept, get-kept, close-kept}
+use Rattle.ipcz_world.proofs.acts.Puts.{inv-pending}
+use Rattle.ipcz_world.proofs.acts.Gets.{inv-discard}
+use Rattle.ipcz_world.proofs.frames.Telling.{IsPeer, peer_told}
+use Rattle.ipcz_world.proofs.acts.CallSteps.{open-kept, put-kept, get-kept, close-kept}
 use Rattle.ipcz_world.proofs.runs.Running.{Kept, KeptBy, StepsKeep}
-use Rattle.ipcz_world.proofs.routes.Routing.{next_not_linked, routes-claim, routes-begin, routes-accept, routes-told, routes-ended}
-use Rattle.ipcz_world.proofs.routes.Routing.{routes-taken, routes-made, routes-sent_out, routes-sent_in}
-use Rattle.ipcz_world.proofs.routes.Seeing.{kind, router_kind, seen_event, taken_possible, hand_kind, is_send, routes-still}
-use Rattle.ipcz_world.proofs.routes.Seeing.{routes-send_out, routes-send_in, routes-hand, routes-peer, stays-same, stays-link}
-use Rattle.ipcz_world.proofs.routes.Seeing.{stays-peripherals}
+use Rattle.ipcz_world.proofs.acts.Routing.{next_not_linked, routes-claim, routes-begin, routes-accept, routes-told, routes-ended}
+use Rattle.ipcz_world.proofs.acts.Routing.{routes-taken, routes-made, routes-sent_out, routes-sent_in}
+use Rattle.ipcz_world.proofs.acts.Seeing.{kind, router_kind, seen_event, taken_possible, hand_kind, is_send, routes-still}
+use Rattle.ipcz_world.proofs.acts.Seeing.{routes-send_out, routes-send_in, routes-hand, routes-peer, stays-same, stays-link}
+use Rattle.ipcz_world.proofs.acts.Seeing.{stays-peripherals}
 use Rattle.std.proofs.lemmas.Bool.{and_parts}
 use Rattle.ipcz_world.proofs.runs.NodeSteps.{hand-is}
 use Rattle.ipcz_world.proofs.facts.Tests.{some_is}
 use Rattle.ipcz_world.specs.World.{has_unclaimed_word}
-use Rattle.ipcz_world.proofs.views.Having.{HasAt, has_at}
+use Rattle.ipcz_world.proofs.frames.Having.{HasAt, has_at}
 
 -- an event of another kind leaves the books
 books-other : (w : World) (b : Books) (n : ℕ) (event : Happened) → kind event ≡ 0 → after_turn w b n event ≡ b

@@ -22,14 +22,14 @@ use Rattle.ipcz_world.specs.WorldLaws.{StartsLawful, StepKeepsLawful, LinksStay,
 use Rattle.ipcz_world.proofs.lawful.LinkLaws.{link_law, bypass_law}
 use Rattle.ipcz_world.proofs.lawful.WordLaws.{word_law}
 use Rattle.ipcz_world.proofs.lawful.LengthLaws.{length_law}
-use Rattle.ipcz_world.proofs.views.StrayLaws.{stray_law}
-use Rattle.ipcz_world.proofs.routes.Seeing.{stays-same}
+use Rattle.ipcz_world.proofs.frames.StrayLaws.{stray_law}
+use Rattle.ipcz_world.proofs.acts.Seeing.{stays-same}
 use Rattle.ipcz_world.proofs.runs.NodeSteps.{IsKept, kept-step}
 use Rattle.ipcz_world.specs.Owed.{AreFlagged, FlagsAgree}
-use Rattle.ipcz_world.proofs.owed.StepWakers.{IsOwing, step_owing, step_came}
-use Rattle.ipcz_world.proofs.owed.Tracking.{Came}
+use Rattle.ipcz_world.proofs.lawful.StepWakers.{IsOwing, step_owing, step_came}
+use Rattle.ipcz_world.proofs.lawful.Tracking.{Came}
 use Rattle.ipcz_world.specs.Owed.{GoneUnread}
-use Rattle.ipcz_world.proofs.owed.StartWakers.{owing-start}
+use Rattle.ipcz_world.proofs.lawful.StartWakers.{owing-start}
 use Rattle.ipcz_world.specs.Settling.{IsBounded}
 use Rattle.ipcz_world.specs.Steps.{AnyAct}
 use Rattle.ipcz_world.proofs.runs.BoundedSteps.{bounded-step}

@@ -22,8 +22,8 @@ use Rattle.ipcz_world.specs.Settling.{IsBounded}
 use Rattle.ipcz_world.proofs.runs.Bare.{IsBare, IsUnnoted, inv-bare}
 use Rattle.ipcz_world.proofs.runs.FirstNodes.{empty_boxes, start_nodes, start, append_one, Good}
 use Rattle.ipcz_world.proofs.runs.StartingPairs.{within, beyond, is_start, mail_start, word_start, good_after}
-use Rattle.ipcz_world.proofs.weights.Booking.{length-more}
-use Rattle.ipcz_world.proofs.flows.Handing.{append_none}
+use Rattle.ipcz_world.proofs.frames.Booking.{length-more}
+use Rattle.ipcz_world.proofs.frames.Handing.{append_none}
 
 module _ (nodes words : ℕ) where
   -- a list's element stands in one of its two parts

@@ -1,6 +1,6 @@
 -- A world that begins with some pairs: one pair more, between two nodes, keeps the invariant.
 use Rattle.ipcz_word.specs.SideSets.{none}
-use Rattle.ipcz_world.proofs.weights.OfRecords.{holds, held_times, in_message, in_places}
+use Rattle.ipcz_world.proofs.frames.OfRecords.{holds, held_times, in_message, in_places}
 use Rattle.ipcz_world.proofs.Vocabulary.{Weight, in_router, times, Side, A, B, End, opposite_end, same_end, opposite, total, total_list}
 use Rattle.ipcz_world.proofs.Vocabulary.{Router, empty_word, open_word, Node, bare_node, outbox, Empty, World, Key, node_at, word_at}
 use Rattle.ipcz_world.proofs.Vocabulary.{mail_at, router_at, way, flow, messages_in, Records, Owner, Linked, Terminal, At, is_linked}
@@ -18,9 +18,9 @@ use Rattle.ipcz_node.specs.FirstPairs.{add_pairs}
 use Rattle.ipcz_world.specs.Books.{no_books}
 use Rattle.ipcz_world.specs.Records.{Unclaimed, CentralRecord}
 use Rattle.ipcz_world.proofs.frames.Changing.{flow_is}
-use Rattle.ipcz_world.proofs.weights.Holding.{holds-with_ends, times-with_ends, held_times-most, times_held-at}
+use Rattle.ipcz_world.proofs.frames.Holding.{holds-with_ends, times-with_ends, held_times-most, times_held-at}
 use Rattle.ipcz_world.proofs.frames.Calling.{nowhere_unheld}
-use Rattle.ipcz_world.proofs.weights.Booking.{end_tells, flag, length-more}
+use Rattle.ipcz_world.proofs.frames.Booking.{end_tells, flag, length-more}
 use Rattle.ipcz_world.proofs.frames.FreshPairs.{IsNew, IsGrown, fresh_at, end_of}
 use Rattle.ipcz_world.proofs.frames.FirstLink.{inv-grown}
 use Rattle.ipcz_world.proofs.runs.FirstNodes.{add_one, add_last, IsStart, bare_start, all_start, start, start_node, start_mail, start_word}
@@ -28,7 +28,7 @@ use Rattle.ipcz_world.proofs.runs.FirstNodes.{total_plus, total_one, not_linked,
 use Rattle.ipcz_world.proofs.runs.FirstNodes.{unclaimed_is, weight, Good}
 use Rattle.ipcz_world.proofs.facts.Tests.{not_both}
 use Rattle.ipcz_world.proofs.runs.Bare.{not_spare, not_fresh}
-use Rattle.ipcz_world.proofs.weights.Sums.{total_below-none}
+use Rattle.ipcz_world.proofs.frames.Sums.{total_below-none}
 use Rattle.ipcz_world.proofs.facts.LinkTests.{same_end-tells}
 
 module _ (nodes words : ℕ) where

@@ -35,7 +35,7 @@ use Rattle.ipcz_world.specs.WorldLaws.{BeginsUnderLock, BeginsLocked}
 use Rattle.ipcz_world.proofs.lawful.LinkLaws.{IsOn, on_tells, holder_is}
 use Rattle.ipcz_world.proofs.lawful.EachOnce.{in_queue-put}
 use Rattle.ipcz_world.proofs.runs.Running.{turn_reply}
-use Rattle.ipcz_world.proofs.routes.Seeing.{kind, router_kind, seen_event, taken_possible, hand_kind}
+use Rattle.ipcz_world.proofs.acts.Seeing.{kind, router_kind, seen_event, taken_possible, hand_kind}
 
 -- an event of another kind leaves the books, and is allowed
 plain-other : (w : World) (b : Books) (n : ℕ) (event : Happened) → kind event ≡ 0 → PlainTurn b event (after_turn w b n event)

@@ -1,6 +1,6 @@
 use Rattle.ipcz_world.proofs.Whole.{each_step_keeps_lawful, first_acts_are_possible, replies_plainly}
-use Rattle.ipcz_world.proofs.ranks.Rating.{turns_keep_rates}
-use Rattle.ipcz_world.proofs.ranks.Settling.{unsettled_is_bounded}
+use Rattle.ipcz_world.proofs.lawful.Rating.{turns_keep_rates}
+use Rattle.ipcz_world.proofs.lawful.Settling.{unsettled_is_bounded}
 use Rattle.ipcz_world.proofs.laws.an_unsettled_settle_had_a_limit_below_the_rank.Goals as goal
 
 pub returns : goal.returns

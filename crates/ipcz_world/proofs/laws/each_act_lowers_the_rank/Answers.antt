@@ -1,4 +1,4 @@
-use Rattle.ipcz_world.proofs.ranks.Paying.{acts_lower_the_rank}
+use Rattle.ipcz_world.proofs.lawful.Paying.{acts_lower_the_rank}
 use Rattle.ipcz_world.proofs.laws.each_act_lowers_the_rank.Goals as goal
 
 pub returns : goal.returns

@@ -1,4 +1,4 @@
-use Rattle.ipcz_world.proofs.ranks.Settling.{plain_are_rated}
+use Rattle.ipcz_world.proofs.lawful.Settling.{plain_are_rated}
 use Rattle.ipcz_world.proofs.laws.parcels_without_ends_have_rates.Goals as goal
 
 pub returns : goal.returns

@@ -1,6 +1,6 @@
 use Rattle.ipcz_world.proofs.Whole.{each_step_keeps_lawful, first_acts_are_possible, replies_plainly}
-use Rattle.ipcz_world.proofs.ranks.Rating.{turns_keep_rates}
-use Rattle.ipcz_world.proofs.ranks.Settling.{plain_limit_is_enough}
+use Rattle.ipcz_world.proofs.lawful.Rating.{turns_keep_rates}
+use Rattle.ipcz_world.proofs.lawful.Settling.{plain_limit_is_enough}
 use Rattle.ipcz_world.proofs.laws.the_plain_limit_is_enough.Goals as goal
 
 pub returns : goal.returns

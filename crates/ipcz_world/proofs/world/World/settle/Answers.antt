@@ -13,8 +13,8 @@ use Rattle.ipcz_world.specs.declared.step.Settled.{Settled}
 use Rattle.ipcz_world.specs.Ranks.{TurnsKeepRates}
 use Rattle.ipcz_world.specs.SettleBounds.{IsLawfulSettle, IsLawfulRefusal}
 use Rattle.ipcz_world.proofs.Whole.{each_step_keeps_lawful, first_acts_are_possible, replies_plainly}
-use Rattle.ipcz_world.proofs.ranks.Rating.{turns_keep_rates}
-use Rattle.ipcz_world.proofs.ranks.Settling.{answer_fits, visits_are_bounded}
+use Rattle.ipcz_world.proofs.lawful.Rating.{turns_keep_rates}
+use Rattle.ipcz_world.proofs.lawful.Settling.{answer_fits, visits_are_bounded}
 
 -- what the laws say of the turns of a settle
 rates : TurnsKeepRates

@@ -7,7 +7,7 @@ use Rattle.ipcz_world.specs.SettleBounds.{CarryNone, plain_limit}
 use Rattle.ipcz_world.specs.SettleLimit.{settle_limit}
 use Rattle.ipcz_world.specs.Tallies.{Tells}
 use Rattle.ipcz_world.proofs.code.Regular.{lawful-regular}
-use Rattle.ipcz_world.proofs.ranks.Limits.{rank_is_within_limit}
+use Rattle.ipcz_world.proofs.lawful.Limits.{rank_is_within_limit}
 use Rattle.ipcz_world.proofs.world.World.settle_limit.Goals as goal
 
 -- a limit that is told is enough

@@ -1,0 +1,487 @@
+-- The proxy learns its lengths, and tells the router inward.
+use Rattle.ipcz_world.proofs.frames.LiveLinks.{live-kept}
+use Rattle.ipcz_world.proofs.frames.Sealing.{live_of}
+use Rattle.ipcz_world.proofs.Vocabulary.{Weight, in_router, Side, A, B, End, LinkId, Central, LinkEnd, Descriptor, Item, Message}
+use Rattle.ipcz_world.proofs.Vocabulary.{opposite, has_link, Router, router_has, inward_edge, Edge, World, Key, same_key, mail_at, way}
+use Rattle.ipcz_world.proofs.Vocabulary.{router_at, Books, Records, is_begun, inner_link, side_node, side_router, bypass_of, proxy_side}
+use Rattle.ipcz_world.proofs.Vocabulary.{across_side, known_from, has_decaying, has_inward_decaying, IsUnderWay, makes, is_made_before}
+use Rattle.ipcz_world.proofs.Vocabulary.{under_way, moves_of, of_end, total_list, Told, of_bypass, control_weight, inner_of, Inv}
+use Rattle.ipcz_world.specs.Places.{in_message as in_message'}
+use Rattle.std.specs.Prelude.{◌≡◌, ◌≢◌, ◌⊎◌, ◌<◌, ◌≤◌, ℕ, ◌+◌, true, false, nat_eq, is_some, is_none, option_map, unwrap_or, Option, Some}
+use Rattle.std.specs.Prelude.{None, List, refl}
+use Rattle.std.proofs.Common.{arith, ap, ◌∙◌, sym, inl, inr}
+use Rattle.std.proofs.lemmas.Bool.Decides.{nat_tests}
+use Rattle.std.proofs.lemmas.Option.{none-some, same_Some}
+use Rattle.ipcz_base.specs.declared.message.Message.TheVariants as messages
+use Rattle.ipcz_edge.specs.Edge.{no_edge, set_length_to, set_length_from}
+use Rattle.ipcz_router.specs.Bypass.{stop_proxying}
+use Rattle.ipcz_world.specs.declared.mail.Mail.TheVariants as mails
+use Rattle.ipcz_world.proofs.frames.Frames.{same_key-itself}
+use Rattle.ipcz_world.proofs.frames.RecordRules.{bypass_of-inner}
+use Rattle.ipcz_world.specs.Remembering.{told_records}
+use Rattle.ipcz_world.proofs.frames.OfRecords.{in_places}
+use Rattle.ipcz_world.specs.Acts.{CanHand, stop_act}
+use Rattle.ipcz_world.proofs.frames.Handing.{handed_on, place_before, was_under_way, was_made_before, under_way-handed_on, word-handed_on}
+use Rattle.ipcz_world.proofs.frames.Handing.{hand-handed_on, mail-handed_on, changed-handed_on}
+use Rattle.ipcz_world.proofs.frames.Placing.{places-handed_on}
+use Rattle.ipcz_world.proofs.frames.Unmoved.{IsLike, Changed, Carried, Agree, side_node-agree, bypass_of-agree, about-agree, expected-agree}
+use Rattle.ipcz_world.proofs.frames.Unmoved.{places-agree, ordered-kept, spares-kept, moves-kept, terminals-kept, end_places-kept}
+use Rattle.ipcz_world.proofs.frames.Unmoved.{books_kept-kept, conserved-kept, held_once-kept, no_strays-kept}
+use Rattle.ipcz_world.proofs.frames.Counting.{IsReceived, counts-received}
+use Rattle.ipcz_world.proofs.facts.Lengths.{HasEnd, has_link-tells, passed, known_from-yes, known_from-no}
+use Rattle.ipcz_world.proofs.acts.BypassAsked.{IsStopped, stopped}
+use Rattle.ipcz_world.proofs.frames.StageFurther as further
+use Rattle.ipcz_world.proofs.frames.StageFurtherNumbers as numbers
+use Rattle.ipcz_world.proofs.frames.StageFurther.{IsLinkedLike}
+use Rattle.ipcz_world.proofs.frames.Sealing.{Sealed, Closed, opened, counts_of, links_of, positions_of, bypasses_of, stages_of, told_of}
+use Rattle.ipcz_world.proofs.frames.Sealing.{ordered_of, spares_of, moves_of as moves_law, terminals_of, end_places_of, books_kept_of}
+use Rattle.ipcz_world.proofs.frames.Sealing.{conserved_of, held_once_of, no_strays_of}
+use Rattle.ipcz_world.proofs.frames.Frames.{OneOrBefore, one_or_before}
+use Rattle.ipcz_world.proofs.frames.Having.{has_at}
+
+-- what the hand of the message needs: the router that has the old link is asked; its inward decaying link is e
+pub record CanStop (w : World) (from : ℕ) (k : Key) (r : Router) (e : LinkEnd) (o : ℕ) (side : Side) (in_length out_length : ℕ) : Type 0
+  where
+    pub hand : CanHand w from k r (messages.StopProxying o side in_length out_length)
+    pub has : router_has r (Central o) side ≡ true
+    pub on : (inward_edge r).decaying ≡ Some e
+
+abbrev learned : ℕ → ℕ → Edge → Edge
+learned in_length out_length edge = set_length_from (set_length_to edge in_length) out_length
+
+abbrev edge_in : Option Edge → Edge
+edge_in t = unwrap_or t no_edge
+
+none_mapped : (t : Option Edge) (f : Edge → Edge) → is_none (option_map f t) ≡ is_none t
+none_mapped None f = refl
+none_mapped (Some c) f = refl
+
+module _ (w : World) (b : Books) (g : Records) (from : ℕ) (k : Key) (r : Router) (e : LinkEnd) (o : ℕ) (side : Side)
+    (in_length out_length : ℕ) (law : Sealed w b g) (can : Closed (CanStop w from k r e o side in_length out_length)) where
+  pub here : router_at w k ≡ Some r
+  here = (opened can).hand.here
+
+  pub in_hand : mail_at w (way w from k.node) ≡ mails.Hand (messages.StopProxying o side in_length out_length)
+  in_hand = (opened can).hand.in_hand
+
+  pub on : (inward_edge r).decaying ≡ Some e
+  on = (opened can).on
+
+  on_node : k.node < w.count
+  on_node = (counts_of law).on_node k r here
+
+  from_node : from < w.count
+  from_node = (counts_of law).hand_from k.node from on_node (opened can).hand.hand
+
+  pub is : IsStopped g from k o side in_length out_length
+  is = stopped w g from k o side in_length out_length (told_of law) from_node on_node in_hand
+
+  begun : is_begun (g.bypass o) ≡ true
+  begun = grind (arith, is.stage, nat_tests)
+
+  -- the router is the proxy
+  known : side_router g (Central o) (proxy_side g o) ≡ Some k
+  known = rw is.at_side at ((has_at w g k r (Central o) side (links_of law) here (opened can).has).router)
+
+  proxy_is : (g.bypass o).proxy ≡ k
+  proxy_is = same_Some _ _ (sym ((bypasses_of law o).proxy_old begun) ∙ known)
+
+  pub y_old : has_link r.outward.decaying (Central o) (proxy_side g o) ≡ true
+  y_old = sym (passed w k r (has_decaying (Central o) (proxy_side g o)) here) ∙ rw proxy_is at
+      ((stages_of law o).proxy_old begun (omega (arith, is.stage)))
+
+  y_inner : has_link (inward_edge r).decaying (inner_of g o) A ≡ true
+  y_inner = sym (passed w k r (has_inward_decaying (inner_of g o) A) here) ∙ rw proxy_is at
+      ((stages_of law o).proxy_inner begun (omega (arith, is.stage)))
+
+  pub y_end : HasEnd r.outward.decaying (Central o) (proxy_side g o)
+  y_end = has_link-tells r.outward.decaying (Central o) (proxy_side g o) y_old
+
+  pub inner_end : HasEnd (inward_edge r).decaying (inner_of g o) A
+  inner_end = has_link-tells (inward_edge r).decaying (inner_of g o) A y_inner
+
+  e_is : e ≡ inner_end.end
+  e_is = same_Some _ _ (sym on ∙ inner_end.there)
+
+  on_inner : e.link ≡ inner_of g o
+  on_inner = ap (λ d. d.link) e_is ∙ inner_end.on_link
+
+  at_a : e.side ≡ A
+  at_a = ap (λ d. d.side) e_is ∙ inner_end.at_side
+
+  alone : r.outward.primary ≡ None
+  alone = ((positions_of law).each k r here).own_alone y_end.end o y_end.there y_end.on_link y_end.at_side
+
+  pub y_begun : g.begun k ≡ Some o
+  y_begun = ap g.begun (sym proxy_is) ∙ (positions_of law).proxy_begun o begun
+
+  abbrev x : Router
+  x = stop_proxying r in_length out_length
+
+  abbrev sent : Message
+  sent = messages.ProxyWillStop e.link (opposite e.side) in_length
+
+  abbrev v : World
+  v = handed_on w from k x e.other sent
+
+  abbrev came : Message
+  came = messages.StopProxying o side in_length out_length
+
+  like : IsLike r x
+  like = record {
+    end = refl;
+    out_queue = refl;
+    in_queue = refl;
+    terminal = none_mapped r.inward (learned in_length out_length);
+    closed =
+        refl;
+    mark_seen = refl;
+    mark_dropped = refl;
+    gone_sent = refl;
+    spare = refl;
+  }
+
+  edge_kept : (t : Option Edge) → (edge_in (option_map (learned in_length out_length) t)).primary ≡ (edge_in t).primary
+  edge_kept None = refl
+  edge_kept (Some c) = refl
+
+  edge_kept-decaying : (t : Option Edge) → (edge_in (option_map (learned in_length out_length) t)).decaying ≡ (edge_in t).decaying
+  edge_kept-decaying None = refl
+  edge_kept-decaying (Some c) = refl
+
+  edge_learned : (t : Option Edge) (d : LinkEnd) → (edge_in t).decaying ≡ Some d →
+      ((edge_in (option_map (learned in_length out_length) t)).length_to ≡ Some in_length) ×
+      ((edge_in (option_map (learned in_length out_length) t)).length_from ≡ Some out_length)
+  edge_learned None d m = absurd (none-some d m)
+  edge_learned (Some c) d m = (refl, refl)
+
+  linked : IsLinkedLike r x
+  linked = record {
+    primary = refl;
+    decaying = refl;
+    inward_primary = edge_kept r.inward;
+    inward_decaying = edge_kept-decaying r.inward;
+    marked = refl;
+    holds = refl;
+  }
+
+  changed : Changed w v k r x
+  changed = changed-handed_on w from k r x e.other sent here
+
+  was : (a c i : ℕ) (m : Message) → (m ≡ sent → ⊥) → IsUnderWay v a c i m → IsUnderWay w a c (place_before from k.node a c i) m
+  was a c i m new u = go (was_under_way w from k x e.other sent came a c i m on_node in_hand u)
+    where
+      go : IsUnderWay w a c (place_before from k.node a c i) m ⊎ (m ≡ sent) → IsUnderWay w a c (place_before from k.node a c i) m
+      go (inl t) = t
+      go (inr t) = absurd (new t)
+
+  was_item : (a c i : ℕ) (l : LinkId) (s : Side) (n : ℕ) (item : Item) (moves : List Descriptor) →
+      IsUnderWay v a c i (messages.Item l s n item moves) → IsUnderWay w a c (place_before from k.node a c i)
+      (messages.Item l s n item moves)
+  was_item a c i l s n item moves u = was a c i (messages.Item l s n item moves) (λ m. grind (arith, m)) u
+
+  abbrev carried : Carried w v
+  carried = record { place = place_before from k.node; was = was_item }
+
+  made : (a c i : ℕ) (l : LinkId) (s : Side) → c < w.count → is_made_before w a c (place_before from k.node a c i) l s ≡ true →
+      is_made_before v a c i l s ≡ true
+  unfolding makes
+  made a c i l s m = was_made_before w from k x e.other sent came a c i l s on_node m in_hand refl
+
+  late : 3 ≤ 3
+  late = omega arith
+
+  early : 3 ≤ 4
+  early = omega arith
+
+  abbrev h : Records
+  h = further.h law changed like linked carried is.stage late early
+
+  agree : Agree g h
+  agree = further.agree law changed like linked carried is.stage late early
+
+  itself : (n : ℕ) → nat_eq n n ≡ true
+  itself n = grind (arith, nat_tests)
+
+  stage_after : (h.bypass o).stage ≡ 4
+  stage_after = rw (itself o) refl
+
+  at_o : (j : ℕ) → ((nat_eq j o ≡ true) × (j ≡ o)) ⊎ ((nat_eq j o ≡ false) × (j ≢ o))
+  at_o j = grind (arith, nat_tests)
+
+  split : (q : Key) (t : Router) → router_at v q ≡ Some t → OneOrBefore w k x q t
+  split q t e = one_or_before w v k x changed.router q t e
+
+  -- the asked router's decaying link is the old one, at the proxy's side
+  x_dec : (t : Router) (d : LinkEnd) → x ≡ t → t.outward.decaying ≡ Some d → (d.link ≡ Central o) × (d.side ≡ proxy_side g o)
+  x_dec t d m n = let same : d ≡ y_end.end = same_Some d y_end.end (sym n ∙ ap (λ u. u.outward.decaying) (sym m) ∙ y_end.there) in
+      (ap (λ u. u.link) same ∙ y_end.on_link, ap (λ u. u.side) same ∙ y_end.at_side)
+
+  central_is : (i j : ℕ) → Central i ≡ Central j → i ≡ j
+  central_is i j p = grind (arith, p)
+
+  not_both : (i : ℕ) (p : Key) → Central i ≡ inner_link p → ⊥
+  not_both i p q = grind (arith, q)
+
+  sides_differ : (s : Side) → s ≡ opposite s → ⊥
+  sides_differ A m = grind (arith, m)
+  sides_differ B m = grind (arith, m)
+
+  known4 : (n : ℕ) → known_from 4 (h.bypass o).stage n ≡ Some n
+  known4 n = rw stage_after (known_from-yes 4 4 n (omega arith))
+
+  known5 : (j n : ℕ) → known_from 5 (h.bypass j).stage n ≡ known_from 5 (g.bypass j).stage n
+  known5 j n = grind (arith, at_o j, is.stage, known_from-no 5 4 n, known_from-no 5 3 n)
+
+  not_k : (q : Key) → same_key q k ≡ false → q ≡ k → ⊥
+  not_k q m n = grind (arith, m, n, same_key-itself k)
+
+  abbrev At : ℕ → Type 0
+  At j = ((nat_eq j o ≡ true) × (j ≡ o)) ⊎ ((nat_eq j o ≡ false) × (j ≢ o))
+
+  -- the begun bypass of the proxy is this one
+  begun_is : (q : Key) (j : ℕ) → q ≡ k → g.begun q ≡ Some j → o ≡ j
+  begun_is q j m n = same_Some o j (sym y_begun ∙ ap g.begun (sym m) ∙ n)
+
+  begun_apart : (q : Key) (j : ℕ) → same_key q k ≡ false → g.begun q ≡ Some j → nat_eq j o ≡ true → j ≡ o → ⊥
+  begun_apart q j m n t p = not_k q m (sym ((positions_of law).begun_proxy q o (n ∙ ap Some p)) ∙ proxy_is)
+
+  owes : numbers.LengthsOwe law changed like linked carried is.stage late early
+  owes = record {
+    inward_to = λ q t d j m p n. inward_to_at q t d j p n (split q t m) (at_o j);
+    inward_from = λ q t d j m p n. inward_from_at q t d j p n (split q t m) (at_o j);
+    inner_to = λ q t d p j a m l n. ((positions_of law).each q t (inner_at q t d p m l (split q t a))).inner_to d p j m l n;
+    inner_from = λ q t d p j a m l n. ((positions_of law).each q t (inner_at q t d p m l (split q t a))).inner_from d p j m l n ∙ sym
+        (known5 j (g.bypass j).accepted_at);
+    own_to = λ q t d j a m l n. own_to_at q t d j m l n (split q t a) (at_o j);
+    own_from = λ q t d j a m l n. own_from_at q t d j m l n (split q t a) (at_o j);
+    across_to = λ q t d j a m l n. ((positions_of law).each q t (across_at q t d j m l n (split q t a))).across_to d j m l n;
+    across_from = λ q t d j a m l n. ((positions_of law).each q t (across_at q t d j m l n (split q t a))).across_from d j m l n;
+  }
+    where
+      inward_to_at : (q : Key) (t : Router) (d : LinkEnd) (j : ℕ) → (inward_edge t).decaying ≡ Some d → g.begun q ≡ Some j →
+          OneOrBefore w k x q t →
+          At j → (inward_edge t).length_to ≡ known_from 4 (h.bypass j).stage (g.bypass j).accepted_at
+      inward_to_at q t d j p n (inl m) a = let same : o ≡ j = begun_is q j m.0 n in
+          ap (λ u. (inward_edge u).length_to) (sym m.1) ∙ (edge_learned r.inward e on).0 ∙ ap Some is.accepted ∙ sym
+          (known4 (g.bypass o).accepted_at) ∙ ap (λ i. known_from 4 (h.bypass i).stage (g.bypass i).accepted_at) same
+      inward_to_at q t d j p n (inr m) (inl a) = absurd (begun_apart q j m.0 n a.0 a.1)
+      inward_to_at q t d j p n (inr m) (inr a) = rw a.0 (((positions_of law).each q t m.1).inward_to d j p n)
+
+      inward_from_at : (q : Key) (t : Router) (d : LinkEnd) (j : ℕ) → (inward_edge t).decaying ≡ Some d → g.begun q ≡ Some j →
+          OneOrBefore w k x q t →
+          At j → (inward_edge t).length_from ≡ known_from 4 (h.bypass j).stage (g.bypass j).taken_at
+      inward_from_at q t d j p n (inl m) a = let same : o ≡ j = begun_is q j m.0 n in
+          ap (λ u. (inward_edge u).length_from) (sym m.1) ∙ (edge_learned r.inward e on).1 ∙ ap Some is.taken ∙ sym
+          (known4 (g.bypass o).taken_at) ∙ ap (λ i. known_from 4 (h.bypass i).stage (g.bypass i).taken_at) same
+      inward_from_at q t d j p n (inr m) (inl a) = absurd (begun_apart q j m.0 n a.0 a.1)
+      inward_from_at q t d j p n (inr m) (inr a) = rw a.0 (((positions_of law).each q t m.1).inward_from d j p n)
+
+      inner_at : (q : Key) (t : Router) (d : LinkEnd) (p : Key) → t.outward.decaying ≡ Some d → d.link ≡ inner_link p →
+          OneOrBefore w k x q t →
+          router_at w q ≡ Some t
+      inner_at q t d p m l (inl c) = absurd (not_both o p (sym (x_dec t d c.1 m).0 ∙ l))
+      inner_at q t d p m l (inr c) = c.1
+
+      across_at : (q : Key) (t : Router) (d : LinkEnd) (j : ℕ) → t.outward.decaying ≡ Some d → d.link ≡ Central j →
+          d.side ≡ across_side g j → OneOrBefore w k x q t → router_at w q ≡ Some t
+      across_at q t d j m l n (inl c) = let same : o ≡ j = central_is o j (sym (x_dec t d c.1 m).0 ∙ l) in
+          absurd (sides_differ (proxy_side g o) (sym (x_dec t d c.1 m).1 ∙ n ∙ ap (across_side g) (sym same)))
+      across_at q t d j m l n (inr c) = c.1
+
+      own_apart : (q : Key) (t : Router) (d : LinkEnd) (j : ℕ) → same_key q k ≡ false → router_at w q ≡ Some t →
+          t.outward.decaying ≡ Some d → d.link ≡ Central j → d.side ≡ proxy_side g j → j ≡ o → ⊥
+      own_apart q t d j c a m l n p = not_k q c (sym (((positions_of law).each q t a).own_proxy d j m l n) ∙ ap (λ i. (g.bypass i).proxy) p ∙
+          proxy_is)
+
+      own_to_at : (q : Key) (t : Router) (d : LinkEnd) (j : ℕ) → t.outward.decaying ≡ Some d → d.link ≡ Central j →
+          d.side ≡ proxy_side g j → OneOrBefore w k x q t → At j → t.outward.length_to ≡ known_from 4 (h.bypass j).stage
+          (g.bypass j).taken_at
+      own_to_at q t d j m l n (inl c) a = let same : o ≡ j = central_is o j (sym (x_dec t d c.1 m).0 ∙ l) in
+          ap (λ u. u.outward.length_to) (sym c.1) ∙ ap Some is.taken ∙ sym (known4 (g.bypass o).taken_at) ∙ ap
+          (λ i. known_from 4 (h.bypass i).stage (g.bypass i).taken_at) same
+      own_to_at q t d j m l n (inr c) (inl a) = absurd (own_apart q t d j c.0 c.1 m l n a.1)
+      own_to_at q t d j m l n (inr c) (inr a) = rw a.0 (((positions_of law).each q t c.1).own_to d j m l n)
+
+      own_from_at : (q : Key) (t : Router) (d : LinkEnd) (j : ℕ) → t.outward.decaying ≡ Some d → d.link ≡ Central j →
+          d.side ≡ proxy_side g j → OneOrBefore w k x q t → At j → t.outward.length_from ≡ known_from 4 (h.bypass j).stage
+          (g.bypass j).accepted_at
+      own_from_at q t d j m l n (inl c) a = let same : o ≡ j = central_is o j (sym (x_dec t d c.1 m).0 ∙ l) in
+          ap (λ u. u.outward.length_from) (sym c.1) ∙ ap Some is.accepted ∙ sym (known4 (g.bypass o).accepted_at) ∙ ap
+          (λ i. known_from 4 (h.bypass i).stage (g.bypass i).accepted_at) same
+      own_from_at q t d j m l n (inr c) (inl a) = absurd (own_apart q t d j c.0 c.1 m l n a.1)
+      own_from_at q t d j m l n (inr c) (inr a) = rw a.0 (((positions_of law).each q t c.1).own_from d j m l n)
+
+  y_is : (t : Router) → router_at w (g.bypass o).proxy ≡ Some t → r ≡ t
+  y_is t m = same_Some r t (sym here ∙ ap (router_at w) (sym proxy_is) ∙ m)
+
+  proxy_owes : numbers.ProxyOwes law changed like linked carried is.stage late early
+  proxy_owes = record {
+    out_finished = λ t m n. absurd (none-some y_end.end (sym (ap (λ u. u.outward.decaying) (y_is t m) ∙ n) ∙ y_end.there));
+    in_finished = λ t m n. absurd (none-some e (sym (ap (λ u. (inward_edge u).decaying) (y_is t m) ∙ n) ∙ on));
+    inner_there = λ m. absurd (omega (arith, m));
+  }
+
+  e_other : e.other ≡ side_node g (inner_of g o) B
+  e_other = (((links_of law) k r here).inward_decaying e on).other ∙ ap (λ l. side_node g l (opposite e.side)) on_inner ∙ ap
+      (λ s. side_node g (inner_of g o) (opposite s)) at_a
+
+  to_node : e.other < w.count
+  to_node = rw e_other ((counts_of law).side_on_node (inner_of g o) B ((bypasses_of law o).inner begun))
+
+  by_o : bypass_of g (inner_of g o) ≡ Some o
+  by_o = bypass_of-inner g (g.bypass o).inner ∙ (bypasses_of law o).inner_by begun
+
+  expected_before : (t : ℕ → ℕ → Message → ℕ) → control_weight g t o ≡ t from k.node came
+  unfolding control_weight
+  expected_before t = rw is.stage (λ i. t (sym is.sender i) (sym is.receiver i)
+      (messages.StopProxying o (sym is.at_side i) (sym is.accepted i) (sym is.taken i)))
+
+  expected_after : (t : ℕ → ℕ → Message → ℕ) → control_weight h t o ≡ t k.node e.other sent
+  unfolding control_weight
+  expected_after t = rw stage_after (λ i. t (proxy i) (inward i) (messages.ProxyWillStop (link i) (b_side i) (accepted i)))
+    where
+      proxy : (h.bypass o).proxy.node ≡ k.node
+      proxy = ap (λ q. q.node) (agree.proxy o ∙ proxy_is)
+
+      inward : side_node h (inner_of h o) B ≡ e.other
+      inward = ap (λ p. side_node h (inner_link p) B) (agree.inner o) ∙ side_node-agree g h agree (inner_of g o) B ∙ sym e_other
+
+      link : inner_of h o ≡ e.link
+      link = ap inner_link (agree.inner o) ∙ sym on_inner
+
+      b_side : B ≡ opposite e.side
+      b_side = ap opposite (sym at_a)
+
+      accepted : (h.bypass o).accepted_at ≡ in_length
+      accepted = further.accepted_same law changed like linked carried is.stage late early o ∙ sym is.accepted
+
+  about_came : (t : Message → ℕ) → of_bypass g o t came ≡ t came
+  unfolding of_bypass
+  about_came t = rw (itself o) refl
+
+  about_sent : (t : Message → ℕ) → of_bypass g o t sent ≡ t sent
+  unfolding of_bypass
+  about_sent t = rw (on_inner, by_o, itself o) refl
+
+  about_none : (j : ℕ) (f f' : Message → ℕ) → nat_eq o j ≡ false → of_bypass g j f sent ≡ of_bypass g j f' came
+  unfolding of_bypass
+  about_none j f f' m = rw (on_inner, by_o, m) refl
+
+  told-stop : Told v h
+  told-stop = record {
+    control = λ j t. control_at j t (at_o j);
+    will_stop = λ a c i l s n u. ap is_some (bypass_of-agree g h agree l) ∙ will_stop_at a c i l s n
+        (was_under_way w from k x e.other sent came a c i (messages.ProxyWillStop l s n) on_node in_hand u);
+    behind = λ a c i l s old target new u none. let u' : IsUnderWay w a c (place_before from k.node a c i)
+        (messages.BypassPeer l s old target new) = was a c i (messages.BypassPeer l s old target new) (λ m. grind (arith, m)) u in
+        made a c i l s u'.receiver ((told_of law).behind a c (place_before from k.node a c i) l s old target new u'
+        (sym (further.router_same law changed like linked carried is.stage late early l s) ∙ none));
+    flush_central = λ a c i l s u. (told_of law).flush_central a c (place_before from k.node a c i) l s
+        (was a c i (messages.Flush l s) (λ m. grind (arith, m)) u);
+    flush_recorded = λ a c i l s u. further.recorded_same law changed like linked carried is.stage late early l ∙
+        (told_of law).flush_recorded a c (place_before from k.node a c i) l s (was a c i (messages.Flush l s) (λ m. grind (arith, m)) u);
+    flush_to = λ a c i l s u. (told_of law).flush_to a c (place_before from k.node a c i) l s
+        (was a c i (messages.Flush l s) (λ m. grind (arith, m)) u) ∙ sym (side_node-agree g h agree l s);
+    flush_from = λ a c i l s u. (told_of law).flush_from a c (place_before from k.node a c i) l s
+        (was a c i (messages.Flush l s) (λ m. grind (arith, m)) u) ∙ sym (side_node-agree g h agree l (opposite s));
+  }
+    where
+      link_of : Message → LinkId
+      link_of (messages.Item l s n item moves) = l
+      link_of (messages.BypassPeer l s old target new) = l
+      link_of (messages.AcceptBypass old s new n) = Central old
+      link_of (messages.StopProxying old s i u) = Central old
+      link_of (messages.ProxyWillStop l s i) = l
+      link_of (messages.Flush l s) = l
+
+      will_stop_at : (a c i : ℕ) (l : LinkId) (s : Side) (n : ℕ) →
+          IsUnderWay w a c (place_before from k.node a c i) (messages.ProxyWillStop l s n) ⊎ (messages.ProxyWillStop l s n ≡ sent) →
+          is_some (bypass_of g l) ≡ true
+      will_stop_at a c i l s n (inl u) = (told_of law).will_stop a c (place_before from k.node a c i) l s n u
+      will_stop_at a c i l s n (inr m) = ap (λ z. is_some (bypass_of g z)) (ap link_of m ∙ on_inner) ∙ ap is_some by_o
+
+      control_at : (j : ℕ) (t : ℕ → ℕ → Message → ℕ) → At j → under_way (λ a c. of_bypass h j (t a c)) v ≡ control_weight h t j
+      control_at j t m = omega (arith, same, moved, (told_of law).control j t, weighs m)
+        where
+          same : under_way (λ a c. of_bypass h j (t a c)) v ≡ under_way (λ a c. of_bypass g j (t a c)) v
+          same = ap (λ f. under_way f v) (λ i a c m. about-agree g h agree j (t a c) m i)
+
+          moved : under_way (λ a c. of_bypass g j (t a c)) v + of_bypass g j (t from k.node) came ≡ under_way (λ a c. of_bypass g j (t a c))
+              w + of_bypass g j (t k.node e.other) sent
+          moved = under_way-handed_on (λ a c. of_bypass g j (t a c)) w from k x e.other sent came from_node on_node to_node in_hand
+
+          weighs : At j → control_weight g t j + of_bypass g j (t k.node e.other) sent ≡ control_weight h t j + of_bypass g j
+              (t from k.node) came
+          weighs (inl m) = rw m.1 (omega (
+            arith,
+            expected_before t,
+            expected_after t,
+            about_came (t from k.node),
+            about_sent (t k.node e.other),
+          ))
+          weighs (inr m) = omega (
+            arith,
+            expected-agree g h agree t j (rw m.0 refl),
+            about_none j (t k.node e.other) (t from k.node) (grind (arith, m.0, nat_tests)),
+          )
+
+  descriptors : (t : End) (f : Descriptor → ℕ) → under_way (λ a c m. total_list (of_end t f) (moves_of m)) v ≡ under_way
+      (λ a c m. total_list (of_end t f) (moves_of m)) w
+  unfolding moves_of
+  descriptors t f = omega (
+    arith,
+    under_way-handed_on (λ a c m. total_list (of_end t f) (moves_of m)) w from k x e.other sent came from_node
+        on_node to_node in_hand,
+  )
+
+  places : (f : Weight) → in_places f h v ≡ in_places f g w
+  unfolding in_message' in_router
+  places f = places-agree g h agree f v ∙ omega (
+    arith,
+    places-handed_on f g w from k r x e.other sent came from_node on_node to_node here
+        in_hand,
+  )
+
+  received : IsReceived w v from k.node
+  received = record { hand = hand-handed_on w from k x e.other sent; mail = mail-handed_on w from k x e.other sent }
+
+  -- the proxy is told: all that always holds holds still
+  pub inv-stop : Inv (stop_act w from k r e in_length out_length) b (told_records g o)
+  unfolding handed_on
+  inv-stop = record {
+    counts = counts-received w v g h from k r x changed received (counts_of law) (opened can).hand.hand (λ i. refl)
+        (λ l s q rec m. inl (
+          sym (further.recorded_same law changed like linked carried is.stage late early l) ∙ rec,
+          sym (further.router_same law changed like linked carried is.stage late early l s) ∙ m,
+        ))
+        (λ l s rec. rw (side_node-agree g h agree l s) ((counts_of law).side_on_node l s
+        (sym (further.recorded_same law changed like linked carried is.stage late early l) ∙ rec)));
+    ordered = ordered-kept w v g h k r x changed agree like (ordered_of law);
+    shape = further.shape-further law changed like linked carried is.stage late early;
+    links = further.links-further law changed like linked carried is.stage late early;
+    positions = numbers.positions-further law changed like linked carried is.stage late early owes;
+    stands = further.stands-further law changed like linked carried is.stage late early;
+    words = further.words-further law changed like linked carried is.stage late early
+        (word-handed_on w from k x e.other sent);
+    spares = spares-kept w v g h k r x changed agree like (λ i. refl) (λ j st. grind (arith, st, at_o j, is.stage)) (spares_of law);
+    bypasses = further.bypasses-further law changed like linked carried is.stage late early;
+    live = live-kept g h (λ i l. l) (λ i. refl) (λ j st. grind (arith, st, at_o j, is.stage)) agree.is_begun (live_of law);
+    stages = further.stages-further law changed like linked carried is.stage late early;
+    told = told-stop;
+    moves = moves-kept w v g h k r x changed agree carried descriptors (moves_law law);
+    terminals = terminals-kept w v g h k r x changed agree like (terminals_of law);
+    end_places = end_places-kept w v g h k r x changed agree like carried (end_places_of law);
+    books_kept = books_kept-kept w v g h k r x changed agree b like (books_kept_of law);
+    retired_ends = further.retired-further law changed like linked carried is.stage late early;
+    gones = further.gones-further law changed like linked carried is.stage late early;
+    items = numbers.items-further law changed like linked carried is.stage late early
+        (record { made = λ a c i l s n item moves u. made a c i l s (carried.was a c i l s n item moves u).receiver });
+    order = numbers.order-further law changed like linked carried is.stage late early;
+    proxy_numbers = numbers.proxy_numbers-further law changed like linked carried is.stage late early proxy_owes;
+    fresh_numbers = numbers.fresh_numbers-further law changed like linked carried is.stage late early
+        (λ p d len prim dec l. absurd (none-some p (sym alone ∙ prim)));
+    conserved = conserved-kept w v g h k r x changed agree b like carried places (conserved_of law);
+    held_once = held_once-kept w v g h k r x changed agree b carried places (held_once_of law);
+    no_strays = no_strays-kept w v g h k r x changed agree (no_strays_of law);
+  }
