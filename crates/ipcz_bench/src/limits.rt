@@ -172,22 +172,31 @@ impl Drawn {
     }
 }
 
-// The looseness of the world of a number.
-fn looseness_of(alloc: Global, number: u64, moves: bool) -> Result<Option<u64>, Fault> {
-    let mut draw = Draw { now: number };
-    let mut drawn = Drawn::new(alloc, &mut draw, moves)?;
+// The looseness of a world, once calls were drawn for it.
+fn looseness_after(
+    alloc: Global,
+    drawn: &mut Drawn,
+    draw: &mut Draw,
+) -> Result<Option<u64>, Fault> {
     for _ in 0..CALLS {
-        drawn.call(alloc, &mut draw)?;
+        drawn.call(alloc, draw)?;
     }
-    drawn.read(&mut draw)?;
+    drawn.read(draw)?;
     for _ in 0..draw.below(20) {
         drawn.put(alloc, draw.portal(), None)?;
     }
     drawn.looseness()
 }
 
-/// The looseness at a place, in hundredths of all places, among those of so many worlds in order: 0 is the least, 50 the median, 100 the worst.
-pub fn looseness_at(alloc: Global, worlds: u64, moves: bool, place: u64) -> Result<u64, Fault> {
+// The looseness of the world of a number.
+fn looseness_of(alloc: Global, number: u64, moves: bool) -> Result<Option<u64>, Fault> {
+    let mut draw = Draw { now: number };
+    let mut drawn = Drawn::new(alloc, &mut draw, moves)?;
+    looseness_after(alloc, &mut drawn, &mut draw)
+}
+
+// The loosenesses of so many worlds.
+fn all_of(alloc: Global, worlds: u64, moves: bool) -> Result<Vec<u64>, Fault> {
     let mut all = Vec::new(alloc);
     for number in 0..worlds {
         if let Some(looseness) = looseness_of(alloc, number, moves)? {
@@ -195,6 +204,12 @@ pub fn looseness_at(alloc: Global, worlds: u64, moves: bool, place: u64) -> Resu
         }
     }
     all.sort()?;
+    Ok(all)
+}
+
+/// The looseness at a place, in hundredths of all places, among those of so many worlds in order: 0 is the least, 50 the median, 100 the worst.
+pub fn looseness_at(alloc: Global, worlds: u64, moves: bool, place: u64) -> Result<u64, Fault> {
+    let all = all_of(alloc, worlds, moves)?;
     let last = (all.len() as u64).saturating_sub(1);
     let index = last.saturating_mul(place) / 100;
     all.as_slice()

@@ -17,24 +17,45 @@ const PAIRS: u32 = 1000;
 /// How many moves a world makes: each takes a link word, of 4,096.
 const MOVES: u64 = 4000;
 
+/// A measure that is taken in one world. It is borrowed, since each function in which a world is dropped is dear to prove.
+#[derive(Clone, Copy)]
+enum InOneWorld {
+    /// Parcels on the last of so many pairs of one node.
+    LastOf(u32),
+    /// Parcels on each of 1,000 pairs of one node, in turn.
+    EachPair,
+    /// Parcels of so many bytes between two nodes, while so many others wait to be got.
+    Between(usize, u64),
+    /// The acts that carry parcels between two nodes, without the puts and gets.
+    ActsAlone,
+    /// Pairs that are opened, used and closed, each before the next.
+    Lives,
+    /// What memory a pair takes on one node, once so many parcels passed on each of 4,000.
+    BytesOfPairs(u64),
+    /// What memory is left of a pair that was used and closed on one node, of 4,000.
+    BytesOfClosedPairs,
+}
+
+use InOneWorld::{ActsAlone, Between, BytesOfClosedPairs, BytesOfPairs, EachPair, LastOf, Lives};
+
 /// Takes a measure of so many rounds, and gives nanoseconds or bytes: the rounded-down share of one parcel, act, move or pair.
 pub fn measure(rt: &HostRuntime, name: &str, rounds: u64) -> Result<u64, Fault> {
     match name {
-        "one_node" => on_one_node(rt, 1, rounds),
-        "last_pair" => on_one_node(rt, 4 * PAIRS, rounds),
-        "each_pair" => on_each_pair(rt, rounds),
-        "two_nodes" => between_two_nodes(rt, SHORT, 0, rounds),
-        "long_parcels" => between_two_nodes(rt, 256, 0, rounds),
-        "waiting_1" => between_two_nodes(rt, SHORT, 1, rounds),
-        "waiting_10" => between_two_nodes(rt, SHORT, 10, rounds),
-        "waiting_100" => between_two_nodes(rt, SHORT, 100, rounds),
-        "waiting_1000" => between_two_nodes(rt, SHORT, 1000, rounds),
-        "act" => acts_alone(rt, rounds),
+        "one_node" => on_one_node(rt, LastOf(1), rounds),
+        "last_pair" => on_one_node(rt, LastOf(4 * PAIRS), rounds),
+        "each_pair" => on_one_node(rt, EachPair, rounds),
+        "two_nodes" => on_two_nodes(rt, Between(SHORT, 0), rounds),
+        "long_parcels" => on_two_nodes(rt, Between(256, 0), rounds),
+        "waiting_1" => on_two_nodes(rt, Between(SHORT, 1), rounds),
+        "waiting_10" => on_two_nodes(rt, Between(SHORT, 10), rounds),
+        "waiting_100" => on_two_nodes(rt, Between(SHORT, 100), rounds),
+        "waiting_1000" => on_two_nodes(rt, Between(SHORT, 1000), rounds),
+        "act" => on_two_nodes(rt, ActsAlone, rounds),
         "moves" => moves(rt, rounds),
         "lives" => lives(rt, rounds),
-        "closed_pairs" => bytes_of_closed_pairs(rt),
-        "fresh_pairs" => bytes_of_pairs(rt, 0),
-        "used_pairs" => bytes_of_pairs(rt, 1),
+        "closed_pairs" => on_one_node(rt, BytesOfClosedPairs, rounds),
+        "fresh_pairs" => on_one_node(rt, BytesOfPairs(0), rounds),
+        "used_pairs" => on_one_node(rt, BytesOfPairs(1), rounds),
         "limit_least" => looseness_at(rt.alloc(), rounds, false, 0),
         "limit_median" => looseness_at(rt.alloc(), rounds, false, 50),
         "limit_worst" => looseness_at(rt.alloc(), rounds, false, 100),
@@ -42,6 +63,36 @@ pub fn measure(rt: &HostRuntime, name: &str, rounds: u64) -> Result<u64, Fault> 
         "moved_median" => looseness_at(rt.alloc(), rounds, true, 50),
         "moved_worst" => looseness_at(rt.alloc(), rounds, true, 100),
         _ => Err(Fault::Usage),
+    }
+}
+
+// Takes a measure in a world of one node.
+fn on_one_node(rt: &HostRuntime, measure: InOneWorld, rounds: u64) -> Result<u64, Fault> {
+    let mut world = World::new(rt.alloc(), 1, 4096)?;
+    take(rt, &mut world, measure, rounds)
+}
+
+// Takes a measure in a world of two nodes and one pair.
+fn on_two_nodes(rt: &HostRuntime, measure: InOneWorld, rounds: u64) -> Result<u64, Fault> {
+    let mut world = World::new(rt.alloc(), 2, 1)?;
+    take(rt, &mut world, measure, rounds)
+}
+
+// Takes a measure.
+fn take(
+    rt: &HostRuntime,
+    world: &mut World,
+    measure: InOneWorld,
+    rounds: u64,
+) -> Result<u64, Fault> {
+    match measure {
+        LastOf(pairs) => last_of(rt, world, pairs, rounds),
+        EachPair => each_pair(rt, world, rounds),
+        Between(length, waiting) => between(rt, world, length, waiting, rounds),
+        ActsAlone => acts_alone(rt, world, rounds),
+        Lives => live_all(rt, world, rounds),
+        BytesOfPairs(parcels) => bytes_of_pairs(rt, world, parcels),
+        BytesOfClosedPairs => bytes_of_closed_pairs(rt, world),
     }
 }
 
@@ -55,11 +106,10 @@ fn share(rt: &HostRuntime, start: Instant, count: u64) -> Result<u64, Fault> {
 }
 
 // Parcels on the last of so many pairs of one node.
-fn on_one_node(rt: &HostRuntime, pairs: u32, rounds: u64) -> Result<u64, Fault> {
-    let mut world = World::new(rt.alloc(), 1, 4096)?;
-    let (from, to) = open_all(&mut world, pairs)?;
+fn last_of(rt: &HostRuntime, world: &mut World, pairs: u32, rounds: u64) -> Result<u64, Fault> {
+    let (from, to) = open_all(world, pairs)?;
     let start = Instant::now(rt)?;
-    pass(rt.alloc(), &mut world, from, to, SHORT, rounds)?;
+    pass(rt.alloc(), world, from, to, SHORT, rounds)?;
     share(rt, start, rounds)
 }
 
@@ -75,44 +125,57 @@ fn visit(rt: &HostRuntime, world: &mut World, pairs: &[(Portal, Portal)]) -> Res
     Ok(())
 }
 
-// Parcels on each of 1,000 pairs of one node, in turn.
-fn on_each_pair(rt: &HostRuntime, rounds: u64) -> Result<u64, Fault> {
-    let mut world = World::new(rt.alloc(), 1, 4096)?;
+// 1,000 new pairs on node 0.
+fn many(rt: &HostRuntime, world: &mut World) -> Result<Vec<(Portal, Portal)>, Fault> {
     let mut pairs = Vec::new(rt.alloc());
     for _ in 0..PAIRS {
-        pairs.push(open(&mut world)?)?;
+        pairs.push(open(world)?)?;
     }
-    let visits = rounds / PAIRS as u64;
+    Ok(pairs)
+}
+
+// Visits pairs so many times.
+fn visit_all(
+    rt: &HostRuntime,
+    world: &mut World,
+    pairs: &[(Portal, Portal)],
+    visits: u64,
+) -> Result<u64, Fault> {
     let start = Instant::now(rt)?;
     for _ in 0..visits {
-        visit(rt, &mut world, pairs.as_slice())?;
+        visit(rt, world, pairs)?;
     }
     share(rt, start, visits.saturating_mul(PAIRS as u64))
 }
 
+// Parcels on each of 1,000 pairs of one node, in turn.
+fn each_pair(rt: &HostRuntime, world: &mut World, rounds: u64) -> Result<u64, Fault> {
+    let pairs = many(rt, world)?;
+    visit_all(rt, world, pairs.as_slice(), rounds / PAIRS as u64)
+}
+
 // Parcels of so many bytes between two nodes, while others wait to be got.
-fn between_two_nodes(
+fn between(
     rt: &HostRuntime,
+    world: &mut World,
     length: usize,
     waiting: u64,
     rounds: u64,
 ) -> Result<u64, Fault> {
-    let mut world = World::new(rt.alloc(), 2, 1)?;
     let (from, to) = first_pair();
-    put_all(rt.alloc(), &mut world, from, waiting)?;
-    settle(&mut world)?;
+    put_all(rt.alloc(), world, from, waiting)?;
+    settle(world)?;
     let start = Instant::now(rt)?;
-    pass(rt.alloc(), &mut world, from, to, length, rounds)?;
+    pass(rt.alloc(), world, from, to, length, rounds)?;
     share(rt, start, rounds)
 }
 
 // The acts that carry parcels between two nodes, without the puts and gets.
-fn acts_alone(rt: &HostRuntime, rounds: u64) -> Result<u64, Fault> {
-    let mut world = World::new(rt.alloc(), 2, 1)?;
+fn acts_alone(rt: &HostRuntime, world: &mut World, rounds: u64) -> Result<u64, Fault> {
     let (from, _) = first_pair();
-    put_all(rt.alloc(), &mut world, from, rounds)?;
+    put_all(rt.alloc(), world, from, rounds)?;
     let start = Instant::now(rt)?;
-    let acts = settle(&mut world)?;
+    let acts = settle(world)?;
     share(rt, start, acts)
 }
 
@@ -137,20 +200,25 @@ fn move_portal(
     Ok(there)
 }
 
-// A portal that goes to and fro between two nodes, in a world of its own.
-fn go_to_and_fro(rt: &HostRuntime, count: u64) -> Result<(), Fault> {
-    let mut world = World::new(rt.alloc(), 2, 4096)?;
+// A portal that goes to and fro between two nodes.
+fn go(rt: &HostRuntime, world: &mut World, count: u64) -> Result<(), Fault> {
     let (left, right) = first_pair();
-    let (still, mut moved) = open(&mut world)?;
+    let (still, mut moved) = open(world)?;
     for _ in 0..count {
         let over = if moved.node == 0 {
             (left, right)
         } else {
             (right, left)
         };
-        moved = move_portal(rt, &mut world, over, still, moved)?;
+        moved = move_portal(rt, world, over, still, moved)?;
     }
     Ok(())
+}
+
+// The same, in a world of its own.
+fn go_to_and_fro(rt: &HostRuntime, count: u64) -> Result<(), Fault> {
+    let mut world = World::new(rt.alloc(), 2, 4096)?;
+    go(rt, &mut world, count)
 }
 
 // Moves of a portal between two nodes, in as many worlds as they take.
@@ -176,13 +244,12 @@ fn resident(rt: &HostRuntime) -> Result<u64, Fault> {
 }
 
 // What memory a pair takes on one node, once so many parcels passed on each of 4,000.
-fn bytes_of_pairs(rt: &HostRuntime, rounds: u64) -> Result<u64, Fault> {
-    let mut world = World::new(rt.alloc(), 1, 4096)?;
+fn bytes_of_pairs(rt: &HostRuntime, world: &mut World, parcels: u64) -> Result<u64, Fault> {
     let before = resident(rt)?;
     for _ in 0..4 * PAIRS {
-        let (from, to) = open(&mut world)?;
-        pass(rt.alloc(), &mut world, from, to, SHORT, rounds)?;
-        pass(rt.alloc(), &mut world, to, from, SHORT, rounds)?;
+        let (from, to) = open(world)?;
+        pass(rt.alloc(), world, from, to, SHORT, parcels)?;
+        pass(rt.alloc(), world, to, from, SHORT, parcels)?;
     }
     Ok(resident(rt)?.saturating_sub(before) / (4 * PAIRS as u64))
 }
@@ -198,31 +265,29 @@ fn live(rt: &HostRuntime, world: &mut World) -> Result<(), Fault> {
     Ok(())
 }
 
-// So many pairs that are opened, used and closed, each before the next, in a world of their own.
-fn live_and_leave(rt: &HostRuntime, count: u64) -> Result<(), Fault> {
-    let mut world = World::new(rt.alloc(), 1, 4096)?;
+// So many pairs that are opened, used and closed, each before the next.
+fn live_all(rt: &HostRuntime, world: &mut World, count: u64) -> Result<u64, Fault> {
     for _ in 0..count {
-        live(rt, &mut world)?;
+        live(rt, world)?;
     }
-    Ok(())
+    Ok(count)
 }
 
 // The lives of pairs, in as many worlds as they take.
 fn lives(rt: &HostRuntime, rounds: u64) -> Result<u64, Fault> {
     let start = Instant::now(rt)?;
     for _ in 0..rounds / (4 * PAIRS as u64) {
-        live_and_leave(rt, 4 * PAIRS as u64)?;
+        on_one_node(rt, Lives, 4 * PAIRS as u64)?;
     }
-    live_and_leave(rt, rounds % (4 * PAIRS as u64))?;
+    on_one_node(rt, Lives, rounds % (4 * PAIRS as u64))?;
     share(rt, start, rounds)
 }
 
 // What memory is left of a pair that was used and closed on one node, of 4,000.
-fn bytes_of_closed_pairs(rt: &HostRuntime) -> Result<u64, Fault> {
-    let mut world = World::new(rt.alloc(), 1, 4096)?;
+fn bytes_of_closed_pairs(rt: &HostRuntime, world: &mut World) -> Result<u64, Fault> {
     let before = resident(rt)?;
     for _ in 0..4 * PAIRS {
-        live(rt, &mut world)?;
+        live(rt, world)?;
     }
     Ok(resident(rt)?.saturating_sub(before) / (4 * PAIRS as u64))
 }
