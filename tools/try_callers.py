@@ -8,7 +8,7 @@ The library is installed in a folder of its own by `tools/install_c.py`, and eac
 tells. What a caller of `callers/c` and `callers/cpp` prints is compared with the file beside it that ends in `.out`. It runs again under
 valgrind, which must find no error, and no memory that isn't freed, and one with a mutex under helgrind, which must find no race (it takes no
 account of atomic steps, and only these order the calls on two cells). The tests of `callers/rust` and of `callers/go` are run. A caller whose
-compiler isn't on the machine is left out. The statuses of the header must be those of `Refusal`, and docs/C.md must show these callers.
+compiler isn't on the machine is left out. The statuses of the header must be those of `Refusal`, and docs/C.md and README must show these callers.
 """
 import argparse
 import os
@@ -119,12 +119,15 @@ class Callers:
             self.wrong.append("the statuses of include/ipcz_portals.h aren't those of crates/ipcz_base/src/refusal.rt")
 
     def shown(self) -> None:
-        """Compares what docs/C.md shows with the programs that are run: one whole, and a part of another."""
+        """Compares what docs/C.md and README show with the programs that are run: one whole, and parts."""
         page = (TOP / "docs/C.md").read_text()
         programs = re.findall(r"^```c\n(.*?)^```$", page, re.M | re.S)
         sources = [(CALLERS / "c" / name).read_text() for name in ("hello.c", "own_nodes.c")]
         if len(programs) != 2 or programs[0] != sources[0] or programs[1] not in sources[1]:
             self.wrong.append("docs/C.md doesn't show callers/c/hello.c and a part of callers/c/own_nodes.c")
+        part = re.search(r"^```c\n(.*?)^```$", (TOP / "README.md").read_text(), re.M | re.S)
+        if not part or part[1] not in sources[0]:
+            self.wrong.append("README.md doesn't show a part of callers/c/hello.c")
 
 
 def main() -> None:
