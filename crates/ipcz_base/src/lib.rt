@@ -1,9 +1,8 @@
 //! The types that every crate of the portal routers names: sides and ends of pairs, links, parcels, items and
-//! messages, refusals, and devices that remember whether a call failed.
+//! messages, and refusals.
 #![tactic(auto)]
 
 mod descriptor;
-mod device;
 mod end;
 mod item;
 mod limits;
@@ -17,7 +16,6 @@ mod sequence;
 mod side;
 
 pub use descriptor::Descriptor;
-pub use device::Device;
 pub use end::End;
 pub use item::Item;
 pub use limits::LAST;

@@ -2,8 +2,8 @@
 //!
 //! Nothing is promised of the functions here, and what is wanted stands in lists: a test's own proof would else work out each of them.
 
-use crate::slow_devices::{SlowReader, SlowWriter};
-use ipcz_base::Device;
+use ipcz_device::Device;
+use ipcz_device::slow::{SlowReader, SlowWriter};
 use ipcz_report::program::{Asked, asked_for, run_program};
 use std::alloc::{AllocError, Global};
 use std::env::{Env, FillError};
@@ -249,6 +249,7 @@ fn tells_what_the_commands_of_a_script_do(rt: HostRuntime) {
 fn status_after_reads(alloc: Global, reads_left: usize, out: &mut Vec<u8>) -> u8 {
     let mut reader = Device::new(SlowReader {
         bytes: b"[]",
+        at_once: 1,
         reads_left,
     });
     run_program(alloc, Ok(Asked::Script), &mut reader, &mut Device::new(out))
@@ -274,6 +275,7 @@ fn ends_after_writes(alloc: Global, writes_left: usize, fails: bool) -> bool {
         &mut Device::new(b"".as_slice()),
         &mut Device::new(SlowWriter {
             taken: &mut out,
+            at_once: 3,
             writes_left,
             fails,
         }),

@@ -5,11 +5,9 @@
 #![tactic(auto)]
 
 #[cfg(test)]
-mod slow_devices;
-#[cfg(test)]
 mod tests;
 
-use ipcz_picture::device::Device;
+use ipcz_device::Device;
 use ipcz_picture::program::{asked_for, run_program};
 use std::io;
 use std::process::ExitCode;

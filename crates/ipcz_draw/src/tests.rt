@@ -2,8 +2,8 @@
 //!
 //! Nothing is promised of the functions here, and what is wanted stands in lists: a test's own proof would else work out each of them.
 
-use crate::slow_devices::{SlowReader, SlowWriter};
-use ipcz_picture::device::Device;
+use ipcz_device::Device;
+use ipcz_device::slow::{SlowReader, SlowWriter};
 use ipcz_picture::part::Part;
 use ipcz_picture::program::{Asked, asked_for, run_program};
 use std::alloc::{AllocError, Global};
@@ -536,6 +536,7 @@ fn ends_after_a_failed_read(alloc: Global, status: u8) -> bool {
         Ok(Asked::Picture(None)),
         &mut Device::new(SlowReader {
             bytes: TRANSCRIPT,
+            at_once: 1,
             reads_left: 9,
         }),
         &mut Device::new(&mut out),
@@ -552,6 +553,7 @@ fn ends_after_a_failed_write(alloc: Global, status: u8, text: &[u8]) -> bool {
         &mut Device::new(TRANSCRIPT),
         &mut Device::new(SlowWriter {
             taken: &mut out,
+            at_once: 3,
             writes_left: 2,
             fails: true,
         }),
@@ -576,6 +578,7 @@ fn reads_nothing(
     let mut out = Vec::new(alloc);
     let mut reader = Device::new(SlowReader {
         bytes: TRANSCRIPT,
+        at_once: 1,
         reads_left: 0,
     });
     let ended = run_program(
@@ -584,6 +587,7 @@ fn reads_nothing(
         &mut reader,
         &mut Device::new(SlowWriter {
             taken: &mut out,
+            at_once: 3,
             writes_left,
             fails: true,
         }),

@@ -1,4 +1,4 @@
-//! Tests of what routers are made of: devices, names and sequences of `ipcz_base`, edges, and link words.
+//! Tests of what routers are made of: names and sequences of `ipcz_base`, edges, and link words; and of devices.
 #![tactic(auto)]
 
 #[cfg(test)]
@@ -7,5 +7,7 @@ mod devices;
 mod edges;
 #[cfg(test)]
 mod names;
+#[cfg(test)]
+mod whole_io;
 #[cfg(test)]
 mod words;

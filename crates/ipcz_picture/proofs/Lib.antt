@@ -1,4 +1,3 @@
 pub mod Following
-pub mod KnownBytes
 pub mod Seeing
 pub mod Sizing

@@ -1,8 +1,6 @@
-pub mod Devices
 pub mod Marks
 pub mod Outputs
 pub mod Parts
 pub mod Rows
 pub mod Sizes
-pub mod WholeIo
 pub mod Words

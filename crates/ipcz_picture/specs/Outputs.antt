@@ -7,14 +7,14 @@ use Rattle.ipcz_lines.specs.declared.line.ReadLine.{ReadLine}
 use Rattle.ipcz_lines.specs.declared.line.Unread.TheVariants as unread
 use Rattle.ipcz_picture.specs.declared.ending.Ending.{Ending}
 use Rattle.ipcz_picture.specs.declared.ending.Ending.TheVariants as endings
-use Rattle.ipcz_picture.specs.declared.fault.Fault.{Fault}
-use Rattle.ipcz_picture.specs.declared.fault.Fault.TheVariants as faults
+use Rattle.ipcz_device.specs.declared.fault.Fault.{Fault}
+use Rattle.ipcz_device.specs.declared.fault.Fault.TheVariants as faults
 use Rattle.ipcz_lines.specs.Lines.{IsRead, IsRefused}
 use Rattle.ipcz_picture.specs.declared.part.Part.{Part}
 use Rattle.ipcz_picture.specs.Parts.{end_of, first_of}
 use Rattle.ipcz_picture.specs.Rows.{IsPicture}
 use Rattle.ipcz_picture.specs.Sizes.{IsBounded}
-use Rattle.ipcz_picture.specs.WholeIo.{AppendsFront, ConsumesAtMost}
+use Rattle.ipcz_device.specs.WholeIo.{AppendsFront, ConsumesAtMost}
 
 -- the lines that say why there is no picture: too many bytes, or a line that is none of a transcript
 abbrev pub long_line : List ℕ

@@ -5,9 +5,7 @@
 mod arrow_title;
 mod arrows;
 mod calls;
-pub mod device;
 mod ending;
-mod fault;
 mod ground;
 mod heading;
 mod known_words;
@@ -24,6 +22,5 @@ pub mod program;
 mod row;
 mod rows;
 mod scene;
-mod whole_io;
 mod word_bars;
 mod word_cells;

@@ -3,12 +3,10 @@
 ghost use Rattle.std.specs.Prelude.{◌≡◌, ◌↔◌, ◌++◌, false, IsTrue, IsErrOf, IfOk, OnOk};
 ghost use Rattle.ipcz_picture.specs.Outputs.{bad_line, long_line, refused_line, IsOutput, ReadsAndWrites};
 
-use crate::device::Device;
 use crate::ending::Ending;
-use crate::fault::Fault;
 use crate::part::{Part, bounds_of};
 use crate::picture::picture;
-use crate::whole_io::{read_up_to, write_whole};
+use ipcz_device::{Device, Fault, read_up_to, write_whole};
 use ipcz_lines::{Unread, read};
 use std::alloc::{AllocError, Global};
 use std::io;

@@ -3,12 +3,10 @@
 ghost use Rattle.std.specs.Prelude.{◌≡◌, false, Ok, OnErr, Option};
 ghost use Rattle.ipcz_picture.specs.Outputs.{status, usage, Draws, WritesUsage};
 
-use crate::device::Device;
 use crate::ending::Ending;
-use crate::fault::Fault;
 use crate::output::draw;
 use crate::part::{Part, part_of};
-use crate::whole_io::write_whole;
+use ipcz_device::{Device, Fault, write_whole};
 use std::alloc::{AllocError, Global};
 use std::env;
 use std::env::Env;

@@ -6,7 +6,7 @@ use Rattle.ipcz_script.specs.declared.run_fault.RunFault.TheVariants as faults
 use Rattle.ipcz_script.specs.Lines.{line}
 use Rattle.ipcz_script.specs.Reading.{max_bytes}
 use Rattle.ipcz_script.specs.Transcript.{IsInput}
-use Rattle.ipcz_script.specs.WholeIo.{AppendsFront, ConsumesAtMost}
+use Rattle.ipcz_device.specs.WholeIo.{AppendsFront, ConsumesAtMost}
 use Rattle.ipcz_report.specs.declared.verdict.Verdict.{Verdict}
 use Rattle.ipcz_report.specs.declared.verdict.Verdict.TheVariants as verdicts
 use Rattle.ipcz_report.specs.Reports.{IsReport}

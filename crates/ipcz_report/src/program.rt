@@ -5,8 +5,8 @@ ghost use Rattle.ipcz_report.specs.Outputs.{help, status, usage, Checks, ReadsAn
 
 use crate::reporting::report;
 use crate::verdict::Verdict;
-use ipcz_base::Device;
-use ipcz_script::{RunFault, read_up_to, write_whole};
+use ipcz_device::{Device, read_up_to, write_whole};
+use ipcz_script::RunFault;
 use std::alloc::{AllocError, Global};
 use std::env;
 use std::env::Env;

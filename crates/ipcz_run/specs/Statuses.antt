@@ -6,7 +6,7 @@ use Rattle.ipcz_script.specs.declared.outcome.Outcome.TheVariants as outcomes
 use Rattle.ipcz_script.specs.declared.run_fault.RunFault.{RunFault}
 use Rattle.ipcz_script.specs.declared.run_fault.RunFault.TheVariants as faults
 use Rattle.ipcz_script.specs.Lines.{line}
-use Rattle.ipcz_script.specs.WholeIo.{AppendsFront}
+use Rattle.ipcz_device.specs.WholeIo.{AppendsFront}
 use Rattle.ipcz_script.specs.Transcript.{ReadsAndWrites}
 use Rattle.ipcz_threads.specs.Rounds.{OpenGates}
 use Rattle.ipcz_threads.specs.Transcripts as on_threads

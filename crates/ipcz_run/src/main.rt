@@ -2,10 +2,8 @@
 #![tactic(auto)]
 
 pub mod program;
-#[cfg(test)]
-mod slow_devices;
 
-use ipcz_base::Device;
+use ipcz_device::Device;
 use program::{asked_for, run_program};
 use std::io;
 use std::process::ExitCode;

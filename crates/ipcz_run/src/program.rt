@@ -1,8 +1,8 @@
 ghost use Rattle.std.specs.Prelude.{◌≡◌, false, Ok, OnErr};
 ghost use Rattle.ipcz_run.specs.Statuses.{status, usage, WritesUsage, RunsOnThreads, RunsScript};
 
-use ipcz_base::Device;
-use ipcz_script::{Outcome, RunFault, run_script, write_whole};
+use ipcz_device::{Device, write_whole};
+use ipcz_script::{Outcome, RunFault, run_script};
 use ipcz_threads::run_threads;
 use std::alloc::{AllocError, Global};
 use std::env;

@@ -7,7 +7,6 @@ pub mod Each
 pub mod EndKeys
 pub mod Feeds
 pub mod JsonLists
-pub mod KnownBytes
 pub mod LinkedPairs
 pub mod LogLines
 pub mod NamedPeers

@@ -21,4 +21,3 @@ pub mod Sessions
 pub mod SettledLaws
 pub mod Shapes
 pub mod Transcript
-pub mod WholeIo

@@ -12,7 +12,7 @@ use Rattle.ipcz_script.specs.declared.run_fault.RunFault.TheVariants as faults
 use Rattle.ipcz_script.specs.Lines.{lines_of, refused_line}
 use Rattle.ipcz_script.specs.Reading.{IsScript, max_bytes}
 use Rattle.ipcz_script.specs.Sessions.{Session, new_session, Runs}
-use Rattle.ipcz_script.specs.WholeIo.{AppendsFront, ConsumesAtMost}
+use Rattle.ipcz_device.specs.WholeIo.{AppendsFront, ConsumesAtMost}
 
 -- whether an answer is that of a settle that came to its limit
 unfoldable pub is_unsettled : Said → Bool

@@ -19,7 +19,6 @@ mod session;
 mod shapes;
 mod text;
 mod titles;
-mod whole_io;
 
 pub use command::Command;
 pub use events::push_event;
@@ -37,4 +36,3 @@ pub use session::{answer_to, is_idle, is_want};
 pub use shapes::{command_in, number_within, values_of};
 pub use text::Text;
 pub use titles::Titles;
-pub use whole_io::{read_up_to, write_whole};

@@ -12,8 +12,7 @@ use crate::said::Said;
 use crate::script::Script;
 use crate::script_fault::ScriptFault;
 use crate::session::Session;
-use crate::whole_io::{read_up_to, write_whole};
-use ipcz_base::Device;
+use ipcz_device::{Device, read_up_to, write_whole};
 use std::alloc::{AllocError, Global};
 use std::io::{Read, Write};
 

@@ -1,3 +1,4 @@
+use ipcz_device::Fault;
 use std::alloc::{AllocError, AllocFailed};
 use thiserror::Error;
 
@@ -34,5 +35,20 @@ impl<T: Drop> From<AllocFailed<T>> for RunFault {
 
     fn from(_error: AllocFailed<T>) -> RunFault {
         RunFault::OutOfMemory
+    }
+}
+
+impl From<Fault> for RunFault {
+    ghost use Rattle.std.specs.Prelude.{◌≡◌};
+    ghost use Rattle.ipcz_script.specs.Faults.{run_fault};
+
+    ghost from_gives = { λ fault given. given ≡ run_fault fault };
+
+    fn from(fault: Fault) -> RunFault {
+        match fault {
+            Fault::Read => RunFault::Read,
+            Fault::Write => RunFault::Write,
+            Fault::OutOfMemory => RunFault::OutOfMemory,
+        }
     }
 }

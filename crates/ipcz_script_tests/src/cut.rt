@@ -1,7 +1,7 @@
 //! A script that is cut, or that has a command without a shape.
 
 use crate::one_bypass::{COMMANDS, TRANSCRIPT, script};
-use ipcz_base::Device;
+use ipcz_device::Device;
 use ipcz_script::{Outcome, RunFault, ScriptFault, run_script};
 use std::alloc::Global;
 use std::test::Fail;

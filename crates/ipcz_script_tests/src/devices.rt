@@ -1,8 +1,8 @@
 //! Devices that fail at each of their calls in turn.
 
 use crate::one_bypass::{TRANSCRIPT, script};
-use crate::slow::{SlowReader, SlowWriter};
-use ipcz_base::Device;
+use ipcz_device::Device;
+use ipcz_device::slow::{SlowReader, SlowWriter};
 use ipcz_script::{Outcome, RunFault, run_script};
 use std::alloc::Global;
 use std::test::Fail;

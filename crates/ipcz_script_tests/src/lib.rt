@@ -16,7 +16,3 @@ mod lines;
 mod one_bypass;
 #[cfg(test)]
 mod reading;
-#[cfg(test)]
-mod slow;
-#[cfg(test)]
-mod whole_io;

@@ -8,11 +8,11 @@ ghost use Rattle.ipcz_threads.specs.Transcripts.{IsFirst, IsOutput, IsRunOutput,
 
 use crate::lending::lend;
 use crate::session::Session;
-use ipcz_base::Device;
+use ipcz_device::{Device, read_up_to, write_whole};
 use ipcz_fabric::{Blank, Fabric, FabricName, Gate, NodeCell, start};
 use ipcz_script::{
     Command, Labels, Outcome, RunFault, Said, Script, ScriptFault, push_lines, push_refused,
-    read_script, read_up_to, write_whole,
+    read_script,
 };
 use std::alloc::{AllocError, Global};
 use std::collections::VecDeque;

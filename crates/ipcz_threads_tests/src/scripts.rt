@@ -1,7 +1,7 @@
 //! Scripts on one thread.
 
 use crate::cases::CASES;
-use ipcz_base::Device;
+use ipcz_device::Device;
 use ipcz_script::{Outcome, RunFault, ScriptFault, run_script};
 use std::alloc::Global;
 use std::test::Fail;

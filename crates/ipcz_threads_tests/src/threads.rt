@@ -1,7 +1,7 @@
 //! Scripts whose settles run on threads.
 
 use crate::cases::CASES;
-use ipcz_base::Device;
+use ipcz_device::Device;
 use ipcz_fabric::Gate;
 use ipcz_script::{Outcome, RunFault};
 use ipcz_threads::{run_gated, run_threads};

@@ -1,5 +1,5 @@
 use super::*;
-use crate::slow_devices::{SlowReader, SlowWriter};
+use ipcz_device::slow::{SlowReader, SlowWriter};
 use std::env::FillError;
 use std::test::Fail;
 
@@ -94,6 +94,7 @@ fn ends_with_status_1_after_a_failed_read_or_write(rt: HostRuntime) -> Result<()
         Ok(Asked::Script),
         &mut Device::new(SlowReader {
             bytes: SCRIPT,
+            at_once: 1,
             reads_left: 9,
         }),
         &mut Device::new(&mut out),
@@ -107,6 +108,7 @@ fn ends_with_status_1_after_a_failed_read_or_write(rt: HostRuntime) -> Result<()
         &mut Device::new(SCRIPT),
         &mut Device::new(SlowWriter {
             taken: &mut out,
+            at_once: 3,
             writes_left: 2,
             fails: true,
         }),
@@ -133,6 +135,7 @@ fn reads_nothing_where_there_are_arguments(rt: HostRuntime) -> Result<(), Fail> 
         let mut out = Vec::new(rt.alloc());
         let mut reader = Device::new(SlowReader {
             bytes: SCRIPT,
+            at_once: 1,
             reads_left: 0,
         });
         let ended = run_program(
@@ -142,6 +145,7 @@ fn reads_nothing_where_there_are_arguments(rt: HostRuntime) -> Result<(), Fail> 
             &mut reader,
             &mut Device::new(SlowWriter {
                 taken: &mut out,
+                at_once: 3,
                 writes_left,
                 fails: true,
             }),

@@ -1,6 +1,6 @@
 use Rattle.std.proofs.Common.{subst, arith}
 use Rattle.std.specs.Io.KnownBytes.{Appends}
-use Rattle.ipcz_picture.specs.WholeIo.{AppendsFront}
+use Rattle.ipcz_device.specs.WholeIo.{AppendsFront}
 use Rattle.ipcz_picture.specs.Outputs.{IsOutput}
 use Rattle.ipcz_picture.proofs.output.draw.Goals as goal
 

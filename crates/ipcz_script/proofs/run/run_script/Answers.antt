@@ -1,6 +1,6 @@
 use Rattle.std.proofs.Common.{subst, arith}
 use Rattle.std.specs.Io.KnownBytes.{Appends}
-use Rattle.ipcz_script.specs.WholeIo.{AppendsFront}
+use Rattle.ipcz_device.specs.WholeIo.{AppendsFront}
 use Rattle.ipcz_script.specs.Transcript.{IsOutput}
 use Rattle.ipcz_script.proofs.run.run_script.Goals as goal
 

@@ -1,11 +1,13 @@
-//! A slow reader and a slow writer for the tests, which fail in mid-stream.
+//! A reader and a writer for tests, which take few bytes at a time and fail in mid-stream.
+
 use std::io;
 use std::io::{Error, ErrorKind, Read, Write};
 
-/// Reads a byte at a time, and fails once so many reads are made.
+/// Reads up to so many bytes at a time, and fails once so many reads are made.
 #[derive(Drop)]
 pub struct SlowReader<'a> {
     pub bytes: &'a [u8],
+    pub at_once: usize,
     pub reads_left: usize,
 }
 
@@ -15,21 +17,19 @@ impl<'a> Read for SlowReader<'a> {
             return Err(Error::from(ErrorKind::Other));
         }
         self.reads_left -= 1;
-        match self.bytes.split_first() {
-            Some((first, others)) if !buf.is_empty() => {
-                buf[0] = *first;
-                self.bytes = others;
-                Ok(1)
-            }
-            _ => Ok(0),
-        }
+        let count = self.bytes.len().min(buf.len()).min(self.at_once);
+        let (front, rest) = self.bytes.split_at(count);
+        buf[..count].copy_from_slice(front);
+        self.bytes = rest;
+        Ok(count)
     }
 }
 
-/// Takes three bytes at a time; once so many writes are made it fails, or takes none.
+/// Takes up to so many bytes at a time; once so many writes are made it fails, or takes none.
 #[derive(Drop)]
 pub struct SlowWriter<'a> {
     pub taken: &'a mut Vec<u8>,
+    pub at_once: usize,
     pub writes_left: usize,
     pub fails: bool,
 }
@@ -43,7 +43,7 @@ impl<'a> Write for SlowWriter<'a> {
             return Ok(0);
         }
         self.writes_left -= 1;
-        let count = buf.len().min(3);
+        let count = buf.len().min(self.at_once);
         self.taken.extend_from_slice(&buf[..count])?;
         Ok(count)
     }

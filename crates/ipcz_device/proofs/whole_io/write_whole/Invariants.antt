@@ -1,6 +1,6 @@
 use Rattle.std.proofs.Common.{◌≡◌, ℕ, ◌≤◌, length, take, drop, false}
 use Rattle.std.specs.Io.KnownBytes.{Appends}
-use Rattle.ipcz_picture.proofs.whole_io.write_whole.Given as goal
+use Rattle.ipcz_device.proofs.whole_io.write_whole.Given as goal
 
 -- some front of the text is written, and the rest is what comes after it
 abbrev pub invariant-writing : goal.invariant-writing

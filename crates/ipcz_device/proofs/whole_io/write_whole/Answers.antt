@@ -1,6 +1,6 @@
 use Rattle.std.proofs.Common.{◌+◌, ◌∙◌, ap, ◌||◌, false}
-use Rattle.ipcz_script.proofs.KnownBytes.{written}
-use Rattle.ipcz_script.proofs.whole_io.write_whole.Goals as goal
+use Rattle.ipcz_device.proofs.KnownBytes.{written}
+use Rattle.ipcz_device.proofs.whole_io.write_whole.Goals as goal
 
 pub writing-preserved : goal.writing-preserved
 writing-preserved g c =

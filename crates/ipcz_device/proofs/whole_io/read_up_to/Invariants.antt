@@ -1,6 +1,6 @@
 use Rattle.std.proofs.Common.{◌≡◌, ◌≤◌, ◌-◌, length, false}
 use Rattle.std.specs.Io.KnownBytes.{Consumes}
-use Rattle.ipcz_picture.proofs.whole_io.read_up_to.Given as goal
+use Rattle.ipcz_device.proofs.whole_io.read_up_to.Given as goal
 
 -- the bytes so far are the front of what was there
 abbrev pub invariant-reading : goal.invariant-reading

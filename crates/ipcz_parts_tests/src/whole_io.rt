@@ -1,8 +1,7 @@
 //! A device read and written whole, in small pieces.
 
-use crate::slow::{SlowReader, SlowWriter};
-use ipcz_base::Device;
-use ipcz_script::{RunFault, read_up_to, write_whole};
+use ipcz_device::slow::{SlowReader, SlowWriter};
+use ipcz_device::{Device, Fault, read_up_to, write_whole};
 use std::alloc::Global;
 
 // Whether up to so many bytes of a device that gives one at a time are these, or none if a read fails.
@@ -14,7 +13,7 @@ fn reads(alloc: Global, limit: usize, reads_left: usize, want: Option<&[u8]>) ->
     });
     match read_up_to(alloc, &mut reader, limit) {
         Ok(bytes) => Some(bytes.as_slice()) == want,
-        Err(why) => why == RunFault::Read && want.is_none() && reader.failed(),
+        Err(why) => why == Fault::Read && want.is_none() && reader.failed(),
     }
 }
 

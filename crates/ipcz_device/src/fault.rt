@@ -1,11 +1,8 @@
-//! Why the program gave up.
-
 use std::alloc::{AllocError, AllocFailed};
 
-/// Why the program gave up.
+/// Why reading or writing as a whole was given up (docs/PROTOCOL.md, "Devices").
 ///
-/// `Read` and `Write`: a call of the reader or the writer failed. `OutOfMemory`: no memory was found, and nothing was
-/// written.
+/// `Read` and `Write`: a call of the reader or the writer failed. `OutOfMemory`: no memory was found.
 #[derive(Clone, Copy, Debug, PartialEq, Eq)]
 pub enum Fault {
     Read,
@@ -15,7 +12,7 @@ pub enum Fault {
 
 impl From<AllocError> for Fault {
     ghost use Rattle.std.specs.Prelude.{◌≡◌};
-    ghost use Rattle.ipcz_picture.specs.declared.fault.Fault.TheVariants.{OutOfMemory};
+    ghost use Rattle.ipcz_device.specs.declared.fault.Fault.TheVariants.{OutOfMemory};
 
     ghost from_gives = { λ _ fault. fault ≡ OutOfMemory };
 
@@ -26,7 +23,7 @@ impl From<AllocError> for Fault {
 
 impl<T: Drop> From<AllocFailed<T>> for Fault {
     ghost use Rattle.std.specs.Prelude.{◌≡◌};
-    ghost use Rattle.ipcz_picture.specs.declared.fault.Fault.TheVariants.{OutOfMemory};
+    ghost use Rattle.ipcz_device.specs.declared.fault.Fault.TheVariants.{OutOfMemory};
 
     ghost from_gives = { λ _ fault. fault ≡ OutOfMemory };
 

@@ -1,8 +1,7 @@
-//! Reading and writing as a whole.
 ghost use Rattle.std.specs.Prelude.{◌≡◌, ◌<◌, ◌≤◌, length, take, false, is_err, OnOk, IfOk, IfErr, IfSome, if◌then◌else◌};
 ghost use Rattle.std.specs.Io.KnownBytes.{Appends, Consumes, IsAtEnd};
-ghost use Rattle.ipcz_picture.specs.declared.fault.Fault.TheVariants as fault;
-ghost use Rattle.ipcz_picture.specs.WholeIo.{AppendsFront, ConsumesAtMost};
+ghost use Rattle.ipcz_device.specs.declared.fault.Fault.TheVariants as fault;
+ghost use Rattle.ipcz_device.specs.WholeIo.{AppendsFront, ConsumesAtMost};
 
 use crate::device::Device;
 use crate::fault::Fault;
@@ -11,7 +10,7 @@ use std::io::{Read, Write};
 
 const CHUNK: usize = 4096;
 
-/// Reads until a `read` answers 0 bytes or `limit` bytes are there.
+/// Reads until a `read` answers 0 bytes or `limit` bytes are there (docs/PROTOCOL.md, "Devices").
 ///
 /// A read that answers fewer bytes than it could isn't the end. The answer is `Read` if a `read` fails, and
 /// `OutOfMemory` if no memory is found for the bytes; the device hasn't failed then.
@@ -48,7 +47,7 @@ pub fn read_up_to<R: Read>(
     Ok(bytes)
 }
 
-/// Writes the whole text, with as many `write`s as that takes.
+/// Writes the whole text, with as many `write`s as that takes (docs/PROTOCOL.md, "Devices").
 ///
 /// The answer is `Write` if a `write` fails; some front of the text is written then.
 pub fn write_whole<W: Write>(device: &mut Device<W>, text: &[u8]) -> Result<(), Fault>

@@ -1,6 +1,6 @@
 use Rattle.std.proofs.Common.{◌≡◌, ◌++◌, arith, rules, length, length-append, length-take, take}
-use Rattle.ipcz_script.proofs.KnownBytes.{consumes_two}
-use Rattle.ipcz_script.proofs.whole_io.read_up_to.Goals as goal
+use Rattle.ipcz_device.proofs.KnownBytes.{consumes_two}
+use Rattle.ipcz_device.proofs.whole_io.read_up_to.Goals as goal
 
 pub returns-in_err-extend_from_slice-clause-taken : goal.returns-in_err-extend_from_slice-clause-taken
 returns-in_err-extend_from_slice-clause-taken g c =
