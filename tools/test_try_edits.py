@@ -17,7 +17,8 @@ import asked
 from asked import TOP
 CRATES = ("ipcz_base", "ipcz_edge")
 EDGE, SPEC, LINK_END = "src/edge.rt", "specs/Edge.antt", "Some(LinkEnd { link, side, other })"
-# What is planted: what must be told of it, and its file, old text and new one.
+CHOICE = re.search(r"^choose e n = .*$", (TOP / "crates/ipcz_edge" / SPEC).read_text(), re.M)[0]
+# What is planted: what must be told of it, its file, old text and new one, and if need be the function of which it says that it refuses it.
 PLANTED = {
     # (all others of bodies stand beside this one: what calls it has no proof, and is no nearer to a goal that fails)
     "wrong_callee": ("refused", "src/link_slot.rt", f"Kept::End {{ side, other, link }} => {LINK_END}", "Kept::End { .. } => None"),
@@ -29,15 +30,20 @@ PLANTED = {
     "stands_twice": ("BAD EDIT", EDGE, "LinkSlot::of(None)", "LinkSlot::of(Some(link))"),
     "changes_nothing": ("BAD EDIT", EDGE, "n < length", "n < length"),
     "harmless_clause": ("NOT REFUSED", EDGE, "ensures { result ≡ edge_of link }", "ensures { edge_of link ≡ result }"),
-    "wrong_definition": ("refused", SPEC, re.search(r"^choose e n = .*$", (TOP / "crates/ipcz_edge" / SPEC).read_text(), re.M)[0], "choose e n = e.primary"),
+    "wrong_definition": ("refused", SPEC, CHOICE, "choose e n = e.primary"),
+    "named_refuser": ("refused", SPEC, CHOICE, "choose e n = e.decaying", "edge::Edge::choose"),
+    "named_function_lets_it_pass": ("refused", SPEC, CHOICE, "choose e n = None", "edge::Edge::primary"),
+    "names_what_is_not_there": ("BAD EDIT", SPEC, CHOICE, "choose e n = None", "edge::Edge::chosen"),
+    "names_a_refuser_of_a_body": ("BAD EDIT", EDGE, "n < length", "n <= length", "edge::Edge::choose"),
     "cannot_be_read": ("BAD EDIT", EDGE, "ensures { result ≡ is_short_of n length }", "ensures { result ≡ is_shorter_than n length }"),
 }
 
 
 def plant(folder: pathlib.Path) -> None:
     folder.mkdir()
-    for name, (_, file, old, new) in PLANTED.items():
-        (folder / f"{name}.edit").write_text(f"file: {file}\nold: {old}\nnew: {new}\n")
+    for name, (_, file, old, new, *refusers) in PLANTED.items():
+        lines = [f"file: {file}", f"old: {old}", f"new: {new}", *(f"refused by: {it}" for it in refusers)]
+        (folder / f"{name}.edit").write_text("".join(f"{line}\n" for line in lines))
 
 
 def tried(room: pathlib.Path, **more: str) -> tuple[str, int, dict[str, str]]:

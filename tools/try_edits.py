@@ -19,8 +19,8 @@ it is. A function that only calls what isn't proved has no such goal, and rattle
 so is tried once more, by itself.
 
 **Other edits** (a definition, a clause, a type) are tried one by one: the crate, over what a check of it as it stands has proved, must
-not be proved. If the crate has laws these are asked first, and only the contract of all else is used; if they are proved, the whole crate is
-checked.
+not be proved. The functions that an edit names in a line `refused by: PATH, PATH`, or else the crate's laws, are asked first, and only the
+contract of all else is used; if they are proved, the whole crate is checked.
 
 All of it happens on copies. The libraries below are made by `rt lib`, and a check begins with what `rt check` kept in the folders `out`. With
 `--beside` both are from nothing: a crate is tried once that run has built the libraries below it. Then what is as it must be is kept for later
@@ -47,7 +47,7 @@ import sys
 import tempfile
 import threading
 import time
-from collections.abc import Iterable, Iterator
+from collections.abc import Callable, Iterable, Iterator
 from concurrent.futures import ThreadPoolExecutor
 
 TOP = pathlib.Path(__file__).resolve().parent.parent
@@ -59,6 +59,8 @@ FOLDERS = ("edits", HARMLESS)
 PROCESSORS = int(os.environ.get("RT_JOBS") or min(4, len(os.sched_getaffinity(0))))
 # A check that hasn't ended after so many seconds is ended.
 MOST_SECONDS = int(os.environ.get("EDIT_SECONDS", "3600"))
+# What is asked now and then while `rt ci` goes on beside: whether a processor is idle, and whether so many bytes are free for one check more.
+SECONDS_BETWEEN, LEAST_FREE = 4, 6 << 30
 KEPT = pathlib.Path(os.environ.get("XDG_CACHE_HOME") or pathlib.Path.home() / ".cache", "ipcz-edits")
 
 
@@ -227,8 +229,12 @@ def changes(text: str) -> Iterator[tuple[str | None, str | None, str]]:
             old = None
 
 
+REFUSER = re.compile(r"^refused by: (.*)$", re.M)
+
+
 class Edit:
-    """The lines that an edit changes, what keeps it from being made, and the functions whose bodies it changes, if it changes nothing else."""
+    """The lines that an edit changes, what keeps it from being made, the functions whose bodies it changes, if it changes nothing else, and
+    those of which it says that they refuse it."""
 
     def __init__(self, crate: pathlib.Path, path: pathlib.Path) -> None:
         self.path, self.name, self.is_harmless = path, f"{crate.name}/{path.stem}", path.parent.name == HARMLESS
@@ -244,6 +250,17 @@ class Edit:
             self.fault = "it changes nothing"
         if not self.fault and all(it and it.name for it in rounds):
             self.functions = frozenset(rounds)
+        self.refusers = self.named(crate) if not self.fault else frozenset()
+
+    def named(self, crate: pathlib.Path) -> frozenset[Function]:
+        """Returns the functions that the edit names. To name one that isn't there, or to name any if it changes only bodies, is a fault."""
+        names = {f"{crate.name}::{it.strip()}" for found in REFUSER.findall(self.path.read_text()) for it in found.split(",")}
+        found = frozenset(it for it in functions_of(crate) if it.name in names) if names else frozenset()
+        if lost := names - {it.name for it in found}:
+            self.fault = f"there is no function {min(lost)}"
+        elif names and self.functions:
+            self.fault = "it changes bodies alone, which their own functions refuse"
+        return found
 
     def apply(self, crate: pathlib.Path, texts: dict[str, str], rounds: set[Function | None]) -> str | None:
         """Makes the changes in texts, notes what functions they stand in, and returns what keeps it from that."""
@@ -403,6 +420,33 @@ def words(name: str, *flags: str) -> list[str]:
 
 RUNNING: set[subprocess.Popen] = set()
 STARTING = threading.Lock()
+
+
+def idle_seconds() -> float:
+    """Returns for how long this tool's processors had nothing to do, all added up, since the machine was started."""
+    of = {f"cpu{it}" for it in os.sched_getaffinity(0)}
+    rows = [line.split() for line in pathlib.Path("/proc/stat").read_text().split("\n") if line.startswith("cpu")]
+    return sum(int(row[4]) + int(row[5]) for row in rows if row[0] in of) / os.sysconf("SC_CLK_TCK")
+
+
+def free_bytes() -> int:
+    return 1024 * int(re.search(r"^MemAvailable: *(\d+)", pathlib.Path("/proc/meminfo").read_text(), re.M)[1])
+
+
+def lend(turns: threading.Semaphore, most: int, is_over: Callable[[], bool]) -> None:
+    """Lets one check more run for each processor that has nothing to do, and one less once none is idle; in the end as many more as may be."""
+    lent, was = 0, idle_seconds()
+    while not is_over():
+        time.sleep(SECONDS_BETWEEN)
+        now = idle_seconds()
+        idle, was = (now - was) / SECONDS_BETWEEN, now
+        if idle > 0.8 and lent < most and free_bytes() > LEAST_FREE:
+            turns.release()
+            lent += 1
+        elif idle < 0.1 and lent and turns.acquire(blocking=False):
+            lent -= 1
+    for _ in range(most - lent):
+        turns.release()
 
 
 def end_all(room: str) -> None:
@@ -584,7 +628,8 @@ class Trial:
                     self.together([edit], over)
 
     def one_by_one(self, edits: list[Edit]) -> None:
-        """Tries edits that change more than bodies: by the crate's laws, if it has some, and what they don't refuse by the whole crate."""
+        """Tries edits that change more than bodies: by the functions that an edit names, or the crate's laws, if it has some, and what these don't
+        refuse by the whole crate."""
 
         def tried(edit: Edit, start: pathlib.Path, asked: frozenset[Function]) -> Edit | None:
             over = self.next_room("over")
@@ -597,15 +642,16 @@ class Trial:
             return None
 
         with ThreadPoolExecutor(PROCESSORS) as pool:
-            if self.laws:
-                said = self.check([], self.room / "kept", self.laws)
-                if said.is_judged and not said.status:
-                    edits = [it for it in pool.map(lambda it: tried(it, self.room / "kept", self.laws), edits) if it]
+            asked = {it: it.refusers or self.laws for it in edits}
+            if every := frozenset().union(*asked.values()):
+                said = self.check([], self.room / "kept", every)
+                if said.is_judged and all(WELL.match(said.functions.get(it.name, "")) for it in every):
+                    edits = [it for it in pool.map(lambda it: tried(it, self.room / "kept", asked[it]) if asked[it] else it, edits) if it]
             if edits:
                 linked(self.room / "kept", self.room / "seed")
                 said = self.check([], self.room / "seed")
                 if said.is_proved:
-                    list(pool.map(lambda it: tried(it, self.room / "seed", ()), edits))
+                    list(pool.map(lambda it: tried(it, self.room / "seed", frozenset()), edits))
                 else:
                     for edit in edits:
                         self.tell(edit, UNKNOWN, f"the crate isn't proved without it: {said.last}")
@@ -680,10 +726,7 @@ def main() -> None:
         with ThreadPoolExecutor(len(trials) + 1) as pool:
             runs = [pool.submit(it.run) for it in trials]
             # (once the other run has ended its processors are free)
-            while beside and not beside.has_ended() and not all(it.done() for it in runs):
-                time.sleep(2)
-            for _ in range(PROCESSORS - jobs):
-                turns.release()
+            lend(turns, PROCESSORS - jobs, lambda: not beside or beside.has_ended() or all(it.done() for it in runs))
             for it in runs:
                 it.result()
     failed = [edit for it in trials for edit in it.failed()]
