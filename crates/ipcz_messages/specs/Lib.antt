@@ -2,3 +2,4 @@ pub mod Ends
 pub mod Joining
 pub mod Leftovers
 pub mod Messages
+pub mod Named

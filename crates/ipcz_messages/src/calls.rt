@@ -4,8 +4,9 @@
 //! pairs, of each two nodes one. So the first claim, or the first line that tells all words, says how many first pairs there
 //! are, and with that which portal is which end.
 
-ghost use Rattle.std.specs.Prelude.{◌≡◌, ◌≤◌, ◌<◌, ◌*◌, ◌-◌, ◌/◌, length, IfOk, IfSome};
+ghost use Rattle.std.specs.Prelude.{◌≡◌, ◌≤◌, ◌<◌, ◌+◌, ◌*◌, ◌-◌, ◌/◌, ℕ, List, length, IfOk, IfNone, IfSome, MatchOption};
 ghost use Rattle.std.specs.List.{Any};
+ghost use Rattle.ipcz_messages.specs.Named.{IsCallAt, IsFirstName};
 
 use crate::messages::namings::{Naming, namings};
 use crate::moves::{Move, Moves, lines_in_sight};
@@ -179,10 +180,30 @@ pub fn first_end(nodes: u8, node: u8, serial: u64) -> Option<End> {
     })
 }
 
-// The digit of a node.
-fn node_of(digit: u8, nodes: u8) -> Option<u8> {
+// The node of a digit.
+fn node_of(digit: u8, nodes: u8) -> Option<u8>
+    ensures { MatchOption result ((n : ℕ) → n < nodes → digit ≡ 48 + n → ⊥) (λ n. (n < nodes) × (digit ≡ 48 + n)) }
+{
     let node = digit.checked_sub(b'0')?;
     if node < nodes { Some(node) } else { None }
+}
+
+/// The two nodes of a first pair, of so many, by the name of a portal of it, as 0 and 1 by `0>1`.
+pub fn nodes_of_name(name: &[u8], nodes: u8) -> Option<(u8, u8)>
+    ensures named { IfSome result (λ p. IsFirstName nodes name.now p.0 p.1) }
+    ensures other { IfNone result ((node other : ℕ) → IsFirstName nodes name.now node other → ⊥) }
+{
+    let [one, b'>', other] = name else {
+        return None;
+    };
+    let (Some(node), Some(peer)) = (node_of(*one, nodes), node_of(*other, nodes)) else {
+        return None;
+    };
+    if node == peer {
+        None
+    } else {
+        Some((node, peer))
+    }
 }
 
 impl<'a> Portals<'a> {
@@ -202,24 +223,18 @@ impl<'a> Portals<'a> {
 
     // The end of a first pair by its name, as `0>1`.
     fn first_end(&self, name: &[u8]) -> Option<End> {
-        let [one, b'>', other] = name else {
-            return None;
-        };
         let nodes = self.nodes?;
-        let one = node_of(*one, nodes)?;
-        let other = node_of(*other, nodes)?;
+        let (one, other) = nodes_of_name(name, nodes)?;
         if one < other {
             Some(End {
                 pair: first_pair(nodes, one, other),
                 side: Side::A,
             })
-        } else if other < one {
+        } else {
             Some(End {
                 pair: first_pair(nodes, other, one),
                 side: Side::B,
             })
-        } else {
-            None
         }
     }
 
@@ -348,7 +363,10 @@ impl<'a> Known<'a> {
 }
 
 /// The portal at which a line is a call that found it.
-pub fn portal_of<'a>(line: &Line<'a>) -> Option<&'a [u8]> {
+pub fn portal_of<'a>(line: &Line<'a>) -> Option<&'a [u8]>
+    ensures called { IfSome result (λ name. IsCallAt name.now line.now) }
+    ensures other { IfNone result ((name : List ℕ) → IsCallAt name line.now → ⊥) }
+{
     match line {
         Line::Put {
             answer: Answer::Refused(Refusal::UnknownName | Refusal::Away),

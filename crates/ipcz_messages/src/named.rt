@@ -3,9 +3,11 @@
 //! Such a run tells nothing of routers. But nothing moves before its first settle: up to there each first portal `i>j` is at node i, and an
 //! opened one at the node that opened it, which no line tells.
 
-ghost use Rattle.std.specs.Prelude.{◌≤◌, ◌<◌, length, IfSome, IfOk, OnOk};
+ghost use Rattle.std.specs.Prelude.{◌≡◌, ◌≤◌, ◌<◌, ℕ, List, [], length, true, IfSome, IfNone, IfOk, OnOk};
+ghost use Rattle.std.specs.List.{All, Any};
+ghost use Rattle.ipcz_messages.specs.Named.{IsCloseOf, IsFirstName, IsNoted, IsOpenOf, IsPlaceOfName, IsTold, is_turn};
 
-use crate::calls::portal_of;
+use crate::calls::{nodes_of_name, portal_of};
 use ipcz_lines::{Answer, Line, ReadLine};
 use std::alloc::{AllocError, Global};
 
@@ -24,32 +26,27 @@ pub struct NamedPortal<'a> {
 }
 
 // Whether a line is of a turn.
-fn is_turn(read: &ReadLine) -> bool {
-    matches!(read.line, Line::Turn { .. })
-}
-
-// The node of a digit.
-fn node_of(digit: u8) -> Option<u8>
-    ensures few { IfSome result (λ node. node < 8) }
+fn is_turn(read: &ReadLine) -> bool
+    ensures { result ≡ is_turn read.now.line }
 {
-    let node = digit.checked_sub(b'0')?;
-    if node < 8 { Some(node) } else { None }
+    matches!(read.line, Line::Turn { .. })
 }
 
 // The node that has a first portal from the start, as 0 has `0>1`, by the portal's name.
 fn first_node(name: &[u8]) -> Option<u8>
-    ensures few { IfSome result (λ node. node < 8) }
+    ensures named { IfSome result (λ node. (other : ℕ) × IsFirstName 8 name.now node other) }
+    ensures other { IfNone result ((node other : ℕ) → IsFirstName 8 name.now node other → ⊥) }
 {
-    let [one, b'>', other] = name else {
-        return None;
-    };
-    let (one, other) = (node_of(*one)?, node_of(*other)?);
-    if one == other { None } else { Some(one) }
+    match nodes_of_name(name, 8) {
+        Some((node, _)) => Some(node),
+        None => None,
+    }
 }
 
-/// The index of the portal of a name.
+/// The index of the first portal of a name.
 pub fn portal_named(named: &[NamedPortal], name: &[u8]) -> Option<usize>
     ensures few { IfSome result (λ i. i < length named.now) }
+    ensures found { IsPlaceOfName name.now named.now result }
 {
     named.iter().position(|it| it.name == name)
 }
@@ -68,11 +65,14 @@ fn note<'a>(
     node: Option<u8>,
     line: usize,
 ) -> Result<(), AllocError>
-    ensures few { OnOk result (length named.old.items ≤ 32 → length named.new.items ≤ 32) }
+    ensures noted { OnOk result (IsNoted name.now node line named.old.items named.new.items) }
 {
-    if named.len() >= MOST_NAMED || portal_named(named.as_slice(), name).is_some() {
+    if named.len() >= MOST_NAMED {
         return Ok(());
     }
+    let None = portal_named(named.as_slice(), name) else {
+        return Ok(());
+    };
     let place = count_of(named.as_slice(), node);
     named.push(NamedPortal {
         name,
@@ -84,38 +84,81 @@ fn note<'a>(
     Ok(())
 }
 
-// Notes the portals that a line opens or calls, and the one that it closes.
-fn note_line<'a>(
-    named: &mut Vec<NamedPortal<'a>>,
-    line: usize,
-    read: &ReadLine<'a>,
-) -> Result<(), AllocError>
-    ensures few { OnOk result (length named.old.items ≤ 32 → length named.new.items ≤ 32) }
+// The names of the portals that a line opens.
+fn opened_by<'a>(line: &Line<'a>) -> Option<(&'a [u8], &'a [u8])>
+    ensures opened { IfSome result (λ names. IsOpenOf names.0.now line.now × IsOpenOf names.1.now line.now) }
+    ensures other { IfNone result ((name : List ℕ) → IsOpenOf name line.now → ⊥) }
 {
-    if let Line::Open {
-        first,
-        second,
-        refusal: None,
-    } = read.line
-    {
+    match line {
+        Line::Open {
+            first,
+            second,
+            refusal: None,
+        } => Some((first, second)),
+        _ => None,
+    }
+}
+
+// The name of the portal that a line closes.
+fn closed_by<'a>(line: &Line<'a>) -> Option<&'a [u8]>
+    ensures closed { IfSome result (λ name. IsCloseOf name.now line.now) }
+    ensures other { IfNone result ((name : List ℕ) → IsCloseOf name line.now → ⊥) }
+{
+    match line {
+        Line::Close {
+            name,
+            answer: Answer::Number(_),
+        } => Some(name),
+        _ => None,
+    }
+}
+
+// Notes the portals that a line opens.
+fn note_opened<'a>(
+    named: &mut Vec<NamedPortal<'a>>,
+    lines: &[ReadLine<'a>],
+    line: usize,
+) -> Result<(), AllocError>
+    requires { line < length lines.now }
+    ensures few { OnOk result (length named.old.items ≤ 32 → length named.new.items ≤ 32) }
+    ensures told { OnOk result (All (IsTold lines.now) named.old.items → All (IsTold lines.now) named.new.items) }
+{
+    if let Some((first, second)) = opened_by(&lines[line].line) {
         note(named, first, None, line)?;
         note(named, second, None, line)?;
     }
-    if let Some(name) = portal_of(&read.line)
+    Ok(())
+}
+
+// Notes the portal that a line calls, if it was there from the start.
+fn note_called<'a>(
+    named: &mut Vec<NamedPortal<'a>>,
+    lines: &[ReadLine<'a>],
+    line: usize,
+) -> Result<(), AllocError>
+    requires { line < length lines.now }
+    ensures few { OnOk result (length named.old.items ≤ 32 → length named.new.items ≤ 32) }
+    ensures told { OnOk result (All (IsTold lines.now) named.old.items → All (IsTold lines.now) named.new.items) }
+{
+    if let Some(name) = portal_of(&lines[line].line)
         && let Some(node) = first_node(name)
     {
         note(named, name, Some(node), 0)?;
     }
-    if let Line::Close {
-        name,
-        answer: Answer::Number(_),
-    } = read.line
-        && let Some(index) = portal_named(named.as_slice(), name)
-        && let Some(portal) = named.get_mut(index)
-    {
-        portal.closed = Some(line);
-    }
     Ok(())
+}
+
+// Notes the portal that a line closes.
+fn note_closed(named: &mut Vec<NamedPortal>, lines: &[ReadLine], line: usize)
+    requires { line < length lines.now }
+    ensures few { length named.new.items ≡ length named.old.items }
+    ensures told { All (IsTold lines.now) named.old.items → All (IsTold lines.now) named.new.items }
+{
+    if let Some(name) = closed_by(&lines[line].line)
+        && let Some(index) = portal_named(named.as_slice(), name)
+    {
+        named[index].closed = Some(line);
+    }
 }
 
 /// The portals of a run without turns, in the order in which its lines name them; of another run none.
@@ -124,13 +167,17 @@ pub fn named_portals<'a>(
     lines: &[ReadLine<'a>],
 ) -> Result<Vec<NamedPortal<'a>>, AllocError>
     ensures few { IfOk result (λ named. length named.items ≤ 32) }
+    ensures turned { IfOk result (λ named. Any (λ x. is_turn x.line ≡ true) lines.now → named.items ≡ []) }
+    ensures told { IfOk result (λ named. All (IsTold lines.now) named.items) }
 {
     let mut named = Vec::new(alloc);
     if lines.iter().any(is_turn) {
         return Ok(named);
     }
-    for (line, read) in lines.iter().enumerate() {
-        note_line(&mut named, line, read)?;
+    for line in 0..lines.len() {
+        note_opened(&mut named, lines, line)?;
+        note_called(&mut named, lines, line)?;
+        note_closed(&mut named, lines, line);
     }
     Ok(named)
 }

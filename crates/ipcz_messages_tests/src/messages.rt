@@ -58,7 +58,7 @@ const OLD: Link = Link::Central(1);
 
 const INNER: Link = Link::Peripheral { node: 0, serial: 0 };
 
-const ONE_ROWS: [Row; 5] = [
+static ONE_ROWS: [Row; 5] = [
     (
         0,
         1,
@@ -122,7 +122,7 @@ fn one_bypass_is_five_messages(rt: HostRuntime) {
     assert!(rt; first_moves(&told.messages, b"1B"));
 }
 
-const CLOSED_ROWS: [Row; 3] = [
+static CLOSED_ROWS: [Row; 3] = [
     (
         0,
         0,
@@ -172,7 +172,7 @@ fn both_closed_are_three_messages(rt: HostRuntime) {
     assert!(rt; left_at(&told.routers, 1) == Some(19));
 }
 
-const TWO_ROWS: [Row; 6] = [
+static TWO_ROWS: [Row; 6] = [
     (
         0,
         1,
@@ -277,7 +277,7 @@ const FLUSH: Origin = (
 const UNKNOWN: Origin = (None, None, None, None, b"");
 
 // Transcripts, and what is known of the message of an index.
-const ORIGINS: [(&[u8], usize, Origin); 9] = [
+static ORIGINS: [(&[u8], usize, Origin); 9] = [
     (b"n0: r0 send out 7 C0 moves 1A,1B\nn0: post 1\n", 0, ITEM),
     (
         b"n0: r0 send out 7 C0 moves 1A,1B\nn0: post 1\nn1: look 0\nsettled\n",

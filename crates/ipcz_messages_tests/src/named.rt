@@ -19,7 +19,7 @@ words 3 547 3
 // A name, the node that it tells, its place in the band, its first line, and the line that closes it.
 type Row = (&'static [u8], Option<u8>, usize, usize, Option<usize>);
 
-const ROWS: [Row; 4] = [
+static ROWS: [Row; 4] = [
     (b"left", None, 0, 0, Some(8)),
     (b"right", None, 1, 0, None),
     (b"0>1", Some(0), 0, 0, None),

@@ -27,7 +27,7 @@ const B2: Option<End> = Some(End {
     side: Side::B,
 });
 
-const ROWS: [Row; 5] = [
+static ROWS: [Row; 5] = [
     (b"open a b ok\nopen x y ok\nn0: r3 claim 5\n", A4, B2),
     (b"open a b NoWord\nwords 3 3 3\nopen x y ok\n", A3, B2),
     (b"n0: r3 claim 3\nopen x y ok\n", A4, B2),

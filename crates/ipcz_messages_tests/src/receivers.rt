@@ -4,7 +4,7 @@ use crate::told::{name_of, told_by};
 use std::alloc::Global;
 
 // Transcripts, and the router that the first message is known to be for: a flush whose link no router names.
-const RECEIVERS: [(&[u8], Option<(u8, u64)>); 11] = [
+static RECEIVERS: [(&[u8], Option<(u8, u64)>); 11] = [
     (
         b"n1: look 0\nn1: hand Flush C2\nn1: r4 rest\n",
         Some((1, 4)),
@@ -76,7 +76,7 @@ fn the_only_flagged_router_is_the_receiver(rt: HostRuntime) {
 
 // Transcripts, and the router that the last message is known to be for: it comes over the link of a move, which no line of that router
 // names. The number of nodes is known or not, and at which node each pair was opened.
-const NEWBORNS: [(&[u8], Option<(u8, u64)>); 5] = [
+static NEWBORNS: [(&[u8], Option<(u8, u64)>); 5] = [
     (
         b"words 3
 open x y ok

@@ -64,7 +64,7 @@ fn with_origins(alloc: Global, told: &mut Told) -> Result<(), AllocError> {
 // A router by its node and its serial, and its first line.
 type Begun = (u8, u64, usize);
 
-const BEGUN: [(&[u8], [Begun; 3]); 5] = [
+static BEGUN: [(&[u8], [Begun; 3]); 5] = [
     (TWO_PROXIES, [(0, 0, 0), (0, 1, 0), (0, 2, 0)]),
     (ONE_BYPASS, [(0, 0, 0), (0, 1, 0), (0, 2, 0)]),
     (ONE_BYPASS, [(1, 0, 0), (1, 1, 12), (0, 0, 0)]),
@@ -157,7 +157,7 @@ const B3: Option<End> = Some(End {
     side: Side::B,
 });
 
-const SERVED: [(&[u8], [Served; 5]); 4] = [
+static SERVED: [(&[u8], [Served; 5]); 4] = [
     // The six words of four nodes' first pairs, and routers that name no link.
     (
         b"words 3 3 3 3 3 3\nn1: r0 rest\nn2: r0 rest\nn2: r1 rest\nn2: r2 rest\nn2: r3 rest\n",

@@ -1,0 +1,100 @@
+-- Which portals a run without turns names.
+use Rattle.std.specs.Prelude.{ℕ, ◌+◌, ◌≡◌, ◌<◌, ◌≢◌, ◌≤◌, ◌++◌, Bool, true, false, ◌⊎◌, List, [], ◌∷◌, length, Option, Some, None}
+use Rattle.std.specs.List.{All, AllWithin, HoldsAt}
+use Rattle.std.specs.Option.{IfSome}
+use Rattle.ipcz_lines.specs.declared.line.Line.{Line}
+use Rattle.ipcz_lines.specs.declared.line.Line.TheVariants as lines
+use Rattle.ipcz_lines.specs.declared.line.ReadLine.{ReadLine}
+use Rattle.ipcz_lines.specs.declared.line.parts.Answer.{Answer}
+use Rattle.ipcz_lines.specs.declared.line.parts.Answer.TheVariants as answers
+use Rattle.ipcz_lines.specs.declared.line.parts.Refusal.{Refusal}
+use Rattle.ipcz_lines.specs.declared.line.parts.Refusal.TheVariants as refusals
+use Rattle.ipcz_messages.specs.declared.named.NamedPortal.{NamedPortal}
+
+abbrev pub is_turn : Line → Bool
+is_turn (lines.Turn node event) = true
+is_turn other = false
+
+-- the call found its portal
+abbrev pub finds : Refusal → Bool
+finds refusals.UnknownName = false
+finds refusals.Away = false
+finds other = true
+
+abbrev pub is_found : Answer → Bool
+is_found (answers.Refused why) = finds why
+is_found (answers.Number n) = true
+
+-- a line is a call at the portal of a name, which it found
+abbrev pub IsCallAt : List ℕ → Line → Type 0
+IsCallAt name (lines.Put at answer) = (name ≡ at.now) × (is_found answer ≡ true)
+IsCallAt name (lines.Close at answer) = (name ≡ at.now) × (is_found answer ≡ true)
+IsCallAt name (lines.Missed at why) = (name ≡ at.now) × (finds why ≡ true)
+IsCallAt name (lines.Got at n names text) = name ≡ at.now
+IsCallAt name other = ⊥
+
+-- a line opens a pair, one of whose portals has the name
+abbrev pub IsOpenOf : List ℕ → Line → Type 0
+IsOpenOf name (lines.Open first second None) = (name ≡ first.now) ⊎ (name ≡ second.now)
+IsOpenOf name other = ⊥
+
+-- a line closes the portal of a name
+abbrev pub IsCloseOf : List ℕ → Line → Type 0
+IsCloseOf name (lines.Close at (answers.Number n)) = name ≡ at.now
+IsCloseOf name other = ⊥
+
+-- the name of a first portal, as `0>1`: that at the first of these nodes, of fewer than so many, whose peer is at the other
+pub record IsFirstName (nodes : ℕ) (name : List ℕ) (node other : ℕ) : Type 0 where
+  pub text : name ≡ (48 + node) ∷ 62 ∷ (48 + other) ∷ []
+  pub node_is : node < nodes
+  pub other_is : other < nodes
+  pub two : node ≢ other
+
+-- the portal at this place has the name, and none before it
+pub record IsFirstOfName (name : List ℕ) (named : List NamedPortal) (i : ℕ) : Type 0 where
+  pub within : i < length named
+  pub found : HoldsAt (λ p. p.name.now ≡ name) named i
+  pub before : AllWithin (λ p. p.name.now ≢ name) named 0 i
+
+-- the place of the portal of a name, or none only if none has it
+abbrev pub IsPlaceOfName : List ℕ → List NamedPortal → Option ℕ → Type 0
+IsPlaceOfName name named (Some i) = IsFirstOfName name named i
+IsPlaceOfName name named None = All (λ p. p.name.now ≢ name) named
+
+-- a portal of this name and node is told by the open at its first line
+pub record IsOpened (read : List ReadLine) (name : List ℕ) (node : Option ℕ) (first : ℕ) : Type 0 where
+  pub nowhere : node ≡ None
+  pub within : first < length read
+  pub opened : HoldsAt (λ x. IsOpenOf name x.line) read first
+
+-- a portal of this name and node is there from the start, and a line calls it
+pub record IsCalled (read : List ReadLine) (name : List ℕ) (node : Option ℕ) (first : ℕ) : Type 0 where
+  pub home : (here other : ℕ) × (node ≡ Some here) × IsFirstName 8 name here other
+  pub start : first ≡ 0
+  pub called : (line : ℕ) × (line < length read) × HoldsAt (λ x. IsCallAt name x.line) read line
+
+abbrev pub IsNamed : List ReadLine → List ℕ → Option ℕ → ℕ → Type 0
+IsNamed read name node first = IsOpened read name node first ⊎ IsCalled read name node first
+
+-- a line closes the portal of a name
+pub record IsClosedAt (read : List ReadLine) (name : List ℕ) (i : ℕ) : Type 0 where
+  pub within : i < length read
+  pub closes : HoldsAt (λ x. IsCloseOf name x.line) read i
+
+-- a portal is what the lines tell
+pub record IsTold (read : List ReadLine) (p : NamedPortal) : Type 0 where
+  pub named : IsNamed read p.name.now p.node p.first
+  pub closed : IfSome p.closed (λ i. IsClosedAt read p.name.now i)
+
+-- a portal that is new
+pub record IsNew (name : List ℕ) (node : Option ℕ) (first : ℕ) (p : NamedPortal) : Type 0 where
+  pub name_is : p.name.now ≡ name
+  pub node_is : p.node ≡ node
+  pub first_is : p.first ≡ first
+  pub open_is : p.closed ≡ None
+
+-- a portal is noted behind the others, if there is room for it and none has its name
+abbrev pub IsNoted : List ℕ → Option ℕ → ℕ → List NamedPortal → List NamedPortal → Type 0
+IsNoted name node first old new =
+    ((new ≡ old) × ((32 ≤ length old) ⊎ ((i : ℕ) × IsFirstOfName name old i)))
+    ⊎ ((length old < 32) × All (λ p. p.name.now ≢ name) old × ((p : NamedPortal) × (new ≡ old ++ p ∷ []) × IsNew name node first p))
