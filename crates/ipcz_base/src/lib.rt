@@ -1,5 +1,5 @@
 //! The types that every crate of the portal routers names: sides and ends of pairs, links, parcels, items and
-//! messages, and refusals.
+//! messages, and refusals. The devices of `ipcz_device` are passed on.
 #![tactic(auto)]
 
 mod descriptor;
@@ -17,6 +17,7 @@ mod side;
 
 pub use descriptor::Descriptor;
 pub use end::End;
+pub use ipcz_device::Device;
 pub use item::Item;
 pub use limits::LAST;
 pub use link_end::LinkEnd;
