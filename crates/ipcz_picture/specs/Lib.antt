@@ -2,5 +2,6 @@ pub mod Marks
 pub mod Outputs
 pub mod Parts
 pub mod Rows
+pub mod Scenes
 pub mod Sizes
 pub mod Words

@@ -28,7 +28,7 @@ use ipcz_messages::calls::{Portals, calls};
 use ipcz_messages::ends::ends;
 use ipcz_messages::messages::{messages, note_births};
 use ipcz_messages::moves::{Moves, lines_in_sight};
-use ipcz_messages::named::named_portals;
+use ipcz_messages::named::{NamedPortal, named_portals};
 use ipcz_messages::origins::note_origins;
 use ipcz_messages::routers::{routers, see_calls, see_messages};
 use std::alloc::{AllocError, Global};
@@ -108,6 +108,13 @@ fn draw_rows(
     }
 }
 
+// The portals that are named. How many there are is all that the size of a picture needs of them.
+fn named<'a>(alloc: Global, lines: &[ReadLine<'a>]) -> Result<Vec<NamedPortal<'a>>, AllocError>
+    ensures few { IfOk result (λ named. length named.items ≤ 32) }
+{
+    named_portals(alloc, lines)
+}
+
 /// The picture of the lines within the bounds; what it tells of them is found from all lines.
 pub fn picture(alloc: Global, lines: &[ReadLine], bounds: Bounds) -> Result<Vec<u8>, AllocError>
     requires many { length lines.now < 2 ^ 32 }
@@ -129,7 +136,7 @@ pub fn picture(alloc: Global, lines: &[ReadLine], bounds: Bounds) -> Result<Vec<
     see_calls(&mut routers, &calls);
     let lanes = lanes(alloc, lines, &routers)?;
     let slots = slots(alloc, &messages, lines.len())?;
-    let named = named_portals(alloc, lines)?;
+    let named = named(alloc, lines)?;
     let scene = Scene::new(
         alloc, lines, bounds, &routers, &lanes, &named, &placed, bottom,
     )?;

@@ -2,6 +2,7 @@
 
 ghost use Rattle.std.specs.Prelude.{◌≡◌, ◌≤◌, ◌<◌, ◌↔◌, length, IfOk, IsTrue};
 ghost use Rattle.ipcz_picture.specs.Parts.{IsWithin, Meets};
+ghost use Rattle.ipcz_picture.specs.Scenes.{across_of_portal, column_at, walls_of};
 
 use crate::lanes::Lane;
 use crate::part::Bounds;
@@ -212,6 +213,14 @@ fn opened_walls(nodes: &[Walls], named: &[NamedPortal]) -> Option<Walls> {
     }
 }
 
+// How far to the right a column of a band is, by the band's left wall.
+fn column_at(left: u64, column: usize) -> u64
+    ensures { result ≡ column_at left column }
+{
+    left.saturating_add(LEFT_PAD)
+        .saturating_add((column as u64).saturating_mul(COLUMN))
+}
+
 // How far down the row of each line begins that has a place.
 fn tops(alloc: Global, placed: &[Place]) -> Result<Vec<u64>, AllocError> {
     let mut tops = Vec::new(alloc);
@@ -310,7 +319,9 @@ impl<'a> Scene<'a> {
     }
 
     /// The walls of a node; of one that no line names, where the first band would begin.
-    pub fn walls_of(&self, node: u8) -> Walls {
+    pub fn walls_of(&self, node: u8) -> Walls
+        ensures { result ≡ walls_of self.now.nodes.items node }
+    {
         match self.nodes.as_slice().get(node as usize) {
             Some(walls) => *walls,
             None => Walls {
@@ -324,27 +335,21 @@ impl<'a> Scene<'a> {
     pub fn across_of(&self, router: usize) -> u64 {
         match (self.routers.get(router), self.lanes.get(router)) {
             (Some(router), Some(lane)) => {
-                let walls = self.walls_of(router.node);
-                walls
-                    .left
-                    .saturating_add(LEFT_PAD)
-                    .saturating_add((lane.column as u64).saturating_mul(COLUMN))
+                column_at(self.walls_of(router.node).left, lane.column)
             }
             _ => 0,
         }
     }
 
     /// How far to the right a portal stands.
-    pub fn across_of_portal(&self, portal: &NamedPortal) -> u64 {
-        let walls = match (portal.node, self.opened) {
-            (Some(node), _) => self.walls_of(node),
-            (None, Some(walls)) => walls,
-            (None, None) => return 0,
-        };
-        walls
-            .left
-            .saturating_add(LEFT_PAD)
-            .saturating_add((portal.place as u64).saturating_mul(COLUMN))
+    pub fn across_of_portal(&self, portal: &NamedPortal) -> u64
+        ensures { result ≡ across_of_portal self.now.nodes.items self.now.opened portal.now.node portal.now.place }
+    {
+        match (portal.node, self.opened) {
+            (Some(node), _) => column_at(self.walls_of(node).left, portal.place),
+            (None, Some(walls)) => column_at(walls.left, portal.place),
+            (None, None) => 0,
+        }
     }
 
     /// How far to the right the router of a node with a serial stands.
