@@ -48,7 +48,7 @@ impl<'a> Worker for Listed<'a> {
 }
 
 // Turns and a limit, with how many turns are taken, and how many of them are counted.
-const CASES: [(&'static [Turn], u64, usize, u64); 6] = [
+static CASES: [(&'static [Turn], u64, usize, u64); 6] = [
     (
         &[
             Idle,

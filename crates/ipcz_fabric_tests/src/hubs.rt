@@ -1,9 +1,9 @@
 //! Hubs shared by threads.
 ghost use Rattle.std.specs.Prelude.{◌≡◌};
 
-use crate::tables::{both, hub_of, routers_of, world_of};
+use crate::tables::{both, hub_of, routers_of, sends, world_of};
 use ipcz_base::{End, Side};
-use ipcz_fabric::{Blank, FabricName, Gate, Hub, Portal, start, work};
+use ipcz_fabric::{Blank, FabricName, Gate, Got, Hub, Portal, start, work};
 use ipcz_world::{Reply, Step, World};
 use std::alloc::Global;
 use std::marker::Brand;
@@ -198,6 +198,12 @@ impl<'a> Gate for Until<'a> {
     }
 }
 
+// A number, as text.
+fn text_of(alloc: Global, n: u64) -> Option<Vec<u8>> {
+    let text = format!(in alloc; "{n}").ok()?;
+    Vec::from_slice(alloc, text.as_bytes()).ok()
+}
+
 // Puts a number, as text.
 fn puts<F: FabricName, R: Wait>(
     rt: &R,
@@ -206,13 +212,18 @@ fn puts<F: FabricName, R: Wait>(
     at: &Portal<F>,
     n: u64,
 ) -> bool {
-    let Ok(text) = format!(in alloc; "{n}") else {
-        return false;
-    };
-    let Ok(bytes) = Vec::from_slice(alloc, text.as_bytes()) else {
-        return false;
-    };
-    at.put(rt, hub, bytes, Vec::new(alloc)).is_ok()
+    match text_of(alloc, n) {
+        Some(bytes) => at.put(rt, hub, bytes, Vec::new(alloc)).is_ok(),
+        None => false,
+    }
+}
+
+// Whether a number was got, as text.
+fn is_number<F: FabricName>(alloc: Global, got: &Got<F>, n: u64) -> bool {
+    match text_of(alloc, n) {
+        Some(text) => got.n == n && got.bytes.as_slice() == text.as_slice(),
+        None => false,
+    }
 }
 
 // Whether a get gives a number, as text; none if nothing has come.
@@ -223,13 +234,10 @@ fn gets<F: FabricName, R: Wait>(
     at: &Portal<F>,
     n: u64,
 ) -> Option<bool> {
-    let Ok(got) = at.get(rt, hub) else {
-        return None;
-    };
-    let Ok(text) = format!(in alloc; "{n}") else {
-        return Some(false);
-    };
-    Some(got.n == n && got.bytes.as_slice() == text.as_bytes())
+    match at.get(rt, hub) {
+        Ok(got) => Some(is_number(alloc, &got, n)),
+        Err(_) => None,
+    }
 }
 
 // Whether the next get that gives something gives a number, as text.
@@ -290,21 +298,6 @@ fn gets_ten<F: FabricName, R: Wait>(
         count.store(n.saturating_add(1), Ordering::SeqCst);
     }
     true
-}
-
-// Sends a portal on.
-fn sends<F: FabricName, R: Wait>(
-    rt: &R,
-    hub: &Hub<F>,
-    alloc: Global,
-    at: &Portal<F>,
-    moved: Portal<F>,
-) -> bool {
-    let mut portals = Vec::new(alloc);
-    if portals.push(moved).is_err() {
-        return false;
-    }
-    at.put(rt, hub, Vec::new(alloc), portals).is_ok()
 }
 
 // Waits for a portal to come; none if each parcel was got meanwhile.

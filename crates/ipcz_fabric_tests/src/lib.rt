@@ -1,26 +1,12 @@
-//! Tests of cells through their public calls. They stand in a crate of their own, so that `ipcz_fabric` is proved once.
+//! Tests of hubs, portals and workers through their public calls. They stand in a crate of their own, so that `ipcz_fabric` is proved once.
 #![tactic(auto)]
 
 #[cfg(test)]
-mod cells;
-#[cfg(test)]
-mod closes;
-#[cfg(test)]
 mod counts;
-#[cfg(test)]
-mod ends;
 #[cfg(test)]
 mod hubs;
 #[cfg(test)]
-mod locks;
-#[cfg(test)]
-mod opens;
-#[cfg(test)]
-mod owned;
-#[cfg(test)]
 mod portals;
-#[cfg(test)]
-mod race;
 #[cfg(test)]
 mod tables;
 #[cfg(test)]

@@ -1,7 +1,7 @@
 //! What portals, hubs and workers answer on one thread, each in a hub of two nodes.
 ghost use Rattle.std.specs.Prelude.{◌≡◌};
 
-use crate::tables::hub_of;
+use crate::tables::{hub_of, sends};
 use ipcz_base::{End, Refusal};
 use ipcz_fabric::{Blank, FabricName, Gate, Hub, Portal, start, work};
 use std::alloc::Global;
@@ -96,16 +96,16 @@ fn is_open<F: FabricName, R: Wait>(rt: &R, hub: &Hub<F>) -> Option<bool> {
 }
 
 // Puts a portal at another, in a parcel, and takes the turns of node 0 that are there.
-fn sends<F: FabricName, R: Wait>(
+fn sends_and_acts<F: FabricName, R: Wait>(
     rt: &R,
     hub: &Hub<F>,
     alloc: Global,
     at: &Portal<F>,
     moved: Portal<F>,
 ) -> Option<u64> {
-    let mut portals = Vec::new(alloc);
-    portals.push(moved).ok()?;
-    at.put(rt, hub, Vec::new(alloc), portals).ok()?;
+    if !sends(rt, hub, alloc, at, moved) {
+        return None;
+    }
     hub.acts(rt, 0, 100).ok()
 }
 
@@ -147,9 +147,9 @@ fn goes_twice<F: FabricName, R: Wait + Clock>(
     b: &Portal<F>,
     moved: Portal<F>,
 ) -> Option<End> {
-    sends(rt, hub, alloc, a, moved)?;
+    sends_and_acts(rt, hub, alloc, a, moved)?;
     let taken = takes(rt, hub, b)?;
-    sends(rt, hub, alloc, a, taken)?;
+    sends_and_acts(rt, hub, alloc, a, taken)?;
     listed(rt, hub, alloc, b)
 }
 

@@ -3,6 +3,8 @@ ghost use Rattle.std.specs.Prelude.{◌≡◌};
 
 use ipcz_fabric::{Blank, FabricName, Hub, Portal, finish};
 use ipcz_world::World;
+use std::alloc::Global;
+use std::sync::Wait;
 
 /// A hub of the cells of a table, and its portals.
 pub(crate) fn hub_of<F: FabricName>(blank: Blank) -> Option<(Hub<F>, Vec<Portal<F>>)>
@@ -12,6 +14,21 @@ pub(crate) fn hub_of<F: FabricName>(blank: Blank) -> Option<(Hub<F>, Vec<Portal<
         Ok((fabric, cells)) => Hub::new(fabric, cells).ok(),
         Err(_) => None,
     }
+}
+
+/// Whether a portal is put at another, in a parcel without bytes.
+pub(crate) fn sends<F: FabricName, R: Wait>(
+    rt: &R,
+    hub: &Hub<F>,
+    alloc: Global,
+    at: &Portal<F>,
+    moved: Portal<F>,
+) -> bool {
+    let mut portals = Vec::new(alloc);
+    if portals.push(moved).is_err() {
+        return false;
+    }
+    at.put(rt, hub, Vec::new(alloc), portals).is_ok()
 }
 
 /// The world that the cells of a hub show.
