@@ -191,55 +191,57 @@ fn carries_hello_from_node_to_node(rt: HostRuntime) {
 }
 
 // Two sends, a post, a look and a hand for each message, and a rest of each router.
-static TWO_PARCELS: [Call; 3] = [
-    Call::Open(0, A0, B0),
-    Call::Put(0, A0, b"a", &[], 0),
-    Call::Put(0, A0, b"b", &[], 1),
-];
-
-static TEN_ACTS: [[Call; 3]; 4] = [
+static TEN_ACTS: [[Call; 9]; 4] = [
     [
+        Call::Open(0, A0, B0),
+        Call::Put(0, A0, b"a", &[], 0),
+        Call::Put(0, A0, b"b", &[], 1),
         Call::Settle(100, Some(10)),
         Call::Settle(u64::MAX, Some(0)),
         Call::Settle(0, Some(0)),
+        Call::Get(0, B0, 0, b"a", &[]),
+        Call::Get(0, B0, 1, b"b", &[]),
+        Call::GetRefused(0, B0, Refusal::Empty),
     ],
     [
+        Call::Open(0, A0, B0),
+        Call::Put(0, A0, b"a", &[], 0),
+        Call::Put(0, A0, b"b", &[], 1),
         Call::Settle(10, Some(10)),
         Call::Settle(u64::MAX, Some(0)),
         Call::Settle(0, Some(0)),
+        Call::Get(0, B0, 0, b"a", &[]),
+        Call::Get(0, B0, 1, b"b", &[]),
+        Call::GetRefused(0, B0, Refusal::Empty),
     ],
     [
+        Call::Open(0, A0, B0),
+        Call::Put(0, A0, b"a", &[], 0),
+        Call::Put(0, A0, b"b", &[], 1),
         Call::Settle(9, None),
         Call::Settle(u64::MAX, Some(1)),
         Call::Settle(0, Some(0)),
+        Call::Get(0, B0, 0, b"a", &[]),
+        Call::Get(0, B0, 1, b"b", &[]),
+        Call::GetRefused(0, B0, Refusal::Empty),
     ],
     [
+        Call::Open(0, A0, B0),
+        Call::Put(0, A0, b"a", &[], 0),
+        Call::Put(0, A0, b"b", &[], 1),
         Call::Settle(0, None),
         Call::Settle(u64::MAX, Some(10)),
         Call::Settle(0, Some(0)),
+        Call::Get(0, B0, 0, b"a", &[]),
+        Call::Get(0, B0, 1, b"b", &[]),
+        Call::GetRefused(0, B0, Refusal::Empty),
     ],
 ];
 
-static BOTH_GOT: [Call; 3] = [
-    Call::Get(0, B0, 0, b"a", &[]),
-    Call::Get(0, B0, 1, b"b", &[]),
-    Call::GetRefused(0, B0, Refusal::Empty),
-];
-
-// Whether two parcels are put, the world settles so, and both are got.
-fn both_are_got(alloc: Global, settles: &[Call]) -> Result<bool, Refusal> {
-    let mut world = World::new(alloc, 1, 1)?;
-    Ok(
-        first_wrong(&mut world, alloc, &TWO_PARCELS)?.is_none()
-            && first_wrong(&mut world, alloc, settles)?.is_none()
-            && first_wrong(&mut world, alloc, &BOTH_GOT)?.is_none(),
-    )
-}
-
 #[test]
 fn settles_after_ten_acts(rt: HostRuntime) {
-    for settles in TEN_ACTS.iter() {
-        assert_eq!(rt; both_are_got(rt.alloc(), settles), Ok(true));
+    for calls in TEN_ACTS.iter() {
+        all_go(&rt, rt.alloc(), 1, 1, calls);
     }
 }
 
@@ -340,19 +342,28 @@ fn worlds_of_the_limits_are_made(rt: HostRuntime) {
     all_go(&rt, rt.alloc(), 8, 4096, &EIGHT_NODES);
 }
 
-// Calls on a node that isn't there.
-const fn strangers(node: u8) -> [Call; 5] {
-    [
-        Call::OpenRefused(node, Refusal::Stranger),
-        Call::PutRefused(node, A0, &[A0], Refusal::Stranger),
-        Call::GetRefused(node, A0, Refusal::Stranger),
-        Call::CloseRefused(node, A0, Refusal::Stranger),
-        Call::TurnRefused(node, Refusal::Stranger),
-    ]
-}
-
-// Callers of node 1 don't hold the end. Each word is claimed.
-static NOT_HELD: [Call; 5] = [
+// Calls on nodes that aren't there. Then callers of node 1 don't hold the end, and each word is claimed.
+static STRANGERS: [Call; 25] = [
+    Call::OpenRefused(2, Refusal::Stranger),
+    Call::PutRefused(2, A0, &[A0], Refusal::Stranger),
+    Call::GetRefused(2, A0, Refusal::Stranger),
+    Call::CloseRefused(2, A0, Refusal::Stranger),
+    Call::TurnRefused(2, Refusal::Stranger),
+    Call::OpenRefused(7, Refusal::Stranger),
+    Call::PutRefused(7, A0, &[A0], Refusal::Stranger),
+    Call::GetRefused(7, A0, Refusal::Stranger),
+    Call::CloseRefused(7, A0, Refusal::Stranger),
+    Call::TurnRefused(7, Refusal::Stranger),
+    Call::OpenRefused(8, Refusal::Stranger),
+    Call::PutRefused(8, A0, &[A0], Refusal::Stranger),
+    Call::GetRefused(8, A0, Refusal::Stranger),
+    Call::CloseRefused(8, A0, Refusal::Stranger),
+    Call::TurnRefused(8, Refusal::Stranger),
+    Call::OpenRefused(255, Refusal::Stranger),
+    Call::PutRefused(255, A0, &[A0], Refusal::Stranger),
+    Call::GetRefused(255, A0, Refusal::Stranger),
+    Call::CloseRefused(255, A0, Refusal::Stranger),
+    Call::TurnRefused(255, Refusal::Stranger),
     Call::PutRefused(1, A0, &[], Refusal::Stranger),
     Call::GetRefused(1, A0, Refusal::Stranger),
     Call::CloseRefused(1, A0, Refusal::Stranger),
@@ -360,20 +371,9 @@ static NOT_HELD: [Call; 5] = [
     Call::Turns(1, &["Idle"]),
 ];
 
-// Whether each node that isn't there is a stranger, and callers of node 1 hold no end that isn't theirs.
-fn strangers_are_refused(alloc: Global) -> Result<bool, Refusal> {
-    let mut world = World::new(alloc, 2, 1)?;
-    for node in [2, 7, 8, 255] {
-        if first_wrong(&mut world, alloc, &strangers(node))?.is_some() {
-            return Ok(false);
-        }
-    }
-    Ok(first_wrong(&mut world, alloc, &NOT_HELD)?.is_none())
-}
-
 #[test]
 fn a_node_that_is_not_there_is_a_stranger(rt: HostRuntime) {
-    assert_eq!(rt; strangers_are_refused(rt.alloc()), Ok(true));
+    all_go(&rt, rt.alloc(), 2, 1, &STRANGERS);
 }
 
 // The mark comes behind the parcel.

@@ -54,11 +54,15 @@ pub enum Call {
     Routers(u8, Option<usize>),
 }
 
-// Whether a turn does what its value prints.
-fn takes(world: &mut World, alloc: Global, node: u8, event: &str) -> Result<bool, AllocError> {
-    let reply = world.step(&Step::Turn(node));
+// Whether a reply is that of a turn which does what its value prints.
+fn prints(alloc: Global, reply: &Reply, event: &str) -> Result<bool, AllocError> {
     let want = format!(in alloc; "Turned({event})")?;
     Ok(format!(in alloc; "{reply:?}")?.as_str() == want.as_str())
+}
+
+// Whether a turn does what its value prints.
+fn takes(world: &mut World, alloc: Global, node: u8, event: &str) -> Result<bool, AllocError> {
+    prints(alloc, &world.step(&Step::Turn(node)), event)
 }
 
 // Whether turns do what their values print.
@@ -103,8 +107,8 @@ fn settles_within(world: &mut World, limit: u64) -> bool {
     matches!(world.settle(limit), Ok(Settled::Settled { .. }))
 }
 
-// Whether a put of these bytes and ends has this number.
-fn puts(
+/// Whether a put of these bytes and ends has this number.
+pub fn puts(
     world: &mut World,
     alloc: Global,
     node: u8,

@@ -7,7 +7,8 @@ ghost use Rattle.ipcz_world.specs.Lawful.{Lawful};
 ghost use Rattle.ipcz_world.specs.Owed.{IsWet, IsDirect, HasNoProxies, HasNoClosedPairs};
 ghost use Rattle.ipcz_world.specs.Routes.{Routes, is_opened};
 
-use super::{get, is_got, is_put, is_refused, put};
+use super::calls::puts;
+use super::{get, is_got, is_refused};
 use ipcz_base::{End, Refusal, Side};
 use ipcz_world::laws::a_settled_world_is_direct;
 use ipcz_world::{Settled, Step, World};
@@ -123,8 +124,14 @@ fn settles(world: &mut World, limit: u64) -> Result<bool, Refusal>
 // Whether a parcel is put under its number.
 fn is_accepted(world: &mut World, alloc: Global, parcel: &Carried) -> Result<bool, Refusal> {
     let (node, at) = parcel.from;
-    let step = put(alloc, node, at, parcel.data, parcel.ends)?;
-    Ok(is_put(&world.step(&step), parcel.number))
+    Ok(puts(
+        world,
+        alloc,
+        node,
+        at,
+        (parcel.data, parcel.ends),
+        parcel.number,
+    )?)
 }
 
 // Whether a parcel is got, and nothing after it.

@@ -1,8 +1,8 @@
 //! The limit of a world is enough for a settle if no parcel that wasn't got carries portals.
 
-use super::calls::Call;
-use super::{A0, B0, a, all_go, b, get, is_got, is_put, put};
-use ipcz_base::{End, Refusal};
+use super::calls::{Call, puts};
+use super::{A0, B0, a, all_go, b, get, is_got};
+use ipcz_base::Refusal;
 use ipcz_world::{Settled, Step, World};
 use std::alloc::{AllocError, Global};
 
@@ -61,11 +61,11 @@ fn the_limit_is_read_off_the_world(rt: HostRuntime) {
     all_go(&rt, rt.alloc(), 2, 4, &CALLS);
 }
 
-// Puts a portal in a parcel to node 1.
-fn sends(world: &mut World, alloc: Global, data: &[u8], moved: End) -> Result<(), AllocError> {
-    let step = put(alloc, 0, a(0), data, &[moved])?;
-    world.step(&step);
-    Ok(())
+// Whether both portals of a pair are put, each in a parcel to node 1.
+fn both_are_put(world: &mut World, alloc: Global) -> Result<bool, AllocError> {
+    let first = puts(world, alloc, 0, a(0), (b"x", &[a(1)]), 0)?;
+    let second = puts(world, alloc, 0, a(0), (b"y", &[b(1)]), 1)?;
+    Ok(first && second)
 }
 
 // Whether both portals are got at node 1.
@@ -78,13 +78,12 @@ fn both_are_got(world: &mut World) -> bool {
 // Moves both portals of a pair from node 0 to node 1, where they are got: two proxies share the pair's link.
 fn both_move(world: &mut World, alloc: Global) -> Result<bool, AllocError> {
     world.step(&Step::Open(0));
-    sends(world, alloc, b"x", a(1))?;
-    sends(world, alloc, b"y", b(1))?;
+    let are_put = both_are_put(world, alloc)?;
     // Each parcel is sent, posted, looked at and handed over.
     for node in [0, 0, 1, 1, 0, 0, 1, 1] {
         world.step(&Step::Turn(node));
     }
-    Ok(both_are_got(world))
+    Ok(are_put && both_are_got(world))
 }
 
 /// Whether a lock was held, and whether a side waited for the other.
@@ -111,8 +110,7 @@ fn both_leave(
     seen: &mut Seen,
 ) -> Result<bool, AllocError> {
     let before = world.settle_limit() == Some(4 * TERMINAL + 2 * PROXY);
-    let step = put(alloc, 1, a(1), b"z", &[])?;
-    let accepted = is_put(&world.step(&step), 0);
+    let accepted = puts(world, alloc, 1, a(1), (b"z", &[]), 0)?;
     take_turns(world, turns);
     look(world, seen);
     let settled = settles_within_its_limit(world);

@@ -3,7 +3,8 @@
 //!
 //! Nothing is promised of what stands here: a test's own proof would else work out the world at each call.
 
-use super::{get, is_got, is_put, is_refused, put};
+use super::calls::puts;
+use super::{get, is_got, is_refused};
 use ipcz_base::{End, Refusal, Side};
 use ipcz_world::{Reply, Settled, Step, World};
 use std::alloc::{AllocError, Global};
@@ -137,8 +138,15 @@ impl Soak {
     }
 
     fn put(&mut self, at: Portal, data: &[u8], ends: &[End], number: u64) -> Result<(), Wrong> {
-        let step = put(self.alloc, at.node, at.end, data, ends)?;
-        agree(is_put(&self.world.step(&step), number), Wrong::Put)
+        let put = puts(
+            &mut self.world,
+            self.alloc,
+            at.node,
+            at.end,
+            (data, ends),
+            number,
+        )?;
+        agree(put, Wrong::Put)
     }
 
     fn get(&mut self, at: Portal, number: u64, data: &[u8], ends: &[End]) -> Result<(), Wrong> {
