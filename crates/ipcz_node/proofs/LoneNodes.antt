@@ -26,13 +26,13 @@ use Rattle.ipcz_router.specs.Acts.{pop_out, rest}
 use Rattle.ipcz_router.specs.ActEffects.{output_of, item_output, apply, leaves_by}
 use Rattle.ipcz_router.specs.Carrying.{carried_by}
 use Rattle.ipcz_node.specs.declared.act.Act.TheVariants.{Router as OfRouter}
-use Rattle.ipcz_node.specs.Node.{Node, found, first_where, on_router, push_out, router_in, with_router}
+use Rattle.ipcz_node.specs.Node.{Node, Found, add_stray, found, first_where, link_router, on_found, on_router, push_out, router_in, with_router}
 use Rattle.ipcz_node.specs.Acts.{act_lacks_serials, commit, commit_router, keep_or_drop}
 use Rattle.ipcz_node.specs.Directories.{passes}
-use Rattle.ipcz_node.specs.Hands.{deliver, is_hand_of, message_lacks_serials}
+use Rattle.ipcz_node.specs.Hands.{deliver, fits, fits_item, free_hand, handle, is_hand_of, message_lacks_serials, take_in}
 use Rattle.ipcz_node.specs.Sends.{item_message, send}
 use Rattle.ipcz_node.specs.Preparing.{outlook_at}
-use Rattle.ipcz_router.proofs.LoneRouters.{last_told, SendsLast}
+use Rattle.ipcz_router.proofs.LoneRouters.{last_told, SendsFirst, SendsLast}
 use Rattle.ipcz_node.specs.Lone.{SendsOnly, TakesItem}
 use Rattle.ipcz_node.proofs.Carrying.{committed_alone, lacks_none, taken_alone, takes_none}
 use Rattle.ipcz_node.proofs.Directories.{found_filed}
@@ -103,6 +103,28 @@ written_elsewhere m k q r ne = elim (one_or_two q k) [
   | inr t ↦ rw t.1 at (get-insert nat_cmp_total m k r q)
 ]
 
+-- a router that sends an item without ends first
+module _ (x : Node) (serial : ℕ) (link : LinkEnd) (r : Router) (here : router_in x serial ≡ Some r) (sends : SendsFirst r link) where
+  -- the message that carries it
+  abbrev pub first_message : Message
+  first_message = item_message link r.out_queue.current sends.item []
+
+  gives : output_of r acts.SendOut ≡ outputs.Sent link r.out_queue.current sends.item
+  unfolding output_of item_output
+  gives = rw (sends.way, sends.current) refl
+
+  goes : outlook_at (router_in x serial) acts.SendOut ≡ outlooks.Item link.other 0
+  goes = rw (here, gives) (ap (λ es. outlooks.Item link.other (length es)) sends.alone)
+
+  -- its item goes into the outbox
+  pub first_sent : push_out (with_router x serial (pop_out r)) link.other first_message ≡ commit x (OfRouter serial acts.SendOut) Plain
+  unfolding carried_by apply
+  first_sent = committed_alone x serial r link.other first_message here goes (rw gives refl)
+
+  -- and takes no serial
+  pub first_freely : x.next_peripheral ≤ no_number → act_lacks_serials x (OfRouter serial acts.SendOut) ≡ false
+  first_freely low = lacks_none x serial link.other low goes
+
 -- the sender of a lone parcel
 module _ (x : Node) (serial : ℕ) (link : LinkEnd) (is : SendsOnly x serial link) where
   abbrev r : Router
@@ -115,21 +137,16 @@ module _ (x : Node) (serial : ℕ) (link : LinkEnd) (is : SendsOnly x serial lin
   abbrev pub message : Message
   message = item_message link r.out_queue.current sends.item []
 
-  sent : output_of r acts.SendOut ≡ outputs.Sent link r.out_queue.current sends.item
-  unfolding output_of item_output
-  sent = rw (sends.way, sends.current) refl
-
-  looks : outlook_at (router_in x serial) acts.SendOut ≡ outlooks.Item link.other 0
-  looks = rw (is.sender.here, sent) (ap (λ es. outlooks.Item link.other (length es)) sends.alone)
+  abbrev first : SendsFirst r link
+  first = record { item = sends.item; current = sends.current; alone = sends.alone; way = sends.way }
 
   -- its item goes into the outbox
   pub sends_it : push_out (with_router x serial (pop_out r)) link.other message ≡ commit x (OfRouter serial acts.SendOut) Plain
-  unfolding carried_by apply
-  sends_it = committed_alone x serial r link.other message is.sender.here looks (rw sent refl)
+  sends_it = first_sent x serial link r is.sender.here first
 
   -- and takes no serial
   pub sends_freely : x.next_peripheral ≤ no_number → act_lacks_serials x (OfRouter serial acts.SendOut) ≡ false
-  sends_freely low = lacks_none x serial link.other low looks
+  sends_freely low = first_freely x serial link r is.sender.here first low
 
 -- the taker of a lone parcel that has it in hand
 module _ (x y : Node) (link : LinkId) (side : Side) (n from : ℕ) (item : Item) (source : Option ℕ) (is : TakesItem x link side n item y)
@@ -171,3 +188,43 @@ pub rested : (x : Node) (serial : ℕ) (r : Router) →
     with_router x serial (rest r) ≡ commit (with_router x serial r) (OfRouter serial acts.Rest) Plain
 rested x serial r =
     (λ j. record x { routers = sym (insert_twice x.routers serial r (rest r)) j }) ∙ rests (with_router x serial r) serial r (stands x serial r)
+
+-- an item that comes from a hand is taken as if it came without, and the hand is empty then
+pub item_unheld : (x : Node) (from : ℕ) (link : LinkId) (side : Side) (n : ℕ) (item : Item) (source : Option ℕ) → x.hand ≡ None →
+    (deliver (record x { hand = Some from }) from (messages.Item link side n item []) source
+    ≡ deliver x from (messages.Item link side n item []) source) ×
+    ((deliver x from (messages.Item link side n item []) source).hand ≡ None) ×
+    ((deliver x from (messages.Item link side n item []) source).count ≡ x.count)
+unfolding deliver handle fits fits_item is_hand_of on_found
+item_unheld x from link side n item source none =
+    go (fits x from (messages.Item link side n item []) source) (link_router x link side)
+  where
+    m : Message
+    m = messages.Item link side n item []
+
+    held : Node
+    held = record x { hand = Some from }
+
+    same : nat_eq from from ≡ true
+    same = grind (arith, nat_tests)
+
+    freed : (y z : Node) → y.hand ≡ Some from → z.hand ≡ None → record y { hand = None } ≡ record z { hand = None } →
+        free_hand y from ≡ free_hand z from
+    freed y z a b e =
+        (λ j. record y { hand = (ap (λ h. if is_hand_of h from then None else h) a ∙ ap (λ c. if c then None else Some from) same) j })
+        ∙ e ∙ (λ j. record z { hand = sym (ap (λ h. if is_hand_of h from then None else h) b) j })
+
+    kept : (y : Node) → y.hand ≡ None → (free_hand y from).hand ≡ None
+    kept y h = ap (λ h. if is_hand_of h from then None else h) h
+
+    go : (b : Bool) (o : Option Found) →
+        (free_hand (if b then on_found held o (take_in held from link side n item []) else add_stray held m) from
+        ≡ free_hand (if b then on_found x o (take_in x from link side n item []) else add_stray x m) from) ×
+        ((free_hand (if b then on_found x o (take_in x from link side n item []) else add_stray x m) from).hand ≡ None) ×
+        ((free_hand (if b then on_found x o (take_in x from link side n item []) else add_stray x m) from).count ≡ x.count)
+    go false o = (freed (add_stray held m) (add_stray x m) refl none refl, kept (add_stray x m) none, refl)
+    go true None = (freed held x refl none refl, kept x none, refl)
+    go true (Some f) =
+        let y = take_in held from link side n item [] f.serial f.router in
+        let z = take_in x from link side n item [] f.serial f.router in
+        (freed y z refl none refl, kept z none, refl)

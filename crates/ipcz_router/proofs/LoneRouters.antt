@@ -18,8 +18,15 @@ use Rattle.ipcz_router.specs.declared.act.RouterAct.TheVariants.{Lock, Begin, Re
 use Rattle.ipcz_router.specs.Router.{Router, is_terminal, is_on_central, decays}
 use Rattle.ipcz_router.specs.Acts.{item_passes, pop_out, way_out}
 use Rattle.ipcz_router.specs.ActTable.{is_possible, next_act, first_possible}
-use Rattle.ipcz_router.specs.Lone.{is_settled, is_still, last_link}
+use Rattle.ipcz_router.specs.Lone.{is_settled, is_still, last_link, next_link}
 use Rattle.ipcz_router.proofs.NextActs.{terminal_next}
+
+-- the router sends an item without ends over a link first
+pub record SendsFirst (r : Router) (link : LinkEnd) : Type 0 where
+  pub item : Item
+  pub current : current_item r.out_queue ≡ Some item
+  pub alone : ends_in item ≡ []
+  pub way : way_out r ≡ Some link
 
 -- the router sends an item without ends over a link, and has then nothing to do but to rest
 pub record SendsLast (r : Router) (link : LinkEnd) : Type 0 where
@@ -87,13 +94,17 @@ still_rests r h =
     let wake : is_possible r Wake ≡ false = rw s.woken refl in
     terminal_next r s.terminal s.opened s.whole send ∙ rw (mark, wake) refl
 
--- one that sends its last item sends first
-pub sends_first : (r : Router) (link : LinkEnd) → SendsLast r link → next_act r ≡ SendOut
+-- that is its first act
+pub sends_next : (r : Router) (link : LinkEnd) → SendsFirst r link → next_act r ≡ SendOut
 unfolding is_possible next_act
-sends_first r link s =
+sends_next r link s =
     let send : is_possible r SendOut ≡ true = rw (s.current, s.way) refl in
     ap (λ b. if b then SendOut else first_possible r (SendIn ∷ Discard ∷ FinishOut ∷ FinishIn ∷ Leave ∷ Mark ∷ Wake ∷ Claim ∷ Lock ∷ Begin ∷
     Retire ∷ [])) send
+
+-- one that sends its last item sends first
+pub sends_first : (r : Router) (link : LinkEnd) → SendsLast r link → next_act r ≡ SendOut
+sends_first r link s = sends_next r link (record { item = s.item; current = s.current; alone = s.alone; way = s.way })
 
 -- behind the only item there is none
 only_one : (q : Queue Item) (item : Item) → len q.items ≡ 1 → current_item q ≡ Some item → current_item (pop_front q) ≡ None
@@ -136,3 +147,24 @@ last_told r link e = go (nat_eq (len r.out_queue.items) 1) refl (is_settled r) r
     go false f b g c h e = cc
     go true f false g c h e = cc
     go true f true g false h e = cc
+
+-- what the link of the next item tells
+pub next_told : (r : Router) (link : LinkEnd) → next_link r ≡ Some link → SendsFirst r link
+unfolding item_passes choose
+next_told r link e = go (is_settled r) refl (current_item r.out_queue) refl e
+  where
+    has : is_settled r ≡ true → (item : Item) → current_item r.out_queue ≡ Some item → (b : Bool) → nat_eq (length (ends_in item)) 0 ≡ b →
+        (if b then r.outward.primary else None) ≡ Some link → SendsFirst r link
+    has is item here true h way = record {
+      item = item;
+      current = here;
+      alone = no_ends (ends_in item) h;
+      way = let whole : edge_decays r.outward ≡ false = (settled r is).whole in rw whole way;
+    }
+    has is item here false h way = cc
+
+    go : (b : Bool) → is_settled r ≡ b → (o : Option Item) → current_item r.out_queue ≡ o →
+        (if b && item_passes (λ item. nat_eq (length (ends_in item)) 0) o then r.outward.primary else None) ≡ Some link → SendsFirst r link
+    go true is (Some item) here e = has is item here (nat_eq (length (ends_in item)) 0) refl e
+    go true is None here e = cc
+    go false is o here e = cc

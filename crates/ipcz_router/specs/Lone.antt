@@ -28,6 +28,11 @@ last_link r =
     then r.outward.primary
     else None
 
+-- the link of the item that such a terminal sends next, if it carries no ends
+abbrev pub next_link : Router → Option LinkEnd
+next_link r =
+    if is_settled r && item_passes (λ item. nat_eq (length (ends_in item)) 0) (current_item r.out_queue) then r.outward.primary else None
+
 -- whether an item of a number that comes over a link at a side is all that the router has to do, and has its place
 abbrev pub takes_last : Router → LinkId → Side → ℕ → Bool
 takes_last r link side n = not r.flagged && (is_still r && (outward_has r link side && has_place_for r true n))

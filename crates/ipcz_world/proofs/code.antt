@@ -8,6 +8,8 @@ pub mod LoneFinds
 pub mod LoneSenders
 pub mod LoneWorlds
 pub mod Marks
+pub mod Passing
+pub mod PassingWithin
 pub mod Regular
 pub mod RouterActs
 pub mod Running

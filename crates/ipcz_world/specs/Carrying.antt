@@ -1,18 +1,20 @@
 -- A lone parcel that is all that a world has to do.
-use Rattle.std.specs.Prelude.{◌≡◌, ◌⊎◌, ◌≤◌, ◌<◌, ℕ, true, false, Some}
+use Rattle.std.specs.Prelude.{◌≡◌, ◌⊎◌, ◌≤◌, ◌<◌, ℕ, true, false, Some, None, []}
 use Rattle.ipcz_base.specs.declared.item.Item.{Item}
 use Rattle.ipcz_base.specs.declared.message.Message.{Message}
+use Rattle.ipcz_base.specs.declared.message.Message.TheVariants as messages
 use Rattle.ipcz_base.specs.declared.link_end.LinkEnd.{LinkEnd}
 use Rattle.ipcz_base.specs.Sides.{opposite}
 use Rattle.ipcz_seq.specs.Queue.{current_item}
 use Rattle.ipcz_router.specs.Router.{Router}
 use Rattle.ipcz_router.specs.Lone.{TakesLast}
 use Rattle.ipcz_node.specs.Acts.{is_quiet}
-use Rattle.ipcz_node.specs.Lone.{SendsOnly}
+use Rattle.ipcz_node.specs.Lone.{SendsNext, SendsOnly}
 use Rattle.ipcz_node.specs.Node.{router_in}
 use Rattle.ipcz_world.specs.declared.mail.Mail.TheVariants.{Empty, Hand}
 use Rattle.ipcz_world.specs.World.{World, node_at, mail_at, way, set_mail, set_node}
 use Rattle.ipcz_world.specs.Turns.{is_full}
+use Rattle.ipcz_world.specs.Soundness.{HasLengths}
 
 -- each node from one number up to another is quiet
 abbrev pub AreQuiet : World → ℕ → ℕ → Type 0
@@ -32,6 +34,31 @@ pub record IsLone (w : World) (n serial : ℕ) (link : LinkEnd) : Type 0 where
   pub others : (k : ℕ) → k < w.count → (k ≡ n → ⊥) → is_quiet (node_at w k) ≡ true
   pub box : mail_at w (way w n link.other) ≡ Empty
   pub sends : SendsOnly (node_at w n) serial link
+
+-- the same, but that node has to send such an item before anything else, whatever it has to do then
+pub record IsLoneSender (w : World) (n serial : ℕ) (link : LinkEnd) : Type 0 where
+  pub mail : (k : ℕ) → is_full (mail_at w k) ≡ false
+  pub here : n < w.count
+  pub there : link.other < w.count
+  pub others : (k : ℕ) → k < w.count → (k ≡ n → ⊥) → is_quiet (node_at w k) ≡ true
+  pub box : mail_at w (way w n link.other) ≡ Empty
+  pub sends : SendsNext (node_at w n) serial link
+
+-- items may pass from one node to another: no mailbox is full, the one between them is empty, and so is the hand that takes them; each node
+-- but these two is quiet
+pub record IsPassing (w : World) (n to : ℕ) : Type 0 where
+  pub lengths : HasLengths w
+  pub counts : (k : ℕ) → k < w.count → (node_at w k).count ≡ w.count
+  pub mail : (k : ℕ) → is_full (mail_at w k) ≡ false
+  pub here : n < w.count
+  pub there : to < w.count
+  pub others : (k : ℕ) → k < w.count → (k ≡ n → ⊥) → (k ≡ to → ⊥) → is_quiet (node_at w k) ≡ true
+  pub box : mail_at w (way w n to) ≡ Empty
+  pub hand : (node_at w to).hand ≡ None
+
+-- the message that carries an item without ends over a link
+abbrev pub lone_message : LinkEnd → ℕ → Item → Message
+lone_message link number item = messages.Item link.link (opposite link.side) number item []
 
 -- the world with a message from one node in the hand of another
 abbrev pub with_hand : World → ℕ → ℕ → Message → World
@@ -58,6 +85,8 @@ pub record IsCarried (w v : World) (acts : ℕ) : Type 0 where
   pub lone : IsLone w node serial link
   pub came : ((acts ≡ 6) × HasCome w v node serial link) ⊎ ((node_at v link.other).hand ≡ Some node)
 
--- if so many acts may be taken and that is enough, a lone parcel is carried
-abbrev pub Carries : ℕ → World → World → ℕ → Type 0
-Carries most w v acts = 6 ≤ most → (n serial : ℕ) → (link : LinkEnd) → IsLone w n serial link → IsCarried w v acts
+-- if so many acts may be taken and that is enough, a lone parcel is carried; and if there are several, the first of them comes to its mailbox
+-- and is looked at, at least
+pub record Carries (most : ℕ) (w v : World) (acts : ℕ) : Type 0 where
+  pub lone : 6 ≤ most → (n serial : ℕ) → (link : LinkEnd) → IsLone w n serial link → IsCarried w v acts
+  pub several : 6 ≤ most → (n serial : ℕ) → (link : LinkEnd) → IsLoneSender w n serial link → 3 ≤ acts

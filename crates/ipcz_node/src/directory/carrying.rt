@@ -9,7 +9,7 @@ ghost use Rattle.ipcz_seq.specs.Queue.{current_item};
 ghost use Rattle.ipcz_router.specs.Router.{Router as RouterRecord};
 ghost use Rattle.ipcz_router.specs.Acts.{pop_out, rest};
 ghost use Rattle.ipcz_router.specs.Lone.{takes_last, TakesLast};
-ghost use Rattle.ipcz_node.specs.Lone.{IsOnlySender};
+ghost use Rattle.ipcz_node.specs.Lone.{IsFirstSender, IsOnlySender};
 ghost use Rattle.ipcz_node.specs.Rooms.{put_filed, HasQueueRoom};
 
 use super::Directory;
@@ -30,6 +30,24 @@ impl Directory {
             return None;
         };
         match router.last_way() {
+            Some(link) => Some((serial, link)),
+            None => None,
+        }
+    }
+
+    /// The lowest serial of a flagged router and the link over which it sends an item without ends next, as `Router::next_way`.
+    #[inline(always)]
+    pub fn next_sender(&self) -> Option<(u64, LinkEnd)>
+        ensures some { IfSome result (λ s. IsFirstSender self.now.filed.routers s.0 s.1) }
+        ensures none { IfNone result ((serial : ℕ) → (link : LinkEndRecord) → IsFirstSender self.now.filed.routers serial link → ⊥) }
+    {
+        let Some(serial) = self.files.flagged.first() else {
+            return None;
+        };
+        let Some(router) = self.routers.router(serial) else {
+            return None;
+        };
+        match router.next_way() {
             Some(link) => Some((serial, link)),
             None => None,
         }

@@ -9,7 +9,7 @@ ghost use Rattle.ipcz_router.specs.Router.{Router as RouterRecord};
 ghost use Rattle.ipcz_router.specs.Acts.{pop_out, rest};
 ghost use Rattle.ipcz_router.specs.Lone.{takes_last};
 ghost use Rattle.ipcz_node.specs.Rooms.{HasQueueRoom};
-ghost use Rattle.ipcz_node.specs.Lone.{SendsOnly, TakesItem};
+ghost use Rattle.ipcz_node.specs.Lone.{SendsNext, SendsOnly, TakesItem};
 ghost use Rattle.ipcz_node.specs.Node.{found, link_router, router_in, with_router};
 
 use super::NodeState;
@@ -28,6 +28,20 @@ impl NodeState {
         }
         self.outboxes.has_each();
         self.routers.only_sender()
+    }
+
+    /// The lowest serial of a flagged router and the link over which it sends an item without ends, if that is the first that the node has to
+    /// do while no mailbox to it is full.
+    #[inline(always)]
+    pub fn next_sender(&self) -> Option<(u64, LinkEnd)>
+        ensures some { IfSome result (λ s. SendsNext self.now.node s.0 s.1) }
+        ensures none { IfNone result ((serial : ℕ) → (link : LinkEndRecord) → SendsNext self.now.node serial link → ⊥) }
+    {
+        if !self.outboxes.are_empty() || !self.pending.is_empty() || self.hand.is_some() {
+            return None;
+        }
+        self.outboxes.has_each();
+        self.routers.next_sender()
     }
 
     /// Takes the current item out of the out queue of the router of the serial, and gives its number with it: what the act `SendOut` of the

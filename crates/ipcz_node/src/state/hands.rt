@@ -473,8 +473,8 @@ impl NodeState {
         }
     }
 
-    // The same of an item.
-    fn take_alone(
+    /// The same of the item that a message brings, and of its moves: `item` counts for nothing if it was taken.
+    pub fn take_alone(
         &mut self,
         from: u8,
         link: LinkId,

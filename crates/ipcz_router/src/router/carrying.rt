@@ -6,7 +6,7 @@ ghost use Rattle.ipcz_base.specs.Limits.{no_number};
 ghost use Rattle.ipcz_seq.specs.Queue.{current_item};
 ghost use Rattle.ipcz_router.specs.RoomyRouters.{LeavesRoom};
 ghost use Rattle.ipcz_router.specs.Acts.{item_passes, pop_out, rest};
-ghost use Rattle.ipcz_router.specs.Lone.{last_link, takes_last, TakesLast, is_settled, is_still};
+ghost use Rattle.ipcz_router.specs.Lone.{last_link, next_link, takes_last, TakesLast, is_settled, is_still};
 
 use super::Router;
 use ipcz_base::{Item, LinkEnd, LinkId, Side};
@@ -19,6 +19,17 @@ impl Router {
         ensures { result ≡ last_link self.now.router }
     {
         if self.out_queue.len() != 1 || !self.is_settled() || !self.sends_alone() {
+            return None;
+        }
+        self.outward.primary()
+    }
+
+    /// The link of the item that leaves next, if it carries no ends and is the first that an open terminal has to do.
+    #[inline(always)]
+    pub fn next_way(&self) -> Option<LinkEnd>
+        ensures { result ≡ next_link self.now.router }
+    {
+        if !self.is_settled() || !self.sends_alone() {
             return None;
         }
         self.outward.primary()

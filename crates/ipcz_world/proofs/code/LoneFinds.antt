@@ -3,11 +3,11 @@ use Rattle.std.specs.Prelude.{◌≡◌, ◌<◌, ℕ, Bool, true, false, nat_eq
 use Rattle.std.proofs.Common.{arith, ap, sym, subst, ◌∙◌, true≢false}
 use Rattle.std.proofs.lemmas.Bool.Decides.{nat_tests}
 use Rattle.std.specs.FinMap.{get}
-use Rattle.ipcz_router.specs.Lone.{last_link}
+use Rattle.ipcz_router.specs.Lone.{last_link, next_link}
 use Rattle.ipcz_node.specs.Acts.{is_quiet}
-use Rattle.ipcz_node.specs.Lone.{SendsOnly}
-use Rattle.ipcz_world.proofs.Vocabulary.{LinkEnd, Message, Node, World, node_at, set_mail, set_node}
-use Rattle.ipcz_world.specs.Carrying.{IsLone, IsLoneNode, with_hand}
+use Rattle.ipcz_node.specs.Lone.{SendsNext, SendsOnly}
+use Rattle.ipcz_world.proofs.Vocabulary.{LinkEnd, Message, Node, Router, World, node_at, router_in, set_mail, set_node}
+use Rattle.ipcz_world.specs.Carrying.{IsLone, IsLoneNode, IsLoneSender, with_hand}
 use Rattle.ipcz_world.proofs.acts.Updating.{node-here}
 use Rattle.ipcz_world.proofs.code.LoneWorlds.{quiet_is}
 use Rattle.ipcz_world.proofs.facts.Finding.{found_there}
@@ -15,20 +15,27 @@ use Rattle.ipcz_world.proofs.facts.Finding.{found_there}
 none_some : {X : Type 0} {x : X} → None ≡ Some x → ⊥
 none_some e = cc
 
--- a node that has to send isn't quiet
-sender_busy : (x : Node) (serial : ℕ) (link : LinkEnd) → SendsOnly x serial link → is_quiet x ≡ false
-sender_busy x serial link sends = go (is_quiet x) refl
+-- a node with a flagged router isn't quiet
+sender_busy : (x : Node) (serial : ℕ) (r : Router) → router_in x serial ≡ Some r → r.flagged ≡ true → is_quiet x ≡ false
+sender_busy x serial r here up = go (is_quiet x) refl
   where
     go : (b : Bool) → is_quiet x ≡ b → b ≡ false
     go false e = refl
     go true e =
-        let t = found_there x (λ r. r.flagged) serial sends.sender.router sends.sender.here sends.sender.flagged in
+        let t = found_there x (λ r. r.flagged) serial r here up in
         absurd (none_some (sym (quiet_is x e).rests ∙ t.1))
 
 pub lone_alone : (w : World) (n serial : ℕ) (link : LinkEnd) → IsLone w n serial link → IsLoneNode w n
 lone_alone w n serial link lone = record {
   here = lone.here;
-  busy = sender_busy (node_at w n) serial link lone.sends;
+  busy = sender_busy (node_at w n) serial lone.sends.sender.router lone.sends.sender.here lone.sends.sender.flagged;
+  others = lone.others;
+}
+
+pub sender_alone : (w : World) (n serial : ℕ) (link : LinkEnd) → IsLoneSender w n serial link → IsLoneNode w n
+sender_alone w n serial link lone = record {
+  here = lone.here;
+  busy = sender_busy (node_at w n) serial lone.sends.sender.router lone.sends.sender.here lone.sends.sender.flagged;
   others = lone.others;
 }
 
@@ -48,6 +55,18 @@ link_is x s t a b one two =
     sym (subst (λ k. get x.routers k ≡ Some one.sender.router) (sym same) one.sender.here) ∙ two.sender.here in
     let router : one.sender.router ≡ two.sender.router = cc in
     let links : Some a ≡ Some b = sym one.sender.last ∙ ap last_link router ∙ two.sender.last in
+    cc
+
+-- so does one that sends next
+pub next_is : (x : Node) (s t : ℕ) (a b : LinkEnd) → SendsNext x s a → SendsNext x t b → a ≡ b
+next_is x s t a b one two =
+    let low = one.sender.first t two.sender.router two.sender.here two.sender.flagged in
+    let high = two.sender.first s one.sender.router one.sender.here one.sender.flagged in
+    let same : t ≡ s = omega (arith, low, high) in
+    let both : Some one.sender.router ≡ Some two.sender.router =
+    sym (subst (λ k. get x.routers k ≡ Some one.sender.router) (sym same) one.sender.here) ∙ two.sender.here in
+    let router : one.sender.router ≡ two.sender.router = cc in
+    let links : Some a ≡ Some b = sym one.sender.next ∙ ap next_link router ∙ two.sender.next in
     cc
 
 -- a message in hand is in hand at its node

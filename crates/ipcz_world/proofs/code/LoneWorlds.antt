@@ -23,7 +23,7 @@ use Rattle.ipcz_world.proofs.code.Slots.{put-same}
 use Rattle.ipcz_world.proofs.frames.Frames.{mail-set_mail, node-set_mail, node-set_node}
 
 -- writes at two places go in either order
-put-apart : {X : Type 0} (d : X) (xs : List X) (i j : ℕ) (y z : X) → (i ≡ j → ⊥) →
+pub put-apart : {X : Type 0} (d : X) (xs : List X) (i j : ℕ) (y z : X) → (i ≡ j → ⊥) →
     put_place d (put_place d xs i y) j z ≡ put_place d (put_place d xs j z) i y
 unfolding put_place
 put-apart d [] zero zero y z ne = absurd (ne refl)

@@ -108,7 +108,7 @@ busy-acts u n m p busy = (busy-within u n m p busy, acts busy)
     acts (inr (idle, b)) = b.acts
 
 -- where the next visit is
-next-place : (u x : World) (n : ℕ) → x.count ≡ u.count → IsPlace x (next_node u n)
+pub next-place : (u x : World) (n : ℕ) → x.count ≡ u.count → IsPlace x (next_node u n)
 next-place u x n same = go (nat_lt (n + 1) u.count) refl
   where
     go : (c : Bool) → nat_lt (n + 1) u.count ≡ c → IsPlace x (if c then n + 1 else 0)

@@ -1,12 +1,15 @@
 //! A lone parcel: if it is all that the world has to do, it is carried all its way in one go.
 
-ghost use Rattle.std.specs.Prelude.{◌≡◌, ◌≤◌, ◌<◌, ◌+◌, ℕ, false, [], None, IfSome, IfNone};
+ghost use Rattle.std.specs.Prelude.{◌≡◌, ◌≤◌, ◌<◌, ◌+◌, ◌⊎◌, ℕ, Option, true, false, [], None, IfSome, IfNone};
 ghost use Rattle.ipcz_base.specs.declared.link_end.LinkEnd.{LinkEnd as LinkEndRecord};
 ghost use Rattle.ipcz_base.specs.Sides.{opposite};
 ghost use Rattle.ipcz_node.specs.Acts.{is_quiet};
-ghost use Rattle.ipcz_world.specs.Carrying.{AreQuiet, Carries, IsCarried, IsLone, IsLoneNode, with_hand};
+ghost use Rattle.ipcz_node.specs.Hands.{deliver, message_lacks_serials};
+ghost use Rattle.ipcz_node.specs.Lone.{SendsNext};
+ghost use Rattle.ipcz_world.specs.Carrying.{AreQuiet, Carries, IsCarried, IsLone, IsLoneNode, IsLoneSender, IsPassing, lone_message, with_hand};
+ghost use Rattle.ipcz_world.specs.Settling.{next_node};
 ghost use Rattle.ipcz_world.specs.Soundness.{HasLengths};
-ghost use Rattle.ipcz_world.specs.World.{node_at, mail_at, way};
+ghost use Rattle.ipcz_world.specs.World.{World, node_at, mail_at, set_node, way};
 ghost use Rattle.ipcz_world.specs.Taking.{IsRegular};
 ghost use Rattle.ipcz_world.specs.Visiting.{AreIdle, IsPlace, Walk};
 
@@ -39,7 +42,7 @@ impl State {
                     self.carry_over(n, serial, link)
                 }
             }
-            None => (0, 0),
+            None => self.carry_several(most),
         }
     }
 
@@ -54,6 +57,7 @@ impl State {
         ensures place { IsPlace self.new result.1 }
         ensures within { result.0 ≤ 6 }
         ensures idle { result.0 ≡ 6 → AreIdle self.new 0 self.new.count }
+        ensures begun { 3 ≤ result.0 }
         ensures carried { IsCarried self.old self.new result.0 }
     {
         let (number, sent) = self.nodes.node_mut(n).send_next(serial);
@@ -87,6 +91,7 @@ impl State {
         ensures place { IsPlace self.new result.1 }
         ensures within { result.0 ≤ 6 }
         ensures idle { result.0 ≡ 6 → AreIdle self.new 0 self.new.count }
+        ensures begun { 3 ≤ result.0 }
         ensures carried { IsCarried self.old self.new result.0 }
     {
         let (number, sent) = self.nodes.node_mut(n).send_last(serial);
@@ -130,6 +135,180 @@ impl State {
             moves: Moves::from_vec(Vec::new(self.alloc)),
         };
         self.mail.put_back(place, message);
+    }
+
+    // Carries items of the only node that isn't quiet, one after the other, if its first act is to send one: the first of them at least leaves
+    // its router and comes to its mailbox, or further. What is left to do then is done act by act.
+    #[inline(never)]
+    fn carry_several(&mut self, most: u64) -> (u64, u8)
+        requires regular { IsRegular self.old }
+        requires enough { 6 ≤ most }
+        ensures walk { Walk self.old self.new result.0 result.1 }
+        ensures place { IsPlace self.new result.1 }
+        ensures within { result.0 ≤ most }
+        ensures other { result.0 ≡ 6 → ⊥ }
+        ensures begun { (n serial : ℕ) → (link : LinkEndRecord) → IsLoneSender self.old n serial link → 3 ≤ result.0 }
+    {
+        match self.lone_sender() {
+            Some((n, serial, link)) => {
+                if n == link.other {
+                    self.pass_within(n, most)
+                } else {
+                    self.pass_over(n, serial, link, most)
+                }
+            }
+            None => (0, 0),
+        }
+    }
+
+    // Passes items to another node, one after the other, and leaves the last of them in its hand. It gives how many acts that was, and the node
+    // that is visited next.
+    #[inline(always)]
+    fn pass_over(&mut self, n: u8, serial: u64, link: LinkEnd, most: u64) -> (u64, u8)
+        requires regular { IsRegular self.old }
+        requires lone { IsLoneSender self.old n serial link }
+        requires apart { n ≡ link.other → ⊥ }
+        requires enough { 6 ≤ most }
+        ensures walk { Walk self.old self.new result.0 result.1 }
+        ensures place { IsPlace self.new result.1 }
+        ensures within { result.0 ≤ most }
+        ensures other { result.0 ≡ 6 → ⊥ }
+        ensures begun { 3 ≤ result.0 }
+    {
+        let to = link.other;
+        let (first, sent) = self.nodes.node_mut(n).send_next(serial);
+        let mut over = link;
+        let mut number = first;
+        let mut item = sent;
+        let mut acts = 3;
+        while most - acts >= 4 && self.pass_on(n, &mut over, &mut number, &mut item) {
+            acts += 4;
+        }
+        self.leave_in_hand(n, over, number, item);
+        (acts, self.next_node(to))
+    }
+
+    // Passes an item on that has left its router and that its taker is to find in its hand: before it is handed, the next item leaves, and is
+    // posted and looked at after that. If there is no next one for the same node, or the item isn't taken, nothing is done.
+    #[inline(always)]
+    fn pass_on(&mut self, n: u8, over: &mut LinkEnd, number: &mut u64, item: &mut Item) -> bool
+        requires passing { IsPassing self.old n over.old.other }
+        requires apart { n ≡ over.old.other → ⊥ }
+        ensures passing { result ≡ true → IsPassing self.new n over.old.other }
+        ensures to { over.new.other ≡ over.old.other }
+        ensures walk { result ≡ true → (w : World) → (acts : ℕ) →
+            Walk w (with_hand self.old n over.old.other (lone_message over.old number.old item.old)) acts (next_node self.old over.old.other) →
+            Walk w (with_hand self.new n over.old.other (lone_message over.new number.new item.new)) (acts + 4)
+            (next_node self.new over.old.other) }
+        ensures left { result ≡ false → (self.new ≡ self.old) × (over.new ≡ over.old) × (number.new ≡ number.old) × (item.new ≡ item.old) }
+    {
+        let to = over.other;
+        let Some((serial, link)) = self.nodes.node(n).next_sender() else {
+            return false;
+        };
+        if link.other != to {
+            return false;
+        }
+        if !self.hand_alone(n, over, *number, item) {
+            return false;
+        }
+        let (next, sent) = self.nodes.node_mut(n).send_next(serial);
+        *over = link;
+        *number = next;
+        *item = sent;
+        true
+    }
+
+    // Passes items to a node's own routers, one after the other: until the next act isn't a send of one, or one is left in hand.
+    #[inline(always)]
+    fn pass_within(&mut self, n: u8, most: u64) -> (u64, u8)
+        requires passing { IsPassing self.old n n }
+        requires sends { (serial : ℕ) × (link : LinkEndRecord) × SendsNext (node_at self.old n) serial link × (n ≡ link.other) }
+        requires enough { 6 ≤ most }
+        ensures walk { Walk self.old self.new result.0 result.1 }
+        ensures place { IsPlace self.new result.1 }
+        ensures within { result.0 ≤ most }
+        ensures other { result.0 ≡ 6 → ⊥ }
+        ensures begun { 3 ≤ result.0 }
+    {
+        let mut last = self.pass_at(n);
+        let mut acts = last;
+        while last == 4 && most - acts >= 4 {
+            last = self.pass_at(n);
+            acts += last;
+        }
+        (acts, self.next_node(n))
+    }
+
+    // Passes an item within a node: it leaves its router, is posted, looked at and handed. It gives how many acts that was: 4, or 3 if the item
+    // isn't taken and stays in hand, or 0 if the first act isn't such a send.
+    #[inline(always)]
+    fn pass_at(&mut self, n: u8) -> u64
+        requires { IsPassing self.old n n }
+        ensures passing { result ≡ 4 → IsPassing self.new n n }
+        ensures acts { (result ≡ 0) ⊎ (result ≡ 3) ⊎ (result ≡ 4) }
+        ensures none { result ≡ 0 → self.new ≡ self.old }
+        ensures walk { 3 ≤ result → (w : World) → (acts from : ℕ) → Walk w self.old acts from → IsPlace self.old from →
+            Walk w self.new (acts + result) (next_node self.new n) }
+        ensures count { self.new.count ≡ self.old.count }
+        ensures begun { (serial : ℕ) → (link : LinkEndRecord) → SendsNext (node_at self.old n) serial link → n ≡ link.other → 3 ≤ result }
+    {
+        let Some((serial, link)) = self.nodes.node(n).next_sender() else {
+            return 0;
+        };
+        if link.other != n {
+            return 0;
+        }
+        let (number, sent) = self.nodes.node_mut(n).send_next(serial);
+        let mut item = sent;
+        if self.hand_alone(n, &link, number, &mut item) {
+            return 4;
+        }
+        self.leave_in_hand(n, link, number, item);
+        3
+    }
+
+    // Hands an item without ends to the node at the other end of its link, and tells whether it was taken: `item` counts for nothing then. Else
+    // all stays as it is.
+    #[inline(always)]
+    fn hand_alone(&mut self, n: u8, over: &LinkEnd, number: u64, item: &mut Item) -> bool
+        requires lengths { HasLengths self.old }
+        requires there { over.now.other < self.old.count }
+        ensures taken { result ≡ true → (source : Option ℕ) → self.new ≡ set_node self.old over.now.other
+            (deliver (node_at self.old over.now.other) n (lone_message over.now number item.old) source) }
+        ensures allowed { result ≡ true → (source : Option ℕ) →
+            message_lacks_serials (node_at self.old over.now.other) n (lone_message over.now number item.old) source ≡ false }
+        ensures left { result ≡ false → (self.new ≡ self.old) × (item.new ≡ item.old) }
+    {
+        let across = over.side.opposite();
+        let moves = Moves::from_vec(Vec::new(self.alloc));
+        let node = self.nodes.node_mut(over.other);
+        match node.take_alone(n, over.link, across, number, item, &moves) {
+            Ok(taken) => taken,
+            Err(_) => false,
+        }
+    }
+
+    // The only node that isn't quiet, with the router that sends first and the link that it sends over, if its item is to be carried.
+    #[inline(always)]
+    fn lone_sender(&self) -> Option<(u8, u64, LinkEnd)>
+        requires { IsRegular self.now }
+        ensures some { IfSome result (λ p. IsLoneSender self.now p.0 p.1 p.2) }
+        ensures none { IfNone result ((n serial : ℕ) → (link : LinkEndRecord) → IsLoneSender self.now n serial link → ⊥) }
+    {
+        if self.mail.has_full() {
+            return None;
+        }
+        let Some(n) = self.lone_node() else {
+            return None;
+        };
+        let Some((serial, link)) = self.nodes.node(n).next_sender() else {
+            return None;
+        };
+        if link.other >= self.count || !self.mail.is_clear(self.way(n, link.other)) {
+            return None;
+        }
+        Some((n, serial, link))
     }
 
     // The only node that isn't quiet, with the router that sends and the link that it sends over, if that is a lone parcel.

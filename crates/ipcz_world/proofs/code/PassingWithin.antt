@@ -1,0 +1,304 @@
+-- An item passes within a node: it leaves its router, is posted, looked at and handed, while no other node has an act.
+use Rattle.std.specs.Prelude.{◌≡◌, ◌≤◌, ◌<◌, ℕ, ◌+◌, Bool, true, false, cond, nat_eq, nat_lt, Option, Some, None, refl}
+use Rattle.std.proofs.Common.{arith, ap, sym, subst, ◌∙◌, inl, inr}
+use Rattle.std.proofs.lemmas.Bool.Decides.{nat_tests}
+use Rattle.std.specs.FinMap.{get}
+use Rattle.ipcz_base.specs.Limits.{no_number}
+use Rattle.ipcz_router.specs.declared.act.RouterAct.TheVariants as router_acts
+use Rattle.ipcz_router.specs.declared.act.Answer.TheVariants.{Plain}
+use Rattle.ipcz_node.specs.declared.act.Act.TheVariants as acts
+use Rattle.ipcz_node.specs.Node.{flagged_router}
+use Rattle.ipcz_node.specs.Acts.{act_lacks_serials, are_empty, close_turn, first_of, has_mail_for, post_of, router_turn}
+use Rattle.ipcz_node.specs.Hands.{deliver, fits, fits_item, message_lacks_serials}
+use Rattle.ipcz_node.specs.Lone.{SendsNext}
+use Rattle.ipcz_node.proofs.LoneNodes.{first_freely, first_sent, item_unheld}
+use Rattle.ipcz_world.proofs.Vocabulary.{Node, World, Message, Empty, bare_node, commit, opposite, outbox}
+use Rattle.ipcz_world.proofs.Vocabulary.{after_act, hand_message, mail_at, node_at, put_place, set_mail, set_node, way, LinkEnd}
+use Rattle.ipcz_world.specs.declared.mail.Mail.{Mail}
+use Rattle.ipcz_world.specs.declared.mail.Mail.TheVariants.{Full, Hand}
+use Rattle.ipcz_world.specs.Carrying.{IsPassing, with_hand}
+use Rattle.ipcz_world.specs.Settling.{next_node}
+use Rattle.ipcz_world.specs.Turns.{after_hand, after_look, after_post, full_message, hand_lacks_serials, is_clear, is_full, is_idle, next_at}
+use Rattle.ipcz_world.specs.Turns.{turn_lacks_serials}
+use Rattle.ipcz_world.specs.Visiting.{IsNextBusy, IsPlace, Walk}
+use Rattle.ipcz_world.specs.WordAnswers.{source_for}
+use Rattle.ipcz_world.proofs.acts.Updating.{node-here, put-twice, set-twice}
+use Rattle.ipcz_world.proofs.code.Carrying.{go-on, router-acts}
+use Rattle.ipcz_world.proofs.code.CarryingWithin.{single}
+use Rattle.ipcz_world.proofs.code.LoneWorlds.{Quiet, hand_act, look_act, own_act, post_act, quiet_idle, quiet_is, way-apart, way-from, way-within}
+use Rattle.ipcz_world.proofs.code.Passing.{box-others, box-there, mail-there, own_send, passing-taker, posted, sender, sent_first, sent_message, sent_node, waiting_node}
+use Rattle.ipcz_world.proofs.code.Slots.{put-same}
+use Rattle.ipcz_world.proofs.code.Visiting.{OnWay, on_way-walked, walked}
+use Rattle.ipcz_world.proofs.frames.Frames.{mail-set_mail, node-set_mail, node-set_node}
+
+-- if only one node has an act, it is next, wherever a pass stands
+alone-next : (u : World) (from n : ℕ) → n < u.count → IsPlace u from → is_idle (next_at u n) ≡ false →
+    ((k : ℕ) → k < u.count → (k ≡ n → ⊥) → is_idle (next_at u k) ≡ true) → IsNextBusy u from n
+alone-next u from n l place busy idle = go (nat_lt n from) refl
+  where
+    go : (c : Bool) → nat_lt n from ≡ c → IsNextBusy u from n
+    go false e = inl (record {
+      after = grind (arith, e, nat_tests);
+      within = l;
+      acts = busy;
+      before = λ k low high. idle k (omega (arith, high, l)) (λ same. omega (arith, same, high));
+    })
+    go true e = inr (
+      λ k low high. idle k high (λ same. grind (arith, same, low, e, nat_tests)),
+      record {
+        after = omega arith;
+        within = grind (arith, e, nat_tests);
+        acts = busy;
+        before = λ k low high. idle k (omega (arith, high, l)) (λ same. omega (arith, same, high));
+      },
+    )
+
+module _ (w : World) (n : ℕ) (is : IsPassing w n n) where
+  abbrev at : Node → Mail → World
+  at x b = single w n x b
+
+  few : w.count ≤ 8
+  few = is.lengths.few
+
+  module _ (x : Node) (b : Mail) where
+    node-is : node_at (at x b) n ≡ x
+    node-is =
+        let itself : nat_eq n n ≡ true = grind (arith, nat_tests) in
+        node-set_mail (set_node w n x) (way w n n) b n ∙ node-set_node w n x n ∙ ap (λ c. cond c x (node_at w n)) itself
+
+    node-other : (k : ℕ) → (k ≡ n → ⊥) → node_at (at x b) k ≡ node_at w k
+    node-other k ne =
+        let other : nat_eq k n ≡ false = grind (arith, ne, nat_tests) in
+        node-set_mail (set_node w n x) (way w n n) b k ∙ node-set_node w n x k ∙ ap (λ c. cond c x (node_at w k)) other
+
+    box-is : mail_at (at x b) (way (at x b) n n) ≡ b
+    unfolding set_node set_mail mail_at
+    box-is =
+        let itself : nat_eq (way w n n) (way w n n) ≡ true = grind (arith, nat_tests) in
+        mail-set_mail (set_node w n x) (way w n n) b (way w n n) ∙ ap (λ c. cond c b (mail_at w (way w n n))) itself
+
+    box-other : (k : ℕ) → nat_eq k (way w n n) ≡ false → mail_at (at x b) k ≡ mail_at w k
+    unfolding set_node mail_at
+    box-other k ne = mail-set_mail (set_node w n x) (way w n n) b k ∙ ap (λ c. cond c b (mail_at w k)) ne
+
+    none-elsewhere : (k i : ℕ) → k < w.count → (k ≡ n → ⊥) → is_full (mail_at (at x b) (way (at x b) i k)) ≡ false
+    unfolding set_node set_mail
+    none-elsewhere k i l ne = ap is_full (box-other (way w i k) (way-apart w.count i k n n l is.here ne)) ∙ is.mail (way w i k)
+
+    none-from : (i : ℕ) → (i ≡ n → ⊥) → is_full (mail_at (at x b) (way (at x b) i n)) ≡ false
+    unfolding set_node set_mail
+    none-from i ne = ap is_full (box-other (way w i n) (way-from w.count i n n is.here ne)) ∙ is.mail (way w i n)
+
+    none-to : is_full b ≡ false → (i : ℕ) → is_full (mail_at (at x b) (way (at x b) i n)) ≡ false
+    none-to clear i = go (nat_eq i n) refl
+      where
+        go : (c : Bool) → nat_eq i n ≡ c → is_full (mail_at (at x b) (way (at x b) i n)) ≡ false
+        go true e = let it : i ≡ n = grind (arith, e, nat_tests) in
+            ap (λ k. is_full (mail_at (at x b) (way (at x b) k n))) it ∙ ap is_full box-is ∙ clear
+        go false e = none-from i (λ it. grind (arith, e, it, nat_tests))
+
+    -- each other node is idle
+    idle-others : (k : ℕ) → k < w.count → (k ≡ n → ⊥) → is_idle (next_at (at x b) k) ≡ true
+    unfolding set_node set_mail
+    idle-others k l ne =
+        let there = node-other k ne in
+        quiet_idle (at x b) k few (ap (λ (z : Node). z.count) there ∙ is.counts k l) (λ i li. none-elsewhere k i l ne)
+        (subst Quiet (sym there) (quiet_is (node_at w k) (is.others k l ne ne)))
+
+    next : (from : ℕ) → IsPlace (at x b) from → is_idle (next_at (at x b) n) ≡ false → IsNextBusy (at x b) from n
+    unfolding set_node set_mail
+    next from place busy = alone-next (at x b) from n is.here place busy idle-others
+
+  write-node : (x z : Node) (b : Mail) → set_node (at x b) n z ≡ at z b
+  unfolding set_node set_mail
+  write-node x z b = λ j. record (at z b) { nodes = put-twice (bare_node 0 0) w.nodes n x z j }
+
+  write-box : (x : Node) (b c : Mail) → set_mail (at x b) (way (at x b) n n) c ≡ at x c
+  unfolding set_node set_mail
+  write-box x b c = λ j. record (at x c) { mail = put-twice Empty w.mail (way w n n) b c j }
+
+  single-box : (x : Node) → at x Empty ≡ set_node w n x
+  unfolding set_node set_mail mail_at
+  single-box x = λ j. record (set_node w n x) {
+    mail = (ap (put_place Empty w.mail (way w n n)) (sym is.box)
+        ∙ put-same Empty w.mail (way w n n) (way-within w n n is.here is.here is.lengths)) j;
+  }
+
+  single-start : at (node_at w n) Empty ≡ w
+  unfolding set_node node_at
+  single-start = single-box (node_at w n) ∙ (λ j. record w {
+    nodes = put-same (bare_node 0 0) w.nodes n (omega (arith, is.here, is.lengths.nodes)) j;
+  })
+
+  module _ (w0 : World) (serial : ℕ) (link : LinkEnd) (sends : SendsNext (node_at w n) serial link) (to : link.other ≡ n)
+      (low : (node_at w n).next_peripheral ≤ no_number) where
+    abbrev x0 : Node
+    x0 = node_at w n
+
+    abbrev x1 : Node
+    x1 = waiting_node x0 serial link sends
+
+    abbrev x2 : Node
+    x2 = sent_node x0 serial link sends
+
+    abbrev xh : Node
+    xh = record x2 { hand = Some n }
+
+    abbrev msg : Message
+    msg = sent_message x0 serial link sends
+
+    counted : x0.count ≡ w.count
+    counted = is.counts n is.here
+
+    -- the router sends its item out
+    on-1 : (done from : ℕ) → OnWay w0 done w from → OnWay w0 (done + 1) (at x1 Empty) (next_node w n)
+    unfolding set_node set_mail turn_lacks_serials is_idle is_full
+    on-1 done from on =
+        let u = at x0 Empty in
+        let here = node-is x0 Empty in
+        let start = subst (λ v. OnWay w0 done v from) (sym single-start) on in
+        let first : next_at u n ≡ acts.Router serial router_acts.SendOut =
+        own_act u n few (ap (λ (z : Node). z.count) here ∙ counted) (λ i li. none-to x0 Empty refl i)
+        (ap (λ (z : Node). z.hand) here ∙ sends.hand) (ap (λ (z : Node). are_empty z.outboxes) here ∙ sends.outboxes)
+        ∙ ap (λ (z : Node). close_turn z.pending (router_turn (flagged_router z))) here ∙ own_send x0 serial link sends in
+        go-on w0 u (at x1 Empty) done from n (acts.Router serial router_acts.SendOut) start (next x0 Empty from start.place (ap is_idle first))
+        is.here first
+        (ap (λ z. act_lacks_serials z (acts.Router serial router_acts.SendOut)) here
+        ∙ first_freely x0 serial link (sender x0 serial link sends) sends.sender.here (sent_first x0 serial link sends) low)
+        (router-acts u n serial (sender x0 serial link sends) router_acts.SendOut
+        (ap (λ (z : Node). get z.routers serial) here ∙ sends.sender.here) refl
+        ∙ ap (λ z. set_node u n (commit z (acts.Router serial router_acts.SendOut) Plain)) here
+        ∙ ap (set_node u n) (sym (first_sent x0 serial link (sender x0 serial link sends) sends.sender.here (sent_first x0 serial link sends)))
+        ∙ write-node x0 x1 Empty)
+
+    -- the message is posted
+    on-2 : (done from : ℕ) → OnWay w0 done (at x1 Empty) from → OnWay w0 (done + 1) (at x2 (Full msg)) (next_node w n)
+    unfolding set_node set_mail turn_lacks_serials act_lacks_serials is_idle is_full is_clear after_act after_post post_of first_of
+    on-2 done from on =
+        let u = at x1 Empty in
+        let here = node-is x1 Empty in
+        let first : next_at u n ≡ acts.Post n =
+        post_act u n n few (ap (λ (z : Node). z.count) here ∙ counted) is.here (λ i li. none-to x1 Empty refl i)
+        (ap (λ (z : Node). z.hand) here ∙ sends.hand)
+        (ap (λ z. has_mail_for z n) here ∙ ap (has_mail_for x1) (sym to) ∙ mail-there x0 serial link sends)
+        (ap is_clear (box-is x1 Empty))
+        (λ i ne. ap (λ z. has_mail_for z i) here ∙ box-others x0 serial link sends i (λ e. ne (e ∙ to))) in
+        go-on w0 u (at x2 (Full msg)) done from n (acts.Post n) on (next x1 Empty from on.place (ap is_idle first)) is.here first refl
+        (ap (λ z. after_post u n n (post_of z (acts.Post n))) here
+        ∙ ap (λ ms. after_post u n n (first_of ms)) (ap (outbox x1) (sym to) ∙ box-there x0 serial link sends)
+        ∙ ap (λ z. set_mail (set_node u n (commit z (acts.Post n) Plain)) (way u n n) (Full msg)) here
+        ∙ ap (λ k. set_mail (set_node u n (commit x1 (acts.Post k) Plain)) (way u n n) (Full msg)) (sym to)
+        ∙ ap (λ z. set_mail (set_node u n z) (way u n n) (Full msg)) (posted x0 serial link sends (omega (arith, to, is.here, few)))
+        ∙ ap (λ v. set_mail v (way u n n) (Full msg)) (write-node x1 x2 Empty)
+        ∙ write-box x2 Empty (Full msg))
+
+    -- the node looks
+    on-3 : (done from : ℕ) → OnWay w0 done (at x2 (Full msg)) from → OnWay w0 (done + 1) (at xh (Hand msg)) (next_node w n)
+    unfolding set_node set_mail turn_lacks_serials act_lacks_serials is_idle is_full after_act after_look full_message commit
+    on-3 done from on =
+        let u = at x2 (Full msg) in
+        let here = node-is x2 (Full msg) in
+        let box = box-is x2 (Full msg) in
+        let first : next_at u n ≡ acts.Look n =
+        look_act u n n few (ap (λ (z : Node). z.count) here ∙ counted) is.here (ap is_full box)
+        (λ i li ne. none-from x2 (Full msg) i ne) (ap (λ (z : Node). z.hand) here ∙ sends.hand) in
+        go-on w0 u (at xh (Hand msg)) done from n (acts.Look n) on (next x2 (Full msg) from on.place (ap is_idle first)) is.here first refl
+        (ap (λ b. after_look u n n (full_message b)) box
+        ∙ ap (λ z. set_mail (set_node u n (commit z (acts.Look n) Plain)) (way u n n) (Hand msg)) here
+        ∙ ap (λ v. set_mail v (way u n n) (Hand msg)) (write-node x2 xh (Full msg))
+        ∙ write-box xh (Full msg) (Hand msg))
+
+    -- so far, whatever becomes of the item
+    so-far : (done from : ℕ) → OnWay w0 done w from → OnWay w0 (done + 3) (at xh (Hand msg)) (next_node w n)
+    so-far done from on =
+        subst (λ k. OnWay w0 k (at xh (Hand msg)) (next_node w n)) (omega arith)
+        (on-3 (done + 1 + 1) (next_node w n) (on-2 (done + 1) (next_node w n) (on-1 done from on)))
+
+    -- and the message is handed
+    on-4 : (z : Node) → ((source : Option ℕ) → z ≡ deliver xh n msg source) → ((source : Option ℕ) → message_lacks_serials xh n msg source ≡ false) →
+        (done from : ℕ) → OnWay w0 done (at xh (Hand msg)) from → OnWay w0 (done + 1) (at z Empty) (next_node w n)
+    unfolding set_node set_mail turn_lacks_serials hand_lacks_serials is_idle after_act after_hand hand_message
+    on-4 z taken allowed done from on =
+        let u = at xh (Hand msg) in
+        let here = node-is xh (Hand msg) in
+        let box = box-is xh (Hand msg) in
+        let first : next_at u n ≡ acts.Hand n = hand_act u n n (ap (λ (z : Node). z.hand) here) in
+        go-on w0 u (at z Empty) done from n (acts.Hand n) on (next xh (Hand msg) from on.place (ap is_idle first)) is.here first
+        (ap (λ b. hand_lacks_serials u n n (hand_message b)) box
+        ∙ ap (λ z. message_lacks_serials z n msg (source_for u msg)) here ∙ allowed (source_for u msg))
+        (ap (λ b. after_hand u n n (hand_message b)) box
+        ∙ ap (λ z. set_mail (set_node u n (deliver z n msg (source_for u msg))) (way u n n) Empty) here
+        ∙ ap (λ z. set_mail (set_node u n z) (way u n n) Empty) (sym (taken (source_for u msg)))
+        ∙ ap (λ v. set_mail v (way u n n) Empty) (write-node xh z (Hand msg))
+        ∙ write-box z (Hand msg) Empty)
+
+    -- code leaves the message in hand
+    pub left-walk : (done from : ℕ) → IsPlace w from → Walk w0 w done from →
+        Walk w0 (with_hand (set_node w n x2) n n msg) (done + 3) (next_node w n)
+    unfolding set_node set_mail
+    left-walk done from place walk =
+        let held : with_hand (set_node w n x2) n n msg ≡ at xh (Hand msg) =
+        ap (λ (z : Node). set_mail (set_node (set_node w n x2) n (record z { hand = Some n })) (way w n n) (Hand msg)) (node-here w n x2)
+        ∙ ap (λ v. set_mail v (way w n n) (Hand msg)) (set-twice w n x2 xh) in
+        subst (λ v. Walk w0 v (done + 3) (next_node w n)) (sym held)
+        (walked w0 _ (done + 3) (next_node w n) (so-far done from (on_way-walked w0 w done from walk place)))
+
+    -- or hands the item on
+    pub here-walk : (u : World) → ((source : Option ℕ) → u ≡ set_node (set_node w n x2) n (deliver (node_at (set_node w n x2) n) n msg source)) →
+        ((source : Option ℕ) → message_lacks_serials (node_at (set_node w n x2) n) n msg source ≡ false) → (done from : ℕ) → IsPlace w from →
+        Walk w0 w done from → Walk w0 u (done + 4) (next_node w n)
+    unfolding fits fits_item
+    here-walk u handed allowed done from place walk =
+        let there = node-here w n x2 in
+        let item = (sent_first x0 serial link sends).item in
+        let number = (sender x0 serial link sends).out_queue.current in
+        let z = deliver x2 n msg None in
+        let unheld : (source : Option ℕ) → deliver xh n msg source ≡ deliver x2 n msg source =
+        λ source. (item_unheld x2 n link.link (opposite link.side) number item source sends.hand).0 in
+        let same : (source : Option ℕ) → u ≡ set_node w n (deliver x2 n msg source) =
+        λ source. handed source ∙ ap (λ k. set_node (set_node w n x2) n (deliver k n msg source)) there
+        ∙ set-twice w n x2 (deliver x2 n msg source) in
+        let node : (source : Option ℕ) → z ≡ deliver xh n msg source =
+        λ source. sym (node-here w n z) ∙ ap (λ v. node_at v n) (sym (same None) ∙ same source) ∙ node-here w n (deliver x2 n msg source)
+        ∙ sym (unheld source) in
+        let lacks : (source : Option ℕ) → message_lacks_serials xh n msg source ≡ false =
+        λ source. ap (λ k. message_lacks_serials k n msg source) (sym there) ∙ allowed source in
+        let on = on-4 z node lacks (done + 3) (next_node w n) (so-far done from (on_way-walked w0 w done from walk place)) in
+        subst (λ k. Walk w0 u k (next_node w n)) (omega arith)
+        (subst (λ v. Walk w0 v (done + 3 + 1) (next_node w n)) (single-box z ∙ sym (same None))
+        (walked w0 _ (done + 3 + 1) (next_node w n) on))
+
+-- the world behind a send, as code has it
+pub sent-passing : (w : World) (n serial : ℕ) (link : LinkEnd) (x : Node) (sends : SendsNext (node_at w n) serial link) → IsPassing w n n →
+    x ≡ sent_node (node_at w n) serial link sends → link.other ≡ n → IsPassing (set_node w n x) n link.other
+sent-passing w n serial link x sends is behind to =
+    subst (λ m. IsPassing (set_node w n x) n m) (sym to)
+    (passing-taker w n n x is (ap (λ (k : Node). k.count) behind ∙ is.counts n is.here) (ap (λ (k : Node). k.hand) behind ∙ sends.hand))
+
+-- a node that hands an item to itself, as code has it
+abbrev pub IsHandedHere : World → ℕ → World → Node → ℕ → Message → Type 0
+IsHandedHere w n u x m msg = (source : Option ℕ) → u ≡ set_node (set_node w n x) m (deliver (node_at (set_node w n x) m) n msg source)
+
+abbrev pub IsAllowedHere : World → ℕ → Node → ℕ → Message → Type 0
+IsAllowedHere w n x m msg = (source : Option ℕ) → message_lacks_serials (node_at (set_node w n x) m) n msg source ≡ false
+
+pub taken-walk : (w u w0 : World) (n serial : ℕ) (link : LinkEnd) (x : Node) (msg : Message) (sends : SendsNext (node_at w n) serial link)
+    (done from : ℕ) → IsPassing w n n → x ≡ sent_node (node_at w n) serial link sends → msg ≡ sent_message (node_at w n) serial link sends →
+    link.other ≡ n → (node_at w n).next_peripheral ≤ no_number → IsHandedHere w n u x link.other msg → IsAllowedHere w n x link.other msg →
+    IsPlace w from → Walk w0 w done from → Walk w0 u (done + 4) (next_node w n)
+taken-walk w u w0 n serial link x msg sends done from is behind told to low handed allowed place walk =
+    here-walk w n is w0 serial link sends to low u
+    (subst (λ y. IsHandedHere w n u y n (sent_message (node_at w n) serial link sends)) behind
+    (subst (λ k. IsHandedHere w n u x n k) told (subst (λ m. IsHandedHere w n u x m msg) to handed)))
+    (subst (λ y. IsAllowedHere w n y n (sent_message (node_at w n) serial link sends)) behind
+    (subst (λ k. IsAllowedHere w n x n k) told (subst (λ m. IsAllowedHere w n x m msg) to allowed))) done from place walk
+
+pub kept-walk : (w u w0 : World) (n serial : ℕ) (link : LinkEnd) (x : Node) (msg : Message) (sends : SendsNext (node_at w n) serial link)
+    (done from : ℕ) → IsPassing w n n → x ≡ sent_node (node_at w n) serial link sends → msg ≡ sent_message (node_at w n) serial link sends →
+    link.other ≡ n → (node_at w n).next_peripheral ≤ no_number → u ≡ with_hand (set_node w n x) n link.other msg → IsPlace w from →
+    Walk w0 w done from → Walk w0 u (done + 3) (next_node w n)
+kept-walk w u w0 n serial link x msg sends done from is behind told to low left place walk =
+    subst (λ v. Walk w0 v (done + 3) (next_node w n))
+    (sym (left ∙ ap (λ m. with_hand (set_node w n x) n m msg) to ∙ ap (with_hand (set_node w n x) n n) told
+    ∙ ap (λ y. with_hand (set_node w n y) n n (sent_message (node_at w n) serial link sends)) behind))
+    (left-walk w n is w0 serial link sends to low done from place walk)
