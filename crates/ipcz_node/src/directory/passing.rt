@@ -37,6 +37,7 @@ impl Directory {
 
     /// Gives an item without ends to the router of the serial, as `accept` does; `item` is left as it is if it is refused, and counts for
     /// nothing if it is taken.
+    #[inline(always)]
     #[tactic(auto, using(crate::proofs::Written::insert_same))]
     pub fn accept_alone(
         &mut self,

@@ -37,7 +37,7 @@ impl NodeState {
         ensures some { IfSome result (λ s. SendsNext self.now.node s.0 s.1) }
         ensures none { IfNone result ((serial : ℕ) → (link : LinkEndRecord) → SendsNext self.now.node serial link → ⊥) }
     {
-        if !self.outboxes.are_empty() || !self.pending.is_empty() || self.hand.is_some() {
+        if self.hand.is_some() || !self.pending.is_empty() || !self.outboxes.are_empty() {
             return None;
         }
         self.outboxes.has_each();

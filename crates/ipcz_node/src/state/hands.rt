@@ -474,6 +474,7 @@ impl NodeState {
     }
 
     /// The same of the item that a message brings, and of its moves: `item` counts for nothing if it was taken.
+    #[inline(always)]
     pub fn take_alone(
         &mut self,
         from: u8,

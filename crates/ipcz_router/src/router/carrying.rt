@@ -18,10 +18,10 @@ impl Router {
     pub fn last_way(&self) -> Option<LinkEnd>
         ensures { result ≡ last_link self.now.router }
     {
-        if self.out_queue.len() != 1 || !self.is_settled() || !self.sends_alone() {
+        if self.out_queue.len() != 1 {
             return None;
         }
-        self.outward.primary()
+        self.next_way()
     }
 
     /// The link of the item that leaves next, if it carries no ends and is the first that an open terminal has to do.

@@ -1,4 +1,4 @@
-//! A lone parcel: if it is all that the world has to do, it is carried all its way in one go.
+//! A lone parcel: if it is all that the world has to do, it is carried all its way in one go. Several parcels of one router go over one by one.
 
 ghost use Rattle.std.specs.Prelude.{◌≡◌, ◌≤◌, ◌<◌, ◌+◌, ◌⊎◌, ℕ, Option, true, false, [], None, IfSome, IfNone};
 ghost use Rattle.ipcz_base.specs.declared.link_end.LinkEnd.{LinkEnd as LinkEndRecord};
@@ -20,8 +20,8 @@ use ipcz_base::{Item, LinkEnd, Message, Moves};
 impl State {
     /// Carries a lone parcel all its way in one go: a send out, a post, a look, a hand, and a rest of each router. It gives how many acts that
     /// was, at most `most`, and the node that is visited next. After six acts no node has an act. If the receiver finds no memory for the
-    /// parcel, it stays in hand there: that is after four acts, or three within one node. If the parcel isn't all that the world has to do,
-    /// or `most` is below 6, nothing is done.
+    /// parcel, it stays in hand there: that is after four acts, or three within one node. Of several parcels each goes over by four acts, and
+    /// what is left to do then is left. If another node has something to do, or `most` is below 6, nothing is done.
     #[inline(never)]
     pub(crate) fn carry(&mut self, most: u64) -> (u64, u8)
         requires { IsRegular self.old }
@@ -305,7 +305,10 @@ impl State {
         let Some((serial, link)) = self.nodes.node(n).next_sender() else {
             return None;
         };
-        if link.other >= self.count || !self.mail.is_clear(self.way(n, link.other)) {
+        if link.other >= self.count {
+            return None;
+        }
+        if !self.mail.is_clear(self.way(n, link.other)) {
             return None;
         }
         Some((n, serial, link))

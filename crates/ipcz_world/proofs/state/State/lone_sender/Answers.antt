@@ -8,7 +8,6 @@ use Rattle.ipcz_world.specs.declared.mail.Mail.TheVariants.{Full, Hand}
 use Rattle.ipcz_world.specs.Turns.{is_clear, is_full}
 use Rattle.ipcz_world.specs.Carrying.{AreQuiet, IsLoneSender}
 use Rattle.ipcz_world.proofs.code.LoneFinds.{busy_is, next_is, sender_alone}
-use Rattle.ipcz_world.proofs.state.State.lone_sender.Goals.{then-link-self-via-then-link-self, then-link-self-via-else-link-self+then-not-is_clear}
 use Rattle.ipcz_world.proofs.state.State.lone_sender.Goals as goal
 
 empty_is : (b : Mail) → is_clear b ≡ true → b ≡ Empty
@@ -72,29 +71,41 @@ returns-in_default-next_sender-clause-none c n serial link lone =
     (subst (λ x. SendsNext x serial link) (sym (c.node.ensures ∙ ap (λ (u : World). node_at u k) c.self.view_is))
     (sends_there w n serial link k lone c.in-Some.ensures.here c.in-Some.ensures.busy))
 
+-- a sender that was looked for is the one that was found
+found_is : (w : World) (n k serial s : ℕ) (link found : LinkEnd) → IsLoneSender w n serial link → k < w.count →
+    is_quiet (node_at w k) ≡ false → SendsNext (node_at w k) s found → (n ≡ k) × (link ≡ found)
+found_is w n k serial s link found lone l busy sends = (
+  busy_is w n k (sender_alone w n serial link lone) l busy,
+  next_is (node_at w k) serial s link found (sends_there w n serial link k lone l busy) sends,
+)
+
 pub returns-then-link-self-clause-none : goal.returns-then-link-self-clause-none
-unfolding node_at mail_at is_clear
+unfolding node_at
 returns-then-link-self-clause-none c n serial link lone =
+    let w = c.args.self.now in
+    let sends = subst (λ x. SendsNext x c.in-Some-next_sender.serial c.in-Some-next_sender.link)
+    (c.node.ensures ∙ ap (λ (u : World). node_at u c.in-Some.n) c.self.view_is) c.in-Some-next_sender.ensures.some in
+    let is = found_is w n c.in-Some.n serial c.in-Some-next_sender.serial link c.in-Some-next_sender.link lone c.in-Some.ensures.here
+    c.in-Some.ensures.busy sends in
+    let there : c.in-Some-next_sender.link.other < w.count = subst (λ (e : LinkEnd). e.other < w.count) is.1 lone.there in
+    let beyond : w.count ≤ c.in-Some-next_sender.link.other =
+    subst (λ (u : World). u.count ≤ c.in-Some-next_sender.link.other) c.self.view_is c.if-link-self.true in
+    omega (arith, there, beyond)
+
+pub returns-then-not-is_clear-clause-none : goal.returns-then-not-is_clear-clause-none
+unfolding node_at mail_at is_clear
+returns-then-not-is_clear-clause-none c n serial link lone =
     let w = c.args.self.now in
     let k = c.in-Some.n in
     let found = c.in-Some-next_sender.link in
-    let here : n ≡ k = busy_is w n k (sender_alone w n serial link lone) c.in-Some.ensures.here c.in-Some.ensures.busy in
     let sends = subst (λ x. SendsNext x c.in-Some-next_sender.serial found) (c.node.ensures ∙ ap (λ (u : World). node_at u k) c.self.view_is)
     c.in-Some-next_sender.ensures.some in
-    let same : link ≡ found = next_is (node_at w k) serial c.in-Some-next_sender.serial link found
-    (sends_there w n serial link k lone c.in-Some.ensures.here c.in-Some.ensures.busy) sends in
-    let there : found.other < w.count = subst (λ (e : LinkEnd). e.other < w.count) same lone.there in
-    let box : mail_at w (way w k found.other) ≡ Empty = subst (λ (e : LinkEnd). mail_at w (way w k e.other) ≡ Empty) same
-    (subst (λ i. mail_at w (way w i link.other) ≡ Empty) here lone.box) in
-    elim c.then-link-self.branch [
-      | then-link-self-via-then-link-self b ↦
-          let beyond : w.count ≤ found.other = subst (λ (u : World). u.count ≤ found.other) c.self.view_is b.if-link-self.true in
-          omega (arith, there, beyond)
-      | then-link-self-via-else-link-self+then-not-is_clear b ↦
-          let held : is_clear (place_at Empty c.self.inside.mail b.way.result) ≡ false = sym b.is_clear.ensures ∙ b.if-not-is_clear.true in
-          let told : is_clear (place_at Empty c.self.inside.mail (way w k found.other)) ≡ false =
-          subst (λ i. is_clear (place_at Empty c.self.inside.mail i) ≡ false) b.way.ensures.way held in
-          let at : is_clear (mail_at w (way w k found.other)) ≡ false =
-          subst (λ (u : World). is_clear (mail_at u (way w k found.other)) ≡ false) c.self.view_is told in
-          true≢false (sym (ap is_clear box) ∙ at)
-    ]
+    let is = found_is w n k serial c.in-Some-next_sender.serial link found lone c.in-Some.ensures.here c.in-Some.ensures.busy sends in
+    let box : mail_at w (way w k found.other) ≡ Empty = subst (λ (e : LinkEnd). mail_at w (way w k e.other) ≡ Empty) is.1
+    (subst (λ i. mail_at w (way w i link.other) ≡ Empty) is.0 lone.box) in
+    let held : is_clear (place_at Empty c.self.inside.mail c.way.result) ≡ false = sym c.is_clear.ensures ∙ c.if-not-is_clear.true in
+    let told : is_clear (place_at Empty c.self.inside.mail (way w k found.other)) ≡ false =
+    subst (λ i. is_clear (place_at Empty c.self.inside.mail i) ≡ false) c.way.ensures.way held in
+    let at : is_clear (mail_at w (way w k found.other)) ≡ false =
+    subst (λ (u : World). is_clear (mail_at u (way w k found.other)) ≡ false) c.self.view_is told in
+    true≢false (sym (ap is_clear box) ∙ at)
