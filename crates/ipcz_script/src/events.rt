@@ -93,6 +93,19 @@ fn push_word(out: &mut Vec<u8>, serial: u64, verb: &str, link: LinkId, word: u64
     write!(out, "r{serial} {verb} {link} {word}")
 }
 
+// A discard of Gone, with which the router leaves.
+fn push_left(out: &mut Vec<u8>, serial: u64, n: u64) -> io::Result<()>
+    ensures { OnOk result (out.new.items ≡ out.old.items ++ event_text (Happened.DiscardLeave serial n)) }
+{
+    write!(out, "r{serial} discard {n} leave")
+}
+
+fn push_retired(out: &mut Vec<u8>, serial: u64, n: u64, link: LinkId) -> io::Result<()>
+    ensures { OnOk result (out.new.items ≡ out.old.items ++ event_text (Happened.Retire serial n link)) }
+{
+    write!(out, "r{serial} retire {n} {link}")
+}
+
 /// Adds the text of what a turn did.
 ///
 /// After an `Err`, which is want of memory, some front of the text may stand behind what was there.
@@ -117,7 +130,7 @@ pub fn push_event(out: &mut Vec<u8>, event: &Happened) -> io::Result<()>
             moved,
         } => push_sent(out, *serial, "in", *n, *link, moved.as_slice()),
         Happened::Discard(serial, n) => write!(out, "r{serial} discard {n}"),
-        Happened::DiscardLeave(serial, n) => write!(out, "r{serial} discard {n} leave"),
+        Happened::DiscardLeave(serial, n) => push_left(out, *serial, *n),
         Happened::FinishOut(serial, link) => push_link(out, *serial, "finish out", *link),
         Happened::FinishIn(serial, link) => push_link(out, *serial, "finish in", *link),
         Happened::Leave(serial) => write!(out, "r{serial} leave"),
@@ -129,7 +142,7 @@ pub fn push_event(out: &mut Vec<u8>, event: &Happened) -> io::Result<()>
         Happened::Wait(serial, link, word) => push_word(out, *serial, "wait", *link, *word),
         Happened::Refused(serial, link, word) => push_word(out, *serial, "refused", *link, *word),
         Happened::Begin(serial, link) => push_link(out, *serial, "begin", *link),
-        Happened::Retire(serial, n, link) => write!(out, "r{serial} retire {n} {link}"),
+        Happened::Retire(serial, n, link) => push_retired(out, *serial, *n, *link),
         Happened::Unlock(serial, link, word) => push_word(out, *serial, "unlock", *link, *word),
         Happened::Rest(serial) => write!(out, "r{serial} rest"),
         Happened::Idle => write!(out, "idle"),
