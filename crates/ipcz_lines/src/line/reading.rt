@@ -1,6 +1,6 @@
 //! Reading a line of a transcript, and a transcript.
 
-ghost use Rattle.std.specs.Prelude.{◌≡◌, ◌≢◌, ◌↔◌, ◌<◌, ◌≤◌, ◌++◌, IfSome, IfNone, IfOk, OnOk, IfErr, IsTrue, codes, length};
+ghost use Rattle.std.specs.Prelude.{◌≡◌, ◌≢◌, ◌↔◌, ◌<◌, ◌≤◌, ◌+◌, ◌++◌, IfSome, IfNone, IfOk, OnOk, IfErr, IsTrue, codes, length};
 ghost use Rattle.std.specs.List.{All};
 ghost use Rattle.ipcz_lines.specs.LineParts.{IsAnswer, IsFault, IsName, Reads, answer_text, fault_text};
 ghost use Rattle.ipcz_lines.specs.Lines.{AreNames, BeginsWithNoLine, FitsLine, IsTurn, IsPrintable, IsRead, IsReadLine, IsRefused};
@@ -205,6 +205,34 @@ fn first_line(bytes: &[u8]) -> Option<(ReadLine<'_>, &[u8])>
     Some((ReadLine { text, line }, rest))
 }
 
+// The line behind those that were read is refused.
+fn refused_behind(lines: &[ReadLine]) -> Unread
+    ensures { result ≡ Unread.Refused (length lines.now + 1) }
+{
+    Unread::Refused {
+        line: lines.len() + 1,
+    }
+}
+
+// The lines of a transcript, however many bytes it has.
+fn read_lines(alloc: Global, input: &[u8]) -> Result<Vec<ReadLine<'_>>, Unread>
+    ensures read { IfOk result (λ lines. IsRead input.now lines.items) }
+    ensures refused { IfErr result (IsRefused input.now) }
+{
+    let mut lines = Vec::new(alloc);
+    let mut rest = input;
+    while !rest.is_empty() {
+        let Some((line, behind)) = first_line(rest) else {
+            return Err(refused_behind(lines.as_slice()));
+        };
+        if lines.push(line).is_err() {
+            return Err(Unread::OutOfMemory);
+        }
+        rest = behind;
+    }
+    Ok(lines)
+}
+
 /// Reads a transcript.
 pub fn read(alloc: Global, input: &[u8]) -> Result<Vec<ReadLine<'_>>, Unread>
     ensures read { IfOk result (λ lines. IsRead input.now lines.items) }
@@ -215,18 +243,5 @@ pub fn read(alloc: Global, input: &[u8]) -> Result<Vec<ReadLine<'_>>, Unread>
     if input.len() > LONGEST {
         return Err(Unread::Refused { line: 0 });
     }
-    let mut lines = Vec::new(alloc);
-    let mut rest = input;
-    while !rest.is_empty() {
-        let Some((line, behind)) = first_line(rest) else {
-            return Err(Unread::Refused {
-                line: lines.len() + 1,
-            });
-        };
-        if lines.push(line).is_err() {
-            return Err(Unread::OutOfMemory);
-        }
-        rest = behind;
-    }
-    Ok(lines)
+    read_lines(alloc, input)
 }

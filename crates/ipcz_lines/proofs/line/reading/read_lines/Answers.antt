@@ -5,7 +5,7 @@ use Rattle.std.proofs.lemmas.Grind.{flat_map-append}
 use Rattle.std.proofs.lemmas.List.Elements.{All-push}
 use Rattle.ipcz_lines.specs.declared.line.ReadLine.{ReadLine}
 use Rattle.ipcz_lines.specs.Lines.{IsReadLine, with_line_feed}
-use Rattle.ipcz_lines.proofs.line.reading.read.Goals as goal
+use Rattle.ipcz_lines.proofs.line.reading.read_lines.Goals as goal
 
 one_more : (lines : List ReadLine) (x : ReadLine) (rest behind input : List ℕ) → flat_map with_line_feed lines ++ rest ≡ input
     → rest ≡ with_line_feed x ++ behind → flat_map with_line_feed (lines ++ x ∷ []) ++ behind ≡ input

@@ -1,7 +1,7 @@
 use Rattle.std.proofs.Common.{◌≡◌, ◌++◌, length}
 use Rattle.std.specs.List.{All, flat_map}
 use Rattle.ipcz_lines.specs.Lines.{IsReadLine, with_line_feed}
-use Rattle.ipcz_lines.proofs.line.reading.read.Given as goal
+use Rattle.ipcz_lines.proofs.line.reading.read_lines.Given as goal
 
 abbrev pub invariant-loop-rest : goal.invariant-loop-rest
 invariant-loop-rest l = record {
