@@ -126,6 +126,48 @@ impl Router {
         }
     }
 
+    #[inline(always)]
+    #[tactic(auto, unfolding(crate::specs::ActTable::is_possible))]
+    fn can_discard(&self) -> bool
+        ensures { result ≡ is_possible self.now.router RouterAct.Discard }
+    {
+        self.inward.is_none() && self.closed && self.in_queue.next().is_some()
+    }
+
+    #[inline(always)]
+    #[tactic(auto, unfolding(crate::specs::ActTable::is_possible))]
+    fn can_leave(&self) -> bool
+        ensures { result ≡ is_possible self.now.router RouterAct.Leave }
+    {
+        self.inward.is_some() && (self.has_no_link() || self.gone_sent)
+    }
+
+    #[inline(always)]
+    #[tactic(auto, unfolding(crate::specs::ActTable::is_possible))]
+    fn can_wake(&self) -> bool
+        ensures { result ≡ is_possible self.now.router RouterAct.Wake }
+    {
+        self.wake_owed && self.is_on_central()
+    }
+
+    #[inline(always)]
+    #[tactic(auto, unfolding(crate::specs::ActTable::is_possible))]
+    fn can_claim(&self) -> bool
+        ensures { result ≡ is_possible self.now.router RouterAct.Claim }
+    {
+        self.is_ready() && self.spare.is_none()
+    }
+
+    // A proxy locks for its bypass, and a sink to leave.
+    #[inline(always)]
+    #[tactic(auto, unfolding(crate::specs::ActTable::is_possible))]
+    fn can_lock(&self) -> bool
+        ensures { result ≡ is_possible self.now.router RouterAct.Lock }
+    {
+        (self.is_ready() && self.spare.is_some() && !self.holds)
+            || (self.is_leaving() && !self.holds)
+    }
+
     /// Whether an act is possible, `Rest` aside: docs/PROTOCOL.md, "Turns", has the condition of each. `Unlock` is possible
     /// if `Begin` or `Retire` is, in whose place it is taken.
     #[tactic(auto, unfolding(crate::specs::ActTable::is_possible))]
@@ -135,19 +177,14 @@ impl Router {
         match act {
             RouterAct::SendOut => self.out_queue.next().is_some() && self.way_out().is_some(),
             RouterAct::SendIn => self.in_queue.next().is_some() && self.way_in().is_some(),
-            RouterAct::Discard => {
-                self.inward.is_none() && self.closed && self.in_queue.next().is_some()
-            }
+            RouterAct::Discard => self.can_discard(),
             RouterAct::FinishOut => self.can_finish_out(),
             RouterAct::FinishIn => self.can_finish_in(),
-            RouterAct::Leave => self.inward.is_some() && (self.has_no_link() || self.gone_sent),
+            RouterAct::Leave => self.can_leave(),
             RouterAct::Mark => self.is_on_central() && !self.marked && !self.decays(),
-            RouterAct::Wake => self.wake_owed && self.is_on_central(),
-            RouterAct::Claim => self.is_ready() && self.spare.is_none(),
-            RouterAct::Lock => {
-                (self.is_ready() && self.spare.is_some() && !self.holds)
-                    || (self.is_leaving() && !self.holds)
-            }
+            RouterAct::Wake => self.can_wake(),
+            RouterAct::Claim => self.can_claim(),
+            RouterAct::Lock => self.can_lock(),
             RouterAct::Begin => self.can_begin(),
             RouterAct::Retire => self.can_retire(),
             RouterAct::Unlock => self.can_begin() || self.can_retire(),
