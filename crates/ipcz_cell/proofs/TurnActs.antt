@@ -205,15 +205,17 @@ may_unlock act (inr is) (Some r) h = retire_may r (ap (may_take r) (sym is) ∙ 
 abbrev IsPlain : RouterAct → Type 0
 IsPlain act = (is_wordless act ≡ true) × ((serial : ℕ) → acts.Router serial act ≡ stand_in (acts.Router serial act))
 
-pub plain_acts : (act : RouterAct) → (act ≡ router_acts.SendOut) ⊎ ((act ≡ router_acts.SendIn) ⊎ ((act ≡ router_acts.Discard) ⊎ ((act ≡ router_acts.FinishOut) ⊎ ((act ≡ router_acts.FinishIn) ⊎ ((act ≡ router_acts.Leave) ⊎ (act ≡ router_acts.Rest)))))) → IsPlain act
+pub plain_acts : (act : RouterAct) → act ≢ router_acts.Mark → act ≢ router_acts.Wake → act ≢ router_acts.Claim → act ≢ router_acts.Lock → act ≢ router_acts.Begin →
+    act ≢ router_acts.Retire → act ≢ router_acts.Unlock → IsPlain act
 unfolding stand_in
-plain_acts act (inl e) = subst IsPlain (sym e) (refl, λ s. refl)
-plain_acts act (inr (inl e)) = subst IsPlain (sym e) (refl, λ s. refl)
-plain_acts act (inr (inr (inl e))) = subst IsPlain (sym e) (refl, λ s. refl)
-plain_acts act (inr (inr (inr (inl e)))) = subst IsPlain (sym e) (refl, λ s. refl)
-plain_acts act (inr (inr (inr (inr (inl e))))) = subst IsPlain (sym e) (refl, λ s. refl)
-plain_acts act (inr (inr (inr (inr (inr (inl e)))))) = subst IsPlain (sym e) (refl, λ s. refl)
-plain_acts act (inr (inr (inr (inr (inr (inr e)))))) = subst IsPlain (sym e) (refl, λ s. refl)
+plain_acts router_acts.Mark mark wake claim lock begin retire unlock = absurd (mark refl)
+plain_acts router_acts.Wake mark wake claim lock begin retire unlock = absurd (wake refl)
+plain_acts router_acts.Claim mark wake claim lock begin retire unlock = absurd (claim refl)
+plain_acts router_acts.Lock mark wake claim lock begin retire unlock = absurd (lock refl)
+plain_acts router_acts.Begin mark wake claim lock begin retire unlock = absurd (begin refl)
+plain_acts router_acts.Retire mark wake claim lock begin retire unlock = absurd (retire refl)
+plain_acts router_acts.Unlock mark wake claim lock begin retire unlock = absurd (unlock refl)
+plain_acts other mark wake claim lock begin retire unlock = (refl, λ s. refl)
 
 -- nor does one for a close
 pub close_alone : (act : Act) (e : End) → act ≡ acts.Close e → act ≡ stand_in act

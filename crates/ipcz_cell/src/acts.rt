@@ -102,13 +102,6 @@ impl<F: FabricName> NodeCell<F> {
         ensures { Does F.table (Act.Router serial act) self.old result self.new }
     {
         match act {
-            RouterAct::SendOut
-            | RouterAct::SendIn
-            | RouterAct::Discard
-            | RouterAct::FinishOut
-            | RouterAct::FinishIn
-            | RouterAct::Leave
-            | RouterAct::Rest => self.plain_untold(fabric, serial, act),
             RouterAct::Mark
             | RouterAct::Unlock
             | RouterAct::Wake
@@ -116,6 +109,7 @@ impl<F: FabricName> NodeCell<F> {
             | RouterAct::Claim
             | RouterAct::Begin
             | RouterAct::Retire => untold(self.router_turn(fabric, serial, act)),
+            _ => self.plain_untold(fabric, serial, act),
         }
     }
 

@@ -185,20 +185,5 @@ impl LinkWords {
 fn is_claim(act: RouterAct) -> bool
     ensures { result ≡ is_claim act }
 {
-    match act {
-        RouterAct::Claim => true,
-        RouterAct::SendOut
-        | RouterAct::SendIn
-        | RouterAct::Discard
-        | RouterAct::FinishOut
-        | RouterAct::FinishIn
-        | RouterAct::Leave
-        | RouterAct::Mark
-        | RouterAct::Wake
-        | RouterAct::Lock
-        | RouterAct::Begin
-        | RouterAct::Retire
-        | RouterAct::Unlock
-        | RouterAct::Rest => false,
-    }
+    matches!(act, RouterAct::Claim)
 }

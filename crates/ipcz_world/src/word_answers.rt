@@ -35,16 +35,7 @@ pub fn answer_act(word: u64, side: Side, source: Option<u8>, act: RouterAct) -> 
         RouterAct::Wake => answer_wake(word, side),
         RouterAct::Lock => answer_lock(word, side, source),
         RouterAct::Unlock => answer_unlock(word, side),
-        RouterAct::SendOut
-        | RouterAct::SendIn
-        | RouterAct::Discard
-        | RouterAct::FinishOut
-        | RouterAct::FinishIn
-        | RouterAct::Leave
-        | RouterAct::Claim
-        | RouterAct::Begin
-        | RouterAct::Retire
-        | RouterAct::Rest => Answered {
+        _ => Answered {
             answer: Answer::Plain,
             word,
         },

@@ -202,14 +202,7 @@ impl NodeState {
             RouterAct::Claim => self.commit_one(serial, RouterAct::Claim, answer),
             RouterAct::Lock => self.commit_one(serial, RouterAct::Lock, answer),
             RouterAct::Unlock => self.commit_one(serial, RouterAct::Unlock, answer),
-            RouterAct::SendOut
-            | RouterAct::SendIn
-            | RouterAct::Discard
-            | RouterAct::Leave
-            | RouterAct::Wake
-            | RouterAct::Begin
-            | RouterAct::Retire
-            | RouterAct::Rest => self.commit_one(serial, act, answer),
+            _ => self.commit_one(serial, act, answer),
         }
     }
 

@@ -451,22 +451,14 @@ impl State {
 fn is_wordless(act: RouterAct) -> bool
     ensures { result ≡ is_wordless act }
 {
-    match act {
+    !matches!(
+        act,
         RouterAct::Mark
-        | RouterAct::Wake
-        | RouterAct::Claim
-        | RouterAct::Lock
-        | RouterAct::Unlock => false,
-        RouterAct::SendOut
-        | RouterAct::SendIn
-        | RouterAct::Discard
-        | RouterAct::FinishOut
-        | RouterAct::FinishIn
-        | RouterAct::Leave
-        | RouterAct::Begin
-        | RouterAct::Retire
-        | RouterAct::Rest => true,
-    }
+            | RouterAct::Wake
+            | RouterAct::Claim
+            | RouterAct::Lock
+            | RouterAct::Unlock
+    )
 }
 
 // The act that stands in for one which found no memory, if there is another: an unlock for a begin or a retire.
@@ -492,17 +484,6 @@ fn other_act(act: RouterAct) -> Option<RouterAct>
 {
     match act {
         RouterAct::Begin | RouterAct::Retire => Some(RouterAct::Unlock),
-        RouterAct::SendOut
-        | RouterAct::SendIn
-        | RouterAct::Discard
-        | RouterAct::FinishOut
-        | RouterAct::FinishIn
-        | RouterAct::Leave
-        | RouterAct::Mark
-        | RouterAct::Wake
-        | RouterAct::Claim
-        | RouterAct::Lock
-        | RouterAct::Unlock
-        | RouterAct::Rest => None,
+        _ => None,
     }
 }
