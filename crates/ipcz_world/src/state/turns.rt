@@ -453,11 +453,7 @@ fn is_wordless(act: RouterAct) -> bool
 {
     !matches!(
         act,
-        RouterAct::Mark
-            | RouterAct::Wake
-            | RouterAct::Claim
-            | RouterAct::Lock
-            | RouterAct::Unlock
+        RouterAct::Mark | RouterAct::Wake | RouterAct::Claim | RouterAct::Lock | RouterAct::Unlock
     )
 }
 
