@@ -2,8 +2,8 @@
 
     python3 tools/test_try_edits.py    prints what is told otherwise, and fails if there is something
 
-By hand, and not in the gate: it takes two to four minutes of a processor. It begins with what `rt check` kept in the folders `out` of `ipcz_base` and
-`ipcz_edge`, or proves them first.
+By hand, and not in the gate: it takes two to four minutes of a processor. It begins with what `rt check` kept in the folders `out` of `ipcz_device`,
+`ipcz_base` and `ipcz_edge`, or proves them first.
 """
 import os
 import pathlib
@@ -14,8 +14,9 @@ import sys
 import tempfile
 
 import asked
+import try_edits
 from asked import TOP
-CRATES = ("ipcz_base", "ipcz_edge")
+CRATES = ("ipcz_device", "ipcz_base", "ipcz_edge")
 EDGE, SPEC, LINK_END = "src/edge.rt", "specs/Edge.antt", "Some(LinkEnd { link, side, other })"
 CHOICE = re.search(r"^choose e n = .*$", (TOP / "crates/ipcz_edge" / SPEC).read_text(), re.M)[0]
 # What is planted: what must be told of it, its file, old text and new one, and if need be the function of which it says that it refuses it.
@@ -46,6 +47,16 @@ def plant(folder: pathlib.Path) -> None:
         (folder / f"{name}.edit").write_text("".join(f"{line}\n" for line in lines))
 
 
+def told_of_answers(crate: pathlib.Path, *whats: str) -> str:
+    """Returns what the tool tells of the edit `wrong_callee` if a check says this of the answers of its function."""
+    edit = try_edits.Edit(crate, crate / "edits" / "wrong_callee.edit")
+    (function,) = edit.functions
+    path = "/".join(function.name.split("::")[1:])
+    errors = [f"./proofs/{path}/Answers.antt:{at}:1: error: `goal`: {what}" for at, what in enumerate(whats, 1)]
+    lines = [*errors, f"fn {function.name}: not proved: see its answers", "logic=not-proved"]
+    return try_edits.Said(crate, 1, "\n".join(lines), False).verdict(edit)[0]
+
+
 def tried(room: pathlib.Path, **more: str) -> tuple[str, int, dict[str, str]]:
     """Returns what the tool says, its status, and what it tells of each edit."""
     words = [sys.executable, "tools/try_edits.py", "ipcz_edge"]
@@ -72,6 +83,11 @@ def main() -> None:
         if status != 1 or not re.search(rf"^edits: {count} as they must be, {len(PLANTED) - count} failed", text, re.M):
             failed.append(f"status {status}, and the last line doesn't tell {count} as they must be")
         texts.append(text)
+        # (no function of this crate has its answers in a file, so what a check would say of some is made up)
+        late = f"this is not {'so ' * 100}, and `item` is not in scope"
+        for whats, wanted in ((late,), "ONLY NAMES"), (("these are not the same", late), "refused"), ((late, "these are not the same"), "refused"):
+            if (what := told_of_answers(crate, *whats)) != wanted:
+                failed.append(f"of answers that a check gives {len(whats)} errors: {what}, and not {wanted}")
         for name in PLANTED:
             if name != "wrong_callee":
                 (crate / "edits" / f"{name}.edit").unlink()

@@ -61,6 +61,8 @@ PROCESSORS = int(os.environ.get("RT_JOBS") or min(4, len(os.sched_getaffinity(0)
 MOST_SECONDS = int(os.environ.get("EDIT_SECONDS", "3600"))
 # What is asked now and then while `rt ci` goes on beside: whether a processor is idle, and whether so many bytes are free for one check more.
 SECONDS_BETWEEN, LEAST_FREE = 4, 6 << 30
+# So much is printed of an error.
+MOST_LETTERS = 200
 KEPT = pathlib.Path(os.environ.get("XDG_CACHE_HOME") or pathlib.Path.home() / ".cache", "ipcz-edits")
 
 
@@ -336,7 +338,7 @@ class Said:
 
     def __init__(self, crate: pathlib.Path, status: int, text: str, is_late: bool) -> None:
         self.crate, self.status, self.text, self.is_late = crate, status, text, is_late
-        self.last = text.strip().rpartition("\n")[2][:200]
+        self.last = text.strip().rpartition("\n")[2]
         self.is_proved = status == 0 and self.last.startswith("logic=proved")
         # (with any other last line rattle has judged nothing)
         self.is_judged = status in (0, 1) and self.last.startswith(("logic=not-proved", "only="))
@@ -363,10 +365,10 @@ class Said:
         return None
 
     def answered(self, name: str) -> list[str]:
-        """Returns the errors among the function's answers."""
+        """Returns the errors among the function's answers, each whole, since what says that a name is gone may come late."""
         path = "/".join(name.split("::")[1:])
         # (the answers of a function that calls itself stand under its name with a plus)
-        return [f"proofs/{where}: {what[:160]}" for where, what in ANSWER.findall(self.text) if where.replace("+", "") == path]
+        return [f"proofs/{where}: {what}" for where, what in ANSWER.findall(self.text) if where.replace("+", "") == path]
 
     def verdict(self, edit: Edit) -> tuple[str, str]:
         """Returns what an edit comes to that was tried by itself, and why."""
@@ -379,7 +381,7 @@ class Said:
         if self.status == 3 and (limit := LIMITS.search(self.text)):
             return LIMIT, f"{limit[0]}: choose a change that it refuses sooner"
         if self.status == 1 and (found := re.search(r"^.*\berror\[[\w-]+\].*$", self.text, re.M)):
-            return BAD, f"it doesn't reach the prover: {found[0][:200]}"
+            return BAD, f"it doesn't reach the prover: {found[0]}"
         return UNKNOWN, f"its check ended with status {self.status}: {self.last}"
 
     def of_bodies(self, edit: Edit) -> tuple[str, str]:
@@ -398,7 +400,7 @@ class Said:
         unread = [it for it in texts if it not in asked or UNREAD.search(re.sub(r"`[^`]*`", "", it[2]))]
         for what, found in (BAD, unread), (REFUSED, [it for it in asked if not GONE.search(it[2])]), (NAMES, self.placed):
             if found and self.status:
-                return what, "{}:{}: {}".format(*found[0])[:200]
+                return what, "{}:{}: {}".format(*found[0])
         return UNKNOWN, self.last
 
 
@@ -551,7 +553,7 @@ class Trial:
     def tell(self, edit: Edit, what: str, why: str) -> None:
         with self.lock:
             self.verdicts[edit] = what, why
-            print(f"{edit.name}: {what}: {why}", flush=True)
+            print(f"{edit.name}: {what}: {why[:MOST_LETTERS]}", flush=True)
             # (it is kept if nothing that it was made from has changed meanwhile)
             if self.beside and edit not in self.failed() and self.sum == sum_below(self.crate) and self.beside.are_its_own(self.crate.name):
                 with contextlib.suppress(OSError):
