@@ -20,7 +20,7 @@ use crate::plays::{Outcome, load_step};
 use crate::probed::Probed;
 use atomic_table::Seat;
 use ipcz_base::{Bytes, End, Ends, Message, Parcel, Profile, Refusal};
-use ipcz_node::{Act, Happened, NodeState, PutRefused};
+use ipcz_node::{Act, Happened, NodeState, PutRefused, Told};
 use ipcz_router::act::{Answer, RouterAct};
 use ipcz_rule::View;
 use std::marker::{Brand, Model, PhantomData};
@@ -163,47 +163,20 @@ fn act_here<F: FabricName, X: Outcome>(
     event
 }
 
-// An act of a router that touches no word, made ready and done, as a step on the touch word. X is what it tells.
-fn told_here<F: FabricName, X: Outcome>(
+// An act of a router that touches no word, made ready and done, as a step on the touch word. X is what the step tells, and T says whether
+// what happened is told.
+fn plain_here<F: FabricName, X: Outcome, T: Told>(
     state: &mut NodeState,
     seat: &mut Seat<Option<Message>, View>,
     fabric: &Fabric<F>,
     serial: u64,
     act: RouterAct,
-) -> Result<Happened, Refusal>
+) -> Result<T, Refusal>
     requires picked { IsPicked X.tells (touched (act_part (Act.Router serial act) Answer.Plain)) }
     requires seated { IsSeated F.table state.old.node seat.old.table_id seat.old.me }
     requires touch { is_wordless act ≡ true }
     requires possible { IsPossibleAct state.old.node (Act.Router serial act) }
-    ensures event { IfOk result (λ h. h ≡ event_of state.old.node (Act.Router serial act) Answer.Plain) }
-    ensures why { IfErr result
-        (λ e. e ≡ (if act_lacks_serials state.old.node (Act.Router serial act) then Refusal.NumbersEnd else Refusal.OutOfMemory)) }
-    ensures grows { act_grows state.old.node (Act.Router serial act) ≡ false → IsOk result }
-    ensures seated { IsSeated F.table state.new.node seat.new.table_id seat.new.me }
-    ensures done { OnOk result
-        (seat.new.me ≡ (change_part (act_part (Act.Router serial act) Answer.Plain) seat.old.me.0, seat.old.me.1)) }
-    ensures err { OnErr result ((state.new.node ≡ state.old.node) × (seat.new.me ≡ seat.old.me)) }
-{
-    let node = state.number();
-    let told = state.act_told(serial, act);
-    if told.is_ok() {
-        touch::<F, X>(seat, fabric, node);
-    }
-    told
-}
-
-// The same, and nothing is told. X is what the step tells.
-fn plain_here<F: FabricName, X: Outcome>(
-    state: &mut NodeState,
-    seat: &mut Seat<Option<Message>, View>,
-    fabric: &Fabric<F>,
-    serial: u64,
-    act: RouterAct,
-) -> Result<(), Refusal>
-    requires picked { IsPicked X.tells (touched (act_part (Act.Router serial act) Answer.Plain)) }
-    requires seated { IsSeated F.table state.old.node seat.old.table_id seat.old.me }
-    requires touch { is_wordless act ≡ true }
-    requires possible { IsPossibleAct state.old.node (Act.Router serial act) }
+    ensures event { IfOk result (λ told. T.tells (event_of state.old.node (Act.Router serial act) Answer.Plain) told) }
     ensures why { IfErr result
         (λ e. e ≡ (if act_lacks_serials state.old.node (Act.Router serial act) then Refusal.NumbersEnd else Refusal.OutOfMemory)) }
     ensures grows { act_grows state.old.node (Act.Router serial act) ≡ false → IsOk result }
@@ -316,16 +289,16 @@ impl<F: FabricName> NodeCell<F> {
         act_here::<F, Brand>(&mut self.state, &mut self.seat, fabric, act)
     }
 
-    // Makes room for a possible act of a router that touches no word, and does it.
-    pub(crate) fn act_told(
+    // Makes room for a possible act of a router that touches no word, and does it. T says whether what happened is told.
+    pub(crate) fn act_plainly<T: Told>(
         &mut self,
         fabric: &Fabric<F>,
         serial: u64,
         act: RouterAct,
-    ) -> Result<Happened, Refusal>
+    ) -> Result<T, Refusal>
         requires touch { is_wordless act ≡ true }
         requires possible { IsPossibleAct self.old.part.state (Act.Router serial act) }
-        ensures event { IfOk result (λ h. h ≡ event_of self.old.part.state (Act.Router serial act) Answer.Plain) }
+        ensures event { IfOk result (λ told. T.tells (event_of self.old.part.state (Act.Router serial act) Answer.Plain) told) }
         ensures ok { OnOk result (self.new.part ≡ act_part (Act.Router serial act) Answer.Plain self.old.part) }
         ensures why { IfErr result
             (λ e. e ≡ (if act_lacks_serials self.old.part.state (Act.Router serial act) then Refusal.NumbersEnd else Refusal.OutOfMemory)) }
@@ -333,25 +306,6 @@ impl<F: FabricName> NodeCell<F> {
         ensures err { OnErr result (self.new.part ≡ self.old.part) }
         ensures seen { self.new.seen ≡ self.old.seen }
     {
-        told_here::<F, Brand>(&mut self.state, &mut self.seat, fabric, serial, act)
-    }
-
-    // The same, and nothing is told.
-    pub(crate) fn act_plainly(
-        &mut self,
-        fabric: &Fabric<F>,
-        serial: u64,
-        act: RouterAct,
-    ) -> Result<(), Refusal>
-        requires touch { is_wordless act ≡ true }
-        requires possible { IsPossibleAct self.old.part.state (Act.Router serial act) }
-        ensures ok { OnOk result (self.new.part ≡ act_part (Act.Router serial act) Answer.Plain self.old.part) }
-        ensures why { IfErr result
-            (λ e. e ≡ (if act_lacks_serials self.old.part.state (Act.Router serial act) then Refusal.NumbersEnd else Refusal.OutOfMemory)) }
-        ensures grows { act_grows self.old.part.state (Act.Router serial act) ≡ false → IsOk result }
-        ensures err { OnErr result (self.new.part ≡ self.old.part) }
-        ensures seen { self.new.seen ≡ self.old.seen }
-    {
-        plain_here::<F, Brand>(&mut self.state, &mut self.seat, fabric, serial, act)
+        plain_here::<F, Brand, T>(&mut self.state, &mut self.seat, fabric, serial, act)
     }
 }

@@ -260,7 +260,7 @@ impl<F: FabricName> NodeCell<F> {
             RouterAct::Lock => self.lock_turn(fabric, serial),
             RouterAct::Claim => self.claim_turn(fabric, serial),
             RouterAct::Begin | RouterAct::Retire => self.held_turn(fabric, serial, act),
-            _ => self.act_told(fabric, serial, act),
+            _ => self.act_plainly(fabric, serial, act),
         }
     }
 

@@ -20,4 +20,4 @@ mod state;
 pub use act::{Act, MailSeen};
 pub use happened::{Handed, Happened};
 pub use outbox::Outbox;
-pub use state::{NodeState, PutRefused, first_pair_count};
+pub use state::{NodeState, PutRefused, Told, first_pair_count};

@@ -15,10 +15,12 @@ mod hearing;
 mod passing;
 mod room;
 mod sends;
+mod told;
 mod turn;
 
 pub use self::calls::PutRefused;
 pub use self::first_pairs::first_pair_count;
+pub use self::told::Told;
 use crate::directory::Directory;
 use crate::outbox::Outbox;
 use crate::outboxes::Outboxes;

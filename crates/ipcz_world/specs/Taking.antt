@@ -1,5 +1,5 @@
 -- What the code needs to know of a world to take a step of it, and what comes of a turn that takes a certain act.
-use Rattle.std.specs.Prelude.{◌≡◌, ◌<◌, ℕ, true, false, if◌then◌else◌, Option, Some, Result, IsOk, OnOk, OnErr, IfOk, IfErr}
+use Rattle.std.specs.Prelude.{◌≡◌, ◌<◌, ℕ, true, false, if◌then◌else◌, Some, Result, IsOk, OnOk, OnErr, IfOk, IfErr}
 use Rattle.ipcz_base.specs.declared.refusal.Refusal.{Refusal}
 use Rattle.ipcz_base.specs.declared.refusal.Refusal.TheVariants.{NumbersEnd, OutOfMemory}
 use Rattle.ipcz_word.specs.Laws.{HasNode}
@@ -7,16 +7,12 @@ use Rattle.ipcz_router.specs.Router.{Router, source_of}
 use Rattle.ipcz_node.specs.Node.{router_in}
 use Rattle.ipcz_node.specs.declared.act.Act.{Act}
 use Rattle.ipcz_node.specs.declared.happened.Happened.{Happened}
-use Rattle.ipcz_node.specs.Acts.{post_of, act_lacks_serials}
-use Rattle.ipcz_node.specs.Preparing.{act_grows}
-use Rattle.ipcz_node.specs.Events.{event_of}
-use Rattle.ipcz_router.specs.declared.act.Answer.TheVariants.{Plain}
-use Rattle.ipcz_base.specs.declared.message.Message.{Message}
 use Rattle.ipcz_world.specs.declared.step.Step.{Step}
 use Rattle.ipcz_world.specs.declared.step.Step.TheVariants.{Open, Put, PutWide, Get, Close, Turn}
+use Rattle.ipcz_world.specs.declared.step.Reply.TheVariants.{Turned}
 use Rattle.ipcz_world.specs.World.{World, node_at}
-use Rattle.ipcz_world.specs.Turns.{turn_event, turn_lacks_serials, turn_grows, commit_at, after_act, can_take}
-use Rattle.ipcz_world.specs.Steps.{FirstAct}
+use Rattle.ipcz_world.specs.Turns.{turn_event, turn_lacks_serials, turn_grows, after_act, can_take}
+use Rattle.ipcz_world.specs.Steps.{FirstAct, StepFirst}
 use Rattle.ipcz_world.specs.Soundness.{HasLengths, IsSound}
 
 -- the lists of a world have their lengths, its nodes name only what there is, the source of each router is the number of a node, and the
@@ -27,24 +23,18 @@ pub record IsRegular (w : World) : Type 0 where
   pub sourced : (n serial : ℕ) (r : Router) → n < w.count → router_in (node_at w n) serial ≡ Some r → HasNode (source_of r)
   pub possible : (n : ℕ) (act : Act) → n < w.count → FirstAct w n act → can_take w n act ≡ true
 
--- a node has taken an act, or was refused it: for want of serials, or of memory if the act makes something grow
-pub record IsTaken (w : World) (n : ℕ) (act : Act) (result : Result Happened Refusal) (v : World) : Type 0 where
-  pub event : IfOk result (λ e. e ≡ turn_event w n act)
+-- a node has taken an act, of which this is told, or was refused it: for want of serials, or of memory if the act makes something grow
+pub record IsTaken {X : Type 0} (tells : Happened → X → Type 0) (w : World) (n : ℕ) (act : Act) (result : Result X Refusal) (v : World) : Type 0 where
+  pub event : IfOk result (tells (turn_event w n act))
   pub done : OnOk result (v ≡ after_act w n act)
   pub allowed : OnOk result (turn_lacks_serials w n act ≡ false)
   pub why : IfErr result (λ e. e ≡ (if turn_lacks_serials w n act then NumbersEnd else OutOfMemory))
   pub grows : turn_grows w n act ≡ false → turn_lacks_serials w n act ≡ false → IsOk result
   pub left : OnErr result (v ≡ w)
 
--- a node has done its own part of an act that touches no word, or was refused it
-pub record IsCommitted (w : World) (n : ℕ) (act : Act) (result : Result (Happened × Option Message) Refusal) (v : World) : Type 0 where
-  pub event : IfOk result (λ r. r.0 ≡ event_of (node_at w n) act Plain)
-  pub message : IfOk result (λ r. r.1 ≡ post_of (node_at w n) act)
-  pub done : OnOk result (v ≡ commit_at w w n act Plain)
-  pub allowed : OnOk result (act_lacks_serials (node_at w n) act ≡ false)
-  pub why : IfErr result (λ e. e ≡ (if act_lacks_serials (node_at w n) act then NumbersEnd else OutOfMemory))
-  pub grows : act_grows (node_at w n) act ≡ false → act_lacks_serials (node_at w n) act ≡ false → IsOk result
-  pub left : OnErr result (v ≡ w)
+-- a node has taken its first act, or what stands in for it, and this is told of what happened
+abbrev pub ToldTurn : {X : Type 0} → (Happened → X → Type 0) → World → ℕ → X → World → Type 0
+ToldTurn tells w n told v = (event : Happened) × tells event told × StepFirst w (Turn n) (Turned event) v
 
 -- the node that a step is for
 unfoldable pub node_of : Step → ℕ

@@ -14,7 +14,6 @@ use ipcz_base::{Message, Refusal};
 use ipcz_node::NodeState;
 use std::alloc::{AllocError, Global};
 use std::marker::Model;
-use std::mem;
 
 /// The mailboxes between the nodes, one for each ordered pair of nodes, by number.
 ///
@@ -155,6 +154,7 @@ impl Mailboxes {
 
     /// Hands the message in hand in a mailbox to a node, if it is one that the node takes at once, and tells whether it did: the mailbox is
     /// empty then. Else all stays as it is.
+    #[inline(always)]
     pub(crate) fn hand_over(
         &mut self,
         k: usize,
@@ -215,16 +215,6 @@ impl Mailboxes {
             Err(why) => return Err(why),
         }
         Ok(())
-    }
-
-    /// Takes the message in hand out of its mailbox, which is empty then; a mailbox without one stays as it is.
-    pub(crate) fn take_hand(&mut self, k: usize) -> Option<Message>
-        requires { k < length self.old }
-        ensures message { result ≡ hand_message (place_at Mail.Empty self.old k) }
-        ensures mail { self.new ≡ put_place Mail.Empty self.old k (put_down (place_at Mail.Empty self.old k)) }
-    {
-        let place = &mut self.boxes[k];
-        take_from(place, self.marks[k])
     }
 }
 
@@ -308,25 +298,6 @@ fn message_in(place: &Mail, marked: bool) -> Option<&Message>
     match place {
         Mail::Empty => None,
         Mail::Full(message) => { if marked { Some(message) } else { None } }
-        Mail::Hand(message) => Some(message),
-    }
-}
-
-// Takes the message in hand out of a mailbox, whose flag may be set.
-#[tactic(auto, unfolding(crate::specs::Mailing::as_marked, crate::specs::Mailing::taken_up, crate::specs::Mailing::put_down, crate::specs::Turns::hand_message))]
-fn take_from(place: &mut Mail, marked: bool) -> Option<Message>
-    ensures message { result ≡ hand_message (as_marked marked place.old) }
-    ensures place { as_marked marked place.new ≡ put_down (as_marked marked place.old) }
-{
-    match mem::replace(place, Mail::Empty) {
-        Mail::Empty => None,
-        Mail::Full(message) => {
-            if marked {
-                return Some(message);
-            }
-            *place = Mail::Full(message);
-            None
-        }
         Mail::Hand(message) => Some(message),
     }
 }

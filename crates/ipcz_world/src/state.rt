@@ -188,7 +188,10 @@ impl State {
         ensures { StepFirst self.old (Step.Turn n) result self.new }
     {
         let act = self.next(n);
-        self.take_first(n, act)
+        match self.take_first(n, act) {
+            Ok(event) => Reply::Turned(event),
+            Err(why) => Reply::Refused(why),
+        }
     }
 }
 

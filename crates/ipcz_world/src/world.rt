@@ -270,6 +270,6 @@ impl World {
         ensures turned { OnOk result (TakesTurn self.old node self.new) }
         ensures refused { IfErr result (λ why. StepFirst self.old (Step.Turn node) (Reply.Refused why) self.new) }
     {
-        self.state.take_first_unseen(node, act)
+        self.state.take_first(node, act)
     }
 }

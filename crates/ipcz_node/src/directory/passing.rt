@@ -19,6 +19,7 @@ use std::alloc::Global;
 
 impl Directory {
     /// Does the act `SendOut` of the router of the serial, as `Router::send_out`.
+    #[inline(always)]
     pub fn send_out(&mut self, alloc: Global, serial: u64) -> Message
         requires { IsSomeAnd (get self.old.filed.routers serial) (λ r. may_take r RouterAct.SendOut ≡ true) }
         ensures router { (r : RouterRecord) → get self.old.filed.routers serial ≡ Some r →

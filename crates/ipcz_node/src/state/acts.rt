@@ -186,30 +186,11 @@ impl NodeState {
         message
     }
 
-    /// Lets a router do a possible act, as `commit` does, but doesn't tell what happened: that takes a list of the ends that were moved.
-    #[tactic(auto, unfolding(crate::specs::Acts::commit, crate::specs::Acts::commit_router, crate::specs::Node::on_router))]
-    #[inline(never)]
-    pub fn commit_unseen(&mut self, serial: u64, act: RouterAct, answer: Answer)
-        requires possible { IsPossibleAct self.old.node (Act.Router serial act) }
-        requires answer { Answers (Act.Router serial act) answer }
-        requires ready { IsReadyFor self.old (Act.Router serial act) }
-        ensures { self.new.node ≡ commit self.old.node (Act.Router serial act) answer }
-    {
-        match act {
-            RouterAct::FinishOut => self.commit_one(serial, RouterAct::FinishOut, answer),
-            RouterAct::FinishIn => self.commit_one(serial, RouterAct::FinishIn, answer),
-            RouterAct::Mark => self.commit_one(serial, RouterAct::Mark, answer),
-            RouterAct::Claim => self.commit_one(serial, RouterAct::Claim, answer),
-            RouterAct::Lock => self.commit_one(serial, RouterAct::Lock, answer),
-            RouterAct::Unlock => self.commit_one(serial, RouterAct::Unlock, answer),
-            _ => self.commit_one(serial, act, answer),
-        }
-    }
-
-    // The same, inlined where the act is known: then nothing is made and taken apart for what it doesn't give.
+    // A router does its act, and nothing is told: inlined where the act is known, so that nothing is made and taken apart for what it
+    // doesn't give.
     #[tactic(auto, unfolding(crate::specs::Acts::commit, crate::specs::Acts::commit_router, crate::specs::Node::on_router))]
     #[inline(always)]
-    fn commit_one(&mut self, serial: u64, act: RouterAct, answer: Answer)
+    pub(super) fn commit_one(&mut self, serial: u64, act: RouterAct, answer: Answer)
         requires possible { IsPossibleAct self.old.node (Act.Router serial act) }
         requires answer { Answers (Act.Router serial act) answer }
         requires ready { IsReadyFor self.old (Act.Router serial act) }

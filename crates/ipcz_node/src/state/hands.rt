@@ -314,9 +314,17 @@ impl NodeState {
         }
     }
 
-    // What delivering a message from a node is seen to do, if it is known whether it fits.
+    /// What delivering a message from a node is seen to do.
+    pub fn hand_event(&self, from: u8, message: &Message, source: Option<u8>) -> Happened
+        ensures { result ≡ hand_event self.now.node from message.now source }
+    {
+        let has_place = self.fits(from, message, source);
+        self.hand_event_of(from, message, source, has_place)
+    }
+
+    // The same, if it is known whether the message fits.
     #[tactic(auto, unfolding(crate::specs::Events::hand_event))]
-    fn hand_event(
+    fn hand_event_of(
         &self,
         sender: u8,
         message: &Message,
@@ -389,7 +397,7 @@ impl NodeState {
     {
         let mut message = message;
         let has_place = self.fits(from, &message, source);
-        let event = self.hand_event(from, &message, source, has_place);
+        let event = self.hand_event_of(from, &message, source, has_place);
         match self.take_from_hand(from, &mut message, source, has_place) {
             Ok(()) => Ok(event),
             Err(why) => Err((why, message)),

@@ -13,7 +13,7 @@ ghost use Rattle.ipcz_router.specs.Carrying.{carried_by};
 ghost use Rattle.ipcz_base.specs.declared.item.Item.{Item as ItemValue};
 ghost use Rattle.ipcz_base.specs.declared.link_end.LinkEnd.{LinkEnd as LinkEndValue};
 
-use super::NodeState;
+use super::{NodeState, Told};
 use crate::act::Act;
 use crate::happened::Happened;
 use ipcz_base::{Ends, LinkId, Message, Refusal};
@@ -21,16 +21,17 @@ use ipcz_router::Outlook;
 use ipcz_router::act::{Answer, Applied, RouterAct};
 
 impl NodeState {
-    /// Lets a router do a possible act that touches no link word: makes room for it, as `prepare` does, and does it, as `commit_unseen`
-    /// does with the answer `Plain`.
+    /// Lets a router do a possible act that touches no link word: makes room for it, as `prepare` does, and does it, as `commit` does with
+    /// the answer `Plain`. T says whether what happened is told.
     ///
     /// It answers `NumbersEnd` if the act would move more ends than serials of peripheral links are left for, else `OutOfMemory` if
     /// there was no room and none was found; then what is to be seen of the node stays as it is. An act that makes nothing grow is never
     /// refused, nor is one that the node is ready for, as after a `prepare`.
-    pub fn act_plainly(&mut self, serial: u64, act: RouterAct) -> Result<(), Refusal>
+    pub fn act_plainly<T: Told>(&mut self, serial: u64, act: RouterAct) -> Result<T, Refusal>
         requires possible { IsPossibleAct self.old.node (Act.Router serial act) }
         requires plain { IsAnswerOf act Answer.Plain }
         ensures ok { OnOk result (self.new.node ≡ commit self.old.node (Act.Router serial act) Answer.Plain) }
+        ensures event { IfOk result (λ told. T.tells (event_of self.old.node (Act.Router serial act) Answer.Plain) told) }
         ensures allowed { OnOk result (act_lacks_serials self.old.node (Act.Router serial act) ≡ false) }
         ensures why { IfErr result
             (λ e. e ≡ (if act_lacks_serials self.old.node (Act.Router serial act) then Refusal.NumbersEnd else Refusal.OutOfMemory)) }
@@ -42,18 +43,19 @@ impl NodeState {
             RouterAct::SendOut => self.send_out(serial),
             RouterAct::Rest => {
                 self.rest(serial);
-                Ok(())
+                Ok(T::told(Happened::Rest(serial)))
             }
             _ => self.act_prepared(serial, act),
         }
     }
 
-    // The same by `prepare` and `commit_unseen`.
+    // The same by `prepare` and `commit`.
     #[inline(never)]
-    fn act_prepared(&mut self, serial: u64, act: RouterAct) -> Result<(), Refusal>
+    fn act_prepared<T: Told>(&mut self, serial: u64, act: RouterAct) -> Result<T, Refusal>
         requires possible { IsPossibleAct self.old.node (Act.Router serial act) }
         requires plain { IsAnswerOf act Answer.Plain }
         ensures ok { OnOk result (self.new.node ≡ commit self.old.node (Act.Router serial act) Answer.Plain) }
+        ensures event { IfOk result (λ told. T.tells (event_of self.old.node (Act.Router serial act) Answer.Plain) told) }
         ensures allowed { OnOk result (act_lacks_serials self.old.node (Act.Router serial act) ≡ false) }
         ensures why { IfErr result
             (λ e. e ≡ (if act_lacks_serials self.old.node (Act.Router serial act) then Refusal.NumbersEnd else Refusal.OutOfMemory)) }
@@ -64,85 +66,15 @@ impl NodeState {
         if let Err(why) = self.prepare_router(serial, act) {
             return Err(why);
         }
-        self.commit_unseen(serial, act, Answer::Plain);
-        Ok(())
-    }
-
-    /// Lets a router do a possible act that touches no link word, as `act_plainly` does, and tells what happened, as `commit` does.
-    pub fn act_told(&mut self, serial: u64, act: RouterAct) -> Result<Happened, Refusal>
-        requires possible { IsPossibleAct self.old.node (Act.Router serial act) }
-        requires plain { IsAnswerOf act Answer.Plain }
-        ensures ok { OnOk result (self.new.node ≡ commit self.old.node (Act.Router serial act) Answer.Plain) }
-        ensures event { IfOk result (λ h. h ≡ event_of self.old.node (Act.Router serial act) Answer.Plain) }
-        ensures allowed { OnOk result (act_lacks_serials self.old.node (Act.Router serial act) ≡ false) }
-        ensures why { IfErr result
-            (λ e. e ≡ (if act_lacks_serials self.old.node (Act.Router serial act) then Refusal.NumbersEnd else Refusal.OutOfMemory)) }
-        ensures grows { act_grows self.old.node (Act.Router serial act) ≡ false → IsOk result }
-        ensures full { IsReadyFor self.old (Act.Router serial act) → IsOk result }
-        ensures err { OnErr result (self.new.node ≡ self.old.node) }
-    {
-        match act {
-            RouterAct::SendOut => self.send_out_told(serial),
-            RouterAct::Rest => {
-                self.rest(serial);
-                Ok(Happened::Rest(serial))
-            }
-            _ => self.act_prepared_told(serial, act),
-        }
-    }
-
-    // The same by `prepare` and `commit`.
-    #[inline(never)]
-    fn act_prepared_told(&mut self, serial: u64, act: RouterAct) -> Result<Happened, Refusal>
-        requires possible { IsPossibleAct self.old.node (Act.Router serial act) }
-        requires plain { IsAnswerOf act Answer.Plain }
-        ensures ok { OnOk result (self.new.node ≡ commit self.old.node (Act.Router serial act) Answer.Plain) }
-        ensures event { IfOk result (λ h. h ≡ event_of self.old.node (Act.Router serial act) Answer.Plain) }
-        ensures allowed { OnOk result (act_lacks_serials self.old.node (Act.Router serial act) ≡ false) }
-        ensures why { IfErr result
-            (λ e. e ≡ (if act_lacks_serials self.old.node (Act.Router serial act) then Refusal.NumbersEnd else Refusal.OutOfMemory)) }
-        ensures grows { act_grows self.old.node (Act.Router serial act) ≡ false → IsOk result }
-        ensures full { IsReadyFor self.old (Act.Router serial act) → IsOk result }
-        ensures err { OnErr result (self.new.node ≡ self.old.node) }
-    {
-        self.prepare_router(serial, act)?;
-        Ok(self.commit_router(serial, act, Answer::Plain))
-    }
-
-    // A router sends outward, and what it sent is told.
-    #[tactic(auto, using(crate::proofs::Preparing::wants_at, crate::proofs::Growing::send_alone))]
-    fn send_out_told(&mut self, serial: u64) -> Result<Happened, Refusal>
-        requires { IsPossibleAct self.old.node (Act.Router serial RouterAct.SendOut) }
-        ensures ok { OnOk result (self.new.node ≡ commit self.old.node (Act.Router serial RouterAct.SendOut) Answer.Plain) }
-        ensures event { IfOk result (λ h. h ≡ event_of self.old.node (Act.Router serial RouterAct.SendOut) Answer.Plain) }
-        ensures allowed { OnOk result (act_lacks_serials self.old.node (Act.Router serial RouterAct.SendOut) ≡ false) }
-        ensures why { IfErr result
-            (λ e. e ≡ (if act_lacks_serials self.old.node (Act.Router serial RouterAct.SendOut)
-            then Refusal.NumbersEnd else Refusal.OutOfMemory)) }
-        ensures grows { act_grows self.old.node (Act.Router serial RouterAct.SendOut) ≡ false → IsOk result }
-        ensures full { IsReadyFor self.old (Act.Router serial RouterAct.SendOut) → IsOk result }
-        ensures err { OnErr result (self.new.node ≡ self.old.node) }
-    {
-        match self.outlook(serial, RouterAct::SendOut) {
-            Outlook::Item(to, 0) => {
-                let (n, link) = self.send_alone(serial, to)?;
-                let moved = Ends::from_vec(Vec::new(self.alloc));
-                Ok(Happened::SendOut {
-                    serial,
-                    n,
-                    link,
-                    moved,
-                })
-            }
-            _ => self.act_prepared_told(serial, RouterAct::SendOut),
-        }
+        Ok(T::commit(self, serial, act, Answer::Plain))
     }
 
     // A router sends outward.
     #[tactic(auto, using(crate::proofs::Preparing::wants_at, crate::proofs::Growing::send_alone))]
-    fn send_out(&mut self, serial: u64) -> Result<(), Refusal>
+    fn send_out<T: Told>(&mut self, serial: u64) -> Result<T, Refusal>
         requires { IsPossibleAct self.old.node (Act.Router serial RouterAct.SendOut) }
         ensures ok { OnOk result (self.new.node ≡ commit self.old.node (Act.Router serial RouterAct.SendOut) Answer.Plain) }
+        ensures event { IfOk result (λ told. T.tells (event_of self.old.node (Act.Router serial RouterAct.SendOut) Answer.Plain) told) }
         ensures allowed { OnOk result (act_lacks_serials self.old.node (Act.Router serial RouterAct.SendOut) ≡ false) }
         ensures why { IfErr result
             (λ e. e ≡ (if act_lacks_serials self.old.node (Act.Router serial RouterAct.SendOut)
@@ -153,7 +85,15 @@ impl NodeState {
     {
         match self.outlook(serial, RouterAct::SendOut) {
             Outlook::Item(to, 0) => match self.send_alone(serial, to) {
-                Ok(_) => Ok(()),
+                Ok((n, link)) => {
+                    let moved = Ends::from_vec(Vec::new(self.alloc));
+                    Ok(T::told(Happened::SendOut {
+                        serial,
+                        n,
+                        link,
+                        moved,
+                    }))
+                }
                 Err(why) => Err(why),
             },
             _ => self.act_prepared(serial, RouterAct::SendOut),
@@ -162,6 +102,7 @@ impl NodeState {
 
     // A router sends an item without ends outward, to a node. It gives the number of the item and its link.
     #[tactic(auto, using(crate::proofs::Carrying::lacks_none))]
+    #[inline(always)]
     fn send_alone(&mut self, serial: u64, to: u8) -> Result<(u64, LinkId), Refusal>
         requires possible { IsSomeAnd (router_in self.old.node serial) (λ r. may_take r RouterAct.SendOut ≡ true) }
         requires alone { outlook_at (router_in self.old.node serial) RouterAct.SendOut ≡ Outlook.Item to 0 }

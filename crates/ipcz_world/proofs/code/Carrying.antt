@@ -13,6 +13,7 @@ use Rattle.ipcz_router.specs.Acts.{pop_out, rest}
 use Rattle.ipcz_router.specs.Calls.{accept_from_outward}
 use Rattle.ipcz_router.proofs.LoneRouters.{sends_first, still_rests}
 use Rattle.ipcz_node.specs.declared.act.Act.TheVariants as acts
+use Rattle.ipcz_node.specs.declared.happened.Happened.{Happened}
 use Rattle.ipcz_node.specs.Node.{found, first_where, flagged_router, push_out}
 use Rattle.ipcz_node.specs.Acts.{act_lacks_serials, are_empty, close_turn, first_of, has_mail_for, post_of, rest_of, router_turn}
 use Rattle.ipcz_node.specs.Hands.{deliver, message_lacks_serials}
@@ -88,9 +89,9 @@ first-busy u b lb busy idle = inl (record {
 pub go-on : (w u v : World) (acts from a : ℕ) (act : Act) → OnWay w acts u from → IsNextBusy u from a → a < u.count → next_at u a ≡ act →
     turn_lacks_serials u a act ≡ false → after_act u a act ≡ v → OnWay w (acts + 1) v (next_node u a)
 go-on w u v acts from a act on busy l first low is =
-    on_way-turn w u v acts from a (next_node u a) (turn_event u a act) on busy refl
-    (step-taken u a act l v (turn_event u a act) (inl (sym first))
-    (record { event = refl; done = sym is; allowed = low; why = tt; grows = λ g k. refl; left = tt }))
+    let t = step-taken (λ (event told : Happened). told ≡ event) u a act l v (turn_event u a act) (inl (sym first))
+    (record { event = refl; done = sym is; allowed = low; why = tt; grows = λ g k. refl; left = tt }) in
+    on_way-turn w u v acts from a (next_node u a) t.0 on busy refl t.2
 
 -- an act of a router that touches no word changes its node alone
 pub router-acts : (u : World) (k serial : ℕ) (r : Router) (act : RouterAct) → get (node_at u k).routers serial ≡ Some r →

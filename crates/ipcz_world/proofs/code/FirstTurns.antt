@@ -12,9 +12,9 @@ use Rattle.ipcz_world.specs.declared.step.Step.TheVariants.{Turn}
 use Rattle.ipcz_world.specs.declared.step.Reply.TheVariants.{Turned, Refused}
 use Rattle.ipcz_world.specs.Turns.{turn_event, turn_lacks_serials, turn_grows}
 use Rattle.ipcz_world.specs.Steps.{Effect, refuse, turn_step, is_refused, FirstAct, StepFirst}
-use Rattle.ipcz_world.specs.Taking.{IsTaken}
+use Rattle.ipcz_world.specs.Taking.{IsTaken, ToldTurn}
 
-module _ (w : World) (n : ℕ) (act : Act) (here : n < w.count) where
+module _ {X : Type 0} (tells : Happened → X → Type 0) (w : World) (n : ℕ) (act : Act) (here : n < w.count) where
   done : Effect
   done = record { reply = Turned (turn_event w n act); world = after_act w n act }
 
@@ -25,14 +25,17 @@ module _ (w : World) (n : ℕ) (act : Act) (here : n < w.count) where
   effect false e = let h : nat_lt n w.count ≡ true = grind (arith, here, nat_tests) in rw (h, e) refl
 
   -- an act that was taken
-  pub step-taken : (v : World) (event : Happened) → FirstAct w n act → IsTaken w n act (Ok event) v → StepFirst w (Turn n) (Turned event) v
-  step-taken v event first is =
-      let e = effect false is.allowed in
-      (act, first, inl (ap Turned is.event ∙ ap (λ (x : Effect). x.reply) (sym e), is.done ∙ ap (λ (x : Effect). x.world) (sym e)))
+  pub step-taken : (v : World) (told : X) → FirstAct w n act → IsTaken tells w n act (Ok told) v → ToldTurn tells w n told v
+  step-taken v told first is =
+      let e = effect false is.allowed in (
+        turn_event w n act,
+        is.event,
+        (act, first, inl (ap (λ (x : Effect). x.reply) (sym e), is.done ∙ ap (λ (x : Effect). x.world) (sym e))),
+      )
 
   -- an act that was refused, and for which nothing stands in
   pub step-refused : (v : World) (why : Refusal) → FirstAct w n act → (act ≡ stand_in act) ⊎ (why ≡ NumbersEnd) →
-      IsTaken w n act (Err why) v → StepFirst w (Turn n) (Refused why) v
+      IsTaken tells w n act (Err why) v → StepFirst w (Turn n) (Refused why) v
   unfolding is_refused
   step-refused v why first alone is = go (turn_lacks_serials w n act) (turn_grows w n act) refl refl alone
     where
@@ -51,7 +54,7 @@ module _ (w : World) (n : ℕ) (act : Act) (here : n < w.count) where
           (act, first, inr (k, x, ap (λ (x : Effect). is_refused x.reply) z, (ap Refused because, is.left)))
 
   -- an act that was refused for want of memory makes something grow
-  pub refused-grows : (v : World) (why : Refusal) → (why ≡ NumbersEnd → ⊥) → IsTaken w n act (Err why) v → turn_grows w n act ≡ true
+  pub refused-grows : (v : World) (why : Refusal) → (why ≡ NumbersEnd → ⊥) → IsTaken tells w n act (Err why) v → turn_grows w n act ≡ true
   refused-grows v why other is = go (turn_lacks_serials w n act) (turn_grows w n act) refl refl
     where
       go : (c g : Bool) → turn_lacks_serials w n act ≡ c → turn_grows w n act ≡ g → g ≡ true

@@ -1,6 +1,6 @@
 -- What the parts of a world come to after a turn, as the world that the turn leads to.
 use Rattle.std.specs.Prelude.{◌≡◌, ◌<◌, ℕ, true, false, ◌&&◌, nat_lt, if◌then◌else◌, Option, Some, None, is_some, is_none}
-use Rattle.std.specs.Prelude.{IfSome, Result, Ok, Err, length, List, [], ◌∷◌}
+use Rattle.std.specs.Prelude.{IfSome, Ok, Err, length, List, [], ◌∷◌}
 use Rattle.std.proofs.Common.{arith, ap, sym, subst, refl, ◌∙◌}
 use Rattle.std.proofs.lemmas.Bool.Decides.{nat_tests}
 use Rattle.ipcz_world.proofs.Vocabulary.{End, Message, Refusal, place_at, put_place, Side, Router, primary_word, RouterAct, Act, Close}
@@ -21,22 +21,21 @@ use Rattle.ipcz_word.specs.Laws.{HasNode}
 use Rattle.ipcz_node.specs.Acts.{has_mail_for, first_of, post_of, act_lacks_serials, Answers}
 use Rattle.ipcz_node.specs.Preparing.{act_grows}
 use Rattle.ipcz_node.specs.RoomyNodes.{IsPossibleAct}
-use Rattle.ipcz_node.specs.Events.{event_of, hand_event}
+use Rattle.ipcz_node.specs.Events.{event_of}
 use Rattle.ipcz_world.specs.declared.mail.Mail.{Mail}
 use Rattle.ipcz_world.specs.declared.mail.Mail.TheVariants.{Full, Hand as InHand}
-use Rattle.ipcz_world.specs.Turns.{hand_seen, hand_lacks_serials, hand_grows, after_hand, router_seen, after_router_act}
+use Rattle.ipcz_world.specs.Turns.{hand_lacks_serials, hand_grows, after_hand, router_seen, after_router_act}
 use Rattle.ipcz_world.specs.Turns.{may_act, is_full, is_clear, full_message, commit_at, after_look, after_post, turn_event}
 use Rattle.ipcz_world.specs.Turns.{turn_lacks_serials, turn_grows, is_first_pending}
 use Rattle.ipcz_world.specs.Mailing.{taken_up, put_down}
 use Rattle.ipcz_world.specs.Soundness.{HasLengths}
 use Rattle.ipcz_world.specs.Coding.{WordTable, table_answer, table_after, table_of}
 use Rattle.ipcz_world.specs.WordAnswers.{source_for, touch}
-use Rattle.ipcz_world.specs.Taking.{IsRegular, IsTaken, IsCommitted}
+use Rattle.ipcz_world.specs.Taking.{IsRegular, IsTaken}
 use Rattle.ipcz_world.proofs.code.RouterActs.{link_of, retabled, answers-as, touches-as, answers-kind}
-use Rattle.ipcz_world.proofs.code.Slots.{put-same, length-put}
+use Rattle.ipcz_world.proofs.code.Slots.{put-same}
 use Rattle.std.proofs.lemmas.Bool.{and_parts}
 use Rattle.ipcz_world.proofs.runs.NodeSteps.{hand-is}
-use Rattle.ipcz_world.proofs.acts.Updating.{put-twice}
 use Rattle.ipcz_world.proofs.facts.LinkTests.{same_end-tells}
 
 -- the world with this node in the place of its number
@@ -50,57 +49,42 @@ unchanged w n x has l e = λ j. record w {
   nodes = (ap (put_place (bare_node 0 0) w.nodes n) e ∙ put-same (bare_node 0 0) w.nodes n (omega (arith, l, has.nodes))) j;
 }
 
--- a refused act leaves the world
-pub refused-committed : (w : World) (n : ℕ) (act : Act) (old x : Node) (why : Refusal) → HasLengths w → n < w.count → old ≡ node_at w n →
-    x ≡ old →
-    why ≡ (if act_lacks_serials old act then NumbersEnd else OutOfMemory) →
-    (act_grows old act ≡ false → act_lacks_serials old act ≡ false → false ≡ true) → IsCommitted w n act (Err why) (with_node w n x)
-refused-committed w n act old x why has l e same because grows = record {
-  event = tt;
-  message = tt;
-  done = tt;
-  allowed = tt;
-  why = subst (λ y. why ≡ (if act_lacks_serials y act then NumbersEnd else OutOfMemory)) e because;
-  grows = λ g k. grows (ap (λ y. act_grows y act) e ∙ g) (ap (λ y. act_lacks_serials y act) e ∙ k);
-  left = unchanged w n x has l (same ∙ e);
-}
+module _ {X : Type 0} (tells : Happened → X → Type 0) (w : World) (n : ℕ) where
+  -- a refused act that asks nothing of a message leaves the world
+  pub refused-act : (act : Act) (old x : Node) (why : Refusal) → HasLengths w → n < w.count → old ≡ node_at w n → x ≡ old →
+      why ≡ (if act_lacks_serials old act then NumbersEnd else OutOfMemory) →
+      turn_lacks_serials w n act ≡ act_lacks_serials (node_at w n) act → turn_grows w n act ≡ act_grows (node_at w n) act →
+      (act_grows old act ≡ false → act_lacks_serials old act ≡ false → false ≡ true) → IsTaken tells w n act (Err why) (with_node w n x)
+  refused-act act old x why has l e same because lacks needs grows = record {
+    event = tt;
+    done = tt;
+    allowed = tt;
+    why = because ∙ ap (λ y. if act_lacks_serials y act then NumbersEnd else OutOfMemory) e
+        ∙ ap (λ b. if b then NumbersEnd else OutOfMemory) (sym lacks);
+    grows = λ g k. grows (ap (λ y. act_grows y act) e ∙ sym needs ∙ g) (ap (λ y. act_lacks_serials y act) e ∙ sym lacks ∙ k);
+    left = unchanged w n x has l (same ∙ e);
+  }
 
--- an act that touches no word changes the node alone
-pub done-committed : (w : World) (n : ℕ) (act : Act) (old x : Node) (r : Happened × Option Message) → old ≡ node_at w n →
-    x ≡ commit old act Plain → r.0 ≡ event_of old act Plain → r.1 ≡ post_of old act → act_lacks_serials old act ≡ false →
-    IsCommitted w n act (Ok r) (with_node w n x)
-unfolding set_node
-done-committed w n act old x r e is event message k = record {
-  event = event ∙ ap (λ y. event_of y act Plain) e;
-  message = message ∙ ap (λ y. post_of y act) e;
-  done = ap (with_node w n) (is ∙ ap (λ y. commit y act Plain) e);
-  allowed = sym (ap (λ y. act_lacks_serials y act) e) ∙ k;
-  why = tt;
-  grows = λ g z. refl;
-  left = tt;
-}
+  pub refused-close : (end : End) (old x : Node) (why : Refusal) → HasLengths w → n < w.count → old ≡ node_at w n → x ≡ old →
+      why ≡ (if act_lacks_serials old (Close end) then NumbersEnd else OutOfMemory) →
+      (act_grows old (Close end) ≡ false → act_lacks_serials old (Close end) ≡ false → false ≡ true) →
+      IsTaken tells w n (Close end) (Err why) (with_node w n x)
+  unfolding turn_lacks_serials turn_grows
+  refused-close end old x why has l e same because grows = refused-act (Close end) old x why has l e same because refl refl grows
 
--- an act that touches no word and isn't done isn't done in the world
-pub refused-close : (w v : World) (n : ℕ) (end : End) (why : Refusal) → IsCommitted w n (Close end) (Err why) v →
-    IsTaken w n (Close end) (Err why) v
-unfolding turn_lacks_serials turn_grows
-refused-close w v n end why done = record { event = tt; done = tt; allowed = tt; why = done.why; grows = done.grows; left = done.left }
-
-pub refused-look : (w v : World) (n from : ℕ) (why : Refusal) → IsCommitted w n (Look from) (Err why) v →
-    IsTaken w n (Look from) (Err why) v
-unfolding turn_lacks_serials turn_grows
-refused-look w v n from why done = record { event = tt; done = tt; allowed = tt; why = done.why; grows = done.grows; left = done.left }
-
-pub refused-post : (w v : World) (n to : ℕ) (why : Refusal) → IsCommitted w n (Post to) (Err why) v → IsTaken w n (Post to) (Err why) v
-unfolding turn_lacks_serials turn_grows
-refused-post w v n to why done = record { event = tt; done = tt; allowed = tt; why = done.why; grows = done.grows; left = done.left }
-
--- a pending close is done by the node alone
-pub done-close : (w v : World) (n : ℕ) (end : End) (r : Happened × Option Message) → IsCommitted w n (Close end) (Ok r) v →
-    IsTaken w n (Close end) (Ok r.0) v
-unfolding turn_event after_act turn_lacks_serials
-done-close w v n end r done =
-    record { event = done.event; done = done.done; allowed = done.allowed; why = tt; grows = λ g k. refl; left = tt }
+  -- a pending close is done by the node alone
+  pub done-close : (end : End) (old x : Node) (event : Happened) (told : X) → old ≡ node_at w n → x ≡ commit old (Close end) Plain →
+      event ≡ event_of old (Close end) Plain → tells event told → act_lacks_serials old (Close end) ≡ false →
+      IsTaken tells w n (Close end) (Ok told) (with_node w n x)
+  unfolding turn_event after_act turn_lacks_serials set_node
+  done-close end old x event told e is seen says low = record {
+    event = subst (λ h. tells h told) (seen ∙ ap (λ y. event_of y (Close end) Plain) e) says;
+    done = ap (with_node w n) (is ∙ ap (λ y. commit y (Close end) Plain) e);
+    allowed = sym (ap (λ y. act_lacks_serials y (Close end)) e) ∙ low;
+    why = tt;
+    grows = λ g z. refl;
+    left = tt;
+  }
 
 -- the world with another mailbox
 abbrev pub with_mail : World → ℕ → Mail → World
@@ -122,12 +106,13 @@ looked w n from k (Full m) e h is = rw (e, is) refl
 looked w n from k (InHand m) e h is = absurd (let no : false ≡ true = ap is_full (sym e) ∙ h in cc)
 
 -- a look takes the message of the mailbox up
-pub done-look : (w : World) (n from : ℕ) (old x : Node) (mail : List Mail) → old ≡ node_at w n → can_take w n (Look from) ≡ true →
-    x ≡ commit old (Look from) Plain → mail ≡ put_place Empty w.mail (way w from n) (taken_up (place_at Empty w.mail (way w from n))) →
-    IsTaken w n (Look from) (Ok (events.Look from)) (record (with_node w n x) { mail = mail })
+pub done-look : {X : Type 0} (tells : Happened → X → Type 0) (w : World) (n from : ℕ) (told : X) (old x : Node) (mail : List Mail) →
+    tells (events.Look from) told → old ≡ node_at w n → can_take w n (Look from) ≡ true → x ≡ commit old (Look from) Plain →
+    mail ≡ put_place Empty w.mail (way w from n) (taken_up (place_at Empty w.mail (way w from n))) →
+    IsTaken tells w n (Look from) (Ok told) (record (with_node w n x) { mail = mail })
 unfolding turn_event after_act turn_lacks_serials event_of act_lacks_serials set_node
-done-look w n from old x mail e may is kept = record {
-  event = refl;
+done-look tells w n from told old x mail says e may is kept = record {
+  event = says;
   done = (λ j. record w {
     nodes = put_place (bare_node 0 0) w.nodes n ((is ∙ ap (λ y. commit y (Look from) Plain) e) j);
     mail = kept j;
@@ -139,15 +124,15 @@ done-look w n from old x mail e may is kept = record {
 }
 
 -- a post leaves its message in the mailbox
-pub done-post : (w : World) (n to : ℕ) (m : Message) (old x : Node) (mail : List Mail) → old ≡ node_at w n → Some m ≡ post_of old
-    (Post to) →
-    x ≡ commit old (Post to) Plain → mail ≡ put_place Empty w.mail (way w n to) (Full m) →
-    IsTaken w n (Post to) (Ok (events.Post to)) (record (with_node w n x) { mail = mail })
+pub done-post : {X : Type 0} (tells : Happened → X → Type 0) (w : World) (n to : ℕ) (told : X) (m : Message) (old x : Node) (mail : List Mail) →
+    tells (events.Post to) told → old ≡ node_at w n → Some m ≡ post_of old (Post to) → x ≡ commit old (Post to) Plain →
+    mail ≡ put_place Empty w.mail (way w n to) (Full m) →
+    IsTaken tells w n (Post to) (Ok told) (record (with_node w n x) { mail = mail })
 unfolding turn_event after_act turn_lacks_serials event_of act_lacks_serials set_node set_mail after_post
-done-post w n to m old x mail e posted is kept =
+done-post tells w n to told m old x mail says e posted is kept =
     let has : post_of (node_at w n) (Post to) ≡ Some m = ap (λ y. post_of y (Post to)) (sym e) ∙ sym posted in
     record {
-      event = refl;
+      event = says;
       done = rw has (λ j. record w {
         nodes = put_place (bare_node 0 0) w.nodes n ((is ∙ ap (λ y. commit y (Post to) Plain) e) j);
         mail = kept j;
@@ -157,11 +142,6 @@ done-post w n to m old x mail e posted is kept =
       grows = λ g z. refl;
       left = tt;
     }
-
--- what was taken, whatever was told of it
-pub unseen : (w v : World) (n : ℕ) (act : Act) (event : Happened) → IsTaken w n act (Ok event) v →
-    IsTaken w n act (Ok (turn_event w n act)) v
-unseen w v n act event is = record { event = refl; done = is.done; allowed = is.allowed; why = tt; grows = λ g k. refl; left = tt }
 
 -- whom a node looks to, and whom it posts to, is one of the world
 pub looks-to-node : (w : World) (n from : ℕ) → can_take w n (Look from) ≡ true → from < w.count
@@ -187,22 +167,6 @@ unfolding can_take
 looks-to-full w n from h =
     (and_parts (is_none (node_at w n).hand) (is_full (mail_at w (way w from n)))
     (and_parts (nat_lt from w.count) (is_none (node_at w n).hand && is_full (mail_at w (way w from n))) h).1).1
-
--- an act that touches no word leaves the mailboxes
-pub mail-stays : (w u : World) (n : ℕ) (act : Act) (r : Happened × Option Message) (k : ℕ) → IsCommitted w n act (Ok r) u →
-    k < length w.mail → k < length u.mail
-unfolding set_node
-mail-stays w u n act r k done l = subst (λ (v : World). k < length v.mail) (sym done.done) l
-
--- the same of an equal world, and of an equal message
-pub moved : (w u v : World) (n : ℕ) (act : Act) (r : Result (Happened × Option Message) Refusal) → v ≡ u → IsCommitted w n act r u →
-    IsCommitted w n act r v
-moved w u v n act r e done = subst (IsCommitted w n act r) (sym e) done
-
-pub given : (w u : World) (n : ℕ) (act : Act) (event : Happened) (o : Option Message) (m : Message) → o ≡ Some m →
-    IsCommitted w n act (Ok (event, o)) u →
-    IsCommitted w n act (Ok (event, Some m)) u
-given w u n act event o m e done = subst (λ o. IsCommitted w n act (Ok (event, o)) u) e done
 
 -- what a node of the world may take, it can do
 pub look-may : (w : World) (n from : ℕ) → can_take w n (Look from) ≡ true → IsPossibleAct (node_at w n) (Look from)
@@ -254,15 +218,15 @@ taken-down (InHand x) m e = ap InHand (some-same e)
     some-same e = cc
 
 -- a message in hand is handled
-pub done-hand : (w : World) (n from : ℕ) (m : Message) (event : Happened) (old x : Node) (mail : List Mail) → old ≡ node_at w n →
-    hand_message (mail_at w (way w from n)) ≡ Some m → x ≡ deliver old from m (source_for w m) → event ≡ hand_event old from m
-    (source_for w m) →
+pub done-hand : {X : Type 0} (tells : Happened → X → Type 0) (w : World) (n from : ℕ) (told : X) (m : Message) (old x : Node) (mail : List Mail) →
+    tells (turn_event w n (OfHand from)) told → old ≡ node_at w n →
+    hand_message (mail_at w (way w from n)) ≡ Some m → x ≡ deliver old from m (source_for w m) →
     message_lacks_serials old from m (source_for w m) ≡ false →
     mail ≡ put_place Empty w.mail (way w from n) (put_down (mail_at w (way w from n))) →
-    IsTaken w n (OfHand from) (Ok event) (record (with_node w n x) { mail = mail })
-unfolding turn_event after_act turn_lacks_serials hand_seen after_hand hand_lacks_serials set_node set_mail put_down
-done-hand w n from m event old x mail e has is seen low kept = record {
-  event = rw has (seen ∙ ap (λ y. hand_event y from m (source_for w m)) e);
+    IsTaken tells w n (OfHand from) (Ok told) (record (with_node w n x) { mail = mail })
+unfolding after_act turn_lacks_serials after_hand hand_lacks_serials set_node set_mail put_down
+done-hand tells w n from told m old x mail says e has is low kept = record {
+  event = says;
   done = rw has (λ j. record w {
     nodes = put_place (bare_node 0 0) w.nodes n ((is ∙ ap (λ y. deliver y from m (source_for w m)) e) j);
     mail = (kept ∙ ap (λ k. put_place Empty w.mail (way w from n) (put_down k)) (taken-down (mail_at w (way w from n)) m has)) j;
@@ -271,29 +235,6 @@ done-hand w n from m event old x mail e has is seen low kept = record {
   why = tt;
   grows = λ g k. refl;
   left = tt;
-}
-
--- a message that can't be handled stays in hand
-pub refused-hand : (w : World) (n from : ℕ) (m : Message) (why : Refusal) (old x : Node) (mail : List Mail) → HasLengths w → n < w.count →
-    way w from n < length w.mail → old ≡ node_at w n →
-    hand_message (mail_at w (way w from n)) ≡ Some m → x ≡ old →
-    why ≡ (if message_lacks_serials old from m (source_for w m) then NumbersEnd else OutOfMemory) →
-    (message_grows old from m (source_for w m) ≡ false → false ≡ true) →
-    mail ≡ put_place Empty (put_place Empty w.mail (way w from n) (put_down (mail_at w (way w from n)))) (way w from n) (InHand m) →
-    IsTaken w n (OfHand from) (Err why) (record (with_node w n x) { mail = mail })
-unfolding turn_lacks_serials hand_lacks_serials turn_grows hand_grows mail_at node_at
-refused-hand w n from m why old x mail has l within e is same because grows kept = record {
-  event = tt;
-  done = tt;
-  allowed = tt;
-  why = rw is (because ∙ ap (λ y. if message_lacks_serials y from m (source_for w m) then NumbersEnd else OutOfMemory) e);
-  grows = rw is (λ g k. grows (ap (λ y. message_grows y from m (source_for w m)) e ∙ g));
-  left = λ j. record w {
-    nodes = (ap (put_place (bare_node 0 0) w.nodes n) (same ∙ e) ∙ put-same (bare_node 0 0) w.nodes n (omega (arith, l, has.nodes))) j;
-    mail = (kept ∙ put-twice Empty w.mail (way w from n) _ (InHand m) ∙
-        ap (put_place Empty w.mail (way w from n)) (sym (taken-down (mail_at w (way w from n)) m is)) ∙
-        put-same Empty w.mail (way w from n) within) j;
-  };
 }
 
 -- a node and the mailboxes that are written back as they were leave the world
@@ -306,13 +247,14 @@ unchanged-both w n old x mail has l e same kept = λ j. record w {
 }
 
 -- a message that finds no room stays where it is
-pub kept-hand : (w : World) (n from : ℕ) (m : Message) (why : Refusal) (old x : Node) (mail : List Mail) → HasLengths w → n < w.count →
+pub kept-hand : {X : Type 0} (tells : Happened → X → Type 0) (w : World) (n from : ℕ) (m : Message) (why : Refusal) (old x : Node)
+    (mail : List Mail) → HasLengths w → n < w.count →
     old ≡ node_at w n → hand_message (mail_at w (way w from n)) ≡ Some m → x ≡ old →
     why ≡ (if message_lacks_serials old from m (source_for w m) then NumbersEnd else OutOfMemory) →
     (message_grows old from m (source_for w m) ≡ false → false ≡ true) → mail ≡ w.mail →
-    IsTaken w n (OfHand from) (Err why) (record (with_node w n x) { mail = mail })
+    IsTaken tells w n (OfHand from) (Err why) (record (with_node w n x) { mail = mail })
 unfolding turn_lacks_serials hand_lacks_serials turn_grows hand_grows
-kept-hand w n from m why old x mail has l e is same because grows kept = record {
+kept-hand tells w n from m why old x mail has l e is same because grows kept = record {
   event = tt;
   done = tt;
   allowed = tt;
@@ -327,9 +269,10 @@ some-there None not_none = absurd (not_none refl)
 some-there (Some m) not_none = (m, refl)
 
 -- nothing is done
-pub done-idle : (w : World) (n : ℕ) → IsTaken w n Idle (Ok events.Idle) w
+pub done-idle : {X : Type 0} (tells : Happened → X → Type 0) (w : World) (n : ℕ) (told : X) → tells events.Idle told →
+    IsTaken tells w n Idle (Ok told) w
 unfolding turn_event after_act turn_lacks_serials event_of act_lacks_serials
-done-idle w n = record { event = refl; done = refl; allowed = refl; why = tt; grows = λ g k. refl; left = tt }
+done-idle tells w n told says = record { event = says; done = refl; allowed = refl; why = tt; grows = λ g k. refl; left = tt }
 
 module _ (w : World) (n serial : ℕ) (act : RouterAct) (is : IsRegular w) (l : n < w.count) where
   stands : (o : Option Router) → may_act o act ≡ true → (r : Router) × (o ≡ Some r) × (may_take r act ≡ true)
@@ -391,15 +334,15 @@ module _ (w : World) (n serial : ℕ) (act : RouterAct) (is : IsRegular w) (l : 
       (answers-kind (table_of w) t.0 act t.2)
 
   -- a router's act changes its node and the words
-  pub done-router : can_take w n (OfRouter serial act) ≡ true → (old x : Node) (event : Happened) (a : Answer) (t : WordTable) →
-      old ≡ node_at w n →
+  pub done-router : {X : Type 0} (tells : Happened → X → Type 0) → can_take w n (OfRouter serial act) ≡ true → (old x : Node) (told : X)
+      (a : Answer) (t : WordTable) → old ≡ node_at w n →
       a ≡ table_answer (table_of w) source act link → t ≡ table_after (table_of w) source act link → x ≡ commit old
       (OfRouter serial act) a →
-      event ≡ event_of old (OfRouter serial act) a →
+      tells (event_of old (OfRouter serial act) a) told →
       act_lacks_serials old (OfRouter serial act) ≡ false →
-      IsTaken w n (OfRouter serial act) (Ok event) (record (retabled w t) { nodes = put_place (bare_node 0 0) w.nodes n x })
+      IsTaken tells w n (OfRouter serial act) (Ok told) (record (retabled w t) { nodes = put_place (bare_node 0 0) w.nodes n x })
   unfolding turn_event after_act turn_lacks_serials router_seen after_router_act router_at set_node
-  done-router h old x event a t e is-a is-t is-x seen low =
+  done-router tells h old x told a t e is-a is-t is-x seen low =
       let s = router-stands h in
       let answer : a ≡ answer_of w s.0 act = is-a ∙ asks Answer (λ o p. table_answer (table_of w) o act p) s.0 s.1 ∙
       sym (answers-as w s.0 act is.lengths) in
@@ -410,7 +353,8 @@ module _ (w : World) (n serial : ℕ) (act : RouterAct) (is : IsRegular w) (l : 
       is-x ∙ ap (λ y. commit y (OfRouter serial act) a) e ∙ ap (commit (node_at w n) (OfRouter serial act)) answer in
       let same : w.nodes ≡ (touch w s.0 act).nodes = ap (λ (v : World). v.nodes) words in
       record {
-        event = rw s.1 (seen ∙ ap (λ y. event_of y (OfRouter serial act) a) e ∙ ap (event_of (node_at w n) (OfRouter serial act)) answer);
+        event = rw s.1 (subst (λ h. tells h told)
+            (ap (λ y. event_of y (OfRouter serial act) a) e ∙ ap (event_of (node_at w n) (OfRouter serial act)) answer) seen);
         done = rw s.1 (λ j. record (words j) { nodes = put_place (bare_node 0 0) (same j) n (made j) });
         allowed = sym (ap (λ y. act_lacks_serials y (OfRouter serial act)) e) ∙ low;
         why = tt;
@@ -419,14 +363,13 @@ module _ (w : World) (n serial : ℕ) (act : RouterAct) (is : IsRegular w) (l : 
       }
 
   -- a refused act of a router leaves the world
-  pub refused-router : (old x : Node) (why : Refusal) → old ≡ node_at w n → x ≡ old →
+  pub refused-router : {X : Type 0} (tells : Happened → X → Type 0) (old x : Node) (why : Refusal) → old ≡ node_at w n → x ≡ old →
       why ≡ (if act_lacks_serials old (OfRouter serial act) then NumbersEnd else OutOfMemory) →
       (act_grows old (OfRouter serial act) ≡ false → act_lacks_serials old (OfRouter serial act) ≡ false → false ≡ true) →
-      IsTaken w n (OfRouter serial act) (Err why) (with_node w n x)
+      IsTaken tells w n (OfRouter serial act) (Err why) (with_node w n x)
   unfolding turn_lacks_serials turn_grows
-  refused-router old x why e same because grows = let k = refused-committed w n (OfRouter serial act)
-      old x why is.lengths l e same because grows in
-      record { event = tt; done = tt; allowed = tt; why = k.why; grows = k.grows; left = k.left }
+  refused-router tells old x why e same because grows =
+      refused-act tells w n (OfRouter serial act) old x why is.lengths l e same because refl refl grows
 
 -- what a node is asked to do, of an equal world
 pub record IsAsked (w : World) (n : ℕ) (act : Act) : Type 0 where
@@ -436,17 +379,3 @@ pub record IsAsked (w : World) (n : ℕ) (act : Act) : Type 0 where
 
 pub asked : (w v : World) (n : ℕ) (act : Act) → v ≡ w → IsRegular w → n < w.count → can_take w n act ≡ true → IsAsked v n act
 asked w v n act e is l h = subst (λ w. IsAsked w n act) (sym e) (record { regular = is; here = l; may = h })
-
--- the message in hand, as it is found
-pub hand-seen : (w : World) (k from n : ℕ) (o : Option Message) → k ≡ way w from n → o ≡ hand_message (place_at Empty w.mail k) →
-    o ≡ hand_message (mail_at w (way w from n))
-unfolding mail_at
-hand-seen w k from n o e is = is ∙ ap (λ k. hand_message (place_at Empty w.mail k)) e
-
--- a node knows how many there are
-pub counted : (w : World) (n from : ℕ) (old : Node) → IsRegular w → n < w.count → old ≡ node_at w n → from < w.count → from < old.count
-counted w n from old is l e f = let k : old.count ≡ w.count = ap (λ (y : Node). y.count) e ∙ (is.sound n l).count_is in omega (arith, f, k)
-
--- a mailbox is still there after a write
-pub put-within : (mail new : List Mail) (k i : ℕ) (y : Mail) → new ≡ put_place Empty mail k y → k < length mail → k < length new
-put-within mail new k i y e l = omega (arith, ap length e, length-put Empty mail k y l, l)

@@ -1,23 +1,21 @@
 //! The turns of the nodes: which act comes first, and what each act does to the world.
 
-ghost use Rattle.std.specs.Prelude.{◌≡◌, ◌<◌, ◌&&◌, ℕ, true, length, Some, IfSome, IfNone, IfErr, OnOk, Ok, Err};
+ghost use Rattle.std.specs.Prelude.{◌≡◌, ◌<◌, ◌&&◌, ℕ, true, length, Some, IfSome, IfNone, IfOk, IfErr, Ok, Err};
 ghost use Rattle.ipcz_base.specs.Indexed.{place_at};
 ghost use Rattle.ipcz_base.specs.declared.message.Message.{Message as MessageData};
 ghost use Rattle.ipcz_world.specs.World.{node_at, mail_at, way};
-ghost use Rattle.ipcz_node.specs.Acts.{Answers, first_destination, first_sender, has_mail_for, stand_in};
-ghost use Rattle.ipcz_node.specs.RoomyNodes.{IsPossibleAct};
-ghost use Rattle.ipcz_world.specs.Settling.{TakesTurn};
+ghost use Rattle.ipcz_node.specs.Acts.{first_destination, first_sender, has_mail_for, stand_in};
 ghost use Rattle.ipcz_world.specs.declared.mail.Mail.TheVariants.{Empty};
 ghost use Rattle.ipcz_world.specs.Turns.{hand_message, is_clear, seen_at, next_at, can_take, turn_event};
 ghost use Rattle.ipcz_world.specs.Steps.{StepFirst};
 ghost use Rattle.ipcz_world.specs.WordAnswers.{source_for};
 ghost use Rattle.ipcz_world.specs.Wordless.{is_wordless};
-ghost use Rattle.ipcz_world.specs.Taking.{IsRegular, IsTaken, IsCommitted};
+ghost use Rattle.ipcz_world.specs.Taking.{IsRegular, IsTaken, ToldTurn};
 
 use crate::state::State;
 use crate::step::{Reply, Step};
 use ipcz_base::{End, Message, Refusal};
-use ipcz_node::{Act, Happened};
+use ipcz_node::{Act, Happened, Told};
 use ipcz_router::act::{Answer, RouterAct};
 
 impl State {
@@ -100,59 +98,57 @@ impl State {
         node.next_own()
     }
 
-    /// Takes the first possible act of a node, which is given; if it finds no memory, what stands in for it.
-    pub(crate) fn take_first(&mut self, n: u8, act: Act) -> Reply
+    /// Takes the first possible act of a node, which is given; if it finds no memory, what stands in for it. T says whether what happened is
+    /// told.
+    pub(crate) fn take_first<T: Told>(&mut self, n: u8, act: Act) -> Result<T, Refusal>
         requires regular { IsRegular self.old }
         requires node { n < self.old.count }
         requires first { act ≡ next_at self.old n }
-        ensures { StepFirst self.old (Step.Turn n) result self.new }
+        ensures turned { IfOk result (λ told. ToldTurn T.tells self.old n told self.new) }
+        ensures refused { IfErr result (λ why. StepFirst self.old (Step.Turn n) (Reply.Refused why) self.new) }
     {
         match self.take(n, act) {
-            Ok(event) => Reply::Turned(event),
-            Err(why) => self.give_up(n, act, why),
+            Ok(told) => Ok(told),
+            Err(why) => self.give_up(n, why),
         }
     }
 
-    // The first act was refused: if that is for want of memory, what stands in for it is taken.
-    fn give_up(&mut self, n: u8, act: Act, why: Refusal) -> Reply
+    // The first act was refused: if that is for want of memory, what stands in for it is taken. The act is looked for once more, so that a
+    // turn which is taken keeps no copy of it.
+    #[inline(never)]
+    fn give_up<T: Told>(&mut self, n: u8, why: Refusal) -> Result<T, Refusal>
         requires regular { IsRegular self.old }
         requires node { n < self.old.count }
-        requires first { act ≡ next_at self.old n }
-        requires refused { IsTaken self.old n act (Err why) self.old }
-        ensures { StepFirst self.old (Step.Turn n) result self.new }
+        requires refused { IsTaken T.tells self.old n (next_at self.old n) (Err why) self.old }
+        ensures turned { IfOk result (λ told. ToldTurn T.tells self.old n told self.new) }
+        ensures refused { IfErr result (λ why. StepFirst self.old (Step.Turn n) (Reply.Refused why) self.new) }
     {
         if let Refusal::NumbersEnd = why {
-            return Reply::Refused(Refusal::NumbersEnd);
+            return Err(Refusal::NumbersEnd);
         }
-        let Some(other) = stand_in(act) else {
-            return Reply::Refused(why);
+        let Some(other) = stand_in(self.next(n)) else {
+            return Err(why);
         };
-        match self.take(n, other) {
-            Ok(event) => Reply::Turned(event),
-            Err(why) => Reply::Refused(why),
+        match self.take::<Happened>(n, other) {
+            Ok(event) => Ok(T::told(event)),
+            Err(why) => Err(why),
         }
     }
 
     // Takes an act that is possible, or is refused it.
-    fn take(&mut self, n: u8, act: Act) -> Result<Happened, Refusal>
+    fn take<T: Told>(&mut self, n: u8, act: Act) -> Result<T, Refusal>
         requires regular { IsRegular self.old }
         requires node { n < self.old.count }
         requires possible { can_take self.old n act ≡ true }
-        ensures { IsTaken self.old n act result self.new }
+        ensures { IsTaken T.tells self.old n act result self.new }
     {
         match act {
             Act::Hand(from) => self.handle(n, from),
-            Act::Look(from) => {
-                self.look(n, from);
-                Ok(Happened::Look(from))
-            }
-            Act::Post(to) => {
-                self.post(n, to);
-                Ok(Happened::Post(to))
-            }
-            Act::Close(end) => self.close_pending(n, end),
             Act::Router(serial, act) => self.take_router_act(n, serial, act),
-            Act::Idle => Ok(Happened::Idle),
+            Act::Look(from) => Ok(self.look(n, from)),
+            Act::Post(to) => Ok(self.post(n, to)),
+            Act::Close(end) => self.close_pending(n, end),
+            Act::Idle => Ok(T::told(Happened::Idle)),
         }
     }
 
@@ -182,205 +178,59 @@ impl State {
         }
     }
 
-    // Handles the message in hand; if that finds no memory or no serials, the message stays in hand.
-    fn handle(&mut self, n: u8, from: u8) -> Result<Happened, Refusal>
-        requires regular { IsRegular self.old }
-        requires node { n < self.old.count }
-        requires possible { can_take self.old n (Act.Hand from) ≡ true }
-        ensures { IsTaken self.old n (Act.Hand from) result self.new }
+    // What is told of handling the message in hand, before it is handled.
+    #[inline(always)]
+    fn hand_told<T: Told>(&self, n: u8, from: u8) -> T
+        requires regular { IsRegular self.now }
+        requires node { n < self.now.count }
+        requires possible { can_take self.now n (Act.Hand from) ≡ true }
+        ensures { T.tells (turn_event self.now n (Act.Hand from)) result }
+    {
+        match T::nothing() {
+            Some(told) => told,
+            None => T::told(self.hand_event(n, from)),
+        }
+    }
+
+    // What handling the message in hand is seen to do.
+    fn hand_event(&self, n: u8, from: u8) -> Happened
+        requires regular { IsRegular self.now }
+        requires node { n < self.now.count }
+        requires possible { can_take self.now n (Act.Hand from) ≡ true }
+        ensures { result ≡ turn_event self.now n (Act.Hand from) }
     {
         let place = self.way(from, n);
-        let Some(message) = self.mail.take_hand(place) else {
+        let Some(message) = self.mail.in_hand(place) else {
             unreachable!()
         };
-        let source = self.source_for(&message);
-        match self.nodes.node_mut(n).deliver(from, message, source) {
-            Ok(event) => Ok(event),
-            Err((why, message)) => {
-                self.mail.put_back(place, message);
-                Err(why)
-            }
-        }
+        let source = self.source_for(message);
+        self.nodes.node(n).hand_event(from, message, source)
     }
 
-    // Takes the message of a full mailbox into the hand.
-    fn look(&mut self, n: u8, from: u8)
-        requires regular { IsRegular self.old }
-        requires node { n < self.old.count }
-        requires possible { can_take self.old n (Act.Look from) ≡ true }
-        ensures { IsTaken self.old n (Act.Look from) (Ok (Happened.Look from)) self.new }
-    {
-        let place = self.way(from, n);
-        self.nodes.node_mut(n).look(from);
-        self.mail.take_up(place);
-    }
-
-    // Posts the first message for a node into its empty mailbox.
-    #[inline(always)]
-    fn post(&mut self, n: u8, to: u8)
-        requires regular { IsRegular self.old }
-        requires node { n < self.old.count }
-        requires possible { can_take self.old n (Act.Post to) ≡ true }
-        ensures { IsTaken self.old n (Act.Post to) (Ok (Happened.Post to)) self.new }
-    {
-        let place = self.way(n, to);
-        let message = self.nodes.node_mut(n).post(to);
-        self.mail.post(place, message);
-    }
-
-    // Closes an end that travelled in a parcel which a sink has dropped.
-    fn close_pending(&mut self, n: u8, end: End) -> Result<Happened, Refusal>
-        requires regular { IsRegular self.old }
-        requires node { n < self.old.count }
-        requires possible { can_take self.old n (Act.Close end) ≡ true }
-        ensures { IsTaken self.old n (Act.Close end) result self.new }
-    {
-        let (event, _) = self.take_wordless(n, Act::Close(end))?;
-        Ok(event)
-    }
-
-    // Does the node's own part of an act that touches no word.
-    fn take_wordless(&mut self, n: u8, act: Act) -> Result<(Happened, Option<Message>), Refusal>
-        requires regular { IsRegular self.old }
-        requires node { n < self.old.count }
-        requires possible { IsPossibleAct (node_at self.old n) act }
-        requires wordless { Answers act Answer.Plain }
-        ensures { IsCommitted self.old n act result self.new }
-    {
-        let node = self.nodes.node_mut(n);
-        node.prepare(&act)?;
-        Ok(node.commit(act, Answer::Plain))
-    }
-
-    // Lets a router do an act, with what the link words answer to it.
-    fn take_router_act(&mut self, n: u8, serial: u64, act: RouterAct) -> Result<Happened, Refusal>
-        requires regular { IsRegular self.old }
-        requires node { n < self.old.count }
-        requires possible { can_take self.old n (Act.Router serial act) ≡ true }
-        ensures { IsTaken self.old n (Act.Router serial act) result self.new }
-    {
-        let node = self.nodes.node_mut(n);
-        node.prepare(&Act::Router(serial, act))?;
-        let answer = self
-            .words
-            .answer(node.source_of(serial), act, node.word_of(serial));
-        let (event, _) = node.commit(Act::Router(serial, act), answer);
-        Ok(event)
-    }
-}
-
-impl State {
-    /// Takes the first possible act of a node as `take_first` does, but doesn't tell what happened.
-    pub(crate) fn take_first_unseen(&mut self, n: u8, act: Act) -> Result<(), Refusal>
-        requires regular { IsRegular self.old }
-        requires node { n < self.old.count }
-        requires first { act ≡ next_at self.old n }
-        ensures turned { OnOk result (TakesTurn self.old n self.new) }
-        ensures refused { IfErr result (λ why. StepFirst self.old (Step.Turn n) (Reply.Refused why) self.new) }
-    {
-        match self.take_unseen(n, act) {
-            Ok(()) => Ok(()),
-            Err(why) => self.give_up_first(n, why),
-        }
-    }
-
-    // The first act was refused: it is looked for once more, so that a turn which is taken keeps no copy of its act.
-    #[inline(never)]
-    fn give_up_first(&mut self, n: u8, why: Refusal) -> Result<(), Refusal>
-        requires regular { IsRegular self.old }
-        requires node { n < self.old.count }
-        requires refused { IsTaken self.old n (next_at self.old n) (Err why) self.old }
-        ensures turned { OnOk result (TakesTurn self.old n self.new) }
-        ensures refused { IfErr result (λ why. StepFirst self.old (Step.Turn n) (Reply.Refused why) self.new) }
-    {
-        let act = self.next(n);
-        self.give_up_unseen(n, act, why)
-    }
-
-    // The first act was refused: if that is for want of memory, what stands in for it is taken.
-    fn give_up_unseen(&mut self, n: u8, act: Act, why: Refusal) -> Result<(), Refusal>
-        requires regular { IsRegular self.old }
-        requires node { n < self.old.count }
-        requires first { act ≡ next_at self.old n }
-        requires refused { IsTaken self.old n act (Err why) self.old }
-        ensures turned { OnOk result (TakesTurn self.old n self.new) }
-        ensures refused { IfErr result (λ why. StepFirst self.old (Step.Turn n) (Reply.Refused why) self.new) }
-    {
-        if let Refusal::NumbersEnd = why {
-            return Err(Refusal::NumbersEnd);
-        }
-        let Some(other) = stand_in(act) else {
-            return Err(why);
-        };
-        if let Err(why) = self.take(n, other) {
-            return Err(why);
-        }
-        Ok(())
-    }
-
-    // Takes an act as `take` does, but doesn't tell what happened.
-    fn take_unseen(&mut self, n: u8, act: Act) -> Result<(), Refusal>
-        requires regular { IsRegular self.old }
-        requires node { n < self.old.count }
-        requires possible { can_take self.old n act ≡ true }
-        ensures taken { OnOk result (IsTaken self.old n act (Ok (turn_event self.old n act)) self.new) }
-        ensures refused { IfErr result (λ why. IsTaken self.old n act (Err why) self.new) }
-    {
-        match act {
-            Act::Hand(from) => self.handle_unseen(n, from),
-            Act::Router(serial, act) => self.take_router_act_unseen(n, serial, act),
-            Act::Look(from) => {
-                self.look(n, from);
-                Ok(())
-            }
-            Act::Post(to) => {
-                self.post(n, to);
-                Ok(())
-            }
-            Act::Close(end) => self.close_pending_unseen(n, end),
-            Act::Idle => Ok(()),
-        }
-    }
-
-    // Closes an end as `close_pending` does, but doesn't tell what happened.
-    #[inline(never)]
-    fn close_pending_unseen(&mut self, n: u8, end: End) -> Result<(), Refusal>
-        requires regular { IsRegular self.old }
-        requires node { n < self.old.count }
-        requires possible { can_take self.old n (Act.Close end) ≡ true }
-        ensures taken { OnOk result (IsTaken self.old n (Act.Close end) (Ok (turn_event self.old n (Act.Close end))) self.new) }
-        ensures refused { IfErr result (λ why. IsTaken self.old n (Act.Close end) (Err why) self.new) }
-    {
-        match self.close_pending(n, end) {
-            Ok(_) => Ok(()),
-            Err(why) => Err(why),
-        }
-    }
-
-    // Handles the message in hand as `handle` does, but doesn't tell what happened.
-    fn handle_unseen(&mut self, n: u8, from: u8) -> Result<(), Refusal>
+    // Handles the message in hand; if that finds no memory or no serials, the message stays in hand.
+    fn handle<T: Told>(&mut self, n: u8, from: u8) -> Result<T, Refusal>
         requires regular { IsRegular self.old }
         requires node { n < self.old.count }
         requires possible { can_take self.old n (Act.Hand from) ≡ true }
-        ensures taken { OnOk result (IsTaken self.old n (Act.Hand from) (Ok (turn_event self.old n (Act.Hand from))) self.new) }
-        ensures refused { IfErr result (λ why. IsTaken self.old n (Act.Hand from) (Err why) self.new) }
+        ensures { IsTaken T.tells self.old n (Act.Hand from) result self.new }
     {
+        let told = self.hand_told(n, from);
         let place = self.way(from, n);
         match self.mail.hand_over(place, self.nodes.node_mut(n), from) {
-            Ok(true) => Ok(()),
-            Ok(false) => self.handle_any_unseen(n, from),
+            Ok(true) => Ok(told),
+            Ok(false) => self.handle_any(n, from, told),
             Err(why) => Err(why),
         }
     }
 
-    // The same for each message.
+    // The same for each message, of which it is known what is told.
     #[inline(never)]
-    fn handle_any_unseen(&mut self, n: u8, from: u8) -> Result<(), Refusal>
+    fn handle_any<T: Told>(&mut self, n: u8, from: u8, told: T) -> Result<T, Refusal>
         requires regular { IsRegular self.old }
         requires node { n < self.old.count }
         requires possible { can_take self.old n (Act.Hand from) ≡ true }
-        ensures taken { OnOk result (IsTaken self.old n (Act.Hand from) (Ok (turn_event self.old n (Act.Hand from))) self.new) }
-        ensures refused { IfErr result (λ why. IsTaken self.old n (Act.Hand from) (Err why) self.new) }
+        requires told { T.tells (turn_event self.old n (Act.Hand from)) told }
+        ensures { IsTaken T.tells self.old n (Act.Hand from) result self.new }
     {
         let place = self.way(from, n);
         let source = self.source_in_hand(place);
@@ -390,50 +240,84 @@ impl State {
         {
             return Err(why);
         }
-        Ok(())
+        Ok(told)
     }
 
-    // Lets a router do an act as `take_router_act` does, but doesn't tell what happened.
-    fn take_router_act_unseen(&mut self, n: u8, serial: u64, act: RouterAct) -> Result<(), Refusal>
+    // Takes the message of a full mailbox into the hand.
+    fn look<T: Told>(&mut self, n: u8, from: u8) -> T
+        requires regular { IsRegular self.old }
+        requires node { n < self.old.count }
+        requires possible { can_take self.old n (Act.Look from) ≡ true }
+        ensures { IsTaken T.tells self.old n (Act.Look from) (Ok result) self.new }
+    {
+        let place = self.way(from, n);
+        self.nodes.node_mut(n).look(from);
+        self.mail.take_up(place);
+        T::told(Happened::Look(from))
+    }
+
+    // Posts the first message for a node into its empty mailbox.
+    #[inline(always)]
+    fn post<T: Told>(&mut self, n: u8, to: u8) -> T
+        requires regular { IsRegular self.old }
+        requires node { n < self.old.count }
+        requires possible { can_take self.old n (Act.Post to) ≡ true }
+        ensures { IsTaken T.tells self.old n (Act.Post to) (Ok result) self.new }
+    {
+        let place = self.way(n, to);
+        let message = self.nodes.node_mut(n).post(to);
+        self.mail.post(place, message);
+        T::told(Happened::Post(to))
+    }
+
+    // Closes an end that travelled in a parcel which a sink has dropped.
+    #[inline(never)]
+    fn close_pending<T: Told>(&mut self, n: u8, end: End) -> Result<T, Refusal>
+        requires regular { IsRegular self.old }
+        requires node { n < self.old.count }
+        requires possible { can_take self.old n (Act.Close end) ≡ true }
+        ensures { IsTaken T.tells self.old n (Act.Close end) result self.new }
+    {
+        let node = self.nodes.node_mut(n);
+        if let Err(why) = node.prepare(&Act::Close(end)) {
+            return Err(why);
+        }
+        let (event, _) = node.commit(Act::Close(end), Answer::Plain);
+        Ok(T::told(event))
+    }
+
+    // Lets a router do an act.
+    fn take_router_act<T: Told>(&mut self, n: u8, serial: u64, act: RouterAct) -> Result<T, Refusal>
         requires regular { IsRegular self.old }
         requires node { n < self.old.count }
         requires possible { can_take self.old n (Act.Router serial act) ≡ true }
-        ensures taken { OnOk result
-            (IsTaken self.old n (Act.Router serial act) (Ok (turn_event self.old n (Act.Router serial act))) self.new) }
-        ensures refused { IfErr result (λ why. IsTaken self.old n (Act.Router serial act) (Err why) self.new) }
+        ensures { IsTaken T.tells self.old n (Act.Router serial act) result self.new }
     {
         if is_wordless(act) {
             self.take_plain_act(n, serial, act)
         } else {
-            self.take_word_act_unseen(n, serial, act)
+            self.take_word_act(n, serial, act)
         }
     }
 
     // The same of an act that touches no word.
-    fn take_plain_act(&mut self, n: u8, serial: u64, act: RouterAct) -> Result<(), Refusal>
+    fn take_plain_act<T: Told>(&mut self, n: u8, serial: u64, act: RouterAct) -> Result<T, Refusal>
         requires regular { IsRegular self.old }
         requires node { n < self.old.count }
         requires possible { can_take self.old n (Act.Router serial act) ≡ true }
         requires wordless { is_wordless act ≡ true }
-        ensures taken { OnOk result
-            (IsTaken self.old n (Act.Router serial act) (Ok (turn_event self.old n (Act.Router serial act))) self.new) }
-        ensures refused { IfErr result (λ why. IsTaken self.old n (Act.Router serial act) (Err why) self.new) }
+        ensures { IsTaken T.tells self.old n (Act.Router serial act) result self.new }
     {
-        if let Err(why) = self.nodes.node_mut(n).act_plainly(serial, act) {
-            return Err(why);
-        }
-        Ok(())
+        self.nodes.node_mut(n).act_plainly(serial, act)
     }
 
     // The same of each act, with what the link words answer to it.
     #[inline(never)]
-    fn take_word_act_unseen(&mut self, n: u8, serial: u64, act: RouterAct) -> Result<(), Refusal>
+    fn take_word_act<T: Told>(&mut self, n: u8, serial: u64, act: RouterAct) -> Result<T, Refusal>
         requires regular { IsRegular self.old }
         requires node { n < self.old.count }
         requires possible { can_take self.old n (Act.Router serial act) ≡ true }
-        ensures taken { OnOk result
-            (IsTaken self.old n (Act.Router serial act) (Ok (turn_event self.old n (Act.Router serial act))) self.new) }
-        ensures refused { IfErr result (λ why. IsTaken self.old n (Act.Router serial act) (Err why) self.new) }
+        ensures { IsTaken T.tells self.old n (Act.Router serial act) result self.new }
     {
         let node = self.nodes.node_mut(n);
         if let Err(why) = node.prepare(&Act::Router(serial, act)) {
@@ -442,8 +326,7 @@ impl State {
         let answer = self
             .words
             .answer(node.source_of(serial), act, node.word_of(serial));
-        node.commit_unseen(serial, act, answer);
-        Ok(())
+        Ok(T::commit(node, serial, act, answer))
     }
 }
 

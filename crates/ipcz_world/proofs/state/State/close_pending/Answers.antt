@@ -1,14 +1,30 @@
-use Rattle.std.proofs.lemmas.Result.{err_from_is_err_and}
-use Rattle.ipcz_world.proofs.code.Taken.{close-may, refused-close, done-close}
+use Rattle.std.proofs.Common.{subst, sym, ap, ◌∙◌}
+use Rattle.ipcz_node.specs.Acts.{act_lacks_serials}
+use Rattle.ipcz_node.specs.declared.act.Act.TheVariants.{Close}
+use Rattle.ipcz_node.specs.RoomyNodes.{IsPossibleAct}
+use Rattle.ipcz_world.proofs.Vocabulary.{node_at}
+use Rattle.ipcz_world.proofs.code.Taken.{asked, close-may, refused-close, done-close}
 use Rattle.ipcz_world.proofs.state.State.close_pending.Goals as goal
 
-pub take_wordless-requires-clause-possible : goal.take_wordless-requires-clause-possible
-take_wordless-requires-clause-possible c = close-may c.args.self.now c.args.n c.args.end c.requires.possible
+pub returns-in-Err : goal.returns-in-Err
+unfolding node_at
+returns-in-Err g c =
+    let a = asked _ _ c.args.n (Close c.args.end) c.self.view_is c.requires.regular c.requires.node c.requires.possible in
+    rw (← c.self.view_is)
+    (refused-close g.T.Told.tells _ c.args.n c.args.end c.node_mut-node.result.now.node c.prepare.new.self.node c.in-Err.why a.regular.lengths
+    a.here c.node_mut-node.ensures.value c.in-Err.ensures.node c.in-Err.ensures.why (λ grows _. c.in-Err.ensures.grows grows))
 
-pub returns-in_err-event : goal.returns-in_err-event
-returns-in_err-event c =
-    let p = err_from_is_err_and c.from_residual.result c.from_residual.ensures.1 in
-    rw (p.1, p.2) (refused-close c.args.self.now _ c.args.n c.args.end _ c.in_err-event.ensures)
+pub commit-event-requires-clause-possible : goal.commit-event-requires-clause-possible
+unfolding node_at
+commit-event-requires-clause-possible g c =
+    let a = asked _ _ c.args.n (Close c.args.end) c.self.view_is c.requires.regular c.requires.node c.requires.possible in
+    subst (λ y. IsPossibleAct y (Close c.args.end)) (sym (c.in_default.ensures.node ∙ c.node_mut-node.ensures.value))
+    (close-may _ c.args.n c.args.end a.may)
 
 pub returns : goal.returns
-returns c = done-close c.args.self.now _ c.args.n c.args.end _ c.in_ok-event.ensures
+unfolding node_at
+returns g c =
+    rw (← c.self.view_is)
+    (done-close g.T.Told.tells _ c.args.n c.args.end c.prepare.new.self.node c.commit-event.new.self.node c.commit-event.result.0 c.told.result
+    (c.in_default.ensures.node ∙ c.node_mut-node.ensures.value) c.commit-event.ensures.node c.commit-event.ensures.event c.told.ensures
+    (ap (λ y. act_lacks_serials y (Close c.args.end)) c.in_default.ensures.node ∙ c.in_default.ensures.allowed))

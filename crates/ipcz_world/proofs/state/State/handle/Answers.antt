@@ -1,81 +1,84 @@
-use Rattle.std.proofs.Common.{◌<◌, length, subst, sym, ap, ◌∙◌}
-use Rattle.ipcz_world.proofs.Vocabulary.{place_at, put_place, Hand, Empty, World, node_at, mail_at, way}
-use Rattle.ipcz_world.specs.declared.mail.Mail.TheVariants.{Hand as InHand}
-use Rattle.ipcz_node.specs.Hands.{deliver, message_lacks_serials, message_grows}
-use Rattle.ipcz_node.specs.Events.{hand_event}
-use Rattle.ipcz_base.specs.declared.refusal.Refusal.TheVariants.{NumbersEnd, OutOfMemory}
+use Rattle.std.proofs.Common.{subst, sym, ap, ◌∙◌}
 use Rattle.std.specs.Prelude.{if◌then◌else◌}
+use Rattle.ipcz_base.specs.declared.refusal.Refusal.TheVariants.{NumbersEnd, OutOfMemory}
+use Rattle.ipcz_world.proofs.Vocabulary.{place_at, put_place, Hand, Empty, World, node_at, mail_at, way, hand_message}
 use Rattle.ipcz_world.specs.Mailing.{put_down}
-use Rattle.ipcz_world.specs.World.{word_at}
+use Rattle.ipcz_world.specs.Taking.{IsTaken}
+use Rattle.ipcz_world.specs.Turns.{turn_event}
 use Rattle.ipcz_world.specs.WordAnswers.{source_for}
-use Rattle.ipcz_world.proofs.code.Marks.{cleared}
-use Rattle.ipcz_world.proofs.code.Taken.{has-in-hand, sender-is-node, done-hand, refused-hand, asked, hand-seen, counted, put-within}
+use Rattle.ipcz_world.proofs.code.Taken.{asked, done-hand, has-in-hand, kept-hand, sender-is-node, some-there, unchanged-both}
 use Rattle.ipcz_world.specs.contracts.state.State.{the_view}
 use Rattle.ipcz_world.proofs.state.State.handle.Goals as goal
 
 pub way-place-requires-clause-from : goal.way-place-requires-clause-from
-way-place-requires-clause-from c =
+way-place-requires-clause-from g c =
     sender-is-node c.args.self.now c.args.n c.args.from c.requires.regular c.requires.node c.requires.possible
 
-pub unreachable-requires : goal.unreachable-requires
-unreachable-requires c =
-    let a = asked _ _ c.args.n (Hand c.args.from) c.self.view_is c.requires.regular c.requires.node c.requires.possible in
-    let place = c.way-place.ensures.way ∙ ap (λ (w : World). way w c.args.from c.args.n) (sym c.self.view_is) in
-    has-in-hand _ c.args.n c.args.from a.may
-    (sym (hand-seen (the_view c.self.inside) _ c.args.from c.args.n _ place c.take_hand.ensures.message) ∙ c.in_default.is)
-
-pub deliver-requires : goal.deliver-requires
+pub handle_any-requires-clause-regular : goal.handle_any-requires-clause-regular
 unfolding node_at
-deliver-requires c =
+handle_any-requires-clause-regular g c =
     let a = asked _ _ c.args.n (Hand c.args.from) c.self.view_is c.requires.regular c.requires.node c.requires.possible in
-    counted _ c.args.n c.args.from c.node_mut.result.now.node a.regular a.here c.node_mut.ensures.value
-    (sender-is-node _ c.args.n c.args.from a.regular a.here a.may)
+    let left = c.in-Ok-false.ensures.left c.in-Ok-false.field-0-test in
+    let same = unchanged-both (the_view c.self.inside) c.args.n c.node_mut.result.now.node c.hand_over.new.node.node c.hand_over.new.self
+    a.regular.lengths a.here c.node_mut.ensures.value left.1 left.0 ∙ c.self.view_is in
+    (asked _ _ c.args.n (Hand c.args.from) same c.requires.regular c.requires.node c.requires.possible).regular
 
-pub put_back-requires-clause-place : goal.put_back-requires-clause-place
-put_back-requires-clause-place c =
-    let l : c.way-place.result < length c.self.inside.mail = subst (λ (w : World). c.way-place.result < length w.mail) (sym c.self.view_is)
-    (c.way-place.ensures.within c.requires.regular) in
-    put-within c.self.inside.mail c.take_hand.new.self c.way-place.result 0 _ c.take_hand.ensures.mail l
+pub handle_any-requires-clause-possible : goal.handle_any-requires-clause-possible
+unfolding node_at
+handle_any-requires-clause-possible g c =
+    let a = asked _ _ c.args.n (Hand c.args.from) c.self.view_is c.requires.regular c.requires.node c.requires.possible in
+    let left = c.in-Ok-false.ensures.left c.in-Ok-false.field-0-test in
+    let same = unchanged-both (the_view c.self.inside) c.args.n c.node_mut.result.now.node c.hand_over.new.node.node c.hand_over.new.self
+    a.regular.lengths a.here c.node_mut.ensures.value left.1 left.0 ∙ c.self.view_is in
+    (asked _ _ c.args.n (Hand c.args.from) same c.requires.regular c.requires.node c.requires.possible).may
 
-pub put_back-requires-clause-clear : goal.put_back-requires-clause-clear
-put_back-requires-clause-clear c =
-    cleared c.self.inside.mail c.take_hand.new.self c.way-place.result c.in-Some.message c.take_hand.ensures.mail
-    (sym c.take_hand.ensures.message ∙ c.in-Some.is)
+pub handle_any-requires-clause-told : goal.handle_any-requires-clause-told
+unfolding node_at
+handle_any-requires-clause-told g c =
+    let a = asked _ _ c.args.n (Hand c.args.from) c.self.view_is c.requires.regular c.requires.node c.requires.possible in
+    let left = c.in-Ok-false.ensures.left c.in-Ok-false.field-0-test in
+    let same = unchanged-both (the_view c.self.inside) c.args.n c.node_mut.result.now.node c.hand_over.new.node.node c.hand_over.new.self
+    a.regular.lengths a.here c.node_mut.ensures.value left.1 left.0 ∙ c.self.view_is in
+    subst (λ (w : World). g.T.Told.tells (turn_event w c.args.n (Hand c.args.from)) c.hand_told-told.result) (sym same) c.hand_told-told.ensures
 
-pub returns-in-Ok : goal.returns-in-Ok
-unfolding node_at mail_at source_for word_at
-returns-in-Ok c =
+pub returns-in-Ok-false : goal.returns-in-Ok-false
+unfolding node_at
+returns-in-Ok-false g c =
+    let a = asked _ _ c.args.n (Hand c.args.from) c.self.view_is c.requires.regular c.requires.node c.requires.possible in
+    let left = c.in-Ok-false.ensures.left c.in-Ok-false.field-0-test in
+    let same = unchanged-both (the_view c.self.inside) c.args.n c.node_mut.result.now.node c.hand_over.new.node.node c.hand_over.new.self
+    a.regular.lengths a.here c.node_mut.ensures.value left.1 left.0 ∙ c.self.view_is in
+    subst (λ (w : World). IsTaken g.T.Told.tells w c.args.n (Hand c.args.from) c.handle_any.result c.handle_any.new.self) same
+    c.handle_any.ensures
+
+pub returns-in-Ok-true : goal.returns-in-Ok-true
+unfolding node_at mail_at
+returns-in-Ok-true g c =
+    let w = the_view c.self.inside in
+    let a = asked _ _ c.args.n (Hand c.args.from) c.self.view_is c.requires.regular c.requires.node c.requires.possible in
     let place = c.way-place.ensures.way ∙ ap (λ (w : World). way w c.args.from c.args.n) (sym c.self.view_is) in
-    let has = sym (hand-seen (the_view c.self.inside) _ c.args.from c.args.n _ place c.take_hand.ensures.message) ∙ c.in-Some.is in
-    let kept = c.take_hand.ensures.mail ∙ ap (λ k. put_place Empty c.self.inside.mail k (put_down (place_at Empty c.self.inside.mail k)))
-    place in
+    let there = some-there (hand_message (mail_at w (way w c.args.from c.args.n))) (has-in-hand w c.args.n c.args.from a.may) in
+    let seen = ap (λ k. hand_message (place_at Empty c.self.inside.mail k)) place ∙ there.1 in
+    let kept = c.in-Ok-true.ensures.mail c.in-Ok-true.field-0-test ∙
+    ap (λ k. put_place Empty c.self.inside.mail k (put_down (place_at Empty c.self.inside.mail k))) place in
     rw (← c.self.view_is)
-    (done-hand _ c.args.n c.args.from c.in-Some.message c.in-Ok.event c.node_mut.result.now.node c.deliver.new.self.node
-    c.take_hand.new.self
-    c.node_mut.ensures.value has (c.in-Ok.ensures.ok ∙ ap
-    (deliver c.node_mut.result.now.node c.args.from c.in-Some.message) c.source_for-source.ensures)
-    (c.in-Ok.ensures.event ∙ ap (hand_event c.node_mut.result.now.node c.args.from c.in-Some.message) c.source_for-source.ensures)
-    (sym (ap (message_lacks_serials c.node_mut.result.now.node c.args.from c.in-Some.message) c.source_for-source.ensures)
-    ∙ c.in-Ok.ensures.allowed) kept)
+    (done-hand g.T.Told.tells w c.args.n c.args.from c.hand_told-told.result there.0 c.node_mut.result.now.node c.hand_over.new.node.node
+    c.hand_over.new.self
+    (subst (λ (v : World). g.T.Told.tells (turn_event v c.args.n (Hand c.args.from)) c.hand_told-told.result) (sym c.self.view_is)
+    c.hand_told-told.ensures) c.node_mut.ensures.value there.1
+    (c.in-Ok-true.ensures.taken there.0 (source_for w there.0) seen c.in-Ok-true.field-0-test)
+    (c.in-Ok-true.ensures.allowed there.0 (source_for w there.0) seen c.in-Ok-true.field-0-test) kept)
 
 pub returns-in-Err : goal.returns-in-Err
-unfolding node_at mail_at source_for word_at
-returns-in-Err c =
+unfolding node_at mail_at
+returns-in-Err g c =
+    let w = the_view c.self.inside in
     let a = asked _ _ c.args.n (Hand c.args.from) c.self.view_is c.requires.regular c.requires.node c.requires.possible in
     let place = c.way-place.ensures.way ∙ ap (λ (w : World). way w c.args.from c.args.n) (sym c.self.view_is) in
-    let l : c.way-place.result < length c.self.inside.mail = subst (λ (w : World). c.way-place.result < length w.mail) (sym c.self.view_is)
-    (c.way-place.ensures.within c.requires.regular) in
-    let has = sym (hand-seen (the_view c.self.inside) _ c.args.from c.args.n _ place c.take_hand.ensures.message) ∙ c.in-Some.is in
-    let kept = c.put_back.ensures ∙ ap (λ mail. put_place Empty mail c.way-place.result (InHand c.in-Err.message)) c.take_hand.ensures.mail
-    ∙ ap (λ m. put_place Empty
-    (put_place Empty c.self.inside.mail c.way-place.result (put_down (place_at Empty c.self.inside.mail c.way-place.result)))
-    c.way-place.result (InHand m)) c.in-Err.ensures.err.0
-    ∙ ap (λ k. put_place Empty (put_place Empty c.self.inside.mail k (put_down (place_at Empty c.self.inside.mail k))) k
-    (InHand c.in-Some.message)) place in
+    let there = some-there (hand_message (mail_at w (way w c.args.from c.args.n))) (has-in-hand w c.args.n c.args.from a.may) in
+    let seen = ap (λ k. hand_message (place_at Empty c.self.inside.mail k)) place ∙ there.1 in
+    let told = c.in-Err.ensures.why there.0 (source_for w there.0) seen in
     rw (← c.self.view_is)
-    (refused-hand _ c.args.n c.args.from c.in-Some.message c.in-Err.why c.node_mut.result.now.node c.deliver.new.self.node c.put_back.new.self
-    a.regular.lengths a.here (subst (λ k. k < length c.self.inside.mail) place l) c.node_mut.ensures.value has c.in-Err.ensures.err.1
-    (c.in-Err.ensures.why ∙ ap (λ o. if message_lacks_serials c.node_mut.result.now.node c.args.from c.in-Some.message o then NumbersEnd
-    else OutOfMemory) c.source_for-source.ensures)
-    (λ g. c.in-Err.ensures.grows (ap (message_grows c.node_mut.result.now.node c.args.from c.in-Some.message) c.source_for-source.ensures ∙ g))
-    kept)
+    (kept-hand g.T.Told.tells w c.args.n c.args.from there.0 c.in-Err.why c.node_mut.result.now.node c.hand_over.new.node.node c.hand_over.new.self
+    a.regular.lengths a.here c.node_mut.ensures.value there.1 c.in-Err.ensures.err.1
+    (told.0 ∙ sym (ap (λ b. if b then NumbersEnd else OutOfMemory) told.1)) (λ g. sym g ∙ told.2) c.in-Err.ensures.err.0)

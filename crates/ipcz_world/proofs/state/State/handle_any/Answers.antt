@@ -1,32 +1,32 @@
-use Rattle.std.proofs.Common.{sym, ap, refl, ◌∙◌}
+use Rattle.std.proofs.Common.{subst, sym, ap, ◌∙◌}
 use Rattle.std.specs.Prelude.{if◌then◌else◌, is_some}
 use Rattle.ipcz_base.specs.declared.refusal.Refusal.TheVariants.{NumbersEnd, OutOfMemory}
-use Rattle.ipcz_node.specs.Events.{hand_event}
 use Rattle.ipcz_node.specs.Hands.{deliver, message_grows, message_lacks_serials}
 use Rattle.ipcz_world.proofs.Vocabulary.{place_at, put_place, hand_message, Hand, Empty, World, node_at, mail_at, way}
 use Rattle.ipcz_world.specs.Mailing.{put_down}
+use Rattle.ipcz_world.specs.Turns.{turn_event}
 use Rattle.ipcz_world.specs.World.{word_at}
 use Rattle.ipcz_world.specs.WordAnswers.{source_for}
-use Rattle.ipcz_world.proofs.code.Taken.{has-in-hand, sender-is-node, some-there, done-hand, kept-hand, asked, unseen}
+use Rattle.ipcz_world.proofs.code.Taken.{has-in-hand, sender-is-node, some-there, done-hand, kept-hand, asked}
 use Rattle.ipcz_world.specs.contracts.state.State.{the_view}
-use Rattle.ipcz_world.proofs.state.State.handle_any_unseen.Goals as goal
+use Rattle.ipcz_world.proofs.state.State.handle_any.Goals as goal
 
 pub way-place-requires-clause-from : goal.way-place-requires-clause-from
-way-place-requires-clause-from c =
+way-place-requires-clause-from g c =
     sender-is-node c.args.self.now c.args.n c.args.from c.requires.regular c.requires.node c.requires.possible
 
 pub hand_any-requires-clause-hand : goal.hand_any-requires-clause-hand
 unfolding mail_at
-hand_any-requires-clause-hand c =
+hand_any-requires-clause-hand g c =
     let w = the_view c.self.inside in
     let a = asked _ _ c.args.n (Hand c.args.from) c.self.view_is c.requires.regular c.requires.node c.requires.possible in
     let place = c.way-place.ensures.way ∙ ap (λ (w : World). way w c.args.from c.args.n) (sym c.self.view_is) in
     let there = some-there (hand_message (mail_at w (way w c.args.from c.args.n))) (has-in-hand w c.args.n c.args.from a.may) in
     ap (λ k. is_some (hand_message (place_at Empty c.self.inside.mail k))) place ∙ ap is_some there.1
 
-pub returns-clause-taken : goal.returns-clause-taken
+pub returns : goal.returns
 unfolding node_at mail_at source_for word_at
-returns-clause-taken c =
+returns g c =
     let w = the_view c.self.inside in
     let a = asked _ _ c.args.n (Hand c.args.from) c.self.view_is c.requires.regular c.requires.node c.requires.possible in
     let place = c.way-place.ensures.way ∙ ap (λ (w : World). way w c.args.from c.args.n) (sym c.self.view_is) in
@@ -38,15 +38,15 @@ returns-clause-taken c =
     let handed = c.in_default.ensures.delivered there.0 seen in
     let kept = c.in_default.ensures.mail ∙ ap (λ k. put_place Empty c.self.inside.mail k (put_down (place_at Empty c.self.inside.mail k))) place in
     rw (← c.self.view_is)
-    (unseen w _ c.args.n (Hand c.args.from) _ (done-hand w c.args.n c.args.from there.0
-    (hand_event c.node_mut.result.now.node c.args.from there.0 (source_for w there.0)) c.node_mut.result.now.node c.hand_any.new.node.node
-    c.hand_any.new.self c.node_mut.ensures.value there.1
-    (handed.1.ok ∙ ap (deliver c.node_mut.result.now.node c.args.from there.0) named) refl
-    (sym (ap (message_lacks_serials c.node_mut.result.now.node c.args.from there.0) named) ∙ handed.1.allowed) kept))
+    (done-hand g.T.Told.tells w c.args.n c.args.from c.args.told there.0 c.node_mut.result.now.node c.hand_any.new.node.node
+    c.hand_any.new.self (subst (λ (v : World). g.T.Told.tells (turn_event v c.args.n (Hand c.args.from)) c.args.told) (sym c.self.view_is)
+    c.requires.told) c.node_mut.ensures.value there.1
+    (handed.1.ok ∙ ap (deliver c.node_mut.result.now.node c.args.from there.0) named)
+    (sym (ap (message_lacks_serials c.node_mut.result.now.node c.args.from there.0) named) ∙ handed.1.allowed) kept)
 
-pub returns-in-Err-clause-refused : goal.returns-in-Err-clause-refused
+pub returns-in-Err : goal.returns-in-Err
 unfolding node_at mail_at source_for word_at
-returns-in-Err-clause-refused c =
+returns-in-Err g c =
     let w = the_view c.self.inside in
     let a = asked _ _ c.args.n (Hand c.args.from) c.self.view_is c.requires.regular c.requires.node c.requires.possible in
     let place = c.way-place.ensures.way ∙ ap (λ (w : World). way w c.args.from c.args.n) (sym c.self.view_is) in
@@ -57,7 +57,7 @@ returns-in-Err-clause-refused c =
     ∙ ap (λ v. source_for v there.0) (sym c.self.view_is) in
     let handed = c.in-Err.ensures.delivered there.0 seen in
     rw (← c.self.view_is)
-    (kept-hand w c.args.n c.args.from there.0 c.in-Err.why c.node_mut.result.now.node c.hand_any.new.node.node c.hand_any.new.self
+    (kept-hand g.T.Told.tells w c.args.n c.args.from there.0 c.in-Err.why c.node_mut.result.now.node c.hand_any.new.node.node c.hand_any.new.self
     a.regular.lengths a.here c.node_mut.ensures.value there.1 handed.1.err.1
     (handed.1.why ∙ ap (λ o. if message_lacks_serials c.node_mut.result.now.node c.args.from there.0 o then NumbersEnd else OutOfMemory) named)
     (λ g. handed.1.grows (ap (message_grows c.node_mut.result.now.node c.args.from there.0) named ∙ g)) c.in-Err.ensures.err)
