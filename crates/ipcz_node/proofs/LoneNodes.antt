@@ -32,8 +32,8 @@ use Rattle.ipcz_node.specs.Directories.{passes}
 use Rattle.ipcz_node.specs.Hands.{deliver, fits, fits_item, free_hand, handle, is_hand_of, message_lacks_serials, take_in}
 use Rattle.ipcz_node.specs.Sends.{item_message, send}
 use Rattle.ipcz_node.specs.Preparing.{outlook_at}
-use Rattle.ipcz_router.proofs.LoneRouters.{last_told, SendsFirst, SendsLast}
-use Rattle.ipcz_node.specs.Lone.{SendsOnly, TakesItem}
+use Rattle.ipcz_router.proofs.LoneRouters.{SendsFirst}
+use Rattle.ipcz_node.specs.Lone.{TakesItem}
 use Rattle.ipcz_node.proofs.Carrying.{committed_alone, lacks_none, taken_alone, takes_none}
 use Rattle.ipcz_node.proofs.Directories.{found_filed}
 use Rattle.ipcz_node.proofs.Written.{insert_here, insert_twice}
@@ -124,29 +124,6 @@ module _ (x : Node) (serial : ℕ) (link : LinkEnd) (r : Router) (here : router_
   -- and takes no serial
   pub first_freely : x.next_peripheral ≤ no_number → act_lacks_serials x (OfRouter serial acts.SendOut) ≡ false
   first_freely low = lacks_none x serial link.other low goes
-
--- the sender of a lone parcel
-module _ (x : Node) (serial : ℕ) (link : LinkEnd) (is : SendsOnly x serial link) where
-  abbrev r : Router
-  r = is.sender.router
-
-  abbrev sends : SendsLast r link
-  sends = last_told r link is.sender.last
-
-  -- the message that carries its item
-  abbrev pub message : Message
-  message = item_message link r.out_queue.current sends.item []
-
-  abbrev first : SendsFirst r link
-  first = record { item = sends.item; current = sends.current; alone = sends.alone; way = sends.way }
-
-  -- its item goes into the outbox
-  pub sends_it : push_out (with_router x serial (pop_out r)) link.other message ≡ commit x (OfRouter serial acts.SendOut) Plain
-  sends_it = first_sent x serial link r is.sender.here first
-
-  -- and takes no serial
-  pub sends_freely : x.next_peripheral ≤ no_number → act_lacks_serials x (OfRouter serial acts.SendOut) ≡ false
-  sends_freely low = first_freely x serial link r is.sender.here first low
 
 -- the taker of a lone parcel that has it in hand
 module _ (x y : Node) (link : LinkId) (side : Side) (n from : ℕ) (item : Item) (source : Option ℕ) (is : TakesItem x link side n item y)

@@ -3,6 +3,7 @@ pub mod Calling
 pub mod Carrying
 pub mod CarryingWithin
 pub mod FirstTurns
+pub mod GoingOn
 pub mod Kept
 pub mod LoneFinds
 pub mod LoneSenders

@@ -10,7 +10,7 @@ use Rattle.ipcz_router.specs.Router.{Router}
 use Rattle.ipcz_router.specs.Lone.{TakesLast}
 use Rattle.ipcz_node.specs.Acts.{is_quiet}
 use Rattle.ipcz_node.specs.Lone.{SendsNext, SendsOnly}
-use Rattle.ipcz_node.specs.Node.{router_in}
+use Rattle.ipcz_node.specs.Node.{Node, router_in}
 use Rattle.ipcz_world.specs.declared.mail.Mail.TheVariants.{Empty, Hand}
 use Rattle.ipcz_world.specs.World.{World, node_at, mail_at, way, set_mail, set_node}
 use Rattle.ipcz_world.specs.Turns.{is_full}
@@ -26,23 +26,22 @@ pub record IsLoneNode (w : World) (n : ℕ) : Type 0 where
   pub busy : is_quiet (node_at w n) ≡ false
   pub others : (k : ℕ) → k < w.count → (k ≡ n → ⊥) → is_quiet (node_at w k) ≡ true
 
--- no mailbox is full and each node but one is quiet, which has only to send an item without ends to a node, whose mailbox for it is empty
-pub record IsLone (w : World) (n serial : ℕ) (link : LinkEnd) : Type 0 where
+-- no mailbox is full and each node but one is quiet, which sends to a node, as Sends says, whose mailbox for it is empty
+pub record IsLoneBy (Sends : Node → ℕ → LinkEnd → Type 0) (w : World) (n serial : ℕ) (link : LinkEnd) : Type 0 where
   pub mail : (k : ℕ) → is_full (mail_at w k) ≡ false
   pub here : n < w.count
   pub there : link.other < w.count
   pub others : (k : ℕ) → k < w.count → (k ≡ n → ⊥) → is_quiet (node_at w k) ≡ true
   pub box : mail_at w (way w n link.other) ≡ Empty
-  pub sends : SendsOnly (node_at w n) serial link
+  pub sends : Sends (node_at w n) serial link
 
--- the same, but that node has to send such an item before anything else, whatever it has to do then
-pub record IsLoneSender (w : World) (n serial : ℕ) (link : LinkEnd) : Type 0 where
-  pub mail : (k : ℕ) → is_full (mail_at w k) ≡ false
-  pub here : n < w.count
-  pub there : link.other < w.count
-  pub others : (k : ℕ) → k < w.count → (k ≡ n → ⊥) → is_quiet (node_at w k) ≡ true
-  pub box : mail_at w (way w n link.other) ≡ Empty
-  pub sends : SendsNext (node_at w n) serial link
+-- that node has only to send an item without ends
+abbrev pub IsLone : World → ℕ → ℕ → LinkEnd → Type 0
+IsLone = IsLoneBy SendsOnly
+
+-- it has to send such an item before anything else, whatever it has to do then
+abbrev pub IsLoneSender : World → ℕ → ℕ → LinkEnd → Type 0
+IsLoneSender = IsLoneBy SendsNext
 
 -- items may pass from one node to another: no mailbox is full, the one between them is empty, and so is the hand that takes them; each node
 -- but these two is quiet

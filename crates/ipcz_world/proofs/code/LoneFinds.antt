@@ -50,23 +50,23 @@ busy_is w n k alone l busy = go (nat_eq k n) refl
 -- and it sends over one link
 pub link_is : (x : Node) (s t : ℕ) (a b : LinkEnd) → SendsOnly x s a → SendsOnly x t b → a ≡ b
 link_is x s t a b one two =
-    let same : t ≡ s = one.sender.only t two.sender.router two.sender.here two.sender.flagged in
+    let same : t ≡ s = one.sender.others t two.sender.router two.sender.here two.sender.flagged in
     let both : Some one.sender.router ≡ Some two.sender.router =
     sym (subst (λ k. get x.routers k ≡ Some one.sender.router) (sym same) one.sender.here) ∙ two.sender.here in
     let router : one.sender.router ≡ two.sender.router = cc in
-    let links : Some a ≡ Some b = sym one.sender.last ∙ ap last_link router ∙ two.sender.last in
+    let links : Some a ≡ Some b = sym one.sender.sends ∙ ap last_link router ∙ two.sender.sends in
     cc
 
 -- so does one that sends next
 pub next_is : (x : Node) (s t : ℕ) (a b : LinkEnd) → SendsNext x s a → SendsNext x t b → a ≡ b
 next_is x s t a b one two =
-    let low = one.sender.first t two.sender.router two.sender.here two.sender.flagged in
-    let high = two.sender.first s one.sender.router one.sender.here one.sender.flagged in
+    let low = one.sender.others t two.sender.router two.sender.here two.sender.flagged in
+    let high = two.sender.others s one.sender.router one.sender.here one.sender.flagged in
     let same : t ≡ s = omega (arith, low, high) in
     let both : Some one.sender.router ≡ Some two.sender.router =
     sym (subst (λ k. get x.routers k ≡ Some one.sender.router) (sym same) one.sender.here) ∙ two.sender.here in
     let router : one.sender.router ≡ two.sender.router = cc in
-    let links : Some a ≡ Some b = sym one.sender.next ∙ ap next_link router ∙ two.sender.next in
+    let links : Some a ≡ Some b = sym one.sender.sends ∙ ap next_link router ∙ two.sender.sends in
     cc
 
 -- a message in hand is in hand at its node

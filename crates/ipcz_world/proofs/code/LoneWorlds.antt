@@ -1,14 +1,20 @@
 -- A world with two nodes and the mailbox from one to the other changed: what is read of it, and which acts its nodes have.
 use Rattle.std.specs.Prelude.{◌≡◌, ◌≤◌, ◌<◌, ℕ, zero, suc, ◌+◌, ◌*◌, Bool, true, false, cond, not, ◌&&◌, nat_eq}
-use Rattle.std.specs.Prelude.{Option, Some, None, is_none, List, [], ◌∷◌, length, refl}
+use Rattle.std.specs.Prelude.{Option, Some, None, if◌then◌else◌, is_none, List, [], ◌∷◌, length, refl}
 use Rattle.std.proofs.Common.{arith, ap, sym, ◌∙◌}
 use Rattle.std.proofs.lemmas.Bool.{and_parts}
 use Rattle.std.proofs.lemmas.Bool.Decides.{nat_tests}
 use Rattle.ipcz_world.proofs.Vocabulary.{Node, World, bare_node, Empty, mail_at, node_at, set_mail, set_node, way}
 use Rattle.ipcz_world.proofs.Vocabulary.{place_at, put_place}
-use Rattle.ipcz_router.proofs.LoneRouters.{last_told, SendsLast}
-use Rattle.ipcz_world.specs.Carrying.{IsLone}
-use Rattle.ipcz_world.proofs.Vocabulary.{LinkEnd}
+use Rattle.std.specs.FinMap.{len}
+use Rattle.ipcz_base.specs.Items.{ends_in}
+use Rattle.ipcz_seq.specs.Queue.{current_item}
+use Rattle.ipcz_router.specs.Acts.{item_passes}
+use Rattle.ipcz_router.specs.Lone.{is_settled, last_link, next_link}
+use Rattle.ipcz_router.proofs.LoneRouters.{last_told, next_told, SendsFirst, SendsLast}
+use Rattle.ipcz_node.specs.Lone.{SendsNext, SendsOnly}
+use Rattle.ipcz_world.specs.Carrying.{IsLone, IsLoneSender}
+use Rattle.ipcz_world.proofs.Vocabulary.{LinkEnd, Router}
 use Rattle.ipcz_node.specs.Node.{flagged_router}
 use Rattle.ipcz_node.specs.Acts.{are_empty, close_turn, first_destination, first_number, first_sender, has_mail_for, is_quiet, next, node_turn}
 use Rattle.ipcz_node.specs.Acts.{router_turn}
@@ -35,9 +41,52 @@ put-apart d (x ∷ xs) zero (suc j) y z ne = refl
 put-apart d (x ∷ xs) (suc i) zero y z ne = refl
 put-apart d (x ∷ xs) (suc i) (suc j) y z ne = ap (λ ys. x ∷ ys) (put-apart d xs i j y z (λ e. ne (ap suc e)))
 
+-- a router that sends its last item sends it next, and so does its node
+pub last-next : (r : Router) (link : LinkEnd) → last_link r ≡ Some link → next_link r ≡ Some link
+last-next r link e =
+    go (nat_eq (len r.out_queue.items) 1) (is_settled r && item_passes (λ item. nat_eq (length (ends_in item)) 0) (current_item r.out_queue)) e
+  where
+    go : (a b : Bool) → (if a && b then r.outward.primary else None) ≡ Some link → (if b then r.outward.primary else None) ≡ Some link
+    go true b e = e
+    go false b e = cc
+
+abbrev pub as_next : {x : Node} {serial : ℕ} {link : LinkEnd} → SendsOnly x serial link → SendsNext x serial link
+as_next is = record {
+  outboxes = is.outboxes;
+  each = is.each;
+  pending = is.pending;
+  hand = is.hand;
+  sender = record {
+    router = is.sender.router;
+    here = is.sender.here;
+    flagged = is.sender.flagged;
+    others = λ s r at up. let it = is.sender.others s r at up in omega (arith, it);
+    sends = last-next is.sender.router _ is.sender.sends;
+  };
+}
+
+abbrev pub as_sender : {w : World} {n serial : ℕ} {link : LinkEnd} → IsLone w n serial link → IsLoneSender w n serial link
+as_sender lone = record {
+  mail = lone.mail;
+  here = lone.here;
+  there = lone.there;
+  others = lone.others;
+  box = lone.box;
+  sends = as_next lone.sends;
+}
+
 -- what the sender's router sends
+abbrev pub sends-first : {w : World} {n serial : ℕ} {link : LinkEnd} (lone : IsLone w n serial link) → SendsFirst lone.sends.sender.router link
+sends-first lone = next_told lone.sends.sender.router _ (as_sender lone).sends.sender.sends
+
 abbrev pub sends-last : {w : World} {n serial : ℕ} {link : LinkEnd} (lone : IsLone w n serial link) → SendsLast lone.sends.sender.router link
-sends-last lone = last_told lone.sends.sender.router _ lone.sends.sender.last
+sends-last lone = record {
+  item = (sends-first lone).item;
+  current = (sends-first lone).current;
+  alone = (sends-first lone).alone;
+  way = (sends-first lone).way;
+  still = (last_told lone.sends.sender.router _ lone.sends.sender.sends).still;
+}
 
 -- the world with these two nodes and this mailbox
 abbrev pub pair : World → ℕ → ℕ → Node → Node → Mail → World

@@ -30,7 +30,7 @@ use Rattle.ipcz_world.specs.Turns.{after_hand, after_look, after_post, full_mess
 use Rattle.ipcz_world.specs.Turns.{turn_lacks_serials}
 use Rattle.ipcz_world.specs.Visiting.{IsNextBusy, Walk}
 use Rattle.ipcz_world.specs.WordAnswers.{source_for}
-use Rattle.ipcz_world.proofs.code.Carrying.{first-busy, go-on, next-busy, router-acts}
+use Rattle.ipcz_world.proofs.code.GoingOn.{first-busy, go-on, next-busy, router-acts}
 use Rattle.ipcz_world.proofs.code.LoneWorlds.{Quiet, hand_act, look_act, own_act, post_act, put-apart, quiet_idle, quiet_is, pair, pair-start}
 use Rattle.ipcz_world.proofs.code.LoneWorlds.{box-here, node-other, node-sender, node-taker, none-elsewhere, none-from, none-to}
 use Rattle.ipcz_world.proofs.code.LoneWorlds.{write-box, write-sender, write-taker}
@@ -47,7 +47,7 @@ module _ (x : Node) (serial : ℕ) (link : LinkEnd) (sends : SendsNext x serial 
   sender = sends.sender.router
 
   abbrev pub sent_first : SendsFirst sender link
-  sent_first = next_told sender link sends.sender.next
+  sent_first = next_told sender link sends.sender.sends
 
   -- the message that carries the item, and the node without it
   abbrev pub sent_message : Message
@@ -64,7 +64,7 @@ module _ (x : Node) (serial : ℕ) (link : LinkEnd) (sends : SendsNext x serial 
   unfolding router_turn close_turn
   own_send =
       ap (λ es. close_turn es (router_turn (flagged_router x))) sends.pending
-      ∙ ap router_turn (lowest_flagged x.routers serial sender sends.sender.here sends.sender.flagged sends.sender.first)
+      ∙ ap router_turn (lowest_flagged x.routers serial sender sends.sender.here sends.sender.flagged sends.sender.others)
       ∙ ap (acts.Router serial) (sends_next sender link sent_first)
 
   empty-for : (i : ℕ) → outbox x i ≡ []
@@ -104,7 +104,7 @@ module _ (w : World) (n m : ℕ) (is : IsPassing w n m) (apart : n ≡ m → ⊥
   few = is.lengths.few
 
   -- each other node is idle
-  idle-others : (x y : Node) (b : Mail) (k : ℕ) → k < w.count → (k ≡ n → ⊥) → (k ≡ m → ⊥) → is_idle (next_at (at x y b) k) ≡ true
+  pub idle-others : (x y : Node) (b : Mail) (k : ℕ) → k < w.count → (k ≡ n → ⊥) → (k ≡ m → ⊥) → is_idle (next_at (at x y b) k) ≡ true
   unfolding set_node set_mail
   idle-others x y b k l kn km =
       let same = node-other w n m apart is.here is.there is.lengths x y b k kn km in
@@ -214,7 +214,7 @@ module _ (w : World) (n m : ℕ) (is : IsPassing w n m) (apart : n ≡ m → ⊥
         ∙ write-box w n m apart is.here is.there is.lengths x y1 (Full msg) (Hand msg))
 
     -- and the message is handed
-    hand-on : (x y z : Node) (msg : Message) (done : ℕ) → y.hand ≡ Some n → ((source : Option ℕ) → z ≡ deliver y n msg source) →
+    pub hand-on : (x y z : Node) (msg : Message) (done : ℕ) → y.hand ≡ Some n → ((source : Option ℕ) → z ≡ deliver y n msg source) →
         ((source : Option ℕ) → message_lacks_serials y n msg source ≡ false) → OnWay w0 done (at x y (Hand msg)) (next_node w n) →
         OnWay w0 (done + 1) (at x z Empty) (next_node w m)
     unfolding set_node set_mail turn_lacks_serials hand_lacks_serials is_idle after_act after_hand hand_message

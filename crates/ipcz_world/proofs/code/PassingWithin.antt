@@ -23,13 +23,16 @@ use Rattle.ipcz_world.specs.Turns.{turn_lacks_serials}
 use Rattle.ipcz_world.specs.Visiting.{IsNextBusy, IsPlace, Walk}
 use Rattle.ipcz_world.specs.WordAnswers.{source_for}
 use Rattle.ipcz_world.proofs.acts.Updating.{node-here, put-twice, set-twice}
-use Rattle.ipcz_world.proofs.code.Carrying.{go-on, router-acts}
-use Rattle.ipcz_world.proofs.code.CarryingWithin.{single}
+use Rattle.ipcz_world.proofs.code.GoingOn.{go-on, router-acts}
 use Rattle.ipcz_world.proofs.code.LoneWorlds.{Quiet, hand_act, look_act, own_act, post_act, quiet_idle, quiet_is, way-apart, way-from, way-within}
 use Rattle.ipcz_world.proofs.code.Passing.{box-others, box-there, mail-there, own_send, passing-taker, posted, sender, sent_first, sent_message, sent_node, waiting_node}
 use Rattle.ipcz_world.proofs.code.Slots.{put-same}
 use Rattle.ipcz_world.proofs.code.Visiting.{OnWay, on_way-walked, walked}
 use Rattle.ipcz_world.proofs.frames.Frames.{mail-set_mail, node-set_mail, node-set_node}
+
+-- the world with this node, and this mailbox from it to itself
+abbrev pub single : World → ℕ → Node → Mail → World
+single w n x b = set_mail (set_node w n x) (way w n n) b
 
 -- if only one node has an act, it is next, wherever a pass stands
 alone-next : (u : World) (from n : ℕ) → n < u.count → IsPlace u from → is_idle (next_at u n) ≡ false →
@@ -61,7 +64,7 @@ module _ (w : World) (n : ℕ) (is : IsPassing w n n) where
   few = is.lengths.few
 
   module _ (x : Node) (b : Mail) where
-    node-is : node_at (at x b) n ≡ x
+    pub node-is : node_at (at x b) n ≡ x
     node-is =
         let itself : nat_eq n n ≡ true = grind (arith, nat_tests) in
         node-set_mail (set_node w n x) (way w n n) b n ∙ node-set_node w n x n ∙ ap (λ c. cond c x (node_at w n)) itself
@@ -89,7 +92,7 @@ module _ (w : World) (n : ℕ) (is : IsPassing w n n) where
     unfolding set_node set_mail
     none-from i ne = ap is_full (box-other (way w i n) (way-from w.count i n n is.here ne)) ∙ is.mail (way w i n)
 
-    none-to : is_full b ≡ false → (i : ℕ) → is_full (mail_at (at x b) (way (at x b) i n)) ≡ false
+    pub none-to : is_full b ≡ false → (i : ℕ) → is_full (mail_at (at x b) (way (at x b) i n)) ≡ false
     none-to clear i = go (nat_eq i n) refl
       where
         go : (c : Bool) → nat_eq i n ≡ c → is_full (mail_at (at x b) (way (at x b) i n)) ≡ false
@@ -98,7 +101,7 @@ module _ (w : World) (n : ℕ) (is : IsPassing w n n) where
         go false e = none-from i (λ it. grind (arith, e, it, nat_tests))
 
     -- each other node is idle
-    idle-others : (k : ℕ) → k < w.count → (k ≡ n → ⊥) → is_idle (next_at (at x b) k) ≡ true
+    pub idle-others : (k : ℕ) → k < w.count → (k ≡ n → ⊥) → is_idle (next_at (at x b) k) ≡ true
     unfolding set_node set_mail
     idle-others k l ne =
         let there = node-other k ne in
@@ -109,7 +112,7 @@ module _ (w : World) (n : ℕ) (is : IsPassing w n n) where
     unfolding set_node set_mail
     next from place busy = alone-next (at x b) from n is.here place busy idle-others
 
-  write-node : (x z : Node) (b : Mail) → set_node (at x b) n z ≡ at z b
+  pub write-node : (x z : Node) (b : Mail) → set_node (at x b) n z ≡ at z b
   unfolding set_node set_mail
   write-node x z b = λ j. record (at z b) { nodes = put-twice (bare_node 0 0) w.nodes n x z j }
 
@@ -117,7 +120,7 @@ module _ (w : World) (n : ℕ) (is : IsPassing w n n) where
   unfolding set_node set_mail
   write-box x b c = λ j. record (at x c) { mail = put-twice Empty w.mail (way w n n) b c j }
 
-  single-box : (x : Node) → at x Empty ≡ set_node w n x
+  pub single-box : (x : Node) → at x Empty ≡ set_node w n x
   unfolding set_node set_mail mail_at
   single-box x = λ j. record (set_node w n x) {
     mail = (ap (put_place Empty w.mail (way w n n)) (sym is.box)
@@ -209,16 +212,16 @@ module _ (w : World) (n : ℕ) (is : IsPassing w n n) where
         ∙ write-box xh (Full msg) (Hand msg))
 
     -- so far, whatever becomes of the item
-    so-far : (done from : ℕ) → OnWay w0 done w from → OnWay w0 (done + 3) (at xh (Hand msg)) (next_node w n)
+    pub so-far : (done from : ℕ) → OnWay w0 done w from → OnWay w0 (done + 3) (at xh (Hand msg)) (next_node w n)
     so-far done from on =
         subst (λ k. OnWay w0 k (at xh (Hand msg)) (next_node w n)) (omega arith)
         (on-3 (done + 1 + 1) (next_node w n) (on-2 (done + 1) (next_node w n) (on-1 done from on)))
 
     -- and the message is handed
-    on-4 : (z : Node) → ((source : Option ℕ) → z ≡ deliver xh n msg source) → ((source : Option ℕ) → message_lacks_serials xh n msg source ≡ false) →
+    pub handed-on : (z : Node) → ((source : Option ℕ) → z ≡ deliver xh n msg source) → ((source : Option ℕ) → message_lacks_serials xh n msg source ≡ false) →
         (done from : ℕ) → OnWay w0 done (at xh (Hand msg)) from → OnWay w0 (done + 1) (at z Empty) (next_node w n)
     unfolding set_node set_mail turn_lacks_serials hand_lacks_serials is_idle after_act after_hand hand_message
-    on-4 z taken allowed done from on =
+    handed-on z taken allowed done from on =
         let u = at xh (Hand msg) in
         let here = node-is xh (Hand msg) in
         let box = box-is xh (Hand msg) in
@@ -263,7 +266,7 @@ module _ (w : World) (n : ℕ) (is : IsPassing w n n) where
         ∙ sym (unheld source) in
         let lacks : (source : Option ℕ) → message_lacks_serials xh n msg source ≡ false =
         λ source. ap (λ k. message_lacks_serials k n msg source) (sym there) ∙ allowed source in
-        let on = on-4 z node lacks (done + 3) (next_node w n) (so-far done from (on_way-walked w0 w done from walk place)) in
+        let on = handed-on z node lacks (done + 3) (next_node w n) (so-far done from (on_way-walked w0 w done from walk place)) in
         subst (λ k. Walk w0 u k (next_node w n)) (omega arith)
         (subst (λ v. Walk w0 v (done + 3 + 1) (next_node w n)) (single-box z ∙ sym (same None))
         (walked w0 _ (done + 3 + 1) (next_node w n) on))

@@ -13,6 +13,6 @@ returns-in-Some-next_way-clause-some c =
       router = r;
       here = here;
       flagged = ap (λ o. option_map_or (λ (x : Router). x.flagged) o false) (sym here) ∙ sym (held.by_flag c.in-Some.serial) ∙ c.in-Some.ensures.0;
-      first = λ s x at up. c.in-Some.ensures.1 s (held.by_flag s ∙ ap (λ o. option_map_or (λ (x : Router). x.flagged) o false) at ∙ up);
-      next = sym c.in-Some-next_way.ensures;
+      others = λ s x at up. c.in-Some.ensures.1 s (held.by_flag s ∙ ap (λ o. option_map_or (λ (x : Router). x.flagged) o false) at ∙ up);
+      sends = sym c.in-Some-next_way.ensures;
     })
