@@ -122,7 +122,7 @@ def make_libraries(names: Iterable[str]) -> None:
 # ---- Functions ----
 
 HEAD = re.compile(r"([ \t]*)(?:pub(?:\([^)]*\))? )?(?:const |unsafe |extern \"C\" )*fn (\w+)")
-IMPL = re.compile(r"(?:unsafe )?impl\b(?:<.*?>)? (?:(?P<of>[\w:]+)(?:<(?P<with>.*)>)? for )?(?:[\w:]+::)?(?P<type>\w+)(?:<.*>)?(?: where .*)? \{")
+IMPL = re.compile(r"(?:unsafe )?impl\b(?:<.*?>)? (?:(?P<of>[\w:]+)(?:<(?P<with>.*)>)? for )?(?:[\w:]+::)?(?P<type>\w+|\(\))(?:<.*>)?(?: where .*)? \{")
 CONSTANT = re.compile(r"(?:pub(?:\([^)]*\))? )?const (\w+): ")
 TYPE = re.compile(r"^(?:pub(?:\([^)]*\))? )?(?:struct|enum) (\w+)", re.M)
 
@@ -168,14 +168,14 @@ def functions_in(crate: pathlib.Path, file: str, text: str) -> list[Function]:
     lines, owner, found = text.split("\n"), None, []
     for at, line in enumerate(lines):
         if it := IMPL.match(line):
-            owner = it["type"], (it["of"] or "").split("::")[-1] + (it["with"] or "")
+            owner = it["type"].replace("()", "Unit"), (it["of"] or "").split("::")[-1] + (it["with"] or "")
         elif line == "}":
             owner = None
         elif (it := HEAD.match(line)) and bool(it[1]) == bool(owner) and (braces := body(lines, at, it[1])):
             modules, inner = [module_of(file)], ()
             if owner:
-                # (what a trait has for a type of another crate stands in the module of its file)
-                modules, inner = modules_of(crate, owner[0]) or modules, ("".join(owner),)
+                # (what a trait has for a type stands in the module of its file, and what a type has by itself in the type's)
+                modules, inner = (not owner[1] and modules_of(crate, owner[0])) or modules, ("".join(owner),)
             name = "::".join((crate.name, *modules[0], *inner, it[2]))
             # (what rattle makes of a trait with other parameters than one name isn't clear from the text)
             name = name if len(modules) == 1 and re.fullmatch(r"[\w:]+", name) else None
