@@ -8,8 +8,9 @@ use Rattle.std.specs.FinMap.{from_entries, get-from_entries, same_map, nat_cmp-I
 use Rattle.std.specs.FinMap.{entries, from_sorted, get-from_sorted, entries-from_sorted, is_sorted}
 use Rattle.std.specs.FinMap.Entries.{below_all}
 use Rattle.std.specs.Slice.{IsGetResult}
-use Rattle.ipcz_seq.specs.Pairs.{AreWaiting}
-use Rattle.ipcz_seq.specs.Last.{last_of}
+use Rattle.std.proofs.lemmas.Bool.Decides.{nat_tests}
+use Rattle.ipcz_seq.specs.Pairs.{AreWaiting, IsPlaceFor}
+use Rattle.ipcz_seq.specs.Last.{last_of, is_above}
 
 -- the entries of the map are the pairs
 lt : (a b : ℕ) → a < b → T (is_lt (nat_cmp a b))
@@ -43,9 +44,17 @@ last-is (x ∷ y ∷ ys) d l =
     let one : suc (length ys) ≡ suc (suc (length ys)) - 1 = omega arith in
     last-is (y ∷ ys) d (omega arith) ∙ ap (λ i. Some (get_or (y ∷ ys) i d)) less ∙ ap (λ i. Some (get_or (x ∷ y ∷ ys) i d)) one
 
-last-none : {X : Type 0} (es : List X) → length es ≤ 0 → last_of es ≡ None
+pub last-none : {X : Type 0} (es : List X) → length es ≤ 0 → last_of es ≡ None
 last-none [] l = refl
 last-none (x ∷ es) l = absurd (omega (arith, l))
+
+-- behind the last pair, if there is one, is the place of each number above it
+pub place_behind : {X : Type 0} (c n : ℕ) (es : List (ℕ × X)) → AreWaiting c es → is_above (last_of es) n ≡ true → IsPlaceFor n es (length es)
+place_behind c n [] w above = tt
+place_behind c n (e ∷ []) w above = (grind (arith, nat_tests, above), tt)
+place_behind c n (e ∷ f ∷ es) w above =
+    let rest = place_behind (e.0 + 1) n (f ∷ es) w.2 above in
+    (omega (arith, w.2.0, rest.0), rest)
 
 pub back-is : {X : Type 0} (es : List X) (r : Option (Bor X)) → IsGetResult es 0 (length es - 1) r → option_copied r ≡ last_of es
 back-is es None h = sym (last-none es h.3)

@@ -1,6 +1,7 @@
 ghost use Rattle.std.specs.Prelude.{◌≡◌, ◌<◌, ◌≤◌, Some, None, true, false, IsOk, IfOk, IfErr, OnOk, OnErr, unwrap_or};
 ghost use Rattle.ipcz_base.specs.Limits.{last_number, no_number};
 ghost use Rattle.ipcz_seq.specs.Queue.{current_item, has_place, push_refusal};
+ghost use Rattle.ipcz_seq.specs.Last.{goes_behind};
 ghost use Rattle.ipcz_router.specs.Router.{IsOpenTerminal, is_terminal, outward_has, router_has};
 ghost use Rattle.ipcz_router.specs.RoomyRouters.{room_for, KeepsRoom, LeavesRoom, LeavesRoomBut};
 ghost use Rattle.ipcz_router.specs.Closing.{close_router};
@@ -190,9 +191,45 @@ impl Router {
         ensures kept { IfErr result (λ e. (e ≡ Refusal.OutOfMemory → ⊥) → self.new ≡ self.old) }
         ensures room { LeavesRoom self.old self.new 0 1 }
     {
+        if self.in_queue.takes_behind(n) {
+            self.take_in_behind(n, item);
+            return Ok(());
+        }
+        self.take_in_between(n, item)
+    }
+
+    // The same for any number. Most items come behind all that are there, so this stands apart.
+    #[cold]
+    #[inline(never)]
+    fn take_in_between(&mut self, n: u64, item: &mut Item) -> Result<(), Refusal>
+        requires { n < no_number }
+        ensures place { OnOk result (has_place self.old.router.in_queue n ≡ true) }
+        ensures ok { OnOk result (self.new.router ≡ accept_from_outward self.old.router n item.old) }
+        ensures why { IfErr result (λ e. e ≡ push_refusal self.old.router.in_queue n) }
+        ensures full { IfErr result (λ e. e ≡ Refusal.OutOfMemory → self.old.in_room ≡ 0) }
+        ensures err { OnErr result ((item.new ≡ item.old) × (self.new.router ≡ self.old.router)) }
+        ensures kept { IfErr result (λ e. (e ≡ Refusal.OutOfMemory → ⊥) → self.new ≡ self.old) }
+        ensures room { LeavesRoom self.old self.new 0 1 }
+    {
         self.in_queue.reserve_for(n)?;
         self.push_in_ready(n, mem::replace(item, Item::Mark));
         Ok(())
+    }
+
+    // An item that goes behind all that are in the in queue is taken into it from where it lies, and the router is flagged. It stands apart,
+    // so that a push is inlined in it.
+    #[inline(never)]
+    fn take_in_behind(&mut self, n: u64, item: &mut Item)
+        requires number { n < no_number }
+        requires behind { goes_behind self.old.router.in_queue n ≡ true }
+        requires room { 0 < self.old.in_room }
+        ensures router { self.new.router ≡ accept_from_outward self.old.router n item.old }
+        ensures room { LeavesRoom self.old self.new 0 1 }
+    {
+        let is_mark = item.is_mark();
+        self.in_queue.push_behind(n, mem::replace(item, Item::Mark));
+        self.mark_seen = self.mark_seen || (self.inward.is_none() && is_mark);
+        self.rouse();
     }
 
     // An item is taken into the out queue of a proxy from where it lies, and the router is flagged.

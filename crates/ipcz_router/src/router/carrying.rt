@@ -48,11 +48,8 @@ impl Router {
     fn is_settled(&self) -> bool
         ensures { result ≡ is_settled self.now.router }
     {
-        self.inward.is_none()
-            && !self.closed
-            && !self.outward.decays()
-            && (self.marked || !self.is_on_central())
-            && !self.wake_owed
+        let is_apart = self.inward.is_some() | self.closed | self.outward.decays() | self.wake_owed;
+        !is_apart && (self.marked || !self.is_on_central())
     }
 
     // Whether the current item of the out queue has come and carries no ends.
