@@ -460,6 +460,14 @@ impl Directory {
         self.files.terminals.first(end)
     }
 
+    /// The first open terminal of the end, which is looked for first at a place among those of all ends. It may be any.
+    #[inline(always)]
+    pub fn terminal_near(&self, end: End, place: usize) -> Option<u64>
+        ensures { IsFound (is_terminal_of end) self.now.filed.routers result }
+    {
+        self.files.terminals.first_near(end, place)
+    }
+
     /// The first router from a serial on that is the open terminal of an end which callers hold: its serial and that end.
     pub fn held_from(&self, serial: u64) -> Option<(u64, End)>
         ensures { IsNext (get self.now.filed.routers) (is_terminal_in self.now.filed.held) serial result }

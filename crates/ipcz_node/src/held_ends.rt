@@ -1,4 +1,4 @@
-ghost use Rattle.std.specs.Prelude.{◌≡◌, ◌<◌, ◌≤◌, ◌+◌, length, OnOk, IsOk};
+ghost use Rattle.std.specs.Prelude.{◌≡◌, ◌<◌, ◌≤◌, ◌+◌, length, is_some, OnOk, IsOk};
 ghost use Rattle.std.specs.FinSet as sets;
 ghost use Rattle.ipcz_node.specs.Node.{with_ends, without_ends};
 
@@ -58,6 +58,14 @@ impl HeldEnds {
         ensures { result ≡ sets.contains self.now.ends end }
     {
         self.ends.has(&end)
+    }
+
+    /// Where the end stands among those that callers hold, if they hold it.
+    #[inline(always)]
+    pub fn place(&self, end: End) -> Option<usize>
+        ensures { is_some result ≡ sets.contains self.now.ends end }
+    {
+        self.ends.place(&end)
     }
 
     /// Callers hold the end from here on.

@@ -1,5 +1,5 @@
-ghost use Rattle.std.specs.Prelude.{◌≡◌, ◌+◌, ◌-◌, ◌<◌, ◌≤◌, ◌||◌, ◌&&◌, not, true, false, [], if◌then◌else◌, length, IsTrue, OnOk, IfOk, IfErr, IfSome, IsOk};
-ghost use Rattle.std.specs.Prelude.{IfNone};
+ghost use Rattle.std.specs.Prelude.{◌≡◌, ◌+◌, ◌-◌, ◌<◌, ◌≤◌, ◌||◌, ◌&&◌, not, true, false, [], if◌then◌else◌, length, get_or, IsTrue, OnOk, IfOk, IfErr, IfSome, IsOk};
+ghost use Rattle.std.specs.Prelude.{is_some, IfNone};
 ghost use Rattle.std.specs.Ordering.{is_eq, is_lt};
 ghost use Rattle.std.specs.List.Sorted.{IsStrictlySortedBy};
 ghost use Rattle.std.specs.List.{AllWithin, HoldsAt};
@@ -91,6 +91,35 @@ impl<T: Ord + Copy + Numbered + Drop> SortedSet<T> {
     {
         if let Ok(at) = self.place_of(value) {
             self.items.remove(at);
+        }
+    }
+
+    /// How many members there are.
+    pub fn len(&self) -> usize
+        ensures { result ≡ length self.now.members }
+    {
+        self.items.len()
+    }
+
+    /// The member at a place, in their order.
+    #[inline(always)]
+    pub fn member(&self, place: usize) -> &T
+        requires { place < length self.now.members }
+        ensures here { result.now ≡ get_or self.now.members place result.now }
+        ensures sorted { IsStrictlySortedBy T.cmp self.now.members }
+    {
+        &self.items[place]
+    }
+
+    /// Where a value is, if it is there.
+    #[inline(always)]
+    pub fn place(&self, value: &T) -> Option<usize>
+        ensures there { is_some result ≡ has T.cmp self.now.members value.now }
+        ensures found { IfSome result (IsPlaceOf T.cmp self.now.members value.now) }
+    {
+        match self.place_of(value) {
+            Ok(place) => Some(place),
+            Err(_) => None,
         }
     }
 
@@ -198,9 +227,9 @@ impl<T: Ord + Copy + Numbered + Drop> SortedSet<T> {
         Some(place)
     }
 
-    // A place, by how far the value's number is from the last member's.
+    /// A place, by how far the value's number is from the last member's.
     #[inline(always)]
-    fn guess(&self, value: &T) -> Option<usize>
+    pub fn guess(&self, value: &T) -> Option<usize>
         ensures { IfSome result (λ i. i < length self.now.members) }
     {
         let last = self.items.last()?;

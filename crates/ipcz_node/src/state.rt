@@ -156,6 +156,17 @@ impl NodeState {
         self.routers.terminal_of(at)
     }
 
+    // The same, which is looked for first at a place among the open terminals of all ends. It may be any.
+    #[inline(always)]
+    fn terminal_near(&self, at: End, place: usize) -> Option<u64>
+        ensures none { IfNone result (terminal_of self.now.node at ≡ None) }
+        ensures open { IfSome result (λ serial. IsSomeAnd (router_in self.now.node serial) IsOpenTerminal) }
+        ensures found { IfSome result (λ serial. IsSomeAnd (router_in self.now.node serial)
+            (λ r. terminal_of self.now.node at ≡ Some (found serial r))) }
+    {
+        self.routers.terminal_near(at, place)
+    }
+
     // The serial of the router that has the link at the side.
     #[inline(always)]
     fn link_serial(&self, link: LinkId, side: Side) -> Option<u64>

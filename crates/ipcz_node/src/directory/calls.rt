@@ -116,6 +116,14 @@ impl Directory {
         self.held.has(end)
     }
 
+    /// Where the end stands among those that callers hold, if they hold it. Mostly its open terminal stands there among those of all ends.
+    #[inline(always)]
+    pub fn held_place(&self, end: End) -> Option<usize>
+        ensures { is_some result ≡ sets.contains self.now.filed.held end }
+    {
+        self.held.place(end)
+    }
+
     /// Callers hold these ends no more.
     pub fn release(&mut self, ends: &[End])
         ensures filed { self.new.filed ≡ release_filed self.old.filed ends.now }

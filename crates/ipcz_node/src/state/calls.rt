@@ -1,5 +1,5 @@
 ghost use Rattle.std.specs.Prelude.{◌≡◌, [], Some, None, OnOk, OnErr, IfOk, IfErr, IsSomeAnd};
-ghost use Rattle.std.specs.Prelude.{unwrap_or, IsOk, not, if◌then◌else◌};
+ghost use Rattle.std.specs.Prelude.{unwrap_or, is_some, IsOk, not, if◌then◌else◌};
 ghost use Rattle.ipcz_base.specs.Ends.{has_end, end_at};
 ghost use Rattle.ipcz_base.specs.Limits.{is_printable, most_bytes, takes_bytes};
 ghost use Rattle.ipcz_base.specs.declared.side.Side.TheVariants.{A, B};
@@ -198,10 +198,16 @@ impl NodeState {
         ensures found { IfOk result
             (λ serial. IsSomeAnd (router_in self.now.node serial) (λ r. terminal_of self.now.node at ≡ Some (found serial r))) }
     {
-        if let Some(why) = self.bytes_refusal(profile, at, bytes, ends) {
-            return Err(why);
+        let Some(place) = self.held_place(at) else {
+            return Err(Refusal::Stranger);
+        };
+        if are_too_many(profile, bytes, ends) {
+            return Err(Refusal::TooMany);
         }
-        match self.terminal_serial(at) {
+        if !takes_bytes(profile, bytes) {
+            return Err(Refusal::BadData);
+        }
+        match self.terminal_near(at, place) {
             Some(serial) => Ok(serial),
             None => Err(Refusal::Stranger),
         }
@@ -319,10 +325,10 @@ impl NodeState {
         ensures why { IfErr result (λ e. get_refusal self.old.node at ≡ Some e) }
         ensures err { OnErr result (self.new.node ≡ self.old.node) }
     {
-        if !self.holds(at) {
+        let Some(place) = self.held_place(at) else {
             return Err(Refusal::Stranger);
-        }
-        let Some(serial) = self.terminal_serial(at) else {
+        };
+        let Some(serial) = self.terminal_near(at, place) else {
             return Err(Refusal::Stranger);
         };
         let got = self.routers.get(serial)?;
@@ -389,6 +395,14 @@ impl NodeState {
         ensures { result ≡ holds_end self.now.node end }
     {
         self.routers.holds(end)
+    }
+
+    // Where the end stands among those that callers of this node hold, if they hold it.
+    #[inline(always)]
+    fn held_place(&self, end: End) -> Option<usize>
+        ensures { is_some result ≡ holds_end self.now.node end }
+    {
+        self.routers.held_place(end)
     }
 
     /// The first held end from a router's serial on: the lowest serial that isn't below `serial` of a router that is the open
@@ -463,15 +477,16 @@ fn takes_bytes(profile: Profile, bytes: &[u8]) -> bool
     }
 }
 
-// Whether each byte is printable. It looks at all of them, without a way out in between.
+// Whether each byte is printable: whether the greatest distance from the space, up to the next space, isn't beyond the tilde's. It looks at
+// all bytes, without a way out in between.
 fn is_printable(bytes: &[u8]) -> bool
     ensures { result ≡ is_printable bytes.now }
 {
-    let mut all = true;
+    let mut most = 0u8;
     for b in bytes {
-        all &= (0x20 <= *b) & (*b <= 0x7E);
+        most = most.max(b.wrapping_sub(0x20));
     }
-    all
+    most <= 0x5E
 }
 
 // Whether an end stands in a list.
