@@ -465,7 +465,7 @@ impl Directory {
     pub fn terminal_near(&self, end: End, place: usize) -> Option<u64>
         ensures { IsFound (is_terminal_of end) self.now.filed.routers result }
     {
-        self.files.terminals.first_near(end, place)
+        self.files.terminals.first_near(&end, place)
     }
 
     /// The first router from a serial on that is the open terminal of an end which callers hold: its serial and that end.

@@ -1,4 +1,4 @@
-ghost use Rattle.std.specs.Prelude.{◌≡◌, ◌<◌, ◌≤◌, true, false, OnSome, IfNone, option_copied};
+ghost use Rattle.std.specs.Prelude.{◌≡◌, ◌<◌, ◌≤◌, true, false, Some, is_some, OnSome, IfNone, option_copied};
 ghost use Rattle.ipcz_base.specs.Limits.{last_number, no_number};
 ghost use Rattle.ipcz_seq.specs.Queue.{current_item};
 ghost use Rattle.ipcz_seq.specs.Last.{last_entry};
@@ -325,6 +325,18 @@ impl Router {
         ensures number { OnSome result (self.old.router.out_queue.current < no_number) }
     {
         self.out_queue.pop()
+    }
+
+    // Takes the current item of the out queue out, which is there.
+    #[inline(always)]
+    fn pop_out_ready(&mut self) -> Item
+        requires { is_some (current_item self.old.router.out_queue) ≡ true }
+        ensures item { Some result ≡ current_item self.old.router.out_queue }
+        ensures taken { self.new.router ≡ pop_out self.old.router }
+        ensures room { LeavesRoom self.old self.new 0 0 }
+        ensures number { self.old.router.out_queue.current < no_number }
+    {
+        self.out_queue.pop_ready()
     }
 
     // Takes the current item of the in queue out, if it is there.

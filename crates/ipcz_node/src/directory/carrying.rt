@@ -6,7 +6,7 @@ ghost use Rattle.ipcz_base.specs.declared.link_end.LinkEnd.{LinkEnd as LinkEndRe
 ghost use Rattle.ipcz_base.specs.Items.{ends_in};
 ghost use Rattle.ipcz_base.specs.Limits.{no_number};
 ghost use Rattle.ipcz_seq.specs.Queue.{current_item};
-ghost use Rattle.ipcz_router.specs.Router.{Router as RouterRecord};
+ghost use Rattle.ipcz_router.specs.Router.{Router as RouterRecord, router_has};
 ghost use Rattle.ipcz_router.specs.Acts.{pop_out, rest};
 ghost use Rattle.ipcz_router.specs.Lone.{takes_last, TakesLast};
 ghost use Rattle.ipcz_node.specs.Lone.{IsFirstSender, IsOnlySender};
@@ -99,7 +99,7 @@ impl Directory {
         n: u64,
         item: &mut Item,
     ) -> bool
-        requires stands { is_some (get self.old.filed.routers serial) ≡ true }
+        requires stands { IsSomeAnd (get self.old.filed.routers serial) (λ r. router_has r link side ≡ true) }
         requires number { n < no_number }
         requires alone { ends_in item.old ≡ [] }
         ensures taken { (r : RouterRecord) → get self.old.filed.routers serial ≡ Some r → result ≡ true → (v : RouterRecord) ×
@@ -110,7 +110,7 @@ impl Directory {
     {
         let router = self.routers.router_mut(serial);
         let was = router.is_flagged();
-        let taken = router.take_last(link, side, n, item);
+        let taken = router.take_last(n, item);
         let is = router.is_flagged();
         follow(&mut self.files.flagged, serial, was, is);
         taken

@@ -4,6 +4,7 @@ ghost use Rattle.std.specs.Prelude.{◌≡◌, ◌<◌, Some, true, false, nat_e
 ghost use Rattle.ipcz_base.specs.Items.{ends_in};
 ghost use Rattle.ipcz_base.specs.Limits.{no_number};
 ghost use Rattle.ipcz_seq.specs.Queue.{current_item};
+ghost use Rattle.ipcz_router.specs.Router.{router_has};
 ghost use Rattle.ipcz_router.specs.RoomyRouters.{LeavesRoom};
 ghost use Rattle.ipcz_router.specs.Acts.{item_passes, pop_out, rest};
 ghost use Rattle.ipcz_router.specs.Lone.{last_link, next_link, takes_last, TakesLast, is_settled, is_still};
@@ -73,10 +74,7 @@ impl Router {
         ensures item { Some result ≡ current_item self.old.router.out_queue }
         ensures room { LeavesRoom self.old self.new 0 0 }
     {
-        let Some(item) = self.pop_out() else {
-            unreachable!()
-        };
-        item
+        self.pop_out_ready()
     }
 
     /// Takes the current item of the out queue out, and rests.
@@ -92,17 +90,19 @@ impl Router {
         item
     }
 
-    /// Takes an item that came over a link and rests, if this router isn't flagged, only rests, and its outward edge has the link at
-    /// the side. It tells whether it did: `item` counts for nothing then. Else `item` and the router stay as they are.
-    /// With room for the item, it is taken wherever it has its place.
+    /// Takes an item that came over a link of its own and rests, if this router isn't flagged and only rests. It tells whether it
+    /// did: `item` counts for nothing then. Else `item` and the router stay as they are. With room for the item, it is taken wherever it has
+    /// its place.
     #[inline(always)]
-    pub fn take_last(&mut self, link: LinkId, side: Side, n: u64, item: &mut Item) -> bool
+    pub fn take_last(&mut self, n: u64, item: &mut Item) -> bool
         requires { n < no_number }
-        ensures taken { result ≡ true → TakesLast self.old.router link side n item.old self.new.router }
+        ensures taken { result ≡ true → (link : LinkId) (side : Side) → router_has self.old.router link side ≡ true →
+            TakesLast self.old.router link side n item.old self.new.router }
         ensures left { result ≡ false → (item.new ≡ item.old) × (self.new.router ≡ self.old.router) }
-        ensures full { result ≡ false → takes_last self.old.router link side n ≡ true → self.old.in_room ≡ 0 }
+        ensures full { result ≡ false → (link : LinkId) (side : Side) → takes_last self.old.router link side n ≡ true →
+            self.old.in_room ≡ 0 }
     {
-        if self.flagged || !self.is_still() || !self.outward.has(link, side) {
+        if self.flagged || !self.is_still() {
             return false;
         }
         if self.take_in(n, item).is_err() {

@@ -25,9 +25,7 @@ impl Router {
             unreachable!()
         };
         let n = self.out_queue.current();
-        let Some(item) = self.pop_out() else {
-            unreachable!()
-        };
+        let item = self.pop_out_ready();
         Message::Item {
             link: link.link,
             side: link.side.opposite(),

@@ -60,8 +60,7 @@ impl State {
         ensures begun { 3 ≤ result.0 }
         ensures carried { IsCarried self.old self.new result.0 }
     {
-        let (number, sent) = self.nodes.node_mut(n).send_next(serial);
-        let mut item = sent;
+        let (number, mut item) = self.nodes.node_mut(n).send_next(serial);
         let across = link.side.opposite();
         if self
             .nodes
@@ -94,8 +93,7 @@ impl State {
         ensures begun { 3 ≤ result.0 }
         ensures carried { IsCarried self.old self.new result.0 }
     {
-        let (number, sent) = self.nodes.node_mut(n).send_last(serial);
-        let mut item = sent;
+        let (number, mut item) = self.nodes.node_mut(n).send_last(serial);
         let side = link.side.opposite();
         if self
             .nodes
@@ -259,8 +257,7 @@ impl State {
         if link.other != n {
             return 0;
         }
-        let (number, sent) = self.nodes.node_mut(n).send_next(serial);
-        let mut item = sent;
+        let (number, mut item) = self.nodes.node_mut(n).send_next(serial);
         if self.hand_alone(n, &link, number, &mut item) {
             return 4;
         }

@@ -1,11 +1,12 @@
-use Rattle.std.proofs.Common.{◌≡◌, if◌then◌else◌, ℕ, Bool, true, false, List, [], length, Some, refl, sym, subst, ap, ◌∙◌, arith}
+use Rattle.std.proofs.Common.{◌≡◌, if◌then◌else◌, ℕ, Bool, true, false, List, [], length, Option, Some, refl, sym, subst, ap, ◌∙◌, arith}
+use Rattle.std.specs.Prelude.{IsSomeAnd}
 use Rattle.std.specs.FinMap.{get}
 use Rattle.ipcz_base.specs.declared.side.Side.{Side}
 use Rattle.ipcz_base.specs.declared.end.End.{End}
 use Rattle.ipcz_base.specs.declared.link_id.LinkId.{LinkId}
 use Rattle.ipcz_base.specs.declared.item.Item.{Item}
 use Rattle.ipcz_base.specs.Items.{ends_in}
-use Rattle.ipcz_router.specs.Router.{Router}
+use Rattle.ipcz_router.specs.Router.{Router, router_has}
 use Rattle.ipcz_router.specs.Calls.{accept}
 use Rattle.ipcz_router.specs.Lone.{TakesLast}
 use Rattle.ipcz_node.specs.Directories.{ends_brought, ends_inside}
@@ -19,6 +20,11 @@ use Rattle.ipcz_node.proofs.directory.Directory.take_last.Goals as goal
 none_of : (b : Bool) (es : List End) → es ≡ [] → (if b then length es else 0) ≡ 0
 none_of true es none = ap length none
 none_of false es none = refl
+
+-- the router stands on the link
+stands : (o : Option Router) (r : Router) (link : LinkId) (side : Side) → Some r ≡ o → IsSomeAnd o (λ x. router_has x link side ≡ true) →
+    router_has r link side ≡ true
+stands o r link side is at = subst (λ p. IsSomeAnd p (λ x. router_has x link side ≡ true)) (sym is) at
 
 -- an item without ends leaves its router filed as it was but for the flag, and no more ends inside it
 stays_with : (A : Type 0) (r w : Router) (link : LinkId) (side : Side) (n : ℕ) (item : Item) (taken : Bool) → ends_in item ≡ [] →
@@ -55,7 +61,9 @@ invariant_of-self c =
     let w = c.take_last-taken.new.self.router in
     let here = sym c.router_mut-router.ensures.value in
     let stays = stays_with _ r w c.args.link c.args.side c.args.n c.args.item.now c.take_last-taken.result c.requires.alone
-    c.take_last-taken.ensures.taken c.take_last-taken.ensures.left in (
+    (λ did. c.take_last-taken.ensures.taken did c.args.link c.args.side
+    (stands _ r c.args.link c.args.side (c.router_mut-router.ensures.value ∙ ap (λ v. get v.filed.routers c.args.serial) c.self.view_is)
+    c.requires.stands)) c.take_last-taken.ensures.left in (
       flag_changed _ c.args.serial r w stays.0 _ _ _ _ c.self.inside.room c.self.inside.more c.self.inside.routers.room here
           c.self.invariant.0 _ _ c.is_flagged-was.ensures c.is_flagged-is.ensures c.follow.ensures.members c.follow.ensures.room,
       hold_kept _ c.args.serial r w c.self.inside.ends c.self.inside.room c.self.inside.held.room here stays.1 c.self.invariant.1,
@@ -68,7 +76,9 @@ returns-clause-taken c r here did =
     let same : c.router_mut-router.result.now.router ≡ r = cc in
     let w = c.take_last-taken.new.self.router in (
       w,
-      subst (λ x. TakesLast x c.args.link c.args.side c.args.n c.args.item.now w) same (c.take_last-taken.ensures.taken did),
+      subst (λ x. TakesLast x c.args.link c.args.side c.args.n c.args.item.now w) same (c.take_last-taken.ensures.taken did c.args.link c.args.side
+          (stands _ c.router_mut-router.result.now.router c.args.link c.args.side (c.router_mut-router.ensures.value ∙
+          ap (λ v. get v.filed.routers c.args.serial) c.self.view_is) c.requires.stands)),
       ap (λ v. put_filed v.filed c.args.serial w) c.self.view_is,
     )
 
