@@ -34,10 +34,10 @@ impl Directory {
     {
         let router = self.routers.router_mut(serial);
         let was = router.is_flagged();
-        let answer = router.put(parcel);
+        let n = router.put(parcel)?;
         let is = router.is_flagged();
         follow(&mut self.files.flagged, serial, was, is);
-        answer
+        Ok(n)
     }
 
     /// Takes the next parcel out of the router of the serial, as `Router::get`; its ends are held from then on. It takes no

@@ -477,16 +477,15 @@ fn takes_bytes(profile: Profile, bytes: &[u8]) -> bool
     }
 }
 
-// Whether each byte is printable: whether the greatest distance from the space, up to the next space, isn't beyond the tilde's. It looks at
-// all bytes, without a way out in between.
+// Whether each byte is printable. It looks at all of them, without a way out in between.
 fn is_printable(bytes: &[u8]) -> bool
     ensures { result ≡ is_printable bytes.now }
 {
-    let mut most = 0u8;
+    let mut all = true;
     for b in bytes {
-        most = most.max(b.wrapping_sub(0x20));
+        all &= (0x20 <= *b) & (*b <= 0x7E);
     }
-    most <= 0x5E
+    all
 }
 
 // Whether an end stands in a list.

@@ -1,17 +1,9 @@
-use Rattle.std.proofs.Common.{◌≡◌, refl, sym, ◌∙◌}
+use Rattle.std.proofs.Common.{◌≡◌, ap, subst, sym, ◌∙◌}
 use Rattle.ipcz_base.specs.declared.item.Item.TheVariants.{Parcel}
-use Rattle.ipcz_router.specs.Calls.{put_item}
 use Rattle.ipcz_node.specs.Directories.{ends_inside}
 use Rattle.ipcz_node.proofs.Holding.{hold_kept}
-use Rattle.ipcz_node.proofs.Refiling.{StaysFiled, flag_was, flag_room, flag_changed, put_stays, same_stays, after, left_after}
+use Rattle.ipcz_node.proofs.Refiling.{StaysFiled, flag_room, flag_changed, put_stays, same_stays}
 use Rattle.ipcz_node.proofs.directory.Directory.put.Goals as goal
-
-pub follow-requires-clause-was : goal.follow-requires-clause-was
-follow-requires-clause-was c =
-    let r = c.router_mut-router.result.now.router in
-    flag_was _ c.args.serial r r (same_stays r) c.self.inside.files.links c.self.inside.files.terminals c.self.inside.files.flagged c.self.inside.files.flagged
-    c.self.inside.room c.self.inside.more c.self.inside.routers.room (sym c.router_mut-router.ensures.value) c.self.invariant.0
-    ∙ sym c.is_flagged-was.ensures
 
 pub follow-requires-clause-room : goal.follow-requires-clause-room
 follow-requires-clause-room c down =
@@ -20,16 +12,12 @@ follow-requires-clause-room c down =
     c.self.inside.room c.self.inside.more c.self.inside.routers.room (sym c.router_mut-router.ensures.value) c.self.invariant.0
     (sym c.is_flagged-was.ensures ∙ down)
 
-pub invariant_of-self : goal.invariant_of-self
-invariant_of-self c =
+pub invariant_of-self-2 : goal.invariant_of-self-2
+invariant_of-self-2 c =
     let r = c.router_mut-router.result.now.router in
-    let w = c.put-answer.new.self.router in
-    let stays : StaysFiled r w = after (StaysFiled r) c.put-answer.result r w (put_item r (Parcel c.args.parcel))
-    c.put-answer.ensures.ok (left_after (λ e. e.1 ≡ c.args.parcel) (w ≡ r) c.put-answer.result c.put-answer.ensures.err)
-    (put_stays r (Parcel c.args.parcel)) (same_stays r) in
-    let same : ends_inside w ≡ ends_inside r = after (λ x. ends_inside x ≡ ends_inside r) c.put-answer.result r w
-    (put_item r (Parcel c.args.parcel)) c.put-answer.ensures.ok
-    (left_after (λ e. e.1 ≡ c.args.parcel) (w ≡ r) c.put-answer.result c.put-answer.ensures.err) refl refl in (
+    let w = c.put.new.self.router in
+    let stays : StaysFiled r w = subst (StaysFiled r) (sym c.in_ok-n.ensures.ok) (put_stays r (Parcel c.args.parcel)) in
+    let same : ends_inside w ≡ ends_inside r = ap ends_inside c.in_ok-n.ensures.ok in (
       flag_changed _ c.args.serial r w stays _ _ _ _ c.self.inside.room c.self.inside.more c.self.inside.routers.room
           (sym c.router_mut-router.ensures.value) c.self.invariant.0 _ _ c.is_flagged-was.ensures c.is_flagged-is.ensures
           c.follow.ensures.members c.follow.ensures.room,

@@ -1,6 +1,6 @@
-use Rattle.std.proofs.Common.{◌≡◌, ◌&&◌, nat_le, drop}
+use Rattle.std.proofs.Common.{◌≡◌, ◌&&◌, drop}
 use Rattle.ipcz_base.specs.Limits.{is_printable}
 use Rattle.ipcz_node.proofs.state.calls.is_printable.Given as goal
 
 abbrev pub invariant-loop-b : goal.invariant-loop-b
-invariant-loop-b l = (nat_le l.most 94 && is_printable (drop l.b-index l.bytes)) ≡ is_printable l.bytes
+invariant-loop-b l = (l.all && is_printable (drop l.b-index l.bytes)) ≡ is_printable l.bytes
