@@ -66,10 +66,10 @@ impl Directory {
     {
         let router = self.routers.router_mut(serial);
         let was = router.is_flagged();
-        let answer = router.accept_from(link, side, n, item);
+        router.accept_from(link, side, n, item)?;
         let is = router.is_flagged();
         follow(&mut self.files.flagged, serial, was, is);
-        answer
+        Ok(())
     }
 
     /// Does the act `Rest` of the router of the serial, as `Router::rest`.

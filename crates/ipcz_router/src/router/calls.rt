@@ -1,8 +1,8 @@
-ghost use Rattle.std.specs.Prelude.{◌≡◌, ◌<◌, ◌≤◌, Some, None, true, false, IsOk, IfOk, IfErr, OnOk, OnErr, unwrap_or};
+ghost use Rattle.std.specs.Prelude.{◌≡◌, ◌<◌, ◌≤◌, ◌||◌, ◌&&◌, Some, None, true, false, IsOk, IfOk, IfErr, OnOk, OnErr, unwrap_or};
 ghost use Rattle.ipcz_base.specs.Limits.{last_number, no_number};
 ghost use Rattle.ipcz_seq.specs.Queue.{current_item, has_place, push_refusal};
+ghost use Rattle.ipcz_router.specs.Router.{IsOpenTerminal, is_terminal, outward_has, router_has, rouse};
 ghost use Rattle.ipcz_seq.specs.Last.{goes_behind};
-ghost use Rattle.ipcz_router.specs.Router.{IsOpenTerminal, is_terminal, outward_has, router_has};
 ghost use Rattle.ipcz_router.specs.RoomyRouters.{room_for, KeepsRoom, LeavesRoom, LeavesRoomBut};
 ghost use Rattle.ipcz_router.specs.Closing.{close_router};
 ghost use Rattle.ipcz_router.specs.Calls.{next_number, put_item, router_put_refusal, router_get_refusal, take_item, sizes_found, has_place_for};
@@ -216,8 +216,7 @@ impl Router {
         Ok(())
     }
 
-    // An item that goes behind all that are in the in queue is taken into it from where it lies, and the router is flagged. It stands apart,
-    // so that a push is inlined in it.
+    // The same of an item that goes behind all that are there, where there is room. It stands apart, so that a push is inlined in it.
     #[inline(never)]
     fn take_in_behind(&mut self, n: u64, item: &mut Item)
         requires number { n < no_number }
@@ -228,8 +227,7 @@ impl Router {
     {
         let is_mark = item.is_mark();
         self.in_queue.push_behind(n, mem::replace(item, Item::Mark));
-        self.mark_seen = self.mark_seen || (self.inward.is_none() && is_mark);
-        self.rouse();
+        self.come_in(is_mark);
     }
 
     // An item is taken into the out queue of a proxy from where it lies, and the router is flagged.
@@ -340,6 +338,17 @@ impl Router {
     {
         let is_mark = item.is_mark();
         self.in_queue.push_ready(n, item);
+        self.come_in(is_mark);
+    }
+
+    // The router is flagged for an item that has come into the in queue; at a terminal, a mark is seen.
+    #[inline(always)]
+    fn come_in(&mut self, is_mark: bool)
+        ensures router { self.new.router ≡ rouse (record self.old.router {
+          mark_seen = self.old.router.mark_seen || (is_terminal self.old.router && is_mark);
+        }) }
+        ensures room { KeepsRoom self.old self.new }
+    {
         self.mark_seen = self.mark_seen || (self.inward.is_none() && is_mark);
         self.rouse();
     }

@@ -5,6 +5,7 @@ ghost use Rattle.ipcz_base.specs.Items.{ends_in};
 ghost use Rattle.ipcz_base.specs.Limits.{no_number};
 ghost use Rattle.ipcz_seq.specs.Queue.{current_item};
 ghost use Rattle.ipcz_router.specs.Router.{router_has};
+ghost use Rattle.ipcz_router.specs.Calls.{accept_from_outward};
 ghost use Rattle.ipcz_router.specs.RoomyRouters.{LeavesRoom};
 ghost use Rattle.ipcz_router.specs.Acts.{item_passes, pop_out, rest};
 ghost use Rattle.ipcz_router.specs.Lone.{last_link, next_link, takes_last, TakesLast, is_settled, is_still};
@@ -90,12 +91,12 @@ impl Router {
         item
     }
 
-    /// Takes an item that came over a link of its own and rests, if this router isn't flagged and only rests. It tells whether it
-    /// did: `item` counts for nothing then. Else `item` and the router stay as they are. With room for the item, it is taken wherever it has
-    /// its place.
+    /// Takes an item that came over a link of this router and rests, if it isn't flagged and only rests. It tells whether it did: `item`
+    /// counts for nothing then. Else `item` and the router stay as they are. With room for the item, it is taken wherever it has its place.
     #[inline(always)]
     pub fn take_last(&mut self, n: u64, item: &mut Item) -> bool
         requires { n < no_number }
+        ensures after { result ≡ true → self.new.router ≡ rest (accept_from_outward self.old.router n item.old) }
         ensures taken { result ≡ true → (link : LinkId) (side : Side) → router_has self.old.router link side ≡ true →
             TakesLast self.old.router link side n item.old self.new.router }
         ensures left { result ≡ false → (item.new ≡ item.old) × (self.new.router ≡ self.old.router) }

@@ -20,6 +20,6 @@ returns-clause-place g c above =
     let es = c.self.inside.pairs.items in
     let from = c.self.inside.current in
     sym (ap (λ v. has_place v.queue c.args.n) c.self.view_is) ∙
-    placed from c.args.n es c.self.invariant c.if-n-self.false (place_behind from c.args.n es c.self.invariant
+    placed from c.args.n es c.self.invariant c.if-self-n.false (place_behind from c.args.n es c.self.invariant
     (ap (λ xs. is_above (last_of xs) c.args.n) (sym (entries-from_entries from es c.self.invariant))
     ∙ ap (λ v. is_above (last_entry v.queue) c.args.n) c.self.view_is ∙ sym c.is_above_last.ensures ∙ above))
