@@ -17,12 +17,12 @@ import asked
 import try_edits
 from asked import TOP
 CRATES = ("ipcz_device", "ipcz_base", "ipcz_edge")
-EDGE, SPEC, LINK_END = "src/edge.rt", "specs/Edge.antt", "Some(LinkEnd { link, side, other })"
+EDGE, SPEC = "src/edge.rt", "specs/Edge.antt"
 CHOICE = re.search(r"^choose e n = .*$", (TOP / "crates/ipcz_edge" / SPEC).read_text(), re.M)[0]
 # What is planted: what must be told of it, its file, old text and new one, and if need be the function of which it says that it refuses it.
 PLANTED = {
     # (all others of bodies stand beside this one: what calls it has no proof, and is no nearer to a goal that fails)
-    "wrong_callee": ("refused", "src/link_slot.rt", f"Kept::End {{ side, other, link }} => {LINK_END}", "Kept::End { .. } => None"),
+    "wrong_callee": ("refused", "src/link_slot.rt", "=> (LinkId::Central(word), side, other)", "=> (LinkId::Central(other as u32), side, word as u8)"),
     "harmless_in_what_calls_it": ("NOT REFUSED", EDGE, "        self.primary.end()", "        let slot = &self.primary; slot.end()"),
     "harmless_two_calls_above_it": ("NOT REFUSED", EDGE, "self.primary().is_none() &&", "!self.primary().is_some() &&"),
     "wrong_in_what_calls_it": ("refused", EDGE, "is_link(self.primary(), link, side) ||", "self.decays() ||"),

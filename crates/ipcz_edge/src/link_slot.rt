@@ -3,7 +3,7 @@ ghost use Rattle.std.specs.Prelude.{◌≡◌};
 use ipcz_base::{LinkEnd, LinkId, Side};
 use std::marker::Model;
 
-/// A place for a link end: an `Option<LinkEnd>` in three quarters of its room, since side and node stand beside the tag.
+/// A place for a link end: an `Option<LinkEnd>` in half of its room, since side, node and word stand beside the tag.
 #[derive(Clone, Copy, Debug)]
 pub struct LinkSlot {
     kept: Kept,
@@ -12,7 +12,17 @@ pub struct LinkSlot {
 #[derive(Clone, Copy, Debug)]
 enum Kept {
     Nothing,
-    End { side: Side, other: u8, link: LinkId },
+    Central {
+        side: Side,
+        other: u8,
+        word: u32,
+    },
+    Peripheral {
+        side: Side,
+        other: u8,
+        node: u8,
+        serial: u64,
+    },
 }
 
 impl Model for LinkSlot {
@@ -38,9 +48,19 @@ impl LinkSlot {
     pub fn of(end: Option<LinkEnd>) -> LinkSlot
         ensures { result ≡ end }
     {
-        let kept = match end {
-            Some(LinkEnd { link, side, other }) => Kept::End { side, other, link },
-            None => Kept::Nothing,
+        let Some(LinkEnd { link, side, other }) = end else {
+            return LinkSlot {
+                kept: Kept::Nothing,
+            };
+        };
+        let kept = match link {
+            LinkId::Central(word) => Kept::Central { side, other, word },
+            LinkId::Peripheral { node, serial } => Kept::Peripheral {
+                side,
+                other,
+                node,
+                serial,
+            },
         };
         LinkSlot { kept }
     }
@@ -50,9 +70,16 @@ impl LinkSlot {
     pub fn end(&self) -> Option<LinkEnd>
         ensures { result ≡ self.now }
     {
-        match self.kept {
-            Kept::End { side, other, link } => Some(LinkEnd { link, side, other }),
-            Kept::Nothing => None,
-        }
+        let (link, side, other) = match self.kept {
+            Kept::Central { side, other, word } => (LinkId::Central(word), side, other),
+            Kept::Peripheral {
+                side,
+                other,
+                node,
+                serial,
+            } => (LinkId::Peripheral { node, serial }, side, other),
+            Kept::Nothing => return None,
+        };
+        Some(LinkEnd { link, side, other })
     }
 }
